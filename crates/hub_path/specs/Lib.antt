@@ -1,0 +1,3 @@
+pub mod Path
+pub mod Reading
+pub mod Examples

@@ -1,0 +1,16 @@
+//! Names, paths and roots: the words in which all of hubsync speaks of files.
+#![tactic(auto)]
+
+mod fault;
+mod items;
+mod name;
+mod rel_path;
+mod root;
+mod side;
+
+pub use fault::PathFault;
+pub use items::Items;
+pub use name::Name;
+pub use rel_path::RelPath;
+pub use root::Root;
+pub use side::Side;

@@ -1,0 +1,8 @@
+/// The two replicas of a profile, in the order of its `root` lines.
+#[derive(Clone, Copy, Debug, PartialEq, Eq, PartialOrd, Ord)]
+pub enum Side {
+    /// The first root.
+    Left,
+    /// The second root.
+    Right,
+}

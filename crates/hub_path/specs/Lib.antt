@@ -1,3 +1,4 @@
 pub mod Path
 pub mod Reading
+pub mod Parts
 pub mod Examples

@@ -1,8 +1,8 @@
 -- Which texts are names, paths and roots, and the first fault of each other text.
-use Rattle.std.specs.Prelude.{ℕ, ◌+◌, Bool, not, ◌&&◌, ◌||◌, ◌==◌, nat_lt, nat_le, nat_eq, drop, sum_by, codes, List, [], ◌∷◌, length, Option, Some, None, Result, Ok, Err, if◌then◌else◌}
-use Rattle.std.specs.List.{list_any, slice_split, starts_with, prefix_len}
+use Rattle.std.specs.Prelude.{ℕ, ◌+◌, Bool, false, not, ◌&&◌, ◌||◌, ◌==◌, nat_lt, nat_le, nat_eq, drop, sum_by, codes, List, [], ◌∷◌, length, Option, Some, None, Result, Ok, Err, if◌then◌else◌}
+use Rattle.std.specs.List.{list_any, starts_with}
 use Rattle.std.specs.Char.{len_utf8}
-use Rattle.hub_path.specs.Path.{Name, Path, is_forbidden, is_dots}
+use Rattle.hub_path.specs.Path.{Name, Path, path_of, is_forbidden, is_dots}
 use Rattle.hub_path.specs.declared.name.TheConstants.{NAME_BYTES}
 use Rattle.hub_path.specs.declared.rel_path.TheConstants.{PATH_NAMES}
 use Rattle.hub_path.specs.declared.fault.PathFault.{PathFault}
@@ -33,43 +33,61 @@ names_fault depth [] = None
 names_fault depth (n ∷ ns) =
     if depth == PATH_NAMES then Some TooDeep else first_fault (name_fault n) (names_fault (depth + 1) ns)
 
--- A path: not empty, no `/` in front, and names between the slashes.
+-- The names of a path, or their first fault.
+abbrev pub names_reading : List Name → Result (List Name) PathFault
+names_reading ns = or_fault (names_fault 0 ns) ns
+
+-- A text begins with a slash.
+abbrev pub begins_with_slash : List ℕ → Bool
+begins_with_slash cs = starts_with nat_eq cs (codes "/")
+
+-- A path: not empty, no slash in front, and names between the slashes.
 abbrev pub path_fault : List ℕ → Option PathFault
-path_fault [] = Some Empty
-path_fault (c ∷ cs) = if c == 47 then Some LeadingSlash else names_fault 0 (slice_split (λ d. d == 47) (c ∷ cs))
+path_fault cs =
+    if length cs == 0 then Some Empty
+    else (if begins_with_slash cs then Some LeadingSlash else names_fault 0 (path_of cs))
 
 abbrev pub path_reading : List ℕ → Result Path PathFault
-path_reading cs = or_fault (path_fault cs) (slice_split (λ c. c == 47) cs)
+path_reading cs = or_fault (path_fault cs) (path_of cs)
 
--- A text with one `/` at its end loses it.
+-- A text with that character at its end loses it, once.
+abbrev pub without_last : ℕ → List ℕ → List ℕ
+without_last c [] = []
+without_last c (d ∷ []) = if d == c then [] else d ∷ []
+without_last c (d ∷ e ∷ cs) = d ∷ without_last c (e ∷ cs)
+
 abbrev pub without_last_slash : List ℕ → List ℕ
-without_last_slash [] = []
-without_last_slash (c ∷ []) = if c == 47 then [] else c ∷ []
-without_last_slash (c ∷ d ∷ cs) = c ∷ without_last_slash (d ∷ cs)
+without_last_slash cs = without_last 47 cs
 
 abbrev pub is_letter : ℕ → Bool
 is_letter c = (nat_le 65 c && nat_le c 90) || (nat_le 97 c && nat_le c 122)
 
+abbrev pub after_letters : List ℕ → List ℕ
+after_letters [] = []
+after_letters (c ∷ cs) = if is_letter c then after_letters cs else c ∷ cs
+
+-- A letter or more, and `://` behind them.
+abbrev pub has_scheme : List ℕ → Bool
+has_scheme [] = false
+has_scheme (c ∷ cs) = is_letter c && starts_with nat_eq (after_letters cs) (codes "://")
+
 -- A remote root begins with `//`, or with letters and `://`.
 abbrev pub is_remote : List ℕ → Bool
-is_remote cs =
-    starts_with nat_eq cs (codes "//")
-    || nat_lt 0 (prefix_len is_letter cs) && starts_with nat_eq (drop (prefix_len is_letter cs) cs) (codes "://")
+is_remote cs = starts_with nat_eq cs (codes "//") || has_scheme cs
 
--- A root is an absolute path; `/` alone has no names.
-abbrev pub names_of_root : List ℕ → Option PathFault
-names_of_root [] = None
-names_of_root (c ∷ cs) = names_fault 0 (slice_split (λ d. d == 47) (c ∷ cs))
+-- The names of a text that may be empty.
+abbrev pub place_of : List ℕ → Path
+place_of cs = if length cs == 0 then [] else path_of cs
+
+-- A root is an absolute path, less one slash at its end; `/` alone has no names.
+abbrev pub root_names : List ℕ → Path
+root_names cs = place_of (without_last_slash (drop 1 cs))
 
 abbrev pub root_fault : List ℕ → Option PathFault
-root_fault [] = Some Empty
-root_fault (c ∷ cs) =
-    if is_remote (c ∷ cs) then Some RemoteRoot
-    else (if not (c == 47) then Some NotAbsolute else names_of_root (without_last_slash cs))
-
-abbrev pub root_names : List ℕ → Path
-root_names [] = []
-root_names (c ∷ cs) = if length (without_last_slash cs) == 0 then [] else slice_split (λ d. d == 47) (without_last_slash cs)
+root_fault cs =
+    if length cs == 0 then Some Empty
+    else (if is_remote cs then Some RemoteRoot
+    else (if not (begins_with_slash cs) then Some NotAbsolute else names_fault 0 (root_names cs)))
 
 abbrev pub root_reading : List ℕ → Result Path PathFault
 root_reading cs = or_fault (root_fault cs) (root_names cs)

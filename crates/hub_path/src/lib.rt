@@ -7,6 +7,7 @@ mod name;
 mod rel_path;
 mod root;
 mod side;
+mod text;
 
 pub use fault::PathFault;
 pub use items::Items;
@@ -14,3 +15,4 @@ pub use name::Name;
 pub use rel_path::RelPath;
 pub use root::Root;
 pub use side::Side;
+pub use text::without_last_slash;

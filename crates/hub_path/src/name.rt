@@ -7,6 +7,7 @@ ghost use Rattle.hub_path.specs.Path as path;
 ghost use Rattle.hub_path.specs.Reading.{name_reading, name_fault};
 
 use crate::fault::PathFault;
+use crate::text::is_blank;
 use std::alloc::{AllocError, Global};
 use std::cmp::Ordering;
 use std::fmt;
@@ -93,12 +94,6 @@ fn fault_of_name(text: &str) -> Option<PathFault>
     } else {
         None
     }
-}
-
-fn is_blank(text: &str) -> bool
-    ensures { result ≡ (length (chars text.now) == 0) }
-{
-    text.is_empty()
 }
 
 fn is_dots(text: &str) -> bool

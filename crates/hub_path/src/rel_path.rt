@@ -1,8 +1,12 @@
-ghost use Rattle.std.specs.Prelude.{◌≡◌, ◌<◌, [], ◌∷◌, ◌++◌, length, slice_get, Some, None, IfOk, IfSome, IsTrue, OnOk, OnErr};
+ghost use Rattle.std.specs.Prelude.{◌≡◌, ◌⊎◌, ◌<◌, ◌↔◌, [], ◌∷◌, ◌++◌, length, slice_get, Some, None, Ok, Err, IfOk, IfErr, IfSome, IsNone, IsTrue, chars, string_bytes, encode_utf8_all};
 ghost use Rattle.hub_path.specs.Path as path;
+ghost use Rattle.hub_path.specs.Reading.{path_reading, names_reading, place_of};
 
+use crate::fault::PathFault;
 use crate::name::Name;
+use crate::text::{begins_with_slash, is_blank};
 use std::alloc::{AllocError, Global};
+use std::cmp::Ordering;
 use std::marker::Model;
 
 /// How many names a path may have that is read from a text.
@@ -37,6 +41,33 @@ impl RelPath {
         }
     }
 
+    /// Reads a path: names of at most `NAME_BYTES` bytes, joined by `/`, `PATH_NAMES` of them at most.
+    ///
+    /// The fault is `Empty` or `LeadingSlash`, else that of the first name from the left that has one; a name
+    /// after `PATH_NAMES` others is `TooDeep`, whatever it is.
+    pub fn read(alloc: Global, text: &str) -> Result<RelPath, PathFault>
+        ensures ok { IfOk result (λ p. path_reading (chars text.now) ≡ Ok p) }
+        ensures err { IfErr result (λ e. (e ≡ PathFault.OutOfMemory) ⊎ (path_reading (chars text.now) ≡ Err e)) }
+        ensures valid { IfOk result (λ p. IsTrue (path.is_path p)) }
+    {
+        if is_blank(text) {
+            return Err(PathFault::Empty);
+        }
+        if begins_with_slash(text) {
+            return Err(PathFault::LeadingSlash);
+        }
+        Ok(RelPath {
+            names: read_names(alloc, text)?,
+        })
+    }
+
+    /// The text of the path: its names joined by `/`. The whole replica has the empty text.
+    pub fn text(&self) -> Result<String, AllocError>
+        ensures { IfOk result (λ t. string_bytes t ≡ encode_utf8_all (path.text_of self.now)) }
+    {
+        joined(*self.names.allocator(), self.names.as_slice())
+    }
+
     /// How many names the path has.
     pub fn len(&self) -> usize
         ensures len { result ≡ length self.now }
@@ -62,6 +93,19 @@ impl RelPath {
         ensures { result ≡ path.is_over prefix.now self.now }
     {
         self.names.starts_with(prefix.names.as_slice())
+    }
+
+    /// The path without its last name. The whole replica has none.
+    pub fn parent(&self) -> Result<Option<RelPath>, AllocError>
+        ensures none { IfOk result (λ p. IsNone p ↔ (self.now ≡ [])) }
+        ensures parent { IfOk result (λ p. IfSome p (λ q. q ≡ path.parent self.now)) }
+    {
+        match self.names.as_slice() {
+            [] => Ok(None),
+            [front @ .., _] => Ok(Some(RelPath {
+                names: copies(*self.names.allocator(), front)?,
+            })),
+        }
     }
 
     /// The path with one more name.
@@ -93,4 +137,106 @@ fn copies(alloc: Global, names: &[Name]) -> Result<Vec<Name>, AllocError>
         copies.push(name.copy()?)?;
     }
     Ok(copies)
+}
+
+/// The place that a text names, which may be empty.
+pub(crate) fn read_place(alloc: Global, text: &str) -> Result<RelPath, PathFault>
+    ensures ok { IfOk result (λ p. names_reading (place_of (chars text.now)) ≡ Ok p) }
+    ensures err { IfErr result (λ e. (e ≡ PathFault.OutOfMemory) ⊎ (names_reading (place_of (chars text.now)) ≡ Err e)) }
+{
+    if is_blank(text) {
+        return Ok(RelPath::top(alloc));
+    }
+    Ok(RelPath {
+        names: read_names(alloc, text)?,
+    })
+}
+
+/// The names of a text, which are joined by `/`.
+fn read_names(alloc: Global, text: &str) -> Result<Vec<Name>, PathFault>
+    ensures ok { IfOk result (λ v. names_reading (path.path_of (chars text.now)) ≡ Ok v.items) }
+    ensures err { IfErr result (λ e. (e ≡ PathFault.OutOfMemory) ⊎ (names_reading (path.path_of (chars text.now)) ≡ Err e)) }
+    ensures valid { IfOk result (λ v. IsTrue (path.is_place v.items)) }
+{
+    let mut names = Vec::new(alloc);
+    for part in text.split('/') {
+        if names.len() == PATH_NAMES {
+            return Err(PathFault::TooDeep);
+        }
+        let name = Name::read(alloc, part)?;
+        names.push(name)?;
+    }
+    Ok(names)
+}
+
+/// These names, joined by `/`.
+fn joined(alloc: Global, names: &[Name]) -> Result<String, AllocError>
+    ensures { IfOk result (λ t. string_bytes t ≡ encode_utf8_all (path.text_of names.now)) }
+{
+    let mut text = String::new(alloc);
+    for (i, name) in names.iter().enumerate() {
+        if i > 0 {
+            text.push('/')?;
+        }
+        text.push_str(name.text())?;
+    }
+    Ok(text)
+}
+
+impl PartialEq for RelPath {
+    ghost use Rattle.std.specs.Prelude.{nat_eq};
+    ghost use Rattle.std.proofs.Common.{rules};
+    ghost use Rattle.std.specs.Cmp.Rules.{comparing};
+    ghost use Rattle.std.specs.Cmp.Lexicographic.{pointwise};
+
+    ghost eq = { pointwise (pointwise nat_eq) };
+
+    ghost laws = { Prim.search (comparing, rules) };
+
+    fn eq(&self, other: &RelPath) -> bool {
+        self.names == other.names
+    }
+}
+
+impl Eq for RelPath {
+    ghost use Rattle.std.proofs.Common.{rules};
+    ghost use Rattle.std.specs.Cmp.Rules.{comparing};
+
+    ghost laws = { Prim.search (comparing, rules) };
+}
+
+impl PartialOrd for RelPath {
+    ghost use Rattle.std.proofs.Common.{rules};
+    ghost use Rattle.std.specs.Cmp.Rules.{comparing};
+    ghost use Rattle.std.specs.Cmp.{partial_order_from_own_ties};
+    ghost use Rattle.std.specs.Ordering.{nat_cmp, as_partial_cmp};
+    ghost use Rattle.std.specs.Cmp.Lexicographic.{slice_cmp, lists_ties, texts_ties};
+
+    ghost partial_cmp = { as_partial_cmp (slice_cmp (slice_cmp nat_cmp)) };
+
+    ghost laws = { partial_order_from_own_ties (Prim.search (comparing, rules)) (λ x y. lists_ties (slice_cmp nat_cmp) texts_ties x y) };
+
+    fn partial_cmp(&self, other: &RelPath) -> Option<Ordering> {
+        Some(self.cmp(other))
+    }
+}
+
+/// Paths are in the order of their names, a prefix first.
+impl Ord for RelPath {
+    ghost use Rattle.std.proofs.Common.{rules};
+    ghost use Rattle.std.specs.Cmp.Rules.{comparing};
+    ghost use Rattle.std.specs.Ordering.{nat_cmp};
+    ghost use Rattle.std.specs.Cmp.Lexicographic.{slice_cmp, lists_ties, texts_ties};
+
+    ghost cmp = { slice_cmp (slice_cmp nat_cmp) };
+
+    ghost total = { Prim.search (comparing, rules) };
+
+    ghost matches_partial_cmp = { Prim.search (comparing, rules) };
+
+    ghost matches_eq = { λ x y. lists_ties (slice_cmp nat_cmp) texts_ties x y };
+
+    fn cmp(&self, other: &RelPath) -> Ordering {
+        self.names.cmp(&other.names)
+    }
 }

@@ -1,11 +1,11 @@
 -- Tests for ASCII words, by bytes and by characters.
-use Rattle.std.proofs.Common.{suc, zero, lit<, ◌≡◌, ◌≢◌, ◌==◌, ℕ, ◌+◌, ◌/◌, ◌<◌, ◌≤◌, ◌⊎◌, ⊎_elim, eq-eqb, inl, inr, Bool, true, false, cond, not, ◌&&◌, ◌||◌, eqb, ltb, List, [], ◌∷◌, ◌++◌, length, take, get_or, refl, sym, ap, ◌∙◌, arith}
+use Rattle.std.proofs.Common.{suc, zero, lit<, ◌≡◌, ◌≢◌, ◌==◌, ℕ, ◌+◌, ◌/◌, ◌<◌, ◌≤◌, ◌⊎◌, ⊎_elim, eq-eqb, inl, inr, Bool, true, false, cond, ◌&&◌, eqb, ltb, List, [], ◌∷◌, ◌++◌, refl, sym, ap, ◌∙◌, arith}
 use Rattle.std.specs.Prelude.{nat_eq, nat_lt, codes, Option, Some, None, MatchOption, unwrap_or}
 use denote.Ref.{Bor}
 use Rattle.std.specs.List.{starts_with, list_all}
 use Rattle.std.specs.Char.{encode_utf8}
 use Rattle.std.specs.Str.{chars, encode_utf8_all, IsUtf8, IsAscii}
-use Rattle.std.proofs.lemmas.Str.{encode_ascii, encodes-chars, encodes-append, chars-append, chars_past_char, IsUtf8-nil, chars-nil, chars-IsAscii}
+use Rattle.std.proofs.lemmas.Str.{encode_ascii, encodes-chars, encodes-append, chars-append, chars_past_char, chars-IsAscii}
 use Rattle.std.proofs.lemmas.Bool.{cases_lt}
 use borrow.Author.Tests.{eqb-true}
 use Rattle.std.proofs.lemmas.Bool.Decides.{nat_tests}

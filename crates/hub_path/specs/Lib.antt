@@ -1,4 +1,5 @@
 pub mod Path
 pub mod Reading
 pub mod Parts
+pub mod Laws
 pub mod Examples

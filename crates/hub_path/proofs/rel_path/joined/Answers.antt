@@ -1,6 +1,5 @@
-use Rattle.std.proofs.Common.{lit<, ◌≡◌, sym, ap, ◌∙◌, ◌+◌, ◌++◌, ◌∷◌, [], encode_utf8_all, string_bytes, arith, List, ℕ, take}
+use Rattle.std.proofs.Common.{lit<, arith}
 use Rattle.std.proofs.lemmas.Str.{encode_ascii}
-use Rattle.hub_path.specs.Path.{text_of}
 use Rattle.hub_path.proofs.PathFacts.{joined-first, joined-later}
 use Rattle.hub_path.proofs.rel_path.joined.Goals as goal
 use Rattle.hub_path.proofs.rel_path.joined.Goals.{then-i-gt0+in_ok-push, else-i-gt0}

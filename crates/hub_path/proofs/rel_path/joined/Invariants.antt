@@ -1,4 +1,4 @@
-use Rattle.std.proofs.Common.{◌≡◌, string_bytes, encode_utf8_all, length, take}
+use Rattle.std.proofs.Common.{◌≡◌, string_bytes, encode_utf8_all, take}
 use Rattle.hub_path.specs.Path.{text_of}
 use Rattle.hub_path.proofs.rel_path.joined.Given as goal
 

@@ -1,5 +1,4 @@
-use Rattle.std.proofs.Common.{lit<, ap, ◌∙◌, sym, subst, ◌≡◌}
-use Rattle.std.specs.Str.{chars, IsUtf8}
+use Rattle.std.proofs.Common.{lit<}
 use Rattle.std.proofs.lemmas.Str.Pattern.{strip_suffix_char}
 use Rattle.hub_path.proofs.Ascii.{slash-dropped}
 use Rattle.hub_path.proofs.text.without_last_slash.Goals as goal

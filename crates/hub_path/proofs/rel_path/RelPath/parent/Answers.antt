@@ -1,5 +1,4 @@
-use Rattle.std.proofs.Common.{◌≡◌, ◌-◌, length, take, ap, ◌∙◌}
-use Rattle.std.specs.List.{list_all}
+use Rattle.std.proofs.Common.{◌-◌, length, take, ap, ◌∙◌}
 use Rattle.hub_path.specs.Path.{Path, is_name, parent}
 use Rattle.hub_path.proofs.PathFacts.{list_all-take, take-parent}
 use Rattle.hub_path.proofs.rel_path.RelPath.parent.Goals as goal

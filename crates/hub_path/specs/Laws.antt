@@ -1,0 +1,209 @@
+-- What holds of paths: prefixes, parents, order and texts.
+use Rattle.std.proofs.Common.{◌≡◌, ◌≢◌, ◌==◌, ◌⊎◌, inl, inr, ⊎_elim, cond, ℕ, ◌≤◌, Bool, true, false, not, ◌&&◌, ◌||◌, List, [], ◌∷◌, ◌++◌, length, drop, refl, sym, ap, ◌∙◌, arith, append-nil, append_assoc, length-append, subst}
+use Rattle.std.specs.Prelude.{IsTrue, ◌↔◌, Option, None, Some, Ok}
+use Rattle.std.specs.Bool.{Decides}
+use Rattle.std.specs.List.{list_all, onto_first}
+use Rattle.std.specs.Cmp.{IsTotalOrder}
+use Rattle.std.specs.FinMap.{IsAntisymmetric, nat_cmp-IsAntisymmetric, slice_cmp-IsAntisymmetric}
+use Rattle.std.proofs.lemmas.Cmp.{tied_itself, lists_total, nat_list_cmp_total}
+use Rattle.std.proofs.lemmas.Bool.Decides.{nat_tests}
+use Rattle.std.proofs.lemmas.Slice.Eq.{bytes_eq-Decides, starts_is}
+use Rattle.std.proofs.lemmas.List.Splits.{join_with_byte-slice_split}
+use Rattle.std.specs.Str.{all_scalars}
+use Rattle.std.specs.declared.cmp.Ordering.TheVariants.{Less, Equal}
+use Rattle.std.proofs.lemmas.List.Folds.{list_all-append}
+use Rattle.hub_path.specs.declared.fault.PathFault.{PathFault}
+use Rattle.hub_path.specs.Reading.{or_fault, path_fault, path_reading, root_fault, root_names, root_reading, place_of, without_last_slash}
+use Rattle.hub_path.specs.Path.{Name, Path, name_eq, name_cmp, path_cmp, is_forbidden, is_dots, is_name, is_place, is_over, parent, last_name, text_of, path_of}
+
+both : (a b : Bool) → (a && b) ≡ true → (a ≡ true) × (b ≡ true)
+both true b h = (refl, h)
+both false b h = cc
+
+-- Names are equal exactly where the test says so.
+pub name_eq-decides : (a b : Name) → Decides (name_eq a b) (a ≡ b)
+name_eq-decides a b = bytes_eq-Decides a b
+
+-- A path that is over another one is continued by it.
+pub is_over-rest : (p q : Path) → IsTrue (is_over p q) → q ≡ p ++ drop (length p) q
+is_over-rest p q h = (starts_is bytes_eq-Decides q p (is_over p q) refl).0 h
+
+pub is_over-append : (p r : Path) → IsTrue (is_over p (p ++ r))
+is_over-append p r = (starts_is bytes_eq-Decides (p ++ r) p (is_over p (p ++ r)) refl).1 r refl
+
+pub is_over-continued : (p q r : Path) → q ≡ p ++ r → IsTrue (is_over p q)
+is_over-continued p q r e = (starts_is bytes_eq-Decides q p (is_over p q) refl).1 r e
+
+-- To be over a path is to be a prefix of it.
+pub is_over-prefix : (p q : Path) → IsTrue (is_over p q) ↔ ((r : Path) × (q ≡ p ++ r))
+is_over-prefix p q = (λ h. (drop (length p) q, is_over-rest p q h), λ w. is_over-continued p q w.0 w.1)
+
+pub is_over-reflexive : (p : Path) → IsTrue (is_over p p)
+is_over-reflexive p = is_over-continued p p [] (sym (append-nil p))
+
+pub is_over-transitive : (p q r : Path) → IsTrue (is_over p q) → IsTrue (is_over q r) → IsTrue (is_over p r)
+is_over-transitive p q r h k =
+    let e : q ≡ p ++ drop (length p) q = is_over-rest p q h in
+    let f : r ≡ q ++ drop (length q) r = is_over-rest q r k in
+    is_over-continued p r (drop (length p) q ++ drop (length q) r) (f ∙ (ap (λ t. t ++ drop (length q) r) e ∙ append_assoc p (drop (length p) q) (drop (length q) r)))
+
+-- A path is no longer than one that it is over.
+pub is_over-length : (p q : Path) → IsTrue (is_over p q) → length p ≤ length q
+is_over-length p q h = omega (arith, ap length (is_over-rest p q h), length-append p (drop (length p) q))
+
+no_items : {X : Type 0} (xs : List X) → length xs ≡ 0 → xs ≡ []
+no_items [] h = refl
+no_items (x ∷ xs) h = absurd (omega arith)
+
+-- Of two paths of one length, neither is over the other unless they are equal.
+pub is_over-same_length : (p q : Path) → IsTrue (is_over p q) → length p ≡ length q → p ≡ q
+is_over-same_length p q h l =
+    let e : q ≡ p ++ drop (length p) q = is_over-rest p q h in
+    let none : drop (length p) q ≡ [] = no_items (drop (length p) q) (omega (arith, ap length e, length-append p (drop (length p) q))) in
+    sym (e ∙ (ap (λ t. p ++ t) none ∙ append-nil p))
+
+pub is_over-antisymmetric : (p q : Path) → IsTrue (is_over p q) → IsTrue (is_over q p) → p ≡ q
+is_over-antisymmetric p q h k = is_over-same_length p q h (omega (arith, is_over-length p q h, is_over-length q p k))
+
+is_over-cons : (n m : Name) (p q : Path) → n ≡ m → IsTrue (is_over p q) → IsTrue (is_over (n ∷ p) (m ∷ q))
+is_over-cons n m p q e h = rw ((name_eq-decides n m).1 e, h) refl
+
+-- Of two prefixes of one path, one is over the other.
+pub is_over-comparable : (a b p : Path) → IsTrue (is_over a p) → IsTrue (is_over b p) → IsTrue (is_over a b) ⊎ IsTrue (is_over b a)
+is_over-comparable [] b p h k = inl refl
+is_over-comparable (n ∷ a) [] p h k = inr refl
+is_over-comparable (n ∷ a) (m ∷ b) [] h k = cc
+is_over-comparable (n ∷ a) (m ∷ b) (l ∷ p) h k =
+    let one = both (name_eq n l) (is_over a p) h in
+    let two = both (name_eq m l) (is_over b p) k in
+    let e : n ≡ m = (name_eq-decides n l).0 one.0 ∙ sym ((name_eq-decides m l).0 two.0) in
+    ⊎_elim (λ over. inl (is_over-cons n m a b e over)) (λ over. inr (is_over-cons m n b a (sym e) over)) (is_over-comparable a b p one.1 two.1)
+
+-- A path that is over a path with one more name is over the path, or is the longer one.
+pub is_over-push : (q p : Path) (n : Name) → IsTrue (is_over q (p ++ n ∷ [])) → IsTrue (is_over q p) ⊎ (q ≡ p ++ n ∷ [])
+is_over-push [] p n h = inl refl
+is_over-push (m ∷ []) [] n h = inr (ap (λ k. k ∷ []) ((name_eq-decides m n).0 (both (name_eq m n) true h).0))
+is_over-push (m ∷ k ∷ q) [] n h = absurd (omega (arith, is_over-length (m ∷ k ∷ q) (n ∷ []) h))
+is_over-push (m ∷ q) (k ∷ p) n h =
+    let heads = both (name_eq m k) (is_over q (p ++ n ∷ [])) h in
+    let e : m ≡ k = (name_eq-decides m k).0 heads.0 in
+    ⊎_elim (λ over. inl (is_over-cons m k q p e over)) (λ same. inr (ap (λ t. m ∷ t) same ∙ ap (λ l. l ∷ p ++ n ∷ []) e)) (is_over-push q p n heads.1)
+
+pub parent-push : (p : Path) (n : Name) → parent (p ++ n ∷ []) ≡ p
+parent-push [] n = refl
+parent-push (m ∷ []) n = refl
+parent-push (m ∷ k ∷ p) n = ap (λ q. m ∷ q) (parent-push (k ∷ p) n)
+
+pub last_name-push : (p : Path) (n : Name) → last_name (p ++ n ∷ []) ≡ n
+last_name-push [] n = refl
+last_name-push (m ∷ []) n = refl
+last_name-push (m ∷ k ∷ p) n = last_name-push (k ∷ p) n
+
+-- A path is its parent and its last name.
+pub parent-last_name : (n : Name) (p : Path) → parent (n ∷ p) ++ last_name (n ∷ p) ∷ [] ≡ n ∷ p
+parent-last_name n [] = refl
+parent-last_name n (m ∷ p) = ap (λ q. n ∷ q) (parent-last_name m p)
+
+pub is_over-parent : (p : Path) → IsTrue (is_over (parent p) p)
+is_over-parent [] = refl
+is_over-parent (n ∷ p) = is_over-continued (parent (n ∷ p)) (n ∷ p) (last_name (n ∷ p) ∷ []) (sym (parent-last_name n p))
+
+-- What is over a place is a place.
+pub is_place-over : (p q : Path) → IsTrue (is_place q) → IsTrue (is_over p q) → IsTrue (is_place p)
+is_place-over p q place h =
+    let e : q ≡ p ++ drop (length p) q = is_over-rest p q h in
+    (both (is_place p) (is_place (drop (length p) q)) (sym (list_all-append is_name p (drop (length p) q)) ∙ (sym (ap is_place e) ∙ place))).0
+
+pub is_place-push : (p : Path) (n : Name) → IsTrue (is_place p) → IsTrue (is_name n) → IsTrue (is_place (p ++ n ∷ []))
+is_place-push p n place name = list_all-append is_name p (n ∷ []) ∙ rw (place, name) refl
+
+-- Names and paths are in a total order, and only equal ones tie.
+pub name_cmp-total : IsTotalOrder name_cmp
+name_cmp-total = nat_list_cmp_total
+
+pub name_cmp-exact : IsAntisymmetric name_cmp
+name_cmp-exact = slice_cmp-IsAntisymmetric nat_cmp-IsAntisymmetric
+
+pub path_cmp-total : IsTotalOrder path_cmp
+path_cmp-total = lists_total nat_list_cmp_total
+
+pub path_cmp-exact : IsAntisymmetric path_cmp
+path_cmp-exact = slice_cmp-IsAntisymmetric name_cmp-exact
+
+-- A path comes before each other path that it is over.
+pub path_cmp-over : (p q : Path) → IsTrue (is_over p q) → p ≢ q → path_cmp p q ≡ Less
+path_cmp-over [] [] h other = absurd (other refl)
+path_cmp-over [] (m ∷ q) h other = refl
+path_cmp-over (n ∷ p) [] h other = cc
+path_cmp-over (n ∷ p) (m ∷ q) h other =
+    let heads = both (name_eq n m) (is_over p q) h in
+    let e : n ≡ m = (name_eq-decides n m).0 heads.0 in
+    let tied : name_cmp n m ≡ Equal = subst (λ (k : Name). name_cmp n k ≡ Equal) e (tied_itself name_cmp-total n) in
+    rw tied (path_cmp-over p q heads.1 (λ same. other (ap (λ t. n ∷ t) same ∙ ap (λ k. k ∷ q) e)))
+
+-- The text of the names of a text is the text.
+pub text_of-path_of : (cs : List ℕ) → text_of (path_of cs) ≡ cs
+text_of-path_of cs = join_with_byte-slice_split 47 cs
+
+abbrev is_apart : ℕ → Bool
+is_apart c = not (c == 47)
+
+last_of_four : (a b c d : Bool) → not (a || b || c || d) ≡ true → not d ≡ true
+last_of_four a b c true h = elim a as (λ x. not (x || b || c || true) ≡ true → false ≡ true) [ true ↦ λ k. k | false ↦ elim b as (λ x. not (false || x || c || true) ≡ true → false ≡ true) [ true ↦ λ k. k | false ↦ elim c as (λ x. not (false || false || x || true) ≡ true → false ≡ true) [ true ↦ λ k. k | false ↦ λ k. k ] ] ] h
+last_of_four a b c false h = refl
+
+third_of_four : (a b c d : Bool) → (a && b && c && d) ≡ true → c ≡ true
+third_of_four true true true d h = refl
+third_of_four true true false d h = h
+third_of_four true false c d h = cc
+third_of_four false b c d h = cc
+
+all_apart : (n : Name) → list_all (λ c. not (is_forbidden c)) n ≡ true → list_all is_apart n ≡ true
+all_apart [] h = refl
+all_apart (c ∷ n) h =
+    let passed = both (not (is_forbidden c)) (list_all (λ d. not (is_forbidden d)) n) h in
+    rw (last_of_four (c == 0) (c == 10) (c == 13) (c == 47) passed.0, all_apart n passed.1) refl
+
+name-apart : (n : Name) → IsTrue (is_name n) → list_all is_apart n ≡ true
+name-apart n h = all_apart n (third_of_four (not (length n == 0)) (all_scalars n) (list_all (λ c. not (is_forbidden c)) n) (not (is_dots n)) h)
+
+not_cut : (t : Bool) (c : ℕ) (ps qs : List (List ℕ)) → not t ≡ true → cond t ps (onto_first c qs) ≡ onto_first c qs
+not_cut true c ps qs h = cc
+not_cut false c ps qs h = refl
+
+path_of-name : (n : Name) → list_all is_apart n ≡ true → path_of n ≡ n ∷ []
+path_of-name [] h = refl
+path_of-name (c ∷ n) h =
+    let passed = both (is_apart c) (list_all is_apart n) h in
+    not_cut (c == 47) c _ _ passed.0 ∙ ap (onto_first c) (path_of-name n passed.1)
+
+path_of-front : (n : Name) (cs : List ℕ) → list_all is_apart n ≡ true → path_of (n ++ 47 ∷ cs) ≡ n ∷ path_of cs
+path_of-front [] cs h = refl
+path_of-front (c ∷ n) cs h =
+    let passed = both (is_apart c) (list_all is_apart n) h in
+    not_cut (c == 47) c _ _ passed.0 ∙ ap (onto_first c) (path_of-front n cs passed.1)
+
+-- The names of the text of a path are the path.
+pub path_of-text_of : (n : Name) (p : Path) → IsTrue (is_place (n ∷ p)) → path_of (text_of (n ∷ p)) ≡ n ∷ p
+path_of-text_of n [] h = path_of-name n (name-apart n (both (is_name n) true h).0)
+path_of-text_of n (m ∷ p) h =
+    let names = both (is_name n) (is_place (m ∷ p)) h in
+    path_of-front n (text_of (m ∷ p)) (name-apart n names.0) ∙ ap (λ q. n ∷ q) (path_of-text_of m p names.1)
+
+or_fault-Ok : (f : Option PathFault) (x y : Path) → or_fault f x ≡ Ok y → x ≡ y
+or_fault-Ok None x y h = cc
+or_fault-Ok (Some e) x y h = cc
+
+-- What is read of a text has that text.
+pub text_of-read : (cs : List ℕ) (p : Path) → path_reading cs ≡ Ok p → text_of p ≡ cs
+text_of-read cs p h = ap text_of (sym (or_fault-Ok (path_fault cs) (path_of cs) p h)) ∙ text_of-path_of cs
+
+text_of-place_of : (cs : List ℕ) → text_of (place_of cs) ≡ cs
+text_of-place_of [] = refl
+text_of-place_of (c ∷ cs) =
+    let some : (length (c ∷ cs) == 0) ≡ false = grind (arith, nat_tests) in
+    rw some (text_of-path_of (c ∷ cs))
+
+-- What is read of a root's text has that text, less the slash in front and one slash behind.
+pub text_of-root_read : (cs : List ℕ) (r : Path) → root_reading cs ≡ Ok r → text_of r ≡ without_last_slash (drop 1 cs)
+text_of-root_read cs r h = ap text_of (sym (or_fault-Ok (root_fault cs) (root_names cs) r h)) ∙ text_of-place_of (without_last_slash (drop 1 cs))

@@ -6,15 +6,16 @@ use Rattle.std.specs.List.{list_all, onto_first}
 use Rattle.std.specs.Cmp.{IsTotalOrder}
 use Rattle.std.specs.FinMap.{IsAntisymmetric, nat_cmp-IsAntisymmetric, slice_cmp-IsAntisymmetric}
 use Rattle.std.proofs.lemmas.Cmp.{tied_itself, lists_total, nat_list_cmp_total}
-use Rattle.std.proofs.lemmas.Bool.Decides.{nat_tests}
+use Rattle.std.proofs.lemmas.Bool.Decides.{nat_tests, Decides-eqb}
 use Rattle.std.proofs.lemmas.Slice.Eq.{bytes_eq-Decides, starts_is}
 use Rattle.std.proofs.lemmas.List.Splits.{join_with_byte-slice_split}
 use Rattle.std.specs.Str.{all_scalars}
 use Rattle.std.specs.declared.cmp.Ordering.TheVariants.{Less, Equal}
 use Rattle.std.proofs.lemmas.List.Folds.{list_all-append}
 use Rattle.hub_path.specs.declared.fault.PathFault.{PathFault}
-use Rattle.hub_path.specs.Reading.{or_fault, path_fault, path_reading, root_fault, root_names, root_reading, place_of, without_last_slash}
-use Rattle.hub_path.specs.Path.{Name, Path, name_eq, name_cmp, path_cmp, is_forbidden, is_dots, is_name, is_place, is_over, parent, last_name, text_of, path_of}
+use Rattle.hub_path.specs.declared.fault.PathFault.TheVariants.{Empty, NotAbsolute, RemoteRoot}
+use Rattle.hub_path.specs.Reading.{names_fault, begins_with_slash, is_remote, or_fault, path_fault, path_reading, root_fault, root_names, root_reading, place_of, without_last_slash}
+use Rattle.hub_path.specs.Path.{Name, Path, name_eq, name_cmp, path_cmp, is_forbidden, is_dots, is_name, is_place, is_path, is_over, parent, last_name, text_of, path_of}
 
 both : (a b : Bool) → (a && b) ≡ true → (a ≡ true) × (b ≡ true)
 both true b h = (refl, h)
@@ -183,16 +184,24 @@ path_of-front (c ∷ n) cs h =
     let passed = both (is_apart c) (list_all is_apart n) h in
     not_cut (c == 47) c _ _ passed.0 ∙ ap (onto_first c) (path_of-front n cs passed.1)
 
--- The names of the text of a path are the path.
-pub path_of-text_of : (n : Name) (p : Path) → IsTrue (is_place (n ∷ p)) → path_of (text_of (n ∷ p)) ≡ n ∷ p
-path_of-text_of n [] h = path_of-name n (name-apart n (both (is_name n) true h).0)
-path_of-text_of n (m ∷ p) h =
+path_of-text_of-cons : (n : Name) (p : Path) → IsTrue (is_place (n ∷ p)) → path_of (text_of (n ∷ p)) ≡ n ∷ p
+path_of-text_of-cons n [] h = path_of-name n (name-apart n (both (is_name n) true h).0)
+path_of-text_of-cons n (m ∷ p) h =
     let names = both (is_name n) (is_place (m ∷ p)) h in
-    path_of-front n (text_of (m ∷ p)) (name-apart n names.0) ∙ ap (λ q. n ∷ q) (path_of-text_of m p names.1)
+    path_of-front n (text_of (m ∷ p)) (name-apart n names.0) ∙ ap (λ q. n ∷ q) (path_of-text_of-cons m p names.1)
+
+-- The names of the text of a path are the path.
+pub path_of-text_of : (p : Path) → IsTrue (is_path p) → path_of (text_of p) ≡ p
+path_of-text_of [] h = cc
+path_of-text_of (n ∷ p) h = path_of-text_of-cons n p (both (not (length (n ∷ p) == 0)) (is_place (n ∷ p)) h).1
 
 or_fault-Ok : (f : Option PathFault) (x y : Path) → or_fault f x ≡ Ok y → x ≡ y
 or_fault-Ok None x y h = cc
 or_fault-Ok (Some e) x y h = cc
+
+or_fault-None : (f : Option PathFault) (x y : Path) → or_fault f x ≡ Ok y → f ≡ None
+or_fault-None None x y h = refl
+or_fault-None (Some e) x y h = cc
 
 -- What is read of a text has that text.
 pub text_of-read : (cs : List ℕ) (p : Path) → path_reading cs ≡ Ok p → text_of p ≡ cs
@@ -207,3 +216,17 @@ text_of-place_of (c ∷ cs) =
 -- What is read of a root's text has that text, less the slash in front and one slash behind.
 pub text_of-root_read : (cs : List ℕ) (r : Path) → root_reading cs ≡ Ok r → text_of r ≡ without_last_slash (drop 1 cs)
 text_of-root_read cs r h = ap text_of (sym (or_fault-Ok (root_fault cs) (root_names cs) r h)) ∙ text_of-place_of (without_last_slash (drop 1 cs))
+
+begins : (cs : List ℕ) → begins_with_slash cs ≡ true → cs ≡ 47 ∷ drop 1 cs
+begins cs h = (starts_is Decides-eqb cs (47 ∷ []) (begins_with_slash cs) refl).0 h
+
+not_false : (a b c : Bool) (e f g : PathFault) (rest : Option PathFault) → cond a (Some e) (cond b (Some f) (cond (not c) (Some g) rest)) ≡ None → c ≡ true
+not_false true b c e f g rest h = cc
+not_false false true c e f g rest h = cc
+not_false false false true e f g rest h = refl
+not_false false false false e f g rest h = cc
+
+-- A root begins with a slash.
+pub root_read-slash : (cs : List ℕ) (r : Path) → root_reading cs ≡ Ok r → cs ≡ 47 ∷ drop 1 cs
+root_read-slash cs r h =
+    begins cs (not_false (length cs == 0) (is_remote cs) (begins_with_slash cs) Empty RemoteRoot NotAbsolute (names_fault 0 (root_names cs)) (or_fault-None (root_fault cs) (root_names cs) r h))

@@ -3,6 +3,7 @@
 
 mod fault;
 mod items;
+pub mod laws;
 mod name;
 mod rel_path;
 mod root;

@@ -1,0 +1,5 @@
+use Rattle.hub_path.specs.Laws.{is_over-prefix}
+use Rattle.hub_path.proofs.laws.prefixes_are_fronts.Goals as goal
+
+pub returns : goal.returns
+returns c = is_over-prefix

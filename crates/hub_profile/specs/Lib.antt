@@ -1,0 +1,6 @@
+pub mod Faults
+pub mod Facts
+pub mod Parts
+pub mod Lines
+pub mod Reading
+pub mod Examples

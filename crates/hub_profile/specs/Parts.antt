@@ -1,0 +1,31 @@
+-- What a profile says, as contracts see it.
+use Rattle.std.specs.Prelude.{Bool, false, List, slice_get, Option, Some, None, IsTrue}
+use Rattle.hub_path.specs.Path.{Name, Path, path_eq}
+use Rattle.hub_path.specs.declared.side.Side.{Side}
+use Rattle.hub_path.specs.declared.side.Side.TheVariants.{Left, Right}
+use Rattle.hub_profile.specs.Facts.{are_roots, are_kept}
+
+-- A profile's name, its roots in the order Left, Right, and its kept values in the order of their lines.
+pub record Parts : Type 0 where
+  pub name : Name
+  pub roots : List Path
+  pub paths : List Path
+
+-- What holds of each profile that is read.
+pub record IsProfile (P : Parts) : Type 0 where
+  pub roots : IsTrue (are_roots P.roots)
+  pub paths : IsTrue (are_kept P.paths)
+
+-- Whether there is a value, and it passes.
+abbrev pub some_passes : {T : Type 0} → (T → Bool) → Option T → Bool
+some_passes test None = false
+some_passes test (Some x) = test x
+
+-- Of a pair in the order Left, Right, the part of that side.
+abbrev pub at_side : {T : Type 0} → List T → Side → Option T
+at_side xs Left = slice_get xs 0
+at_side xs Right = slice_get xs 1
+
+-- The root of that side is r.
+abbrev pub is_root_at : Parts → Path → Side → Bool
+is_root_at P r side = some_passes (path_eq r) (at_side P.roots side)

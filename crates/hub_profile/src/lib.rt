@@ -1,0 +1,16 @@
+//! Profiles: the settings of a synchronization, read from text.
+#![tactic(auto)]
+
+mod draft;
+mod fault;
+mod kept;
+mod line;
+mod profile;
+mod reading;
+mod verb;
+
+pub use draft::PATH_LINES;
+pub use fault::{Fault, Preference, ProfileFault};
+pub use profile::Profile;
+pub use reading::read_profile;
+pub use verb::Verb;

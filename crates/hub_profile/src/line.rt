@@ -1,0 +1,85 @@
+ghost use Rattle.std.specs.Prelude.{◌≡◌, ◌==◌, ◌<◌, [], ◌∷◌, false, true, chars, length, nat_eq, MatchOption};
+ghost use Rattle.std.specs.List.{before_first, after_first, starts_with};
+ghost use Rattle.hub_path.specs.Reading.{without_last};
+ghost use Rattle.hub_profile.specs.Lines as lines;
+
+/// What a line says: its text without a CR at its end, and then without the blanks around it.
+pub(crate) fn line_text(line: &str) -> &str
+    ensures { chars result.now ≡ lines.line_text (chars line.now) }
+{
+    trimmed(without_last_return(line))
+}
+
+/// Whether a line says something: it isn't blank, and doesn't begin with `#`.
+pub(crate) fn is_setting(line: &str) -> bool
+    ensures { result ≡ lines.is_setting (chars line.now) }
+{
+    !is_blank(line) && !begins_with(line, '#')
+}
+
+/// Whether a line includes another file: its first word says so, and it sets nothing.
+pub(crate) fn is_include(line: &str) -> bool
+    ensures { result ≡ lines.is_include (chars line.now) }
+{
+    let (word, rest) = first_word(line);
+    includes(word) && !begins_with(skip_blanks(rest), '=')
+}
+
+/// The name and the value that a line gives it, where it has an `=`.
+pub(crate) fn name_and_value(line: &str) -> Option<(&str, &str)>
+    ensures { MatchOption result (lines.has_equals (chars line.now) ≡ false) (λ x. (lines.has_equals (chars line.now) ≡ true) × (chars x.0.now ≡ lines.trimmed (before_first (λ c. c == 61) (chars line.now))) × (chars x.1.now ≡ lines.trimmed (after_first (λ c. c == 61) (chars line.now)))) }
+{
+    let (name, value) = line.split_once('=')?;
+    Some((trimmed(name), trimmed(value)))
+}
+
+/// A line up to its first blank, and what follows that.
+fn first_word(line: &str) -> (&str, &str)
+    ensures word { chars result.0.now ≡ before_first lines.is_blank (chars line.now) }
+    ensures rest { chars result.1.now ≡ after_first lines.is_blank (chars line.now) }
+{
+    line.split_once([' ', '\t']).unwrap_or((line, ""))
+}
+
+/// The words that include another file.
+fn includes(word: &str) -> bool
+    ensures { result ≡ lines.is_one_of lines.include_words (chars word.now) }
+{
+    ["include", "source", "include?", "source?"].contains(&word)
+}
+
+/// Whether a text has no characters.
+pub(crate) fn is_blank(text: &str) -> bool
+    ensures { result ≡ (length (chars text.now) == 0) }
+{
+    text.is_empty()
+}
+
+/// Whether a text begins with that ASCII character.
+pub(crate) fn begins_with(text: &str, c: char) -> bool
+    requires nonzero { 0 < c }
+    requires ascii { c < 128 }
+    ensures { result ≡ starts_with nat_eq (chars text.now) (c ∷ []) }
+{
+    text.starts_with(c)
+}
+
+fn without_last_return(line: &str) -> &str
+    ensures { chars result.now ≡ without_last 13 (chars line.now) }
+{
+    line.strip_suffix('\r').unwrap_or(line)
+}
+
+/// A text without blanks, which are spaces and tabs, around it.
+fn trimmed(text: &str) -> &str
+    ensures { chars result.now ≡ lines.trimmed (chars text.now) }
+{
+    skip_blanks(text).trim_end_matches([' ', '\t'])
+}
+
+/// A text without blanks in front.
+fn skip_blanks(text: &str) -> &str
+    ensures { chars result.now ≡ lines.skip_blanks (chars text.now) }
+{
+    text.trim_start_matches([' ', '\t'])
+}

@@ -1,6 +1,6 @@
 -- Which bytes are bundles, what their sections are, and the first fault of all others.
-use Rattle.std.specs.Prelude.{ℕ, ◌+◌, Bool, true, false, ◌&&◌, ◌||◌, ◌==◌, nat_eq, List, [], ◌∷◌, ◌++◌, drop, length, reverse, Option, Some, None, Result, Ok, Err, if◌then◌else◌, codes, bytes_eq}
-use Rattle.std.specs.List.{list_any, list_all, slice_split, starts_with}
+use Rattle.std.specs.Prelude.{ℕ, ◌+◌, Bool, true, false, ◌&&◌, ◌||◌, ◌==◌, nat_eq, List, [], ◌∷◌, ◌++◌, ◌-◌, take, drop, length, Option, Some, None, Result, Ok, Err, if◌then◌else◌, codes, bytes_eq}
+use Rattle.std.specs.List.{list_any, list_all, slice_split, starts_with, ends_with}
 use Rattle.std.specs.Str.{is_utf8, chars}
 use Rattle.hub_path.specs.Path.{Name}
 use Rattle.hub_path.specs.Reading.{name_reading}
@@ -8,8 +8,10 @@ use Rattle.hub_path.specs.declared.fault.PathFault.{PathFault}
 use Rattle.hubsync.specs.declared.bundle.Heading.{Heading}
 use Rattle.hubsync.specs.declared.bundle.Heading.TheVariants.{Profile}
 use Rattle.hubsync.specs.declared.bundle.BundleFault.{BundleFault}
-use Rattle.hubsync.specs.declared.bundle.BundleFault.TheVariants.{NoSection, UnknownSection, BadName, SectionTwice, OutOfMemory}
+use Rattle.hubsync.specs.declared.bundle.BundleFault.TheVariants.{NoSection, UnknownSection, BadName, SectionTwice, ReadFailed, TurnsSpent, OutOfMemory}
 use Rattle.hubsync.specs.declared.bundle.BundleLineFault.{BundleLineFault}
+use Rattle.hubsync.specs.declared.input.InputFault.{InputFault}
+use Rattle.hubsync.specs.declared.input.InputFault.TheVariants as input
 
 -- A section as contracts see it: what its heading says, and the bytes below it.
 pub record SectionValue : Type 0 where
@@ -25,13 +27,14 @@ abbrev pub is_heading : List ℕ → Bool
 is_heading [] = false
 is_heading (b ∷ bs) = b == 37
 
--- A CR at the end of a heading doesn't belong to it.
-abbrev pub without_first_cr : List ℕ → List ℕ
-without_first_cr [] = []
-without_first_cr (b ∷ bs) = if b == 13 then bs else b ∷ bs
+-- What follows a section: nothing, or a heading.
+abbrev pub follows_section : List ℕ → Bool
+follows_section [] = true
+follows_section (b ∷ bs) = b == 37
 
+-- One CR at the end of a heading doesn't belong to it.
 abbrev pub without_last_cr : List ℕ → List ℕ
-without_last_cr l = reverse (without_first_cr (reverse l))
+without_last_cr l = if ends_with nat_eq l (codes "\r") then take (length l - 1) l else l
 
 -- The LF between a line and the bytes of the lines below it, if there are any.
 abbrev pub below_line : List (List ℕ) → List ℕ → List ℕ
@@ -96,12 +99,13 @@ heading_below above l =
     if list_any (λ k. bytes_eq k.0 l) headings_once && list_any (bytes_eq l) above then Err SectionTwice
     else heading_reading l
 
-abbrev pub before_sections : SectionValue → Result (List SectionValue) BundleLineFault → Result (List SectionValue) BundleLineFault
-before_sections s (Ok ss) = Ok (s ∷ ss)
-before_sections s (Err f) = Err f
+-- A section, and then those below it.
+abbrev pub with_section : SectionValue → Result (List SectionValue) BundleLineFault → Result (List SectionValue) BundleLineFault
+with_section s (Ok ss) = Ok (s ∷ ss)
+with_section s (Err f) = Err f
 
 abbrev pub with_heading : Written → Result Heading BundleFault → Result (List SectionValue) BundleLineFault → Result (List SectionValue) BundleLineFault
-with_heading w (Ok h) later = before_sections (record { heading = h; bytes = w.bytes }) later
+with_heading w (Ok h) later = with_section (record { heading = h; bytes = w.bytes }) later
 with_heading w (Err f) later = Err (record { line = w.line; fault = f })
 
 -- The sections in order, or the fault of the first heading that has one.
@@ -118,6 +122,11 @@ unless_stray (Some n) later = Err (record { line = n; fault = NoSection })
 abbrev pub bundle_reading : List ℕ → Result (List SectionValue) BundleLineFault
 bundle_reading bytes = unless_stray (stray_line 1 (lines bytes)) (sections_reading [] (written 1 (lines bytes)))
 
--- What is told where memory is refused.
+-- What is told where memory is refused, and where the input isn't read: the line 0 stands for the whole input.
 abbrev pub out_of_memory : BundleLineFault
 out_of_memory = record { line = 0; fault = OutOfMemory }
+
+abbrev pub input_fault : InputFault → BundleLineFault
+input_fault input.ReadFailed = record { line = 0; fault = ReadFailed }
+input_fault input.TurnsSpent = record { line = 0; fault = TurnsSpent }
+input_fault input.OutOfMemory = out_of_memory

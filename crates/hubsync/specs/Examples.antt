@@ -1,5 +1,5 @@
 -- Worked values of the reading of bundles.
-use Rattle.std.specs.Prelude.{⊤, ◌≡◌, ℕ, List, [], ◌∷◌, ◌++◌, Result, Ok, Err, codes, refl}
+use Rattle.std.specs.Prelude.{⊤, ◌≡◌, ℕ, List, [], ◌∷◌, ◌++◌, Result, Ok, Err, codes, replicate, refl}
 use Rattle.std.specs.Str.{is_utf8, chars}
 use Rattle.hubsync.specs.declared.bundle.Heading.TheVariants.{Profile}
 use Rattle.hubsync.specs.declared.bundle.BundleFault.{BundleFault}
@@ -87,3 +87,15 @@ a_bad_name_below_another_section = refl
 no_text : bundle_reading (codes "%profile " ++ 255 ∷ []) ≡ at 1 fault.BadName
 unfolding computed
 no_text = refl
+
+a_percent_alone : bundle_reading (codes "%") ≡ at 1 fault.UnknownSection
+a_percent_alone = refl
+
+-- a name takes at most 255 bytes
+a_long_name : bundle_reading (codes "%profile " ++ replicate 255 97) ≡ Ok (profile (replicate 255 97) [] ∷ [])
+unfolding computed
+a_long_name = refl
+
+a_name_too_long : bundle_reading (codes "%profile " ++ replicate 256 97) ≡ at 1 fault.BadName
+unfolding computed
+a_name_too_long = refl

@@ -4,7 +4,7 @@ use Rattle.std.specs.List.{list_all, onto_first}
 use Rattle.std.proofs.lemmas.Bool.{cases_Bool, eqb-true}
 use Rattle.std.proofs.lemmas.List.{drop_more, take_more}
 use Rattle.std.proofs.lemmas.List.Splits.{slice_split-cons_yes, slice_split-cons_no}
-use Rattle.hubsync.specs.Bundle.{lines, is_heading, is_blank, below_line, bytes_before_heading, Written, written, stray_line}
+use Rattle.hubsync.specs.Bundle.{is_lf, lines, is_blank, below_line, bytes_before_heading, Written, written, stray_line}
 
 -- ---- what is said from the middle of a line on
 
@@ -37,10 +37,10 @@ stray_from false n bs = stray_here n (lines bs)
 -- ---- a byte in front of lines
 
 lines-lf : (b : ℕ) (bs : List ℕ) → (b == 10) ≡ true → lines (b ∷ bs) ≡ [] ∷ lines bs
-lines-lf b bs h = slice_split-cons_yes (λ c. c == 10) b bs h
+lines-lf b bs h = slice_split-cons_yes is_lf b bs h
 
 lines-other : (b : ℕ) (bs : List ℕ) → (b == 10) ≡ false → lines (b ∷ bs) ≡ onto_first b (lines bs)
-lines-other b bs h = slice_split-cons_no (λ c. c == 10) b bs h
+lines-other b bs h = slice_split-cons_no is_lf b bs h
 
 below_line-onto_first : (b : ℕ) (ls : List (List ℕ)) (x : List ℕ) → below_line (onto_first b ls) x ≡ 10 ∷ x
 below_line-onto_first b [] x = refl

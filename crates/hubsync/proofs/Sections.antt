@@ -1,5 +1,5 @@
 -- The sections of a bundle, one more at a time.
-use Rattle.std.proofs.Common.{◌≡◌, Bool, true, false, ◌==◌, ℕ, ◌+◌, ◌<◌, ◌≤◌, List, [], ◌∷◌, ◌++◌, length, take, drop, Result, Ok, Err, refl, sym, ap, subst, ◌∙◌, inl, inr, arith, take_all, drop_of_length-le, length-drop}
+use Rattle.std.proofs.Common.{◌≡◌, true, false, ◌==◌, ℕ, ◌+◌, ◌<◌, ◌≤◌, List, [], ◌∷◌, ◌++◌, length, take, drop, Result, Ok, Err, refl, sym, ap, subst, ◌∙◌, inl, inr, arith, take_all, drop_of_length-le, length-drop}
 use Rattle.std.proofs.Math.Numerals.{one-add}
 use Rattle.std.proofs.lemmas.Bool.{cases_Bool, cases_lt, eqb-true}
 use Rattle.std.proofs.lemmas.List.Splits.{slice_split-cons_no, slice_split_first}
@@ -7,7 +7,7 @@ use Rattle.std.specs.List.{before_first, after_first, position_or_len, onto_firs
 use Rattle.hubsync.specs.declared.bundle.Heading.{Heading}
 use Rattle.hubsync.specs.declared.bundle.BundleFault.{BundleFault}
 use Rattle.hubsync.specs.declared.bundle.BundleLineFault.{BundleLineFault}
-use Rattle.hubsync.specs.Bundle.{SectionValue, Written, lines, is_heading, follows_section, without_last_cr, bytes_before_heading, written, heading_reading, with_section, with_heading, sections_reading}
+use Rattle.hubsync.specs.Bundle.{SectionValue, Written, is_lf, lines, is_heading, follows_section, without_last_cr, bytes_before_heading, written, heading_reading, with_section, with_heading, sections_reading}
 
 -- What is read where these sections stand above.
 abbrev pub below_sections : List SectionValue → Result (List SectionValue) BundleLineFault → Result (List SectionValue) BundleLineFault
@@ -33,9 +33,6 @@ sections_reading_anywhere above (w ∷ ws) =
     ap (with_heading w (heading_reading w.heading)) (sections_reading_anywhere (w.heading ∷ above) ws ∙ sym (sections_reading_anywhere (w.heading ∷ []) ws))
 
 -- ---- bytes that begin with a heading
-
-abbrev pub is_lf : ℕ → Bool
-is_lf b = b == 10
 
 -- bytes without an LF are one line
 lines_one : (bs : List ℕ) → length bs ≤ position_or_len is_lf bs → lines bs ≡ bs ∷ []

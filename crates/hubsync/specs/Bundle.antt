@@ -18,9 +18,12 @@ pub record SectionValue : Type 0 where
   pub heading : Heading
   pub bytes : List ℕ
 
+abbrev pub is_lf : ℕ → Bool
+is_lf b = b == 10
+
 -- The lines of a bundle are its bytes, cut at each LF. The last one may be empty.
 abbrev pub lines : List ℕ → List (List ℕ)
-lines bytes = slice_split (λ b. b == 10) bytes
+lines bytes = slice_split is_lf bytes
 
 -- A heading is a line that begins with `%`.
 abbrev pub is_heading : List ℕ → Bool

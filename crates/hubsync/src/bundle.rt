@@ -1,7 +1,6 @@
-ghost use Rattle.std.specs.Prelude.{◌≡◌, ◌⊎◌, ◌+◌, ◌≤◌, ◌<◌, ◌==◌, ℕ, take, drop, length, IsTrue, IfOk, IfErr, Ok, Err};
-ghost use Rattle.std.specs.List.{before_first, after_first, position_or_len, list_all};
-ghost use Rattle.hubsync.specs.Bundle.{lines, is_heading, is_blank, without_last_cr, bytes_before_heading, written, stray_line, profile_reading, heading_reading, bundle_reading, out_of_memory};
-ghost use Rattle.hubsync.specs.Bundle.{follows_section};
+ghost use Rattle.std.specs.Prelude.{◌≡◌, ◌⊎◌, ◌+◌, ◌≤◌, ℕ, take, drop, length, IsTrue, IfOk, IfErr, Ok, Err};
+ghost use Rattle.std.specs.List.{before_first, after_first, position_or_len};
+ghost use Rattle.hubsync.specs.Bundle.{is_lf, lines, without_last_cr, bytes_before_heading, follows_section, written, stray_line, profile_reading, heading_reading, bundle_reading, out_of_memory};
 
 use crate::input::InputFault;
 use hub_path::{Name, PathFault};
@@ -197,8 +196,8 @@ fn section_end(bytes: &[u8]) -> (usize, usize)
 
 /// The first line without its LF, and the bytes below it.
 fn cut_line(bytes: &[u8]) -> (&[u8], &[u8])
-    ensures line { result.0.now ≡ before_first (λ b. b == 10) bytes.now }
-    ensures below { result.1.now ≡ after_first (λ b. b == 10) bytes.now }
+    ensures line { result.0.now ≡ before_first is_lf bytes.now }
+    ensures below { result.1.now ≡ after_first is_lf bytes.now }
 {
     let end = line_len(bytes);
     if end < bytes.len() {
@@ -210,7 +209,7 @@ fn cut_line(bytes: &[u8]) -> (&[u8], &[u8])
 
 /// How many bytes stand before the first LF.
 fn line_len(bytes: &[u8]) -> usize
-    ensures len { result ≡ position_or_len (λ b. b == 10) bytes.now }
+    ensures len { result ≡ position_or_len is_lf bytes.now }
     ensures within { result ≤ length bytes.now }
 {
     bytes.iter().take_while(|byte| **byte != b'\n').count()
@@ -254,3 +253,6 @@ fn read_profile_name(alloc: Global, line: usize, bytes: &[u8]) -> Result<Heading
         Err(_) => Err(BundleLineFault { line, fault }),
     }
 }
+
+#[cfg(test)]
+mod tests;

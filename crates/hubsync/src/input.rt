@@ -66,3 +66,6 @@ fn read_turns<R: Read>(alloc: Global, input: &mut R, turns: usize) -> Result<Vec
     }
     Err(InputFault::TurnsSpent)
 }
+
+#[cfg(test)]
+mod tests;

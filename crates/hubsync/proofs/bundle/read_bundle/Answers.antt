@@ -1,8 +1,8 @@
-use Rattle.std.proofs.Common.{◌≡◌, ◌+◌, true, ◌==◌, length, drop, take, [], Err, sym, ap, ◌∙◌, inl, inr, arith, length-drop}
+use Rattle.std.proofs.Common.{◌≡◌, ◌+◌, true, length, drop, [], Err, sym, ap, ◌∙◌, inl, inr, arith, length-drop}
 use Rattle.std.proofs.lemmas.List.{take_rest, nil_from_length}
 use Rattle.std.proofs.lemmas.Bool.{eqb-true}
 use Rattle.std.proofs.lemmas.Result.{err_from_is_err_and}
-use Rattle.hubsync.specs.Bundle.{lines, is_heading, written, heading_reading, sections_reading, bundle_reading}
+use Rattle.hubsync.specs.Bundle.{lines, is_heading, written, heading_reading, sections_reading}
 use Rattle.hubsync.proofs.Sections.{below_sections, below_sections-Ok, next_begins, length-after_first, one_section_more, faulty_section}
 use Rattle.hubsync.proofs.bundle.read_bundle.Goals as goal
 

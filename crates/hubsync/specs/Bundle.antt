@@ -1,0 +1,135 @@
+-- Which bytes are bundles, what their sections are, and the first fault of all others.
+use Rattle.std.specs.Prelude.{ℕ, ◌+◌, Bool, true, false, ◌&&◌, ◌||◌, ◌==◌, nat_eq, List, [], ◌∷◌, ◌++◌, ◌-◌, take, drop, length, Option, Some, None, Result, Ok, Err, if◌then◌else◌, codes, bytes_eq}
+use Rattle.std.specs.List.{list_any, list_all, slice_split, starts_with, ends_with}
+use Rattle.std.specs.Str.{is_utf8, chars}
+use Rattle.hub_path.specs.Path.{Name}
+use Rattle.hub_path.specs.Reading.{name_reading}
+use Rattle.hub_path.specs.declared.fault.PathFault.{PathFault}
+use Rattle.hubsync.specs.declared.bundle.Heading.{Heading}
+use Rattle.hubsync.specs.declared.bundle.Heading.TheVariants.{Profile}
+use Rattle.hubsync.specs.declared.bundle.BundleFault.{BundleFault}
+use Rattle.hubsync.specs.declared.bundle.BundleFault.TheVariants.{NoSection, UnknownSection, BadName, SectionTwice, ReadFailed, TurnsSpent, OutOfMemory}
+use Rattle.hubsync.specs.declared.bundle.BundleLineFault.{BundleLineFault}
+use Rattle.hubsync.specs.declared.input.InputFault.{InputFault}
+use Rattle.hubsync.specs.declared.input.InputFault.TheVariants as input
+
+-- A section as contracts see it: what its heading says, and the bytes below it.
+pub record SectionValue : Type 0 where
+  pub heading : Heading
+  pub bytes : List ℕ
+
+abbrev pub is_lf : ℕ → Bool
+is_lf b = b == 10
+
+-- The lines of a bundle are its bytes, cut at each LF. The last one may be empty.
+abbrev pub lines : List ℕ → List (List ℕ)
+lines bytes = slice_split is_lf bytes
+
+-- A heading is a line that begins with `%`.
+abbrev pub is_heading : List ℕ → Bool
+is_heading [] = false
+is_heading (b ∷ bs) = b == 37
+
+-- What follows a section: nothing, or a heading.
+abbrev pub follows_section : List ℕ → Bool
+follows_section [] = true
+follows_section (b ∷ bs) = b == 37
+
+-- One CR at the end of a heading doesn't belong to it.
+abbrev pub without_last_cr : List ℕ → List ℕ
+without_last_cr l = if ends_with nat_eq l (codes "\r") then take (length l - 1) l else l
+
+-- The LF between a line and the bytes of the lines below it, if there are any.
+abbrev pub below_line : List (List ℕ) → List ℕ → List ℕ
+below_line [] bytes = []
+below_line (l ∷ ls) bytes = 10 ∷ bytes
+
+-- The bytes of these lines up to the next heading.
+abbrev pub bytes_before_heading : List (List ℕ) → List ℕ
+bytes_before_heading [] = []
+bytes_before_heading (l ∷ ls) = if is_heading l then [] else l ++ below_line ls (bytes_before_heading ls)
+
+-- A section as it is written: the number of its heading's line, the heading, and the bytes below it.
+pub record Written : Type 0 where
+  pub line : ℕ
+  pub heading : List ℕ
+  pub bytes : List ℕ
+
+-- The sections of these lines, the first of which has the number n.
+abbrev pub written : ℕ → List (List ℕ) → List Written
+written n [] = []
+written n (l ∷ ls) =
+    if is_heading l then record { line = n; heading = without_last_cr l; bytes = bytes_before_heading ls } ∷ written (n + 1) ls
+    else written (n + 1) ls
+
+-- A blank line has nothing but spaces, tabs and CR.
+abbrev pub is_blank : ℕ → Bool
+is_blank b = b == 32 || b == 9 || b == 13
+
+-- The first line before all headings that isn't blank.
+abbrev pub stray_line : ℕ → List (List ℕ) → Option ℕ
+stray_line n [] = None
+stray_line n (l ∷ ls) =
+    if is_heading l then None else (if list_all is_blank l then stray_line (n + 1) ls else Some n)
+
+-- A profile's heading is this word, one space, and the profile's name up to the end of the line.
+abbrev pub profile_word : List ℕ
+profile_word = codes "%profile "
+
+abbrev pub profile_or_fault : Result Name PathFault → Result Heading BundleFault
+profile_or_fault (Ok n) = Ok (Profile n)
+profile_or_fault (Err e) = Err BadName
+
+abbrev pub profile_reading : List ℕ → Result Heading BundleFault
+profile_reading bytes = if is_utf8 bytes then profile_or_fault (name_reading (chars bytes)) else Err BadName
+
+-- The headings of the sections that stand once, with what they say. None is known yet.
+abbrev pub headings_once : List (List ℕ × Heading)
+headings_once = []
+
+abbrev pub heading_among : List (List ℕ × Heading) → List ℕ → Result Heading BundleFault
+heading_among [] l = Err UnknownSection
+heading_among (k ∷ ks) l = if bytes_eq k.0 l then Ok k.1 else heading_among ks l
+
+abbrev pub heading_reading : List ℕ → Result Heading BundleFault
+heading_reading l =
+    if starts_with nat_eq l profile_word then profile_reading (drop (length profile_word) l)
+    else heading_among headings_once l
+
+-- What a heading says below these other ones. Only profiles' headings may stand more than once.
+abbrev pub heading_below : List (List ℕ) → List ℕ → Result Heading BundleFault
+heading_below above l =
+    if list_any (λ k. bytes_eq k.0 l) headings_once && list_any (bytes_eq l) above then Err SectionTwice
+    else heading_reading l
+
+-- A section, and then those below it.
+abbrev pub with_section : SectionValue → Result (List SectionValue) BundleLineFault → Result (List SectionValue) BundleLineFault
+with_section s (Ok ss) = Ok (s ∷ ss)
+with_section s (Err f) = Err f
+
+abbrev pub with_heading : Written → Result Heading BundleFault → Result (List SectionValue) BundleLineFault → Result (List SectionValue) BundleLineFault
+with_heading w (Ok h) later = with_section (record { heading = h; bytes = w.bytes }) later
+with_heading w (Err f) later = Err (record { line = w.line; fault = f })
+
+-- The sections in order, or the fault of the first heading that has one.
+abbrev pub sections_reading : List (List ℕ) → List Written → Result (List SectionValue) BundleLineFault
+sections_reading above [] = Ok []
+sections_reading above (w ∷ ws) =
+    with_heading w (heading_below above w.heading) (sections_reading (w.heading ∷ above) ws)
+
+abbrev pub unless_stray : Option ℕ → Result (List SectionValue) BundleLineFault → Result (List SectionValue) BundleLineFault
+unless_stray None later = later
+unless_stray (Some n) later = Err (record { line = n; fault = NoSection })
+
+-- What a bundle says, or its first fault: a line above all sections, then the headings from the first.
+abbrev pub bundle_reading : List ℕ → Result (List SectionValue) BundleLineFault
+bundle_reading bytes = unless_stray (stray_line 1 (lines bytes)) (sections_reading [] (written 1 (lines bytes)))
+
+-- What is told where memory is refused, and where the input isn't read: the line 0 stands for the whole input.
+abbrev pub out_of_memory : BundleLineFault
+out_of_memory = record { line = 0; fault = OutOfMemory }
+
+abbrev pub input_fault : InputFault → BundleLineFault
+input_fault input.ReadFailed = record { line = 0; fault = ReadFailed }
+input_fault input.TurnsSpent = record { line = 0; fault = TurnsSpent }
+input_fault input.OutOfMemory = out_of_memory

@@ -1,2 +1,4 @@
+pub mod CheckFacts
 pub mod Lines
 pub mod Sections
+pub mod ReportFacts

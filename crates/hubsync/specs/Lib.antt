@@ -1,2 +1,4 @@
 pub mod Bundle
+pub mod Check
+pub mod Report
 pub mod Examples

@@ -1,0 +1,8 @@
+//! What a profile reaches, and what it may change there.
+#![tactic(auto)]
+
+mod reach;
+mod verbs;
+
+pub use reach::reaches;
+pub use verbs::{may, writes};

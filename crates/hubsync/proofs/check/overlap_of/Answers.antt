@@ -1,0 +1,37 @@
+use Rattle.std.proofs.Common.{sym, ◌∙◌, ap, arith, ◌≡◌, true, false, ◌&&◌, List, refl}
+use Rattle.std.specs.Prelude.{IsTrue}
+use Rattle.std.proofs.lemmas.Option.{MatchOption-at_none, MatchOption-at_some}
+use Rattle.hub_path.specs.Path.{Path}
+use Rattle.hub_reach.specs.Reach.{reach, has_root, writes}
+use Rattle.hubsync.specs.Check.{is_below, meets}
+use Rattle.hubsync.proofs.CheckFacts.{both, apart-roots, apart-paths, below-shown, reach-below}
+use Rattle.hubsync.proofs.check.overlap_of.Goals as goal
+
+pub returns-in_default : goal.returns-in_default
+returns-in_default c = apart-roots c.args.writer.now c.args.other.now c.shared_root.ensures.valid c.in_default.ensures.shared
+
+pub returns-in_default-2 : goal.returns-in_default-2
+returns-in_default-2 c =
+    let none = MatchOption-at_none _ _ c.in_default-2.is c.in_ok-meeting.ensures in
+    apart-paths c.args.writer.now c.args.other.now
+    (ap (λ (ss : List Path). meets ss c.args.other.now.paths) (sym c.paths.ensures.value) ∙ (ap (λ (ts : List Path). meets c.paths.result.now ts) (sym c.paths-2.ensures.value) ∙ none))
+
+pub held_prefix-requires-clause-below : goal.held_prefix-requires-clause-below
+held_prefix-requires-clause-below c =
+    let met = MatchOption-at_some _ _ c.in-Some-2.meeting c.in-Some-2.is c.in_ok-meeting.ensures in
+    below-shown c.args.writer.now.paths c.in-Some-2.meeting.now c.in_ok-path.path (ap (λ (ss : List Path). is_below ss c.in-Some-2.meeting.now) (sym c.paths.ensures.value) ∙ met.0) c.in_ok-path.ensures.below
+
+pub returns : goal.returns
+returns c =
+    let met = MatchOption-at_some _ _ c.in-Some-2.meeting c.in-Some-2.is c.in_ok-meeting.ensures in
+    let others = below-shown c.args.other.now.paths c.in-Some-2.meeting.now c.in_ok-path.path (ap (λ (ss : List Path). is_below ss c.in-Some-2.meeting.now) (sym c.paths-2.ensures.value) ∙ met.1) c.in_ok-path.ensures.below in
+    let shared = both (writes c.args.writer.now c.in-Some.root.now) (has_root c.args.other.now c.in-Some.root.now) c.in-Some.ensures.shared in
+    let writes = both (has_root c.args.writer.now c.in-Some.root.now) true shared.0 in
+    record {
+      writer = c.in_ok-copy.ensures ∙ c.name.ensures;
+      other = c.in_ok-copy-3.ensures ∙ c.name-2.ensures;
+      shared = rw c.in_ok-copy-2.ensures shared.1;
+      over = c.in_ok-held_prefix.ensures.over;
+      written = rw (c.in_ok-copy-2.ensures, writes.0, c.in_ok-held_prefix.ensures.reached) refl;
+      reached = reach-below c.args.other.now c.in_ok-path.path c.in_ok-path.ensures.path others;
+    }

@@ -1,0 +1,85 @@
+-- When profiles are refused, and what a refusal shows.
+use Rattle.std.specs.Prelude.{◌≡◌, ◌≢◌, ◌<◌, ℕ, Bool, not, ◌&&◌, ◌||◌, List, length, IsTrue, slice_get, Some}
+use Rattle.std.specs.List.{list_any}
+use Rattle.hub_path.specs.Path.{Name, Path, path_eq, is_over}
+use Rattle.hub_profile.specs.Parts.{Parts}
+use Rattle.hub_reach.specs.Reach.{reach, write, writes, has_root}
+use Rattle.hub_reach.specs.Safe.{Clash}
+use Rattle.hubsync.specs.declared.check.TheConstants.{PROFILES}
+use Rattle.hubsync.specs.declared.check.Overlap.{Overlap}
+use Rattle.hubsync.specs.declared.check.Refusal.{Refusal}
+use Rattle.hubsync.specs.declared.check.Refusal.TheVariants.{TooManyProfiles, SameName, NestedRoots, Overlaps}
+
+-- Two different roots, one of which lies within the other.
+abbrev pub is_nested : Path → Path → Bool
+is_nested r s = not (path_eq r s) && (is_over r s || is_over s r)
+
+abbrev pub nested_with : List Parts → Path → Bool
+nested_with Ps r = list_any (λ Q. list_any (is_nested r) Q.roots) Ps
+
+abbrev pub has_nested : List Parts → Bool
+has_nested Ps = list_any (λ P. list_any (nested_with Ps) P.roots) Ps
+
+abbrev pub is_root_of : List Parts → Path → Bool
+is_root_of Ps r = list_any (λ P. has_root P r) Ps
+
+-- One of these is over the path.
+abbrev pub is_below : List Path → Path → Bool
+is_below ss q = list_any (λ s. is_over s q) ss
+
+-- One of these and one of those lie one over the other.
+abbrev pub meets : List Path → List Path → Bool
+meets ss ts = list_any (λ s. list_any (λ t. is_over s t || is_over t s) ts) ss
+
+-- A root of both at which P writes.
+abbrev pub is_shared : Parts → Parts → Path → Bool
+is_shared P Q r = writes P r && has_root Q r
+
+abbrev pub shares_root : Parts → Parts → Bool
+shares_root P Q = list_any (is_shared P Q) P.roots
+
+-- Two profiles with one name, the later one of which is shown.
+pub record RepeatsName (Ps : List Parts) (name : Name) : Type 0 where
+  pub earlier : ℕ
+  pub later : ℕ
+  pub before : earlier < later
+  pub first : Parts
+  pub second : Parts
+  pub at_earlier : slice_get Ps earlier ≡ Some first
+  pub at_later : slice_get Ps later ≡ Some second
+  pub same : first.name ≡ second.name
+  pub shown : name ≡ second.name
+
+-- What is shown of two profiles that overlap: P writes what is held, at a root of both, and it is over a path that Q reaches.
+pub record IsShown (P Q : Parts) (o : Overlap) : Type 0 where
+  pub writer : o.writer ≡ P.name
+  pub other : o.other ≡ Q.name
+  pub shared : IsTrue (has_root Q o.root)
+  pub over : IsTrue (is_over o.held o.path)
+  pub written : IsTrue (write P o.root o.held)
+  pub reached : IsTrue (reach Q o.path)
+
+-- Of different profiles of the list.
+pub record IsOverlap (Ps : List Parts) (o : Overlap) : Type 0 where
+  pub writer : ℕ
+  pub other : ℕ
+  pub different : writer ≢ other
+  pub P : Parts
+  pub Q : Parts
+  pub at_writer : slice_get Ps writer ≡ Some P
+  pub at_other : slice_get Ps other ≡ Some Q
+  pub shown : IsShown P Q o
+
+-- The profile of that number clashes with none of those whose number is below a bound, and none of the first ones with any.
+abbrev pub ClashesNone : List Parts → ℕ → ℕ → Type 0
+ClashesNone Ps i below = (j : ℕ) (P Q : Parts) → j < below → slice_get Ps i ≡ Some P → slice_get Ps j ≡ Some Q → i ≢ j → ¬ (Clash P Q)
+
+abbrev pub NoneClash : List Parts → ℕ → Type 0
+NoneClash Ps below = (i : ℕ) → i < below → ClashesNone Ps i (length Ps)
+
+-- What holds of the profiles where a refusal is told.
+abbrev pub Refuses : List Parts → Refusal → Type 0
+Refuses Ps TooManyProfiles = PROFILES < length Ps
+Refuses Ps (SameName name) = RepeatsName Ps name
+Refuses Ps (NestedRoots r s) = IsTrue (is_root_of Ps r) × IsTrue (is_root_of Ps s) × IsTrue (is_nested r s)
+Refuses Ps (Overlaps o) = IsOverlap Ps o

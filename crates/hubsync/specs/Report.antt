@@ -1,0 +1,143 @@
+-- What the program answers to an input, and when.
+use Rattle.std.specs.Prelude.{◌≡◌, ◌⊎◌, ◌≤◌, ◌∷◌, ◌++◌, ⊤, ℕ, List, [], length, take, Option, Some, IfSome, Result, Ok, Err, codes, encode_utf8_all}
+use Rattle.std.specs.List.{flat_map}
+use Rattle.std.specs.Io.KnownBytes.{Appends}
+use Rattle.hub_path.specs.Path.{Name, Path, text_of}
+use Rattle.hub_profile.specs.Parts.{Parts}
+use Rattle.hub_profile.specs.Reading.{profile_in}
+use Rattle.hub_profile.specs.declared.fault.ProfileFault.{ProfileFault}
+use Rattle.hub_reach.specs.Safe.{IsSafe}
+use Rattle.hubsync.specs.declared.input.TheConstants.{READ_TURNS}
+use Rattle.hubsync.specs.declared.bundle.Heading.{Heading}
+use Rattle.hubsync.specs.declared.bundle.Heading.TheVariants.{Profile}
+use Rattle.hubsync.specs.declared.bundle.BundleLineFault.{BundleLineFault}
+use Rattle.hubsync.specs.declared.bundle.BundleFault.TheVariants.{ReadFailed, TurnsSpent}
+use Rattle.hubsync.specs.declared.profiles.SectionFault.{SectionFault}
+use Rattle.hubsync.specs.declared.profiles.ReadError.{ReadError}
+use Rattle.hubsync.specs.declared.profiles.ReadError.TheVariants as memory
+use Rattle.hubsync.specs.declared.check.Overlap.{Overlap}
+use Rattle.hubsync.specs.declared.check.Refusal.{Refusal}
+use Rattle.hubsync.specs.declared.check.Refusal.TheVariants.{TooManyProfiles, SameName, NestedRoots, Overlaps}
+use Rattle.hubsync.specs.declared.report.Report.{Report}
+use Rattle.hubsync.specs.declared.report.Report.TheVariants.{Safe, Refused, BadBundle, BadProfile, OutOfMemory}
+use Rattle.hubsync.specs.Bundle.{SectionValue, bundle_reading}
+use Rattle.hubsync.specs.Check.{Refuses}
+
+infixl 10 ◌>>=◌
+abbrev pub ◌>>=◌ : {A B : Type 0} → Result A SectionFault → (A → Result B SectionFault) → Result B SectionFault
+(Ok x) >>= f = f x
+(Err e) >>= f = Err e
+
+abbrev pub named_fault : Name → Result Parts ProfileFault → Result Parts SectionFault
+named_fault name (Ok P) = Ok P
+named_fault name (Err f) = Err (record { profile = name; fault = f })
+
+abbrev pub under_heading : Heading → List ℕ → Result Parts SectionFault
+under_heading (Profile name) bytes = named_fault name (profile_in name bytes)
+
+-- The profile that a section spells, or its first fault.
+abbrev pub section_reading : SectionValue → Result Parts SectionFault
+section_reading s = under_heading s.heading s.bytes
+
+-- The profiles of the sections, in order, or the first fault of the first faulty section.
+abbrev pub sections_reading : List SectionValue → Result (List Parts) SectionFault
+sections_reading [] = Ok []
+sections_reading (s ∷ ss) = do
+  P ← section_reading s
+  Ps ← sections_reading ss
+  Ok (P ∷ Ps)
+
+-- What was refused memory fails with no fault; another error is the fault of the reading.
+abbrev pub FailsAs : {T : Type 0} → Result T SectionFault → ReadError → Type 0
+FailsAs reading memory.OutOfMemory = ⊤
+FailsAs reading (memory.Faulty f) = reading ≡ Err f
+
+-- The bytes are a bundle of these profiles.
+pub record Spells (bytes : List ℕ) (Ps : List Parts) : Type 0 where
+  pub sections : List SectionValue
+  pub bundle : bundle_reading bytes ≡ Ok sections
+  pub profiles : sections_reading sections ≡ Ok Ps
+
+-- The bytes are a bundle one of whose sections is faulty.
+pub record HasFault (bytes : List ℕ) (f : SectionFault) : Type 0 where
+  pub sections : List SectionValue
+  pub bundle : bundle_reading bytes ≡ Ok sections
+  pub profiles : sections_reading sections ≡ Err f
+
+-- What an input says where it is refused: profiles of which the refusal tells the truth.
+pub record SpellsRefused (bytes : List ℕ) (r : Refusal) : Type 0 where
+  pub profiles : List Parts
+  pub spelled : Spells bytes profiles
+  pub refuses : Refuses profiles r
+
+pub record SpellsSafe (bytes : List ℕ) : Type 0 where
+  pub profiles : List Parts
+  pub spelled : Spells bytes profiles
+  pub safe : IsSafe profiles []
+
+-- A failed read, an input that doesn't end within its reads, or the first fault of the bundle.
+abbrev pub IsBundleFault : List ℕ → BundleLineFault → Type 0
+IsBundleFault bytes f =
+    (f ≡ record { line = 0; fault = ReadFailed })
+    ⊎ ((f ≡ record { line = 0; fault = TurnsSpent }) × (READ_TURNS ≤ length bytes) ⊎ (bundle_reading bytes ≡ Err f))
+
+-- What holds of the input where the program answers so.
+abbrev pub Holds : List ℕ → Report → Type 0
+Holds bytes Safe = SpellsSafe bytes
+Holds bytes (Refused r) = SpellsRefused bytes r
+Holds bytes (BadBundle f) = IsBundleFault bytes f
+Holds bytes (BadProfile f) = HasFault bytes f
+Holds bytes OutOfMemory = ⊤
+
+abbrev pub root_text : Path → List ℕ
+root_text r = codes "/" ++ encode_utf8_all (text_of r)
+
+abbrev pub path_text : Path → List ℕ
+path_text p = encode_utf8_all (text_of p)
+
+-- The line of an overlap, and of each refusal.
+abbrev pub overlap_line : Overlap → List ℕ
+overlap_line o = flat_map (λ t. t)
+    (codes "overlap: " ∷ encode_utf8_all o.writer ∷ codes " writes " ∷ path_text o.held ∷ codes " at " ∷ root_text o.root
+    ∷ codes ", " ∷ encode_utf8_all o.other ∷ codes " reaches " ∷ path_text o.path ∷ codes "\n" ∷ [])
+
+abbrev pub refusal_line : Refusal → List ℕ
+refusal_line TooManyProfiles = codes "refused: TooManyProfiles\n"
+refusal_line (SameName name) = flat_map (λ t. t) (codes "refused: SameName " ∷ encode_utf8_all name ∷ codes "\n" ∷ [])
+refusal_line (NestedRoots r s) = flat_map (λ t. t) (codes "refused: NestedRoots " ∷ root_text r ∷ codes " and " ∷ root_text s ∷ codes "\n" ∷ [])
+refusal_line (Overlaps o) = overlap_line o
+
+-- The line that says an answer. What a fault is called is not said here.
+abbrev pub IsFaultLine : List ℕ → Type 0
+IsFaultLine t = (detail : List ℕ) × (t ≡ flat_map (λ t. t) (codes "fault: " ∷ detail ∷ codes "\n" ∷ []))
+
+abbrev pub IsLine : Report → List ℕ → Type 0
+IsLine Safe t = t ≡ codes "safe\n"
+IsLine (Refused r) t = t ≡ refusal_line r
+IsLine (BadBundle f) t = IsFaultLine t
+IsLine (BadProfile f) t = IsFaultLine t
+IsLine OutOfMemory t = t ≡ codes "fault: out of memory\n"
+
+-- The status of an answer that was written whole.
+abbrev pub status_of : Report → ℕ
+status_of Safe = 0
+status_of (Refused r) = 1
+status_of (BadBundle f) = 2
+status_of (BadProfile f) = 2
+status_of OutOfMemory = 2
+
+-- A front of the line was written, all of it where the status is that of the line; else the status is 2.
+pub record WritesFront (old new : Option (List ℕ)) (line : List ℕ) (status result : ℕ) : Type 0 where
+  pub written : ℕ
+  pub appends : Appends old new (take written line)
+  pub status_is : ((result ≡ status) × (take written line ≡ line)) ⊎ (result ≡ 2)
+
+-- One answer that is true of the input was written: its whole line, or a front of it where the output failed.
+pub record Answers (remaining old new : Option (List ℕ)) (status : ℕ) : Type 0 where
+  pub report : Report
+  pub line : List ℕ
+  pub written : ℕ
+  pub is_line : IsLine report line
+  pub appends : Appends old new (take written line)
+  pub holds : IfSome remaining (λ bytes. Holds bytes report)
+  pub status_is : ((status ≡ status_of report) × (take written line ≡ line)) ⊎ (status ≡ 2)

@@ -1,0 +1,344 @@
+ghost use Rattle.std.specs.Prelude.{◌≡◌, ◌<◌, ◌≤◌, ◌≢◌, ◌⊎◌, ℕ, [], length, true, false, not, ◌&&◌, ◌||◌, slice_get, Some, IsTrue, IsNone, IfOk, IfSome, MatchOption};
+ghost use Rattle.std.specs.List.{list_any};
+ghost use Rattle.hub_path.specs.Path.{name_eq, path_eq, is_over, is_path};
+ghost use Rattle.hub_profile.specs.Parts.{Parts, IsProfile};
+ghost use Rattle.hub_reach.specs.Reach as reach;
+ghost use Rattle.hub_reach.specs.Safe.{IsSafe, Clash};
+ghost use Rattle.hubsync.specs.Check as check;
+
+use hub_path::{Name, RelPath, Root};
+use hub_profile::Profile;
+use hub_reach::writes;
+use std::alloc::{AllocError, Global};
+use std::collections::BTreeSet;
+
+/// How many profiles a bundle may have.
+pub const PROFILES: usize = 32;
+
+/// A path of one profile over a path that another one reaches, at a root of both.
+#[derive(Debug, Drop)]
+pub struct Overlap {
+    /// The profile that writes.
+    pub writer: Name,
+    /// The shortest prefix of the path that it writes.
+    pub held: RelPath,
+    /// Where it writes.
+    pub root: Root,
+    /// The profile that reaches the path.
+    pub other: Name,
+    /// The path.
+    pub path: RelPath,
+}
+
+/// Why profiles may not run at the same time.
+#[derive(Debug, Drop)]
+pub enum Refusal {
+    /// There are more than `PROFILES`.
+    TooManyProfiles,
+    /// A name that an earlier profile has too.
+    SameName(Name),
+    /// Two different roots, one of which lies within the other.
+    NestedRoots(Root, Root),
+    /// Two profiles that overlap.
+    Overlaps(Overlap),
+}
+
+/// The first reason to refuse these profiles, if there is one.
+///
+/// The reasons are told in this order: more than `PROFILES` of them; the first name that an earlier profile has too;
+/// the first pair of different roots, one within the other; and the first overlap, by the writer, then by the other
+/// profile, then by the root (the writer's left one first). Of several paths the shown one has the fewest
+/// characters, and is the first of those by characters (this project's choice).
+pub fn first_refusal(alloc: Global, profiles: &[Profile]) -> Result<Option<Refusal>, AllocError>
+    ensures safe { IfOk result (λ r. IsNone r → IsSafe profiles.now []) }
+    ensures few { IfOk result (λ r. IsNone r → length profiles.now ≤ PROFILES) }
+    ensures refuses { IfOk result (λ r. IfSome r (check.Refuses profiles.now)) }
+{
+    if profiles.len() > PROFILES {
+        return Ok(Some(Refusal::TooManyProfiles));
+    }
+    if let Some(name) = repeated_name(profiles) {
+        return Ok(Some(Refusal::SameName(name.copy()?)));
+    }
+    if let Some((first, second)) = nested_roots(profiles) {
+        return Ok(Some(Refusal::NestedRoots(first.copy()?, second.copy()?)));
+    }
+    if let Some(overlap) = first_overlap(alloc, profiles)? {
+        return Ok(Some(Refusal::Overlaps(overlap)));
+    }
+    Ok(None)
+}
+
+/// The first name that an earlier profile has too. There are at most `PROFILES` to compare.
+fn repeated_name(profiles: &[Profile]) -> Option<&Name>
+    ensures { IfSome result (λ name. check.RepeatsName profiles.now name.now) }
+{
+    for (later, profile) in profiles.iter().enumerate() {
+        let name = profile.name();
+        if has_name(&profiles[..later], name) {
+            return Some(name);
+        }
+    }
+    None
+}
+
+fn has_name(profiles: &[Profile], name: &Name) -> bool
+    ensures { result ≡ list_any (λ P. name_eq P.name name.now) profiles.now }
+{
+    profiles.iter().any(|profile| profile.name() == name)
+}
+
+/// The first pair of different roots, one within the other.
+fn nested_roots(profiles: &[Profile]) -> Option<(&Root, &Root)>
+    ensures { MatchOption result (check.has_nested profiles.now ≡ false) (λ pair. IsTrue (check.is_root_of profiles.now pair.0.now) × IsTrue (check.is_root_of profiles.now pair.1.now) × IsTrue (check.is_nested pair.0.now pair.1.now)) }
+{
+    for profile in profiles {
+        if let Some(pair) = nested_root_of(profiles, profile) {
+            return Some(pair);
+        }
+    }
+    None
+}
+
+/// The first root of a profile that is nested with a root of these, and the first such root.
+fn nested_root_of<'a>(profiles: &'a [Profile], profile: &'a Profile) -> Option<(&'a Root, &'a Root)>
+    ensures { MatchOption result (list_any (check.nested_with profiles.now) profile.now.roots ≡ false) (λ pair. IsTrue (reach.has_root profile.now pair.0.now) × IsTrue (check.is_root_of profiles.now pair.1.now) × IsTrue (check.is_nested pair.0.now pair.1.now)) }
+{
+    for root in profile.roots() {
+        if let Some(other) = root_nested_with(profiles, root) {
+            return Some((root, other));
+        }
+    }
+    None
+}
+
+/// The first root of these that is nested with that one.
+fn root_nested_with<'a>(profiles: &'a [Profile], root: &Root) -> Option<&'a Root>
+    ensures { MatchOption result (check.nested_with profiles.now root.now ≡ false) (λ other. IsTrue (check.is_root_of profiles.now other.now) × IsTrue (check.is_nested root.now other.now)) }
+{
+    for profile in profiles {
+        if let Some(other) = nested_among(profile.roots(), root) {
+            return Some(other);
+        }
+    }
+    None
+}
+
+fn nested_among<'a>(roots: &'a [Root], root: &Root) -> Option<&'a Root>
+    ensures { MatchOption result (list_any (check.is_nested root.now) roots.now ≡ false) (λ other. IsTrue (list_any (λ own. path_eq own other.now) roots.now) × IsTrue (check.is_nested root.now other.now)) }
+{
+    for other in roots {
+        if is_nested(root, other) {
+            return Some(other);
+        }
+    }
+    None
+}
+
+fn is_nested(root: &Root, other: &Root) -> bool
+    ensures { result ≡ check.is_nested root.now other.now }
+{
+    root != other && (other.is_within(root) || root.is_within(other))
+}
+
+/// The first overlap of two profiles.
+fn first_overlap(alloc: Global, profiles: &[Profile]) -> Result<Option<Overlap>, AllocError>
+    ensures { IfOk result (λ o. MatchOption o (check.NoneClash profiles.now (length profiles.now)) (check.IsOverlap profiles.now)) }
+{
+    for writer in 0..profiles.len() {
+        if let Some(overlap) = overlap_of_writer(alloc, profiles, writer)? {
+            return Ok(Some(overlap));
+        }
+    }
+    Ok(None)
+}
+
+/// The first overlap of the writer of that number.
+fn overlap_of_writer(
+    alloc: Global,
+    profiles: &[Profile],
+    writer: usize,
+) -> Result<Option<Overlap>, AllocError>
+    requires { writer < length profiles.now }
+    ensures { IfOk result (λ o. MatchOption o (check.ClashesNone profiles.now writer (length profiles.now)) (check.IsOverlap profiles.now)) }
+{
+    for other in 0..profiles.len() {
+        if writer != other {
+            let found = overlap_of(alloc, profiles, &profiles[writer], &profiles[other])?;
+            if let Some(overlap) = found {
+                return Ok(Some(overlap));
+            }
+        }
+    }
+    Ok(None)
+}
+
+/// What is shown of a writer and another profile, if they overlap.
+fn overlap_of(
+    alloc: Global,
+    profiles: &[Profile],
+    writer: &Profile,
+    other: &Profile,
+) -> Result<Option<Overlap>, AllocError>
+    ensures { IfOk result (λ o. MatchOption o (¬ (Clash writer.now other.now)) (check.IsShown writer.now other.now)) }
+{
+    let Some(root) = shared_root(writer, other) else {
+        return Ok(None);
+    };
+    let Some(meeting) = nearest_meeting(writer.paths(), other.paths())? else {
+        return Ok(None);
+    };
+    let path = shown_path(alloc, profiles, meeting)?;
+    Ok(Some(Overlap {
+        writer: writer.name().copy()?,
+        held: held_prefix(alloc, writer, &path)?,
+        root: root.copy()?,
+        other: other.name().copy()?,
+        path,
+    }))
+}
+
+/// The first root of the writer that the other profile has too, and at which the writer writes.
+fn shared_root<'a>(writer: &'a Profile, other: &Profile) -> Option<&'a Root>
+    ensures shared { MatchOption result (check.shares_root writer.now other.now ≡ false) (λ root. IsTrue (check.is_shared writer.now other.now root.now)) }
+    ensures valid { IsProfile writer.now }
+{
+    writer
+        .roots()
+        .iter()
+        .find(|root| is_shared(writer, other, root))
+}
+
+fn is_shared(writer: &Profile, other: &Profile, root: &Root) -> bool
+    ensures { result ≡ check.is_shared writer.now other.now root.now }
+{
+    writes(writer, root) && has_root(other, root)
+}
+
+fn has_root(profile: &Profile, root: &Root) -> bool
+    ensures { result ≡ reach.has_root profile.now root.now }
+{
+    profile.roots().iter().any(|own| own == root)
+}
+
+/// Of the places that one of these and one of those are over, the nearest.
+fn nearest_meeting<'a>(
+    these: &'a [RelPath],
+    those: &'a [RelPath],
+) -> Result<Option<&'a RelPath>, AllocError>
+    ensures { IfOk result (λ m. MatchOption m (check.meets these.now those.now ≡ false) (λ q. IsTrue (check.is_below these.now q.now) × IsTrue (check.is_below those.now q.now))) }
+{
+    let mut nearest = None;
+    for path in these {
+        if let Some(found) = nearest_below(path, those)? {
+            nearest = match nearest {
+                Some(best) => Some(nearer(best, found)?),
+                None => Some(found),
+            };
+        }
+    }
+    Ok(nearest)
+}
+
+/// Of the places that a path and one of these are over, the nearest.
+fn nearest_below<'a>(
+    path: &'a RelPath,
+    paths: &'a [RelPath],
+) -> Result<Option<&'a RelPath>, AllocError>
+    ensures { IfOk result (λ m. MatchOption m (list_any (λ t. is_over path.now t || is_over t path.now) paths.now ≡ false) (λ q. IsTrue (is_over path.now q.now) × IsTrue (check.is_below paths.now q.now))) }
+{
+    let mut nearest = None;
+    for other in paths {
+        if let Some(found) = longer(path, other) {
+            nearest = match nearest {
+                Some(best) => Some(nearer(best, found)?),
+                None => Some(found),
+            };
+        }
+    }
+    Ok(nearest)
+}
+
+/// The longer of two paths, where one is over the other.
+fn longer<'a>(path: &'a RelPath, other: &'a RelPath) -> Option<&'a RelPath>
+    ensures { MatchOption result ((is_over path.now other.now || is_over other.now path.now) ≡ false) (λ q. IsTrue (is_over path.now q.now) × IsTrue (is_over other.now q.now)) }
+{
+    if other.starts_with(path) {
+        Some(other)
+    } else if path.starts_with(other) {
+        Some(path)
+    } else {
+        None
+    }
+}
+
+/// Of two paths the one with fewer characters, else the first of them by characters.
+fn nearer<'a>(best: &'a RelPath, path: &'a RelPath) -> Result<&'a RelPath, AllocError>
+    ensures { IfOk result (λ q. (q.now ≡ path.now) ⊎ (q.now ≡ best.now)) }
+{
+    let (old, new) = (best.text()?, path.text()?);
+    let old_key = (old.as_str().chars().count(), old.as_str());
+    let new_key = (new.as_str().chars().count(), new.as_str());
+    Ok(if new_key < old_key { path } else { best })
+}
+
+/// The path that is shown for a place: itself, or for the whole replica a path that no pattern or path mentions.
+fn shown_path(alloc: Global, profiles: &[Profile], place: &RelPath) -> Result<RelPath, AllocError>
+    ensures path { IfOk result (λ p. IsTrue (is_path p)) }
+    ensures below { IfOk result (λ p. (p ≡ place.now) ⊎ (place.now ≡ [])) }
+{
+    if place.len() > 0 {
+        return place.copy();
+    }
+    let sample = sample(alloc, profiles)?;
+    let mut text = String::new(alloc);
+    text.push(sample)?;
+    RelPath::read(alloc, text.as_str()).map_err(|_| AllocError)
+}
+
+/// The least character from `a` on that stands in no kept value: a name that says "any other name".
+fn sample(alloc: Global, profiles: &[Profile]) -> Result<char, AllocError> {
+    let mut mentioned = BTreeSet::new(alloc);
+    for profile in profiles {
+        add_characters(&mut mentioned, profile.paths())?;
+    }
+    Ok(
+        ('a'..=char::MAX)
+            .find(|c| !mentioned.contains(c))
+            .unwrap_or('a'),
+    )
+}
+
+fn add_characters(characters: &mut BTreeSet<char>, paths: &[RelPath]) -> Result<(), AllocError> {
+    for path in paths {
+        for character in path.text()?.as_str().chars() {
+            characters.insert(character)?;
+        }
+    }
+    Ok(())
+}
+
+/// The shortest prefix of a path that the writer reaches, where it reaches the path.
+fn held_prefix(alloc: Global, writer: &Profile, path: &RelPath) -> Result<RelPath, AllocError>
+    requires path { IsTrue (is_path path.now) }
+    requires below { IsTrue (check.is_below writer.now.paths path.now) }
+    ensures over { IfOk result (λ held. IsTrue (is_over held path.now)) }
+    ensures reached { IfOk result (λ held. IsTrue (reach.reach writer.now held)) }
+{
+    match first_over(writer.paths(), path) {
+        Some(kept) if kept.len() > 0 => kept.copy(),
+        _ => RelPath::top(alloc).child(path.name(0).copy()?),
+    }
+}
+
+/// The first of these that is over the path.
+fn first_over<'a>(paths: &'a [RelPath], path: &RelPath) -> Option<&'a RelPath>
+    ensures { MatchOption result (check.is_below paths.now path.now ≡ false) (λ s. IsTrue (is_over s.now path.now) × IsTrue (check.is_below paths.now s.now)) }
+{
+    for over in paths {
+        if path.starts_with(over) {
+            return Some(over);
+        }
+    }
+    None
+}

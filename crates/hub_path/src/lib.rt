@@ -8,12 +8,14 @@ mod name;
 mod rel_path;
 mod root;
 mod side;
+#[cfg(test)]
+mod tests;
 mod text;
 
 pub use fault::PathFault;
 pub use items::Items;
-pub use name::Name;
-pub use rel_path::RelPath;
+pub use name::{NAME_BYTES, Name};
+pub use rel_path::{PATH_NAMES, RelPath};
 pub use root::Root;
 pub use side::Side;
 pub use text::without_last_slash;

@@ -95,7 +95,7 @@ impl Draft {
         let Draft { roots, paths } = self;
         let alloc = *roots.allocator();
         let roots = two_roots(roots)?;
-        let paths = kept_or_whole(alloc, paths.as_slice())?;
+        let paths = kept_or_whole(alloc, paths)?;
         Ok(Profile { name, roots, paths })
     }
 }

@@ -1,0 +1,2 @@
+pub mod LookUp
+pub mod Order

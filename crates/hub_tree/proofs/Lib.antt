@@ -1,2 +1,4 @@
+pub mod Ascending
 pub mod LookUp
+pub mod MarkMaps
 pub mod Order

@@ -4,12 +4,14 @@
 //! each path of a pair of replicas. Contracts see both as finite maps from paths, by the words of `specs/Tree`.
 #![tactic(auto)]
 
+mod archive;
 mod blob;
 mod contents;
 mod fault;
 mod node;
 mod tree;
 
+pub use archive::Archive;
 pub use blob::Blob;
 pub use contents::{Contents, Mark};
 pub use fault::SetFault;

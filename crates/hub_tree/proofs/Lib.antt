@@ -1,4 +1,6 @@
 pub mod Ascending
+pub mod Children
 pub mod LookUp
 pub mod MarkMaps
 pub mod Order
+pub mod Setting

@@ -126,11 +126,17 @@ pub get_nothing : (q : Path) → fin.get (replica_of []) q ≡ None
 get_nothing q = get-replica_of [] q
 
 -- ---- along the names of a path
-drop_at : (p : Path) (d : ℕ) (n : Name) → slice_get p d ≡ Some n → drop d p ≡ n ∷ drop (d + 1) p
+pub drop_at : (p : Path) (d : ℕ) (n : Name) → slice_get p d ≡ Some n → drop d p ≡ n ∷ drop (d + 1) p
 drop_at p d n e = drop-cons p d n (slice_get_within p d n e) ∙ rw (get_or_from_slice_get p d n n e, add-one) refl
 
 pub get_along : (cs : List (Name × Node)) (p : Path) (d : ℕ) (n : Name) (q : Path) → slice_get p d ≡ Some n → fin.get (replica_of cs) (drop d p ++ q) ≡ option_and_then (node_get (drop (d + 1) p ++ q)) (find name_cmp n cs)
 get_along cs p d n q e = ap (λ r. fin.get (replica_of cs) (r ++ q)) (drop_at p d n e) ∙ look_up cs n (drop (d + 1) p ++ q)
+
+pub last_rest : (p : Path) (d : ℕ) (n : Name) → slice_get p d ≡ Some n → d + 1 ≡ length p → n ∷ [] ≡ drop d p
+last_rest p d n e l = sym (drop_at p d n e ∙ ap (λ q. n ∷ q) (ap (λ k. drop k p) l ∙ drop-length p))
+
+pub rest_left : (p : Path) (d : ℕ) → d < length p → 0 < length (drop d p)
+rest_left p d l = omega (arith, length-drop d p)
 
 below_kids : (r : Path) (x : Node) → 0 < length r → node_get r x ≡ fin.get (replica_of (kids_of x)) r
 below_kids [] x l = absurd (omega arith)

@@ -1,10 +1,12 @@
 -- The entries of a tree that is kept as names and what stands under each.
-use Rattle.std.specs.Prelude.{◌≡◌, Bool, true, false, not, List, [], ◌∷◌, ◌++◌, map, Option, Some, None}
+use Rattle.std.specs.Prelude.{◌≡◌, Bool, true, false, not, List, [], ◌∷◌, ◌++◌, map, length, ◌==◌, Option, Some, None, if◌then◌else◌}
 use Rattle.std.specs.FinMap as fin
 use Rattle.std.specs.FinMap.Entries.{where_key}
 use Rattle.std.specs.Ordering.{eq_by_cmp}
 use Rattle.hub_path.specs.Path.{Name, Path, path_cmp, name_cmp}
-use Rattle.hub_tree.specs.Tree.{Replica}
+use Rattle.hub_tree.specs.Tree.{Replica, is_directory, set_fault}
+use Rattle.hub_tree.specs.declared.fault.SetFault.{SetFault}
+use Rattle.hub_tree.specs.declared.fault.SetFault.TheVariants.{NoParent}
 use Rattle.hub_tree.specs.declared.contents.Contents.{Contents}
 use Rattle.hub_tree.specs.declared.contents.Contents.TheVariants as contents
 use Rattle.hub_tree.specs.declared.node.Node.{Node}
@@ -63,3 +65,17 @@ kids_of node = layer_kids (out-Node node)
 abbrev pub node_get : Path → Node → Option Contents
 node_get [] x = Some (contents_of x)
 node_get (m ∷ p) x = fin.get (replica_of (kids_of x)) (m ∷ p)
+
+-- Whether something stands there that holds something.
+abbrev pub occupied : Option Node → Bool
+occupied None = false
+occupied (Some x) = not (length (kids_of x) == 0)
+
+-- What stands there.
+abbrev pub contents_or_absent : Option Node → Contents
+contents_or_absent None = contents.Absent
+contents_or_absent (Some x) = contents_of x
+
+-- Why contents can't be set at a path below a node.
+abbrev pub fault_below : Node → Path → Contents → Option SetFault
+fault_below x p c = if is_directory (contents_of x) then set_fault (replica_of (kids_of x)) p c else Some NoParent

@@ -9,7 +9,7 @@ use Rattle.hub_tree.specs.declared.contents.Contents.TheVariants as contents
 use Rattle.hub_tree.specs.declared.contents.Mark.{Mark}
 use Rattle.hub_tree.specs.declared.contents.Mark.TheVariants as mark
 use Rattle.hub_tree.specs.declared.fault.SetFault.{SetFault}
-use Rattle.hub_tree.specs.declared.fault.SetFault.TheVariants.{RootPath, NoParent, NotEmpty, NothingThere}
+use Rattle.hub_tree.specs.declared.fault.SetFault.TheVariants.{RootPath, NoParent, NotEmpty, NothingThere, OutOfMemory}
 
 -- A replica has a file or a directory at finitely many paths. Elsewhere is nothing.
 abbrev pub Replica : Type 0
@@ -109,3 +109,8 @@ set_fault m p c =
 
 abbrev pub set_contents : Replica → Path → Contents → Result Replica SetFault
 set_contents m p c = if is_some (set_fault m p c) then Err (unwrap_or (set_fault m p c) RootPath) else Ok (with_contents m p c)
+
+-- The fault of a refusal: that of the rule, and want of memory where the rule has none.
+abbrev pub IsRefusal : Option SetFault → SetFault → Type 0
+IsRefusal None e = e ≡ OutOfMemory
+IsRefusal (Some f) e = e ≡ f

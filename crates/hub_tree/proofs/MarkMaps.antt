@@ -32,7 +32,8 @@ either_present : (b : Bool) (w o : Option Mark) → (w ≡ Some mark.Absent → 
 either_present true w o f g e = f e
 either_present false w o f g e = g e
 
-path_here : (a : Archive) (p q : Path) (w : Option Mark) (b : Bool) → is_path p ≡ true → HasPaths a → eq_by_cmp path_cmp q p ≡ b → is_some (cond b w (fin.get a q)) ≡ true → is_path q ≡ true
+-- A map with a path at each key keeps it where a path is set.
+pub path_here : {X : Type 0} (a : fin.FinMap path_cmp X) (p q : Path) (w : Option X) (b : Bool) → is_path p ≡ true → HasPaths a → eq_by_cmp path_cmp q p ≡ b → is_some (cond b w (fin.get a q)) ≡ true → is_path q ≡ true
 path_here a p q w true here paths e s = ap is_path (same_path q p e) ∙ here
 path_here a p q w false here paths e s = paths q s
 

@@ -118,7 +118,7 @@ layer_shown : (x : Node-F Node) → not (is_absent (layer_contents x)) ≡ true
 layer_shown (File blob) = refl
 layer_shown (Directory kids) = refl
 
-node_shown : (x : Node) → shown (Some (contents_of x)) ≡ true
+pub node_shown : (x : Node) → shown (Some (contents_of x)) ≡ true
 node_shown x = layer_shown (out-Node x)
 
 not_true : (b : Bool) → (b ≡ true → ⊥) → b ≡ false

@@ -1,9 +1,9 @@
 -- Replicas and archives: finite maps from paths.
-use Rattle.std.specs.Prelude.{◌≡◌, ◌≢◌, ℕ, Bool, true, false, not, ◌&&◌, ◌==◌, List, [], ◌∷◌, length, Option, Some, None, unwrap_or, Result, Ok, Err, if◌then◌else◌, is_some}
+use Rattle.std.specs.Prelude.{◌≡◌, ◌≢◌, ℕ, Bool, true, false, not, ◌&&◌, ◌==◌, List, [], ◌∷◌, map, length, Option, Some, None, unwrap_or, Result, Ok, Err, if◌then◌else◌, is_some}
 use Rattle.std.specs.List.{filter}
 use Rattle.std.specs.FinMap as fin
 use Rattle.sha2.specs.Sha256.{sha256}
-use Rattle.hub_path.specs.Path.{Path, path_eq, path_cmp, is_path, parent}
+use Rattle.hub_path.specs.Path.{Name, Path, path_eq, path_cmp, is_path, parent, last_name}
 use Rattle.hub_tree.specs.declared.contents.Contents.{Contents}
 use Rattle.hub_tree.specs.declared.contents.Contents.TheVariants as contents
 use Rattle.hub_tree.specs.declared.contents.Mark.{Mark}
@@ -62,6 +62,10 @@ is_absent contents.Absent = true
 -- The paths one name below d that have contents, ascending.
 abbrev pub children : Replica → Path → List Path
 children m d = filter (λ p. is_child d p && not (is_absent (contents_at m p))) (fin.keys m)
+
+-- Their names.
+abbrev pub names_at : Replica → Path → List Name
+names_at m d = map last_name (children m d)
 
 -- The parent of each path with contents is a directory. No entry says that nothing is there, and none is for the
 -- whole replica, so that replicas with the same contents at each path are equal.

@@ -1,7 +1,7 @@
-ghost use Rattle.std.specs.Prelude.{◌≡◌, ◌<◌, ◌++◌, [], ◌∷◌, drop, length, None, IfErr, OnOk, OnErr};
+ghost use Rattle.std.specs.Prelude.{◌≡◌, ◌<◌, ◌++◌, [], ◌∷◌, drop, length, None, IfOk, IfErr, OnOk, OnErr};
 ghost use Rattle.std.specs.Option.{option_and_then, option_copied};
 ghost use Rattle.std.specs.FinMap as fin;
-ghost use Rattle.std.specs.BTreeMap.{get};
+ghost use Rattle.std.specs.BTreeMap.{get, keys, IsOrdered};
 ghost use Rattle.hub_path.specs.Path.{Path, name_cmp};
 ghost use Rattle.hub_tree.specs.Nodes.{replica_of, node_get, occupied, kids_of, contents_of, contents_or_absent, fault_below};
 ghost use Rattle.hub_tree.specs.Tree.{set_fault, with_contents, is_directory, IsRefusal};
@@ -9,8 +9,8 @@ ghost use Rattle.hub_tree.specs.Tree.{set_fault, with_contents, is_directory, Is
 use crate::blob::Blob;
 use crate::contents::Contents;
 use crate::fault::SetFault;
-use hub_path::{Name, RelPath};
-use std::alloc::Global;
+use hub_path::{Items, Name, RelPath};
+use std::alloc::{AllocError, Global};
 use std::collections::BTreeMap;
 
 /// What a directory holds under a name.
@@ -41,6 +41,18 @@ pub fn node_at<'a>(
         Node::File(_) => None,
         Node::Directory(inner) => node_at(inner, path, depth + 1),
     }
+}
+
+/// Copies of the names, ascending.
+pub fn names_of(alloc: Global, children: &BTreeMap<Name, Node>) -> Result<Items<Name>, AllocError>
+    ensures names { IfOk result (λ ns. ns ≡ keys children.now) }
+    ensures ordered { IsOrdered name_cmp children.now }
+{
+    let mut names = Vec::new(alloc);
+    for name in children.keys() {
+        names.push(name.copy()?)?;
+    }
+    Ok(Items::from_vec(names))
 }
 
 /// Sets contents at the names of the path from `depth` on, below these.

@@ -1,12 +1,13 @@
-ghost use Rattle.std.specs.Prelude.{◌≡◌};
+ghost use Rattle.std.specs.Prelude.{◌≡◌, None, IfOk, IfErr, OnOk, OnErr};
 ghost use Rattle.std.specs.Option.{option_map};
 ghost use Rattle.std.specs.FinMap as fin;
 ghost use Rattle.hub_tree.specs.Tree as tree;
 
-use crate::contents::Mark;
-use crate::node::{Node, node_at};
-use hub_path::{Name, RelPath};
-use std::alloc::Global;
+use crate::contents::{Contents, Mark};
+use crate::fault::SetFault;
+use crate::node::{Node, names_of, node_at, set_at};
+use hub_path::{Items, Name, RelPath};
+use std::alloc::{AllocError, Global};
 use std::collections::BTreeMap;
 use std::marker::Model;
 
@@ -52,12 +53,15 @@ impl Tree {
 
     /// The mark of what stands at the path. It takes no memory.
     pub fn mark_at(&self, path: &RelPath) -> Mark
-        ensures { result ≡ tree.mark_at self.now path.now }
+        ensures tree { tree.IsTree self.now }
+        ensures paths { tree.HasPaths self.now }
+        ensures mark { result ≡ tree.mark_at self.now path.now }
     {
+        let children = &self.children;
         if path.len() == 0 {
             return Mark::Directory;
         }
-        match node_at(&self.children, path, 0) {
+        match node_at(children, path, 0) {
             Some(Node::File(blob)) => Mark::File(blob.digest()),
             Some(Node::Directory(_)) => Mark::Directory,
             None => Mark::Absent,
@@ -76,5 +80,36 @@ impl Tree {
             Some(Node::Directory(_)) => None,
             None => None,
         }
+    }
+
+    /// The names of what the directory at the path holds, ascending; none where no directory is.
+    pub fn names_at(&self, path: &RelPath) -> Result<Items<Name>, AllocError>
+        ensures { IfOk result (λ ns. ns ≡ tree.names_at self.now path.now) }
+    {
+        if path.len() == 0 {
+            return names_of(self.alloc, &self.children);
+        }
+        match node_at(&self.children, path, 0) {
+            Some(Node::Directory(children)) => names_of(self.alloc, children),
+            Some(Node::File(_)) => Ok(Items::new(self.alloc)),
+            None => Ok(Items::new(self.alloc)),
+        }
+    }
+
+    /// Sets contents at the path; `Absent` removes what is there.
+    ///
+    /// A directory that is there already stays as it is, with what it holds. The fault is the first of `RootPath`,
+    /// `NoParent`, `NotEmpty` and `NothingThere` that applies; where none does, memory may still be refused. After a
+    /// fault the replica is as it was, and the contents are dropped.
+    pub fn set(&mut self, path: &RelPath, contents: Contents) -> Result<(), SetFault>
+        ensures allowed { OnOk result (tree.set_fault self.old path.now contents ≡ None) }
+        ensures ok { OnOk result (self.new ≡ tree.with_contents self.old path.now contents) }
+        ensures fault { IfErr result (tree.IsRefusal (tree.set_fault self.old path.now contents)) }
+        ensures err { OnErr result (self.new ≡ self.old) }
+    {
+        if path.len() == 0 {
+            return Err(SetFault::RootPath);
+        }
+        set_at(self.alloc, &mut self.children, path, 0, contents)
     }
 }

@@ -1,5 +1,7 @@
 pub mod Ascending
 pub mod Children
+pub mod Copies
+pub mod Counts
 pub mod LookUp
 pub mod MarkMaps
 pub mod Names

@@ -32,7 +32,7 @@ or_else-none : {A : Type 0} (o : Option A) → or_else o None ≡ o
 or_else-none None = refl
 or_else-none (Some x) = refl
 
-find-append : {K X : Type 0} (R : K → K → Ordering) (q : K) (xs ys : List (K × X)) → find R q (xs ++ ys) ≡ or_else (find R q xs) (find R q ys)
+pub find-append : {K X : Type 0} (R : K → K → Ordering) (q : K) (xs ys : List (K × X)) → find R q (xs ++ ys) ≡ or_else (find R q xs) (find R q ys)
 find-append R q [] ys = refl
 find-append R q (x ∷ xs) ys = elim (eq_by_cmp R q x.0) as (λ b. cond b (Some x.1) (find R q (xs ++ ys)) ≡ or_else (cond b (Some x.1) (find R q xs)) (find R q ys)) [ true ↦ refl | false ↦ find-append R q xs ys ]
 
@@ -46,7 +46,7 @@ either_way : {X : Type 0} (b : Bool) (o : Option X) → o ≡ cond b o o
 either_way true o = refl
 either_way false o = refl
 
-find-below : (n k : Name) (p : Path) (es : Entries) → find path_cmp (n ∷ p) (below k es) ≡ cond (eq_by_cmp name_cmp n k) (find path_cmp p es) None
+pub find-below : (n k : Name) (p : Path) (es : Entries) → find path_cmp (n ∷ p) (below k es) ≡ cond (eq_by_cmp name_cmp n k) (find path_cmp p es) None
 find-below n k p [] = either_way (eq_by_cmp name_cmp n k) None
 find-below n k p (e ∷ es) = one_below (name_cmp n k) (path_cmp p e.0) e.1 _ _ (find-below n k p es)
 
@@ -55,7 +55,7 @@ find_top-below k [] = refl
 find_top-below k (e ∷ es) = find_top-below k es
 
 -- below several names
-without : (k : Name) (q : Path) (es : Entries) → find path_cmp q (where_key path_cmp (λ p. not (begins_with k p)) es) ≡ cond (not (begins_with k q)) (find path_cmp q es) None
+pub without : (k : Name) (q : Path) (es : Entries) → find path_cmp q (where_key path_cmp (λ p. not (begins_with k p)) es) ≡ cond (not (begins_with k q)) (find path_cmp q es) None
 without k q es = find-where_key path_cmp (λ p. not (begins_with k p)) q (λ x t. ap (λ p. not (begins_with k p)) (sym (path_antisymmetric q x t))) es
 
 first_or_rest : {X : Type 0} (b : Bool) (o rest found : Option X) → rest ≡ found → or_else (cond b o None) (cond (not b) rest None) ≡ cond b o found
@@ -79,7 +79,7 @@ pub find_top-joined : (cs : List (Name × Entries)) → find path_cmp [] (joined
 find_top-joined [] = refl
 find_top-joined (c ∷ cs) = find-append path_cmp [] (below c.0 c.1) _ ∙ ap (λ o. or_else o (find path_cmp [] (where_key path_cmp (λ p. not (begins_with c.0 p)) (joined cs)))) (find_top-below c.0 c.1) ∙ without c.0 [] (joined cs) ∙ find_top-joined cs
 
-find-entries : (n : Name) (cs : List (Name × Node)) → find name_cmp n (map (λ c. (c.0, entries_at c.1)) cs) ≡ option_map entries_at (find name_cmp n cs)
+pub find-entries : (n : Name) (cs : List (Name × Node)) → find name_cmp n (map (λ c. (c.0, entries_at c.1)) cs) ≡ option_map entries_at (find name_cmp n cs)
 find-entries n [] = refl
 find-entries n (c ∷ cs) = elim (eq_by_cmp name_cmp n c.0) as (λ b. cond b (Some (entries_at c.1)) (find name_cmp n (map (λ d. (d.0, entries_at d.1)) cs)) ≡ option_map entries_at (cond b (Some c.1) (find name_cmp n cs))) [ true ↦ refl | false ↦ find-entries n cs ]
 
@@ -166,10 +166,10 @@ pub along_file : (cs : List (Name × Node)) (p : Path) (d : ℕ) (n : Name) (q :
 along_file cs p d n q x e l f k = along_kids cs p d n q x [] e l f k ∙ get_nothing (drop (d + 1) p ++ q)
 
 -- ---- the two kinds of node
-out-file : (b : List ℕ) → out-Node (block.File b) ≡ File b
+pub out-file : (b : List ℕ) → out-Node (block.File b) ≡ File b
 out-file b = ap out-Node (sym (variants.rolls-File b)) ∙ views.out-roll-Node (File b)
 
-out-directory : (m : BTreeMap Name Node) → out-Node (views.Directory m) ≡ Directory m
+pub out-directory : (m : BTreeMap Name Node) → out-Node (views.Directory m) ≡ Directory m
 out-directory m = ap out-Node (sym (variants.rolls-Directory m)) ∙ views.out-roll-Node (Directory m)
 
 pub kids-file : (b : List ℕ) → kids_of (block.File b) ≡ []

@@ -1,5 +1,5 @@
 -- The entries of a tree that is kept as names and what stands under each.
-use Rattle.std.specs.Prelude.{◌≡◌, Bool, true, false, not, List, [], ◌∷◌, ◌++◌, map, length, ◌==◌, Option, Some, None, if◌then◌else◌}
+use Rattle.std.specs.Prelude.{◌≡◌, ℕ, ◌+◌, Bool, true, false, not, List, [], ◌∷◌, ◌++◌, map, length, ◌==◌, Option, Some, None, if◌then◌else◌}
 use Rattle.std.specs.FinMap as fin
 use Rattle.std.specs.FinMap.Entries.{where_key}
 use Rattle.std.specs.Ordering.{eq_by_cmp}
@@ -79,3 +79,7 @@ contents_or_absent (Some x) = contents_of x
 -- Why contents can't be set at a path below a node.
 abbrev pub fault_below : Node → Path → Contents → Option SetFault
 fault_below x p c = if is_directory (contents_of x) then set_fault (replica_of (kids_of x)) p c else Some NoParent
+
+-- How many entries a node is, with what is below it.
+abbrev pub size_of : Node → ℕ
+size_of x = fin.len (replica_of (kids_of x)) + 1

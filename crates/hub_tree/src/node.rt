@@ -1,9 +1,9 @@
-ghost use Rattle.std.specs.Prelude.{◌≡◌, ◌<◌, ◌++◌, [], ◌∷◌, drop, length, None, IfOk, IfErr, OnOk, OnErr};
+ghost use Rattle.std.specs.Prelude.{◌≡◌, ◌<◌, min, ◌++◌, [], ◌∷◌, drop, length, None, IfOk, IfErr, OnOk, OnErr};
 ghost use Rattle.std.specs.Option.{option_and_then, option_copied};
 ghost use Rattle.std.specs.FinMap as fin;
 ghost use Rattle.std.specs.BTreeMap.{get, keys, IsOrdered};
 ghost use Rattle.hub_path.specs.Path.{Path, name_cmp};
-ghost use Rattle.hub_tree.specs.Nodes.{replica_of, node_get, occupied, kids_of, contents_of, contents_or_absent, fault_below};
+ghost use Rattle.hub_tree.specs.Nodes.{replica_of, entries_of, entries_at, size_of, node_get, occupied, kids_of, contents_of, contents_or_absent, fault_below};
 ghost use Rattle.hub_tree.specs.Tree.{set_fault, with_contents, is_directory, IsRefusal};
 
 use crate::blob::Blob;
@@ -53,6 +53,56 @@ pub fn names_of(alloc: Global, children: &BTreeMap<Name, Node>) -> Result<Items<
         names.push(name.copy()?)?;
     }
     Ok(Items::from_vec(names))
+}
+
+/// Copies of these, with all that they hold.
+#[cycle(copy)]
+pub fn copies_of(
+    alloc: Global,
+    children: &BTreeMap<Name, Node>,
+) -> Result<BTreeMap<Name, Node>, AllocError>
+    ensures { IfOk result (λ m. entries_of m.entries ≡ entries_of children.now.entries) }
+{
+    let mut copies = BTreeMap::new(alloc);
+    for (name, node) in children.iter() {
+        let copy = copy_of(alloc, node)?;
+        let _none = copies.insert(name.copy()?, copy)?;
+    }
+    Ok(copies)
+}
+
+/// A copy of the node, with all that it holds.
+#[cycle(copy)]
+fn copy_of(alloc: Global, node: &Node) -> Result<Node, AllocError>
+    ensures { IfOk result (λ x. entries_at x ≡ entries_at node.now) }
+{
+    match node {
+        Node::File(blob) => Ok(Node::File(blob.copy()?)),
+        Node::Directory(children) => Ok(Node::Directory(copies_of(alloc, children)?)),
+    }
+}
+
+/// How many files and directories these are with all that they hold, at most `u64::MAX`.
+#[cycle(count)]
+pub fn count_of(children: &BTreeMap<Name, Node>) -> u64
+    ensures { result ≡ min (fin.len (replica_of children.now.entries)) u64.MAX }
+{
+    let mut count: u64 = 0;
+    for node in children.values() {
+        count = count.saturating_add(count_at(node));
+    }
+    count
+}
+
+/// How many files and directories the node is with all that it holds, at most `u64::MAX`.
+#[cycle(count)]
+fn count_at(node: &Node) -> u64
+    ensures { result ≡ min (size_of node.now) u64.MAX }
+{
+    match node {
+        Node::File(_) => 1,
+        Node::Directory(children) => count_of(children).saturating_add(1),
+    }
 }
 
 /// Sets contents at the names of the path from `depth` on, below these.

@@ -1,11 +1,11 @@
-ghost use Rattle.std.specs.Prelude.{◌≡◌, None, IfOk, IfErr, OnOk, OnErr};
+ghost use Rattle.std.specs.Prelude.{◌≡◌, min, None, IfOk, IfErr, OnOk, OnErr};
 ghost use Rattle.std.specs.Option.{option_map};
 ghost use Rattle.std.specs.FinMap as fin;
 ghost use Rattle.hub_tree.specs.Tree as tree;
 
 use crate::contents::{Contents, Mark};
 use crate::fault::SetFault;
-use crate::node::{Node, names_of, node_at, set_at};
+use crate::node::{Node, copies_of, count_of, names_of, node_at, set_at};
 use hub_path::{Items, Name, RelPath};
 use std::alloc::{AllocError, Global};
 use std::collections::BTreeMap;
@@ -49,6 +49,23 @@ impl Tree {
             alloc,
             children: BTreeMap::new(alloc),
         }
+    }
+
+    /// The same replica once more, the bytes of its files copied.
+    pub fn copy(&self) -> Result<Tree, AllocError>
+        ensures { IfOk result (λ t. t ≡ self.now) }
+    {
+        Ok(Tree {
+            alloc: self.alloc,
+            children: copies_of(self.alloc, &self.children)?,
+        })
+    }
+
+    /// How many files and directories the replica has, at most `u64::MAX`. It takes no memory.
+    pub fn count(&self) -> u64
+        ensures { result ≡ min (fin.len self.now) u64.MAX }
+    {
+        count_of(&self.children)
     }
 
     /// The mark of what stands at the path. It takes no memory.

@@ -24,7 +24,7 @@ use Rattle.hub_tree.specs.declared.contents.Contents.TheVariants as contents
 use Rattle.hub_tree.proofs.Order.{name_total, path_total, path_antisymmetric, name_antisymmetric, same_path, same_name, path_itself, name_itself}
 use Rattle.hub_tree.proofs.Ascending.{is_sorted-from}
 
--- ---- two lists in order that have the same items
+-- two lists in order that have the same items
 first : (a b : Bool) → T (a && b) → T a
 first true b p = tt
 first false b p = p
@@ -79,7 +79,7 @@ module _ {K : Type 0} (R : K → K → Ordering) where
       ∙ ap (λ m. fin.keys m) (fin.same_map o same (map_of xs) (map_of ys) (λ q. get-map_of xs q g ∙ ap (λ b. cond b (Some true) None) (is q) ∙ sym (get-map_of ys q h)))
       ∙ keys-map_of ys h
 
--- ---- a path and its last name
+-- a path and its last name
 no_names : (p : Path) → 0 < length p → (length p == 0) ≡ false
 no_names p l = grind (arith, nat_tests)
 
@@ -116,7 +116,7 @@ child_of d (n ∷ p) h =
     let same : parent (n ∷ p) ≡ d = same_path (parent (n ∷ p)) d (sym (path_eq-cmp (parent (n ∷ p)) d) ∙ (both_true (not (length (n ∷ p) == 0)) (path_eq (parent (n ∷ p)) d) h).1) in
     sym (rejoined n p) ∙ ap (λ e. e ++ last_name (n ∷ p) ∷ []) same
 
--- ---- which paths are children
+-- which paths are children
 -- whether contents are there, of what a map has
 abbrev pub shown : Option Contents → Bool
 shown None = false
@@ -151,7 +151,7 @@ any_children-push m d n =
     ∙ ap (λ b. b && (not (is_absent (contents_at m (d ++ n ∷ []))) && is_some (fin.get m (d ++ n ∷ [])))) (is_child-push d n)
     ∙ names_shown m (d ++ n ∷ []) (some_names d n)
 
--- ---- a path without children
+-- a path without children
 one_item : {X : Type 0} (x : X) (xs : List X) → (length (x ∷ xs) == 0) ≡ false
 one_item x xs = grind (arith, nat_tests)
 
@@ -181,7 +181,7 @@ same_childless m n d e h =
     (λ s. none_childless n e (λ k. ap shown (sym (h k)) ∙ childless_none m d s k))
     (λ s. none_childless m d (λ k. ap shown (h k) ∙ childless_none n e s k))
 
--- ---- the children in order
+-- the children in order
 abbrev pub pushed : Path → List Name → List Path
 pushed d ns = map (λ n. d ++ n ∷ []) ns
 

@@ -35,7 +35,7 @@ with_entries-insert : (cs : List (Name × Node)) (n : Name) (x : Node) → with_
 with_entries-insert [] n x = refl
 with_entries-insert (c ∷ cs) n x =
     elim (name_cmp n c.0) as (λ r. with_entries (match_ordering r ((n, x) ∷ c ∷ cs) ((c.0, x) ∷ cs) (c ∷ insert_entry name_cmp cs n x))
-      ≡ match_ordering r ((n, entries_at x) ∷ with_entries (c ∷ cs)) ((c.0, entries_at x) ∷ with_entries cs) ((c.0, entries_at c.1) ∷ insert_entry name_cmp (with_entries cs) n (entries_at x))) [
+    ≡ match_ordering r ((n, entries_at x) ∷ with_entries (c ∷ cs)) ((c.0, entries_at x) ∷ with_entries cs) ((c.0, entries_at c.1) ∷ insert_entry name_cmp (with_entries cs) n (entries_at x))) [
       | Less ↦ refl
       | Equal ↦ refl
       | Greater ↦ ap (λ es. (c.0, entries_at c.1) ∷ es) (with_entries-insert cs n x)
@@ -48,9 +48,9 @@ pub copy_node_more : (done iterator rest all : List (Name × Node)) (n k : Name)
 copy_node_more done iterator rest all n k x y i s same e h =
     ap (λ es. es ++ with_entries rest) (with_entries-insert done k y ∙ ap (insert_entry name_cmp (with_entries done) k) e)
     ∙ copy_more name_total (with_entries done) (with_entries iterator) (with_entries rest) (with_entries all) (n, entries_at x) k i (ap with_entries s) same
-      (subst (λ (ks : List Name). IsStrictlySortedBy name_cmp ks) (sym (keys_of-with_entries all)) h)
+    (subst (λ (ks : List Name). IsStrictlySortedBy name_cmp ks) (sym (keys_of-with_entries all)) h)
 
--- ---- the entries of the two kinds of node
+-- the entries of the two kinds of node
 pub entries_at-file : (b : List ℕ) → entries_at (block.File b) ≡ ([], contents.File b) ∷ []
 entries_at-file b = fold_out-Node Entries node_entries (block.File b) ∙ ap (λ x. node_entries (map-Node Node Entries (fold-Node Entries node_entries) x)) (out-file b)
 

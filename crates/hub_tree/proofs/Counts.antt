@@ -32,7 +32,7 @@ len_of-nothing = fin.len-empty path_cmp Contents
 len_of-cons : (e : Path × Contents) (es : Entries) → len_of (e ∷ es) ≡ cond (is_some (find path_cmp e.0 es)) (len_of es) (len_of es + 1)
 len_of-cons e es = fin.len-insert path_total (fin.from_entries es) e.0 e.1 ∙ ap (λ o. cond (is_some o) (len_of es) (len_of es + 1)) (fin.get-from_entries path_total es e.0)
 
--- ---- one after the other
+-- one after the other
 abbrev AreApart : Entries → Entries → Type 0
 AreApart xs ys = (q : Path) → is_some (find path_cmp q xs) ≡ true → find path_cmp q ys ≡ None
 
@@ -59,7 +59,7 @@ len_of-append (x ∷ xs) ys h =
     ∙ stepped (is_some (find path_cmp x.0 xs)) (len_of xs) (len_of ys) (len_of (xs ++ ys)) (len_of-append xs ys (λ q e. h q (found_more (eq_by_cmp path_cmp q x.0) x.1 (find path_cmp q xs) e)))
     ∙ ap (λ n. n + len_of ys) (sym (len_of-cons x xs))
 
--- ---- below a name
+-- below a name
 len_of-below : (n : Name) (es : Entries) → len_of (below n es) ≡ len_of es
 len_of-below n [] = refl
 len_of-below n (e ∷ es) =
@@ -68,7 +68,7 @@ len_of-below n (e ∷ es) =
     ∙ ap (λ k. cond (is_some (find path_cmp e.0 es)) k (k + 1)) (len_of-below n es)
     ∙ sym (len_of-cons e es)
 
--- ---- names that differ
+-- names that differ
 apart_from_above : (n : Name) (cs : List (Name × Entries)) → AllByRecursion (λ k. name_cmp n k ≡ Less) (keys_of cs) → find name_cmp n cs ≡ None
 apart_from_above n [] h = refl
 apart_from_above n (c ∷ cs) h = ap (λ r. cond (is_eq r) (Some c.1) (find name_cmp n cs)) h.0 ∙ apart_from_above n cs h.1
@@ -81,7 +81,7 @@ none_at n cs (k ∷ p) true h e = sym (find-joined k p cs ∙ ap (λ m. option_a
 len_of-without : (n : Name) (cs : List (Name × Entries)) → find name_cmp n cs ≡ None → len_of (where_key path_cmp (λ p. not (begins_with n p)) (joined cs)) ≡ len_of (joined cs)
 len_of-without n cs h =
     ap (λ m. fin.len m) (fin.same_map path_total path_antisymmetric (fin.from_entries (where_key path_cmp (λ p. not (begins_with n p)) (joined cs))) (fin.from_entries (joined cs))
-      (λ q. fin.get-from_entries path_total (where_key path_cmp (λ p. not (begins_with n p)) (joined cs)) q ∙ without n q (joined cs) ∙ none_at n cs q (begins_with n q) h refl ∙ sym (fin.get-from_entries path_total (joined cs) q)))
+    (λ q. fin.get-from_entries path_total (where_key path_cmp (λ p. not (begins_with n p)) (joined cs)) q ∙ without n q (joined cs) ∙ none_at n cs q (begins_with n q) h refl ∙ sym (fin.get-from_entries path_total (joined cs) q)))
 
 under : (n k : Name) (p : Path) (es : Entries) (b : Bool) → eq_by_cmp name_cmp k n ≡ b → is_some (cond b (find path_cmp p es) None) ≡ true → begins_with n (k ∷ p) ≡ true
 under n k p es true e h = e
@@ -104,7 +104,7 @@ len_of-joined (c ∷ cs) h =
     ∙ ap (λ n. len_of c.1 + n) (len_of-without c.0 cs (apart_from_above c.0 cs (sorted_head name_cmp c.0 (keys_of cs) h)) ∙ len_of-joined cs (sorted_tail name_cmp c.0 (keys_of cs) h))
     ∙ sym (sum_by-cons (λ c. len_of c.1) c cs)
 
--- ---- nodes
+-- nodes
 len-replica_of : (cs : List (Name × Node)) → fin.len (replica_of cs) ≡ len_of (entries_of cs)
 unfolding replica_of
 len-replica_of cs = refl

@@ -98,7 +98,7 @@ node_top x = ap (find path_cmp []) (fold_out-Node Entries node_entries x) ∙ la
 pub node_below : (m : Name) (p : Path) (x : Node) → find path_cmp (m ∷ p) (entries_at x) ≡ find path_cmp (m ∷ p) (entries_of (kids_of x))
 node_below m p x = ap (find path_cmp (m ∷ p)) (fold_out-Node Entries node_entries x) ∙ layer_below m p (out-Node x)
 
--- ---- the laws of a look-up
+-- the laws of a look-up
 pub get-replica_of : (cs : List (Name × Node)) (q : Path) → fin.get (replica_of cs) q ≡ find path_cmp q (entries_of cs)
 unfolding replica_of
 get-replica_of cs q = fin.get-from_entries path_total (entries_of cs) q
@@ -125,7 +125,7 @@ look_up cs n p =
 pub get_nothing : (q : Path) → fin.get (replica_of []) q ≡ None
 get_nothing q = get-replica_of [] q
 
--- ---- along the names of a path
+-- along the names of a path
 pub drop_at : (p : Path) (d : ℕ) (n : Name) → slice_get p d ≡ Some n → drop d p ≡ n ∷ drop (d + 1) p
 drop_at p d n e = drop-cons p d n (slice_get_within p d n e) ∙ rw (get_or_from_slice_get p d n n e, add-one) refl
 
@@ -165,7 +165,7 @@ along_kids cs p d n q x ks e l f k =
 pub along_file : (cs : List (Name × Node)) (p : Path) (d : ℕ) (n : Name) (q : Path) (x : Node) → slice_get p d ≡ Some n → d + 1 < length p → find name_cmp n cs ≡ Some x → kids_of x ≡ [] → fin.get (replica_of cs) (drop d p ++ q) ≡ None
 along_file cs p d n q x e l f k = along_kids cs p d n q x [] e l f k ∙ get_nothing (drop (d + 1) p ++ q)
 
--- ---- the two kinds of node
+-- the two kinds of node
 pub out-file : (b : List ℕ) → out-Node (block.File b) ≡ File b
 out-file b = ap out-Node (sym (variants.rolls-File b)) ∙ views.out-roll-Node (File b)
 
@@ -184,7 +184,7 @@ contents-file b = ap layer_contents (out-file b)
 pub contents-directory : (m : BTreeMap Name Node) → contents_of (views.Directory m) ≡ contents.Directory
 contents-directory m = ap layer_contents (out-directory m)
 
--- ---- a whole tree
+-- a whole tree
 pub replica_of-nothing : replica_of [] ≡ fin.empty
 unfolding replica_of
 replica_of-nothing = refl

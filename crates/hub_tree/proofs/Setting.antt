@@ -22,7 +22,7 @@ use Rattle.hub_tree.proofs.Order.{name_total, path_total, path_antisymmetric, sa
 use Rattle.hub_tree.proofs.LookUp.{look_up, get_top, get_nothing}
 use Rattle.hub_tree.proofs.Children.{shown, childless_none, none_childless, same_childless}
 
--- ---- the map after a change
+-- the map after a change
 abbrev pub held : Contents → Option Contents
 held (contents.File bytes) = Some (contents.File bytes)
 held contents.Directory = Some contents.Directory
@@ -64,7 +64,7 @@ changed_below cs fs n p w c change h =
     fin.same_map path_total path_antisymmetric (replica_of fs) (with_contents (replica_of cs) (n ∷ p) c)
     (λ q. changed_get cs fs n p w c change h q ∙ sym (get-with_contents (replica_of cs) (n ∷ p) c q))
 
--- ---- one name
+-- one name
 -- Nothing stands below.
 abbrev pub IsBare : Option Node → Type 0
 IsBare o = (s : Name) (t : Path) → option_and_then (node_get (s ∷ t)) o ≡ None
@@ -110,7 +110,7 @@ again_gets cs n x e d (s ∷ t) = refl
 pub directory_again : (cs : List (Name × Node)) (n : Name) (x : Node) → find name_cmp n cs ≡ Some x → contents_of x ≡ contents.Directory → replica_of cs ≡ with_contents (replica_of cs) (n ∷ []) contents.Directory
 directory_again cs n x e d = changed_below cs cs n [] (find name_cmp n cs) contents.Directory (unchanged cs n) (again_gets cs n x e d)
 
--- ---- the faults at one name
+-- the faults at one name
 contents_of_child : (cs : List (Name × Node)) (n : Name) (o : Option Node) → find name_cmp n cs ≡ o → contents_at (replica_of cs) (n ∷ []) ≡ unwrap_or (option_and_then (node_get []) o) contents.Absent
 contents_of_child cs n o e = ap (λ o. unwrap_or o contents.Absent) (look_up cs n [] ∙ ap (option_and_then (node_get [])) e)
 
@@ -199,7 +199,7 @@ vacant_some x h = rw h refl
 pub removal_fault : (cs : List (Name × Node)) (n : Name) (x : Node) → find name_cmp n cs ≡ Some x → occupied (find name_cmp n cs) ≡ false → set_fault (replica_of cs) (n ∷ []) contents.Absent ≡ None
 removal_fault cs n x e h = set_fault-child cs n contents.Absent (Some x) e ∙ vacant_some x (ap occupied (sym e) ∙ h)
 
--- ---- the faults at several names
+-- the faults at several names
 contents_below : (cs : List (Name × Node)) (n : Name) (x : Node) (q : Path) → find name_cmp n cs ≡ Some x → contents_of x ≡ contents.Directory → contents_at (replica_of cs) (n ∷ q) ≡ contents_at (replica_of (kids_of x)) q
 contents_below cs n x [] e d = contents_of_child cs n (Some x) e ∙ d
 contents_below cs n x (s ∷ t) e d = ap (λ o. unwrap_or o contents.Absent) (look_up cs n (s ∷ t) ∙ ap (option_and_then (node_get (s ∷ t))) e)
@@ -264,7 +264,7 @@ through_gets [] x y c l kind below r = absurd (omega arith)
 through_gets (m ∷ p) x y c l kind below [] = ap Some kind
 through_gets (m ∷ p) x y c l kind below (s ∷ t) = ap (λ k. fin.get k (s ∷ t)) below ∙ get-with_contents (replica_of (kids_of x)) (m ∷ p) c (s ∷ t)
 
--- ---- a change below a node
+-- a change below a node
 pub changed_through : (cs fs : List (Name × Node)) (n : Name) (p : Path) (x y : Node) (c : Contents) → 0 < length p → Changes cs fs n (Some y) → find name_cmp n cs ≡ Some x → contents_of y ≡ contents_of x
     → replica_of (kids_of y) ≡ with_contents (replica_of (kids_of x)) p c → replica_of fs ≡ with_contents (replica_of cs) (n ∷ p) c
 changed_through cs fs n p x y c l change e kind below =

@@ -19,7 +19,7 @@ use Rattle.hub_tree.proofs.LookUp.{look_up, get_top, get_nothing}
 use Rattle.hub_tree.proofs.MarkMaps.{path_here}
 use Rattle.hub_tree.proofs.Setting.{held, get-with_contents}
 
--- ---- the keys are paths
+-- the keys are paths
 pub HasPaths-set : (m : Replica) (p : Path) (c : Contents) → HasPaths m → is_path p ≡ true → HasPaths (with_contents m p c)
 HasPaths-set m p c h here = λ q e. path_here m p q (held c) (eq_by_cmp path_cmp q p) here h refl (sym (ap is_some (get-with_contents m p c q)) ∙ e)
 
@@ -27,7 +27,7 @@ pub HasPaths-after : (old new : Replica) (p : Path) (c : Contents) (r : Result �
 HasPaths-after old new p c (Ok u) ok err h here = λ q e. HasPaths-set old p c h here q (sym (ap (λ m. is_some (fin.get m q)) ok) ∙ e)
 HasPaths-after old new p c (Err f) ok err h here = λ q e. h q (sym (ap (λ m. is_some (fin.get m q)) err) ∙ e)
 
--- ---- the parent of what is there is a directory
+-- the parent of what is there is a directory
 shown_by : (cs : List (Name × Node)) (n : Name) (q : Path) → contents_at (replica_of cs) (n ∷ q) ≡ unwrap_or (option_and_then (node_get q) (find name_cmp n cs)) contents.Absent
 shown_by cs n q = ap (λ o. unwrap_or o contents.Absent) (look_up cs n q)
 
@@ -57,7 +57,7 @@ parents [] cs h = refl
 parents (n ∷ []) cs h = refl
 parents (n ∷ m ∷ r) cs h = parents_step cs n m r (parent (m ∷ r)) (find name_cmp n cs) refl h (λ x g. parents (m ∷ r) (kids_of x) g)
 
--- ---- no entry says that nothing is there
+-- no entry says that nothing is there
 layer_present : (x : Node-F Node) → Some (layer_contents x) ≡ Some contents.Absent → ⊥
 layer_present (File blob) e = cc
 layer_present (Directory kids) e = cc

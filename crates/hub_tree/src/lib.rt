@@ -9,6 +9,8 @@ mod blob;
 mod contents;
 mod fault;
 mod node;
+#[cfg(test)]
+mod tests;
 mod tree;
 
 pub use archive::Archive;

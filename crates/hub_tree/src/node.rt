@@ -1,7 +1,7 @@
 ghost use Rattle.std.specs.Prelude.{◌≡◌, ◌<◌, min, ◌++◌, [], ◌∷◌, drop, length, None, IfOk, IfErr, OnOk, OnErr};
 ghost use Rattle.std.specs.Option.{option_and_then, option_copied};
 ghost use Rattle.std.specs.FinMap as fin;
-ghost use Rattle.std.specs.BTreeMap.{get, keys, IsOrdered};
+ghost use Rattle.std.specs.BTreeMap.{get, insert_entry, keys, IsOrdered};
 ghost use Rattle.hub_path.specs.Path.{Path, name_cmp};
 ghost use Rattle.hub_tree.specs.Nodes.{replica_of, entries_of, entries_at, size_of, node_get, occupied, kids_of, contents_of, contents_or_absent, fault_below};
 ghost use Rattle.hub_tree.specs.Tree.{set_fault, with_contents, is_directory, IsRefusal};
@@ -66,9 +66,17 @@ pub fn copies_of(
     let mut copies = BTreeMap::new(alloc);
     for (name, node) in children.iter() {
         let copy = copy_of(alloc, node)?;
-        let _none = copies.insert(name.copy()?, copy)?;
+        put(&mut copies, name.copy()?, copy)?;
     }
     Ok(copies)
+}
+
+/// Puts a node under a name.
+fn put(children: &mut BTreeMap<Name, Node>, name: Name, node: Node) -> Result<(), AllocError>
+    ensures { OnOk result (children.new.entries ≡ insert_entry name_cmp children.old.entries name node) }
+{
+    let _old = children.insert(name, node)?;
+    Ok(())
 }
 
 /// A copy of the node, with all that it holds.

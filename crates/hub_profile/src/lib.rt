@@ -1,4 +1,16 @@
-//! Profiles: the settings of a synchronization, read from text.
+//! Profiles: which two roots are synchronized, and what of them, read from text.
+//!
+//! [`read_profile`] reads the bytes of a profile's text. It gives a [`Profile`], whose type keeps that its roots are
+//! apart and that no kept value is over another, or a [`ProfileFault`]: the first [`Fault`] with its line.
+//!
+//! ```text
+//! root = /srv/hub
+//! root = /srv/s1
+//! path = docs
+//! ```
+//!
+//! Contracts see a profile as the record `Parts` (specs/Parts) and say that what is read is `profile_in` of the bytes
+//! (specs/Reading, over the lines of specs/Lines).
 #![tactic(auto)]
 
 mod draft;

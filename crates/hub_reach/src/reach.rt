@@ -1,3 +1,4 @@
+//! Which paths a profile reaches.
 ghost use Rattle.std.specs.Prelude.{◌≡◌};
 ghost use Rattle.std.specs.List.{list_any};
 ghost use Rattle.hub_path.specs.Path.{is_over};
@@ -21,3 +22,6 @@ fn is_below_any(kept: &[RelPath], path: &RelPath) -> bool
 {
     kept.iter().any(|value| path.starts_with(value))
 }
+
+#[cfg(test)]
+mod tests;

@@ -1,3 +1,4 @@
+//! Which changes a profile may make, and where it writes.
 ghost use Rattle.std.specs.Prelude.{◌≡◌};
 ghost use Rattle.hub_reach.specs.Reach as reach;
 
@@ -19,3 +20,6 @@ pub fn writes(profile: &Profile, root: &Root) -> bool
 {
     profile.roots().iter().any(|own| own == root)
 }
+
+#[cfg(test)]
+mod tests;

@@ -1,7 +1,7 @@
 -- When profiles are refused, and what a refusal shows.
-use Rattle.std.specs.Prelude.{◌≡◌, ◌≢◌, ◌<◌, ℕ, Bool, not, ◌&&◌, ◌||◌, List, length, IsTrue, slice_get, Some}
+use Rattle.std.specs.Prelude.{◌≡◌, ◌≢◌, ◌<◌, ℕ, Bool, false, not, ◌&&◌, ◌||◌, List, length, take, ◌≤◌, ⊤, IsTrue, slice_get, Some}
 use Rattle.std.specs.List.{list_any}
-use Rattle.hub_path.specs.Path.{Name, Path, path_eq, is_over}
+use Rattle.hub_path.specs.Path.{Name, Path, name_eq, path_eq, is_over}
 use Rattle.hub_profile.specs.Parts.{Parts}
 use Rattle.hub_reach.specs.Reach.{reach, write, writes, has_root}
 use Rattle.hub_reach.specs.Safe.{Clash}
@@ -50,6 +50,14 @@ pub record RepeatsName (Ps : List Parts) (name : Name) : Type 0 where
   pub same : first.name ≡ second.name
   pub shown : name ≡ second.name
 
+-- None of the profiles whose number is below a bound has the name of an earlier one.
+abbrev pub NoneRepeated : List Parts → ℕ → Type 0
+NoneRepeated Ps below = (i : ℕ) (P : Parts) → i < below → slice_get Ps i ≡ Some P → list_any (λ Q. name_eq Q.name P.name) (take i Ps) ≡ false
+
+-- Different profiles have different names.
+abbrev pub NamesDiffer : List Parts → Type 0
+NamesDiffer Ps = (name : Name) → ¬ (RepeatsName Ps name)
+
 -- What is shown of two profiles that overlap: P writes what is held, at a root of both, and it is over a path that Q reaches.
 pub record IsShown (P Q : Parts) (o : Overlap) : Type 0 where
   pub writer : o.writer ≡ P.name
@@ -83,3 +91,10 @@ Refuses Ps TooManyProfiles = PROFILES < length Ps
 Refuses Ps (SameName name) = RepeatsName Ps name
 Refuses Ps (NestedRoots r s) = IsTrue (is_root_of Ps r) × IsTrue (is_root_of Ps s) × IsTrue (is_nested r s)
 Refuses Ps (Overlaps o) = IsOverlap Ps o
+
+-- The reasons that are told before this one don't hold.
+abbrev pub ComesFirst : List Parts → Refusal → Type 0
+ComesFirst Ps TooManyProfiles = ⊤
+ComesFirst Ps (SameName name) = length Ps ≤ PROFILES
+ComesFirst Ps (NestedRoots r s) = (length Ps ≤ PROFILES) × NamesDiffer Ps
+ComesFirst Ps (Overlaps o) = (length Ps ≤ PROFILES) × NamesDiffer Ps × (has_nested Ps ≡ false)

@@ -1,5 +1,5 @@
 -- What the program answers to an input, and when.
-use Rattle.std.specs.Prelude.{◌≡◌, ◌⊎◌, ◌≤◌, ◌∷◌, ◌++◌, ⊤, ℕ, List, [], length, take, Option, Some, IfSome, Result, Ok, Err, codes, encode_utf8_all}
+use Rattle.std.specs.Prelude.{◌≡◌, ◌⊎◌, ◌≤◌, ◌∷◌, ◌++◌, ⊤, ℕ, List, [], length, take, Option, IfSome, Result, Ok, Err, codes, encode_utf8_all}
 use Rattle.std.specs.List.{flat_map}
 use Rattle.std.specs.Io.KnownBytes.{Appends}
 use Rattle.hub_path.specs.Path.{Name, Path, text_of}
@@ -107,10 +107,14 @@ refusal_line (SameName name) = flat_map (λ t. t) (codes "refused: SameName " �
 refusal_line (NestedRoots r s) = flat_map (λ t. t) (codes "refused: NestedRoots " ∷ root_text r ∷ codes " and " ∷ root_text s ∷ codes "\n" ∷ [])
 refusal_line (Overlaps o) = overlap_line o
 
--- The line that says an answer. What a fault is called is not said here.
-abbrev pub IsFaultLine : List ℕ → Type 0
-IsFaultLine t = (detail : List ℕ) × (t ≡ flat_map (λ t. t) (codes "fault: " ∷ detail ∷ codes "\n" ∷ []))
+-- The line of a fault. What the fault is called is not said here.
+abbrev pub fault_line : List ℕ → List ℕ
+fault_line detail = flat_map (λ t. t) (codes "fault: " ∷ detail ∷ codes "\n" ∷ [])
 
+abbrev pub IsFaultLine : List ℕ → Type 0
+IsFaultLine t = (detail : List ℕ) × (t ≡ fault_line detail)
+
+-- The line that says an answer.
 abbrev pub IsLine : Report → List ℕ → Type 0
 IsLine Safe t = t ≡ codes "safe\n"
 IsLine (Refused r) t = t ≡ refusal_line r

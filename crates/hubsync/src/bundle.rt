@@ -1,3 +1,4 @@
+//! Bundles: an input cut into its sections.
 ghost use Rattle.std.specs.Prelude.{◌≡◌, ◌⊎◌, ◌+◌, ◌≤◌, ℕ, take, drop, length, IsTrue, IfOk, IfErr, Ok, Err};
 ghost use Rattle.std.specs.List.{before_first, after_first, position_or_len};
 ghost use Rattle.hubsync.specs.Bundle.{is_lf, lines, without_last_cr, bytes_before_heading, follows_section, written, stray_line, profile_reading, heading_reading, bundle_reading, out_of_memory};
@@ -77,7 +78,9 @@ pub enum BundleFault {
 #[derive(Clone, Copy, Debug, PartialEq, Eq, Error)]
 #[error("line {line}: {fault}")]
 pub struct BundleLineFault {
+    /// The number of the line.
     pub line: usize,
+    /// Its fault.
     pub fault: BundleFault,
 }
 

@@ -1,3 +1,4 @@
+//! The check of profiles: the first reason to refuse them, and that without one they are safe.
 ghost use Rattle.std.specs.Prelude.{◌≡◌, ◌<◌, ◌≤◌, ◌≢◌, ◌⊎◌, ℕ, [], length, true, false, not, ◌&&◌, ◌||◌, slice_get, Some, IsTrue, IsNone, IfOk, IfSome, MatchOption};
 ghost use Rattle.std.specs.List.{list_any};
 ghost use Rattle.hub_path.specs.Path.{name_eq, path_eq, is_over, is_path};
@@ -52,7 +53,9 @@ pub enum Refusal {
 pub fn first_refusal(alloc: Global, profiles: &[Profile]) -> Result<Option<Refusal>, AllocError>
     ensures safe { IfOk result (λ r. IsNone r → IsSafe profiles.now []) }
     ensures few { IfOk result (λ r. IsNone r → length profiles.now ≤ PROFILES) }
+    ensures names { IfOk result (λ r. IsNone r → check.NamesDiffer profiles.now) }
     ensures refuses { IfOk result (λ r. IfSome r (check.Refuses profiles.now)) }
+    ensures order { IfOk result (λ r. IfSome r (check.ComesFirst profiles.now)) }
 {
     if profiles.len() > PROFILES {
         return Ok(Some(Refusal::TooManyProfiles));
@@ -71,7 +74,7 @@ pub fn first_refusal(alloc: Global, profiles: &[Profile]) -> Result<Option<Refus
 
 /// The first name that an earlier profile has too. There are at most `PROFILES` to compare.
 fn repeated_name(profiles: &[Profile]) -> Option<&Name>
-    ensures { IfSome result (λ name. check.RepeatsName profiles.now name.now) }
+    ensures { MatchOption result (check.NamesDiffer profiles.now) (λ name. check.RepeatsName profiles.now name.now) }
 {
     for (later, profile) in profiles.iter().enumerate() {
         let name = profile.name();

@@ -1,3 +1,4 @@
+//! The bytes of an input, in bounded reads.
 ghost use Rattle.std.specs.Prelude.{◌≡◌, ◌≤◌, length, IfOk, IfSome, IsErrOf};
 
 use std::alloc::{AllocError, Global};

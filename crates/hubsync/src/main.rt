@@ -9,6 +9,7 @@
 mod bundle;
 mod check;
 mod input;
+pub mod laws;
 mod profiles;
 mod report;
 mod serve;

@@ -1,3 +1,4 @@
+//! The profiles of a bundle's sections.
 ghost use Rattle.std.specs.Prelude.{◌≡◌, ◌⊎◌, Ok, Err, IfOk, IfErr};
 ghost use Rattle.hubsync.specs.Report.{sections_reading, section_reading, FailsAs};
 

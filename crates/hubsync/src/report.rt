@@ -1,3 +1,4 @@
+//! The answer to an input: what it is, its status, and the line that says it.
 ghost use Rattle.std.specs.Prelude.{◌≡◌, ◌⊎◌, IfOk, IfSome, string_bytes};
 ghost use Rattle.std.specs.List.{flat_map};
 ghost use Rattle.hubsync.specs.Report as report;
@@ -106,7 +107,7 @@ fn overlap_line(alloc: Global, overlap: &Overlap) -> Result<String, AllocError>
 
 /// The line of a fault.
 fn fault_line(alloc: Global, detail: &str) -> Result<String, AllocError>
-    ensures { IfOk result (λ t. report.IsFaultLine (string_bytes t)) }
+    ensures { IfOk result (λ t. string_bytes t ≡ report.fault_line detail.now) }
 {
     joined(alloc, &["fault: ", detail, "\n"])
 }

@@ -1,3 +1,4 @@
+//! What the program does, over any reader and writer.
 ghost use Rattle.std.specs.Prelude.{◌≡◌, ◌<◌, ◌≤◌, ◌++◌, ℕ, List, length, codes, take, Some, IfSome, IsTrue};
 ghost use Rattle.std.specs.Io.KnownBytes.{Appends, Keeps};
 ghost use Rattle.hubsync.specs.Report.{Answers, SpellsSafe, WritesFront};
@@ -65,3 +66,6 @@ fn write_bytes<W: Write>(bytes: &[u8], output: &mut W) -> bool
     }
     true
 }
+
+#[cfg(test)]
+mod tests;

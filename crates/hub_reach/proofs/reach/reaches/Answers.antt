@@ -1,4 +1,4 @@
-use Rattle.std.proofs.Common.{◌≡◌, ◌==◌, ◌&&◌, not, Bool, true, false, length, refl, sym, ap, ◌∙◌, arith}
+use Rattle.std.proofs.Common.{◌≡◌, ◌==◌, true, false, length, ap, ◌∙◌, arith}
 use Rattle.std.proofs.Common.{List}
 use Rattle.std.specs.List.{list_any}
 use Rattle.hub_path.specs.Path.{Path, is_over}

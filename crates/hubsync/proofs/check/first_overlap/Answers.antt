@@ -1,5 +1,4 @@
 use Rattle.std.proofs.Common.{arith}
-use Rattle.std.specs.Prelude.{length}
 use Rattle.std.proofs.lemmas.Option.{MatchOption-at_none}
 use Rattle.hubsync.proofs.CheckFacts.{none-more}
 use Rattle.hubsync.proofs.check.first_overlap.Goals as goal

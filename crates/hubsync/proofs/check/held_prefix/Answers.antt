@@ -1,4 +1,4 @@
-use Rattle.std.proofs.Common.{sym, ◌∙◌, ap, arith, ◌≡◌, ℕ, List, [], ◌∷◌, ◌++◌, true, false, refl, length, ◌≤◌}
+use Rattle.std.proofs.Common.{sym, ◌∙◌, ap, arith, ◌≡◌, List, [], ◌∷◌, ◌++◌, true}
 use Rattle.std.specs.Prelude.{IsTrue, Option, Some}
 use Rattle.std.proofs.lemmas.Bool.{false≢true}
 use Rattle.std.proofs.lemmas.Result.{IfOk-weaker}

@@ -1,10 +1,10 @@
-use Rattle.std.proofs.Common.{sym, ◌∙◌, ap, arith, ◌≡◌, true, false, ◌&&◌, List, refl}
-use Rattle.std.specs.Prelude.{IsTrue}
+use Rattle.std.proofs.Common.{sym, ◌∙◌, ap, true, List, refl}
 use Rattle.std.proofs.lemmas.Option.{MatchOption-at_none, MatchOption-at_some}
 use Rattle.hub_path.specs.Path.{Path}
-use Rattle.hub_reach.specs.Reach.{reach, has_root, writes}
+use Rattle.hub_reach.specs.Reach.{has_root, writes}
 use Rattle.hubsync.specs.Check.{is_below, meets}
-use Rattle.hubsync.proofs.CheckFacts.{both, apart-roots, apart-paths, below-shown, reach-below}
+use Rattle.std.proofs.lemmas.Bool.{and_parts}
+use Rattle.hubsync.proofs.CheckFacts.{apart-roots, apart-paths, below-shown, reach-below}
 use Rattle.hubsync.proofs.check.overlap_of.Goals as goal
 
 pub returns-in_default : goal.returns-in_default
@@ -25,8 +25,8 @@ pub returns : goal.returns
 returns c =
     let met = MatchOption-at_some _ _ c.in-Some-2.meeting c.in-Some-2.is c.in_ok-meeting.ensures in
     let others = below-shown c.args.other.now.paths c.in-Some-2.meeting.now c.in_ok-path.path (ap (λ (ss : List Path). is_below ss c.in-Some-2.meeting.now) (sym c.paths-2.ensures.value) ∙ met.1) c.in_ok-path.ensures.below in
-    let shared = both (writes c.args.writer.now c.in-Some.root.now) (has_root c.args.other.now c.in-Some.root.now) c.in-Some.ensures.shared in
-    let writes = both (has_root c.args.writer.now c.in-Some.root.now) true shared.0 in
+    let shared = and_parts (writes c.args.writer.now c.in-Some.root.now) (has_root c.args.other.now c.in-Some.root.now) c.in-Some.ensures.shared in
+    let writes = and_parts (has_root c.args.writer.now c.in-Some.root.now) true shared.0 in
     record {
       writer = c.in_ok-copy.ensures ∙ c.name.ensures;
       other = c.in_ok-copy-3.ensures ∙ c.name-2.ensures;

@@ -1,6 +1,7 @@
-use Rattle.std.proofs.Common.{arith, ◌≡◌, sym, ◌∙◌, ⊎_elim}
+use Rattle.std.proofs.Common.{refl, arith, sym, ◌∙◌, ⊎_elim}
 use Rattle.std.proofs.lemmas.Option.{MatchOption-at_none}
-use Rattle.hubsync.proofs.CheckFacts.{clashes-more, below-or-at, at-index}
+use Rattle.std.proofs.lemmas.Option.{slice_get_read}
+use Rattle.hubsync.proofs.CheckFacts.{clashes-more, below-or-at}
 use Rattle.hubsync.proofs.check.overlap_of_writer.Goals as goal
 use Rattle.hubsync.proofs.check.overlap_of_writer.Goals.{then-writer-other+in_ok-found+in_default, else-writer-other}
 
@@ -9,8 +10,8 @@ loop-other-preserved c =
     elim c.if-writer-other.branch [
       | then-writer-other+in_ok-found+in_default w ↦
           clashes-more c.args.profiles.now c.args.writer c.loop-other.other w.index-profiles-writer.result w.index-profiles-other.result
-          (at-index c.args.profiles.now c.args.writer w.index-profiles-writer.result c.requires w.index-profiles-writer.is)
-          (at-index c.args.profiles.now c.loop-other.other w.index-profiles-other.result c.loop-other-test.true w.index-profiles-other.is)
+          (slice_get_read c.args.profiles.now _ c.args.writer w.index-profiles-writer.result refl c.requires w.index-profiles-writer.is)
+          (slice_get_read c.args.profiles.now _ c.loop-other.other w.index-profiles-other.result refl c.loop-other-test.true w.index-profiles-other.is)
           c.loop-other.invariant (MatchOption-at_none _ _ w.in_default.is w.in_ok-found.ensures)
       | else-writer-other w ↦
           λ j P Q l a b different. ⊎_elim (λ less. c.loop-other.invariant j P Q less a b different) (λ same. absurd (different (w.if-writer-other.false ∙ sym same))) (below-or-at j c.loop-other.other l)

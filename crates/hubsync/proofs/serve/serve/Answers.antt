@@ -1,4 +1,3 @@
-use Rattle.std.proofs.Common.{arith}
 use Rattle.hubsync.proofs.ReportFacts.{nothing-written, safe-written}
 use Rattle.hubsync.proofs.serve.serve.Goals as goal
 

@@ -1,4 +1,4 @@
-use Rattle.std.proofs.Common.{◌≡◌, ◌+◌, ◌∙◌, length, take, drop, arith, length-drop, subst, ap}
+use Rattle.std.proofs.Common.{◌+◌, length, take, arith, length-drop, subst, ap}
 use Rattle.std.specs.Io.KnownBytes.{Appends}
 use Rattle.std.proofs.KnownBytes.{Appends-trans}
 use Rattle.hubsync.proofs.ReportFacts.{rest-more, front-more}

@@ -1,0 +1,77 @@
+-- Worked values of the check of profiles and of the lines that it writes.
+use Rattle.std.specs.Prelude.{⊤, ◌≡◌, ℕ, true, false, List, [], ◌∷◌, map, refl, codes}
+use Rattle.std.proofs.lemmas.Option.{none-some}
+use Rattle.hub_path.specs.Path.{Path, path_of}
+use Rattle.hub_profile.specs.Parts.{Parts}
+use Rattle.hub_reach.specs.Reach.{reach}
+use Rattle.hubsync.specs.declared.check.Overlap.{Overlap}
+use Rattle.hubsync.specs.declared.check.Refusal.TheVariants.{TooManyProfiles, SameName, NestedRoots, Overlaps}
+use Rattle.hubsync.specs.declared.report.Report.TheVariants.{Safe, Refused, OutOfMemory}
+use Rattle.hubsync.specs.Check.{is_nested, has_nested, meets, shares_root, IsOverlap, RepeatsName}
+use Rattle.hubsync.specs.Report.{refusal_line, root_text, status_of}
+
+-- What these examples compute.
+computed : ⊤
+unfolding reach lib.Utf8.encode
+computed = tt
+
+abbrev hub : Path
+hub = path_of (codes "srv/hub")
+
+abbrev s1 : Path
+s1 = path_of (codes "srv/s1")
+
+-- A profile of this name and kept value, over these roots.
+abbrev kept : List ℕ → List ℕ → List Path → Parts
+kept name t roots = record { name = name; roots = roots; paths = path_of t ∷ [] }
+
+-- roots are nested by names, and a root isn't nested with itself
+roots_apart : map (is_nested hub) (path_of (codes "srv") ∷ path_of (codes "srv/hub/x") ∷ [] ∷ hub ∷ s1 ∷ path_of (codes "srv/hub2") ∷ []) ≡ true ∷ true ∷ true ∷ false ∷ false ∷ false ∷ []
+roots_apart = refl
+
+nested_profiles : map has_nested ((kept [] [] (hub ∷ s1 ∷ []) ∷ kept [] [] (s1 ∷ hub ∷ []) ∷ []) ∷ (kept [] [] (hub ∷ s1 ∷ []) ∷ kept [] [] (path_of (codes "b") ∷ path_of (codes "srv") ∷ []) ∷ []) ∷ []) ≡ false ∷ true ∷ []
+nested_profiles = refl
+
+-- kept values meet where one is over the other, either way, by names and not by text
+meetings : map (meets (path_of (codes "docs") ∷ path_of (codes "a/b") ∷ [])) ((path_of (codes "docs2") ∷ []) ∷ (path_of (codes "docs/x") ∷ []) ∷ (path_of (codes "x") ∷ path_of (codes "a") ∷ []) ∷ ([] ∷ []) ∷ []) ≡ false ∷ true ∷ true ∷ true ∷ []
+meetings = refl
+
+-- two profiles share a root if one of them has it on the other side too
+shared : map (λ rs. shares_root (kept [] [] (hub ∷ s1 ∷ [])) (kept [] [] rs)) ((s1 ∷ path_of (codes "c") ∷ []) ∷ (path_of (codes "c") ∷ path_of (codes "srv") ∷ []) ∷ []) ≡ true ∷ false ∷ []
+shared = refl
+
+abbrev part_and_whole : List Parts
+part_and_whole = kept (codes "whole") (codes "a") (hub ∷ s1 ∷ []) ∷ kept (codes "part") (codes "a/b") (hub ∷ s1 ∷ []) ∷ []
+
+abbrev shown : Overlap
+shown = record { writer = codes "whole"; held = path_of (codes "a"); root = hub; other = codes "part"; path = path_of (codes "a/b") }
+
+-- `path = a` of one profile and `path = a/b` of another one overlap
+an_overlap : IsOverlap part_and_whole shown
+unfolding computed
+an_overlap = record {
+  writer = 0;
+  other = 1;
+  different = λ h. cc;
+  P = kept (codes "whole") (codes "a") (hub ∷ s1 ∷ []);
+  Q = kept (codes "part") (codes "a/b") (hub ∷ s1 ∷ []);
+  at_writer = refl;
+  at_other = refl;
+  shown = record { writer = refl; other = refl; shared = refl; over = refl; written = refl; reached = refl };
+}
+
+-- no name is there twice
+different_names : (name : List ℕ) → ¬ (RepeatsName [] name)
+different_names name r = absurd (none-some r.first r.at_earlier)
+
+lines : map refusal_line (TooManyProfiles ∷ SameName (codes "u") ∷ NestedRoots (path_of (codes "srv")) hub ∷ Overlaps shown ∷ [])
+    ≡ codes "refused: TooManyProfiles\n" ∷ codes "refused: SameName u\n" ∷ codes "refused: NestedRoots /srv and /srv/hub\n" ∷ codes "overlap: whole writes a at /srv/hub, part reaches a/b\n" ∷ []
+unfolding computed
+lines = refl
+
+-- the root that has no names is a slash
+the_top : root_text [] ≡ codes "/"
+the_top = refl
+
+statuses : map status_of (Safe ∷ Refused TooManyProfiles ∷ OutOfMemory ∷ []) ≡ 0 ∷ 1 ∷ 2 ∷ []
+statuses = refl

@@ -1,0 +1,280 @@
+use super::*;
+use std::alloc::AllocError;
+use std::io::ErrorKind;
+use std::test::Fail;
+use std::{cmp, io};
+
+/// The bundle of these profiles: the name of each, and its lines below the roots `/srv/hub` and `/srv/s1`.
+fn bundle(alloc: Global, profiles: &[(&str, &str)]) -> Result<String, AllocError> {
+    let mut text = String::new(alloc);
+    for (name, lines) in profiles {
+        write!(
+            text,
+            "%profile {name}\nroot = /srv/hub\nroot = /srv/s1\n{lines}\n"
+        )?;
+    }
+    Ok(text)
+}
+
+/// The status that a bundle is answered with, and what is written.
+fn answered<T: AllocGlobal>(rt: &T, bundle: &str) -> Result<String, AllocError> {
+    let mut input = bundle.as_bytes();
+    let mut output: Vec<u8> = Vec::new(rt.alloc());
+    let status = serve(rt, &[], &mut input, &mut output);
+    let text = str::from_utf8(output.as_slice()).unwrap_or("?");
+    format!(in rt.alloc(); "{status} {text}")
+}
+
+#[test]
+fn profiles_of_the_same_roots_may_overlap(rt: HostRuntime) -> Result<(), Fail> {
+    let rows: [(&[(&str, &str)], &str); 17] = [
+        (&[], "0 safe\n"),
+        (&[("u", "")], "0 safe\n"),
+        (
+            &[("docs", "path = docs"), ("photos", "path = photos")],
+            "0 safe\n",
+        ),
+        (&[("u", "path = docs"), ("v", "path = docs2")], "0 safe\n"),
+        (
+            &[("u", "path = docs"), ("v", "path = docs")],
+            "1 overlap: u writes docs at /srv/hub, v reaches docs\n",
+        ),
+        (
+            &[("whole", "path = a"), ("part", "path = a/b")],
+            "1 overlap: whole writes a at /srv/hub, part reaches a/b\n",
+        ),
+        (
+            &[("part", "path = a/b"), ("whole", "path = a")],
+            "1 overlap: part writes a/b at /srv/hub, whole reaches a/b\n",
+        ),
+        (
+            &[
+                ("u", "path = docs"),
+                ("v", "path = photos"),
+                ("w", "path = photos/x"),
+            ],
+            "1 overlap: v writes photos at /srv/hub, w reaches photos/x\n",
+        ),
+        // any name that nobody mentions
+        (
+            &[("u", ""), ("v", "")],
+            "1 overlap: u writes a at /srv/hub, v reaches a\n",
+        ),
+        (
+            &[("u", ""), ("v", ""), ("w", "path = a")],
+            "1 overlap: u writes b at /srv/hub, v reaches b\n",
+        ),
+        // the shortest path of several by characters, then the first of them
+        (
+            &[("u", "path = b\npath = a"), ("v", "")],
+            "1 overlap: u writes a at /srv/hub, v reaches a\n",
+        ),
+        (
+            &[("u", "path = a/bc\npath = c/d"), ("v", "")],
+            "1 overlap: u writes c/d at /srv/hub, v reaches c/d\n",
+        ),
+        (
+            &[("u", "path = zz\npath = é"), ("v", "")],
+            "1 overlap: u writes é at /srv/hub, v reaches é\n",
+        ),
+        (
+            &[("u", ""), ("v", "path = a/b")],
+            "1 overlap: u writes a at /srv/hub, v reaches a/b\n",
+        ),
+        // two profiles of one name are refused before they overlap
+        (
+            &[("u", "path = a"), ("v", "path = b"), ("u", "path = a")],
+            "1 refused: SameName u\n",
+        ),
+        (
+            &[("u", "path = a"), ("v", "path = /b"), ("w", "include x")],
+            "2 fault: profile v line 3: BadPath LeadingSlash\n",
+        ),
+        (
+            &[("u", "path = a"), ("v", "path = b"), ("w", "include x")],
+            "2 fault: profile w line 3: IncludeLeftOut\n",
+        ),
+    ];
+    for (profiles, want) in rows {
+        let text = answered(&rt, bundle(rt.alloc(), profiles)?.as_str())?;
+        assert_eq!(rt; text.as_str(), want);
+    }
+    Ok(())
+}
+
+#[test]
+fn profiles_overlap_at_a_root_of_both(rt: HostRuntime) -> Result<(), Fail> {
+    let rows = [
+        (
+            "/srv/s1",
+            "/srv/hub",
+            "/srv/hub",
+            "/srv/s2",
+            "1 overlap: u writes a at /srv/hub, v reaches a\n",
+        ),
+        (
+            "/srv/s1",
+            "/srv/hub",
+            "/srv/hub",
+            "/srv/s1",
+            "1 overlap: u writes a at /srv/s1, v reaches a\n",
+        ),
+        ("/srv/s1", "/srv/s2", "/srv/s3", "/srv/s4", "0 safe\n"),
+        ("/srv", "/a", "/srv2", "/srv3/srv", "0 safe\n"),
+        (
+            "/srv",
+            "/a",
+            "/b",
+            "/srv/hub",
+            "1 refused: NestedRoots /srv and /srv/hub\n",
+        ),
+        (
+            "/b",
+            "/srv/hub",
+            "/a",
+            "/srv",
+            "1 refused: NestedRoots /srv/hub and /srv\n",
+        ),
+        (
+            "/b",
+            "/srv",
+            "/a",
+            "/",
+            "2 fault: profile v line 0: RootsNested\n",
+        ),
+    ];
+    for (first, second, third, fourth, want) in rows {
+        let text = format!(in rt.alloc();
+            "%profile u\nroot={first}\nroot={second}\n%profile v\nroot={third}\nroot={fourth}\n"
+        )?;
+        let text = answered(&rt, text.as_str())?;
+        assert_eq!(rt; text.as_str(), want);
+    }
+    for (input, want) in [
+        ("root = /srv\n", "2 fault: bundle line 1: NoSection\n"),
+        (
+            "%profile a\n%rules\n",
+            "2 fault: bundle line 2: UnknownSection\n",
+        ),
+        ("%profile ..\n", "2 fault: bundle line 1: BadName\n"),
+    ] {
+        let text = answered(&rt, input)?;
+        assert_eq!(rt; text.as_str(), want);
+    }
+    Ok(())
+}
+
+#[test]
+fn a_bundle_has_at_most_32_profiles(rt: HostRuntime) -> Result<(), Fail> {
+    for (count, want) in [(32, "0 safe\n"), (33, "1 refused: TooManyProfiles\n")] {
+        let mut text = String::new(rt.alloc());
+        for i in 0..count {
+            write!(
+                text,
+                "%profile p{i}\nroot = /srv/hub\nroot = /srv/s1\npath = p{i}\n"
+            )?;
+        }
+        let text = answered(&rt, text.as_str())?;
+        assert_eq!(rt; text.as_str(), want);
+    }
+    Ok(())
+}
+
+#[test]
+fn no_word_is_known(rt: HostRuntime) -> Result<(), Fail> {
+    for word in ["", "check", "--help"] {
+        let mut input: &[u8] = b"%profile u\n";
+        let mut output: Vec<u8> = Vec::new(rt.alloc());
+        assert_eq!(rt; serve(&rt, &[word], &mut input, &mut output), 2);
+        assert_eq!(rt; (input.len(), output.len()), (11, 0));
+    }
+    Ok(())
+}
+
+/// Takes three bytes at most of each of its first writes; the one after them fails.
+#[derive(Drop)]
+struct Failing {
+    text: Vec<u8>,
+    writes: usize,
+}
+
+impl Write for Failing {
+    fn write(&mut self, buf: &[u8]) -> io::Result<usize> {
+        if self.writes == 0 {
+            return Err(io::Error::from(ErrorKind::Other));
+        }
+        self.writes -= 1;
+        let count = cmp::min(buf.len(), 3);
+        self.text.extend_from_slice(&buf[..count])?;
+        Ok(count)
+    }
+
+    fn flush(&mut self) -> io::Result<()> {
+        if self.writes == 0 {
+            return Err(io::Error::from(ErrorKind::Other));
+        }
+        Ok(())
+    }
+}
+
+#[test]
+fn a_failed_output_has_status_2(rt: HostRuntime) -> Result<(), Fail> {
+    for (writes, status, want) in [
+        (0, 2, ""),
+        (1, 2, "saf"),
+        (2, 2, "safe\n"),
+        (3, 0, "safe\n"),
+    ] {
+        let mut input: &[u8] = b"";
+        let text = Vec::new(rt.alloc());
+        let mut output = Failing { text, writes };
+        assert_eq!(rt;
+            serve(&rt, &[], &mut input, &mut output),
+            status,
+            "{writes}"
+        );
+        assert!(rt; output.text.as_slice() == want.as_bytes(), "{writes}");
+    }
+    Ok(())
+}
+
+/// Gives one byte at each read, and fails behind the last one if it is to.
+#[derive(Drop)]
+struct OneByOne<'a> {
+    bytes: &'a [u8],
+    fails: bool,
+}
+
+impl<'a> Read for OneByOne<'a> {
+    fn read(&mut self, buf: &mut [u8]) -> io::Result<usize> {
+        if buf.is_empty() {
+            return Ok(0);
+        }
+        match self.bytes {
+            [first, rest @ ..] => {
+                buf[0] = *first;
+                self.bytes = rest;
+                Ok(1)
+            }
+            [] if self.fails => Err(io::Error::from(ErrorKind::Other)),
+            [] => Ok(0),
+        }
+    }
+}
+
+#[test]
+fn an_input_may_come_slowly_or_fail(rt: HostRuntime) -> Result<(), Fail> {
+    let bytes: &[u8] =
+        b"%profile u\nroot = /srv/hub\nroot = /srv/s1\npath = a\n%profile v\nroot = /srv/s1\nroot = /srv/hub\npath = a/b";
+    let rows = [
+        (false, 1, "overlap: u writes a at /srv/hub, v reaches a/b\n"),
+        (true, 2, "fault: bundle line 0: ReadFailed\n"),
+    ];
+    for (fails, status, want) in rows {
+        let mut input = OneByOne { bytes, fails };
+        let mut output: Vec<u8> = Vec::new(rt.alloc());
+        assert_eq!(rt; serve(&rt, &[], &mut input, &mut output), status);
+        assert!(rt; output.as_slice() == want.as_bytes());
+    }
+    Ok(())
+}

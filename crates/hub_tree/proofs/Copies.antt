@@ -5,16 +5,14 @@ use Rattle.std.specs.BTreeMap.{BTreeMap, insert_entry}
 use Rattle.std.specs.List.Sorted.{IsStrictlySortedBy}
 use Rattle.std.specs.Map.{keys_of}
 use Rattle.std.specs.Ordering.{match_ordering}
-use Rattle.std.specs.declared.cmp.Ordering.{Ordering}
 use Rattle.std.specs.declared.cmp.Ordering.TheVariants.{Less, Equal, Greater}
 use Rattle.hub_path.specs.Path.{Name, name_cmp}
-use Rattle.hub_tree.specs.Nodes.{Entries, entries_at, entries_of, joined, node_entries, replica_of}
+use Rattle.hub_tree.specs.Nodes.{Entries, entries_at, entries_of, node_entries, replica_of}
 use Rattle.hub_tree.specs.declared.contents.Contents.TheVariants as contents
 use Rattle.hub_tree.specs.declared.node.Node.{Node}
 use Rattle.hub_tree.specs.declared.node.Node.TheFolds.{fold-Node, fold_out-Node, map-Node}
 use Rattle.hub_tree.specs.declared.node.Node.TheViews as views
 use Rattle.hub_tree.specs.declared.node.Node.TheBlock as block
-use Rattle.hub_tree.specs.declared.node.Node.TheOpen.{Node-F, File, Directory}
 use Rattle.hub_tree.proofs.Order.{name_total}
 use Rattle.hub_tree.proofs.Ascending.{copy_more}
 use Rattle.hub_tree.proofs.LookUp.{out-file, out-directory}

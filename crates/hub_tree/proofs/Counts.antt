@@ -1,5 +1,5 @@
 -- How many entries a tree has.
-use Rattle.std.proofs.Common.{◌≡◌, ℕ, ◌+◌, ◌-◌, ◌≤◌, min, Bool, true, false, cond, not, List, [], ◌∷◌, ◌++◌, map, Option, Some, None, refl, ap, sym, ◌∙◌, arith, subst}
+use Rattle.std.proofs.Common.{◌≡◌, ℕ, ◌+◌, ◌≤◌, min, Bool, true, false, cond, not, List, [], ◌∷◌, ◌++◌, map, Option, Some, None, refl, ap, sym, ◌∙◌, arith, subst}
 use Rattle.std.specs.Prelude.{sum_by}
 use Rattle.std.specs.FinMap as fin
 use Rattle.std.specs.FinMap.Entries.{find, where_key}
@@ -8,12 +8,11 @@ use Rattle.std.specs.List.Sorted.{IsStrictlySortedBy}
 use Rattle.std.specs.Map.{keys_of, values_of}
 use Rattle.std.specs.Option.{option_and_then, is_some}
 use Rattle.std.specs.Ordering.{eq_by_cmp, is_eq}
-use Rattle.std.specs.declared.cmp.Ordering.{Ordering}
-use Rattle.std.specs.declared.cmp.Ordering.TheVariants.{Less, Equal, Greater}
+use Rattle.std.specs.declared.cmp.Ordering.TheVariants.{Less}
 use Rattle.std.proofs.lemmas.List.Sums.{sum_by-cons}
 use Rattle.std.proofs.lemmas.Map.Keys.{sorted_head, sorted_tail}
 use Rattle.hub_path.specs.Path.{Name, Path, path_cmp, name_cmp}
-use Rattle.hub_tree.specs.Nodes.{Entries, below, begins_with, joined, entries_at, entries_of, replica_of, kids_of, size_of, layer_kids, node_entries}
+use Rattle.hub_tree.specs.Nodes.{Entries, below, begins_with, joined, entries_at, entries_of, replica_of, size_of, layer_kids, node_entries}
 use Rattle.hub_tree.specs.declared.contents.Contents.{Contents}
 use Rattle.hub_tree.specs.declared.contents.Contents.TheVariants as contents
 use Rattle.hub_tree.specs.declared.node.Node.{Node}
@@ -21,7 +20,7 @@ use Rattle.hub_tree.specs.declared.node.Node.TheFolds.{fold-Node, fold_out-Node,
 use Rattle.hub_tree.specs.declared.node.Node.TheViews.{out-Node}
 use Rattle.hub_tree.specs.declared.node.Node.TheOpen.{Node-F, File, Directory}
 use Rattle.hub_tree.proofs.Order.{path_total, path_antisymmetric, same_name, name_itself, path_itself}
-use Rattle.hub_tree.proofs.LookUp.{or_else, find-append, find-below, find-joined, find_top-joined, find-entries, without}
+use Rattle.hub_tree.proofs.LookUp.{or_else, find-append, find-below, find-joined, find_top-joined, without}
 
 abbrev len_of : Entries → ℕ
 len_of es = fin.len (fin.from_entries {R = path_cmp} es)

@@ -1,5 +1,5 @@
 -- What stands at a path of a tree that is kept as names and what stands under each.
-use Rattle.std.proofs.Common.{◌≡◌, ℕ, ◌+◌, ◌<◌, append-nil, Bool, true, false, cond, ◌&&◌, not, List, [], ◌∷◌, ◌++◌, map, length, drop, Option, Some, None, refl, ap, sym, ◌∙◌, arith, add-one, length-append, length-drop}
+use Rattle.std.proofs.Common.{◌≡◌, ℕ, ◌+◌, ◌<◌, append-nil, Bool, true, false, cond, not, List, [], ◌∷◌, ◌++◌, map, length, drop, Option, Some, None, refl, ap, sym, ◌∙◌, arith, add-one, length-append, length-drop}
 use Rattle.std.proofs.Math.Seq.{drop-cons, drop-length}
 use Rattle.std.proofs.lemmas.Option.{slice_get_within, get_or_from_slice_get}
 use Rattle.std.specs.List.{slice_get}
@@ -22,7 +22,7 @@ use Rattle.hub_tree.specs.declared.node.Node.TheBlock as block
 use Rattle.hub_tree.specs.declared.node.Node.TheVariants as variants
 use Rattle.std.specs.BTreeMap.{BTreeMap}
 use Rattle.hub_tree.specs.declared.node.Node.TheOpen.{Node-F, File, Directory}
-use Rattle.hub_tree.proofs.Order.{is_eq-then, path_total, path_antisymmetric}
+use Rattle.hub_tree.proofs.Order.{path_total, path_antisymmetric}
 
 abbrev pub or_else : {A : Type 0} → Option A → Option A → Option A
 or_else None o = o

@@ -1,11 +1,11 @@
 -- What a change of one path leaves, and when it is refused.
-use Rattle.std.proofs.Common.{◌≡◌, ℕ, ◌+◌, ◌<◌, Bool, true, false, cond, ◌&&◌, not, List, [], ◌∷◌, ◌++◌, length, Option, Some, None, refl, ap, sym, ◌∙◌, arith}
+use Rattle.std.proofs.Common.{◌≡◌, ◌<◌, Bool, true, false, cond, ◌&&◌, not, List, [], ◌∷◌, ◌++◌, length, Option, Some, None, refl, ap, sym, ◌∙◌, arith}
 use Rattle.std.specs.Prelude.{◌==◌, if◌then◌else◌, Result, IfErr, ⊤}
 use Rattle.std.specs.FinMap as fin
 use Rattle.std.specs.FinMap.Entries.{find}
-use Rattle.std.specs.Option.{option_and_then, unwrap_or, is_none}
+use Rattle.std.specs.Option.{option_and_then, unwrap_or}
 use Rattle.std.specs.Cmp.{eq_by_cmp_equiv}
-use Rattle.std.specs.Ordering.{eq_by_cmp, is_eq, ordering_then}
+use Rattle.std.specs.Ordering.{eq_by_cmp}
 use Rattle.std.proofs.lemmas.Bool.Decides.{nat_tests}
 use Rattle.std.proofs.lemmas.Bool.{false≢true}
 use Rattle.hub_path.specs.Path.{Name, Path, path_cmp, name_cmp, parent}

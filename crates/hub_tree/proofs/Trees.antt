@@ -1,5 +1,5 @@
 -- What holds of every tree.
-use Rattle.std.proofs.Common.{◌≡◌, ◌<◌, Bool, true, false, cond, not, List, [], ◌∷◌, Option, Some, None, refl, ap, sym, ◌∙◌, subst}
+use Rattle.std.proofs.Common.{◌≡◌, Bool, true, false, List, [], ◌∷◌, Option, Some, None, refl, ap, sym, ◌∙◌, subst}
 use Rattle.std.specs.Prelude.{Result, Ok, Err, OnOk, OnErr, ⊤}
 use Rattle.std.specs.FinMap as fin
 use Rattle.std.specs.FinMap.Entries.{find}
@@ -8,7 +8,7 @@ use Rattle.std.specs.Ordering.{eq_by_cmp}
 use Rattle.std.proofs.lemmas.Bool.{false≢true}
 use Rattle.hub_path.specs.Path.{Name, Path, path_cmp, name_cmp, is_path, parent}
 use Rattle.hub_tree.specs.Tree.{Replica, IsTree, HasPaths, contents_at, is_absent, is_directory, with_contents}
-use Rattle.hub_tree.specs.Nodes.{replica_of, node_get, contents_of, kids_of, layer_contents, layer_kids}
+use Rattle.hub_tree.specs.Nodes.{replica_of, node_get, kids_of, layer_contents, layer_kids}
 use Rattle.hub_tree.specs.declared.contents.Contents.{Contents}
 use Rattle.hub_tree.specs.declared.contents.Contents.TheVariants as contents
 use Rattle.hub_tree.specs.declared.fault.SetFault.{SetFault}

@@ -6,7 +6,7 @@ use Rattle.hub_path.specs.Path.{Path, path_cmp}
 use Rattle.hub_tree.specs.declared.contents.Contents.{Contents}
 use Rattle.hub_tree.specs.declared.contents.Contents.TheVariants.{File, Directory, Absent}
 use Rattle.hub_tree.specs.declared.fault.SetFault.TheVariants.{RootPath, NoParent, NotEmpty, NothingThere}
-use Rattle.hub_tree.specs.Tree.{Replica, set_fault, children, names_at, contents_at, bytes_at, IsTree}
+use Rattle.hub_tree.specs.Tree.{Replica, set_fault, children, names_at, bytes_at, IsTree}
 
 abbrev path : List ℕ → Path
 path t = slice_split (λ c. c == 47) t

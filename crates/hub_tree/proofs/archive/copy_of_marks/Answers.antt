@@ -1,4 +1,4 @@
-use Rattle.std.proofs.Common.{sym, ap, ◌∙◌, ◌++◌}
+use Rattle.std.proofs.Common.{ap, ◌∙◌, ◌++◌}
 use Rattle.hub_tree.proofs.Order.{path_total}
 use Rattle.hub_tree.proofs.Ascending.{copy_more}
 use Rattle.hub_tree.proofs.archive.copy_of_marks.Goals as goal

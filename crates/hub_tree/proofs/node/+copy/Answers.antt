@@ -1,4 +1,4 @@
-use Rattle.std.proofs.Common.{sym, ap, ◌∙◌, ◌++◌}
+use Rattle.std.proofs.Common.{ap, ◌∙◌, ◌++◌}
 use Rattle.hub_tree.proofs.Copies.{with_entries, copy_node_more}
 use Rattle.hub_tree.proofs.node.+copy.Goals as goal
 

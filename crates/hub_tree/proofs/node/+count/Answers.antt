@@ -1,4 +1,4 @@
-use Rattle.std.proofs.Common.{refl, sym, ap, ◌∙◌, min, ◌+◌, arith}
+use Rattle.std.proofs.Common.{sym, ap, ◌∙◌, min, ◌+◌}
 use Rattle.std.specs.FinMap.{len}
 use Rattle.hub_tree.specs.Nodes.{replica_of, kids_of}
 use Rattle.hub_tree.proofs.LookUp.{kids-file}

@@ -1,6 +1,6 @@
 use Rattle.std.proofs.Common.{◌≡◌, ◌+◌, refl, sym, ap, ◌∙◌, subst, Option, None, drop, arith}
-use Rattle.std.specs.Prelude.{OnOk, OnErr, IfErr, IsSome}
-use Rattle.std.proofs.lemmas.Result.{on_ok_weaker, on_err_weaker, IfErr-weaker}
+use Rattle.std.specs.Prelude.{OnOk, IfErr, IsSome}
+use Rattle.std.proofs.lemmas.Result.{on_ok_weaker, on_err_weaker}
 use Rattle.hub_path.specs.Path.{Path}
 use Rattle.hub_tree.specs.Tree.{set_fault, with_contents, IsRefusal}
 use Rattle.hub_tree.specs.Nodes.{replica_of, fault_below}

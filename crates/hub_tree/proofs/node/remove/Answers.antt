@@ -1,8 +1,6 @@
-use Rattle.std.proofs.Common.{refl, sym, ap, ◌∙◌, subst, Some}
-use Rattle.std.specs.BTreeMap.{get}
-use Rattle.hub_path.specs.Path.{Name, name_cmp}
+use Rattle.std.proofs.Common.{refl, sym, ◌∙◌}
 use Rattle.hub_tree.specs.declared.contents.Contents.TheVariants.{Absent}
-use Rattle.hub_tree.proofs.Setting.{Changes, changed_child, bare_vacant, bare_nothing, occupied_fault, removal_fault, nothing_fault, refusal}
+use Rattle.hub_tree.proofs.Setting.{changed_child, bare_vacant, bare_nothing, occupied_fault, removal_fault, nothing_fault, refusal}
 use Rattle.hub_tree.proofs.node.remove.Goals as goal
 
 pub returns-then-is_occupied-clause-fault : goal.returns-then-is_occupied-clause-fault

@@ -1,10 +1,9 @@
 use Rattle.std.proofs.Common.{refl, sym, ap, ◌∙◌, subst, Some}
-use Rattle.std.specs.BTreeMap.{get}
-use Rattle.hub_path.specs.Path.{Name, name_cmp}
+use Rattle.hub_path.specs.Path.{Name}
 use Rattle.hub_tree.specs.declared.contents.Contents.TheVariants.{Directory}
 use Rattle.hub_tree.specs.declared.node.Node.TheViews as node
 use Rattle.hub_tree.proofs.LookUp.{contents-directory, kids-directory}
-use Rattle.hub_tree.proofs.Setting.{Changes, changed_child, bare_file, bare_kids, directory_found, directory_fault, want_of_memory}
+use Rattle.hub_tree.proofs.Setting.{Changes, changed_child, bare_file, bare_kids, directory_found}
 use Rattle.hub_tree.proofs.node.set_directory.Goals as goal
 
 pub returns-clause-ok : goal.returns-clause-ok

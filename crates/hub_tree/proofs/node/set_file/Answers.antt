@@ -1,7 +1,6 @@
 use Rattle.std.proofs.Common.{refl, sym, ap, ◌∙◌, subst, Some}
-use Rattle.std.specs.BTreeMap.{get}
 use Rattle.std.proofs.lemmas.Result.{err_from_is_err_and}
-use Rattle.hub_path.specs.Path.{Name, name_cmp}
+use Rattle.hub_path.specs.Path.{Name}
 use Rattle.hub_tree.specs.declared.contents.Contents.TheVariants.{File}
 use Rattle.hub_tree.specs.declared.node.Node.TheBlock as node
 use Rattle.hub_tree.proofs.LookUp.{contents-file, kids-file}

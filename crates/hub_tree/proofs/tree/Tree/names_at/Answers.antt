@@ -1,7 +1,7 @@
-use Rattle.std.proofs.Common.{◌≡◌, sym, ap, ◌∙◌, subst, arith, List}
+use Rattle.std.proofs.Common.{sym, ap, ◌∙◌, subst, arith}
 use Rattle.std.proofs.lemmas.Result.{IfOk-weaker}
 use Rattle.std.specs.BTreeMap.{keys, IsOrdered}
-use Rattle.hub_path.specs.Path.{Name, name_cmp}
+use Rattle.hub_path.specs.Path.{name_cmp}
 use Rattle.hub_tree.specs.Nodes.{kids_of}
 use Rattle.hub_tree.proofs.LookUp.{kids-file, kids-directory}
 use Rattle.hub_tree.proofs.Names.{names_at-top, names_at-node, names_at-file, names_at-nothing}

@@ -18,15 +18,15 @@ regroup false true true d = refl
 regroup false true false d = refl
 regroup false false c d = refl
 
-any-false : {X : Type 0} (xs : List X) → false ≡ list_any (λ x. false) xs
+pub any-false : {X : Type 0} (xs : List X) → false ≡ list_any (λ x. false) xs
 any-false [] = refl
 any-false (x ∷ xs) = any-false xs
 
-any-and : {X : Type 0} (b : Bool) (f : X → Bool) (xs : List X) → (b && list_any f xs) ≡ list_any (λ x. b && f x) xs
+pub any-and : {X : Type 0} (b : Bool) (f : X → Bool) (xs : List X) → (b && list_any f xs) ≡ list_any (λ x. b && f x) xs
 any-and true f xs = refl
 any-and false f xs = any-false xs
 
-any-or : {X : Type 0} (f g : X → Bool) (xs : List X) → (list_any f xs || list_any g xs) ≡ list_any (λ x. f x || g x) xs
+pub any-or : {X : Type 0} (f g : X → Bool) (xs : List X) → (list_any f xs || list_any g xs) ≡ list_any (λ x. f x || g x) xs
 any-or f g [] = refl
 any-or f g (x ∷ xs) = regroup (f x) (list_any f xs) (g x) (list_any g xs) ∙ ap (λ b. (f x || g x) || b) (any-or f g xs)
 
@@ -34,11 +34,11 @@ any-any : {X Y : Type 0} (f : X → Y → Bool) (xs : List X) (ys : List Y) → 
 any-any f [] ys = any-false ys
 any-any f (x ∷ xs) ys = ap (λ b. list_any (f x) ys || b) (any-any f xs ys) ∙ any-or (f x) (λ y. list_any (λ z. f z y) xs) ys
 
-any-map : {X Y : Type 0} (f : Y → Bool) (h : X → Y) (xs : List X) → list_any (λ x. f (h x)) xs ≡ list_any f (map h xs)
+pub any-map : {X Y : Type 0} (f : Y → Bool) (h : X → Y) (xs : List X) → list_any (λ x. f (h x)) xs ≡ list_any f (map h xs)
 any-map f h [] = refl
 any-map f h (x ∷ xs) = ap (λ b. f (h x) || b) (any-map f h xs)
 
-or-assoc : (a b c : Bool) → (a || (b || c)) ≡ ((a || b) || c)
+pub or-assoc : (a b c : Bool) → (a || (b || c)) ≡ ((a || b) || c)
 or-assoc true b c = refl
 or-assoc false b c = refl
 

@@ -2,6 +2,7 @@
 ghost use Rattle.std.specs.Prelude.{◌≡◌, ◌+◌, ◌≤◌, ◌<◌, length};
 ghost use Rattle.hub_glob.specs.Specification.{choices_size, pattern_size};
 ghost use Rattle.hub_glob.specs.Sweep as sweep;
+ghost use Rattle.arrayvec.specs.ArrayVec.{array_vec_len};
 
 use crate::piece::{PATTERN_CHARACTERS, Part, Piece};
 use arrayvec::ArrayVec;
@@ -41,4 +42,89 @@ fn is_star(piece: &Piece) -> bool
     ensures { result ≡ sweep.is_star piece.now }
 {
     matches!(piece, Piece::Run)
+}
+
+/// Sweeps one piece: adds its place to those of the text with the character.
+fn sweep_piece(next: Next, piece: &Piece, old: &[bool], new: &mut Places, carry: Carry) -> Carry
+    requires { array_vec_len new.old < PATTERN_CHARACTERS }
+    ensures len { array_vec_len new.new ≡ array_vec_len new.old + 1 }
+    ensures swept { sweep.swept_piece next old.now piece.now (record { live = new.old.items; carry = carry })
+        ≡ record { live = new.new.items; carry = result } }
+{
+    let here = carry.before || old.get(new.len()).copied().unwrap_or(false);
+    let taken = here && takes(piece, next);
+    let is_star = is_star(piece);
+    new.push(carry.after || is_star && taken);
+    Carry {
+        before: is_star && here,
+        after: !is_star && taken,
+    }
+}
+
+/// Sweeps the pieces one after another.
+fn sweep_pieces(
+    next: Next,
+    pieces: &[Piece],
+    old: &[bool],
+    new: &mut Places,
+    mut carry: Carry,
+) -> Carry
+    requires { array_vec_len new.old + length pieces.now ≤ PATTERN_CHARACTERS }
+    ensures len { array_vec_len new.new ≡ array_vec_len new.old + length pieces.now }
+    ensures swept { sweep.swept_pieces next old.now pieces.now (record { live = new.old.items; carry = carry })
+        ≡ record { live = new.new.items; carry = result } }
+{
+    for piece in pieces {
+        carry = sweep_piece(next, piece, old, new, carry);
+    }
+    carry
+}
+
+/// Sweeps the choices of a brace, each entered as the brace is.
+fn sweep_choices(
+    next: Next,
+    choices: &[Items<Piece>],
+    old: &[bool],
+    new: &mut Places,
+    entry: Carry,
+) -> Carry
+    requires { array_vec_len new.old + choices_size choices.now ≤ PATTERN_CHARACTERS }
+    ensures len { array_vec_len new.new ≡ array_vec_len new.old + choices_size choices.now }
+    ensures swept { sweep.swept_choices next old.now entry choices.now (record { live = new.old.items; carry = sweep.nowhere })
+        ≡ record { live = new.new.items; carry = result } }
+{
+    let mut carry = Carry {
+        before: false,
+        after: false,
+    };
+    for choice in choices {
+        let end = sweep_pieces(next, choice.as_slice(), old, new, entry);
+        carry = Carry {
+            before: carry.before || end.before,
+            after: carry.after || end.after,
+        };
+    }
+    carry
+}
+
+/// Sweeps the parts of a pattern.
+fn sweep_parts(
+    next: Next,
+    parts: &[Part],
+    old: &[bool],
+    new: &mut Places,
+    mut carry: Carry,
+) -> Carry
+    requires { array_vec_len new.old + pattern_size parts.now ≤ PATTERN_CHARACTERS }
+    ensures len { array_vec_len new.new ≡ array_vec_len new.old + pattern_size parts.now }
+    ensures swept { sweep.swept_parts next old.now parts.now (record { live = new.old.items; carry = carry })
+        ≡ record { live = new.new.items; carry = result } }
+{
+    for part in parts {
+        carry = match part {
+            Part::One(piece) => sweep_piece(next, piece, old, new, carry),
+            Part::Brace(choices) => sweep_choices(next, choices.as_slice(), old, new, carry),
+        };
+    }
+    carry
 }

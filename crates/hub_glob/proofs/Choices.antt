@@ -42,7 +42,7 @@ pub or-assoc : (a b c : Bool) → (a || (b || c)) ≡ ((a || b) || c)
 or-assoc true b c = refl
 or-assoc false b c = refl
 
-any-append : {X : Type 0} (f : X → Bool) (xs ys : List X) → (list_any f xs || list_any f ys) ≡ list_any f (xs ++ ys)
+pub any-append : {X : Type 0} (f : X → Bool) (xs ys : List X) → (list_any f xs || list_any f ys) ≡ list_any f (xs ++ ys)
 any-append f [] ys = refl
 any-append f (x ∷ xs) ys = sym (or-assoc (f x) (list_any f xs) (list_any f ys)) ∙ ap (λ b. f x || b) (any-append f xs ys)
 

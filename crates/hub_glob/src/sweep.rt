@@ -1,5 +1,5 @@
 //! A pattern matched with a text character by character, by the set of places at which a match may stand.
-ghost use Rattle.std.specs.Prelude.{◌≡◌, ◌+◌, ◌≤◌, ◌<◌, length};
+ghost use Rattle.std.specs.Prelude.{◌≡◌, ◌+◌, ◌≤◌, ◌<◌, [], ◌∷◌, ◌++◌, length, chars};
 ghost use Rattle.hub_glob.specs.Specification.{choices_size, pattern_size};
 ghost use Rattle.hub_glob.specs.Sweep as sweep;
 ghost use Rattle.arrayvec.specs.ArrayVec.{array_vec_len};
@@ -127,4 +127,73 @@ fn sweep_parts(
         };
     }
     carry
+}
+
+/// How a pattern matches the text read so far.
+#[derive(Drop)]
+pub(crate) struct Walk {
+    live: Places,
+    fresh: bool,
+    ended: bool,
+    first: bool,
+}
+
+impl Model for Walk {
+    ghost use Rattle.hub_glob.specs.Sweep.{Standing};
+
+    ghost Value = { Standing };
+
+    ghost view = { λ w. record { live = w.live.items; fresh = w.fresh; ended = w.ended; first = w.first } };
+}
+
+impl Walk {
+    /// Before any text.
+    pub(crate) fn new() -> Walk
+        ensures { result ≡ sweep.at_start }
+    {
+        Walk {
+            live: ArrayVec::new(),
+            fresh: true,
+            ended: false,
+            first: true,
+        }
+    }
+
+    /// Reads one more character; whether the pattern matches the text before it.
+    fn push(&mut self, parts: &[Part], character: char) -> bool
+        requires { pattern_size parts.now ≤ PATTERN_CHARACTERS }
+        ensures matched { result ≡ sweep.is_matched parts.now self.old character }
+        ensures pushed { self.new ≡ sweep.pushed parts.now self.old character }
+    {
+        let next = Next {
+            character,
+            first: self.first,
+        };
+        let entry = Carry {
+            before: self.fresh,
+            after: false,
+        };
+        let mut live = ArrayVec::new();
+        let end = sweep_parts(next, parts, self.live.as_slice(), &mut live, entry);
+        let matched = end.before || self.ended;
+        *self = Walk {
+            live,
+            fresh: false,
+            ended: end.after,
+            first: character == '/',
+        };
+        matched
+    }
+
+    /// Reads a name and the `/` behind it; whether the pattern matches the text before that `/`.
+    pub(crate) fn push_name(&mut self, parts: &[Part], name: &str) -> bool
+        requires { pattern_size parts.now ≤ PATTERN_CHARACTERS }
+        ensures matched { result ≡ sweep.is_matched parts.now (sweep.pushed_all parts.now self.old (chars name.now)) 47 }
+        ensures pushed { self.new ≡ sweep.pushed_all parts.now self.old (chars name.now ++ 47 ∷ []) }
+    {
+        for character in name.chars() {
+            self.push(parts, character);
+        }
+        self.push(parts, '/')
+    }
 }

@@ -5,6 +5,7 @@ mod fault;
 pub mod laws;
 mod path_spec;
 mod piece;
+mod reading;
 mod sweep;
 
 pub use fault::GlobFault;

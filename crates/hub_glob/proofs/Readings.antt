@@ -34,7 +34,7 @@ both true b h = (refl, h)
 both false b h = cc
 
 -- Words of ASCII characters.
-IsAscii-from_test : (bs : List ℕ) → list_all (λ b. nat_lt b 128) bs ≡ true → IsAscii bs
+pub IsAscii-from_test : (bs : List ℕ) → list_all (λ b. nat_lt b 128) bs ≡ true → IsAscii bs
 IsAscii-from_test [] h i = lit< tt
 IsAscii-from_test (b ∷ bs) h zero = ltb-true b 128 (both (nat_lt b 128) (list_all (λ b. nat_lt b 128) bs) h).0
 IsAscii-from_test (b ∷ bs) h (suc i) = IsAscii-from_test bs (both (nat_lt b 128) (list_all (λ b. nat_lt b 128) bs) h).1 i

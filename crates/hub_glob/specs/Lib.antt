@@ -4,3 +4,4 @@ pub mod Glob
 pub mod Reading
 pub mod Specification
 pub mod Sweep
+pub mod Writing

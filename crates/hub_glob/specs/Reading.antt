@@ -153,7 +153,8 @@ few_choices ps = if nat_lt PATTERN_CHOICES (choice_count ps) then Err fault.TooM
 abbrev pub parts_of : Bool → List ℕ → Result (List Part) GlobFault
 parts_of in_name cs = parts None (signs in_name None (tokens false cs))
 
--- A pattern isn't empty, not too long and doesn't stand for too many choices; only a name pattern may begin with `/`.
+-- A pattern isn't empty, isn't too long and doesn't stand for too many choices. One for a path or for all below it
+-- doesn't begin with `/`.
 abbrev pub pattern_reading : Kind → List ℕ → Result (List Part) GlobFault
 pattern_reading k cs =
     if length cs == 0 then Err fault.EmptyPattern

@@ -8,6 +8,7 @@ mod path_spec;
 mod piece;
 mod reading;
 mod sweep;
+mod writing;
 
 pub use fault::GlobFault;
 pub use path_spec::{Kind, PathSpec};

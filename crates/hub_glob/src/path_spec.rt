@@ -1,15 +1,17 @@
-ghost use Rattle.std.specs.Prelude.{◌≡◌, ◌<◌, ◌≤◌, ◌⊎◌, true, length, take, chars, Ok, Err, IfOk, IfErr};
+ghost use Rattle.std.specs.Prelude.{◌≡◌, ◌<◌, ◌≤◌, ◌⊎◌, true, length, take, chars, string_bytes, encode_utf8_all, Ok, Err, IfOk, IfErr};
 ghost use Rattle.std.specs.List.{list_any};
 ghost use Rattle.hub_path.specs.Path.{last_name, text_of, prefixes};
 ghost use Rattle.hub_glob.specs.Glob as glob;
 ghost use Rattle.hub_glob.specs.Specification.{pattern_size};
 ghost use Rattle.hub_glob.specs.Reading.{spec_reading};
+ghost use Rattle.hub_glob.specs.Writing.{spec_text};
 
 use crate::choosing::choices_of;
 use crate::fault::GlobFault;
 use crate::piece::{PATTERN_CHARACTERS, Part, Piece};
 use crate::reading::{read_kind, read_pattern, split_kind};
 use crate::sweep::Walk;
+use crate::writing::text_of;
 use hub_path::{Items, RelPath};
 use std::alloc::{AllocError, Global};
 use std::marker::Model;
@@ -79,6 +81,17 @@ impl PathSpec {
         ensures { result.now ≡ self.now.pattern }
     {
         self.pattern.as_slice()
+    }
+
+    /// The text of the specification: the kind, one space and the pattern, with a `\` before each literal of
+    /// `* ? [ ] { } , \`. It is read back as the same specification where its pattern is not too long.
+    ///
+    /// In a set a member that a `-` and a further member follow is written as a range of its own (`a-a`).
+    pub fn text(&self) -> Result<String, AllocError>
+        ensures { IfOk result (λ t. string_bytes t ≡ encode_utf8_all (spec_text self.now)) }
+    {
+        let alloc = *self.pattern.allocator();
+        text_of(alloc, self.kind, self.pattern.as_slice())
     }
 
     /// The lists of pieces that the pattern stands for: one for each combination of the braces' choices, the leftmost

@@ -213,6 +213,35 @@ fn a_front_of_a_path_is_matched(rt: HostRuntime) -> Result<(), Fail> {
     Ok(())
 }
 
+/// A text, and the text that it is written as, which reads as the same text again.
+const TEXTS: [(&str, &str); 14] = [
+    ("Name *.{tmp, bak}", "Name *.{tmp, bak}"),
+    ("Path \t  a/?*", "Path a/?*"),
+    ("BelowPath a", "BelowPath a"),
+    ("Name a]", "Name a\\]"),
+    ("Name a}b,c", "Name a\\}b\\,c"),
+    ("Name {a\\,b,}", "Name {a\\,b,}"),
+    ("Name {a\\},]}", "Name {a\\},\\]}"),
+    ("Name \\*\\?\\[\\{\\\\", "Name \\*\\?\\[\\{\\\\"),
+    ("Name [*?]", "Name [\\*\\?]"),
+    ("Name [a-e]", "Name [abcde]"),
+    ("Name [a-]", "Name [a-]"),
+    ("Name [-a]", "Name [-a]"),
+    ("Name [+--a]", "Name [+\\,-\\,-a]"),
+    ("Name [a-b-c]", "Name [ab-b-c]"),
+];
+
+#[test]
+fn texts_read_back(rt: HostRuntime) -> Result<(), Fail> {
+    for (text, want) in TEXTS {
+        let written = PathSpec::read(rt.alloc(), text)?.text()?;
+        assert_eq!(rt; written.as_str(), want, "{text}");
+        let again = PathSpec::read(rt.alloc(), written.as_str())?.text()?;
+        assert_eq!(rt; again.as_str(), want, "{text}");
+    }
+    Ok(())
+}
+
 /// The letters of a list of literals.
 fn letters(alloc: Global, pieces: &[Piece]) -> Result<String, AllocError> {
     let mut text = String::new(alloc);

@@ -1,0 +1,7 @@
+pub mod Choosing
+pub mod Examples
+pub mod Glob
+pub mod Reading
+pub mod Specification
+pub mod Sweep
+pub mod Writing

@@ -1,0 +1,170 @@
+ghost use Rattle.std.specs.Prelude.{◌≡◌, ◌<◌, ◌≤◌, ◌⊎◌, true, length, take, chars, string_bytes, encode_utf8_all, Ok, Err, IfOk, IfErr};
+ghost use Rattle.std.specs.List.{list_any};
+ghost use Rattle.hub_path.specs.Path.{last_name, text_of, prefixes};
+ghost use Rattle.hub_glob.specs.Glob as glob;
+ghost use Rattle.hub_glob.specs.Specification.{pattern_size};
+ghost use Rattle.hub_glob.specs.Reading.{spec_reading};
+ghost use Rattle.hub_glob.specs.Writing.{spec_text};
+
+use crate::choosing::choices_of;
+use crate::fault::GlobFault;
+use crate::piece::{PATTERN_CHARACTERS, Part, Piece};
+use crate::reading::{read_kind, read_pattern, split_kind};
+use crate::sweep::Walk;
+use crate::writing::text_of;
+use hub_path::{Items, RelPath};
+use std::alloc::{AllocError, Global};
+use std::marker::Model;
+
+/// With what of a path a pattern is matched.
+#[derive(Clone, Copy, Debug, PartialEq, Eq)]
+pub enum Kind {
+    /// With its last name.
+    Name,
+    /// With its whole text.
+    Path,
+    /// With the text of the path or of one of the paths above it.
+    BelowPath,
+}
+
+/// A path specification: a kind, and a pattern of at most `PATTERN_CHARACTERS` pieces.
+#[derive(Debug, Drop)]
+pub struct PathSpec {
+    kind: Kind,
+    pattern: Vec<Part>,
+}
+
+impl Model for PathSpec {
+    ghost use Rattle.std.specs.Prelude.{◌≤◌};
+    ghost use Rattle.hub_glob.specs.declared.piece.TheConstants.{PATTERN_CHARACTERS};
+    ghost use Rattle.hub_glob.specs.Specification.{Specification, pattern_size};
+
+    ghost Value = { Specification };
+
+    ghost view = { λ s. record { kind = s.kind; pattern = s.pattern.items } };
+
+    ghost invariant = { λ s. pattern_size s.pattern.items ≤ PATTERN_CHARACTERS };
+}
+
+impl PathSpec {
+    /// Reads a specification: `Name`, `Path` or `BelowPath`, one or more spaces or tabs, and the pattern, which is the
+    /// rest of the text and has at most `PATTERN_CHARACTERS` characters, as written.
+    ///
+    /// In a pattern `?` is one character except `/`, `*` a sequence without `/`, `[ab-d]` one character of the set,
+    /// `{a,bb}` any one of the choices, and `\` makes one of `* ? [ ] { } , \` literal (Unison manual, "Path
+    /// Specification"; the escapes, and the limits, are this project's choice).
+    ///
+    /// The fault is the first of these that applies: `RegexLeftOut` or `NoKind`, `EmptyPattern`, `TooLong`,
+    /// `LeadingSlash`, then the first from the left of `BadEscape`, `NegatedSet`, `BadRange`, `SlashInSet`,
+    /// `SlashInName` and `NestedBraces`, with `OpenBracket`, or else `OpenBrace`, at the end of the text; at last
+    /// `TooManyChoices`, where the numbers of choices of all braces multiply to more than `PATTERN_CHOICES`.
+    /// `OutOfMemory` may come with any text.
+    pub fn read(alloc: Global, text: &str) -> Result<PathSpec, GlobFault>
+        ensures ok { IfOk result (λ s. spec_reading (chars text.now) ≡ Ok s) }
+        ensures err { IfErr result (λ e. (e ≡ GlobFault.OutOfMemory) ⊎ (spec_reading (chars text.now) ≡ Err e)) }
+    {
+        let (word, rest) = split_kind(text);
+        let kind = read_kind(word)?;
+        let pattern = read_pattern(alloc, kind, rest)?.into_vec();
+        Ok(PathSpec { kind, pattern })
+    }
+
+    /// With what of a path the pattern is matched.
+    pub fn kind(&self) -> Kind
+        ensures { result ≡ self.now.kind }
+    {
+        self.kind
+    }
+
+    /// The parts of the pattern.
+    pub fn pattern(&self) -> &[Part]
+        ensures { result.now ≡ self.now.pattern }
+    {
+        self.pattern.as_slice()
+    }
+
+    /// The text of the specification: the kind, one space and the pattern, with a `\` before each literal of
+    /// `* ? [ ] { } , \`. It is read back as the same specification where its pattern is not too long.
+    ///
+    /// In a set a member that a `-` and a further member follow is written as a range of its own (`a-a`).
+    pub fn text(&self) -> Result<String, AllocError>
+        ensures { IfOk result (λ t. string_bytes t ≡ encode_utf8_all (spec_text self.now)) }
+    {
+        let alloc = *self.pattern.allocator();
+        text_of(alloc, self.kind, self.pattern.as_slice())
+    }
+
+    /// The lists of pieces that the pattern stands for: one for each combination of the braces' choices, the leftmost
+    /// brace varying slowest. A text matches the pattern exactly where it matches one of them.
+    pub fn choices(&self) -> Result<Items<Items<Piece>>, AllocError>
+        ensures { IfOk result (λ cs. cs ≡ glob.choices self.now.pattern) }
+    {
+        choices_of(*self.pattern.allocator(), self.pattern.as_slice())
+    }
+
+    /// Whether the specification matches a path. It matches no path without names.
+    ///
+    /// A pattern is matched with characters one by one (`Walk`), so the time is at most the size of the pattern times
+    /// the length of the text, and no memory is taken.
+    pub fn matches(&self, path: &RelPath) -> bool
+        ensures { result ≡ glob.matches self.now path.now }
+    {
+        self.matches_front(path, path.len())
+    }
+
+    /// Whether the specification matches the path of the first `len` names, which is not made.
+    pub fn matches_front(&self, path: &RelPath, len: usize) -> bool
+        requires { len ≤ length path.now }
+        ensures { result ≡ glob.matches self.now (take len path.now) }
+    {
+        if len == 0 {
+            return false;
+        }
+        let parts = self.pattern.as_slice();
+        match self.kind {
+            Kind::Name => matches_name(parts, path, len),
+            Kind::Path => matches_text(parts, path, len),
+            Kind::BelowPath => matches_above(parts, path, len),
+        }
+    }
+}
+
+/// Whether a pattern matches the last of the first `len` names.
+fn matches_name(parts: &[Part], path: &RelPath, len: usize) -> bool
+    requires small { pattern_size parts.now ≤ PATTERN_CHARACTERS }
+    requires some { 0 < len }
+    requires within { len ≤ length path.now }
+    ensures { result ≡ glob.glob parts.now true (last_name (take len path.now)) }
+{
+    Walk::new().push_name(parts, path.name(len - 1).text())
+}
+
+/// Whether a pattern matches the text of the first `len` names.
+fn matches_text(parts: &[Part], path: &RelPath, len: usize) -> bool
+    requires small { pattern_size parts.now ≤ PATTERN_CHARACTERS }
+    requires some { 0 < len }
+    requires within { len ≤ length path.now }
+    ensures { result ≡ glob.glob parts.now true (text_of (take len path.now)) }
+{
+    let mut walk = Walk::new();
+    let mut matched = false;
+    for i in 0..len {
+        matched = walk.push_name(parts, path.name(i).text());
+    }
+    matched
+}
+
+/// Whether a pattern matches the text of the first names, up to `len` of them.
+fn matches_above(parts: &[Part], path: &RelPath, len: usize) -> bool
+    requires small { pattern_size parts.now ≤ PATTERN_CHARACTERS }
+    requires within { len ≤ length path.now }
+    ensures { result ≡ list_any (λ q. glob.glob parts.now true (text_of q)) (prefixes (take len path.now)) }
+{
+    let mut walk = Walk::new();
+    for i in 0..len {
+        if walk.push_name(parts, path.name(i).text()) {
+            return true;
+        }
+    }
+    false
+}

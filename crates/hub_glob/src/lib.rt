@@ -1,4 +1,14 @@
-//! Path specifications: which paths an `ignore = Name *.tmp` means.
+//! Path specifications: which paths a line like `ignore = Name *.tmp` means.
+//!
+//! - [`PathSpec`] is a kind and a pattern: it is read from a text (`PathSpec::read`), written as one (`text`), and asked
+//!   whether it matches a path (`matches`) or the front of one (`matches_front`).
+//! - [`Part`] and [`Piece`] are what a pattern is made of, and `choices` lists the patterns without braces that it
+//!   stands for.
+//! - [`GlobFault`] tells why a text is no specification.
+//!
+//! `Name *.{tmp, bak}` matches `x.tmp`, `d/x.tmp` and `x. bak`, and neither `x.bak` nor `.x.tmp`.
+//!
+//! The contracts are in the words of `specs/Glob` (what is matched), `specs/Reading` (what is read) and `specs/Writing`.
 #![tactic(auto)]
 
 mod choosing;

@@ -4,8 +4,8 @@ use hub_path::RelPath;
 use std::alloc::{AllocError, Global};
 use std::test::Fail;
 
-/// A specification, a path, and whether the one matches the other.
-const MATCHES: [(&str, &str, bool); 84] = [
+/// Specifications of names: a specification, a path, and whether the one matches the other.
+const NAMES: [(&str, &str, bool); 30] = [
     ("Name *.tmp", "x.tmp", true),
     ("Name *.tmp", "d/x.tmp", true),
     ("Name *.tmp", ".tmp", true),
@@ -36,6 +36,10 @@ const MATCHES: [(&str, &str, bool); 84] = [
     ("Name a?", "a", false),
     ("Name a?", "ab", true),
     ("Name a?", "abc", false),
+];
+
+/// Specifications of paths, and of all below a path: a specification, a path, and whether the one matches the other.
+const PATHS: [(&str, &str, bool); 30] = [
     ("Path *", "a", true),
     ("Path *", "a/b", false),
     ("Path a/*", "a/b", true),
@@ -66,6 +70,10 @@ const MATCHES: [(&str, &str, bool); 84] = [
     ("BelowPath a/*", "a/b/c", true),
     ("BelowPath a/*", "a", false),
     ("BelowPath docs", "x/docs", false),
+];
+
+/// Braces, sets, escapes and other letters: a specification, a path, and whether the one matches the other.
+const BRACES: [(&str, &str, bool); 24] = [
     ("Name a{}", "a", true),
     ("Name a{,b}", "a", true),
     ("Name a{,b}", "ab", true),
@@ -146,12 +154,33 @@ const FAULTS: [(&str, Option<GlobFault>); 42] = [
     ("Name a]", None),
 ];
 
+/// Whether a specification matches a path.
+fn matches(alloc: Global, spec: &str, path: &str) -> Result<bool, Fail> {
+    let spec = PathSpec::read(alloc, spec)?;
+    let path = RelPath::read(alloc, path)?;
+    Ok(spec.matches(&path))
+}
+
 #[test]
-fn specifications_match_paths(rt: HostRuntime) -> Result<(), Fail> {
-    for (text, path, want) in MATCHES {
-        let spec = PathSpec::read(rt.alloc(), text)?;
-        let path = RelPath::read(rt.alloc(), path)?;
-        assert_eq!(rt; spec.matches(&path), want, "{text}");
+fn names_are_matched(rt: HostRuntime) -> Result<(), Fail> {
+    for (spec, path, want) in NAMES {
+        assert_eq!(rt; matches(rt.alloc(), spec, path)?, want, "{spec}");
+    }
+    Ok(())
+}
+
+#[test]
+fn paths_are_matched(rt: HostRuntime) -> Result<(), Fail> {
+    for (spec, path, want) in PATHS {
+        assert_eq!(rt; matches(rt.alloc(), spec, path)?, want, "{spec}");
+    }
+    Ok(())
+}
+
+#[test]
+fn braces_are_matched(rt: HostRuntime) -> Result<(), Fail> {
+    for (spec, path, want) in BRACES {
+        assert_eq!(rt; matches(rt.alloc(), spec, path)?, want, "{spec}");
     }
     Ok(())
 }

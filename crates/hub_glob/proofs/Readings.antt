@@ -1,0 +1,330 @@
+-- The steps of reading a specification.
+use Rattle.std.proofs.Common.{◌≡◌, ℕ, suc, zero, ◌+◌, ◌-◌, ◌*◌, ◌<◌, ◌≤◌, min, Bool, true, false, not, ◌&&◌, ◌||◌, ◌==◌, cond, List, [], ◌∷◌, ◌++◌, length, take, drop, get_or, Option, Some, None, Result, Ok, Err, refl, sym, ap, ◌∙◌, arith, add-one, lit<, append_assoc, append-nil, ⊎_elim, subst, ◌⊎◌, inl, inr}
+use Rattle.std.specs.Prelude.{nat_lt, nat_eq, codes, bytes_eq, if◌then◌else◌, MatchOption}
+use Rattle.std.specs.List.{list_all, before_first, after_first, position_or_len, range_with_len}
+use Rattle.std.specs.Prelude.{IfSome}
+use Rattle.std.specs.Char.{IsScalar, encode_utf8}
+use Rattle.std.specs.Str.{IsUtf8, IsAscii, IsCharBoundary, chars, NoCharPasses, NonePass, encode_utf8_all, all_scalars}
+use Rattle.std.specs.Str.Pattern.{HasPassingCharAt, FindsBy, FindsPrefixBy, CutsPrefixes, IsFullyTrimmed, IsTrimStartMatches}
+use Rattle.std.proofs.lemmas.Str.{encodes-chars, encodes-IsAscii, chars-IsAscii, chars-append, chars_past_char, chars_from_encodes, IsUtf8-past_char, IsUtf8-drop, chars-nil, chars-encodes, encodes-append, encodes_same, scalars-chars, len_utf8_bounds}
+use lib.Utf8.{scalar}
+use Rattle.std.proofs.lemmas.List.{drop_more, length_push, take-append-drop, drop_all, take_all, take_at, drop_at, length-drop}
+use Rattle.std.proofs.lemmas.Bool.{cases_lt}
+use Rattle.std.proofs.lemmas.Bool.Decides.{same_from_decides, Decides-like, nat_tests}
+use Rattle.std.proofs.lemmas.Slice.Eq.{bytes_eq-Decides}
+use Rattle.std.proofs.Math.Nat.{mul_assoc, mul-le-mul_left}
+use borrow.Author.Tests.{ltb-true}
+use Rattle.hub_glob.specs.declared.fault.GlobFault.{GlobFault}
+use Rattle.hub_glob.specs.declared.path_spec.Kind.{Kind}
+use Rattle.hub_glob.specs.declared.path_spec.Kind.TheVariants as kind
+use Rattle.hub_glob.specs.declared.fault.GlobFault.TheVariants as fault
+use Rattle.hub_glob.specs.declared.piece.Piece.{Piece}
+use Rattle.hub_glob.specs.declared.piece.Part.{Part}
+use Rattle.hub_glob.specs.declared.piece.Part.TheVariants.{One, Brace}
+use Rattle.hub_glob.specs.declared.reading.Token.{Token}
+use Rattle.hub_glob.specs.declared.reading.Token.TheVariants.{Plain, Escaped, Stray}
+use Rattle.hub_glob.specs.declared.reading.Sign.{Sign}
+use Rattle.hub_glob.specs.declared.reading.Sign.TheVariants.{Means, Open, Comma, Close}
+use Rattle.hub_glob.specs.Reading.{tokens, is_special, is_plain, is_blank, skip_blanks, kind_reading, signs, set_sign, members, member, range_member, then_members, choice_count, Adds, ◌>>=◌, then_part, set_piece, Faults, parts}
+
+both : (a b : Bool) → (a && b) ≡ true → (a ≡ true) × (b ≡ true)
+both true b h = (refl, h)
+both false b h = cc
+
+-- Words of ASCII characters.
+IsAscii-from_test : (bs : List ℕ) → list_all (λ b. nat_lt b 128) bs ≡ true → IsAscii bs
+IsAscii-from_test [] h i = lit< tt
+IsAscii-from_test (b ∷ bs) h zero = ltb-true b 128 (both (nat_lt b 128) (list_all (λ b. nat_lt b 128) bs) h).0
+IsAscii-from_test (b ∷ bs) h (suc i) = IsAscii-from_test bs (both (nat_lt b 128) (list_all (λ b. nat_lt b 128) bs) h).1 i
+
+word_is : (bs t : List ℕ) → IsUtf8 bs → IsAscii t → bytes_eq bs t ≡ bytes_eq (chars bs) t
+word_is bs t u a =
+    same_from_decides _ _ (bytes_eq-Decides bs t)
+    (Decides-like (bytes_eq (chars bs) t) (λ e. sym (encodes-chars bs u) ∙ (ap encode_utf8_all e ∙ encodes-IsAscii t a)) (λ e. ap chars e ∙ chars-IsAscii t a) (bytes_eq-Decides (chars bs) t))
+
+abbrev kind_by : Bool → Bool → Bool → Bool → Result Kind GlobFault
+kind_by a b c d =
+    if a then Ok kind.Name
+    else (if b then Ok kind.Path
+    else (if c then Ok kind.BelowPath
+    else (if d then Err fault.RegexLeftOut else Err fault.NoKind)))
+
+-- The kind of a word is told by its bytes.
+pub kind_word : (bs : List ℕ) → IsUtf8 bs → kind_reading bs ≡ kind_reading (chars bs)
+kind_word bs u = λ i. kind_by
+    (word_is bs (codes "Name") u (IsAscii-from_test (codes "Name") refl) i)
+    (word_is bs (codes "Path") u (IsAscii-from_test (codes "Path") refl) i)
+    (word_is bs (codes "BelowPath") u (IsAscii-from_test (codes "BelowPath") refl) i)
+    (word_is bs (codes "Regex") u (IsAscii-from_test (codes "Regex") refl) i)
+
+-- The first word, and what stands behind it.
+position-found : (t : ℕ → Bool) (cs : List ℕ) (c : ℕ) (ds : List ℕ) → NonePass t cs → t c ≡ true → position_or_len t (cs ++ c ∷ ds) ≡ length cs
+position-found t [] c ds n h = λ i. cond (not (h i)) (1 + position_or_len t ds) 0
+position-found t (b ∷ cs) c ds n h =
+    (λ i. cond (not (n.0 i)) (1 + position_or_len t (cs ++ c ∷ ds)) 0) ∙ ap (λ k. 1 + k) (position-found t cs c ds n.1 h) ∙ omega arith
+
+position-none : (t : ℕ → Bool) (cs : List ℕ) → NonePass t cs → position_or_len t cs ≡ length cs
+position-none t [] n = refl
+position-none t (b ∷ cs) n = (λ i. cond (not (n.0 i)) (1 + position_or_len t cs) 0) ∙ ap (λ k. 1 + k) (position-none t cs n.1) ∙ omega arith
+
+before-found : (t : ℕ → Bool) (cs : List ℕ) (c : ℕ) (ds : List ℕ) → NonePass t cs → t c ≡ true → before_first t (cs ++ c ∷ ds) ≡ cs
+before-found t cs c ds n h = ap (λ k. take k (cs ++ c ∷ ds)) (position-found t cs c ds n h) ∙ take_at cs (c ∷ ds) (length cs) refl
+
+after-found : (t : ℕ → Bool) (cs : List ℕ) (c : ℕ) (ds : List ℕ) → NonePass t cs → t c ≡ true → after_first t (cs ++ c ∷ ds) ≡ ds
+after-found t cs c ds n h =
+    ap (λ k. drop (k + 1) (cs ++ c ∷ ds)) (position-found t cs c ds n h) ∙ ap (drop (length cs + 1)) (sym (append_assoc cs (c ∷ []) ds))
+    ∙ drop_at (cs ++ c ∷ []) ds (length cs + 1) (length_push cs c)
+
+scalars-front : (cs ds : List ℕ) → all_scalars (cs ++ ds) ≡ true → all_scalars cs ≡ true
+scalars-front [] ds h = refl
+scalars-front (c ∷ cs) ds h = let p = both (scalar c) (all_scalars (cs ++ ds)) h in rw p.0 (scalars-front cs ds p.1)
+
+abbrev Cut : (ℕ → Bool) → List ℕ → List ℕ → List ℕ → Type 0
+Cut t bs front back = (chars front ≡ before_first t (chars bs)) × (chars back ≡ after_first t (chars bs))
+
+pub cut_found : (t : ℕ → Bool) (bs front back : List ℕ) (i j : ℕ) → IsUtf8 bs → front ≡ take i bs → back ≡ drop j bs
+    → NoCharPasses t (take i bs) → HasPassingCharAt t bs i j → Cut t bs front back
+cut_found t bs front back i j u f b n h =
+    let c = h.0 in
+    let ds = chars (drop j bs) in
+    let v : IsUtf8 (drop j bs) = IsUtf8-drop bs j u (let P : ℕ → Type 0 = λ k. IsCharBoundary bs k in subst P (sym h.2.ends) h.2.after) in
+    let whole : chars bs ≡ n.0 ++ c ∷ ds =
+    encodes_same (chars bs) (n.0 ++ c ∷ ds)
+    (encodes-chars bs u ∙ sym (take-append-drop i bs) ∙ (λ k. sym n.1 k ++ h.2.split k) ∙ (λ k. encode_utf8_all n.0 ++ (encode_utf8 c ++ sym (encodes-chars (drop j bs) v) k))
+    ∙ sym (encodes-append n.0 (c ∷ ds))) in
+    let fronts : chars (take i bs) ≡ n.0 =
+    ap chars (sym n.1) ∙ chars-encodes n.0 (scalars-front n.0 (c ∷ ds) (ap all_scalars (sym whole) ∙ scalars-chars bs u)) in (
+      ap chars f ∙ fronts ∙ sym (before-found t n.0 c ds n.2 h.1) ∙ ap (before_first t) (sym whole),
+      ap chars b ∙ sym (after-found t n.0 c ds n.2 h.1) ∙ ap (after_first t) (sym whole),
+    )
+
+pub cut_none : (t : ℕ → Bool) (bs : List ℕ) → IsUtf8 bs → NoCharPasses t bs → (chars bs ≡ before_first t (chars bs)) × ([] ≡ after_first t (chars bs))
+cut_none t bs u n =
+    let same : n.0 ≡ chars bs = chars_from_encodes n.0 bs u n.1 in
+    let at : position_or_len t (chars bs) ≡ length (chars bs) = ap (position_or_len t) (sym same) ∙ position-none t n.0 n.2 ∙ ap length same in (
+      sym (ap (λ k. take k (chars bs)) at ∙ take_all (length (chars bs)) (chars bs) (omega arith)),
+      sym (ap (λ k. drop (k + 1) (chars bs)) at ∙ drop_all (length (chars bs) + 1) (chars bs) (omega arith)),
+    )
+
+-- Blanks dropped from the front.
+abbrev pub CutsBlank : List ℕ → Option ℕ → Type 0
+CutsBlank s r = (k : ℕ → Bool) → ((c : ℕ) → is_blank c ≡ k c) → FindsPrefixBy k s r
+
+skip-cut : (s : List ℕ) (ns : List ℕ) (r : List ℕ) → IsUtf8 s → CutsPrefixes CutsBlank s ns r → (skip_blanks (chars s) ≡ skip_blanks (chars r)) × IsUtf8 r
+skip-cut s [] r u h = (ap (λ t. skip_blanks (chars t)) (sym h), let P : List ℕ → Type 0 = λ t. IsUtf8 t in subst P (sym h) u)
+skip-cut s (n ∷ ns) r u h =
+    let m = h.0 in
+    let before = skip-cut s ns m u h.1 in
+    let found = h.2 is_blank (λ c. refl) in
+    let c = found.0 in
+    let e : chars m ≡ c ∷ chars (drop n m) = chars_past_char m (drop n m) c before.1 found.2.split in (
+      before.0 ∙ ap skip_blanks e ∙ (λ i. if (found.1 i) then skip_blanks (chars (drop n m)) else c ∷ chars (drop n m)) ∙ ap (λ t. skip_blanks (chars t)) (sym h.3),
+      let P : List ℕ → Type 0 = λ t. IsUtf8 t in subst P (sym h.3) (IsUtf8-past_char m (drop n m) c before.1 found.2.split),
+    )
+
+no_blank : (r cs : List ℕ) → IsUtf8 r → chars r ≡ cs → ((c : ℕ) (rest : List ℕ) → IsScalar c → r ≡ encode_utf8 c ++ rest → is_blank c ≡ false) → skip_blanks cs ≡ cs
+no_blank r [] u e h = refl
+no_blank r (c ∷ cs) u e h =
+    let scalars : (scalar c && all_scalars cs) ≡ true = sym (ap all_scalars e) ∙ scalars-chars r u in
+    let blank : is_blank c ≡ false = h c (encode_utf8_all cs) (both (scalar c) (all_scalars cs) scalars).0 (sym (encodes-chars r u) ∙ ap encode_utf8_all e) in
+    λ i. if (blank i) then skip_blanks cs else c ∷ cs
+
+all_cut : (r : List ℕ) (o : Option ℕ) → IsUtf8 r → CutsBlank r o → IfSome o (λ n. n ≡ 0) → skip_blanks (chars r) ≡ chars r
+all_cut r None u h z = no_blank r (chars r) u refl (h is_blank (λ c. refl))
+all_cut r (Some n) u h z = let found = h is_blank (λ c. refl) in absurd (omega (arith, len_utf8_bounds found.0, found.2.ends))
+
+pub skip_trim : (s r : List ℕ) → IsUtf8 s → IsTrimStartMatches CutsBlank s r → chars r ≡ skip_blanks (chars s)
+skip_trim s r u h =
+    let cut = skip-cut s h.0.0 r u h.0.1 in
+    sym (cut.0 ∙ all_cut r h.1.0 cut.1 h.1.1 h.1.2)
+
+-- Choices counted up to a limit.
+pub cap_step : (a l r M : ℕ) → 65 ≤ M → min (min (min (a * l) M) 65 * r) 65 ≡ min (a * (l * r)) 65
+cap_step a l r M h = ⊎_elim low high (cases_lt (a * l) 66) where
+  low : a * l < 66 → min (min (min (a * l) M) 65 * r) 65 ≡ min (a * (l * r)) 65
+  low s = let e : min (min (a * l) M) 65 ≡ a * l = omega arith in ap (λ n. min (n * r) 65) e ∙ ap (λ n. min n 65) (mul_assoc a l r)
+
+  times : (x s : ℕ) → 66 ≤ x → min (65 * s) 65 ≡ min (x * s) 65
+  times x zero g = let e : x * 0 ≡ 0 = omega arith in ap (λ n. min n 65) (sym e)
+  times x (suc s) g =
+      let one : 1 ≤ suc s = omega arith in
+      let p : 65 * 1 ≤ 65 * suc s = mul-le-mul_left 65 one in
+      let q : x * 1 ≤ x * suc s = mul-le-mul_left x one in
+      omega arith
+
+  high : 66 ≤ a * l → min (min (min (a * l) M) 65 * r) 65 ≡ min (a * (l * r)) 65
+  high g = let e : min (min (a * l) M) 65 ≡ 65 = omega arith in ap (λ n. min (n * r) 65) e ∙ times (a * l) r g ∙ ap (λ n. min n 65) (mul_assoc a l r)
+
+pub brace_counted : (ps : List Part) (i : ℕ) (p : Part) (cs : List (List Piece)) (count more M T : ℕ) → drop i ps ≡ p ∷ drop (i + 1) ps → p ≡ Brace cs
+    → more ≡ min (min (count * length cs) M) 65 → 65 ≤ M → min (count * choice_count (drop i ps)) 65 ≡ T
+    → (more ≤ 65) × (min (more * choice_count (drop (i + 1) ps)) 65 ≡ T)
+brace_counted ps i p cs count more M T e is m h t = (
+  omega arith,
+  ap (λ n. min (n * choice_count (drop (i + 1) ps)) 65) m
+      ∙ cap_step count (length cs) (choice_count (drop (i + 1) ps)) M h
+      ∙ ap (λ q. min (count * choice_count (q ∷ drop (i + 1) ps)) 65) (sym is) ∙ ap (λ qs. min (count * choice_count qs) 65) (sym e) ∙ t,
+)
+
+pub one_counted : (ps : List Part) (i : ℕ) (p : Part) (a : Piece) (count more T : ℕ) → drop i ps ≡ p ∷ drop (i + 1) ps → p ≡ One a
+    → more ≡ count → count ≤ 65 → min (count * choice_count (drop i ps)) 65 ≡ T
+    → (more ≤ 65) × (min (more * choice_count (drop (i + 1) ps)) 65 ≡ T)
+one_counted ps i p a count more T e is m h t = (
+  omega arith,
+  ap (λ n. min (n * choice_count (drop (i + 1) ps)) 65) m
+      ∙ ap (λ q. min (count * choice_count (q ∷ drop (i + 1) ps)) 65) (sym is) ∙ ap (λ qs. min (count * choice_count qs) 65) (sym e) ∙ t,
+)
+
+-- An item of a list in turn.
+pub next_item : {X : Type 0} (xs : List X) (i : ℕ) (x : X) → i < length xs → x ≡ get_or xs i x → drop i xs ≡ x ∷ drop (i + 1) xs
+next_item xs i x l e = drop_more xs i x l ∙ ap (λ y. y ∷ drop (i + 1) xs) (sym e)
+
+-- Characters in turn.
+pub next_character : (cs ys : List ℕ) (c : ℕ) → (length ys < length cs) × (c ≡ get_or cs (length ys) c)
+    → drop (length ys) cs ≡ c ∷ drop (length (ys ++ c ∷ [])) cs
+next_character cs ys c h =
+    drop_more cs (length ys) c h.0 ∙ (λ i. sym h.1 i ∷ drop (sym (length_push ys c) i) cs)
+
+pub token_escaped : (ts : List Token) (c : ℕ) (old more whole : List ℕ) → is_special c ≡ true → old ≡ c ∷ more
+    → ts ++ tokens true old ≡ tokens false whole → (ts ++ Escaped c ∷ []) ++ tokens false more ≡ tokens false whole
+token_escaped ts c old more whole s e h =
+    append_assoc ts (Escaped c ∷ []) (tokens false more)
+    ∙ (λ i. ts ++ (if (sym s i) then Escaped c ∷ tokens false more else Stray ∷ [])) ∙ ap (λ t. ts ++ tokens true t) (sym e) ∙ h
+
+pub token_stray : (ts : List Token) (c : ℕ) (old more whole : List ℕ) → is_special c ≡ false → old ≡ c ∷ more
+    → ts ++ tokens true old ≡ tokens false whole → ts ++ Stray ∷ [] ≡ tokens false whole
+token_stray ts c old more whole s e h =
+    (λ i. ts ++ (if (sym s i) then Escaped c ∷ tokens false more else Stray ∷ [])) ∙ ap (λ t. ts ++ tokens true t) (sym e) ∙ h
+
+pub token_slash : (ts : List Token) (c : ℕ) (old more whole : List ℕ) → (c == 92) ≡ true → old ≡ c ∷ more
+    → ts ++ tokens false old ≡ tokens false whole → ts ++ tokens true more ≡ tokens false whole
+token_slash ts c old more whole s e h =
+    (λ i. ts ++ (if (sym s i) then tokens true more else Plain c ∷ tokens false more)) ∙ ap (λ t. ts ++ tokens false t) (sym e) ∙ h
+
+pub token_plain : (ts : List Token) (c : ℕ) (old more whole : List ℕ) → (c == 92) ≡ false → old ≡ c ∷ more
+    → ts ++ tokens false old ≡ tokens false whole → (ts ++ Plain c ∷ []) ++ tokens false more ≡ tokens false whole
+token_plain ts c old more whole s e h =
+    append_assoc ts (Plain c ∷ []) (tokens false more)
+    ∙ (λ i. ts ++ (if (sym s i) then tokens true more else Plain c ∷ tokens false more)) ∙ ap (λ t. ts ++ tokens false t) (sym e) ∙ h
+
+pub token_end : (ts : List Token) (b : Bool) (rest whole : List ℕ) → b ≡ true → rest ≡ [] → ts ++ tokens b rest ≡ tokens false whole
+    → ts ++ Stray ∷ [] ≡ tokens false whole
+token_end ts b rest whole e n h = (λ i. ts ++ tokens (sym e i) (sym n i)) ∙ h
+
+pub token_all : (ts : List Token) (b : Bool) (rest whole : List ℕ) → b ≡ false → rest ≡ [] → ts ++ tokens b rest ≡ tokens false whole
+    → ts ≡ tokens false whole
+token_all ts b rest whole e n h = sym (append-nil ts) ∙ (λ i. ts ++ tokens (sym e i) (sym n i)) ∙ h
+
+-- The end of a set.
+pub set_more : (in_name : Bool) (set : List Token) (t : Token) (ts old : List Token) → is_plain 93 t ≡ false → old ≡ t ∷ ts
+    → signs in_name (Some set) old ≡ signs in_name (Some (set ++ t ∷ [])) ts
+set_more in_name set t ts old h e =
+    ap (signs in_name (Some set)) e ∙ (λ i. if (h i) then set_sign set true ∷ signs in_name None ts else signs in_name (Some (set ++ t ∷ [])) ts)
+
+pub set_closed : (in_name : Bool) (set : List Token) (t : Token) (ts old : List Token) → is_plain 93 t ≡ true → old ≡ t ∷ ts
+    → signs in_name (Some set) old ≡ set_sign set true ∷ signs in_name None ts
+set_closed in_name set t ts old h e =
+    ap (signs in_name (Some set)) e ∙ (λ i. if (h i) then set_sign set true ∷ signs in_name None ts else signs in_name (Some (set ++ t ∷ [])) ts)
+
+-- Ranges.
+pub range-push : (low k : ℕ) → range_with_len low (k + 1) ≡ range_with_len low k ++ (low + k) ∷ []
+range-push low k = ap (range_with_len low) (add-one k) ∙ go low k where
+  go : (a n : ℕ) → range_with_len a (suc n) ≡ range_with_len a n ++ (a + n) ∷ []
+  go a zero = ap (λ x. x ∷ []) (omega arith)
+  go a (suc n) = ap (λ xs. a ∷ xs) (go (a + 1) n ∙ ap (λ x. range_with_len (a + 1) n ++ x ∷ []) (omega arith))
+
+pub back_utf8 : (t : ℕ → Bool) (bs back : List ℕ) (i j : ℕ) → IsUtf8 bs → back ≡ drop j bs → HasPassingCharAt t bs i j → IsUtf8 back
+back_utf8 t bs back i j u b h =
+    let v : IsUtf8 (drop j bs) = IsUtf8-drop bs j u (let P : ℕ → Type 0 = λ k. IsCharBoundary bs k in subst P (sym h.2.ends) h.2.after) in
+    let P : List ℕ → Type 0 = λ xs. IsUtf8 xs in subst P (sym b) v
+
+-- Members of a set.
+pub added : (r rest whole : Result (List ℕ) GlobFault) (old new : List ℕ) → Adds r old new → whole ≡ then_members (Ok old) (then_members r rest)
+    → whole ≡ then_members (Ok new) rest
+added (Ok xs) (Ok ys) whole old new a h = h ∙ ap Ok (sym (append_assoc old xs ys) ∙ ap (λ zs. zs ++ ys) (sym a))
+added (Ok xs) (Err e) whole old new a h = h
+added (Err e) rest whole old new a h = absurd a
+
+pub add_failed : (r rest whole : Result (List ℕ) GlobFault) (old : List ℕ) (e : GlobFault) → r ≡ Err e → whole ≡ then_members (Ok old) (then_members r rest)
+    → whole ≡ Err e
+add_failed r rest whole old e is h = h ∙ ap (λ q. then_members (Ok old) (then_members q rest)) is
+
+pub members_range : (ts : List Token) (a b c : Token) (more : List Token) → ts ≡ a ∷ b ∷ c ∷ more → is_plain 45 b ≡ true
+    → members ts ≡ then_members (range_member a c) (members more)
+members_range ts a b c more e h =
+    ap members e ∙ (λ i. if (h i) then then_members (range_member a c) (members more) else then_members (member a) (members (b ∷ c ∷ more)))
+
+pub members_one : (ts : List Token) (a : Token) (more : List Token) → ts ≡ a ∷ more
+    → ((b c : Token) (rest : List Token) → more ≡ b ∷ c ∷ rest → is_plain 45 b ≡ false)
+    → members ts ≡ then_members (member a) (members more)
+members_one ts a [] e h = ap members e
+members_one ts a (b ∷ []) e h = ap members e
+members_one ts a (b ∷ c ∷ rest) e h =
+    ap members e ∙ (λ i. if (h b c rest refl i) then then_members (range_member a c) (members rest) else then_members (member a) (members (b ∷ c ∷ rest)))
+
+three_behind : (set : List Token) (i : ℕ) (d : Token) → i + 2 < length set
+    → drop i set ≡ get_or set i d ∷ get_or set (i + 1) d ∷ get_or set (i + 2) d ∷ drop (i + 3) set
+three_behind set i d l =
+    let two : i + 1 + 1 ≡ i + 2 = omega arith in
+    let three : i + 2 + 1 ≡ i + 3 = omega arith in
+    drop_more set i d (omega arith)
+    ∙ ap (λ xs. get_or set i d ∷ xs) (drop_more set (i + 1) d (omega arith)
+    ∙ (λ k. get_or set (i + 1) d ∷ drop (two k) set)
+    ∙ ap (λ xs. get_or set (i + 1) d ∷ xs) (drop_more set (i + 2) d l ∙ (λ k. get_or set (i + 2) d ∷ drop (three k) set)))
+
+pub range_step : (set : List Token) (i : ℕ) (old new : List ℕ) (d : Token) → i + 2 < length set → is_plain 45 (get_or set (i + 1) d) ≡ true
+    → Adds (range_member (get_or set i d) (get_or set (i + 2) d)) old new
+    → members set ≡ then_members (Ok old) (members (drop i set)) → members set ≡ then_members (Ok new) (members (drop (i + 3) set))
+range_step set i old new d l h a e =
+    added (range_member (get_or set i d) (get_or set (i + 2) d)) (members (drop (i + 3) set)) (members set) old new a
+    (e ∙ ap (then_members (Ok old)) (members_range (drop i set) (get_or set i d) (get_or set (i + 1) d) (get_or set (i + 2) d) (drop (i + 3) set) (three_behind set i d l) h))
+
+one_behind : (set : List Token) (i : ℕ) (d : Token) → i < length set → (i + 2 < length set → is_plain 45 (get_or set (i + 1) d) ≡ false)
+    → members (drop i set) ≡ then_members (member (get_or set i d)) (members (drop (i + 1) set))
+one_behind set i d l h =
+    members_one (drop i set) (get_or set i d) (drop (i + 1) set) (drop_more set i d l)
+    (λ b c rest e.
+    let n : length (drop (i + 1) set) ≡ length (b ∷ c ∷ rest) = ap length e in
+    let m : length (drop (i + 1) set) ≡ length set - (i + 1) = length-drop (i + 1) set in
+    let within : i + 2 < length set = omega arith in
+    let first : get_or set (i + 1) d ∷ drop (i + 1 + 1) set ≡ b ∷ c ∷ rest = sym (drop_more set (i + 1) d (omega arith)) ∙ e in
+    let same : get_or set (i + 1) d ≡ b = cc in
+    ap (is_plain 45) (sym same) ∙ h within)
+
+pub one_step : (set : List Token) (i : ℕ) (old new : List ℕ) (d : Token) → i < length set → (i + 2 < length set → is_plain 45 (get_or set (i + 1) d) ≡ false)
+    → Adds (member (get_or set i d)) old new
+    → members set ≡ then_members (Ok old) (members (drop i set)) → members set ≡ then_members (Ok new) (members (drop (i + 1) set))
+one_step set i old new d l h a e =
+    added (member (get_or set i d)) (members (drop (i + 1) set)) (members set) old new a (e ∙ ap (then_members (Ok old)) (one_behind set i d l h))
+
+pub one_failed : (set : List Token) (i : ℕ) (old : List ℕ) (d : Token) (f : GlobFault) → i < length set → (i + 2 < length set → is_plain 45 (get_or set (i + 1) d) ≡ false)
+    → member (get_or set i d) ≡ Err f → members set ≡ then_members (Ok old) (members (drop i set)) → members set ≡ Err f
+one_failed set i old d f l h m e =
+    add_failed (member (get_or set i d)) (members (drop (i + 1) set)) (members set) old f m (e ∙ ap (then_members (Ok old)) (one_behind set i d l h))
+
+-- Parts in turn.
+abbrev pub then_parts : List Part → Result (List Part) GlobFault → Result (List Part) GlobFault
+then_parts ps rest = rest >>= λ qs. Ok (ps ++ qs)
+
+pub part_added : (whole now rest : Result (List Part) GlobFault) (ps more : List Part) (p : Part) → whole ≡ then_parts ps now → now ≡ then_part p rest
+    → more ≡ ps ++ p ∷ [] → whole ≡ then_parts more rest
+part_added whole now rest ps more p h e m =
+    h ∙ ap (then_parts ps) e ∙ one_more rest ∙ ap (λ qs. then_parts qs rest) (sym m) where
+      one_more : (r : Result (List Part) GlobFault) → then_parts ps (then_part p r) ≡ then_parts (ps ++ p ∷ []) r
+      one_more (Ok qs) = ap Ok (sym (append_assoc ps (p ∷ []) qs))
+      one_more (Err e) = refl
+
+pub set_fault : (ss rest : List (Result Sign GlobFault)) (set : List Token) (closed : Bool) (e : GlobFault) → ss ≡ set_sign set closed ∷ rest
+    → set_piece set closed ≡ Err e → Faults e ss
+set_fault ss rest set closed e h f = (rest, h ∙ ap (λ r. (r >>= λ p. Ok (Means p)) ∷ rest) f)
+
+pub short_list : {X : Type 0} (xs : List X) (x y : X) (rest : List X) → length xs ≤ 1 → xs ≡ x ∷ y ∷ rest → ⊥
+short_list xs x y rest l e = let n : length xs ≡ length (x ∷ y ∷ rest) = ap length e in omega arith
+
+-- A part from the next sign.
+pub sign_part : (n a b : Bool) (old mid : List Token) (s : Sign) (whole rest : Result (List Part) GlobFault) (ps more : List Part) (p : Part)
+    → a ≡ n → b ≡ a → signs a None old ≡ Ok s ∷ signs b None mid
+    → whole ≡ then_parts ps (parts None (signs n None old)) → parts None (Ok s ∷ signs n None mid) ≡ then_part p rest
+    → more ≡ ps ++ p ∷ [] → whole ≡ then_parts more rest
+sign_part n a b old mid s whole rest ps more p an ba e h f m =
+    part_added whole (parts None (signs n None old)) rest ps more p h
+    ((λ i. parts None (signs (sym an i) None old)) ∙ ap (parts None) e ∙ (λ i. parts None (Ok s ∷ signs ((ba ∙ an) i) None mid)) ∙ f) m

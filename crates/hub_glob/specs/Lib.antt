@@ -1,0 +1,5 @@
+pub mod Examples
+pub mod Glob
+pub mod Reading
+pub mod Specification
+pub mod Sweep

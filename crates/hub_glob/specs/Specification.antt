@@ -1,0 +1,20 @@
+-- What a path specification says: its kind, and its pattern.
+use Rattle.std.specs.Prelude.{ℕ, ◌+◌, List, [], ◌∷◌, length, sum_by}
+use Rattle.hub_glob.specs.declared.piece.Piece.{Piece}
+use Rattle.hub_glob.specs.declared.piece.Part.{Part}
+use Rattle.hub_glob.specs.declared.piece.Part.TheVariants.{One, Brace}
+use Rattle.hub_glob.specs.declared.path_spec.Kind.{Kind}
+
+pub record Specification : Type 0 where
+  pub kind : Kind
+  pub pattern : List Part
+
+-- How many pieces the choices of a brace have together, and how many a pattern has, its choices all counted.
+abbrev pub choices_size : List (List Piece) → ℕ
+choices_size [] = 0
+choices_size (c ∷ cs) = length c + choices_size cs
+
+abbrev pub pattern_size : List Part → ℕ
+pattern_size [] = 0
+pattern_size (One p ∷ ps) = 1 + pattern_size ps
+pattern_size (Brace cs ∷ ps) = choices_size cs + pattern_size ps

@@ -1,0 +1,199 @@
+//! A pattern matched with a text character by character, by the set of places at which a match may stand.
+ghost use Rattle.std.specs.Prelude.{◌≡◌, ◌+◌, ◌≤◌, ◌<◌, [], ◌∷◌, ◌++◌, length, chars};
+ghost use Rattle.hub_glob.specs.Specification.{choices_size, pattern_size};
+ghost use Rattle.hub_glob.specs.Sweep as sweep;
+ghost use Rattle.arrayvec.specs.ArrayVec.{array_vec_len};
+
+use crate::piece::{PATTERN_CHARACTERS, Part, Piece};
+use arrayvec::ArrayVec;
+use hub_path::Items;
+use std::marker::Model;
+
+/// A character of a text, and whether it stands at the start of a component.
+#[derive(Clone, Copy)]
+pub(crate) struct Next {
+    pub(crate) character: char,
+    pub(crate) first: bool,
+}
+
+/// Whether a match may stand at a place: of the text before a character, and of the text with it.
+#[derive(Clone, Copy)]
+pub(crate) struct Carry {
+    pub(crate) before: bool,
+    pub(crate) after: bool,
+}
+
+/// Before which pieces a match may stand, in the order of the pattern.
+type Places = ArrayVec<bool, PATTERN_CHARACTERS>;
+
+/// Whether a piece takes that character next.
+fn takes(piece: &Piece, next: Next) -> bool
+    ensures { result ≡ sweep.takes next piece.now }
+{
+    match piece {
+        Piece::Lit(c) => next.character == *c,
+        Piece::Any => next.character != '/',
+        Piece::Run => next.character != '/' && !(next.first && next.character == '.'),
+        Piece::OneOf(set) => set.as_slice().contains(&next.character),
+    }
+}
+
+fn is_star(piece: &Piece) -> bool
+    ensures { result ≡ sweep.is_star piece.now }
+{
+    matches!(piece, Piece::Run)
+}
+
+/// Sweeps one piece: adds its place to those of the text with the character.
+fn sweep_piece(next: Next, piece: &Piece, old: &[bool], new: &mut Places, carry: Carry) -> Carry
+    requires { array_vec_len new.old < PATTERN_CHARACTERS }
+    ensures len { array_vec_len new.new ≡ array_vec_len new.old + 1 }
+    ensures swept { sweep.swept_piece next old.now piece.now (record { live = new.old.items; carry = carry })
+        ≡ record { live = new.new.items; carry = result } }
+{
+    let here = carry.before || old.get(new.len()).copied().unwrap_or(false);
+    let taken = here && takes(piece, next);
+    let is_star = is_star(piece);
+    new.push(carry.after || is_star && taken);
+    Carry {
+        before: is_star && here,
+        after: !is_star && taken,
+    }
+}
+
+/// Sweeps the pieces one after another.
+fn sweep_pieces(
+    next: Next,
+    pieces: &[Piece],
+    old: &[bool],
+    new: &mut Places,
+    mut carry: Carry,
+) -> Carry
+    requires { array_vec_len new.old + length pieces.now ≤ PATTERN_CHARACTERS }
+    ensures len { array_vec_len new.new ≡ array_vec_len new.old + length pieces.now }
+    ensures swept { sweep.swept_pieces next old.now pieces.now (record { live = new.old.items; carry = carry })
+        ≡ record { live = new.new.items; carry = result } }
+{
+    for piece in pieces {
+        carry = sweep_piece(next, piece, old, new, carry);
+    }
+    carry
+}
+
+/// Sweeps the choices of a brace, each entered as the brace is.
+fn sweep_choices(
+    next: Next,
+    choices: &[Items<Piece>],
+    old: &[bool],
+    new: &mut Places,
+    entry: Carry,
+) -> Carry
+    requires { array_vec_len new.old + choices_size choices.now ≤ PATTERN_CHARACTERS }
+    ensures len { array_vec_len new.new ≡ array_vec_len new.old + choices_size choices.now }
+    ensures swept { sweep.swept_choices next old.now entry choices.now (record { live = new.old.items; carry = sweep.nowhere })
+        ≡ record { live = new.new.items; carry = result } }
+{
+    let mut carry = Carry {
+        before: false,
+        after: false,
+    };
+    for choice in choices {
+        let end = sweep_pieces(next, choice.as_slice(), old, new, entry);
+        carry = Carry {
+            before: carry.before || end.before,
+            after: carry.after || end.after,
+        };
+    }
+    carry
+}
+
+/// Sweeps the parts of a pattern.
+fn sweep_parts(
+    next: Next,
+    parts: &[Part],
+    old: &[bool],
+    new: &mut Places,
+    mut carry: Carry,
+) -> Carry
+    requires { array_vec_len new.old + pattern_size parts.now ≤ PATTERN_CHARACTERS }
+    ensures len { array_vec_len new.new ≡ array_vec_len new.old + pattern_size parts.now }
+    ensures swept { sweep.swept_parts next old.now parts.now (record { live = new.old.items; carry = carry })
+        ≡ record { live = new.new.items; carry = result } }
+{
+    for part in parts {
+        carry = match part {
+            Part::One(piece) => sweep_piece(next, piece, old, new, carry),
+            Part::Brace(choices) => sweep_choices(next, choices.as_slice(), old, new, carry),
+        };
+    }
+    carry
+}
+
+/// How a pattern matches the text read so far.
+#[derive(Drop)]
+pub(crate) struct Walk {
+    live: Places,
+    fresh: bool,
+    ended: bool,
+    first: bool,
+}
+
+impl Model for Walk {
+    ghost use Rattle.hub_glob.specs.Sweep.{Standing};
+
+    ghost Value = { Standing };
+
+    ghost view = { λ w. record { live = w.live.items; fresh = w.fresh; ended = w.ended; first = w.first } };
+}
+
+impl Walk {
+    /// Before any text.
+    pub(crate) fn new() -> Walk
+        ensures { result ≡ sweep.at_start }
+    {
+        Walk {
+            live: ArrayVec::new(),
+            fresh: true,
+            ended: false,
+            first: true,
+        }
+    }
+
+    /// Reads one more character; whether the pattern matches the text before it.
+    fn push(&mut self, parts: &[Part], character: char) -> bool
+        requires { pattern_size parts.now ≤ PATTERN_CHARACTERS }
+        ensures matched { result ≡ sweep.is_matched parts.now self.old character }
+        ensures pushed { self.new ≡ sweep.pushed parts.now self.old character }
+    {
+        let next = Next {
+            character,
+            first: self.first,
+        };
+        let entry = Carry {
+            before: self.fresh,
+            after: false,
+        };
+        let mut live = ArrayVec::new();
+        let end = sweep_parts(next, parts, self.live.as_slice(), &mut live, entry);
+        let matched = end.before || self.ended;
+        *self = Walk {
+            live,
+            fresh: false,
+            ended: end.after,
+            first: character == '/',
+        };
+        matched
+    }
+
+    /// Reads a name and the `/` behind it; whether the pattern matches the text before that `/`.
+    pub(crate) fn push_name(&mut self, parts: &[Part], name: &str) -> bool
+        requires { pattern_size parts.now ≤ PATTERN_CHARACTERS }
+        ensures matched { result ≡ sweep.is_matched parts.now (sweep.pushed_all parts.now self.old (chars name.now)) 47 }
+        ensures pushed { self.new ≡ sweep.pushed_all parts.now self.old (chars name.now ++ 47 ∷ []) }
+    {
+        for character in name.chars() {
+            self.push(parts, character);
+        }
+        self.push(parts, '/')
+    }
+}

@@ -1,19 +1,19 @@
 -- The steps of reading a specification.
-use Rattle.std.proofs.Common.{◌≡◌, ℕ, suc, zero, ◌+◌, ◌-◌, ◌*◌, ◌<◌, ◌≤◌, min, Bool, true, false, not, ◌&&◌, ◌||◌, ◌==◌, cond, List, [], ◌∷◌, ◌++◌, length, take, drop, get_or, Option, Some, None, Result, Ok, Err, refl, sym, ap, ◌∙◌, arith, add-one, lit<, append_assoc, append-nil, ⊎_elim, subst, ◌⊎◌, inl, inr}
+use Rattle.std.proofs.Common.{◌≡◌, ℕ, suc, zero, ◌+◌, ◌-◌, ◌*◌, ◌<◌, ◌≤◌, min, Bool, true, false, not, ◌&&◌, ◌||◌, ◌==◌, cond, List, [], ◌∷◌, ◌++◌, length, take, drop, get_or, Option, Some, None, Result, Ok, Err, refl, sym, ap, ◌∙◌, arith, add-one, lit<, append_assoc, append-nil, ⊎_elim, subst, Decides, ◌⊎◌, inl, inr}
 use Rattle.std.specs.Prelude.{nat_lt, nat_eq, codes, bytes_eq, if◌then◌else◌, MatchOption}
 use Rattle.std.specs.List.{list_all, before_first, after_first, position_or_len, range_with_len}
 use Rattle.std.specs.Prelude.{IfSome}
 use Rattle.std.specs.Char.{IsScalar, encode_utf8}
 use Rattle.std.specs.Str.{IsUtf8, IsAscii, IsCharBoundary, chars, NoCharPasses, NonePass, encode_utf8_all, all_scalars}
 use Rattle.std.specs.Str.Pattern.{HasPassingCharAt, FindsBy, FindsPrefixBy, CutsPrefixes, IsFullyTrimmed, IsTrimStartMatches}
-use Rattle.std.proofs.lemmas.Str.{encodes-chars, encodes-IsAscii, chars-IsAscii, chars-append, chars_past_char, chars_from_encodes, IsUtf8-past_char, IsUtf8-drop, chars-nil, chars-encodes, encodes-append, encodes_same, scalars-chars, len_utf8_bounds}
+use Rattle.std.proofs.lemmas.Str.{encodes-chars, encodes-IsAscii, chars-IsAscii, chars-append, chars_past_char, chars_from_encodes, IsUtf8-past_char, IsUtf8-drop, chars-nil, chars-encodes, encodes-append, encodes_same, scalars-chars, len_utf8_bounds, char_from_byte, byte_from_char}
 use lib.Utf8.{scalar}
 use Rattle.std.proofs.lemmas.List.{drop_more, length_push, take-append-drop, drop_all, take_all, take_at, drop_at, length-drop}
 use Rattle.std.proofs.lemmas.Bool.{cases_lt}
-use Rattle.std.proofs.lemmas.Bool.Decides.{same_from_decides, Decides-like, nat_tests}
+use Rattle.std.proofs.lemmas.Bool.Decides.{same_from_decides, Decides-like, Decides-eqb, nat_tests}
 use Rattle.std.proofs.lemmas.Slice.Eq.{bytes_eq-Decides}
 use Rattle.std.proofs.Math.Nat.{mul_assoc, mul-le-mul_left}
-use borrow.Author.Tests.{ltb-true}
+use borrow.Author.Tests.{ltb-true, ltb-false}
 use Rattle.hub_glob.specs.declared.fault.GlobFault.{GlobFault}
 use Rattle.hub_glob.specs.declared.path_spec.Kind.{Kind}
 use Rattle.hub_glob.specs.declared.path_spec.Kind.TheVariants as kind
@@ -25,7 +25,9 @@ use Rattle.hub_glob.specs.declared.reading.Token.{Token}
 use Rattle.hub_glob.specs.declared.reading.Token.TheVariants.{Plain, Escaped, Stray}
 use Rattle.hub_glob.specs.declared.reading.Sign.{Sign}
 use Rattle.hub_glob.specs.declared.reading.Sign.TheVariants.{Means, Open, Comma, Close}
-use Rattle.hub_glob.specs.Reading.{tokens, is_special, is_plain, is_blank, skip_blanks, kind_reading, signs, set_sign, members, member, range_member, then_members, choice_count, Adds, ◌>>=◌, then_part, set_piece, Faults, parts}
+use Rattle.hub_glob.specs.declared.piece.Piece.TheVariants.{Lit}
+use Rattle.hub_glob.specs.Specification.{choices_size, pattern_size}
+use Rattle.hub_glob.specs.Reading.{character_sign, tokens, is_special, is_plain, is_blank, skip_blanks, kind_reading, signs, set_sign, members, member, range_member, then_members, choice_count, Adds, ◌>>=◌, then_part, set_piece, Faults, parts, starts_with_slash, parts_of, few_choices, pattern_reading, is_name_kind, spec_reading}
 
 both : (a b : Bool) → (a && b) ≡ true → (a ≡ true) × (b ≡ true)
 both true b h = (refl, h)
@@ -56,6 +58,33 @@ kind_word bs u = λ i. kind_by
     (word_is bs (codes "Path") u (IsAscii-from_test (codes "Path") refl) i)
     (word_is bs (codes "BelowPath") u (IsAscii-from_test (codes "BelowPath") refl) i)
     (word_is bs (codes "Regex") u (IsAscii-from_test (codes "Regex") refl) i)
+
+nil_test : (xs : List ℕ) → (length xs == 0) ≡ bytes_eq xs []
+nil_test [] = refl
+nil_test (x ∷ xs) = grind (arith, nat_tests)
+
+pub blank_text : (bs : List ℕ) → IsUtf8 bs → (length bs == 0) ≡ (length (chars bs) == 0)
+blank_text bs u = nil_test bs ∙ word_is bs [] u (IsAscii-from_test [] refl) ∙ sym (nil_test (chars bs))
+
+slash_first : (bs cs : List ℕ) → IsUtf8 bs → chars bs ≡ cs → (r : Bool) → Decides r (get_or bs 0 0 ≡ 47) → r ≡ starts_with_slash cs
+slash_first bs [] u e r h =
+    let none : bs ≡ [] = sym (encodes-chars bs u) ∙ ap encode_utf8_all e in
+    let first : get_or bs 0 0 ≡ 0 = ap (λ xs. get_or xs 0 0) none in
+    no_slash r (λ t. let z : 0 ≡ 47 = sym first ∙ h.0 t in absurd (omega arith)) where
+      no_slash : (b : Bool) → (b ≡ true → ⊥) → b ≡ false
+      no_slash true f = absurd (f refl)
+      no_slash false f = refl
+slash_first bs (c ∷ cs) u e r h =
+    let whole : bs ≡ encode_utf8 c ++ encode_utf8_all cs = sym (encodes-chars bs u) ∙ ap encode_utf8_all e in
+    same_from_decides r (c == 47) h
+    (Decides-like (c == 47) (λ b. byte_from_char bs (encode_utf8_all cs) c whole (omega arith) ∙ b) (λ b. char_from_byte bs (encode_utf8_all cs) c whole (omega arith) (some bs b) ∙ b) (Decides-eqb c 47))
+  where
+    some : (xs : List ℕ) → get_or xs 0 0 ≡ 47 → 0 < length xs
+    some [] b = absurd (omega arith)
+    some (x ∷ xs) b = omega arith
+
+pub slash_text : (bs : List ℕ) (r : Bool) → IsUtf8 bs → Decides r (get_or bs 0 0 ≡ 47) → r ≡ starts_with_slash (chars bs)
+slash_text bs r u h = slash_first bs (chars bs) u refl r h
 
 -- The first word, and what stands behind it.
 position-found : (t : ℕ → Bool) (cs : List ℕ) (c : ℕ) (ds : List ℕ) → NonePass t cs → t c ≡ true → position_or_len t (cs ++ c ∷ ds) ≡ length cs
@@ -328,3 +357,79 @@ pub sign_part : (n a b : Bool) (old mid : List Token) (s : Sign) (whole rest : R
 sign_part n a b old mid s whole rest ps more p an ba e h f m =
     part_added whole (parts None (signs n None old)) rest ps more p h
     ((λ i. parts None (signs (sym an i) None old)) ∙ ap (parts None) e ∙ (λ i. parts None (Ok s ∷ signs ((ba ∙ an) i) None mid)) ∙ f) m
+
+-- How many pieces a pattern has.
+abbrev extra : Bool → ℕ
+extra true = 1
+extra false = 0
+
+cond_le : (b : Bool) {X : Type 0} (xs ys : List X) (n : ℕ) → length xs ≤ n → length ys ≤ n → length (if b then xs else ys) ≤ n
+cond_le true xs ys n h k = h
+cond_le false xs ys n h k = k
+
+tokens_length : (b : Bool) (cs : List ℕ) → length (tokens b cs) ≤ length cs + extra b
+tokens_length false [] = omega arith
+tokens_length true [] = omega arith
+tokens_length false (c ∷ cs) =
+    cond_le (c == 92) (tokens true cs) (Plain c ∷ tokens false cs) (length (c ∷ cs) + 0) (omega (arith, tokens_length true cs)) (omega (arith, tokens_length false cs))
+tokens_length true (c ∷ cs) =
+    cond_le (is_special c) (Escaped c ∷ tokens false cs) (Stray ∷ []) (length (c ∷ cs) + 1) (omega (arith, tokens_length false cs)) (omega arith)
+
+abbrev set_extra : Option (List Token) → ℕ
+set_extra None = 0
+set_extra (Some set) = 1
+
+signs_length : (n : Bool) (o : Option (List Token)) (ts : List Token) → length (signs n o ts) ≤ length ts + set_extra o
+signs_length n None [] = omega arith
+signs_length n (Some set) [] = omega arith
+signs_length n None (Stray ∷ ts) = omega arith
+signs_length n None (Escaped c ∷ ts) = omega (arith, signs_length n None ts)
+signs_length n None (Plain c ∷ ts) =
+    cond_le (c == 91) (signs n (Some []) ts) _ (length (Plain c ∷ ts) + 0) (omega (arith, signs_length n (Some []) ts))
+    (cond_le (c == 47 && n) (Err fault.SlashInName ∷ []) (Ok (character_sign c) ∷ signs n None ts) (length (Plain c ∷ ts) + 0) (omega arith) (omega (arith, signs_length n None ts)))
+signs_length n (Some set) (t ∷ ts) =
+    cond_le (is_plain 93 t) (set_sign set true ∷ signs n None ts) (signs n (Some (set ++ t ∷ [])) ts) (length (t ∷ ts) + 1)
+    (omega (arith, signs_length n None ts)) (omega (arith, signs_length n (Some (set ++ t ∷ [])) ts))
+
+abbrev open_size : Option (List (List Piece) × List Piece) → ℕ
+open_size None = 0
+open_size (Some b) = choices_size b.0 + length b.1
+
+choices_size-push : (done : List (List Piece)) (c : List Piece) → choices_size (done ++ c ∷ []) ≡ choices_size done + length c
+choices_size-push [] c = omega arith
+choices_size-push (d ∷ done) c = omega (arith, choices_size-push done c)
+
+then_part_ok : (p : Part) (r : Result (List Part) GlobFault) (ps : List Part) → then_part p r ≡ Ok ps → (qs : List Part) × (r ≡ Ok qs) × (ps ≡ p ∷ qs)
+then_part_ok p (Ok qs) ps h = (qs, refl, cc)
+then_part_ok p (Err e) ps h = cc
+
+sized : (p : Part) (r : Result (List Part) GlobFault) (ps : List Part) (m n : ℕ) → then_part p r ≡ Ok ps
+    → ((qs : List Part) → r ≡ Ok qs → pattern_size qs ≤ m) → pattern_size (p ∷ []) + m ≤ n → pattern_size ps ≤ n
+sized (One a) r ps m n h f l = let t = then_part_ok (One a) r ps h in let s : pattern_size ps ≡ 1 + pattern_size t.0 = ap pattern_size t.2 in omega (arith, f t.0 t.1)
+sized (Brace cs) r ps m n h f l = let t = then_part_ok (Brace cs) r ps h in let s : pattern_size ps ≡ choices_size cs + pattern_size t.0 = ap pattern_size t.2 in omega (arith, f t.0 t.1)
+
+parts_size : (o : Option (List (List Piece) × List Piece)) (ss : List (Result Sign GlobFault)) (ps : List Part) → parts o ss ≡ Ok ps
+    → pattern_size ps ≤ length ss + open_size o
+parts_size None [] ps h = let e : ps ≡ [] = cc in let s : pattern_size ps ≡ 0 = ap pattern_size e in omega arith
+parts_size (Some b) [] ps h = cc
+parts_size None (Err f ∷ ss) ps h = cc
+parts_size (Some b) (Err f ∷ ss) ps h = cc
+parts_size None (Ok (Means p) ∷ ss) ps h = sized (One p) (parts None ss) ps (length ss + 0) _ h (parts_size None ss) (omega arith)
+parts_size None (Ok Open ∷ ss) ps h = omega (arith, parts_size (Some ([], [])) ss ps h)
+parts_size None (Ok Comma ∷ ss) ps h = sized (One (Lit 44)) (parts None ss) ps (length ss + 0) _ h (parts_size None ss) (omega arith)
+parts_size None (Ok Close ∷ ss) ps h = sized (One (Lit 125)) (parts None ss) ps (length ss + 0) _ h (parts_size None ss) (omega arith)
+parts_size (Some (done, current)) (Ok (Means p) ∷ ss) ps h = omega (arith, parts_size (Some (done, current ++ p ∷ [])) ss ps h, length_push current p)
+parts_size (Some (done, current)) (Ok Open ∷ ss) ps h = cc
+parts_size (Some (done, current)) (Ok Comma ∷ ss) ps h = omega (arith, parts_size (Some (done ++ current ∷ [], [])) ss ps h, choices_size-push done current)
+parts_size (Some (done, current)) (Ok Close ∷ ss) ps h =
+    sized (Brace (done ++ current ∷ [])) (parts None ss) ps (length ss + 0) _ h (parts_size None ss) (omega (arith, choices_size-push done current))
+
+pub size_read : (in_name : Bool) (cs : List ℕ) (ps : List Part) → parts_of in_name cs ≡ Ok ps → pattern_size ps ≤ length cs
+size_read in_name cs ps h =
+    omega (arith, parts_size None (signs in_name None (tokens false cs)) ps h, signs_length in_name None (tokens false cs), tokens_length false cs)
+
+pub size_kept : (in_name : Bool) (cs : List ℕ) (ps : List Part) (long : Bool) → long ≡ nat_lt 200 (length cs) → long ≡ false → parts_of in_name cs ≡ Ok ps
+    → pattern_size ps ≤ 200
+size_kept in_name cs ps long e f h =
+    let l : length cs ≤ 200 = ltb-false 200 (length cs) (sym e ∙ f) in
+    omega (arith, size_read in_name cs ps h)

@@ -1,3 +1,4 @@
+pub mod Choosing
 pub mod Examples
 pub mod Glob
 pub mod Reading

@@ -1,6 +1,7 @@
 //! Path specifications: which paths an `ignore = Name *.tmp` means.
 #![tactic(auto)]
 
+mod choosing;
 mod fault;
 pub mod laws;
 mod path_spec;
@@ -11,3 +12,6 @@ mod sweep;
 pub use fault::GlobFault;
 pub use path_spec::{Kind, PathSpec};
 pub use piece::{PATTERN_CHARACTERS, PATTERN_CHOICES, Part, Piece};
+
+#[cfg(test)]
+mod tests;

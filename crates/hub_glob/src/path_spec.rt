@@ -1,12 +1,17 @@
-ghost use Rattle.std.specs.Prelude.{◌≡◌, ◌<◌, ◌≤◌, true, length, take};
+ghost use Rattle.std.specs.Prelude.{◌≡◌, ◌<◌, ◌≤◌, ◌⊎◌, true, length, take, chars, Ok, Err, IfOk, IfErr};
 ghost use Rattle.std.specs.List.{list_any};
 ghost use Rattle.hub_path.specs.Path.{last_name, text_of, prefixes};
 ghost use Rattle.hub_glob.specs.Glob as glob;
 ghost use Rattle.hub_glob.specs.Specification.{pattern_size};
+ghost use Rattle.hub_glob.specs.Reading.{spec_reading};
 
-use crate::piece::{PATTERN_CHARACTERS, Part};
+use crate::choosing::choices_of;
+use crate::fault::GlobFault;
+use crate::piece::{PATTERN_CHARACTERS, Part, Piece};
+use crate::reading::{read_kind, read_pattern, split_kind};
 use crate::sweep::Walk;
 use hub_path::{Items, RelPath};
+use std::alloc::{AllocError, Global};
 use std::marker::Model;
 
 /// With what of a path a pattern is matched.
@@ -24,7 +29,7 @@ pub enum Kind {
 #[derive(Debug, Drop)]
 pub struct PathSpec {
     kind: Kind,
-    pattern: Items<Part>,
+    pattern: Vec<Part>,
 }
 
 impl Model for PathSpec {
@@ -34,12 +39,34 @@ impl Model for PathSpec {
 
     ghost Value = { Specification };
 
-    ghost view = { λ s. record { kind = s.kind; pattern = s.pattern } };
+    ghost view = { λ s. record { kind = s.kind; pattern = s.pattern.items } };
 
-    ghost invariant = { λ s. pattern_size s.pattern ≤ PATTERN_CHARACTERS };
+    ghost invariant = { λ s. pattern_size s.pattern.items ≤ PATTERN_CHARACTERS };
 }
 
 impl PathSpec {
+    /// Reads a specification: `Name`, `Path` or `BelowPath`, one or more spaces or tabs, and the pattern, which is the
+    /// rest of the text and has at most `PATTERN_CHARACTERS` characters, as written.
+    ///
+    /// In a pattern `?` is one character except `/`, `*` a sequence without `/`, `[ab-d]` one character of the set,
+    /// `{a,bb}` any one of the choices, and `\` makes one of `* ? [ ] { } , \` literal (Unison manual, "Path
+    /// Specification"; the escapes, and the limits, are this project's choice).
+    ///
+    /// The fault is the first of these that applies: `RegexLeftOut` or `NoKind`, `EmptyPattern`, `TooLong`,
+    /// `LeadingSlash`, then the first from the left of `BadEscape`, `NegatedSet`, `BadRange`, `SlashInSet`,
+    /// `SlashInName` and `NestedBraces`, with `OpenBracket`, or else `OpenBrace`, at the end of the text; at last
+    /// `TooManyChoices`, where the numbers of choices of all braces multiply to more than `PATTERN_CHOICES`.
+    /// `OutOfMemory` may come with any text.
+    pub fn read(alloc: Global, text: &str) -> Result<PathSpec, GlobFault>
+        ensures ok { IfOk result (λ s. spec_reading (chars text.now) ≡ Ok s) }
+        ensures err { IfErr result (λ e. (e ≡ GlobFault.OutOfMemory) ⊎ (spec_reading (chars text.now) ≡ Err e)) }
+    {
+        let (word, rest) = split_kind(text);
+        let kind = read_kind(word)?;
+        let pattern = read_pattern(alloc, kind, rest)?.into_vec();
+        Ok(PathSpec { kind, pattern })
+    }
+
     /// With what of a path the pattern is matched.
     pub fn kind(&self) -> Kind
         ensures { result ≡ self.now.kind }
@@ -52,6 +79,14 @@ impl PathSpec {
         ensures { result.now ≡ self.now.pattern }
     {
         self.pattern.as_slice()
+    }
+
+    /// The lists of pieces that the pattern stands for: one for each combination of the braces' choices, the leftmost
+    /// brace varying slowest. A text matches the pattern exactly where it matches one of them.
+    pub fn choices(&self) -> Result<Items<Items<Piece>>, AllocError>
+        ensures { IfOk result (λ cs. cs ≡ glob.choices self.now.pattern) }
+    {
+        choices_of(*self.pattern.allocator(), self.pattern.as_slice())
     }
 
     /// Whether the specification matches a path. It matches no path without names.

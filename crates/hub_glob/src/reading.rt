@@ -1,13 +1,14 @@
 //! Reading path specifications.
-ghost use Rattle.std.specs.Prelude.{◌≡◌, ◌⊎◌, ◌+◌, ◌-◌, ◌<◌, ◌≤◌, ◌∷◌, ◌++◌, [], length, nat_lt, nat_le, Bool, true, false, List, Option, Some, None, Result, Ok, Err, IfOk, IfErr, IfSome, IsSome, MatchOption, chars};
+ghost use Rattle.std.specs.Prelude.{◌≡◌, ◌==◌, ◌⊎◌, ◌+◌, ◌-◌, ◌<◌, ◌≤◌, ◌∷◌, ◌++◌, [], length, nat_lt, nat_le, Bool, true, false, List, Option, Some, None, Result, Ok, Err, IfOk, IfErr, IfSome, IsSome, MatchOption, chars};
 ghost use Rattle.std.specs.List.{before_first, after_first, range_with_len};
 ghost use Rattle.hub_glob.specs.declared.fault.GlobFault.{GlobFault};
 ghost use Rattle.hub_glob.specs.declared.reading.Sign.{Sign as SignValue};
+ghost use Rattle.hub_glob.specs.Specification.{pattern_size};
 ghost use Rattle.hub_glob.specs.Reading as reading;
 
 use crate::fault::GlobFault;
 use crate::path_spec::Kind;
-use crate::piece::{PATTERN_CHOICES, Part, Piece};
+use crate::piece::{PATTERN_CHARACTERS, PATTERN_CHOICES, Part, Piece};
 use hub_path::Items;
 use std::alloc::{AllocError, Global};
 use std::mem;
@@ -70,12 +71,65 @@ pub(crate) fn is_special(c: char) -> bool
     matches!(c, '*' | '?' | '[' | ']' | '{' | '}' | ',' | '\\')
 }
 
-/// The parts of a pattern.
-pub(crate) fn read_parts(
+/// The parts of a pattern that isn't empty, too long, or begins with a `/` that it may not have.
+pub(crate) fn read_pattern(
     alloc: Global,
-    in_name: bool,
+    kind: Kind,
     pattern: &str,
 ) -> Result<Items<Part>, GlobFault>
+    ensures ok { IfOk result (λ ps. reading.pattern_reading kind (chars pattern.now) ≡ Ok ps) }
+    ensures err { IfErr result (λ e. (e ≡ GlobFault.OutOfMemory) ⊎ (reading.pattern_reading kind (chars pattern.now) ≡ Err e)) }
+    ensures small { IfOk result (λ ps. pattern_size ps ≤ PATTERN_CHARACTERS) }
+{
+    if is_blank(pattern) {
+        return Err(GlobFault::EmptyPattern);
+    }
+    if is_long(pattern) {
+        return Err(GlobFault::TooLong);
+    }
+    let in_name = is_name_kind(kind);
+    if !in_name && begins_with_slash(pattern) {
+        return Err(GlobFault::LeadingSlash);
+    }
+    let parts = read_parts(alloc, in_name, pattern)?;
+    if has_many_choices(parts.as_slice()) {
+        return Err(GlobFault::TooManyChoices);
+    }
+    Ok(parts)
+}
+
+fn is_blank(pattern: &str) -> bool
+    ensures { result ≡ (length (chars pattern.now) == 0) }
+{
+    pattern.is_empty()
+}
+
+fn is_long(pattern: &str) -> bool
+    ensures { result ≡ nat_lt PATTERN_CHARACTERS (length (chars pattern.now)) }
+{
+    character_count(pattern) > PATTERN_CHARACTERS
+}
+
+fn character_count(pattern: &str) -> usize
+    ensures { result ≡ length (chars pattern.now) }
+{
+    pattern.chars().count()
+}
+
+fn is_name_kind(kind: Kind) -> bool
+    ensures { result ≡ reading.is_name_kind kind }
+{
+    matches!(kind, Kind::Name)
+}
+
+fn begins_with_slash(pattern: &str) -> bool
+    ensures { result ≡ reading.starts_with_slash (chars pattern.now) }
+{
+    pattern.starts_with('/')
+}
+
+/// The parts of a pattern.
+fn read_parts(alloc: Global, in_name: bool, pattern: &str) -> Result<Items<Part>, GlobFault>
     ensures ok { IfOk result (λ ps. reading.parts_of in_name (chars pattern.now) ≡ Ok ps) }
     ensures err { IfErr result (λ e. (e ≡ GlobFault.OutOfMemory) ⊎ (reading.parts_of in_name (chars pattern.now) ≡ Err e)) }
 {

@@ -103,7 +103,7 @@ or_whole (s ∷ ss) = s ∷ ss
 
 -- The profile of these roots and values.
 abbrev pub profile : Name → List Path → List Path → Parts
-profile name roots values = record { name = name; roots = roots; paths = or_whole (kept values) }
+profile name roots values = record { name = name; roots = roots; paths = or_whole (kept values); ignore = []; ignorenot = [] }
 
 -- The profile that the settings make.
 abbrev pub profile_of : Name → List Setting → Parts

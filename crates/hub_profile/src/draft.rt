@@ -9,7 +9,7 @@ use crate::fault::{Fault, Preference};
 use crate::kept::kept_or_whole;
 use crate::line::{begins_with, is_blank, is_include, name_and_value};
 use crate::profile::Profile;
-use hub_path::{Name, PathFault, RelPath, Root, without_last_slash};
+use hub_path::{Items, Name, PathFault, RelPath, Root, without_last_slash};
 use std::alloc::Global;
 
 /// How many `path` lines a profile may have.
@@ -96,7 +96,13 @@ impl Draft {
         let alloc = *roots.allocator();
         let roots = two_roots(roots)?;
         let paths = kept_or_whole(alloc, paths.as_slice())?;
-        Ok(Profile { name, roots, paths })
+        Ok(Profile {
+            name,
+            roots,
+            paths,
+            ignore: Items::new(alloc),
+            ignorenot: Items::new(alloc),
+        })
     }
 }
 

@@ -3,4 +3,5 @@ pub mod Facts
 pub mod Parts
 pub mod Lines
 pub mod Reading
+pub mod Marks
 pub mod Examples

@@ -4,6 +4,7 @@
 mod draft;
 mod fault;
 mod kept;
+pub mod laws;
 mod line;
 mod profile;
 mod reading;

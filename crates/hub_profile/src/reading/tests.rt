@@ -1,0 +1,165 @@
+use crate::fault::ProfileFault;
+use crate::profile::Profile;
+use crate::reading::read_profile;
+use hub_path::Name;
+use std::alloc::{AllocError, Global};
+use std::test::Fail;
+
+/// What a profile says, in one line: its name, its roots and its kept values.
+fn shown(alloc: Global, profile: &Profile) -> Result<String, AllocError> {
+    let mut text = format!(in alloc; "{}:", profile.name())?;
+    for root in profile.roots() {
+        text.push(' ')?;
+        text.push_str(root.text()?.as_str())?;
+    }
+    for path in profile.paths() {
+        text.push_str(" [")?;
+        text.push_str(path.text()?.as_str())?;
+        text.push(']')?;
+    }
+    Ok(text)
+}
+
+/// What is read of bytes, in one line.
+fn told(alloc: Global, bytes: &[u8]) -> Result<String, Fail> {
+    let name = Name::read(alloc, "p")?;
+    let read: Result<Profile, ProfileFault> = read_profile(alloc, name, bytes);
+    match read {
+        Ok(profile) => Ok(shown(alloc, &profile)?),
+        Err(fault) => Ok(format!(in alloc; "{fault}")?),
+    }
+}
+
+/// The same, where two roots stand on lines 1 and 2.
+fn told_with_roots(alloc: Global, lines: &[u8]) -> Result<String, Fail> {
+    let mut text = b"root = /srv/hub\nroot = /srv/s1\n".to_vec(alloc)?;
+    text.extend_from_slice(lines)?;
+    told(alloc, text.as_slice())
+}
+
+#[test]
+fn texts_are_read(rt: HostRuntime) -> Result<(), Fail> {
+    for (lines, expected) in [
+        (b"" as &[u8], "p: /srv/hub /srv/s1 []"),
+        (b"path = docs\n", "p: /srv/hub /srv/s1 [docs]"),
+        (b"path = b\npath = a", "p: /srv/hub /srv/s1 [b] [a]"),
+        // blanks, comments and a CR at a line's end say nothing
+        (
+            b" \t\n# path = a\n\tpath=docs/x\t\r\n \r\n",
+            "p: /srv/hub /srv/s1 [docs/x]",
+        ),
+        // one slash at the end is dropped
+        (b"path = docs/\n", "p: /srv/hub /srv/s1 [docs]"),
+        // what is equal or below adds nothing, before and after
+        (
+            b"path = a/b\npath = c/\npath = a\npath = c\npath = a/d",
+            "p: /srv/hub /srv/s1 [c] [a]",
+        ),
+        (
+            b"path = docs\npath = docs2",
+            "p: /srv/hub /srv/s1 [docs] [docs2]",
+        ),
+        (b"path =\npath = a", "p: /srv/hub /srv/s1 []"),
+        // a value is cut at the first `=`, and blanks inside stay
+        (b"path = a = b  c", "p: /srv/hub /srv/s1 [a = b  c]"),
+    ] {
+        let read = told_with_roots(rt.alloc(), lines)?;
+        assert_eq!(rt; read.as_str(), expected);
+    }
+    Ok(())
+}
+
+#[test]
+fn faults_are_told(rt: HostRuntime) -> Result<(), Fail> {
+    for (lines, expected) in [
+        (b"include common" as &[u8], "line 3: IncludeLeftOut"),
+        (b"source? common = x", "line 3: IncludeLeftOut"),
+        (b"include = x", "line 3: UnknownPreference include"),
+        (b"include? = b", "line 3: UnknownPreference include?"),
+        (b"sshargs = -C", "line 3: UnknownPreference sshargs"),
+        (b"=x", "line 3: UnknownPreference "),
+        (
+            b"\xef\xbb\xbfroot = /a",
+            "line 3: UnknownPreference \u{feff}root",
+        ),
+        (b"docs", "line 3: NoEquals"),
+        (b" \r \n", "line 3: NoEquals"),
+        (b"path = /a", "line 3: BadPath LeadingSlash"),
+        (b"path = /", "line 3: BadPath LeadingSlash"),
+        (b"path = a//", "line 3: BadPath EmptyName"),
+        (b"path = a/../b", "line 3: BadPath DotName"),
+        (b"path = a\rb", "line 3: BadPath BadCharacter"),
+        (b"path = a\0", "line 3: BadPath BadCharacter"),
+        (b"root = ssh://h/d", "line 3: BadPath RemoteRoot"),
+        (b"root = srv", "line 3: BadPath NotAbsolute"),
+        (b"root =", "line 3: BadPath Empty"),
+        (b"root = /srv/s2", "line 0: RootCount"),
+        // the lowest line is told, and lines before the whole
+        (b"\n#\npath = ..\ndocs", "line 5: BadPath DotName"),
+        (b"root = /srv/s2\npath = /", "line 4: BadPath LeadingSlash"),
+        // no line is read of bytes that are no text
+        (b"docs\n\xff", "line 0: NotUtf8"),
+        (b"\xff", "line 0: NotUtf8"),
+    ] {
+        let read = told_with_roots(rt.alloc(), lines)?;
+        assert_eq!(rt; read.as_str(), expected);
+    }
+    Ok(())
+}
+
+#[test]
+fn roots_are_two_and_apart(rt: HostRuntime) -> Result<(), Fail> {
+    for (lines, expected) in [
+        (b"" as &[u8], "line 0: RootCount"),
+        (b"root = /srv", "line 0: RootCount"),
+        (b"root = /srv\nroot = /srv/", "line 0: SameRoots"),
+        (b"root = /srv\nroot = /srv/hub", "line 0: RootsNested"),
+        (b"root = /srv/hub\nroot = /srv", "line 0: RootsNested"),
+        (b"root = /\nroot = /srv", "line 0: RootsNested"),
+        (b"root = /srv\nroot = /srv2", "p: /srv /srv2 []"),
+        (b"root = ssh://h/d\nroot = x", "line 1: BadPath RemoteRoot"),
+    ] {
+        let read = told(rt.alloc(), lines)?;
+        assert_eq!(rt; read.as_str(), expected);
+    }
+    Ok(())
+}
+
+/// So many lines, each the same.
+fn many(alloc: Global, line: &[u8], count: usize) -> Result<Vec<u8>, AllocError> {
+    let mut text = Vec::new(alloc);
+    for _ in 0..count {
+        text.extend_from_slice(line)?;
+    }
+    Ok(text)
+}
+
+#[test]
+fn lines_are_counted(rt: HostRuntime) -> Result<(), Fail> {
+    let mut lines = many(rt.alloc(), b"path = a\n", 64)?;
+    let read = told_with_roots(rt.alloc(), lines.as_slice())?;
+    assert_eq!(rt; read.as_str(), "p: /srv/hub /srv/s1 [a]");
+    lines.extend_from_slice(b"path = /")?;
+    let read = told_with_roots(rt.alloc(), lines.as_slice())?;
+    assert_eq!(rt; read.as_str(), "line 67: TooMany");
+    Ok(())
+}
+
+#[test]
+fn names_and_depth_are_bounded(rt: HostRuntime) -> Result<(), Fail> {
+    let mut long = b"path = ".to_vec(rt.alloc())?;
+    long.extend_from_slice(many(rt.alloc(), b"n", 255)?.as_slice())?;
+    let read = told_with_roots(rt.alloc(), long.as_slice())?;
+    assert_eq!(rt; read.len(), 277);
+    long.push(b'n')?;
+    let read = told_with_roots(rt.alloc(), long.as_slice())?;
+    assert_eq!(rt; read.as_str(), "line 3: BadPath NameTooLong");
+    let mut deep = b"path = ".to_vec(rt.alloc())?;
+    deep.extend_from_slice(many(rt.alloc(), b"n/", 64)?.as_slice())?;
+    let read = told_with_roots(rt.alloc(), deep.as_slice())?;
+    assert_eq!(rt; read.len(), 149);
+    deep.push(b'n')?;
+    let read = told_with_roots(rt.alloc(), deep.as_slice())?;
+    assert_eq!(rt; read.as_str(), "line 3: BadPath TooDeep");
+    Ok(())
+}

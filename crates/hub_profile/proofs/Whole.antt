@@ -37,8 +37,8 @@ read_fine name bs roots paths u h e q r =
     ∙ (λ i. Ok (profile name (sym e i) (sym q i)))))
 
 -- What is read of bytes is a profile.
-pub is_profile_read : (name : Name) (bs : List ℕ) (P : Parts) → profile_in name bs ≡ Ok P → IsProfile P
-is_profile_read name bs P h = by_text (is_utf8 bs) refl h
+pub IsProfile-read : (name : Name) (bs : List ℕ) (P : Parts) → profile_in name bs ≡ Ok P → IsProfile P
+IsProfile-read name bs P h = by_text (is_utf8 bs) refl h
   where
     by_roots : (o : Option Fault) → IsUtf8 bs → roots_fault (roots_of (settings (chars bs))) ≡ o → unless_fault (or_later 0 o None) (profile_of name (settings (chars bs))) ≡ Ok P → IsProfile P
     by_roots None u r e =

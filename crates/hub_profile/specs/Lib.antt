@@ -3,5 +3,4 @@ pub mod Facts
 pub mod Parts
 pub mod Lines
 pub mod Reading
-pub mod Marks
 pub mod Examples

@@ -95,7 +95,6 @@ impl Draft {
         let Draft { roots, paths } = self;
         let alloc = *roots.allocator();
         let roots = two_roots(roots)?;
-<<<<<<< HEAD
         let paths = kept_or_whole(alloc, paths.as_slice())?;
         Ok(Profile {
             name,
@@ -104,10 +103,6 @@ impl Draft {
             ignore: Items::new(alloc),
             ignorenot: Items::new(alloc),
         })
-=======
-        let paths = kept_or_whole(alloc, paths)?;
-        Ok(Profile { name, roots, paths })
->>>>>>> cab3a270fc9b7f5000d4829a554ade2c4d411036
     }
 }
 

@@ -4,7 +4,6 @@
 mod draft;
 mod fault;
 mod kept;
-pub mod laws;
 mod line;
 mod profile;
 mod reading;

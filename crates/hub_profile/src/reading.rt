@@ -11,9 +11,6 @@ use hub_path::Name;
 use std::alloc::Global;
 use std::str;
 
-#[cfg(test)]
-mod tests;
-
 /// What the lines of a text say, or the fault of the lowest line that has one.
 fn read_lines(alloc: Global, text: &str) -> Result<Draft, ProfileFault>
     ensures fine { OnOk result (reading.line_fault reading.setting_fault [] (lines.settings (chars text.now)) ≡ None) }

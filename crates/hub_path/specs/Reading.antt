@@ -16,13 +16,16 @@ name_fault n =
     else (if list_any is_forbidden n then Some BadCharacter
     else (if nat_lt NAME_BYTES (sum_by len_utf8 n) then Some NameTooLong else None)))
 
+-- The value, unless there is a fault.
 abbrev pub or_fault : {T : Type 0} → Option PathFault → T → Result T PathFault
 or_fault None x = Ok x
 or_fault (Some e) x = Err e
 
+-- A text is a name, or has a fault.
 abbrev pub name_reading : List ℕ → Result Name PathFault
 name_reading cs = or_fault (name_fault cs) cs
 
+-- The earlier one of two faults.
 abbrev pub first_fault : Option PathFault → Option PathFault → Option PathFault
 first_fault None later = later
 first_fault (Some e) later = Some e
@@ -59,9 +62,11 @@ without_last c (d ∷ e ∷ cs) = d ∷ without_last c (e ∷ cs)
 abbrev pub without_last_slash : List ℕ → List ℕ
 without_last_slash cs = without_last 47 cs
 
+-- `A` to `Z` and `a` to `z`.
 abbrev pub is_letter : ℕ → Bool
 is_letter c = (nat_le 65 c && nat_le c 90) || (nat_le 97 c && nat_le c 122)
 
+-- What stands behind the letters at the front.
 abbrev pub after_letters : List ℕ → List ℕ
 after_letters [] = []
 after_letters (c ∷ cs) = if is_letter c then after_letters cs else c ∷ cs
@@ -83,6 +88,7 @@ place_of cs = if length cs == 0 then [] else path_of cs
 abbrev pub root_names : List ℕ → Path
 root_names cs = place_of (without_last_slash (drop 1 cs))
 
+-- A root: not empty, on this machine, with a slash in front, and names behind it.
 abbrev pub root_fault : List ℕ → Option PathFault
 root_fault cs =
     if length cs == 0 then Some Empty

@@ -3,7 +3,7 @@ ghost use Rattle.std.specs.Prelude.{◌≡◌, ◌==◌, [], ◌∷◌, ◌++◌
 use std::alloc::{AllocFailed, Global};
 use std::marker::Model;
 
-/// A list that contracts see as the list of its items, wherever it stands.
+/// A list that contracts see as the list of its items, wherever it stands. It is a vector, and costs no more.
 #[derive(Debug, Drop)]
 pub struct Items<T> {
     items: Vec<T>,
@@ -18,7 +18,7 @@ impl<T> Model for Items<T> {
 }
 
 impl<T> Items<T> {
-    /// No items.
+    /// No items. It takes no memory.
     pub fn new(alloc: Global) -> Items<T>
         ensures { result ≡ [] }
     {
@@ -27,14 +27,14 @@ impl<T> Items<T> {
         }
     }
 
-    /// The items of a vector.
+    /// The items of a vector, which is taken whole: nothing is copied.
     pub fn from_vec(items: Vec<T>) -> Items<T>
         ensures { result ≡ items.items }
     {
         Items { items }
     }
 
-    /// The vector of the items.
+    /// The vector of the items. Nothing is copied.
     pub fn into_vec(self) -> Vec<T>
         ensures { result.items ≡ self }
     {
@@ -42,7 +42,7 @@ impl<T> Items<T> {
         items
     }
 
-    /// The items, lent.
+    /// The items, lent in their order.
     pub fn as_slice(&self) -> &[T]
         ensures { result.now ≡ self.now }
     {
@@ -63,7 +63,7 @@ impl<T> Items<T> {
         self.items.is_empty()
     }
 
-    /// Adds an item at the end, or gives it back where memory is refused; the list is then as it was.
+    /// Adds an item at the end. Where memory is refused the item is given back, and the list is as it was.
     pub fn push(&mut self, item: T) -> Result<(), AllocFailed<T>>
         ensures ok { OnOk result (self.new ≡ self.old ++ item ∷ []) }
         ensures err { OnErr result (self.new ≡ self.old) }

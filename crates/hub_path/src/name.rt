@@ -13,12 +13,15 @@ use std::cmp::Ordering;
 use std::fmt;
 use std::marker::Model;
 
-/// How many bytes of UTF-8 a name may have that is read from a text.
+/// How many bytes of UTF-8 a name may have that is read from a text: what common file systems allow (`NAME_MAX` of
+/// POSIX systems).
 pub const NAME_BYTES: usize = 255;
 
 /// A name of a path: one or more characters, none of them NUL, CR, LF or `/`, and neither `.` nor `..`.
 ///
-/// It keeps its text once. Names are compared by their characters.
+/// POSIX has no NUL and no `/` in a file's name, and `.` and `..` name directories that are there already; CR and LF
+/// are left out because the texts that names stand in are lines (this project's choice). A name keeps its text once.
+/// Names are compared by their characters, as numbers (Unicode scalar values).
 #[derive(Debug, Drop)]
 pub struct Name {
     text: String,
@@ -36,9 +39,11 @@ impl Model for Name {
 }
 
 impl Name {
-    /// Reads a name of at most `NAME_BYTES` bytes.
+    /// Reads a name of at most `NAME_BYTES` bytes: the whole text is the name.
     ///
-    /// The fault is the first of `EmptyName`, `DotName`, `BadCharacter` and `NameTooLong` that applies.
+    /// The fault is the first that applies of `EmptyName` for no characters, `DotName` for `.` and `..`,
+    /// `BadCharacter` for a NUL, CR, LF or `/` anywhere, and `NameTooLong`. `OutOfMemory` comes only for a text that
+    /// is a name and finds no memory for its copy.
     pub fn read(alloc: Global, text: &str) -> Result<Name, PathFault>
         ensures ok { IfOk result (λ n. name_reading (chars text.now) ≡ Ok n) }
         ensures err { IfErr result (λ e. (e ≡ PathFault.OutOfMemory) ⊎ (name_reading (chars text.now) ≡ Err e)) }
@@ -50,7 +55,7 @@ impl Name {
         }
     }
 
-    /// The text of the name. It takes no memory.
+    /// The text of the name, as it was read. It takes no memory.
     pub fn text(&self) -> &str
         ensures text { result.now ≡ encode_utf8_all self.now }
         ensures valid { IsTrue (path.is_name self.now) }
@@ -58,7 +63,7 @@ impl Name {
         self.text.as_str()
     }
 
-    /// The same name once more.
+    /// The same name once more, or that memory for its text was refused.
     pub fn copy(&self) -> Result<Name, AllocError>
         ensures { IfOk result (λ n. n ≡ self.now) }
     {

@@ -9,12 +9,13 @@ use std::alloc::{AllocError, Global};
 use std::cmp::Ordering;
 use std::marker::Model;
 
-/// How many names a path may have that is read from a text.
+/// How many names a path or a root may have that is read from a text (this project's choice).
 pub const PATH_NAMES: usize = 64;
 
-/// A path inside a replica: its names. The path without names stands for the whole replica.
+/// A path inside a replica: its names, from the top down. The path without names stands for the whole replica.
 ///
-/// Each name keeps its text, and the path keeps nothing beside the names.
+/// Each name keeps its text, and the path keeps nothing beside the names. Paths are compared name by name, and a
+/// prefix comes first: `a/b` is before `a-b`.
 #[derive(Debug, Drop)]
 pub struct RelPath {
     names: Vec<Name>,
@@ -43,8 +44,10 @@ impl RelPath {
 
     /// Reads a path: names of at most `NAME_BYTES` bytes, joined by `/`, `PATH_NAMES` of them at most.
     ///
-    /// The fault is `Empty` or `LeadingSlash`, else that of the first name from the left that has one; a name
-    /// after `PATH_NAMES` others is `TooDeep`, whatever it is.
+    /// The fault is `Empty` for no characters, `LeadingSlash` where the first one is `/`, else that of the first
+    /// name from the left that has one, as `Name::read` tells it: so `a/` and `a//b` have an `EmptyName`. A name
+    /// after `PATH_NAMES` others is `TooDeep`, whatever it is. `OutOfMemory` may come in place of the path or of a
+    /// fault, once a name was read.
     pub fn read(alloc: Global, text: &str) -> Result<RelPath, PathFault>
         ensures ok { IfOk result (λ p. path_reading (chars text.now) ≡ Ok p) }
         ensures err { IfErr result (λ e. (e ≡ PathFault.OutOfMemory) ⊎ (path_reading (chars text.now) ≡ Err e)) }
@@ -61,14 +64,15 @@ impl RelPath {
         })
     }
 
-    /// The text of the path: its names joined by `/`. The whole replica has the empty text.
+    /// The text of the path: its names joined by `/`, which is the text that the path was read from. The whole
+    /// replica has the empty text. Memory may be refused.
     pub fn text(&self) -> Result<String, AllocError>
         ensures { IfOk result (λ t. string_bytes t ≡ encode_utf8_all (path.text_of self.now)) }
     {
         joined(*self.names.allocator(), self.names.as_slice())
     }
 
-    /// How many names the path has.
+    /// How many names the path has; the whole replica has 0. It takes no memory.
     pub fn len(&self) -> usize
         ensures len { result ≡ length self.now }
         ensures valid { IsTrue (path.is_place self.now) }
@@ -95,7 +99,9 @@ impl RelPath {
         self.names.starts_with(prefix.names.as_slice())
     }
 
-    /// The path without its last name. The whole replica has none.
+    /// The path without its last name: of a path of one name, the whole replica, and the whole replica has none.
+    ///
+    /// The names are copied, and memory for them may be refused.
     pub fn parent(&self) -> Result<Option<RelPath>, AllocError>
         ensures none { IfOk result (λ p. IsNone p ↔ (self.now ≡ [])) }
         ensures parent { IfOk result (λ p. IfSome p (λ q. q ≡ path.parent self.now)) }
@@ -108,7 +114,9 @@ impl RelPath {
         }
     }
 
-    /// The path with one more name.
+    /// The path with one more name at its end. It may have any number of names.
+    ///
+    /// The path's names are copied. Where memory is refused the new name is dropped.
     pub fn child(&self, name: Name) -> Result<RelPath, AllocError>
         ensures { IfOk result (λ p. p ≡ self.now ++ name ∷ []) }
     {
@@ -118,7 +126,7 @@ impl RelPath {
         Ok(child)
     }
 
-    /// The same path once more.
+    /// The same path once more, or that memory for its names was refused.
     pub fn copy(&self) -> Result<RelPath, AllocError>
         ensures { IfOk result (λ p. p ≡ self.now) }
     {
@@ -143,6 +151,7 @@ fn copies(alloc: Global, names: &[Name]) -> Result<Vec<Name>, AllocError>
 pub(crate) fn read_place(alloc: Global, text: &str) -> Result<RelPath, PathFault>
     ensures ok { IfOk result (λ p. names_reading (place_of (chars text.now)) ≡ Ok p) }
     ensures err { IfErr result (λ e. (e ≡ PathFault.OutOfMemory) ⊎ (names_reading (place_of (chars text.now)) ≡ Err e)) }
+    ensures valid { IfOk result (λ p. IsTrue (path.is_place p)) }
 {
     if is_blank(text) {
         return Ok(RelPath::top(alloc));

@@ -9,6 +9,8 @@ use std::alloc::{AllocError, Global};
 use std::marker::Model;
 
 /// The root of a replica on this machine: an absolute path. `/` has no names.
+///
+/// Roots are equal where their names are; nothing is asked of the file system.
 #[derive(Debug, Drop)]
 pub struct Root {
     path: RelPath,
@@ -25,11 +27,15 @@ impl Model for Root {
 impl Root {
     /// Reads a root: `/` and names as a path has them, with or without one `/` behind them.
     ///
-    /// The fault is `Empty`, `RemoteRoot` for a text that begins with `//` or with ASCII letters and `://` (this
-    /// project's choice), `NotAbsolute`, else that of the first name from the left that has one.
+    /// The fault is `Empty` for no characters, `RemoteRoot` for a text that begins with `//` or with one ASCII letter
+    /// or more and `://` (the forms of remote roots in the Unison manual, and this project's choice to take no more
+    /// for one), `NotAbsolute` for another one that doesn't begin with `/`, else that of the first name from the left
+    /// that has one, as `RelPath::read` tells it: so `/srv//` has an `EmptyName`. `OutOfMemory` may come in place of
+    /// the root or of a name's fault, once a name was read.
     pub fn read(alloc: Global, text: &str) -> Result<Root, PathFault>
         ensures ok { IfOk result (λ r. root_reading (chars text.now) ≡ Ok r) }
         ensures err { IfErr result (λ e. (e ≡ PathFault.OutOfMemory) ⊎ (root_reading (chars text.now) ≡ Err e)) }
+        ensures valid { IfOk result (λ r. IsTrue (path.is_place r)) }
     {
         if is_blank(text) {
             return Err(PathFault::Empty);
@@ -45,21 +51,23 @@ impl Root {
         })
     }
 
-    /// Whether this root is the other one or lies below it, by names. It takes no memory.
+    /// Whether this root is the other one or lies below it, by names: `/srv/hub2` isn't within `/srv/hub`, and each
+    /// root is within `/`. It takes no memory.
     pub fn is_within(&self, other: &Root) -> bool
         ensures { result ≡ path.is_over other.now self.now }
     {
         self.path.starts_with(&other.path)
     }
 
-    /// The names of the root.
+    /// The names of the root, as a path from `/`. It takes no memory.
     pub fn path(&self) -> &RelPath
         ensures { result.now ≡ self.now }
     {
         &self.path
     }
 
-    /// The text of the root: a `/`, and its names joined by `/`.
+    /// The text of the root: a `/`, and its names joined by `/`. It is the text that the root was read from, less
+    /// one `/` behind its names. Memory may be refused.
     pub fn text(&self) -> Result<String, AllocError>
         ensures { IfOk result (λ t. string_bytes t ≡ codes "/" ++ encode_utf8_all (path.text_of self.now)) }
     {
@@ -68,7 +76,7 @@ impl Root {
         Ok(text)
     }
 
-    /// The same root once more.
+    /// The same root once more, or that memory for its names was refused.
     pub fn copy(&self) -> Result<Root, AllocError>
         ensures { IfOk result (λ r. r ≡ self.now) }
     {

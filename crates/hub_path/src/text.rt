@@ -23,9 +23,9 @@ pub(crate) fn after_slash(text: &str) -> Option<&str>
     text.strip_prefix('/')
 }
 
-/// A text less the `/` at its end, if there is one.
+/// A text less the `/` at its end, if there is one, lent from the text. It takes no memory.
 ///
-/// One slash is dropped where a path or a root is read, and no more (this project's choice).
+/// One slash is dropped and no more (this project's choice): of `a//` it leaves `a/`, and of `/` the empty text.
 pub fn without_last_slash(text: &str) -> &str
     ensures { chars result.now ≡ reading.without_last_slash (chars text.now) }
 {

@@ -1,14 +1,18 @@
-ghost use Rattle.std.specs.Prelude.{◌≡◌, ◌&&◌, not, IfOk};
+ghost use Rattle.std.specs.Prelude.{◌≡◌, [], ◌&&◌, not, IfOk};
 ghost use Rattle.std.specs.List.{list_any};
 ghost use Rattle.hub_path.specs.Path.{path_eq, is_over};
+ghost use Rattle.hub_profile.specs.Marks as mark;
 ghost use Rattle.hub_profile.specs.Reading as reading;
 
 use hub_path::{Items, RelPath};
 use std::alloc::{AllocError, Global};
 
-/// Copies of the values that a profile keeps, or the whole replica where there are none.
-pub(crate) fn kept_or_whole(alloc: Global, values: &[RelPath]) -> Result<Items<RelPath>, AllocError>
-    ensures { IfOk result (λ ps. ps ≡ reading.or_whole (reading.kept values.now)) }
+/// The values that a profile keeps, in their order, or the whole replica where there are none.
+pub(crate) fn kept_or_whole(
+    alloc: Global,
+    values: Vec<RelPath>,
+) -> Result<Items<RelPath>, AllocError>
+    ensures { IfOk result (λ ps. ps ≡ reading.or_whole (reading.kept values.items)) }
 {
     let mut paths = kept(alloc, values)?;
     if paths.is_empty() {
@@ -17,19 +21,37 @@ pub(crate) fn kept_or_whole(alloc: Global, values: &[RelPath]) -> Result<Items<R
     Ok(Items::from_vec(paths))
 }
 
-/// Copies of the values that add something, in their order.
+/// The values that add something, in their order.
 ///
 /// Each value is compared with each other: a profile has at most `PATH_LINES` of them.
-fn kept(alloc: Global, values: &[RelPath]) -> Result<Vec<RelPath>, AllocError>
-    ensures { IfOk result (λ v. v.items ≡ reading.kept values.now) }
+fn kept(alloc: Global, values: Vec<RelPath>) -> Result<Vec<RelPath>, AllocError>
+    ensures { IfOk result (λ v. v.items ≡ reading.kept values.items) }
 {
-    let mut kept = Vec::new(alloc);
+    let marks = marks(alloc, values.as_slice())?;
+    marked(alloc, values, marks)
+}
+
+/// For each of the values whether it adds something.
+fn marks(alloc: Global, values: &[RelPath]) -> Result<Vec<bool>, AllocError>
+    ensures { IfOk result (λ v. v.items ≡ mark.marks values.now [] values.now) }
+{
+    let mut marks = Vec::with_capacity(alloc, values.len())?;
     for (i, value) in values.iter().enumerate() {
-        if adds(values, &values[..i], value) {
-            kept.push(value.copy()?)?;
-        }
+        marks.push(adds(values, &values[..i], value))?;
     }
-    Ok(kept)
+    Ok(marks)
+}
+
+/// Those of the values whose mark says so.
+fn marked(alloc: Global, values: Vec<RelPath>, marks: Vec<bool>) -> Result<Vec<RelPath>, AllocError>
+    ensures { IfOk result (λ v. v.items ≡ mark.marked values.items marks.items) }
+{
+    values
+        .into_iter()
+        .zip(marks)
+        .filter(|(_, mark)| *mark)
+        .map(|(value, _)| value)
+        .collect(alloc)
 }
 
 /// Whether a value is neither equal to an earlier one nor properly below any.

@@ -1,0 +1,204 @@
+use crate::{Items, Name, PathFault, RelPath, Root, Side, without_last_slash};
+use std::cmp::Ordering;
+use std::test::Fail;
+
+#[test]
+fn a_name_is_read_or_its_first_fault_told(rt: HostRuntime) -> Result<(), Fail> {
+    let longest = "a".repeat(rt.alloc(), 255)?;
+    let too_long = "é".repeat(rt.alloc(), 128)?;
+    let long_and_bad = "/".repeat(rt.alloc(), 256)?;
+    for (text, want) in [
+        ("docs", "docs"),
+        ("..x", "..x"),
+        ("...", "..."),
+        ("é 𝄞", "é 𝄞"),
+        (longest.as_str(), longest.as_str()),
+        ("", "EmptyName"),
+        (".", "DotName"),
+        ("..", "DotName"),
+        ("a/b", "BadCharacter"),
+        ("a\0", "BadCharacter"),
+        ("a\n", "BadCharacter"),
+        ("\r", "BadCharacter"),
+        (too_long.as_str(), "NameTooLong"),
+        (long_and_bad.as_str(), "BadCharacter"),
+    ] {
+        let told = match Name::read(rt.alloc(), text) {
+            Ok(name) => name.text().to_string(rt.alloc())?,
+            Err(fault) => fault.to_string(rt.alloc())?,
+        };
+        assert_eq!(rt; told.as_str(), want, "at {text:?}");
+    }
+    let name = Name::read(rt.alloc(), "docs")?;
+    let copy = name.copy()?;
+    assert!(rt; copy == name);
+    assert_eq!(rt; copy.to_string(rt.alloc())?.as_str(), "docs");
+    Ok(())
+}
+
+#[test]
+fn a_path_is_read_or_its_first_fault_told(rt: HostRuntime) -> Result<(), Fail> {
+    let deepest = format!(in rt.alloc(); "{}a", "a/".repeat(rt.alloc(), 63)?)?;
+    let too_deep = format!(in rt.alloc(); "{}..", "a/".repeat(rt.alloc(), 64)?)?;
+    for (text, names, want) in [
+        ("docs", 1, "docs"),
+        ("docs/x", 2, "docs/x"),
+        (deepest.as_str(), 64, deepest.as_str()),
+        ("", 0, "Empty"),
+        ("/", 0, "LeadingSlash"),
+        ("/a", 0, "LeadingSlash"),
+        ("//", 0, "LeadingSlash"),
+        ("a/", 0, "EmptyName"),
+        ("a//b", 0, "EmptyName"),
+        ("a/../b//c", 0, "DotName"),
+        ("a/b\r", 0, "BadCharacter"),
+        (too_deep.as_str(), 0, "TooDeep"),
+    ] {
+        let (count, told) = match RelPath::read(rt.alloc(), text) {
+            Ok(path) => (path.len(), path.text()?),
+            Err(fault) => (0, fault.to_string(rt.alloc())?),
+        };
+        assert_eq!(rt; told.as_str(), want, "at {text:?}");
+        assert_eq!(rt; count, names, "at {text:?}");
+    }
+    Ok(())
+}
+
+#[test]
+fn paths_have_parents_children_and_prefixes(rt: HostRuntime) -> Result<(), Fail> {
+    let top = RelPath::top(rt.alloc());
+    assert_eq!(rt; top.len(), 0);
+    assert_eq!(rt; top.text()?.as_str(), "");
+    assert!(rt; top.parent()?.is_none());
+    let docs = top.child(Name::read(rt.alloc(), "docs")?)?;
+    let below = docs.child(Name::read(rt.alloc(), "x")?)?;
+    assert_eq!(rt; below.text()?.as_str(), "docs/x");
+    assert_eq!(rt; below.len(), 2);
+    assert!(rt; *below.name(0) == Name::read(rt.alloc(), "docs")?);
+    assert!(rt; *below.name(1) == Name::read(rt.alloc(), "x")?);
+    assert!(rt; below.parent()? == Some(docs.copy()?));
+    assert!(rt; docs.parent()? == Some(top.copy()?));
+    for (text, prefix, want) in [
+        ("docs/x", "docs", true),
+        ("docs", "docs", true),
+        ("docs2", "docs", false),
+        ("docs", "docs/x", false),
+        ("b/docs", "docs", false),
+    ] {
+        let path = RelPath::read(rt.alloc(), text)?;
+        let prefix_read = RelPath::read(rt.alloc(), prefix)?;
+        assert_eq!(rt; path.starts_with(&prefix_read), want, "{prefix} of {text}");
+        assert!(rt; path.starts_with(&top));
+    }
+    Ok(())
+}
+
+#[test]
+fn names_and_paths_are_in_order(rt: HostRuntime) -> Result<(), Fail> {
+    for (less, more) in [
+        ("a", "b"),
+        ("a", "ab"),
+        ("B", "a"),
+        ("\u{ffff}", "\u{10000}"),
+        ("z", "é"),
+    ] {
+        let (first, second) = (Name::read(rt.alloc(), less)?, Name::read(rt.alloc(), more)?);
+        assert_eq!(rt; first.cmp(&second), Ordering::Less, "{less} and {more}");
+    }
+    for (less, more) in [
+        ("a", "a/b"),
+        ("a/b", "a-b"),
+        ("a/z", "b/a"),
+        ("srv/hub", "srv-x"),
+    ] {
+        let (first, second) = (
+            RelPath::read(rt.alloc(), less)?,
+            RelPath::read(rt.alloc(), more)?,
+        );
+        assert_eq!(rt; first.cmp(&second), Ordering::Less, "{less} and {more}");
+    }
+    assert!(rt; Side::Left < Side::Right);
+    Ok(())
+}
+
+#[test]
+fn a_root_is_read_or_its_first_fault_told(rt: HostRuntime) -> Result<(), Fail> {
+    let deepest = format!(in rt.alloc(); "/{}", "a/".repeat(rt.alloc(), 64)?)?;
+    let too_deep = format!(in rt.alloc(); "{deepest}a")?;
+    for (text, want) in [
+        ("/srv/hub", "/srv/hub"),
+        ("/srv/hub/", "/srv/hub"),
+        ("/", "/"),
+        (deepest.as_str(), without_last_slash(deepest.as_str())),
+        ("", "Empty"),
+        ("//", "RemoteRoot"),
+        ("//h/d", "RemoteRoot"),
+        ("ssh://h/d", "RemoteRoot"),
+        ("SSH://", "RemoteRoot"),
+        ("://x", "NotAbsolute"),
+        ("ssh2://h", "NotAbsolute"),
+        ("a+b://h", "NotAbsolute"),
+        ("ssh:/h", "NotAbsolute"),
+        ("srv/hub", "NotAbsolute"),
+        ("/srv//", "EmptyName"),
+        ("/srv/..", "DotName"),
+        (too_deep.as_str(), "TooDeep"),
+    ] {
+        let told = match Root::read(rt.alloc(), text) {
+            Ok(root) => root.text()?,
+            Err(fault) => fault.to_string(rt.alloc())?,
+        };
+        assert_eq!(rt; told.as_str(), want, "at {text:?}");
+    }
+    Ok(())
+}
+
+#[test]
+fn roots_lie_within_roots(rt: HostRuntime) -> Result<(), Fail> {
+    for (root, other, want) in [
+        ("/srv/hub", "/srv/hub/", true),
+        ("/srv/hub/x", "/srv/hub", true),
+        ("/srv/hub2", "/srv/hub", false),
+        ("/srv", "/srv/hub", false),
+        ("/srv", "/", true),
+        ("/", "/", true),
+    ] {
+        let inner = Root::read(rt.alloc(), root)?;
+        let outer = Root::read(rt.alloc(), other)?;
+        assert_eq!(rt; inner.is_within(&outer), want, "{root} and {other}");
+        assert!(rt; inner.copy()? == inner);
+        assert_eq!(rt;
+            inner == outer,
+            want && outer.is_within(&inner),
+            "{root} and {other}"
+        );
+    }
+    assert_eq!(rt; Root::read(rt.alloc(), "/srv/hub")?.path().len(), 2);
+    Ok(())
+}
+
+#[test]
+fn one_slash_is_dropped(rt: HostRuntime) {
+    for (text, want) in [
+        ("a/", "a"),
+        ("a//", "a/"),
+        ("/", ""),
+        ("", ""),
+        ("/a", "/a"),
+    ] {
+        assert_eq!(rt; without_last_slash(text), want, "at {text:?}");
+    }
+}
+
+#[test]
+fn items_are_kept_in_order(rt: HostRuntime) -> Result<(), Fail> {
+    let mut items = Items::new(rt.alloc());
+    assert!(rt; items.is_empty());
+    items.push(7)?;
+    items.push(8)?;
+    assert_eq!(rt; items.len(), 2);
+    assert_eq!(rt; items.as_slice(), [7, 8].as_slice());
+    let back = Items::from_vec(items.into_vec());
+    assert_eq!(rt; back.as_slice(), [7, 8].as_slice());
+    Ok(())
+}

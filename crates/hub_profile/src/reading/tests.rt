@@ -1,0 +1,346 @@
+use crate::fault::ProfileFault;
+use crate::profile::Profile;
+use crate::reading::read_profile;
+use hub_path::{Name, RelPath};
+use std::alloc::{AllocError, Global};
+use std::test::Fail;
+
+/// What a profile says, in one line: its name, its roots and its kept values.
+fn shown(alloc: Global, profile: &Profile) -> Result<String, AllocError> {
+    let mut text = format!(in alloc; "{}:", profile.name())?;
+    for root in profile.roots() {
+        text.push(' ')?;
+        text.push_str(root.text()?.as_str())?;
+    }
+    for path in profile.paths() {
+        text.push_str(" [")?;
+        text.push_str(path.text()?.as_str())?;
+        text.push(']')?;
+    }
+    Ok(text)
+}
+
+/// What is read of bytes, in one line.
+fn told(alloc: Global, bytes: &[u8]) -> Result<String, Fail> {
+    let name = Name::read(alloc, "p")?;
+    let read: Result<Profile, ProfileFault> = read_profile(alloc, name, bytes);
+    match read {
+        Ok(profile) => Ok(shown(alloc, &profile)?),
+        Err(fault) => Ok(format!(in alloc; "{fault}")?),
+    }
+}
+
+/// The same, where two roots stand on lines 1 and 2.
+fn told_with_roots(alloc: Global, lines: &[u8]) -> Result<String, Fail> {
+    let mut text = b"root = /srv/hub\nroot = /srv/s1\n".to_vec(alloc)?;
+    text.extend_from_slice(lines)?;
+    told(alloc, text.as_slice())
+}
+
+#[test]
+fn texts_are_read(rt: HostRuntime) -> Result<(), Fail> {
+    for (lines, expected) in [
+        (b"" as &[u8], "p: /srv/hub /srv/s1 []"),
+        (b"path = docs\n", "p: /srv/hub /srv/s1 [docs]"),
+        (b"path = b\npath = a", "p: /srv/hub /srv/s1 [b] [a]"),
+        // blanks, comments and a CR at a line's end say nothing
+        (
+            b" \t\n# path = a\n\tpath=docs/x\t\r\n \r\n",
+            "p: /srv/hub /srv/s1 [docs/x]",
+        ),
+        // one slash at the end is dropped
+        (b"path = docs/\n", "p: /srv/hub /srv/s1 [docs]"),
+        // what is equal or below adds nothing, before and after
+        (
+            b"path = a/b\npath = c/\npath = a\npath = c\npath = a/d",
+            "p: /srv/hub /srv/s1 [c] [a]",
+        ),
+        (
+            b"path = docs\npath = docs2",
+            "p: /srv/hub /srv/s1 [docs] [docs2]",
+        ),
+        (b"path =\npath = a", "p: /srv/hub /srv/s1 []"),
+        // a value is cut at the first `=`, and blanks inside stay
+        (b"path = a = b  c", "p: /srv/hub /srv/s1 [a = b  c]"),
+    ] {
+        let read = told_with_roots(rt.alloc(), lines)?;
+        assert_eq!(rt; read.as_str(), expected);
+    }
+    Ok(())
+}
+
+#[test]
+fn faults_are_told(rt: HostRuntime) -> Result<(), Fail> {
+    for (lines, expected) in [
+        (b"include common" as &[u8], "line 3: IncludeLeftOut"),
+        (b"source? common = x", "line 3: IncludeLeftOut"),
+        (b"include = x", "line 3: UnknownPreference include"),
+        (b"include? = b", "line 3: UnknownPreference include?"),
+        (b"sshargs = -C", "line 3: UnknownPreference sshargs"),
+        (b"=x", "line 3: UnknownPreference "),
+        (
+            b"\xef\xbb\xbfroot = /a",
+            "line 3: UnknownPreference \u{feff}root",
+        ),
+        (b"docs", "line 3: NoEquals"),
+        (b" \r \n", "line 3: NoEquals"),
+        (b"path = /a", "line 3: BadPath LeadingSlash"),
+        (b"path = /", "line 3: BadPath LeadingSlash"),
+        (b"path = a//", "line 3: BadPath EmptyName"),
+        (b"path = a/../b", "line 3: BadPath DotName"),
+        (b"path = a\rb", "line 3: BadPath BadCharacter"),
+        (b"path = a\0", "line 3: BadPath BadCharacter"),
+        (b"root = ssh://h/d", "line 3: BadPath RemoteRoot"),
+        (b"root = srv", "line 3: BadPath NotAbsolute"),
+        (b"root =", "line 3: BadPath Empty"),
+        (b"root = /srv/s2", "line 0: RootCount"),
+        // the lowest line is told, and lines before the whole
+        (b"\n#\npath = ..\ndocs", "line 5: BadPath DotName"),
+        (b"root = /srv/s2\npath = /", "line 4: BadPath LeadingSlash"),
+        // no line is read of bytes that are no text
+        (b"docs\n\xff", "line 0: NotUtf8"),
+        (b"\xff", "line 0: NotUtf8"),
+    ] {
+        let read = told_with_roots(rt.alloc(), lines)?;
+        assert_eq!(rt; read.as_str(), expected);
+    }
+    Ok(())
+}
+
+#[test]
+fn roots_are_two_and_apart(rt: HostRuntime) -> Result<(), Fail> {
+    for (lines, expected) in [
+        (b"" as &[u8], "line 0: RootCount"),
+        (b"root = /srv", "line 0: RootCount"),
+        (b"root = /srv\nroot = /srv/", "line 0: SameRoots"),
+        (b"root = /srv\nroot = /srv/hub", "line 0: RootsNested"),
+        (b"root = /srv/hub\nroot = /srv", "line 0: RootsNested"),
+        (b"root = /\nroot = /srv", "line 0: RootsNested"),
+        (b"root = /srv\nroot = /srv2", "p: /srv /srv2 []"),
+        (b"root = ssh://h/d\nroot = x", "line 1: BadPath RemoteRoot"),
+    ] {
+        let read = told(rt.alloc(), lines)?;
+        assert_eq!(rt; read.as_str(), expected);
+    }
+    Ok(())
+}
+
+/// So many lines, each the same.
+fn many(alloc: Global, line: &[u8], count: usize) -> Result<Vec<u8>, AllocError> {
+    let mut text = Vec::new(alloc);
+    for _ in 0..count {
+        text.extend_from_slice(line)?;
+    }
+    Ok(text)
+}
+
+#[test]
+fn lines_are_counted(rt: HostRuntime) -> Result<(), Fail> {
+    let mut lines = many(rt.alloc(), b"path = a\n", 64)?;
+    let read = told_with_roots(rt.alloc(), lines.as_slice())?;
+    assert_eq!(rt; read.as_str(), "p: /srv/hub /srv/s1 [a]");
+    lines.extend_from_slice(b"path = /")?;
+    let read = told_with_roots(rt.alloc(), lines.as_slice())?;
+    assert_eq!(rt; read.as_str(), "line 67: TooMany");
+    Ok(())
+}
+
+#[test]
+fn names_and_depth_are_bounded(rt: HostRuntime) -> Result<(), Fail> {
+    let mut long = b"path = ".to_vec(rt.alloc())?;
+    long.extend_from_slice(many(rt.alloc(), b"n", 255)?.as_slice())?;
+    let read = told_with_roots(rt.alloc(), long.as_slice())?;
+    assert_eq!(rt; read.len(), 277);
+    long.push(b'n')?;
+    let read = told_with_roots(rt.alloc(), long.as_slice())?;
+    assert_eq!(rt; read.as_str(), "line 3: BadPath NameTooLong");
+    let mut deep = b"path = ".to_vec(rt.alloc())?;
+    deep.extend_from_slice(many(rt.alloc(), b"n/", 64)?.as_slice())?;
+    let read = told_with_roots(rt.alloc(), deep.as_slice())?;
+    assert_eq!(rt; read.len(), 149);
+    deep.push(b'n')?;
+    let read = told_with_roots(rt.alloc(), deep.as_slice())?;
+    assert_eq!(rt; read.as_str(), "line 3: BadPath TooDeep");
+    Ok(())
+}
+
+/// The values of `ignore` and `ignorenot` that aren't read, and what is told of each.
+const BAD_PATTERNS: [(&[u8], &str); 17] = [
+    (b"Foo x", "NoKind"),
+    (b"name x", "NoKind"),
+    (b"", "NoKind"),
+    (b"Regex x", "RegexLeftOut"),
+    (b"Name", "EmptyPattern"),
+    (b"Name [ab", "OpenBracket"),
+    (b"Name []", "BadRange"),
+    (b"Name [z-a]", "BadRange"),
+    (b"Name [!a]", "NegatedSet"),
+    (b"Name {a", "OpenBrace"),
+    (b"Name {a,{b}}", "NestedBraces"),
+    (b"Name \\a", "BadEscape"),
+    (b"Name a/b", "SlashInName"),
+    (b"Path [a/]", "SlashInSet"),
+    (b"Path /a", "LeadingSlash"),
+    (b"BelowPath /a", "LeadingSlash"),
+    (b"Path a = [", "OpenBracket"),
+];
+
+#[test]
+fn bad_patterns_are_told(rt: HostRuntime) -> Result<(), Fail> {
+    for (value, fault) in BAD_PATTERNS {
+        for preference in [b"ignore = " as &[u8], b"ignorenot="] {
+            let mut line = preference.to_vec(rt.alloc())?;
+            line.extend_from_slice(value)?;
+            let read = told_with_roots(rt.alloc(), line.as_slice())?;
+            let expected = format!(in rt.alloc(); "line 3: BadPattern {fault}")?;
+            assert_eq!(rt; read.as_str(), expected.as_str());
+        }
+    }
+    Ok(())
+}
+
+/// What is read of an `ignore` line of a front, so many equal parts and an end.
+fn told_of_pattern(
+    alloc: Global,
+    front: &[u8],
+    part: &[u8],
+    count: usize,
+    end: &[u8],
+) -> Result<String, Fail> {
+    let mut line = front.to_vec(alloc)?;
+    line.extend_from_slice(many(alloc, part, count)?.as_slice())?;
+    line.extend_from_slice(end)?;
+    told_with_roots(alloc, line.as_slice())
+}
+
+#[test]
+fn patterns_are_bounded(rt: HostRuntime) -> Result<(), Fail> {
+    for (front, part, count, end, expected) in [
+        (
+            b"ignore = Name " as &[u8],
+            b"n" as &[u8],
+            200,
+            b"" as &[u8],
+            "p: /srv/hub /srv/s1 []",
+        ),
+        (
+            b"ignore = Name ",
+            b"n",
+            201,
+            b"",
+            "line 3: BadPattern TooLong",
+        ),
+        // a character of two bytes is one
+        (
+            b"ignorenot = Name ",
+            b"\xc3\xa9",
+            200,
+            b"",
+            "p: /srv/hub /srv/s1 []",
+        ),
+        (
+            b"ignore = Path /",
+            b"n",
+            200,
+            b"",
+            "line 3: BadPattern TooLong",
+        ),
+        (b"ignore = Name {", b",", 63, b"}", "p: /srv/hub /srv/s1 []"),
+        (
+            b"ignore = Name {",
+            b",",
+            64,
+            b"}",
+            "line 3: BadPattern TooManyChoices",
+        ),
+        (b"ignore = Name a]", b"", 0, b"", "p: /srv/hub /srv/s1 []"),
+    ] {
+        let read = told_of_pattern(rt.alloc(), front, part, count, end)?;
+        assert_eq!(rt; read.as_str(), expected);
+    }
+    Ok(())
+}
+
+#[test]
+fn pattern_lines_are_counted_together(rt: HostRuntime) -> Result<(), Fail> {
+    for (line, count, last, expected) in [
+        (
+            b"ignore = Name a\n" as &[u8],
+            64,
+            b"" as &[u8],
+            "p: /srv/hub /srv/s1 []",
+        ),
+        (
+            b"ignore = Name a\n",
+            64,
+            b"path = a",
+            "p: /srv/hub /srv/s1 [a]",
+        ),
+        (
+            b"ignore = Name a\n",
+            64,
+            b"ignore = Name a",
+            "line 67: TooMany",
+        ),
+        (
+            b"ignore = Name a\n",
+            64,
+            b"ignorenot = Name a",
+            "line 67: TooMany",
+        ),
+        (
+            b"ignorenot = Name a\n",
+            64,
+            b"ignore = Regex x",
+            "line 67: TooMany",
+        ),
+        (
+            b"ignore = Name a\nignorenot = Name b\n",
+            32,
+            b"",
+            "p: /srv/hub /srv/s1 []",
+        ),
+        (
+            b"ignore = Name a\nignorenot = Name b\n",
+            32,
+            b"ignore = Foo",
+            "line 67: TooMany",
+        ),
+        (
+            b"ignore = Name a\npath = a\n",
+            63,
+            b"ignore = Foo",
+            "line 129: BadPattern NoKind",
+        ),
+    ] {
+        let mut lines = many(rt.alloc(), line, count)?;
+        lines.extend_from_slice(last)?;
+        let read = told_with_roots(rt.alloc(), lines.as_slice())?;
+        assert_eq!(rt; read.as_str(), expected);
+    }
+    Ok(())
+}
+
+#[test]
+fn patterns_stand_in_the_order_of_their_lines(rt: HostRuntime) -> Result<(), Fail> {
+    let name = Name::read(rt.alloc(), "p")?;
+    let text =
+        b"root = /a\nignore = Name *.tmp\nignorenot = Path keep/x.tmp\nroot = /b\nignore=BelowPath old";
+    let profile = read_profile(rt.alloc(), name, text)?;
+    assert_eq!(rt; profile.ignore().len(), 2);
+    assert_eq!(rt; profile.ignorenot().len(), 1);
+    for (text, ignored, excepted) in [
+        ("keep/x.tmp", [true, false], true),
+        ("old/a", [false, true], false),
+        ("a", [false, false], false),
+    ] {
+        let path = RelPath::read(rt.alloc(), text)?;
+        for (spec, want) in profile.ignore().iter().zip(ignored) {
+            assert_eq!(rt; spec.matches(&path), want);
+        }
+        for spec in profile.ignorenot() {
+            assert_eq!(rt; spec.matches(&path), excepted);
+        }
+    }
+    Ok(())
+}

@@ -1,0 +1,10 @@
+pub mod Ascending
+pub mod Children
+pub mod Copies
+pub mod Counts
+pub mod LookUp
+pub mod MarkMaps
+pub mod Names
+pub mod Order
+pub mod Setting
+pub mod Trees

@@ -1,0 +1,75 @@
+-- Archives as maps.
+use Rattle.std.proofs.Common.{◌≡◌, ℕ, ◌<◌, Bool, true, false, cond, List, [], ◌∷◌, Option, Some, None, refl, ap, sym, ◌∙◌, subst, arith}
+use Rattle.std.specs.FinMap as fin
+use Rattle.std.specs.FinMap.Entries.{find}
+use Rattle.std.specs.Option.{is_some, unwrap_or}
+use Rattle.std.specs.Prelude.{length, ◌==◌}
+use Rattle.std.specs.Ordering.{eq_by_cmp}
+use Rattle.std.proofs.lemmas.Bool.Decides.{nat_tests}
+use Rattle.std.proofs.lemmas.Bool.{false≢true}
+use Rattle.hub_path.specs.Path.{Path, path_cmp, is_path, is_place}
+use Rattle.hub_tree.specs.Tree.{Archive, IsArchive, HasPaths, kept, with_kept, with_mark, old_mark_at}
+use Rattle.hub_tree.specs.declared.contents.Mark.{Mark}
+use Rattle.hub_tree.specs.declared.contents.Mark.TheVariants as mark
+use Rattle.hub_tree.proofs.Order.{path_total, path_antisymmetric, same_path}
+use Rattle.hub_tree.proofs.Ascending.{get_changed}
+
+pub get-with_kept : (a : Archive) (p : Path) (w : Option Mark) (q : Path) → fin.get (with_kept a p w) q ≡ cond (eq_by_cmp path_cmp q p) w (fin.get a q)
+get-with_kept a p (Some m) q = fin.get-insert path_total a p m q
+get-with_kept a p None q = fin.get-remove path_total a p q
+
+-- entries that were changed at one path
+pub changed_marks : (es fs : List (Path × Mark)) (a : Archive) (p : Path) (w : Option Mark) → fin.from_entries es ≡ a → ((q : Path) → find path_cmp q fs ≡ cond (eq_by_cmp path_cmp p q) w (find path_cmp q es)) → fin.from_entries fs ≡ with_kept a p w
+changed_marks es fs a p w v h =
+    fin.same_map path_total path_antisymmetric _ _ (λ q. get_changed path_total es fs p w h q ∙ ap (λ a. cond (eq_by_cmp path_cmp q p) w (fin.get a q)) v ∙ sym (get-with_kept a p w q))
+
+kept_present : (m : Mark) → kept m ≡ Some mark.Absent → ⊥
+kept_present (mark.File digest) e = cc
+kept_present mark.Directory e = cc
+kept_present mark.Absent e = cc
+
+either_present : (b : Bool) (w o : Option Mark) → (w ≡ Some mark.Absent → ⊥) → (o ≡ Some mark.Absent → ⊥) → cond b w o ≡ Some mark.Absent → ⊥
+either_present true w o f g e = f e
+either_present false w o f g e = g e
+
+-- A map with a path at each key keeps it where a path is set.
+pub path_here : {X : Type 0} (a : fin.FinMap path_cmp X) (p q : Path) (w : Option X) (b : Bool) → is_path p ≡ true → HasPaths a → eq_by_cmp path_cmp q p ≡ b → is_some (cond b w (fin.get a q)) ≡ true → is_path q ≡ true
+path_here a p q w true here paths e s = ap is_path (same_path q p e) ∙ here
+path_here a p q w false here paths e s = paths q s
+
+none_from : (o : Option Mark) → (is_some o ≡ true → is_path [] ≡ true) → o ≡ None
+none_from None f = refl
+none_from (Some m) f = absurd (false≢true (f refl))
+
+-- No path is empty.
+no_top : (a : Archive) → HasPaths a → fin.get a [] ≡ None
+no_top a h = none_from (fin.get a []) (λ e. h [] e)
+
+pub HasPaths-set : (a : Archive) (p : Path) (m : Mark) → HasPaths a → is_path p ≡ true → HasPaths (with_mark a p m)
+HasPaths-set a p m h here = λ q e. path_here a p q (kept m) (eq_by_cmp path_cmp q p) here h refl (sym (ap is_some (get-with_kept a p (kept m) q)) ∙ e)
+
+pub IsArchive-set : (a : Archive) (p : Path) (m : Mark) → IsArchive a × HasPaths a → is_path p ≡ true → IsArchive (with_mark a p m) × HasPaths (with_mark a p m)
+IsArchive-set a p m h here =
+    let paths = HasPaths-set a p m h.1 here in (
+      record {
+        present = λ q e. either_present (eq_by_cmp path_cmp q p) (kept m) (fin.get a q) (kept_present m) (h.0.present q) (sym (get-with_kept a p (kept m) q) ∙ e);
+        no_top = no_top (with_mark a p m) paths;
+      },
+      paths,
+    )
+
+pub IsArchive-empty : IsArchive fin.empty × HasPaths {T = Mark} fin.empty
+IsArchive-empty = (
+  record {
+    present = λ p e. let n : None ≡ Some mark.Absent = sym (fin.get-empty path_cmp p) ∙ e in cc;
+    no_top = fin.get-empty path_cmp [];
+  },
+  λ p e. let n : false ≡ true = sym (ap is_some (fin.get-empty {X = Mark} path_cmp p)) ∙ e in cc,
+)
+
+some_names : (p : Path) → 0 < length p → (length p == 0) ≡ false
+some_names p l = grind (arith, nat_tests)
+
+pub is_path-names : (p : Path) → 0 < length p → is_place p ≡ true → is_path p ≡ true
+is_path-names [] l h = absurd (omega arith)
+is_path-names (n ∷ p) l h = rw (some_names (n ∷ p) l) h

@@ -1,0 +1,4 @@
+pub mod Coded
+pub mod Examples
+pub mod Nodes
+pub mod Tree

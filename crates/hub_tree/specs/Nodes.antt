@@ -1,0 +1,85 @@
+-- The entries of a tree that is kept as names and what stands under each.
+use Rattle.std.specs.Prelude.{◌≡◌, ℕ, ◌+◌, Bool, true, false, not, List, [], ◌∷◌, ◌++◌, map, length, ◌==◌, Option, Some, None, if◌then◌else◌}
+use Rattle.std.specs.FinMap as fin
+use Rattle.std.specs.FinMap.Entries.{where_key}
+use Rattle.std.specs.Ordering.{eq_by_cmp}
+use Rattle.hub_path.specs.Path.{Name, Path, path_cmp, name_cmp}
+use Rattle.hub_tree.specs.Tree.{Replica, is_directory, set_fault}
+use Rattle.hub_tree.specs.declared.fault.SetFault.{SetFault}
+use Rattle.hub_tree.specs.declared.fault.SetFault.TheVariants.{NoParent}
+use Rattle.hub_tree.specs.declared.contents.Contents.{Contents}
+use Rattle.hub_tree.specs.declared.contents.Contents.TheVariants as contents
+use Rattle.hub_tree.specs.declared.node.Node.{Node}
+use Rattle.hub_tree.specs.declared.node.Node.TheFolds.{fold-Node}
+use Rattle.hub_tree.specs.declared.node.Node.TheViews.{out-Node}
+use Rattle.hub_tree.specs.declared.node.Node.TheOpen.{Node-F, File, Directory}
+
+abbrev pub Entries : Type 0
+Entries = List (Path × Contents)
+
+-- The entries, each below this name.
+abbrev pub below : Name → Entries → Entries
+below n es = map (λ e. (n ∷ e.0, e.1)) es
+
+abbrev pub begins_with : Name → Path → Bool
+begins_with n [] = false
+begins_with n (m ∷ p) = eq_by_cmp name_cmp m n
+
+-- The entries below several names. Where a name stands twice, its first entries count.
+abbrev pub joined : List (Name × Entries) → Entries
+joined [] = []
+joined (c ∷ cs) = below c.0 c.1 ++ where_key path_cmp (λ p. not (begins_with c.0 p)) (joined cs)
+
+-- A node at the empty path, and what is below it.
+abbrev pub node_entries : Node-F Entries → Entries
+node_entries (File blob) = ([], contents.File blob) ∷ []
+node_entries (Directory children) = ([], contents.Directory) ∷ joined children.entries
+
+abbrev pub entries_at : Node → Entries
+entries_at = fold-Node Entries node_entries
+
+abbrev pub entries_of : List (Name × Node) → Entries
+entries_of cs = joined (map (λ c. (c.0, entries_at c.1)) cs)
+
+-- The replica whose top holds these.
+unfoldable pub replica_of : List (Name × Node) → Replica
+replica_of cs = fin.from_entries (entries_of cs)
+
+abbrev pub layer_contents : Node-F Node → Contents
+layer_contents (File blob) = contents.File blob
+layer_contents (Directory children) = contents.Directory
+
+-- What a node is.
+abbrev pub contents_of : Node → Contents
+contents_of node = layer_contents (out-Node node)
+
+abbrev pub layer_kids : Node-F Node → List (Name × Node)
+layer_kids (File blob) = []
+layer_kids (Directory children) = children.entries
+
+-- What a node holds.
+abbrev pub kids_of : Node → List (Name × Node)
+kids_of node = layer_kids (out-Node node)
+
+-- What is at q below a node.
+abbrev pub node_get : Path → Node → Option Contents
+node_get [] x = Some (contents_of x)
+node_get (m ∷ p) x = fin.get (replica_of (kids_of x)) (m ∷ p)
+
+-- Whether something stands there that holds something.
+abbrev pub occupied : Option Node → Bool
+occupied None = false
+occupied (Some x) = not (length (kids_of x) == 0)
+
+-- What stands there.
+abbrev pub contents_or_absent : Option Node → Contents
+contents_or_absent None = contents.Absent
+contents_or_absent (Some x) = contents_of x
+
+-- Why contents can't be set at a path below a node.
+abbrev pub fault_below : Node → Path → Contents → Option SetFault
+fault_below x p c = if is_directory (contents_of x) then set_fault (replica_of (kids_of x)) p c else Some NoParent
+
+-- How many entries a node is, with what is below it.
+abbrev pub size_of : Node → ℕ
+size_of x = fin.len (replica_of (kids_of x)) + 1

@@ -1,0 +1,61 @@
+ghost use Rattle.std.specs.Prelude.{◌≡◌, IfOk};
+ghost use Rattle.sha2.specs.Sha256.{sha256};
+
+use sha2::{Digest, Sha256};
+use std::alloc::AllocError;
+use std::marker::Model;
+
+/// The bytes of a file, with their digest. Contracts see the bytes alone.
+///
+/// The digest is SHA-256 (FIPS 180-4), and is computed once, when the blob is made.
+#[derive(Debug, Drop)]
+pub struct Blob {
+    bytes: Vec<u8>,
+    digest: [u8; 32],
+}
+
+impl Model for Blob {
+    ghost use Rattle.std.specs.Prelude.{◌≡◌, List, ℕ};
+    ghost use Rattle.sha2.specs.Sha256.{sha256};
+
+    ghost Value = { List ℕ };
+
+    ghost view = { λ a. a.bytes.items };
+
+    ghost invariant = { λ a. a.digest ≡ sha256 a.bytes.items };
+}
+
+impl Blob {
+    /// A file with these bytes. It takes no memory beside theirs.
+    pub fn new(bytes: Vec<u8>) -> Blob
+        ensures { result ≡ bytes.items }
+    {
+        let digest = Sha256::digest(bytes.as_slice());
+        Blob { bytes, digest }
+    }
+
+    /// The bytes, lent. It takes no memory.
+    pub fn bytes(&self) -> &[u8]
+        ensures { result.now ≡ self.now }
+    {
+        self.bytes.as_slice()
+    }
+
+    /// The SHA-256 of the bytes. It takes no memory, and no time that grows with them.
+    pub fn digest(&self) -> [u8; 32]
+        ensures { result ≡ sha256 self.now }
+    {
+        self.digest
+    }
+
+    /// The same file once more, its bytes copied.
+    pub fn copy(&self) -> Result<Blob, AllocError>
+        ensures { IfOk result (λ b. b ≡ self.now) }
+    {
+        let bytes = self.bytes.clone()?;
+        Ok(Blob {
+            bytes,
+            digest: self.digest,
+        })
+    }
+}

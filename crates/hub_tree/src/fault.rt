@@ -1,0 +1,44 @@
+use std::alloc::{AllocError, AllocFailed};
+use thiserror::Error;
+
+/// Why contents can't be set at a path: the first of these that applies.
+#[derive(Clone, Copy, Debug, PartialEq, Eq, Error)]
+pub enum SetFault {
+    /// The path is the whole replica.
+    #[error("RootPath")]
+    RootPath,
+    /// The parent of the path is no directory.
+    #[error("NoParent")]
+    NoParent,
+    /// A directory that holds something would become a file or go.
+    #[error("NotEmpty")]
+    NotEmpty,
+    /// Nothing is there that could go.
+    #[error("NothingThere")]
+    NothingThere,
+    /// Memory was refused.
+    #[error("OutOfMemory")]
+    OutOfMemory,
+}
+
+impl From<AllocError> for SetFault {
+    ghost use Rattle.hub_tree.specs.declared.fault.SetFault.TheVariants.{OutOfMemory};
+    ghost use Rattle.std.specs.Prelude.{◌≡◌};
+
+    ghost from_gives = { λ _ e. e ≡ OutOfMemory };
+
+    fn from(_: AllocError) -> Self {
+        SetFault::OutOfMemory
+    }
+}
+
+impl<T: Drop> From<AllocFailed<T>> for SetFault {
+    ghost use Rattle.hub_tree.specs.declared.fault.SetFault.TheVariants.{OutOfMemory};
+    ghost use Rattle.std.specs.Prelude.{◌≡◌};
+
+    ghost from_gives = { λ _ e. e ≡ OutOfMemory };
+
+    fn from(_: AllocFailed<T>) -> Self {
+        SetFault::OutOfMemory
+    }
+}

@@ -1,0 +1,251 @@
+ghost use Rattle.std.specs.Prelude.{◌≡◌, ◌<◌, min, ◌++◌, [], ◌∷◌, drop, length, None, IfOk, IfErr, OnOk, OnErr};
+ghost use Rattle.std.specs.Option.{option_and_then, option_copied};
+ghost use Rattle.std.specs.FinMap as fin;
+ghost use Rattle.std.specs.BTreeMap.{get, insert_entry, keys, IsOrdered};
+ghost use Rattle.hub_path.specs.Path.{Path, name_cmp};
+ghost use Rattle.hub_tree.specs.Nodes.{replica_of, entries_of, entries_at, size_of, node_get, occupied, kids_of, contents_of, contents_or_absent, fault_below};
+ghost use Rattle.hub_tree.specs.Tree.{set_fault, with_contents, is_directory, IsRefusal};
+
+use crate::blob::Blob;
+use crate::contents::Contents;
+use crate::fault::SetFault;
+use hub_path::{Items, Name, RelPath};
+use std::alloc::{AllocError, Global};
+use std::collections::BTreeMap;
+
+/// What a directory holds under a name.
+#[derive(Drop)]
+pub enum Node {
+    /// A file.
+    File(Blob),
+    /// A directory, by what it holds.
+    Directory(BTreeMap<Name, Node>),
+}
+
+/// What stands below these at the names of the path from `depth` on.
+pub fn node_at<'a>(
+    children: &'a BTreeMap<Name, Node>,
+    path: &RelPath,
+    depth: usize,
+) -> Option<&'a Node>
+    requires { depth < length path.now }
+    ensures { (q : Path) → fin.get (replica_of children.now.entries) (drop depth path.now ++ q)
+        ≡ option_and_then (node_get q) (option_copied result) }
+{
+    let len = path.len();
+    let node = children.get(path.name(depth))?;
+    if depth + 1 == len {
+        return Some(node);
+    }
+    match node {
+        Node::File(_) => None,
+        Node::Directory(inner) => node_at(inner, path, depth + 1),
+    }
+}
+
+/// Copies of the names, ascending.
+pub fn names_of(alloc: Global, children: &BTreeMap<Name, Node>) -> Result<Items<Name>, AllocError>
+    ensures names { IfOk result (λ ns. ns ≡ keys children.now) }
+    ensures ordered { IsOrdered name_cmp children.now }
+{
+    let mut names = Vec::new(alloc);
+    for name in children.keys() {
+        names.push(name.copy()?)?;
+    }
+    Ok(Items::from_vec(names))
+}
+
+/// Copies of these, with all that they hold.
+#[cycle(copy)]
+pub fn copies_of(
+    alloc: Global,
+    children: &BTreeMap<Name, Node>,
+) -> Result<BTreeMap<Name, Node>, AllocError>
+    ensures { IfOk result (λ m. entries_of m.entries ≡ entries_of children.now.entries) }
+{
+    let mut copies = BTreeMap::new(alloc);
+    for (name, node) in children.iter() {
+        let copy = copy_of(alloc, node)?;
+        put(&mut copies, name.copy()?, copy)?;
+    }
+    Ok(copies)
+}
+
+/// Puts a node under a name.
+fn put(children: &mut BTreeMap<Name, Node>, name: Name, node: Node) -> Result<(), AllocError>
+    ensures { OnOk result (children.new.entries ≡ insert_entry name_cmp children.old.entries name node) }
+{
+    let _old = children.insert(name, node)?;
+    Ok(())
+}
+
+/// A copy of the node, with all that it holds.
+#[cycle(copy)]
+fn copy_of(alloc: Global, node: &Node) -> Result<Node, AllocError>
+    ensures { IfOk result (λ x. entries_at x ≡ entries_at node.now) }
+{
+    match node {
+        Node::File(blob) => Ok(Node::File(blob.copy()?)),
+        Node::Directory(children) => Ok(Node::Directory(copies_of(alloc, children)?)),
+    }
+}
+
+/// How many files and directories these are with all that they hold, at most `u64::MAX`.
+#[cycle(count)]
+pub fn count_of(children: &BTreeMap<Name, Node>) -> u64
+    ensures { result ≡ min (fin.len (replica_of children.now.entries)) u64.MAX }
+{
+    let mut count: u64 = 0;
+    for node in children.values() {
+        count = count.saturating_add(count_at(node));
+    }
+    count
+}
+
+/// How many files and directories the node is with all that it holds, at most `u64::MAX`.
+#[cycle(count)]
+fn count_at(node: &Node) -> u64
+    ensures { result ≡ min (size_of node.now) u64.MAX }
+{
+    match node {
+        Node::File(_) => 1,
+        Node::Directory(children) => count_of(children).saturating_add(1),
+    }
+}
+
+/// Sets contents at the names of the path from `depth` on, below these.
+#[cycle(set)]
+pub fn set_at(
+    alloc: Global,
+    children: &mut BTreeMap<Name, Node>,
+    path: &RelPath,
+    depth: usize,
+    contents: Contents,
+) -> Result<(), SetFault>
+    requires { depth < length path.now }
+    ensures allowed { OnOk result (set_fault (replica_of children.old.entries) (drop depth path.now) contents ≡ None) }
+    ensures ok { OnOk result (replica_of children.new.entries ≡ with_contents (replica_of children.old.entries) (drop depth path.now) contents) }
+    ensures fault { IfErr result (IsRefusal (set_fault (replica_of children.old.entries) (drop depth path.now) contents)) }
+    ensures err { OnErr result (replica_of children.new.entries ≡ replica_of children.old.entries) }
+{
+    let len = path.len();
+    let name = path.name(depth);
+    if depth + 1 == len {
+        return set_child(alloc, children, name, contents);
+    }
+    match children.get_mut(name) {
+        Some(node) => set_below(alloc, node, path, depth + 1, contents),
+        None => Err(SetFault::NoParent),
+    }
+}
+
+/// Sets contents at the names of the path from `depth` on, below a node.
+#[cycle(set)]
+fn set_below(
+    alloc: Global,
+    node: &mut Node,
+    path: &RelPath,
+    depth: usize,
+    contents: Contents,
+) -> Result<(), SetFault>
+    requires { depth < length path.now }
+    ensures allowed { OnOk result (fault_below node.old (drop depth path.now) contents ≡ None) }
+    ensures ok { OnOk result (replica_of (kids_of node.new) ≡ with_contents (replica_of (kids_of node.old)) (drop depth path.now) contents) }
+    ensures fault { IfErr result (IsRefusal (fault_below node.old (drop depth path.now) contents)) }
+    ensures err { OnErr result (replica_of (kids_of node.new) ≡ replica_of (kids_of node.old)) }
+    ensures kind { contents_of node.new ≡ contents_of node.old }
+{
+    match node {
+        Node::Directory(children) => set_at(alloc, children, path, depth, contents),
+        Node::File(_) => Err(SetFault::NoParent),
+    }
+}
+
+/// Sets contents under a name.
+fn set_child(
+    alloc: Global,
+    children: &mut BTreeMap<Name, Node>,
+    name: &Name,
+    contents: Contents,
+) -> Result<(), SetFault>
+    ensures allowed { OnOk result (set_fault (replica_of children.old.entries) (name.now ∷ []) contents ≡ None) }
+    ensures ok { OnOk result (replica_of children.new.entries ≡ with_contents (replica_of children.old.entries) (name.now ∷ []) contents) }
+    ensures fault { IfErr result (IsRefusal (set_fault (replica_of children.old.entries) (name.now ∷ []) contents)) }
+    ensures err { OnErr result (replica_of children.new.entries ≡ replica_of children.old.entries) }
+{
+    match contents {
+        Contents::File(blob) => set_file(children, name, blob),
+        Contents::Directory => set_directory(alloc, children, name),
+        Contents::Absent => remove(children, name),
+    }
+}
+
+/// Puts a file under a name.
+fn set_file(children: &mut BTreeMap<Name, Node>, name: &Name, blob: Blob) -> Result<(), SetFault>
+    ensures allowed { OnOk result (set_fault (replica_of children.old.entries) (name.now ∷ []) (Contents.File blob) ≡ None) }
+    ensures ok { OnOk result (replica_of children.new.entries ≡ with_contents (replica_of children.old.entries) (name.now ∷ []) (Contents.File blob)) }
+    ensures fault { IfErr result (IsRefusal (set_fault (replica_of children.old.entries) (name.now ∷ []) (Contents.File blob))) }
+    ensures err { OnErr result (replica_of children.new.entries ≡ replica_of children.old.entries) }
+{
+    if is_occupied(children, name) {
+        return Err(SetFault::NotEmpty);
+    }
+    let _old = children.insert(name.copy()?, Node::File(blob))?;
+    Ok(())
+}
+
+/// Puts a directory under a name, or leaves the one that is there.
+fn set_directory(
+    alloc: Global,
+    children: &mut BTreeMap<Name, Node>,
+    name: &Name,
+) -> Result<(), SetFault>
+    ensures allowed { OnOk result (set_fault (replica_of children.old.entries) (name.now ∷ []) Contents.Directory ≡ None) }
+    ensures ok { OnOk result (replica_of children.new.entries ≡ with_contents (replica_of children.old.entries) (name.now ∷ []) Contents.Directory) }
+    ensures fault { IfErr result (IsRefusal (set_fault (replica_of children.old.entries) (name.now ∷ []) Contents.Directory)) }
+    ensures err { OnErr result (replica_of children.new.entries ≡ replica_of children.old.entries) }
+{
+    if holds_directory(children, name) {
+        return Ok(());
+    }
+    let _old = children.insert(name.copy()?, Node::Directory(BTreeMap::new(alloc)))?;
+    Ok(())
+}
+
+/// Takes out what stands under a name.
+fn remove(children: &mut BTreeMap<Name, Node>, name: &Name) -> Result<(), SetFault>
+    ensures allowed { OnOk result (set_fault (replica_of children.old.entries) (name.now ∷ []) Contents.Absent ≡ None) }
+    ensures ok { OnOk result (replica_of children.new.entries ≡ with_contents (replica_of children.old.entries) (name.now ∷ []) Contents.Absent) }
+    ensures fault { IfErr result (IsRefusal (set_fault (replica_of children.old.entries) (name.now ∷ []) Contents.Absent)) }
+    ensures err { OnErr result (replica_of children.new.entries ≡ replica_of children.old.entries) }
+{
+    if is_occupied(children, name) {
+        return Err(SetFault::NotEmpty);
+    }
+    match children.remove(name) {
+        Some(_old) => Ok(()),
+        None => Err(SetFault::NothingThere),
+    }
+}
+
+/// Whether a directory stands under the name that holds something.
+fn is_occupied(children: &BTreeMap<Name, Node>, name: &Name) -> bool
+    ensures { result ≡ occupied (get name_cmp children.now name.now) }
+{
+    match children.get(name) {
+        Some(Node::Directory(inner)) => !inner.is_empty(),
+        Some(Node::File(_)) => false,
+        None => false,
+    }
+}
+
+/// Whether a directory stands under the name.
+fn holds_directory(children: &BTreeMap<Name, Node>, name: &Name) -> bool
+    ensures { result ≡ is_directory (contents_or_absent (get name_cmp children.now name.now)) }
+{
+    match children.get(name) {
+        Some(Node::Directory(_)) => true,
+        Some(Node::File(_)) => false,
+        None => false,
+    }
+}

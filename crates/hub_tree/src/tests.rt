@@ -1,0 +1,220 @@
+use crate::{Archive, Blob, Contents, Mark, SetFault, Tree};
+use hub_path::{Items, Name, RelPath};
+use std::alloc::{AllocError, Global};
+use std::process::Abort;
+use std::test::Fail;
+
+fn file(alloc: Global, text: &str) -> Result<Contents, AllocError> {
+    Ok(Contents::File(Blob::new(text.as_bytes().to_vec(alloc)?)))
+}
+
+/// Contents of the kind of a mark.
+fn contents_like(alloc: Global, mark: Mark) -> Result<Contents, AllocError> {
+    match mark {
+        Mark::File(_) => file(alloc, "new"),
+        Mark::Directory => Ok(Contents::Directory),
+        Mark::Absent => Ok(Contents::Absent),
+    }
+}
+
+/// Whether these are the names of that text, one a line.
+fn are_names(rt: &impl Abort, names: &Items<Name>, want: &[&str]) {
+    assert_eq!(rt; names.as_slice().len(), want.len());
+    for (name, text) in names.as_slice().iter().zip(want) {
+        assert_eq!(rt; name.text(), *text);
+    }
+}
+
+/// A directory `a` that holds the file `b`.
+fn small(alloc: Global) -> Option<Tree> {
+    let mut tree = Tree::new(alloc);
+    tree.set(&RelPath::read(alloc, "a").ok()?, Contents::Directory)
+        .ok()?;
+    tree.set(&RelPath::read(alloc, "a/b").ok()?, file(alloc, "abc").ok()?)
+        .ok()?;
+    Some(tree)
+}
+
+/// SHA-256 of `abc`, FIPS 180-4.
+const ABC: [u8; 32] = [
+    0xba, 0x78, 0x16, 0xbf, 0x8f, 0x01, 0xcf, 0xea, 0x41, 0x41, 0x40, 0xde, 0x5d, 0xae, 0x22, 0x23,
+    0xb0, 0x03, 0x61, 0xa3, 0x96, 0x17, 0x7a, 0x9c, 0xb4, 0x10, 0xff, 0x61, 0xf2, 0x00, 0x15, 0xad,
+];
+
+/// SHA-256 of `a`, FIPS 180-4.
+const A: [u8; 32] = [
+    0xca, 0x97, 0x81, 0x12, 0xca, 0x1b, 0xbd, 0xca, 0xfa, 0xc2, 0x31, 0xb3, 0x9a, 0x23, 0xdc, 0x4d,
+    0xa7, 0x86, 0xef, 0xf8, 0x14, 0x7c, 0x4e, 0x72, 0xb9, 0x80, 0x77, 0x85, 0xaf, 0xee, 0x48, 0xbb,
+];
+
+/// SHA-256 of no bytes, FIPS 180-4.
+const EMPTY: [u8; 32] = [
+    0xe3, 0xb0, 0xc4, 0x42, 0x98, 0xfc, 0x1c, 0x14, 0x9a, 0xfb, 0xf4, 0xc8, 0x99, 0x6f, 0xb9, 0x24,
+    0x27, 0xae, 0x41, 0xe4, 0x64, 0x9b, 0x93, 0x4c, 0xa4, 0x95, 0x99, 0x1b, 0x78, 0x52, 0xb8, 0x55,
+];
+
+#[test]
+fn digests_of_known_texts(rt: HostRuntime) -> Result<(), Fail> {
+    for (text, want) in [("", EMPTY), ("a", A), ("abc", ABC)] {
+        let blob = Blob::new(text.as_bytes().to_vec(rt.alloc())?);
+        assert_eq!(rt; blob.digest(), want, "of {text:?}");
+        assert_eq!(rt; blob.bytes(), text.as_bytes());
+        assert_eq!(rt; blob.copy()?.digest(), want, "of a copy of {text:?}");
+    }
+    Ok(())
+}
+
+#[test]
+fn refusals_of_a_small_tree(rt: HostRuntime) -> Result<(), Fail> {
+    let alloc = rt.alloc();
+    let mut tree = small(alloc).ok_or("no memory")?;
+    let top = RelPath::top(alloc);
+    assert_eq!(rt;
+        tree.set(&top, Contents::Directory),
+        Err(SetFault::RootPath)
+    );
+    for (text, kind, want) in [
+        ("x/y", Mark::File(ABC), Err(SetFault::NoParent)),
+        ("a/b/c", Mark::File(ABC), Err(SetFault::NoParent)),
+        ("x/y", Mark::Absent, Err(SetFault::NoParent)),
+        ("a", Mark::Absent, Err(SetFault::NotEmpty)),
+        ("a", Mark::File(ABC), Err(SetFault::NotEmpty)),
+        ("z", Mark::Absent, Err(SetFault::NothingThere)),
+        ("a", Mark::Directory, Ok(())),
+    ] {
+        let answer = tree.set(&RelPath::read(alloc, text)?, contents_like(alloc, kind)?);
+        assert_eq!(rt; answer, want, "at {text}");
+        assert_eq!(rt; tree.count(), 2);
+        assert_eq!(rt; tree.mark_at(&RelPath::read(alloc, "a")?), Mark::Directory);
+        assert_eq!(rt;
+            tree.mark_at(&RelPath::read(alloc, "a/b")?),
+            Mark::File(ABC)
+        );
+        are_names(&rt, &tree.names_at(&top)?, &["a"]);
+        are_names(&rt, &tree.names_at(&RelPath::read(alloc, "a")?)?, &["b"]);
+    }
+    Ok(())
+}
+
+#[test]
+fn changes_of_a_tree(rt: HostRuntime) -> Result<(), Fail> {
+    let alloc = rt.alloc();
+    let mut tree = small(alloc).ok_or("no memory")?;
+    let opening = tree.copy()?;
+    let b = RelPath::read(alloc, "a/b")?;
+    tree.set(&b, file(alloc, "a")?)?;
+    assert_eq!(rt; tree.mark_at(&b), Mark::File(A));
+    assert_eq!(rt; tree.bytes_at(&b).ok_or("no file")?, b"a".as_slice());
+    tree.set(&b, Contents::Directory)?;
+    assert_eq!(rt; tree.mark_at(&b), Mark::Directory);
+    for text in ["a/b/é", "a/b/c", "a/b/c-d", "a/b/C", "a-b"] {
+        tree.set(&RelPath::read(alloc, text)?, file(alloc, "")?)?;
+    }
+    are_names(&rt, &tree.names_at(&b)?, &["C", "c", "c-d", "é"]);
+    are_names(&rt, &tree.names_at(&RelPath::top(alloc))?, &["a", "a-b"]);
+    assert_eq!(rt; tree.count(), 7);
+    for text in ["a/b/é", "a/b/c", "a/b/c-d", "a/b/C", "a/b", "a"] {
+        tree.set(&RelPath::read(alloc, text)?, Contents::Absent)?;
+    }
+    assert_eq!(rt; tree.mark_at(&b), Mark::Absent);
+    assert_eq!(rt; tree.count(), 1);
+    assert_eq!(rt; tree.mark_at(&RelPath::top(alloc)), Mark::Directory);
+    assert_eq!(rt; opening.count(), 2);
+    assert_eq!(rt; opening.mark_at(&b), Mark::File(ABC));
+    assert!(rt; opening.bytes_at(&RelPath::read(alloc, "a")?).is_none());
+    Ok(())
+}
+
+#[test]
+fn a_name_at_each_of_64_levels(rt: HostRuntime) -> Result<(), Fail> {
+    let alloc = rt.alloc();
+    let mut tree = Tree::new(alloc);
+    let mut path = RelPath::top(alloc);
+    for level in 0..64u64 {
+        assert_eq!(rt; tree.count(), level);
+        assert_eq!(rt; tree.names_at(&path)?.len(), 0);
+        path = path.child(Name::read(alloc, "n")?)?;
+        assert_eq!(rt; tree.mark_at(&path), Mark::Absent);
+        tree.set(&path, Contents::Directory)?;
+    }
+    assert_eq!(rt; path.len(), 64);
+    assert_eq!(rt; tree.copy()?.count(), 64);
+    assert_eq!(rt; tree.mark_at(&path), Mark::Directory);
+    Ok(())
+}
+
+#[test]
+fn marks_of_an_archive(rt: HostRuntime) -> Result<(), Fail> {
+    let alloc = rt.alloc();
+    let mut archive = Archive::new(alloc);
+    for text in ["b", "a/b", "a", "a-b"] {
+        archive.set(&RelPath::read(alloc, text)?, Mark::File(ABC))?;
+    }
+    let opening = archive.copy()?;
+    archive.set(&RelPath::read(alloc, "a")?, Mark::Directory)?;
+    archive.set(&RelPath::read(alloc, "b")?, Mark::Absent)?;
+    archive.set(&RelPath::read(alloc, "c")?, Mark::Absent)?;
+    for (text, want) in [
+        ("a", Mark::Directory),
+        ("a/b", Mark::File(ABC)),
+        ("b", Mark::Absent),
+        ("c", Mark::Absent),
+    ] {
+        assert_eq!(rt;
+            archive.mark_at(&RelPath::read(alloc, text)?),
+            want,
+            "at {text}"
+        );
+    }
+    let paths = archive.paths()?;
+    assert_eq!(rt; paths.len(), 3);
+    for (path, want) in paths.as_slice().iter().zip(["a", "a/b", "a-b"]) {
+        assert_eq!(rt; path.text()?.as_str(), want);
+    }
+    assert_eq!(rt; opening.paths()?.len(), 4);
+    assert_eq!(rt;
+        opening.mark_at(&RelPath::read(alloc, "b")?),
+        Mark::File(ABC)
+    );
+    Ok(())
+}
+
+/// Where memory is refused at any point, the tree and the archive read back as before. To be run with each
+/// allocation refused in turn.
+#[test]
+fn want_of_memory_changes_nothing(rt: HostRuntime) -> Result<(), Fail> {
+    let alloc = rt.alloc();
+    let (Some(mut tree), Ok(a), Ok(b), Ok(c)) = (
+        small(alloc),
+        RelPath::read(alloc, "a"),
+        RelPath::read(alloc, "a/b"),
+        RelPath::read(alloc, "a/c"),
+    ) else {
+        return Ok(());
+    };
+    if let Ok(new) = file(alloc, "a") {
+        match tree.set(&c, new) {
+            Ok(()) => assert_eq!(rt; tree.mark_at(&c), Mark::File(A)),
+            Err(fault) => {
+                assert_eq!(rt; fault, SetFault::OutOfMemory);
+                assert_eq!(rt; tree.mark_at(&c), Mark::Absent);
+            }
+        }
+    }
+    let count = tree.count();
+    if let Ok(copy) = tree.copy() {
+        assert_eq!(rt; copy.count(), count);
+        assert_eq!(rt; copy.mark_at(&b), Mark::File(ABC));
+    }
+    if let Ok(names) = tree.names_at(&a) {
+        assert_eq!(rt; names.len() as u64 + 1, count);
+    }
+    assert_eq!(rt; tree.count(), count);
+    assert_eq!(rt; tree.mark_at(&b), Mark::File(ABC));
+    let mut archive = Archive::new(alloc);
+    match archive.set(&b, Mark::Directory) {
+        Ok(()) => assert_eq!(rt; archive.mark_at(&b), Mark::Directory),
+        Err(_) => assert_eq!(rt; archive.mark_at(&b), Mark::Absent),
+    }
+    Ok(())
+}

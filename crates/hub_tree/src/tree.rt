@@ -1,0 +1,132 @@
+ghost use Rattle.std.specs.Prelude.{◌≡◌, min, None, IfOk, IfErr, OnOk, OnErr};
+ghost use Rattle.std.specs.Option.{option_map};
+ghost use Rattle.std.specs.FinMap as fin;
+ghost use Rattle.hub_tree.specs.Tree as tree;
+
+use crate::contents::{Contents, Mark};
+use crate::fault::SetFault;
+use crate::node::{Node, copies_of, count_of, names_of, node_at, set_at};
+use hub_path::{Items, Name, RelPath};
+use std::alloc::{AllocError, Global};
+use std::collections::BTreeMap;
+use std::marker::Model;
+
+/// A replica: files and directories at finitely many paths. The parent of each is a directory, and the whole replica
+/// is one.
+///
+/// It is kept as a tree of names, each directory with what it holds in the order of names.
+#[derive(Drop)]
+pub struct Tree {
+    alloc: Global,
+    children: BTreeMap<Name, Node>,
+}
+
+impl Model for Tree {
+    ghost use Rattle.std.specs.FinMap as fin;
+    ghost use Rattle.std.specs.Coded.{coded_ℕ, coded_list};
+    ghost use Rattle.hub_path.specs.Path.{path_cmp};
+    ghost use Rattle.hub_tree.specs.declared.contents.Contents.{Contents};
+    ghost use Rattle.hub_tree.specs.Coded.{coded_contents};
+
+    ghost Value = { fin.FinMap path_cmp Contents };
+
+    ghost coded = { fin.code (coded_list (coded_list coded_ℕ)) coded_contents };
+
+    ghost use Rattle.hub_tree.specs.Tree.{HasPaths};
+    ghost use Rattle.hub_tree.specs.Nodes.{replica_of};
+
+    ghost view = { λ a. replica_of a.children.entries };
+
+    ghost invariant = { λ a. HasPaths (replica_of a.children.entries) };
+}
+
+impl Tree {
+    /// A replica that holds nothing.
+    pub fn new(alloc: Global) -> Tree
+        ensures { result ≡ fin.empty }
+    {
+        Tree {
+            alloc,
+            children: BTreeMap::new(alloc),
+        }
+    }
+
+    /// The same replica once more, the bytes of its files copied.
+    pub fn copy(&self) -> Result<Tree, AllocError>
+        ensures { IfOk result (λ t. t ≡ self.now) }
+    {
+        Ok(Tree {
+            alloc: self.alloc,
+            children: copies_of(self.alloc, &self.children)?,
+        })
+    }
+
+    /// How many files and directories the replica has, at most `u64::MAX`. It takes no memory.
+    pub fn count(&self) -> u64
+        ensures { result ≡ min (fin.len self.now) u64.MAX }
+    {
+        count_of(&self.children)
+    }
+
+    /// The mark of what stands at the path. It takes no memory.
+    pub fn mark_at(&self, path: &RelPath) -> Mark
+        ensures tree { tree.IsTree self.now }
+        ensures paths { tree.HasPaths self.now }
+        ensures mark { result ≡ tree.mark_at self.now path.now }
+    {
+        let children = &self.children;
+        if path.len() == 0 {
+            return Mark::Directory;
+        }
+        match node_at(children, path, 0) {
+            Some(Node::File(blob)) => Mark::File(blob.digest()),
+            Some(Node::Directory(_)) => Mark::Directory,
+            None => Mark::Absent,
+        }
+    }
+
+    /// The bytes of the file at the path, lent; none where no file is. It takes no memory.
+    pub fn bytes_at<'a>(&'a self, path: &RelPath) -> Option<&'a [u8]>
+        ensures { option_map (λ b. b.now) result ≡ tree.bytes_at self.now path.now }
+    {
+        if path.len() == 0 {
+            return None;
+        }
+        match node_at(&self.children, path, 0) {
+            Some(Node::File(blob)) => Some(blob.bytes()),
+            Some(Node::Directory(_)) => None,
+            None => None,
+        }
+    }
+
+    /// The names of what the directory at the path holds, ascending; none where no directory is.
+    pub fn names_at(&self, path: &RelPath) -> Result<Items<Name>, AllocError>
+        ensures { IfOk result (λ ns. ns ≡ tree.names_at self.now path.now) }
+    {
+        if path.len() == 0 {
+            return names_of(self.alloc, &self.children);
+        }
+        match node_at(&self.children, path, 0) {
+            Some(Node::Directory(children)) => names_of(self.alloc, children),
+            Some(Node::File(_)) => Ok(Items::new(self.alloc)),
+            None => Ok(Items::new(self.alloc)),
+        }
+    }
+
+    /// Sets contents at the path; `Absent` removes what is there.
+    ///
+    /// A directory that is there already stays as it is, with what it holds. The fault is the first of `RootPath`,
+    /// `NoParent`, `NotEmpty` and `NothingThere` that applies; where none does, memory may still be refused. After a
+    /// fault the replica is as it was, and the contents are dropped.
+    pub fn set(&mut self, path: &RelPath, contents: Contents) -> Result<(), SetFault>
+        ensures allowed { OnOk result (tree.set_fault self.old path.now contents ≡ None) }
+        ensures ok { OnOk result (self.new ≡ tree.with_contents self.old path.now contents) }
+        ensures fault { IfErr result (tree.IsRefusal (tree.set_fault self.old path.now contents)) }
+        ensures err { OnErr result (self.new ≡ self.old) }
+    {
+        if path.len() == 0 {
+            return Err(SetFault::RootPath);
+        }
+        set_at(self.alloc, &mut self.children, path, 0, contents)
+    }
+}

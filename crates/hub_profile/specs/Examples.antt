@@ -173,7 +173,7 @@ abbrev two_values : Parts
 two_values = profile_of (codes "p") (settings (codes "root = /srv/hub\nroot = /srv/s1\npath = a\npath = b/c"))
 
 two_values_read : profile_reading (codes "p") (codes "\troot=/srv/hub \r\nroot = /srv/s1/\n#path = x\n\npath = a\npath = b/c/\n")
-    ≡ Ok (record { name = codes "p"; roots = path_of (codes "srv/hub") ∷ path_of (codes "srv/s1") ∷ []; paths = path_of (codes "a") ∷ path_of (codes "b/c") ∷ [] })
+    ≡ Ok (record { name = codes "p"; roots = path_of (codes "srv/hub") ∷ path_of (codes "srv/s1") ∷ []; paths = path_of (codes "a") ∷ path_of (codes "b/c") ∷ []; ignore = []; ignorenot = [] })
 two_values_read = refl
 
 two_values_hold : IsProfile two_values

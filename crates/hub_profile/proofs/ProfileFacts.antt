@@ -6,6 +6,7 @@ use Rattle.std.proofs.lemmas.Bool.Decides.{same_from_decides, Decides-like}
 use Rattle.std.proofs.lemmas.Slice.Eq.{slice_eq-Decides, bytes_eq-Decides}
 use Rattle.std.proofs.lemmas.List.Folds.{list_any-append}
 use Rattle.hub_path.specs.Path.{Name, Path, path_eq, is_over, is_place, none_over}
+use Rattle.hub_glob.specs.Specification.{Specification}
 use Rattle.hub_profile.specs.declared.fault.Fault.TheVariants as fault
 use Rattle.hub_profile.specs.Facts.{are_roots, are_kept}
 use Rattle.hub_profile.specs.Parts.{IsProfile}
@@ -85,8 +86,8 @@ roots_facts (r ∷ s ∷ []) h k = and_from (list_all is_place (r ∷ s ∷ []))
 roots_facts (r ∷ s ∷ t ∷ rs) h k = cc
 
 -- Roots without a fault and values that are places make a profile.
-pub IsProfile-profile : (name : Name) (roots values : List Path) → IsTrue (list_all is_place roots) → IsTrue (list_all is_place values) → roots_fault roots ≡ None → IsProfile (profile name roots values)
-IsProfile-profile name roots values r v k = record {
+pub IsProfile-profile : (name : Name) (roots values : List Path) (ignore ignorenot : List Specification) → IsTrue (list_all is_place roots) → IsTrue (list_all is_place values) → roots_fault roots ≡ None → IsProfile (profile name roots values ignore ignorenot)
+IsProfile-profile name roots values ignore ignorenot r v k = record {
   roots = roots_facts roots r k;
   paths = kept_facts (kept values) (list_all-kept is_place values [] values v) (none_over-kept values [] values (λ p h. h));
 }

@@ -9,11 +9,14 @@ use Rattle.std.proofs.lemmas.List.{append-nil, append_assoc, map-append, length-
 use Rattle.std.proofs.lemmas.List.Elements.{filter-append, filter_map-append}
 use Rattle.hub_path.specs.Path.{Path}
 use Rattle.hub_path.specs.Reading.{root_reading}
+use Rattle.hub_glob.specs.Specification.{Specification}
+use Rattle.hub_glob.specs.Reading.{spec_reading}
 use Rattle.hub_profile.specs.declared.fault.Fault.{Fault}
 use Rattle.hub_profile.specs.declared.fault.ProfileFault.{ProfileFault}
 use Rattle.hub_profile.specs.Lines.{Setting, setting, settings, settings_of, is_setting, line_text, named, values}
-use Rattle.hub_profile.specs.Reading.{path_preferences, setting_fault, line_fault, or_later, ok_part, kept_reading, roots_of, path_values}
-use Rattle.hub_profile.proofs.Settings.{any_number}
+use Rattle.hub_profile.specs.Reading.{root_preferences, path_preferences, ignore_preferences, ignorenot_preferences, pattern_preferences, setting_fault, line_fault, or_later, ok_part, kept_reading, roots_of, path_values, ignore_of, ignorenot_of}
+use Rattle.hub_profile.specs.Counts.{Count}
+use Rattle.hub_profile.proofs.Settings.{Counted, any_number, same_count}
 
 named-append : (ws : List (List ℕ)) (xs ys : List Setting) → named ws (xs ++ ys) ≡ named ws xs ++ named ws ys
 named-append ws xs ys = filter-append _ xs ys
@@ -21,17 +24,47 @@ named-append ws xs ys = filter-append _ xs ys
 values-append : (ws : List (List ℕ)) (xs ys : List Setting) → values ws (xs ++ ys) ≡ values ws xs ++ values ws ys
 values-append ws xs ys = ap (map (λ (s : Setting). s.value)) (named-append ws xs ys) ∙ map-append (λ (s : Setting). s.value) (named ws xs) (named ws ys)
 
-abbrev root_words : List (List ℕ)
-root_words = codes "root" ∷ []
+-- What settings have said: the roots, the `path` values and the specifications.
+pub record Told : Type 0 where
+  pub roots : List Path
+  pub paths : List Path
+  pub ignore : List Specification
+  pub ignorenot : List Specification
 
-abbrev path_words : List (List ℕ)
-path_words = codes "path" ∷ []
+abbrev pub told : List Path → List Path → List Specification → List Specification → Told
+told roots paths ignore ignorenot = record { roots = roots; paths = paths; ignore = ignore; ignorenot = ignorenot }
 
-roots_of-append : (xs ys : List Setting) → roots_of (xs ++ ys) ≡ roots_of xs ++ roots_of ys
-roots_of-append xs ys = ap (λ vs. filter_map (λ v. ok_part (root_reading v)) vs) (values-append root_words xs ys) ∙ filter_map-append (λ v. ok_part (root_reading v)) (values root_words xs) (values root_words ys)
+abbrev pub told_of : List Setting → Told
+told_of ss = told (roots_of ss) (path_values ss) (ignore_of ss) (ignorenot_of ss)
 
-path_values-append : (xs ys : List Setting) → path_values (xs ++ ys) ≡ path_values xs ++ path_values ys
-path_values-append xs ys = ap (λ vs. filter_map (λ v. ok_part (kept_reading v)) vs) (values-append path_words xs ys) ∙ filter_map-append (λ v. ok_part (kept_reading v)) (values path_words xs) (values path_words ys)
+abbrev pub and_told : Told → Told → Told
+and_told d e = told (d.roots ++ e.roots) (d.paths ++ e.paths) (d.ignore ++ e.ignore) (d.ignorenot ++ e.ignorenot)
+
+read-append : {X : Type 0} (f : List ℕ → Option X) (ws : List (List ℕ)) (xs ys : List Setting) → filter_map f (values ws (xs ++ ys)) ≡ filter_map f (values ws xs) ++ filter_map f (values ws ys)
+read-append f ws xs ys = ap (filter_map f) (values-append ws xs ys) ∙ filter_map-append f (values ws xs) (values ws ys)
+
+told_of-append : (xs ys : List Setting) → told_of (xs ++ ys) ≡ and_told (told_of xs) (told_of ys)
+told_of-append xs ys = λ i. told
+    (read-append (λ v. ok_part (root_reading v)) root_preferences xs ys i)
+    (read-append (λ v. ok_part (kept_reading v)) path_preferences xs ys i)
+    (read-append (λ v. ok_part (spec_reading v)) ignore_preferences xs ys i)
+    (read-append (λ v. ok_part (spec_reading v)) ignorenot_preferences xs ys i)
+
+and_told-nothing : (d : Told) → and_told d (told_of []) ≡ d
+and_told-nothing d = λ i. told (append-nil d.roots i) (append-nil d.paths i) (append-nil d.ignore i) (append-nil d.ignorenot i)
+
+told_of-any : (n : ℕ) (l : List ℕ) → told_of (setting n l ∷ []) ≡ told_of (setting 0 l ∷ [])
+told_of-any n l = let same = any_number n l in λ i. told (same.roots_are i) (same.paths_are i) (same.ignore_are i) (same.ignorenot_are i)
+
+-- So many settings of each kind as what was said has values.
+abbrev pub CountOf : List Setting → Told → Type 0
+CountOf ss d = Count ss (length d.paths) (length d.ignore + length d.ignorenot)
+
+count-append : (xs : List Setting) (n : ℕ) (l : List ℕ) (d : Told) → CountOf xs d → Counted (setting 0 l) → CountOf (xs ++ setting n l ∷ []) (and_told d (told_of (setting 0 l ∷ [])))
+count-append xs n l d before one = record {
+  paths_are = ap length (named-append path_preferences xs (setting n l ∷ [])) ∙ (length-append (named path_preferences xs) (named path_preferences (setting n l ∷ [])) ∙ omega (arith, before.paths_are, same_count path_preferences n l, one.paths_are, length-append d.paths (path_values (setting 0 l ∷ []))));
+  patterns_are = ap length (named-append pattern_preferences xs (setting n l ∷ [])) ∙ (length-append (named pattern_preferences xs) (named pattern_preferences (setting n l ∷ [])) ∙ omega (arith, before.patterns_are, same_count pattern_preferences n l, one.patterns_are, length-append d.ignore (ignore_of (setting 0 l ∷ [])), length-append d.ignorenot (ignorenot_of (setting 0 l ∷ []))));
+}
 
 settings_of-append : (xs ys : List (ℕ × List ℕ)) → settings_of (xs ++ ys) ≡ settings_of xs ++ settings_of ys
 settings_of-append [] ys = refl
@@ -65,15 +98,21 @@ lines cs = slice_split (λ c. c == 10) cs
 abbrev pub settings_before : List ℕ → ℕ → List Setting
 settings_before cs k = settings_of (enumerate_from 1 (take k (lines cs)))
 
--- A draft of these roots and values is what the first lines say, and none of them is at fault.
-pub record Said (cs : List ℕ) (k : ℕ) (roots paths : List Path) : Type 0 where
+-- What the first lines say is this, and none of them is at fault.
+pub record Said (cs : List ℕ) (k : ℕ) (d : Told) : Type 0 where
   pub fine : line_fault setting_fault [] (settings_before cs k) ≡ None
-  pub roots_are : roots ≡ roots_of (settings_before cs k)
-  pub paths_are : paths ≡ path_values (settings_before cs k)
-  pub counted : length (named path_preferences (settings_before cs k)) ≡ length paths
+  pub told_is : d ≡ told_of (settings_before cs k)
+  pub counted : CountOf (settings_before cs k) d
 
-pub Said-none : (cs : List ℕ) → Said cs 0 [] []
-Said-none cs = record { fine = refl; roots_are = refl; paths_are = refl; counted = refl }
+-- A line that is fine behind what was said, and one with that fault.
+abbrev pub FineBehind : Told → List ℕ → Type 0
+FineBehind d l = (before : List Setting) → CountOf before d → setting_fault before (setting 0 l) ≡ None
+
+abbrev pub FaultBehind : Told → List ℕ → Fault → Type 0
+FaultBehind d l f = (before : List Setting) → CountOf before d → setting_fault before (setting 0 l) ≡ Some f
+
+pub Said-none : (cs : List ℕ) → Said cs 0 (told [] [] [] [])
+Said-none cs = record { fine = refl; told_is = refl; counted = record { paths_are = refl; patterns_are = refl } }
 
 pushed : (cs : List ℕ) (k : ℕ) (t : List ℕ) → k < length (lines cs) → settings_of (enumerate_from 1 (take k (lines cs) ++ t ∷ [])) ≡ settings_before cs k ++ settings_of ((k + 1, t) ∷ [])
 pushed cs k t h =
@@ -93,38 +132,30 @@ says_nothing : (n : ℕ) (t : List ℕ) → is_setting (line_text t) ≡ false �
 says_nothing n t h = cond-false (is_setting (line_text t)) (setting n (line_text t) ∷ []) [] h
 
 -- A line that says nothing.
-Said-skip : (cs : List ℕ) (k : ℕ) (t : List ℕ) (roots paths : List Path) → Said cs k roots paths → k < length (lines cs) → t ≡ get_or (lines cs) k t → is_setting (line_text t) ≡ false → Said cs (k + 1) roots paths
-Said-skip cs k t roots paths s h e n =
+Said-skip : (cs : List ℕ) (k : ℕ) (t : List ℕ) (d : Told) → Said cs k d → k < length (lines cs) → t ≡ get_or (lines cs) k t → is_setting (line_text t) ≡ false → Said cs (k + 1) d
+Said-skip cs k t d s h e n =
     let same : settings_before cs (k + 1) ≡ settings_before cs k = one_more cs k t h e ∙ (ap (λ ss. settings_before cs k ++ ss) (says_nothing (k + 1) t n) ∙ append-nil (settings_before cs k)) in
     record {
       fine = ap (line_fault setting_fault []) same ∙ s.fine;
-      roots_are = s.roots_are ∙ ap roots_of (sym same);
-      paths_are = s.paths_are ∙ ap path_values (sym same);
-      counted = ap (λ ss. length (named path_preferences ss)) same ∙ s.counted;
+      told_is = s.told_is ∙ ap told_of (sym same);
+      counted = subst (λ ss. CountOf ss d) (sym same) s.counted;
     }
 
 -- A line that says something, and is fine.
-Said-more : (cs : List ℕ) (k : ℕ) (t : List ℕ) (roots paths more_roots more_paths : List Path) → Said cs k roots paths → k < length (lines cs) → t ≡ get_or (lines cs) k t → is_setting (line_text t) ≡ true
-    → more_roots ≡ roots ++ roots_of (setting 0 (line_text t) ∷ []) → more_paths ≡ paths ++ path_values (setting 0 (line_text t) ∷ [])
-    → length (named path_preferences (setting 0 (line_text t) ∷ [])) ≡ length (path_values (setting 0 (line_text t) ∷ []))
-    → ((before : List Setting) → length (named path_preferences before) ≡ length paths → setting_fault before (setting 0 (line_text t)) ≡ None)
-    → Said cs (k + 1) more_roots more_paths
-Said-more cs k t roots paths more_roots more_paths s h e y rs ps count fine =
+Said-more : (cs : List ℕ) (k : ℕ) (t : List ℕ) (d : Told) → Said cs k d → k < length (lines cs) → t ≡ get_or (lines cs) k t → is_setting (line_text t) ≡ true → Counted (setting 0 (line_text t)) → FineBehind d (line_text t) → Said cs (k + 1) (and_told d (told_of (setting 0 (line_text t) ∷ [])))
+Said-more cs k t d s h e y count fine =
     let before = settings_before cs k in
-    let n = any_number (k + 1) (line_text t) in
-    let next : settings_before cs (k + 1) ≡ before ++ setting (k + 1) (line_text t) ∷ [] = one_more cs k t h e ∙ ap (λ ss. before ++ ss) (says (k + 1) t y) in
+    let l = line_text t in
+    let next : settings_before cs (k + 1) ≡ before ++ setting (k + 1) l ∷ [] = one_more cs k t h e ∙ ap (λ ss. before ++ ss) (says (k + 1) t y) in
     record {
-      fine = ap (line_fault setting_fault []) next ∙ (line_fault-append [] before (setting (k + 1) (line_text t) ∷ []) s.fine ∙ ap (λ o. or_later (k + 1) o None) (fine before s.counted));
-      roots_are = rs ∙ (ap (λ xs. xs ++ roots_of (setting 0 (line_text t) ∷ [])) s.roots_are ∙ (ap (λ xs. roots_of before ++ xs) (sym n.0) ∙ (sym (roots_of-append before (setting (k + 1) (line_text t) ∷ [])) ∙ ap roots_of (sym next))));
-      paths_are = ps ∙ (ap (λ xs. xs ++ path_values (setting 0 (line_text t) ∷ [])) s.paths_are ∙ (ap (λ xs. path_values before ++ xs) (sym n.1) ∙ (sym (path_values-append before (setting (k + 1) (line_text t) ∷ [])) ∙ ap path_values (sym next))));
-      counted = ap (λ ss. length (named path_preferences ss)) next ∙ (ap length (named-append path_preferences before (setting (k + 1) (line_text t) ∷ [])) ∙ (length-append (named path_preferences before) (named path_preferences (setting (k + 1) (line_text t) ∷ [])) ∙ omega (arith, s.counted, n.2, count, ap length ps, length-append paths (path_values (setting 0 (line_text t) ∷ [])))));
+      fine = ap (line_fault setting_fault []) next ∙ (line_fault-append [] before (setting (k + 1) l ∷ []) s.fine ∙ ap (λ o. or_later (k + 1) o None) (fine before s.counted));
+      told_is = (λ i. and_told (s.told_is i) (sym (told_of-any (k + 1) l) i)) ∙ (sym (told_of-append before (setting (k + 1) l ∷ [])) ∙ ap told_of (sym next));
+      counted = subst (λ ss. CountOf ss (and_told d (told_of (setting 0 l ∷ [])))) (sym next) (count-append before (k + 1) l d s.counted count);
     }
 
 -- A line at fault.
-Said-fault : (cs : List ℕ) (k : ℕ) (t : List ℕ) (roots paths : List Path) (f : Fault) → Said cs k roots paths → k < length (lines cs) → t ≡ get_or (lines cs) k t → is_setting (line_text t) ≡ true
-    → ((before : List Setting) → length (named path_preferences before) ≡ length paths → setting_fault before (setting 0 (line_text t)) ≡ Some f)
-    → line_fault setting_fault [] (settings cs) ≡ Some (record { line = k + 1; fault = f })
-Said-fault cs k t roots paths f s h e y bad =
+Said-fault : (cs : List ℕ) (k : ℕ) (t : List ℕ) (d : Told) (f : Fault) → Said cs k d → k < length (lines cs) → t ≡ get_or (lines cs) k t → is_setting (line_text t) ≡ true → FaultBehind d (line_text t) f → line_fault setting_fault [] (settings cs) ≡ Some (record { line = k + 1; fault = f })
+Said-fault cs k t d f s h e y bad =
     let before = settings_before cs k in
     let rest = settings_of (enumerate_from (1 + length (take k (lines cs) ++ t ∷ [])) (drop (k + 1) (lines cs))) in
     let cut : lines cs ≡ (take k (lines cs) ++ t ∷ []) ++ drop (k + 1) (lines cs) = sym (take-append-drop (k + 1) (lines cs)) ∙ ap (λ ls. ls ++ drop (k + 1) (lines cs)) (take_more (lines cs) k t h ∙ ap (λ x. take k (lines cs) ++ x ∷ []) (sym e)) in
@@ -133,10 +164,10 @@ Said-fault cs k t roots paths f s h e y bad =
     ap (line_fault setting_fault []) (whole ∙ append_assoc before (setting (k + 1) (line_text t) ∷ []) rest) ∙ (line_fault-append [] before (setting (k + 1) (line_text t) ∷ rest) s.fine ∙ ap (λ o. or_later (k + 1) o (line_fault setting_fault (before ++ setting (k + 1) (line_text t) ∷ []) rest)) (bad before s.counted))
 
 -- All lines.
-pub Said-all : (cs : List ℕ) (k : ℕ) (roots paths : List Path) → Said cs k roots paths → length (lines cs) ≤ k → (line_fault setting_fault [] (settings cs) ≡ None) × (roots ≡ roots_of (settings cs)) × (paths ≡ path_values (settings cs))
-Said-all cs k roots paths s h =
+pub Said-all : (cs : List ℕ) (k : ℕ) (d : Told) → Said cs k d → length (lines cs) ≤ k → (line_fault setting_fault [] (settings cs) ≡ None) × (d ≡ told_of (settings cs))
+Said-all cs k d s h =
     let all : settings_before cs k ≡ settings cs = ap (λ ls. settings_of (enumerate_from 1 ls)) (take_all k (lines cs) h) in
-    (ap (line_fault setting_fault []) (sym all) ∙ s.fine, s.roots_are ∙ ap roots_of all, s.paths_are ∙ ap path_values all)
+    (ap (line_fault setting_fault []) (sym all) ∙ s.fine, s.told_is ∙ ap told_of all)
 
 -- The line of a turn, by its characters.
 pub line_at : (text : List ℕ) (k i : ℕ) (line : List ℕ) → IsUtf8 text → (k < length (enumerate_from 0 (lines text))) × ((i, line) ≡ get_or (enumerate_from 0 (lines text)) k (i, line)) → (i ≡ k) × (k < length (lines (chars text))) × (chars line ≡ get_or (lines (chars text)) k (chars line))
@@ -150,23 +181,15 @@ pub all_lines : (text : List ℕ) (k : ℕ) → IsUtf8 text → k ≡ length (en
 all_lines text k u e = omega (arith, e, length-enumerate_from 0 (lines text), length-parts 10 text (lit< tt) u)
 
 -- The same by the text of the line, as it was trimmed.
-pub skipped : (cs : List ℕ) (k : ℕ) (t l : List ℕ) (roots paths : List Path) → Said cs k roots paths → k < length (lines cs) → t ≡ get_or (lines cs) k t → l ≡ line_text t → is_setting l ≡ false → Said cs (k + 1) roots paths
-skipped cs k t l roots paths s h e q = subst (λ m. is_setting m ≡ false → Said cs (k + 1) roots paths) (sym q) (Said-skip cs k t roots paths s h e)
+pub skipped : (cs : List ℕ) (k : ℕ) (t l : List ℕ) (d : Told) → Said cs k d → k < length (lines cs) → t ≡ get_or (lines cs) k t → l ≡ line_text t → is_setting l ≡ false → Said cs (k + 1) d
+skipped cs k t l d s h e q = subst (λ m. is_setting m ≡ false → Said cs (k + 1) d) (sym q) (Said-skip cs k t d s h e)
 
-pub taken : (cs : List ℕ) (k : ℕ) (t l : List ℕ) (roots paths more_roots more_paths : List Path) → Said cs k roots paths → k < length (lines cs) → t ≡ get_or (lines cs) k t → l ≡ line_text t → is_setting l ≡ true
-    → more_roots ≡ roots ++ roots_of (setting 0 l ∷ []) → more_paths ≡ paths ++ path_values (setting 0 l ∷ [])
-    → length (named path_preferences (setting 0 l ∷ [])) ≡ length (path_values (setting 0 l ∷ []))
-    → ((before : List Setting) → length (named path_preferences before) ≡ length paths → setting_fault before (setting 0 l) ≡ None)
-    → Said cs (k + 1) more_roots more_paths
-taken cs k t l roots paths more_roots more_paths s h e q =
-    subst
-    (λ m. is_setting m ≡ true → more_roots ≡ roots ++ roots_of (setting 0 m ∷ []) → more_paths ≡ paths ++ path_values (setting 0 m ∷ []) → length (named path_preferences (setting 0 m ∷ [])) ≡ length (path_values (setting 0 m ∷ []))
-    → ((before : List Setting) → length (named path_preferences before) ≡ length paths → setting_fault before (setting 0 m) ≡ None) → Said cs (k + 1) more_roots more_paths)
-    (sym q) (Said-more cs k t roots paths more_roots more_paths s h e)
+pub taken : (cs : List ℕ) (k : ℕ) (t l : List ℕ) (d more : Told) → Said cs k d → k < length (lines cs) → t ≡ get_or (lines cs) k t → l ≡ line_text t → is_setting l ≡ true → more ≡ and_told d (told_of (setting 0 l ∷ [])) → Counted (setting 0 l) → FineBehind d l → Said cs (k + 1) more
+taken cs k t l d more s h e q y m count fine =
+    subst (Said cs (k + 1)) (sym m)
+    (subst (λ m. is_setting m ≡ true → Counted (setting 0 m) → FineBehind d m → Said cs (k + 1) (and_told d (told_of (setting 0 m ∷ [])))) (sym q) (Said-more cs k t d s h e) y count fine)
 
-pub at_fault : (cs : List ℕ) (k i : ℕ) (t l : List ℕ) (roots paths : List Path) (f : Fault) → Said cs k roots paths → i ≡ k → k < length (lines cs) → t ≡ get_or (lines cs) k t → l ≡ line_text t → is_setting l ≡ true
-    → ((before : List Setting) → length (named path_preferences before) ≡ length paths → setting_fault before (setting 0 l) ≡ Some f)
-    → line_fault setting_fault [] (settings cs) ≡ Some (record { line = i + 1; fault = f })
-at_fault cs k i t l roots paths f s j h e q y bad =
-    subst (λ m. is_setting m ≡ true → ((before : List Setting) → length (named path_preferences before) ≡ length paths → setting_fault before (setting 0 m) ≡ Some f) → line_fault setting_fault [] (settings cs) ≡ Some (record { line = k + 1; fault = f })) (sym q) (Said-fault cs k t roots paths f s h e) y bad
+pub at_fault : (cs : List ℕ) (k i : ℕ) (t l : List ℕ) (d : Told) (f : Fault) → Said cs k d → i ≡ k → k < length (lines cs) → t ≡ get_or (lines cs) k t → l ≡ line_text t → is_setting l ≡ true → FaultBehind d l f → line_fault setting_fault [] (settings cs) ≡ Some (record { line = i + 1; fault = f })
+at_fault cs k i t l d f s j h e q y bad =
+    subst (λ m. is_setting m ≡ true → FaultBehind d m f → line_fault setting_fault [] (settings cs) ≡ Some (record { line = k + 1; fault = f })) (sym q) (Said-fault cs k t d f s h e) y bad
     ∙ ap (λ n. Some (record { line = n + 1; fault = f })) (sym j)

@@ -3,6 +3,11 @@ use Rattle.std.specs.Prelude.{◌≡◌, ℕ, true, false, map, List, [], ◌∷
 use Rattle.std.specs.Str.{is_utf8, chars}
 use Rattle.hub_path.specs.Path.{Path, path_of}
 use Rattle.hub_path.specs.declared.fault.PathFault.TheVariants as path
+use Rattle.hub_glob.specs.declared.piece.Piece.TheVariants.{Lit, Run}
+use Rattle.hub_glob.specs.declared.piece.Part.TheVariants.{One}
+use Rattle.hub_glob.specs.declared.path_spec.Kind.TheVariants as kind
+use Rattle.hub_glob.specs.declared.fault.GlobFault.{GlobFault}
+use Rattle.hub_glob.specs.declared.fault.GlobFault.TheVariants as glob
 use Rattle.hub_profile.specs.Facts.{are_roots, are_kept}
 use Rattle.hub_profile.specs.Parts.{Parts, IsProfile}
 use Rattle.hub_profile.specs.Lines.{Setting, settings, line_text}
@@ -113,16 +118,50 @@ no_value_is_the_whole_replica = refl
 an_empty_value_is_the_whole_replica : kept_in (settings (codes "path = a\npath =")) ≡ [] ∷ []
 an_empty_value_is_the_whole_replica = refl
 
-abbrev path_lines : List ℕ → List ℕ
-path_lines t = t ++ t ++ t ++ t ++ t ++ t ++ t ++ t
+abbrev eight_times : List ℕ → List ℕ
+eight_times t = t ++ t ++ t ++ t ++ t ++ t ++ t ++ t
 
 -- 64 lines may be there, also lines that add nothing
-many_lines_are_read : third (path_lines (path_lines (codes "path=a\n"))) ≡ None
+many_lines_are_read : third (eight_times (eight_times (codes "path=a\n"))) ≡ None
 many_lines_are_read = refl
 
 -- the 65th is too many, whatever its value
-one_more_line_is_too_many : third (path_lines (path_lines (codes "path=a\n")) ++ codes "path = /a") ≡ at 67 fault.TooMany
+one_more_line_is_too_many : third (eight_times (eight_times (codes "path=a\n")) ++ codes "path = /a") ≡ at 67 fault.TooMany
 one_more_line_is_too_many = refl
+
+abbrev bad_pattern : GlobFault → Option ProfileFault
+bad_pattern e = at 3 (fault.BadPattern e)
+
+-- The value of a pattern line is a path specification.
+patterns_are_faulty : map (λ v. third (codes "ignore = " ++ v)) (codes "Foo x" ∷ codes "Regex x" ∷ codes "Name" ∷ codes "Name [ab" ∷ codes "Name {a,{b}}" ∷ codes "Name a/b" ∷ codes "Path /a" ∷ codes "" ∷ codes "Name a]" ∷ [])
+    ≡ bad_pattern glob.NoKind ∷ bad_pattern glob.RegexLeftOut ∷ bad_pattern glob.EmptyPattern ∷ bad_pattern glob.OpenBracket ∷ bad_pattern glob.NestedBraces ∷ bad_pattern glob.SlashInName ∷ bad_pattern glob.LeadingSlash ∷ bad_pattern glob.NoKind ∷ None ∷ []
+patterns_are_faulty = refl
+
+an_exception_is_a_pattern_too : third (codes "ignorenot = Name \\a") ≡ bad_pattern glob.BadEscape
+an_exception_is_a_pattern_too = refl
+
+ignored_is_no_preference : third (codes "ignored = Name a") ≡ at 3 (fault.UnknownPreference (codes "ignored"))
+ignored_is_no_preference = refl
+
+abbrev pattern_lines : List ℕ
+pattern_lines = codes "ignore=Name a\nignorenot=Name a\n"
+
+-- 64 lines of both kinds together may be there
+many_patterns_are_read : third (eight_times (pattern_lines ++ pattern_lines ++ pattern_lines ++ pattern_lines)) ≡ None
+many_patterns_are_read = refl
+
+-- the 65th is too many, of either kind and whatever its value
+one_more_pattern_is_too_many : map (λ t. third (eight_times (pattern_lines ++ pattern_lines ++ pattern_lines ++ pattern_lines) ++ t)) (codes "ignore = Foo" ∷ codes "ignorenot = Name a" ∷ codes "path = a" ∷ []) ≡ at 67 fault.TooMany ∷ at 67 fault.TooMany ∷ None ∷ []
+one_more_pattern_is_too_many = refl
+
+abbrev four_patterns : Parts
+four_patterns = profile_of [] (settings (codes "ignore = Name *~\nignorenot=Path b/\nignore = BelowPath a\nignore = Name *~"))
+
+-- Specifications stand in the order of their lines, also those that add nothing.
+patterns_are_kept_in_order : four_patterns.ignore ∷ four_patterns.ignorenot ∷ []
+    ≡ (record { kind = kind.Name; pattern = One Run ∷ One (Lit 126) ∷ [] } ∷ record { kind = kind.BelowPath; pattern = One (Lit 97) ∷ [] } ∷ record { kind = kind.Name; pattern = One Run ∷ One (Lit 126) ∷ [] } ∷ [])
+    ∷ (record { kind = kind.Path; pattern = One (Lit 98) ∷ One (Lit 47) ∷ [] } ∷ []) ∷ []
+patterns_are_kept_in_order = refl
 
 roots_apart : map are_roots ((path_of (codes "srv/hub") ∷ path_of (codes "srv/s1") ∷ []) ∷ (path_of (codes "srv") ∷ path_of (codes "srv/hub") ∷ []) ∷ (path_of (codes "srv") ∷ path_of (codes "srv") ∷ []) ∷ []) ≡ true ∷ false ∷ false ∷ []
 roots_apart = refl
@@ -134,7 +173,7 @@ abbrev two_values : Parts
 two_values = profile_of (codes "p") (settings (codes "root = /srv/hub\nroot = /srv/s1\npath = a\npath = b/c"))
 
 two_values_read : profile_reading (codes "p") (codes "\troot=/srv/hub \r\nroot = /srv/s1/\n#path = x\n\npath = a\npath = b/c/\n")
-    ≡ Ok (record { name = codes "p"; roots = path_of (codes "srv/hub") ∷ path_of (codes "srv/s1") ∷ []; paths = path_of (codes "a") ∷ path_of (codes "b/c") ∷ [] })
+    ≡ Ok (record { name = codes "p"; roots = path_of (codes "srv/hub") ∷ path_of (codes "srv/s1") ∷ []; paths = path_of (codes "a") ∷ path_of (codes "b/c") ∷ []; ignore = []; ignorenot = [] })
 two_values_read = refl
 
 two_values_hold : IsProfile two_values

@@ -1,8 +1,10 @@
--- What is told of a value that is no path.
+-- What is told of a value that is no path, and of one that is no path specification.
 use Rattle.hub_path.specs.declared.fault.PathFault.{PathFault}
 use Rattle.hub_path.specs.declared.fault.PathFault.TheVariants as path
+use Rattle.hub_glob.specs.declared.fault.GlobFault.{GlobFault}
+use Rattle.hub_glob.specs.declared.fault.GlobFault.TheVariants as glob
 use Rattle.hub_profile.specs.declared.fault.Fault.{Fault}
-use Rattle.hub_profile.specs.declared.fault.Fault.TheVariants.{BadPath, OutOfMemory}
+use Rattle.hub_profile.specs.declared.fault.Fault.TheVariants.{BadPath, BadPattern, OutOfMemory}
 
 -- The fault of a path, but for memory, which is told as it is everywhere.
 abbrev pub of_path : PathFault → Fault
@@ -16,3 +18,21 @@ of_path path.LeadingSlash = BadPath path.LeadingSlash
 of_path path.NotAbsolute = BadPath path.NotAbsolute
 of_path path.RemoteRoot = BadPath path.RemoteRoot
 of_path path.OutOfMemory = OutOfMemory
+
+-- The fault of a pattern, but for memory.
+abbrev pub of_pattern : GlobFault → Fault
+of_pattern glob.NoKind = BadPattern glob.NoKind
+of_pattern glob.RegexLeftOut = BadPattern glob.RegexLeftOut
+of_pattern glob.EmptyPattern = BadPattern glob.EmptyPattern
+of_pattern glob.OpenBracket = BadPattern glob.OpenBracket
+of_pattern glob.OpenBrace = BadPattern glob.OpenBrace
+of_pattern glob.NestedBraces = BadPattern glob.NestedBraces
+of_pattern glob.BadRange = BadPattern glob.BadRange
+of_pattern glob.NegatedSet = BadPattern glob.NegatedSet
+of_pattern glob.BadEscape = BadPattern glob.BadEscape
+of_pattern glob.SlashInName = BadPattern glob.SlashInName
+of_pattern glob.SlashInSet = BadPattern glob.SlashInSet
+of_pattern glob.LeadingSlash = BadPattern glob.LeadingSlash
+of_pattern glob.TooLong = BadPattern glob.TooLong
+of_pattern glob.TooManyChoices = BadPattern glob.TooManyChoices
+of_pattern glob.OutOfMemory = OutOfMemory

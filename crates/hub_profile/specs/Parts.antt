@@ -3,13 +3,17 @@ use Rattle.std.specs.Prelude.{Bool, false, List, slice_get, Option, Some, None, 
 use Rattle.hub_path.specs.Path.{Name, Path, path_eq}
 use Rattle.hub_path.specs.declared.side.Side.{Side}
 use Rattle.hub_path.specs.declared.side.Side.TheVariants.{Left, Right}
+use Rattle.hub_glob.specs.Specification.{Specification}
 use Rattle.hub_profile.specs.Facts.{are_roots, are_kept}
 
--- A profile's name, its roots in the order Left, Right, and its kept values in the order of their lines.
+-- A profile's name, its roots in the order Left, Right, its kept values, and what its `ignore` and its `ignorenot` lines
+-- specify, each in the order of their lines.
 pub record Parts : Type 0 where
   pub name : Name
   pub roots : List Path
   pub paths : List Path
+  pub ignore : List Specification
+  pub ignorenot : List Specification
 
 -- What holds of each profile that is read.
 pub record IsProfile (P : Parts) : Type 0 where

@@ -6,12 +6,15 @@ use Rattle.hub_path.specs.Path.{Name, Path, path_eq, is_over}
 use Rattle.hub_path.specs.Reading.{path_reading, root_reading, begins_with_slash, without_last_slash}
 use Rattle.hub_path.specs.declared.fault.PathFault.{PathFault}
 use Rattle.hub_path.specs.declared.fault.PathFault.TheVariants.{LeadingSlash}
+use Rattle.hub_glob.specs.Specification.{Specification}
+use Rattle.hub_glob.specs.Reading.{spec_reading}
+use Rattle.hub_glob.specs.declared.fault.GlobFault.{GlobFault}
 use Rattle.hub_profile.specs.Parts.{Parts}
 use Rattle.hub_profile.specs.Lines.{Setting, settings, is_one_of, named, values, is_include, has_equals}
 use Rattle.hub_profile.specs.declared.fault.Fault.{Fault}
 use Rattle.hub_profile.specs.declared.fault.Fault.TheVariants as fault
 use Rattle.hub_profile.specs.declared.fault.ProfileFault.{ProfileFault}
-use Rattle.hub_profile.specs.declared.draft.TheConstants.{PATH_LINES}
+use Rattle.hub_profile.specs.declared.draft.TheConstants.{PATH_LINES, PATTERN_LINES}
 
 -- The preferences whose value is a root.
 abbrev pub root_preferences : List (List ℕ)
@@ -21,12 +24,27 @@ root_preferences = codes "root" ∷ []
 abbrev pub path_preferences : List (List ℕ)
 path_preferences = codes "path" ∷ []
 
+-- The preferences whose value is a path specification.
+abbrev pub ignore_preferences : List (List ℕ)
+ignore_preferences = codes "ignore" ∷ []
+
+abbrev pub ignorenot_preferences : List (List ℕ)
+ignorenot_preferences = codes "ignorenot" ∷ []
+
+-- Their lines are counted together.
+abbrev pub pattern_preferences : List (List ℕ)
+pattern_preferences = ignore_preferences ++ ignorenot_preferences
+
 abbrev pub known_preferences : List (List ℕ)
-known_preferences = root_preferences ++ path_preferences
+known_preferences = root_preferences ++ path_preferences ++ pattern_preferences
 
 abbrev pub path_err : {T : Type 0} → Result T PathFault → Option Fault
 path_err (Ok x) = None
 path_err (Err e) = Some (fault.BadPath e)
+
+abbrev pub pattern_err : {T : Type 0} → Result T GlobFault → Option Fault
+pattern_err (Ok x) = None
+pattern_err (Err e) = Some (fault.BadPattern e)
 
 -- The value of a `path` line: an empty one means the whole replica. A slash in front is told first; then one slash at
 -- the end is dropped.
@@ -39,6 +57,10 @@ kept_reading cs =
 abbrev pub path_line_fault : ℕ → List ℕ → Option Fault
 path_line_fault n value = if nat_le PATH_LINES n then Some fault.TooMany else path_err (kept_reading value)
 
+-- What is wrong with the value of an `ignore` or `ignorenot` line that follows so many others.
+abbrev pub pattern_line_fault : ℕ → List ℕ → Option Fault
+pattern_line_fault n value = if nat_le PATTERN_LINES n then Some fault.TooMany else pattern_err (spec_reading value)
+
 -- What is wrong with a setting that follows others: the first of these.
 abbrev pub setting_fault : List Setting → Setting → Option Fault
 setting_fault before s =
@@ -47,7 +69,8 @@ setting_fault before s =
     else (if not (is_one_of known_preferences s.name) then Some (fault.UnknownPreference s.name)
     else (if is_one_of root_preferences s.name then path_err (root_reading s.value)
     else (if is_one_of path_preferences s.name then path_line_fault (length (named path_preferences before)) s.value
-    else None))))
+    else (if is_one_of pattern_preferences s.name then pattern_line_fault (length (named pattern_preferences before)) s.value
+    else None)))))
 
 abbrev pub or_later : ℕ → Option Fault → Option ProfileFault → Option ProfileFault
 or_later line None later = later
@@ -96,18 +119,28 @@ kept all = kept_after all [] all
 abbrev pub path_values : List Setting → List Path
 path_values ss = filter_map (λ v. ok_part (kept_reading v)) (values (codes "path" ∷ []) ss)
 
+-- What the settings with one of these names specify.
+abbrev pub specifications : List (List ℕ) → List Setting → List Specification
+specifications words ss = filter_map (λ v. ok_part (spec_reading v)) (values words ss)
+
+abbrev pub ignore_of : List Setting → List Specification
+ignore_of ss = specifications ignore_preferences ss
+
+abbrev pub ignorenot_of : List Setting → List Specification
+ignorenot_of ss = specifications ignorenot_preferences ss
+
 -- With no value, the whole replica is kept.
 abbrev pub or_whole : List Path → List Path
 or_whole [] = [] ∷ []
 or_whole (s ∷ ss) = s ∷ ss
 
--- The profile of these roots and values.
-abbrev pub profile : Name → List Path → List Path → Parts
-profile name roots values = record { name = name; roots = roots; paths = or_whole (kept values) }
+-- The profile of these roots, `path` values and specifications.
+abbrev pub profile : Name → List Path → List Path → List Specification → List Specification → Parts
+profile name roots values ignore ignorenot = record { name = name; roots = roots; paths = or_whole (kept values); ignore = ignore; ignorenot = ignorenot }
 
 -- The profile that the settings make.
 abbrev pub profile_of : Name → List Setting → Parts
-profile_of name ss = profile name (roots_of ss) (path_values ss)
+profile_of name ss = profile name (roots_of ss) (path_values ss) (ignore_of ss) (ignorenot_of ss)
 
 abbrev pub unless_fault : {T : Type 0} → Option ProfileFault → T → Result T ProfileFault
 unless_fault None x = Ok x

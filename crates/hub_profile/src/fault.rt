@@ -1,5 +1,6 @@
 ghost use Rattle.std.specs.Prelude.{◌≡◌, IfOk, chars, encode_utf8_all};
 
+use hub_glob::GlobFault;
 use hub_path::PathFault;
 use std::alloc::{AllocError, AllocFailed, Global};
 use std::fmt;
@@ -66,6 +67,9 @@ pub enum Fault {
     /// A value is no path or no root.
     #[error("BadPath {0}")]
     BadPath(PathFault),
+    /// A value is no path specification.
+    #[error("BadPattern {0}")]
+    BadPattern(GlobFault),
     /// There aren't exactly two roots.
     #[error("RootCount")]
     RootCount,
@@ -75,7 +79,7 @@ pub enum Fault {
     /// One root lies within the other.
     #[error("RootsNested")]
     RootsNested,
-    /// There are more lines of that kind than `PATH_LINES`.
+    /// There are more `path` lines than `PATH_LINES`, or more `ignore` and `ignorenot` lines than `PATTERN_LINES`.
     #[error("TooMany")]
     TooMany,
     /// Memory was refused.
@@ -115,6 +119,20 @@ impl From<PathFault> for Fault {
         match fault {
             PathFault::OutOfMemory => Fault::OutOfMemory,
             _ => Fault::BadPath(fault),
+        }
+    }
+}
+
+impl From<GlobFault> for Fault {
+    ghost use Rattle.hub_profile.specs.Faults.{of_pattern};
+    ghost use Rattle.std.specs.Prelude.{◌≡◌};
+
+    ghost from_gives = { λ fault e. e ≡ of_pattern fault };
+
+    fn from(fault: GlobFault) -> Self {
+        match fault {
+            GlobFault::OutOfMemory => Fault::OutOfMemory,
+            _ => Fault::BadPattern(fault),
         }
     }
 }

@@ -22,7 +22,7 @@ mod profile;
 mod reading;
 mod verb;
 
-pub use draft::PATH_LINES;
+pub use draft::{PATH_LINES, PATTERN_LINES};
 pub use fault::{Fault, Preference, ProfileFault};
 pub use profile::Profile;
 pub use reading::read_profile;

@@ -1,5 +1,6 @@
 ghost use Rattle.std.specs.Prelude.{◌≡◌};
 
+use hub_glob::PathSpec;
 use hub_path::{Items, Name, RelPath, Root};
 use std::marker::Model;
 
@@ -15,6 +16,10 @@ pub struct Profile {
     pub roots: [Root; 2],
     /// Only these paths, and what is below them, are synchronized.
     pub paths: Items<RelPath>,
+    /// A path that one of these matches isn't synchronized, nor what is below it, in the order of their lines.
+    pub ignore: Items<PathSpec>,
+    /// A path that one of these matches isn't ignored itself, in the order of their lines.
+    pub ignorenot: Items<PathSpec>,
 }
 
 impl Model for Profile {
@@ -22,9 +27,9 @@ impl Model for Profile {
 
     ghost Value = { Parts };
 
-    ghost view = { λ a. record { name = a.name; roots = a.roots; paths = a.paths } };
+    ghost view = { λ a. record { name = a.name; roots = a.roots; paths = a.paths; ignore = a.ignore; ignorenot = a.ignorenot } };
 
-    ghost invariant = { λ a. IsProfile (record { name = a.name; roots = a.roots; paths = a.paths }) };
+    ghost invariant = { λ a. IsProfile (record { name = a.name; roots = a.roots; paths = a.paths; ignore = a.ignore; ignorenot = a.ignorenot }) };
 }
 
 impl Profile {
@@ -51,5 +56,19 @@ impl Profile {
         ensures valid { IsProfile self.now }
     {
         self.paths.as_slice()
+    }
+
+    /// The specifications of the `ignore` lines, in their order. It takes no memory.
+    pub fn ignore(&self) -> &[PathSpec]
+        ensures { result.now ≡ self.now.ignore }
+    {
+        self.ignore.as_slice()
+    }
+
+    /// The specifications of the `ignorenot` lines, in their order. It takes no memory.
+    pub fn ignorenot(&self) -> &[PathSpec]
+        ensures { result.now ≡ self.now.ignorenot }
+    {
+        self.ignorenot.as_slice()
     }
 }

@@ -19,6 +19,8 @@ fn read_lines(alloc: Global, text: &str) -> Result<Draft, ProfileFault>
     ensures fine { OnOk result (reading.line_fault reading.setting_fault [] (lines.settings (chars text.now)) ≡ None) }
     ensures roots { IfOk result (λ draft. draft.roots.items ≡ reading.roots_of (lines.settings (chars text.now))) }
     ensures paths { IfOk result (λ draft. draft.paths.items ≡ reading.path_values (lines.settings (chars text.now))) }
+    ensures ignore { IfOk result (λ draft. draft.ignore.items ≡ reading.ignore_of (lines.settings (chars text.now))) }
+    ensures ignorenot { IfOk result (λ draft. draft.ignorenot.items ≡ reading.ignorenot_of (lines.settings (chars text.now))) }
     ensures err { IfErr result (λ e. (e.fault ≡ Fault.OutOfMemory) ⊎ (reading.line_fault reading.setting_fault [] (lines.settings (chars text.now)) ≡ Some e)) }
 {
     let mut draft = Draft::new(alloc);
@@ -44,10 +46,14 @@ fn read_lines(alloc: Global, text: &str) -> Result<Draft, ProfileFault>
 /// - `path`: only this path and what is below it. One `/` at its end is dropped, and an empty value means the whole
 ///   replica (both this project's choice); so does a profile without such a line. A value that is equal to an earlier
 ///   one or properly below another adds nothing.
+/// - `ignore`: a path specification (`hub_glob::PathSpec::read`). A path that it matches isn't synchronized, nor what is
+///   below it.
+/// - `ignorenot`: a path specification. A path that it matches isn't ignored itself.
 ///
 /// The fault is `NotUtf8` at line 0; else that of the lowest line that has one: `IncludeLeftOut`, `NoEquals`,
-/// `UnknownPreference`, `TooMany` for a `path` line after `PATH_LINES` of them, and `BadPath`, in this order; else
-/// `RootCount`, `SameRoots` or `RootsNested` at line 0. `OutOfMemory` may come at any line.
+/// `UnknownPreference`, `TooMany` for a `path` line after `PATH_LINES` of them or an `ignore` or `ignorenot` line after
+/// `PATTERN_LINES` of both together, and `BadPath` or `BadPattern`, in this order; else `RootCount`, `SameRoots` or
+/// `RootsNested` at line 0. `OutOfMemory` may come at any line.
 pub fn read_profile(alloc: Global, name: Name, bytes: &[u8]) -> Result<Profile, ProfileFault>
     ensures ok { IfOk result (λ P. reading.profile_in name bytes.now ≡ Ok P) }
     ensures err { IfErr result (λ e. (e.fault ≡ Fault.OutOfMemory) ⊎ (reading.profile_in name bytes.now ≡ Err e)) }

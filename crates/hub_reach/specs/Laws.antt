@@ -4,8 +4,10 @@ use Rattle.std.proofs.lemmas.Bool.{and_parts, and_right}
 use Rattle.std.specs.Prelude.{IsTrue}
 use Rattle.std.specs.List.{list_any}
 use Rattle.hub_path.specs.Path.{Path, is_over, is_path, prefixes}
+use Rattle.hub_glob.specs.Glob.{matches}
+use Rattle.hub_glob.specs.Specification.{Specification}
 use Rattle.hub_profile.specs.Parts.{Parts}
-use Rattle.hub_reach.specs.Reach.{reach, is_open}
+use Rattle.hub_reach.specs.Reach.{reach, is_open, is_ignored}
 
 and-true : (a : Bool) → (a && true) ≡ a
 and-true true = refl
@@ -19,15 +21,37 @@ any-alike : {X : Type 0} (f g : X → Bool) (xs : List X) → ((x : X) → f x �
 any-alike f g [] same = refl
 any-alike f g (x ∷ xs) same = rw (same x) (ap (λ b. g x || b) (any-alike f g xs same))
 
+or-right : (a : Bool) {b : Bool} → b ≡ true → (a || b) ≡ true
+or-right true h = refl
+or-right false h = h
+
+any-cons : {X : Type 0} (f g : X → Bool) (x : X) (xs : List X) → (f x ≡ true → g x ≡ true) → (list_any f xs ≡ true → list_any g xs ≡ true) → (b : Bool) → f x ≡ b → (b || list_any f xs) ≡ true → list_any g (x ∷ xs) ≡ true
+any-cons f g x xs here there true e h = rw (here e) refl
+any-cons f g x xs here there false e h = or-right (g x) (there h)
+
+any-weaker : {X : Type 0} (f g : X → Bool) (xs : List X) → ((x : X) → f x ≡ true → g x ≡ true) → list_any f xs ≡ true → list_any g xs ≡ true
+any-weaker f g [] w h = cc
+any-weaker f g (x ∷ xs) w h = any-cons f g x xs (w x) (any-weaker f g xs w) (f x) refl h
+
+nothing-ignored : (P : Parts) (s : Path) (qs : List Path) → P.ignore ≡ [] → list_any (λ q. is_over s q && is_ignored P q) qs ≡ false
+nothing-ignored P s qs none =
+    any-alike (λ q. is_over s q && is_ignored P q) (λ q. is_over s q && false) qs
+    (λ q. ap (λ (i : List Specification). is_over s q && (list_any (λ t. matches t q) i && not (list_any (λ t. matches t q) P.ignorenot))) none) ∙ none-and (is_over s) qs
+
 -- Only paths are reached.
 pub reach-is_path : (P : Parts) (p : Path) → IsTrue (reach P p) → IsTrue (is_path p)
 unfolding reach
 reach-is_path P p h = (and_parts (is_path p) _ h).0
 
--- Nothing is ignored yet, so what is reached is what a kept value is over.
-pub reach-kept : (P : Parts) (p : Path) → reach P p ≡ (is_path p && list_any (λ s. is_over s p) P.paths)
+-- What is reached lies at or below a kept value.
+pub reach-below : (P : Parts) (p : Path) → IsTrue (reach P p) → IsTrue (list_any (λ s. is_over s p) P.paths)
 unfolding reach
-reach-kept P p =
+reach-below P p h = any-weaker (λ s. is_over s p && is_open P s p) (λ s. is_over s p) P.paths (λ s e. (and_parts (is_over s p) (is_open P s p) e).0) (and_parts (is_path p) _ h).1
+
+-- Where nothing is ignored, all that lies at or below a kept value is reached.
+pub reach-open : (P : Parts) (p : Path) → P.ignore ≡ [] → reach P p ≡ (is_path p && list_any (λ s. is_over s p) P.paths)
+unfolding reach
+reach-open P p none =
     ap (λ b. is_path p && b)
     (any-alike (λ s. is_over s p && is_open P s p) (λ s. is_over s p) P.paths
-    (λ s. rw (none-and (is_over s) (prefixes p)) (and-true (is_over s p))))
+    (λ s. rw (nothing-ignored P s (prefixes p) none) (and-true (is_over s p))))

@@ -1,14 +1,15 @@
 -- Which paths a profile reaches, and which changes it may make where.
-use Rattle.std.specs.Prelude.{Bool, true, false, not, ◌&&◌, ◌||◌, IsTrue}
+use Rattle.std.specs.Prelude.{Bool, true, not, ◌&&◌, ◌||◌, [], ◌∷◌, IsTrue}
 use Rattle.std.specs.List.{list_any}
 use Rattle.hub_path.specs.Path.{Path, path_eq, is_over, is_path, prefixes}
+use Rattle.hub_glob.specs.Glob.{matches}
 use Rattle.hub_profile.specs.Parts.{Parts}
 use Rattle.hub_profile.specs.declared.verb.Verb.{Verb}
 use Rattle.hub_profile.specs.declared.verb.Verb.TheVariants.{Create, Update, Delete}
 
--- A path that the patterns of a profile skip. There are no patterns yet.
+-- A path is ignored if it matches `ignore` and doesn't match `ignorenot`.
 abbrev pub is_ignored : Parts → Path → Bool
-is_ignored P q = false
+is_ignored P q = list_any (λ s. matches s q) P.ignore && not (list_any (λ s. matches s q) P.ignorenot)
 
 -- No path from s down to p is ignored. What stands over s isn't looked at.
 abbrev pub is_open : Parts → Path → Path → Bool

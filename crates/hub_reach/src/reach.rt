@@ -1,26 +1,69 @@
 //! Which paths a profile reaches.
-ghost use Rattle.std.specs.Prelude.{◌≡◌};
+ghost use Rattle.std.specs.Prelude.{◌≡◌, ◌≤◌, ◌&&◌, length, take, IsTrue};
 ghost use Rattle.std.specs.List.{list_any};
 ghost use Rattle.hub_path.specs.Path.{is_over};
-ghost use Rattle.hub_reach.specs.Reach.{reach};
+ghost use Rattle.hub_glob.specs.Glob.{matches};
+ghost use Rattle.hub_reach.specs.Reach.{reach, is_open, is_ignored};
 
+use hub_glob::PathSpec;
 use hub_path::RelPath;
 use hub_profile::Profile;
 
-/// Whether a profile reaches a path: whether the path is a kept value or lies below one.
+/// Whether a profile reaches a path: whether the path is a kept value or lies below one, and nothing from the kept
+/// value down to the path is ignored.
 ///
-/// The whole replica is not reached. It takes no memory. (Unison manual, "Preferences", `path`.)
+/// A path is ignored that `ignore` matches and `ignorenot` doesn't; what lies under an ignored path is not reached, even
+/// where `ignorenot` matches it. The parents of a kept value aren't tested; the kept value itself is (this project's
+/// choice). The whole replica is not reached. It takes no memory. (Unison manual, "Ignoring Paths".)
 pub fn reaches(profile: &Profile, path: &RelPath) -> bool
     ensures { result ≡ reach profile.now path.now }
 {
-    path.len() > 0 && is_below_any(profile.paths(), path)
+    path.len() > 0 && is_kept(profile, path)
 }
 
-/// Whether a path is one of these or lies below one.
-fn is_below_any(kept: &[RelPath], path: &RelPath) -> bool
-    ensures { result ≡ list_any (λ s. is_over s path.now) kept.now }
+/// Whether a path lies at or below a kept value, and nothing between them is ignored.
+fn is_kept(profile: &Profile, path: &RelPath) -> bool
+    ensures { result ≡ list_any (λ s. is_over s path.now && is_open profile.now s path.now) profile.now.paths }
 {
-    kept.iter().any(|value| path.starts_with(value))
+    profile
+        .paths()
+        .iter()
+        .any(|kept| is_kept_by(profile, kept, path))
+}
+
+fn is_kept_by(profile: &Profile, kept: &RelPath, path: &RelPath) -> bool
+    ensures { result ≡ (is_over kept.now path.now && is_open profile.now kept.now path.now) }
+{
+    path.starts_with(kept) && is_open(profile, kept, path)
+}
+
+/// Whether nothing from a kept value down to the path is ignored.
+fn is_open(profile: &Profile, kept: &RelPath, path: &RelPath) -> bool
+    requires { IsTrue (is_over kept.now path.now) }
+    ensures { result ≡ is_open profile.now kept.now path.now }
+{
+    for i in 0..path.len() {
+        if kept.len() <= i + 1 && is_ignored(profile, path, i + 1) {
+            return false;
+        }
+    }
+    true
+}
+
+/// Whether the path of the first `len` names is ignored.
+fn is_ignored(profile: &Profile, path: &RelPath, len: usize) -> bool
+    requires { len ≤ length path.now }
+    ensures { result ≡ is_ignored profile.now (take len path.now) }
+{
+    is_matched(profile.ignore(), path, len) && !is_matched(profile.ignorenot(), path, len)
+}
+
+/// Whether one of these matches the path of the first `len` names.
+fn is_matched(specs: &[PathSpec], path: &RelPath, len: usize) -> bool
+    requires { len ≤ length path.now }
+    ensures { result ≡ list_any (λ s. matches s (take len path.now)) specs.now }
+{
+    specs.iter().any(|spec| spec.matches_front(path, len))
 }
 
 #[cfg(test)]

@@ -11,14 +11,15 @@ use Rattle.hub_path.specs.Path.{Name, Path, name_eq, path_eq, is_over, is_path, 
 use Rattle.hub_profile.specs.Parts.{Parts, IsProfile}
 use Rattle.hub_profile.specs.Facts.{are_roots}
 use Rattle.hub_reach.specs.Reach.{reach, has_root, write}
-use Rattle.hub_reach.specs.Laws.{reach-kept}
+use Rattle.hub_glob.specs.Specification.{Specification}
+use Rattle.hub_reach.specs.Laws.{reach-open, reach-below as law-reach-below}
 use Rattle.hub_reach.specs.Safe.{Clash, ClashesAt, ClashesInArchive, share_archive, all_roots, IsSafe}
 use Rattle.std.proofs.lemmas.List.Folds.{list_any-append}
 use Rattle.std.proofs.lemmas.Option.{slice_get_within, none-some, same_Some}
 use Rattle.std.proofs.lemmas.Bool.{false≢true, cases_lt, and_parts, or_left, or_right, or_parts, or_cases, not-true}
 use Rattle.std.proofs.lemmas.Bool.Decides.{nat_tests}
 use Rattle.hubsync.specs.declared.check.Overlap.{Overlap}
-use Rattle.hubsync.specs.Check.{IsOverlap, NoneRepeated, is_root_of, NoneClash, ClashesNone, RepeatsName, is_nested, nested_with, has_nested, is_below, meets, is_shared, shares_root}
+use Rattle.hubsync.specs.Check.{has_patterns, have_patterns, IsOverlap, NoneRepeated, is_root_of, NoneClash, ClashesNone, RepeatsName, is_nested, nested_with, has_nested, is_below, meets, is_shared, shares_root}
 
 -- Paths are equal exactly where the test says so.
 pub path_eq-decides : (p q : Path) → Decides (path_eq p q) (p ≡ q)
@@ -59,10 +60,19 @@ meets-below ss ts q h k =
     (λ s e. any-weaker (λ t. is_over t q) (λ t. is_over s t || is_over t s) ts (λ t d. either-over s t q e d) k) h
 
 pub reached-below : (P : Parts) (p : Path) → IsTrue (reach P p) → is_below P.paths p ≡ true
-reached-below P p h = (and_parts (is_path p) (is_below P.paths p) (sym (reach-kept P p) ∙ h)).1
+reached-below P p h = law-reach-below P p h
 
-pub reach-below : (P : Parts) (p : Path) → IsTrue (is_path p) → is_below P.paths p ≡ true → IsTrue (reach P p)
-reach-below P p h k = rw (reach-kept, h) k
+nothing-ignored : (specs : List Specification) → not (length specs == 0) ≡ false → specs ≡ []
+nothing-ignored [] h = refl
+nothing-ignored (s ∷ specs) h = let some : (length (s ∷ specs) == 0) ≡ false = grind (arith, nat_tests) in cc (ap not some)
+
+pub reach-below : (P : Parts) (p : Path) → has_patterns P ≡ false → IsTrue (is_path p) → is_below P.paths p ≡ true → IsTrue (reach P p)
+reach-below P p plain h k = reach-open P p (nothing-ignored P.ignore plain) ∙ rw h k
+
+pub plain-at : (Ps : List Parts) (i : ℕ) (P : Parts) → have_patterns Ps ≡ false → slice_get Ps i ≡ Some P → has_patterns P ≡ false
+plain-at [] i P h e = cc
+plain-at (Q ∷ Ps) zero P h e = let same : Q ≡ P = cc in ap has_patterns (sym same) ∙ (or_parts (has_patterns Q) (have_patterns Ps) h).0
+plain-at (Q ∷ Ps) (suc i) P h e = plain-at Ps i P (or_parts (has_patterns Q) (have_patterns Ps) h).1 e
 
 pub written-reached : (P : Parts) (r p : Path) → IsTrue (write P r p) → IsTrue (reach P p)
 written-reached P r p h = (and_parts (has_root P r && true) (reach P p) h).1

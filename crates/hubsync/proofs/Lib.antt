@@ -2,3 +2,4 @@ pub mod CheckFacts
 pub mod Lines
 pub mod Sections
 pub mod ReportFacts
+pub mod WordsFacts

@@ -8,7 +8,7 @@ use Rattle.std.proofs.lemmas.Option.{same_Some}
 use Rattle.std.proofs.lemmas.Bool.{false≢true}
 use Rattle.hub_profile.specs.Parts.{Parts}
 use Rattle.hubsync.specs.declared.profiles.SectionFault.{SectionFault}
-use Rattle.hubsync.specs.declared.check.Refusal.TheVariants.{TooManyProfiles, SameName, NestedRoots, Overlaps}
+use Rattle.hubsync.specs.declared.check.Refusal.TheVariants.{TooManyProfiles, SameName, NestedRoots, Patterns, Overlaps}
 use Rattle.hubsync.specs.declared.report.Report.{Report}
 use Rattle.hubsync.specs.declared.report.Report.TheVariants.{Safe, Refused, BadBundle, BadProfile, OutOfMemory}
 use Rattle.hubsync.specs.Bundle.{SectionValue}
@@ -49,6 +49,7 @@ only_safe bytes Safe line w s l e h = h
 only_safe bytes (Refused TooManyProfiles) line w s l e h = absurd (begins 114 115 w _ s refl (ap (take w) (sym l) ∙ e))
 only_safe bytes (Refused (SameName n)) line w s l e h = absurd (begins 114 115 w _ s refl (ap (take w) (sym l) ∙ e))
 only_safe bytes (Refused (NestedRoots a b)) line w s l e h = absurd (begins 114 115 w _ s refl (ap (take w) (sym l) ∙ e))
+only_safe bytes (Refused Patterns) line w s l e h = absurd (begins 114 115 w _ s refl (ap (take w) (sym l) ∙ e))
 only_safe bytes (Refused (Overlaps o)) line w s l e h = absurd (begins 111 115 w _ s refl (ap (take w) (sym l) ∙ e))
 only_safe bytes (BadBundle f) line w s l e h = absurd (begins 102 115 w _ s refl (ap (take w) (sym l.1) ∙ e))
 only_safe bytes (BadProfile f) line w s l e h = absurd (begins 102 115 w _ s refl (ap (take w) (sym l.1) ∙ e))

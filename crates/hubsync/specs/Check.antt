@@ -1,5 +1,5 @@
 -- When profiles are refused, and what a refusal shows.
-use Rattle.std.specs.Prelude.{◌≡◌, ◌≢◌, ◌<◌, ℕ, Bool, false, not, ◌&&◌, ◌||◌, List, length, take, ◌≤◌, ⊤, IsTrue, slice_get, Some}
+use Rattle.std.specs.Prelude.{◌≡◌, ◌≢◌, ◌<◌, ℕ, Bool, false, not, ◌&&◌, ◌||◌, ◌==◌, List, length, take, ◌≤◌, ⊤, IsTrue, slice_get, Some}
 use Rattle.std.specs.List.{list_any}
 use Rattle.hub_path.specs.Path.{Name, Path, name_eq, path_eq, is_over}
 use Rattle.hub_profile.specs.Parts.{Parts}
@@ -8,7 +8,7 @@ use Rattle.hub_reach.specs.Safe.{Clash}
 use Rattle.hubsync.specs.declared.check.TheConstants.{PROFILES}
 use Rattle.hubsync.specs.declared.check.Overlap.{Overlap}
 use Rattle.hubsync.specs.declared.check.Refusal.{Refusal}
-use Rattle.hubsync.specs.declared.check.Refusal.TheVariants.{TooManyProfiles, SameName, NestedRoots, Overlaps}
+use Rattle.hubsync.specs.declared.check.Refusal.TheVariants.{TooManyProfiles, SameName, NestedRoots, Patterns, Overlaps}
 
 -- Two different roots, one of which lies within the other.
 abbrev pub is_nested : Path → Path → Bool
@@ -37,6 +37,13 @@ is_shared P Q r = writes P r && has_root Q r
 
 abbrev pub shares_root : Parts → Parts → Bool
 shares_root P Q = list_any (is_shared P Q) P.roots
+
+-- A profile that ignores something.
+abbrev pub has_patterns : Parts → Bool
+has_patterns P = not (length P.ignore == 0)
+
+abbrev pub have_patterns : List Parts → Bool
+have_patterns Ps = list_any has_patterns Ps
 
 -- Two profiles with one name, the later one of which is shown.
 pub record RepeatsName (Ps : List Parts) (name : Name) : Type 0 where
@@ -90,6 +97,7 @@ abbrev pub Refuses : List Parts → Refusal → Type 0
 Refuses Ps TooManyProfiles = PROFILES < length Ps
 Refuses Ps (SameName name) = RepeatsName Ps name
 Refuses Ps (NestedRoots r s) = IsTrue (is_root_of Ps r) × IsTrue (is_root_of Ps s) × IsTrue (is_nested r s)
+Refuses Ps Patterns = IsTrue (have_patterns Ps)
 Refuses Ps (Overlaps o) = IsOverlap Ps o
 
 -- The reasons that are told before this one don't hold.
@@ -97,4 +105,5 @@ abbrev pub ComesFirst : List Parts → Refusal → Type 0
 ComesFirst Ps TooManyProfiles = ⊤
 ComesFirst Ps (SameName name) = length Ps ≤ PROFILES
 ComesFirst Ps (NestedRoots r s) = (length Ps ≤ PROFILES) × NamesDiffer Ps
-ComesFirst Ps (Overlaps o) = (length Ps ≤ PROFILES) × NamesDiffer Ps × (has_nested Ps ≡ false)
+ComesFirst Ps Patterns = (length Ps ≤ PROFILES) × NamesDiffer Ps × (has_nested Ps ≡ false)
+ComesFirst Ps (Overlaps o) = (length Ps ≤ PROFILES) × NamesDiffer Ps × (has_nested Ps ≡ false) × (have_patterns Ps ≡ false)

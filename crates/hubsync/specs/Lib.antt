@@ -3,3 +3,5 @@ pub mod Check
 pub mod Report
 pub mod Examples
 pub mod CheckExamples
+pub mod Words
+pub mod WordsExamples

@@ -17,7 +17,7 @@ use Rattle.hubsync.specs.declared.profiles.ReadError.{ReadError}
 use Rattle.hubsync.specs.declared.profiles.ReadError.TheVariants as memory
 use Rattle.hubsync.specs.declared.check.Overlap.{Overlap}
 use Rattle.hubsync.specs.declared.check.Refusal.{Refusal}
-use Rattle.hubsync.specs.declared.check.Refusal.TheVariants.{TooManyProfiles, SameName, NestedRoots, Overlaps}
+use Rattle.hubsync.specs.declared.check.Refusal.TheVariants.{TooManyProfiles, SameName, NestedRoots, Patterns, Overlaps}
 use Rattle.hubsync.specs.declared.report.Report.{Report}
 use Rattle.hubsync.specs.declared.report.Report.TheVariants.{Safe, Refused, BadBundle, BadProfile, OutOfMemory}
 use Rattle.hubsync.specs.Bundle.{SectionValue, bundle_reading}
@@ -105,6 +105,7 @@ abbrev pub refusal_line : Refusal → List ℕ
 refusal_line TooManyProfiles = codes "refused: TooManyProfiles\n"
 refusal_line (SameName name) = flat_map (λ t. t) (codes "refused: SameName " ∷ encode_utf8_all name ∷ codes "\n" ∷ [])
 refusal_line (NestedRoots r s) = flat_map (λ t. t) (codes "refused: NestedRoots " ∷ root_text r ∷ codes " and " ∷ root_text s ∷ codes "\n" ∷ [])
+refusal_line Patterns = codes "refused: Patterns\n"
 refusal_line (Overlaps o) = overlap_line o
 
 -- The line of a fault. What the fault is called is not said here.

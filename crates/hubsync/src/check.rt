@@ -40,6 +40,8 @@ pub enum Refusal {
     SameName(Name),
     /// Two different roots, one of which lies within the other.
     NestedRoots(Root, Root),
+    /// A profile ignores something, which this check doesn't know.
+    Patterns,
     /// Two profiles that overlap.
     Overlaps(Overlap),
 }
@@ -47,7 +49,7 @@ pub enum Refusal {
 /// The first reason to refuse these profiles, if there is one.
 ///
 /// The reasons are told in this order: more than `PROFILES` of them; the first name that an earlier profile has too;
-/// the first pair of different roots, one within the other; and the first overlap, by the writer, then by the other
+/// the first pair of different roots, one within the other; patterns in `ignore`, which this check doesn't know; and the first overlap, by the writer, then by the other
 /// profile, then by the root (the writer's left one first). Of several paths the shown one has the fewest
 /// characters, and is the first of those by characters (this project's choice).
 pub fn first_refusal(alloc: Global, profiles: &[Profile]) -> Result<Option<Refusal>, AllocError>
@@ -65,6 +67,9 @@ pub fn first_refusal(alloc: Global, profiles: &[Profile]) -> Result<Option<Refus
     }
     if let Some((first, second)) = nested_roots(profiles) {
         return Ok(Some(Refusal::NestedRoots(first.copy()?, second.copy()?)));
+    }
+    if have_patterns(profiles) {
+        return Ok(Some(Refusal::Patterns));
     }
     if let Some(overlap) = first_overlap(alloc, profiles)? {
         return Ok(Some(Refusal::Overlaps(overlap)));
@@ -144,8 +149,22 @@ fn is_nested(root: &Root, other: &Root) -> bool
     root != other && (other.is_within(root) || root.is_within(other))
 }
 
-/// The first overlap of two profiles.
+/// Whether a profile ignores something.
+fn have_patterns(profiles: &[Profile]) -> bool
+    ensures { result ≡ check.have_patterns profiles.now }
+{
+    profiles.iter().any(has_patterns)
+}
+
+fn has_patterns(profile: &Profile) -> bool
+    ensures { result ≡ check.has_patterns profile.now }
+{
+    !profile.ignore().is_empty()
+}
+
+/// The first overlap of two profiles, which ignore nothing.
 fn first_overlap(alloc: Global, profiles: &[Profile]) -> Result<Option<Overlap>, AllocError>
+    requires { check.have_patterns profiles.now ≡ false }
     ensures { IfOk result (λ o. MatchOption o (check.NoneClash profiles.now (length profiles.now)) (check.IsOverlap profiles.now)) }
 {
     for writer in 0..profiles.len() {
@@ -162,7 +181,8 @@ fn overlap_of_writer(
     profiles: &[Profile],
     writer: usize,
 ) -> Result<Option<Overlap>, AllocError>
-    requires { writer < length profiles.now }
+    requires within { writer < length profiles.now }
+    requires plain { check.have_patterns profiles.now ≡ false }
     ensures { IfOk result (λ o. MatchOption o (check.ClashesNone profiles.now writer (length profiles.now)) (check.IsOverlap profiles.now)) }
 {
     for other in 0..profiles.len() {
@@ -183,6 +203,8 @@ fn overlap_of(
     writer: &Profile,
     other: &Profile,
 ) -> Result<Option<Overlap>, AllocError>
+    requires writer { check.has_patterns writer.now ≡ false }
+    requires other { check.has_patterns other.now ≡ false }
     ensures { IfOk result (λ o. MatchOption o (¬ (Clash writer.now other.now)) (check.IsShown writer.now other.now)) }
 {
     let Some(root) = shared_root(writer, other) else {
@@ -325,6 +347,7 @@ fn add_characters(characters: &mut BTreeSet<char>, paths: &[RelPath]) -> Result<
 fn held_prefix(alloc: Global, writer: &Profile, path: &RelPath) -> Result<RelPath, AllocError>
     requires path { IsTrue (is_path path.now) }
     requires below { IsTrue (check.is_below writer.now.paths path.now) }
+    requires plain { check.has_patterns writer.now ≡ false }
     ensures over { IfOk result (λ held. IsTrue (is_over held path.now)) }
     ensures reached { IfOk result (λ held. IsTrue (reach.reach writer.now held)) }
 {

@@ -13,6 +13,7 @@ pub mod laws;
 mod profiles;
 mod report;
 mod serve;
+mod words;
 
 use serve::serve as answer;
 use std::process::ExitCode;

@@ -79,6 +79,7 @@ fn refusal_line(alloc: Global, refusal: &Refusal) -> Result<String, AllocError>
             ];
             joined(alloc, &parts)
         }
+        Refusal::Patterns => String::from_str(alloc, "refused: Patterns\n"),
         Refusal::Overlaps(overlap) => overlap_line(alloc, overlap),
     }
 }

@@ -1,7 +1,7 @@
 use crate::fault::ProfileFault;
 use crate::profile::Profile;
 use crate::reading::read_profile;
-use hub_path::Name;
+use hub_path::{Name, RelPath};
 use std::alloc::{AllocError, Global};
 use std::test::Fail;
 
@@ -161,5 +161,186 @@ fn names_and_depth_are_bounded(rt: HostRuntime) -> Result<(), Fail> {
     deep.push(b'n')?;
     let read = told_with_roots(rt.alloc(), deep.as_slice())?;
     assert_eq!(rt; read.as_str(), "line 3: BadPath TooDeep");
+    Ok(())
+}
+
+/// The values of `ignore` and `ignorenot` that aren't read, and what is told of each.
+const BAD_PATTERNS: [(&[u8], &str); 17] = [
+    (b"Foo x", "NoKind"),
+    (b"name x", "NoKind"),
+    (b"", "NoKind"),
+    (b"Regex x", "RegexLeftOut"),
+    (b"Name", "EmptyPattern"),
+    (b"Name [ab", "OpenBracket"),
+    (b"Name []", "BadRange"),
+    (b"Name [z-a]", "BadRange"),
+    (b"Name [!a]", "NegatedSet"),
+    (b"Name {a", "OpenBrace"),
+    (b"Name {a,{b}}", "NestedBraces"),
+    (b"Name \\a", "BadEscape"),
+    (b"Name a/b", "SlashInName"),
+    (b"Path [a/]", "SlashInSet"),
+    (b"Path /a", "LeadingSlash"),
+    (b"BelowPath /a", "LeadingSlash"),
+    (b"Path a = [", "OpenBracket"),
+];
+
+#[test]
+fn bad_patterns_are_told(rt: HostRuntime) -> Result<(), Fail> {
+    for (value, fault) in BAD_PATTERNS {
+        for preference in [b"ignore = " as &[u8], b"ignorenot="] {
+            let mut line = preference.to_vec(rt.alloc())?;
+            line.extend_from_slice(value)?;
+            let read = told_with_roots(rt.alloc(), line.as_slice())?;
+            let expected = format!(in rt.alloc(); "line 3: BadPattern {fault}")?;
+            assert_eq!(rt; read.as_str(), expected.as_str());
+        }
+    }
+    Ok(())
+}
+
+/// What is read of an `ignore` line of a front, so many equal parts and an end.
+fn told_of_pattern(
+    alloc: Global,
+    front: &[u8],
+    part: &[u8],
+    count: usize,
+    end: &[u8],
+) -> Result<String, Fail> {
+    let mut line = front.to_vec(alloc)?;
+    line.extend_from_slice(many(alloc, part, count)?.as_slice())?;
+    line.extend_from_slice(end)?;
+    told_with_roots(alloc, line.as_slice())
+}
+
+#[test]
+fn patterns_are_bounded(rt: HostRuntime) -> Result<(), Fail> {
+    for (front, part, count, end, expected) in [
+        (
+            b"ignore = Name " as &[u8],
+            b"n" as &[u8],
+            200,
+            b"" as &[u8],
+            "p: /srv/hub /srv/s1 []",
+        ),
+        (
+            b"ignore = Name ",
+            b"n",
+            201,
+            b"",
+            "line 3: BadPattern TooLong",
+        ),
+        // a character of two bytes is one
+        (
+            b"ignorenot = Name ",
+            b"\xc3\xa9",
+            200,
+            b"",
+            "p: /srv/hub /srv/s1 []",
+        ),
+        (
+            b"ignore = Path /",
+            b"n",
+            200,
+            b"",
+            "line 3: BadPattern TooLong",
+        ),
+        (b"ignore = Name {", b",", 63, b"}", "p: /srv/hub /srv/s1 []"),
+        (
+            b"ignore = Name {",
+            b",",
+            64,
+            b"}",
+            "line 3: BadPattern TooManyChoices",
+        ),
+        (b"ignore = Name a]", b"", 0, b"", "p: /srv/hub /srv/s1 []"),
+    ] {
+        let read = told_of_pattern(rt.alloc(), front, part, count, end)?;
+        assert_eq!(rt; read.as_str(), expected);
+    }
+    Ok(())
+}
+
+#[test]
+fn pattern_lines_are_counted_together(rt: HostRuntime) -> Result<(), Fail> {
+    for (line, count, last, expected) in [
+        (
+            b"ignore = Name a\n" as &[u8],
+            64,
+            b"" as &[u8],
+            "p: /srv/hub /srv/s1 []",
+        ),
+        (
+            b"ignore = Name a\n",
+            64,
+            b"path = a",
+            "p: /srv/hub /srv/s1 [a]",
+        ),
+        (
+            b"ignore = Name a\n",
+            64,
+            b"ignore = Name a",
+            "line 67: TooMany",
+        ),
+        (
+            b"ignore = Name a\n",
+            64,
+            b"ignorenot = Name a",
+            "line 67: TooMany",
+        ),
+        (
+            b"ignorenot = Name a\n",
+            64,
+            b"ignore = Regex x",
+            "line 67: TooMany",
+        ),
+        (
+            b"ignore = Name a\nignorenot = Name b\n",
+            32,
+            b"",
+            "p: /srv/hub /srv/s1 []",
+        ),
+        (
+            b"ignore = Name a\nignorenot = Name b\n",
+            32,
+            b"ignore = Foo",
+            "line 67: TooMany",
+        ),
+        (
+            b"ignore = Name a\npath = a\n",
+            63,
+            b"ignore = Foo",
+            "line 129: BadPattern NoKind",
+        ),
+    ] {
+        let mut lines = many(rt.alloc(), line, count)?;
+        lines.extend_from_slice(last)?;
+        let read = told_with_roots(rt.alloc(), lines.as_slice())?;
+        assert_eq!(rt; read.as_str(), expected);
+    }
+    Ok(())
+}
+
+#[test]
+fn patterns_stand_in_the_order_of_their_lines(rt: HostRuntime) -> Result<(), Fail> {
+    let name = Name::read(rt.alloc(), "p")?;
+    let text =
+        b"root = /a\nignore = Name *.tmp\nignorenot = Path keep/x.tmp\nroot = /b\nignore=BelowPath old";
+    let profile = read_profile(rt.alloc(), name, text)?;
+    assert_eq!(rt; profile.ignore().len(), 2);
+    assert_eq!(rt; profile.ignorenot().len(), 1);
+    for (text, ignored, excepted) in [
+        ("keep/x.tmp", [true, false], true),
+        ("old/a", [false, true], false),
+        ("a", [false, false], false),
+    ] {
+        let path = RelPath::read(rt.alloc(), text)?;
+        for (spec, want) in profile.ignore().iter().zip(ignored) {
+            assert_eq!(rt; spec.matches(&path), want);
+        }
+        for spec in profile.ignorenot() {
+            assert_eq!(rt; spec.matches(&path), excepted);
+        }
+    }
     Ok(())
 }

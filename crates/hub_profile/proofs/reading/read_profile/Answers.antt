@@ -32,7 +32,7 @@ pub returns-in-Ok-finish-clause-ok : goal.returns-in-Ok-finish-clause-ok
 returns-in-Ok-finish-clause-ok c =
     let text : c.in-Ok.text.now ≡ c.args.bytes.now = c.in-Ok.ensures.cases.0 in
     rw c.in-Ok-finish.ensures.ok
-    (ap (profile_in c.args.name) (sym text) ∙ read_fine c.args.name c.in-Ok.text.now c.in_ok-draft.draft.roots.items c.in_ok-draft.draft.paths.items (subst IsUtf8 (sym text) c.in-Ok.ensures.cases.1) c.in_ok-draft.ensures.fine c.in_ok-draft.ensures.roots c.in_ok-draft.ensures.paths c.in-Ok-finish.ensures.fine)
+    (ap (profile_in c.args.name) (sym text) ∙ read_fine c.args.name c.in-Ok.text.now c.in_ok-draft.draft.roots.items c.in_ok-draft.draft.paths.items c.in_ok-draft.draft.ignore.items c.in_ok-draft.draft.ignorenot.items (subst IsUtf8 (sym text) c.in-Ok.ensures.cases.1) c.in_ok-draft.ensures.fine c.in_ok-draft.ensures.roots c.in_ok-draft.ensures.paths c.in_ok-draft.ensures.ignore c.in_ok-draft.ensures.ignorenot c.in-Ok-finish.ensures.fine)
 
 pub returns-in-Err-clause-err : goal.returns-in-Err-clause-err
 returns-in-Err-clause-err c =

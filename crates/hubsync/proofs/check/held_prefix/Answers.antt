@@ -12,7 +12,7 @@ use Rattle.hubsync.proofs.check.held_prefix.Goals.{in_default-via-in-Some+else-l
 pub returns-in-Some-clause-reached : goal.returns-in-Some-clause-reached
 returns-in-Some-clause-reached c =
     let below = ap (λ (ss : List Path). is_below ss c.in-Some.kept.now) (sym c.paths.ensures.value) ∙ c.in-Some.ensures.1 in
-    let kept = reach-below c.args.writer.now c.in-Some.kept.now (some-path c.in-Some.kept.now (omega arith) c.len.ensures.valid) below in
+    let kept = reach-below c.args.writer.now c.in-Some.kept.now c.requires.plain (some-path c.in-Some.kept.now (omega arith) c.len.ensures.valid) below in
     IfOk-weaker c.copy.result (λ (p : Path). p ≡ c.in-Some.kept.now) (λ p. IsTrue (reach c.args.writer.now p)) (λ p e. rw e kept) c.copy.ensures
 
 pub returns-in_ok-copy-in_default-clause-reached :
@@ -26,6 +26,6 @@ returns-in_ok-copy-in_default-clause-reached c =
       | in_default-via-in-Some+else-len-gt0 w ↦ ap (λ (ss : List Path). is_below ss (name ∷ [])) (sym c.paths.ensures.value) ∙ below-empty c.paths.result.now w.in-Some.kept.now (name ∷ []) (omega arith) w.in-Some.ensures.1
       | in_default-via-in_default w ↦ absurd (false≢true (sym w.in_default.ensures ∙ (ap (λ (ss : List Path). is_below ss c.args.path.now) c.paths.ensures.value ∙ c.requires.below)))
     ] in
-    let reached = reach-below c.args.writer.now (name ∷ []) named below in
+    let reached = reach-below c.args.writer.now (name ∷ []) c.requires.plain named below in
     IfOk-weaker c.child-in_default.result (λ (p : Path). p ≡ c.top.result ++ (name ∷ [])) (λ p. IsTrue (reach c.args.writer.now p))
     (λ p e. rw (e, c.top.ensures) reached) c.child-in_default.ensures

@@ -33,5 +33,5 @@ returns c =
       shared = rw c.in_ok-copy-2.ensures shared.1;
       over = c.in_ok-held_prefix.ensures.over;
       written = rw (c.in_ok-copy-2.ensures, writes.0, c.in_ok-held_prefix.ensures.reached) refl;
-      reached = reach-below c.args.other.now c.in_ok-path.path c.in_ok-path.ensures.path others;
+      reached = reach-below c.args.other.now c.in_ok-path.path c.requires.other c.in_ok-path.ensures.path others;
     }

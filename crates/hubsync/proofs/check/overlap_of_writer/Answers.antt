@@ -10,7 +10,7 @@ loop-other-preserved c =
     elim c.if-writer-other.branch [
       | then-writer-other+in_ok-found+in_default w ↦
           clashes-more c.args.profiles.now c.args.writer c.loop-other.other w.index-profiles-writer.result w.index-profiles-other.result
-          (slice_get_read c.args.profiles.now _ c.args.writer w.index-profiles-writer.result refl c.requires w.index-profiles-writer.is)
+          (slice_get_read c.args.profiles.now _ c.args.writer w.index-profiles-writer.result refl c.requires.within w.index-profiles-writer.is)
           (slice_get_read c.args.profiles.now _ c.loop-other.other w.index-profiles-other.result refl c.loop-other-test.true w.index-profiles-other.is)
           c.loop-other.invariant (MatchOption-at_none _ _ w.in_default.is w.in_ok-found.ensures)
       | else-writer-other w ↦

@@ -1,0 +1,6 @@
+use Rattle.std.proofs.Common.{◌∙◌, codes, refl}
+use Rattle.hub_profile.proofs.Words.{is_word, or_false}
+use Rattle.hub_profile.proofs.draft.is_ignore.Goals as goal
+
+pub returns : goal.returns
+returns c = or_false c.eq.result _ (c.eq.ensures ∙ is_word c.args.name.now (codes "ignore") c.utf8.name refl)

@@ -1,0 +1,76 @@
+-- From what clap says of a parse to what the words ask for.
+use Rattle.std.proofs.Common.{◌≡◌, ◌∙◌, ◌⊎◌, inl, inr, refl, sym, ap, ap₂, subst, Bool, true, false, not, cond, true≢false, List, [], ◌∷◌, Option, Some, None, Result, Ok, Err, IfErr, IsErrAnd, codes, is_some, option_map, unwrap_or}
+use Rattle.std.specs.Prelude.{Box}
+use Rattle.std.specs.Box.{box_value}
+use Rattle.std.specs.Str.{bytes_eq}
+use Rattle.clap.proofs.OnLiterals.{clap_on_literals}
+use Rattle.clap.proofs.WalkLemmas.{first_value-rows}
+use Rattle.clap.specs.Kinds.{HasKind, Kinds}
+use Rattle.clap.specs.Simple.{subcommand_rows}
+use Rattle.clap.specs.Words.{App, HasMatchesOf, Row, Text, fault_of, first_of, first_value, found_of, is_simple, is_simple_and_free, kind_of, rows_of, subcommand_name_of, subcommand_of, subcommand_rows_of}
+use Rattle.clap.specs.declared.error.Error.{Error}
+use Rattle.clap.specs.declared.error.kind.ErrorKind.TheVariants.{OutOfMemory}
+use Rattle.clap.specs.declared.parser.matches.ArgMatches.{ArgMatches}
+use Rattle.clap.specs.declared.parser.matches.ArgMatches.TheViews.{out-ArgMatches, out-SubCommand}
+use Rattle.clap.specs.declared.parser.matches.SubCommand.{SubCommand}
+use Rattle.hubsync.specs.Words.{Request, asked_of, hubsync_app, operands_of, request_in, unless_fault}
+
+simple : is_simple hubsync_app ≡ true
+unfolding clap_on_literals hubsync_app
+simple = refl
+
+simple_and_free : is_simple_and_free hubsync_app ≡ true
+unfolding clap_on_literals hubsync_app
+simple_and_free = refl
+
+-- where a parse gives matches, they say what is asked for
+pub asked_is : (a : App) (words : List Text) (m : ArgMatches) (request : Option Request) → a ≡ hubsync_app
+    → (is_simple_and_free a ≡ true → fault_of a words ≡ []) → HasMatchesOf a words m
+    → request ≡ request_in (subcommand_rows_of m) → asked_of words ≡ request
+unfolding asked_of
+asked_is a words m request is faultless matches e =
+    let none : fault_of hubsync_app words ≡ [] = subst (λ (b : App). fault_of b words ≡ []) is (faultless (ap is_simple_and_free is ∙ simple_and_free)) in
+    let used : subcommand_rows_of m ≡ subcommand_of hubsync_app words = (matches (ap is_simple is ∙ simple)).1 ∙ ap (λ (b : App). subcommand_of b words) is in
+    ap₂ unless_fault none (sym (ap request_in used)) ∙ sym e
+
+-- where it gives none, memory ran out, or nothing is asked for
+pub refused : (a : App) (words : List Text) (e : Error) → a ≡ hubsync_app
+    → (is_simple_and_free a ≡ true → HasKind (fault_of a words) e) → (kind_of e ≡ OutOfMemory) ⊎ (asked_of words ≡ None)
+unfolding asked_of
+refused a words e is faults =
+    go (fault_of hubsync_app words) (request_in (subcommand_of hubsync_app words))
+    (subst (λ (b : App). HasKind (fault_of b words) e) is (faults (ap is_simple_and_free is ∙ simple_and_free)))
+  where
+    go : (kinds : Kinds) (request : Option Request) → HasKind kinds e → (kind_of e ≡ OutOfMemory) ⊎ (unless_fault kinds request ≡ None)
+    go [] request (inl h) = inl h
+    go [] request (inr h) = absurd h
+    go (k ∷ ks) request h = inr refl
+
+pub passed_up : {T E : Type 0} (r : Result T E) (e : E) (P : E → Type 0) → IsErrAnd r (λ y. y ≡ e) → P e → IfErr r P
+passed_up (Ok x) e P is p = tt
+passed_up (Err y) e P is p = subst P (sym is) p
+
+pub not-false : (b : Bool) → not b ≡ false → b ≡ true
+not-false true h = refl
+not-false false h = absurd (true≢false h)
+
+module _ {Z : Type 0} where
+  abbrev name_in : Box SubCommand Z → Text
+  name_in b = (out-SubCommand (box_value b)).name.now
+
+  parts : (used : Option (Box SubCommand Z)) (name : Text) (rows : List Row) → Some name ≡ option_map name_in used
+      → Some rows ≡ option_map (λ p. p.1) (subcommand_rows used) → subcommand_rows used ≡ Some (name, rows)
+  parts None name rows e h = absurd (true≢false (ap (λ (o : Option Text). is_some o) e))
+  parts (Some b) name rows e h =
+      let p : (out-SubCommand (box_value b)).name.now ≡ name = ap (λ (o : Option Text). unwrap_or o name) (sym e) in
+      let q : rows_of (found_of (out-SubCommand (box_value b)).matches) ≡ rows = ap (λ (o : Option (List Row)). unwrap_or o rows) (sym h) in
+      λ i. Some (p i, q i)
+
+-- the operands of `reach`, by the getters of the subcommand's matches
+pub reach_in : (m : ArgMatches) (name : Text) (o : ArgMatches) → Some name ≡ subcommand_name_of m
+    → Some (rows_of (found_of o)) ≡ option_map (λ p. p.1) (subcommand_rows_of m) → bytes_eq name (codes "reach") ≡ true
+    → request_in (subcommand_rows_of m) ≡ operands_of (first_value (found_of o) (codes "profile")) (first_value (found_of o) (codes "path"))
+reach_in m name o e h is =
+    ap request_in (parts (out-ArgMatches m).subcommand name (rows_of (found_of o)) e h)
+    ∙ ap (λ (b : Bool). cond b (operands_of (first_of (codes "profile") (rows_of (found_of o))) (first_of (codes "path") (rows_of (found_of o)))) None) is
+    ∙ ap₂ operands_of (sym (first_value-rows (found_of o) (codes "profile"))) (sym (first_value-rows (found_of o) (codes "path")))

@@ -1,0 +1,31 @@
+use Rattle.std.proofs.Common.{◌≡◌, ◌∙◌, ◌||◌, false, true, codes, ap, ap₂}
+use Rattle.std.proofs.lemmas.Result.{IfOk-weaker}
+use Rattle.clap.specs.Simple.{app_of_fields}
+use Rattle.clap.specs.Words.{App, Rule, app_of, new_app, rule_of, with_rule, with_subcommand}
+use Rattle.clap.specs.declared.builder.arg.Arg.{Arg}
+use Rattle.clap.specs.declared.builder.command.Command.{Command}
+use Rattle.clap.specs.declared.builder.command.Command.TheOpen.{Command-F}
+use Rattle.clap.specs.declared.builder.command.Command.TheViews.{out-Command as fields_of}
+use Rattle.hubsync.specs.Words.{hubsync_app, operand, reach_app}
+use Rattle.hubsync.proofs.words.command.Goals as goal
+
+pub returns : goal.returns
+unfolding hubsync_app
+returns c =
+    let profile_is : rule_of c.required-profile.result ≡ operand (codes "profile") =
+    ap rule_of c.required-profile.ensures ∙ ap (λ (r : Rule). record r { required = true }) (ap rule_of c.help.ensures ∙ (ap rule_of c.value_name.ensures ∙ ap (λ (r : Rule). record r { value_names = 1 }) c.new.ensures.rule)) in
+    let path_is : rule_of c.required-path.result ≡ operand (codes "path") =
+    ap rule_of c.required-path.ensures ∙ ap (λ (r : Rule). record r { required = true }) (ap rule_of c.help-2.ensures ∙ (ap rule_of c.value_name-2.ensures ∙ ap (λ (r : Rule). record r { value_names = 1 }) c.new-2.ensures.rule)) in
+    let profile_local : c.required-profile.result.global ≡ false =
+    ap (λ (a : Arg). a.global) c.required-profile.ensures ∙ (ap (λ (a : Arg). a.global) c.help.ensures ∙ (ap (λ (a : Arg). a.global) c.value_name.ensures ∙ c.new.ensures.optional.1)) in
+    let path_local : c.required-path.result.global ≡ false =
+    ap (λ (a : Arg). a.global) c.required-path.ensures ∙ (ap (λ (a : Arg). a.global) c.help-2.ensures ∙ (ap (λ (a : Arg). a.global) c.value_name-2.ensures ∙ c.new-2.ensures.optional.1)) in
+    let bare_is : app_of c.about.result ≡ new_app (codes "reach") = ap app_of_fields c.about.ensures ∙ c.new-3.ensures.app in
+    let bare_local : (fields_of c.about.result).has_globals ≡ false = ap (λ (f : Command-F Command). f.has_globals) c.about.ensures ∙ c.new-3.ensures.local in
+    let one_is : app_of c.in_ok-arg.field-0 ≡ with_rule (new_app (codes "reach")) (operand (codes "profile")) =
+    c.in_ok-arg.ensures.shape profile_local ∙ ap₂ with_rule bare_is profile_is in
+    let one_local : (fields_of c.in_ok-arg.field-0).has_globals ≡ false = c.in_ok-arg.ensures.globals ∙ ap₂ (λ x y. x || y) bare_local profile_local in
+    let reach_is : app_of c.in_ok-reach.reach ≡ reach_app = c.in_ok-reach.ensures.shape path_local ∙ ap₂ with_rule one_is path_is in
+    let reach_local : (fields_of c.in_ok-reach.reach).has_globals ≡ false = c.in_ok-reach.ensures.globals ∙ ap₂ (λ x y. x || y) one_local path_local in
+    let top_is : app_of c.about-2.result ≡ new_app (codes "hubsync") = ap app_of_fields c.about-2.ensures ∙ c.new-4.ensures.app in
+    IfOk-weaker c.subcommand.result _ _ (λ r h. h.shape reach_local ∙ ap₂ with_subcommand top_is (ap (λ (a : App). a.top) reach_is)) c.subcommand.ensures

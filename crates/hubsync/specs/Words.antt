@@ -1,0 +1,50 @@
+-- What the words on the command line ask for.
+use Rattle.std.specs.Prelude.{List, [], ◌∷◌, Option, Some, None, codes, if◌then◌else◌, true}
+use Rattle.std.specs.Str.{bytes_eq}
+use Rattle.clap.specs.Kinds.{Kinds}
+use Rattle.clap.specs.Words.{App, Row, Rule, Text, fault_of, first_of, new_app, new_rule, subcommand_of, with_rule, with_subcommand}
+use Rattle.hubsync.specs.declared.words.Asked.{Asked}
+use Rattle.hubsync.specs.declared.words.Asked.TheVariants.{Check, Reach}
+
+-- an operand that has to be there
+abbrev pub operand : Text → Rule
+operand id = record (new_rule id) { value_names = 1; required = true }
+
+-- `reach PROFILE PATH`
+abbrev pub reach_app : App
+reach_app = with_rule (with_rule (new_app (codes "reach")) (operand (codes "profile"))) (operand (codes "path"))
+
+-- the command as clap reads it
+unfoldable pub hubsync_app : App
+hubsync_app = with_subcommand (new_app (codes "hubsync")) reach_app.top
+
+-- what is asked for: whether the profiles may run at the same time, or whether a profile reaches a path
+pub data Request : Type 0 where
+  check : Request
+  reach : Text → Text → Request
+
+abbrev pub request_of : Asked → Request
+request_of Check = check
+request_of (Reach profile path) = reach profile.now path.now
+
+-- the operands PROFILE and PATH, where both are there
+abbrev pub operands_of : Option Text → Option Text → Option Request
+operands_of None path = None
+operands_of (Some profile) None = None
+operands_of (Some profile) (Some path) = Some (reach profile path)
+
+-- what the command that was used asks for, by its name and the rows of its operands
+abbrev pub request_in : Option (Text × List Row) → Option Request
+request_in None = Some check
+request_in (Some p) =
+    if bytes_eq p.0 (codes "reach") then operands_of (first_of (codes "profile") p.1) (first_of (codes "path") p.1) else None
+
+-- nothing is asked for where there is a fault
+abbrev pub unless_fault : Kinds → Option Request → Option Request
+unless_fault [] request = request
+unless_fault (kind ∷ kinds) request = None
+
+-- what the words ask for, of which the first is the program's name; nothing where clap finds a fault in them or a
+-- request for help
+unfoldable pub asked_of : List Text → Option Request
+asked_of words = unless_fault (fault_of hubsync_app words) (request_in (subcommand_of hubsync_app words))

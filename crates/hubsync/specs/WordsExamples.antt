@@ -1,0 +1,65 @@
+-- Worked values of the words on the command line.
+use Rattle.std.specs.Prelude.{⊤, ◌≡◌, List, [], ◌∷◌, Option, Some, None, codes, refl}
+use Rattle.clap.proofs.OnLiterals.{clap_on_literals}
+use Rattle.clap.specs.Words.{Text}
+use Rattle.hubsync.specs.Words.{Request, asked_of, check, hubsync_app, reach}
+
+-- What these examples compute.
+computed : ⊤
+unfolding clap_on_literals asked_of hubsync_app
+computed = tt
+
+abbrev asked : List Text → Option Request
+asked words = asked_of (codes "hubsync" ∷ words)
+
+no_words : asked [] ≡ Some check
+unfolding computed
+no_words = refl
+
+the_reach_of_a_path : asked (codes "reach" ∷ codes "p" ∷ codes "a" ∷ []) ≡ Some (reach (codes "p") (codes "a"))
+unfolding computed
+the_reach_of_a_path = refl
+
+an_empty_operand : asked (codes "reach" ∷ codes "p" ∷ [] ∷ []) ≡ Some (reach (codes "p") [])
+unfolding computed
+an_empty_operand = refl
+
+a_hyphen_alone_is_an_operand : asked (codes "reach" ∷ codes "-" ∷ codes "a" ∷ []) ≡ Some (reach (codes "-") (codes "a"))
+unfolding computed
+a_hyphen_alone_is_an_operand = refl
+
+a_hyphen_after_two_hyphens : asked (codes "reach" ∷ codes "--" ∷ codes "-p" ∷ codes "a" ∷ []) ≡ Some (reach (codes "-p") (codes "a"))
+unfolding computed
+a_hyphen_after_two_hyphens = refl
+
+a_hyphen_with_none_before_it : asked (codes "reach" ∷ codes "-p" ∷ codes "a" ∷ []) ≡ None
+unfolding computed
+a_hyphen_with_none_before_it = refl
+
+two_hyphens_are_no_command : asked (codes "--" ∷ []) ≡ Some check
+unfolding computed
+two_hyphens_are_no_command = refl
+
+no_command_follows_two_hyphens : asked (codes "--" ∷ codes "reach" ∷ codes "p" ∷ codes "a" ∷ []) ≡ None
+unfolding computed
+no_command_follows_two_hyphens = refl
+
+a_missing_path : asked (codes "reach" ∷ codes "p" ∷ []) ≡ None
+unfolding computed
+a_missing_path = refl
+
+an_operand_too_many : asked (codes "reach" ∷ codes "p" ∷ codes "a" ∷ codes "b" ∷ []) ≡ None
+unfolding computed
+an_operand_too_many = refl
+
+an_unknown_command : asked (codes "check" ∷ []) ≡ None
+unfolding computed
+an_unknown_command = refl
+
+an_unknown_flag : asked (codes "-x" ∷ []) ≡ None
+unfolding computed
+an_unknown_flag = refl
+
+help_is_no_check : asked (codes "--help" ∷ []) ≡ None
+unfolding computed
+help_is_no_check = refl

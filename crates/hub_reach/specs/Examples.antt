@@ -3,6 +3,12 @@ use Rattle.std.specs.Prelude.{⊤, ◌≡◌, Bool, true, false, List, ℕ, [], 
 use Rattle.std.proofs.Common.{inl}
 use Rattle.std.proofs.lemmas.Option.{none-some}
 use Rattle.hub_path.specs.Path.{Path, path_of}
+use Rattle.hub_glob.specs.Glob.{matches}
+use Rattle.hub_glob.specs.Specification.{Specification}
+use Rattle.hub_glob.specs.declared.path_spec.Kind.TheVariants as Kind
+use Rattle.hub_glob.specs.declared.piece.Part.{Part}
+use Rattle.hub_glob.specs.declared.piece.Part.TheVariants.{One}
+use Rattle.hub_glob.specs.declared.piece.Piece.TheVariants.{Lit, Run}
 use Rattle.hub_profile.specs.Parts.{Parts}
 use Rattle.hub_profile.specs.declared.verb.Verb.TheVariants.{Create, Update, Delete}
 use Rattle.hub_reach.specs.Reach.{reach, may, writes, write}
@@ -10,7 +16,7 @@ use Rattle.hub_reach.specs.Safe.{Rule, Clash, ClashesAt, ClashesInArchive, Breac
 
 -- What these examples compute.
 computed : ⊤
-unfolding reach
+unfolding reach matches
 computed = tt
 
 abbrev hub : Path
@@ -24,7 +30,7 @@ s2 = path_of (codes "srv/s2")
 
 -- A profile of this kept value, over the hub and s1.
 abbrev kept : List ℕ → Parts
-kept t = record { name = t; roots = hub ∷ s1 ∷ []; paths = path_of t ∷ [] }
+kept t = record { name = t; roots = hub ∷ s1 ∷ []; paths = path_of t ∷ []; ignore = []; ignorenot = [] }
 
 -- One of the whole replica, and one of no path at all.
 abbrev whole : Parts
@@ -50,6 +56,44 @@ every_path = refl
 the_whole_replica : map (λ P. reach P []) (whole ∷ kept (codes "docs") ∷ []) ≡ false ∷ false ∷ []
 unfolding computed
 the_whole_replica = refl
+
+-- The pattern of these characters, none of which means more than itself.
+abbrev literals : List ℕ → List Part
+literals t = map (λ c. One (Lit c)) t
+
+abbrev star : List Part
+star = One Run ∷ []
+
+abbrev path_is : List Part → Specification
+path_is pattern = record { kind = Kind.Path; pattern = pattern }
+
+abbrev name_is : List Part → Specification
+name_is pattern = record { kind = Kind.Name; pattern = pattern }
+
+abbrev below_is : List Part → Specification
+below_is pattern = record { kind = Kind.BelowPath; pattern = pattern }
+
+-- all that stands at the top is ignored but for what begins with a dot; what lies below is, even where it is an exception
+abbrev top_ignored : Parts
+top_ignored = record whole { ignore = path_is star ∷ []; ignorenot = path_is (literals (codes "a/b")) ∷ [] }
+
+below_what_is_ignored : reached top_ignored (codes "a" ∷ codes "a/b" ∷ codes ".x" ∷ codes ".x/y" ∷ []) ≡ false ∷ false ∷ true ∷ true ∷ []
+unfolding computed
+below_what_is_ignored = refl
+
+-- an exception itself is reached
+exceptions : reached (record whole { ignore = name_is star ∷ []; ignorenot = name_is (literals (codes "a")) ∷ [] }) (codes "a" ∷ codes "a/b" ∷ codes "b" ∷ codes "a/a" ∷ []) ≡ true ∷ false ∷ false ∷ true ∷ []
+unfolding computed
+exceptions = refl
+
+-- a kept value is tested, what is above it isn't
+kept_values_are_tested : reached (record (kept (codes "docs/x")) { ignore = path_is (literals (codes "docs/x")) ∷ [] }) (codes "docs/x" ∷ codes "docs/x/y" ∷ []) ≡ false ∷ false ∷ []
+unfolding computed
+kept_values_are_tested = refl
+
+parents_are_not_tested : reached (record (kept (codes "docs/x")) { ignore = path_is (literals (codes "docs")) ∷ below_is (literals (codes "x")) ∷ [] }) (codes "docs/x" ∷ codes "docs/x/y" ∷ []) ≡ true ∷ true ∷ []
+unfolding computed
+parents_are_not_tested = refl
 
 -- a profile writes at its own roots alone
 written_roots : map (writes whole) (hub ∷ s1 ∷ s2 ∷ path_of (codes "srv") ∷ path_of (codes "srv/hub/docs") ∷ []) ≡ true ∷ true ∷ false ∷ false ∷ false ∷ []

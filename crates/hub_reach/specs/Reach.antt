@@ -1,5 +1,5 @@
 -- Which paths a profile reaches, and which changes it may make where.
-use Rattle.std.specs.Prelude.{Bool, true, not, ◌&&◌, ◌||◌, [], ◌∷◌, IsTrue}
+use Rattle.std.specs.Prelude.{Bool, true, not, ◌&&◌, ◌||◌, IsTrue}
 use Rattle.std.specs.List.{list_any}
 use Rattle.hub_path.specs.Path.{Path, path_eq, is_over, is_path, prefixes}
 use Rattle.hub_glob.specs.Glob.{matches}

@@ -1,4 +1,4 @@
-use Rattle.std.proofs.Common.{◌≡◌, ◌+◌, ◌∙◌, true, false, not, sym, ap, arith, take}
+use Rattle.std.proofs.Common.{◌∙◌, not, sym, ap, arith}
 use Rattle.hub_reach.specs.Reach.{is_ignored}
 use Rattle.hub_reach.proofs.Prefixes.{closed-at, open-ignored, open-short}
 use Rattle.hub_reach.proofs.reach.is_open.Goals as goal

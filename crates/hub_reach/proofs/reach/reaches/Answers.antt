@@ -1,4 +1,4 @@
-use Rattle.std.proofs.Common.{◌≡◌, ◌==◌, ◌&&◌, not, true, false, length, refl, sym, arith}
+use Rattle.std.proofs.Common.{◌≡◌, ◌==◌, true, false, length, arith}
 use Rattle.std.proofs.lemmas.Bool.Decides.{nat_tests}
 use Rattle.hub_reach.specs.Reach.{reach}
 use Rattle.hub_reach.proofs.reach.reaches.Goals as goal

@@ -23,7 +23,7 @@ s1 = path_of (codes "srv/s1")
 
 -- A profile of this name and kept value, over these roots.
 abbrev kept : List ℕ → List ℕ → List Path → Parts
-kept name t roots = record { name = name; roots = roots; paths = path_of t ∷ [] }
+kept name t roots = record { name = name; roots = roots; paths = path_of t ∷ []; ignore = []; ignorenot = [] }
 
 -- roots are nested by names, and a root isn't nested with itself
 roots_apart : map (is_nested hub) (path_of (codes "srv") ∷ path_of (codes "srv/hub/x") ∷ [] ∷ hub ∷ s1 ∷ path_of (codes "srv/hub2") ∷ []) ≡ true ∷ true ∷ true ∷ false ∷ false ∷ false ∷ []

@@ -1,3 +1,4 @@
+pub mod Answered
 pub mod CheckFacts
 pub mod Lines
 pub mod Sections

@@ -1,5 +1,6 @@
 pub mod Bundle
 pub mod Check
+pub mod Reached
 pub mod Report
 pub mod Examples
 pub mod CheckExamples

@@ -1,11 +1,14 @@
 -- What the program answers to an input, and when.
-use Rattle.std.specs.Prelude.{◌≡◌, ◌⊎◌, ◌≤◌, ◌∷◌, ◌++◌, ⊤, ℕ, List, [], length, take, Option, IfSome, Result, Ok, Err, codes, encode_utf8_all}
+use Rattle.std.specs.Prelude.{◌≡◌, ◌⊎◌, ◌≤◌, ◌∷◌, ◌++◌, ⊤, ℕ, Bool, true, false, List, [], length, take, Option, Some, None, IfSome, Result, Ok, Err, chars, codes, encode_utf8_all}
 use Rattle.std.specs.List.{flat_map}
-use Rattle.std.specs.Io.KnownBytes.{Appends}
+use Rattle.std.specs.Io.KnownBytes.{Appends, Keeps}
 use Rattle.hub_path.specs.Path.{Name, Path, text_of}
+use Rattle.hub_path.specs.Reading.{path_reading}
+use Rattle.hub_path.specs.declared.fault.PathFault.{PathFault}
 use Rattle.hub_profile.specs.Parts.{Parts}
 use Rattle.hub_profile.specs.Reading.{profile_in}
 use Rattle.hub_profile.specs.declared.fault.ProfileFault.{ProfileFault}
+use Rattle.hub_reach.specs.Reach.{reach}
 use Rattle.hub_reach.specs.Safe.{IsSafe}
 use Rattle.hubsync.specs.declared.input.TheConstants.{READ_TURNS}
 use Rattle.hubsync.specs.declared.bundle.Heading.{Heading}
@@ -19,9 +22,12 @@ use Rattle.hubsync.specs.declared.check.Overlap.{Overlap}
 use Rattle.hubsync.specs.declared.check.Refusal.{Refusal}
 use Rattle.hubsync.specs.declared.check.Refusal.TheVariants.{TooManyProfiles, SameName, NestedRoots, Patterns, Overlaps}
 use Rattle.hubsync.specs.declared.report.Report.{Report}
-use Rattle.hubsync.specs.declared.report.Report.TheVariants.{Safe, Refused, BadBundle, BadProfile, OutOfMemory}
+use Rattle.hubsync.specs.declared.report.Report.TheVariants.{Safe, Refused, Reached, NotReached, NoProfile, BadPath, BadBundle, BadProfile, OutOfMemory}
 use Rattle.hubsync.specs.Bundle.{SectionValue, bundle_reading}
 use Rattle.hubsync.specs.Check.{Refuses}
+use Rattle.hubsync.specs.Reached.{named}
+use Rattle.hubsync.specs.Words.{Request}
+use Rattle.hubsync.specs.Words as question
 
 infixl 10 ◌>>=◌
 abbrev pub ◌>>=◌ : {A B : Type 0} → Result A SectionFault → (A → Result B SectionFault) → Result B SectionFault
@@ -64,16 +70,54 @@ pub record HasFault (bytes : List ℕ) (f : SectionFault) : Type 0 where
   pub bundle : bundle_reading bytes ≡ Ok sections
   pub profiles : sections_reading sections ≡ Err f
 
--- What an input says where it is refused: profiles of which the refusal tells the truth.
-pub record SpellsRefused (bytes : List ℕ) (r : Refusal) : Type 0 where
-  pub profiles : List Parts
-  pub spelled : Spells bytes profiles
-  pub refuses : Refuses profiles r
-
 pub record SpellsSafe (bytes : List ℕ) : Type 0 where
   pub profiles : List Parts
   pub spelled : Spells bytes profiles
   pub safe : IsSafe profiles []
+
+-- It was asked whether a profile reaches a path, and this is the answer of the first profile of that name.
+pub record ReachIs (request : Request) (Ps : List Parts) (answer : Bool) : Type 0 where
+  pub profile : List ℕ
+  pub path : List ℕ
+  pub asked : request ≡ question.reach profile path
+  pub P : Parts
+  pub p : Path
+  pub profile_is : named profile Ps ≡ Some P
+  pub path_is : path_reading (chars path) ≡ Ok p
+  pub answer_is : reach P p ≡ answer
+
+-- It was asked of a profile that isn't there.
+pub record LacksProfile (request : Request) (Ps : List Parts) (profile : List ℕ) : Type 0 where
+  pub path : List ℕ
+  pub asked : request ≡ question.reach profile path
+  pub missing : named profile Ps ≡ None
+
+-- It was asked of a text that is no path.
+pub record HasBadPath (request : Request) (Ps : List Parts) (f : PathFault) : Type 0 where
+  pub profile : List ℕ
+  pub path : List ℕ
+  pub asked : request ≡ question.reach profile path
+  pub P : Parts
+  pub profile_is : named profile Ps ≡ Some P
+  pub fault : path_reading (chars path) ≡ Err f
+
+-- What holds of the question and the profiles where the program answers so to profiles that were read.
+abbrev pub IsTold : Request → List Parts → Report → Type 0
+IsTold request Ps Safe = (request ≡ question.check) × IsSafe Ps []
+IsTold request Ps (Refused r) = (request ≡ question.check) × Refuses Ps r
+IsTold request Ps Reached = ReachIs request Ps true
+IsTold request Ps NotReached = ReachIs request Ps false
+IsTold request Ps (NoProfile name) = LacksProfile request Ps name.now
+IsTold request Ps (BadPath f) = HasBadPath request Ps f
+IsTold request Ps (BadBundle f) = ⊥
+IsTold request Ps (BadProfile f) = ⊥
+IsTold request Ps OutOfMemory = ⊤
+
+-- The bytes are a bundle of profiles of which that is true.
+pub record IsTrueOf (request : Request) (bytes : List ℕ) (r : Report) : Type 0 where
+  pub profiles : List Parts
+  pub spelled : Spells bytes profiles
+  pub told : IsTold request profiles r
 
 -- A failed read, an input that doesn't end within its reads, or the first fault of the bundle.
 abbrev pub IsBundleFault : List ℕ → BundleLineFault → Type 0
@@ -81,13 +125,25 @@ IsBundleFault bytes f =
     (f ≡ record { line = 0; fault = ReadFailed })
     ⊎ ((f ≡ record { line = 0; fault = TurnsSpent }) × (READ_TURNS ≤ length bytes) ⊎ (bundle_reading bytes ≡ Err f))
 
--- What holds of the input where the program answers so.
-abbrev pub Holds : List ℕ → Report → Type 0
-Holds bytes Safe = SpellsSafe bytes
-Holds bytes (Refused r) = SpellsRefused bytes r
-Holds bytes (BadBundle f) = IsBundleFault bytes f
-Holds bytes (BadProfile f) = HasFault bytes f
-Holds bytes OutOfMemory = ⊤
+-- What holds of the question and the input where the program answers so.
+abbrev pub Holds : Request → List ℕ → Report → Type 0
+Holds request bytes Safe = IsTrueOf request bytes Safe
+Holds request bytes (Refused r) = IsTrueOf request bytes (Refused r)
+Holds request bytes Reached = IsTrueOf request bytes Reached
+Holds request bytes NotReached = IsTrueOf request bytes NotReached
+Holds request bytes (NoProfile name) = IsTrueOf request bytes (NoProfile name)
+Holds request bytes (BadPath f) = IsTrueOf request bytes (BadPath f)
+Holds request bytes (BadBundle f) = IsBundleFault bytes f
+Holds request bytes (BadProfile f) = HasFault bytes f
+Holds request bytes OutOfMemory = ⊤
+
+-- The words ask whether a profile reaches a path, and this is what a profile that the bytes spell answers.
+pub record SpellsReach (asked : Option Request) (bytes : List ℕ) (answer : Bool) : Type 0 where
+  pub request : Request
+  pub is_asked : asked ≡ Some request
+  pub profiles : List Parts
+  pub spelled : Spells bytes profiles
+  pub answered : ReachIs request profiles answer
 
 abbrev pub root_text : Path → List ℕ
 root_text r = codes "/" ++ encode_utf8_all (text_of r)
@@ -119,6 +175,10 @@ IsFaultLine t = (detail : List ℕ) × (t ≡ fault_line detail)
 abbrev pub IsLine : Report → List ℕ → Type 0
 IsLine Safe t = t ≡ codes "safe\n"
 IsLine (Refused r) t = t ≡ refusal_line r
+IsLine Reached t = t ≡ codes "reached\n"
+IsLine NotReached t = t ≡ codes "not reached\n"
+IsLine (NoProfile name) t = t ≡ flat_map (λ t. t) (codes "fault: no profile " ∷ name.now ∷ codes "\n" ∷ [])
+IsLine (BadPath f) t = IsFaultLine t
 IsLine (BadBundle f) t = IsFaultLine t
 IsLine (BadProfile f) t = IsFaultLine t
 IsLine OutOfMemory t = t ≡ codes "fault: out of memory\n"
@@ -127,6 +187,10 @@ IsLine OutOfMemory t = t ≡ codes "fault: out of memory\n"
 abbrev pub status_of : Report → ℕ
 status_of Safe = 0
 status_of (Refused r) = 1
+status_of Reached = 0
+status_of NotReached = 0
+status_of (NoProfile name) = 2
+status_of (BadPath f) = 2
 status_of (BadBundle f) = 2
 status_of (BadProfile f) = 2
 status_of OutOfMemory = 2
@@ -137,12 +201,16 @@ pub record WritesFront (old new : Option (List ℕ)) (line : List ℕ) (status r
   pub appends : Appends old new (take written line)
   pub status_is : ((result ≡ status) × (take written line ≡ line)) ⊎ (result ≡ 2)
 
--- One answer that is true of the input was written: its whole line, or a front of it where the output failed.
-pub record Answers (remaining old new : Option (List ℕ)) (status : ℕ) : Type 0 where
+-- Nothing was written; or, where memory was refused, the line that says so or a front of it. The status is that of a fault.
+abbrev pub AnswersNothing : Option (List ℕ) → Option (List ℕ) → ℕ → Type 0
+AnswersNothing old new status = (status ≡ 2) × (Keeps old new ⊎ ((written : ℕ) × Appends old new (take written (codes "fault: out of memory\n"))))
+
+-- One answer that is true of the question and the input was written: its whole line, or a front of it where the output failed.
+pub record Answers (request : Request) (remaining old new : Option (List ℕ)) (status : ℕ) : Type 0 where
   pub report : Report
   pub line : List ℕ
   pub written : ℕ
   pub is_line : IsLine report line
   pub appends : Appends old new (take written line)
-  pub holds : IfSome remaining (λ bytes. Holds bytes report)
+  pub holds : IfSome remaining (λ bytes. Holds request bytes report)
   pub status_is : ((status ≡ status_of report) × (take written line ≡ line)) ⊎ (status ≡ 2)

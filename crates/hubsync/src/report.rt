@@ -2,22 +2,28 @@
 ghost use Rattle.std.specs.Prelude.{◌≡◌, ◌⊎◌, IfOk, IfSome, string_bytes};
 ghost use Rattle.std.specs.List.{flat_map};
 ghost use Rattle.hubsync.specs.Report as report;
-ghost use Rattle.hubsync.specs.Bundle as bundle;
 
-use crate::bundle::{BundleFault, BundleLineFault, read_bundle};
-use crate::check::{Overlap, Refusal, first_refusal};
-use crate::input::{InputFault, read_input};
-use crate::profiles::{ReadError, SectionFault, read_profiles};
+use crate::bundle::BundleLineFault;
+use crate::check::{Overlap, Refusal};
+use crate::profiles::SectionFault;
+use hub_path::PathFault;
 use std::alloc::{AllocError, Global};
-use std::io::Read;
 
 /// What the program answers to an input.
 #[derive(Debug, Drop)]
-pub enum Report {
+pub enum Report<'a> {
     /// The profiles may run at the same time.
     Safe,
     /// They may not.
     Refused(Refusal),
+    /// The profile reaches the path.
+    Reached,
+    /// It doesn't.
+    NotReached,
+    /// There is no profile of that name, which is as it was asked for.
+    NoProfile(&'a str),
+    /// The path that was asked for is none.
+    BadPath(PathFault),
     /// The input is no bundle, or was not read.
     BadBundle(BundleLineFault),
     /// A profile of the bundle is faulty.
@@ -26,15 +32,19 @@ pub enum Report {
     OutOfMemory,
 }
 
-impl Report {
-    /// The exit status: 0 for a safe set, 1 for a refusal, 2 for a fault.
+impl Report<'_> {
+    /// The exit status: 0 for a safe set and where reach was asked for, whatever it is; 1 for a refusal; 2 for a fault.
     pub fn status(&self) -> u8
         ensures { result ≡ report.status_of self.now }
     {
         match self {
-            Report::Safe => 0,
+            Report::Safe | Report::Reached | Report::NotReached => 0,
             Report::Refused(_) => 1,
-            Report::BadBundle(_) | Report::BadProfile(_) | Report::OutOfMemory => 2,
+            Report::NoProfile(_)
+            | Report::BadPath(_)
+            | Report::BadBundle(_)
+            | Report::BadProfile(_)
+            | Report::OutOfMemory => 2,
         }
     }
 
@@ -45,6 +55,13 @@ impl Report {
         match self {
             Report::Safe => String::from_str(alloc, "safe\n"),
             Report::Refused(refusal) => refusal_line(alloc, refusal),
+            Report::Reached => String::from_str(alloc, "reached\n"),
+            Report::NotReached => String::from_str(alloc, "not reached\n"),
+            Report::NoProfile(name) => joined(alloc, &["fault: no profile ", name, "\n"]),
+            Report::BadPath(fault) => {
+                let detail = format!(in alloc; "path: {fault}")?;
+                fault_line(alloc, detail.as_str())
+            }
             Report::BadBundle(fault) => {
                 let detail = format!(in alloc; "bundle {fault}")?;
                 fault_line(alloc, detail.as_str())
@@ -122,53 +139,4 @@ fn joined(alloc: Global, parts: &[&str]) -> Result<String, AllocError>
         text.push_str(part)?;
     }
     Ok(text)
-}
-
-/// The answer to an input.
-pub fn report_on<R: Read>(alloc: Global, input: &mut R) -> Report
-    ensures { IfSome (R.remaining input.old) (λ bytes. report.Holds bytes result) }
-{
-    match read_input(alloc, input) {
-        Ok(bytes) => report_on_bytes(alloc, bytes.as_slice()),
-        Err(InputFault::OutOfMemory) => Report::OutOfMemory,
-        Err(InputFault::ReadFailed) => Report::BadBundle(BundleLineFault {
-            line: 0,
-            fault: BundleFault::ReadFailed,
-        }),
-        Err(InputFault::TurnsSpent) => Report::BadBundle(BundleLineFault {
-            line: 0,
-            fault: BundleFault::TurnsSpent,
-        }),
-    }
-}
-
-/// The answer to the bytes of an input.
-fn report_on_bytes(alloc: Global, bytes: &[u8]) -> Report
-    ensures { report.Holds bytes.now result }
-{
-    let sections = match read_bundle(alloc, bytes) {
-        Ok(sections) => sections,
-        Err(fault) => return bad_bundle(fault),
-    };
-    let profiles = match read_profiles(alloc, sections.as_slice()) {
-        Ok(profiles) => profiles,
-        Err(ReadError::Faulty(fault)) => return Report::BadProfile(fault),
-        Err(ReadError::OutOfMemory) => return Report::OutOfMemory,
-    };
-    match first_refusal(alloc, profiles.as_slice()) {
-        Ok(None) => Report::Safe,
-        Ok(Some(refusal)) => Report::Refused(refusal),
-        Err(_) => Report::OutOfMemory,
-    }
-}
-
-/// The answer where the bundle is read with that fault.
-fn bad_bundle(fault: BundleLineFault) -> Report
-    ensures memory { fault ≡ bundle.out_of_memory → result ≡ Report.OutOfMemory }
-    ensures fault { (result ≡ Report.OutOfMemory) ⊎ (result ≡ Report.BadBundle fault) }
-{
-    match fault.fault {
-        BundleFault::OutOfMemory => Report::OutOfMemory,
-        _ => Report::BadBundle(fault),
-    }
 }

@@ -1,40 +1,67 @@
 //! What the program does, over any reader and writer.
-ghost use Rattle.std.specs.Prelude.{◌≡◌, ◌<◌, ◌≤◌, ◌++◌, ℕ, List, length, codes, take, Some, IfSome, IsTrue};
+ghost use Rattle.std.specs.Prelude.{◌≡◌, ◌++◌, ℕ, List, true, false, codes, take, Some, None, IsTrue};
 ghost use Rattle.std.specs.Io.KnownBytes.{Appends, Keeps};
-ghost use Rattle.hubsync.specs.Report.{Answers, SpellsSafe, WritesFront};
+ghost use Rattle.clap.specs.Walk.{texts};
+ghost use Rattle.clap.specs.Words.{kind_of};
+ghost use Rattle.hubsync.specs.Report.{Answers, AnswersNothing, SpellsReach, SpellsSafe, WritesFront};
+ghost use Rattle.hubsync.specs.Words.{Request, asked_of, request_of};
 
-use crate::report::report_on;
+use crate::answer::report_on;
+use crate::words::{Asked, read_words};
+use clap::Error;
+use clap::error::ErrorKind;
 use std::alloc::Global;
-use std::io::{Read, Write};
+use std::io::{Eprint, Read, Write};
 
-/// Answers to an input: reads all of it, and writes one line, as `hubsync` does.
+/// Does what the words on the command line ask for, as `hubsync` does: reads all of the input, and writes one line.
 ///
-/// The status is 0 where the profiles of the bundle are safe, 1 where they are refused, and 2 for a fault, for a
-/// failed output and for any word on the command line, where nothing is read or written.
+/// The first word is the program's name. The status is 0 where the profiles of the bundle are safe, and where it was
+/// asked whether a profile reaches a path, whatever the answer; 1 where the profiles are refused; and 2 for a fault, for
+/// a failed output, and where the words ask for nothing: then neither is the input read nor the output written, and the
+/// text for the user goes to the standard error. Where memory is refused while the words are read, the line says so.
 ///
 /// What is promised of the output is said for a reader and a writer that tell their bytes.
-pub fn serve<T: AllocGlobal, R: Read, W: Write>(
+pub fn serve<'a, T: AllocGlobal + Eprint, R: Read, W: Write>(
     rt: &T,
-    words: &[&str],
+    words: &'a [&'a str],
     input: &mut R,
     output: &mut W,
 ) -> u8
-    ensures words { 0 < length words.now → (result ≡ 2) × Keeps (W.contents output.old) (W.contents output.new) }
-    ensures answer { length words.now ≡ 0 → Answers (R.remaining input.old) (W.contents output.old) (W.contents output.new) result }
+    ensures words { asked_of (texts words.entry.now) ≡ None → AnswersNothing (W.contents output.old) (W.contents output.new) result }
+    ensures answer { (request : Request) → asked_of (texts words.entry.now) ≡ Some request
+        → Answers request (R.remaining input.old) (W.contents output.old) (W.contents output.new) result }
     ensures safe { (bytes old text : List ℕ) → R.remaining input.old ≡ Some bytes → W.contents output.old ≡ Some old
         → W.contents output.new ≡ Some (old ++ (codes "safe\n" ++ text)) → SpellsSafe bytes }
+    ensures reached { (bytes old text : List ℕ) → R.remaining input.old ≡ Some bytes → W.contents output.old ≡ Some old
+        → W.contents output.new ≡ Some (old ++ (codes "reached\n" ++ text)) → SpellsReach (asked_of (texts words.entry.now)) bytes true }
+    ensures not_reached { (bytes old text : List ℕ) → R.remaining input.old ≡ Some bytes → W.contents output.old ≡ Some old
+        → W.contents output.new ≡ Some (old ++ (codes "not reached\n" ++ text)) → SpellsReach (asked_of (texts words.entry.now)) bytes false }
 {
-    if !words.is_empty() {
-        return 2;
+    let alloc = rt.alloc();
+    match read_words(alloc, words) {
+        Ok(asked) => answer(alloc, asked, input, output),
+        Err(error) => refuse(rt, &error, output),
     }
-    answer(rt.alloc(), input, output)
 }
 
-/// Reads all of an input, and writes the answer to it.
-fn answer<R: Read, W: Write>(alloc: Global, input: &mut R, output: &mut W) -> u8
-    ensures { Answers (R.remaining input.old) (W.contents output.old) (W.contents output.new) result }
+/// Tells the user why the words ask for nothing, or that memory was refused.
+fn refuse<T: Eprint, W: Write>(rt: &T, error: &Error, output: &mut W) -> u8
+    ensures nothing { AnswersNothing (W.contents output.old) (W.contents output.new) result }
+    ensures memory { kind_of error.now ≡ ErrorKind.OutOfMemory → WritesFront (W.contents output.old) (W.contents output.new) (codes "fault: out of memory\n") 2 result }
 {
-    let report = report_on(alloc, input);
+    if error.kind() == ErrorKind::OutOfMemory {
+        return write_answer("fault: out of memory\n", 2, output);
+    }
+    // where the standard error fails too, nobody is left to be told
+    let _ = rt.eprint(error);
+    2
+}
+
+/// Reads all of an input, and writes the answer to what was asked of it.
+fn answer<R: Read, W: Write>(alloc: Global, asked: Asked<'_>, input: &mut R, output: &mut W) -> u8
+    ensures { Answers (request_of asked.entry) (R.remaining input.old) (W.contents output.old) (W.contents output.new) result }
+{
+    let report = report_on(alloc, asked, input);
     match report.line(alloc) {
         Ok(line) => write_answer(line.as_str(), report.status(), output),
         Err(_) => write_answer("fault: out of memory\n", 2, output),

@@ -17,10 +17,19 @@ fn bundle(alloc: Global, profiles: &[(&str, &str)]) -> Result<String, AllocError
 }
 
 /// The status that a bundle is answered with, and what is written.
-fn answered<T: AllocGlobal>(rt: &T, bundle: &str) -> Result<String, AllocError> {
+fn answered<T: AllocGlobal + Eprint>(rt: &T, bundle: &str) -> Result<String, AllocError> {
+    answered_to(rt, &["hubsync"], bundle)
+}
+
+/// The same, where the words ask something.
+fn answered_to<'a, T: AllocGlobal + Eprint>(
+    rt: &T,
+    words: &'a [&'a str],
+    bundle: &str,
+) -> Result<String, AllocError> {
     let mut input = bundle.as_bytes();
     let mut output: Vec<u8> = Vec::new(rt.alloc());
-    let status = serve(rt, &[], &mut input, &mut output);
+    let status = serve(rt, words, &mut input, &mut output);
     let text = str::from_utf8(output.as_slice()).unwrap_or("?");
     format!(in rt.alloc(); "{status} {text}")
 }
@@ -181,12 +190,72 @@ fn a_bundle_has_at_most_32_profiles(rt: HostRuntime) -> Result<(), Fail> {
 }
 
 #[test]
-fn no_word_is_known(rt: HostRuntime) -> Result<(), Fail> {
+fn words_that_ask_for_nothing_are_answered_with_nothing(rt: HostRuntime) -> Result<(), Fail> {
     for word in ["", "check", "--help"] {
         let mut input: &[u8] = b"%profile u\n";
         let mut output: Vec<u8> = Vec::new(rt.alloc());
-        assert_eq!(rt; serve(&rt, &[word], &mut input, &mut output), 2);
+        assert_eq!(rt; serve(&rt, &["hubsync", word], &mut input, &mut output), 2);
         assert_eq!(rt; (input.len(), output.len()), (11, 0));
+    }
+    Ok(())
+}
+
+#[test]
+fn a_profile_is_asked_whether_it_reaches_a_path(rt: HostRuntime) -> Result<(), Fail> {
+    let top = "ignore = Path *\nignorenot = Path a/b";
+    let rows: [(&[(&str, &str)], &str, &str, &str); 14] = [
+        (&[("p", "path = docs")], "p", "docs/x", "0 reached\n"),
+        (&[("p", "path = docs")], "p", "docs2", "0 not reached\n"),
+        (&[("p", top)], "p", "a", "0 not reached\n"),
+        (&[("p", top)], "p", "a/b", "0 not reached\n"),
+        (&[("p", top)], "p", ".x", "0 reached\n"),
+        // of two profiles with one name the first is asked, and overlaps don't matter
+        (
+            &[("p", "path = a"), ("p", "path = a/b")],
+            "p",
+            "a/c",
+            "0 reached\n",
+        ),
+        (&[("p", ""), ("q", "path = a")], "q", "b", "0 not reached\n"),
+        (&[("p", "")], "q", "a", "2 fault: no profile q\n"),
+        (&[], "p", "a", "2 fault: no profile p\n"),
+        (&[("p", "")], "pp", "a", "2 fault: no profile pp\n"),
+        (&[("p", "")], "q", "/a", "2 fault: no profile q\n"),
+        (&[("p", "")], "p", "/a", "2 fault: path: LeadingSlash\n"),
+        (&[("p", "")], "p", "", "2 fault: path: Empty\n"),
+        // all profiles are read first
+        (
+            &[("p", ""), ("q", "ignore = Foo x")],
+            "p",
+            "a",
+            "2 fault: profile q line 3: BadPattern NoKind\n",
+        ),
+    ];
+    for (profiles, profile, path, want) in rows {
+        let input = bundle(rt.alloc(), profiles)?;
+        let words = ["hubsync", "reach", profile, path];
+        assert_eq!(rt; answered_to(&rt, &words, input.as_str())?.as_str(), want);
+    }
+    Ok(())
+}
+
+#[test]
+fn patterns_are_refused(rt: HostRuntime) -> Result<(), Fail> {
+    let rows: [(&[(&str, &str)], &str); 4] = [
+        (&[("u", "ignore = Name a")], "1 refused: Patterns\n"),
+        (&[("u", "ignorenot = Name a")], "0 safe\n"),
+        (
+            &[("u", ""), ("u", "ignore = Name a")],
+            "1 refused: SameName u\n",
+        ),
+        (
+            &[("u", ""), ("v", "ignore = Name a")],
+            "1 refused: Patterns\n",
+        ),
+    ];
+    for (profiles, want) in rows {
+        let input = bundle(rt.alloc(), profiles)?;
+        assert_eq!(rt; answered(&rt, input.as_str())?.as_str(), want);
     }
     Ok(())
 }
@@ -229,7 +298,7 @@ fn a_failed_output_has_status_2(rt: HostRuntime) -> Result<(), Fail> {
         let text = Vec::new(rt.alloc());
         let mut output = Failing { text, writes };
         assert_eq!(rt;
-            serve(&rt, &[], &mut input, &mut output),
+            serve(&rt, &["hubsync"], &mut input, &mut output),
             status,
             "{writes}"
         );
@@ -273,7 +342,7 @@ fn an_input_may_come_slowly_or_fail(rt: HostRuntime) -> Result<(), Fail> {
     for (fails, status, want) in rows {
         let mut input = OneByOne { bytes, fails };
         let mut output: Vec<u8> = Vec::new(rt.alloc());
-        assert_eq!(rt; serve(&rt, &[], &mut input, &mut output), status);
+        assert_eq!(rt; serve(&rt, &["hubsync"], &mut input, &mut output), status);
         assert!(rt; output.as_slice() == want.as_bytes());
     }
     Ok(())

@@ -1,0 +1,6 @@
+use Rattle.hubsync.specs.Words.{request_of}
+use Rattle.hubsync.proofs.Answered.{memory-answers}
+use Rattle.hubsync.proofs.serve.answer.Goals as goal
+
+pub returns : goal.returns
+returns g c = memory-answers (request_of c.args.asked) _ _ _ _ c.write_answer-in-Err.ensures

@@ -1,0 +1,46 @@
+//! Whether a profile of a bundle reaches a path.
+ghost use Rattle.std.specs.Prelude.{◌≡◌, Some, None, MatchOption};
+ghost use Rattle.hubsync.specs.Report as report;
+ghost use Rattle.hubsync.specs.Reached.{named};
+ghost use Rattle.hubsync.specs.Words as words;
+
+use crate::report::Report;
+use hub_path::{PathFault, RelPath};
+use hub_profile::Profile;
+use hub_reach::reaches;
+use std::alloc::Global;
+
+/// The answer to whether the first of these profiles with that name reaches the path of that text.
+///
+/// That there is no such profile is told before what is wrong with the path. The profiles themselves aren't checked:
+/// two of them may have one name or overlap.
+pub fn report_on_reach<'a>(
+    alloc: Global,
+    profiles: &[Profile],
+    profile: &'a str,
+    path: &str,
+) -> Report<'a>
+    ensures { report.IsTold (words.reach profile.now path.now) profiles.now result }
+{
+    let Some(found) = profile_named(profiles, profile) else {
+        return Report::NoProfile(profile);
+    };
+    match RelPath::read(alloc, path) {
+        Ok(path) if reaches(found, &path) => Report::Reached,
+        Ok(_) => Report::NotReached,
+        Err(PathFault::OutOfMemory) => Report::OutOfMemory,
+        Err(fault) => Report::BadPath(fault),
+    }
+}
+
+/// The first of these profiles with that name.
+fn profile_named<'a>(profiles: &'a [Profile], name: &str) -> Option<&'a Profile>
+    ensures { MatchOption result (named name.now profiles.now ≡ None) (λ P. named name.now profiles.now ≡ Some P.now) }
+{
+    for profile in profiles {
+        if profile.name().text() == name {
+            return Some(profile);
+        }
+    }
+    None
+}

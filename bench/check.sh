@@ -8,19 +8,11 @@
 # are looked at in both. A line gives the size of the bundle, the least and the middle time in milliseconds from start
 # to end of the process, and its peak memory where GNU time is there. The status is 1 where an answer is wrong.
 set -euo pipefail
+# shellcheck source=bench/timing.sh
+source "$(dirname "$(readlink -f "${BASH_SOURCE[0]}")")/timing.sh"
 
-top=$(dirname "$(dirname "$(readlink -f "${BASH_SOURCE[0]}")")")
-program=${1:-$top/crates/hubsync/out/hubsync}
-repetitions=${2:-20}
 profiles=32
 paths=64
-
-if [ ! -x "$program" ]; then
-    echo "bench/check.sh: no program at $program: build it with ./hubsync" >&2
-    exit 2
-fi
-folder=$(mktemp -d)
-trap 'rm -rf "$folder"' EXIT
 
 # The bundle, with this text at the end of the last path of the last profile.
 bundle() {
@@ -38,53 +30,11 @@ bundle() {
     done
 }
 
-# Milliseconds between two readings of EPOCHREALTIME, to three places.
-milliseconds() {
-    local microseconds=$((10#${2/[.,]/} - 10#${1/[.,]/}))
-    printf '%d.%03d\n' $((microseconds / 1000)) $((microseconds % 1000))
-}
-
-# Runs the program on a bundle, and ends all where it doesn't give the wanted status and the wanted one line.
-run_once() {
-    local status=0 answer first
-    "$program" <"$1" >"$folder/answer" || status=$?
-    mapfile -t answer <"$folder/answer"
-    first=${answer[0]-}
-    if [ "$status" != "$2" ] || [ "${#answer[@]}" != 1 ] || [ "$first" != "$3" ]; then
-        echo "bench/check.sh: status $status and ${#answer[@]} lines '${first:0:100}', wanted $2 and '$3'" >&2
-        exit 1
-    fi
-}
-
-# The most memory that a run on this bundle had at once.
-peak() {
-    if [ -x /usr/bin/time ]; then
-        /usr/bin/time -f %M -o "$folder/peak" "$program" <"$1" >/dev/null || true
-        tail -n 1 "$folder/peak"
-    else
-        echo -
-    fi
-}
-
-# Times a bundle of that name, with the status and the answer that are wanted.
-measure() {
-    local file=$folder/$1.bundle before after i
-    run_once "$file" "$2" "$3"
-    for ((i = 0; i < repetitions; i++)); do
-        before=$EPOCHREALTIME
-        run_once "$file" "$2" "$3"
-        after=$EPOCHREALTIME
-        milliseconds "$before" "$after"
-    done | sort -n >"$folder/times"
-    printf '%-8s %9s %9s %9s %9s\n' "$1" "$(wc -c <"$file")" "$(sed -n 1p "$folder/times")" \
-        "$(sed -n $(((repetitions + 1) / 2))p "$folder/times")" "$(peak "$file")"
-}
-
 last=shared/team$((profiles - 1))/project$paths
 bundle '' >"$folder/safe.bundle"
 bundle "$last/notes" >"$folder/overlap.bundle"
 
 echo "$profiles profiles of $paths paths each, $repetitions repetitions"
-printf '%-8s %9s %9s %9s %9s\n' bundle bytes least/ms middle/ms peak/KiB
+print_columns
 measure safe 0 safe
 measure overlap 1 "overlap: team$((profiles - 1)) writes $last at /srv/hub, team$profiles reaches $last/notes"

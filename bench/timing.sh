@@ -1,0 +1,71 @@
+# shellcheck shell=bash
+# How bench/check.sh and bench/reach.sh time the program: they read this file with `source`, which leaves it their own
+# arguments.
+#
+# It sets `program` and `repetitions` by these, and makes `folder`, which is gone at the end. `measure` times the program
+# on a bundle in that folder.
+script=bench/$(basename "$0")
+top=$(dirname "$(dirname "$(readlink -f "${BASH_SOURCE[0]}")")")
+program=${1:-$top/crates/hubsync/out/hubsync}
+repetitions=${2:-20}
+
+if [ ! -x "$program" ]; then
+    echo "$script: no program at $program: build it with ./hubsync" >&2
+    exit 2
+fi
+folder=$(mktemp -d)
+trap 'rm -rf "$folder"' EXIT
+
+# Milliseconds between two readings of EPOCHREALTIME, to three places.
+milliseconds() {
+    local microseconds=$((10#${2/[.,]/} - 10#${1/[.,]/}))
+    printf '%d.%03d\n' $((microseconds / 1000)) $((microseconds % 1000))
+}
+
+# Runs the program on a file, with the words behind the wanted status and the wanted one line, and ends all where it
+# doesn't give them.
+run_once() {
+    local file=$1 wanted_status=$2 wanted=$3 status=0 answer first
+    shift 3
+    "$program" "$@" <"$file" >"$folder/answer" || status=$?
+    mapfile -t answer <"$folder/answer"
+    first=${answer[0]-}
+    if [ "$status" != "$wanted_status" ] || [ "${#answer[@]}" != 1 ] || [ "$first" != "$wanted" ]; then
+        echo "$script: status $status and ${#answer[@]} lines '${first:0:100}', wanted $wanted_status and '$wanted'" >&2
+        exit 1
+    fi
+}
+
+# The most memory that a run on this file, with the words behind it, had at once.
+peak() {
+    local file=$1
+    shift
+    if [ -x /usr/bin/time ]; then
+        /usr/bin/time -f %M -o "$folder/peak" "$program" "$@" <"$file" >/dev/null || true
+        tail -n 1 "$folder/peak"
+    else
+        echo -
+    fi
+}
+
+# The heads of the columns that `measure` prints.
+print_columns() {
+    printf '%-8s %9s %9s %9s %9s\n' bundle bytes least/ms middle/ms peak/KiB
+}
+
+# Times a bundle of that name, with the status and the answer that are wanted, and the program's words. Prints the size
+# of the bundle, the least and the middle time in milliseconds from start to end of the process, and its peak memory
+# where GNU time is there.
+measure() {
+    local file=$folder/$1.bundle bundle=$1 wanted_status=$2 wanted=$3 before after i
+    shift 3
+    run_once "$file" "$wanted_status" "$wanted" "$@"
+    for ((i = 0; i < repetitions; i++)); do
+        before=$EPOCHREALTIME
+        run_once "$file" "$wanted_status" "$wanted" "$@"
+        after=$EPOCHREALTIME
+        milliseconds "$before" "$after"
+    done | sort -n >"$folder/times"
+    printf '%-8s %9s %9s %9s %9s\n' "$bundle" "$(wc -c <"$file")" "$(sed -n 1p "$folder/times")" \
+        "$(sed -n $(((repetitions + 1) / 2))p "$folder/times")" "$(peak "$file" "$@")"
+}

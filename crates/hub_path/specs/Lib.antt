@@ -7,3 +7,4 @@ pub mod Texts
 pub mod NameFacts
 pub mod ReadNames
 pub mod Ascii
+pub mod TextLaws

@@ -3,3 +3,8 @@ pub mod Reading
 pub mod Parts
 pub mod Laws
 pub mod Examples
+pub mod Texts
+pub mod NameFacts
+pub mod ReadNames
+pub mod Ascii
+pub mod TextLaws

@@ -12,7 +12,7 @@ use Rattle.std.proofs.lemmas.Bool.{cond-true, cond-false, and_parts, or_from, or
 use Rattle.std.proofs.lemmas.Bool.Decides.{nat_tests}
 use denote.Ref.{Bor}
 use Rattle.hub_path.specs.Reading.{without_last}
-use Rattle.hub_path.proofs.Ascii.{without_last-none, without_last-found}
+use Rattle.hub_path.specs.Ascii.{without_last-none, without_last-found}
 use Rattle.hub_profile.specs.Lines.{is_blank, skip_blanks}
 
 pub blanks_tested : (c : ℕ) → char_set_contains (32 ∷ 9 ∷ []) c ≡ is_blank c

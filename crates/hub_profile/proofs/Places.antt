@@ -10,8 +10,8 @@ use Rattle.hub_path.specs.Reading.{name_fault, names_fault, first_fault, path_fa
 use Rattle.hub_path.specs.declared.fault.PathFault.{PathFault}
 use Rattle.hub_path.specs.declared.fault.PathFault.TheVariants.{Empty, LeadingSlash, RemoteRoot, NotAbsolute, TooDeep}
 use Rattle.hub_path.specs.declared.rel_path.TheConstants.{PATH_NAMES}
-use Rattle.hub_path.proofs.NameFacts.{is_name-no_fault}
-use Rattle.hub_path.proofs.ReadNames.{or_fault-Ok}
+use Rattle.hub_path.specs.NameFacts.{is_name-no_fault}
+use Rattle.hub_path.specs.ReadNames.{or_fault-Ok}
 use Rattle.hub_profile.specs.Lines.{Setting, setting, settings, settings_of, is_setting, line_text, named, values, skip_blanks, is_blank, trimmed, is_one_of}
 use Rattle.hub_profile.specs.Reading.{ok_part, kept_reading, roots_of, path_values}
 

@@ -8,7 +8,7 @@ use Rattle.std.proofs.lemmas.Str.Pattern.{starts_char}
 use Rattle.std.proofs.lemmas.Bool.{and_parts, and_from, ltb-true, eqb-true, eq-eqb, false≢true}
 use Rattle.std.proofs.lemmas.Bool.Decides.{same_from_decides, Decides-like}
 use Rattle.std.proofs.lemmas.Slice.Eq.{bytes_eq-Decides}
-use Rattle.hub_path.proofs.Texts.{bytes_eq-chars}
+use Rattle.hub_path.specs.Texts.{bytes_eq-chars}
 
 is_ascii : (t : List ℕ) → list_all (λ c. nat_lt c 128) t ≡ true → IsAscii t
 is_ascii [] h i = lit< tt

@@ -8,7 +8,7 @@ use Rattle.std.proofs.lemmas.Iterator.Consumers.{YieldsList-turn, YieldsList-end
 use Rattle.hub_path.specs.Parts.{part-chars, length-parts}
 use Rattle.hub_path.specs.Path.{path_of}
 use Rattle.hub_path.specs.declared.rel_path.TheConstants.{PATH_NAMES}
-use Rattle.hub_path.proofs.ReadNames.{fault-deep, fault-name, read-more, read-all}
+use Rattle.hub_path.specs.ReadNames.{fault-deep, fault-name, read-more, read-all}
 use Rattle.hub_path.proofs.rel_path.read_names.Goals as goal
 
 pub loop-part-preserved : goal.loop-part-preserved

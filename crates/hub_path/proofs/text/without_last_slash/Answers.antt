@@ -1,6 +1,6 @@
 use Rattle.std.proofs.Common.{lit<}
 use Rattle.std.proofs.lemmas.Str.Pattern.{strip_suffix_char}
-use Rattle.hub_path.proofs.Ascii.{slash-dropped}
+use Rattle.hub_path.specs.Ascii.{slash-dropped}
 use Rattle.hub_path.proofs.text.without_last_slash.Goals as goal
 
 pub returns : goal.returns

@@ -2,3 +2,4 @@ pub mod Reach
 pub mod Laws
 pub mod Safe
 pub mod Examples
+pub mod Walk

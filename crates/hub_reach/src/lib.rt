@@ -1,6 +1,7 @@
 //! What a profile reaches, and what it may change there.
 #![tactic(auto)]
 
+pub mod laws;
 mod reach;
 mod verbs;
 

@@ -1,12 +1,12 @@
 -- Prefixes, profiles that share no root or whose paths don't meet, and roots of which none are nested.
-use Rattle.std.proofs.Common.{◌≡◌, ◌⊎◌, inl, inr, ⊎_elim, ◌==◌, ℕ, suc, zero, ◌+◌, ◌<◌, ◌≤◌, Bool, true, false, not, ◌&&◌, ◌||◌, List, [], ◌∷◌, length, take, Option, Some, refl, sym, ap, ◌∙◌, subst, arith, append-nil}
+use Rattle.std.proofs.Common.{◌≡◌, ◌⊎◌, inl, inr, ⊎_elim, ◌==◌, ℕ, suc, zero, ◌+◌, ◌<◌, ◌≤◌, Bool, true, false, not, ◌&&◌, ◌||◌, List, [], ◌∷◌, ◌++◌, cond, length, take, Option, Some, refl, sym, ap, ◌∙◌, subst, arith, append-nil}
 use borrow.Author.Tests.{eqb-true}
 use Rattle.std.specs.Prelude.{IsTrue, slice_get}
-use Rattle.std.specs.List.{list_any, list_all, flat_map}
+use Rattle.std.specs.List.{list_any, list_all, filter, flat_map}
 use Rattle.std.specs.Bool.{Decides}
 use Rattle.std.proofs.lemmas.Slice.Eq.{slice_eq-Decides}
 use Rattle.std.proofs.lemmas.Map.Keys.{any_passes_from_place}
-use Rattle.hub_path.specs.Laws.{name_eq-decides, is_over-transitive, is_over-comparable}
+use Rattle.hub_path.specs.Laws.{name_eq-decides, is_over-reflexive, is_over-transitive, is_over-comparable}
 use Rattle.hub_path.specs.Path.{Name, Path, name_eq, path_eq, is_over, is_path, is_place, is_name, none_over}
 use Rattle.hub_profile.specs.Parts.{Parts, IsProfile}
 use Rattle.hub_profile.specs.Facts.{are_roots}
@@ -19,18 +19,13 @@ use Rattle.std.proofs.lemmas.Option.{slice_get_within, none-some, same_Some}
 use Rattle.std.proofs.lemmas.Bool.{false≢true, cases_lt, and_parts, or_left, or_right, or_parts, or_cases, not-true}
 use Rattle.std.proofs.lemmas.Bool.Decides.{nat_tests}
 use Rattle.hubsync.specs.declared.check.Overlap.{Overlap}
-use Rattle.hubsync.specs.Check.{has_patterns, have_patterns, IsOverlap, NoneRepeated, is_root_of, NoneClash, ClashesNone, RepeatsName, is_nested, nested_with, has_nested, is_below, meets, is_shared, shares_root}
-
--- Paths are equal exactly where the test says so.
-pub path_eq-decides : (p q : Path) → Decides (path_eq p q) (p ≡ q)
-path_eq-decides p q = slice_eq-Decides name_eq-decides p q (path_eq p q) refl
+use Rattle.hubsync.specs.Nearest.{is_below, meetings, is_nearest}
+use Rattle.hubsync.specs.Check.{has_patterns, have_patterns, IsOverlap, NoneRepeated, is_root_of, NoneClash, ClashesNone, RepeatsName, is_nested, nested_with, has_nested, is_shared, shares_root}
+use Rattle.hubsync.specs.Shown.{IsShownFor}
+use Rattle.hubsync.proofs.NearestFacts.{path_eq-decides}
 
 pub path_eq-reflexive : (p : Path) → path_eq p p ≡ true
 path_eq-reflexive p = (path_eq-decides p p).1 refl
-
--- Two paths over one path lie one over the other.
-either-over : (s t q : Path) → is_over s q ≡ true → is_over t q ≡ true → (is_over s t || is_over t s) ≡ true
-either-over s t q h k = ⊎_elim (λ over. or_left (is_over s t) (is_over t s) over) (λ over. or_right (is_over s t) (is_over t s) over) (is_over-comparable s t q h k)
 
 -- One more of a list passes, or the rest does.
 any-cons : {X : Type 0} (f g : X → Bool) (x : X) (xs : List X) → (f x ≡ true → g x ≡ true) → (list_any f xs ≡ true → list_any g xs ≡ true) → (b : Bool) → f x ≡ b → (b || list_any f xs) ≡ true → list_any g (x ∷ xs) ≡ true
@@ -53,12 +48,6 @@ any-none f g (x ∷ xs) w h = let parts = or_parts (g x) (list_any g xs) h in rw
 pub below-trans : (ss : List Path) (p q : Path) → is_over p q ≡ true → is_below ss p ≡ true → is_below ss q ≡ true
 below-trans ss p q over h = any-weaker (λ s. is_over s p) (λ s. is_over s q) ss (λ s e. is_over-transitive s p q e over) h
 
--- Paths that are over one path meet.
-pub meets-below : (ss ts : List Path) (q : Path) → is_below ss q ≡ true → is_below ts q ≡ true → meets ss ts ≡ true
-meets-below ss ts q h k =
-    any-weaker (λ s. is_over s q) (λ s. list_any (λ t. is_over s t || is_over t s) ts) ss
-    (λ s e. any-weaker (λ t. is_over t q) (λ t. is_over s t || is_over t s) ts (λ t d. either-over s t q e d) k) h
-
 pub reached-below : (P : Parts) (p : Path) → IsTrue (reach P p) → is_below P.paths p ≡ true
 reached-below P p h = law-reach-below P p h
 
@@ -76,22 +65,6 @@ plain-at (Q ∷ Ps) (suc i) P h e = plain-at Ps i P (or_parts (has_patterns Q) (
 
 pub written-reached : (P : Parts) (r p : Path) → IsTrue (write P r p) → IsTrue (reach P p)
 written-reached P r p h = (and_parts (has_root P r && true) (reach P p) h).1
-
-apart-at : (P Q : Parts) (r : Path) → meets P.paths Q.paths ≡ false → ClashesAt P Q r → ⊥
-apart-at P Q r none c =
-    let below = below-trans P.paths c.0 c.1 c.2 (reached-below P c.0 (written-reached P r c.0 c.3)) in
-    let met = meets-below P.paths Q.paths c.1 below (reached-below Q c.1 c.4) in
-    cc
-
-apart-archive : (P Q : Parts) → meets P.paths Q.paths ≡ false → ClashesInArchive P Q → ⊥
-apart-archive P Q none c =
-    let met = meets-below P.paths Q.paths c.1 (below-trans P.paths c.0 c.1 c.2 (reached-below P c.0 c.3)) (reached-below Q c.1 c.4) in
-    cc
-
--- Two profiles whose kept values don't meet clash nowhere.
-pub apart-paths : (P Q : Parts) → meets P.paths Q.paths ≡ false → ¬ (Clash P Q)
-apart-paths P Q none (inl c) = apart-at P Q c.0 none c.3
-apart-paths P Q none (inr c) = apart-archive P Q none c.1
 
 -- A root of both is one at which the first writes.
 shared-at : (P Q : Parts) (r : Path) → IsTrue (has_root P r) → IsTrue (has_root Q r) → shares_root P Q ≡ true
@@ -125,6 +98,68 @@ found-cons f x xs there false e h = let w = there h in record { place = suc w.pl
 pub any-found : {X : Type 0} (f : X → Bool) (xs : List X) → list_any f xs ≡ true → Found f xs
 any-found f [] h = cc
 any-found f (x ∷ xs) h = found-cons f x xs (any-found f xs) (f x) refl h
+
+dropped : {X : Type 0} (f : X → Bool) (x : X) (xs : List X) → (filter f xs ≡ [] → list_any f xs ≡ false) → (b : Bool) → f x ≡ b → cond b (x ∷ filter f xs) (filter f xs) ≡ [] → list_any f (x ∷ xs) ≡ false
+dropped f x xs rest true e h = cc
+dropped f x xs rest false e h = rw (e, rest h) refl
+
+-- A filter that keeps nothing finds nothing.
+nothing-kept : {X : Type 0} (f : X → Bool) (xs : List X) → filter f xs ≡ [] → list_any f xs ≡ false
+nothing-kept f [] h = refl
+nothing-kept f (x ∷ xs) h = dropped f x xs (nothing-kept f xs) (f x) refl h
+
+no-items : {X : Type 0} (xs ys : List X) → xs ++ ys ≡ [] → (xs ≡ []) × (ys ≡ [])
+no-items [] ys h = (refl, h)
+no-items (x ∷ xs) ys h = cc
+
+-- Where kept values meet nowhere, no path has a value of either over it.
+none-meet : (ss ts : List Path) (q : Path) → meetings ss ts ≡ [] → is_below ss q ≡ true → is_below ts q ≡ true → ⊥
+none-meet ss ts q none h k =
+    let empty = no-items (filter (is_below ts) ss) (filter (is_below ss) ts) none in
+    let s = any-found (λ s. is_over s q) ss h in
+    let t = any-found (λ t. is_over t q) ts k in
+    ⊎_elim
+    (λ over. false≢true (sym (nothing-kept (is_below ss) ts empty.1) ∙ any_passes_from_place (is_below ss) ts t.place t.item t.at (any_passes_from_place (λ p. is_over p t.item) ss s.place s.item s.at over)))
+    (λ over. false≢true (sym (nothing-kept (is_below ts) ss empty.0) ∙ any_passes_from_place (is_below ts) ss s.place s.item s.at (any_passes_from_place (λ p. is_over p s.item) ts t.place t.item t.at over)))
+    (is_over-comparable s.item t.item q s.passes t.passes)
+
+kept-passes : (f : Path → Bool) (q p : Path) (ps : List Path) → ((list_any (path_eq q) (filter f ps) ≡ true) → (f q ≡ true) × (list_any (path_eq q) ps ≡ true)) → (b : Bool) → f p ≡ b → list_any (path_eq q) (cond b (p ∷ filter f ps) (filter f ps)) ≡ true → (f q ≡ true) × (list_any (path_eq q) (p ∷ ps) ≡ true)
+kept-passes f q p ps rest true e h =
+    ⊎_elim (λ here. (ap f ((path_eq-decides q p).0 here) ∙ e, or_left (path_eq q p) _ here)) (λ there. ((rest there).0, or_right (path_eq q p) _ (rest there).1)) (or_cases (path_eq q p) _ h)
+kept-passes f q p ps rest false e h = ((rest h).0, or_right (path_eq q p) _ (rest h).1)
+
+-- What a filter keeps stands in the list, and passes.
+in-filter : (f : Path → Bool) (q : Path) (ps : List Path) → list_any (path_eq q) (filter f ps) ≡ true → (f q ≡ true) × (list_any (path_eq q) ps ≡ true)
+in-filter f q [] h = cc
+in-filter f q (p ∷ ps) h = kept-passes f q p ps (in-filter f q ps) (f p) refl h
+
+own-below : (ss : List Path) (q : Path) → list_any (path_eq q) ss ≡ true → is_below ss q ≡ true
+own-below ss q h = any-weaker (path_eq q) (λ s. is_over s q) ss (λ s e. subst (λ r. is_over r q ≡ true) ((path_eq-decides q s).0 e) (is_over-reflexive q)) h
+
+-- Where kept values meet, there is a value of either over the place.
+pub meeting-below : (ss ts : List Path) (q : Path) → is_nearest (meetings ss ts) q ≡ true → (is_below ss q ≡ true) × (is_below ts q ≡ true)
+meeting-below ss ts q h =
+    let these = filter (is_below ts) ss in
+    let those = filter (is_below ss) ts in
+    let one = sym (list_any-append (path_eq q) these those) ∙ (and_parts (list_any (path_eq q) (these ++ those)) _ h).0 in
+    ⊎_elim
+    (λ here. let w = in-filter (is_below ts) q ss here in (own-below ss q w.1, w.0))
+    (λ there. let w = in-filter (is_below ss) q ts there in (w.0, own-below ts q w.1))
+    (or_cases (list_any (path_eq q) these) (list_any (path_eq q) those) one)
+
+apart-at : (P Q : Parts) (r : Path) → meetings P.paths Q.paths ≡ [] → ClashesAt P Q r → ⊥
+apart-at P Q r none c =
+    let below = below-trans P.paths c.0 c.1 c.2 (reached-below P c.0 (written-reached P r c.0 c.3)) in
+    none-meet P.paths Q.paths c.1 none below (reached-below Q c.1 c.4)
+
+apart-archive : (P Q : Parts) → meetings P.paths Q.paths ≡ [] → ClashesInArchive P Q → ⊥
+apart-archive P Q none c =
+    none-meet P.paths Q.paths c.1 none (below-trans P.paths c.0 c.1 c.2 (reached-below P c.0 c.3)) (reached-below Q c.1 c.4)
+
+-- Two profiles whose kept values don't meet clash nowhere.
+pub apart-paths : (P Q : Parts) → meetings P.paths Q.paths ≡ [] → ¬ (Clash P Q)
+apart-paths P Q none (inl c) = apart-at P Q c.0 none c.3
+apart-paths P Q none (inr c) = apart-archive P Q none c.1
 
 -- What stands below a bound stands in the front of the list.
 get-front : {X : Type 0} (n : ℕ) (xs : List X) (i : ℕ) (x : X) → i < n → slice_get xs i ≡ Some x → slice_get (take n xs) i ≡ Some x
@@ -180,9 +215,10 @@ pub first-over : (p : Path) (n : Name) → slice_get p 0 ≡ Some n → is_over 
 first-over [] n e = cc
 first-over (m ∷ p) n e = let same : m ≡ n = cc in rw (same, (name_eq-decides n n).1 refl) refl
 
-pub below-shown : (ss : List Path) (q p : Path) → is_below ss q ≡ true → (p ≡ q) ⊎ (q ≡ []) → is_below ss p ≡ true
-below-shown ss q p h (inl e) = rw e h
-below-shown ss q p h (inr e) = below-trans ss [] p refl (ap (is_below ss) (sym e) ∙ h)
+-- What is over a place is over the path that is shown for it.
+pub below-shown : (Ps : List Parts) (ss : List Path) (q p : Path) → is_below ss q ≡ true → IsShownFor Ps q p → is_below ss p ≡ true
+below-shown Ps ss [] p h shown = below-trans ss [] p refl h
+below-shown Ps ss (n ∷ q) p h shown = rw shown h
 
 -- The front of the list that a search found a name in.
 pub repeats : (Ps : List Parts) (later : ℕ) (P : Parts) (name : Name) → slice_get Ps later ≡ Some P → name ≡ P.name → list_any (λ Q. name_eq Q.name name) (take later Ps) ≡ true → RepeatsName Ps name
@@ -244,12 +280,13 @@ none-repeated-more Ps n P at none before = λ i A l a.
 
 -- An overlap is a clash, so its profiles are not safe.
 pub overlap-unsafe : (Ps : List Parts) (o : Overlap) → IsOverlap Ps o → ¬ (IsSafe Ps [])
-overlap-unsafe Ps o w safe =
+overlap-unsafe Ps o first safe =
+    let w = first.overlap in
     let shown = w.shown in
     let at : ClashesAt w.P w.Q o.root = (o.held, o.path, shown.over, shown.written, shown.reached) in
     let own : IsTrue (has_root w.P o.root) = (and_parts (has_root w.P o.root) true (and_parts (has_root w.P o.root && true) (reach w.P o.held) shown.written).0).0 in
     let clash : Clash w.P w.Q = inl (o.root, own, shown.shared, at) in
-    safe.no_clash w.writer w.other w.P w.Q w.at_writer w.at_other w.different clash
+    safe.no_clash first.writer w.other w.P w.Q w.at_writer w.at_other w.different clash
 
 -- A root among all roots.
 root-found : (Ps : List Parts) (r : Path) → IsTrue (is_root_of Ps r) → Found (λ own. path_eq own r) (all_roots Ps [])

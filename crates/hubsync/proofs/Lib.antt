@@ -1,3 +1,5 @@
+pub mod NearestFacts
+pub mod ShownFacts
 pub mod CheckFacts
 pub mod Lines
 pub mod Sections

@@ -1,5 +1,6 @@
 -- Worked values of the check of profiles and of the lines that it writes.
 use Rattle.std.specs.Prelude.{⊤, ◌≡◌, ℕ, true, false, List, [], ◌∷◌, map, refl, codes}
+use Rattle.std.proofs.Common.{arith}
 use Rattle.std.proofs.lemmas.Option.{none-some}
 use Rattle.hub_path.specs.Path.{Path, path_of}
 use Rattle.hub_profile.specs.Parts.{Parts}
@@ -7,7 +8,7 @@ use Rattle.hub_reach.specs.Reach.{reach}
 use Rattle.hubsync.specs.declared.check.Overlap.{Overlap}
 use Rattle.hubsync.specs.declared.check.Refusal.TheVariants.{TooManyProfiles, SameName, NestedRoots, Overlaps}
 use Rattle.hubsync.specs.declared.report.Report.TheVariants.{Safe, Refused, OutOfMemory}
-use Rattle.hubsync.specs.Check.{is_nested, has_nested, meets, shares_root, IsOverlap, RepeatsName}
+use Rattle.hubsync.specs.Check.{is_nested, has_nested, shares_root, IsOverlap, RepeatsName}
 use Rattle.hubsync.specs.Report.{refusal_line, root_text, status_of}
 
 -- What these examples compute.
@@ -32,10 +33,6 @@ roots_apart = refl
 nested_profiles : map has_nested ((kept [] [] (hub ∷ s1 ∷ []) ∷ kept [] [] (s1 ∷ hub ∷ []) ∷ []) ∷ (kept [] [] (hub ∷ s1 ∷ []) ∷ kept [] [] (path_of (codes "b") ∷ path_of (codes "srv") ∷ []) ∷ []) ∷ []) ≡ false ∷ true ∷ []
 nested_profiles = refl
 
--- kept values meet where one is over the other, either way, by names and not by text
-meetings : map (meets (path_of (codes "docs") ∷ path_of (codes "a/b") ∷ [])) ((path_of (codes "docs2") ∷ []) ∷ (path_of (codes "docs/x") ∷ []) ∷ (path_of (codes "x") ∷ path_of (codes "a") ∷ []) ∷ ([] ∷ []) ∷ []) ≡ false ∷ true ∷ true ∷ true ∷ []
-meetings = refl
-
 -- two profiles share a root if one of them has it on the other side too
 shared : map (λ rs. shares_root (kept [] [] (hub ∷ s1 ∷ [])) (kept [] [] rs)) ((s1 ∷ path_of (codes "c") ∷ []) ∷ (path_of (codes "c") ∷ path_of (codes "srv") ∷ []) ∷ []) ≡ true ∷ false ∷ []
 shared = refl
@@ -51,13 +48,17 @@ an_overlap : IsOverlap part_and_whole shown
 unfolding computed
 an_overlap = record {
   writer = 0;
-  other = 1;
-  different = λ h. cc;
-  P = kept (codes "whole") (codes "a") (hub ∷ s1 ∷ []);
-  Q = kept (codes "part") (codes "a/b") (hub ∷ s1 ∷ []);
-  at_writer = refl;
-  at_other = refl;
-  shown = record { writer = refl; other = refl; shared = refl; over = refl; written = refl; reached = refl };
+  none_before = λ i l. absurd (omega arith);
+  overlap = record {
+    other = 1;
+    different = λ h. cc;
+    P = kept (codes "whole") (codes "a") (hub ∷ s1 ∷ []);
+    Q = kept (codes "part") (codes "a/b") (hub ∷ s1 ∷ []);
+    at_writer = refl;
+    at_other = refl;
+    none_before = λ j A B l a b different clash. absurd (different (omega arith));
+    shown = record { writer = refl; other = refl; shared = refl; over = refl; written = refl; reached = refl; place = path_of (codes "a/b"); nearest = refl; path = refl };
+  };
 }
 
 -- no name is there twice

@@ -1,4 +1,6 @@
 pub mod Bundle
+pub mod Nearest
+pub mod Shown
 pub mod Check
 pub mod Report
 pub mod Examples

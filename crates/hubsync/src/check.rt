@@ -10,8 +10,9 @@ ghost use Rattle.hubsync.specs.Check as check;
 use hub_path::{Name, RelPath, Root};
 use hub_profile::Profile;
 use hub_reach::writes;
+use crate::nearest::nearest_meeting;
+use crate::shown::shown_path;
 use std::alloc::{AllocError, Global};
-use std::collections::BTreeSet;
 
 /// How many profiles a bundle may have.
 pub const PROFILES: usize = 32;
@@ -183,7 +184,7 @@ fn overlap_of_writer(
 ) -> Result<Option<Overlap>, AllocError>
     requires within { writer < length profiles.now }
     requires plain { check.have_patterns profiles.now ≡ false }
-    ensures { IfOk result (λ o. MatchOption o (check.ClashesNone profiles.now writer (length profiles.now)) (check.IsOverlap profiles.now)) }
+    ensures { IfOk result (λ o. MatchOption o (check.ClashesNone profiles.now writer (length profiles.now)) (check.IsOverlapOf profiles.now writer)) }
 {
     for other in 0..profiles.len() {
         if writer != other {
@@ -205,7 +206,7 @@ fn overlap_of(
 ) -> Result<Option<Overlap>, AllocError>
     requires writer { check.has_patterns writer.now ≡ false }
     requires other { check.has_patterns other.now ≡ false }
-    ensures { IfOk result (λ o. MatchOption o (¬ (Clash writer.now other.now)) (check.IsShown writer.now other.now)) }
+    ensures { IfOk result (λ o. MatchOption o (¬ (Clash writer.now other.now)) (check.IsShown profiles.now writer.now other.now)) }
 {
     let Some(root) = shared_root(writer, other) else {
         return Ok(None);
@@ -244,103 +245,6 @@ fn has_root(profile: &Profile, root: &Root) -> bool
     ensures { result ≡ reach.has_root profile.now root.now }
 {
     profile.roots().iter().any(|own| own == root)
-}
-
-/// Of the places that one of these and one of those are over, the nearest.
-fn nearest_meeting<'a>(
-    these: &'a [RelPath],
-    those: &'a [RelPath],
-) -> Result<Option<&'a RelPath>, AllocError>
-    ensures { IfOk result (λ m. MatchOption m (check.meets these.now those.now ≡ false) (λ q. IsTrue (check.is_below these.now q.now) × IsTrue (check.is_below those.now q.now))) }
-{
-    let mut nearest = None;
-    for path in these {
-        if let Some(found) = nearest_below(path, those)? {
-            nearest = match nearest {
-                Some(best) => Some(nearer(best, found)?),
-                None => Some(found),
-            };
-        }
-    }
-    Ok(nearest)
-}
-
-/// Of the places that a path and one of these are over, the nearest.
-fn nearest_below<'a>(
-    path: &'a RelPath,
-    paths: &'a [RelPath],
-) -> Result<Option<&'a RelPath>, AllocError>
-    ensures { IfOk result (λ m. MatchOption m (list_any (λ t. is_over path.now t || is_over t path.now) paths.now ≡ false) (λ q. IsTrue (is_over path.now q.now) × IsTrue (check.is_below paths.now q.now))) }
-{
-    let mut nearest = None;
-    for other in paths {
-        if let Some(found) = longer(path, other) {
-            nearest = match nearest {
-                Some(best) => Some(nearer(best, found)?),
-                None => Some(found),
-            };
-        }
-    }
-    Ok(nearest)
-}
-
-/// The longer of two paths, where one is over the other.
-fn longer<'a>(path: &'a RelPath, other: &'a RelPath) -> Option<&'a RelPath>
-    ensures { MatchOption result ((is_over path.now other.now || is_over other.now path.now) ≡ false) (λ q. IsTrue (is_over path.now q.now) × IsTrue (is_over other.now q.now)) }
-{
-    if other.starts_with(path) {
-        Some(other)
-    } else if path.starts_with(other) {
-        Some(path)
-    } else {
-        None
-    }
-}
-
-/// Of two paths the one with fewer characters, else the first of them by characters.
-fn nearer<'a>(best: &'a RelPath, path: &'a RelPath) -> Result<&'a RelPath, AllocError>
-    ensures { IfOk result (λ q. (q.now ≡ path.now) ⊎ (q.now ≡ best.now)) }
-{
-    let (old, new) = (best.text()?, path.text()?);
-    let old_key = (old.as_str().chars().count(), old.as_str());
-    let new_key = (new.as_str().chars().count(), new.as_str());
-    Ok(if new_key < old_key { path } else { best })
-}
-
-/// The path that is shown for a place: itself, or for the whole replica a path that no pattern or path mentions.
-fn shown_path(alloc: Global, profiles: &[Profile], place: &RelPath) -> Result<RelPath, AllocError>
-    ensures path { IfOk result (λ p. IsTrue (is_path p)) }
-    ensures below { IfOk result (λ p. (p ≡ place.now) ⊎ (place.now ≡ [])) }
-{
-    if place.len() > 0 {
-        return place.copy();
-    }
-    let sample = sample(alloc, profiles)?;
-    let mut text = String::new(alloc);
-    text.push(sample)?;
-    RelPath::read(alloc, text.as_str()).map_err(|_| AllocError)
-}
-
-/// The least character from `a` on that stands in no kept value: a name that says "any other name".
-fn sample(alloc: Global, profiles: &[Profile]) -> Result<char, AllocError> {
-    let mut mentioned = BTreeSet::new(alloc);
-    for profile in profiles {
-        add_characters(&mut mentioned, profile.paths())?;
-    }
-    Ok(
-        ('a'..=char::MAX)
-            .find(|c| !mentioned.contains(c))
-            .unwrap_or('a'),
-    )
-}
-
-fn add_characters(characters: &mut BTreeSet<char>, paths: &[RelPath]) -> Result<(), AllocError> {
-    for path in paths {
-        for character in path.text()?.as_str().chars() {
-            characters.insert(character)?;
-        }
-    }
-    Ok(())
 }
 
 /// The shortest prefix of a path that the writer reaches, where it reaches the path.

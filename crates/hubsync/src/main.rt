@@ -10,9 +10,11 @@ mod bundle;
 mod check;
 mod input;
 pub mod laws;
+mod nearest;
 mod profiles;
 mod report;
 mod serve;
+mod shown;
 mod words;
 
 use serve::serve as answer;

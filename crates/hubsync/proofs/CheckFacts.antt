@@ -1,8 +1,8 @@
 -- Prefixes, profiles that share no root or whose paths don't meet, and roots of which none are nested.
-use Rattle.std.proofs.Common.{◌≡◌, ◌⊎◌, inl, inr, ⊎_elim, ◌==◌, ℕ, suc, zero, ◌+◌, ◌<◌, ◌≤◌, Bool, true, false, not, ◌&&◌, ◌||◌, List, [], ◌∷◌, ◌++◌, cond, length, take, Option, Some, refl, sym, ap, ◌∙◌, subst, arith, append-nil}
+use Rattle.std.proofs.Common.{◌≡◌, ◌⊎◌, inl, inr, ⊎_elim, ◌==◌, ℕ, suc, zero, ◌+◌, ◌<◌, ◌≤◌, Bool, true, false, not, ◌&&◌, ◌||◌, List, [], ◌∷◌, ◌++◌, cond, length, take, Option, None, Some, refl, sym, ap, ◌∙◌, subst, arith, append-nil}
 use borrow.Author.Tests.{eqb-true}
 use Rattle.std.specs.Prelude.{IsTrue, slice_get}
-use Rattle.std.specs.List.{list_any, list_all, filter, flat_map}
+use Rattle.std.specs.List.{list_any, list_all, filter, find, flat_map}
 use Rattle.std.specs.Bool.{Decides}
 use Rattle.std.proofs.lemmas.Slice.Eq.{slice_eq-Decides}
 use Rattle.std.proofs.lemmas.Map.Keys.{any_passes_from_place}
@@ -12,7 +12,7 @@ use Rattle.hub_profile.specs.Parts.{Parts, IsProfile}
 use Rattle.hub_profile.specs.Facts.{are_roots}
 use Rattle.hub_reach.specs.Reach.{reach, has_root, write}
 use Rattle.hub_glob.specs.Specification.{Specification}
-use Rattle.hub_reach.specs.Laws.{reach-open, reach-below as law-reach-below}
+use Rattle.hub_reach.specs.Laws.{reach-open, reach-below as law-reach-below, reach-is_path as law-reach-is_path}
 use Rattle.hub_reach.specs.Safe.{Clash, ClashesAt, ClashesInArchive, share_archive, all_roots, IsSafe}
 use Rattle.std.proofs.lemmas.List.Folds.{list_any-append}
 use Rattle.std.proofs.lemmas.Option.{slice_get_within, none-some, same_Some}
@@ -20,7 +20,7 @@ use Rattle.std.proofs.lemmas.Bool.{false≢true, cases_lt, and_parts, or_left, o
 use Rattle.std.proofs.lemmas.Bool.Decides.{nat_tests}
 use Rattle.hubsync.specs.declared.check.Overlap.{Overlap}
 use Rattle.hubsync.specs.Nearest.{is_below, meetings, is_nearest}
-use Rattle.hubsync.specs.Check.{has_patterns, have_patterns, IsOverlap, NoneRepeated, is_root_of, NoneClash, ClashesNone, RepeatsName, is_nested, nested_with, has_nested, is_shared, shares_root}
+use Rattle.hubsync.specs.Check.{has_patterns, have_patterns, IsOverlap, NoneRepeated, is_root_of, NoneClash, ClashesNone, RepeatsName, is_nested, nested_with, has_nested, is_shared, shares_root, IsShortestReached}
 use Rattle.hubsync.specs.Shown.{IsShownFor}
 use Rattle.hubsync.proofs.NearestFacts.{path_eq-decides}
 
@@ -133,7 +133,8 @@ in-filter : (f : Path → Bool) (q : Path) (ps : List Path) → list_any (path_e
 in-filter f q [] h = cc
 in-filter f q (p ∷ ps) h = kept-passes f q p ps (in-filter f q ps) (f p) refl h
 
-own-below : (ss : List Path) (q : Path) → list_any (path_eq q) ss ≡ true → is_below ss q ≡ true
+-- A path of the list is over itself.
+pub own-below : (ss : List Path) (q : Path) → list_any (path_eq q) ss ≡ true → is_below ss q ≡ true
 own-below ss q h = any-weaker (path_eq q) (λ s. is_over s q) ss (λ s e. subst (λ r. is_over r q ≡ true) ((path_eq-decides q s).0 e) (is_over-reflexive q)) h
 
 -- Where kept values meet, there is a value of either over the place.
@@ -308,3 +309,89 @@ nested-unsafe Ps r s h k nested safe =
     let differ : path_eq r s ≡ false = not-true (path_eq r s) parts.0 in
     let same : r ≡ s = ⊎_elim (λ over. apart-roots-equal Ps r s h k safe over) (λ over. sym (apart-roots-equal Ps s r k h safe over)) (or_cases (is_over r s) (is_over s r) parts.1) in
     false≢true (sym differ ∙ (path_eq-decides r s).1 same)
+
+not-found : {X : Type 0} (f : X → Bool) (x : X) (xs : List X) → (find f xs ≡ None → list_any f xs ≡ false) → (b : Bool) → f x ≡ b → cond b (Some x) (find f xs) ≡ None → list_any f (x ∷ xs) ≡ false
+not-found f x xs rest true e h = cc
+not-found f x xs rest false e h = rw (e, rest h) refl
+
+-- Where no first item is found, none passes.
+pub find-none : {X : Type 0} (f : X → Bool) (xs : List X) → find f xs ≡ None → list_any f xs ≡ false
+find-none f [] h = refl
+find-none f (x ∷ xs) h = not-found f x xs (find-none f xs) (f x) refl h
+
+found-passes : {X : Type 0} (f : X → Bool) (x y : X) (xs : List X) → (find f xs ≡ Some y → f y ≡ true) → (b : Bool) → f x ≡ b → cond b (Some x) (find f xs) ≡ Some y → f y ≡ true
+found-passes f x y xs rest true e h = let same : x ≡ y = cc in ap f (sym same) ∙ e
+found-passes f x y xs rest false e h = rest h
+
+-- The first item that is found passes.
+pub find-passes : {X : Type 0} (f : X → Bool) (xs : List X) (y : X) → find f xs ≡ Some y → f y ≡ true
+find-passes f [] y h = cc
+find-passes f (x ∷ xs) y h = found-passes f x y xs (find-passes f xs y) (f x) refl h
+
+found-in : (f : Path → Bool) (x y : Path) (xs : List Path) → (find f xs ≡ Some y → list_any (path_eq y) xs ≡ true) → (b : Bool) → cond b (Some x) (find f xs) ≡ Some y → list_any (path_eq y) (x ∷ xs) ≡ true
+found-in f x y xs rest true h = let same : x ≡ y = cc in or_left (path_eq y x) _ ((path_eq-decides y x).1 (sym same))
+found-in f x y xs rest false h = or_right (path_eq y x) _ (rest h)
+
+-- It is one of them.
+pub find-in : (f : Path → Bool) (xs : List Path) (y : Path) → find f xs ≡ Some y → list_any (path_eq y) xs ≡ true
+find-in f [] y h = cc
+find-in f (x ∷ xs) y h = found-in f x y xs (find-in f xs y) (f x) h
+
+all-at : (f : Path → Bool) (xs : List Path) (y : Path) → list_all f xs ≡ true → list_any (path_eq y) xs ≡ true → f y ≡ true
+all-at f [] y h k = cc
+all-at f (x ∷ xs) y h k =
+    let both = and_parts (f x) (list_all f xs) h in
+    ⊎_elim (λ here. ap f ((path_eq-decides y x).0 here) ∙ both.0) (λ there. all-at f xs y both.1 there) (or_cases (path_eq y x) _ k)
+
+apart-either : (a b : Bool) → not (a || b) ≡ true → (a ≡ true) ⊎ (b ≡ true) → ⊥
+apart-either true b h over = cc
+apart-either false true h over = cc
+apart-either false false h (inl e) = cc
+apart-either false false h (inr e) = cc
+
+swapped : {A B : Type 0} → A ⊎ B → B ⊎ A
+swapped (inl a) = inr a
+swapped (inr b) = inl b
+
+-- Of paths of which none is over another one, two that lie one over the other are the same.
+none-over-same : (ps : List Path) (s t : Path) → none_over ps ≡ true → list_any (path_eq s) ps ≡ true → list_any (path_eq t) ps ≡ true → (is_over s t ≡ true) ⊎ (is_over t s ≡ true) → s ≡ t
+none-over-same [] s t none h k over = cc
+none-over-same (p ∷ ps) s t none h k over =
+    let apart = λ (q : Path). not (is_over p q || is_over q p) in
+    let parts = and_parts (list_all apart ps) (none_over ps) none in
+    let first = or_cases (path_eq s p) _ h in
+    let second = or_cases (path_eq t p) _ k in
+    ⊎_elim
+    (λ s_is. let e : s ≡ p = (path_eq-decides s p).0 s_is in
+        ⊎_elim (λ t_is. e ∙ sym ((path_eq-decides t p).0 t_is))
+        (λ t_in. absurd (apart-either (is_over p t) (is_over t p) (all-at apart ps t parts.0 t_in) (subst (λ r. (is_over r t ≡ true) ⊎ (is_over t r ≡ true)) e over))) second)
+    (λ s_in. ⊎_elim
+        (λ t_is. let e : t ≡ p = (path_eq-decides t p).0 t_is in
+            absurd (apart-either (is_over p s) (is_over s p) (all-at apart ps s parts.0 s_in) (swapped (subst (λ r. (is_over s r ≡ true) ⊎ (is_over r s ≡ true)) e over))))
+        (λ t_in. none-over-same ps s t parts.1 s_in t_in over) second)
+    first
+
+-- The kept value over a path is the shortest prefix of it that may be reached.
+pub shortest-kept : (P : Parts) (path kept : Path) → IsProfile P → find (λ s. is_over s path) P.paths ≡ Some kept → IsShortestReached P path kept
+shortest-kept P path kept profile h = λ p over reached.
+    let none = (and_parts (not (length P.paths == 0) && list_all is_place P.paths) (none_over P.paths) profile.paths).1 in
+    let s = any-found (λ s. is_over s p) P.paths (reached-below P p reached) in
+    let own = any_passes_from_place (path_eq s.item) P.paths s.place s.item s.at (path_eq-reflexive s.item) in
+    let near = is_over-comparable s.item kept path (is_over-transitive s.item p path s.passes over) (find-passes (λ s. is_over s path) P.paths kept h) in
+    let same : s.item ≡ kept = none-over-same P.paths s.item kept none own (find-in (λ s. is_over s path) P.paths kept h) near in
+    subst (λ r. is_over r p ≡ true) same s.passes
+
+first-of-prefix : (k n : Name) (path p : Path) → IsTrue (is_path p) → is_over p (k ∷ path) ≡ true → slice_get (k ∷ path) 0 ≡ Some n → is_over (n ∷ []) p ≡ true
+first-of-prefix k n path [] named over at = cc
+first-of-prefix k n path (m ∷ p) named over at =
+    let same : k ≡ n = cc in
+    let first : m ≡ k = (name_eq-decides m k).0 (and_parts (name_eq m k) (is_over p path) over).0 in
+    rw ((name_eq-decides n m).1 (sym (first ∙ same))) refl
+
+-- The first name of a path is a prefix of each other prefix that is a path.
+pub shortest-name : (P : Parts) (path : Path) (n : Name) → slice_get path 0 ≡ Some n → IsShortestReached P path (n ∷ [])
+shortest-name P [] n at = cc
+shortest-name P (k ∷ path) n at = λ p over reached. first-of-prefix k n path p (law-reach-is_path P p reached) over at
+
+pub shown-root : (P Q : Parts) (r : Path) → find (is_shared P Q) P.roots ≡ Some r → is_shared P Q r ≡ true
+shown-root P Q r h = find-passes (is_shared P Q) P.roots r h

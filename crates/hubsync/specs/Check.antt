@@ -1,6 +1,6 @@
 -- When profiles are refused, and what a refusal shows.
 use Rattle.std.specs.Prelude.{◌≡◌, ◌≢◌, ◌<◌, ℕ, Bool, false, not, ◌&&◌, ◌||◌, ◌==◌, List, length, take, ◌≤◌, ⊤, IsTrue, slice_get, Some}
-use Rattle.std.specs.List.{list_any}
+use Rattle.std.specs.List.{list_any, find}
 use Rattle.hub_path.specs.Path.{Name, Path, name_eq, path_eq, is_over}
 use Rattle.hub_profile.specs.Parts.{Parts}
 use Rattle.hub_reach.specs.Reach.{reach, write, writes, has_root}
@@ -60,8 +60,13 @@ NoneRepeated Ps below = (i : ℕ) (P : Parts) → i < below → slice_get Ps i �
 abbrev pub NamesDiffer : List Parts → Type 0
 NamesDiffer Ps = (name : Name) → ¬ (RepeatsName Ps name)
 
+-- Each prefix of the path that P reaches has the held one as its own prefix.
+abbrev pub IsShortestReached : Parts → Path → Path → Type 0
+IsShortestReached P path held = (p : Path) → IsTrue (is_over p path) → IsTrue (reach P p) → IsTrue (is_over held p)
+
 -- What is shown of two profiles that overlap: P writes what is held, at a root of both, and it is over a path that Q
--- reaches. The path is that of the nearest place where their kept values meet.
+-- reaches. The root is the first of P's at which P writes and that Q has, the path is that of the nearest place where
+-- their kept values meet, and what is held is the shortest prefix of the path that P reaches.
 pub record IsShown (Ps : List Parts) (P Q : Parts) (o : Overlap) : Type 0 where
   pub writer : o.writer ≡ P.name
   pub other : o.other ≡ Q.name
@@ -72,6 +77,8 @@ pub record IsShown (Ps : List Parts) (P Q : Parts) (o : Overlap) : Type 0 where
   pub place : Path
   pub nearest : IsTrue (is_nearest (meetings P.paths Q.paths) place)
   pub path : IsShownFor Ps place o.path
+  pub root : find (is_shared P Q) P.roots ≡ Some o.root
+  pub shortest : IsShortestReached P o.path o.held
 
 -- The profile of that number clashes with none of those whose number is below a bound, and none of the first ones with any.
 abbrev pub ClashesNone : List Parts → ℕ → ℕ → Type 0

@@ -1,10 +1,13 @@
 -- Worked values of the check of profiles and of the lines that it writes.
-use Rattle.std.specs.Prelude.{⊤, ◌≡◌, ℕ, true, false, List, [], ◌∷◌, map, refl, codes}
-use Rattle.std.proofs.Common.{arith}
+use Rattle.std.specs.Prelude.{IsTrue, ⊤, ◌≡◌, ℕ, true, false, List, [], ◌∷◌, map, refl, codes}
+use Rattle.std.proofs.Common.{◌&&◌, sym, arith}
+use Rattle.std.proofs.lemmas.Bool.{and_parts}
 use Rattle.std.proofs.lemmas.Option.{none-some}
-use Rattle.hub_path.specs.Path.{Path, path_of}
+use Rattle.hub_path.specs.Path.{Path, path_of, name_eq, is_over, is_path}
+use Rattle.hub_path.specs.Laws.{name_eq-decides}
 use Rattle.hub_profile.specs.Parts.{Parts}
 use Rattle.hub_reach.specs.Reach.{reach}
+use Rattle.hub_reach.specs.Laws.{reach-is_path}
 use Rattle.hubsync.specs.declared.check.Overlap.{Overlap}
 use Rattle.hubsync.specs.declared.check.Refusal.TheVariants.{TooManyProfiles, SameName, NestedRoots, Overlaps}
 use Rattle.hubsync.specs.declared.report.Report.TheVariants.{Safe, Refused, OutOfMemory}
@@ -43,6 +46,13 @@ part_and_whole = kept (codes "whole") (codes "a") (hub ∷ s1 ∷ []) ∷ kept (
 abbrev shown : Overlap
 shown = record { writer = codes "whole"; held = path_of (codes "a"); root = hub; other = codes "part"; path = path_of (codes "a/b") }
 
+-- A path that is over another one begins with its first name.
+pub begins_alike : (n : List ℕ) (rest p : Path) → IsTrue (is_path p) → IsTrue (is_over p (n ∷ rest)) → IsTrue (is_over (n ∷ []) p)
+begins_alike n rest [] named over = cc
+begins_alike n rest (m ∷ p) named over =
+    let same : m ≡ n = (name_eq-decides m n).0 (and_parts (name_eq m n) (is_over p rest) over).0 in
+    rw ((name_eq-decides n m).1 (sym same)) refl
+
 -- `path = a` of one profile and `path = a/b` of another one overlap
 an_overlap : IsOverlap part_and_whole shown
 unfolding computed
@@ -57,7 +67,7 @@ an_overlap = record {
     at_writer = refl;
     at_other = refl;
     none_before = λ j A B l a b different clash. absurd (different (omega arith));
-    shown = record { writer = refl; other = refl; shared = refl; over = refl; written = refl; reached = refl; place = path_of (codes "a/b"); nearest = refl; path = refl };
+    shown = record { writer = refl; other = refl; shared = refl; over = refl; written = refl; reached = refl; place = path_of (codes "a/b"); nearest = refl; path = refl; root = refl; shortest = λ p over reached. begins_alike (codes "a") (codes "b" ∷ []) p (reach-is_path (kept (codes "whole") (codes "a") (hub ∷ s1 ∷ [])) p reached) over };
   };
 }
 

@@ -5,5 +5,6 @@ pub mod Check
 pub mod Report
 pub mod Examples
 pub mod CheckExamples
+pub mod NearestExamples
 pub mod Words
 pub mod WordsExamples

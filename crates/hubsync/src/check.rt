@@ -1,6 +1,7 @@
 //! The check of profiles: the first reason to refuse them, and that without one they are safe.
 ghost use Rattle.std.specs.Prelude.{◌≡◌, ◌<◌, ◌≤◌, ◌≢◌, ◌⊎◌, ℕ, [], length, true, false, not, ◌&&◌, ◌||◌, slice_get, Some, IsTrue, IsNone, IfOk, IfSome, MatchOption};
-ghost use Rattle.std.specs.List.{list_any};
+ghost use Rattle.std.specs.List.{list_any, find};
+ghost use Rattle.std.specs.Option.{option_copied};
 ghost use Rattle.hub_path.specs.Path.{name_eq, path_eq, is_over, is_path};
 ghost use Rattle.hub_profile.specs.Parts.{Parts, IsProfile};
 ghost use Rattle.hub_reach.specs.Reach as reach;
@@ -226,7 +227,7 @@ fn overlap_of(
 
 /// The first root of the writer that the other profile has too, and at which the writer writes.
 fn shared_root<'a>(writer: &'a Profile, other: &Profile) -> Option<&'a Root>
-    ensures shared { MatchOption result (check.shares_root writer.now other.now ≡ false) (λ root. IsTrue (check.is_shared writer.now other.now root.now)) }
+    ensures first { option_copied result ≡ find (check.is_shared writer.now other.now) writer.now.roots }
     ensures valid { IsProfile writer.now }
 {
     writer
@@ -254,6 +255,7 @@ fn held_prefix(alloc: Global, writer: &Profile, path: &RelPath) -> Result<RelPat
     requires plain { check.has_patterns writer.now ≡ false }
     ensures over { IfOk result (λ held. IsTrue (is_over held path.now)) }
     ensures reached { IfOk result (λ held. IsTrue (reach.reach writer.now held)) }
+    ensures shortest { IfOk result (check.IsShortestReached writer.now path.now) }
 {
     match first_over(writer.paths(), path) {
         Some(kept) if kept.len() > 0 => kept.copy(),
@@ -263,12 +265,7 @@ fn held_prefix(alloc: Global, writer: &Profile, path: &RelPath) -> Result<RelPat
 
 /// The first of these that is over the path.
 fn first_over<'a>(paths: &'a [RelPath], path: &RelPath) -> Option<&'a RelPath>
-    ensures { MatchOption result (check.is_below paths.now path.now ≡ false) (λ s. IsTrue (is_over s.now path.now) × IsTrue (check.is_below paths.now s.now)) }
+    ensures { option_copied result ≡ find (λ s. is_over s path.now) paths.now }
 {
-    for over in paths {
-        if path.starts_with(over) {
-            return Some(over);
-        }
-    }
-    None
+    paths.iter().find(|over| path.starts_with(over))
 }

@@ -3,8 +3,6 @@ use Rattle.std.proofs.Common.{◌≡◌, ◌⊎◌, inl, inr, ⊎_elim, ◌==◌
 use borrow.Author.Tests.{eqb-true}
 use Rattle.std.specs.Prelude.{IsTrue, slice_get}
 use Rattle.std.specs.List.{list_any, list_all, filter, find, flat_map}
-use Rattle.std.specs.Bool.{Decides}
-use Rattle.std.proofs.lemmas.Slice.Eq.{slice_eq-Decides}
 use Rattle.std.proofs.lemmas.Map.Keys.{any_passes_from_place}
 use Rattle.hub_path.specs.Laws.{name_eq-decides, is_over-reflexive, is_over-transitive, is_over-comparable}
 use Rattle.hub_path.specs.Path.{Name, Path, name_eq, path_eq, is_over, is_path, is_place, is_name, none_over}
@@ -363,12 +361,12 @@ none-over-same (p ∷ ps) s t none h k over =
     let second = or_cases (path_eq t p) _ k in
     ⊎_elim
     (λ s_is. let e : s ≡ p = (path_eq-decides s p).0 s_is in
-        ⊎_elim (λ t_is. e ∙ sym ((path_eq-decides t p).0 t_is))
-        (λ t_in. absurd (apart-either (is_over p t) (is_over t p) (all-at apart ps t parts.0 t_in) (subst (λ r. (is_over r t ≡ true) ⊎ (is_over t r ≡ true)) e over))) second)
+    ⊎_elim (λ t_is. e ∙ sym ((path_eq-decides t p).0 t_is))
+    (λ t_in. absurd (apart-either (is_over p t) (is_over t p) (all-at apart ps t parts.0 t_in) (subst (λ r. (is_over r t ≡ true) ⊎ (is_over t r ≡ true)) e over))) second)
     (λ s_in. ⊎_elim
-        (λ t_is. let e : t ≡ p = (path_eq-decides t p).0 t_is in
-            absurd (apart-either (is_over p s) (is_over s p) (all-at apart ps s parts.0 s_in) (swapped (subst (λ r. (is_over s r ≡ true) ⊎ (is_over r s ≡ true)) e over))))
-        (λ t_in. none-over-same ps s t parts.1 s_in t_in over) second)
+    (λ t_is. let e : t ≡ p = (path_eq-decides t p).0 t_is in
+    absurd (apart-either (is_over p s) (is_over s p) (all-at apart ps s parts.0 s_in) (swapped (subst (λ r. (is_over s r ≡ true) ⊎ (is_over r s ≡ true)) e over))))
+    (λ t_in. none-over-same ps s t parts.1 s_in t_in over) second)
     first
 
 -- The kept value over a path is the shortest prefix of it that may be reached.

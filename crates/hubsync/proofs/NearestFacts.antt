@@ -1,22 +1,22 @@
 -- The best of a list is one of it, and none of it is nearer.
-use Rattle.std.proofs.Common.{◌≡◌, ◌≢◌, ◌⊎◌, inl, inr, ⊎_elim, ℕ, Bool, true, false, not, cond, ◌&&◌, ◌||◌, List, [], ◌∷◌, ◌++◌, length, Option, Some, None, refl, sym, ap, ◌∙◌, encode_utf8_all, chars, subst, Bor}
+use Rattle.std.proofs.Common.{◌≡◌, ⊎_elim, ℕ, Bool, true, false, not, cond, ◌||◌, List, [], ◌∷◌, ◌++◌, length, Option, Some, None, refl, sym, ap, ◌∙◌, encode_utf8_all, chars, subst, Bor}
 use Rattle.std.specs.Prelude.{IsTrue, MatchOption}
 use Rattle.std.specs.Str.{IsUtf8}
 use Rattle.std.specs.Option.{option_copied}
 use Rattle.std.specs.Bool.{Decides}
 use Rattle.std.proofs.lemmas.Slice.Eq.{slice_eq-Decides}
 use Rattle.hub_path.specs.Laws.{name_eq-decides}
-use Rattle.std.specs.List.{list_any, list_all, filter, fold}
+use Rattle.std.specs.List.{list_any, list_all}
 use Rattle.std.specs.Cmp.{IsTotalOrder}
 use Rattle.std.specs.declared.cmp.Ordering.{Ordering}
 use Rattle.std.specs.declared.cmp.Ordering.TheVariants.{Less, Equal, Greater}
-use Rattle.std.specs.Ordering.{nat_cmp, is_lt, is_gt, ordering_reverse}
+use Rattle.std.specs.Ordering.{is_lt, is_gt, ordering_reverse}
 use Rattle.std.proofs.lemmas.Cmp.{upto, tied_itself, then_total, on_total, nat_cmp_total, nat_list_cmp_total}
-use Rattle.std.proofs.lemmas.Bool.{and_parts, and_from, or_left, or_right, or_cases, false≢true}
+use Rattle.std.proofs.lemmas.Bool.{and_from, or_left, or_right, or_cases}
 use Rattle.std.proofs.lemmas.List.Sums.{fold-append}
 use Rattle.std.proofs.lemmas.Str.{chars_from_encodes}
-use Rattle.hub_path.specs.Path.{Path, path_eq, is_over, text_of, path_cmp}
-use Rattle.hubsync.specs.Nearest.{is_below, meetings, text_cmp, is_nearer, is_nearest, nearer_of, best_of}
+use Rattle.hub_path.specs.Path.{Path, path_eq, text_of}
+use Rattle.hubsync.specs.Nearest.{text_cmp, is_nearer, is_nearest, nearer_of, best_of}
 
 abbrev by_text : Path → Path → Ordering
 by_text p q = text_cmp (text_of p) (text_of q)

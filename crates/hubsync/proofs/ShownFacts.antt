@@ -1,7 +1,6 @@
 -- The path of one character, and the characters of several texts.
-use Rattle.std.proofs.Common.{◌≡◌, ◌⊎◌, inl, inr, ⊎_elim, ◌==◌, ℕ, ◌+◌, ◌<◌, ◌≤◌, Bool, true, false, ◌||◌, List, [], ◌∷◌, ◌++◌, length, take, get_or, Result, Ok, Err, refl, sym, ap, ◌∙◌, subst, arith}
+use Rattle.std.proofs.Common.{◌≡◌, inl, inr, ◌==◌, ℕ, ◌+◌, ◌<◌, ◌≤◌, Bool, true, false, ◌||◌, List, [], ◌∷◌, length, take, get_or, Result, Ok, Err, refl, sym, ap, ◌∙◌, subst, arith}
 use Rattle.std.specs.Prelude.{IsTrue, IfOk}
-use Rattle.std.specs.List.{list_any, onto_first}
 use Rattle.std.proofs.lemmas.Bool.{ne_eqb}
 use Rattle.std.proofs.lemmas.List.Folds.{list_any_more}
 use Rattle.hub_path.specs.declared.fault.PathFault.{PathFault}
@@ -9,7 +8,7 @@ use Rattle.hub_path.specs.Path.{Path, is_path, path_of, text_of}
 use Rattle.hub_path.specs.Reading.{path_reading}
 use Rattle.hub_path.specs.Laws.{text_of-read, path_of-text_of}
 use Rattle.hub_profile.specs.Parts.{Parts}
-use Rattle.hubsync.specs.Shown.{is_in, is_in_paths, IsSample, IsFirstMissing, IsShownFor}
+use Rattle.hubsync.specs.Shown.{is_in, is_in_paths, IsSample, IsShownFor}
 
 or-assoc : (a b c : Bool) → ((a || b) || c) ≡ (a || (b || c))
 or-assoc true b c = refl

@@ -1,6 +1,6 @@
 -- Worked values of the check of profiles and of the lines that it writes.
 use Rattle.std.specs.Prelude.{IsTrue, ⊤, ◌≡◌, ℕ, true, false, List, [], ◌∷◌, map, refl, codes}
-use Rattle.std.proofs.Common.{◌&&◌, sym, arith}
+use Rattle.std.proofs.Common.{sym, arith}
 use Rattle.std.proofs.lemmas.Bool.{and_parts}
 use Rattle.std.proofs.lemmas.Option.{none-some}
 use Rattle.hub_path.specs.Path.{Path, path_of, name_eq, is_over, is_path}

@@ -1,5 +1,5 @@
 -- Worked values of the places where kept values meet, and of the path that is shown for the nearest.
-use Rattle.std.specs.Prelude.{⊤, ◌≡◌, IsTrue, ℕ, true, false, List, [], ◌∷◌, map, refl, codes}
+use Rattle.std.specs.Prelude.{⊤, ◌≡◌, ℕ, true, false, List, [], ◌∷◌, map, refl, codes}
 use Rattle.std.proofs.Common.{subst, inl, arith}
 use Rattle.hub_path.specs.Path.{Path, path_of}
 use Rattle.hub_profile.specs.Parts.{Parts}
@@ -7,7 +7,7 @@ use Rattle.hub_reach.specs.Reach.{reach}
 use Rattle.hub_reach.specs.Laws.{reach-is_path}
 use Rattle.hubsync.specs.declared.check.Overlap.{Overlap}
 use Rattle.hubsync.specs.Nearest.{meetings, is_nearer, is_nearest}
-use Rattle.hubsync.specs.Shown.{is_mentioned, IsFirstMissing, IsSample}
+use Rattle.hubsync.specs.Shown.{is_mentioned, IsSample}
 use Rattle.hubsync.specs.Check.{IsOverlap}
 use Rattle.hubsync.specs.CheckExamples.{begins_alike}
 

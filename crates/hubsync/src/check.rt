@@ -8,11 +8,11 @@ ghost use Rattle.hub_reach.specs.Reach as reach;
 ghost use Rattle.hub_reach.specs.Safe.{IsSafe, Clash};
 ghost use Rattle.hubsync.specs.Check as check;
 
+use crate::nearest::nearest_meeting;
+use crate::shown::shown_path;
 use hub_path::{Name, RelPath, Root};
 use hub_profile::Profile;
 use hub_reach::writes;
-use crate::nearest::nearest_meeting;
-use crate::shown::shown_path;
 use std::alloc::{AllocError, Global};
 
 /// How many profiles a bundle may have.
@@ -23,7 +23,7 @@ pub const PROFILES: usize = 32;
 pub struct Overlap {
     /// The profile that writes.
     pub writer: Name,
-    /// The shortest prefix of the path that it writes.
+    /// The shortest prefix of the path that it reaches, which it writes.
     pub held: RelPath,
     /// Where it writes.
     pub root: Root,
@@ -51,9 +51,11 @@ pub enum Refusal {
 /// The first reason to refuse these profiles, if there is one.
 ///
 /// The reasons are told in this order: more than `PROFILES` of them; the first name that an earlier profile has too;
-/// the first pair of different roots, one within the other; patterns in `ignore`, which this check doesn't know; and the first overlap, by the writer, then by the other
-/// profile, then by the root (the writer's left one first). Of several paths the shown one has the fewest
-/// characters, and is the first of those by characters (this project's choice).
+/// the first pair of different roots, one within the other; patterns in `ignore`, which this check doesn't know; and
+/// the first overlap, by the writer, then by the other profile, then by the root (the writer's left one first). The
+/// path that is shown of it is that of the nearest place where their kept values meet, the one with the fewest
+/// characters and of those the first by characters. Where they meet at the whole replica alone, it is a name of one
+/// character that no kept value of any profile mentions, the first from `a` on (this project's choice).
 pub fn first_refusal(alloc: Global, profiles: &[Profile]) -> Result<Option<Refusal>, AllocError>
     ensures safe { IfOk result (λ r. IsNone r → IsSafe profiles.now []) }
     ensures few { IfOk result (λ r. IsNone r → length profiles.now ≤ PROFILES) }

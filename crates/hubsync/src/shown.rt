@@ -37,10 +37,7 @@ fn sample(alloc: Global, profiles: &[Profile]) -> Result<char, AllocError>
 }
 
 /// The characters of the kept values.
-fn mentioned_characters(
-    alloc: Global,
-    profiles: &[Profile],
-) -> Result<BTreeSet<char>, AllocError>
+fn mentioned_characters(alloc: Global, profiles: &[Profile]) -> Result<BTreeSet<char>, AllocError>
     ensures { IfOk result (λ s. (c : ℕ) → contains nat_cmp s c ≡ shown.is_mentioned profiles.now c) }
 {
     let mut characters = BTreeSet::new(alloc);

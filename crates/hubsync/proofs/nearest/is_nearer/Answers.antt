@@ -2,7 +2,6 @@ use Rattle.std.proofs.Common.{refl, sym, ap, ◌∙◌}
 use Rattle.std.proofs.lemmas.Cmp.{is_lt_index}
 use Rattle.std.specs.Ordering.{is_lt}
 use Rattle.hub_path.specs.Path.{text_of}
-use Rattle.hubsync.specs.Nearest.{text_cmp}
 use Rattle.hubsync.proofs.NearestFacts.{chars-text}
 use Rattle.hubsync.proofs.nearest.is_nearer.Goals as goal
 

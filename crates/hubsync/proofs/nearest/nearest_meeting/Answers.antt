@@ -1,4 +1,4 @@
-use Rattle.std.proofs.Common.{◌≡◌, [], None, Option, sym, ap, ◌∙◌, Bor}
+use Rattle.std.proofs.Common.{◌≡◌, [], Option, ◌∙◌, Bor}
 use Rattle.std.specs.Prelude.{IsTrue, MatchOption}
 use Rattle.std.specs.List.{filter}
 use Rattle.std.specs.Option.{option_copied}

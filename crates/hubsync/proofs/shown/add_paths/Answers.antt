@@ -1,4 +1,4 @@
-use Rattle.std.proofs.Common.{◌≡◌, ◌||◌, sym, ap, ◌∙◌, List, ℕ}
+use Rattle.std.proofs.Common.{◌||◌, ap, ◌∙◌, List, ℕ}
 use Rattle.std.specs.BTreeSet.{contains}
 use Rattle.std.specs.Ordering.{nat_cmp}
 use Rattle.hub_path.specs.Path.{text_of}

@@ -5,7 +5,7 @@ use Rattle.hub_path.specs.Path.{Path}
 use Rattle.hub_path.specs.Reading.{path_reading}
 use Rattle.hubsync.specs.Shown.{IsShownFor}
 use Rattle.hubsync.proofs.NearestFacts.{chars-text}
-use Rattle.hubsync.proofs.ShownFacts.{sample-shown, place-shown, no-names}
+use Rattle.hubsync.proofs.ShownFacts.{sample-shown, no-names}
 use Rattle.hubsync.proofs.shown.shown_path.Goals as goal
 
 pub returns-clause-shown : goal.returns-clause-shown

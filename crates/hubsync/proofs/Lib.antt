@@ -1,4 +1,6 @@
 pub mod Answered
+pub mod NearestFacts
+pub mod ShownFacts
 pub mod CheckFacts
 pub mod Lines
 pub mod Sections

@@ -1,10 +1,13 @@
 -- When profiles are refused, and what a refusal shows.
 use Rattle.std.specs.Prelude.{◌≡◌, ◌≢◌, ◌<◌, ℕ, Bool, false, not, ◌&&◌, ◌||◌, ◌==◌, List, length, take, ◌≤◌, ⊤, IsTrue, slice_get, Some}
-use Rattle.std.specs.List.{list_any}
+use Rattle.std.specs.List.{list_any, find}
 use Rattle.hub_path.specs.Path.{Name, Path, name_eq, path_eq, is_over}
 use Rattle.hub_profile.specs.Parts.{Parts}
 use Rattle.hub_reach.specs.Reach.{reach, write, writes, has_root}
 use Rattle.hub_reach.specs.Safe.{Clash}
+pub use Rattle.hubsync.specs.Nearest.{is_below}
+use Rattle.hubsync.specs.Nearest.{meetings, is_nearest}
+use Rattle.hubsync.specs.Shown.{IsShownFor}
 use Rattle.hubsync.specs.declared.check.TheConstants.{PROFILES}
 use Rattle.hubsync.specs.declared.check.Overlap.{Overlap}
 use Rattle.hubsync.specs.declared.check.Refusal.{Refusal}
@@ -22,14 +25,6 @@ has_nested Ps = list_any (λ P. list_any (nested_with Ps) P.roots) Ps
 
 abbrev pub is_root_of : List Parts → Path → Bool
 is_root_of Ps r = list_any (λ P. has_root P r) Ps
-
--- One of these is over the path.
-abbrev pub is_below : List Path → Path → Bool
-is_below ss q = list_any (λ s. is_over s q) ss
-
--- One of these and one of those lie one over the other.
-abbrev pub meets : List Path → List Path → Bool
-meets ss ts = list_any (λ s. list_any (λ t. is_over s t || is_over t s) ts) ss
 
 -- A root of both at which P writes.
 abbrev pub is_shared : Parts → Parts → Path → Bool
@@ -65,25 +60,25 @@ NoneRepeated Ps below = (i : ℕ) (P : Parts) → i < below → slice_get Ps i �
 abbrev pub NamesDiffer : List Parts → Type 0
 NamesDiffer Ps = (name : Name) → ¬ (RepeatsName Ps name)
 
--- What is shown of two profiles that overlap: P writes what is held, at a root of both, and it is over a path that Q reaches.
-pub record IsShown (P Q : Parts) (o : Overlap) : Type 0 where
+-- Each prefix of the path that P reaches has the held one as its own prefix.
+abbrev pub IsShortestReached : Parts → Path → Path → Type 0
+IsShortestReached P path held = (p : Path) → IsTrue (is_over p path) → IsTrue (reach P p) → IsTrue (is_over held p)
+
+-- What is shown of two profiles that overlap: P writes what is held, at a root of both, and it is over a path that Q
+-- reaches. The root is the first of P's at which P writes and that Q has, the path is that of the nearest place where
+-- their kept values meet, and what is held is the shortest prefix of the path that P reaches.
+pub record IsShown (Ps : List Parts) (P Q : Parts) (o : Overlap) : Type 0 where
   pub writer : o.writer ≡ P.name
   pub other : o.other ≡ Q.name
   pub shared : IsTrue (has_root Q o.root)
   pub over : IsTrue (is_over o.held o.path)
   pub written : IsTrue (write P o.root o.held)
   pub reached : IsTrue (reach Q o.path)
-
--- Of different profiles of the list.
-pub record IsOverlap (Ps : List Parts) (o : Overlap) : Type 0 where
-  pub writer : ℕ
-  pub other : ℕ
-  pub different : writer ≢ other
-  pub P : Parts
-  pub Q : Parts
-  pub at_writer : slice_get Ps writer ≡ Some P
-  pub at_other : slice_get Ps other ≡ Some Q
-  pub shown : IsShown P Q o
+  pub place : Path
+  pub nearest : IsTrue (is_nearest (meetings P.paths Q.paths) place)
+  pub path : IsShownFor Ps place o.path
+  pub root : find (is_shared P Q) P.roots ≡ Some o.root
+  pub shortest : IsShortestReached P o.path o.held
 
 -- The profile of that number clashes with none of those whose number is below a bound, and none of the first ones with any.
 abbrev pub ClashesNone : List Parts → ℕ → ℕ → Type 0
@@ -91,6 +86,23 @@ ClashesNone Ps i below = (j : ℕ) (P Q : Parts) → j < below → slice_get Ps 
 
 abbrev pub NoneClash : List Parts → ℕ → Type 0
 NoneClash Ps below = (i : ℕ) → i < below → ClashesNone Ps i (length Ps)
+
+-- The first overlap of the profile of that number, as the writer, with another one: it clashes with none before that one.
+pub record IsOverlapOf (Ps : List Parts) (writer : ℕ) (o : Overlap) : Type 0 where
+  pub other : ℕ
+  pub different : writer ≢ other
+  pub P : Parts
+  pub Q : Parts
+  pub at_writer : slice_get Ps writer ≡ Some P
+  pub at_other : slice_get Ps other ≡ Some Q
+  pub none_before : ClashesNone Ps writer other
+  pub shown : IsShown Ps P Q o
+
+-- The first overlap of two profiles, by the writer and then by the other one: no writer before it clashes with any.
+pub record IsOverlap (Ps : List Parts) (o : Overlap) : Type 0 where
+  pub writer : ℕ
+  pub none_before : NoneClash Ps writer
+  pub overlap : IsOverlapOf Ps writer o
 
 -- What holds of the profiles where a refusal is told.
 abbrev pub Refuses : List Parts → Refusal → Type 0

@@ -1,13 +1,17 @@
 -- Worked values of the check of profiles and of the lines that it writes.
-use Rattle.std.specs.Prelude.{⊤, ◌≡◌, ℕ, true, false, List, [], ◌∷◌, map, refl, codes}
+use Rattle.std.specs.Prelude.{IsTrue, ⊤, ◌≡◌, ℕ, true, false, List, [], ◌∷◌, map, refl, codes}
+use Rattle.std.proofs.Common.{sym, arith}
+use Rattle.std.proofs.lemmas.Bool.{and_parts}
 use Rattle.std.proofs.lemmas.Option.{none-some}
-use Rattle.hub_path.specs.Path.{Path, path_of}
+use Rattle.hub_path.specs.Path.{Path, path_of, name_eq, is_over, is_path}
+use Rattle.hub_path.specs.Laws.{name_eq-decides}
 use Rattle.hub_profile.specs.Parts.{Parts}
 use Rattle.hub_reach.specs.Reach.{reach}
+use Rattle.hub_reach.specs.Laws.{reach-is_path}
 use Rattle.hubsync.specs.declared.check.Overlap.{Overlap}
 use Rattle.hubsync.specs.declared.check.Refusal.TheVariants.{TooManyProfiles, SameName, NestedRoots, Overlaps}
 use Rattle.hubsync.specs.declared.report.Report.TheVariants.{Safe, Refused, OutOfMemory}
-use Rattle.hubsync.specs.Check.{is_nested, has_nested, meets, shares_root, IsOverlap, RepeatsName}
+use Rattle.hubsync.specs.Check.{is_nested, has_nested, shares_root, IsOverlap, RepeatsName}
 use Rattle.hubsync.specs.Report.{refusal_line, root_text, status_of}
 
 -- What these examples compute.
@@ -32,10 +36,6 @@ roots_apart = refl
 nested_profiles : map has_nested ((kept [] [] (hub ∷ s1 ∷ []) ∷ kept [] [] (s1 ∷ hub ∷ []) ∷ []) ∷ (kept [] [] (hub ∷ s1 ∷ []) ∷ kept [] [] (path_of (codes "b") ∷ path_of (codes "srv") ∷ []) ∷ []) ∷ []) ≡ false ∷ true ∷ []
 nested_profiles = refl
 
--- kept values meet where one is over the other, either way, by names and not by text
-meetings : map (meets (path_of (codes "docs") ∷ path_of (codes "a/b") ∷ [])) ((path_of (codes "docs2") ∷ []) ∷ (path_of (codes "docs/x") ∷ []) ∷ (path_of (codes "x") ∷ path_of (codes "a") ∷ []) ∷ ([] ∷ []) ∷ []) ≡ false ∷ true ∷ true ∷ true ∷ []
-meetings = refl
-
 -- two profiles share a root if one of them has it on the other side too
 shared : map (λ rs. shares_root (kept [] [] (hub ∷ s1 ∷ [])) (kept [] [] rs)) ((s1 ∷ path_of (codes "c") ∷ []) ∷ (path_of (codes "c") ∷ path_of (codes "srv") ∷ []) ∷ []) ≡ true ∷ false ∷ []
 shared = refl
@@ -46,18 +46,29 @@ part_and_whole = kept (codes "whole") (codes "a") (hub ∷ s1 ∷ []) ∷ kept (
 abbrev shown : Overlap
 shown = record { writer = codes "whole"; held = path_of (codes "a"); root = hub; other = codes "part"; path = path_of (codes "a/b") }
 
+-- A path that is over another one begins with its first name.
+pub begins_alike : (n : List ℕ) (rest p : Path) → IsTrue (is_path p) → IsTrue (is_over p (n ∷ rest)) → IsTrue (is_over (n ∷ []) p)
+begins_alike n rest [] named over = cc
+begins_alike n rest (m ∷ p) named over =
+    let same : m ≡ n = (name_eq-decides m n).0 (and_parts (name_eq m n) (is_over p rest) over).0 in
+    rw ((name_eq-decides n m).1 (sym same)) refl
+
 -- `path = a` of one profile and `path = a/b` of another one overlap
 an_overlap : IsOverlap part_and_whole shown
 unfolding computed
 an_overlap = record {
   writer = 0;
-  other = 1;
-  different = λ h. cc;
-  P = kept (codes "whole") (codes "a") (hub ∷ s1 ∷ []);
-  Q = kept (codes "part") (codes "a/b") (hub ∷ s1 ∷ []);
-  at_writer = refl;
-  at_other = refl;
-  shown = record { writer = refl; other = refl; shared = refl; over = refl; written = refl; reached = refl };
+  none_before = λ i l. absurd (omega arith);
+  overlap = record {
+    other = 1;
+    different = λ h. cc;
+    P = kept (codes "whole") (codes "a") (hub ∷ s1 ∷ []);
+    Q = kept (codes "part") (codes "a/b") (hub ∷ s1 ∷ []);
+    at_writer = refl;
+    at_other = refl;
+    none_before = λ j A B l a b different clash. absurd (different (omega arith));
+    shown = record { writer = refl; other = refl; shared = refl; over = refl; written = refl; reached = refl; place = path_of (codes "a/b"); nearest = refl; path = refl; root = refl; shortest = λ p over reached. begins_alike (codes "a") (codes "b" ∷ []) p (reach-is_path (kept (codes "whole") (codes "a") (hub ∷ s1 ∷ [])) p reached) over };
+  };
 }
 
 -- no name is there twice

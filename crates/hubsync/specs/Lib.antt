@@ -1,8 +1,11 @@
 pub mod Bundle
+pub mod Nearest
+pub mod Shown
 pub mod Check
 pub mod Reached
 pub mod Report
 pub mod Examples
 pub mod CheckExamples
+pub mod NearestExamples
 pub mod Words
 pub mod WordsExamples

@@ -1,17 +1,19 @@
 //! The check of profiles: the first reason to refuse them, and that without one they are safe.
 ghost use Rattle.std.specs.Prelude.{◌≡◌, ◌<◌, ◌≤◌, ◌≢◌, ◌⊎◌, ℕ, [], length, true, false, not, ◌&&◌, ◌||◌, slice_get, Some, IsTrue, IsNone, IfOk, IfSome, MatchOption};
-ghost use Rattle.std.specs.List.{list_any};
+ghost use Rattle.std.specs.List.{list_any, find};
+ghost use Rattle.std.specs.Option.{option_copied};
 ghost use Rattle.hub_path.specs.Path.{name_eq, path_eq, is_over, is_path};
 ghost use Rattle.hub_profile.specs.Parts.{Parts, IsProfile};
 ghost use Rattle.hub_reach.specs.Reach as reach;
 ghost use Rattle.hub_reach.specs.Safe.{IsSafe, Clash};
 ghost use Rattle.hubsync.specs.Check as check;
 
+use crate::nearest::nearest_meeting;
+use crate::shown::shown_path;
 use hub_path::{Name, RelPath, Root};
 use hub_profile::Profile;
 use hub_reach::writes;
 use std::alloc::{AllocError, Global};
-use std::collections::BTreeSet;
 
 /// How many profiles a bundle may have.
 pub const PROFILES: usize = 32;
@@ -21,7 +23,7 @@ pub const PROFILES: usize = 32;
 pub struct Overlap {
     /// The profile that writes.
     pub writer: Name,
-    /// The shortest prefix of the path that it writes.
+    /// The shortest prefix of the path that it reaches, which it writes.
     pub held: RelPath,
     /// Where it writes.
     pub root: Root,
@@ -49,9 +51,11 @@ pub enum Refusal {
 /// The first reason to refuse these profiles, if there is one.
 ///
 /// The reasons are told in this order: more than `PROFILES` of them; the first name that an earlier profile has too;
-/// the first pair of different roots, one within the other; patterns in `ignore`, which this check doesn't know; and the first overlap, by the writer, then by the other
-/// profile, then by the root (the writer's left one first). Of several paths the shown one has the fewest
-/// characters, and is the first of those by characters (this project's choice).
+/// the first pair of different roots, one within the other; patterns in `ignore`, which this check doesn't know; and
+/// the first overlap, by the writer, then by the other profile, then by the root (the writer's left one first). The
+/// path that is shown of it is that of the nearest place where their kept values meet, the one with the fewest
+/// characters and of those the first by characters. Where they meet at the whole replica alone, it is a name of one
+/// character that no kept value of any profile mentions, the first from `a` on (this project's choice).
 pub fn first_refusal(alloc: Global, profiles: &[Profile]) -> Result<Option<Refusal>, AllocError>
     ensures safe { IfOk result (λ r. IsNone r → IsSafe profiles.now []) }
     ensures few { IfOk result (λ r. IsNone r → length profiles.now ≤ PROFILES) }
@@ -183,7 +187,7 @@ fn overlap_of_writer(
 ) -> Result<Option<Overlap>, AllocError>
     requires within { writer < length profiles.now }
     requires plain { check.have_patterns profiles.now ≡ false }
-    ensures { IfOk result (λ o. MatchOption o (check.ClashesNone profiles.now writer (length profiles.now)) (check.IsOverlap profiles.now)) }
+    ensures { IfOk result (λ o. MatchOption o (check.ClashesNone profiles.now writer (length profiles.now)) (check.IsOverlapOf profiles.now writer)) }
 {
     for other in 0..profiles.len() {
         if writer != other {
@@ -205,7 +209,7 @@ fn overlap_of(
 ) -> Result<Option<Overlap>, AllocError>
     requires writer { check.has_patterns writer.now ≡ false }
     requires other { check.has_patterns other.now ≡ false }
-    ensures { IfOk result (λ o. MatchOption o (¬ (Clash writer.now other.now)) (check.IsShown writer.now other.now)) }
+    ensures { IfOk result (λ o. MatchOption o (¬ (Clash writer.now other.now)) (check.IsShown profiles.now writer.now other.now)) }
 {
     let Some(root) = shared_root(writer, other) else {
         return Ok(None);
@@ -225,7 +229,7 @@ fn overlap_of(
 
 /// The first root of the writer that the other profile has too, and at which the writer writes.
 fn shared_root<'a>(writer: &'a Profile, other: &Profile) -> Option<&'a Root>
-    ensures shared { MatchOption result (check.shares_root writer.now other.now ≡ false) (λ root. IsTrue (check.is_shared writer.now other.now root.now)) }
+    ensures first { option_copied result ≡ find (check.is_shared writer.now other.now) writer.now.roots }
     ensures valid { IsProfile writer.now }
 {
     writer
@@ -246,103 +250,6 @@ fn has_root(profile: &Profile, root: &Root) -> bool
     profile.roots().iter().any(|own| own == root)
 }
 
-/// Of the places that one of these and one of those are over, the nearest.
-fn nearest_meeting<'a>(
-    these: &'a [RelPath],
-    those: &'a [RelPath],
-) -> Result<Option<&'a RelPath>, AllocError>
-    ensures { IfOk result (λ m. MatchOption m (check.meets these.now those.now ≡ false) (λ q. IsTrue (check.is_below these.now q.now) × IsTrue (check.is_below those.now q.now))) }
-{
-    let mut nearest = None;
-    for path in these {
-        if let Some(found) = nearest_below(path, those)? {
-            nearest = match nearest {
-                Some(best) => Some(nearer(best, found)?),
-                None => Some(found),
-            };
-        }
-    }
-    Ok(nearest)
-}
-
-/// Of the places that a path and one of these are over, the nearest.
-fn nearest_below<'a>(
-    path: &'a RelPath,
-    paths: &'a [RelPath],
-) -> Result<Option<&'a RelPath>, AllocError>
-    ensures { IfOk result (λ m. MatchOption m (list_any (λ t. is_over path.now t || is_over t path.now) paths.now ≡ false) (λ q. IsTrue (is_over path.now q.now) × IsTrue (check.is_below paths.now q.now))) }
-{
-    let mut nearest = None;
-    for other in paths {
-        if let Some(found) = longer(path, other) {
-            nearest = match nearest {
-                Some(best) => Some(nearer(best, found)?),
-                None => Some(found),
-            };
-        }
-    }
-    Ok(nearest)
-}
-
-/// The longer of two paths, where one is over the other.
-fn longer<'a>(path: &'a RelPath, other: &'a RelPath) -> Option<&'a RelPath>
-    ensures { MatchOption result ((is_over path.now other.now || is_over other.now path.now) ≡ false) (λ q. IsTrue (is_over path.now q.now) × IsTrue (is_over other.now q.now)) }
-{
-    if other.starts_with(path) {
-        Some(other)
-    } else if path.starts_with(other) {
-        Some(path)
-    } else {
-        None
-    }
-}
-
-/// Of two paths the one with fewer characters, else the first of them by characters.
-fn nearer<'a>(best: &'a RelPath, path: &'a RelPath) -> Result<&'a RelPath, AllocError>
-    ensures { IfOk result (λ q. (q.now ≡ path.now) ⊎ (q.now ≡ best.now)) }
-{
-    let (old, new) = (best.text()?, path.text()?);
-    let old_key = (old.as_str().chars().count(), old.as_str());
-    let new_key = (new.as_str().chars().count(), new.as_str());
-    Ok(if new_key < old_key { path } else { best })
-}
-
-/// The path that is shown for a place: itself, or for the whole replica a path that no pattern or path mentions.
-fn shown_path(alloc: Global, profiles: &[Profile], place: &RelPath) -> Result<RelPath, AllocError>
-    ensures path { IfOk result (λ p. IsTrue (is_path p)) }
-    ensures below { IfOk result (λ p. (p ≡ place.now) ⊎ (place.now ≡ [])) }
-{
-    if place.len() > 0 {
-        return place.copy();
-    }
-    let sample = sample(alloc, profiles)?;
-    let mut text = String::new(alloc);
-    text.push(sample)?;
-    RelPath::read(alloc, text.as_str()).map_err(|_| AllocError)
-}
-
-/// The least character from `a` on that stands in no kept value: a name that says "any other name".
-fn sample(alloc: Global, profiles: &[Profile]) -> Result<char, AllocError> {
-    let mut mentioned = BTreeSet::new(alloc);
-    for profile in profiles {
-        add_characters(&mut mentioned, profile.paths())?;
-    }
-    Ok(
-        ('a'..=char::MAX)
-            .find(|c| !mentioned.contains(c))
-            .unwrap_or('a'),
-    )
-}
-
-fn add_characters(characters: &mut BTreeSet<char>, paths: &[RelPath]) -> Result<(), AllocError> {
-    for path in paths {
-        for character in path.text()?.as_str().chars() {
-            characters.insert(character)?;
-        }
-    }
-    Ok(())
-}
-
 /// The shortest prefix of a path that the writer reaches, where it reaches the path.
 fn held_prefix(alloc: Global, writer: &Profile, path: &RelPath) -> Result<RelPath, AllocError>
     requires path { IsTrue (is_path path.now) }
@@ -350,6 +257,7 @@ fn held_prefix(alloc: Global, writer: &Profile, path: &RelPath) -> Result<RelPat
     requires plain { check.has_patterns writer.now ≡ false }
     ensures over { IfOk result (λ held. IsTrue (is_over held path.now)) }
     ensures reached { IfOk result (λ held. IsTrue (reach.reach writer.now held)) }
+    ensures shortest { IfOk result (check.IsShortestReached writer.now path.now) }
 {
     match first_over(writer.paths(), path) {
         Some(kept) if kept.len() > 0 => kept.copy(),
@@ -359,12 +267,7 @@ fn held_prefix(alloc: Global, writer: &Profile, path: &RelPath) -> Result<RelPat
 
 /// The first of these that is over the path.
 fn first_over<'a>(paths: &'a [RelPath], path: &RelPath) -> Option<&'a RelPath>
-    ensures { MatchOption result (check.is_below paths.now path.now ≡ false) (λ s. IsTrue (is_over s.now path.now) × IsTrue (check.is_below paths.now s.now)) }
+    ensures { option_copied result ≡ find (λ s. is_over s path.now) paths.now }
 {
-    for over in paths {
-        if path.starts_with(over) {
-            return Some(over);
-        }
-    }
-    None
+    paths.iter().find(|over| path.starts_with(over))
 }

@@ -12,10 +12,12 @@ mod bundle;
 mod check;
 mod input;
 pub mod laws;
+mod nearest;
 mod profiles;
 mod reach;
 mod report;
 mod serve;
+mod shown;
 mod words;
 
 use serve::serve;

@@ -1,9 +1,21 @@
 use Rattle.std.proofs.Common.{refl, arith, sym, ◌∙◌, ⊎_elim}
-use Rattle.std.proofs.lemmas.Option.{MatchOption-at_none}
+use Rattle.std.proofs.lemmas.Option.{MatchOption-at_none, MatchOption-at_some}
 use Rattle.std.proofs.lemmas.Option.{slice_get_read}
 use Rattle.hubsync.proofs.CheckFacts.{clashes-more, below-or-at}
 use Rattle.hubsync.proofs.check.overlap_of_writer.Goals as goal
 use Rattle.hubsync.proofs.check.overlap_of_writer.Goals.{then-writer-other+in_ok-found+in_default, else-writer-other}
+
+pub returns-in-Some : goal.returns-in-Some
+returns-in-Some c = record {
+  other = c.loop-other.other;
+  different = c.if-writer-other.true;
+  P = c.index-profiles-writer.result;
+  Q = c.index-profiles-other.result;
+  at_writer = slice_get_read c.args.profiles.now _ c.args.writer c.index-profiles-writer.result refl c.requires.within c.index-profiles-writer.is;
+  at_other = slice_get_read c.args.profiles.now _ c.loop-other.other c.index-profiles-other.result refl c.loop-other-test.true c.index-profiles-other.is;
+  none_before = c.loop-other.invariant;
+  shown = MatchOption-at_some _ _ c.in-Some.overlap c.in-Some.is c.in_ok-found.ensures;
+}
 
 pub loop-other-preserved : goal.loop-other-preserved
 loop-other-preserved c =

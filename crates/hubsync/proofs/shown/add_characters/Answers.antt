@@ -1,0 +1,14 @@
+use Rattle.std.proofs.Common.{◌≡◌, ◌||◌, sym, ap, ◌∙◌, chars, List, ℕ}
+use Rattle.std.specs.BTreeSet.{contains}
+use Rattle.std.specs.Ordering.{nat_cmp}
+use Rattle.std.proofs.lemmas.Iterator.{YieldsList-from_chars}
+use Rattle.std.proofs.lemmas.Iterator.Consumers.{YieldsList-end}
+use Rattle.std.proofs.lemmas.List.{map-id}
+use Rattle.hubsync.specs.Shown.{is_in}
+use Rattle.hubsync.proofs.shown.add_characters.Goals as goal
+
+pub returns : goal.returns
+returns c = λ character.
+    let all = YieldsList-end (YieldsList-from_chars c.args.text.now c.utf8.text cc) c.loop-character.yielded _ c.loop-character.yielded_by _ _ c.in-None.is c.next.ensures.steps in
+    let read : c.loop-character.yielded ≡ chars c.args.text.now = sym (map-id c.loop-character.yielded) ∙ all.0 in
+    c.loop-character.invariant character ∙ ap (λ (cs : List ℕ). contains nat_cmp c.args.characters.now character || is_in cs character) read

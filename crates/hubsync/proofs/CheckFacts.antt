@@ -18,7 +18,7 @@ use Rattle.std.proofs.lemmas.Bool.{false≢true, cases_lt, and_parts, or_left, o
 use Rattle.std.proofs.lemmas.Bool.Decides.{nat_tests}
 use Rattle.hubsync.specs.declared.check.Overlap.{Overlap}
 use Rattle.hubsync.specs.Nearest.{is_below, meetings, is_nearest}
-use Rattle.hubsync.specs.Check.{has_patterns, have_patterns, IsOverlap, NoneRepeated, is_root_of, NoneClash, ClashesNone, RepeatsName, is_nested, nested_with, has_nested, is_shared, shares_root, IsShortestReached}
+use Rattle.hubsync.specs.Check.{has_patterns, have_patterns, IsOverlap, NoneRepeated, is_root_of, NoneClash, ClashesNone, RepeatsName, is_nested, nested_with, has_nested, is_shared, shares_root, IsShortestReached, IsShown}
 use Rattle.hubsync.specs.Shown.{IsShownFor}
 use Rattle.hubsync.proofs.NearestFacts.{path_eq-decides}
 
@@ -127,7 +127,7 @@ kept-passes f q p ps rest true e h =
 kept-passes f q p ps rest false e h = ((rest h).0, or_right (path_eq q p) _ (rest h).1)
 
 -- What a filter keeps stands in the list, and passes.
-in-filter : (f : Path → Bool) (q : Path) (ps : List Path) → list_any (path_eq q) (filter f ps) ≡ true → (f q ≡ true) × (list_any (path_eq q) ps ≡ true)
+pub in-filter : (f : Path → Bool) (q : Path) (ps : List Path) → list_any (path_eq q) (filter f ps) ≡ true → (f q ≡ true) × (list_any (path_eq q) ps ≡ true)
 in-filter f q [] h = cc
 in-filter f q (p ∷ ps) h = kept-passes f q p ps (in-filter f q ps) (f p) refl h
 
@@ -277,15 +277,18 @@ none-repeated-more Ps n P at none before = λ i A l a.
     subst (λ B. list_any (λ Q. name_eq Q.name B.name) (take i Ps) ≡ false) alike (subst (λ k. list_any (λ Q. name_eq Q.name P.name) (take k Ps) ≡ false) (sym same) none))
     (below-or-at i n l)
 
+-- What is shown of two profiles is a clash.
+pub shown-clash : (Ps : List Parts) (P Q : Parts) (o : Overlap) → IsShown Ps P Q o → Clash P Q
+shown-clash Ps P Q o shown =
+    let at : ClashesAt P Q o.root = (o.held, o.path, shown.over, shown.written, shown.reached) in
+    let own : IsTrue (has_root P o.root) = (and_parts (has_root P o.root) true (and_parts (has_root P o.root && true) (reach P o.held) shown.written).0).0 in
+    inl (o.root, own, shown.shared, at)
+
 -- An overlap is a clash, so its profiles are not safe.
 pub overlap-unsafe : (Ps : List Parts) (o : Overlap) → IsOverlap Ps o → ¬ (IsSafe Ps [])
 overlap-unsafe Ps o first safe =
     let w = first.overlap in
-    let shown = w.shown in
-    let at : ClashesAt w.P w.Q o.root = (o.held, o.path, shown.over, shown.written, shown.reached) in
-    let own : IsTrue (has_root w.P o.root) = (and_parts (has_root w.P o.root) true (and_parts (has_root w.P o.root && true) (reach w.P o.held) shown.written).0).0 in
-    let clash : Clash w.P w.Q = inl (o.root, own, shown.shared, at) in
-    safe.no_clash first.writer w.other w.P w.Q w.at_writer w.at_other w.different clash
+    safe.no_clash first.writer w.other w.P w.Q w.at_writer w.at_other w.different (shown-clash Ps w.P w.Q o w.shown)
 
 -- A root among all roots.
 root-found : (Ps : List Parts) (r : Path) → IsTrue (is_root_of Ps r) → Found (λ own. path_eq own r) (all_roots Ps [])
@@ -335,7 +338,7 @@ pub find-in : (f : Path → Bool) (xs : List Path) (y : Path) → find f xs ≡ 
 find-in f [] y h = cc
 find-in f (x ∷ xs) y h = found-in f x y xs (find-in f xs y) (f x) h
 
-all-at : (f : Path → Bool) (xs : List Path) (y : Path) → list_all f xs ≡ true → list_any (path_eq y) xs ≡ true → f y ≡ true
+pub all-at : (f : Path → Bool) (xs : List Path) (y : Path) → list_all f xs ≡ true → list_any (path_eq y) xs ≡ true → f y ≡ true
 all-at f [] y h k = cc
 all-at f (x ∷ xs) y h k =
     let both = and_parts (f x) (list_all f xs) h in

@@ -10,7 +10,9 @@ use Rattle.std.specs.List.{list_any, list_all}
 use Rattle.std.specs.Cmp.{IsTotalOrder}
 use Rattle.std.specs.declared.cmp.Ordering.{Ordering}
 use Rattle.std.specs.declared.cmp.Ordering.TheVariants.{Less, Equal, Greater}
-use Rattle.std.specs.Ordering.{is_lt, is_gt, ordering_reverse}
+use Rattle.std.specs.Ordering.{is_lt, is_gt, ordering_reverse, nat_cmp, ordering_then}
+use Rattle.std.specs.Cmp.Lexicographic.{slice_cmp}
+use Rattle.std.proofs.lemmas.Map.Lookups.{exact_bytes}
 use Rattle.std.proofs.lemmas.Cmp.{upto, tied_itself, then_total, on_total, nat_cmp_total, nat_list_cmp_total}
 use Rattle.std.proofs.lemmas.Bool.{and_from, or_left, or_right, or_cases}
 use Rattle.std.proofs.lemmas.List.Sums.{fold-append}
@@ -100,3 +102,17 @@ at-lent (Some x) P Q h = h
 -- The best of two lists is the best of the second one and the best of the first.
 pub best-both : (ps qs : List Path) (best : Option Path) → best ≡ best_of None ps → best_of best qs ≡ best_of None (ps ++ qs)
 best-both ps qs best h = ap (λ b. best_of b qs) h ∙ sym (fold-append (λ (b : Option Path) (p : Path). Some (nearer_of b p)) None ps qs)
+
+then-equal : (o u : Ordering) → ordering_then o u ≡ Equal → u ≡ Equal
+then-equal Less u h = cc
+then-equal Equal u h = h
+then-equal Greater u h = cc
+
+neither : (o : Ordering) → is_lt o ≡ false → is_gt o ≡ false → o ≡ Equal
+neither Less h k = cc
+neither Equal h k = refl
+neither Greater h k = cc
+
+-- Two paths of which neither is nearer have one text.
+pub tied-texts : (p q : Path) → is_nearer p q ≡ false → is_nearer q p ≡ false → text_of p ≡ text_of q
+tied-texts p q h k = exact_bytes (text_of p) (text_of q) (then-equal (nat_cmp (length (text_of p)) (length (text_of q))) (slice_cmp nat_cmp (text_of p) (text_of q)) (neither (by_text p q) h (sym (flipped q p) ∙ k)))

@@ -4,7 +4,6 @@ use Rattle.std.specs.Prelude.{nat_lt, nat_le, if◌then◌else◌, IfOk}
 use Rattle.std.specs.List.{range_with_len}
 use Rattle.std.proofs.lemmas.Bool.{eqb-true}
 use Rattle.std.proofs.lemmas.Bool.Decides.{nat_tests}
-use borrow.Author.Tests.{ltb-false}
 use Rattle.hub_glob.specs.declared.fault.GlobFault.{GlobFault}
 use Rattle.hub_glob.specs.declared.fault.GlobFault.TheVariants as fault
 use Rattle.hub_glob.specs.declared.piece.Piece.{Piece}
@@ -15,7 +14,7 @@ use Rattle.hub_glob.specs.declared.reading.Token.{Token}
 use Rattle.hub_glob.specs.declared.reading.Token.TheVariants.{Plain, Escaped, Stray}
 use Rattle.hub_glob.specs.declared.reading.Sign.{Sign}
 use Rattle.hub_glob.specs.declared.reading.Sign.TheVariants.{Means, Open, Comma, Close}
-use Rattle.hub_glob.specs.Reading.{is_special, tokens, is_plain, token_character, range_characters, one_character, member, range_member, then_members, members, is_negated, set_of, set_piece, set_sign, character_sign, signs, then_part, parts, parts_of, ◌>>=◌}
+use Rattle.hub_glob.specs.Reading.{is_special, tokens, is_plain, token_character, range_characters, member, range_member, then_members, members, is_negated, set_of, set_piece, set_sign, character_sign, signs, then_part, parts, parts_of, ◌>>=◌}
 
 pub no-true : (b : Bool) → (b ≡ true → ⊥) → b ≡ false
 no-true true f = absurd (f refl)

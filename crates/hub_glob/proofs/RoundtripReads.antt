@@ -1,5 +1,5 @@
 -- A written pattern is read as what it was written from.
-use Rattle.std.proofs.Common.{◌≡◌, ℕ, ◌+◌, ◌-◌, Bool, true, false, not, ◌&&◌, ◌||◌, ◌==◌, List, [], ◌∷◌, ◌++◌, length, Option, Some, None, Result, Ok, Err, refl, sym, ap, ◌∙◌, arith, append_assoc, append-nil}
+use Rattle.std.proofs.Common.{◌≡◌, ℕ, ◌+◌, ◌-◌, Bool, true, false, ◌&&◌, ◌||◌, ◌==◌, List, [], ◌∷◌, ◌++◌, length, Some, None, Result, Ok, Err, refl, sym, ap, ◌∙◌, arith, append_assoc, append-nil}
 use Rattle.std.specs.Prelude.{nat_lt, nat_le, if◌then◌else◌}
 use Rattle.std.specs.List.{range_with_len}
 use Rattle.std.proofs.lemmas.Bool.Decides.{nat_tests}
@@ -14,7 +14,7 @@ use Rattle.hub_glob.specs.declared.reading.Token.TheVariants.{Plain, Escaped, St
 use Rattle.hub_glob.specs.declared.reading.Sign.{Sign}
 use Rattle.hub_glob.specs.declared.reading.Sign.TheVariants.{Means, Open, Comma, Close}
 use Rattle.hub_glob.specs.Reading.{is_special, tokens, is_plain, member, range_member, range_characters, then_members, members, is_negated, set_of, set_piece, set_sign, character_sign, signs, then_part, parts, ◌>>=◌}
-use Rattle.hub_glob.specs.Writing.{literal, member_text, members_text, piece_text, pieces_text, choices_text, part_text, pattern_text}
+use Rattle.hub_glob.specs.Writing.{literal, members_text, piece_text, pieces_text, choices_text, part_text, pattern_text}
 use Rattle.hub_glob.proofs.Readings.{members_one}
 use Rattle.hub_glob.proofs.RoundtripFits.{not-special, Each, FitMembers, FitSet, FitPiece, FitPart}
 

@@ -1,5 +1,5 @@
 -- How a pattern that a text gives begins: with a character of that text's own, or one that is special.
-use Rattle.std.proofs.Common.{◌≡◌, ℕ, Bool, true, false, not, ◌&&◌, ◌==◌, List, [], ◌∷◌, ◌++◌, length, Option, Some, None, Result, Ok, Err, refl, sym, ap, ◌∙◌}
+use Rattle.std.proofs.Common.{◌≡◌, ℕ, Bool, true, false, not, ◌&&◌, ◌==◌, List, [], ◌∷◌, ◌++◌, length, Some, None, Result, Ok, Err, refl}
 use Rattle.std.specs.Prelude.{if◌then◌else◌, IfOk}
 use Rattle.hub_glob.specs.declared.fault.GlobFault.{GlobFault}
 use Rattle.hub_glob.specs.declared.fault.GlobFault.TheVariants as fault
@@ -11,8 +11,8 @@ use Rattle.hub_glob.specs.declared.reading.Token.{Token}
 use Rattle.hub_glob.specs.declared.reading.Token.TheVariants.{Plain, Escaped, Stray}
 use Rattle.hub_glob.specs.declared.reading.Sign.{Sign}
 use Rattle.hub_glob.specs.declared.reading.Sign.TheVariants.{Means, Open, Comma, Close}
-use Rattle.hub_glob.specs.Reading.{is_special, tokens, is_plain, members, is_negated, set_of, set_piece, set_sign, character_sign, signs, then_part, parts, parts_of, ◌>>=◌}
-use Rattle.hub_glob.specs.Writing.{literal, pattern_text}
+use Rattle.hub_glob.specs.Reading.{is_special, tokens, is_plain, members, is_negated, set_of, set_sign, character_sign, signs, then_part, parts, parts_of, ◌>>=◌}
+use Rattle.hub_glob.specs.Writing.{pattern_text}
 use Rattle.hub_glob.proofs.RoundtripFits.{character_sign_has}
 
 -- The test is one that no special character passes.

@@ -1,6 +1,6 @@
 -- The choices of a pattern, made from the left.
 use Rattle.std.proofs.Common.{◌≡◌, ℕ, ◌+◌, ◌<◌, List, [], ◌∷◌, ◌++◌, map, length, take, drop, get_or, refl, sym, ap, ◌∙◌, arith, append_assoc, append-nil}
-use Rattle.std.specs.Prelude.{slice_set, slice_index_or}
+use Rattle.std.specs.Prelude.{slice_set}
 use Rattle.std.specs.List.{flat_map}
 use Rattle.std.proofs.lemmas.List.{map-append, map-id, map_more, drop_more, set_at, get_or_at, length-map, length-take-le, flat_map_more, take_more}
 use Rattle.hub_glob.specs.declared.piece.Piece.{Piece}

@@ -1,12 +1,12 @@
 -- The steps of reading a specification.
-use Rattle.std.proofs.Common.{◌≡◌, ℕ, suc, zero, ◌+◌, ◌-◌, ◌*◌, ◌<◌, ◌≤◌, min, Bool, true, false, not, ◌&&◌, ◌||◌, ◌==◌, cond, List, [], ◌∷◌, ◌++◌, length, take, drop, get_or, Option, Some, None, Result, Ok, Err, refl, sym, ap, ◌∙◌, arith, add-one, lit<, append_assoc, append-nil, ⊎_elim, subst, Decides, ◌⊎◌, inl, inr}
-use Rattle.std.specs.Prelude.{nat_lt, nat_eq, codes, bytes_eq, if◌then◌else◌, MatchOption}
+use Rattle.std.proofs.Common.{◌≡◌, ℕ, suc, zero, ◌+◌, ◌-◌, ◌*◌, ◌<◌, ◌≤◌, min, Bool, true, false, not, ◌&&◌, ◌==◌, cond, List, [], ◌∷◌, ◌++◌, length, take, drop, get_or, Option, Some, None, Result, Ok, Err, refl, sym, ap, ◌∙◌, arith, add-one, lit<, append_assoc, append-nil, ⊎_elim, subst, Decides}
+use Rattle.std.specs.Prelude.{nat_lt, codes, bytes_eq, if◌then◌else◌}
 use Rattle.std.specs.List.{list_all, before_first, after_first, position_or_len, range_with_len}
 use Rattle.std.specs.Prelude.{IfSome}
 use Rattle.std.specs.Char.{IsScalar, encode_utf8}
 use Rattle.std.specs.Str.{IsUtf8, IsAscii, IsCharBoundary, chars, NoCharPasses, NonePass, encode_utf8_all, all_scalars}
-use Rattle.std.specs.Str.Pattern.{HasPassingCharAt, FindsBy, FindsPrefixBy, CutsPrefixes, IsFullyTrimmed, IsTrimStartMatches}
-use Rattle.std.proofs.lemmas.Str.{encodes-chars, encodes-IsAscii, chars-IsAscii, chars-append, chars_past_char, chars_from_encodes, IsUtf8-past_char, IsUtf8-drop, chars-nil, chars-encodes, encodes-append, encodes_same, scalars-chars, len_utf8_bounds, char_from_byte, byte_from_char}
+use Rattle.std.specs.Str.Pattern.{HasPassingCharAt, FindsPrefixBy, CutsPrefixes, IsTrimStartMatches}
+use Rattle.std.proofs.lemmas.Str.{encodes-chars, encodes-IsAscii, chars-IsAscii, chars_past_char, chars_from_encodes, IsUtf8-past_char, IsUtf8-drop, chars-encodes, encodes-append, encodes_same, scalars-chars, len_utf8_bounds, char_from_byte, byte_from_char}
 use lib.Utf8.{scalar}
 use Rattle.std.proofs.lemmas.List.{drop_more, length_push, take-append-drop, drop_all, take_all, take_at, drop_at, length-drop}
 use Rattle.std.proofs.lemmas.Bool.{cases_lt}
@@ -27,7 +27,7 @@ use Rattle.hub_glob.specs.declared.reading.Sign.{Sign}
 use Rattle.hub_glob.specs.declared.reading.Sign.TheVariants.{Means, Open, Comma, Close}
 use Rattle.hub_glob.specs.declared.piece.Piece.TheVariants.{Lit}
 use Rattle.hub_glob.specs.Specification.{choices_size, pattern_size}
-use Rattle.hub_glob.specs.Reading.{character_sign, tokens, is_special, is_plain, is_blank, skip_blanks, kind_reading, signs, set_sign, members, member, range_member, then_members, choice_count, Adds, ◌>>=◌, then_part, set_piece, Faults, parts, starts_with_slash, parts_of, few_choices, pattern_reading, is_name_kind, spec_reading}
+use Rattle.hub_glob.specs.Reading.{character_sign, tokens, is_special, is_plain, is_blank, skip_blanks, kind_reading, signs, set_sign, members, member, range_member, then_members, choice_count, Adds, ◌>>=◌, then_part, set_piece, Faults, parts, starts_with_slash, parts_of}
 
 both : (a b : Bool) → (a && b) ≡ true → (a ≡ true) × (b ≡ true)
 both true b h = (refl, h)

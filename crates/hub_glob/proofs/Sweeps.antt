@@ -1,7 +1,7 @@
 -- The places that are swept are those at which a match may stand: what they stand for before a character is what they
 -- stand for with it.
-use Rattle.std.proofs.Common.{◌≡◌, ℕ, suc, zero, ◌+◌, ◌≤◌, ◌==◌, Bool, true, false, not, ◌&&◌, ◌||◌, List, [], ◌∷◌, ◌++◌, map, length, drop, get_or, refl, sym, ap, ◌∙◌, arith, add-one}
-use Rattle.std.specs.Prelude.{slice_index, slice_index_or}
+use Rattle.std.proofs.Common.{◌≡◌, ℕ, suc, zero, ◌+◌, ◌≤◌, ◌==◌, Bool, true, false, not, ◌&&◌, ◌||◌, List, [], ◌∷◌, ◌++◌, length, drop, refl, sym, ap, ◌∙◌, arith, add-one}
+use Rattle.std.specs.Prelude.{slice_index_or}
 use Rattle.std.specs.List.{list_any, list_all}
 use Rattle.std.proofs.lemmas.List.{append-nil, append_assoc, length_push, length-append, length-drop, drop_at, drop-append-le, drop-drop}
 use Rattle.std.proofs.lemmas.Bool.Decides.{nat_tests}
@@ -11,9 +11,9 @@ use Rattle.hub_glob.specs.declared.piece.Part.{Part}
 use Rattle.hub_glob.specs.declared.piece.Part.TheVariants.{One, Brace}
 use Rattle.hub_glob.specs.declared.sweep.Next.{Next}
 use Rattle.hub_glob.specs.declared.sweep.Carry.{Carry}
-use Rattle.hub_glob.specs.Specification.{choices_size, pattern_size}
-use Rattle.hub_glob.specs.Glob.{Texts, splits, begins, is_run, piece, pieces, glob, no_more}
-use Rattle.hub_glob.specs.Sweep.{takes, is_star, Swept, past, swept_piece, swept_pieces, nowhere, joined, swept_choices, swept_part, swept_parts, Standing, at_start, swept, pushed, is_matched, pushed_all}
+use Rattle.hub_glob.specs.Specification.{choices_size}
+use Rattle.hub_glob.specs.Glob.{Texts, splits, is_run, piece, pieces, glob, no_more}
+use Rattle.hub_glob.specs.Sweep.{takes, is_star, Swept, past, swept_pieces, nowhere, joined, swept_choices, swept_parts, Standing, at_start, swept, pushed, is_matched, pushed_all}
 use Rattle.hub_glob.proofs.Choices.{or-false, any-map, any-false, any-and, any-or, or-assoc}
 
 -- Equations of tests by trying all values.

@@ -84,7 +84,8 @@ impl PathSpec {
     }
 
     /// The text of the specification: the kind, one space and the pattern, with a `\` before each literal of
-    /// `* ? [ ] { } , \`. It is read back as the same specification where its pattern is not too long.
+    /// `* ? [ ] { } , \`. It is read back as the same specification where its pattern is not too long
+    /// (`laws::reading_undoes_writing`).
     ///
     /// In a set a member that a `-` and a further member follow is written as a range of its own (`a-a`).
     pub fn text(&self) -> Result<String, AllocError>

@@ -1,4 +1,4 @@
-use Rattle.std.proofs.Common.{◌∙◌, ap, sym, drop, [], ◌∷◌, ◌++◌, arith}
+use Rattle.std.proofs.Common.{◌∙◌, ap, sym, [], ◌∷◌, ◌++◌, arith}
 use Rattle.std.proofs.lemmas.List.{drop_all}
 use Rattle.hub_glob.specs.Glob.{choices}
 use Rattle.hub_glob.specs.Choosing.{each_with_each}

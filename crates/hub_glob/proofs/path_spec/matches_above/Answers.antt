@@ -1,4 +1,4 @@
-use Rattle.std.proofs.Common.{◌≡◌, ◌+◌, ◌||◌, true, false, take, sym, ap, ◌∙◌, arith}
+use Rattle.std.proofs.Common.{◌≡◌, ◌+◌, true, false, take, sym, arith}
 use Rattle.hub_glob.proofs.Paths.{next_name, next_matched, above_after, above_within, any_above}
 use Rattle.hub_glob.proofs.path_spec.matches_above.Goals as goal
 

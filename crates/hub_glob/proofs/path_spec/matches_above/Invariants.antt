@@ -1,6 +1,4 @@
-use Rattle.std.proofs.Common.{◌≡◌, ◌<◌, true, false, take}
-use Rattle.hub_path.specs.Path.{text_of}
-use Rattle.hub_glob.specs.Glob.{glob}
+use Rattle.std.proofs.Common.{◌≡◌, false, take}
 use Rattle.hub_glob.specs.Sweep.{at_start, pushed_all}
 use Rattle.hub_glob.proofs.Paths.{slashed, any_above}
 use Rattle.hub_glob.proofs.path_spec.matches_above.Given as goal

@@ -1,8 +1,8 @@
-use Rattle.std.proofs.Common.{◌≡◌, ◌<◌, true, false, take}
+use Rattle.std.proofs.Common.{◌≡◌, ◌<◌, true, take}
 use Rattle.hub_path.specs.Path.{text_of}
 use Rattle.hub_glob.specs.Glob.{glob}
 use Rattle.hub_glob.specs.Sweep.{at_start, pushed_all}
-use Rattle.hub_glob.proofs.Paths.{slashed, any_above}
+use Rattle.hub_glob.proofs.Paths.{slashed}
 use Rattle.hub_glob.proofs.path_spec.matches_text.Given as goal
 
 abbrev pub invariant-loop-i : goal.invariant-loop-i

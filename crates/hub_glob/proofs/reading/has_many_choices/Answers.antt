@@ -1,5 +1,4 @@
-use Rattle.std.proofs.Common.{◌≡◌, ◌≤◌, ◌*◌, ◌+◌, ◌-◌, ◌^◌, min, drop, length, ap, sym, ◌∙◌, arith}
-use Rattle.hub_glob.specs.Reading as reading
+use Rattle.std.proofs.Common.{◌≡◌, ◌*◌, ◌-◌, ◌^◌, min, length, ap, ◌∙◌, arith}
 use Rattle.hub_glob.proofs.Readings.{next_item, brace_counted, one_counted}
 use Rattle.hub_glob.proofs.reading.has_many_choices.Goals.{in-Brace, in_default}
 use Rattle.hub_glob.proofs.reading.has_many_choices.Goals as goal

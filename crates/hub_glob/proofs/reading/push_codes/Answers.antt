@@ -1,4 +1,4 @@
-use Rattle.std.proofs.Common.{◌≡◌, ◌+◌, ◌-◌, ◌++◌, ◌∷◌, [], ℕ, List, ap, sym, ◌∙◌, append_assoc, arith, rules}
+use Rattle.std.proofs.Common.{◌≡◌, ◌+◌, ◌-◌, ◌++◌, ◌∷◌, [], ap, sym, ◌∙◌, append_assoc, arith, rules}
 use Rattle.std.specs.List.{range_with_len}
 use Rattle.hub_glob.proofs.Readings.{range-push}
 use Rattle.hub_glob.proofs.reading.push_codes.Goals as goal

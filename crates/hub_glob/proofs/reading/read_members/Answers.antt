@@ -1,6 +1,5 @@
-use Rattle.std.proofs.Common.{◌≡◌, ◌+◌, ◌<◌, ◌⊎◌, ⊎_elim, inl, inr, ◌∷◌, drop, length, get_or, true, false, refl, arith, sym, ◌∙◌, Err}
+use Rattle.std.proofs.Common.{◌≡◌, ◌+◌, ◌<◌, ⊎_elim, inl, inr, length, get_or, false, arith, sym, ◌∙◌}
 use Rattle.std.proofs.lemmas.Result.{err_from_is_err_and}
-use Rattle.hub_glob.specs.declared.fault.GlobFault.TheVariants as fault
 use Rattle.hub_glob.specs.declared.reading.Token.TheVariants.{Plain}
 use Rattle.hub_glob.specs.Reading as reading
 use Rattle.hub_glob.proofs.Readings.{range_step, one_step, one_failed}

@@ -1,4 +1,4 @@
-use Rattle.std.proofs.Common.{◌≡◌, chars}
+use Rattle.std.proofs.Common.{chars}
 use Rattle.hub_glob.proofs.Readings.{size_kept}
 use Rattle.hub_glob.proofs.reading.read_pattern.Goals as goal
 

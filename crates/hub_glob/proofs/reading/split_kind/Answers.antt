@@ -1,4 +1,4 @@
-use Rattle.std.proofs.Common.{◌≡◌, sym, ap, ◌∙◌, [], chars, refl}
+use Rattle.std.proofs.Common.{ap, ◌∙◌, refl}
 use Rattle.std.proofs.lemmas.Str.{chars-nil}
 use Rattle.hub_glob.specs.Reading as reading
 use Rattle.hub_glob.proofs.Readings.{cut_found, back_utf8, cut_none, skip_trim}

@@ -1,5 +1,5 @@
-use Rattle.std.proofs.Common.{◌≡◌, ◌+◌, length, drop, List, Bool}
-use Rattle.hub_glob.specs.Specification.{choices_size, pattern_size}
+use Rattle.std.proofs.Common.{◌≡◌, ◌+◌, drop}
+use Rattle.hub_glob.specs.Specification.{pattern_size}
 use Rattle.hub_glob.specs.Sweep as sweep
 use Rattle.hub_glob.specs.Sweep.{Swept}
 use Rattle.arrayvec.specs.ArrayVec.{array_vec_len}

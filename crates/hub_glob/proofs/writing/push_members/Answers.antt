@@ -1,4 +1,4 @@
-use Rattle.std.proofs.Common.{◌≡◌, ℕ, ◌+◌, ◌<◌, ◌==◌, ◌∙◌, ap, sym, ◌++◌, length, get_or, false, string_bytes, encode_utf8_all, arith, eq-eqb}
+use Rattle.std.proofs.Common.{◌≡◌, ◌+◌, ◌<◌, ◌==◌, ◌∙◌, ap, sym, ◌++◌, length, get_or, false, string_bytes, encode_utf8_all, arith, eq-eqb}
 use Rattle.std.proofs.lemmas.List.{get_or_read}
 use Rattle.hub_glob.specs.Writing as writing
 use Rattle.hub_glob.proofs.Writings.{member_step, range_step, not_equal}

@@ -1,4 +1,4 @@
-use Rattle.std.proofs.Common.{◌≡◌, ◌++◌, take, drop, string_bytes, encode_utf8_all}
+use Rattle.std.proofs.Common.{◌≡◌, ◌++◌, take, string_bytes, encode_utf8_all}
 use Rattle.hub_glob.specs.Writing as writing
 use Rattle.hub_glob.proofs.writing.push_pieces.Given as goal
 

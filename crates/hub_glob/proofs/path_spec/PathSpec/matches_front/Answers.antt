@@ -1,6 +1,5 @@
-use Rattle.std.proofs.Common.{◌≡◌, sym, ap, ◌∙◌}
+use Rattle.std.proofs.Common.{sym, ap, ◌∙◌}
 use Rattle.hub_glob.specs.Specification.{Specification}
-use Rattle.hub_glob.specs.declared.path_spec.Kind.{Kind}
 use Rattle.hub_glob.specs.declared.path_spec.Kind.TheVariants as kind
 use Rattle.hub_glob.proofs.Paths.{matches_none, matches_kind}
 use Rattle.hub_glob.proofs.path_spec.PathSpec.matches_front.Goals as goal

@@ -1,6 +1,5 @@
-use Rattle.std.proofs.Common.{◌≡◌, ◌⊎◌, ⊎_elim, inl, inr, refl, true, None, Some, [], Err}
+use Rattle.std.proofs.Common.{◌≡◌, ◌⊎◌, ⊎_elim, inl, inr, true, None, Some, [], Err}
 use Rattle.std.proofs.lemmas.Result.{IfErr-weaker}
-use Rattle.hub_glob.specs.declared.fault.GlobFault.{GlobFault}
 use Rattle.hub_glob.specs.declared.fault.GlobFault.TheVariants as fault
 use Rattle.hub_glob.specs.Reading as reading
 use Rattle.hub_glob.proofs.Readings.{set_fault}

@@ -1,0 +1,2 @@
+pub mod Alphabet
+pub mod Examples

@@ -6,7 +6,7 @@ use crate::fault::AutomatonFault;
 use crate::mentions::{is_left_out, mention_parts, mention_path};
 use hub_glob::PathSpec;
 use hub_path::RelPath;
-use std::alloc::Global;
+use std::alloc::{AllocError, Global};
 use std::marker::Model;
 
 /// How many characters an alphabet may mention (this project's choice).
@@ -99,6 +99,17 @@ impl Alphabet {
             Err(_) => 0,
         };
         Some(Class::new(number))
+    }
+
+    /// A character of each class, in the order of their numbers.
+    pub(crate) fn samples(&self, alloc: Global) -> Result<Vec<char>, AllocError>
+        ensures items { IfOk result (λ v. v.items ≡ alphabet.first_unmentioned self.now ∷ self.now) }
+        ensures alphabet { OnOk result (alphabet.IsAlphabet self.now) }
+    {
+        let mut samples = Vec::with_capacity(alloc, self.count())?;
+        samples.push(first_unmentioned(self.mentioned.as_slice()))?;
+        samples.extend_from_slice(self.mentioned.as_slice())?;
+        Ok(samples)
     }
 
     /// A character of that class: of class 0 the first one from `a` on that isn't mentioned, and of another class its

@@ -1,5 +1,5 @@
 //! Values worked out by hand from the rules.
-use crate::{Alphabet, AutomatonFault, Class, MENTIONED_CHARACTERS};
+use crate::{Alphabet, AutomatonFault, Class, MENTIONED_CHARACTERS, SpecSet, Spots};
 use hub_glob::{GlobFault, PathSpec};
 use hub_path::{PathFault, RelPath};
 use std::alloc::{AllocError, Global};
@@ -81,4 +81,29 @@ fn as_many_characters_are_mentioned_as_allowed(rt: HostRuntime) -> Result<(), Fa
     alphabet.add_spec(&letters(rt.alloc(), 0x4F54, 170)?)?;
     assert_eq!(rt; alphabet.count(), MENTIONED_CHARACTERS + 1);
     Ok(())
+}
+
+/// The specifications of these texts.
+fn specs_of(alloc: Global, texts: &[&str]) -> Result<Vec<PathSpec>, Fail> {
+    let mut specs = Vec::new(alloc);
+    for text in texts {
+        specs.push(PathSpec::read(alloc, text)?)?;
+    }
+    Ok(specs)
+}
+
+/// Whether one of the specifications matches what has been read of a text, after each of its characters.
+fn matches_along(rt: &HostRuntime, texts: &[&str], text: &str) -> Result<Vec<bool>, Fail> {
+    let alphabet = alphabet_of(rt.alloc(), texts)?;
+    let specs = specs_of(rt.alloc(), texts)?;
+    let set = SpecSet::build(rt.alloc(), &alphabet, specs.as_slice())?;
+    let mut spots = set.start()?;
+    let mut along = Vec::new(rt.alloc());
+    for character in text.chars() {
+        if let Some(class) = alphabet.class_of(character) {
+            spots = set.advance(&spots, class)?;
+            along.push(set.matched(&spots))?;
+        }
+    }
+    Ok(along)
 }

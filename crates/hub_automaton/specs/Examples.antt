@@ -1,10 +1,10 @@
 -- Worked examples.
-use Rattle.std.specs.Prelude.{◌≡◌, ℕ, Bool, true, false, List, [], ◌∷◌, map, Some, None, codes, refl}
+use Rattle.std.specs.Prelude.{◌≡◌, ℕ, true, false, List, [], ◌∷◌, map, Some, None, codes, refl}
 use Rattle.hub_glob.specs.declared.piece.Piece.TheVariants.{Lit, Any, Run}
 use Rattle.hub_glob.specs.declared.piece.Part.TheVariants.{One}
 use Rattle.hub_glob.specs.declared.path_spec.Kind.TheVariants as kind
 use Rattle.hub_glob.specs.Specification.{Specification}
-use Rattle.hub_automaton.specs.Spots.{Seen, spots, seen, alternatives_of}
+use Rattle.hub_automaton.specs.Spots.{spots, seen, alternatives_of}
 use Rattle.hub_automaton.specs.Stepping.{pushed}
 use Rattle.hub_automaton.specs.Alphabet.{class_of, class_count, sample, plain, with_characters, spec_characters}
 

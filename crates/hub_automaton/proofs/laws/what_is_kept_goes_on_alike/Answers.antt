@@ -1,4 +1,4 @@
-use Rattle.std.proofs.Common.{◌≡◌, sym, ap, ◌∙◌}
+use Rattle.std.proofs.Common.{sym, ap, ◌∙◌}
 use Rattle.hub_automaton.specs.Spots.{seen}
 use Rattle.hub_automaton.specs.Stepping.{pushed}
 use Rattle.hub_automaton.proofs.Spotted.{push_law, pushed_alike}

@@ -1,2 +1,3 @@
 pub mod Prefixes
 pub mod Walks
+pub mod Shapes

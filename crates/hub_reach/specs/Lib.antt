@@ -3,3 +3,4 @@ pub mod Laws
 pub mod Safe
 pub mod Examples
 pub mod Walk
+pub mod Shape

@@ -3,6 +3,7 @@
 
 pub mod laws;
 mod reach;
+pub mod shape;
 mod verbs;
 
 pub use reach::reaches;

@@ -5,6 +5,7 @@
 //! - [`Part`] and [`Piece`] are what a pattern is made of, and `choices` lists the patterns without braces that it
 //!   stands for.
 //! - [`GlobFault`] tells why a text is no specification.
+//! - [`laws`]: a pattern matches what one of its choices matches, and a specification is read back from its text.
 //!
 //! `Name *.{tmp, bak}` matches `x.tmp`, `d/x.tmp` and `x. bak`, and neither `x.bak` nor `.x.tmp`.
 //!

@@ -174,7 +174,7 @@ get-take (suc n) [] i x h = cc
 get-take (suc n) (y ∷ ys) zero x h = (omega arith, h)
 get-take (suc n) (y ∷ ys) (suc i) x h = let rest = get-take n ys i x h in (omega arith, rest.1)
 
-any-flat : (f : Path → Bool) (Ps : List Parts) → list_any f (flat_map (λ P. P.roots) Ps) ≡ list_any (λ P. list_any f P.roots) Ps
+pub any-flat : (f : Path → Bool) (Ps : List Parts) → list_any f (flat_map (λ P. P.roots) Ps) ≡ list_any (λ P. list_any f P.roots) Ps
 any-flat f [] = refl
 any-flat f (P ∷ Ps) = list_any-append f P.roots (flat_map (λ Q. Q.roots) Ps) ∙ ap (λ b. list_any f P.roots || b) (any-flat f Ps)
 

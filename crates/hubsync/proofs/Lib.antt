@@ -2,6 +2,7 @@ pub mod Answered
 pub mod NearestFacts
 pub mod ShownFacts
 pub mod CheckFacts
+pub mod Finds
 pub mod OneShown
 pub mod Lines
 pub mod Sections

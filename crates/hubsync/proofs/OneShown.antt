@@ -1,19 +1,17 @@
 -- What is shown of profiles that overlap is told in one way.
-use Rattle.std.proofs.Common.{◌≡◌, ◌≢◌, ◌⊎◌, inl, inr, ⊎_elim, ℕ, ◌<◌, ◌≤◌, ◌==◌, Bool, true, false, not, ◌&&◌, List, [], ◌∷◌, ◌++◌, length, Option, Some, refl, sym, ap, ◌∙◌, subst, arith}
+use Rattle.std.proofs.Common.{◌≡◌, inl, inr, ⊎_elim, ℕ, ◌<◌, ◌==◌, true, false, not, ◌&&◌, List, [], ◌∷◌, length, Some, refl, sym, ap, ◌∙◌, subst, arith}
 use Rattle.std.specs.Prelude.{IsTrue, slice_get}
-use Rattle.std.specs.List.{list_any, list_all, filter, find}
+use Rattle.std.specs.List.{list_any, list_all, filter}
 use Rattle.std.proofs.lemmas.Bool.{and_parts, or_cases, not-true, false≢true, cases_order}
 use Rattle.std.proofs.lemmas.List.Folds.{list_any-append}
 use Rattle.std.proofs.lemmas.Option.{same_Some, slice_get_within}
-use Rattle.hub_path.specs.Path.{Name, Path, path_eq, path_of, text_of, is_over, is_path, is_place, is_name, none_over}
+use Rattle.hub_path.specs.Path.{Name, Path, path_eq, path_of, text_of, is_over, is_place, none_over}
 use Rattle.hub_path.specs.Laws.{path_of-text_of, is_over-antisymmetric}
 use Rattle.hub_profile.specs.Parts.{Parts, IsProfile}
-use Rattle.hub_reach.specs.Reach.{reach, write, has_root}
-use Rattle.hub_reach.specs.Safe.{Clash, ClashesAt}
 use Rattle.hubsync.specs.declared.check.Overlap.{Overlap}
 use Rattle.hubsync.specs.Nearest.{is_below, meetings, is_nearer, is_nearest}
-use Rattle.hubsync.specs.Shown.{is_mentioned, IsSample, IsShownFor}
-use Rattle.hubsync.specs.Check.{is_shared, IsShown, IsOverlap, IsOverlapOf, ClashesNone, NoneClash}
+use Rattle.hubsync.specs.Shown.{IsSample, IsShownFor}
+use Rattle.hubsync.specs.Check.{IsShown, IsOverlap, IsOverlapOf}
 use Rattle.hubsync.proofs.NearestFacts.{tied-texts}
 use Rattle.hubsync.proofs.CheckFacts.{some-path, all-at, in-filter, written-reached, shown-clash}
 

@@ -1,6 +1,6 @@
 -- When profiles are refused, and what a refusal shows.
 use Rattle.std.specs.Prelude.{◌≡◌, ◌≢◌, ◌<◌, ℕ, Bool, false, not, ◌&&◌, ◌||◌, ◌==◌, List, length, take, ◌≤◌, ⊤, IsTrue, slice_get, Some}
-use Rattle.std.specs.List.{list_any, find}
+use Rattle.std.specs.List.{list_any, find, flat_map}
 use Rattle.hub_path.specs.Path.{Name, Path, name_eq, path_eq, is_over}
 use Rattle.hub_profile.specs.Parts.{Parts}
 use Rattle.hub_reach.specs.Reach.{reach, write, writes, has_root}
@@ -25,6 +25,18 @@ has_nested Ps = list_any (λ P. list_any (nested_with Ps) P.roots) Ps
 
 abbrev pub is_root_of : List Parts → Path → Bool
 is_root_of Ps r = list_any (λ P. has_root P r) Ps
+
+-- The roots of the profiles in their order, the left one of each first.
+abbrev pub roots_of : List Parts → List Path
+roots_of Ps = flat_map (λ P. P.roots) Ps
+
+-- The first root that is nested with one of these, and the first one that it is nested with.
+pub record AreFirstNested (Ps : List Parts) (r s : Path) : Type 0 where
+  pub earlier : IsTrue (is_root_of Ps r)
+  pub later : IsTrue (is_root_of Ps s)
+  pub nested : IsTrue (is_nested r s)
+  pub first : find (nested_with Ps) (roots_of Ps) ≡ Some r
+  pub second : find (is_nested r) (roots_of Ps) ≡ Some s
 
 -- A root of both at which P writes.
 abbrev pub is_shared : Parts → Parts → Path → Bool
@@ -55,6 +67,15 @@ pub record RepeatsName (Ps : List Parts) (name : Name) : Type 0 where
 -- None of the profiles whose number is below a bound has the name of an earlier one.
 abbrev pub NoneRepeated : List Parts → ℕ → Type 0
 NoneRepeated Ps below = (i : ℕ) (P : Parts) → i < below → slice_get Ps i ≡ Some P → list_any (λ Q. name_eq Q.name P.name) (take i Ps) ≡ false
+
+-- The name of the first profile that has the name of an earlier one.
+pub record IsFirstRepeated (Ps : List Parts) (name : Name) : Type 0 where
+  pub repeated : RepeatsName Ps name
+  pub later : ℕ
+  pub second : Parts
+  pub at_later : slice_get Ps later ≡ Some second
+  pub shown : name ≡ second.name
+  pub none_before : NoneRepeated Ps later
 
 -- Different profiles have different names.
 abbrev pub NamesDiffer : List Parts → Type 0
@@ -107,8 +128,8 @@ pub record IsOverlap (Ps : List Parts) (o : Overlap) : Type 0 where
 -- What holds of the profiles where a refusal is told.
 abbrev pub Refuses : List Parts → Refusal → Type 0
 Refuses Ps TooManyProfiles = PROFILES < length Ps
-Refuses Ps (SameName name) = RepeatsName Ps name
-Refuses Ps (NestedRoots r s) = IsTrue (is_root_of Ps r) × IsTrue (is_root_of Ps s) × IsTrue (is_nested r s)
+Refuses Ps (SameName name) = IsFirstRepeated Ps name
+Refuses Ps (NestedRoots r s) = AreFirstNested Ps r s
 Refuses Ps Patterns = IsTrue (have_patterns Ps)
 Refuses Ps (Overlaps o) = IsOverlap Ps o
 

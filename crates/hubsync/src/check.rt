@@ -83,7 +83,7 @@ pub fn first_refusal(alloc: Global, profiles: &[Profile]) -> Result<Option<Refus
 
 /// The first name that an earlier profile has too. There are at most `PROFILES` to compare.
 fn repeated_name(profiles: &[Profile]) -> Option<&Name>
-    ensures { MatchOption result (check.NamesDiffer profiles.now) (λ name. check.RepeatsName profiles.now name.now) }
+    ensures { MatchOption result (check.NamesDiffer profiles.now) (λ name. check.IsFirstRepeated profiles.now name.now) }
 {
     for (later, profile) in profiles.iter().enumerate() {
         let name = profile.name();
@@ -102,7 +102,7 @@ fn has_name(profiles: &[Profile], name: &Name) -> bool
 
 /// The first pair of different roots, one within the other.
 fn nested_roots(profiles: &[Profile]) -> Option<(&Root, &Root)>
-    ensures { MatchOption result (check.has_nested profiles.now ≡ false) (λ pair. IsTrue (check.is_root_of profiles.now pair.0.now) × IsTrue (check.is_root_of profiles.now pair.1.now) × IsTrue (check.is_nested pair.0.now pair.1.now)) }
+    ensures { MatchOption result (check.has_nested profiles.now ≡ false) (λ pair. check.AreFirstNested profiles.now pair.0.now pair.1.now) }
 {
     for profile in profiles {
         if let Some(pair) = nested_root_of(profiles, profile) {
@@ -114,7 +114,7 @@ fn nested_roots(profiles: &[Profile]) -> Option<(&Root, &Root)>
 
 /// The first root of a profile that is nested with a root of these, and the first such root.
 fn nested_root_of<'a>(profiles: &'a [Profile], profile: &'a Profile) -> Option<(&'a Root, &'a Root)>
-    ensures { MatchOption result (list_any (check.nested_with profiles.now) profile.now.roots ≡ false) (λ pair. IsTrue (reach.has_root profile.now pair.0.now) × IsTrue (check.is_root_of profiles.now pair.1.now) × IsTrue (check.is_nested pair.0.now pair.1.now)) }
+    ensures { MatchOption result (list_any (check.nested_with profiles.now) profile.now.roots ≡ false) (λ pair. (find (check.nested_with profiles.now) profile.now.roots ≡ Some pair.0.now) × (find (check.is_nested pair.0.now) (check.roots_of profiles.now) ≡ Some pair.1.now)) }
 {
     for root in profile.roots() {
         if let Some(other) = root_nested_with(profiles, root) {
@@ -126,7 +126,7 @@ fn nested_root_of<'a>(profiles: &'a [Profile], profile: &'a Profile) -> Option<(
 
 /// The first root of these that is nested with that one.
 fn root_nested_with<'a>(profiles: &'a [Profile], root: &Root) -> Option<&'a Root>
-    ensures { MatchOption result (check.nested_with profiles.now root.now ≡ false) (λ other. IsTrue (check.is_root_of profiles.now other.now) × IsTrue (check.is_nested root.now other.now)) }
+    ensures { MatchOption result (check.nested_with profiles.now root.now ≡ false) (λ other. find (check.is_nested root.now) (check.roots_of profiles.now) ≡ Some other.now) }
 {
     for profile in profiles {
         if let Some(other) = nested_among(profile.roots(), root) {
@@ -137,7 +137,7 @@ fn root_nested_with<'a>(profiles: &'a [Profile], root: &Root) -> Option<&'a Root
 }
 
 fn nested_among<'a>(roots: &'a [Root], root: &Root) -> Option<&'a Root>
-    ensures { MatchOption result (list_any (check.is_nested root.now) roots.now ≡ false) (λ other. IsTrue (list_any (λ own. path_eq own other.now) roots.now) × IsTrue (check.is_nested root.now other.now)) }
+    ensures { MatchOption result (list_any (check.is_nested root.now) roots.now ≡ false) (λ other. find (check.is_nested root.now) roots.now ≡ Some other.now) }
 {
     for other in roots {
         if is_nested(root, other) {

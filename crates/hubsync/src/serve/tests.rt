@@ -200,41 +200,97 @@ fn words_that_ask_for_nothing_are_answered_with_nothing(rt: HostRuntime) -> Resu
     Ok(())
 }
 
+/// Profiles, what the words ask of them, and the answer.
+type Asking = (
+    &'static [(&'static str, &'static str)],
+    &'static [&'static str],
+    &'static str,
+);
+
+static REACHES: [Asking; 14] = [
+    (
+        &[("p", "path = docs")],
+        &["hubsync", "reach", "p", "docs/x"],
+        "0 reached\n",
+    ),
+    (
+        &[("p", "path = docs")],
+        &["hubsync", "reach", "p", "docs2"],
+        "0 not reached\n",
+    ),
+    (
+        &[("p", TOP)],
+        &["hubsync", "reach", "p", "a"],
+        "0 not reached\n",
+    ),
+    (
+        &[("p", TOP)],
+        &["hubsync", "reach", "p", "a/b"],
+        "0 not reached\n",
+    ),
+    (
+        &[("p", TOP)],
+        &["hubsync", "reach", "p", ".x"],
+        "0 reached\n",
+    ),
+    // of two profiles with one name the first is asked, and overlaps don't matter
+    (
+        &[("p", "path = a"), ("p", "path = a/b")],
+        &["hubsync", "reach", "p", "a/c"],
+        "0 reached\n",
+    ),
+    (
+        &[("p", ""), ("q", "path = a")],
+        &["hubsync", "reach", "q", "b"],
+        "0 not reached\n",
+    ),
+    (
+        &[("p", "")],
+        &["hubsync", "reach", "q", "a"],
+        "2 fault: no profile q\n",
+    ),
+    (
+        &[],
+        &["hubsync", "reach", "p", "a"],
+        "2 fault: no profile p\n",
+    ),
+    (
+        &[("p", "")],
+        &["hubsync", "reach", "pp", "a"],
+        "2 fault: no profile pp\n",
+    ),
+    (
+        &[("p", "")],
+        &["hubsync", "reach", "q", "/a"],
+        "2 fault: no profile q\n",
+    ),
+    (
+        &[("p", "")],
+        &["hubsync", "reach", "p", "/a"],
+        "2 fault: path: LeadingSlash\n",
+    ),
+    (
+        &[("p", "")],
+        &["hubsync", "reach", "p", ""],
+        "2 fault: path: Empty\n",
+    ),
+    // all profiles are read first
+    (
+        &[("p", ""), ("q", "ignore = Foo x")],
+        &["hubsync", "reach", "p", "a"],
+        "2 fault: profile q line 3: BadPattern NoKind\n",
+    ),
+];
+
+/// All that stands at the top is ignored but what begins with a dot, and `a/b` is excepted in vain.
+const TOP: &str = "ignore = Path *\nignorenot = Path a/b";
+
 #[test]
 fn a_profile_is_asked_whether_it_reaches_a_path(rt: HostRuntime) -> Result<(), Fail> {
-    let top = "ignore = Path *\nignorenot = Path a/b";
-    let rows: [(&[(&str, &str)], &str, &str, &str); 14] = [
-        (&[("p", "path = docs")], "p", "docs/x", "0 reached\n"),
-        (&[("p", "path = docs")], "p", "docs2", "0 not reached\n"),
-        (&[("p", top)], "p", "a", "0 not reached\n"),
-        (&[("p", top)], "p", "a/b", "0 not reached\n"),
-        (&[("p", top)], "p", ".x", "0 reached\n"),
-        // of two profiles with one name the first is asked, and overlaps don't matter
-        (
-            &[("p", "path = a"), ("p", "path = a/b")],
-            "p",
-            "a/c",
-            "0 reached\n",
-        ),
-        (&[("p", ""), ("q", "path = a")], "q", "b", "0 not reached\n"),
-        (&[("p", "")], "q", "a", "2 fault: no profile q\n"),
-        (&[], "p", "a", "2 fault: no profile p\n"),
-        (&[("p", "")], "pp", "a", "2 fault: no profile pp\n"),
-        (&[("p", "")], "q", "/a", "2 fault: no profile q\n"),
-        (&[("p", "")], "p", "/a", "2 fault: path: LeadingSlash\n"),
-        (&[("p", "")], "p", "", "2 fault: path: Empty\n"),
-        // all profiles are read first
-        (
-            &[("p", ""), ("q", "ignore = Foo x")],
-            "p",
-            "a",
-            "2 fault: profile q line 3: BadPattern NoKind\n",
-        ),
-    ];
-    for (profiles, profile, path, want) in rows {
+    for (profiles, words, want) in &REACHES {
         let input = bundle(rt.alloc(), profiles)?;
-        let words = ["hubsync", "reach", profile, path];
-        assert_eq!(rt; answered_to(&rt, &words, input.as_str())?.as_str(), want);
+        let text = answered_to(&rt, *words, input.as_str())?;
+        assert_eq!(rt; text.as_str(), *want);
     }
     Ok(())
 }

@@ -9,7 +9,14 @@ use Rattle.hubsync.proofs.check.repeated_name.Goals as goal
 pub returns-then-has_name : goal.returns-then-has_name
 returns-then-has_name c =
     let at = slice_get_read c.args.profiles.now _ c.loop-later.later c.index-profiles-later.result refl (omega arith) c.index-profiles-later.is in
-    repeats c.args.profiles.now c.loop-later.later c.index-profiles-later.result c.name-name.result.now at c.name-name.ensures (sym c.has_name.ensures ∙ c.if-has_name.true)
+    record {
+      repeated = repeats c.args.profiles.now c.loop-later.later c.index-profiles-later.result c.name-name.result.now at c.name-name.ensures (sym c.has_name.ensures ∙ c.if-has_name.true);
+      later = c.loop-later.later;
+      second = c.index-profiles-later.result;
+      at_later = at;
+      shown = c.name-name.ensures;
+      none_before = c.loop-later.invariant;
+    }
 
 pub loop-later-preserved : goal.loop-later-preserved
 loop-later-preserved c =

@@ -1,0 +1,415 @@
+-- Mentioned characters: what stays true as more are mentioned, and the class and the sample of each.
+use Rattle.std.proofs.Common.{◌≡◌, ◌⊎◌, inl, inr, ⊎_elim, ℕ, suc, zero, ◌+◌, ◌<◌, ◌≤◌, Bool, true, false, not, ◌&&◌, ◌||◌, ◌==◌, cond, List, [], ◌∷◌, ◌++◌, length, take, drop, get_or, refl, sym, ap, ◌∙◌, arith, add-one, subst}
+use Rattle.std.specs.Prelude.{IsTrue, Option, Some, None, Ok, Err, find, unwrap_or, nat_lt, slice_get, IfErr, Result, insert}
+use Rattle.std.specs.Ordering.{nat_cmp}
+use Rattle.std.specs.List.Sorted.{IsBinarySearchResult}
+use Rattle.std.proofs.lemmas.List.Sorted.{searched}
+use Rattle.std.specs.List.{list_any, list_all, flat_map, range_with_len, position_from}
+use Rattle.std.proofs.lemmas.List.{drop_more, drop_all}
+use Rattle.std.proofs.lemmas.Bool.Decides.{nat_tests}
+use Rattle.hub_automaton.specs.declared.fault.AutomatonFault.{AutomatonFault}
+use Rattle.hub_automaton.specs.declared.alphabet.TheConstants.{MENTIONED_CHARACTERS}
+use Rattle.hub_automaton.specs.Alphabet.{is_left_out, is_mentioned, class_of, class_count, first_unmentioned, sample, ascends, IsAlphabet, placed, with_character, with_characters, Refuses, mentions}
+
+pub both : (a b : Bool) → (a && b) ≡ true → (a ≡ true) × (b ≡ true)
+both true b h = (refl, h)
+both false b h = cc
+
+pub and : (a b : Bool) → a ≡ true → b ≡ true → (a && b) ≡ true
+and a b h k = rw (h, k) refl
+
+-- Tests of all elements.
+all_below : (m n : ℕ) (ms : List ℕ) → m ≤ n → list_all (λ k. nat_lt n k) ms ≡ true → list_all (λ k. nat_lt m k) ms ≡ true
+all_below m n [] l h = refl
+all_below m n (k ∷ ms) l h =
+    let w = both (nat_lt n k) (list_all (λ k. nat_lt n k) ms) h in
+    let first : nat_lt m k ≡ true = grind (arith, nat_tests, w.0) in
+    and (nat_lt m k) (list_all (λ k. nat_lt m k) ms) first (all_below m n ms l w.1)
+
+all_at : (m : ℕ) (ms : List ℕ) (i : ℕ) → list_all (λ k. nat_lt m k) ms ≡ true → i < length ms → m < get_or ms i 0
+all_at m [] i h l = absurd (omega arith)
+all_at m (k ∷ ms) zero h l = let w = both (nat_lt m k) (list_all (λ k. nat_lt m k) ms) h in grind (arith, nat_tests, w.0)
+all_at m (k ∷ ms) (suc i) h l = all_at m ms i (both (nat_lt m k) (list_all (λ k. nat_lt m k) ms) h).1 (omega arith)
+
+pub ascends_at : (ms : List ℕ) (i j : ℕ) → ascends ms ≡ true → i < j → j < length ms → get_or ms i 0 < get_or ms j 0
+ascends_at [] i j h l k = absurd (omega arith)
+ascends_at (m ∷ ms) zero zero h l k = absurd (omega arith)
+ascends_at (m ∷ ms) zero (suc j) h l k = all_at m ms j (both (list_all (λ n. nat_lt m n) ms) (ascends ms) h).0 (omega arith)
+ascends_at (m ∷ ms) (suc i) zero h l k = absurd (omega arith)
+ascends_at (m ∷ ms) (suc i) (suc j) h l k = ascends_at ms i j (both (list_all (λ n. nat_lt m n) ms) (ascends ms) h).1 (omega arith) (omega arith)
+
+pub does_not_fall : (ms : List ℕ) → ascends ms ≡ true → (i j : ℕ) → i ≤ j → j < length ms → get_or ms i 0 ≤ get_or ms j 0
+does_not_fall ms h i j l k = ⊎_elim (λ s. omega (arith, ascends_at ms i j h s k)) (λ s. let e : i ≡ j = omega (arith, l, s) in let same : get_or ms i 0 ≡ get_or ms j 0 = ap (λ k. get_or ms k 0) e in omega (arith, same)) (apart i j) where
+  apart : (a b : ℕ) → (a < b) ⊎ (b ≤ a)
+  apart zero zero = inr (omega arith)
+  apart zero (suc b) = inl (omega arith)
+  apart (suc a) zero = inr (omega arith)
+  apart (suc a) (suc b) = ⊎_elim (λ s. inl (omega arith)) (λ s. inr (omega arith)) (apart a b)
+
+-- To be mentioned, by places.
+pub mentioned_at : (ms : List ℕ) (i c : ℕ) → i < length ms → get_or ms i 0 ≡ c → is_mentioned ms c ≡ true
+mentioned_at [] i c l h = absurd (omega arith)
+mentioned_at (m ∷ ms) zero c l h = let e : (m == c) ≡ true = grind (arith, nat_tests, h) in ap (λ b. b || is_mentioned ms c) e
+mentioned_at (m ∷ ms) (suc i) c l h = or_true (m == c) (is_mentioned ms c) (mentioned_at ms i c (omega arith) h) where
+  or_true : (a b : Bool) → b ≡ true → (a || b) ≡ true
+  or_true true b h = refl
+  or_true false b h = h
+
+pub not_mentioned : (ms : List ℕ) (i c : ℕ) → ((k : ℕ) → k < i → get_or ms k 0 < c) → ((k : ℕ) → i ≤ k → k < length ms → c < get_or ms k 0)
+    → is_mentioned ms c ≡ false
+not_mentioned [] i c below above = refl
+not_mentioned (m ∷ ms) zero c below above =
+    let l : c < m = above 0 (omega arith) (omega arith) in
+    let e : (m == c) ≡ false = grind (arith, nat_tests, l) in
+    (λ j. e j || is_mentioned ms c) ∙ not_mentioned ms 0 c (λ k s. absurd (omega arith)) (λ k s t. above (suc k) (omega arith) (omega arith))
+not_mentioned (m ∷ ms) (suc i) c below above =
+    let l : m < c = below 0 (omega arith) in
+    let e : (m == c) ≡ false = grind (arith, nat_tests, l) in
+    (λ j. e j || is_mentioned ms c) ∙ not_mentioned ms i c (λ k s. below (suc k) (omega arith)) (λ k s t. above (suc k) (omega arith) (omega arith))
+
+pub placed_at : (ms : List ℕ) (i c : ℕ) → i ≤ length ms → ((k : ℕ) → k < i → get_or ms k 0 < c) → ((k : ℕ) → i ≤ k → k < length ms → c < get_or ms k 0)
+    → insert ms i c ≡ placed ms c
+placed_at [] zero c l below above = refl
+placed_at [] (suc i) c l below above = absurd (omega arith)
+placed_at (m ∷ ms) zero c l below above =
+    let s : c < m = above 0 (omega arith) (omega arith) in
+    let e : nat_lt c m ≡ true = grind (arith, nat_tests, s) in
+    ap (λ b. cond b (c ∷ m ∷ ms) (m ∷ placed ms c)) (sym e)
+placed_at (m ∷ ms) (suc i) c l below above =
+    let s : m < c = below 0 (omega arith) in
+    let e : nat_lt c m ≡ false = grind (arith, nat_tests, s) in
+    ap (λ ns. m ∷ ns) (placed_at ms i c (omega arith) (λ k s. below (suc k) (omega arith)) (λ k s t. above (suc k) (omega arith) (omega arith)))
+    ∙ ap (λ b. cond b (c ∷ m ∷ ms) (m ∷ placed ms c)) (sym e)
+
+-- A character put in its place: who is mentioned then, and what holds of all.
+swap_or : (a b c : Bool) → (a || (b || c)) ≡ (b || (a || c))
+swap_or true true c = refl
+swap_or true false c = refl
+swap_or false b c = refl
+
+swap_and : (a b c : Bool) → (a && (b && c)) ≡ (b && (a && c))
+swap_and true b c = refl
+swap_and false true c = refl
+swap_and false false c = refl
+
+pub mentioned-placed : (ms : List ℕ) (c x : ℕ) → is_mentioned (placed ms c) x ≡ ((c == x) || is_mentioned ms x)
+mentioned-placed [] c x = refl
+mentioned-placed (m ∷ ms) c x = by_test (nat_lt c m) (mentioned-placed ms c x) where
+  by_test : (b : Bool) → is_mentioned (placed ms c) x ≡ ((c == x) || is_mentioned ms x)
+      → is_mentioned (cond b (c ∷ m ∷ ms) (m ∷ placed ms c)) x ≡ ((c == x) || ((m == x) || is_mentioned ms x))
+  by_test true h = refl
+  by_test false h = ap (λ b. (m == x) || b) h ∙ swap_or (m == x) (c == x) (is_mentioned ms x)
+
+all-placed : (p : ℕ → Bool) (ms : List ℕ) (c : ℕ) → list_all p (placed ms c) ≡ (p c && list_all p ms)
+all-placed p [] c = refl
+all-placed p (m ∷ ms) c = by_test (nat_lt c m) (all-placed p ms c) where
+  by_test : (b : Bool) → list_all p (placed ms c) ≡ (p c && list_all p ms)
+      → list_all p (cond b (c ∷ m ∷ ms) (m ∷ placed ms c)) ≡ (p c && (p m && list_all p ms))
+  by_test true h = refl
+  by_test false h = ap (λ b. p m && b) h ∙ swap_and (p m) (p c) (list_all p ms)
+
+length-placed : (ms : List ℕ) (c : ℕ) → length (placed ms c) ≡ length ms + 1
+length-placed [] c = refl
+length-placed (m ∷ ms) c = by_test (nat_lt c m) (length-placed ms c) where
+  by_test : (b : Bool) → length (placed ms c) ≡ length ms + 1 → length (cond b (c ∷ m ∷ ms) (m ∷ placed ms c)) ≡ length (m ∷ ms) + 1
+  by_test true h = omega arith
+  by_test false h = omega (arith, h)
+
+or_false : (a b : Bool) → (a || b) ≡ false → (a ≡ false) × (b ≡ false)
+or_false true b h = cc
+or_false false b h = (refl, h)
+
+ascends-placed : (ms : List ℕ) (c : ℕ) → ascends ms ≡ true → is_mentioned ms c ≡ false → ascends (placed ms c) ≡ true
+ascends-placed [] c h k = refl
+ascends-placed (m ∷ ms) c h k = by_test (nat_lt c m) refl (λ a b. ascends-placed ms c a b) where
+  by_test : (b : Bool) → nat_lt c m ≡ b → (ascends ms ≡ true → is_mentioned ms c ≡ false → ascends (placed ms c) ≡ true) → ascends (cond b (c ∷ m ∷ ms) (m ∷ placed ms c)) ≡ true
+  by_test true e go =
+      let w = both (list_all (λ n. nat_lt m n) ms) (ascends ms) h in
+      let l : c ≤ m = grind (arith, nat_tests, e) in
+      and (nat_lt c m && list_all (λ n. nat_lt c n) ms) (list_all (λ n. nat_lt m n) ms && ascends ms)
+      (and (nat_lt c m) (list_all (λ n. nat_lt c n) ms) e (all_below c m ms l w.0)) h
+  by_test false e go =
+      let w = both (list_all (λ n. nat_lt m n) ms) (ascends ms) h in
+      let n = or_false (m == c) (is_mentioned ms c) k in
+      let l : nat_lt m c ≡ true = grind (arith, nat_tests, e, n.0) in
+      and (list_all (λ n. nat_lt m n) (placed ms c)) (ascends (placed ms c))
+      (all-placed (λ n. nat_lt m n) ms c ∙ and (nat_lt m c) (list_all (λ n. nat_lt m n) ms) l w.0)
+      (go w.1 n.1)
+
+-- One more character.
+right_or : (a b : Bool) → b ≡ true → (a || b) ≡ true
+right_or true b h = refl
+right_or false b h = h
+
+pub still_mentioned : (ms : List ℕ) (c x : ℕ) → is_mentioned ms x ≡ true → is_mentioned (with_character ms c) x ≡ true
+still_mentioned ms c x h = by_test (is_left_out c || is_mentioned ms c) where
+  by_test : (b : Bool) → is_mentioned (cond b ms (placed ms c)) x ≡ true
+  by_test true = h
+  by_test false = mentioned-placed ms c x ∙ right_or (c == x) (is_mentioned ms x) h
+
+pub alphabet-with : (ms : List ℕ) (c : ℕ) → IsAlphabet ms → length (with_character ms c) ≤ MENTIONED_CHARACTERS → IsAlphabet (with_character ms c)
+alphabet-with ms c a few = record {
+  ascends = by_ascent (is_left_out c || is_mentioned ms c) refl;
+  dot = still_mentioned ms c 46 a.dot;
+  slash = still_mentioned ms c 47 a.slash;
+  allowed = by_allowed (is_left_out c || is_mentioned ms c) refl;
+  few = few;
+} where
+  by_ascent : (b : Bool) → (is_left_out c || is_mentioned ms c) ≡ b → ascends (cond b ms (placed ms c)) ≡ true
+  by_ascent true e = a.ascends
+  by_ascent false e = ascends-placed ms c a.ascends (or_false (is_left_out c) (is_mentioned ms c) e).1
+
+  by_allowed : (b : Bool) → (is_left_out c || is_mentioned ms c) ≡ b → list_all (λ m. not (is_left_out m)) (cond b ms (placed ms c)) ≡ true
+  by_allowed true e = a.allowed
+  by_allowed false e =
+      let n = or_false (is_left_out c) (is_mentioned ms c) e in
+      all-placed (λ m. not (is_left_out m)) ms c ∙ and (not (is_left_out c)) (list_all (λ m. not (is_left_out m)) ms) (ap not n.0) a.allowed
+
+pub length-with : (ms : List ℕ) (c : ℕ) → length ms ≤ length (with_character ms c)
+length-with ms c = by_test (is_left_out c || is_mentioned ms c) where
+  by_test : (b : Bool) → length ms ≤ length (cond b ms (placed ms c))
+  by_test true = omega arith
+  by_test false = omega (arith, length-placed ms c)
+
+pub with_there : (ms : List ℕ) (c : ℕ) → is_mentioned ms c ≡ true → ms ≡ with_character ms c
+with_there ms c h = ap (λ b. cond b ms (placed ms c)) (sym (right_or (is_left_out c) (is_mentioned ms c) h))
+
+pub with_left_out : (ms : List ℕ) (c : ℕ) → is_left_out c ≡ true → ms ≡ with_character ms c
+with_left_out ms c h = λ i. cond (sym h i || is_mentioned ms c) ms (placed ms c)
+
+pub with_new : (ms : List ℕ) (c : ℕ) → is_left_out c ≡ false → is_mentioned ms c ≡ false → placed ms c ≡ with_character ms c
+with_new ms c h k = λ i. cond (sym h i || sym k i) ms (placed ms c)
+
+pub length-with_new : (ms : List ℕ) (c : ℕ) → is_left_out c ≡ false → is_mentioned ms c ≡ false → length (with_character ms c) ≡ length ms + 1
+length-with_new ms c h k = ap length (sym (with_new ms c h k)) ∙ length-placed ms c
+
+-- With all characters of a list.
+pub with-append : (ms cs ds : List ℕ) → with_characters ms (cs ++ ds) ≡ with_characters (with_characters ms cs) ds
+with-append ms [] ds = refl
+with-append ms (c ∷ cs) ds = with-append (with_character ms c) cs ds
+
+pub length-with_all : (ms cs : List ℕ) → length ms ≤ length (with_characters ms cs)
+length-with_all ms [] = omega arith
+length-with_all ms (c ∷ cs) = omega (arith, length-with ms c, length-with_all (with_character ms c) cs)
+
+pub still_mentioned-all : (ms cs : List ℕ) (x : ℕ) → is_mentioned ms x ≡ true → is_mentioned (with_characters ms cs) x ≡ true
+still_mentioned-all ms [] x h = h
+still_mentioned-all ms (c ∷ cs) x h = still_mentioned-all (with_character ms c) cs x (still_mentioned ms c x h)
+
+-- What is left to mention while a list is gone through: the whole is what there is now, with the rest.
+pub mention_step : (cs old rest ms more whole : List ℕ) → old ≡ cs ++ rest → more ≡ with_characters ms cs → with_characters ms old ≡ whole → with_characters more rest ≡ whole
+mention_step cs old rest ms more whole e m h =
+    ap (λ ns. with_characters ns rest) m ∙ sym (with-append ms cs rest) ∙ ap (with_characters ms) (sym e) ∙ h
+
+pub mention_refused : (cs old rest ms start all : List ℕ) (e : AutomatonFault) → old ≡ cs ++ rest → with_characters ms old ≡ with_characters start all → Refuses ms cs e → Refuses start all e
+mention_refused cs old rest ms start all e at h r =
+    ⊎_elim (λ none. inl none)
+    (λ many.
+    let step : with_characters (with_characters ms cs) rest ≡ with_characters start all = mention_step cs old rest ms (with_characters ms cs) (with_characters start all) at refl h in
+    let more = length-with_all (with_characters ms cs) rest in
+    let same = ap length step in
+    let over : MENTIONED_CHARACTERS < length (with_characters ms cs) = many.1 in
+    let whole : MENTIONED_CHARACTERS < length (with_characters start all) = omega (arith, more, same, over) in
+    inr (many.0, whole)) r
+
+pub flat_drop : {X : Type 0} (f : X → List ℕ) (xs : List X) (i : ℕ) (x : X) → i < length xs → x ≡ get_or xs i x
+    → flat_map f (drop i xs) ≡ f x ++ flat_map f (drop (i + 1) xs)
+flat_drop f xs i x l e = ap (flat_map f) (drop_more xs i x l ∙ ap (λ y. y ∷ drop (i + 1) xs) (sym e))
+
+pub rest_drop : (xs : List ℕ) (i c : ℕ) → i < length xs → c ≡ get_or xs i c → drop i xs ≡ (c ∷ []) ++ drop (i + 1) xs
+rest_drop xs i c l e = drop_more xs i c l ∙ ap (λ y. y ∷ drop (i + 1) xs) (sym e)
+
+names_drop-suc : (p : List (List ℕ)) (i : ℕ) (n : List ℕ) → slice_get p i ≡ Some n → flat_map (λ m. m) (drop i p) ≡ n ++ flat_map (λ m. m) (drop (suc i) p)
+names_drop-suc [] i n h = cc
+names_drop-suc (m ∷ p) zero n h = let e : m ≡ n = cc in ap (λ k. k ++ flat_map (λ m. m) p) e
+names_drop-suc (m ∷ p) (suc i) n h = names_drop-suc p i n h
+
+pub names_drop : (p : List (List ℕ)) (i : ℕ) (n : List ℕ) → slice_get p i ≡ Some n → flat_map (λ m. m) (drop i p) ≡ n ++ flat_map (λ m. m) (drop (i + 1) p)
+names_drop p i n h = names_drop-suc p i n h ∙ ap (λ k. n ++ flat_map (λ m. m) (drop k p)) (sym (add-one i))
+
+pub flat_end : {X : Type 0} (f : X → List ℕ) (xs : List X) (i : ℕ) → length xs ≤ i → flat_map f (drop i xs) ≡ []
+flat_end f xs i l = ap (flat_map f) (drop_all i xs l)
+
+pub mention_end : (rest ms whole : List ℕ) → rest ≡ [] → with_characters ms rest ≡ whole → ms ≡ whole
+mention_end rest ms whole e h = ap (with_characters ms) (sym e) ∙ h
+
+-- What is added is mentioned.
+with_is_mentioned : (ms : List ℕ) (c : ℕ) → (is_left_out c || is_mentioned (with_character ms c) c) ≡ true
+with_is_mentioned ms c = by_tests (is_left_out c) (is_mentioned ms c) refl where
+  by_tests : (a b : Bool) → is_mentioned ms c ≡ b → (a || is_mentioned (cond (a || b) ms (placed ms c)) c) ≡ true
+  by_tests true b e = refl
+  by_tests false true e = e
+  by_tests false false e = mentioned-placed ms c c ∙ (let t : (c == c) ≡ true = grind (arith, nat_tests) in ap (λ b. b || is_mentioned ms c) t)
+
+left_or : (a b c : Bool) → (a || b) ≡ true → (b ≡ true → c ≡ true) → (a || c) ≡ true
+left_or true b c h f = refl
+left_or false b c h f = f h
+
+pub mentions_kept : (ms cs ds : List ℕ) → mentions ms ds ≡ true → mentions (with_characters ms cs) ds ≡ true
+mentions_kept ms cs [] h = refl
+mentions_kept ms cs (d ∷ ds) h =
+    let w = both (is_left_out d || is_mentioned ms d) (mentions ms ds) h in
+    and (is_left_out d || is_mentioned (with_characters ms cs) d) (mentions (with_characters ms cs) ds)
+    (left_or (is_left_out d) (is_mentioned ms d) (is_mentioned (with_characters ms cs) d) w.0 (still_mentioned-all ms cs d))
+    (mentions_kept ms cs ds w.1)
+
+pub mentions_added : (ms cs : List ℕ) → mentions (with_characters ms cs) cs ≡ true
+mentions_added ms [] = refl
+mentions_added ms (c ∷ cs) =
+    and (is_left_out c || is_mentioned (with_characters (with_character ms c) cs) c) (mentions (with_characters (with_character ms c) cs) cs)
+    (left_or (is_left_out c) (is_mentioned (with_character ms c) c) (is_mentioned (with_characters (with_character ms c) cs) c) (with_is_mentioned ms c)
+    (still_mentioned-all (with_character ms c) cs c))
+    (mentions_added (with_character ms c) cs)
+
+-- The class of a mentioned character is the number of its place, counted from 1.
+position_at : (ms : List ℕ) (n i c : ℕ) → ascends ms ≡ true → i < length ms → get_or ms i 0 ≡ c → position_from (λ m. m == c) n ms ≡ Some (i + n)
+position_at [] n i c h l e = absurd (omega arith)
+position_at (m ∷ ms) n zero c h l e = let t : (m == c) ≡ true = grind (arith, nat_tests, e) in
+    ap (λ b. cond b (Some n) (position_from (λ m. m == c) (n + 1) ms)) t ∙ ap Some (let k : n ≡ 0 + n = omega arith in k)
+position_at (m ∷ ms) n (suc i) c h l e =
+    let w = both (list_all (λ k. nat_lt m k) ms) (ascends ms) h in
+    let s : m < get_or ms i 0 = all_at m ms i w.0 (omega arith) in
+    let t : (m == c) ≡ false = grind (arith, nat_tests, e, s) in
+    ap (λ b. cond b (Some n) (position_from (λ m. m == c) (n + 1) ms)) t ∙ position_at ms (n + 1) i c w.1 (omega arith) e
+    ∙ ap Some (let k : i + (n + 1) ≡ suc i + n = omega arith in k)
+
+position_none : (ms : List ℕ) (n c : ℕ) → is_mentioned ms c ≡ false → position_from (λ m. m == c) n ms ≡ None
+position_none [] n c h = refl
+position_none (m ∷ ms) n c h =
+    let w = or_false (m == c) (is_mentioned ms c) h in
+    ap (λ b. cond b (Some n) (position_from (λ m. m == c) (n + 1) ms)) w.0 ∙ position_none ms (n + 1) c w.1
+
+pub class_at : (ms : List ℕ) (i c : ℕ) → ascends ms ≡ true → is_left_out c ≡ false → i < length ms → get_or ms i 0 ≡ c → class_of ms c ≡ Some (i + 1)
+class_at ms i c h a l e = λ j. cond (a j) None (Some (unwrap_or (position_at ms 1 i c h l e j) 0))
+
+pub class_other : (ms : List ℕ) (c : ℕ) → is_left_out c ≡ false → is_mentioned ms c ≡ false → class_of ms c ≡ Some 0
+class_other ms c a h = λ j. cond (a j) None (Some (unwrap_or (position_none ms 1 c h j) 0))
+
+pub class_none : (ms : List ℕ) (c : ℕ) → is_left_out c ≡ true → class_of ms c ≡ None
+class_none ms c a = λ j. cond (a j) None (Some (unwrap_or (position_from (λ m. m == c) 1 ms) 0))
+
+-- What a binary search for a character says.
+pub found : (ms xs : List ℕ) (c i : ℕ) → xs ≡ ms → ascends ms ≡ true → IsBinarySearchResult (λ y. nat_cmp y c) xs (Ok i) → (i < length ms) × (get_or ms i 0 ≡ c)
+found ms xs c i e a h =
+    let s = searched xs c (Ok i) h (subst (λ ns. (k j : ℕ) → k ≤ j → j < length ns → get_or ns k 0 ≤ get_or ns j 0) (sym e) (does_not_fall ms a)) in
+    subst (λ ns. (i < length ns) × (get_or ns i 0 ≡ c)) e s
+
+pub missing : (ms xs : List ℕ) (c i : ℕ) → xs ≡ ms → ascends ms ≡ true → IsBinarySearchResult (λ y. nat_cmp y c) xs (Err i) → (is_mentioned ms c ≡ false) × (insert ms i c ≡ placed ms c)
+missing ms xs c i e a h =
+    let s = searched xs c (Err i) h (subst (λ ns. (k j : ℕ) → k ≤ j → j < length ns → get_or ns k 0 ≤ get_or ns j 0) (sym e) (does_not_fall ms a)) in
+    let P : List ℕ → Type 0 = λ ns. (i ≤ length ns) × ((k : ℕ) → k < i → get_or ns k 0 < c) × ((k : ℕ) → i ≤ k → k < length ns → c < get_or ns k 0) in
+    let t : P ms = subst P e s in (not_mentioned ms i c t.1 t.2, placed_at ms i c t.0 t.1 t.2)
+
+-- The first character from `a` on that isn't mentioned, found by going through those that are.
+abbrev pub free_from : ℕ → List ℕ → ℕ
+free_from c [] = c
+free_from c (m ∷ ms) = free_from (cond (m == c) (c + 1) c) ms
+
+either : (b : Bool) → (b ≡ true) ⊎ (b ≡ false)
+either true = inl refl
+either false = inr refl
+
+pub free-same : (c m : ℕ) (ms : List ℕ) → (m == c) ≡ true → free_from c (m ∷ ms) ≡ free_from (c + 1) ms
+free-same c m ms e = ap (λ b. free_from (cond b (c + 1) c) ms) e
+
+pub free-other : (c m : ℕ) (ms : List ℕ) → (m == c) ≡ false → free_from c (m ∷ ms) ≡ free_from c ms
+free-other c m ms e = ap (λ b. free_from (cond b (c + 1) c) ms) e
+
+free-low : (c : ℕ) (ms : List ℕ) → c ≤ free_from c ms
+free-low c [] = omega arith
+free-low c (m ∷ ms) = ⊎_elim (λ e. omega (arith, free-same c m ms e, free-low (c + 1) ms)) (λ e. omega (arith, free-other c m ms e, free-low c ms)) (either (m == c))
+
+free-high : (c : ℕ) (ms : List ℕ) → free_from c ms ≤ c + length ms
+free-high c [] = omega arith
+free-high c (m ∷ ms) = ⊎_elim (λ e. omega (arith, free-same c m ms e, free-high (c + 1) ms)) (λ e. omega (arith, free-other c m ms e, free-high c ms)) (either (m == c))
+
+free-above : (c : ℕ) (ms : List ℕ) → list_all (λ k. nat_lt c k) ms ≡ true → free_from c ms ≡ c
+free-above c [] h = refl
+free-above c (m ∷ ms) h =
+    let w = both (nat_lt c m) (list_all (λ k. nat_lt c k) ms) h in
+    let e : (m == c) ≡ false = grind (arith, nat_tests, w.0) in
+    free-other c m ms e ∙ free-above c ms w.1
+
+free-not : (c : ℕ) (ms : List ℕ) → ascends ms ≡ true → is_mentioned ms (free_from c ms) ≡ false
+free-not c [] h = refl
+free-not c (m ∷ ms) h =
+    let w = both (list_all (λ k. nat_lt m k) ms) (ascends ms) h in
+    ⊎_elim
+    (λ e.
+    let d : free_from c (m ∷ ms) ≡ free_from (c + 1) ms = free-same c m ms e in
+    let l = free-low (c + 1) ms in
+    let n : (m == free_from (c + 1) ms) ≡ false = grind (arith, nat_tests, e, l) in
+    ap (is_mentioned (m ∷ ms)) d ∙ (λ i. n i || is_mentioned ms (free_from (c + 1) ms)) ∙ free-not (c + 1) ms w.1)
+    (λ e.
+    let d : free_from c (m ∷ ms) ≡ free_from c ms = free-other c m ms e in
+    let n : (m == free_from c ms) ≡ false = other (nat_lt c m) refl e (free-low c ms) w.0 in
+    ap (is_mentioned (m ∷ ms)) d ∙ (λ i. n i || is_mentioned ms (free_from c ms)) ∙ free-not c ms w.1)
+    (either (m == c))
+  where
+    other : (b : Bool) → nat_lt c m ≡ b → (m == c) ≡ false → c ≤ free_from c ms → list_all (λ k. nat_lt m k) ms ≡ true → (m == free_from c ms) ≡ false
+    other true e n l a =
+        let up : c ≤ m = grind (arith, nat_tests, e) in
+        ap (λ d. m == d) (free-above c ms (all_below c m ms up a)) ∙ n
+    other false e n l a = grind (arith, nat_tests, e, n, l)
+
+free-all : (c : ℕ) (ms : List ℕ) (x : ℕ) → c ≤ x → x < free_from c ms → is_mentioned ms x ≡ true
+free-all c [] x l h = absurd (omega arith)
+free-all c (m ∷ ms) x l h =
+    ⊎_elim
+    (λ e. ⊎_elim
+    (λ s. let t : (m == x) ≡ true = grind (arith, nat_tests, e, s) in ap (λ b. b || is_mentioned ms x) t)
+    (λ n. right_or (m == x) (is_mentioned ms x) (free-all (c + 1) ms x (let k : c + 1 ≤ x = grind (arith, nat_tests, n, l) in k) (let k : x < free_from (c + 1) ms = omega (arith, h, free-same c m ms e) in k)))
+    (either_is (x == c) refl))
+    (λ e. right_or (m == x) (is_mentioned ms x) (free-all c ms x l (let k : x < free_from c ms = omega (arith, h, free-other c m ms e) in k)))
+    (either (m == c))
+  where
+    either_is : (b : Bool) → (x == c) ≡ b → (x ≡ c) ⊎ ((x == c) ≡ false)
+    either_is true e = inl (let k : x ≡ c = grind (arith, nat_tests, e) in k)
+    either_is false e = inr e
+
+find_first : (p : ℕ → Bool) (d c n : ℕ) → c ≤ d → d < c + n → p d ≡ true → ((x : ℕ) → c ≤ x → x < d → p x ≡ false) → find p (range_with_len c n) ≡ Some d
+find_first p d c zero l h t none = absurd (omega arith)
+find_first p d c (suc n) l h t none =
+    ⊎_elim
+    (λ s. ap (λ b. cond b (Some c) (find p (range_with_len (c + 1) n))) (none c (let k : c ≤ c = omega arith in k) s) ∙ find_first p d (c + 1) n (omega (arith, s)) (omega (arith, h)) t (λ x a b. none x (omega (arith, a)) b))
+    (λ s. let e : d ≡ c = omega (arith, l, s) in ap (λ b. cond b (Some c) (find p (range_with_len (c + 1) n))) (ap p (sym e) ∙ t) ∙ ap Some (sym e))
+    (apart c d)
+  where
+    apart : (a b : ℕ) → (a < b) ⊎ (b ≤ a)
+    apart zero zero = inr (omega arith)
+    apart zero (suc b) = inl (omega arith)
+    apart (suc a) zero = inr (omega arith)
+    apart (suc a) (suc b) = ⊎_elim (λ s. inl (omega (arith, s))) (λ s. inr (omega (arith, s))) (apart a b)
+
+pub first_is_free : (ms : List ℕ) → ascends ms ≡ true → free_from 97 ms ≡ first_unmentioned ms
+first_is_free ms h =
+    ap (λ o. unwrap_or o 97)
+    (sym
+    (find_first (λ c. not (is_mentioned ms c)) (free_from 97 ms) 97 (length ms + 1) (free-low 97 ms) (omega (arith, free-high 97 ms)) (ap not (free-not 97 ms h))
+    (λ x a b. ap not (free-all 97 ms x a b))))
+
+pub free_step : (ms : List ℕ) (i c d : ℕ) (whole : ℕ) → i < length ms → free_from c (drop i ms) ≡ whole → d ≡ cond (get_or ms i 0 == c) (c + 1) c → free_from d (drop (i + 1) ms) ≡ whole
+free_step ms i c d whole l h e = ap (λ k. free_from k (drop (i + 1) ms)) e ∙ ap (free_from c) (sym (drop_more ms i 0 l)) ∙ h
+
+pub free_end : (ms : List ℕ) (i c whole : ℕ) → length ms ≤ i → free_from c (drop i ms) ≡ whole → c ≡ whole
+free_end ms i c whole l h = ap (free_from c) (sym (drop_all i ms l)) ∙ h
+
+-- The sample of a class is of that class.
+all_allowed : (ms : List ℕ) (i : ℕ) → list_all (λ m. not (is_left_out m)) ms ≡ true → i < length ms → is_left_out (get_or ms i 0) ≡ false
+all_allowed [] i h l = absurd (omega arith)
+all_allowed (m ∷ ms) zero h l = not-true (is_left_out m) (both (not (is_left_out m)) (list_all (λ k. not (is_left_out k)) ms) h).0 where
+  not-true : (b : Bool) → not b ≡ true → b ≡ false
+  not-true true e = sym e
+  not-true false e = refl
+all_allowed (m ∷ ms) (suc i) h l = all_allowed ms i (both (not (is_left_out m)) (list_all (λ k. not (is_left_out k)) ms) h).1 (omega arith)
+
+pub sample_class : (ms : List ℕ) (k : ℕ) → IsAlphabet ms → k < class_count ms → class_of ms (sample ms k) ≡ Some k
+sample_class ms zero a l =
+    let e = first_is_free ms a.ascends in
+    let low = free-low 97 ms in
+    let n0 : (free_from 97 ms == 0) ≡ false = grind (arith, nat_tests, low) in
+    let n1 : (free_from 97 ms == 10) ≡ false = grind (arith, nat_tests, low) in
+    let n2 : (free_from 97 ms == 13) ≡ false = grind (arith, nat_tests, low) in
+    ap (class_of ms) (sym e) ∙ class_other ms (free_from 97 ms) (λ i. (n0 i || n1 i) || n2 i) (free-not 97 ms a.ascends)
+sample_class ms (suc i) a l =
+    class_at ms i (get_or ms i 0) a.ascends (all_allowed ms i a.allowed (omega arith)) (omega arith) refl ∙ ap Some (add-one i)

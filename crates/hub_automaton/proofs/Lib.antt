@@ -1,0 +1,4 @@
+pub mod Alphabets
+pub mod Loops
+pub mod Spotted
+pub mod Steps

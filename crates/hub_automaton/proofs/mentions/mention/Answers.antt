@@ -1,0 +1,38 @@
+use Rattle.std.proofs.Common.{◌≡◌, ◌<◌, ◌∙◌, sym, ap, subst, inr, refl, length, arith}
+use Rattle.hub_automaton.specs.Alphabet.{with_character, IsAlphabet}
+use Rattle.hub_automaton.specs.declared.alphabet.TheConstants.{MENTIONED_CHARACTERS}
+use Rattle.hub_automaton.proofs.Alphabets.{found, missing, mentioned_at, with_there, with_new, length-with_new, alphabet-with}
+use Rattle.hub_automaton.proofs.mentions.mention.Goals as goal
+
+pub returns-then-len-ge-MENTIONED_CHARACTERS-clause-err : goal.returns-then-len-ge-MENTIONED_CHARACTERS-clause-err
+returns-then-len-ge-MENTIONED_CHARACTERS-clause-err c =
+    let ms = c.args.mentioned.now.items in
+    let x = c.args.character in
+    let m = missing ms c.deref.result.now x c.in-Err.place c.deref.ensures.value c.requires.ascends c.in-Err.ensures.position in
+    let n = length-with_new ms x (sym c.if-is_left_out.ensures) m.0 in
+    let same = ap length c.deref.ensures.value in
+    let many : MENTIONED_CHARACTERS < length (with_character ms x) = omega (arith, n, same, c.deref.ensures.len, c.len.ensures, c.if-len-ge-MENTIONED_CHARACTERS.true) in
+    inr (refl, many)
+
+pub returns-in-Ok-clause-ok : goal.returns-in-Ok-clause-ok
+returns-in-Ok-clause-ok c =
+    let ms = c.args.mentioned.now.items in
+    let f = found ms c.deref.result.now c.args.character c.in-Ok.field-0 c.deref.ensures.value c.requires.ascends c.in-Ok.ensures.position in
+    with_there ms c.args.character (mentioned_at ms c.in-Ok.field-0 c.args.character f.0 f.1)
+
+pub returns-in_ok-insert-in-Err-clause-ok : goal.returns-in_ok-insert-in-Err-clause-ok
+returns-in_ok-insert-in-Err-clause-ok c =
+    let ms = c.args.mentioned.now.items in
+    let m = missing ms c.deref.result.now c.args.character c.in-Err.place c.deref.ensures.value c.requires.ascends c.in-Err.ensures.position in
+    c.in_ok-insert-in-Err.ensures.items ∙ m.1 ∙ with_new ms c.args.character (sym c.if-is_left_out.ensures) m.0
+
+pub returns-in_ok-insert-in-Err-clause-alphabet : goal.returns-in_ok-insert-in-Err-clause-alphabet
+returns-in_ok-insert-in-Err-clause-alphabet c =
+    let ms = c.args.mentioned.now.items in
+    let x = c.args.character in
+    let m = missing ms c.deref.result.now x c.in-Err.place c.deref.ensures.value c.requires.ascends c.in-Err.ensures.position in
+    let n = length-with_new ms x (sym c.if-is_left_out.ensures) m.0 in
+    let same = ap length c.deref.ensures.value in
+    let e : c.insert.new.self.items ≡ with_character ms x = c.in_ok-insert-in-Err.ensures.items ∙ m.1 ∙ with_new ms x (sym c.if-is_left_out.ensures) m.0 in
+    subst IsAlphabet (sym e)
+    (alphabet-with ms x c.requires (omega (arith, n, same, c.deref.ensures.len, c.len.ensures, c.if-len-ge-MENTIONED_CHARACTERS.false)))

@@ -1,0 +1,95 @@
+-- Classes of characters: each mentioned character is a class of its own, and all others that a path may hold are one.
+use Rattle.std.specs.Prelude.{◌≡◌, ◌⊎◌, ◌<◌, ◌≤◌, ◌+◌, ◌-◌, ℕ, suc, zero, Bool, true, not, ◌&&◌, ◌||◌, ◌==◌, nat_lt, List, [], ◌∷◌, length, find, Option, Some, None, unwrap_or, slice_index, if◌then◌else◌, IsTrue}
+use Rattle.std.specs.List.{list_any, list_all, flat_map, range_with_len, position_from}
+use Rattle.hub_path.specs.Path.{Path}
+use Rattle.hub_glob.specs.declared.piece.Piece.{Piece}
+use Rattle.hub_glob.specs.declared.piece.Piece.TheVariants.{Lit, Any, Run, OneOf}
+use Rattle.hub_glob.specs.declared.piece.Part.{Part}
+use Rattle.hub_glob.specs.declared.piece.Part.TheVariants.{One, Brace}
+use Rattle.hub_glob.specs.Specification.{Specification}
+use Rattle.hub_automaton.specs.declared.alphabet.TheConstants.{MENTIONED_CHARACTERS}
+use Rattle.hub_automaton.specs.declared.fault.AutomatonFault.{AutomatonFault}
+use Rattle.hub_automaton.specs.declared.fault.AutomatonFault.TheVariants.{TooManyCharacters, OutOfMemory}
+
+-- NUL, LF and CR: no path has them, and they are never mentioned.
+abbrev pub is_left_out : ℕ → Bool
+is_left_out c = c == 0 || c == 10 || c == 13
+
+abbrev pub is_mentioned : List ℕ → ℕ → Bool
+is_mentioned ms c = list_any (λ m. m == c) ms
+
+-- The class of a character: of the mentioned characters, in ascending order, the first has number 1. All others are of
+-- class 0.
+abbrev pub class_of : List ℕ → ℕ → Option ℕ
+class_of ms c = if is_left_out c then None else Some (unwrap_or (position_from (λ m. m == c) 1 ms) 0)
+
+abbrev pub class_count : List ℕ → ℕ
+class_count ms = length ms + 1
+
+-- The first character from `a` on that isn't mentioned. No more numbers are tried than make sure of one.
+abbrev pub first_unmentioned : List ℕ → ℕ
+first_unmentioned ms = unwrap_or (find (λ c. not (is_mentioned ms c)) (range_with_len 97 (length ms + 1))) 97
+
+-- A character of each class.
+abbrev pub sample : List ℕ → ℕ → ℕ
+sample ms zero = first_unmentioned ms
+sample ms (suc i) = slice_index ms i
+
+-- The numbers ascend, each once.
+abbrev pub ascends : List ℕ → Bool
+ascends [] = true
+ascends (m ∷ ms) = list_all (λ n. nat_lt m n) ms && ascends ms
+
+-- `.` and `/`.
+abbrev pub plain : List ℕ
+plain = 46 ∷ 47 ∷ []
+
+-- What holds of the mentioned characters: they ascend, `.` and `/` are among them, NUL, LF and CR aren't, and there are
+-- at most as many as an alphabet may have.
+pub record IsAlphabet (ms : List ℕ) : Type 0 where
+  pub ascends : IsTrue (ascends ms)
+  pub dot : IsTrue (is_mentioned ms 46)
+  pub slash : IsTrue (is_mentioned ms 47)
+  pub allowed : IsTrue (list_all (λ m. not (is_left_out m)) ms)
+  pub few : length ms ≤ MENTIONED_CHARACTERS
+
+-- A number put in its place among others that ascend.
+abbrev pub placed : List ℕ → ℕ → List ℕ
+placed [] c = c ∷ []
+placed (m ∷ ms) c = if nat_lt c m then c ∷ m ∷ ms else m ∷ placed ms c
+
+-- The mentioned characters and one more, and with all of these.
+abbrev pub with_character : List ℕ → ℕ → List ℕ
+with_character ms c = if is_left_out c || is_mentioned ms c then ms else placed ms c
+
+abbrev pub with_characters : List ℕ → List ℕ → List ℕ
+with_characters ms [] = ms
+with_characters ms (c ∷ cs) = with_characters (with_character ms c) cs
+
+-- Why they aren't added: they are too many, or there was no memory.
+abbrev pub Refuses : List ℕ → List ℕ → AutomatonFault → Type 0
+Refuses ms cs e = (e ≡ OutOfMemory) ⊎ ((e ≡ TooManyCharacters) × (MENTIONED_CHARACTERS < length (with_characters ms cs)))
+
+-- The characters of a path's names, and those that a specification mentions: its literals, and the members of its sets.
+abbrev pub path_characters : Path → List ℕ
+path_characters p = flat_map (λ n. n) p
+
+abbrev pub piece_characters : Piece → List ℕ
+piece_characters (Lit c) = c ∷ []
+piece_characters Any = []
+piece_characters Run = []
+piece_characters (OneOf cs) = cs
+
+abbrev pub pieces_characters : List Piece → List ℕ
+pieces_characters ps = flat_map piece_characters ps
+
+abbrev pub part_characters : Part → List ℕ
+part_characters (One p) = piece_characters p
+part_characters (Brace cs) = flat_map pieces_characters cs
+
+abbrev pub spec_characters : Specification → List ℕ
+spec_characters s = flat_map part_characters s.pattern
+
+-- All these characters are mentioned, but for those that never are.
+abbrev pub mentions : List ℕ → List ℕ → Bool
+mentions ms cs = list_all (λ c. is_left_out c || is_mentioned ms c) cs

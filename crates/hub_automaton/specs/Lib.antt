@@ -1,0 +1,4 @@
+pub mod Alphabet
+pub mod Examples
+pub mod Spots
+pub mod Stepping

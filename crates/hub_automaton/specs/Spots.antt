@@ -1,0 +1,97 @@
+-- What is seen of a text for some specifications: which numbers of pieces of their choices match it, and which of the
+-- specifications match a path above it.
+use Rattle.std.specs.Prelude.{◌≡◌, ◌≤◌, IsTrue, drop, ℕ, Bool, true, false, not, ◌&&◌, ◌==◌, ◌+◌, List, [], ◌∷◌, ◌++◌, map, length, take, if◌then◌else◌}
+use Rattle.std.specs.List.{list_any, list_all, flat_map, range_with_len}
+use Rattle.hub_glob.specs.declared.piece.Piece.{Piece}
+use Rattle.hub_glob.specs.declared.path_spec.Kind.{Kind}
+use Rattle.hub_glob.specs.declared.path_spec.Kind.TheVariants as kind
+use Rattle.hub_glob.specs.Specification.{Specification}
+use Rattle.hub_glob.specs.Glob.{pieces, no_more, choices}
+use Rattle.hub_automaton.specs.Alphabet.{mentions, pieces_characters, first_unmentioned, IsAlphabet}
+use Rattle.hub_automaton.specs.declared.alternatives.TheConstants.{SPOTS}
+use Rattle.hub_automaton.specs.declared.alternatives.Alternatives.{Alternatives}
+
+-- For each number up to how many pieces there are, whether that many pieces match the text.
+abbrev pub spots : List Piece → List ℕ → List Bool
+spots ps t = map (λ i. pieces (take i ps) no_more true t) (range_with_len 0 (length ps + 1))
+
+-- What follows the last `/` of a text, or these characters and the text where it has none.
+abbrev pub since_slash : List ℕ → List ℕ → List ℕ
+since_slash name [] = name
+since_slash name (c ∷ t) = if c == 47 then since_slash [] t else since_slash (name ++ c ∷ []) t
+
+-- The part of a text that a kind of specification looks at.
+abbrev pub looked_at : Kind → List ℕ → List ℕ
+looked_at kind.Name t = since_slash [] t
+looked_at kind.Path t = t
+looked_at kind.BelowPath t = t
+
+-- The prefixes of a text that end before a `/`.
+abbrev pub folders : List ℕ → List (List ℕ)
+folders [] = []
+folders (c ∷ t) = if c == 47 then [] ∷ map (λ u. c ∷ u) (folders t) else map (λ u. c ∷ u) (folders t)
+
+-- A text ends where a component starts, where the first argument says whether it begins at such a place.
+abbrev pub starts : Bool → List ℕ → Bool
+starts first [] = first
+starts first (c ∷ t) = starts (c == 47) t
+
+-- One of the choices matches a text.
+abbrev pub fits : List (List Piece) → List ℕ → Bool
+fits cs t = list_any (λ c. pieces c no_more true t) cs
+
+abbrev pub is_name_kind : Kind → Bool
+is_name_kind kind.Name = true
+is_name_kind kind.Path = false
+is_name_kind kind.BelowPath = false
+
+abbrev pub is_below_kind : Kind → Bool
+is_below_kind kind.Name = false
+is_below_kind kind.Path = false
+is_below_kind kind.BelowPath = true
+
+-- What a specification means by its choices.
+abbrev pub alternatives_of : Specification → Alternatives
+alternatives_of s = record { kind = s.kind; choices = choices s.pattern }
+
+abbrev pub spots_of : Alternatives → List ℕ → List Bool
+spots_of a t = flat_map (λ c. spots c (looked_at a.kind t)) a.choices
+
+-- For `BelowPath`, whether a prefix that ends before a `/` is matched.
+abbrev pub is_below : Alternatives → List ℕ → Bool
+is_below a t = is_below_kind a.kind && list_any (fits a.choices) (folders t)
+
+-- What is seen of a text: the spots of all choices, one specification after another, whether a path above is matched,
+-- for each of them, and whether the text ends where a component starts.
+pub record Seen : Type 0 where
+  pub live : List Bool
+  pub below : List Bool
+  pub start : Bool
+
+abbrev pub seen : List Alternatives → List ℕ → Seen
+seen ls t = record { live = flat_map (λ a. spots_of a t) ls; below = map (λ a. is_below a t) ls; start = starts true t }
+
+-- How many spots the choices have.
+abbrev pub spot_count : List (List Piece) → ℕ
+spot_count [] = 0
+spot_count (c ∷ cs) = length c + 1 + spot_count cs
+
+abbrev pub spots_count : List Alternatives → ℕ
+spots_count [] = 0
+spots_count (a ∷ ls) = spot_count a.choices + spots_count ls
+
+-- The mentioned characters are enough to tell all characters that the choices tell apart.
+abbrev pub is_covered : List ℕ → Alternatives → Bool
+is_covered ms a = list_all (λ c. mentions ms (pieces_characters c)) a.choices
+
+-- What is followed through a text: choices, and the mentioned characters of the alphabet.
+pub record Tracked : Type 0 where
+  pub mentioned : List ℕ
+  pub alternatives : List Alternatives
+
+-- There is a sample of each class, no character matters that isn't mentioned, and there are few spots.
+pub record IsTracked (characters : List ℕ) (ls : List Alternatives) : Type 0 where
+  pub samples : characters ≡ first_unmentioned (drop 1 characters) ∷ drop 1 characters
+  pub alphabet : IsAlphabet (drop 1 characters)
+  pub covered : IsTrue (list_all (is_covered (drop 1 characters)) ls)
+  pub few : spots_count ls ≤ SPOTS

@@ -1,0 +1,105 @@
+-- One more character of a text: the spots of the longer text from those of the text, read in their order.
+use Rattle.std.specs.Prelude.{ℕ, Bool, true, false, not, ◌&&◌, ◌||◌, ◌==◌, ◌+◌, List, [], ◌∷◌, ◌++◌, length, drop, if◌then◌else◌}
+use Rattle.std.specs.List.{list_any, flat_map}
+use Rattle.hub_glob.specs.declared.piece.Piece.{Piece}
+use Rattle.hub_glob.specs.declared.piece.Piece.TheVariants.{Lit, Any, Run, OneOf}
+use Rattle.hub_automaton.specs.declared.alternatives.Alternatives.{Alternatives}
+use Rattle.hub_automaton.specs.declared.step.Next.{Next}
+use Rattle.hub_automaton.specs.Spots.{Seen, is_name_kind, is_below_kind, spot_count}
+
+-- Whether a piece takes that character next.
+abbrev pub takes : Next → Piece → Bool
+takes x (Lit c) = x.character == c
+takes x Any = not (x.character == 47)
+takes x Run = not (x.character == 47) && not (x.first && x.character == 46)
+takes x (OneOf cs) = list_any (λ c. c == x.character) cs
+
+abbrev pub is_star : Piece → Bool
+is_star (Lit c) = false
+is_star Any = false
+is_star Run = true
+is_star (OneOf cs) = false
+
+abbrev pub head : List Bool → Bool
+head [] = false
+head (b ∷ bs) = b
+
+abbrev pub tail : List Bool → List Bool
+tail [] = []
+tail (b ∷ bs) = bs
+
+-- The spot behind a piece: what was matched up to it and behind it before the character, and what is matched up to it
+-- with the character. A `*` takes the character and stays, or takes nothing.
+abbrev pub spot_past : Next → Piece → Bool → Bool → Bool → Bool
+spot_past x p here there before = if is_star p then before || there && takes x p else here && takes x p
+
+abbrev pub stepped_pieces : Next → Bool → Bool → List Piece → List Bool → List Bool
+stepped_pieces x here before [] old = []
+stepped_pieces x here before (p ∷ ps) old =
+    let there = head old in
+    let spot = spot_past x p here there before in spot ∷ stepped_pieces x there spot ps (tail old)
+
+-- The last spot of a choice before the character: whether the choice matched the text.
+abbrev pub last_spot : Bool → List Piece → List Bool → Bool
+last_spot here [] old = here
+last_spot here (p ∷ ps) old = last_spot (head old) ps (tail old)
+
+abbrev pub stepped : Next → List Piece → List Bool → List Bool
+stepped x c old = false ∷ stepped_pieces x (head old) false c (tail old)
+
+abbrev pub ended : List Piece → List Bool → Bool
+ended c old = last_spot (head old) c (tail old)
+
+-- The spots of the empty text.
+abbrev pub entered_pieces : Bool → List Piece → List Bool
+entered_pieces before [] = []
+entered_pieces before (p ∷ ps) = (is_star p && before) ∷ entered_pieces (is_star p && before) ps
+
+abbrev pub entered : List Piece → List Bool
+entered c = true ∷ entered_pieces true c
+
+-- All choices one after another.
+abbrev pub stepped_choices : Next → List (List Piece) → List Bool → List Bool
+stepped_choices x [] old = []
+stepped_choices x (c ∷ cs) old = stepped x c old ++ stepped_choices x cs (drop (length c + 1) old)
+
+abbrev pub ended_choices : List (List Piece) → List Bool → Bool
+ended_choices [] old = false
+ended_choices (c ∷ cs) old = ended c old || ended_choices cs (drop (length c + 1) old)
+
+abbrev pub entered_choices : List (List Piece) → List Bool
+entered_choices cs = flat_map entered cs
+
+-- All specifications one after another. Behind a `/` a `Name` specification looks at the next name.
+abbrev pub stepped_one : Next → Alternatives → List Bool → List Bool
+stepped_one x a old =
+    if is_name_kind a.kind && x.character == 47 then entered_choices a.choices else stepped_choices x a.choices old
+
+abbrev pub stepped_all : Next → List Alternatives → List Bool → List Bool
+stepped_all x [] old = []
+stepped_all x (a ∷ ls) old = stepped_one x a old ++ stepped_all x ls (drop (spot_count a.choices) old)
+
+-- Whether a path above the longer text is matched: one above the text, or the text itself.
+abbrev pub goes_below : Next → Alternatives → List Bool → Bool
+goes_below x a old = is_below_kind a.kind && (x.character == 47) && ended_choices a.choices old
+
+abbrev pub below_one : Next → Alternatives → Bool → List Bool → Bool
+below_one x a was old = was || goes_below x a old
+
+abbrev pub below_all : Next → List Alternatives → List Bool → List Bool → List Bool
+below_all x [] flags old = []
+below_all x (a ∷ ls) flags old = below_one x a (head flags) old ∷ below_all x ls (tail flags) (drop (spot_count a.choices) old)
+
+-- Whether one of them matches the text, or a path above it.
+abbrev pub matched_one : Alternatives → Bool → List Bool → Bool
+matched_one a flag old = flag || ended_choices a.choices old
+
+abbrev pub matched_all : List Alternatives → List Bool → List Bool → Bool
+matched_all [] flags old = false
+matched_all (a ∷ ls) flags old = matched_one a (head flags) old || matched_all ls (tail flags) (drop (spot_count a.choices) old)
+
+-- What is seen of a text with one more character.
+abbrev pub pushed : List Alternatives → Seen → ℕ → Seen
+pushed ls s c =
+    let x : Next = record { character = c; first = s.start } in
+    record { live = stepped_all x ls s.live; below = below_all x ls s.below s.live; start = c == 47 }

@@ -1,0 +1,143 @@
+ghost use Rattle.std.specs.Prelude.{◌≡◌, ◌+◌, ◌<◌, [], ◌∷◌, length, map, IfOk, IfErr, OnOk, OnErr};
+ghost use Rattle.hub_automaton.specs.Alphabet as alphabet;
+
+use crate::class::Class;
+use crate::fault::AutomatonFault;
+use crate::mentions::{is_left_out, mention_parts, mention_path};
+use hub_glob::PathSpec;
+use hub_path::RelPath;
+use std::alloc::{AllocError, Global};
+use std::marker::Model;
+
+/// How many characters an alphabet may mention (this project's choice).
+pub const MENTIONED_CHARACTERS: usize = 512;
+
+/// The characters that some paths and specifications mention, and `.` and `/`, which are always among them.
+///
+/// Two characters that it mentions neither of are alike to all of them: no specification that was added tells one from
+/// the other. So there is one class for all those, and one for each mentioned character. NUL, CR and LF stand in no
+/// path, are never mentioned and have no class. The mentioned characters are kept in ascending order.
+#[derive(Debug, Drop)]
+pub struct Alphabet {
+    mentioned: Vec<char>,
+}
+
+impl Model for Alphabet {
+    ghost use Rattle.std.specs.Prelude.{List, ℕ};
+    ghost use Rattle.hub_automaton.specs.Alphabet.{IsAlphabet};
+
+    ghost Value = { List ℕ };
+
+    ghost view = { λ a. a.mentioned.items };
+
+    ghost invariant = { λ a. IsAlphabet a.mentioned.items };
+}
+
+impl Alphabet {
+    /// The alphabet that mentions `.` and `/` alone. Memory may be refused.
+    pub fn new(alloc: Global) -> Result<Alphabet, AutomatonFault>
+        ensures ok { IfOk result (λ a. a ≡ alphabet.plain) }
+        ensures err { IfErr result (λ e. e ≡ AutomatonFault.OutOfMemory) }
+    {
+        let mentioned = Vec::from_slice(alloc, &['.', '/'])?;
+        Ok(Alphabet { mentioned })
+    }
+
+    /// Mentions the characters of a path.
+    ///
+    /// The fault is `TooManyCharacters` where more than `MENTIONED_CHARACTERS` would be mentioned then, or `OutOfMemory`.
+    /// After either the alphabet is as it was.
+    pub fn add_path(&mut self, path: &RelPath) -> Result<(), AutomatonFault>
+        ensures ok { OnOk result (self.new ≡ alphabet.with_characters self.old (alphabet.path_characters path.now)) }
+        ensures err { IfErr result (alphabet.Refuses self.old (alphabet.path_characters path.now)) }
+        ensures kept { OnErr result (self.new ≡ self.old) }
+    {
+        let mut mentioned = Vec::from_slice(
+            *self.mentioned.allocator(),
+            self.mentioned.as_slice(),
+        )?;
+        mention_path(&mut mentioned, path)?;
+        self.mentioned = mentioned;
+        Ok(())
+    }
+
+    /// Mentions the characters of a specification: its literals, and the members of its sets. NUL, CR and LF, which
+    /// match nothing in a path, aren't mentioned.
+    ///
+    /// The fault is `TooManyCharacters` where more than `MENTIONED_CHARACTERS` would be mentioned then, or `OutOfMemory`.
+    /// After either the alphabet is as it was.
+    pub fn add_spec(&mut self, spec: &PathSpec) -> Result<(), AutomatonFault>
+        ensures ok { OnOk result (self.new ≡ alphabet.with_characters self.old (alphabet.spec_characters spec.now)) }
+        ensures err { IfErr result (alphabet.Refuses self.old (alphabet.spec_characters spec.now)) }
+        ensures kept { OnErr result (self.new ≡ self.old) }
+    {
+        let mut mentioned = Vec::from_slice(
+            *self.mentioned.allocator(),
+            self.mentioned.as_slice(),
+        )?;
+        mention_parts(&mut mentioned, spec.pattern())?;
+        self.mentioned = mentioned;
+        Ok(())
+    }
+
+    /// How many classes there are: their numbers are those below it. It takes no memory.
+    pub fn count(&self) -> usize
+        ensures { result ≡ alphabet.class_count self.now }
+    {
+        self.mentioned.len() + 1
+    }
+
+    /// The class of a character; NUL, CR and LF alone have none. It takes no memory.
+    pub fn class_of(&self, character: char) -> Option<Class>
+        ensures { result ≡ alphabet.class_of self.now character }
+    {
+        if is_left_out(character) {
+            return None;
+        }
+        let number = match self.mentioned.binary_search(&character) {
+            Ok(place) => place + 1,
+            Err(_) => 0,
+        };
+        Some(Class::new(number))
+    }
+
+    /// A character of each class, in the order of their numbers.
+    pub(crate) fn samples(&self, alloc: Global) -> Result<Vec<char>, AllocError>
+        ensures items { IfOk result (λ v. v.items ≡ alphabet.first_unmentioned self.now ∷ self.now) }
+        ensures alphabet { OnOk result (alphabet.IsAlphabet self.now) }
+    {
+        let mut samples = Vec::with_capacity(alloc, self.count())?;
+        samples.push(first_unmentioned(self.mentioned.as_slice()))?;
+        samples.extend_from_slice(self.mentioned.as_slice())?;
+        Ok(samples)
+    }
+
+    /// A character of that class: of class 0 the first one from `a` on that isn't mentioned, and of another class its
+    /// one character. It takes no memory.
+    pub fn sample(&self, class: Class) -> char
+        requires { class < alphabet.class_count self.now }
+        ensures { result ≡ alphabet.sample self.now class }
+    {
+        let number = class.number();
+        if number == 0 {
+            first_unmentioned(self.mentioned.as_slice())
+        } else {
+            self.mentioned[number - 1]
+        }
+    }
+}
+
+/// The first character from `a` on that isn't mentioned. As so few are, it comes long before the numbers that are no
+/// characters.
+fn first_unmentioned(mentioned: &[char]) -> char
+    requires { alphabet.IsAlphabet mentioned.now }
+    ensures { result ≡ alphabet.first_unmentioned mentioned.now }
+{
+    let mut code: u32 = 97;
+    for character in mentioned {
+        if u32::from(*character) == code {
+            code += 1;
+        }
+    }
+    char::from_u32(code).unwrap_or('a')
+}

@@ -1,0 +1,74 @@
+ghost use Rattle.std.specs.Prelude.{◌≡◌, [], ◌∷◌, ◌++◌, length, slice_index_or, false, IfOk, OnOk};
+
+use std::alloc::{AllocError, Global};
+use std::cmp::Ordering;
+use std::marker::Model;
+
+/// A list of bits.
+#[derive(Debug, Drop)]
+pub(crate) struct Bits {
+    bits: Vec<bool>,
+}
+
+impl Model for Bits {
+    ghost use Rattle.std.specs.Prelude.{List, Bool};
+
+    ghost Value = { List Bool };
+
+    ghost view = { λ a. a.bits.items };
+}
+
+impl Bits {
+    /// No bits, and room for some.
+    pub(crate) fn with_room(alloc: Global, room: usize) -> Result<Bits, AllocError>
+        ensures { IfOk result (λ b. b ≡ []) }
+    {
+        Ok(Bits {
+            bits: Vec::with_capacity(alloc, room)?,
+        })
+    }
+
+    /// How many bits there are.
+    pub(crate) fn len(&self) -> usize
+        ensures { result ≡ length self.now }
+    {
+        self.bits.len()
+    }
+
+    /// The bit at that place; past the end there are none.
+    pub(crate) fn get(&self, place: usize) -> bool
+        ensures { result ≡ slice_index_or self.now place false }
+    {
+        self.bits.get(place).copied().unwrap_or(false)
+    }
+
+    /// Adds a bit at the end.
+    pub(crate) fn push(&mut self, bit: bool) -> Result<(), AllocError>
+        ensures { OnOk result (self.new ≡ self.old ++ bit ∷ []) }
+    {
+        self.bits.push(bit)?;
+        Ok(())
+    }
+}
+
+impl PartialEq for Bits {
+    ghost use Rattle.std.proofs.Common.{rules};
+    ghost use Rattle.std.specs.Cmp.Rules.{comparing};
+    ghost use Rattle.std.specs.Cmp.Lexicographic.{pointwise};
+    ghost use mathlib.Core.Bool.{beq};
+
+    ghost eq = { pointwise beq };
+
+    ghost laws = { Prim.search (comparing, rules) };
+
+    fn eq(&self, other: &Bits) -> bool {
+        self.bits == other.bits
+    }
+}
+
+impl Eq for Bits {
+    ghost use Rattle.std.proofs.Common.{rules};
+    ghost use Rattle.std.specs.Cmp.Rules.{comparing};
+
+    ghost laws = { Prim.search (comparing, rules) };
+}

@@ -1,4 +1,5 @@
 pub mod Alphabets
 pub mod Loops
+pub mod Mentioned
 pub mod Spotted
 pub mod Steps

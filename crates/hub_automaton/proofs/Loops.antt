@@ -1,15 +1,14 @@
 -- Lists gone through from the front: what is done already, and what is left to do, make the whole.
-use Rattle.std.proofs.Common.{◌≡◌, ℕ, suc, zero, ◌+◌, ◌<◌, ◌≤◌, Bool, true, false, ◌&&◌, ◌||◌, ◌==◌, cond, List, [], ◌∷◌, ◌++◌, map, length, drop, get_or, refl, sym, ap, ◌∙◌, arith, add-one, append-nil, append_assoc, length-append}
+use Rattle.std.proofs.Common.{◌≡◌, ℕ, suc, zero, ◌+◌, ◌<◌, ◌≤◌, Bool, true, false, ◌&&◌, ◌||◌, ◌==◌, cond, List, [], ◌∷◌, ◌++◌, map, length, drop, get_or, refl, sym, ap, ◌∙◌, add-one, append-nil, append_assoc, length-append}
 use Rattle.std.specs.Prelude.{slice_index_or}
-use Rattle.std.specs.List.{list_any, flat_map}
+use Rattle.std.specs.List.{flat_map}
 use Rattle.std.proofs.lemmas.List.{drop_more, drop_all, drop-drop, length_push, get_or-drop}
 use Rattle.hub_glob.specs.declared.piece.Piece.{Piece}
-use Rattle.hub_glob.specs.declared.path_spec.Kind.{Kind}
 use Rattle.hub_glob.proofs.Choices.{or-assoc, or-false}
 use Rattle.hub_automaton.specs.declared.alternatives.Alternatives.{Alternatives}
 use Rattle.hub_automaton.specs.declared.step.Next.{Next}
 use Rattle.hub_automaton.specs.Spots.{is_name_kind, spot_count, spots_count}
-use Rattle.hub_automaton.specs.Stepping.{takes, is_star, head, tail, spot_past, stepped_pieces, last_spot, stepped, ended, entered_pieces, entered, stepped_choices, ended_choices, entered_choices, stepped_one, stepped_all, goes_below, below_one, below_all, matched_one, matched_all}
+use Rattle.hub_automaton.specs.Stepping.{is_star, head, tail, spot_past, stepped_pieces, last_spot, stepped, ended, entered_pieces, entered, stepped_choices, ended_choices, entered_choices, stepped_one, stepped_all, goes_below, below_all, matched_all}
 
 pub next_drop : {X : Type 0} (xs : List X) (i : ℕ) (x : X) → i < length xs → x ≡ get_or xs i x → drop i xs ≡ x ∷ drop (i + 1) xs
 next_drop xs i x l e = drop_more xs i x l ∙ ap (λ y. y ∷ drop (i + 1) xs) (sym e)

@@ -1,9 +1,9 @@
 -- What is kept of a text, with one more character; that characters of one class are alike; and what it says at the end.
-use Rattle.std.proofs.Common.{◌≡◌, ◌⊎◌, inl, inr, ⊎_elim, ℕ, suc, zero, ◌+◌, ◌<◌, ◌≤◌, Bool, true, false, not, ◌&&◌, ◌||◌, ◌==◌, cond, List, [], ◌∷◌, ◌++◌, map, length, drop, get_or, refl, sym, ap, ◌∙◌, arith, add-one, append-nil, append_assoc, subst}
-use Rattle.std.specs.Prelude.{IsTrue, Option, Some, None, Result, Ok, Err, IfOk, unwrap_or, slice_index_or, if◌then◌else◌}
+use Rattle.std.proofs.Common.{◌≡◌, ◌⊎◌, inl, inr, ⊎_elim, ℕ, suc, zero, ◌+◌, ◌<◌, Bool, true, false, not, ◌&&◌, ◌||◌, ◌==◌, cond, List, [], ◌∷◌, ◌++◌, map, length, drop, get_or, refl, sym, ap, ◌∙◌, arith, append-nil, append_assoc}
+use Rattle.std.specs.Prelude.{Option, Some, None, Result, Ok, Err, IfOk, unwrap_or}
 use Rattle.std.specs.List.{list_any, list_all, flat_map, position_from}
 use Rattle.std.specs.Str.{all_scalars}
-use Rattle.std.proofs.lemmas.List.{drop_at, length-append, drop-drop, length_push}
+use Rattle.std.proofs.lemmas.List.{drop_at, length-append}
 use Rattle.std.proofs.lemmas.Bool.Decides.{nat_tests}
 use Rattle.hub_path.specs.Path.{Name, Path, is_name, is_place, is_path, is_forbidden, is_dots, text_of, last_name, prefixes}
 use Rattle.hub_glob.specs.declared.piece.Piece.{Piece}
@@ -13,13 +13,13 @@ use Rattle.hub_glob.specs.declared.piece.Part.TheVariants.{One, Brace}
 use Rattle.hub_glob.specs.declared.path_spec.Kind.{Kind}
 use Rattle.hub_glob.specs.declared.path_spec.Kind.TheVariants as kind
 use Rattle.hub_glob.specs.Specification.{Specification}
-use Rattle.hub_glob.specs.Glob.{pieces, no_more, glob, choices, matches, by_kind}
-use Rattle.hub_glob.proofs.Choices.{glob_choices, any-append, any-map, or-false, or-assoc, any-and}
+use Rattle.hub_glob.specs.Glob.{glob, choices, matches, by_kind}
+use Rattle.hub_glob.proofs.Choices.{glob_choices, any-append, any-map, or-false}
 use Rattle.hub_automaton.specs.Alphabet.{is_left_out, is_mentioned, class_of, mentions, piece_characters, pieces_characters, part_characters, spec_characters, class_count, first_unmentioned, sample, IsAlphabet}
 use Rattle.hub_automaton.specs.declared.alternatives.Alternatives.{Alternatives}
 use Rattle.hub_automaton.specs.declared.step.Next.{Next}
 use Rattle.hub_automaton.specs.Spots.{spots, since_slash, looked_at, folders, starts, fits, is_name_kind, is_below_kind, alternatives_of, spots_of, is_below, Seen, seen, spot_count, spots_count, is_covered}
-use Rattle.hub_automaton.specs.Stepping.{takes, is_star, head, tail, spot_past, stepped_pieces, stepped, ended, entered, stepped_choices, ended_choices, entered_choices, stepped_one, stepped_all, goes_below, below_one, below_all, matched_one, matched_all, pushed}
+use Rattle.hub_automaton.specs.Stepping.{takes, is_star, head, tail, stepped_pieces, stepped, ended, stepped_choices, ended_choices, entered_choices, stepped_all, below_all, matched_all, pushed}
 use Rattle.hub_automaton.proofs.Alphabets.{both, and, sample_class}
 use Rattle.hub_automaton.proofs.Steps.{next_of, choice_law, ended_law, empty_spots, length-spots, front_matches}
 

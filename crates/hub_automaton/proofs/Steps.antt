@@ -1,7 +1,6 @@
 -- How many pieces match a text with one more character, from how many match the text.
-use Rattle.std.proofs.Common.{◌≡◌, ℕ, suc, zero, ◌+◌, Bool, true, false, not, ◌&&◌, ◌||◌, ◌==◌, cond, List, [], ◌∷◌, ◌++◌, map, length, take, drop, refl, sym, ap, ◌∙◌, arith, add-one, append-nil, append_assoc}
-use Rattle.std.specs.Prelude.{slice_index, if◌then◌else◌}
-use Rattle.std.specs.List.{list_any, list_all, flat_map, range_with_len}
+use Rattle.std.proofs.Common.{◌≡◌, ℕ, suc, zero, ◌+◌, Bool, true, false, not, ◌&&◌, ◌||◌, ◌==◌, List, [], ◌∷◌, ◌++◌, map, length, take, refl, sym, ap, ◌∙◌, arith, add-one, append-nil, append_assoc}
+use Rattle.std.specs.List.{list_any, list_all, range_with_len}
 use Rattle.std.proofs.lemmas.Bool.Decides.{nat_tests}
 use Rattle.hub_glob.specs.declared.piece.Piece.{Piece}
 use Rattle.hub_glob.specs.declared.piece.Piece.TheVariants.{Lit, Any, Run, OneOf}
@@ -9,7 +8,7 @@ use Rattle.hub_glob.specs.Glob.{Texts, splits, begins, is_run, piece, pieces, no
 use Rattle.hub_glob.proofs.Choices.{or-false, any-map, any-false}
 use Rattle.hub_automaton.specs.declared.step.Next.{Next}
 use Rattle.hub_automaton.specs.Spots.{spots, starts}
-use Rattle.hub_automaton.specs.Stepping.{takes, is_star, head, tail, spot_past, stepped_pieces, last_spot, stepped, ended, entered_pieces, entered}
+use Rattle.hub_automaton.specs.Stepping.{is_star, spot_past, stepped_pieces, last_spot, stepped, ended, entered_pieces, entered}
 
 -- Equations of tests by trying all values.
 abbrev every : (Bool → Bool) → Bool

@@ -1,9 +1,11 @@
 -- Worked examples.
-use Rattle.std.specs.Prelude.{◌≡◌, ℕ, List, [], ◌∷◌, map, Some, None, codes, refl}
-use Rattle.hub_glob.specs.declared.piece.Piece.TheVariants.{Lit}
+use Rattle.std.specs.Prelude.{◌≡◌, ℕ, true, false, List, [], ◌∷◌, map, Some, None, codes, refl}
+use Rattle.hub_glob.specs.declared.piece.Piece.TheVariants.{Lit, Any, Run}
 use Rattle.hub_glob.specs.declared.piece.Part.TheVariants.{One}
 use Rattle.hub_glob.specs.declared.path_spec.Kind.TheVariants as kind
 use Rattle.hub_glob.specs.Specification.{Specification}
+use Rattle.hub_automaton.specs.Spots.{spots, seen, alternatives_of}
+use Rattle.hub_automaton.specs.Stepping.{pushed}
 use Rattle.hub_automaton.specs.Alphabet.{class_of, class_count, sample, plain, with_characters, spec_characters}
 
 -- `Name b`
@@ -27,3 +29,30 @@ left_out_characters_have_none = refl
 
 the_sample_of_others_is_not_mentioned : sample (with_characters plain (codes "cab")) 0 ≡ 100
 the_sample_of_others_is_not_mentioned = refl
+
+-- `?*` and `acy`: two pieces match, and one doesn't.
+a_star_goes_on_behind_itself : spots (Any ∷ Run ∷ []) (codes "acy") ≡ false ∷ false ∷ true ∷ []
+a_star_goes_on_behind_itself = refl
+
+a_star_may_take_nothing : spots (Lit 97 ∷ Run ∷ Run ∷ []) (codes "a") ≡ false ∷ true ∷ true ∷ true ∷ []
+a_star_may_take_nothing = refl
+
+a_star_takes_no_leading_dot : spots (Run ∷ Lit 47 ∷ Run ∷ []) (codes "a/.b") ≡ false ∷ false ∷ false ∷ false ∷ []
+a_star_takes_no_leading_dot = refl
+
+-- `Name b` behind `a/`: nothing of it is matched, by no pieces.
+behind_a_slash_a_name_begins : seen (alternatives_of name_b ∷ []) (codes "a/") ≡ record { live = true ∷ false ∷ []; below = false ∷ []; start = true }
+behind_a_slash_a_name_begins = refl
+
+-- `BelowPath b` on `b/c`.
+abbrev below_b : Specification
+below_b = record { kind = kind.BelowPath; pattern = One (Lit 98) ∷ [] }
+
+a_path_above_is_matched : seen (alternatives_of below_b ∷ []) (codes "b/c") ≡ record { live = false ∷ false ∷ []; below = true ∷ []; start = false }
+a_path_above_is_matched = refl
+
+no_path_above_is_matched_inside_a_name : seen (alternatives_of below_b ∷ []) (codes "bc") ≡ record { live = false ∷ false ∷ []; below = false ∷ []; start = false }
+no_path_above_is_matched_inside_a_name = refl
+
+one_character_more : pushed (alternatives_of below_b ∷ []) (seen (alternatives_of below_b ∷ []) (codes "b")) 47 ≡ seen (alternatives_of below_b ∷ []) (codes "b/")
+one_character_more = refl

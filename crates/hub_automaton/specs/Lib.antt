@@ -2,3 +2,4 @@ pub mod Alphabet
 pub mod Examples
 pub mod Spots
 pub mod Stepping
+pub mod Ties

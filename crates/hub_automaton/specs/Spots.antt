@@ -1,6 +1,6 @@
 -- What is seen of a text for some specifications: which numbers of pieces of their choices match it, and which of the
 -- specifications match a path above it.
-use Rattle.std.specs.Prelude.{◌≡◌, ◌≤◌, IsTrue, drop, ℕ, Bool, true, false, not, ◌&&◌, ◌==◌, ◌+◌, List, [], ◌∷◌, ◌++◌, map, length, take, if◌then◌else◌}
+use Rattle.std.specs.Prelude.{◌≡◌, ◌≤◌, IsTrue, drop, ℕ, Bool, true, false, ◌&&◌, ◌==◌, ◌+◌, List, [], ◌∷◌, ◌++◌, map, length, take, if◌then◌else◌}
 use Rattle.std.specs.List.{list_any, list_all, flat_map, range_with_len}
 use Rattle.hub_glob.specs.declared.piece.Piece.{Piece}
 use Rattle.hub_glob.specs.declared.path_spec.Kind.{Kind}

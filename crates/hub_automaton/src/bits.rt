@@ -72,3 +72,41 @@ impl Eq for Bits {
 
     ghost laws = { Prim.search (comparing, rules) };
 }
+
+impl PartialOrd for Bits {
+    ghost use Rattle.std.proofs.Common.{rules};
+    ghost use Rattle.std.specs.Cmp.Rules.{comparing};
+    ghost use Rattle.std.specs.Cmp.{partial_order_from_own_ties};
+    ghost use Rattle.std.specs.Ordering.{bool_cmp, as_partial_cmp};
+    ghost use Rattle.std.specs.Cmp.Lexicographic.{slice_cmp, lists_ties};
+    ghost use Rattle.hub_automaton.specs.Ties.{bits_ties};
+
+    ghost partial_cmp = { as_partial_cmp (slice_cmp bool_cmp) };
+
+    ghost laws = { partial_order_from_own_ties (Prim.search (comparing, rules)) (λ x y. lists_ties bool_cmp bits_ties x y) };
+
+    fn partial_cmp(&self, other: &Bits) -> Option<Ordering> {
+        Some(self.cmp(other))
+    }
+}
+
+/// Bits are in the order of a dictionary, a bit that isn't set first.
+impl Ord for Bits {
+    ghost use Rattle.std.proofs.Common.{rules};
+    ghost use Rattle.std.specs.Cmp.Rules.{comparing};
+    ghost use Rattle.std.specs.Ordering.{bool_cmp};
+    ghost use Rattle.std.specs.Cmp.Lexicographic.{slice_cmp, lists_ties};
+    ghost use Rattle.hub_automaton.specs.Ties.{bits_ties};
+
+    ghost cmp = { slice_cmp bool_cmp };
+
+    ghost total = { Prim.search (comparing, rules) };
+
+    ghost matches_partial_cmp = { Prim.search (comparing, rules) };
+
+    ghost matches_eq = { λ x y. lists_ties bool_cmp bits_ties x y };
+
+    fn cmp(&self, other: &Bits) -> Ordering {
+        self.bits.cmp(&other.bits)
+    }
+}

@@ -1,5 +1,9 @@
-//! What holds of alphabets: each law is the contract of a function that does nothing.
-ghost use Rattle.std.specs.Prelude.{◌≡◌, ◌<◌, ℕ, List, Some, IsTrue};
+//! What holds of alphabets and of what is kept of texts: each law is the contract of a function that does nothing.
+ghost use Rattle.std.specs.Prelude.{◌≡◌, ◌<◌, ◌++◌, ◌∷◌, [], ℕ, List, Some, IsTrue};
+ghost use Rattle.std.specs.List.{list_all};
+ghost use Rattle.hub_automaton.specs.Spots.{Seen, seen, is_covered};
+ghost use Rattle.hub_automaton.specs.Stepping.{pushed};
+ghost use Rattle.hub_automaton.specs.declared.alternatives.Alternatives.{Alternatives};
 ghost use Rattle.hub_automaton.specs.Alphabet.{IsAlphabet, class_of, class_count, sample, with_characters, mentions};
 
 /// The sample of a class is of that class.
@@ -11,4 +15,13 @@ pub fn samples_are_of_their_class()
 pub fn what_is_added_is_mentioned()
     ensures added { (ms cs : List ℕ) → IsTrue (mentions (with_characters ms cs) cs) }
     ensures kept { (ms cs ds : List ℕ) → IsTrue (mentions ms ds) → IsTrue (mentions (with_characters ms cs) ds) }
+{}
+
+/// What is kept of a text and a character is found from what is kept of the text; so texts of which the same is kept go on
+/// alike. Characters of one class lead to the same.
+pub fn what_is_kept_goes_on_alike()
+    ensures pushed { (ls : List Alternatives) (t : List ℕ) (x : ℕ) → pushed ls (seen ls t) x ≡ seen ls (t ++ x ∷ []) }
+    ensures same { (ls : List Alternatives) (t u : List ℕ) (x : ℕ) → seen ls t ≡ seen ls u → seen ls (t ++ x ∷ []) ≡ seen ls (u ++ x ∷ []) }
+    ensures classes { (ms : List ℕ) (ls : List Alternatives) (t : List ℕ) (x y k : ℕ) → IsAlphabet ms → IsTrue (list_all (is_covered ms) ls)
+        → class_of ms x ≡ Some k → class_of ms y ≡ Some k → seen ls (t ++ x ∷ []) ≡ seen ls (t ++ y ∷ []) }
 {}

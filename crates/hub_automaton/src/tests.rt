@@ -1,4 +1,8 @@
 //! Values worked out by hand from the rules.
+ghost use Rattle.std.specs.Prelude.{IfOk, IsTrue};
+ghost use Rattle.std.specs.List.{list_all};
+ghost use Rattle.hub_automaton.specs.Alphabet.{mentions, spec_characters};
+
 use crate::{Alphabet, AutomatonFault, Class, MENTIONED_CHARACTERS, SpecSet, Spots};
 use hub_glob::{GlobFault, PathSpec};
 use hub_path::{PathFault, RelPath};
@@ -83,6 +87,17 @@ fn as_many_characters_are_mentioned_as_allowed(rt: HostRuntime) -> Result<(), Fa
     Ok(())
 }
 
+/// An alphabet that mentions what these specifications mention.
+fn alphabet_for(alloc: Global, specs: &[PathSpec]) -> Result<Alphabet, Fail>
+    ensures { IfOk result (λ a. IsTrue (list_all (λ s. mentions a (spec_characters s)) specs.now)) }
+{
+    let mut alphabet = Alphabet::new(alloc)?;
+    for spec in specs {
+        alphabet.add_spec(spec)?;
+    }
+    Ok(alphabet)
+}
+
 /// The specifications of these texts.
 fn specs_of(alloc: Global, texts: &[&str]) -> Result<Vec<PathSpec>, Fail> {
     let mut specs = Vec::new(alloc);
@@ -92,18 +107,115 @@ fn specs_of(alloc: Global, texts: &[&str]) -> Result<Vec<PathSpec>, Fail> {
     Ok(specs)
 }
 
-/// Whether one of the specifications matches what has been read of a text, after each of its characters.
-fn matches_along(rt: &HostRuntime, texts: &[&str], text: &str) -> Result<Vec<bool>, Fail> {
-    let alphabet = alphabet_of(rt.alloc(), texts)?;
-    let specs = specs_of(rt.alloc(), texts)?;
-    let set = SpecSet::build(rt.alloc(), &alphabet, specs.as_slice())?;
+/// What is kept of a text for some specifications, and whether one of them matches what has been read of it after each
+/// of its characters, as `0` and `1`.
+fn walked(alloc: Global, texts: &[&str], text: &str) -> Result<(Spots, String), Fail> {
+    let specs = specs_of(alloc, texts)?;
+    let alphabet = alphabet_for(alloc, specs.as_slice())?;
+    let set = SpecSet::build(alloc, &alphabet, specs.as_slice())?;
     let mut spots = set.start()?;
-    let mut along = Vec::new(rt.alloc());
+    let mut along = String::new(alloc);
     for character in text.chars() {
         if let Some(class) = alphabet.class_of(character) {
-            spots = set.advance(&spots, class)?;
-            along.push(set.matched(&spots))?;
+            if class.number() < alphabet.count() {
+                spots = set.advance(&spots, class)?;
+                along.push(if set.matched(&spots) { '1' } else { '0' })?;
+            }
         }
     }
-    Ok(along)
+    Ok((spots, along))
+}
+
+/// Specifications, a text, and whether one of them matches after each of its characters.
+const WALKS: [(&[&str], &str, &str); 24] = [
+    (&["Name *.{tmp, bak}"], "x.tmp", "00001"),
+    (&["Name *.{tmp, bak}"], "d/x.tmp", "0000001"),
+    (&["Name *.{tmp, bak}"], ".tmp", "0001"),
+    (&["Name *.{tmp, bak}"], "x. bak", "000001"),
+    (&["Name *.{tmp, bak}"], "x.bak", "00000"),
+    (&["Name *.{tmp, bak}"], ".x.tmp", "000000"),
+    (&["Name ?*"], "acy/.b", "111011"),
+    (&["Name *"], "a/.b", "1100"),
+    (&["Name **"], ".b", "00"),
+    (&["Name {,a}*"], ".a", "00"),
+    (&["Name *?x"], ".x", "01"),
+    (&["Name *z?"], "qz!", "001"),
+    (&["Name [a-c]é"], "bé/é", "0100"),
+    (&["Name a*b"], "aab/ab", "001001"),
+    (&["Path a/*"], "a/b/c", "01100"),
+    (&["Path a/*"], "a/.b", "0100"),
+    (&["Path a{/b,}c"], "a/bc", "0001"),
+    (&["Path */*.c"], "s/m.c", "00001"),
+    (&["BelowPath a/b"], "a/b/c", "00111"),
+    (&["BelowPath a/b"], "a/bc", "0010"),
+    (&["BelowPath *"], ".a/b", "0000"),
+    (&["BelowPath a", "Name c"], "b/c", "001"),
+    (&["Name a", "Path b/c"], "b/c", "001"),
+    (&[], "a/b", "000"),
+];
+
+#[test]
+fn specifications_match_along_a_text(rt: HostRuntime) -> Result<(), Fail> {
+    for (specs, text, want) in WALKS {
+        let (_, along) = walked(rt.alloc(), specs, text)?;
+        assert_eq!(rt; along.as_str(), want, "{text}");
+    }
+    Ok(())
+}
+
+/// Specifications, two texts, and whether the same is kept of both.
+const PAIRS: [(&[&str], &str, &str, bool); 10] = [
+    (&["Name ?*"], "acy", "zz", true),
+    (&["Name ?*"], "acy", "a", false),
+    (&["Name ?*"], "acy", "b/acy", true),
+    (&["Name ?*"], "", "b/", true),
+    (&["Path ?*"], "", "b/", false),
+    (&["Path b*"], "c", "cc", true),
+    (&["Path b*"], "c", "c/", false),
+    (&["BelowPath b"], "b/c", "c/c", false),
+    (&["BelowPath b"], "b/c", "b/c/d", true),
+    (&["Name **"], "a", ".", false),
+];
+
+#[test]
+fn the_same_is_kept_of_texts_that_go_on_alike(rt: HostRuntime) -> Result<(), Fail> {
+    for (specs, first, second, want) in PAIRS {
+        let (one, _) = walked(rt.alloc(), specs, first)?;
+        let (other, _) = walked(rt.alloc(), specs, second)?;
+        assert_eq!(rt; one == other, want, "{first} {second}");
+        assert_eq!(rt; one < other || other < one, !want, "{first} {second}");
+    }
+    Ok(())
+}
+
+/// As many `Name` patterns of 200 letters, and one of that many letters more.
+fn long_names(alloc: Global, count: usize, last: u32) -> Result<Vec<PathSpec>, Fail> {
+    let mut specs = Vec::new(alloc);
+    for _ in 0..count {
+        specs.push(same_letters(alloc, 200)?)?;
+    }
+    specs.push(same_letters(alloc, last)?)?;
+    Ok(specs)
+}
+
+/// `Name` and as many letters `a`.
+fn same_letters(alloc: Global, count: u32) -> Result<PathSpec, Fail> {
+    let mut text = String::from_str(alloc, "Name ")?;
+    for _ in 0..count {
+        text.push('a')?;
+    }
+    Ok(PathSpec::read(alloc, text.as_str())?)
+}
+
+#[test]
+fn as_many_spots_are_kept_as_allowed(rt: HostRuntime) -> Result<(), Fail> {
+    let fits = long_names(rt.alloc(), 20, 75)?;
+    let alphabet = alphabet_for(rt.alloc(), fits.as_slice())?;
+    let set = SpecSet::build(rt.alloc(), &alphabet, fits.as_slice())?;
+    assert_eq!(rt; set.matched(&set.start()?), false);
+    let many = long_names(rt.alloc(), 20, 76)?;
+    let alphabet = alphabet_for(rt.alloc(), many.as_slice())?;
+    let refused = SpecSet::build(rt.alloc(), &alphabet, many.as_slice());
+    assert_eq!(rt; refused.err(), Some(AutomatonFault::TooManySpots));
+    Ok(())
 }

@@ -1,7 +1,6 @@
-use Rattle.std.proofs.Common.{◌≡◌, ◌+◌, ◌<◌, ◌≤◌, ◌∙◌, ℕ, inl, drop, length, Option, None, Some, arith}
+use Rattle.std.proofs.Common.{◌≡◌, ◌<◌, ◌∙◌, ℕ, inl, Option, None, Some, arith}
 use Rattle.std.specs.Prelude.{IsSome, unwrap_or, SomeIff}
 use Rattle.std.specs.Char.{IsScalar}
-use Rattle.hub_automaton.specs.Alphabet.{first_unmentioned}
 use Rattle.hub_automaton.proofs.Alphabets.{free_from, free_end, first_is_free}
 use Rattle.hub_automaton.proofs.alphabet.first_unmentioned.Goals as goal
 

@@ -1,8 +1,6 @@
-use Rattle.std.proofs.Common.{◌≡◌, ◌+◌, ◌++◌, [], ◌∷◌, ap, sym, ◌∙◌, length, drop, get_or, chars, arith}
-use Rattle.std.specs.List.{flat_map}
+use Rattle.std.proofs.Common.{◌+◌, [], ◌∷◌, drop, arith}
 use Rattle.std.proofs.lemmas.Result.{err_from_is_err_and}
-use Rattle.hub_automaton.specs.Alphabet as alphabet
-use Rattle.hub_automaton.proofs.Alphabets.{rest_drop, mention_step, mention_refused}
+use Rattle.hub_automaton.proofs.Alphabets.{rest_drop, mention_refused}
 use Rattle.hub_automaton.proofs.mentions.mention_set.Goals as goal
 
 pub returns-in_err-mention-clause-err : goal.returns-in_err-mention-clause-err

@@ -1,5 +1,4 @@
 use Rattle.std.proofs.Common.{◌≡◌, drop}
-use Rattle.std.specs.List.{flat_map}
 use Rattle.hub_automaton.specs.Alphabet as alphabet
 use Rattle.hub_automaton.proofs.mentions.mention_set.Given as goal
 

@@ -1,8 +1,4 @@
-use Rattle.std.proofs.Common.{◌≡◌, ◌≤◌, ◌<◌, ◌+◌, ◌++◌, ◌||◌, [], ◌∷◌, true, false, length, drop, map}
-use Rattle.std.specs.List.{flat_map}
-use Rattle.hub_automaton.specs.declared.alternatives.TheConstants.{SPOTS}
-use Rattle.hub_automaton.specs.declared.step.Next.{Next}
-use Rattle.hub_automaton.specs.Spots.{spot_count, spots_count, alternatives_of}
+use Rattle.std.proofs.Common.{◌≡◌, ◌++◌, length, drop}
 use Rattle.hub_automaton.specs.Stepping as stepping
 use Rattle.hub_automaton.proofs.step.step_choice.Given as goal
 

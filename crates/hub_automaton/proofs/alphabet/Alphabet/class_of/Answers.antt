@@ -1,4 +1,4 @@
-use Rattle.std.proofs.Common.{◌≡◌, ◌+◌, ◌∙◌, sym, ap}
+use Rattle.std.proofs.Common.{◌≡◌, ◌∙◌, sym, ap}
 use Rattle.std.specs.Prelude.{Some}
 use Rattle.hub_automaton.specs.Alphabet.{class_of}
 use Rattle.hub_automaton.proofs.Alphabets.{found, missing, class_at, class_other}

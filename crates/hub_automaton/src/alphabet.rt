@@ -102,7 +102,7 @@ impl Alphabet {
     }
 
     /// A character of each class, in the order of their numbers.
-    pub(crate) fn samples(&self, alloc: Global) -> Result<Vec<char>, AllocError>
+    pub fn samples(&self, alloc: Global) -> Result<Vec<char>, AllocError>
         ensures items { IfOk result (λ v. v.items ≡ alphabet.first_unmentioned self.now ∷ self.now) }
         ensures alphabet { OnOk result (alphabet.IsAlphabet self.now) }
     {

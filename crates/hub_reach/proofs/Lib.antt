@@ -1,3 +1,6 @@
 pub mod Prefixes
 pub mod Walks
 pub mod Shapes
+pub mod Stages
+pub mod Advances
+pub mod Samples

@@ -1,5 +1,5 @@
 //! What the end of a text says of the path that the text may become.
-ghost use Rattle.std.specs.Prelude.{◌≡◌, ◌++◌, ◌∷◌, [], ℕ, List, IsTrue};
+ghost use Rattle.std.specs.Prelude.{◌≡◌, ◌↔◌, ◌++◌, ◌∷◌, [], ℕ, List, IsTrue};
 ghost use Rattle.hub_path.specs.Path.{path_of, is_path};
 ghost use Rattle.hub_reach.specs.Shape as shape;
 
@@ -19,6 +19,20 @@ pub enum Shape {
 }
 
 impl Shape {
+    /// Whether the text is that of a path.
+    pub(crate) fn is_named(self) -> bool
+        ensures { result ≡ shape.is_named self }
+    {
+        matches!(self, Shape::Named)
+    }
+
+    /// Whether no path's text begins so.
+    pub(crate) fn is_broken(self) -> bool
+        ensures { IsTrue result ↔ (self ≡ Shape.Broken) }
+    {
+        matches!(self, Shape::Broken)
+    }
+
     /// The shape of the text with one more character, which may stand in a path's text.
     pub(crate) fn push(self, character: char) -> Shape
         requires { IsTrue (shape.is_text_character character) }
@@ -28,7 +42,7 @@ impl Shape {
     }
 
     /// The same, where the character is a `/`, a `.` or another one.
-    fn pushed(self, slash: bool, dot: bool) -> Shape
+    pub(crate) fn pushed(self, slash: bool, dot: bool) -> Shape
         ensures { result ≡ shape.pushed_by self slash dot }
     {
         match self {

@@ -65,6 +65,14 @@ is_below a t = is_below_kind a.kind && list_any (fits a.choices) (folders t)
 abbrev pub is_matched : Alternatives → List ℕ → Bool
 is_matched a t = is_below a t || fits a.choices (looked_at a.kind t)
 
+-- What is seen of a text for one specification: for each of its choices the spots, and whether a path above is matched.
+pub record Progress : Type 0 where
+  pub sets : List (List Bool)
+  pub below : Bool
+
+abbrev pub progress : List ℕ → Alternatives → Progress
+progress t a = record { sets = map (λ c. spots c (looked_at a.kind t)) a.choices; below = is_below a t }
+
 -- What is seen of a text: the spots of all choices, one specification after another, whether a path above is matched,
 -- for each of them, and whether the text ends where a component starts.
 pub record Seen : Type 0 where

@@ -4,3 +4,4 @@ pub mod Shapes
 pub mod Stages
 pub mod Advances
 pub mod Samples
+pub mod Grows

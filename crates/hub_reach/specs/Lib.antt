@@ -7,3 +7,4 @@ pub mod Passed
 pub mod Stage
 pub mod Examples
 pub mod Ties
+pub mod Mention

@@ -223,6 +223,9 @@ told : (ms : List ℕ) (x y c : ℕ) → Alike ms x y → (is_left_out c || is_m
 told ms x y c a h =
     ⊎_elim (λ s. ap (λ n. n == c) s) (λ n. not_it ms x c h a.first_allowed n.0 ∙ sym (not_it ms y c h a.second_allowed n.1)) a.same
 
+pub told_by_class : (ms : List ℕ) (x y k c : ℕ) → class_of ms x ≡ Some k → class_of ms y ≡ Some k → (is_left_out c || is_mentioned ms c) ≡ true → (x == c) ≡ (y == c)
+told_by_class ms x y k c h l m = told ms x y c (alike ms x y k h l) m
+
 flip : (x c : ℕ) → (c == x) ≡ (x == c)
 flip x c = grind (arith, nat_tests)
 

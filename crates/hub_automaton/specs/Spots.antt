@@ -1,6 +1,6 @@
 -- What is seen of a text for some specifications: which numbers of pieces of their choices match it, and which of the
 -- specifications match a path above it.
-use Rattle.std.specs.Prelude.{◌≡◌, ◌≤◌, IsTrue, drop, ℕ, Bool, true, false, ◌&&◌, ◌==◌, ◌+◌, List, [], ◌∷◌, ◌++◌, map, length, take, if◌then◌else◌}
+use Rattle.std.specs.Prelude.{◌||◌, ◌≡◌, ◌≤◌, IsTrue, drop, ℕ, Bool, true, false, ◌&&◌, ◌==◌, ◌+◌, List, [], ◌∷◌, ◌++◌, map, length, take, if◌then◌else◌}
 use Rattle.std.specs.List.{list_any, list_all, flat_map, range_with_len}
 use Rattle.hub_glob.specs.declared.piece.Piece.{Piece}
 use Rattle.hub_glob.specs.declared.path_spec.Kind.{Kind}
@@ -61,6 +61,18 @@ spots_of a t = flat_map (λ c. spots c (looked_at a.kind t)) a.choices
 abbrev pub is_below : Alternatives → List ℕ → Bool
 is_below a t = is_below_kind a.kind && list_any (fits a.choices) (folders t)
 
+-- One of its choices matches the text, or a path above it.
+abbrev pub is_matched : Alternatives → List ℕ → Bool
+is_matched a t = is_below a t || fits a.choices (looked_at a.kind t)
+
+-- What is seen of a text for one specification: for each of its choices the spots, and whether a path above is matched.
+pub record Progress : Type 0 where
+  pub sets : List (List Bool)
+  pub below : Bool
+
+abbrev pub progress : List ℕ → Alternatives → Progress
+progress t a = record { sets = map (λ c. spots c (looked_at a.kind t)) a.choices; below = is_below a t }
+
 -- What is seen of a text: the spots of all choices, one specification after another, whether a path above is matched,
 -- for each of them, and whether the text ends where a component starts.
 pub record Seen : Type 0 where
@@ -90,8 +102,9 @@ pub record Tracked : Type 0 where
   pub alternatives : List Alternatives
 
 -- There is a sample of each class, no character matters that isn't mentioned, and there are few spots.
-pub record IsTracked (characters : List ℕ) (ls : List Alternatives) : Type 0 where
+pub record IsTracked (characters : List ℕ) (ls : List Alternatives) (count : ℕ) : Type 0 where
   pub samples : characters ≡ first_unmentioned (drop 1 characters) ∷ drop 1 characters
   pub alphabet : IsAlphabet (drop 1 characters)
   pub covered : IsTrue (list_all (is_covered (drop 1 characters)) ls)
-  pub few : spots_count ls ≤ SPOTS
+  pub counted : count ≡ spots_count ls
+  pub few : count ≤ SPOTS

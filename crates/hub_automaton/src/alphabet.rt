@@ -1,4 +1,4 @@
-ghost use Rattle.std.specs.Prelude.{◌≡◌, ◌+◌, ◌<◌, [], ◌∷◌, length, map, IfOk, IfErr, OnOk, OnErr};
+ghost use Rattle.std.specs.Prelude.{◌≡◌, ◌+◌, ◌<◌, ◌≤◌, [], ◌∷◌, length, map, IfOk, IfErr, OnOk, OnErr};
 ghost use Rattle.hub_automaton.specs.Alphabet as alphabet;
 
 use crate::class::Class;
@@ -49,6 +49,7 @@ impl Alphabet {
     /// After either the alphabet is as it was.
     pub fn add_path(&mut self, path: &RelPath) -> Result<(), AutomatonFault>
         ensures ok { OnOk result (self.new ≡ alphabet.with_characters self.old (alphabet.path_characters path.now)) }
+        ensures few { OnOk result (length self.new ≤ MENTIONED_CHARACTERS) }
         ensures err { IfErr result (alphabet.Refuses self.old (alphabet.path_characters path.now)) }
         ensures kept { OnErr result (self.new ≡ self.old) }
     {
@@ -68,6 +69,7 @@ impl Alphabet {
     /// After either the alphabet is as it was.
     pub fn add_spec(&mut self, spec: &PathSpec) -> Result<(), AutomatonFault>
         ensures ok { OnOk result (self.new ≡ alphabet.with_characters self.old (alphabet.spec_characters spec.now)) }
+        ensures few { OnOk result (length self.new ≤ MENTIONED_CHARACTERS) }
         ensures err { IfErr result (alphabet.Refuses self.old (alphabet.spec_characters spec.now)) }
         ensures kept { OnErr result (self.new ≡ self.old) }
     {
@@ -82,7 +84,8 @@ impl Alphabet {
 
     /// How many classes there are: their numbers are those below it. It takes no memory.
     pub fn count(&self) -> usize
-        ensures { result ≡ alphabet.class_count self.now }
+        ensures count { result ≡ alphabet.class_count self.now }
+        ensures valid { alphabet.IsAlphabet self.now }
     {
         self.mentioned.len() + 1
     }
@@ -102,7 +105,7 @@ impl Alphabet {
     }
 
     /// A character of each class, in the order of their numbers.
-    pub(crate) fn samples(&self, alloc: Global) -> Result<Vec<char>, AllocError>
+    pub fn samples(&self, alloc: Global) -> Result<Vec<char>, AllocError>
         ensures items { IfOk result (λ v. v.items ≡ alphabet.first_unmentioned self.now ∷ self.now) }
         ensures alphabet { OnOk result (alphabet.IsAlphabet self.now) }
     {

@@ -1,14 +1,19 @@
 //! What holds of alphabets and of what is kept of texts: each law is the contract of a function that does nothing.
-ghost use Rattle.std.specs.Prelude.{◌≡◌, ◌<◌, ◌++◌, ◌∷◌, [], ℕ, List, Some, IsTrue};
+ghost use Rattle.std.specs.Prelude.{◌≡◌, ◌↔◌, ◌<◌, ◌++◌, ◌∷◌, ◌==◌, ◌||◌, [], map, ℕ, List, Some, IsTrue, true};
 ghost use Rattle.std.specs.List.{list_all};
-ghost use Rattle.hub_automaton.specs.Spots.{Seen, seen, is_covered};
+ghost use Rattle.hub_automaton.specs.Spots.{seen, is_covered, progress, starts};
 ghost use Rattle.hub_automaton.specs.Stepping.{pushed};
 ghost use Rattle.hub_automaton.specs.declared.alternatives.Alternatives.{Alternatives};
-ghost use Rattle.hub_automaton.specs.Alphabet.{IsAlphabet, class_of, class_count, sample, with_characters, mentions};
+ghost use Rattle.hub_automaton.specs.Alphabet.{IsAlphabet, class_of, class_count, sample, with_characters, mentions, is_left_out, is_mentioned};
 
 /// The sample of a class is of that class.
 pub fn samples_are_of_their_class()
     ensures { (ms : List ℕ) (k : ℕ) → IsAlphabet ms → k < class_count ms → class_of ms (sample ms k) ≡ Some k }
+{}
+
+/// Two characters of one class are equal, or neither is mentioned; so nothing that is mentioned tells them apart.
+pub fn classes_are_alike()
+    ensures { (ms : List ℕ) (x y k c : ℕ) → class_of ms x ≡ Some k → class_of ms y ≡ Some k → (is_left_out c || is_mentioned ms c) ≡ true → (x == c) ≡ (y == c) }
 {}
 
 /// What is added is mentioned, and what was mentioned stays so.
@@ -24,4 +29,10 @@ pub fn what_is_kept_goes_on_alike()
     ensures same { (ls : List Alternatives) (t u : List ℕ) (x : ℕ) → seen ls t ≡ seen ls u → seen ls (t ++ x ∷ []) ≡ seen ls (u ++ x ∷ []) }
     ensures classes { (ms : List ℕ) (ls : List Alternatives) (t : List ℕ) (x y k : ℕ) → IsAlphabet ms → IsTrue (list_all (is_covered ms) ls)
         → class_of ms x ≡ Some k → class_of ms y ≡ Some k → seen ls (t ++ x ∷ []) ≡ seen ls (t ++ y ∷ []) }
+{}
+
+/// The same is kept of two texts exactly where, for each specification, the same numbers of pieces of each choice match
+/// both, and both or neither have a path above that matches; and where both or neither end where a component starts.
+pub fn the_same_is_kept_of_each_specification()
+    ensures { (ls : List Alternatives) (t u : List ℕ) → (seen ls t ≡ seen ls u) ↔ ((map (progress t) ls ≡ map (progress u) ls) × (starts true t ≡ starts true u)) }
 {}

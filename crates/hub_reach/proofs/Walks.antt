@@ -9,13 +9,13 @@ use Rattle.hub_path.specs.Laws.{is_over-reflexive, is_over-transitive, is_over-c
 use Rattle.hub_path.specs.TextLaws.{prefixes-parent, prefixes-over}
 use Rattle.hub_profile.specs.Parts.{Parts, IsProfile}
 use Rattle.hub_reach.specs.Reach.{reach, is_open, is_ignored}
-use Rattle.hub_reach.specs.Walk.{above, is_cut, is_walked}
+use Rattle.hub_reach.specs.Walk.{above, is_inside, is_cut, is_walked}
 
-both : (a b : Bool) → (a && b) ≡ true → (a ≡ true) × (b ≡ true)
+pub both : (a b : Bool) → (a && b) ≡ true → (a ≡ true) × (b ≡ true)
 both true b h = (refl, h)
 both false b h = cc
 
-nonzero : (n : ℕ) → (suc n == 0) ≡ false
+pub nonzero : (n : ℕ) → (suc n == 0) ≡ false
 nonzero n = grind (arith, nat_tests)
 
 and-false : (a : Bool) → (a && false) ≡ false
@@ -26,7 +26,7 @@ and-true : (a : Bool) → (a && true) ≡ a
 and-true true = refl
 and-true false = refl
 
-or-false : (a : Bool) → (a || false) ≡ a
+pub or-false : (a : Bool) → (a || false) ≡ a
 or-false true = refl
 or-false false = refl
 
@@ -43,7 +43,7 @@ module _ {X : Type 0} where
   any-and true f xs = refl
   any-and false f xs = any-none xs
 
-  any-or : (f g : X → Bool) (xs : List X) → list_any (λ x. f x || g x) xs ≡ (list_any f xs || list_any g xs)
+  pub any-or : (f g : X → Bool) (xs : List X) → list_any (λ x. f x || g x) xs ≡ (list_any f xs || list_any g xs)
   any-or f g [] = refl
   any-or f g (x ∷ xs) = ap (λ b. (f x || g x) || b) (any-or f g xs) ∙ mixed (f x) (g x) (list_any f xs) (list_any g xs)
     where
@@ -53,7 +53,7 @@ module _ {X : Type 0} where
       mixed false true false d = refl
       mixed false false c d = refl
 
-  any-alike : (f g : X → Bool) (xs : List X) → ((x : X) → f x ≡ g x) → list_any f xs ≡ list_any g xs
+  pub any-alike : (f g : X → Bool) (xs : List X) → ((x : X) → f x ≡ g x) → list_any f xs ≡ list_any g xs
   any-alike f g [] same = refl
   any-alike f g (x ∷ xs) same = rw (same x) (ap (λ b. g x || b) (any-alike f g xs same))
 
@@ -107,6 +107,11 @@ module _ (P : Parts) (n : Name) (rest : Path) where
       ∙ (ap (λ qs. length s == 0 || list_any (path_eq s) qs) (prefixes-parent n rest)
       ∙ (ap (λ b. length s == 0 || b) (list_any-append (path_eq s) (above p) (p ∷ []) ∙ ap (λ b. list_any (path_eq s) (above p) || b) (or-false (path_eq s p)))
       ∙ sym (or-assoc (length s == 0) (list_any (path_eq s) (above p)) (path_eq s p))))
+
+  pub kept-over : list_any (λ s. is_over s p) P.paths ≡ (is_inside P p || list_any (λ s. path_eq s p) P.paths)
+  kept-over =
+      any-alike (λ s. is_over s p) (λ s. (length s == 0 || list_any (path_eq s) (above p)) || path_eq s p) P.paths over-parts
+      ∙ any-or (λ s. length s == 0 || list_any (path_eq s) (above p)) (λ s. path_eq s p) P.paths
 
   -- What stands above a path is over it.
   above-over : list_all (λ q. is_over q p) (above p) ≡ true
@@ -197,10 +202,12 @@ module _ (P : Parts) (n : Name) (rest : Path) where
   walk facts path =
       let apart : none_over P.paths ≡ true = (both (not (length P.paths == 0) && list_all is_place P.paths) (none_over P.paths) facts.paths).1 in
       (λ i. path i && walked P.paths apart i)
-      ∙ ap (λ b. not (is_cut P p) && (not (is_ignored P p) && b))
-      (any-alike (λ s. is_over s p) (λ s. (length s == 0 || list_any (path_eq s) (above p)) || path_eq s p) P.paths over-parts
-      ∙ any-or (λ s. length s == 0 || list_any (path_eq s) (above p)) (λ s. path_eq s p) P.paths)
+      ∙ ap (λ b. not (is_cut P p) && (not (is_ignored P p) && b)) kept-over
 
 pub walks : (P : Parts) (p : Path) → IsProfile P → IsTrue (is_path p) → reach P p ≡ is_walked P p
 walks P [] facts path = cc
 walks P (n ∷ rest) facts path = walk P n rest facts path
+
+pub kept-over-path : (P : Parts) (p : Path) → IsTrue (is_path p) → list_any (λ s. is_over s p) P.paths ≡ (is_inside P p || list_any (λ s. path_eq s p) P.paths)
+kept-over-path P [] path = cc
+kept-over-path P (n ∷ rest) path = kept-over P n rest

@@ -1,5 +1,10 @@
 pub mod Reach
 pub mod Laws
 pub mod Safe
-pub mod Examples
 pub mod Walk
+pub mod Shape
+pub mod Passed
+pub mod Stage
+pub mod Examples
+pub mod Ties
+pub mod Mention

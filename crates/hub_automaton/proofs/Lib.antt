@@ -1,6 +1,11 @@
 pub mod Alphabets
+pub mod Kept
 pub mod Loops
+pub mod Masked
 pub mod Mentioned
 pub mod Progresses
 pub mod Spotted
 pub mod Steps
+pub mod WordBits
+pub mod WordLoops
+pub mod WordMoves

@@ -8,7 +8,8 @@ use Rattle.hub_glob.proofs.Choices.{or-assoc, or-false}
 use Rattle.hub_automaton.specs.declared.alternatives.Alternatives.{Alternatives}
 use Rattle.hub_automaton.specs.declared.step.Next.{Next}
 use Rattle.hub_automaton.specs.Spots.{is_name_kind, spot_count, spots_count}
-use Rattle.hub_automaton.specs.Stepping.{is_star, head, tail, spot_past, stepped_pieces, last_spot, stepped, ended, entered_pieces, entered, stepped_choices, ended_choices, entered_choices, stepped_one, stepped_all, goes_below, below_all, matched_all}
+use Rattle.hub_automaton.specs.Words.{head, tail}
+use Rattle.hub_automaton.specs.Stepping.{is_star, spot_past, stepped_pieces, last_spot, stepped, ended, entered_pieces, entered, stepped_choices, ended_choices, entered_choices, stepped_one, stepped_all, goes_below, below_all, matched_all}
 
 pub next_drop : {X : Type 0} (xs : List X) (i : ℕ) (x : X) → i < length xs → x ≡ get_or xs i x → drop i xs ≡ x ∷ drop (i + 1) xs
 next_drop xs i x l e = drop_more xs i x l ∙ ap (λ y. y ∷ drop (i + 1) xs) (sym e)

@@ -18,8 +18,9 @@ use Rattle.hub_glob.proofs.Choices.{glob_choices, any-append, any-map, or-false}
 use Rattle.hub_automaton.specs.Alphabet.{is_left_out, is_mentioned, class_of, mentions, piece_characters, pieces_characters, part_characters, spec_characters, class_count, first_unmentioned, sample, IsAlphabet}
 use Rattle.hub_automaton.specs.declared.alternatives.Alternatives.{Alternatives}
 use Rattle.hub_automaton.specs.declared.step.Next.{Next}
-use Rattle.hub_automaton.specs.Spots.{spots, since_slash, looked_at, folders, starts, fits, is_name_kind, is_below_kind, alternatives_of, spots_of, is_below, Seen, seen, spot_count, spots_count, is_covered}
-use Rattle.hub_automaton.specs.Stepping.{takes, is_star, head, tail, stepped_pieces, stepped, ended, stepped_choices, ended_choices, entered_choices, stepped_all, below_all, matched_all, pushed}
+use Rattle.hub_automaton.specs.Spots.{spots, since_slash, looked_at, folders, starts, fits, is_name_kind, is_below_kind, alternatives_of, spots_of, is_below, Unpacked, unpacked, spot_count, spots_count, is_covered}
+use Rattle.hub_automaton.specs.Words.{head, tail}
+use Rattle.hub_automaton.specs.Stepping.{takes, is_star, stepped_pieces, stepped, ended, stepped_choices, ended_choices, entered_choices, stepped_all, below_all, matched_all, pushed}
 use Rattle.hub_automaton.proofs.Alphabets.{both, and, sample_class}
 use Rattle.hub_automaton.proofs.Steps.{next_of, choice_law, ended_law, empty_spots, length-spots, front_matches}
 
@@ -64,7 +65,7 @@ folders-push (c ∷ t) x = by_test (c == 47) (folders-push t x) (map-push (folde
   by_test false h k = ap (map (λ u. c ∷ u)) h ∙ k
 
 -- The choices of a specification, with one more character.
-length-spots_all : (cs : List (List Piece)) (t : List ℕ) → length (flat_map (λ c. spots c t) cs) ≡ spot_count cs
+pub length-spots_all : (cs : List (List Piece)) (t : List ℕ) → length (flat_map (λ c. spots c t) cs) ≡ spot_count cs
 length-spots_all [] t = refl
 length-spots_all (c ∷ cs) t = length-append (spots c t) (flat_map (λ d. spots d t) cs) ∙ (λ i. length-spots c t i + length-spots_all cs t i)
 
@@ -139,11 +140,11 @@ flags_law (a ∷ ls) t x =
     ∷ below_all (next_of t x) ls (map (λ b. is_below b t) ls) (drop_at (spots_of a t) more (spot_count a.choices) (length-spots_all a.choices (looked_at a.kind t)) i))
     ∙ ap (λ old. is_below a (t ++ x ∷ []) ∷ old) (flags_law ls t x)
 
-pub push_law : (ls : List Alternatives) (t : List ℕ) (x : ℕ) → pushed ls (seen ls t) x ≡ seen ls (t ++ x ∷ [])
-push_law ls t x = λ i. let s : Seen = record { live = live_law ls t x i; below = flags_law ls t x i; start = sym (starts-push true t x) i } in s
+pub push_law : (ls : List Alternatives) (t : List ℕ) (x : ℕ) → pushed ls (unpacked ls t) x ≡ unpacked ls (t ++ x ∷ [])
+push_law ls t x = λ i. let s : Unpacked = record { live = live_law ls t x i; below = flags_law ls t x i; start = sym (starts-push true t x) i } in s
 
-pub start_law : (ls : List Alternatives) → (let s : Seen = record { live = flat_map (λ a. entered_choices a.choices) ls; below = map (λ a. false) ls; start = true } in s) ≡ seen ls []
-start_law ls = λ i. let s : Seen = record { live = live ls i; below = none ls i; start = true } in s where
+pub start_law : (ls : List Alternatives) → (let s : Unpacked = record { live = flat_map (λ a. entered_choices a.choices) ls; below = map (λ a. false) ls; start = true } in s) ≡ unpacked ls []
+start_law ls = λ i. let s : Unpacked = record { live = live ls i; below = none ls i; start = true } in s where
   live : (ks : List Alternatives) → flat_map (λ a. entered_choices a.choices) ks ≡ flat_map (λ a. spots_of a []) ks
   live [] = refl
   live (a ∷ ks) = λ i. (entered_law a.choices ∙ by_kind a.kind) i ++ live ks i where
@@ -293,11 +294,11 @@ flags_alike ms x y f (b ∷ ls) flags old l a =
     ∷ flags_alike ms x y f ls (tail flags) (drop (spot_count b.choices) old) l a i
 
 -- Characters of one class lead to the same.
-pub pushed_alike : (ms : List ℕ) (x y k : ℕ) (ls : List Alternatives) (s : Seen) → IsAlphabet ms → list_all (is_covered ms) ls ≡ true
+pub pushed_alike : (ms : List ℕ) (x y k : ℕ) (ls : List Alternatives) (s : Unpacked) → IsAlphabet ms → list_all (is_covered ms) ls ≡ true
     → class_of ms x ≡ Some k → class_of ms y ≡ Some k → pushed ls s x ≡ pushed ls s y
 pushed_alike ms x y k ls s l c h g =
     let a = alike ms x y k h g in
-    λ i. let r : Seen = record { live = all_alike ms x y s.start ls s.live l a c i; below = flags_alike ms x y s.start ls s.below s.live l a i; start = slash_alike ms x y l a i } in r
+    λ i. let r : Unpacked = record { live = all_alike ms x y s.start ls s.live l a c i; below = flags_alike ms x y s.start ls s.below s.live l a i; start = slash_alike ms x y l a i } in r
 
 -- What is kept of a text says which specifications match it.
 pub matched_law : (ls : List Alternatives) (t : List ℕ)
@@ -422,10 +423,10 @@ spec_law s (n ∷ p) h =
     let some_names : (suc (length p) == 0) ≡ false = grind (arith, nat_tests) in
     kind_law s.kind s.pattern n p (both (not (length (n ∷ p) == 0)) (is_place (n ∷ p)) h).1 ∙ (λ i. not (sym some_names i) && by_kind s.kind s.pattern (n ∷ p))
 
-pub specs_law : (ls : List Alternatives) (specs : List Specification) (p : Path) (s : Seen) → ls ≡ map alternatives_of specs → is_path p ≡ true → s ≡ seen ls (text_of p)
-    → matched_all ls s.below s.live ≡ list_any (λ r. matches r p) specs
-specs_law ls specs p s e h k =
-    ap (λ (r : Seen). matched_all ls r.below r.live) k ∙ matched_law ls (text_of p)
+pub specs_law : (ls : List Alternatives) (specs : List Specification) (p : Path) → ls ≡ map alternatives_of specs → is_path p ≡ true
+    → matched_all ls (unpacked ls (text_of p)).below (unpacked ls (text_of p)).live ≡ list_any (λ r. matches r p) specs
+specs_law ls specs p e h =
+    matched_law ls (text_of p)
     ∙ ap (list_any (λ a. is_below a (text_of p) || fits a.choices (looked_at a.kind (text_of p)))) e
     ∙ sym (any-map (λ a. is_below a (text_of p) || fits a.choices (looked_at a.kind (text_of p))) alternatives_of specs)
     ∙ any-ext (λ r. is_below (alternatives_of r) (text_of p) || fits (choices r.pattern) (looked_at r.kind (text_of p))) (λ r. matches r p) specs (λ r. spec_law r p h)

@@ -4,7 +4,7 @@ use Rattle.hub_glob.specs.declared.piece.Piece.TheVariants.{Lit, Any, Run}
 use Rattle.hub_glob.specs.declared.piece.Part.TheVariants.{One}
 use Rattle.hub_glob.specs.declared.path_spec.Kind.TheVariants as kind
 use Rattle.hub_glob.specs.Specification.{Specification}
-use Rattle.hub_automaton.specs.Spots.{spots, seen, alternatives_of}
+use Rattle.hub_automaton.specs.Spots.{spots, unpacked, seen, alternatives_of}
 use Rattle.hub_automaton.specs.Stepping.{pushed}
 use Rattle.hub_automaton.specs.Alphabet.{class_of, class_count, sample, plain, with_characters, spec_characters}
 
@@ -41,18 +41,21 @@ a_star_takes_no_leading_dot : spots (Run ∷ Lit 47 ∷ Run ∷ []) (codes "a/.b
 a_star_takes_no_leading_dot = refl
 
 -- `Name b` behind `a/`: nothing of it is matched, by no pieces.
-behind_a_slash_a_name_begins : seen (alternatives_of name_b ∷ []) (codes "a/") ≡ record { live = true ∷ false ∷ []; below = false ∷ []; start = true }
+behind_a_slash_a_name_begins : unpacked (alternatives_of name_b ∷ []) (codes "a/") ≡ record { live = true ∷ false ∷ []; below = false ∷ []; start = true }
 behind_a_slash_a_name_begins = refl
+
+it_is_kept_in_a_word : seen (alternatives_of name_b ∷ []) (codes "a/b") ≡ record { live = 2 ∷ []; below = false ∷ []; start = false }
+it_is_kept_in_a_word = refl
 
 -- `BelowPath b` on `b/c`.
 abbrev below_b : Specification
 below_b = record { kind = kind.BelowPath; pattern = One (Lit 98) ∷ [] }
 
-a_path_above_is_matched : seen (alternatives_of below_b ∷ []) (codes "b/c") ≡ record { live = false ∷ false ∷ []; below = true ∷ []; start = false }
+a_path_above_is_matched : unpacked (alternatives_of below_b ∷ []) (codes "b/c") ≡ record { live = false ∷ false ∷ []; below = true ∷ []; start = false }
 a_path_above_is_matched = refl
 
-no_path_above_is_matched_inside_a_name : seen (alternatives_of below_b ∷ []) (codes "bc") ≡ record { live = false ∷ false ∷ []; below = false ∷ []; start = false }
+no_path_above_is_matched_inside_a_name : unpacked (alternatives_of below_b ∷ []) (codes "bc") ≡ record { live = false ∷ false ∷ []; below = false ∷ []; start = false }
 no_path_above_is_matched_inside_a_name = refl
 
-one_character_more : pushed (alternatives_of below_b ∷ []) (seen (alternatives_of below_b ∷ []) (codes "b")) 47 ≡ seen (alternatives_of below_b ∷ []) (codes "b/")
+one_character_more : pushed (alternatives_of below_b ∷ []) (unpacked (alternatives_of below_b ∷ []) (codes "b")) 47 ≡ unpacked (alternatives_of below_b ∷ []) (codes "b/")
 one_character_more = refl

@@ -1,5 +1,7 @@
 pub mod Alphabet
 pub mod Examples
+pub mod Masks
 pub mod Spots
 pub mod Stepping
 pub mod Ties
+pub mod Words

@@ -8,6 +8,7 @@ use Rattle.hub_glob.specs.declared.path_spec.Kind.TheVariants as kind
 use Rattle.hub_glob.specs.Specification.{Specification}
 use Rattle.hub_glob.specs.Glob.{pieces, no_more, choices}
 use Rattle.hub_automaton.specs.Alphabet.{mentions, pieces_characters, first_unmentioned, IsAlphabet}
+use Rattle.hub_automaton.specs.Words.{packed}
 use Rattle.hub_automaton.specs.declared.alternatives.TheConstants.{SPOTS}
 use Rattle.hub_automaton.specs.declared.alternatives.Alternatives.{Alternatives}
 
@@ -75,13 +76,25 @@ progress t a = record { sets = map (λ c. spots c (looked_at a.kind t)) a.choice
 
 -- What is seen of a text: the spots of all choices, one specification after another, whether a path above is matched,
 -- for each of them, and whether the text ends where a component starts.
-pub record Seen : Type 0 where
+pub record Unpacked : Type 0 where
   pub live : List Bool
   pub below : List Bool
   pub start : Bool
 
+abbrev pub unpacked : List Alternatives → List ℕ → Unpacked
+unpacked ls t = record { live = flat_map (λ a. spots_of a t) ls; below = map (λ a. is_below a t) ls; start = starts true t }
+
+-- The same, as it is kept: with the spots as words of bits, the first spot the lowest bit.
+pub record Seen : Type 0 where
+  pub live : List ℕ
+  pub below : List Bool
+  pub start : Bool
+
+abbrev pub kept : Unpacked → Seen
+kept u = record { live = packed u.live; below = u.below; start = u.start }
+
 abbrev pub seen : List Alternatives → List ℕ → Seen
-seen ls t = record { live = flat_map (λ a. spots_of a t) ls; below = map (λ a. is_below a t) ls; start = starts true t }
+seen ls t = kept (unpacked ls t)
 
 -- How many spots the choices have.
 abbrev pub spot_count : List (List Piece) → ℕ

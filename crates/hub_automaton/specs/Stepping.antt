@@ -5,7 +5,8 @@ use Rattle.hub_glob.specs.declared.piece.Piece.{Piece}
 use Rattle.hub_glob.specs.declared.piece.Piece.TheVariants.{Lit, Any, Run, OneOf}
 use Rattle.hub_automaton.specs.declared.alternatives.Alternatives.{Alternatives}
 use Rattle.hub_automaton.specs.declared.step.Next.{Next}
-use Rattle.hub_automaton.specs.Spots.{Seen, is_name_kind, is_below_kind, spot_count}
+use Rattle.hub_automaton.specs.Spots.{Unpacked, is_name_kind, is_below_kind, spot_count}
+use Rattle.hub_automaton.specs.Words.{head, tail}
 
 -- Whether a piece takes that character next.
 abbrev pub takes : Next → Piece → Bool
@@ -19,14 +20,6 @@ is_star (Lit c) = false
 is_star Any = false
 is_star Run = true
 is_star (OneOf cs) = false
-
-abbrev pub head : List Bool → Bool
-head [] = false
-head (b ∷ bs) = b
-
-abbrev pub tail : List Bool → List Bool
-tail [] = []
-tail (b ∷ bs) = bs
 
 -- The spot behind a piece: what was matched up to it and behind it before the character, and what is matched up to it
 -- with the character. A `*` takes the character and stays, or takes nothing.
@@ -99,7 +92,7 @@ matched_all [] flags old = false
 matched_all (a ∷ ls) flags old = matched_one a (head flags) old || matched_all ls (tail flags) (drop (spot_count a.choices) old)
 
 -- What is seen of a text with one more character.
-abbrev pub pushed : List Alternatives → Seen → ℕ → Seen
+abbrev pub pushed : List Alternatives → Unpacked → ℕ → Unpacked
 pushed ls s c =
     let x : Next = record { character = c; first = s.start } in
     record { live = stepped_all x ls s.live; below = below_all x ls s.below s.live; start = c == 47 }

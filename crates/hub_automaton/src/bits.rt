@@ -1,4 +1,4 @@
-ghost use Rattle.std.specs.Prelude.{◌≡◌, [], ◌∷◌, ◌++◌, length, slice_index_or, false, IfOk, OnOk};
+ghost use Rattle.std.specs.Prelude.{◌≡◌, [], ◌∷◌, ◌++◌, slice_index_or, false, IfOk, OnOk};
 
 use std::alloc::{AllocError, Global};
 use std::cmp::Ordering;
@@ -28,11 +28,13 @@ impl Bits {
         })
     }
 
-    /// How many bits there are.
-    pub(crate) fn len(&self) -> usize
-        ensures { result ≡ length self.now }
+    /// The same bits once more.
+    pub(crate) fn copy(&self, alloc: Global) -> Result<Bits, AllocError>
+        ensures { IfOk result (λ b. b ≡ self.now) }
     {
-        self.bits.len()
+        Ok(Bits {
+            bits: Vec::from_slice(alloc, self.bits.as_slice())?,
+        })
     }
 
     /// The bit at that place; past the end there are none.

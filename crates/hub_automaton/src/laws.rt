@@ -2,7 +2,6 @@
 ghost use Rattle.std.specs.Prelude.{◌≡◌, ◌↔◌, ◌<◌, ◌++◌, ◌∷◌, ◌==◌, ◌||◌, [], map, ℕ, List, Some, IsTrue, true};
 ghost use Rattle.std.specs.List.{list_all};
 ghost use Rattle.hub_automaton.specs.Spots.{seen, is_covered, progress, starts};
-ghost use Rattle.hub_automaton.specs.Stepping.{pushed};
 ghost use Rattle.hub_automaton.specs.declared.alternatives.Alternatives.{Alternatives};
 ghost use Rattle.hub_automaton.specs.Alphabet.{IsAlphabet, class_of, class_count, sample, with_characters, mentions, is_left_out, is_mentioned};
 
@@ -22,10 +21,9 @@ pub fn what_is_added_is_mentioned()
     ensures kept { (ms cs ds : List ℕ) → IsTrue (mentions ms ds) → IsTrue (mentions (with_characters ms cs) ds) }
 {}
 
-/// What is kept of a text and a character is found from what is kept of the text; so texts of which the same is kept go on
-/// alike. Characters of one class lead to the same.
+/// Texts of which the same is kept go on alike: what is kept of a text and a character is found from what is kept of the
+/// text. Characters of one class lead to the same.
 pub fn what_is_kept_goes_on_alike()
-    ensures pushed { (ls : List Alternatives) (t : List ℕ) (x : ℕ) → pushed ls (seen ls t) x ≡ seen ls (t ++ x ∷ []) }
     ensures same { (ls : List Alternatives) (t u : List ℕ) (x : ℕ) → seen ls t ≡ seen ls u → seen ls (t ++ x ∷ []) ≡ seen ls (u ++ x ∷ []) }
     ensures classes { (ms : List ℕ) (ls : List Alternatives) (t : List ℕ) (x y k : ℕ) → IsAlphabet ms → IsTrue (list_all (is_covered ms) ls)
         → class_of ms x ≡ Some k → class_of ms y ≡ Some k → seen ls (t ++ x ∷ []) ≡ seen ls (t ++ y ∷ []) }

@@ -15,9 +15,11 @@ mod bits;
 mod class;
 mod fault;
 pub mod laws;
+mod masks;
 mod mentions;
 mod spec_set;
 mod step;
+mod words;
 
 pub use alphabet::{Alphabet, MENTIONED_CHARACTERS};
 pub use alternatives::{Alternatives, SPOTS};

@@ -1,0 +1,66 @@
+-- Masks of spots, and what is kept of a text with one more character, by masks.
+use Rattle.std.specs.Prelude.{◌≡◌, ℕ, Bool, false, not, ◌&&◌, ◌||◌, ◌==◌, ◌+◌, List, [], ◌∷◌, length, map, if◌then◌else◌}
+use Rattle.std.specs.List.{flat_map}
+use Rattle.hub_glob.specs.declared.piece.Piece.{Piece}
+use Rattle.hub_glob.specs.declared.piece.Piece.TheVariants.{Run}
+use Rattle.hub_glob.specs.declared.path_spec.Kind.{Kind}
+use Rattle.hub_automaton.specs.declared.alternatives.Alternatives.{Alternatives}
+use Rattle.hub_automaton.specs.declared.masks.Mask.{Mask}
+use Rattle.hub_automaton.specs.declared.masks.Mask.TheVariants as mask
+use Rattle.hub_automaton.specs.declared.masks.SpotMasks.{SpotMasks}
+use Rattle.hub_automaton.specs.declared.step.Next.{Next}
+use Rattle.hub_automaton.specs.Spots.{Seen, is_name_kind, is_below_kind, spot_count}
+use Rattle.hub_automaton.specs.Stepping.{takes, is_star}
+use Rattle.hub_automaton.specs.Words.{head, tail, packed, bit, moved_words}
+
+-- Whether the first spot of a choice is in a mask: those of `Name` specifications are entered behind a `/`.
+abbrev pub masks_start : Mask → Kind → Bool
+masks_start mask.Entries k = is_name_kind k
+masks_start mask.Stars k = false
+masks_start (mask.Takers c) k = false
+
+-- Whether the spot behind a piece is. Behind a `/` nothing goes on in a `Name` specification.
+abbrev pub masks_piece : Mask → Kind → Piece → Bool
+masks_piece mask.Entries k p = false
+masks_piece mask.Stars k p = is_star p
+masks_piece (mask.Takers c) k p =
+    not (is_name_kind k && c == 47) && (not (is_star p) && takes (record { character = c; first = false }) p)
+
+abbrev pub mask_choice : Mask → Kind → List Piece → List Bool
+mask_choice m k c = masks_start m k ∷ map (masks_piece m k) c
+
+abbrev pub mask_choices : Mask → Kind → List (List Piece) → List Bool
+mask_choices m k cs = flat_map (mask_choice m k) cs
+
+abbrev pub mask_all : Mask → List Alternatives → List Bool
+mask_all m ls = flat_map (λ a. mask_choices m a.kind a.choices) ls
+
+-- The masks of some specifications, with those of takers for each of these characters.
+pub record AreMasksOf (ls : List Alternatives) (characters : List ℕ) (m : SpotMasks) : Type 0 where
+  pub entered : m.entries ≡ packed (mask_all mask.Entries ls)
+  pub starred : m.stars ≡ packed (mask_all mask.Stars ls)
+  pub taken : m.takers.items ≡ map (λ c. packed (mask_all (mask.Takers c) ls)) characters
+
+-- Whether one of the choices whose spots begin at that place matches the text.
+abbrev pub ended_at : List (List Piece) → List ℕ → ℕ → Bool
+ended_at [] ws n = false
+ended_at (c ∷ cs) ws n = bit ws (n + length c) || ended_at cs ws (n + (length c + 1))
+
+abbrev pub matched_at : List Alternatives → List Bool → List ℕ → ℕ → Bool
+matched_at [] flags ws n = false
+matched_at (a ∷ ls) flags ws n = (head flags || ended_at a.choices ws n) || matched_at ls (tail flags) ws (n + spot_count a.choices)
+
+-- Behind a `/`: whether a path above is matched.
+abbrev pub below_at : List Alternatives → List Bool → List ℕ → ℕ → List Bool
+below_at [] flags ws n = []
+below_at (a ∷ ls) flags ws n =
+    (head flags || (is_below_kind a.kind && ended_at a.choices ws n)) ∷ below_at ls (tail flags) ws (n + spot_count a.choices)
+
+-- What is kept of a text with one more character.
+abbrev pub moved_seen : Next → List Alternatives → List ℕ → List ℕ → List ℕ → Seen → Seen
+moved_seen x ls entries stars takers s =
+    record {
+      live = moved_words (takes x Run) (if x.character == 47 then entries else []) stars takers s.live 0 0;
+      below = if x.character == 47 then below_at ls s.below s.live 0 else s.below;
+      start = x.character == 47
+    }

@@ -1,0 +1,126 @@
+//! Masks of spots: for each spot whether it is entered, is that of a star, or takes a character.
+ghost use Rattle.std.specs.Prelude.{◌≡◌, ◌++◌, IfOk, OnOk};
+ghost use Rattle.hub_automaton.specs.Masks as masking;
+ghost use Rattle.hub_automaton.specs.Masks.{AreMasksOf};
+ghost use Rattle.hub_automaton.specs.Spots.{is_name_kind};
+ghost use Rattle.hub_automaton.specs.Words.{packed};
+
+use crate::alternatives::Alternatives;
+use crate::step::{Next, is_star, takes};
+use crate::words::{Words, pack};
+use hub_glob::{Kind, Piece};
+use hub_path::Items;
+use std::alloc::{AllocError, Global};
+
+/// Which spots a mask has.
+#[derive(Clone, Copy)]
+pub(crate) enum Mask {
+    /// The first spots of the choices of `Name` specifications, which are entered behind a `/`.
+    Entries,
+    /// The spots behind stars.
+    Stars,
+    /// The spots behind pieces that take that character and are no stars.
+    Takers(char),
+}
+
+/// The masks of some specifications, those of takers for each class of an alphabet.
+#[derive(Debug, Drop)]
+pub(crate) struct SpotMasks {
+    pub(crate) entries: Words,
+    pub(crate) stars: Words,
+    pub(crate) takers: Vec<Words>,
+}
+
+fn is_name(kind: Kind) -> bool
+    ensures { result ≡ is_name_kind kind }
+{
+    matches!(kind, Kind::Name)
+}
+
+fn masks_start(mask: Mask, kind: Kind) -> bool
+    ensures { result ≡ masking.masks_start mask kind }
+{
+    match mask {
+        Mask::Entries => is_name(kind),
+        Mask::Stars | Mask::Takers(_) => false,
+    }
+}
+
+fn masks_piece(mask: Mask, kind: Kind, piece: &Piece) -> bool
+    ensures { result ≡ masking.masks_piece mask kind piece.now }
+{
+    match mask {
+        Mask::Entries => false,
+        Mask::Stars => is_star(piece),
+        Mask::Takers(character) => {
+            let next = Next {
+                character,
+                first: false,
+            };
+            !(is_name(kind) && character == '/') && !is_star(piece) && takes(piece, next)
+        }
+    }
+}
+
+/// Adds the spots of a choice.
+fn mask_choice(
+    mask: Mask,
+    kind: Kind,
+    choice: &[Piece],
+    bits: &mut Vec<bool>,
+) -> Result<(), AllocError>
+    ensures { OnOk result (bits.new.items ≡ bits.old.items ++ masking.mask_choice mask kind choice.now) }
+{
+    bits.push(masks_start(mask, kind))?;
+    for piece in choice {
+        bits.push(masks_piece(mask, kind, piece))?;
+    }
+    Ok(())
+}
+
+/// Adds the spots of some choices.
+fn mask_choices(
+    mask: Mask,
+    kind: Kind,
+    choices: &[Items<Piece>],
+    bits: &mut Vec<bool>,
+) -> Result<(), AllocError>
+    ensures { OnOk result (bits.new.items ≡ bits.old.items ++ masking.mask_choices mask kind choices.now) }
+{
+    for choice in choices {
+        mask_choice(mask, kind, choice.as_slice(), bits)?;
+    }
+    Ok(())
+}
+
+/// The spots of all specifications, in words.
+fn masked(alloc: Global, mask: Mask, alternatives: &[Alternatives]) -> Result<Words, AllocError>
+    ensures { IfOk result (λ ws. ws ≡ packed (masking.mask_all mask alternatives.now)) }
+{
+    let mut bits = Vec::new(alloc);
+    for one in alternatives {
+        mask_choices(mask, one.kind, one.choices.as_slice(), &mut bits)?;
+    }
+    pack(alloc, bits.as_slice())
+}
+
+impl SpotMasks {
+    /// The masks of some specifications, with those of takers for each of these characters.
+    pub(crate) fn build(
+        alloc: Global,
+        alternatives: &[Alternatives],
+        characters: &[char],
+    ) -> Result<SpotMasks, AllocError>
+        ensures { IfOk result (AreMasksOf alternatives.now characters.now) }
+    {
+        let mut takers = Vec::with_capacity(alloc, characters.len())?;
+        for character in characters {
+            takers.push(masked(alloc, Mask::Takers(*character), alternatives)?)?;
+        }
+        Ok(SpotMasks {
+            entries: masked(alloc, Mask::Entries, alternatives)?,
+            stars: masked(alloc, Mask::Stars, alternatives)?,
+            takers,
+        })
+    }
+}

@@ -1,0 +1,183 @@
+//! Bits in words, and how spots move word by word when a text gets one more character.
+ghost use Rattle.std.specs.Prelude.{◌≡◌, ◌≤◌, length, IfOk};
+ghost use Rattle.hub_automaton.specs.Words as words;
+
+use std::alloc::{AllocError, Global};
+use std::cmp::Ordering;
+use std::marker::Model;
+
+/// How many bits a word has.
+const WORD_BITS: usize = 64;
+
+/// Masks of the spots of a word: which are entered, which are those of stars, and which are those of pieces that take
+/// the character and are no stars.
+#[derive(Clone, Copy)]
+pub(crate) struct Masks {
+    pub(crate) entries: u64,
+    pub(crate) stars: u64,
+    pub(crate) takers: u64,
+}
+
+/// Bits in words, the first one the lowest.
+#[derive(Debug, Drop)]
+pub(crate) struct Words {
+    words: Vec<u64>,
+}
+
+impl Model for Words {
+    ghost use Rattle.std.specs.Prelude.{List, ℕ};
+
+    ghost Value = { List ℕ };
+
+    ghost view = { λ a. a.words.items };
+}
+
+impl Words {
+    /// The words, lent in their order.
+    pub(crate) fn as_slice(&self) -> &[u64]
+        ensures { result.now ≡ self.now }
+    {
+        self.words.as_slice()
+    }
+}
+
+impl PartialEq for Words {
+    ghost use Rattle.std.proofs.Common.{rules};
+    ghost use Rattle.std.specs.Cmp.Rules.{comparing};
+    ghost use Rattle.std.specs.Cmp.Lexicographic.{pointwise};
+    ghost use Rattle.std.specs.Prelude.{nat_eq};
+
+    ghost eq = { pointwise nat_eq };
+
+    ghost laws = { Prim.search (comparing, rules) };
+
+    fn eq(&self, other: &Words) -> bool {
+        self.words == other.words
+    }
+}
+
+impl Eq for Words {
+    ghost use Rattle.std.proofs.Common.{rules};
+    ghost use Rattle.std.specs.Cmp.Rules.{comparing};
+
+    ghost laws = { Prim.search (comparing, rules) };
+}
+
+impl PartialOrd for Words {
+    ghost use Rattle.std.proofs.Common.{rules};
+    ghost use Rattle.std.specs.Cmp.Rules.{comparing};
+    ghost use Rattle.std.specs.Cmp.{partial_order_from_own_ties};
+    ghost use Rattle.std.specs.Ordering.{nat_cmp, as_partial_cmp};
+    ghost use Rattle.std.specs.Cmp.Lexicographic.{slice_cmp};
+
+    ghost partial_cmp = { as_partial_cmp (slice_cmp nat_cmp) };
+
+    ghost laws = { partial_order_from_own_ties (Prim.search (comparing, rules)) (Prim.search (comparing, rules)) };
+
+    fn partial_cmp(&self, other: &Words) -> Option<Ordering> {
+        Some(self.cmp(other))
+    }
+}
+
+/// In the order of a dictionary of words.
+impl Ord for Words {
+    ghost use Rattle.std.proofs.Common.{rules};
+    ghost use Rattle.std.specs.Cmp.Rules.{comparing};
+    ghost use Rattle.std.specs.Ordering.{nat_cmp};
+    ghost use Rattle.std.specs.Cmp.Lexicographic.{slice_cmp};
+
+    ghost cmp = { slice_cmp nat_cmp };
+
+    ghost total = { Prim.search (comparing, rules) };
+
+    ghost matches_partial_cmp = { Prim.search (comparing, rules) };
+
+    ghost matches_eq = { Prim.search (comparing, rules) };
+
+    fn cmp(&self, other: &Words) -> Ordering {
+        self.words.cmp(&other.words)
+    }
+}
+
+/// The bits in words, the first one the lowest.
+pub(crate) fn pack(alloc: Global, bits: &[bool]) -> Result<Words, AllocError>
+    ensures { IfOk result (λ ws. ws ≡ words.packed bits.now) }
+{
+    let mut packed = Vec::with_capacity(alloc, bits.len() / WORD_BITS + 1)?;
+    let mut rest = bits;
+    while !rest.is_empty() {
+        let (first, more) = rest.split_at(rest.len().min(WORD_BITS));
+        packed.push(word(first))?;
+        rest = more;
+    }
+    Ok(Words { words: packed })
+}
+
+/// The word of some bits.
+fn word(bits: &[bool]) -> u64
+    requires { length bits.now ≤ WORD_BITS }
+    ensures { result ≡ words.word bits.now }
+{
+    let mut word = 0;
+    for i in 0..bits.len() {
+        word = 2 * word + u64::from(bits[bits.len() - 1 - i]);
+    }
+    word
+}
+
+/// Whether the bit at that place is set; past the end none is.
+pub(crate) fn is_set(packed: &[u64], place: usize) -> bool
+    ensures { result ≡ words.bit packed.now place }
+{
+    let word = packed.get(place / WORD_BITS).copied().unwrap_or(0);
+    word >> (place % WORD_BITS) & 1 == 1
+}
+
+/// The spots with one more character: all that `stars` lets a spot go on to, from `seeds`, by the carries of a sum.
+fn spread(stars: u64, seeds: u64) -> u64
+    ensures { result ≡ words.spread stars seeds }
+{
+    let all = seeds | stars;
+    seeds | stars & (all.wrapping_add(seeds) ^ all ^ seeds)
+}
+
+/// The spots of a word with one more character. `here` is the spot before the word, without the character, and `before`
+/// is that spot with it, as the lowest bit.
+fn moved_word(masks: Masks, stays: bool, spots: u64, here: u64, before: u64) -> u64
+    ensures { result ≡ words.moved_word stays masks spots here before }
+{
+    let stayed = if stays { masks.stars & spots } else { 0 };
+    let taken = masks.takers & (spots << 1 | here);
+    let seeds = masks.entries | (stayed | (taken | masks.stars & before));
+    spread(masks.stars, seeds)
+}
+
+/// The spots of a text with one more character, from those of the text, by masks in as many words.
+///
+/// `stays` says whether a `*` takes the character; past the end of a mask nothing is set.
+pub(crate) fn moved(
+    alloc: Global,
+    stays: bool,
+    entries: &[u64],
+    stars: &[u64],
+    takers: &[u64],
+    spots: &[u64],
+) -> Result<Words, AllocError>
+    ensures { IfOk result (λ ws. ws ≡ words.moved_words stays entries.now stars.now takers.now spots.now 0 0) }
+{
+    let mut moved = Vec::with_capacity(alloc, spots.len())?;
+    let mut here = 0;
+    let mut before = 0;
+    for (i, word) in spots.iter().enumerate() {
+        let masks = Masks {
+            entries: entries.get(i).copied().unwrap_or(0),
+            stars: stars.get(i).copied().unwrap_or(0),
+            takers: takers.get(i).copied().unwrap_or(0),
+        };
+        let new = moved_word(masks, stays, *word, here, before);
+        here = *word >> (WORD_BITS - 1);
+        before = new >> (WORD_BITS - 1);
+        moved.push(new)?;
+    }
+    Ok(Words { words: moved })
+}

@@ -174,9 +174,6 @@ length-with ms c = by_test (is_left_out c || is_mentioned ms c) where
 pub with_there : (ms : List ℕ) (c : ℕ) → is_mentioned ms c ≡ true → ms ≡ with_character ms c
 with_there ms c h = ap (λ b. cond b ms (placed ms c)) (sym (right_or (is_left_out c) (is_mentioned ms c) h))
 
-pub with_left_out : (ms : List ℕ) (c : ℕ) → is_left_out c ≡ true → ms ≡ with_character ms c
-with_left_out ms c h = λ i. cond (sym h i || is_mentioned ms c) ms (placed ms c)
-
 pub with_new : (ms : List ℕ) (c : ℕ) → is_left_out c ≡ false → is_mentioned ms c ≡ false → placed ms c ≡ with_character ms c
 with_new ms c h k = λ i. cond (sym h i || sym k i) ms (placed ms c)
 
@@ -285,9 +282,6 @@ class_at ms i c h a l e = λ j. cond (a j) None (Some (unwrap_or (position_at ms
 pub class_other : (ms : List ℕ) (c : ℕ) → is_left_out c ≡ false → is_mentioned ms c ≡ false → class_of ms c ≡ Some 0
 class_other ms c a h = λ j. cond (a j) None (Some (unwrap_or (position_none ms 1 c h j) 0))
 
-pub class_none : (ms : List ℕ) (c : ℕ) → is_left_out c ≡ true → class_of ms c ≡ None
-class_none ms c a = λ j. cond (a j) None (Some (unwrap_or (position_from (λ m. m == c) 1 ms) 0))
-
 -- What a binary search for a character says.
 pub found : (ms xs : List ℕ) (c i : ℕ) → xs ≡ ms → ascends ms ≡ true → IsBinarySearchResult (λ y. nat_cmp y c) xs (Ok i) → (i < length ms) × (get_or ms i 0 ≡ c)
 found ms xs c i e a h =
@@ -387,9 +381,6 @@ first_is_free ms h =
     (sym
     (find_first (λ c. not (is_mentioned ms c)) (free_from 97 ms) 97 (length ms + 1) (free-low 97 ms) (omega (arith, free-high 97 ms)) (ap not (free-not 97 ms h))
     (λ x a b. ap not (free-all 97 ms x a b))))
-
-pub free_step : (ms : List ℕ) (i c d : ℕ) (whole : ℕ) → i < length ms → free_from c (drop i ms) ≡ whole → d ≡ cond (get_or ms i 0 == c) (c + 1) c → free_from d (drop (i + 1) ms) ≡ whole
-free_step ms i c d whole l h e = ap (λ k. free_from k (drop (i + 1) ms)) e ∙ ap (free_from c) (sym (drop_more ms i 0 l)) ∙ h
 
 pub free_end : (ms : List ℕ) (i c whole : ℕ) → length ms ≤ i → free_from c (drop i ms) ≡ whole → c ≡ whole
 free_end ms i c whole l h = ap (free_from c) (sym (drop_all i ms l)) ∙ h

@@ -176,7 +176,7 @@ kept_moves ls t c ews sws tws e s k =
     λ i. let r : Seen = record {
       live = live_moves x ls u.live ews sws tws (length-live ls t) e s k m i;
       below = below_moves x ls u.below u.live (length-map ls (λ a. is_below a t)) i;
-      start = c == 47
+      start = c == 47;
     } in r
 
 -- What stands at a place of a list that was made from another one.

@@ -72,12 +72,10 @@ pieces_move x (p ∷ ps) es ss ts old here before =
       is = (λ i. let b = spot_is x p here (head old) before i in
           b ∷ moved (takes x Run) (map (λ q. false) ps ++ es) (map is_star ps ++ ss) (map (taker true x) ps ++ ts) (tail old) (head old) b)
           ∙ ap (λ bs. spot ∷ bs) more.is
-          ∙ ap (λ bs. spot ∷ (stepped_pieces x (head old) spot ps (tail old) ++ moved (takes x Run) es ss ts bs more.here more.before)) (drop-tail (length ps) old)
+          ∙ ap (λ bs. spot ∷ (stepped_pieces x (head old) spot ps (tail old) ++ moved (takes x Run) es ss ts bs more.here more.before)) (drop-tail (length ps) old);
     }
 
 -- The same where they are entered.
-entered_spot : (p : Piece) (there here before : Bool) → (false || ((false && (is_star p && there)) || ((false && here) || (is_star p && before)))) ≡ (is_star p && before)
-entered_spot p there here before = refl
 
 pieces_enter : (x : Next) (ps : List Piece) (es ss ts old : List Bool) (here before : Bool)
     → Begins (moved false (map (λ p. false) ps ++ es) (map is_star ps ++ ss) (map (taker false x) ps ++ ts) old here before)
@@ -90,7 +88,7 @@ pieces_enter x (p ∷ ps) es ss ts old here before =
       here = more.here;
       before = more.before;
       is = ap (λ bs. spot ∷ bs) more.is
-          ∙ ap (λ bs. spot ∷ (entered_pieces spot ps ++ moved false es ss ts bs more.here more.before)) (drop-tail (length ps) old)
+          ∙ ap (λ bs. spot ∷ (entered_pieces spot ps ++ moved false es ss ts bs more.here more.before)) (drop-tail (length ps) old);
     }
 
 -- A choice, with the spot that is entered.
@@ -130,7 +128,7 @@ choice_moves x k c es ss ts old here before = by_test (is_name_kind k && x.chara
         is = (λ i. let b = first_spot false (takes x Run) (head old) here before i in
             b ∷ moved (takes x Run) (map (λ p. false) c ++ es) (map is_star c ++ ss) (map (taker true x) c ++ ts) (tail old) (head old) b)
             ∙ ap (λ bs. false ∷ bs) more.is
-            ∙ ap (λ bs. false ∷ (stepped_pieces x (head old) false c (tail old) ++ moved (takes x Run) es ss ts bs more.here more.before)) behind
+            ∙ ap (λ bs. false ∷ (stepped_pieces x (head old) false c (tail old) ++ moved (takes x Run) es ss ts bs more.here more.before)) behind;
       }
   by_test true e =
       let none : takes x Run ≡ false = ap (λ b. not b && not (x.first && x.character == 46)) (right_true (is_name_kind k) (x.character == 47) e) in
@@ -141,7 +139,7 @@ choice_moves x k c es ss ts old here before = by_test (is_name_kind k && x.chara
         is = (λ i. let b = first_spot true (takes x Run) (head old) here before i in
             b ∷ moved (none i) (map (λ p. false) c ++ es) (map is_star c ++ ss) (map (taker false x) c ++ ts) (tail old) (head old) b)
             ∙ ap (λ bs. true ∷ bs) more.is
-            ∙ (λ i. true ∷ (entered_pieces true c ++ moved (sym none i) es ss ts (behind i) more.here more.before))
+            ∙ (λ i. true ∷ (entered_pieces true c ++ moved (sym none i) es ss ts (behind i) more.here more.before));
       }
 
 join_cases : (b : Bool) (p q r s : List Bool) → (cond b p q ++ cond b r s) ≡ cond b (p ++ r) (q ++ s)
@@ -172,7 +170,7 @@ choices_move x k (c ∷ cs) es ss ts old here before =
       is = (λ i. moved (takes x Run) (append_assoc (entry x k c) es' es i) (append_assoc (mask_choice mask.Stars k c) ss' ss i) (append_assoc (mask_choice (mask.Takers x.character) k c) ts' ts i) old here before)
           ∙ one.is ∙ ap (λ bs. front ++ bs) more.is ∙ sym (append_assoc front fronts rest)
           ∙ (λ i. join_cases b (entered c) (stepped x c old) (entered_choices cs) (stepped_choices x cs old') i
-          ++ moved (takes x Run) es ss ts (drop-drop (spot_count cs) (length c + 1) old i) more.here more.before)
+          ++ moved (takes x Run) es ss ts (drop-drop (spot_count cs) (length c + 1) old i) more.here more.before);
     }
 
 pub all_move : (x : Next) (ls : List Alternatives) (old : List Bool) (here before : Bool)

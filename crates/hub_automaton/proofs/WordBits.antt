@@ -104,6 +104,7 @@ same_bit a b i e = two_bits (λ x y. (x == 1) ≡ (y == 1) → x ≡ y) (λ e. r
 -- Numbers below 2 ^ 64 with the same bits are equal.
 pub same_tests : (a b : ℕ) → a < 2 ^ 64 → b < 2 ^ 64 → ((i : ℕ) → i < 64 → test a i ≡ test b i) → a ≡ b
 same_tests a b l m h = same_from_bits_below 64 a b l m (λ i k. same_bit a b i (h i k))
+
 -- The last bit of a word of 64.
 pub test-last : (n : ℕ) → n < 2 ^ 64 → n / 2 ^ 63 ≡ bool_byte (test n 63)
 unfolding test

@@ -30,7 +30,7 @@ pub moved_step : (stays : Bool) (es ss ts os : List ℕ) (i here before w : ℕ)
 moved_step stays es ss ts os i here before w new more whole l e m h =
     let o = slice_index_or os i 0 in
     let at : w ≡ moved_word stays (record { entries = first_word (drop i es); stars = first_word (drop i ss); takers = first_word (drop i ts) }) o here before =
-      e ∙ (λ j. let k : Masks = record { entries = first-drop i es j; stars = first-drop i ss j; takers = first-drop i ts j } in moved_word stays k o here before) in
+    e ∙ (λ j. let k : Masks = record { entries = first-drop i es j; stars = first-drop i ss j; takers = first-drop i ts j } in moved_word stays k o here before) in
     (λ j. m j ++ moved_words stays (others-drop i es j) (others-drop i ss j) (others-drop i ts j) (drop (i + 1) os) (o / 2 ^ 63) (w / 2 ^ 63))
     ∙ append_assoc new (w ∷ []) (moved_words stays (other_words (drop i es)) (other_words (drop i ss)) (other_words (drop i ts)) (drop (i + 1) os) (o / 2 ^ 63) (w / 2 ^ 63))
     ∙ (λ j. new ++ at j ∷ moved_words stays (other_words (drop i es)) (other_words (drop i ss)) (other_words (drop i ts)) (drop (i + 1) os) (o / 2 ^ 63) (at j / 2 ^ 63))
@@ -72,7 +72,3 @@ pub pack_step : (rest rest' : List Bool) (w m : ℕ) (new more whole : List ℕ)
 pack_step rest rest' w m new more whole l e f g k h =
     (λ j. k j ++ packed (g j)) ∙ append_assoc new (w ∷ []) (packed (drop m rest))
     ∙ (λ j. new ++ (f ∙ ap (λ n. word (take n rest)) e) j ∷ packed (drop (e j) rest)) ∙ ap (λ ws. new ++ ws) (sym (packed_step rest l)) ∙ h
-
-pub packed_end : (bs : List Bool) → length bs ≤ 0 → packed bs ≡ []
-packed_end [] l = refl
-packed_end (b ∷ bs) l = absurd (omega arith)

@@ -204,8 +204,8 @@ pub word_moves : (stays : Bool) (es ss ts os : List Bool) (here before : Bool) �
 word_moves stays es ss ts os here before l m n =
     let few : length (moved stays es ss ts os here before) ≤ 64 = omega (arith, moved_length stays es ss ts os here before) in
     let fits : moved_word stays (masks (word es) (word ss) (word ts)) (word os) (bool_byte here) (bool_byte before) < 2 ^ 64 =
-      spread_few (word ss) (seeds stays (masks (word es) (word ss) (word ts)) (word os) (bool_byte here) (bool_byte before)) (word_low ss n)
-      (seeds_few stays (word es) (word ss) (word ts) (word os) (bool_byte here) (bool_byte before) (word_low es (omega arith)) (word_low ss n) (word_low ts (omega arith))) in
+    spread_few (word ss) (seeds stays (masks (word es) (word ss) (word ts)) (word os) (bool_byte here) (bool_byte before)) (word_low ss n)
+    (seeds_few stays (word es) (word ss) (word ts) (word os) (bool_byte here) (bool_byte before) (word_low es (omega arith)) (word_low ss n) (word_low ts (omega arith))) in
     same_tests (word (moved stays es ss ts os here before)) (moved_word stays (masks (word es) (word ss) (word ts)) (word os) (bool_byte here) (bool_byte before)) (word_low (moved stays es ss ts os here before) few) fits
     (λ i k. test-word (moved stays es ss ts os here before) i ∙ sym (same_bits stays es ss ts os here before l m i k))
 
@@ -256,10 +256,6 @@ pub packs_by : (n : ℕ) (bs : List Bool) → Packs n (packed_by n bs) bs
 packs_by zero bs = tt
 packs_by (suc n) bs = (refl, packs_by n (drop 64 bs))
 
-pub packs_none : (n : ℕ) → Packs n [] []
-packs_none zero = tt
-packs_none (suc n) = (refl, packs_none n)
-
 -- The words of what is moved, one after another.
 number_last : (bs : List Bool) → length bs ≤ 64 → word bs / 2 ^ 63 ≡ bool_byte (get bs 63)
 number_last bs l = test-last (word bs) (word_low bs l) ∙ ap bool_byte (test-word bs 63)
@@ -294,17 +290,17 @@ words_move zero stays es ss ts os ews sws tws ows here before l m pe ps pt e = a
 words_move (suc n) stays es ss ts os ews sws tws ows here before l m pe ps pt e =
     let all = moved stays es ss ts os here before in
     let first : word (take 64 all) ≡ moved_word stays (masks (first_word ews) (first_word sws) (first_word tws)) (word (take 64 os)) (bool_byte here) (bool_byte before) =
-      ap word (sym (moved-take 64 stays es ss ts os here before))
-      ∙ word_moves stays (take 64 es) (take 64 ss) (take 64 ts) (take 64 os) here before (take-mono 64 es ss l) (take-mono 64 ts ss m) (length-take_le 64 ss)
-      ∙ (λ j. moved_word stays (masks (sym pe.0 j) (sym ps.0 j) (sym pt.0 j)) (word (take 64 os)) (bool_byte here) (bool_byte before)) in
+    ap word (sym (moved-take 64 stays es ss ts os here before))
+    ∙ word_moves stays (take 64 es) (take 64 ss) (take 64 ts) (take 64 os) here before (take-mono 64 es ss l) (take-mono 64 ts ss m) (length-take_le 64 ss)
+    ∙ (λ j. moved_word stays (masks (sym pe.0 j) (sym ps.0 j) (sym pt.0 j)) (word (take 64 os)) (bool_byte here) (bool_byte before)) in
     let shifted : bool_byte (get os 63) ≡ word (take 64 os) / 2 ^ 63 =
-      sym (number_last (take 64 os) (length-take_le 64 os) ∙ ap bool_byte (get-take 64 63 os (omega arith))) in
+    sym (number_last (take 64 os) (length-take_le 64 os) ∙ ap bool_byte (get-take 64 63 os (omega arith))) in
     let carried : bool_byte (get all 63) ≡ word (take 64 all) / 2 ^ 63 =
-      sym (number_last (take 64 all) (length-take_le 64 all) ∙ ap bool_byte (get-take 64 63 all (omega arith))) in
+    sym (number_last (take 64 all) (length-take_le 64 all) ∙ ap bool_byte (get-take 64 63 all (omega arith))) in
     let more : packed_by n (drop 64 all) ≡ moved_words stays (other_words ews) (other_words sws) (other_words tws) (packed_by n (drop 64 os)) (bool_byte (get os 63)) (bool_byte (get all 63)) =
-      ap (packed_by n) (sym (moved-drop 63 stays es ss ts os here before))
-      ∙ words_move n stays (drop 64 es) (drop 64 ss) (drop 64 ts) (drop 64 os) (other_words ews) (other_words sws) (other_words tws) (packed_by n (drop 64 os))
-      (get os 63) (get all 63) (drop-mono 64 es ss l) (drop-mono 64 ts ss m) pe.1 ps.1 pt.1 refl in
+    ap (packed_by n) (sym (moved-drop 63 stays es ss ts os here before))
+    ∙ words_move n stays (drop 64 es) (drop 64 ss) (drop 64 ts) (drop 64 os) (other_words ews) (other_words sws) (other_words tws) (packed_by n (drop 64 os))
+    (get os 63) (get all 63) (drop-mono 64 es ss l) (drop-mono 64 ts ss m) pe.1 ps.1 pt.1 refl in
     (λ j. first j ∷ more j)
     ∙ (λ j. moved_word stays (masks (first_word ews) (first_word sws) (first_word tws)) (word (take 64 os)) (bool_byte here) (bool_byte before)
     ∷ moved_words stays (other_words ews) (other_words sws) (other_words tws) (packed_by n (drop 64 os)) (shifted j) ((carried ∙ ap (λ w. w / 2 ^ 63) first) j))

@@ -62,5 +62,5 @@ moved_seen x ls entries stars takers s =
     record {
       live = moved_words (takes x Run) (if x.character == 47 then entries else []) stars takers s.live 0 0;
       below = if x.character == 47 then below_at ls s.below s.live 0 else s.below;
-      start = x.character == 47
+      start = x.character == 47;
     }

@@ -5,8 +5,8 @@
 //! - [`SpecSet`] reads a text class by class for some specifications, and keeps of it, as [`Spots`], which numbers of
 //!   pieces of their choices match. So it tells after each character whether one of them matches the text so far.
 //!
-//! The contracts are in the words of `specs/Alphabet` (classes) and `specs/Spots` (what is kept of a text);
-//! `specs/Stepping` says how it is found character by character.
+//! The contracts are in the words of `specs/Alphabet` (classes) and `specs/Spots` (what is kept of a text). `specs/Stepping`
+//! says how it is found character by character, and `specs/Masks` and `specs/Words` how for 64 spots at once.
 #![tactic(auto)]
 
 mod alphabet;

@@ -49,10 +49,7 @@ fn enter_choice(choice: &[Piece], new: &mut Vec<bool>) -> Result<(), AllocError>
 }
 
 /// Adds the spots of some choices in the empty text.
-pub(crate) fn enter_choices(
-    choices: &[Items<Piece>],
-    new: &mut Vec<bool>,
-) -> Result<(), AllocError>
+pub(crate) fn enter_choices(choices: &[Items<Piece>], new: &mut Vec<bool>) -> Result<(), AllocError>
     ensures { OnOk result (new.new.items ≡ new.old.items ++ stepping.entered_choices choices.now) }
 {
     for choice in choices {

@@ -112,8 +112,12 @@ fn specs_of(alloc: Global, texts: &[&str]) -> Result<Vec<PathSpec>, Fail> {
 /// of its characters, as `0` and `1`.
 fn walked(alloc: Global, texts: &[&str], text: &str) -> Result<(Spots, String), Fail> {
     let specs = specs_of(alloc, texts)?;
-    let alphabet = alphabet_for(alloc, specs.as_slice())?;
-    let set = SpecSet::build(alloc, &alphabet, specs.as_slice())?;
+    walked_by(alloc, specs.as_slice(), text)
+}
+
+fn walked_by(alloc: Global, specs: &[PathSpec], text: &str) -> Result<(Spots, String), Fail> {
+    let alphabet = alphabet_for(alloc, specs)?;
+    let set = SpecSet::build(alloc, &alphabet, specs)?;
     let mut spots = set.start()?;
     let mut along = String::new(alloc);
     for character in text.chars() {
@@ -160,6 +164,43 @@ fn specifications_match_along_a_text(rt: HostRuntime) -> Result<(), Fail> {
     for (specs, text, want) in WALKS {
         let (_, along) = walked(rt.alloc(), specs, text)?;
         assert_eq!(rt; along.as_str(), want, "{text}");
+    }
+    Ok(())
+}
+
+/// That text, as many letters `a`, and that end.
+fn around_letters(alloc: Global, start: &str, count: usize, end: &str) -> Result<String, Fail> {
+    let mut text = String::from_str(alloc, start)?;
+    for _ in 0..count {
+        text.push('a')?;
+    }
+    text.push_str(end)?;
+    Ok(text)
+}
+
+/// How many letters stand before the stars of a pattern, so that the stars stand about the end of a word of 64 spots.
+const LETTERS: [usize; 7] = [0, 61, 62, 63, 64, 126, 127];
+
+/// What ends a text, and whether `**b` matches it after each of its characters.
+const ENDS: [(&str, &str); 5] = [
+    ("b", "1"),
+    ("zzb", "001"),
+    ("bzb/", "1010"),
+    ("zb/b", "0100"),
+    ("z./b", "0000"),
+];
+
+#[test]
+fn spots_go_on_into_the_next_word(rt: HostRuntime) -> Result<(), Fail> {
+    for count in LETTERS {
+        let pattern = around_letters(rt.alloc(), "Path ", count, "**b")?;
+        let mut specs = Vec::new(rt.alloc());
+        specs.push(PathSpec::read(rt.alloc(), pattern.as_str())?)?;
+        for (end, want) in ENDS {
+            let text = around_letters(rt.alloc(), "", count, end)?;
+            let (_, along) = walked_by(rt.alloc(), specs.as_slice(), text.as_str())?;
+            assert_eq!(rt; along.as_str().split_at(count).1, want, "{count} {end}");
+        }
     }
     Ok(())
 }

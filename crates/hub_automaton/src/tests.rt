@@ -199,7 +199,7 @@ fn spots_go_on_into_the_next_word(rt: HostRuntime) -> Result<(), Fail> {
         for (end, want) in ENDS {
             let text = around_letters(rt.alloc(), "", count, end)?;
             let (_, along) = walked_by(rt.alloc(), specs.as_slice(), text.as_str())?;
-            assert_eq!(rt; along.as_str().split_at(count).1, want, "{count} {end}");
+            assert!(rt; along.as_str().ends_with(want), "{count} {end}");
         }
     }
     Ok(())

@@ -1,7 +1,10 @@
 pub mod Choosing
 pub mod Examples
 pub mod Glob
+pub mod OneStep
 pub mod Reading
 pub mod Specification
 pub mod Sweep
+pub mod Taking
+pub mod TestLaws
 pub mod Writing

@@ -1,3 +1,6 @@
+pub mod AsciiWords
+pub mod Blanks
+pub mod ChoiceLaws
 pub mod Choosing
 pub mod Examples
 pub mod Glob
@@ -7,4 +10,6 @@ pub mod Specification
 pub mod Sweep
 pub mod Taking
 pub mod TestLaws
+pub mod TextChars
+pub mod TextCuts
 pub mod Writing

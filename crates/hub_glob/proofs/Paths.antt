@@ -1,10 +1,8 @@
 -- The texts of the front of a path, as they are read name by name, each name with a `/` behind it.
 use Rattle.std.proofs.Common.{◌≡◌, ℕ, suc, zero, ◌+◌, ◌<◌, ◌≤◌, Bool, true, false, ◌||◌, List, [], ◌∷◌, ◌++◌, length, take, drop, map, Some, refl, sym, ap, ◌∙◌, arith, add-one, append_assoc}
 use Rattle.std.specs.Prelude.{slice_get, IsTrue, not, ◌&&◌, ◌==◌, chars, encode_utf8_all}
-use Rattle.std.specs.List.{list_any, list_all}
-use Rattle.std.specs.Str.{all_scalars}
-use Rattle.std.proofs.lemmas.Str.{chars-encodes}
-use Rattle.hub_path.specs.Path.{Name, Path, text_of, last_name, prefixes, is_name, is_forbidden, is_dots}
+use Rattle.std.specs.List.{list_any}
+use Rattle.hub_path.specs.Path.{Name, Path, text_of, last_name, prefixes, is_name}
 use Rattle.hub_glob.specs.declared.piece.Part.{Part}
 use Rattle.std.proofs.lemmas.List.{take-take, take-append-drop, length-take}
 use Rattle.std.proofs.lemmas.Bool.Decides.{nat_tests}
@@ -12,7 +10,8 @@ use Rattle.hub_glob.specs.declared.path_spec.Kind.{Kind}
 use Rattle.hub_glob.specs.Specification.{Specification}
 use Rattle.hub_glob.specs.Glob.{glob, matches, by_kind}
 use Rattle.hub_glob.specs.Sweep.{Standing, at_start, pushed, pushed_all, is_matched}
-use Rattle.hub_glob.proofs.Choices.{any-append, any-map, or-false}
+use Rattle.hub_glob.specs.TestLaws.{any-append, any-map, or-false}
+pub use Rattle.hub_glob.specs.TextChars.{name_chars}
 use Rattle.hub_glob.proofs.Sweeps.{is_matched_text}
 
 abbrev pub slashed : Path → List ℕ
@@ -64,16 +63,6 @@ push_more ps start w v t c h e = h ∙ ap (λ u. pushed ps u c) e ∙ sym (pushe
 pub push_matched : (ps : List Part) (start w : Standing) (t : List ℕ) (c : ℕ) (b : Bool) → b ≡ is_matched ps w c → w ≡ pushed_all ps start t
     → b ≡ is_matched ps (pushed_all ps start t) c
 push_matched ps start w t c b h e = h ∙ ap (λ u. is_matched ps u c) e
-
--- The characters of a name's text are the name.
-third : (a b c d : Bool) → (a && b && c && d) ≡ true → b ≡ true
-third true true c d h = refl
-third true false c d h = h
-third false b c d h = cc
-
-pub name_chars : (n bs : List ℕ) → bs ≡ encode_utf8_all n → IsTrue (is_name n) → chars bs ≡ n
-name_chars n bs e h =
-    ap chars e ∙ chars-encodes n (third (not (length n == 0)) (all_scalars n) (list_all (λ c. not (is_forbidden c)) n) (not (is_dots n)) h)
 
 -- One more name: the text up to it, and what has been read behind it.
 pub read_name : (ps : List Part) (w : Standing) (p : Path) (i : ℕ) (n : Name) → slice_get p i ≡ Some n

@@ -1,19 +1,18 @@
 -- The steps of reading a specification.
-use Rattle.std.proofs.Common.{◌≡◌, ℕ, suc, zero, ◌+◌, ◌-◌, ◌*◌, ◌<◌, ◌≤◌, min, Bool, true, false, not, ◌&&◌, ◌==◌, cond, List, [], ◌∷◌, ◌++◌, length, take, drop, get_or, Option, Some, None, Result, Ok, Err, refl, sym, ap, ◌∙◌, arith, add-one, lit<, append_assoc, append-nil, ⊎_elim, subst, Decides}
-use Rattle.std.specs.Prelude.{nat_lt, codes, bytes_eq, if◌then◌else◌}
-use Rattle.std.specs.List.{list_all, before_first, after_first, position_or_len, range_with_len}
-use Rattle.std.specs.Prelude.{IfSome}
-use Rattle.std.specs.Char.{IsScalar, encode_utf8}
-use Rattle.std.specs.Str.{IsUtf8, IsAscii, IsCharBoundary, chars, NoCharPasses, NonePass, encode_utf8_all, all_scalars}
-use Rattle.std.specs.Str.Pattern.{HasPassingCharAt, FindsPrefixBy, CutsPrefixes, IsTrimStartMatches}
-use Rattle.std.proofs.lemmas.Str.{encodes-chars, encodes-IsAscii, chars-IsAscii, chars_past_char, chars_from_encodes, IsUtf8-past_char, IsUtf8-drop, chars-encodes, encodes-append, encodes_same, scalars-chars, len_utf8_bounds, char_from_byte, byte_from_char}
-use lib.Utf8.{scalar}
-use Rattle.std.proofs.lemmas.List.{drop_more, length_push, take-append-drop, drop_all, take_all, take_at, drop_at, length-drop}
+use Rattle.std.proofs.Common.{◌≡◌, ℕ, suc, zero, ◌+◌, ◌-◌, ◌*◌, ◌<◌, ◌≤◌, min, Bool, true, false, ◌&&◌, ◌==◌, List, [], ◌∷◌, ◌++◌, length, drop, get_or, Option, Some, None, Result, Ok, Err, refl, sym, ap, ◌∙◌, arith, add-one, append_assoc, append-nil, ⊎_elim, Decides}
+use Rattle.std.specs.Prelude.{nat_lt, codes, if◌then◌else◌}
+use Rattle.std.specs.List.{range_with_len}
+use Rattle.std.specs.Char.{encode_utf8}
+use Rattle.std.specs.Str.{IsUtf8, chars, encode_utf8_all}
+use Rattle.std.proofs.lemmas.Str.{encodes-chars, char_from_byte, byte_from_char}
+use Rattle.std.proofs.lemmas.List.{drop_more, length_push, length-drop}
 use Rattle.std.proofs.lemmas.Bool.{cases_lt}
-use Rattle.std.proofs.lemmas.Bool.Decides.{same_from_decides, Decides-like, Decides-eqb, nat_tests}
-use Rattle.std.proofs.lemmas.Slice.Eq.{bytes_eq-Decides}
+use Rattle.std.proofs.lemmas.Bool.Decides.{same_from_decides, Decides-like, Decides-eqb}
 use Rattle.std.proofs.Math.Nat.{mul_assoc, mul-le-mul_left}
-use borrow.Author.Tests.{ltb-true, ltb-false}
+use borrow.Author.Tests.{ltb-false}
+use Rattle.hub_path.specs.Texts.{bytes_eq-chars, is_nil, nil_ascii}
+use Rattle.hub_glob.specs.AsciiWords.{is_word}
+pub use Rattle.hub_glob.specs.TextChars.{next_character}
 use Rattle.hub_glob.specs.declared.fault.GlobFault.{GlobFault}
 use Rattle.hub_glob.specs.declared.path_spec.Kind.{Kind}
 use Rattle.hub_glob.specs.declared.path_spec.Kind.TheVariants as kind
@@ -27,22 +26,11 @@ use Rattle.hub_glob.specs.declared.reading.Sign.{Sign}
 use Rattle.hub_glob.specs.declared.reading.Sign.TheVariants.{Means, Open, Comma, Close}
 use Rattle.hub_glob.specs.declared.piece.Piece.TheVariants.{Lit}
 use Rattle.hub_glob.specs.Specification.{choices_size, pattern_size}
-use Rattle.hub_glob.specs.Reading.{character_sign, tokens, is_special, is_plain, is_blank, skip_blanks, kind_reading, signs, set_sign, members, member, range_member, then_members, choice_count, Adds, ◌>>=◌, then_part, set_piece, Faults, parts, starts_with_slash, parts_of}
+use Rattle.hub_glob.specs.Reading.{character_sign, tokens, is_special, is_plain, kind_reading, signs, set_sign, members, member, range_member, then_members, choice_count, Adds, ◌>>=◌, then_part, set_piece, Faults, parts, starts_with_slash, parts_of}
 
 both : (a b : Bool) → (a && b) ≡ true → (a ≡ true) × (b ≡ true)
 both true b h = (refl, h)
 both false b h = cc
-
--- Words of ASCII characters.
-pub IsAscii-from_test : (bs : List ℕ) → list_all (λ b. nat_lt b 128) bs ≡ true → IsAscii bs
-IsAscii-from_test [] h i = lit< tt
-IsAscii-from_test (b ∷ bs) h zero = ltb-true b 128 (both (nat_lt b 128) (list_all (λ b. nat_lt b 128) bs) h).0
-IsAscii-from_test (b ∷ bs) h (suc i) = IsAscii-from_test bs (both (nat_lt b 128) (list_all (λ b. nat_lt b 128) bs) h).1 i
-
-word_is : (bs t : List ℕ) → IsUtf8 bs → IsAscii t → bytes_eq bs t ≡ bytes_eq (chars bs) t
-word_is bs t u a =
-    same_from_decides _ _ (bytes_eq-Decides bs t)
-    (Decides-like (bytes_eq (chars bs) t) (λ e. sym (encodes-chars bs u) ∙ (ap encode_utf8_all e ∙ encodes-IsAscii t a)) (λ e. ap chars e ∙ chars-IsAscii t a) (bytes_eq-Decides (chars bs) t))
 
 abbrev kind_by : Bool → Bool → Bool → Bool → Result Kind GlobFault
 kind_by a b c d =
@@ -54,17 +42,13 @@ kind_by a b c d =
 -- The kind of a word is told by its bytes.
 pub kind_word : (bs : List ℕ) → IsUtf8 bs → kind_reading bs ≡ kind_reading (chars bs)
 kind_word bs u = λ i. kind_by
-    (word_is bs (codes "Name") u (IsAscii-from_test (codes "Name") refl) i)
-    (word_is bs (codes "Path") u (IsAscii-from_test (codes "Path") refl) i)
-    (word_is bs (codes "BelowPath") u (IsAscii-from_test (codes "BelowPath") refl) i)
-    (word_is bs (codes "Regex") u (IsAscii-from_test (codes "Regex") refl) i)
-
-nil_test : (xs : List ℕ) → (length xs == 0) ≡ bytes_eq xs []
-nil_test [] = refl
-nil_test (x ∷ xs) = grind (arith, nat_tests)
+    (is_word bs (codes "Name") u refl i)
+    (is_word bs (codes "Path") u refl i)
+    (is_word bs (codes "BelowPath") u refl i)
+    (is_word bs (codes "Regex") u refl i)
 
 pub blank_text : (bs : List ℕ) → IsUtf8 bs → (length bs == 0) ≡ (length (chars bs) == 0)
-blank_text bs u = nil_test bs ∙ word_is bs [] u (IsAscii-from_test [] refl) ∙ sym (nil_test (chars bs))
+blank_text bs u = is_nil bs ∙ bytes_eq-chars bs [] u nil_ascii ∙ sym (is_nil (chars bs))
 
 slash_first : (bs cs : List ℕ) → IsUtf8 bs → chars bs ≡ cs → (r : Bool) → Decides r (get_or bs 0 0 ≡ 47) → r ≡ starts_with_slash cs
 slash_first bs [] u e r h =
@@ -85,87 +69,6 @@ slash_first bs (c ∷ cs) u e r h =
 
 pub slash_text : (bs : List ℕ) (r : Bool) → IsUtf8 bs → Decides r (get_or bs 0 0 ≡ 47) → r ≡ starts_with_slash (chars bs)
 slash_text bs r u h = slash_first bs (chars bs) u refl r h
-
--- The first word, and what stands behind it.
-position-found : (t : ℕ → Bool) (cs : List ℕ) (c : ℕ) (ds : List ℕ) → NonePass t cs → t c ≡ true → position_or_len t (cs ++ c ∷ ds) ≡ length cs
-position-found t [] c ds n h = λ i. cond (not (h i)) (1 + position_or_len t ds) 0
-position-found t (b ∷ cs) c ds n h =
-    (λ i. cond (not (n.0 i)) (1 + position_or_len t (cs ++ c ∷ ds)) 0) ∙ ap (λ k. 1 + k) (position-found t cs c ds n.1 h) ∙ omega arith
-
-position-none : (t : ℕ → Bool) (cs : List ℕ) → NonePass t cs → position_or_len t cs ≡ length cs
-position-none t [] n = refl
-position-none t (b ∷ cs) n = (λ i. cond (not (n.0 i)) (1 + position_or_len t cs) 0) ∙ ap (λ k. 1 + k) (position-none t cs n.1) ∙ omega arith
-
-before-found : (t : ℕ → Bool) (cs : List ℕ) (c : ℕ) (ds : List ℕ) → NonePass t cs → t c ≡ true → before_first t (cs ++ c ∷ ds) ≡ cs
-before-found t cs c ds n h = ap (λ k. take k (cs ++ c ∷ ds)) (position-found t cs c ds n h) ∙ take_at cs (c ∷ ds) (length cs) refl
-
-after-found : (t : ℕ → Bool) (cs : List ℕ) (c : ℕ) (ds : List ℕ) → NonePass t cs → t c ≡ true → after_first t (cs ++ c ∷ ds) ≡ ds
-after-found t cs c ds n h =
-    ap (λ k. drop (k + 1) (cs ++ c ∷ ds)) (position-found t cs c ds n h) ∙ ap (drop (length cs + 1)) (sym (append_assoc cs (c ∷ []) ds))
-    ∙ drop_at (cs ++ c ∷ []) ds (length cs + 1) (length_push cs c)
-
-scalars-front : (cs ds : List ℕ) → all_scalars (cs ++ ds) ≡ true → all_scalars cs ≡ true
-scalars-front [] ds h = refl
-scalars-front (c ∷ cs) ds h = let p = both (scalar c) (all_scalars (cs ++ ds)) h in rw p.0 (scalars-front cs ds p.1)
-
-abbrev Cut : (ℕ → Bool) → List ℕ → List ℕ → List ℕ → Type 0
-Cut t bs front back = (chars front ≡ before_first t (chars bs)) × (chars back ≡ after_first t (chars bs))
-
-pub cut_found : (t : ℕ → Bool) (bs front back : List ℕ) (i j : ℕ) → IsUtf8 bs → front ≡ take i bs → back ≡ drop j bs
-    → NoCharPasses t (take i bs) → HasPassingCharAt t bs i j → Cut t bs front back
-cut_found t bs front back i j u f b n h =
-    let c = h.0 in
-    let ds = chars (drop j bs) in
-    let v : IsUtf8 (drop j bs) = IsUtf8-drop bs j u (let P : ℕ → Type 0 = λ k. IsCharBoundary bs k in subst P (sym h.2.ends) h.2.after) in
-    let whole : chars bs ≡ n.0 ++ c ∷ ds =
-    encodes_same (chars bs) (n.0 ++ c ∷ ds)
-    (encodes-chars bs u ∙ sym (take-append-drop i bs) ∙ (λ k. sym n.1 k ++ h.2.split k) ∙ (λ k. encode_utf8_all n.0 ++ (encode_utf8 c ++ sym (encodes-chars (drop j bs) v) k))
-    ∙ sym (encodes-append n.0 (c ∷ ds))) in
-    let fronts : chars (take i bs) ≡ n.0 =
-    ap chars (sym n.1) ∙ chars-encodes n.0 (scalars-front n.0 (c ∷ ds) (ap all_scalars (sym whole) ∙ scalars-chars bs u)) in (
-      ap chars f ∙ fronts ∙ sym (before-found t n.0 c ds n.2 h.1) ∙ ap (before_first t) (sym whole),
-      ap chars b ∙ sym (after-found t n.0 c ds n.2 h.1) ∙ ap (after_first t) (sym whole),
-    )
-
-pub cut_none : (t : ℕ → Bool) (bs : List ℕ) → IsUtf8 bs → NoCharPasses t bs → (chars bs ≡ before_first t (chars bs)) × ([] ≡ after_first t (chars bs))
-cut_none t bs u n =
-    let same : n.0 ≡ chars bs = chars_from_encodes n.0 bs u n.1 in
-    let at : position_or_len t (chars bs) ≡ length (chars bs) = ap (position_or_len t) (sym same) ∙ position-none t n.0 n.2 ∙ ap length same in (
-      sym (ap (λ k. take k (chars bs)) at ∙ take_all (length (chars bs)) (chars bs) (omega arith)),
-      sym (ap (λ k. drop (k + 1) (chars bs)) at ∙ drop_all (length (chars bs) + 1) (chars bs) (omega arith)),
-    )
-
--- Blanks dropped from the front.
-abbrev pub CutsBlank : List ℕ → Option ℕ → Type 0
-CutsBlank s r = (k : ℕ → Bool) → ((c : ℕ) → is_blank c ≡ k c) → FindsPrefixBy k s r
-
-skip-cut : (s : List ℕ) (ns : List ℕ) (r : List ℕ) → IsUtf8 s → CutsPrefixes CutsBlank s ns r → (skip_blanks (chars s) ≡ skip_blanks (chars r)) × IsUtf8 r
-skip-cut s [] r u h = (ap (λ t. skip_blanks (chars t)) (sym h), let P : List ℕ → Type 0 = λ t. IsUtf8 t in subst P (sym h) u)
-skip-cut s (n ∷ ns) r u h =
-    let m = h.0 in
-    let before = skip-cut s ns m u h.1 in
-    let found = h.2 is_blank (λ c. refl) in
-    let c = found.0 in
-    let e : chars m ≡ c ∷ chars (drop n m) = chars_past_char m (drop n m) c before.1 found.2.split in (
-      before.0 ∙ ap skip_blanks e ∙ (λ i. if (found.1 i) then skip_blanks (chars (drop n m)) else c ∷ chars (drop n m)) ∙ ap (λ t. skip_blanks (chars t)) (sym h.3),
-      let P : List ℕ → Type 0 = λ t. IsUtf8 t in subst P (sym h.3) (IsUtf8-past_char m (drop n m) c before.1 found.2.split),
-    )
-
-no_blank : (r cs : List ℕ) → IsUtf8 r → chars r ≡ cs → ((c : ℕ) (rest : List ℕ) → IsScalar c → r ≡ encode_utf8 c ++ rest → is_blank c ≡ false) → skip_blanks cs ≡ cs
-no_blank r [] u e h = refl
-no_blank r (c ∷ cs) u e h =
-    let scalars : (scalar c && all_scalars cs) ≡ true = sym (ap all_scalars e) ∙ scalars-chars r u in
-    let blank : is_blank c ≡ false = h c (encode_utf8_all cs) (both (scalar c) (all_scalars cs) scalars).0 (sym (encodes-chars r u) ∙ ap encode_utf8_all e) in
-    λ i. if (blank i) then skip_blanks cs else c ∷ cs
-
-all_cut : (r : List ℕ) (o : Option ℕ) → IsUtf8 r → CutsBlank r o → IfSome o (λ n. n ≡ 0) → skip_blanks (chars r) ≡ chars r
-all_cut r None u h z = no_blank r (chars r) u refl (h is_blank (λ c. refl))
-all_cut r (Some n) u h z = let found = h is_blank (λ c. refl) in absurd (omega (arith, len_utf8_bounds found.0, found.2.ends))
-
-pub skip_trim : (s r : List ℕ) → IsUtf8 s → IsTrimStartMatches CutsBlank s r → chars r ≡ skip_blanks (chars s)
-skip_trim s r u h =
-    let cut = skip-cut s h.0.0 r u h.0.1 in
-    sym (cut.0 ∙ all_cut r h.1.0 cut.1 h.1.1 h.1.2)
 
 -- Choices counted up to a limit.
 pub cap_step : (a l r M : ℕ) → 65 ≤ M → min (min (min (a * l) M) 65 * r) 65 ≡ min (a * (l * r)) 65
@@ -206,12 +109,6 @@ one_counted ps i p a count more T e is m h t = (
 -- An item of a list in turn.
 pub next_item : {X : Type 0} (xs : List X) (i : ℕ) (x : X) → i < length xs → x ≡ get_or xs i x → drop i xs ≡ x ∷ drop (i + 1) xs
 next_item xs i x l e = drop_more xs i x l ∙ ap (λ y. y ∷ drop (i + 1) xs) (sym e)
-
--- Characters in turn.
-pub next_character : (cs ys : List ℕ) (c : ℕ) → (length ys < length cs) × (c ≡ get_or cs (length ys) c)
-    → drop (length ys) cs ≡ c ∷ drop (length (ys ++ c ∷ [])) cs
-next_character cs ys c h =
-    drop_more cs (length ys) c h.0 ∙ (λ i. sym h.1 i ∷ drop (sym (length_push ys c) i) cs)
 
 pub token_escaped : (ts : List Token) (c : ℕ) (old more whole : List ℕ) → is_special c ≡ true → old ≡ c ∷ more
     → ts ++ tokens true old ≡ tokens false whole → (ts ++ Escaped c ∷ []) ++ tokens false more ≡ tokens false whole
@@ -260,11 +157,6 @@ range-push low k = ap (range_with_len low) (add-one k) ∙ go low k where
   go : (a n : ℕ) → range_with_len a (suc n) ≡ range_with_len a n ++ (a + n) ∷ []
   go a zero = ap (λ x. x ∷ []) (omega arith)
   go a (suc n) = ap (λ xs. a ∷ xs) (go (a + 1) n ∙ ap (λ x. range_with_len (a + 1) n ++ x ∷ []) (omega arith))
-
-pub back_utf8 : (t : ℕ → Bool) (bs back : List ℕ) (i j : ℕ) → IsUtf8 bs → back ≡ drop j bs → HasPassingCharAt t bs i j → IsUtf8 back
-back_utf8 t bs back i j u b h =
-    let v : IsUtf8 (drop j bs) = IsUtf8-drop bs j u (let P : ℕ → Type 0 = λ k. IsCharBoundary bs k in subst P (sym h.2.ends) h.2.after) in
-    let P : List ℕ → Type 0 = λ xs. IsUtf8 xs in subst P (sym b) v
 
 -- Members of a set.
 pub added : (r rest whole : Result (List ℕ) GlobFault) (old new : List ℕ) → Adds r old new → whole ≡ then_members (Ok old) (then_members r rest)

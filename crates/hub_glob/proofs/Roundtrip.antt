@@ -10,7 +10,8 @@ use Rattle.hub_glob.specs.declared.path_spec.Kind.TheVariants as kind
 use Rattle.hub_glob.specs.declared.piece.Part.{Part}
 use Rattle.hub_glob.specs.declared.piece.TheConstants.{PATTERN_CHARACTERS, PATTERN_CHOICES}
 use Rattle.hub_glob.specs.Specification.{Specification}
-use Rattle.hub_glob.specs.Reading.{choice_count, is_name_kind, few_choices, parts_of, pattern_reading, is_blank, skip_blanks, kind_reading, spec_reading, ◌>>=◌}
+use Rattle.hub_glob.specs.Blanks.{is_blank, skip_blanks}
+use Rattle.hub_glob.specs.Reading.{choice_count, is_name_kind, few_choices, parts_of, pattern_reading, kind_reading, spec_reading, ◌>>=◌}
 use Rattle.hub_glob.specs.Writing.{pattern_text, kind_word, spec_text}
 use Rattle.hub_glob.proofs.RoundtripFits.{special-not, not-special, Each, FitPart, either_ok, ok_then, neither, reading_fits}
 use Rattle.hub_glob.proofs.RoundtripReads.{length-some, pattern_read}

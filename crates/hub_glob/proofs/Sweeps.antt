@@ -2,58 +2,20 @@
 -- stand for with it.
 use Rattle.std.proofs.Common.{◌≡◌, ℕ, suc, zero, ◌+◌, ◌≤◌, ◌==◌, Bool, true, false, not, ◌&&◌, ◌||◌, List, [], ◌∷◌, ◌++◌, length, drop, refl, sym, ap, ◌∙◌, arith, add-one}
 use Rattle.std.specs.Prelude.{slice_index_or}
-use Rattle.std.specs.List.{list_any, list_all}
+use Rattle.std.specs.List.{list_any}
 use Rattle.std.proofs.lemmas.List.{append-nil, append_assoc, length_push, length-append, length-drop, drop_at, drop-append-le, drop-drop}
-use Rattle.std.proofs.lemmas.Bool.Decides.{nat_tests}
 use Rattle.hub_glob.specs.declared.piece.Piece.{Piece}
 use Rattle.hub_glob.specs.declared.piece.Piece.TheVariants.{Lit, Any, Run, OneOf}
 use Rattle.hub_glob.specs.declared.piece.Part.{Part}
 use Rattle.hub_glob.specs.declared.piece.Part.TheVariants.{One, Brace}
-use Rattle.hub_glob.specs.declared.sweep.Next.{Next}
+use Rattle.hub_glob.specs.declared.piece.Next.{Next}
 use Rattle.hub_glob.specs.declared.sweep.Carry.{Carry}
 use Rattle.hub_glob.specs.Specification.{choices_size}
-use Rattle.hub_glob.specs.Glob.{Texts, splits, is_run, piece, pieces, glob, no_more}
-use Rattle.hub_glob.specs.Sweep.{takes, is_star, Swept, past, swept_pieces, nowhere, joined, swept_choices, swept_parts, Standing, at_start, swept, pushed, is_matched, pushed_all}
-use Rattle.hub_glob.proofs.Choices.{or-false, any-map, any-false, any-and, any-or, or-assoc}
-
--- Equations of tests by trying all values.
-abbrev every : (Bool → Bool) → Bool
-every f = f true && f false
-
-every_is : (f : Bool → Bool) → every f ≡ true → (b : Bool) → f b ≡ true
-every_is f h true = left (f true) (f false) h where
-  left : (a b : Bool) → (a && b) ≡ true → a ≡ true
-  left true b h = refl
-  left false b h = h
-every_is f h false = right (f true) (f false) h where
-  right : (a b : Bool) → (a && b) ≡ true → b ≡ true
-  right true b h = h
-  right false true h = refl
-  right false false h = h
-
-abbrev agree : Bool → Bool → Bool
-agree true b = b
-agree false b = not b
-
-same : (a b : Bool) → agree a b ≡ true → a ≡ b
-same true b h = sym h
-same false false h = refl
-same false true h = h
-
-every4 : (f : Bool → Bool → Bool → Bool → Bool) → every (λ a. every (λ b. every (λ c. every (λ d. f a b c d)))) ≡ true → (a b c d : Bool) → f a b c d ≡ true
-every4 f h a b c d =
-    every_is (f a b c)
-    (every_is (λ b'. every (λ d'. f a b b' d')) (every_is (λ b'. every (λ c'. every (λ d'. f a b' c' d'))) (every_is (λ a'. every (λ b'. every (λ c'. every (λ d'. f a' b' c' d')))) h a) b) c) d
-
-every7 : (f : Bool → Bool → Bool → Bool → Bool → Bool → Bool → Bool)
-    → every (λ a. every (λ b. every (λ c. every (λ d. every (λ e. every (λ g. every (λ k. f a b c d e g k))))))) ≡ true
-    → (a b c d e g k : Bool) → f a b c d e g k ≡ true
-every7 f h a b c d e g k =
-    every4 (f a b c)
-    (every_is (λ c'. every (λ d. every (λ e. every (λ g. every (λ k. f a b c' d e g k)))))
-    (every_is (λ b'. every (λ c. every (λ d. every (λ e. every (λ g. every (λ k. f a b' c d e g k))))))
-    (every_is (λ a'. every (λ b. every (λ c. every (λ d. every (λ e. every (λ g. every (λ k. f a' b c d e g k))))))) h a) b) c)
-    d e g k
+use Rattle.hub_glob.specs.Glob.{Texts, piece, pieces, glob, no_more}
+use Rattle.hub_glob.specs.Sweep.{Swept, past, swept_pieces, nowhere, joined, swept_choices, swept_parts, Standing, at_start, swept, pushed, is_matched, pushed_all}
+use Rattle.hub_glob.specs.Taking.{takes, is_star}
+use Rattle.hub_glob.specs.TestLaws.{head, tail, agree, same, every4, every7, and-true, or-false, or-assoc, any-and, any-or}
+use Rattle.hub_glob.specs.OneStep.{nonzero, run_step, run_end}
 
 -- past a piece that is no `*`
 past_one : (b a l T P Q R : Bool) → ((b && (T && P) || a && Q) || (l && (T && P) || R)) ≡ ((a || false) && Q || ((b || l) && T && P || R))
@@ -87,54 +49,7 @@ none_left b l R = same _ _ (every4 (λ b l R _. agree (b && false || (l && false
 shift_or : (a b c d : Bool) → ((a || b) || (c || d)) ≡ ((b || c) || (a || d))
 shift_or a b c d = same _ _ (every4 (λ a b c d. agree ((a || b) || (c || d)) ((b || c) || (a || d))) refl a b c d)
 
-and-false : (a : Bool) → (a && false) ≡ false
-and-false true = refl
-and-false false = refl
-
-and-true : (a : Bool) → (a && true) ≡ a
-and-true true = refl
-and-true false = refl
-
--- What `*` takes of a text that begins with a character: nothing, or that character and what `*` takes then.
-run_front : (first : Bool) (k : Texts) (t : List ℕ) → (is_run first [] && k (first && true) t) ≡ k first t
-run_front true k t = refl
-run_front false k t = refl
-
-run_rest : (first slash dot : Bool) (k : Texts) (r : List ℕ)
-    → list_any (λ (s : List ℕ × List ℕ). (not slash && list_all (λ c. not (c == 47)) s.0 && not (first && dot)) && k (first && false) s.1) (splits r)
-    ≡ (not slash && not (first && dot) && list_any (λ (s : List ℕ × List ℕ). is_run slash s.0 && k (slash && length s.0 == 0) s.1) (splits r))
-run_rest first true dot k r = sym (any-false (splits r))
-run_rest true false true k r =
-    (λ i. list_any (λ (s : List ℕ × List ℕ). and-false (list_all (λ c. not (c == 47)) s.0) i && k false s.1) (splits r)) ∙ sym (any-false (splits r))
-run_rest true false false k r = refl
-run_rest false false dot k r = refl
-
-nonzero : (n : ℕ) → (suc n == 0) ≡ false
-nonzero n = grind (arith, nat_tests)
-
-run_step : (x : Next) (k : Texts) (r : List ℕ)
-    → piece Run k x.first (x.character ∷ r) ≡ (k x.first (x.character ∷ r) || takes x Run && piece Run k (x.character == 47) r)
-run_step x k r =
-    (λ i. run_front x.first k (x.character ∷ r) i
-    || (sym (any-map
-    (λ (s : List ℕ × List ℕ). is_run x.first s.0 && k (x.first && length s.0 == 0) s.1)
-    (λ (s : List ℕ × List ℕ). (x.character ∷ s.0, s.1)) (splits r))
-    ∙ (λ j. list_any (λ (s : List ℕ × List ℕ). (not (x.character == 47) && list_all (λ c. not (c == 47)) s.0 && not (x.first && x.character == 46))
-    && k (x.first && nonzero (length s.0) j) s.1) (splits r))
-    ∙ run_rest x.first (x.character == 47) (x.character == 46) k r) i)
-
-run_end : (first : Bool) (k : Texts) → piece Run k first [] ≡ k first []
-run_end first k = or-false _ ∙ run_front first k []
-
 -- The same sweep as a list that is made from the front, beside the places of the text before.
-abbrev head : List Bool → Bool
-head [] = false
-head (b ∷ bs) = b
-
-abbrev tail : List Bool → List Bool
-tail [] = []
-tail (b ∷ bs) = bs
-
 record Made : Type 0 where
   bits : List Bool
   carry : Carry
@@ -222,7 +137,7 @@ pieces_law x (OneOf ds ∷ ps) k old c r =
     (onward x m.carry k r) (next x r (alive_pieces ps k m.bits)) (pieces_law x ps k (tail old) (carry_past x (OneOf ds) (c.before || head old)) r)
 pieces_law x (Run ∷ ps) k old c r =
     let m = made_pieces x ps (tail old) (carry_past x Run (c.before || head old)) in
-    (λ i. (c.before && run_step x (pieces ps k) r i || c.after && next x r (pieces (Run ∷ ps) k)) || (head old && run_step x (pieces ps k) r i || now x r (alive_pieces ps k (tail old))))
+    (λ i. (c.before && run_step x.first x.character (pieces ps k) r i || c.after && next x r (pieces (Run ∷ ps) k)) || (head old && run_step x.first x.character (pieces ps k) r i || now x r (alive_pieces ps k (tail old))))
     ∙ star_law c.before c.after (head old) (takes x Run) (now x r (pieces ps k)) (next x r (pieces (Run ∷ ps) k)) (now x r (alive_pieces ps k (tail old)))
     (onward x m.carry k r) (next x r (alive_pieces ps k m.bits)) (pieces_law x ps k (tail old) (carry_past x Run (c.before || head old)) r)
 

@@ -1,7 +1,15 @@
+pub mod AsciiWords
+pub mod Blanks
+pub mod ChoiceLaws
 pub mod Choosing
 pub mod Examples
 pub mod Glob
+pub mod OneStep
 pub mod Reading
 pub mod Specification
 pub mod Sweep
+pub mod Taking
+pub mod TestLaws
+pub mod TextChars
+pub mod TextCuts
 pub mod Writing

@@ -13,6 +13,7 @@ use Rattle.hub_glob.specs.declared.reading.Sign.TheVariants.{Means, Open, Comma,
 use Rattle.hub_glob.specs.declared.path_spec.Kind.{Kind}
 use Rattle.hub_glob.specs.declared.path_spec.Kind.TheVariants as kind
 use Rattle.hub_glob.specs.Specification.{Specification}
+use Rattle.hub_glob.specs.Blanks.{is_blank, skip_blanks}
 use Rattle.hub_glob.specs.declared.fault.GlobFault.{GlobFault}
 use Rattle.hub_glob.specs.declared.fault.GlobFault.TheVariants as fault
 
@@ -162,13 +163,6 @@ pattern_reading k cs =
     else (if not (is_name_kind k) && starts_with_slash cs then Err fault.LeadingSlash
     else parts_of (is_name_kind k) cs >>= few_choices))
 
-abbrev pub is_blank : ℕ → Bool
-is_blank c = list_any (λ d. d == c) (codes " \t")
-
-abbrev pub skip_blanks : List ℕ → List ℕ
-skip_blanks [] = []
-skip_blanks (c ∷ cs) = if is_blank c then skip_blanks cs else c ∷ cs
-
 abbrev pub kind_reading : List ℕ → Result Kind GlobFault
 kind_reading w =
     if bytes_eq w (codes "Name") then Ok kind.Name
@@ -176,7 +170,7 @@ kind_reading w =
     else (if bytes_eq w (codes "BelowPath") then Ok kind.BelowPath
     else (if bytes_eq w (codes "Regex") then Err fault.RegexLeftOut else Err fault.NoKind)))
 
--- A specification is a kind, spaces or tabs, and a pattern.
+-- A specification is a kind, blanks, and a pattern.
 abbrev pub spec_reading : List ℕ → Result Specification GlobFault
 spec_reading cs =
     kind_reading (before_first is_blank cs) >>= λ k. pattern_reading k (skip_blanks (after_first is_blank cs))

@@ -1,26 +1,12 @@
 -- A pattern is matched with a text character by character. What is kept of the text read so far is the places of the
 -- pattern, in its order, before which a match of that text may stand.
 use Rattle.std.specs.Prelude.{ℕ, Bool, true, false, not, ◌&&◌, ◌||◌, ◌==◌, List, [], ◌∷◌, ◌++◌, length, slice_index_or}
-use Rattle.std.specs.List.{list_any}
 use Rattle.hub_glob.specs.declared.piece.Piece.{Piece}
-use Rattle.hub_glob.specs.declared.piece.Piece.TheVariants.{Lit, Any, Run, OneOf}
 use Rattle.hub_glob.specs.declared.piece.Part.{Part}
 use Rattle.hub_glob.specs.declared.piece.Part.TheVariants.{One, Brace}
-use Rattle.hub_glob.specs.declared.sweep.Next.{Next}
+use Rattle.hub_glob.specs.declared.piece.Next.{Next}
 use Rattle.hub_glob.specs.declared.sweep.Carry.{Carry}
-
--- Whether a piece takes that character next.
-abbrev pub takes : Next → Piece → Bool
-takes x (Lit c) = x.character == c
-takes x Any = not (x.character == 47)
-takes x Run = not (x.character == 47) && not (x.first && x.character == 46)
-takes x (OneOf cs) = list_any (λ c. c == x.character) cs
-
-abbrev pub is_star : Piece → Bool
-is_star (Lit c) = false
-is_star Any = false
-is_star Run = true
-is_star (OneOf cs) = false
+use Rattle.hub_glob.specs.Taking.{takes, is_star}
 
 -- The places swept so far, and whether a match may stand at the next one: of the text before the character, and of the
 -- text with it.

@@ -10,7 +10,7 @@ ghost use Rattle.hub_glob.specs.declared.piece.Part.{Part};
 use crate::piece::PATTERN_CHARACTERS;
 
 /// A text matches a pattern exactly where it matches one of the pattern's choices.
-#[tactic(auto, using(crate::proofs::Choices::glob_choices))]
+#[tactic(auto, using(crate::specs::ChoiceLaws::glob_choices))]
 pub fn choices_are_enough()
     ensures { (ps : List Part) (first : Bool) (t : List ℕ) → glob ps first t ≡ list_any (λ c. pieces c no_more first t) (choices ps) }
 {}

@@ -3,15 +3,19 @@
 //! - [`PathSpec`] is a kind and a pattern: it is read from a text (`PathSpec::read`), written as one (`text`), and asked
 //!   whether it matches a path (`matches`) or the front of one (`matches_front`).
 //! - [`Part`] and [`Piece`] are what a pattern is made of, and `choices` lists the patterns without braces that it
-//!   stands for.
+//!   stands for. A piece tells whether it takes a character ([`Next`]) and whether it is a `*`.
 //! - [`GlobFault`] tells why a text is no specification.
+//! - [`BLANKS`], [`first_word`] and [`skip_blanks`]: where a text is cut between words.
 //! - [`laws`]: a pattern matches what one of its choices matches, and a specification is read back from its text.
 //!
 //! `Name *.{tmp, bak}` matches `x.tmp`, `d/x.tmp` and `x. bak`, and neither `x.bak` nor `.x.tmp`.
 //!
-//! The contracts are in the words of `specs/Glob` (what is matched), `specs/Reading` (what is read) and `specs/Writing`.
+//! The contracts are in the words of `specs/Glob` (what is matched), `specs/Taking` (what one piece takes),
+//! `specs/Reading` and `specs/Blanks` (what is read) and `specs/Writing`. `specs/OneStep`, `specs/TestLaws` and
+//! `specs/TextCuts` prove what follows, for the proofs of the crates above.
 #![tactic(auto)]
 
+mod blank;
 mod choosing;
 mod fault;
 pub mod laws;
@@ -21,9 +25,10 @@ mod reading;
 mod sweep;
 mod writing;
 
+pub use blank::{BLANKS, first_word, skip_blanks};
 pub use fault::GlobFault;
 pub use path_spec::{Kind, PathSpec};
-pub use piece::{PATTERN_CHARACTERS, PATTERN_CHOICES, Part, Piece};
+pub use piece::{Next, PATTERN_CHARACTERS, PATTERN_CHOICES, Part, Piece};
 
 #[cfg(test)]
 mod tests;

@@ -1,3 +1,6 @@
+ghost use Rattle.std.specs.Prelude.{◌≡◌};
+ghost use Rattle.hub_glob.specs.Taking as taking;
+
 use hub_path::Items;
 
 /// How many characters a pattern may have that is read from a text, and so how many pieces.
@@ -18,6 +21,36 @@ pub enum Piece {
     Run,
     /// One character of the set.
     OneOf(Items<char>),
+}
+
+/// A character of a text, and where it stands.
+#[derive(Clone, Copy, Debug)]
+pub struct Next {
+    /// The character.
+    pub character: char,
+    /// Whether it stands at the start of a component: at the start of the text, or behind a `/`.
+    pub first: bool,
+}
+
+impl Piece {
+    /// Whether the piece takes that character next.
+    pub fn takes(&self, next: Next) -> bool
+        ensures { result ≡ taking.takes next self.now }
+    {
+        match self {
+            Piece::Lit(c) => next.character == *c,
+            Piece::Any => next.character != '/',
+            Piece::Run => next.character != '/' && !(next.first && next.character == '.'),
+            Piece::OneOf(set) => set.as_slice().contains(&next.character),
+        }
+    }
+
+    /// Whether the piece is a `*`, which may take any number of characters, also none.
+    pub fn is_star(&self) -> bool
+        ensures { result ≡ taking.is_star self.now }
+    {
+        matches!(self, Piece::Run)
+    }
 }
 
 /// A part of a pattern.

@@ -4,17 +4,16 @@ ghost use Rattle.std.specs.List.{before_first, after_first, range_with_len};
 ghost use Rattle.hub_glob.specs.declared.fault.GlobFault.{GlobFault};
 ghost use Rattle.hub_glob.specs.declared.reading.Sign.{Sign as SignValue};
 ghost use Rattle.hub_glob.specs.Specification.{pattern_size};
+ghost use Rattle.hub_glob.specs.Blanks as blanks;
 ghost use Rattle.hub_glob.specs.Reading as reading;
 
+use crate::blank::{first_word, skip_blanks};
 use crate::fault::GlobFault;
 use crate::path_spec::Kind;
 use crate::piece::{PATTERN_CHARACTERS, PATTERN_CHOICES, Part, Piece};
 use hub_path::Items;
 use std::alloc::{AllocError, Global};
 use std::mem;
-
-/// What may stand between the kind and the pattern.
-const BLANKS: [char; 2] = [' ', '\t'];
 
 /// A character of a pattern as it is meant.
 #[derive(Clone, Copy)]
@@ -38,13 +37,11 @@ pub(crate) enum Sign {
 
 /// The first word, and the text behind it and the blanks that follow.
 pub(crate) fn split_kind(text: &str) -> (&str, &str)
-    ensures word { chars result.0.now ≡ before_first reading.is_blank (chars text.now) }
-    ensures pattern { chars result.1.now ≡ reading.skip_blanks (after_first reading.is_blank (chars text.now)) }
+    ensures word { chars result.0.now ≡ before_first blanks.is_blank (chars text.now) }
+    ensures pattern { chars result.1.now ≡ blanks.skip_blanks (after_first blanks.is_blank (chars text.now)) }
 {
-    match text.split_once(BLANKS) {
-        Some((word, rest)) => (word, rest.trim_start_matches(BLANKS)),
-        None => (text, ""),
-    }
+    let (word, rest) = first_word(text);
+    (word, skip_blanks(rest))
 }
 
 /// The kind that a word names.

@@ -4,17 +4,10 @@ ghost use Rattle.hub_glob.specs.Specification.{choices_size, pattern_size};
 ghost use Rattle.hub_glob.specs.Sweep as sweep;
 ghost use Rattle.arrayvec.specs.ArrayVec.{array_vec_len};
 
-use crate::piece::{PATTERN_CHARACTERS, Part, Piece};
+use crate::piece::{Next, PATTERN_CHARACTERS, Part, Piece};
 use arrayvec::ArrayVec;
 use hub_path::Items;
 use std::marker::Model;
-
-/// A character of a text, and whether it stands at the start of a component.
-#[derive(Clone, Copy)]
-pub(crate) struct Next {
-    pub(crate) character: char,
-    pub(crate) first: bool,
-}
 
 /// Whether a match may stand at a place: of the text before a character, and of the text with it.
 #[derive(Clone, Copy)]
@@ -26,24 +19,6 @@ pub(crate) struct Carry {
 /// Before which pieces a match may stand, in the order of the pattern.
 type Places = ArrayVec<bool, PATTERN_CHARACTERS>;
 
-/// Whether a piece takes that character next.
-fn takes(piece: &Piece, next: Next) -> bool
-    ensures { result ≡ sweep.takes next piece.now }
-{
-    match piece {
-        Piece::Lit(c) => next.character == *c,
-        Piece::Any => next.character != '/',
-        Piece::Run => next.character != '/' && !(next.first && next.character == '.'),
-        Piece::OneOf(set) => set.as_slice().contains(&next.character),
-    }
-}
-
-fn is_star(piece: &Piece) -> bool
-    ensures { result ≡ sweep.is_star piece.now }
-{
-    matches!(piece, Piece::Run)
-}
-
 /// Sweeps one piece: adds its place to those of the text with the character.
 fn sweep_piece(next: Next, piece: &Piece, old: &[bool], new: &mut Places, carry: Carry) -> Carry
     requires { array_vec_len new.old < PATTERN_CHARACTERS }
@@ -52,8 +27,8 @@ fn sweep_piece(next: Next, piece: &Piece, old: &[bool], new: &mut Places, carry:
         ≡ record { live = new.new.items; carry = result } }
 {
     let here = carry.before || old.get(new.len()).copied().unwrap_or(false);
-    let taken = here && takes(piece, next);
-    let is_star = is_star(piece);
+    let taken = here && piece.takes(next);
+    let is_star = piece.is_star();
     new.push(carry.after || is_star && taken);
     Carry {
         before: is_star && here,

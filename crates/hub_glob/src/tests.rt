@@ -1,5 +1,8 @@
 //! Values worked out by hand from the rules.
-use crate::{GlobFault, Kind, PATTERN_CHARACTERS, PATTERN_CHOICES, PathSpec, Piece};
+use crate::{
+    GlobFault, Kind, Next, PATTERN_CHARACTERS, PATTERN_CHOICES, PathSpec, Piece, first_word,
+    skip_blanks,
+};
 use hub_path::RelPath;
 use std::alloc::{AllocError, Global};
 use std::test::Fail;
@@ -290,5 +293,38 @@ fn the_leftmost_brace_varies_slowest(rt: HostRuntime) -> Result<(), Fail> {
     for (choice, want) in choices.as_slice().iter().zip(["ax1", "ax", "bbx1", "bbx"]) {
         assert_eq!(rt; letters(rt.alloc(), choice.as_slice())?.as_str(), want);
     }
+    Ok(())
+}
+
+/// A character, whether it stands at the start of a component, and which pieces of `*?a[.b]` take it.
+const TAKEN: [(char, bool, [bool; 4]); 5] = [
+    ('a', true, [true, true, true, false]),
+    ('b', false, [true, true, false, true]),
+    ('.', true, [false, true, false, true]),
+    ('.', false, [true, true, false, true]),
+    ('/', false, [false, false, false, false]),
+];
+
+#[test]
+fn pieces_take_characters(rt: HostRuntime) -> Result<(), Fail> {
+    let spec = PathSpec::read(rt.alloc(), "Name *?a[.b]")?;
+    for choice in spec.choices()?.as_slice() {
+        for (character, first, wanted) in TAKEN {
+            let next = Next { character, first };
+            for (piece, want) in choice.as_slice().iter().zip(wanted) {
+                assert_eq!(rt; piece.takes(next), want, "{next:?}");
+            }
+        }
+        let stars = choice.as_slice().iter().filter(|piece| piece.is_star());
+        assert_eq!(rt; stars.count(), 1);
+    }
+    Ok(())
+}
+
+#[test]
+fn words_end_at_blanks(rt: HostRuntime) -> Result<(), Fail> {
+    assert_eq!(rt; first_word("a\t b"), ("a", " b"));
+    assert_eq!(rt; first_word("ab"), ("ab", ""));
+    assert_eq!(rt; skip_blanks(" \t b "), "b ");
     Ok(())
 }

@@ -12,7 +12,8 @@ use Rattle.hub_path.specs.declared.fault.PathFault.TheVariants.{Empty, LeadingSl
 use Rattle.hub_path.specs.declared.rel_path.TheConstants.{PATH_NAMES}
 use Rattle.hub_path.specs.NameFacts.{is_name-no_fault}
 use Rattle.hub_path.specs.ReadNames.{or_fault-Ok}
-use Rattle.hub_profile.specs.Lines.{Setting, setting, settings, settings_of, is_setting, line_text, named, values, skip_blanks, is_blank, trimmed, is_one_of}
+use Rattle.hub_glob.specs.Blanks.{is_blank, skip_blanks}
+use Rattle.hub_profile.specs.Lines.{Setting, setting, settings, settings_of, is_setting, line_text, named, values, trimmed, is_one_of}
 use Rattle.hub_profile.specs.Reading.{ok_part, kept_reading, roots_of, path_values}
 
 -- Cuts of characters are characters.

@@ -1,5 +1,5 @@
 -- What the lines of a text have said so far.
-use Rattle.std.proofs.Common.{◌≡◌, ℕ, ◌+◌, ◌<◌, ◌≤◌, true, false, cond, List, [], ◌∷◌, ◌++◌, Option, Some, None, length, take, drop, get_or, ◌==◌, map, filter_map, refl, sym, ap, subst, ◌∙◌, arith, lit<, codes}
+use Rattle.std.proofs.Common.{◌≡◌, ℕ, ◌+◌, ◌<◌, ◌≤◌, true, false, cond, List, [], ◌∷◌, ◌++◌, Option, Some, None, length, take, drop, get_or, ◌==◌, map, filter_map, refl, sym, ap, subst, ◌∙◌, arith, lit<}
 use Rattle.std.specs.Str.{IsUtf8, chars}
 use Rattle.std.proofs.lemmas.List.FromFn.{length-enumerate_from, get_or-enumerate_from}
 use Rattle.hub_path.specs.Parts.{part-chars, length-parts}

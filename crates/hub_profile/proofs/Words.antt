@@ -1,24 +1,16 @@
 -- Tests of a text against ASCII characters.
-use Rattle.std.proofs.Common.{◌≡◌, ℕ, zero, suc, ◌<◌, Bool, true, false, ◌||◌, List, [], ◌∷◌, nat_lt, nat_eq, refl, sym, ap, ◌∙◌, arith, lit<, get_or, Decides, bytes_eq, MatchBool, None, length, ◌++◌, encode_utf8}
+use Rattle.std.proofs.Common.{◌≡◌, ℕ, ◌<◌, Bool, true, false, ◌||◌, List, [], ◌∷◌, nat_lt, nat_eq, refl, sym, ap, ◌∙◌, arith, get_or, Decides, bytes_eq, MatchBool, None, length, ◌++◌, encode_utf8}
 use Rattle.std.specs.List.{list_all, starts_with}
-use Rattle.std.specs.Str.{IsUtf8, IsAscii, chars, encode_utf8_all}
+use Rattle.std.specs.Str.{IsUtf8, chars, encode_utf8_all}
 use Rattle.std.specs.Str.Pattern.{HasPrefixMatch, FindsCharPrefix}
 use Rattle.std.proofs.lemmas.Str.{encodes-chars, byte_from_char, char_from_byte, length-le-encodes}
 use Rattle.std.proofs.lemmas.Str.Pattern.{starts_char}
-use Rattle.std.proofs.lemmas.Bool.{and_parts, and_from, ltb-true, eqb-true, eq-eqb, false≢true}
+use Rattle.std.proofs.lemmas.Bool.{and_parts, and_from, eqb-true, eq-eqb, false≢true}
 use Rattle.std.proofs.lemmas.Bool.Decides.{same_from_decides, Decides-like}
 use Rattle.std.proofs.lemmas.Slice.Eq.{bytes_eq-Decides}
-use Rattle.hub_path.specs.Texts.{bytes_eq-chars}
-
-is_ascii : (t : List ℕ) → list_all (λ c. nat_lt c 128) t ≡ true → IsAscii t
-is_ascii [] h i = lit< tt
-is_ascii (c ∷ cs) h zero = ltb-true c 128 (and_parts _ _ h).0
-is_ascii (c ∷ cs) h (suc i) = is_ascii cs (and_parts _ _ h).1 i
+use Rattle.hub_glob.specs.AsciiWords.{is_word}
 
 -- A text is an ASCII word exactly where its characters are.
-pub is_word : (bs t : List ℕ) → IsUtf8 bs → list_all (λ c. nat_lt c 128) t ≡ true → bytes_eq bs t ≡ bytes_eq (chars bs) t
-is_word bs t u a = bytes_eq-chars bs t u (is_ascii t a)
-
 pub word_is : (t bs : List ℕ) → IsUtf8 bs → list_all (λ c. nat_lt c 128) t ≡ true → bytes_eq t bs ≡ bytes_eq (chars bs) t
 word_is t bs u a = same_from_decides (bytes_eq t bs) (bytes_eq bs t) (bytes_eq-Decides t bs) (Decides-like (bytes_eq bs t) sym sym (bytes_eq-Decides bs t)) ∙ is_word bs t u a
 

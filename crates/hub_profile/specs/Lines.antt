@@ -1,15 +1,8 @@
 -- The lines of a profile's text that say something.
-use Rattle.std.specs.Prelude.{ℕ, Bool, not, ◌&&◌, ◌||◌, ◌==◌, nat_eq, List, [], ◌∷◌, map, filter, reverse, length, if◌then◌else◌, codes, bytes_eq}
+use Rattle.std.specs.Prelude.{ℕ, Bool, not, ◌&&◌, ◌==◌, nat_eq, List, [], ◌∷◌, map, filter, reverse, length, if◌then◌else◌, codes, bytes_eq}
 use Rattle.std.specs.List.{list_any, before_first, after_first, enumerate_from, slice_split, starts_with}
 use Rattle.hub_path.specs.Reading.{without_last}
-
--- Blanks are spaces and tabs.
-abbrev pub is_blank : ℕ → Bool
-is_blank c = c == 32 || c == 9
-
-abbrev pub skip_blanks : List ℕ → List ℕ
-skip_blanks [] = []
-skip_blanks (c ∷ cs) = if is_blank c then skip_blanks cs else c ∷ cs
+use Rattle.hub_glob.specs.Blanks.{is_blank, skip_blanks}
 
 -- A text without blanks around it.
 abbrev pub trimmed : List ℕ → List ℕ

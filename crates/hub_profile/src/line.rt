@@ -3,6 +3,8 @@ ghost use Rattle.std.specs.List.{before_first, after_first, starts_with};
 ghost use Rattle.hub_path.specs.Reading.{without_last};
 ghost use Rattle.hub_profile.specs.Lines as lines;
 
+use hub_glob::{BLANKS, first_word, skip_blanks};
+
 /// What a line says: its text without a CR at its end, and then without the blanks around it.
 pub(crate) fn line_text(line: &str) -> &str
     ensures { chars result.now ≡ lines.line_text (chars line.now) }
@@ -31,14 +33,6 @@ pub(crate) fn name_and_value(line: &str) -> Option<(&str, &str)>
 {
     let (name, value) = line.split_once('=')?;
     Some((trimmed(name), trimmed(value)))
-}
-
-/// A line up to its first blank, and what follows that.
-fn first_word(line: &str) -> (&str, &str)
-    ensures word { chars result.0.now ≡ before_first lines.is_blank (chars line.now) }
-    ensures rest { chars result.1.now ≡ after_first lines.is_blank (chars line.now) }
-{
-    line.split_once([' ', '\t']).unwrap_or((line, ""))
 }
 
 /// The words that include another file.
@@ -70,16 +64,9 @@ fn without_last_return(line: &str) -> &str
     line.strip_suffix('\r').unwrap_or(line)
 }
 
-/// A text without blanks, which are spaces and tabs, around it.
+/// A text without blanks around it.
 fn trimmed(text: &str) -> &str
     ensures { chars result.now ≡ lines.trimmed (chars text.now) }
 {
-    skip_blanks(text).trim_end_matches([' ', '\t'])
-}
-
-/// A text without blanks in front.
-fn skip_blanks(text: &str) -> &str
-    ensures { chars result.now ≡ lines.skip_blanks (chars text.now) }
-{
-    text.trim_start_matches([' ', '\t'])
+    skip_blanks(text).trim_end_matches(BLANKS)
 }

@@ -1,5 +1,6 @@
 use Rattle.std.proofs.Common.{◌∙◌, codes, refl}
-use Rattle.hub_profile.proofs.Words.{is_word, or_false}
+use Rattle.hub_glob.specs.AsciiWords.{is_word}
+use Rattle.hub_profile.proofs.Words.{or_false}
 use Rattle.hub_profile.proofs.draft.is_ignorenot.Goals as goal
 
 pub returns : goal.returns

@@ -6,14 +6,16 @@ use Rattle.std.proofs.lemmas.List.{drop-drop, length-map}
 use Rattle.hub_glob.specs.declared.piece.Piece.{Piece}
 use Rattle.hub_glob.specs.declared.piece.Piece.TheVariants.{Run}
 use Rattle.hub_glob.specs.declared.path_spec.Kind.{Kind}
+use Rattle.hub_glob.specs.Taking.{takes}
+use Rattle.hub_glob.specs.TestLaws.{head, tail, and-true, and-false, or-false}
 use Rattle.hub_automaton.specs.declared.alternatives.Alternatives.{Alternatives}
 use Rattle.hub_automaton.specs.declared.masks.Mask.{Mask}
 use Rattle.hub_automaton.specs.declared.masks.Mask.TheVariants as mask
-use Rattle.hub_automaton.specs.declared.step.Next.{Next}
+use Rattle.hub_glob.specs.declared.piece.Next.{Next}
 use Rattle.hub_automaton.specs.Masks.{masks_piece, mask_choice, mask_choices, mask_all, ended_at, matched_at, below_at, moved_seen}
 use Rattle.hub_automaton.specs.Spots.{is_name_kind, is_below_kind, is_below, spot_count, spots_count, unpacked, kept, Unpacked, Seen, seen}
-use Rattle.hub_automaton.specs.Stepping.{takes, stepped_all, ended_choices, below_all, matched_all, pushed}
-use Rattle.hub_automaton.specs.Words.{head, tail, word, words_for, packed_by, packed, bit, moved_words}
+use Rattle.hub_automaton.specs.Stepping.{stepped_all, ended_choices, below_all, matched_all, pushed}
+use Rattle.hub_automaton.specs.Words.{word, words_for, packed_by, packed, bit, moved_words}
 use Rattle.hub_automaton.proofs.Loops.{ended_place}
 use Rattle.hub_automaton.proofs.Masked.{entry, entry_choices, entries, all_move}
 use Rattle.hub_automaton.proofs.Progresses.{length-live}
@@ -43,14 +45,6 @@ length-entries x [] = refl
 length-entries x (a ∷ ls) = length-append (entry_choices x a.kind a.choices) (entries x ls) ∙ (λ i. length-entry_choices x a.kind a.choices i + length-entries x ls i)
 
 -- Which spots are entered behind a `/`, and that none are behind another character.
-and-true : (a : Bool) → (a && true) ≡ a
-and-true true = refl
-and-true false = refl
-
-and-false : (a : Bool) → (a && false) ≡ false
-and-false true = refl
-and-false false = refl
-
 choices_entered : (x : Next) (k : Kind) (cs : List (List Piece)) → (x.character == 47) ≡ true → entry_choices x k cs ≡ mask_choices mask.Entries k cs
 choices_entered x k [] e = refl
 choices_entered x k (c ∷ cs) e = λ i. (((ap (λ b. is_name_kind k && b) e ∙ and-true (is_name_kind k)) i) ∷ map (λ p. false) c) ++ choices_entered x k cs e i
@@ -145,10 +139,6 @@ below_is_at x [] flags old n e = refl
 below_is_at x (a ∷ ls) flags old n e =
     λ i. (head flags || (sym (ap (λ b. is_below_kind a.kind && b) e ∙ and-true (is_below_kind a.kind)) i && ended_is_at a.choices old n i))
     ∷ (below_is_at x ls (tail flags) old (n + spot_count a.choices) e ∙ ap (below_all x ls (tail flags)) (sym (drop-drop (spot_count a.choices) n old))) i
-
-or-false : (a : Bool) → (a || false) ≡ a
-or-false true = refl
-or-false false = refl
 
 below_stays : (x : Next) (ls : List Alternatives) (flags old : List Bool) → (x.character == 47) ≡ false → length flags ≡ length ls → flags ≡ below_all x ls flags old
 below_stays x [] [] old e l = refl

@@ -5,13 +5,15 @@ use Rattle.std.proofs.lemmas.List.{drop-drop}
 use Rattle.hub_glob.specs.declared.piece.Piece.{Piece}
 use Rattle.hub_glob.specs.declared.piece.Piece.TheVariants.{Lit, Any, Run, OneOf}
 use Rattle.hub_glob.specs.declared.path_spec.Kind.{Kind}
+use Rattle.hub_glob.specs.Taking.{takes, is_star}
+use Rattle.hub_glob.specs.TestLaws.{head, tail}
 use Rattle.hub_automaton.specs.declared.alternatives.Alternatives.{Alternatives}
 use Rattle.hub_automaton.specs.declared.masks.Mask.TheVariants as mask
-use Rattle.hub_automaton.specs.declared.step.Next.{Next}
+use Rattle.hub_glob.specs.declared.piece.Next.{Next}
 use Rattle.hub_automaton.specs.Masks.{mask_choice, mask_choices, mask_all}
 use Rattle.hub_automaton.specs.Spots.{is_name_kind, spot_count}
-use Rattle.hub_automaton.specs.Stepping.{takes, is_star, spot_past, stepped_pieces, stepped, entered_pieces, entered, stepped_choices, entered_choices, stepped_one, stepped_all}
-use Rattle.hub_automaton.specs.Words.{head, tail, moved}
+use Rattle.hub_automaton.specs.Stepping.{spot_past, stepped_pieces, stepped, entered_pieces, entered, stepped_choices, entered_choices, stepped_one, stepped_all}
+use Rattle.hub_automaton.specs.Words.{moved}
 
 drop-tail : (n : ℕ) (bs : List Bool) → drop n (tail bs) ≡ drop (suc n) bs
 drop-tail zero [] = refl

@@ -14,13 +14,14 @@ use Rattle.hub_glob.specs.declared.path_spec.Kind.{Kind}
 use Rattle.hub_glob.specs.declared.path_spec.Kind.TheVariants as kind
 use Rattle.hub_glob.specs.Specification.{Specification}
 use Rattle.hub_glob.specs.Glob.{glob, choices, matches, by_kind}
-use Rattle.hub_glob.proofs.Choices.{glob_choices, any-append, any-map, or-false}
+use Rattle.hub_glob.specs.Taking.{takes, is_star}
+use Rattle.hub_glob.specs.TestLaws.{head, tail, any-append, any-map, or-false}
+use Rattle.hub_glob.specs.ChoiceLaws.{glob_choices}
 use Rattle.hub_automaton.specs.Alphabet.{is_left_out, is_mentioned, class_of, mentions, piece_characters, pieces_characters, part_characters, spec_characters, class_count, first_unmentioned, sample, IsAlphabet}
 use Rattle.hub_automaton.specs.declared.alternatives.Alternatives.{Alternatives}
-use Rattle.hub_automaton.specs.declared.step.Next.{Next}
+use Rattle.hub_glob.specs.declared.piece.Next.{Next}
 use Rattle.hub_automaton.specs.Spots.{spots, since_slash, looked_at, folders, starts, fits, is_name_kind, is_below_kind, alternatives_of, spots_of, is_below, Unpacked, unpacked, spot_count, spots_count, is_covered}
-use Rattle.hub_automaton.specs.Words.{head, tail}
-use Rattle.hub_automaton.specs.Stepping.{takes, is_star, stepped_pieces, stepped, ended, stepped_choices, ended_choices, entered_choices, stepped_all, below_all, matched_all, pushed}
+use Rattle.hub_automaton.specs.Stepping.{stepped_pieces, stepped, ended, stepped_choices, ended_choices, entered_choices, stepped_all, below_all, matched_all, pushed}
 use Rattle.hub_automaton.proofs.Alphabets.{both, and, sample_class}
 use Rattle.hub_automaton.proofs.Steps.{next_of, choice_law, ended_law, empty_spots, length-spots, front_matches}
 

@@ -1,85 +1,15 @@
 -- How many pieces match a text with one more character, from how many match the text.
-use Rattle.std.proofs.Common.{◌≡◌, ℕ, suc, zero, ◌+◌, Bool, true, false, not, ◌&&◌, ◌||◌, ◌==◌, List, [], ◌∷◌, ◌++◌, map, length, take, refl, sym, ap, ◌∙◌, arith, add-one, append-nil, append_assoc}
-use Rattle.std.specs.List.{list_any, list_all, range_with_len}
-use Rattle.std.proofs.lemmas.Bool.Decides.{nat_tests}
+use Rattle.std.proofs.Common.{◌≡◌, ℕ, suc, zero, ◌+◌, Bool, true, false, not, ◌&&◌, ◌||◌, ◌==◌, List, [], ◌∷◌, ◌++◌, map, length, take, refl, sym, ap, ◌∙◌, add-one, append-nil, append_assoc}
+use Rattle.std.specs.List.{list_any, range_with_len}
 use Rattle.hub_glob.specs.declared.piece.Piece.{Piece}
 use Rattle.hub_glob.specs.declared.piece.Piece.TheVariants.{Lit, Any, Run, OneOf}
-use Rattle.hub_glob.specs.Glob.{Texts, splits, begins, is_run, piece, pieces, no_more}
-use Rattle.hub_glob.proofs.Choices.{or-false, any-map, any-false}
-use Rattle.hub_automaton.specs.declared.step.Next.{Next}
+use Rattle.hub_glob.specs.Glob.{Texts, begins, piece, pieces, no_more}
+use Rattle.hub_glob.specs.Taking.{is_star}
+use Rattle.hub_glob.specs.TestLaws.{agree, same, every4, and-false, or-false}
+use Rattle.hub_glob.specs.OneStep.{nonzero, takes_run, run_step, run_end, pieces-append}
+use Rattle.hub_glob.specs.declared.piece.Next.{Next}
 use Rattle.hub_automaton.specs.Spots.{spots, starts}
-use Rattle.hub_automaton.specs.Stepping.{is_star, spot_past, stepped_pieces, last_spot, stepped, ended, entered_pieces, entered}
-
--- Equations of tests by trying all values.
-abbrev every : (Bool → Bool) → Bool
-every f = f true && f false
-
-every_is : (f : Bool → Bool) → every f ≡ true → (b : Bool) → f b ≡ true
-every_is f h true = left (f true) (f false) h where
-  left : (a b : Bool) → (a && b) ≡ true → a ≡ true
-  left true b h = refl
-  left false b h = h
-every_is f h false = right (f true) (f false) h where
-  right : (a b : Bool) → (a && b) ≡ true → b ≡ true
-  right true b h = h
-  right false true h = refl
-  right false false h = h
-
-abbrev agree : Bool → Bool → Bool
-agree true b = b
-agree false b = not b
-
-same : (a b : Bool) → agree a b ≡ true → a ≡ b
-same true b h = sym h
-same false false h = refl
-same false true h = h
-
-every4 : (f : Bool → Bool → Bool → Bool → Bool) → every (λ a. every (λ b. every (λ c. every (λ d. f a b c d)))) ≡ true → (a b c d : Bool) → f a b c d ≡ true
-every4 f h a b c d =
-    every_is (f a b c)
-    (every_is (λ b'. every (λ d'. f a b b' d')) (every_is (λ b'. every (λ c'. every (λ d'. f a b' c' d'))) (every_is (λ a'. every (λ b'. every (λ c'. every (λ d'. f a' b' c' d')))) h a) b) c) d
-
-and-false : (a : Bool) → (a && false) ≡ false
-and-false true = refl
-and-false false = refl
-
--- What `*` takes of a text that begins with a character: nothing, or that character and what `*` takes then.
-run_front : (first : Bool) (k : Texts) (t : List ℕ) → (is_run first [] && k (first && true) t) ≡ k first t
-run_front true k t = refl
-run_front false k t = refl
-
-run_rest : (first slash dot : Bool) (k : Texts) (r : List ℕ)
-    → list_any (λ (s : List ℕ × List ℕ). (not slash && list_all (λ c. not (c == 47)) s.0 && not (first && dot)) && k (first && false) s.1) (splits r)
-    ≡ (not slash && not (first && dot) && list_any (λ (s : List ℕ × List ℕ). is_run slash s.0 && k (slash && length s.0 == 0) s.1) (splits r))
-run_rest first true dot k r = sym (any-false (splits r))
-run_rest true false true k r =
-    (λ i. list_any (λ (s : List ℕ × List ℕ). and-false (list_all (λ c. not (c == 47)) s.0) i && k false s.1) (splits r)) ∙ sym (any-false (splits r))
-run_rest true false false k r = refl
-run_rest false false dot k r = refl
-
-nonzero : (n : ℕ) → (suc n == 0) ≡ false
-nonzero n = grind (arith, nat_tests)
-
-abbrev takes_run : Bool → ℕ → Bool
-takes_run first c = not (c == 47) && not (first && c == 46)
-
-run_step : (first : Bool) (c : ℕ) (k : Texts) (r : List ℕ)
-    → piece Run k first (c ∷ r) ≡ (k first (c ∷ r) || takes_run first c && piece Run k (c == 47) r)
-run_step first c k r =
-    (λ i. run_front first k (c ∷ r) i
-    || (sym (any-map
-    (λ (s : List ℕ × List ℕ). is_run first s.0 && k (first && length s.0 == 0) s.1)
-    (λ (s : List ℕ × List ℕ). (c ∷ s.0, s.1)) (splits r))
-    ∙ (λ j. list_any (λ (s : List ℕ × List ℕ). (not (c == 47) && list_all (λ c. not (c == 47)) s.0 && not (first && c == 46))
-    && k (first && nonzero (length s.0) j) s.1) (splits r))
-    ∙ run_rest first (c == 47) (c == 46) k r) i)
-
-run_end : (first : Bool) (k : Texts) → piece Run k first [] ≡ k first []
-run_end first k = or-false _ ∙ run_front first k []
-
-pieces-append : (ps qs : List Piece) (rest : Texts) → pieces (ps ++ qs) rest ≡ pieces ps (pieces qs rest)
-pieces-append [] qs rest = refl
-pieces-append (p ∷ ps) qs rest = ap (piece p) (pieces-append ps qs rest)
+use Rattle.hub_automaton.specs.Stepping.{spot_past, stepped_pieces, last_spot, stepped, ended, entered_pieces, entered}
 
 not_empty : (t : List ℕ) (x : ℕ) → (length (t ++ x ∷ []) == 0) ≡ false
 not_empty [] x = nonzero 0

@@ -7,8 +7,9 @@ use Rattle.std.proofs.Math.Nat.{pow-le-pow_right}
 use Rattle.std.proofs.lemmas.List.{drop-drop, length-drop, get_or-drop, take-append-drop}
 use lib.Bits.{bit_and}
 use mir.Val.{bool_byte}
+use Rattle.hub_glob.specs.TestLaws.{head, tail, and-false, or-false}
 use Rattle.hub_automaton.specs.declared.words.Masks.{Masks}
-use Rattle.hub_automaton.specs.Words.{bit, head, tail, first_word, other_words, word, packed_by, moved, spread, seeds, moved_word, moved_words}
+use Rattle.hub_automaton.specs.Words.{bit, first_word, other_words, word, packed_by, moved, spread, seeds, moved_word, moved_words}
 use Rattle.hub_automaton.proofs.WordBits.{test, differ, test-and, test-or, test-xor, test-zero, test-low, test-up, test-up_first, test-number, test-number_above, test-word, word_few, same_tests, test-last, carry, carry-next, carry-first, test-add}
 
 abbrev pub masks : ℕ → ℕ → ℕ → Masks
@@ -53,14 +54,6 @@ carry_is : (s d i : ℕ) → i < 64 → carry (bit_or d s) d (suc i) ≡ test (s
 carry_is s d i l =
     carry-next (bit_or d s) d i ∙ (λ j. (test-or d s i j && test d i) || (differ (test-or d s i j) (test d i) && carry (bit_or d s) d i))
     ∙ carry_bit (test d i) (test s i) (carry (bit_or d s) d i) ∙ sym (spread_at s d i l)
-
-and-false : (a : Bool) → (a && false) ≡ false
-and-false true = refl
-and-false false = refl
-
-or-false : (a : Bool) → (a || false) ≡ a
-or-false true = refl
-or-false false = refl
 
 pub spread_first : (s d : ℕ) → test (spread s d) 0 ≡ test d 0
 spread_first s d = spread_at s d 0 (omega arith) ∙ (λ j. test d 0 || (test s 0 && carry-first (bit_or d s) d j)) ∙ ap (λ b. test d 0 || b) (and-false (test s 0)) ∙ or-false (test d 0)

@@ -4,14 +4,15 @@ use Rattle.std.specs.List.{flat_map}
 use Rattle.hub_glob.specs.declared.piece.Piece.{Piece}
 use Rattle.hub_glob.specs.declared.piece.Piece.TheVariants.{Run}
 use Rattle.hub_glob.specs.declared.path_spec.Kind.{Kind}
+use Rattle.hub_glob.specs.Taking.{takes, is_star}
+use Rattle.hub_glob.specs.TestLaws.{head, tail}
 use Rattle.hub_automaton.specs.declared.alternatives.Alternatives.{Alternatives}
 use Rattle.hub_automaton.specs.declared.masks.Mask.{Mask}
 use Rattle.hub_automaton.specs.declared.masks.Mask.TheVariants as mask
 use Rattle.hub_automaton.specs.declared.masks.SpotMasks.{SpotMasks}
-use Rattle.hub_automaton.specs.declared.step.Next.{Next}
+use Rattle.hub_glob.specs.declared.piece.Next.{Next}
 use Rattle.hub_automaton.specs.Spots.{Seen, is_name_kind, is_below_kind, spot_count}
-use Rattle.hub_automaton.specs.Stepping.{takes, is_star}
-use Rattle.hub_automaton.specs.Words.{head, tail, packed, bit, moved_words}
+use Rattle.hub_automaton.specs.Words.{packed, bit, moved_words}
 
 -- Whether the first spot of a choice is in a mask: those of `Name` specifications are entered behind a `/`.
 abbrev pub masks_start : Mask → Kind → Bool

@@ -1,25 +1,12 @@
 -- One more character of a text: the spots of the longer text from those of the text, read in their order.
-use Rattle.std.specs.Prelude.{ℕ, Bool, true, false, not, ◌&&◌, ◌||◌, ◌==◌, ◌+◌, List, [], ◌∷◌, ◌++◌, length, drop, if◌then◌else◌}
-use Rattle.std.specs.List.{list_any, flat_map}
+use Rattle.std.specs.Prelude.{ℕ, Bool, true, false, ◌&&◌, ◌||◌, ◌==◌, ◌+◌, List, [], ◌∷◌, ◌++◌, length, drop, if◌then◌else◌}
+use Rattle.std.specs.List.{flat_map}
 use Rattle.hub_glob.specs.declared.piece.Piece.{Piece}
-use Rattle.hub_glob.specs.declared.piece.Piece.TheVariants.{Lit, Any, Run, OneOf}
+use Rattle.hub_glob.specs.Taking.{takes, is_star}
+use Rattle.hub_glob.specs.TestLaws.{head, tail}
 use Rattle.hub_automaton.specs.declared.alternatives.Alternatives.{Alternatives}
-use Rattle.hub_automaton.specs.declared.step.Next.{Next}
+use Rattle.hub_glob.specs.declared.piece.Next.{Next}
 use Rattle.hub_automaton.specs.Spots.{Unpacked, is_name_kind, is_below_kind, spot_count}
-use Rattle.hub_automaton.specs.Words.{head, tail}
-
--- Whether a piece takes that character next.
-abbrev pub takes : Next → Piece → Bool
-takes x (Lit c) = x.character == c
-takes x Any = not (x.character == 47)
-takes x Run = not (x.character == 47) && not (x.first && x.character == 46)
-takes x (OneOf cs) = list_any (λ c. c == x.character) cs
-
-abbrev pub is_star : Piece → Bool
-is_star (Lit c) = false
-is_star Any = false
-is_star Run = true
-is_star (OneOf cs) = false
 
 -- The spot behind a piece: what was matched up to it and behind it before the character, and what is matched up to it
 -- with the character. A `*` takes the character and stays, or takes nothing.

@@ -1,17 +1,10 @@
 -- Bits in words of 64, and how spots move word by word when a text gets one more character.
-use Rattle.std.specs.Prelude.{ℕ, zero, suc, Bool, false, ◌&&◌, ◌||◌, ◌==◌, ◌+◌, ◌*◌, ◌/◌, ◌%◌, ◌^◌, List, [], ◌∷◌, length, take, drop, slice_index_or, if◌then◌else◌}
+use Rattle.std.specs.Prelude.{ℕ, zero, suc, Bool, ◌&&◌, ◌||◌, ◌==◌, ◌+◌, ◌*◌, ◌/◌, ◌%◌, ◌^◌, List, [], ◌∷◌, length, take, drop, slice_index_or, if◌then◌else◌}
 use Rattle.std.specs.Int.RustNames.{bit_or, bit_xor}
 use lib.Bits.{bit_and}
 use mir.Val.{bool_byte}
+use Rattle.hub_glob.specs.TestLaws.{head, tail}
 use Rattle.hub_automaton.specs.declared.words.Masks.{Masks}
-
-abbrev pub head : List Bool → Bool
-head [] = false
-head (b ∷ bs) = b
-
-abbrev pub tail : List Bool → List Bool
-tail [] = []
-tail (b ∷ bs) = bs
 
 abbrev pub first_word : List ℕ → ℕ
 first_word [] = 0

@@ -6,9 +6,8 @@ ghost use Rattle.hub_automaton.specs.Spots.{is_name_kind};
 ghost use Rattle.hub_automaton.specs.Words.{packed};
 
 use crate::alternatives::Alternatives;
-use crate::step::{Next, is_star, takes};
 use crate::words::{Words, pack};
-use hub_glob::{Kind, Piece};
+use hub_glob::{Kind, Next, Piece};
 use hub_path::Items;
 use std::alloc::{AllocError, Global};
 
@@ -51,13 +50,13 @@ fn masks_piece(mask: Mask, kind: Kind, piece: &Piece) -> bool
 {
     match mask {
         Mask::Entries => false,
-        Mask::Stars => is_star(piece),
+        Mask::Stars => piece.is_star(),
         Mask::Takers(character) => {
             let next = Next {
                 character,
                 first: false,
             };
-            !(is_name(kind) && character == '/') && !is_star(piece) && takes(piece, next)
+            !(is_name(kind) && character == '/') && !piece.is_star() && piece.takes(next)
         }
     }
 }

@@ -10,31 +10,6 @@ use hub_glob::Piece;
 use hub_path::Items;
 use std::alloc::AllocError;
 
-/// A character, and whether it stands where a component starts.
-#[derive(Clone, Copy)]
-pub(crate) struct Next {
-    pub(crate) character: char,
-    pub(crate) first: bool,
-}
-
-/// Whether a piece takes that character next.
-pub(crate) fn takes(piece: &Piece, next: Next) -> bool
-    ensures { result ≡ stepping.takes next piece.now }
-{
-    match piece {
-        Piece::Lit(c) => next.character == *c,
-        Piece::Any => next.character != '/',
-        Piece::Run => next.character != '/' && !(next.first && next.character == '.'),
-        Piece::OneOf(set) => set.as_slice().contains(&next.character),
-    }
-}
-
-pub(crate) fn is_star(piece: &Piece) -> bool
-    ensures { result ≡ stepping.is_star piece.now }
-{
-    matches!(piece, Piece::Run)
-}
-
 /// Adds the spots of a choice in the empty text.
 fn enter_choice(choice: &[Piece], new: &mut Vec<bool>) -> Result<(), AllocError>
     ensures { OnOk result (new.new.items ≡ new.old.items ++ stepping.entered choice.now) }
@@ -42,7 +17,7 @@ fn enter_choice(choice: &[Piece], new: &mut Vec<bool>) -> Result<(), AllocError>
     let mut before = true;
     new.push(true)?;
     for piece in choice {
-        before = is_star(piece) && before;
+        before = piece.is_star() && before;
         new.push(before)?;
     }
     Ok(())

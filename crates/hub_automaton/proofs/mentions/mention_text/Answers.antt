@@ -3,7 +3,7 @@ use Rattle.std.proofs.lemmas.Result.{err_from_is_err_and}
 use Rattle.std.proofs.lemmas.Iterator.{YieldsList-from_chars}
 use Rattle.std.proofs.lemmas.Iterator.Consumers.{YieldsList-turn, YieldsList-end}
 use Rattle.std.proofs.lemmas.List.{drop_all}
-use Rattle.hub_glob.proofs.Readings.{next_character}
+use Rattle.hub_glob.specs.TextChars.{next_character}
 use Rattle.hub_automaton.specs.Alphabet as alphabet
 use Rattle.hub_automaton.proofs.Alphabets.{mention_step, mention_refused, mention_end}
 use Rattle.hub_automaton.proofs.mentions.mention_text.Goals as goal

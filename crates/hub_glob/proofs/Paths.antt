@@ -11,7 +11,7 @@ use Rattle.hub_glob.specs.Specification.{Specification}
 use Rattle.hub_glob.specs.Glob.{glob, matches, by_kind}
 use Rattle.hub_glob.specs.Sweep.{Standing, at_start, pushed, pushed_all, is_matched}
 use Rattle.hub_glob.specs.TestLaws.{any-append, any-map, or-false}
-pub use Rattle.hub_glob.specs.TextChars.{name_chars}
+use Rattle.hub_glob.specs.TextChars.{name_chars}
 use Rattle.hub_glob.proofs.Sweeps.{is_matched_text}
 
 abbrev pub slashed : Path → List ℕ

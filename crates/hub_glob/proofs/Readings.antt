@@ -12,7 +12,6 @@ use Rattle.std.proofs.Math.Nat.{mul_assoc, mul-le-mul_left}
 use borrow.Author.Tests.{ltb-false}
 use Rattle.hub_path.specs.Texts.{bytes_eq-chars, is_nil, nil_ascii}
 use Rattle.hub_glob.specs.AsciiWords.{is_word}
-pub use Rattle.hub_glob.specs.TextChars.{next_character}
 use Rattle.hub_glob.specs.declared.fault.GlobFault.{GlobFault}
 use Rattle.hub_glob.specs.declared.path_spec.Kind.{Kind}
 use Rattle.hub_glob.specs.declared.path_spec.Kind.TheVariants as kind

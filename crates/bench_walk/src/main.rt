@@ -4,7 +4,7 @@
 #![tactic(auto)]
 
 use anyhow::{Result, bail};
-use hub_automaton::{Alphabet, Class};
+use hub_automaton::Alphabet;
 use hub_path::Name;
 use hub_profile::{Profile, read_profile};
 use hub_reach::{Stage, Walker, mention};
@@ -15,58 +15,80 @@ use std::time::{Duration, Instant};
 /// How many times the text is walked, unless the command line says so.
 const ROUNDS: u32 = 100;
 
-/// How many patterns the profile has.
-const PATTERNS: u32 = 64;
+/// How many times the profile has each of its lines.
+const COPIES: u32 = 16;
 
-/// How many letters stand between the two stars of a pattern; so it has 64 spots.
-const LETTERS: u32 = 61;
+/// Lines of a profile, each a pattern of 64 spots.
+const LINES: [&str; 4] = [
+    "ignore = Name *abcdefghijklmnopqrstuvwxyzabcdefghijklmnopqrstuvwxyzabcdefghi*\n",
+    "ignore = Path */*/step??-report.d/notes-[0-9][0-9]-*-of-the-*/day-[1-7]-*.t?[mn]xxxxxxxxxxx*\n",
+    "ignore = BelowPath *-report.d/*/old-[a-f]*-*-????-copy-of-*/*.b?k-*/*/*-[0-9]xxxxxxxxxxxx*\n",
+    "ignore = Name *?*?*?*?*?*?*?*?*?*?*?*?*?*?*?*?*?*?*?*?*?*?*?*?*?*?*?*?*?*?~x*\n",
+];
 
+/// What is walked.
 const TEXT: &str = "work/step-report.d/notes.tmp/";
 
-/// A profile of the whole replica, with patterns of all kinds.
+/// How many characters that is.
+const TEXT_CHARACTERS: u64 = 29;
+
+/// A walker of a profile, and the alphabet of what the profile says.
+#[derive(Drop)]
+struct Bench {
+    alphabet: Alphabet,
+    walker: Walker,
+}
+
 fn profile(alloc: Global) -> Result<Profile> {
     let mut text = String::from_str(alloc, "root = /srv/hub\nroot = /srv/spoke\n")?;
-    for number in 0..PATTERNS {
-        text.push_str(match number % 3 {
-            0 => "ignore = Name *",
-            1 => "ignore = Path *",
-            _ => "ignore = BelowPath *",
-        })?;
-        push_letters(&mut text, number)?;
-        text.push_str("*\n")?;
-    }
-    Ok(read_profile(
-        alloc,
-        Name::read(alloc, "bench")?,
-        text.as_str().as_bytes(),
-    )?)
-}
-
-/// Adds the letters of a pattern.
-fn push_letters(text: &mut String, number: u32) -> Result<()> {
-    for place in 0..LETTERS {
-        if let Some(letter) = char::from_u32(97 + (number % 26 + place) % 26) {
-            text.push(letter)?;
+    for _ in 0..COPIES {
+        for line in LINES {
+            text.push_str(line)?;
         }
     }
-    Ok(())
+    let name = Name::read(alloc, "bench")?;
+    Ok(read_profile(alloc, name, text.as_str().as_bytes())?)
 }
 
-/// The stage after as many rounds of the text.
-fn walk(walker: &Walker, alphabet: &Alphabet, rounds: u32) -> Result<Stage> {
-    let mut stage = walker.start()?;
-    for _ in 0..rounds {
+impl Bench {
+    fn new(alloc: Global) -> Result<Bench> {
+        let profile = profile(alloc)?;
+        let mut alphabet = Alphabet::new(alloc)?;
+        mention(&mut alphabet, &profile)?;
+        let walker = Walker::new(alloc, &profile, &alphabet)?;
+        Ok(Bench { alphabet, walker })
+    }
+
+    /// The stage after as many rounds of the text.
+    fn walk(&self, rounds: u32) -> Result<Stage> {
+        let mut stage = self.walker.start()?;
+        for _ in 0..rounds {
+            stage = self.walk_once(stage)?;
+        }
+        Ok(stage)
+    }
+
+    fn walk_once(&self, start: Stage) -> Result<Stage> {
+        let mut stage = start;
         for character in TEXT.chars() {
-            stage = next(walker, &stage, alphabet.class_of(character))?;
+            stage = self.next(&stage, character)?;
+        }
+        Ok(stage)
+    }
+
+    fn next(&self, stage: &Stage, character: char) -> Result<Stage> {
+        match self.alphabet.class_of(character) {
+            Some(class) if class.number() < self.walker.class_count() => {
+                Ok(self.walker.advance(stage, class)?)
+            }
+            _ => bail!("a character has no class"),
         }
     }
-    Ok(stage)
-}
 
-fn next(walker: &Walker, stage: &Stage, class: Option<Class>) -> Result<Stage> {
-    match class {
-        Some(class) if class.number() < walker.class_count() => Ok(walker.advance(stage, class)?),
-        _ => bail!("a character has no class"),
+    /// Whether the path is reached whose text has one character more.
+    fn is_reached(&self, stage: &Stage, character: char) -> Result<bool> {
+        let stage = self.next(stage, character)?;
+        Ok(self.walker.reached(&stage))
     }
 }
 
@@ -80,23 +102,19 @@ fn rate(characters: u64, time: Duration) -> u64 {
 }
 
 fn main(rt: HostRuntime) -> Result<()> {
-    let alloc = rt.alloc();
     let rounds = match env::args(&rt)?.nth(1) {
         Some(word) => word.as_str().parse::<u32>()?,
         None => ROUNDS,
     };
-    let profile = profile(alloc)?;
-    let mut alphabet = Alphabet::new(alloc)?;
-    mention(&mut alphabet, &profile)?;
-    let walker = Walker::new(alloc, &profile, &alphabet)?;
+    let bench = Bench::new(rt.alloc())?;
     let start = Instant::now(&rt)?;
-    let stage = walk(&walker, &alphabet, rounds)?;
+    let stage = bench.walk(rounds)?;
     let time = start.elapsed(&rt)?;
-    let characters = u64::from(rounds).saturating_mul(29);
+    let characters = u64::from(rounds).saturating_mul(TEXT_CHARACTERS);
     let rate = rate(characters, time);
     eprintln!(rt; "advance: {rate} characters a second")?;
-    let classes = walker.class_count();
-    let reached = walker.reached(&walker.advance(&stage, Class::new(0))?);
-    println!(rt; "{PATTERNS} patterns, {classes} classes, {characters} characters, reached: {reached}")?;
+    let classes = bench.walker.class_count();
+    let reached = bench.is_reached(&stage, 'a')?;
+    println!(rt; "{classes} classes, {characters} characters, reached: {reached}")?;
     Ok(())
 }

@@ -5,3 +5,4 @@ pub mod Stages
 pub mod Advances
 pub mod Samples
 pub mod Grows
+pub mod Alike

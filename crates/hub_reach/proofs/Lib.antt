@@ -6,3 +6,4 @@ pub mod Advances
 pub mod Samples
 pub mod Grows
 pub mod Alike
+pub mod Below

@@ -9,7 +9,9 @@ ghost use Rattle.hub_reach.specs.Shape.{is_text_character};
 ghost use Rattle.hub_reach.specs.Stage.{stage_of};
 ghost use Rattle.hub_reach.specs.Walk.{is_walked};
 
-use hub_automaton::laws::{classes_are_alike, what_is_kept_goes_on_alike};
+use hub_automaton::laws::{
+    classes_are_alike, the_same_is_kept_of_each_specification, what_is_kept_goes_on_alike,
+};
 
 /// A profile reaches a path exactly where it is reached by going down to it name by name: no path above it, at or below a
 /// kept value, is ignored; nor is the path itself; and it is a kept value, or one stands above it.
@@ -29,5 +31,6 @@ pub fn stages_go_on_alike()
         → IsTrue (is_text_character x) → IsTrue (is_text_character y) → stage_of P (t ++ x ∷ []) ≡ stage_of P (t ++ y ∷ []) }
 {
     classes_are_alike();
+    the_same_is_kept_of_each_specification();
     what_is_kept_goes_on_alike();
 }

@@ -52,8 +52,8 @@ fn is_open(profile: &Profile, kept: &RelPath, path: &RelPath) -> bool
     true
 }
 
-/// Whether the path of the first `len` names is ignored. Where nothing that `BelowPath` says in `ignore` matches the path,
-/// it matches none of its fronts; `below` says whether it has to be tried.
+/// Whether the path of the first `len` names is ignored. A `BelowPath` that matches it matches the whole path too: so
+/// `below` may be false where none in `ignore` matches the path, and then none is tried.
 fn is_ignored(profile: &Profile, path: &RelPath, len: usize, below: bool) -> bool
     requires within { len ≤ length path.now }
     requires below { below ≡ false → list_any (λ s. is_below_kind s.kind && matches s path.now) profile.now.ignore ≡ false }
@@ -79,7 +79,7 @@ fn is_matched_below(spec: &PathSpec, path: &RelPath) -> bool
     }
 }
 
-/// Whether one of these matches the path of the first `len` names. No `BelowPath` is tried, unless `below` says so.
+/// Whether one of these matches the path of the first `len` names. Each `BelowPath` is tried only if `below` says so.
 fn is_matched(specs: &[PathSpec], path: &RelPath, len: usize, below: bool) -> bool
     requires within { len ≤ length path.now }
     requires below { below ≡ false → list_any (λ s. is_below_kind s.kind && matches s path.now) specs.now ≡ false }

@@ -5,3 +5,5 @@ pub mod Stages
 pub mod Advances
 pub mod Samples
 pub mod Grows
+pub mod Alike
+pub mod Below

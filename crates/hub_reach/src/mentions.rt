@@ -1,8 +1,8 @@
 //! The alphabet of what profiles say.
-ghost use Rattle.std.specs.Prelude.{ℕ, List, IsTrue, OnOk};
-ghost use Rattle.std.specs.List.{list_all};
-ghost use Rattle.hub_automaton.specs.Alphabet.{mentions, path_characters, spec_characters};
-ghost use Rattle.hub_reach.specs.Mention.{Mentions};
+ghost use Rattle.std.specs.Prelude.{◌≡◌, ℕ, List, IsTrue, IfErr, OnOk, OnErr};
+ghost use Rattle.std.specs.List.{flat_map};
+ghost use Rattle.hub_automaton.specs.Alphabet.{mentions, path_characters, spec_characters, with_characters, Refuses};
+ghost use Rattle.hub_reach.specs.Mention.{Mentions, mentioned_by, IsPartly};
 
 use hub_automaton::laws::what_is_added_is_mentioned;
 use hub_automaton::{Alphabet, AutomatonFault};
@@ -12,12 +12,17 @@ use hub_profile::Profile;
 
 /// Mentions the characters of a profile's kept values and patterns, so that there is a walker of it.
 ///
-/// The fault is `TooManyCharacters` where more than the alphabet may have would be mentioned then, or `OutOfMemory`. After
-/// either some of the characters may have been added.
+/// The fault is `TooManyCharacters` where more than `MENTIONED_CHARACTERS` would be mentioned then, or `OutOfMemory`. After
+/// either some of the characters may have been added: those of the kept values first, then those of `ignore`, then those of
+/// `ignorenot`.
 pub fn mention(alphabet: &mut Alphabet, profile: &Profile) -> Result<(), AutomatonFault>
+    ensures ok { OnOk result (alphabet.new ≡ with_characters alphabet.old (mentioned_by profile.now)) }
     ensures mentioned { OnOk result (Mentions alphabet.new profile.now) }
     ensures kept { OnOk result ((cs : List ℕ) → IsTrue (mentions alphabet.old cs) → IsTrue (mentions alphabet.new cs)) }
+    ensures err { IfErr result (Refuses alphabet.old (mentioned_by profile.now)) }
+    ensures partly { OnErr result (IsPartly alphabet.old (mentioned_by profile.now) alphabet.new) }
 {
+    what_is_added_is_mentioned();
     mention_paths(alphabet, profile.paths())?;
     mention_specs(alphabet, profile.ignore())?;
     mention_specs(alphabet, profile.ignorenot())?;
@@ -25,22 +30,22 @@ pub fn mention(alphabet: &mut Alphabet, profile: &Profile) -> Result<(), Automat
 }
 
 fn mention_paths(alphabet: &mut Alphabet, paths: &[RelPath]) -> Result<(), AutomatonFault>
-    ensures mentioned { OnOk result (IsTrue (list_all (λ p. mentions alphabet.new (path_characters p)) paths.now)) }
-    ensures kept { OnOk result ((cs : List ℕ) → IsTrue (mentions alphabet.old cs) → IsTrue (mentions alphabet.new cs)) }
+    ensures ok { OnOk result (alphabet.new ≡ with_characters alphabet.old (flat_map path_characters paths.now)) }
+    ensures err { IfErr result (Refuses alphabet.old (flat_map path_characters paths.now)) }
+    ensures partly { OnErr result (IsPartly alphabet.old (flat_map path_characters paths.now) alphabet.new) }
 {
     for path in paths {
-        what_is_added_is_mentioned();
         alphabet.add_path(path)?;
     }
     Ok(())
 }
 
 fn mention_specs(alphabet: &mut Alphabet, specs: &[PathSpec]) -> Result<(), AutomatonFault>
-    ensures mentioned { OnOk result (IsTrue (list_all (λ s. mentions alphabet.new (spec_characters s)) specs.now)) }
-    ensures kept { OnOk result ((cs : List ℕ) → IsTrue (mentions alphabet.old cs) → IsTrue (mentions alphabet.new cs)) }
+    ensures ok { OnOk result (alphabet.new ≡ with_characters alphabet.old (flat_map spec_characters specs.now)) }
+    ensures err { IfErr result (Refuses alphabet.old (flat_map spec_characters specs.now)) }
+    ensures partly { OnErr result (IsPartly alphabet.old (flat_map spec_characters specs.now) alphabet.new) }
 {
     for spec in specs {
-        what_is_added_is_mentioned();
         alphabet.add_spec(spec)?;
     }
     Ok(())

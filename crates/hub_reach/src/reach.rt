@@ -1,11 +1,12 @@
 //! Which paths a profile reaches.
-ghost use Rattle.std.specs.Prelude.{◌≡◌, ◌≤◌, ◌&&◌, length, take, IsTrue};
+ghost use Rattle.std.specs.Prelude.{◌≡◌, ◌≤◌, ◌&&◌, ◌||◌, not, false, length, take, IsTrue};
 ghost use Rattle.std.specs.List.{list_any};
 ghost use Rattle.hub_path.specs.Path.{is_over};
 ghost use Rattle.hub_glob.specs.Glob.{matches};
+ghost use Rattle.hub_automaton.specs.Spots.{is_below_kind};
 ghost use Rattle.hub_reach.specs.Reach.{reach, is_open, is_ignored};
 
-use hub_glob::PathSpec;
+use hub_glob::{Kind, PathSpec};
 use hub_path::RelPath;
 use hub_profile::Profile;
 
@@ -42,28 +43,68 @@ fn is_open(profile: &Profile, kept: &RelPath, path: &RelPath) -> bool
     requires { IsTrue (is_over kept.now path.now) }
     ensures { result ≡ is_open profile.now kept.now path.now }
 {
+    let below = is_below(profile.ignore(), path);
     for i in 0..path.len() {
-        if kept.len() <= i + 1 && is_ignored(profile, path, i + 1) {
+        if kept.len() <= i + 1 && is_ignored(profile, path, i + 1, below) {
             return false;
         }
     }
     true
 }
 
-/// Whether the path of the first `len` names is ignored.
-fn is_ignored(profile: &Profile, path: &RelPath, len: usize) -> bool
-    requires { len ≤ length path.now }
+/// Whether the path of the first `len` names is ignored. A `BelowPath` that matches it matches the whole path too: so
+/// `below` may be false where none in `ignore` matches the path, and then none is tried.
+fn is_ignored(profile: &Profile, path: &RelPath, len: usize, below: bool) -> bool
+    requires within { len ≤ length path.now }
+    requires below { below ≡ false → list_any (λ s. is_below_kind s.kind && matches s path.now) profile.now.ignore ≡ false }
     ensures { result ≡ is_ignored profile.now (take len path.now) }
 {
-    is_matched(profile.ignore(), path, len) && !is_matched(profile.ignorenot(), path, len)
+    is_matched(profile.ignore(), path, len, below)
+        && !is_matched(profile.ignorenot(), path, len, true)
 }
 
-/// Whether one of these matches the path of the first `len` names.
-fn is_matched(specs: &[PathSpec], path: &RelPath, len: usize) -> bool
-    requires { len ≤ length path.now }
+/// Whether one of these is a `BelowPath` that matches the path.
+fn is_below(specs: &[PathSpec], path: &RelPath) -> bool
+    ensures { result ≡ list_any (λ s. is_below_kind s.kind && matches s path.now) specs.now }
+{
+    specs.iter().any(|spec| is_matched_below(spec, path))
+}
+
+fn is_matched_below(spec: &PathSpec, path: &RelPath) -> bool
+    ensures { result ≡ (is_below_kind spec.now.kind && matches spec.now path.now) }
+{
+    match spec.kind() {
+        Kind::BelowPath => spec.matches(path),
+        Kind::Name | Kind::Path => false,
+    }
+}
+
+/// Whether one of these matches the path of the first `len` names. Each `BelowPath` is tried only if `below` says so.
+fn is_matched(specs: &[PathSpec], path: &RelPath, len: usize, below: bool) -> bool
+    requires within { len ≤ length path.now }
+    requires below { below ≡ false → list_any (λ s. is_below_kind s.kind && matches s path.now) specs.now ≡ false }
     ensures { result ≡ list_any (λ s. matches s (take len path.now)) specs.now }
 {
-    specs.iter().any(|spec| spec.matches_front(path, len))
+    any_matched(specs, path, len, below)
+}
+
+fn any_matched(specs: &[PathSpec], path: &RelPath, len: usize, below: bool) -> bool
+    requires { len ≤ length path.now }
+    ensures { result ≡ list_any (λ s. (below || not (is_below_kind s.kind)) && matches s (take len path.now)) specs.now }
+{
+    specs
+        .iter()
+        .any(|spec| is_matched_front(spec, path, len, below))
+}
+
+fn is_matched_front(spec: &PathSpec, path: &RelPath, len: usize, below: bool) -> bool
+    requires { len ≤ length path.now }
+    ensures { result ≡ ((below || not (is_below_kind spec.now.kind)) && matches spec.now (take len path.now)) }
+{
+    match spec.kind() {
+        Kind::BelowPath if !below => false,
+        Kind::BelowPath | Kind::Name | Kind::Path => spec.matches_front(path, len),
+    }
 }
 
 #[cfg(test)]

@@ -1,14 +1,27 @@
-use Rattle.std.proofs.Common.{◌∙◌, ap, arith, ℕ, List}
-use Rattle.hub_automaton.specs.Alphabet.{mentions, path_characters}
-use Rattle.hub_reach.proofs.Grows.{Grows, all-more}
+use Rattle.std.proofs.Common.{◌∙◌, arith}
+use Rattle.std.proofs.lemmas.Result.{err_from_is_err_and}
+use Rattle.hub_automaton.specs.Alphabet.{path_characters}
+use Rattle.hub_reach.proofs.Grows.{added-more, added-all, refused-one, partly-some}
 use Rattle.hub_reach.proofs.mentions.mention_paths.Goals as goal
 
 pub loop-path-preserved : goal.loop-path-preserved
 loop-path-preserved c =
-    let now = c.add_path.new.self in
-    let is = c.in_ok-add_path.ensures.ok in
-    let grows : Grows c.loop-path.alphabet now = λ cs h. ap (λ (ms : List ℕ). mentions ms cs) is ∙ c.what_is_added_is_mentioned.ensures.kept c.loop-path.alphabet (path_characters c.path-item.result) cs h in
-    let here = ap (λ (ms : List ℕ). mentions ms (path_characters c.path-item.result)) is ∙ c.what_is_added_is_mentioned.ensures.added c.loop-path.alphabet (path_characters c.path-item.result) in (
-      all-more path_characters c.loop-path.alphabet now c.args.paths.now c.loop-path.path-index c.path-item.result (omega arith) c.path-item.is grows here c.loop-path.invariant.0,
-      λ cs h. grows cs (c.loop-path.invariant.1 cs h),
-    )
+    added-more path_characters c.args.alphabet.now c.loop-path.alphabet c.add_path.new.self c.args.paths.now c.loop-path.path-index c.path-item.result (omega arith) c.path-item.is
+    c.in_ok-add_path.ensures.ok c.loop-path.invariant
+
+pub returns-in_err-add_path-clause-err : goal.returns-in_err-add_path-clause-err
+returns-in_err-add_path-clause-err c =
+    let p = err_from_is_err_and c.from_residual.result c.from_residual.ensures.1 in
+    rw (p.1, p.2)
+    (refused-one path_characters c.args.alphabet.now c.loop-path.alphabet c.args.paths.now c.loop-path.path-index c.path-item.result c.in_err-add_path.field-0.0 (omega arith) c.path-item.is
+    c.loop-path.invariant c.in_err-add_path.ensures.err)
+
+pub returns-in_err-add_path-clause-partly : goal.returns-in_err-add_path-clause-partly
+returns-in_err-add_path-clause-partly c =
+    let p = err_from_is_err_and c.from_residual.result c.from_residual.ensures.1 in
+    rw p.1
+    (partly-some path_characters c.args.alphabet.now c.add_path.new.self c.args.paths.now c.loop-path.path-index (c.in_err-add_path.ensures.kept ∙ c.loop-path.invariant))
+
+pub returns-clause-ok : goal.returns-clause-ok
+returns-clause-ok c =
+    added-all path_characters c.args.alphabet.now c.loop-path.alphabet c.args.paths.now c.loop-path.path-index (omega arith) c.loop-path.invariant

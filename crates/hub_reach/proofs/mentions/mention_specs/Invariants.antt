@@ -1,9 +1,7 @@
-use Rattle.std.proofs.Common.{take, List, ℕ}
-use Rattle.std.specs.Prelude.{IsTrue}
-use Rattle.std.specs.List.{list_all}
-use Rattle.hub_automaton.specs.Alphabet.{mentions, spec_characters}
+use Rattle.std.proofs.Common.{◌≡◌, take}
+use Rattle.std.specs.List.{flat_map}
+use Rattle.hub_automaton.specs.Alphabet.{spec_characters, with_characters}
 use Rattle.hub_reach.proofs.mentions.mention_specs.Given as goal
 
 abbrev pub invariant-loop-spec : goal.invariant-loop-spec
-invariant-loop-spec l =
-    IsTrue (list_all (λ x. mentions l.alphabet (spec_characters x)) (take l.spec-index l.specs)) × ((cs : List ℕ) → IsTrue (mentions l.initial.alphabet cs) → IsTrue (mentions l.alphabet cs))
+invariant-loop-spec l = l.alphabet ≡ with_characters l.initial.alphabet (flat_map spec_characters (take l.spec-index l.specs))

@@ -1,5 +1,5 @@
 -- From the line that was written to what is true of the input: what each line begins with.
-use Rattle.std.proofs.Common.{◌≡◌, ◌∙◌, ◌==◌, ◌⊎◌, inl, inr, ℕ, suc, zero, true, false, List, ◌∷◌, ◌++◌, length, take, Option, Some, None, codes, refl, sym, ap, subst, arith, eq-eqb, length-append}
+use Rattle.std.proofs.Common.{◌≡◌, ◌∙◌, ◌==◌, ◌≤◌, ◌⊎◌, inl, inr, ℕ, suc, zero, true, false, List, ◌∷◌, ◌++◌, length, take, Option, Some, None, codes, refl, sym, ap, subst, arith, eq-eqb, length-append}
 use Rattle.std.specs.Prelude.{IfSome, ⊤}
 use Rattle.std.specs.Io.KnownBytes.{Appends, Keeps}
 use Rattle.std.proofs.lemmas.List.{append_cancel_left}
@@ -9,7 +9,7 @@ use Rattle.hub_profile.specs.Parts.{Parts}
 use Rattle.hubsync.specs.declared.check.Refusal.TheVariants.{TooManyProfiles, SameName, NestedRoots, Patterns, Overlaps}
 use Rattle.hubsync.specs.declared.report.Report.{Report}
 use Rattle.hubsync.specs.declared.report.Report.TheVariants.{Safe, Refused, Reached, NotReached, NoProfile, BadPath, BadBundle, BadProfile, OutOfMemory}
-use Rattle.hubsync.specs.Report.{IsLine, IsTold, IsTrueOf, Spells, Holds, SpellsSafe, SpellsReach, Answers, AnswersNothing, WritesFront}
+use Rattle.hubsync.specs.Report.{IsLine, IsTold, IsTrueOf, Spells, Holds, SpellsSafe, SpellsReach, Answers, AnswersNothing, WritesFront, status_of}
 use Rattle.hubsync.specs.Words.{Request}
 
 -- What holds of the profiles of an input holds of the input.
@@ -151,3 +151,22 @@ pub asked-answers : {T : Type 0} (kind none : T) (asked : Option Request) (reque
     → Answers request remaining old new status
 asked-answers kind none asked request remaining old new status (inl e) memory is = memory-answers request remaining old new status (memory e)
 asked-answers kind none asked request remaining old new status (inr e) memory is = absurd (none-some request (sym e ∙ is))
+
+status-le : (r : Report) → status_of r ≤ 2
+status-le Safe = omega arith
+status-le (Refused r) = omega arith
+status-le Reached = omega arith
+status-le NotReached = omega arith
+status-le (NoProfile name) = omega arith
+status-le (BadPath f) = omega arith
+status-le (BadBundle f) = omega arith
+status-le (BadProfile f) = omega arith
+status-le OutOfMemory = omega arith
+
+-- The status of each answer is 0, 1 or 2.
+pub answers-status : (request : Request) (remaining old new : Option (List ℕ)) (status : ℕ) → Answers request remaining old new status → status ≤ 2
+answers-status request remaining old new status a = go a.status_is
+  where
+    go : ((status ≡ status_of a.report) × (take a.written a.line ≡ a.line)) ⊎ (status ≡ 2) → status ≤ 2
+    go (inl e) = omega (arith, e.0, status-le a.report)
+    go (inr e) = omega (arith, e)

@@ -1,6 +1,7 @@
 -- What the program answers to an input, and when.
 use Rattle.std.specs.Prelude.{◌≡◌, ◌⊎◌, ◌≤◌, ◌∷◌, ◌++◌, ⊤, ℕ, Bool, true, false, List, [], length, take, Option, Some, None, IfSome, Result, Ok, Err, chars, codes, encode_utf8_all}
 use Rattle.std.specs.List.{flat_map}
+use Rattle.std.specs.Fmt.{decimal}
 use Rattle.std.specs.Io.KnownBytes.{Appends, Keeps}
 use Rattle.hub_path.specs.Path.{Name, Path, text_of}
 use Rattle.hub_path.specs.Reading.{path_reading}
@@ -164,12 +165,20 @@ refusal_line (NestedRoots r s) = flat_map (λ t. t) (codes "refused: NestedRoots
 refusal_line Patterns = codes "refused: Patterns\n"
 refusal_line (Overlaps o) = overlap_line o
 
--- The line of a fault. What the fault is called is not said here.
-abbrev pub fault_line : List ℕ → List ℕ
-fault_line detail = flat_map (λ t. t) (codes "fault: " ∷ detail ∷ codes "\n" ∷ [])
+-- The line of a fault: the place that has it, and what it is called.
+abbrev pub fault_line : List ℕ → List ℕ → List ℕ
+fault_line place name = flat_map (λ t. t) (codes "fault: " ∷ place ∷ codes ": " ∷ name ∷ codes "\n" ∷ [])
 
-abbrev pub IsFaultLine : List ℕ → Type 0
-IsFaultLine t = (detail : List ℕ) × (t ≡ fault_line detail)
+-- What the fault is called is not said here.
+abbrev pub IsFaultLine : List ℕ → List ℕ → Type 0
+IsFaultLine place t = (name : List ℕ) × (t ≡ fault_line place name)
+
+-- The places: a line of the bundle, and a line of a profile, counted from the one below its heading.
+abbrev pub bundle_place : ℕ → List ℕ
+bundle_place line = codes "bundle line " ++ decimal line
+
+abbrev pub profile_place : Name → ℕ → List ℕ
+profile_place name line = codes "profile " ++ (encode_utf8_all name ++ (codes " line " ++ decimal line))
 
 -- The line that says an answer.
 abbrev pub IsLine : Report → List ℕ → Type 0
@@ -178,9 +187,9 @@ IsLine (Refused r) t = t ≡ refusal_line r
 IsLine Reached t = t ≡ codes "reached\n"
 IsLine NotReached t = t ≡ codes "not reached\n"
 IsLine (NoProfile name) t = t ≡ flat_map (λ t. t) (codes "fault: no profile " ∷ name.now ∷ codes "\n" ∷ [])
-IsLine (BadPath f) t = IsFaultLine t
-IsLine (BadBundle f) t = IsFaultLine t
-IsLine (BadProfile f) t = IsFaultLine t
+IsLine (BadPath f) t = IsFaultLine (codes "path") t
+IsLine (BadBundle f) t = IsFaultLine (bundle_place f.line) t
+IsLine (BadProfile f) t = IsFaultLine (profile_place f.profile f.fault.line) t
 IsLine OutOfMemory t = t ≡ codes "fault: out of memory\n"
 
 -- The status of an answer that was written whole.

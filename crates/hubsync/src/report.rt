@@ -59,19 +59,11 @@ impl Report<'_> {
             Report::NotReached => String::from_str(alloc, "not reached\n"),
             Report::NoProfile(name) => joined(alloc, &["fault: no profile ", name, "\n"]),
             Report::BadPath(fault) => {
-                let detail = format!(in alloc; "path: {fault}")?;
-                fault_line(alloc, detail.as_str())
+                let name = fault.to_string(alloc)?;
+                fault_line(alloc, "path", name.as_str())
             }
-            Report::BadBundle(fault) => {
-                let detail = format!(in alloc; "bundle {fault}")?;
-                fault_line(alloc, detail.as_str())
-            }
-            Report::BadProfile(fault) => {
-                let name = &fault.profile;
-                let fault = &fault.fault;
-                let detail = format!(in alloc; "profile {name} {fault}")?;
-                fault_line(alloc, detail.as_str())
-            }
+            Report::BadBundle(fault) => bundle_fault_line(alloc, fault),
+            Report::BadProfile(fault) => profile_fault_line(alloc, fault),
             Report::OutOfMemory => String::from_str(alloc, "fault: out of memory\n"),
         }
     }
@@ -123,11 +115,32 @@ fn overlap_line(alloc: Global, overlap: &Overlap) -> Result<String, AllocError>
     joined(alloc, &parts)
 }
 
-/// The line of a fault.
-fn fault_line(alloc: Global, detail: &str) -> Result<String, AllocError>
-    ensures { IfOk result (λ t. string_bytes t ≡ report.fault_line detail.now) }
+/// The line of a fault of the bundle.
+fn bundle_fault_line(alloc: Global, fault: &BundleLineFault) -> Result<String, AllocError>
+    ensures { IfOk result (λ t. report.IsFaultLine (report.bundle_place fault.now.line) (string_bytes t)) }
 {
-    joined(alloc, &["fault: ", detail, "\n"])
+    let line = fault.line;
+    let place = format!(in alloc; "bundle line {line}")?;
+    let name = fault.fault.to_string(alloc)?;
+    fault_line(alloc, place.as_str(), name.as_str())
+}
+
+/// The line of a fault of a profile.
+fn profile_fault_line(alloc: Global, fault: &SectionFault) -> Result<String, AllocError>
+    ensures { IfOk result (λ t. report.IsFaultLine (report.profile_place fault.now.profile fault.now.fault.line) (string_bytes t)) }
+{
+    let profile = &fault.profile;
+    let line = fault.fault.line;
+    let place = format!(in alloc; "profile {profile} line {line}")?;
+    let name = fault.fault.fault.to_string(alloc)?;
+    fault_line(alloc, place.as_str(), name.as_str())
+}
+
+/// The line of the fault at a place that has this name.
+fn fault_line(alloc: Global, place: &str, name: &str) -> Result<String, AllocError>
+    ensures { IfOk result (λ t. string_bytes t ≡ report.fault_line place.now name.now) }
+{
+    joined(alloc, &["fault: ", place, ": ", name, "\n"])
 }
 
 /// These texts, one after another.

@@ -1,6 +1,8 @@
 //! What the program does, over any reader and writer.
-ghost use Rattle.std.specs.Prelude.{◌≡◌, ◌++◌, ℕ, List, true, false, codes, take, Some, None, IsTrue};
+ghost use Rattle.std.specs.Prelude.{◌≡◌, ◌≤◌, ◌++◌, ℕ, List, true, false, codes, take, Some, None, IsTrue};
 ghost use Rattle.std.specs.Io.KnownBytes.{Appends, Keeps};
+ghost use Rattle.std.specs.IoError.{error_kind};
+ghost use Rattle.std.specs.declared.io.ErrorKind.TheVariants as io_kind;
 ghost use Rattle.clap.specs.Walk.{texts};
 ghost use Rattle.clap.specs.Words.{kind_of};
 ghost use Rattle.hubsync.specs.Report.{Answers, AnswersNothing, SpellsReach, SpellsSafe, WritesFront};
@@ -11,6 +13,7 @@ use crate::words::{Asked, read_words};
 use clap::Error;
 use clap::error::ErrorKind;
 use std::alloc::Global;
+use std::io;
 use std::io::{Eprint, Read, Write};
 
 /// Does what the words on the command line ask for, as `hubsync` does: reads all of the input, and writes one line.
@@ -27,6 +30,7 @@ pub fn serve<'a, T: AllocGlobal + Eprint, R: Read, W: Write>(
     input: &mut R,
     output: &mut W,
 ) -> u8
+    ensures status { result ≤ 2 }
     ensures words { asked_of (texts words.entry.now) ≡ None → AnswersNothing (W.contents output.old) (W.contents output.new) result }
     ensures answer { (request : Request) → asked_of (texts words.entry.now) ≡ Some request
         → Answers request (R.remaining input.old) (W.contents output.old) (W.contents output.new) result }
@@ -54,6 +58,22 @@ fn refuse<T: Eprint, W: Write>(rt: &T, error: &Error, output: &mut W) -> u8
     }
     // where the standard error fails too, nobody is left to be told
     let _ = rt.eprint(error);
+    2
+}
+
+/// Tells the user why the words on the command line are not read at all, as where one is no UTF-8; the status is 2.
+///
+/// That memory was refused is told by the line of that answer on the output. Else the output is left alone, and the text
+/// for the user goes to the standard error.
+pub fn refuse_unread<T: Eprint, W: Write>(rt: &T, error: &io::Error, output: &mut W) -> u8
+    ensures nothing { AnswersNothing (W.contents output.old) (W.contents output.new) result }
+    ensures memory { error_kind error.now ≡ io_kind.OutOfMemory → WritesFront (W.contents output.old) (W.contents output.new) (codes "fault: out of memory\n") 2 result }
+{
+    if error.kind() == io::ErrorKind::OutOfMemory {
+        return write_answer("fault: out of memory\n", 2, output);
+    }
+    // where the standard error fails too, nobody is left to be told
+    let _ = eprintln!(rt; "error: the words on the command line can't be read: {error}");
     2
 }
 

@@ -200,6 +200,20 @@ fn words_that_ask_for_nothing_are_answered_with_nothing(rt: HostRuntime) -> Resu
     Ok(())
 }
 
+#[test]
+fn words_that_are_not_read_are_told(rt: HostRuntime) -> Result<(), Fail> {
+    for (kind, want) in [
+        (ErrorKind::InvalidData, ""),
+        (ErrorKind::OutOfMemory, "fault: out of memory\n"),
+    ] {
+        let error = io::Error::from(kind);
+        let mut output: Vec<u8> = Vec::new(rt.alloc());
+        assert_eq!(rt; refuse_unread(&rt, &error, &mut output), 2);
+        assert!(rt; output.as_slice() == want.as_bytes());
+    }
+    Ok(())
+}
+
 /// Profiles, what the words ask of them, and the answer.
 type Asking = (
     &'static [(&'static str, &'static str)],

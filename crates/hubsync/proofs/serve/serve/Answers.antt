@@ -3,7 +3,7 @@ use Rattle.clap.specs.Words.{kind_of}
 use Rattle.clap.specs.declared.error.kind.ErrorKind.TheVariants.{OutOfMemory}
 use Rattle.hubsync.specs.Report.{SpellsReach}
 use Rattle.hubsync.specs.Words.{request_of}
-use Rattle.hubsync.proofs.Answered.{safe-written, reached-written, not_reached-written, nothing-written, asked-answers}
+use Rattle.hubsync.proofs.Answered.{safe-written, reached-written, not_reached-written, nothing-written, asked-answers, answers-status}
 use Rattle.hubsync.proofs.serve.serve.Goals as goal
 
 pub returns-in-Ok-clause-safe : goal.returns-in-Ok-clause-safe
@@ -28,3 +28,6 @@ returns-in-Err-clause-reached g c = λ bytes old text e f h. absurd (nothing-wri
 
 pub returns-in-Err-clause-not_reached : goal.returns-in-Err-clause-not_reached
 returns-in-Err-clause-not_reached g c = λ bytes old text e f h. absurd (nothing-written _ _ _ old _ 110 c.refuse.ensures.nothing refl f h)
+
+pub returns-in-Ok-clause-status : goal.returns-in-Ok-clause-status
+returns-in-Ok-clause-status g c = answers-status (request_of c.in-Ok.asked) _ _ _ _ c.answer.ensures

@@ -7,9 +7,9 @@ use Rattle.std.proofs.lemmas.List.Sorted.{searched}
 use Rattle.std.specs.List.{list_all, flat_map, range_with_len, position_from}
 use Rattle.std.proofs.lemmas.List.{drop_more, drop_all}
 use Rattle.std.proofs.lemmas.Bool.Decides.{nat_tests}
-use Rattle.hub_automaton.specs.declared.fault.AutomatonFault.{AutomatonFault}
 use Rattle.hub_automaton.specs.declared.alphabet.TheConstants.{MENTIONED_CHARACTERS}
-use Rattle.hub_automaton.specs.Alphabet.{is_left_out, is_mentioned, class_of, class_count, first_unmentioned, sample, ascends, IsAlphabet, placed, with_character, with_characters, Refuses, mentions}
+use Rattle.hub_automaton.specs.Alphabet.{is_left_out, is_mentioned, class_of, class_count, first_unmentioned, sample, ascends, IsAlphabet, placed, with_character, with_characters, mentions}
+use Rattle.hub_automaton.specs.Adding.{length-placed}
 
 pub both : (a b : Bool) → (a && b) ≡ true → (a ≡ true) × (b ≡ true)
 both true b h = (refl, h)
@@ -108,13 +108,6 @@ all-placed p (m ∷ ms) c = by_test (nat_lt c m) (all-placed p ms c) where
   by_test true h = refl
   by_test false h = ap (λ b. p m && b) h ∙ swap_and (p m) (p c) (list_all p ms)
 
-length-placed : (ms : List ℕ) (c : ℕ) → length (placed ms c) ≡ length ms + 1
-length-placed [] c = refl
-length-placed (m ∷ ms) c = by_test (nat_lt c m) (length-placed ms c) where
-  by_test : (b : Bool) → length (placed ms c) ≡ length ms + 1 → length (cond b (c ∷ m ∷ ms) (m ∷ placed ms c)) ≡ length (m ∷ ms) + 1
-  by_test true h = omega arith
-  by_test false h = omega (arith, h)
-
 or_false : (a b : Bool) → (a || b) ≡ false → (a ≡ false) × (b ≡ false)
 or_false true b h = cc
 or_false false b h = (refl, h)
@@ -165,12 +158,6 @@ alphabet-with ms c a few = record {
       let n = or_false (is_left_out c) (is_mentioned ms c) e in
       all-placed (λ m. not (is_left_out m)) ms c ∙ and (not (is_left_out c)) (list_all (λ m. not (is_left_out m)) ms) (ap not n.0) a.allowed
 
-pub length-with : (ms : List ℕ) (c : ℕ) → length ms ≤ length (with_character ms c)
-length-with ms c = by_test (is_left_out c || is_mentioned ms c) where
-  by_test : (b : Bool) → length ms ≤ length (cond b ms (placed ms c))
-  by_test true = omega arith
-  by_test false = omega (arith, length-placed ms c)
-
 pub with_there : (ms : List ℕ) (c : ℕ) → is_mentioned ms c ≡ true → ms ≡ with_character ms c
 with_there ms c h = ap (λ b. cond b ms (placed ms c)) (sym (right_or (is_left_out c) (is_mentioned ms c) h))
 
@@ -180,38 +167,9 @@ with_new ms c h k = λ i. cond (sym h i || sym k i) ms (placed ms c)
 pub length-with_new : (ms : List ℕ) (c : ℕ) → is_left_out c ≡ false → is_mentioned ms c ≡ false → length (with_character ms c) ≡ length ms + 1
 length-with_new ms c h k = ap length (sym (with_new ms c h k)) ∙ length-placed ms c
 
--- With all characters of a list.
-pub with-append : (ms cs ds : List ℕ) → with_characters ms (cs ++ ds) ≡ with_characters (with_characters ms cs) ds
-with-append ms [] ds = refl
-with-append ms (c ∷ cs) ds = with-append (with_character ms c) cs ds
-
-pub length-with_all : (ms cs : List ℕ) → length ms ≤ length (with_characters ms cs)
-length-with_all ms [] = omega arith
-length-with_all ms (c ∷ cs) = omega (arith, length-with ms c, length-with_all (with_character ms c) cs)
-
 pub still_mentioned-all : (ms cs : List ℕ) (x : ℕ) → is_mentioned ms x ≡ true → is_mentioned (with_characters ms cs) x ≡ true
 still_mentioned-all ms [] x h = h
 still_mentioned-all ms (c ∷ cs) x h = still_mentioned-all (with_character ms c) cs x (still_mentioned ms c x h)
-
--- What is left to mention while a list is gone through: the whole is what there is now, with the rest.
-pub mention_step : (cs old rest ms more whole : List ℕ) → old ≡ cs ++ rest → more ≡ with_characters ms cs → with_characters ms old ≡ whole → with_characters more rest ≡ whole
-mention_step cs old rest ms more whole e m h =
-    ap (λ ns. with_characters ns rest) m ∙ sym (with-append ms cs rest) ∙ ap (with_characters ms) (sym e) ∙ h
-
-pub mention_refused : (cs old rest ms start all : List ℕ) (e : AutomatonFault) → old ≡ cs ++ rest → with_characters ms old ≡ with_characters start all → Refuses ms cs e → Refuses start all e
-mention_refused cs old rest ms start all e at h r =
-    ⊎_elim (λ none. inl none)
-    (λ many.
-    let step : with_characters (with_characters ms cs) rest ≡ with_characters start all = mention_step cs old rest ms (with_characters ms cs) (with_characters start all) at refl h in
-    let more = length-with_all (with_characters ms cs) rest in
-    let same = ap length step in
-    let over : MENTIONED_CHARACTERS < length (with_characters ms cs) = many.1 in
-    let whole : MENTIONED_CHARACTERS < length (with_characters start all) = omega (arith, more, same, over) in
-    inr (many.0, whole)) r
-
-pub flat_drop : {X : Type 0} (f : X → List ℕ) (xs : List X) (i : ℕ) (x : X) → i < length xs → x ≡ get_or xs i x
-    → flat_map f (drop i xs) ≡ f x ++ flat_map f (drop (i + 1) xs)
-flat_drop f xs i x l e = ap (flat_map f) (drop_more xs i x l ∙ ap (λ y. y ∷ drop (i + 1) xs) (sym e))
 
 pub rest_drop : (xs : List ℕ) (i c : ℕ) → i < length xs → c ≡ get_or xs i c → drop i xs ≡ (c ∷ []) ++ drop (i + 1) xs
 rest_drop xs i c l e = drop_more xs i c l ∙ ap (λ y. y ∷ drop (i + 1) xs) (sym e)

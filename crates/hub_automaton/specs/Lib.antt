@@ -1,3 +1,4 @@
+pub mod Adding
 pub mod Alphabet
 pub mod Examples
 pub mod Masks

@@ -5,7 +5,7 @@ use Rattle.std.proofs.lemmas.List.{take_more, take_all, take-append-drop}
 use Rattle.std.proofs.lemmas.List.Folds.{list_all-append}
 use Rattle.hub_automaton.specs.declared.fault.AutomatonFault.{AutomatonFault}
 use Rattle.hub_automaton.specs.Alphabet.{mentions, path_characters, spec_characters, is_left_out, is_mentioned, with_characters, Refuses}
-use Rattle.hub_automaton.proofs.Alphabets.{with-append, mention_refused, flat_drop}
+use Rattle.hub_automaton.specs.Adding.{with-append, mention_refused, flat_drop}
 use Rattle.hub_profile.specs.Parts.{Parts}
 use Rattle.hub_reach.specs.Mention.{Mentions, mentioned_by, IsPartly}
 use Rattle.hub_reach.proofs.Walks.{both}

@@ -10,7 +10,8 @@ ghost use Rattle.hub_reach.specs.Stage.{stage_of};
 ghost use Rattle.hub_reach.specs.Walk.{is_walked};
 
 use hub_automaton::laws::{
-    classes_are_alike, the_same_is_kept_of_each_specification, what_is_kept_goes_on_alike,
+    choices_mention_what_their_specification_does, classes_are_alike, what_is_kept_goes_on_alike,
+    what_is_kept_tells_what_matches,
 };
 
 /// A profile reaches a path exactly where it is reached by going down to it name by name: no path above it, at or below a
@@ -31,6 +32,7 @@ pub fn stages_go_on_alike()
         → IsTrue (is_text_character x) → IsTrue (is_text_character y) → stage_of P (t ++ x ∷ []) ≡ stage_of P (t ++ y ∷ []) }
 {
     classes_are_alike();
-    the_same_is_kept_of_each_specification();
+    choices_mention_what_their_specification_does();
     what_is_kept_goes_on_alike();
+    what_is_kept_tells_what_matches();
 }

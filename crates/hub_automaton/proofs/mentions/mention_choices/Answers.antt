@@ -2,7 +2,7 @@ use Rattle.std.proofs.Common.{◌+◌, ◌++◌, ap, sym, ◌∙◌, drop, arith
 use Rattle.std.specs.List.{flat_map}
 use Rattle.std.proofs.lemmas.Result.{err_from_is_err_and}
 use Rattle.hub_automaton.specs.Alphabet as alphabet
-use Rattle.hub_automaton.proofs.Alphabets.{flat_drop, mention_step, mention_refused}
+use Rattle.hub_automaton.specs.Adding.{flat_drop, mention_step, mention_refused}
 use Rattle.hub_automaton.proofs.mentions.mention_choices.Goals as goal
 
 pub returns-in_err-mention_pieces-clause-err : goal.returns-in_err-mention_pieces-clause-err

@@ -2,7 +2,7 @@ use Rattle.std.proofs.Common.{◌+◌, ◌++◌, ap, sym, ◌∙◌, subst, drop
 use Rattle.std.specs.List.{flat_map}
 use Rattle.std.proofs.lemmas.Result.{err_from_is_err_and}
 use Rattle.hub_automaton.specs.Alphabet as alphabet
-use Rattle.hub_automaton.proofs.Alphabets.{flat_drop, mention_step, mention_refused}
+use Rattle.hub_automaton.specs.Adding.{flat_drop, mention_step, mention_refused}
 use Rattle.hub_automaton.proofs.mentions.mention_parts.Goals.{in-One+in_ok-mention_piece-in-One, in-Brace+in_ok-mention_choices-in-Brace}
 use Rattle.hub_automaton.proofs.mentions.mention_parts.Goals as goal
 

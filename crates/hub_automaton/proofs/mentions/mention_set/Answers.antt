@@ -1,6 +1,7 @@
 use Rattle.std.proofs.Common.{◌+◌, [], ◌∷◌, drop, arith}
 use Rattle.std.proofs.lemmas.Result.{err_from_is_err_and}
-use Rattle.hub_automaton.proofs.Alphabets.{rest_drop, mention_refused}
+use Rattle.hub_automaton.specs.Adding.{mention_refused}
+use Rattle.hub_automaton.proofs.Alphabets.{rest_drop}
 use Rattle.hub_automaton.proofs.mentions.mention_set.Goals as goal
 
 pub returns-in_err-mention-clause-err : goal.returns-in_err-mention-clause-err

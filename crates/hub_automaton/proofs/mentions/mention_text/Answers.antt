@@ -5,7 +5,8 @@ use Rattle.std.proofs.lemmas.Iterator.Consumers.{YieldsList-turn, YieldsList-end
 use Rattle.std.proofs.lemmas.List.{drop_all}
 use Rattle.hub_glob.specs.TextChars.{next_character}
 use Rattle.hub_automaton.specs.Alphabet as alphabet
-use Rattle.hub_automaton.proofs.Alphabets.{mention_step, mention_refused, mention_end}
+use Rattle.hub_automaton.specs.Adding.{mention_step, mention_refused}
+use Rattle.hub_automaton.proofs.Alphabets.{mention_end}
 use Rattle.hub_automaton.proofs.mentions.mention_text.Goals as goal
 
 pub returns-in_err-mention-clause-err : goal.returns-in_err-mention-clause-err

@@ -6,14 +6,8 @@ use Rattle.std.proofs.lemmas.List.{take_more, take-append-drop}
 use Rattle.std.proofs.lemmas.List.Folds.{list_any-append}
 use Rattle.std.proofs.lemmas.Bool.Decides.{nat_tests}
 use Rattle.hub_path.specs.Path.{Name, Path, name_eq, is_over, prefixes}
-
-both : (a b : Bool) → (a && b) ≡ true → (a ≡ true) × (b ≡ true)
-both true b h = (refl, h)
-both false b h = cc
-
-or-false : (b : Bool) → (b || false) ≡ b
-or-false true = refl
-or-false false = refl
+use Rattle.hub_glob.specs.TestLaws.{or-false, and-false}
+use Rattle.hub_reach.proofs.Walks.{both}
 
 prefixes-push : (p : Path) (n : Name) → prefixes (p ++ n ∷ []) ≡ prefixes p ++ (p ++ n ∷ []) ∷ []
 prefixes-push [] n = refl
@@ -81,10 +75,6 @@ pub open-ignored : (f : Path → Bool) (s p : Path) (i : ℕ) → i < length p �
     → list_any (λ q. is_over s q && f q) (prefixes (take (i + 1) p)) ≡ false
 open-ignored f s p i l h before =
     any-more (λ q. is_over s q && f q) p i l ∙ rw (before, h) (and-false (is_over s (take (i + 1) p)))
-  where
-    and-false : (b : Bool) → (b && false) ≡ false
-    and-false true = refl
-    and-false false = refl
 
 pub open-short : (f : Path → Bool) (s p : Path) (i : ℕ) → IsTrue (is_over s p) → i < length p → i + 1 < length s → list_any (λ q. is_over s q && f q) (prefixes (take i p)) ≡ false
     → list_any (λ q. is_over s q && f q) (prefixes (take (i + 1) p)) ≡ false

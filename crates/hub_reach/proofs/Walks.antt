@@ -1,38 +1,20 @@
 -- A path is reached exactly where it is walked down to.
-use Rattle.std.proofs.Common.{◌≡◌, ◌==◌, ◌⊎◌, inl, inr, suc, Bool, true, false, not, ◌&&◌, ◌||◌, List, [], ◌∷◌, length, map, refl, sym, ap, ◌∙◌, arith}
-use Rattle.std.specs.Prelude.{IsTrue, ℕ}
+use Rattle.std.proofs.Common.{◌≡◌, ◌==◌, ◌⊎◌, inl, inr, Bool, true, false, not, ◌&&◌, ◌||◌, List, [], ◌∷◌, length, map, refl, sym, ap, ◌∙◌}
+use Rattle.std.specs.Prelude.{IsTrue}
 use Rattle.std.specs.List.{list_any, list_all}
 use Rattle.std.proofs.lemmas.List.Folds.{list_any-append, list_all-append}
-use Rattle.std.proofs.lemmas.Bool.Decides.{nat_tests}
 use Rattle.hub_path.specs.Path.{Name, Path, name_eq, path_eq, is_over, is_path, is_place, none_over, prefixes}
 use Rattle.hub_path.specs.Laws.{is_over-reflexive, is_over-transitive, is_over-comparable}
 use Rattle.hub_path.specs.TextLaws.{prefixes-parent, prefixes-over}
 use Rattle.hub_profile.specs.Parts.{Parts, IsProfile}
+use Rattle.hub_glob.specs.TestLaws.{and-true, and-false, or-false, or-assoc}
+use Rattle.hub_glob.specs.OneStep.{nonzero}
 use Rattle.hub_reach.specs.Reach.{reach, is_open, is_ignored}
 use Rattle.hub_reach.specs.Walk.{above, is_inside, is_cut, is_walked}
 
 pub both : (a b : Bool) → (a && b) ≡ true → (a ≡ true) × (b ≡ true)
 both true b h = (refl, h)
 both false b h = cc
-
-pub nonzero : (n : ℕ) → (suc n == 0) ≡ false
-nonzero n = grind (arith, nat_tests)
-
-and-false : (a : Bool) → (a && false) ≡ false
-and-false true = refl
-and-false false = refl
-
-and-true : (a : Bool) → (a && true) ≡ a
-and-true true = refl
-and-true false = refl
-
-pub or-false : (a : Bool) → (a || false) ≡ a
-or-false true = refl
-or-false false = refl
-
-or-assoc : (a b c : Bool) → ((a || b) || c) ≡ (a || (b || c))
-or-assoc true b c = refl
-or-assoc false b c = refl
 
 module _ {X : Type 0} where
   any-none : (xs : List X) → list_any (λ x. false) xs ≡ false
@@ -106,7 +88,7 @@ module _ (P : Parts) (n : Name) (rest : Path) where
       over-prefixes s p
       ∙ (ap (λ qs. length s == 0 || list_any (path_eq s) qs) (prefixes-parent n rest)
       ∙ (ap (λ b. length s == 0 || b) (list_any-append (path_eq s) (above p) (p ∷ []) ∙ ap (λ b. list_any (path_eq s) (above p) || b) (or-false (path_eq s p)))
-      ∙ sym (or-assoc (length s == 0) (list_any (path_eq s) (above p)) (path_eq s p))))
+      ∙ or-assoc (length s == 0) (list_any (path_eq s) (above p)) (path_eq s p)))
 
   pub kept-over : list_any (λ s. is_over s p) P.paths ≡ (is_inside P p || list_any (λ s. path_eq s p) P.paths)
   kept-over =

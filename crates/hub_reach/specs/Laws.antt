@@ -7,11 +7,8 @@ use Rattle.hub_path.specs.Path.{Path, is_over, is_path, prefixes}
 use Rattle.hub_glob.specs.Glob.{matches}
 use Rattle.hub_glob.specs.Specification.{Specification}
 use Rattle.hub_profile.specs.Parts.{Parts}
+use Rattle.hub_glob.specs.TestLaws.{and-true}
 use Rattle.hub_reach.specs.Reach.{reach, is_open, is_ignored}
-
-and-true : (a : Bool) → (a && true) ≡ a
-and-true true = refl
-and-true false = refl
 
 none-and : {X : Type 0} (f : X → Bool) (xs : List X) → list_any (λ x. f x && false) xs ≡ false
 none-and f [] = refl

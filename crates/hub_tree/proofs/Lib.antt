@@ -1,5 +1,7 @@
 pub mod Ascending
+pub mod Beneath
 pub mod Children
+pub mod Contented
 pub mod Copies
 pub mod Counts
 pub mod LookUp

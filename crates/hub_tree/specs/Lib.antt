@@ -1,3 +1,4 @@
+pub mod Below
 pub mod Coded
 pub mod Examples
 pub mod Nodes

@@ -1,0 +1,28 @@
+//! What holds of replicas and archives: each law is the contract of a function that does nothing.
+ghost use Rattle.std.specs.Prelude.{◌≡◌, ◌<◌, IsTrue, None, true, false, length, if◌then◌else◌};
+ghost use Rattle.hub_path.specs.Path.{Path, path_eq};
+ghost use Rattle.hub_tree.specs.Below.{is_below};
+ghost use Rattle.hub_tree.specs.Tree.{Replica, Archive, IsTree, IsArchive, contents_at, old_mark_at, is_absent, set_fault, with_contents};
+ghost use Rattle.hub_tree.specs.declared.contents.Contents.{Contents};
+ghost use Rattle.hub_tree.specs.declared.contents.Contents.TheVariants as contents;
+
+/// Replicas with the same contents at each path are equal.
+pub fn trees_are_their_contents()
+    ensures { (m k : Replica) → IsTree m → IsTree k → ((p : Path) → contents_at m p ≡ contents_at k p) → m ≡ k }
+{}
+
+/// Archives with the same mark at each path are equal.
+pub fn archives_are_their_marks()
+    ensures { (a b : Archive) → IsArchive a → IsArchive b → ((p : Path) → old_mark_at a p ≡ old_mark_at b p) → a ≡ b }
+{}
+
+/// Where something is, all that lies above it are directories.
+pub fn what_lies_above_is_a_directory()
+    ensures { (m : Replica) (p q : Path) → IsTree m → IsTrue (is_below p q) → is_absent (contents_at m q) ≡ false → contents_at m p ≡ contents.Directory }
+{}
+
+/// A Set without a fault leaves a replica, with these contents at the path and as before elsewhere.
+pub fn a_set_keeps_trees()
+    ensures tree { (m : Replica) (p : Path) (c : Contents) → IsTree m → set_fault m p c ≡ None → IsTree (with_contents m p c) }
+    ensures contents { (m : Replica) (p q : Path) (c : Contents) → 0 < length p → contents_at (with_contents m p c) q ≡ (if path_eq q p then c else contents_at m q) }
+{}

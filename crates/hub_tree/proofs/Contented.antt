@@ -81,7 +81,7 @@ first_none false true true y h = cc
 first_none false true false true h = cc
 first_none false true false false h = (refl, refl, refl, refl)
 
-some_names : (p : Path) → (length p == 0) ≡ false → 0 < length p
+pub some_names : (p : Path) → (length p == 0) ≡ false → 0 < length p
 some_names [] e = cc
 some_names (n ∷ p) e = omega arith
 

@@ -1,5 +1,6 @@
 pub mod Ascending
 pub mod Beneath
+pub mod Between
 pub mod Children
 pub mod Contented
 pub mod Copies
@@ -8,5 +9,6 @@ pub mod LookUp
 pub mod MarkMaps
 pub mod Names
 pub mod Order
+pub mod Runs
 pub mod Setting
 pub mod Trees

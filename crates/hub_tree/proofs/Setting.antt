@@ -75,7 +75,7 @@ bare_nothing s t = refl
 pub bare_kids : (x : Node) → kids_of x ≡ [] → IsBare (Some x)
 bare_kids x e = λ s t. ap (λ ks. fin.get (replica_of ks) (s ∷ t)) e ∙ get_nothing (s ∷ t)
 
-one_kid : {X : Type 0} (k : X) (ks : List X) → (length (k ∷ ks) == 0) ≡ false
+pub one_kid : {X : Type 0} (k : X) (ks : List X) → (length (k ∷ ks) == 0) ≡ false
 one_kid k ks = grind (arith, nat_tests)
 
 no_kids : {X : Type 0} (ks : List X) → not (length ks == 0) ≡ false → ks ≡ []

@@ -1,7 +1,9 @@
 //! What holds of replicas and archives: each law is the contract of a function that does nothing.
-ghost use Rattle.std.specs.Prelude.{◌≡◌, ◌<◌, IsTrue, None, true, false, length, if◌then◌else◌};
+ghost use Rattle.std.specs.Prelude.{◌≡◌, ◌<◌, ◌&&◌, Bool, IsTrue, Some, None, true, false, List, [], length, reverse, if◌then◌else◌};
+ghost use Rattle.std.specs.List.{filter};
 ghost use Rattle.hub_path.specs.Path.{Path, path_eq};
-ghost use Rattle.hub_tree.specs.Below.{is_below};
+ghost use Rattle.hub_tree.specs.Below.{is_below, under};
+ghost use Rattle.hub_tree.specs.Sets.{sets, each};
 ghost use Rattle.hub_tree.specs.Tree.{Replica, Archive, IsTree, IsArchive, contents_at, old_mark_at, is_absent, set_fault, with_contents};
 ghost use Rattle.hub_tree.specs.declared.contents.Contents.{Contents};
 ghost use Rattle.hub_tree.specs.declared.contents.Contents.TheVariants as contents;
@@ -25,4 +27,21 @@ pub fn what_lies_above_is_a_directory()
 pub fn a_set_keeps_trees()
     ensures tree { (m : Replica) (p : Path) (c : Contents) → IsTree m → set_fault m p c ≡ None → IsTree (with_contents m p c) }
     ensures contents { (m : Replica) (p q : Path) (c : Contents) → 0 < length p → contents_at (with_contents m p c) q ≡ (if path_eq q p then c else contents_at m q) }
+{}
+
+/// What lies below a path can be taken away from its end. All else stays.
+pub fn sets_down()
+    ensures { (m : Replica) (p : Path) → IsTree m
+        → (k : Replica) × (sets m (each (λ _. contents.Absent) (reverse (under m p))) ≡ Some k) × IsTree k
+        × ((q : Path) → contents_at k q ≡ (if is_below p q then contents.Absent else contents_at m q)) }
+{}
+
+/// Of what lies below a path in one replica, all that passes a test can be set in order below the path in another one,
+/// where a directory is there that holds nothing; if the test passes what lies between the path and what passes. All
+/// else stays.
+pub fn sets_up()
+    ensures { (m s : Replica) (p : Path) (f : Path → Bool) → IsTree m → IsTree s → contents_at m p ≡ contents.Directory → under m p ≡ []
+        → ((x y : Path) → IsTrue (is_below p x) → IsTrue (is_below x y) → is_absent (contents_at s y) ≡ false → f y ≡ true → f x ≡ true)
+        → (k : Replica) × (sets m (each (contents_at s) (filter f (under s p))) ≡ Some k) × IsTree k
+        × ((q : Path) → contents_at k q ≡ (if is_below p q && f q then contents_at s q else contents_at m q)) }
 {}

@@ -1,6 +1,6 @@
 -- The paths below a path, in order: what comes before one of them, and what behind it.
 use Rattle.std.proofs.Common.{◌≡◌, ◌<◌, Bool, true, false, not, ◌&&◌, ◌||◌, List, [], ◌∷◌, ◌++◌, length, Option, Some, None, refl, ap, sym, ◌∙◌, arith, append_assoc, length-append}
-use Rattle.std.specs.Prelude.{reverse}
+use Rattle.std.specs.Prelude.{◌↔◌, reverse}
 use Rattle.std.specs.FinMap as fin
 use Rattle.std.specs.Option.{is_some, unwrap_or}
 use Rattle.std.specs.List.{list_any, filter, AllByRecursion}
@@ -160,3 +160,14 @@ below_parent q l = ap (is_below (parent q)) (sym (last_of q l)) ∙ below_from (
 
 pub parent_order : (q : Path) → 0 < length q → path_cmp (parent q) q ≡ Less
 parent_order q l = ap (path_cmp (parent q)) (sym (last_of q l)) ∙ below_order (parent q) (last_name q) []
+
+-- a path below which nothing is
+no_members : (ps : List Path) → ((q : Path) → among q ps ≡ true → ⊥) → ps ≡ []
+no_members [] f = refl
+no_members (p ∷ ps) f = absurd (f p (among_middle p [] ps))
+
+pub nothing_under : (m : Replica) (p : Path) → (under m p ≡ []) ↔ ((q : Path) → is_below p q ≡ true → contents_at m q ≡ contents.Absent)
+nothing_under m p = (
+  λ e q b. not_under m p q b (ap (among q) e),
+  λ h. no_members (under m p) (λ q e. let w = of_under m p q e in false≢true (sym w.1 ∙ ap is_absent (h q w.0))),
+)

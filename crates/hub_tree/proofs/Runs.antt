@@ -1,7 +1,7 @@
 -- What several Sets leave, and when none of them is refused.
-use Rattle.std.proofs.Common.{◌≡◌, ◌<◌, Bool, true, false, cond, not, ◌&&◌, ◌||◌, List, [], ◌∷◌, ◌++◌, length, Some, None, refl, ap, sym, ◌∙◌, subst, arith, append_assoc, append-nil}
+use Rattle.std.proofs.Common.{◌≡◌, ◌<◌, Bool, true, false, cond, not, ◌&&◌, ◌||◌, List, [], ◌∷◌, ◌++◌, length, Option, Some, None, refl, ap, sym, ◌∙◌, subst, arith, append_assoc, append-nil}
 use Rattle.std.specs.Prelude.{◌==◌, if◌then◌else◌, reverse}
-use Rattle.std.specs.Option.{is_some}
+use Rattle.std.specs.Option.{is_some, option_and_then}
 use Rattle.std.specs.List.{filter}
 use Rattle.std.specs.List.Sorted.{IsStrictlySortedBy}
 use Rattle.std.specs.Ordering.{eq_by_cmp}
@@ -12,7 +12,7 @@ use Rattle.std.proofs.lemmas.List.Kept.{IsStrictlySortedBy-filter}
 use Rattle.hub_path.specs.Path.{Name, Path, path_cmp, parent}
 use Rattle.hub_tree.specs.Below.{is_below, under}
 use Rattle.hub_tree.specs.Sets.{sets, each}
-use Rattle.hub_tree.specs.Tree.{Replica, IsTree, contents_at, is_absent, is_directory, children, with_contents}
+use Rattle.hub_tree.specs.Tree.{Replica, IsTree, contents_at, is_absent, is_directory, children, set_fault, with_contents}
 use Rattle.hub_tree.specs.declared.contents.Contents.{Contents}
 use Rattle.hub_tree.specs.declared.contents.Contents.TheVariants as contents
 use Rattle.hub_tree.proofs.Order.{same_path}
@@ -189,3 +189,12 @@ all_up m s p f t u top bare closed =
       w.2,
       λ q. w.3 q ∙ ap (λ b. cond b (contents_at s q) (contents_at m q)) (among_filter q f (under s p)) ∙ up_at m s p q (is_below p q) (f q) (among q (under s p)) bare refl refl,
     )
+
+-- one run after another
+refused_or : {X Y : Type 0} (b : Bool) (x : Option Y) (y : Option X) (f : X → Option Y) → x ≡ option_and_then f y → (if b then None else x) ≡ option_and_then f (if b then None else y)
+refused_or true x y f e = refl
+refused_or false x y f e = e
+
+pub sets-append : (m : Replica) (cs ds : List (Path × Contents)) → sets m (cs ++ ds) ≡ option_and_then (λ k. sets k ds) (sets m cs)
+sets-append m [] ds = refl
+sets-append m (c ∷ cs) ds = refused_or (is_some (set_fault m c.0 c.1)) _ (sets (with_contents m c.0 c.1) cs) (λ k. sets k ds) (sets-append (with_contents m c.0 c.1) cs ds)

@@ -1,6 +1,7 @@
 //! What holds of replicas and archives: each law is the contract of a function that does nothing.
-ghost use Rattle.std.specs.Prelude.{◌≡◌, ◌<◌, ◌&&◌, Bool, IsTrue, Some, None, true, false, List, [], length, reverse, if◌then◌else◌};
+ghost use Rattle.std.specs.Prelude.{◌≡◌, ◌<◌, ◌↔◌, ◌&&◌, ◌++◌, Bool, IsTrue, Some, None, true, false, List, [], length, reverse, if◌then◌else◌};
 ghost use Rattle.std.specs.List.{filter};
+ghost use Rattle.std.specs.Option.{option_and_then};
 ghost use Rattle.hub_path.specs.Path.{Path, path_eq};
 ghost use Rattle.hub_tree.specs.Below.{is_below, under};
 ghost use Rattle.hub_tree.specs.Sets.{sets, each};
@@ -44,4 +45,14 @@ pub fn sets_up()
         → ((x y : Path) → IsTrue (is_below p x) → IsTrue (is_below x y) → is_absent (contents_at s y) ≡ false → f y ≡ true → f x ≡ true)
         → (k : Replica) × (sets m (each (contents_at s) (filter f (under s p))) ≡ Some k) × IsTree k
         × ((q : Path) → contents_at k q ≡ (if is_below p q && f q then contents_at s q else contents_at m q)) }
+{}
+
+/// Nothing is under a path exactly where nothing is at each path below it.
+pub fn nothing_is_under_what_holds_nothing()
+    ensures { (m : Replica) (p : Path) → (under m p ≡ []) ↔ ((q : Path) → IsTrue (is_below p q) → contents_at m q ≡ contents.Absent) }
+{}
+
+/// Sets go on from the replica that the Sets before them leave.
+pub fn sets_go_on()
+    ensures { (m : Replica) (cs ds : List (Path × Contents)) → sets m (cs ++ ds) ≡ option_and_then (λ k. sets k ds) (sets m cs) }
 {}

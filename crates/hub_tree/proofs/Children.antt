@@ -95,7 +95,7 @@ last_name-push [] n = refl
 last_name-push (m ∷ []) n = refl
 last_name-push (m ∷ k ∷ d) n = last_name-push (k ∷ d) n
 
-path_eq-cmp : (p q : Path) → path_eq p q ≡ eq_by_cmp path_cmp p q
+pub path_eq-cmp : (p q : Path) → path_eq p q ≡ eq_by_cmp path_cmp p q
 path_eq-cmp p q = lists_ties (slice_cmp nat_cmp) texts_ties p q
 
 some_names : (d : Path) (n : Name) → 0 < length (d ++ n ∷ [])
@@ -104,7 +104,7 @@ some_names d n = omega (arith, length-append d (n ∷ []))
 pub is_child-push : (d : Path) (n : Name) → is_child d (d ++ n ∷ []) ≡ true
 is_child-push d n = rw (no_names (d ++ n ∷ []) (some_names d n), parent-push d n, path_eq-cmp d d, path_itself d) refl
 
-both_true : (a b : Bool) → (a && b) ≡ true → (a ≡ true) × (b ≡ true)
+pub both_true : (a b : Bool) → (a && b) ≡ true → (a ≡ true) × (b ≡ true)
 both_true true b h = (refl, h)
 both_true false b h = cc
 

@@ -1,10 +1,14 @@
 pub mod Ascending
+pub mod Beneath
+pub mod Between
 pub mod Children
+pub mod Contented
 pub mod Copies
 pub mod Counts
 pub mod LookUp
 pub mod MarkMaps
 pub mod Names
 pub mod Order
+pub mod Runs
 pub mod Setting
 pub mod Trees

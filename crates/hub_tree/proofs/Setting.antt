@@ -75,7 +75,7 @@ bare_nothing s t = refl
 pub bare_kids : (x : Node) → kids_of x ≡ [] → IsBare (Some x)
 bare_kids x e = λ s t. ap (λ ks. fin.get (replica_of ks) (s ∷ t)) e ∙ get_nothing (s ∷ t)
 
-one_kid : {X : Type 0} (k : X) (ks : List X) → (length (k ∷ ks) == 0) ≡ false
+pub one_kid : {X : Type 0} (k : X) (ks : List X) → (length (k ∷ ks) == 0) ≡ false
 one_kid k ks = grind (arith, nat_tests)
 
 no_kids : {X : Type 0} (ks : List X) → not (length ks == 0) ≡ false → ks ≡ []
@@ -121,7 +121,7 @@ layer_shown (Directory kids) = refl
 pub node_shown : (x : Node) → shown (Some (contents_of x)) ≡ true
 node_shown x = layer_shown (out-Node x)
 
-not_true : (b : Bool) → (b ≡ true → ⊥) → b ≡ false
+pub not_true : (b : Bool) → (b ≡ true → ⊥) → b ≡ false
 not_true true f = absurd (f refl)
 not_true false f = refl
 
@@ -241,7 +241,7 @@ no_directory cs n x (s ∷ t) e d =
     ap (λ o. is_directory (unwrap_or o contents.Absent)) (look_up cs n (s ∷ t) ∙ ap (option_and_then (node_get (s ∷ t))) e
     ∙ ap (λ ks. fin.get (replica_of ks) (s ∷ t)) (layer_bare (out-Node x) d) ∙ get_nothing (s ∷ t))
 
-is_a_directory : (d : Contents) → is_directory d ≡ true → d ≡ contents.Directory
+pub is_a_directory : (d : Contents) → is_directory d ≡ true → d ≡ contents.Directory
 is_a_directory (contents.File bytes) e = absurd (false≢true e)
 is_a_directory contents.Directory e = refl
 is_a_directory contents.Absent e = absurd (false≢true e)

@@ -1,11 +1,14 @@
 -- Worked examples: a directory `a` that holds a file `b`.
-use Rattle.std.specs.Prelude.{◌≡◌, None, ◌==◌, ℕ, T, List, [], ◌∷◌, Some, codes, refl}
+use Rattle.std.specs.Prelude.{◌≡◌, true, false, None, ◌==◌, ℕ, T, List, [], ◌∷◌, Some, codes, refl}
 use Rattle.std.specs.List.{slice_split}
-use Rattle.std.specs.FinMap.{get, get-from_sorted, entries-from_sorted, is_sorted, from_sorted}
+use Rattle.std.specs.FinMap.{get, empty, insert, remove, get-empty, get-insert, get-from_sorted, entries-from_sorted, is_sorted, from_sorted}
 use Rattle.hub_path.specs.Path.{Path, path_cmp}
 use Rattle.hub_tree.specs.declared.contents.Contents.{Contents}
 use Rattle.hub_tree.specs.declared.contents.Contents.TheVariants.{File, Directory, Absent}
 use Rattle.hub_tree.specs.declared.fault.SetFault.TheVariants.{RootPath, NoParent, NotEmpty, NothingThere}
+use Rattle.hub_path.specs.Laws.{path_cmp-total}
+use Rattle.hub_tree.specs.Below.{is_below, under}
+use Rattle.hub_tree.specs.Sets.{sets}
 use Rattle.hub_tree.specs.Tree.{Replica, set_fault, children, names_at, bytes_at, IsTree}
 
 abbrev path : List ℕ → Path
@@ -65,3 +68,32 @@ stored = let h : T (is_sorted path_cmp odd_entries) = tt in simp (get-from_sorte
 
 no_tree : ¬ (IsTree odd)
 no_tree t = t.present (path (codes "a/b")) stored
+
+-- A path is not below itself, and names that begin alike don't matter.
+below : is_below (path (codes "a")) (path (codes "a/b")) ≡ true
+below = refl
+
+not_below_itself : is_below (path (codes "a")) (path (codes "a")) ≡ false
+not_below_itself = refl
+
+not_below_a_name_that_begins_alike : is_below (path (codes "a")) (path (codes "a-b/c")) ≡ false
+not_below_a_name_that_begins_alike = refl
+
+what_is_under_the_top : under small [] ≡ path (codes "a") ∷ path (codes "a/b") ∷ []
+what_is_under_the_top = let h : T (is_sorted path_cmp entries) = tt in simp (get-from_sorted, entries-from_sorted)
+
+what_is_under_a_directory : under small (path (codes "a")) ≡ path (codes "a/b") ∷ []
+what_is_under_a_directory = let h : T (is_sorted path_cmp entries) = tt in simp (get-from_sorted, entries-from_sorted)
+
+-- A directory is set before what it holds, and goes after it.
+up : sets empty ((path (codes "a"), Directory) ∷ (path (codes "a/b"), File []) ∷ []) ≡ Some (insert (insert empty (path (codes "a")) Directory) (path (codes "a/b")) (File []))
+up = simp (get-empty, get-insert {X = Contents} path_cmp-total)
+
+not_before_its_parent : sets empty ((path (codes "a/b"), File []) ∷ (path (codes "a"), Directory) ∷ []) ≡ None
+not_before_its_parent = simp (get-empty)
+
+down : sets small ((path (codes "a/b"), Absent) ∷ []) ≡ Some (remove small (path (codes "a/b")))
+down = let h : T (is_sorted path_cmp entries) = tt in simp (get-from_sorted, entries-from_sorted)
+
+not_before_what_it_holds : sets small ((path (codes "a"), Absent) ∷ (path (codes "a/b"), Absent) ∷ []) ≡ None
+not_before_what_it_holds = let h : T (is_sorted path_cmp entries) = tt in simp (get-from_sorted, entries-from_sorted)

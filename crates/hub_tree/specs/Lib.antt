@@ -1,4 +1,6 @@
+pub mod Below
 pub mod Coded
 pub mod Examples
 pub mod Nodes
+pub mod Sets
 pub mod Tree

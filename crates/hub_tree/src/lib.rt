@@ -8,6 +8,7 @@ mod archive;
 mod blob;
 mod contents;
 mod fault;
+pub mod laws;
 mod node;
 #[cfg(test)]
 mod tests;

@@ -1,0 +1,5 @@
+use Rattle.hub_tree.proofs.Contented.{same_archive}
+use Rattle.hub_tree.proofs.laws.archives_are_their_marks.Goals as goal
+
+pub returns : goal.returns
+returns c = same_archive

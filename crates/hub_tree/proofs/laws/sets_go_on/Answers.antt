@@ -1,0 +1,5 @@
+use Rattle.hub_tree.proofs.Runs.{sets-append}
+use Rattle.hub_tree.proofs.laws.sets_go_on.Goals as goal
+
+pub returns : goal.returns
+returns c = sets-append

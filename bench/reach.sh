@@ -4,16 +4,16 @@
 #     bench/reach.sh [PROGRAM [REPETITIONS]]
 #
 # PROGRAM is the built program (crates/hubsync/out/hubsync if left out), REPETITIONS is 20 if left out. Four bundles are
-# tried, and in each of them every pattern is tried on every front of the path:
+# tried, and in each of them every pattern is tried on every prefix of the path:
 #
-# - `open`: patterns of all kinds, none of which matches a front of a path of 64 names;
-# - `ignored`: the same, but that the last one matches the whole path;
+# - `open`: patterns of all kinds, none of which matches a prefix of a path of 64 names;
+# - `ignored`: the same, except that the last one matches the whole path;
 # - `stars`: 20 stars in each pattern, which nearly match a name of 200 letters: trying all the ways to cut the name up
 #   would never end;
 # - `deep`: the same patterns, on a path of 64 such names.
 #
 # A line gives the size of the bundle, the least and the middle time in milliseconds from start to end of the process,
-# and its peak memory where GNU time is there. The status is 1 where an answer is wrong.
+# and its peak memory if GNU time is installed. The status is 1 if an answer is wrong.
 set -euo pipefail
 # shellcheck source=bench/timing.sh
 source "$(dirname "$(readlink -f "${BASH_SOURCE[0]}")")/timing.sh"
@@ -30,7 +30,7 @@ repeat() {
     printf '%s' "$text"
 }
 
-# An `ignore` line of that number, which matches no front of `long_path`.
+# An `ignore` line of that number, which matches no prefix of `long_path`.
 varied_line() {
     case $(($1 % 8)) in
     0) echo "ignore = Name *-report.d~$1" ;;
@@ -49,7 +49,7 @@ star_line() {
     echo "ignore = Name $(repeat '*a' 20 '')b$1"
 }
 
-# The bundle of one profile, whose `ignore` lines but the last are of that kind. The last one is given.
+# The bundle of one profile, whose `ignore` lines are of that kind, except for the last one, which is given.
 bundle() {
     local line
     printf '%%profile p\nroot = /srv/hub\nroot = /srv/spoke\npath = work\n'

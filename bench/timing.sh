@@ -22,8 +22,8 @@ milliseconds() {
     printf '%d.%03d\n' $((microseconds / 1000)) $((microseconds % 1000))
 }
 
-# Runs the program on a file, with the words behind the wanted status and the wanted one line, and ends all where it
-# doesn't give them.
+# Runs the program on a file, with the words after the wanted status and the wanted line. Ends the script if the answer is
+# another one.
 run_once() {
     local file=$1 wanted_status=$2 wanted=$3 status=0 answer first
     shift 3
@@ -36,7 +36,7 @@ run_once() {
     fi
 }
 
-# The most memory that a run on this file, with the words behind it, had at once.
+# The peak memory of a run on this file, with the words after it.
 peak() {
     local file=$1
     shift
@@ -48,14 +48,14 @@ peak() {
     fi
 }
 
-# The heads of the columns that `measure` prints.
+# Prints the heads of the columns of `measure`.
 print_columns() {
     printf '%-8s %9s %9s %9s %9s\n' bundle bytes least/ms middle/ms peak/KiB
 }
 
 # Times a bundle of that name, with the status and the answer that are wanted, and the program's words. Prints the size
 # of the bundle, the least and the middle time in milliseconds from start to end of the process, and its peak memory
-# where GNU time is there.
+# if GNU time is installed.
 measure() {
     local file=$folder/$1.bundle bundle=$1 wanted_status=$2 wanted=$3 before after i
     shift 3

@@ -1,6 +1,6 @@
-//! Builds a replica of 1,000 entries for each directory at its top, asks each mark and copies it. The first word of
-//! the command line is how many directories (10 if it is left out; 100 make 100,000 entries). Standard output has what
-//! was found, and standard error the entries a second.
+//! Builds a replica with 1,000 entries for each directory at its top, asks for each mark, lists all paths and copies it.
+//! The first argument is how many directories (10 if it is left out; 100 make 100,000 entries), the second how many bytes
+//! each file has (none if it is left out). Standard output has what was found, and standard error the entries a second.
 #![tactic(auto)]
 
 use anyhow::Result;
@@ -16,18 +16,27 @@ const DIRECTORIES: u32 = 10;
 /// How many files stand in each.
 const FILES: u32 = 999;
 
-fn build(alloc: Global, directories: u32) -> Result<Tree> {
+fn build(alloc: Global, directories: u32, bytes: &[u8]) -> Result<Tree> {
     let mut tree = Tree::new(alloc);
     for d in 0..directories {
         let directory = RelPath::read(alloc, format!(in alloc; "directory-{d}")?.as_str())?;
         tree.set(&directory, Contents::Directory)?;
         for f in 0..FILES {
             let name = Name::read(alloc, format!(in alloc; "file-{f}")?.as_str())?;
-            let blob = Blob::new(Vec::new(alloc));
+            let blob = Blob::new(bytes.to_vec(alloc)?);
             tree.set(&directory.child(name)?, Contents::File(blob))?;
         }
     }
     Ok(tree)
+}
+
+/// The bytes of each file.
+fn bytes_of(alloc: Global, count: u16) -> Result<Vec<u8>> {
+    let mut bytes = Vec::new(alloc);
+    for _ in 0..count {
+        bytes.push(b'x')?;
+    }
+    Ok(bytes)
 }
 
 /// How many files a listing of each directory finds.
@@ -70,16 +79,24 @@ fn main(rt: HostRuntime) -> Result<()> {
         Some(word) => word.as_str().parse::<u32>()?,
         None => DIRECTORIES,
     };
+    let bytes = match env::args(&rt)?.nth(2) {
+        Some(word) => word.as_str().parse::<u16>()?,
+        None => 0,
+    };
+    let bytes = bytes_of(alloc, bytes)?;
     let start = Instant::now(&rt)?;
-    let tree = build(alloc, directories)?;
+    let tree = build(alloc, directories, bytes.as_slice())?;
     let count = tree.count();
     report(&rt, "build", count, start.elapsed(&rt)?)?;
     let start = Instant::now(&rt)?;
     let files = files_of(alloc, &tree)?;
     report(&rt, "marks", count, start.elapsed(&rt)?)?;
     let start = Instant::now(&rt)?;
+    let paths = tree.paths()?.len();
+    report(&rt, "paths", count, start.elapsed(&rt)?)?;
+    let start = Instant::now(&rt)?;
     let copied = tree.copy()?.count();
     report(&rt, "copy", count, start.elapsed(&rt)?)?;
-    println!(rt; "{count} entries, {files} files, {copied} copied")?;
+    println!(rt; "{count} entries, {files} files, {paths} paths, {copied} copied")?;
     Ok(())
 }

@@ -5,6 +5,8 @@ use Rattle.std.specs.Ordering.{nat_cmp}
 use Rattle.std.specs.List.Sorted.{IsBinarySearchResult}
 use Rattle.std.proofs.lemmas.List.Sorted.{searched}
 use Rattle.std.specs.List.{list_all, flat_map, range_with_len, position_from}
+use Rattle.std.specs.Str.{all_scalars}
+use lib.Utf8.{scalar}
 use Rattle.std.proofs.lemmas.List.{drop_more, drop_all}
 use Rattle.std.proofs.lemmas.Bool.Decides.{nat_tests}
 use Rattle.hub_automaton.specs.declared.alphabet.TheConstants.{MENTIONED_CHARACTERS}
@@ -140,14 +142,26 @@ still_mentioned ms c x h = by_test (is_left_out c || is_mentioned ms c) where
   by_test true = h
   by_test false = mentioned-placed ms c x ∙ right_or (c == x) (is_mentioned ms x) h
 
-pub alphabet-with : (ms : List ℕ) (c : ℕ) → IsAlphabet ms → length (with_character ms c) ≤ MENTIONED_CHARACTERS → IsAlphabet (with_character ms c)
-alphabet-with ms c a few = record {
+scalars-placed : (ms : List ℕ) (c : ℕ) → scalar c ≡ true → all_scalars ms ≡ true → all_scalars (placed ms c) ≡ true
+scalars-placed [] c s h = and (scalar c) true s refl
+scalars-placed (m ∷ ms) c s h = by_test (nat_lt c m) (scalars-placed ms c s) where
+  by_test : (b : Bool) → (all_scalars ms ≡ true → all_scalars (placed ms c) ≡ true) → all_scalars (cond b (c ∷ m ∷ ms) (m ∷ placed ms c)) ≡ true
+  by_test true go = and (scalar c) (all_scalars (m ∷ ms)) s h
+  by_test false go = let w = both (scalar m) (all_scalars ms) h in and (scalar m) (all_scalars (placed ms c)) w.0 (go w.1)
+
+pub alphabet-with : (ms : List ℕ) (c : ℕ) → scalar c ≡ true → IsAlphabet ms → length (with_character ms c) ≤ MENTIONED_CHARACTERS → IsAlphabet (with_character ms c)
+alphabet-with ms c s a few = record {
   ascends = by_ascent (is_left_out c || is_mentioned ms c) refl;
   dot = still_mentioned ms c 46 a.dot;
   slash = still_mentioned ms c 47 a.slash;
   allowed = by_allowed (is_left_out c || is_mentioned ms c) refl;
+  scalars = by_scalars (is_left_out c || is_mentioned ms c);
   few = few;
 } where
+  by_scalars : (b : Bool) → all_scalars (cond b ms (placed ms c)) ≡ true
+  by_scalars true = a.scalars
+  by_scalars false = scalars-placed ms c s a.scalars
+
   by_ascent : (b : Bool) → (is_left_out c || is_mentioned ms c) ≡ b → ascends (cond b ms (placed ms c)) ≡ true
   by_ascent true e = a.ascends
   by_ascent false e = ascends-placed ms c a.ascends (or_false (is_left_out c) (is_mentioned ms c) e).1
@@ -267,11 +281,11 @@ free-same c m ms e = ap (λ b. free_from (cond b (c + 1) c) ms) e
 pub free-other : (c m : ℕ) (ms : List ℕ) → (m == c) ≡ false → free_from c (m ∷ ms) ≡ free_from c ms
 free-other c m ms e = ap (λ b. free_from (cond b (c + 1) c) ms) e
 
-free-low : (c : ℕ) (ms : List ℕ) → c ≤ free_from c ms
+pub free-low : (c : ℕ) (ms : List ℕ) → c ≤ free_from c ms
 free-low c [] = omega arith
 free-low c (m ∷ ms) = ⊎_elim (λ e. omega (arith, free-same c m ms e, free-low (c + 1) ms)) (λ e. omega (arith, free-other c m ms e, free-low c ms)) (either (m == c))
 
-free-high : (c : ℕ) (ms : List ℕ) → free_from c ms ≤ c + length ms
+pub free-high : (c : ℕ) (ms : List ℕ) → free_from c ms ≤ c + length ms
 free-high c [] = omega arith
 free-high c (m ∷ ms) = ⊎_elim (λ e. omega (arith, free-same c m ms e, free-high (c + 1) ms)) (λ e. omega (arith, free-other c m ms e, free-high c ms)) (either (m == c))
 

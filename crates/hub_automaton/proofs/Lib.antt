@@ -1,4 +1,6 @@
 pub mod Alphabets
+pub mod Classes
+pub mod Exact
 pub mod Kept
 pub mod Loops
 pub mod Masked

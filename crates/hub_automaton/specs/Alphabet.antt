@@ -1,6 +1,7 @@
 -- Classes of characters: each mentioned character is a class of its own, and all others that a path may hold are one.
 use Rattle.std.specs.Prelude.{◌≡◌, ◌⊎◌, ◌<◌, ◌≤◌, ◌+◌, ℕ, suc, zero, Bool, true, not, ◌&&◌, ◌||◌, ◌==◌, nat_lt, List, [], ◌∷◌, length, find, Option, Some, None, unwrap_or, slice_index, if◌then◌else◌, IsTrue}
 use Rattle.std.specs.List.{list_any, list_all, flat_map, range_with_len, position_from}
+use Rattle.std.specs.Str.{all_scalars}
 use Rattle.hub_path.specs.Path.{Path}
 use Rattle.hub_glob.specs.declared.piece.Piece.{Piece}
 use Rattle.hub_glob.specs.declared.piece.Piece.TheVariants.{Lit, Any, Run, OneOf}
@@ -14,6 +15,10 @@ use Rattle.hub_automaton.specs.declared.fault.AutomatonFault.TheVariants.{TooMan
 -- NUL, LF and CR: no path has them, and they are never mentioned.
 abbrev pub is_left_out : ℕ → Bool
 is_left_out c = c == 0 || c == 10 || c == 13
+
+-- A character that may stand in a path: a Unicode scalar value, and none of those.
+abbrev pub is_path_character : ℕ → Bool
+is_path_character c = all_scalars (c ∷ []) && not (is_left_out c)
 
 abbrev pub is_mentioned : List ℕ → ℕ → Bool
 is_mentioned ms c = list_any (λ m. m == c) ms
@@ -44,13 +49,14 @@ ascends (m ∷ ms) = list_all (λ n. nat_lt m n) ms && ascends ms
 abbrev pub plain : List ℕ
 plain = 46 ∷ 47 ∷ []
 
--- What holds of the mentioned characters: they ascend, `.` and `/` are among them, NUL, LF and CR aren't, and there are
--- at most as many as an alphabet may have.
+-- What holds of the mentioned characters: they ascend, `.` and `/` are among them, NUL, LF and CR aren't, all are Unicode
+-- scalar values, and there are at most as many as an alphabet may have.
 pub record IsAlphabet (ms : List ℕ) : Type 0 where
   pub ascends : IsTrue (ascends ms)
   pub dot : IsTrue (is_mentioned ms 46)
   pub slash : IsTrue (is_mentioned ms 47)
   pub allowed : IsTrue (list_all (λ m. not (is_left_out m)) ms)
+  pub scalars : IsTrue (all_scalars ms)
   pub few : length ms ≤ MENTIONED_CHARACTERS
 
 -- A number put in its place among others that ascend.

@@ -1,4 +1,4 @@
-ghost use Rattle.std.specs.Prelude.{◌≡◌, ◌+◌, ◌<◌, ◌≤◌, [], ◌∷◌, length, map, IfOk, IfErr, OnOk, OnErr};
+ghost use Rattle.std.specs.Prelude.{◌≡◌, ◌↔◌, ◌+◌, ◌<◌, ◌≤◌, [], ◌∷◌, length, map, true, IfOk, IfErr, IfSome, OnOk, OnErr};
 ghost use Rattle.hub_automaton.specs.Alphabet as alphabet;
 
 use crate::class::Class;
@@ -14,9 +14,9 @@ pub const MENTIONED_CHARACTERS: usize = 512;
 
 /// The characters that some paths and specifications mention, and `.` and `/`, which are always among them.
 ///
-/// Two characters that it mentions neither of are alike to all of them: no specification that was added tells one from
-/// the other. So there is one class for all those, and one for each mentioned character. NUL, CR and LF stand in no
-/// path, are never mentioned and have no class. The mentioned characters are kept in ascending order.
+/// No path or specification that was added distinguishes two characters that aren't mentioned. So all those form one
+/// class, and each mentioned character is a class of its own. NUL, CR and LF can't occur in a path: they are never
+/// mentioned and have no class. The mentioned characters are in ascending order.
 #[derive(Debug, Drop)]
 pub struct Alphabet {
     mentioned: Vec<char>,
@@ -34,7 +34,7 @@ impl Model for Alphabet {
 }
 
 impl Alphabet {
-    /// The alphabet that mentions `.` and `/` alone. Memory may be refused.
+    /// Returns the alphabet that mentions only `.` and `/`. The only fault is `OutOfMemory`.
     pub fn new(alloc: Global) -> Result<Alphabet, AutomatonFault>
         ensures ok { IfOk result (λ a. a ≡ alphabet.plain) }
         ensures err { IfErr result (λ e. e ≡ AutomatonFault.OutOfMemory) }
@@ -82,7 +82,7 @@ impl Alphabet {
         Ok(())
     }
 
-    /// How many classes there are: their numbers are those below it. It takes no memory.
+    /// Returns the number of classes. The classes are the numbers below it.
     pub fn count(&self) -> usize
         ensures count { result ≡ alphabet.class_count self.now }
         ensures valid { alphabet.IsAlphabet self.now }
@@ -90,9 +90,11 @@ impl Alphabet {
         self.mentioned.len() + 1
     }
 
-    /// The class of a character; NUL, CR and LF alone have none. It takes no memory.
+    /// Returns the class of a character, or `None` for NUL, CR and LF.
     pub fn class_of(&self, character: char) -> Option<Class>
-        ensures { result ≡ alphabet.class_of self.now character }
+        ensures class { result ≡ alphabet.class_of self.now character }
+        ensures below { IfSome result (λ k. k < alphabet.class_count self.now) }
+        ensures none { (result ≡ None) ↔ (alphabet.is_left_out character ≡ true) }
     {
         if is_left_out(character) {
             return None;
@@ -104,7 +106,7 @@ impl Alphabet {
         Some(Class::new(number))
     }
 
-    /// A character of each class, in the order of their numbers.
+    /// Returns a representative of each class, in the order of their numbers.
     pub fn samples(&self, alloc: Global) -> Result<Vec<char>, AllocError>
         ensures items { IfOk result (λ v. v.items ≡ alphabet.first_unmentioned self.now ∷ self.now) }
         ensures alphabet { OnOk result (alphabet.IsAlphabet self.now) }
@@ -115,8 +117,8 @@ impl Alphabet {
         Ok(samples)
     }
 
-    /// A character of that class: of class 0 the first one from `a` on that isn't mentioned, and of another class its
-    /// one character. It takes no memory.
+    /// Returns a representative of the class: for class 0 the first character from `a` on that isn't mentioned, and for
+    /// every other class its only character.
     pub fn sample(&self, class: Class) -> char
         requires { class < alphabet.class_count self.now }
         ensures { result ≡ alphabet.sample self.now class }

@@ -5,19 +5,19 @@ use crate::fault::AutomatonFault;
 use hub_glob::{Kind, Piece};
 use hub_path::Items;
 
-/// How many spots the choices of some specifications may have together (this project's choice).
+/// How many positions the choices of some specifications may have together (this project's choice).
 pub const SPOTS: usize = 4096;
 
-/// The choices of a specification, as lists of pieces, and with what of a text they are matched.
+/// The choices of a specification, as lists of pieces, and which part of a text they are matched with.
 #[derive(Debug, Drop)]
 pub struct Alternatives {
-    /// With what of a text they are matched.
+    /// Which part of a text they are matched with.
     pub kind: Kind,
     /// The choices, each a list of pieces.
     pub choices: Items<Items<Piece>>,
 }
 
-/// Counts the spots of some choices: for each one more than it has pieces.
+/// Counts the positions of some choices: for each one more than it has pieces.
 pub(crate) fn with_spots(before: usize, choices: &[Items<Piece>]) -> Result<usize, AutomatonFault>
     requires { before ≤ SPOTS }
     ensures ok { IfOk result (λ n. n ≡ before + spot_count choices.now) }

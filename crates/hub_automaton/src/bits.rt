@@ -2,6 +2,7 @@ ghost use Rattle.std.specs.Prelude.{◌≡◌, [], ◌∷◌, ◌++◌, slice_in
 
 use std::alloc::{AllocError, Global};
 use std::cmp::Ordering;
+use std::hash::{Hash, Hasher};
 use std::marker::Model;
 
 /// A list of bits.
@@ -28,7 +29,7 @@ impl Bits {
         })
     }
 
-    /// The same bits once more.
+    /// Copies the bits.
     pub(crate) fn copy(&self, alloc: Global) -> Result<Bits, AllocError>
         ensures { IfOk result (λ b. b ≡ self.now) }
     {
@@ -110,5 +111,18 @@ impl Ord for Bits {
 
     fn cmp(&self, other: &Bits) -> Ordering {
         self.bits.cmp(&other.bits)
+    }
+}
+
+impl Hash for Bits {
+    ghost use Rattle.std.specs.Hash as fed;
+    ghost use Rattle.hub_automaton.specs.Ties.{bits_hashed};
+
+    ghost hash_input = { fed.slice fed.bool };
+
+    ghost respects_eq = { bits_hashed };
+
+    fn hash<H: Hasher>(&self, state: &mut H) {
+        self.bits.hash(state);
     }
 }

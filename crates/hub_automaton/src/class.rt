@@ -2,7 +2,7 @@ ghost use Rattle.std.specs.Prelude.{◌≡◌};
 
 use std::marker::Model;
 
-/// A class of characters, by its number in an alphabet: 0 is that of all characters which the alphabet doesn't mention,
+/// A class of characters, by its number in an alphabet: 0 is the class of all characters that the alphabet doesn't mention,
 /// and the others are those of the mentioned characters, in ascending order.
 #[derive(Clone, Copy, Debug, PartialEq, Eq, PartialOrd, Ord)]
 pub struct Class {
@@ -20,14 +20,14 @@ impl Model for Class {
 }
 
 impl Class {
-    /// The class with that number.
+    /// Returns the class with that number.
     pub fn new(number: usize) -> Class
         ensures { result ≡ number }
     {
         Class { number }
     }
 
-    /// The number of the class.
+    /// Returns the number of the class.
     pub fn number(self) -> usize
         ensures { result ≡ self }
     {

@@ -10,7 +10,7 @@ pub enum AutomatonFault {
     /// The choices of the specifications have more than `SPOTS` spots together.
     #[error("TooManySpots")]
     TooManySpots,
-    /// Memory was refused.
+    /// An allocation failed.
     #[error("OutOfMemory")]
     OutOfMemory,
 }

@@ -1,19 +1,41 @@
-//! What holds of alphabets and of what is kept of texts: each law is the contract of a function that does nothing.
-ghost use Rattle.std.specs.Prelude.{◌≡◌, ◌↔◌, ◌<◌, ◌++◌, ◌∷◌, ◌==◌, ◌||◌, [], map, ℕ, List, Some, IsTrue, true};
+//! Laws of alphabets and of the states that texts lead to: each is the contract of an empty function.
+ghost use Rattle.std.specs.Prelude.{◌≡◌, ◌↔◌, ◌<◌, ◌++◌, ◌∷◌, ◌==◌, ◌||◌, ◌&&◌, not, [], map, ℕ, List, Some, IsTrue, true, false};
 ghost use Rattle.std.specs.List.{list_all, list_any};
+ghost use Rattle.std.specs.declared.cmp.Ordering.TheVariants.{Equal};
 ghost use Rattle.hub_path.specs.Path.{Path, text_of, is_path};
 ghost use Rattle.hub_glob.specs.Glob.{matches};
 ghost use Rattle.hub_glob.specs.Specification.{Specification};
-ghost use Rattle.hub_automaton.specs.Spots.{seen, alternatives_of, is_covered, progress, starts};
+ghost use Rattle.hub_automaton.specs.Spots.{Seen, seen, alternatives_of, is_covered, progress, starts};
 ghost use Rattle.hub_automaton.specs.declared.alternatives.Alternatives.{Alternatives};
-ghost use Rattle.hub_automaton.specs.Alphabet.{IsAlphabet, class_of, class_count, sample, with_characters, mentions, spec_characters, is_left_out, is_mentioned};
+ghost use Rattle.hub_automaton.specs.Alphabet.{IsAlphabet, class_of, class_count, sample, with_characters, mentions, spec_characters, is_left_out, is_mentioned, is_path_character};
+
+use crate::spec_set::Spots;
+use std::hash::Hash;
+
+/// A class is below the number of classes.
+pub fn classes_are_below_their_count()
+    ensures { (ms : List ℕ) (x k : ℕ) → class_of ms x ≡ Some k → k < class_count ms }
+{}
+
+/// Every character but NUL, LF and CR has a class, and they have none.
+pub fn all_characters_of_paths_have_classes()
+    ensures some { (ms : List ℕ) (x : ℕ) → is_left_out x ≡ false → (k : ℕ) × (class_of ms x ≡ Some k) }
+    ensures none { (ms : List ℕ) (x k : ℕ) → class_of ms x ≡ Some k → is_left_out x ≡ false }
+{}
+
+/// Mentioned characters and samples are characters that may stand in a path.
+pub fn samples_may_stand_in_paths()
+    ensures mentioned { (ms : List ℕ) (x : ℕ) → IsAlphabet ms → is_mentioned ms x ≡ true → IsTrue (is_path_character x) }
+    ensures sample { (ms : List ℕ) (k : ℕ) → IsAlphabet ms → k < class_count ms → IsTrue (is_path_character (sample ms k)) }
+{}
 
 /// The sample of a class is of that class.
 pub fn samples_are_of_their_class()
     ensures { (ms : List ℕ) (k : ℕ) → IsAlphabet ms → k < class_count ms → class_of ms (sample ms k) ≡ Some k }
 {}
 
-/// Two characters of one class are equal, or neither is mentioned; so nothing that is mentioned tells them apart.
+/// Two characters of one class are equal, or neither is mentioned. So no comparison with a mentioned character
+/// distinguishes them.
 pub fn classes_are_alike()
     ensures { (ms : List ℕ) (x y k c : ℕ) → class_of ms x ≡ Some k → class_of ms y ≡ Some k → (is_left_out c || is_mentioned ms c) ≡ true → (x == c) ≡ (y == c) }
 {}
@@ -24,21 +46,33 @@ pub fn what_is_added_is_mentioned()
     ensures kept { (ms cs ds : List ℕ) → IsTrue (mentions ms ds) → IsTrue (mentions (with_characters ms cs) ds) }
 {}
 
-/// Texts of which the same is kept go on alike: what is kept of a text and a character is found from what is kept of the
-/// text. Characters of one class lead to the same.
+/// Exactly those characters are mentioned that were mentioned or are added, but for NUL, LF and CR.
+pub fn nothing_else_is_mentioned()
+    ensures { (ms cs : List ℕ) (x : ℕ) → is_mentioned (with_characters ms cs) x ≡ (is_mentioned ms x || (not (is_left_out x) && is_mentioned cs x)) }
+{}
+
+/// `Spots` are equal exactly when their values are, and tie in the order exactly then. Equal ones hash alike.
+pub fn spots_compare_exactly()
+    ensures equal { (a b : Seen) → (⟦<Spots as PartialEq>⟧.eq a b ≡ true) ↔ (a ≡ b) }
+    ensures tied { (a b : Seen) → (⟦<Spots as Ord>⟧.cmp a b ≡ Equal) ↔ (a ≡ b) }
+    ensures hashed { (a b : Seen) → ⟦<Spots as PartialEq>⟧.eq a b ≡ true → ⟦<Spots as Hash>⟧.hash_input a ≡ ⟦<Spots as Hash>⟧.hash_input b }
+{}
+
+/// If two texts lead to the same state, they still do after any character is appended to both. Characters of one class
+/// lead to the same state.
 pub fn what_is_kept_goes_on_alike()
     ensures same { (ls : List Alternatives) (t u : List ℕ) (x : ℕ) → seen ls t ≡ seen ls u → seen ls (t ++ x ∷ []) ≡ seen ls (u ++ x ∷ []) }
     ensures classes { (ms : List ℕ) (ls : List Alternatives) (t : List ℕ) (x y k : ℕ) → IsAlphabet ms → IsTrue (list_all (is_covered ms) ls)
         → class_of ms x ≡ Some k → class_of ms y ≡ Some k → seen ls (t ++ x ∷ []) ≡ seen ls (t ++ y ∷ []) }
 {}
 
-/// The same is kept of two texts exactly where, for each specification, the same numbers of pieces of each choice match
-/// both, and both or neither have a path above that matches; and where both or neither end where a component starts.
+/// Two texts lead to the same state exactly when the following agree: for each specification, how many pieces of each
+/// choice match, and whether a path above matches; and whether the text ends where a component starts.
 pub fn the_same_is_kept_of_each_specification()
     ensures { (ls : List Alternatives) (t u : List ℕ) → (seen ls t ≡ seen ls u) ↔ ((map (progress t) ls ≡ map (progress u) ls) × (starts true t ≡ starts true u)) }
 {}
 
-/// Paths of which the same is kept are matched alike.
+/// If two paths lead to the same state, the same specifications match them.
 pub fn what_is_kept_tells_what_matches()
     ensures { (specs : List Specification) (p q : Path) → IsTrue (is_path p) → IsTrue (is_path q)
         → seen (map alternatives_of specs) (text_of p) ≡ seen (map alternatives_of specs) (text_of q) → list_any (λ s. matches s p) specs ≡ list_any (λ s. matches s q) specs }

@@ -1,12 +1,15 @@
-//! Classes of characters, and sets of positions in patterns, by which texts are told apart.
+//! Classes of characters, and an automaton over them that follows many patterns at once.
+//!
+//! The automaton is bit-parallel: its states are sets of positions in the patterns, 64 in a word (Shift-And; Baeza-Yates
+//! and Gonnet, Navarro and Raffinot). Only functions that return a `Result` allocate.
 //!
 //! - [`Alphabet`] holds the characters that paths and specifications mention. Each is a [`Class`] of its own, and all
 //!   other characters allowed in paths are one class.
-//! - [`SpecSet`] reads a text class by class for some specifications, and keeps of it, as [`Spots`], which numbers of
-//!   pieces of their choices match. So it tells after each character whether one of them matches the text so far.
+//! - [`SpecSet`] reads a text class by class for some specifications. Its state is [`Spots`]: for each choice, after how
+//!   many pieces it matches the text so far. So it knows after each character whether one of them matches the text.
 //!
-//! The contracts are in the words of `specs/Alphabet` (classes) and `specs/Spots` (what is kept of a text). `specs/Stepping`
-//! says how it is found character by character, and `specs/Masks` and `specs/Words` how for 64 spots at once.
+//! The contracts use the words of `specs/Alphabet` (classes) and `specs/Spots` (the state after a text). `specs/Stepping`
+//! defines a step position by position, and `specs/Masks` and `specs/Words` for 64 positions at once.
 #![tactic(auto)]
 
 mod alphabet;

@@ -14,11 +14,11 @@ use std::alloc::{AllocError, Global};
 /// Which spots a mask has.
 #[derive(Clone, Copy)]
 pub(crate) enum Mask {
-    /// The first spots of the choices of `Name` specifications, which are entered behind a `/`.
+    /// The first positions of the choices of `Name` specifications, which become active after a `/`.
     Entries,
-    /// The spots behind stars.
+    /// The positions after stars.
     Stars,
-    /// The spots behind pieces that take that character and are no stars.
+    /// The positions after pieces that accept that character and aren't stars.
     Takers(char),
 }
 

@@ -33,7 +33,7 @@ pub(crate) fn enter_choices(choices: &[Items<Piece>], new: &mut Vec<bool>) -> Re
     Ok(())
 }
 
-/// How the choices of a specification stand to a text: whether one of them matches it, and the place behind their spots.
+/// Of the choices of a specification and a text: whether one of them matches it, and the place after their positions.
 #[derive(Clone, Copy)]
 pub(crate) struct ChoicesEnd {
     pub(crate) matched: bool,

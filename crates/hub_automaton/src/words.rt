@@ -4,13 +4,14 @@ ghost use Rattle.hub_automaton.specs.Words as words;
 
 use std::alloc::{AllocError, Global};
 use std::cmp::Ordering;
+use std::hash::{Hash, Hasher};
 use std::marker::Model;
 
 /// How many bits a word has.
 const WORD_BITS: usize = 64;
 
-/// Masks of the spots of a word: which are entered, which are those of stars, and which are those of pieces that take
-/// the character and are no stars.
+/// Masks of the positions of a word: which become active, which come after stars, and which come after pieces that accept
+/// the character and aren't stars.
 #[derive(Clone, Copy)]
 pub(crate) struct Masks {
     pub(crate) entries: u64,
@@ -33,7 +34,21 @@ impl Model for Words {
 }
 
 impl Words {
-    /// The words, lent in their order.
+    /// The allocator of the words.
+    pub(crate) fn allocator(&self) -> Global {
+        *self.words.allocator()
+    }
+
+    /// Copies the words.
+    pub(crate) fn copy(&self, alloc: Global) -> Result<Words, AllocError>
+        ensures { IfOk result (λ ws. ws ≡ self.now) }
+    {
+        Ok(Words {
+            words: Vec::from_slice(alloc, self.words.as_slice())?,
+        })
+    }
+
+    /// Borrows the words, in their order.
     pub(crate) fn as_slice(&self) -> &[u64]
         ensures { result.now ≡ self.now }
     {
@@ -96,6 +111,20 @@ impl Ord for Words {
 
     fn cmp(&self, other: &Words) -> Ordering {
         self.words.cmp(&other.words)
+    }
+}
+
+impl Hash for Words {
+    ghost use Rattle.std.proofs.Common.{rules};
+    ghost use Rattle.std.specs.Cmp.Rules.{comparing, hashing};
+    ghost use Rattle.std.specs.Hash as fed;
+
+    ghost hash_input = { fed.slice fed.u64 };
+
+    ghost respects_eq = { Prim.search (hashing, rules) };
+
+    fn hash<H: Hasher>(&self, state: &mut H) {
+        self.words.hash(state);
     }
 }
 

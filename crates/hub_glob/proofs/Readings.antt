@@ -1,6 +1,6 @@
 -- The steps of reading a specification.
 use Rattle.std.proofs.Common.{◌≡◌, ℕ, suc, zero, ◌+◌, ◌-◌, ◌*◌, ◌<◌, ◌≤◌, min, Bool, true, false, ◌&&◌, ◌==◌, List, [], ◌∷◌, ◌++◌, length, drop, get_or, Option, Some, None, Result, Ok, Err, refl, sym, ap, ◌∙◌, arith, add-one, append_assoc, append-nil, ⊎_elim, Decides}
-use Rattle.std.specs.Prelude.{nat_lt, codes, if◌then◌else◌}
+use Rattle.std.specs.Prelude.{codes, if◌then◌else◌}
 use Rattle.std.specs.List.{range_with_len}
 use Rattle.std.specs.Char.{encode_utf8}
 use Rattle.std.specs.Str.{IsUtf8, chars, encode_utf8_all}
@@ -9,7 +9,6 @@ use Rattle.std.proofs.lemmas.List.{drop_more, length_push, length-drop}
 use Rattle.std.proofs.lemmas.Bool.{cases_lt}
 use Rattle.std.proofs.lemmas.Bool.Decides.{same_from_decides, Decides-like, Decides-eqb}
 use Rattle.std.proofs.Math.Nat.{mul_assoc, mul-le-mul_left}
-use borrow.Author.Tests.{ltb-false}
 use Rattle.hub_path.specs.Texts.{bytes_eq-chars, is_nil, nil_ascii}
 use Rattle.hub_glob.specs.AsciiWords.{is_word}
 use Rattle.hub_glob.specs.declared.fault.GlobFault.{GlobFault}
@@ -24,12 +23,8 @@ use Rattle.hub_glob.specs.declared.reading.Token.TheVariants.{Plain, Escaped, St
 use Rattle.hub_glob.specs.declared.reading.Sign.{Sign}
 use Rattle.hub_glob.specs.declared.reading.Sign.TheVariants.{Means, Open, Comma, Close}
 use Rattle.hub_glob.specs.declared.piece.Piece.TheVariants.{Lit}
-use Rattle.hub_glob.specs.Specification.{choices_size, pattern_size}
-use Rattle.hub_glob.specs.Reading.{character_sign, tokens, is_special, is_plain, kind_reading, signs, set_sign, members, member, range_member, then_members, choice_count, Adds, ◌>>=◌, then_part, set_piece, Faults, parts, starts_with_slash, parts_of}
-
-both : (a b : Bool) → (a && b) ≡ true → (a ≡ true) × (b ≡ true)
-both true b h = (refl, h)
-both false b h = cc
+use Rattle.hub_glob.specs.Specification.{choices_size, pattern_size, choice_count}
+use Rattle.hub_glob.specs.Reading.{character_sign, tokens, is_special, is_plain, kind_reading, signs, set_sign, members, member, range_member, then_members, Adds, ◌>>=◌, then_part, set_piece, Faults, parts, starts_with_slash, parts_of}
 
 abbrev kind_by : Bool → Bool → Bool → Bool → Result Kind GlobFault
 kind_by a b c d =
@@ -318,9 +313,3 @@ parts_size (Some (done, current)) (Ok Close ∷ ss) ps h =
 pub size_read : (in_name : Bool) (cs : List ℕ) (ps : List Part) → parts_of in_name cs ≡ Ok ps → pattern_size ps ≤ length cs
 size_read in_name cs ps h =
     omega (arith, parts_size None (signs in_name None (tokens false cs)) ps h, signs_length in_name None (tokens false cs), tokens_length false cs)
-
-pub size_kept : (in_name : Bool) (cs : List ℕ) (ps : List Part) (long : Bool) → long ≡ nat_lt 200 (length cs) → long ≡ false → parts_of in_name cs ≡ Ok ps
-    → pattern_size ps ≤ 200
-size_kept in_name cs ps long e f h =
-    let l : length cs ≤ 200 = ltb-false 200 (length cs) (sym e ∙ f) in
-    omega (arith, size_read in_name cs ps h)

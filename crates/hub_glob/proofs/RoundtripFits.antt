@@ -1,8 +1,10 @@
 -- What holds of each pattern that a text gives, and is enough for it to be written and read again.
 use Rattle.std.proofs.Common.{◌≡◌, ℕ, suc, zero, ◌+◌, ◌-◌, ◌<◌, ◌≤◌, Bool, true, false, not, ◌&&◌, ◌||◌, ◌==◌, List, [], ◌∷◌, ◌++◌, length, Option, Some, None, Result, Ok, Err, refl, sym, ap, ◌∙◌, arith, subst}
 use Rattle.std.specs.Prelude.{nat_lt, nat_le, if◌then◌else◌, IfOk}
-use Rattle.std.specs.List.{range_with_len}
-use Rattle.std.proofs.lemmas.Bool.{eqb-true}
+use Rattle.std.specs.List.{range_with_len, AllByRecursion}
+use Rattle.std.specs.Str.{all_scalars}
+use lib.Utf8.{scalar, low_scalar}
+use Rattle.std.proofs.lemmas.Bool.{eqb-true, and_parts, or_parts}
 use Rattle.std.proofs.lemmas.Bool.Decides.{nat_tests}
 use Rattle.hub_glob.specs.declared.fault.GlobFault.{GlobFault}
 use Rattle.hub_glob.specs.declared.fault.GlobFault.TheVariants as fault
@@ -14,6 +16,7 @@ use Rattle.hub_glob.specs.declared.reading.Token.{Token}
 use Rattle.hub_glob.specs.declared.reading.Token.TheVariants.{Plain, Escaped, Stray}
 use Rattle.hub_glob.specs.declared.reading.Sign.{Sign}
 use Rattle.hub_glob.specs.declared.reading.Sign.TheVariants.{Means, Open, Comma, Close}
+use Rattle.hub_glob.specs.Readable.{IsAsciiBeforeDash, AreReadableMembers, IsReadableSet, IsReadablePiece, IsReadablePart}
 use Rattle.hub_glob.specs.Reading.{is_special, tokens, is_plain, token_character, range_characters, member, range_member, then_members, members, is_negated, set_of, set_piece, set_sign, character_sign, signs, then_part, parts, parts_of, ◌>>=◌}
 
 pub no-true : (b : Bool) → (b ≡ true → ⊥) → b ≡ false
@@ -27,15 +30,11 @@ special-not c d h k = no-true (c == d) (λ e. let m : is_special c ≡ is_specia
 pub not-special : (c d : ℕ) → is_special c ≡ false → is_special d ≡ true → (c == d) ≡ false
 not-special c d h k = no-true (c == d) (λ e. let m : is_special c ≡ is_special d = ap is_special (eqb-true c d e) in cc)
 
-abbrev pub Each : {X : Type 0} → (X → Type 0) → List X → Type 0
-Each P [] = Unit {0}
-Each P (x ∷ xs) = P x × Each P xs
-
-pub each_push : {X : Type 0} (P : X → Type 0) (xs : List X) (x : X) → Each P xs → P x → Each P (xs ++ x ∷ [])
+pub each_push : {X : Type 0} (P : X → Type 0) (xs : List X) (x : X) → AllByRecursion P xs → P x → AllByRecursion P (xs ++ x ∷ [])
 each_push P [] x h p = (p, tt)
 each_push P (y ∷ xs) x h p = (h.0, each_push P xs x h.1 p)
 
-either_each : {X : Type 0} (b : Bool) (P : X → Type 0) (xs ys : List X) → (b ≡ true → Each P xs) → (b ≡ false → Each P ys) → Each P (if b then xs else ys)
+either_each : {X : Type 0} (b : Bool) (P : X → Type 0) (xs ys : List X) → (b ≡ true → AllByRecursion P xs) → (b ≡ false → AllByRecursion P ys) → AllByRecursion P (if b then xs else ys)
 either_each true P xs ys f g = f refl
 either_each false P xs ys f g = g refl
 
@@ -47,32 +46,34 @@ pub ok_then : {S T : Type 0} (r : Result S GlobFault) (f : S → Result T GlobFa
 ok_then (Ok x) f P Q p g = g x p
 ok_then (Err e) f P Q p g = tt
 
--- Tokens: a character behind a `\` is special.
+pub special_scalar : (c : ℕ) → is_special c ≡ true → scalar c ≡ true
+special_scalar c h = low_scalar c (grind (arith, nat_tests))
+
+-- Tokens: characters, and after a `\` a special one.
 abbrev pub IsProper : Token → Type 0
-IsProper (Plain c) = Unit {0}
+IsProper (Plain c) = scalar c ≡ true
 IsProper (Escaped c) = is_special c ≡ true
 IsProper Stray = Unit {0}
 
-pub tokens_proper : (b : Bool) (cs : List ℕ) → Each IsProper (tokens b cs)
-tokens_proper false [] = tt
-tokens_proper true [] = (tt, tt)
-tokens_proper false (c ∷ cs) = either_each (c == 92) IsProper (tokens true cs) (Plain c ∷ tokens false cs) (λ h. tokens_proper true cs) (λ h. (tt, tokens_proper false cs))
-tokens_proper true (c ∷ cs) = either_each (is_special c) IsProper (Escaped c ∷ tokens false cs) (Stray ∷ []) (λ h. (h, tokens_proper false cs)) (λ h. (tt, tt))
+pub tokens_proper : (b : Bool) (cs : List ℕ) → all_scalars cs ≡ true → AllByRecursion IsProper (tokens b cs)
+tokens_proper false [] h = tt
+tokens_proper true [] h = (tt, tt)
+tokens_proper false (c ∷ cs) h =
+    let (one, more) = and_parts (scalar c) (all_scalars cs) h in
+    either_each (c == 92) IsProper (tokens true cs) (Plain c ∷ tokens false cs) (λ k. tokens_proper true cs more) (λ k. (one, tokens_proper false cs more))
+tokens_proper true (c ∷ cs) h =
+    let (one, more) = and_parts (scalar c) (all_scalars cs) h in
+    either_each (is_special c) IsProper (Escaped c ∷ tokens false cs) (Stray ∷ []) (λ k. (k, tokens_proper false cs more)) (λ k. (tt, tt))
+
+token_scalar : (t : Token) (c : ℕ) → IsProper t → token_character t ≡ Ok c → scalar c ≡ true
+token_scalar (Plain d) c p e = let m : d ≡ c = cc in ap scalar (sym m) ∙ p
+token_scalar (Escaped d) c p e = let m : d ≡ c = cc in ap scalar (sym m) ∙ special_scalar d p
+token_scalar Stray c p e = cc
 
 token_not : (t : Token) (c k : ℕ) → IsProper t → is_special k ≡ false → is_plain k t ≡ false → token_character t ≡ Ok c → (c == k) ≡ false
 token_not (Plain d) c k p s h e = let m : d ≡ c = cc in ap (λ x. x == k) (sym m) ∙ h
 token_not (Escaped d) c k p s h e = let m : d ≡ c = cc in ap (λ x. x == k) (sym m) ∙ special-not d k p s
 token_not Stray c k p s h e = cc
-
--- Sets: no `/`, and where a `-` and a further member follow a member, it is ASCII.
-abbrev pub Next : ℕ → List ℕ → Type 0
-Next c [] = Unit {0}
-Next c (d ∷ []) = Unit {0}
-Next c (d ∷ e ∷ cs) = (d == 45) ≡ true → nat_lt 127 c ≡ false
-
-abbrev pub FitMembers : List ℕ → Type 0
-FitMembers [] = Unit {0}
-FitMembers (c ∷ cs) = ((c == 47) ≡ false) × Next c cs × FitMembers cs
 
 -- Such members begin with the character of the first token.
 abbrev Front : List Token → List ℕ → Type 0
@@ -80,7 +81,7 @@ Front [] cs = cs ≡ []
 Front (t ∷ ts) cs = (c : ℕ) × (more : List ℕ) × (cs ≡ c ∷ more) × (token_character t ≡ Ok c)
 
 abbrev Single : Token → List ℕ → Type 0
-Single t cs = (c : ℕ) × (cs ≡ c ∷ []) × (token_character t ≡ Ok c) × ((c == 47) ≡ false)
+Single t cs = (c : ℕ) × (cs ≡ c ∷ []) × (token_character t ≡ Ok c) × ((c == 47) ≡ false) × (scalar c ≡ true)
 
 abbrev Ranged : Token → List ℕ → Type 0
 Ranged t cs = (low : ℕ) × (high : ℕ) × (token_character t ≡ Ok low) × (cs ≡ range_with_len low (high + 1 - low)) × (low ≤ high) × (high ≤ 127) × (low ≤ 47 → high < 47)
@@ -90,10 +91,11 @@ then_ok (Ok xs) (Ok ys) P Q R p q f = f xs ys p q
 then_ok (Ok xs) (Err e) P Q R p q f = tt
 then_ok (Err e) rest P Q R p q f = tt
 
-single : (t : Token) → IfOk (member t) (Single t)
-single (Plain c) = either_ok (c == 47) (Single (Plain c)) (Err fault.SlashInSet) (Ok (c ∷ [])) (λ h. tt) (λ h. (c, refl, refl, h))
-single (Escaped c) = either_ok (c == 47) (Single (Escaped c)) (Err fault.SlashInSet) (Ok (c ∷ [])) (λ h. tt) (λ h. (c, refl, refl, h))
-single Stray = tt
+single : (t : Token) → IsProper t → IfOk (member t) (Single t)
+single (Plain c) p = either_ok (c == 47) (Single (Plain c)) (Err fault.SlashInSet) (Ok (c ∷ [])) (λ h. tt) (λ h. (c, refl, refl, h, p))
+single (Escaped c) p =
+    either_ok (c == 47) (Single (Escaped c)) (Err fault.SlashInSet) (Ok (c ∷ [])) (λ h. tt) (λ h. (c, refl, refl, h, special_scalar c p))
+single Stray p = tt
 
 range_facts : (low high : ℕ) → (nat_lt 127 low || nat_lt 127 high || nat_lt high low) ≡ false → (nat_le low 47 && nat_le 47 high) ≡ false
     → (low ≤ high) × (high ≤ 127) × (low ≤ 47 → high < 47)
@@ -113,100 +115,86 @@ ranged s t =
       itself (Ok a) = refl
       itself (Err e) = tt
 
-next_small : (c : ℕ) (cs : List ℕ) → c ≤ 127 → Next c cs
+next_small : (c : ℕ) (cs : List ℕ) → c ≤ 127 → IsAsciiBeforeDash c cs
 next_small c [] l = tt
 next_small c (d ∷ []) l = tt
 next_small c (d ∷ e ∷ cs) l = λ h. grind (arith, nat_tests)
 
-next_other : (c d : ℕ) (cs : List ℕ) → (d == 45) ≡ false → Next c (d ∷ cs)
+next_other : (c d : ℕ) (cs : List ℕ) → (d == 45) ≡ false → IsAsciiBeforeDash c (d ∷ cs)
 next_other c d [] h = tt
 next_other c d (e ∷ cs) h = λ k. cc
 
-range_fits : (k low high : ℕ) (ys : List ℕ) → low + k ≤ high + 1 → high ≤ 127 → (low ≤ 47 → high < 47) → FitMembers ys → FitMembers (range_with_len low k ++ ys)
+range_fits : (k low high : ℕ) (ys : List ℕ) → low + k ≤ high + 1 → high ≤ 127 → (low ≤ 47 → high < 47) → AreReadableMembers ys → AreReadableMembers (range_with_len low k ++ ys)
 range_fits zero low high ys l m s f = f
 range_fits (suc k) low high ys l m s f = (
   no-true (low == 47) (λ e. let same : low ≡ 47 = eqb-true low 47 e in omega arith),
+  low_scalar low (omega arith),
   next_small low (range_with_len (low + 1) k ++ ys) (omega arith),
   range_fits k (low + 1) high ys (omega arith) m (λ h. s (omega arith)) f,
 )
 
 abbrev Read : List Token → List ℕ → Type 0
-Read ts cs = FitMembers cs × Front ts cs
+Read ts cs = AreReadableMembers cs × Front ts cs
 
-range_then : (t : Token) (ts : List Token) (xs ys : List ℕ) → Ranged t xs → FitMembers ys → Read (t ∷ ts) (xs ++ ys)
+range_then : (t : Token) (ts : List Token) (xs ys : List ℕ) → Ranged t xs → AreReadableMembers ys → Read (t ∷ ts) (xs ++ ys)
 range_then t ts xs ys (low, high, e, is, l, m, s) f =
     let n : high + 1 - low ≡ suc (high - low) = omega arith in
     let whole : xs ++ ys ≡ range_with_len low (high + 1 - low) ++ ys = ap (λ zs. zs ++ ys) is in
-    let fit : FitMembers (range_with_len low (high + 1 - low) ++ ys) = range_fits (high + 1 - low) low high ys (omega arith) m s f in
-    (subst FitMembers (sym whole) fit, (low, range_with_len (low + 1) (high - low) ++ ys, whole ∙ ap (λ k. range_with_len low k ++ ys) n, e))
+    let fit : AreReadableMembers (range_with_len low (high + 1 - low) ++ ys) = range_fits (high + 1 - low) low high ys (omega arith) m s f in
+    (subst AreReadableMembers (sym whole) fit, (low, range_with_len (low + 1) (high - low) ++ ys, whole ∙ ap (λ k. range_with_len low k ++ ys) n, e))
 
 one_then : (t u : Token) (ts : List Token) (xs ys : List ℕ) → IsProper u → is_plain 45 u ≡ false → Single t xs → Read (u ∷ ts) ys → Read (t ∷ u ∷ ts) (xs ++ ys)
-one_then t u ts xs ys p h (c, is, e, n) (f, (d, more, js, g)) =
+one_then t u ts xs ys p h (c, is, e, n, sc) (f, (d, more, js, g)) =
     let whole : xs ++ ys ≡ c ∷ ys = ap (λ zs. zs ++ ys) is in
-    let next : Next c ys = subst (Next c) (sym js) (next_other c d more (token_not u d 45 p refl h g)) in
-    (subst FitMembers (sym whole) (n, next, f), (c, ys, whole, e))
+    let next : IsAsciiBeforeDash c ys = subst (IsAsciiBeforeDash c) (sym js) (next_other c d more (token_not u d 45 p refl h g)) in
+    (subst AreReadableMembers (sym whole) (n, sc, next, f), (c, ys, whole, e))
 
 two : (t u : Token) (xs ys : List ℕ) → Single t xs → Single u ys → Read (t ∷ u ∷ []) (xs ++ ys)
-two t u xs ys (c, is, e, n) (d, js, g, m) =
+two t u xs ys (c, is, e, n, sc) (d, js, g, m, sd) =
     let whole : xs ++ ys ≡ c ∷ d ∷ [] = λ i. is i ++ js i in
-    (subst FitMembers (sym whole) (n, tt, (m, tt, tt)), (c, d ∷ [], whole, e))
+    (subst AreReadableMembers (sym whole) (n, sc, tt, (m, sd, tt, tt)), (c, d ∷ [], whole, e))
 
-alone : (t : Token) → IfOk (members (t ∷ [])) (Single t)
-alone t = then_ok (member t) (Ok []) (Single t) (λ ys. ys ≡ []) (Single t) (single t) refl (λ xs ys s e. (s.0, (λ i. s.1 i ++ e i), s.2, s.3))
+alone : (t : Token) → IsProper t → IfOk (members (t ∷ [])) (Single t)
+alone t p = then_ok (member t) (Ok []) (Single t) (λ ys. ys ≡ []) (Single t) (single t p) refl (λ xs ys s e. (s.0, (λ i. s.1 i ++ e i), s.2, s.3, s.4))
 
-members_fit : (ts : List Token) → Each IsProper ts → IfOk (members ts) (Read ts)
+members_fit : (ts : List Token) → AllByRecursion IsProper ts → IfOk (members ts) (Read ts)
 members_fit [] p = (tt, refl)
 members_fit (a ∷ []) p =
-    then_ok (member a) (Ok []) (Single a) (λ ys. ys ≡ []) (Read (a ∷ [])) (single a) refl
-    (λ xs ys s e. let whole : xs ++ ys ≡ s.0 ∷ [] = λ i. s.1 i ++ e i in (subst FitMembers (sym whole) (s.3, tt, tt), (s.0, [], whole, s.2)))
-members_fit (a ∷ b ∷ []) p = then_ok (member a) (members (b ∷ [])) (Single a) (Single b) (Read (a ∷ b ∷ [])) (single a) (alone b) (two a b)
+    then_ok (member a) (Ok []) (Single a) (λ ys. ys ≡ []) (Read (a ∷ [])) (single a p.0) refl
+    (λ xs ys s e. let whole : xs ++ ys ≡ s.0 ∷ [] = λ i. s.1 i ++ e i in (subst AreReadableMembers (sym whole) (s.3, s.4, tt, tt), (s.0, [], whole, s.2)))
+members_fit (a ∷ b ∷ []) p = then_ok (member a) (members (b ∷ [])) (Single a) (Single b) (Read (a ∷ b ∷ [])) (single a p.0) (alone b p.1.0) (two a b)
 members_fit (a ∷ b ∷ c ∷ ts) p =
     either_ok (is_plain 45 b) (Read (a ∷ b ∷ c ∷ ts)) (then_members (range_member a c) (members ts)) (then_members (member a) (members (b ∷ c ∷ ts)))
     (λ h. then_ok (range_member a c) (members ts) (Ranged a) (Read ts) (Read (a ∷ b ∷ c ∷ ts)) (ranged a c) (members_fit ts p.1.1.1) (λ xs ys r f. range_then a (b ∷ c ∷ ts) xs ys r f.0))
-    (λ h. then_ok (member a) (members (b ∷ c ∷ ts)) (Single a) (Read (b ∷ c ∷ ts)) (Read (a ∷ b ∷ c ∷ ts)) (single a) (members_fit (b ∷ c ∷ ts) p.1) (λ xs ys s r. one_then a b (c ∷ ts) xs ys p.1.0 h s r))
+    (λ h. then_ok (member a) (members (b ∷ c ∷ ts)) (Single a) (Read (b ∷ c ∷ ts)) (Read (a ∷ b ∷ c ∷ ts)) (single a p.0) (members_fit (b ∷ c ∷ ts) p.1) (λ xs ys s r. one_then a b (c ∷ ts) xs ys p.1.0 h s r))
 
--- A set has a member, and the first is neither `^` nor `!`.
-abbrev pub FitSet : List ℕ → Type 0
-FitSet [] = ⊥
-FitSet (c ∷ cs) = ((c == 94) ≡ false) × ((c == 33) ≡ false) × FitMembers (c ∷ cs)
-
-pub neither : (a b : Bool) → (a || b) ≡ false → (a ≡ false) × (b ≡ false)
-neither true b h = cc
-neither false b h = (refl, h)
-
-set_fits : (ts : List Token) (cs : List ℕ) → Each IsProper ts → is_negated ts ≡ false → (length cs == 0) ≡ false → Read ts cs → FitSet cs
+set_fits : (ts : List Token) (cs : List ℕ) → AllByRecursion IsProper ts → is_negated ts ≡ false → (length cs == 0) ≡ false → Read ts cs → IsReadableSet cs
 set_fits ts [] p n z r = cc
 set_fits [] (c ∷ cs) p n z r = let e : c ∷ cs ≡ [] = r.1 in cc
 set_fits (t ∷ ts) (c ∷ cs) p n z (f, (d, more, is, e)) =
     let same : d ≡ c = cc in
-    let no = neither (is_plain 94 t) (is_plain 33 t) n in (
+    let no = or_parts (is_plain 94 t) (is_plain 33 t) n in (
       ap (λ x. x == 94) (sym same) ∙ token_not t d 94 p.0 refl no.0 e,
       ap (λ x. x == 33) (sym same) ∙ token_not t d 33 p.0 refl no.1 e,
       f,
     )
 
-abbrev pub FitPiece : Bool → Piece → Type 0
-FitPiece n (Lit c) = (c == 47 && n) ≡ false
-FitPiece n Any = Unit {0}
-FitPiece n Run = Unit {0}
-FitPiece n (OneOf cs) = FitSet cs
-
-set_piece_fits : (n : Bool) (ts : List Token) (closed : Bool) → Each IsProper ts → IfOk (set_piece ts closed) (FitPiece n)
+set_piece_fits : (n : Bool) (ts : List Token) (closed : Bool) → AllByRecursion IsProper ts → IfOk (set_piece ts closed) (IsReadablePiece n)
 set_piece_fits n ts closed p =
-    either_ok (is_negated ts) (FitPiece n) (Err fault.NegatedSet) (members ts >>= set_of closed) (λ h. tt)
-    (λ h. ok_then (members ts) (set_of closed) (Read ts) (FitPiece n) (members_fit ts p)
-    (λ cs r. either_ok (not closed) (FitPiece n) (Err fault.OpenBracket) (if length cs == 0 then Err fault.BadRange else Ok (OneOf cs)) (λ k. tt)
-    (λ k. either_ok (length cs == 0) (FitPiece n) (Err fault.BadRange) (Ok (OneOf cs)) (λ z. tt) (λ z. set_fits ts cs p h z r))))
+    either_ok (is_negated ts) (IsReadablePiece n) (Err fault.NegatedSet) (members ts >>= set_of closed) (λ h. tt)
+    (λ h. ok_then (members ts) (set_of closed) (Read ts) (IsReadablePiece n) (members_fit ts p)
+    (λ cs r. either_ok (not closed) (IsReadablePiece n) (Err fault.OpenBracket) (if length cs == 0 then Err fault.BadRange else Ok (OneOf cs)) (λ k. tt)
+    (λ k. either_ok (length cs == 0) (IsReadablePiece n) (Err fault.BadRange) (Ok (OneOf cs)) (λ z. tt) (λ z. set_fits ts cs p h z r))))
 
 -- Signs: each piece among them.
 abbrev pub FitSign : Bool → Result Sign GlobFault → Type 0
 FitSign n (Err e) = Unit {0}
-FitSign n (Ok (Means p)) = FitPiece n p
+FitSign n (Ok (Means p)) = IsReadablePiece n p
 FitSign n (Ok Open) = Unit {0}
 FitSign n (Ok Comma) = Unit {0}
 FitSign n (Ok Close) = Unit {0}
 
-set_sign_fits : (n : Bool) (r : Result Piece GlobFault) → IfOk r (FitPiece n) → FitSign n (r >>= λ p. Ok (Means p))
+set_sign_fits : (n : Bool) (r : Result Piece GlobFault) → IfOk r (IsReadablePiece n) → FitSign n (r >>= λ p. Ok (Means p))
 set_sign_fits n (Ok p) f = f
 set_sign_fits n (Err e) f = tt
 
@@ -230,53 +218,47 @@ abbrev open_tokens : Option (List Token) → List Token
 open_tokens None = []
 open_tokens (Some set) = set
 
-signs_fit : (n : Bool) (o : Option (List Token)) (ts : List Token) → Each IsProper (open_tokens o) → Each IsProper ts → Each (FitSign n) (signs n o ts)
+signs_fit : (n : Bool) (o : Option (List Token)) (ts : List Token) → AllByRecursion IsProper (open_tokens o) → AllByRecursion IsProper ts → AllByRecursion (FitSign n) (signs n o ts)
 signs_fit n None [] q p = tt
 signs_fit n (Some set) [] q p = (set_sign_fits n (set_piece set false) (set_piece_fits n set false q), tt)
 signs_fit n None (Stray ∷ ts) q p = (tt, tt)
-signs_fit n None (Escaped c ∷ ts) q p = (special-plain n c p.0, signs_fit n None ts tt p.1)
+signs_fit n None (Escaped c ∷ ts) q p = ((special-plain n c p.0, special_scalar c p.0), signs_fit n None ts tt p.1)
 signs_fit n None (Plain c ∷ ts) q p =
     either_each (c == 91) (FitSign n) (signs n (Some []) ts) _ (λ h. signs_fit n (Some []) ts tt p.1)
     (λ h. either_each (c == 47 && n) (FitSign n) (Err fault.SlashInName ∷ []) (Ok (character_sign c) ∷ signs n None ts) (λ k. (tt, tt))
-    (λ k. (character_sign_has (λ s. FitSign n (Ok s)) c tt tt tt tt tt k, signs_fit n None ts tt p.1)))
+    (λ k. (character_sign_has (λ s. FitSign n (Ok s)) c tt tt tt tt tt (k, p.0), signs_fit n None ts tt p.1)))
 signs_fit n (Some set) (t ∷ ts) q p =
     either_each (is_plain 93 t) (FitSign n) (set_sign set true ∷ signs n None ts) (signs n (Some (set ++ t ∷ [])) ts)
     (λ h. (set_sign_fits n (set_piece set true) (set_piece_fits n set true q), signs_fit n None ts tt p.1))
     (λ h. signs_fit n (Some (set ++ t ∷ [])) ts (each_push IsProper set t q p.0) p.1)
 
--- Parts: a brace has a choice.
-abbrev pub FitPart : Bool → Part → Type 0
-FitPart n (One p) = FitPiece n p
-FitPart n (Brace []) = ⊥
-FitPart n (Brace (c ∷ cs)) = Each (Each (FitPiece n)) (c ∷ cs)
-
-brace_fits : (n : Bool) (done : List (List Piece)) (c : List Piece) → Each (Each (FitPiece n)) done → Each (FitPiece n) c → FitPart n (Brace (done ++ c ∷ []))
+brace_fits : (n : Bool) (done : List (List Piece)) (c : List Piece) → AllByRecursion (AllByRecursion (IsReadablePiece n)) done → AllByRecursion (IsReadablePiece n) c → IsReadablePart n (Brace (done ++ c ∷ []))
 brace_fits n [] c d f = (f, tt)
-brace_fits n (b ∷ done) c d f = each_push (Each (FitPiece n)) (b ∷ done) c d f
+brace_fits n (b ∷ done) c d f = each_push (AllByRecursion (IsReadablePiece n)) (b ∷ done) c d f
 
-then_part_fits : (n : Bool) (p : Part) (r : Result (List Part) GlobFault) → FitPart n p → IfOk r (Each (FitPart n)) → IfOk (then_part p r) (Each (FitPart n))
+then_part_fits : (n : Bool) (p : Part) (r : Result (List Part) GlobFault) → IsReadablePart n p → IfOk r (AllByRecursion (IsReadablePart n)) → IfOk (then_part p r) (AllByRecursion (IsReadablePart n))
 then_part_fits n p (Ok ps) f g = (f, g)
 then_part_fits n p (Err e) f g = tt
 
 abbrev FitOpen : Bool → Option (List (List Piece) × List Piece) → Type 0
 FitOpen n None = Unit {0}
-FitOpen n (Some b) = Each (Each (FitPiece n)) b.0 × Each (FitPiece n) b.1
+FitOpen n (Some b) = AllByRecursion (AllByRecursion (IsReadablePiece n)) b.0 × AllByRecursion (IsReadablePiece n) b.1
 
-pub parts_fit : (n : Bool) (o : Option (List (List Piece) × List Piece)) (ss : List (Result Sign GlobFault)) → FitOpen n o → Each (FitSign n) ss
-    → IfOk (parts o ss) (Each (FitPart n))
+pub parts_fit : (n : Bool) (o : Option (List (List Piece) × List Piece)) (ss : List (Result Sign GlobFault)) → FitOpen n o → AllByRecursion (FitSign n) ss
+    → IfOk (parts o ss) (AllByRecursion (IsReadablePart n))
 parts_fit n None [] q p = tt
 parts_fit n (Some b) [] q p = tt
 parts_fit n None (Err f ∷ ss) q p = tt
 parts_fit n (Some b) (Err f ∷ ss) q p = tt
 parts_fit n None (Ok (Means a) ∷ ss) q p = then_part_fits n (One a) (parts None ss) p.0 (parts_fit n None ss tt p.1)
 parts_fit n None (Ok Open ∷ ss) q p = parts_fit n (Some ([], [])) ss (tt, tt) p.1
-parts_fit n None (Ok Comma ∷ ss) q p = then_part_fits n (One (Lit 44)) (parts None ss) refl (parts_fit n None ss tt p.1)
-parts_fit n None (Ok Close ∷ ss) q p = then_part_fits n (One (Lit 125)) (parts None ss) refl (parts_fit n None ss tt p.1)
-parts_fit n (Some (done, current)) (Ok (Means a) ∷ ss) q p = parts_fit n (Some (done, current ++ a ∷ [])) ss (q.0, each_push (FitPiece n) current a q.1 p.0) p.1
+parts_fit n None (Ok Comma ∷ ss) q p = then_part_fits n (One (Lit 44)) (parts None ss) (refl, refl) (parts_fit n None ss tt p.1)
+parts_fit n None (Ok Close ∷ ss) q p = then_part_fits n (One (Lit 125)) (parts None ss) (refl, refl) (parts_fit n None ss tt p.1)
+parts_fit n (Some (done, current)) (Ok (Means a) ∷ ss) q p = parts_fit n (Some (done, current ++ a ∷ [])) ss (q.0, each_push (IsReadablePiece n) current a q.1 p.0) p.1
 parts_fit n (Some (done, current)) (Ok Open ∷ ss) q p = tt
-parts_fit n (Some (done, current)) (Ok Comma ∷ ss) q p = parts_fit n (Some (done ++ current ∷ [], [])) ss (each_push (Each (FitPiece n)) done current q.0 q.1, tt) p.1
+parts_fit n (Some (done, current)) (Ok Comma ∷ ss) q p = parts_fit n (Some (done ++ current ∷ [], [])) ss (each_push (AllByRecursion (IsReadablePiece n)) done current q.0 q.1, tt) p.1
 parts_fit n (Some (done, current)) (Ok Close ∷ ss) q p =
     then_part_fits n (Brace (done ++ current ∷ [])) (parts None ss) (brace_fits n done current q.0 q.1) (parts_fit n None ss tt p.1)
 
-pub reading_fits : (n : Bool) (cs : List ℕ) → IfOk (parts_of n cs) (Each (FitPart n))
-reading_fits n cs = parts_fit n None (signs n None (tokens false cs)) tt (signs_fit n None (tokens false cs) tt (tokens_proper false cs))
+pub reading_fits : (n : Bool) (cs : List ℕ) → all_scalars cs ≡ true → IfOk (parts_of n cs) (AllByRecursion (IsReadablePart n))
+reading_fits n cs h = parts_fit n None (signs n None (tokens false cs)) tt (signs_fit n None (tokens false cs) tt (tokens_proper false cs h))

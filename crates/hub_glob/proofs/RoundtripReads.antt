@@ -1,7 +1,7 @@
 -- A written pattern is read as what it was written from.
 use Rattle.std.proofs.Common.{◌≡◌, ℕ, ◌+◌, ◌-◌, Bool, true, false, ◌&&◌, ◌||◌, ◌==◌, List, [], ◌∷◌, ◌++◌, length, Some, None, Result, Ok, Err, refl, sym, ap, ◌∙◌, arith, append_assoc, append-nil}
 use Rattle.std.specs.Prelude.{nat_lt, nat_le, if◌then◌else◌}
-use Rattle.std.specs.List.{range_with_len}
+use Rattle.std.specs.List.{range_with_len, AllByRecursion}
 use Rattle.std.proofs.lemmas.Bool.Decides.{nat_tests}
 use Rattle.hub_glob.specs.declared.fault.GlobFault.{GlobFault}
 use Rattle.hub_glob.specs.declared.fault.GlobFault.TheVariants as fault
@@ -16,7 +16,8 @@ use Rattle.hub_glob.specs.declared.reading.Sign.TheVariants.{Means, Open, Comma,
 use Rattle.hub_glob.specs.Reading.{is_special, tokens, is_plain, member, range_member, range_characters, then_members, members, is_negated, set_of, set_piece, set_sign, character_sign, signs, then_part, parts, ◌>>=◌}
 use Rattle.hub_glob.specs.Writing.{literal, members_text, piece_text, pieces_text, choices_text, part_text, pattern_text}
 use Rattle.hub_glob.proofs.Readings.{members_one}
-use Rattle.hub_glob.proofs.RoundtripFits.{not-special, Each, FitMembers, FitSet, FitPiece, FitPart}
+use Rattle.hub_glob.specs.Readable.{AreReadableMembers, IsReadableSet, IsReadablePiece, IsReadablePart}
+use Rattle.hub_glob.proofs.RoundtripFits.{not-special}
 
 -- The token of a written character.
 abbrev token_of : ℕ → Token
@@ -61,16 +62,16 @@ token_inside c = go (is_special c) refl where
   go true h = refl
   go false h = not-special c 93 h refl
 
-members_inside : (cs : List ℕ) → Each Inside (member_tokens cs)
+members_inside : (cs : List ℕ) → AllByRecursion Inside (member_tokens cs)
 members_inside [] = tt
 members_inside (c ∷ []) = (token_inside c, tt)
 members_inside (c ∷ d ∷ []) = (token_inside c, (token_inside d, tt))
 members_inside (c ∷ d ∷ e ∷ cs) = go (d == 45) (members_inside (d ∷ e ∷ cs)) where
-  go : (b : Bool) → Each Inside (member_tokens (d ∷ e ∷ cs)) → Each Inside ((if b then token_of c ∷ Plain 45 ∷ token_of c ∷ [] else token_of c ∷ []) ++ member_tokens (d ∷ e ∷ cs))
+  go : (b : Bool) → AllByRecursion Inside (member_tokens (d ∷ e ∷ cs)) → AllByRecursion Inside ((if b then token_of c ∷ Plain 45 ∷ token_of c ∷ [] else token_of c ∷ []) ++ member_tokens (d ∷ e ∷ cs))
   go true h = (token_inside c, (refl, (token_inside c, h)))
   go false h = (token_inside c, h)
 
-set_read : (n : Bool) (set ts rest : List Token) → Each Inside ts → signs n (Some set) (ts ++ Plain 93 ∷ rest) ≡ set_sign (set ++ ts) true ∷ signs n None rest
+set_read : (n : Bool) (set ts rest : List Token) → AllByRecursion Inside ts → signs n (Some set) (ts ++ Plain 93 ∷ rest) ≡ set_sign (set ++ ts) true ∷ signs n None rest
 set_read n set [] rest h = ap (λ us. set_sign us true ∷ signs n None rest) (sym (append-nil set))
 set_read n set (t ∷ ts) rest h =
     (λ i. if (h.0 i) then set_sign set true ∷ signs n None (ts ++ Plain 93 ∷ rest) else signs n (Some (set ++ t ∷ [])) (ts ++ Plain 93 ∷ rest))
@@ -110,14 +111,14 @@ token_is c k h = go (is_special c) where
   go true = refl
   go false = h
 
-members_back : (cs : List ℕ) → FitMembers cs → members (member_tokens cs) ≡ Ok cs
+members_back : (cs : List ℕ) → AreReadableMembers cs → members (member_tokens cs) ≡ Ok cs
 members_back [] f = refl
 members_back (c ∷ []) f = ap (λ r. then_members r (Ok [])) (one_back c f.0)
-members_back (c ∷ d ∷ []) f = λ i. then_members (one_back c f.0 i) (members_back (d ∷ []) f.2 i)
-members_back (c ∷ d ∷ e ∷ cs) f = go (d == 45) refl (members_back (d ∷ e ∷ cs) f.2) where
+members_back (c ∷ d ∷ []) f = λ i. then_members (one_back c f.0 i) (members_back (d ∷ []) f.3 i)
+members_back (c ∷ d ∷ e ∷ cs) f = go (d == 45) refl (members_back (d ∷ e ∷ cs) f.3) where
   go : (b : Bool) → (d == 45) ≡ b → members (member_tokens (d ∷ e ∷ cs)) ≡ Ok (d ∷ e ∷ cs)
       → members ((if b then token_of c ∷ Plain 45 ∷ token_of c ∷ [] else token_of c ∷ []) ++ member_tokens (d ∷ e ∷ cs)) ≡ Ok (c ∷ d ∷ e ∷ cs)
-  go true h m = λ i. then_members (range_back c f.0 (f.1 h) i) (m i)
+  go true h m = λ i. then_members (range_back c f.0 (f.2 h) i) (m i)
   go false h m =
       members_one (token_of c ∷ member_tokens (d ∷ e ∷ cs)) (token_of c) (member_tokens (d ∷ e ∷ cs)) refl
       (λ b x rest q.
@@ -129,7 +130,7 @@ members_back (c ∷ d ∷ e ∷ cs) f = go (d == 45) refl (members_back (d ∷ e
 pub length-some : {X : Type 0} (x : X) (xs : List X) → (length (x ∷ xs) == 0) ≡ false
 length-some x xs = grind (arith, nat_tests)
 
-set_back : (cs : List ℕ) → FitSet cs → set_piece (member_tokens cs) true ≡ Ok (OneOf cs)
+set_back : (cs : List ℕ) → IsReadableSet cs → set_piece (member_tokens cs) true ≡ Ok (OneOf cs)
 set_back [] f = absurd f
 set_back (c ∷ cs) f =
     let first = first_token c cs in
@@ -154,11 +155,11 @@ plain_sign n c rest h k =
           else (if (not-special c 125 h refl i) then Close
           else (if (not-special c 44 h refl i) then Comma else Means (Lit c)))))
 
-piece_read : (n : Bool) (p : Piece) (r : List ℕ) → FitPiece n p → reads n (piece_text p ++ r) ≡ Ok (Means p) ∷ reads n r
+piece_read : (n : Bool) (p : Piece) (r : List ℕ) → IsReadablePiece n p → reads n (piece_text p ++ r) ≡ Ok (Means p) ∷ reads n r
 piece_read n (Lit c) r f = ap (signs n None) (literal_read c r) ∙ go (is_special c) refl where
   go : (b : Bool) → is_special c ≡ b → signs n None ((if b then Escaped c else Plain c) ∷ tokens false r) ≡ Ok (Means (Lit c)) ∷ reads n r
   go true h = refl
-  go false h = plain_sign n c (tokens false r) h f
+  go false h = plain_sign n c (tokens false r) h f.0
 piece_read n Any r f = refl
 piece_read n Run r f = refl
 piece_read n (OneOf cs) r f =
@@ -167,7 +168,7 @@ piece_read n (OneOf cs) r f =
     ∙ set_read n [] (member_tokens cs) (tokens false r) (members_inside cs)
     ∙ ap (λ q. (q >>= λ p. Ok (Means p)) ∷ reads n r) (set_back cs f)
 
-pieces_read : (n : Bool) (done : List (List Piece)) (current ps : List Piece) (r : List ℕ) → Each (FitPiece n) ps
+pieces_read : (n : Bool) (done : List (List Piece)) (current ps : List Piece) (r : List ℕ) → AllByRecursion (IsReadablePiece n) ps
     → parts (Some (done, current)) (reads n (pieces_text ps ++ r)) ≡ parts (Some (done, current ++ ps)) (reads n r)
 pieces_read n done current [] r f = ap (λ c. parts (Some (done, c)) (reads n r)) (sym (append-nil current))
 pieces_read n done current (p ∷ ps) r f =
@@ -176,7 +177,7 @@ pieces_read n done current (p ∷ ps) r f =
     ∙ pieces_read n done (current ++ p ∷ []) ps r f.1
     ∙ ap (λ c. parts (Some (done, c)) (reads n r)) (append_assoc current (p ∷ []) ps)
 
-choices_read : (n : Bool) (done : List (List Piece)) (c : List Piece) (cs : List (List Piece)) (r : List ℕ) → Each (Each (FitPiece n)) (c ∷ cs)
+choices_read : (n : Bool) (done : List (List Piece)) (c : List Piece) (cs : List (List Piece)) (r : List ℕ) → AllByRecursion (AllByRecursion (IsReadablePiece n)) (c ∷ cs)
     → parts (Some (done, [])) (reads n (choices_text (c ∷ cs) ++ 125 ∷ r)) ≡ then_part (Brace (done ++ c ∷ cs)) (parts None (reads n r))
 choices_read n done c [] r f = pieces_read n done [] c (125 ∷ r) f.0
 choices_read n done c (d ∷ ds) r f =
@@ -185,12 +186,12 @@ choices_read n done c (d ∷ ds) r f =
     ∙ choices_read n (done ++ c ∷ []) d ds r f.1
     ∙ ap (λ b. then_part (Brace b) (parts None (reads n r))) (append_assoc done (c ∷ []) (d ∷ ds))
 
-part_read : (n : Bool) (p : Part) (r : List ℕ) → FitPart n p → parts None (reads n (part_text p ++ r)) ≡ then_part p (parts None (reads n r))
+part_read : (n : Bool) (p : Part) (r : List ℕ) → IsReadablePart n p → parts None (reads n (part_text p ++ r)) ≡ then_part p (parts None (reads n r))
 part_read n (One p) r f = ap (parts None) (piece_read n p r f)
 part_read n (Brace []) r f = absurd f
 part_read n (Brace (c ∷ cs)) r f =
     ap (λ t. parts (Some ([], [])) (reads n t)) (append_assoc (choices_text (c ∷ cs)) (125 ∷ []) r) ∙ choices_read n [] c cs r f
 
-pub pattern_read : (n : Bool) (ps : List Part) → Each (FitPart n) ps → parts None (reads n (pattern_text ps)) ≡ Ok ps
+pub pattern_read : (n : Bool) (ps : List Part) → AllByRecursion (IsReadablePart n) ps → parts None (reads n (pattern_text ps)) ≡ Ok ps
 pattern_read n [] f = refl
 pattern_read n (p ∷ ps) f = part_read n p (pattern_text ps) f.0 ∙ ap (then_part p) (pattern_read n ps f.1)

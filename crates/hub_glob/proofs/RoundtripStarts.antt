@@ -11,6 +11,7 @@ use Rattle.hub_glob.specs.declared.reading.Token.{Token}
 use Rattle.hub_glob.specs.declared.reading.Token.TheVariants.{Plain, Escaped, Stray}
 use Rattle.hub_glob.specs.declared.reading.Sign.{Sign}
 use Rattle.hub_glob.specs.declared.reading.Sign.TheVariants.{Means, Open, Comma, Close}
+use Rattle.hub_glob.specs.Readable.{PieceAvoids, StartAvoids}
 use Rattle.hub_glob.specs.Reading.{is_special, tokens, is_plain, members, is_negated, set_of, set_sign, character_sign, signs, then_part, parts, parts_of, ◌>>=◌}
 use Rattle.hub_glob.specs.Writing.{pattern_text}
 use Rattle.hub_glob.proofs.RoundtripFits.{character_sign_has}
@@ -19,16 +20,10 @@ use Rattle.hub_glob.proofs.RoundtripFits.{character_sign_has}
 abbrev pub IsOfOthers : (ℕ → Bool) → Type 0
 IsOfOthers t = (c : ℕ) → is_special c ≡ true → t c ≡ false
 
--- No piece, sign or part in front is a literal that passes, and there is one.
-abbrev PieceStarts : (ℕ → Bool) → Piece → Type 0
-PieceStarts t (Lit c) = t c ≡ false
-PieceStarts t Any = Unit {0}
-PieceStarts t Run = Unit {0}
-PieceStarts t (OneOf cs) = Unit {0}
-
+-- No sign in front is a literal that passes, and there is one.
 abbrev SignStarts : (ℕ → Bool) → Result Sign GlobFault → Type 0
 SignStarts t (Err e) = Unit {0}
-SignStarts t (Ok (Means p)) = PieceStarts t p
+SignStarts t (Ok (Means p)) = PieceAvoids t p
 SignStarts t (Ok Open) = Unit {0}
 SignStarts t (Ok Comma) = Unit {0}
 SignStarts t (Ok Close) = Unit {0}
@@ -36,11 +31,6 @@ SignStarts t (Ok Close) = Unit {0}
 abbrev SignsStart : (ℕ → Bool) → List (Result Sign GlobFault) → Type 0
 SignsStart t [] = ⊥
 SignsStart t (s ∷ ss) = SignStarts t s
-
-abbrev pub Starts : (ℕ → Bool) → List Part → Type 0
-Starts t [] = ⊥
-Starts t (One p ∷ ps) = PieceStarts t p
-Starts t (Brace cs ∷ ps) = Unit {0}
 
 either_start : (t : ℕ → Bool) (b : Bool) (xs ys : List (Result Sign GlobFault)) → (b ≡ true → SignsStart t xs) → (b ≡ false → SignsStart t ys) → SignsStart t (if b then xs else ys)
 either_start t true xs ys f g = f refl
@@ -82,12 +72,12 @@ signs_start t n c cs o h = go (c == 92) where
   go true = escape_starts t n cs o
   go false = plain_starts t n c (tokens false cs) h
 
-then_part_starts : (t : ℕ → Bool) (p : Part) (r : Result (List Part) GlobFault) → Starts t (p ∷ []) → IfOk (then_part p r) (Starts t)
+then_part_starts : (t : ℕ → Bool) (p : Part) (r : Result (List Part) GlobFault) → StartAvoids t (p ∷ []) → IfOk (then_part p r) (StartAvoids t)
 then_part_starts t (One p) (Ok ps) h = h
 then_part_starts t (Brace cs) (Ok ps) h = tt
 then_part_starts t p (Err e) h = tt
 
-brace_starts : (t : ℕ → Bool) (b : List (List Piece) × List Piece) (ss : List (Result Sign GlobFault)) → IfOk (parts (Some b) ss) (Starts t)
+brace_starts : (t : ℕ → Bool) (b : List (List Piece) × List Piece) (ss : List (Result Sign GlobFault)) → IfOk (parts (Some b) ss) (StartAvoids t)
 brace_starts t b [] = tt
 brace_starts t b (Err e ∷ ss) = tt
 brace_starts t (done, current) (Ok (Means p) ∷ ss) = brace_starts t (done, current ++ p ∷ []) ss
@@ -95,7 +85,7 @@ brace_starts t (done, current) (Ok Open ∷ ss) = tt
 brace_starts t (done, current) (Ok Comma ∷ ss) = brace_starts t (done ++ current ∷ [], []) ss
 brace_starts t (done, current) (Ok Close ∷ ss) = then_part_starts t (Brace (done ++ current ∷ [])) (parts None ss) tt
 
-parts_start : (t : ℕ → Bool) (ss : List (Result Sign GlobFault)) → IsOfOthers t → SignsStart t ss → IfOk (parts None ss) (Starts t)
+parts_start : (t : ℕ → Bool) (ss : List (Result Sign GlobFault)) → IsOfOthers t → SignsStart t ss → IfOk (parts None ss) (StartAvoids t)
 parts_start t [] o h = absurd h
 parts_start t (Err e ∷ ss) o h = tt
 parts_start t (Ok (Means p) ∷ ss) o h = then_part_starts t (One p) (parts None ss) h
@@ -103,14 +93,14 @@ parts_start t (Ok Open ∷ ss) o h = brace_starts t ([], []) ss
 parts_start t (Ok Comma ∷ ss) o h = then_part_starts t (One (Lit 44)) (parts None ss) (o 44 refl)
 parts_start t (Ok Close ∷ ss) o h = then_part_starts t (One (Lit 125)) (parts None ss) (o 125 refl)
 
-pub reading_starts : (t : ℕ → Bool) (n : Bool) (c : ℕ) (cs : List ℕ) → IsOfOthers t → t c ≡ false → IfOk (parts_of n (c ∷ cs)) (Starts t)
+pub reading_starts : (t : ℕ → Bool) (n : Bool) (c : ℕ) (cs : List ℕ) → IsOfOthers t → t c ≡ false → IfOk (parts_of n (c ∷ cs)) (StartAvoids t)
 reading_starts t n c cs o h = parts_start t (signs n None (tokens false (c ∷ cs))) o (signs_start t n c cs o h)
 
 -- So the text of that pattern has a first character, and it doesn't pass.
 abbrev pub Begins : (ℕ → Bool) → List ℕ → Type 0
 Begins t cs = (c : ℕ) × (more : List ℕ) × (cs ≡ c ∷ more) × (t c ≡ false)
 
-pub text_starts : (t : ℕ → Bool) (ps : List Part) → IsOfOthers t → Starts t ps → Begins t (pattern_text ps)
+pub text_starts : (t : ℕ → Bool) (ps : List Part) → IsOfOthers t → StartAvoids t ps → Begins t (pattern_text ps)
 text_starts t [] o h = absurd h
 text_starts t (One (Lit c) ∷ ps) o h = go (is_special c) where
   go : (b : Bool) → Begins t ((if b then 92 ∷ c ∷ [] else c ∷ []) ++ pattern_text ps)

@@ -1,8 +1,10 @@
 -- The places that are swept are those at which a match may stand: what they stand for before a character is what they
 -- stand for with it.
 use Rattle.std.proofs.Common.{◌≡◌, ℕ, suc, zero, ◌+◌, ◌≤◌, ◌==◌, Bool, true, false, not, ◌&&◌, ◌||◌, List, [], ◌∷◌, ◌++◌, length, drop, refl, sym, ap, ◌∙◌, arith, add-one}
-use Rattle.std.specs.Prelude.{slice_index_or}
+use Rattle.std.specs.Prelude.{slice_index_or, if◌then◌else◌}
 use Rattle.std.specs.List.{list_any}
+use Rattle.std.proofs.lemmas.Bool.{and_parts, or_parts}
+use Rattle.std.proofs.lemmas.Bool.Decides.{nat_tests}
 use Rattle.std.proofs.lemmas.List.{append-nil, append_assoc, length_push, length-append, length-drop, drop_at, drop-append-le, drop-drop}
 use Rattle.hub_glob.specs.declared.piece.Piece.{Piece}
 use Rattle.hub_glob.specs.declared.piece.Piece.TheVariants.{Lit, Any, Run, OneOf}
@@ -12,42 +14,30 @@ use Rattle.hub_glob.specs.declared.piece.Next.{Next}
 use Rattle.hub_glob.specs.declared.sweep.Carry.{Carry}
 use Rattle.hub_glob.specs.Specification.{choices_size}
 use Rattle.hub_glob.specs.Glob.{Texts, piece, pieces, glob, no_more}
-use Rattle.hub_glob.specs.Sweep.{Swept, past, swept_pieces, nowhere, joined, swept_choices, swept_parts, Standing, at_start, swept, pushed, is_matched, pushed_all}
+use Rattle.hub_glob.specs.Sweep.{Swept, past, swept_pieces, nowhere, joined, swept_choices, swept_parts, Standing, at_start, swept, is_stuck, pruned, stuck_after, pushed_by, pushed, is_matched, pushed_all}
 use Rattle.hub_glob.specs.Taking.{takes, is_star}
-use Rattle.hub_glob.specs.TestLaws.{head, tail, agree, same, every4, every7, and-true, or-false, or-assoc, any-and, any-or}
+use Rattle.hub_glob.specs.TestLaws.{head, tail, and-false, and-true, or-false, or-assoc, any-and, any-or}
 use Rattle.hub_glob.specs.OneStep.{nonzero, run_step, run_end}
 
 -- past a piece that is no `*`
 past_one : (b a l T P Q R : Bool) → ((b && (T && P) || a && Q) || (l && (T && P) || R)) ≡ ((a || false) && Q || ((b || l) && T && P || R))
-past_one b a l T P Q R =
-    same _ _
-    (every7 (λ b a l T P Q R. agree ((b && (T && P) || a && Q) || (l && (T && P) || R)) ((a || false) && Q || ((b || l) && T && P || R))) refl b a l T P Q R)
+past_one b a l T P Q R = grind (arith, nat_tests)
 
 -- past a `*`
 past_star : (b a l T F Q R : Bool) → ((b && (F || T && Q) || a && Q) || (l && (F || T && Q) || R)) ≡ ((a || (b || l) && T) && Q || (((b || l) && F || false) || R))
-past_star b a l T F Q R =
-    same _ _
-    (every7
-    (λ b a l T F Q R. agree ((b && (F || T && Q) || a && Q) || (l && (F || T && Q) || R)) ((a || (b || l) && T) && Q || (((b || l) && F || false) || R))) refl
-    b a l T F Q R)
+past_star b a l T F Q R = grind (arith, nat_tests)
 
 swap_or : (a b c : Bool) → (a || (b || c)) ≡ (b || (a || c))
-swap_or true true c = refl
-swap_or true false c = refl
-swap_or false b c = refl
+swap_or a b c = grind (arith, nat_tests)
 
 swap_last : (a b c : Bool) → ((a || b) || c) ≡ (a || (c || b))
-swap_last true b c = refl
-swap_last false true true = refl
-swap_last false true false = refl
-swap_last false false true = refl
-swap_last false false false = refl
+swap_last a b c = grind (arith, nat_tests)
 
 none_left : (b l R : Bool) → (b && false || (l && false || R)) ≡ R
-none_left b l R = same _ _ (every4 (λ b l R _. agree (b && false || (l && false || R)) R) refl b l R true)
+none_left b l R = grind (arith, nat_tests)
 
 shift_or : (a b c d : Bool) → ((a || b) || (c || d)) ≡ ((b || c) || (a || d))
-shift_or a b c d = same _ _ (every4 (λ a b c d. agree ((a || b) || (c || d)) ((b || c) || (a || d))) refl a b c d)
+shift_or a b c d = grind (arith, nat_tests)
 
 -- The same sweep as a list that is made from the front, beside the places of the text before.
 record Made : Type 0 where
@@ -174,15 +164,15 @@ entering x entry qs k r = list_any (λ q. onward x entry (pieces q k) r) qs
 onward-both : (x : Next) (c d : Carry) (k : Texts) (r : List ℕ) → (onward x c k r || onward x d k r) ≡ onward x (both c d) k r
 onward-both x c d k r = regroup c.before c.after d.before d.after (now x r k) (next x r k) where
   regroup : (a b e f N X : Bool) → ((a && N || b && X) || (e && N || f && X)) ≡ ((a || e) && N || (b || f) && X)
-  regroup a b e f N X = same _ _ (every7 (λ a b e f N X _. agree ((a && N || b && X) || (e && N || f && X)) ((a || e) && N || (b || f) && X)) refl a b e f N X true)
+  regroup a b e f N X = grind (arith, nat_tests)
 
 mix : (o e E p A P : Bool) (O' A' : Bool) → (e || p) ≡ (O' || P) → (o || ((e || E) || (p || A))) ≡ (((o || O') || (E || A)) || P)
 mix o e E p A P O' A' h = first_part o e E p A ∙ ap (λ z. o || (z || (E || A))) h ∙ last_part o O' P E A where
   first_part : (o e E p A : Bool) → (o || ((e || E) || (p || A))) ≡ (o || ((e || p) || (E || A)))
-  first_part o e E p A = same _ _ (every7 (λ o e E p A _ _. agree (o || ((e || E) || (p || A))) (o || ((e || p) || (E || A)))) refl o e E p A true true)
+  first_part o e E p A = grind (arith, nat_tests)
 
   last_part : (o O' P E A : Bool) → (o || ((O' || P) || (E || A))) ≡ (((o || O') || (E || A)) || P)
-  last_part o O' P E A = same _ _ (every7 (λ o O' P E A _ _. agree (o || ((O' || P) || (E || A))) (((o || O') || (E || A)) || P)) refl o O' P E A true true)
+  last_part o O' P E A = grind (arith, nat_tests)
 
 choices_law : (x : Next) (entry : Carry) (qs : List (List Piece)) (k : Texts) (old : List Bool) (c : Carry) (r : List ℕ)
     → (onward x c k r || (entering x entry qs k r || now x r (alive_choices qs k old)))
@@ -217,10 +207,10 @@ parts_law x (One p ∷ ps) old c r =
     one_more : (O H R O' here : Bool) → (O || (H || false)) ≡ (O' || (here || false)) → (O || (H || R)) ≡ (here || (O' || R))
     one_more O H R O' here h = before_it O H R ∙ ap (λ z. z || R) h ∙ after_it O' here R where
       before_it : (O H R : Bool) → (O || (H || R)) ≡ ((O || (H || false)) || R)
-      before_it O H R = same _ _ (every4 (λ O H R _. agree (O || (H || R)) ((O || (H || false)) || R)) refl O H R true)
+      before_it O H R = grind (arith, nat_tests)
 
       after_it : (O here R : Bool) → ((O || (here || false)) || R) ≡ (here || (O || R))
-      after_it O here R = same _ _ (every4 (λ O here R _. agree ((O || (here || false)) || R) (here || (O || R))) refl O here R true)
+      after_it O here R = grind (arith, nat_tests)
 parts_law x (Brace cs ∷ ps) old c r =
     let s = made_choices x c cs old nowhere in
     let m = made_parts x ps (drop (choices_size cs) old) s.carry in
@@ -243,7 +233,7 @@ parts_law x (Brace cs ∷ ps) old c r =
     regroup a b d = or-assoc a b d
 
     turn : (a b d : Bool) → ((a || b) || d) ≡ (b || (a || d))
-    turn a b d = same _ _ (every4 (λ a b d _. agree ((a || b) || d) (b || (a || d))) refl a b d true)
+    turn a b d = grind (arith, nat_tests)
 
 -- At the end of the text.
 pieces_end : (x : Next) (ps : List Piece) (k : Texts) (old : List Bool) (c : Carry) (f : Bool)
@@ -258,7 +248,7 @@ pieces_end x (Run ∷ ps) k old c f =
     ∙ pieces_end x ps k (tail old) (carry_past x Run (c.before || head old)) f
   where
     some_left : (b l G R : Bool) → (b && G || (l && G || R)) ≡ ((b || l) && G || R)
-    some_left b l G R = same _ _ (every4 (λ b l G R. agree (b && G || (l && G || R)) ((b || l) && G || R)) refl b l G R)
+    some_left b l G R = grind (arith, nat_tests)
 
 choices_end : (x : Next) (entry : Carry) (qs : List (List Piece)) (k : Texts) (old : List Bool) (c : Carry) (f : Bool)
     → (c.before && k f [] || (list_any (λ q. entry.before && pieces q k f []) qs || alive_choices qs k old f []))
@@ -272,10 +262,10 @@ choices_end x entry (q ∷ qs) k old c f =
     ∙ choices_end x entry qs k (drop (length q) old) (both c m.carry) f
   where
     factor : (a b G : Bool) → (a && G || b && G) ≡ ((a || b) && G)
-    factor a b G = same _ _ (every4 (λ a b G _. agree (a && G || b && G) ((a || b) && G)) refl a b G true)
+    factor a b G = grind (arith, nat_tests)
 
     bring : (o e E A R : Bool) → (o || ((e || E) || (A || R))) ≡ ((o || (e || A)) || (E || R))
-    bring o e E A R = same _ _ (every7 (λ o e E A R _ _. agree (o || ((e || E) || (A || R))) ((o || (e || A)) || (E || R))) refl o e E A R true true)
+    bring o e E A R = grind (arith, nat_tests)
 
     gather : (o e E A R P : Bool) → (e || A) ≡ P → (o || ((e || E) || (A || R))) ≡ ((o || P) || (E || R))
     gather o e E A R P h = bring o e E A R ∙ ap (λ z. (o || z) || (E || R)) h
@@ -289,7 +279,7 @@ parts_end x (One p ∷ ps) old c f =
     ∙ parts_end x ps (tail old) (carry_past x p (c.before || head old)) f
   where
     regroup : (a b d : Bool) → (a || (b || d)) ≡ ((a || (b || false)) || d)
-    regroup a b d = same _ _ (every4 (λ a b d _. agree (a || (b || d)) ((a || (b || false)) || d)) refl a b d true)
+    regroup a b d = grind (arith, nat_tests)
 parts_end x (Brace cs ∷ ps) old c f =
     let s = made_choices x c cs old nowhere in
     (λ i. any-and c.before (λ q. pieces q (glob ps) f []) cs i || (alive_choices cs (glob ps) old f [] || alive_parts ps (drop (choices_size cs) old) f []))
@@ -371,8 +361,61 @@ swept_parts_made x (Brace cs ∷ ps) old s =
 abbrev meaning : List Part → Standing → List ℕ → Bool
 meaning ps w t = (w.fresh && glob ps w.first t || alive_parts ps w.live w.first t) || w.ended && no_more w.first t
 
-abbrev pushed_by : Swept → ℕ → Standing
-pushed_by s c = record { live = s.live; fresh = false; ended = s.carry.after; first = c == 47 }
+abbrev is_any : List Bool → Bool
+is_any bits = list_any (λ b. b) bits
+
+-- Where no place is active, nothing is matched from there.
+none_head : (bits : List Bool) → is_any bits ≡ false → head bits ≡ false
+none_head [] h = refl
+none_head (b ∷ bits) h = (or_parts b (is_any bits) h).0
+
+none_tail : (bits : List Bool) → is_any bits ≡ false → is_any (tail bits) ≡ false
+none_tail [] h = refl
+none_tail (b ∷ bits) h = (or_parts b (is_any bits) h).1
+
+none_drop : (n : ℕ) (bits : List Bool) → is_any bits ≡ false → is_any (drop n bits) ≡ false
+none_drop zero bits h = h
+none_drop (suc n) [] h = refl
+none_drop (suc n) (b ∷ bits) h = none_drop n bits (or_parts b (is_any bits) h).1
+
+none_pieces : (ps : List Piece) (k : Texts) (bits : List Bool) (f : Bool) (t : List ℕ) → is_any bits ≡ false → alive_pieces ps k bits f t ≡ false
+none_pieces [] k bits f t h = refl
+none_pieces (p ∷ ps) k bits f t h =
+    (λ i. none_head bits h i && piece p (pieces ps k) f t || alive_pieces ps k (tail bits) f t) ∙ none_pieces ps k (tail bits) f t (none_tail bits h)
+
+none_choices : (qs : List (List Piece)) (k : Texts) (bits : List Bool) (f : Bool) (t : List ℕ) → is_any bits ≡ false → alive_choices qs k bits f t ≡ false
+none_choices [] k bits f t h = refl
+none_choices (q ∷ qs) k bits f t h =
+    (λ i. none_pieces q k bits f t h i || alive_choices qs k (drop (length q) bits) f t) ∙ none_choices qs k (drop (length q) bits) f t (none_drop (length q) bits h)
+
+none_parts : (ps : List Part) (bits : List Bool) (f : Bool) (t : List ℕ) → is_any bits ≡ false → alive_parts ps bits f t ≡ false
+none_parts [] bits f t h = refl
+none_parts (One p ∷ ps) bits f t h =
+    (λ i. none_head bits h i && piece p (glob ps) f t || alive_parts ps (tail bits) f t) ∙ none_parts ps (tail bits) f t (none_tail bits h)
+none_parts (Brace cs ∷ ps) bits f t h =
+    (λ i. none_choices cs (glob ps) bits f t h i || alive_parts ps (drop (choices_size cs) bits) f t)
+    ∙ none_parts ps (drop (choices_size cs) bits) f t (none_drop (choices_size cs) bits h)
+
+pruned_parts : (ps : List Part) (bits : List Bool) (f : Bool) (t : List ℕ) → alive_parts ps (pruned bits) f t ≡ alive_parts ps bits f t
+pruned_parts ps bits f t = go (is_any bits) refl where
+  go : (b : Bool) → is_any bits ≡ b → alive_parts ps (if b then bits else []) f t ≡ alive_parts ps bits f t
+  go true h = refl
+  go false h = none_parts ps [] f t refl ∙ sym (none_parts ps bits f t h)
+
+nil_is : {X : Type 0} (xs : List X) → (length xs == 0) ≡ true → xs ≡ []
+nil_is [] h = refl
+nil_is (x ∷ xs) h = let n : (length (x ∷ xs) == 0) ≡ false = nonzero (length xs) in cc
+
+-- What a walk means that is stuck: whether it has ended.
+stuck_meaning : (ps : List Part) (w : Standing) (t : List ℕ) → is_stuck w ≡ true → meaning ps w t ≡ (w.ended && no_more w.first t)
+stuck_meaning ps w t h =
+    let (old, none) = and_parts (not w.fresh) (length w.live == 0) h in
+    (λ i. (unfresh w.fresh old i && glob ps w.first t || alive_parts ps (nil_is w.live none i) w.first t) || w.ended && no_more w.first t)
+    ∙ ap (λ b. b || w.ended && no_more w.first t) (none_parts ps [] w.first t refl)
+  where
+    unfresh : (b : Bool) → not b ≡ true → b ≡ false
+    unfresh true e = cc
+    unfresh false e = refl
 
 abbrev next_of : Standing → ℕ → Next
 next_of w c = record { character = c; first = w.first }
@@ -383,8 +426,8 @@ entry_of w = record { before = w.fresh; after = false }
 swept_is : (ps : List Part) (w : Standing) (c : ℕ) → swept ps w c ≡ after_made [] (made_parts (next_of w c) ps w.live (entry_of w))
 swept_is ps w c = swept_parts_made (next_of w c) ps w.live (record { live = []; carry = entry_of w })
 
-push_law : (ps : List Part) (w : Standing) (c : ℕ) (r : List ℕ) → meaning ps w (c ∷ r) ≡ meaning ps (pushed ps w c) r
-push_law ps w c r =
+sweep_law : (ps : List Part) (w : Standing) (c : ℕ) (r : List ℕ) → meaning ps w (c ∷ r) ≡ meaning ps (pushed_by (swept ps w c) c) r
+sweep_law ps w c r =
     let x = next_of w c in
     let m = made_parts x ps w.live (entry_of w) in
     (λ i. (now x r (λ f t. w.fresh && glob ps f t) || now x r (alive_parts ps w.live)) || w.ended && nonzero (length r) i)
@@ -392,43 +435,41 @@ push_law ps w c r =
     ∙ parts_law x ps w.live (entry_of w) r
     ∙ (λ i. (m.carry.before && nonzero (length r) i || m.carry.after && next x r no_more) || next x r (alive_parts ps m.bits))
     ∙ end_form m.carry.before (m.carry.after && next x r no_more) (next x r (alive_parts ps m.bits))
-    ∙ (λ i. meaning ps (pushed_by (sym (swept_is ps w c) i) c) r)
+    ∙ (λ i. alive_parts ps (sym (swept_is ps w c) i).live (c == 47) r || (sym (swept_is ps w c) i).carry.after && next x r no_more)
+    ∙ ap (λ b. b || (swept ps w c).carry.after && next x r no_more) (sym (pruned_parts ps (swept ps w c).live (c == 47) r))
   where
     start_form : (e F A : Bool) → ((F || A) || e && false) ≡ ((F || false) || A)
-    start_form e F A = same _ _ (every4 (λ e F A _. agree ((F || A) || e && false) ((F || false) || A)) refl e F A true)
+    start_form e F A = grind (arith, nat_tests)
 
     end_form : (b E A : Bool) → ((b && false || E) || A) ≡ (A || E)
-    end_form b E A = same _ _ (every4 (λ b E A _. agree ((b && false || E) || A) (A || E)) refl b E A true)
+    end_form b E A = grind (arith, nat_tests)
 
-end_law : (ps : List Part) (w : Standing) (c : ℕ) → meaning ps w [] ≡ is_matched ps w c
-end_law ps w c =
+push_law : (ps : List Part) (w : Standing) (c : ℕ) (r : List ℕ) → meaning ps w (c ∷ r) ≡ meaning ps (pushed ps w c) r
+push_law ps w c r = go (is_stuck w) refl where
+  go : (b : Bool) → is_stuck w ≡ b → meaning ps w (c ∷ r) ≡ meaning ps (if b then stuck_after c else pushed_by (swept ps w c) c) r
+  go true h =
+      stuck_meaning ps w (c ∷ r) h ∙ (λ i. w.ended && nonzero (length r) i) ∙ and-false w.ended
+      ∙ sym (ap (λ b. b || false) (none_parts ps [] (c == 47) r refl))
+  go false h = sweep_law ps w c r
+
+sweep_end : (ps : List Part) (w : Standing) (c : ℕ) → meaning ps w [] ≡ ((swept ps w c).carry.before || w.ended)
+sweep_end ps w c =
     (λ i. (w.fresh && glob ps w.first [] || alive_parts ps w.live w.first []) || and-true w.ended i)
     ∙ ap (λ b. b || w.ended) (parts_end (next_of w c) ps w.live (entry_of w) w.first)
     ∙ (λ i. (sym (swept_is ps w c) i).carry.before || w.ended)
+
+end_law : (ps : List Part) (w : Standing) (c : ℕ) → meaning ps w [] ≡ is_matched ps w c
+end_law ps w c = go (is_stuck w) refl where
+  go : (b : Bool) → is_stuck w ≡ b → meaning ps w [] ≡ (if b then w.ended else (swept ps w c).carry.before || w.ended)
+  go true h = stuck_meaning ps w [] h ∙ and-true w.ended
+  go false h = sweep_end ps w c
 
 push_all_law : (ps : List Part) (w : Standing) (t r : List ℕ) → meaning ps w (t ++ r) ≡ meaning ps (pushed_all ps w t) r
 push_all_law ps w [] r = refl
 push_all_law ps w (c ∷ t) r = push_law ps w c (t ++ r) ∙ push_all_law ps (pushed ps w c) t r
 
-drop-nil : (n : ℕ) → drop n (let none : List Bool = [] in none) ≡ []
-drop-nil zero = refl
-drop-nil (suc n) = refl
-
-nothing_pieces : (ps : List Piece) (k : Texts) (f : Bool) (t : List ℕ) → alive_pieces ps k [] f t ≡ false
-nothing_pieces [] k f t = refl
-nothing_pieces (p ∷ ps) k f t = nothing_pieces ps k f t
-
-nothing_choices : (qs : List (List Piece)) (k : Texts) (f : Bool) (t : List ℕ) → alive_choices qs k [] f t ≡ false
-nothing_choices [] k f t = refl
-nothing_choices (q ∷ qs) k f t = (λ i. nothing_pieces q k f t i || alive_choices qs k (drop-nil (length q) i) f t) ∙ nothing_choices qs k f t
-
-nothing_parts : (ps : List Part) (f : Bool) (t : List ℕ) → alive_parts ps [] f t ≡ false
-nothing_parts [] f t = refl
-nothing_parts (One p ∷ ps) f t = nothing_parts ps f t
-nothing_parts (Brace cs ∷ ps) f t = (λ i. nothing_choices cs (glob ps) f t i || alive_parts ps (drop-nil (choices_size cs) i) f t) ∙ nothing_parts ps f t
-
 start_law : (ps : List Part) (t : List ℕ) → meaning ps at_start t ≡ glob ps true t
-start_law ps t = or-false _ ∙ ap (λ b. glob ps true t || b) (nothing_parts ps true t) ∙ or-false _
+start_law ps t = or-false _ ∙ ap (λ b. glob ps true t || b) (none_parts ps [] true t refl) ∙ or-false _
 
 -- After all characters of a text it is known whether the pattern matches the text.
 pub is_matched_text : (ps : List Part) (t : List ℕ) (c : ℕ) → is_matched ps (pushed_all ps at_start t) c ≡ glob ps true t

@@ -1,6 +1,7 @@
 -- Worked examples.
-use Rattle.std.specs.Prelude.{◌≡◌, ◌==◌, ℕ, true, false, List, [], ◌∷◌, map, Option, Some, None, Result, Ok, Err, codes, refl}
+use Rattle.std.specs.Prelude.{◌≡◌, ◌==◌, ℕ, true, false, List, [], ◌∷◌, ◌++◌, map, Option, Some, None, Result, Ok, Err, codes, refl}
 use Rattle.std.specs.List.{slice_split}
+use Rattle.std.proofs.Math.ListN.{replicate}
 use Rattle.hub_path.specs.Path.{Path}
 use Rattle.hub_glob.specs.Glob.{matches}
 use Rattle.hub_glob.specs.Reading.{spec_reading}
@@ -47,3 +48,16 @@ kinds_and_sets_have_faults = refl
 braces_escapes_and_slashes_have_faults : map fault_of (codes "Name {a" ∷ codes "Name {a,{b}}" ∷ codes "Name \\a" ∷ codes "Name a/b" ∷ codes "Path [a/]" ∷ codes "Path /a" ∷ codes "Name a]" ∷ codes "Path [z-/]" ∷ [])
     ≡ Some fault.OpenBrace ∷ Some fault.NestedBraces ∷ Some fault.BadEscape ∷ Some fault.SlashInName ∷ Some fault.SlashInSet ∷ Some fault.LeadingSlash ∷ None ∷ Some fault.BadRange ∷ []
 braces_escapes_and_slashes_have_faults = refl
+
+-- The limits: 200 letters, and 64 choices, which 63 commas separate.
+a_pattern_of_200_characters_is_read : fault_of (codes "Name " ++ replicate 200 97) ≡ None
+a_pattern_of_200_characters_is_read = refl
+
+a_pattern_of_201_characters_is_too_long : fault_of (codes "Name " ++ replicate 201 97) ≡ Some fault.TooLong
+a_pattern_of_201_characters_is_too_long = refl
+
+a_pattern_of_64_choices_is_read : fault_of (codes "Name {" ++ replicate 63 44 ++ codes "}") ≡ None
+a_pattern_of_64_choices_is_read = refl
+
+a_pattern_of_65_choices_has_too_many : fault_of (codes "Name {" ++ replicate 64 44 ++ codes "}") ≡ Some fault.TooManyChoices
+a_pattern_of_65_choices_has_too_many = refl

@@ -1,5 +1,5 @@
 -- Which texts are path specifications, and the first fault of each other text.
-use Rattle.std.specs.Prelude.{◌≡◌, ℕ, Bool, true, false, not, ◌&&◌, ◌||◌, ◌==◌, ◌+◌, ◌-◌, ◌*◌, nat_lt, nat_le, List, [], ◌∷◌, ◌++◌, length, Option, Some, None, Result, Ok, Err, if◌then◌else◌, codes, bytes_eq}
+use Rattle.std.specs.Prelude.{◌≡◌, ℕ, Bool, true, false, not, ◌&&◌, ◌||◌, ◌==◌, ◌+◌, ◌-◌, nat_lt, nat_le, List, [], ◌∷◌, ◌++◌, length, Option, Some, None, Result, Ok, Err, if◌then◌else◌, codes, bytes_eq}
 use Rattle.std.specs.List.{list_any, range_with_len, before_first, after_first}
 use Rattle.hub_glob.specs.declared.piece.Piece.{Piece}
 use Rattle.hub_glob.specs.declared.piece.Piece.TheVariants.{Lit, Any, Run, OneOf}
@@ -12,7 +12,7 @@ use Rattle.hub_glob.specs.declared.reading.Sign.{Sign}
 use Rattle.hub_glob.specs.declared.reading.Sign.TheVariants.{Means, Open, Comma, Close}
 use Rattle.hub_glob.specs.declared.path_spec.Kind.{Kind}
 use Rattle.hub_glob.specs.declared.path_spec.Kind.TheVariants as kind
-use Rattle.hub_glob.specs.Specification.{Specification}
+use Rattle.hub_glob.specs.Specification.{Specification, choice_count, is_name_kind}
 use Rattle.hub_glob.specs.Blanks.{is_blank, skip_blanks}
 use Rattle.hub_glob.specs.declared.fault.GlobFault.{GlobFault}
 use Rattle.hub_glob.specs.declared.fault.GlobFault.TheVariants as fault
@@ -133,16 +133,6 @@ parts (Some (done, current)) (Ok (Means p) ∷ ss) = parts (Some (done, current 
 parts (Some (done, current)) (Ok Open ∷ ss) = Err fault.NestedBraces
 parts (Some (done, current)) (Ok Comma ∷ ss) = parts (Some (done ++ current ∷ [], [])) ss
 parts (Some (done, current)) (Ok Close ∷ ss) = then_part (Brace (done ++ current ∷ [])) (parts None ss)
-
-abbrev pub choice_count : List Part → ℕ
-choice_count [] = 1
-choice_count (One p ∷ ps) = choice_count ps
-choice_count (Brace cs ∷ ps) = length cs * choice_count ps
-
-abbrev pub is_name_kind : Kind → Bool
-is_name_kind kind.Name = true
-is_name_kind kind.Path = false
-is_name_kind kind.BelowPath = false
 
 abbrev pub starts_with_slash : List ℕ → Bool
 starts_with_slash [] = false

@@ -1,6 +1,7 @@
 -- A pattern is matched with a text character by character. What is kept of the text read so far is the places of the
 -- pattern, in its order, before which a match of that text may stand.
-use Rattle.std.specs.Prelude.{ℕ, Bool, true, false, not, ◌&&◌, ◌||◌, ◌==◌, List, [], ◌∷◌, ◌++◌, length, slice_index_or}
+use Rattle.std.specs.Prelude.{ℕ, Bool, true, false, not, ◌&&◌, ◌||◌, ◌==◌, List, [], ◌∷◌, ◌++◌, length, slice_index_or, if◌then◌else◌}
+use Rattle.std.specs.List.{list_any}
 use Rattle.hub_glob.specs.declared.piece.Piece.{Piece}
 use Rattle.hub_glob.specs.declared.piece.Part.{Part}
 use Rattle.hub_glob.specs.declared.piece.Part.TheVariants.{One, Brace}
@@ -65,13 +66,26 @@ swept ps w c =
     swept_parts (record { character = c; first = w.first }) w.live ps
     (record { live = []; carry = record { before = w.fresh; after = false } })
 
+-- No place is active: the text read so far is not empty, and no further text is matched.
+abbrev pub is_stuck : Standing → Bool
+is_stuck w = not w.fresh && length w.live == 0
+
+abbrev pub stuck_after : ℕ → Standing
+stuck_after c = record { live = []; fresh = false; ended = false; first = c == 47 }
+
+-- The places, or none at all if none of them is active.
+abbrev pub pruned : List Bool → List Bool
+pruned live = if list_any (λ b. b) live then live else []
+
+abbrev pub pushed_by : Swept → ℕ → Standing
+pushed_by s c = record { live = pruned s.live; fresh = false; ended = s.carry.after; first = c == 47 }
+
 -- With one more character; and whether the text before it is matched.
 abbrev pub pushed : List Part → Standing → ℕ → Standing
-pushed ps w c =
-    let s = swept ps w c in record { live = s.live; fresh = false; ended = s.carry.after; first = c == 47 }
+pushed ps w c = if is_stuck w then stuck_after c else pushed_by (swept ps w c) c
 
 abbrev pub is_matched : List Part → Standing → ℕ → Bool
-is_matched ps w c = (swept ps w c).carry.before || w.ended
+is_matched ps w c = if is_stuck w then w.ended else (swept ps w c).carry.before || w.ended
 
 -- With all characters of a text.
 abbrev pub pushed_all : List Part → Standing → List ℕ → Standing

@@ -72,7 +72,8 @@ fn push_with_each(
     front: &[Piece],
     backs: &[Items<Piece>],
 ) -> Result<(), AllocError>
-    ensures { IfOk result (λ _. all.new.items ≡ all.old.items ++ map (λ d. front.now ++ d) backs.now) }
+    ensures { IfOk result (λ _. all.new.items
+        ≡ all.old.items ++ map (λ d. front.now ++ d) backs.now) }
 {
     for back in backs {
         let mut joined = Items::new(alloc);
@@ -93,7 +94,7 @@ fn push_copies(alloc: Global, list: &mut Items<Piece>, pieces: &[Piece]) -> Resu
     Ok(())
 }
 
-/// The same piece once more.
+/// Copies a piece.
 fn copy_of(alloc: Global, piece: &Piece) -> Result<Piece, AllocError>
     ensures { IfOk result (λ p. p ≡ piece.now) }
 {

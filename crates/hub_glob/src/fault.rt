@@ -1,13 +1,13 @@
 use std::alloc::{AllocError, AllocFailed};
 use thiserror::Error;
 
-/// Why a text is no path specification.
+/// Why a text is not a path specification.
 #[derive(Clone, Copy, Debug, PartialEq, Eq, Error)]
 pub enum GlobFault {
     /// The first word is none of `Name`, `Path`, `BelowPath` and `Regex`.
     #[error("NoKind")]
     NoKind,
-    /// The first word is `Regex`, which hubsync leaves out.
+    /// The first word is `Regex`, which hubsync does not support.
     #[error("RegexLeftOut")]
     RegexLeftOut,
     /// No pattern follows the kind.
@@ -19,16 +19,16 @@ pub enum GlobFault {
     /// A `{` has no `}`.
     #[error("OpenBrace")]
     OpenBrace,
-    /// A `{` stands inside a brace.
+    /// A `{` is inside a brace.
     #[error("NestedBraces")]
     NestedBraces,
-    /// A set has no members, or a range an end past ASCII or a low end above its high end.
+    /// A set has no members, a range has an end that is not ASCII, or its low end is above its high end.
     #[error("BadRange")]
     BadRange,
     /// A set begins with `^` or `!`.
     #[error("NegatedSet")]
     NegatedSet,
-    /// A `\` stands before a character that it doesn't make literal, or at the end.
+    /// A `\` is followed by a character that it doesn't make literal, or by nothing.
     #[error("BadEscape")]
     BadEscape,
     /// A `Name` pattern has a `/` outside brackets.
@@ -46,7 +46,7 @@ pub enum GlobFault {
     /// The pattern stands for more than `PATTERN_CHOICES` choices.
     #[error("TooManyChoices")]
     TooManyChoices,
-    /// Memory was refused.
+    /// Out of memory.
     #[error("OutOfMemory")]
     OutOfMemory,
 }

@@ -1,24 +1,45 @@
 //! Laws of patterns.
-ghost use Rattle.std.specs.Prelude.{◌≡◌, ◌≤◌, ℕ, Bool, List, Ok, length};
+ghost use Rattle.std.specs.Prelude.{◌≡◌, ◌≤◌, ℕ, Bool, true, List, Ok, length};
 ghost use Rattle.std.specs.List.{list_any};
+ghost use Rattle.std.specs.Str.{all_scalars};
 ghost use Rattle.hub_glob.specs.Glob.{glob, pieces, choices, no_more};
+ghost use Rattle.hub_glob.specs.Readable.{IsReadable};
 ghost use Rattle.hub_glob.specs.Reading.{spec_reading};
 ghost use Rattle.hub_glob.specs.Specification.{Specification};
 ghost use Rattle.hub_glob.specs.Writing.{pattern_text, spec_text};
 ghost use Rattle.hub_glob.specs.declared.piece.Part.{Part};
 
+use crate::path_spec::PathSpec;
 use crate::piece::PATTERN_CHARACTERS;
 
-/// A text matches a pattern exactly where it matches one of the pattern's choices.
+/// A text matches a pattern exactly when it matches one of the pattern's choices.
 #[tactic(auto, using(crate::specs::ChoiceLaws::glob_choices))]
 pub fn choices_are_enough()
-    ensures { (ps : List Part) (first : Bool) (t : List ℕ) → glob ps first t ≡ list_any (λ c. pieces c no_more first t) (choices ps) }
+    ensures { (ps : List Part) (first : Bool) (t : List ℕ)
+        → glob ps first t ≡ list_any (λ c. pieces c no_more first t) (choices ps) }
 {}
 
-/// The text of a specification that was read is read as that specification again, where its pattern is not too long.
+/// Every specification is read from its own text, if its written pattern has at most `PATTERN_CHARACTERS` characters.
 ///
 /// A pattern may be written longer than it was read: the set `[a-c]` is written `[abc]`.
 #[tactic(auto, using(crate::proofs::Roundtrip::reading_undoes_writing))]
-pub fn reading_undoes_writing()
-    ensures { (t : List ℕ) (s : Specification) → spec_reading t ≡ Ok s → length (pattern_text s.pattern) ≤ PATTERN_CHARACTERS → spec_reading (spec_text s) ≡ Ok s }
+pub fn reading_undoes_writing(spec: &PathSpec)
+    ensures { length (pattern_text spec.now.pattern) ≤ PATTERN_CHARACTERS
+        → spec_reading (spec_text spec.now) ≡ Ok spec.now }
+{
+    spec.is_readable();
+}
+
+/// The same for the values that contracts see.
+#[tactic(auto, using(crate::proofs::Roundtrip::reading_undoes_writing))]
+pub fn readable_specifications_are_read_back()
+    ensures { (s : Specification) → IsReadable s
+        → length (pattern_text s.pattern) ≤ PATTERN_CHARACTERS
+        → spec_reading (spec_text s) ≡ Ok s }
+{}
+
+/// Each specification that a text gives is readable.
+pub fn read_specifications_are_readable()
+    ensures { (t : List ℕ) (s : Specification) → all_scalars t ≡ true → spec_reading t
+        ≡ Ok s → IsReadable s }
 {}

@@ -1,18 +1,21 @@
 //! Path specifications: which paths a line like `ignore = Name *.tmp` means.
 //!
-//! - [`PathSpec`] is a kind and a pattern: it is read from a text (`PathSpec::read`), written as one (`text`), and asked
-//!   whether it matches a path (`matches`) or the front of one (`matches_front`).
+//! - [`PathSpec`] is a kind and a pattern. It is read from a text (`PathSpec::read`), written as a text (`text`), and
+//!   asked whether it matches a path (`matches`) or a prefix of a path (`matches_front`).
 //! - [`Part`] and [`Piece`] are what a pattern is made of, and `choices` lists the patterns without braces that it
-//!   stands for. A piece tells whether it takes a character ([`Next`]) and whether it is a `*`.
-//! - [`GlobFault`] tells why a text is no specification.
+//!   stands for. `Piece::takes` says whether a piece takes a character ([`Next`]).
+//! - [`GlobFault`] says why a text is not a specification.
 //! - [`BLANKS`], [`first_word`] and [`skip_blanks`]: where a text is cut between words.
-//! - [`laws`]: a pattern matches what one of its choices matches, and a specification is read back from its text.
+//! - [`laws`]: a pattern matches what one of its choices matches, and a specification is read from its own text.
+//!
+//! Only functions that return a `Result` allocate.
 //!
 //! `Name *.{tmp, bak}` matches `x.tmp`, `d/x.tmp` and `x. bak`, and neither `x.bak` nor `.x.tmp`.
 //!
 //! The contracts are in the words of `specs/Glob` (what is matched), `specs/Taking` (what one piece takes),
-//! `specs/Reading` and `specs/Blanks` (what is read) and `specs/Writing`. `specs/OneStep`, `specs/TestLaws` and
-//! `specs/TextCuts` prove what follows, for the proofs of the crates above.
+//! `specs/Reading` and `specs/Blanks` (what is read), `specs/Readable` (what holds of each specification that is read)
+//! and `specs/Writing`. `specs/OneStep`, `specs/TestLaws` and `specs/TextCuts` have lemmas for the proofs of the crates
+//! above.
 #![tactic(auto)]
 
 mod blank;

@@ -3,8 +3,9 @@ ghost use Rattle.std.specs.List.{list_any};
 ghost use Rattle.hub_path.specs.Path.{last_name, text_of, prefixes};
 ghost use Rattle.hub_glob.specs.Glob as glob;
 ghost use Rattle.hub_glob.specs.Specification.{pattern_size};
+ghost use Rattle.hub_glob.specs.Readable.{IsReadable};
 ghost use Rattle.hub_glob.specs.Reading.{spec_reading};
-ghost use Rattle.hub_glob.specs.Writing.{spec_text};
+ghost use Rattle.hub_glob.specs.Writing.{pattern_text, spec_text};
 
 use crate::choosing::choices_of;
 use crate::fault::GlobFault;
@@ -16,18 +17,21 @@ use hub_path::{Items, RelPath};
 use std::alloc::{AllocError, Global};
 use std::marker::Model;
 
-/// With what of a path a pattern is matched.
+/// Which text of a path a pattern is matched with.
 #[derive(Clone, Copy, Debug, PartialEq, Eq)]
 pub enum Kind {
-    /// With its last name.
+    /// The last name.
     Name,
-    /// With its whole text.
+    /// The whole text.
     Path,
-    /// With the text of the path or of one of the paths above it.
+    /// The text of the path, and of each path above it: one of them must match.
     BelowPath,
 }
 
-/// A path specification: a kind, and a pattern of at most `PATTERN_CHARACTERS` pieces.
+/// A path specification: a kind, and a pattern of at most `PATTERN_CHARACTERS` pieces that stands for at most
+/// `PATTERN_CHOICES` choices.
+///
+/// What else holds of each specification is in `specs/Readable`.
 #[derive(Debug, Drop)]
 pub struct PathSpec {
     kind: Kind,
@@ -35,15 +39,14 @@ pub struct PathSpec {
 }
 
 impl Model for PathSpec {
-    ghost use Rattle.std.specs.Prelude.{◌≤◌};
-    ghost use Rattle.hub_glob.specs.declared.piece.TheConstants.{PATTERN_CHARACTERS};
-    ghost use Rattle.hub_glob.specs.Specification.{Specification, pattern_size};
+    ghost use Rattle.hub_glob.specs.Readable.{IsReadable};
+    ghost use Rattle.hub_glob.specs.Specification.{Specification};
 
     ghost Value = { Specification };
 
     ghost view = { λ s. record { kind = s.kind; pattern = s.pattern.items } };
 
-    ghost invariant = { λ s. pattern_size s.pattern.items ≤ PATTERN_CHARACTERS };
+    ghost invariant = { λ s. IsReadable (record { kind = s.kind; pattern = s.pattern.items }) };
 }
 
 impl PathSpec {
@@ -54,14 +57,15 @@ impl PathSpec {
     /// `{a,bb}` any one of the choices, and `\` makes one of `* ? [ ] { } , \` literal (Unison manual, "Path
     /// Specification"; the escapes, and the limits, are this project's choice).
     ///
-    /// The fault is the first of these that applies: `RegexLeftOut` or `NoKind`, `EmptyPattern`, `TooLong`,
+    /// The fault is the first that applies of `RegexLeftOut` or `NoKind`, `EmptyPattern`, `TooLong`,
     /// `LeadingSlash`, then the first from the left of `BadEscape`, `NegatedSet`, `BadRange`, `SlashInSet`,
     /// `SlashInName` and `NestedBraces`, with `OpenBracket`, or else `OpenBrace`, at the end of the text; at last
     /// `TooManyChoices`, where the numbers of choices of all braces multiply to more than `PATTERN_CHOICES`.
-    /// `OutOfMemory` may come with any text.
+    /// Any call may instead report `OutOfMemory`.
     pub fn read(alloc: Global, text: &str) -> Result<PathSpec, GlobFault>
         ensures ok { IfOk result (λ s. spec_reading (chars text.now) ≡ Ok s) }
-        ensures err { IfErr result (λ e. (e ≡ GlobFault.OutOfMemory) ⊎ (spec_reading (chars text.now) ≡ Err e)) }
+        ensures err { IfErr result (λ e. (e ≡ GlobFault.OutOfMemory)
+            ⊎ (spec_reading (chars text.now) ≡ Err e)) }
     {
         let (word, rest) = split_kind(text);
         let kind = read_kind(word)?;
@@ -69,51 +73,61 @@ impl PathSpec {
         Ok(PathSpec { kind, pattern })
     }
 
-    /// With what of a path the pattern is matched.
+    /// Returns which text of a path the pattern is matched with.
     pub fn kind(&self) -> Kind
         ensures { result ≡ self.now.kind }
     {
         self.kind
     }
 
-    /// The parts of the pattern.
+    /// Every specification can be written and read again.
+    pub(crate) fn is_readable(&self)
+        ensures { IsReadable self.now }
+    {
+        let _ = &self.pattern;
+    }
+
+    /// Returns the parts of the pattern.
     pub fn pattern(&self) -> &[Part]
         ensures { result.now ≡ self.now.pattern }
     {
         self.pattern.as_slice()
     }
 
-    /// The text of the specification: the kind, one space and the pattern, with a `\` before each literal of
-    /// `* ? [ ] { } , \`. It is read back as the same specification where its pattern is not too long
-    /// (`laws::reading_undoes_writing`).
+    /// Returns the text of the specification: the kind, one space and the pattern, with a `\` before each literal of
+    /// `* ? [ ] { } , \`. `PathSpec::read` reads it as the same specification if its pattern has at most
+    /// `PATTERN_CHARACTERS` characters. It may have more, since the set `[a-c]` is written `[abc]`.
     ///
-    /// In a set a member that a `-` and a further member follow is written as a range of its own (`a-a`).
+    /// A member of a set that is followed by `-` and a further member is written as a range of itself (`a-a`).
     pub fn text(&self) -> Result<String, AllocError>
-        ensures { IfOk result (λ t. string_bytes t ≡ encode_utf8_all (spec_text self.now)) }
+        ensures written { IfOk result (λ t. string_bytes t ≡ encode_utf8_all (spec_text self.now)) }
+        ensures read_back { IfOk result (λ t.
+            length (pattern_text self.now.pattern) ≤ PATTERN_CHARACTERS
+            → spec_reading (chars (string_bytes t)) ≡ Ok self.now) }
     {
         let alloc = *self.pattern.allocator();
         text_of(alloc, self.kind, self.pattern.as_slice())
     }
 
-    /// The lists of pieces that the pattern stands for: one for each combination of the braces' choices, the leftmost
-    /// brace varying slowest. A text matches the pattern exactly where it matches one of them.
+    /// Returns the lists of pieces that the pattern stands for: one for each combination of the braces' choices, the
+    /// leftmost brace varying slowest. A text matches the pattern exactly when it matches one of them.
     pub fn choices(&self) -> Result<Items<Items<Piece>>, AllocError>
         ensures { IfOk result (λ cs. cs ≡ glob.choices self.now.pattern) }
     {
         choices_of(*self.pattern.allocator(), self.pattern.as_slice())
     }
 
-    /// Whether the specification matches a path. It matches no path without names.
+    /// Whether the specification matches a path. No specification matches the path without names.
     ///
-    /// A pattern is matched with characters one by one (`Walk`), so the time is at most the size of the pattern times
-    /// the length of the text, and no memory is taken.
+    /// The pattern is matched character by character (`Walk`). The time is at most the number of its pieces times the
+    /// number of characters, and the characters after which no match is possible cost no look at the pattern.
     pub fn matches(&self, path: &RelPath) -> bool
         ensures { result ≡ glob.matches self.now path.now }
     {
         self.matches_front(path, path.len())
     }
 
-    /// Whether the specification matches the path of the first `len` names, which is not made.
+    /// Whether the specification matches the path of the first `len` names.
     pub fn matches_front(&self, path: &RelPath, len: usize) -> bool
         requires { len ≤ length path.now }
         ensures { result ≡ glob.matches self.now (take len path.now) }
@@ -159,7 +173,8 @@ fn matches_text(parts: &[Part], path: &RelPath, len: usize) -> bool
 fn matches_above(parts: &[Part], path: &RelPath, len: usize) -> bool
     requires small { pattern_size parts.now ≤ PATTERN_CHARACTERS }
     requires within { len ≤ length path.now }
-    ensures { result ≡ list_any (λ q. glob.glob parts.now true (text_of q)) (prefixes (take len path.now)) }
+    ensures { result
+        ≡ list_any (λ q. glob.glob parts.now true (text_of q)) (prefixes (take len path.now)) }
 {
     let mut walk = Walk::new();
     for i in 0..len {

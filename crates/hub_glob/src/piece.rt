@@ -3,21 +3,20 @@ ghost use Rattle.hub_glob.specs.Taking as taking;
 
 use hub_path::Items;
 
-/// How many characters a pattern may have that is read from a text, and so how many pieces.
+/// The most characters of a pattern that is read from a text, and so the most pieces (this project's choice).
 pub const PATTERN_CHARACTERS: usize = 200;
 
-/// How many choices a pattern may stand for that is read from a text.
+/// The most choices that a pattern stands for that is read from a text (this project's choice).
 pub const PATTERN_CHOICES: usize = 64;
 
 /// One step of a pattern: what it takes of a text.
 #[derive(Debug, Drop)]
 pub enum Piece {
-    /// That character.
+    /// This character.
     Lit(char),
     /// Any one character except `/`.
     Any,
-    /// A sequence without `/`, possibly empty. Where it begins at the start of a component, its first
-    /// character isn't `.`.
+    /// A sequence without `/`, possibly empty. At the start of a component its first character is not `.`.
     Run,
     /// One character of the set.
     OneOf(Items<char>),
@@ -28,12 +27,12 @@ pub enum Piece {
 pub struct Next {
     /// The character.
     pub character: char,
-    /// Whether it stands at the start of a component: at the start of the text, or behind a `/`.
+    /// Whether it stands at the start of a component: at the start of the text, or after a `/`.
     pub first: bool,
 }
 
 impl Piece {
-    /// Whether the piece takes that character next.
+    /// Whether the piece takes this character next.
     pub fn takes(&self, next: Next) -> bool
         ensures { result ≡ taking.takes next self.now }
     {
@@ -45,7 +44,7 @@ impl Piece {
         }
     }
 
-    /// Whether the piece is a `*`, which may take any number of characters, also none.
+    /// Whether the piece is a `*`, which may take any number of characters, or none.
     pub fn is_star(&self) -> bool
         ensures { result ≡ taking.is_star self.now }
     {

@@ -3,7 +3,7 @@ ghost use Rattle.std.specs.Prelude.{◌≡◌, ◌==◌, ◌⊎◌, ◌+◌, ◌
 ghost use Rattle.std.specs.List.{before_first, after_first, range_with_len};
 ghost use Rattle.hub_glob.specs.declared.fault.GlobFault.{GlobFault};
 ghost use Rattle.hub_glob.specs.declared.reading.Sign.{Sign as SignValue};
-ghost use Rattle.hub_glob.specs.Specification.{pattern_size};
+ghost use Rattle.hub_glob.specs.Specification as specification;
 ghost use Rattle.hub_glob.specs.Blanks as blanks;
 ghost use Rattle.hub_glob.specs.Reading as reading;
 
@@ -15,12 +15,12 @@ use hub_path::Items;
 use std::alloc::{AllocError, Global};
 use std::mem;
 
-/// A character of a pattern as it is meant.
+/// A pattern character after its escape has been resolved.
 #[derive(Clone, Copy)]
 pub(crate) enum Token {
     /// By itself.
     Plain(char),
-    /// Behind a `\`.
+    /// After a `\`.
     Escaped(char),
     /// A `\` that makes nothing literal.
     Stray,
@@ -35,10 +35,11 @@ pub(crate) enum Sign {
     Close,
 }
 
-/// The first word, and the text behind it and the blanks that follow.
+/// The first word, and what follows it and the blanks after it.
 pub(crate) fn split_kind(text: &str) -> (&str, &str)
     ensures word { chars result.0.now ≡ before_first blanks.is_blank (chars text.now) }
-    ensures pattern { chars result.1.now ≡ blanks.skip_blanks (after_first blanks.is_blank (chars text.now)) }
+    ensures pattern { chars result.1.now
+        ≡ blanks.skip_blanks (after_first blanks.is_blank (chars text.now)) }
 {
     let (word, rest) = first_word(text);
     (word, skip_blanks(rest))
@@ -68,17 +69,17 @@ pub(crate) fn is_special(c: char) -> bool
     matches!(c, '*' | '?' | '[' | ']' | '{' | '}' | ',' | '\\')
 }
 
-/// The parts of a pattern that isn't empty, too long, or begins with a `/` that it may not have.
+/// The parts of a pattern, if it isn't empty or too long and doesn't begin with a `/` that it may not have.
 pub(crate) fn read_pattern(
     alloc: Global,
     kind: Kind,
     pattern: &str,
 ) -> Result<Items<Part>, GlobFault>
     ensures ok { IfOk result (λ ps. reading.pattern_reading kind (chars pattern.now) ≡ Ok ps) }
-    ensures err { IfErr result (λ e. (e ≡ GlobFault.OutOfMemory) ⊎ (reading.pattern_reading kind (chars pattern.now) ≡ Err e)) }
-    ensures small { IfOk result (λ ps. pattern_size ps ≤ PATTERN_CHARACTERS) }
+    ensures err { IfErr result (λ e. (e ≡ GlobFault.OutOfMemory)
+        ⊎ (reading.pattern_reading kind (chars pattern.now) ≡ Err e)) }
 {
-    if is_blank(pattern) {
+    if is_empty(pattern) {
         return Err(GlobFault::EmptyPattern);
     }
     if is_long(pattern) {
@@ -95,7 +96,7 @@ pub(crate) fn read_pattern(
     Ok(parts)
 }
 
-fn is_blank(pattern: &str) -> bool
+fn is_empty(pattern: &str) -> bool
     ensures { result ≡ (length (chars pattern.now) == 0) }
 {
     pattern.is_empty()
@@ -114,7 +115,7 @@ fn character_count(pattern: &str) -> usize
 }
 
 fn is_name_kind(kind: Kind) -> bool
-    ensures { result ≡ reading.is_name_kind kind }
+    ensures { result ≡ specification.is_name_kind kind }
 {
     matches!(kind, Kind::Name)
 }
@@ -128,7 +129,8 @@ fn begins_with_slash(pattern: &str) -> bool
 /// The parts of a pattern.
 fn read_parts(alloc: Global, in_name: bool, pattern: &str) -> Result<Items<Part>, GlobFault>
     ensures ok { IfOk result (λ ps. reading.parts_of in_name (chars pattern.now) ≡ Ok ps) }
-    ensures err { IfErr result (λ e. (e ≡ GlobFault.OutOfMemory) ⊎ (reading.parts_of in_name (chars pattern.now) ≡ Err e)) }
+    ensures err { IfErr result (λ e. (e ≡ GlobFault.OutOfMemory)
+        ⊎ (reading.parts_of in_name (chars pattern.now) ≡ Err e)) }
 {
     let tokens = read_tokens(alloc, pattern)?;
     let mut parser = Parser {
@@ -139,33 +141,33 @@ fn read_parts(alloc: Global, in_name: bool, pattern: &str) -> Result<Items<Part>
     parser.parts()
 }
 
-/// The characters of a pattern as they are meant.
+/// The characters of a pattern, with their escapes resolved.
 fn read_tokens(alloc: Global, pattern: &str) -> Result<Vec<Token>, AllocError>
     ensures { IfOk result (λ v. v.items ≡ reading.tokens false (chars pattern.now)) }
 {
     let mut tokens = Vec::new(alloc);
-    let mut behind = false;
+    let mut escaped = false;
     for c in pattern.chars() {
-        if behind {
+        if escaped {
             if !is_special(c) {
                 tokens.push(Token::Stray)?;
                 return Ok(tokens);
             }
             tokens.push(Token::Escaped(c))?;
-            behind = false;
+            escaped = false;
         } else if c == '\\' {
-            behind = true;
+            escaped = true;
         } else {
             tokens.push(Token::Plain(c))?;
         }
     }
-    if behind {
+    if escaped {
         tokens.push(Token::Stray)?;
     }
     Ok(tokens)
 }
 
-/// What reads the parts from the tokens that are left.
+/// Reads parts from the tokens that are left.
 #[derive(Drop)]
 struct Parser<'a> {
     alloc: Global,
@@ -176,9 +178,11 @@ struct Parser<'a> {
 impl Parser<'_> {
     /// The parts up to the end.
     fn parts(&mut self) -> Result<Items<Part>, GlobFault>
-        ensures ok { IfOk result (λ ps. reading.parts None (reading.signs self.old.in_name None self.old.tokens.now) ≡ Ok ps) }
+        ensures ok { IfOk result (λ ps.
+            reading.parts None (reading.signs self.old.in_name None self.old.tokens.now) ≡ Ok ps) }
         ensures err { IfErr result (λ e. (e ≡ GlobFault.OutOfMemory)
-            ⊎ (reading.parts None (reading.signs self.old.in_name None self.old.tokens.now) ≡ Err e)) }
+            ⊎ (reading.parts None (reading.signs self.old.in_name None self.old.tokens.now)
+            ≡ Err e)) }
     {
         let mut parts = Items::new(self.alloc);
         'signs: while let Some(sign) = self.sign()? {
@@ -193,12 +197,15 @@ impl Parser<'_> {
         Ok(parts)
     }
 
-    /// The choices of a brace, behind its `{`, up to its `}`.
+    /// The choices of a brace, from after its `{` to its `}`.
     fn choices(&mut self) -> Result<Items<Items<Piece>>, GlobFault>
-        ensures ok { IfOk result (λ cs. reading.parts (Some ([], [])) (reading.signs self.old.in_name None self.old.tokens.now)
-            ≡ reading.then_part (reading.brace cs) (reading.parts None (reading.signs self.new.in_name None self.new.tokens.now))) }
+        ensures ok { IfOk result (λ cs.
+            reading.parts (Some ([], [])) (reading.signs self.old.in_name None self.old.tokens.now)
+            ≡ reading.then_part (reading.brace cs)
+            (reading.parts None (reading.signs self.new.in_name None self.new.tokens.now))) }
         ensures err { IfErr result (λ e. (e ≡ GlobFault.OutOfMemory)
-            ⊎ (reading.parts (Some ([], [])) (reading.signs self.old.in_name None self.old.tokens.now) ≡ Err e)) }
+            ⊎ (reading.parts (Some ([], []))
+            (reading.signs self.old.in_name None self.old.tokens.now) ≡ Err e)) }
         ensures in_name { self.new.in_name ≡ self.old.in_name }
         ensures shorter { length self.new.tokens.now ≤ length self.old.tokens.now }
     {
@@ -221,10 +228,13 @@ impl Parser<'_> {
     /// The next sign, or nothing at the end.
     fn sign(&mut self) -> Result<Option<Sign>, GlobFault>
         ensures ok { IfOk result (λ o. MatchOption o (self.old.tokens.now ≡ [])
-            (λ s. reading.signs self.old.in_name None self.old.tokens.now ≡ Ok s ∷ reading.signs self.new.in_name None self.new.tokens.now)) }
-        ensures err { IfErr result (λ e. (e ≡ GlobFault.OutOfMemory) ⊎ reading.Faults e (reading.signs self.old.in_name None self.old.tokens.now)) }
+            (λ s. reading.signs self.old.in_name None self.old.tokens.now
+            ≡ Ok s ∷ reading.signs self.new.in_name None self.new.tokens.now)) }
+        ensures err { IfErr result (λ e. (e ≡ GlobFault.OutOfMemory)
+            ⊎ reading.Faults e (reading.signs self.old.in_name None self.old.tokens.now)) }
         ensures in_name { self.new.in_name ≡ self.old.in_name }
-        ensures shorter { IfOk result (λ o. IsSome o → length self.new.tokens.now < length self.old.tokens.now) }
+        ensures shorter { IfOk result (λ o. IsSome o
+            → length self.new.tokens.now < length self.old.tokens.now) }
         ensures no_longer { length self.new.tokens.now ≤ length self.old.tokens.now }
     {
         match self.tokens {
@@ -247,11 +257,12 @@ impl Parser<'_> {
         }
     }
 
-    /// A set, behind its `[`.
+    /// A set, from after its `[`.
     fn set(&mut self) -> Result<Piece, GlobFault>
         ensures ok { IfOk result (λ p. reading.signs self.old.in_name (Some []) self.old.tokens.now
             ≡ Ok (SignValue.Means p) ∷ reading.signs self.new.in_name None self.new.tokens.now) }
-        ensures err { IfErr result (λ e. (e ≡ GlobFault.OutOfMemory) ⊎ reading.Faults e (reading.signs self.old.in_name (Some []) self.old.tokens.now)) }
+        ensures err { IfErr result (λ e. (e ≡ GlobFault.OutOfMemory)
+            ⊎ reading.Faults e (reading.signs self.old.in_name (Some []) self.old.tokens.now)) }
         ensures in_name { self.new.in_name ≡ self.old.in_name }
         ensures shorter { length self.new.tokens.now ≤ length self.old.tokens.now }
     {
@@ -283,11 +294,12 @@ fn sign_of(c: char) -> Sign
     }
 }
 
-/// The tokens of a set and those behind its `]`, if there is one.
+/// The tokens of a set and those after its `]`, if there is one.
 fn split_set(tokens: &[Token]) -> Option<(&[Token], &[Token])>
     ensures split { (in_name : Bool) → MatchOption result
         (reading.signs in_name (Some []) tokens.now ≡ reading.set_sign tokens.now false ∷ [])
-        (λ x. reading.signs in_name (Some []) tokens.now ≡ reading.set_sign x.0.now true ∷ reading.signs in_name None x.1.now) }
+        (λ x. reading.signs in_name (Some []) tokens.now
+        ≡ reading.set_sign x.0.now true ∷ reading.signs in_name None x.1.now) }
     ensures shorter { IfSome result (λ x. length x.1.now ≤ length tokens.now) }
 {
     for (i, token) in tokens.iter().enumerate() {
@@ -307,7 +319,8 @@ fn is_plain(c: char, token: Token) -> bool
 /// A set, by its tokens, and whether a `]` closes it.
 fn read_set(alloc: Global, set: &[Token], closed: bool) -> Result<Piece, GlobFault>
     ensures ok { IfOk result (λ p. reading.set_piece set.now closed ≡ Ok p) }
-    ensures err { IfErr result (λ e. (e ≡ GlobFault.OutOfMemory) ⊎ (reading.set_piece set.now closed ≡ Err e)) }
+    ensures err { IfErr result (λ e. (e ≡ GlobFault.OutOfMemory)
+        ⊎ (reading.set_piece set.now closed ≡ Err e)) }
 {
     if is_negated(set) {
         return Err(GlobFault::NegatedSet);
@@ -334,7 +347,8 @@ fn is_negated(set: &[Token]) -> bool
 /// The characters of a set.
 fn read_members(alloc: Global, set: &[Token]) -> Result<Vec<char>, GlobFault>
     ensures ok { IfOk result (λ v. reading.members set.now ≡ Ok v.items) }
-    ensures err { IfErr result (λ e. (e ≡ GlobFault.OutOfMemory) ⊎ (reading.members set.now ≡ Err e)) }
+    ensures err { IfErr result (λ e. (e ≡ GlobFault.OutOfMemory)
+        ⊎ (reading.members set.now ≡ Err e)) }
 {
     let mut members = Vec::new(alloc);
     let mut i = 0;
@@ -362,7 +376,8 @@ fn character(token: Token) -> Result<char, GlobFault>
 
 /// Adds one character to a set.
 fn push_one(set: &mut Vec<char>, token: Token) -> Result<(), GlobFault>
-    ensures ok { IfOk result (λ _. reading.Adds (reading.member token) set.old.items set.new.items) }
+    ensures ok { IfOk result (λ _.
+        reading.Adds (reading.member token) set.old.items set.new.items) }
     ensures err { IfErr result (λ e. (e ≡ GlobFault.OutOfMemory) ⊎ (reading.member token ≡ Err e)) }
 {
     let c = character(token)?;
@@ -375,8 +390,10 @@ fn push_one(set: &mut Vec<char>, token: Token) -> Result<(), GlobFault>
 
 /// Adds a range of characters to a set.
 fn push_range(set: &mut Vec<char>, low: Token, high: Token) -> Result<(), GlobFault>
-    ensures ok { IfOk result (λ _. reading.Adds (reading.range_member low high) set.old.items set.new.items) }
-    ensures err { IfErr result (λ e. (e ≡ GlobFault.OutOfMemory) ⊎ (reading.range_member low high ≡ Err e)) }
+    ensures ok { IfOk result (λ _.
+        reading.Adds (reading.range_member low high) set.old.items set.new.items) }
+    ensures err { IfErr result (λ e. (e ≡ GlobFault.OutOfMemory)
+        ⊎ (reading.range_member low high ≡ Err e)) }
 {
     let low = character(low)?;
     let high = character(high)?;
@@ -394,7 +411,8 @@ fn push_range(set: &mut Vec<char>, low: Token, high: Token) -> Result<(), GlobFa
 fn push_codes(set: &mut Vec<char>, low: u8, high: u8) -> Result<(), AllocError>
     requires ascii { high < 128 }
     requires ordered { low ≤ high }
-    ensures { IfOk result (λ _. set.new.items ≡ set.old.items ++ range_with_len low (high + 1 - low)) }
+    ensures { IfOk result (λ _. set.new.items
+        ≡ set.old.items ++ range_with_len low (high + 1 - low)) }
 {
     for code in low..high + 1 {
         set.push(char::from(code))?;
@@ -404,7 +422,7 @@ fn push_codes(set: &mut Vec<char>, low: u8, high: u8) -> Result<(), AllocError>
 
 /// Whether a pattern stands for more choices than it may.
 pub(crate) fn has_many_choices(parts: &[Part]) -> bool
-    ensures { result ≡ nat_lt PATTERN_CHOICES (reading.choice_count parts.now) }
+    ensures { result ≡ nat_lt PATTERN_CHOICES (specification.choice_count parts.now) }
 {
     let mut count = 1usize;
     for part in parts {

@@ -1,5 +1,6 @@
 //! A pattern matched with a text character by character, by the set of places at which a match may stand.
-ghost use Rattle.std.specs.Prelude.{◌≡◌, ◌+◌, ◌≤◌, ◌<◌, [], ◌∷◌, ◌++◌, length, chars};
+ghost use Rattle.std.specs.Prelude.{◌≡◌, ◌||◌, ◌+◌, ◌≤◌, ◌<◌, [], ◌∷◌, ◌++◌, length, chars};
+ghost use Rattle.std.specs.List.{list_any};
 ghost use Rattle.hub_glob.specs.Specification.{choices_size, pattern_size};
 ghost use Rattle.hub_glob.specs.Sweep as sweep;
 ghost use Rattle.arrayvec.specs.ArrayVec.{array_vec_len};
@@ -23,7 +24,8 @@ type Places = ArrayVec<bool, PATTERN_CHARACTERS>;
 fn sweep_piece(next: Next, piece: &Piece, old: &[bool], new: &mut Places, carry: Carry) -> Carry
     requires { array_vec_len new.old < PATTERN_CHARACTERS }
     ensures len { array_vec_len new.new ≡ array_vec_len new.old + 1 }
-    ensures swept { sweep.swept_piece next old.now piece.now (record { live = new.old.items; carry = carry })
+    ensures swept { sweep.swept_piece next old.now piece.now
+        (record { live = new.old.items; carry = carry })
         ≡ record { live = new.new.items; carry = result } }
 {
     let here = carry.before || old.get(new.len()).copied().unwrap_or(false);
@@ -46,7 +48,8 @@ fn sweep_pieces(
 ) -> Carry
     requires { array_vec_len new.old + length pieces.now ≤ PATTERN_CHARACTERS }
     ensures len { array_vec_len new.new ≡ array_vec_len new.old + length pieces.now }
-    ensures swept { sweep.swept_pieces next old.now pieces.now (record { live = new.old.items; carry = carry })
+    ensures swept { sweep.swept_pieces next old.now pieces.now
+        (record { live = new.old.items; carry = carry })
         ≡ record { live = new.new.items; carry = result } }
 {
     for piece in pieces {
@@ -65,7 +68,8 @@ fn sweep_choices(
 ) -> Carry
     requires { array_vec_len new.old + choices_size choices.now ≤ PATTERN_CHARACTERS }
     ensures len { array_vec_len new.new ≡ array_vec_len new.old + choices_size choices.now }
-    ensures swept { sweep.swept_choices next old.now entry choices.now (record { live = new.old.items; carry = sweep.nowhere })
+    ensures swept { sweep.swept_choices next old.now entry choices.now
+        (record { live = new.old.items; carry = sweep.nowhere })
         ≡ record { live = new.new.items; carry = result } }
 {
     let mut carry = Carry {
@@ -92,7 +96,8 @@ fn sweep_parts(
 ) -> Carry
     requires { array_vec_len new.old + pattern_size parts.now ≤ PATTERN_CHARACTERS }
     ensures len { array_vec_len new.new ≡ array_vec_len new.old + pattern_size parts.now }
-    ensures swept { sweep.swept_parts next old.now parts.now (record { live = new.old.items; carry = carry })
+    ensures swept { sweep.swept_parts next old.now parts.now
+        (record { live = new.old.items; carry = carry })
         ≡ record { live = new.new.items; carry = result } }
 {
     for part in parts {
@@ -102,6 +107,23 @@ fn sweep_parts(
         };
     }
     carry
+}
+
+/// The places, or none at all if none of them is active.
+fn pruned(live: Places) -> Places
+    ensures { result.items ≡ sweep.pruned live.items }
+{
+    if is_any_active(live.as_slice()) {
+        live
+    } else {
+        ArrayVec::new()
+    }
+}
+
+fn is_any_active(live: &[bool]) -> bool
+    ensures { result ≡ list_any (λ active. active) live.now }
+{
+    live.iter().any(|active| *active)
 }
 
 /// How a pattern matches the text read so far.
@@ -118,7 +140,8 @@ impl Model for Walk {
 
     ghost Value = { Standing };
 
-    ghost view = { λ w. record { live = w.live.items; fresh = w.fresh; ended = w.ended; first = w.first } };
+    ghost view = { λ w.
+        record { live = w.live.items; fresh = w.fresh; ended = w.ended; first = w.first } };
 }
 
 impl Walk {
@@ -134,11 +157,47 @@ impl Walk {
         }
     }
 
-    /// Reads one more character; whether the pattern matches the text before it.
+    /// Whether no place is active, so that no further text is matched.
+    fn is_stuck(&self) -> bool
+        ensures { result ≡ sweep.is_stuck self.now }
+    {
+        !self.fresh && self.live.as_slice().is_empty()
+    }
+
+    /// Reads one more character; returns whether the pattern matches the text before it.
     fn push(&mut self, parts: &[Part], character: char) -> bool
         requires { pattern_size parts.now ≤ PATTERN_CHARACTERS }
         ensures matched { result ≡ sweep.is_matched parts.now self.old character }
         ensures pushed { self.new ≡ sweep.pushed parts.now self.old character }
+    {
+        if self.is_stuck() {
+            return self.push_stuck(character);
+        }
+        self.push_active(parts, character)
+    }
+
+    /// The same, if no place is active.
+    fn push_stuck(&mut self, character: char) -> bool
+        ensures matched { result ≡ self.old.ended }
+        ensures pushed { self.new ≡ sweep.stuck_after character }
+    {
+        let matched = self.ended;
+        *self = Walk {
+            live: ArrayVec::new(),
+            fresh: false,
+            ended: false,
+            first: character == '/',
+        };
+        matched
+    }
+
+    /// The same, if a place may be active.
+    fn push_active(&mut self, parts: &[Part], character: char) -> bool
+        requires { pattern_size parts.now ≤ PATTERN_CHARACTERS }
+        ensures matched { result
+            ≡ ((sweep.swept parts.now self.old character).carry.before || self.old.ended) }
+        ensures pushed { self.new
+            ≡ sweep.pushed_by (sweep.swept parts.now self.old character) character }
     {
         let next = Next {
             character,
@@ -152,7 +211,7 @@ impl Walk {
         let end = sweep_parts(next, parts, self.live.as_slice(), &mut live, entry);
         let matched = end.before || self.ended;
         *self = Walk {
-            live,
+            live: pruned(live),
             fresh: false,
             ended: end.after,
             first: character == '/',
@@ -160,11 +219,13 @@ impl Walk {
         matched
     }
 
-    /// Reads a name and the `/` behind it; whether the pattern matches the text before that `/`.
+    /// Reads a name and the `/` after it; returns whether the pattern matches the text before that `/`.
     pub(crate) fn push_name(&mut self, parts: &[Part], name: &str) -> bool
         requires { pattern_size parts.now ≤ PATTERN_CHARACTERS }
-        ensures matched { result ≡ sweep.is_matched parts.now (sweep.pushed_all parts.now self.old (chars name.now)) 47 }
-        ensures pushed { self.new ≡ sweep.pushed_all parts.now self.old (chars name.now ++ 47 ∷ []) }
+        ensures matched { result
+            ≡ sweep.is_matched parts.now (sweep.pushed_all parts.now self.old (chars name.now)) 47 }
+        ensures pushed { self.new
+            ≡ sweep.pushed_all parts.now self.old (chars name.now ++ 47 ∷ []) }
     {
         for character in name.chars() {
             self.push(parts, character);

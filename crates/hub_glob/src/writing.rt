@@ -10,7 +10,8 @@ use std::alloc::{AllocError, Global};
 
 /// The text of a specification.
 pub(crate) fn text_of(alloc: Global, kind: Kind, parts: &[Part]) -> Result<String, AllocError>
-    ensures { IfOk result (λ t. string_bytes t ≡ encode_utf8_all (writing.kind_word kind ++ 32 ∷ writing.pattern_text parts.now)) }
+    ensures { IfOk result (λ t. string_bytes t
+        ≡ encode_utf8_all (writing.kind_word kind ++ 32 ∷ writing.pattern_text parts.now)) }
 {
     let mut text = String::from_str(alloc, word_of(kind))?;
     text.push(' ')?;
@@ -29,7 +30,8 @@ fn word_of(kind: Kind) -> &'static str
 }
 
 fn push_parts(text: &mut String, parts: &[Part]) -> Result<(), AllocError>
-    ensures { IfOk result (λ _. string_bytes text.new ≡ string_bytes text.old ++ encode_utf8_all (writing.pattern_text parts.now)) }
+    ensures { IfOk result (λ _. string_bytes text.new
+        ≡ string_bytes text.old ++ encode_utf8_all (writing.pattern_text parts.now)) }
 {
     for part in parts {
         push_part(text, part)?;
@@ -38,7 +40,8 @@ fn push_parts(text: &mut String, parts: &[Part]) -> Result<(), AllocError>
 }
 
 fn push_part(text: &mut String, part: &Part) -> Result<(), AllocError>
-    ensures { IfOk result (λ _. string_bytes text.new ≡ string_bytes text.old ++ encode_utf8_all (writing.part_text part.now)) }
+    ensures { IfOk result (λ _. string_bytes text.new
+        ≡ string_bytes text.old ++ encode_utf8_all (writing.part_text part.now)) }
 {
     match part {
         Part::One(piece) => push_piece(text, piece),
@@ -51,7 +54,8 @@ fn push_part(text: &mut String, part: &Part) -> Result<(), AllocError>
 }
 
 fn push_choices(text: &mut String, choices: &[Items<Piece>]) -> Result<(), AllocError>
-    ensures { IfOk result (λ _. string_bytes text.new ≡ string_bytes text.old ++ encode_utf8_all (writing.choices_text choices.now)) }
+    ensures { IfOk result (λ _. string_bytes text.new
+        ≡ string_bytes text.old ++ encode_utf8_all (writing.choices_text choices.now)) }
 {
     for (i, choice) in choices.iter().enumerate() {
         if i > 0 {
@@ -63,7 +67,8 @@ fn push_choices(text: &mut String, choices: &[Items<Piece>]) -> Result<(), Alloc
 }
 
 fn push_pieces(text: &mut String, pieces: &[Piece]) -> Result<(), AllocError>
-    ensures { IfOk result (λ _. string_bytes text.new ≡ string_bytes text.old ++ encode_utf8_all (writing.pieces_text pieces.now)) }
+    ensures { IfOk result (λ _. string_bytes text.new
+        ≡ string_bytes text.old ++ encode_utf8_all (writing.pieces_text pieces.now)) }
 {
     for piece in pieces {
         push_piece(text, piece)?;
@@ -72,7 +77,8 @@ fn push_pieces(text: &mut String, pieces: &[Piece]) -> Result<(), AllocError>
 }
 
 fn push_piece(text: &mut String, piece: &Piece) -> Result<(), AllocError>
-    ensures { IfOk result (λ _. string_bytes text.new ≡ string_bytes text.old ++ encode_utf8_all (writing.piece_text piece.now)) }
+    ensures { IfOk result (λ _. string_bytes text.new
+        ≡ string_bytes text.old ++ encode_utf8_all (writing.piece_text piece.now)) }
 {
     match piece {
         Piece::Lit(c) => push_literal(text, *c),
@@ -89,7 +95,8 @@ fn push_piece(text: &mut String, piece: &Piece) -> Result<(), AllocError>
 /// Writes the members of a set. Where a `-` and a further member follow, a member is written as the range of itself
 /// alone, since the `-` would make a range.
 fn push_members(text: &mut String, set: &[char]) -> Result<(), AllocError>
-    ensures { IfOk result (λ _. string_bytes text.new ≡ string_bytes text.old ++ encode_utf8_all (writing.members_text set.now)) }
+    ensures { IfOk result (λ _. string_bytes text.new
+        ≡ string_bytes text.old ++ encode_utf8_all (writing.members_text set.now)) }
 {
     for i in 0..set.len() {
         push_literal(text, set[i])?;
@@ -103,7 +110,8 @@ fn push_members(text: &mut String, set: &[char]) -> Result<(), AllocError>
 
 /// Writes a character, with a `\` before it where it would mean something else.
 fn push_literal(text: &mut String, c: char) -> Result<(), AllocError>
-    ensures { IfOk result (λ _. string_bytes text.new ≡ string_bytes text.old ++ encode_utf8_all (writing.literal c)) }
+    ensures { IfOk result (λ _. string_bytes text.new
+        ≡ string_bytes text.old ++ encode_utf8_all (writing.literal c)) }
 {
     if is_special(c) {
         text.push('\\')?;

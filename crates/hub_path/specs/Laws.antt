@@ -6,6 +6,7 @@ use Rattle.std.specs.List.{list_all, onto_first}
 use Rattle.std.specs.Cmp.{IsTotalOrder}
 use Rattle.std.specs.FinMap.{IsAntisymmetric, nat_cmp-IsAntisymmetric, slice_cmp-IsAntisymmetric}
 use Rattle.std.proofs.lemmas.Cmp.{tied_itself, lists_total, nat_list_cmp_total}
+use Rattle.std.proofs.lemmas.Bool.{and_parts}
 use Rattle.std.proofs.lemmas.Bool.Decides.{nat_tests, Decides-eqb}
 use Rattle.std.proofs.lemmas.Slice.Eq.{bytes_eq-Decides, starts_is}
 use Rattle.std.proofs.lemmas.List.Splits.{join_with_byte-slice_split}
@@ -16,10 +17,6 @@ use Rattle.hub_path.specs.declared.fault.PathFault.{PathFault}
 use Rattle.hub_path.specs.declared.fault.PathFault.TheVariants.{Empty, NotAbsolute, RemoteRoot}
 use Rattle.hub_path.specs.Reading.{names_fault, begins_with_slash, is_remote, or_fault, path_fault, path_reading, root_fault, root_names, root_reading, place_of, without_last_slash}
 use Rattle.hub_path.specs.Path.{Name, Path, name_eq, name_cmp, path_cmp, is_forbidden, is_dots, is_name, is_place, is_path, is_over, parent, last_name, text_of, path_of}
-
-both : (a b : Bool) → (a && b) ≡ true → (a ≡ true) × (b ≡ true)
-both true b h = (refl, h)
-both false b h = cc
 
 -- Names are equal exactly where the test says so.
 pub name_eq-decides : (a b : Name) → Decides (name_eq a b) (a ≡ b)
@@ -75,18 +72,18 @@ is_over-comparable [] b p h k = inl refl
 is_over-comparable (n ∷ a) [] p h k = inr refl
 is_over-comparable (n ∷ a) (m ∷ b) [] h k = cc
 is_over-comparable (n ∷ a) (m ∷ b) (l ∷ p) h k =
-    let one = both (name_eq n l) (is_over a p) h in
-    let two = both (name_eq m l) (is_over b p) k in
+    let one = and_parts (name_eq n l) (is_over a p) h in
+    let two = and_parts (name_eq m l) (is_over b p) k in
     let e : n ≡ m = (name_eq-decides n l).0 one.0 ∙ sym ((name_eq-decides m l).0 two.0) in
     ⊎_elim (λ over. inl (is_over-cons n m a b e over)) (λ over. inr (is_over-cons m n b a (sym e) over)) (is_over-comparable a b p one.1 two.1)
 
 -- A path that is over a path with one more name is over the path, or is the longer one.
 pub is_over-push : (q p : Path) (n : Name) → IsTrue (is_over q (p ++ n ∷ [])) → IsTrue (is_over q p) ⊎ (q ≡ p ++ n ∷ [])
 is_over-push [] p n h = inl refl
-is_over-push (m ∷ []) [] n h = inr (ap (λ k. k ∷ []) ((name_eq-decides m n).0 (both (name_eq m n) true h).0))
+is_over-push (m ∷ []) [] n h = inr (ap (λ k. k ∷ []) ((name_eq-decides m n).0 (and_parts (name_eq m n) true h).0))
 is_over-push (m ∷ k ∷ q) [] n h = absurd (omega (arith, is_over-length (m ∷ k ∷ q) (n ∷ []) h))
 is_over-push (m ∷ q) (k ∷ p) n h =
-    let heads = both (name_eq m k) (is_over q (p ++ n ∷ [])) h in
+    let heads = and_parts (name_eq m k) (is_over q (p ++ n ∷ [])) h in
     let e : m ≡ k = (name_eq-decides m k).0 heads.0 in
     ⊎_elim (λ over. inl (is_over-cons m k q p e over)) (λ same. inr (ap (λ t. m ∷ t) same ∙ ap (λ l. l ∷ p ++ n ∷ []) e)) (is_over-push q p n heads.1)
 
@@ -113,7 +110,7 @@ is_over-parent (n ∷ p) = is_over-continued (parent (n ∷ p)) (n ∷ p) (last_
 pub is_place-over : (p q : Path) → IsTrue (is_place q) → IsTrue (is_over p q) → IsTrue (is_place p)
 is_place-over p q place h =
     let e : q ≡ p ++ drop (length p) q = is_over-rest p q h in
-    (both (is_place p) (is_place (drop (length p) q)) (sym (list_all-append is_name p (drop (length p) q)) ∙ (sym (ap is_place e) ∙ place))).0
+    (and_parts (is_place p) (is_place (drop (length p) q)) (sym (list_all-append is_name p (drop (length p) q)) ∙ (sym (ap is_place e) ∙ place))).0
 
 pub is_place-push : (p : Path) (n : Name) → IsTrue (is_place p) → IsTrue (is_name n) → IsTrue (is_place (p ++ n ∷ []))
 is_place-push p n place name = list_all-append is_name p (n ∷ []) ∙ rw (place, name) refl
@@ -137,7 +134,7 @@ path_cmp-over [] [] h other = absurd (other refl)
 path_cmp-over [] (m ∷ q) h other = refl
 path_cmp-over (n ∷ p) [] h other = cc
 path_cmp-over (n ∷ p) (m ∷ q) h other =
-    let heads = both (name_eq n m) (is_over p q) h in
+    let heads = and_parts (name_eq n m) (is_over p q) h in
     let e : n ≡ m = (name_eq-decides n m).0 heads.0 in
     let tied : name_cmp n m ≡ Equal = subst (λ (k : Name). name_cmp n k ≡ Equal) e (tied_itself name_cmp-total n) in
     rw tied (path_cmp-over p q heads.1 (λ same. other (ap (λ t. n ∷ t) same ∙ ap (λ k. k ∷ q) e)))
@@ -146,7 +143,7 @@ path_cmp-over (n ∷ p) (m ∷ q) h other =
 pub text_of-path_of : (cs : List ℕ) → text_of (path_of cs) ≡ cs
 text_of-path_of cs = join_with_byte-slice_split 47 cs
 
-abbrev is_apart : ℕ → Bool
+abbrev pub is_apart : ℕ → Bool
 is_apart c = not (c == 47)
 
 last_of_four : (a b c d : Bool) → not (a || b || c || d) ≡ true → not d ≡ true
@@ -162,10 +159,11 @@ third_of_four false b c d h = cc
 all_apart : (n : Name) → list_all (λ c. not (is_forbidden c)) n ≡ true → list_all is_apart n ≡ true
 all_apart [] h = refl
 all_apart (c ∷ n) h =
-    let passed = both (not (is_forbidden c)) (list_all (λ d. not (is_forbidden d)) n) h in
+    let passed = and_parts (not (is_forbidden c)) (list_all (λ d. not (is_forbidden d)) n) h in
     rw (last_of_four (c == 0) (c == 10) (c == 13) (c == 47) passed.0, all_apart n passed.1) refl
 
-name-apart : (n : Name) → IsTrue (is_name n) → list_all is_apart n ≡ true
+-- A name has no slash.
+pub name-apart : (n : Name) → IsTrue (is_name n) → list_all is_apart n ≡ true
 name-apart n h = all_apart n (third_of_four (not (length n == 0)) (all_scalars n) (list_all (λ c. not (is_forbidden c)) n) (not (is_dots n)) h)
 
 not_cut : (t : Bool) (c : ℕ) (ps qs : List (List ℕ)) → not t ≡ true → cond t ps (onto_first c qs) ≡ onto_first c qs
@@ -175,25 +173,25 @@ not_cut false c ps qs h = refl
 path_of-name : (n : Name) → list_all is_apart n ≡ true → path_of n ≡ n ∷ []
 path_of-name [] h = refl
 path_of-name (c ∷ n) h =
-    let passed = both (is_apart c) (list_all is_apart n) h in
+    let passed = and_parts (is_apart c) (list_all is_apart n) h in
     not_cut (c == 47) c _ _ passed.0 ∙ ap (onto_first c) (path_of-name n passed.1)
 
 path_of-front : (n : Name) (cs : List ℕ) → list_all is_apart n ≡ true → path_of (n ++ 47 ∷ cs) ≡ n ∷ path_of cs
 path_of-front [] cs h = refl
 path_of-front (c ∷ n) cs h =
-    let passed = both (is_apart c) (list_all is_apart n) h in
+    let passed = and_parts (is_apart c) (list_all is_apart n) h in
     not_cut (c == 47) c _ _ passed.0 ∙ ap (onto_first c) (path_of-front n cs passed.1)
 
 path_of-text_of-cons : (n : Name) (p : Path) → IsTrue (is_place (n ∷ p)) → path_of (text_of (n ∷ p)) ≡ n ∷ p
-path_of-text_of-cons n [] h = path_of-name n (name-apart n (both (is_name n) true h).0)
+path_of-text_of-cons n [] h = path_of-name n (name-apart n (and_parts (is_name n) true h).0)
 path_of-text_of-cons n (m ∷ p) h =
-    let names = both (is_name n) (is_place (m ∷ p)) h in
+    let names = and_parts (is_name n) (is_place (m ∷ p)) h in
     path_of-front n (text_of (m ∷ p)) (name-apart n names.0) ∙ ap (λ q. n ∷ q) (path_of-text_of-cons m p names.1)
 
 -- The names of the text of a path are the path.
 pub path_of-text_of : (p : Path) → IsTrue (is_path p) → path_of (text_of p) ≡ p
 path_of-text_of [] h = cc
-path_of-text_of (n ∷ p) h = path_of-text_of-cons n p (both (not (length (n ∷ p) == 0)) (is_place (n ∷ p)) h).1
+path_of-text_of (n ∷ p) h = path_of-text_of-cons n p (and_parts (not (length (n ∷ p) == 0)) (is_place (n ∷ p)) h).1
 
 or_fault-Ok : (f : Option PathFault) (x y : Path) → or_fault f x ≡ Ok y → x ≡ y
 or_fault-Ok None x y h = cc

@@ -3,8 +3,9 @@ pub mod Reading
 pub mod Parts
 pub mod Laws
 pub mod Examples
-pub mod Texts
+pub use Rattle.hub_text.specs.Texts
 pub mod NameFacts
+pub mod ReadBack
 pub mod ReadNames
 pub mod Ascii
 pub mod TextLaws

@@ -27,3 +27,14 @@ pub is_name-no_fault : (n : List ℕ) → all_scalars n ≡ true → name_fault 
 is_name-no_fault n s h =
     let passed = none_of_four (length n == 0) (is_dots n) (list_any is_forbidden n) (nat_lt NAME_BYTES (sum_by len_utf8 n)) EmptyName DotName BadCharacter NameTooLong h in
     rw (passed.0, s, list_all-not is_forbidden n, passed.2, passed.1) refl
+
+-- The three tests of a text that may have any length.
+reorder : (a d f : Bool) → (a && d && f) ≡ (a && true && f && d)
+reorder false d f = refl
+reorder true false false = refl
+reorder true false true = refl
+reorder true true false = refl
+reorder true true true = refl
+
+pub is_name-tests : (n : List ℕ) → all_scalars n ≡ true → (not (length n == 0) && not (is_dots n) && not (list_any is_forbidden n)) ≡ is_name n
+is_name-tests n s = rw (s, list_all-not is_forbidden n) (reorder (not (length n == 0)) (not (is_dots n)) (not (list_any is_forbidden n)))

@@ -7,6 +7,7 @@ use Rattle.std.specs.List.{slice_split, onto_first, list_all}
 use Rattle.std.specs.Char.{encode_utf8}
 use Rattle.std.specs.Str.{IsUtf8, chars, encode_utf8_all, all_scalars}
 use Rattle.std.proofs.lemmas.Str.{encodes-chars, encode_ascii, chars-encodes, scalars-chars}
+use Rattle.std.proofs.lemmas.Bool.{and_parts}
 use Rattle.std.proofs.lemmas.Bool.Decides.{nat_tests}
 use Rattle.std.proofs.lemmas.List.Splits.{length-slice_split}
 use lib.Utf8.{encode, next, scalar}
@@ -23,10 +24,6 @@ onto_front-cons : (bs part : List ℕ) (parts : List (List ℕ)) → onto_front 
 onto_front-cons [] part parts = refl
 onto_front-cons (b ∷ bs) part parts = ap (onto_first b) (onto_front-cons bs part parts)
 
-both : (a b : Bool) → (a && b) ≡ true → (a ≡ true) × (b ≡ true)
-both true b h = (refl, h)
-both false b h = cc
-
 not_first : (t : Bool) (b : ℕ) (ps qs : List (List ℕ)) → cond t false true ≡ true → cond t ps (onto_first b qs) ≡ onto_first b qs
 not_first true b ps qs h = cc
 not_first false b ps qs h = refl
@@ -34,7 +31,7 @@ not_first false b ps qs h = refl
 split-front : (s : ℕ) (bs rest : List ℕ) → list_all (is_apart s) bs ≡ true → slice_split (λ b. b == s) (bs ++ rest) ≡ onto_front bs (slice_split (λ b. b == s) rest)
 split-front s [] rest h = refl
 split-front s (b ∷ bs) rest h =
-    let passed = both (is_apart s b) (list_all (is_apart s) bs) h in
+    let passed = and_parts (is_apart s b) (list_all (is_apart s) bs) h in
     not_first (b == s) b _ _ passed.0 ∙ ap (onto_first b) (split-front s bs rest passed.1)
 
 high_apart : (s b : ℕ) → s < 128 → 128 ≤ b → is_apart s b ≡ true
@@ -92,7 +89,7 @@ split-encodes s (c ∷ cs) l = split-char s c cs l (c == s) refl (split-encodes 
 chars-parts : (ps : List (List ℕ)) → list_all all_scalars ps ≡ true → map chars (map encode_utf8_all ps) ≡ ps
 chars-parts [] h = refl
 chars-parts (p ∷ ps) h =
-    let parts = both (all_scalars p) (list_all all_scalars ps) h in
+    let parts = and_parts (all_scalars p) (list_all all_scalars ps) h in
     ap (λ n. n ∷ map chars (map encode_utf8_all ps)) (chars-encodes p parts.0) ∙ ap (λ ns. p ∷ ns) (chars-parts ps parts.1)
 
 scalars-cut : (c : ℕ) (ps : List (List ℕ)) (t : Bool) → scalar c ≡ true → list_all all_scalars ps ≡ true → list_all all_scalars (cond t ([] ∷ ps) (onto_first c ps)) ≡ true
@@ -102,7 +99,7 @@ scalars-cut c (p ∷ ps) false s h = rw s h
 
 scalars-parts : (s : ℕ) (cs : List ℕ) → all_scalars cs ≡ true → list_all all_scalars (slice_split (λ c. c == s) cs) ≡ true
 scalars-parts s [] h = refl
-scalars-parts s (c ∷ cs) h = let parts = both (scalar c) (all_scalars cs) h in scalars-cut c _ (c == s) parts.0 (scalars-parts s cs parts.1)
+scalars-parts s (c ∷ cs) h = let parts = and_parts (scalar c) (all_scalars cs) h in scalars-cut c _ (c == s) parts.0 (scalars-parts s cs parts.1)
 
 -- The characters of the parts of a text are the parts of its characters.
 pub chars-split : (s : ℕ) (bs : List ℕ) → s < 128 → IsUtf8 bs → map chars (slice_split (λ b. b == s) bs) ≡ slice_split (λ c. c == s) (chars bs)

@@ -1,5 +1,5 @@
 -- Names, paths and their order.
-use Rattle.std.specs.Prelude.{ℕ, Bool, true, not, ◌&&◌, ◌||◌, ◌==◌, nat_eq, List, [], ◌∷◌, length, map, fold, codes}
+use Rattle.std.specs.Prelude.{ℕ, Bool, true, not, ◌&&◌, ◌||◌, ◌==◌, nat_eq, List, [], ◌∷◌, ◌++◌, length, map, fold, codes, Option, Some, None, if◌then◌else◌, encode_utf8_all}
 use Rattle.std.specs.Cmp.Lexicographic.{pointwise, slice_cmp}
 use Rattle.std.specs.Ordering.{nat_cmp}
 use Rattle.std.specs.declared.cmp.Ordering.{Ordering}
@@ -27,11 +27,11 @@ name_cmp = slice_cmp nat_cmp
 abbrev pub path_cmp : Path → Path → Ordering
 path_cmp = slice_cmp name_cmp
 
--- The characters that stand in no name: NUL, LF, CR and `/`.
+-- The characters that no name has: NUL, LF, CR and `/`.
 abbrev pub is_forbidden : ℕ → Bool
 is_forbidden c = c == 0 || c == 10 || c == 13 || c == 47
 
--- `.` and `..` are no names.
+-- `.` and `..` are not names.
 abbrev pub is_dots : Name → Bool
 is_dots n = name_eq n (codes ".") || name_eq n (codes "..")
 
@@ -80,6 +80,17 @@ none_over (p ∷ ps) = list_all (λ q. not (is_over p q || is_over q p)) ps && n
 -- The names in a text, cut at `/`.
 abbrev pub path_of : List ℕ → Path
 path_of t = slice_split (λ c. c == 47) t
+
+-- The name, and the path, that has this text, if there is one.
+abbrev pub name_in : List ℕ → Option Name
+name_in t = if is_name t then Some t else None
+
+abbrev pub path_in : List ℕ → Option Path
+path_in t = if is_path (path_of t) then Some (path_of t) else None
+
+-- The text of a root, in UTF-8: a slash and the text of its names.
+abbrev pub root_bytes : Path → List ℕ
+root_bytes p = codes "/" ++ encode_utf8_all (text_of p)
 
 -- These paths in ascending order, each once.
 abbrev pub ascending : List Path → List Path

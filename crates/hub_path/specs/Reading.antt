@@ -1,7 +1,8 @@
 -- Which texts are names, paths and roots, and the first fault of each other text.
 use Rattle.std.specs.Prelude.{ℕ, ◌+◌, Bool, false, not, ◌&&◌, ◌||◌, ◌==◌, nat_lt, nat_le, nat_eq, drop, sum_by, codes, List, [], ◌∷◌, length, Option, Some, None, Result, Ok, Err, if◌then◌else◌}
-use Rattle.std.specs.List.{list_any, starts_with}
+use Rattle.std.specs.List.{list_all, list_any, starts_with}
 use Rattle.std.specs.Char.{len_utf8}
+pub use Rattle.hub_text.specs.Lines.{without_last}
 use Rattle.hub_path.specs.Path.{Name, Path, path_of, is_forbidden, is_dots}
 use Rattle.hub_path.specs.declared.name.TheConstants.{NAME_BYTES}
 use Rattle.hub_path.specs.declared.rel_path.TheConstants.{PATH_NAMES}
@@ -20,6 +21,13 @@ name_fault n =
 abbrev pub or_fault : {T : Type 0} → Option PathFault → T → Result T PathFault
 or_fault None x = Ok x
 or_fault (Some e) x = Err e
+
+-- Names and paths within the readers' limits.
+abbrev pub is_short_name : Name → Bool
+is_short_name n = nat_le (sum_by len_utf8 n) NAME_BYTES
+
+abbrev pub is_short_path : Path → Bool
+is_short_path p = nat_le (length p) PATH_NAMES && list_all is_short_name p
 
 -- A text is a name, or has a fault.
 abbrev pub name_reading : List ℕ → Result Name PathFault
@@ -44,7 +52,7 @@ names_reading ns = or_fault (names_fault 0 ns) ns
 abbrev pub begins_with_slash : List ℕ → Bool
 begins_with_slash cs = starts_with nat_eq cs (codes "/")
 
--- A path: not empty, no slash in front, and names between the slashes.
+-- A path: not empty, no slash at its start, and names between the slashes.
 abbrev pub path_fault : List ℕ → Option PathFault
 path_fault cs =
     if length cs == 0 then Some Empty
@@ -53,12 +61,7 @@ path_fault cs =
 abbrev pub path_reading : List ℕ → Result Path PathFault
 path_reading cs = or_fault (path_fault cs) (path_of cs)
 
--- A text with that character at its end loses it, once.
-abbrev pub without_last : ℕ → List ℕ → List ℕ
-without_last c [] = []
-without_last c (d ∷ []) = if d == c then [] else d ∷ []
-without_last c (d ∷ e ∷ cs) = d ∷ without_last c (e ∷ cs)
-
+-- A text with a slash at its end loses it, once.
 abbrev pub without_last_slash : List ℕ → List ℕ
 without_last_slash cs = without_last 47 cs
 
@@ -66,12 +69,12 @@ without_last_slash cs = without_last 47 cs
 abbrev pub is_letter : ℕ → Bool
 is_letter c = (nat_le 65 c && nat_le c 90) || (nat_le 97 c && nat_le c 122)
 
--- What stands behind the letters at the front.
+-- What follows the letters at the start.
 abbrev pub after_letters : List ℕ → List ℕ
 after_letters [] = []
 after_letters (c ∷ cs) = if is_letter c then after_letters cs else c ∷ cs
 
--- A letter or more, and `://` behind them.
+-- One or more letters, followed by `://`.
 abbrev pub has_scheme : List ℕ → Bool
 has_scheme [] = false
 has_scheme (c ∷ cs) = is_letter c && starts_with nat_eq (after_letters cs) (codes "://")
@@ -88,7 +91,7 @@ place_of cs = if length cs == 0 then [] else path_of cs
 abbrev pub root_names : List ℕ → Path
 root_names cs = place_of (without_last_slash (drop 1 cs))
 
--- A root: not empty, on this machine, with a slash in front, and names behind it.
+-- A root: not empty, on this machine, and a slash followed by names.
 abbrev pub root_fault : List ℕ → Option PathFault
 root_fault cs =
     if length cs == 0 then Some Empty

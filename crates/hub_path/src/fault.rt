@@ -1,9 +1,9 @@
 use std::alloc::{AllocError, AllocFailed};
 use thiserror::Error;
 
-/// Why a text is no name, no path or no root. It is shown as the fault's name, as in `DotName`.
+/// Why a text is not a name, a path or a root. It is shown as the fault's name, as in `DotName`.
 ///
-/// A reader tells the first fault in its own order, or that memory was refused.
+/// A reader returns the first fault in its own order, or `OutOfMemory`.
 #[derive(Clone, Copy, Debug, PartialEq, Eq, Error)]
 pub enum PathFault {
     /// The text of a path or a root has no characters.
@@ -15,7 +15,7 @@ pub enum PathFault {
     /// A name is `.` or `..`.
     #[error("DotName")]
     DotName,
-    /// A name has a NUL, a CR, an LF or, in `Name::read`, a `/`.
+    /// A name has a NUL, CR, LF or, in `Name::read`, a `/`.
     #[error("BadCharacter")]
     BadCharacter,
     /// A name takes more than `NAME_BYTES` bytes of UTF-8.
@@ -27,13 +27,13 @@ pub enum PathFault {
     /// A path begins with `/`.
     #[error("LeadingSlash")]
     LeadingSlash,
-    /// A root doesn't begin with `/` and isn't on another machine.
+    /// A root doesn't begin with `/` and isn't remote.
     #[error("NotAbsolute")]
     NotAbsolute,
-    /// A root is on another machine: it begins with `//`, or with one ASCII letter or more and `://`.
+    /// A root is remote: it begins with `//`, or with one or more ASCII letters and `://`.
     #[error("RemoteRoot")]
     RemoteRoot,
-    /// Memory was refused; it may come in place of any value or other fault, and nothing was changed.
+    /// Out of memory. It may come in place of any value or other fault, and nothing was changed.
     #[error("OutOfMemory")]
     OutOfMemory,
 }

@@ -1,16 +1,22 @@
 //! Names, paths and roots: the words in which all of hubsync speaks of files.
 //!
-//! A `RelPath` is a list of `Name`s, and a `Root` is an absolute path on this machine. Contracts see a name as the
-//! list of its characters, and a path or a root as the list of its names. Each is read from a text by its `read`,
-//! which answers the value or the first `PathFault`; the limits on lengths belong to the readers alone, and no
-//! method of a value fails for length.
+//! - [`RelPath`] is a path inside a replica: a list of [`Name`]s.
+//! - [`Root`] is an absolute path on this machine, where a replica is.
+//! - [`PathFault`] is the reason why a text is not one of them.
+//! - [`Side`] is one of the two replicas of a profile.
 //!
-//! `specs/Path.antt` says what names, paths, prefixes and their order are, and `specs/Reading.antt` which texts are
-//! names, paths and roots. `specs/Laws.antt` proves what follows, for the proofs of the crates above.
+//! Each value is read from its text by `read`, within limits on lengths, or made of it by `from_text`, without limits.
+//! Only the readers know the limits: no method of a value fails for length. For example `RelPath::read(alloc, "a//b")`
+//! returns the fault `EmptyName`.
+//!
+//! Contracts see a name as the list of its characters, and a path or a root as the list of its names. `specs/Path` says
+//! what names, paths, prefixes and their order are, and `specs/Reading` which texts are names, paths and roots.
+//! `specs/Laws`, `specs/TextLaws` and `specs/ReadBack` prove what follows, for the proofs of the crates above.
+//!
+//! Only functions that return a `Result` allocate.
 #![tactic(auto)]
 
 mod fault;
-mod items;
 pub mod laws;
 mod name;
 mod rel_path;
@@ -21,7 +27,7 @@ mod tests;
 mod text;
 
 pub use fault::PathFault;
-pub use items::Items;
+pub use hub_text::Items;
 pub use name::{NAME_BYTES, Name};
 pub use rel_path::{PATH_NAMES, RelPath};
 pub use root::Root;

@@ -1,27 +1,26 @@
-ghost use Rattle.std.specs.Prelude.{◌≡◌, ◌⊎◌, ◌==◌, length, nat_lt, sum_by, Ok, Err, IfOk, IfErr, IsTrue, chars, encode_utf8_all};
+ghost use Rattle.std.specs.Prelude.{◌≡◌, ◌⊎◌, ◌==◌, ◌&&◌, not, length, nat_lt, sum_by, Ok, Err, IfOk, IfErr, IfSome, IsTrue, chars, encode_utf8_all};
 ghost use Rattle.std.specs.List.{list_any};
 ghost use Rattle.std.specs.Char.{len_utf8};
-ghost use Rattle.std.specs.Ordering.{nat_cmp};
-ghost use Rattle.std.specs.Cmp.Lexicographic.{slice_cmp};
 ghost use Rattle.hub_path.specs.Path as path;
 ghost use Rattle.hub_path.specs.Reading.{name_reading, name_fault};
 
 use crate::fault::PathFault;
-use crate::text::is_blank;
+use hub_text::{compare, is_empty};
 use std::alloc::{AllocError, Global};
 use std::cmp::Ordering;
 use std::fmt;
+use std::hash::{Hash, Hasher};
 use std::marker::Model;
 
-/// How many bytes of UTF-8 a name may have that is read from a text: what common file systems allow (`NAME_MAX` of
-/// POSIX systems).
+/// How many bytes of UTF-8 a name may have that `Name::read` reads: what common file systems allow (`NAME_MAX` of POSIX
+/// systems).
 pub const NAME_BYTES: usize = 255;
 
 /// A name of a path: one or more characters, none of them NUL, CR, LF or `/`, and neither `.` nor `..`.
 ///
-/// POSIX has no NUL and no `/` in a file's name, and `.` and `..` name directories that are there already; CR and LF
-/// are left out because the texts that names stand in are lines (this project's choice). A name keeps its text once.
-/// Names are compared by their characters, as numbers (Unicode scalar values).
+/// POSIX allows no NUL and no `/` in a file's name, and `.` and `..` name directories that are there already. CR and LF
+/// are excluded because names are written in lines (this project's choice). A name keeps its text once. Names are
+/// compared by their characters, as numbers (Unicode scalar values), which is the order of their UTF-8 bytes.
 #[derive(Debug, Drop)]
 pub struct Name {
     text: String,
@@ -39,11 +38,11 @@ impl Model for Name {
 }
 
 impl Name {
-    /// Reads a name of at most `NAME_BYTES` bytes: the whole text is the name.
+    /// Reads a name of at most `NAME_BYTES` bytes. The whole text is the name.
     ///
     /// The fault is the first that applies of `EmptyName` for no characters, `DotName` for `.` and `..`,
-    /// `BadCharacter` for a NUL, CR, LF or `/` anywhere, and `NameTooLong`. `OutOfMemory` comes only for a text that
-    /// is a name and finds no memory for its copy.
+    /// `BadCharacter` for a NUL, CR, LF or `/` anywhere, and `NameTooLong`. `OutOfMemory` is returned only for a text
+    /// that is a name.
     pub fn read(alloc: Global, text: &str) -> Result<Name, PathFault>
         ensures ok { IfOk result (λ n. name_reading (chars text.now) ≡ Ok n) }
         ensures err { IfErr result (λ e. (e ≡ PathFault.OutOfMemory) ⊎ (name_reading (chars text.now) ≡ Err e)) }
@@ -55,7 +54,19 @@ impl Name {
         }
     }
 
-    /// The text of the name, as it was read. It takes no memory.
+    /// Returns the name that this text is, whatever its length, or `None` if the text is not a name.
+    pub fn from_text(alloc: Global, text: &str) -> Result<Option<Name>, AllocError>
+        ensures name { IfOk result (λ o. o ≡ path.name_in (chars text.now)) }
+        ensures valid { IfOk result (λ o. IfSome o (λ n. IsTrue (path.is_name n))) }
+    {
+        if is_name(text) {
+            Ok(Some(with_text(alloc, text)?))
+        } else {
+            Ok(None)
+        }
+    }
+
+    /// Borrows the text of the name.
     pub fn text(&self) -> &str
         ensures text { result.now ≡ encode_utf8_all self.now }
         ensures valid { IsTrue (path.is_name self.now) }
@@ -63,7 +74,7 @@ impl Name {
         self.text.as_str()
     }
 
-    /// The same name once more, or that memory for its text was refused.
+    /// Copies the name.
     pub fn copy(&self) -> Result<Name, AllocError>
         ensures { IfOk result (λ n. n ≡ self.now) }
     {
@@ -73,7 +84,7 @@ impl Name {
     }
 }
 
-/// The name with that text.
+/// Makes the name with this text.
 fn with_text(alloc: Global, text: &str) -> Result<Name, AllocError>
     requires { IsTrue (path.is_name (chars text.now)) }
     ensures name { IfOk result (λ n. n ≡ chars text.now) }
@@ -84,11 +95,11 @@ fn with_text(alloc: Global, text: &str) -> Result<Name, AllocError>
     })
 }
 
-/// What is wrong with a name that is to be read.
+/// Returns what is wrong with the text of a name that is to be read.
 fn fault_of_name(text: &str) -> Option<PathFault>
     ensures { result ≡ name_fault (chars text.now) }
 {
-    if is_blank(text) {
+    if is_empty(text) {
         Some(PathFault::EmptyName)
     } else if is_dots(text) {
         Some(PathFault::DotName)
@@ -99,6 +110,21 @@ fn fault_of_name(text: &str) -> Option<PathFault>
     } else {
         None
     }
+}
+
+/// Returns whether a text is a name, whatever its length.
+fn is_name(text: &str) -> bool
+    ensures { result ≡ path.is_name (chars text.now) }
+{
+    passes_tests(text)
+}
+
+/// Returns whether a text passes the tests of a name, in the order of `read`.
+fn passes_tests(text: &str) -> bool
+    ensures { result ≡ (not (length (chars text.now) == 0) && not (path.is_dots (chars text.now))
+        && not (list_any path.is_forbidden (chars text.now))) }
+{
+    !is_empty(text) && !is_dots(text) && !has_forbidden(text)
 }
 
 fn is_dots(text: &str) -> bool
@@ -119,11 +145,27 @@ fn is_long(text: &str) -> bool
     text.len() > NAME_BYTES
 }
 
-/// A character that stands in no name.
+/// Returns whether no name has this character.
 fn is_forbidden(c: char) -> bool
     ensures { result ≡ path.is_forbidden c }
 {
     matches!(c, '\0' | '\n' | '\r' | '/')
+}
+
+/// A name is hashed as its text is.
+impl Hash for Name {
+    ghost use Rattle.std.specs.Prelude.{encode_utf8_all};
+    ghost use Rattle.std.specs.Hash as fed;
+    ghost use Rattle.std.proofs.Common.{ap};
+    ghost use Rattle.std.proofs.lemmas.Slice.Eq.{bytes_eq-Decides};
+
+    ghost hash_input = { λ n. fed.str (encode_utf8_all n) };
+
+    ghost respects_eq = { λ x y h. ap (λ n. fed.str (encode_utf8_all n)) ((bytes_eq-Decides x y).0 h) };
+
+    fn hash<H: Hasher>(&self, state: &mut H) {
+        self.text().hash(state);
+    }
 }
 
 impl fmt::Display for Name {
@@ -189,13 +231,6 @@ impl Ord for Name {
     ghost matches_eq = { Prim.search (comparing, rules) };
 
     fn cmp(&self, other: &Name) -> Ordering {
-        compared(self.text.as_str(), other.text.as_str())
+        compare(self.text.as_str(), other.text.as_str())
     }
-}
-
-/// Two texts, by their characters.
-fn compared(a: &str, b: &str) -> Ordering
-    ensures { result ≡ slice_cmp nat_cmp (chars a.now) (chars b.now) }
-{
-    a.chars().cmp(b.chars())
 }

@@ -1,21 +1,22 @@
-ghost use Rattle.std.specs.Prelude.{◌≡◌, ◌⊎◌, ◌<◌, ◌↔◌, [], ◌∷◌, ◌++◌, length, slice_get, Some, None, Ok, Err, IfOk, IfErr, IfSome, IsNone, IsTrue, chars, string_bytes, encode_utf8_all};
+ghost use Rattle.std.specs.Prelude.{◌≡◌, ◌⊎◌, ◌<◌, ◌↔◌, [], ◌∷◌, ◌++◌, length, slice_get, Some, Ok, Err, IfOk, IfErr, IfSome, IsNone, IsTrue, chars, string_bytes, encode_utf8_all};
 ghost use Rattle.hub_path.specs.Path as path;
 ghost use Rattle.hub_path.specs.Reading.{path_reading, names_reading, place_of};
 
 use crate::fault::PathFault;
 use crate::name::Name;
-use crate::text::{begins_with_slash, is_blank};
+use crate::text::begins_with_slash;
+use hub_text::is_empty;
 use std::alloc::{AllocError, Global};
 use std::cmp::Ordering;
+use std::hash::{Hash, Hasher};
 use std::marker::Model;
 
-/// How many names a path or a root may have that is read from a text (this project's choice).
+/// How many names a path or a root may have that `read` reads (this project's choice).
 pub const PATH_NAMES: usize = 64;
 
 /// A path inside a replica: its names, from the top down. The path without names stands for the whole replica.
 ///
-/// Each name keeps its text, and the path keeps nothing beside the names. Paths are compared name by name, and a
-/// prefix comes first: `a/b` is before `a-b`.
+/// Paths are compared name by name, and a prefix comes first: `a/b` is before `a-b`.
 #[derive(Debug, Drop)]
 pub struct RelPath {
     names: Vec<Name>,
@@ -33,7 +34,7 @@ impl Model for RelPath {
 }
 
 impl RelPath {
-    /// The whole replica. It takes no memory.
+    /// Returns the path of the whole replica. It doesn't allocate.
     pub fn top(alloc: Global) -> RelPath
         ensures { result ≡ [] }
     {
@@ -42,18 +43,18 @@ impl RelPath {
         }
     }
 
-    /// Reads a path: names of at most `NAME_BYTES` bytes, joined by `/`, `PATH_NAMES` of them at most.
+    /// Reads a path: at most `PATH_NAMES` names of at most `NAME_BYTES` bytes each, joined by `/`.
     ///
-    /// The fault is `Empty` for no characters, `LeadingSlash` where the first one is `/`, else that of the first
-    /// name from the left that has one, as `Name::read` tells it: so `a/` and `a//b` have an `EmptyName`. A name
-    /// after `PATH_NAMES` others is `TooDeep`, whatever it is. `OutOfMemory` may come in place of the path or of a
-    /// fault, once a name was read.
+    /// The fault is `Empty` for no characters, `LeadingSlash` if the first one is `/`, else the fault of the first name
+    /// from the left that has one, as `Name::read` returns it: so `a/` and `a//b` have an `EmptyName`. A name after
+    /// `PATH_NAMES` others is `TooDeep`, whatever it is. `OutOfMemory` may come in place of the path or of a fault, once
+    /// a name was read.
     pub fn read(alloc: Global, text: &str) -> Result<RelPath, PathFault>
         ensures ok { IfOk result (λ p. path_reading (chars text.now) ≡ Ok p) }
         ensures err { IfErr result (λ e. (e ≡ PathFault.OutOfMemory) ⊎ (path_reading (chars text.now) ≡ Err e)) }
         ensures valid { IfOk result (λ p. IsTrue (path.is_path p)) }
     {
-        if is_blank(text) {
+        if is_empty(text) {
             return Err(PathFault::Empty);
         }
         if begins_with_slash(text) {
@@ -64,15 +65,32 @@ impl RelPath {
         })
     }
 
-    /// The text of the path: its names joined by `/`, which is the text that the path was read from. The whole
-    /// replica has the empty text. Memory may be refused.
+    /// Returns the path whose text this is, whatever its length, or `None` if the text is not the text of a path.
+    ///
+    /// A path has one or more names, so the empty text is not the text of a path.
+    pub fn from_text(alloc: Global, text: &str) -> Result<Option<RelPath>, AllocError>
+        ensures path { IfOk result (λ o. o ≡ path.path_in (chars text.now)) }
+        ensures valid { IfOk result (λ o. IfSome o (λ p. IsTrue (path.is_path p))) }
+    {
+        let mut names = Vec::new(alloc);
+        for part in text.split('/') {
+            match Name::from_text(alloc, part)? {
+                Some(name) => names.push(name)?,
+                None => return Ok(None),
+            }
+        }
+        Ok(Some(RelPath { names }))
+    }
+
+    /// Writes the text of the path: its names joined by `/`, which is the text that the path was read from. The whole
+    /// replica has the empty text.
     pub fn text(&self) -> Result<String, AllocError>
         ensures { IfOk result (λ t. string_bytes t ≡ encode_utf8_all (path.text_of self.now)) }
     {
         joined(*self.names.allocator(), self.names.as_slice())
     }
 
-    /// How many names the path has; the whole replica has 0. It takes no memory.
+    /// Returns the number of names. The whole replica has 0.
     pub fn len(&self) -> usize
         ensures len { result ≡ length self.now }
         ensures valid { IsTrue (path.is_place self.now) }
@@ -81,7 +99,7 @@ impl RelPath {
         self.names.len()
     }
 
-    /// The name at that place, counted from 0. It takes no memory.
+    /// Borrows the name at this place, counted from 0.
     pub fn name(&self, i: usize) -> &Name
         requires { i < length self.now }
         ensures name { slice_get self.now i ≡ Some result.now }
@@ -90,18 +108,17 @@ impl RelPath {
         &self.names[i]
     }
 
-    /// Whether that path is a prefix of this one, by names; a path is one of itself.
+    /// Returns whether the given path is a prefix of this one, by names. Each path is a prefix of itself.
     ///
-    /// It takes no memory, and looks at no more names than the prefix has.
+    /// It compares no more names than the prefix has.
     pub fn starts_with(&self, prefix: &RelPath) -> bool
         ensures { result ≡ path.is_over prefix.now self.now }
     {
         self.names.starts_with(prefix.names.as_slice())
     }
 
-    /// The path without its last name: of a path of one name, the whole replica, and the whole replica has none.
-    ///
-    /// The names are copied, and memory for them may be refused.
+    /// Copies the path without its last name. The parent of a path of one name is the whole replica, and the whole
+    /// replica has no parent.
     pub fn parent(&self) -> Result<Option<RelPath>, AllocError>
         ensures none { IfOk result (λ p. IsNone p ↔ (self.now ≡ [])) }
         ensures parent { IfOk result (λ p. IfSome p (λ q. q ≡ path.parent self.now)) }
@@ -114,9 +131,8 @@ impl RelPath {
         }
     }
 
-    /// The path with one more name at its end. It may have any number of names.
-    ///
-    /// The path's names are copied. Where memory is refused the new name is dropped.
+    /// Copies the path, with one more name at its end. It may have any number of names. If it is out of memory, the
+    /// new name is dropped.
     pub fn child(&self, name: Name) -> Result<RelPath, AllocError>
         ensures { IfOk result (λ p. p ≡ self.now ++ name ∷ []) }
     {
@@ -126,7 +142,7 @@ impl RelPath {
         Ok(child)
     }
 
-    /// The same path once more, or that memory for its names was refused.
+    /// Copies the path.
     pub fn copy(&self) -> Result<RelPath, AllocError>
         ensures { IfOk result (λ p. p ≡ self.now) }
     {
@@ -136,7 +152,7 @@ impl RelPath {
     }
 }
 
-/// Copies of these names.
+/// Copies names.
 fn copies(alloc: Global, names: &[Name]) -> Result<Vec<Name>, AllocError>
     ensures { IfOk result (λ v. v.items ≡ names.now) }
 {
@@ -147,13 +163,13 @@ fn copies(alloc: Global, names: &[Name]) -> Result<Vec<Name>, AllocError>
     Ok(copies)
 }
 
-/// The place that a text names, which may be empty.
+/// Reads the path of a text, which may be empty: then it is that of the whole replica.
 pub(crate) fn read_place(alloc: Global, text: &str) -> Result<RelPath, PathFault>
     ensures ok { IfOk result (λ p. names_reading (place_of (chars text.now)) ≡ Ok p) }
     ensures err { IfErr result (λ e. (e ≡ PathFault.OutOfMemory) ⊎ (names_reading (place_of (chars text.now)) ≡ Err e)) }
     ensures valid { IfOk result (λ p. IsTrue (path.is_place p)) }
 {
-    if is_blank(text) {
+    if is_empty(text) {
         return Ok(RelPath::top(alloc));
     }
     Ok(RelPath {
@@ -161,7 +177,7 @@ pub(crate) fn read_place(alloc: Global, text: &str) -> Result<RelPath, PathFault
     })
 }
 
-/// The names of a text, which are joined by `/`.
+/// Reads the names of a text, which are joined by `/`.
 fn read_names(alloc: Global, text: &str) -> Result<Vec<Name>, PathFault>
     ensures ok { IfOk result (λ v. names_reading (path.path_of (chars text.now)) ≡ Ok v.items) }
     ensures err { IfErr result (λ e. (e ≡ PathFault.OutOfMemory) ⊎ (names_reading (path.path_of (chars text.now)) ≡ Err e)) }
@@ -178,7 +194,7 @@ fn read_names(alloc: Global, text: &str) -> Result<Vec<Name>, PathFault>
     Ok(names)
 }
 
-/// These names, joined by `/`.
+/// Joins names by `/`.
 fn joined(alloc: Global, names: &[Name]) -> Result<String, AllocError>
     ensures { IfOk result (λ t. string_bytes t ≡ encode_utf8_all (path.text_of names.now)) }
 {
@@ -190,6 +206,23 @@ fn joined(alloc: Global, names: &[Name]) -> Result<String, AllocError>
         text.push_str(name.text())?;
     }
     Ok(text)
+}
+
+/// A path is hashed as the list of its names is.
+impl Hash for RelPath {
+    ghost use Rattle.std.specs.Prelude.{encode_utf8_all};
+    ghost use Rattle.std.specs.Hash as fed;
+    ghost use Rattle.std.specs.Hash.{items_Alike};
+    ghost use Rattle.std.proofs.Common.{ap};
+    ghost use Rattle.std.proofs.lemmas.Slice.Eq.{bytes_eq-Decides};
+
+    ghost hash_input = { fed.slice (λ n. fed.str (encode_utf8_all n)) };
+
+    ghost respects_eq = { (items_Alike (record { fed = λ x y h. ap (λ n. fed.str (encode_utf8_all n)) ((bytes_eq-Decides x y).0 h) })).fed };
+
+    fn hash<H: Hasher>(&self, state: &mut H) {
+        self.names.hash(state);
+    }
 }
 
 impl PartialEq for RelPath {

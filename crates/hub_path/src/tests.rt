@@ -1,5 +1,6 @@
-use crate::{Items, Name, PathFault, RelPath, Root, Side, without_last_slash};
+use crate::{Name, PathFault, RelPath, Root, Side, without_last_slash};
 use std::cmp::Ordering;
+use std::hash::{DefaultHasher, Hash, Hasher};
 use std::test::Fail;
 
 #[test]
@@ -28,6 +29,13 @@ fn a_name_is_read_or_its_first_fault_told(rt: HostRuntime) -> Result<(), Fail> {
             Err(fault) => fault.to_string(rt.alloc())?,
         };
         assert_eq!(rt; told.as_str(), want, "at {text:?}");
+    }
+    assert!(rt; Name::from_text(rt.alloc(), long_and_bad.as_str())?.is_none());
+    assert!(rt; Name::from_text(rt.alloc(), "..")?.is_none());
+    assert!(rt; Name::from_text(rt.alloc(), "")?.is_none());
+    match Name::from_text(rt.alloc(), too_long.as_str())? {
+        Some(name) => assert_eq!(rt; name.text(), too_long.as_str()),
+        None => assert!(rt; false),
     }
     let name = Name::read(rt.alloc(), "docs")?;
     let copy = name.copy()?;
@@ -145,7 +153,10 @@ fn a_root_is_read_or_its_first_fault_told(rt: HostRuntime) -> Result<(), Fail> {
         (too_deep.as_str(), "TooDeep"),
     ] {
         let told = match Root::read(rt.alloc(), text) {
-            Ok(root) => root.text()?,
+            Ok(root) => {
+                assert_eq!(rt; root.as_str(), root.text()?.as_str());
+                root.text()?
+            }
             Err(fault) => fault.to_string(rt.alloc())?,
         };
         assert_eq!(rt; told.as_str(), want, "at {text:?}");
@@ -191,14 +202,40 @@ fn one_slash_is_dropped(rt: HostRuntime) {
 }
 
 #[test]
-fn items_are_kept_in_order(rt: HostRuntime) -> Result<(), Fail> {
-    let mut items = Items::new(rt.alloc());
-    assert!(rt; items.is_empty());
-    items.push(7)?;
-    items.push(8)?;
-    assert_eq!(rt; items.len(), 2);
-    assert_eq!(rt; items.as_slice(), [7, 8].as_slice());
-    let back = Items::from_vec(items.into_vec());
-    assert_eq!(rt; back.as_slice(), [7, 8].as_slice());
+fn a_path_of_any_length_is_made_of_its_text(rt: HostRuntime) -> Result<(), Fail> {
+    let deep = format!(in rt.alloc(); "{}a", "a/".repeat(rt.alloc(), 64)?)?;
+    for (text, names, want) in [
+        ("docs", 1, "docs"),
+        ("docs/x", 2, "docs/x"),
+        (deep.as_str(), 65, deep.as_str()),
+        ("", 0, "not a path"),
+        ("/", 0, "not a path"),
+        ("/a", 0, "not a path"),
+        ("a/", 0, "not a path"),
+        ("a/../b", 0, "not a path"),
+        ("a\n", 0, "not a path"),
+    ] {
+        let (count, told) = match RelPath::from_text(rt.alloc(), text)? {
+            Some(path) => (path.len(), path.text()?),
+            None => (0, "not a path".to_string(rt.alloc())?),
+        };
+        assert_eq!(rt; told.as_str(), want, "at {text:?}");
+        assert_eq!(rt; count, names, "at {text:?}");
+    }
+    Ok(())
+}
+
+fn hash_of<T: Hash>(value: &T) -> u64 {
+    let mut state = DefaultHasher::new();
+    value.hash(&mut state);
+    state.finish()
+}
+
+#[test]
+fn equal_values_hash_alike(rt: HostRuntime) -> Result<(), Fail> {
+    let root = Root::read(rt.alloc(), "/srv/hub/")?;
+    assert_eq!(rt; hash_of(&root), hash_of(&root.copy()?));
+    assert_eq!(rt; hash_of(&root), hash_of(root.path()));
+    assert_eq!(rt; hash_of(&Name::read(rt.alloc(), "srv")?), hash_of(&"srv"));
     Ok(())
 }

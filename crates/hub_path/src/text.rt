@@ -1,38 +1,34 @@
-ghost use Rattle.std.specs.Prelude.{◌≡◌, ◌==◌, ◌∷◌, false, length, nat_eq, codes, chars, MatchOption};
+ghost use Rattle.std.specs.Prelude.{◌≡◌, ◌∷◌, false, nat_eq, codes, chars, MatchOption};
 ghost use Rattle.std.specs.List.{starts_with};
 ghost use Rattle.hub_path.specs.Reading as reading;
 
-/// Whether a text has no characters.
-pub(crate) fn is_blank(text: &str) -> bool
-    ensures { result ≡ (length (chars text.now) == 0) }
-{
-    text.is_empty()
-}
+use hub_text::{begins_with, without_last};
 
-/// Whether a text begins with `/`.
+/// Returns whether a text begins with `/`.
 pub(crate) fn begins_with_slash(text: &str) -> bool
     ensures { result ≡ reading.begins_with_slash (chars text.now) }
 {
-    text.starts_with("/")
+    begins_with(text, '/')
 }
 
-/// What stands behind a `/` at the front, if there is one.
+/// Returns what follows a `/` at the start of a text, if there is one.
 pub(crate) fn after_slash(text: &str) -> Option<&str>
-    ensures { MatchOption result (reading.begins_with_slash (chars text.now) ≡ false) (λ rest. chars text.now ≡ 47 ∷ chars rest.now) }
+    ensures { MatchOption result (reading.begins_with_slash (chars text.now) ≡ false)
+        (λ rest. chars text.now ≡ 47 ∷ chars rest.now) }
 {
     text.strip_prefix('/')
 }
 
-/// A text less the `/` at its end, if there is one, lent from the text. It takes no memory.
+/// Borrows a text without the `/` at its end, if it ends with one.
 ///
-/// One slash is dropped and no more (this project's choice): of `a//` it leaves `a/`, and of `/` the empty text.
+/// Only one slash is dropped (this project's choice): `a//` gives `a/`, and `/` the empty text.
 pub fn without_last_slash(text: &str) -> &str
     ensures { chars result.now ≡ reading.without_last_slash (chars text.now) }
 {
-    text.strip_suffix('/').unwrap_or(text)
+    without_last(text, '/')
 }
 
-/// Whether a root is on another machine: it begins with `//`, or with letters and `://`.
+/// Returns whether a root is remote: it begins with `//`, or with letters and `://`.
 pub(crate) fn is_remote(text: &str) -> bool
     ensures { result ≡ reading.is_remote (chars text.now) }
 {
@@ -60,7 +56,7 @@ fn is_scheme_first(bytes: &[u8]) -> bool
     }
 }
 
-/// The bytes from the first one on that is no letter.
+/// Borrows the bytes from the first one on that is not a letter.
 fn after_letters(bytes: &[u8]) -> &[u8]
     ensures { result.now ≡ reading.after_letters bytes.now }
 {

@@ -2,7 +2,6 @@ pub mod Cuts
 pub mod Words
 pub mod KeptValues
 pub mod ProfileFacts
-pub mod Settings
-pub mod Steps
+pub mod Runs
 pub mod Places
 pub mod Whole

@@ -1,8 +1,9 @@
 -- What is read of a text is made of names.
-use Rattle.std.proofs.Common.{◌≡◌, ◌==◌, ℕ, zero, suc, ◌+◌, Bool, true, false, cond, ◌&&◌, List, [], ◌∷◌, Option, Some, None, Ok, Err, Result, IsTrue, length, take, drop, reverse, map, filter_map, codes, refl, subst}
-use Rattle.std.specs.List.{list_all, slice_split, onto_first, enumerate_from, after_first, position_or_len}
+use Rattle.std.proofs.Common.{◌≡◌, ◌==◌, ℕ, zero, suc, ◌+◌, Bool, true, false, cond, ◌&&◌, not, List, [], ◌∷◌, ◌++◌, Option, Some, None, Ok, Err, Result, IsTrue, length, take, drop, reverse, map, filter_map, codes, refl, subst, ◌∙◌}
+use Rattle.std.specs.List.{list_all, slice_split, onto_first, enumerate_from, after_first, position_or_len, fold}
 use Rattle.std.specs.Str.{all_scalars}
 use Rattle.std.proofs.lemmas.Bool.{and_parts, and_from}
+use Rattle.std.proofs.lemmas.List.Folds.{list_all-append}
 use lib.Utf8.{scalar}
 use mathlib.Core.List.{reverse_aux}
 use Rattle.hub_path.specs.Path.{Path, is_name, is_place, path_of}
@@ -13,8 +14,18 @@ use Rattle.hub_path.specs.declared.rel_path.TheConstants.{PATH_NAMES}
 use Rattle.hub_path.specs.NameFacts.{is_name-no_fault}
 use Rattle.hub_path.specs.ReadNames.{or_fault-Ok}
 use Rattle.hub_glob.specs.Blanks.{is_blank, skip_blanks}
-use Rattle.hub_profile.specs.Lines.{Setting, setting, settings, settings_of, is_setting, line_text, named, values, trimmed, is_one_of}
-use Rattle.hub_profile.specs.Reading.{ok_part, kept_reading, roots_of, path_values}
+use Rattle.hub_glob.specs.Specification.{Specification}
+use Rattle.hub_glob.specs.Reading.{spec_reading}
+use Rattle.hub_glob.specs.declared.fault.GlobFault.{GlobFault}
+use Rattle.hub_profile.specs.declared.fault.Fault.{Fault}
+use Rattle.hub_profile.specs.declared.fault.Fault.TheVariants.{TooMany, IncludeLeftOut, NoEquals}
+use Rattle.hub_profile.specs.declared.fault.ProfileFault.{ProfileFault}
+use Rattle.hub_profile.specs.declared.key.Key.{Key}
+use Rattle.hub_profile.specs.declared.key.Key.TheVariants as key
+use Rattle.hub_profile.specs.Lines.{setting, is_setting, is_include, has_equals, line_text, trimmed}
+use Rattle.hub_profile.specs.LineByLine.{with_pair, with_line, at_line, and_line, lines_reading, look_up}
+use Rattle.hub_profile.specs.Said.{Said, nothing}
+use Rattle.hub_profile.specs.Reading.{kept_reading, keys, with_root, with_path, with_ignore, with_ignorenot, has_all_paths, has_all_patterns, with_value, with_key, with_preference}
 
 -- Cuts of characters are characters.
 cut_either : (b : Bool) (xs ys : List ℕ) → all_scalars xs ≡ true → all_scalars ys ≡ true → all_scalars (cond b xs ys) ≡ true
@@ -111,35 +122,76 @@ kept_is_place cs p s h = by_case (length cs == 0) (begins_with_slash cs) h
     by_case false true e = cc
     by_case false false e = path_is_place (without_last_slash cs) p (cut_last 47 cs s) e
 
--- Each value that is read from characters.
-read_place : (f : List ℕ → Result Path PathFault) → ((cs : List ℕ) (p : Path) → all_scalars cs ≡ true → f cs ≡ Ok p → is_place p ≡ true) → (vs : List (List ℕ)) → list_all all_scalars vs ≡ true → list_all is_place (filter_map (λ v. ok_part (f v)) vs) ≡ true
-read_place f fine [] h = refl
-read_place f fine (v ∷ vs) h =
-    let parts = and_parts (all_scalars v) (list_all all_scalars vs) h in
-    by_case (f v) refl (read_place f fine vs parts.1) parts.0
+-- The roots and the `path` values of what is said are places.
+abbrev pub ArePlaces : Said → Type 0
+ArePlaces said = IsTrue (list_all is_place said.roots) × IsTrue (list_all is_place said.paths)
+
+abbrev pub IfSaid : {E : Type 0} → Result Said E → Type 0
+IfSaid (Ok said) = ArePlaces said
+IfSaid (Err f) = Unit {0}
+
+one_more : (ps : List Path) (p : Path) → list_all is_place ps ≡ true → is_place p ≡ true → list_all is_place (ps ++ p ∷ []) ≡ true
+one_more ps p h k = list_all-append is_place ps (p ∷ []) ∙ and_from (list_all is_place ps) (is_place p && true) h (and_from (is_place p) true k refl)
+
+root_said : (said : Said) (cs : List ℕ) (r : Result Path PathFault) → ArePlaces said → all_scalars cs ≡ true → root_reading cs ≡ r → IfSaid (with_root said r)
+root_said said cs (Ok p) h s e = (one_more said.roots p h.0 (root_is_place cs p s e), h.1)
+root_said said cs (Err f) h s e = tt
+
+path_said : (said : Said) (cs : List ℕ) (r : Result Path PathFault) → ArePlaces said → all_scalars cs ≡ true → kept_reading cs ≡ r → IfSaid (with_path said r)
+path_said said cs (Ok p) h s e = (h.0, one_more said.paths p h.1 (kept_is_place cs p s e))
+path_said said cs (Err f) h s e = tt
+
+ignore_said : (said : Said) (r : Result Specification GlobFault) → ArePlaces said → IfSaid (with_ignore said r)
+ignore_said said (Ok spec) h = h
+ignore_said said (Err f) h = tt
+
+ignorenot_said : (said : Said) (r : Result Specification GlobFault) → ArePlaces said → IfSaid (with_ignorenot said r)
+ignorenot_said said (Ok spec) h = h
+ignorenot_said said (Err f) h = tt
+
+unless_many : (b : Bool) (r : Result Said Fault) → IfSaid r → IfSaid (cond b (Err TooMany) r)
+unless_many true r h = tt
+unless_many false r h = h
+
+value_said : (k : Key) (said : Said) (v : List ℕ) → ArePlaces said → all_scalars v ≡ true → IfSaid (with_value k said v)
+value_said key.Root said v h s = root_said said v (root_reading v) h s refl
+value_said key.Path said v h s = unless_many (has_all_paths said) _ (path_said said v (kept_reading v) h s refl)
+value_said key.Ignore said v h s = unless_many (has_all_patterns said) _ (ignore_said said (spec_reading v) h)
+value_said key.IgnoreNot said v h s = unless_many (has_all_patterns said) _ (ignorenot_said said (spec_reading v) h)
+
+key_said : (o : Option Key) (said : Said) (name v : List ℕ) → ArePlaces said → all_scalars v ≡ true → IfSaid (with_key o said name v)
+key_said (Some k) said name v h s = value_said k said v h s
+key_said None said name v h s = tt
+
+pair_said : (said : Said) (a b : Bool) (name v : List ℕ) → ArePlaces said → all_scalars v ≡ true → IfSaid (with_pair with_preference said (cond a (Err IncludeLeftOut) (cond (not b) (Err NoEquals) (Ok (name, v)))))
+pair_said said true b name v h s = tt
+pair_said said false false name v h s = tt
+pair_said said false true name v h s = key_said (look_up name keys) said name v h s
+
+setting_said : (said : Said) (l : List ℕ) → ArePlaces said → all_scalars l ≡ true → IfSaid (with_pair with_preference said (setting l))
+setting_said said l h s =
+    pair_said said (is_include l) (has_equals l) _ (trimmed (after_first (λ c. c == 61) l)) h (cut_around (after_first (λ c. c == 61) l) (cut_back (position_or_len (λ c. c == 61) l + 1) l s))
+
+line_said : (said : Said) (l : List ℕ) → ArePlaces said → all_scalars l ≡ true → IfSaid (with_line with_preference said l)
+line_said said l h s = by_case (is_setting (line_text l)) (setting_said said (line_text l) h (cut_around (without_last 13 l) (cut_last 13 l s)))
   where
-    by_case : (r : Result Path PathFault) → f v ≡ r → list_all is_place (filter_map (λ v. ok_part (f v)) vs) ≡ true → all_scalars v ≡ true → list_all is_place (filter_map (λ v. ok_part (f v)) (v ∷ vs)) ≡ true
-    by_case (Ok p) e rest s = rw e (and_from (is_place p) _ (fine v p s e) rest)
-    by_case (Err g) e rest s = rw e rest
+    by_case : (b : Bool) → IfSaid (with_pair with_preference said (setting (line_text l))) → IfSaid (cond b (with_pair with_preference said (setting (line_text l))) (Ok said))
+    by_case true k = k
+    by_case false k = h
 
--- Each value of the settings of characters.
-one_named : (ws : List (List ℕ)) (b : Bool) (s : Setting) (ss : List Setting) → all_scalars s.value ≡ true → list_all all_scalars (map (λ (t : Setting). t.value) ss) ≡ true → list_all all_scalars (map (λ (t : Setting). t.value) (cond b (s ∷ ss) ss)) ≡ true
-one_named ws true s ss h k = and_from (all_scalars s.value) _ h k
-one_named ws false s ss h k = k
+at_line_said : (n : ℕ) (r : Result Said Fault) → IfSaid r → IfSaid (at_line n r)
+at_line_said n (Ok said) h = h
+at_line_said n (Err f) h = tt
 
-values_read : (ws : List (List ℕ)) (n : ℕ) (ls : List (List ℕ)) → list_all all_scalars ls ≡ true → list_all all_scalars (values ws (settings_of (enumerate_from n ls))) ≡ true
-values_read ws n [] h = refl
-values_read ws n (l ∷ ls) h =
-    let parts = and_parts (all_scalars l) (list_all all_scalars ls) h in
-    let text : all_scalars (line_text l) ≡ true = cut_around (without_last 13 l) (cut_last 13 l parts.0) in
-    by_case (is_setting (line_text l)) text (values_read ws (n + 1) ls parts.1)
-  where
-    by_case : (b : Bool) → all_scalars (line_text l) ≡ true → list_all all_scalars (values ws (settings_of (enumerate_from (n + 1) ls))) ≡ true → list_all all_scalars (values ws (cond b (setting n (line_text l) ∷ settings_of (enumerate_from (n + 1) ls)) (settings_of (enumerate_from (n + 1) ls)))) ≡ true
-    by_case true text rest = one_named ws (is_one_of ws (setting n (line_text l)).name) (setting n (line_text l)) (named ws (settings_of (enumerate_from (n + 1) ls))) (cut_around (after_first (λ c. c == 61) (line_text l)) (cut_back (position_or_len (λ c. c == 61) (line_text l) + 1) (line_text l) text)) rest
-    by_case false text rest = rest
+and_line_said : (r : Result Said ProfileFault) (n : ℕ) (l : List ℕ) → IfSaid r → all_scalars l ≡ true → IfSaid (and_line with_preference r (n, l))
+and_line_said (Ok said) n l h s = at_line_said n (with_line with_preference said l) (line_said said l h s)
+and_line_said (Err f) n l h s = tt
 
-pub roots_are_places : (cs : List ℕ) → all_scalars cs ≡ true → IsTrue (list_all is_place (roots_of (settings cs)))
-roots_are_places cs s = read_place root_reading root_is_place (values (codes "root" ∷ []) (settings cs)) (values_read (codes "root" ∷ []) 1 (slice_split (λ c. c == 10) cs) (cut_all (λ c. c == 10) cs s))
+lines_said : (n : ℕ) (ls : List (List ℕ)) (r : Result Said ProfileFault) → list_all all_scalars ls ≡ true → IfSaid r → IfSaid (fold (and_line with_preference) r (enumerate_from n ls))
+lines_said n [] r s h = h
+lines_said n (l ∷ ls) r s h =
+    let parts = and_parts (all_scalars l) (list_all all_scalars ls) s in
+    lines_said (n + 1) ls (and_line with_preference r (n, l)) parts.1 (and_line_said r n l h parts.0)
 
-pub values_are_places : (cs : List ℕ) → all_scalars cs ≡ true → IsTrue (list_all is_place (path_values (settings cs)))
-values_are_places cs s = read_place kept_reading kept_is_place (values (codes "path" ∷ []) (settings cs)) (values_read (codes "path" ∷ []) 1 (slice_split (λ c. c == 10) cs) (cut_all (λ c. c == 10) cs s))
+pub said_are_places : (cs : List ℕ) (said : Said) → all_scalars cs ≡ true → lines_reading with_preference nothing cs ≡ Ok said → ArePlaces said
+said_are_places cs said s h = subst IfSaid h (lines_said 1 (slice_split (λ c. c == 10) cs) (Ok nothing) (cut_all (λ c. c == 10) cs s) (refl, refl))

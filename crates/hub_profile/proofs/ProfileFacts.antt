@@ -6,10 +6,10 @@ use Rattle.std.proofs.lemmas.Bool.Decides.{same_from_decides, Decides-like}
 use Rattle.std.proofs.lemmas.Slice.Eq.{slice_eq-Decides, bytes_eq-Decides}
 use Rattle.std.proofs.lemmas.List.Folds.{list_any-append}
 use Rattle.hub_path.specs.Path.{Name, Path, path_eq, is_over, is_place, none_over}
-use Rattle.hub_glob.specs.Specification.{Specification}
 use Rattle.hub_profile.specs.declared.fault.Fault.TheVariants as fault
 use Rattle.hub_profile.specs.Facts.{are_roots, are_kept}
 use Rattle.hub_profile.specs.Parts.{IsProfile}
+use Rattle.hub_profile.specs.Said.{Said}
 use Rattle.hub_profile.specs.Reading.{adds, kept_after, kept, or_whole, roots_fault, profile}
 
 path_eq-turned : (p q : Path) → path_eq p q ≡ path_eq q p
@@ -86,8 +86,8 @@ roots_facts (r ∷ s ∷ []) h k = and_from (list_all is_place (r ∷ s ∷ []))
 roots_facts (r ∷ s ∷ t ∷ rs) h k = cc
 
 -- Roots without a fault and values that are places make a profile.
-pub IsProfile-profile : (name : Name) (roots values : List Path) (ignore ignorenot : List Specification) → IsTrue (list_all is_place roots) → IsTrue (list_all is_place values) → roots_fault roots ≡ None → IsProfile (profile name roots values ignore ignorenot)
-IsProfile-profile name roots values ignore ignorenot r v k = record {
-  roots = roots_facts roots r k;
-  paths = kept_facts (kept values) (list_all-kept is_place values [] values v) (none_over-kept values [] values (λ p h. h));
+pub IsProfile-profile : (name : Name) (said : Said) → IsTrue (list_all is_place said.roots) → IsTrue (list_all is_place said.paths) → roots_fault said.roots ≡ None → IsProfile (profile name said)
+IsProfile-profile name said r v k = record {
+  roots = roots_facts said.roots r k;
+  paths = kept_facts (kept said.paths) (list_all-kept is_place said.paths [] said.paths v) (none_over-kept said.paths [] said.paths (λ p h. h));
 }

@@ -1,6 +1,8 @@
 -- Tests of a text against ASCII characters.
-use Rattle.std.proofs.Common.{◌≡◌, ℕ, ◌<◌, Bool, true, false, ◌||◌, List, [], ◌∷◌, nat_lt, nat_eq, refl, sym, ap, ◌∙◌, arith, get_or, Decides, bytes_eq, MatchBool, None, length, ◌++◌, encode_utf8}
-use Rattle.std.specs.List.{list_all, starts_with}
+use Rattle.std.proofs.Common.{◌≡◌, ℕ, ◌<◌, Bool, true, false, ◌||◌, List, [], ◌∷◌, nat_lt, nat_eq, refl, sym, ap, ◌∙◌, arith, get_or, Decides, bytes_eq, MatchBool, Some, None, cond, map, length, ◌++◌, encode_utf8}
+use Rattle.std.specs.List.{list_all, starts_with, find}
+use Rattle.std.specs.Option.{option_map}
+use denote.Ref.{Bor}
 use Rattle.std.specs.Str.{IsUtf8, chars, encode_utf8_all}
 use Rattle.std.specs.Str.Pattern.{HasPrefixMatch, FindsCharPrefix}
 use Rattle.std.proofs.lemmas.Str.{encodes-chars, byte_from_char, char_from_byte, length-le-encodes}
@@ -9,6 +11,7 @@ use Rattle.std.proofs.lemmas.Bool.{and_parts, and_from, eqb-true, eq-eqb, false�
 use Rattle.std.proofs.lemmas.Bool.Decides.{same_from_decides, Decides-like}
 use Rattle.std.proofs.lemmas.Slice.Eq.{bytes_eq-Decides}
 use Rattle.hub_glob.specs.AsciiWords.{is_word}
+use Rattle.hub_profile.specs.LineByLine.{look_up}
 
 -- A text is an ASCII word exactly where its characters are.
 pub word_is : (t bs : List ℕ) → IsUtf8 bs → list_all (λ c. nat_lt c 128) t ≡ true → bytes_eq t bs ≡ bytes_eq (chars bs) t
@@ -25,6 +28,28 @@ begins_by c over low (d ∷ ds) bs e = (
 pub begins : (c : ℕ) (bs : List ℕ) (r : Bool) → 0 < c → c < 128 → IsUtf8 bs → MatchBool r (HasPrefixMatch (FindsCharPrefix c) bs) (FindsCharPrefix c bs None) → r ≡ starts_with nat_eq (chars bs) (c ∷ [])
 begins c bs r over low u h = same_from_decides r (starts_with nat_eq (chars bs) (c ∷ [])) (starts_char c bs r h low over) (begins_by c over low (chars bs) bs (encodes-chars bs u))
 
-pub or_false : (a b : Bool) → a ≡ b → a ≡ (b || false)
-or_false a true e = e
-or_false a false e = e
+-- The rows of a table in code, by what their names point to.
+abbrev pub rows_of : {K : Type 0} → List (Bor (List ℕ) × K) → List (List ℕ × K)
+rows_of {K = K} rows = map (λ (row : Bor (List ℕ) × K). (row.0.now, row.1)) rows
+
+abbrev pub are_words : {K : Type 0} → List (List ℕ × K) → Bool
+are_words {K = K} rows = list_all (λ (row : List ℕ × K). list_all (λ c. nat_lt c 128) row.0) rows
+
+-- What a search for a name finds.
+find_row : {K : Type 0} (bs : List ℕ) (rows : List (Bor (List ℕ) × K)) → IsUtf8 bs → are_words (rows_of rows) ≡ true
+    → option_map (λ (row : Bor (List ℕ) × K). row.1) (find (λ (row : Bor (List ℕ) × K). bytes_eq row.0.now bs) rows) ≡ look_up (chars bs) (rows_of rows)
+find_row bs [] u h = refl
+find_row {K = K} bs (row ∷ rows) u h =
+    let ascii = and_parts (list_all (λ c. nat_lt c 128) row.0.now) _ h in
+    by_case (bytes_eq row.0.now bs) (bytes_eq (chars bs) row.0.now) (word_is row.0.now bs u ascii.0) (find_row bs rows u ascii.1)
+  where
+    by_case : (a b : Bool) → a ≡ b → option_map (λ (r : Bor (List ℕ) × K). r.1) (find (λ (r : Bor (List ℕ) × K). bytes_eq r.0.now bs) rows) ≡ look_up (chars bs) (rows_of rows)
+        → option_map (λ (r : Bor (List ℕ) × K). r.1) (cond a (Some row) (find (λ (r : Bor (List ℕ) × K). bytes_eq r.0.now bs) rows)) ≡ cond b (Some row.1) (look_up (chars bs) (rows_of rows))
+    by_case true true e rest = refl
+    by_case true false e rest = cc
+    by_case false true e rest = cc
+    by_case false false e rest = rest
+
+pub look_up-find : {K : Type 0} (bs : List ℕ) (rows : List (Bor (List ℕ) × K)) (table : List (List ℕ × K)) → IsUtf8 bs → rows_of rows ≡ table → are_words table ≡ true
+    → option_map (λ (row : Bor (List ℕ) × K). row.1) (find (λ (row : Bor (List ℕ) × K). bytes_eq row.0.now bs) rows) ≡ look_up (chars bs) table
+look_up-find bs rows table u e h = find_row bs rows u (ap are_words e ∙ h) ∙ ap (look_up (chars bs)) e

@@ -1,5 +1,5 @@
 -- Worked examples.
-use Rattle.std.specs.Prelude.{◌≡◌, ℕ, true, false, map, List, [], ◌∷◌, ◌++◌, Option, Some, None, Ok, Err, codes, refl}
+use Rattle.std.specs.Prelude.{◌≡◌, ℕ, true, false, map, List, [], ◌∷◌, ◌++◌, Option, Some, None, Result, Ok, Err, codes, refl}
 use Rattle.std.specs.Str.{is_utf8, chars}
 use Rattle.hub_path.specs.Path.{Path, path_of}
 use Rattle.hub_path.specs.declared.fault.PathFault.TheVariants as path
@@ -10,23 +10,38 @@ use Rattle.hub_glob.specs.declared.fault.GlobFault.{GlobFault}
 use Rattle.hub_glob.specs.declared.fault.GlobFault.TheVariants as glob
 use Rattle.hub_profile.specs.Facts.{are_roots, are_kept}
 use Rattle.hub_profile.specs.Parts.{Parts, IsProfile}
-use Rattle.hub_profile.specs.Lines.{Setting, settings, line_text}
-use Rattle.hub_profile.specs.Reading.{profile_fault, profile_of, profile_reading, profile_in}
+use Rattle.hub_profile.specs.Lines.{line_text}
+use Rattle.hub_profile.specs.LineByLine.{lines_reading}
+use Rattle.hub_profile.specs.Said.{Said, nothing}
+use Rattle.hub_profile.specs.Reading.{with_preference, kept, or_whole, profile, profile_reading, profile_in}
+use Rattle.hub_profile.specs.Rules.{rules_in}
 use Rattle.hub_profile.specs.declared.fault.Fault.{Fault}
 use Rattle.hub_profile.specs.declared.fault.Fault.TheVariants as fault
 use Rattle.hub_profile.specs.declared.fault.ProfileFault.{ProfileFault}
 
+abbrev fault_of : {T : Type 0} → Result T ProfileFault → Option ProfileFault
+fault_of (Ok x) = None
+fault_of (Err f) = Some f
+
 -- The fault of a text.
 abbrev faulty : List ℕ → Option ProfileFault
-faulty t = profile_fault (settings t)
+faulty t = fault_of (profile_reading [] t)
 
 -- Two roots, and a third line.
 abbrev third : List ℕ → Option ProfileFault
 third t = faulty (codes "root = /srv/hub\nroot = /srv/s1\n" ++ t)
 
+-- What the lines of a text say, whose roots may be missing.
+abbrev said_or : Result Said ProfileFault → Said
+said_or (Ok said) = said
+said_or (Err f) = nothing
+
+abbrev said_in : List ℕ → Said
+said_in t = said_or (lines_reading with_preference nothing t)
+
 -- The kept values of a profile.
-abbrev kept_in : List Setting → List Path
-kept_in ss = (profile_of [] ss).paths
+abbrev kept_in : List ℕ → List Path
+kept_in t = or_whole (kept (said_in t).paths)
 
 abbrev at : ℕ → Fault → Option ProfileFault
 at n f = Some (record { line = n; fault = f })
@@ -109,13 +124,13 @@ a_mark_belongs_to_the_name : faulty (65279 ∷ codes "root = /a") ≡ at 1 (faul
 a_mark_belongs_to_the_name = refl
 
 -- An equal value and one below another add nothing, before and after it.
-values_below_add_nothing : kept_in (settings (codes "path = a/b\npath = c/\npath = a\npath = c")) ≡ path_of (codes "c") ∷ path_of (codes "a") ∷ []
+values_below_add_nothing : kept_in (codes "path = a/b\npath = c/\npath = a\npath = c") ≡ path_of (codes "c") ∷ path_of (codes "a") ∷ []
 values_below_add_nothing = refl
 
-no_value_is_the_whole_replica : kept_in (settings (codes "root = /a")) ≡ [] ∷ []
+no_value_is_the_whole_replica : kept_in (codes "root = /a") ≡ [] ∷ []
 no_value_is_the_whole_replica = refl
 
-an_empty_value_is_the_whole_replica : kept_in (settings (codes "path = a\npath =")) ≡ [] ∷ []
+an_empty_value_is_the_whole_replica : kept_in (codes "path = a\npath =") ≡ [] ∷ []
 an_empty_value_is_the_whole_replica = refl
 
 abbrev eight_times : List ℕ → List ℕ
@@ -155,7 +170,7 @@ one_more_pattern_is_too_many : map (λ t. third (eight_times (pattern_lines ++ p
 one_more_pattern_is_too_many = refl
 
 abbrev four_patterns : Parts
-four_patterns = profile_of [] (settings (codes "ignore = Name *~\nignorenot=Path b/\nignore = BelowPath a\nignore = Name *~"))
+four_patterns = profile [] (said_in (codes "ignore = Name *~\nignorenot=Path b/\nignore = BelowPath a\nignore = Name *~"))
 
 -- Specifications stand in the order of their lines, also those that add nothing.
 patterns_are_kept_in_order : four_patterns.ignore ∷ four_patterns.ignorenot ∷ []
@@ -170,7 +185,7 @@ values_apart : map are_kept (([] ∷ []) ∷ (path_of (codes "a") ∷ path_of (c
 values_apart = refl
 
 abbrev two_values : Parts
-two_values = profile_of (codes "p") (settings (codes "root = /srv/hub\nroot = /srv/s1\npath = a\npath = b/c"))
+two_values = profile (codes "p") (said_in (codes "root = /srv/hub\nroot = /srv/s1\npath = a\npath = b/c"))
 
 two_values_read : profile_reading (codes "p") (codes "\troot=/srv/hub \r\nroot = /srv/s1/\n#path = x\n\npath = a\npath = b/c/\n")
     ≡ Ok (record { name = codes "p"; roots = path_of (codes "srv/hub") ∷ path_of (codes "srv/s1") ∷ []; paths = path_of (codes "a") ∷ path_of (codes "b/c") ∷ []; ignore = []; ignorenot = [] })
@@ -182,3 +197,12 @@ two_values_hold = record { roots = refl; paths = refl }
 bytes_are_text : profile_in (codes "p") (255 ∷ []) ≡ Err (record { line = 0; fault = fault.NotUtf8 })
 unfolding is_utf8 chars
 bytes_are_text = refl
+
+-- Rules: blank lines and comments alone are accepted so far.
+no_rules : rules_in (codes " \t\n# root = /a\n\r\n") ≡ Ok []
+unfolding is_utf8 chars lib.Utf8.encode
+no_rules = refl
+
+a_rule_is_unknown : rules_in (codes "\nroot = /a") ≡ Err (record { line = 2; fault = fault.UnknownPreference (codes "root") })
+unfolding is_utf8 chars lib.Utf8.encode
+a_rule_is_unknown = refl

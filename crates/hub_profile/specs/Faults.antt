@@ -1,12 +1,14 @@
--- What is told of a value that is no path, and of one that is no path specification.
+-- Faults of a line, and of a whole reading.
+use Rattle.std.specs.Prelude.{◌≡◌, ◌⊎◌, Result, Err}
 use Rattle.hub_path.specs.declared.fault.PathFault.{PathFault}
 use Rattle.hub_path.specs.declared.fault.PathFault.TheVariants as path
 use Rattle.hub_glob.specs.declared.fault.GlobFault.{GlobFault}
 use Rattle.hub_glob.specs.declared.fault.GlobFault.TheVariants as glob
 use Rattle.hub_profile.specs.declared.fault.Fault.{Fault}
 use Rattle.hub_profile.specs.declared.fault.Fault.TheVariants.{BadPath, BadPattern, OutOfMemory}
+use Rattle.hub_profile.specs.declared.fault.ProfileFault.{ProfileFault}
 
--- The fault of a path, but for memory, which is told as it is everywhere.
+-- The fault of a value that is not a path. Out of memory is reported as it is everywhere.
 abbrev pub of_path : PathFault → Fault
 of_path path.Empty = BadPath path.Empty
 of_path path.EmptyName = BadPath path.EmptyName
@@ -19,7 +21,7 @@ of_path path.NotAbsolute = BadPath path.NotAbsolute
 of_path path.RemoteRoot = BadPath path.RemoteRoot
 of_path path.OutOfMemory = OutOfMemory
 
--- The fault of a pattern, but for memory.
+-- The fault of a value that is not a path specification, likewise.
 abbrev pub of_pattern : GlobFault → Fault
 of_pattern glob.NoKind = BadPattern glob.NoKind
 of_pattern glob.RegexLeftOut = BadPattern glob.RegexLeftOut
@@ -36,3 +38,11 @@ of_pattern glob.LeadingSlash = BadPattern glob.LeadingSlash
 of_pattern glob.TooLong = BadPattern glob.TooLong
 of_pattern glob.TooManyChoices = BadPattern glob.TooManyChoices
 of_pattern glob.OutOfMemory = OutOfMemory
+
+-- The fault of a reading, or out of memory.
+abbrev pub FailsAs : {T : Type 0} → Result T Fault → Fault → Type 0
+FailsAs reading e = (e ≡ OutOfMemory) ⊎ (reading ≡ Err e)
+
+-- The same with its line.
+abbrev pub FailsAt : {T : Type 0} → Result T ProfileFault → ProfileFault → Type 0
+FailsAt reading e = (e.fault ≡ OutOfMemory) ⊎ (reading ≡ Err e)

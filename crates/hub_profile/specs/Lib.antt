@@ -2,7 +2,9 @@ pub mod Faults
 pub mod Facts
 pub mod Parts
 pub mod Lines
+pub mod LineByLine
+pub mod Said
 pub mod Reading
-pub mod Counts
+pub mod Rules
 pub mod Marks
 pub mod Examples

@@ -1,7 +1,6 @@
 -- Which texts are profiles, and the first fault of each other text.
-use Rattle.std.specs.Prelude.{ℕ, Bool, not, ◌&&◌, ◌||◌, ◌==◌, nat_le, List, [], ◌∷◌, ◌++◌, length, Option, Some, None, Result, Ok, Err, if◌then◌else◌, codes}
-use Rattle.std.specs.List.{list_any, filter_map}
-use Rattle.std.specs.Str.{is_utf8, chars}
+use Rattle.std.specs.Prelude.{ℕ, Bool, not, ◌&&◌, ◌||◌, ◌==◌, ◌+◌, nat_le, List, [], ◌∷◌, ◌++◌, length, Option, Some, None, Result, Ok, Err, if◌then◌else◌, codes}
+use Rattle.std.specs.List.{list_any}
 use Rattle.hub_path.specs.Path.{Name, Path, path_eq, is_over}
 use Rattle.hub_path.specs.Reading.{path_reading, root_reading, begins_with_slash, without_last_slash}
 use Rattle.hub_path.specs.declared.fault.PathFault.{PathFault}
@@ -10,83 +9,67 @@ use Rattle.hub_glob.specs.Specification.{Specification}
 use Rattle.hub_glob.specs.Reading.{spec_reading}
 use Rattle.hub_glob.specs.declared.fault.GlobFault.{GlobFault}
 use Rattle.hub_profile.specs.Parts.{Parts}
-use Rattle.hub_profile.specs.Lines.{Setting, settings, is_one_of, named, values, is_include, has_equals}
+use Rattle.hub_profile.specs.Said.{Said, nothing}
+use Rattle.hub_profile.specs.LineByLine.{Table, lines_reading, if_text, look_up}
+use Rattle.hub_profile.specs.declared.key.Key.{Key}
+use Rattle.hub_profile.specs.declared.key.Key.TheVariants as key
 use Rattle.hub_profile.specs.declared.fault.Fault.{Fault}
 use Rattle.hub_profile.specs.declared.fault.Fault.TheVariants as fault
 use Rattle.hub_profile.specs.declared.fault.ProfileFault.{ProfileFault}
 use Rattle.hub_profile.specs.declared.draft.TheConstants.{PATH_LINES, PATTERN_LINES}
 
--- The preferences whose value is a root.
-abbrev pub root_preferences : List (List ℕ)
-root_preferences = codes "root" ∷ []
+-- The preferences of a profile, by their names.
+abbrev pub keys : List (List ℕ × Key)
+keys =
+    (codes "root", key.Root)
+    ∷ (codes "path", key.Path)
+    ∷ (codes "ignore", key.Ignore)
+    ∷ (codes "ignorenot", key.IgnoreNot)
+    ∷ []
 
--- The preferences whose value is a path.
-abbrev pub path_preferences : List (List ℕ)
-path_preferences = codes "path" ∷ []
-
--- The preferences whose value is a path specification.
-abbrev pub ignore_preferences : List (List ℕ)
-ignore_preferences = codes "ignore" ∷ []
-
-abbrev pub ignorenot_preferences : List (List ℕ)
-ignorenot_preferences = codes "ignorenot" ∷ []
-
--- Their lines are counted together.
-abbrev pub pattern_preferences : List (List ℕ)
-pattern_preferences = ignore_preferences ++ ignorenot_preferences
-
-abbrev pub known_preferences : List (List ℕ)
-known_preferences = root_preferences ++ path_preferences ++ pattern_preferences
-
-abbrev pub path_err : {T : Type 0} → Result T PathFault → Option Fault
-path_err (Ok x) = None
-path_err (Err e) = Some (fault.BadPath e)
-
-abbrev pub pattern_err : {T : Type 0} → Result T GlobFault → Option Fault
-pattern_err (Ok x) = None
-pattern_err (Err e) = Some (fault.BadPattern e)
-
--- The value of a `path` line: an empty one means the whole replica. A slash in front is told first; then one slash at
--- the end is dropped.
+-- The value of a `path` line: an empty one means the whole replica. A slash in front is reported first; then one slash
+-- at the end is dropped.
 abbrev pub kept_reading : List ℕ → Result Path PathFault
 kept_reading cs =
     if length cs == 0 then Ok []
     else (if begins_with_slash cs then Err LeadingSlash else path_reading (without_last_slash cs))
 
--- What is wrong with the value of a `path` line that follows so many others.
-abbrev pub path_line_fault : ℕ → List ℕ → Option Fault
-path_line_fault n value = if nat_le PATH_LINES n then Some fault.TooMany else path_err (kept_reading value)
+abbrev pub with_root : Said → Result Path PathFault → Result Said Fault
+with_root said (Ok root) = Ok (record said { roots = said.roots ++ root ∷ [] })
+with_root said (Err e) = Err (fault.BadPath e)
 
--- What is wrong with the value of an `ignore` or `ignorenot` line that follows so many others.
-abbrev pub pattern_line_fault : ℕ → List ℕ → Option Fault
-pattern_line_fault n value = if nat_le PATTERN_LINES n then Some fault.TooMany else pattern_err (spec_reading value)
+abbrev pub with_path : Said → Result Path PathFault → Result Said Fault
+with_path said (Ok path) = Ok (record said { paths = said.paths ++ path ∷ [] })
+with_path said (Err e) = Err (fault.BadPath e)
 
--- What is wrong with a setting that follows others: the first of these.
-abbrev pub setting_fault : List Setting → Setting → Option Fault
-setting_fault before s =
-    if is_include s.text then Some fault.IncludeLeftOut
-    else (if not (has_equals s.text) then Some fault.NoEquals
-    else (if not (is_one_of known_preferences s.name) then Some (fault.UnknownPreference s.name)
-    else (if is_one_of root_preferences s.name then path_err (root_reading s.value)
-    else (if is_one_of path_preferences s.name then path_line_fault (length (named path_preferences before)) s.value
-    else (if is_one_of pattern_preferences s.name then pattern_line_fault (length (named pattern_preferences before)) s.value
-    else None)))))
+abbrev pub with_ignore : Said → Result Specification GlobFault → Result Said Fault
+with_ignore said (Ok spec) = Ok (record said { ignore = said.ignore ++ spec ∷ [] })
+with_ignore said (Err e) = Err (fault.BadPattern e)
 
-abbrev pub or_later : ℕ → Option Fault → Option ProfileFault → Option ProfileFault
-or_later line None later = later
-or_later line (Some f) later = Some (record { line = line; fault = f })
+abbrev pub with_ignorenot : Said → Result Specification GlobFault → Result Said Fault
+with_ignorenot said (Ok spec) = Ok (record said { ignorenot = said.ignorenot ++ spec ∷ [] })
+with_ignorenot said (Err e) = Err (fault.BadPattern e)
 
--- The lowest faulty line, where `fault_after` tells what is wrong with a setting that follows others.
-abbrev pub line_fault : (List Setting → Setting → Option Fault) → List Setting → List Setting → Option ProfileFault
-line_fault fault_after before [] = None
-line_fault fault_after before (s ∷ ss) = or_later s.line (fault_after before s) (line_fault fault_after (before ++ s ∷ []) ss)
+abbrev pub has_all_paths : Said → Bool
+has_all_paths said = nat_le PATH_LINES (length said.paths)
 
-abbrev pub ok_part : {T E : Type 0} → Result T E → Option T
-ok_part (Ok x) = Some x
-ok_part (Err e) = None
+-- `ignore` and `ignorenot` lines are counted together.
+abbrev pub has_all_patterns : Said → Bool
+has_all_patterns said = nat_le PATTERN_LINES (length said.ignore + length said.ignorenot)
 
-abbrev pub roots_of : List Setting → List Path
-roots_of ss = filter_map (λ v. ok_part (root_reading v)) (values (codes "root" ∷ []) ss)
+-- What a value adds, or its fault, preference by preference.
+abbrev pub with_value : Key → Said → List ℕ → Result Said Fault
+with_value key.Root said v = with_root said (root_reading v)
+with_value key.Path said v = if has_all_paths said then Err fault.TooMany else with_path said (kept_reading v)
+with_value key.Ignore said v = if has_all_patterns said then Err fault.TooMany else with_ignore said (spec_reading v)
+with_value key.IgnoreNot said v = if has_all_patterns said then Err fault.TooMany else with_ignorenot said (spec_reading v)
+
+abbrev pub with_key : Option Key → Table Said
+with_key (Some k) said name v = with_value k said v
+with_key None said name v = Err (fault.UnknownPreference name)
+
+abbrev pub with_preference : Table Said
+with_preference said name v = with_key (look_up name keys) said name v
 
 -- What is wrong with the roots of a profile: no line of it is at fault.
 abbrev pub roots_fault : List Path → Option Fault
@@ -95,13 +78,6 @@ roots_fault (r ∷ []) = Some fault.RootCount
 roots_fault (r ∷ s ∷ []) =
     if path_eq r s then Some fault.SameRoots else (if is_over r s || is_over s r then Some fault.RootsNested else None)
 roots_fault (r ∷ s ∷ t ∷ rs) = Some fault.RootCount
-
-abbrev pub first_of : Option ProfileFault → Option ProfileFault → Option ProfileFault
-first_of None later = later
-first_of (Some f) later = Some f
-
-abbrev pub profile_fault : List Setting → Option ProfileFault
-profile_fault ss = first_of (line_fault setting_fault [] ss) (or_later 0 (roots_fault (roots_of ss)) None)
 
 -- A value adds something to the profile: it is neither equal to an earlier one nor properly below any.
 abbrev pub adds : List Path → List Path → Path → Bool
@@ -116,43 +92,30 @@ kept_after all earlier (s ∷ ss) =
 abbrev pub kept : List Path → List Path
 kept all = kept_after all [] all
 
-abbrev pub path_values : List Setting → List Path
-path_values ss = filter_map (λ v. ok_part (kept_reading v)) (values (codes "path" ∷ []) ss)
-
--- What the settings with one of these names specify.
-abbrev pub specifications : List (List ℕ) → List Setting → List Specification
-specifications words ss = filter_map (λ v. ok_part (spec_reading v)) (values words ss)
-
-abbrev pub ignore_of : List Setting → List Specification
-ignore_of ss = specifications ignore_preferences ss
-
-abbrev pub ignorenot_of : List Setting → List Specification
-ignorenot_of ss = specifications ignorenot_preferences ss
-
 -- With no value, the whole replica is kept.
 abbrev pub or_whole : List Path → List Path
 or_whole [] = [] ∷ []
 or_whole (s ∷ ss) = s ∷ ss
 
--- The profile of these roots, `path` values and specifications.
-abbrev pub profile : Name → List Path → List Path → List Specification → List Specification → Parts
-profile name roots values ignore ignorenot = record { name = name; roots = roots; paths = or_whole (kept values); ignore = ignore; ignorenot = ignorenot }
+-- The profile of that name whose lines say this.
+abbrev pub profile : Name → Said → Parts
+profile name said = record { name = name; roots = said.roots; paths = or_whole (kept said.paths); ignore = said.ignore; ignorenot = said.ignorenot }
 
--- The profile that the settings make.
-abbrev pub profile_of : Name → List Setting → Parts
-profile_of name ss = profile name (roots_of ss) (path_values ss) (ignore_of ss) (ignorenot_of ss)
-
-abbrev pub unless_fault : {T : Type 0} → Option ProfileFault → T → Result T ProfileFault
+abbrev pub unless_fault : {T : Type 0} → Option Fault → T → Result T ProfileFault
 unless_fault None x = Ok x
-unless_fault (Some f) x = Err f
+unless_fault (Some f) x = Err (record { line = 0; fault = f })
+
+-- Its fault as a whole is at line 0.
+abbrev pub finished : Name → Said → Result Parts ProfileFault
+finished name said = unless_fault (roots_fault said.roots) (profile name said)
+
+abbrev pub if_said : Name → Result Said ProfileFault → Result Parts ProfileFault
+if_said name (Ok said) = finished name said
+if_said name (Err f) = Err f
 
 -- What a text says, or its first fault.
 abbrev pub profile_reading : Name → List ℕ → Result Parts ProfileFault
-profile_reading name cs = unless_fault (profile_fault (settings cs)) (profile_of name (settings cs))
-
--- What bytes say that have to be text: the fault is at no line.
-abbrev pub if_text : {T : Type 0} → (List ℕ → Result T ProfileFault) → List ℕ → Result T ProfileFault
-if_text reading bytes = if is_utf8 bytes then reading (chars bytes) else Err (record { line = 0; fault = fault.NotUtf8 })
+profile_reading name cs = if_said name (lines_reading with_preference nothing cs)
 
 abbrev pub profile_in : Name → List ℕ → Result Parts ProfileFault
 profile_in name bytes = if_text (profile_reading name) bytes

@@ -22,7 +22,7 @@ impl Model for Preference {
 }
 
 impl Preference {
-    /// The preference of that name.
+    /// Copies the name from its text.
     pub fn new(alloc: Global, name: &str) -> Result<Preference, AllocError>
         ensures { IfOk result (λ p. p ≡ chars name.now) }
     {
@@ -31,7 +31,7 @@ impl Preference {
         })
     }
 
-    /// The name. It takes no memory.
+    /// The name.
     pub fn text(&self) -> &str
         ensures { result.now ≡ encode_utf8_all self.now }
     {
@@ -49,31 +49,31 @@ impl fmt::Display for Preference {
     }
 }
 
-/// What is wrong with a profile's text.
+/// What is wrong with the text of a profile or of rules.
 #[derive(Debug, Drop, Error)]
 pub enum Fault {
-    /// The bytes are no UTF-8.
+    /// The bytes are not UTF-8.
     #[error("NotUtf8")]
     NotUtf8,
-    /// A line that says something has no `=`.
+    /// A line that is neither blank nor a comment has no `=`.
     #[error("NoEquals")]
     NoEquals,
     /// The line includes another file, which this project leaves out.
     #[error("IncludeLeftOut")]
     IncludeLeftOut,
-    /// There is no preference of that name here.
+    /// No preference has that name.
     #[error("UnknownPreference {0}")]
     UnknownPreference(Preference),
-    /// A value is no path or no root.
+    /// A value is not a path, or not a root.
     #[error("BadPath {0}")]
     BadPath(PathFault),
-    /// A value is no path specification.
+    /// A value is not a path specification.
     #[error("BadPattern {0}")]
     BadPattern(GlobFault),
-    /// There aren't exactly two roots.
+    /// There are not exactly two roots.
     #[error("RootCount")]
     RootCount,
-    /// The two roots are one.
+    /// The two roots are equal.
     #[error("SameRoots")]
     SameRoots,
     /// One root lies within the other.
@@ -82,7 +82,7 @@ pub enum Fault {
     /// There are more `path` lines than `PATH_LINES`, or more `ignore` and `ignorenot` lines than `PATTERN_LINES`.
     #[error("TooMany")]
     TooMany,
-    /// Memory was refused.
+    /// Out of memory.
     #[error("OutOfMemory")]
     OutOfMemory,
 }
@@ -137,7 +137,7 @@ impl From<GlobFault> for Fault {
     }
 }
 
-/// A fault and its line: the first line has number 1, and 0 stands for the whole text.
+/// A fault and its line. The first line has number 1; 0 stands for the whole text.
 #[derive(Debug, Drop, Error)]
 #[error("line {line}: {fault}")]
 pub struct ProfileFault {

@@ -1,7 +1,8 @@
-//! Profiles: which two roots are synchronized, and what of them, read from text.
+//! Profiles, which say what two roots synchronize, and rules, which say what nobody may do: both read from text.
 //!
-//! [`read_profile`] reads the bytes of a profile's text. It gives a [`Profile`], whose type keeps that its roots are
-//! apart and that no kept value is over another, or a [`ProfileFault`]: the first [`Fault`] with its line.
+//! [`read_profile`] reads the bytes of a profile's text. It returns a [`Profile`], whose type keeps that its roots are apart
+//! and that no kept value is over another, or a [`ProfileFault`]: the first [`Fault`] with its line. [`read_rules`] reads
+//! [`Rules`] likewise.
 //!
 //! ```text
 //! root = /srv/hub
@@ -9,21 +10,30 @@
 //! path = docs
 //! ```
 //!
-//! Contracts see a profile as the record `Parts` (specs/Parts) and say that what is read is `profile_in` of the bytes
-//! (specs/Reading, over the lines of specs/Lines).
+//! Both texts are read line by line, each line over what the lines before it say (specs/LineByLine); a preference is one
+//! row of `keys` and one case of `with_value` (specs/Reading). Contracts see a profile as the record `Parts` (specs/Parts)
+//! and say that what is read is `profile_in` of the bytes.
+//!
+//! Only functions that return a `Result` allocate.
 #![tactic(auto)]
 
 mod draft;
 mod fault;
 mod kept;
+mod key;
 pub mod laws;
 mod line;
+mod line_by_line;
 mod profile;
 mod reading;
+mod rule;
+mod rules;
 mod verb;
 
 pub use draft::{PATH_LINES, PATTERN_LINES};
 pub use fault::{Fault, Preference, ProfileFault};
 pub use profile::Profile;
 pub use reading::read_profile;
+pub use rule::Rule;
+pub use rules::{RULES, Rules, read_rules};
 pub use verb::Verb;

@@ -1,8 +1,10 @@
-ghost use Rattle.std.specs.Prelude.{◌≡◌, ◌==◌, ◌<◌, [], ◌∷◌, false, true, chars, length, nat_eq, MatchOption};
+//! One line of a text.
+ghost use Rattle.std.specs.Prelude.{◌≡◌, ◌==◌, ◌<◌, [], ◌∷◌, false, true, Ok, Err, IfOk, IfErr, chars, length, nat_eq, MatchOption};
 ghost use Rattle.std.specs.List.{before_first, after_first, starts_with};
 ghost use Rattle.hub_path.specs.Reading.{without_last};
 ghost use Rattle.hub_profile.specs.Lines as lines;
 
+use crate::fault::Fault;
 use hub_glob::{BLANKS, first_word, skip_blanks};
 
 /// What a line says: its text without a CR at its end, and then without the blanks around it.
@@ -12,15 +14,29 @@ pub(crate) fn line_text(line: &str) -> &str
     trimmed(without_last_return(line))
 }
 
-/// Whether a line says something: it isn't blank, and doesn't begin with `#`.
+/// Whether a line sets something: it is neither blank nor a comment, which begins with `#`.
 pub(crate) fn is_setting(line: &str) -> bool
     ensures { result ≡ lines.is_setting (chars line.now) }
 {
     !is_blank(line) && !begins_with(line, '#')
 }
 
+/// The name and the value that a line sets, or `IncludeLeftOut` or `NoEquals`.
+pub(crate) fn setting(line: &str) -> Result<(&str, &str), Fault>
+    ensures ok { IfOk result (λ s. lines.setting (chars line.now) ≡ Ok (chars s.0.now, chars s.1.now)) }
+    ensures err { IfErr result (λ e. lines.setting (chars line.now) ≡ Err e) }
+{
+    if is_include(line) {
+        return Err(Fault::IncludeLeftOut);
+    }
+    match name_and_value(line) {
+        Some(pair) => Ok(pair),
+        None => Err(Fault::NoEquals),
+    }
+}
+
 /// Whether a line includes another file: its first word says so, and it sets nothing.
-pub(crate) fn is_include(line: &str) -> bool
+fn is_include(line: &str) -> bool
     ensures { result ≡ lines.is_include (chars line.now) }
 {
     let (word, rest) = first_word(line);
@@ -28,14 +44,14 @@ pub(crate) fn is_include(line: &str) -> bool
 }
 
 /// The name and the value that a line gives it, where it has an `=`.
-pub(crate) fn name_and_value(line: &str) -> Option<(&str, &str)>
+fn name_and_value(line: &str) -> Option<(&str, &str)>
     ensures { MatchOption result (lines.has_equals (chars line.now) ≡ false) (λ x. (lines.has_equals (chars line.now) ≡ true) × (chars x.0.now ≡ lines.trimmed (before_first (λ c. c == 61) (chars line.now))) × (chars x.1.now ≡ lines.trimmed (after_first (λ c. c == 61) (chars line.now)))) }
 {
     let (name, value) = line.split_once('=')?;
     Some((trimmed(name), trimmed(value)))
 }
 
-/// The words that include another file.
+/// Whether this word includes another file.
 fn includes(word: &str) -> bool
     ensures { result ≡ lines.is_one_of lines.include_words (chars word.now) }
 {

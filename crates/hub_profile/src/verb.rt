@@ -1,4 +1,4 @@
-/// What a change does to a path: Create where there was nothing, Delete where nothing stays, else Update.
+/// What a change does to a path: it is a Create if nothing was there, a Delete if nothing is left, else an Update.
 #[derive(Clone, Copy, Debug, PartialEq, Eq)]
 pub enum Verb {
     Create,

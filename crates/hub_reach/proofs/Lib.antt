@@ -7,3 +7,7 @@ pub mod Samples
 pub mod Grows
 pub mod Alike
 pub mod Below
+pub mod Between
+pub mod Broken
+pub mod Exact
+pub mod Classed

@@ -9,7 +9,7 @@ use Rattle.hub_path.specs.Path.{Name, Path, name_eq, is_over, prefixes}
 use Rattle.hub_glob.specs.TestLaws.{or-false, and-false}
 use Rattle.hub_reach.proofs.Walks.{both}
 
-prefixes-push : (p : Path) (n : Name) → prefixes (p ++ n ∷ []) ≡ prefixes p ++ (p ++ n ∷ []) ∷ []
+pub prefixes-push : (p : Path) (n : Name) → prefixes (p ++ n ∷ []) ≡ prefixes p ++ (p ++ n ∷ []) ∷ []
 prefixes-push [] n = refl
 prefixes-push (m ∷ p) n = ap (λ qs. (m ∷ []) ∷ map (λ q. m ∷ q) qs) (prefixes-push p n) ∙ ap (λ qs. (m ∷ []) ∷ qs) (map_append (prefixes p) (p ++ n ∷ []))
   where
@@ -34,7 +34,7 @@ any-map : (f : Path → Bool) (n : Name) (qs : List Path) → list_any f (map (�
 any-map f n [] = refl
 any-map f n (q ∷ qs) = ap (λ b. f (n ∷ q) || b) (any-map f n qs)
 
-any-prefixes : (f : Path → Bool) (p q : Path) → list_any f (prefixes p) ≡ true → list_any f (prefixes (p ++ q)) ≡ true
+pub any-prefixes : (f : Path → Bool) (p q : Path) → list_any f (prefixes p) ≡ true → list_any f (prefixes (p ++ q)) ≡ true
 any-prefixes f [] q h = cc
 any-prefixes f (n ∷ p) q h =
     or-first (f (n ∷ [])) (list_any f (map (λ r. n ∷ r) (prefixes p))) (list_any f (map (λ r. n ∷ r) (prefixes (p ++ q)))) h

@@ -5,9 +5,10 @@ ghost use Rattle.hub_reach.specs.Stage as stage;
 use hub_path::Items;
 use std::alloc::{AllocError, Global};
 use std::cmp::Ordering;
+use std::hash::{Hash, Hasher};
 use std::marker::Model;
 
-/// Of each of some texts how many of its characters another text is, where it is a front of it.
+/// For each of some texts: how many of its characters have been read, if what was read is a prefix of it.
 #[derive(Debug, Drop)]
 pub(crate) struct Fronts {
     fronts: Vec<Option<usize>>,
@@ -22,7 +23,7 @@ impl Model for Fronts {
 }
 
 impl Fronts {
-    /// Those of the empty text.
+    /// The same for the empty text.
     pub(crate) fn start(alloc: Global, texts: &[Items<char>]) -> Result<Fronts, AllocError>
         ensures { IfOk result (λ f. f ≡ map (λ _. Some 0) texts.now) }
     {
@@ -30,7 +31,7 @@ impl Fronts {
         Ok(Fronts { fronts })
     }
 
-    /// Those of the text with one more character.
+    /// The same after one more character.
     pub(crate) fn next(
         &self,
         alloc: Global,
@@ -45,6 +46,16 @@ impl Fronts {
             .map(|(text, front)| next_front(text, *front, character))
             .collect(alloc)?;
         Ok(Fronts { fronts })
+    }
+
+    /// Copies the fronts.
+    pub(crate) fn copy(&self) -> Result<Fronts, AllocError>
+        ensures { IfOk result (λ f. f ≡ self.now) }
+    {
+        let alloc = *self.fronts.allocator();
+        Ok(Fronts {
+            fronts: Vec::from_slice(alloc, self.fronts.as_slice())?,
+        })
     }
 
     /// Whether one of the texts is the other text.
@@ -117,7 +128,7 @@ impl PartialOrd for Fronts {
     }
 }
 
-/// Fronts are in the order of a dictionary; a text that isn't one stands first.
+/// The order is lexicographic; a text of which nothing is a prefix comes first.
 impl Ord for Fronts {
     ghost use Rattle.std.proofs.Common.{rules};
     ghost use Rattle.std.specs.Cmp.Rules.{comparing};
@@ -136,5 +147,18 @@ impl Ord for Fronts {
 
     fn cmp(&self, other: &Fronts) -> Ordering {
         self.fronts.cmp(&other.fronts)
+    }
+}
+
+impl Hash for Fronts {
+    ghost use Rattle.hub_reach.specs.Ties.{fronts_hashed};
+    ghost use Rattle.std.specs.Hash as fed;
+
+    ghost hash_input = { fed.slice (fed.option fed.usize) };
+
+    ghost respects_eq = { λ x y h. fronts_hashed x y h };
+
+    fn hash<H: Hasher>(&self, state: &mut H) {
+        self.fronts.hash(state);
     }
 }

@@ -1,29 +1,63 @@
-//! What follows from the definition of reach.
-ghost use Rattle.std.specs.Prelude.{◌≡◌, ◌++◌, ◌∷◌, [], ℕ, List, Some, IsTrue};
-ghost use Rattle.hub_path.specs.Path.{Path, is_path, path_of};
-ghost use Rattle.hub_automaton.specs.Alphabet.{IsAlphabet, class_of};
+//! What follows from the definitions of reach and of stages: each law is the contract of an empty function.
+ghost use Rattle.std.specs.Prelude.{◌≡◌, ◌↔◌, ◌++◌, ◌∷◌, [], ℕ, List, Some, None, IsTrue, true, false};
+ghost use Rattle.std.specs.List.{list_all, list_any};
+ghost use Rattle.std.specs.Str.{all_scalars};
+ghost use Rattle.std.specs.declared.cmp.Ordering.TheVariants.{Equal};
+ghost use Rattle.hub_path.specs.Path.{Path, is_over, is_path, path_of};
+ghost use Rattle.hub_automaton.specs.Alphabet.{IsAlphabet, class_of, is_path_character};
 ghost use Rattle.hub_profile.specs.Parts.{Parts, IsProfile};
 ghost use Rattle.hub_reach.specs.Mention.{Mentions};
+ghost use Rattle.hub_reach.specs.Passed.{Passed};
 ghost use Rattle.hub_reach.specs.Reach.{reach};
-ghost use Rattle.hub_reach.specs.Shape.{is_text_character};
-ghost use Rattle.hub_reach.specs.Stage.{stage_of};
+ghost use Rattle.hub_reach.specs.Shape.{is_broken, is_named, is_text_character, shape_of};
+ghost use Rattle.hub_reach.specs.Stage.{is_broken_stage, stage_of};
 ghost use Rattle.hub_reach.specs.Walk.{is_walked};
 
+use crate::shape::Shape;
+use crate::stage::{Stage, Track};
 use hub_automaton::laws::{
     choices_mention_what_their_specification_does, classes_are_alike, what_is_kept_goes_on_alike,
     what_is_kept_tells_what_matches,
 };
+use std::hash::Hash;
 
-/// A profile reaches a path exactly where it is reached by going down to it name by name: no path above it, at or below a
-/// kept value, is ignored; nor is the path itself; and it is a kept value, or one stands above it.
+/// A profile reaches a path exactly when it is reached by going down to it name by name: no path above it, at or below a
+/// kept value, is ignored; nor is the path itself; and it is a kept value, or one is above it.
 #[tactic(auto, using(crate::proofs::Walks::walks))]
 pub fn walks_are_reach()
     ensures { (P : Parts) (p : Path) → IsProfile P → IsTrue (is_path p) → reach P p ≡ is_walked P p }
 {}
 
-/// Texts with equal stages are told apart by nothing that follows them: with one more character they have equal stages,
-/// so with any text behind them too, and what is reached of the paths of one is reached of those of the other. Characters
-/// of one class lead to equal stages, if the alphabet mentions what the profile does.
+/// A path between a kept value and a reached path is reached.
+pub fn what_is_between_is_reached()
+    ensures { (P : Parts) (x y : Path) → IsProfile P → IsTrue (reach P y) → IsTrue (is_over x y)
+        → list_any (λ s. is_over s x) P.paths ≡ true → IsTrue (is_path x) → IsTrue (reach P x) }
+{}
+
+/// The path of a text is a path exactly when the text's shape is `Named`.
+pub fn named_texts_are_paths()
+    ensures { (t : List ℕ) → is_path (path_of t) ≡ is_named (shape_of t) }
+{}
+
+/// A broken text stays broken, whatever character is appended. A character that may not stand in a path's text breaks
+/// every text. So each character of a text that isn't broken may stand in a path's text. A path's text isn't broken, and
+/// nothing is reached by a broken one.
+pub fn broken_texts_stay_broken()
+    ensures longer { (t : List ℕ) (x : ℕ) → IsTrue (is_broken t) → IsTrue (is_broken (t ++ x ∷ [])) }
+    ensures foreign { (t : List ℕ) (x : ℕ) → is_text_character x ≡ false → IsTrue (is_broken (t ++ x ∷ [])) }
+    ensures whole { (t : List ℕ) → is_broken t ≡ false → IsTrue (list_all is_text_character t) }
+    ensures path { (t : List ℕ) → IsTrue (is_path (path_of t)) → is_broken t ≡ false }
+    ensures reached { (P : Parts) (t : List ℕ) → IsTrue (is_broken t) → reach P (path_of t) ≡ false }
+{}
+
+/// A stage says whether its text is broken. So texts with equal stages are equally broken.
+pub fn stages_tell_broken_texts()
+    ensures stage { (P : Parts) (t : List ℕ) → is_broken_stage (stage_of P t) ≡ is_broken t }
+    ensures alike { (P : Parts) (t u : List ℕ) → stage_of P t ≡ stage_of P u → is_broken t ≡ is_broken u }
+{}
+
+/// If two texts lead to the same stage, they still do after any text is appended to both, and their paths are reached
+/// alike. Characters of one class lead to the same stage, if the alphabet mentions what the profile does.
 pub fn stages_go_on_alike()
     ensures same { (P : Parts) (t u : List ℕ) (x : ℕ) → IsProfile P → stage_of P t ≡ stage_of P u → stage_of P (t ++ x ∷ []) ≡ stage_of P (u ++ x ∷ []) }
     ensures followed { (P : Parts) (t u v : List ℕ) → IsProfile P → stage_of P t ≡ stage_of P u → stage_of P (t ++ v) ≡ stage_of P (u ++ v) }
@@ -36,3 +70,35 @@ pub fn stages_go_on_alike()
     what_is_kept_goes_on_alike();
     what_is_kept_tells_what_matches();
 }
+
+/// The characters that may stand in a path's text are those that may stand in a path, and these have classes. A character
+/// that has no class breaks every text.
+pub fn text_characters_have_classes()
+    ensures same { (x : ℕ) → is_text_character x ≡ is_path_character x }
+    ensures classed { (ms : List ℕ) (x k : ℕ) → IsTrue (all_scalars (x ∷ [])) → class_of ms x ≡ Some k → IsTrue (is_text_character x) }
+    ensures unclassed { (ms : List ℕ) (x : ℕ) → class_of ms x ≡ None → is_text_character x ≡ false }
+{}
+
+/// `==` holds of two shapes exactly when they are equal, and the order says `Equal` exactly then. Equal shapes have
+/// equal hashes.
+pub fn shapes_compare_exactly()
+    ensures equal { (x y : Shape) → IsTrue (⟦<Shape as PartialEq>⟧.eq x y) ↔ (x ≡ y) }
+    ensures tied { (x y : Shape) → (⟦<Shape as Ord>⟧.cmp x y ≡ Equal) ↔ (x ≡ y) }
+    ensures hashed { (x y : Shape) → IsTrue (⟦<Shape as PartialEq>⟧.eq x y) → ⟦<Shape as Hash>⟧.hash_input x ≡ ⟦<Shape as Hash>⟧.hash_input y }
+{}
+
+/// `==` holds of two tracks exactly when their values are equal, and the order says `Equal` exactly then.
+/// Equal ones have equal hashes.
+pub fn tracks_compare_exactly()
+    ensures equal { (x y : Passed) → IsTrue (⟦<Track as PartialEq>⟧.eq x y) ↔ (x ≡ y) }
+    ensures tied { (x y : Passed) → (⟦<Track as Ord>⟧.cmp x y ≡ Equal) ↔ (x ≡ y) }
+    ensures hashed { (x y : Passed) → IsTrue (⟦<Track as PartialEq>⟧.eq x y) → ⟦<Track as Hash>⟧.hash_input x ≡ ⟦<Track as Hash>⟧.hash_input y }
+{}
+
+/// `==` holds of two stages exactly when their values are equal, and the order says `Equal` exactly then.
+/// Equal ones have equal hashes.
+pub fn stages_compare_exactly()
+    ensures equal { (x y : Stage) → IsTrue (⟦<Stage as PartialEq>⟧.eq x y) ↔ (x ≡ y) }
+    ensures tied { (x y : Stage) → (⟦<Stage as Ord>⟧.cmp x y ≡ Equal) ↔ (x ≡ y) }
+    ensures hashed { (x y : Stage) → IsTrue (⟦<Stage as PartialEq>⟧.eq x y) → ⟦<Stage as Hash>⟧.hash_input x ≡ ⟦<Stage as Hash>⟧.hash_input y }
+{}

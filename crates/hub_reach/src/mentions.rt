@@ -1,4 +1,4 @@
-//! The alphabet of what profiles say.
+//! The characters that profiles mention.
 ghost use Rattle.std.specs.Prelude.{◌≡◌, ℕ, List, IsTrue, IfErr, OnOk, OnErr};
 ghost use Rattle.std.specs.List.{flat_map};
 ghost use Rattle.hub_automaton.specs.Alphabet.{mentions, path_characters, spec_characters, with_characters, Refuses};
@@ -10,9 +10,9 @@ use hub_glob::PathSpec;
 use hub_path::RelPath;
 use hub_profile::Profile;
 
-/// Mentions the characters of a profile's kept values and patterns, so that there is a walker of it.
+/// Adds the characters of a profile's kept values and patterns to an alphabet, as its walker requires.
 ///
-/// The fault is `TooManyCharacters` where more than `MENTIONED_CHARACTERS` would be mentioned then, or `OutOfMemory`. After
+/// The fault is `TooManyCharacters` if more than `MENTIONED_CHARACTERS` would be mentioned then, or `OutOfMemory`. After
 /// either some of the characters may have been added: those of the kept values first, then those of `ignore`, then those of
 /// `ignorenot`.
 pub fn mention(alphabet: &mut Alphabet, profile: &Profile) -> Result<(), AutomatonFault>

@@ -10,12 +10,12 @@ use hub_glob::{Kind, PathSpec};
 use hub_path::RelPath;
 use hub_profile::Profile;
 
-/// Whether a profile reaches a path: whether the path is a kept value or lies below one, and nothing from the kept
-/// value down to the path is ignored.
+/// Returns whether a profile reaches a path: the path is a kept value or lies below one, and nothing from the kept value
+/// down to the path is ignored.
 ///
 /// A path is ignored that `ignore` matches and `ignorenot` doesn't; what lies under an ignored path is not reached, even
 /// where `ignorenot` matches it. The parents of a kept value aren't tested; the kept value itself is (this project's
-/// choice). The whole replica is not reached. It takes no memory. (Unison manual, "Ignoring Paths".)
+/// choice). The whole replica is not reached. (Unison manual, "Ignoring Paths".)
 pub fn reaches(profile: &Profile, path: &RelPath) -> bool
     ensures { result ≡ reach profile.now path.now }
 {

@@ -1,10 +1,10 @@
-//! What the end of a text says of the path that the text may become.
+//! The shape of a text's last component.
 ghost use Rattle.std.specs.Prelude.{◌≡◌, ◌↔◌, ◌++◌, ◌∷◌, [], ℕ, List, IsTrue};
 ghost use Rattle.hub_path.specs.Path.{path_of, is_path};
 ghost use Rattle.hub_reach.specs.Shape as shape;
 
-/// What the end of a text says of the path that the text may become.
-#[derive(Clone, Copy, Debug, PartialEq, Eq, PartialOrd, Ord)]
+/// The shape of a text's last component: whether the text is the text of a path, or may become one.
+#[derive(Clone, Copy, Debug, PartialEq, Eq, PartialOrd, Ord, Hash)]
 pub enum Shape {
     /// A name begins: the text is empty, or ends with `/`.
     Start,
@@ -14,7 +14,7 @@ pub enum Shape {
     DotDot,
     /// The last component is a name, and the text is that of a path.
     Named,
-    /// No path's text begins so.
+    /// No path's text begins with the text.
     Broken,
 }
 

@@ -53,11 +53,11 @@ shown_or : (o : Option Contents) → shown o ≡ not (is_absent (unwrap_or o con
 shown_or None = refl
 shown_or (Some c) = refl
 
-shown_contents : (m : Replica) (q : Path) → 0 < length q → shown (fin.get m q) ≡ not (is_absent (contents_at m q))
+pub shown_contents : (m : Replica) (q : Path) → 0 < length q → shown (fin.get m q) ≡ not (is_absent (contents_at m q))
 shown_contents m [] l = absurd (omega arith)
 shown_contents m (n ∷ q) l = shown_or (fin.get m (n ∷ q))
 
-child_names : (d : Path) (n : Name) → 0 < length (d ++ n ∷ [])
+pub child_names : (d : Path) (n : Name) → 0 < length (d ++ n ∷ [])
 child_names d n = omega (arith, length-append d (n ∷ []))
 
 not_false : (b : Bool) → not b ≡ false → b ≡ true

@@ -5,10 +5,13 @@ pub mod Children
 pub mod Contented
 pub mod Copies
 pub mod Counts
+pub mod Listing
 pub mod LookUp
 pub mod MarkMaps
 pub mod Names
 pub mod Order
+pub mod Paths
+pub mod Replacing
 pub mod Runs
 pub mod Setting
 pub mod Trees

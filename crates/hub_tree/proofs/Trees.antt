@@ -1,5 +1,5 @@
 -- What holds of every tree.
-use Rattle.std.proofs.Common.{◌≡◌, Bool, true, false, List, [], ◌∷◌, Option, Some, None, refl, ap, sym, ◌∙◌, subst}
+use Rattle.std.proofs.Common.{◌≡◌, ℕ, Bool, true, false, cond, List, [], ◌∷◌, Option, Some, None, refl, ap, sym, ◌∙◌, subst}
 use Rattle.std.specs.Prelude.{Result, Ok, Err, OnOk, OnErr, ⊤}
 use Rattle.std.specs.FinMap as fin
 use Rattle.std.specs.FinMap.Entries.{find}
@@ -7,7 +7,7 @@ use Rattle.std.specs.Option.{option_and_then, unwrap_or, is_some}
 use Rattle.std.specs.Ordering.{eq_by_cmp}
 use Rattle.std.proofs.lemmas.Bool.{false≢true}
 use Rattle.hub_path.specs.Path.{Name, Path, path_cmp, name_cmp, is_path, parent}
-use Rattle.hub_tree.specs.Tree.{Replica, IsTree, HasPaths, contents_at, is_absent, is_directory, with_contents}
+use Rattle.hub_tree.specs.Tree.{Replica, IsTree, IsBytes, HasBytes, HasPaths, contents_at, is_absent, is_directory, with_contents}
 use Rattle.hub_tree.specs.Nodes.{replica_of, node_get, kids_of, layer_contents, layer_kids}
 use Rattle.hub_tree.specs.declared.contents.Contents.{Contents}
 use Rattle.hub_tree.specs.declared.contents.Contents.TheVariants as contents
@@ -26,6 +26,25 @@ HasPaths-set m p c h here = λ q e. path_here m p q (held c) (eq_by_cmp path_cmp
 pub HasPaths-after : (old new : Replica) (p : Path) (c : Contents) (r : Result ⊤ SetFault) → OnOk r (new ≡ with_contents old p c) → OnErr r (new ≡ old) → HasPaths old → is_path p ≡ true → HasPaths new
 HasPaths-after old new p c (Ok u) ok err h here = λ q e. HasPaths-set old p c h here q (sym (ap (λ m. is_some (fin.get m q)) ok) ∙ e)
 HasPaths-after old new p c (Err f) ok err h here = λ q e. h q (sym (ap (λ m. is_some (fin.get m q)) err) ∙ e)
+
+-- files have bytes
+held_file : (c : Contents) (b : List ℕ) → held c ≡ Some (contents.File b) → c ≡ contents.File b
+held_file (contents.File x) b e = ap (λ o. unwrap_or o contents.Absent) e
+held_file contents.Directory b e = cc
+held_file contents.Absent b e = cc
+
+bytes_here : (t : Bool) (w o : Option Contents) (b : List ℕ) → (w ≡ Some (contents.File b) → IsBytes b)
+    → (o ≡ Some (contents.File b) → IsBytes b) → cond t w o ≡ Some (contents.File b) → IsBytes b
+bytes_here true w o b f g e = f e
+bytes_here false w o b f g e = g e
+
+HasBytes-set : (m : Replica) (p : Path) (c : Contents) → HasBytes m → ((b : List ℕ) → c ≡ contents.File b → IsBytes b) → HasBytes (with_contents m p c)
+HasBytes-set m p c h here = λ q b e.
+    bytes_here (eq_by_cmp path_cmp q p) (held c) (fin.get m q) b (λ k. here b (held_file c b k)) (h q b) (sym (get-with_contents m p c q) ∙ e)
+
+pub HasBytes-after : (old new : Replica) (p : Path) (c : Contents) (r : Result ⊤ SetFault) → OnOk r (new ≡ with_contents old p c) → OnErr r (new ≡ old) → HasBytes old → ((b : List ℕ) → c ≡ contents.File b → IsBytes b) → HasBytes new
+HasBytes-after old new p c (Ok u) ok err h here = λ q b e. HasBytes-set old p c h here q b (sym (ap (λ m. fin.get m q) ok) ∙ e)
+HasBytes-after old new p c (Err f) ok err h here = λ q b e. h q b (sym (ap (λ m. fin.get m q) err) ∙ e)
 
 -- the parent of what is there is a directory
 shown_by : (cs : List (Name × Node)) (n : Name) (q : Path) → contents_at (replica_of cs) (n ∷ q) ≡ unwrap_or (option_and_then (node_get q) (find name_cmp n cs)) contents.Absent

@@ -1,5 +1,5 @@
 -- Replicas and archives: finite maps from paths.
-use Rattle.std.specs.Prelude.{◌≡◌, ◌≢◌, ℕ, Bool, true, false, not, ◌&&◌, ◌==◌, List, [], ◌∷◌, map, length, Option, Some, None, unwrap_or, Result, Ok, Err, if◌then◌else◌, is_some}
+use Rattle.std.specs.Prelude.{◌≡◌, ◌≢◌, ℕ, ◌<◌, slice_index, Bool, true, false, not, ◌&&◌, ◌==◌, List, [], ◌∷◌, map, length, Option, Some, None, unwrap_or, Result, Ok, Err, if◌then◌else◌, is_some}
 use Rattle.std.specs.List.{filter}
 use Rattle.std.specs.FinMap as fin
 use Rattle.sha2.specs.Sha256.{sha256}
@@ -77,6 +77,22 @@ pub record IsTree (m : Replica) : Type 0 where
 -- Every entry is at a path. Without this a map can't be written as a text and read again.
 abbrev pub HasPaths : {T : Type 0} → fin.FinMap path_cmp T → Type 0
 HasPaths m = (p : Path) → is_some (fin.get m p) ≡ true → is_path p ≡ true
+
+-- A byte is below 256.
+abbrev pub IsBytes : List ℕ → Type 0
+IsBytes xs = (i : ℕ) → slice_index xs i < 256
+
+-- A digest has 32 bytes.
+abbrev pub IsDigest : List ℕ → Type 0
+IsDigest xs = (length xs ≡ 32) × IsBytes xs
+
+-- A file has bytes.
+abbrev pub HasBytes : Replica → Type 0
+HasBytes m = (p : Path) (bytes : List ℕ) → fin.get m p ≡ Some (contents.File bytes) → IsBytes bytes
+
+-- The mark of a file has a digest.
+abbrev pub HasDigests : Archive → Type 0
+HasDigests a = (p : Path) (digest : List ℕ) → fin.get a p ≡ Some (mark.File digest) → IsDigest digest
 
 -- The same as for a tree, for an archive; nothing is asked of parents.
 pub record IsArchive (a : Archive) : Type 0 where

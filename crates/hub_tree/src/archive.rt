@@ -1,4 +1,4 @@
-ghost use Rattle.std.specs.Prelude.{◌≡◌, ◌<◌, length, IfOk, OnOk, OnErr};
+ghost use Rattle.std.specs.Prelude.{◌≡◌, ◌<◌, length, IfOk, IsOk, OnOk, OnErr};
 ghost use Rattle.std.specs.FinMap as fin;
 ghost use Rattle.std.specs.BTreeMap.{keys, IsOrdered};
 ghost use Rattle.hub_path.specs.Path.{path_cmp};
@@ -10,9 +10,9 @@ use std::alloc::{AllocError, Global};
 use std::collections::BTreeMap;
 use std::marker::Model;
 
-/// What was last seen to be the same on both sides of a pair of replicas: a mark at finitely many paths.
+/// What a pair of replicas last agreed on: marks at finitely many paths.
 ///
-/// The marks are kept in the order of their paths.
+/// It is an ordered map from paths to marks.
 #[derive(Drop)]
 pub struct Archive {
     alloc: Global,
@@ -30,11 +30,14 @@ impl Model for Archive {
 
     ghost coded = { fin.code (coded_list (coded_list coded_ℕ)) coded_mark };
 
-    ghost use Rattle.hub_tree.specs.Tree.{IsArchive, HasPaths};
+    ghost use Rattle.hub_tree.specs.Tree.{IsArchive, HasPaths, HasDigests};
 
     ghost view = { λ a. fin.from_entries a.marks.entries };
 
-    ghost invariant = { λ a. IsArchive (fin.from_entries a.marks.entries) × HasPaths (fin.from_entries a.marks.entries) };
+    ghost invariant = { λ a.
+        IsArchive (fin.from_entries a.marks.entries)
+        × HasPaths (fin.from_entries a.marks.entries)
+        × HasDigests (fin.from_entries a.marks.entries) };
 }
 
 impl Archive {
@@ -48,7 +51,7 @@ impl Archive {
         }
     }
 
-    /// The same archive once more.
+    /// Copies the archive.
     pub fn copy(&self) -> Result<Archive, AllocError>
         ensures { IfOk result (λ a. a ≡ self.now) }
     {
@@ -58,18 +61,19 @@ impl Archive {
         })
     }
 
-    /// The paths that have marks, ascending.
+    /// The paths that have marks, in ascending order.
     pub fn paths(&self) -> Result<Items<RelPath>, AllocError>
         ensures { IfOk result (λ ps. ps ≡ fin.keys self.now) }
     {
         Ok(Items::from_vec(copies_of_paths(self.alloc, &self.marks)?))
     }
 
-    /// The mark at the path, `Absent` where there is none. It takes no memory.
+    /// The mark at the path, or `Absent` if there is none.
     pub fn mark_at(&self, path: &RelPath) -> Mark
         ensures mark { result ≡ tree.old_mark_at self.now path.now }
         ensures archive { tree.IsArchive self.now }
         ensures paths { tree.HasPaths self.now }
+        ensures digests { tree.HasDigests self.now }
     {
         match self.marks.get(path) {
             Some(mark) => *mark,
@@ -77,15 +81,17 @@ impl Archive {
         }
     }
 
-    /// Sets the mark at the path, which is not the whole replica; `Absent` takes the entry out.
+    /// Sets the mark at the path, which is not the whole replica. `Absent` removes the entry.
     ///
-    /// Where memory is refused, the archive is as it was. To take an entry out needs no memory.
+    /// Out of memory leaves the archive unchanged. To set `Absent` allocates nothing.
     pub fn set(&mut self, path: &RelPath, mark: Mark) -> Result<(), AllocError>
         requires { 0 < length path.now }
         ensures ok { OnOk result (self.new ≡ tree.with_mark self.old path.now mark) }
         ensures err { OnErr result (self.new ≡ self.old) }
+        ensures absent { mark ≡ Mark.Absent → IsOk result }
     {
         let _names = path.len();
+        mark.has_digest();
         match kept(mark) {
             None => {
                 let _old = self.marks.remove(path);
@@ -98,7 +104,7 @@ impl Archive {
     }
 }
 
-/// What an archive keeps of a mark: nothing of `Absent`.
+/// What an archive stores of a mark: nothing for `Absent`.
 fn kept(mark: Mark) -> Option<Mark>
     ensures { result ≡ tree.kept mark }
 {
@@ -109,7 +115,7 @@ fn kept(mark: Mark) -> Option<Mark>
     }
 }
 
-/// Copies of the paths that have marks.
+/// Copies the paths that have marks.
 fn copies_of_paths(
     alloc: Global,
     marks: &BTreeMap<RelPath, Mark>,
@@ -124,7 +130,7 @@ fn copies_of_paths(
     Ok(paths)
 }
 
-/// Copies of these marks.
+/// Copies the marks.
 fn copy_of_marks(
     alloc: Global,
     marks: &BTreeMap<RelPath, Mark>,

@@ -7,7 +7,7 @@ use std::marker::Model;
 
 /// The bytes of a file, with their digest. Contracts see the bytes alone.
 ///
-/// The digest is SHA-256 (FIPS 180-4), and is computed once, when the blob is made.
+/// The digest is SHA-256 (FIPS 180-4). It is computed once, when the blob is made.
 #[derive(Debug, Drop)]
 pub struct Blob {
     bytes: Vec<u8>,
@@ -26,7 +26,7 @@ impl Model for Blob {
 }
 
 impl Blob {
-    /// A file with these bytes. It takes no memory beside theirs.
+    /// A file with these bytes. Its time grows with them, since their digest is computed.
     pub fn new(bytes: Vec<u8>) -> Blob
         ensures { result ≡ bytes.items }
     {
@@ -34,21 +34,21 @@ impl Blob {
         Blob { bytes, digest }
     }
 
-    /// The bytes, lent. It takes no memory.
+    /// The bytes.
     pub fn bytes(&self) -> &[u8]
         ensures { result.now ≡ self.now }
     {
         self.bytes.as_slice()
     }
 
-    /// The SHA-256 of the bytes. It takes no memory, and no time that grows with them.
+    /// The SHA-256 digest of the bytes, in constant time.
     pub fn digest(&self) -> [u8; 32]
         ensures { result ≡ sha256 self.now }
     {
         self.digest
     }
 
-    /// The same file once more, its bytes copied.
+    /// Copies the bytes, with their digest.
     pub fn copy(&self) -> Result<Blob, AllocError>
         ensures { IfOk result (λ b. b ≡ self.now) }
     {

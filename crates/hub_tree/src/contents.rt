@@ -1,9 +1,10 @@
-ghost use Rattle.std.specs.Prelude.{◌≡◌, IfOk};
+ghost use Rattle.std.specs.Prelude.{◌≡◌, IfOk, List, ℕ};
+ghost use Rattle.hub_tree.specs.Tree.{IsBytes, IsDigest, mark_of};
 
 use crate::blob::Blob;
 use std::alloc::AllocError;
 
-/// What stands at a path of a replica.
+/// The contents of a path of a replica.
 #[derive(Debug, Drop)]
 pub enum Contents {
     /// A file with these bytes.
@@ -14,10 +15,10 @@ pub enum Contents {
     Absent,
 }
 
-/// What stands at a path, with a digest in place of a file's bytes.
+/// A summary of contents: a digest in place of a file's bytes.
 #[derive(Clone, Copy, Debug, PartialEq, Eq)]
 pub enum Mark {
-    /// A file whose bytes have this SHA-256.
+    /// A file whose bytes have this SHA-256 digest (FIPS 180-4).
     File([u8; 32]),
     /// A directory.
     Directory,
@@ -26,9 +27,7 @@ pub enum Mark {
 }
 
 impl Contents {
-    ghost use Rattle.hub_tree.specs.Tree.{mark_of};
-
-    /// The mark of the contents. It takes no memory.
+    /// The mark of the contents.
     pub fn mark(&self) -> Mark
         ensures { result ≡ mark_of self.now }
     {
@@ -39,7 +38,7 @@ impl Contents {
         }
     }
 
-    /// The same contents once more, a file's bytes copied.
+    /// Copies the contents, with the bytes of a file.
     pub fn copy(&self) -> Result<Contents, AllocError>
         ensures { IfOk result (λ c. c ≡ self.now) }
     {
@@ -49,4 +48,36 @@ impl Contents {
             Contents::Absent => Ok(Contents::Absent),
         }
     }
+
+    /// Does nothing: the bytes of a file are below 256.
+    pub(crate) fn has_bytes(&self)
+        ensures { (bytes : List ℕ) → self.now ≡ Contents.File bytes → IsBytes bytes }
+    {
+        if let Contents::File(blob) = self {
+            are_bytes(blob.bytes());
+        }
+    }
+}
+
+impl Mark {
+    /// Does nothing: the digest of a file has 32 bytes.
+    pub(crate) fn has_digest(&self)
+        ensures { (digest : List ℕ) → self.now ≡ Mark.File digest → IsDigest digest }
+    {
+        if let Mark::File(digest) = self {
+            is_digest(digest);
+        }
+    }
+}
+
+/// Does nothing: bytes are below 256.
+fn are_bytes(bytes: &[u8])
+    ensures { IsBytes bytes.now }
+{}
+
+/// Does nothing: an array of 32 bytes is a digest.
+fn is_digest(digest: &[u8; 32])
+    ensures { IsDigest digest.now }
+{
+    are_bytes(digest.as_slice());
 }

@@ -1,22 +1,22 @@
 use std::alloc::{AllocError, AllocFailed};
 use thiserror::Error;
 
-/// Why contents can't be set at a path: the first of these that applies.
+/// Why contents can't be set at a path: the first of these that applies, in this order.
 #[derive(Clone, Copy, Debug, PartialEq, Eq, Error)]
 pub enum SetFault {
     /// The path is the whole replica.
     #[error("RootPath")]
     RootPath,
-    /// The parent of the path is no directory.
+    /// The parent of the path is not a directory.
     #[error("NoParent")]
     NoParent,
-    /// A directory that holds something would become a file or go.
+    /// A directory that holds something would be removed or become a file.
     #[error("NotEmpty")]
     NotEmpty,
-    /// Nothing is there that could go.
+    /// There is nothing to remove.
     #[error("NothingThere")]
     NothingThere,
-    /// Memory was refused.
+    /// Out of memory.
     #[error("OutOfMemory")]
     OutOfMemory,
 }

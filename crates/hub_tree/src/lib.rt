@@ -1,7 +1,9 @@
-//! Replicas and archives: what stands at each path, held in memory.
+//! Replicas and archives, held in memory.
 //!
-//! A `Tree` is a replica: it has files and directories at finitely many paths. An `Archive` remembers a mark for
-//! each path of a pair of replicas. Contracts see both as finite maps from paths, by the words of `specs/Tree`.
+//! A `Tree` is a replica: it has files and directories at finitely many paths. An `Archive` records the marks that both
+//! replicas of a pair last agreed on. Contracts see both as finite maps from paths, in the words of `specs/Tree`.
+//!
+//! Only functions that return a `Result` allocate, and `Blob::new` takes over the memory of its bytes.
 #![tactic(auto)]
 
 mod archive;

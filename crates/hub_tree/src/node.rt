@@ -1,4 +1,4 @@
-ghost use Rattle.std.specs.Prelude.{◌≡◌, ◌<◌, min, ◌++◌, [], ◌∷◌, drop, length, None, IfOk, IfErr, OnOk, OnErr};
+ghost use Rattle.std.specs.Prelude.{◌≡◌, ◌<◌, min, ◌++◌, [], ◌∷◌, drop, map, length, None, IfOk, IfErr, OnOk, OnErr};
 ghost use Rattle.std.specs.Option.{option_and_then, option_copied};
 ghost use Rattle.std.specs.FinMap as fin;
 ghost use Rattle.std.specs.BTreeMap.{get, insert_entry, keys, IsOrdered};
@@ -13,16 +13,16 @@ use hub_path::{Items, Name, RelPath};
 use std::alloc::{AllocError, Global};
 use std::collections::BTreeMap;
 
-/// What a directory holds under a name.
+/// What a directory holds at a name.
 #[derive(Drop)]
 pub enum Node {
     /// A file.
     File(Blob),
-    /// A directory, by what it holds.
+    /// A directory, with what it holds.
     Directory(BTreeMap<Name, Node>),
 }
 
-/// What stands below these at the names of the path from `depth` on.
+/// Finds the node at the names of the path from `depth` on.
 pub fn node_at<'a>(
     children: &'a BTreeMap<Name, Node>,
     path: &RelPath,
@@ -43,7 +43,7 @@ pub fn node_at<'a>(
     }
 }
 
-/// Copies of the names, ascending.
+/// Copies the names, in ascending order.
 pub fn names_of(alloc: Global, children: &BTreeMap<Name, Node>) -> Result<Items<Name>, AllocError>
     ensures names { IfOk result (λ ns. ns ≡ keys children.now) }
     ensures ordered { IsOrdered name_cmp children.now }
@@ -55,7 +55,44 @@ pub fn names_of(alloc: Global, children: &BTreeMap<Name, Node>) -> Result<Items<
     Ok(Items::from_vec(names))
 }
 
-/// Copies of these, with all that they hold.
+/// Pushes the paths of these and of all that they hold, each after a prefix, in ascending order.
+#[cycle(paths)]
+pub fn push_paths(
+    prefix: &RelPath,
+    children: &BTreeMap<Name, Node>,
+    paths: &mut Vec<RelPath>,
+) -> Result<(), AllocError>
+    ensures { OnOk result (paths.new.items
+        ≡ paths.old.items
+        ++ map (λ p. prefix.now ++ p) (fin.keys (replica_of children.now.entries))) }
+{
+    for (name, node) in children.iter() {
+        let path = prefix.child(name.copy()?)?;
+        push_below(path, node, paths)?;
+    }
+    Ok(())
+}
+
+/// Pushes the path of a node, and then the paths of all that it holds.
+#[cycle(paths)]
+fn push_below(path: RelPath, node: &Node, paths: &mut Vec<RelPath>) -> Result<(), AllocError>
+    ensures { OnOk result (paths.new.items
+        ≡ paths.old.items ++ map (λ p. path ++ p) ([] ∷ fin.keys (replica_of (kids_of node.now)))) }
+{
+    match node {
+        Node::File(_) => {
+            paths.push(path)?;
+            Ok(())
+        }
+        Node::Directory(children) => {
+            let prefix = path.copy()?;
+            paths.push(path)?;
+            push_paths(&prefix, children, paths)
+        }
+    }
+}
+
+/// Copies these nodes, with all that they hold.
 #[cycle(copy)]
 pub fn copies_of(
     alloc: Global,
@@ -71,15 +108,16 @@ pub fn copies_of(
     Ok(copies)
 }
 
-/// Puts a node under a name.
+/// Puts a node at a name.
 fn put(children: &mut BTreeMap<Name, Node>, name: Name, node: Node) -> Result<(), AllocError>
-    ensures { OnOk result (children.new.entries ≡ insert_entry name_cmp children.old.entries name node) }
+    ensures { OnOk result
+        (children.new.entries ≡ insert_entry name_cmp children.old.entries name node) }
 {
     let _old = children.insert(name, node)?;
     Ok(())
 }
 
-/// A copy of the node, with all that it holds.
+/// Copies a node, with all that it holds.
 #[cycle(copy)]
 fn copy_of(alloc: Global, node: &Node) -> Result<Node, AllocError>
     ensures { IfOk result (λ x. entries_at x ≡ entries_at node.now) }
@@ -90,7 +128,7 @@ fn copy_of(alloc: Global, node: &Node) -> Result<Node, AllocError>
     }
 }
 
-/// How many files and directories these are with all that they hold, at most `u64::MAX`.
+/// Counts these nodes and all that they hold, up to `u64::MAX`.
 #[cycle(count)]
 pub fn count_of(children: &BTreeMap<Name, Node>) -> u64
     ensures { result ≡ min (fin.len (replica_of children.now.entries)) u64.MAX }
@@ -102,7 +140,7 @@ pub fn count_of(children: &BTreeMap<Name, Node>) -> u64
     count
 }
 
-/// How many files and directories the node is with all that it holds, at most `u64::MAX`.
+/// Counts a node and all that it holds, up to `u64::MAX`.
 #[cycle(count)]
 fn count_at(node: &Node) -> u64
     ensures { result ≡ min (size_of node.now) u64.MAX }
@@ -123,9 +161,12 @@ pub fn set_at(
     contents: Contents,
 ) -> Result<(), SetFault>
     requires { depth < length path.now }
-    ensures allowed { OnOk result (set_fault (replica_of children.old.entries) (drop depth path.now) contents ≡ None) }
-    ensures ok { OnOk result (replica_of children.new.entries ≡ with_contents (replica_of children.old.entries) (drop depth path.now) contents) }
-    ensures fault { IfErr result (IsRefusal (set_fault (replica_of children.old.entries) (drop depth path.now) contents)) }
+    ensures allowed { OnOk result
+        (set_fault (replica_of children.old.entries) (drop depth path.now) contents ≡ None) }
+    ensures ok { OnOk result (replica_of children.new.entries
+        ≡ with_contents (replica_of children.old.entries) (drop depth path.now) contents) }
+    ensures fault { IfErr result
+        (IsRefusal (set_fault (replica_of children.old.entries) (drop depth path.now) contents)) }
     ensures err { OnErr result (replica_of children.new.entries ≡ replica_of children.old.entries) }
 {
     let len = path.len();
@@ -150,7 +191,8 @@ fn set_below(
 ) -> Result<(), SetFault>
     requires { depth < length path.now }
     ensures allowed { OnOk result (fault_below node.old (drop depth path.now) contents ≡ None) }
-    ensures ok { OnOk result (replica_of (kids_of node.new) ≡ with_contents (replica_of (kids_of node.old)) (drop depth path.now) contents) }
+    ensures ok { OnOk result (replica_of (kids_of node.new)
+        ≡ with_contents (replica_of (kids_of node.old)) (drop depth path.now) contents) }
     ensures fault { IfErr result (IsRefusal (fault_below node.old (drop depth path.now) contents)) }
     ensures err { OnErr result (replica_of (kids_of node.new) ≡ replica_of (kids_of node.old)) }
     ensures kind { contents_of node.new ≡ contents_of node.old }
@@ -161,16 +203,19 @@ fn set_below(
     }
 }
 
-/// Sets contents under a name.
+/// Sets contents at a name.
 fn set_child(
     alloc: Global,
     children: &mut BTreeMap<Name, Node>,
     name: &Name,
     contents: Contents,
 ) -> Result<(), SetFault>
-    ensures allowed { OnOk result (set_fault (replica_of children.old.entries) (name.now ∷ []) contents ≡ None) }
-    ensures ok { OnOk result (replica_of children.new.entries ≡ with_contents (replica_of children.old.entries) (name.now ∷ []) contents) }
-    ensures fault { IfErr result (IsRefusal (set_fault (replica_of children.old.entries) (name.now ∷ []) contents)) }
+    ensures allowed { OnOk result
+        (set_fault (replica_of children.old.entries) (name.now ∷ []) contents ≡ None) }
+    ensures ok { OnOk result (replica_of children.new.entries
+        ≡ with_contents (replica_of children.old.entries) (name.now ∷ []) contents) }
+    ensures fault { IfErr result
+        (IsRefusal (set_fault (replica_of children.old.entries) (name.now ∷ []) contents)) }
     ensures err { OnErr result (replica_of children.new.entries ≡ replica_of children.old.entries) }
 {
     match contents {
@@ -180,11 +225,14 @@ fn set_child(
     }
 }
 
-/// Puts a file under a name.
+/// Puts a file at a name.
 fn set_file(children: &mut BTreeMap<Name, Node>, name: &Name, blob: Blob) -> Result<(), SetFault>
-    ensures allowed { OnOk result (set_fault (replica_of children.old.entries) (name.now ∷ []) (Contents.File blob) ≡ None) }
-    ensures ok { OnOk result (replica_of children.new.entries ≡ with_contents (replica_of children.old.entries) (name.now ∷ []) (Contents.File blob)) }
-    ensures fault { IfErr result (IsRefusal (set_fault (replica_of children.old.entries) (name.now ∷ []) (Contents.File blob))) }
+    ensures allowed { OnOk result
+        (set_fault (replica_of children.old.entries) (name.now ∷ []) (Contents.File blob) ≡ None) }
+    ensures ok { OnOk result (replica_of children.new.entries
+        ≡ with_contents (replica_of children.old.entries) (name.now ∷ []) (Contents.File blob)) }
+    ensures fault { IfErr result (IsRefusal
+        (set_fault (replica_of children.old.entries) (name.now ∷ []) (Contents.File blob))) }
     ensures err { OnErr result (replica_of children.new.entries ≡ replica_of children.old.entries) }
 {
     if is_occupied(children, name) {
@@ -194,15 +242,18 @@ fn set_file(children: &mut BTreeMap<Name, Node>, name: &Name, blob: Blob) -> Res
     Ok(())
 }
 
-/// Puts a directory under a name, or leaves the one that is there.
+/// Puts a directory at a name, or leaves the one that is there.
 fn set_directory(
     alloc: Global,
     children: &mut BTreeMap<Name, Node>,
     name: &Name,
 ) -> Result<(), SetFault>
-    ensures allowed { OnOk result (set_fault (replica_of children.old.entries) (name.now ∷ []) Contents.Directory ≡ None) }
-    ensures ok { OnOk result (replica_of children.new.entries ≡ with_contents (replica_of children.old.entries) (name.now ∷ []) Contents.Directory) }
-    ensures fault { IfErr result (IsRefusal (set_fault (replica_of children.old.entries) (name.now ∷ []) Contents.Directory)) }
+    ensures allowed { OnOk result
+        (set_fault (replica_of children.old.entries) (name.now ∷ []) Contents.Directory ≡ None) }
+    ensures ok { OnOk result (replica_of children.new.entries
+        ≡ with_contents (replica_of children.old.entries) (name.now ∷ []) Contents.Directory) }
+    ensures fault { IfErr result (IsRefusal
+        (set_fault (replica_of children.old.entries) (name.now ∷ []) Contents.Directory)) }
     ensures err { OnErr result (replica_of children.new.entries ≡ replica_of children.old.entries) }
 {
     if holds_directory(children, name) {
@@ -212,11 +263,14 @@ fn set_directory(
     Ok(())
 }
 
-/// Takes out what stands under a name.
+/// Removes the node at a name.
 fn remove(children: &mut BTreeMap<Name, Node>, name: &Name) -> Result<(), SetFault>
-    ensures allowed { OnOk result (set_fault (replica_of children.old.entries) (name.now ∷ []) Contents.Absent ≡ None) }
-    ensures ok { OnOk result (replica_of children.new.entries ≡ with_contents (replica_of children.old.entries) (name.now ∷ []) Contents.Absent) }
-    ensures fault { IfErr result (IsRefusal (set_fault (replica_of children.old.entries) (name.now ∷ []) Contents.Absent)) }
+    ensures allowed { OnOk result
+        (set_fault (replica_of children.old.entries) (name.now ∷ []) Contents.Absent ≡ None) }
+    ensures ok { OnOk result (replica_of children.new.entries
+        ≡ with_contents (replica_of children.old.entries) (name.now ∷ []) Contents.Absent) }
+    ensures fault { IfErr result
+        (IsRefusal (set_fault (replica_of children.old.entries) (name.now ∷ []) Contents.Absent)) }
     ensures err { OnErr result (replica_of children.new.entries ≡ replica_of children.old.entries) }
 {
     if is_occupied(children, name) {
@@ -228,7 +282,7 @@ fn remove(children: &mut BTreeMap<Name, Node>, name: &Name) -> Result<(), SetFau
     }
 }
 
-/// Whether a directory stands under the name that holds something.
+/// Whether the node at the name is a directory that holds something.
 fn is_occupied(children: &BTreeMap<Name, Node>, name: &Name) -> bool
     ensures { result ≡ occupied (get name_cmp children.now name.now) }
 {
@@ -239,7 +293,7 @@ fn is_occupied(children: &BTreeMap<Name, Node>, name: &Name) -> bool
     }
 }
 
-/// Whether a directory stands under the name.
+/// Whether the node at the name is a directory.
 fn holds_directory(children: &BTreeMap<Name, Node>, name: &Name) -> bool
     ensures { result ≡ is_directory (contents_or_absent (get name_cmp children.now name.now)) }
 {

@@ -25,6 +25,15 @@ fn are_names(rt: &impl Abort, names: &Items<Name>, want: &[&str]) {
     }
 }
 
+/// Whether these are the paths of that text, in order.
+fn are_paths(rt: &impl Abort, paths: &Items<RelPath>, want: &[&str]) {
+    assert_eq!(rt; paths.len(), want.len());
+    for (path, text) in paths.as_slice().iter().zip(want) {
+        let found = path.text();
+        assert!(rt; matches!(&found, Ok(found) if found.as_str() == *text));
+    }
+}
+
 /// A directory `a` that holds the file `b`.
 fn small(alloc: Global) -> Option<Tree> {
     let mut tree = Tree::new(alloc);
@@ -100,6 +109,7 @@ fn refusals_of_a_small_tree(rt: HostRuntime) -> Result<(), Fail> {
 fn changes_of_a_tree(rt: HostRuntime) -> Result<(), Fail> {
     let alloc = rt.alloc();
     let mut tree = small(alloc).ok_or("no memory")?;
+    are_paths(&rt, &tree.paths()?, &["a", "a/b"]);
     let opening = tree.copy()?;
     let b = RelPath::read(alloc, "a/b")?;
     tree.set(&b, file(alloc, "a")?)?;
@@ -113,6 +123,11 @@ fn changes_of_a_tree(rt: HostRuntime) -> Result<(), Fail> {
     are_names(&rt, &tree.names_at(&b)?, &["C", "c", "c-d", "é"]);
     are_names(&rt, &tree.names_at(&RelPath::top(alloc))?, &["a", "a-b"]);
     assert_eq!(rt; tree.count(), 7);
+    are_paths(
+        &rt,
+        &tree.paths()?,
+        &["a", "a/b", "a/b/C", "a/b/c", "a/b/c-d", "a/b/é", "a-b"],
+    );
     for text in ["a/b/é", "a/b/c", "a/b/c-d", "a/b/C", "a/b", "a"] {
         tree.set(&RelPath::read(alloc, text)?, Contents::Absent)?;
     }
@@ -166,11 +181,7 @@ fn marks_of_an_archive(rt: HostRuntime) -> Result<(), Fail> {
             "at {text}"
         );
     }
-    let paths = archive.paths()?;
-    assert_eq!(rt; paths.len(), 3);
-    for (path, want) in paths.as_slice().iter().zip(["a", "a/b", "a-b"]) {
-        assert_eq!(rt; path.text()?.as_str(), want);
-    }
+    are_paths(&rt, &archive.paths()?, &["a", "a/b", "a-b"]);
     assert_eq!(rt; opening.paths()?.len(), 4);
     assert_eq!(rt;
         opening.mark_at(&RelPath::read(alloc, "b")?),
@@ -179,10 +190,9 @@ fn marks_of_an_archive(rt: HostRuntime) -> Result<(), Fail> {
     Ok(())
 }
 
-/// Where memory is refused at any point, the tree and the archive read back as before. To be run with each
-/// allocation refused in turn.
+/// Out of memory at any point leaves the tree and the archive as before. To be run with each allocation failing in turn.
 #[test]
-fn want_of_memory_changes_nothing(rt: HostRuntime) -> Result<(), Fail> {
+fn out_of_memory_changes_nothing(rt: HostRuntime) -> Result<(), Fail> {
     let alloc = rt.alloc();
     let (Some(mut tree), Ok(a), Ok(b), Ok(c)) = (
         small(alloc),

@@ -5,16 +5,17 @@ ghost use Rattle.hub_tree.specs.Tree as tree;
 
 use crate::contents::{Contents, Mark};
 use crate::fault::SetFault;
-use crate::node::{Node, copies_of, count_of, names_of, node_at, set_at};
+use crate::node::{Node, copies_of, count_of, names_of, node_at, push_paths, set_at};
 use hub_path::{Items, Name, RelPath};
 use std::alloc::{AllocError, Global};
 use std::collections::BTreeMap;
 use std::marker::Model;
 
-/// A replica: files and directories at finitely many paths. The parent of each is a directory, and the whole replica
-/// is one.
+/// A replica: files and directories at finitely many paths. The parent of each is a directory. The empty path stands for
+/// the whole replica, which is a directory too.
 ///
-/// It is kept as a tree of names, each directory with what it holds in the order of names.
+/// Each directory is an ordered map from names to what it holds. So a look-up compares as many names as a search in each
+/// directory along the path does.
 #[derive(Drop)]
 pub struct Tree {
     alloc: Global,
@@ -32,16 +33,17 @@ impl Model for Tree {
 
     ghost coded = { fin.code (coded_list (coded_list coded_ℕ)) coded_contents };
 
-    ghost use Rattle.hub_tree.specs.Tree.{HasPaths};
+    ghost use Rattle.hub_tree.specs.Tree.{HasPaths, HasBytes};
     ghost use Rattle.hub_tree.specs.Nodes.{replica_of};
 
     ghost view = { λ a. replica_of a.children.entries };
 
-    ghost invariant = { λ a. HasPaths (replica_of a.children.entries) };
+    ghost invariant = { λ a.
+        HasPaths (replica_of a.children.entries) × HasBytes (replica_of a.children.entries) };
 }
 
 impl Tree {
-    /// A replica that holds nothing.
+    /// An empty replica.
     pub fn new(alloc: Global) -> Tree
         ensures { result ≡ fin.empty }
     {
@@ -51,7 +53,7 @@ impl Tree {
         }
     }
 
-    /// The same replica once more, the bytes of its files copied.
+    /// Copies the replica, with the bytes of its files.
     pub fn copy(&self) -> Result<Tree, AllocError>
         ensures { IfOk result (λ t. t ≡ self.now) }
     {
@@ -61,17 +63,27 @@ impl Tree {
         })
     }
 
-    /// How many files and directories the replica has, at most `u64::MAX`. It takes no memory.
+    /// The paths that have contents, in ascending order.
+    pub fn paths(&self) -> Result<Items<RelPath>, AllocError>
+        ensures { IfOk result (λ ps. ps ≡ fin.keys self.now) }
+    {
+        let mut paths = Vec::new(self.alloc);
+        push_paths(&RelPath::top(self.alloc), &self.children, &mut paths)?;
+        Ok(Items::from_vec(paths))
+    }
+
+    /// The number of files and directories, or `u64::MAX` if there are more.
     pub fn count(&self) -> u64
         ensures { result ≡ min (fin.len self.now) u64.MAX }
     {
         count_of(&self.children)
     }
 
-    /// The mark of what stands at the path. It takes no memory.
+    /// The mark of the contents at the path.
     pub fn mark_at(&self, path: &RelPath) -> Mark
         ensures tree { tree.IsTree self.now }
         ensures paths { tree.HasPaths self.now }
+        ensures bytes { tree.HasBytes self.now }
         ensures mark { result ≡ tree.mark_at self.now path.now }
     {
         let children = &self.children;
@@ -85,7 +97,7 @@ impl Tree {
         }
     }
 
-    /// The bytes of the file at the path, lent; none where no file is. It takes no memory.
+    /// The bytes of the file at the path, or `None` if there is no file.
     pub fn bytes_at<'a>(&'a self, path: &RelPath) -> Option<&'a [u8]>
         ensures { option_map (λ b. b.now) result ≡ tree.bytes_at self.now path.now }
     {
@@ -99,7 +111,7 @@ impl Tree {
         }
     }
 
-    /// The names of what the directory at the path holds, ascending; none where no directory is.
+    /// The names in the directory at the path, in ascending order. There are none if the path is not a directory.
     pub fn names_at(&self, path: &RelPath) -> Result<Items<Name>, AllocError>
         ensures { IfOk result (λ ns. ns ≡ tree.names_at self.now path.now) }
     {
@@ -115,9 +127,9 @@ impl Tree {
 
     /// Sets contents at the path; `Absent` removes what is there.
     ///
-    /// A directory that is there already stays as it is, with what it holds. The fault is the first of `RootPath`,
-    /// `NoParent`, `NotEmpty` and `NothingThere` that applies; where none does, memory may still be refused. After a
-    /// fault the replica is as it was, and the contents are dropped.
+    /// To set `Directory` where a directory is changes nothing. The fault is the first of `RootPath`, `NoParent`,
+    /// `NotEmpty` and `NothingThere` that applies. If none applies, `set` may still report `OutOfMemory`. A fault leaves the
+    /// replica unchanged, and the contents are dropped.
     pub fn set(&mut self, path: &RelPath, contents: Contents) -> Result<(), SetFault>
         ensures allowed { OnOk result (tree.set_fault self.old path.now contents ≡ None) }
         ensures ok { OnOk result (self.new ≡ tree.with_contents self.old path.now contents) }
@@ -127,6 +139,7 @@ impl Tree {
         if path.len() == 0 {
             return Err(SetFault::RootPath);
         }
+        contents.has_bytes();
         set_at(self.alloc, &mut self.children, path, 0, contents)
     }
 }

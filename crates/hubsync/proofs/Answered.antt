@@ -1,16 +1,17 @@
 -- From the line that was written to what is true of the input: what each line begins with.
-use Rattle.std.proofs.Common.{◌≡◌, ◌∙◌, ◌==◌, ◌≤◌, ◌⊎◌, inl, inr, ℕ, suc, zero, true, false, List, ◌∷◌, ◌++◌, length, take, Option, Some, None, codes, refl, sym, ap, subst, arith, eq-eqb, length-append}
-use Rattle.std.specs.Prelude.{IfSome, ⊤}
+use Rattle.std.proofs.Common.{◌≡◌, ◌∙◌, ◌==◌, ◌≤◌, ◌⊎◌, inl, inr, ℕ, suc, zero, Bool, true, false, not, ◌&&◌, ◌||◌, cond, Result, Ok, List, ◌∷◌, ◌++◌, length, take, Option, Some, None, codes, refl, sym, ap, subst, arith, eq-eqb, length-append}
+use Rattle.std.specs.Prelude.{IfOk, IfSome, ⊤}
 use Rattle.std.specs.Io.KnownBytes.{Appends, Keeps}
-use Rattle.std.proofs.lemmas.List.{append_cancel_left}
-use Rattle.std.proofs.lemmas.Option.{none-some}
-use Rattle.std.proofs.lemmas.Bool.{false≢true}
+use Rattle.std.proofs.KnownBytes.{Appends-kept}
+use Rattle.std.proofs.lemmas.List.{append_cancel_left, take_all}
+use Rattle.std.proofs.lemmas.Option.{none-some, same_Some}
+use Rattle.std.proofs.lemmas.Bool.{false≢true, true≢false, ne_eqb}
 use Rattle.hub_profile.specs.Parts.{Parts}
 use Rattle.hubsync.specs.declared.check.Refusal.TheVariants.{TooManyProfiles, SameName, NestedRoots, Patterns, Overlaps}
 use Rattle.hubsync.specs.declared.report.Report.{Report}
-use Rattle.hubsync.specs.declared.report.Report.TheVariants.{Safe, Refused, Reached, NotReached, NoProfile, BadPath, BadBundle, BadProfile, OutOfMemory}
-use Rattle.hubsync.specs.Report.{IsLine, IsTold, IsTrueOf, Spells, Holds, SpellsSafe, SpellsReach, Answers, AnswersNothing, WritesFront, status_of}
-use Rattle.hubsync.specs.Words.{Request}
+use Rattle.hubsync.specs.declared.report.Report.TheVariants.{Safe, Refused, Reached, NotReached, NoProfile, BadPath, Unread, BadBundle, BadProfile, OutOfMemory}
+use Rattle.hubsync.specs.Report.{IsLine, IsTold, IsTrueOf, Spells, Holds, SpellsSafe, SpellsReach, Serves, Answers, AnswersNothing, WritesLine, status_of}
+use Rattle.hubsync.specs.Words.{Request, asked_of}
 
 -- What holds of the profiles of an input holds of the input.
 pub told-holds : (request : Request) (bytes : List ℕ) (Ps : List Parts) (r : Report) → Spells bytes Ps → IsTold request Ps r → Holds request bytes r
@@ -20,6 +21,7 @@ told-holds request bytes Ps Reached s t = record { profiles = Ps; spelled = s; t
 told-holds request bytes Ps NotReached s t = record { profiles = Ps; spelled = s; told = t }
 told-holds request bytes Ps (NoProfile name) s t = record { profiles = Ps; spelled = s; told = t }
 told-holds request bytes Ps (BadPath f) s t = record { profiles = Ps; spelled = s; told = t }
+told-holds request bytes Ps (Unread f) s t = absurd t
 told-holds request bytes Ps (BadBundle f) s t = absurd t
 told-holds request bytes Ps (BadProfile f) s t = absurd t
 told-holds request bytes Ps OutOfMemory s t = tt
@@ -53,6 +55,7 @@ only_safe request bytes Reached line w s l e h = absurd (begins 114 115 w _ s re
 only_safe request bytes NotReached line w s l e h = absurd (begins 110 115 w _ s refl (ap (take w) (sym l) ∙ e))
 only_safe request bytes (NoProfile n) line w s l e h = absurd (begins 102 115 w _ s refl (ap (take w) (sym l) ∙ e))
 only_safe request bytes (BadPath f) line w s l e h = absurd (begins 102 115 w _ s refl (ap (take w) (sym l.1) ∙ e))
+only_safe request bytes (Unread f) line w s l e h = absurd (begins 102 115 w _ s refl (ap (take w) (sym l.1) ∙ e))
 only_safe request bytes (BadBundle f) line w s l e h = absurd (begins 102 115 w _ s refl (ap (take w) (sym l.1) ∙ e))
 only_safe request bytes (BadProfile f) line w s l e h = absurd (begins 102 115 w _ s refl (ap (take w) (sym l.1) ∙ e))
 only_safe request bytes OutOfMemory line w s l e h = absurd (begins 102 115 w _ s refl (ap (take w) (sym l) ∙ e))
@@ -69,6 +72,7 @@ only_reached request bytes Reached line w s l e h = h
 only_reached request bytes NotReached line w s l e h = absurd (begins 110 114 w _ _ refl (ap (take w) (sym l) ∙ e))
 only_reached request bytes (NoProfile n) line w s l e h = absurd (begins 102 114 w _ _ refl (ap (take w) (sym l) ∙ e))
 only_reached request bytes (BadPath f) line w s l e h = absurd (begins 102 114 w _ _ refl (ap (take w) (sym l.1) ∙ e))
+only_reached request bytes (Unread f) line w s l e h = absurd (begins 102 114 w _ _ refl (ap (take w) (sym l.1) ∙ e))
 only_reached request bytes (BadBundle f) line w s l e h = absurd (begins 102 114 w _ _ refl (ap (take w) (sym l.1) ∙ e))
 only_reached request bytes (BadProfile f) line w s l e h = absurd (begins 102 114 w _ _ refl (ap (take w) (sym l.1) ∙ e))
 only_reached request bytes OutOfMemory line w s l e h = absurd (begins 102 114 w _ _ refl (ap (take w) (sym l) ∙ e))
@@ -85,41 +89,42 @@ only_not_reached request bytes Reached line w s l e h = absurd (begins 114 110 w
 only_not_reached request bytes NotReached line w s l e h = h
 only_not_reached request bytes (NoProfile n) line w s l e h = absurd (begins 102 110 w _ s refl (ap (take w) (sym l) ∙ e))
 only_not_reached request bytes (BadPath f) line w s l e h = absurd (begins 102 110 w _ s refl (ap (take w) (sym l.1) ∙ e))
+only_not_reached request bytes (Unread f) line w s l e h = absurd (begins 102 110 w _ s refl (ap (take w) (sym l.1) ∙ e))
 only_not_reached request bytes (BadBundle f) line w s l e h = absurd (begins 102 110 w _ s refl (ap (take w) (sym l.1) ∙ e))
 only_not_reached request bytes (BadProfile f) line w s l e h = absurd (begins 102 110 w _ s refl (ap (take w) (sym l.1) ∙ e))
 only_not_reached request bytes OutOfMemory line w s l e h = absurd (begins 102 110 w _ s refl (ap (take w) (sym l) ∙ e))
 
--- What stands behind the bytes that were there is what was appended.
+-- What follows the bytes that were there is what was appended.
 appended : (old new : Option (List ℕ)) (before more text : List ℕ) → Appends old new more → old ≡ Some before → new ≡ Some (before ++ text) → more ≡ text
 appended old new before more text h e f =
     let from_old : Appends (Some before) new more = subst (λ o. Appends o new more) e h in
     let grown : before ++ text ≡ before ++ more = subst (λ n. Appends (Some before) n more) f from_old in
     sym (append_cancel_left before _ _ grown)
 
-module _ (request : Request) (remaining old new : Option (List ℕ)) (status : ℕ) (bytes before : List ℕ) where
-  held : (a : Answers request remaining old new status) → remaining ≡ Some bytes → Holds request bytes a.report
+module _ (request : Request) (remaining old new : Option (List ℕ)) (read_failed write_failed : Bool) (status : ℕ) (bytes before : List ℕ) where
+  held : (a : Answers request remaining old new read_failed write_failed status) → remaining ≡ Some bytes → Holds request bytes a.report
   held a e = subst (λ r. IfSome r (λ bs. Holds request bs a.report)) e a.holds
 
-  pub safe-written : (text : List ℕ) → Answers request remaining old new status → remaining ≡ Some bytes → old ≡ Some before
+  safe-written : (text : List ℕ) → Answers request remaining old new read_failed write_failed status → remaining ≡ Some bytes → old ≡ Some before
       → new ≡ Some (before ++ (codes "safe\n" ++ text)) → SpellsSafe bytes
-  safe-written text a e f g = only_safe request bytes a.report a.line a.written _ a.is_line (appended old new before _ _ a.appends f g) (held a e)
+  safe-written text a e f g = only_safe request bytes a.report a.line a.writes.written _ a.is_line (appended old new before _ _ a.writes.appends f g) (held a e)
 
-  pub reached-written : (text : List ℕ) → Answers request remaining old new status → remaining ≡ Some bytes → old ≡ Some before
+  reached-written : (text : List ℕ) → Answers request remaining old new read_failed write_failed status → remaining ≡ Some bytes → old ≡ Some before
       → new ≡ Some (before ++ (codes "reached\n" ++ text)) → SpellsReach (Some request) bytes true
   reached-written text a e f g =
-      let h = only_reached request bytes a.report a.line a.written _ a.is_line (appended old new before _ _ a.appends f g) (held a e) in
+      let h = only_reached request bytes a.report a.line a.writes.written _ a.is_line (appended old new before _ _ a.writes.appends f g) (held a e) in
       record { request = request; is_asked = refl; profiles = h.profiles; spelled = h.spelled; answered = h.told }
 
-  pub not_reached-written : (text : List ℕ) → Answers request remaining old new status → remaining ≡ Some bytes → old ≡ Some before
+  not_reached-written : (text : List ℕ) → Answers request remaining old new read_failed write_failed status → remaining ≡ Some bytes → old ≡ Some before
       → new ≡ Some (before ++ (codes "not reached\n" ++ text)) → SpellsReach (Some request) bytes false
   not_reached-written text a e f g =
-      let h = only_not_reached request bytes a.report a.line a.written _ a.is_line (appended old new before _ _ a.appends f g) (held a e) in
+      let h = only_not_reached request bytes a.report a.line a.writes.written _ a.is_line (appended old new before _ _ a.writes.appends f g) (held a e) in
       record { request = request; is_asked = refl; profiles = h.profiles; spelled = h.spelled; answered = h.told }
 
 -- Where the words ask for nothing, no such line is written: what is written begins with an f.
-pub nothing-written : (old new : Option (List ℕ)) (status : ℕ) (before text : List ℕ) (x : ℕ) → AnswersNothing old new status → (102 == x) ≡ false
+nothing-written : (old new : Option (List ℕ)) (status : ℕ) (before text : List ℕ) (x : ℕ) → AnswersNothing old new status → (102 == x) ≡ false
     → old ≡ Some before → new ≡ Some (before ++ (x ∷ text)) → ⊥
-nothing-written old new status before text x a d f g = go a.1
+nothing-written old new status before text x a d f g = go a.writes
   where
     kept : Keeps old new → before ++ (x ∷ text) ≡ before
     kept k = subst (λ n. Keeps (Some before) n) g (subst (λ o. Keeps o new) f k)
@@ -128,30 +133,6 @@ nothing-written old new status before text x a d f g = go a.1
     go (inl k) = omega (arith, ap length (kept k), length-append before (x ∷ text))
     go (inr w) = begins 102 x w.0 _ text d (appended old new before _ _ w.1 f g)
 
-anything : (r : Option (List ℕ)) → IfSome r (λ _. ⊤)
-anything None = tt
-anything (Some bytes) = tt
-
--- The line that memory was refused answers every question.
-pub memory-answers : (request : Request) (remaining old new : Option (List ℕ)) (status : ℕ) → WritesFront old new (codes "fault: out of memory\n") 2 status
-    → Answers request remaining old new status
-memory-answers request remaining old new status f = record {
-  report = OutOfMemory;
-  line = codes "fault: out of memory\n";
-  written = f.written;
-  is_line = refl;
-  appends = f.appends;
-  holds = anything remaining;
-  status_is = f.status_is;
-}
-
--- Words that ask for something are only refused where memory is.
-pub asked-answers : {T : Type 0} (kind none : T) (asked : Option Request) (request : Request) (remaining old new : Option (List ℕ)) (status : ℕ)
-    → (kind ≡ none) ⊎ (asked ≡ None) → (kind ≡ none → WritesFront old new (codes "fault: out of memory\n") 2 status) → asked ≡ Some request
-    → Answers request remaining old new status
-asked-answers kind none asked request remaining old new status (inl e) memory is = memory-answers request remaining old new status (memory e)
-asked-answers kind none asked request remaining old new status (inr e) memory is = absurd (none-some request (sym e ∙ is))
-
 status-le : (r : Report) → status_of r ≤ 2
 status-le Safe = omega arith
 status-le (Refused r) = omega arith
@@ -159,14 +140,128 @@ status-le Reached = omega arith
 status-le NotReached = omega arith
 status-le (NoProfile name) = omega arith
 status-le (BadPath f) = omega arith
+status-le (Unread f) = omega arith
 status-le (BadBundle f) = omega arith
 status-le (BadProfile f) = omega arith
 status-le OutOfMemory = omega arith
 
--- The status of each answer is 0, 1 or 2.
-pub answers-status : (request : Request) (remaining old new : Option (List ℕ)) (status : ℕ) → Answers request remaining old new status → status ≤ 2
-answers-status request remaining old new status a = go a.status_is
+written-le : (failed : Bool) (status result : ℕ) → status ≤ 2 → result ≡ cond failed 2 status → result ≤ 2
+written-le true status result l e = omega (arith, e)
+written-le false status result l e = omega (arith, e, l)
+
+-- The words ask for something, and that is answered.
+pub serves-answer : (request : Request) (remaining old new : Option (List ℕ)) (read_failed write_failed : Bool) (status : ℕ)
+    → Answers request remaining old new read_failed write_failed status → Serves (Some request) remaining old new read_failed write_failed status
+serves-answer request remaining old new read_failed write_failed status a = record {
+  few = written-le write_failed (status_of a.report) status (status-le a.report) a.writes.status_is;
+  nothing = λ is. absurd (none-some request (sym is));
+  answer = λ other is. subst (λ r. Answers r remaining old new read_failed write_failed status) (same_Some request other is) a;
+  safe = λ bytes before text e f g. safe-written request remaining old new read_failed write_failed status bytes before text a e f g;
+  reached = λ bytes before text e f g. reached-written request remaining old new read_failed write_failed status bytes before text a e f g;
+  not_reached = λ bytes before text e f g. not_reached-written request remaining old new read_failed write_failed status bytes before text a e f g;
+}
+
+-- The words ask for nothing.
+pub serves-nothing : (remaining old new : Option (List ℕ)) (read_failed write_failed : Bool) (status : ℕ)
+    → AnswersNothing old new status → Serves None remaining old new read_failed write_failed status
+serves-nothing remaining old new read_failed write_failed status a = record {
+  few = omega (arith, a.status_is);
+  nothing = λ is. a;
+  answer = λ request is. absurd (none-some request is);
+  safe = λ bytes before text e f g. absurd (nothing-written old new status before _ 115 a refl f g);
+  reached = λ bytes before text e f g. absurd (nothing-written old new status before _ 114 a refl f g);
+  not_reached = λ bytes before text e f g. absurd (nothing-written old new status before _ 110 a refl f g);
+}
+
+anything : (r : Option (List ℕ)) → IfSome r (λ _. ⊤)
+anything None = tt
+anything (Some bytes) = tt
+
+pub memory-nothing : (old new : Option (List ℕ)) (failed : Bool) (status : ℕ) → WritesLine old new (codes "fault: out of memory\n") 2 failed status
+    → AnswersNothing old new status
+memory-nothing old new failed status w = record { status_is = two failed w.status_is; writes = inr (w.written, w.appends) }
   where
-    go : ((status ≡ status_of a.report) × (take a.written a.line ≡ a.line)) ⊎ (status ≡ 2) → status ≤ 2
-    go (inl e) = omega (arith, e.0, status-le a.report)
-    go (inr e) = omega (arith, e)
+    two : (failed : Bool) → status ≡ cond failed 2 2 → status ≡ 2
+    two true e = e
+    two false e = e
+
+-- The line that memory is out answers every question.
+pub memory-answers : (request : Request) (remaining old new : Option (List ℕ)) (read_failed write_failed : Bool) (status : ℕ)
+    → WritesLine old new (codes "fault: out of memory\n") 2 write_failed status → Answers request remaining old new read_failed write_failed status
+memory-answers request remaining old new read_failed write_failed status w = record {
+  report = OutOfMemory;
+  holds = anything remaining;
+  only_failed = λ e. absurd (false≢true e);
+  all_failed = λ e. inr refl;
+  line = codes "fault: out of memory\n";
+  is_line = refl;
+  writes = w;
+}
+
+-- And it is right for words that ask for something and for those that don't.
+pub serves-memory : (asked : Option Request) (remaining old new : Option (List ℕ)) (read_failed write_failed : Bool) (status : ℕ)
+    → WritesLine old new (codes "fault: out of memory\n") 2 write_failed status → Serves asked remaining old new read_failed write_failed status
+serves-memory None remaining old new read_failed write_failed status w =
+    serves-nothing remaining old new read_failed write_failed status (memory-nothing old new write_failed status w)
+serves-memory (Some request) remaining old new read_failed write_failed status w =
+    serves-answer request remaining old new read_failed write_failed status (memory-answers request remaining old new read_failed write_failed status w)
+
+-- Words that are refused ask for nothing, unless memory is out.
+pub serves-refused : {T : Type 0} (kind none : T) (asked : Option Request) (remaining old new : Option (List ℕ)) (read_failed write_failed : Bool) (status : ℕ)
+    → (kind ≡ none) ⊎ (asked ≡ None) → (kind ≡ none → WritesLine old new (codes "fault: out of memory\n") 2 write_failed status) → AnswersNothing old new status
+    → Serves asked remaining old new read_failed write_failed status
+serves-refused kind none asked remaining old new read_failed write_failed status (inl e) memory a =
+    serves-memory asked remaining old new read_failed write_failed status (memory e)
+serves-refused kind none asked remaining old new read_failed write_failed status (inr e) memory a =
+    subst (λ o. Serves o remaining old new read_failed write_failed status) (sym e) (serves-nothing remaining old new read_failed write_failed status a)
+
+pub serves-asked : (asked : Option Request) (request : Request) (remaining old new : Option (List ℕ)) (read_failed write_failed : Bool) (status : ℕ)
+    → asked ≡ Some request → Answers request remaining old new read_failed write_failed status → Serves asked remaining old new read_failed write_failed status
+serves-asked asked request remaining old new read_failed write_failed status is a =
+    subst (λ o. Serves o remaining old new read_failed write_failed status) (sym is) (serves-answer request remaining old new read_failed write_failed status a)
+
+-- Words that are the same ask for the same.
+pub serves-same : (words same : List (List ℕ)) (remaining old new : Option (List ℕ)) (read_failed write_failed : Bool) (status : ℕ)
+    → words ≡ same → Serves (asked_of words) remaining old new read_failed write_failed status → Serves (asked_of same) remaining old new read_failed write_failed status
+serves-same words same remaining old new read_failed write_failed status e h =
+    subst (λ ws. Serves (asked_of ws) remaining old new read_failed write_failed status) e h
+
+-- All of a line was written, and no call failed.
+pub line-written : (old mid new : Option (List ℕ)) (line : List ℕ) (status : ℕ) (failed : Bool) → Appends old mid line → Keeps mid new → failed ≡ false
+    → WritesLine old new line status failed status
+line-written old mid new line status failed all kept is =
+    let whole : take (length line) line ≡ line = take_all (length line) line (omega arith) in
+    record {
+      written = length line;
+      appends = Appends-kept old mid new (take (length line) line) (subst (Appends old mid) (sym whole) all) kept;
+      whole = λ e. whole;
+      status_is = sym (ap (λ f. cond f 2 status) is);
+    }
+
+-- A prefix of a line was written, and a call failed.
+pub line-cut : (old new : Option (List ℕ)) (line : List ℕ) (n status : ℕ) (failed : Bool) → Appends old new (take n line) → failed ≡ true
+    → WritesLine old new line status failed 2
+line-cut old new line n status failed some is = record {
+  written = n;
+  appends = some;
+  whole = λ e. absurd (true≢false (sym is ∙ e));
+  status_is = sym (ap (λ f. cond f 2 status) is);
+}
+
+-- All of a line was written, and then the flush failed.
+pub line-unflushed : (old mid new : Option (List ℕ)) (line : List ℕ) (status : ℕ) (failed : Bool) → Appends old mid line → Keeps mid new → failed ≡ true
+    → WritesLine old new line status failed 2
+line-unflushed old mid new line status failed all kept is =
+    line-cut old new line (length line) status failed (Appends-kept old mid new (take (length line) line) (subst (Appends old mid) (sym (take_all (length line) line (omega arith))) all) kept) is
+
+-- A write that took something has not failed.
+pub taken-unfailed : (failed now : Bool) (len n : ℕ) → failed ≡ false → (n ≡ 0 → ⊥) → now ≡ (failed || ((n == 0) && not (len == 0))) → now ≡ false
+taken-unfailed failed now len n h some e = e ∙ rw (h, ne_eqb n 0 some) refl
+
+-- Nor have two calls of which neither failed.
+pub both-unfailed : (failed err now : Bool) → true ≡ not failed → err ≡ false → now ≡ (failed || err) → now ≡ false
+both-unfailed true err now h k e = cc
+both-unfailed false err now h k e = e ∙ k
+
+pub ok-holds : {T E : Type 0} (r : Result T E) (v : T) (P : T → Type 0) → r ≡ Ok v → P v → IfOk r P
+ok-holds r v P e h = subst (λ x. IfOk x P) (sym e) h

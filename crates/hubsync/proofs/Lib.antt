@@ -1,4 +1,5 @@
 pub mod Answered
+pub mod InputFacts
 pub mod NearestFacts
 pub mod ShownFacts
 pub mod CheckFacts

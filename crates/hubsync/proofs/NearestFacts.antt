@@ -1,11 +1,12 @@
 -- The best of a list is one of it, and none of it is nearer.
-use Rattle.std.proofs.Common.{◌≡◌, ⊎_elim, ℕ, Bool, true, false, not, cond, ◌||◌, List, [], ◌∷◌, ◌++◌, length, Option, Some, None, refl, sym, ap, ◌∙◌, encode_utf8_all, chars, subst, Bor}
-use Rattle.std.specs.Prelude.{IsTrue, MatchOption}
+use Rattle.std.proofs.Common.{◌≡◌, ⊎_elim, ℕ, zero, suc, drop, Bool, true, false, not, cond, ◌||◌, List, [], ◌∷◌, ◌++◌, length, Option, Some, None, refl, sym, ap, ◌∙◌, encode_utf8_all, chars, subst, Bor}
+use Rattle.std.specs.Prelude.{IsTrue, MatchOption, slice_get}
+use Rattle.std.proofs.lemmas.Option.{none-some, same_Some}
 use Rattle.std.specs.Str.{IsUtf8}
 use Rattle.std.specs.Option.{option_copied}
 use Rattle.std.specs.Bool.{Decides}
 use Rattle.std.proofs.lemmas.Slice.Eq.{slice_eq-Decides}
-use Rattle.hub_path.specs.Laws.{name_eq-decides}
+use Rattle.hub_path.specs.Laws.{name_eq-decides, is_over-rest}
 use Rattle.std.specs.List.{list_any, list_all}
 use Rattle.std.specs.Cmp.{IsTotalOrder}
 use Rattle.std.specs.declared.cmp.Ordering.{Ordering}
@@ -17,7 +18,7 @@ use Rattle.std.proofs.lemmas.Cmp.{upto, tied_itself, then_total, on_total, nat_c
 use Rattle.std.proofs.lemmas.Bool.{and_from, or_left, or_right, or_cases}
 use Rattle.std.proofs.lemmas.List.Sums.{fold-append}
 use Rattle.std.proofs.lemmas.Str.{chars_from_encodes}
-use Rattle.hub_path.specs.Path.{Path, path_eq, text_of}
+use Rattle.hub_path.specs.Path.{Name, Path, is_over, name_eq, path_eq, text_of}
 use Rattle.hubsync.specs.Nearest.{text_cmp, is_nearer, is_nearest, nearer_of, best_of}
 
 abbrev by_text : Path → Path → Ordering
@@ -116,3 +117,14 @@ neither Greater h k = cc
 -- Two paths of which neither is nearer have one text.
 pub tied-texts : (p q : Path) → is_nearer p q ≡ false → is_nearer q p ≡ false → text_of p ≡ text_of q
 tied-texts p q h k = exact_bytes (text_of p) (text_of q) (then-equal (nat_cmp (length (text_of p)) (length (text_of q))) (slice_cmp nat_cmp (text_of p) (text_of q)) (neither (by_text p q) h (sym (flipped q p) ∙ k)))
+
+longer : (p r : Path) (i : ℕ) (n : Name) → slice_get p i ≡ Some n → slice_get (p ++ r) i ≡ Some n
+longer [] r i n h = absurd (none-some n h)
+longer (m ∷ p) r zero n h = h
+longer (m ∷ p) r (suc i) n h = longer p r i n h
+
+-- A path has the names of each path that is over it, at their places.
+pub same-name : (p q : Path) (i : ℕ) (m n : Name) → IsTrue (is_over p q) → slice_get p i ≡ Some m → slice_get q i ≡ Some n → IsTrue (name_eq m n)
+same-name p q i m n h own other =
+    let same : slice_get q i ≡ Some m = ap (λ (x : Path). slice_get x i) (is_over-rest p q h) ∙ longer p (drop (length p) q) i m own in
+    (name_eq-decides m n).1 (same_Some m n (sym same ∙ other))

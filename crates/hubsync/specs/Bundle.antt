@@ -8,10 +8,8 @@ use Rattle.hub_path.specs.declared.fault.PathFault.{PathFault}
 use Rattle.hubsync.specs.declared.bundle.Heading.{Heading}
 use Rattle.hubsync.specs.declared.bundle.Heading.TheVariants.{Profile}
 use Rattle.hubsync.specs.declared.bundle.BundleFault.{BundleFault}
-use Rattle.hubsync.specs.declared.bundle.BundleFault.TheVariants.{NoSection, UnknownSection, BadName, SectionTwice, ReadFailed, TurnsSpent, OutOfMemory}
+use Rattle.hubsync.specs.declared.bundle.BundleFault.TheVariants.{NoSection, UnknownSection, BadName, SectionTwice, OutOfMemory}
 use Rattle.hubsync.specs.declared.bundle.BundleLineFault.{BundleLineFault}
-use Rattle.hubsync.specs.declared.input.InputFault.{InputFault}
-use Rattle.hubsync.specs.declared.input.InputFault.TheVariants as input
 
 -- A section as contracts see it: what its heading says, and the bytes below it.
 pub record SectionValue : Type 0 where
@@ -125,11 +123,6 @@ unless_stray (Some n) later = Err (record { line = n; fault = NoSection })
 abbrev pub bundle_reading : List ℕ → Result (List SectionValue) BundleLineFault
 bundle_reading bytes = unless_stray (stray_line 1 (lines bytes)) (sections_reading [] (written 1 (lines bytes)))
 
--- What is told where memory is refused, and where the input isn't read: the line 0 stands for the whole input.
+-- Out of memory has line 0.
 abbrev pub out_of_memory : BundleLineFault
 out_of_memory = record { line = 0; fault = OutOfMemory }
-
-abbrev pub input_fault : InputFault → BundleLineFault
-input_fault input.ReadFailed = record { line = 0; fault = ReadFailed }
-input_fault input.TurnsSpent = record { line = 0; fault = TurnsSpent }
-input_fault input.OutOfMemory = out_of_memory

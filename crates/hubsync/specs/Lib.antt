@@ -1,4 +1,5 @@
 pub mod Bundle
+pub mod Input
 pub mod Nearest
 pub mod Shown
 pub mod Check

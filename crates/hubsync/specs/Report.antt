@@ -1,5 +1,5 @@
 -- What the program answers to an input, and when.
-use Rattle.std.specs.Prelude.{◌≡◌, ◌⊎◌, ◌≤◌, ◌∷◌, ◌++◌, ⊤, ℕ, Bool, true, false, List, [], length, take, Option, Some, None, IfSome, Result, Ok, Err, chars, codes, encode_utf8_all}
+use Rattle.std.specs.Prelude.{◌≡◌, ◌⊎◌, ◌≤◌, ◌∷◌, ◌++◌, ⊤, ℕ, Bool, true, false, if◌then◌else◌, List, [], length, take, Option, Some, None, IfSome, Result, Ok, Err, chars, codes, encode_utf8_all}
 use Rattle.std.specs.List.{flat_map}
 use Rattle.std.specs.Fmt.{decimal}
 use Rattle.std.specs.Io.KnownBytes.{Appends, Keeps}
@@ -12,10 +12,11 @@ use Rattle.hub_profile.specs.declared.fault.ProfileFault.{ProfileFault}
 use Rattle.hub_reach.specs.Reach.{reach}
 use Rattle.hub_reach.specs.Safe.{IsSafe}
 use Rattle.hubsync.specs.declared.input.TheConstants.{READ_TURNS}
+use Rattle.hubsync.specs.declared.input.InputFault.{InputFault}
+use Rattle.hubsync.specs.declared.input.InputFault.TheVariants as input
 use Rattle.hubsync.specs.declared.bundle.Heading.{Heading}
 use Rattle.hubsync.specs.declared.bundle.Heading.TheVariants.{Profile}
 use Rattle.hubsync.specs.declared.bundle.BundleLineFault.{BundleLineFault}
-use Rattle.hubsync.specs.declared.bundle.BundleFault.TheVariants.{ReadFailed, TurnsSpent}
 use Rattle.hubsync.specs.declared.profiles.SectionFault.{SectionFault}
 use Rattle.hubsync.specs.declared.profiles.ReadError.{ReadError}
 use Rattle.hubsync.specs.declared.profiles.ReadError.TheVariants as memory
@@ -23,9 +24,10 @@ use Rattle.hubsync.specs.declared.check.Overlap.{Overlap}
 use Rattle.hubsync.specs.declared.check.Refusal.{Refusal}
 use Rattle.hubsync.specs.declared.check.Refusal.TheVariants.{TooManyProfiles, SameName, NestedRoots, Patterns, Overlaps}
 use Rattle.hubsync.specs.declared.report.Report.{Report}
-use Rattle.hubsync.specs.declared.report.Report.TheVariants.{Safe, Refused, Reached, NotReached, NoProfile, BadPath, BadBundle, BadProfile, OutOfMemory}
+use Rattle.hubsync.specs.declared.report.Report.TheVariants.{Safe, Refused, Reached, NotReached, NoProfile, BadPath, Unread, BadBundle, BadProfile, OutOfMemory}
 use Rattle.hubsync.specs.Bundle.{SectionValue, bundle_reading}
 use Rattle.hubsync.specs.Check.{Refuses}
+use Rattle.hubsync.specs.Input.{says_failed}
 use Rattle.hubsync.specs.Reached.{named}
 use Rattle.hubsync.specs.Words.{Request}
 use Rattle.hubsync.specs.Words as question
@@ -110,6 +112,7 @@ IsTold request Ps Reached = ReachIs request Ps true
 IsTold request Ps NotReached = ReachIs request Ps false
 IsTold request Ps (NoProfile name) = LacksProfile request Ps name.now
 IsTold request Ps (BadPath f) = HasBadPath request Ps f
+IsTold request Ps (Unread f) = ⊥
 IsTold request Ps (BadBundle f) = ⊥
 IsTold request Ps (BadProfile f) = ⊥
 IsTold request Ps OutOfMemory = ⊤
@@ -120,11 +123,11 @@ pub record IsTrueOf (request : Request) (bytes : List ℕ) (r : Report) : Type 0
   pub spelled : Spells bytes profiles
   pub told : IsTold request profiles r
 
--- A failed read, an input that doesn't end within its reads, or the first fault of the bundle.
-abbrev pub IsBundleFault : List ℕ → BundleLineFault → Type 0
-IsBundleFault bytes f =
-    (f ≡ record { line = 0; fault = ReadFailed })
-    ⊎ ((f ≡ record { line = 0; fault = TurnsSpent }) × (READ_TURNS ≤ length bytes) ⊎ (bundle_reading bytes ≡ Err f))
+-- What holds of an input that isn't read. That a read failed is no fact about its bytes: `says_read_failed` tells it.
+abbrev pub IsUnread : List ℕ → InputFault → Type 0
+IsUnread bytes input.ReadFailed = ⊤
+IsUnread bytes input.TurnsSpent = READ_TURNS ≤ length bytes
+IsUnread bytes input.OutOfMemory = ⊤
 
 -- What holds of the question and the input where the program answers so.
 abbrev pub Holds : Request → List ℕ → Report → Type 0
@@ -134,7 +137,8 @@ Holds request bytes Reached = IsTrueOf request bytes Reached
 Holds request bytes NotReached = IsTrueOf request bytes NotReached
 Holds request bytes (NoProfile name) = IsTrueOf request bytes (NoProfile name)
 Holds request bytes (BadPath f) = IsTrueOf request bytes (BadPath f)
-Holds request bytes (BadBundle f) = IsBundleFault bytes f
+Holds request bytes (Unread f) = IsUnread bytes f
+Holds request bytes (BadBundle f) = bundle_reading bytes ≡ Err f
 Holds request bytes (BadProfile f) = HasFault bytes f
 Holds request bytes OutOfMemory = ⊤
 
@@ -188,6 +192,7 @@ IsLine Reached t = t ≡ codes "reached\n"
 IsLine NotReached t = t ≡ codes "not reached\n"
 IsLine (NoProfile name) t = t ≡ flat_map (λ t. t) (codes "fault: no profile " ∷ name.now ∷ codes "\n" ∷ [])
 IsLine (BadPath f) t = IsFaultLine (codes "path") t
+IsLine (Unread f) t = IsFaultLine (codes "bundle line 0") t
 IsLine (BadBundle f) t = IsFaultLine (bundle_place f.line) t
 IsLine (BadProfile f) t = IsFaultLine (profile_place f.profile f.fault.line) t
 IsLine OutOfMemory t = t ≡ codes "fault: out of memory\n"
@@ -200,26 +205,58 @@ status_of Reached = 0
 status_of NotReached = 0
 status_of (NoProfile name) = 2
 status_of (BadPath f) = 2
+status_of (Unread f) = 2
 status_of (BadBundle f) = 2
 status_of (BadProfile f) = 2
 status_of OutOfMemory = 2
 
--- A front of the line was written, all of it where the status is that of the line; else the status is 2.
-pub record WritesFront (old new : Option (List ℕ)) (line : List ℕ) (status result : ℕ) : Type 0 where
+-- The answer says that a read of the input failed.
+abbrev pub says_read_failed : Report → Bool
+says_read_failed Safe = false
+says_read_failed (Refused r) = false
+says_read_failed Reached = false
+says_read_failed NotReached = false
+says_read_failed (NoProfile name) = false
+says_read_failed (BadPath f) = false
+says_read_failed (Unread f) = says_failed f
+says_read_failed (BadBundle f) = false
+says_read_failed (BadProfile f) = false
+says_read_failed OutOfMemory = false
+
+-- A line was written to an output, whole unless a call of the output failed: then a prefix of it, and the status is 2.
+pub record WritesLine (old new : Option (List ℕ)) (line : List ℕ) (status : ℕ) (failed : Bool) (result : ℕ) : Type 0 where
   pub written : ℕ
   pub appends : Appends old new (take written line)
-  pub status_is : ((result ≡ status) × (take written line ≡ line)) ⊎ (result ≡ 2)
+  pub whole : failed ≡ false → take written line ≡ line
+  pub status_is : result ≡ (if failed then 2 else status)
 
--- Nothing was written; or, where memory was refused, the line that says so or a front of it. The status is that of a fault.
-abbrev pub AnswersNothing : Option (List ℕ) → Option (List ℕ) → ℕ → Type 0
-AnswersNothing old new status = (status ≡ 2) × (Keeps old new ⊎ ((written : ℕ) × Appends old new (take written (codes "fault: out of memory\n"))))
+-- Nothing was written, or a prefix of the line that says `out of memory`. The status is that of a fault.
+pub record AnswersNothing (old new : Option (List ℕ)) (status : ℕ) : Type 0 where
+  pub status_is : status ≡ 2
+  pub writes : Keeps old new ⊎ ((written : ℕ) × Appends old new (take written (codes "fault: out of memory\n")))
 
--- One answer that is true of the question and the input was written: its whole line, or a front of it where the output failed.
-pub record Answers (request : Request) (remaining old new : Option (List ℕ)) (status : ℕ) : Type 0 where
+-- The line of one answer was written, and the answer is true of the question and of the input, whose remaining bytes are
+-- these if they are known. It says that a read failed only if one did. If one did, it says so, or `out of memory`.
+pub record Answers (request : Request) (remaining old new : Option (List ℕ)) (read_failed write_failed : Bool) (status : ℕ) : Type 0 where
   pub report : Report
-  pub line : List ℕ
-  pub written : ℕ
-  pub is_line : IsLine report line
-  pub appends : Appends old new (take written line)
   pub holds : IfSome remaining (λ bytes. Holds request bytes report)
-  pub status_is : ((status ≡ status_of report) × (take written line ≡ line)) ⊎ (status ≡ 2)
+  pub only_failed : says_read_failed report ≡ true → read_failed ≡ true
+  pub all_failed : read_failed ≡ true → (says_read_failed report ≡ true) ⊎ (report ≡ OutOfMemory)
+  pub line : List ℕ
+  pub is_line : IsLine report line
+  pub writes : WritesLine old new line (status_of report) write_failed status
+
+-- What the program does for the words that ask for this, or for nothing: an input and an output before and after, whether
+-- a call of each failed, and the status.
+pub record Serves (asked : Option Request) (remaining old new : Option (List ℕ)) (read_failed write_failed : Bool) (status : ℕ) : Type 0 where
+  pub few : status ≤ 2
+  pub nothing : asked ≡ None → AnswersNothing old new status
+  pub answer : (request : Request) → asked ≡ Some request → Answers request remaining old new read_failed write_failed status
+  -- `safe` is written only if the input spells a safe set,
+  pub safe : (bytes before text : List ℕ) → remaining ≡ Some bytes → old ≡ Some before
+      → new ≡ Some (before ++ (codes "safe\n" ++ text)) → SpellsSafe bytes
+  -- and `reached` and `not reached` only if the words ask for `reach` and that is the answer.
+  pub reached : (bytes before text : List ℕ) → remaining ≡ Some bytes → old ≡ Some before
+      → new ≡ Some (before ++ (codes "reached\n" ++ text)) → SpellsReach asked bytes true
+  pub not_reached : (bytes before text : List ℕ) → remaining ≡ Some bytes → old ≡ Some before
+      → new ≡ Some (before ++ (codes "not reached\n" ++ text)) → SpellsReach asked bytes false

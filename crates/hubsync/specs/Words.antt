@@ -2,11 +2,12 @@
 use Rattle.std.specs.Prelude.{List, [], ◌∷◌, Option, Some, None, codes, if◌then◌else◌, true}
 use Rattle.std.specs.Str.{bytes_eq}
 use Rattle.clap.specs.Kinds.{Kinds}
+use Rattle.clap.specs.Simple.{on_top}
 use Rattle.clap.specs.Words.{App, Row, Rule, Text, fault_of, first_of, new_app, new_rule, subcommand_of, with_rule, with_subcommand}
 use Rattle.hubsync.specs.declared.words.Asked.{Asked}
 use Rattle.hubsync.specs.declared.words.Asked.TheVariants.{Check, Reach}
 
--- an operand that has to be there
+-- a required operand
 abbrev pub operand : Text → Rule
 operand id = record (new_rule id) { value_names = 1; required = true }
 
@@ -14,9 +15,13 @@ operand id = record (new_rule id) { value_names = 1; required = true }
 abbrev pub reach_app : App
 reach_app = with_rule (with_rule (new_app (codes "reach")) (operand (codes "profile"))) (operand (codes "path"))
 
+-- `hubsync`, which has a version
+abbrev pub top_app : App
+top_app = on_top (λ s. record s { has_version = true }) (new_app (codes "hubsync"))
+
 -- the command as clap reads it
 unfoldable pub hubsync_app : App
-hubsync_app = with_subcommand (new_app (codes "hubsync")) reach_app.top
+hubsync_app = with_subcommand top_app reach_app.top
 
 -- what is asked for: whether the profiles may run at the same time, or whether a profile reaches a path
 pub data Request : Type 0 where
@@ -27,7 +32,7 @@ abbrev pub request_of : Asked → Request
 request_of Check = check
 request_of (Reach profile path) = reach profile.now path.now
 
--- the operands PROFILE and PATH, where both are there
+-- the operands PROFILE and PATH, if both are there
 abbrev pub operands_of : Option Text → Option Text → Option Request
 operands_of None path = None
 operands_of (Some profile) None = None
@@ -39,12 +44,12 @@ request_in None = Some check
 request_in (Some p) =
     if bytes_eq p.0 (codes "reach") then operands_of (first_of (codes "profile") p.1) (first_of (codes "path") p.1) else None
 
--- nothing is asked for where there is a fault
+-- nothing is asked for if there is a fault
 abbrev pub unless_fault : Kinds → Option Request → Option Request
 unless_fault [] request = request
 unless_fault (kind ∷ kinds) request = None
 
--- what the words ask for, of which the first is the program's name; nothing where clap finds a fault in them or a
--- request for help
+-- what the words ask for, of which the first is the program's name; nothing if clap finds a fault in them or a request
+-- for help or the version
 unfoldable pub asked_of : List Text → Option Request
 asked_of words = unless_fault (fault_of hubsync_app words) (request_in (subcommand_of hubsync_app words))

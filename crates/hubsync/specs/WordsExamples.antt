@@ -63,3 +63,7 @@ an_unknown_flag = refl
 help_is_no_check : asked (codes "--help" ∷ []) ≡ None
 unfolding computed
 help_is_no_check = refl
+
+the_version_asks_for_nothing : asked (codes "--version" ∷ []) ≡ None
+unfolding computed
+the_version_asks_for_nothing = refl

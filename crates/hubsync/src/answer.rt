@@ -1,5 +1,5 @@
-//! The answer to an input: which one it is.
-ghost use Rattle.std.specs.Prelude.{◌≡◌, ◌⊎◌, IfSome};
+//! Finds the answer to an input.
+ghost use Rattle.std.specs.Prelude.{◌≡◌, ◌⊎◌, false, IfSome};
 ghost use Rattle.hubsync.specs.Report as report;
 ghost use Rattle.hubsync.specs.Bundle as bundle;
 ghost use Rattle.hubsync.specs.Words.{check, request_of};
@@ -12,30 +12,27 @@ use crate::reach::report_on_reach;
 use crate::report::Report;
 use crate::words::Asked;
 use hub_profile::Profile;
+use hub_text::Watched;
 use std::alloc::Global;
 use std::io::Read;
 
-/// The answer to what was asked of an input.
-pub fn report_on<'a, R: Read>(alloc: Global, asked: Asked<'a>, input: &mut R) -> Report<'a>
-    ensures { IfSome (R.remaining input.old) (λ bytes. report.Holds (request_of asked.entry) bytes result) }
+/// The answer to what was asked of an input. It says that a read failed exactly when one did.
+pub fn report_on<'a, R: Read>(alloc: Global, asked: Asked<'a>, input: &mut Watched<R>) -> Report<'a>
+    requires { input.old.failed ≡ false }
+    ensures holds { IfSome (R.remaining input.old.device) (λ bytes. report.Holds (request_of asked.entry) bytes result) }
+    ensures failed { input.new.failed ≡ report.says_read_failed result }
 {
     match read_input(alloc, input) {
         Ok(bytes) => report_on_bytes(alloc, asked, bytes.as_slice()),
         Err(InputFault::OutOfMemory) => Report::OutOfMemory,
-        Err(InputFault::ReadFailed) => Report::BadBundle(BundleLineFault {
-            line: 0,
-            fault: BundleFault::ReadFailed,
-        }),
-        Err(InputFault::TurnsSpent) => Report::BadBundle(BundleLineFault {
-            line: 0,
-            fault: BundleFault::TurnsSpent,
-        }),
+        Err(fault) => Report::Unread(fault),
     }
 }
 
-/// The answer to what was asked of the bytes of an input. Its bundle is read first, and all of its profiles.
+/// The answer to what was asked of an input's bytes. The bundle is read first, with all of its profiles.
 fn report_on_bytes<'a>(alloc: Global, asked: Asked<'a>, bytes: &[u8]) -> Report<'a>
-    ensures { report.Holds (request_of asked.entry) bytes.now result }
+    ensures holds { report.Holds (request_of asked.entry) bytes.now result }
+    ensures read { report.says_read_failed result ≡ false }
 {
     let sections = match read_bundle(alloc, bytes) {
         Ok(sections) => sections,
@@ -51,7 +48,8 @@ fn report_on_bytes<'a>(alloc: Global, asked: Asked<'a>, bytes: &[u8]) -> Report<
 
 /// The answer to what was asked of these profiles.
 fn report_on_profiles<'a>(alloc: Global, asked: Asked<'a>, profiles: &[Profile]) -> Report<'a>
-    ensures { report.IsTold (request_of asked.entry) profiles.now result }
+    ensures told { report.IsTold (request_of asked.entry) profiles.now result }
+    ensures read { report.says_read_failed result ≡ false }
 {
     match asked {
         Asked::Check => report_on_check(alloc, profiles),
@@ -61,7 +59,8 @@ fn report_on_profiles<'a>(alloc: Global, asked: Asked<'a>, profiles: &[Profile])
 
 /// Whether these profiles may run at the same time.
 fn report_on_check<'a>(alloc: Global, profiles: &[Profile]) -> Report<'a>
-    ensures { report.IsTold check profiles.now result }
+    ensures told { report.IsTold check profiles.now result }
+    ensures read { report.says_read_failed result ≡ false }
 {
     match first_refusal(alloc, profiles) {
         Ok(None) => Report::Safe,
@@ -70,10 +69,11 @@ fn report_on_check<'a>(alloc: Global, profiles: &[Profile]) -> Report<'a>
     }
 }
 
-/// The answer where the bundle is read with that fault.
+/// The answer if the bundle is read with that fault.
 fn bad_bundle<'a>(fault: BundleLineFault) -> Report<'a>
     ensures memory { fault ≡ bundle.out_of_memory → result ≡ Report.OutOfMemory }
     ensures fault { (result ≡ Report.OutOfMemory) ⊎ (result ≡ Report.BadBundle fault) }
+    ensures read { report.says_read_failed result ≡ false }
 {
     match fault.fault {
         BundleFault::OutOfMemory => Report::OutOfMemory,

@@ -3,7 +3,6 @@ ghost use Rattle.std.specs.Prelude.{◌≡◌, ◌⊎◌, ◌+◌, ◌≤◌, �
 ghost use Rattle.std.specs.List.{before_first, after_first, position_or_len};
 ghost use Rattle.hubsync.specs.Bundle.{is_lf, lines, without_last_cr, bytes_before_heading, follows_section, written, stray_line, profile_reading, heading_reading, bundle_reading, out_of_memory};
 
-use crate::input::InputFault;
 use hub_path::{Name, PathFault};
 use std::alloc::{AllocError, AllocFailed, Global};
 use std::marker::Model;
@@ -16,8 +15,8 @@ pub enum Heading {
     Profile(Name),
 }
 
-/// A section of a bundle: what its heading says, and the bytes from the line below it up to the next
-/// heading, lent from the bundle.
+/// A section of a bundle: its heading, and the bytes after the heading's line up to the next heading, borrowed from the
+/// bundle.
 #[derive(Debug, Drop)]
 pub struct Section<'a> {
     heading: Heading,
@@ -40,7 +39,7 @@ impl<'a> Section<'a> {
         &self.heading
     }
 
-    /// The bytes below the heading. Each of their lines but the bundle's last one ends with LF.
+    /// The bytes after the heading's line. Each of their lines ends with LF, except perhaps the bundle's last one.
     pub fn bytes(&self) -> &'a [u8]
         ensures { result.now ≡ self.now.bytes }
     {
@@ -48,33 +47,27 @@ impl<'a> Section<'a> {
     }
 }
 
-/// Why an input is no bundle.
+/// Why an input is not a bundle.
 #[derive(Clone, Copy, Debug, PartialEq, Eq, Error)]
 pub enum BundleFault {
-    /// A line of anything but spaces, tabs and CR stands before the first heading.
+    /// A line before the first heading has something other than spaces, tabs and CR.
     #[error("NoSection")]
     NoSection,
-    /// A heading is none that is known.
+    /// A line begins with `%` and is not a known heading.
     #[error("UnknownSection")]
     UnknownSection,
-    /// What stands as a profile's name is no name that `Name::read` takes, or no UTF-8.
+    /// A profile's name is not UTF-8, or not a name that `Name::read` accepts.
     #[error("BadName")]
     BadName,
-    /// A section other than a profile comes once more.
+    /// There is a second section of a kind that may occur once. No kind but profiles is read yet.
     #[error("SectionTwice")]
     SectionTwice,
-    /// A read of the input failed.
-    #[error("ReadFailed")]
-    ReadFailed,
-    /// The input did not end within its reads.
-    #[error("TurnsSpent")]
-    TurnsSpent,
-    /// Memory was refused.
+    /// Out of memory.
     #[error("OutOfMemory")]
     OutOfMemory,
 }
 
-/// A fault and the line of the bundle that has it, counted from 1; the line is 0 for the whole input.
+/// A fault and the number of its line in the bundle. The first line is 1. `OutOfMemory` has line 0.
 #[derive(Clone, Copy, Debug, PartialEq, Eq, Error)]
 #[error("line {line}: {fault}")]
 pub struct BundleLineFault {
@@ -109,27 +102,11 @@ impl<T: Drop> From<AllocFailed<T>> for BundleLineFault {
     }
 }
 
-impl From<InputFault> for BundleLineFault {
-    ghost use Rattle.hubsync.specs.Bundle.{input_fault};
-    ghost use Rattle.std.specs.Prelude.{◌≡◌};
-
-    ghost from_gives = { λ f e. e ≡ input_fault f };
-
-    fn from(fault: InputFault) -> Self {
-        let fault = match fault {
-            InputFault::ReadFailed => BundleFault::ReadFailed,
-            InputFault::TurnsSpent => BundleFault::TurnsSpent,
-            InputFault::OutOfMemory => BundleFault::OutOfMemory,
-        };
-        BundleLineFault { line: 0, fault }
-    }
-}
-
 /// Reads the sections of a bundle, in order, in time linear in its bytes.
 ///
-/// A line that begins with `%` is a heading, without a CR at its end: `%profile NAME`, with one space
-/// before the name. The fault that is told is the one of the lowest line: `NoSection`,
-/// `UnknownSection` or `BadName`. `OutOfMemory` has line 0. (The format is this project's choice.)
+/// A line that begins with `%` is a heading: `%profile NAME`, with one space before the name; one CR at its end is
+/// dropped. Of several faults the one of the first faulty line is returned: `NoSection`, `UnknownSection` or `BadName`.
+/// (The format is this project's choice.)
 pub fn read_bundle<'a>(alloc: Global, bytes: &'a [u8]) -> Result<Vec<Section<'a>>, BundleLineFault>
     ensures ok { IfOk result (λ v. bundle_reading bytes.now ≡ Ok v.items) }
     ensures err { IfErr result (λ e. (e ≡ out_of_memory) ⊎ (bundle_reading bytes.now ≡ Err e)) }
@@ -156,7 +133,7 @@ pub fn read_bundle<'a>(alloc: Global, bytes: &'a [u8]) -> Result<Vec<Section<'a>
     Ok(sections)
 }
 
-/// The number of the first line above all headings that isn't blank.
+/// The number of the first line before the first heading that isn't blank.
 fn stray_line_of(bytes: &[u8]) -> Option<usize>
     ensures { result ≡ stray_line 1 (lines bytes.now) }
 {
@@ -174,7 +151,7 @@ fn stray_line_of(bytes: &[u8]) -> Option<usize>
     None
 }
 
-/// How many bytes stand before the next heading, and how many of them are LF.
+/// How many bytes there are before the next heading, and how many of them are LF.
 fn section_end(bytes: &[u8]) -> (usize, usize)
     ensures within { result.0 ≤ length bytes.now }
     ensures fewer { result.1 ≤ result.0 }
@@ -197,7 +174,7 @@ fn section_end(bytes: &[u8]) -> (usize, usize)
     (bytes.len(), count)
 }
 
-/// The first line without its LF, and the bytes below it.
+/// The first line without its LF, and the bytes after that line.
 fn cut_line(bytes: &[u8]) -> (&[u8], &[u8])
     ensures line { result.0.now ≡ before_first is_lf bytes.now }
     ensures below { result.1.now ≡ after_first is_lf bytes.now }
@@ -210,7 +187,7 @@ fn cut_line(bytes: &[u8]) -> (&[u8], &[u8])
     }
 }
 
-/// How many bytes stand before the first LF.
+/// How many bytes there are before the first LF.
 fn line_len(bytes: &[u8]) -> usize
     ensures len { result ≡ position_or_len is_lf bytes.now }
     ensures within { result ≤ length bytes.now }

@@ -1,4 +1,4 @@
-//! The check of profiles: the first reason to refuse them, and that without one they are safe.
+//! The check of profiles: finds the first reason to refuse them. Without one they are safe.
 ghost use Rattle.std.specs.Prelude.{◌≡◌, ◌<◌, ◌≤◌, ◌≢◌, ◌⊎◌, ℕ, [], length, true, false, not, ◌&&◌, ◌||◌, slice_get, Some, IsTrue, IsNone, IfOk, IfSome, MatchOption};
 ghost use Rattle.std.specs.List.{list_any, find};
 ghost use Rattle.std.specs.Option.{option_copied};
@@ -18,12 +18,12 @@ use std::alloc::{AllocError, Global};
 /// How many profiles a bundle may have.
 pub const PROFILES: usize = 32;
 
-/// A path of one profile over a path that another one reaches, at a root of both.
+/// A path of one profile that is over a path that another profile reaches, at a root of both.
 #[derive(Debug, Drop)]
 pub struct Overlap {
     /// The profile that writes.
     pub writer: Name,
-    /// The shortest prefix of the path that it reaches, which it writes.
+    /// The shortest prefix of the path that the writer reaches. It writes there.
     pub held: RelPath,
     /// Where it writes.
     pub root: Root,
@@ -38,11 +38,11 @@ pub struct Overlap {
 pub enum Refusal {
     /// There are more than `PROFILES`.
     TooManyProfiles,
-    /// A name that an earlier profile has too.
+    /// A profile has the name of an earlier one.
     SameName(Name),
-    /// Two different roots, one of which lies within the other.
+    /// Two different roots, one within the other.
     NestedRoots(Root, Root),
-    /// A profile ignores something, which this check doesn't know.
+    /// A profile has `ignore` lines, which this check doesn't support.
     Patterns,
     /// Two profiles that overlap.
     Overlaps(Overlap),
@@ -50,12 +50,15 @@ pub enum Refusal {
 
 /// The first reason to refuse these profiles, if there is one.
 ///
-/// The reasons are told in this order: more than `PROFILES` of them; the first name that an earlier profile has too;
-/// the first pair of different roots, one within the other; patterns in `ignore`, which this check doesn't know; and
-/// the first overlap, by the writer, then by the other profile, then by the root (the writer's left one first). The
-/// path that is shown of it is that of the nearest place where their kept values meet, the one with the fewest
-/// characters and of those the first by characters. Where they meet at the whole replica alone, it is a name of one
-/// character that no kept value of any profile mentions, the first from `a` on (this project's choice).
+/// The reasons are tested in this order:
+/// 1. There are more than `PROFILES` profiles.
+/// 2. A profile has the name of an earlier one. The first such name is shown.
+/// 3. Two different roots are nested. The first pair is shown.
+/// 4. A profile has `ignore` lines, which this check doesn't support.
+/// 5. Two profiles overlap. The first overlap is shown: by the writer, then by the other profile, then by the root, the
+///    writer's left one first. Its path is that of the nearest place where their kept values meet: the one with the fewest
+///    characters, and of several the first by characters. If both keep the whole replica, it is one character, the first
+///    from `a` on that no kept value of any profile has (this project's choice).
 pub fn first_refusal(alloc: Global, profiles: &[Profile]) -> Result<Option<Refusal>, AllocError>
     ensures safe { IfOk result (λ r. IsNone r → IsSafe profiles.now []) }
     ensures few { IfOk result (λ r. IsNone r → length profiles.now ≤ PROFILES) }
@@ -81,7 +84,7 @@ pub fn first_refusal(alloc: Global, profiles: &[Profile]) -> Result<Option<Refus
     Ok(None)
 }
 
-/// The first name that an earlier profile has too. There are at most `PROFILES` to compare.
+/// The first name that an earlier profile has too.
 fn repeated_name(profiles: &[Profile]) -> Option<&Name>
     ensures { MatchOption result (check.NamesDiffer profiles.now) (λ name. check.IsFirstRepeated profiles.now name.now) }
 {
@@ -166,7 +169,7 @@ fn has_patterns(profile: &Profile) -> bool
     !profile.ignore().is_empty()
 }
 
-/// The first overlap of two profiles, which ignore nothing.
+/// The first overlap of two profiles. The profiles ignore nothing.
 fn first_overlap(alloc: Global, profiles: &[Profile]) -> Result<Option<Overlap>, AllocError>
     requires { check.have_patterns profiles.now ≡ false }
     ensures { IfOk result (λ o. MatchOption o (check.NoneClash profiles.now (length profiles.now)) (check.IsOverlap profiles.now)) }
@@ -179,7 +182,7 @@ fn first_overlap(alloc: Global, profiles: &[Profile]) -> Result<Option<Overlap>,
     Ok(None)
 }
 
-/// The first overlap of the writer of that number.
+/// The first overlap with this writer, which is given by its number.
 fn overlap_of_writer(
     alloc: Global,
     profiles: &[Profile],
@@ -200,7 +203,7 @@ fn overlap_of_writer(
     Ok(None)
 }
 
-/// What is shown of a writer and another profile, if they overlap.
+/// The overlap of a writer and another profile, if they overlap.
 fn overlap_of(
     alloc: Global,
     profiles: &[Profile],
@@ -250,7 +253,7 @@ fn has_root(profile: &Profile, root: &Root) -> bool
     profile.roots().iter().any(|own| own == root)
 }
 
-/// The shortest prefix of a path that the writer reaches, where it reaches the path.
+/// The shortest prefix of a path that the writer reaches. The writer reaches the path.
 fn held_prefix(alloc: Global, writer: &Profile, path: &RelPath) -> Result<RelPath, AllocError>
     requires path { IsTrue (is_path path.now) }
     requires below { IsTrue (check.is_below writer.now.paths path.now) }

@@ -1,6 +1,8 @@
 //! The bytes of an input, in bounded reads.
-ghost use Rattle.std.specs.Prelude.{◌≡◌, ◌≤◌, length, IfOk, IfSome, IsErrOf};
+ghost use Rattle.std.specs.Prelude.{◌≡◌, ◌≤◌, length, false, IfOk, IfSome, IsErrOf};
+ghost use Rattle.hubsync.specs.Input.{says_read_failed};
 
+use hub_text::Watched;
 use std::alloc::{AllocError, Global};
 use std::io::Read;
 use thiserror::Error;
@@ -17,10 +19,10 @@ pub enum InputFault {
     /// A read failed.
     #[error("ReadFailed")]
     ReadFailed,
-    /// The end did not come within `READ_TURNS` reads.
+    /// `READ_TURNS` reads did not reach the end.
     #[error("TurnsSpent")]
     TurnsSpent,
-    /// Memory was refused.
+    /// Out of memory.
     #[error("OutOfMemory")]
     OutOfMemory,
 }
@@ -38,21 +40,29 @@ impl From<AllocError> for InputFault {
 
 /// Reads all bytes of the input, in reads of at most `READ_BYTES` bytes.
 ///
-/// `ReadFailed` comes at the first read that fails, and `TurnsSpent` where `READ_TURNS` reads did
-/// not meet the end: such an input has at least `READ_TURNS` bytes.
-pub fn read_input<R: Read>(alloc: Global, input: &mut R) -> Result<Vec<u8>, InputFault>
-    ensures whole { IfOk result (λ v. IfSome (R.remaining input.old) (λ bytes. v.items ≡ bytes)) }
+/// Returns `ReadFailed` exactly when a read failed, and reads no further then. Returns `TurnsSpent` if `READ_TURNS` reads
+/// did not reach the end: such an input has at least `READ_TURNS` bytes.
+pub fn read_input<R: Read>(alloc: Global, input: &mut Watched<R>) -> Result<Vec<u8>, InputFault>
+    requires { input.old.failed ≡ false }
+    ensures whole { IfOk result (λ v. IfSome (R.remaining input.old.device) (λ bytes. v.items ≡ bytes)) }
     ensures turns_spent { IsErrOf result InputFault.TurnsSpent
-        → IfSome (R.remaining input.old) (λ bytes. READ_TURNS ≤ length bytes) }
+        → IfSome (R.remaining input.old.device) (λ bytes. READ_TURNS ≤ length bytes) }
+    ensures failed { input.new.failed ≡ says_read_failed result }
 {
     read_turns(alloc, input, READ_TURNS)
 }
 
 /// The same, in at most this many reads.
-fn read_turns<R: Read>(alloc: Global, input: &mut R, turns: usize) -> Result<Vec<u8>, InputFault>
-    ensures whole { IfOk result (λ v. IfSome (R.remaining input.old) (λ bytes. v.items ≡ bytes)) }
+fn read_turns<R: Read>(
+    alloc: Global,
+    input: &mut Watched<R>,
+    turns: usize,
+) -> Result<Vec<u8>, InputFault>
+    requires { input.old.failed ≡ false }
+    ensures whole { IfOk result (λ v. IfSome (R.remaining input.old.device) (λ bytes. v.items ≡ bytes)) }
     ensures turns_spent { IsErrOf result InputFault.TurnsSpent
-        → IfSome (R.remaining input.old) (λ bytes. turns ≤ length bytes) }
+        → IfSome (R.remaining input.old.device) (λ bytes. turns ≤ length bytes) }
+    ensures failed { input.new.failed ≡ says_read_failed result }
 {
     let mut bytes = Vec::new(alloc);
     let mut buffer = [0; READ_BYTES];

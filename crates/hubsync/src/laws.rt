@@ -13,7 +13,7 @@ pub fn what_is_shown_is_not_safe()
     ensures nested { (Ps : List Parts) (r s : Path) → IsTrue (is_root_of Ps r) → IsTrue (is_root_of Ps s) → IsTrue (is_nested r s) → ¬ (IsSafe Ps []) }
 {}
 
-/// An overlap is told in one way: the profiles, the root, the path and its prefix are those that the rules name, and no
+/// An overlap is shown in one way: the profiles, the root, the path and its prefix are those that the rules name, and no
 /// others are.
 pub fn an_overlap_is_told_in_one_way()
     ensures { (Ps : List Parts) (o u : Overlap) → ((i : ℕ) (P : Parts) → slice_get Ps i ≡ Some P → IsProfile P) → IsOverlap Ps o → IsOverlap Ps u → o ≡ u }

@@ -2,18 +2,18 @@
 ghost use Rattle.std.specs.Prelude.{◌≡◌, [], length, chars, IfOk, IsTrue, MatchOption};
 ghost use Rattle.std.specs.List.{filter};
 ghost use Rattle.std.specs.Option.{option_copied};
-ghost use Rattle.std.specs.Ordering.{nat_cmp};
-ghost use Rattle.std.specs.Cmp.Lexicographic.{slice_cmp};
+ghost use Rattle.hub_path.specs.Path.{is_over};
 ghost use Rattle.hubsync.specs.Nearest as nearest;
 
 use hub_path::RelPath;
+use hub_text::compare;
 use std::alloc::AllocError;
 use std::cmp::Ordering;
 
 /// Of the places where kept values of two profiles meet, the nearest.
 ///
-/// Where a value of the one and a value of the other lie one over the other, they meet at the longer of the two. The
-/// nearest place has the fewest characters, and is the first of those by characters (this project's choice).
+/// If a value of one profile is over a value of the other, they meet at the longer of the two. The nearest place has the
+/// fewest characters, and is the first of those by characters (this project's choice).
 pub fn nearest_meeting<'a>(
     these: &'a [RelPath],
     those: &'a [RelPath],
@@ -45,10 +45,33 @@ fn nearest_below<'a>(
 fn is_below(paths: &[RelPath], path: &RelPath) -> bool
     ensures { result ≡ nearest.is_below paths.now path.now }
 {
-    paths.iter().any(|over| path.starts_with(over))
+    paths.iter().any(|over| lies_over(over, path))
 }
 
-/// The path where it is nearer than the best so far, else the best.
+/// Whether a path is over another one. Of two long paths their last names are compared first, which mostly differ.
+fn lies_over(over: &RelPath, path: &RelPath) -> bool
+    ensures { result ≡ is_over over.now path.now }
+{
+    ends_alike(over, path) && path.starts_with(over)
+}
+
+/// Whether the last name of `over` stands at its place in the path as well, as in every path that it is over.
+fn ends_alike(over: &RelPath, path: &RelPath) -> bool
+    ensures { IsTrue (is_over over.now path.now) → IsTrue result }
+{
+    let len = over.len();
+    if len == 0 {
+        return true;
+    }
+    if path.len() < len {
+        return false;
+    }
+    let own = over.name(len - 1);
+    let other = path.name(len - 1);
+    own == other
+}
+
+/// The path if it is nearer than the best so far, otherwise the best.
 fn nearer<'a>(best: Option<&'a RelPath>, path: &'a RelPath) -> Result<&'a RelPath, AllocError>
     ensures { IfOk result (λ q. q.now ≡ nearest.nearer_of (option_copied best.entry) path.now) }
 {
@@ -58,7 +81,7 @@ fn nearer<'a>(best: Option<&'a RelPath>, path: &'a RelPath) -> Result<&'a RelPat
     }
 }
 
-/// Whether a path's text has fewer characters than another one's, or as many and is the first of them.
+/// Whether a path's text has fewer characters than another path's, or as many and comes first by characters.
 fn is_nearer(path: &RelPath, other: &RelPath) -> Result<bool, AllocError>
     ensures { IfOk result (λ b. b ≡ nearest.is_nearer path.now other.now) }
 {
@@ -66,23 +89,17 @@ fn is_nearer(path: &RelPath, other: &RelPath) -> Result<bool, AllocError>
     Ok(compared(text.as_str(), other_text.as_str()) == Ordering::Less)
 }
 
-/// Two texts by how many characters they have, and those of one length by their characters.
+/// Compares two texts by their numbers of characters, and texts of one length by their characters.
 fn compared(text: &str, other: &str) -> Ordering
     ensures { result ≡ nearest.text_cmp (chars text.now) (chars other.now) }
 {
     character_count(text)
         .cmp(&character_count(other))
-        .then_with(|| compared_by_characters(text, other))
+        .then_with(|| compare(text, other))
 }
 
 fn character_count(text: &str) -> usize
     ensures { result ≡ length (chars text.now) }
 {
     text.chars().count()
-}
-
-fn compared_by_characters(text: &str, other: &str) -> Ordering
-    ensures { result ≡ slice_cmp nat_cmp (chars text.now) (chars other.now) }
-{
-    text.chars().cmp(other.chars())
 }

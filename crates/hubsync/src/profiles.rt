@@ -10,18 +10,18 @@ use std::alloc::{AllocError, AllocFailed, Global};
 /// The fault of a profile of a bundle.
 #[derive(Debug, Drop)]
 pub struct SectionFault {
-    /// The profile's name, as the heading gives it.
+    /// The profile's name, from the heading.
     pub profile: Name,
-    /// Its fault, with the line counted from the section's first one.
+    /// Its fault. The line after the heading is line 1.
     pub fault: ProfileFault,
 }
 
-/// Why the profiles of a bundle are not read.
+/// Why a bundle's profiles are not read.
 #[derive(Debug, Drop)]
 pub enum ReadError {
     /// A section is faulty.
     Faulty(SectionFault),
-    /// Memory was refused.
+    /// Out of memory.
     OutOfMemory,
 }
 
@@ -49,7 +49,7 @@ impl<T: Drop> From<AllocFailed<T>> for ReadError {
 
 /// Reads the profiles of a bundle's sections, in order.
 ///
-/// The fault is the first one of the first faulty section.
+/// Returns the first fault of the first faulty section, if there is one.
 pub fn read_profiles(alloc: Global, sections: &[Section<'_>]) -> Result<Vec<Profile>, ReadError>
     ensures ok { IfOk result (λ v. sections_reading sections.now ≡ Ok v.items) }
     ensures err { IfErr result (FailsAs (sections_reading sections.now)) }

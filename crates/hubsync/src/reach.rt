@@ -1,5 +1,5 @@
 //! Whether a profile of a bundle reaches a path.
-ghost use Rattle.std.specs.Prelude.{◌≡◌, Some, None, MatchOption};
+ghost use Rattle.std.specs.Prelude.{◌≡◌, false, Some, None, MatchOption};
 ghost use Rattle.hubsync.specs.Report as report;
 ghost use Rattle.hubsync.specs.Reached.{named};
 ghost use Rattle.hubsync.specs.Words as words;
@@ -12,15 +12,16 @@ use std::alloc::Global;
 
 /// The answer to whether the first of these profiles with that name reaches the path of that text.
 ///
-/// That there is no such profile is told before what is wrong with the path. The profiles themselves aren't checked:
-/// two of them may have one name or overlap.
+/// If there is no such profile, the answer says that, whatever the path is. The profiles aren't checked: two of them may
+/// have the same name or overlap.
 pub fn report_on_reach<'a>(
     alloc: Global,
     profiles: &[Profile],
     profile: &'a str,
     path: &str,
 ) -> Report<'a>
-    ensures { report.IsTold (words.reach profile.now path.now) profiles.now result }
+    ensures told { report.IsTold (words.reach profile.now path.now) profiles.now result }
+    ensures read { report.says_read_failed result ≡ false }
 {
     let Some(found) = profile_named(profiles, profile) else {
         return Report::NoProfile(profile);

@@ -1,39 +1,45 @@
-//! The answer to an input: what it is, its status, and the line that says it.
+//! An answer to an input: its status and its line.
 ghost use Rattle.std.specs.Prelude.{◌≡◌, ◌⊎◌, IfOk, IfSome, string_bytes};
 ghost use Rattle.std.specs.List.{flat_map};
 ghost use Rattle.hubsync.specs.Report as report;
 
 use crate::bundle::BundleLineFault;
 use crate::check::{Overlap, Refusal};
+use crate::input::InputFault;
 use crate::profiles::SectionFault;
 use hub_path::PathFault;
 use std::alloc::{AllocError, Global};
+
+/// The line of the answer that memory is out.
+pub const OUT_OF_MEMORY: &str = "fault: out of memory\n";
 
 /// What the program answers to an input.
 #[derive(Debug, Drop)]
 pub enum Report<'a> {
     /// The profiles may run at the same time.
     Safe,
-    /// They may not.
+    /// The profiles may not run at the same time.
     Refused(Refusal),
     /// The profile reaches the path.
     Reached,
-    /// It doesn't.
+    /// The profile doesn't reach the path.
     NotReached,
-    /// There is no profile of that name, which is as it was asked for.
+    /// No profile has the name that was asked for, which is given as it was written.
     NoProfile(&'a str),
-    /// The path that was asked for is none.
+    /// The path that was asked for is not a path.
     BadPath(PathFault),
-    /// The input is no bundle, or was not read.
+    /// The input was not read.
+    Unread(InputFault),
+    /// The input is not a bundle.
     BadBundle(BundleLineFault),
     /// A profile of the bundle is faulty.
     BadProfile(SectionFault),
-    /// Memory was refused.
+    /// Out of memory.
     OutOfMemory,
 }
 
 impl Report<'_> {
-    /// The exit status: 0 for a safe set and where reach was asked for, whatever it is; 1 for a refusal; 2 for a fault.
+    /// The exit status: 0 for a safe set and for both answers to `reach`, 1 for a refusal, 2 for a fault.
     pub fn status(&self) -> u8
         ensures { result ≡ report.status_of self.now }
     {
@@ -42,13 +48,14 @@ impl Report<'_> {
             Report::Refused(_) => 1,
             Report::NoProfile(_)
             | Report::BadPath(_)
+            | Report::Unread(_)
             | Report::BadBundle(_)
             | Report::BadProfile(_)
             | Report::OutOfMemory => 2,
         }
     }
 
-    /// The line that says the answer, with an LF at its end.
+    /// The line that says the answer. It ends with LF.
     pub fn line(&self, alloc: Global) -> Result<String, AllocError>
         ensures { IfOk result (λ t. report.IsLine self.now (string_bytes t)) }
     {
@@ -62,9 +69,13 @@ impl Report<'_> {
                 let name = fault.to_string(alloc)?;
                 fault_line(alloc, "path", name.as_str())
             }
+            Report::Unread(fault) => {
+                let name = fault.to_string(alloc)?;
+                fault_line(alloc, "bundle line 0", name.as_str())
+            }
             Report::BadBundle(fault) => bundle_fault_line(alloc, fault),
             Report::BadProfile(fault) => profile_fault_line(alloc, fault),
-            Report::OutOfMemory => String::from_str(alloc, "fault: out of memory\n"),
+            Report::OutOfMemory => String::from_str(alloc, OUT_OF_MEMORY),
         }
     }
 }

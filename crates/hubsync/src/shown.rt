@@ -10,8 +10,8 @@ use hub_profile::Profile;
 use std::alloc::{AllocError, Global};
 use std::collections::BTreeSet;
 
-/// The path that is shown for a place: itself, or for the whole replica the path of one name of one character, the
-/// least from `a` on that stands in no kept value of these profiles; where all stand in some, `a`.
+/// The path that is shown for a place. A path is shown itself. For the whole replica it is one character, the least from
+/// `a` on that no kept value of these profiles has; if each is in one, `a`.
 pub fn shown_path(
     alloc: Global,
     profiles: &[Profile],
@@ -28,7 +28,7 @@ pub fn shown_path(
     RelPath::read(alloc, text.as_str()).map_err(|_| AllocError)
 }
 
-/// A character for "any other name".
+/// The character that is shown for the whole replica.
 fn sample(alloc: Global, profiles: &[Profile]) -> Result<char, AllocError>
     ensures { IfOk result (shown.IsSample profiles.now) }
 {
@@ -67,7 +67,7 @@ fn add_characters(characters: &mut BTreeSet<char>, text: &str) -> Result<(), All
     Ok(())
 }
 
-/// The least character from `a` on that isn't one of these.
+/// The least character from `a` on that is not among these.
 fn first_missing(characters: &BTreeSet<char>) -> Option<char>
     ensures { MatchOption result (shown.HasAll (contains nat_cmp characters.now)) (shown.IsFirstMissing (contains nat_cmp characters.now)) }
 {

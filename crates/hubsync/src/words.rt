@@ -1,9 +1,8 @@
 //! The words on the command line: what they ask for.
 //!
-//! `specs/Words.antt` says which command this is, in the words of `clap`, and so what each list of words asks for.
+//! `specs/Words.antt` defines the command in `clap`'s terms, and with that what each list of words asks for.
 
-ghost use Rattle.std.specs.Prelude.{◌≡◌, ◌⊎◌, IfErr, IfOk, None, Some, option_map};
-ghost use Rattle.clap.specs.Walk.{texts};
+ghost use Rattle.std.specs.Prelude.{◌≡◌, ◌⊎◌, IfErr, IfOk, None, Some, map, option_map};
 ghost use Rattle.clap.specs.Words.{app_of, kind_of, subcommand_rows_of};
 ghost use Rattle.clap.specs.declared.error.kind.ErrorKind.TheVariants.{OutOfMemory};
 ghost use Rattle.hubsync.specs.Words.{asked_of, hubsync_app, request_in, request_of};
@@ -11,6 +10,33 @@ ghost use Rattle.hubsync.specs.Words.{asked_of, hubsync_app, request_in, request
 use clap::error::ErrorKind;
 use clap::{Arg, ArgMatches, Command, Error};
 use std::alloc::{AllocError, Global};
+use std::convert::AsStr;
+
+/// The version that `--version` shows.
+const VERSION: &str = "0.1.0";
+
+const ABOUT: &str =
+    "Reads profiles of Unison on standard input, and says whether they may run at the same time";
+
+/// A small bundle, and the statuses.
+const AFTER_HELP: &str = "\
+The input is a bundle of profiles, each after a line with its name:
+
+  %profile docs
+  root = /srv/hub
+  root = /srv/laptop
+  path = docs
+  %profile photos
+  root = /srv/hub
+  root = /srv/laptop
+  path = photos
+
+The output is one line: 'safe', 'overlap: ..', 'refused: ..', 'reached', 'not reached' or 'fault: ..'.
+
+Exit status:
+  0  safe, reached or not reached
+  1  the profiles may not run at the same time, or are refused
+  2  a fault of the input or of the command line, or a failed output; help and version too";
 
 /// What the words on the command line ask for.
 #[derive(Clone, Copy, Debug, PartialEq, Eq)]
@@ -21,21 +47,21 @@ pub enum Asked<'a> {
     Reach {
         /// The profile's name, as it was written.
         profile: &'a str,
-        /// The path, as it was written, which may be no path at all.
+        /// The path, as it was written. It may not be a path.
         path: &'a str,
     },
 }
 
 /// Reads the words, of which the first is the program's name.
 ///
-/// With no command they ask for the check. `reach PROFILE PATH` takes any two operands, the empty word and `-`
-/// included; one that begins with `-` and goes on wants `--` before it.
+/// Without a command they ask for the check. `reach PROFILE PATH` takes any two operands, also the empty word and `-`. An
+/// operand that begins with `-` and is longer needs `--` before it.
 ///
-/// An `Err` is `clap`'s: a mistake in the words, a request for help, or want of memory. Its `Display` is the text for
-/// the user.
-pub fn read_words<'a>(alloc: Global, words: &'a [&'a str]) -> Result<Asked<'a>, Error>
-    ensures ok { IfOk result (λ a. asked_of (texts words.entry.now) ≡ Some (request_of a)) }
-    ensures err { IfErr result (λ e. (kind_of e ≡ OutOfMemory) ⊎ (asked_of (texts words.entry.now) ≡ None)) }
+/// An `Err` is `clap`'s: a mistake in the words, a request for help or for the version, or out of memory. Its `Display` is
+/// the text for the user.
+pub fn read_words<'a, S: AsStr>(alloc: Global, words: &'a [S]) -> Result<Asked<'a>, Error>
+    ensures ok { IfOk result (λ a. asked_of (map S.text words.entry.now) ≡ Some (request_of a)) }
+    ensures err { IfErr result (λ e. (kind_of e ≡ OutOfMemory) ⊎ (asked_of (map S.text words.entry.now) ≡ None)) }
 {
     let mut hubsync = command(alloc)?;
     let matches = hubsync.try_get_matches_from_mut(words)?;
@@ -48,7 +74,7 @@ pub fn read_words<'a>(alloc: Global, words: &'a [&'a str]) -> Result<Asked<'a>, 
     }
 }
 
-/// What was asked for, by the matches. A `None` is a command that there isn't, or one without its operands.
+/// What was asked for, by the matches. A `None` is an unknown command, or one without its operands.
 fn asked_in<'a>(matches: &ArgMatches<'a>) -> Option<Asked<'a>>
     ensures { option_map request_of result ≡ request_in (subcommand_rows_of matches.now) }
 {
@@ -76,13 +102,13 @@ fn command<'a>(alloc: Global) -> Result<Command<'a>, AllocError>
         .help("A path below the roots, as docs/notes.txt; put -- before a word that begins with -")
         .required(true);
     let reach = Command::new(alloc, "reach")
-        .about("Says whether a profile reaches a path")
+        .about("Says whether a profile of the input reaches a path")
         .arg(profile)?
         .arg(path)?;
     Command::new(alloc, "hubsync")
-        .about(
-            "Reads profiles of Unison on standard input, and says whether they may run at the same time",
-        )
+        .version(VERSION)
+        .about(ABOUT)
+        .after_help(AFTER_HELP)
         .subcommand(reach)
 }
 

@@ -51,17 +51,3 @@ fn bundles_are_cut_at_their_headings(rt: HostRuntime) -> Result<(), Fail> {
     }
     Ok(())
 }
-
-#[test]
-fn an_unread_input_has_line_0(rt: HostRuntime) -> Result<(), Fail> {
-    let rows = [
-        (InputFault::ReadFailed, "line 0: ReadFailed"),
-        (InputFault::TurnsSpent, "line 0: TurnsSpent"),
-        (InputFault::OutOfMemory, "line 0: OutOfMemory"),
-    ];
-    for (fault, want) in rows {
-        let text = format!(in rt.alloc(); "{}", BundleLineFault::from(fault))?;
-        assert_eq!(rt; text.as_str(), want);
-    }
-    Ok(())
-}

@@ -26,7 +26,7 @@ impl Read for OneByOne {
 
 /// The length of what was read, or the fault.
 fn shown(alloc: Global, left: usize, fails: bool) -> Result<String, AllocError> {
-    let mut input = OneByOne { left, fails };
+    let mut input = Watched::new(OneByOne { left, fails });
     match read_input(alloc, &mut input) {
         Ok(bytes) => format!(in alloc; "{}", bytes.len()),
         Err(fault) => format!(in alloc; "{fault}"),
@@ -57,7 +57,7 @@ fn an_input_longer_than_a_read_comes_whole(rt: HostRuntime) -> Result<(), Fail> 
     for i in 0..3 * READ_BYTES + 5 {
         bytes.push((i % 251) as u8)?;
     }
-    let mut input = bytes.as_slice();
+    let mut input = Watched::new(bytes.as_slice());
     let read = read_input(rt.alloc(), &mut input)?;
     assert!(rt; read.as_slice() == bytes.as_slice());
     Ok(())

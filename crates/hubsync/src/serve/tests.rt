@@ -4,6 +4,21 @@ use std::io::ErrorKind;
 use std::test::Fail;
 use std::{cmp, io};
 
+/// Serves these words over a reader and a writer of which no call has failed.
+fn served<'a, T: AllocGlobal + Eprint, R: Read, W: Write>(
+    rt: &T,
+    words: &'a [&'a str],
+    input: &mut R,
+    output: &mut W,
+) -> u8 {
+    serve(
+        rt,
+        words,
+        &mut Watched::new(input),
+        &mut Watched::new(output),
+    )
+}
+
 /// The bundle of these profiles: the name of each, and its lines below the roots `/srv/hub` and `/srv/s1`.
 fn bundle(alloc: Global, profiles: &[(&str, &str)]) -> Result<String, AllocError> {
     let mut text = String::new(alloc);
@@ -29,7 +44,7 @@ fn answered_to<'a, T: AllocGlobal + Eprint>(
 ) -> Result<String, AllocError> {
     let mut input = bundle.as_bytes();
     let mut output: Vec<u8> = Vec::new(rt.alloc());
-    let status = serve(rt, words, &mut input, &mut output);
+    let status = served(rt, words, &mut input, &mut output);
     let text = str::from_utf8(output.as_slice()).unwrap_or("?");
     format!(in rt.alloc(); "{status} {text}")
 }
@@ -194,7 +209,7 @@ fn words_that_ask_for_nothing_are_answered_with_nothing(rt: HostRuntime) -> Resu
     for word in ["", "check", "--help"] {
         let mut input: &[u8] = b"%profile u\n";
         let mut output: Vec<u8> = Vec::new(rt.alloc());
-        assert_eq!(rt; serve(&rt, &["hubsync", word], &mut input, &mut output), 2);
+        assert_eq!(rt; served(&rt, &["hubsync", word], &mut input, &mut output), 2);
         assert_eq!(rt; (input.len(), output.len()), (11, 0));
     }
     Ok(())
@@ -208,7 +223,15 @@ fn words_that_are_not_read_are_told(rt: HostRuntime) -> Result<(), Fail> {
     ] {
         let error = io::Error::from(kind);
         let mut output: Vec<u8> = Vec::new(rt.alloc());
-        assert_eq!(rt; refuse_unread(&rt, &error, &mut output), 2);
+        assert_eq!(rt;
+            serve_process(
+                &rt,
+                Err(error),
+                &mut Watched::new(&b""[..]),
+                &mut Watched::new(&mut output)
+            ),
+            2
+        );
         assert!(rt; output.as_slice() == want.as_bytes());
     }
     Ok(())
@@ -368,7 +391,7 @@ fn a_failed_output_has_status_2(rt: HostRuntime) -> Result<(), Fail> {
         let text = Vec::new(rt.alloc());
         let mut output = Failing { text, writes };
         assert_eq!(rt;
-            serve(&rt, &["hubsync"], &mut input, &mut output),
+            served(&rt, &["hubsync"], &mut input, &mut output),
             status,
             "{writes}"
         );
@@ -412,7 +435,7 @@ fn an_input_may_come_slowly_or_fail(rt: HostRuntime) -> Result<(), Fail> {
     for (fails, status, want) in rows {
         let mut input = OneByOne { bytes, fails };
         let mut output: Vec<u8> = Vec::new(rt.alloc());
-        assert_eq!(rt; serve(&rt, &["hubsync"], &mut input, &mut output), status);
+        assert_eq!(rt; served(&rt, &["hubsync"], &mut input, &mut output), status);
         assert!(rt; output.as_slice() == want.as_bytes());
     }
     Ok(())

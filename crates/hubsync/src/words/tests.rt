@@ -51,7 +51,7 @@ static FINE: [(&[&str], Asked<'static>); 8] = [
 ];
 
 /// Words that ask for nothing, and why.
-static REFUSED: [(&[&str], ErrorKind); 7] = [
+static REFUSED: [(&[&str], ErrorKind); 9] = [
     (
         &["hubsync", "reach", "p"],
         ErrorKind::MissingRequiredArgument,
@@ -61,6 +61,11 @@ static REFUSED: [(&[&str], ErrorKind); 7] = [
     (&["hubsync", "-x"], ErrorKind::UnknownArgument),
     (&["hubsync", "--help"], ErrorKind::DisplayHelp),
     (&["hubsync", "help"], ErrorKind::DisplayHelp),
+    (&["hubsync", "--version"], ErrorKind::DisplayVersion),
+    (
+        &["hubsync", "reach", "--version"],
+        ErrorKind::UnknownArgument,
+    ),
     (
         &["hubsync", "reach", "p", "a", "b"],
         ErrorKind::UnknownArgument,

@@ -35,4 +35,4 @@ returns-in_ok-insert-in-Err-clause-alphabet c =
     let same = ap length c.deref.ensures.value in
     let e : c.insert.new.self.items ≡ with_character ms x = c.in_ok-insert-in-Err.ensures.items ∙ m.1 ∙ with_new ms x (sym c.if-is_left_out.ensures) m.0 in
     subst IsAlphabet (sym e)
-    (alphabet-with ms x c.requires (omega (arith, n, same, c.deref.ensures.len, c.len.ensures, c.if-len-ge-MENTIONED_CHARACTERS.false)))
+    (alphabet-with ms x c.ranges.character.0 c.requires (omega (arith, n, same, c.deref.ensures.len, c.len.ensures, c.if-len-ge-MENTIONED_CHARACTERS.false)))

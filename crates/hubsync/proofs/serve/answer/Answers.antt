@@ -3,4 +3,4 @@ use Rattle.hubsync.proofs.Answered.{memory-answers}
 use Rattle.hubsync.proofs.serve.answer.Goals as goal
 
 pub returns : goal.returns
-returns g c = memory-answers (request_of c.args.asked) _ _ _ _ c.write_answer-in-Err.ensures
+returns g c = memory-answers (request_of c.args.asked) _ _ _ _ _ _ c.write_line-in-Err.ensures

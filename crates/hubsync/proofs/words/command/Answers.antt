@@ -1,12 +1,12 @@
 use Rattle.std.proofs.Common.{◌≡◌, ◌∙◌, ◌||◌, false, true, codes, ap, ap₂}
 use Rattle.std.proofs.lemmas.Result.{IfOk-weaker}
-use Rattle.clap.specs.Simple.{app_of_fields}
+use Rattle.clap.specs.Simple.{app_of_fields, on_top}
 use Rattle.clap.specs.Words.{App, Rule, app_of, new_app, rule_of, with_rule, with_subcommand}
 use Rattle.clap.specs.declared.builder.arg.Arg.{Arg}
 use Rattle.clap.specs.declared.builder.command.Command.{Command}
 use Rattle.clap.specs.declared.builder.command.Command.TheOpen.{Command-F}
 use Rattle.clap.specs.declared.builder.command.Command.TheViews.{out-Command as fields_of}
-use Rattle.hubsync.specs.Words.{hubsync_app, operand, reach_app}
+use Rattle.hubsync.specs.Words.{hubsync_app, operand, reach_app, top_app}
 use Rattle.hubsync.proofs.words.command.Goals as goal
 
 pub returns : goal.returns
@@ -27,5 +27,7 @@ returns c =
     let one_local : (fields_of c.in_ok-arg.field-0).has_globals ≡ false = c.in_ok-arg.ensures.globals ∙ ap₂ (λ x y. x || y) bare_local profile_local in
     let reach_is : app_of c.in_ok-reach.reach ≡ reach_app = c.in_ok-reach.ensures.shape path_local ∙ ap₂ with_rule one_is path_is in
     let reach_local : (fields_of c.in_ok-reach.reach).has_globals ≡ false = c.in_ok-reach.ensures.globals ∙ ap₂ (λ x y. x || y) one_local path_local in
-    let top_is : app_of c.about-2.result ≡ new_app (codes "hubsync") = ap app_of_fields c.about-2.ensures ∙ c.new-4.ensures.app in
+    let version_is : app_of c.version.result ≡ top_app =
+    ap app_of_fields c.version.ensures ∙ ap (on_top (λ s. record s { has_version = true })) c.new-4.ensures.app in
+    let top_is : app_of c.after_help.result ≡ top_app = ap app_of_fields c.after_help.ensures ∙ (ap app_of_fields c.about-2.ensures ∙ version_is) in
     IfOk-weaker c.subcommand.result _ _ (λ r h. h.shape reach_local ∙ ap₂ with_subcommand top_is (ap (λ (a : App). a.top) reach_is)) c.subcommand.ensures

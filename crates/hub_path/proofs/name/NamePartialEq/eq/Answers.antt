@@ -1,6 +1,6 @@
 use Rattle.std.proofs.Common.{◌∙◌}
 use Rattle.std.proofs.lemmas.Str.{IsUtf8-string_bytes}
-use Rattle.hub_path.specs.Texts.{same_texts}
+use Rattle.hub_text.specs.Texts.{same_texts}
 use Rattle.hub_path.proofs.name.NamePartialEq.eq.Goals as goal
 
 pub returns : goal.returns

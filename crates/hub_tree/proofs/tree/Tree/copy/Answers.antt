@@ -8,4 +8,8 @@ pub returns : goal.returns
 returns c = same_replica c.in_ok-copies_of.field-0.entries c.self.inside.children.entries c.in_ok-copies_of.ensures ∙ c.self.view_is
 
 pub invariant_of-result : goal.invariant_of-result
-invariant_of-result c = λ p h. c.self.invariant p (sym (ap (λ m. is_some (get m p)) (same_replica c.in_ok-copies_of.field-0.entries c.self.inside.children.entries c.in_ok-copies_of.ensures)) ∙ h)
+invariant_of-result c =
+    let same = sym (same_replica c.in_ok-copies_of.field-0.entries c.self.inside.children.entries c.in_ok-copies_of.ensures) in (
+      λ p h. c.self.invariant.0 p (ap (λ m. is_some (get m p)) same ∙ h),
+      λ p b h. c.self.invariant.1 p b (ap (λ m. get m p) same ∙ h),
+    )

@@ -1,0 +1,8 @@
+use Rattle.std.proofs.Common.{length}
+use Rattle.std.specs.Str.{chars}
+use Rattle.hub_path.specs.Path.{path_of}
+use Rattle.hub_path.proofs.PathFacts.{NamesSoFar}
+use Rattle.hub_path.proofs.rel_path.RelPath.from_text.Given as goal
+
+abbrev pub invariant-loop-part : goal.invariant-loop-part
+invariant-loop-part l = NamesSoFar (path_of (chars l.text)) l.names.items (length l.yielded)

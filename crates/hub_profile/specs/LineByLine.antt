@@ -1,0 +1,43 @@
+-- A text that is read line by line: what its lines say, or the fault of the lowest line that has one.
+use Rattle.std.specs.Prelude.{ℕ, bytes_eq, List, [], ◌∷◌, Option, Some, None, Result, Ok, Err, if◌then◌else◌}
+use Rattle.std.specs.List.{fold}
+use Rattle.std.specs.Str.{is_utf8, chars}
+use Rattle.hub_profile.specs.declared.fault.Fault.{Fault}
+use Rattle.hub_profile.specs.declared.fault.Fault.TheVariants.{NotUtf8}
+use Rattle.hub_profile.specs.declared.fault.ProfileFault.{ProfileFault}
+use Rattle.hub_profile.specs.Lines.{line_text, lines_of, is_setting, setting}
+
+-- What a setting with that name and value adds to what the lines before it say, or its fault.
+abbrev pub Table : Type 0 → Type 0
+Table S = S → (name value : List ℕ) → Result S Fault
+
+abbrev pub with_pair : {S : Type 0} → Table S → S → Result (List ℕ × List ℕ) Fault → Result S Fault
+with_pair table said (Ok pair) = table said pair.0 pair.1
+with_pair table said (Err f) = Err f
+
+-- What a line adds: nothing if it is blank or a comment.
+abbrev pub with_line : {S : Type 0} → Table S → S → List ℕ → Result S Fault
+with_line table said l = if is_setting (line_text l) then with_pair table said (setting (line_text l)) else Ok said
+
+-- A fault is reported with its line.
+abbrev pub at_line : {S : Type 0} → ℕ → Result S Fault → Result S ProfileFault
+at_line n (Ok said) = Ok said
+at_line n (Err f) = Err (record { line = n; fault = f })
+
+-- The lines before this one, and then this one.
+abbrev pub and_line : {S : Type 0} → Table S → Result S ProfileFault → ℕ × List ℕ → Result S ProfileFault
+and_line table (Ok said) l = at_line l.0 (with_line table said l.1)
+and_line table (Err f) l = Err f
+
+-- What the lines of a text say, from nothing on.
+abbrev pub lines_reading : {S : Type 0} → Table S → S → List ℕ → Result S ProfileFault
+lines_reading table nothing cs = fold (and_line table) (Ok nothing) (lines_of cs)
+
+-- What bytes say that have to be text. That they are not is reported at line 0.
+abbrev pub if_text : {T : Type 0} → (List ℕ → Result T ProfileFault) → List ℕ → Result T ProfileFault
+if_text reading bytes = if is_utf8 bytes then reading (chars bytes) else Err (record { line = 0; fault = NotUtf8 })
+
+-- The value beside a name in a list of pairs.
+abbrev pub look_up : {K : Type 0} → List ℕ → List (List ℕ × K) → Option K
+look_up name [] = None
+look_up name (row ∷ rows) = if bytes_eq name row.0 then Some row.1 else look_up name rows

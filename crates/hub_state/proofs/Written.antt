@@ -1,0 +1,181 @@
+-- The lines that are written, read one after the other.
+use Rattle.std.proofs.Common.{◌≡◌, ℕ, ◌+◌, ◌<◌, ◌≤◌, true, false, ◌==◌, List, [], ◌∷◌, ◌++◌, length, refl, sym, ap, ◌∙◌, arith, subst}
+use Rattle.std.specs.Prelude.{codes, None, Result, Ok, Err, nat_le, nat_lt}
+use Rattle.std.specs.FinMap.Entries.{find}
+use Rattle.std.specs.List.{list_all}
+use Rattle.std.specs.Str.{is_utf8, chars, IsUtf8}
+use Rattle.std.proofs.lemmas.Str.{IsUtf8-from_is_utf8, is_utf8-from_IsUtf8, IsUtf8-append}
+use Rattle.std.proofs.lemmas.List.Folds.{list_all-append}
+use Rattle.std.proofs.lemmas.Bool.Decides.{nat_tests}
+use Rattle.hex.specs.Hex.{IsBytes, encode_lower}
+use lib.Utf8.{encode}
+use Rattle.hub_path.specs.Path.{Path, path_cmp, is_path, parent}
+use Rattle.hub_path.specs.Reading.{names_fault}
+use Rattle.hub_tree.specs.declared.contents.Contents.{Contents}
+use Rattle.hub_tree.specs.declared.contents.Contents.TheVariants as contents
+use Rattle.hub_tree.specs.declared.contents.Mark.{Mark}
+use Rattle.hub_tree.specs.declared.contents.Mark.TheVariants as mark
+use Rattle.hub_state.specs.declared.TheConstants.{ENTRIES, FILE_BYTES}
+use Rattle.hub_state.specs.declared.fault.Fault.{Fault}
+use Rattle.hub_state.specs.declared.fault.StateFault.{StateFault}
+use Rattle.hub_state.specs.declared.form.Form.TheVariants as form
+use Rattle.hub_state.specs.declared.form.Section.{Section}
+use Rattle.hub_state.specs.declared.form.Section.TheVariants as section
+use Rattle.hub_state.specs.State.{Text}
+use Rattle.hub_state.specs.Writing.{end_line, dir_line, file_line, path_bytes, hex_field}
+use Rattle.hub_state.specs.Reading.{Above, and_then, line_reading, numbered_reading, lines_reading, then_lines, fault_at, may_stand, has_directory}
+use Rattle.hub_state.proofs.Lines.{in_line, and_both, field_before, field_after, field_ends}
+use Rattle.hub_state.proofs.Fields.{IsUtf8-path, place_of_path, path_field-written, bytes_field-written, digest_field-written, IsUtf8-digits, IsUtf8-hex, hex-in_field}
+use Rattle.hub_state.proofs.Lines.{digits-in_field}
+
+-- What is read of some lines.
+abbrev pub lines_from : Above → List (List ℕ) → Result Above Fault
+lines_from d [] = Ok d
+lines_from d (l ∷ ls) = and_then (line_reading d l) (λ e. lines_from e ls)
+
+lines_from-append : (ls ks : List (List ℕ)) (d e : Above) → lines_from d ls ≡ Ok e → lines_from d (ls ++ ks) ≡ lines_from e ks
+lines_from-append [] ks d e h = ap (λ (r : Result Above Fault). and_then r (λ x. lines_from x ks)) h
+lines_from-append (l ∷ ls) ks d e h =
+    elim (line_reading d l) as (λ r. and_then r (λ x. lines_from x ls) ≡ Ok e → and_then r (λ x. lines_from x (ls ++ ks)) ≡ lines_from e ks) [
+      | Ok x ↦ λ h. lines_from-append ls ks x e h
+      | Err f ↦ λ h. cc
+    ] h
+
+-- Lines that end, of which this is read.
+pub record Reads (d : Above) (ls : List (List ℕ)) (e : Above) : Type 0 where
+  pub whole : list_all (list_all in_line) ls ≡ true
+  pub says : lines_from d ls ≡ Ok e
+
+pub Reads-none : (d : Above) → Reads d [] d
+Reads-none d = record { whole = refl; says = refl }
+
+pub Reads-append : (d e f : Above) (ls ks : List (List ℕ)) → Reads d ls e → Reads e ks f → Reads d (ls ++ ks) f
+Reads-append d e f ls ks one two = record {
+  whole = list_all-append (list_all in_line) ls ks ∙ and_both _ _ one.whole two.whole;
+  says = lines_from-append ls ks d e one.says ∙ two.says;
+}
+
+pub Reads-line : (d e : Above) (l : List ℕ) → list_all in_line l ≡ true → line_reading d l ≡ Ok e → Reads d (l ∷ []) e
+Reads-line d e l whole says = record {
+  whole = and_both (list_all in_line l) true whole refl;
+  says = ap (λ (r : Result Above Fault). and_then r (λ x. Ok x)) says;
+}
+
+-- Such lines and an `end`, from a line on that isn't the first.
+end_utf8 : is_utf8 end_line ≡ true
+unfolding is_utf8 chars encode
+end_utf8 = refl
+
+not_first : (n : ℕ) → 2 ≤ n → (n == 1) ≡ false
+not_first n h = grind (arith, nat_tests)
+
+abbrev ended : Above → Above
+ended d = record d { ended = true }
+
+end_reads : (n : ℕ) (d : Above) → 2 ≤ n → d.ended ≡ false → may_stand d.section form.End ≡ true → lines_reading true n d (end_line ∷ []) ≡ Ok (ended d)
+end_reads n d h going place = rw (not_first n h, end_utf8, going, place) refl
+
+step : (n : ℕ) (d : Above) (y : Above) (e : Above) (l : List ℕ) (f : Above → Result Above Fault) (g : Above → Result Above StateFault) → 2 ≤ n
+    → and_then (line_reading d l) f ≡ Ok e → ((x : Above) → f x ≡ Ok e → g x ≡ Ok y) → then_lines (fault_at n (numbered_reading n d l)) g ≡ Ok y
+step n d y e l f g h says more =
+    rw (not_first n h)
+    (elim (line_reading d l) as (λ r. and_then r f ≡ Ok e → then_lines (fault_at n r) g ≡ Ok y) [
+      | Ok x ↦ λ k. more x k
+      | Err w ↦ λ k. cc
+    ] says)
+
+pub lines_reading-ended : (ls : List (List ℕ)) (n : ℕ) (d e : Above) → 2 ≤ n → lines_from d ls ≡ Ok e → e.ended ≡ false → may_stand e.section form.End ≡ true
+    → lines_reading true n d (ls ++ end_line ∷ []) ≡ Ok (ended e)
+lines_reading-ended [] n d e h says going place =
+    let same : d ≡ e = cc in
+    subst (λ (x : Above). lines_reading true n x (end_line ∷ []) ≡ Ok (ended e)) (sym same) (end_reads n e h going place)
+lines_reading-ended (l ∷ []) n d e h says going place =
+    step n d (ended e) e l (λ x. lines_from x []) (λ x. lines_reading true (n + 1) x (end_line ∷ [])) h says (λ x k. lines_reading-ended [] (n + 1) x e (omega arith) k going place)
+lines_reading-ended (l ∷ k ∷ ls) n d e h says going place =
+    step n d (ended e) e l (λ x. lines_from x (k ∷ ls)) (λ x. lines_reading true (n + 1) x (k ∷ ls ++ end_line ∷ [])) h says
+    (λ x g. lines_reading-ended (k ∷ ls) (n + 1) x e (omega arith) g going place)
+
+-- What was read within a section.
+abbrev pub above : List (Text × List (Path × Contents)) → List (List Text × List (Path × Mark)) → Section → ℕ → Above
+above rs ks s n = record { replicas = rs; archives = ks; section = s; entries = n; ended = false }
+
+pub word_utf8 : (w : List ℕ) → is_utf8 w ≡ true → (t : List ℕ) → IsUtf8 t → is_utf8 (w ++ t) ≡ true
+word_utf8 w h t u = is_utf8-from_IsUtf8 (w ++ t) (IsUtf8-append w t (IsUtf8-from_is_utf8 w h) u)
+
+pub word_in_line : (w t : List ℕ) → list_all in_line w ≡ true → list_all in_line t ≡ true → list_all in_line (w ++ t) ≡ true
+word_in_line w t h k = list_all-append in_line w t ∙ and_both _ _ h k
+
+dir_word : is_utf8 (codes "dir ") ≡ true
+unfolding is_utf8 chars encode
+dir_word = refl
+
+dir_utf8 : (t : List ℕ) → IsUtf8 t → is_utf8 (codes "dir " ++ t) ≡ true
+dir_utf8 t u = word_utf8 (codes "dir ") dir_word t u
+
+file_word : is_utf8 (codes "file ") ≡ true
+unfolding is_utf8 chars encode
+file_word = refl
+
+file_utf8 : (t : List ℕ) → IsUtf8 t → is_utf8 (codes "file " ++ t) ≡ true
+file_utf8 t u = word_utf8 (codes "file ") file_word t u
+
+space_utf8 : is_utf8 (32 ∷ []) ≡ true
+unfolding is_utf8 chars encode
+space_utf8 = refl
+
+fields_utf8 : (f t : List ℕ) → IsUtf8 f → IsUtf8 t → IsUtf8 (f ++ 32 ∷ t)
+fields_utf8 f t u v = IsUtf8-append f (32 ∷ t) u (IsUtf8-append (32 ∷ []) t (IsUtf8-from_is_utf8 (32 ∷ []) space_utf8) v)
+
+pub fields_in_line : (f t : List ℕ) → list_all in_line f ≡ true → list_all in_line t ≡ true → list_all in_line (codes "file " ++ f ++ 32 ∷ t) ≡ true
+fields_in_line f t h k = word_in_line (codes "file ") (f ++ 32 ∷ t) refl (word_in_line f (32 ∷ t) h k)
+
+not_full : (n : ℕ) → n < ENTRIES → nat_le ENTRIES n ≡ false
+not_full n h = grind (arith, nat_tests)
+
+not_long : (n : ℕ) → n ≤ FILE_BYTES → nat_lt FILE_BYTES n ≡ false
+not_long n h = grind (arith, nat_tests)
+
+-- A directory, and a file, of a replica and of an archive.
+pub dir_reads : (rs : List (Text × List (Path × Contents))) (ks : List (List Text × List (Path × Mark))) (n : ℕ) (t : Text) (acc : List (Path × Contents)) (p : Path)
+    → is_path p ≡ true → names_fault 0 p ≡ None → n < ENTRIES → find path_cmp p acc ≡ None → has_directory acc (parent p) ≡ true
+    → line_reading (above ((t, acc) ∷ rs) ks section.Replica n) (dir_line p) ≡ Ok (above ((t, (p, contents.Directory) ∷ acc) ∷ rs) ks section.Replica (n + 1))
+dir_reads rs ks n t acc p path ok room new parents =
+    rw (dir_utf8 (path_bytes p) (IsUtf8-path p (place_of_path p path)), path_field-written p path ok, not_full n room, new, parents) refl
+
+pub file_reads : (rs : List (Text × List (Path × Contents))) (ks : List (List Text × List (Path × Mark))) (n : ℕ) (t : Text) (acc : List (Path × Contents)) (p : Path) (bytes : List ℕ)
+    → is_path p ≡ true → names_fault 0 p ≡ None → IsBytes bytes → length bytes ≤ FILE_BYTES → n < ENTRIES → find path_cmp p acc ≡ None → has_directory acc (parent p) ≡ true
+    → line_reading (above ((t, acc) ∷ rs) ks section.Replica n) (file_line (hex_field bytes) p) ≡ Ok (above ((t, (p, contents.File bytes) ∷ acc) ∷ rs) ks section.Replica (n + 1))
+file_reads rs ks n t acc p bytes path ok fit short room new parents =
+    rw (
+      file_utf8 (hex_field bytes ++ 32 ∷ path_bytes p) (fields_utf8 (hex_field bytes) (path_bytes p) (IsUtf8-hex bytes) (IsUtf8-path p (place_of_path p path))),
+      field_ends (hex_field bytes) (path_bytes p),
+      field_before (hex_field bytes) (path_bytes p) (hex-in_field bytes),
+      field_after (hex_field bytes) (path_bytes p) (hex-in_field bytes),
+      bytes_field-written bytes fit,
+      path_field-written p path ok,
+      not_full n room,
+      not_long (length bytes) short,
+      new,
+      parents,
+    ) refl
+
+pub old_dir_reads : (rs : List (Text × List (Path × Contents))) (ks : List (List Text × List (Path × Mark))) (n : ℕ) (k : List Text) (acc : List (Path × Mark)) (p : Path)
+    → is_path p ≡ true → names_fault 0 p ≡ None → n < ENTRIES → find path_cmp p acc ≡ None
+    → line_reading (above rs ((k, acc) ∷ ks) section.Archive n) (dir_line p) ≡ Ok (above rs ((k, (p, mark.Directory) ∷ acc) ∷ ks) section.Archive (n + 1))
+old_dir_reads rs ks n k acc p path ok room new =
+    rw (dir_utf8 (path_bytes p) (IsUtf8-path p (place_of_path p path)), path_field-written p path ok, not_full n room, new) refl
+
+pub old_file_reads : (rs : List (Text × List (Path × Contents))) (ks : List (List Text × List (Path × Mark))) (n : ℕ) (k : List Text) (acc : List (Path × Mark)) (p : Path) (digest : List ℕ)
+    → is_path p ≡ true → names_fault 0 p ≡ None → length digest ≡ 32 → IsBytes digest → n < ENTRIES → find path_cmp p acc ≡ None
+    → line_reading (above rs ((k, acc) ∷ ks) section.Archive n) (file_line (encode_lower digest) p) ≡ Ok (above rs ((k, (p, mark.File digest) ∷ acc) ∷ ks) section.Archive (n + 1))
+old_file_reads rs ks n k acc p digest path ok long fit room new =
+    rw (
+      file_utf8 (encode_lower digest ++ 32 ∷ path_bytes p) (fields_utf8 (encode_lower digest) (path_bytes p) (IsUtf8-digits digest) (IsUtf8-path p (place_of_path p path))),
+      field_ends (encode_lower digest) (path_bytes p),
+      field_before (encode_lower digest) (path_bytes p) (digits-in_field digest),
+      field_after (encode_lower digest) (path_bytes p) (digits-in_field digest),
+      digest_field-written digest long fit,
+      path_field-written p path ok,
+      not_full n room,
+      new,
+    ) refl

@@ -1,0 +1,60 @@
+-- States: replicas by root and archives by unordered pair of roots, in the order of the roots' texts.
+use Rattle.std.specs.Prelude.{◌≡◌, ℕ, Bool, true, false, List, [], ◌∷◌, Option, Some, IsTrue, if◌then◌else◌}
+use Rattle.std.specs.FinMap as fin
+use Rattle.std.specs.Str.{encode_utf8_all}
+use Rattle.std.specs.declared.cmp.Ordering.{Ordering}
+use Rattle.std.specs.declared.cmp.Ordering.TheVariants.{Less, Equal, Greater}
+use Rattle.hub_path.specs.Path.{Path, name_cmp, path_cmp, text_of, is_place}
+use Rattle.hub_tree.specs.Tree.{Replica, Archive, IsTree, IsArchive, HasPaths, HasBytes, HasDigests}
+
+-- The characters of a root's text.
+abbrev pub root_chars : Path → List ℕ
+root_chars r = 47 ∷ text_of r
+
+-- The text of a root, in UTF-8.
+abbrev pub Text : Type 0
+Text = List ℕ
+
+abbrev pub root_text : Path → Text
+root_text r = encode_utf8_all (root_chars r)
+
+abbrev pub is_before : Ordering → Bool
+is_before Less = true
+is_before Equal = false
+is_before Greater = false
+
+-- The pair of two roots in either order: their texts, the smaller one first.
+abbrev pub pair_of : Path → Path → List Text
+pair_of r s =
+    if is_before (name_cmp (root_text r) (root_text s)) then root_text r ∷ root_text s ∷ []
+    else root_text s ∷ root_text r ∷ []
+
+-- Replicas and archives under the texts of their roots: so both stand in the order of the texts.
+pub record State : Type 0 where
+  pub replicas : fin.FinMap name_cmp Replica
+  pub archives : fin.FinMap path_cmp Archive
+
+abbrev pub nothing : State
+nothing = record { replicas = fin.empty; archives = fin.empty }
+
+abbrev pub replica_at : State → Path → Option Replica
+replica_at S r = fin.get S.replicas (root_text r)
+
+-- An archive that isn't there has no marks.
+abbrev pub archive_at : State → Path → Path → Option Archive
+archive_at S r s = fin.get S.archives (pair_of r s)
+
+abbrev pub with_replica : State → Path → Replica → State
+with_replica S r m = record S { replicas = fin.insert S.replicas (root_text r) m }
+
+abbrev pub with_archive : State → Path → Path → Archive → State
+with_archive S r s a = record S { archives = fin.insert S.archives (pair_of r s) a }
+
+-- What holds of each state: its keys are texts of roots, of two different ones for an archive; its values are replicas
+-- and archives.
+pub record IsState (S : State) : Type 0 where
+  pub roots : (t : Text) (m : Replica) → fin.get S.replicas t ≡ Some m → (r : Path) × IsTrue (is_place r) × (t ≡ root_text r)
+  pub trees : (t : Text) (m : Replica) → fin.get S.replicas t ≡ Some m → IsTree m × HasPaths m × HasBytes m
+  pub pairs : (k : List Text) (a : Archive) → fin.get S.archives k ≡ Some a
+      → (r s : Path) × IsTrue (is_place r) × IsTrue (is_place s) × (k ≡ root_text r ∷ root_text s ∷ []) × IsTrue (is_before (name_cmp (root_text r) (root_text s)))
+  pub marks : (k : List Text) (a : Archive) → fin.get S.archives k ≡ Some a → IsArchive a × HasPaths a × HasDigests a

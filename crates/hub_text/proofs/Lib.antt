@@ -1,0 +1,3 @@
+pub mod BlankCuts
+pub mod LineCuts
+pub mod Written

@@ -1,0 +1,13 @@
+pub mod Ascii
+pub mod AsciiWords
+pub mod Blanks
+pub mod Devices
+pub mod Examples
+pub mod LineLaws
+pub mod Lines
+pub mod Takes
+pub mod TestLaws
+pub mod TextChars
+pub mod TextCuts
+pub mod TextOrder
+pub mod Texts

@@ -1,0 +1,30 @@
+-- What holds of the lines of a text.
+use Rattle.std.proofs.Common.{◌≡◌, ℕ, Bool, true, false, ◌||◌, List, [], ◌∷◌, ◌++◌, refl, sym, ap, ◌∙◌}
+use Rattle.std.specs.List.{list_any}
+use Rattle.std.proofs.lemmas.Bool.{or_parts, eqb-true}
+use Rattle.hub_text.specs.declared.line.Line.{Line}
+use Rattle.hub_text.specs.Lines.{is_lf, lines_of, onto_first_line, ended, unended, line_text, text_of_lines}
+
+-- A text that begins with a line and its LF.
+pub lines_of-ended : (l rest : List ℕ) → list_any is_lf l ≡ false → lines_of (l ++ 10 ∷ rest) ≡ ended l ∷ lines_of rest
+lines_of-ended [] rest h = refl
+lines_of-ended (c ∷ l) rest h =
+    let none = or_parts (is_lf c) (list_any is_lf l) h in
+    rw none.0 (ap (onto_first_line c) (lines_of-ended l rest none.1))
+
+text-onto : (c : ℕ) (ls : List (Line (List ℕ))) → text_of_lines (onto_first_line c ls) ≡ c ∷ text_of_lines ls
+text-onto c [] = refl
+text-onto c (l ∷ ls) = by l.is_ended refl
+  where
+    by : (b : Bool) → l.is_ended ≡ b → text_of_lines (onto_first_line c (l ∷ ls)) ≡ c ∷ text_of_lines (l ∷ ls)
+    by true e = rw e refl
+    by false e = rw e refl
+
+-- The lines of a text have the whole text.
+pub text_of_lines-lines_of : (cs : List ℕ) → text_of_lines (lines_of cs) ≡ cs
+text_of_lines-lines_of [] = refl
+text_of_lines-lines_of (c ∷ cs) = by (is_lf c) refl (text_of_lines-lines_of cs)
+  where
+    by : (b : Bool) → is_lf c ≡ b → text_of_lines (lines_of cs) ≡ cs → text_of_lines (lines_of (c ∷ cs)) ≡ c ∷ cs
+    by true e more = rw e (ap (λ d. d ∷ text_of_lines (lines_of cs)) (sym (eqb-true c 10 e)) ∙ ap (λ t. c ∷ t) more)
+    by false e more = rw e (text-onto c (lines_of cs) ∙ ap (λ t. c ∷ t) more)

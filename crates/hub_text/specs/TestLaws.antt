@@ -1,0 +1,102 @@
+-- Laws of tests, and of the test whether some item of a list passes.
+use Rattle.std.proofs.Common.{◌≡◌, Bool, true, false, not, ◌&&◌, ◌||◌, List, [], ◌∷◌, ◌++◌, map, refl, sym, ap, ◌∙◌}
+use Rattle.std.specs.List.{list_any}
+use Rattle.std.specs.Ordering.{bool_cmp, eq_by_cmp}
+use mathlib.Core.Bool.{beq}
+
+-- The first of some tests, false where there is none, and the others.
+abbrev pub head : List Bool → Bool
+head [] = false
+head (b ∷ bs) = b
+
+abbrev pub tail : List Bool → List Bool
+tail [] = []
+tail (b ∷ bs) = bs
+
+-- Equations of tests by trying all values: `same _ _ (every4 (λ a b c d. agree LEFT RIGHT) refl a b c d)`.
+abbrev pub every : (Bool → Bool) → Bool
+every f = f true && f false
+
+pub every_is : (f : Bool → Bool) → every f ≡ true → (b : Bool) → f b ≡ true
+every_is f h true = left (f true) (f false) h where
+  left : (a b : Bool) → (a && b) ≡ true → a ≡ true
+  left true b h = refl
+  left false b h = h
+every_is f h false = right (f true) (f false) h where
+  right : (a b : Bool) → (a && b) ≡ true → b ≡ true
+  right true b h = h
+  right false true h = refl
+  right false false h = h
+
+abbrev pub agree : Bool → Bool → Bool
+agree true b = b
+agree false b = not b
+
+pub same : (a b : Bool) → agree a b ≡ true → a ≡ b
+same true b h = sym h
+same false false h = refl
+same false true h = h
+
+pub every4 : (f : Bool → Bool → Bool → Bool → Bool) → every (λ a. every (λ b. every (λ c. every (λ d. f a b c d)))) ≡ true → (a b c d : Bool) → f a b c d ≡ true
+every4 f h a b c d =
+    every_is (f a b c)
+    (every_is (λ b'. every (λ d'. f a b b' d')) (every_is (λ b'. every (λ c'. every (λ d'. f a b' c' d'))) (every_is (λ a'. every (λ b'. every (λ c'. every (λ d'. f a' b' c' d')))) h a) b) c) d
+
+pub every7 : (f : Bool → Bool → Bool → Bool → Bool → Bool → Bool → Bool)
+    → every (λ a. every (λ b. every (λ c. every (λ d. every (λ e. every (λ g. every (λ k. f a b c d e g k))))))) ≡ true
+    → (a b c d e g k : Bool) → f a b c d e g k ≡ true
+every7 f h a b c d e g k =
+    every4 (f a b c)
+    (every_is (λ c'. every (λ d. every (λ e. every (λ g. every (λ k. f a b c' d e g k)))))
+    (every_is (λ b'. every (λ c. every (λ d. every (λ e. every (λ g. every (λ k. f a b' c d e g k))))))
+    (every_is (λ a'. every (λ b. every (λ c. every (λ d. every (λ e. every (λ g. every (λ k. f a' b c d e g k))))))) h a) b) c)
+    d e g k
+
+pub and-false : (a : Bool) → (a && false) ≡ false
+and-false true = refl
+and-false false = refl
+
+pub and-true : (a : Bool) → (a && true) ≡ a
+and-true true = refl
+and-true false = refl
+
+pub or-false : (a : Bool) → (a || false) ≡ a
+or-false true = refl
+or-false false = refl
+
+pub or-assoc : (a b c : Bool) → (a || (b || c)) ≡ ((a || b) || c)
+or-assoc true b c = refl
+or-assoc false b c = refl
+
+-- Whether some item of a list passes.
+pub any-false : {X : Type 0} (xs : List X) → false ≡ list_any (λ x. false) xs
+any-false [] = refl
+any-false (x ∷ xs) = any-false xs
+
+pub any-and : {X : Type 0} (b : Bool) (f : X → Bool) (xs : List X) → (b && list_any f xs) ≡ list_any (λ x. b && f x) xs
+any-and true f xs = refl
+any-and false f xs = any-false xs
+
+pub any-or : {X : Type 0} (f g : X → Bool) (xs : List X) → (list_any f xs || list_any g xs) ≡ list_any (λ x. f x || g x) xs
+any-or f g [] = refl
+any-or f g (x ∷ xs) = regroup (f x) (list_any f xs) (g x) (list_any g xs) ∙ ap (λ b. (f x || g x) || b) (any-or f g xs) where
+  regroup : (a b c d : Bool) → ((a || b) || (c || d)) ≡ ((a || c) || (b || d))
+  regroup true b c d = refl
+  regroup false true true d = refl
+  regroup false true false d = refl
+  regroup false false c d = refl
+
+pub any-map : {X Y : Type 0} (f : Y → Bool) (h : X → Y) (xs : List X) → list_any (λ x. f (h x)) xs ≡ list_any f (map h xs)
+any-map f h [] = refl
+any-map f h (x ∷ xs) = ap (λ b. f (h x) || b) (any-map f h xs)
+
+pub any-append : {X : Type 0} (f : X → Bool) (xs ys : List X) → (list_any f xs || list_any f ys) ≡ list_any f (xs ++ ys)
+any-append f [] ys = refl
+any-append f (x ∷ xs) ys = sym (or-assoc (f x) (list_any f xs) (list_any f ys)) ∙ ap (λ b. f x || b) (any-append f xs ys)
+
+-- Tests that compare as equal are equal.
+pub bits_ties : (x y : Bool) → beq x y ≡ eq_by_cmp bool_cmp x y
+bits_ties true true = refl
+bits_ties true false = refl
+bits_ties false true = refl
+bits_ties false false = refl

@@ -1,0 +1,31 @@
+//! Lists, texts, lines and watched devices: what all of hubsync's crates stand on.
+//!
+//! - [`Items`]: a list, with equality, order, hash and clone.
+//! - [`Lines`] and [`TextLines`]: the lines of bytes and of a text, each a [`Line`] that says whether an LF ended it.
+//! - [`Watched`]: a reader or a writer that remembers whether a call of it has failed.
+//! - [`BLANKS`], [`first_word`] and [`skip_blanks`]: where a text is cut between words.
+//! - [`compare`], [`is_empty`], [`begins_with`] and [`without_last`]: questions about a text, answered by its
+//!   characters.
+//!
+//! Contracts see a text as the list of its characters, which are numbers (Unicode scalar values). The definitions are in
+//! `specs/Blanks` and `specs/Lines`. The other files of `specs/` prove general facts for the proofs of the crates above:
+//! `TestLaws` of tests, `TextCuts`, `TextChars`, `Texts`, `Ascii` and `AsciiWords` of bytes and the characters that they
+//! encode, and `TextOrder` that the order of UTF-8 bytes is the order of characters.
+//!
+//! Only functions that return a `Result` allocate.
+#![tactic(auto)]
+
+mod blank;
+mod items;
+mod line;
+mod text;
+mod watched;
+
+pub use blank::{BLANKS, first_word, skip_blanks};
+pub use items::Items;
+pub use line::{Line, Lines, TextLines};
+pub use text::{begins_with, compare, is_empty, without_last};
+pub use watched::Watched;
+
+#[cfg(test)]
+mod tests;

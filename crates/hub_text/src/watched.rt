@@ -1,0 +1,113 @@
+ghost use Rattle.std.specs.Prelude.{◌≡◌, ◌||◌, ℕ, length, take, false, OnOk, is_err};
+ghost use Rattle.std.specs.Io.{ReadsAtMost, WritesAtMost};
+ghost use Rattle.std.specs.Io.KnownBytes.{Appends, Keeps, ReadConsumes, WriteAppends};
+ghost use Rattle.hub_text.specs.Devices.{is_failed_write};
+
+use std::io;
+use std::io::{ErrorKind, Read, Write};
+
+/// A reader or a writer with a flag that its first failed call sets. No later call clears the flag.
+///
+/// A call that returns an error has failed, an interrupted one too, and so has a write that takes nothing of a piece
+/// that isn't empty. The calls are passed on to the device as they are.
+#[derive(Drop)]
+pub struct Watched<D> {
+    device: D,
+    failed: bool,
+}
+
+impl<D> Watched<D> {
+    /// Watches a device. No call of it has failed yet.
+    pub fn new(device: D) -> Watched<D>
+        ensures device { result.device ≡ device }
+        ensures failed { result.failed ≡ false }
+    {
+        Watched {
+            device,
+            failed: false,
+        }
+    }
+
+    /// Returns whether a call of the device has failed since `new`.
+    pub fn failed(&self) -> bool
+        ensures { result ≡ self.now.failed }
+    {
+        self.failed
+    }
+}
+
+impl<R: Read> Read for Watched<R> {
+    ghost remaining = { λ w. R.remaining w.device };
+
+    fn read(&mut self, buffer: &mut [u8]) -> io::Result<usize>
+        ensures bound { ReadsAtMost result buffer.new }
+        ensures bytes { ReadConsumes (R.remaining self.old.device) (R.remaining self.new.device)
+            result buffer.new }
+        ensures failed { self.new.failed ≡ (self.old.failed || is_err result) }
+    {
+        let result = self.device.read(buffer);
+        if result.is_err() {
+            self.failed = true;
+        }
+        result
+    }
+}
+
+impl<W: Write> Write for Watched<W> {
+    ghost contents = { λ w. W.contents w.device };
+
+    fn write(&mut self, bytes: &[u8]) -> io::Result<usize>
+        ensures bound { WritesAtMost result bytes.now }
+        ensures bytes { WriteAppends (W.contents self.old.device) (W.contents self.new.device)
+            result bytes.now }
+        ensures failed { self.new.failed
+            ≡ (self.old.failed || is_failed_write (length bytes.now) result) }
+    {
+        let result = self.device.write(bytes);
+        if is_failed(&result, bytes) {
+            self.failed = true;
+        }
+        result
+    }
+
+    fn flush(&mut self) -> io::Result<()>
+        ensures bytes { Keeps (W.contents self.old.device) (W.contents self.new.device) }
+        ensures failed { self.new.failed ≡ (self.old.failed || is_err result) }
+    {
+        let result = self.device.flush();
+        if result.is_err() {
+            self.failed = true;
+        }
+        result
+    }
+
+    /// Writes all of these bytes, or a prefix of them up to the first call that fails. Unlike other writers' `write_all`
+    /// it doesn't retry an interrupted call.
+    fn write_all(&mut self, bytes: &[u8]) -> io::Result<()>
+        ensures bytes { OnOk result (Appends (W.contents self.old.device)
+            (W.contents self.new.device) bytes.now) }
+        ensures prefix { (n : ℕ) × Appends (W.contents self.old.device)
+            (W.contents self.new.device) (take n bytes.now) }
+        ensures failed { self.new.failed ≡ (self.old.failed || is_err result) }
+    {
+        let mut rest = bytes;
+        while !rest.is_empty() {
+            let count = self.write(rest)?;
+            if count == 0 {
+                return Err(io::Error::from(ErrorKind::WriteZero));
+            }
+            rest = &rest[count..];
+        }
+        Ok(())
+    }
+}
+
+/// Returns whether a write of these bytes failed.
+fn is_failed(outcome: &io::Result<usize>, bytes: &[u8]) -> bool
+    ensures { result ≡ is_failed_write (length bytes.now) outcome.now }
+{
+    match outcome {
+        Ok(count) => *count == 0 && !bytes.is_empty(),
+        Err(_) => true,
+    }
+}

@@ -1,0 +1,61 @@
+#!/usr/bin/env bash
+# Compares the program's answers to the examples with the table in examples/README.md.
+#
+#     examples/check.sh [PROGRAM]
+#
+# PROGRAM is the built program (crates/hubsync/out/hubsync if left out). Each row of the table is run: its bundle on
+# standard input, its words as arguments. The output is the row's one line and the status is the row's. A line is printed
+# for each wrong answer and for each bundle without a row. The status is 1 if there was one, else 0.
+set -euo pipefail
+folder=$(dirname "$(readlink -f "${BASH_SOURCE[0]}")")
+program=$(readlink -f "${1:-$folder/../crates/hubsync/out/hubsync}")
+table=$folder/README.md
+rows=0
+wrong=0
+
+complain() {
+    echo "examples: $*"
+    wrong=$((wrong + 1))
+}
+
+# Takes the spaces around a table's cell away, and the backquotes.
+cell() {
+    local text=$1
+    text=${text#"${text%%[! ]*}"}
+    text=${text%"${text##*[! ]}"}
+    text=${text#\`}
+    printf '%s' "${text%\`}"
+}
+
+if [ ! -x "$program" ]; then
+    echo "examples: there is no program at $program"
+    exit 1
+fi
+while IFS='|' read -r _ bundle words output wanted _; do
+    bundle=$(cell "$bundle")
+    words=$(cell "$words")
+    output=$(cell "$output")
+    wanted=$(cell "$wanted")
+    arguments=()
+    if [ -n "$words" ]; then
+        mapfile -t arguments < <(xargs printf '%s\n' <<<"$words")
+    fi
+    # with the status after a dot, which also keeps the line's end
+    answer=$(
+        status=0
+        "$program" "${arguments[@]}" <"$folder/$bundle" || status=$?
+        echo ".$status"
+    )
+    rows=$((rows + 1))
+    if [ "$answer" != "$output"$'\n'".$wanted" ]; then
+        complain "$bundle $words: wanted '$output' and status $wanted, got '${answer%%$'\n'*}' and status ${answer##*.}"
+    fi
+done < <(grep '^| `' "$table")
+for bundle in "$folder"/*.bundle; do
+    if ! grep -qF "| \`$(basename "$bundle")\` |" "$table"; then
+        complain "$(basename "$bundle") has no row in the table"
+    fi
+done
+[ "$rows" -gt 0 ] || complain 'the table has no rows'
+echo "examples: ${1:-hubsync} answered $rows, $wrong of them wrongly"
+[ "$wrong" = 0 ]

@@ -6,7 +6,7 @@ use Rattle.std.specs.Str.{all_scalars}
 use Rattle.std.proofs.Math.Utf8.{low_scalar}
 use Rattle.std.proofs.lemmas.Bool.Decides.{nat_tests}
 use lib.Utf8.{scalar}
-use Rattle.hub_automaton.specs.Alphabet.{is_left_out, is_mentioned, is_path_character, class_of, class_count, first_unmentioned, sample, IsAlphabet, placed, with_character, with_characters}
+use Rattle.hub_automaton.specs.Alphabet.{is_left_out, is_mentioned, is_path_character, class_of, class_count, sample, IsAlphabet, placed, with_character, with_characters}
 use Rattle.hub_automaton.proofs.Alphabets.{both, and, mentioned_at, mentioned-placed, free_from, free-low, free-high, first_is_free}
 
 place_low : (ms : List ℕ) (n x k : ℕ) → position_from (λ m. m == x) n ms ≡ Some k → k < n + length ms

@@ -1,5 +1,5 @@
 -- Spots that compare as equal are equal, and the other way round.
-use Rattle.std.proofs.Common.{◌≡◌, ◌∙◌, Bool, true, false, ◌&&◌, ◌∷◌, refl, sym, ap, subst}
+use Rattle.std.proofs.Common.{◌≡◌, ◌∙◌, Bool, true, false, refl, sym, ap, subst}
 use Rattle.std.specs.Prelude.{nat_eq, ◌↔◌}
 use Rattle.std.specs.Bool.{beq}
 use Rattle.std.specs.Cmp.Lexicographic.{pointwise}
@@ -8,25 +8,30 @@ use Rattle.std.specs.declared.cmp.Ordering.TheVariants.{Less, Equal, Greater}
 use Rattle.std.specs.Ordering.{is_eq}
 use Rattle.std.proofs.lemmas.Slice.Eq.{bytes_eq-Decides}
 use Rattle.hub_automaton.specs.Spots.{Seen}
-use Rattle.hub_automaton.specs.Ties.{bits_exact, bits_same, bool_exact, bool_same}
 use Rattle.hub_automaton.specs.contracts.spec_set.SpotsPartialEq.TheImpl as tested
 use Rattle.hub_automaton.specs.contracts.spec_set.SpotsOrd.TheImpl as ordered
 use Rattle.hub_automaton.specs.contracts.spec_set.SpotsOrd.TheImpl.Laws as ordered_laws
 use Rattle.hub_automaton.proofs.Alphabets.{both, and}
 
+bool_exact : (x y : Bool) → beq x y ≡ true → x ≡ y
+bool_exact true true h = refl
+bool_exact true false h = cc
+bool_exact false true h = cc
+bool_exact false false h = refl
+
+bool_same : (x : Bool) → beq x x ≡ true
+bool_same true = refl
+bool_same false = refl
+
 spots_exact : (a b : Seen) → tested.eq-value.it a b ≡ true → a ≡ b
 spots_exact a b h =
-    let w = both (pointwise nat_eq a.live b.live) (pointwise beq a.below b.below && beq a.start b.start) h in
-    let v = both (pointwise beq a.below b.below) (beq a.start b.start) w.1 in
-    let live = (bytes_eq-Decides a.live b.live).0 w.0 in
-    let below = bits_exact a.below b.below v.0 in
-    let start = bool_exact a.start b.start v.1 in
-    (λ i. let s : Seen = record { live = live i; below = below i; start = start i } in s)
+    let w = both (pointwise nat_eq a.row b.row) (beq a.start b.start) h in
+    let row = (bytes_eq-Decides a.row b.row).0 w.0 in
+    let start = bool_exact a.start b.start w.1 in
+    (λ i. let s : Seen = record { row = row i; start = start i } in s)
 
 itself : (a : Seen) → tested.eq-value.it a a ≡ true
-itself a =
-    and (pointwise nat_eq a.live a.live) (pointwise beq a.below a.below && beq a.start a.start) ((bytes_eq-Decides a.live a.live).1 refl)
-    (and (pointwise beq a.below a.below) (beq a.start a.start) (bits_same a.below) (bool_same a.start))
+itself a = and (pointwise nat_eq a.row a.row) (beq a.start a.start) ((bytes_eq-Decides a.row a.row).1 refl) (bool_same a.start)
 
 pub spots_equal : (a b : Seen) → (tested.eq-value.it a b ≡ true) ↔ (a ≡ b)
 spots_equal a b = (spots_exact a b, λ e. subst (λ c. tested.eq-value.it a c ≡ true) e (itself a))

@@ -6,6 +6,7 @@ pub mod Loops
 pub mod Masked
 pub mod Mentioned
 pub mod Progresses
+pub mod SetBits
 pub mod Spotted
 pub mod Steps
 pub mod WordBits

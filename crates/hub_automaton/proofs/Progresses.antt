@@ -2,16 +2,17 @@
 use Rattle.std.proofs.Common.{◌≡◌, ℕ, Bool, true, List, [], ◌∷◌, ◌++◌, map, length, ◌+◌, refl, sym, ap, ◌∙◌, arith}
 use Rattle.std.specs.Prelude.{◌↔◌}
 use Rattle.std.specs.List.{flat_map}
-use Rattle.std.proofs.lemmas.List.{length-append}
+use Rattle.std.proofs.lemmas.List.{length-append, length-map}
 use Rattle.hub_glob.specs.declared.piece.Piece.{Piece}
 use Rattle.hub_automaton.specs.declared.alternatives.Alternatives.{Alternatives}
-use Rattle.hub_automaton.specs.Spots.{spots, looked_at, spots_of, is_below, spots_count, starts, Unpacked, unpacked, Seen, seen, Progress, progress}
+use Rattle.hub_automaton.specs.Spots.{spots, looked_at, spots_of, is_below, is_matched, spots_count, starts, Unpacked, unpacked, Seen, seen, Progress, progress}
+use Rattle.hub_automaton.specs.Stepping.{matched_each}
 use Rattle.hub_automaton.specs.Words.{words_for, packed_by, packed}
 use Rattle.hub_automaton.proofs.Steps.{length-spots}
-use Rattle.hub_automaton.proofs.Spotted.{length-spots_all}
-use Rattle.hub_automaton.proofs.WordMoves.{packed_same}
+use Rattle.hub_automaton.proofs.Spotted.{length-spots_all, each_law}
+use Rattle.hub_automaton.proofs.WordMoves.{packed_same, length-packed}
 
-split : (a b c d : List Bool) → length a ≡ length c → a ++ b ≡ c ++ d → (a ≡ c) × (b ≡ d)
+split : {X : Type 0} (a b c d : List X) → length a ≡ length c → a ++ b ≡ c ++ d → (a ≡ c) × (b ≡ d)
 split [] b [] d l h = (refl, h)
 split [] b (y ∷ c) d l h = absurd (omega arith)
 split (x ∷ a) b [] d l h = absurd (omega arith)
@@ -62,23 +63,34 @@ length-live [] t = refl
 length-live (a ∷ ls) t =
     length-append (spots_of a t) (flat_map (λ b. spots_of b t) ls) ∙ (λ i. length-spots_all a.choices (looked_at a.kind t) i + length-live ls t i)
 
-pub same_live : (ls : List Alternatives) (t u : List ℕ) → seen ls t ≡ seen ls u → (unpacked ls t).live ≡ (unpacked ls u).live
-same_live ls t u h =
-    let bs = (unpacked ls t).live in
-    let cs = (unpacked ls u).live in
-    let l : length bs ≡ length cs = length-live ls t ∙ sym (length-live ls u) in
-    packed_same (words_for (length bs)) bs cs (omega arith) l (ap (λ (s : Seen). s.live) h ∙ ap (λ n. packed_by (words_for n) cs) (sym l))
+-- Bits, as many on both sides, of which the words are equal.
+same_bits : (bs cs : List Bool) → length bs ≡ length cs → packed bs ≡ packed cs → bs ≡ cs
+same_bits bs cs l h = packed_same (words_for (length bs)) bs cs (omega arith) l (h ∙ ap (λ n. packed_by (words_for n) cs) (sym l))
 
 pub same_unpacked : (ls : List Alternatives) (t u : List ℕ) → seen ls t ≡ seen ls u → unpacked ls t ≡ unpacked ls u
 same_unpacked ls t u h =
-    let live = same_live ls t u h in
-    λ i. let s : Unpacked = record { live = live i; below = ap (λ (s : Seen). s.below) h i; start = ap (λ (s : Seen). s.start) h i } in s
+    let a = unpacked ls t in
+    let b = unpacked ls u in
+    let many : length a.live ≡ length b.live = length-live ls t ∙ sym (length-live ls u) in
+    let flags : length a.below ≡ length b.below = length-map ls (λ c. is_below c t) ∙ sym (length-map ls (λ c. is_below c u)) in
+    let words : length (packed a.live) ≡ length (packed b.live) =
+    length-packed (words_for (length a.live)) a.live ∙ ap words_for many ∙ sym (length-packed (words_for (length b.live)) b.live) in
+    let w = split (packed a.live) (packed a.below) (packed b.live) (packed b.below) words (ap (λ (s : Seen). s.row) h) in
+    let live = same_bits a.live b.live many w.0 in
+    let below = same_bits a.below b.below flags w.1 in
+    λ i. let s : Unpacked = record { live = live i; below = below i; start = ap (λ (s : Seen). s.start) h i } in s
 
 pub same_progress : (ls : List Alternatives) (t u : List ℕ) → (seen ls t ≡ seen ls u) ↔ ((map (progress t) ls ≡ map (progress u) ls) × (starts true t ≡ starts true u))
 same_progress ls t u = (
-  λ h. (all_same ls t u (same_live ls t u h) (ap (λ (s : Seen). s.below) h), ap (λ (s : Seen). s.start) h),
+  λ h.
+      let e = same_unpacked ls t u h in
+      (all_same ls t u (ap (λ (s : Unpacked). s.live) e) (ap (λ (s : Unpacked). s.below) e), ap (λ (s : Unpacked). s.start) e),
   λ w.
       let live = live_of ls t ∙ ap (flat_map (λ (p : Progress). flat_map (λ s. s) p.sets)) w.0 ∙ sym (live_of ls u) in
       let below = below_of ls t ∙ ap (map (λ (p : Progress). p.below)) w.0 ∙ sym (below_of ls u) in
-      λ i. let s : Seen = record { live = packed (live i); below = below i; start = w.1 i } in s,
+      λ i. let s : Seen = record { row = packed (live i) ++ packed (below i); start = w.1 i } in s,
 )
+
+-- The same specifications match them.
+pub same_matches : (ls : List Alternatives) (t u : List ℕ) → seen ls t ≡ seen ls u → map (λ a. is_matched a t) ls ≡ map (λ a. is_matched a u) ls
+same_matches ls t u h = sym (each_law ls t) ∙ ap (λ (s : Unpacked). matched_each ls s.below s.live) (same_unpacked ls t u h) ∙ each_law ls u

@@ -1,6 +1,6 @@
 -- What is kept of a text, with one more character; that characters of one class are alike; and what it says at the end.
 use Rattle.std.proofs.Common.{◌≡◌, ◌⊎◌, inl, inr, ⊎_elim, ℕ, suc, zero, ◌+◌, ◌<◌, Bool, true, false, not, ◌&&◌, ◌||◌, ◌==◌, cond, List, [], ◌∷◌, ◌++◌, map, length, drop, get_or, refl, sym, ap, ◌∙◌, arith, append-nil, append_assoc}
-use Rattle.std.specs.Prelude.{Option, Some, None, Result, Ok, Err, IfOk, unwrap_or}
+use Rattle.std.specs.Prelude.{Option, Some, None, unwrap_or}
 use Rattle.std.specs.List.{list_any, list_all, flat_map, position_from}
 use Rattle.std.specs.Str.{all_scalars}
 use Rattle.std.proofs.lemmas.List.{drop_at, length-append}
@@ -15,13 +15,13 @@ use Rattle.hub_glob.specs.declared.path_spec.Kind.TheVariants as kind
 use Rattle.hub_glob.specs.Specification.{Specification}
 use Rattle.hub_glob.specs.Glob.{glob, choices, matches, by_kind}
 use Rattle.hub_glob.specs.Taking.{takes, is_star}
-use Rattle.hub_glob.specs.TestLaws.{head, tail, any-append, any-map, or-false}
+use Rattle.hub_text.specs.TestLaws.{head, tail, any-append, any-map, or-false}
 use Rattle.hub_glob.specs.ChoiceLaws.{glob_choices}
 use Rattle.hub_automaton.specs.Alphabet.{is_left_out, is_mentioned, class_of, mentions, piece_characters, pieces_characters, part_characters, spec_characters, class_count, first_unmentioned, sample, IsAlphabet}
 use Rattle.hub_automaton.specs.declared.alternatives.Alternatives.{Alternatives}
 use Rattle.hub_glob.specs.declared.piece.Next.{Next}
-use Rattle.hub_automaton.specs.Spots.{spots, since_slash, looked_at, folders, starts, fits, is_name_kind, is_below_kind, alternatives_of, spots_of, is_below, Unpacked, unpacked, spot_count, spots_count, is_covered}
-use Rattle.hub_automaton.specs.Stepping.{stepped_pieces, stepped, ended, stepped_choices, ended_choices, entered_choices, stepped_all, below_all, matched_all, pushed}
+use Rattle.hub_automaton.specs.Spots.{spots, since_slash, looked_at, folders, starts, fits, is_name_kind, is_below_kind, alternatives_of, spots_of, is_below, is_matched, Unpacked, unpacked, spot_count, spots_count, is_covered}
+use Rattle.hub_automaton.specs.Stepping.{stepped_pieces, stepped, ended, stepped_choices, ended_choices, entered_choices, stepped_all, below_all, matched_each, pushed}
 use Rattle.hub_automaton.proofs.Alphabets.{both, and, sample_class}
 use Rattle.hub_automaton.proofs.Steps.{next_of, choice_law, ended_law, empty_spots, length-spots, front_matches}
 
@@ -302,14 +302,13 @@ pushed_alike ms x y k ls s l c h g =
     λ i. let r : Unpacked = record { live = all_alike ms x y s.start ls s.live l a c i; below = flags_alike ms x y s.start ls s.below s.live l a i; start = slash_alike ms x y l a i } in r
 
 -- What is kept of a text says which specifications match it.
-pub matched_law : (ls : List Alternatives) (t : List ℕ)
-    → matched_all ls (map (λ a. is_below a t) ls) (flat_map (λ a. spots_of a t) ls) ≡ list_any (λ a. is_below a t || fits a.choices (looked_at a.kind t)) ls
-matched_law [] t = refl
-matched_law (a ∷ ls) t =
+pub each_law : (ls : List Alternatives) (t : List ℕ) → matched_each ls (unpacked ls t).below (unpacked ls t).live ≡ map (λ a. is_matched a t) ls
+each_law [] t = refl
+each_law (a ∷ ls) t =
     let more = flat_map (λ b. spots_of b t) ls in
     (λ i. (is_below a t || ended_choices_law a.choices (looked_at a.kind t) more i)
-    || matched_all ls (map (λ b. is_below b t) ls) (drop_at (spots_of a t) more (spot_count a.choices) (length-spots_all a.choices (looked_at a.kind t)) i))
-    ∙ ap (λ b. (is_below a t || fits a.choices (looked_at a.kind t)) || b) (matched_law ls t)
+    ∷ matched_each ls (map (λ b. is_below b t) ls) (drop_at (spots_of a t) more (spot_count a.choices) (length-spots_all a.choices (looked_at a.kind t)) i))
+    ∙ ap (λ bs. is_matched a t ∷ bs) (each_law ls t)
 
 -- Names have no `/`.
 abbrev is_apart : ℕ → Bool
@@ -425,12 +424,11 @@ spec_law s (n ∷ p) h =
     kind_law s.kind s.pattern n p (both (not (length (n ∷ p) == 0)) (is_place (n ∷ p)) h).1 ∙ (λ i. not (sym some_names i) && by_kind s.kind s.pattern (n ∷ p))
 
 pub specs_law : (ls : List Alternatives) (specs : List Specification) (p : Path) → ls ≡ map alternatives_of specs → is_path p ≡ true
-    → matched_all ls (unpacked ls (text_of p)).below (unpacked ls (text_of p)).live ≡ list_any (λ r. matches r p) specs
+    → list_any (λ a. is_matched a (text_of p)) ls ≡ list_any (λ r. matches r p) specs
 specs_law ls specs p e h =
-    matched_law ls (text_of p)
-    ∙ ap (list_any (λ a. is_below a (text_of p) || fits a.choices (looked_at a.kind (text_of p)))) e
-    ∙ sym (any-map (λ a. is_below a (text_of p) || fits a.choices (looked_at a.kind (text_of p))) alternatives_of specs)
-    ∙ any-ext (λ r. is_below (alternatives_of r) (text_of p) || fits (choices r.pattern) (looked_at r.kind (text_of p))) (λ r. matches r p) specs (λ r. spec_law r p h)
+    ap (list_any (λ a. is_matched a (text_of p))) e
+    ∙ sym (any-map (λ a. is_matched a (text_of p)) alternatives_of specs)
+    ∙ any-ext (λ r. is_matched (alternatives_of r) (text_of p)) (λ r. matches r p) specs (λ r. spec_law r p h)
 
 -- The characters that a pattern mentions are those of its choices.
 abbrev covers : List ℕ → List Piece → Bool
@@ -503,7 +501,3 @@ class_of_sample ms samples k ch e a l h =
 pub count_step : (specs : List Specification) (i : ℕ) (s : Specification) → drop i specs ≡ s ∷ drop (i + 1) specs
     → spots_count (map alternatives_of (drop i specs)) ≡ spot_count (choices s.pattern) + spots_count (map alternatives_of (drop (i + 1) specs))
 count_step specs i s d = ap (λ rs. spots_count (map alternatives_of rs)) d
-
-pub if_ok : {T E : Type 0} (r : Result T E) (P Q : T → Type 0) → IfOk r P → ((x : T) → P x → Q x) → IfOk r Q
-if_ok (Ok x) P Q h f = f x h
-if_ok (Err e) P Q h f = h

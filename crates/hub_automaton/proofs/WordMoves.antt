@@ -7,7 +7,7 @@ use Rattle.std.proofs.Math.Nat.{pow-le-pow_right}
 use Rattle.std.proofs.lemmas.List.{drop-drop, length-drop, get_or-drop, take-append-drop}
 use lib.Bits.{bit_and}
 use mir.Val.{bool_byte}
-use Rattle.hub_glob.specs.TestLaws.{head, tail, and-false, or-false}
+use Rattle.hub_text.specs.TestLaws.{head, tail, and-false, or-false}
 use Rattle.hub_automaton.specs.declared.words.Masks.{Masks}
 use Rattle.hub_automaton.specs.Words.{bit, first_word, other_words, word, packed_by, moved, spread, seeds, moved_word, moved_words}
 use Rattle.hub_automaton.proofs.WordBits.{test, differ, test-and, test-or, test-xor, test-zero, test-low, test-up, test-up_first, test-number, test-number_above, test-word, word_few, same_tests, test-last, carry, carry-next, carry-first, test-add}
@@ -118,7 +118,7 @@ head-get : (bs : List Bool) → head bs ≡ get bs 0
 head-get [] = refl
 head-get (b ∷ bs) = refl
 
-tail-get : (bs : List Bool) (i : ℕ) → get (tail bs) i ≡ get bs (suc i)
+pub tail-get : (bs : List Bool) (i : ℕ) → get (tail bs) i ≡ get bs (suc i)
 tail-get [] i = refl
 tail-get (b ∷ bs) i = refl
 
@@ -253,13 +253,13 @@ packs_by (suc n) bs = (refl, packs_by n (drop 64 bs))
 number_last : (bs : List Bool) → length bs ≤ 64 → word bs / 2 ^ 63 ≡ bool_byte (get bs 63)
 number_last bs l = test-last (word bs) (word_low bs l) ∙ ap bool_byte (test-word bs 63)
 
-get-take : (n i : ℕ) (bs : List Bool) → i < n → get (take n bs) i ≡ get bs i
+pub get-take : (n i : ℕ) (bs : List Bool) → i < n → get (take n bs) i ≡ get bs i
 get-take zero i bs l = absurd (omega arith)
 get-take (suc n) i [] l = refl
 get-take (suc n) zero (b ∷ bs) l = refl
 get-take (suc n) (suc i) (b ∷ bs) l = get-take n i bs (omega arith)
 
-length-take_le : (n : ℕ) (bs : List Bool) → length (take n bs) ≤ n
+pub length-take_le : (n : ℕ) (bs : List Bool) → length (take n bs) ≤ n
 length-take_le zero bs = omega arith
 length-take_le (suc n) [] = omega arith
 length-take_le (suc n) (b ∷ bs) = omega (arith, length-take_le n bs)
@@ -304,7 +304,7 @@ words_move (suc n) stays es ss ts os ews sws tws ows here before l m pe ps pt e 
 get-drop : (n i : ℕ) (bs : List Bool) → get (drop n bs) i ≡ get bs (n + i)
 get-drop n i bs = get_or-drop n bs i false
 
-drop-none : (m : ℕ) → drop {A = Bool} m [] ≡ []
+pub drop-none : (m : ℕ) → drop {A = Bool} m [] ≡ []
 drop-none zero = refl
 drop-none (suc m) = refl
 
@@ -354,3 +354,7 @@ packed_same (suc n) cs bs m l h =
     let fronts = word_same (take 64 cs) (take 64 bs) (take-same 64 cs bs l) first in
     let rests = packed_same n (drop 64 cs) (drop 64 bs) (omega (arith, length-drop 64 cs)) (drop-same 64 cs bs l) more in
     sym (take-append-drop 64 cs) ∙ (λ j. fronts j ++ rests j) ∙ take-append-drop 64 bs
+
+pub length-packed : (n : ℕ) (bs : List Bool) → length (packed_by n bs) ≡ n
+length-packed zero bs = refl
+length-packed (suc n) bs = ap suc (length-packed n (drop 64 bs))

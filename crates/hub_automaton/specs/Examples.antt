@@ -4,7 +4,8 @@ use Rattle.hub_glob.specs.declared.piece.Piece.TheVariants.{Lit, Any, Run}
 use Rattle.hub_glob.specs.declared.piece.Part.TheVariants.{One}
 use Rattle.hub_glob.specs.declared.path_spec.Kind.TheVariants as kind
 use Rattle.hub_glob.specs.Specification.{Specification}
-use Rattle.hub_automaton.specs.Spots.{spots, unpacked, seen, alternatives_of}
+use Rattle.hub_automaton.specs.declared.alternatives.Alternatives.{Alternatives}
+use Rattle.hub_automaton.specs.Spots.{spots, unpacked, seen, alternatives_of, path_alternatives, is_matched, spots_count}
 use Rattle.hub_automaton.specs.Stepping.{pushed}
 use Rattle.hub_automaton.specs.Alphabet.{class_of, class_count, sample, plain, with_characters, spec_characters}
 
@@ -44,8 +45,8 @@ a_star_takes_no_leading_dot = refl
 behind_a_slash_a_name_begins : unpacked (alternatives_of name_b ∷ []) (codes "a/") ≡ record { live = true ∷ false ∷ []; below = false ∷ []; start = true }
 behind_a_slash_a_name_begins = refl
 
-it_is_kept_in_a_word : seen (alternatives_of name_b ∷ []) (codes "a/b") ≡ record { live = 2 ∷ []; below = false ∷ []; start = false }
-it_is_kept_in_a_word = refl
+a_word_of_spots_is_kept_and_one_of_flags : seen (alternatives_of name_b ∷ []) (codes "a/b") ≡ record { row = 2 ∷ 0 ∷ []; start = false }
+a_word_of_spots_is_kept_and_one_of_flags = refl
 
 -- `BelowPath b` on `b/c`.
 abbrev below_b : Specification
@@ -54,8 +55,27 @@ below_b = record { kind = kind.BelowPath; pattern = One (Lit 98) ∷ [] }
 a_path_above_is_matched : unpacked (alternatives_of below_b ∷ []) (codes "b/c") ≡ record { live = false ∷ false ∷ []; below = true ∷ []; start = false }
 a_path_above_is_matched = refl
 
+its_flag_is_the_lowest_bit : seen (alternatives_of below_b ∷ []) (codes "b/c") ≡ record { row = 0 ∷ 1 ∷ []; start = false }
+its_flag_is_the_lowest_bit = refl
+
+the_second_flag_is_the_next_bit : seen (alternatives_of name_b ∷ alternatives_of below_b ∷ []) (codes "b/c") ≡ record { row = 0 ∷ 2 ∷ []; start = false }
+the_second_flag_is_the_next_bit = refl
+
 no_path_above_is_matched_inside_a_name : unpacked (alternatives_of below_b ∷ []) (codes "bc") ≡ record { live = false ∷ false ∷ []; below = false ∷ []; start = false }
 no_path_above_is_matched_inside_a_name = refl
 
 one_character_more : pushed (alternatives_of below_b ∷ []) (unpacked (alternatives_of below_b ∷ []) (codes "b")) 47 ≡ unpacked (alternatives_of below_b ∷ []) (codes "b/")
 one_character_more = refl
+
+-- The path `b/c`, as choices.
+abbrev path_b_c : Alternatives
+path_b_c = path_alternatives (codes "b/c")
+
+a_path_matches_itself_and_what_is_below : map (is_matched path_b_c) (codes "b/c" ∷ codes "b/c/d" ∷ []) ≡ true ∷ true ∷ []
+a_path_matches_itself_and_what_is_below = refl
+
+a_path_matches_nothing_else : map (is_matched path_b_c) (codes "b" ∷ codes "b/cd" ∷ codes "a/b/c" ∷ []) ≡ false ∷ false ∷ false ∷ []
+a_path_matches_nothing_else = refl
+
+a_path_has_a_spot_more_than_characters : spots_count (path_b_c ∷ []) ≡ 4
+a_path_has_a_spot_more_than_characters = refl

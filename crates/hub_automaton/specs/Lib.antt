@@ -4,5 +4,4 @@ pub mod Examples
 pub mod Masks
 pub mod Spots
 pub mod Stepping
-pub mod Ties
 pub mod Words

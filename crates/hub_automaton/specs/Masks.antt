@@ -1,18 +1,17 @@
 -- Masks of spots, and what is kept of a text with one more character, by masks.
-use Rattle.std.specs.Prelude.{◌≡◌, ℕ, Bool, false, not, ◌&&◌, ◌||◌, ◌==◌, ◌+◌, List, [], ◌∷◌, length, map, if◌then◌else◌}
+use Rattle.std.specs.Prelude.{◌≡◌, ℕ, Bool, false, not, ◌&&◌, ◌||◌, ◌==◌, nat_lt, ◌+◌, List, [], ◌∷◌, ◌++◌, length, map, take, drop, if◌then◌else◌}
 use Rattle.std.specs.List.{flat_map}
 use Rattle.hub_glob.specs.declared.piece.Piece.{Piece}
 use Rattle.hub_glob.specs.declared.piece.Piece.TheVariants.{Run}
 use Rattle.hub_glob.specs.declared.path_spec.Kind.{Kind}
 use Rattle.hub_glob.specs.Taking.{takes, is_star}
-use Rattle.hub_glob.specs.TestLaws.{head, tail}
 use Rattle.hub_automaton.specs.declared.alternatives.Alternatives.{Alternatives}
 use Rattle.hub_automaton.specs.declared.masks.Mask.{Mask}
 use Rattle.hub_automaton.specs.declared.masks.Mask.TheVariants as mask
 use Rattle.hub_automaton.specs.declared.masks.SpotMasks.{SpotMasks}
 use Rattle.hub_glob.specs.declared.piece.Next.{Next}
 use Rattle.hub_automaton.specs.Spots.{Seen, is_name_kind, is_below_kind, spot_count}
-use Rattle.hub_automaton.specs.Words.{packed, bit, moved_words}
+use Rattle.hub_automaton.specs.Words.{packed, bit, with_bit, moved_words}
 
 -- Whether the first spot of a choice is in a mask: those of `Name` specifications are entered behind a `/`.
 abbrev pub masks_start : Mask → Kind → Bool
@@ -47,21 +46,30 @@ abbrev pub ended_at : List (List Piece) → List ℕ → ℕ → Bool
 ended_at [] ws n = false
 ended_at (c ∷ cs) ws n = bit ws (n + length c) || ended_at cs ws (n + (length c + 1))
 
-abbrev pub matched_at : List Alternatives → List Bool → List ℕ → ℕ → Bool
-matched_at [] flags ws n = false
-matched_at (a ∷ ls) flags ws n = (head flags || ended_at a.choices ws n) || matched_at ls (tail flags) ws (n + spot_count a.choices)
+-- Whether one of these specifications matches, from the one with number `from` on: the spots of the first one begin at
+-- `n`, and its flag is at `i`.
+abbrev pub matched_at : List Alternatives → ℕ → List ℕ → List ℕ → ℕ → ℕ → Bool
+matched_at [] from live flags n i = false
+matched_at (a ∷ ls) from live flags n i =
+    (not (nat_lt i from) && (bit flags i || ended_at a.choices live n))
+    || matched_at ls from live flags (n + spot_count a.choices) (i + 1)
 
--- Behind a `/`: whether a path above is matched.
-abbrev pub below_at : List Alternatives → List Bool → List ℕ → ℕ → List Bool
-below_at [] flags ws n = []
-below_at (a ∷ ls) flags ws n =
-    (head flags || (is_below_kind a.kind && ended_at a.choices ws n)) ∷ below_at ls (tail flags) ws (n + spot_count a.choices)
+-- Before a `/`: the row in which also those paths above are flagged that end there. The flags begin at the word `first`.
+abbrev pub marked : List Alternatives → List ℕ → ℕ → ℕ → ℕ → List ℕ → List ℕ
+marked [] live n first i row = row
+marked (a ∷ ls) live n first i row =
+    marked ls live (n + spot_count a.choices) first (i + 1)
+    (if is_below_kind a.kind && ended_at a.choices live n then with_bit first i row else row)
+
+-- The row with its first words moved on by a character, as many as the mask of stars has.
+abbrev pub moved_row : Bool → List ℕ → List ℕ → List ℕ → List ℕ → List ℕ
+moved_row stays es ss ts row = moved_words stays es ss ts (take (length ss) row) 0 0 ++ drop (length ss) row
 
 -- What is kept of a text with one more character.
 abbrev pub moved_seen : Next → List Alternatives → List ℕ → List ℕ → List ℕ → Seen → Seen
 moved_seen x ls entries stars takers s =
     record {
-      live = moved_words (takes x Run) (if x.character == 47 then entries else []) stars takers s.live 0 0;
-      below = if x.character == 47 then below_at ls s.below s.live 0 else s.below;
+      row = moved_row (takes x Run) (if x.character == 47 then entries else []) stars takers
+          (if x.character == 47 then marked ls (take (length stars) s.row) 0 (length stars) 0 s.row else s.row);
       start = x.character == 47;
     }

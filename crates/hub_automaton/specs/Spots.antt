@@ -3,6 +3,7 @@
 use Rattle.std.specs.Prelude.{◌||◌, ◌≡◌, ◌≤◌, IsTrue, drop, ℕ, Bool, true, false, ◌&&◌, ◌==◌, ◌+◌, List, [], ◌∷◌, ◌++◌, map, length, take, if◌then◌else◌}
 use Rattle.std.specs.List.{list_any, list_all, flat_map, range_with_len}
 use Rattle.hub_glob.specs.declared.piece.Piece.{Piece}
+use Rattle.hub_glob.specs.declared.piece.Piece.TheVariants.{Lit}
 use Rattle.hub_glob.specs.declared.path_spec.Kind.{Kind}
 use Rattle.hub_glob.specs.declared.path_spec.Kind.TheVariants as kind
 use Rattle.hub_glob.specs.Specification.{Specification}
@@ -55,6 +56,10 @@ is_below_kind kind.BelowPath = true
 abbrev pub alternatives_of : Specification → Alternatives
 alternatives_of s = record { kind = s.kind; choices = choices s.pattern }
 
+-- A path's text as choices: they match the text itself, and all paths below it.
+abbrev pub path_alternatives : List ℕ → Alternatives
+path_alternatives s = record { kind = kind.BelowPath; choices = map Lit s ∷ [] }
+
 abbrev pub spots_of : Alternatives → List ℕ → List Bool
 spots_of a t = flat_map (λ c. spots c (looked_at a.kind t)) a.choices
 
@@ -84,14 +89,15 @@ pub record Unpacked : Type 0 where
 abbrev pub unpacked : List Alternatives → List ℕ → Unpacked
 unpacked ls t = record { live = flat_map (λ a. spots_of a t) ls; below = map (λ a. is_below a t) ls; start = starts true t }
 
--- The same, as it is kept: with the spots as words of bits, the first spot the lowest bit.
+-- What is seen of a text, as it is kept: one row of words, and whether the text ends where a component starts. The row has
+-- the spots of all choices, as words of bits, and then, in further words, for each specification whether a path above is
+-- matched. The first bit of a word is the lowest.
 pub record Seen : Type 0 where
-  pub live : List ℕ
-  pub below : List Bool
+  pub row : List ℕ
   pub start : Bool
 
 abbrev pub kept : Unpacked → Seen
-kept u = record { live = packed u.live; below = u.below; start = u.start }
+kept u = record { row = packed u.live ++ packed u.below; start = u.start }
 
 abbrev pub seen : List Alternatives → List ℕ → Seen
 seen ls t = kept (unpacked ls t)

@@ -3,7 +3,7 @@ use Rattle.std.specs.Prelude.{ℕ, Bool, true, false, ◌&&◌, ◌||◌, ◌==�
 use Rattle.std.specs.List.{flat_map}
 use Rattle.hub_glob.specs.declared.piece.Piece.{Piece}
 use Rattle.hub_glob.specs.Taking.{takes, is_star}
-use Rattle.hub_glob.specs.TestLaws.{head, tail}
+use Rattle.hub_text.specs.TestLaws.{head, tail}
 use Rattle.hub_automaton.specs.declared.alternatives.Alternatives.{Alternatives}
 use Rattle.hub_glob.specs.declared.piece.Next.{Next}
 use Rattle.hub_automaton.specs.Spots.{Unpacked, is_name_kind, is_below_kind, spot_count}
@@ -70,13 +70,10 @@ abbrev pub below_all : Next → List Alternatives → List Bool → List Bool �
 below_all x [] flags old = []
 below_all x (a ∷ ls) flags old = below_one x a (head flags) old ∷ below_all x ls (tail flags) (drop (spot_count a.choices) old)
 
--- Whether one of them matches the text, or a path above it.
-abbrev pub matched_one : Alternatives → Bool → List Bool → Bool
-matched_one a flag old = flag || ended_choices a.choices old
-
-abbrev pub matched_all : List Alternatives → List Bool → List Bool → Bool
-matched_all [] flags old = false
-matched_all (a ∷ ls) flags old = matched_one a (head flags) old || matched_all ls (tail flags) (drop (spot_count a.choices) old)
+-- Which of them match the text, or a path above it.
+abbrev pub matched_each : List Alternatives → List Bool → List Bool → List Bool
+matched_each [] flags old = []
+matched_each (a ∷ ls) flags old = (head flags || ended_choices a.choices old) ∷ matched_each ls (tail flags) (drop (spot_count a.choices) old)
 
 -- What is seen of a text with one more character.
 abbrev pub pushed : List Alternatives → Unpacked → ℕ → Unpacked

@@ -1,9 +1,9 @@
 -- Bits in words of 64, and how spots move word by word when a text gets one more character.
-use Rattle.std.specs.Prelude.{ℕ, zero, suc, Bool, ◌&&◌, ◌||◌, ◌==◌, ◌+◌, ◌*◌, ◌/◌, ◌%◌, ◌^◌, List, [], ◌∷◌, length, take, drop, slice_index_or, if◌then◌else◌}
+use Rattle.std.specs.Prelude.{ℕ, zero, suc, Bool, ◌&&◌, ◌||◌, ◌==◌, ◌+◌, ◌*◌, ◌/◌, ◌%◌, ◌^◌, List, [], ◌∷◌, length, take, drop, slice_index_or, slice_set, if◌then◌else◌}
 use Rattle.std.specs.Int.RustNames.{bit_or, bit_xor}
 use lib.Bits.{bit_and}
 use mir.Val.{bool_byte}
-use Rattle.hub_glob.specs.TestLaws.{head, tail}
+use Rattle.hub_text.specs.TestLaws.{head, tail}
 use Rattle.hub_automaton.specs.declared.words.Masks.{Masks}
 
 abbrev pub first_word : List ℕ → ℕ
@@ -34,6 +34,12 @@ packed bs = packed_by (words_for (length bs)) bs
 -- The bit at a place of such words; past the end none is set.
 abbrev pub bit : List ℕ → ℕ → Bool
 bit ws i = slice_index_or ws (i / 64) 0 / 2 ^ (i % 64) % 2 == 1
+
+-- The words with one more bit set: the one at that place, counted from the first bit of the word `first`. Past the end
+-- there are no bits.
+abbrev pub with_bit : ℕ → ℕ → List ℕ → List ℕ
+with_bit first i ws =
+    slice_set ws (first + i / 64) (bit_or (slice_index_or ws (first + i / 64) 0) (2 ^ (i % 64)))
 
 -- Spots with one more character, from those before it. A spot is set where one is entered; where it is that of a `*`
 -- that stays, and was set; where its piece takes the character, and the spot before it was set (`here`); and where it is

@@ -5,7 +5,7 @@ ghost use Rattle.std.specs.declared.cmp.Ordering.TheVariants.{Equal};
 ghost use Rattle.hub_path.specs.Path.{Path, text_of, is_path};
 ghost use Rattle.hub_glob.specs.Glob.{matches};
 ghost use Rattle.hub_glob.specs.Specification.{Specification};
-ghost use Rattle.hub_automaton.specs.Spots.{Seen, seen, alternatives_of, is_covered, progress, starts};
+ghost use Rattle.hub_automaton.specs.Spots.{Seen, seen, alternatives_of, is_covered, is_matched, progress, starts};
 ghost use Rattle.hub_automaton.specs.declared.alternatives.Alternatives.{Alternatives};
 ghost use Rattle.hub_automaton.specs.Alphabet.{IsAlphabet, class_of, class_count, sample, with_characters, mentions, spec_characters, is_left_out, is_mentioned, is_path_character};
 
@@ -76,6 +76,11 @@ pub fn the_same_is_kept_of_each_specification()
 pub fn what_is_kept_tells_what_matches()
     ensures { (specs : List Specification) (p q : Path) → IsTrue (is_path p) → IsTrue (is_path q)
         → seen (map alternatives_of specs) (text_of p) ≡ seen (map alternatives_of specs) (text_of q) → list_any (λ s. matches s p) specs ≡ list_any (λ s. matches s q) specs }
+{}
+
+/// If two texts lead to the same state, each specification matches both or neither.
+pub fn what_is_kept_tells_each_match()
+    ensures { (ls : List Alternatives) (t u : List ℕ) → seen ls t ≡ seen ls u → map (λ a. is_matched a t) ls ≡ map (λ a. is_matched a u) ls }
 {}
 
 /// The choices of a specification mention what it mentions.

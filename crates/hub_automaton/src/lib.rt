@@ -14,7 +14,6 @@
 
 mod alphabet;
 mod alternatives;
-mod bits;
 mod class;
 mod fault;
 pub mod laws;

@@ -1,5 +1,5 @@
 //! Masks of spots: for each spot whether it is entered, is that of a star, or takes a character.
-ghost use Rattle.std.specs.Prelude.{◌≡◌, ◌++◌, IfOk, OnOk};
+ghost use Rattle.std.specs.Prelude.{◌≡◌, ◌++◌, length, IfOk, OnOk};
 ghost use Rattle.hub_automaton.specs.Masks as masking;
 ghost use Rattle.hub_automaton.specs.Masks.{AreMasksOf};
 ghost use Rattle.hub_automaton.specs.Spots.{is_name_kind};
@@ -8,7 +8,7 @@ ghost use Rattle.hub_automaton.specs.Words.{packed};
 use crate::alternatives::Alternatives;
 use crate::words::{Words, pack};
 use hub_glob::{Kind, Next, Piece};
-use hub_path::Items;
+use hub_text::Items;
 use std::alloc::{AllocError, Global};
 
 /// Which spots a mask has.
@@ -121,5 +121,12 @@ impl SpotMasks {
             stars: masked(alloc, Mask::Stars, alternatives)?,
             takers,
         })
+    }
+
+    /// How many words each mask has, and so the positions of a text.
+    pub(crate) fn word_count(&self) -> usize
+        ensures { result ≡ length self.now.stars }
+    {
+        self.stars.as_slice().len()
     }
 }

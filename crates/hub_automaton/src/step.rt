@@ -1,4 +1,4 @@
-//! The spots of a text with one more character, from the spots of the text.
+//! Positions of the empty text, and whether choices match by the positions of a text.
 ghost use Rattle.std.specs.Prelude.{◌≡◌, ◌+◌, ◌≤◌, ◌++◌, IfOk, OnOk};
 ghost use Rattle.hub_automaton.specs.Masks as masking;
 ghost use Rattle.hub_automaton.specs.Spots.{spot_count};
@@ -7,7 +7,7 @@ ghost use Rattle.hub_automaton.specs.Stepping as stepping;
 use crate::alternatives::SPOTS;
 use crate::words::is_set;
 use hub_glob::Piece;
-use hub_path::Items;
+use hub_text::Items;
 use std::alloc::AllocError;
 
 /// Adds the spots of a choice in the empty text.

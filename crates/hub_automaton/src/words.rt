@@ -1,6 +1,7 @@
-//! Bits in words, and how spots move word by word when a text gets one more character.
-ghost use Rattle.std.specs.Prelude.{◌≡◌, ◌≤◌, length, IfOk};
+//! Bits in words, and how positions move word by word when a text gets one more character.
+ghost use Rattle.std.specs.Prelude.{◌≡◌, ◌≤◌, ◌++◌, length, take, drop, IfOk, OnOk, IsOk};
 ghost use Rattle.hub_automaton.specs.Words as words;
+ghost use Rattle.hub_automaton.specs.Masks.{moved_row};
 
 use std::alloc::{AllocError, Global};
 use std::cmp::Ordering;
@@ -48,11 +49,80 @@ impl Words {
         })
     }
 
+    /// Makes the words a copy of others. It doesn't allocate when both are equally many.
+    pub(crate) fn copy_from(&mut self, other: &Words) -> Result<(), AllocError>
+        ensures ok { OnOk result (self.new ≡ other.now) }
+        ensures room { length self.old ≡ length other.now → IsOk result }
+    {
+        if self.words.len() == other.words.len() {
+            self.words.copy_from_slice(other.words.as_slice());
+            return Ok(());
+        }
+        self.words.clear();
+        self.words.extend_from_slice(other.words.as_slice())
+    }
+
+    /// Appends words.
+    pub(crate) fn append(&mut self, other: &Words) -> Result<(), AllocError>
+        ensures { OnOk result (self.new ≡ self.old ++ other.now) }
+    {
+        self.words.extend_from_slice(other.words.as_slice())
+    }
+
     /// Borrows the words, in their order.
     pub(crate) fn as_slice(&self) -> &[u64]
         ensures { result.now ≡ self.now }
     {
         self.words.as_slice()
+    }
+
+    /// Borrows the first words, as many as that.
+    pub(crate) fn front(&self, count: usize) -> &[u64]
+        ensures { result.now ≡ take count self.now }
+    {
+        let words = self.words.as_slice();
+        let (front, _) = words.split_at(count.min(words.len()));
+        front
+    }
+
+    /// Borrows the words after the first ones.
+    pub(crate) fn rest(&self, count: usize) -> &[u64]
+        ensures { result.now ≡ drop count self.now }
+    {
+        let words = self.words.as_slice();
+        let (_, rest) = words.split_at(count.min(words.len()));
+        rest
+    }
+
+    /// Sets the bit at that place, counted from the first bit of the word `first`. Past the end there are no bits.
+    pub(crate) fn set_bit(&mut self, first: usize, place: usize)
+        ensures { self.new ≡ words.with_bit first place self.old }
+    {
+        if place / WORD_BITS < self.words.len().saturating_sub(first) {
+            self.words[first + place / WORD_BITS] |= 1 << (place % WORD_BITS);
+        }
+    }
+
+    /// Moves the positions in the first words on by a character, by masks in as many words as that of stars.
+    ///
+    /// `stays` says whether a `*` accepts the character; past the end of another mask nothing is set.
+    pub(crate) fn move_on(&mut self, stays: bool, entries: &[u64], stars: &[u64], takers: &[u64])
+        ensures { self.new ≡ moved_row stays entries.now stars.now takers.now self.old }
+    {
+        let mut here = 0;
+        let mut before = 0;
+        for i in 0..stars.len().min(self.words.len()) {
+            let masks = Masks {
+                entries: entries.get(i).copied().unwrap_or(0),
+                stars: stars.get(i).copied().unwrap_or(0),
+                takers: takers.get(i).copied().unwrap_or(0),
+            };
+            let word = self.words[i];
+            let new = moved_word(masks, stays, word, here, before);
+            here = word >> (WORD_BITS - 1);
+            before = new >> (WORD_BITS - 1);
+            self.words[i] = new;
+        }
     }
 }
 
@@ -162,7 +232,7 @@ pub(crate) fn is_set(packed: &[u64], place: usize) -> bool
     word >> (place % WORD_BITS) & 1 == 1
 }
 
-/// The spots with one more character: all that `stars` lets a spot go on to, from `seeds`, by the carries of a sum.
+/// The positions with one more character: all that `stars` lets a position go on to, from `seeds`, by the carries of a sum.
 fn spread(stars: u64, seeds: u64) -> u64
     ensures { result ≡ words.spread stars seeds }
 {
@@ -170,8 +240,8 @@ fn spread(stars: u64, seeds: u64) -> u64
     seeds | stars & (all.wrapping_add(seeds) ^ all ^ seeds)
 }
 
-/// The spots of a word with one more character. `here` is the spot before the word, without the character, and `before`
-/// is that spot with it, as the lowest bit.
+/// The positions of a word with one more character. `here` is the position before the word, without the character, and
+/// `before` is that position with it, as the lowest bit.
 fn moved_word(masks: Masks, stays: bool, spots: u64, here: u64, before: u64) -> u64
     ensures { result ≡ words.moved_word stays masks spots here before }
 {
@@ -179,34 +249,4 @@ fn moved_word(masks: Masks, stays: bool, spots: u64, here: u64, before: u64) -> 
     let taken = masks.takers & (spots << 1 | here);
     let seeds = masks.entries | (stayed | (taken | masks.stars & before));
     spread(masks.stars, seeds)
-}
-
-/// The spots of a text with one more character, from those of the text, by masks in as many words.
-///
-/// `stays` says whether a `*` takes the character; past the end of a mask nothing is set.
-pub(crate) fn moved(
-    alloc: Global,
-    stays: bool,
-    entries: &[u64],
-    stars: &[u64],
-    takers: &[u64],
-    spots: &[u64],
-) -> Result<Words, AllocError>
-    ensures { IfOk result (λ ws. ws ≡ words.moved_words stays entries.now stars.now takers.now spots.now 0 0) }
-{
-    let mut moved = Vec::with_capacity(alloc, spots.len())?;
-    let mut here = 0;
-    let mut before = 0;
-    for (i, word) in spots.iter().enumerate() {
-        let masks = Masks {
-            entries: entries.get(i).copied().unwrap_or(0),
-            stars: stars.get(i).copied().unwrap_or(0),
-            takers: takers.get(i).copied().unwrap_or(0),
-        };
-        let new = moved_word(masks, stays, *word, here, before);
-        here = *word >> (WORD_BITS - 1);
-        before = new >> (WORD_BITS - 1);
-        moved.push(new)?;
-    }
-    Ok(Words { words: moved })
 }

@@ -5,6 +5,7 @@ pub mod Kept
 pub mod Loops
 pub mod Masked
 pub mod Mentioned
+pub mod Paths
 pub mod Progresses
 pub mod SetBits
 pub mod Spotted

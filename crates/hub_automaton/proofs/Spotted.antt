@@ -20,7 +20,7 @@ use Rattle.hub_glob.specs.ChoiceLaws.{glob_choices}
 use Rattle.hub_automaton.specs.Alphabet.{is_left_out, is_mentioned, class_of, mentions, piece_characters, pieces_characters, part_characters, spec_characters, class_count, first_unmentioned, sample, IsAlphabet}
 use Rattle.hub_automaton.specs.declared.alternatives.Alternatives.{Alternatives}
 use Rattle.hub_glob.specs.declared.piece.Next.{Next}
-use Rattle.hub_automaton.specs.Spots.{spots, since_slash, looked_at, folders, starts, fits, is_name_kind, is_below_kind, alternatives_of, spots_of, is_below, is_matched, Unpacked, unpacked, spot_count, spots_count, is_covered}
+use Rattle.hub_automaton.specs.Spots.{spots, since_slash, looked_at, folders, starts, fits, is_name_kind, is_below_kind, alternatives_of, spots_of, is_below, is_matched, Unpacked, unpacked, spot_count, is_covered}
 use Rattle.hub_automaton.specs.Stepping.{stepped_pieces, stepped, ended, stepped_choices, ended_choices, entered_choices, stepped_all, below_all, matched_each, pushed}
 use Rattle.hub_automaton.proofs.Alphabets.{both, and, sample_class}
 use Rattle.hub_automaton.proofs.Steps.{next_of, choice_law, ended_law, empty_spots, length-spots, front_matches}
@@ -404,15 +404,21 @@ any-texts : (f : List ℕ → Bool) (ps : List Path) → list_any f (texts ps) �
 any-texts f [] = refl
 any-texts f (p ∷ ps) = ap (λ b. f (text_of p) || b) (any-texts f ps)
 
+-- What passes at the end of a text, or before one of its slashes, passes at the text of a path above it.
+pub above_law : (f : List ℕ → Bool) (n : Name) (p : Path) → is_place (n ∷ p) ≡ true
+    → (list_any f (folders (text_of (n ∷ p))) || f (text_of (n ∷ p))) ≡ list_any (λ q. f (text_of q)) (prefixes (n ∷ p))
+above_law f n p h =
+    let t = text_of (n ∷ p) in
+    ap (λ b. list_any f (folders t) || b) (sym (or-false (f t))) ∙ any-append f (folders t) (t ∷ []) ∙ ap (list_any f) (sym (prefix_texts n p h))
+    ∙ any-texts f (prefixes (n ∷ p))
+
 kind_law : (k : Kind) (ps : List Part) (n : Name) (p : Path) → is_place (n ∷ p) ≡ true
     → ((is_below_kind k && list_any (fits (choices ps)) (folders (text_of (n ∷ p)))) || fits (choices ps) (looked_at k (text_of (n ∷ p)))) ≡ by_kind k ps (n ∷ p)
 kind_law kind.Name ps n p h = ap (fits (choices ps)) (last_text n p h) ∙ sym (glob_choices ps true (last_name (n ∷ p)))
 kind_law kind.Path ps n p h = sym (glob_choices ps true (text_of (n ∷ p)))
 kind_law kind.BelowPath ps n p h =
     let f = fits (choices ps) in
-    let t = text_of (n ∷ p) in
-    ap (λ b. list_any f (folders t) || b) (sym (or-false (f t))) ∙ any-append f (folders t) (t ∷ []) ∙ ap (list_any f) (sym (prefix_texts n p h))
-    ∙ any-texts f (prefixes (n ∷ p))
+    above_law f n p h
     ∙ any-ext (λ q. f (text_of q)) (λ q. glob ps true (text_of q)) (prefixes (n ∷ p)) (λ q. sym (glob_choices ps true (text_of q)))
 
 spec_law : (s : Specification) (p : Path) → is_path p ≡ true
@@ -490,14 +496,10 @@ sample_at-other [] i d l = absurd (omega arith)
 sample_at-other (m ∷ ms) zero d l = refl
 sample_at-other (m ∷ ms) (suc i) d l = sample_at-other ms i d (omega arith)
 
-sample_at : (ms : List ℕ) (k d : ℕ) → k < class_count ms → get_or (first_unmentioned ms ∷ ms) k d ≡ sample ms k
+pub sample_at : (ms : List ℕ) (k d : ℕ) → k < class_count ms → get_or (first_unmentioned ms ∷ ms) k d ≡ sample ms k
 sample_at ms zero d l = refl
 sample_at ms (suc i) d l = sample_at-other ms i d (omega arith)
 
 pub class_of_sample : (ms samples : List ℕ) (k ch : ℕ) → samples ≡ first_unmentioned ms ∷ ms → IsAlphabet ms → k < class_count ms → ch ≡ get_or samples k ch → class_of ms ch ≡ Some k
 class_of_sample ms samples k ch e a l h =
     ap (class_of ms) (h ∙ ap (λ xs. get_or xs k ch) e ∙ sample_at ms k ch l) ∙ sample_class ms k a l
-
-pub count_step : (specs : List Specification) (i : ℕ) (s : Specification) → drop i specs ≡ s ∷ drop (i + 1) specs
-    → spots_count (map alternatives_of (drop i specs)) ≡ spot_count (choices s.pattern) + spots_count (map alternatives_of (drop (i + 1) specs))
-count_step specs i s d = ap (λ rs. spots_count (map alternatives_of rs)) d

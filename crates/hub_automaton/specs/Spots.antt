@@ -1,6 +1,6 @@
 -- What is seen of a text for some specifications: which numbers of pieces of their choices match it, and which of the
 -- specifications match a path above it.
-use Rattle.std.specs.Prelude.{◌||◌, ◌≡◌, ◌≤◌, IsTrue, drop, ℕ, Bool, true, false, ◌&&◌, ◌==◌, ◌+◌, List, [], ◌∷◌, ◌++◌, map, length, take, if◌then◌else◌}
+use Rattle.std.specs.Prelude.{◌||◌, ◌≡◌, ◌⊎◌, ◌<◌, ◌≤◌, IsTrue, drop, ℕ, Bool, true, false, ◌&&◌, ◌==◌, ◌+◌, List, [], ◌∷◌, ◌++◌, map, length, take, if◌then◌else◌}
 use Rattle.std.specs.List.{list_any, list_all, flat_map, range_with_len}
 use Rattle.hub_glob.specs.declared.piece.Piece.{Piece}
 use Rattle.hub_glob.specs.declared.piece.Piece.TheVariants.{Lit}
@@ -10,6 +10,8 @@ use Rattle.hub_glob.specs.Specification.{Specification}
 use Rattle.hub_glob.specs.Glob.{pieces, no_more, choices}
 use Rattle.hub_automaton.specs.Alphabet.{mentions, pieces_characters, first_unmentioned, IsAlphabet}
 use Rattle.hub_automaton.specs.Words.{packed}
+use Rattle.hub_automaton.specs.declared.fault.AutomatonFault.{AutomatonFault}
+use Rattle.hub_automaton.specs.declared.fault.AutomatonFault.TheVariants.{TooManySpots, OutOfMemory}
 use Rattle.hub_automaton.specs.declared.alternatives.TheConstants.{SPOTS}
 use Rattle.hub_automaton.specs.declared.alternatives.Alternatives.{Alternatives}
 
@@ -110,6 +112,10 @@ spot_count (c ∷ cs) = length c + 1 + spot_count cs
 abbrev pub spots_count : List Alternatives → ℕ
 spots_count [] = 0
 spots_count (a ∷ ls) = spot_count a.choices + spots_count ls
+
+-- Why choices aren't collected: they have too many spots, or there was no memory.
+abbrev pub RefusesSpots : List Alternatives → AutomatonFault → Type 0
+RefusesSpots ls e = (e ≡ OutOfMemory) ⊎ ((e ≡ TooManySpots) × (SPOTS < spots_count ls))
 
 -- The mentioned characters are enough to tell all characters that the choices tell apart.
 abbrev pub is_covered : List ℕ → Alternatives → Bool

@@ -1,11 +1,11 @@
 //! Laws of alphabets and of the states that texts lead to: each is the contract of an empty function.
-ghost use Rattle.std.specs.Prelude.{◌≡◌, ◌↔◌, ◌<◌, ◌++◌, ◌∷◌, ◌==◌, ◌||◌, ◌&&◌, not, [], map, ℕ, List, Some, IsTrue, true, false};
+ghost use Rattle.std.specs.Prelude.{◌≡◌, ◌↔◌, ◌<◌, ◌+◌, ◌++◌, ◌∷◌, ◌==◌, ◌||◌, ◌&&◌, not, [], length, map, ℕ, List, Some, IsTrue, true, false};
 ghost use Rattle.std.specs.List.{list_all, list_any};
 ghost use Rattle.std.specs.declared.cmp.Ordering.TheVariants.{Equal};
-ghost use Rattle.hub_path.specs.Path.{Path, text_of, is_path};
+ghost use Rattle.hub_path.specs.Path.{Path, text_of, is_path, is_over};
 ghost use Rattle.hub_glob.specs.Glob.{matches};
 ghost use Rattle.hub_glob.specs.Specification.{Specification};
-ghost use Rattle.hub_automaton.specs.Spots.{Seen, seen, alternatives_of, is_covered, is_matched, progress, starts};
+ghost use Rattle.hub_automaton.specs.Spots.{Seen, seen, alternatives_of, path_alternatives, is_covered, is_matched, progress, spots_count, starts};
 ghost use Rattle.hub_automaton.specs.declared.alternatives.Alternatives.{Alternatives};
 ghost use Rattle.hub_automaton.specs.Alphabet.{IsAlphabet, class_of, class_count, sample, with_characters, mentions, spec_characters, is_left_out, is_mentioned, is_path_character};
 
@@ -86,4 +86,19 @@ pub fn what_is_kept_tells_each_match()
 /// The choices of a specification mention what it mentions.
 pub fn choices_mention_what_their_specification_does()
     ensures { (ms : List ℕ) (specs : List Specification) → IsTrue (list_all (λ s. mentions ms (spec_characters s)) specs) → IsTrue (list_all (is_covered ms) (map alternatives_of specs)) }
+{}
+
+/// A path stands for the paths that it is a prefix of, itself included.
+pub fn paths_match_what_is_below()
+    ensures { (s p : Path) → IsTrue (is_path s) → IsTrue (is_path p) → is_matched (path_alternatives (text_of s)) (text_of p) ≡ is_over s p }
+{}
+
+/// The choice of a path mentions the characters of its text.
+pub fn paths_mention_their_characters()
+    ensures { (ms s : List ℕ) → mentions ms s ≡ true → is_covered ms (path_alternatives s) ≡ true }
+{}
+
+/// A path has a position more than its text has characters.
+pub fn paths_have_a_spot_more()
+    ensures { (s : List ℕ) → spots_count (path_alternatives s ∷ []) ≡ length s + 1 }
 {}

@@ -7,6 +7,7 @@
 //!   other characters allowed in paths are one class.
 //! - [`SpecSet`] reads a text class by class for some specifications. Its state is [`Spots`]: for each choice, after how
 //!   many pieces it matches the text so far. So it knows after each character whether one of them matches the text.
+//! - [`SpecSetBuilder`] collects the specifications of a set, and paths that stand for themselves and all paths below.
 //!
 //! The contracts use the words of `specs/Alphabet` (classes) and `specs/Spots` (the state after a text). `specs/Stepping`
 //! defines a step position by position, and `specs/Masks` and `specs/Words` for 64 positions at once.
@@ -14,6 +15,7 @@
 
 mod alphabet;
 mod alternatives;
+mod builder;
 mod class;
 mod fault;
 pub mod laws;
@@ -25,6 +27,7 @@ mod words;
 
 pub use alphabet::{Alphabet, MENTIONED_CHARACTERS};
 pub use alternatives::{Alternatives, SPOTS};
+pub use builder::SpecSetBuilder;
 pub use class::Class;
 pub use fault::AutomatonFault;
 pub use spec_set::{SpecSet, Spots};

@@ -262,33 +262,3 @@ fn as_many_spots_are_kept_as_allowed(rt: HostRuntime) -> Result<(), Fail> {
     assert_eq!(rt; refused.err(), Some(AutomatonFault::TooManySpots));
     Ok(())
 }
-
-/// `?*`, matched with the whole text.
-fn any_and_run(alloc: Global) -> Result<Vec<Alternatives>, Fail>
-    ensures { IfOk result (λ v. (ms : List ℕ) → IsTrue (list_all (is_covered ms) v.items)) }
-{
-    let mut choice = Items::new(alloc);
-    choice.push(Piece::Any)?;
-    choice.push(Piece::Run)?;
-    let mut choices = Items::new(alloc);
-    choices.push(choice)?;
-    let mut all = Vec::new(alloc);
-    all.push(Alternatives {
-        kind: Kind::Path,
-        choices,
-    })?;
-    Ok(all)
-}
-
-#[test]
-fn pieces_stand_in_the_place_of_specifications(rt: HostRuntime) -> Result<(), Fail> {
-    let alphabet = Alphabet::new(rt.alloc())?;
-    let all = any_and_run(rt.alloc())?;
-    let set = SpecSet::of_alternatives(rt.alloc(), &alphabet, all)?;
-    assert_eq!(rt; set.spot_count(), 3);
-    let start = set.start()?;
-    assert_eq!(rt; set.matched(&start), false);
-    let other = set.advance(&start, Class::new(0))?;
-    assert_eq!(rt; set.matched(&other), true);
-    Ok(())
-}

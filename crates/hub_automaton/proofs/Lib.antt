@@ -2,6 +2,7 @@ pub mod Alphabets
 pub mod Classes
 pub mod Exact
 pub mod Kept
+pub mod Likes
 pub mod Loops
 pub mod Masked
 pub mod Mentioned

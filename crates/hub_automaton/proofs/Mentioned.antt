@@ -9,7 +9,7 @@ use Rattle.hub_automaton.proofs.Alphabets.{both, and, mentions_kept, mentions_ad
 abbrev mentions_spec : List ℕ → Specification → Bool
 mentions_spec ms s = mentions ms (spec_characters s)
 
-all_kept : (ms cs : List ℕ) (specs : List Specification) → list_all (mentions_spec ms) specs ≡ true → list_all (mentions_spec (with_characters ms cs)) specs ≡ true
+pub all_kept : (ms cs : List ℕ) (specs : List Specification) → list_all (mentions_spec ms) specs ≡ true → list_all (mentions_spec (with_characters ms cs)) specs ≡ true
 all_kept ms cs [] h = refl
 all_kept ms cs (s ∷ specs) h =
     let w = both (mentions_spec ms s) (list_all (mentions_spec ms) specs) h in

@@ -17,10 +17,10 @@ use Rattle.hub_glob.specs.OneStep.{nonzero}
 use Rattle.hub_automaton.specs.declared.alternatives.Alternatives.{Alternatives}
 use Rattle.hub_automaton.specs.declared.alternatives.TheConstants.{SPOTS}
 use Rattle.hub_automaton.specs.declared.fault.AutomatonFault.{AutomatonFault}
-use Rattle.hub_automaton.specs.Alphabet.{mentions, piece_characters}
+use Rattle.hub_automaton.specs.Alphabet.{IsAlphabet, is_mentioned, mentions, piece_characters, path_characters}
 use Rattle.hub_automaton.specs.Spots.{fits, path_alternatives, is_matched, is_covered, spots_count, RefusesSpots}
 use Rattle.hub_automaton.proofs.Alphabets.{both, and}
-use Rattle.hub_automaton.proofs.Spotted.{above_law}
+use Rattle.hub_automaton.proofs.Spotted.{above_law, mentions-join, mentions-parts}
 
 flip : (x c : ℕ) → (x == c) ≡ nat_eq c x
 flip x c = grind (arith, nat_tests)
@@ -90,6 +90,13 @@ literals_characters (c ∷ s) = ap (λ t. c ∷ t) (literals_characters s)
 
 pub path_covered : (ms s : List ℕ) → mentions ms s ≡ true → is_covered ms (path_alternatives s) ≡ true
 path_covered ms s h = and-true (mentions ms (flat_map piece_characters (map Lit s))) ∙ ap (mentions ms) (sym (literals_characters s)) ∙ h
+
+pub text_mentioned : (ms : List ℕ) (p : Path) → IsAlphabet ms → mentions ms (path_characters p) ≡ true → mentions ms (text_of p) ≡ true
+text_mentioned ms [] a h = refl
+text_mentioned ms (n ∷ []) a h = (mentions-parts ms n [] h).0
+text_mentioned ms (n ∷ m ∷ p) a h =
+    let w = mentions-parts ms n (path_characters (m ∷ p)) h in
+    mentions-join ms n (47 ∷ text_of (m ∷ p)) w.0 (and (is_mentioned ms 47) (mentions ms (text_of (m ∷ p))) a.slash (text_mentioned ms (m ∷ p) a w.1))
 
 pub path_spots : (s : List ℕ) → spots_count (path_alternatives s ∷ []) ≡ length s + 1
 path_spots s = omega (arith, length-map s Lit)

@@ -444,10 +444,10 @@ all-join : (p : List Piece → Bool) (xs ys : List (List Piece)) → list_all p 
 all-join p [] ys h k = k
 all-join p (x ∷ xs) ys h k = let w = both (p x) (list_all p xs) h in and (p x) (list_all p (xs ++ ys)) w.0 (all-join p xs ys w.1 k)
 
-mentions-join : (ms cs ds : List ℕ) → mentions ms cs ≡ true → mentions ms ds ≡ true → mentions ms (cs ++ ds) ≡ true
+pub mentions-join : (ms cs ds : List ℕ) → mentions ms cs ≡ true → mentions ms ds ≡ true → mentions ms (cs ++ ds) ≡ true
 mentions-join ms cs ds h k = all-append (λ c. is_left_out c || is_mentioned ms c) cs ds ∙ and (mentions ms cs) (mentions ms ds) h k
 
-mentions-parts : (ms cs ds : List ℕ) → mentions ms (cs ++ ds) ≡ true → (mentions ms cs ≡ true) × (mentions ms ds ≡ true)
+pub mentions-parts : (ms cs ds : List ℕ) → mentions ms (cs ++ ds) ≡ true → (mentions ms cs ≡ true) × (mentions ms ds ≡ true)
 mentions-parts ms cs ds h = both (mentions ms cs) (mentions ms ds) (sym (all-append (λ c. is_left_out c || is_mentioned ms c) cs ds) ∙ h)
 
 covers-append : (ms : List ℕ) (c d : List Piece) → covers ms c ≡ true → covers ms d ≡ true → covers ms (c ++ d) ≡ true

@@ -7,7 +7,7 @@ ghost use Rattle.hub_glob.specs.Glob.{matches};
 ghost use Rattle.hub_glob.specs.Specification.{Specification};
 ghost use Rattle.hub_automaton.specs.Spots.{Seen, seen, alternatives_of, path_alternatives, is_covered, is_matched, progress, spots_count, starts};
 ghost use Rattle.hub_automaton.specs.declared.alternatives.Alternatives.{Alternatives};
-ghost use Rattle.hub_automaton.specs.Alphabet.{IsAlphabet, class_of, class_count, sample, with_characters, mentions, spec_characters, is_left_out, is_mentioned, is_path_character};
+ghost use Rattle.hub_automaton.specs.Alphabet.{IsAlphabet, class_of, class_count, sample, with_characters, mentions, path_characters, spec_characters, is_left_out, is_mentioned, is_path_character};
 
 use crate::spec_set::Spots;
 use std::hash::Hash;
@@ -96,6 +96,11 @@ pub fn paths_match_what_is_below()
 /// The choice of a path mentions the characters of its text.
 pub fn paths_mention_their_characters()
     ensures { (ms s : List ℕ) → mentions ms s ≡ true → is_covered ms (path_alternatives s) ≡ true }
+{}
+
+/// An alphabet that mentions the names of a path mentions its text.
+pub fn texts_mention_what_their_names_do()
+    ensures { (ms : List ℕ) (p : Path) → IsAlphabet ms → mentions ms (path_characters p) ≡ true → mentions ms (text_of p) ≡ true }
 {}
 
 /// A path has a position more than its text has characters.

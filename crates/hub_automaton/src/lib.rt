@@ -13,6 +13,7 @@
 //! defines a step position by position, and `specs/Masks` and `specs/Words` for 64 positions at once.
 #![tactic(auto)]
 
+mod alike;
 mod alphabet;
 mod alternatives;
 mod builder;

@@ -2,13 +2,13 @@
 ghost use Rattle.std.specs.Prelude.{ℕ, List, IfOk, IsTrue};
 ghost use Rattle.std.specs.List.{list_all};
 ghost use Rattle.hub_automaton.specs.Alphabet.{mentions, spec_characters};
-ghost use Rattle.hub_automaton.specs.Spots.{is_covered};
 
-use crate::{Alphabet, Alternatives, AutomatonFault, Class, MENTIONED_CHARACTERS, SpecSet, Spots};
-use hub_glob::{GlobFault, Kind, PathSpec, Piece};
-use hub_path::{PathFault, RelPath};
-use hub_text::Items;
-use std::alloc::{AllocError, Global};
+use crate::{
+    Alphabet, AutomatonFault, Class, MENTIONED_CHARACTERS, SpecSet, SpecSetBuilder, Spots,
+};
+use hub_glob::PathSpec;
+use hub_path::RelPath;
+use std::alloc::Global;
 use std::test::Fail;
 
 fn alphabet_of(alloc: Global, specs: &[&str]) -> Result<Alphabet, Fail> {
@@ -119,11 +119,20 @@ fn walked(alloc: Global, texts: &[&str], text: &str) -> Result<(Spots, String), 
 fn walked_by(alloc: Global, specs: &[PathSpec], text: &str) -> Result<(Spots, String), Fail> {
     let alphabet = alphabet_for(alloc, specs)?;
     let set = SpecSet::build(alloc, &alphabet, specs)?;
+    walked_along(alloc, &alphabet, &set, text)
+}
+
+fn walked_along(
+    alloc: Global,
+    alphabet: &Alphabet,
+    set: &SpecSet,
+    text: &str,
+) -> Result<(Spots, String), Fail> {
     let mut spots = set.start()?;
     let mut along = String::new(alloc);
     for character in text.chars() {
         if let Some(class) = alphabet.class_of(character) {
-            if class.number() < alphabet.count() {
+            if class.number() < set.class_count() {
                 spots = set.advance(&spots, class)?;
                 along.push(if set.matched(&spots) { '1' } else { '0' })?;
             }
@@ -260,5 +269,160 @@ fn as_many_spots_are_kept_as_allowed(rt: HostRuntime) -> Result<(), Fail> {
     let alphabet = alphabet_for(rt.alloc(), many.as_slice())?;
     let refused = SpecSet::build(rt.alloc(), &alphabet, many.as_slice());
     assert_eq!(rt; refused.err(), Some(AutomatonFault::TooManySpots));
+    Ok(())
+}
+
+/// The same as `walked`, by states that are written over others. The first of those is a state of another set.
+fn walked_in_place(alloc: Global, texts: &[&str], text: &str) -> Result<String, Fail> {
+    let specs = specs_of(alloc, texts)?;
+    let alphabet = alphabet_for(alloc, specs.as_slice())?;
+    let set = SpecSet::build(alloc, &alphabet, specs.as_slice())?;
+    let (mut next, _) = walked(alloc, &["Path a/*", "BelowPath [a-c]?{x,y}"], "a/b")?;
+    let mut spots = set.start()?;
+    let mut along = String::new(alloc);
+    for character in text.chars() {
+        if let Some(class) = alphabet.class_of(character) {
+            if class.number() < set.class_count() {
+                set.advance_into(&spots, class, &mut next)?;
+                next.copy_into(&mut spots)?;
+                along.push(if set.matched(&next) { '1' } else { '0' })?;
+            }
+        }
+    }
+    Ok(along)
+}
+
+#[test]
+fn states_are_written_over_others(rt: HostRuntime) -> Result<(), Fail> {
+    for (specs, text, want) in WALKS {
+        let along = walked_in_place(rt.alloc(), specs, text)?;
+        assert_eq!(rt; along.as_str(), want, "{text}");
+    }
+    Ok(())
+}
+
+/// From which specification on, up to which, and whether one of these matches `a`: `Name a`, `Name b`, `Path a`.
+const RANGES: [(usize, usize, bool); 9] = [
+    (0, 1, true),
+    (1, 2, false),
+    (0, 2, true),
+    (1, 3, true),
+    (2, 3, true),
+    (1, 1, false),
+    (2, 1, false),
+    (3, 9, false),
+    (0, 9, true),
+];
+
+#[test]
+fn a_range_of_specifications_matches(rt: HostRuntime) -> Result<(), Fail> {
+    let specs = specs_of(rt.alloc(), &["Name a", "Name b", "Path a"])?;
+    let alphabet = alphabet_for(rt.alloc(), specs.as_slice())?;
+    let set = SpecSet::build(rt.alloc(), &alphabet, specs.as_slice())?;
+    let (spots, _) = walked_along(rt.alloc(), &alphabet, &set, "a")?;
+    for (from, to, want) in RANGES {
+        assert_eq!(rt; set.matched_in(&spots, from, to), want, "{from} {to}");
+    }
+    Ok(())
+}
+
+/// An alphabet that mentions what these specifications mention, and the characters of a path.
+fn alphabet_with(alloc: Global, specs: &[PathSpec], path: &RelPath) -> Result<Alphabet, Fail>
+    ensures { IfOk result (λ a. IsTrue (list_all (λ s. mentions a (spec_characters s)) specs.now)) }
+{
+    let mut alphabet = alphabet_for(alloc, specs)?;
+    alphabet.add_path(path)?;
+    Ok(alphabet)
+}
+
+/// For each class the one that is treated alike, as a digit.
+fn likes_of(alloc: Global, specs: &[PathSpec], mentioned: &str) -> Result<String, Fail> {
+    let alphabet = alphabet_with(alloc, specs, &RelPath::read(alloc, mentioned)?)?;
+    let set = SpecSet::build(alloc, &alphabet, specs)?;
+    let mut likes = String::new(alloc);
+    for number in 0..set.class_count() {
+        let like = set.like(Class::new(number)).number();
+        likes.push_str(format!(in alloc; "{like}")?.as_str())?;
+    }
+    Ok(likes)
+}
+
+/// Specifications, a path that is mentioned too, and for each class the one that is treated alike. The classes are those
+/// of all other characters, `.`, `/` and the letters.
+const LIKES: [(&[&str], &str, &str); 7] = [
+    (&["Name ?"], "ab", "01200"),
+    (&["Name *"], "ab", "01200"),
+    (&["Name [ab]c"], "abc", "012335"),
+    (&["Name [ab]", "Path b"], "abc", "012340"),
+    (&["Path a/b"], "ab", "01234"),
+    (&["Name a.b"], "c", "012340"),
+    (&[], "a", "0120"),
+];
+
+#[test]
+fn classes_are_treated_alike(rt: HostRuntime) -> Result<(), Fail> {
+    for (texts, mentioned, want) in LIKES {
+        let specs = specs_of(rt.alloc(), texts)?;
+        let likes = likes_of(rt.alloc(), specs.as_slice(), mentioned)?;
+        assert_eq!(rt; likes.as_str(), want, "{mentioned}");
+    }
+    Ok(())
+}
+
+#[test]
+fn classes_differ_by_a_later_word(rt: HostRuntime) -> Result<(), Fail> {
+    let pattern = around_letters(rt.alloc(), "Name ", 100, "b")?;
+    let mut specs = Vec::new(rt.alloc());
+    specs.push(PathSpec::read(rt.alloc(), pattern.as_str())?)?;
+    let likes = likes_of(rt.alloc(), specs.as_slice(), "c")?;
+    assert_eq!(rt; likes.as_str(), "012340");
+    Ok(())
+}
+
+/// A path, over an alphabet that mentions it.
+fn path_set(alloc: Global, path: &RelPath) -> Result<(Alphabet, SpecSet), Fail> {
+    let mut alphabet = Alphabet::new(alloc)?;
+    alphabet.add_path(path)?;
+    let mut builder = SpecSetBuilder::new(alloc);
+    builder.add_path(path)?;
+    let set = builder.build(&alphabet)?;
+    Ok((alphabet, set))
+}
+
+/// A path, a text, and whether the path stands for it after each of its characters.
+const PATHS: [(&str, &str, &str); 5] = [
+    ("b/c", "b/c/d", "00111"),
+    ("b/c", "b/cd", "0010"),
+    ("b/c", "b/cd/e", "001000"),
+    ("b", "a/b", "000"),
+    ("a.b", "a.b/a", "00111"),
+];
+
+#[test]
+fn a_path_stands_for_all_paths_below(rt: HostRuntime) -> Result<(), Fail> {
+    for (path, text, want) in PATHS {
+        let (alphabet, set) = path_set(rt.alloc(), &RelPath::read(rt.alloc(), path)?)?;
+        assert_eq!(rt; set.spot_count(), path.len() + 1, "{path}");
+        let (_, along) = walked_along(rt.alloc(), &alphabet, &set, text)?;
+        assert_eq!(rt; along.as_str(), want, "{path} {text}");
+    }
+    Ok(())
+}
+
+#[test]
+fn a_path_has_as_many_spots_as_allowed(rt: HostRuntime) -> Result<(), Fail> {
+    let mut text = around_letters(rt.alloc(), "", 255, "")?;
+    for _ in 0..15 {
+        text = around_letters(
+            rt.alloc(),
+            format!(in rt.alloc(); "{text}/")?.as_str(),
+            255,
+            "",
+        )?;
+    }
+    let mut builder = SpecSetBuilder::new(rt.alloc());
+    builder.add_path(&RelPath::read(rt.alloc(), text.as_str())?)?;
+    let refused = builder.add_path(&RelPath::read(rt.alloc(), "b")?);
+    assert_eq!(rt; refused, Err(AutomatonFault::TooManySpots));
     Ok(())
 }

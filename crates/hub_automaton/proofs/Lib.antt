@@ -1,5 +1,6 @@
 pub mod Alphabets
 pub mod Classes
+pub mod Covered
 pub mod Exact
 pub mod Kept
 pub mod Likes

@@ -20,7 +20,8 @@ use Rattle.hub_automaton.specs.declared.fault.AutomatonFault.{AutomatonFault}
 use Rattle.hub_automaton.specs.Alphabet.{IsAlphabet, is_mentioned, mentions, piece_characters, path_characters}
 use Rattle.hub_automaton.specs.Spots.{fits, path_alternatives, is_matched, is_covered, spots_count, RefusesSpots}
 use Rattle.hub_automaton.proofs.Alphabets.{both, and}
-use Rattle.hub_automaton.proofs.Spotted.{above_law, mentions-join, mentions-parts}
+use Rattle.hub_automaton.proofs.Covered.{mentions-join, mentions-parts}
+use Rattle.hub_automaton.proofs.Spotted.{above_law}
 
 flip : (x c : ℕ) → (x == c) ≡ nat_eq c x
 flip x c = grind (arith, nat_tests)

@@ -127,6 +127,15 @@ mask_words m ls ws e = ap length e ∙ length-packed (words_for (length (mask_al
 live_words : (ls : List Alternatives) (t : List ℕ) → length (packed (unpacked ls t).live) ≡ words_for (spots_count ls)
 live_words ls t = length-packed (words_for (length (unpacked ls t).live)) (unpacked ls t).live ∙ ap words_for (length-live ls t)
 
+pub same_row_length : (ls : List Alternatives) (t u : List ℕ) → length (seen ls t).row ≡ length (seen ls u).row
+same_row_length ls t u =
+    let a = unpacked ls t in
+    let b = unpacked ls u in
+    let flags : length a.below ≡ length b.below = length-map ls (λ c. is_below c t) ∙ sym (length-map ls (λ c. is_below c u)) in
+    let words : length (packed a.below) ≡ length (packed b.below) =
+    length-packed (words_for (length a.below)) a.below ∙ ap words_for flags ∙ sym (length-packed (words_for (length b.below)) b.below) in
+    length-append (packed a.live) (packed a.below) ∙ (λ i. (live_words ls t ∙ sym (live_words ls u)) i + words i) ∙ sym (length-append (packed b.live) (packed b.below))
+
 -- Whether choices match, by words.
 bit_is : (old : List Bool) (i : ℕ) → bit (packed old) i ≡ slice_index_or old i false
 bit_is old i = packed_bit (words_for (length old)) i old (omega arith)

@@ -420,8 +420,7 @@ kind_law kind.BelowPath ps n p h =
     above_law f n p h
     ∙ any-ext (λ q. f (text_of q)) (λ q. glob ps true (text_of q)) (prefixes (n ∷ p)) (λ q. sym (glob_choices ps true (text_of q)))
 
-spec_law : (s : Specification) (p : Path) → is_path p ≡ true
-    → (is_below (alternatives_of s) (text_of p) || fits (choices s.pattern) (looked_at s.kind (text_of p))) ≡ matches s p
+pub spec_law : (s : Specification) (p : Path) → is_path p ≡ true → is_matched (alternatives_of s) (text_of p) ≡ matches s p
 unfolding matches
 spec_law s [] h = cc
 spec_law s (n ∷ p) h =

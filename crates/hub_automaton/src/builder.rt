@@ -1,4 +1,4 @@
-ghost use Rattle.std.specs.Prelude.{◌≡◌, ◌≤◌, ◌++◌, [], ◌∷◌, map, chars, IfOk, IfErr, OnOk, OnErr, IsTrue};
+ghost use Rattle.std.specs.Prelude.{◌≡◌, ◌≤◌, ◌++◌, [], ◌∷◌, length, map, chars, IfOk, IfErr, OnOk, OnErr, IsTrue};
 ghost use Rattle.std.specs.List.{list_all};
 ghost use Rattle.hub_path.specs.Path.{text_of};
 ghost use Rattle.hub_glob.specs.declared.piece.Piece.TheVariants.{Lit};
@@ -46,6 +46,13 @@ impl SpecSetBuilder {
             alternatives: Vec::new(alloc),
             spots: 0,
         }
+    }
+
+    /// Returns how many specifications and paths are collected. The next one gets this number.
+    pub fn len(&self) -> usize
+        ensures { result ≡ length self.now }
+    {
+        self.alternatives.len()
     }
 
     /// Adds specifications, in their order.

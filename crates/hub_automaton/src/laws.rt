@@ -78,6 +78,11 @@ pub fn what_is_kept_tells_what_matches()
         → seen (map alternatives_of specs) (text_of p) ≡ seen (map alternatives_of specs) (text_of q) → list_any (λ s. matches s p) specs ≡ list_any (λ s. matches s q) specs }
 {}
 
+/// All states of one set have equally many words.
+pub fn rows_are_equally_long()
+    ensures { (ls : List Alternatives) (t u : List ℕ) → length (seen ls t).row ≡ length (seen ls u).row }
+{}
+
 /// If two texts lead to the same state, each specification matches both or neither.
 pub fn what_is_kept_tells_each_match()
     ensures { (ls : List Alternatives) (t u : List ℕ) → seen ls t ≡ seen ls u → map (λ a. is_matched a t) ls ≡ map (λ a. is_matched a u) ls }
@@ -86,6 +91,11 @@ pub fn what_is_kept_tells_each_match()
 /// The choices of a specification mention what it mentions.
 pub fn choices_mention_what_their_specification_does()
     ensures { (ms : List ℕ) (specs : List Specification) → IsTrue (list_all (λ s. mentions ms (spec_characters s)) specs) → IsTrue (list_all (is_covered ms) (map alternatives_of specs)) }
+{}
+
+/// The choices of a specification match the text of a path exactly when the specification matches the path.
+pub fn choices_match_what_their_specification_does()
+    ensures { (s : Specification) (p : Path) → IsTrue (is_path p) → is_matched (alternatives_of s) (text_of p) ≡ matches s p }
 {}
 
 /// A path stands for the paths that it is a prefix of, itself included.

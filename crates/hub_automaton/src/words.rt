@@ -76,22 +76,13 @@ impl Words {
         self.words.as_slice()
     }
 
-    /// Borrows the first words, as many as that.
-    pub(crate) fn front(&self, count: usize) -> &[u64]
-        ensures { result.now ≡ take count self.now }
+    /// Borrows the first words, as many as that, and the words after them.
+    pub(crate) fn split(&self, count: usize) -> (&[u64], &[u64])
+        ensures front { result.0.now ≡ take count self.now }
+        ensures rest { result.1.now ≡ drop count self.now }
     {
-        let words = self.words.as_slice();
-        let (front, _) = words.split_at(count.min(words.len()));
-        front
-    }
-
-    /// Borrows the words after the first ones.
-    pub(crate) fn rest(&self, count: usize) -> &[u64]
-        ensures { result.now ≡ drop count self.now }
-    {
-        let words = self.words.as_slice();
-        let (_, rest) = words.split_at(count.min(words.len()));
-        rest
+        let count = count.min(self.words.len());
+        self.words.as_slice().split_at(count)
     }
 
     /// Sets the bit at that place, counted from the first bit of the word `first`. Past the end there are no bits.

@@ -71,11 +71,9 @@ one_character_more = refl
 abbrev path_b_c : Alternatives
 path_b_c = path_alternatives (codes "b/c")
 
-a_path_matches_itself_and_what_is_below : map (is_matched path_b_c) (codes "b/c" ∷ codes "b/c/d" ∷ []) ≡ true ∷ true ∷ []
-a_path_matches_itself_and_what_is_below = refl
-
-a_path_matches_nothing_else : map (is_matched path_b_c) (codes "b" ∷ codes "b/cd" ∷ codes "a/b/c" ∷ []) ≡ false ∷ false ∷ false ∷ []
-a_path_matches_nothing_else = refl
+a_path_matches_its_own_text_alone :
+    map (is_matched path_b_c) (codes "b/c" ∷ codes "b/c/d" ∷ codes "b" ∷ codes "b/cd" ∷ codes "a/b/c" ∷ []) ≡ true ∷ false ∷ false ∷ false ∷ false ∷ []
+a_path_matches_its_own_text_alone = refl
 
 a_path_has_a_spot_more_than_characters : spots_count (path_b_c ∷ []) ≡ 4
 a_path_has_a_spot_more_than_characters = refl

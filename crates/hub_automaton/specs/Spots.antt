@@ -58,9 +58,9 @@ is_below_kind kind.BelowPath = true
 abbrev pub alternatives_of : Specification → Alternatives
 alternatives_of s = record { kind = s.kind; choices = choices s.pattern }
 
--- A path's text as choices: they match the text itself, and all paths below it.
+-- A path's text as a choice, which matches that text alone.
 abbrev pub path_alternatives : List ℕ → Alternatives
-path_alternatives s = record { kind = kind.BelowPath; choices = map Lit s ∷ [] }
+path_alternatives s = record { kind = kind.Path; choices = map Lit s ∷ [] }
 
 abbrev pub spots_of : Alternatives → List ℕ → List Bool
 spots_of a t = flat_map (λ c. spots c (looked_at a.kind t)) a.choices

@@ -17,7 +17,7 @@ use std::marker::Model;
 
 /// Collects the choices of specifications and paths for a [`SpecSet`], which has at most `SPOTS` positions.
 ///
-/// A path stands for itself and all paths below it. Its choice has a position more than its text has characters.
+/// A path matches its own text alone. Its choice has a position more than its text has characters.
 #[derive(Debug, Drop)]
 pub struct SpecSetBuilder {
     alternatives: Vec<Alternatives>,
@@ -69,7 +69,7 @@ impl SpecSetBuilder {
         Ok(())
     }
 
-    /// Adds a path, which stands for itself and all paths below it.
+    /// Adds a path, which matches its own text alone.
     ///
     /// The fault is `TooManySpots` when all that is collected would have more than `SPOTS` positions, or `OutOfMemory`.
     /// After either, nothing has been added.
@@ -79,7 +79,7 @@ impl SpecSetBuilder {
         ensures kept { OnErr result (self.new ≡ self.old) }
     {
         let choices = path_choices(*self.alternatives.allocator(), path)?;
-        self.add(Kind::BelowPath, choices)
+        self.add(Kind::Path, choices)
     }
 
     /// Adds choices.

@@ -2,7 +2,7 @@
 ghost use Rattle.std.specs.Prelude.{◌≡◌, ◌↔◌, ◌<◌, ◌+◌, ◌++◌, ◌∷◌, ◌==◌, ◌||◌, ◌&&◌, not, [], length, map, ℕ, List, Some, IsTrue, true, false};
 ghost use Rattle.std.specs.List.{list_all, list_any};
 ghost use Rattle.std.specs.declared.cmp.Ordering.TheVariants.{Equal};
-ghost use Rattle.hub_path.specs.Path.{Path, text_of, is_path, is_over};
+ghost use Rattle.hub_path.specs.Path.{Path, text_of, path_of, name_eq, path_eq, is_path};
 ghost use Rattle.hub_glob.specs.Glob.{matches};
 ghost use Rattle.hub_glob.specs.Specification.{Specification};
 ghost use Rattle.hub_automaton.specs.Spots.{Seen, seen, alternatives_of, path_alternatives, is_covered, is_matched, progress, spots_count, starts};
@@ -98,9 +98,10 @@ pub fn choices_match_what_their_specification_does()
     ensures { (s : Specification) (p : Path) → IsTrue (is_path p) → is_matched (alternatives_of s) (text_of p) ≡ matches s p }
 {}
 
-/// A path stands for the paths that it is a prefix of, itself included.
-pub fn paths_match_what_is_below()
-    ensures { (s p : Path) → IsTrue (is_path s) → IsTrue (is_path p) → is_matched (path_alternatives (text_of s)) (text_of p) ≡ is_over s p }
+/// The choice of a path matches its own text alone.
+pub fn paths_match_their_text()
+    ensures text { (s t : List ℕ) → is_matched (path_alternatives s) t ≡ name_eq s t }
+    ensures path { (s : Path) (t : List ℕ) → IsTrue (is_path s) → is_matched (path_alternatives (text_of s)) t ≡ path_eq s (path_of t) }
 {}
 
 /// The choice of a path mentions the characters of its text.

@@ -10,7 +10,8 @@
 //! - [`SpecSetBuilder`] collects the specifications of a set, and paths that stand for themselves and all paths below.
 //!
 //! The contracts use the words of `specs/Alphabet` (classes) and `specs/Spots` (the state after a text). `specs/Stepping`
-//! defines a step position by position, and `specs/Masks` and `specs/Words` for 64 positions at once.
+//! defines a step position by position, and `specs/Masks` and `specs/Words` for 64 positions at once. `specs/Alike` says
+//! which classes are treated alike.
 #![tactic(auto)]
 
 mod alike;

@@ -264,7 +264,9 @@ fn as_many_spots_are_kept_as_allowed(rt: HostRuntime) -> Result<(), Fail> {
     let fits = long_names(rt.alloc(), 20, 75)?;
     let alphabet = alphabet_for(rt.alloc(), fits.as_slice())?;
     let set = SpecSet::build(rt.alloc(), &alphabet, fits.as_slice())?;
-    assert_eq!(rt; set.matched(&set.start()?), false);
+    let start = set.start()?;
+    assert_eq!(rt; set.matched(&start), false);
+    assert_eq!(rt; start.len(), 65);
     let many = long_names(rt.alloc(), 20, 76)?;
     let alphabet = alphabet_for(rt.alloc(), many.as_slice())?;
     let refused = SpecSet::build(rt.alloc(), &alphabet, many.as_slice());
@@ -424,5 +426,6 @@ fn a_path_has_as_many_spots_as_allowed(rt: HostRuntime) -> Result<(), Fail> {
     builder.add_path(&RelPath::read(rt.alloc(), text.as_str())?)?;
     let refused = builder.add_path(&RelPath::read(rt.alloc(), "b")?);
     assert_eq!(rt; refused, Err(AutomatonFault::TooManySpots));
+    assert_eq!(rt; builder.len(), 1);
     Ok(())
 }

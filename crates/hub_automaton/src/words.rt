@@ -35,17 +35,12 @@ impl Model for Words {
 }
 
 impl Words {
-    /// The allocator of the words.
-    pub(crate) fn allocator(&self) -> Global {
-        *self.words.allocator()
-    }
-
     /// Copies the words.
-    pub(crate) fn copy(&self, alloc: Global) -> Result<Words, AllocError>
+    pub(crate) fn copy(&self) -> Result<Words, AllocError>
         ensures { IfOk result (λ ws. ws ≡ self.now) }
     {
         Ok(Words {
-            words: Vec::from_slice(alloc, self.words.as_slice())?,
+            words: Vec::from_slice(*self.words.allocator(), self.words.as_slice())?,
         })
     }
 

@@ -1,10 +1,10 @@
 -- What lies between a kept value and a reached path is reached.
-use Rattle.std.proofs.Common.{◌≡◌, ◌⊎◌, inl, inr, Bool, true, false, not, ◌&&◌, ◌||◌, List, [], ◌∷◌, ◌++◌, drop, length, refl, ap, sym, ◌∙◌, subst, append-nil}
-use Rattle.std.specs.Prelude.{◌==◌, IsTrue}
+use Rattle.std.proofs.Common.{◌≡◌, Bool, true, false, not, ◌&&◌, ◌||◌, List, [], ◌∷◌, ◌++◌, drop, length, refl, ap, sym, ◌∙◌, subst, append-nil}
+use Rattle.std.specs.Prelude.{IsTrue}
 use Rattle.std.specs.List.{list_any}
 use Rattle.std.proofs.lemmas.Bool.{false≢true, and_parts}
 use Rattle.hub_path.specs.Laws.{is_over-rest}
-use Rattle.hub_path.specs.Path.{Name, Path, path_eq, is_over, is_path, is_place, parent, last_name, prefixes}
+use Rattle.hub_path.specs.Path.{Name, Path, path_eq, is_over, is_path, parent, last_name, prefixes}
 use Rattle.hub_path.specs.Laws as path
 use Rattle.hub_profile.specs.Parts.{Parts, IsProfile}
 use Rattle.hub_reach.specs.Reach.{reach, is_ignored}

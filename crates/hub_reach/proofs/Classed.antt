@@ -1,5 +1,5 @@
 -- Which characters have classes: those that may stand in a path's text, and none else.
-use Rattle.std.proofs.Common.{◌≡◌, ◌∙◌, ◌==◌, ℕ, Bool, true, false, not, ◌&&◌, ◌||◌, cond, List, [], ◌∷◌, Option, Some, None, ⊎_elim, refl, sym, ap, subst}
+use Rattle.std.proofs.Common.{◌≡◌, ◌∙◌, ◌==◌, ℕ, Bool, true, false, not, ◌&&◌, ◌||◌, cond, List, [], ◌∷◌, Some, None, ⊎_elim, refl, sym, ap, subst}
 use Rattle.std.specs.Prelude.{IsTrue, unwrap_or}
 use Rattle.std.specs.List.{position_from}
 use Rattle.std.specs.Str.{all_scalars}
@@ -7,7 +7,7 @@ use Rattle.std.proofs.lemmas.Bool.{or_cases}
 use lib.Utf8.{scalar}
 use borrow.Author.Tests.{eqb-true}
 use Rattle.hub_automaton.specs.Alphabet.{class_of, is_left_out, is_path_character}
-use Rattle.hub_reach.specs.Shape.{is_bad_character, is_text_character}
+use Rattle.hub_reach.specs.Shape.{is_text_character}
 
 some-bits : (b : Bool) (n k : ℕ) → cond b None (Some n) ≡ Some k → b ≡ false
 some-bits true n k h = cc

@@ -1,13 +1,13 @@
 pub mod Prefixes
 pub mod Walks
 pub mod Shapes
+pub mod Choices
 pub mod Stages
+pub mod Broken
 pub mod Advances
-pub mod Samples
 pub mod Grows
 pub mod Alike
 pub mod Below
 pub mod Between
-pub mod Broken
 pub mod Exact
 pub mod Classed

@@ -3,8 +3,7 @@ pub mod Laws
 pub mod Safe
 pub mod Walk
 pub mod Shape
-pub mod Passed
 pub mod Stage
+pub mod Walker
 pub mod Examples
-pub mod Ties
 pub mod Mention

@@ -13,9 +13,13 @@ above p = prefixes (parent p)
 abbrev pub is_inside : Parts → Path → Bool
 is_inside P p = list_any (λ s. length s == 0 || list_any (path_eq s) (above p)) P.paths
 
+-- The path is a kept value, or lies below one.
+abbrev pub is_kept : Parts → Path → Bool
+is_kept P p = list_any (λ s. is_over s p) P.paths
+
 -- A path above it, at or below a kept value, is ignored.
 abbrev pub is_cut : Parts → Path → Bool
-is_cut P p = list_any (λ q. is_ignored P q && list_any (λ s. is_over s q) P.paths) (above p)
+is_cut P p = list_any (λ q. is_ignored P q && is_kept P q) (above p)
 
 -- A path is reached where nothing above it is cut off, it isn't ignored itself, and it is a kept value or stands below one.
 abbrev pub is_walked : Parts → Path → Bool

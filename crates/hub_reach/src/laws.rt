@@ -7,17 +7,18 @@ ghost use Rattle.hub_path.specs.Path.{Path, is_over, is_path, path_of};
 ghost use Rattle.hub_automaton.specs.Alphabet.{IsAlphabet, class_of, is_path_character};
 ghost use Rattle.hub_profile.specs.Parts.{Parts, IsProfile};
 ghost use Rattle.hub_reach.specs.Mention.{Mentions};
-ghost use Rattle.hub_reach.specs.Passed.{Passed};
 ghost use Rattle.hub_reach.specs.Reach.{reach};
 ghost use Rattle.hub_reach.specs.Shape.{is_broken, is_named, is_text_character, shape_of};
 ghost use Rattle.hub_reach.specs.Stage.{is_broken_stage, stage_of};
 ghost use Rattle.hub_reach.specs.Walk.{is_walked};
 
 use crate::shape::Shape;
-use crate::stage::{Stage, Track};
+use crate::stage::Stage;
 use hub_automaton::laws::{
-    choices_mention_what_their_specification_does, classes_are_alike, what_is_kept_goes_on_alike,
-    what_is_kept_tells_what_matches,
+    choices_match_what_their_specification_does, choices_mention_what_their_specification_does,
+    classes_are_alike, paths_match_what_is_below, paths_mention_their_characters,
+    spots_compare_exactly, texts_mention_what_their_names_do, what_is_kept_goes_on_alike,
+    what_is_kept_tells_each_match,
 };
 use std::hash::Hash;
 
@@ -65,10 +66,14 @@ pub fn stages_go_on_alike()
     ensures classes { (P : Parts) (ms t : List ℕ) (x y k : ℕ) → IsAlphabet ms → Mentions ms P → class_of ms x ≡ Some k → class_of ms y ≡ Some k
         → IsTrue (is_text_character x) → IsTrue (is_text_character y) → stage_of P (t ++ x ∷ []) ≡ stage_of P (t ++ y ∷ []) }
 {
-    classes_are_alike();
+    choices_match_what_their_specification_does();
     choices_mention_what_their_specification_does();
+    classes_are_alike();
+    paths_match_what_is_below();
+    paths_mention_their_characters();
+    texts_mention_what_their_names_do();
     what_is_kept_goes_on_alike();
-    what_is_kept_tells_what_matches();
+    what_is_kept_tells_each_match();
 }
 
 /// The characters that may stand in a path's text are those that may stand in a path, and these have classes. A character
@@ -87,18 +92,12 @@ pub fn shapes_compare_exactly()
     ensures hashed { (x y : Shape) → IsTrue (⟦<Shape as PartialEq>⟧.eq x y) → ⟦<Shape as Hash>⟧.hash_input x ≡ ⟦<Shape as Hash>⟧.hash_input y }
 {}
 
-/// `==` holds of two tracks exactly when their values are equal, and the order says `Equal` exactly then.
-/// Equal ones have equal hashes.
-pub fn tracks_compare_exactly()
-    ensures equal { (x y : Passed) → IsTrue (⟦<Track as PartialEq>⟧.eq x y) ↔ (x ≡ y) }
-    ensures tied { (x y : Passed) → (⟦<Track as Ord>⟧.cmp x y ≡ Equal) ↔ (x ≡ y) }
-    ensures hashed { (x y : Passed) → IsTrue (⟦<Track as PartialEq>⟧.eq x y) → ⟦<Track as Hash>⟧.hash_input x ≡ ⟦<Track as Hash>⟧.hash_input y }
-{}
-
 /// `==` holds of two stages exactly when their values are equal, and the order says `Equal` exactly then.
 /// Equal ones have equal hashes.
 pub fn stages_compare_exactly()
     ensures equal { (x y : Stage) → IsTrue (⟦<Stage as PartialEq>⟧.eq x y) ↔ (x ≡ y) }
     ensures tied { (x y : Stage) → (⟦<Stage as Ord>⟧.cmp x y ≡ Equal) ↔ (x ≡ y) }
     ensures hashed { (x y : Stage) → IsTrue (⟦<Stage as PartialEq>⟧.eq x y) → ⟦<Stage as Hash>⟧.hash_input x ≡ ⟦<Stage as Hash>⟧.hash_input y }
-{}
+{
+    spots_compare_exactly();
+}

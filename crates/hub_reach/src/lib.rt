@@ -9,7 +9,6 @@
 //! `specs/Shape`.
 #![tactic(auto)]
 
-mod fronts;
 pub mod laws;
 mod mentions;
 mod reach;
@@ -21,6 +20,6 @@ mod walker;
 pub use mentions::mention;
 pub use reach::reaches;
 pub use shape::Shape;
-pub use stage::{Stage, Track};
+pub use stage::Stage;
 pub use verbs::{may, writes};
 pub use walker::Walker;

@@ -1,5 +1,5 @@
 //! The shape of a text's last component.
-ghost use Rattle.std.specs.Prelude.{◌≡◌, ◌↔◌, ◌++◌, ◌∷◌, [], ℕ, List, IsTrue};
+ghost use Rattle.std.specs.Prelude.{◌≡◌, ◌++◌, ◌∷◌, [], ℕ, List, IsTrue};
 ghost use Rattle.hub_path.specs.Path.{path_of, is_path};
 ghost use Rattle.hub_reach.specs.Shape as shape;
 
@@ -28,7 +28,7 @@ impl Shape {
 
     /// Whether no path's text begins so.
     pub(crate) fn is_broken(self) -> bool
-        ensures { IsTrue result ↔ (self ≡ Shape.Broken) }
+        ensures { result ≡ shape.is_broken_shape self }
     {
         matches!(self, Shape::Broken)
     }

@@ -5,8 +5,9 @@ use Rattle.std.specs.List.{list_any, list_all}
 use Rattle.std.proofs.lemmas.List.{take_all, take_at, drop_at, drop_more, take-append-drop, length-map}
 use Rattle.std.proofs.lemmas.List.Folds.{list_all-append}
 use Rattle.hub_text.specs.TestLaws.{any-map}
-use Rattle.hub_path.specs.Path.{Path, is_over, is_path, is_place, none_over, path_of, text_of}
+use Rattle.hub_path.specs.Path.{Name, Path, is_path, is_place, none_over, parent, path_eq, path_of, text_of}
 use Rattle.hub_path.specs.Laws.{text_of-path_of}
+use Rattle.hub_path.specs.TextLaws.{path_of-parts}
 use Rattle.hub_glob.specs.Glob.{matches}
 use Rattle.hub_glob.specs.OneStep.{nonzero}
 use Rattle.hub_glob.specs.Specification.{Specification}
@@ -16,10 +17,10 @@ use Rattle.hub_automaton.specs.declared.alternatives.Alternatives.{Alternatives}
 use Rattle.hub_automaton.specs.Spots.{seen, is_matched, is_covered, spots_count, alternatives_of, path_alternatives}
 use Rattle.hub_reach.specs.Mention.{Mentions}
 use Rattle.hub_reach.specs.Reach.{is_ignored}
-use Rattle.hub_reach.specs.Walk.{is_kept}
+use Rattle.hub_reach.specs.Walk.{is_inside, is_kept}
 use Rattle.hub_reach.specs.Walker.{WalkerParts}
 use Rattle.hub_reach.specs.Stage.{IsWalkerOf, texts_of, profile_alternatives, text_spots, spots_of}
-use Rattle.hub_reach.proofs.Walks.{both}
+use Rattle.hub_reach.proofs.Walks.{both, kept-over-path}
 
 -- The parts of a list.
 module _ {X : Type 0} where
@@ -76,8 +77,8 @@ kept-part P w is =
 abbrev pub MatchesSpecs : Type 0
 MatchesSpecs = (s : Specification) (p : Path) → IsTrue (is_path p) → is_matched (alternatives_of s) (text_of p) ≡ matches s p
 
-abbrev pub MatchesBelow : Type 0
-MatchesBelow = (s p : Path) → IsTrue (is_path s) → IsTrue (is_path p) → is_matched (path_alternatives (text_of s)) (text_of p) ≡ is_over s p
+abbrev pub MatchesText : Type 0
+MatchesText = (s : Path) (t : List ℕ) → IsTrue (is_path s) → is_matched (path_alternatives (text_of s)) t ≡ path_eq s (path_of t)
 
 specs-matched : MatchesSpecs → (specs : List Specification) (t : List ℕ) → IsTrue (is_path (path_of t))
     → list_any (λ a. is_matched a t) (map alternatives_of specs) ≡ list_any (λ s. matches s (path_of t)) specs
@@ -92,30 +93,32 @@ is_ignored_by P t = list_any (λ a. is_matched a t) (map alternatives_of P.ignor
 pub ignored-is : MatchesSpecs → (P : Parts) (t : List ℕ) → IsTrue (is_path (path_of t)) → is_ignored_by P t ≡ is_ignored P (path_of t)
 ignored-is law P t h = (λ i. specs-matched law P.ignore t h i && not (specs-matched law P.ignorenot t h i))
 
-abbrev keeps_all : List Path → Bool
-keeps_all ps = list_any (λ s. length s == 0) ps
+-- The whole replica is the path of no text.
+empty-kept : (t : List ℕ) → path_eq [] (path_of t) ≡ false
+empty-kept t = ap (path_eq []) (sym (path_of-parts t)) ∙ go (parent (path_of t)) _
+  where
+    go : (ps : List Name) (n : Name) → path_eq [] (ps ++ n ∷ []) ≡ false
+    go [] n = refl
+    go (p ∷ ps) n = refl
 
-or-turned : (a b c : Bool) → (a || (b || c)) ≡ (b || (a || c))
-or-turned true true c = refl
-or-turned true false c = refl
-or-turned false b c = refl
-
-paths-matched : MatchesBelow → (ps : List Path) (t : List ℕ) → list_all is_place ps ≡ true → IsTrue (is_path (path_of t))
-    → (keeps_all ps || list_any (λ a. is_matched a t) (map path_alternatives (texts_of ps))) ≡ list_any (λ s. is_over s (path_of t)) ps
-paths-matched law [] t places h = refl
-paths-matched law ([] ∷ ps) t places h = refl
-paths-matched law ((n ∷ s) ∷ ps) t places h =
+paths-matched : MatchesText → (ps : List Path) (t : List ℕ) → list_all is_place ps ≡ true
+    → list_any (λ a. is_matched a t) (map path_alternatives (texts_of ps)) ≡ list_any (λ s. path_eq s (path_of t)) ps
+paths-matched law [] t places = refl
+paths-matched law ([] ∷ ps) t places = paths-matched law ps t places ∙ ap (λ b. b || list_any (λ s. path_eq s (path_of t)) ps) (sym (empty-kept t))
+paths-matched law ((n ∷ s) ∷ ps) t places =
     let parts = both (is_place (n ∷ s)) (list_all is_place ps) places in
     let path : is_path (n ∷ s) ≡ true = (λ i. not (nonzero (length s) i) && parts.0 i) in
     let more = filter (λ r. not (length r == 0)) ps in
-    (λ i. (nonzero (length s) i || keeps_all ps) || list_any (λ a. is_matched a t) (map path_alternatives (map text_of (cond (not (nonzero (length s) i)) ((n ∷ s) ∷ more) more))))
-    ∙ (or-turned (keeps_all ps) (is_matched (path_alternatives (text_of (n ∷ s))) t) (list_any (λ a. is_matched a t) (map path_alternatives (texts_of ps)))
-    ∙ (λ i. (ap (is_matched (path_alternatives (text_of (n ∷ s)))) (sym (text_of-path_of t)) ∙ law (n ∷ s) (path_of t) path h) i || paths-matched law ps t parts.1 h i))
+    (λ i. list_any (λ a. is_matched a t) (map path_alternatives (map text_of (cond (not (nonzero (length s) i)) ((n ∷ s) ∷ more) more))))
+    ∙ (λ i. law (n ∷ s) t path i || paths-matched law ps t parts.1 i)
 
-pub kept-is : MatchesBelow → (P : Parts) (t : List ℕ) → IsProfile P → IsTrue (is_path (path_of t))
-    → (keeps_all P.paths || list_any (λ a. is_matched a t) (map path_alternatives (texts_of P.paths))) ≡ is_kept P (path_of t)
-kept-is law P t facts h =
-    paths-matched law P.paths t (both (not (length P.paths == 0)) (list_all is_place P.paths) (both (not (length P.paths == 0) && list_all is_place P.paths) (none_over P.paths) facts.paths).0).1 h
+places-of : (P : Parts) → IsProfile P → list_all is_place P.paths ≡ true
+places-of P facts = (both (not (length P.paths == 0)) (list_all is_place P.paths) (both (not (length P.paths == 0) && list_all is_place P.paths) (none_over P.paths) facts.paths).0).1
+
+pub kept-is : MatchesText → (P : Parts) (t : List ℕ) → IsProfile P → IsTrue (is_path (path_of t))
+    → (is_inside P (path_of t) || list_any (λ a. is_matched a t) (map path_alternatives (texts_of P.paths))) ≡ is_kept P (path_of t)
+kept-is law P t facts path =
+    ap (λ b. is_inside P (path_of t) || b) (paths-matched law P.paths t (places-of P facts)) ∙ sym (kept-over-path P (path_of t) path)
 
 -- Texts of which the same is kept are matched alike.
 abbrev pub TellsMatches : Type 0
@@ -133,16 +136,16 @@ ignored-alike law tells P t u p q h =
     ∙ ((λ i. any-same (λ a. is_matched a t) (λ a. is_matched a u) ls w.0 i && not (any-same (λ a. is_matched a t) (λ a. is_matched a u) ms v.0 i))
     ∙ ignored-is law P u q)
 
-pub kept-alike : MatchesBelow → TellsMatches → (P : Parts) (t u : List ℕ) → IsProfile P → IsTrue (is_path (path_of t)) → IsTrue (is_path (path_of u))
-    → seen (profile_alternatives P) t ≡ seen (profile_alternatives P) u → is_kept P (path_of t) ≡ is_kept P (path_of u)
-kept-alike law tells P t u facts p q h =
+pub kept-alike : MatchesText → TellsMatches → (P : Parts) (t u : List ℕ) → IsProfile P → IsTrue (is_path (path_of t)) → IsTrue (is_path (path_of u))
+    → is_inside P (path_of t) ≡ is_inside P (path_of u) → seen (profile_alternatives P) t ≡ seen (profile_alternatives P) u → is_kept P (path_of t) ≡ is_kept P (path_of u)
+kept-alike law tells P t u facts p q ins h =
     let ls = map alternatives_of P.ignore in
     let ms = map alternatives_of P.ignorenot in
     let ns = map path_alternatives (texts_of P.paths) in
     let w = map-parts (λ a. is_matched a t) (λ a. is_matched a u) ls (ms ++ ns) (tells (profile_alternatives P) t u h) in
     let v = map-parts (λ a. is_matched a t) (λ a. is_matched a u) ms ns w.1 in
     sym (kept-is law P t facts p)
-    ∙ (ap (λ b. keeps_all P.paths || b) (any-same (λ a. is_matched a t) (λ a. is_matched a u) ns v.1) ∙ kept-is law P u facts q)
+    ∙ ((λ i. ins i || any-same (λ a. is_matched a t) (λ a. is_matched a u) ns v.1 i) ∙ kept-is law P u facts q)
 
 -- How many spots they have.
 abbrev pub HaveSpots : Type 0

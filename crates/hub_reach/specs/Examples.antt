@@ -12,6 +12,7 @@ use Rattle.hub_glob.specs.declared.piece.Piece.TheVariants.{Lit, Run}
 use Rattle.hub_profile.specs.Parts.{Parts}
 use Rattle.hub_profile.specs.declared.verb.Verb.TheVariants.{Create, Update, Delete}
 use Rattle.hub_reach.specs.Reach.{reach, may, writes, write}
+use Rattle.hub_reach.specs.Stage.{stage_of}
 use Rattle.hub_reach.specs.Safe.{Rule, Clash, ClashesAt, ClashesInArchive, Breach, IsSafe, share_archive}
 
 -- What these examples compute.
@@ -94,6 +95,14 @@ kept_values_are_tested = refl
 parents_are_not_tested : reached (record (kept (codes "docs/x")) { ignore = path_is (literals (codes "docs")) ∷ below_is (literals (codes "x")) ∷ [] }) (codes "docs/x" ∷ codes "docs/x/y" ∷ []) ≡ true ∷ true ∷ []
 unfolding computed
 parents_are_not_tested = refl
+
+-- below which of two kept values a text lies makes no difference to its stage
+abbrev two_kept : Parts
+two_kept = record whole { paths = path_of (codes "a") ∷ path_of (codes "b") ∷ [] }
+
+one_stage_below_two_kept_values : stage_of two_kept (codes "a/c") ≡ stage_of two_kept (codes "b/cd")
+unfolding computed
+one_stage_below_two_kept_values = refl
 
 -- a profile writes at its own roots alone
 written_roots : map (writes whole) (hub ∷ s1 ∷ s2 ∷ path_of (codes "srv") ∷ path_of (codes "srv/hub/docs") ∷ []) ≡ true ∷ true ∷ false ∷ false ∷ false ∷ []

@@ -16,7 +16,7 @@ use crate::shape::Shape;
 use crate::stage::Stage;
 use hub_automaton::laws::{
     choices_match_what_their_specification_does, choices_mention_what_their_specification_does,
-    classes_are_alike, paths_match_what_is_below, paths_mention_their_characters,
+    classes_are_alike, paths_match_their_text, paths_mention_their_characters,
     spots_compare_exactly, texts_mention_what_their_names_do, what_is_kept_goes_on_alike,
     what_is_kept_tells_each_match,
 };
@@ -69,7 +69,7 @@ pub fn stages_go_on_alike()
     choices_match_what_their_specification_does();
     choices_mention_what_their_specification_does();
     classes_are_alike();
-    paths_match_what_is_below();
+    paths_match_their_text();
     paths_mention_their_characters();
     texts_mention_what_their_names_do();
     what_is_kept_goes_on_alike();

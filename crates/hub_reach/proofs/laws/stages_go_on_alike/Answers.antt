@@ -6,7 +6,7 @@ use Rattle.hub_reach.proofs.laws.stages_go_on_alike.Goals as goal
 
 pub returns-clause-same : goal.returns-clause-same
 returns-clause-same c = λ P t u x facts.
-    goes-on c.choices_match_what_their_specification_does.ensures c.paths_match_what_is_below.ensures c.what_is_kept_tells_each_match.ensures P t u x facts
+    goes-on c.choices_match_what_their_specification_does.ensures c.paths_match_their_text.ensures.path c.what_is_kept_tells_each_match.ensures P t u x facts
     (λ ls. c.what_is_kept_goes_on_alike.ensures.same ls t u x)
 
 pub returns-clause-followed : goal.returns-clause-followed
@@ -14,7 +14,7 @@ returns-clause-followed c = λ P t u v facts. follows P t u v (λ r q x. returns
 
 pub returns-clause-reached : goal.returns-clause-reached
 returns-clause-reached c = λ P t u facts.
-    reached-alike c.choices_match_what_their_specification_does.ensures c.paths_match_what_is_below.ensures c.what_is_kept_tells_each_match.ensures P t u facts
+    reached-alike c.choices_match_what_their_specification_does.ensures c.paths_match_their_text.ensures.path c.what_is_kept_tells_each_match.ensures P t u facts
 
 pub returns-clause-classes : goal.returns-clause-classes
 returns-clause-classes c = λ P ms t x y k al says class_x class_y text_x text_y.

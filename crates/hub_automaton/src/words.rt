@@ -44,15 +44,11 @@ impl Words {
         })
     }
 
-    /// Makes the words a copy of others. It doesn't allocate when both are equally many.
+    /// Makes the words a copy of others. It doesn't allocate when there is room, as when both are equally many.
     pub(crate) fn copy_from(&mut self, other: &Words) -> Result<(), AllocError>
         ensures ok { OnOk result (self.new ≡ other.now) }
         ensures room { length self.old ≡ length other.now → IsOk result }
     {
-        if self.words.len() == other.words.len() {
-            self.words.copy_from_slice(other.words.as_slice());
-            return Ok(());
-        }
         self.words.clear();
         self.words.extend_from_slice(other.words.as_slice())
     }

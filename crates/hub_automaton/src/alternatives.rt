@@ -3,7 +3,7 @@ ghost use Rattle.hub_automaton.specs.Spots.{spot_count};
 
 use crate::fault::AutomatonFault;
 use hub_glob::{Kind, Piece};
-use hub_path::Items;
+use hub_text::Items;
 
 /// How many positions the choices of some specifications may have together (this project's choice).
 pub const SPOTS: usize = 4096;

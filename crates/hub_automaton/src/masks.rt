@@ -8,7 +8,7 @@ ghost use Rattle.hub_automaton.specs.Words.{packed};
 use crate::alternatives::Alternatives;
 use crate::words::{Words, pack};
 use hub_glob::{Kind, Next, Piece};
-use hub_path::Items;
+use hub_text::Items;
 use std::alloc::{AllocError, Global};
 
 /// Which spots a mask has.

@@ -6,7 +6,8 @@ ghost use Rattle.hub_automaton.specs.Alphabet as alphabet;
 use crate::alphabet::MENTIONED_CHARACTERS;
 use crate::fault::AutomatonFault;
 use hub_glob::{Part, Piece};
-use hub_path::{Items, RelPath};
+use hub_path::RelPath;
+use hub_text::Items;
 
 /// A character that stands in no path.
 pub(crate) fn is_left_out(character: char) -> bool

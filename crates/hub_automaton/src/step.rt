@@ -7,7 +7,7 @@ ghost use Rattle.hub_automaton.specs.Stepping as stepping;
 use crate::alternatives::SPOTS;
 use crate::words::is_set;
 use hub_glob::Piece;
-use hub_path::Items;
+use hub_text::Items;
 use std::alloc::AllocError;
 
 /// Adds the spots of a choice in the empty text.

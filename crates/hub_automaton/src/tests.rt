@@ -6,7 +6,8 @@ ghost use Rattle.hub_automaton.specs.Spots.{is_covered};
 
 use crate::{Alphabet, Alternatives, AutomatonFault, Class, MENTIONED_CHARACTERS, SpecSet, Spots};
 use hub_glob::{GlobFault, Kind, PathSpec, Piece};
-use hub_path::{Items, PathFault, RelPath};
+use hub_path::{PathFault, RelPath};
+use hub_text::Items;
 use std::alloc::{AllocError, Global};
 use std::test::Fail;
 

@@ -9,9 +9,9 @@ use Rattle.std.proofs.lemmas.List.{append-nil, reverse-append, reverse-reverse, 
 use Rattle.std.proofs.lemmas.Bool.{cond-true, cond-false, and_parts, eq-eqb}
 use Rattle.std.proofs.lemmas.Bool.Decides.{nat_tests}
 use denote.Ref.{Bor}
-use Rattle.hub_path.specs.Reading.{without_last}
-use Rattle.hub_path.specs.Ascii.{without_last-none, without_last-found}
-use Rattle.hub_glob.specs.Blanks.{is_blank, skip_blanks}
+use Rattle.hub_text.specs.Lines.{without_last}
+use Rattle.hub_text.specs.Ascii.{without_last-none, without_last-found}
+use Rattle.hub_text.specs.Blanks.{is_blank, skip_blanks}
 
 pub blank_low : (c : ℕ) → is_blank c ≡ true → c < 128
 blank_low c h = grind (arith, nat_tests)

@@ -7,13 +7,14 @@ use Rattle.std.proofs.lemmas.List.Folds.{list_all-append}
 use lib.Utf8.{scalar}
 use mathlib.Core.List.{reverse_aux}
 use Rattle.hub_path.specs.Path.{Path, is_name, is_place, path_of}
-use Rattle.hub_path.specs.Reading.{name_fault, names_fault, first_fault, path_fault, root_fault, path_reading, root_reading, root_names, without_last, without_last_slash, is_remote, begins_with_slash}
+use Rattle.hub_path.specs.Reading.{name_fault, names_fault, first_fault, path_fault, root_fault, path_reading, root_reading, root_names, without_last_slash, is_remote, begins_with_slash}
+use Rattle.hub_text.specs.Lines.{without_last}
 use Rattle.hub_path.specs.declared.fault.PathFault.{PathFault}
 use Rattle.hub_path.specs.declared.fault.PathFault.TheVariants.{Empty, LeadingSlash, RemoteRoot, NotAbsolute, TooDeep}
 use Rattle.hub_path.specs.declared.rel_path.TheConstants.{PATH_NAMES}
 use Rattle.hub_path.specs.NameFacts.{is_name-no_fault}
 use Rattle.hub_path.specs.ReadNames.{or_fault-Ok}
-use Rattle.hub_glob.specs.Blanks.{is_blank, skip_blanks}
+use Rattle.hub_text.specs.Blanks.{is_blank, skip_blanks}
 use Rattle.hub_glob.specs.Specification.{Specification}
 use Rattle.hub_glob.specs.Reading.{spec_reading}
 use Rattle.hub_glob.specs.declared.fault.GlobFault.{GlobFault}

@@ -6,7 +6,7 @@ use Rattle.std.proofs.lemmas.List.{take_more, take_all}
 use Rattle.std.proofs.lemmas.List.Sums.{fold-append}
 use Rattle.std.proofs.lemmas.List.Folds.{fold_stuck}
 use Rattle.std.proofs.lemmas.List.FromFn.{length-enumerate_from, get_or-enumerate_from}
-use Rattle.hub_path.specs.Parts.{part-chars, length-parts}
+use Rattle.hub_text.specs.TextParts.{part-chars, length-parts}
 use Rattle.hub_profile.specs.declared.fault.Fault.{Fault}
 use Rattle.hub_profile.specs.declared.fault.ProfileFault.{ProfileFault}
 use Rattle.hub_profile.specs.Lines.{lines_of}

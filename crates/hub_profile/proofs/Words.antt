@@ -10,7 +10,7 @@ use Rattle.std.proofs.lemmas.Str.Pattern.{starts_char}
 use Rattle.std.proofs.lemmas.Bool.{and_parts, and_from, eqb-true, eq-eqb, false≢true}
 use Rattle.std.proofs.lemmas.Bool.Decides.{same_from_decides, Decides-like}
 use Rattle.std.proofs.lemmas.Slice.Eq.{bytes_eq-Decides}
-use Rattle.hub_glob.specs.AsciiWords.{is_word}
+use Rattle.hub_text.specs.AsciiWords.{is_word}
 use Rattle.hub_profile.specs.LineByLine.{look_up}
 
 -- A text is an ASCII word exactly where its characters are.

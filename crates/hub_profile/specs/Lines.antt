@@ -1,8 +1,8 @@
 -- A line of a profile's or a rules text: what it says.
 use Rattle.std.specs.Prelude.{ℕ, Bool, not, ◌&&◌, ◌==◌, nat_eq, List, [], ◌∷◌, reverse, length, Result, Ok, Err, if◌then◌else◌, codes, bytes_eq}
 use Rattle.std.specs.List.{list_any, before_first, after_first, enumerate_from, slice_split, starts_with}
-use Rattle.hub_path.specs.Reading.{without_last}
-use Rattle.hub_glob.specs.Blanks.{is_blank, skip_blanks}
+use Rattle.hub_text.specs.Lines.{without_last}
+use Rattle.hub_text.specs.Blanks.{is_blank, skip_blanks}
 use Rattle.hub_profile.specs.declared.fault.Fault.{Fault}
 use Rattle.hub_profile.specs.declared.fault.Fault.TheVariants.{IncludeLeftOut, NoEquals}
 

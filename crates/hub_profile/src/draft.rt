@@ -15,7 +15,8 @@ use crate::line::{begins_with, is_blank};
 use crate::line_by_line::{FromLines, unknown};
 use crate::profile::Profile;
 use hub_glob::PathSpec;
-use hub_path::{Items, Name, PathFault, RelPath, Root, without_last_slash};
+use hub_path::{Name, PathFault, RelPath, Root, without_last_slash};
+use hub_text::Items;
 use std::alloc::Global;
 use std::marker::Model;
 

@@ -4,7 +4,8 @@ ghost use Rattle.hub_path.specs.Path.{path_eq, is_over};
 ghost use Rattle.hub_profile.specs.Marks as mark;
 ghost use Rattle.hub_profile.specs.Reading as reading;
 
-use hub_path::{Items, RelPath};
+use hub_path::RelPath;
+use hub_text::Items;
 use std::alloc::{AllocError, Global};
 
 /// The values that a profile keeps, in their order, or the whole replica where there are none.

@@ -1,11 +1,11 @@
 //! One line of a text.
 ghost use Rattle.std.specs.Prelude.{◌≡◌, ◌==◌, ◌<◌, [], ◌∷◌, false, true, Ok, Err, IfOk, IfErr, chars, length, nat_eq, MatchOption};
 ghost use Rattle.std.specs.List.{before_first, after_first, starts_with};
-ghost use Rattle.hub_path.specs.Reading.{without_last};
+ghost use Rattle.hub_text.specs.Lines.{without_last};
 ghost use Rattle.hub_profile.specs.Lines as lines;
 
 use crate::fault::Fault;
-use hub_glob::{BLANKS, first_word, skip_blanks};
+use hub_text::{BLANKS, first_word, skip_blanks};
 
 /// What a line says: its text without a CR at its end, and then without the blanks around it.
 pub(crate) fn line_text(line: &str) -> &str

@@ -1,7 +1,8 @@
 ghost use Rattle.std.specs.Prelude.{◌≡◌};
 
 use hub_glob::PathSpec;
-use hub_path::{Items, Name, RelPath, Root};
+use hub_path::{Name, RelPath, Root};
+use hub_text::Items;
 use std::marker::Model;
 
 /// A profile: which roots it synchronizes, and what of them (Unison manual, "Preferences").

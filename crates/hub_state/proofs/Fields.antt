@@ -10,7 +10,8 @@ use Rattle.hex.specs.Hex.{IsBytes, encode_with, encode_lower, lower_digits, deco
 use Rattle.hex.proofs.HexLemmas.{decode_of-encode_lower, IsAscii-encode_with, length-encode_with}
 use lib.Utf8.{scalar, encode}
 use Rattle.hub_path.specs.Path.{Name, Path, is_name, is_place, is_path, is_forbidden, is_dots, text_of, path_of}
-use Rattle.hub_path.specs.Reading.{names_fault, path_reading, path_fault, root_reading, root_fault, root_names, place_of, without_last, without_last_slash, or_fault}
+use Rattle.hub_path.specs.Reading.{names_fault, path_reading, path_fault, root_reading, root_fault, root_names, place_of, without_last_slash, or_fault}
+use Rattle.hub_text.specs.Lines.{without_last}
 use Rattle.hub_path.specs.Laws.{path_of-text_of}
 use Rattle.hub_state.specs.State.{root_chars, root_text}
 use Rattle.hub_state.specs.Writing.{path_bytes, hex_field}

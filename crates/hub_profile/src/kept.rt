@@ -69,13 +69,13 @@ fn repeats(earlier: &[RelPath], value: &RelPath) -> bool
 }
 
 fn lies_below(all: &[RelPath], value: &RelPath) -> bool
-    ensures { result ≡ list_any (λ other. is_over other value.now && not (path_eq other value.now)) all.now }
+    ensures { result ≡ list_any (reading.is_properly_below value.now) all.now }
 {
     all.iter().any(|other| is_properly_below(value, other))
 }
 
 fn is_properly_below(value: &RelPath, other: &RelPath) -> bool
-    ensures { result ≡ (is_over other.now value.now && not (path_eq other.now value.now)) }
+    ensures { result ≡ reading.is_properly_below value.now other.now }
 {
     value.starts_with(other) && other != value
 }

@@ -23,9 +23,21 @@ impl Model for Profile {
 
     ghost Value = { Parts };
 
-    ghost view = { λ a. record { name = a.name; roots = a.roots; paths = a.paths; ignore = a.ignore; ignorenot = a.ignorenot } };
+    ghost view = { λ a. record {
+      name = a.name;
+      roots = a.roots;
+      paths = a.paths;
+      ignore = a.ignore;
+      ignorenot = a.ignorenot;
+    } };
 
-    ghost invariant = { λ a. IsProfile (record { name = a.name; roots = a.roots; paths = a.paths; ignore = a.ignore; ignorenot = a.ignorenot }) };
+    ghost invariant = { λ a. IsProfile (record {
+      name = a.name;
+      roots = a.roots;
+      paths = a.paths;
+      ignore = a.ignore;
+      ignorenot = a.ignorenot;
+    }) };
 }
 
 impl Profile {

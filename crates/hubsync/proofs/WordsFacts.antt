@@ -50,10 +50,6 @@ pub passed_up : {T E : Type 0} (r : Result T E) (e : E) (P : E → Type 0) → I
 passed_up (Ok x) e P is p = tt
 passed_up (Err y) e P is p = subst P (sym is) p
 
-pub not-false : (b : Bool) → not b ≡ false → b ≡ true
-not-false true h = refl
-not-false false h = absurd (true≢false h)
-
 module _ {Z : Type 0} where
   abbrev name_in : Box SubCommand Z → Text
   name_in b = (out-SubCommand (box_value b)).name.now

@@ -1,7 +1,6 @@
 -- How the profiles of sections are read one after the other.
-use Rattle.std.proofs.Common.{◌≡◌, ℕ, suc, ◌+◌, ◌-◌, ◌<◌, ◌≤◌, List, [], ◌∷◌, ◌++◌, length, take, drop, get_or, Result, Ok, Err, refl, sym, ap, ◌∙◌, arith, append_assoc, add-one, length-drop, length-take}
-use Rattle.std.proofs.Math.Seq.{drop-cons, take-append-add, drop-append-add}
-use Rattle.std.proofs.lemmas.List.{take_all, take-append-drop}
+use Rattle.std.proofs.Common.{◌≡◌, ℕ, suc, ◌+◌, ◌<◌, List, [], ◌∷◌, ◌++◌, length, drop, get_or, Result, Ok, Err, refl, sym, ap, ◌∙◌, append_assoc, add-one}
+use Rattle.std.proofs.Math.Seq.{drop-cons}
 use Rattle.hub_profile.specs.Parts.{Parts}
 use Rattle.hubsync.specs.declared.profiles.SectionFault.{SectionFault}
 use Rattle.hubsync.specs.Bundle.{SectionValue}

@@ -1,6 +1,6 @@
 -- Readings line by line, as a loop makes them.
 use Rattle.std.proofs.Common.{◌≡◌, ℕ, ◌+◌, ◌<◌, ◌≤◌, List, [], ◌∷◌, Result, Ok, Err, length, take, get_or, refl, sym, ap, ◌∙◌, arith}
-use Rattle.std.specs.List.{enumerate_from, fold}
+use Rattle.std.specs.List.{fold}
 use Rattle.std.proofs.lemmas.List.{take_more, take_all}
 use Rattle.std.proofs.lemmas.List.Sums.{fold-append}
 use Rattle.std.proofs.lemmas.List.Folds.{fold_stuck}
@@ -14,16 +14,6 @@ use Rattle.hub_profile.specs.LineByLine.{Table, with_line, at_line, and_line, nu
 -- What the first k lines say.
 abbrev pub first_lines : {S : Type 0} → Table S → S → List ℕ → ℕ → Result S ProfileFault
 first_lines table nothing cs k = fold (and_line table) (Ok nothing) (take k (numbered_lines cs))
-
--- The line of a turn.
-pub line_at : (cs : List ℕ) (k i : ℕ) (l : Line (List ℕ)) → (k < length (enumerate_from 0 (lines_of cs))) × ((i, l) ≡ get_or (enumerate_from 0 (lines_of cs)) k (i, l)) → (i ≡ k) × (k < length (lines_of cs)) × (l ≡ get_or (lines_of cs) k l)
-line_at cs k i l turn =
-    let inside : k < length (lines_of cs) = omega (arith, turn.0, length-enumerate_from 0 (lines_of cs)) in
-    let at : (i, l) ≡ (0 + k, get_or (lines_of cs) k l) = turn.1 ∙ get_or-enumerate_from 0 (lines_of cs) k (i, l) inside in
-    (ap (λ p. p.0) at ∙ omega arith, inside, ap (λ p. p.1) at)
-
-pub all_lines : (cs : List ℕ) (k : ℕ) → k ≡ length (enumerate_from 0 (lines_of cs)) → length (lines_of cs) ≤ k
-all_lines cs k e = omega (arith, e, length-enumerate_from 0 (lines_of cs))
 
 numbered : (cs : List ℕ) (k : ℕ) (l : Line (List ℕ)) → k < length (lines_of cs) → l ≡ get_or (lines_of cs) k l → get_or (numbered_lines cs) k (k + 1, l) ≡ (k + 1, l)
 numbered cs k l h e =

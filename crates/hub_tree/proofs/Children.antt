@@ -17,6 +17,7 @@ use Rattle.std.proofs.lemmas.Bool.{false≢true, and_parts}
 use Rattle.std.proofs.lemmas.List.Kept.{IsStrictlySortedBy-filter}
 use Rattle.std.proofs.lemmas.Map.Views.{any-filter_same}
 use Rattle.std.proofs.Math.Bool.{and-true, and-false, and_assoc, and-or_distrib_left}
+use Rattle.hub_text.specs.TestLaws.{T-first, T-second, T-less}
 use Rattle.hub_path.specs.Laws.{parent-last_name, parent-push, last_name-push}
 use Rattle.hub_path.specs.Path.{Name, Path, path_cmp, name_cmp, path_eq, parent, last_name}
 use Rattle.hub_tree.specs.Tree.{Replica, contents_at, is_absent, is_child, children}
@@ -25,28 +26,15 @@ use Rattle.hub_tree.proofs.Order.{name_total, path_total, path_antisymmetric, sa
 use Rattle.hub_tree.proofs.Ascending.{is_sorted-from}
 
 -- two lists in order that have the same items
-first : (a b : Bool) → T (a && b) → T a
-first true b p = tt
-first false b p = p
-
-second : (a b : Bool) → T (a && b) → T b
-second true b p = p
-second false b p = absurd p
-
-less : (o : Ordering) → T (is_lt o) → o ≡ Less
-less Less p = refl
-less Equal p = absurd p
-less Greater p = absurd p
-
 module _ {K X : Type 0} (R : K → K → Ordering) where
   all_above : (k : K) (es : List (K × X)) → T (below_all R k es) → AllByRecursion (λ y. R k y ≡ Less) (keys_of es)
   all_above k [] h = tt
-  all_above k (e ∷ es) h = (less _ (first (is_lt (R k e.0)) (below_all R k es) h), all_above k es (second (is_lt (R k e.0)) (below_all R k es) h))
+  all_above k (e ∷ es) h = (T-less _ (T-first (is_lt (R k e.0)) (below_all R k es) h), all_above k es (T-second (is_lt (R k e.0)) (below_all R k es) h))
 
   pub sorted_keys : (es : List (K × X)) → T (is_sorted R es) → IsStrictlySortedBy R (keys_of es)
   unfolding IsStrictlySortedBy
   sorted_keys [] h = tt
-  sorted_keys (e ∷ es) h = (all_above e.0 es (first (below_all R e.0 es) (is_sorted R es) h), sorted_keys es (second (below_all R e.0 es) (is_sorted R es) h))
+  sorted_keys (e ∷ es) h = (all_above e.0 es (T-first (below_all R e.0 es) (is_sorted R es) h), sorted_keys es (T-second (below_all R e.0 es) (is_sorted R es) h))
 
 module _ {K : Type 0} (R : K → K → Ordering) where
   marked : List K → List (K × Bool)

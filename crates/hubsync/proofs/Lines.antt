@@ -8,34 +8,20 @@ use Rattle.std.proofs.lemmas.List.{drop_all, drop_more, nil_from_length, take_at
 use denote.Ref.{Bor}
 use Rattle.hub_text.specs.declared.line.Line.{Line}
 use Rattle.hub_text.specs.Lines.{lines_of, line_text, text_of_lines, onto_first_line}
-use Rattle.hub_text.specs.LineLaws.{text_of_lines-lines_of}
+use Rattle.hub_text.specs.LineLaws.{text-first_line, shorter-first_line}
 use Rattle.hub_text.specs.Takes.{of_bytes, TakesBytes}
 use Rattle.hubsync.specs.Bundle.{is_blank, is_heading, follows_section, bytes_before_heading, written, stray_line}
-
--- Bytes are their first line and those below it.
-pub first_line : (s t : List ℕ) (l : Line (List ℕ)) → lines_of s ≡ l ∷ lines_of t → s ≡ line_text l ++ t
-first_line s t l e = sym (text_of_lines-lines_of s) ∙ (ap text_of_lines e ∙ ap (λ u. line_text l ++ u) (text_of_lines-lines_of t))
-
--- No line is without bytes.
-pub fewer_below : (s t : List ℕ) (l : Line (List ℕ)) → lines_of s ≡ l ∷ lines_of t → length t < length s
-fewer_below s t l e =
-    ⊎_elim (λ some. omega (arith, some, ap length (first_line s t l e), length-append (line_text l) t))
-    (λ none. absurd (omega (arith, ap length e, same none)))
-    (cases_lt 0 (length (line_text l)))
-  where
-    same : length (line_text l) ≤ 0 → length (lines_of s) ≡ length (lines_of t)
-    same none = ap (λ u. length (lines_of u)) (first_line s t l e ∙ ap (λ u. u ++ t) (nil_from_length (line_text l) (omega (arith, none))))
 
 -- Bytes begin with a heading exactly when their first line is one.
 pub heading_line : (s t : List ℕ) (l : Line (List ℕ)) → lines_of s ≡ l ∷ lines_of t → is_heading l.text ≡ is_heading s
 heading_line s t l e = by l.text refl l.is_ended refl
   where
     spelled : (text : List ℕ) → l.text ≡ text → (ended : Bool) → l.is_ended ≡ ended → s ≡ (if ended then text ++ 10 ∷ [] else text) ++ t
-    spelled text f ended g = first_line s t l e ∙ (λ i. (if (g i) then f i ++ 10 ∷ [] else f i) ++ t)
+    spelled text f ended g = text-first_line s t l e ∙ (λ i. (if (g i) then f i ++ 10 ∷ [] else f i) ++ t)
 
     by : (text : List ℕ) → l.text ≡ text → (ended : Bool) → l.is_ended ≡ ended → is_heading l.text ≡ is_heading s
     by [] f true g = ap is_heading f ∙ sym (ap is_heading (spelled [] f true g))
-    by [] f false g = absurd (omega (arith, fewer_below s t l e, ap length (spelled [] f false g)))
+    by [] f false g = absurd (omega (arith, shorter-first_line s t l e, ap length (spelled [] f false g)))
     by (b ∷ bs) f true g = ap is_heading f ∙ sym (ap is_heading (spelled (b ∷ bs) f true g))
     by (b ∷ bs) f false g = ap is_heading f ∙ sym (ap is_heading (spelled (b ∷ bs) f false g))
 
@@ -76,10 +62,10 @@ skip_line all s t count l so_far e going =
     let later : (n : ℕ) → written n (lines_of s) ≡ written (n + 1) (lines_of t) = λ n. ap (written n) e ∙ rw plain refl in
     record {
       front = so_far.front ++ line_text l;
-      whole = so_far.whole ∙ ap (λ u. so_far.front ++ u) (first_line s t l e) ∙ sym (append_assoc so_far.front (line_text l) t);
+      whole = so_far.whole ∙ ap (λ u. so_far.front ++ u) (text-first_line s t l e) ∙ sym (append_assoc so_far.front (line_text l) t);
       bytes = so_far.bytes ∙ ap (λ u. so_far.front ++ u) one ∙ sym (append_assoc so_far.front (line_text l) (bytes_before_heading (lines_of t)));
       below = λ n. let same : n + count + 1 ≡ n + (count + 1) = omega arith in so_far.below n ∙ later (n + count) ∙ ap (λ k. written k (lines_of t)) same;
-      fewer = omega (arith, so_far.fewer, fewer_below s t l e);
+      fewer = omega (arith, so_far.fewer, shorter-first_line s t l e);
     }
 
 -- One more line.
@@ -89,7 +75,7 @@ skip_more all s t count (Some l) so_far e going = skip_line all s t count (of_by
 
 pub skip_less : (s t : List ℕ) (r : Option (Line (Bor (List ℕ)))) → TakesBytes s r t → follows_section s ≡ false → length t < length s
 skip_less s t None none going = absurd (false≢true (sym going ∙ ap follows_section none))
-skip_less s t (Some l) e going = fewer_below s t (of_bytes l) e
+skip_less s t (Some l) e going = shorter-first_line s t (of_bytes l) e
 
 -- All lines of the section.
 pub skip_end : (all s : List ℕ) (count : ℕ) → SkippedSoFar all s count → follows_section s ≡ true → all ≡ bytes_before_heading (lines_of all) ++ s
@@ -102,13 +88,6 @@ pub section_bytes : (t u : List ℕ) → t ≡ bytes_before_heading (lines_of t)
 section_bytes t u e =
     let len : length t - length u ≡ length (bytes_before_heading (lines_of t)) = omega (arith, ap length e, length-append (bytes_before_heading (lines_of t)) u) in
     ap (take (length t - length u)) e ∙ take_at (bytes_before_heading (lines_of t)) u (length t - length u) (sym len)
-
--- The line of a turn that is numbered from 0.
-pub numbered_line : (ls : List (Line (List ℕ))) (k i : ℕ) (l : Line (List ℕ)) → (k < length (enumerate_from 0 ls)) × ((i, l) ≡ get_or (enumerate_from 0 ls) k (i, l)) → (i ≡ k) × (k < length ls) × (l ≡ get_or ls k l)
-numbered_line ls k i l turn =
-    let inside : k < length ls = omega (arith, turn.0, length-enumerate_from 0 ls) in
-    let at : (i, l) ≡ (0 + k, get_or ls k l) = turn.1 ∙ get_or-enumerate_from 0 ls k (i, l) inside in
-    (ap (λ p. p.0) at ∙ omega arith, inside, ap (λ p. p.1) at)
 
 at_line : (ls : List (Line (List ℕ))) (k : ℕ) (l : Line (List ℕ)) → k < length ls → l ≡ get_or ls k l → drop k ls ≡ l ∷ drop (k + 1) ls
 at_line ls k l h e = drop_more ls k l h ∙ ap (λ x. x ∷ drop (k + 1) ls) (sym e)
@@ -125,5 +104,5 @@ stray_found ls k l h e plain stray = ap (stray_line (k + 1)) (at_line ls k l h e
 pub no_stray : (ls : List (Line (List ℕ))) (k : ℕ) (l : Line (List ℕ)) → k < length ls → l ≡ get_or ls k l → is_heading l.text ≡ true → stray_line (k + 1) (drop k ls) ≡ None
 no_stray ls k l h e heading = ap (stray_line (k + 1)) (at_line ls k l h e) ∙ rw heading refl
 
-pub none_left : (ls : List (Line (List ℕ))) (k : ℕ) → k ≡ length (enumerate_from 0 ls) → stray_line (k + 1) (drop k ls) ≡ None
-none_left ls k e = ap (stray_line (k + 1)) (drop_all k ls (omega (arith, e, length-enumerate_from 0 ls)))
+pub none_left : (ls : List (Line (List ℕ))) (k : ℕ) → length ls ≤ k → stray_line (k + 1) (drop k ls) ≡ None
+none_left ls k e = ap (stray_line (k + 1)) (drop_all k ls (omega (arith, e)))

@@ -3,7 +3,7 @@ use Rattle.std.proofs.lemmas.Result.{err_from_is_err_and}
 use Rattle.hub_text.specs.Lines.{lines_of}
 use Rattle.hub_text.specs.Takes.{of_bytes}
 use Rattle.hubsync.specs.Bundle.{written, heading_reading, sections_reading}
-use Rattle.hubsync.proofs.Lines.{fewer_below}
+use Rattle.hub_text.specs.LineLaws.{shorter-first_line}
 use Rattle.hubsync.proofs.Sections.{below_sections, below_sections-Ok, one_section_more, faulty_section}
 use Rattle.hubsync.proofs.bundle.read_bundle.Goals as goal
 
@@ -37,5 +37,5 @@ loop-line-preserved c =
     record {
       read = before.read ∙ one_section_more c.loop-line.sections.items (above + 1) (above + (count + 1) + 1) count s t u c.take_section-count.result.0.now l c.in_ok-heading.heading e before.next says c.take_section-count.ensures.bytes c.take_section-count.ensures.below (omega arith) ∙ ap (λ ss. below_sections ss (sections_reading [] (written (above + (count + 1) + 1) (lines_of u)))) (sym c.in_ok-push.ensures.items);
       next = c.take_section-count.ensures.next;
-      fewer = omega (arith, before.fewer, fewer_below s t l e, c.take_section-count.ensures.fewer);
+      fewer = omega (arith, before.fewer, shorter-first_line s t l e, c.take_section-count.ensures.fewer);
     }

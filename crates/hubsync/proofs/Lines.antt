@@ -1,13 +1,12 @@
 -- The lines of bytes, one at a time: what is left below the next one, and what a section has of it.
-use Rattle.std.proofs.Common.{◌≡◌, Bool, true, false, ℕ, ◌+◌, ◌<◌, ◌≤◌, List, [], ◌∷◌, ◌++◌, length, get_or, drop, take, Option, Some, None, refl, sym, ap, subst, ◌∙◌, ⊎_elim, arith, append_assoc, append-nil, length-append, ◌-◌}
+use Rattle.std.proofs.Common.{◌≡◌, Bool, true, false, ℕ, ◌+◌, ◌<◌, ◌≤◌, List, [], ◌∷◌, ◌++◌, length, get_or, drop, take, Option, Some, None, refl, sym, ap, subst, ◌∙◌, arith, append_assoc, append-nil, length-append, ◌-◌}
 use Rattle.std.specs.Prelude.{if◌then◌else◌}
-use Rattle.std.specs.List.{enumerate_from, list_all}
-use Rattle.std.proofs.lemmas.List.FromFn.{length-enumerate_from, get_or-enumerate_from}
-use Rattle.std.proofs.lemmas.Bool.{cases_lt, eqb-true, false≢true}
-use Rattle.std.proofs.lemmas.List.{drop_all, drop_more, nil_from_length, take_at}
+use Rattle.std.specs.List.{list_all}
+use Rattle.std.proofs.lemmas.Bool.{eqb-true, false≢true}
+use Rattle.std.proofs.lemmas.List.{drop_all, drop_more, take_at}
 use denote.Ref.{Bor}
 use Rattle.hub_text.specs.declared.line.Line.{Line}
-use Rattle.hub_text.specs.Lines.{lines_of, line_text, text_of_lines, onto_first_line}
+use Rattle.hub_text.specs.Lines.{lines_of, line_text, onto_first_line}
 use Rattle.hub_text.specs.LineLaws.{text-first_line, shorter-first_line}
 use Rattle.hub_text.specs.Takes.{of_bytes, TakesBytes}
 use Rattle.hubsync.specs.Bundle.{is_blank, is_heading, follows_section, bytes_before_heading, written, stray_line}

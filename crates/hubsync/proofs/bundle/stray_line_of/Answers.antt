@@ -1,4 +1,4 @@
-use Rattle.std.proofs.Common.{◌≡◌, ◌∙◌, ◌+◌, ℕ, List, Option, Some, sym, ap, subst, length}
+use Rattle.std.proofs.Common.{◌∙◌, ◌+◌, ℕ, Option, Some, sym, ap, length}
 use Rattle.std.proofs.lemmas.List.{length_push}
 use Rattle.std.proofs.lemmas.Iterator.Consumers.{YieldsList-turn, YieldsList-end}
 use Rattle.hub_text.specs.Lines.{lines_of}

@@ -8,7 +8,8 @@ use Rattle.hub_glob.specs.declared.piece.Piece.{Piece}
 use Rattle.hub_glob.specs.declared.piece.Piece.TheVariants.{Run}
 use Rattle.hub_glob.specs.declared.path_spec.Kind.{Kind}
 use Rattle.hub_glob.specs.Taking.{takes}
-use Rattle.hub_text.specs.TestLaws.{head, tail, and-true, and-false, or-false, any-map}
+use Rattle.hub_text.specs.TestLaws.{head, tail, any-map}
+use Rattle.std.proofs.Math.Bool.{and-true, and-false, or-false}
 use Rattle.hub_automaton.specs.declared.alternatives.Alternatives.{Alternatives}
 use Rattle.hub_automaton.specs.declared.masks.Mask.{Mask}
 use Rattle.hub_automaton.specs.declared.masks.Mask.TheVariants as mask

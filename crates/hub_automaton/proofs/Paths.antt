@@ -10,7 +10,7 @@ use Rattle.std.proofs.lemmas.Bool.Decides.{nat_tests, Decides-like, same_from_de
 use Rattle.std.proofs.lemmas.Slice.Eq.{slice_eq-Decides}
 use Rattle.hub_path.specs.Path.{Path, name_eq, path_eq, is_name, is_place, is_path, is_forbidden, is_dots, text_of, path_of}
 use Rattle.hub_path.specs.Laws.{name_eq-decides, path_of-text_of, text_of-path_of}
-use Rattle.hub_text.specs.TestLaws.{and-true, or-false}
+use Rattle.std.proofs.Math.Bool.{and-true, or-false}
 use Rattle.hub_glob.specs.declared.piece.Piece.TheVariants.{Lit}
 use Rattle.hub_glob.specs.Glob.{pieces, no_more}
 use Rattle.hub_glob.specs.OneStep.{nonzero}

@@ -7,7 +7,7 @@ use Rattle.std.proofs.lemmas.Nat.{or_lt}
 use Rattle.std.proofs.lemmas.Nat.Bits.{bit_at-pow_same, bit_at-pow_other}
 use Rattle.std.proofs.lemmas.Bool.Decides.{nat_tests}
 use Rattle.std.proofs.Math.Nat.{pow-le-pow_right}
-use Rattle.hub_text.specs.TestLaws.{or-false}
+use Rattle.std.proofs.Math.Bool.{or-false}
 use Rattle.hub_automaton.specs.Words.{word, words_for, packed_by, packed, with_bit}
 use Rattle.hub_automaton.proofs.WordBits.{test, test-or, test-word, word_few, same_tests}
 use Rattle.hub_automaton.proofs.WordMoves.{length-take_le}

@@ -14,7 +14,8 @@ use Rattle.hub_glob.specs.declared.path_spec.Kind.TheVariants as kind
 use Rattle.hub_glob.specs.Specification.{Specification}
 use Rattle.hub_glob.specs.Glob.{glob, choices, matches, by_kind}
 use Rattle.hub_glob.specs.Taking.{takes, is_star}
-use Rattle.hub_text.specs.TestLaws.{head, tail, any-append, any-map, or-false}
+use Rattle.hub_text.specs.TestLaws.{head, tail, any-append, any-map}
+use Rattle.std.proofs.Math.Bool.{or-false}
 use Rattle.hub_glob.specs.ChoiceLaws.{glob_choices}
 use Rattle.hub_automaton.specs.Alphabet.{is_left_out, is_mentioned, class_of, mentions, piece_characters, pieces_characters, class_count, first_unmentioned, sample, IsAlphabet}
 use Rattle.hub_automaton.specs.declared.alternatives.Alternatives.{Alternatives}

@@ -5,7 +5,8 @@ use Rattle.hub_glob.specs.declared.piece.Piece.{Piece}
 use Rattle.hub_glob.specs.declared.piece.Piece.TheVariants.{Lit, Any, Run, OneOf}
 use Rattle.hub_glob.specs.Glob.{Texts, begins, piece, pieces, no_more}
 use Rattle.hub_glob.specs.Taking.{is_star}
-use Rattle.hub_text.specs.TestLaws.{agree, same, every4, and-false, or-false}
+use Rattle.hub_text.specs.TestLaws.{agree, same, every4}
+use Rattle.std.proofs.Math.Bool.{and-false, or-false}
 use Rattle.hub_glob.specs.OneStep.{nonzero, takes_run, run_step, run_end, pieces-append}
 use Rattle.hub_glob.specs.declared.piece.Next.{Next}
 use Rattle.hub_automaton.specs.Spots.{spots, starts}

@@ -10,8 +10,9 @@ use Rattle.hub_glob.specs.declared.path_spec.Kind.{Kind}
 use Rattle.hub_glob.specs.Specification.{Specification}
 use Rattle.hub_glob.specs.Glob.{glob, matches, by_kind}
 use Rattle.hub_glob.specs.Sweep.{Standing, at_start, pushed, pushed_all, is_matched}
-use Rattle.hub_glob.specs.TestLaws.{any-append, any-map, or-false}
-use Rattle.hub_glob.specs.TextChars.{name_chars}
+use Rattle.hub_text.specs.TestLaws.{any-append, any-map}
+use Rattle.std.proofs.Math.Bool.{or-false}
+use Rattle.hub_path.specs.NameFacts.{name_chars}
 use Rattle.hub_glob.proofs.Sweeps.{is_matched_text}
 
 abbrev pub slashed : Path → List ℕ

@@ -1,16 +1,12 @@
 -- The steps of reading a specification.
-use Rattle.std.proofs.Common.{◌≡◌, ℕ, suc, zero, ◌+◌, ◌-◌, ◌*◌, ◌<◌, ◌≤◌, min, Bool, true, false, ◌&&◌, ◌==◌, List, [], ◌∷◌, ◌++◌, length, drop, get_or, Option, Some, None, Result, Ok, Err, refl, sym, ap, ◌∙◌, arith, add-one, append_assoc, append-nil, ⊎_elim, Decides}
+use Rattle.std.proofs.Common.{◌≡◌, ℕ, suc, zero, ◌+◌, ◌-◌, ◌*◌, ◌<◌, ◌≤◌, min, Bool, true, false, ◌&&◌, ◌==◌, List, [], ◌∷◌, ◌++◌, length, drop, get_or, Option, Some, None, Result, Ok, Err, refl, sym, ap, ◌∙◌, arith, add-one, append_assoc, append-nil, ⊎_elim}
 use Rattle.std.specs.Prelude.{codes, if◌then◌else◌}
 use Rattle.std.specs.List.{range_with_len}
-use Rattle.std.specs.Char.{encode_utf8}
-use Rattle.std.specs.Str.{IsUtf8, chars, encode_utf8_all}
-use Rattle.std.proofs.lemmas.Str.{encodes-chars, char_from_byte, byte_from_char}
+use Rattle.std.specs.Str.{IsUtf8, chars}
 use Rattle.std.proofs.lemmas.List.{drop_more, length_push, length-drop}
 use Rattle.std.proofs.lemmas.Bool.{cases_lt}
-use Rattle.std.proofs.lemmas.Bool.Decides.{same_from_decides, Decides-like, Decides-eqb}
 use Rattle.std.proofs.Math.Nat.{mul_assoc, mul-le-mul_left}
-use Rattle.hub_path.specs.Texts.{bytes_eq-chars, is_nil, nil_ascii}
-use Rattle.hub_glob.specs.AsciiWords.{is_word}
+use Rattle.hub_text.specs.AsciiWords.{is_word}
 use Rattle.hub_glob.specs.declared.fault.GlobFault.{GlobFault}
 use Rattle.hub_glob.specs.declared.path_spec.Kind.{Kind}
 use Rattle.hub_glob.specs.declared.path_spec.Kind.TheVariants as kind
@@ -24,7 +20,7 @@ use Rattle.hub_glob.specs.declared.reading.Sign.{Sign}
 use Rattle.hub_glob.specs.declared.reading.Sign.TheVariants.{Means, Open, Comma, Close}
 use Rattle.hub_glob.specs.declared.piece.Piece.TheVariants.{Lit}
 use Rattle.hub_glob.specs.Specification.{choices_size, pattern_size, choice_count}
-use Rattle.hub_glob.specs.Reading.{character_sign, tokens, is_special, is_plain, kind_reading, signs, set_sign, members, member, range_member, then_members, Adds, ◌>>=◌, then_part, set_piece, Faults, parts, starts_with_slash, parts_of}
+use Rattle.hub_glob.specs.Reading.{character_sign, tokens, is_special, is_plain, kind_reading, signs, set_sign, members, member, range_member, then_members, Adds, ◌>>=◌, then_part, set_piece, Faults, parts, parts_of}
 
 abbrev kind_by : Bool → Bool → Bool → Bool → Result Kind GlobFault
 kind_by a b c d =
@@ -40,29 +36,6 @@ kind_word bs u = λ i. kind_by
     (is_word bs (codes "Path") u refl i)
     (is_word bs (codes "BelowPath") u refl i)
     (is_word bs (codes "Regex") u refl i)
-
-pub blank_text : (bs : List ℕ) → IsUtf8 bs → (length bs == 0) ≡ (length (chars bs) == 0)
-blank_text bs u = is_nil bs ∙ bytes_eq-chars bs [] u nil_ascii ∙ sym (is_nil (chars bs))
-
-slash_first : (bs cs : List ℕ) → IsUtf8 bs → chars bs ≡ cs → (r : Bool) → Decides r (get_or bs 0 0 ≡ 47) → r ≡ starts_with_slash cs
-slash_first bs [] u e r h =
-    let none : bs ≡ [] = sym (encodes-chars bs u) ∙ ap encode_utf8_all e in
-    let first : get_or bs 0 0 ≡ 0 = ap (λ xs. get_or xs 0 0) none in
-    no_slash r (λ t. let z : 0 ≡ 47 = sym first ∙ h.0 t in absurd (omega arith)) where
-      no_slash : (b : Bool) → (b ≡ true → ⊥) → b ≡ false
-      no_slash true f = absurd (f refl)
-      no_slash false f = refl
-slash_first bs (c ∷ cs) u e r h =
-    let whole : bs ≡ encode_utf8 c ++ encode_utf8_all cs = sym (encodes-chars bs u) ∙ ap encode_utf8_all e in
-    same_from_decides r (c == 47) h
-    (Decides-like (c == 47) (λ b. byte_from_char bs (encode_utf8_all cs) c whole (omega arith) ∙ b) (λ b. char_from_byte bs (encode_utf8_all cs) c whole (omega arith) (some bs b) ∙ b) (Decides-eqb c 47))
-  where
-    some : (xs : List ℕ) → get_or xs 0 0 ≡ 47 → 0 < length xs
-    some [] b = absurd (omega arith)
-    some (x ∷ xs) b = omega arith
-
-pub slash_text : (bs : List ℕ) (r : Bool) → IsUtf8 bs → Decides r (get_or bs 0 0 ≡ 47) → r ≡ starts_with_slash (chars bs)
-slash_text bs r u h = slash_first bs (chars bs) u refl r h
 
 -- Choices counted up to a limit.
 pub cap_step : (a l r M : ℕ) → 65 ≤ M → min (min (min (a * l) M) 65 * r) 65 ≡ min (a * (l * r)) 65

@@ -14,7 +14,8 @@ use Rattle.hub_glob.specs.declared.piece.Part.{Part}
 use Rattle.hub_glob.specs.declared.piece.TheConstants.{PATTERN_CHARACTERS, PATTERN_CHOICES}
 use Rattle.hub_glob.specs.Specification.{Specification, choice_count, is_name_kind}
 use Rattle.hub_glob.specs.Readable.{IsReadable, is_barred_start}
-use Rattle.hub_glob.specs.Blanks.{is_blank, skip_blanks}
+use Rattle.hub_text.specs.Blanks.{is_blank, skip_blanks}
+use Rattle.hub_path.specs.Reading.{begins_with_slash}
 use Rattle.hub_glob.specs.Reading.{few_choices, parts_of, pattern_reading, kind_reading, spec_reading, ◌>>=◌}
 use Rattle.hub_glob.specs.Writing.{pattern_text, kind_word, spec_text}
 use Rattle.hub_glob.proofs.Readings.{size_read}
@@ -69,6 +70,9 @@ at_ok {S = S} {T = T} r P x h e = let Q : Result S T → Type 0 = λ q. IfOk q P
 abbrev pub Readable : Kind → List Part → Type 0
 Readable k ps = IsReadable (record { kind = k; pattern = ps })
 
+slash_first : (c : ℕ) (cs : List ℕ) → begins_with_slash (c ∷ cs) ≡ (c == 47)
+slash_first c cs = grind (arith, nat_tests)
+
 pattern_readable : (k : Kind) (cs : List ℕ) → all_scalars cs ≡ true → IsUnblank cs → IfOk (pattern_reading k cs) (Readable k)
 pattern_readable k [] s u = tt
 pattern_readable k (c ∷ cs) s u =
@@ -76,12 +80,12 @@ pattern_readable k (c ∷ cs) s u =
     let read = parts_of n (c ∷ cs) in
     either_ok (length (c ∷ cs) == 0) (Readable k) (Err fault.EmptyPattern) _ (λ h. tt)
     (λ h. either_ok (nat_lt PATTERN_CHARACTERS (length (c ∷ cs))) (Readable k) (Err fault.TooLong) _ (λ l. tt)
-    (λ l. either_ok (not n && c == 47) (Readable k) (Err fault.LeadingSlash) _ (λ b. tt)
+    (λ l. either_ok (not n && begins_with_slash (c ∷ cs)) (Readable k) (Err fault.LeadingSlash) _ (λ b. tt)
     (λ b. ok_then read few_choices (λ ps. read ≡ Ok ps) (Readable k) (if_ok read _ (λ ps e. e))
     (λ ps e. either_ok (nat_lt PATTERN_CHOICES (choice_count ps)) (Readable k) (Err fault.TooManyChoices) (Ok ps) (λ m. tt)
     (λ m. record {
       parts = at_ok read _ ps (reading_fits n (c ∷ cs) s) e;
-      start = at_ok read _ ps (reading_starts (is_barred_start n) n c cs (barred_others n) (λ i. u i || b i)) e;
+      start = at_ok read _ ps (reading_starts (is_barred_start n) n c cs (barred_others n) (λ i. u i || (ap (λ t. not n && t) (sym (slash_first c cs)) ∙ b) i)) e;
       few_choices = grind (arith, nat_tests);
       few_pieces = let size = size_read n (c ∷ cs) ps e in grind (arith, nat_tests);
     })))))
@@ -103,6 +107,7 @@ pattern_back k ps f l =
     let n = is_name_kind k in
     let (c, more, e, h) = text_starts (is_barred_start n) ps (barred_others n) f.start in
     let no = or_parts (is_blank c) (not n && c == 47) h in
+    let bare : (not n && begins_with_slash (c ∷ more)) ≡ false = ap (λ t. not n && t) (slash_first c more) ∙ no.1 in
     let size : length (pattern_text ps) ≡ length (c ∷ more) = ap length e in
     let short : nat_lt PATTERN_CHARACTERS (length (c ∷ more)) ≡ false = grind (arith, nat_tests) in
     let few : nat_lt PATTERN_CHOICES (choice_count ps) ≡ false = let m = f.few_choices in grind (arith, nat_tests) in
@@ -110,7 +115,7 @@ pattern_back k ps f l =
     ∙ (λ i. pattern_reading k (if (no.0 i) then skip_blanks more else c ∷ more))
     ∙ (λ i. if (length-some c more i) then Err fault.EmptyPattern
     else (if (short i) then Err fault.TooLong
-    else (if (no.1 i) then Err fault.LeadingSlash else parts_of n (c ∷ more) >>= few_choices)))
+    else (if (bare i) then Err fault.LeadingSlash else parts_of n (c ∷ more) >>= few_choices)))
     ∙ ap (λ t. parts_of n t >>= few_choices) (sym e)
     ∙ ap (λ r. r >>= few_choices) (pattern_read n ps f.parts)
     ∙ (λ i. if (few i) then Err fault.TooManyChoices else Ok ps)

@@ -16,7 +16,8 @@ use Rattle.hub_glob.specs.Specification.{choices_size}
 use Rattle.hub_glob.specs.Glob.{Texts, piece, pieces, glob, no_more}
 use Rattle.hub_glob.specs.Sweep.{Swept, past, swept_pieces, nowhere, joined, swept_choices, swept_parts, Standing, at_start, swept, is_stuck, pruned, stuck_after, pushed_by, pushed, is_matched, pushed_all}
 use Rattle.hub_glob.specs.Taking.{takes, is_star}
-use Rattle.hub_glob.specs.TestLaws.{head, tail, and-false, and-true, or-false, or-assoc, any-and, any-or}
+use Rattle.hub_text.specs.TestLaws.{head, tail, or-assoc, any-and, any-or}
+use Rattle.std.proofs.Math.Bool.{and-false, and-true, or-false}
 use Rattle.hub_glob.specs.OneStep.{nonzero, run_step, run_end}
 
 -- past a piece that is no `*`

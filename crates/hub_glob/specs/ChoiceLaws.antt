@@ -7,7 +7,8 @@ use Rattle.hub_glob.specs.declared.piece.Piece.TheVariants.{Lit, Any, Run, OneOf
 use Rattle.hub_glob.specs.declared.piece.Part.{Part}
 use Rattle.hub_glob.specs.declared.piece.Part.TheVariants.{One, Brace}
 use Rattle.hub_glob.specs.Glob.{Texts, splits, begins, is_run, piece, pieces, glob, choices, no_more}
-use Rattle.hub_glob.specs.TestLaws.{or-false, any-false, any-and, any-or, any-map, any-append}
+use Rattle.std.proofs.Math.Bool.{or-false}
+use Rattle.hub_text.specs.TestLaws.{any-false, any-and, any-or, any-map, any-append}
 use Rattle.hub_glob.specs.OneStep.{pieces-append}
 
 any-any : {X Y : Type 0} (f : X → Y → Bool) (xs : List X) (ys : List Y) → list_any (λ x. list_any (f x) ys) xs ≡ list_any (λ y. list_any (λ x. f x y) xs) ys

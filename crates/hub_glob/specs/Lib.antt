@@ -1,5 +1,3 @@
-pub use Rattle.hub_text.specs.AsciiWords
-pub use Rattle.hub_text.specs.Blanks
 pub mod ChoiceLaws
 pub mod Choosing
 pub mod Examples
@@ -10,7 +8,4 @@ pub mod Reading
 pub mod Specification
 pub mod Sweep
 pub mod Taking
-pub use Rattle.hub_text.specs.TestLaws
-pub mod TextChars
-pub use Rattle.hub_text.specs.TextCuts
 pub mod Writing

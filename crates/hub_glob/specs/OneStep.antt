@@ -5,7 +5,8 @@ use Rattle.std.proofs.lemmas.Bool.Decides.{nat_tests}
 use Rattle.hub_glob.specs.declared.piece.Piece.{Piece}
 use Rattle.hub_glob.specs.declared.piece.Piece.TheVariants.{Run}
 use Rattle.hub_glob.specs.Glob.{Texts, splits, is_run, piece, pieces}
-use Rattle.hub_glob.specs.TestLaws.{and-false, or-false, any-false, any-map}
+use Rattle.std.proofs.Math.Bool.{and-false, or-false}
+use Rattle.hub_text.specs.TestLaws.{any-false, any-map}
 
 pub nonzero : (n : ℕ) → (suc n == 0) ≡ false
 nonzero n = grind (arith, nat_tests)

@@ -8,7 +8,7 @@ use Rattle.hub_glob.specs.declared.piece.Part.{Part}
 use Rattle.hub_glob.specs.declared.piece.Part.TheVariants.{One, Brace}
 use Rattle.hub_glob.specs.declared.piece.TheConstants.{PATTERN_CHARACTERS, PATTERN_CHOICES}
 use Rattle.hub_glob.specs.Specification.{Specification, pattern_size, choice_count, is_name_kind}
-use Rattle.hub_glob.specs.Blanks.{is_blank}
+use Rattle.hub_text.specs.Blanks.{is_blank}
 
 -- A member that is followed by a `-` and a further member is ASCII, since it is written as a range (`members_text`).
 abbrev pub IsAsciiBeforeDash : ℕ → List ℕ → Type 0

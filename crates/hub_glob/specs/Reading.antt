@@ -13,7 +13,8 @@ use Rattle.hub_glob.specs.declared.reading.Sign.TheVariants.{Means, Open, Comma,
 use Rattle.hub_glob.specs.declared.path_spec.Kind.{Kind}
 use Rattle.hub_glob.specs.declared.path_spec.Kind.TheVariants as kind
 use Rattle.hub_glob.specs.Specification.{Specification, choice_count, is_name_kind}
-use Rattle.hub_glob.specs.Blanks.{is_blank, skip_blanks}
+use Rattle.hub_text.specs.Blanks.{is_blank, skip_blanks}
+use Rattle.hub_path.specs.Reading.{begins_with_slash}
 use Rattle.hub_glob.specs.declared.fault.GlobFault.{GlobFault}
 use Rattle.hub_glob.specs.declared.fault.GlobFault.TheVariants as fault
 
@@ -134,10 +135,6 @@ parts (Some (done, current)) (Ok Open ∷ ss) = Err fault.NestedBraces
 parts (Some (done, current)) (Ok Comma ∷ ss) = parts (Some (done ++ current ∷ [], [])) ss
 parts (Some (done, current)) (Ok Close ∷ ss) = then_part (Brace (done ++ current ∷ [])) (parts None ss)
 
-abbrev pub starts_with_slash : List ℕ → Bool
-starts_with_slash [] = false
-starts_with_slash (c ∷ cs) = c == 47
-
 abbrev pub few_choices : List Part → Result (List Part) GlobFault
 few_choices ps = if nat_lt PATTERN_CHOICES (choice_count ps) then Err fault.TooManyChoices else Ok ps
 
@@ -150,7 +147,7 @@ abbrev pub pattern_reading : Kind → List ℕ → Result (List Part) GlobFault
 pattern_reading k cs =
     if length cs == 0 then Err fault.EmptyPattern
     else (if nat_lt PATTERN_CHARACTERS (length cs) then Err fault.TooLong
-    else (if not (is_name_kind k) && starts_with_slash cs then Err fault.LeadingSlash
+    else (if not (is_name_kind k) && begins_with_slash cs then Err fault.LeadingSlash
     else parts_of (is_name_kind k) cs >>= few_choices))
 
 abbrev pub kind_reading : List ℕ → Result Kind GlobFault

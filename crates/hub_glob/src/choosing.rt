@@ -4,7 +4,7 @@ ghost use Rattle.hub_glob.specs.Glob as glob;
 ghost use Rattle.hub_glob.specs.Choosing as choosing;
 
 use crate::piece::{Part, Piece};
-use hub_path::Items;
+use hub_text::Items;
 use std::alloc::{AllocError, Global};
 
 /// One list of pieces for each combination of the braces' choices, the leftmost brace varying slowest.

@@ -5,7 +5,6 @@
 //! - [`Part`] and [`Piece`] are what a pattern is made of, and `choices` lists the patterns without braces that it
 //!   stands for. `Piece::takes` says whether a piece takes a character ([`Next`]).
 //! - [`GlobFault`] says why a text is not a specification.
-//! - [`BLANKS`], [`first_word`] and [`skip_blanks`]: where a text is cut between words.
 //! - [`laws`]: a pattern matches what one of its choices matches, and a specification is read from its own text.
 //!
 //! Only functions that return a `Result` allocate.
@@ -13,12 +12,10 @@
 //! `Name *.{tmp, bak}` matches `x.tmp`, `d/x.tmp` and `x. bak`, and neither `x.bak` nor `.x.tmp`.
 //!
 //! The contracts are in the words of `specs/Glob` (what is matched), `specs/Taking` (what one piece takes),
-//! `specs/Reading` and `specs/Blanks` (what is read), `specs/Readable` (what holds of each specification that is read)
-//! and `specs/Writing`. `specs/OneStep`, `specs/TestLaws` and `specs/TextCuts` have lemmas for the proofs of the crates
-//! above.
+//! `specs/Reading` (what is read), `specs/Readable` (what holds of each specification that is read) and `specs/Writing`.
+//! `specs/OneStep` and `specs/ChoiceLaws` have lemmas for the proofs of the crates above.
 #![tactic(auto)]
 
-mod blank;
 mod choosing;
 mod fault;
 pub mod laws;
@@ -28,7 +25,6 @@ mod reading;
 mod sweep;
 mod writing;
 
-pub use blank::{BLANKS, first_word, skip_blanks};
 pub use fault::GlobFault;
 pub use path_spec::{Kind, PathSpec};
 pub use piece::{Next, PATTERN_CHARACTERS, PATTERN_CHOICES, Part, Piece};

@@ -13,7 +13,8 @@ use crate::piece::{PATTERN_CHARACTERS, Part, Piece};
 use crate::reading::{read_kind, read_pattern, split_kind};
 use crate::sweep::Walk;
 use crate::writing::text_of;
-use hub_path::{Items, RelPath};
+use hub_path::RelPath;
+use hub_text::Items;
 use std::alloc::{AllocError, Global};
 use std::marker::Model;
 

@@ -1,7 +1,7 @@
 ghost use Rattle.std.specs.Prelude.{◌≡◌};
 ghost use Rattle.hub_glob.specs.Taking as taking;
 
-use hub_path::Items;
+use hub_text::Items;
 
 /// The most characters of a pattern that is read from a text, and so the most pieces (this project's choice).
 pub const PATTERN_CHARACTERS: usize = 200;

@@ -4,14 +4,13 @@ ghost use Rattle.std.specs.List.{before_first, after_first, range_with_len};
 ghost use Rattle.hub_glob.specs.declared.fault.GlobFault.{GlobFault};
 ghost use Rattle.hub_glob.specs.declared.reading.Sign.{Sign as SignValue};
 ghost use Rattle.hub_glob.specs.Specification as specification;
-ghost use Rattle.hub_glob.specs.Blanks as blanks;
+ghost use Rattle.hub_text.specs.Blanks as blanks;
 ghost use Rattle.hub_glob.specs.Reading as reading;
 
-use crate::blank::{first_word, skip_blanks};
 use crate::fault::GlobFault;
 use crate::path_spec::Kind;
 use crate::piece::{PATTERN_CHARACTERS, PATTERN_CHOICES, Part, Piece};
-use hub_path::Items;
+use hub_text::{Items, begins_with, first_word, is_empty, skip_blanks};
 use std::alloc::{AllocError, Global};
 use std::mem;
 
@@ -86,7 +85,7 @@ pub(crate) fn read_pattern(
         return Err(GlobFault::TooLong);
     }
     let in_name = is_name_kind(kind);
-    if !in_name && begins_with_slash(pattern) {
+    if !in_name && begins_with(pattern, '/') {
         return Err(GlobFault::LeadingSlash);
     }
     let parts = read_parts(alloc, in_name, pattern)?;
@@ -94,12 +93,6 @@ pub(crate) fn read_pattern(
         return Err(GlobFault::TooManyChoices);
     }
     Ok(parts)
-}
-
-fn is_empty(pattern: &str) -> bool
-    ensures { result ≡ (length (chars pattern.now) == 0) }
-{
-    pattern.is_empty()
 }
 
 fn is_long(pattern: &str) -> bool
@@ -118,12 +111,6 @@ fn is_name_kind(kind: Kind) -> bool
     ensures { result ≡ specification.is_name_kind kind }
 {
     matches!(kind, Kind::Name)
-}
-
-fn begins_with_slash(pattern: &str) -> bool
-    ensures { result ≡ reading.starts_with_slash (chars pattern.now) }
-{
-    pattern.starts_with('/')
 }
 
 /// The parts of a pattern.

@@ -7,7 +7,7 @@ ghost use Rattle.arrayvec.specs.ArrayVec.{array_vec_len};
 
 use crate::piece::{Next, PATTERN_CHARACTERS, Part, Piece};
 use arrayvec::ArrayVec;
-use hub_path::Items;
+use hub_text::Items;
 use std::marker::Model;
 
 /// Whether a match may stand at a place: of the text before a character, and of the text with it.

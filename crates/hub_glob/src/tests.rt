@@ -1,8 +1,5 @@
 //! Values worked out by hand from the rules.
-use crate::{
-    GlobFault, Kind, Next, PATTERN_CHARACTERS, PATTERN_CHOICES, PathSpec, Piece, first_word,
-    skip_blanks,
-};
+use crate::{GlobFault, Kind, Next, PATTERN_CHARACTERS, PATTERN_CHOICES, PathSpec, Piece};
 use hub_path::RelPath;
 use std::alloc::{AllocError, Global};
 use std::test::Fail;
@@ -318,13 +315,5 @@ fn pieces_take_characters(rt: HostRuntime) -> Result<(), Fail> {
         let stars = choice.as_slice().iter().filter(|piece| piece.is_star());
         assert_eq!(rt; stars.count(), 1);
     }
-    Ok(())
-}
-
-#[test]
-fn words_end_at_blanks(rt: HostRuntime) -> Result<(), Fail> {
-    assert_eq!(rt; first_word("a\t b"), ("a", " b"));
-    assert_eq!(rt; first_word("ab"), ("ab", ""));
-    assert_eq!(rt; skip_blanks(" \t b "), "b ");
     Ok(())
 }

@@ -5,7 +5,7 @@ ghost use Rattle.hub_glob.specs.Writing as writing;
 use crate::path_spec::Kind;
 use crate::piece::{Part, Piece};
 use crate::reading::is_special;
-use hub_path::Items;
+use hub_text::Items;
 use std::alloc::{AllocError, Global};
 
 /// The text of a specification.

@@ -1,5 +1,5 @@
 -- Slashes and letters of a text, by its bytes and by its characters.
-use Rattle.std.proofs.Common.{lit<, ◌≡◌, ◌≢◌, ◌==◌, ℕ, ◌<◌, ◌≤◌, ⊎_elim, Bool, true, false, cond, ◌&&◌, eqb, List, [], ◌∷◌, ◌++◌, refl, sym, ap, ◌∙◌, arith}
+use Rattle.std.proofs.Common.{lit<, ◌≡◌, ◌≢◌, ℕ, ◌≤◌, ⊎_elim, Bool, true, false, cond, ◌&&◌, eqb, List, [], ◌∷◌, ◌++◌, refl, sym, ap, ◌∙◌, arith}
 use Rattle.std.specs.Prelude.{nat_eq, codes, Option, Some, None, MatchOption}
 use denote.Ref.{Bor}
 use Rattle.std.specs.List.{starts_with}
@@ -9,9 +9,7 @@ use Rattle.std.proofs.lemmas.Str.{encode_ascii, encodes-chars, chars_past_char}
 use borrow.Author.Tests.{eqb-true}
 use Rattle.std.proofs.lemmas.Bool.Decides.{nat_tests}
 use Rattle.hub_path.specs.Reading.{begins_with_slash, is_letter, after_letters, has_scheme}
-use Rattle.hub_text.specs.Ascii.{first_byte, starts-chars}
-use Rattle.hub_text.specs.Ascii.{starts-text}
-pub use Rattle.hub_text.specs.Ascii.{without_last-push, without_last-cases, without_last-found, without_last-none}
+use Rattle.hub_text.specs.Ascii.{first_byte, starts-chars, starts-text}
 
 not_letter : (c : ℕ) → 128 ≤ c → is_letter c ≡ false
 not_letter c h = grind (arith, nat_tests)

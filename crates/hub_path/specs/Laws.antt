@@ -1,5 +1,5 @@
 -- What holds of paths: prefixes, parents, order and texts.
-use Rattle.std.proofs.Common.{◌≡◌, ◌≢◌, ◌==◌, ◌⊎◌, inl, inr, ⊎_elim, cond, ℕ, ◌≤◌, Bool, true, false, not, ◌&&◌, ◌||◌, List, [], ◌∷◌, ◌++◌, length, drop, refl, sym, ap, ◌∙◌, arith, append-nil, append_assoc, length-append, subst}
+use Rattle.std.proofs.Common.{◌≡◌, ◌≢◌, ◌==◌, ◌⊎◌, inl, inr, ⊎_elim, cond, ℕ, ◌≤◌, Bool, true, false, not, ◌||◌, List, [], ◌∷◌, ◌++◌, length, drop, refl, sym, ap, ◌∙◌, arith, append-nil, append_assoc, length-append, subst}
 use Rattle.std.specs.Prelude.{IsTrue, ◌↔◌, Option, None, Some, Ok}
 use Rattle.std.specs.Bool.{Decides}
 use Rattle.std.specs.List.{list_all, onto_first}
@@ -10,13 +10,13 @@ use Rattle.std.proofs.lemmas.Bool.{and_parts}
 use Rattle.std.proofs.lemmas.Bool.Decides.{nat_tests, Decides-eqb}
 use Rattle.std.proofs.lemmas.Slice.Eq.{bytes_eq-Decides, starts_is}
 use Rattle.std.proofs.lemmas.List.Splits.{join_with_byte-slice_split}
-use Rattle.std.specs.Str.{all_scalars}
 use Rattle.std.specs.declared.cmp.Ordering.TheVariants.{Less, Equal}
 use Rattle.std.proofs.lemmas.List.Folds.{list_all-append}
 use Rattle.hub_path.specs.declared.fault.PathFault.{PathFault}
 use Rattle.hub_path.specs.declared.fault.PathFault.TheVariants.{Empty, NotAbsolute, RemoteRoot}
 use Rattle.hub_path.specs.Reading.{names_fault, begins_with_slash, is_remote, or_fault, path_fault, path_reading, root_fault, root_names, root_reading, place_of, without_last_slash}
-use Rattle.hub_path.specs.Path.{Name, Path, name_eq, name_cmp, path_cmp, is_forbidden, is_dots, is_name, is_place, is_path, is_over, parent, last_name, text_of, path_of}
+use Rattle.hub_path.specs.NameFacts.{name_parts}
+use Rattle.hub_path.specs.Path.{Name, Path, name_eq, name_cmp, path_cmp, is_forbidden, is_name, is_place, is_path, is_over, parent, last_name, text_of, path_of}
 
 -- Names are equal exactly where the test says so.
 pub name_eq-decides : (a b : Name) → Decides (name_eq a b) (a ≡ b)
@@ -150,12 +150,6 @@ last_of_four : (a b c d : Bool) → not (a || b || c || d) ≡ true → not d �
 last_of_four a b c true h = elim a as (λ x. not (x || b || c || true) ≡ true → false ≡ true) [ true ↦ λ k. k | false ↦ elim b as (λ x. not (false || x || c || true) ≡ true → false ≡ true) [ true ↦ λ k. k | false ↦ elim c as (λ x. not (false || false || x || true) ≡ true → false ≡ true) [ true ↦ λ k. k | false ↦ λ k. k ] ] ] h
 last_of_four a b c false h = refl
 
-third_of_four : (a b c d : Bool) → (a && b && c && d) ≡ true → c ≡ true
-third_of_four true true true d h = refl
-third_of_four true true false d h = h
-third_of_four true false c d h = cc
-third_of_four false b c d h = cc
-
 all_apart : (n : Name) → list_all (λ c. not (is_forbidden c)) n ≡ true → list_all is_apart n ≡ true
 all_apart [] h = refl
 all_apart (c ∷ n) h =
@@ -164,7 +158,7 @@ all_apart (c ∷ n) h =
 
 -- A name has no slash.
 pub name-apart : (n : Name) → IsTrue (is_name n) → list_all is_apart n ≡ true
-name-apart n h = all_apart n (third_of_four (not (length n == 0)) (all_scalars n) (list_all (λ c. not (is_forbidden c)) n) (not (is_dots n)) h)
+name-apart n h = all_apart n (name_parts n h).allowed
 
 not_cut : (t : Bool) (c : ℕ) (ps qs : List (List ℕ)) → not t ≡ true → cond t ps (onto_first c qs) ≡ onto_first c qs
 not_cut true c ps qs h = cc

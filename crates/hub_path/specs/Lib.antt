@@ -1,11 +1,10 @@
 pub mod Path
 pub mod Reading
-pub mod Parts
 pub mod Laws
 pub mod Examples
-pub use Rattle.hub_text.specs.Texts
 pub mod NameFacts
 pub mod ReadBack
 pub mod ReadNames
 pub mod Ascii
+pub mod Hashes
 pub mod TextLaws

@@ -1,19 +1,36 @@
--- What a text without a fault is.
-use Rattle.std.proofs.Common.{◌≡◌, Bool, true, false, not, ◌&&◌, ◌||◌, ℕ, List, [], ◌∷◌, Some, None, refl, cond}
+-- What a name is, and a text without a fault.
+use Rattle.std.proofs.Common.{◌≡◌, Bool, true, false, not, ◌&&◌, ℕ, List, Some, None, refl, cond, ap, ◌∙◌}
 use Rattle.std.specs.List.{list_any, list_all}
-use Rattle.std.specs.Prelude.{IsTrue, length, ◌==◌, nat_lt, sum_by}
+use Rattle.std.specs.Prelude.{IsTrue, length, ◌==◌, nat_lt, sum_by, chars, encode_utf8_all}
 use Rattle.std.specs.Char.{len_utf8}
 use Rattle.std.specs.Str.{all_scalars}
-use Rattle.hub_path.specs.Path.{is_name, is_forbidden, is_dots}
+use Rattle.std.proofs.lemmas.Bool.{and_parts}
+use Rattle.std.proofs.lemmas.Str.{chars-encodes}
+use Rattle.hub_text.specs.TestLaws.{list_all-not}
+use Rattle.hub_path.specs.Path.{Name, is_name, is_forbidden, is_dots}
 use Rattle.hub_path.specs.Reading.{name_fault}
 use Rattle.hub_path.specs.declared.fault.PathFault.{PathFault}
 use Rattle.hub_path.specs.declared.fault.PathFault.TheVariants.{EmptyName, DotName, BadCharacter, NameTooLong}
 use Rattle.hub_path.specs.declared.name.TheConstants.{NAME_BYTES}
 
--- No item passes a test exactly where each fails it.
-pub list_all-not : {X : Type 0} (p : X → Bool) (xs : List X) → list_all (λ x. not (p x)) xs ≡ not (list_any p xs)
-list_all-not p [] = refl
-list_all-not p (x ∷ xs) = elim (p x) as (λ b. (not b && list_all (λ y. not (p y)) xs) ≡ not (b || list_any p xs)) [ true ↦ refl | false ↦ list_all-not p xs ]
+-- What holds of each name.
+pub record NameParts (n : Name) : Type 0 where
+  pub some : not (length n == 0) ≡ true
+  pub scalars : all_scalars n ≡ true
+  pub allowed : list_all (λ c. not (is_forbidden c)) n ≡ true
+
+pub name_parts : (n : Name) → IsTrue (is_name n) → NameParts n
+name_parts n h =
+    let some = not (length n == 0) in
+    let allowed = list_all (λ c. not (is_forbidden c)) n in
+    let proper = and_parts (some && all_scalars n && allowed) (not (is_dots n)) h in
+    let last = and_parts (some && all_scalars n) allowed proper.0 in
+    let first = and_parts some (all_scalars n) last.0 in
+    record { some = first.0; scalars = first.1; allowed = last.1 }
+
+-- The characters of a name's text are the name.
+pub name_chars : (n bs : List ℕ) → bs ≡ encode_utf8_all n → IsTrue (is_name n) → chars bs ≡ n
+name_chars n bs e h = ap chars e ∙ chars-encodes n (name_parts n h).scalars
 
 -- A chain of tests that gives no fault has passed each test.
 pub none_of_four : (a b c d : Bool) (e f g h : PathFault) → cond a (Some e) (cond b (Some f) (cond c (Some g) (cond d (Some h) None))) ≡ None → (a ≡ false) × (b ≡ false) × (c ≡ false)

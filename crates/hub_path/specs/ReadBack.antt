@@ -1,7 +1,7 @@
 -- What is a name, a path or a root within the readers' limits is read from its text.
-use Rattle.std.proofs.Common.{◌≡◌, ◌==◌, ℕ, ◌+◌, ◌<◌, ◌≤◌, Bool, true, false, not, ◌&&◌, ◌||◌, cond, List, [], ◌∷◌, ◌++◌, length, drop, refl, sym, ap, ◌∙◌, arith}
-use Rattle.std.specs.Prelude.{IsTrue, Option, Some, None, Result, Ok, Err, nat_eq, nat_le, nat_lt, sum_by}
-use Rattle.std.specs.List.{list_all, list_any, starts_with}
+use Rattle.std.proofs.Common.{◌≡◌, ◌==◌, ℕ, ◌+◌, ◌<◌, ◌≤◌, Bool, true, false, not, ◌&&◌, cond, List, [], ◌∷◌, ◌++◌, length, refl, sym, ap, ◌∙◌, arith}
+use Rattle.std.specs.Prelude.{IsTrue, Some, None, Ok, nat_eq, nat_le, nat_lt, sum_by}
+use Rattle.std.specs.List.{list_all, list_any}
 use Rattle.std.specs.Char.{len_utf8}
 use Rattle.std.specs.Str.{all_scalars}
 use Rattle.std.proofs.lemmas.Bool.{and_parts, and_from}
@@ -9,7 +9,7 @@ use Rattle.std.proofs.lemmas.Bool.Decides.{nat_tests}
 use Rattle.hub_path.specs.Path.{Name, Path, is_name, is_place, is_path, is_forbidden, is_dots, text_of, path_of}
 use Rattle.hub_path.specs.Reading.{name_fault, name_reading, names_fault, path_reading, path_fault, root_reading, root_fault, root_names, place_of, without_last_slash, or_fault, is_short_name, is_short_path}
 use Rattle.hub_path.specs.Laws.{path_of-text_of, name-apart, is_apart}
-use Rattle.hub_path.specs.NameFacts.{list_all-not}
+use Rattle.hub_text.specs.TestLaws.{list_all-not}
 use Rattle.hub_path.specs.declared.fault.PathFault.{PathFault}
 use Rattle.hub_path.specs.declared.fault.PathFault.TheVariants.{EmptyName, DotName, BadCharacter, NameTooLong}
 use Rattle.hub_path.specs.declared.name.TheConstants.{NAME_BYTES}
@@ -55,6 +55,9 @@ no_names_fault p h short =
     let parts = and_parts (nat_le (length p) PATH_NAMES) (list_all is_short_name p) short in
     names_fault-none 0 p h parts.1 (omega (arith, at_most (length p) PATH_NAMES parts.0))
 
+pub path-place : (p : Path) → IsTrue (is_path p) → IsTrue (is_place p)
+path-place p h = (and_parts (not (length p == 0)) (is_place p) h).1
+
 -- The text of a path begins with a character other than a slash.
 record Begins (t : List ℕ) : Type 0 where
   first : ℕ
@@ -84,14 +87,16 @@ no_fault t b =
     ap path_fault b.are
     ∙ rw (some_first b.first b.rest, apart-slash b.first b.apart) (ap (λ u. names_fault 0 (path_of u)) (sym b.are))
 
--- A path is read from its text.
-pub path_reading-short : (p : Path) → IsTrue (is_path p) → IsTrue (is_short_path p) → path_reading (text_of p) ≡ Ok p
-path_reading-short [] h short = cc
-path_reading-short (n ∷ p) h short =
+-- A path whose names have no fault is read from its text.
+pub path_reading-names : (p : Path) → IsTrue (is_path p) → names_fault 0 p ≡ None → path_reading (text_of p) ≡ Ok p
+path_reading-names [] h fine = cc
+path_reading-names (n ∷ p) h fine =
     let same : path_of (text_of (n ∷ p)) ≡ n ∷ p = path_of-text_of (n ∷ p) h in
-    let place = (and_parts (not (length (n ∷ p) == 0)) (is_place (n ∷ p)) h).1 in
-    ap (λ f. or_fault f (path_of (text_of (n ∷ p)))) (no_fault (text_of (n ∷ p)) (text-begins n p place) ∙ ap (names_fault 0) same ∙ no_names_fault (n ∷ p) place short)
+    ap (λ f. or_fault f (path_of (text_of (n ∷ p)))) (no_fault (text_of (n ∷ p)) (text-begins n p (path-place (n ∷ p) h)) ∙ ap (names_fault 0) same ∙ fine)
     ∙ ap Ok same
+
+pub path_reading-short : (p : Path) → IsTrue (is_path p) → IsTrue (is_short_path p) → path_reading (text_of p) ≡ Ok p
+path_reading-short p h short = path_reading-names p h (no_names_fault p (path-place p h) short)
 
 -- The text of a place doesn't end with a slash.
 without_last-more : (xs : List ℕ) (c : ℕ) (ys : List ℕ) → without_last 47 (xs ++ c ∷ ys) ≡ xs ++ without_last 47 (c ∷ ys)
@@ -138,7 +143,10 @@ root_fault-text [] h = refl
 root_fault-text (n ∷ p) h = root_fault-begun (text_of (n ∷ p)) (text-begins n p h)
 
 -- A root is read from its text, which is a slash and that of its names.
-pub root_reading-short : (r : Path) → IsTrue (is_place r) → IsTrue (is_short_path r) → root_reading (47 ∷ text_of r) ≡ Ok r
-root_reading-short r h short =
-    ap (λ f. or_fault f (root_names (47 ∷ text_of r))) (root_fault-text r h ∙ ap (names_fault 0) (root_names-text r h) ∙ no_names_fault r h short)
+pub root_reading-names : (r : Path) → IsTrue (is_place r) → names_fault 0 r ≡ None → root_reading (47 ∷ text_of r) ≡ Ok r
+root_reading-names r h fine =
+    ap (λ f. or_fault f (root_names (47 ∷ text_of r))) (root_fault-text r h ∙ ap (names_fault 0) (root_names-text r h) ∙ fine)
     ∙ ap Ok (root_names-text r h)
+
+pub root_reading-short : (r : Path) → IsTrue (is_place r) → IsTrue (is_short_path r) → root_reading (47 ∷ text_of r) ≡ Ok r
+root_reading-short r h short = root_reading-names r h (no_names_fault r h short)

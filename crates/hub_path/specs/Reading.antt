@@ -1,13 +1,13 @@
 -- Which texts are names, paths and roots, and the first fault of each other text.
-use Rattle.std.specs.Prelude.{ℕ, ◌+◌, Bool, false, not, ◌&&◌, ◌||◌, ◌==◌, nat_lt, nat_le, nat_eq, drop, sum_by, codes, List, [], ◌∷◌, length, Option, Some, None, Result, Ok, Err, if◌then◌else◌}
+use Rattle.std.specs.Prelude.{◌≡◌, ◌⊎◌, ℕ, ◌+◌, Bool, false, not, ◌&&◌, ◌||◌, ◌==◌, nat_lt, nat_le, nat_eq, drop, sum_by, codes, List, [], ◌∷◌, length, Option, Some, None, Result, Ok, Err, if◌then◌else◌}
 use Rattle.std.specs.List.{list_all, list_any, starts_with}
 use Rattle.std.specs.Char.{len_utf8}
-pub use Rattle.hub_text.specs.Lines.{without_last}
+use Rattle.hub_text.specs.Lines.{without_last}
 use Rattle.hub_path.specs.Path.{Name, Path, path_of, is_forbidden, is_dots}
 use Rattle.hub_path.specs.declared.name.TheConstants.{NAME_BYTES}
 use Rattle.hub_path.specs.declared.rel_path.TheConstants.{PATH_NAMES}
 use Rattle.hub_path.specs.declared.fault.PathFault.{PathFault}
-use Rattle.hub_path.specs.declared.fault.PathFault.TheVariants.{Empty, EmptyName, DotName, BadCharacter, NameTooLong, TooDeep, LeadingSlash, NotAbsolute, RemoteRoot}
+use Rattle.hub_path.specs.declared.fault.PathFault.TheVariants.{Empty, EmptyName, DotName, BadCharacter, NameTooLong, TooDeep, LeadingSlash, NotAbsolute, RemoteRoot, OutOfMemory}
 
 -- What is wrong with a name: the first of these. A name that is read takes at most NAME_BYTES bytes.
 abbrev pub name_fault : Name → Option PathFault
@@ -28,6 +28,10 @@ is_short_name n = nat_le (sum_by len_utf8 n) NAME_BYTES
 
 abbrev pub is_short_path : Path → Bool
 is_short_path p = nat_le (length p) PATH_NAMES && list_all is_short_name p
+
+-- The fault of a reading, or out of memory.
+abbrev pub FailsAs : {T : Type 0} → Result T PathFault → PathFault → Type 0
+FailsAs reading e = (e ≡ OutOfMemory) ⊎ (reading ≡ Err e)
 
 -- A text is a name, or has a fault.
 abbrev pub name_reading : List ℕ → Result Name PathFault

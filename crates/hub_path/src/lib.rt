@@ -27,7 +27,6 @@ mod tests;
 mod text;
 
 pub use fault::PathFault;
-pub use hub_text::Items;
 pub use name::{NAME_BYTES, Name};
 pub use rel_path::{PATH_NAMES, RelPath};
 pub use root::Root;

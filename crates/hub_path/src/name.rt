@@ -1,8 +1,8 @@
-ghost use Rattle.std.specs.Prelude.{◌≡◌, ◌⊎◌, ◌==◌, ◌&&◌, not, length, nat_lt, sum_by, Ok, Err, IfOk, IfErr, IfSome, IsTrue, chars, encode_utf8_all};
+ghost use Rattle.std.specs.Prelude.{◌≡◌, ◌==◌, ◌&&◌, not, length, nat_lt, sum_by, Ok, IfOk, IfErr, IfSome, IsTrue, chars, encode_utf8_all};
 ghost use Rattle.std.specs.List.{list_any};
 ghost use Rattle.std.specs.Char.{len_utf8};
 ghost use Rattle.hub_path.specs.Path as path;
-ghost use Rattle.hub_path.specs.Reading.{name_reading, name_fault};
+ghost use Rattle.hub_path.specs.Reading.{FailsAs, name_reading, name_fault};
 
 use crate::fault::PathFault;
 use hub_text::{compare, is_empty};
@@ -45,7 +45,7 @@ impl Name {
     /// that is a name.
     pub fn read(alloc: Global, text: &str) -> Result<Name, PathFault>
         ensures ok { IfOk result (λ n. name_reading (chars text.now) ≡ Ok n) }
-        ensures err { IfErr result (λ e. (e ≡ PathFault.OutOfMemory) ⊎ (name_reading (chars text.now) ≡ Err e)) }
+        ensures err { IfErr result (FailsAs (name_reading (chars text.now))) }
         ensures valid { IfOk result (λ n. IsTrue (path.is_name n)) }
     {
         match fault_of_name(text) {
@@ -156,12 +156,11 @@ fn is_forbidden(c: char) -> bool
 impl Hash for Name {
     ghost use Rattle.std.specs.Prelude.{encode_utf8_all};
     ghost use Rattle.std.specs.Hash as fed;
-    ghost use Rattle.std.proofs.Common.{ap};
-    ghost use Rattle.std.proofs.lemmas.Slice.Eq.{bytes_eq-Decides};
+    ghost use Rattle.hub_path.specs.Hashes.{name_hashed};
 
     ghost hash_input = { λ n. fed.str (encode_utf8_all n) };
 
-    ghost respects_eq = { λ x y h. ap (λ n. fed.str (encode_utf8_all n)) ((bytes_eq-Decides x y).0 h) };
+    ghost respects_eq = { name_hashed };
 
     fn hash<H: Hasher>(&self, state: &mut H) {
         self.text().hash(state);

@@ -1,14 +1,12 @@
-ghost use Rattle.std.specs.Prelude.{◌≡◌, ◌⊎◌, ◌<◌, ◌↔◌, [], ◌∷◌, ◌++◌, length, slice_get, Some, Ok, Err, IfOk, IfErr, IfSome, IsNone, IsTrue, chars, string_bytes, encode_utf8_all};
+ghost use Rattle.std.specs.Prelude.{◌≡◌, ◌<◌, ◌↔◌, [], ◌∷◌, ◌++◌, length, slice_get, Some, Ok, IfOk, IfErr, IfSome, IsNone, IsTrue, chars, string_bytes, encode_utf8_all};
 ghost use Rattle.hub_path.specs.Path as path;
-ghost use Rattle.hub_path.specs.Reading.{path_reading, names_reading, place_of};
+ghost use Rattle.hub_path.specs.Reading.{FailsAs, path_reading, names_reading, place_of};
 
 use crate::fault::PathFault;
 use crate::name::Name;
 use crate::text::begins_with_slash;
-use hub_text::is_empty;
+use hub_text::{Items, is_empty};
 use std::alloc::{AllocError, Global};
-use std::cmp::Ordering;
-use std::hash::{Hash, Hasher};
 use std::marker::Model;
 
 /// How many names a path or a root may have that `read` reads (this project's choice).
@@ -17,9 +15,9 @@ pub const PATH_NAMES: usize = 64;
 /// A path inside a replica: its names, from the top down. The path without names stands for the whole replica.
 ///
 /// Paths are compared name by name, and a prefix comes first: `a/b` is before `a-b`.
-#[derive(Debug, Drop)]
+#[derive(Debug, Drop, PartialEq, Eq, PartialOrd, Ord, Hash)]
 pub struct RelPath {
-    names: Vec<Name>,
+    names: Items<Name>,
 }
 
 impl Model for RelPath {
@@ -28,9 +26,11 @@ impl Model for RelPath {
 
     ghost Value = { List (List ℕ) };
 
-    ghost view = { λ a. a.names.items };
+    ghost view = { λ a. a.names };
 
-    ghost invariant = { λ a. IsTrue (is_place a.names.items) };
+    ghost inverse = { λ p. record { names = p } };
+
+    ghost invariant = { λ a. IsTrue (is_place a.names) };
 }
 
 impl RelPath {
@@ -39,7 +39,7 @@ impl RelPath {
         ensures { result ≡ [] }
     {
         RelPath {
-            names: Vec::new(alloc),
+            names: Items::new(alloc),
         }
     }
 
@@ -51,7 +51,7 @@ impl RelPath {
     /// a name was read.
     pub fn read(alloc: Global, text: &str) -> Result<RelPath, PathFault>
         ensures ok { IfOk result (λ p. path_reading (chars text.now) ≡ Ok p) }
-        ensures err { IfErr result (λ e. (e ≡ PathFault.OutOfMemory) ⊎ (path_reading (chars text.now) ≡ Err e)) }
+        ensures err { IfErr result (FailsAs (path_reading (chars text.now))) }
         ensures valid { IfOk result (λ p. IsTrue (path.is_path p)) }
     {
         if is_empty(text) {
@@ -61,7 +61,7 @@ impl RelPath {
             return Err(PathFault::LeadingSlash);
         }
         Ok(RelPath {
-            names: read_names(alloc, text)?,
+            names: Items::from_vec(read_names(alloc, text)?),
         })
     }
 
@@ -79,6 +79,7 @@ impl RelPath {
                 None => return Ok(None),
             }
         }
+        let names = Items::from_vec(names);
         Ok(Some(RelPath { names }))
     }
 
@@ -87,7 +88,7 @@ impl RelPath {
     pub fn text(&self) -> Result<String, AllocError>
         ensures { IfOk result (λ t. string_bytes t ≡ encode_utf8_all (path.text_of self.now)) }
     {
-        joined(*self.names.allocator(), self.names.as_slice())
+        joined(self.names.alloc(), self.names.as_slice())
     }
 
     /// Returns the number of names. The whole replica has 0.
@@ -105,7 +106,7 @@ impl RelPath {
         ensures name { slice_get self.now i ≡ Some result.now }
         ensures valid { IsTrue (path.is_place self.now) }
     {
-        &self.names[i]
+        &self.names.as_slice()[i]
     }
 
     /// Returns whether the given path is a prefix of this one, by names. Each path is a prefix of itself.
@@ -114,7 +115,7 @@ impl RelPath {
     pub fn starts_with(&self, prefix: &RelPath) -> bool
         ensures { result ≡ path.is_over prefix.now self.now }
     {
-        self.names.starts_with(prefix.names.as_slice())
+        self.names.as_slice().starts_with(prefix.names.as_slice())
     }
 
     /// Copies the path without its last name. The parent of a path of one name is the whole replica, and the whole
@@ -126,7 +127,7 @@ impl RelPath {
         match self.names.as_slice() {
             [] => Ok(None),
             [front @ .., _] => Ok(Some(RelPath {
-                names: copies(*self.names.allocator(), front)?,
+                names: Items::from_vec(copies(self.names.alloc(), front)?),
             })),
         }
     }
@@ -147,7 +148,7 @@ impl RelPath {
         ensures { IfOk result (λ p. p ≡ self.now) }
     {
         Ok(RelPath {
-            names: copies(*self.names.allocator(), self.names.as_slice())?,
+            names: Items::from_vec(copies(self.names.alloc(), self.names.as_slice())?),
         })
     }
 }
@@ -166,21 +167,21 @@ fn copies(alloc: Global, names: &[Name]) -> Result<Vec<Name>, AllocError>
 /// Reads the path of a text, which may be empty: then it is that of the whole replica.
 pub(crate) fn read_place(alloc: Global, text: &str) -> Result<RelPath, PathFault>
     ensures ok { IfOk result (λ p. names_reading (place_of (chars text.now)) ≡ Ok p) }
-    ensures err { IfErr result (λ e. (e ≡ PathFault.OutOfMemory) ⊎ (names_reading (place_of (chars text.now)) ≡ Err e)) }
+    ensures err { IfErr result (FailsAs (names_reading (place_of (chars text.now)))) }
     ensures valid { IfOk result (λ p. IsTrue (path.is_place p)) }
 {
     if is_empty(text) {
         return Ok(RelPath::top(alloc));
     }
     Ok(RelPath {
-        names: read_names(alloc, text)?,
+        names: Items::from_vec(read_names(alloc, text)?),
     })
 }
 
 /// Reads the names of a text, which are joined by `/`.
 fn read_names(alloc: Global, text: &str) -> Result<Vec<Name>, PathFault>
     ensures ok { IfOk result (λ v. names_reading (path.path_of (chars text.now)) ≡ Ok v.items) }
-    ensures err { IfErr result (λ e. (e ≡ PathFault.OutOfMemory) ⊎ (names_reading (path.path_of (chars text.now)) ≡ Err e)) }
+    ensures err { IfErr result (FailsAs (names_reading (path.path_of (chars text.now)))) }
     ensures valid { IfOk result (λ v. IsTrue (path.is_place v.items)) }
 {
     let mut names = Vec::new(alloc);
@@ -206,79 +207,4 @@ fn joined(alloc: Global, names: &[Name]) -> Result<String, AllocError>
         text.push_str(name.text())?;
     }
     Ok(text)
-}
-
-/// A path is hashed as the list of its names is.
-impl Hash for RelPath {
-    ghost use Rattle.std.specs.Prelude.{encode_utf8_all};
-    ghost use Rattle.std.specs.Hash as fed;
-    ghost use Rattle.std.specs.Hash.{items_Alike};
-    ghost use Rattle.std.proofs.Common.{ap};
-    ghost use Rattle.std.proofs.lemmas.Slice.Eq.{bytes_eq-Decides};
-
-    ghost hash_input = { fed.slice (λ n. fed.str (encode_utf8_all n)) };
-
-    ghost respects_eq = { (items_Alike (record { fed = λ x y h. ap (λ n. fed.str (encode_utf8_all n)) ((bytes_eq-Decides x y).0 h) })).fed };
-
-    fn hash<H: Hasher>(&self, state: &mut H) {
-        self.names.hash(state);
-    }
-}
-
-impl PartialEq for RelPath {
-    ghost use Rattle.std.specs.Prelude.{nat_eq};
-    ghost use Rattle.std.proofs.Common.{rules};
-    ghost use Rattle.std.specs.Cmp.Rules.{comparing};
-    ghost use Rattle.std.specs.Cmp.Lexicographic.{pointwise};
-
-    ghost eq = { pointwise (pointwise nat_eq) };
-
-    ghost laws = { Prim.search (comparing, rules) };
-
-    fn eq(&self, other: &RelPath) -> bool {
-        self.names == other.names
-    }
-}
-
-impl Eq for RelPath {
-    ghost use Rattle.std.proofs.Common.{rules};
-    ghost use Rattle.std.specs.Cmp.Rules.{comparing};
-
-    ghost laws = { Prim.search (comparing, rules) };
-}
-
-impl PartialOrd for RelPath {
-    ghost use Rattle.std.proofs.Common.{rules};
-    ghost use Rattle.std.specs.Cmp.Rules.{comparing};
-    ghost use Rattle.std.specs.Cmp.{partial_order_from_own_ties};
-    ghost use Rattle.std.specs.Ordering.{nat_cmp, as_partial_cmp};
-    ghost use Rattle.std.specs.Cmp.Lexicographic.{slice_cmp, lists_ties, texts_ties};
-
-    ghost partial_cmp = { as_partial_cmp (slice_cmp (slice_cmp nat_cmp)) };
-
-    ghost laws = { partial_order_from_own_ties (Prim.search (comparing, rules)) (λ x y. lists_ties (slice_cmp nat_cmp) texts_ties x y) };
-
-    fn partial_cmp(&self, other: &RelPath) -> Option<Ordering> {
-        Some(self.cmp(other))
-    }
-}
-
-/// Paths are in the order of their names, a prefix first.
-impl Ord for RelPath {
-    ghost use Rattle.std.proofs.Common.{rules};
-    ghost use Rattle.std.specs.Cmp.Rules.{comparing};
-    ghost use Rattle.std.specs.Ordering.{nat_cmp};
-    ghost use Rattle.std.specs.Cmp.Lexicographic.{slice_cmp, lists_ties, texts_ties};
-
-    ghost cmp = { slice_cmp (slice_cmp nat_cmp) };
-
-    ghost total = { Prim.search (comparing, rules) };
-
-    ghost matches_partial_cmp = { Prim.search (comparing, rules) };
-
-    ghost matches_eq = { λ x y. lists_ties (slice_cmp nat_cmp) texts_ties x y };
-
-    fn cmp(&self, other: &RelPath) -> Ordering {
-        self.names.cmp(&other.names)
-    }
 }

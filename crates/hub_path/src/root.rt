@@ -1,6 +1,6 @@
-ghost use Rattle.std.specs.Prelude.{◌≡◌, ◌⊎◌, Ok, Err, IfOk, IfErr, IsTrue, chars, string_bytes};
+ghost use Rattle.std.specs.Prelude.{◌≡◌, Ok, IfOk, IfErr, IsTrue, chars, string_bytes};
 ghost use Rattle.hub_path.specs.Path as path;
-ghost use Rattle.hub_path.specs.Reading.{root_reading};
+ghost use Rattle.hub_path.specs.Reading.{FailsAs, root_reading};
 
 use crate::fault::PathFault;
 use crate::rel_path::{RelPath, read_place};
@@ -40,7 +40,7 @@ impl Root {
     /// of the root or of a name's fault, once the text is known to begin with `/`.
     pub fn read(alloc: Global, text: &str) -> Result<Root, PathFault>
         ensures ok { IfOk result (λ r. root_reading (chars text.now) ≡ Ok r) }
-        ensures err { IfErr result (λ e. (e ≡ PathFault.OutOfMemory) ⊎ (root_reading (chars text.now) ≡ Err e)) }
+        ensures err { IfErr result (FailsAs (root_reading (chars text.now))) }
         ensures valid { IfOk result (λ r. IsTrue (path.is_place r)) }
     {
         if is_empty(text) {
@@ -109,13 +109,11 @@ fn with_path(path: RelPath) -> Result<Root, AllocError>
 impl Hash for Root {
     ghost use Rattle.std.specs.Prelude.{encode_utf8_all};
     ghost use Rattle.std.specs.Hash as fed;
-    ghost use Rattle.std.specs.Hash.{items_Alike};
-    ghost use Rattle.std.proofs.Common.{ap};
-    ghost use Rattle.std.proofs.lemmas.Slice.Eq.{bytes_eq-Decides};
+    ghost use Rattle.hub_path.specs.Hashes.{path_hashed};
 
     ghost hash_input = { fed.slice (λ n. fed.str (encode_utf8_all n)) };
 
-    ghost respects_eq = { (items_Alike (record { fed = λ x y h. ap (λ n. fed.str (encode_utf8_all n)) ((bytes_eq-Decides x y).0 h) })).fed };
+    ghost respects_eq = { path_hashed };
 
     fn hash<H: Hasher>(&self, state: &mut H) {
         self.path.hash(state);

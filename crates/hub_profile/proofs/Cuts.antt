@@ -1,17 +1,13 @@
 -- Cuts of a text's bytes, as cuts of its characters.
-use Rattle.std.proofs.Common.{◌≡◌, ◌==◌, ℕ, ◌-◌, ◌<◌, ◌≢◌, Bool, true, false, List, [], ◌∷◌, ◌++◌, Option, Some, None, MatchOption, IfSome, unwrap_or, length, take, drop, reverse, refl, sym, ap, subst, ◌∙◌, arith, slice_index, zero, suc, lit<}
+use Rattle.std.proofs.Common.{◌≡◌, ℕ, ◌-◌, ◌<◌, Bool, true, false, List, [], ◌∷◌, ◌++◌, Option, Some, None, IfSome, length, take, drop, reverse, refl, sym, ap, subst, ◌∙◌, arith, slice_index, zero, suc, lit<}
 use Rattle.std.specs.Char.{IsScalar, encode_utf8}
 use Rattle.std.specs.Str.{IsUtf8, IsCharBoundary, chars, encode_utf8_all, all_scalars}
-use Rattle.std.specs.Str.Pattern.{FindsBy, FindsSuffixBy, FindsChar, FindsCharSuffix, StripsSuffix, CutsSuffixes, IsTrimEndMatches, HasCharAt}
+use Rattle.std.specs.Str.Pattern.{FindsSuffixBy, CutsSuffixes, IsTrimEndMatches, HasCharAt}
 use Rattle.std.proofs.lemmas.Str.{encodes-chars, encodes-append, chars-append, scalars-chars, IsUtf8-take, IsCharBoundary-before_ascii, len_utf8_bounds, encode_ascii, chars-IsAscii}
-use Rattle.std.proofs.lemmas.Str.Pattern.{strip_suffix_char}
 use Rattle.std.proofs.lemmas.List.{append-nil, reverse-append, reverse-reverse, take-append-drop, drop_all}
-use Rattle.std.proofs.lemmas.Bool.{cond-true, cond-false, and_parts, eq-eqb}
+use Rattle.std.proofs.lemmas.Bool.{cond-true, cond-false, and_parts}
 use Rattle.std.proofs.lemmas.Bool.Decides.{nat_tests}
-use denote.Ref.{Bor}
-use Rattle.hub_path.specs.Reading.{without_last}
-use Rattle.hub_path.specs.Ascii.{without_last-none, without_last-found}
-use Rattle.hub_glob.specs.Blanks.{is_blank, skip_blanks}
+use Rattle.hub_text.specs.Blanks.{is_blank, skip_blanks}
 
 pub blank_low : (c : ℕ) → is_blank c ≡ true → c < 128
 blank_low c h = grind (arith, nat_tests)
@@ -83,16 +79,3 @@ skipped_at_end s r u h =
     stopped : (o : Option ℕ) → FindsSuffixBy is_blank r o → IfSome o (λ n. n ≡ 0) → (c : ℕ) (ds : List ℕ) → IsScalar c × (r ≡ encode_utf8_all ds ++ encode_utf8 c) → is_blank c ≡ false
     stopped None f z c ds p = f c (encode_utf8_all ds) p.0 p.1
     stopped (Some n) f z c ds p = no_width r f.0 (length r - n) (length r) f.2 (omega (arith, z))
-
--- A text without an ASCII character at its end.
-pub stripped : (c : ℕ) (d : Bor (List ℕ)) (r : Option (Bor (List ℕ))) → c < 128 → IsUtf8 d.now → IsUtf8 (unwrap_or r d).now → MatchOption r (FindsCharSuffix c d.now None) (λ x. StripsSuffix (FindsCharSuffix c) d.now x.now) → chars (unwrap_or r d).now ≡ without_last c (chars d.now)
-stripped c d r low u v h = by_end r v (strip_suffix_char c d.now r h low)
-  where
-    by_end : (r : Option (Bor (List ℕ))) → IsUtf8 (unwrap_or r d).now → MatchOption r ((front : List ℕ) → d.now ≢ front ++ (c ∷ [])) (λ x. d.now ≡ x.now ++ (c ∷ [])) → chars (unwrap_or r d).now ≡ without_last c (chars d.now)
-    by_end None v h = without_last-none c d.now low u h
-    by_end (Some x) v h = without_last-found c d.now x.now low v h
-
--- A search for one character.
-pub finds_by : (c : ℕ) (s : List ℕ) (o : Option (ℕ × ℕ)) → FindsChar c s o → FindsBy (λ d. d == c) s o
-finds_by c s None h = h
-finds_by c s (Some x) h = (h.0, (c, eq-eqb c c refl, h.1))

@@ -1,5 +1,5 @@
 -- What is read of a text is made of names.
-use Rattle.std.proofs.Common.{◌≡◌, ◌==◌, ℕ, zero, suc, ◌+◌, Bool, true, false, cond, ◌&&◌, not, List, [], ◌∷◌, ◌++◌, Option, Some, None, Ok, Err, Result, IsTrue, length, take, drop, reverse, map, filter_map, codes, refl, subst, ◌∙◌}
+use Rattle.std.proofs.Common.{◌≡◌, ◌==◌, ℕ, zero, suc, ◌+◌, Bool, true, false, cond, ◌&&◌, not, List, [], ◌∷◌, ◌++◌, Option, Some, None, Ok, Err, Result, IsTrue, length, take, drop, reverse, refl, subst, ◌∙◌}
 use Rattle.std.specs.List.{list_all, slice_split, onto_first, enumerate_from, after_first, position_or_len, fold}
 use Rattle.std.specs.Str.{all_scalars}
 use Rattle.std.proofs.lemmas.Bool.{and_parts, and_from}
@@ -7,13 +7,16 @@ use Rattle.std.proofs.lemmas.List.Folds.{list_all-append}
 use lib.Utf8.{scalar}
 use mathlib.Core.List.{reverse_aux}
 use Rattle.hub_path.specs.Path.{Path, is_name, is_place, path_of}
-use Rattle.hub_path.specs.Reading.{name_fault, names_fault, first_fault, path_fault, root_fault, path_reading, root_reading, root_names, without_last, without_last_slash, is_remote, begins_with_slash}
+use Rattle.hub_path.specs.Reading.{name_fault, names_fault, first_fault, path_fault, root_fault, path_reading, root_reading, root_names, without_last_slash, is_remote, begins_with_slash}
+use Rattle.hub_text.specs.declared.line.Line.{Line}
+use Rattle.hub_text.specs.Lines.{lines_of, without_last}
+use Rattle.hub_text.specs.LineLaws.{are_scalars, scalars-lines_of}
 use Rattle.hub_path.specs.declared.fault.PathFault.{PathFault}
 use Rattle.hub_path.specs.declared.fault.PathFault.TheVariants.{Empty, LeadingSlash, RemoteRoot, NotAbsolute, TooDeep}
 use Rattle.hub_path.specs.declared.rel_path.TheConstants.{PATH_NAMES}
 use Rattle.hub_path.specs.NameFacts.{is_name-no_fault}
 use Rattle.hub_path.specs.ReadNames.{or_fault-Ok}
-use Rattle.hub_glob.specs.Blanks.{is_blank, skip_blanks}
+use Rattle.hub_text.specs.Blanks.{is_blank, skip_blanks}
 use Rattle.hub_glob.specs.Specification.{Specification}
 use Rattle.hub_glob.specs.Reading.{spec_reading}
 use Rattle.hub_glob.specs.declared.fault.GlobFault.{GlobFault}
@@ -183,15 +186,15 @@ at_line_said : (n : ℕ) (r : Result Said Fault) → IfSaid r → IfSaid (at_lin
 at_line_said n (Ok said) h = h
 at_line_said n (Err f) h = tt
 
-and_line_said : (r : Result Said ProfileFault) (n : ℕ) (l : List ℕ) → IfSaid r → all_scalars l ≡ true → IfSaid (and_line with_preference r (n, l))
-and_line_said (Ok said) n l h s = at_line_said n (with_line with_preference said l) (line_said said l h s)
+and_line_said : (r : Result Said ProfileFault) (n : ℕ) (l : Line (List ℕ)) → IfSaid r → all_scalars l.text ≡ true → IfSaid (and_line with_preference r (n, l))
+and_line_said (Ok said) n l h s = at_line_said n (with_line with_preference said l.text) (line_said said l.text h s)
 and_line_said (Err f) n l h s = tt
 
-lines_said : (n : ℕ) (ls : List (List ℕ)) (r : Result Said ProfileFault) → list_all all_scalars ls ≡ true → IfSaid r → IfSaid (fold (and_line with_preference) r (enumerate_from n ls))
+lines_said : (n : ℕ) (ls : List (Line (List ℕ))) (r : Result Said ProfileFault) → are_scalars ls ≡ true → IfSaid r → IfSaid (fold (and_line with_preference) r (enumerate_from n ls))
 lines_said n [] r s h = h
 lines_said n (l ∷ ls) r s h =
-    let parts = and_parts (all_scalars l) (list_all all_scalars ls) s in
+    let parts = and_parts (all_scalars l.text) (are_scalars ls) s in
     lines_said (n + 1) ls (and_line with_preference r (n, l)) parts.1 (and_line_said r n l h parts.0)
 
 pub said_are_places : (cs : List ℕ) (said : Said) → all_scalars cs ≡ true → lines_reading with_preference nothing cs ≡ Ok said → ArePlaces said
-said_are_places cs said s h = subst IfSaid h (lines_said 1 (slice_split (λ c. c == 10) cs) (Ok nothing) (cut_all (λ c. c == 10) cs s) (refl, refl))
+said_are_places cs said s h = subst IfSaid h (lines_said 1 (lines_of cs) (Ok nothing) (scalars-lines_of cs s) (refl, refl))

@@ -10,7 +10,7 @@ use Rattle.hub_profile.specs.declared.fault.ProfileFault.{ProfileFault}
 use Rattle.hub_profile.specs.Parts.{Parts, IsProfile}
 use Rattle.hub_profile.specs.Said.{Said, nothing}
 use Rattle.hub_profile.specs.LineByLine.{lines_reading, if_text}
-use Rattle.hub_profile.specs.Reading.{with_preference, roots_fault, profile, unless_fault, finished, if_said, profile_reading, profile_in}
+use Rattle.hub_profile.specs.Reading.{with_preference, roots_fault, profile, unless_fault, if_said, profile_reading, profile_in}
 use Rattle.hub_profile.proofs.Places.{ArePlaces, said_are_places}
 use Rattle.hub_profile.proofs.ProfileFacts.{IsProfile-profile}
 

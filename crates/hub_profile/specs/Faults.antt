@@ -1,5 +1,5 @@
 -- Faults of a line, and of a whole reading.
-use Rattle.std.specs.Prelude.{◌≡◌, ◌⊎◌, Result, Err}
+use Rattle.std.specs.Prelude.{◌≡◌, ◌⊎◌, Option, Some, Result, Err}
 use Rattle.hub_path.specs.declared.fault.PathFault.{PathFault}
 use Rattle.hub_path.specs.declared.fault.PathFault.TheVariants as path
 use Rattle.hub_glob.specs.declared.fault.GlobFault.{GlobFault}
@@ -43,6 +43,10 @@ of_pattern glob.OutOfMemory = OutOfMemory
 abbrev pub FailsAs : {T : Type 0} → Result T Fault → Fault → Type 0
 FailsAs reading e = (e ≡ OutOfMemory) ⊎ (reading ≡ Err e)
 
--- The same with its line.
+-- The fault that there is, or out of memory.
+abbrev pub FailsWith : Option Fault → Fault → Type 0
+FailsWith fault e = (e ≡ OutOfMemory) ⊎ (fault ≡ Some e)
+
+-- The fault of a reading with its line, or out of memory.
 abbrev pub FailsAt : {T : Type 0} → Result T ProfileFault → ProfileFault → Type 0
 FailsAt reading e = (e.fault ≡ OutOfMemory) ⊎ (reading ≡ Err e)

@@ -1,11 +1,13 @@
 -- A text that is read line by line: what its lines say, or the fault of the lowest line that has one.
 use Rattle.std.specs.Prelude.{ℕ, bytes_eq, List, [], ◌∷◌, Option, Some, None, Result, Ok, Err, if◌then◌else◌}
-use Rattle.std.specs.List.{fold}
+use Rattle.std.specs.List.{enumerate_from, fold}
 use Rattle.std.specs.Str.{is_utf8, chars}
 use Rattle.hub_profile.specs.declared.fault.Fault.{Fault}
 use Rattle.hub_profile.specs.declared.fault.Fault.TheVariants.{NotUtf8}
 use Rattle.hub_profile.specs.declared.fault.ProfileFault.{ProfileFault}
-use Rattle.hub_profile.specs.Lines.{line_text, lines_of, is_setting, setting}
+use Rattle.hub_profile.specs.Lines.{line_text, is_setting, setting}
+use Rattle.hub_text.specs.declared.line.Line.{Line}
+use Rattle.hub_text.specs.Lines.{lines_of}
 
 -- What a setting with that name and value adds to what the lines before it say, or its fault.
 abbrev pub Table : Type 0 → Type 0
@@ -24,18 +26,26 @@ abbrev pub at_line : {S : Type 0} → ℕ → Result S Fault → Result S Profil
 at_line n (Ok said) = Ok said
 at_line n (Err f) = Err (record { line = n; fault = f })
 
--- The lines before this one, and then this one.
-abbrev pub and_line : {S : Type 0} → Table S → Result S ProfileFault → ℕ × List ℕ → Result S ProfileFault
-and_line table (Ok said) l = at_line l.0 (with_line table said l.1)
+-- The lines before this one, and then this one, which stands beside its number.
+abbrev pub and_line : {S : Type 0} → Table S → Result S ProfileFault → ℕ × Line (List ℕ) → Result S ProfileFault
+and_line table (Ok said) l = at_line l.0 (with_line table said l.1.text)
 and_line table (Err f) l = Err f
+
+-- The lines of a text with their numbers, the first of which is 1.
+abbrev pub numbered_lines : List ℕ → List (ℕ × Line (List ℕ))
+numbered_lines cs = enumerate_from 1 (lines_of cs)
 
 -- What the lines of a text say, from nothing on.
 abbrev pub lines_reading : {S : Type 0} → Table S → S → List ℕ → Result S ProfileFault
-lines_reading table nothing cs = fold (and_line table) (Ok nothing) (lines_of cs)
+lines_reading table nothing cs = fold (and_line table) (Ok nothing) (numbered_lines cs)
 
--- What bytes say that have to be text. That they are not is reported at line 0.
+-- Bytes that are not text are reported at line 0.
+abbrev pub not_utf8 : ProfileFault
+not_utf8 = record { line = 0; fault = NotUtf8 }
+
+-- What bytes say that have to be text.
 abbrev pub if_text : {T : Type 0} → (List ℕ → Result T ProfileFault) → List ℕ → Result T ProfileFault
-if_text reading bytes = if is_utf8 bytes then reading (chars bytes) else Err (record { line = 0; fault = NotUtf8 })
+if_text reading bytes = if is_utf8 bytes then reading (chars bytes) else Err not_utf8
 
 -- The value beside a name in a list of pairs.
 abbrev pub look_up : {K : Type 0} → List ℕ → List (List ℕ × K) → Option K

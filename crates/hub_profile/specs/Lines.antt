@@ -1,8 +1,9 @@
 -- A line of a profile's or a rules text: what it says.
-use Rattle.std.specs.Prelude.{ℕ, Bool, not, ◌&&◌, ◌==◌, nat_eq, List, [], ◌∷◌, reverse, length, Result, Ok, Err, if◌then◌else◌, codes, bytes_eq}
-use Rattle.std.specs.List.{list_any, before_first, after_first, enumerate_from, slice_split, starts_with}
-use Rattle.hub_path.specs.Reading.{without_last}
-use Rattle.hub_glob.specs.Blanks.{is_blank, skip_blanks}
+use Rattle.std.specs.Prelude.{◌≡◌, ℕ, Bool, true, not, ◌&&◌, ◌==◌, nat_eq, List, [], ◌∷◌, reverse, length, Result, Ok, Err, if◌then◌else◌, codes, bytes_eq, chars}
+use Rattle.std.specs.List.{list_any, before_first, after_first, starts_with}
+use denote.Ref.{Bor}
+use Rattle.hub_text.specs.Lines.{without_last}
+use Rattle.hub_text.specs.Blanks.{is_blank, skip_blanks}
 use Rattle.hub_profile.specs.declared.fault.Fault.{Fault}
 use Rattle.hub_profile.specs.declared.fault.Fault.TheVariants.{IncludeLeftOut, NoEquals}
 
@@ -13,10 +14,6 @@ trimmed cs = reverse (skip_blanks (reverse (skip_blanks cs)))
 -- What a line says: a CR at its end is dropped, then the blanks around it.
 abbrev pub line_text : List ℕ → List ℕ
 line_text cs = trimmed (without_last 13 cs)
-
--- The lines of a text, cut at LF, with their numbers from 1 on.
-abbrev pub lines_of : List ℕ → List (ℕ × List ℕ)
-lines_of cs = enumerate_from 1 (slice_split (λ c. c == 10) cs)
 
 -- A blank line and one that begins with `#` say nothing; each other line is a setting.
 abbrev pub is_setting : List ℕ → Bool
@@ -34,12 +31,26 @@ is_include l =
     is_one_of include_words (before_first is_blank l)
     && not (starts_with nat_eq (skip_blanks (after_first is_blank l)) (codes "="))
 
+abbrev pub is_equals : ℕ → Bool
+is_equals c = c == 61
+
 abbrev pub has_equals : List ℕ → Bool
-has_equals l = list_any (λ c. c == 61) l
+has_equals l = list_any is_equals l
 
 -- The name and the value of a setting, cut at the first `=`.
+abbrev pub name_and_value : List ℕ → List ℕ × List ℕ
+name_and_value l = (trimmed (before_first is_equals l), trimmed (after_first is_equals l))
+
 abbrev pub setting : List ℕ → Result (List ℕ × List ℕ) Fault
 setting l =
     if is_include l then Err IncludeLeftOut
-    else (if not (has_equals l) then Err NoEquals
-    else Ok (trimmed (before_first (λ c. c == 61) l), trimmed (after_first (λ c. c == 61) l)))
+    else (if not (has_equals l) then Err NoEquals else Ok (name_and_value l))
+
+-- The characters of two texts.
+abbrev pub both_chars : Bor (List ℕ) × Bor (List ℕ) → List ℕ × List ℕ
+both_chars texts = (chars texts.0.now, chars texts.1.now)
+
+-- A line has an `=`, and these are the texts on both sides of it.
+abbrev pub CutsAtEquals : List ℕ → List ℕ × List ℕ → Type 0
+CutsAtEquals l pair =
+    (has_equals l ≡ true) × (pair.0 ≡ (name_and_value l).0) × (pair.1 ≡ (name_and_value l).1)

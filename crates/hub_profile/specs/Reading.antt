@@ -1,5 +1,5 @@
 -- Which texts are profiles, and the first fault of each other text.
-use Rattle.std.specs.Prelude.{ℕ, Bool, not, ◌&&◌, ◌||◌, ◌==◌, ◌+◌, nat_le, List, [], ◌∷◌, ◌++◌, length, Option, Some, None, Result, Ok, Err, if◌then◌else◌, codes}
+use Rattle.std.specs.Prelude.{◌≡◌, ℕ, Bool, not, ◌&&◌, ◌||◌, ◌==◌, ◌+◌, nat_le, List, [], ◌∷◌, ◌++◌, length, Option, Some, None, Result, Ok, Err, if◌then◌else◌, codes}
 use Rattle.std.specs.List.{list_any}
 use Rattle.hub_path.specs.Path.{Name, Path, path_eq, is_over}
 use Rattle.hub_path.specs.Reading.{path_reading, root_reading, begins_with_slash, without_last_slash}
@@ -8,6 +8,7 @@ use Rattle.hub_path.specs.declared.fault.PathFault.TheVariants.{LeadingSlash}
 use Rattle.hub_glob.specs.Specification.{Specification}
 use Rattle.hub_glob.specs.Reading.{spec_reading}
 use Rattle.hub_glob.specs.declared.fault.GlobFault.{GlobFault}
+use Rattle.hub_profile.specs.Faults.{FailsAs}
 use Rattle.hub_profile.specs.Parts.{Parts}
 use Rattle.hub_profile.specs.Said.{Said, nothing}
 use Rattle.hub_profile.specs.LineByLine.{Table, lines_reading, if_text, look_up}
@@ -64,6 +65,13 @@ with_value key.Path said v = if has_all_paths said then Err fault.TooMany else w
 with_value key.Ignore said v = if has_all_patterns said then Err fault.TooMany else with_ignore said (spec_reading v)
 with_value key.IgnoreNot said v = if has_all_patterns said then Err fault.TooMany else with_ignorenot said (spec_reading v)
 
+-- What is said once a value of that preference was added, and the fault of a value that is not.
+abbrev pub Adds : Key → Said → List ℕ → Said → Type 0
+Adds key said v more = with_value key said v ≡ Ok more
+
+abbrev pub Refuses : Key → Said → List ℕ → Fault → Type 0
+Refuses key said v = FailsAs (with_value key said v)
+
 abbrev pub with_key : Option Key → Table Said
 with_key (Some k) said name v = with_value k said v
 with_key None said name v = Err (fault.UnknownPreference name)
@@ -79,9 +87,13 @@ roots_fault (r ∷ s ∷ []) =
     if path_eq r s then Some fault.SameRoots else (if is_over r s || is_over s r then Some fault.RootsNested else None)
 roots_fault (r ∷ s ∷ t ∷ rs) = Some fault.RootCount
 
+-- A path lies properly below another one.
+abbrev pub is_properly_below : Path → Path → Bool
+is_properly_below s t = is_over t s && not (path_eq t s)
+
 -- A value adds something to the profile: it is neither equal to an earlier one nor properly below any.
 abbrev pub adds : List Path → List Path → Path → Bool
-adds all earlier s = not (list_any (path_eq s) earlier) && not (list_any (λ t. is_over t s && not (path_eq t s)) all)
+adds all earlier s = not (list_any (path_eq s) earlier) && not (list_any (is_properly_below s) all)
 
 -- Of the values that stand after the earlier ones, those that add something.
 abbrev pub kept_after : List Path → List Path → List Path → List Path

@@ -2,20 +2,20 @@
 ghost use Rattle.std.specs.Prelude.{◌≡◌, ◌⊎◌, Some, None, Ok, Err, IfOk, IfErr, OnOk, IsTrue, chars};
 ghost use Rattle.std.specs.List.{list_all};
 ghost use Rattle.hub_path.specs.Path.{is_place};
-ghost use Rattle.hub_path.specs.Reading.{root_reading};
+ghost use Rattle.hub_path.specs.Reading as path;
 ghost use Rattle.hub_glob.specs.Reading.{spec_reading};
-ghost use Rattle.hub_profile.specs.Faults.{FailsAs, FailsAt};
+ghost use Rattle.hub_profile.specs.Faults.{FailsAt, FailsWith};
 ghost use Rattle.hub_profile.specs.Reading as reading;
 ghost use Rattle.hub_profile.specs.Said as said;
 
 use crate::fault::{Fault, ProfileFault};
 use crate::kept::kept_or_whole;
 use crate::key::{Key, key_named};
-use crate::line::{begins_with, is_blank};
 use crate::line_by_line::{FromLines, unknown};
 use crate::profile::Profile;
 use hub_glob::PathSpec;
-use hub_path::{Items, Name, PathFault, RelPath, Root, without_last_slash};
+use hub_path::{Name, PathFault, RelPath, Root, without_last_slash};
+use hub_text::{Items, begins_with, is_empty};
 use std::alloc::Global;
 use std::marker::Model;
 
@@ -39,7 +39,12 @@ impl Model for Draft {
 
     ghost Value = { Said };
 
-    ghost view = { λ a. record { roots = a.roots.items; paths = a.paths.items; ignore = a.ignore.items; ignorenot = a.ignorenot.items } };
+    ghost view = { λ a. record {
+      roots = a.roots.items;
+      paths = a.paths.items;
+      ignore = a.ignore.items;
+      ignorenot = a.ignorenot.items;
+    } };
 }
 
 impl FromLines for Draft {
@@ -70,8 +75,8 @@ impl Draft {
 
     /// Takes a value of that preference.
     fn set(&mut self, key: Key, value: &str) -> Result<(), Fault>
-        ensures ok { OnOk result (reading.with_value key self.old (chars value.now) ≡ Ok self.new) }
-        ensures err { IfErr result (FailsAs (reading.with_value key self.old (chars value.now))) }
+        ensures ok { OnOk result (reading.Adds key self.old (chars value.now) self.new) }
+        ensures err { IfErr result (reading.Refuses key self.old (chars value.now)) }
     {
         match key {
             Key::Root => self.add_root(value),
@@ -82,8 +87,8 @@ impl Draft {
     }
 
     fn add_root(&mut self, value: &str) -> Result<(), Fault>
-        ensures ok { OnOk result (reading.with_value Key.Root self.old (chars value.now) ≡ Ok self.new) }
-        ensures err { IfErr result (FailsAs (reading.with_value Key.Root self.old (chars value.now))) }
+        ensures ok { OnOk result (reading.Adds Key.Root self.old (chars value.now) self.new) }
+        ensures err { IfErr result (reading.Refuses Key.Root self.old (chars value.now)) }
     {
         let root = Root::read(*self.roots.allocator(), value)?;
         self.roots.push(root)?;
@@ -91,8 +96,8 @@ impl Draft {
     }
 
     fn add_path(&mut self, value: &str) -> Result<(), Fault>
-        ensures ok { OnOk result (reading.with_value Key.Path self.old (chars value.now) ≡ Ok self.new) }
-        ensures err { IfErr result (FailsAs (reading.with_value Key.Path self.old (chars value.now))) }
+        ensures ok { OnOk result (reading.Adds Key.Path self.old (chars value.now) self.new) }
+        ensures err { IfErr result (reading.Refuses Key.Path self.old (chars value.now)) }
     {
         if self.paths.len() >= PATH_LINES {
             return Err(Fault::TooMany);
@@ -103,8 +108,8 @@ impl Draft {
     }
 
     fn add_ignore(&mut self, value: &str) -> Result<(), Fault>
-        ensures ok { OnOk result (reading.with_value Key.Ignore self.old (chars value.now) ≡ Ok self.new) }
-        ensures err { IfErr result (FailsAs (reading.with_value Key.Ignore self.old (chars value.now))) }
+        ensures ok { OnOk result (reading.Adds Key.Ignore self.old (chars value.now) self.new) }
+        ensures err { IfErr result (reading.Refuses Key.Ignore self.old (chars value.now)) }
     {
         if self.has_all_patterns() {
             return Err(Fault::TooMany);
@@ -115,8 +120,8 @@ impl Draft {
     }
 
     fn add_ignorenot(&mut self, value: &str) -> Result<(), Fault>
-        ensures ok { OnOk result (reading.with_value Key.IgnoreNot self.old (chars value.now) ≡ Ok self.new) }
-        ensures err { IfErr result (FailsAs (reading.with_value Key.IgnoreNot self.old (chars value.now))) }
+        ensures ok { OnOk result (reading.Adds Key.IgnoreNot self.old (chars value.now) self.new) }
+        ensures err { IfErr result (reading.Refuses Key.IgnoreNot self.old (chars value.now)) }
     {
         if self.has_all_patterns() {
             return Err(Fault::TooMany);
@@ -151,7 +156,7 @@ impl Draft {
         requires paths { IsTrue (list_all is_place self.paths) }
         ensures fine { OnOk result (reading.roots_fault self.roots ≡ None) }
         ensures ok { IfOk result (λ P. P ≡ reading.profile name self) }
-        ensures err { IfErr result (λ e. (e ≡ Fault.OutOfMemory) ⊎ (reading.roots_fault self.roots ≡ Some e)) }
+        ensures err { IfErr result (FailsWith (reading.roots_fault self.roots)) }
     {
         let Draft {
             roots,
@@ -196,9 +201,9 @@ fn two_roots(mut roots: Vec<Root>) -> Result<[Root; 2], Fault>
 /// Reads the value of a `path` line.
 fn read_value(alloc: Global, value: &str) -> Result<RelPath, PathFault>
     ensures ok { IfOk result (λ p. reading.kept_reading (chars value.now) ≡ Ok p) }
-    ensures err { IfErr result (λ e. (e ≡ PathFault.OutOfMemory) ⊎ (reading.kept_reading (chars value.now) ≡ Err e)) }
+    ensures err { IfErr result (path.FailsAs (reading.kept_reading (chars value.now))) }
 {
-    if is_blank(value) {
+    if is_empty(value) {
         return Ok(RelPath::top(alloc));
     }
     if begins_with(value, '/') {

@@ -4,7 +4,8 @@ ghost use Rattle.hub_path.specs.Path.{path_eq, is_over};
 ghost use Rattle.hub_profile.specs.Marks as mark;
 ghost use Rattle.hub_profile.specs.Reading as reading;
 
-use hub_path::{Items, RelPath};
+use hub_path::RelPath;
+use hub_text::Items;
 use std::alloc::{AllocError, Global};
 
 /// The values that a profile keeps, in their order, or the whole replica where there are none.
@@ -68,13 +69,13 @@ fn repeats(earlier: &[RelPath], value: &RelPath) -> bool
 }
 
 fn lies_below(all: &[RelPath], value: &RelPath) -> bool
-    ensures { result ≡ list_any (λ other. is_over other value.now && not (path_eq other value.now)) all.now }
+    ensures { result ≡ list_any (reading.is_properly_below value.now) all.now }
 {
     all.iter().any(|other| is_properly_below(value, other))
 }
 
 fn is_properly_below(value: &RelPath, other: &RelPath) -> bool
-    ensures { result ≡ (is_over other.now value.now && not (path_eq other.now value.now)) }
+    ensures { result ≡ reading.is_properly_below value.now other.now }
 {
     value.starts_with(other) && other != value
 }

@@ -7,5 +7,5 @@ ghost use Rattle.hub_profile.specs.Reading.{profile_in};
 
 /// What bytes are read as is a profile: its two roots are apart, and so are its kept values.
 pub fn readings_are_profiles()
-    ensures { (name : Name) (bytes : List ℕ) (P : Parts) → profile_in name bytes ≡ Ok P → IsProfile P }
+    ensures { (n : Name) (bytes : List ℕ) (P : Parts) → profile_in n bytes ≡ Ok P → IsProfile P }
 {}

@@ -1,29 +1,27 @@
 //! One line of a text.
 ghost use Rattle.std.specs.Prelude.{◌≡◌, ◌==◌, ◌<◌, [], ◌∷◌, false, true, Ok, Err, IfOk, IfErr, chars, length, nat_eq, MatchOption};
-ghost use Rattle.std.specs.List.{before_first, after_first, starts_with};
-ghost use Rattle.hub_path.specs.Reading.{without_last};
 ghost use Rattle.hub_profile.specs.Lines as lines;
 
 use crate::fault::Fault;
-use hub_glob::{BLANKS, first_word, skip_blanks};
+use hub_text::{BLANKS, begins_with, first_word, is_empty, skip_blanks, without_last};
 
 /// What a line says: its text without a CR at its end, and then without the blanks around it.
 pub(crate) fn line_text(line: &str) -> &str
     ensures { chars result.now ≡ lines.line_text (chars line.now) }
 {
-    trimmed(without_last_return(line))
+    trimmed(without_last(line, '\r'))
 }
 
 /// Whether a line sets something: it is neither blank nor a comment, which begins with `#`.
 pub(crate) fn is_setting(line: &str) -> bool
     ensures { result ≡ lines.is_setting (chars line.now) }
 {
-    !is_blank(line) && !begins_with(line, '#')
+    !is_empty(line) && !begins_with(line, '#')
 }
 
 /// The name and the value that a line sets, or `IncludeLeftOut` or `NoEquals`.
 pub(crate) fn setting(line: &str) -> Result<(&str, &str), Fault>
-    ensures ok { IfOk result (λ s. lines.setting (chars line.now) ≡ Ok (chars s.0.now, chars s.1.now)) }
+    ensures ok { IfOk result (λ s. lines.setting (chars line.now) ≡ Ok (lines.both_chars s)) }
     ensures err { IfErr result (λ e. lines.setting (chars line.now) ≡ Err e) }
 {
     if is_include(line) {
@@ -45,7 +43,8 @@ fn is_include(line: &str) -> bool
 
 /// The name and the value that a line gives it, where it has an `=`.
 fn name_and_value(line: &str) -> Option<(&str, &str)>
-    ensures { MatchOption result (lines.has_equals (chars line.now) ≡ false) (λ x. (lines.has_equals (chars line.now) ≡ true) × (chars x.0.now ≡ lines.trimmed (before_first (λ c. c == 61) (chars line.now))) × (chars x.1.now ≡ lines.trimmed (after_first (λ c. c == 61) (chars line.now)))) }
+    ensures { MatchOption result (lines.has_equals (chars line.now) ≡ false)
+        (λ s. lines.CutsAtEquals (chars line.now) (lines.both_chars s)) }
 {
     let (name, value) = line.split_once('=')?;
     Some((trimmed(name), trimmed(value)))
@@ -56,28 +55,6 @@ fn includes(word: &str) -> bool
     ensures { result ≡ lines.is_one_of lines.include_words (chars word.now) }
 {
     ["include", "source", "include?", "source?"].contains(&word)
-}
-
-/// Whether a text has no characters.
-pub(crate) fn is_blank(text: &str) -> bool
-    ensures { result ≡ (length (chars text.now) == 0) }
-{
-    text.is_empty()
-}
-
-/// Whether a text begins with that ASCII character.
-pub(crate) fn begins_with(text: &str, c: char) -> bool
-    requires nonzero { 0 < c }
-    requires ascii { c < 128 }
-    ensures { result ≡ starts_with nat_eq (chars text.now) (c ∷ []) }
-{
-    text.starts_with(c)
-}
-
-fn without_last_return(line: &str) -> &str
-    ensures { chars result.now ≡ without_last 13 (chars line.now) }
-{
-    line.strip_suffix('\r').unwrap_or(line)
 }
 
 /// A text without blanks around it.

@@ -6,6 +6,7 @@ ghost use Rattle.hub_profile.specs.Faults.{FailsAs, FailsAt};
 
 use crate::fault::{Fault, Preference, ProfileFault};
 use crate::line::{is_setting, line_text, setting};
+use hub_text::TextLines;
 use std::alloc::Global;
 use std::str;
 
@@ -27,7 +28,7 @@ pub(crate) trait FromLines: Drop {
 pub(crate) fn text_of(bytes: &[u8]) -> Result<&str, ProfileFault>
     ensures text { IfOk result (λ t. t.now ≡ bytes.now) }
     ensures ok { OnOk result (IsTrue (is_utf8 bytes.now)) }
-    ensures err { IfErr result (λ e. (is_utf8 bytes.now ≡ false) × (e ≡ record { line = 0; fault = Fault.NotUtf8 })) }
+    ensures err { IfErr result (λ e. (is_utf8 bytes.now ≡ false) × (e ≡ by_line.not_utf8)) }
 {
     match str::from_utf8(bytes) {
         Ok(text) => Ok(text),
@@ -46,8 +47,8 @@ pub(crate) fn read_lines<D: FromLines>(nothing: D, text: &str) -> Result<D, Prof
     ensures err { IfErr result (FailsAt (by_line.lines_reading D.table nothing (chars text.now))) }
 {
     let mut said = nothing;
-    for (i, line) in text.split('\n').enumerate() {
-        if let Err(fault) = take_line(&mut said, line) {
+    for (i, line) in TextLines::new(text).enumerate() {
+        if let Err(fault) = take_line(&mut said, line.text) {
             return Err(ProfileFault { line: i + 1, fault });
         }
     }

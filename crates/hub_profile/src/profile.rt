@@ -1,7 +1,8 @@
 ghost use Rattle.std.specs.Prelude.{◌≡◌};
 
 use hub_glob::PathSpec;
-use hub_path::{Items, Name, RelPath, Root};
+use hub_path::{Name, RelPath, Root};
+use hub_text::Items;
 use std::marker::Model;
 
 /// A profile: which roots it synchronizes, and what of them (Unison manual, "Preferences").
@@ -22,9 +23,21 @@ impl Model for Profile {
 
     ghost Value = { Parts };
 
-    ghost view = { λ a. record { name = a.name; roots = a.roots; paths = a.paths; ignore = a.ignore; ignorenot = a.ignorenot } };
+    ghost view = { λ a. record {
+      name = a.name;
+      roots = a.roots;
+      paths = a.paths;
+      ignore = a.ignore;
+      ignorenot = a.ignorenot;
+    } };
 
-    ghost invariant = { λ a. IsProfile (record { name = a.name; roots = a.roots; paths = a.paths; ignore = a.ignore; ignorenot = a.ignorenot }) };
+    ghost invariant = { λ a. IsProfile (record {
+      name = a.name;
+      roots = a.roots;
+      paths = a.paths;
+      ignore = a.ignore;
+      ignorenot = a.ignorenot;
+    }) };
 }
 
 impl Profile {

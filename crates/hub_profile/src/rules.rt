@@ -6,7 +6,7 @@ ghost use Rattle.hub_profile.specs.Rules as rules;
 use crate::fault::{Fault, ProfileFault};
 use crate::line_by_line::{FromLines, read_lines, text_of, unknown};
 use crate::rule::Rule;
-use hub_path::Items;
+use hub_text::Items;
 use std::alloc::Global;
 use std::marker::Model;
 

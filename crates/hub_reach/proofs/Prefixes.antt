@@ -6,7 +6,7 @@ use Rattle.std.proofs.lemmas.List.{take_more, take-append-drop}
 use Rattle.std.proofs.lemmas.List.Folds.{list_any-append}
 use Rattle.std.proofs.lemmas.Bool.Decides.{nat_tests}
 use Rattle.hub_path.specs.Path.{Name, Path, name_eq, is_over, prefixes}
-use Rattle.hub_text.specs.TestLaws.{or-false, and-false}
+use Rattle.std.proofs.Math.Bool.{or-false, and-false}
 use Rattle.hub_reach.proofs.Walks.{both}
 
 pub prefixes-push : (p : Path) (n : Name) → prefixes (p ++ n ∷ []) ≡ prefixes p ++ (p ++ n ∷ []) ∷ []

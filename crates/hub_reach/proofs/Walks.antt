@@ -7,7 +7,8 @@ use Rattle.hub_path.specs.Path.{Name, Path, name_eq, path_eq, is_over, is_path, 
 use Rattle.hub_path.specs.Laws.{is_over-reflexive, is_over-transitive, is_over-comparable}
 use Rattle.hub_path.specs.TextLaws.{prefixes-parent, prefixes-over}
 use Rattle.hub_profile.specs.Parts.{Parts, IsProfile}
-use Rattle.hub_text.specs.TestLaws.{and-true, and-false, or-false, or-assoc}
+use Rattle.std.proofs.Math.Bool.{and-true, and-false, or-false}
+use Rattle.hub_text.specs.TestLaws.{or-assoc}
 use Rattle.hub_glob.specs.OneStep.{nonzero}
 use Rattle.hub_reach.specs.Reach.{reach, is_open, is_ignored}
 use Rattle.hub_reach.specs.Walk.{above, is_inside, is_cut, is_walked}

@@ -7,7 +7,7 @@ use Rattle.hub_path.specs.Path.{Path, is_over, is_path, prefixes}
 use Rattle.hub_glob.specs.Glob.{matches}
 use Rattle.hub_glob.specs.Specification.{Specification}
 use Rattle.hub_profile.specs.Parts.{Parts}
-use Rattle.hub_text.specs.TestLaws.{and-true}
+use Rattle.std.proofs.Math.Bool.{and-true}
 use Rattle.hub_reach.specs.Reach.{reach, is_open, is_ignored}
 
 none-and : {X : Type 0} (f : X → Bool) (xs : List X) → list_any (λ x. f x && false) xs ≡ false

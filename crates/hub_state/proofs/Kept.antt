@@ -1,15 +1,16 @@
 -- Entries of a map that are taken in order, each put in front of those before.
-use Rattle.std.proofs.Common.{◌≡◌, Bool, true, false, cond, ◌&&◌, ◌||◌, T, List, [], ◌∷◌, map, Option, Some, None, refl, ap, sym, ◌∙◌, subst}
+use Rattle.std.proofs.Common.{◌≡◌, Bool, true, false, cond, ◌||◌, T, List, [], ◌∷◌, map, Option, Some, None, refl, ap, sym, ◌∙◌, subst}
 use Rattle.std.specs.FinMap as fin
 use Rattle.std.specs.FinMap.Entries.{find, is_sorted, below_all}
 use Rattle.std.specs.Cmp.{IsTotalOrder}
 use Rattle.std.specs.List.{list_any}
 use Rattle.std.specs.Option.{is_some}
-use Rattle.std.specs.Ordering.{eq_by_cmp, is_lt, is_eq}
+use Rattle.std.specs.Ordering.{eq_by_cmp, is_eq}
 use Rattle.std.specs.declared.cmp.Ordering.{Ordering}
 use Rattle.std.specs.declared.cmp.Ordering.TheVariants.{Less, Equal, Greater}
 use Rattle.std.proofs.lemmas.Cmp.{tied_itself}
 use Rattle.std.proofs.lemmas.Bool.{false≢true}
+use Rattle.hub_text.specs.TestLaws.{T-first, T-second, T-less}
 
 -- All entries, from those that were taken, the last one first, and those that follow; and all of them taken.
 abbrev pub back : {E : Type 0} → List E → List E → List E
@@ -33,19 +34,6 @@ first_of-None : {X : Type 0} (a : Option X) → first_of a None ≡ a
 first_of-None None = refl
 first_of-None (Some x) = refl
 
-first : (a b : Bool) → T (a && b) → T a
-first true b p = tt
-first false b p = p
-
-second : (a b : Bool) → T (a && b) → T b
-second true b p = p
-second false b p = absurd p
-
-less : (r : Ordering) → T (is_lt r) → r ≡ Less
-less Less p = refl
-less Equal p = absurd p
-less Greater p = absurd p
-
 equal : (r : Ordering) → is_eq r ≡ true → r ≡ Equal
 equal Less p = absurd (false≢true p)
 equal Equal p = refl
@@ -60,24 +48,24 @@ module _ {K X : Type 0} {R : K → K → Ordering} (o : IsTotalOrder R) where
   find-tied_below : (q k : K) (es : List (K × X)) → eq_by_cmp R q k ≡ true → T (below_all R k es) → find R q es ≡ None
   find-tied_below q k [] t h = refl
   find-tied_below q k (e ∷ es) t h =
-      ap (λ r. cond (is_eq r) (Some e.1) (find R q es)) (o.congr q k e.0 (equal (R q k) t) ∙ less _ (first _ _ h))
-      ∙ find-tied_below q k es t (second _ _ h)
+      ap (λ r. cond (is_eq r) (Some e.1) (find R q es)) (o.congr q k e.0 (equal (R q k) t) ∙ T-less _ (T-first _ _ h))
+      ∙ find-tied_below q k es t (T-second _ _ h)
 
   find-less_below : (q k : K) (es : List (K × X)) → R q k ≡ Less → T (below_all R k es) → find R q es ≡ None
   find-less_below q k [] t h = refl
   find-less_below q k (e ∷ es) t h =
-      ap (λ r. cond (is_eq r) (Some e.1) (find R q es)) (o.trans q k e.0 t (less _ (first _ _ h))) ∙ find-less_below q k es t (second _ _ h)
+      ap (λ r. cond (is_eq r) (Some e.1) (find R q es)) (o.trans q k e.0 t (T-less _ (T-first _ _ h))) ∙ find-less_below q k es t (T-second _ _ h)
 
   pub sorted-rest : (acc es : List (K × X)) → T (is_sorted R (back acc es)) → T (is_sorted R es)
   sorted-rest [] es h = h
-  sorted-rest (a ∷ acc) es h = second _ _ (sorted-rest acc (a ∷ es) h)
+  sorted-rest (a ∷ acc) es h = T-second _ _ (sorted-rest acc (a ∷ es) h)
 
   -- What was taken doesn't follow.
   taken : (acc es : List (K × X)) (q : K) → T (is_sorted R (back acc es)) → is_some (find R q acc) ≡ true → find R q es ≡ None
   taken [] es q h s = absurd (false≢true s)
   taken (a ∷ acc) es q h s =
       elim (eq_by_cmp R q a.0) as (λ t. eq_by_cmp R q a.0 ≡ t → is_some (cond t (Some a.1) (find R q acc)) ≡ true → find R q es ≡ None) [
-        | true ↦ λ t s. find-tied_below q a.0 es t (first _ _ (sorted-rest acc (a ∷ es) h))
+        | true ↦ λ t s. find-tied_below q a.0 es t (T-first _ _ (sorted-rest acc (a ∷ es) h))
         | false ↦ λ t s. sym (ap (λ b. cond b (Some a.1) (find R q es)) t) ∙ taken acc (a ∷ es) q h s
       ] refl s
 
@@ -101,7 +89,7 @@ module _ {K X : Type 0} {R : K → K → Ordering} (o : IsTotalOrder R) where
   pub find-before : (acc : List (K × X)) (e : K × X) (es : List (K × X)) (q : K) → T (is_sorted R (back acc (e ∷ es))) → R q e.0 ≡ Less → find R q (back acc (e ∷ es)) ≡ find R q acc
   find-before acc e es q h l =
       find-back acc (e ∷ es) q h
-      ∙ ap (first_of (find R q acc)) (ap (λ r. cond (is_eq r) (Some e.1) (find R q es)) l ∙ find-less_below q e.0 es l (first _ _ (sorted-rest acc (e ∷ es) h)))
+      ∙ ap (first_of (find R q acc)) (ap (λ r. cond (is_eq r) (Some e.1) (find R q es)) l ∙ find-less_below q e.0 es l (T-first _ _ (sorted-rest acc (e ∷ es) h)))
       ∙ first_of-None (find R q acc)
 
   -- All that were taken make the map.

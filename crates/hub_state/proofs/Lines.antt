@@ -1,64 +1,45 @@
 -- Lines as lists of bytes: how a text is cut into them.
-use Rattle.std.proofs.Common.{◌||◌, ◌+◌, ◌/◌, ◌%◌, ◌≡◌, ℕ, zero, suc, ◌≤◌, Bool, true, false, not, ◌&&◌, ◌==◌, cond, ltb, List, [], ◌∷◌, ◌++◌, length, take, drop, refl, ap, ◌∙◌, arith, append_assoc}
+use Rattle.std.proofs.Common.{◌+◌, ◌/◌, ◌%◌, ◌≡◌, ℕ, zero, suc, ◌≤◌, Bool, true, false, not, ◌==◌, cond, ltb, List, [], ◌∷◌, ◌++◌, length, map, take, drop, refl, sym, ap, ◌∙◌, arith, append_assoc}
 use Rattle.std.specs.Prelude.{slice_index}
-use Rattle.std.specs.List.{list_all, list_any, onto_first, before_first, after_first, position_or_len}
+use Rattle.std.specs.List.{list_all, list_any, before_first, after_first, position_or_len}
 use Rattle.std.specs.Char.{encode_utf8}
 use Rattle.std.specs.Str.{encode_utf8_all}
 use Rattle.std.proofs.lemmas.List.{take_at}
 use Rattle.std.proofs.lemmas.List.Folds.{list_all-append}
 use Rattle.std.proofs.lemmas.Bool.Decides.{nat_tests}
+use Rattle.std.proofs.lemmas.Bool.{and_parts, and_from, or_right, not-true}
+use Rattle.hub_text.specs.declared.line.Line.{Line}
+use Rattle.hub_text.specs.Lines.{is_lf, lines_of, ended}
+use Rattle.hub_text.specs.LineLaws.{lines_of-ended}
+use Rattle.hub_text.specs.TestLaws.{list_all-not}
 use Rattle.hex.specs.Hex.{encode_with, encode_lower, lower_digits}
 use lib.Utf8.{encode, next}
 use Rattle.hub_state.specs.Writing.{joined_lines}
-use Rattle.hub_state.specs.Reading.{above_end, ends_whole, without_empty_end, pieces, lines_reading, nothing_above, is_space}
+use Rattle.hub_state.specs.Reading.{above_end, lines_reading, nothing_above, is_space}
 
--- A byte that ends no line, and one that ends no line and separates no fields.
+-- A byte that ends no line, and one that separates no fields.
 abbrev pub in_line : ℕ → Bool
-in_line b = not (b == 10)
+in_line b = not (is_lf b)
 
 abbrev pub in_field : ℕ → Bool
 in_field b = not (b == 32)
 
-pub both : (a b : Bool) → (a && b) ≡ true → (a ≡ true) × (b ≡ true)
-both true b h = (refl, h)
-both false b h = cc
+-- Lines that all end with LF.
+abbrev pub all_ended : List (List ℕ) → List (Line (List ℕ))
+all_ended ls = map ended ls
 
-pub and_both : (a b : Bool) → a ≡ true → b ≡ true → (a && b) ≡ true
-and_both a b h k = rw (h, k) refl
+no_lf : (l : List ℕ) → list_all in_line l ≡ true → list_any is_lf l ≡ false
+no_lf l h = not-true (list_any is_lf l) (sym (list_all-not is_lf l) ∙ h)
 
-not_cut : (t : Bool) (c : ℕ) (ps qs : List (List ℕ)) → not t ≡ true → cond t ps (onto_first c qs) ≡ onto_first c qs
-not_cut true c ps qs h = cc
-not_cut false c ps qs h = refl
-
--- A line that is ended is the first piece.
-pieces-line : (l rest : List ℕ) → list_all in_line l ≡ true → pieces (l ++ 10 ∷ rest) ≡ l ∷ pieces rest
-pieces-line [] rest h = refl
-pieces-line (b ∷ l) rest h =
-    let parts = both (in_line b) (list_all in_line l) h in
-    not_cut (b == 10) b _ _ parts.0 ∙ ap (onto_first b) (pieces-line l rest parts.1)
-
-pieces-joined : (ls : List (List ℕ)) → list_all (list_all in_line) ls ≡ true → pieces (joined_lines ls) ≡ ls ++ [] ∷ []
-pieces-joined [] h = refl
-pieces-joined (l ∷ ls) h =
-    let parts = both (list_all in_line l) (list_all (list_all in_line) ls) h in
-    ap pieces (append_assoc l (10 ∷ []) (joined_lines ls)) ∙ pieces-line l (joined_lines ls) parts.0 ∙ ap (λ ks. l ∷ ks) (pieces-joined ls parts.1)
-
-ends_whole-push : (ls : List (List ℕ)) → ends_whole (ls ++ [] ∷ []) ≡ true
-ends_whole-push [] = refl
-ends_whole-push (l ∷ []) = refl
-ends_whole-push (l ∷ k ∷ ls) = ends_whole-push (k ∷ ls)
-
-without_empty_end-push : (ls : List (List ℕ)) → without_empty_end (ls ++ [] ∷ []) ≡ ls
-without_empty_end-push [] = refl
-without_empty_end-push (l ∷ []) = refl
-without_empty_end-push (l ∷ k ∷ ls) = ap (λ ms. l ∷ ms) (without_empty_end-push (k ∷ ls))
+lines_of-joined : (ls : List (List ℕ)) → list_all (list_all in_line) ls ≡ true → lines_of (joined_lines ls) ≡ all_ended ls
+lines_of-joined [] h = refl
+lines_of-joined (l ∷ ls) h =
+    let parts = and_parts (list_all in_line l) (list_all (list_all in_line) ls) h in
+    ap lines_of (append_assoc l (10 ∷ []) (joined_lines ls)) ∙ lines_of-ended l (joined_lines ls) (no_lf l parts.0) ∙ ap (λ ks. ended l ∷ ks) (lines_of-joined ls parts.1)
 
 -- The lines of a text whose lines all end are read from the first on.
-pub above_end-joined : (ls : List (List ℕ)) → list_all (list_all in_line) ls ≡ true → above_end (joined_lines ls) ≡ lines_reading true 1 nothing_above ls
-above_end-joined ls h =
-    ap (λ ps. lines_reading (ends_whole ps) 1 nothing_above (without_empty_end ps)) (pieces-joined ls h)
-    ∙ ap (λ w. lines_reading w 1 nothing_above (without_empty_end (ls ++ [] ∷ []))) (ends_whole-push ls)
-    ∙ ap (lines_reading true 1 nothing_above) (without_empty_end-push ls)
+pub above_end-joined : (ls : List (List ℕ)) → list_all (list_all in_line) ls ≡ true → above_end (joined_lines ls) ≡ lines_reading 1 nothing_above (all_ended ls)
+above_end-joined ls h = ap (lines_reading 1 nothing_above) (lines_of-joined ls h)
 
 -- Bytes of a character other than LF.
 high-in_line : (b : ℕ) → 128 ≤ b → in_line b ≡ true
@@ -72,7 +53,7 @@ one-in_line : (b : ℕ) → in_line b ≡ true → list_all in_line (b ∷ []) �
 one-in_line b h = rw h refl
 
 more-in_line : (b : ℕ) (bs : List ℕ) → 128 ≤ b → list_all in_line bs ≡ true → list_all in_line (b ∷ bs) ≡ true
-more-in_line b bs h k = and_both (in_line b) (list_all in_line bs) (high-in_line b h) k
+more-in_line b bs h k = and_from (in_line b) (list_all in_line bs) (high-in_line b h) k
 
 four : ℕ → List ℕ
 four c = (240 + c / 262144) ∷ next (c / 4096) ∷ next (c / 64) ∷ next c ∷ []
@@ -111,21 +92,21 @@ encode-in_line c h =
 pub encodes-in_line : (cs : List ℕ) → list_all in_line cs ≡ true → list_all in_line (encode_utf8_all cs) ≡ true
 encodes-in_line [] h = refl
 encodes-in_line (c ∷ cs) h =
-    let parts = both (in_line c) (list_all in_line cs) h in
+    let parts = and_parts (in_line c) (list_all in_line cs) h in
     list_all-append in_line (encode_utf8 c) (encode_utf8_all cs)
-    ∙ and_both (list_all in_line (encode_utf8 c)) (list_all in_line (encode_utf8_all cs)) (encode-in_line c parts.0) (encodes-in_line cs parts.1)
+    ∙ and_from (list_all in_line (encode_utf8 c)) (list_all in_line (encode_utf8_all cs)) (encode-in_line c parts.0) (encodes-in_line cs parts.1)
 
 -- Hexadecimal digits stand in a line, and in a field.
 all_at : (p : ℕ → Bool) (t : List ℕ) (k : ℕ) → p 0 ≡ true → list_all p t ≡ true → p (slice_index t k) ≡ true
 all_at p [] k z h = z
-all_at p (x ∷ t) zero z h = (both (p x) (list_all p t) h).0
-all_at p (x ∷ t) (suc k) z h = all_at p t k z (both (p x) (list_all p t) h).1
+all_at p (x ∷ t) zero z h = (and_parts (p x) (list_all p t) h).0
+all_at p (x ∷ t) (suc k) z h = all_at p t k z (and_parts (p x) (list_all p t) h).1
 
 digits-pass : (p : ℕ → Bool) (bytes : List ℕ) → p 0 ≡ true → list_all p lower_digits ≡ true → list_all p (encode_lower bytes) ≡ true
 unfolding encode_with
 digits-pass p [] z h = refl
 digits-pass p (b ∷ bytes) z h =
-    and_both _ _ (all_at p lower_digits (b / 16) z h) (and_both _ _ (all_at p lower_digits (b % 16) z h) (digits-pass p bytes z h))
+    and_from _ _ (all_at p lower_digits (b / 16) z h) (and_from _ _ (all_at p lower_digits (b % 16) z h) (digits-pass p bytes z h))
 
 pub digits-in_line : (bytes : List ℕ) → list_all in_line (encode_lower bytes) ≡ true
 digits-in_line bytes = digits-pass in_line bytes refl refl
@@ -141,7 +122,7 @@ not_found false m n h = refl
 field_end : (f rest : List ℕ) → list_all in_field f ≡ true → position_or_len is_space (f ++ 32 ∷ rest) ≡ length f
 field_end [] rest h = refl
 field_end (b ∷ f) rest h =
-    let parts = both (in_field b) (list_all in_field f) h in
+    let parts = and_parts (in_field b) (list_all in_field f) h in
     not_found (b == 32) (1 + position_or_len is_space (f ++ 32 ∷ rest)) 0 parts.0 ∙ ap (λ n. 1 + n) (field_end f rest parts.1) ∙ one_more (length f)
   where
     one_more : (n : ℕ) → 1 + n ≡ suc n
@@ -162,8 +143,4 @@ field_after f rest h = ap (λ n. drop (n + 1) (f ++ 32 ∷ rest)) (field_end f r
 
 pub field_ends : (f rest : List ℕ) → list_any is_space (f ++ 32 ∷ rest) ≡ true
 field_ends [] rest = refl
-field_ends (b ∷ f) rest = any_more (is_space b) _ (field_ends f rest)
-  where
-    any_more : (a b : Bool) → b ≡ true → (a || b) ≡ true
-    any_more true b h = refl
-    any_more false b h = h
+field_ends (b ∷ f) rest = or_right (is_space b) _ (field_ends f rest)

@@ -1,5 +1,5 @@
 -- Replicas and archives as they are written, read one after the other.
-use Rattle.std.proofs.Common.{◌≡◌, ◌≢◌, ℕ, suc, ◌+◌, ◌<◌, ◌≤◌, Bool, true, false, ◌||◌, ◌==◌, List, [], ◌∷◌, ◌++◌, length, refl, sym, ap, ◌∙◌, arith, subst, T, length-append}
+use Rattle.std.proofs.Common.{◌≡◌, ◌≢◌, ℕ, suc, ◌+◌, ◌<◌, ◌≤◌, true, false, ◌==◌, List, [], ◌∷◌, ◌++◌, length, refl, sym, ap, ◌∙◌, arith, subst, T, length-append}
 use Rattle.std.specs.Prelude.{codes, Option, Some, None, Ok, is_some, unwrap_or, bytes_eq}
 use Rattle.std.specs.FinMap as fin
 use Rattle.std.specs.FinMap.Entries.{find, is_sorted}
@@ -24,8 +24,10 @@ use Rattle.hub_state.specs.declared.form.Section.TheVariants as section
 use Rattle.hub_state.specs.State.{Text, root_text, pair_of}
 use Rattle.hub_state.specs.Writing.{path_bytes, dir_line, file_line, hex_field, contents_lines, mark_lines}
 use Rattle.hub_state.specs.Reading.{line_reading, is_half, has_directory, is_directory_among}
+use Rattle.std.proofs.lemmas.Bool.{or_right}
 use Rattle.hub_state.proofs.Lines.{digits-in_line}
-use Rattle.hub_state.proofs.Fields.{path-in_line, IsUtf8-root, place_of_path, root_field-written, hex-in_line}
+use Rattle.hub_state.proofs.Fields.{path-in_line, IsUtf8-root, root_field-written, hex-in_line}
+use Rattle.hub_path.specs.ReadBack.{path-place}
 use Rattle.hub_state.proofs.Kept.{back, onto, next_is_new, next_is_there, find-before}
 use Rattle.hub_state.proofs.Written.{Reads, Reads-none, Reads-append, Reads-line, above, word_utf8, word_in_line, fields_in_line, dir_reads, file_reads, old_dir_reads, old_file_reads}
 
@@ -51,14 +53,10 @@ among : (o : Option Contents) → is_directory (unwrap_or o contents.Absent) ≡
 among None h = cc
 among (Some c) h = h
 
-or_second : (a b : Bool) → b ≡ true → (a || b) ≡ true
-or_second true b h = refl
-or_second false b h = h
-
 directory_before : (m : Replica) (acc : List (Path × Contents)) (d : Path) → is_directory (contents_at m d) ≡ true → fin.get m d ≡ find path_cmp d acc → has_directory acc d ≡ true
 directory_before m acc [] h e = refl
 directory_before m acc (n ∷ q) h e =
-    or_second (length (n ∷ q) == 0) (is_directory_among (find path_cmp (n ∷ q) acc))
+    or_right (length (n ∷ q) == 0) (is_directory_among (find path_cmp (n ∷ q) acc))
     (among (find path_cmp (n ∷ q) acc) (sym (ap (λ o. is_directory (unwrap_or o contents.Absent)) e) ∙ h))
 
 shorter : (n : Name) (q : Path) → parent (n ∷ q) ≢ n ∷ q
@@ -90,13 +88,13 @@ entry_reads m w rs ks n t acc p (contents.File bytes) es e room =
     let c : Contents = contents.File bytes in
     let there : fin.get m p ≡ Some c = there_in path_cmp-total m acc (p, c) es e in
     let path : is_path p ≡ true = w.paths p (ap is_some there) in
-    Reads-line _ _ (file_line (hex_field bytes) p) (fields_in_line (hex_field bytes) _ (hex-in_line bytes) (path-in_line p (place_of_path p path)))
+    Reads-line _ _ (file_line (hex_field bytes) p) (fields_in_line (hex_field bytes) _ (hex-in_line bytes) (path-in_line p (path-place p path)))
     (file_reads rs ks n t acc p bytes path (w.names p (ap is_some there)) (w.bytes p bytes there) (w.short p bytes there) room (new_in path_cmp-total m acc (p, c) es e)
     (parents m w.tree acc p c es e path there refl))
 entry_reads m w rs ks n t acc p contents.Directory es e room =
     let there : fin.get m p ≡ Some contents.Directory = there_in path_cmp-total m acc (p, contents.Directory) es e in
     let path : is_path p ≡ true = w.paths p (ap is_some there) in
-    Reads-line _ _ (dir_line p) (word_in_line (codes "dir ") (path_bytes p) refl (path-in_line p (place_of_path p path)))
+    Reads-line _ _ (dir_line p) (word_in_line (codes "dir ") (path_bytes p) refl (path-in_line p (path-place p path)))
     (dir_reads rs ks n t acc p path (w.names p (ap is_some there)) room (new_in path_cmp-total m acc (p, contents.Directory) es e)
     (parents m w.tree acc p contents.Directory es e path there refl))
 entry_reads m w rs ks n t acc p contents.Absent es e room = absurd (w.tree.present p (there_in path_cmp-total m acc (p, contents.Absent) es e))
@@ -126,12 +124,12 @@ old_entry_reads a w rs ks n k acc p (mark.File digest) es e room =
     let there : fin.get a p ≡ Some c = there_in path_cmp-total a acc (p, c) es e in
     let path : is_path p ≡ true = w.paths p (ap is_some there) in
     let fit = w.digests p digest there in
-    Reads-line _ _ (file_line (encode_lower digest) p) (fields_in_line (encode_lower digest) _ (digits-in_line digest) (path-in_line p (place_of_path p path)))
+    Reads-line _ _ (file_line (encode_lower digest) p) (fields_in_line (encode_lower digest) _ (digits-in_line digest) (path-in_line p (path-place p path)))
     (old_file_reads rs ks n k acc p digest path (w.names p (ap is_some there)) fit.0 fit.1 room (new_in path_cmp-total a acc (p, c) es e))
 old_entry_reads a w rs ks n k acc p mark.Directory es e room =
     let there : fin.get a p ≡ Some mark.Directory = there_in path_cmp-total a acc (p, mark.Directory) es e in
     let path : is_path p ≡ true = w.paths p (ap is_some there) in
-    Reads-line _ _ (dir_line p) (word_in_line (codes "dir ") (path_bytes p) refl (path-in_line p (place_of_path p path)))
+    Reads-line _ _ (dir_line p) (word_in_line (codes "dir ") (path_bytes p) refl (path-in_line p (path-place p path)))
     (old_dir_reads rs ks n k acc p path (w.names p (ap is_some there)) room (new_in path_cmp-total a acc (p, mark.Directory) es e))
 old_entry_reads a w rs ks n k acc p mark.Absent es e room = absurd (w.marks.present p (there_in path_cmp-total a acc (p, mark.Absent) es e))
 

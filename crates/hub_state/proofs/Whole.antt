@@ -9,7 +9,7 @@ use Rattle.std.proofs.lemmas.Cmp.{tied_itself}
 use Rattle.std.proofs.lemmas.List.Sums.{sum_by-cons}
 use Rattle.std.proofs.lemmas.List.Folds.{list_all-append}
 use Rattle.std.proofs.lemmas.Slice.Eq.{slice_eq-Decides, bytes_eq-Decides}
-use Rattle.std.proofs.lemmas.Bool.{false≢true}
+use Rattle.std.proofs.lemmas.Bool.{and_from, false≢true}
 use Rattle.hub_path.specs.Path.{Path, name_cmp, path_cmp, path_eq, is_place}
 use Rattle.hub_path.specs.Reading.{names_fault}
 use Rattle.hub_path.specs.Laws.{path_cmp-total, path_cmp-exact, name_cmp-total, name_cmp-exact}
@@ -23,7 +23,7 @@ use Rattle.hub_state.specs.State.{State, Text, IsState, root_text, pair_of, is_b
 use Rattle.hub_state.specs.Writing.{header, end_line, replica_lines, archive_lines, pair_lines, contents_lines, mark_lines, state_text}
 use Rattle.hub_state.specs.Reading.{Above, lines_reading, nothing_above, is_half, state_of, state_or_fault, state_reading}
 use Rattle.hub_state.specs.Laws.{IsReadable}
-use Rattle.hub_state.proofs.Lines.{in_line, and_both, above_end-joined}
+use Rattle.hub_state.proofs.Lines.{in_line, all_ended, above_end-joined}
 use Rattle.hub_state.proofs.Fields.{root-in_line}
 use Rattle.hub_state.proofs.Kept.{back, onto, none_tested, all_onto}
 use Rattle.hub_state.proofs.Written.{Reads, Reads-none, Reads-append, Reads-line, above, word_in_line, lines_reading-ended}
@@ -186,7 +186,7 @@ state_kept S z n =
     λ i. record { replicas = replicas i; archives = archives i }
 
 -- The header, lines, and `end`.
-header_reads : (ls : List (List ℕ)) → lines_reading true 1 nothing_above (header ∷ ls ++ end_line ∷ []) ≡ lines_reading true 2 nothing_above (ls ++ end_line ∷ [])
+header_reads : (ls : List (List ℕ)) → lines_reading 1 nothing_above (all_ended (header ∷ ls ++ end_line ∷ [])) ≡ lines_reading 2 nothing_above (all_ended (ls ++ end_line ∷ []))
 header_reads [] = refl
 header_reads (l ∷ ls) = refl
 
@@ -202,6 +202,6 @@ writes_read S is limits =
     let two = archives_read S is limits (kept (kept_of S.replicas)) (fin.entries S.archives) [] one.last (0 + total (fin.entries S.replicas)) refl one.whole (omega arith) in
     let ls = flat_map replica_lines (fin.entries S.replicas) ++ flat_map archive_lines (fin.entries S.archives) in
     let both = Reads-append nothing_above _ _ (flat_map replica_lines (fin.entries S.replicas)) (flat_map archive_lines (fin.entries S.archives)) one.reads two.reads in
-    let ended : list_all (list_all in_line) (header ∷ ls ++ end_line ∷ []) ≡ true = list_all-append (list_all in_line) ls (end_line ∷ []) ∙ and_both _ true both.whole refl in
+    let ended : list_all (list_all in_line) (header ∷ ls ++ end_line ∷ []) ≡ true = list_all-append (list_all in_line) ls (end_line ∷ []) ∙ and_from _ true both.whole refl in
     ap state_or_fault (above_end-joined (header ∷ ls ++ end_line ∷ []) ended ∙ header_reads ls ∙ lines_reading-ended ls 2 nothing_above _ (omega arith) both.says refl (open_whole two.last two.whole))
     ∙ ap Ok (state_kept S two.last (0 + total (fin.entries S.replicas) + total (fin.entries S.archives)))

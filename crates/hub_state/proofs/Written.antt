@@ -24,8 +24,10 @@ use Rattle.hub_state.specs.declared.form.Section.TheVariants as section
 use Rattle.hub_state.specs.State.{Text}
 use Rattle.hub_state.specs.Writing.{end_line, dir_line, file_line, path_bytes, hex_field}
 use Rattle.hub_state.specs.Reading.{Above, and_then, line_reading, numbered_reading, lines_reading, then_lines, fault_at, may_stand, has_directory}
-use Rattle.hub_state.proofs.Lines.{in_line, and_both, field_before, field_after, field_ends}
-use Rattle.hub_state.proofs.Fields.{IsUtf8-path, place_of_path, path_field-written, bytes_field-written, digest_field-written, IsUtf8-digits, IsUtf8-hex, hex-in_field}
+use Rattle.std.proofs.lemmas.Bool.{and_from}
+use Rattle.hub_state.proofs.Lines.{in_line, all_ended, field_before, field_after, field_ends}
+use Rattle.hub_state.proofs.Fields.{IsUtf8-path, path_field-written, bytes_field-written, digest_field-written, IsUtf8-digits, IsUtf8-hex, hex-in_field}
+use Rattle.hub_path.specs.ReadBack.{path-place}
 use Rattle.hub_state.proofs.Lines.{digits-in_field}
 
 -- What is read of some lines.
@@ -51,13 +53,13 @@ Reads-none d = record { whole = refl; says = refl }
 
 pub Reads-append : (d e f : Above) (ls ks : List (List ℕ)) → Reads d ls e → Reads e ks f → Reads d (ls ++ ks) f
 Reads-append d e f ls ks one two = record {
-  whole = list_all-append (list_all in_line) ls ks ∙ and_both _ _ one.whole two.whole;
+  whole = list_all-append (list_all in_line) ls ks ∙ and_from _ _ one.whole two.whole;
   says = lines_from-append ls ks d e one.says ∙ two.says;
 }
 
 pub Reads-line : (d e : Above) (l : List ℕ) → list_all in_line l ≡ true → line_reading d l ≡ Ok e → Reads d (l ∷ []) e
 Reads-line d e l whole says = record {
-  whole = and_both (list_all in_line l) true whole refl;
+  whole = and_from (list_all in_line l) true whole refl;
   says = ap (λ (r : Result Above Fault). and_then r (λ x. Ok x)) says;
 }
 
@@ -72,7 +74,7 @@ not_first n h = grind (arith, nat_tests)
 abbrev ended : Above → Above
 ended d = record d { ended = true }
 
-end_reads : (n : ℕ) (d : Above) → 2 ≤ n → d.ended ≡ false → may_stand d.section form.End ≡ true → lines_reading true n d (end_line ∷ []) ≡ Ok (ended d)
+end_reads : (n : ℕ) (d : Above) → 2 ≤ n → d.ended ≡ false → may_stand d.section form.End ≡ true → lines_reading n d (all_ended (end_line ∷ [])) ≡ Ok (ended d)
 end_reads n d h going place = rw (not_first n h, end_utf8, going, place) refl
 
 step : (n : ℕ) (d : Above) (y : Above) (e : Above) (l : List ℕ) (f : Above → Result Above Fault) (g : Above → Result Above StateFault) → 2 ≤ n
@@ -85,14 +87,14 @@ step n d y e l f g h says more =
     ] says)
 
 pub lines_reading-ended : (ls : List (List ℕ)) (n : ℕ) (d e : Above) → 2 ≤ n → lines_from d ls ≡ Ok e → e.ended ≡ false → may_stand e.section form.End ≡ true
-    → lines_reading true n d (ls ++ end_line ∷ []) ≡ Ok (ended e)
+    → lines_reading n d (all_ended (ls ++ end_line ∷ [])) ≡ Ok (ended e)
 lines_reading-ended [] n d e h says going place =
     let same : d ≡ e = cc in
-    subst (λ (x : Above). lines_reading true n x (end_line ∷ []) ≡ Ok (ended e)) (sym same) (end_reads n e h going place)
+    subst (λ (x : Above). lines_reading n x (all_ended (end_line ∷ [])) ≡ Ok (ended e)) (sym same) (end_reads n e h going place)
 lines_reading-ended (l ∷ []) n d e h says going place =
-    step n d (ended e) e l (λ x. lines_from x []) (λ x. lines_reading true (n + 1) x (end_line ∷ [])) h says (λ x k. lines_reading-ended [] (n + 1) x e (omega arith) k going place)
+    step n d (ended e) e l (λ x. lines_from x []) (λ x. lines_reading (n + 1) x (all_ended (end_line ∷ []))) h says (λ x k. lines_reading-ended [] (n + 1) x e (omega arith) k going place)
 lines_reading-ended (l ∷ k ∷ ls) n d e h says going place =
-    step n d (ended e) e l (λ x. lines_from x (k ∷ ls)) (λ x. lines_reading true (n + 1) x (k ∷ ls ++ end_line ∷ [])) h says
+    step n d (ended e) e l (λ x. lines_from x (k ∷ ls)) (λ x. lines_reading (n + 1) x (all_ended (k ∷ ls ++ end_line ∷ []))) h says
     (λ x g. lines_reading-ended (k ∷ ls) (n + 1) x e (omega arith) g going place)
 
 -- What was read within a section.
@@ -103,7 +105,7 @@ pub word_utf8 : (w : List ℕ) → is_utf8 w ≡ true → (t : List ℕ) → IsU
 word_utf8 w h t u = is_utf8-from_IsUtf8 (w ++ t) (IsUtf8-append w t (IsUtf8-from_is_utf8 w h) u)
 
 pub word_in_line : (w t : List ℕ) → list_all in_line w ≡ true → list_all in_line t ≡ true → list_all in_line (w ++ t) ≡ true
-word_in_line w t h k = list_all-append in_line w t ∙ and_both _ _ h k
+word_in_line w t h k = list_all-append in_line w t ∙ and_from _ _ h k
 
 dir_word : is_utf8 (codes "dir ") ≡ true
 unfolding is_utf8 chars encode
@@ -140,14 +142,14 @@ pub dir_reads : (rs : List (Text × List (Path × Contents))) (ks : List (List T
     → is_path p ≡ true → names_fault 0 p ≡ None → n < ENTRIES → find path_cmp p acc ≡ None → has_directory acc (parent p) ≡ true
     → line_reading (above ((t, acc) ∷ rs) ks section.Replica n) (dir_line p) ≡ Ok (above ((t, (p, contents.Directory) ∷ acc) ∷ rs) ks section.Replica (n + 1))
 dir_reads rs ks n t acc p path ok room new parents =
-    rw (dir_utf8 (path_bytes p) (IsUtf8-path p (place_of_path p path)), path_field-written p path ok, not_full n room, new, parents) refl
+    rw (dir_utf8 (path_bytes p) (IsUtf8-path p (path-place p path)), path_field-written p path ok, not_full n room, new, parents) refl
 
 pub file_reads : (rs : List (Text × List (Path × Contents))) (ks : List (List Text × List (Path × Mark))) (n : ℕ) (t : Text) (acc : List (Path × Contents)) (p : Path) (bytes : List ℕ)
     → is_path p ≡ true → names_fault 0 p ≡ None → IsBytes bytes → length bytes ≤ FILE_BYTES → n < ENTRIES → find path_cmp p acc ≡ None → has_directory acc (parent p) ≡ true
     → line_reading (above ((t, acc) ∷ rs) ks section.Replica n) (file_line (hex_field bytes) p) ≡ Ok (above ((t, (p, contents.File bytes) ∷ acc) ∷ rs) ks section.Replica (n + 1))
 file_reads rs ks n t acc p bytes path ok fit short room new parents =
     rw (
-      file_utf8 (hex_field bytes ++ 32 ∷ path_bytes p) (fields_utf8 (hex_field bytes) (path_bytes p) (IsUtf8-hex bytes) (IsUtf8-path p (place_of_path p path))),
+      file_utf8 (hex_field bytes ++ 32 ∷ path_bytes p) (fields_utf8 (hex_field bytes) (path_bytes p) (IsUtf8-hex bytes) (IsUtf8-path p (path-place p path))),
       field_ends (hex_field bytes) (path_bytes p),
       field_before (hex_field bytes) (path_bytes p) (hex-in_field bytes),
       field_after (hex_field bytes) (path_bytes p) (hex-in_field bytes),
@@ -163,14 +165,14 @@ pub old_dir_reads : (rs : List (Text × List (Path × Contents))) (ks : List (Li
     → is_path p ≡ true → names_fault 0 p ≡ None → n < ENTRIES → find path_cmp p acc ≡ None
     → line_reading (above rs ((k, acc) ∷ ks) section.Archive n) (dir_line p) ≡ Ok (above rs ((k, (p, mark.Directory) ∷ acc) ∷ ks) section.Archive (n + 1))
 old_dir_reads rs ks n k acc p path ok room new =
-    rw (dir_utf8 (path_bytes p) (IsUtf8-path p (place_of_path p path)), path_field-written p path ok, not_full n room, new) refl
+    rw (dir_utf8 (path_bytes p) (IsUtf8-path p (path-place p path)), path_field-written p path ok, not_full n room, new) refl
 
 pub old_file_reads : (rs : List (Text × List (Path × Contents))) (ks : List (List Text × List (Path × Mark))) (n : ℕ) (k : List Text) (acc : List (Path × Mark)) (p : Path) (digest : List ℕ)
     → is_path p ≡ true → names_fault 0 p ≡ None → length digest ≡ 32 → IsBytes digest → n < ENTRIES → find path_cmp p acc ≡ None
     → line_reading (above rs ((k, acc) ∷ ks) section.Archive n) (file_line (encode_lower digest) p) ≡ Ok (above rs ((k, (p, mark.File digest) ∷ acc) ∷ ks) section.Archive (n + 1))
 old_file_reads rs ks n k acc p digest path ok long fit room new =
     rw (
-      file_utf8 (encode_lower digest ++ 32 ∷ path_bytes p) (fields_utf8 (encode_lower digest) (path_bytes p) (IsUtf8-digits digest) (IsUtf8-path p (place_of_path p path))),
+      file_utf8 (encode_lower digest ++ 32 ∷ path_bytes p) (fields_utf8 (encode_lower digest) (path_bytes p) (IsUtf8-digits digest) (IsUtf8-path p (path-place p path))),
       field_ends (encode_lower digest) (path_bytes p),
       field_before (encode_lower digest) (path_bytes p) (digits-in_field digest),
       field_after (encode_lower digest) (path_bytes p) (digits-in_field digest),

@@ -10,4 +10,5 @@ pub mod TestLaws
 pub mod TextChars
 pub mod TextCuts
 pub mod TextOrder
+pub mod TextParts
 pub mod Texts

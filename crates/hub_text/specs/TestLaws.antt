@@ -1,7 +1,9 @@
--- Laws of tests, and of the test whether some item of a list passes.
-use Rattle.std.proofs.Common.{◌≡◌, Bool, true, false, not, ◌&&◌, ◌||◌, List, [], ◌∷◌, ◌++◌, map, refl, sym, ap, ◌∙◌}
-use Rattle.std.specs.List.{list_any}
-use Rattle.std.specs.Ordering.{bool_cmp, eq_by_cmp}
+-- Laws of tests, and of the tests whether some or all items of a list pass.
+use Rattle.std.proofs.Common.{◌≡◌, Bool, true, false, not, ◌&&◌, ◌||◌, T, List, [], ◌∷◌, ◌++◌, map, refl, sym, ap, ◌∙◌}
+use Rattle.std.specs.List.{list_all, list_any}
+use Rattle.std.specs.Ordering.{bool_cmp, eq_by_cmp, is_lt}
+use Rattle.std.specs.declared.cmp.Ordering.{Ordering}
+use Rattle.std.specs.declared.cmp.Ordering.TheVariants.{Less, Equal, Greater}
 use mathlib.Core.Bool.{beq}
 
 -- The first of some tests, false where there is none, and the others.
@@ -52,18 +54,6 @@ every7 f h a b c d e g k =
     (every_is (λ a'. every (λ b. every (λ c. every (λ d. every (λ e. every (λ g. every (λ k. f a' b c d e g k))))))) h a) b) c)
     d e g k
 
-pub and-false : (a : Bool) → (a && false) ≡ false
-and-false true = refl
-and-false false = refl
-
-pub and-true : (a : Bool) → (a && true) ≡ a
-and-true true = refl
-and-true false = refl
-
-pub or-false : (a : Bool) → (a || false) ≡ a
-or-false true = refl
-or-false false = refl
-
 pub or-assoc : (a b c : Bool) → (a || (b || c)) ≡ ((a || b) || c)
 or-assoc true b c = refl
 or-assoc false b c = refl
@@ -93,6 +83,25 @@ any-map f h (x ∷ xs) = ap (λ b. f (h x) || b) (any-map f h xs)
 pub any-append : {X : Type 0} (f : X → Bool) (xs ys : List X) → (list_any f xs || list_any f ys) ≡ list_any f (xs ++ ys)
 any-append f [] ys = refl
 any-append f (x ∷ xs) ys = sym (or-assoc (f x) (list_any f xs) (list_any f ys)) ∙ ap (λ b. f x || b) (any-append f xs ys)
+
+-- No item passes a test exactly when each fails it.
+pub list_all-not : {X : Type 0} (p : X → Bool) (xs : List X) → list_all (λ x. not (p x)) xs ≡ not (list_any p xs)
+list_all-not p [] = refl
+list_all-not p (x ∷ xs) = elim (p x) as (λ b. (not b && list_all (λ y. not (p y)) xs) ≡ not (b || list_any p xs)) [ true ↦ refl | false ↦ list_all-not p xs ]
+
+-- Facts of tests.
+pub T-first : (a b : Bool) → T (a && b) → T a
+T-first true b p = tt
+T-first false b p = p
+
+pub T-second : (a b : Bool) → T (a && b) → T b
+T-second true b p = p
+T-second false b p = absurd p
+
+pub T-less : (o : Ordering) → T (is_lt o) → o ≡ Less
+T-less Less p = refl
+T-less Equal p = absurd p
+T-less Greater p = absurd p
 
 -- Tests that compare as equal are equal.
 pub bits_ties : (x y : Bool) → beq x y ≡ eq_by_cmp bool_cmp x y

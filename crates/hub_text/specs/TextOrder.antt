@@ -37,13 +37,13 @@ before_later a b us vs e h xs ys = rw (← e, tied a) (h xs ys)
 before : (a b : ℕ) (us vs : List ℕ) → (a < b) ⊎ ((a ≡ b) × IsBefore us vs) → IsBefore (a ∷ us) (b ∷ vs)
 before a b us vs h = ⊎_elim (λ l. before_first a b us vs l) (λ e. before_later a b us vs e.0 e.1) h
 
-abbrev one_more : ℕ → List ℕ
+abbrev pub one_more : ℕ → List ℕ
 one_more c = next c ∷ []
 
-abbrev two_more : ℕ → List ℕ
+abbrev pub two_more : ℕ → List ℕ
 two_more c = next (c / 64) ∷ one_more c
 
-abbrev three_more : ℕ → List ℕ
+abbrev pub three_more : ℕ → List ℕ
 three_more c = next (c / 4096) ∷ two_more c
 
 -- The later bytes of two characters whose first bytes are equal.
@@ -137,7 +137,7 @@ cmp-encodes [] (d ∷ ds) = (none-first d (encode_utf8_all ds) (form d)).0
 cmp-encodes (c ∷ cs) [] = (none-first c (encode_utf8_all cs) (form c)).1
 cmp-encodes (c ∷ cs) (d ∷ ds) = cmp-cons c d cs ds (cases_lt c d) (cmp-encodes cs ds)
 
--- Two texts are compared by their bytes us by their characters.
+-- Two texts are compared by their bytes as by their characters.
 pub cmp-chars : (us vs : List ℕ) → IsUtf8 us → IsUtf8 vs → slice_cmp nat_cmp us vs ≡ slice_cmp nat_cmp (chars us) (chars vs)
 cmp-chars us vs u v =
     ap (λ t. slice_cmp nat_cmp t vs) (sym (encodes-chars us u))

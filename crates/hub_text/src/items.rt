@@ -67,6 +67,11 @@ impl<T> Items<T> {
         self.items.is_empty()
     }
 
+    /// Returns the allocator of the list.
+    pub fn alloc(&self) -> Global {
+        *self.items.allocator()
+    }
+
     /// Appends an item. If it is out of memory, the error gives the item back, and the list is unchanged.
     pub fn push(&mut self, item: T) -> Result<(), AllocFailed<T>>
         ensures ok { OnOk result (self.new ≡ self.old ++ item ∷ []) }

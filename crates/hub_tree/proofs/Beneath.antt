@@ -3,14 +3,14 @@ use Rattle.std.proofs.Common.{◌≡◌, Bool, true, false, not, [], ◌∷◌, 
 use Rattle.std.specs.Cmp.{tied_itself}
 use Rattle.std.specs.Ordering.{ordering_then}
 use Rattle.std.specs.declared.cmp.Ordering.TheVariants.{Less}
-use Rattle.std.proofs.lemmas.Bool.{false≢true}
-use Rattle.hub_path.specs.Laws.{is_over-rest, is_over-append}
+use Rattle.std.proofs.lemmas.Bool.{false≢true, and_parts}
+use Rattle.hub_path.specs.Laws.{is_over-rest, is_over-append, parent-push}
 use Rattle.hub_path.specs.Path.{Name, Path, path_cmp, path_eq, is_over}
 use Rattle.hub_tree.specs.Below.{is_below}
 use Rattle.hub_tree.specs.Tree.{Replica, IsTree, contents_at, is_absent, is_directory}
 use Rattle.hub_tree.specs.declared.contents.Contents.TheVariants as contents
 use Rattle.hub_tree.proofs.Order.{name_total, same_path, path_itself}
-use Rattle.hub_tree.proofs.Children.{path_eq-cmp, parent-push, both_true}
+use Rattle.hub_tree.proofs.Children.{path_eq-cmp}
 use Rattle.hub_tree.proofs.Setting.{is_a_directory}
 
 -- a path below another one is that one with more names
@@ -27,7 +27,7 @@ some_rest p q (n ∷ s) e h = (n, s, e)
 
 pub below_rest : (p q : Path) → is_below p q ≡ true → (n : Name) × (s : Path) × (q ≡ p ++ n ∷ s)
 below_rest p q h =
-    let two = both_true (is_over p q) (not (path_eq p q)) h in
+    let two = and_parts (is_over p q) (not (path_eq p q)) h in
     some_rest p q (drop (length p) q) (is_over-rest p q two.0) two.1
 
 pub below_order : (p : Path) (n : Name) (r : Path) → path_cmp p (p ++ n ∷ r) ≡ Less

@@ -7,7 +7,7 @@ use Rattle.std.specs.List.{list_any, filter, AllByRecursion}
 use Rattle.std.specs.List.Sorted.{IsStrictlySortedBy}
 use Rattle.std.specs.Ordering.{eq_by_cmp, ordering_reverse}
 use Rattle.std.specs.declared.cmp.Ordering.TheVariants.{Less, Greater}
-use Rattle.std.proofs.lemmas.Bool.{false≢true}
+use Rattle.std.proofs.lemmas.Bool.{false≢true, and_parts, not-true}
 use Rattle.std.proofs.lemmas.Grind.{reverse_onto}
 use Rattle.std.proofs.lemmas.List.{reverse-reverse, reverse-append}
 use Rattle.std.proofs.lemmas.List.Folds.{list_any-append}
@@ -15,27 +15,25 @@ use Rattle.std.proofs.lemmas.List.Kept.{IsStrictlySortedBy-filter}
 use Rattle.std.proofs.lemmas.List.Sorted.{list_any-IsPermutation, IsPermutation-reverse}
 use Rattle.std.proofs.lemmas.Map.Keys.{sorted_head, sorted_tail}
 use Rattle.std.proofs.lemmas.Map.Views.{any-filter_same}
+use Rattle.std.proofs.Math.Bool.{or-true}
+use Rattle.hub_path.specs.Laws.{parent-last_name, parent-push}
 use Rattle.hub_path.specs.Path.{Name, Path, path_cmp, parent, last_name}
 use Rattle.hub_tree.specs.Below.{is_below, under}
 use Rattle.hub_tree.specs.Tree.{Replica, contents_at, is_absent}
 use Rattle.hub_tree.specs.declared.contents.Contents.{Contents}
 use Rattle.hub_tree.specs.declared.contents.Contents.TheVariants as contents
 use Rattle.hub_tree.proofs.Order.{path_total, same_path, path_itself}
-use Rattle.hub_tree.proofs.Children.{sorted_keys, both_true, rejoined, parent-push}
+use Rattle.hub_tree.proofs.Children.{sorted_keys}
 use Rattle.hub_tree.proofs.Beneath.{below_from, below_rest, below_order}
 
 -- whether a path is in a list
 abbrev pub among : Path → List Path → Bool
 among p ps = list_any (eq_by_cmp path_cmp p) ps
 
-or_true : (b : Bool) → (b || true) ≡ true
-or_true true = refl
-or_true false = refl
-
 pub among_middle : (q : Path) (front rest : List Path) → among q (front ++ q ∷ rest) ≡ true
 among_middle q front rest =
     list_any-append (eq_by_cmp path_cmp q) front (q ∷ rest)
-    ∙ ap (λ b. among q front || (b || among q rest)) (path_itself q) ∙ or_true (among q front)
+    ∙ ap (λ b. among q front || (b || among q rest)) (path_itself q) ∙ or-true (among q front)
 
 pub among_reverse : (q : Path) (ps : List Path) → among q (reverse ps) ≡ among q ps
 among_reverse q ps = sym (list_any-IsPermutation (eq_by_cmp path_cmp q) ps (reverse ps) (IsPermutation-reverse ps))
@@ -112,15 +110,11 @@ among_keys m (n ∷ q) h l = sym (fin.contains_key-keys m (n ∷ q)) ∙ some_th
 pub in_under : (m : Replica) (p q : Path) → is_below p q ≡ true → is_absent (contents_at m q) ≡ false → among q (under m p) ≡ true
 in_under m p q b h = among_filter q (λ q. is_below p q && not (is_absent (contents_at m q))) (fin.keys m) ∙ rw (b, h, among_keys m q h (below_names p q b)) refl
 
-not_of : (b : Bool) → not b ≡ true → b ≡ false
-not_of true e = absurd (false≢true e)
-not_of false e = refl
-
 pub of_under : (m : Replica) (p q : Path) → among q (under m p) ≡ true → (is_below p q ≡ true) × (is_absent (contents_at m q) ≡ false)
 of_under m p q e =
-    let two = both_true (is_below p q && not (is_absent (contents_at m q))) (among q (fin.keys m)) (sym (among_filter q (λ q. is_below p q && not (is_absent (contents_at m q))) (fin.keys m)) ∙ e) in
-    let one = both_true (is_below p q) (not (is_absent (contents_at m q))) two.0 in
-    (one.0, not_of (is_absent (contents_at m q)) one.1)
+    let two = and_parts (is_below p q && not (is_absent (contents_at m q))) (among q (fin.keys m)) (sym (among_filter q (λ q. is_below p q && not (is_absent (contents_at m q))) (fin.keys m)) ∙ e) in
+    let one = and_parts (is_below p q) (not (is_absent (contents_at m q))) two.0 in
+    (one.0, not-true (is_absent (contents_at m q)) one.1)
 
 absent : (c : Contents) → is_absent c ≡ true → c ≡ contents.Absent
 absent (contents.File bytes) e = absurd (false≢true e)
@@ -143,7 +137,7 @@ parent-append (a ∷ b ∷ p) n k r = ap (λ q. a ∷ q) (parent-append (b ∷ p
 
 last_of : (q : Path) → 0 < length q → parent q ++ last_name q ∷ [] ≡ q
 last_of [] l = absurd (omega arith)
-last_of (n ∷ q) l = rejoined n q
+last_of (n ∷ q) l = parent-last_name n q
 
 by_rest : (p q : Path) (n : Name) (r : Path) (X : Type 0) → q ≡ p ++ n ∷ r → (parent q ≡ p → X) → (is_below p (parent q) ≡ true → X) → X
 by_rest p q n [] X e top below = top (ap parent e ∙ parent-push p n)

@@ -13,9 +13,12 @@ use Rattle.std.specs.Ordering.{eq_by_cmp, is_lt, nat_cmp, ordering_then}
 use Rattle.std.specs.declared.cmp.Ordering.{Ordering}
 use Rattle.std.specs.declared.cmp.Ordering.TheVariants.{Less, Equal, Greater}
 use Rattle.std.proofs.lemmas.Bool.Decides.{nat_tests}
-use Rattle.std.proofs.lemmas.Bool.{false≢true}
+use Rattle.std.proofs.lemmas.Bool.{false≢true, and_parts}
 use Rattle.std.proofs.lemmas.List.Kept.{IsStrictlySortedBy-filter}
 use Rattle.std.proofs.lemmas.Map.Views.{any-filter_same}
+use Rattle.std.proofs.Math.Bool.{and-true, and-false, and_assoc, and-or_distrib_left}
+use Rattle.hub_text.specs.TestLaws.{T-first, T-second, T-less}
+use Rattle.hub_path.specs.Laws.{parent-last_name, parent-push, last_name-push}
 use Rattle.hub_path.specs.Path.{Name, Path, path_cmp, name_cmp, path_eq, parent, last_name}
 use Rattle.hub_tree.specs.Tree.{Replica, contents_at, is_absent, is_child, children}
 use Rattle.hub_tree.specs.declared.contents.Contents.{Contents}
@@ -23,28 +26,15 @@ use Rattle.hub_tree.proofs.Order.{name_total, path_total, path_antisymmetric, sa
 use Rattle.hub_tree.proofs.Ascending.{is_sorted-from}
 
 -- two lists in order that have the same items
-first : (a b : Bool) → T (a && b) → T a
-first true b p = tt
-first false b p = p
-
-second : (a b : Bool) → T (a && b) → T b
-second true b p = p
-second false b p = absurd p
-
-less : (o : Ordering) → T (is_lt o) → o ≡ Less
-less Less p = refl
-less Equal p = absurd p
-less Greater p = absurd p
-
 module _ {K X : Type 0} (R : K → K → Ordering) where
   all_above : (k : K) (es : List (K × X)) → T (below_all R k es) → AllByRecursion (λ y. R k y ≡ Less) (keys_of es)
   all_above k [] h = tt
-  all_above k (e ∷ es) h = (less _ (first (is_lt (R k e.0)) (below_all R k es) h), all_above k es (second (is_lt (R k e.0)) (below_all R k es) h))
+  all_above k (e ∷ es) h = (T-less _ (T-first (is_lt (R k e.0)) (below_all R k es) h), all_above k es (T-second (is_lt (R k e.0)) (below_all R k es) h))
 
   pub sorted_keys : (es : List (K × X)) → T (is_sorted R es) → IsStrictlySortedBy R (keys_of es)
   unfolding IsStrictlySortedBy
   sorted_keys [] h = tt
-  sorted_keys (e ∷ es) h = (all_above e.0 es (first (below_all R e.0 es) (is_sorted R es) h), sorted_keys es (second (below_all R e.0 es) (is_sorted R es) h))
+  sorted_keys (e ∷ es) h = (all_above e.0 es (T-first (below_all R e.0 es) (is_sorted R es) h), sorted_keys es (T-second (below_all R e.0 es) (is_sorted R es) h))
 
 module _ {K : Type 0} (R : K → K → Ordering) where
   marked : List K → List (K × Bool)
@@ -78,22 +68,8 @@ module _ {K : Type 0} (R : K → K → Ordering) where
       ∙ keys-map_of ys h
 
 -- a path and its last name
-no_names : (p : Path) → 0 < length p → (length p == 0) ≡ false
-no_names p l = grind (arith, nat_tests)
-
-pub rejoined : (n : Name) (p : Path) → parent (n ∷ p) ++ last_name (n ∷ p) ∷ [] ≡ n ∷ p
-rejoined n [] = refl
-rejoined n (m ∷ p) = ap (λ q. n ∷ q) (rejoined m p)
-
-pub parent-push : (d : Path) (n : Name) → parent (d ++ n ∷ []) ≡ d
-parent-push [] n = refl
-parent-push (m ∷ []) n = refl
-parent-push (m ∷ k ∷ d) n = ap (λ q. m ∷ q) (parent-push (k ∷ d) n)
-
-pub last_name-push : (d : Path) (n : Name) → last_name (d ++ n ∷ []) ≡ n
-last_name-push [] n = refl
-last_name-push (m ∷ []) n = refl
-last_name-push (m ∷ k ∷ d) n = last_name-push (k ∷ d) n
+pub some_length : (p : Path) → 0 < length p → (length p == 0) ≡ false
+some_length p l = grind (arith, nat_tests)
 
 pub path_eq-cmp : (p q : Path) → path_eq p q ≡ eq_by_cmp path_cmp p q
 path_eq-cmp p q = lists_ties (slice_cmp nat_cmp) texts_ties p q
@@ -102,17 +78,13 @@ some_names : (d : Path) (n : Name) → 0 < length (d ++ n ∷ [])
 some_names d n = omega (arith, length-append d (n ∷ []))
 
 pub is_child-push : (d : Path) (n : Name) → is_child d (d ++ n ∷ []) ≡ true
-is_child-push d n = rw (no_names (d ++ n ∷ []) (some_names d n), parent-push d n, path_eq-cmp d d, path_itself d) refl
-
-pub both_true : (a b : Bool) → (a && b) ≡ true → (a ≡ true) × (b ≡ true)
-both_true true b h = (refl, h)
-both_true false b h = cc
+is_child-push d n = rw (some_length (d ++ n ∷ []) (some_names d n), parent-push d n, path_eq-cmp d d, path_itself d) refl
 
 pub child_of : (d q : Path) → is_child d q ≡ true → q ≡ d ++ last_name q ∷ []
 child_of d [] h = cc
 child_of d (n ∷ p) h =
-    let same : parent (n ∷ p) ≡ d = same_path (parent (n ∷ p)) d (sym (path_eq-cmp (parent (n ∷ p)) d) ∙ (both_true (not (length (n ∷ p) == 0)) (path_eq (parent (n ∷ p)) d) h).1) in
-    sym (rejoined n p) ∙ ap (λ e. e ++ last_name (n ∷ p) ∷ []) same
+    let same : parent (n ∷ p) ≡ d = same_path (parent (n ∷ p)) d (sym (path_eq-cmp (parent (n ∷ p)) d) ∙ (and_parts (not (length (n ∷ p) == 0)) (path_eq (parent (n ∷ p)) d) h).1) in
+    sym (parent-last_name n p) ∙ ap (λ e. e ++ last_name (n ∷ p) ∷ []) same
 
 -- which paths are children
 -- whether contents are there, of what a map has
@@ -120,17 +92,9 @@ abbrev pub shown : Option Contents → Bool
 shown None = false
 shown (Some c) = not (is_absent c)
 
-and_true : (b : Bool) → (b && true) ≡ b
-and_true true = refl
-and_true false = refl
-
 shown_at : (m : Replica) (n : Name) (p : Path) (o : Option Contents) → fin.get m (n ∷ p) ≡ o → (not (is_absent (contents_at m (n ∷ p))) && is_some (fin.get m (n ∷ p))) ≡ shown o
 shown_at m n p None e = rw e refl
-shown_at m n p (Some c) e = rw e (and_true (not (is_absent c)))
-
-and_assoc : (a b c : Bool) → ((a && b) && c) ≡ (a && (b && c))
-and_assoc true b c = refl
-and_assoc false b c = refl
+shown_at m n p (Some c) e = rw e (and-true (not (is_absent c)))
 
 any-children : (m : Replica) (d q : Path) → list_any (eq_by_cmp path_cmp q) (children m d) ≡ (is_child d q && (not (is_absent (contents_at m q)) && is_some (fin.get m q)))
 any-children m d q =
@@ -164,7 +128,7 @@ is_childless : (m : Replica) (d : Path) (ps : List Path) → ((q : Path) → lis
 is_childless m d [] h none = refl
 is_childless m d (q ∷ ps) h none =
     let found : list_any (eq_by_cmp path_cmp q) (q ∷ ps) ≡ true = ap (λ b. b || list_any (eq_by_cmp path_cmp q) ps) (path_itself q) in
-    let two = both_true (is_child d q) (not (is_absent (contents_at m q)) && is_some (fin.get m q)) (sym (h q) ∙ found) in
+    let two = and_parts (is_child d q) (not (is_absent (contents_at m q)) && is_some (fin.get m q)) (sym (h q) ∙ found) in
     let is : q ≡ d ++ last_name q ∷ [] = child_of d q two.0 in
     let there : shown (fin.get m (d ++ last_name q ∷ [])) ≡ true =
     sym (names_shown m (d ++ last_name q ∷ []) (some_names d (last_name q))) ∙ ap (λ p. not (is_absent (contents_at m p)) && is_some (fin.get m p)) (sym is) ∙ two.1 in
@@ -206,24 +170,16 @@ is_pushed d q k =
     both_ways _ _
     (λ e. let is : q ≡ d ++ k ∷ [] = same_path q (d ++ k ∷ []) e in
     ap (λ p. is_child d p && eq_by_cmp name_cmp (last_name p) k) is ∙ rw (is_child-push d k, last_name-push d k, name_itself k) refl)
-    (λ e. let two = both_true (is_child d q) (eq_by_cmp name_cmp (last_name q) k) e in
+    (λ e. let two = and_parts (is_child d q) (eq_by_cmp name_cmp (last_name q) k) e in
     let is : q ≡ d ++ k ∷ [] = child_of d q two.0 ∙ ap (λ n. d ++ n ∷ []) (same_name (last_name q) k two.1) in
     ap (λ p. eq_by_cmp path_cmp p (d ++ k ∷ [])) is ∙ path_itself (d ++ k ∷ []))
 
-or_of_and : (a b c : Bool) → ((a && b) || (a && c)) ≡ (a && (b || c))
-or_of_and true b c = refl
-or_of_and false b c = refl
-
-and_false : (b : Bool) → false ≡ (b && false)
-and_false true = refl
-and_false false = refl
-
 any-pushed : (d q : Path) (ns : List Name) → list_any (eq_by_cmp path_cmp q) (pushed d ns) ≡ (is_child d q && list_any (eq_by_cmp name_cmp (last_name q)) ns)
-any-pushed d q [] = and_false (is_child d q)
+any-pushed d q [] = sym (and-false (is_child d q))
 any-pushed d q (k ∷ ns) =
     ap (λ b. b || list_any (eq_by_cmp path_cmp q) (pushed d ns)) (is_pushed d q k)
     ∙ ap (λ b. (is_child d q && eq_by_cmp name_cmp (last_name q) k) || b) (any-pushed d q ns)
-    ∙ or_of_and (is_child d q) _ _
+    ∙ sym (and-or_distrib_left (is_child d q) _ _)
 
 where_child : (m : Replica) (d q : Path) (ns : List Name) → ((n : Name) → shown (fin.get m (d ++ n ∷ [])) ≡ list_any (eq_by_cmp name_cmp n) ns) → (b : Bool) → is_child d q ≡ b
     → (b && (not (is_absent (contents_at m q)) && is_some (fin.get m q))) ≡ (b && list_any (eq_by_cmp name_cmp (last_name q)) ns)

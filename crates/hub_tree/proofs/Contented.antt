@@ -4,7 +4,8 @@ use Rattle.std.specs.Prelude.{◌==◌, if◌then◌else◌}
 use Rattle.std.specs.FinMap as fin
 use Rattle.std.specs.Option.{unwrap_or}
 use Rattle.std.specs.Ordering.{eq_by_cmp}
-use Rattle.std.proofs.lemmas.Bool.{false≢true}
+use Rattle.std.proofs.lemmas.Bool.{false≢true, not-false, cond_both}
+use Rattle.hub_path.specs.Laws.{parent-last_name}
 use Rattle.hub_path.specs.Path.{Name, Path, path_cmp, path_eq, parent, last_name}
 use Rattle.hub_tree.specs.Tree.{Replica, Archive, IsTree, IsArchive, contents_at, old_mark_at, is_absent, is_directory, children, set_fault, with_contents}
 use Rattle.hub_tree.specs.declared.contents.Contents.{Contents}
@@ -13,7 +14,7 @@ use Rattle.hub_tree.specs.declared.contents.Mark.TheVariants as mark
 use Rattle.hub_tree.specs.declared.fault.SetFault.{SetFault}
 use Rattle.hub_tree.specs.declared.fault.SetFault.TheVariants.{RootPath, NoParent, NotEmpty, NothingThere}
 use Rattle.hub_tree.proofs.Order.{path_total, path_antisymmetric, same_path}
-use Rattle.hub_tree.proofs.Children.{shown, rejoined, path_eq-cmp, childless_none, none_childless}
+use Rattle.hub_tree.proofs.Children.{shown, path_eq-cmp, childless_none, none_childless}
 use Rattle.hub_tree.proofs.Setting.{held, get-with_contents}
 
 -- equal by what stands at each path
@@ -60,12 +61,8 @@ shown_contents m (n ∷ q) l = shown_or (fin.get m (n ∷ q))
 pub child_names : (d : Path) (n : Name) → 0 < length (d ++ n ∷ [])
 child_names d n = omega (arith, length-append d (n ∷ []))
 
-not_false : (b : Bool) → not b ≡ false → b ≡ true
-not_false true e = refl
-not_false false e = absurd (false≢true (sym e))
-
 pub childless_absent : (m : Replica) (d : Path) (n : Name) → (length (children m d) == 0) ≡ true → is_absent (contents_at m (d ++ n ∷ [])) ≡ true
-childless_absent m d n h = not_false _ (sym (shown_contents m (d ++ n ∷ []) (child_names d n)) ∙ childless_none m d h n)
+childless_absent m d n h = not-false _ (sym (shown_contents m (d ++ n ∷ []) (child_names d n)) ∙ childless_none m d h n)
 
 pub absent_childless : (m : Replica) (d : Path) → ((n : Name) → is_absent (contents_at m (d ++ n ∷ [])) ≡ true) → (length (children m d) == 0) ≡ true
 absent_childless m d h = none_childless m d (λ n. shown_contents m (d ++ n ∷ []) (child_names d n) ∙ ap not (h n))
@@ -103,7 +100,7 @@ no_fault-from m p c g = λ i. first_fault (g.names i) (g.parent i) (g.bare i) (g
 -- a tree after a change
 shorter : (p : Path) → 0 < length p → length (parent p) + 1 ≡ length p
 shorter [] l = absurd (omega arith)
-shorter (n ∷ p) l = omega (arith, ap length (rejoined n p), length-append (parent (n ∷ p)) (last_name (n ∷ p) ∷ []))
+shorter (n ∷ p) l = omega (arith, ap length (parent-last_name n p), length-append (parent (n ∷ p)) (last_name (n ∷ p) ∷ []))
 
 made_directory : (a b z : Bool) → a ≡ true → z ≡ false → (a && not b && not z) ≡ false → b ≡ true
 made_directory a true z e f h = refl
@@ -115,7 +112,7 @@ with_child : (m : Replica) (p q : Path) (z : Bool) → 0 < length q → parent q
 with_child m p [] z l e h s = absurd (omega arith)
 with_child m p (n ∷ q) false l e h s = refl
 with_child m p (n ∷ q) true l e h s =
-    let is : p ++ last_name (n ∷ q) ∷ [] ≡ n ∷ q = ap (λ d. d ++ last_name (n ∷ q) ∷ []) (sym e) ∙ rejoined n q in
+    let is : p ++ last_name (n ∷ q) ∷ [] ≡ n ∷ q = ap (λ d. d ++ last_name (n ∷ q) ∷ []) (sym e) ∙ parent-last_name n q in
     absurd (false≢true (sym h ∙ ap (λ q. is_absent (contents_at m q)) (sym is) ∙ childless_absent m p (last_name (n ∷ q)) s))
 
 longer : (p q : Path) → 0 < length p → parent q ≡ p → 0 < length q
@@ -140,10 +137,6 @@ held_present (contents.File bytes) e = cc
 held_present contents.Directory e = cc
 held_present contents.Absent e = cc
 
-either_present : (b : Bool) (w o : Option Contents) → (w ≡ Some contents.Absent → ⊥) → (o ≡ Some contents.Absent → ⊥) → cond b w o ≡ Some contents.Absent → ⊥
-either_present true w o f g e = f e
-either_present false w o f g e = g e
-
 no_top-after : (m : Replica) (p : Path) (c : Contents) → IsTree m → 0 < length p → fin.get (with_contents m p c) [] ≡ None
 no_top-after m [] c t l = absurd (omega arith)
 no_top-after m (n ∷ p) c t l = get-with_contents m (n ∷ p) c [] ∙ t.no_top
@@ -155,6 +148,6 @@ IsTree-after m p c t h =
     record {
       parents = λ q e. ap is_directory (contents-after m p (parent q) c l)
           ∙ parents-after m p q c (eq_by_cmp path_cmp q p) (eq_by_cmp path_cmp (parent q) p) t g refl refl (sym (ap is_absent (contents-after m p q c l)) ∙ e);
-      present = λ q e. either_present (eq_by_cmp path_cmp q p) (held c) (fin.get m q) (held_present c) (t.present q) (sym (get-with_contents m p c q) ∙ e);
+      present = λ q e. cond_both (eq_by_cmp path_cmp q p) (held c) (fin.get m q) (λ r. r ≡ Some contents.Absent → ⊥) (λ b. held_present c) (λ b. t.present q) (sym (get-with_contents m p c q) ∙ e);
       no_top = no_top-after m p c t l;
     }

@@ -1,12 +1,12 @@
 -- What stands right below a path, told by contents.
-use Rattle.std.proofs.Common.{◌≡◌, Bool, true, false, cond, not, ◌&&◌, List, [], ◌∷◌, ◌++◌, Option, Some, None, refl, ap, sym, ◌∙◌, subst}
+use Rattle.std.proofs.Common.{◌≡◌, Bool, true, false, not, ◌&&◌, List, [], ◌∷◌, ◌++◌, Option, Some, None, refl, ap, sym, ◌∙◌, subst}
 use Rattle.std.specs.FinMap as fin
 use Rattle.std.specs.List.{filter, list_any}
 use Rattle.std.specs.List.Sorted.{IsStrictlySortedBy}
-use Rattle.std.specs.Ordering.{eq_by_cmp}
 use Rattle.std.proofs.lemmas.List.Kept.{IsStrictlySortedBy-filter}
 use Rattle.hub_path.specs.Path.{Path, path_cmp, path_eq, last_name}
 use Rattle.std.specs.Option.{is_some, unwrap_or}
+use Rattle.std.proofs.Math.Bool.{and-false}
 use Rattle.hub_tree.specs.Below.{is_below, under}
 use Rattle.hub_tree.specs.Tree.{Replica, IsTree, contents_at, is_absent, is_child, children}
 use Rattle.hub_tree.specs.declared.contents.Contents.{Contents}
@@ -57,17 +57,13 @@ children_members m d q = any_equal q (children m d) ∙ among_children_by m d q 
 no_some : (c : Contents) → ◌≡◌ {A = Option Contents} None (Some c) → ⊥
 no_some c e = cc
 
-and_never : (b : Bool) → (b && false) ≡ false
-and_never true = refl
-and_never false = refl
-
 present_of : (m : Replica) (p : Path) (c : Contents) → IsTree m → fin.get m p ≡ Some c → is_absent c ≡ false
 present_of m p (contents.File bytes) t e = refl
 present_of m p contents.Directory t e = refl
 present_of m p contents.Absent t e = absurd (t.present p e)
 
 top_at : (m : Replica) (q : Path) (o : Option Contents) → IsTree m → fin.get m q ≡ o → ((is_below [] q && not (is_absent (contents_at m q))) && is_some o) ≡ is_some o
-top_at m q None t e = and_never _
+top_at m q None t e = and-false _
 top_at m [] (Some c) t e = absurd (no_some c (sym t.no_top ∙ e))
 top_at m (n ∷ p) (Some c) t e =
     rw (below_from [] n p, ap (λ o. is_absent (unwrap_or o contents.Absent)) e ∙ present_of m (n ∷ p) c t e) refl

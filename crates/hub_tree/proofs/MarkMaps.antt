@@ -6,7 +6,7 @@ use Rattle.std.specs.Option.{is_some, unwrap_or}
 use Rattle.std.specs.Prelude.{length, ◌==◌}
 use Rattle.std.specs.Ordering.{eq_by_cmp}
 use Rattle.std.proofs.lemmas.Bool.Decides.{nat_tests}
-use Rattle.std.proofs.lemmas.Bool.{false≢true}
+use Rattle.std.proofs.lemmas.Bool.{false≢true, cond_both}
 use Rattle.hub_path.specs.Path.{Path, path_cmp, path_eq, is_path, is_place}
 use Rattle.hub_tree.specs.Tree.{Archive, IsArchive, HasPaths, HasDigests, IsDigest, old_mark_at, kept, with_kept, with_mark}
 use Rattle.hub_tree.specs.declared.contents.Mark.{Mark}
@@ -29,10 +29,6 @@ kept_present (mark.File digest) e = cc
 kept_present mark.Directory e = cc
 kept_present mark.Absent e = cc
 
-either_present : (b : Bool) (w o : Option Mark) → (w ≡ Some mark.Absent → ⊥) → (o ≡ Some mark.Absent → ⊥) → cond b w o ≡ Some mark.Absent → ⊥
-either_present true w o f g e = f e
-either_present false w o f g e = g e
-
 -- A map with a path at each key keeps it where a path is set.
 pub path_here : {X : Type 0} (a : fin.FinMap path_cmp X) (p q : Path) (w : Option X) (b : Bool) → is_path p ≡ true → HasPaths a → eq_by_cmp path_cmp q p ≡ b → is_some (cond b w (fin.get a q)) ≡ true → is_path q ≡ true
 path_here a p q w true here paths e s = ap is_path (same_path q p e) ∙ here
@@ -51,7 +47,7 @@ HasPaths-set a p m h here = λ q e. path_here a p q (kept m) (eq_by_cmp path_cmp
 
 present-set : (a : Archive) (p : Path) (m : Mark) → IsArchive a → (q : Path) → fin.get (with_mark a p m) q ≡ Some mark.Absent → ⊥
 present-set a p m h = λ q e.
-    either_present (eq_by_cmp path_cmp q p) (kept m) (fin.get a q) (kept_present m) (h.present q) (sym (get-with_kept a p (kept m) q) ∙ e)
+    cond_both (eq_by_cmp path_cmp q p) (kept m) (fin.get a q) (λ r. r ≡ Some mark.Absent → ⊥) (λ b. kept_present m) (λ b. h.present q) (sym (get-with_kept a p (kept m) q) ∙ e)
 
 -- Digests of files.
 kept_file : (m : Mark) (d : List ℕ) → kept m ≡ Some (mark.File d) → m ≡ mark.File d
@@ -59,15 +55,10 @@ kept_file (mark.File x) d e = ap (λ o. unwrap_or o mark.Absent) e
 kept_file mark.Directory d e = cc
 kept_file mark.Absent d e = cc
 
-digest_here : (b : Bool) (w o : Option Mark) (d : List ℕ) → (w ≡ Some (mark.File d) → IsDigest d)
-    → (o ≡ Some (mark.File d) → IsDigest d) → cond b w o ≡ Some (mark.File d) → IsDigest d
-digest_here true w o d f g e = f e
-digest_here false w o d f g e = g e
-
 HasDigests-set : (a : Archive) (p : Path) (m : Mark) → HasDigests a
     → ((d : List ℕ) → m ≡ mark.File d → IsDigest d) → HasDigests (with_mark a p m)
 HasDigests-set a p m h here = λ q d e.
-    digest_here (eq_by_cmp path_cmp q p) (kept m) (fin.get a q) d (λ k. here d (kept_file m d k)) (h q d)
+    cond_both (eq_by_cmp path_cmp q p) (kept m) (fin.get a q) (λ r. r ≡ Some (mark.File d) → IsDigest d) (λ b k. here d (kept_file m d k)) (λ b. h q d)
     (sym (get-with_kept a p (kept m) q) ∙ e)
 
 pub IsArchive-set : (a : Archive) (p : Path) (m : Mark) → IsArchive a × HasPaths a × HasDigests a → is_path p ≡ true

@@ -4,19 +4,20 @@ use Rattle.std.specs.Prelude.{⊤, Result, Ok, Err, OnOk}
 use Rattle.std.specs.declared.alloc.AllocError.{AllocError}
 use Rattle.std.specs.FinMap as fin
 use Rattle.std.specs.FinMap.Entries.{find}
-use Rattle.std.specs.List.{list_any, flat_map, AllByRecursion}
+use Rattle.std.specs.List.{flat_map, AllByRecursion}
 use Rattle.std.specs.List.Sorted.{IsStrictlySortedBy}
 use Rattle.std.specs.Map.{keys_of}
 use Rattle.std.specs.Option.{option_and_then, is_some}
 use Rattle.std.specs.Cmp.{tied_itself}
 use Rattle.std.specs.Ordering.{eq_by_cmp, is_eq, ordering_then}
-use Rattle.std.specs.declared.cmp.Ordering.TheVariants.{Less, Equal, Greater}
+use Rattle.std.specs.declared.cmp.Ordering.TheVariants.{Less}
 use Rattle.std.proofs.lemmas.List.{map-append}
 use Rattle.std.proofs.lemmas.List.Folds.{list_any-append}
 use Rattle.std.proofs.lemmas.Map.Keys.{sorted_head, sorted_tail}
 use Rattle.std.proofs.lemmas.Bool.{false≢true}
+use Rattle.std.proofs.Math.Bool.{or-false}
 use Rattle.hub_path.specs.Path.{Name, Path, path_cmp, name_cmp}
-use Rattle.hub_tree.specs.Nodes.{replica_of, kids_of, contents_of, node_get}
+use Rattle.hub_tree.specs.Nodes.{replica_of, kids_of, node_get}
 use Rattle.hub_tree.specs.Tree.{Replica}
 use Rattle.hub_tree.specs.declared.node.Node.{Node}
 use Rattle.hub_tree.proofs.LookUp.{look_up, get_top}
@@ -50,14 +51,10 @@ above_none : (n : Name) (cs : List (Name × Node)) → AllByRecursion (λ k. nam
 above_none n [] h = refl
 above_none n (c ∷ cs) h = ap (λ r. cond (is_eq r) (Some c.1) (find name_cmp n cs)) h.0 ∙ above_none n cs h.1
 
-or_false : (b : Bool) → (b || false) ≡ b
-or_false true = refl
-or_false false = refl
-
 in_one : (b t : Bool) (x : Node) (r : Path) (o : Option Node) → (b ≡ true → o ≡ None) → t ≡ is_some (option_and_then (node_get r) o)
     → ((b && is_some (node_get r x)) || t) ≡ is_some (option_and_then (node_get r) (cond b (Some x) o))
 in_one true t x r o none e =
-    ap (λ u. is_some (node_get r x) || u) (e ∙ ap (λ o. is_some (option_and_then (node_get r) o)) (none refl)) ∙ or_false (is_some (node_get r x))
+    ap (λ u. is_some (node_get r x) || u) (e ∙ ap (λ o. is_some (option_and_then (node_get r) o)) (none refl)) ∙ or-false (is_some (node_get r x))
 in_one false t x r o none e = e
 
 in_all : (k : Name) (r : Path) (cs : List (Name × Node)) → IsStrictlySortedBy name_cmp (keys_of cs)

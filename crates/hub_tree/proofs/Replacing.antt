@@ -1,25 +1,24 @@
 -- What an item of a reconciliation does to a replica: what is below a path goes and the path is set, or the path becomes
 -- a directory and what is below it comes. And what any run of Sets keeps.
-use Rattle.std.proofs.Common.{◌≡◌, ◌<◌, Bool, true, false, cond, not, ◌&&◌, ◌||◌, List, [], ◌∷◌, ◌++◌, length, Option, Some, None, refl, ap, sym, ◌∙◌, subst, arith}
-use Rattle.std.specs.Prelude.{◌==◌, if◌then◌else◌, reverse}
+use Rattle.std.proofs.Common.{◌≡◌, ◌<◌, Bool, true, false, cond, not, ◌&&◌, List, [], ◌∷◌, ◌++◌, length, Option, Some, None, refl, ap, sym, ◌∙◌, subst}
+use Rattle.std.specs.Prelude.{if◌then◌else◌, reverse}
 use Rattle.std.specs.Option.{is_some, option_and_then}
 use Rattle.std.specs.List.{filter, list_any}
-use Rattle.std.specs.Ordering.{eq_by_cmp}
 use Rattle.std.specs.declared.cmp.Ordering.TheVariants.{Less}
-use Rattle.std.proofs.lemmas.Bool.{false≢true}
+use Rattle.std.proofs.lemmas.Bool.{false≢true, or_parts, false_from_ne_true}
+use Rattle.std.proofs.Math.Bool.{and-false}
 use Rattle.hub_path.specs.Path.{Path, path_cmp, path_eq, parent}
 use Rattle.hub_tree.specs.Below.{is_below, under}
 use Rattle.hub_tree.specs.Sets.{sets, each}
-use Rattle.hub_tree.specs.Tree.{Replica, IsTree, contents_at, is_absent, is_directory, children, set_fault, with_contents}
+use Rattle.hub_tree.specs.Tree.{Replica, IsTree, contents_at, is_absent, is_directory, set_fault, with_contents}
 use Rattle.hub_tree.specs.declared.contents.Contents.{Contents}
 use Rattle.hub_tree.specs.declared.contents.Contents.TheVariants as contents
 use Rattle.hub_tree.specs.declared.fault.SetFault.{SetFault}
 use Rattle.hub_tree.proofs.Order.{path_itself, same_path}
-use Rattle.hub_tree.proofs.Children.{path_eq-cmp}
-use Rattle.hub_tree.proofs.Setting.{not_true, one_kid}
+use Rattle.hub_tree.proofs.Children.{path_eq-cmp, some_length}
 use Rattle.hub_tree.proofs.Beneath.{below_from, below_rest, below_order, above_directory}
 use Rattle.hub_tree.proofs.Between.{not_both, not_below_itself, parent_order, nothing_under}
-use Rattle.hub_tree.proofs.Contented.{MayBeSet, no_fault, no_fault-from, some_names, contents-after, contents_by_eq-after, absent_childless, IsTree-after}
+use Rattle.hub_tree.proofs.Contented.{MayBeSet, no_fault, no_fault-from, some_names, contents_by_eq-after, absent_childless, IsTree-after}
 use Rattle.hub_tree.proofs.Runs.{all_down, all_up, sets-append, IsClosed}
 
 same_from : (q p : Path) → path_eq q p ≡ true → q ≡ p
@@ -39,31 +38,18 @@ after_it p q b = let w = below_rest p q b in ap (path_cmp p) w.2 ∙ below_order
 
 -- The parent isn't below, nor is the path itself.
 pub parent_not_below : (p : Path) → 0 < length p → is_below p (parent p) ≡ false
-parent_not_below p l = not_true _ (λ b. not_both p (parent p) (after_it p (parent p) b) (parent_order p l))
+parent_not_below p l = false_from_ne_true _ (λ b. not_both p (parent p) (after_it p (parent p) b) (parent_order p l))
 
 itself_not_below : (p : Path) → is_below p p ≡ false
-itself_not_below p = not_true _ (λ b. not_below_itself p b)
-
-no_length : (q : Path) → 0 < length q → (length q == 0) ≡ false
-no_length [] l = absurd (omega arith)
-no_length (n ∷ q) l = one_kid n q
-
-never_last : (a b : Bool) → (a && b && false) ≡ false
-never_last true true = refl
-never_last true false = refl
-never_last false b = refl
-
-never : (a : Bool) → (a && false) ≡ false
-never true = refl
-never false = refl
+itself_not_below p = false_from_ne_true _ (λ b. not_below_itself p b)
 
 -- A Set isn't refused: said by the contents of the parent, of the path and of the paths right below it.
 pub goes_through : (m : Replica) (p : Path) (c : Contents) → 0 < length p → is_directory (contents_at m (parent p)) ≡ true
     → ((q : Path) → is_below p q ≡ true → contents_at m q ≡ contents.Absent) → (is_absent (contents_at m p) && is_absent c) ≡ false → MayBeSet m p c
 goes_through m p c l up bare there = record {
-  names = no_length p l;
+  names = some_length p l;
   parent = up;
-  bare = ap (λ b. is_directory (contents_at m p) && not (is_directory c) && not b) (absent_childless m p (λ n. ap is_absent (bare (p ++ n ∷ []) (below_from p n [])))) ∙ never_last (is_directory (contents_at m p)) (not (is_directory c));
+  bare = ap (λ b. is_directory (contents_at m p) && not (is_directory c) && not b) (absent_childless m p (λ n. ap is_absent (bare (p ++ n ∷ []) (below_from p n [])))) ∙ and-false (is_directory (contents_at m p) && not (is_directory c));
   there = there;
 }
 
@@ -91,14 +77,14 @@ absent_or m p q a contents.Directory t none b e f = absurd (false≢true (sym no
 absent_or m p q a contents.Absent t none b e f = e
 
 not_equal : (p q : Path) → is_below p q ≡ true → path_eq q p ≡ false
-not_equal p q b = not_true _ (λ e. not_below_itself p (subst (λ x. is_below p x ≡ true) (same_from q p e) b))
+not_equal p q b = false_from_ne_true _ (λ e. not_below_itself p (subst (λ x. is_below p x ≡ true) (same_from q p e) b))
 
 pub item_comes : (m s : Replica) (p : Path) (f : Path → Bool) → IsTree m → IsTree s → 0 < length p → is_directory (contents_at m (parent p)) ≡ true → is_directory (contents_at m p) ≡ false → IsClosed s p f
     → (k : Replica) × (sets m ((p, contents.Directory) ∷ each (contents_at s) (filter f (under s p))) ≡ Some k) × IsTree k
     × ((q : Path) → contents_at k q ≡ (if is_below p q && f q then contents_at s q else (if path_eq q p then contents.Directory else contents_at m q)))
 item_comes m s p f t u l up none closed =
     let bare : (q : Path) → is_below p q ≡ true → contents_at m q ≡ contents.Absent = λ q b. absent_or m p q (is_absent (contents_at m q)) (contents_at m q) t none b refl refl in
-    let free = no_fault-from m p contents.Directory (goes_through m p contents.Directory l up bare (never (is_absent (contents_at m p)))) in
+    let free = no_fault-from m p contents.Directory (goes_through m p contents.Directory l up bare (and-false (is_absent (contents_at m p)))) in
     let k = with_contents m p contents.Directory in
     let at : (q : Path) → contents_at k q ≡ (if path_eq q p then contents.Directory else contents_at m q) = λ q. contents_by_eq-after m p q contents.Directory l in
     let it : contents_at k p ≡ contents.Directory = at p ∙ ap (λ b. cond b contents.Directory (contents_at m p)) (path_eq-cmp p p ∙ path_itself p) in
@@ -120,10 +106,6 @@ sets_keep_trees m k [] t e = subst IsTreeOf e t
 sets_keep_trees m k (c ∷ cs) t e =
     let w = by_fault (set_fault m c.0 c.1) (sets (with_contents m c.0 c.1) cs) k e in
     sets_keep_trees (with_contents m c.0 c.1) k cs (IsTree-after m c.0 c.1 t w.0) w.1
-
-or_parts : (a b : Bool) → (a || b) ≡ false → (a ≡ false) × (b ≡ false)
-or_parts true b e = cc
-or_parts false b e = (refl, e)
 
 some_same : (m k : Replica) → Some m ≡ Some k → (q : Path) → contents_at k q ≡ contents_at m q
 some_same m k e q = sym (ap (λ o. contents_or m o q) e)

@@ -1,14 +1,16 @@
 -- What several Sets leave, and when none of them is refused.
-use Rattle.std.proofs.Common.{◌≡◌, ◌<◌, Bool, true, false, cond, not, ◌&&◌, ◌||◌, List, [], ◌∷◌, ◌++◌, length, Option, Some, None, refl, ap, sym, ◌∙◌, subst, arith, append_assoc, append-nil}
+use Rattle.std.proofs.Common.{◌≡◌, ◌<◌, Bool, true, false, cond, not, ◌&&◌, ◌||◌, List, [], ◌∷◌, ◌++◌, length, Option, Some, None, refl, ap, sym, ◌∙◌, subst, append_assoc, append-nil}
 use Rattle.std.specs.Prelude.{◌==◌, if◌then◌else◌, reverse}
 use Rattle.std.specs.Option.{is_some, option_and_then}
 use Rattle.std.specs.List.{filter}
 use Rattle.std.specs.List.Sorted.{IsStrictlySortedBy}
 use Rattle.std.specs.Ordering.{eq_by_cmp}
 use Rattle.std.specs.declared.cmp.Ordering.TheVariants.{Less}
-use Rattle.std.proofs.lemmas.Bool.{false≢true}
+use Rattle.std.proofs.lemmas.Bool.{false≢true, and_parts, true_from_ne_false, false_from_ne_true}
 use Rattle.std.proofs.lemmas.List.Folds.{list_any-append}
 use Rattle.std.proofs.lemmas.List.Kept.{IsStrictlySortedBy-filter}
+use Rattle.std.proofs.Math.Bool.{and-false}
+use Rattle.hub_tree.proofs.Children.{some_length}
 use Rattle.hub_path.specs.Path.{Name, Path, path_cmp, parent}
 use Rattle.hub_tree.specs.Below.{is_below, under}
 use Rattle.hub_tree.specs.Sets.{sets, each}
@@ -16,8 +18,7 @@ use Rattle.hub_tree.specs.Tree.{Replica, IsTree, contents_at, is_absent, is_dire
 use Rattle.hub_tree.specs.declared.contents.Contents.{Contents}
 use Rattle.hub_tree.specs.declared.contents.Contents.TheVariants as contents
 use Rattle.hub_tree.proofs.Order.{same_path}
-use Rattle.hub_tree.proofs.Children.{both_true}
-use Rattle.hub_tree.proofs.Setting.{not_true, one_kid, is_a_directory}
+use Rattle.hub_tree.proofs.Setting.{is_a_directory}
 use Rattle.hub_tree.proofs.Beneath.{below_order}
 use Rattle.hub_tree.proofs.Between.{among, among_middle, among_reverse, among_filter, nowhere, turned, not_both, before, behind, below_names, not_below_itself, below_child, under_sorted, in_under, of_under, not_under, parent_below, below_parent, parent_order}
 use Rattle.hub_tree.proofs.Contented.{MayBeSet, no_fault-from, some_names, contents-after, absent_childless, IsTree-after}
@@ -67,32 +68,16 @@ kept_at m k f ps q a e = a q ∙ ap (λ b. cond b (f q) (contents_at m q)) e
 new_at : (m k : Replica) (f : Path → Contents) (ps : List Path) (q : Path) → IsChanged m f ps k → among q ps ≡ true → contents_at k q ≡ f q
 new_at m k f ps q a e = a q ∙ ap (λ b. cond b (f q) (contents_at m q)) e
 
-no_length : (q : Path) → 0 < length q → (length q == 0) ≡ false
-no_length [] l = absurd (omega arith)
-no_length (n ∷ q) l = one_kid n q
-
 -- down
 gone_or : (b : Bool) (c : Contents) → (b ≡ false → is_absent c ≡ true) → is_absent (cond b contents.Absent c) ≡ true
 gone_or true c f = refl
 gone_or false c f = f refl
 
-not_false : (b : Bool) → (b ≡ false → ⊥) → b ≡ true
-not_false true f = refl
-not_false false f = absurd (f refl)
-
-and_never : (b : Bool) → (b && false) ≡ false
-and_never true = refl
-and_never false = refl
-
-never_full : (b : Bool) → (b && true && false) ≡ false
-never_full true = refl
-never_full false = refl
-
 -- A child of the last path of a list in order isn't before it.
 child_gone : (m : Replica) (p q : Path) (n : Name) (front done : List Path) → front ++ q ∷ reverse done ≡ under m p → is_below p q ≡ true → among (q ++ n ∷ []) done ≡ false → is_absent (contents_at m (q ++ n ∷ [])) ≡ true
 child_gone m p q n front done whole b e =
     let s : IsStrictlySortedBy path_cmp (front ++ q ∷ reverse done) = subst (λ (ps : List Path). IsStrictlySortedBy path_cmp ps) (sym whole) (under_sorted m p) in
-    not_false _ (λ h. nowhere (q ++ n ∷ []) q front (reverse done)
+    true_from_ne_false _ (λ h. nowhere (q ++ n ∷ []) q front (reverse done)
     (λ g. not_both q (q ++ n ∷ []) (below_order q n []) (before front (reverse done) q (q ++ n ∷ []) s g))
     (λ g. let l : path_cmp q q ≡ Less = ap (path_cmp q) (sym g) ∙ below_order q n [] in not_both q q l l)
     (λ g. false≢true (sym e ∙ sym (among_reverse (q ++ n ∷ []) done) ∙ g))
@@ -102,13 +87,13 @@ down_step : (m k : Replica) (p q : Path) (front done : List Path) → front ++ q
 down_step m k p q front done whole t a =
     let s : IsStrictlySortedBy path_cmp (front ++ q ∷ reverse done) = subst (λ (ps : List Path). IsStrictlySortedBy path_cmp ps) (sym whole) (under_sorted m p) in
     let is = of_under m p q (ap (among q) (sym whole) ∙ among_middle q front (reverse done)) in
-    let new : among q done ≡ false = not_true _ (λ e. let l = behind front (reverse done) q q s (among_reverse q done ∙ e) in not_both q q l l) in
+    let new : among q done ≡ false = false_from_ne_true _ (λ e. let l = behind front (reverse done) q q s (among_reverse q done ∙ e) in not_both q q l l) in
     let there : is_absent (contents_at k q) ≡ false = ap is_absent (kept_at m k (λ _. contents.Absent) done q a new) ∙ is.1 in
     let childless : (length (children k q) == 0) ≡ true = absent_childless k q (λ n. ap is_absent (a (q ++ n ∷ [])) ∙ gone_or (among (q ++ n ∷ []) done) (contents_at m (q ++ n ∷ [])) (child_gone m p q n front done whole is.0)) in
     record {
-      names = no_length q (below_names p q is.0);
+      names = some_length q (below_names p q is.0);
       parent = t.parents q there;
-      bare = ap (λ b. is_directory (contents_at k q) && not (is_directory contents.Absent) && not b) childless ∙ never_full (is_directory (contents_at k q));
+      bare = ap (λ b. is_directory (contents_at k q) && not (is_directory contents.Absent) && not b) childless ∙ and-false (is_directory (contents_at k q) && true);
       there = ap (λ b. b && true) there;
     }
 
@@ -141,7 +126,7 @@ parent_done s p q f done rest t closed whole b h passes up =
     let sorted : IsStrictlySortedBy path_cmp (done ++ q ∷ rest) = subst (λ (ps : List Path). IsStrictlySortedBy path_cmp ps) (sym whole) (IsStrictlySortedBy-filter path_cmp f (under s p) (under_sorted s p)) in
     let there : is_absent (contents_at s (parent q)) ≡ false = ap is_absent (is_a_directory (contents_at s (parent q)) (t.parents q h)) in
     let in_list : among (parent q) (filter f (under s p)) ≡ true = among_filter (parent q) f (under s p) ∙ rw (closed (parent q) q up (below_parent q l) h passes, in_under s p (parent q) up there) refl in
-    not_false _ (λ e. nowhere (parent q) q done rest
+    true_from_ne_false _ (λ e. nowhere (parent q) q done rest
     (λ g. false≢true (sym e ∙ g))
     (λ g. let o2 : path_cmp q q ≡ Less = ap (λ x. path_cmp x q) (sym g) ∙ o in not_both q q o2 o2)
     (λ g. not_both (parent q) q o (behind done rest q (parent q) sorted g))
@@ -153,20 +138,20 @@ among_front x q front rest e = list_any-append (eq_by_cmp path_cmp x) front (q �
 -- What is done is below p.
 done_below : (s : Replica) (p q x : Path) (f : Path → Bool) (done rest : List Path) → done ++ q ∷ rest ≡ filter f (under s p) → among x done ≡ true → is_below p x ≡ true
 done_below s p q x f done rest whole e =
-    (of_under s p x (both_true (f x) (among x (under s p)) (sym (among_filter x f (under s p)) ∙ ap (among x) (sym whole) ∙ among_front x q done rest e)).1).0
+    (of_under s p x (and_parts (f x) (among x (under s p)) (sym (among_filter x f (under s p)) ∙ ap (among x) (sym whole) ∙ among_front x q done rest e)).1).0
 
 up_step : (m s k : Replica) (p q : Path) (f : Path → Bool) (done rest : List Path) → IsTree s → contents_at m p ≡ contents.Directory → under m p ≡ [] → IsClosed s p f
     → done ++ q ∷ rest ≡ filter f (under s p) → IsChanged m (contents_at s) done k → MayBeSet k q (contents_at s q)
 up_step m s k p q f done rest t top bare closed whole a =
     let sorted : IsStrictlySortedBy path_cmp (done ++ q ∷ rest) = subst (λ (ps : List Path). IsStrictlySortedBy path_cmp ps) (sym whole) (IsStrictlySortedBy-filter path_cmp f (under s p) (under_sorted s p)) in
-    let two = both_true (f q) (among q (under s p)) (sym (among_filter q f (under s p)) ∙ ap (among q) (sym whole) ∙ among_middle q done rest) in
+    let two = and_parts (f q) (among q (under s p)) (sym (among_filter q f (under s p)) ∙ ap (among q) (sym whole) ∙ among_middle q done rest) in
     let is = of_under s p q two.1 in
-    let new : among q done ≡ false = not_true _ (λ e. let l = before done rest q q sorted e in not_both q q l l) in
+    let new : among q done ≡ false = false_from_ne_true _ (λ e. let l = before done rest q q sorted e in not_both q q l l) in
     let here : contents_at k q ≡ contents.Absent = kept_at m k (contents_at s) done q a new ∙ not_under m p q is.0 (ap (among q) bare) in
     record {
-      names = no_length q (below_names p q is.0);
+      names = some_length q (below_names p q is.0);
       parent = parent_below p q (is_directory (contents_at k (parent q)) ≡ true) is.0
-          (λ e. ap (λ x. is_directory (contents_at k x)) e ∙ ap is_directory (kept_at m k (contents_at s) done p a (not_true _ (λ g. not_below_itself p (done_below s p q p f done rest whole g))) ∙ top))
+          (λ e. ap (λ x. is_directory (contents_at k x)) e ∙ ap is_directory (kept_at m k (contents_at s) done p a (false_from_ne_true _ (λ g. not_below_itself p (done_below s p q p f done rest whole g))) ∙ top))
           (λ up. ap is_directory (new_at m k (contents_at s) done (parent q) a (parent_done s p q f done rest t closed whole is.0 is.1 two.0 up)) ∙ t.parents q is.1);
       bare = ap (λ c. is_directory c && not (is_directory (contents_at s q)) && not (length (children k q) == 0)) here;
       there = ap (λ c. is_absent c && is_absent (contents_at s q)) here ∙ is.1;
@@ -177,7 +162,7 @@ up_at m s p q true true true bare e f = refl
 up_at m s p q true true false bare e f = not_under m p q e (ap (among q) bare) ∙ sym (not_under s p q e f)
 up_at m s p q true false h bare e f = refl
 up_at m s p q false g true bare e f = absurd (false≢true (sym e ∙ (of_under s p q f).0))
-up_at m s p q false g false bare e f = ap (λ b. cond b (contents_at s q) (contents_at m q)) (and_never g)
+up_at m s p q false g false bare e f = ap (λ b. cond b (contents_at s q) (contents_at m q)) (and-false g)
 
 pub all_up : (m s : Replica) (p : Path) (f : Path → Bool) → IsTree m → IsTree s → contents_at m p ≡ contents.Directory → under m p ≡ [] → IsClosed s p f
     → (k : Replica) × (sets m (each (contents_at s) (filter f (under s p))) ≡ Some k) × IsTree k

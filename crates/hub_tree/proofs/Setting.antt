@@ -7,7 +7,7 @@ use Rattle.std.specs.Option.{option_and_then, unwrap_or}
 use Rattle.std.specs.Cmp.{eq_by_cmp_equiv}
 use Rattle.std.specs.Ordering.{eq_by_cmp}
 use Rattle.std.proofs.lemmas.Bool.Decides.{nat_tests}
-use Rattle.std.proofs.lemmas.Bool.{false≢true}
+use Rattle.std.proofs.lemmas.Bool.{false≢true, false_from_ne_true}
 use Rattle.hub_path.specs.Path.{Name, Path, path_cmp, name_cmp, parent}
 use Rattle.hub_tree.specs.Tree.{Replica, contents_at, is_absent, is_directory, children, set_fault, with_contents, IsRefusal}
 use Rattle.hub_tree.specs.Nodes.{replica_of, node_get, contents_of, kids_of, layer_contents, layer_kids, occupied, contents_or_absent, fault_below}
@@ -121,17 +121,13 @@ layer_shown (Directory kids) = refl
 pub node_shown : (x : Node) → shown (Some (contents_of x)) ≡ true
 node_shown x = layer_shown (out-Node x)
 
-pub not_true : (b : Bool) → (b ≡ true → ⊥) → b ≡ false
-not_true true f = absurd (f refl)
-not_true false f = refl
-
 find_first : (e : Name × Node) (es : List (Name × Node)) → find name_cmp e.0 (e ∷ es) ≡ Some e.1
 find_first e es = ap (λ b. cond b (Some e.1) (find name_cmp e.0 es)) (name_itself e.0)
 
 childless_top : (ks : List (Name × Node)) → (length (children (replica_of ks) []) == 0) ≡ (length ks == 0)
 childless_top [] = none_childless (replica_of []) [] (λ n. ap shown (get_nothing (n ∷ [])))
 childless_top (e ∷ es) =
-    not_true _ (λ s. false≢true (sym (childless_none (replica_of (e ∷ es)) [] s e.0)
+    false_from_ne_true _ (λ s. false≢true (sym (childless_none (replica_of (e ∷ es)) [] s e.0)
     ∙ (ap shown (look_up (e ∷ es) e.0 [] ∙ ap (option_and_then (node_get [])) (find_first e es)) ∙ node_shown e.1)))
     ∙ sym (one_kid e es)
 

@@ -1,11 +1,11 @@
 -- What holds of every tree.
-use Rattle.std.proofs.Common.{◌≡◌, ℕ, Bool, true, false, cond, List, [], ◌∷◌, Option, Some, None, refl, ap, sym, ◌∙◌, subst}
+use Rattle.std.proofs.Common.{◌≡◌, ℕ, Bool, true, false, List, [], ◌∷◌, Option, Some, None, refl, ap, sym, ◌∙◌, subst}
 use Rattle.std.specs.Prelude.{Result, Ok, Err, OnOk, OnErr, ⊤}
 use Rattle.std.specs.FinMap as fin
 use Rattle.std.specs.FinMap.Entries.{find}
 use Rattle.std.specs.Option.{option_and_then, unwrap_or, is_some}
 use Rattle.std.specs.Ordering.{eq_by_cmp}
-use Rattle.std.proofs.lemmas.Bool.{false≢true}
+use Rattle.std.proofs.lemmas.Bool.{false≢true, cond_both}
 use Rattle.hub_path.specs.Path.{Name, Path, path_cmp, name_cmp, is_path, parent}
 use Rattle.hub_tree.specs.Tree.{Replica, IsTree, IsBytes, HasBytes, HasPaths, contents_at, is_absent, is_directory, with_contents}
 use Rattle.hub_tree.specs.Nodes.{replica_of, node_get, kids_of, layer_contents, layer_kids}
@@ -33,14 +33,9 @@ held_file (contents.File x) b e = ap (λ o. unwrap_or o contents.Absent) e
 held_file contents.Directory b e = cc
 held_file contents.Absent b e = cc
 
-bytes_here : (t : Bool) (w o : Option Contents) (b : List ℕ) → (w ≡ Some (contents.File b) → IsBytes b)
-    → (o ≡ Some (contents.File b) → IsBytes b) → cond t w o ≡ Some (contents.File b) → IsBytes b
-bytes_here true w o b f g e = f e
-bytes_here false w o b f g e = g e
-
 HasBytes-set : (m : Replica) (p : Path) (c : Contents) → HasBytes m → ((b : List ℕ) → c ≡ contents.File b → IsBytes b) → HasBytes (with_contents m p c)
 HasBytes-set m p c h here = λ q b e.
-    bytes_here (eq_by_cmp path_cmp q p) (held c) (fin.get m q) b (λ k. here b (held_file c b k)) (h q b) (sym (get-with_contents m p c q) ∙ e)
+    cond_both (eq_by_cmp path_cmp q p) (held c) (fin.get m q) (λ r. r ≡ Some (contents.File b) → IsBytes b) (λ t k. here b (held_file c b k)) (λ t. h q b) (sym (get-with_contents m p c q) ∙ e)
 
 pub HasBytes-after : (old new : Replica) (p : Path) (c : Contents) (r : Result ⊤ SetFault) → OnOk r (new ≡ with_contents old p c) → OnErr r (new ≡ old) → HasBytes old → ((b : List ℕ) → c ≡ contents.File b → IsBytes b) → HasBytes new
 HasBytes-after old new p c (Ok u) ok err h here = λ q b e. HasBytes-set old p c h here q b (sym (ap (λ m. fin.get m q) ok) ∙ e)

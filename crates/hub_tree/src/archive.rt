@@ -5,7 +5,8 @@ ghost use Rattle.hub_path.specs.Path.{path_cmp};
 ghost use Rattle.hub_tree.specs.Tree as tree;
 
 use crate::contents::Mark;
-use hub_path::{Items, RelPath};
+use hub_path::RelPath;
+use hub_text::Items;
 use std::alloc::{AllocError, Global};
 use std::collections::BTreeMap;
 use std::marker::Model;

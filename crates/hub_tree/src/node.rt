@@ -9,7 +9,8 @@ ghost use Rattle.hub_tree.specs.Tree.{set_fault, with_contents, is_directory, Is
 use crate::blob::Blob;
 use crate::contents::Contents;
 use crate::fault::SetFault;
-use hub_path::{Items, Name, RelPath};
+use hub_path::{Name, RelPath};
+use hub_text::Items;
 use std::alloc::{AllocError, Global};
 use std::collections::BTreeMap;
 

@@ -1,5 +1,6 @@
 use crate::{Archive, Blob, Contents, Mark, SetFault, Tree};
-use hub_path::{Items, Name, RelPath};
+use hub_path::{Name, RelPath};
+use hub_text::Items;
 use std::alloc::{AllocError, Global};
 use std::process::Abort;
 use std::test::Fail;

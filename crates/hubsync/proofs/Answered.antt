@@ -1,11 +1,11 @@
 -- From the line that was written to what is true of the input: what each line begins with.
-use Rattle.std.proofs.Common.{◌≡◌, ◌∙◌, ◌==◌, ◌≤◌, ◌⊎◌, inl, inr, ℕ, suc, zero, Bool, true, false, not, ◌&&◌, ◌||◌, cond, Result, Ok, List, ◌∷◌, ◌++◌, length, take, Option, Some, None, codes, refl, sym, ap, subst, arith, eq-eqb, length-append}
-use Rattle.std.specs.Prelude.{IfOk, IfSome, ⊤}
+use Rattle.std.proofs.Common.{◌≡◌, ◌∙◌, ◌==◌, ◌≤◌, ◌⊎◌, inl, inr, ℕ, suc, zero, Bool, true, false, ◌||◌, cond, Result, Ok, Err, List, ◌∷◌, ◌++◌, length, take, Option, Some, None, codes, refl, sym, ap, subst, arith, eq-eqb, length-append}
+use Rattle.std.specs.Prelude.{IfOk, IfSome, OnOk, is_err, ⊤}
 use Rattle.std.specs.Io.KnownBytes.{Appends, Keeps}
 use Rattle.std.proofs.KnownBytes.{Appends-kept}
 use Rattle.std.proofs.lemmas.List.{append_cancel_left, take_all}
 use Rattle.std.proofs.lemmas.Option.{none-some, same_Some}
-use Rattle.std.proofs.lemmas.Bool.{false≢true, true≢false, ne_eqb}
+use Rattle.std.proofs.lemmas.Bool.{false≢true, true≢false}
 use Rattle.hub_profile.specs.Parts.{Parts}
 use Rattle.hubsync.specs.declared.check.Refusal.TheVariants.{TooManyProfiles, SameName, NestedRoots, Patterns, Overlaps}
 use Rattle.hubsync.specs.declared.report.Report.{Report}
@@ -254,14 +254,13 @@ pub line-unflushed : (old mid new : Option (List ℕ)) (line : List ℕ) (status
 line-unflushed old mid new line status failed all kept is =
     line-cut old new line (length line) status failed (Appends-kept old mid new (take (length line) line) (subst (Appends old mid) (sym (take_all (length line) line (omega arith))) all) kept) is
 
--- A write that took something has not failed.
-pub taken-unfailed : (failed now : Bool) (len n : ℕ) → failed ≡ false → (n ≡ 0 → ⊥) → now ≡ (failed || ((n == 0) && not (len == 0))) → now ≡ false
-taken-unfailed failed now len n h some e = e ∙ rw (h, ne_eqb n 0 some) refl
+-- A call that returned no error has not failed.
+pub unfailed : (failed err now : Bool) → failed ≡ false → false ≡ err → now ≡ (failed || err) → now ≡ false
+unfailed failed err now h k e = e ∙ rw (h, ← k) refl
 
--- Nor have two calls of which neither failed.
-pub both-unfailed : (failed err now : Bool) → true ≡ not failed → err ≡ false → now ≡ (failed || err) → now ≡ false
-both-unfailed true err now h k e = cc
-both-unfailed false err now h k e = e ∙ k
+pub given-ok : {T E : Type 0} (r : Result T E) (P : Type 0) → false ≡ is_err r → OnOk r P → P
+given-ok (Ok x) P e h = h
+given-ok (Err x) P e h = cc
 
 pub ok-holds : {T E : Type 0} (r : Result T E) (v : T) (P : T → Type 0) → r ≡ Ok v → P v → IfOk r P
 ok-holds r v P e h = subst (λ x. IfOk x P) (sym e) h

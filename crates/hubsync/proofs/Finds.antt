@@ -1,5 +1,6 @@
 -- What is found first in a list, and in lists one after another.
 use Rattle.std.proofs.Common.{◌≡◌, ◌∙◌, cond, zero, suc, ℕ, Bool, true, false, ◌||◌, List, [], ◌∷◌, ◌++◌, take, Some, refl, sym, ap}
+use Rattle.std.proofs.lemmas.Bool.{or_parts}
 use Rattle.std.specs.Prelude.{slice_get, IsTrue}
 use Rattle.std.specs.List.{list_any, find}
 use Rattle.std.proofs.lemmas.Option.{same_Some}
@@ -8,17 +9,13 @@ use Rattle.hub_profile.specs.Parts.{Parts}
 use Rattle.hubsync.specs.Check.{is_root_of, roots_of, nested_with, is_nested, AreFirstNested}
 use Rattle.hubsync.proofs.CheckFacts.{any-flat, find-passes, path_eq-reflexive}
 
-neither : (a b : Bool) → (a || b) ≡ false → (a ≡ false) × (b ≡ false)
-neither true b h = cc
-neither false b h = (refl, h)
-
 module _ {X : Type 0} (f : X → Bool) where
   -- Where nothing in the front passes, the first that passes is behind it.
   pub find-at : (xs : List X) (i : ℕ) (x : X) → list_any f (take i xs) ≡ false → slice_get xs i ≡ Some x → f x ≡ true → find f xs ≡ Some x
   find-at [] i x none at h = cc
   find-at (y ∷ ys) zero x none at h = let same : y ≡ x = same_Some y x at in ap (λ z. cond (f z) (Some z) (find f ys)) same ∙ ap (λ b. cond b (Some x) (find f ys)) h
   find-at (y ∷ ys) (suc i) x none at h =
-      let parts = neither (f y) (list_any f (take i ys)) none in
+      let parts = or_parts (f y) (list_any f (take i ys)) none in
       ap (λ b. cond b (Some y) (find f ys)) parts.0 ∙ find-at ys i x parts.1 at h
 
   found-first : (x y : X) (xs ys : List X) → (find f xs ≡ Some y → find f (xs ++ ys) ≡ Some y) → (b : Bool) → cond b (Some x) (find f xs) ≡ Some y → cond b (Some x) (find f (xs ++ ys)) ≡ Some y
@@ -32,7 +29,7 @@ module _ {X : Type 0} (f : X → Bool) where
   find-behind : (xs ys : List X) → list_any f xs ≡ false → find f (xs ++ ys) ≡ find f ys
   find-behind [] ys none = refl
   find-behind (x ∷ xs) ys none =
-      let parts = neither (f x) (list_any f xs) none in
+      let parts = or_parts (f x) (list_any f xs) none in
       ap (λ b. cond b (Some x) (find f (xs ++ ys))) parts.0 ∙ find-behind xs ys parts.1
 
 -- The same of roots, profile by profile.
@@ -43,7 +40,7 @@ find-root f (Q ∷ Ps) zero P r none at h =
     let same : Q ≡ P = same_Some Q P at in
     find-front f Q.roots (roots_of Ps) r (ap (λ R. find f R.roots) same ∙ h)
 find-root f (Q ∷ Ps) (suc i) P r none at h =
-    let parts = neither (list_any f Q.roots) (list_any (λ R. list_any f R.roots) (take i Ps)) none in
+    let parts = or_parts (list_any f Q.roots) (list_any (λ R. list_any f R.roots) (take i Ps)) none in
     find-behind f Q.roots (roots_of Ps) parts.0 ∙ find-root f Ps i P r parts.1 at h
 
 -- What is found is there.

@@ -1,156 +1,107 @@
--- The lines of bytes, one byte at a time.
-use Rattle.std.proofs.Common.{◌≡◌, Bool, true, false, cond, ◌&&◌, ◌==◌, ℕ, ◌+◌, ◌<◌, List, [], ◌∷◌, ◌++◌, length, get_or, take, drop, Option, Some, None, refl, sym, ap, subst, ◌∙◌, inl, inr, append_assoc}
-use Rattle.std.specs.List.{list_all, onto_first}
-use Rattle.std.proofs.lemmas.Bool.{cases_Bool, eqb-true}
-use Rattle.std.proofs.lemmas.List.{drop_more, take_more}
-use Rattle.std.proofs.lemmas.List.Splits.{slice_split-cons_yes, slice_split-cons_no}
-use Rattle.hubsync.specs.Bundle.{is_lf, lines, is_blank, below_line, bytes_before_heading, Written, written, stray_line}
+-- The lines of bytes, one at a time: what is left below the next one, and what a section has of it.
+use Rattle.std.proofs.Common.{◌≡◌, Bool, true, false, ℕ, ◌+◌, ◌<◌, ◌≤◌, List, [], ◌∷◌, ◌++◌, length, get_or, drop, take, Option, Some, None, refl, sym, ap, subst, ◌∙◌, arith, append_assoc, append-nil, length-append, ◌-◌}
+use Rattle.std.specs.Prelude.{if◌then◌else◌}
+use Rattle.std.specs.List.{list_all}
+use Rattle.std.proofs.lemmas.Bool.{eqb-true, false≢true}
+use Rattle.std.proofs.lemmas.List.{drop_all, drop_more, take_at}
+use denote.Ref.{Bor}
+use Rattle.hub_text.specs.declared.line.Line.{Line}
+use Rattle.hub_text.specs.Lines.{lines_of, line_text, onto_first_line}
+use Rattle.hub_text.specs.LineLaws.{text-first_line, shorter-first_line}
+use Rattle.hub_text.specs.Takes.{of_bytes, TakesBytes}
+use Rattle.hubsync.specs.Bundle.{is_blank, is_heading, follows_section, bytes_before_heading, written, stray_line}
 
--- ---- what is said from the middle of a line on
+-- Bytes begin with a heading exactly when their first line is one.
+pub heading_line : (s t : List ℕ) (l : Line (List ℕ)) → lines_of s ≡ l ∷ lines_of t → is_heading l.text ≡ is_heading s
+heading_line s t l e = by l.text refl l.is_ended refl
+  where
+    spelled : (text : List ℕ) → l.text ≡ text → (ended : Bool) → l.is_ended ≡ ended → s ≡ (if ended then text ++ 10 ∷ [] else text) ++ t
+    spelled text f ended g = text-first_line s t l e ∙ (λ i. (if (g i) then f i ++ 10 ∷ [] else f i) ++ t)
 
-abbrev pub rest_of_line : List (List ℕ) → List ℕ
-rest_of_line [] = []
-rest_of_line (l ∷ ls) = l ++ below_line ls (bytes_before_heading ls)
+    by : (text : List ℕ) → l.text ≡ text → (ended : Bool) → l.is_ended ≡ ended → is_heading l.text ≡ is_heading s
+    by [] f true g = ap is_heading f ∙ sym (ap is_heading (spelled [] f true g))
+    by [] f false g = absurd (omega (arith, shorter-first_line s t l e, ap length (spelled [] f false g)))
+    by (b ∷ bs) f true g = ap is_heading f ∙ sym (ap is_heading (spelled (b ∷ bs) f true g))
+    by (b ∷ bs) f false g = ap is_heading f ∙ sym (ap is_heading (spelled (b ∷ bs) f false g))
 
-abbrev pub written_below : ℕ → List (List ℕ) → List Written
-written_below n [] = []
-written_below n (l ∷ ls) = written (n + 1) ls
+-- A heading ends a section, and so does the end of the bytes.
+pub nothing_before : (s : List ℕ) → follows_section s ≡ true → bytes_before_heading (lines_of s) ≡ []
+nothing_before [] h = refl
+nothing_before (b ∷ s) h = subst (λ c. bytes_before_heading (lines_of (c ∷ s)) ≡ []) (sym (eqb-true b 37 h)) (onto (lines_of s))
+  where
+    onto : (ls : List (Line (List ℕ))) → bytes_before_heading (onto_first_line 37 ls) ≡ []
+    onto [] = refl
+    onto (l ∷ ls) = refl
 
-abbrev pub stray_here : ℕ → List (List ℕ) → Option ℕ
-stray_here n [] = None
-stray_here n (l ∷ ls) = cond (list_all is_blank l) (stray_line (n + 1) ls) (Some n)
+-- What was skipped of a section, and what is left.
+pub record SkippedSoFar (all s : List ℕ) (count : ℕ) : Type 0 where
+  pub front : List ℕ
+  pub whole : all ≡ front ++ s
+  pub bytes : bytes_before_heading (lines_of all) ≡ front ++ bytes_before_heading (lines_of s)
+  pub below : (n : ℕ) → written n (lines_of all) ≡ written (n + count) (lines_of s)
+  pub fewer : count + length s ≤ length all
 
--- ---- the same of bytes that begin a line or don't
+pub skip_start : (all : List ℕ) → SkippedSoFar all all 0
+skip_start all = record {
+  front = [];
+  whole = refl;
+  bytes = refl;
+  below = λ n. let same : n ≡ n + 0 = omega arith in ap (λ k. written k (lines_of all)) same;
+  fewer = omega arith;
+}
 
-abbrev pub bytes_from : Bool → List ℕ → List ℕ
-bytes_from true bs = bytes_before_heading (lines bs)
-bytes_from false bs = rest_of_line (lines bs)
+not_at_end : (s : List ℕ) → follows_section s ≡ false → is_heading s ≡ false
+not_at_end [] h = refl
+not_at_end (b ∷ s) h = h
 
-abbrev pub written_from : Bool → ℕ → List ℕ → List Written
-written_from true n bs = written n (lines bs)
-written_from false n bs = written_below n (lines bs)
+skip_line : (all s t : List ℕ) (count : ℕ) (l : Line (List ℕ)) → SkippedSoFar all s count → lines_of s ≡ l ∷ lines_of t → follows_section s ≡ false → SkippedSoFar all t (count + 1)
+skip_line all s t count l so_far e going =
+    let plain : is_heading l.text ≡ false = heading_line s t l e ∙ not_at_end s going in
+    let one : bytes_before_heading (lines_of s) ≡ line_text l ++ bytes_before_heading (lines_of t) = ap bytes_before_heading e ∙ rw plain refl in
+    let later : (n : ℕ) → written n (lines_of s) ≡ written (n + 1) (lines_of t) = λ n. ap (written n) e ∙ rw plain refl in
+    record {
+      front = so_far.front ++ line_text l;
+      whole = so_far.whole ∙ ap (λ u. so_far.front ++ u) (text-first_line s t l e) ∙ sym (append_assoc so_far.front (line_text l) t);
+      bytes = so_far.bytes ∙ ap (λ u. so_far.front ++ u) one ∙ sym (append_assoc so_far.front (line_text l) (bytes_before_heading (lines_of t)));
+      below = λ n. let same : n + count + 1 ≡ n + (count + 1) = omega arith in so_far.below n ∙ later (n + count) ∙ ap (λ k. written k (lines_of t)) same;
+      fewer = omega (arith, so_far.fewer, shorter-first_line s t l e);
+    }
 
-abbrev pub stray_from : Bool → ℕ → List ℕ → Option ℕ
-stray_from true n bs = stray_line n (lines bs)
-stray_from false n bs = stray_here n (lines bs)
+-- One more line.
+pub skip_more : (all s t : List ℕ) (count : ℕ) (r : Option (Line (Bor (List ℕ)))) → SkippedSoFar all s count → TakesBytes s r t → follows_section s ≡ false → SkippedSoFar all t (count + 1)
+skip_more all s t count None so_far none going = absurd (false≢true (sym going ∙ ap follows_section none))
+skip_more all s t count (Some l) so_far e going = skip_line all s t count (of_bytes l) so_far e going
 
--- ---- a byte in front of lines
+pub skip_less : (s t : List ℕ) (r : Option (Line (Bor (List ℕ)))) → TakesBytes s r t → follows_section s ≡ false → length t < length s
+skip_less s t None none going = absurd (false≢true (sym going ∙ ap follows_section none))
+skip_less s t (Some l) e going = shorter-first_line s t (of_bytes l) e
 
-lines-lf : (b : ℕ) (bs : List ℕ) → (b == 10) ≡ true → lines (b ∷ bs) ≡ [] ∷ lines bs
-lines-lf b bs h = slice_split-cons_yes is_lf b bs h
+-- All lines of the section.
+pub skip_end : (all s : List ℕ) (count : ℕ) → SkippedSoFar all s count → follows_section s ≡ true → all ≡ bytes_before_heading (lines_of all) ++ s
+skip_end all s count so_far over =
+    let none : bytes_before_heading (lines_of all) ≡ so_far.front ++ [] = so_far.bytes ∙ ap (λ u. so_far.front ++ u) (nothing_before s over) in
+    so_far.whole ∙ ap (λ u. u ++ s) (sym (append-nil so_far.front) ∙ sym none)
 
-lines-other : (b : ℕ) (bs : List ℕ) → (b == 10) ≡ false → lines (b ∷ bs) ≡ onto_first b (lines bs)
-lines-other b bs h = slice_split-cons_no is_lf b bs h
+-- The bytes of a section, from how many there are below its heading and how many are left.
+pub section_bytes : (t u : List ℕ) → t ≡ bytes_before_heading (lines_of t) ++ u → take (length t - length u) t ≡ bytes_before_heading (lines_of t)
+section_bytes t u e =
+    let len : length t - length u ≡ length (bytes_before_heading (lines_of t)) = omega (arith, ap length e, length-append (bytes_before_heading (lines_of t)) u) in
+    ap (take (length t - length u)) e ∙ take_at (bytes_before_heading (lines_of t)) u (length t - length u) (sym len)
 
-below_line-onto_first : (b : ℕ) (ls : List (List ℕ)) (x : List ℕ) → below_line (onto_first b ls) x ≡ 10 ∷ x
-below_line-onto_first b [] x = refl
-below_line-onto_first b (l ∷ ls) x = refl
+at_line : (ls : List (Line (List ℕ))) (k : ℕ) (l : Line (List ℕ)) → k < length ls → l ≡ get_or ls k l → drop k ls ≡ l ∷ drop (k + 1) ls
+at_line ls k l h e = drop_more ls k l h ∙ ap (λ x. x ∷ drop (k + 1) ls) (sym e)
 
--- bytes have at least one line
-below_line-lines : (bs x : List ℕ) → below_line (lines bs) x ≡ 10 ∷ x
-below_line-lines [] x = refl
-below_line-lines (b ∷ bs) x =
-    elim (b == 10) as (λ v. below_line (cond v ([] ∷ lines bs) (onto_first b (lines bs))) x ≡ 10 ∷ x) [ true ↦ refl | false ↦ below_line-onto_first b (lines bs) x ]
+-- A blank line above all headings.
+pub blank_more : (ls : List (Line (List ℕ))) (k : ℕ) (l : Line (List ℕ)) → k < length ls → l ≡ get_or ls k l → is_heading l.text ≡ false → list_all is_blank l.text ≡ true
+    → stray_line (k + 1) (drop k ls) ≡ stray_line (k + 1 + 1) (drop (k + 1) ls)
+blank_more ls k l h e plain blank = ap (stray_line (k + 1)) (at_line ls k l h e) ∙ rw (plain, blank) refl
 
-before_heading-onto_first : (b : ℕ) (ls : List (List ℕ)) → (b == 37) ≡ false → bytes_before_heading (onto_first b ls) ≡ b ∷ rest_of_line ls
-before_heading-onto_first b [] h = rw h refl
-before_heading-onto_first b (l ∷ ls) h = rw h refl
+pub stray_found : (ls : List (Line (List ℕ))) (k : ℕ) (l : Line (List ℕ)) → k < length ls → l ≡ get_or ls k l → is_heading l.text ≡ false → list_all is_blank l.text ≡ false
+    → stray_line (k + 1) (drop k ls) ≡ Some (k + 1)
+stray_found ls k l h e plain stray = ap (stray_line (k + 1)) (at_line ls k l h e) ∙ rw (plain, stray) refl
 
-before_heading-percent : (b : ℕ) (ls : List (List ℕ)) → (b == 37) ≡ true → bytes_before_heading (onto_first b ls) ≡ []
-before_heading-percent b [] h = rw h refl
-before_heading-percent b (l ∷ ls) h = rw h refl
+pub no_stray : (ls : List (Line (List ℕ))) (k : ℕ) (l : Line (List ℕ)) → k < length ls → l ≡ get_or ls k l → is_heading l.text ≡ true → stray_line (k + 1) (drop k ls) ≡ None
+no_stray ls k l h e heading = ap (stray_line (k + 1)) (at_line ls k l h e) ∙ rw heading refl
 
-rest_of_line-onto_first : (b : ℕ) (ls : List (List ℕ)) → rest_of_line (onto_first b ls) ≡ b ∷ rest_of_line ls
-rest_of_line-onto_first b [] = refl
-rest_of_line-onto_first b (l ∷ ls) = refl
-
-written-onto_first : (b : ℕ) (n : ℕ) (ls : List (List ℕ)) → (b == 37) ≡ false → written n (onto_first b ls) ≡ written_below n ls
-written-onto_first b n [] h = rw h refl
-written-onto_first b n (l ∷ ls) h = rw h refl
-
-written_below-onto_first : (b : ℕ) (n : ℕ) (ls : List (List ℕ)) → written_below n (onto_first b ls) ≡ written_below n ls
-written_below-onto_first b n [] = refl
-written_below-onto_first b n (l ∷ ls) = refl
-
-stray_line-onto_first : (b : ℕ) (n : ℕ) (ls : List (List ℕ)) → (b == 37) ≡ false → stray_line n (onto_first b ls) ≡ cond (is_blank b) (stray_here n ls) (Some n)
-stray_line-onto_first b n [] h = rw h (elim (is_blank b) as (λ v. cond (v && true) None (Some n) ≡ cond v None (Some n)) [ true ↦ refl | false ↦ refl ])
-stray_line-onto_first b n (l ∷ ls) h = rw h (elim (is_blank b) as (λ v. cond (v && list_all is_blank l) (stray_line (n + 1) ls) (Some n) ≡ cond v (stray_here n (l ∷ ls)) (Some n)) [ true ↦ refl | false ↦ refl ])
-
-stray_line-percent : (b : ℕ) (n : ℕ) (ls : List (List ℕ)) → (b == 37) ≡ true → stray_line n (onto_first b ls) ≡ None
-stray_line-percent b n [] h = rw h refl
-stray_line-percent b n (l ∷ ls) h = rw h refl
-
-stray_here-onto_first : (b : ℕ) (n : ℕ) (ls : List (List ℕ)) → stray_here n (onto_first b ls) ≡ cond (is_blank b) (stray_here n ls) (Some n)
-stray_here-onto_first b n [] = elim (is_blank b) as (λ v. cond (v && true) None (Some n) ≡ cond v None (Some n)) [ true ↦ refl | false ↦ refl ]
-stray_here-onto_first b n (l ∷ ls) =
-    elim (is_blank b) as (λ v. cond (v && list_all is_blank l) (stray_line (n + 1) ls) (Some n) ≡ cond v (stray_here n (l ∷ ls)) (Some n)) [ true ↦ refl | false ↦ refl ]
-
--- ---- one byte more
-
-pub bytes_from-lf : (s : Bool) (bs : List ℕ) → bytes_from s (10 ∷ bs) ≡ 10 ∷ bytes_from true bs
-bytes_from-lf true bs = below_line-lines bs _
-bytes_from-lf false bs = below_line-lines bs _
-
-pub bytes_from-other : (s : Bool) (b : ℕ) (bs : List ℕ) → (b == 10) ≡ false → (s && (b == 37)) ≡ false → bytes_from s (b ∷ bs) ≡ b ∷ bytes_from false bs
-bytes_from-other true b bs h k = ap bytes_before_heading (lines-other b bs h) ∙ before_heading-onto_first b (lines bs) k
-bytes_from-other false b bs h k = ap rest_of_line (lines-other b bs h) ∙ rest_of_line-onto_first b (lines bs)
-
-pub bytes_from-percent : (bs : List ℕ) → bytes_from true (37 ∷ bs) ≡ []
-bytes_from-percent bs = before_heading-percent 37 (lines bs) refl
-
-pub bytes_from-nil : (s : Bool) → bytes_from s [] ≡ []
-bytes_from-nil true = refl
-bytes_from-nil false = refl
-
-pub written_from-lf : (s : Bool) (n : ℕ) (bs : List ℕ) → written_from s n (10 ∷ bs) ≡ written_from true (n + 1) bs
-written_from-lf true n bs = refl
-written_from-lf false n bs = refl
-
-pub written_from-other : (s : Bool) (n b : ℕ) (bs : List ℕ) → (b == 10) ≡ false → (s && (b == 37)) ≡ false → written_from s n (b ∷ bs) ≡ written_from false n bs
-written_from-other true n b bs h k = ap (written n) (lines-other b bs h) ∙ written-onto_first b n (lines bs) k
-written_from-other false n b bs h k = ap (written_below n) (lines-other b bs h) ∙ written_below-onto_first b n (lines bs)
-
-pub written_from-nil : (s : Bool) (n : ℕ) → written_from s n [] ≡ []
-written_from-nil true n = refl
-written_from-nil false n = refl
-
-pub stray_from-lf : (s : Bool) (n : ℕ) (bs : List ℕ) → stray_from s n (10 ∷ bs) ≡ stray_from true (n + 1) bs
-stray_from-lf true n bs = refl
-stray_from-lf false n bs = refl
-
-pub stray_from-other : (s : Bool) (n b : ℕ) (bs : List ℕ) → (b == 10) ≡ false → (s && (b == 37)) ≡ false → stray_from s n (b ∷ bs) ≡ cond (is_blank b) (stray_from false n bs) (Some n)
-stray_from-other true n b bs h k = ap (stray_line n) (lines-other b bs h) ∙ stray_line-onto_first b n (lines bs) k
-stray_from-other false n b bs h k = ap (stray_here n) (lines-other b bs h) ∙ stray_here-onto_first b n (lines bs)
-
-pub stray_from-percent : (n : ℕ) (bs : List ℕ) → stray_from true n (37 ∷ bs) ≡ None
-stray_from-percent n bs = stray_line-percent 37 n (lines bs) refl
-
-pub stray_from-nil : (s : Bool) (n : ℕ) → stray_from s n [] ≡ None
-stray_from-nil true n = refl
-stray_from-nil false n = refl
-
--- ---- one byte more, whichever it is
-
-bytes_from_more : (s : Bool) (b : ℕ) (bs : List ℕ) → (s && (b == 37)) ≡ false → bytes_from s (b ∷ bs) ≡ b ∷ bytes_from (b == 10) bs
-bytes_from_more s b bs k = elim (cases_Bool (b == 10)) [
-  | inl h ↦ subst (λ x. bytes_from s (x ∷ bs) ≡ x ∷ bytes_from (x == 10) bs) (sym (eqb-true b 10 h)) (bytes_from-lf s bs)
-  | inr h ↦ bytes_from-other s b bs h k ∙ ap (λ v. b ∷ bytes_from v bs) (sym h)
-]
-
--- the bytes up to the next heading, with one byte more read
-pub front_more : (s : Bool) (bs all : List ℕ) (i b : ℕ) → i < length bs → b ≡ get_or bs i 0 → (s && (b == 37)) ≡ false → all ≡ take i bs ++ bytes_from s (drop i bs)
-    → all ≡ take (i + 1) bs ++ bytes_from (b == 10) (drop (i + 1) bs)
-front_more s bs all i b lt e k h =
-    let step : bytes_from s (drop i bs) ≡ b ∷ bytes_from (b == 10) (drop (i + 1) bs) =
-    ap (bytes_from s) (drop_more bs i 0 lt ∙ ap (λ x. x ∷ drop (i + 1) bs) (sym e)) ∙ bytes_from_more s b (drop (i + 1) bs) k in
-    let taken : take (i + 1) bs ≡ take i bs ++ b ∷ [] = take_more bs i 0 lt ∙ ap (λ x. take i bs ++ x ∷ []) (sym e) in
-    h ∙ ap (λ l. take i bs ++ l) step ∙ sym (append_assoc (take i bs) (b ∷ []) _) ∙ ap (λ l. l ++ bytes_from (b == 10) (drop (i + 1) bs)) (sym taken)
-
--- the sections, with an LF or another byte more read
-pub written_more_lf : (s : Bool) (bs : List ℕ) (i b n : ℕ) → i < length bs → b ≡ get_or bs i 0 → (b == 10) ≡ true → written_from s n (drop i bs) ≡ written_from (b == 10) (n + 1) (drop (i + 1) bs)
-written_more_lf s bs i b n lt e h =
-    ap (written_from s n) (drop_more bs i 0 lt ∙ ap (λ x. x ∷ drop (i + 1) bs) (sym e ∙ eqb-true b 10 h)) ∙ written_from-lf s n (drop (i + 1) bs) ∙ ap (λ v. written_from v (n + 1) (drop (i + 1) bs)) (sym h)
-
-pub written_more_other : (s : Bool) (bs : List ℕ) (i b n : ℕ) → i < length bs → b ≡ get_or bs i 0 → (s && (b == 37)) ≡ false → (b == 10) ≡ false → written_from s n (drop i bs) ≡ written_from (b == 10) n (drop (i + 1) bs)
-written_more_other s bs i b n lt e k h =
-    ap (written_from s n) (drop_more bs i 0 lt ∙ ap (λ x. x ∷ drop (i + 1) bs) (sym e)) ∙ written_from-other s n b (drop (i + 1) bs) h k ∙ ap (λ v. written_from v n (drop (i + 1) bs)) (sym h)
+pub none_left : (ls : List (Line (List ℕ))) (k : ℕ) → length ls ≤ k → stray_line (k + 1) (drop k ls) ≡ None
+none_left ls k e = ap (stray_line (k + 1)) (drop_all k ls (omega (arith, e)))

@@ -1,7 +1,6 @@
--- How the profiles of sections are read one after the other, and how bytes are written one piece after the other.
-use Rattle.std.proofs.Common.{◌≡◌, ℕ, suc, ◌+◌, ◌-◌, ◌<◌, ◌≤◌, List, [], ◌∷◌, ◌++◌, length, take, drop, get_or, Result, Ok, Err, refl, sym, ap, ◌∙◌, arith, append_assoc, add-one, length-drop, length-take}
-use Rattle.std.proofs.Math.Seq.{drop-cons, take-append-add, drop-append-add}
-use Rattle.std.proofs.lemmas.List.{take_all, take-append-drop}
+-- How the profiles of sections are read one after the other.
+use Rattle.std.proofs.Common.{◌≡◌, ℕ, suc, ◌+◌, ◌<◌, List, [], ◌∷◌, ◌++◌, length, drop, get_or, Result, Ok, Err, refl, sym, ap, ◌∙◌, append_assoc, add-one}
+use Rattle.std.proofs.Math.Seq.{drop-cons}
 use Rattle.hub_profile.specs.Parts.{Parts}
 use Rattle.hubsync.specs.declared.profiles.SectionFault.{SectionFault}
 use Rattle.hubsync.specs.Bundle.{SectionValue}
@@ -11,22 +10,6 @@ use Rattle.hubsync.specs.Report.{◌>>=◌, section_reading, sections_reading}
 abbrev pub with_front : List Parts → Result (List Parts) SectionFault → Result (List Parts) SectionFault
 with_front front (Ok Ps) = Ok (front ++ Ps)
 with_front front (Err f) = Err f
-
--- One more write.
-pub rest-more : (bytes rest : List ℕ) (n k : ℕ) → n ≤ length bytes → rest ≡ drop n bytes → take (length rest - k) (drop k rest) ≡ drop (n + k) bytes
-rest-more bytes rest n k l e =
-    let len : length (take n bytes) ≡ n = omega (arith, length-take n bytes) in
-    take_all (length rest - k) (drop k rest) (omega (arith, length-drop k rest))
-    ∙ (ap (drop k) e
-    ∙ (sym (drop-append-add (take n bytes) (drop n bytes) k)
-    ∙ (ap (λ m. drop (m + k) (take n bytes ++ drop n bytes)) len ∙ ap (drop (n + k)) (take-append-drop n bytes))))
-
-pub front-more : (bytes rest : List ℕ) (n k : ℕ) → n ≤ length bytes → rest ≡ drop n bytes → take n bytes ++ take k rest ≡ take (n + k) bytes
-front-more bytes rest n k l e =
-    let len : length (take n bytes) ≡ n = omega (arith, length-take n bytes) in
-    ap (λ r. take n bytes ++ take k r) e
-    ∙ (sym (take-append-add (take n bytes) (drop n bytes) k)
-    ∙ (ap (λ m. take (m + k) (take n bytes ++ drop n bytes)) len ∙ ap (take (n + k)) (take-append-drop n bytes)))
 
 front-cons : (front : List Parts) (P : Parts) (r : Result (List Parts) SectionFault) → with_front front (r >>= λ Ps. Ok (P ∷ Ps)) ≡ with_front (front ++ P ∷ []) r
 front-cons front P (Ok Ps) = let to_ok : List Parts → Result (List Parts) SectionFault = λ Qs. Ok Qs in ap to_ok (sym (append_assoc front (P ∷ []) Ps))

@@ -1,13 +1,12 @@
 -- The sections of a bundle, one more at a time.
-use Rattle.std.proofs.Common.{◌≡◌, true, false, ◌==◌, ℕ, ◌+◌, ◌<◌, ◌≤◌, List, [], ◌∷◌, ◌++◌, length, take, drop, Result, Ok, Err, refl, sym, ap, subst, ◌∙◌, inl, inr, arith, take_all, drop_of_length-le, length-drop}
-use Rattle.std.proofs.Math.Numerals.{one-add}
-use Rattle.std.proofs.lemmas.Bool.{cases_Bool, cases_lt, eqb-true}
-use Rattle.std.proofs.lemmas.List.Splits.{slice_split-cons_no, slice_split_first}
-use Rattle.std.specs.List.{before_first, after_first, position_or_len, onto_first}
+use Rattle.std.proofs.Common.{◌≡◌, true, ℕ, ◌+◌, List, [], ◌∷◌, ◌++◌, Result, Ok, Err, refl, sym, ap, ◌∙◌}
+use Rattle.hub_text.specs.declared.line.Line.{Line}
+use Rattle.hub_text.specs.Lines.{lines_of}
 use Rattle.hubsync.specs.declared.bundle.Heading.{Heading}
 use Rattle.hubsync.specs.declared.bundle.BundleFault.{BundleFault}
 use Rattle.hubsync.specs.declared.bundle.BundleLineFault.{BundleLineFault}
-use Rattle.hubsync.specs.Bundle.{SectionValue, Written, is_lf, lines, is_heading, follows_section, without_last_cr, bytes_before_heading, written, heading_reading, with_section, with_heading, sections_reading}
+use Rattle.hubsync.specs.Bundle.{SectionValue, Written, is_heading, follows_section, without_last_cr, bytes_before_heading, written, heading_reading, with_section, with_heading, sections_reading}
+use Rattle.hubsync.proofs.Lines.{heading_line}
 
 -- What is read where these sections stand above.
 abbrev pub below_sections : List SectionValue → Result (List SectionValue) BundleLineFault → Result (List SectionValue) BundleLineFault
@@ -32,65 +31,33 @@ sections_reading_anywhere above [] = refl
 sections_reading_anywhere above (w ∷ ws) =
     ap (with_heading w (heading_reading w.heading)) (sections_reading_anywhere (w.heading ∷ above) ws ∙ sym (sections_reading_anywhere (w.heading ∷ []) ws))
 
--- ---- bytes that begin with a heading
+-- A line that is left after a section is a heading.
+next_heading : (s t : List ℕ) (l : Line (List ℕ)) → lines_of s ≡ l ∷ lines_of t → follows_section s ≡ true → is_heading l.text ≡ true
+next_heading [] t l e h = cc
+next_heading (b ∷ s) t l e h = heading_line (b ∷ s) t l e ∙ h
 
--- bytes without an LF are one line
-lines_one : (bs : List ℕ) → length bs ≤ position_or_len is_lf bs → lines bs ≡ bs ∷ []
-lines_one [] h = refl
-lines_one (b ∷ bs) h = elim (cases_Bool (b == 10)) [
-  | inl e ↦ absurd (omega (arith, rw e at h))
-  | inr e ↦ slice_split-cons_no is_lf b bs e ∙ ap (onto_first b) (lines_one bs (omega (arith, rw e at h)))
-]
+-- The first section, by the line of its heading and the bytes below.
+abbrev section_at : ℕ → Line (List ℕ) → List ℕ → Written
+section_at n l t = record { line = n; heading = without_last_cr l.text; bytes = bytes_before_heading (lines_of t) }
 
-heading_stays : (bs : List ℕ) → is_heading bs ≡ true → is_heading (before_first is_lf bs) ≡ true
-heading_stays [] h = cc
-heading_stays (b ∷ bs) h = subst (λ x. is_heading (before_first is_lf (x ∷ bs)) ≡ true) (sym (eqb-true b 37 h)) (rw one-add refl)
+written-heading : (n : ℕ) (s t : List ℕ) (l : Line (List ℕ)) → lines_of s ≡ l ∷ lines_of t → follows_section s ≡ true → written n (lines_of s) ≡ section_at n l t ∷ written (n + 1) (lines_of t)
+written-heading n s t l e h = ap (written n) e ∙ rw (next_heading s t l e h) refl
 
--- bytes that are left after a section begin with the next heading
-pub next_begins : (bs : List ℕ) → (length bs == 0) ≡ false → follows_section bs ≡ true → is_heading bs ≡ true
-next_begins [] h s = sym h
-next_begins (b ∷ bs) h s = s
+-- The reading, one section on.
+pub one_section_more : (ss : List SectionValue) (n m k : ℕ) (s t u bytes : List ℕ) (l : Line (List ℕ)) (h : Heading) → lines_of s ≡ l ∷ lines_of t → follows_section s ≡ true
+    → heading_reading (without_last_cr l.text) ≡ Ok h → bytes ≡ bytes_before_heading (lines_of t) → ((i : ℕ) → written i (lines_of t) ≡ written (i + k) (lines_of u)) → m ≡ n + 1 + k
+    → below_sections ss (sections_reading [] (written n (lines_of s))) ≡ below_sections (ss ++ record { heading = h; bytes = bytes } ∷ []) (sections_reading [] (written m (lines_of u)))
+one_section_more ss n m k s t u bytes l h e begins says front back moved =
+    let w = section_at n l t in
+    let later = sections_reading (w.heading ∷ []) (written (n + 1) (lines_of t)) in
+    let later_is : later ≡ sections_reading [] (written m (lines_of u)) =
+    sections_reading_anywhere (w.heading ∷ []) (written (n + 1) (lines_of t)) ∙ ap (sections_reading []) (back (n + 1) ∙ ap (λ i. written i (lines_of u)) (sym moved)) in
+    ap (below_sections ss) (ap (sections_reading []) (written-heading n s t l e begins) ∙ ap (λ r. with_heading w r later) says ∙ ap (λ b. with_section (record { heading = h; bytes = b }) later) (sym front) ∙ ap (with_section (record { heading = h; bytes = bytes })) later_is)
+    ∙ sym (below_sections-push ss (record { heading = h; bytes = bytes }) _)
 
--- fewer bytes stand below a heading
-pub length-after_first : (bs : List ℕ) → is_heading bs ≡ true → length (after_first is_lf bs) < length bs
-length-after_first [] h = cc
-length-after_first (b ∷ bs) h = omega (arith, length-drop (position_or_len is_lf (b ∷ bs) + 1) (b ∷ bs))
-
--- the first section, whose heading is cut off
-abbrev first_written : ℕ → List ℕ → List ℕ → Written
-first_written n text below = record { line = n; heading = without_last_cr text; bytes = bytes_before_heading (lines below) }
-
-written-first : (n : ℕ) (l : List ℕ) (ls : List (List ℕ)) → is_heading l ≡ true → written n (l ∷ ls) ≡ record { line = n; heading = without_last_cr l; bytes = bytes_before_heading ls } ∷ written (n + 1) ls
-written-first n l ls h = rw h refl
-
-written-heading : (n : ℕ) (bs : List ℕ) → is_heading bs ≡ true → written n (lines bs) ≡ first_written n (before_first is_lf bs) (after_first is_lf bs) ∷ written (n + 1) (lines (after_first is_lf bs))
-written-heading n bs h = elim (cases_lt (position_or_len is_lf bs) (length bs)) [
-  | inl lt ↦ ap (written n) (slice_split_first is_lf bs 0 lt) ∙ written-first n (before_first is_lf bs) (lines (after_first is_lf bs)) (heading_stays bs h)
-  | inr le ↦
-      let both : List ℕ → List ℕ → List Written = λ text below. first_written n text below ∷ written (n + 1) (lines below) in
-      let below : after_first is_lf bs ≡ [] = drop_of_length-le bs (omega (arith, le)) in
-      ap (written n) (lines_one bs le) ∙ written-first n bs [] h ∙ ap (λ t. both t []) (sym (take_all _ bs le)) ∙ ap (both (before_first is_lf bs)) (sym below)
-]
-
--- ---- the reading, one section on
-
-pub one_section_more : (ss : List SectionValue) (n m k end : ℕ) (bs text below : List ℕ) (h : Heading) → is_heading bs ≡ true → text ≡ before_first is_lf bs → below ≡ after_first is_lf bs
-    → heading_reading (without_last_cr text) ≡ Ok h → take end below ≡ bytes_before_heading (lines below) → ((i : ℕ) → written i (lines below) ≡ written (i + k) (lines (drop end below))) → m ≡ n + 1 + k
-    → below_sections ss (sections_reading [] (written n (lines bs))) ≡ below_sections (ss ++ record { heading = h; bytes = take end below } ∷ []) (sections_reading [] (written m (lines (drop end below))))
-one_section_more ss n m k end bs text below h begins text_is below_is says front back moved =
-    let w = first_written n (before_first is_lf bs) (after_first is_lf bs) in
-    let later = sections_reading (w.heading ∷ []) (written (n + 1) (lines (after_first is_lf bs))) in
-    let heading_is : heading_reading w.heading ≡ Ok h = ap (λ t. heading_reading (without_last_cr t)) (sym text_is) ∙ says in
-    let bytes_are : w.bytes ≡ take end below = ap (λ b. bytes_before_heading (lines b)) (sym below_is) ∙ sym front in
-    let later_is : later ≡ sections_reading [] (written m (lines (drop end below))) =
-    sections_reading_anywhere (w.heading ∷ []) (written (n + 1) (lines (after_first is_lf bs))) ∙ ap (sections_reading []) (ap (λ b. written (n + 1) (lines b)) (sym below_is) ∙ back (n + 1) ∙ ap (λ i. written i (lines (drop end below))) (sym moved)) in
-    ap (below_sections ss) (ap (sections_reading []) (written-heading n bs begins) ∙ ap (λ r. with_heading w r later) heading_is ∙ ap (λ b. with_section (record { heading = h; bytes = b }) later) bytes_are ∙ ap (with_section (record { heading = h; bytes = take end below })) later_is)
-    ∙ sym (below_sections-push ss (record { heading = h; bytes = take end below }) _)
-
-pub faulty_section : (ss : List SectionValue) (n : ℕ) (bs text : List ℕ) (f : BundleFault) → is_heading bs ≡ true → text ≡ before_first is_lf bs → heading_reading (without_last_cr text) ≡ Err f
-    → below_sections ss (sections_reading [] (written n (lines bs))) ≡ Err (record { line = n; fault = f })
-faulty_section ss n bs text f begins text_is says =
-    let w = first_written n (before_first is_lf bs) (after_first is_lf bs) in
-    let later = sections_reading (w.heading ∷ []) (written (n + 1) (lines (after_first is_lf bs))) in
-    let heading_is : heading_reading w.heading ≡ Err f = ap (λ t. heading_reading (without_last_cr t)) (sym text_is) ∙ says in
-    ap (below_sections ss) (ap (sections_reading []) (written-heading n bs begins) ∙ ap (λ r. with_heading w r later) heading_is) ∙ below_sections-Err ss (record { line = n; fault = f })
+pub faulty_section : (ss : List SectionValue) (n : ℕ) (s t : List ℕ) (l : Line (List ℕ)) (f : BundleFault) → lines_of s ≡ l ∷ lines_of t → follows_section s ≡ true → heading_reading (without_last_cr l.text) ≡ Err f
+    → below_sections ss (sections_reading [] (written n (lines_of s))) ≡ Err (record { line = n; fault = f })
+faulty_section ss n s t l f e begins says =
+    let w = section_at n l t in
+    let later = sections_reading (w.heading ∷ []) (written (n + 1) (lines_of t)) in
+    ap (below_sections ss) (ap (sections_reading []) (written-heading n s t l e begins) ∙ ap (λ r. with_heading w r later) says) ∙ below_sections-Err ss (record { line = n; fault = f })

@@ -1,7 +1,9 @@
 -- Which bytes are bundles, what their sections are, and the first fault of all others.
 use Rattle.std.specs.Prelude.{ℕ, ◌+◌, Bool, true, false, ◌&&◌, ◌||◌, ◌==◌, nat_eq, List, [], ◌∷◌, ◌++◌, ◌-◌, take, drop, length, Option, Some, None, Result, Ok, Err, if◌then◌else◌, codes, bytes_eq}
-use Rattle.std.specs.List.{list_any, list_all, slice_split, starts_with, ends_with}
+use Rattle.std.specs.List.{list_any, list_all, starts_with, ends_with}
 use Rattle.std.specs.Str.{is_utf8, chars}
+use Rattle.hub_text.specs.declared.line.Line.{Line}
+use Rattle.hub_text.specs.Lines.{lines_of, line_text}
 use Rattle.hub_path.specs.Path.{Name}
 use Rattle.hub_path.specs.Reading.{name_reading}
 use Rattle.hub_path.specs.declared.fault.PathFault.{PathFault}
@@ -15,13 +17,6 @@ use Rattle.hubsync.specs.declared.bundle.BundleLineFault.{BundleLineFault}
 pub record SectionValue : Type 0 where
   pub heading : Heading
   pub bytes : List ℕ
-
-abbrev pub is_lf : ℕ → Bool
-is_lf b = b == 10
-
--- The lines of a bundle are its bytes, cut at each LF. The last one may be empty.
-abbrev pub lines : List ℕ → List (List ℕ)
-lines bytes = slice_split is_lf bytes
 
 -- A heading is a line that begins with `%`.
 abbrev pub is_heading : List ℕ → Bool
@@ -37,15 +32,10 @@ follows_section (b ∷ bs) = b == 37
 abbrev pub without_last_cr : List ℕ → List ℕ
 without_last_cr l = if ends_with nat_eq l (codes "\r") then take (length l - 1) l else l
 
--- The LF between a line and the bytes of the lines below it, if there are any.
-abbrev pub below_line : List (List ℕ) → List ℕ → List ℕ
-below_line [] bytes = []
-below_line (l ∷ ls) bytes = 10 ∷ bytes
-
 -- The bytes of these lines up to the next heading.
-abbrev pub bytes_before_heading : List (List ℕ) → List ℕ
+abbrev pub bytes_before_heading : List (Line (List ℕ)) → List ℕ
 bytes_before_heading [] = []
-bytes_before_heading (l ∷ ls) = if is_heading l then [] else l ++ below_line ls (bytes_before_heading ls)
+bytes_before_heading (l ∷ ls) = if is_heading l.text then [] else line_text l ++ bytes_before_heading ls
 
 -- A section as it is written: the number of its heading's line, the heading, and the bytes below it.
 pub record Written : Type 0 where
@@ -54,10 +44,11 @@ pub record Written : Type 0 where
   pub bytes : List ℕ
 
 -- The sections of these lines, the first of which has the number n.
-abbrev pub written : ℕ → List (List ℕ) → List Written
+abbrev pub written : ℕ → List (Line (List ℕ)) → List Written
 written n [] = []
 written n (l ∷ ls) =
-    if is_heading l then record { line = n; heading = without_last_cr l; bytes = bytes_before_heading ls } ∷ written (n + 1) ls
+    if is_heading l.text
+    then record { line = n; heading = without_last_cr l.text; bytes = bytes_before_heading ls } ∷ written (n + 1) ls
     else written (n + 1) ls
 
 -- A blank line has nothing but spaces, tabs and CR.
@@ -65,10 +56,10 @@ abbrev pub is_blank : ℕ → Bool
 is_blank b = b == 32 || b == 9 || b == 13
 
 -- The first line before all headings that isn't blank.
-abbrev pub stray_line : ℕ → List (List ℕ) → Option ℕ
+abbrev pub stray_line : ℕ → List (Line (List ℕ)) → Option ℕ
 stray_line n [] = None
 stray_line n (l ∷ ls) =
-    if is_heading l then None else (if list_all is_blank l then stray_line (n + 1) ls else Some n)
+    if is_heading l.text then None else (if list_all is_blank l.text then stray_line (n + 1) ls else Some n)
 
 -- A profile's heading is this word, one space, and the profile's name up to the end of the line.
 abbrev pub profile_word : List ℕ
@@ -121,7 +112,7 @@ unless_stray (Some n) later = Err (record { line = n; fault = NoSection })
 
 -- What a bundle says, or its first fault: a line above all sections, then the headings from the first.
 abbrev pub bundle_reading : List ℕ → Result (List SectionValue) BundleLineFault
-bundle_reading bytes = unless_stray (stray_line 1 (lines bytes)) (sections_reading [] (written 1 (lines bytes)))
+bundle_reading bytes = unless_stray (stray_line 1 (lines_of bytes)) (sections_reading [] (written 1 (lines_of bytes)))
 
 -- Out of memory has line 0.
 abbrev pub out_of_memory : BundleLineFault

@@ -16,7 +16,6 @@ use Rattle.hubsync.specs.declared.input.InputFault.{InputFault}
 use Rattle.hubsync.specs.declared.input.InputFault.TheVariants as input
 use Rattle.hubsync.specs.declared.bundle.Heading.{Heading}
 use Rattle.hubsync.specs.declared.bundle.Heading.TheVariants.{Profile}
-use Rattle.hubsync.specs.declared.bundle.BundleLineFault.{BundleLineFault}
 use Rattle.hubsync.specs.declared.profiles.SectionFault.{SectionFault}
 use Rattle.hubsync.specs.declared.profiles.ReadError.{ReadError}
 use Rattle.hubsync.specs.declared.profiles.ReadError.TheVariants as memory

@@ -1,9 +1,12 @@
 //! Bundles: an input cut into its sections.
-ghost use Rattle.std.specs.Prelude.{◌≡◌, ◌⊎◌, ◌+◌, ◌≤◌, ℕ, take, drop, length, IsTrue, IfOk, IfErr, Ok, Err};
-ghost use Rattle.std.specs.List.{before_first, after_first, position_or_len};
-ghost use Rattle.hubsync.specs.Bundle.{is_lf, lines, without_last_cr, bytes_before_heading, follows_section, written, stray_line, profile_reading, heading_reading, bundle_reading, out_of_memory};
+ghost use Rattle.std.specs.Prelude.{◌≡◌, ◌⊎◌, ◌+◌, ◌≤◌, ℕ, length, IsTrue, IfOk, IfErr, Ok, Err};
+ghost use Rattle.std.specs.List.{list_all};
+ghost use Rattle.hub_text.specs.Lines.{lines_of};
+ghost use Rattle.hubsync.specs.Bundle as bundle;
+ghost use Rattle.hubsync.specs.Bundle.{without_last_cr, bytes_before_heading, follows_section, written, stray_line, profile_reading, heading_reading, bundle_reading, out_of_memory};
 
 use hub_path::{Name, PathFault};
+use hub_text::Lines;
 use std::alloc::{AllocError, AllocFailed, Global};
 use std::marker::Model;
 use thiserror::Error;
@@ -115,84 +118,72 @@ pub fn read_bundle<'a>(alloc: Global, bytes: &'a [u8]) -> Result<Vec<Section<'a>
         let fault = BundleFault::NoSection;
         return Err(BundleLineFault { line, fault });
     }
-    let (start, mut above) = section_end(bytes);
-    let mut rest = &bytes[start..];
+    let mut lines = Lines::new(bytes);
+    let (_blank, mut above) = take_section(&mut lines);
     let mut sections = Vec::new(alloc);
-    while !rest.is_empty() {
-        let (text, below) = cut_line(rest);
-        let heading = read_heading(alloc, above + 1, without_cr(text))?;
-        let (end, count) = section_end(below);
-        let section = Section {
-            heading,
-            bytes: &below[..end],
-        };
-        sections.push(section)?;
+    while let Some(line) = lines.next() {
+        let heading = read_heading(alloc, above + 1, without_cr(line.text))?;
+        let (bytes, count) = take_section(&mut lines);
+        sections.push(Section { heading, bytes })?;
         above += count + 1;
-        rest = &below[end..];
     }
     Ok(sections)
 }
 
 /// The number of the first line before the first heading that isn't blank.
 fn stray_line_of(bytes: &[u8]) -> Option<usize>
-    ensures { result ≡ stray_line 1 (lines bytes.now) }
+    ensures { result ≡ stray_line 1 (lines_of bytes.now) }
 {
-    let mut above = 0;
-    let mut is_start = true;
-    for byte in bytes {
-        match *byte {
-            b'%' if is_start => return None,
-            b'\n' => above += 1,
-            b' ' | b'\t' | b'\r' => {}
-            _ => return Some(above + 1),
+    for (i, line) in Lines::new(bytes).enumerate() {
+        if is_heading(line.text) {
+            return None;
         }
-        is_start = *byte == b'\n';
+        if !is_blank(line.text) {
+            return Some(i + 1);
+        }
     }
     None
 }
 
-/// How many bytes there are before the next heading, and how many of them are LF.
-fn section_end(bytes: &[u8]) -> (usize, usize)
-    ensures within { result.0 ≤ length bytes.now }
-    ensures fewer { result.1 ≤ result.0 }
-    ensures front { take result.0 bytes.now ≡ bytes_before_heading (lines bytes.now) }
-    ensures back { (n : ℕ) → written n (lines bytes.now)
-        ≡ written (n + result.1) (lines (drop result.0 bytes.now)) }
-    ensures next { IsTrue (follows_section (drop result.0 bytes.now)) }
+/// Takes the lines before the next heading. Returns their bytes, and how many lines they are.
+fn take_section<'a>(lines: &mut Lines<'a>) -> (&'a [u8], usize)
+    ensures bytes { result.0.now ≡ bytes_before_heading (lines_of lines.old) }
+    ensures below { (n : ℕ) → written n (lines_of lines.old)
+        ≡ written (n + result.1) (lines_of lines.new) }
+    ensures fewer { result.1 + length lines.new ≤ length lines.old }
+    ensures next { IsTrue (follows_section lines.new) }
 {
+    let below = lines.rest();
     let mut count = 0;
-    let mut is_start = true;
-    for (at, byte) in bytes.iter().enumerate() {
-        if is_start && *byte == b'%' {
-            return (at, count);
-        }
-        is_start = *byte == b'\n';
-        if is_start {
-            count += 1;
-        }
+    while !is_over(lines.rest()) {
+        let _line = lines.next();
+        count += 1;
     }
-    (bytes.len(), count)
+    let len = below.len() - lines.rest().len();
+    (&below[..len], count)
 }
 
-/// The first line without its LF, and the bytes after that line.
-fn cut_line(bytes: &[u8]) -> (&[u8], &[u8])
-    ensures line { result.0.now ≡ before_first is_lf bytes.now }
-    ensures below { result.1.now ≡ after_first is_lf bytes.now }
+/// Whether a section ends before these bytes: they are none, or begin with a heading.
+fn is_over(rest: &[u8]) -> bool
+    ensures { result ≡ follows_section rest.now }
 {
-    let end = line_len(bytes);
-    if end < bytes.len() {
-        (&bytes[..end], &bytes[end + 1..])
-    } else {
-        (bytes, &bytes[end..])
+    rest.is_empty() || is_heading(rest)
+}
+
+fn is_heading(line: &[u8]) -> bool
+    ensures { result ≡ bundle.is_heading line.now }
+{
+    match line {
+        [first, ..] => *first == b'%',
+        [] => false,
     }
 }
 
-/// How many bytes there are before the first LF.
-fn line_len(bytes: &[u8]) -> usize
-    ensures len { result ≡ position_or_len is_lf bytes.now }
-    ensures within { result ≤ length bytes.now }
+fn is_blank(line: &[u8]) -> bool
+    ensures { result ≡ list_all bundle.is_blank line.now }
 {
-    bytes.iter().take_while(|byte| **byte != b'\n').count()
+    line.iter()
+        .all(|byte| matches!(*byte, b' ' | b'\t' | b'\r'))
 }
 
 /// The line without a CR at its end.

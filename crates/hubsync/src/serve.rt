@@ -121,31 +121,10 @@ fn write_line<W: Write>(line: &str, status: u8, output: &mut Watched<W>) -> u8
     requires { output.old.failed ≡ false }
     ensures { WritesLine (W.contents output.old.device) (W.contents output.new.device) line.now status output.new.failed result }
 {
-    if write_bytes(line.as_bytes(), output) && output.flush().is_ok() {
-        status
-    } else {
-        2
+    if output.write_all(line.as_bytes()).is_err() || output.flush().is_err() {
+        return 2;
     }
-}
-
-/// Writes all of these bytes, or a prefix of them if a call of the output fails. Returns whether none failed.
-fn write_bytes<W: Write>(bytes: &[u8], output: &mut Watched<W>) -> bool
-    requires { output.old.failed ≡ false }
-    ensures prefix { (n : ℕ) × Appends (W.contents output.old.device) (W.contents output.new.device) (take n bytes.now) }
-    ensures whole { IsTrue result → Appends (W.contents output.old.device) (W.contents output.new.device) bytes.now }
-    ensures failed { result ≡ not output.new.failed }
-{
-    let mut rest = bytes;
-    while !rest.is_empty() {
-        let Ok(count) = output.write(rest) else {
-            return false;
-        };
-        if count == 0 {
-            return false;
-        }
-        rest = &rest[count..];
-    }
-    true
+    status
 }
 
 #[cfg(test)]

@@ -1,11 +1,11 @@
 //! The path that is shown where two profiles overlap.
-ghost use Rattle.std.specs.Prelude.{◌≡◌, ℕ, IfOk, IsTrue, MatchOption, OnOk, ◌||◌, chars, encode_utf8_all};
+ghost use Rattle.std.specs.Prelude.{◌≡◌, ◌∷◌, [], ℕ, IfOk, IsTrue, MatchOption, OnOk, ◌||◌, chars, encode_utf8_all};
 ghost use Rattle.std.specs.BTreeSet.{contains};
 ghost use Rattle.std.specs.Ordering.{nat_cmp};
-ghost use Rattle.hub_path.specs.Path.{is_path};
+ghost use Rattle.hub_path.specs.Path.{is_name, is_path};
 ghost use Rattle.hubsync.specs.Shown as shown;
 
-use hub_path::RelPath;
+use hub_path::{Name, RelPath};
 use hub_profile::Profile;
 use std::alloc::{AllocError, Global};
 use std::collections::BTreeSet;
@@ -23,9 +23,21 @@ pub fn shown_path(
     if place.len() > 0 {
         return place.copy();
     }
-    let mut text = String::new(alloc);
-    text.push(sample(alloc, profiles)?)?;
-    RelPath::read(alloc, text.as_str()).map_err(|_| AllocError)
+    let name = one_character(alloc, sample(alloc, profiles)?)?;
+    RelPath::top(alloc).child(name)
+}
+
+/// The name that has this character alone.
+fn one_character(alloc: Global, character: char) -> Result<Name, AllocError>
+    requires { IsTrue (is_name (character ∷ [])) }
+    ensures { IfOk result (λ n. n ≡ character ∷ []) }
+{
+    let mut buffer = [0; 4];
+    let text = character.encode_utf8(&mut buffer);
+    let Some(name) = Name::from_text(alloc, text)? else {
+        unreachable!();
+    };
+    Ok(name)
 }
 
 /// The character that is shown for the whole replica.

@@ -1,6 +1,6 @@
 use Rattle.std.proofs.Common.{◌+◌, ◌++◌, ap, sym, ◌∙◌, drop, chars}
 use Rattle.std.proofs.lemmas.Result.{err_from_is_err_and}
-use Rattle.hub_glob.specs.TextChars.{name_chars}
+use Rattle.hub_path.specs.NameFacts.{name_chars}
 use Rattle.hub_automaton.specs.Alphabet as alphabet
 use Rattle.hub_automaton.specs.Adding.{mention_step, mention_refused}
 use Rattle.hub_automaton.proofs.Alphabets.{names_drop}

@@ -3,7 +3,7 @@ use Rattle.std.proofs.lemmas.Result.{err_from_is_err_and}
 use Rattle.std.proofs.lemmas.Iterator.{YieldsList-from_chars}
 use Rattle.std.proofs.lemmas.Iterator.Consumers.{YieldsList-turn, YieldsList-end}
 use Rattle.std.proofs.lemmas.List.{drop_all}
-use Rattle.hub_glob.specs.TextChars.{next_character}
+use Rattle.hub_text.specs.TextChars.{next_character}
 use Rattle.hub_automaton.specs.Alphabet as alphabet
 use Rattle.hub_automaton.specs.Adding.{mention_step, mention_refused}
 use Rattle.hub_automaton.proofs.Alphabets.{mention_end}

@@ -1,7 +1,7 @@
 use Rattle.std.proofs.Common.{◌≡◌, true, ◌++◌, [], ◌∷◌, ap, subst, ◌∙◌}
 use Rattle.std.specs.List.{list_all}
 use Rattle.hub_path.specs.Path.{text_of}
-use Rattle.hub_text.specs.TestLaws.{and-true}
+use Rattle.std.proofs.Math.Bool.{and-true}
 use Rattle.hub_automaton.specs.Alphabet.{IsAlphabet, mentions, path_characters}
 use Rattle.hub_automaton.specs.Spots.{is_covered, path_alternatives}
 use Rattle.hub_automaton.proofs.Alphabets.{mentions_added}

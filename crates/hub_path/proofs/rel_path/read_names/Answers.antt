@@ -5,7 +5,7 @@ use Rattle.std.proofs.lemmas.Result.{err_from_is_err_and}
 use Rattle.std.proofs.lemmas.Bool.Decides.{nat_tests}
 use Rattle.std.proofs.lemmas.Iterator.Splits.{YieldsList-from_str_split}
 use Rattle.std.proofs.lemmas.Iterator.Consumers.{YieldsList-turn, YieldsList-end}
-use Rattle.hub_path.specs.Parts.{part-chars, length-parts}
+use Rattle.hub_text.specs.TextParts.{part-chars, length-parts}
 use Rattle.hub_path.specs.Path.{path_of}
 use Rattle.hub_path.specs.declared.rel_path.TheConstants.{PATH_NAMES}
 use Rattle.hub_path.specs.ReadNames.{fault-deep, fault-name, read-more, read-all}

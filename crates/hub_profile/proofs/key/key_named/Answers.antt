@@ -1,4 +1,4 @@
-use Rattle.std.proofs.Common.{rules, tests, refl, sym, ap, ◌∙◌, ◌≡◌, ℕ, List, Option, bytes_eq}
+use Rattle.std.proofs.Common.{rules, tests, refl, sym, ap, ◌∙◌, ℕ, List, Option, bytes_eq}
 use Rattle.std.specs.Option.{option_map}
 use Rattle.std.proofs.lemmas.Iterator.{YieldsList-from_slice}
 use Rattle.std.proofs.lemmas.Iterator.Search.{find_from_yields_List}

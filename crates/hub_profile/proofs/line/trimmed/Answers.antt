@@ -1,6 +1,6 @@
 use Rattle.std.proofs.Common.{◌∙◌, ap, reverse}
 use Rattle.hub_profile.proofs.Cuts.{skipped_at_end}
-use Rattle.hub_glob.specs.Blanks.{skip_blanks}
+use Rattle.hub_text.specs.Blanks.{skip_blanks}
 use Rattle.hub_profile.proofs.line.trimmed.Goals as goal
 
 pub returns : goal.returns

@@ -1,15 +1,16 @@
 use Rattle.std.proofs.Common.{◌≡◌, ◌+◌, ◌≤◌, [], length}
 use Rattle.std.specs.Prelude.{IsTrue}
-use Rattle.hubsync.specs.Bundle.{lines, follows_section, written, sections_reading, bundle_reading}
+use Rattle.hub_text.specs.Lines.{lines_of}
+use Rattle.hubsync.specs.Bundle.{follows_section, written, sections_reading, bundle_reading}
 use Rattle.hubsync.proofs.Sections.{below_sections}
 use Rattle.hubsync.proofs.bundle.read_bundle.Given as goal
 
-abbrev pub invariant-loop-rest : goal.invariant-loop-rest
-invariant-loop-rest l = record {
-  read : bundle_reading l.fn.bytes ≡ below_sections l.sections.items (sections_reading [] (written (l.above + 1) (lines l.rest)));
-  next : IsTrue (follows_section l.rest);
-  fewer : l.above + length l.rest ≤ length l.fn.bytes;
+abbrev pub invariant-loop-line : goal.invariant-loop-line
+invariant-loop-line l = record {
+  read : bundle_reading l.fn.bytes ≡ below_sections l.sections.items (sections_reading [] (written (l.above + 1) (lines_of l.lines)));
+  next : IsTrue (follows_section l.lines);
+  fewer : l.above + length l.lines ≤ length l.fn.bytes;
 }
 
-abbrev pub decreases-loop-rest : goal.decreases-loop-rest
-decreases-loop-rest l = length l.rest
+abbrev pub decreases-loop-line : goal.decreases-loop-line
+decreases-loop-line l = length l.lines

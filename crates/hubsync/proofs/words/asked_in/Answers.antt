@@ -1,7 +1,8 @@
 use Rattle.std.proofs.Common.{◌∙◌, codes, sym, ap, ap₂}
+use Rattle.std.proofs.lemmas.Bool.{not-false}
 use Rattle.clap.specs.Words.{found_of, first_value}
 use Rattle.hubsync.specs.Words.{operands_of}
-use Rattle.hubsync.proofs.WordsFacts.{not-false, reach_in}
+use Rattle.hubsync.proofs.WordsFacts.{reach_in}
 use Rattle.hubsync.proofs.words.asked_in.Goals as goal
 
 pub returns-in_err-profile : goal.returns-in_err-profile

@@ -3,7 +3,7 @@ use Rattle.std.specs.Str.{chars}
 use Rattle.std.proofs.lemmas.List.{length_push}
 use Rattle.std.proofs.lemmas.Iterator.Splits.{YieldsList-from_str_split}
 use Rattle.std.proofs.lemmas.Iterator.Consumers.{YieldsList-turn, YieldsList-end}
-use Rattle.hub_path.specs.Parts.{part-chars, length-parts}
+use Rattle.hub_text.specs.TextParts.{part-chars, length-parts}
 use Rattle.hub_path.specs.Path.{path_of}
 use Rattle.hub_path.proofs.PathFacts.{names-more, no-path, whole-path}
 use Rattle.hub_path.proofs.rel_path.RelPath.from_text.Goals as goal
@@ -24,4 +24,4 @@ returns-in-None-2-clause-path c =
 pub returns-clause-path : goal.returns-clause-path
 returns-clause-path c =
     let end = YieldsList-end (YieldsList-from_str_split {s = c.into_iter-part-iterator.result} 47 c.args.text.now (lit< tt) (cc) (cc) (cc)) c.loop-part.yielded _ c.loop-part.yielded_by _ _ c.in-None.is c.next.ensures.steps in
-    (whole-path (chars c.args.text.now) c.loop-part.names.items (length c.loop-part.yielded) c.loop-part.invariant (end.1 ∙ sym (length-parts 47 c.args.text.now (lit< tt) c.utf8.text))).0
+    rw c.from_vec-names.ensures (whole-path (chars c.args.text.now) c.loop-part.names.items (length c.loop-part.yielded) c.loop-part.invariant (end.1 ∙ sym (length-parts 47 c.args.text.now (lit< tt) c.utf8.text))).0

@@ -1,5 +1,5 @@
 -- A text cut at an ASCII character: by its bytes, as the code cuts, and by its characters, as the rules are said.
-use Rattle.std.proofs.Common.{◌≡◌, ◌==◌, ℕ, ◌+◌, ◌/◌, ◌<◌, ◌≤◌, Bool, true, false, cond, ◌&&◌, ltb, List, [], ◌∷◌, ◌++◌, length, map, refl, sym, ap, ◌∙◌, arith}
+use Rattle.std.proofs.Common.{◌≡◌, ◌==◌, ℕ, ◌+◌, ◌/◌, ◌<◌, ◌≤◌, Bool, true, false, cond, ltb, List, [], ◌∷◌, ◌++◌, length, map, refl, sym, ap, ◌∙◌, arith}
 use Rattle.std.proofs.Common.{get_or}
 use Rattle.std.proofs.lemmas.List.{length-map}
 use Rattle.std.proofs.Math.ListN.{get_or-map}
@@ -11,6 +11,7 @@ use Rattle.std.proofs.lemmas.Bool.{and_parts}
 use Rattle.std.proofs.lemmas.Bool.Decides.{nat_tests}
 use Rattle.std.proofs.lemmas.List.Splits.{length-slice_split}
 use lib.Utf8.{encode, next, scalar}
+use Rattle.hub_text.specs.TextOrder.{one_more, two_more, three_more}
 use borrow.Author.Tests.{eqb-true}
 
 abbrev pub onto_front : List ℕ → List (List ℕ) → List (List ℕ)
@@ -43,15 +44,6 @@ more_apart s a bs l h e = rw (high_apart s a l h) e
 either_apart : (s : ℕ) (t : Bool) (xs ys : List ℕ) → list_all (is_apart s) xs ≡ true → list_all (is_apart s) ys ≡ true → list_all (is_apart s) (cond t xs ys) ≡ true
 either_apart s true xs ys h k = h
 either_apart s false xs ys h k = k
-
-abbrev one_more : ℕ → List ℕ
-one_more c = next c ∷ []
-
-abbrev two_more : ℕ → List ℕ
-two_more c = next (c / 64) ∷ one_more c
-
-abbrev three_more : ℕ → List ℕ
-three_more c = next (c / 4096) ∷ two_more c
 
 next_apart : (s c : ℕ) (bs : List ℕ) → s < 128 → list_all (is_apart s) bs ≡ true → list_all (is_apart s) (next c ∷ bs) ≡ true
 next_apart s c bs l e = more_apart s (next c) bs l (omega arith) e

@@ -1,1 +1,0 @@
-pub use hub_text::{BLANKS, first_word, skip_blanks};

@@ -1,6 +1,0 @@
-use Rattle.std.proofs.Common.{sym, ◌∙◌, []}
-use Rattle.hub_path.specs.Texts.{is_nil, bytes_eq-chars, nil_ascii}
-use Rattle.hub_profile.proofs.line.is_blank.Goals as goal
-
-pub returns : goal.returns
-returns c = c.is_empty.ensures ∙ (is_nil _ ∙ (bytes_eq-chars _ [] c.utf8.text nil_ascii ∙ sym (is_nil _)))

@@ -18,6 +18,75 @@ fn contents_like(alloc: Global, mark: Mark) -> Result<Contents, AllocError> {
     }
 }
 
+/// The path of that text.
+fn path(alloc: Global, text: &str) -> Result<RelPath, Fail> {
+    Ok(RelPath::read(alloc, text)?)
+}
+
+/// Sets the contents at the path of that text.
+fn set(alloc: Global, tree: &mut Tree, text: &str, contents: Contents) -> Result<(), Fail> {
+    tree.set(&path(alloc, text)?, contents)?;
+    Ok(())
+}
+
+/// Whether the tree has that mark at the path of that text.
+fn has_mark(
+    rt: &impl Abort,
+    alloc: Global,
+    tree: &Tree,
+    text: &str,
+    want: Mark,
+) -> Result<(), Fail> {
+    let path = path(alloc, text)?;
+    assert_eq!(rt; tree.mark_at(&path), want, "at {text}");
+    Ok(())
+}
+
+/// Whether these are the names in the directory at the path of that text.
+fn has_names(
+    rt: &impl Abort,
+    alloc: Global,
+    tree: &Tree,
+    text: &str,
+    want: &[&str],
+) -> Result<(), Fail> {
+    are_names(rt, &tree.names_at(&path(alloc, text)?)?, want);
+    Ok(())
+}
+
+/// Whether the tree has these paths, in order.
+fn has_paths(rt: &impl Abort, tree: &Tree, want: &[&str]) -> Result<(), Fail> {
+    are_paths(rt, &tree.paths()?, want);
+    Ok(())
+}
+
+/// Sets the mark at the path of that text, which isn't the top.
+fn set_mark(
+    rt: &impl Abort,
+    alloc: Global,
+    archive: &mut Archive,
+    text: &str,
+    mark: Mark,
+) -> Result<(), Fail> {
+    let path = path(alloc, text)?;
+    assert!(rt; path.len() > 0);
+    archive.set(&path, mark)?;
+    Ok(())
+}
+
+/// Whether the archive has that mark at the path of that text.
+fn is_marked(
+    rt: &impl Abort,
+    alloc: Global,
+    archive: &Archive,
+    text: &str,
+    want: Mark,
+) -> Result<(), Fail> {
+    let path = path(alloc, text)?;
+    assert_eq!(rt; archive.mark_at(&path), want, "at {text}");
+    Ok(())
+}
+
 /// Whether these are the names of that text, one a line.
 fn are_names(rt: &impl Abort, names: &Items<Name>, want: &[&str]) {
     assert_eq!(rt; names.as_slice().len(), want.len());
@@ -74,13 +143,30 @@ fn digests_of_known_texts(rt: HostRuntime) -> Result<(), Fail> {
     Ok(())
 }
 
+/// Whether setting these contents at that path is answered so, and leaves the small tree as it is.
+fn is_answered(
+    rt: &impl Abort,
+    alloc: Global,
+    tree: &mut Tree,
+    text: &str,
+    contents: Contents,
+    want: Result<(), SetFault>,
+) -> Result<(), Fail> {
+    let answer = tree.set(&path(alloc, text)?, contents);
+    assert_eq!(rt; answer, want, "at {text}");
+    assert_eq!(rt; tree.count(), 2);
+    has_mark(rt, alloc, tree, "a", Mark::Directory)?;
+    has_mark(rt, alloc, tree, "a/b", Mark::File(ABC))?;
+    are_names(rt, &tree.names_at(&RelPath::top(alloc))?, &["a"]);
+    has_names(rt, alloc, tree, "a", &["b"])
+}
+
 #[test]
 fn refusals_of_a_small_tree(rt: HostRuntime) -> Result<(), Fail> {
     let alloc = rt.alloc();
     let mut tree = small(alloc).ok_or("no memory")?;
-    let top = RelPath::top(alloc);
     assert_eq!(rt;
-        tree.set(&top, Contents::Directory),
+        tree.set(&RelPath::top(alloc), Contents::Directory),
         Err(SetFault::RootPath)
     );
     for (text, kind, want) in [
@@ -92,17 +178,39 @@ fn refusals_of_a_small_tree(rt: HostRuntime) -> Result<(), Fail> {
         ("z", Mark::Absent, Err(SetFault::NothingThere)),
         ("a", Mark::Directory, Ok(())),
     ] {
-        let answer = tree.set(&RelPath::read(alloc, text)?, contents_like(alloc, kind)?);
-        assert_eq!(rt; answer, want, "at {text}");
-        assert_eq!(rt; tree.count(), 2);
-        assert_eq!(rt; tree.mark_at(&RelPath::read(alloc, "a")?), Mark::Directory);
-        assert_eq!(rt;
-            tree.mark_at(&RelPath::read(alloc, "a/b")?),
-            Mark::File(ABC)
-        );
-        are_names(&rt, &tree.names_at(&top)?, &["a"]);
-        are_names(&rt, &tree.names_at(&RelPath::read(alloc, "a")?)?, &["b"]);
+        is_answered(
+            &rt,
+            alloc,
+            &mut tree,
+            text,
+            contents_like(alloc, kind)?,
+            want,
+        )?;
     }
+    Ok(())
+}
+
+#[test]
+fn a_file_becomes_a_directory(rt: HostRuntime) -> Result<(), Fail> {
+    let alloc = rt.alloc();
+    let mut tree = small(alloc).ok_or("no memory")?;
+    has_paths(&rt, &tree, &["a", "a/b"])?;
+    let opening = tree.copy()?;
+    set(alloc, &mut tree, "a/b", file(alloc, "a")?)?;
+    has_mark(&rt, alloc, &tree, "a/b", Mark::File(A))?;
+    set(alloc, &mut tree, "a/b", Contents::Directory)?;
+    has_mark(&rt, alloc, &tree, "a/b", Mark::Directory)?;
+    assert_eq!(rt; opening.count(), 2);
+    has_mark(&rt, alloc, &opening, "a/b", Mark::File(ABC))
+}
+
+#[test]
+fn files_have_bytes(rt: HostRuntime) -> Result<(), Fail> {
+    let alloc = rt.alloc();
+    let tree = small(alloc).ok_or("no memory")?;
+    let bytes = tree.bytes_at(&path(alloc, "a/b")?).ok_or("no file")?;
+    assert_eq!(rt; bytes, b"abc".as_slice());
+    assert!(rt; tree.bytes_at(&path(alloc, "a")?).is_none());
     Ok(())
 }
 
@@ -110,34 +218,20 @@ fn refusals_of_a_small_tree(rt: HostRuntime) -> Result<(), Fail> {
 fn changes_of_a_tree(rt: HostRuntime) -> Result<(), Fail> {
     let alloc = rt.alloc();
     let mut tree = small(alloc).ok_or("no memory")?;
-    are_paths(&rt, &tree.paths()?, &["a", "a/b"]);
-    let opening = tree.copy()?;
-    let b = RelPath::read(alloc, "a/b")?;
-    tree.set(&b, file(alloc, "a")?)?;
-    assert_eq!(rt; tree.mark_at(&b), Mark::File(A));
-    assert_eq!(rt; tree.bytes_at(&b).ok_or("no file")?, b"a".as_slice());
-    tree.set(&b, Contents::Directory)?;
-    assert_eq!(rt; tree.mark_at(&b), Mark::Directory);
+    set(alloc, &mut tree, "a/b", Contents::Directory)?;
     for text in ["a/b/é", "a/b/c", "a/b/c-d", "a/b/C", "a-b"] {
-        tree.set(&RelPath::read(alloc, text)?, file(alloc, "")?)?;
+        set(alloc, &mut tree, text, file(alloc, "")?)?;
     }
-    are_names(&rt, &tree.names_at(&b)?, &["C", "c", "c-d", "é"]);
+    has_names(&rt, alloc, &tree, "a/b", &["C", "c", "c-d", "é"])?;
     are_names(&rt, &tree.names_at(&RelPath::top(alloc))?, &["a", "a-b"]);
-    assert_eq!(rt; tree.count(), 7);
-    are_paths(
-        &rt,
-        &tree.paths()?,
-        &["a", "a/b", "a/b/C", "a/b/c", "a/b/c-d", "a/b/é", "a-b"],
-    );
+    let all = ["a", "a/b", "a/b/C", "a/b/c", "a/b/c-d", "a/b/é", "a-b"];
+    has_paths(&rt, &tree, &all)?;
     for text in ["a/b/é", "a/b/c", "a/b/c-d", "a/b/C", "a/b", "a"] {
-        tree.set(&RelPath::read(alloc, text)?, Contents::Absent)?;
+        set(alloc, &mut tree, text, Contents::Absent)?;
     }
-    assert_eq!(rt; tree.mark_at(&b), Mark::Absent);
+    has_paths(&rt, &tree, &["a-b"])?;
     assert_eq!(rt; tree.count(), 1);
     assert_eq!(rt; tree.mark_at(&RelPath::top(alloc)), Mark::Directory);
-    assert_eq!(rt; opening.count(), 2);
-    assert_eq!(rt; opening.mark_at(&b), Mark::File(ABC));
-    assert!(rt; opening.bytes_at(&RelPath::read(alloc, "a")?).is_none());
     Ok(())
 }
 
@@ -164,68 +258,66 @@ fn marks_of_an_archive(rt: HostRuntime) -> Result<(), Fail> {
     let alloc = rt.alloc();
     let mut archive = Archive::new(alloc);
     for text in ["b", "a/b", "a", "a-b"] {
-        archive.set(&RelPath::read(alloc, text)?, Mark::File(ABC))?;
+        set_mark(&rt, alloc, &mut archive, text, Mark::File(ABC))?;
     }
     let opening = archive.copy()?;
-    archive.set(&RelPath::read(alloc, "a")?, Mark::Directory)?;
-    archive.set(&RelPath::read(alloc, "b")?, Mark::Absent)?;
-    archive.set(&RelPath::read(alloc, "c")?, Mark::Absent)?;
+    set_mark(&rt, alloc, &mut archive, "a", Mark::Directory)?;
+    set_mark(&rt, alloc, &mut archive, "b", Mark::Absent)?;
+    set_mark(&rt, alloc, &mut archive, "c", Mark::Absent)?;
     for (text, want) in [
         ("a", Mark::Directory),
         ("a/b", Mark::File(ABC)),
         ("b", Mark::Absent),
         ("c", Mark::Absent),
     ] {
-        assert_eq!(rt;
-            archive.mark_at(&RelPath::read(alloc, text)?),
-            want,
-            "at {text}"
-        );
+        is_marked(&rt, alloc, &archive, text, want)?;
     }
     are_paths(&rt, &archive.paths()?, &["a", "a/b", "a-b"]);
     assert_eq!(rt; opening.paths()?.len(), 4);
-    assert_eq!(rt;
-        opening.mark_at(&RelPath::read(alloc, "b")?),
-        Mark::File(ABC)
-    );
-    Ok(())
+    is_marked(&rt, alloc, &opening, "b", Mark::File(ABC))
+}
+
+/// A tree whose `set` ran out of memory is as before.
+fn is_set_or_as_before(rt: &impl Abort, tree: &mut Tree, c: &RelPath, new: Contents) {
+    match tree.set(c, new) {
+        Ok(()) => assert_eq!(rt; tree.mark_at(c), Mark::File(A)),
+        Err(fault) => {
+            assert_eq!(rt; fault, SetFault::OutOfMemory);
+            assert_eq!(rt; tree.mark_at(c), Mark::Absent);
+        }
+    }
+}
+
+/// An archive whose `set` ran out of memory is as before.
+fn is_marked_or_as_before(rt: &impl Abort, alloc: Global, b: &RelPath) {
+    let mut archive = Archive::new(alloc);
+    assert!(rt; b.len() > 0);
+    match archive.set(b, Mark::Directory) {
+        Ok(()) => assert_eq!(rt; archive.mark_at(b), Mark::Directory),
+        Err(_) => assert_eq!(rt; archive.mark_at(b), Mark::Absent),
+    }
 }
 
 /// Out of memory at any point leaves the tree and the archive as before. To be run with each allocation failing in turn.
 #[test]
 fn out_of_memory_changes_nothing(rt: HostRuntime) -> Result<(), Fail> {
     let alloc = rt.alloc();
-    let (Some(mut tree), Ok(a), Ok(b), Ok(c)) = (
+    let (Some(mut tree), Ok(b), Ok(c)) = (
         small(alloc),
-        RelPath::read(alloc, "a"),
         RelPath::read(alloc, "a/b"),
         RelPath::read(alloc, "a/c"),
     ) else {
         return Ok(());
     };
     if let Ok(new) = file(alloc, "a") {
-        match tree.set(&c, new) {
-            Ok(()) => assert_eq!(rt; tree.mark_at(&c), Mark::File(A)),
-            Err(fault) => {
-                assert_eq!(rt; fault, SetFault::OutOfMemory);
-                assert_eq!(rt; tree.mark_at(&c), Mark::Absent);
-            }
-        }
+        is_set_or_as_before(&rt, &mut tree, &c, new);
     }
     let count = tree.count();
     if let Ok(copy) = tree.copy() {
         assert_eq!(rt; copy.count(), count);
-        assert_eq!(rt; copy.mark_at(&b), Mark::File(ABC));
-    }
-    if let Ok(names) = tree.names_at(&a) {
-        assert_eq!(rt; names.len() as u64 + 1, count);
     }
     assert_eq!(rt; tree.count(), count);
     assert_eq!(rt; tree.mark_at(&b), Mark::File(ABC));
-    let mut archive = Archive::new(alloc);
-    match archive.set(&b, Mark::Directory) {
-        Ok(()) => assert_eq!(rt; archive.mark_at(&b), Mark::Directory),
-        Err(_) => assert_eq!(rt; archive.mark_at(&b), Mark::Absent),
-    }
+    is_marked_or_as_before(&rt, alloc, &b);
     Ok(())
 }

@@ -1,6 +1,8 @@
 use crate::{Name, PathFault, RelPath, Root, Side, without_last_slash};
+use std::alloc::Global;
 use std::cmp::Ordering;
 use std::hash::{DefaultHasher, Hash, Hasher};
+use std::process::Abort;
 use std::test::Fail;
 
 #[test]
@@ -73,19 +75,36 @@ fn a_path_is_read_or_its_first_fault_told(rt: HostRuntime) -> Result<(), Fail> {
 }
 
 #[test]
-fn paths_have_parents_children_and_prefixes(rt: HostRuntime) -> Result<(), Fail> {
+fn the_top_has_no_names(rt: HostRuntime) -> Result<(), Fail> {
     let top = RelPath::top(rt.alloc());
     assert_eq!(rt; top.len(), 0);
     assert_eq!(rt; top.text()?.as_str(), "");
     assert!(rt; top.parent()?.is_none());
-    let docs = top.child(Name::read(rt.alloc(), "docs")?)?;
+    Ok(())
+}
+
+/// Whether the path's parent has that text.
+fn has_parent(rt: &impl Abort, path: &RelPath, want: &str) -> Result<(), Fail> {
+    let parent = path.parent()?.ok_or("no parent")?;
+    assert_eq!(rt; parent.text()?.as_str(), want);
+    Ok(())
+}
+
+#[test]
+fn paths_have_parents_and_children(rt: HostRuntime) -> Result<(), Fail> {
+    let docs = RelPath::top(rt.alloc()).child(Name::read(rt.alloc(), "docs")?)?;
+    has_parent(&rt, &docs, "")?;
     let below = docs.child(Name::read(rt.alloc(), "x")?)?;
+    has_parent(&rt, &below, "docs")?;
     assert_eq!(rt; below.text()?.as_str(), "docs/x");
     assert_eq!(rt; below.len(), 2);
-    assert!(rt; *below.name(0) == Name::read(rt.alloc(), "docs")?);
-    assert!(rt; *below.name(1) == Name::read(rt.alloc(), "x")?);
-    assert!(rt; below.parent()? == Some(docs.copy()?));
-    assert!(rt; docs.parent()? == Some(top.copy()?));
+    assert_eq!(rt; below.name(0).text(), "docs");
+    assert_eq!(rt; below.name(1).text(), "x");
+    Ok(())
+}
+
+#[test]
+fn paths_have_prefixes(rt: HostRuntime) -> Result<(), Fail> {
     for (text, prefix, want) in [
         ("docs/x", "docs", true),
         ("docs", "docs", true),
@@ -94,15 +113,20 @@ fn paths_have_parents_children_and_prefixes(rt: HostRuntime) -> Result<(), Fail>
         ("b/docs", "docs", false),
     ] {
         let path = RelPath::read(rt.alloc(), text)?;
-        let prefix_read = RelPath::read(rt.alloc(), prefix)?;
-        assert_eq!(rt; path.starts_with(&prefix_read), want, "{prefix} of {text}");
-        assert!(rt; path.starts_with(&top));
+        let start = RelPath::read(rt.alloc(), prefix)?;
+        assert_eq!(rt; path.starts_with(&start), want, "{prefix} of {text}");
+        assert!(rt; path.starts_with(&RelPath::top(rt.alloc())));
     }
     Ok(())
 }
 
+/// How the names of these texts compare.
+fn compare_names(alloc: Global, first: &str, second: &str) -> Result<Ordering, Fail> {
+    Ok(Name::read(alloc, first)?.cmp(&Name::read(alloc, second)?))
+}
+
 #[test]
-fn names_and_paths_are_in_order(rt: HostRuntime) -> Result<(), Fail> {
+fn names_are_in_order(rt: HostRuntime) -> Result<(), Fail> {
     for (less, more) in [
         ("a", "b"),
         ("a", "ab"),
@@ -110,23 +134,42 @@ fn names_and_paths_are_in_order(rt: HostRuntime) -> Result<(), Fail> {
         ("\u{ffff}", "\u{10000}"),
         ("z", "é"),
     ] {
-        let (first, second) = (Name::read(rt.alloc(), less)?, Name::read(rt.alloc(), more)?);
-        assert_eq!(rt; first.cmp(&second), Ordering::Less, "{less} and {more}");
+        let order = compare_names(rt.alloc(), less, more)?;
+        assert_eq!(rt; order, Ordering::Less, "{less} and {more}");
     }
+    assert!(rt; Side::Left < Side::Right);
+    Ok(())
+}
+
+/// How the paths of these texts compare.
+fn compare_paths(alloc: Global, first: &str, second: &str) -> Result<Ordering, Fail> {
+    Ok(RelPath::read(alloc, first)?.cmp(&RelPath::read(alloc, second)?))
+}
+
+#[test]
+fn paths_are_in_order(rt: HostRuntime) -> Result<(), Fail> {
     for (less, more) in [
         ("a", "a/b"),
         ("a/b", "a-b"),
         ("a/z", "b/a"),
         ("srv/hub", "srv-x"),
     ] {
-        let (first, second) = (
-            RelPath::read(rt.alloc(), less)?,
-            RelPath::read(rt.alloc(), more)?,
-        );
-        assert_eq!(rt; first.cmp(&second), Ordering::Less, "{less} and {more}");
+        let order = compare_paths(rt.alloc(), less, more)?;
+        assert_eq!(rt; order, Ordering::Less, "{less} and {more}");
+        assert_eq!(rt; compare_paths(rt.alloc(), less, less)?, Ordering::Equal);
     }
-    assert!(rt; Side::Left < Side::Right);
     Ok(())
+}
+
+/// The text of the root that is read from a text, or the name of its first fault.
+fn root_or_fault(rt: &impl Abort, alloc: Global, text: &str) -> Result<String, Fail> {
+    match Root::read(alloc, text) {
+        Ok(root) => {
+            assert_eq!(rt; root.as_str(), root.text()?.as_str());
+            Ok(root.text()?)
+        }
+        Err(fault) => Ok(fault.to_string(alloc)?),
+    }
 }
 
 #[test]
@@ -152,39 +195,40 @@ fn a_root_is_read_or_its_first_fault_told(rt: HostRuntime) -> Result<(), Fail> {
         ("/srv/..", "DotName"),
         (too_deep.as_str(), "TooDeep"),
     ] {
-        let told = match Root::read(rt.alloc(), text) {
-            Ok(root) => {
-                assert_eq!(rt; root.as_str(), root.text()?.as_str());
-                root.text()?
-            }
-            Err(fault) => fault.to_string(rt.alloc())?,
-        };
+        let told = root_or_fault(&rt, rt.alloc(), text)?;
         assert_eq!(rt; told.as_str(), want, "at {text:?}");
     }
     Ok(())
 }
 
+/// Whether the root of one text lies within that of another one, and whether they are equal.
+fn compare_roots(alloc: Global, root: &str, other: &str) -> Result<(bool, bool), Fail> {
+    let inner = Root::read(alloc, root)?;
+    let outer = Root::read(alloc, other)?;
+    Ok((inner.is_within(&outer), inner == outer))
+}
+
 #[test]
 fn roots_lie_within_roots(rt: HostRuntime) -> Result<(), Fail> {
-    for (root, other, want) in [
-        ("/srv/hub", "/srv/hub/", true),
-        ("/srv/hub/x", "/srv/hub", true),
-        ("/srv/hub2", "/srv/hub", false),
-        ("/srv", "/srv/hub", false),
-        ("/srv", "/", true),
-        ("/", "/", true),
+    for (root, other, within, equal) in [
+        ("/srv/hub", "/srv/hub/", true, true),
+        ("/srv/hub/x", "/srv/hub", true, false),
+        ("/srv/hub2", "/srv/hub", false, false),
+        ("/srv", "/srv/hub", false, false),
+        ("/srv", "/", true, false),
+        ("/", "/", true, true),
     ] {
-        let inner = Root::read(rt.alloc(), root)?;
-        let outer = Root::read(rt.alloc(), other)?;
-        assert_eq!(rt; inner.is_within(&outer), want, "{root} and {other}");
-        assert!(rt; inner.copy()? == inner);
-        assert_eq!(rt;
-            inner == outer,
-            want && outer.is_within(&inner),
-            "{root} and {other}"
-        );
+        let found = compare_roots(rt.alloc(), root, other)?;
+        assert_eq!(rt; found, (within, equal), "{root} and {other}");
     }
-    assert_eq!(rt; Root::read(rt.alloc(), "/srv/hub")?.path().len(), 2);
+    Ok(())
+}
+
+#[test]
+fn a_root_has_a_path_and_a_copy(rt: HostRuntime) -> Result<(), Fail> {
+    let root = Root::read(rt.alloc(), "/srv/hub")?;
+    assert_eq!(rt; root.path().len(), 2);
+    assert!(rt; root.copy()? == root);
     Ok(())
 }
 

@@ -7,6 +7,7 @@ pub mod Products
 pub mod Closing
 pub mod Walks
 pub mod Listed
+pub mod Once
 pub mod Judged
 pub mod Settled
 pub mod Adding

@@ -13,9 +13,11 @@ pub mod Adding
 pub mod Made
 pub mod Numbers
 pub mod ReadBack
-pub mod StageLines
 pub mod Numerals
 pub mod HexLines
+pub mod Digits
+pub mod Cuts
+pub mod Runs
 pub mod Written
 pub mod Pushed
 pub mod GoalLines

@@ -5,11 +5,14 @@
 #![tactic(auto)]
 
 mod certificate;
+mod draft;
 mod fault;
 mod goal;
 pub mod laws;
 mod making;
 mod product;
+mod reading;
+mod row;
 mod set;
 mod stage;
 mod stages;
@@ -21,6 +24,7 @@ pub use certificate::{Certificate, StageText};
 pub use fault::CheckFault;
 pub use goal::{Goal, Place};
 pub use product::Product;
+pub use reading::read_certificates;
 pub use set::{PROFILES, ProfileSet};
 pub use stage::GoalStage;
 pub use verified::{Verified, verify};

@@ -12,6 +12,7 @@ pub mod Settled
 pub mod Adding
 pub mod Made
 pub mod Numbers
+pub mod Writable
 pub mod ReadBack
 pub mod Numerals
 pub mod HexLines

@@ -1,5 +1,6 @@
 //! Lists of texts that rule goals out.
-ghost use Rattle.std.specs.Prelude.{◌≡◌, chars};
+ghost use Rattle.std.specs.Prelude.{◌≡◌, IsTrue, chars};
+ghost use Rattle.std.specs.Str.{all_scalars};
 
 use crate::goal::Goal;
 use hub_text::Items;
@@ -16,7 +17,12 @@ impl Model for StageText {
 
     ghost Value = { List ℕ };
 
+    ghost use Rattle.std.specs.Prelude.{IsTrue};
+    ghost use Rattle.std.specs.Str.{all_scalars};
+
     ghost view = { λ a. chars (string_bytes a.text) };
+
+    ghost invariant = { λ a. IsTrue (all_scalars (chars (string_bytes a.text))) };
 }
 
 impl StageText {
@@ -31,7 +37,8 @@ impl StageText {
 
     /// The text. It takes no memory.
     pub fn as_str(&self) -> &str
-        ensures { chars result.now ≡ self.now }
+        ensures text { chars result.now ≡ self.now }
+        ensures valid { IsTrue (all_scalars self.now) }
     {
         self.text.as_str()
     }

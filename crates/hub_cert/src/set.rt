@@ -11,7 +11,7 @@ ghost use Rattle.hub_cert.specs.declared.fault.CheckFault.TheVariants as fault;
 
 use crate::fault::CheckFault;
 use crate::goal::{Goal, Place};
-use crate::making::tested;
+use crate::refusals::alphabet_for;
 use hub_automaton::Alphabet;
 use hub_path::{Root, Side};
 use hub_profile::{Profile, Rule, Rules};
@@ -58,7 +58,7 @@ impl ProfileSet {
         ensures ok { IfOk result (λ s. s ≡ record { profiles = profiles; rules = rules }) }
         ensures err { IfErr result (refused.IsRefused (record { profiles = profiles; rules = rules })) }
     {
-        let alphabet = tested(alloc, profiles.as_slice(), rules.as_slice())?;
+        let alphabet = alphabet_for(alloc, profiles.as_slice(), rules.as_slice())?;
         Ok(ProfileSet {
             profiles,
             rules,

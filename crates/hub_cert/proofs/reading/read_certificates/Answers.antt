@@ -2,7 +2,7 @@ use Rattle.std.proofs.Common.{◌≡◌, ◌∙◌, ◌≤◌, length, inr, sym,
 use Rattle.hub_text.specs.Lines.{lines_of}
 use Rattle.hub_text.specs.Takes.{of_bytes}
 use Rattle.hub_cert.specs.Reading.{certificates_in, lines_reading}
-use Rattle.hub_cert.proofs.Runs.{all-read, as-err, as-ok, line-faulty, line-taken, lines-few, next-fits}
+use Rattle.hub_cert.proofs.LineByLine.{all-read, as-err, as-ok, line-faulty, line-taken, lines-few, next-fits}
 use Rattle.hub_cert.proofs.reading.read_certificates.Goals as goal
 
 pub loop-line-init : goal.loop-line-init

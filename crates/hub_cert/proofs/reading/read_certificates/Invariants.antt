@@ -1,4 +1,4 @@
-use Rattle.hub_cert.proofs.Runs.{IsAt}
+use Rattle.hub_cert.proofs.LineByLine.{IsAt}
 use Rattle.hub_cert.proofs.reading.read_certificates.Given as goal
 
 abbrev pub invariant-loop-line : goal.invariant-loop-line

@@ -13,7 +13,7 @@ use Rattle.hub_cert.specs.declared.fault.CheckFault.{CheckFault}
 use Rattle.hub_cert.specs.declared.fault.CheckFault.TheVariants as fault
 use Rattle.hub_cert.specs.declared.set.TheConstants.{PROFILES}
 
--- Two profiles, by their numbers, that have one name.
+-- Two profiles, by their numbers, that have the same name.
 pub record HaveSameName (Ps : List Parts) (i j : ℕ) : Type 0 where
   pub first : Parts
   pub second : Parts
@@ -76,7 +76,7 @@ fault_of automaton.OutOfMemory = fault.OutOfMemory
 abbrev pub FewNamed : Members → Type 0
 FewNamed S = (length S.profiles ≤ PROFILES) × HaveNames S
 
--- Each fault is told where all that is tested before it holds.
+-- Each fault comes when all that is tested before it holds.
 abbrev pub IsRefused : Members → CheckFault → Type 0
 IsRefused S fault.TooManyProfiles = PROFILES < length S.profiles
 IsRefused S (fault.SameName name) = (length S.profiles ≤ PROFILES) × IsFirstRepeated S.profiles name

@@ -13,8 +13,8 @@ use Rattle.hub_cert.specs.declared.fault.CheckFault.{CheckFault}
 use Rattle.hub_cert.specs.declared.fault.CheckFault.TheVariants as fault
 use Rattle.hub_cert.specs.declared.set.TheConstants.{PROFILES}
 
--- Two profiles, by their numbers, that have one name.
-pub record HaveOneName (Ps : List Parts) (i j : ℕ) : Type 0 where
+-- Two profiles, by their numbers, that have the same name.
+pub record HaveSameName (Ps : List Parts) (i j : ℕ) : Type 0 where
   pub first : Parts
   pub second : Parts
   pub at_first : slice_get Ps i ≡ Some first
@@ -26,9 +26,9 @@ pub record IsFirstRepeated (Ps : List Parts) (name : Name) : Type 0 where
   pub earlier : ℕ
   pub later : ℕ
   pub before : earlier < later
-  pub repeated : HaveOneName Ps earlier later
+  pub repeated : HaveSameName Ps earlier later
   pub shown : name ≡ repeated.second.name
-  pub none_before : (i j : ℕ) → i < j → j < later → HaveOneName Ps i j → ⊥
+  pub none_before : (i j : ℕ) → i < j → j < later → HaveSameName Ps i j → ⊥
 
 -- Two different roots, one of which lies within the other.
 abbrev pub is_nested : Path → Path → Bool
@@ -76,7 +76,7 @@ fault_of automaton.OutOfMemory = fault.OutOfMemory
 abbrev pub FewNamed : Members → Type 0
 FewNamed S = (length S.profiles ≤ PROFILES) × HaveNames S
 
--- Each fault is told where all that is tested before it holds.
+-- Each fault comes when all that is tested before it holds.
 abbrev pub IsRefused : Members → CheckFault → Type 0
 IsRefused S fault.TooManyProfiles = PROFILES < length S.profiles
 IsRefused S (fault.SameName name) = (length S.profiles ≤ PROFILES) × IsFirstRepeated S.profiles name

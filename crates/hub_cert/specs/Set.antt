@@ -33,7 +33,7 @@ mentioned_in S = flat_map mentioned_by S.profiles ++ flat_map (λ R. spec_charac
 abbrev pub alphabet_of : Members → List ℕ
 alphabet_of S = with_characters plain (mentioned_in S)
 
--- All of them are such as are read.
+-- All profiles are valid.
 abbrev pub AreProfiles : Members → Type 0
 AreProfiles S = (i : ℕ) (P : Parts) → slice_get S.profiles i ≡ Some P → IsProfile P
 

@@ -1,4 +1,4 @@
-//! Profiles and rules that are checked together.
+//! Profiles and rules that are checked together, and their goals.
 ghost use Rattle.std.specs.Prelude.{◌≡◌, ◌⊎◌, ◌↔◌, ◌<◌, ◌≤◌, ◌++◌, ◌∷◌, [], ◌&&◌, map, filter, IsTrue, Contains, IfOk, IfErr, OnOk, length, Some};
 ghost use Rattle.std.specs.List.{flat_map};
 ghost use Rattle.hub_cert.specs.Aim.{shares};
@@ -11,7 +11,7 @@ ghost use Rattle.hub_cert.specs.declared.fault.CheckFault.TheVariants as fault;
 
 use crate::fault::CheckFault;
 use crate::goal::{Goal, Place};
-use crate::making::tested;
+use crate::refusals::alphabet_for;
 use hub_automaton::Alphabet;
 use hub_path::{Root, Side};
 use hub_profile::{Profile, Rule, Rules};
@@ -23,8 +23,11 @@ use std::marker::Model;
 /// How many profiles a set may have (this project's choice).
 pub const PROFILES: usize = 32;
 
-/// Profiles of different names and rules, of whose roots no two different ones are nested, and the alphabet of all that they
-/// mention. Each profile has a walker, and each rule's specification few enough spots.
+/// Profiles and rules that may be checked together: at most `PROFILES` profiles with different names, and at most `RULES`
+/// rules, no two different roots of them nested.
+///
+/// A set keeps the alphabet of the characters that they mention. Each profile has a walker over it, and each rule's
+/// specification a `SpecSet`: none has too many spots.
 #[derive(Debug, Drop)]
 pub struct ProfileSet {
     profiles: Items<Profile>,
@@ -43,22 +46,27 @@ impl Model for ProfileSet {
 }
 
 impl ProfileSet {
-    /// The set of these profiles and rules, which are dropped on a refusal.
+    /// Makes the set of these profiles and rules. They are dropped if there is a fault.
     ///
-    /// The faults, in this order: `TooManyProfiles` for more than `PROFILES`; `SameName` with the first name that repeats
-    /// an earlier one; `NestedRoots` with the first two different roots of which one lies within the other, by the earlier
-    /// root and then the later one, in the order of profiles (the left root first) and then of rules; `AlphabetFault` for
-    /// `TooManyCharacters`, and then for `TooManySpots`, also of a rule that no goal names. `OutOfMemory` may come at any
-    /// point.
+    /// The fault is the first of these that applies:
+    /// - `TooManyProfiles` for more than `PROFILES` profiles;
+    /// - `SameName` with the first name that an earlier profile has too;
+    /// - `NestedRoots` with the first two different roots of which one lies within the other. Roots come in the order of
+    ///   the profiles, the left one first, and then of the rules; pairs by their earlier root and then by their later one;
+    /// - `AlphabetFault` with `TooManyCharacters` if more than `MENTIONED_CHARACTERS` characters are mentioned;
+    /// - `AlphabetFault` with `TooManySpots` if a profile or a rule has more than `SPOTS` spots, even if no goal names it.
+    ///
+    /// Any call may instead report `OutOfMemory`.
     pub fn new(
         alloc: Global,
         profiles: Items<Profile>,
         rules: Rules,
     ) -> Result<ProfileSet, CheckFault>
         ensures ok { IfOk result (λ s. s ≡ record { profiles = profiles; rules = rules }) }
-        ensures err { IfErr result (refused.IsRefused (record { profiles = profiles; rules = rules })) }
+        ensures err { IfErr result (refused.IsRefused
+            (record { profiles = profiles; rules = rules })) }
     {
-        let alphabet = tested(alloc, profiles.as_slice(), rules.as_slice())?;
+        let alphabet = alphabet_for(alloc, profiles.as_slice(), rules.as_slice())?;
         Ok(ProfileSet {
             profiles,
             rules,
@@ -66,7 +74,7 @@ impl ProfileSet {
         })
     }
 
-    /// The profiles. It takes no memory.
+    /// Borrows the profiles. A profile's number is its place, from 0 on.
     pub fn profiles(&self) -> &[Profile]
         ensures value { result.now ≡ self.now.profiles }
         ensures valid { of_set.AreProfiles self.now }
@@ -75,14 +83,14 @@ impl ProfileSet {
         self.profiles.as_slice()
     }
 
-    /// The rules. It takes no memory.
+    /// Borrows the rules. A rule's number is its place, from 0 on.
     pub fn rules(&self) -> &[Rule]
         ensures { result.now ≡ self.now.rules }
     {
         self.rules.as_slice()
     }
 
-    /// The alphabet of all that the profiles and the rules mention. It takes no memory.
+    /// Borrows the alphabet of all characters that the profiles and the rules mention.
     pub fn alphabet(&self) -> &Alphabet
         ensures value { result.now ≡ of_set.alphabet_of self.now }
         ensures mentioned { of_set.Mentioned self.now result.now }
@@ -92,7 +100,8 @@ impl ProfileSet {
         &self.alphabet
     }
 
-    /// Whether this is a goal of the set. It takes no memory.
+    /// Returns whether this is a goal of the set: two different profiles share the place, and the writer writes there; or
+    /// the profile may do at the rule's root what the rule forbids.
     pub fn has(&self, goal: Goal) -> bool
         ensures value { result ≡ of_goals.is_goal self.now goal }
         ensures member { IsTrue result ↔ Contains (of_goals.goals self.now) goal }
@@ -114,7 +123,7 @@ impl ProfileSet {
         }
     }
 
-    /// The goals of the set, in their order: by writer, other and place, and then by profile and rule.
+    /// Returns the goals of the set: clashes by writer, other and place, then breaches by profile and rule.
     pub fn goals(&self, alloc: Global) -> Result<Items<Goal>, AllocError>
         ensures { IfOk result (λ gs. gs ≡ of_goals.goals self.now) }
     {
@@ -128,9 +137,11 @@ impl ProfileSet {
         Ok(Items::from_vec(goals))
     }
 
-    /// Adds the clashes of that writer.
+    /// Appends the clashes of that writer.
     fn push_clashes(&self, goals: &mut Vec<Goal>, writer: usize) -> Result<(), AllocError>
-        ensures { OnOk result (goals.new.items ≡ goals.old.items ++ filter (of_goals.is_goal self.now) (flat_map (λ o. map (Clash writer o) of_goals.places) (of_goals.numbers self.now.profiles))) }
+        ensures { OnOk result (goals.new.items
+            ≡ goals.old.items ++ filter (of_goals.is_goal self.now) (flat_map (λ o. map
+            (Clash writer o) of_goals.places) (of_goals.numbers self.now.profiles))) }
     {
         for other in 0..self.profiles.len() {
             self.push_places(goals, writer, other)?;
@@ -138,14 +149,16 @@ impl ProfileSet {
         Ok(())
     }
 
-    /// Adds the clashes of that writer with that other one.
+    /// Appends the clashes of that writer with that other profile.
     fn push_places(
         &self,
         goals: &mut Vec<Goal>,
         writer: usize,
         other: usize,
     ) -> Result<(), AllocError>
-        ensures { OnOk result (goals.new.items ≡ goals.old.items ++ filter (of_goals.is_goal self.now) (map (Clash writer other) of_goals.places)) }
+        ensures { OnOk result (goals.new.items
+            ≡ goals.old.items ++ filter (of_goals.is_goal self.now) (map
+            (Clash writer other) of_goals.places)) }
     {
         self.push_goal(
             goals,
@@ -173,9 +186,11 @@ impl ProfileSet {
         )
     }
 
-    /// Adds the breaches of that profile.
+    /// Appends the breaches of that profile.
     fn push_breaches(&self, goals: &mut Vec<Goal>, profile: usize) -> Result<(), AllocError>
-        ensures { OnOk result (goals.new.items ≡ goals.old.items ++ filter (of_goals.is_goal self.now) (map (Breach profile) (of_goals.numbers self.now.rules))) }
+        ensures { OnOk result (goals.new.items
+            ≡ goals.old.items ++ filter (of_goals.is_goal self.now) (map (Breach profile)
+            (of_goals.numbers self.now.rules))) }
     {
         for rule in 0..self.rules.as_slice().len() {
             self.push_goal(goals, Goal::Breach { profile, rule })?;
@@ -183,9 +198,10 @@ impl ProfileSet {
         Ok(())
     }
 
-    /// Adds this, if it is a goal of the set.
+    /// Appends this, if it is a goal of the set.
     fn push_goal(&self, goals: &mut Vec<Goal>, goal: Goal) -> Result<(), AllocError>
-        ensures { OnOk result (goals.new.items ≡ goals.old.items ++ filter (of_goals.is_goal self.now) (goal ∷ [])) }
+        ensures { OnOk result (goals.new.items
+            ≡ goals.old.items ++ filter (of_goals.is_goal self.now) (goal ∷ [])) }
     {
         if self.has(goal) {
             goals.push(goal)?;
@@ -194,9 +210,10 @@ impl ProfileSet {
     }
 }
 
-/// Whether two different profiles share that place.
+/// Returns whether two different profiles share that place.
 fn has_clash(profiles: &[Profile], writer: usize, other: usize, place: Place) -> bool
-    ensures { (S : of_set.Members) → S.profiles ≡ profiles.now → result ≡ of_goals.is_goal S (Clash writer other place) }
+    ensures { (S : of_set.Members) → S.profiles ≡ profiles.now → result
+        ≡ of_goals.is_goal S (Clash writer other place) }
 {
     if writer == other {
         return false;
@@ -210,9 +227,10 @@ fn has_clash(profiles: &[Profile], writer: usize, other: usize, place: Place) ->
     share_place(&profiles[writer], &profiles[other], place)
 }
 
-/// Whether the profile may do at the rule's root what the rule forbids.
+/// Returns whether the profile may do at the rule's root what the rule forbids.
 fn has_breach(profiles: &[Profile], rules: &[Rule], profile: usize, rule: usize) -> bool
-    ensures { (S : of_set.Members) → S.profiles ≡ profiles.now → S.rules ≡ rules.now → result ≡ of_goals.is_goal S (Breach profile rule) }
+    ensures { (S : of_set.Members) → S.profiles ≡ profiles.now → S.rules ≡ rules.now → result
+        ≡ of_goals.is_goal S (Breach profile rule) }
 {
     if profile >= profiles.len() {
         return false;
@@ -225,7 +243,7 @@ fn has_breach(profiles: &[Profile], rules: &[Rule], profile: usize, rule: usize)
         && may(&profiles[profile], &forbidden.root, forbidden.verb)
 }
 
-/// Whether both share the place, and in a replica the writer writes.
+/// Returns whether both profiles have the place, and the writer writes there if it is a replica.
 fn share_place(writer: &Profile, other: &Profile, place: Place) -> bool
     ensures { result ≡ shares writer.now other.now place }
 {
@@ -237,7 +255,7 @@ fn share_place(writer: &Profile, other: &Profile, place: Place) -> bool
     }
 }
 
-/// Whether the writer writes at that root, and the other one has it.
+/// Returns whether the writer writes at that root, and the other profile has it.
 fn shares_root(writer: &Profile, other: &Profile, root: &Root) -> bool
     ensures { result ≡ (writes writer.now root.now && has_root other.now root.now) }
 {

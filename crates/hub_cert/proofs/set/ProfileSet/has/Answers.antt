@@ -1,7 +1,7 @@
 use Rattle.std.proofs.Common.{◌∙◌, ap, sym}
 use Rattle.hub_cert.specs.Goals.{is_goal}
 use Rattle.hub_cert.specs.Set.{Members}
-use Rattle.hub_cert.proofs.Listed.{listed-by}
+use Rattle.hub_cert.proofs.GoalList.{listed-by}
 use Rattle.hub_cert.proofs.set.ProfileSet.has.Goals as goal
 
 pub returns-in-Clash-clause-member : goal.returns-in-Clash-clause-member

@@ -1,7 +1,7 @@
 use Rattle.std.proofs.Common.{sym}
 use Rattle.hub_cert.specs.Set.{Members}
 use Rattle.hub_cert.specs.Refused.{IsRefused}
-use Rattle.hub_cert.proofs.Settled.{passed_up}
+use Rattle.hub_cert.proofs.CertificateFacts.{passed_up}
 use Rattle.hub_cert.proofs.set.ProfileSet.new.Goals as goal
 
 pub returns-in_err-alphabet-clause-err : goal.returns-in_err-alphabet-clause-err

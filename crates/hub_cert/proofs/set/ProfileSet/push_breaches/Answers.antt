@@ -3,7 +3,7 @@ use Rattle.std.specs.List.{range_with_len}
 use Rattle.hub_cert.specs.Goals.{is_goal}
 use Rattle.hub_cert.specs.Set.{Members}
 use Rattle.hub_cert.specs.declared.goal.Goal.TheVariants.{Breach}
-use Rattle.hub_cert.proofs.Listed.{map-more}
+use Rattle.hub_cert.proofs.GoalList.{map-more}
 use Rattle.hub_cert.proofs.set.ProfileSet.push_breaches.Goals as goal
 
 pub loop-rule-init : goal.loop-rule-init

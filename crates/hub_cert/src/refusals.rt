@@ -137,8 +137,8 @@ pub(crate) fn nested_roots(roots: &[Root]) -> Option<(usize, usize)>
 fn nested_root_after(roots: &[Root], first: usize) -> Option<usize>
     requires { first < length roots.now }
     ensures { MatchOption result ((n : ℕ) → first < n → refused.AreNested roots.now first n
-        → ⊥) (λ j. (first < j) × refused.AreNested roots.now first j × ((n : ℕ) → first < n
-        → n < j → refused.AreNested roots.now first n → ⊥)) }
+        → ⊥) (λ j. (first < j) × refused.AreNested roots.now first j
+        × ((n : ℕ) → first < n → n < j → refused.AreNested roots.now first n → ⊥)) }
 {
     for second in first + 1..roots.len() {
         if is_nested(&roots[first], &roots[second]) {
@@ -239,8 +239,9 @@ pub(crate) fn count_profile_spots(
     requires { (i : ℕ) (P : Parts) → slice_get profiles.now i ≡ Some P → Mentions alphabet.now P }
     ensures few { OnOk result ((i : ℕ) (P : Parts) → slice_get profiles.now i ≡ Some P
         → spots_of P ≤ SPOTS) }
-    ensures err { IfErr result (λ e. (e ≡ AutomatonFault.OutOfMemory) ⊎ ((e ≡ TooManySpots)
-        × ((i : ℕ) × (P : Parts) × (slice_get profiles.now i ≡ Some P) × (SPOTS < spots_of P)))) }
+    ensures err { IfErr result (λ e. (e ≡ AutomatonFault.OutOfMemory)
+        ⊎ ((e ≡ TooManySpots) × ((i : ℕ) × (P : Parts) × (slice_get profiles.now i ≡ Some P)
+        × (SPOTS < spots_of P)))) }
 {
     for profile in profiles {
         Walker::new(alloc, profile, alphabet)?;
@@ -258,8 +259,8 @@ pub(crate) fn count_rule_spots(
         → IsTrue (mentions alphabet.now (spec_characters R.spec)) }
     ensures few { OnOk result ((k : ℕ) (R : Rule) → slice_get rules.now k ≡ Some R
         → of_set.rule_spots R ≤ SPOTS) }
-    ensures err { IfErr result (λ e. (e ≡ AutomatonFault.OutOfMemory) ⊎ ((e ≡ TooManySpots)
-        × ((k : ℕ) × (R : Rule) × (slice_get rules.now k ≡ Some R)
+    ensures err { IfErr result (λ e. (e ≡ AutomatonFault.OutOfMemory)
+        ⊎ ((e ≡ TooManySpots) × ((k : ℕ) × (R : Rule) × (slice_get rules.now k ≡ Some R)
         × (SPOTS < of_set.rule_spots R)))) }
 {
     for rule in rules {

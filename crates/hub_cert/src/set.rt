@@ -63,8 +63,7 @@ impl ProfileSet {
         rules: Rules,
     ) -> Result<ProfileSet, CheckFault>
         ensures ok { IfOk result (λ s. s ≡ record { profiles = profiles; rules = rules }) }
-        ensures err { IfErr result (refused.IsRefused
-            (record { profiles = profiles; rules = rules })) }
+        ensures err { IfErr result (refused.IsRefused (record { profiles = profiles; rules = rules })) }
     {
         let alphabet = alphabet_for(alloc, profiles.as_slice(), rules.as_slice())?;
         Ok(ProfileSet {
@@ -140,8 +139,8 @@ impl ProfileSet {
     /// Appends the clashes of that writer.
     fn push_clashes(&self, goals: &mut Vec<Goal>, writer: usize) -> Result<(), AllocError>
         ensures { OnOk result (goals.new.items
-            ≡ goals.old.items ++ filter (of_goals.is_goal self.now) (flat_map (λ o. map
-            (Clash writer o) of_goals.places) (of_goals.numbers self.now.profiles))) }
+            ≡ goals.old.items ++ filter (of_goals.is_goal self.now) (flat_map
+            (λ o. map (Clash writer o) of_goals.places) (of_goals.numbers self.now.profiles))) }
     {
         for other in 0..self.profiles.len() {
             self.push_places(goals, writer, other)?;
@@ -157,8 +156,7 @@ impl ProfileSet {
         other: usize,
     ) -> Result<(), AllocError>
         ensures { OnOk result (goals.new.items
-            ≡ goals.old.items ++ filter (of_goals.is_goal self.now) (map
-            (Clash writer other) of_goals.places)) }
+            ≡ goals.old.items ++ filter (of_goals.is_goal self.now) (map (Clash writer other) of_goals.places)) }
     {
         self.push_goal(
             goals,
@@ -189,8 +187,7 @@ impl ProfileSet {
     /// Appends the breaches of that profile.
     fn push_breaches(&self, goals: &mut Vec<Goal>, profile: usize) -> Result<(), AllocError>
         ensures { OnOk result (goals.new.items
-            ≡ goals.old.items ++ filter (of_goals.is_goal self.now) (map (Breach profile)
-            (of_goals.numbers self.now.rules))) }
+            ≡ goals.old.items ++ filter (of_goals.is_goal self.now) (map (Breach profile) (of_goals.numbers self.now.rules))) }
     {
         for rule in 0..self.rules.as_slice().len() {
             self.push_goal(goals, Goal::Breach { profile, rule })?;
@@ -212,8 +209,8 @@ impl ProfileSet {
 
 /// Returns whether two different profiles share that place.
 fn has_clash(profiles: &[Profile], writer: usize, other: usize, place: Place) -> bool
-    ensures { (S : of_set.Members) → S.profiles ≡ profiles.now → result
-        ≡ of_goals.is_goal S (Clash writer other place) }
+    ensures { (S : of_set.Members) → S.profiles ≡ profiles.now
+        → result ≡ of_goals.is_goal S (Clash writer other place) }
 {
     if writer == other {
         return false;
@@ -229,8 +226,8 @@ fn has_clash(profiles: &[Profile], writer: usize, other: usize, place: Place) ->
 
 /// Returns whether the profile may do at the rule's root what the rule forbids.
 fn has_breach(profiles: &[Profile], rules: &[Rule], profile: usize, rule: usize) -> bool
-    ensures { (S : of_set.Members) → S.profiles ≡ profiles.now → S.rules ≡ rules.now → result
-        ≡ of_goals.is_goal S (Breach profile rule) }
+    ensures { (S : of_set.Members) → S.profiles ≡ profiles.now → S.rules ≡ rules.now
+        → result ≡ of_goals.is_goal S (Breach profile rule) }
 {
     if profile >= profiles.len() {
         return false;

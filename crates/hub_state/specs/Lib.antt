@@ -1,5 +1,7 @@
+pub mod Coded
 pub mod Examples
 pub mod Laws
 pub mod Reading
 pub mod State
+pub mod View
 pub mod Writing

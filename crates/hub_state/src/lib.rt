@@ -7,9 +7,11 @@
 mod fault;
 mod form;
 pub mod laws;
+mod state;
 
 pub use fault::{Fault, StateFault};
 pub use form::{Form, Section};
+pub use state::State;
 
 /// How many entries a state text may have, those of replicas and of archives together.
 pub const ENTRIES: usize = 100_000;

@@ -2,6 +2,7 @@ pub mod Fields
 pub mod Kept
 pub mod Lines
 pub mod Maps
+pub mod Passing
 pub mod Sections
 pub mod States
 pub mod Whole

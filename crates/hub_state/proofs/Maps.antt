@@ -1,15 +1,15 @@
 -- Maps from texts, and maps of such maps, as finite maps.
-use Rattle.std.proofs.Common.{◌≡◌, ℕ, Bool, true, false, cond, ◌&&◌, T, List, [], ◌∷◌, ◌++◌, map, Option, Some, None, String, string_bytes, BTreeMap, refl, sym, ap, ◌∙◌, subst}
+use Rattle.std.proofs.Common.{◌≡◌, ℕ, Bool, true, false, cond, ◌&&◌, T, List, [], ◌∷◌, ◌++◌, map, Option, Some, None, String, string_bytes, BTreeMap, refl, sym, ap, ◌∙◌, subst, append-nil, append_assoc}
 use Rattle.std.specs.FinMap as fin
-use Rattle.std.specs.FinMap.Entries.{find, is_sorted}
+use Rattle.std.specs.FinMap.Entries.{find, is_sorted, below_all}
 use Rattle.std.specs.BTreeMap.{is_at, get_by_text, insert_entry, IsOrdered}
-use Rattle.std.specs.Cmp.{eq_by_cmp_equiv}
+use Rattle.std.specs.Cmp.{IsTotalOrder, eq_by_cmp_equiv, tied_itself}
 use Rattle.std.specs.Cmp.Lexicographic.{slice_cmp}
 use Rattle.std.specs.List.{AllByRecursion}
 use Rattle.std.specs.List.Sorted.{IsStrictlySortedBy}
 use Rattle.std.specs.Map.{lookup, keys_of}
 use Rattle.std.specs.Option.{option_map, option_and_then}
-use Rattle.std.specs.Ordering.{nat_cmp, is_eq, eq_by_cmp, match_ordering, ordering_then}
+use Rattle.std.specs.Ordering.{nat_cmp, is_eq, is_lt, eq_by_cmp, match_ordering, ordering_then}
 use Rattle.std.specs.Str.{bytes_eq}
 use Rattle.std.specs.String.{string_cmp}
 use Rattle.std.specs.declared.cmp.Ordering.{Ordering}
@@ -22,7 +22,7 @@ use Rattle.hub_tree.proofs.Ascending.{is_sorted-from, entries-ascending, copy_mo
 use Rattle.hub_tree.proofs.Order.{is_eq-then}
 use Rattle.hub_state.specs.State.{Text}
 use Rattle.hub_state.specs.View.{keyed, by_text, by_two, below, pairs, map_in, pairs_in}
-use Rattle.hub_state.proofs.Kept.{first_of, first_of-None, first, second, find-tied_below}
+use Rattle.hub_state.proofs.Kept.{first_of, first_of-None, first, second, less, find-tied_below}
 
 -- What is found at a text.
 find-by_text : {Z X : Type 0} (q : Text) (es : List (String Z × X)) → find name_cmp q (by_text es) ≡ lookup (is_at (λ k. slice_cmp nat_cmp q (string_bytes k))) es
@@ -269,3 +269,78 @@ pub copy_text_more : {Z X Y : Type 0} (f : X → Y) (done iterator rest all : Li
 copy_text_more f done iterator rest all x k y i s same e h =
     ap (λ es. es ++ keyed f rest) (insert_keyed f done k y ∙ ap (insert_entry name_cmp (keyed f done) (string_bytes k)) e)
     ∙ copy_more name_cmp-total (keyed f done) (keyed f iterator) (keyed f rest) (keyed f all) (string_bytes x.0, f x.1) (string_bytes k) i (ap (keyed f) s) same (texts_ascend f all h)
+
+-- The keys of a map of maps ascend.
+both : (a b : Bool) → T a → T b → T (a && b)
+both true b p q = q
+both false b p q = p
+
+is_lt-last : (r : Ordering) → is_lt (ordering_then r Equal) ≡ is_lt r
+is_lt-last Less = refl
+is_lt-last Equal = refl
+is_lt-last Greater = refl
+
+below_all-append : {K X : Type 0} (R : K → K → Ordering) (k : K) (xs ys : List (K × X)) → T (below_all R k xs) → T (below_all R k ys) → T (below_all R k (xs ++ ys))
+below_all-append R k [] ys h i = i
+below_all-append R k (x ∷ xs) ys h i = both _ _ (first _ _ h) (below_all-append R k xs ys (second _ _ h) i)
+
+below_row : {X : Type 0} (a x : Text) (fs : List (Text × X)) → T (below_all name_cmp x fs) → T (below_all path_cmp (a ∷ x ∷ []) (below a fs))
+below_row a x [] h = tt
+below_row a x (f ∷ fs) h =
+    both _ _ (subst T (sym (ap (λ r. is_lt (ordering_then r (ordering_then (name_cmp x f.0) Equal))) (tied_itself name_cmp-total a) ∙ is_lt-last (name_cmp x f.0))) (first _ _ h))
+    (below_row a x fs (second _ _ h))
+
+row_sorted : {X : Type 0} (a : Text) (fs : List (Text × X)) → T (is_sorted name_cmp fs) → T (is_sorted path_cmp (below a fs))
+row_sorted a [] h = tt
+row_sorted a (f ∷ fs) h = both _ _ (below_row a f.0 fs (first _ _ h)) (row_sorted a fs (second _ _ h))
+
+below_other : {X : Type 0} (a b x : Text) (gs : List (Text × X)) → name_cmp a b ≡ Less → T (below_all path_cmp (a ∷ x ∷ []) (below b gs))
+below_other a b x [] e = tt
+below_other a b x (g ∷ gs) e =
+    both _ _ (subst T (sym (ap (λ r. is_lt (ordering_then r (ordering_then (name_cmp x g.0) Equal))) e)) tt) (below_other a b x gs e)
+
+below_pairs : {X : Type 0} (a x : Text) (ps : List (Text × List (Text × X))) → T (below_all name_cmp a ps) → T (below_all path_cmp (a ∷ x ∷ []) (pairs ps))
+below_pairs a x [] h = tt
+below_pairs a x (p ∷ ps) h =
+    below_all-append path_cmp (a ∷ x ∷ []) (below p.0 p.1) (pairs ps) (below_other a p.0 x p.1 (less _ (first _ _ h))) (below_pairs a x ps (second _ _ h))
+
+row_before : {X : Type 0} (a : Text) (fs : List (Text × X)) (qs : List (List Text × X)) → ((x : Text) → T (below_all path_cmp (a ∷ x ∷ []) qs)) → T (is_sorted path_cmp (below a fs)) → T (is_sorted path_cmp qs)
+    → T (is_sorted path_cmp (below a fs ++ qs))
+row_before a [] qs f h i = i
+row_before a (g ∷ fs) qs f h i =
+    both _ _ (below_all-append path_cmp (a ∷ g.0 ∷ []) (below a fs) qs (first _ _ h) (f g.0)) (row_before a fs qs f (second _ _ h) i)
+
+abbrev pub AllSorted : {X : Type 0} → List (Text × List (Text × X)) → Type 0
+AllSorted [] = Unit {0}
+AllSorted (p ∷ ps) = T (is_sorted name_cmp p.1) × AllSorted ps
+
+pub AllSorted-push : {X : Type 0} (ps : List (Text × List (Text × X))) (p : Text × List (Text × X)) → AllSorted ps → T (is_sorted name_cmp p.1) → AllSorted (ps ++ p ∷ [])
+AllSorted-push [] p h i = (i, tt)
+AllSorted-push (q ∷ ps) p h i = (h.0, AllSorted-push ps p h.1 i)
+
+pairs_sorted : {X : Type 0} (ps : List (Text × List (Text × X))) → T (is_sorted name_cmp ps) → AllSorted ps → T (is_sorted path_cmp (pairs ps))
+pairs_sorted [] h i = tt
+pairs_sorted (p ∷ ps) h i =
+    row_before p.0 p.1 (pairs ps) (λ x. below_pairs p.0 x ps (first _ _ h)) (row_sorted p.0 p.1 i.0) (pairs_sorted ps (second _ _ h) i.1)
+
+entries_as_they_are : {K X : Type 0} {R : K → K → Ordering} (o : IsTotalOrder R) → fin.IsAntisymmetric R → (es : List (K × X)) → T (is_sorted R es) → fin.entries (fin.from_entries {R = R} es) ≡ es
+entries_as_they_are {R = R} o same es h =
+    ap fin.entries (fin.same_map o same (fin.from_entries es) (fin.from_sorted es) (λ q. fin.get-from_entries o es q ∙ sym (fin.get-from_sorted R es q h)))
+    ∙ fin.entries-from_sorted R es h
+
+-- The entries in the order of their keys.
+pub entries-map_in : {Z X : Type 0} (m : BTreeMap (String Z) X) → IsOrdered string_cmp m → fin.entries (map_in m.entries) ≡ by_text m.entries
+entries-map_in m h = entries-ascending name_cmp-total name_cmp-exact (by_text m.entries) (texts_ascend (λ x. x) m.entries h)
+
+pub entries-pairs_in : {Z X : Type 0} (m : Rows Z X) → IsOrdered string_cmp m → AllSorted (by_two m.entries) → fin.entries (pairs_in m.entries) ≡ pairs (by_two m.entries)
+entries-pairs_in m h i =
+    entries_as_they_are path_cmp-total path_cmp-exact (pairs (by_two m.entries)) (pairs_sorted (by_two m.entries) (sorted_texts (λ o. by_text o.entries) m.entries h) i)
+
+-- One more map in a map of maps.
+pub by_two-push : {Z X : Type 0} (es : List (String Z × BTreeMap (String Z) X)) (x : String Z × BTreeMap (String Z) X) → by_two (es ++ x ∷ []) ≡ by_two es ++ (string_bytes x.0, by_text x.1.entries) ∷ []
+by_two-push [] x = refl
+by_two-push (e ∷ es) x = ap (λ ds. (string_bytes e.0, by_text e.1.entries) ∷ ds) (by_two-push es x)
+
+pub pairs-push : {X : Type 0} (ps : List (Text × List (Text × X))) (p : Text × List (Text × X)) → pairs (ps ++ p ∷ []) ≡ pairs ps ++ below p.0 p.1
+pairs-push [] p = append-nil (below p.0 p.1)
+pairs-push (q ∷ ps) p = ap (λ ds. below q.0 q.1 ++ ds) (pairs-push ps p) ∙ sym (append_assoc (below q.0 q.1) (pairs ps) (below p.0 p.1))

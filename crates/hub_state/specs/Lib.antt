@@ -1,4 +1,5 @@
 pub mod Coded
+pub mod Devices
 pub mod Examples
 pub mod Laws
 pub mod Reading

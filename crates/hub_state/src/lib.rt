@@ -8,10 +8,12 @@ mod fault;
 mod form;
 pub mod laws;
 mod state;
+mod writer;
 
 pub use fault::{Fault, StateFault};
 pub use form::{Form, Section};
 pub use state::State;
+pub use writer::write_state;
 
 /// How many entries a state text may have, those of replicas and of archives together.
 pub const ENTRIES: usize = 100_000;

@@ -78,6 +78,21 @@ impl State {
         find_pair(archives, smaller, larger)
     }
 
+    /// Borrows the replicas, under the texts of their roots.
+    pub(crate) fn replicas(&self) -> &BTreeMap<String, Tree>
+        ensures { fin.entries self.now.replicas ≡ by_text result.now.entries }
+    {
+        let _len = self.replicas.len();
+        &self.replicas
+    }
+
+    /// Borrows the archives, under the texts of their roots.
+    pub(crate) fn archives(&self) -> &BTreeMap<String, BTreeMap<String, Archive>>
+        ensures { pairs_in result.now.entries ≡ self.now.archives }
+    {
+        &self.archives
+    }
+
     /// Puts a replica in the place of the root's. Out of memory drops the replica and leaves the state unchanged.
     pub fn put_replica(&mut self, root: &Root, tree: Tree) -> Result<(), AllocError>
         ensures ok { OnOk result (self.new ≡ spec.with_replica self.old root.now tree) }

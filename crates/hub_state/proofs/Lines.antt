@@ -1,7 +1,7 @@
 -- Lines as lists of bytes: how a text is cut into them.
-use Rattle.std.proofs.Common.{◌||◌, ◌+◌, ◌/◌, ◌%◌, ◌≡◌, ℕ, zero, suc, ◌≤◌, Bool, true, false, not, ◌&&◌, ◌==◌, cond, ltb, List, [], ◌∷◌, ◌++◌, length, take, drop, refl, ap, ◌∙◌, arith, append_assoc}
+use Rattle.std.proofs.Common.{◌||◌, ◌+◌, ◌/◌, ◌%◌, ◌≡◌, ℕ, zero, suc, ◌≤◌, Bool, true, false, not, ◌&&◌, ◌==◌, cond, ltb, List, [], ◌∷◌, ◌++◌, map, length, take, drop, refl, ap, ◌∙◌, arith, append_assoc}
 use Rattle.std.specs.Prelude.{slice_index}
-use Rattle.std.specs.List.{list_all, list_any, onto_first, before_first, after_first, position_or_len}
+use Rattle.std.specs.List.{list_all, list_any, before_first, after_first, position_or_len}
 use Rattle.std.specs.Char.{encode_utf8}
 use Rattle.std.specs.Str.{encode_utf8_all}
 use Rattle.std.proofs.lemmas.List.{take_at}
@@ -10,7 +10,10 @@ use Rattle.std.proofs.lemmas.Bool.Decides.{nat_tests}
 use Rattle.hex.specs.Hex.{encode_with, encode_lower, lower_digits}
 use lib.Utf8.{encode, next}
 use Rattle.hub_state.specs.Writing.{joined_lines}
-use Rattle.hub_state.specs.Reading.{above_end, ends_whole, without_empty_end, pieces, lines_reading, nothing_above, is_space}
+use Rattle.hub_text.specs.Lines.{is_lf, lines_of, ended}
+use Rattle.hub_text.specs.LineLaws.{lines_of-ended}
+use Rattle.hub_text.specs.declared.line.Line.{Line}
+use Rattle.hub_state.specs.Reading.{above_end, ends_whole, lines_reading, nothing_above, is_space}
 
 -- A byte that ends no line, and one that ends no line and separates no fields.
 abbrev pub in_line : ℕ → Bool
@@ -26,39 +29,39 @@ both false b h = cc
 pub and_both : (a b : Bool) → a ≡ true → b ≡ true → (a && b) ≡ true
 and_both a b h k = rw (h, k) refl
 
-not_cut : (t : Bool) (c : ℕ) (ps qs : List (List ℕ)) → not t ≡ true → cond t ps (onto_first c qs) ≡ onto_first c qs
-not_cut true c ps qs h = cc
-not_cut false c ps qs h = refl
-
--- A line that is ended is the first piece.
-pieces-line : (l rest : List ℕ) → list_all in_line l ≡ true → pieces (l ++ 10 ∷ rest) ≡ l ∷ pieces rest
-pieces-line [] rest h = refl
-pieces-line (b ∷ l) rest h =
+-- The lines of lines that an LF ends.
+no_lf : (l : List ℕ) → list_all in_line l ≡ true → list_any is_lf l ≡ false
+no_lf [] h = refl
+no_lf (b ∷ l) h =
     let parts = both (in_line b) (list_all in_line l) h in
-    not_cut (b == 10) b _ _ parts.0 ∙ ap (onto_first b) (pieces-line l rest parts.1)
+    let here : is_lf b ≡ false = unlike (is_lf b) parts.0 in
+    rw (here, no_lf l parts.1) refl
+  where
+    unlike : (t : Bool) → not t ≡ true → t ≡ false
+    unlike true h = cc
+    unlike false h = refl
 
-pieces-joined : (ls : List (List ℕ)) → list_all (list_all in_line) ls ≡ true → pieces (joined_lines ls) ≡ ls ++ [] ∷ []
-pieces-joined [] h = refl
-pieces-joined (l ∷ ls) h =
+lines_of-joined : (ls : List (List ℕ)) → list_all (list_all in_line) ls ≡ true → lines_of (joined_lines ls) ≡ map ended ls
+lines_of-joined [] h = refl
+lines_of-joined (l ∷ ls) h =
     let parts = both (list_all in_line l) (list_all (list_all in_line) ls) h in
-    ap pieces (append_assoc l (10 ∷ []) (joined_lines ls)) ∙ pieces-line l (joined_lines ls) parts.0 ∙ ap (λ ks. l ∷ ks) (pieces-joined ls parts.1)
+    ap lines_of (append_assoc l (10 ∷ []) (joined_lines ls)) ∙ lines_of-ended l (joined_lines ls) (no_lf l parts.0) ∙ ap (λ ks. ended l ∷ ks) (lines_of-joined ls parts.1)
 
-ends_whole-push : (ls : List (List ℕ)) → ends_whole (ls ++ [] ∷ []) ≡ true
-ends_whole-push [] = refl
-ends_whole-push (l ∷ []) = refl
-ends_whole-push (l ∷ k ∷ ls) = ends_whole-push (k ∷ ls)
+ends_whole-ended : (ls : List (List ℕ)) → ends_whole (map ended ls) ≡ true
+ends_whole-ended [] = refl
+ends_whole-ended (l ∷ []) = refl
+ends_whole-ended (l ∷ k ∷ ls) = ends_whole-ended (k ∷ ls)
 
-without_empty_end-push : (ls : List (List ℕ)) → without_empty_end (ls ++ [] ∷ []) ≡ ls
-without_empty_end-push [] = refl
-without_empty_end-push (l ∷ []) = refl
-without_empty_end-push (l ∷ k ∷ ls) = ap (λ ms. l ∷ ms) (without_empty_end-push (k ∷ ls))
+texts-ended : (ls : List (List ℕ)) → map (λ (l : Line (List ℕ)). l.text) (map ended ls) ≡ ls
+texts-ended [] = refl
+texts-ended (l ∷ ls) = ap (λ ks. l ∷ ks) (texts-ended ls)
 
 -- The lines of a text whose lines all end are read from the first on.
 pub above_end-joined : (ls : List (List ℕ)) → list_all (list_all in_line) ls ≡ true → above_end (joined_lines ls) ≡ lines_reading true 1 nothing_above ls
 above_end-joined ls h =
-    ap (λ ps. lines_reading (ends_whole ps) 1 nothing_above (without_empty_end ps)) (pieces-joined ls h)
-    ∙ ap (λ w. lines_reading w 1 nothing_above (without_empty_end (ls ++ [] ∷ []))) (ends_whole-push ls)
-    ∙ ap (lines_reading true 1 nothing_above) (without_empty_end-push ls)
+    ap (λ ks. lines_reading (ends_whole ks) 1 nothing_above (map (λ (l : Line (List ℕ)). l.text) ks)) (lines_of-joined ls h)
+    ∙ ap (λ w. lines_reading w 1 nothing_above (map (λ (l : Line (List ℕ)). l.text) (map ended ls))) (ends_whole-ended ls)
+    ∙ ap (lines_reading true 1 nothing_above) (texts-ended ls)
 
 -- Bytes of a character other than LF.
 high-in_line : (b : ℕ) → 128 ≤ b → in_line b ≡ true

@@ -1,21 +1,20 @@
 -- What holds of a state after a change.
-use Rattle.std.proofs.Common.{◌≡◌, ◌≢◌, ℕ, Bool, true, false, cond, not, ◌<◌, List, [], ◌∷◌, length, refl, sym, ap, ◌∙◌, subst, arith}
+use Rattle.std.proofs.Common.{◌≡◌, ◌≢◌, ℕ, Bool, true, false, cond, ◌<◌, List, [], ◌∷◌, length, refl, sym, ap, ◌∙◌, subst, arith}
 use Rattle.std.specs.Prelude.{Option, Some, None, Result, Ok, Err, OnOk, OnErr, unwrap_or}
 use Rattle.std.specs.FinMap as fin
 use Rattle.std.specs.Ordering.{eq_by_cmp, ordering_reverse}
-use Rattle.std.specs.Str.{chars, encode_utf8_all}
+use Rattle.std.specs.Str.{chars}
 use Rattle.std.specs.declared.cmp.Ordering.{Ordering}
 use Rattle.std.specs.declared.cmp.Ordering.TheVariants.{Less, Equal, Greater}
 use Rattle.std.proofs.lemmas.Str.{chars-encodes}
-use Rattle.std.proofs.lemmas.Slice.Eq.{slice_eq-Decides, bytes_eq-Decides}
 use Rattle.std.proofs.lemmas.Bool.{false≢true}
 use lib.Utf8.{encode}
-use Rattle.hub_path.specs.Path.{Path, name_cmp, path_cmp, path_of, text_of, is_place, is_path, root_bytes}
-use Rattle.hub_path.specs.Laws.{name_cmp-total, name_cmp-exact, path_cmp-total, path_cmp-exact, path_of-text_of}
+use Rattle.hub_path.specs.Path.{Path, name_cmp, path_cmp, path_of, text_of, is_place, root_bytes}
+use Rattle.hub_path.specs.Laws.{name_cmp-total, name_cmp-exact, path_cmp-total, path_of-text_of}
 use Rattle.hub_tree.specs.Tree.{Replica, Archive, IsTree, IsArchive, HasPaths, HasBytes, HasDigests}
 use Rattle.hub_tree.proofs.MarkMaps.{is_path-names}
 use Rattle.hub_tree.proofs.Order.{same_path, same_name}
-use Rattle.hub_state.specs.State.{State, Text, IsState, nothing, root_chars, root_text, is_before, in_order, pair_of, with_replica, with_archive}
+use Rattle.hub_state.specs.State.{State, Text, IsState, nothing, root_chars, root_text, is_before, pair_of, with_replica, with_archive}
 use Rattle.hub_state.proofs.Fields.{scalars-text}
 
 -- The text of a root by its two definitions.

@@ -4,5 +4,6 @@ pub mod Examples
 pub mod Laws
 pub mod Reading
 pub mod State
+pub mod Taking
 pub mod View
 pub mod Writing

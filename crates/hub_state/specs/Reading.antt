@@ -1,9 +1,11 @@
 -- Which bytes are state texts of version 1, what they say, and the first fault of all others.
 use Rattle.std.specs.Prelude.{ℕ, ◌+◌, Bool, true, false, not, ◌&&◌, ◌||◌, ◌==◌, nat_eq, nat_le, nat_lt, List, [], ◌∷◌, map, drop, length, Option, Some, None, Result, Ok, Err, is_some, if◌then◌else◌, codes, bytes_eq}
-use Rattle.std.specs.List.{list_any, slice_split, starts_with, before_first, after_first}
+use Rattle.std.specs.List.{list_any, starts_with, before_first, after_first}
 use Rattle.std.specs.Str.{is_utf8, chars}
 use Rattle.std.specs.FinMap as fin
 use Rattle.hex.specs.Hex.{decode_of}
+use Rattle.hub_text.specs.Lines.{lines_of}
+use Rattle.hub_text.specs.declared.line.Line as text
 use Rattle.hub_path.specs.Path.{Path, path_eq, path_cmp, parent}
 use Rattle.hub_path.specs.Reading.{path_reading, root_reading}
 use Rattle.hub_tree.specs.declared.contents.Contents.{Contents}
@@ -218,22 +220,14 @@ lines_reading whole n d [] = Err (record { line = 1; fault = Truncated })
 lines_reading whole n d (l ∷ []) = fault_at n (unless (is_truncated whole d l) Truncated (numbered_reading n d l))
 lines_reading whole n d (l ∷ k ∷ ls) = then_lines (fault_at n (numbered_reading n d l)) (λ e. lines_reading whole (n + 1) e (k ∷ ls))
 
--- The lines of a text, and whether the last one ends with LF.
-abbrev pub without_empty_end : List (List ℕ) → List (List ℕ)
-without_empty_end [] = []
-without_empty_end (l ∷ []) = if length l == 0 then [] else l ∷ []
-without_empty_end (l ∷ k ∷ ls) = l ∷ without_empty_end (k ∷ ls)
-
-abbrev pub ends_whole : List (List ℕ) → Bool
+-- Whether an LF ends the last line.
+abbrev pub ends_whole : List (text.Line (List ℕ)) → Bool
 ends_whole [] = true
-ends_whole (l ∷ []) = length l == 0
+ends_whole (l ∷ []) = l.is_ended
 ends_whole (l ∷ k ∷ ls) = ends_whole (k ∷ ls)
 
-abbrev pub pieces : List ℕ → List (List ℕ)
-pieces bytes = slice_split (λ b. b == 10) bytes
-
 abbrev pub above_end : List ℕ → Result Above StateFault
-above_end bytes = lines_reading (ends_whole (pieces bytes)) 1 nothing_above (without_empty_end (pieces bytes))
+above_end bytes = lines_reading (ends_whole (lines_of bytes)) 1 nothing_above (map (λ l. l.text) (lines_of bytes))
 
 abbrev pub state_or_fault : Result Above StateFault → Result State StateFault
 state_or_fault (Ok d) = Ok (state_of d)

@@ -1,5 +1,5 @@
 -- The maps from texts that hold a state.
-use Rattle.std.specs.Prelude.{ℕ, List, [], ◌∷◌, ◌++◌, map, String, string_bytes}
+use Rattle.std.specs.Prelude.{List, [], ◌∷◌, ◌++◌, map, String, string_bytes}
 use Rattle.std.specs.FinMap as fin
 use Rattle.std.specs.BTreeMap.{BTreeMap}
 use Rattle.hub_path.specs.Path.{name_cmp, path_cmp}

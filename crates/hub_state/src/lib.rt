@@ -4,14 +4,18 @@
 //! back. The type of states, its reader and its writer are to come.
 #![tactic(auto)]
 
+mod draft;
 mod fault;
 mod form;
 pub mod laws;
+mod line;
+mod reader;
 mod state;
 mod writer;
 
 pub use fault::{Fault, StateFault};
 pub use form::{Form, Section};
+pub use reader::{READ_TURNS, read_bytes, read_state};
 pub use state::State;
 pub use writer::write_state;
 

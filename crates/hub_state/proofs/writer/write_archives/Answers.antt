@@ -1,5 +1,4 @@
 use Rattle.std.proofs.Common.{◌≡◌, ℕ, List, [], ◌∷◌, ◌++◌, BTreeMap, String, Global, string_bytes, sym, ap, ◌∙◌, subst, append-nil, append_assoc}
-use Rattle.std.specs.FinMap as fin
 use Rattle.std.specs.List.{flat_map}
 use Rattle.hub_tree.specs.Tree.{Archive}
 use Rattle.hub_state.specs.State.{Text}

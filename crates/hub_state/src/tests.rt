@@ -386,14 +386,18 @@ fn a_state_by_hand(rt: HostRuntime) -> Result<(), Fail> {
     assert!(rt; state.replica(&hub).is_none());
     let mut archive = Archive::new(alloc);
     archive.set(&RelPath::read(alloc, "e")?, Mark::Directory)?;
-    state.put_archive(&spoke, &hub, archive)?;
+    if spoke != hub {
+        state.put_archive(&spoke, &hub, archive)?;
+    }
     state.put_replica(&spoke, Tree::new(alloc))?;
     assert!(rt; state.replica(&spoke).is_some());
     assert!(rt; state.archive(&hub, &spoke).is_some());
     assert!(rt; state.archive(&hub, &hub).is_none());
     let want = "hubsync state 1\nreplica /srv/s1\narchive /srv/hub\nwith /srv/s1\ndir e\nend\n";
     assert_eq!(rt; written(alloc, &state.copy()?)?.as_str(), want);
-    state.put_archive(&hub, &spoke, Archive::new(alloc))?;
+    if hub != spoke {
+        state.put_archive(&hub, &spoke, Archive::new(alloc))?;
+    }
     let want = "hubsync state 1\nreplica /srv/s1\narchive /srv/hub\nwith /srv/s1\nend\n";
     assert_eq!(rt; written(alloc, &state)?.as_str(), want);
     Ok(())

@@ -1,11 +1,5 @@
 pub mod Answered
 pub mod InputFacts
-pub mod NearestFacts
-pub mod ShownFacts
-pub mod CheckFacts
-pub mod Finds
-pub mod OneShown
 pub mod Lines
 pub mod Sections
-pub mod ReportFacts
 pub mod WordsFacts

@@ -2,6 +2,7 @@
 ghost use Rattle.std.specs.Prelude.{◌≡◌, false, Some, None, MatchOption};
 ghost use Rattle.hubsync.specs.Report as report;
 ghost use Rattle.hubsync.specs.Reached.{named};
+ghost use Rattle.hubsync.specs.declared.sections.Contents.{Contents};
 ghost use Rattle.hubsync.specs.Words as words;
 
 use crate::report::Report;
@@ -20,7 +21,8 @@ pub fn report_on_reach<'a>(
     profile: &'a str,
     path: &str,
 ) -> Report<'a>
-    ensures told { report.IsTold (words.reach profile.now path.now) profiles.now result }
+    ensures told { (c : Contents) → c.profiles ≡ profiles.now
+        → report.IsTold (words.reach profile.now path.now) c result }
     ensures read { report.says_read_failed result ≡ false }
 {
     let Some(found) = profile_named(profiles, profile) else {

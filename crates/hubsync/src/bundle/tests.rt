@@ -9,7 +9,11 @@ fn shown(alloc: Global, input: &[u8]) -> Result<String, AllocError> {
     };
     let mut text = String::new(alloc);
     for section in sections.iter() {
-        let Heading::Profile(name) = section.heading();
+        let name = match section.heading() {
+            Heading::Profile(name) => name.text(),
+            Heading::Rules => "%rules",
+            Heading::Certificates => "%certificates",
+        };
         let bytes = str::from_utf8(section.bytes()).unwrap_or("?");
         write!(text, "<{name}|{bytes}>")?;
     }
@@ -18,7 +22,7 @@ fn shown(alloc: Global, input: &[u8]) -> Result<String, AllocError> {
 
 #[test]
 fn bundles_are_cut_at_their_headings(rt: HostRuntime) -> Result<(), Fail> {
-    let rows: [(&[u8], &str); 25] = [
+    let rows: [(&[u8], &str); 29] = [
         (b"", ""),
         (b" \t\r\n\n", ""),
         (b"%profile a\nx\n%profile b\ny\n", "<a|x\n><b|y\n>"),
@@ -36,9 +40,13 @@ fn bundles_are_cut_at_their_headings(rt: HostRuntime) -> Result<(), Fail> {
         (b"\xef\xbb\xbf%profile a\n", "line 1: NoSection"),
         (b"%", "line 1: UnknownSection"),
         (b"%profile\n", "line 1: UnknownSection"),
-        (b"\n%rules\n", "line 2: UnknownSection"),
+        (b"\n%rules\n", "<%rules|>"),
+        (b"%certificates\r\nx\n%rules\n", "<%certificates|x\n><%rules|>"),
+        (b"%rules \n", "line 1: UnknownSection"),
+        (b"%rules\n%profile a\n%rules\n%", "line 3: SectionTwice"),
+        (b"%certificates\n\n%certificates", "line 3: SectionTwice"),
         (b"%profile a\n%state\n", "line 2: UnknownSection"),
-        (b"%profile a\nx\n%certificates", "line 3: UnknownSection"),
+        (b"%profile a\nx\n%certificates", "<a|x\n><%certificates|>"),
         (b"%profile \n", "line 1: BadName"),
         (b"%profile ..\r\n%what\n", "line 1: BadName"),
         (b"%profile a/b", "line 1: BadName"),

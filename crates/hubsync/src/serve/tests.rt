@@ -177,8 +177,8 @@ fn profiles_overlap_at_a_root_of_both(rt: HostRuntime) -> Result<(), Fail> {
     for (input, want) in [
         ("root = /srv\n", "2 fault: bundle line 1: NoSection\n"),
         (
-            "%profile a\n%rules\n",
-            "2 fault: bundle line 2: UnknownSection\n",
+            "%profile a\n%rules\n%rules\n",
+            "2 fault: bundle line 3: SectionTwice\n",
         ),
         ("%profile ..\n", "2 fault: bundle line 1: BadName\n"),
     ] {
@@ -206,7 +206,7 @@ fn a_bundle_has_at_most_32_profiles(rt: HostRuntime) -> Result<(), Fail> {
 
 #[test]
 fn words_that_ask_for_nothing_are_answered_with_nothing(rt: HostRuntime) -> Result<(), Fail> {
-    for word in ["", "check", "--help"] {
+    for word in ["", "run", "--help"] {
         let mut input: &[u8] = b"%profile u\n";
         let mut output: Vec<u8> = Vec::new(rt.alloc());
         assert_eq!(rt; served(&rt, &["hubsync", word], &mut input, &mut output), 2);
@@ -333,23 +333,94 @@ fn a_profile_is_asked_whether_it_reaches_a_path(rt: HostRuntime) -> Result<(), F
 }
 
 #[test]
-fn patterns_are_refused(rt: HostRuntime) -> Result<(), Fail> {
-    let rows: [(&[(&str, &str)], &str); 4] = [
-        (&[("u", "ignore = Name a")], "1 refused: Patterns\n"),
-        (&[("u", "ignorenot = Name a")], "0 safe\n"),
+fn patterns_are_compared(rt: HostRuntime) -> Result<(), Fail> {
+    let rows: [(&[(&str, &str)], &str); 6] = [
+        (&[("u", "ignore = Name a")], "0 safe\n"),
         (
             &[("u", ""), ("u", "ignore = Name a")],
             "1 refused: SameName u\n",
         ),
         (
-            &[("u", ""), ("v", "ignore = Name a")],
-            "1 refused: Patterns\n",
+            &[("whole", "path = a\nignore = Path a/b"), ("part", "path = a/b")],
+            "1 overlap: whole writes a at /srv/hub, part reaches a/b\n",
+        ),
+        (&[("u", "ignore = Path a"), ("v", "path = a")], "0 safe\n"),
+        (
+            &[("u", "ignore = Name *"), ("v", "ignore = Name .?*")],
+            "0 safe\n",
+        ),
+        (
+            &[("u", "ignore = Name .*"), ("v", "ignore = Name .*")],
+            "1 overlap: u writes a at /srv/hub, v reaches a\n",
         ),
     ];
     for (profiles, want) in rows {
         let input = bundle(rt.alloc(), profiles)?;
         assert_eq!(rt; answered(&rt, input.as_str())?.as_str(), want);
     }
+    Ok(())
+}
+
+/// Two profiles that overlap nowhere, and some sections after them; what is asked; and the answer.
+static SECTIONS: [(&str, &str, &str); 9] = [
+    ("", "verify", "1 refused: goal 0 Missing\n"),
+    (
+        "%certificates\nhubsync certificates 1\ngoal clash 0 1 root 0\nend",
+        "verify",
+        "1 refused: goal 0 NoStart\n",
+    ),
+    (
+        "%certificates\nhubsync certificates 1\ngoal clash 0 1 root 0\nstage -\nend\n",
+        "verify",
+        "1 refused: goal 0 stage 0 class 0 NotClosed\n",
+    ),
+    (
+        "%certificates\nhubsync certificates 1\ngoal clash 0 0 archive\nend\n",
+        "verify",
+        "1 refused: certificate 0 Stray\n",
+    ),
+    (
+        "%certificates\nhubsync certificates 1\n",
+        "check",
+        "2 fault: certificates line 2: BadText\n",
+    ),
+    (
+        "%certificates\n",
+        "certify",
+        "2 fault: certificates line 1: BadText\n",
+    ),
+    ("%rules\n# none yet\n\n", "check", "0 safe\n"),
+    (
+        "%rules\n\nnolose = Name a\n%certificates\n",
+        "check",
+        "2 fault: rules line 2: UnknownPreference nolose\n",
+    ),
+    (
+        "%certificates\nx\n%rules\nx\n%certificates\n",
+        "verify",
+        "2 fault: bundle line 11: SectionTwice\n",
+    ),
+];
+
+#[test]
+fn sections_are_read_in_order(rt: HostRuntime) -> Result<(), Fail> {
+    for (sections, word, want) in &SECTIONS {
+        let mut text = bundle(rt.alloc(), &[("a", "path = a"), ("b", "path = b")])?;
+        text.push_str(sections)?;
+        let answer = answered_to(&rt, &["hubsync", word], text.as_str())?;
+        assert_eq!(rt; answer.as_str(), *want);
+    }
+    Ok(())
+}
+
+#[test]
+fn certificates_are_given_back(rt: HostRuntime) -> Result<(), Fail> {
+    let mut text = bundle(rt.alloc(), &[("a", "path = a"), ("b", "path = b")])?;
+    let answer = answered_to(&rt, &["hubsync", "certify"], text.as_str())?;
+    text.push_str("%certificates\n")?;
+    text.push_str(answer.as_str().strip_prefix("0 ").unwrap_or("?"))?;
+    let answer = answered_to(&rt, &["hubsync", "verify"], text.as_str())?;
+    assert_eq!(rt; answer.as_str(), "0 verified\n");
     Ok(())
 }
 

@@ -1,5 +1,6 @@
 pub mod Answered
 pub mod InputFacts
 pub mod Lines
-pub mod Sections
+pub mod Headings
+pub mod Unsafe
 pub mod WordsFacts

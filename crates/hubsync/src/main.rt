@@ -15,6 +15,7 @@
 mod answer;
 mod bundle;
 mod input;
+pub mod laws;
 mod parts;
 mod reach;
 mod refusal;

@@ -137,7 +137,10 @@ fn archive_text(alloc: Global, left: &Root, right: &Root) -> Result<String, Allo
 {
     let left = left.text()?;
     let right = right.text()?;
-    joined(alloc, &["archive of ", left.as_str(), " and ", right.as_str()])
+    joined(
+        alloc,
+        &["archive of ", left.as_str(), " and ", right.as_str()],
+    )
 }
 
 /// The line of a breach, or nothing if there is no rule of that number.
@@ -173,7 +176,7 @@ fn breach_line(
     joined(alloc, &parts)
 }
 
-fn verb_text(verb: Verb) -> &'static str
+fn verb_text<'a>(verb: Verb) -> &'a str
     ensures { result.now ≡ lines.verb_text verb }
 {
     match verb {
@@ -261,7 +264,10 @@ fn stray_line(alloc: Global, certificate: usize) -> Result<String, AllocError>
         ≡ lines.joined (codes "refused: certificate " ∷ decimal certificate ∷ codes " Stray\n" ∷ [])) }
 {
     let certificate = format!(in alloc; "{certificate}")?;
-    joined(alloc, &["refused: certificate ", certificate.as_str(), " Stray\n"])
+    joined(
+        alloc,
+        &["refused: certificate ", certificate.as_str(), " Stray\n"],
+    )
 }
 
 fn bad_text_line(alloc: Global, line: usize) -> Result<String, AllocError>
@@ -269,7 +275,10 @@ fn bad_text_line(alloc: Global, line: usize) -> Result<String, AllocError>
         ≡ lines.joined (codes "fault: certificates line " ∷ decimal line ∷ codes ": BadText\n" ∷ [])) }
 {
     let line = format!(in alloc; "{line}")?;
-    joined(alloc, &["fault: certificates line ", line.as_str(), ": BadText\n"])
+    joined(
+        alloc,
+        &["fault: certificates line ", line.as_str(), ": BadText\n"],
+    )
 }
 
 fn alphabet_line(alloc: Global, fault: AutomatonFault) -> Result<String, AllocError>

@@ -70,7 +70,10 @@ impl Report<'_> {
         match self {
             Report::Safe => String::from_str(alloc, "safe\n"),
             Report::Verified => String::from_str(alloc, "verified\n"),
-            Report::Certified(text) | Report::Refused(text) => String::from_str(alloc, text.as_str()),
+            Report::Certified(text) | Report::Refused(text) => String::from_str(
+                alloc,
+                text.as_str(),
+            ),
             Report::Reached => String::from_str(alloc, "reached\n"),
             Report::NotReached => String::from_str(alloc, "not reached\n"),
             Report::NoProfile(name) => joined(alloc, &["fault: no profile ", name, "\n"]),

@@ -189,11 +189,7 @@ fn faulty_rules(fault: ProfileFault) -> ReadError
 }
 
 /// Adds the certificates.
-fn with_certificates(
-    alloc: Global,
-    contents: Contents,
-    bytes: &[u8],
-) -> Result<Contents, ReadError>
+fn with_certificates(alloc: Global, contents: Contents, bytes: &[u8]) -> Result<Contents, ReadError>
     ensures ok { IfOk result (λ c. said.with_certificates contents (certificates_in bytes.now) ≡ Ok c) }
     ensures err { IfErr result (said.FailsAs
         (said.with_certificates contents (certificates_in bytes.now))) }

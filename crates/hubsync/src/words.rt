@@ -135,12 +135,15 @@ fn command<'a>(alloc: Global) -> Result<Command<'a>, AllocError>
         .value_name("PATH")
         .help("A path below the roots, as docs/notes.txt; put -- before a word that begins with -")
         .required(true);
-    let check = Command::new(alloc, "check")
-        .about("Says whether the profiles may run at the same time, as without a command");
-    let certify = Command::new(alloc, "certify")
-        .about("Writes certificates that the profiles may run at the same time");
-    let verify = Command::new(alloc, "verify")
-        .about("Says whether the certificates of the input show that the profiles may run at the same time");
+    let check = Command::new(alloc, "check").about(
+        "Says whether the profiles may run at the same time, as without a command",
+    );
+    let certify = Command::new(alloc, "certify").about(
+        "Writes certificates that the profiles may run at the same time",
+    );
+    let verify = Command::new(alloc, "verify").about(
+        "Says whether the certificates of the input show that the profiles may run at the same time",
+    );
     let reach = Command::new(alloc, "reach")
         .about("Says whether a profile of the input reaches a path")
         .arg(profile)?

@@ -41,7 +41,10 @@ fn bundles_are_cut_at_their_headings(rt: HostRuntime) -> Result<(), Fail> {
         (b"%", "line 1: UnknownSection"),
         (b"%profile\n", "line 1: UnknownSection"),
         (b"\n%rules\n", "<%rules|>"),
-        (b"%certificates\r\nx\n%rules\n", "<%certificates|x\n><%rules|>"),
+        (
+            b"%certificates\r\nx\n%rules\n",
+            "<%certificates|x\n><%rules|>",
+        ),
         (b"%rules \n", "line 1: UnknownSection"),
         (b"%rules\n%profile a\n%rules\n%", "line 3: SectionTwice"),
         (b"%certificates\n\n%certificates", "line 3: SectionTwice"),

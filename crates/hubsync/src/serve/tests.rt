@@ -193,10 +193,7 @@ fn a_bundle_has_at_most_32_profiles(rt: HostRuntime) -> Result<(), Fail> {
     for (count, want) in [(32, "0 safe\n"), (33, "1 refused: TooManyProfiles\n")] {
         let mut text = String::new(rt.alloc());
         for i in 0..count {
-            write!(
-                text,
-                "%profile p{i}\nroot = /srv/hub\nroot = /srv/s1\npath = p{i}\n"
-            )?;
+            write!(text, "%profile p{i}\nroot = /hub{i}\nroot = /spoke{i}\n")?;
         }
         let text = answered(&rt, text.as_str())?;
         assert_eq!(rt; text.as_str(), want);
@@ -341,7 +338,10 @@ fn patterns_are_compared(rt: HostRuntime) -> Result<(), Fail> {
             "1 refused: SameName u\n",
         ),
         (
-            &[("whole", "path = a\nignore = Path a/b"), ("part", "path = a/b")],
+            &[
+                ("whole", "path = a\nignore = Path a/b"),
+                ("part", "path = a/b"),
+            ],
             "1 overlap: whole writes a at /srv/hub, part reaches a/b\n",
         ),
         (&[("u", "ignore = Path a"), ("v", "path = a")], "0 safe\n"),
@@ -398,7 +398,7 @@ static SECTIONS: [(&str, &str, &str); 9] = [
     (
         "%certificates\nx\n%rules\nx\n%certificates\n",
         "verify",
-        "2 fault: bundle line 11: SectionTwice\n",
+        "2 fault: bundle line 13: SectionTwice\n",
     ),
 ];
 

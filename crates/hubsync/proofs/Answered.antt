@@ -67,7 +67,7 @@ unlike : (S : Members) (e : CheckFault) (x u : ℕ) (s : List ℕ) → (98 == x)
     → take u (refusal_line S e) ≡ x ∷ s → ⊥
 unlike S fault.TooManyProfiles x u s b f oo rr t h = begins 114 x u _ s rr h
 unlike S (fault.SameName n) x u s b f oo rr t h = begins 114 x u _ s rr h
-unlike S (fault.NestedRoots x y) x u s b f oo rr t h = begins 114 x u _ s rr h
+unlike S (fault.NestedRoots a z) x u s b f oo rr t h = begins 114 x u _ s rr h
 unlike S (fault.Overlap w o place held path) x u s b f oo rr t h = begins 111 x u _ s oo h
 unlike S (fault.Breach p k path) x u s b f oo rr t h = breach-first _ _ _ _ x u s b h
 unlike S (fault.TooLarge g) x u s b f oo rr t h = begins 116 x u _ s t h
@@ -86,7 +86,7 @@ unlike S fault.OutOfMemory x u s b f oo rr t h = begins 102 x u _ s f h
 unlike_reached : (S : Members) (e : CheckFault) (u : ℕ) (s : List ℕ) → take u (refusal_line S e) ≡ 114 ∷ 101 ∷ 97 ∷ s → ⊥
 unlike_reached S fault.TooManyProfiles u s h = third 114 101 102 114 101 97 u _ s refl h
 unlike_reached S (fault.SameName n) u s h = third 114 101 102 114 101 97 u _ s refl h
-unlike_reached S (fault.NestedRoots x y) u s h = third 114 101 102 114 101 97 u _ s refl h
+unlike_reached S (fault.NestedRoots a z) u s h = third 114 101 102 114 101 97 u _ s refl h
 unlike_reached S (fault.Overlap w o place held path) u s h = begins 111 114 u _ _ refl h
 unlike_reached S (fault.Breach p k path) u s h = breach-first _ _ _ _ 114 u _ refl h
 unlike_reached S (fault.TooLarge g) u s h = begins 116 114 u _ _ refl h
@@ -129,7 +129,7 @@ breach_first Verify c p k path (inr h) = absurd h
 only_overlap : OverlapsShown → (q : Question) (c : Contents) (e : CheckFault) (u : ℕ) (s : List ℕ) → IsRefusedFor q c e → take u (refusal_line (members c) e) ≡ 111 ∷ s → IsSafeSet (members c) → ⊥
 only_overlap shown q c fault.TooManyProfiles u s is h = λ safe. begins 114 111 u _ s refl h
 only_overlap shown q c (fault.SameName n) u s is h = λ safe. begins 114 111 u _ s refl h
-only_overlap shown q c (fault.NestedRoots x y) u s is h = λ safe. begins 114 111 u _ s refl h
+only_overlap shown q c (fault.NestedRoots a z) u s is h = λ safe. begins 114 111 u _ s refl h
 only_overlap shown q c (fault.Overlap w o place held path) u s is h = shown (members c) w o place held path (overlap-first q c w o place held path is)
 only_overlap shown q c (fault.Breach p k path) u s is h = λ safe. breach-first _ _ _ _ 111 u s refl h
 only_overlap shown q c (fault.TooLarge g) u s is h = λ safe. begins 116 111 u _ s refl h
@@ -148,7 +148,7 @@ only_overlap shown q c fault.OutOfMemory u s is h = λ safe. begins 102 111 u _ 
 only_breach : BreachesShown → (q : Question) (c : Contents) (e : CheckFault) (u : ℕ) (s : List ℕ) → IsRefusedFor q c e → take u (refusal_line (members c) e) ≡ 98 ∷ s → IsSafeSet (members c) → ⊥
 only_breach shown q c fault.TooManyProfiles u s is h = λ safe. begins 114 98 u _ s refl h
 only_breach shown q c (fault.SameName n) u s is h = λ safe. begins 114 98 u _ s refl h
-only_breach shown q c (fault.NestedRoots x y) u s is h = λ safe. begins 114 98 u _ s refl h
+only_breach shown q c (fault.NestedRoots a z) u s is h = λ safe. begins 114 98 u _ s refl h
 only_breach shown q c (fault.Overlap w o place held path) u s is h = λ safe. begins 111 98 u _ s refl h
 only_breach shown q c (fault.Breach p k path) u s is h = shown (members c) p k path (breach_first q c p k path is)
 only_breach shown q c (fault.TooLarge g) u s is h = λ safe. begins 116 98 u _ s refl h

@@ -98,6 +98,11 @@ breach_text name (Some R) number path =
 abbrev pub breach_line : Members → ℕ → ℕ → Path → List ℕ
 breach_line S profile rule path = breach_text (name_at S.profiles profile) (slice_get S.rules rule) rule path
 
+-- The line of a goal of that number that has more stages than are searched.
+abbrev pub too_large_line : ℕ → ℕ → List ℕ
+too_large_line goal stages =
+    joined (codes "too large: goal " ∷ decimal goal ∷ codes " has more than " ∷ decimal stages ∷ codes " stages\n" ∷ [])
+
 -- The line of a goal of that number whose certificate is missing or wrong.
 abbrev pub goal_line : ℕ → List ℕ → List ℕ
 goal_line number wrong = joined (codes "refused: goal " ∷ decimal number ∷ codes " " ∷ wrong ∷ codes "\n" ∷ [])
@@ -120,8 +125,7 @@ fault_line S gs (fault.SameName name) = joined (codes "refused: SameName " ∷ e
 fault_line S gs (fault.NestedRoots r s) = joined (codes "refused: NestedRoots " ∷ root_text r ∷ codes " and " ∷ root_text s ∷ codes "\n" ∷ [])
 fault_line S gs (fault.Overlap w o place held path) = overlap_line S.profiles w o place held path
 fault_line S gs (fault.Breach p r path) = breach_line S p r path
-fault_line S gs (fault.TooLarge g) =
-    joined (codes "too large: goal " ∷ decimal (number_of gs g) ∷ codes " has more than " ∷ decimal STAGES ∷ codes " stages\n" ∷ [])
+fault_line S gs (fault.TooLarge g) = too_large_line (number_of gs g) STAGES
 fault_line S gs (fault.Missing g) = goal_line (number_of gs g) (codes "Missing")
 fault_line S gs (fault.NoStart g) = goal_line (number_of gs g) (codes "NoStart")
 fault_line S gs (fault.NotClosed g k class) = goal_line (number_of gs g) (not_closed k class)

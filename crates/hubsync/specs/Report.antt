@@ -1,5 +1,5 @@
 -- What the program answers to an input, and when.
-use Rattle.std.specs.Prelude.{◌≡◌, ◌≢◌, ◌⊎◌, ◌≤◌, ◌∷◌, ◌++◌, ⊤, ℕ, Bool, true, false, if◌then◌else◌, List, [], length, take, Option, Some, None, IfSome, Err, chars, codes, encode_utf8_all, string_bytes}
+use Rattle.std.specs.Prelude.{◌≡◌, ◌≢◌, ◌⊎◌, ◌≤◌, ◌∷◌, ◌++◌, ⊤, ℕ, Bool, true, false, if◌then◌else◌, List, [], length, take, Option, Some, None, IfSome, Ok, Err, chars, codes, encode_utf8_all, string_bytes}
 use Rattle.std.specs.List.{flat_map}
 use Rattle.std.specs.Fmt.{decimal}
 use Rattle.std.specs.Io.KnownBytes.{Appends, Keeps}

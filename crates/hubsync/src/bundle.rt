@@ -1,6 +1,6 @@
 //! Bundles: an input cut into its sections.
 ghost use Rattle.std.specs.Prelude.{◌≡◌, ◌⊎◌, ◌+◌, ◌≤◌, ℕ, length, IsTrue, IfOk, IfErr, Ok, Err};
-ghost use Rattle.std.specs.List.{list_all};
+ghost use Rattle.std.specs.List.{list_all, list_any};
 ghost use Rattle.hub_text.specs.Lines.{lines_of};
 ghost use Rattle.hubsync.specs.Bundle as bundle;
 ghost use Rattle.hubsync.specs.Bundle.{without_last_cr, bytes_before_heading, follows_section, written, stray_line, profile_reading, heading_reading, bundle_reading, heading_below, out_of_memory};
@@ -223,11 +223,23 @@ fn is_repeated(sections: &[Section<'_>], heading: &Heading) -> bool
 {
     match heading {
         Heading::Profile(_) => false,
-        Heading::Rules => sections.iter().any(|section| is_rules(section.heading())),
-        Heading::Certificates => sections
-            .iter()
-            .any(|section| is_certificates(section.heading())),
+        Heading::Rules => has_rules(sections),
+        Heading::Certificates => has_certificates(sections),
     }
+}
+
+fn has_rules(sections: &[Section<'_>]) -> bool
+    ensures { result ≡ list_any (λ s. bundle.is_rules s.heading) sections.now }
+{
+    sections.iter().any(|section| is_rules(section.heading()))
+}
+
+fn has_certificates(sections: &[Section<'_>]) -> bool
+    ensures { result ≡ list_any (λ s. bundle.is_certificates s.heading) sections.now }
+{
+    sections
+        .iter()
+        .any(|section| is_certificates(section.heading()))
 }
 
 fn is_rules(heading: &Heading) -> bool

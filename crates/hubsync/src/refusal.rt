@@ -42,7 +42,7 @@ pub fn fault_line(
             rule,
             path,
         } => breach_line(alloc, name_at(profiles, *profile), rules, *rule, path),
-        CheckFault::TooLarge { goal } => too_large_line(alloc, number_of(goals, *goal)),
+        CheckFault::TooLarge { goal } => too_large_line(alloc, number_of(goals, *goal), STAGES),
         CheckFault::Missing { goal } => goal_line(alloc, number_of(goals, *goal), "Missing"),
         CheckFault::NoStart { goal } => goal_line(alloc, number_of(goals, *goal), "NoStart"),
         CheckFault::NotClosed { goal, stage, class } => {
@@ -117,7 +117,7 @@ fn name_at(profiles: &[Profile], number: usize) -> &str
 
 /// The writer's root at the place, or both roots for an archive.
 fn place_text(alloc: Global, writer: Option<&Profile>, place: Place) -> Result<String, AllocError>
-    ensures { (W : Option Parts) → MatchOption writer (W ≡ None) (λ P. W ≡ Some P.now)
+    ensures { (W : Option Parts) → MatchOption writer.entry (W ≡ None) (λ P. W ≡ Some P.now)
         → IfOk result (λ t. string_bytes t ≡ lines.place_text W place) }
 {
     let Some(writer) = writer else {
@@ -206,12 +206,11 @@ fn is_same_goal(own: Goal, goal: Goal) -> bool
     own == goal
 }
 
-fn too_large_line(alloc: Global, goal: usize) -> Result<String, AllocError>
-    ensures { IfOk result (λ t. string_bytes t ≡ lines.joined (codes "too large: goal " ∷ decimal goal
-        ∷ codes " has more than " ∷ decimal STAGES ∷ codes " stages\n" ∷ [])) }
+fn too_large_line(alloc: Global, goal: usize, stages: usize) -> Result<String, AllocError>
+    ensures { IfOk result (λ t. string_bytes t ≡ lines.too_large_line goal stages) }
 {
     let goal = format!(in alloc; "{goal}")?;
-    let stages = format!(in alloc; "{STAGES}")?;
+    let stages = format!(in alloc; "{stages}")?;
     let parts = [
         "too large: goal ",
         goal.as_str(),
@@ -238,6 +237,13 @@ fn not_closed_line(
 ) -> Result<String, AllocError>
     ensures { IfOk result (λ t. string_bytes t ≡ lines.goal_line goal (lines.not_closed stage class)) }
 {
+    let wrong = not_closed_text(alloc, stage, class)?;
+    goal_line(alloc, goal, wrong.as_str())
+}
+
+fn not_closed_text(alloc: Global, stage: usize, class: usize) -> Result<String, AllocError>
+    ensures { IfOk result (λ t. string_bytes t ≡ lines.not_closed stage class) }
+{
     let stage = format!(in alloc; "{stage}")?;
     let class = format!(in alloc; "{class}")?;
     let parts = [
@@ -247,8 +253,7 @@ fn not_closed_line(
         class.as_str(),
         " NotClosed",
     ];
-    let wrong = joined(alloc, &parts)?;
-    goal_line(alloc, goal, wrong.as_str())
+    joined(alloc, &parts)
 }
 
 fn accepting_line(alloc: Global, goal: usize, stage: usize) -> Result<String, AllocError>

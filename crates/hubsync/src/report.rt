@@ -148,7 +148,8 @@ fn certificates_fault_line(alloc: Global, line: usize) -> Result<String, AllocEr
 
 /// The line of the fault at a place that has this name.
 fn fault_line(alloc: Global, place: &str, name: &str) -> Result<String, AllocError>
-    ensures { IfOk result (λ t. string_bytes t ≡ report.fault_line place.now name.now) }
+    ensures line { IfOk result (λ t. string_bytes t ≡ report.fault_line place.now name.now) }
+    ensures place { IfOk result (λ t. report.IsFaultLine place.now (string_bytes t)) }
 {
     joined(alloc, &["fault: ", place, ": ", name, "\n"])
 }

@@ -22,7 +22,7 @@ returns-in_err-heading-clause-err c =
 pub returns-clause-ok : goal.returns-clause-ok
 returns-clause-ok c =
     let ss = c.loop-line.sections.items in
-    c.loop-line.invariant.read ∙ ap (λ ls. sections_reading ss (written (c.loop-line.above + 1) ls)) c.in_default-next.ensures.steps
+    c.loop-line.invariant.read ∙ ap (λ bs. sections_reading ss (written (c.loop-line.above + 1) (lines_of bs))) c.in_default-next.ensures.steps
 
 pub loop-line-preserved : goal.loop-line-preserved
 loop-line-preserved c =

@@ -41,17 +41,17 @@ at-root W Q None q s h = cc
 at-root W Q (Some r) q s h = (r, (and_parts (writes W r) (has_root Q r) s).1, h)
 
 clashes : (W Q : Parts) (place : Place) (path : Path) → is_open_aim (Clashing W Q place) ≡ true → shows (Clashing W Q place) path ≡ true → safe.Clash W Q
-clashes W Q (Replica side) path open h =
+clashes W Q (Replica side) path opened h =
     let both = and_parts (reach Q path) (list_any (holds W (Replica side)) (prefixes path)) h in
     let q = over-passing (holds W (Replica side)) path both.1 in
-    let at = at-root W Q (at_side W.roots side) q.0 open q.2 in
+    let at = at-root W Q (at_side W.roots side) q.0 opened q.2 in
     let clash : safe.ClashesAt W Q at.0 = (q.0, path, q.1, at.2, both.0) in
     inl (at.0, (and_parts (has_root W at.0) _ at.2).0, at.1, clash)
-clashes W Q Archive path open h =
+clashes W Q Archive path opened h =
     let both = and_parts (reach Q path) (list_any (holds W Archive) (prefixes path)) h in
     let q = over-passing (holds W Archive) path both.1 in
     let clash : safe.ClashesInArchive W Q = (q.0, path, q.1, q.2, both.0) in
-    inr (open, clash)
+    inr (opened, clash)
 
 -- The profiles of a clash.
 record IsClashOf (S : Members) (w o : ℕ) (place : Place) (a : Aim) : Type 0 where
@@ -105,21 +105,21 @@ Listed = (S : Members) (g : Goal) → IsTrue (is_goal S g) ↔ Contains (goals S
 pub overlap-unsafe : Listed → (S : Members) (w o : ℕ) (place : Place) (held path : Path) → IsFirstFault S (fault.Overlap w o place held path) → IsSafeSet S → ⊥
 overlap-unsafe listed S w o place held path f sure =
     let own_is : f.own ≡ Clash w o place = f.tells.0 in
-    let open : is_open_aim f.aim ≡ true = sym (ap (some_passes is_open_aim) f.is_aim) ∙ (listed S f.own).1 (placed (goals S) f.number f.own f.at) in
+    let opened : is_open_aim f.aim ≡ true = sym (ap (some_passes is_open_aim) f.is_aim) ∙ (listed S f.own).1 (placed (goals S) f.number f.own f.at) in
     let aim_is : aim_of S (Clash w o place) ≡ Some f.aim = ap (aim_of S) (sym own_is) ∙ f.is_aim in
     let c = clash-by S w o place f.aim (w == o) (slice_get S.profiles w) (slice_get S.profiles o) refl refl refl aim_is in
     sure.no_clash w o c.writer c.other c.at_writer c.at_other c.differ
-    (clashes c.writer c.other place path (ap is_open_aim c.is ∙ open) (ap (λ (a : Aim). shows a path) c.is ∙ f.tells.1.shown))
+    (clashes c.writer c.other place path (ap is_open_aim c.is ∙ opened) (ap (λ (a : Aim). shows a path) c.is ∙ f.tells.1.shown))
 
 pub breach-unsafe : Listed → (S : Members) (p k : ℕ) (path : Path) → IsFirstFault S (fault.Breach p k path) → IsSafeSet S → ⊥
 breach-unsafe listed S p k path f sure =
     let own_is : f.own ≡ Breach p k = f.tells.0 in
-    let open : is_open_aim f.aim ≡ true = sym (ap (some_passes is_open_aim) f.is_aim) ∙ (listed S f.own).1 (placed (goals S) f.number f.own f.at) in
+    let opened : is_open_aim f.aim ≡ true = sym (ap (some_passes is_open_aim) f.is_aim) ∙ (listed S f.own).1 (placed (goals S) f.number f.own f.at) in
     let aim_is : aim_of S (Breach p k) ≡ Some f.aim = ap (aim_of S) (sym own_is) ∙ f.is_aim in
     let b = breach-by S p k f.aim (slice_get S.profiles p) (slice_get S.rules k) refl refl aim_is in
     let P = b.profile in
     let R = b.rule in
-    let shared = and_parts (has_root P R.root) (may P R.root R.verb) (ap is_open_aim b.is ∙ open) in
+    let shared = and_parts (has_root P R.root) (may P R.root R.verb) (ap is_open_aim b.is ∙ opened) in
     let shown = and_parts (reach P path) (may_at P R.root path R.verb && matches R.spec path) (ap (λ (a : Aim). shows a path) b.is ∙ f.tells.1) in
     let forbidden = and_parts (may_at P R.root path R.verb) (matches R.spec path) shown.1 in
     let breach : safe.Breach P (forbidden_by R) = (path, shared.0, shown.0, forbidden.0, forbidden.1) in

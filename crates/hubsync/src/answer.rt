@@ -52,9 +52,7 @@ fn report_on_contents<'a>(alloc: Global, asked: Asked<'a>, contents: Contents) -
 {
     match asked {
         Asked::About(question) => report_on_set(alloc, question, contents),
-        Asked::Reach { profile, path } => {
-            report_on_reach(alloc, contents.profiles.as_slice(), profile, path)
-        }
+        Asked::Reach { profile, path } => report_on_reach(alloc, &contents, profile, path),
     }
 }
 

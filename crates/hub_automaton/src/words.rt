@@ -224,9 +224,14 @@ fn spread(stars: u64, seeds: u64) -> u64
 
 /// The positions of a word with one more character. `here` is the position before the word, without the character, and
 /// `before` is that position with it, as the lowest bit.
+///
+/// Most words have no position. They are answered first, so that a processor needn't wait for the word before.
 fn moved_word(masks: Masks, stays: bool, spots: u64, here: u64, before: u64) -> u64
     ensures { result ≡ words.moved_word stays masks spots here before }
 {
+    if spots == 0 && here == 0 && before == 0 && masks.entries == 0 {
+        return 0;
+    }
     let stayed = if stays { masks.stars & spots } else { 0 };
     let taken = masks.takers & (spots << 1 | here);
     let seeds = masks.entries | (stayed | (taken | masks.stars & before));

@@ -9,6 +9,7 @@ pub mod Masked
 pub mod Mentioned
 pub mod Paths
 pub mod Progresses
+pub mod RowMoves
 pub mod SetBits
 pub mod Spotted
 pub mod Steps

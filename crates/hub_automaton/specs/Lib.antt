@@ -3,6 +3,7 @@ pub mod Alike
 pub mod Alphabet
 pub mod Examples
 pub mod Masks
+pub mod Rows
 pub mod Spots
 pub mod Stepping
 pub mod Words

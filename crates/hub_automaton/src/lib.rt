@@ -10,8 +10,8 @@
 //! - [`SpecSetBuilder`] collects the specifications of a set, and paths that stand for themselves and all paths below.
 //!
 //! The contracts use the words of `specs/Alphabet` (classes) and `specs/Spots` (the state after a text). `specs/Stepping`
-//! defines a step position by position, and `specs/Masks` and `specs/Words` for 64 positions at once. `specs/Alike` says
-//! which classes are treated alike.
+//! defines a step position by position, `specs/Masks` and `specs/Words` for 64 positions at once, and `specs/Rows` for many
+//! words at once. `specs/Alike` says which classes are treated alike.
 #![tactic(auto)]
 
 mod alike;
@@ -23,6 +23,7 @@ mod fault;
 pub mod laws;
 mod masks;
 mod mentions;
+mod rows;
 mod spec_set;
 mod step;
 mod words;

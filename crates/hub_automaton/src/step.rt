@@ -54,3 +54,15 @@ pub(crate) fn find_end(choices: &[Items<Piece>], live: &[u64], place: usize) -> 
     }
     ChoicesEnd { matched, behind }
 }
+
+/// The place after the positions of choices that begin at that place.
+pub(crate) fn place_behind(choices: &[Items<Piece>], place: usize) -> usize
+    requires { place + spot_count choices.now ≤ SPOTS }
+    ensures { result ≡ place + spot_count choices.now }
+{
+    let mut behind = place;
+    for choice in choices {
+        behind += choice.len() + 1;
+    }
+    behind
+}

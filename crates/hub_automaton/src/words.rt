@@ -1,15 +1,16 @@
 //! Bits in words, and how positions move word by word when a text gets one more character.
-ghost use Rattle.std.specs.Prelude.{◌≡◌, ◌≤◌, ◌++◌, length, take, drop, IfOk, OnOk, IsOk};
+ghost use Rattle.std.specs.Prelude.{◌≡◌, ◌≤◌, ◌++◌, [], length, take, drop, if◌then◌else◌, IfOk, OnOk, IsOk};
 ghost use Rattle.hub_automaton.specs.Words as words;
 ghost use Rattle.hub_automaton.specs.Masks.{moved_row};
 
+use crate::rows::move_row;
 use std::alloc::{AllocError, Global};
 use std::cmp::Ordering;
 use std::hash::{Hash, Hasher};
 use std::marker::Model;
 
 /// How many bits a word has.
-const WORD_BITS: usize = 64;
+pub(crate) const WORD_BITS: usize = 64;
 
 /// Masks of the positions of a word: which become active, which come after stars, and which come after pieces that accept
 /// the character and aren't stars.
@@ -85,26 +86,26 @@ impl Words {
         }
     }
 
-    /// Moves the positions in the first words on by a character, by masks in as many words as that of stars.
+    /// Makes the words those of the row `old` with the first words moved on by a character, as many as the masks have.
     ///
-    /// `stays` says whether a `*` accepts the character; past the end of another mask nothing is set.
-    pub(crate) fn move_on(&mut self, stays: bool, entries: &[u64], stars: &[u64], takers: &[u64])
-        ensures { self.new ≡ moved_row stays entries.now stars.now takers.now self.old }
+    /// `stays` says whether a `*` accepts the character, and `enters` whether positions are entered.
+    pub(crate) fn move_from(
+        &mut self,
+        old: &Words,
+        stays: bool,
+        enters: bool,
+        entries: &[u64],
+        stars: &[u64],
+        takers: &[u64],
+    )
+        requires row { length self.old ≡ length old.now }
+        requires entries { length entries.now ≡ length stars.now }
+        requires takers { length takers.now ≡ length stars.now }
+        ensures { self.new ≡ moved_row stays (if enters then entries.now else [])
+            stars.now takers.now old.now }
     {
-        let mut here = 0;
-        let mut before = 0;
-        for i in 0..stars.len().min(self.words.len()) {
-            let masks = Masks {
-                entries: entries.get(i).copied().unwrap_or(0),
-                stars: stars.get(i).copied().unwrap_or(0),
-                takers: takers.get(i).copied().unwrap_or(0),
-            };
-            let word = self.words[i];
-            let new = moved_word(masks, stays, word, here, before);
-            here = word >> (WORD_BITS - 1);
-            before = new >> (WORD_BITS - 1);
-            self.words[i] = new;
-        }
+        let new = self.words.as_mut_slice();
+        move_row(new, old.as_slice(), stays, enters, entries, stars, takers);
     }
 }
 
@@ -224,14 +225,9 @@ fn spread(stars: u64, seeds: u64) -> u64
 
 /// The positions of a word with one more character. `here` is the position before the word, without the character, and
 /// `before` is that position with it, as the lowest bit.
-///
-/// Most words have no position. They are answered first, so that a processor needn't wait for the word before.
-fn moved_word(masks: Masks, stays: bool, spots: u64, here: u64, before: u64) -> u64
+pub(crate) fn moved_word(masks: Masks, stays: bool, spots: u64, here: u64, before: u64) -> u64
     ensures { result ≡ words.moved_word stays masks spots here before }
 {
-    if spots == 0 && here == 0 && before == 0 && masks.entries == 0 {
-        return 0;
-    }
     let stayed = if stays { masks.stars & spots } else { 0 };
     let taken = masks.takers & (spots << 1 | here);
     let seeds = masks.entries | (stayed | (taken | masks.stars & before));

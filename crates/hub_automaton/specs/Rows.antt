@@ -1,0 +1,32 @@
+-- A row of words moved on by a character in two rounds: each word without the spot before it, and then those words again
+-- that the spot before them goes on into.
+use Rattle.std.specs.Prelude.{◌≡◌, ◌<◌, ℕ, zero, suc, ◌/◌, ◌^◌, Bool, List, slice_index_or}
+use lib.Bits.{bit_and}
+use Rattle.hub_automaton.specs.declared.words.Masks.{Masks}
+use Rattle.hub_automaton.specs.Words.{moved_word}
+
+-- The last spot of the word before a place; before the first word it is the given one.
+abbrev pub last_before : ℕ → List ℕ → ℕ → ℕ
+last_before first ws zero = first
+last_before first ws (suc i) = slice_index_or ws i 0 / 2 ^ 63
+
+abbrev pub masks_at : List ℕ → List ℕ → List ℕ → ℕ → Masks
+masks_at es ss ts i =
+    record { entries = slice_index_or es i 0; stars = slice_index_or ss i 0; takers = slice_index_or ts i 0 }
+
+-- A word of a row, from the words before the character and the spot before it.
+abbrev pub word_at : Bool → List ℕ → List ℕ → List ℕ → List ℕ → ℕ → ℕ → ℕ
+word_at stays es ss ts old i before =
+    moved_word stays (masks_at es ss ts i) (slice_index_or old i 0) (last_before 0 old i) before
+
+-- The words up to a place are moved on, each without the spot before it.
+abbrev pub AreApart : Bool → List ℕ → List ℕ → List ℕ → List ℕ → List ℕ → ℕ → Type 0
+AreApart stays es ss ts old ws n = (i : ℕ) → i < n → slice_index_or ws i 0 ≡ word_at stays es ss ts old i 0
+
+-- The words up to a place are moved on.
+abbrev pub AreMoved : Bool → List ℕ → List ℕ → List ℕ → List ℕ → List ℕ → ℕ → Type 0
+AreMoved stays es ss ts old ws n = (i : ℕ) → i < n → slice_index_or ws i 0 ≡ word_at stays es ss ts old i (last_before 0 ws i)
+
+-- Up to a place no spot goes on into the word behind it.
+abbrev pub NoneCarried : List ℕ → List ℕ → ℕ → Type 0
+NoneCarried ss ws n = (i : ℕ) → i < n → bit_and (slice_index_or ss i 0) (last_before 0 ws i) ≡ 0

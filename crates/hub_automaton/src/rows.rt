@@ -1,0 +1,121 @@
+//! Rows of words moved on by a character: first each word without the position before it, so that a processor moves several
+//! at once, and then those words again that the position before them goes on into.
+ghost use Rattle.std.specs.Prelude.{◌≡◌, ◌<◌, ◌≤◌, [], length, drop, min, if◌then◌else◌};
+ghost use Rattle.hub_automaton.specs.Masks.{moved_row};
+ghost use Rattle.hub_automaton.specs.Rows as rows;
+ghost use Rattle.hub_automaton.specs.Rows.{AreApart, AreMoved, NoneCarried};
+
+use crate::words::{Masks, WORD_BITS, moved_word};
+
+/// Makes `new` the row `old` with its first words moved on by a character, as many as the masks have.
+///
+/// `stays` says whether a `*` accepts the character, and `enters` whether positions are entered.
+pub(crate) fn move_row(
+    new: &mut [u64],
+    old: &[u64],
+    stays: bool,
+    enters: bool,
+    entries: &[u64],
+    stars: &[u64],
+    takers: &[u64],
+)
+    requires row { length new.old ≡ length old.now }
+    requires entries { length entries.now ≡ length stars.now }
+    requires takers { length takers.now ≡ length stars.now }
+    ensures { new.new ≡ moved_row stays (if enters then entries.now else [])
+        stars.now takers.now old.now }
+{
+    copy_behind(new, old, stars.len().min(old.len()));
+    if move_apart(new, old, stays, enters, entries, stars, takers) != 0 {
+        carry_on(new, old, stays, enters, entries, stars, takers);
+    }
+}
+
+/// Copies the words from a place on.
+fn copy_behind(new: &mut [u64], old: &[u64], place: usize)
+    requires row { length new.old ≡ length old.now }
+    requires place { place ≤ length old.now }
+    ensures { drop place new.new ≡ drop place old.now }
+{
+    for i in place..old.len() {
+        new[i] = old[i];
+    }
+}
+
+/// Moves each word without the position before it. The result is 0 if no position goes on into the word behind it.
+fn move_apart(
+    new: &mut [u64],
+    old: &[u64],
+    stays: bool,
+    enters: bool,
+    entries: &[u64],
+    stars: &[u64],
+    takers: &[u64],
+) -> u64
+    requires row { length new.old ≡ length old.now }
+    requires entries { length entries.now ≡ length stars.now }
+    requires takers { length takers.now ≡ length stars.now }
+    ensures apart { AreApart stays (if enters then entries.now else []) stars.now takers.now
+        old.now new.new (min (length stars.now) (length old.now)) }
+    ensures behind { let n = min (length stars.now) (length old.now)
+        in drop n new.new ≡ drop n new.old }
+    ensures none { result ≡ 0
+        → NoneCarried stars.now new.new (min (length stars.now) (length old.now)) }
+{
+    let mut here = 0;
+    let mut before = 0;
+    let mut carried = 0;
+    for i in 0..stars.len().min(old.len()) {
+        let masks = masks_at(i, enters, entries, stars, takers);
+        let word = moved_word(masks, stays, old[i], here, 0);
+        carried |= masks.stars & before;
+        here = old[i] >> (WORD_BITS - 1);
+        before = word >> (WORD_BITS - 1);
+        new[i] = word;
+    }
+    carried
+}
+
+/// Moves those words again that the position before them goes on into.
+fn carry_on(
+    new: &mut [u64],
+    old: &[u64],
+    stays: bool,
+    enters: bool,
+    entries: &[u64],
+    stars: &[u64],
+    takers: &[u64],
+)
+    requires row { length new.old ≡ length old.now }
+    requires entries { length entries.now ≡ length stars.now }
+    requires takers { length takers.now ≡ length stars.now }
+    requires apart { AreApart stays (if enters then entries.now else []) stars.now takers.now
+        old.now new.old (min (length stars.now) (length old.now)) }
+    ensures moved { AreMoved stays (if enters then entries.now else []) stars.now takers.now
+        old.now new.new (min (length stars.now) (length old.now)) }
+    ensures behind { let n = min (length stars.now) (length old.now)
+        in drop n new.new ≡ drop n new.old }
+{
+    for i in 1..stars.len().min(old.len()) {
+        let before = new[i - 1] >> (WORD_BITS - 1);
+        if stars[i] & before != 0 {
+            let masks = masks_at(i, enters, entries, stars, takers);
+            let here = old[i - 1] >> (WORD_BITS - 1);
+            new[i] = moved_word(masks, stays, old[i], here, before);
+        }
+    }
+}
+
+/// The masks of a word.
+fn masks_at(i: usize, enters: bool, entries: &[u64], stars: &[u64], takers: &[u64]) -> Masks
+    requires place { i < length stars.now }
+    requires entries { length entries.now ≡ length stars.now }
+    requires takers { length takers.now ≡ length stars.now }
+    ensures { result ≡ rows.masks_at (if enters then entries.now else []) stars.now takers.now i }
+{
+    Masks {
+        entries: if enters { entries[i] } else { 0 },
+        stars: stars[i],
+        takers: takers[i],
+    }
+}

@@ -1,0 +1,96 @@
+-- When profiles and rules make no set.
+use Rattle.std.specs.Prelude.{◌≡◌, ◌⊎◌, ◌<◌, ◌≤◌, ℕ, Bool, true, not, ◌&&◌, ◌||◌, List, length, slice_get, Some}
+use Rattle.hub_path.specs.Path.{Name, Path, path_eq, is_over}
+use Rattle.hub_automaton.specs.declared.alphabet.TheConstants.{MENTIONED_CHARACTERS}
+use Rattle.hub_automaton.specs.declared.alternatives.TheConstants.{SPOTS}
+use Rattle.hub_automaton.specs.declared.fault.AutomatonFault.{AutomatonFault}
+use Rattle.hub_automaton.specs.declared.fault.AutomatonFault.TheVariants as automaton
+use Rattle.hub_profile.specs.Parts.{Parts}
+use Rattle.hub_reach.specs.Stage.{spots_of}
+use Rattle.hub_cert.specs.Set.{Members, AreApart, HaveNames, alphabet_of, roots_in, rule_spots}
+use Rattle.hub_profile.specs.declared.rule.Rule.{Rule}
+use Rattle.hub_cert.specs.declared.fault.CheckFault.{CheckFault}
+use Rattle.hub_cert.specs.declared.fault.CheckFault.TheVariants as fault
+use Rattle.hub_cert.specs.declared.set.TheConstants.{PROFILES}
+
+-- Two profiles, by their numbers, that have the same name.
+pub record HaveSameName (Ps : List Parts) (i j : ℕ) : Type 0 where
+  pub first : Parts
+  pub second : Parts
+  pub at_first : slice_get Ps i ≡ Some first
+  pub at_second : slice_get Ps j ≡ Some second
+  pub same : first.name ≡ second.name
+
+-- The name of the first profile that has the name of an earlier one.
+pub record IsFirstRepeated (Ps : List Parts) (name : Name) : Type 0 where
+  pub earlier : ℕ
+  pub later : ℕ
+  pub before : earlier < later
+  pub repeated : HaveSameName Ps earlier later
+  pub shown : name ≡ repeated.second.name
+  pub none_before : (i j : ℕ) → i < j → j < later → HaveSameName Ps i j → ⊥
+
+-- Two different roots, one of which lies within the other.
+abbrev pub is_nested : Path → Path → Bool
+is_nested r s = not (path_eq r s) && (is_over r s || is_over s r)
+
+-- Two roots, by their numbers, that are nested.
+pub record AreNested (rs : List Path) (i j : ℕ) : Type 0 where
+  pub first : Path
+  pub second : Path
+  pub at_first : slice_get rs i ≡ Some first
+  pub at_second : slice_get rs j ≡ Some second
+  pub nested : is_nested first second ≡ true
+
+-- The first pair of nested roots, by its earlier root and then by its later one.
+pub record AreFirstNested (rs : List Path) (i j : ℕ) : Type 0 where
+  pub before : i < j
+  pub nested : AreNested rs i j
+  pub none_before : (m n : ℕ) → m < n → (m < i) ⊎ ((m ≡ i) × (n < j)) → AreNested rs m n → ⊥
+
+pub record AreShownNested (rs : List Path) (r s : Path) : Type 0 where
+  pub earlier : ℕ
+  pub later : ℕ
+  pub are : AreFirstNested rs earlier later
+  pub first : r ≡ are.nested.first
+  pub second : s ≡ are.nested.second
+
+-- A profile or a rule with too many spots.
+abbrev pub HasManySpots : Members → Type 0
+HasManySpots S =
+    ((i : ℕ) × (P : Parts) × (slice_get S.profiles i ≡ Some P) × (SPOTS < spots_of P))
+    ⊎ ((k : ℕ) × (R : Rule) × (slice_get S.rules k ≡ Some R) × (SPOTS < rule_spots R))
+
+-- The mentioned characters are too many, or else the spots are.
+abbrev pub IsTooMuch : Members → AutomatonFault → Type 0
+IsTooMuch S automaton.TooManyCharacters = MENTIONED_CHARACTERS < length (alphabet_of S)
+IsTooMuch S automaton.TooManySpots = (length (alphabet_of S) ≤ MENTIONED_CHARACTERS) × HasManySpots S
+IsTooMuch S automaton.OutOfMemory = Unit {0}
+
+abbrev pub fault_of : AutomatonFault → CheckFault
+fault_of automaton.TooManyCharacters = fault.AlphabetFault automaton.TooManyCharacters
+fault_of automaton.TooManySpots = fault.AlphabetFault automaton.TooManySpots
+fault_of automaton.OutOfMemory = fault.OutOfMemory
+
+-- What is tested before roots are, and before characters and spots are.
+abbrev pub FewNamed : Members → Type 0
+FewNamed S = (length S.profiles ≤ PROFILES) × HaveNames S
+
+-- Each fault comes when all that is tested before it holds.
+abbrev pub IsRefused : Members → CheckFault → Type 0
+IsRefused S fault.TooManyProfiles = PROFILES < length S.profiles
+IsRefused S (fault.SameName name) = (length S.profiles ≤ PROFILES) × IsFirstRepeated S.profiles name
+IsRefused S (fault.NestedRoots r s) = FewNamed S × AreShownNested (roots_in S) r s
+IsRefused S (fault.Overlap w o place held path) = ⊥
+IsRefused S (fault.Breach p r path) = ⊥
+IsRefused S (fault.TooLarge g) = ⊥
+IsRefused S (fault.Missing g) = ⊥
+IsRefused S (fault.NoStart g) = ⊥
+IsRefused S (fault.NotClosed g k class) = ⊥
+IsRefused S (fault.Accepting g k) = ⊥
+IsRefused S (fault.Stray i) = ⊥
+IsRefused S (fault.BadText line) = ⊥
+IsRefused S (fault.AlphabetFault automaton.TooManyCharacters) = FewNamed S × AreApart S × (MENTIONED_CHARACTERS < length (alphabet_of S))
+IsRefused S (fault.AlphabetFault automaton.TooManySpots) = FewNamed S × AreApart S × (length (alphabet_of S) ≤ MENTIONED_CHARACTERS) × HasManySpots S
+IsRefused S (fault.AlphabetFault automaton.OutOfMemory) = ⊥
+IsRefused S fault.OutOfMemory = Unit {0}

@@ -1,0 +1,74 @@
+-- A set of profiles and rules, as contracts see it.
+use Rattle.std.specs.Prelude.{◌≡◌, ◌≢◌, ◌≤◌, ℕ, List, [], ◌∷◌, ◌++◌, map, length, slice_get, Some, IsTrue}
+use Rattle.std.specs.List.{flat_map}
+use Rattle.hub_path.specs.Path.{Path, is_over}
+use Rattle.hub_glob.specs.Glob.{matches}
+use Rattle.hub_automaton.specs.Alphabet.{IsAlphabet, mentions, plain, with_characters, spec_characters}
+use Rattle.hub_automaton.specs.Spots.{alternatives_of, spots_count}
+use Rattle.hub_automaton.specs.declared.alternatives.TheConstants.{SPOTS}
+use Rattle.hub_profile.specs.Parts.{Parts, IsProfile}
+use Rattle.hub_reach.specs.Mention.{Mentions, mentioned_by}
+use Rattle.hub_reach.specs.Stage.{spots_of}
+use Rattle.hub_reach.specs.Safe as safe
+use Rattle.hub_profile.specs.declared.rule.Rule.{Rule}
+use Rattle.hub_profile.specs.declared.rules.TheConstants.{RULES}
+use Rattle.hub_cert.specs.declared.set.TheConstants.{PROFILES}
+
+pub record Members : Type 0 where
+  pub profiles : List Parts
+  pub rules : List Rule
+
+-- What a rule forbids.
+abbrev pub forbidden_by : Rule → safe.Rule
+forbidden_by R = record { root = R.root; verb = R.verb; matches = matches R.spec }
+
+-- The set is safe.
+abbrev pub IsSafeSet : Members → Type 0
+IsSafeSet S = safe.IsSafe S.profiles (map forbidden_by S.rules)
+
+-- All characters that the profiles and then the rules mention, and the alphabet of them.
+abbrev pub mentioned_in : Members → List ℕ
+mentioned_in S = flat_map mentioned_by S.profiles ++ flat_map (λ R. spec_characters R.spec) S.rules
+
+abbrev pub alphabet_of : Members → List ℕ
+alphabet_of S = with_characters plain (mentioned_in S)
+
+-- All profiles are valid.
+abbrev pub AreProfiles : Members → Type 0
+AreProfiles S = (i : ℕ) (P : Parts) → slice_get S.profiles i ≡ Some P → IsProfile P
+
+-- The roots of profiles, and then of rules; no two different ones are nested.
+abbrev pub roots_in : Members → List Path
+roots_in S = safe.all_roots S.profiles (map forbidden_by S.rules)
+
+abbrev pub AreApart : Members → Type 0
+AreApart S = (i j : ℕ) (r s : Path) → slice_get (roots_in S) i ≡ Some r → slice_get (roots_in S) j ≡ Some s → IsTrue (is_over r s) → r ≡ s
+
+-- No two profiles have one name.
+abbrev pub HaveNames : Members → Type 0
+HaveNames S = (i j : ℕ) (P Q : Parts) → slice_get S.profiles i ≡ Some P → slice_get S.profiles j ≡ Some Q → i ≢ j → P.name ≢ Q.name
+
+-- An alphabet mentions all that they mention.
+pub record Mentioned (S : Members) (ms : List ℕ) : Type 0 where
+  pub alphabet : IsAlphabet ms
+  pub profiles : (i : ℕ) (P : Parts) → slice_get S.profiles i ≡ Some P → Mentions ms P
+  pub rules : (k : ℕ) (R : Rule) → slice_get S.rules k ≡ Some R → IsTrue (mentions ms (spec_characters R.spec))
+
+-- The spots of a rule.
+abbrev pub rule_spots : Rule → ℕ
+rule_spots R = spots_count (alternatives_of R.spec ∷ [])
+
+pub record HasFewSpots (S : Members) : Type 0 where
+  pub profiles : (i : ℕ) (P : Parts) → slice_get S.profiles i ≡ Some P → spots_of P ≤ SPOTS
+  pub rules : (k : ℕ) (R : Rule) → slice_get S.rules k ≡ Some R → rule_spots R ≤ SPOTS
+
+-- What holds of each set, and of its alphabet.
+pub record IsSet (S : Members) (ms : List ℕ) : Type 0 where
+  pub few : length S.profiles ≤ PROFILES
+  pub few_rules : length S.rules ≤ RULES
+  pub names : HaveNames S
+  pub apart : AreApart S
+  pub profiles : AreProfiles S
+  pub alphabet : ms ≡ alphabet_of S
+  pub mentioned : Mentioned S ms
+  pub spots : HasFewSpots S

@@ -1,0 +1,95 @@
+//! Why a set isn't made, isn't safe, or isn't verified.
+ghost use Rattle.std.specs.Prelude.{◌≡◌};
+
+use crate::goal::{Goal, Place};
+use hub_automaton::AutomatonFault;
+use hub_path::{Name, RelPath, Root};
+use std::alloc::{AllocError, AllocFailed};
+
+/// Why a set isn't made, isn't safe, or isn't shown to be safe by some certificates. Stages and certificates are numbered from
+/// 0 on, lines from 1 on.
+#[derive(Debug, Drop)]
+pub enum CheckFault {
+    /// More than `PROFILES` profiles.
+    TooManyProfiles,
+    /// Two profiles have this name.
+    SameName {
+        name: Name,
+    },
+    /// One of these different roots lies within the other.
+    NestedRoots {
+        first: Root,
+        second: Root,
+    },
+    /// The writer writes `held`, and the other profile reaches `path`, which is `held` or lies below it.
+    Overlap {
+        writer: usize,
+        other: usize,
+        place: Place,
+        held: RelPath,
+        path: RelPath,
+    },
+    /// The profile may do at the path what the rule forbids.
+    Breach {
+        profile: usize,
+        rule: usize,
+        path: RelPath,
+    },
+    /// The goal has too many stages to be searched.
+    TooLarge {
+        goal: Goal,
+    },
+    /// The goal has no certificate.
+    Missing {
+        goal: Goal,
+    },
+    /// No text of the goal's certificate has the stage of the empty text.
+    NoStart {
+        goal: Goal,
+    },
+    /// The stage of that number goes by that class to one that the goal's certificate doesn't have.
+    NotClosed {
+        goal: Goal,
+        stage: usize,
+        class: usize,
+    },
+    /// The text of that number in the goal's certificate accepts the goal.
+    Accepting {
+        goal: Goal,
+        stage: usize,
+    },
+    /// The certificate's goal isn't one of the set, or an earlier certificate has it.
+    Stray {
+        certificate: usize,
+    },
+    /// That line of a text of certificates is faulty.
+    BadText {
+        line: usize,
+    },
+    /// Too many characters are mentioned, or a profile or a rule has too many spots.
+    AlphabetFault(AutomatonFault),
+    /// An allocation failed.
+    OutOfMemory,
+}
+
+impl From<AllocError> for CheckFault {
+    ghost use Rattle.hub_cert.specs.declared.fault.CheckFault.TheVariants.{OutOfMemory};
+    ghost use Rattle.std.specs.Prelude.{◌≡◌};
+
+    ghost from_gives = { λ _ e. e ≡ OutOfMemory };
+
+    fn from(_: AllocError) -> Self {
+        CheckFault::OutOfMemory
+    }
+}
+
+impl<T: Drop> From<AllocFailed<T>> for CheckFault {
+    ghost use Rattle.hub_cert.specs.declared.fault.CheckFault.TheVariants.{OutOfMemory};
+    ghost use Rattle.std.specs.Prelude.{◌≡◌};
+
+    ghost from_gives = { λ _ e. e ≡ OutOfMemory };
+
+    fn from(_: AllocFailed<T>) -> Self {
+        CheckFault::OutOfMemory
+    }
+}

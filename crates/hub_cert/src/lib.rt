@@ -1,0 +1,45 @@
+//! Sets of profiles and rules, what has to be ruled out for them to be safe, and certificates that rule it out.
+//!
+//! - [`ProfileSet`]: profiles and rules that may be checked together.
+//! - [`Goal`]: one thing that a safe set rules out: that a profile writes over what another one reaches, or that a profile
+//!   does what a rule forbids. `ProfileSet::goals` lists the goals of a set.
+//! - [`Certificate`]: a goal and a list of texts. It rules the goal out if the list is inductive.
+//! - [`verify`]: checks certificates, and returns the set as a [`Verified`], whose type says that the set is safe.
+//! - [`read_certificates`] and [`write_certificates`]: the text of certificates, which docs/CERTIFICATES.md describes.
+//! - [`Product`]: the automaton of a goal, whose state is a [`GoalStage`].
+//! - [`laws`]: what the crates above may conclude.
+//!
+//! The contracts use the words of `specs/Set`, `specs/Goals`, `specs/Aim` (what a goal asks, and its stages),
+//! `specs/Inductive`, `specs/Verdict` (what `verify` answers) and `specs/Reading`.
+//!
+//! Only functions that return a `Result` allocate.
+#![tactic(auto)]
+
+mod certificate;
+mod draft;
+mod fault;
+mod goal;
+pub mod laws;
+mod product;
+mod reading;
+mod refusals;
+mod row;
+mod set;
+mod stage;
+mod stages;
+mod texts;
+mod verified;
+mod writing;
+
+pub use certificate::{Certificate, StageText};
+pub use fault::CheckFault;
+pub use goal::{Goal, Place};
+pub use product::Product;
+pub use reading::read_certificates;
+pub use set::{PROFILES, ProfileSet};
+pub use stage::GoalStage;
+pub use verified::{Verified, verify};
+pub use writing::write_certificates;
+
+#[cfg(test)]
+mod tests;

@@ -1,0 +1,270 @@
+//! Why profiles and rules make no set.
+ghost use Rattle.std.specs.Prelude.{◌≡◌, ◌⊎◌, ◌<◌, ◌≤◌, ◌++◌, ℕ, true, map, length, slice_get, Some, IfOk, IfErr, IfSome, OnOk, MatchOption, IsTrue};
+ghost use Rattle.std.specs.List.{flat_map, list_all};
+ghost use Rattle.hub_path.specs.Path.{Name, Path};
+ghost use Rattle.hub_automaton.specs.Alphabet.{mentions, plain, spec_characters, with_characters, Refuses};
+ghost use Rattle.hub_automaton.specs.declared.alphabet.TheConstants.{MENTIONED_CHARACTERS};
+ghost use Rattle.hub_automaton.specs.declared.alternatives.TheConstants.{SPOTS};
+ghost use Rattle.hub_automaton.specs.declared.fault.AutomatonFault.TheVariants.{TooManyCharacters, TooManySpots};
+ghost use Rattle.hub_profile.specs.Parts.{Parts, IsProfile};
+ghost use Rattle.hub_profile.specs.declared.rules.TheConstants.{RULES};
+ghost use Rattle.hub_reach.specs.Mention.{Mentions, mentioned_by};
+ghost use Rattle.hub_reach.specs.Stage.{spots_of};
+ghost use Rattle.hub_cert.specs.Set as of_set;
+ghost use Rattle.hub_cert.specs.Refused as refused;
+ghost use Rattle.hub_profile.specs.declared.rule.Rule.{Rule};
+
+use crate::fault::CheckFault;
+use crate::set::PROFILES;
+use hub_automaton::laws::what_is_added_is_mentioned;
+use hub_automaton::{Alphabet, AutomatonFault, SpecSet};
+use hub_path::Root;
+use hub_profile::{Profile, Rule};
+use hub_reach::{Walker, mention};
+use std::alloc::{AllocError, Global};
+use std::slice::from_ref;
+
+/// Returns the alphabet of the set of these profiles and rules, or why they make none.
+pub(crate) fn alphabet_for(
+    alloc: Global,
+    profiles: &[Profile],
+    rules: &[Rule],
+) -> Result<Alphabet, CheckFault>
+    requires { length rules.now ≤ RULES }
+    ensures ok { (S : of_set.Members) → S.profiles ≡ profiles.now → S.rules ≡ rules.now
+        → IfOk result (λ a. of_set.IsSet S a) }
+    ensures err { (S : of_set.Members) → S.profiles ≡ profiles.now → S.rules ≡ rules.now
+        → IfErr result (refused.IsRefused S) }
+{
+    if profiles.len() > PROFILES {
+        return Err(CheckFault::TooManyProfiles);
+    }
+    if let Some((_, later)) = repeated_name(profiles) {
+        return Err(CheckFault::SameName {
+            name: profiles[later].name().copy()?,
+        });
+    }
+    let roots = roots_of(alloc, profiles, rules)?;
+    let all = roots.as_slice();
+    if let Some((first, second)) = nested_roots(all) {
+        return Err(CheckFault::NestedRoots {
+            first: all[first].copy()?,
+            second: all[second].copy()?,
+        });
+    }
+    match alphabet_within_limits(alloc, profiles, rules) {
+        Ok(alphabet) => Ok(alphabet),
+        Err(fault) => Err(fault_of(fault)),
+    }
+}
+
+/// Returns the fault of a set whose alphabet or spots are too many.
+fn fault_of(fault: AutomatonFault) -> CheckFault
+    ensures { result ≡ refused.fault_of fault }
+{
+    match fault {
+        AutomatonFault::TooManyCharacters => {
+            CheckFault::AlphabetFault(AutomatonFault::TooManyCharacters)
+        }
+        AutomatonFault::TooManySpots => CheckFault::AlphabetFault(AutomatonFault::TooManySpots),
+        AutomatonFault::OutOfMemory => CheckFault::OutOfMemory,
+    }
+}
+
+/// Returns the alphabet of all characters that the profiles and the rules mention, if no one has too many spots.
+fn alphabet_within_limits(
+    alloc: Global,
+    profiles: &[Profile],
+    rules: &[Rule],
+) -> Result<Alphabet, AutomatonFault>
+    ensures value { (S : of_set.Members) → S.profiles ≡ profiles.now → S.rules ≡ rules.now
+        → IfOk result (λ a. a ≡ of_set.alphabet_of S) }
+    ensures mentioned { (S : of_set.Members) → S.profiles ≡ profiles.now → S.rules ≡ rules.now
+        → IfOk result (λ a. of_set.Mentioned S a) }
+    ensures few { (S : of_set.Members) → S.profiles ≡ profiles.now → S.rules ≡ rules.now
+        → OnOk result (of_set.HasFewSpots S) }
+    ensures err { (S : of_set.Members) → S.profiles ≡ profiles.now → S.rules ≡ rules.now
+        → IfErr result (refused.IsTooMuch S) }
+{
+    let alphabet = alphabet_with(alloc, profiles, rules)?;
+    count_profile_spots(alloc, &alphabet, profiles)?;
+    count_rule_spots(alloc, &alphabet, rules)?;
+    Ok(alphabet)
+}
+
+/// Returns the first profile that has the name of an earlier one: the earlier one's number, then its own.
+pub(crate) fn repeated_name(profiles: &[Profile]) -> Option<(usize, usize)>
+    ensures { MatchOption result ((i j : ℕ) → i < j → refused.HaveSameName profiles.now i j
+        → ⊥) (λ pair. (pair.0 < pair.1) × refused.HaveSameName profiles.now pair.0 pair.1
+        × ((i j : ℕ) → i < j → j < pair.1 → refused.HaveSameName profiles.now i j → ⊥)) }
+{
+    for later in 0..profiles.len() {
+        if let Some(earlier) = namesake_before(profiles, later) {
+            return Some((earlier, later));
+        }
+    }
+    None
+}
+
+/// Returns the first profile before that one that has its name.
+fn namesake_before(profiles: &[Profile], later: usize) -> Option<usize>
+    requires { later < length profiles.now }
+    ensures { MatchOption result ((i : ℕ) → i < later → refused.HaveSameName profiles.now i later
+        → ⊥) (λ i. (i < later) × refused.HaveSameName profiles.now i later) }
+{
+    for earlier in 0..later {
+        if profiles[earlier].name() == profiles[later].name() {
+            return Some(earlier);
+        }
+    }
+    None
+}
+
+/// Returns the first pair of nested roots.
+pub(crate) fn nested_roots(roots: &[Root]) -> Option<(usize, usize)>
+    ensures { MatchOption result ((m n : ℕ) → m < n → refused.AreNested roots.now m n
+        → ⊥) (λ pair. refused.AreFirstNested roots.now pair.0 pair.1) }
+{
+    for first in 0..roots.len() {
+        if let Some(second) = nested_root_after(roots, first) {
+            return Some((first, second));
+        }
+    }
+    None
+}
+
+/// Returns the first root after that one such that one of the two lies within the other.
+fn nested_root_after(roots: &[Root], first: usize) -> Option<usize>
+    requires { first < length roots.now }
+    ensures { MatchOption result ((n : ℕ) → first < n → refused.AreNested roots.now first n
+        → ⊥) (λ j. (first < j) × refused.AreNested roots.now first j
+        × ((n : ℕ) → first < n → n < j → refused.AreNested roots.now first n → ⊥)) }
+{
+    for second in first + 1..roots.len() {
+        if is_nested(&roots[first], &roots[second]) {
+            return Some(second);
+        }
+    }
+    None
+}
+
+fn is_nested(root: &Root, other: &Root) -> bool
+    ensures { result ≡ refused.is_nested root.now other.now }
+{
+    root != other && (other.is_within(root) || root.is_within(other))
+}
+
+/// Returns the roots of the profiles, and then those of the rules.
+pub(crate) fn roots_of(
+    alloc: Global,
+    profiles: &[Profile],
+    rules: &[Rule],
+) -> Result<Vec<Root>, AllocError>
+    ensures roots { (S : of_set.Members) → S.profiles ≡ profiles.now → S.rules ≡ rules.now
+        → IfOk result (λ v. v.items ≡ of_set.roots_in S) }
+    ensures valid { OnOk result ((i : ℕ) (P : Parts) → slice_get profiles.now i ≡ Some P
+        → IsProfile P) }
+{
+    let mut roots = Vec::new(alloc);
+    for profile in profiles {
+        push_roots(&mut roots, profile)?;
+    }
+    for rule in rules {
+        roots.push(rule.root.copy()?)?;
+    }
+    Ok(roots)
+}
+
+fn push_roots(roots: &mut Vec<Root>, profile: &Profile) -> Result<(), AllocError>
+    ensures roots { OnOk result (roots.new.items ≡ roots.old.items ++ profile.now.roots) }
+    ensures valid { IsProfile profile.now }
+{
+    for root in profile.roots() {
+        roots.push(root.copy()?)?;
+    }
+    Ok(())
+}
+
+/// Returns the alphabet of all characters that the profiles and the rules mention.
+pub(crate) fn alphabet_with(
+    alloc: Global,
+    profiles: &[Profile],
+    rules: &[Rule],
+) -> Result<Alphabet, AutomatonFault>
+    ensures value { (S : of_set.Members) → S.profiles ≡ profiles.now → S.rules ≡ rules.now
+        → IfOk result (λ a. a ≡ of_set.alphabet_of S) }
+    ensures mentioned { (S : of_set.Members) → S.profiles ≡ profiles.now → S.rules ≡ rules.now
+        → IfOk result (λ a. of_set.Mentioned S a) }
+    ensures err { (S : of_set.Members) → S.profiles ≡ profiles.now → S.rules ≡ rules.now
+        → IfErr result (Refuses plain (of_set.mentioned_in S)) }
+{
+    what_is_added_is_mentioned();
+    let mut alphabet = Alphabet::new(alloc)?;
+    mention_profiles(&mut alphabet, profiles)?;
+    mention_rules(&mut alphabet, rules)?;
+    // Its contract says that this is an alphabet.
+    let _ = alphabet.count();
+    Ok(alphabet)
+}
+
+fn mention_profiles(alphabet: &mut Alphabet, profiles: &[Profile]) -> Result<(), AutomatonFault>
+    ensures ok { OnOk result (alphabet.new
+        ≡ with_characters alphabet.old (flat_map mentioned_by profiles.now)) }
+    ensures err { IfErr result (Refuses alphabet.old (flat_map mentioned_by profiles.now)) }
+{
+    for profile in profiles {
+        mention(alphabet, profile)?;
+    }
+    Ok(())
+}
+
+fn mention_rules(alphabet: &mut Alphabet, rules: &[Rule]) -> Result<(), AutomatonFault>
+    ensures ok { OnOk result (alphabet.new
+        ≡ with_characters alphabet.old (flat_map (λ R. spec_characters R.spec) rules.now)) }
+    ensures err { IfErr result (Refuses alphabet.old (flat_map
+        (λ R. spec_characters R.spec) rules.now)) }
+{
+    for rule in rules {
+        alphabet.add_spec(&rule.spec)?;
+    }
+    Ok(())
+}
+
+/// Returns `TooManySpots` if a profile has too many spots for a walker.
+pub(crate) fn count_profile_spots(
+    alloc: Global,
+    alphabet: &Alphabet,
+    profiles: &[Profile],
+) -> Result<(), AutomatonFault>
+    requires { (i : ℕ) (P : Parts) → slice_get profiles.now i ≡ Some P → Mentions alphabet.now P }
+    ensures few { OnOk result ((i : ℕ) (P : Parts) → slice_get profiles.now i ≡ Some P
+        → spots_of P ≤ SPOTS) }
+    ensures err { IfErr result (λ e. (e ≡ AutomatonFault.OutOfMemory)
+        ⊎ ((e ≡ TooManySpots) × ((i : ℕ) × (P : Parts) × (slice_get profiles.now i ≡ Some P)
+        × (SPOTS < spots_of P)))) }
+{
+    for profile in profiles {
+        Walker::new(alloc, profile, alphabet)?;
+    }
+    Ok(())
+}
+
+/// Returns `TooManySpots` if a rule's specification has too many spots for a `SpecSet`.
+pub(crate) fn count_rule_spots(
+    alloc: Global,
+    alphabet: &Alphabet,
+    rules: &[Rule],
+) -> Result<(), AutomatonFault>
+    requires { (k : ℕ) (R : Rule) → slice_get rules.now k ≡ Some R
+        → IsTrue (mentions alphabet.now (spec_characters R.spec)) }
+    ensures few { OnOk result ((k : ℕ) (R : Rule) → slice_get rules.now k ≡ Some R
+        → of_set.rule_spots R ≤ SPOTS) }
+    ensures err { IfErr result (λ e. (e ≡ AutomatonFault.OutOfMemory)
+        ⊎ ((e ≡ TooManySpots) × ((k : ℕ) × (R : Rule) × (slice_get rules.now k ≡ Some R)
+        × (SPOTS < of_set.rule_spots R)))) }
+{
+    for rule in rules {
+        SpecSet::build(alloc, alphabet, from_ref(&rule.spec))?;
+    }
+    Ok(())
+}

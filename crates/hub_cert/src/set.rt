@@ -1,0 +1,269 @@
+//! Profiles and rules that are checked together, and their goals.
+ghost use Rattle.std.specs.Prelude.{◌≡◌, ◌⊎◌, ◌↔◌, ◌<◌, ◌≤◌, ◌++◌, ◌∷◌, [], ◌&&◌, map, filter, IsTrue, Contains, IfOk, IfErr, OnOk, length, Some};
+ghost use Rattle.std.specs.List.{flat_map};
+ghost use Rattle.hub_cert.specs.Aim.{shares};
+ghost use Rattle.hub_reach.specs.Reach.{has_root, writes};
+ghost use Rattle.hub_cert.specs.declared.goal.Goal.TheVariants.{Clash, Breach};
+ghost use Rattle.hub_cert.specs.Set as of_set;
+ghost use Rattle.hub_cert.specs.Goals as of_goals;
+ghost use Rattle.hub_cert.specs.Refused as refused;
+ghost use Rattle.hub_cert.specs.declared.fault.CheckFault.TheVariants as fault;
+
+use crate::fault::CheckFault;
+use crate::goal::{Goal, Place};
+use crate::refusals::alphabet_for;
+use hub_automaton::Alphabet;
+use hub_path::{Root, Side};
+use hub_profile::{Profile, Rule, Rules};
+use hub_reach::{may, writes};
+use hub_text::Items;
+use std::alloc::{AllocError, Global};
+use std::marker::Model;
+
+/// How many profiles a set may have (this project's choice).
+pub const PROFILES: usize = 32;
+
+/// Profiles and rules that may be checked together: at most `PROFILES` profiles with different names, and at most `RULES`
+/// rules, no two different roots of them nested.
+///
+/// A set keeps the alphabet of the characters that they mention. Each profile has a walker over it, and each rule's
+/// specification a `SpecSet`: none has too many spots.
+#[derive(Debug, Drop)]
+pub struct ProfileSet {
+    profiles: Items<Profile>,
+    rules: Rules,
+    alphabet: Alphabet,
+}
+
+impl Model for ProfileSet {
+    ghost use Rattle.hub_cert.specs.Set.{Members, IsSet};
+
+    ghost Value = { Members };
+
+    ghost view = { λ s. record { profiles = s.profiles; rules = s.rules } };
+
+    ghost invariant = { λ s. IsSet (record { profiles = s.profiles; rules = s.rules }) s.alphabet };
+}
+
+impl ProfileSet {
+    /// Makes the set of these profiles and rules. They are dropped if there is a fault.
+    ///
+    /// The fault is the first of these that applies:
+    /// - `TooManyProfiles` for more than `PROFILES` profiles;
+    /// - `SameName` with the first name that an earlier profile has too;
+    /// - `NestedRoots` with the first two different roots of which one lies within the other. Roots come in the order of
+    ///   the profiles, the left one first, and then of the rules; pairs by their earlier root and then by their later one;
+    /// - `AlphabetFault` with `TooManyCharacters` if more than `MENTIONED_CHARACTERS` characters are mentioned;
+    /// - `AlphabetFault` with `TooManySpots` if a profile or a rule has more than `SPOTS` spots, even if no goal names it.
+    ///
+    /// Any call may instead report `OutOfMemory`.
+    pub fn new(
+        alloc: Global,
+        profiles: Items<Profile>,
+        rules: Rules,
+    ) -> Result<ProfileSet, CheckFault>
+        ensures ok { IfOk result (λ s. s ≡ record { profiles = profiles; rules = rules }) }
+        ensures err { IfErr result
+            (refused.IsRefused (record { profiles = profiles; rules = rules })) }
+    {
+        let alphabet = alphabet_for(alloc, profiles.as_slice(), rules.as_slice())?;
+        Ok(ProfileSet {
+            profiles,
+            rules,
+            alphabet,
+        })
+    }
+
+    /// Borrows the profiles. A profile's number is its place, from 0 on.
+    pub fn profiles(&self) -> &[Profile]
+        ensures value { result.now ≡ self.now.profiles }
+        ensures valid { of_set.AreProfiles self.now }
+        ensures apart { of_set.AreApart self.now }
+    {
+        self.profiles.as_slice()
+    }
+
+    /// Borrows the rules. A rule's number is its place, from 0 on.
+    pub fn rules(&self) -> &[Rule]
+        ensures { result.now ≡ self.now.rules }
+    {
+        self.rules.as_slice()
+    }
+
+    /// Borrows the alphabet of all characters that the profiles and the rules mention.
+    pub fn alphabet(&self) -> &Alphabet
+        ensures value { result.now ≡ of_set.alphabet_of self.now }
+        ensures mentioned { of_set.Mentioned self.now result.now }
+        ensures few { of_set.HasFewSpots self.now }
+        ensures valid { of_set.AreProfiles self.now }
+    {
+        &self.alphabet
+    }
+
+    /// Returns whether this is a goal of the set: two different profiles share the place, and the writer writes there; or
+    /// the profile may do at the rule's root what the rule forbids.
+    pub fn has(&self, goal: Goal) -> bool
+        ensures value { result ≡ of_goals.is_goal self.now goal }
+        ensures member { IsTrue result ↔ Contains (of_goals.goals self.now) goal }
+    {
+        match goal {
+            Goal::Clash {
+                writer,
+                other,
+                place,
+            } => has_clash(self.profiles.as_slice(), writer, other, place),
+            Goal::Breach { profile, rule } => {
+                has_breach(
+                    self.profiles.as_slice(),
+                    self.rules.as_slice(),
+                    profile,
+                    rule,
+                )
+            }
+        }
+    }
+
+    /// Returns the goals of the set: clashes by writer, other and place, then breaches by profile and rule.
+    pub fn goals(&self, alloc: Global) -> Result<Items<Goal>, AllocError>
+        ensures { IfOk result (λ gs. gs ≡ of_goals.goals self.now) }
+    {
+        let mut goals = Vec::new(alloc);
+        for writer in 0..self.profiles.len() {
+            self.push_clashes(&mut goals, writer)?;
+        }
+        for profile in 0..self.profiles.len() {
+            self.push_breaches(&mut goals, profile)?;
+        }
+        Ok(Items::from_vec(goals))
+    }
+
+    /// Appends the clashes of that writer.
+    fn push_clashes(&self, goals: &mut Vec<Goal>, writer: usize) -> Result<(), AllocError>
+        ensures { OnOk result (goals.new.items
+            ≡ goals.old.items ++ filter (of_goals.is_goal self.now) (flat_map
+            (λ o. map (Clash writer o) of_goals.places) (of_goals.numbers self.now.profiles))) }
+    {
+        for other in 0..self.profiles.len() {
+            self.push_places(goals, writer, other)?;
+        }
+        Ok(())
+    }
+
+    /// Appends the clashes of that writer with that other profile.
+    fn push_places(
+        &self,
+        goals: &mut Vec<Goal>,
+        writer: usize,
+        other: usize,
+    ) -> Result<(), AllocError>
+        ensures { OnOk result (goals.new.items
+            ≡ goals.old.items
+            ++ filter (of_goals.is_goal self.now) (map (Clash writer other) of_goals.places)) }
+    {
+        self.push_goal(
+            goals,
+            Goal::Clash {
+                writer,
+                other,
+                place: Place::Replica(Side::Left),
+            },
+        )?;
+        self.push_goal(
+            goals,
+            Goal::Clash {
+                writer,
+                other,
+                place: Place::Replica(Side::Right),
+            },
+        )?;
+        self.push_goal(
+            goals,
+            Goal::Clash {
+                writer,
+                other,
+                place: Place::Archive,
+            },
+        )
+    }
+
+    /// Appends the breaches of that profile.
+    fn push_breaches(&self, goals: &mut Vec<Goal>, profile: usize) -> Result<(), AllocError>
+        ensures { OnOk result (goals.new.items
+            ≡ goals.old.items ++ filter (of_goals.is_goal self.now)
+            (map (Breach profile) (of_goals.numbers self.now.rules))) }
+    {
+        for rule in 0..self.rules.as_slice().len() {
+            self.push_goal(goals, Goal::Breach { profile, rule })?;
+        }
+        Ok(())
+    }
+
+    /// Appends this, if it is a goal of the set.
+    fn push_goal(&self, goals: &mut Vec<Goal>, goal: Goal) -> Result<(), AllocError>
+        ensures { OnOk result (goals.new.items
+            ≡ goals.old.items ++ filter (of_goals.is_goal self.now) (goal ∷ [])) }
+    {
+        if self.has(goal) {
+            goals.push(goal)?;
+        }
+        Ok(())
+    }
+}
+
+/// Returns whether two different profiles share that place.
+fn has_clash(profiles: &[Profile], writer: usize, other: usize, place: Place) -> bool
+    ensures { (S : of_set.Members) → S.profiles ≡ profiles.now
+        → result ≡ of_goals.is_goal S (Clash writer other place) }
+{
+    if writer == other {
+        return false;
+    }
+    if writer >= profiles.len() {
+        return false;
+    }
+    if other >= profiles.len() {
+        return false;
+    }
+    share_place(&profiles[writer], &profiles[other], place)
+}
+
+/// Returns whether the profile may do at the rule's root what the rule forbids.
+fn has_breach(profiles: &[Profile], rules: &[Rule], profile: usize, rule: usize) -> bool
+    ensures { (S : of_set.Members) → S.profiles ≡ profiles.now → S.rules ≡ rules.now
+        → result ≡ of_goals.is_goal S (Breach profile rule) }
+{
+    if profile >= profiles.len() {
+        return false;
+    }
+    if rule >= rules.len() {
+        return false;
+    }
+    let forbidden = &rules[rule];
+    has_root(&profiles[profile], &forbidden.root)
+        && may(&profiles[profile], &forbidden.root, forbidden.verb)
+}
+
+/// Returns whether both profiles have the place, and the writer writes there if it is a replica.
+fn share_place(writer: &Profile, other: &Profile, place: Place) -> bool
+    ensures { result ≡ shares writer.now other.now place }
+{
+    let roots = writer.roots();
+    match place {
+        Place::Replica(Side::Left) => shares_root(writer, other, &roots[0]),
+        Place::Replica(Side::Right) => shares_root(writer, other, &roots[1]),
+        Place::Archive => roots.iter().all(|root| has_root(other, root)),
+    }
+}
+
+/// Returns whether the writer writes at that root, and the other profile has it.
+fn shares_root(writer: &Profile, other: &Profile, root: &Root) -> bool
+    ensures { result ≡ (writes writer.now root.now && has_root other.now root.now) }
+{
+    writes(writer, root) && has_root(other, root)
+}
+
+fn has_root(profile: &Profile, root: &Root) -> bool
+    ensures { result ≡ has_root profile.now root.now }
+{
+    profile.roots().iter().any(|own| own == root)
+}

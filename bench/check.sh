@@ -1,57 +1,115 @@
 #!/usr/bin/env bash
-# Times the check of a large bundle: 32 profiles of 64 `path` lines each, over one hub.
+# Times `check`, `certify` and `verify` on large bundles.
 #
 #     bench/check.sh [PROGRAM [REPETITIONS]]
 #
-# PROGRAM is the built program (crates/hubsync/out/hubsync if left out), REPETITIONS is 20 if left out. Four bundles are
-# timed, and every pair of profiles is compared in each:
+# PROGRAM is the built program (crates/hubsync/out/hubsync if left out), REPETITIONS is 5 if left out. The bundles:
 #
-# - `safe`: no path is over another one;
-# - `overlap`: the last two profiles overlap, in their last lines;
-# - `deep`: like `safe`, but each path has 64 names, of which all but the last two are the same in all paths;
-# - `middle`: each path has 64 names, of which only two in the middle differ.
+# - `paths`: 32 profiles of 64 `path` lines each, over one hub: 992 goals;
+# - `overlap`: the same, but the last two profiles overlap, in their last lines;
+# - `star`: 32 profiles over one hub, each with 3 `path` lines and 5 patterns: 992 goals, 351,000 stages together;
+# - `large`: two profiles with two goals of 19,531 stages and 40 classes each, near the limit of 20,000 stages;
+# - `limit`: 8 profiles of 32 `path` lines, each of 64 names: as many positions as a profile may have;
+# - `deep`: 32 profiles of 64 such `path` lines, which are too many.
 #
-# A line gives the size of the bundle, the least and the middle time in milliseconds from start to end of the process, and
-# its peak memory if GNU time is installed. The status is 1 if an answer is wrong.
+# A line gives the command, the size of the bundle, the least and the middle time in milliseconds from start to end of
+# the process, and its peak memory if GNU time is installed. `verify` is given what `certify` wrote. The status is 1 if an
+# answer is wrong.
 set -euo pipefail
 # shellcheck source=bench/timing.sh
 source "$(dirname "$(readlink -f "${BASH_SOURCE[0]}")")/timing.sh"
 
 profiles=32
-paths=64
 
-# The bundle whose paths begin and end with these texts. The last path of the last profile is the third one, if given.
-bundle() {
-    local profile path first=$1 last=$2
-    for profile in $(seq -w 1 "$profiles"); do
-        printf '%%profile team%s\nroot = /srv/hub\nroot = /srv/spoke%s\n' "$profile" "$profile"
-        for path in $(seq -w 1 $((paths - 1))); do
-            printf 'path = %s/team%s/project%s%s\n' "$first" "$profile" "$path" "$last"
-        done
-        if [ "$profile" = "$profiles" ] && [ -n "${3-}" ]; then
-            printf 'path = %s\n' "$3"
-        else
-            printf 'path = %s/team%s/project%s%s\n' "$first" "$profile" "$paths" "$last"
+# The lines with which the profile of that number begins. All profiles share the hub.
+profile() {
+    printf '%%profile team%s\nroot = /srv/hub\nroot = /srv/spoke%s\n' "$1" "$1"
+}
+
+# 32 profiles of 64 paths. The last path of the last profile is the given one, if one is.
+paths() {
+    local number path
+    for number in $(seq -w 1 "$profiles"); do
+        profile "$number"
+        printf "path = shared/team$number/project%s\n" $(seq -w 1 63)
+        path=shared/team$number/project64
+        if [ "$number" = "$profiles" ]; then
+            path=${1:-$path}
         fi
+        echo "path = $path"
     done
 }
 
-# So many names `folderNN`, joined by `/`.
-folders() {
-    local names
-    names=$(seq -f 'folder%02g' -s / "$1")
-    printf '%s' "$names"
+# 32 profiles of 3 paths and 5 patterns.
+star() {
+    local number
+    for number in $(seq -w 1 "$profiles"); do
+        profile "$number"
+        cat <<LINES
+path = team$number/documents
+path = team$number/photographs
+path = shared/team$number
+ignore = Name *.{tmp,bak}
+ignore = Name {*~,.#*}
+ignore = BelowPath team$number/documents/private
+ignore = BelowPath team$number/photographs/copy
+ignorenot = Name keep.tmp
+LINES
+    done
 }
 
-last=shared/team$((profiles - 1))/project$paths
-bundle shared '' >"$folder/safe.bundle"
-bundle shared '' "$last/notes" >"$folder/overlap.bundle"
-bundle "$(folders 62)" '' >"$folder/deep.bundle"
-bundle "$(folders 31)" "/$(folders 31)" >"$folder/middle.bundle"
+# Two profiles. The first pattern remembers for each of the last 11 characters of a name whether it was an `a`.
+large() {
+    profile 1
+    cat <<'LINES'
+path = bcdefghijklm
+ignore = Name *a??????????
+ignore = BelowPath bcdefghijklm/n
+ignore = BelowPath bcdefghijklm/o
+ignore = BelowPath bcdefghijklm/p
+ignore = BelowPath bcdefghijklm/q
+ignore = Path bcdefghijklm/*r
+LINES
+    profile 2
+    echo 'path = nopqrstuvwxyz_0123456789'
+}
 
-echo "$profiles profiles of $paths paths each, $repetitions repetitions"
+# So many profiles of so many paths, each of 64 names of one character, of which only the last two differ.
+deep() {
+    local number path above letters=abcdefghijklmnopqrstuvwxyz012345
+    letters+=ABCDEFGHIJKLMNOPQRSTUVWXYZ6789-_
+    above=$(printf 'a/%.0s' $(seq 62))
+    for ((number = 0; number < $1; number++)); do
+        profile "$number"
+        for ((path = 0; path < $2; path++)); do
+            echo "path = $above${letters:number:1}/${letters:path:1}"
+        done
+    done
+}
+
+# Times `check`, `certify` and `verify` of a safe bundle of that name, and says how many goals and stages it has.
+measure_safe() {
+    local certificates=$folder/$1.certificates
+    measure "$1" 0 safe check
+    measure "$1" 0 "$header" certify
+    "$program" certify <"$folder/$1.bundle" >"$certificates"
+    cat "$folder/$1.bundle" <(echo %certificates) "$certificates" >"$folder/$1+.bundle"
+    measure "$1+" 0 verified verify
+    echo "$1 has $(grep -c ^goal "$certificates") goals and $(grep -c ^stage "$certificates") stages"
+}
+
+paths >"$folder/paths.bundle"
+paths shared/team31/project64/notes >"$folder/overlap.bundle"
+star >"$folder/star.bundle"
+large >"$folder/large.bundle"
+deep 8 32 >"$folder/limit.bundle"
+deep 32 64 >"$folder/deep.bundle"
+
+echo "$repetitions repetitions"
 print_columns
-measure safe 0 safe
-measure overlap 1 "overlap: team$((profiles - 1)) writes $last at /srv/hub, team$profiles reaches $last/notes"
-measure deep 0 safe
-measure middle 0 safe
+measure deep 1 'refused: TooManySpots' check
+measure overlap 1 'overlap: team31 writes shared/team31/project64 at /srv/hub, team32 reaches shared/team31/project64/notes' check
+measure_safe paths
+measure_safe star
+measure_safe large
+measure_safe limit

@@ -3,7 +3,7 @@
 #
 #     bench/reach.sh [PROGRAM [REPETITIONS]]
 #
-# PROGRAM is the built program (crates/hubsync/out/hubsync if left out), REPETITIONS is 20 if left out. Four bundles are
+# PROGRAM is the built program (crates/hubsync/out/hubsync if left out), REPETITIONS is 5 if left out. Four bundles are
 # tried, and in each of them every pattern is tried on every prefix of the path:
 #
 # - `open`: patterns of all kinds, none of which matches a prefix of a path of 64 names;

@@ -1,13 +1,12 @@
 # shellcheck shell=bash
-# How bench/check.sh and bench/reach.sh time the program: they read this file with `source`, which leaves it their own
-# arguments.
+# How the scripts that time the program do so: they read this file with `source`, which leaves it their own arguments.
 #
 # It sets `program` and `repetitions` by these, and makes `folder`, which is gone at the end. `measure` times the program
 # on a bundle in that folder.
 script=bench/$(basename "$0")
 top=$(dirname "$(dirname "$(readlink -f "${BASH_SOURCE[0]}")")")
 program=${1:-$top/crates/hubsync/out/hubsync}
-repetitions=${2:-20}
+repetitions=${2:-5}
 
 if [ ! -x "$program" ]; then
     echo "$script: no program at $program: build it with ./hubsync" >&2
@@ -16,24 +15,30 @@ fi
 folder=$(mktemp -d)
 trap 'rm -rf "$folder"' EXIT
 
+# What the program writes for `certify` begins with this line. All other answers have one line.
+header='hubsync certificates 1'
+
 # Milliseconds between two readings of EPOCHREALTIME, to three places.
 milliseconds() {
     local microseconds=$((10#${2/[.,]/} - 10#${1/[.,]/}))
     printf '%d.%03d\n' $((microseconds / 1000)) $((microseconds % 1000))
 }
 
-# Runs the program on a file, with the words after the wanted status and the wanted line. Ends the script if the answer is
-# another one.
-run_once() {
-    local file=$1 wanted_status=$2 wanted=$3 status=0 answer first
+# Runs the program on a file, with the words after the wanted status and the wanted first line. Prints the milliseconds from
+# start to end of the process. Ends the script if the answer is another one.
+time_once() {
+    local file=$1 wanted_status=$2 wanted=$3 status=0 before after first lines
     shift 3
+    before=$EPOCHREALTIME
     "$program" "$@" <"$file" >"$folder/answer" || status=$?
-    mapfile -t answer <"$folder/answer"
-    first=${answer[0]-}
-    if [ "$status" != "$wanted_status" ] || [ "${#answer[@]}" != 1 ] || [ "$first" != "$wanted" ]; then
-        echo "$script: status $status and ${#answer[@]} lines '${first:0:100}', wanted $wanted_status and '$wanted'" >&2
+    after=$EPOCHREALTIME
+    IFS= read -r first <"$folder/answer" || true
+    lines=$(wc -l <"$folder/answer")
+    if [ "$status" != "$wanted_status" ] || [ "$first" != "$wanted" ] || { [ "$lines" != 1 ] && [ "$first" != "$header" ]; }; then
+        echo "$script: $(basename "$file" .bundle): status $status and $lines lines '${first:0:100}', wanted $wanted_status and '$wanted'" >&2
         exit 1
     fi
+    milliseconds "$before" "$after"
 }
 
 # The peak memory of a run on this file, with the words after it.
@@ -50,22 +55,18 @@ peak() {
 
 # Prints the heads of the columns of `measure`.
 print_columns() {
-    printf '%-8s %9s %9s %9s %9s\n' bundle bytes least/ms middle/ms peak/KiB
+    printf '%-9s %-8s %9s %9s %9s %9s\n' bundle command bytes least/ms middle/ms peak/KiB
 }
 
-# Times a bundle of that name, with the status and the answer that are wanted, and the program's words. Prints the size
-# of the bundle, the least and the middle time in milliseconds from start to end of the process, and its peak memory
-# if GNU time is installed.
+# Times a bundle of that name, with the status and the first line that are wanted, and the program's words. Prints the
+# command, the size of the bundle, the least and the middle time in milliseconds from start to end of the process, and its
+# peak memory if GNU time is installed.
 measure() {
-    local file=$folder/$1.bundle bundle=$1 wanted_status=$2 wanted=$3 before after i
+    local file=$folder/$1.bundle bundle=$1 wanted_status=$2 wanted=$3 i
     shift 3
-    run_once "$file" "$wanted_status" "$wanted" "$@"
     for ((i = 0; i < repetitions; i++)); do
-        before=$EPOCHREALTIME
-        run_once "$file" "$wanted_status" "$wanted" "$@"
-        after=$EPOCHREALTIME
-        milliseconds "$before" "$after"
+        time_once "$file" "$wanted_status" "$wanted" "$@"
     done | sort -n >"$folder/times"
-    printf '%-8s %9s %9s %9s %9s\n' "$bundle" "$(wc -c <"$file")" "$(sed -n 1p "$folder/times")" \
+    printf '%-9s %-8s %9s %9s %9s %9s\n' "$bundle" "${1-}" "$(wc -c <"$file")" "$(sed -n 1p "$folder/times")" \
         "$(sed -n $(((repetitions + 1) / 2))p "$folder/times")" "$(peak "$file" "$@")"
 }

@@ -5,13 +5,15 @@
 #
 # PROGRAM is the built program (crates/hubsync/out/hubsync if left out). Each row of the table is run: its bundle on
 # standard input, its words as arguments. The output is the row's one line and the status is the row's. A line is printed
-# for each wrong answer and for each bundle without a row. The status is 1 if there was one, else 0.
+# for each wrong answer and for each bundle without a row. Then the certificates of each safe bundle are given back to the
+# program. The status is 1 if an answer was wrong, else 0.
 set -euo pipefail
 folder=$(dirname "$(readlink -f "${BASH_SOURCE[0]}")")
 program=$(readlink -f "${1:-$folder/../crates/hubsync/out/hubsync}")
 table=$folder/README.md
 rows=0
 wrong=0
+given=0
 
 complain() {
     echo "examples: $*"
@@ -56,6 +58,15 @@ for bundle in "$folder"/*.bundle; do
         complain "$(basename "$bundle") has no row in the table"
     fi
 done
+# what certify writes of a safe bundle, verify takes
+for bundle in "$folder"/*.bundle; do
+    if [ "$("$program" check <"$bundle")" = safe ]; then
+        answer=$(cat "$bundle" <(echo %certificates) <("$program" certify <"$bundle") | "$program" verify) || true
+        [ "$answer" = verified ] || complain "$(basename "$bundle"): its certificates are answered by '$answer'"
+        given=$((given + 1))
+    fi
+done
 [ "$rows" -gt 0 ] || complain 'the table has no rows'
+[ "$given" -gt 0 ] || complain 'no bundle is safe'
 echo "examples: ${1:-hubsync} answered $rows, $wrong of them wrongly"
 [ "$wrong" = 0 ]

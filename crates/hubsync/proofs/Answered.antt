@@ -1,30 +1,43 @@
 -- From the line that was written to what is true of the input: what each line begins with.
 use Rattle.std.proofs.Common.{◌≡◌, ◌∙◌, ◌==◌, ◌≤◌, ◌⊎◌, inl, inr, ℕ, suc, zero, Bool, true, false, ◌||◌, cond, Result, Ok, Err, List, ◌∷◌, ◌++◌, length, take, Option, Some, None, codes, refl, sym, ap, subst, arith, eq-eqb, length-append}
-use Rattle.std.specs.Prelude.{IfOk, IfSome, OnOk, is_err, ⊤}
+use Rattle.std.specs.Prelude.{IfOk, IfSome, OnOk, is_err, slice_get, ⊤}
 use Rattle.std.specs.Io.KnownBytes.{Appends, Keeps}
 use Rattle.std.proofs.KnownBytes.{Appends-kept}
 use Rattle.std.proofs.lemmas.List.{append_cancel_left, take_all}
 use Rattle.std.proofs.lemmas.Option.{none-some, same_Some}
 use Rattle.std.proofs.lemmas.Bool.{false≢true, true≢false}
-use Rattle.hub_profile.specs.Parts.{Parts}
-use Rattle.hubsync.specs.declared.check.Refusal.TheVariants.{TooManyProfiles, SameName, NestedRoots, Patterns, Overlaps}
+use Rattle.hub_path.specs.Path.{Path}
+use Rattle.hub_automaton.specs.declared.fault.AutomatonFault.TheVariants as automaton
+use Rattle.hub_profile.specs.declared.rule.Rule.{Rule}
+use Rattle.hub_cert.specs.Set.{Members, IsSafeSet}
+use Rattle.hub_cert.specs.declared.goal.Place.{Place}
+use Rattle.hub_cert.specs.declared.fault.CheckFault.{CheckFault}
+use Rattle.hub_cert.specs.declared.fault.CheckFault.TheVariants as fault
+use Rattle.hub_search.specs.Search.{IsFirstFault}
+use Rattle.hubsync.specs.declared.sections.Contents.{Contents}
+use Rattle.hubsync.specs.declared.words.Question.{Question}
+use Rattle.hubsync.specs.declared.words.Question.TheVariants.{Check, Certify, Verify}
+use Rattle.hubsync.specs.Refusal.{breach_text, name_at, refusal_line}
+use Rattle.hubsync.specs.Sections.{Spells, members}
 use Rattle.hubsync.specs.declared.report.Report.{Report}
-use Rattle.hubsync.specs.declared.report.Report.TheVariants.{Safe, Refused, Reached, NotReached, NoProfile, BadPath, Unread, BadBundle, BadProfile, OutOfMemory}
-use Rattle.hubsync.specs.Report.{IsLine, IsTold, IsTrueOf, Spells, Holds, SpellsSafe, SpellsReach, Serves, Answers, AnswersNothing, WritesLine, status_of}
+use Rattle.hubsync.specs.declared.report.Report.TheVariants.{Safe, Verified, Certified, Refused, Reached, NotReached, NoProfile, BadPath, Unread, BadBundle, BadSection, OutOfMemory}
+use Rattle.hubsync.specs.Report.{IsLine, IsRefusedFor, IsTold, IsTrueOf, Holds, SpellsSafe, SpellsUnsafe, SpellsVerified, SpellsReach, Serves, Answers, AnswersNothing, WritesLine, status_of}
 use Rattle.hubsync.specs.Words.{Request, asked_of}
 
--- What holds of the profiles of an input holds of the input.
-pub told-holds : (request : Request) (bytes : List ℕ) (Ps : List Parts) (r : Report) → Spells bytes Ps → IsTold request Ps r → Holds request bytes r
-told-holds request bytes Ps Safe s t = record { profiles = Ps; spelled = s; told = t }
-told-holds request bytes Ps (Refused r) s t = record { profiles = Ps; spelled = s; told = t }
-told-holds request bytes Ps Reached s t = record { profiles = Ps; spelled = s; told = t }
-told-holds request bytes Ps NotReached s t = record { profiles = Ps; spelled = s; told = t }
-told-holds request bytes Ps (NoProfile name) s t = record { profiles = Ps; spelled = s; told = t }
-told-holds request bytes Ps (BadPath f) s t = record { profiles = Ps; spelled = s; told = t }
-told-holds request bytes Ps (Unread f) s t = absurd t
-told-holds request bytes Ps (BadBundle f) s t = absurd t
-told-holds request bytes Ps (BadProfile f) s t = absurd t
-told-holds request bytes Ps OutOfMemory s t = tt
+-- What holds of what an input says holds of the input.
+pub told-holds : (request : Request) (bytes : List ℕ) (c : Contents) (r : Report) → Spells bytes c → IsTold request c r → Holds request bytes r
+told-holds request bytes c Safe s h = record { contents = c; spelled = s; told = h }
+told-holds request bytes c Verified s h = record { contents = c; spelled = s; told = h }
+told-holds request bytes c (Certified t) s h = record { contents = c; spelled = s; told = h }
+told-holds request bytes c (Refused t) s h = record { contents = c; spelled = s; told = h }
+told-holds request bytes c Reached s h = record { contents = c; spelled = s; told = h }
+told-holds request bytes c NotReached s h = record { contents = c; spelled = s; told = h }
+told-holds request bytes c (NoProfile name) s h = record { contents = c; spelled = s; told = h }
+told-holds request bytes c (BadPath f) s h = record { contents = c; spelled = s; told = h }
+told-holds request bytes c (Unread f) s h = absurd h
+told-holds request bytes c (BadBundle f) s h = absurd h
+told-holds request bytes c (BadSection f) s h = absurd h
+told-holds request bytes c OutOfMemory s h = tt
 
 -- A front of a line begins as the line does.
 begins : (a b w : ℕ) (t s : List ℕ) → (a == b) ≡ false → take w (a ∷ t) ≡ b ∷ s → ⊥
@@ -43,56 +56,202 @@ third a b c x y z w t s d e =
     let two = goes_on b y one.0 (c ∷ t) (z ∷ s) one.1 in
     begins c z two.0 t s d two.1
 
--- Only the line of a safe set begins with an s.
-only_safe : (request : Request) (bytes : List ℕ) (r : Report) (line : List ℕ) (w : ℕ) (s : List ℕ) → IsLine r line → take w line ≡ 115 ∷ s → Holds request bytes r → SpellsSafe bytes
-only_safe request bytes Safe line w s l e h = record { profiles = h.profiles; spelled = h.spelled; safe = h.told.1 }
-only_safe request bytes (Refused TooManyProfiles) line w s l e h = absurd (begins 114 115 w _ s refl (ap (take w) (sym l) ∙ e))
-only_safe request bytes (Refused (SameName n)) line w s l e h = absurd (begins 114 115 w _ s refl (ap (take w) (sym l) ∙ e))
-only_safe request bytes (Refused (NestedRoots a b)) line w s l e h = absurd (begins 114 115 w _ s refl (ap (take w) (sym l) ∙ e))
-only_safe request bytes (Refused Patterns) line w s l e h = absurd (begins 114 115 w _ s refl (ap (take w) (sym l) ∙ e))
-only_safe request bytes (Refused (Overlaps o)) line w s l e h = absurd (begins 111 115 w _ s refl (ap (take w) (sym l) ∙ e))
-only_safe request bytes Reached line w s l e h = absurd (begins 114 115 w _ s refl (ap (take w) (sym l) ∙ e))
-only_safe request bytes NotReached line w s l e h = absurd (begins 110 115 w _ s refl (ap (take w) (sym l) ∙ e))
-only_safe request bytes (NoProfile n) line w s l e h = absurd (begins 102 115 w _ s refl (ap (take w) (sym l) ∙ e))
-only_safe request bytes (BadPath f) line w s l e h = absurd (begins 102 115 w _ s refl (ap (take w) (sym l.1) ∙ e))
-only_safe request bytes (Unread f) line w s l e h = absurd (begins 102 115 w _ s refl (ap (take w) (sym l.1) ∙ e))
-only_safe request bytes (BadBundle f) line w s l e h = absurd (begins 102 115 w _ s refl (ap (take w) (sym l.1) ∙ e))
-only_safe request bytes (BadProfile f) line w s l e h = absurd (begins 102 115 w _ s refl (ap (take w) (sym l.1) ∙ e))
-only_safe request bytes OutOfMemory line w s l e h = absurd (begins 102 115 w _ s refl (ap (take w) (sym l) ∙ e))
+-- The line of a breach begins with a b, if there is a rule.
+breach-first : (name : List ℕ) (R : Option Rule) (n : ℕ) (path : Path) (x u : ℕ) (s : List ℕ) → (98 == x) ≡ false → take u (breach_text name R n path) ≡ x ∷ s → ⊥
+breach-first name None n path x zero s d h = cc
+breach-first name None n path x (suc u) s d h = cc
+breach-first name (Some R) n path x u s d h = begins 98 x u _ s d h
 
--- Only that of a reached path begins with `rea`.
+-- A refusal's line begins with one of five letters.
+unlike : (S : Members) (e : CheckFault) (x u : ℕ) (s : List ℕ) → (98 == x) ≡ false → (102 == x) ≡ false → (111 == x) ≡ false → (114 == x) ≡ false → (116 == x) ≡ false
+    → take u (refusal_line S e) ≡ x ∷ s → ⊥
+unlike S fault.TooManyProfiles x u s b f oo rr t h = begins 114 x u _ s rr h
+unlike S (fault.SameName n) x u s b f oo rr t h = begins 114 x u _ s rr h
+unlike S (fault.NestedRoots a z) x u s b f oo rr t h = begins 114 x u _ s rr h
+unlike S (fault.Overlap w o place held path) x u s b f oo rr t h = begins 111 x u _ s oo h
+unlike S (fault.Breach p k path) x u s b f oo rr t h = breach-first _ _ _ _ x u s b h
+unlike S (fault.TooLarge g) x u s b f oo rr t h = begins 116 x u _ s t h
+unlike S (fault.Missing g) x u s b f oo rr t h = begins 114 x u _ s rr h
+unlike S (fault.NoStart g) x u s b f oo rr t h = begins 114 x u _ s rr h
+unlike S (fault.NotClosed g k class) x u s b f oo rr t h = begins 114 x u _ s rr h
+unlike S (fault.Accepting g k) x u s b f oo rr t h = begins 114 x u _ s rr h
+unlike S (fault.Stray i) x u s b f oo rr t h = begins 114 x u _ s rr h
+unlike S (fault.BadText l) x u s b f oo rr t h = begins 102 x u _ s f h
+unlike S (fault.AlphabetFault automaton.TooManyCharacters) x u s b f oo rr t h = begins 114 x u _ s rr h
+unlike S (fault.AlphabetFault automaton.TooManySpots) x u s b f oo rr t h = begins 114 x u _ s rr h
+unlike S (fault.AlphabetFault automaton.OutOfMemory) x u s b f oo rr t h = begins 102 x u _ s f h
+unlike S fault.OutOfMemory x u s b f oo rr t h = begins 102 x u _ s f h
+
+-- None of them begins with `rea`.
+unlike_reached : (S : Members) (e : CheckFault) (u : ℕ) (s : List ℕ) → take u (refusal_line S e) ≡ 114 ∷ 101 ∷ 97 ∷ s → ⊥
+unlike_reached S fault.TooManyProfiles u s h = third 114 101 102 114 101 97 u _ s refl h
+unlike_reached S (fault.SameName n) u s h = third 114 101 102 114 101 97 u _ s refl h
+unlike_reached S (fault.NestedRoots a z) u s h = third 114 101 102 114 101 97 u _ s refl h
+unlike_reached S (fault.Overlap w o place held path) u s h = begins 111 114 u _ _ refl h
+unlike_reached S (fault.Breach p k path) u s h = breach-first _ _ _ _ 114 u _ refl h
+unlike_reached S (fault.TooLarge g) u s h = begins 116 114 u _ _ refl h
+unlike_reached S (fault.Missing g) u s h = third 114 101 102 114 101 97 u _ s refl h
+unlike_reached S (fault.NoStart g) u s h = third 114 101 102 114 101 97 u _ s refl h
+unlike_reached S (fault.NotClosed g k class) u s h = third 114 101 102 114 101 97 u _ s refl h
+unlike_reached S (fault.Accepting g k) u s h = third 114 101 102 114 101 97 u _ s refl h
+unlike_reached S (fault.Stray i) u s h = third 114 101 102 114 101 97 u _ s refl h
+unlike_reached S (fault.BadText l) u s h = begins 102 114 u _ _ refl h
+unlike_reached S (fault.AlphabetFault automaton.TooManyCharacters) u s h = third 114 101 102 114 101 97 u _ s refl h
+unlike_reached S (fault.AlphabetFault automaton.TooManySpots) u s h = third 114 101 102 114 101 97 u _ s refl h
+unlike_reached S (fault.AlphabetFault automaton.OutOfMemory) u s h = begins 102 114 u _ _ refl h
+unlike_reached S fault.OutOfMemory u s h = begins 102 114 u _ _ refl h
+
+-- What is shown of a set that isn't safe.
+abbrev pub OverlapsShown : Type 0
+OverlapsShown = (S : Members) (w o : ℕ) (place : Place) (held path : Path) → IsFirstFault S (fault.Overlap w o place held path) → IsSafeSet S → ⊥
+
+abbrev pub BreachesShown : Type 0
+BreachesShown = (S : Members) (p k : ℕ) (path : Path) → IsFirstFault S (fault.Breach p k path) → IsSafeSet S → ⊥
+
+-- An overlap or a breach is told only as the first fault.
+overlap-first : (q : Question) (c : Contents) (w o : ℕ) (place : Place) (held path : Path) → IsRefusedFor q c (fault.Overlap w o place held path) → IsFirstFault (members c) (fault.Overlap w o place held path)
+overlap-first q c w o place held path (inl h) = absurd h
+overlap-first Check c w o place held path (inr (inl h)) = cc
+overlap-first Check c w o place held path (inr (inr h)) = h
+overlap-first Certify c w o place held path (inr (inl h)) = cc
+overlap-first Certify c w o place held path (inr (inr h)) = h
+overlap-first Verify c w o place held path (inr h) = absurd h
+
+breach_first : (q : Question) (c : Contents) (p k : ℕ) (path : Path) → IsRefusedFor q c (fault.Breach p k path) → IsFirstFault (members c) (fault.Breach p k path)
+breach_first q c p k path (inl h) = absurd h
+breach_first Check c p k path (inr (inl h)) = cc
+breach_first Check c p k path (inr (inr h)) = h
+breach_first Certify c p k path (inr (inl h)) = cc
+breach_first Certify c p k path (inr (inr h)) = h
+breach_first Verify c p k path (inr h) = absurd h
+
+-- Only the line of an overlap begins with an o,
+only_overlap : OverlapsShown → (q : Question) (c : Contents) (e : CheckFault) (u : ℕ) (s : List ℕ) → IsRefusedFor q c e → take u (refusal_line (members c) e) ≡ 111 ∷ s → IsSafeSet (members c) → ⊥
+only_overlap shown q c fault.TooManyProfiles u s is h = λ safe. begins 114 111 u _ s refl h
+only_overlap shown q c (fault.SameName n) u s is h = λ safe. begins 114 111 u _ s refl h
+only_overlap shown q c (fault.NestedRoots a z) u s is h = λ safe. begins 114 111 u _ s refl h
+only_overlap shown q c (fault.Overlap w o place held path) u s is h = shown (members c) w o place held path (overlap-first q c w o place held path is)
+only_overlap shown q c (fault.Breach p k path) u s is h = λ safe. breach-first (name_at (members c).profiles p) (slice_get (members c).rules k) k path 111 u s refl h
+only_overlap shown q c (fault.TooLarge g) u s is h = λ safe. begins 116 111 u _ s refl h
+only_overlap shown q c (fault.Missing g) u s is h = λ safe. begins 114 111 u _ s refl h
+only_overlap shown q c (fault.NoStart g) u s is h = λ safe. begins 114 111 u _ s refl h
+only_overlap shown q c (fault.NotClosed g k class) u s is h = λ safe. begins 114 111 u _ s refl h
+only_overlap shown q c (fault.Accepting g k) u s is h = λ safe. begins 114 111 u _ s refl h
+only_overlap shown q c (fault.Stray i) u s is h = λ safe. begins 114 111 u _ s refl h
+only_overlap shown q c (fault.BadText l) u s is h = λ safe. begins 102 111 u _ s refl h
+only_overlap shown q c (fault.AlphabetFault automaton.TooManyCharacters) u s is h = λ safe. begins 114 111 u _ s refl h
+only_overlap shown q c (fault.AlphabetFault automaton.TooManySpots) u s is h = λ safe. begins 114 111 u _ s refl h
+only_overlap shown q c (fault.AlphabetFault automaton.OutOfMemory) u s is h = λ safe. begins 102 111 u _ s refl h
+only_overlap shown q c fault.OutOfMemory u s is h = λ safe. begins 102 111 u _ s refl h
+
+-- and only that of a breach with a b.
+only_breach : BreachesShown → (q : Question) (c : Contents) (e : CheckFault) (u : ℕ) (s : List ℕ) → IsRefusedFor q c e → take u (refusal_line (members c) e) ≡ 98 ∷ s → IsSafeSet (members c) → ⊥
+only_breach shown q c fault.TooManyProfiles u s is h = λ safe. begins 114 98 u _ s refl h
+only_breach shown q c (fault.SameName n) u s is h = λ safe. begins 114 98 u _ s refl h
+only_breach shown q c (fault.NestedRoots a z) u s is h = λ safe. begins 114 98 u _ s refl h
+only_breach shown q c (fault.Overlap w o place held path) u s is h = λ safe. begins 111 98 u _ s refl h
+only_breach shown q c (fault.Breach p k path) u s is h = shown (members c) p k path (breach_first q c p k path is)
+only_breach shown q c (fault.TooLarge g) u s is h = λ safe. begins 116 98 u _ s refl h
+only_breach shown q c (fault.Missing g) u s is h = λ safe. begins 114 98 u _ s refl h
+only_breach shown q c (fault.NoStart g) u s is h = λ safe. begins 114 98 u _ s refl h
+only_breach shown q c (fault.NotClosed g k class) u s is h = λ safe. begins 114 98 u _ s refl h
+only_breach shown q c (fault.Accepting g k) u s is h = λ safe. begins 114 98 u _ s refl h
+only_breach shown q c (fault.Stray i) u s is h = λ safe. begins 114 98 u _ s refl h
+only_breach shown q c (fault.BadText l) u s is h = λ safe. begins 102 98 u _ s refl h
+only_breach shown q c (fault.AlphabetFault automaton.TooManyCharacters) u s is h = λ safe. begins 114 98 u _ s refl h
+only_breach shown q c (fault.AlphabetFault automaton.TooManySpots) u s is h = λ safe. begins 114 98 u _ s refl h
+only_breach shown q c (fault.AlphabetFault automaton.OutOfMemory) u s is h = λ safe. begins 102 98 u _ s refl h
+only_breach shown q c fault.OutOfMemory u s is h = λ safe. begins 102 98 u _ s refl h
+
+-- Only the line of a safe set begins with an s,
+only_safe : (request : Request) (bytes : List ℕ) (r : Report) (line : List ℕ) (w : ℕ) (s : List ℕ) → IsLine r line → take w line ≡ 115 ∷ s → Holds request bytes r → SpellsSafe bytes
+only_safe request bytes Safe line w s l e h = record { contents = h.contents; spelled = h.spelled; safe = h.told.1 }
+only_safe request bytes Verified line w s l e h = absurd (begins 118 115 w _ _ refl (ap (take w) (sym l) ∙ e))
+only_safe request bytes (Certified text) line w s l e h = absurd (begins 104 115 w _ _ refl (ap (take w) (sym (l ∙ h.told.text_is)) ∙ e))
+only_safe request bytes (Refused text) line w s l e h = absurd (unlike (members h.contents) h.told.reason 115 w s refl refl refl refl refl (ap (take w) (sym (l ∙ h.told.told.1)) ∙ e))
+only_safe request bytes Reached line w s l e h = absurd (begins 114 115 w _ _ refl (ap (take w) (sym l) ∙ e))
+only_safe request bytes NotReached line w s l e h = absurd (begins 110 115 w _ _ refl (ap (take w) (sym l) ∙ e))
+only_safe request bytes (NoProfile n) line w s l e h = absurd (begins 102 115 w _ _ refl (ap (take w) (sym l) ∙ e))
+only_safe request bytes (BadPath f) line w s l e h = absurd (begins 102 115 w _ _ refl (ap (take w) (sym l.1) ∙ e))
+only_safe request bytes (Unread f) line w s l e h = absurd (begins 102 115 w _ _ refl (ap (take w) (sym l.1) ∙ e))
+only_safe request bytes (BadBundle f) line w s l e h = absurd (begins 102 115 w _ _ refl (ap (take w) (sym l.1) ∙ e))
+only_safe request bytes (BadSection f) line w s l e h = absurd (begins 102 115 w _ _ refl (ap (take w) (sym l.1) ∙ e))
+only_safe request bytes OutOfMemory line w s l e h = absurd (begins 102 115 w _ _ refl (ap (take w) (sym l) ∙ e))
+
+-- only that of a verified one with a v,
+only_verified : (request : Request) (bytes : List ℕ) (r : Report) (line : List ℕ) (w : ℕ) (s : List ℕ) → IsLine r line → take w line ≡ 118 ∷ s → Holds request bytes r → SpellsVerified (Some request) bytes
+only_verified request bytes Safe line w s l e h = absurd (begins 115 118 w _ _ refl (ap (take w) (sym l) ∙ e))
+only_verified request bytes Verified line w s l e h = record { is_asked = ap Some h.told.0; contents = h.contents; spelled = h.spelled; inductive = h.told.1; safe = h.told.2 }
+only_verified request bytes (Certified text) line w s l e h = absurd (begins 104 118 w _ _ refl (ap (take w) (sym (l ∙ h.told.text_is)) ∙ e))
+only_verified request bytes (Refused text) line w s l e h = absurd (unlike (members h.contents) h.told.reason 118 w s refl refl refl refl refl (ap (take w) (sym (l ∙ h.told.told.1)) ∙ e))
+only_verified request bytes Reached line w s l e h = absurd (begins 114 118 w _ _ refl (ap (take w) (sym l) ∙ e))
+only_verified request bytes NotReached line w s l e h = absurd (begins 110 118 w _ _ refl (ap (take w) (sym l) ∙ e))
+only_verified request bytes (NoProfile n) line w s l e h = absurd (begins 102 118 w _ _ refl (ap (take w) (sym l) ∙ e))
+only_verified request bytes (BadPath f) line w s l e h = absurd (begins 102 118 w _ _ refl (ap (take w) (sym l.1) ∙ e))
+only_verified request bytes (Unread f) line w s l e h = absurd (begins 102 118 w _ _ refl (ap (take w) (sym l.1) ∙ e))
+only_verified request bytes (BadBundle f) line w s l e h = absurd (begins 102 118 w _ _ refl (ap (take w) (sym l.1) ∙ e))
+only_verified request bytes (BadSection f) line w s l e h = absurd (begins 102 118 w _ _ refl (ap (take w) (sym l.1) ∙ e))
+only_verified request bytes OutOfMemory line w s l e h = absurd (begins 102 118 w _ _ refl (ap (take w) (sym l) ∙ e))
+
+-- only that of a reached path with `rea`,
 only_reached : (request : Request) (bytes : List ℕ) (r : Report) (line : List ℕ) (w : ℕ) (s : List ℕ) → IsLine r line → take w line ≡ 114 ∷ 101 ∷ 97 ∷ s → Holds request bytes r → IsTrueOf request bytes Reached
 only_reached request bytes Safe line w s l e h = absurd (begins 115 114 w _ _ refl (ap (take w) (sym l) ∙ e))
-only_reached request bytes (Refused TooManyProfiles) line w s l e h = absurd (third 114 101 102 114 101 97 w _ s refl (ap (take w) (sym l) ∙ e))
-only_reached request bytes (Refused (SameName n)) line w s l e h = absurd (third 114 101 102 114 101 97 w _ s refl (ap (take w) (sym l) ∙ e))
-only_reached request bytes (Refused (NestedRoots a b)) line w s l e h = absurd (third 114 101 102 114 101 97 w _ s refl (ap (take w) (sym l) ∙ e))
-only_reached request bytes (Refused Patterns) line w s l e h = absurd (third 114 101 102 114 101 97 w _ s refl (ap (take w) (sym l) ∙ e))
-only_reached request bytes (Refused (Overlaps o)) line w s l e h = absurd (begins 111 114 w _ _ refl (ap (take w) (sym l) ∙ e))
+only_reached request bytes Verified line w s l e h = absurd (begins 118 114 w _ _ refl (ap (take w) (sym l) ∙ e))
+only_reached request bytes (Certified text) line w s l e h = absurd (begins 104 114 w _ _ refl (ap (take w) (sym (l ∙ h.told.text_is)) ∙ e))
+only_reached request bytes (Refused text) line w s l e h = absurd (unlike_reached (members h.contents) h.told.reason w s (ap (take w) (sym (l ∙ h.told.told.1)) ∙ e))
 only_reached request bytes Reached line w s l e h = h
 only_reached request bytes NotReached line w s l e h = absurd (begins 110 114 w _ _ refl (ap (take w) (sym l) ∙ e))
 only_reached request bytes (NoProfile n) line w s l e h = absurd (begins 102 114 w _ _ refl (ap (take w) (sym l) ∙ e))
 only_reached request bytes (BadPath f) line w s l e h = absurd (begins 102 114 w _ _ refl (ap (take w) (sym l.1) ∙ e))
 only_reached request bytes (Unread f) line w s l e h = absurd (begins 102 114 w _ _ refl (ap (take w) (sym l.1) ∙ e))
 only_reached request bytes (BadBundle f) line w s l e h = absurd (begins 102 114 w _ _ refl (ap (take w) (sym l.1) ∙ e))
-only_reached request bytes (BadProfile f) line w s l e h = absurd (begins 102 114 w _ _ refl (ap (take w) (sym l.1) ∙ e))
+only_reached request bytes (BadSection f) line w s l e h = absurd (begins 102 114 w _ _ refl (ap (take w) (sym l.1) ∙ e))
 only_reached request bytes OutOfMemory line w s l e h = absurd (begins 102 114 w _ _ refl (ap (take w) (sym l) ∙ e))
 
--- Only that of a path that isn't begins with an n.
+-- only that of a path that isn't with an n,
 only_not_reached : (request : Request) (bytes : List ℕ) (r : Report) (line : List ℕ) (w : ℕ) (s : List ℕ) → IsLine r line → take w line ≡ 110 ∷ s → Holds request bytes r → IsTrueOf request bytes NotReached
-only_not_reached request bytes Safe line w s l e h = absurd (begins 115 110 w _ s refl (ap (take w) (sym l) ∙ e))
-only_not_reached request bytes (Refused TooManyProfiles) line w s l e h = absurd (begins 114 110 w _ s refl (ap (take w) (sym l) ∙ e))
-only_not_reached request bytes (Refused (SameName n)) line w s l e h = absurd (begins 114 110 w _ s refl (ap (take w) (sym l) ∙ e))
-only_not_reached request bytes (Refused (NestedRoots a b)) line w s l e h = absurd (begins 114 110 w _ s refl (ap (take w) (sym l) ∙ e))
-only_not_reached request bytes (Refused Patterns) line w s l e h = absurd (begins 114 110 w _ s refl (ap (take w) (sym l) ∙ e))
-only_not_reached request bytes (Refused (Overlaps o)) line w s l e h = absurd (begins 111 110 w _ s refl (ap (take w) (sym l) ∙ e))
-only_not_reached request bytes Reached line w s l e h = absurd (begins 114 110 w _ s refl (ap (take w) (sym l) ∙ e))
+only_not_reached request bytes Safe line w s l e h = absurd (begins 115 110 w _ _ refl (ap (take w) (sym l) ∙ e))
+only_not_reached request bytes Verified line w s l e h = absurd (begins 118 110 w _ _ refl (ap (take w) (sym l) ∙ e))
+only_not_reached request bytes (Certified text) line w s l e h = absurd (begins 104 110 w _ _ refl (ap (take w) (sym (l ∙ h.told.text_is)) ∙ e))
+only_not_reached request bytes (Refused text) line w s l e h = absurd (unlike (members h.contents) h.told.reason 110 w s refl refl refl refl refl (ap (take w) (sym (l ∙ h.told.told.1)) ∙ e))
+only_not_reached request bytes Reached line w s l e h = absurd (begins 114 110 w _ _ refl (ap (take w) (sym l) ∙ e))
 only_not_reached request bytes NotReached line w s l e h = h
-only_not_reached request bytes (NoProfile n) line w s l e h = absurd (begins 102 110 w _ s refl (ap (take w) (sym l) ∙ e))
-only_not_reached request bytes (BadPath f) line w s l e h = absurd (begins 102 110 w _ s refl (ap (take w) (sym l.1) ∙ e))
-only_not_reached request bytes (Unread f) line w s l e h = absurd (begins 102 110 w _ s refl (ap (take w) (sym l.1) ∙ e))
-only_not_reached request bytes (BadBundle f) line w s l e h = absurd (begins 102 110 w _ s refl (ap (take w) (sym l.1) ∙ e))
-only_not_reached request bytes (BadProfile f) line w s l e h = absurd (begins 102 110 w _ s refl (ap (take w) (sym l.1) ∙ e))
-only_not_reached request bytes OutOfMemory line w s l e h = absurd (begins 102 110 w _ s refl (ap (take w) (sym l) ∙ e))
+only_not_reached request bytes (NoProfile n) line w s l e h = absurd (begins 102 110 w _ _ refl (ap (take w) (sym l) ∙ e))
+only_not_reached request bytes (BadPath f) line w s l e h = absurd (begins 102 110 w _ _ refl (ap (take w) (sym l.1) ∙ e))
+only_not_reached request bytes (Unread f) line w s l e h = absurd (begins 102 110 w _ _ refl (ap (take w) (sym l.1) ∙ e))
+only_not_reached request bytes (BadBundle f) line w s l e h = absurd (begins 102 110 w _ _ refl (ap (take w) (sym l.1) ∙ e))
+only_not_reached request bytes (BadSection f) line w s l e h = absurd (begins 102 110 w _ _ refl (ap (take w) (sym l.1) ∙ e))
+only_not_reached request bytes OutOfMemory line w s l e h = absurd (begins 102 110 w _ _ refl (ap (take w) (sym l) ∙ e))
+
+-- only that of an overlap with an o,
+only_overlaps : OverlapsShown → (request : Request) (bytes : List ℕ) (r : Report) (line : List ℕ) (w : ℕ) (s : List ℕ) → IsLine r line → take w line ≡ 111 ∷ s → Holds request bytes r → SpellsUnsafe bytes
+only_overlaps shown request bytes Safe line w s l e h = absurd (begins 115 111 w _ _ refl (ap (take w) (sym l) ∙ e))
+only_overlaps shown request bytes Verified line w s l e h = absurd (begins 118 111 w _ _ refl (ap (take w) (sym l) ∙ e))
+only_overlaps shown request bytes (Certified text) line w s l e h = absurd (begins 104 111 w _ _ refl (ap (take w) (sym (l ∙ h.told.text_is)) ∙ e))
+only_overlaps shown request bytes (Refused text) line w s l e h = record { contents = h.contents; spelled = h.spelled; unsafe = only_overlap shown h.told.of_set h.contents h.told.reason w s h.told.refused (ap (take w) (sym (l ∙ h.told.told.1)) ∙ e) }
+only_overlaps shown request bytes Reached line w s l e h = absurd (begins 114 111 w _ _ refl (ap (take w) (sym l) ∙ e))
+only_overlaps shown request bytes NotReached line w s l e h = absurd (begins 110 111 w _ _ refl (ap (take w) (sym l) ∙ e))
+only_overlaps shown request bytes (NoProfile n) line w s l e h = absurd (begins 102 111 w _ _ refl (ap (take w) (sym l) ∙ e))
+only_overlaps shown request bytes (BadPath f) line w s l e h = absurd (begins 102 111 w _ _ refl (ap (take w) (sym l.1) ∙ e))
+only_overlaps shown request bytes (Unread f) line w s l e h = absurd (begins 102 111 w _ _ refl (ap (take w) (sym l.1) ∙ e))
+only_overlaps shown request bytes (BadBundle f) line w s l e h = absurd (begins 102 111 w _ _ refl (ap (take w) (sym l.1) ∙ e))
+only_overlaps shown request bytes (BadSection f) line w s l e h = absurd (begins 102 111 w _ _ refl (ap (take w) (sym l.1) ∙ e))
+only_overlaps shown request bytes OutOfMemory line w s l e h = absurd (begins 102 111 w _ _ refl (ap (take w) (sym l) ∙ e))
+
+-- and only that of a breach with a b.
+only_breaches : BreachesShown → (request : Request) (bytes : List ℕ) (r : Report) (line : List ℕ) (w : ℕ) (s : List ℕ) → IsLine r line → take w line ≡ 98 ∷ s → Holds request bytes r → SpellsUnsafe bytes
+only_breaches shown request bytes Safe line w s l e h = absurd (begins 115 98 w _ _ refl (ap (take w) (sym l) ∙ e))
+only_breaches shown request bytes Verified line w s l e h = absurd (begins 118 98 w _ _ refl (ap (take w) (sym l) ∙ e))
+only_breaches shown request bytes (Certified text) line w s l e h = absurd (begins 104 98 w _ _ refl (ap (take w) (sym (l ∙ h.told.text_is)) ∙ e))
+only_breaches shown request bytes (Refused text) line w s l e h = record { contents = h.contents; spelled = h.spelled; unsafe = only_breach shown h.told.of_set h.contents h.told.reason w s h.told.refused (ap (take w) (sym (l ∙ h.told.told.1)) ∙ e) }
+only_breaches shown request bytes Reached line w s l e h = absurd (begins 114 98 w _ _ refl (ap (take w) (sym l) ∙ e))
+only_breaches shown request bytes NotReached line w s l e h = absurd (begins 110 98 w _ _ refl (ap (take w) (sym l) ∙ e))
+only_breaches shown request bytes (NoProfile n) line w s l e h = absurd (begins 102 98 w _ _ refl (ap (take w) (sym l) ∙ e))
+only_breaches shown request bytes (BadPath f) line w s l e h = absurd (begins 102 98 w _ _ refl (ap (take w) (sym l.1) ∙ e))
+only_breaches shown request bytes (Unread f) line w s l e h = absurd (begins 102 98 w _ _ refl (ap (take w) (sym l.1) ∙ e))
+only_breaches shown request bytes (BadBundle f) line w s l e h = absurd (begins 102 98 w _ _ refl (ap (take w) (sym l.1) ∙ e))
+only_breaches shown request bytes (BadSection f) line w s l e h = absurd (begins 102 98 w _ _ refl (ap (take w) (sym l.1) ∙ e))
+only_breaches shown request bytes OutOfMemory line w s l e h = absurd (begins 102 98 w _ _ refl (ap (take w) (sym l) ∙ e))
 
 -- What follows the bytes that were there is what was appended.
 appended : (old new : Option (List ℕ)) (before more text : List ℕ) → Appends old new more → old ≡ Some before → new ≡ Some (before ++ text) → more ≡ text
@@ -109,17 +268,29 @@ module _ (request : Request) (remaining old new : Option (List ℕ)) (read_faile
       → new ≡ Some (before ++ (codes "safe\n" ++ text)) → SpellsSafe bytes
   safe-written text a e f g = only_safe request bytes a.report a.line a.writes.written _ a.is_line (appended old new before _ _ a.writes.appends f g) (held a e)
 
+  verified-written : (text : List ℕ) → Answers request remaining old new read_failed write_failed status → remaining ≡ Some bytes → old ≡ Some before
+      → new ≡ Some (before ++ (codes "verified\n" ++ text)) → SpellsVerified (Some request) bytes
+  verified-written text a e f g = only_verified request bytes a.report a.line a.writes.written _ a.is_line (appended old new before _ _ a.writes.appends f g) (held a e)
+
+  overlap-written : OverlapsShown → (text : List ℕ) → Answers request remaining old new read_failed write_failed status → remaining ≡ Some bytes → old ≡ Some before
+      → new ≡ Some (before ++ (codes "overlap: " ++ text)) → SpellsUnsafe bytes
+  overlap-written shown text a e f g = only_overlaps shown request bytes a.report a.line a.writes.written _ a.is_line (appended old new before _ _ a.writes.appends f g) (held a e)
+
+  breach-written : BreachesShown → (text : List ℕ) → Answers request remaining old new read_failed write_failed status → remaining ≡ Some bytes → old ≡ Some before
+      → new ≡ Some (before ++ (codes "breach: " ++ text)) → SpellsUnsafe bytes
+  breach-written shown text a e f g = only_breaches shown request bytes a.report a.line a.writes.written _ a.is_line (appended old new before _ _ a.writes.appends f g) (held a e)
+
   reached-written : (text : List ℕ) → Answers request remaining old new read_failed write_failed status → remaining ≡ Some bytes → old ≡ Some before
       → new ≡ Some (before ++ (codes "reached\n" ++ text)) → SpellsReach (Some request) bytes true
   reached-written text a e f g =
       let h = only_reached request bytes a.report a.line a.writes.written _ a.is_line (appended old new before _ _ a.writes.appends f g) (held a e) in
-      record { request = request; is_asked = refl; profiles = h.profiles; spelled = h.spelled; answered = h.told }
+      record { request = request; is_asked = refl; contents = h.contents; spelled = h.spelled; answered = h.told }
 
   not_reached-written : (text : List ℕ) → Answers request remaining old new read_failed write_failed status → remaining ≡ Some bytes → old ≡ Some before
       → new ≡ Some (before ++ (codes "not reached\n" ++ text)) → SpellsReach (Some request) bytes false
   not_reached-written text a e f g =
       let h = only_not_reached request bytes a.report a.line a.writes.written _ a.is_line (appended old new before _ _ a.writes.appends f g) (held a e) in
-      record { request = request; is_asked = refl; profiles = h.profiles; spelled = h.spelled; answered = h.told }
+      record { request = request; is_asked = refl; contents = h.contents; spelled = h.spelled; answered = h.told }
 
 -- Where the words ask for nothing, no such line is written: what is written begins with an f.
 nothing-written : (old new : Option (List ℕ)) (status : ℕ) (before text : List ℕ) (x : ℕ) → AnswersNothing old new status → (102 == x) ≡ false
@@ -135,14 +306,16 @@ nothing-written old new status before text x a d f g = go a.writes
 
 status-le : (r : Report) → status_of r ≤ 2
 status-le Safe = omega arith
-status-le (Refused r) = omega arith
+status-le Verified = omega arith
+status-le (Certified t) = omega arith
+status-le (Refused t) = omega arith
 status-le Reached = omega arith
 status-le NotReached = omega arith
 status-le (NoProfile name) = omega arith
 status-le (BadPath f) = omega arith
 status-le (Unread f) = omega arith
 status-le (BadBundle f) = omega arith
-status-le (BadProfile f) = omega arith
+status-le (BadSection f) = omega arith
 status-le OutOfMemory = omega arith
 
 written-le : (failed : Bool) (status result : ℕ) → status ≤ 2 → result ≡ cond failed 2 status → result ≤ 2
@@ -150,13 +323,16 @@ written-le true status result l e = omega (arith, e)
 written-le false status result l e = omega (arith, e, l)
 
 -- The words ask for something, and that is answered.
-pub serves-answer : (request : Request) (remaining old new : Option (List ℕ)) (read_failed write_failed : Bool) (status : ℕ)
+pub serves-answer : OverlapsShown → BreachesShown → (request : Request) (remaining old new : Option (List ℕ)) (read_failed write_failed : Bool) (status : ℕ)
     → Answers request remaining old new read_failed write_failed status → Serves (Some request) remaining old new read_failed write_failed status
-serves-answer request remaining old new read_failed write_failed status a = record {
+serves-answer overlaps breaches request remaining old new read_failed write_failed status a = record {
   few = written-le write_failed (status_of a.report) status (status-le a.report) a.writes.status_is;
   nothing = λ is. absurd (none-some request (sym is));
   answer = λ other is. subst (λ r. Answers r remaining old new read_failed write_failed status) (same_Some request other is) a;
   safe = λ bytes before text e f g. safe-written request remaining old new read_failed write_failed status bytes before text a e f g;
+  verified = λ bytes before text e f g. verified-written request remaining old new read_failed write_failed status bytes before text a e f g;
+  overlap = λ bytes before text e f g. overlap-written request remaining old new read_failed write_failed status bytes before overlaps text a e f g;
+  breach = λ bytes before text e f g. breach-written request remaining old new read_failed write_failed status bytes before breaches text a e f g;
   reached = λ bytes before text e f g. reached-written request remaining old new read_failed write_failed status bytes before text a e f g;
   not_reached = λ bytes before text e f g. not_reached-written request remaining old new read_failed write_failed status bytes before text a e f g;
 }
@@ -169,6 +345,9 @@ serves-nothing remaining old new read_failed write_failed status a = record {
   nothing = λ is. a;
   answer = λ request is. absurd (none-some request is);
   safe = λ bytes before text e f g. absurd (nothing-written old new status before _ 115 a refl f g);
+  verified = λ bytes before text e f g. absurd (nothing-written old new status before _ 118 a refl f g);
+  overlap = λ bytes before text e f g. absurd (nothing-written old new status before _ 111 a refl f g);
+  breach = λ bytes before text e f g. absurd (nothing-written old new status before _ 98 a refl f g);
   reached = λ bytes before text e f g. absurd (nothing-written old new status before _ 114 a refl f g);
   not_reached = λ bytes before text e f g. absurd (nothing-written old new status before _ 110 a refl f g);
 }
@@ -199,26 +378,26 @@ memory-answers request remaining old new read_failed write_failed status w = rec
 }
 
 -- And it is right for words that ask for something and for those that don't.
-pub serves-memory : (asked : Option Request) (remaining old new : Option (List ℕ)) (read_failed write_failed : Bool) (status : ℕ)
+pub serves-memory : OverlapsShown → BreachesShown → (asked : Option Request) (remaining old new : Option (List ℕ)) (read_failed write_failed : Bool) (status : ℕ)
     → WritesLine old new (codes "fault: out of memory\n") 2 write_failed status → Serves asked remaining old new read_failed write_failed status
-serves-memory None remaining old new read_failed write_failed status w =
+serves-memory overlaps breaches None remaining old new read_failed write_failed status w =
     serves-nothing remaining old new read_failed write_failed status (memory-nothing old new write_failed status w)
-serves-memory (Some request) remaining old new read_failed write_failed status w =
-    serves-answer request remaining old new read_failed write_failed status (memory-answers request remaining old new read_failed write_failed status w)
+serves-memory overlaps breaches (Some request) remaining old new read_failed write_failed status w =
+    serves-answer overlaps breaches request remaining old new read_failed write_failed status (memory-answers request remaining old new read_failed write_failed status w)
 
 -- Words that are refused ask for nothing, unless memory is out.
-pub serves-refused : {T : Type 0} (kind none : T) (asked : Option Request) (remaining old new : Option (List ℕ)) (read_failed write_failed : Bool) (status : ℕ)
+pub serves-refused : {T : Type 0} → OverlapsShown → BreachesShown → (kind none : T) (asked : Option Request) (remaining old new : Option (List ℕ)) (read_failed write_failed : Bool) (status : ℕ)
     → (kind ≡ none) ⊎ (asked ≡ None) → (kind ≡ none → WritesLine old new (codes "fault: out of memory\n") 2 write_failed status) → AnswersNothing old new status
     → Serves asked remaining old new read_failed write_failed status
-serves-refused kind none asked remaining old new read_failed write_failed status (inl e) memory a =
-    serves-memory asked remaining old new read_failed write_failed status (memory e)
-serves-refused kind none asked remaining old new read_failed write_failed status (inr e) memory a =
+serves-refused overlaps breaches kind none asked remaining old new read_failed write_failed status (inl e) memory a =
+    serves-memory overlaps breaches asked remaining old new read_failed write_failed status (memory e)
+serves-refused overlaps breaches kind none asked remaining old new read_failed write_failed status (inr e) memory a =
     subst (λ o. Serves o remaining old new read_failed write_failed status) (sym e) (serves-nothing remaining old new read_failed write_failed status a)
 
-pub serves-asked : (asked : Option Request) (request : Request) (remaining old new : Option (List ℕ)) (read_failed write_failed : Bool) (status : ℕ)
+pub serves-asked : OverlapsShown → BreachesShown → (asked : Option Request) (request : Request) (remaining old new : Option (List ℕ)) (read_failed write_failed : Bool) (status : ℕ)
     → asked ≡ Some request → Answers request remaining old new read_failed write_failed status → Serves asked remaining old new read_failed write_failed status
-serves-asked asked request remaining old new read_failed write_failed status is a =
-    subst (λ o. Serves o remaining old new read_failed write_failed status) (sym is) (serves-answer request remaining old new read_failed write_failed status a)
+serves-asked overlaps breaches asked request remaining old new read_failed write_failed status is a =
+    subst (λ o. Serves o remaining old new read_failed write_failed status) (sym is) (serves-answer overlaps breaches request remaining old new read_failed write_failed status a)
 
 -- Words that are the same ask for the same.
 pub serves-same : (words same : List (List ℕ)) (remaining old new : Option (List ℕ)) (read_failed write_failed : Bool) (status : ℕ)

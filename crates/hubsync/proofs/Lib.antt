@@ -1,11 +1,7 @@
 pub mod Answered
 pub mod InputFacts
-pub mod NearestFacts
-pub mod ShownFacts
-pub mod CheckFacts
-pub mod Finds
-pub mod OneShown
 pub mod Lines
-pub mod Sections
-pub mod ReportFacts
+pub mod Headings
+pub mod Told
+pub mod Unsafe
 pub mod WordsFacts

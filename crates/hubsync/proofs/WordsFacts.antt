@@ -1,5 +1,5 @@
 -- From what clap says of a parse to what the words ask for.
-use Rattle.std.proofs.Common.{◌≡◌, ◌∙◌, ◌⊎◌, inl, inr, refl, sym, ap, ap₂, subst, Bool, true, cond, true≢false, List, [], ◌∷◌, Option, Some, None, Result, Ok, Err, IfErr, IsErrAnd, codes, is_some, option_map, unwrap_or}
+use Rattle.std.proofs.Common.{◌≡◌, ◌∙◌, ◌⊎◌, inl, inr, refl, sym, ap, ap₂, subst, Bool, true, false, cond, true≢false, List, [], ◌∷◌, Option, Some, None, Result, Ok, Err, IfErr, IsErrAnd, codes, is_some, option_map, unwrap_or}
 use Rattle.std.specs.Prelude.{Box}
 use Rattle.std.specs.Box.{box_value}
 use Rattle.std.specs.Str.{bytes_eq}
@@ -13,7 +13,7 @@ use Rattle.clap.specs.declared.error.kind.ErrorKind.TheVariants.{OutOfMemory}
 use Rattle.clap.specs.declared.parser.matches.ArgMatches.{ArgMatches}
 use Rattle.clap.specs.declared.parser.matches.ArgMatches.TheViews.{out-ArgMatches, out-SubCommand}
 use Rattle.clap.specs.declared.parser.matches.SubCommand.{SubCommand}
-use Rattle.hubsync.specs.Words.{Request, asked_of, hubsync_app, operands_of, request_in, unless_fault}
+use Rattle.hubsync.specs.Words.{Request, about_named, asked_of, hubsync_app, operands_of, request_in, unless_fault}
 
 simple : is_simple hubsync_app ≡ true
 unfolding clap_on_literals hubsync_app
@@ -68,5 +68,13 @@ pub reach_in : (m : ArgMatches) (name : Text) (o : ArgMatches) → Some name ≡
     → request_in (subcommand_rows_of m) ≡ operands_of (first_value (found_of o) (codes "profile")) (first_value (found_of o) (codes "path"))
 reach_in m name o e h is =
     ap request_in (parts (out-ArgMatches m).subcommand name (rows_of (found_of o)) e h)
-    ∙ ap (λ (b : Bool). cond b (operands_of (first_of (codes "profile") (rows_of (found_of o))) (first_of (codes "path") (rows_of (found_of o)))) None) is
+    ∙ ap (λ (b : Bool). cond b (operands_of (first_of (codes "profile") (rows_of (found_of o))) (first_of (codes "path") (rows_of (found_of o)))) (about_named name)) is
     ∙ ap₂ operands_of (sym (first_value-rows (found_of o) (codes "profile"))) (sym (first_value-rows (found_of o) (codes "path")))
+
+-- what a command without operands asks for
+pub about_in : (m : ArgMatches) (name : Text) (o : ArgMatches) → Some name ≡ subcommand_name_of m
+    → Some (rows_of (found_of o)) ≡ option_map (λ p. p.1) (subcommand_rows_of m) → bytes_eq name (codes "reach") ≡ false
+    → request_in (subcommand_rows_of m) ≡ about_named name
+about_in m name o e h is =
+    ap request_in (parts (out-ArgMatches m).subcommand name (rows_of (found_of o)) e h)
+    ∙ ap (λ (b : Bool). cond b (operands_of (first_of (codes "profile") (rows_of (found_of o))) (first_of (codes "path") (rows_of (found_of o)))) (about_named name)) is

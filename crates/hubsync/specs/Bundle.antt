@@ -1,5 +1,5 @@
 -- Which bytes are bundles, what their sections are, and the first fault of all others.
-use Rattle.std.specs.Prelude.{ℕ, ◌+◌, Bool, true, false, ◌&&◌, ◌||◌, ◌==◌, nat_eq, List, [], ◌∷◌, ◌++◌, ◌-◌, take, drop, length, Option, Some, None, Result, Ok, Err, if◌then◌else◌, codes, bytes_eq}
+use Rattle.std.specs.Prelude.{ℕ, ◌+◌, Bool, true, false, ◌||◌, ◌==◌, nat_eq, List, [], ◌∷◌, ◌++◌, ◌-◌, take, drop, length, Option, Some, None, Result, Ok, Err, if◌then◌else◌, codes, bytes_eq}
 use Rattle.std.specs.List.{list_any, list_all, starts_with, ends_with}
 use Rattle.std.specs.Str.{is_utf8, chars}
 use Rattle.hub_text.specs.declared.line.Line.{Line}
@@ -8,7 +8,7 @@ use Rattle.hub_path.specs.Path.{Name}
 use Rattle.hub_path.specs.Reading.{name_reading}
 use Rattle.hub_path.specs.declared.fault.PathFault.{PathFault}
 use Rattle.hubsync.specs.declared.bundle.Heading.{Heading}
-use Rattle.hubsync.specs.declared.bundle.Heading.TheVariants.{Profile}
+use Rattle.hubsync.specs.declared.bundle.Heading.TheVariants.{Profile, Certificates}
 use Rattle.hubsync.specs.declared.bundle.BundleFault.{BundleFault}
 use Rattle.hubsync.specs.declared.bundle.BundleFault.TheVariants.{NoSection, UnknownSection, BadName, SectionTwice, OutOfMemory}
 use Rattle.hubsync.specs.declared.bundle.BundleLineFault.{BundleLineFault}
@@ -72,39 +72,43 @@ profile_or_fault (Err e) = Err BadName
 abbrev pub profile_reading : List ℕ → Result Heading BundleFault
 profile_reading bytes = if is_utf8 bytes then profile_or_fault (name_reading (chars bytes)) else Err BadName
 
--- The headings of the sections that stand once, with what they say. None is known yet.
-abbrev pub headings_once : List (List ℕ × Heading)
-headings_once = []
+-- The certificates have a heading without a name.
+abbrev pub heading_once : List ℕ → Option Heading
+heading_once l = if bytes_eq l (codes "%certificates") then Some Certificates else None
 
-abbrev pub heading_among : List (List ℕ × Heading) → List ℕ → Result Heading BundleFault
-heading_among [] l = Err UnknownSection
-heading_among (k ∷ ks) l = if bytes_eq k.0 l then Ok k.1 else heading_among ks l
+abbrev pub known_or_fault : Option Heading → Result Heading BundleFault
+known_or_fault (Some h) = Ok h
+known_or_fault None = Err UnknownSection
 
+-- What a heading says by itself.
 abbrev pub heading_reading : List ℕ → Result Heading BundleFault
 heading_reading l =
-    if starts_with nat_eq l profile_word then profile_reading (drop (length profile_word) l)
-    else heading_among headings_once l
+    if starts_with nat_eq l profile_word then profile_reading (drop (length profile_word) l) else known_or_fault (heading_once l)
 
--- What a heading says below these other ones. Only profiles' headings may stand more than once.
-abbrev pub heading_below : List (List ℕ) → List ℕ → Result Heading BundleFault
-heading_below above l =
-    if list_any (λ k. bytes_eq k.0 l) headings_once && list_any (bytes_eq l) above then Err SectionTwice
-    else heading_reading l
+abbrev pub is_certificates : Heading → Bool
+is_certificates (Profile n) = false
+is_certificates Certificates = true
 
--- A section, and then those below it.
-abbrev pub with_section : SectionValue → Result (List SectionValue) BundleLineFault → Result (List SectionValue) BundleLineFault
-with_section s (Ok ss) = Ok (s ∷ ss)
-with_section s (Err f) = Err f
+-- Profiles may be many; the certificates are repeated if they are above too.
+abbrev pub is_repeated : List SectionValue → Heading → Bool
+is_repeated above (Profile n) = false
+is_repeated above Certificates = list_any (λ s. is_certificates s.heading) above
 
-abbrev pub with_heading : Written → Result Heading BundleFault → Result (List SectionValue) BundleLineFault → Result (List SectionValue) BundleLineFault
-with_heading w (Ok h) later = with_section (record { heading = h; bytes = w.bytes }) later
-with_heading w (Err f) later = Err (record { line = w.line; fault = f })
+-- What a heading says below these sections.
+abbrev pub heading_below : List SectionValue → Result Heading BundleFault → Result Heading BundleFault
+heading_below above (Ok h) = if is_repeated above h then Err SectionTwice else Ok h
+heading_below above (Err f) = Err f
 
--- The sections in order, or the fault of the first heading that has one.
-abbrev pub sections_reading : List (List ℕ) → List Written → Result (List SectionValue) BundleLineFault
-sections_reading above [] = Ok []
+-- What follows a heading: its section and those below it, or its fault.
+abbrev pub after_heading : Written → Result Heading BundleFault → (SectionValue → Result (List SectionValue) BundleLineFault) → Result (List SectionValue) BundleLineFault
+after_heading w (Ok h) later = later (record { heading = h; bytes = w.bytes })
+after_heading w (Err f) later = Err (record { line = w.line; fault = f })
+
+-- These sections and then those that are written, or the fault of the first heading that has one.
+abbrev pub sections_reading : List SectionValue → List Written → Result (List SectionValue) BundleLineFault
+sections_reading above [] = Ok above
 sections_reading above (w ∷ ws) =
-    with_heading w (heading_below above w.heading) (sections_reading (w.heading ∷ above) ws)
+    after_heading w (heading_below above (heading_reading w.heading)) (λ s. sections_reading (above ++ s ∷ []) ws)
 
 abbrev pub unless_stray : Option ℕ → Result (List SectionValue) BundleLineFault → Result (List SectionValue) BundleLineFault
 unless_stray None later = later

@@ -1,12 +1,9 @@
 pub mod Bundle
 pub mod Input
-pub mod Nearest
-pub mod Shown
-pub mod Check
+pub mod Sections
+pub mod Refusal
 pub mod Reached
 pub mod Report
 pub mod Examples
-pub mod CheckExamples
-pub mod NearestExamples
 pub mod Words
 pub mod WordsExamples

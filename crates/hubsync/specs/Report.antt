@@ -1,81 +1,58 @@
 -- What the program answers to an input, and when.
-use Rattle.std.specs.Prelude.{◌≡◌, ◌⊎◌, ◌≤◌, ◌∷◌, ◌++◌, ⊤, ℕ, Bool, true, false, if◌then◌else◌, List, [], length, take, Option, Some, None, IfSome, Result, Ok, Err, chars, codes, encode_utf8_all}
+use Rattle.std.specs.Prelude.{◌≡◌, ◌≢◌, ◌⊎◌, ◌≤◌, ◌∷◌, ◌++◌, ⊤, ℕ, Bool, true, false, if◌then◌else◌, List, [], length, take, Option, Some, None, IfSome, Ok, Err, chars, codes, encode_utf8_all, string_bytes}
 use Rattle.std.specs.List.{flat_map}
 use Rattle.std.specs.Fmt.{decimal}
 use Rattle.std.specs.Io.KnownBytes.{Appends, Keeps}
-use Rattle.hub_path.specs.Path.{Name, Path, text_of}
+use Rattle.hub_path.specs.Path.{Name, Path}
 use Rattle.hub_path.specs.Reading.{path_reading}
 use Rattle.hub_path.specs.declared.fault.PathFault.{PathFault}
 use Rattle.hub_profile.specs.Parts.{Parts}
-use Rattle.hub_profile.specs.Reading.{profile_in}
-use Rattle.hub_profile.specs.declared.fault.ProfileFault.{ProfileFault}
 use Rattle.hub_reach.specs.Reach.{reach}
-use Rattle.hub_reach.specs.Safe.{IsSafe}
+use Rattle.hub_cert.specs.Set.{Members, IsSafeSet}
+use Rattle.hub_cert.specs.Refused.{IsRefused}
+use Rattle.hub_cert.specs.Verdict.{AreCertificates, Refuses}
+use Rattle.hub_cert.specs.Writing.{certificates_text}
+use Rattle.hub_cert.specs.declared.certificate.Certificate.{Certificate}
+use Rattle.hub_cert.specs.declared.fault.CheckFault.{CheckFault}
+use Rattle.hub_cert.specs.declared.fault.CheckFault.TheVariants as fault
+use Rattle.hub_search.specs.Search.{IsFirstFault}
 use Rattle.hubsync.specs.declared.input.TheConstants.{READ_TURNS}
 use Rattle.hubsync.specs.declared.input.InputFault.{InputFault}
 use Rattle.hubsync.specs.declared.input.InputFault.TheVariants as input
-use Rattle.hubsync.specs.declared.bundle.Heading.{Heading}
-use Rattle.hubsync.specs.declared.bundle.Heading.TheVariants.{Profile}
-use Rattle.hubsync.specs.declared.profiles.SectionFault.{SectionFault}
-use Rattle.hubsync.specs.declared.profiles.ReadError.{ReadError}
-use Rattle.hubsync.specs.declared.profiles.ReadError.TheVariants as memory
-use Rattle.hubsync.specs.declared.check.Overlap.{Overlap}
-use Rattle.hubsync.specs.declared.check.Refusal.{Refusal}
-use Rattle.hubsync.specs.declared.check.Refusal.TheVariants.{TooManyProfiles, SameName, NestedRoots, Patterns, Overlaps}
+use Rattle.hubsync.specs.declared.sections.Contents.{Contents}
+use Rattle.hubsync.specs.declared.sections.SectionFault.{SectionFault}
+use Rattle.hubsync.specs.declared.sections.SectionFault.TheVariants.{OfProfile, OfCertificates}
 use Rattle.hubsync.specs.declared.report.Report.{Report}
-use Rattle.hubsync.specs.declared.report.Report.TheVariants.{Safe, Refused, Reached, NotReached, NoProfile, BadPath, Unread, BadBundle, BadProfile, OutOfMemory}
-use Rattle.hubsync.specs.Bundle.{SectionValue, bundle_reading}
-use Rattle.hubsync.specs.Check.{Refuses}
+use Rattle.hubsync.specs.declared.report.Report.TheVariants.{Safe, Verified, Certified, Refused, Reached, NotReached, NoProfile, BadPath, Unread, BadBundle, BadSection, OutOfMemory}
+use Rattle.hubsync.specs.declared.words.Question.{Question}
+use Rattle.hubsync.specs.declared.words.Question.TheVariants.{Check, Certify, Verify}
+use Rattle.hubsync.specs.Bundle.{bundle_reading}
 use Rattle.hubsync.specs.Input.{says_failed}
 use Rattle.hubsync.specs.Reached.{named}
+use Rattle.hubsync.specs.Refusal.{refusal_line}
+use Rattle.hubsync.specs.Sections.{Spells, HasFault, members}
 use Rattle.hubsync.specs.Words.{Request}
 use Rattle.hubsync.specs.Words as question
 
-infixl 10 ◌>>=◌
-abbrev pub ◌>>=◌ : {A B : Type 0} → Result A SectionFault → (A → Result B SectionFault) → Result B SectionFault
-(Ok x) >>= f = f x
-(Err e) >>= f = Err e
-
-abbrev pub named_fault : Name → Result Parts ProfileFault → Result Parts SectionFault
-named_fault name (Ok P) = Ok P
-named_fault name (Err f) = Err (record { profile = name; fault = f })
-
-abbrev pub under_heading : Heading → List ℕ → Result Parts SectionFault
-under_heading (Profile name) bytes = named_fault name (profile_in name bytes)
-
--- The profile that a section spells, or its first fault.
-abbrev pub section_reading : SectionValue → Result Parts SectionFault
-section_reading s = under_heading s.heading s.bytes
-
--- The profiles of the sections, in order, or the first fault of the first faulty section.
-abbrev pub sections_reading : List SectionValue → Result (List Parts) SectionFault
-sections_reading [] = Ok []
-sections_reading (s ∷ ss) = do
-  P ← section_reading s
-  Ps ← sections_reading ss
-  Ok (P ∷ Ps)
-
--- What was refused memory fails with no fault; another error is the fault of the reading.
-abbrev pub FailsAs : {T : Type 0} → Result T SectionFault → ReadError → Type 0
-FailsAs reading memory.OutOfMemory = ⊤
-FailsAs reading (memory.Faulty f) = reading ≡ Err f
-
--- The bytes are a bundle of these profiles.
-pub record Spells (bytes : List ℕ) (Ps : List Parts) : Type 0 where
-  pub sections : List SectionValue
-  pub bundle : bundle_reading bytes ≡ Ok sections
-  pub profiles : sections_reading sections ≡ Ok Ps
-
--- The bytes are a bundle one of whose sections is faulty.
-pub record HasFault (bytes : List ℕ) (f : SectionFault) : Type 0 where
-  pub sections : List SectionValue
-  pub bundle : bundle_reading bytes ≡ Ok sections
-  pub profiles : sections_reading sections ≡ Err f
-
+-- The bytes are a bundle whose profiles are a safe set.
 pub record SpellsSafe (bytes : List ℕ) : Type 0 where
-  pub profiles : List Parts
-  pub spelled : Spells bytes profiles
-  pub safe : IsSafe profiles []
+  pub contents : Contents
+  pub spelled : Spells bytes contents
+  pub safe : IsSafeSet (members contents)
+
+-- The bytes are a bundle whose profiles aren't.
+pub record SpellsUnsafe (bytes : List ℕ) : Type 0 where
+  pub contents : Contents
+  pub spelled : Spells bytes contents
+  pub unsafe : IsSafeSet (members contents) → ⊥
+
+-- The words ask to verify the bundle's certificates, and these make its set safe.
+pub record SpellsVerified (asked : Option Request) (bytes : List ℕ) : Type 0 where
+  pub is_asked : asked ≡ Some (question.about Verify)
+  pub contents : Contents
+  pub spelled : Spells bytes contents
+  pub inductive : AreCertificates (members contents) contents.certificates
+  pub safe : IsSafeSet (members contents)
 
 -- It was asked whether a profile reaches a path, and this is the answer of the first profile of that name.
 pub record ReachIs (request : Request) (Ps : List Parts) (answer : Bool) : Type 0 where
@@ -103,24 +80,81 @@ pub record HasBadPath (request : Request) (Ps : List Parts) (f : PathFault) : Ty
   pub profile_is : named profile Ps ≡ Some P
   pub fault : path_reading (chars path) ≡ Err f
 
--- What holds of the question and the profiles where the program answers so to profiles that were read.
-abbrev pub IsTold : Request → List Parts → Report → Type 0
-IsTold request Ps Safe = (request ≡ question.check) × IsSafe Ps []
-IsTold request Ps (Refused r) = (request ≡ question.check) × Refuses Ps r
-IsTold request Ps Reached = ReachIs request Ps true
-IsTold request Ps NotReached = ReachIs request Ps false
-IsTold request Ps (NoProfile name) = LacksProfile request Ps name.now
-IsTold request Ps (BadPath f) = HasBadPath request Ps f
-IsTold request Ps (Unread f) = ⊥
-IsTold request Ps (BadBundle f) = ⊥
-IsTold request Ps (BadProfile f) = ⊥
-IsTold request Ps OutOfMemory = ⊤
+-- The fault with which a question about a set that was made is answered, where these are the bundle's certificates.
+abbrev pub FaultOf : Question → Members → List Certificate → CheckFault → Type 0
+FaultOf Check S cs e = (e ≡ fault.OutOfMemory) ⊎ IsFirstFault S e
+FaultOf Certify S cs e = (e ≡ fault.OutOfMemory) ⊎ IsFirstFault S e
+FaultOf Verify S cs e = Refuses S cs e
 
--- The bytes are a bundle of profiles of which that is true.
+-- A set is refused for that fault, by the fault's line. Out of memory is told by itself.
+abbrev pub IsRefusal : Members → CheckFault → Report → Type 0
+IsRefusal S e Safe = ⊥
+IsRefusal S e Verified = ⊥
+IsRefusal S e (Certified t) = ⊥
+IsRefusal S e (Refused t) = (e ≢ fault.OutOfMemory) × (string_bytes t ≡ refusal_line S e)
+IsRefusal S e Reached = ⊥
+IsRefusal S e NotReached = ⊥
+IsRefusal S e (NoProfile name) = ⊥
+IsRefusal S e (BadPath f) = ⊥
+IsRefusal S e (Unread f) = ⊥
+IsRefusal S e (BadBundle f) = ⊥
+IsRefusal S e (BadSection f) = ⊥
+IsRefusal S e OutOfMemory = ⊤
+
+-- What holds of a set that was made and of the bundle's certificates where a question is answered so.
+abbrev pub IsToldOfSet : Question → Members → List Certificate → Report → Type 0
+IsToldOfSet q S cs Safe = (q ≡ Check) × IsSafeSet S
+IsToldOfSet q S cs Verified = (q ≡ Verify) × AreCertificates S cs × IsSafeSet S
+IsToldOfSet q S cs (Certified t) = (q ≡ Certify) × ((own : List Certificate) × AreCertificates S own × (string_bytes t ≡ certificates_text own))
+IsToldOfSet q S cs (Refused t) = (e : CheckFault) × FaultOf q S cs e × IsRefusal S e (Refused t)
+IsToldOfSet q S cs Reached = ⊥
+IsToldOfSet q S cs NotReached = ⊥
+IsToldOfSet q S cs (NoProfile name) = ⊥
+IsToldOfSet q S cs (BadPath f) = ⊥
+IsToldOfSet q S cs (Unread f) = ⊥
+IsToldOfSet q S cs (BadBundle f) = ⊥
+IsToldOfSet q S cs (BadSection f) = ⊥
+IsToldOfSet q S cs OutOfMemory = ⊤
+
+-- The profiles are no set, or the set is refused.
+abbrev pub IsRefusedFor : Question → Contents → CheckFault → Type 0
+IsRefusedFor q c e = IsRefused (members c) e ⊎ FaultOf q (members c) c.certificates e
+
+-- It was asked about the set, and this refuses it.
+pub record IsToldRefused (request : Request) (c : Contents) (r : Report) : Type 0 where
+  pub of_set : Question
+  pub asked : request ≡ question.about of_set
+  pub reason : CheckFault
+  pub refused : IsRefusedFor of_set c reason
+  pub told : IsRefusal (members c) reason r
+
+-- It was asked for certificates, and this is the text of some that make the set safe.
+pub record IsToldCertified (request : Request) (c : Contents) (text : List ℕ) : Type 0 where
+  pub asked : request ≡ question.about Certify
+  pub certificates : List Certificate
+  pub inductive : AreCertificates (members c) certificates
+  pub text_is : text ≡ certificates_text certificates
+
+-- What holds of the question and of what the bundle says where the program answers so to a bundle that was read.
+abbrev pub IsTold : Request → Contents → Report → Type 0
+IsTold request c Safe = (request ≡ question.about Check) × IsSafeSet (members c)
+IsTold request c Verified = (request ≡ question.about Verify) × AreCertificates (members c) c.certificates × IsSafeSet (members c)
+IsTold request c (Certified t) = IsToldCertified request c (string_bytes t)
+IsTold request c (Refused t) = IsToldRefused request c (Refused t)
+IsTold request c Reached = ReachIs request c.profiles true
+IsTold request c NotReached = ReachIs request c.profiles false
+IsTold request c (NoProfile name) = LacksProfile request c.profiles name.now
+IsTold request c (BadPath f) = HasBadPath request c.profiles f
+IsTold request c (Unread f) = ⊥
+IsTold request c (BadBundle f) = ⊥
+IsTold request c (BadSection f) = ⊥
+IsTold request c OutOfMemory = ⊤
+
+-- The bytes are a bundle of which that is true.
 pub record IsTrueOf (request : Request) (bytes : List ℕ) (r : Report) : Type 0 where
-  pub profiles : List Parts
-  pub spelled : Spells bytes profiles
-  pub told : IsTold request profiles r
+  pub contents : Contents
+  pub spelled : Spells bytes contents
+  pub told : IsTold request contents r
 
 -- What holds of an input that isn't read. That a read failed is no fact about its bytes: `says_read_failed` tells it.
 abbrev pub IsUnread : List ℕ → InputFault → Type 0
@@ -131,42 +165,25 @@ IsUnread bytes input.OutOfMemory = ⊤
 -- What holds of the question and the input where the program answers so.
 abbrev pub Holds : Request → List ℕ → Report → Type 0
 Holds request bytes Safe = IsTrueOf request bytes Safe
-Holds request bytes (Refused r) = IsTrueOf request bytes (Refused r)
+Holds request bytes Verified = IsTrueOf request bytes Verified
+Holds request bytes (Certified t) = IsTrueOf request bytes (Certified t)
+Holds request bytes (Refused t) = IsTrueOf request bytes (Refused t)
 Holds request bytes Reached = IsTrueOf request bytes Reached
 Holds request bytes NotReached = IsTrueOf request bytes NotReached
 Holds request bytes (NoProfile name) = IsTrueOf request bytes (NoProfile name)
 Holds request bytes (BadPath f) = IsTrueOf request bytes (BadPath f)
 Holds request bytes (Unread f) = IsUnread bytes f
 Holds request bytes (BadBundle f) = bundle_reading bytes ≡ Err f
-Holds request bytes (BadProfile f) = HasFault bytes f
+Holds request bytes (BadSection f) = HasFault bytes f
 Holds request bytes OutOfMemory = ⊤
 
 -- The words ask whether a profile reaches a path, and this is what a profile that the bytes spell answers.
 pub record SpellsReach (asked : Option Request) (bytes : List ℕ) (answer : Bool) : Type 0 where
   pub request : Request
   pub is_asked : asked ≡ Some request
-  pub profiles : List Parts
-  pub spelled : Spells bytes profiles
-  pub answered : ReachIs request profiles answer
-
-abbrev pub root_text : Path → List ℕ
-root_text r = codes "/" ++ encode_utf8_all (text_of r)
-
-abbrev pub path_text : Path → List ℕ
-path_text p = encode_utf8_all (text_of p)
-
--- The line of an overlap, and of each refusal.
-abbrev pub overlap_line : Overlap → List ℕ
-overlap_line o = flat_map (λ t. t)
-    (codes "overlap: " ∷ encode_utf8_all o.writer ∷ codes " writes " ∷ path_text o.held ∷ codes " at " ∷ root_text o.root
-    ∷ codes ", " ∷ encode_utf8_all o.other ∷ codes " reaches " ∷ path_text o.path ∷ codes "\n" ∷ [])
-
-abbrev pub refusal_line : Refusal → List ℕ
-refusal_line TooManyProfiles = codes "refused: TooManyProfiles\n"
-refusal_line (SameName name) = flat_map (λ t. t) (codes "refused: SameName " ∷ encode_utf8_all name ∷ codes "\n" ∷ [])
-refusal_line (NestedRoots r s) = flat_map (λ t. t) (codes "refused: NestedRoots " ∷ root_text r ∷ codes " and " ∷ root_text s ∷ codes "\n" ∷ [])
-refusal_line Patterns = codes "refused: Patterns\n"
-refusal_line (Overlaps o) = overlap_line o
+  pub contents : Contents
+  pub spelled : Spells bytes contents
+  pub answered : ReachIs request contents.profiles answer
 
 -- The line of a fault: the place that has it, and what it is called.
 abbrev pub fault_line : List ℕ → List ℕ → List ℕ
@@ -176,50 +193,63 @@ fault_line place name = flat_map (λ t. t) (codes "fault: " ∷ place ∷ codes 
 abbrev pub IsFaultLine : List ℕ → List ℕ → Type 0
 IsFaultLine place t = (name : List ℕ) × (t ≡ fault_line place name)
 
--- The places: a line of the bundle, and a line of a profile, counted from the one below its heading.
+-- The places: a line of the bundle, and a line of a section, counted from the one below its heading.
 abbrev pub bundle_place : ℕ → List ℕ
 bundle_place line = codes "bundle line " ++ decimal line
 
 abbrev pub profile_place : Name → ℕ → List ℕ
 profile_place name line = codes "profile " ++ (encode_utf8_all name ++ (codes " line " ++ decimal line))
 
--- The line that says an answer.
+abbrev pub certificates_place : ℕ → List ℕ
+certificates_place line = codes "certificates line " ++ decimal line
+
+abbrev pub section_place : SectionFault → List ℕ
+section_place (OfProfile name f) = profile_place name f.line
+section_place (OfCertificates line) = certificates_place line
+
+-- The line that says an answer, or the certificates' text.
 abbrev pub IsLine : Report → List ℕ → Type 0
 IsLine Safe t = t ≡ codes "safe\n"
-IsLine (Refused r) t = t ≡ refusal_line r
+IsLine Verified t = t ≡ codes "verified\n"
+IsLine (Certified text) t = t ≡ string_bytes text
+IsLine (Refused line) t = t ≡ string_bytes line
 IsLine Reached t = t ≡ codes "reached\n"
 IsLine NotReached t = t ≡ codes "not reached\n"
 IsLine (NoProfile name) t = t ≡ flat_map (λ t. t) (codes "fault: no profile " ∷ name.now ∷ codes "\n" ∷ [])
 IsLine (BadPath f) t = IsFaultLine (codes "path") t
 IsLine (Unread f) t = IsFaultLine (codes "bundle line 0") t
 IsLine (BadBundle f) t = IsFaultLine (bundle_place f.line) t
-IsLine (BadProfile f) t = IsFaultLine (profile_place f.profile f.fault.line) t
+IsLine (BadSection f) t = IsFaultLine (section_place f) t
 IsLine OutOfMemory t = t ≡ codes "fault: out of memory\n"
 
 -- The status of an answer that was written whole.
 abbrev pub status_of : Report → ℕ
 status_of Safe = 0
-status_of (Refused r) = 1
+status_of Verified = 0
+status_of (Certified t) = 0
+status_of (Refused t) = 1
 status_of Reached = 0
 status_of NotReached = 0
 status_of (NoProfile name) = 2
 status_of (BadPath f) = 2
 status_of (Unread f) = 2
 status_of (BadBundle f) = 2
-status_of (BadProfile f) = 2
+status_of (BadSection f) = 2
 status_of OutOfMemory = 2
 
 -- The answer says that a read of the input failed.
 abbrev pub says_read_failed : Report → Bool
 says_read_failed Safe = false
-says_read_failed (Refused r) = false
+says_read_failed Verified = false
+says_read_failed (Certified t) = false
+says_read_failed (Refused t) = false
 says_read_failed Reached = false
 says_read_failed NotReached = false
 says_read_failed (NoProfile name) = false
 says_read_failed (BadPath f) = false
 says_read_failed (Unread f) = says_failed f
 says_read_failed (BadBundle f) = false
-says_read_failed (BadProfile f) = false
+says_read_failed (BadSection f) = false
 says_read_failed OutOfMemory = false
 
 -- A line was written to an output, whole unless a call of the output failed: then a prefix of it, and the status is 2.
@@ -254,6 +284,14 @@ pub record Serves (asked : Option Request) (remaining old new : Option (List ℕ
   -- `safe` is written only if the input spells a safe set,
   pub safe : (bytes before text : List ℕ) → remaining ≡ Some bytes → old ≡ Some before
       → new ≡ Some (before ++ (codes "safe\n" ++ text)) → SpellsSafe bytes
+  -- `verified` only if the words ask for `verify`, and the input's certificates show that the set that it spells is safe,
+  pub verified : (bytes before text : List ℕ) → remaining ≡ Some bytes → old ≡ Some before
+      → new ≡ Some (before ++ (codes "verified\n" ++ text)) → SpellsVerified asked bytes
+  -- `overlap:` and `breach:` only if the input spells a set that isn't safe,
+  pub overlap : (bytes before text : List ℕ) → remaining ≡ Some bytes → old ≡ Some before
+      → new ≡ Some (before ++ (codes "overlap: " ++ text)) → SpellsUnsafe bytes
+  pub breach : (bytes before text : List ℕ) → remaining ≡ Some bytes → old ≡ Some before
+      → new ≡ Some (before ++ (codes "breach: " ++ text)) → SpellsUnsafe bytes
   -- and `reached` and `not reached` only if the words ask for `reach` and that is the answer.
   pub reached : (bytes before text : List ℕ) → remaining ≡ Some bytes → old ≡ Some before
       → new ≡ Some (before ++ (codes "reached\n" ++ text)) → SpellsReach asked bytes true

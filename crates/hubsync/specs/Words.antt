@@ -5,7 +5,9 @@ use Rattle.clap.specs.Kinds.{Kinds}
 use Rattle.clap.specs.Simple.{on_top}
 use Rattle.clap.specs.Words.{App, Row, Rule, Text, fault_of, first_of, new_app, new_rule, subcommand_of, with_rule, with_subcommand}
 use Rattle.hubsync.specs.declared.words.Asked.{Asked}
-use Rattle.hubsync.specs.declared.words.Asked.TheVariants.{Check, Reach}
+use Rattle.hubsync.specs.declared.words.Asked.TheVariants.{About, Reach}
+use Rattle.hubsync.specs.declared.words.Question.{Question}
+use Rattle.hubsync.specs.declared.words.Question.TheVariants.{Check, Certify, Verify}
 
 -- a required operand
 abbrev pub operand : Text → Rule
@@ -19,17 +21,23 @@ reach_app = with_rule (with_rule (new_app (codes "reach")) (operand (codes "prof
 abbrev pub top_app : App
 top_app = on_top (λ s. record s { has_version = true }) (new_app (codes "hubsync"))
 
+-- `hubsync` with the commands that have no operands
+abbrev pub about_app : App
+about_app =
+    with_subcommand (with_subcommand (with_subcommand top_app (new_app (codes "check")).top) (new_app (codes "certify")).top)
+    (new_app (codes "verify")).top
+
 -- the command as clap reads it
 unfoldable pub hubsync_app : App
-hubsync_app = with_subcommand top_app reach_app.top
+hubsync_app = with_subcommand about_app reach_app.top
 
--- what is asked for: whether the profiles may run at the same time, or whether a profile reaches a path
+-- what is asked for: something about the set of the profiles, or whether a profile reaches a path
 pub data Request : Type 0 where
-  check : Request
+  about : Question → Request
   reach : Text → Text → Request
 
 abbrev pub request_of : Asked → Request
-request_of Check = check
+request_of (About question) = about question
 request_of (Reach profile path) = reach profile.now path.now
 
 -- the operands PROFILE and PATH, if both are there
@@ -38,11 +46,19 @@ operands_of None path = None
 operands_of (Some profile) None = None
 operands_of (Some profile) (Some path) = Some (reach profile path)
 
+-- what a command without operands asks for
+abbrev pub about_named : Text → Option Request
+about_named name =
+    if bytes_eq name (codes "check") then Some (about Check)
+    else (if bytes_eq name (codes "certify") then Some (about Certify)
+    else (if bytes_eq name (codes "verify") then Some (about Verify) else None))
+
 -- what the command that was used asks for, by its name and the rows of its operands
 abbrev pub request_in : Option (Text × List Row) → Option Request
-request_in None = Some check
+request_in None = Some (about Check)
 request_in (Some p) =
-    if bytes_eq p.0 (codes "reach") then operands_of (first_of (codes "profile") p.1) (first_of (codes "path") p.1) else None
+    if bytes_eq p.0 (codes "reach") then operands_of (first_of (codes "profile") p.1) (first_of (codes "path") p.1)
+    else about_named p.0
 
 -- nothing is asked for if there is a fault
 abbrev pub unless_fault : Kinds → Option Request → Option Request

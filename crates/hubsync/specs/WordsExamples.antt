@@ -2,7 +2,8 @@
 use Rattle.std.specs.Prelude.{⊤, ◌≡◌, List, [], ◌∷◌, Option, Some, None, codes, refl}
 use Rattle.clap.proofs.OnLiterals.{clap_on_literals}
 use Rattle.clap.specs.Words.{Text}
-use Rattle.hubsync.specs.Words.{Request, asked_of, check, hubsync_app, reach}
+use Rattle.hubsync.specs.Words.{Request, about, asked_of, hubsync_app, reach}
+use Rattle.hubsync.specs.declared.words.Question.TheVariants.{Check, Certify, Verify}
 
 -- What these examples compute.
 computed : ⊤
@@ -12,7 +13,7 @@ computed = tt
 abbrev asked : List Text → Option Request
 asked words = asked_of (codes "hubsync" ∷ words)
 
-no_words : asked [] ≡ Some check
+no_words : asked [] ≡ Some (about Check)
 unfolding computed
 no_words = refl
 
@@ -36,7 +37,7 @@ a_hyphen_with_none_before_it : asked (codes "reach" ∷ codes "-p" ∷ codes "a"
 unfolding computed
 a_hyphen_with_none_before_it = refl
 
-two_hyphens_are_no_command : asked (codes "--" ∷ []) ≡ Some check
+two_hyphens_are_no_command : asked (codes "--" ∷ []) ≡ Some (about Check)
 unfolding computed
 two_hyphens_are_no_command = refl
 
@@ -52,7 +53,23 @@ an_operand_too_many : asked (codes "reach" ∷ codes "p" ∷ codes "a" ∷ codes
 unfolding computed
 an_operand_too_many = refl
 
-an_unknown_command : asked (codes "check" ∷ []) ≡ None
+the_check_by_its_name : asked (codes "check" ∷ []) ≡ Some (about Check)
+unfolding computed
+the_check_by_its_name = refl
+
+certificates : asked (codes "certify" ∷ []) ≡ Some (about Certify)
+unfolding computed
+certificates = refl
+
+certificates_of_the_bundle : asked (codes "verify" ∷ []) ≡ Some (about Verify)
+unfolding computed
+certificates_of_the_bundle = refl
+
+the_check_has_no_operands : asked (codes "check" ∷ codes "a" ∷ []) ≡ None
+unfolding computed
+the_check_has_no_operands = refl
+
+an_unknown_command : asked (codes "run" ∷ []) ≡ None
 unfolding computed
 an_unknown_command = refl
 

@@ -2,16 +2,15 @@
 ghost use Rattle.std.specs.Prelude.{◌≡◌, ◌⊎◌, false, IfSome};
 ghost use Rattle.hubsync.specs.Report as report;
 ghost use Rattle.hubsync.specs.Bundle as bundle;
-ghost use Rattle.hubsync.specs.Words.{check, request_of};
+ghost use Rattle.hubsync.specs.Words.{request_of};
 
 use crate::bundle::{BundleFault, BundleLineFault, read_bundle};
-use crate::check::first_refusal;
 use crate::input::{InputFault, read_input};
-use crate::profiles::{ReadError, read_profiles};
 use crate::reach::report_on_reach;
 use crate::report::Report;
+use crate::sections::{Contents, ReadError, read_sections};
+use crate::verdict::report_on_set;
 use crate::words::Asked;
-use hub_profile::Profile;
 use hub_text::Watched;
 use std::alloc::Global;
 use std::io::Read;
@@ -29,7 +28,7 @@ pub fn report_on<'a, R: Read>(alloc: Global, asked: Asked<'a>, input: &mut Watch
     }
 }
 
-/// The answer to what was asked of an input's bytes. The bundle is read first, with all of its profiles.
+/// The answer to what was asked of an input's bytes. The bundle is read first, with all of its sections.
 fn report_on_bytes<'a>(alloc: Global, asked: Asked<'a>, bytes: &[u8]) -> Report<'a>
     ensures holds { report.Holds (request_of asked.entry) bytes.now result }
     ensures read { report.says_read_failed result ≡ false }
@@ -38,34 +37,22 @@ fn report_on_bytes<'a>(alloc: Global, asked: Asked<'a>, bytes: &[u8]) -> Report<
         Ok(sections) => sections,
         Err(fault) => return bad_bundle(fault),
     };
-    let profiles = match read_profiles(alloc, sections.as_slice()) {
-        Ok(profiles) => profiles,
-        Err(ReadError::Faulty(fault)) => return Report::BadProfile(fault),
+    let contents = match read_sections(alloc, sections.as_slice()) {
+        Ok(contents) => contents,
+        Err(ReadError::Faulty(fault)) => return Report::BadSection(fault),
         Err(ReadError::OutOfMemory) => return Report::OutOfMemory,
     };
-    report_on_profiles(alloc, asked, profiles.as_slice())
+    report_on_contents(alloc, asked, contents)
 }
 
-/// The answer to what was asked of these profiles.
-fn report_on_profiles<'a>(alloc: Global, asked: Asked<'a>, profiles: &[Profile]) -> Report<'a>
-    ensures told { report.IsTold (request_of asked.entry) profiles.now result }
+/// The answer to what was asked of what a bundle says.
+fn report_on_contents<'a>(alloc: Global, asked: Asked<'a>, contents: Contents) -> Report<'a>
+    ensures told { report.IsTold (request_of asked.entry) contents result }
     ensures read { report.says_read_failed result ≡ false }
 {
     match asked {
-        Asked::Check => report_on_check(alloc, profiles),
-        Asked::Reach { profile, path } => report_on_reach(alloc, profiles, profile, path),
-    }
-}
-
-/// Whether these profiles may run at the same time.
-fn report_on_check<'a>(alloc: Global, profiles: &[Profile]) -> Report<'a>
-    ensures told { report.IsTold check profiles.now result }
-    ensures read { report.says_read_failed result ≡ false }
-{
-    match first_refusal(alloc, profiles) {
-        Ok(None) => Report::Safe,
-        Ok(Some(refusal)) => Report::Refused(refusal),
-        Err(_) => Report::OutOfMemory,
+        Asked::About(question) => report_on_set(alloc, question, contents),
+        Asked::Reach { profile, path } => report_on_reach(alloc, &contents, profile, path),
     }
 }
 

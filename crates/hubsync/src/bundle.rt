@@ -1,9 +1,9 @@
 //! Bundles: an input cut into its sections.
 ghost use Rattle.std.specs.Prelude.{◌≡◌, ◌⊎◌, ◌+◌, ◌≤◌, ℕ, length, IsTrue, IfOk, IfErr, Ok, Err};
-ghost use Rattle.std.specs.List.{list_all};
+ghost use Rattle.std.specs.List.{list_all, list_any};
 ghost use Rattle.hub_text.specs.Lines.{lines_of};
 ghost use Rattle.hubsync.specs.Bundle as bundle;
-ghost use Rattle.hubsync.specs.Bundle.{without_last_cr, bytes_before_heading, follows_section, written, stray_line, profile_reading, heading_reading, bundle_reading, out_of_memory};
+ghost use Rattle.hubsync.specs.Bundle.{without_last_cr, bytes_before_heading, follows_section, written, stray_line, profile_reading, heading_reading, bundle_reading, heading_below, out_of_memory};
 
 use hub_path::{Name, PathFault};
 use hub_text::Lines;
@@ -16,6 +16,8 @@ use thiserror::Error;
 pub enum Heading {
     /// A profile, by its name.
     Profile(Name),
+    /// The certificates.
+    Certificates,
 }
 
 /// A section of a bundle: its heading, and the bytes after the heading's line up to the next heading, borrowed from the
@@ -62,7 +64,7 @@ pub enum BundleFault {
     /// A profile's name is not UTF-8, or not a name that `Name::read` accepts.
     #[error("BadName")]
     BadName,
-    /// There is a second section of a kind that may occur once. No kind but profiles is read yet.
+    /// There is a second section of a kind that may occur once, as all do but profiles.
     #[error("SectionTwice")]
     SectionTwice,
     /// Out of memory.
@@ -107,9 +109,9 @@ impl<T: Drop> From<AllocFailed<T>> for BundleLineFault {
 
 /// Reads the sections of a bundle, in order, in time linear in its bytes.
 ///
-/// A line that begins with `%` is a heading: `%profile NAME`, with one space before the name; one CR at its end is
-/// dropped. Of several faults the one of the first faulty line is returned: `NoSection`, `UnknownSection` or `BadName`.
-/// (The format is this project's choice.)
+/// A line that begins with `%` is a heading: `%profile NAME`, with one space before the name, or `%certificates`; one CR at
+/// its end is dropped. Of several faults the one of the first faulty line is returned: `NoSection`,
+/// `UnknownSection`, `BadName` or `SectionTwice`. (The format is this project's choice.)
 pub fn read_bundle<'a>(alloc: Global, bytes: &'a [u8]) -> Result<Vec<Section<'a>>, BundleLineFault>
     ensures ok { IfOk result (λ v. bundle_reading bytes.now ≡ Ok v.items) }
     ensures err { IfErr result (λ e. (e ≡ out_of_memory) ⊎ (bundle_reading bytes.now ≡ Err e)) }
@@ -122,7 +124,8 @@ pub fn read_bundle<'a>(alloc: Global, bytes: &'a [u8]) -> Result<Vec<Section<'a>
     let (_blank, mut above) = take_section(&mut lines);
     let mut sections = Vec::new(alloc);
     while let Some(line) = lines.next() {
-        let heading = read_heading(alloc, above + 1, without_cr(line.text))?;
+        let text = without_cr(line.text);
+        let heading = read_heading_below(alloc, sections.as_slice(), above + 1, text)?;
         let (bytes, count) = take_section(&mut lines);
         sections.push(Section { heading, bytes })?;
         above += count + 1;
@@ -193,19 +196,78 @@ fn without_cr(line: &[u8]) -> &[u8]
     line.strip_suffix(b"\r").unwrap_or(line)
 }
 
+/// What a heading says that comes after these sections. A fault is that of its line.
+fn read_heading_below(
+    alloc: Global,
+    sections: &[Section<'_>],
+    line: usize,
+    text: &[u8],
+) -> Result<Heading, BundleLineFault>
+    ensures ok { IfOk result (λ h. heading_below sections.now (heading_reading text.now) ≡ Ok h) }
+    ensures err { IfErr result (λ e. (e ≡ out_of_memory)
+        ⊎ ((e.line ≡ line) × (heading_below sections.now (heading_reading text.now) ≡ Err e.fault))) }
+{
+    let heading = read_heading(alloc, line, text)?;
+    if is_repeated(sections, &heading) {
+        let fault = BundleFault::SectionTwice;
+        return Err(BundleLineFault { line, fault });
+    }
+    Ok(heading)
+}
+
+/// Whether the heading's kind may occur once, and has one of these sections. Only such kinds look at the sections.
+fn is_repeated(sections: &[Section<'_>], heading: &Heading) -> bool
+    ensures { result ≡ bundle.is_repeated sections.now heading.now }
+{
+    match heading {
+        Heading::Profile(_) => false,
+        Heading::Certificates => has_certificates(sections),
+    }
+}
+
+fn has_certificates(sections: &[Section<'_>]) -> bool
+    ensures { result ≡ list_any (λ s. bundle.is_certificates s.heading) sections.now }
+{
+    sections
+        .iter()
+        .any(|section| is_certificates(section.heading()))
+}
+
+fn is_certificates(heading: &Heading) -> bool
+    ensures { result ≡ bundle.is_certificates heading.now }
+{
+    match heading {
+        Heading::Certificates => true,
+        Heading::Profile(_) => false,
+    }
+}
+
 /// What a heading says. A fault is that of its line.
 fn read_heading(alloc: Global, line: usize, text: &[u8]) -> Result<Heading, BundleLineFault>
     ensures ok { IfOk result (λ h. heading_reading text.now ≡ Ok h) }
     ensures err { IfErr result (λ e. (e ≡ out_of_memory)
         ⊎ ((e.line ≡ line) × (heading_reading text.now ≡ Err e.fault))) }
 {
-    match text.strip_prefix(b"%profile ") {
-        Some(name) => read_profile_name(alloc, line, name),
+    if let Some(name) = text.strip_prefix(b"%profile ") {
+        return read_profile_name(alloc, line, name);
+    }
+    match heading_once(text) {
+        Some(heading) => Ok(heading),
         None => Err(BundleLineFault {
             line,
             fault: BundleFault::UnknownSection,
         }),
     }
+}
+
+/// The heading of a kind that may occur once.
+fn heading_once(text: &[u8]) -> Option<Heading>
+    ensures { result ≡ bundle.heading_once text.now }
+{
+    if text == b"%certificates".as_slice() {
+        return Some(Heading::Certificates);
+    }
+    None
 }
 
 /// The heading of a profile with this name.

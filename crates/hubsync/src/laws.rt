@@ -1,20 +1,21 @@
 //! What follows from the definitions: each law is the contract of a function that does nothing.
-ghost use Rattle.std.specs.Prelude.{◌≡◌, ℕ, List, [], IsTrue, slice_get, Some};
+ghost use Rattle.std.specs.Prelude.{ℕ};
 ghost use Rattle.hub_path.specs.Path.{Path};
-ghost use Rattle.hub_profile.specs.Parts.{Parts, IsProfile};
-ghost use Rattle.hub_reach.specs.Safe.{IsSafe};
-ghost use Rattle.hubsync.specs.declared.check.Overlap.{Overlap};
-ghost use Rattle.hubsync.specs.Check.{IsOverlap, is_nested, is_root_of};
+ghost use Rattle.hub_cert.specs.Set.{Members, IsSafeSet};
+ghost use Rattle.hub_cert.specs.declared.fault.CheckFault.TheVariants as fault;
+ghost use Rattle.hub_cert.specs.declared.goal.Place.{Place};
+ghost use Rattle.hub_search.specs.Search.{IsFirstFault};
 
-/// Profiles that are refused for what is shown of them are not safe: neither where two of them overlap, nor where two
-/// different roots are nested. So a set that is safe is never refused for one of these.
+use hub_cert::laws::goals_are_listed_once;
+use hub_search::laws::shown_paths_make_a_set_unsafe;
+
+/// A set for which the check tells an overlap or a breach is not safe. So a safe set is never refused for one of these.
 pub fn what_is_shown_is_not_safe()
-    ensures overlap { (Ps : List Parts) (o : Overlap) → IsOverlap Ps o → ¬ (IsSafe Ps []) }
-    ensures nested { (Ps : List Parts) (r s : Path) → IsTrue (is_root_of Ps r) → IsTrue (is_root_of Ps s) → IsTrue (is_nested r s) → ¬ (IsSafe Ps []) }
-{}
-
-/// An overlap is shown in one way: the profiles, the root, the path and its prefix are those that the rules name, and no
-/// others are.
-pub fn an_overlap_is_told_in_one_way()
-    ensures { (Ps : List Parts) (o u : Overlap) → ((i : ℕ) (P : Parts) → slice_get Ps i ≡ Some P → IsProfile P) → IsOverlap Ps o → IsOverlap Ps u → o ≡ u }
-{}
+    ensures overlap { (S : Members) (w o : ℕ) (place : Place) (held path : Path)
+        → IsFirstFault S (fault.Overlap w o place held path) → IsSafeSet S → ⊥ }
+    ensures breach { (S : Members) (p k : ℕ) (path : Path) → IsFirstFault S (fault.Breach p k path)
+        → IsSafeSet S → ⊥ }
+{
+    goals_are_listed_once();
+    shown_paths_make_a_set_unsafe();
+}

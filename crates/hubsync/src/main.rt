@@ -4,24 +4,25 @@
 //! - [`serve_process`] does all that the process does between its arguments and its exit status, over any reader and
 //!   writer; its contract uses the words of `specs/Report.antt`.
 //! - It reads the words of the command line (`words`) and the input (`input`), cuts the input into sections (`bundle`) and
-//!   reads their profiles (`profiles`).
-//! - Then it looks for a reason to refuse them (`check`), or asks one of them whether it reaches a path (`reach`).
-//! - The answer (`answer`, `report`) is written as one line.
+//!   reads them (`sections`).
+//! - Then it makes the set of the profiles, and checks it or verifies its certificates (`verdict`), or asks one
+//!   profile whether it reaches a path (`reach`).
+//! - The answer (`answer`, `report`, `refusal`) is written as one line, or as the certificates' text.
 //!
 //! Only functions that return a `Result` or write an answer allocate.
 #![tactic(auto)]
 
 mod answer;
 mod bundle;
-mod check;
 mod input;
 pub mod laws;
-mod nearest;
-mod profiles;
+mod parts;
 mod reach;
+mod refusal;
 mod report;
+mod sections;
 mod serve;
-mod shown;
+mod verdict;
 mod words;
 
 use hub_text::Watched;

@@ -8,6 +8,7 @@ ghost use Rattle.hubsync.specs.Report.{Answers, AnswersNothing, Serves, WritesLi
 ghost use Rattle.hubsync.specs.Words.{asked_of, request_of};
 
 use crate::answer::report_on;
+use crate::laws::what_is_shown_is_not_safe;
 use crate::report::OUT_OF_MEMORY;
 use crate::words::{Asked, read_words};
 use clap::Error;
@@ -40,11 +41,11 @@ pub fn serve_process<T: AllocGlobal + Eprint, R: Read, W: Write>(
     }
 }
 
-/// Does what the words on the command line ask for: reads all of the input, and writes one line.
+/// Does what the words on the command line ask for: reads all of the input, and writes one line, or certificates.
 ///
 /// The first word is the program's name. The status is
-/// - 0 if the profiles of the bundle are safe, and for both answers to `reach`;
-/// - 1 if the profiles are refused;
+/// - 0 if the profiles of the bundle are a safe set, and for both answers to `reach`;
+/// - 1 if they are refused;
 /// - 2 for a fault, if a write or the flush of the output failed, and if the words ask for nothing. In the last case the
 ///   input isn't read, and `clap`'s text goes to standard error: help, the version, or what is wrong with the words.
 ///
@@ -60,6 +61,7 @@ pub fn serve<'a, S: AsStr, T: AllocGlobal + Eprint, R: Read, W: Write>(
     ensures { Serves (asked_of (map S.text words.entry.now)) (R.remaining input.old.device)
         (W.contents output.old.device) (W.contents output.new.device) input.new.failed output.new.failed result }
 {
+    what_is_shown_is_not_safe();
     let alloc = rt.alloc();
     match read_words(alloc, words) {
         Ok(asked) => answer(alloc, asked, input, output),

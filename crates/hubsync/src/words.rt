@@ -5,6 +5,7 @@
 ghost use Rattle.std.specs.Prelude.{◌≡◌, ◌⊎◌, IfErr, IfOk, None, Some, map, option_map};
 ghost use Rattle.clap.specs.Words.{app_of, kind_of, subcommand_rows_of};
 ghost use Rattle.clap.specs.declared.error.kind.ErrorKind.TheVariants.{OutOfMemory};
+ghost use Rattle.hubsync.specs.Words as words;
 ghost use Rattle.hubsync.specs.Words.{asked_of, hubsync_app, request_in, request_of};
 
 use clap::error::ErrorKind;
@@ -31,18 +32,32 @@ The input is a bundle of profiles, each after a line with its name:
   root = /srv/laptop
   path = photos
 
-The output is one line: 'safe', 'overlap: ..', 'refused: ..', 'reached', 'not reached' or 'fault: ..'.
+For 'verify', a line '%certificates' and the text that 'certify' wrote follow the profiles.
+
+The output is one line: 'safe', 'verified', 'overlap: ..', 'too large: ..', 'refused: ..', 'reached', 'not reached' or
+'fault: ..'. 'certify' writes the text of the certificates in the place of 'safe'.
 
 Exit status:
-  0  safe, reached or not reached
-  1  the profiles may not run at the same time, or are refused
+  0  safe, verified, certificates, reached or not reached
+  1  the profiles may not run at the same time, or that they may was not shown
   2  a fault of the input or of the command line, or a failed output; help and version too";
+
+/// What the words may ask about the set of a bundle's profiles.
+#[derive(Clone, Copy, Debug, PartialEq, Eq)]
+pub enum Question {
+    /// Whether the set is safe.
+    Check,
+    /// Certificates for its goals.
+    Certify,
+    /// Whether the bundle's certificates show that the set is safe.
+    Verify,
+}
 
 /// What the words on the command line ask for.
 #[derive(Clone, Copy, Debug, PartialEq, Eq)]
 pub enum Asked<'a> {
-    /// Whether the profiles may run at the same time.
-    Check,
+    /// Something about the set of the profiles.
+    About(Question),
     /// Whether a profile reaches a path.
     Reach {
         /// The profile's name, as it was written.
@@ -54,8 +69,8 @@ pub enum Asked<'a> {
 
 /// Reads the words, of which the first is the program's name.
 ///
-/// Without a command they ask for the check. `reach PROFILE PATH` takes any two operands, also the empty word and `-`. An
-/// operand that begins with `-` and is longer needs `--` before it.
+/// `check`, `certify` and `verify` ask about the set. Without a command the words ask for the check. `reach PROFILE PATH`
+/// takes any two operands, also the empty word and `-`. An operand that begins with `-` and is longer needs `--` before it.
 ///
 /// An `Err` is `clap`'s: a mistake in the words, a request for help or for the version, or out of memory. Its `Display` is
 /// the text for the user.
@@ -79,14 +94,30 @@ fn asked_in<'a>(matches: &ArgMatches<'a>) -> Option<Asked<'a>>
     ensures { option_map request_of result ≡ request_in (subcommand_rows_of matches.now) }
 {
     let Some((name, operands)) = matches.subcommand() else {
-        return Some(Asked::Check);
+        return Some(Asked::About(Question::Check));
     };
     if name != "reach" {
-        return None;
+        return about(name);
     }
     let profile = operands.get_str("profile")?;
     let path = operands.get_str("path")?;
     Some(Asked::Reach { profile, path })
+}
+
+/// What a command without operands asks for.
+fn about<'a>(name: &str) -> Option<Asked<'a>>
+    ensures { option_map request_of result ≡ words.about_named name.now }
+{
+    if name == "check" {
+        return Some(Asked::About(Question::Check));
+    }
+    if name == "certify" {
+        return Some(Asked::About(Question::Certify));
+    }
+    if name == "verify" {
+        return Some(Asked::About(Question::Verify));
+    }
+    None
 }
 
 /// The program's command, with its texts of help.
@@ -101,6 +132,15 @@ fn command<'a>(alloc: Global) -> Result<Command<'a>, AllocError>
         .value_name("PATH")
         .help("A path below the roots, as docs/notes.txt; put -- before a word that begins with -")
         .required(true);
+    let check = Command::new(alloc, "check").about(
+        "Says whether the profiles may run at the same time, as without a command",
+    );
+    let certify = Command::new(alloc, "certify").about(
+        "Writes certificates, which show that the profiles may run at the same time",
+    );
+    let verify = Command::new(alloc, "verify").about(
+        "Says whether the certificates of the input show that the profiles may run at the same time",
+    );
     let reach = Command::new(alloc, "reach")
         .about("Says whether a profile of the input reaches a path")
         .arg(profile)?
@@ -109,6 +149,9 @@ fn command<'a>(alloc: Global) -> Result<Command<'a>, AllocError>
         .version(VERSION)
         .about(ABOUT)
         .after_help(AFTER_HELP)
+        .subcommand(check)?
+        .subcommand(certify)?
+        .subcommand(verify)?
         .subcommand(reach)
 }
 

@@ -9,16 +9,19 @@ fn shown(alloc: Global, input: &[u8]) -> Result<String, AllocError> {
     };
     let mut text = String::new(alloc);
     for section in sections.iter() {
-        let Heading::Profile(name) = section.heading();
+        match section.heading() {
+            Heading::Profile(name) => write!(text, "<{name}|")?,
+            Heading::Certificates => text.push_str("<%certificates|")?,
+        }
         let bytes = str::from_utf8(section.bytes()).unwrap_or("?");
-        write!(text, "<{name}|{bytes}>")?;
+        write!(text, "{bytes}>")?;
     }
     Ok(text)
 }
 
 #[test]
 fn bundles_are_cut_at_their_headings(rt: HostRuntime) -> Result<(), Fail> {
-    let rows: [(&[u8], &str); 25] = [
+    let rows: [(&[u8], &str); 29] = [
         (b"", ""),
         (b" \t\r\n\n", ""),
         (b"%profile a\nx\n%profile b\ny\n", "<a|x\n><b|y\n>"),
@@ -37,8 +40,18 @@ fn bundles_are_cut_at_their_headings(rt: HostRuntime) -> Result<(), Fail> {
         (b"%", "line 1: UnknownSection"),
         (b"%profile\n", "line 1: UnknownSection"),
         (b"\n%rules\n", "line 2: UnknownSection"),
+        (
+            b"%certificates\r\nx\n%profile a\n",
+            "<%certificates|x\n><a|>",
+        ),
+        (b"%certificates \n", "line 1: UnknownSection"),
+        (
+            b"%certificates\n%profile a\n%certificates\n%",
+            "line 3: SectionTwice",
+        ),
+        (b"%certificates\n\n%certificates", "line 3: SectionTwice"),
         (b"%profile a\n%state\n", "line 2: UnknownSection"),
-        (b"%profile a\nx\n%certificates", "line 3: UnknownSection"),
+        (b"%profile a\nx\n%certificates", "<a|x\n><%certificates|>"),
         (b"%profile \n", "line 1: BadName"),
         (b"%profile ..\r\n%what\n", "line 1: BadName"),
         (b"%profile a/b", "line 1: BadName"),

@@ -51,7 +51,7 @@ fn answered_to<'a, T: AllocGlobal + Eprint>(
 
 #[test]
 fn profiles_of_the_same_roots_may_overlap(rt: HostRuntime) -> Result<(), Fail> {
-    let rows: [(&[(&str, &str)], &str); 17] = [
+    let rows: [(&[(&str, &str)], &str); 16] = [
         (&[], "0 safe\n"),
         (&[("u", "")], "0 safe\n"),
         (
@@ -114,10 +114,6 @@ fn profiles_of_the_same_roots_may_overlap(rt: HostRuntime) -> Result<(), Fail> {
             &[("u", "path = a"), ("v", "path = /b"), ("w", "include x")],
             "2 fault: profile v line 3: BadPath LeadingSlash\n",
         ),
-        (
-            &[("u", "path = a"), ("v", "path = b"), ("w", "include x")],
-            "2 fault: profile w line 3: IncludeLeftOut\n",
-        ),
     ];
     for (profiles, want) in rows {
         let text = answered(&rt, bundle(rt.alloc(), profiles)?.as_str())?;
@@ -177,8 +173,8 @@ fn profiles_overlap_at_a_root_of_both(rt: HostRuntime) -> Result<(), Fail> {
     for (input, want) in [
         ("root = /srv\n", "2 fault: bundle line 1: NoSection\n"),
         (
-            "%profile a\n%rules\n",
-            "2 fault: bundle line 2: UnknownSection\n",
+            "%profile a\n%certificates\n%certificates\n",
+            "2 fault: bundle line 3: SectionTwice\n",
         ),
         ("%profile ..\n", "2 fault: bundle line 1: BadName\n"),
     ] {
@@ -193,10 +189,7 @@ fn a_bundle_has_at_most_32_profiles(rt: HostRuntime) -> Result<(), Fail> {
     for (count, want) in [(32, "0 safe\n"), (33, "1 refused: TooManyProfiles\n")] {
         let mut text = String::new(rt.alloc());
         for i in 0..count {
-            write!(
-                text,
-                "%profile p{i}\nroot = /srv/hub\nroot = /srv/s1\npath = p{i}\n"
-            )?;
+            write!(text, "%profile p{i}\nroot = /hub{i}\nroot = /spoke{i}\n")?;
         }
         let text = answered(&rt, text.as_str())?;
         assert_eq!(rt; text.as_str(), want);
@@ -206,7 +199,7 @@ fn a_bundle_has_at_most_32_profiles(rt: HostRuntime) -> Result<(), Fail> {
 
 #[test]
 fn words_that_ask_for_nothing_are_answered_with_nothing(rt: HostRuntime) -> Result<(), Fail> {
-    for word in ["", "check", "--help"] {
+    for word in ["", "run", "--help"] {
         let mut input: &[u8] = b"%profile u\n";
         let mut output: Vec<u8> = Vec::new(rt.alloc());
         assert_eq!(rt; served(&rt, &["hubsync", word], &mut input, &mut output), 2);
@@ -244,7 +237,7 @@ type Asking = (
     &'static str,
 );
 
-static REACHES: [Asking; 14] = [
+static REACHES: [Asking; 12] = [
     (
         &[("p", "path = docs")],
         &["hubsync", "reach", "p", "docs/x"],
@@ -287,16 +280,6 @@ static REACHES: [Asking; 14] = [
         "2 fault: no profile q\n",
     ),
     (
-        &[],
-        &["hubsync", "reach", "p", "a"],
-        "2 fault: no profile p\n",
-    ),
-    (
-        &[("p", "")],
-        &["hubsync", "reach", "pp", "a"],
-        "2 fault: no profile pp\n",
-    ),
-    (
         &[("p", "")],
         &["hubsync", "reach", "q", "/a"],
         "2 fault: no profile q\n",
@@ -333,23 +316,96 @@ fn a_profile_is_asked_whether_it_reaches_a_path(rt: HostRuntime) -> Result<(), F
 }
 
 #[test]
-fn patterns_are_refused(rt: HostRuntime) -> Result<(), Fail> {
-    let rows: [(&[(&str, &str)], &str); 4] = [
-        (&[("u", "ignore = Name a")], "1 refused: Patterns\n"),
-        (&[("u", "ignorenot = Name a")], "0 safe\n"),
+fn patterns_are_compared(rt: HostRuntime) -> Result<(), Fail> {
+    let rows: [(&[(&str, &str)], &str); 6] = [
+        (&[("u", "ignore = Name a")], "0 safe\n"),
         (
             &[("u", ""), ("u", "ignore = Name a")],
             "1 refused: SameName u\n",
         ),
         (
-            &[("u", ""), ("v", "ignore = Name a")],
-            "1 refused: Patterns\n",
+            &[
+                ("whole", "path = a\nignore = Path a/b"),
+                ("part", "path = a/b"),
+            ],
+            "1 overlap: whole writes a at /srv/hub, part reaches a/b\n",
+        ),
+        (&[("u", "ignore = Path a"), ("v", "path = a")], "0 safe\n"),
+        (
+            &[("u", "ignore = Name *"), ("v", "ignore = Name .?*")],
+            "0 safe\n",
+        ),
+        (
+            &[("u", "ignore = Name .*"), ("v", "ignore = Name .*")],
+            "1 overlap: u writes a at /srv/hub, v reaches a\n",
         ),
     ];
     for (profiles, want) in rows {
         let input = bundle(rt.alloc(), profiles)?;
         assert_eq!(rt; answered(&rt, input.as_str())?.as_str(), want);
     }
+    Ok(())
+}
+
+/// Two profiles that overlap nowhere, and some sections after them; what is asked; and the answer.
+static SECTIONS: [(&str, &str, &str); 8] = [
+    ("", "verify", "1 refused: goal 0 Missing\n"),
+    (
+        "%certificates\nhubsync certificates 1\ngoal clash 0 1 root 0\nend",
+        "verify",
+        "1 refused: goal 0 NoStart\n",
+    ),
+    (
+        "%certificates\nhubsync certificates 1\ngoal clash 0 1 root 0\nstage -\nend\n",
+        "verify",
+        "1 refused: goal 0 stage 0 class 0 NotClosed\n",
+    ),
+    (
+        "%certificates\nhubsync certificates 1\ngoal clash 0 0 archive\nend\n",
+        "verify",
+        "1 refused: certificate 0 Stray\n",
+    ),
+    (
+        "%certificates\nhubsync certificates 1\n",
+        "check",
+        "2 fault: certificates line 2: BadText\n",
+    ),
+    (
+        "%certificates\n",
+        "certify",
+        "2 fault: certificates line 1: BadText\n",
+    ),
+    (
+        "%certificates\nx\n%rules\n%certificates\n",
+        "check",
+        "2 fault: bundle line 11: UnknownSection\n",
+    ),
+    (
+        "%certificates\nx\n%profile c\nx\n%certificates\n",
+        "verify",
+        "2 fault: bundle line 13: SectionTwice\n",
+    ),
+];
+
+#[test]
+fn sections_are_read_in_order(rt: HostRuntime) -> Result<(), Fail> {
+    for (sections, word, want) in &SECTIONS {
+        let mut text = bundle(rt.alloc(), &[("a", "path = a"), ("b", "path = b")])?;
+        text.push_str(sections)?;
+        let answer = answered_to(&rt, &["hubsync", word], text.as_str())?;
+        assert_eq!(rt; answer.as_str(), *want);
+    }
+    Ok(())
+}
+
+#[test]
+fn certificates_are_given_back(rt: HostRuntime) -> Result<(), Fail> {
+    let mut text = bundle(rt.alloc(), &[("a", "path = a"), ("b", "path = b")])?;
+    let answer = answered_to(&rt, &["hubsync", "certify"], text.as_str())?;
+    text.push_str("%certificates\n")?;
+    text.push_str(answer.as_str().strip_prefix("0 ").unwrap_or("?"))?;
+    let answer = answered_to(&rt, &["hubsync", "verify"], text.as_str())?;
+    assert_eq!(rt; answer.as_str(), "0 verified\n");
     Ok(())
 }
 

@@ -1,11 +1,14 @@
-use super::{Asked, read_words};
+use super::{Asked, Question, read_words};
 use clap::error::ErrorKind;
 use std::test::Fail;
 
 /// Words that are fine: the program's name and what follows it, and what they ask for.
-static FINE: [(&[&str], Asked<'static>); 8] = [
-    (&["hubsync"], Asked::Check),
-    (&["hubsync", "--"], Asked::Check),
+static FINE: [(&[&str], Asked<'static>); 11] = [
+    (&["hubsync"], Asked::About(Question::Check)),
+    (&["hubsync", "--"], Asked::About(Question::Check)),
+    (&["hubsync", "check"], Asked::About(Question::Check)),
+    (&["hubsync", "certify"], Asked::About(Question::Certify)),
+    (&["hubsync", "verify"], Asked::About(Question::Verify)),
     (
         &["hubsync", "reach", "p", "a"],
         Asked::Reach {
@@ -51,13 +54,14 @@ static FINE: [(&[&str], Asked<'static>); 8] = [
 ];
 
 /// Words that ask for nothing, and why.
-static REFUSED: [(&[&str], ErrorKind); 9] = [
+static REFUSED: [(&[&str], ErrorKind); 10] = [
     (
         &["hubsync", "reach", "p"],
         ErrorKind::MissingRequiredArgument,
     ),
     (&["hubsync", "reach"], ErrorKind::MissingRequiredArgument),
-    (&["hubsync", "check"], ErrorKind::InvalidSubcommand),
+    (&["hubsync", "run"], ErrorKind::InvalidSubcommand),
+    (&["hubsync", "verify", "a"], ErrorKind::UnknownArgument),
     (&["hubsync", "-x"], ErrorKind::UnknownArgument),
     (&["hubsync", "--help"], ErrorKind::DisplayHelp),
     (&["hubsync", "help"], ErrorKind::DisplayHelp),

@@ -1,13 +1,12 @@
-use Rattle.std.proofs.Common.{◌≡◌, ◌+◌, ◌≤◌, [], length}
+use Rattle.std.proofs.Common.{◌≡◌, ◌+◌, ◌≤◌, length}
 use Rattle.std.specs.Prelude.{IsTrue}
 use Rattle.hub_text.specs.Lines.{lines_of}
 use Rattle.hubsync.specs.Bundle.{follows_section, written, sections_reading, bundle_reading}
-use Rattle.hubsync.proofs.Sections.{below_sections}
 use Rattle.hubsync.proofs.bundle.read_bundle.Given as goal
 
 abbrev pub invariant-loop-line : goal.invariant-loop-line
 invariant-loop-line l = record {
-  read : bundle_reading l.fn.bytes ≡ below_sections l.sections.items (sections_reading [] (written (l.above + 1) (lines_of l.lines)));
+  read : bundle_reading l.fn.bytes ≡ sections_reading l.sections.items (written (l.above + 1) (lines_of l.lines));
   next : IsTrue (follows_section l.lines);
   fewer : l.above + length l.lines ≤ length l.fn.bytes;
 }

@@ -1,9 +1,13 @@
 use Rattle.std.proofs.Common.{◌∙◌, codes, sym, ap, ap₂}
-use Rattle.std.proofs.lemmas.Bool.{not-false}
+use Rattle.std.proofs.lemmas.Bool.{not-false, not-true}
 use Rattle.clap.specs.Words.{found_of, first_value}
 use Rattle.hubsync.specs.Words.{operands_of}
-use Rattle.hubsync.proofs.WordsFacts.{reach_in}
+use Rattle.hubsync.proofs.WordsFacts.{about_in, reach_in}
 use Rattle.hubsync.proofs.words.asked_in.Goals as goal
+
+pub returns-then-ne : goal.returns-then-ne
+returns-then-ne c =
+    c.about.ensures ∙ sym (about_in c.args.matches.now c.in-Some.name.now c.in-Some.operands.now c.in-Some.ensures.name c.in-Some.ensures.rows (not-true _ (sym c.ne.ensures ∙ c.if-ne.true)))
 
 pub returns-in_err-profile : goal.returns-in_err-profile
 returns-in_err-profile c =

@@ -20,14 +20,23 @@ returns c =
     ap (λ (a : Arg). a.global) c.required-profile.ensures ∙ (ap (λ (a : Arg). a.global) c.help.ensures ∙ (ap (λ (a : Arg). a.global) c.value_name.ensures ∙ c.new.ensures.optional.1)) in
     let path_local : c.required-path.result.global ≡ false =
     ap (λ (a : Arg). a.global) c.required-path.ensures ∙ (ap (λ (a : Arg). a.global) c.help-2.ensures ∙ (ap (λ (a : Arg). a.global) c.value_name-2.ensures ∙ c.new-2.ensures.optional.1)) in
-    let bare_is : app_of c.about.result ≡ new_app (codes "reach") = ap app_of_fields c.about.ensures ∙ c.new-3.ensures.app in
-    let bare_local : (fields_of c.about.result).has_globals ≡ false = ap (λ (f : Command-F Command). f.has_globals) c.about.ensures ∙ c.new-3.ensures.local in
+    let bare_is : app_of c.about.result ≡ new_app (codes "reach") = ap app_of_fields c.about.ensures ∙ c.new-6.ensures.app in
+    let bare_local : (fields_of c.about.result).has_globals ≡ false = ap (λ (f : Command-F Command). f.has_globals) c.about.ensures ∙ c.new-6.ensures.local in
     let one_is : app_of c.in_ok-arg.field-0 ≡ with_rule (new_app (codes "reach")) (operand (codes "profile")) =
     c.in_ok-arg.ensures.shape profile_local ∙ ap₂ with_rule bare_is profile_is in
     let one_local : (fields_of c.in_ok-arg.field-0).has_globals ≡ false = c.in_ok-arg.ensures.globals ∙ ap₂ (λ x y. x || y) bare_local profile_local in
     let reach_is : app_of c.in_ok-reach.reach ≡ reach_app = c.in_ok-reach.ensures.shape path_local ∙ ap₂ with_rule one_is path_is in
     let reach_local : (fields_of c.in_ok-reach.reach).has_globals ≡ false = c.in_ok-reach.ensures.globals ∙ ap₂ (λ x y. x || y) one_local path_local in
     let version_is : app_of c.version.result ≡ top_app =
-    ap app_of_fields c.version.ensures ∙ ap (on_top (λ s. record s { has_version = true })) c.new-4.ensures.app in
+    ap app_of_fields c.version.ensures ∙ ap (on_top (λ s. record s { has_version = true })) c.new-7.ensures.app in
     let top_is : app_of c.after_help.result ≡ top_app = ap app_of_fields c.after_help.ensures ∙ (ap app_of_fields c.about-2.ensures ∙ version_is) in
-    IfOk-weaker c.subcommand.result _ _ (λ r h. h.shape reach_local ∙ ap₂ with_subcommand top_is (ap (λ (a : App). a.top) reach_is)) c.subcommand.ensures
+    let check_is : app_of c.about-check.result ≡ new_app (codes "check") = ap app_of_fields c.about-check.ensures ∙ c.new-3.ensures.app in
+    let check_local : (fields_of c.about-check.result).has_globals ≡ false = ap (λ (f : Command-F Command). f.has_globals) c.about-check.ensures ∙ c.new-3.ensures.local in
+    let certify_is : app_of c.about-certify.result ≡ new_app (codes "certify") = ap app_of_fields c.about-certify.ensures ∙ c.new-4.ensures.app in
+    let certify_local : (fields_of c.about-certify.result).has_globals ≡ false = ap (λ (f : Command-F Command). f.has_globals) c.about-certify.ensures ∙ c.new-4.ensures.local in
+    let verify_is : app_of c.about-verify.result ≡ new_app (codes "verify") = ap app_of_fields c.about-verify.ensures ∙ c.new-5.ensures.app in
+    let verify_local : (fields_of c.about-verify.result).has_globals ≡ false = ap (λ (f : Command-F Command). f.has_globals) c.about-verify.ensures ∙ c.new-5.ensures.local in
+    let with_check = c.in_ok-subcommand.ensures.shape check_local ∙ ap₂ with_subcommand top_is (ap (λ (a : App). a.top) check_is) in
+    let with_certify = c.in_ok-subcommand-2.ensures.shape certify_local ∙ ap₂ with_subcommand with_check (ap (λ (a : App). a.top) certify_is) in
+    let with_verify = c.in_ok-subcommand-3.ensures.shape verify_local ∙ ap₂ with_subcommand with_certify (ap (λ (a : App). a.top) verify_is) in
+    IfOk-weaker c.subcommand-4.result _ _ (λ r h. h.shape reach_local ∙ ap₂ with_subcommand with_verify (ap (λ (a : App). a.top) reach_is)) c.subcommand-4.ensures

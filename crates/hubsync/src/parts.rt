@@ -1,0 +1,16 @@
+//! Texts, one after another.
+ghost use Rattle.std.specs.Prelude.{◌≡◌, IfOk, string_bytes};
+ghost use Rattle.std.specs.List.{flat_map};
+
+use std::alloc::{AllocError, Global};
+
+/// These texts, one after another.
+pub fn joined(alloc: Global, parts: &[&str]) -> Result<String, AllocError>
+    ensures { IfOk result (λ t. string_bytes t ≡ flat_map (λ p. p.now) parts.now) }
+{
+    let mut text = String::new(alloc);
+    for part in parts {
+        text.push_str(part)?;
+    }
+    Ok(text)
+}

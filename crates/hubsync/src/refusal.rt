@@ -1,0 +1,290 @@
+//! The lines of refusals.
+ghost use Rattle.std.specs.Prelude.{◌≡◌, ◌∷◌, [], IfOk, MatchOption, Option, None, Some, codes, slice_get, string_bytes};
+ghost use Rattle.std.specs.Fmt.{decimal};
+ghost use Rattle.hub_profile.specs.Parts.{Parts};
+ghost use Rattle.hubsync.specs.Refusal as lines;
+
+use crate::parts::joined;
+use crate::report::OUT_OF_MEMORY;
+use hub_automaton::AutomatonFault;
+use hub_cert::{CheckFault, Goal, Place};
+use hub_path::{RelPath, Root, Side};
+use hub_profile::{Profile, Rule, Verb};
+use hub_search::STAGES;
+use std::alloc::{AllocError, Global};
+
+/// The line of a fault, which ends with LF. Its numbers are those of these profiles, rules and goals.
+pub fn fault_line(
+    alloc: Global,
+    profiles: &[Profile],
+    rules: &[Rule],
+    goals: &[Goal],
+    fault: &CheckFault,
+) -> Result<String, AllocError>
+    ensures { IfOk result (λ t. string_bytes t ≡ lines.fault_line
+        (record { profiles = profiles.now; rules = rules.now }) goals.now fault.now) }
+{
+    match fault {
+        CheckFault::TooManyProfiles => String::from_str(alloc, "refused: TooManyProfiles\n"),
+        CheckFault::SameName { name } => {
+            joined(alloc, &["refused: SameName ", name.text(), "\n"])
+        }
+        CheckFault::NestedRoots { first, second } => nested_line(alloc, first, second),
+        CheckFault::Overlap {
+            writer,
+            other,
+            place,
+            held,
+            path,
+        } => overlap_line(alloc, profiles, *writer, *other, *place, held, path),
+        CheckFault::Breach {
+            profile,
+            rule,
+            path,
+        } => breach_line(alloc, name_at(profiles, *profile), rules, *rule, path),
+        CheckFault::TooLarge { goal } => too_large_line(alloc, number_of(goals, *goal), STAGES),
+        CheckFault::Missing { goal } => goal_line(alloc, number_of(goals, *goal), "Missing"),
+        CheckFault::NoStart { goal } => goal_line(alloc, number_of(goals, *goal), "NoStart"),
+        CheckFault::NotClosed { goal, stage, class } => {
+            not_closed_line(alloc, number_of(goals, *goal), *stage, *class)
+        }
+        CheckFault::Accepting { goal, stage } => {
+            accepting_line(alloc, number_of(goals, *goal), *stage)
+        }
+        CheckFault::Stray { certificate } => stray_line(alloc, *certificate),
+        CheckFault::BadText { line } => bad_text_line(alloc, *line),
+        CheckFault::AlphabetFault(fault) => alphabet_line(alloc, *fault),
+        CheckFault::OutOfMemory => String::from_str(alloc, OUT_OF_MEMORY),
+    }
+}
+
+fn nested_line(alloc: Global, first: &Root, second: &Root) -> Result<String, AllocError>
+    ensures { IfOk result (λ t. string_bytes t ≡ lines.joined (codes "refused: NestedRoots "
+        ∷ lines.root_text first.now ∷ codes " and " ∷ lines.root_text second.now ∷ codes "\n" ∷ [])) }
+{
+    let first = first.text()?;
+    let second = second.text()?;
+    let parts = [
+        "refused: NestedRoots ",
+        first.as_str(),
+        " and ",
+        second.as_str(),
+        "\n",
+    ];
+    joined(alloc, &parts)
+}
+
+fn overlap_line(
+    alloc: Global,
+    profiles: &[Profile],
+    writer: usize,
+    other: usize,
+    place: Place,
+    held: &RelPath,
+    path: &RelPath,
+) -> Result<String, AllocError>
+    ensures { IfOk result (λ t. string_bytes t
+        ≡ lines.overlap_line profiles.now writer other place held.now path.now) }
+{
+    let held = held.text()?;
+    let place = place_text(alloc, profiles.get(writer), place)?;
+    let path = path.text()?;
+    let parts = [
+        "overlap: ",
+        name_at(profiles, writer),
+        " writes ",
+        held.as_str(),
+        " at ",
+        place.as_str(),
+        ", ",
+        name_at(profiles, other),
+        " reaches ",
+        path.as_str(),
+        "\n",
+    ];
+    joined(alloc, &parts)
+}
+
+/// The name of the profile of that number, or nothing if there is none.
+fn name_at(profiles: &[Profile], number: usize) -> &str
+    ensures { result.now ≡ lines.name_at profiles.now number }
+{
+    match profiles.get(number) {
+        Some(profile) => profile.name().text(),
+        None => "",
+    }
+}
+
+/// The writer's root at the place, or both roots for an archive.
+fn place_text(alloc: Global, writer: Option<&Profile>, place: Place) -> Result<String, AllocError>
+    ensures { (W : Option Parts) → MatchOption writer.entry (W ≡ None) (λ P. W ≡ Some P.now)
+        → IfOk result (λ t. string_bytes t ≡ lines.place_text W place) }
+{
+    let Some(writer) = writer else {
+        return Ok(String::new(alloc));
+    };
+    let roots = writer.roots();
+    match place {
+        Place::Replica(Side::Left) => roots[0].text(),
+        Place::Replica(Side::Right) => roots[1].text(),
+        Place::Archive => archive_text(alloc, &roots[0], &roots[1]),
+    }
+}
+
+fn archive_text(alloc: Global, left: &Root, right: &Root) -> Result<String, AllocError>
+    ensures { IfOk result (λ t. string_bytes t ≡ lines.joined (codes "archive of "
+        ∷ lines.root_text left.now ∷ codes " and " ∷ lines.root_text right.now ∷ [])) }
+{
+    let left = left.text()?;
+    let right = right.text()?;
+    joined(
+        alloc,
+        &["archive of ", left.as_str(), " and ", right.as_str()],
+    )
+}
+
+/// The line of a breach, or nothing if there is no rule of that number.
+fn breach_line(
+    alloc: Global,
+    name: &str,
+    rules: &[Rule],
+    number: usize,
+    path: &RelPath,
+) -> Result<String, AllocError>
+    ensures { IfOk result (λ t. string_bytes t
+        ≡ lines.breach_text name.now (slice_get rules.now number) number path.now) }
+{
+    let Some(rule) = rules.get(number) else {
+        return Ok(String::new(alloc));
+    };
+    let path = path.text()?;
+    let root = rule.root.text()?;
+    let number = format!(in alloc; "{number}")?;
+    let parts = [
+        "breach: ",
+        name,
+        " may ",
+        verb_text(rule.verb),
+        " ",
+        path.as_str(),
+        " at ",
+        root.as_str(),
+        ", rule ",
+        number.as_str(),
+        "\n",
+    ];
+    joined(alloc, &parts)
+}
+
+fn verb_text<'a>(verb: Verb) -> &'a str
+    ensures { result.now ≡ lines.verb_text verb }
+{
+    match verb {
+        Verb::Create => "create",
+        Verb::Update => "update",
+        Verb::Delete => "delete",
+    }
+}
+
+/// The number of the goal in the list, from 0 on.
+fn number_of(goals: &[Goal], goal: Goal) -> usize
+    ensures { result ≡ lines.number_of goals.now goal }
+{
+    let mut number = 0;
+    for own in goals {
+        if is_same_goal(*own, goal) {
+            return number;
+        }
+        number += 1;
+    }
+    number
+}
+
+fn is_same_goal(own: Goal, goal: Goal) -> bool
+    ensures { result ≡ lines.is_same_goal own goal }
+{
+    own == goal
+}
+
+fn too_large_line(alloc: Global, goal: usize, stages: usize) -> Result<String, AllocError>
+    ensures { IfOk result (λ t. string_bytes t ≡ lines.too_large_line goal stages) }
+{
+    format!(in alloc; "too large: goal {goal} has more than {stages} stages\n")
+}
+
+/// The line of what is wrong with the certificate of the goal of that number.
+fn goal_line(alloc: Global, goal: usize, wrong: &str) -> Result<String, AllocError>
+    ensures { IfOk result (λ t. string_bytes t ≡ lines.goal_line goal wrong.now) }
+{
+    let goal = format!(in alloc; "{goal}")?;
+    joined(alloc, &["refused: goal ", goal.as_str(), " ", wrong, "\n"])
+}
+
+fn not_closed_line(
+    alloc: Global,
+    goal: usize,
+    stage: usize,
+    class: usize,
+) -> Result<String, AllocError>
+    ensures { IfOk result (λ t. string_bytes t ≡ lines.goal_line goal (lines.not_closed stage class)) }
+{
+    let wrong = not_closed_text(alloc, stage, class)?;
+    goal_line(alloc, goal, wrong.as_str())
+}
+
+fn not_closed_text(alloc: Global, stage: usize, class: usize) -> Result<String, AllocError>
+    ensures { IfOk result (λ t. string_bytes t ≡ lines.not_closed stage class) }
+{
+    let stage = format!(in alloc; "{stage}")?;
+    let class = format!(in alloc; "{class}")?;
+    let parts = [
+        "stage ",
+        stage.as_str(),
+        " class ",
+        class.as_str(),
+        " NotClosed",
+    ];
+    joined(alloc, &parts)
+}
+
+fn accepting_line(alloc: Global, goal: usize, stage: usize) -> Result<String, AllocError>
+    ensures { IfOk result (λ t. string_bytes t ≡ lines.goal_line goal (lines.accepting stage)) }
+{
+    let stage = format!(in alloc; "{stage}")?;
+    let wrong = joined(alloc, &["stage ", stage.as_str(), " Accepting"])?;
+    goal_line(alloc, goal, wrong.as_str())
+}
+
+fn stray_line(alloc: Global, certificate: usize) -> Result<String, AllocError>
+    ensures { IfOk result (λ t. string_bytes t
+        ≡ lines.joined (codes "refused: certificate " ∷ decimal certificate ∷ codes " Stray\n" ∷ [])) }
+{
+    let certificate = format!(in alloc; "{certificate}")?;
+    joined(
+        alloc,
+        &["refused: certificate ", certificate.as_str(), " Stray\n"],
+    )
+}
+
+fn bad_text_line(alloc: Global, line: usize) -> Result<String, AllocError>
+    ensures { IfOk result (λ t. string_bytes t
+        ≡ lines.joined (codes "fault: certificates line " ∷ decimal line ∷ codes ": BadText\n" ∷ [])) }
+{
+    let line = format!(in alloc; "{line}")?;
+    joined(
+        alloc,
+        &["fault: certificates line ", line.as_str(), ": BadText\n"],
+    )
+}
+
+fn alphabet_line(alloc: Global, fault: AutomatonFault) -> Result<String, AllocError>
+    ensures { IfOk result (λ t. string_bytes t ≡ lines.alphabet_line fault) }
+{
+    match fault {
+        AutomatonFault::TooManyCharacters => {
+            String::from_str(alloc, "refused: TooManyCharacters\n")
+        }
+        AutomatonFault::TooManySpots => String::from_str(alloc, "refused: TooManySpots\n"),
+        AutomatonFault::OutOfMemory => String::from_str(alloc, OUT_OF_MEMORY),
+    }
+}

@@ -1,0 +1,105 @@
+//! Answers about the set of a bundle's profiles.
+ghost use Rattle.std.specs.Prelude.{◌≡◌, ◌⊎◌, false, IfOk, IfErr};
+ghost use Rattle.hub_cert.specs.Set.{Members, IsSet};
+ghost use Rattle.hub_cert.specs.Refused.{IsRefused};
+ghost use Rattle.hubsync.specs.Report as report;
+ghost use Rattle.hubsync.specs.Sections.{members};
+ghost use Rattle.hubsync.specs.Words.{about};
+
+use crate::refusal::fault_line;
+use crate::report::Report;
+use crate::sections::Contents;
+use crate::words::Question;
+use hub_cert::{Certificate, CheckFault, ProfileSet, verify, write_certificates};
+use hub_profile::Rules;
+use hub_search::{certificates, check};
+use std::alloc::Global;
+
+/// The answer to a question about the set. Profiles that are no set are refused, whatever the question is.
+pub fn report_on_set<'a>(alloc: Global, question: Question, contents: Contents) -> Report<'a>
+    ensures told { report.IsTold (about question) contents result }
+    ensures read { report.says_read_failed result ≡ false }
+{
+    let Contents {
+        profiles,
+        certificates,
+    } = contents;
+    match ProfileSet::new(alloc, profiles, Rules::new(alloc)) {
+        Ok(set) => report_on_made(alloc, question, &set, certificates.as_slice()),
+        Err(fault) => refusal_without_set(alloc, &fault),
+    }
+}
+
+/// The answer to a question about a set that was made.
+fn report_on_made<'a>(
+    alloc: Global,
+    question: Question,
+    set: &ProfileSet,
+    own: &[Certificate],
+) -> Report<'a>
+    ensures told { report.IsToldOfSet question set.now own.now result }
+    ensures read { report.says_read_failed result ≡ false }
+{
+    match answer(alloc, question, set, own) {
+        Ok(report) => report,
+        Err(fault) => refusal(alloc, set, &fault),
+    }
+}
+
+/// The answer to a question, or the fault by which the set is refused.
+fn answer<'a>(
+    alloc: Global,
+    question: Question,
+    set: &ProfileSet,
+    own: &[Certificate],
+) -> Result<Report<'a>, CheckFault>
+    ensures told { IfOk result (report.IsToldOfSet question set.now own.now) }
+    ensures refused { IfErr result (report.FaultOf question set.now own.now) }
+    ensures read { IfOk result (λ r. report.says_read_failed r ≡ false) }
+{
+    match question {
+        Question::Check => {
+            // The type of what `check` returns says that the set is safe.
+            let _ = check(alloc, set)?.set();
+            Ok(Report::Safe)
+        }
+        Question::Certify => {
+            let certificates = certificates(alloc, set)?;
+            let text = write_certificates(alloc, certificates.as_slice())?;
+            Ok(Report::Certified(text))
+        }
+        Question::Verify => {
+            let _ = verify(alloc, set, own)?.set();
+            Ok(Report::Verified)
+        }
+    }
+}
+
+/// The answer that refuses a set by its fault.
+fn refusal<'a>(alloc: Global, set: &ProfileSet, fault: &CheckFault) -> Report<'a>
+    ensures { report.IsRefusal set.now fault.now result }
+{
+    let Ok(goals) = set.goals(alloc) else {
+        return Report::OutOfMemory;
+    };
+    match fault {
+        CheckFault::OutOfMemory => Report::OutOfMemory,
+        fault => match fault_line(alloc, set.profiles(), set.rules(), goals.as_slice(), fault) {
+            Ok(line) => Report::Refused(line),
+            Err(_) => Report::OutOfMemory,
+        },
+    }
+}
+
+/// The answer if there is no set, because of that fault. Such a fault has no numbers.
+fn refusal_without_set<'a>(alloc: Global, fault: &CheckFault) -> Report<'a>
+    ensures { (S : Members) → IsRefused S fault.now → report.IsRefusal S fault.now result }
+{
+    match fault {
+        CheckFault::OutOfMemory => Report::OutOfMemory,
+        fault => match fault_line(alloc, &[], &[], &[], fault) {
+            Ok(line) => Report::Refused(line),
+            Err(_) => Report::OutOfMemory,
+        },
+    }
+}

@@ -23,11 +23,13 @@ is_before Less = true
 is_before Equal = false
 is_before Greater = false
 
+-- Two texts, the smaller one first.
+abbrev pub in_order : Text → Text → List Text
+in_order t u = if is_before (name_cmp t u) then t ∷ u ∷ [] else u ∷ t ∷ []
+
 -- The pair of two roots in either order: their texts, the smaller one first.
 abbrev pub pair_of : Path → Path → List Text
-pair_of r s =
-    if is_before (name_cmp (root_text r) (root_text s)) then root_text r ∷ root_text s ∷ []
-    else root_text s ∷ root_text r ∷ []
+pair_of r s = in_order (root_text r) (root_text s)
 
 -- Replicas and archives under the texts of their roots: so both stand in the order of the texts.
 pub record State : Type 0 where

@@ -1,6 +1,6 @@
 -- The lines of a text, taken one after the other.
-use Rattle.std.proofs.Common.{◌≡◌, ◌⊎◌, inl, inr, ℕ, ◌+◌, ◌≤◌, ◌==◌, Bool, true, false, not, ◌&&◌, cond, List, [], ◌∷◌, length, refl, sym, ap, ◌∙◌, subst, arith}
-use Rattle.std.specs.Prelude.{Result, Ok, Err, bytes_eq}
+use Rattle.std.proofs.Common.{◌≡◌, ◌⊎◌, inl, inr, ⊎_elim, ℕ, ◌+◌, ◌≤◌, ◌==◌, Bool, true, false, not, ◌&&◌, cond, List, [], ◌∷◌, length, refl, sym, ap, ◌∙◌, subst, arith}
+use Rattle.std.specs.Prelude.{Result, Ok, Err, IfOk, IfErr, bytes_eq}
 use Rattle.hub_text.specs.declared.line.Line.{Line}
 use Rattle.hub_text.specs.Lines.{is_lf, lines_of, onto_first_line}
 use Rattle.hub_state.specs.declared.fault.Fault.{Fault}
@@ -10,7 +10,8 @@ use Rattle.hub_state.specs.declared.draft.Draft.{Draft}
 use Rattle.hub_state.specs.State.{State, nothing}
 use Rattle.hub_state.specs.Writing.{header, end_line}
 use Rattle.hub_state.specs.Reading.{Above, above_end, nothing_above, state_reading, line_reading, and_then, unless, is_truncated, numbered_reading, lines_reading, then_lines, fault_at, state_or_fault}
-use Rattle.hub_state.specs.Taking.{nothing_taken, closed, is_memory, placed, numbered_taken, last_taken, line_taken}
+use Rattle.hub_state.specs.Taking.{nothing_taken, closed, is_memory, placed, Tells, numbered_taken, last_taken, line_taken}
+use Rattle.hub_state.specs.Devices.{is_read_failed, reports}
 use Rattle.hub_state.proofs.Drafts.{Holds, Same, same-unless, closed_is, ended_is, line_same}
 
 pub numbered_same : (n : ℕ) (d : Above) (a : Draft) → Holds d a → (l : List ℕ) → Same (numbered_reading n d l) (numbered_taken n a l)
@@ -147,3 +148,27 @@ placed_fault n f x r e (inr h) = by (memory_or f)
     by : (f ≡ OutOfMemory) ⊎ (is_memory f ≡ false) → (x ≡ record { line = 0; fault = OutOfMemory }) ⊎ (r ≡ Err x)
     by (inl m) = inl (e ∙ ap (placed n) m)
     by (inr o) = inr (h ∙ ap Err (sym (e ∙ ap (λ b. record { line = cond b 0 n; fault = f }) o)))
+
+-- The same of what is reported of a line, and of the last one.
+pub progress-reported : (bytes : List ℕ) (n : ℕ) (a : Draft) (l k : Line (List ℕ)) (ls ms : List (Line (List ℕ))) (e : StateFault) → Progress bytes n a l ls → ls ≡ k ∷ ms → Tells n (numbered_taken n a l.text) e
+    → (e ≡ record { line = 0; fault = OutOfMemory }) ⊎ (state_reading bytes ≡ Err e)
+progress-reported bytes n a l k ls ms e p more h =
+    placed_fault n h.0 e (state_reading bytes) h.1 (⊎_elim inl (λ t. inr (progress-fault bytes n a l k ls ms h.0 p more t)) h.2)
+
+pub progress-last_reported : (bytes : List ℕ) (n : ℕ) (a : Draft) (l : Line (List ℕ)) (ls : List (Line (List ℕ))) (e : StateFault) → Progress bytes n a l ls → ls ≡ [] → Tells n (last_taken n a l.is_ended l.text) e
+    → (e ≡ record { line = 0; fault = OutOfMemory }) ⊎ (state_reading bytes ≡ Err e)
+progress-last_reported bytes n a l ls e p none h =
+    placed_fault n h.0 e (state_reading bytes) h.1 (⊎_elim inl (λ t. inr (progress-last_fault bytes n a l ls h.0 p none t)) h.2)
+
+-- What follows of the value of a result, and of its fault.
+pub Ok-then : {T E : Type 0} (r : Result T E) (P Q : T → Type 0) → ((x : T) → P x → Q x) → IfOk r P → IfOk r Q
+Ok-then (Ok x) P Q f h = f x h
+Ok-then (Err e) P Q f h = tt
+
+pub Err-then : {T E : Type 0} (r : Result T E) (P Q : E → Type 0) → ((e : E) → P e → Q e) → IfErr r P → IfErr r Q
+Err-then (Ok x) P Q f h = tt
+Err-then (Err e) P Q f h = f e h
+
+pub quiet-then : {T : Type 0} (r : Result T StateFault) → IfErr r (λ e. is_read_failed e.fault ≡ false) → reports is_read_failed r ≡ false
+quiet-then (Ok x) h = refl
+quiet-then (Err e) h = h

@@ -1,5 +1,5 @@
 -- What a line adds to a draft, whose entries stand in maps. `Reading` says the same of lists of entries.
-use Rattle.std.specs.Prelude.{◌≢◌, ℕ, ◌+◌, Bool, true, false, not, ◌&&◌, ◌||◌, ◌==◌, bytes_eq, nat_le, nat_lt, List, length, Option, Some, None, Result, Ok, Err, is_some, if◌then◌else◌}
+use Rattle.std.specs.Prelude.{◌≡◌, ◌≢◌, ◌⊎◌, ℕ, ◌+◌, Bool, true, false, not, ◌&&◌, ◌||◌, ◌==◌, bytes_eq, nat_le, nat_lt, List, length, Option, Some, None, Result, Ok, Err, is_some, if◌then◌else◌}
 use Rattle.std.specs.List.{list_any, before_first, after_first}
 use Rattle.std.specs.Str.{is_utf8}
 use Rattle.std.specs.FinMap as fin
@@ -147,3 +147,7 @@ is_memory _ = false
 -- Where a fault of a line is reported: want of memory is one of no line.
 abbrev pub placed : ℕ → Fault → StateFault
 placed n f = record { line = if is_memory f then 0 else n; fault = f }
+
+-- What is reported of the line with that number: a fault of what was taken, or want of memory.
+abbrev pub Tells : {T : Type 0} → ℕ → Result T Fault → StateFault → Type 0
+Tells n r e = (f : Fault) × (e ≡ placed n f) × ((f ≡ OutOfMemory) ⊎ (r ≡ Err f))

@@ -1,4 +1,4 @@
-ghost use Rattle.std.specs.Prelude.{◌≡◌, ◌⊎◌, ◌≤◌, length, false, Ok, Err, IfOk, IfErr, IfSome, IsErrOf, OnOk};
+ghost use Rattle.std.specs.Prelude.{◌≡◌, ◌⊎◌, ◌≤◌, length, false, Ok, Err, IfOk, IfErr, IfSome, OnOk};
 ghost use Rattle.hub_state.specs.Devices.{is_read_failed, says, reports};
 ghost use Rattle.hub_state.specs.Reading.{state_reading};
 ghost use Rattle.hub_state.specs.Taking as taking;
@@ -20,14 +20,15 @@ const READ_BYTES: usize = 4_096;
 /// Reads all of an input, and then the state that it is the text of, version 1.
 ///
 /// Returns `ReadFailed` exactly when a read failed, and reads no further then. Returns `TurnsSpent` if `READ_TURNS` reads
-/// did not reach the end. Otherwise this is `read_bytes`. `ReadFailed`, `TurnsSpent` and `OutOfMemory` have line 0.
+/// did not reach the end: such an input has at least `READ_TURNS` bytes. Otherwise this is `read_bytes`. `ReadFailed`, `TurnsSpent` and `OutOfMemory` have line 0.
 pub fn read_state<R: Read>(alloc: Global, input: &mut Watched<R>) -> Result<State, StateFault>
     requires { input.old.failed ≡ false }
     ensures ok { IfOk result
         (λ s. IfSome (R.remaining input.old.device) (λ bytes. state_reading bytes ≡ Ok s)) }
     ensures err { IfErr result (λ e. (e ≡ record { line = 0; fault = Fault.OutOfMemory })
         ⊎ (e ≡ record { line = 0; fault = Fault.ReadFailed })
-        ⊎ (e ≡ record { line = 0; fault = Fault.TurnsSpent })
+        ⊎ ((e ≡ record { line = 0; fault = Fault.TurnsSpent })
+        × IfSome (R.remaining input.old.device) (λ bytes. READ_TURNS ≤ length bytes))
         ⊎ IfSome (R.remaining input.old.device) (λ bytes. state_reading bytes ≡ Err e)) }
     ensures failed { input.new.failed ≡ reports is_read_failed result }
 {
@@ -56,23 +57,11 @@ pub fn read_bytes(alloc: Global, bytes: &[u8]) -> Result<State, StateFault>
     let mut line = first;
     let mut number = 1;
     for next in lines {
-        match take_line(alloc, &mut draft, number, line.text) {
-            Ok(()) => {}
-            Err(fault) => {
-                let stop = placed(number, fault);
-                return Err(stop);
-            }
-        }
+        take_line_at(alloc, &mut draft, number, line.text)?;
         line = next;
         number += 1;
     }
-    match take_last(alloc, draft, number, line) {
-        Ok(state) => Ok(state),
-        Err(fault) => {
-            let last = placed(number, fault);
-            Err(last)
-        }
-    }
+    take_last_at(alloc, draft, number, line)
 }
 
 /// Reads all bytes of the input, in at most this many reads.
@@ -81,7 +70,8 @@ fn read_all<R: Read>(alloc: Global, input: &mut Watched<R>, turns: usize) -> Res
     ensures whole { IfOk result
         (λ v. IfSome (R.remaining input.old.device) (λ bytes. v.items ≡ bytes)) }
     ensures faults { IfErr result (λ e. (e ≡ Fault.OutOfMemory) ⊎ (e ≡ Fault.ReadFailed)
-        ⊎ (e ≡ Fault.TurnsSpent)) }
+        ⊎ ((e ≡ Fault.TurnsSpent)
+        × IfSome (R.remaining input.old.device) (λ bytes. turns ≤ length bytes))) }
     ensures failed { input.new.failed ≡ says is_read_failed result }
 {
     let mut bytes = Vec::new(alloc);
@@ -105,6 +95,50 @@ fn placed(line: usize, fault: Fault) -> StateFault
     match fault {
         Fault::OutOfMemory => StateFault { line: 0, fault },
         _ => StateFault { line, fault },
+    }
+}
+
+/// Takes a line, and reports its fault with its number.
+fn take_line_at(
+    alloc: Global,
+    draft: &mut Draft,
+    number: usize,
+    line: &[u8],
+) -> Result<(), StateFault>
+    requires { IsApart draft.old.current }
+    ensures ok { OnOk result (taking.numbered_taken number draft.old line.now ≡ Ok draft.new) }
+    ensures err { IfErr result (λ e. taking.Tells number
+        (taking.numbered_taken number draft.old line.now) e) }
+    ensures apart { OnOk result (IsApart draft.new.current) }
+{
+    match take_line(alloc, draft, number, line) {
+        Ok(()) => Ok(()),
+        Err(fault) => {
+            let stop = placed(number, fault);
+            Err(stop)
+        }
+    }
+}
+
+/// Takes the last line, and returns the state or reports the fault with the line's number.
+fn take_last_at(
+    alloc: Global,
+    draft: Draft,
+    number: usize,
+    line: Line<&[u8]>,
+) -> Result<State, StateFault>
+    requires { IsApart draft.current }
+    ensures ok { IfOk result (λ s. taking.last_taken number draft line.entry.is_ended
+        line.entry.text.now ≡ Ok s) }
+    ensures err { IfErr result (λ e. taking.Tells number
+        (taking.last_taken number draft line.entry.is_ended line.entry.text.now) e) }
+{
+    match take_last(alloc, draft, number, line) {
+        Ok(state) => Ok(state),
+        Err(fault) => {
+            let last = placed(number, fault);
+            Err(last)
+        }
     }
 }
 

@@ -4,6 +4,7 @@ use hub_text::Watched;
 use hub_tree::{Archive, Mark, Tree};
 use std::alloc::{AllocError, Global};
 use std::io::{ErrorKind, Read, Write};
+use std::process::Abort;
 use std::str::from_utf8;
 use std::test::Fail;
 use std::{cmp, io};
@@ -19,10 +20,7 @@ fn answer(alloc: Global, text: &[u8]) -> Result<String, AllocError> {
 
 /// The text of a state.
 fn written(alloc: Global, state: &State) -> Result<String, AllocError> {
-    let mut output = Kept {
-        text: Vec::new(alloc),
-        writes: usize::MAX,
-    };
+    let mut output = kept(alloc, usize::MAX);
     match write_state(alloc, &mut Watched::new(&mut output), state) {
         Ok(()) => match from_utf8(output.text.as_slice()) {
             Ok(text) => String::from_str(alloc, text),
@@ -37,6 +35,14 @@ fn written(alloc: Global, state: &State) -> Result<String, AllocError> {
 struct Kept {
     text: Vec<u8>,
     writes: usize,
+}
+
+/// A writer that has kept nothing yet.
+fn kept(alloc: Global, writes: usize) -> Kept {
+    Kept {
+        text: Vec::new(alloc),
+        writes,
+    }
 }
 
 impl Write for Kept {
@@ -55,7 +61,7 @@ impl Write for Kept {
     }
 }
 
-/// What stands above the line of a row: nothing, a replica, half an archive, an archive, and an `end`.
+/// What stands above a line: nothing, a replica, half an archive, an archive, and an `end`.
 const PLACES: [&str; 5] = [
     "",
     "replica /a\ndir d\nfile 61 f\n",
@@ -64,299 +70,282 @@ const PLACES: [&str; 5] = [
     "end\n",
 ];
 
-/// Lines, and the fault of each at these places, `ok`, or `next` if the line after it is the bad one.
-const LINES: [(&str, [&str; 5]); 50] = [
-    ("replica /c", ["ok", "ok", "BadLine", "ok", "BadLine"]),
-    ("replica /a", ["ok", "Repeated", "BadLine", "ok", "BadLine"]),
-    (
-        "replica /a/",
-        ["ok", "Repeated", "BadLine", "ok", "BadLine"],
-    ),
-    (
-        "replica",
-        ["BadLine", "BadLine", "BadLine", "BadLine", "BadLine"],
-    ),
-    (
-        "replica ",
-        ["BadPath", "BadPath", "BadLine", "BadPath", "BadLine"],
-    ),
-    (
-        "replica c",
-        ["BadPath", "BadPath", "BadLine", "BadPath", "BadLine"],
-    ),
-    (
-        "replica //c",
-        ["BadPath", "BadPath", "BadLine", "BadPath", "BadLine"],
-    ),
-    ("archive /c", ["next", "next", "BadLine", "next", "BadLine"]),
-    (
-        "archive",
-        ["BadLine", "BadLine", "BadLine", "BadLine", "BadLine"],
-    ),
-    (
-        "archive ",
-        ["BadPath", "BadPath", "BadLine", "BadPath", "BadLine"],
-    ),
-    (
-        "with /c",
-        ["BadLine", "BadLine", "ok", "BadLine", "BadLine"],
-    ),
-    (
-        "with /b",
-        ["BadLine", "BadLine", "ok", "BadLine", "BadLine"],
-    ),
-    (
-        "with /a",
-        ["BadLine", "BadLine", "BadLine", "BadLine", "BadLine"],
-    ),
-    (
-        "with",
-        ["BadLine", "BadLine", "BadLine", "BadLine", "BadLine"],
-    ),
-    (
-        "with ",
-        ["BadLine", "BadLine", "BadPath", "BadLine", "BadLine"],
-    ),
-    (
-        "with /a/../b",
-        ["BadLine", "BadLine", "BadPath", "BadLine", "BadLine"],
-    ),
-    ("dir x", ["BadLine", "ok", "BadLine", "ok", "BadLine"]),
-    (
-        "dir",
-        ["BadLine", "BadLine", "BadLine", "BadLine", "BadLine"],
-    ),
-    (
-        "dir ",
-        ["BadLine", "BadPath", "BadLine", "BadPath", "BadLine"],
-    ),
-    (
-        "dir /x",
-        ["BadLine", "BadPath", "BadLine", "BadPath", "BadLine"],
-    ),
-    (
-        "dir x/",
-        ["BadLine", "BadPath", "BadLine", "BadPath", "BadLine"],
-    ),
-    (
-        "dir ../x",
-        ["BadLine", "BadPath", "BadLine", "BadPath", "BadLine"],
-    ),
-    (
-        "dir d",
-        ["BadLine", "Repeated", "BadLine", "Repeated", "BadLine"],
-    ),
-    (
-        "dir f",
-        ["BadLine", "Repeated", "BadLine", "Repeated", "BadLine"],
-    ),
-    ("dir d/x", ["BadLine", "ok", "BadLine", "ok", "BadLine"]),
-    (
-        "dir f/x",
-        ["BadLine", "NoParent", "BadLine", "ok", "BadLine"],
-    ),
-    (
-        "dir m/x",
-        ["BadLine", "NoParent", "BadLine", "ok", "BadLine"],
-    ),
-    (
-        "file - x",
-        ["BadLine", "ok", "BadLine", "BadHex", "BadLine"],
-    ),
-    (
-        "file 61 x",
-        ["BadLine", "ok", "BadLine", "BadHex", "BadLine"],
-    ),
-    (
-        "file 6 x",
-        ["BadLine", "BadHex", "BadLine", "BadHex", "BadLine"],
-    ),
-    (
-        "file 6g x",
-        ["BadLine", "BadHex", "BadLine", "BadHex", "BadLine"],
-    ),
-    (
-        "file",
-        ["BadLine", "BadLine", "BadLine", "BadLine", "BadLine"],
-    ),
-    (
-        "file 61",
-        ["BadLine", "BadLine", "BadLine", "BadLine", "BadLine"],
-    ),
-    (
-        "file - ",
-        ["BadLine", "BadPath", "BadLine", "BadHex", "BadLine"],
-    ),
-    (
-        "file  x",
-        ["BadLine", "BadHex", "BadLine", "BadHex", "BadLine"],
-    ),
-    (
-        "file - /x",
-        ["BadLine", "BadPath", "BadLine", "BadHex", "BadLine"],
-    ),
-    (
-        "file 61 d",
-        ["BadLine", "Repeated", "BadLine", "BadHex", "BadLine"],
-    ),
-    (
-        "file 61 d/x",
-        ["BadLine", "ok", "BadLine", "BadHex", "BadLine"],
-    ),
-    (
-        "file 61 f/x",
-        ["BadLine", "NoParent", "BadLine", "BadHex", "BadLine"],
-    ),
-    (
-        "file 61 m/x",
-        ["BadLine", "NoParent", "BadLine", "BadHex", "BadLine"],
-    ),
-    (
-        "file 61 x y",
-        ["BadLine", "ok", "BadLine", "BadHex", "BadLine"],
-    ),
-    (
+/// How the answer begins that is wanted at a place: `ok` stands for the text of a state, `next` for a fault of the line
+/// below, and anything else is the fault of the line.
+fn wanted(alloc: Global, place: &str, want: &str) -> Result<String, AllocError> {
+    let line = place.lines().count().saturating_add(2);
+    match want {
+        "ok" => String::from_str(alloc, "hubsync state 1\n"),
+        "next" => format!(in alloc; "line {}: BadLine", line.saturating_add(1)),
+        fault => format!(in alloc; "line {line}: {fault}"),
+    }
+}
+
+/// Whether a line at a place is answered so.
+fn line_at(
+    rt: &impl Abort,
+    alloc: Global,
+    place: &str,
+    line: &str,
+    want: &str,
+) -> Result<(), Fail> {
+    let text = format!(in alloc; "hubsync state 1\n{place}{line}\nend\n")?;
+    let found = answer(alloc, text.as_bytes())?;
+    let want = wanted(alloc, place, want)?;
+    assert!(rt; found.starts_with(want.as_str()), "{text:?}: {found}");
+    Ok(())
+}
+
+/// Whether a line is answered so at each place.
+fn line_at_places(
+    rt: &impl Abort,
+    alloc: Global,
+    line: &str,
+    wants: &[&str; 5],
+) -> Result<(), Fail> {
+    for (place, want) in PLACES.iter().zip(wants) {
+        line_at(rt, alloc, place, line, want)?;
+    }
+    Ok(())
+}
+
+/// Whether each of these lines is answered so at each place.
+fn lines_at_places(
+    rt: &impl Abort,
+    alloc: Global,
+    lines: &[&str],
+    wants: [&str; 5],
+) -> Result<(), Fail> {
+    for line in lines {
+        line_at_places(rt, alloc, line, &wants)?;
+    }
+    Ok(())
+}
+
+/// Lines that may stand nowhere: they have no form, or not all of its fields, or are of the root of the archive above.
+const NOWHERE: &[&str] = &[
+    "",
+    "replica",
+    "archive",
+    "with",
+    "with /a",
+    "dir",
+    "file",
+    "file 61",
+    "end ",
+    "End",
+    "blob 00112233445566778899aabbccddeeffFFEEDDCCBBAA99887766554433221100 -",
+];
+
+#[test]
+fn lines_that_stand_nowhere(rt: HostRuntime) -> Result<(), Fail> {
+    let wants = ["BadLine", "BadLine", "BadLine", "BadLine", "BadLine"];
+    lines_at_places(&rt, rt.alloc(), NOWHERE, wants)
+}
+
+#[test]
+fn replica_lines(rt: HostRuntime) -> Result<(), Fail> {
+    let wants = ["ok", "ok", "BadLine", "ok", "BadLine"];
+    lines_at_places(&rt, rt.alloc(), &["replica /c"], wants)?;
+    let wants = ["ok", "Repeated", "BadLine", "ok", "BadLine"];
+    lines_at_places(&rt, rt.alloc(), &["replica /a", "replica /a/"], wants)
+}
+
+#[test]
+fn sections_of_no_root(rt: HostRuntime) -> Result<(), Fail> {
+    let lines = ["replica ", "replica c", "replica //c", "archive "];
+    let wants = ["BadPath", "BadPath", "BadLine", "BadPath", "BadLine"];
+    lines_at_places(&rt, rt.alloc(), &lines, wants)
+}
+
+#[test]
+fn lines_that_the_next_line_is_wrong_for(rt: HostRuntime) -> Result<(), Fail> {
+    let wants = ["next", "next", "BadLine", "next", "BadLine"];
+    lines_at_places(&rt, rt.alloc(), &["archive /c", "end"], wants)
+}
+
+#[test]
+fn with_lines(rt: HostRuntime) -> Result<(), Fail> {
+    let wants = ["BadLine", "BadLine", "ok", "BadLine", "BadLine"];
+    lines_at_places(&rt, rt.alloc(), &["with /b", "with /c"], wants)?;
+    let wants = ["BadLine", "BadLine", "BadPath", "BadLine", "BadLine"];
+    lines_at_places(&rt, rt.alloc(), &["with ", "with /a/../b"], wants)
+}
+
+#[test]
+fn entries_that_are_taken(rt: HostRuntime) -> Result<(), Fail> {
+    let lines = [
+        "dir x",
+        "dir d/x",
         "file 00112233445566778899aabbccddeeffFFEEDDCCBBAA99887766554433221100 x",
-        ["BadLine", "ok", "BadLine", "ok", "BadLine"],
-    ),
-    (
         "file 00112233445566778899aabbccddeeffFFEEDDCCBBAA99887766554433221100 d/x",
-        ["BadLine", "ok", "BadLine", "ok", "BadLine"],
-    ),
-    (
+    ];
+    let wants = ["BadLine", "ok", "BadLine", "ok", "BadLine"];
+    lines_at_places(&rt, rt.alloc(), &lines, wants)
+}
+
+#[test]
+fn directories_at_no_path(rt: HostRuntime) -> Result<(), Fail> {
+    let lines = ["dir ", "dir /x", "dir x/", "dir ../x"];
+    let wants = ["BadLine", "BadPath", "BadLine", "BadPath", "BadLine"];
+    lines_at_places(&rt, rt.alloc(), &lines, wants)
+}
+
+#[test]
+fn directories_that_are_there(rt: HostRuntime) -> Result<(), Fail> {
+    let wants = ["BadLine", "Repeated", "BadLine", "Repeated", "BadLine"];
+    lines_at_places(&rt, rt.alloc(), &["dir d", "dir f"], wants)
+}
+
+#[test]
+fn entries_without_a_parent(rt: HostRuntime) -> Result<(), Fail> {
+    let lines = [
+        "dir f/x",
+        "dir m/x",
         "file 00112233445566778899aabbccddeeffFFEEDDCCBBAA99887766554433221100 m/x",
-        ["BadLine", "NoParent", "BadLine", "ok", "BadLine"],
-    ),
-    (
+    ];
+    let wants = ["BadLine", "NoParent", "BadLine", "ok", "BadLine"];
+    lines_at_places(&rt, rt.alloc(), &lines, wants)
+}
+
+#[test]
+fn files_of_a_replica(rt: HostRuntime) -> Result<(), Fail> {
+    let lines = ["file - x", "file 61 x", "file 61 d/x", "file 61 x y"];
+    let wants = ["BadLine", "ok", "BadLine", "BadHex", "BadLine"];
+    lines_at_places(&rt, rt.alloc(), &lines, wants)
+}
+
+#[test]
+fn files_of_no_digits(rt: HostRuntime) -> Result<(), Fail> {
+    let lines = [
+        "file 6 x",
+        "file 6g x",
+        "file  x",
         "file 0112233445566778899aabbccddeeffFFEEDDCCBBAA99887766554433221100 x",
-        ["BadLine", "BadHex", "BadLine", "BadHex", "BadLine"],
-    ),
-    ("end", ["next", "next", "BadLine", "next", "BadLine"]),
+    ];
+    let wants = ["BadLine", "BadHex", "BadLine", "BadHex", "BadLine"];
+    lines_at_places(&rt, rt.alloc(), &lines, wants)
+}
+
+#[test]
+fn files_that_a_replica_refuses(rt: HostRuntime) -> Result<(), Fail> {
+    let alloc = rt.alloc();
+    let wants = ["BadLine", "BadPath", "BadLine", "BadHex", "BadLine"];
+    lines_at_places(&rt, alloc, &["file - ", "file - /x"], wants)?;
+    let wants = ["BadLine", "Repeated", "BadLine", "BadHex", "BadLine"];
+    lines_at_places(&rt, alloc, &["file 61 d"], wants)?;
+    let wants = ["BadLine", "NoParent", "BadLine", "BadHex", "BadLine"];
+    lines_at_places(&rt, alloc, &["file 61 f/x", "file 61 m/x"], wants)
+}
+
+/// Whether each text is answered so.
+fn texts(rt: &impl Abort, alloc: Global, rows: &[(&str, &str)]) -> Result<(), Fail> {
+    for (text, want) in rows {
+        let found = answer(alloc, text.as_bytes())?;
+        assert_eq!(rt; found.as_str(), *want, "of {text:?}");
+    }
+    Ok(())
+}
+
+/// Texts that are cut off.
+const CUT: &[(&str, &str)] = &[
+    ("", "line 1: Truncated"),
+    ("\n", "line 1: Truncated"),
+    ("hubsync state 1\n", "line 1: Truncated"),
+    ("hubsync state 1", "line 1: Truncated"),
+    ("hubsync state 9\n", "line 1: Truncated"),
+    ("hubsync state 1\nend\nx", "line 3: Truncated"),
+    ("hubsync state 1\nreplica /srv/hub\n", "line 2: Truncated"),
     (
-        "end ",
-        ["BadLine", "BadLine", "BadLine", "BadLine", "BadLine"],
+        "hubsync state 1\nreplica /srv/hub\nfile - e\nreplica /srv/s1\n",
+        "line 4: Truncated",
     ),
     (
-        "End",
-        ["BadLine", "BadLine", "BadLine", "BadLine", "BadLine"],
+        "hubsync state 1\nreplica /srv/hub\nfile - e\nreplica /srv/s1\nen",
+        "line 5: Truncated",
     ),
-    ("", ["BadLine", "BadLine", "BadLine", "BadLine", "BadLine"]),
     (
-        "blob 00112233445566778899aabbccddeeffFFEEDDCCBBAA99887766554433221100 -",
-        ["BadLine", "BadLine", "BadLine", "BadLine", "BadLine"],
+        "hubsync state 1\nreplica /srv/hub\ndir ../x\n",
+        "line 3: Truncated",
     ),
 ];
 
-/// The fault that a row wants, as it is shown.
-fn wanted(alloc: Global, place: &str, want: &str) -> Result<String, AllocError> {
-    let line = place.lines().count().saturating_add(2);
-    if want == "next" {
-        return format!(in alloc; "line {}: BadLine", line.saturating_add(1));
-    }
-    format!(in alloc; "line {line}: {want}")
+#[test]
+fn texts_that_are_cut_off(rt: HostRuntime) -> Result<(), Fail> {
+    texts(&rt, rt.alloc(), CUT)
 }
 
-#[test]
-fn each_line_at_each_place(rt: HostRuntime) -> Result<(), Fail> {
-    let alloc = rt.alloc();
-    for (line, wants) in LINES {
-        for i in 0..PLACES.len() {
-            let text = format!(in alloc; "hubsync state 1\n{}{line}\nend\n", PLACES[i])?;
-            let found = answer(alloc, text.as_bytes())?;
-            if wants[i] == "ok" {
-                assert!(rt; found.starts_with("hubsync state 1\n"), "{text:?}: {found}");
-            } else {
-                let want = wanted(alloc, PLACES[i], wants[i])?;
-                assert_eq!(rt; found.as_str(), want.as_str(), "at {text:?}");
-            }
-        }
-    }
-    Ok(())
-}
+/// Texts with another fault.
+const FAULTY: &[(&str, &str)] = &[
+    ("end", "line 1: BadHeader"),
+    ("end\n", "line 1: BadHeader"),
+    ("end\nhubsync state 1\n", "line 1: BadHeader"),
+    ("hubsync state 9\nend\n", "line 1: BadHeader"),
+    (
+        "hubsync state 9\nreplica /srv/hub\nend\n",
+        "line 1: BadHeader",
+    ),
+    ("hubsync state 1\nend\nend", "line 3: BadLine"),
+    ("hubsync state 1\nend\nend\n", "line 3: BadLine"),
+    ("hubsync state 1\nend\n\n", "line 3: BadLine"),
+    ("hubsync state 1\narchive /a\nend\n", "line 3: BadLine"),
+    ("hubsync state 1\nreplica /srv//\nend\n", "line 2: BadPath"),
+    (
+        "hubsync state 1\nreplica /srv/hub\ndir a/b\nend\n",
+        "line 3: NoParent",
+    ),
+    (
+        "hubsync state 1\nreplica /srv/hub\nfile 6 a\nend\n",
+        "line 3: BadHex",
+    ),
+    (
+        "hubsync state 1\nreplica /srv/hub\ndir a\ndir a\nend\n",
+        "line 4: Repeated",
+    ),
+    (
+        "hubsync state 1\nreplica /srv/hub\ndir a\r\nend\n",
+        "line 3: BadPath",
+    ),
+    (
+        "hubsync state 1\narchive /srv/hub\nwith /srv/hub\nend\n",
+        "line 3: BadLine",
+    ),
+    (
+        "hubsync state 1\narchive /a\nwith /b\narchive /b\nwith /a\nend\n",
+        "line 5: Repeated",
+    ),
+];
 
 #[test]
-fn whole_texts(rt: HostRuntime) -> Result<(), Fail> {
-    for (text, want) in [
-        ("", "line 1: Truncated"),
-        ("\n", "line 1: Truncated"),
-        ("end", "line 1: BadHeader"),
-        ("end\n", "line 1: BadHeader"),
-        ("hubsync state 1\n", "line 1: Truncated"),
-        ("hubsync state 1", "line 1: Truncated"),
-        ("hubsync state 9\n", "line 1: Truncated"),
-        ("hubsync state 9\nend\n", "line 1: BadHeader"),
-        ("hubsync state 1\nend", "hubsync state 1\nend\n"),
-        ("hubsync state 1\nend\n", "hubsync state 1\nend\n"),
-        ("hubsync state 1\nend\nend", "line 3: BadLine"),
-        ("hubsync state 1\nend\nend\n", "line 3: BadLine"),
-        ("hubsync state 1\nend\n\n", "line 3: BadLine"),
-        ("hubsync state 1\nend\nx", "line 3: Truncated"),
-        ("hubsync state 1\nreplica /srv/hub\n", "line 2: Truncated"),
-        (
-            "hubsync state 9\nreplica /srv/hub\nend\n",
-            "line 1: BadHeader",
-        ),
-        (
-            "hubsync state 1\nreplica /srv/hub\ndir a/b\nend\n",
-            "line 3: NoParent",
-        ),
-        (
-            "hubsync state 1\nreplica /srv/hub\nfile 6 a\nend\n",
-            "line 3: BadHex",
-        ),
-        (
-            "hubsync state 1\nreplica /srv/hub\ndir a\ndir a\nend\n",
-            "line 4: Repeated",
-        ),
-        (
-            "hubsync state 1\nreplica /srv/hub\nfile - e\nreplica /srv/s1\n",
-            "line 4: Truncated",
-        ),
-        (
-            "hubsync state 1\nreplica /srv/hub\nfile - e\nreplica /srv/s1\nen",
-            "line 5: Truncated",
-        ),
-        (
-            "hubsync state 1\nreplica /srv/hub\ndir a\r\nend\n",
-            "line 3: BadPath",
-        ),
-        (
-            "hubsync state 1\nreplica /srv/hub\ndir ../x\n",
-            "line 3: Truncated",
-        ),
-        (
-            "hubsync state 1\narchive /srv/hub\nwith /srv/hub\nend\n",
-            "line 3: BadLine",
-        ),
-        (
-            "hubsync state 1\narchive /a\nwith /b\narchive /b\nwith /a\nend\n",
-            "line 5: Repeated",
-        ),
-        (
-            "hubsync state 1\nreplica /srv/hub\nfile - e\nreplica /srv/s1\nend\n",
-            "hubsync state 1\nreplica /srv/hub\nfile - e\nreplica /srv/s1\nend\n",
-        ),
-        ("hubsync state 1\nreplica /srv//\nend\n", "line 2: BadPath"),
-        ("hubsync state 1\narchive /a\nend\n", "line 3: BadLine"),
-        ("end\nhubsync state 1\n", "line 1: BadHeader"),
-        (
-            "hubsync state 1\nreplica /é\ndir ü\nend\n",
-            "hubsync state 1\nreplica /é\ndir ü\nend\n",
-        ),
-        (
-            "hubsync state 1\narchive /b\nwith /a/\nfile 00112233445566778899aabbccddeeffFFEEDDCCBBAA99887766554433221100 f\ndir d/x\nreplica /a/b\nfile AbCD a-b\nfile - a\nreplica /a-b/\ndir a\nfile 00fF a/b\ndir a-b\nreplica /\nend\n",
-            "hubsync state 1\nreplica /\nreplica /a-b\ndir a\nfile 00ff a/b\ndir a-b\nreplica /a/b\nfile - a\nfile abcd a-b\narchive /a\nwith /b\ndir d/x\nfile 00112233445566778899aabbccddeeffffeeddccbbaa99887766554433221100 f\nend\n",
-        ),
-    ] {
-        let found = answer(rt.alloc(), text.as_bytes())?;
-        assert_eq!(rt; found.as_str(), want, "of {text:?}");
-    }
-    Ok(())
+fn texts_with_a_fault(rt: HostRuntime) -> Result<(), Fail> {
+    texts(&rt, rt.alloc(), FAULTY)
+}
+
+/// Texts of states, and what is written of these states.
+const WHOLE: &[(&str, &str)] = &[
+    ("hubsync state 1\nend", "hubsync state 1\nend\n"),
+    ("hubsync state 1\nend\n", "hubsync state 1\nend\n"),
+    (
+        "hubsync state 1\nreplica /srv/hub\nfile - e\nreplica /srv/s1\nend\n",
+        "hubsync state 1\nreplica /srv/hub\nfile - e\nreplica /srv/s1\nend\n",
+    ),
+    (
+        "hubsync state 1\nreplica /é\ndir ü\nend\n",
+        "hubsync state 1\nreplica /é\ndir ü\nend\n",
+    ),
+    (
+        "hubsync state 1\narchive /b\nwith /a/\nfile 00112233445566778899aabbccddeeffFFEEDDCCBBAA99887766554433221100 f\ndir d/x\nreplica /a/b\nfile AbCD a-b\nfile - a\nreplica /a-b/\ndir a\nfile 00fF a/b\ndir a-b\nreplica /\nend\n",
+        "hubsync state 1\nreplica /\nreplica /a-b\ndir a\nfile 00ff a/b\ndir a-b\nreplica /a/b\nfile - a\nfile abcd a-b\narchive /a\nwith /b\ndir d/x\nfile 00112233445566778899aabbccddeeffffeeddccbbaa99887766554433221100 f\nend\n",
+    ),
+];
+
+#[test]
+fn texts_of_states(rt: HostRuntime) -> Result<(), Fail> {
+    texts(&rt, rt.alloc(), WHOLE)
 }
 
 #[test]
 fn bytes_that_are_not_text(rt: HostRuntime) -> Result<(), Fail> {
-    let alloc = rt.alloc();
     for (text, want) in [
         (b"\xff\nend\n".as_slice(), "line 1: BadHeader"),
         (
@@ -372,34 +361,74 @@ fn bytes_that_are_not_text(rt: HostRuntime) -> Result<(), Fail> {
             "line 3: BadPath",
         ),
     ] {
-        assert_eq!(rt; answer(alloc, text)?.as_str(), want);
+        assert_eq!(rt; answer(rt.alloc(), text)?.as_str(), want);
     }
     Ok(())
 }
 
-#[test]
-fn a_state_by_hand(rt: HostRuntime) -> Result<(), Fail> {
-    let alloc = rt.alloc();
-    let hub = Root::read(alloc, "/srv/hub")?;
-    let spoke = Root::read(alloc, "/srv/s1")?;
-    let mut state = State::new(alloc);
-    assert!(rt; state.replica(&hub).is_none());
+/// An archive with one directory.
+fn with_one_mark(rt: &impl Abort, alloc: Global) -> Result<Archive, Fail> {
+    let path = RelPath::read(alloc, "e")?;
+    assert!(rt; path.len() > 0);
     let mut archive = Archive::new(alloc);
-    archive.set(&RelPath::read(alloc, "e")?, Mark::Directory)?;
-    if spoke != hub {
-        state.put_archive(&spoke, &hub, archive)?;
+    archive.set(&path, Mark::Directory)?;
+    Ok(archive)
+}
+
+/// Puts an archive in the place of that of two roots, which are different.
+fn put(
+    rt: &impl Abort,
+    state: &mut State,
+    first: &Root,
+    second: &Root,
+    archive: Archive,
+) -> Result<(), Fail> {
+    if first == second {
+        assert!(rt; false, "one root");
+        return Ok(());
     }
-    state.put_replica(&spoke, Tree::new(alloc))?;
+    state.put_archive(first, second, archive)?;
+    Ok(())
+}
+
+/// A state with the replica of a root, which is empty, and the archive of two roots.
+fn by_hand(rt: &impl Abort, alloc: Global, spoke: &Root, hub: &Root) -> Result<State, Fail> {
+    let mut state = State::new(alloc);
+    state.put_replica(spoke, Tree::new(alloc))?;
+    put(rt, &mut state, spoke, hub, with_one_mark(rt, alloc)?)?;
+    Ok(state)
+}
+
+#[test]
+fn a_state_has_what_was_put(rt: HostRuntime) -> Result<(), Fail> {
+    let hub = Root::read(rt.alloc(), "/srv/hub")?;
+    let spoke = Root::read(rt.alloc(), "/srv/s1")?;
+    let state = by_hand(&rt, rt.alloc(), &spoke, &hub)?;
+    assert!(rt; state.replica(&hub).is_none());
     assert!(rt; state.replica(&spoke).is_some());
     assert!(rt; state.archive(&hub, &spoke).is_some());
     assert!(rt; state.archive(&hub, &hub).is_none());
+    Ok(())
+}
+
+#[test]
+fn a_copy_is_written_as_the_state(rt: HostRuntime) -> Result<(), Fail> {
+    let hub = Root::read(rt.alloc(), "/srv/hub")?;
+    let spoke = Root::read(rt.alloc(), "/srv/s1")?;
+    let state = by_hand(&rt, rt.alloc(), &spoke, &hub)?;
     let want = "hubsync state 1\nreplica /srv/s1\narchive /srv/hub\nwith /srv/s1\ndir e\nend\n";
-    assert_eq!(rt; written(alloc, &state.copy()?)?.as_str(), want);
-    if hub != spoke {
-        state.put_archive(&hub, &spoke, Archive::new(alloc))?;
-    }
+    assert_eq!(rt; written(rt.alloc(), &state.copy()?)?.as_str(), want);
+    Ok(())
+}
+
+#[test]
+fn an_archive_replaces_that_of_the_turned_pair(rt: HostRuntime) -> Result<(), Fail> {
+    let hub = Root::read(rt.alloc(), "/srv/hub")?;
+    let spoke = Root::read(rt.alloc(), "/srv/s1")?;
+    let mut state = by_hand(&rt, rt.alloc(), &spoke, &hub)?;
+    put(&rt, &mut state, &hub, &spoke, Archive::new(rt.alloc()))?;
     let want = "hubsync state 1\nreplica /srv/s1\narchive /srv/hub\nwith /srv/s1\nend\n";
-    assert_eq!(rt; written(alloc, &state)?.as_str(), want);
+    assert_eq!(rt; written(rt.alloc(), &state)?.as_str(), want);
     Ok(())
 }
 
@@ -422,22 +451,25 @@ impl<'a> Read for Failing<'a> {
     }
 }
 
+/// The text of a replica with one directory.
+const SMALL: &[u8] = b"hubsync state 1\nreplica /a\ndir d\nend\n";
+
 #[test]
-fn devices_that_fail(rt: HostRuntime) -> Result<(), Fail> {
-    let alloc = rt.alloc();
-    let text = b"hubsync state 1\nreplica /a\ndir d\nend\n".as_slice();
-    let mut input = Watched::new(Failing { left: text });
-    let fault = read_state(alloc, &mut input).err().ok_or("no fault")?;
+fn a_reader_that_fails(rt: HostRuntime) -> Result<(), Fail> {
+    let mut input = Watched::new(Failing { left: SMALL });
+    let fault = read_state(rt.alloc(), &mut input).err().ok_or("no fault")?;
     assert_eq!(rt; fault.fault, Fault::ReadFailed);
     assert_eq!(rt; fault.line, 0);
     assert!(rt; input.failed());
-    let state = read_bytes(alloc, text)?;
+    Ok(())
+}
+
+#[test]
+fn a_writer_that_fails(rt: HostRuntime) -> Result<(), Fail> {
+    let state = read_bytes(rt.alloc(), SMALL)?;
     for writes in 0..2 {
-        let mut output = Watched::new(Kept {
-            text: Vec::new(alloc),
-            writes,
-        });
-        let outcome = write_state(alloc, &mut output, &state);
+        let mut output = Watched::new(kept(rt.alloc(), writes));
+        let outcome = write_state(rt.alloc(), &mut output, &state);
         assert_eq!(rt; outcome.is_err(), writes == 0);
         assert_eq!(rt; output.failed(), writes == 0);
     }

@@ -20,7 +20,8 @@ const READ_BYTES: usize = 4_096;
 /// Reads all of an input, and then the state that it is the text of, version 1.
 ///
 /// Returns `ReadFailed` exactly when a read failed, and reads no further then. Returns `TurnsSpent` if `READ_TURNS` reads
-/// did not reach the end: such an input has at least `READ_TURNS` bytes. Otherwise this is `read_bytes`. `ReadFailed`, `TurnsSpent` and `OutOfMemory` have line 0.
+/// did not reach the end: such an input has at least `READ_TURNS` bytes. Otherwise this is `read_bytes`. `ReadFailed`,
+/// `TurnsSpent` and `OutOfMemory` have line 0.
 pub fn read_state<R: Read>(alloc: Global, input: &mut Watched<R>) -> Result<State, StateFault>
     requires { input.old.failed ≡ false }
     ensures ok { IfOk result

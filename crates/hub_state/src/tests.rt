@@ -20,7 +20,7 @@ fn answer(alloc: Global, text: &[u8]) -> Result<String, AllocError> {
 
 /// The text of a state.
 fn written(alloc: Global, state: &State) -> Result<String, AllocError> {
-    let mut output = kept(alloc, usize::MAX);
+    let mut output = keeping(alloc, usize::MAX);
     match write_state(alloc, &mut Watched::new(&mut output), state) {
         Ok(()) => match from_utf8(output.text.as_slice()) {
             Ok(text) => String::from_str(alloc, text),
@@ -38,7 +38,7 @@ struct Kept {
 }
 
 /// A writer that has kept nothing yet.
-fn kept(alloc: Global, writes: usize) -> Kept {
+fn keeping(alloc: Global, writes: usize) -> Kept {
     Kept {
         text: Vec::new(alloc),
         writes,
@@ -468,7 +468,7 @@ fn a_reader_that_fails(rt: HostRuntime) -> Result<(), Fail> {
 fn a_writer_that_fails(rt: HostRuntime) -> Result<(), Fail> {
     let state = read_bytes(rt.alloc(), SMALL)?;
     for writes in 0..2 {
-        let mut output = Watched::new(kept(rt.alloc(), writes));
+        let mut output = Watched::new(keeping(rt.alloc(), writes));
         let outcome = write_state(rt.alloc(), &mut output, &state);
         assert_eq!(rt; outcome.is_err(), writes == 0);
         assert_eq!(rt; output.failed(), writes == 0);

@@ -13,6 +13,7 @@ use Rattle.hub_profile.specs.Parts.{Parts, IsProfile}
 use Rattle.hub_profile.specs.Lines.{line_text}
 use Rattle.hub_profile.specs.LineByLine.{lines_reading}
 use Rattle.hub_profile.specs.Said.{Said, nothing}
+use Rattle.hub_profile.specs.Protection.{no_bars}
 use Rattle.hub_profile.specs.Reading.{with_preference, kept, or_whole, profile, profile_reading, profile_in}
 use Rattle.hub_profile.specs.Rules.{rules_in}
 use Rattle.hub_profile.specs.declared.fault.Fault.{Fault}
@@ -188,7 +189,7 @@ abbrev two_values : Parts
 two_values = profile (codes "p") (said_in (codes "root = /srv/hub\nroot = /srv/s1\npath = a\npath = b/c"))
 
 two_values_read : profile_reading (codes "p") (codes "\troot=/srv/hub \r\nroot = /srv/s1/\n#path = x\n\npath = a\npath = b/c/\n")
-    ≡ Ok (record { name = codes "p"; roots = path_of (codes "srv/hub") ∷ path_of (codes "srv/s1") ∷ []; paths = path_of (codes "a") ∷ path_of (codes "b/c") ∷ []; ignore = []; ignorenot = [] })
+    ≡ Ok (record { name = codes "p"; roots = path_of (codes "srv/hub") ∷ path_of (codes "srv/s1") ∷ []; paths = path_of (codes "a") ∷ path_of (codes "b/c") ∷ []; ignore = []; ignorenot = []; force = None; prefer = None; bars = no_bars ∷ no_bars ∷ [] })
 two_values_read = refl
 
 two_values_hold : IsProfile two_values
@@ -198,11 +199,8 @@ bytes_are_text : profile_in (codes "p") (255 ∷ []) ≡ Err (record { line = 0;
 unfolding is_utf8 chars
 bytes_are_text = refl
 
--- Rules: blank lines and comments alone are accepted so far.
+-- Blank lines and comments are no rules.
 no_rules : rules_in (codes " \t\n# root = /a\n\r\n") ≡ Ok []
 unfolding is_utf8 chars lib.Utf8.encode
 no_rules = refl
 
-a_rule_is_unknown : rules_in (codes "\nroot = /a") ≡ Err (record { line = 2; fault = fault.UnknownPreference (codes "root") })
-unfolding is_utf8 chars lib.Utf8.encode
-a_rule_is_unknown = refl

@@ -17,6 +17,7 @@
 //! Only functions that return a `Result` allocate.
 #![tactic(auto)]
 
+mod bars;
 mod draft;
 mod fault;
 mod kept;
@@ -25,11 +26,15 @@ pub mod laws;
 mod line;
 mod line_by_line;
 mod profile;
+mod protection;
 mod reading;
 mod rule;
+mod rule_key;
 mod rules;
+mod rules_draft;
 mod verb;
 
+pub use bars::Bars;
 pub use draft::{PATH_LINES, PATTERN_LINES};
 pub use fault::{Fault, Preference, ProfileFault};
 pub use profile::Profile;

@@ -1,14 +1,16 @@
 ghost use Rattle.std.specs.Prelude.{◌≡◌};
 
+use crate::bars::Bars;
 use hub_glob::PathSpec;
-use hub_path::{Name, RelPath, Root};
+use hub_path::{Name, RelPath, Root, Side};
 use hub_text::Items;
 use std::marker::Model;
 
 /// A profile: which roots it synchronizes, and what of them (Unison manual, "Preferences").
 ///
 /// The two roots are different and neither lies within the other. The paths are the kept values in the order of
-/// their lines, or the empty path alone if there is no line; none is over another.
+/// their lines, or the empty path alone if there is no line; none is over another. Lines that protect a root name
+/// one of the two.
 #[derive(Debug, Drop)]
 pub struct Profile {
     pub(crate) name: Name,
@@ -16,6 +18,9 @@ pub struct Profile {
     pub(crate) paths: Items<RelPath>,
     pub(crate) ignore: Items<PathSpec>,
     pub(crate) ignorenot: Items<PathSpec>,
+    pub(crate) force: Option<Side>,
+    pub(crate) prefer: Option<Side>,
+    pub(crate) bars: [Bars; 2],
 }
 
 impl Model for Profile {
@@ -29,6 +34,9 @@ impl Model for Profile {
       paths = a.paths;
       ignore = a.ignore;
       ignorenot = a.ignorenot;
+      force = a.force;
+      prefer = a.prefer;
+      bars = a.bars;
     } };
 
     ghost invariant = { λ a. IsProfile (record {
@@ -37,6 +45,9 @@ impl Model for Profile {
       paths = a.paths;
       ignore = a.ignore;
       ignorenot = a.ignorenot;
+      force = a.force;
+      prefer = a.prefer;
+      bars = a.bars;
     }) };
 }
 
@@ -79,5 +90,27 @@ impl Profile {
         ensures { result.now ≡ self.now.ignorenot }
     {
         self.ignorenot.as_slice()
+    }
+
+    /// The side whose root all differences are resolved in favour of (Unison manual, "Preferences", `force`).
+    pub fn force(&self) -> Option<Side>
+        ensures { result ≡ self.now.force }
+    {
+        self.force
+    }
+
+    /// The side whose root conflicts are resolved in favour of (Unison manual, "Preferences", `prefer`). Where both are
+    /// given, `force` decides (this project's choice).
+    pub fn prefer(&self) -> Option<Side>
+        ensures { result ≡ self.now.prefer }
+    {
+        self.prefer
+    }
+
+    /// The changes that are not made at the left and at the right root.
+    pub fn bars(&self) -> &[Bars; 2]
+        ensures { result.now ≡ self.now.bars }
+    {
+        &self.bars
     }
 }

@@ -28,11 +28,20 @@ mod tests;
 /// - `ignore`: a path specification (`hub_glob::PathSpec::read`). A path that it matches is not synchronized, nor is
 ///   what is below it.
 /// - `ignorenot`: a path specification. A path that it matches is not ignored itself.
+/// - `force`: the root that all differences are resolved in favour of.
+/// - `prefer`: the root that conflicts are resolved in favour of; where both are given, `force` decides (this project's
+///   choice).
+/// - `nodeletion`, `noupdate`, `nocreation`: a root at which no deletions, no updates and deletions, or no creations are
+///   made. Each may be given for each root, and a repeated line adds nothing.
+/// - `auto`, `batch`, `confirmbigdel`, `contactquietly`, `fastcheck`, `group`, `key`, `label`, `log`, `logfile`, `owner`,
+///   `perms`, `silent`, `terse`, `times`: accepted without effect (this project's choice).
 ///
 /// The fault is `NotUtf8` at line 0; else that of the lowest line that has one: `IncludeLeftOut`, `NoEquals`,
-/// `UnknownPreference`, `TooMany` (a `path` line after `PATH_LINES` of them, or an `ignore` or `ignorenot` line after
-/// `PATTERN_LINES` of both together), then `BadPath` or `BadPattern`, in this order; else `RootCount`, `SameRoots` or
-/// `RootsNested` at line 0. Any call may instead report `OutOfMemory`, at any line.
+/// `UnknownPreference`, `Repeated` (a second `force`, or a second `prefer` line), `LeftOutValue` (`newer` and `older` in
+/// both), `TooMany` (a `path` line after `PATH_LINES` of them, or an `ignore` or `ignorenot` line after `PATTERN_LINES`
+/// of both together), then `BadPath` or `BadPattern`, in this order; else `RootCount`, `SameRoots` or `RootsNested` at
+/// line 0; else `NotARoot` at the lowest line whose `force`, `prefer`, `nodeletion`, `noupdate` or `nocreation` is
+/// neither of the two roots. Any call may instead report `OutOfMemory`, at any line.
 pub fn read_profile(alloc: Global, name: Name, bytes: &[u8]) -> Result<Profile, ProfileFault>
     ensures ok { IfOk result (λ P. reading.profile_in name bytes.now ≡ Ok P) }
     ensures err { IfErr result (FailsAt (reading.profile_in name bytes.now)) }

@@ -1,5 +1,7 @@
 //! Lines that protect a root: `force`, `prefer`, `nodeletion`, `noupdate` and `nocreation`.
-ghost use Rattle.std.specs.Prelude.{◌≡◌, ◌∷◌, [], chars, IfErr, IfSome, OnOk, Some, None};
+ghost use Rattle.std.specs.Prelude.{◌≡◌, ◌∷◌, [], chars, IfErr, OnOk, Some, None};
+ghost use Rattle.std.specs.List.{list_any};
+ghost use Rattle.hub_path.specs.Path.{path_eq};
 ghost use Rattle.hub_profile.specs.Protection as protection;
 
 use crate::bars::Bars;
@@ -171,7 +173,7 @@ pub(crate) fn check_roots(
     ensures err { IfErr result (λ f. protection.foreign_fault (left.now ∷ right.now ∷ []) lines.now ≡ Some f) }
 {
     for line in lines {
-        if line.root != *left && line.root != *right {
+        if !is_either(&line.root, left, right) {
             return Err(ProfileFault {
                 line: line.line,
                 fault: Fault::NotARoot,
@@ -179,4 +181,10 @@ pub(crate) fn check_roots(
         }
     }
     Ok(())
+}
+
+fn is_either(root: &Root, left: &Root, right: &Root) -> bool
+    ensures { result ≡ list_any (path_eq root.now) (left.now ∷ right.now ∷ []) }
+{
+    root == left || root == right
 }

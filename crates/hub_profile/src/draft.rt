@@ -14,7 +14,8 @@ use crate::key::{Key, key_named};
 use crate::line_by_line::{FromLines, unknown};
 use crate::profile::Profile;
 use crate::protection::{
-    Protection, ProtectionLine, bars_at, check_roots, forced_side, is_left_out, preferred_side, repeats,
+    Protection, ProtectionLine, bars_at, check_roots, forced_side, is_left_out, preferred_side,
+    repeats,
 };
 use hub_glob::PathSpec;
 use hub_path::{Name, PathFault, RelPath, Root, without_last_slash};

@@ -113,13 +113,17 @@ pub(crate) fn preferred_side(lines: &[ProtectionLine], left: &Root, right: &Root
 fn is_forced(lines: &[ProtectionLine], root: &Root) -> bool
     ensures { result ≡ protection.is_forced lines.now root.now }
 {
-    lines.iter().any(|line| line.protection.is_force() && line.root == *root)
+    lines
+        .iter()
+        .any(|line| line.protection.is_force() && line.root == *root)
 }
 
 fn is_preferred(lines: &[ProtectionLine], root: &Root) -> bool
     ensures { result ≡ protection.is_preferred lines.now root.now }
 {
-    lines.iter().any(|line| line.protection.is_prefer() && line.root == *root)
+    lines
+        .iter()
+        .any(|line| line.protection.is_prefer() && line.root == *root)
 }
 
 fn first_side(left: bool, right: bool) -> Option<Side>
@@ -148,19 +152,25 @@ pub(crate) fn bars_at(lines: &[ProtectionLine], root: &Root) -> Bars
 fn bars_creation(lines: &[ProtectionLine], root: &Root) -> bool
     ensures { result ≡ protection.bars_creation lines.now root.now }
 {
-    lines.iter().any(|line| line.protection.bars().create && line.root == *root)
+    lines
+        .iter()
+        .any(|line| line.protection.bars().create && line.root == *root)
 }
 
 fn bars_update(lines: &[ProtectionLine], root: &Root) -> bool
     ensures { result ≡ protection.bars_update lines.now root.now }
 {
-    lines.iter().any(|line| line.protection.bars().update && line.root == *root)
+    lines
+        .iter()
+        .any(|line| line.protection.bars().update && line.root == *root)
 }
 
 fn bars_deletion(lines: &[ProtectionLine], root: &Root) -> bool
     ensures { result ≡ protection.bars_deletion lines.now root.now }
 {
-    lines.iter().any(|line| line.protection.bars().delete && line.root == *root)
+    lines
+        .iter()
+        .any(|line| line.protection.bars().delete && line.root == *root)
 }
 
 /// `NotARoot` at the first line whose root is neither of the two.
@@ -188,3 +198,6 @@ fn is_either(root: &Root, left: &Root, right: &Root) -> bool
 {
     root == left || root == right
 }
+
+#[cfg(test)]
+mod tests;

@@ -1,13 +1,62 @@
+use crate::rule::Rule;
 use crate::rules::read_rules;
+use crate::verb::Verb;
+use std::alloc::{AllocError, Global};
 use std::test::Fail;
 
 #[test]
-fn rules_are_read(rt: HostRuntime) -> Result<(), Fail> {
-    for text in [b"" as &[u8], b" \t\n# root = /srv/hub\n\r\n"] {
+fn texts_without_rules_are_read(rt: HostRuntime) -> Result<(), Fail> {
+    for text in [
+        b"" as &[u8],
+        b" \t\n# root = /srv/hub\n\r\n",
+        b"root = /srv/hub\r\nroot = /srv/s1\r\n",
+    ] {
         let rules = read_rules(rt.alloc(), text)?;
         assert!(rt; rules.as_slice().is_empty());
     }
     Ok(())
+}
+
+fn verb_word(verb: Verb) -> &'static str {
+    match verb {
+        Verb::Create => "create",
+        Verb::Update => "update",
+        Verb::Delete => "delete",
+    }
+}
+
+/// A rule in one line.
+fn shown(alloc: Global, rule: &Rule) -> Result<String, AllocError> {
+    let root = rule.root.text()?;
+    let spec = rule.spec.text()?;
+    let verb = verb_word(rule.verb);
+    format!(in alloc; "{verb} {spec} at {root}")
+}
+
+#[test]
+fn rules_are_numbered(rt: HostRuntime) -> Result<(), Fail> {
+    let text =
+        b"root = /srv/hub\nnolose = BelowPath books\n\nnochange = Path a = b\nroot=/srv/s1/\nnonew=Name *~";
+    let rules = read_rules(rt.alloc(), text)?;
+    let expected = [
+        "delete BelowPath books at /srv/hub",
+        "update Path a = b at /srv/hub",
+        "create Name *~ at /srv/s1",
+    ];
+    assert_eq!(rt; rules.as_slice().len(), 3);
+    for (rule, want) in rules.as_slice().iter().zip(expected) {
+        let line = shown(rt.alloc(), rule)?;
+        assert_eq!(rt; line.as_str(), want);
+    }
+    Ok(())
+}
+
+/// The fault of a text, in one line.
+fn told(alloc: Global, text: &[u8]) -> Result<String, AllocError> {
+    match read_rules(alloc, text) {
+        Ok(rules) => format!(in alloc; "{} rules", rules.as_slice().len()),
+        Err(fault) => format!(in alloc; "{fault}"),
+    }
 }
 
 #[test]
@@ -17,12 +66,38 @@ fn faults_of_rules_are_reported(rt: HostRuntime) -> Result<(), Fail> {
         (b"\ninclude common", "line 2: IncludeLeftOut"),
         (b"# a\nroot", "line 2: NoEquals"),
         (b"path = a", "line 1: UnknownPreference path"),
-        (b"root = /srv/hub", "line 1: UnknownPreference root"),
+        (b"force = /a", "line 1: UnknownPreference force"),
+        (b"nonew = Foo\nroot = /a", "line 1: RuleBeforeRoot"),
+        (b"root = /a\nnonew = Foo", "line 2: BadPattern NoKind"),
+        (b"root = a", "line 1: BadPath NotAbsolute"),
+        (b"root = /a\nroot = //a", "line 2: BadPath RemoteRoot"),
     ] {
-        match read_rules(rt.alloc(), text) {
-            Ok(_) => assert!(rt; false, "read {expected}"),
-            Err(fault) => assert_eq!(rt; format!(in rt.alloc(); "{fault}")?.as_str(), expected),
-        }
+        let line = told(rt.alloc(), text)?;
+        assert_eq!(rt; line.as_str(), expected);
+    }
+    Ok(())
+}
+
+/// A root, and so many equal rules of it.
+fn many_rules(alloc: Global, count: usize) -> Result<Vec<u8>, AllocError> {
+    let mut text = b"root = /a\n".to_vec(alloc)?;
+    for _ in 0..count {
+        text.extend_from_slice(b"nolose = Name a\n")?;
+    }
+    Ok(text)
+}
+
+#[test]
+fn rules_are_counted(rt: HostRuntime) -> Result<(), Fail> {
+    for (last, expected) in [
+        (b"" as &[u8], "64 rules"),
+        (b"root = /b", "64 rules"),
+        (b"nochange = Foo", "line 66: TooMany"),
+    ] {
+        let mut text = many_rules(rt.alloc(), 64)?;
+        text.extend_from_slice(last)?;
+        let line = told(rt.alloc(), text.as_slice())?;
+        assert_eq!(rt; line.as_str(), expected);
     }
     Ok(())
 }

@@ -130,7 +130,8 @@ impl Draft {
     }
 
     fn add_ignorenot(&mut self, value: &str) -> Result<(), Fault>
-        ensures ok { OnOk result (reading.ignorenot_added self.old (chars value.now) ≡ Ok self.new) }
+        ensures ok { OnOk result (
+            reading.ignorenot_added self.old (chars value.now) ≡ Ok self.new) }
         ensures err { IfErr result (FailsAs (reading.ignorenot_added self.old (chars value.now))) }
     {
         if self.has_all_patterns() {
@@ -142,8 +143,10 @@ impl Draft {
     }
 
     fn add_protection(&mut self, kind: Protection, number: usize, value: &str) -> Result<(), Fault>
-        ensures ok { OnOk result (reading.protection_added kind self.old number (chars value.now) ≡ Ok self.new) }
-        ensures err { IfErr result (FailsAs (reading.protection_added kind self.old number (chars value.now))) }
+        ensures ok { OnOk result (
+            reading.protection_added kind self.old number (chars value.now) ≡ Ok self.new) }
+        ensures err { IfErr result (
+            FailsAs (reading.protection_added kind self.old number (chars value.now))) }
     {
         if repeats(kind, self.protections.as_slice()) {
             return Err(Fault::Repeated);

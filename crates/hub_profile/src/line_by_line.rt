@@ -20,8 +20,10 @@ pub(crate) trait FromLines: Drop {
 
     /// Takes the next setting, which is on the line of that number.
     fn take(&mut self, number: usize, name: &str, value: &str) -> Result<(), Fault>
-        ensures ok { OnOk result (table self.old number (chars name.now) (chars value.now) ≡ Ok self.new) }
-        ensures err { IfErr result (FailsAs (table self.old number (chars name.now) (chars value.now))) };
+        ensures ok { OnOk result (
+            table self.old number (chars name.now) (chars value.now) ≡ Ok self.new) }
+        ensures err { IfErr result (
+            FailsAs (table self.old number (chars name.now) (chars value.now))) };
 }
 
 /// The text of these bytes, or `NotUtf8` at line 0.
@@ -57,8 +59,10 @@ pub(crate) fn read_lines<D: FromLines>(nothing: D, text: &str) -> Result<D, Prof
 
 /// Takes the next line, which has that number.
 fn take_line<D: FromLines>(said: &mut D, number: usize, line: &str) -> Result<(), Fault>
-    ensures ok { OnOk result (by_line.with_line D.table said.old number (chars line.now) ≡ Ok said.new) }
-    ensures err { IfErr result (FailsAs (by_line.with_line D.table said.old number (chars line.now))) }
+    ensures ok { OnOk result (
+        by_line.with_line D.table said.old number (chars line.now) ≡ Ok said.new) }
+    ensures err { IfErr result (
+        FailsAs (by_line.with_line D.table said.old number (chars line.now))) }
 {
     let line = line_text(line);
     if !is_setting(line) {

@@ -98,14 +98,16 @@ fn is_newer_or_older(value: &str) -> bool
 
 /// The side whose root a `force` line names.
 pub(crate) fn forced_side(lines: &[ProtectionLine], left: &Root, right: &Root) -> Option<Side>
-    ensures { result ≡ protection.side_where (protection.is_forced lines.now) (left.now ∷ right.now ∷ []) }
+    ensures { result ≡
+        protection.side_where (protection.is_forced lines.now) (left.now ∷ right.now ∷ []) }
 {
     first_side(is_forced(lines, left), is_forced(lines, right))
 }
 
 /// The side whose root a `prefer` line names.
 pub(crate) fn preferred_side(lines: &[ProtectionLine], left: &Root, right: &Root) -> Option<Side>
-    ensures { result ≡ protection.side_where (protection.is_preferred lines.now) (left.now ∷ right.now ∷ []) }
+    ensures { result ≡
+        protection.side_where (protection.is_preferred lines.now) (left.now ∷ right.now ∷ []) }
 {
     first_side(is_preferred(lines, left), is_preferred(lines, right))
 }
@@ -179,8 +181,10 @@ pub(crate) fn check_roots(
     left: &Root,
     right: &Root,
 ) -> Result<(), ProfileFault>
-    ensures ok { OnOk result (protection.foreign_fault (left.now ∷ right.now ∷ []) lines.now ≡ None) }
-    ensures err { IfErr result (λ f. protection.foreign_fault (left.now ∷ right.now ∷ []) lines.now ≡ Some f) }
+    ensures ok { OnOk result (
+        protection.foreign_fault (left.now ∷ right.now ∷ []) lines.now ≡ None) }
+    ensures err { IfErr result (λ f.
+        protection.foreign_fault (left.now ∷ right.now ∷ []) lines.now ≡ Some f) }
 {
     for line in lines {
         if !is_either(&line.root, left, right) {

@@ -57,7 +57,7 @@ is_left_out (Bar bars) v = false
 abbrev pub names : Path → ProtectionLine → Bool
 names r line = path_eq line.root r
 
--- Whether a line of that preference names this root.
+-- Whether a line of `force`, or of `prefer`, names this root.
 abbrev pub is_forced : List ProtectionLine → Path → Bool
 is_forced lines r = list_any (λ line. is_force line.protection && names r line) lines
 
@@ -87,7 +87,8 @@ bars_deletion lines r = list_any (λ line. (bars_of line.protection).delete && n
 abbrev pub bars_at : List ProtectionLine → Path → Bars
 bars_at lines r = record { create = bars_creation lines r; update = bars_update lines r; delete = bars_deletion lines r }
 
--- The first line that names a root which is not among these.
+-- The first line that names a root which is not among these, reported with its number. Lines stand in their order in the
+-- text, so it is the lowest one.
 abbrev pub foreign_fault : List Path → List ProtectionLine → Option ProfileFault
 foreign_fault roots [] = None
 foreign_fault roots (line ∷ lines) =

@@ -175,7 +175,7 @@ abbrev pub or_later : Option Fault → Option ProfileFault → Option ProfileFau
 or_later None later = later
 or_later (Some f) later = Some (record { line = 0; fault = f })
 
--- What is wrong with what all lines say: the roots first, then the first line that protects a root of another profile.
+-- What is wrong with what all lines say: with the roots first, then the first line that protects neither of the two.
 abbrev pub whole_fault : Said → Option ProfileFault
 whole_fault said = or_later (roots_fault said.roots) (foreign_fault said.roots said.protections)
 

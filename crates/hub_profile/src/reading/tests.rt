@@ -1,6 +1,7 @@
 use crate::fault::ProfileFault;
 use crate::profile::Profile;
 use crate::reading::read_profile;
+use hub_glob::PathSpec;
 use hub_path::{Name, RelPath};
 use std::alloc::{AllocError, Global};
 use std::test::Fail;
@@ -321,26 +322,33 @@ fn pattern_lines_are_counted_together(rt: HostRuntime) -> Result<(), Fail> {
     Ok(())
 }
 
+/// Which of the specifications match a path: a `1` for each that does, else a `0`.
+fn matches_word(alloc: Global, specs: &[PathSpec], path: &RelPath) -> Result<String, AllocError> {
+    let mut word = String::new(alloc);
+    for spec in specs {
+        let letter = if spec.matches(path) { '1' } else { '0' };
+        word.push(letter)?;
+    }
+    Ok(word)
+}
+
+/// Which `ignore` and which `ignorenot` lines of a profile match the path of that text.
+fn told_of_path(alloc: Global, profile: &Profile, text: &str) -> Result<String, Fail> {
+    let path = RelPath::read(alloc, text)?;
+    let ignored = matches_word(alloc, profile.ignore(), &path)?;
+    let excepted = matches_word(alloc, profile.ignorenot(), &path)?;
+    Ok(format!(in alloc; "{ignored} {excepted}")?)
+}
+
 #[test]
 fn patterns_stand_in_the_order_of_their_lines(rt: HostRuntime) -> Result<(), Fail> {
     let name = Name::read(rt.alloc(), "p")?;
     let text =
         b"root = /a\nignore = Name *.tmp\nignorenot = Path keep/x.tmp\nroot = /b\nignore=BelowPath old";
     let profile = read_profile(rt.alloc(), name, text)?;
-    assert_eq!(rt; profile.ignore().len(), 2);
-    assert_eq!(rt; profile.ignorenot().len(), 1);
-    for (text, ignored, excepted) in [
-        ("keep/x.tmp", [true, false], true),
-        ("old/a", [false, true], false),
-        ("a", [false, false], false),
-    ] {
-        let path = RelPath::read(rt.alloc(), text)?;
-        for (spec, want) in profile.ignore().iter().zip(ignored) {
-            assert_eq!(rt; spec.matches(&path), want);
-        }
-        for spec in profile.ignorenot() {
-            assert_eq!(rt; spec.matches(&path), excepted);
-        }
+    for (text, expected) in [("keep/x.tmp", "10 1"), ("old/a", "01 0"), ("a", "00 0")] {
+        let read = told_of_path(rt.alloc(), &profile, text)?;
+        assert_eq!(rt; read.as_str(), expected);
     }
     Ok(())
 }

@@ -33,21 +33,25 @@ fn shown(alloc: Global, rule: &Rule) -> Result<String, AllocError> {
     format!(in alloc; "{verb} {spec} at {root}")
 }
 
+/// The rules in their order, each followed by `; `.
+fn all_shown(alloc: Global, rules: &[Rule]) -> Result<String, AllocError> {
+    let mut text = String::new(alloc);
+    for rule in rules {
+        text.push_str(shown(alloc, rule)?.as_str())?;
+        text.push_str("; ")?;
+    }
+    Ok(text)
+}
+
 #[test]
 fn rules_are_numbered(rt: HostRuntime) -> Result<(), Fail> {
     let text =
         b"root = /srv/hub\nnolose = BelowPath books\n\nnochange = Path a = b\nroot=/srv/s1/\nnonew=Name *~";
     let rules = read_rules(rt.alloc(), text)?;
-    let expected = [
-        "delete BelowPath books at /srv/hub",
-        "update Path a = b at /srv/hub",
-        "create Name *~ at /srv/s1",
-    ];
-    assert_eq!(rt; rules.as_slice().len(), 3);
-    for (rule, want) in rules.as_slice().iter().zip(expected) {
-        let line = shown(rt.alloc(), rule)?;
-        assert_eq!(rt; line.as_str(), want);
-    }
+    let lines = all_shown(rt.alloc(), rules.as_slice())?;
+    let expected =
+        "delete BelowPath books at /srv/hub; update Path a = b at /srv/hub; create Name *~ at /srv/s1; ";
+    assert_eq!(rt; lines.as_str(), expected);
     Ok(())
 }
 

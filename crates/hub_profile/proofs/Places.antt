@@ -21,14 +21,16 @@ use Rattle.hub_glob.specs.Specification.{Specification}
 use Rattle.hub_glob.specs.Reading.{spec_reading}
 use Rattle.hub_glob.specs.declared.fault.GlobFault.{GlobFault}
 use Rattle.hub_profile.specs.declared.fault.Fault.{Fault}
-use Rattle.hub_profile.specs.declared.fault.Fault.TheVariants.{TooMany, IncludeLeftOut, NoEquals}
+use Rattle.hub_profile.specs.declared.fault.Fault.TheVariants.{IncludeLeftOut, NoEquals}
 use Rattle.hub_profile.specs.declared.fault.ProfileFault.{ProfileFault}
 use Rattle.hub_profile.specs.declared.key.Key.{Key}
 use Rattle.hub_profile.specs.declared.key.Key.TheVariants as key
+use Rattle.hub_profile.specs.declared.protection.Protection.{Protection}
+use Rattle.hub_profile.specs.Protection.{repeats, is_left_out}
 use Rattle.hub_profile.specs.Lines.{setting, is_setting, is_include, has_equals, line_text, trimmed}
 use Rattle.hub_profile.specs.LineByLine.{with_pair, with_line, at_line, and_line, lines_reading, look_up}
 use Rattle.hub_profile.specs.Said.{Said, nothing}
-use Rattle.hub_profile.specs.Reading.{kept_reading, keys, with_root, with_path, with_ignore, with_ignorenot, has_all_paths, has_all_patterns, with_value, with_key, with_preference}
+use Rattle.hub_profile.specs.Reading.{kept_reading, keys, with_root, with_path, with_ignore, with_ignorenot, with_protected, has_all_paths, has_all_patterns, with_value, with_key, with_preference}
 
 -- Cuts of characters are characters.
 cut_either : (b : Bool) (xs ys : List ℕ) → all_scalars xs ≡ true → all_scalars ys ≡ true → all_scalars (cond b xs ys) ≡ true
@@ -152,33 +154,40 @@ ignorenot_said : (said : Said) (r : Result Specification GlobFault) → ArePlace
 ignorenot_said said (Ok spec) h = h
 ignorenot_said said (Err f) h = tt
 
-unless_many : (b : Bool) (r : Result Said Fault) → IfSaid r → IfSaid (cond b (Err TooMany) r)
-unless_many true r h = tt
-unless_many false r h = h
+protected_said : (said : Said) (p : Protection) (n : ℕ) (r : Result Path PathFault) → ArePlaces said → IfSaid (with_protected p said n r)
+protected_said said p n (Ok root) h = h
+protected_said said p n (Err f) h = tt
 
-value_said : (k : Key) (said : Said) (v : List ℕ) → ArePlaces said → all_scalars v ≡ true → IfSaid (with_value k said v)
-value_said key.Root said v h s = root_said said v (root_reading v) h s refl
-value_said key.Path said v h s = unless_many (has_all_paths said) _ (path_said said v (kept_reading v) h s refl)
-value_said key.Ignore said v h s = unless_many (has_all_patterns said) _ (ignore_said said (spec_reading v) h)
-value_said key.IgnoreNot said v h s = unless_many (has_all_patterns said) _ (ignorenot_said said (spec_reading v) h)
+unless_fault : (b : Bool) (f : Fault) (r : Result Said Fault) → IfSaid r → IfSaid (cond b (Err f) r)
+unless_fault true f r h = tt
+unless_fault false f r h = h
 
-key_said : (o : Option Key) (said : Said) (name v : List ℕ) → ArePlaces said → all_scalars v ≡ true → IfSaid (with_key o said name v)
-key_said (Some k) said name v h s = value_said k said v h s
-key_said None said name v h s = tt
+value_said : (k : Key) (said : Said) (n : ℕ) (v : List ℕ) → ArePlaces said → all_scalars v ≡ true → IfSaid (with_value k said n v)
+value_said key.Root said n v h s = root_said said v (root_reading v) h s refl
+value_said key.Path said n v h s = unless_fault (has_all_paths said) _ _ (path_said said v (kept_reading v) h s refl)
+value_said key.Ignore said n v h s = unless_fault (has_all_patterns said) _ _ (ignore_said said (spec_reading v) h)
+value_said key.IgnoreNot said n v h s = unless_fault (has_all_patterns said) _ _ (ignorenot_said said (spec_reading v) h)
+value_said (key.Protect p) said n v h s =
+    unless_fault (repeats p said.protections) _ _ (unless_fault (is_left_out p v) _ _ (protected_said said p n (root_reading v) h))
+value_said key.NoEffect said n v h s = h
 
-pair_said : (said : Said) (a b : Bool) (name v : List ℕ) → ArePlaces said → all_scalars v ≡ true → IfSaid (with_pair with_preference said (cond a (Err IncludeLeftOut) (cond (not b) (Err NoEquals) (Ok (name, v)))))
-pair_said said true b name v h s = tt
-pair_said said false false name v h s = tt
-pair_said said false true name v h s = key_said (look_up name keys) said name v h s
+key_said : (o : Option Key) (said : Said) (n : ℕ) (name v : List ℕ) → ArePlaces said → all_scalars v ≡ true → IfSaid (with_key o said n name v)
+key_said (Some k) said n name v h s = value_said k said n v h s
+key_said None said n name v h s = tt
 
-setting_said : (said : Said) (l : List ℕ) → ArePlaces said → all_scalars l ≡ true → IfSaid (with_pair with_preference said (setting l))
-setting_said said l h s =
-    pair_said said (is_include l) (has_equals l) _ (trimmed (after_first (λ c. c == 61) l)) h (cut_around (after_first (λ c. c == 61) l) (cut_back (position_or_len (λ c. c == 61) l + 1) l s))
+pair_said : (said : Said) (n : ℕ) (a b : Bool) (name v : List ℕ) → ArePlaces said → all_scalars v ≡ true → IfSaid (with_pair with_preference said n (cond a (Err IncludeLeftOut) (cond (not b) (Err NoEquals) (Ok (name, v)))))
+pair_said said n true b name v h s = tt
+pair_said said n false false name v h s = tt
+pair_said said n false true name v h s = key_said (look_up name keys) said n name v h s
 
-line_said : (said : Said) (l : List ℕ) → ArePlaces said → all_scalars l ≡ true → IfSaid (with_line with_preference said l)
-line_said said l h s = by_case (is_setting (line_text l)) (setting_said said (line_text l) h (cut_around (without_last 13 l) (cut_last 13 l s)))
+setting_said : (said : Said) (n : ℕ) (l : List ℕ) → ArePlaces said → all_scalars l ≡ true → IfSaid (with_pair with_preference said n (setting l))
+setting_said said n l h s =
+    pair_said said n (is_include l) (has_equals l) _ (trimmed (after_first (λ c. c == 61) l)) h (cut_around (after_first (λ c. c == 61) l) (cut_back (position_or_len (λ c. c == 61) l + 1) l s))
+
+line_said : (said : Said) (n : ℕ) (l : List ℕ) → ArePlaces said → all_scalars l ≡ true → IfSaid (with_line with_preference said n l)
+line_said said n l h s = by_case (is_setting (line_text l)) (setting_said said n (line_text l) h (cut_around (without_last 13 l) (cut_last 13 l s)))
   where
-    by_case : (b : Bool) → IfSaid (with_pair with_preference said (setting (line_text l))) → IfSaid (cond b (with_pair with_preference said (setting (line_text l))) (Ok said))
+    by_case : (b : Bool) → IfSaid (with_pair with_preference said n (setting (line_text l))) → IfSaid (cond b (with_pair with_preference said n (setting (line_text l))) (Ok said))
     by_case true k = k
     by_case false k = h
 
@@ -187,7 +196,7 @@ at_line_said n (Ok said) h = h
 at_line_said n (Err f) h = tt
 
 and_line_said : (r : Result Said ProfileFault) (n : ℕ) (l : Line (List ℕ)) → IfSaid r → all_scalars l.text ≡ true → IfSaid (and_line with_preference r (n, l))
-and_line_said (Ok said) n l h s = at_line_said n (with_line with_preference said l.text) (line_said said l.text h s)
+and_line_said (Ok said) n l h s = at_line_said n (with_line with_preference said n l.text) (line_said said n l.text h s)
 and_line_said (Err f) n l h s = tt
 
 lines_said : (n : ℕ) (ls : List (Line (List ℕ))) (r : Result Said ProfileFault) → are_scalars ls ≡ true → IfSaid r → IfSaid (fold (and_line with_preference) r (enumerate_from n ls))

@@ -30,16 +30,17 @@ one_line table nothing cs k l h e =
     ∙ (fold-append (and_line table) (Ok nothing) (take k (numbered_lines cs)) (get_or (numbered_lines cs) k (k + 1, l) ∷ []) ∙ ap (and_line table (first_lines table nothing cs k)) (numbered cs k l h e))
 
 -- A line that is taken.
-pub taken : {S : Type 0} (table : Table S) (nothing said more : S) (cs : List ℕ) (k : ℕ) (l : Line (List ℕ)) → first_lines table nothing cs k ≡ Ok said
-    → k < length (lines_of cs) → l ≡ get_or (lines_of cs) k l → with_line table said l.text ≡ Ok more → first_lines table nothing cs (k + 1) ≡ Ok more
-taken table nothing said more cs k l before h e line =
-    one_line table nothing cs k l h e ∙ (ap (λ r. and_line table r (k + 1, l)) before ∙ ap (at_line (k + 1)) line)
+pub taken : {S : Type 0} (table : Table S) (nothing said more : S) (cs : List ℕ) (k i : ℕ) (l : Line (List ℕ)) → first_lines table nothing cs k ≡ Ok said
+    → i ≡ k → k < length (lines_of cs) → l ≡ get_or (lines_of cs) k l → with_line table said (i + 1) l.text ≡ Ok more → first_lines table nothing cs (k + 1) ≡ Ok more
+taken table nothing said more cs k i l before same h e line =
+    one_line table nothing cs k l h e
+    ∙ (ap (λ r. and_line table r (k + 1, l)) before ∙ ap (at_line (k + 1)) (ap (λ n. with_line table said (n + 1) l.text) (sym same) ∙ line))
 
 -- A line at fault: none after it is read.
 pub at_fault : {S : Type 0} (table : Table S) (nothing said : S) (cs : List ℕ) (k i : ℕ) (l : Line (List ℕ)) (f : Fault) → first_lines table nothing cs k ≡ Ok said
-    → i ≡ k → k < length (lines_of cs) → l ≡ get_or (lines_of cs) k l → with_line table said l.text ≡ Err f → lines_reading table nothing cs ≡ Err (record { line = i + 1; fault = f })
+    → i ≡ k → k < length (lines_of cs) → l ≡ get_or (lines_of cs) k l → with_line table said (i + 1) l.text ≡ Err f → lines_reading table nothing cs ≡ Err (record { line = i + 1; fault = f })
 at_fault table nothing said cs k i l f before same h e line =
-    let step : and_line table (first_lines table nothing cs k) (get_or (numbered_lines cs) k (k + 1, l)) ≡ Err (record { line = k + 1; fault = f }) = ap (and_line table (first_lines table nothing cs k)) (numbered cs k l h e) ∙ (ap (λ r. and_line table r (k + 1, l)) before ∙ ap (at_line (k + 1)) line) in
+    let step : and_line table (first_lines table nothing cs k) (get_or (numbered_lines cs) k (k + 1, l)) ≡ Err (record { line = k + 1; fault = f }) = ap (and_line table (first_lines table nothing cs k)) (numbered cs k l h e) ∙ (ap (λ r. and_line table r (k + 1, l)) before ∙ ap (at_line (k + 1)) (ap (λ n. with_line table said (n + 1) l.text) (sym same) ∙ line)) in
     sym (fold_stuck (and_line table) (Err (record { line = k + 1; fault = f })) (λ x. refl) (Ok nothing) (numbered_lines cs) k (k + 1, l) (inside_of cs k h) step)
     ∙ ap (λ n. Err (record { line = n + 1; fault = f })) (sym same)
 

@@ -9,8 +9,9 @@ use Rattle.hub_profile.specs.declared.fault.Fault.TheVariants.{NotUtf8}
 use Rattle.hub_profile.specs.declared.fault.ProfileFault.{ProfileFault}
 use Rattle.hub_profile.specs.Parts.{Parts, IsProfile}
 use Rattle.hub_profile.specs.Said.{Said, nothing}
+use Rattle.hub_profile.specs.Protection.{foreign_fault}
 use Rattle.hub_profile.specs.LineByLine.{lines_reading, if_text}
-use Rattle.hub_profile.specs.Reading.{with_preference, roots_fault, profile, unless_fault, if_said, profile_reading, profile_in}
+use Rattle.hub_profile.specs.Reading.{with_preference, roots_fault, profile, or_later, unless_fault, if_said, profile_reading, profile_in}
 use Rattle.hub_profile.proofs.Places.{ArePlaces, said_are_places}
 use Rattle.hub_profile.proofs.ProfileFacts.{IsProfile-profile}
 
@@ -28,14 +29,15 @@ places_of_text bytes text said same u h = said_are_places (chars text) said (sca
 pub is_profile_read : (name : Name) (bytes : List ℕ) (P : Parts) → profile_in name bytes ≡ Ok P → IsProfile P
 is_profile_read name bytes P h = by_text (is_utf8 bytes) refl h
   where
-    by_roots : (said : Said) (o : Option Fault) → ArePlaces said → roots_fault said.roots ≡ o → unless_fault o (profile name said) ≡ Ok P → IsProfile P
-    by_roots said None places r e =
+    by_roots : (said : Said) (o : Option Fault) (later : Option ProfileFault) → ArePlaces said → roots_fault said.roots ≡ o → unless_fault (or_later o later) (profile name said) ≡ Ok P → IsProfile P
+    by_roots said None None places r e =
         let same : profile name said ≡ P = cc in
         subst IsProfile same (IsProfile-profile name said places.0 places.1 r)
-    by_roots said (Some f) places r e = cc
+    by_roots said None (Some f) places r e = cc
+    by_roots said (Some f) later places r e = cc
 
     by_lines : (r : Result Said ProfileFault) → is_utf8 bytes ≡ true → lines_reading with_preference nothing (chars bytes) ≡ r → if_said name r ≡ Ok P → IsProfile P
-    by_lines (Ok said) u e k = by_roots said (roots_fault said.roots) (places_of_text bytes bytes said refl u e) refl k
+    by_lines (Ok said) u e k = by_roots said (roots_fault said.roots) (foreign_fault said.roots said.protections) (places_of_text bytes bytes said refl u e) refl k
     by_lines (Err f) u e k = cc
 
     by_text : (b : Bool) → is_utf8 bytes ≡ b → cond b (profile_reading name (chars bytes)) (Err (record { line = 0; fault = NotUtf8 })) ≡ Ok P → IsProfile P

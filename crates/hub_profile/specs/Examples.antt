@@ -1,5 +1,5 @@
 -- Worked examples.
-use Rattle.std.specs.Prelude.{◌≡◌, ℕ, true, false, map, List, [], ◌∷◌, ◌++◌, Option, Some, None, Result, Ok, Err, codes, refl}
+use Rattle.std.specs.Prelude.{◌≡◌, ℕ, Bool, true, false, map, List, [], ◌∷◌, ◌++◌, Option, Some, None, Result, Ok, Err, codes, refl}
 use Rattle.std.specs.Str.{is_utf8, chars}
 use Rattle.hub_path.specs.Path.{Path, path_of}
 use Rattle.hub_path.specs.declared.fault.PathFault.TheVariants as path
@@ -13,8 +13,15 @@ use Rattle.hub_profile.specs.Parts.{Parts, IsProfile}
 use Rattle.hub_profile.specs.Lines.{line_text}
 use Rattle.hub_profile.specs.LineByLine.{lines_reading}
 use Rattle.hub_profile.specs.Said.{Said, nothing}
+use Rattle.hub_profile.specs.Protection.{no_bars}
+use Rattle.hub_profile.specs.declared.bars.Bars.{Bars}
+use Rattle.hub_path.specs.declared.side.Side.TheVariants.{Left, Right}
 use Rattle.hub_profile.specs.Reading.{with_preference, kept, or_whole, profile, profile_reading, profile_in}
-use Rattle.hub_profile.specs.Rules.{rules_in}
+use Rattle.hub_profile.specs.Rules.{rules_reading, rules_in}
+use Rattle.hub_profile.specs.declared.rule.Rule.{Rule}
+use Rattle.hub_profile.specs.declared.verb.Verb.{Verb}
+use Rattle.hub_profile.specs.declared.verb.Verb.TheVariants.{Create, Update, Delete}
+use Rattle.hub_glob.specs.Specification.{Specification}
 use Rattle.hub_profile.specs.declared.fault.Fault.{Fault}
 use Rattle.hub_profile.specs.declared.fault.Fault.TheVariants as fault
 use Rattle.hub_profile.specs.declared.fault.ProfileFault.{ProfileFault}
@@ -178,6 +185,60 @@ patterns_are_kept_in_order : four_patterns.ignore ∷ four_patterns.ignorenot �
     ∷ (record { kind = kind.Path; pattern = One (Lit 98) ∷ One (Lit 47) ∷ [] } ∷ []) ∷ []
 patterns_are_kept_in_order = refl
 
+-- Values of `force` and `prefer` that are left out, also in place of a root.
+left_out_values_are_told : map third (codes "force = newer" ∷ codes "force = older" ∷ codes "prefer = newer" ∷ codes "prefer=older" ∷ codes "force = newest" ∷ codes "nodeletion = newer" ∷ [])
+    ≡ at 3 fault.LeftOutValue ∷ at 3 fault.LeftOutValue ∷ at 3 fault.LeftOutValue ∷ at 3 fault.LeftOutValue ∷ at 3 (fault.BadPath path.NotAbsolute) ∷ at 3 (fault.BadPath path.NotAbsolute) ∷ []
+left_out_values_are_told = refl
+
+-- The value is a root: it is read as on a `root` line.
+protected_roots_are_read : map third (codes "force =" ∷ codes "prefer = ssh://h/d" ∷ codes "nocreation = srv" ∷ codes "noupdate = /srv//hub" ∷ codes "nodeletion = /srv/hub/" ∷ [])
+    ≡ at 3 (fault.BadPath path.Empty) ∷ at 3 (fault.BadPath path.RemoteRoot) ∷ at 3 (fault.BadPath path.NotAbsolute) ∷ at 3 (fault.BadPath path.EmptyName) ∷ None ∷ []
+protected_roots_are_read = refl
+
+-- A second line is reported whatever its value; `force` and `prefer` are counted apart, and a bar may be repeated.
+second_lines_are_told : map (λ v. third (codes "force = /srv/hub\n" ++ v)) (codes "force = newer" ∷ codes "force = x" ∷ codes "prefer = /srv/hub\nprefer = /srv/hub" ∷ codes "prefer = /srv/hub" ∷ codes "noupdate = /srv/hub\nnoupdate = /srv/hub" ∷ [])
+    ≡ at 4 fault.Repeated ∷ at 4 fault.Repeated ∷ at 5 fault.Repeated ∷ None ∷ None ∷ []
+second_lines_are_told = refl
+
+-- A root that is protected is one of the two: the parent of one is not.
+other_roots_are_told : map third (codes "force = /srv/s2" ∷ codes "prefer = /srv" ∷ codes "noupdate = /srv/hub/a" ∷ codes "nocreation = /srv/hub2" ∷ codes "path = a\nnodeletion = /srv/s3\nforce = /srv/s2" ∷ [])
+    ≡ at 3 fault.NotARoot ∷ at 3 fault.NotARoot ∷ at 3 fault.NotARoot ∷ at 3 fault.NotARoot ∷ at 4 fault.NotARoot ∷ []
+other_roots_are_told = refl
+
+-- It is reported after the faults of lines and of the two roots.
+other_roots_come_last : map faulty (codes "force = /srv/s2\nroot = /srv/hub" ∷ codes "force = /b\nroot = /a\nroot = /a" ∷ codes "force = /b\nroot = /a\nroot = /a/c" ∷ codes "force = /b\nroot = /a\nroot = /c\npath = /" ∷ codes "force = /b\nroot = /a\nroot = /b" ∷ [])
+    ≡ at 0 fault.RootCount ∷ at 0 fault.SameRoots ∷ at 0 fault.RootsNested ∷ at 4 (fault.BadPath path.LeadingSlash) ∷ None ∷ []
+other_roots_come_last = refl
+
+-- Names without effect take each value.
+names_are_accepted : map (λ n. third (n ++ codes " = = x\n" ++ n ++ codes " =")) (codes "auto" ∷ codes "batch" ∷ codes "confirmbigdel" ∷ codes "contactquietly" ∷ codes "fastcheck" ∷ codes "group" ∷ codes "key" ∷ codes "label" ∷ codes "log" ∷ codes "logfile" ∷ codes "owner" ∷ codes "perms" ∷ codes "silent" ∷ codes "terse" ∷ codes "times" ∷ [])
+    ≡ None ∷ None ∷ None ∷ None ∷ None ∷ None ∷ None ∷ None ∷ None ∷ None ∷ None ∷ None ∷ None ∷ None ∷ None ∷ []
+names_are_accepted = refl
+
+names_need_an_equals : map third (codes "batch" ∷ codes "times true" ∷ codes "Batch = x" ∷ []) ≡ at 3 fault.NoEquals ∷ at 3 fault.NoEquals ∷ at 3 (fault.UnknownPreference (codes "Batch")) ∷ []
+names_need_an_equals = refl
+
+-- Other names of Unison's are left out.
+names_are_unknown : map (λ n. third (n ++ codes " = x")) (codes "newer" ∷ codes "older" ∷ codes "merge" ∷ codes "backup" ∷ codes "follow" ∷ codes "mountpoint" ∷ codes "ignorecase" ∷ codes "forcepartial" ∷ codes "preferpartial" ∷ codes "nodeletionpartial" ∷ [])
+    ≡ map (λ n. at 3 (fault.UnknownPreference n)) (codes "newer" ∷ codes "older" ∷ codes "merge" ∷ codes "backup" ∷ codes "follow" ∷ codes "mountpoint" ∷ codes "ignorecase" ∷ codes "forcepartial" ∷ codes "preferpartial" ∷ codes "nodeletionpartial" ∷ [])
+names_are_unknown = refl
+
+-- A profile with two roots and these lines.
+abbrev with_roots : List ℕ → Parts
+with_roots t = profile [] (said_in (codes "root = /srv/hub\nroot = /srv/s1\n" ++ t))
+
+sides_are_read : map (λ t. (with_roots t).force ∷ (with_roots t).prefer ∷ []) (codes "" ∷ codes "force = /srv/hub" ∷ codes "force = /srv/s1/" ∷ codes "prefer = /srv/s1" ∷ codes "prefer = /srv/hub\nforce = /srv/s1" ∷ codes "noupdate = /srv/hub" ∷ [])
+    ≡ (None ∷ None ∷ []) ∷ (Some Left ∷ None ∷ []) ∷ (Some Right ∷ None ∷ []) ∷ (None ∷ Some Right ∷ []) ∷ (Some Right ∷ Some Left ∷ []) ∷ (None ∷ None ∷ []) ∷ []
+sides_are_read = refl
+
+abbrev bars : (create update delete : Bool) → Bars
+bars create update delete = record { create = create; update = update; delete = delete }
+
+-- `noupdate` forbids deletions too; `force` and `prefer` are no bars.
+bars_are_read : map (λ t. (with_roots t).bars) (codes "nodeletion = /srv/hub" ∷ codes "noupdate = /srv/s1" ∷ codes "nocreation = /srv/hub/" ∷ codes "noupdate = /srv/s1\nnocreation = /srv/s1" ∷ codes "nodeletion = /srv/s1\nnodeletion = /srv/hub\nnodeletion = /srv/s1" ∷ codes "force = /srv/hub\nprefer = /srv/s1" ∷ [])
+    ≡ (bars false false true ∷ no_bars ∷ []) ∷ (no_bars ∷ bars false true true ∷ []) ∷ (bars true false false ∷ no_bars ∷ []) ∷ (no_bars ∷ bars true true true ∷ []) ∷ (bars false false true ∷ bars false false true ∷ []) ∷ (no_bars ∷ no_bars ∷ []) ∷ []
+bars_are_read = refl
+
 roots_apart : map are_roots ((path_of (codes "srv/hub") ∷ path_of (codes "srv/s1") ∷ []) ∷ (path_of (codes "srv") ∷ path_of (codes "srv/hub") ∷ []) ∷ (path_of (codes "srv") ∷ path_of (codes "srv") ∷ []) ∷ []) ≡ true ∷ false ∷ false ∷ []
 roots_apart = refl
 
@@ -188,7 +249,7 @@ abbrev two_values : Parts
 two_values = profile (codes "p") (said_in (codes "root = /srv/hub\nroot = /srv/s1\npath = a\npath = b/c"))
 
 two_values_read : profile_reading (codes "p") (codes "\troot=/srv/hub \r\nroot = /srv/s1/\n#path = x\n\npath = a\npath = b/c/\n")
-    ≡ Ok (record { name = codes "p"; roots = path_of (codes "srv/hub") ∷ path_of (codes "srv/s1") ∷ []; paths = path_of (codes "a") ∷ path_of (codes "b/c") ∷ []; ignore = []; ignorenot = [] })
+    ≡ Ok (record { name = codes "p"; roots = path_of (codes "srv/hub") ∷ path_of (codes "srv/s1") ∷ []; paths = path_of (codes "a") ∷ path_of (codes "b/c") ∷ []; ignore = []; ignorenot = []; force = None; prefer = None; bars = no_bars ∷ no_bars ∷ [] })
 two_values_read = refl
 
 two_values_hold : IsProfile two_values
@@ -198,11 +259,47 @@ bytes_are_text : profile_in (codes "p") (255 ∷ []) ≡ Err (record { line = 0;
 unfolding is_utf8 chars
 bytes_are_text = refl
 
--- Rules: blank lines and comments alone are accepted so far.
+-- Blank lines and comments are no rules.
 no_rules : rules_in (codes " \t\n# root = /a\n\r\n") ≡ Ok []
 unfolding is_utf8 chars lib.Utf8.encode
 no_rules = refl
 
-a_rule_is_unknown : rules_in (codes "\nroot = /a") ≡ Err (record { line = 2; fault = fault.UnknownPreference (codes "root") })
+-- The fault of a rules text.
+abbrev rules_fault : List ℕ → Option ProfileFault
+rules_fault t = fault_of (rules_reading t)
+
+abbrev rule : List ℕ → Verb → Specification → Rule
+rule root verb spec = record { root = path_of root; verb = verb; spec = spec }
+
+abbrev below_a : Specification
+below_a = record { kind = kind.BelowPath; pattern = One (Lit 97) ∷ [] }
+
+-- A rule is for the last root above it, and has one kind of change; rules stand in the order of their lines.
+rules_are_numbered : rules_reading (codes "root = /srv/hub\nnolose = BelowPath a\n\nnochange=BelowPath a\nroot = /srv/s1/\n# root = /x\nnonew = BelowPath a\nnolose = BelowPath a")
+    ≡ Ok (rule (codes "srv/hub") Delete below_a ∷ rule (codes "srv/hub") Update below_a ∷ rule (codes "srv/s1") Create below_a ∷ rule (codes "srv/s1") Delete below_a ∷ [])
+rules_are_numbered = refl
+
+-- A root without rules is read, and says nothing.
+roots_are_no_rules : rules_reading (codes "root = /a\nroot = /b\nroot = /a") ≡ Ok []
+roots_are_no_rules = refl
+
+rules_are_faulty : map rules_fault (codes "nolose = BelowPath a\nroot = /a" ∷ codes "nonew = Foo" ∷ codes "root = /a\nnonew = Foo" ∷ codes "root = /a\nnochange = Path /b" ∷ codes "root = a" ∷ codes "root = newer" ∷ codes "root" ∷ codes "include x" ∷ [])
+    ≡ at 1 fault.RuleBeforeRoot ∷ at 1 fault.RuleBeforeRoot ∷ at 2 (fault.BadPattern glob.NoKind) ∷ at 2 (fault.BadPattern glob.LeadingSlash) ∷ at 1 (fault.BadPath path.NotAbsolute) ∷ at 1 (fault.BadPath path.NotAbsolute) ∷ at 1 fault.NoEquals ∷ at 1 fault.IncludeLeftOut ∷ []
+rules_are_faulty = refl
+
+-- The preferences of a profile are no names of rules, nor the other way round.
+rules_have_names_of_their_own : map (λ n. rules_fault (n ++ codes " = /a")) (codes "path" ∷ codes "ignore" ∷ codes "force" ∷ codes "nodeletion" ∷ codes "batch" ∷ codes "" ∷ [])
+    ≡ map (λ n. at 1 (fault.UnknownPreference n)) (codes "path" ∷ codes "ignore" ∷ codes "force" ∷ codes "nodeletion" ∷ codes "batch" ∷ codes "" ∷ [])
+rules_have_names_of_their_own = refl
+
+profiles_have_no_rules : map (λ n. third (n ++ codes " = Name a")) (codes "nolose" ∷ codes "nochange" ∷ codes "nonew" ∷ []) ≡ map (λ n. at 3 (fault.UnknownPreference n)) (codes "nolose" ∷ codes "nochange" ∷ codes "nonew" ∷ [])
+profiles_have_no_rules = refl
+
+-- 64 rules may be there; the 65th is too many, whatever its value. `root` lines are not counted.
+rules_are_counted : map (λ t. rules_fault (codes "root = /a\n" ++ eight_times (eight_times (codes "nonew=Name a\n")) ++ t)) (codes "" ∷ codes "root = /b" ∷ codes "nolose = Foo" ∷ codes "root = b" ∷ [])
+    ≡ None ∷ None ∷ at 66 fault.TooMany ∷ at 66 (fault.BadPath path.NotAbsolute) ∷ []
+rules_are_counted = refl
+
+rules_are_text : rules_in (codes "root = /a" ++ 255 ∷ []) ≡ Err (record { line = 0; fault = fault.NotUtf8 })
 unfolding is_utf8 chars lib.Utf8.encode
-a_rule_is_unknown = refl
+rules_are_text = refl

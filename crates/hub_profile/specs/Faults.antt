@@ -43,9 +43,9 @@ of_pattern glob.OutOfMemory = OutOfMemory
 abbrev pub FailsAs : {T : Type 0} → Result T Fault → Fault → Type 0
 FailsAs reading e = (e ≡ OutOfMemory) ⊎ (reading ≡ Err e)
 
--- The fault that there is, or out of memory.
-abbrev pub FailsWith : Option Fault → Fault → Type 0
-FailsWith fault e = (e ≡ OutOfMemory) ⊎ (fault ≡ Some e)
+-- The fault that there is, with its line, or out of memory.
+abbrev pub FailsWith : Option ProfileFault → ProfileFault → Type 0
+FailsWith fault e = (e.fault ≡ OutOfMemory) ⊎ (fault ≡ Some e)
 
 -- The fault of a reading with its line, or out of memory.
 abbrev pub FailsAt : {T : Type 0} → Result T ProfileFault → ProfileFault → Type 0

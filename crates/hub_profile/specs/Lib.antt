@@ -4,6 +4,7 @@ pub mod Parts
 pub mod Lines
 pub mod LineByLine
 pub mod Said
+pub mod Protection
 pub mod Reading
 pub mod Rules
 pub mod Marks

@@ -9,17 +9,20 @@ use Rattle.hub_profile.specs.Lines.{line_text, is_setting, setting}
 use Rattle.hub_text.specs.declared.line.Line.{Line}
 use Rattle.hub_text.specs.Lines.{lines_of}
 
--- What a setting with that name and value adds to what the lines before it say, or its fault.
+-- What a setting on the line of that number, with that name and value, adds to what the lines before it say, or its
+-- fault.
 abbrev pub Table : Type 0 → Type 0
-Table S = S → (name value : List ℕ) → Result S Fault
+Table S = S → (line : ℕ) → (name value : List ℕ) → Result S Fault
 
-abbrev pub with_pair : {S : Type 0} → Table S → S → Result (List ℕ × List ℕ) Fault → Result S Fault
-with_pair table said (Ok pair) = table said pair.0 pair.1
-with_pair table said (Err f) = Err f
+abbrev pub with_pair :
+    {S : Type 0} → Table S → S → ℕ → Result (List ℕ × List ℕ) Fault → Result S Fault
+with_pair table said n (Ok pair) = table said n pair.0 pair.1
+with_pair table said n (Err f) = Err f
 
 -- What a line adds: nothing if it is blank or a comment.
-abbrev pub with_line : {S : Type 0} → Table S → S → List ℕ → Result S Fault
-with_line table said l = if is_setting (line_text l) then with_pair table said (setting (line_text l)) else Ok said
+abbrev pub with_line : {S : Type 0} → Table S → S → ℕ → List ℕ → Result S Fault
+with_line table said n l =
+    if is_setting (line_text l) then with_pair table said n (setting (line_text l)) else Ok said
 
 -- A fault is reported with its line.
 abbrev pub at_line : {S : Type 0} → ℕ → Result S Fault → Result S ProfileFault
@@ -27,8 +30,9 @@ at_line n (Ok said) = Ok said
 at_line n (Err f) = Err (record { line = n; fault = f })
 
 -- The lines before this one, and then this one, which stands beside its number.
-abbrev pub and_line : {S : Type 0} → Table S → Result S ProfileFault → ℕ × Line (List ℕ) → Result S ProfileFault
-and_line table (Ok said) l = at_line l.0 (with_line table said l.1.text)
+abbrev pub and_line :
+    {S : Type 0} → Table S → Result S ProfileFault → ℕ × Line (List ℕ) → Result S ProfileFault
+and_line table (Ok said) l = at_line l.0 (with_line table said l.0 l.1.text)
 and_line table (Err f) l = Err f
 
 -- The lines of a text with their numbers, the first of which is 1.
@@ -44,7 +48,8 @@ abbrev pub not_utf8 : ProfileFault
 not_utf8 = record { line = 0; fault = NotUtf8 }
 
 -- What bytes say that have to be text.
-abbrev pub if_text : {T : Type 0} → (List ℕ → Result T ProfileFault) → List ℕ → Result T ProfileFault
+abbrev pub if_text :
+    {T : Type 0} → (List ℕ → Result T ProfileFault) → List ℕ → Result T ProfileFault
 if_text reading bytes = if is_utf8 bytes then reading (chars bytes) else Err not_utf8
 
 -- The value beside a name in a list of pairs.

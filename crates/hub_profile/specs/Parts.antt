@@ -4,16 +4,21 @@ use Rattle.hub_path.specs.Path.{Name, Path, path_eq}
 use Rattle.hub_path.specs.declared.side.Side.{Side}
 use Rattle.hub_path.specs.declared.side.Side.TheVariants.{Left, Right}
 use Rattle.hub_glob.specs.Specification.{Specification}
+use Rattle.hub_profile.specs.declared.bars.Bars.{Bars}
 use Rattle.hub_profile.specs.Facts.{are_roots, are_kept}
 
--- A profile's name, its roots in the order Left, Right, its kept values, and what its `ignore` and its `ignorenot` lines
--- specify, each in the order of their lines.
+-- A profile's name, its roots in the order Left, Right, its kept values, and what its `ignore` and its `ignorenot`
+-- lines specify, each in the order of their lines. Then the side whose root all differences (`force`), or conflicts
+-- alone (`prefer`), are resolved in favour of, and the changes that are not made at the left and at the right root.
 pub record Parts : Type 0 where
   pub name : Name
   pub roots : List Path
   pub paths : List Path
   pub ignore : List Specification
   pub ignorenot : List Specification
+  pub force : Option Side
+  pub prefer : Option Side
+  pub bars : List Bars
 
 -- What holds of each profile that is read.
 pub record IsProfile (P : Parts) : Type 0 where

@@ -2,13 +2,16 @@
 use Rattle.std.specs.Prelude.{List, []}
 use Rattle.hub_path.specs.Path.{Path}
 use Rattle.hub_glob.specs.Specification.{Specification}
+use Rattle.hub_profile.specs.declared.protection.ProtectionLine.{ProtectionLine}
 
--- Each root, each value of a `path` line, and each specification, in the order of their lines.
+-- Each root, each value of a `path` line, each specification, and each line that protects a root, in the order of
+-- their lines.
 pub record Said : Type 0 where
   pub roots : List Path
   pub paths : List Path
   pub ignore : List Specification
   pub ignorenot : List Specification
+  pub protections : List ProtectionLine
 
 abbrev pub nothing : Said
-nothing = record { roots = []; paths = []; ignore = []; ignorenot = [] }
+nothing = record { roots = []; paths = []; ignore = []; ignorenot = []; protections = [] }

@@ -1,10 +1,10 @@
 //! What the lines of a profile say.
-ghost use Rattle.std.specs.Prelude.{◌≡◌, ◌⊎◌, Some, None, Ok, Err, IfOk, IfErr, OnOk, IsTrue, chars};
+ghost use Rattle.std.specs.Prelude.{◌≡◌, ◌⊎◌, [], ◌∷◌, Some, None, Ok, Err, IfOk, IfErr, OnOk, IsTrue, chars};
 ghost use Rattle.std.specs.List.{list_all};
 ghost use Rattle.hub_path.specs.Path.{is_place};
 ghost use Rattle.hub_path.specs.Reading as path;
 ghost use Rattle.hub_glob.specs.Reading.{spec_reading};
-ghost use Rattle.hub_profile.specs.Faults.{FailsAt, FailsWith};
+ghost use Rattle.hub_profile.specs.Faults.{FailsAs, FailsAt, FailsWith};
 ghost use Rattle.hub_profile.specs.Reading as reading;
 ghost use Rattle.hub_profile.specs.Said as said;
 
@@ -13,6 +13,7 @@ use crate::kept::kept_or_whole;
 use crate::key::{Key, key_named};
 use crate::line_by_line::{FromLines, unknown};
 use crate::profile::Profile;
+use crate::protection::{Protected, Protection, ProtectionLine, is_left_out, repeats};
 use hub_glob::PathSpec;
 use hub_path::{Name, PathFault, RelPath, Root, without_last_slash};
 use hub_text::{Items, begins_with, is_empty};
@@ -25,13 +26,15 @@ pub const PATH_LINES: usize = 64;
 /// How many `ignore` and `ignorenot` lines a profile may have together.
 pub const PATTERN_LINES: usize = 64;
 
-/// What the lines of a profile say so far: each root, each value of a `path` line, and each specification.
+/// What the lines of a profile say so far: each root, each value of a `path` line, each specification, and each line
+/// that protects a root.
 #[derive(Drop)]
 pub(crate) struct Draft {
     roots: Vec<Root>,
     paths: Vec<RelPath>,
     ignore: Vec<PathSpec>,
     ignorenot: Vec<PathSpec>,
+    protections: Vec<ProtectionLine>,
 }
 
 impl Model for Draft {
@@ -44,6 +47,7 @@ impl Model for Draft {
       paths = a.paths.items;
       ignore = a.ignore.items;
       ignorenot = a.ignorenot.items;
+      protections = a.protections.items;
     } };
 }
 
@@ -52,9 +56,9 @@ impl FromLines for Draft {
 
     ghost table = { with_preference };
 
-    fn take(&mut self, name: &str, value: &str) -> Result<(), Fault> {
+    fn take(&mut self, number: usize, name: &str, value: &str) -> Result<(), Fault> {
         match key_named(name) {
-            Some(key) => self.set(key, value),
+            Some(key) => self.set(key, number, value),
             None => Err(unknown(*self.roots.allocator(), name)),
         }
     }
@@ -70,25 +74,28 @@ impl Draft {
             paths: Vec::new(alloc),
             ignore: Vec::new(alloc),
             ignorenot: Vec::new(alloc),
+            protections: Vec::new(alloc),
         }
     }
 
-    /// Takes a value of that preference.
-    fn set(&mut self, key: Key, value: &str) -> Result<(), Fault>
-        ensures ok { OnOk result (reading.Adds key self.old (chars value.now) self.new) }
-        ensures err { IfErr result (reading.Refuses key self.old (chars value.now)) }
+    /// Takes a value of that preference, on the line of that number.
+    fn set(&mut self, key: Key, number: usize, value: &str) -> Result<(), Fault>
+        ensures ok { OnOk result (reading.Adds key self.old number (chars value.now) self.new) }
+        ensures err { IfErr result (reading.Refuses key self.old number (chars value.now)) }
     {
         match key {
             Key::Root => self.add_root(value),
             Key::Path => self.add_path(value),
             Key::Ignore => self.add_ignore(value),
             Key::IgnoreNot => self.add_ignorenot(value),
+            Key::Protect(kind) => self.add_protection(kind, number, value),
+            Key::NoEffect => Ok(()),
         }
     }
 
     fn add_root(&mut self, value: &str) -> Result<(), Fault>
-        ensures ok { OnOk result (reading.Adds Key.Root self.old (chars value.now) self.new) }
-        ensures err { IfErr result (reading.Refuses Key.Root self.old (chars value.now)) }
+        ensures ok { OnOk result (reading.root_added self.old (chars value.now) ≡ Ok self.new) }
+        ensures err { IfErr result (FailsAs (reading.root_added self.old (chars value.now))) }
     {
         let root = Root::read(*self.roots.allocator(), value)?;
         self.roots.push(root)?;
@@ -96,8 +103,8 @@ impl Draft {
     }
 
     fn add_path(&mut self, value: &str) -> Result<(), Fault>
-        ensures ok { OnOk result (reading.Adds Key.Path self.old (chars value.now) self.new) }
-        ensures err { IfErr result (reading.Refuses Key.Path self.old (chars value.now)) }
+        ensures ok { OnOk result (reading.path_added self.old (chars value.now) ≡ Ok self.new) }
+        ensures err { IfErr result (FailsAs (reading.path_added self.old (chars value.now))) }
     {
         if self.paths.len() >= PATH_LINES {
             return Err(Fault::TooMany);
@@ -108,8 +115,8 @@ impl Draft {
     }
 
     fn add_ignore(&mut self, value: &str) -> Result<(), Fault>
-        ensures ok { OnOk result (reading.Adds Key.Ignore self.old (chars value.now) self.new) }
-        ensures err { IfErr result (reading.Refuses Key.Ignore self.old (chars value.now)) }
+        ensures ok { OnOk result (reading.ignore_added self.old (chars value.now) ≡ Ok self.new) }
+        ensures err { IfErr result (FailsAs (reading.ignore_added self.old (chars value.now))) }
     {
         if self.has_all_patterns() {
             return Err(Fault::TooMany);
@@ -120,14 +127,36 @@ impl Draft {
     }
 
     fn add_ignorenot(&mut self, value: &str) -> Result<(), Fault>
-        ensures ok { OnOk result (reading.Adds Key.IgnoreNot self.old (chars value.now) self.new) }
-        ensures err { IfErr result (reading.Refuses Key.IgnoreNot self.old (chars value.now)) }
+        ensures ok { OnOk result (
+            reading.ignorenot_added self.old (chars value.now) ≡ Ok self.new) }
+        ensures err { IfErr result (FailsAs (reading.ignorenot_added self.old (chars value.now))) }
     {
         if self.has_all_patterns() {
             return Err(Fault::TooMany);
         }
         let spec = PathSpec::read(*self.ignorenot.allocator(), value)?;
         self.ignorenot.push(spec)?;
+        Ok(())
+    }
+
+    fn add_protection(&mut self, kind: Protection, number: usize, value: &str) -> Result<(), Fault>
+        ensures ok { OnOk result (
+            reading.protection_added kind self.old number (chars value.now) ≡ Ok self.new) }
+        ensures err { IfErr result (
+            FailsAs (reading.protection_added kind self.old number (chars value.now))) }
+    {
+        if repeats(kind, self.protections.as_slice()) {
+            return Err(Fault::Repeated);
+        }
+        if is_left_out(kind, value) {
+            return Err(Fault::LeftOutValue);
+        }
+        let root = Root::read(*self.roots.allocator(), value)?;
+        self.protections.push(ProtectionLine {
+            line: number,
+            protection: kind,
+            root,
+        })?;
         Ok(())
     }
 
@@ -138,49 +167,62 @@ impl Draft {
         self.ignore.len() + self.ignorenot.len() >= PATTERN_LINES
     }
 
-    /// The profile of that name, if the roots are two and apart.
+    /// The profile of that name, if the roots are two and apart, and no line protects another one.
     pub(crate) fn finish(self, name: Name) -> Result<Profile, ProfileFault>
         requires roots { IsTrue (list_all is_place self.roots) }
         requires paths { IsTrue (list_all is_place self.paths) }
         ensures ok { IfOk result (λ P. reading.finished name self ≡ Ok P) }
         ensures err { IfErr result (FailsAt (reading.finished name self)) }
     {
-        match self.into_profile(name) {
-            Ok(profile) => Ok(profile),
-            Err(fault) => Err(ProfileFault { line: 0, fault }),
-        }
+        self.into_profile(name)
     }
 
-    fn into_profile(self, name: Name) -> Result<Profile, Fault>
+    fn into_profile(self, name: Name) -> Result<Profile, ProfileFault>
         requires roots { IsTrue (list_all is_place self.roots) }
         requires paths { IsTrue (list_all is_place self.paths) }
-        ensures fine { OnOk result (reading.roots_fault self.roots ≡ None) }
+        ensures fine { OnOk result (reading.whole_fault self ≡ None) }
         ensures ok { IfOk result (λ P. P ≡ reading.profile name self) }
-        ensures err { IfErr result (FailsWith (reading.roots_fault self.roots)) }
+        ensures err { IfErr result (FailsWith (reading.whole_fault self)) }
     {
         let Draft {
             roots,
             paths,
             ignore,
             ignorenot,
+            protections,
         } = self;
         let alloc = *roots.allocator();
-        let roots = two_roots(roots)?;
+        let (left, right) = apart_roots(roots)?;
+        let protected = Protected::of_lines(protections.as_slice(), &left, &right)?;
         let paths = kept_or_whole(alloc, paths)?;
         Ok(Profile {
             name,
-            roots,
+            roots: [left, right],
             paths,
             ignore: Items::from_vec(ignore),
             ignorenot: Items::from_vec(ignorenot),
+            protected,
         })
     }
 }
 
-/// The two roots, if they are two and apart.
-fn two_roots(mut roots: Vec<Root>) -> Result<[Root; 2], Fault>
+/// The two roots, if they are two and apart, or their fault at line 0.
+fn apart_roots(roots: Vec<Root>) -> Result<(Root, Root), ProfileFault>
     ensures fine { OnOk result (reading.roots_fault roots.items ≡ None) }
-    ensures ok { IfOk result (λ two. two ≡ roots.items) }
+    ensures ok { IfOk result (λ two. two.0 ∷ two.1 ∷ [] ≡ roots.items) }
+    ensures line { IfErr result (λ e. e.line ≡ 0) }
+    ensures err { IfErr result (λ e. reading.roots_fault roots.items ≡ Some e.fault) }
+{
+    match two_roots(roots) {
+        Ok(two) => Ok(two),
+        Err(fault) => Err(ProfileFault { line: 0, fault }),
+    }
+}
+
+/// The two roots, if they are two and apart.
+fn two_roots(mut roots: Vec<Root>) -> Result<(Root, Root), Fault>
+    ensures fine { OnOk result (reading.roots_fault roots.items ≡ None) }
+    ensures ok { IfOk result (λ two. two.0 ∷ two.1 ∷ [] ≡ roots.items) }
     ensures err { IfErr result (λ e. reading.roots_fault roots.items ≡ Some e) }
 {
     if roots.len() != 2 {
@@ -195,7 +237,7 @@ fn two_roots(mut roots: Vec<Root>) -> Result<[Root; 2], Fault>
     if left.is_within(&right) || right.is_within(&left) {
         return Err(Fault::RootsNested);
     }
-    Ok([left, right])
+    Ok((left, right))
 }
 
 /// Reads the value of a `path` line.

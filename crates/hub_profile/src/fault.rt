@@ -64,12 +64,18 @@ pub enum Fault {
     /// No preference has that name.
     #[error("UnknownPreference {0}")]
     UnknownPreference(Preference),
+    /// The value is `newer` or `older`, which this project leaves out in `force` and `prefer`.
+    #[error("LeftOutValue")]
+    LeftOutValue,
     /// A value is not a path, or not a root.
     #[error("BadPath {0}")]
     BadPath(PathFault),
     /// A value is not a path specification.
     #[error("BadPattern {0}")]
     BadPattern(GlobFault),
+    /// The line gives `force` or `prefer` a second time.
+    #[error("Repeated")]
+    Repeated,
     /// There are not exactly two roots.
     #[error("RootCount")]
     RootCount,
@@ -79,7 +85,14 @@ pub enum Fault {
     /// One root lies within the other.
     #[error("RootsNested")]
     RootsNested,
-    /// There are more `path` lines than `PATH_LINES`, or more `ignore` and `ignorenot` lines than `PATTERN_LINES`.
+    /// The root of a `force`, `prefer`, `nodeletion`, `noupdate` or `nocreation` line is neither of the two roots.
+    #[error("NotARoot")]
+    NotARoot,
+    /// A rule has no `root` line above it.
+    #[error("RuleBeforeRoot")]
+    RuleBeforeRoot,
+    /// There are more `path` lines than `PATH_LINES`, more `ignore` and `ignorenot` lines than `PATTERN_LINES`, or more
+    /// rules than `RULES`.
     #[error("TooMany")]
     TooMany,
     /// Out of memory.
@@ -137,10 +150,26 @@ impl From<GlobFault> for Fault {
     }
 }
 
-/// A fault and its line. The first line has number 1; 0 stands for the whole text.
+/// A fault of the text of a profile or of rules, and its line.
 #[derive(Debug, Drop, Error)]
 #[error("line {line}: {fault}")]
 pub struct ProfileFault {
+    /// The number of the line. The first line has number 1; 0 stands for the whole text.
     pub line: usize,
+    /// What is wrong.
     pub fault: Fault,
+}
+
+impl From<AllocError> for ProfileFault {
+    ghost use Rattle.hub_profile.specs.declared.fault.Fault.TheVariants.{OutOfMemory};
+    ghost use Rattle.std.specs.Prelude.{◌≡◌};
+
+    ghost from_gives = { λ _ e. e.fault ≡ OutOfMemory };
+
+    fn from(_: AllocError) -> Self {
+        ProfileFault {
+            line: 0,
+            fault: Fault::OutOfMemory,
+        }
+    }
 }

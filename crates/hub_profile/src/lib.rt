@@ -1,8 +1,8 @@
 //! Profiles, which say what two roots synchronize, and rules, which say what nobody may do: both read from text.
 //!
-//! [`read_profile`] reads the bytes of a profile's text. It returns a [`Profile`], whose type keeps that its roots are apart
-//! and that no kept value is over another, or a [`ProfileFault`]: the first [`Fault`] with its line. [`read_rules`] reads
-//! [`Rules`] likewise.
+//! [`read_profile`] reads the bytes of a profile's text. It returns a [`Profile`], whose type keeps that its roots are
+//! apart and that no kept value is over another; or a [`ProfileFault`], the first [`Fault`] with its line.
+//! [`read_rules`] reads [`Rules`] likewise.
 //!
 //! ```text
 //! root = /srv/hub
@@ -10,13 +10,15 @@
 //! path = docs
 //! ```
 //!
-//! Both texts are read line by line, each line over what the lines before it say (specs/LineByLine); a preference is one
-//! row of `keys` and one case of `with_value` (specs/Reading). Contracts see a profile as the record `Parts` (specs/Parts)
-//! and say that what is read is `profile_in` of the bytes.
+//! Both texts are read line by line, each line over what the lines before it say (specs/LineByLine). A preference is
+//! one row of `keys` and one case of `with_value` (specs/Reading). A name of a rules text is one row of `rule_keys` and
+//! one case of `with_rule_value` (specs/Rules). Contracts see a profile as the record `Parts` (specs/Parts). They say
+//! that what is read is `profile_in` or `rules_in` of the bytes.
 //!
 //! Only functions that return a `Result` allocate.
 #![tactic(auto)]
 
+mod bars;
 mod draft;
 mod fault;
 mod kept;
@@ -25,11 +27,15 @@ pub mod laws;
 mod line;
 mod line_by_line;
 mod profile;
+mod protection;
 mod reading;
 mod rule;
+mod rule_key;
 mod rules;
+mod rules_draft;
 mod verb;
 
+pub use bars::Bars;
 pub use draft::{PATH_LINES, PATTERN_LINES};
 pub use fault::{Fault, Preference, ProfileFault};
 pub use profile::Profile;

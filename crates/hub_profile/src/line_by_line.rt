@@ -15,13 +15,15 @@ pub(crate) trait FromLines: Drop {
     ghost use Rattle.std.specs.Prelude.{List, ℕ, Result};
     ghost use Rattle.hub_profile.specs.declared.fault.Fault.{Fault};
 
-    /// What a setting with that name and value adds, or its fault.
-    ghost table: { Self → List ℕ → List ℕ → Result Self Fault };
+    /// What a setting on that line adds, with that name and value, or its fault.
+    ghost table: { Self → ℕ → List ℕ → List ℕ → Result Self Fault };
 
-    /// Takes the next setting.
-    fn take(&mut self, name: &str, value: &str) -> Result<(), Fault>
-        ensures ok { OnOk result (table self.old (chars name.now) (chars value.now) ≡ Ok self.new) }
-        ensures err { IfErr result (FailsAs (table self.old (chars name.now) (chars value.now))) };
+    /// Takes the next setting, which is on the line of that number.
+    fn take(&mut self, number: usize, name: &str, value: &str) -> Result<(), Fault>
+        ensures ok { OnOk result (
+            table self.old number (chars name.now) (chars value.now) ≡ Ok self.new) }
+        ensures err { IfErr result (
+            FailsAs (table self.old number (chars name.now) (chars value.now))) };
 }
 
 /// The text of these bytes, or `NotUtf8` at line 0.
@@ -48,24 +50,26 @@ pub(crate) fn read_lines<D: FromLines>(nothing: D, text: &str) -> Result<D, Prof
 {
     let mut said = nothing;
     for (i, line) in TextLines::new(text).enumerate() {
-        if let Err(fault) = take_line(&mut said, line.text) {
+        if let Err(fault) = take_line(&mut said, i + 1, line.text) {
             return Err(ProfileFault { line: i + 1, fault });
         }
     }
     Ok(said)
 }
 
-/// Takes the next line.
-fn take_line<D: FromLines>(said: &mut D, line: &str) -> Result<(), Fault>
-    ensures ok { OnOk result (by_line.with_line D.table said.old (chars line.now) ≡ Ok said.new) }
-    ensures err { IfErr result (FailsAs (by_line.with_line D.table said.old (chars line.now))) }
+/// Takes the next line, which has that number.
+fn take_line<D: FromLines>(said: &mut D, number: usize, line: &str) -> Result<(), Fault>
+    ensures ok { OnOk result (
+        by_line.with_line D.table said.old number (chars line.now) ≡ Ok said.new) }
+    ensures err { IfErr result (
+        FailsAs (by_line.with_line D.table said.old number (chars line.now))) }
 {
     let line = line_text(line);
     if !is_setting(line) {
         return Ok(());
     }
     let (name, value) = setting(line)?;
-    said.take(name, value)
+    said.take(number, name, value)
 }
 
 /// The fault of a name that is no preference's, or out of memory.

@@ -1,7 +1,9 @@
 ghost use Rattle.std.specs.Prelude.{◌≡◌};
 
+use crate::bars::Bars;
+use crate::protection::Protected;
 use hub_glob::PathSpec;
-use hub_path::{Name, RelPath, Root};
+use hub_path::{Name, RelPath, Root, Side};
 use hub_text::Items;
 use std::marker::Model;
 
@@ -16,6 +18,7 @@ pub struct Profile {
     pub(crate) paths: Items<RelPath>,
     pub(crate) ignore: Items<PathSpec>,
     pub(crate) ignorenot: Items<PathSpec>,
+    pub(crate) protected: Protected,
 }
 
 impl Model for Profile {
@@ -29,6 +32,9 @@ impl Model for Profile {
       paths = a.paths;
       ignore = a.ignore;
       ignorenot = a.ignorenot;
+      force = a.protected.force;
+      prefer = a.protected.prefer;
+      bars = a.protected.bars;
     } };
 
     ghost invariant = { λ a. IsProfile (record {
@@ -37,6 +43,9 @@ impl Model for Profile {
       paths = a.paths;
       ignore = a.ignore;
       ignorenot = a.ignorenot;
+      force = a.protected.force;
+      prefer = a.protected.prefer;
+      bars = a.protected.bars;
     }) };
 }
 
@@ -79,5 +88,29 @@ impl Profile {
         ensures { result.now ≡ self.now.ignorenot }
     {
         self.ignorenot.as_slice()
+    }
+
+    /// The side whose root all differences are resolved in favour of, if a `force` line names it (Unison manual,
+    /// "Preferences").
+    pub fn force(&self) -> Option<Side>
+        ensures { result ≡ self.now.force }
+    {
+        self.protected.force
+    }
+
+    /// The side whose root conflicts are resolved in favour of, if a `prefer` line names it (Unison manual,
+    /// "Preferences"). Where there is a forced side too, that one decides (this project's choice).
+    pub fn prefer(&self) -> Option<Side>
+        ensures { result ≡ self.now.prefer }
+    {
+        self.protected.prefer
+    }
+
+    /// The changes that are not made at the left and at the right root, by `nocreation`, `noupdate` and `nodeletion`
+    /// lines. `force` and `prefer` lines add none.
+    pub fn bars(&self) -> &[Bars; 2]
+        ensures { result.now ≡ self.now.bars }
+    {
+        &self.protected.bars
     }
 }

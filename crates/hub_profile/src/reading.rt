@@ -28,11 +28,30 @@ mod tests;
 /// - `ignore`: a path specification (`hub_glob::PathSpec::read`). A path that it matches is not synchronized, nor is
 ///   what is below it.
 /// - `ignorenot`: a path specification. A path that it matches is not ignored itself.
+/// - `force`: the root that all differences are resolved in favour of.
+/// - `prefer`: the root that conflicts are resolved in favour of; where both are given, `force` decides (this project's
+///   choice).
+/// - `nodeletion`, `noupdate`, `nocreation`: a root at which no deletions, no updates and deletions, or no creations
+///   are made. Each may be given for each root, and a repeated line adds nothing.
+/// - `auto`, `batch`, `confirmbigdel`, `contactquietly`, `fastcheck`, `group`, `key`, `label`, `log`, `logfile`,
+///   `owner`, `perms`, `silent`, `terse`, `times`: accepted without effect (this project's choice).
 ///
-/// The fault is `NotUtf8` at line 0; else that of the lowest line that has one: `IncludeLeftOut`, `NoEquals`,
-/// `UnknownPreference`, `TooMany` (a `path` line after `PATH_LINES` of them, or an `ignore` or `ignorenot` line after
-/// `PATTERN_LINES` of both together), then `BadPath` or `BadPattern`, in this order; else `RootCount`, `SameRoots` or
-/// `RootsNested` at line 0. Any call may instead report `OutOfMemory`, at any line.
+/// The fault is `NotUtf8` at line 0. Otherwise it is that of the lowest line that has one. Of one line it is the first
+/// of these:
+///
+/// 1. `IncludeLeftOut`: the first word is `include`, `source`, `include?` or `source?`, and no `=` follows it directly
+///    or after spaces and tabs.
+/// 2. `NoEquals`: the line has no `=`.
+/// 3. `UnknownPreference`: no preference has that name.
+/// 4. `Repeated`: a second `force` or a second `prefer` line, whatever its value.
+/// 5. `LeftOutValue`: `force` or `prefer` with the value `newer` or `older`.
+/// 6. `TooMany`: a `path` line after `PATH_LINES` of them, or an `ignore` or `ignorenot` line after `PATTERN_LINES` of
+///    both together.
+/// 7. `BadPath` or `BadPattern`: the value is not a root, not a path, or not a path specification.
+///
+/// Where no line has a fault, it is `RootCount`, `SameRoots` or `RootsNested` at line 0; otherwise `NotARoot` at the
+/// lowest line whose `force`, `prefer`, `nodeletion`, `noupdate` or `nocreation` names neither of the two roots. Any
+/// call may instead report `OutOfMemory`, at any line.
 pub fn read_profile(alloc: Global, name: Name, bytes: &[u8]) -> Result<Profile, ProfileFault>
     ensures ok { IfOk result (λ P. reading.profile_in name bytes.now ≡ Ok P) }
     ensures err { IfErr result (FailsAt (reading.profile_in name bytes.now)) }

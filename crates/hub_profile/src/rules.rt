@@ -1,13 +1,14 @@
 //! A text of rules.
-ghost use Rattle.std.specs.Prelude.{◌≡◌, [], ◌≤◌, Ok, IfOk, IfErr, length};
+ghost use Rattle.std.specs.Prelude.{◌≡◌, ◌<◌, ◌≤◌, [], ◌∷◌, ◌++◌, nat_le, Ok, IfOk, IfErr, OnOk, length};
 ghost use Rattle.hub_profile.specs.Faults.{FailsAt};
 ghost use Rattle.hub_profile.specs.Rules as rules;
 
-use crate::fault::{Fault, ProfileFault};
-use crate::line_by_line::{FromLines, read_lines, text_of, unknown};
+use crate::fault::ProfileFault;
+use crate::line_by_line::{read_lines, text_of};
 use crate::rule::Rule;
+use crate::rules_draft::RulesDraft;
 use hub_text::Items;
-use std::alloc::Global;
+use std::alloc::{AllocFailed, Global};
 use std::marker::Model;
 
 /// How many rules a text may have (this project's choice).
@@ -17,7 +18,6 @@ pub const RULES: usize = 64;
 #[derive(Debug, Drop)]
 pub struct Rules {
     rules: Items<Rule>,
-    alloc: Global,
 }
 
 impl Model for Rules {
@@ -32,16 +32,6 @@ impl Model for Rules {
     ghost invariant = { λ a. length a.rules ≤ RULES };
 }
 
-impl FromLines for Rules {
-    ghost use Rattle.hub_profile.specs.Rules.{with_rule};
-
-    ghost table = { with_rule };
-
-    fn take(&mut self, name: &str, _value: &str) -> Result<(), Fault> {
-        Err(unknown(self.alloc, name))
-    }
-}
-
 impl Rules {
     /// No rules.
     pub fn new(alloc: Global) -> Rules
@@ -49,7 +39,6 @@ impl Rules {
     {
         Rules {
             rules: Items::new(alloc),
-            alloc,
         }
     }
 
@@ -61,29 +50,55 @@ impl Rules {
         self.rules.as_slice()
     }
 
+    /// The allocator of the list.
+    pub(crate) fn alloc(&self) -> Global {
+        self.rules.alloc()
+    }
+
+    /// Whether there are as many rules as there may be.
+    pub(crate) fn is_full(&self) -> bool
+        ensures { result ≡ nat_le RULES (length self.now) }
+    {
+        self.rules.len() >= RULES
+    }
+
+    /// Appends a rule.
+    pub(crate) fn push(&mut self, rule: Rule) -> Result<(), AllocFailed<Rule>>
+        requires { length self.now < RULES }
+        ensures { OnOk result (self.new ≡ self.old ++ rule ∷ []) }
+    {
+        self.rules.push(rule)
+    }
+
     /// The list of the rules, which is taken whole: nothing is copied.
     pub fn into_items(self) -> Items<Rule>
         ensures value { result ≡ self }
         ensures few { length self ≤ RULES }
     {
-        let Rules { rules, alloc: _ } = self;
+        let Rules { rules } = self;
         rules
     }
 }
 
 /// Reads rules from the bytes of their text.
 ///
-/// The text is read line by line as that of a profile (`read_profile`). Only blank lines and comments are accepted
-/// so far.
+/// The text is read line by line as that of a profile (`read_profile`). Its names are (this project's choice):
 ///
-/// The fault is `NotUtf8` at line 0; else that of the lowest line that has one: `IncludeLeftOut`, `NoEquals` or
-/// `UnknownPreference`, in this order. Any call may instead report `OutOfMemory`.
+/// - `root`: the root of the rules below, up to the next such line.
+/// - `nolose`, `nochange`, `nonew`: a path specification (`hub_glob::PathSpec::read`). Each such line is one rule: no
+///   deletion, no update, or no creation may be made at the root, on a path that the specification matches.
+///
+/// The fault is `NotUtf8` at line 0. Otherwise it is that of the lowest line that has one. Of one line it is the first
+/// of `IncludeLeftOut`, `NoEquals`, `UnknownPreference` (`read_profile` says when these come), `RuleBeforeRoot` (a rule
+/// without a `root` line above it), `TooMany` (a rule after `RULES` of them), and `BadPath` or `BadPattern`. Any call
+/// may instead report `OutOfMemory`, at any line.
 pub fn read_rules(alloc: Global, bytes: &[u8]) -> Result<Rules, ProfileFault>
     ensures ok { IfOk result (λ R. rules.rules_in bytes.now ≡ Ok R) }
     ensures err { IfErr result (FailsAt (rules.rules_in bytes.now)) }
 {
     let text = text_of(bytes)?;
-    read_lines(Rules::new(alloc), text)
+    let draft = read_lines(RulesDraft::new(alloc), text)?;
+    Ok(draft.into_rules())
 }
 
 #[cfg(test)]

@@ -23,7 +23,7 @@ loop-i-preserved g c =
     let turn = YieldsList-turn road c.loop-i.yielded _ c.loop-i.yielded_by c.next.result c.next.new.self (c.in-Some.i, c.in-Some.line) c.in-Some.is c.next.ensures.steps in
     let at = numbered_turn (lines_of cs) (length c.loop-i.yielded) c.in-Some.i (of_text c.in-Some.line) turn in
     rw (length_push c.loop-i.yielded (c.in-Some.i, c.in-Some.line))
-    (taken g.D.FromLines.table c.args.nothing c.loop-i.said c.take_line.new.said cs (length c.loop-i.yielded) (of_text c.in-Some.line) c.loop-i.invariant at.1 at.2 c.in_default.ensures.ok)
+    (taken g.D.FromLines.table c.args.nothing c.loop-i.said c.take_line.new.said cs (length c.loop-i.yielded) c.in-Some.i (of_text c.in-Some.line) c.loop-i.invariant at.0 at.1 at.2 c.in_default.ensures.ok)
 
 pub returns-clause-ok : goal.returns-clause-ok
 returns-clause-ok g c =

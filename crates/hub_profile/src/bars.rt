@@ -1,0 +1,10 @@
+/// The changes that a profile doesn't make at one of its roots (Unison manual, "Preferences").
+#[derive(Clone, Copy, Debug, PartialEq, Eq)]
+pub struct Bars {
+    /// Nothing is created (`nocreation`).
+    pub create: bool,
+    /// Nothing is updated (`noupdate`).
+    pub update: bool,
+    /// Nothing is deleted (`nodeletion`, and `noupdate`).
+    pub delete: bool,
+}

@@ -15,7 +15,7 @@ use Rattle.hub_glob.specs.Taking.{takes}
 use Rattle.hub_automaton.specs.declared.alternatives.Alternatives.{Alternatives}
 use Rattle.hub_automaton.specs.declared.words.Masks.{Masks}
 use Rattle.hub_automaton.specs.Masks.{ended_at, marked, moved_row, moved_seen}
-use Rattle.hub_automaton.specs.Rows.{AreApart, AreMoved, NoneCarried, last_before, masks_at, word_at}
+use Rattle.hub_automaton.specs.Rows.{AreApart, AreMoved, AreTakenAlike, NoneCarried, last_before, masks_at, shifted_at, word_at}
 use Rattle.hub_automaton.specs.Spots.{Seen, is_below_kind, spot_count}
 use Rattle.hub_automaton.specs.Words.{first_word, other_words, spread, moved_word, moved_words, with_bit}
 
@@ -45,7 +45,7 @@ before-set : (ws : List ℕ) (i j w : ℕ) → j ≤ i → last_before 0 (slice_
 before-set ws i zero w l = refl
 before-set ws i (suc j) w l = ap (λ p. p / 2 ^ 63) (get_or-set_other ws i j w 0 (let d : j ≢ i = omega arith in d))
 
-before-next : (ws : List ℕ) (i p : ℕ) → p ≡ slice_index_or ws i 0 → p / 2 ^ 63 ≡ last_before 0 ws (i + 1)
+pub before-next : (ws : List ℕ) (i p : ℕ) → p ≡ slice_index_or ws i 0 → p / 2 ^ 63 ≡ last_before 0 ws (i + 1)
 before-next ws i p e = ap (λ q. q / 2 ^ 63) e ∙ ap (last_before 0 ws) (sym (add-one i))
 
 pub before-minus : (ws : List ℕ) (i : ℕ) → 1 ≤ i → slice_index_or ws (i - 1) 0 / 2 ^ 63 ≡ last_before 0 ws i
@@ -205,6 +205,47 @@ row_moved stays es ss ts old ws l h e =
     get_or-take n ws j 0 p ∙ h j p
     ∙ (λ k. moved_word stays (masks_at es ss ts j) (sym (get_or-take (length ss) old j 0 (omega (arith, p))) k) (before-take (length ss) old j (omega (arith, p)) k) (before-take n ws j p k))) in
     sym (take-append-drop n ws) ∙ (λ k. front k ++ (e ∙ drop_min (length ss) old) k)
+
+-- By masks that let the same spots go on a row moves alike.
+pub taken_more : (ts us row : List ℕ) (i : ℕ) → AreTakenAlike ts us row i
+    → bit_and (slice_index_or ts i 0) (shifted_at row i) ≡ bit_and (slice_index_or us i 0) (shifted_at row i) → AreTakenAlike ts us row (i + 1)
+taken_more ts us row i h e j l = by (eq-or-lt_of_le (let k : j ≤ i = omega arith in k)) where
+  by : (j ≡ i) ⊎ (j < i) → bit_and (get ts j) (shifted_at row j) ≡ bit_and (get us j) (shifted_at row j)
+  by (inl s) = ap (λ p. bit_and (get ts p) (shifted_at row p)) s ∙ e ∙ ap (λ p. bit_and (get us p) (shifted_at row p)) (sym s)
+  by (inr s) = h j s
+
+words_alike : (stays : Bool) (es ss ts us os : List ℕ) (here before : ℕ)
+    → ((j : ℕ) → j < length os
+    → bit_and (slice_index_or ts j 0) (bit_or (slice_index_or os j 0 * 2 ^ 1 % 2 ^ 64) (last_before here os j))
+    ≡ bit_and (slice_index_or us j 0) (bit_or (slice_index_or os j 0 * 2 ^ 1 % 2 ^ 64) (last_before here os j)))
+    → moved_words stays es ss ts os here before ≡ moved_words stays es ss us os here before
+words_alike stays es ss ts us [] here before h = refl
+words_alike stays es ss ts us (o ∷ os) here before h =
+    let shifted : ℕ = bit_or (o * 2 ^ 1 % 2 ^ 64) here in
+    let taken : bit_and (first_word ts) shifted ≡ bit_and (first_word us) shifted =
+    ap (λ w. bit_and w shifted) (sym (first-at ts)) ∙ h zero (omega arith) ∙ ap (λ w. bit_and w shifted) (first-at us) in
+    let word : ℕ → ℕ = λ z. spread (first_word ss) (bit_or (first_word es) (bit_or (cond stays (bit_and (first_word ss) o) 0) (bit_or z (bit_and (first_word ss) before)))) in
+    let w : ℕ = word (bit_and (first_word us) shifted) in
+    let rest : moved_words stays (other_words es) (other_words ss) (other_words ts) os (o / 2 ^ 63) (w / 2 ^ 63) ≡ moved_words stays (other_words es) (other_words ss) (other_words us) os (o / 2 ^ 63) (w / 2 ^ 63) =
+    words_alike stays (other_words es) (other_words ss) (other_words ts) (other_words us) os (o / 2 ^ 63) (w / 2 ^ 63)
+    (λ j q. (λ k. bit_and (sym (others-at ts j) k) (bit_or (slice_index_or os j 0 * 2 ^ 1 % 2 ^ 64) (sym (before-others o os j) k)))
+    ∙ h (suc j) (omega arith)
+    ∙ (λ k. bit_and (others-at us j k) (bit_or (slice_index_or os j 0 * 2 ^ 1 % 2 ^ 64) (before-others o os j k)))) in
+    (λ k. word (taken k) ∷ moved_words stays (other_words es) (other_words ss) (other_words ts) os (o / 2 ^ 63) (word (taken k) / 2 ^ 63))
+    ∙ ap (λ ws. w ∷ ws) rest
+
+pub row_alike : (stays : Bool) (es ss ts us row : List ℕ) → length ts ≡ length ss → AreTakenAlike ts us row (min (length ts) (length row))
+    → moved_row stays es ss ts row ≡ moved_row stays es ss us row
+row_alike stays es ss ts us row l h =
+    let n = length ss in
+    let os = take n row in
+    ap (λ ws. ws ++ drop n row)
+    (words_alike stays es ss ts us os 0 0
+    (λ j q.
+    let p : j < n = omega (arith, q, length-take n row) in
+    let r : j < min (length ts) (length row) = omega (arith, q, length-take n row, l) in
+    let at : bit_or (get os j * 2 ^ 1 % 2 ^ 64) (last_before 0 os j) ≡ shifted_at row j = λ k. bit_or (get_or-take n row j 0 p k * 2 ^ 1 % 2 ^ 64) (sym (before-take n row j p) k) in
+    ap (bit_and (get ts j)) at ∙ h j r ∙ ap (bit_and (get us j)) (sym at)))
 
 -- Flags behind the words that are moved.
 moved_words-length : (stays : Bool) (es ss ts os : List ℕ) (here before : ℕ) → length (moved_words stays es ss ts os here before) ≡ length os

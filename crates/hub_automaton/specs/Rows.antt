@@ -1,6 +1,7 @@
 -- A row of words moved on by a character in two rounds: each word without the spot before it, and then those words again
 -- that the spot before them goes on into.
-use Rattle.std.specs.Prelude.{◌≡◌, ◌<◌, ℕ, zero, suc, ◌/◌, ◌^◌, Bool, List, slice_index_or}
+use Rattle.std.specs.Prelude.{◌≡◌, ◌<◌, ℕ, zero, suc, ◌*◌, ◌/◌, ◌%◌, ◌^◌, Bool, List, slice_index_or}
+use Rattle.std.specs.Int.RustNames.{bit_or}
 use lib.Bits.{bit_and}
 use Rattle.hub_automaton.specs.declared.words.Masks.{Masks}
 use Rattle.hub_automaton.specs.Words.{moved_word}
@@ -30,3 +31,12 @@ AreMoved stays es ss ts old ws n = (i : ℕ) → i < n → slice_index_or ws i 0
 -- Up to a place no spot goes on into the word behind it.
 abbrev pub NoneCarried : List ℕ → List ℕ → ℕ → Type 0
 NoneCarried ss ws n = (i : ℕ) → i < n → bit_and (slice_index_or ss i 0) (last_before 0 ws i) ≡ 0
+
+-- The word of a row at a place with each spot one further. The first one is the last spot of the word before it.
+abbrev pub shifted_at : List ℕ → ℕ → ℕ
+shifted_at row i = bit_or (slice_index_or row i 0 * 2 ^ 1 % 2 ^ 64) (last_before 0 row i)
+
+-- In the words up to a place the same spots go on by both masks of takers.
+abbrev pub AreTakenAlike : List ℕ → List ℕ → List ℕ → ℕ → Type 0
+AreTakenAlike ts us row n =
+    (i : ℕ) → i < n → bit_and (slice_index_or ts i 0) (shifted_at row i) ≡ bit_and (slice_index_or us i 0) (shifted_at row i)

@@ -1,9 +1,9 @@
 //! Rows of words moved on by a character: first each word without the position before it, so that a processor moves several
 //! at once, and then those words again that the position before them goes on into.
-ghost use Rattle.std.specs.Prelude.{◌≡◌, ◌<◌, ◌≤◌, [], length, drop, min, if◌then◌else◌};
+ghost use Rattle.std.specs.Prelude.{◌≡◌, ◌<◌, ◌≤◌, [], length, drop, min, if◌then◌else◌, IsTrue};
 ghost use Rattle.hub_automaton.specs.Masks.{moved_row};
 ghost use Rattle.hub_automaton.specs.Rows as rows;
-ghost use Rattle.hub_automaton.specs.Rows.{AreApart, AreMoved, NoneCarried};
+ghost use Rattle.hub_automaton.specs.Rows.{AreApart, AreMoved, AreTakenAlike, NoneCarried};
 
 use crate::words::{Masks, WORD_BITS, moved_word};
 
@@ -104,6 +104,24 @@ fn carry_on(
             new[i] = moved_word(masks, stays, old[i], here, before);
         }
     }
+}
+
+/// Returns whether pieces that accept one character and pieces that accept another one let the same positions of a row go
+/// on, by the masks of both.
+pub(crate) fn takes_alike(row: &[u64], takers: &[u64], others: &[u64]) -> bool
+    requires { length others.now ≡ length takers.now }
+    ensures { IsTrue result → AreTakenAlike takers.now others.now row.now
+        (min (length takers.now) (length row.now)) }
+{
+    let mut here = 0;
+    for i in 0..takers.len().min(row.len()) {
+        let after = row[i] << 1 | here;
+        if takers[i] & after != others[i] & after {
+            return false;
+        }
+        here = row[i] >> (WORD_BITS - 1);
+    }
+    true
 }
 
 /// The masks of a word.

@@ -381,6 +381,38 @@ fn classes_differ_by_a_later_word(rt: HostRuntime) -> Result<(), Fail> {
     Ok(())
 }
 
+/// For each class whether it leads alike with class 0 from the text's state, as a digit.
+fn leads_of(alloc: Global, specs: &[PathSpec], text: &str) -> Result<String, Fail> {
+    let alphabet = alphabet_with(alloc, specs, &RelPath::read(alloc, "abc")?)?;
+    let set = SpecSet::build(alloc, &alphabet, specs)?;
+    let (spots, _) = walked_along(alloc, &alphabet, &set, text)?;
+    let mut leads = String::new(alloc);
+    for number in 0..set.class_count() {
+        let alike = set.leads_alike(&spots, Class::new(number), Class::new(0));
+        leads.push(if alike { '1' } else { '0' })?;
+    }
+    Ok(leads)
+}
+
+/// A text, and for each class whether it leads alike with class 0 from the text's state, for `Name a[ab]` and an alphabet
+/// that mentions `c` too. The classes are those of all other characters, `.`, `/` and the letters.
+const LEADS: [(&str, &str); 4] = [
+    ("", "100011"),
+    ("a", "100001"),
+    ("b", "100111"),
+    ("b/", "100011"),
+];
+
+#[test]
+fn classes_lead_alike_where_no_piece_takes_them(rt: HostRuntime) -> Result<(), Fail> {
+    let specs = specs_of(rt.alloc(), &["Name a[ab]"])?;
+    for (text, want) in LEADS {
+        let leads = leads_of(rt.alloc(), specs.as_slice(), text)?;
+        assert_eq!(rt; leads.as_str(), want, "{text}");
+    }
+    Ok(())
+}
+
 /// A path, over an alphabet that mentions it.
 fn path_set(alloc: Global, path: &RelPath) -> Result<(Alphabet, SpecSet), Fail> {
     let mut alphabet = Alphabet::new(alloc)?;

@@ -1,5 +1,5 @@
 -- Worked values of reach, of what is written where, and of safety.
-use Rattle.std.specs.Prelude.{⊤, ◌≡◌, Bool, true, false, List, ℕ, [], ◌∷◌, map, refl, codes}
+use Rattle.std.specs.Prelude.{⊤, ◌≡◌, Bool, true, false, List, ℕ, [], ◌∷◌, ◌++◌, map, Some, None, Result, Ok, Err, refl, codes}
 use Rattle.std.proofs.Common.{inl}
 use Rattle.std.proofs.lemmas.Option.{none-some}
 use Rattle.hub_path.specs.Path.{Path, path_of}
@@ -9,7 +9,12 @@ use Rattle.hub_glob.specs.declared.path_spec.Kind.TheVariants as Kind
 use Rattle.hub_glob.specs.declared.piece.Part.{Part}
 use Rattle.hub_glob.specs.declared.piece.Part.TheVariants.{One}
 use Rattle.hub_glob.specs.declared.piece.Piece.TheVariants.{Lit, Run}
+use Rattle.hub_path.specs.declared.side.Side.TheVariants.{Left, Right}
 use Rattle.hub_profile.specs.Parts.{Parts}
+use Rattle.hub_profile.specs.Protection.{no_bars}
+use Rattle.hub_profile.specs.Reading.{profile_reading}
+use Rattle.hub_profile.specs.declared.fault.ProfileFault.{ProfileFault}
+use Rattle.hub_profile.specs.declared.bars.Bars.{Bars}
 use Rattle.hub_profile.specs.declared.verb.Verb.TheVariants.{Create, Update, Delete}
 use Rattle.hub_reach.specs.Reach.{reach, may, writes, write}
 use Rattle.hub_reach.specs.Stage.{stage_of}
@@ -31,7 +36,7 @@ s2 = path_of (codes "srv/s2")
 
 -- A profile of this kept value, over the hub and s1.
 abbrev kept : List ℕ → Parts
-kept t = record { name = t; roots = hub ∷ s1 ∷ []; paths = path_of t ∷ []; ignore = []; ignorenot = [] }
+kept t = record { name = t; roots = hub ∷ s1 ∷ []; paths = path_of t ∷ []; ignore = []; ignorenot = []; force = None; prefer = None; bars = no_bars ∷ no_bars ∷ [] }
 
 -- One of the whole replica, and one of no path at all.
 abbrev whole : Parts
@@ -108,8 +113,73 @@ one_stage_below_two_kept_values = refl
 written_roots : map (writes whole) (hub ∷ s1 ∷ s2 ∷ path_of (codes "srv") ∷ path_of (codes "srv/hub/docs") ∷ []) ≡ true ∷ true ∷ false ∷ false ∷ false ∷ []
 written_roots = refl
 
-allowed : map (may whole hub) (Create ∷ Update ∷ Delete ∷ []) ≡ true ∷ true ∷ true ∷ []
-allowed = refl
+-- What a profile may do at a root: create, update, delete.
+abbrev allowed : Parts → Path → List Bool
+allowed P r = map (may P r) (Create ∷ Update ∷ Delete ∷ [])
+
+abbrev all_three : List Bool
+all_three = true ∷ true ∷ true ∷ []
+
+abbrev none_of_three : List Bool
+none_of_three = false ∷ false ∷ false ∷ []
+
+-- a profile that protects nothing may do everything; at a root that isn't its own nothing is forbidden either
+nothing_is_protected : map (allowed whole) (hub ∷ s1 ∷ s2 ∷ path_of (codes "srv/hub/docs") ∷ []) ≡ all_three ∷ all_three ∷ all_three ∷ all_three ∷ []
+nothing_is_protected = refl
+
+-- nothing is changed at the forced root; at the other one everything is allowed
+forced_roots : map (λ side. map (allowed (record whole { force = Some side })) (hub ∷ s1 ∷ s2 ∷ [])) (Left ∷ Right ∷ [])
+    ≡ (none_of_three ∷ all_three ∷ all_three ∷ []) ∷ (all_three ∷ none_of_three ∷ all_three ∷ []) ∷ []
+forced_roots = refl
+
+-- `prefer` decides conflicts alone: it forbids nothing
+preferred_roots : map (λ side. map (allowed (record whole { prefer = Some side })) (hub ∷ s1 ∷ [])) (Left ∷ Right ∷ [])
+    ≡ (all_three ∷ all_three ∷ []) ∷ (all_three ∷ all_three ∷ []) ∷ []
+preferred_roots = refl
+
+abbrev bars : (create update delete : Bool) → Bars
+bars create update delete = record { create = create; update = update; delete = delete }
+
+-- Profiles with these bars at the hub, and at s1.
+abbrev barred_left : Bars → Parts
+barred_left left = record whole { bars = left ∷ no_bars ∷ [] }
+
+abbrev barred_right : Bars → Parts
+barred_right right = record whole { bars = no_bars ∷ right ∷ [] }
+
+-- each bar forbids its own kind of change
+each_bar : map (λ left. allowed (barred_left left) hub) (bars true false false ∷ bars false true false ∷ bars false false true ∷ [])
+    ≡ (false ∷ true ∷ true ∷ []) ∷ (true ∷ false ∷ true ∷ []) ∷ (true ∷ true ∷ false ∷ []) ∷ []
+each_bar = refl
+
+-- A profile with these lines below its roots, the hub and s1.
+abbrev or_whole : Result Parts ProfileFault → Parts
+or_whole (Ok P) = P
+or_whole (Err fault) = whole
+
+abbrev with_lines : List ℕ → Parts
+with_lines t = or_whole (profile_reading [] (codes "root = /srv/hub\nroot = /srv/s1\n" ++ t))
+
+-- `noupdate` forbids deletions too
+lines_that_forbid : map (λ t. allowed (with_lines t) s1) (codes "nodeletion = /srv/s1" ∷ codes "noupdate = /srv/s1" ∷ codes "nocreation = /srv/s1" ∷ codes "noupdate = /srv/s1/\nnocreation = /srv/s1" ∷ codes "noupdate = /srv/hub" ∷ codes "force = /srv/s1/" ∷ codes "prefer = /srv/s1" ∷ [])
+    ≡ (true ∷ true ∷ false ∷ []) ∷ (true ∷ false ∷ false ∷ []) ∷ (false ∷ true ∷ true ∷ []) ∷ none_of_three ∷ all_three ∷ none_of_three ∷ all_three ∷ []
+lines_that_forbid = refl
+
+-- bars at one root leave the other root free
+other_roots_of_bars : map (λ r. allowed (barred_right (bars true true true)) r) (hub ∷ s1 ∷ s2 ∷ []) ≡ all_three ∷ none_of_three ∷ all_three ∷ []
+other_roots_of_bars = refl
+
+-- bars and `force` add up
+bars_beside_force : map (λ r. allowed (record (barred_right (bars true false false)) { force = Some Left; prefer = Some Right }) r) (hub ∷ s1 ∷ []) ≡ none_of_three ∷ (false ∷ true ∷ true ∷ []) ∷ []
+bars_beside_force = refl
+
+-- a profile writes at a root where one kind of change is left to it
+abbrev writes_there : Parts → List Bool
+writes_there P = map (writes P) (hub ∷ s1 ∷ s2 ∷ [])
+
+where_it_writes : map writes_there (record whole { force = Some Left } ∷ record whole { prefer = Some Left } ∷ barred_left (bars true true true) ∷ barred_left (bars true true false) ∷ barred_left (bars true false true) ∷ barred_left (bars false true true) ∷ record (barred_right (bars true true true)) { force = Some Left } ∷ [])
+    ≡ (false ∷ true ∷ false ∷ []) ∷ (true ∷ true ∷ false ∷ []) ∷ (false ∷ true ∷ false ∷ []) ∷ (true ∷ true ∷ false ∷ []) ∷ (true ∷ true ∷ false ∷ []) ∷ (true ∷ true ∷ false ∷ []) ∷ (false ∷ false ∷ false ∷ []) ∷ []
+where_it_writes = refl
 
 -- it writes the paths there that it reaches
 written_paths : map (λ r. write (kept (codes "docs")) r (path_of (codes "docs/x"))) (hub ∷ s2 ∷ []) ≡ true ∷ false ∷ []
@@ -119,6 +189,10 @@ written_paths = refl
 not_reached_not_written : write (kept (codes "docs")) hub (path_of (codes "photos")) ≡ false
 unfolding computed
 not_reached_not_written = refl
+
+forced_not_written : map (λ r. write (record (kept (codes "docs")) { force = Some Left }) r (path_of (codes "docs/x"))) (hub ∷ s1 ∷ []) ≡ false ∷ true ∷ []
+unfolding computed
+forced_not_written = refl
 
 -- `path = a` and `path = a/b` clash at the hub, each way round, and in the archive
 one_over_the_other : ClashesAt (kept (codes "a")) (kept (codes "a/b")) hub
@@ -138,6 +212,15 @@ a_foreign_root : ¬ (ClashesAt (kept (codes "a")) (kept (codes "a/b")) s2)
 unfolding computed
 a_foreign_root h = let written : false ≡ true = h.3 in cc
 
+-- nor where the writer may change nothing; the other profile's `force` is no help
+nothing_written_there : ¬ (ClashesAt (record (kept (codes "a")) { force = Some Left }) (kept (codes "a/b")) hub)
+unfolding computed
+nothing_written_there h = let written : false ≡ true = h.3 in cc
+
+read_where_it_may_not_write : ClashesAt (kept (codes "a")) (record (kept (codes "a/b")) { force = Some Left }) hub
+unfolding computed
+read_where_it_may_not_write = (path_of (codes "a"), path_of (codes "a/b"), refl, refl, refl)
+
 -- one archive takes both roots, in either order
 archives : map (share_archive whole) (kept (codes "a") ∷ record whole { roots = s1 ∷ hub ∷ [] } ∷ record whole { roots = hub ∷ s2 ∷ [] } ∷ []) ≡ true ∷ true ∷ false ∷ []
 archives = refl
@@ -153,6 +236,20 @@ a_breach = (path_of (codes "books/x"), refl, refl, refl, refl)
 a_rule_of_another_root : ¬ (Breach whole (guards s2))
 unfolding computed
 a_rule_of_another_root h = let own : false ≡ true = h.1 in cc
+
+-- who may not do it breaches nothing: at the forced root, or where a bar forbids that kind of change
+forced_no_breach : ¬ (Breach (record whole { force = Some Left }) (guards hub))
+unfolding computed
+forced_no_breach h = let allowed_there : false ≡ true = h.3 in cc
+
+barred_no_breach : ¬ (Breach (barred_left (bars false false true)) (guards hub))
+unfolding computed
+barred_no_breach h = let allowed_there : false ≡ true = h.3 in cc
+
+-- another bar, a bar at the other root, and `prefer` don't rule it out
+still_a_breach : Breach (record (barred_left (bars true true false)) { prefer = Some Left }) (guards hub) × Breach (barred_right (bars true true true)) (guards hub) × Breach (record whole { force = Some Right }) (guards hub)
+unfolding computed
+still_a_breach = ((path_of (codes "books/x"), refl, refl, refl, refl), (path_of (codes "books/x"), refl, refl, refl, refl), (path_of (codes "books/x"), refl, refl, refl, refl))
 
 -- these two profiles are not safe
 overlapping : ¬ (IsSafe (kept (codes "a") ∷ kept (codes "a/b") ∷ []) [])

@@ -1,9 +1,12 @@
 -- Which paths a profile reaches, and which changes it may make where.
-use Rattle.std.specs.Prelude.{Bool, true, not, ◌&&◌, ◌||◌, IsTrue}
+use Rattle.std.specs.Prelude.{Bool, not, ◌&&◌, ◌||◌, IsTrue}
 use Rattle.std.specs.List.{list_any}
 use Rattle.hub_path.specs.Path.{Path, path_eq, is_over, is_path, prefixes}
+use Rattle.hub_path.specs.declared.side.Side.{Side}
+use Rattle.hub_path.specs.declared.side.Side.TheVariants.{Left, Right}
 use Rattle.hub_glob.specs.Glob.{matches}
-use Rattle.hub_profile.specs.Parts.{Parts}
+use Rattle.hub_profile.specs.Parts.{Parts, some_passes, at_side, is_root_at}
+use Rattle.hub_profile.specs.declared.bars.Bars.{Bars}
 use Rattle.hub_profile.specs.declared.verb.Verb.{Verb}
 use Rattle.hub_profile.specs.declared.verb.Verb.TheVariants.{Create, Update, Delete}
 
@@ -24,9 +27,28 @@ reach P p = is_path p && list_any (λ s. is_over s p && is_open P s p) P.paths
 abbrev pub PassesThrough : Parts → Path → Type 0
 PassesThrough P p = (q : Path) × IsTrue (is_over p q && reach P q)
 
--- Whether a change of that kind is allowed at a root. Nothing forbids one yet.
+-- The profile's `force` names this root: all differences are resolved in favour of it.
+abbrev pub is_forced_root : Parts → Path → Bool
+is_forced_root P r = some_passes (is_root_at P r) P.force
+
+-- Whether bars forbid a change of that kind.
+abbrev pub covers : Verb → Bars → Bool
+covers Create bars = bars.create
+covers Update bars = bars.update
+covers Delete bars = bars.delete
+
+-- The root of that side is this one, and the bars on it forbid the change.
+abbrev pub is_barred_at : Parts → Path → Verb → Side → Bool
+is_barred_at P r verb side = is_root_at P r side && some_passes (covers verb) (at_side P.bars side)
+
+-- Bars of the profile on this root forbid the change.
+abbrev pub is_barred : Parts → Path → Verb → Bool
+is_barred P r verb = is_barred_at P r verb Left || is_barred_at P r verb Right
+
+-- Whether a change of that kind is allowed at a root: nothing is changed at the forced root, and nothing that bars on the
+-- root forbid. `prefer` forbids nothing. At a root that isn't the profile's nothing is forbidden.
 abbrev pub may : Parts → Path → Verb → Bool
-may P r verb = true
+may P r verb = not (is_forced_root P r || is_barred P r verb)
 
 -- The same at a path of the root.
 abbrev pub may_at : Parts → Path → Path → Verb → Bool

@@ -1,23 +1,116 @@
 //! Which changes a profile may make, and where it writes.
-ghost use Rattle.std.specs.Prelude.{◌≡◌};
+ghost use Rattle.std.specs.Prelude.{◌≡◌, ◌||◌, Some};
+ghost use Rattle.hub_profile.specs.Parts.{some_passes, at_side, is_root_at};
+ghost use Rattle.hub_profile.specs.declared.verb.Verb.TheVariants.{Create, Update, Delete};
 ghost use Rattle.hub_reach.specs.Reach as reach;
 
-use hub_path::Root;
-use hub_profile::{Profile, Verb};
+use hub_path::{Root, Side};
+use hub_profile::{Bars, Profile, Verb};
 
-/// Returns whether a profile may make a change of that kind at a root. It is always true: preferences that forbid changes
-/// are not supported yet.
-pub fn may(_profile: &Profile, _root: &Root, _verb: Verb) -> bool
-    ensures { result ≡ reach.may _profile.now _root.now _verb }
+/// Returns whether a profile may make a change of that kind at a root.
+///
+/// It may not if its `force` names the root, or if one of its bars on the root forbids the change. Its `prefer` forbids
+/// nothing. At a root that isn't one of its two, nothing is forbidden; see [`writes`]. (Unison manual, "Preferences".)
+pub fn may(profile: &Profile, root: &Root, verb: Verb) -> bool
+    ensures { result ≡ reach.may profile.now root.now verb }
 {
-    true
+    !(is_forced_root(profile, root) || is_barred(profile, root, verb))
 }
 
 /// Returns whether a profile writes at a root: the root is one of its roots, and some change is allowed there.
 pub fn writes(profile: &Profile, root: &Root) -> bool
     ensures { result ≡ reach.writes profile.now root.now }
 {
+    has_root(profile, root) && may_change(profile, root)
+}
+
+fn has_root(profile: &Profile, root: &Root) -> bool
+    ensures { result ≡ reach.has_root profile.now root.now }
+{
     profile.roots().iter().any(|own| own == root)
+}
+
+/// Whether some change is allowed at the root.
+fn may_change(profile: &Profile, root: &Root) -> bool
+    ensures { result ≡ (reach.may profile.now root.now Create
+        || reach.may profile.now root.now Update
+        || reach.may profile.now root.now Delete) }
+{
+    may(profile, root, Verb::Create)
+        || may(profile, root, Verb::Update)
+        || may(profile, root, Verb::Delete)
+}
+
+/// Whether all differences are resolved in favour of the root.
+fn is_forced_root(profile: &Profile, root: &Root) -> bool
+    ensures { result ≡ reach.is_forced_root profile.now root.now }
+{
+    match profile.force() {
+        Some(side) => is_root_at(profile, root, side),
+        None => false,
+    }
+}
+
+/// Whether bars on the root forbid the change.
+fn is_barred(profile: &Profile, root: &Root, verb: Verb) -> bool
+    ensures { result ≡ reach.is_barred profile.now root.now verb }
+{
+    is_barred_at(profile, root, verb, Side::Left) || is_barred_at(profile, root, verb, Side::Right)
+}
+
+/// Whether this is the root of that side, and the bars on it forbid the change.
+fn is_barred_at(profile: &Profile, root: &Root, verb: Verb, side: Side) -> bool
+    ensures { result ≡ reach.is_barred_at profile.now root.now verb side }
+{
+    is_root_at(profile, root, side) && is_covered_at(profile, verb, side)
+}
+
+/// Whether this is the profile's root of that side.
+fn is_root_at(profile: &Profile, root: &Root, side: Side) -> bool
+    ensures { result ≡ is_root_at profile.now root.now side }
+{
+    root == root_at(profile, side)
+}
+
+/// Borrows the root of that side.
+fn root_at(profile: &Profile, side: Side) -> &Root
+    ensures { at_side profile.now.roots side ≡ Some result.now }
+{
+    match side {
+        Side::Left => &profile.roots()[0],
+        Side::Right => &profile.roots()[1],
+    }
+}
+
+/// Whether the bars of that side forbid the change.
+fn is_covered_at(profile: &Profile, verb: Verb, side: Side) -> bool
+    ensures { result ≡ some_passes (reach.covers verb) (at_side profile.now.bars side) }
+{
+    match bars_at(profile, side) {
+        Some(bars) => covers(verb, bars),
+        None => false,
+    }
+}
+
+/// Returns the bars of that side: each side has some.
+fn bars_at(profile: &Profile, side: Side) -> Option<Bars>
+    ensures { result ≡ at_side profile.now.bars side }
+{
+    match side {
+        Side::Left => profile.bars().get(0).copied(),
+        Side::Right => profile.bars().get(1).copied(),
+    }
+}
+
+/// Whether bars forbid a change of that kind.
+fn covers(verb: Verb, bars: Bars) -> bool
+    ensures { result ≡ reach.covers verb bars }
+{
+    match verb {
+        Verb::Create => bars.create,
+        Verb::Update => bars.update,
+        Verb::Delete => bars.delete,
+    }
 }
 
 #[cfg(test)]

@@ -1,7 +1,7 @@
 //! Profiles, sets and certificates that the tests are given.
 use crate::{Certificate, CheckFault, Goal, Place, ProfileSet, StageText};
 use hub_path::{Name, Side};
-use hub_profile::{Profile, Rules, read_profile};
+use hub_profile::{Profile, Rules, read_profile, read_rules};
 use hub_text::Items;
 use std::alloc::{AllocError, Global};
 use std::test::Fail;
@@ -30,12 +30,43 @@ pub fn profile_with(
     Ok(read_profile(alloc, name, text.as_bytes())?)
 }
 
-/// Makes a set of two profiles without rules.
-pub fn set_of(alloc: Global, first: Profile, second: Profile) -> Result<ProfileSet, CheckFault> {
+/// Makes a set of two profiles and these rules.
+fn set_with(
+    alloc: Global,
+    first: Profile,
+    second: Profile,
+    rules: Rules,
+) -> Result<ProfileSet, CheckFault> {
     let mut profiles = Items::new(alloc);
     profiles.push(first)?;
     profiles.push(second)?;
-    ProfileSet::new(alloc, profiles, Rules::new(alloc))
+    ProfileSet::new(alloc, profiles, rules)
+}
+
+/// Makes a set of two profiles without rules.
+pub fn set_of(alloc: Global, first: Profile, second: Profile) -> Result<ProfileSet, CheckFault> {
+    set_with(alloc, first, second, Rules::new(alloc))
+}
+
+/// Makes a set of two profiles with these lines, over the root `hub` and a root of their own, and of the rules of a text.
+pub fn guarded_pair_of(
+    alloc: Global,
+    first: &str,
+    second: &str,
+    rules: &str,
+) -> Result<ProfileSet, Fail> {
+    let first = profile_with(alloc, "u", ["hub", "disk"], first)?;
+    let second = profile_with(alloc, "v", ["hub", "stick"], second)?;
+    let rules = read_rules(alloc, rules.as_bytes())?;
+    Ok(set_with(alloc, first, second, rules)?)
+}
+
+/// Makes a set of one profile with these lines, over the roots `hub` and `disk`, and of the rules of a text.
+pub fn guarded_one_of(alloc: Global, lines: &str, rules: &str) -> Result<ProfileSet, Fail> {
+    let mut profiles = Items::new(alloc);
+    profiles.push(profile_with(alloc, "u", ["hub", "disk"], lines)?)?;
+    let rules = read_rules(alloc, rules.as_bytes())?;
+    Ok(ProfileSet::new(alloc, profiles, rules)?)
 }
 
 /// Makes a set of two profiles with these lines over the roots `hub` and `disk`.
@@ -68,6 +99,10 @@ pub fn certificate_of(
 ) -> Result<Certificate, AllocError> {
     let stages = stages_of(alloc, texts)?;
     Ok(Certificate { goal, stages })
+}
+
+pub fn breach(profile: usize, rule: usize) -> Goal {
+    Goal::Breach { profile, rule }
 }
 
 /// Appends the certificates of a writer at all places, with these texts.

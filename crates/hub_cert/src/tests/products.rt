@@ -4,7 +4,7 @@ ghost use Rattle.hub_automaton.specs.Alphabet.{class_count};
 ghost use Rattle.hub_cert.specs.Goals.{is_goal};
 ghost use Rattle.hub_cert.specs.Product.{HasClass};
 
-use super::given::{clash, pair_of};
+use super::given::{breach, clash, guarded_one_of, pair_of};
 use crate::{CheckFault, Goal, GoalStage, Place, Product, ProfileSet};
 use hub_automaton::Alphabet;
 use std::alloc::{AllocError, Global};
@@ -63,6 +63,49 @@ fn products_go_through_texts(rt: HostRuntime) -> Result<(), Fail> {
     for (text, want) in WALKS {
         let answer = walk_in_archive(rt.alloc(), &set, text)?;
         assert_eq!(rt; answer, *want, "at {text:?}");
+    }
+    Ok(())
+}
+
+/// Two rules at the hub.
+const RULES: &str =
+    "root = /srv/hub\nnolose = Name a\nroot = /srv/hub/\nnochange = BelowPath b/c\n";
+
+/// Texts, and whether they accept the breach of the first rule and of the second one. The profile ignores `x`.
+const BREACHES: &[(&str, bool, bool)] = &[
+    ("", false, false),
+    ("a", true, false),
+    ("b/a", true, false),
+    ("b", false, false),
+    ("b/c", false, true),
+    ("b/c/d", false, true),
+    ("b/c/a", true, true),
+    ("b/ca", false, false),
+    ("x/a", false, false),
+    ("a/", false, false),
+    ("a//a", false, false),
+];
+
+fn walk_to_breach(
+    alloc: Global,
+    set: &ProfileSet,
+    rule: usize,
+    text: &str,
+) -> Result<(bool, bool), Fail> {
+    let goal = breach(0, rule);
+    if !set.has(goal) {
+        return Err(Fail::new("the goal is missing"));
+    }
+    Ok(walk(alloc, set, goal, text)?)
+}
+
+#[test]
+fn a_breach_is_that_of_its_own_rule(rt: HostRuntime) -> Result<(), Fail> {
+    let set = guarded_one_of(rt.alloc(), "ignore = Path x", RULES)?;
+    for (text, first, second) in BREACHES {
+        let (_, is_first) = walk_to_breach(rt.alloc(), &set, 0, text)?;
+        let (_, is_second) = walk_to_breach(rt.alloc(), &set, 1, text)?;
+        assert_eq!(rt; (is_first, is_second), (*first, *second), "at {text:?}");
     }
     Ok(())
 }

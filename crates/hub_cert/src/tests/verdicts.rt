@@ -1,5 +1,5 @@
 //! What `verify` answers of two profiles over the same roots.
-use super::given::{all_certificates, certificate_of, clash, pair_of};
+use super::given::{all_certificates, breach, certificate_of, clash, guarded_one_of, pair_of};
 use crate::{Certificate, Place, ProfileSet, verify};
 use std::alloc::{AllocError, Global};
 use std::slice::from_ref;
@@ -176,5 +176,59 @@ fn class_zero_accepts(rt: HostRuntime) -> Result<(), Fail> {
     let answer = verdict_of(rt.alloc(), lines, lines, &["", "a", "é", "\u{1f600}"])?;
     let want = "Accepting { goal: Clash { writer: 0, other: 1, place: Replica(Left) }, stage: 1 }";
     assert_eq!(rt; answer.as_str(), want);
+    Ok(())
+}
+
+/// A profile's path, and two rules at the hub: it keeps the first one, and breaks the second one unless it is protected.
+const GUARDED: (&str, &str) = (
+    "path = a",
+    "root = /srv/hub\nnolose = Path b\nnonew = Path a\n",
+);
+
+/// Returns what `verify` answers of that profile, with this line below its path.
+fn verdict_guarded(
+    alloc: Global,
+    line: &str,
+    certificates: &[Certificate],
+) -> Result<String, Fail> {
+    let (path, rules) = GUARDED;
+    let lines = format!(in alloc; "{path}\n{line}")?;
+    let set = guarded_one_of(alloc, lines.as_str(), rules)?;
+    Ok(verdict(alloc, &set, certificates)?)
+}
+
+#[test]
+fn a_breach_without_a_certificate_is_missing(rt: HostRuntime) -> Result<(), Fail> {
+    let rows = [
+        ("", "Missing { goal: Breach { profile: 0, rule: 0 } }"),
+        (
+            "nodeletion = /srv/hub",
+            "Missing { goal: Breach { profile: 0, rule: 1 } }",
+        ),
+        ("force = /srv/hub", "1 profiles verified"),
+    ];
+    for (line, want) in rows {
+        let answer = verdict_guarded(rt.alloc(), line, &[])?;
+        assert_eq!(rt; answer.as_str(), want, "{line:?}");
+    }
+    Ok(())
+}
+
+/// The same texts show that the first rule is kept, and that the second one isn't.
+#[test]
+fn a_breach_accepts(rt: HostRuntime) -> Result<(), Fail> {
+    let rows = [
+        ("nocreation = /srv/hub", 0, "1 profiles verified"),
+        (
+            "nodeletion = /srv/hub",
+            1,
+            "Accepting { goal: Breach { profile: 0, rule: 1 }, stage: 4 }",
+        ),
+    ];
+    for (line, rule, want) in rows {
+        let certificate = certificate_of(rt.alloc(), breach(0, rule), TEXTS)?;
+        let answer = verdict_guarded(rt.alloc(), line, from_ref(&certificate))?;
+        assert_eq!(rt; answer.as_str(), want, "{line:?}");
+    }
     Ok(())
 }

@@ -14,56 +14,77 @@ pub enum CheckFault {
     TooManyProfiles,
     /// Two profiles have this name.
     SameName {
+        /// The first name that an earlier profile has.
         name: Name,
     },
     /// One of these different roots lies within the other.
     NestedRoots {
+        /// The earlier root.
         first: Root,
+        /// The later root.
         second: Root,
     },
     /// The writer writes `held`, and the other profile reaches `path`, which is `held` or lies below it.
     Overlap {
+        /// The number of the profile that writes.
         writer: usize,
+        /// The number of the profile that reaches.
         other: usize,
+        /// Where both meet.
         place: Place,
+        /// The shortest prefix of `path` that the writer writes, or reaches if the place is an archive.
         held: RelPath,
+        /// The path that the other profile reaches.
         path: RelPath,
     },
     /// The profile may do at the path what the rule forbids.
     Breach {
+        /// The profile's number.
         profile: usize,
+        /// The rule's number.
         rule: usize,
+        /// The path.
         path: RelPath,
     },
     /// The goal has too many stages to be searched.
     TooLarge {
+        /// The goal.
         goal: Goal,
     },
     /// The goal has no certificate.
     Missing {
+        /// The goal.
         goal: Goal,
     },
     /// No text of the goal's certificate has the stage of the empty text.
     NoStart {
+        /// The goal.
         goal: Goal,
     },
     /// The stage of that number goes by that class to one that the goal's certificate doesn't have.
     NotClosed {
+        /// The goal.
         goal: Goal,
+        /// The stage's number.
         stage: usize,
+        /// The class's number.
         class: usize,
     },
     /// The text of that number in the goal's certificate accepts the goal.
     Accepting {
+        /// The goal.
         goal: Goal,
+        /// The text's number.
         stage: usize,
     },
     /// The certificate's goal isn't one of the set, or an earlier certificate has it.
     Stray {
+        /// The certificate's number.
         certificate: usize,
     },
     /// That line of a text of certificates is faulty.
     BadText {
+        /// The line's number.
         line: usize,
     },
     /// Too many characters are mentioned, or a profile or a rule has too many spots.

@@ -1,7 +1,7 @@
 -- Worked values of the reading of bundles.
 use Rattle.std.specs.Prelude.{⊤, ◌≡◌, ℕ, List, [], ◌∷◌, ◌++◌, Result, Ok, Err, codes, replicate, refl}
 use Rattle.std.specs.Str.{is_utf8, chars}
-use Rattle.hubsync.specs.declared.bundle.Heading.TheVariants.{Profile, Certificates}
+use Rattle.hubsync.specs.declared.bundle.Heading.TheVariants.{Profile, Rules, Certificates}
 use Rattle.hubsync.specs.declared.bundle.BundleFault.{BundleFault}
 use Rattle.hubsync.specs.declared.bundle.BundleFault.TheVariants as fault
 use Rattle.hubsync.specs.declared.bundle.BundleLineFault.{BundleLineFault}
@@ -62,30 +62,27 @@ a_nul_is_no_blank : bundle_reading (0 ∷ []) ≡ at 1 fault.NoSection
 a_nul_is_no_blank = refl
 
 -- the lowest faulty heading is told, after what stands above all sections
-an_unknown_heading : bundle_reading (codes "%profile a\nx\n%certificates \n%profile ..\n") ≡ at 3 fault.UnknownSection
+an_unknown_heading : bundle_reading (codes "%profile a\nx\n%rules \n%profile ..\n") ≡ at 3 fault.UnknownSection
 unfolding computed
 an_unknown_heading = refl
 
 later_kinds_are_unknown : bundle_reading (codes "%state\n") ≡ at 1 fault.UnknownSection
 later_kinds_are_unknown = refl
 
-rules_are_unknown : bundle_reading (codes "%rules\n") ≡ at 1 fault.UnknownSection
-rules_are_unknown = refl
-
--- the certificates may stand before the profiles, and a CR ends their heading too
-all_kinds : bundle_reading (codes "%certificates\r\nx\n%profile a\n")
-    ≡ Ok (record { heading = Certificates; bytes = codes "x\n" } ∷ profile (codes "a") [] ∷ [])
+-- the kinds without a name stand in any order, and a CR ends their heading too
+all_kinds : bundle_reading (codes "%certificates\nx\n%rules\r\n%profile a\n")
+    ≡ Ok (record { heading = Certificates; bytes = codes "x\n" } ∷ record { heading = Rules; bytes = [] } ∷ profile (codes "a") [] ∷ [])
 unfolding computed
 all_kinds = refl
 
-certificates_thrice : bundle_reading (codes "%certificates\n%certificates\n%certificates\n") ≡ at 2 fault.SectionTwice
-certificates_thrice = refl
+rules_twice : bundle_reading (codes "%rules\n%certificates\n%rules\n%rules \n") ≡ at 3 fault.SectionTwice
+rules_twice = refl
 
 certificates_twice : bundle_reading (codes "%certificates\n%certificates") ≡ at 2 fault.SectionTwice
 certificates_twice = refl
 
 -- a fault above comes first
-a_fault_above_a_second_section : bundle_reading (codes "%certificates\n%rule\n%certificates\n") ≡ at 2 fault.UnknownSection
+a_fault_above_a_second_section : bundle_reading (codes "%rules\n%rule\n%rules\n") ≡ at 2 fault.UnknownSection
 a_fault_above_a_second_section = refl
 
 no_space_behind_the_word : bundle_reading (codes "%profile\n") ≡ at 1 fault.UnknownSection

@@ -21,7 +21,7 @@ use Rattle.hubsync.specs.declared.input.InputFault.{InputFault}
 use Rattle.hubsync.specs.declared.input.InputFault.TheVariants as input
 use Rattle.hubsync.specs.declared.sections.Contents.{Contents}
 use Rattle.hubsync.specs.declared.sections.SectionFault.{SectionFault}
-use Rattle.hubsync.specs.declared.sections.SectionFault.TheVariants.{OfProfile, OfCertificates}
+use Rattle.hubsync.specs.declared.sections.SectionFault.TheVariants.{OfProfile, OfRules, OfCertificates}
 use Rattle.hubsync.specs.declared.report.Report.{Report}
 use Rattle.hubsync.specs.declared.report.Report.TheVariants.{Safe, Verified, Certified, Refused, Reached, NotReached, NoProfile, BadPath, Unread, BadBundle, BadSection, OutOfMemory}
 use Rattle.hubsync.specs.declared.words.Question.{Question}
@@ -34,13 +34,13 @@ use Rattle.hubsync.specs.Sections.{Spells, HasFault, members}
 use Rattle.hubsync.specs.Words.{Request}
 use Rattle.hubsync.specs.Words as question
 
--- The bytes are a bundle whose profiles are a safe set.
+-- The bytes are a bundle whose profiles and rules are a safe set.
 pub record SpellsSafe (bytes : List ℕ) : Type 0 where
   pub contents : Contents
   pub spelled : Spells bytes contents
   pub safe : IsSafeSet (members contents)
 
--- The bytes are a bundle whose profiles aren't.
+-- The bytes are a bundle whose profiles and rules aren't.
 pub record SpellsUnsafe (bytes : List ℕ) : Type 0 where
   pub contents : Contents
   pub spelled : Spells bytes contents
@@ -116,7 +116,7 @@ IsToldOfSet q S cs (BadBundle f) = ⊥
 IsToldOfSet q S cs (BadSection f) = ⊥
 IsToldOfSet q S cs OutOfMemory = ⊤
 
--- The profiles are no set, or the set is refused.
+-- The profiles and rules are no set, or the set is refused.
 abbrev pub IsRefusedFor : Question → Contents → CheckFault → Type 0
 IsRefusedFor q c e = IsRefused (members c) e ⊎ FaultOf q (members c) c.certificates e
 
@@ -200,11 +200,15 @@ bundle_place line = codes "bundle line " ++ decimal line
 abbrev pub profile_place : Name → ℕ → List ℕ
 profile_place name line = codes "profile " ++ (encode_utf8_all name ++ (codes " line " ++ decimal line))
 
+abbrev pub rules_place : ℕ → List ℕ
+rules_place line = codes "rules line " ++ decimal line
+
 abbrev pub certificates_place : ℕ → List ℕ
 certificates_place line = codes "certificates line " ++ decimal line
 
 abbrev pub section_place : SectionFault → List ℕ
 section_place (OfProfile name f) = profile_place name f.line
+section_place (OfRules f) = rules_place f.line
 section_place (OfCertificates line) = certificates_place line
 
 -- The line that says an answer, or the certificates' text.

@@ -3,6 +3,8 @@ use Rattle.std.specs.Prelude.{◌≡◌, ⊤, ℕ, List, [], ◌∷◌, ◌++◌
 use Rattle.hub_path.specs.Path.{Name}
 use Rattle.hub_profile.specs.Parts.{Parts}
 use Rattle.hub_profile.specs.Reading.{profile_in}
+use Rattle.hub_profile.specs.Rules.{rules_in}
+use Rattle.hub_profile.specs.declared.rule.Rule.{Rule}
 use Rattle.hub_profile.specs.declared.fault.ProfileFault.{ProfileFault}
 use Rattle.hub_cert.specs.Reading.{certificates_in}
 use Rattle.hub_cert.specs.Set.{Members}
@@ -10,25 +12,30 @@ use Rattle.hub_cert.specs.declared.certificate.Certificate.{Certificate}
 use Rattle.hub_cert.specs.declared.fault.CheckFault.{CheckFault}
 use Rattle.hub_cert.specs.declared.fault.CheckFault.TheVariants as check
 use Rattle.hubsync.specs.declared.bundle.Heading.{Heading}
-use Rattle.hubsync.specs.declared.bundle.Heading.TheVariants.{Profile, Certificates}
+use Rattle.hubsync.specs.declared.bundle.Heading.TheVariants.{Profile, Rules, Certificates}
 use Rattle.hubsync.specs.declared.sections.Contents.{Contents}
 use Rattle.hubsync.specs.declared.sections.SectionFault.{SectionFault}
-use Rattle.hubsync.specs.declared.sections.SectionFault.TheVariants.{OfProfile, OfCertificates}
+use Rattle.hubsync.specs.declared.sections.SectionFault.TheVariants.{OfProfile, OfRules, OfCertificates}
 use Rattle.hubsync.specs.declared.sections.ReadError.{ReadError}
 use Rattle.hubsync.specs.declared.sections.ReadError.TheVariants as memory
 use Rattle.hubsync.specs.Bundle.{SectionValue, bundle_reading}
 
 -- Before the first section.
 abbrev pub nothing : Contents
-nothing = record { profiles = []; certificates = [] }
+nothing = record { profiles = []; rules = []; certificates = [] }
 
 -- One more profile.
 abbrev pub and_profile : Contents → Parts → Contents
-and_profile c P = record { profiles = c.profiles ++ P ∷ []; certificates = c.certificates }
+and_profile c P = record { profiles = c.profiles ++ P ∷ []; rules = c.rules; certificates = c.certificates }
 
 abbrev pub with_profile : Contents → Name → Result Parts ProfileFault → Result Contents SectionFault
 with_profile c name (Ok P) = Ok (and_profile c P)
 with_profile c name (Err f) = Err (OfProfile name f)
+
+-- There is one section of rules at most, and one of certificates: each says all of them.
+abbrev pub with_rules : Contents → Result (List Rule) ProfileFault → Result Contents SectionFault
+with_rules c (Ok Rs) = Ok (record { profiles = c.profiles; rules = Rs; certificates = c.certificates })
+with_rules c (Err f) = Err (OfRules f)
 
 -- The line of a faulty text of certificates. No other fault comes of a text.
 abbrev pub faulty_line : CheckFault → ℕ
@@ -50,13 +57,13 @@ faulty_line check.OutOfMemory = 0
 abbrev pub certificates_fault : CheckFault → SectionFault
 certificates_fault e = OfCertificates (faulty_line e)
 
--- There is one section of certificates at most, which says all of them.
 abbrev pub with_certificates : Contents → Result (List Certificate) CheckFault → Result Contents SectionFault
-with_certificates c (Ok cs) = Ok (record { profiles = c.profiles; certificates = cs })
+with_certificates c (Ok cs) = Ok (record { profiles = c.profiles; rules = c.rules; certificates = cs })
 with_certificates c (Err e) = Err (certificates_fault e)
 
 abbrev pub under_heading : Contents → Heading → List ℕ → Result Contents SectionFault
 under_heading c (Profile name) bytes = with_profile c name (profile_in name bytes)
+under_heading c Rules bytes = with_rules c (rules_in bytes)
 under_heading c Certificates bytes = with_certificates c (certificates_in bytes)
 
 -- What is said so far, and then by one more section, or that one's first fault.
@@ -77,9 +84,9 @@ abbrev pub FailsAs : {T : Type 0} → Result T SectionFault → ReadError → Ty
 FailsAs reading memory.OutOfMemory = ⊤
 FailsAs reading (memory.Faulty f) = reading ≡ Err f
 
--- The set of the profiles. A bundle has no rules yet.
+-- The set of the profiles and the rules.
 abbrev pub members : Contents → Members
-members c = record { profiles = c.profiles; rules = [] }
+members c = record { profiles = c.profiles; rules = c.rules }
 
 -- The bytes are a bundle that says this.
 pub record Spells (bytes : List ℕ) (c : Contents) : Type 0 where

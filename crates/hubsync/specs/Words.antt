@@ -31,7 +31,7 @@ about_app =
 unfoldable pub hubsync_app : App
 hubsync_app = with_subcommand about_app reach_app.top
 
--- what is asked for: something about the set of the profiles, or whether a profile reaches a path
+-- what is asked for: something about the set of the profiles and rules, or whether a profile reaches a path
 pub data Request : Type 0 where
   about : Question → Request
   reach : Text → Text → Request

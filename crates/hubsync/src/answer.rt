@@ -67,3 +67,6 @@ fn bad_bundle<'a>(fault: BundleLineFault) -> Report<'a>
         _ => Report::BadBundle(fault),
     }
 }
+
+#[cfg(test)]
+mod tests;

@@ -16,6 +16,8 @@ use thiserror::Error;
 pub enum Heading {
     /// A profile, by its name.
     Profile(Name),
+    /// The rules.
+    Rules,
     /// The certificates.
     Certificates,
 }
@@ -109,8 +111,8 @@ impl<T: Drop> From<AllocFailed<T>> for BundleLineFault {
 
 /// Reads the sections of a bundle, in order, in time linear in its bytes.
 ///
-/// A line that begins with `%` is a heading: `%profile NAME`, with one space before the name, or `%certificates`; one CR at
-/// its end is dropped. Of several faults the one of the first faulty line is returned: `NoSection`,
+/// A line that begins with `%` is a heading: `%profile NAME`, with one space before the name, `%rules` or `%certificates`;
+/// one CR at its end is dropped. Of several faults the one of the first faulty line is returned: `NoSection`,
 /// `UnknownSection`, `BadName` or `SectionTwice`. (The format is this project's choice.)
 pub fn read_bundle<'a>(alloc: Global, bytes: &'a [u8]) -> Result<Vec<Section<'a>>, BundleLineFault>
     ensures ok { IfOk result (λ v. bundle_reading bytes.now ≡ Ok v.items) }
@@ -221,8 +223,15 @@ fn is_repeated(sections: &[Section<'_>], heading: &Heading) -> bool
 {
     match heading {
         Heading::Profile(_) => false,
+        Heading::Rules => has_rules(sections),
         Heading::Certificates => has_certificates(sections),
     }
+}
+
+fn has_rules(sections: &[Section<'_>]) -> bool
+    ensures { result ≡ list_any (λ s. bundle.is_rules s.heading) sections.now }
+{
+    sections.iter().any(|section| is_rules(section.heading()))
 }
 
 fn has_certificates(sections: &[Section<'_>]) -> bool
@@ -233,12 +242,21 @@ fn has_certificates(sections: &[Section<'_>]) -> bool
         .any(|section| is_certificates(section.heading()))
 }
 
+fn is_rules(heading: &Heading) -> bool
+    ensures { result ≡ bundle.is_rules heading.now }
+{
+    match heading {
+        Heading::Rules => true,
+        Heading::Profile(_) | Heading::Certificates => false,
+    }
+}
+
 fn is_certificates(heading: &Heading) -> bool
     ensures { result ≡ bundle.is_certificates heading.now }
 {
     match heading {
         Heading::Certificates => true,
-        Heading::Profile(_) => false,
+        Heading::Profile(_) | Heading::Rules => false,
     }
 }
 
@@ -264,6 +282,9 @@ fn read_heading(alloc: Global, line: usize, text: &[u8]) -> Result<Heading, Bund
 fn heading_once(text: &[u8]) -> Option<Heading>
     ensures { result ≡ bundle.heading_once text.now }
 {
+    if text == b"%rules".as_slice() {
+        return Some(Heading::Rules);
+    }
     if text == b"%certificates".as_slice() {
         return Some(Heading::Certificates);
     }

@@ -1,11 +1,11 @@
-//! The program: reads a bundle of profiles on standard input, and says on standard output whether they may run at the
-//! same time.
+//! The program: reads a bundle of profiles and rules on standard input, and says on standard output whether the profiles
+//! may run at the same time and keep the rules.
 //!
 //! - [`serve_process`] does all that the process does between its arguments and its exit status, over any reader and
 //!   writer; its contract uses the words of `specs/Report.antt`.
 //! - It reads the words of the command line (`words`) and the input (`input`), cuts the input into sections (`bundle`) and
 //!   reads them (`sections`).
-//! - Then it makes the set of the profiles, and checks it or verifies its certificates (`verdict`), or asks one
+//! - Then it makes the set of the profiles and rules, and checks it or verifies its certificates (`verdict`), or asks one
 //!   profile whether it reaches a path (`reach`).
 //! - The answer (`answer`, `report`, `refusal`) is written as one line, or as the certificates' text.
 //!

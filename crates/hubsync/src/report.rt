@@ -108,6 +108,7 @@ fn section_fault_line(alloc: Global, fault: &SectionFault) -> Result<String, All
 {
     match fault {
         SectionFault::OfProfile { profile, fault } => profile_fault_line(alloc, profile, fault),
+        SectionFault::OfRules(fault) => rules_fault_line(alloc, fault),
         SectionFault::OfCertificates { line } => certificates_fault_line(alloc, *line),
     }
 }
@@ -123,6 +124,16 @@ fn profile_fault_line(
 {
     let line = fault.line;
     let place = format!(in alloc; "profile {profile} line {line}")?;
+    let name = fault.fault.to_string(alloc)?;
+    fault_line(alloc, place.as_str(), name.as_str())
+}
+
+/// The line of a fault of the rules.
+fn rules_fault_line(alloc: Global, fault: &ProfileFault) -> Result<String, AllocError>
+    ensures { IfOk result (λ t. report.IsFaultLine (report.rules_place fault.now.line) (string_bytes t)) }
+{
+    let line = fault.line;
+    let place = format!(in alloc; "rules line {line}")?;
     let name = fault.fault.to_string(alloc)?;
     fault_line(alloc, place.as_str(), name.as_str())
 }

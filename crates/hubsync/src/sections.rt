@@ -1,13 +1,14 @@
 //! What a bundle's sections say.
 ghost use Rattle.std.specs.Prelude.{◌≡◌, ◌⊎◌, Ok, Err, IfOk, IfErr};
 ghost use Rattle.hub_profile.specs.Reading.{profile_in};
+ghost use Rattle.hub_profile.specs.Rules.{rules_in};
 ghost use Rattle.hub_cert.specs.Reading.{certificates_in};
 ghost use Rattle.hubsync.specs.Sections as said;
 
 use crate::bundle::{Heading, Section};
 use hub_cert::{Certificate, CheckFault, read_certificates};
 use hub_path::Name;
-use hub_profile::{Fault, Profile, ProfileFault, read_profile};
+use hub_profile::{Fault, Profile, ProfileFault, Rules, read_profile, read_rules};
 use hub_text::Items;
 use std::alloc::{AllocError, AllocFailed, Global};
 
@@ -16,6 +17,8 @@ use std::alloc::{AllocError, AllocFailed, Global};
 pub struct Contents {
     /// The profiles, in order.
     pub profiles: Items<Profile>,
+    /// The rules, or none if there is no such section.
+    pub rules: Rules,
     /// The certificates, or none if there is no such section.
     pub certificates: Items<Certificate>,
 }
@@ -30,6 +33,8 @@ pub enum SectionFault {
         /// Its fault.
         fault: ProfileFault,
     },
+    /// A fault of the rules.
+    OfRules(ProfileFault),
     /// A faulty line of the certificates.
     OfCertificates {
         /// The number of the line.
@@ -77,6 +82,7 @@ pub fn read_sections(alloc: Global, sections: &[Section<'_>]) -> Result<Contents
 {
     let mut contents = Contents {
         profiles: Items::new(alloc),
+        rules: Rules::new(alloc),
         certificates: Items::new(alloc),
     };
     for section in sections {
@@ -97,6 +103,7 @@ fn with_section(
     let bytes = section.bytes();
     match section.heading() {
         Heading::Profile(name) => with_profile(alloc, contents, name, bytes),
+        Heading::Rules => with_rules(alloc, contents, bytes),
         Heading::Certificates => with_certificates(alloc, contents, bytes),
     }
 }
@@ -124,6 +131,7 @@ fn and_profile(contents: Contents, profile: Profile) -> Result<Contents, AllocEr
 {
     let Contents {
         mut profiles,
+        rules,
         certificates,
     } = contents;
     if profiles.push(profile).is_err() {
@@ -131,6 +139,7 @@ fn and_profile(contents: Contents, profile: Profile) -> Result<Contents, AllocEr
     }
     Ok(Contents {
         profiles,
+        rules,
         certificates,
     })
 }
@@ -147,6 +156,38 @@ fn faulty_profile(profile: Name, fault: ProfileFault) -> ReadError
     }
 }
 
+/// Adds the rules.
+fn with_rules(alloc: Global, contents: Contents, bytes: &[u8]) -> Result<Contents, ReadError>
+    ensures ok { IfOk result (λ c. said.with_rules contents (rules_in bytes.now) ≡ Ok c) }
+    ensures err { IfErr result (said.FailsAs (said.with_rules contents (rules_in bytes.now))) }
+{
+    let Contents {
+        profiles,
+        rules: _,
+        certificates,
+    } = contents;
+    match read_rules(alloc, bytes) {
+        Ok(rules) => Ok(Contents {
+            profiles,
+            rules,
+            certificates,
+        }),
+        Err(fault) => Err(faulty_rules(fault)),
+    }
+}
+
+/// The error of rules with that fault.
+fn faulty_rules(fault: ProfileFault) -> ReadError
+    ensures memory { fault.fault ≡ Fault.OutOfMemory → result ≡ ReadError.OutOfMemory }
+    ensures fault { (result ≡ ReadError.OutOfMemory)
+        ⊎ (result ≡ ReadError.Faulty (SectionFault.OfRules fault)) }
+{
+    match fault.fault {
+        Fault::OutOfMemory => ReadError::OutOfMemory,
+        _ => ReadError::Faulty(SectionFault::OfRules(fault)),
+    }
+}
+
 /// Adds the certificates.
 fn with_certificates(alloc: Global, contents: Contents, bytes: &[u8]) -> Result<Contents, ReadError>
     ensures ok { IfOk result (λ c. said.with_certificates contents (certificates_in bytes.now) ≡ Ok c) }
@@ -155,11 +196,13 @@ fn with_certificates(alloc: Global, contents: Contents, bytes: &[u8]) -> Result<
 {
     let Contents {
         profiles,
+        rules,
         certificates: _,
     } = contents;
     match read_certificates(alloc, bytes) {
         Ok(certificates) => Ok(Contents {
             profiles,
+            rules,
             certificates,
         }),
         Err(fault) => Err(faulty_certificates(&fault)),

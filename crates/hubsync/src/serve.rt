@@ -44,7 +44,7 @@ pub fn serve_process<T: AllocGlobal + Eprint, R: Read, W: Write>(
 /// Does what the words on the command line ask for: reads all of the input, and writes one line, or certificates.
 ///
 /// The first word is the program's name. The status is
-/// - 0 if the profiles of the bundle are a safe set, and for both answers to `reach`;
+/// - 0 if the profiles and rules of the bundle are a safe set, and for both answers to `reach`;
 /// - 1 if they are refused;
 /// - 2 for a fault, if a write or the flush of the output failed, and if the words ask for nothing. In the last case the
 ///   input isn't read, and `clap`'s text goes to standard error: help, the version, or what is wrong with the words.

@@ -1,4 +1,4 @@
-//! Answers about the set of a bundle's profiles.
+//! Answers about the set of a bundle's profiles and rules.
 ghost use Rattle.std.specs.Prelude.{◌≡◌, ◌⊎◌, false, IfOk, IfErr};
 ghost use Rattle.hub_cert.specs.Set.{Members, IsSet};
 ghost use Rattle.hub_cert.specs.Refused.{IsRefused};
@@ -11,20 +11,20 @@ use crate::report::Report;
 use crate::sections::Contents;
 use crate::words::Question;
 use hub_cert::{Certificate, CheckFault, ProfileSet, verify, write_certificates};
-use hub_profile::Rules;
 use hub_search::{certificates, check};
 use std::alloc::Global;
 
-/// The answer to a question about the set. Profiles that are no set are refused, whatever the question is.
+/// The answer to a question about the set. Profiles and rules that are no set are refused, whatever the question is.
 pub fn report_on_set<'a>(alloc: Global, question: Question, contents: Contents) -> Report<'a>
     ensures told { report.IsTold (about question) contents result }
     ensures read { report.says_read_failed result ≡ false }
 {
     let Contents {
         profiles,
+        rules,
         certificates,
     } = contents;
-    match ProfileSet::new(alloc, profiles, Rules::new(alloc)) {
+    match ProfileSet::new(alloc, profiles, rules) {
         Ok(set) => report_on_made(alloc, question, &set, certificates.as_slice()),
         Err(fault) => refusal_without_set(alloc, &fault),
     }

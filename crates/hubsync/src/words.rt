@@ -32,17 +32,23 @@ The input is a bundle of profiles, each after a line with its name:
   root = /srv/laptop
   path = photos
 
-For 'verify', a line '%certificates' and the text that 'certify' wrote follow the profiles.
+A section '%rules' may say what no profile may do at a root:
 
-The output is one line: 'safe', 'verified', 'overlap: ..', 'too large: ..', 'refused: ..', 'reached', 'not reached' or
-'fault: ..'. 'certify' writes the text of the certificates in the place of 'safe'.
+  %rules
+  root = /srv/hub
+  nolose = BelowPath docs/archive
+
+For 'verify', a line '%certificates' and the text that 'certify' wrote are part of the bundle too.
+
+The output is one line: 'safe', 'verified', 'overlap: ..', 'breach: ..', 'too large: ..', 'refused: ..', 'reached',
+'not reached' or 'fault: ..'. 'certify' writes the text of the certificates in the place of 'safe'.
 
 Exit status:
   0  safe, verified, certificates, reached or not reached
-  1  the profiles may not run at the same time, or that they may was not shown
+  1  the profiles may not run at the same time, or may break a rule, or that they are safe was not shown
   2  a fault of the input or of the command line, or a failed output; help and version too";
 
-/// What the words may ask about the set of a bundle's profiles.
+/// What the words may ask about the set of a bundle's profiles and rules.
 #[derive(Clone, Copy, Debug, PartialEq, Eq)]
 pub enum Question {
     /// Whether the set is safe.
@@ -56,7 +62,7 @@ pub enum Question {
 /// What the words on the command line ask for.
 #[derive(Clone, Copy, Debug, PartialEq, Eq)]
 pub enum Asked<'a> {
-    /// Something about the set of the profiles.
+    /// Something about the set of the profiles and rules.
     About(Question),
     /// Whether a profile reaches a path.
     Reach {

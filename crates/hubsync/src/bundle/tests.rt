@@ -11,6 +11,7 @@ fn shown(alloc: Global, input: &[u8]) -> Result<String, AllocError> {
     for section in sections.iter() {
         match section.heading() {
             Heading::Profile(name) => write!(text, "<{name}|")?,
+            Heading::Rules => text.push_str("<%rules|")?,
             Heading::Certificates => text.push_str("<%certificates|")?,
         }
         let bytes = str::from_utf8(section.bytes()).unwrap_or("?");
@@ -39,16 +40,13 @@ fn bundles_are_cut_at_their_headings(rt: HostRuntime) -> Result<(), Fail> {
         (b"\xef\xbb\xbf%profile a\n", "line 1: NoSection"),
         (b"%", "line 1: UnknownSection"),
         (b"%profile\n", "line 1: UnknownSection"),
-        (b"\n%rules\n", "line 2: UnknownSection"),
+        (b"\n%rules\n", "<%rules|>"),
         (
-            b"%certificates\r\nx\n%profile a\n",
-            "<%certificates|x\n><a|>",
+            b"%certificates\r\nx\n%rules\n",
+            "<%certificates|x\n><%rules|>",
         ),
-        (b"%certificates \n", "line 1: UnknownSection"),
-        (
-            b"%certificates\n%profile a\n%certificates\n%",
-            "line 3: SectionTwice",
-        ),
+        (b"%rules \n", "line 1: UnknownSection"),
+        (b"%rules\n%profile a\n%rules\n%", "line 3: SectionTwice"),
         (b"%certificates\n\n%certificates", "line 3: SectionTwice"),
         (b"%profile a\n%state\n", "line 2: UnknownSection"),
         (b"%profile a\nx\n%certificates", "<a|x\n><%certificates|>"),

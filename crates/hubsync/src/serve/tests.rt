@@ -376,7 +376,7 @@ static SECTIONS: [(&str, &str, &str); 8] = [
         "2 fault: certificates line 1: BadText\n",
     ),
     (
-        "%certificates\nx\n%rules\n%certificates\n",
+        "%certificates\nx\n%state\n%certificates\n",
         "check",
         "2 fault: bundle line 11: UnknownSection\n",
     ),
@@ -401,6 +401,7 @@ fn sections_are_read_in_order(rt: HostRuntime) -> Result<(), Fail> {
 #[test]
 fn certificates_are_given_back(rt: HostRuntime) -> Result<(), Fail> {
     let mut text = bundle(rt.alloc(), &[("a", "path = a"), ("b", "path = b")])?;
+    text.push_str("%rules\nroot = /srv/hub\nnolose = Path c\n")?;
     let answer = answered_to(&rt, &["hubsync", "certify"], text.as_str())?;
     text.push_str("%certificates\n")?;
     text.push_str(answer.as_str().strip_prefix("0 ").unwrap_or("?"))?;

@@ -9,6 +9,10 @@
 # - `overlap`: the same, but the last two profiles overlap, in their last lines;
 # - `star`: 32 profiles over one hub, each with 3 `path` lines and 5 patterns: 992 goals, 351,000 stages together;
 # - `large`: two profiles with two goals of 19,531 stages and 40 classes each, near the limit of 20,000 stages;
+# - `rules`: 32 profiles over one hub, each with a path, a pattern and a bar, and 64 rules of the hub: 3,040 goals, 2,048 of them
+#   of rules;
+# - `shown`: a profile without `path` lines and a rule of 16 pieces, which it may break: 16,000 stages before the path is found;
+# - `many`: the same with a rule of 18 pieces, which has more than 20,000 stages;
 # - `limit`: 8 profiles of 32 `path` lines, each of 64 names: as many positions as a profile may have;
 # - `deep`: 32 profiles of 64 such `path` lines, which are too many.
 #
@@ -58,6 +62,29 @@ LINES
     done
 }
 
+# 32 profiles of a path, a pattern and a bar, and 64 rules for folders that nobody reaches.
+rules() {
+    local number
+    for number in $(seq -w 1 "$profiles"); do
+        profile "$number"
+        cat <<LINES
+path = team$number
+ignore = Name *.tmp
+nocreation = /srv/hub
+LINES
+    done
+    printf '%%rules\nroot = /srv/hub\n'
+    printf 'nolose = BelowPath archive/folder%s\n' $(seq -w 1 32)
+    printf 'nochange = BelowPath archive/folder%s\n' $(seq -w 1 32)
+}
+
+# A profile of the whole replica, and a rule whose pattern remembers for each of so many last characters of a name whether it
+# was an `a`.
+remembered() {
+    profile 1
+    printf '%%rules\nroot = /srv/hub\nnolose = Name *a%s\n' "$(printf '?%.0s' $(seq "$1"))"
+}
+
 # Two profiles. The first pattern remembers for each of the last 11 characters of a name whether it was an `a`.
 large() {
     profile 1
@@ -102,6 +129,9 @@ paths >"$folder/paths.bundle"
 paths shared/team31/project64/notes >"$folder/overlap.bundle"
 star >"$folder/star.bundle"
 large >"$folder/large.bundle"
+rules >"$folder/rules.bundle"
+remembered 14 >"$folder/shown.bundle"
+remembered 16 >"$folder/many.bundle"
 deep 8 32 >"$folder/limit.bundle"
 deep 32 64 >"$folder/deep.bundle"
 
@@ -109,6 +139,9 @@ echo "$repetitions repetitions"
 print_columns
 measure deep 1 'refused: TooManySpots' check
 measure overlap 1 'overlap: team31 writes shared/team31/project64 at /srv/hub, team32 reaches shared/team31/project64/notes' check
+measure shown 1 'breach: team1 may delete abbbbbbbbbbbbbb at /srv/hub, rule 0' check
+measure many 1 'too large: goal 0 has more than 20000 stages' check
+measure_safe rules
 measure_safe paths
 measure_safe star
 measure_safe large

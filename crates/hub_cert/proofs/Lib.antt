@@ -1,3 +1,5 @@
+pub mod Keys
+pub mod KeySteps
 pub mod Exact
 pub mod Alike
 pub mod Covers

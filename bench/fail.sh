@@ -1,0 +1,145 @@
+#!/usr/bin/env bash
+# Runs `bench_state` on a small state text with each of its requests for memory refused in turn, then with each of its reads and
+# each of its writes failing. The answer should be `OutOfMemory`, `ReadFailed` or `WriteFailed`, and what was written before is a
+# prefix of the right text. Then it runs the test of hub_tree that out of memory changes nothing in the same way.
+#
+#     bench/fail.sh
+#
+# Both must have been built: by `rt run` in crates/bench_state and by `rt test` in crates/hub_tree. A C compiler is needed, since
+# a few lines of C take the place of the C library's `malloc`, `realloc`, `read` and `write`. For each kind of call a line gives the
+# number of runs, how many ended with the fault, and how many with the right text. The status is 1 if an answer is wrong.
+set -euo pipefail
+top=$(dirname "$(dirname "$(readlink -f "${BASH_SOURCE[0]}")")")
+program=$top/crates/bench_state/out/bench_state
+tests=$top/crates/hub_tree/out/hub_tree_tests
+for built in "$program" "$tests"; do
+    if [ ! -x "$built" ]; then
+        echo "bench/fail.sh: no program at $built" >&2
+        exit 2
+    fi
+done
+folder=$(mktemp -d)
+trap 'rm -rf "$folder"' EXIT
+
+# Has the call fail whose number is in FAIL_ALLOC, FAIL_READ or FAIL_WRITE, and says so on file 9.
+cat >"$folder/failing.c" <<'C'
+#define _GNU_SOURCE
+#include <dlfcn.h>
+#include <errno.h>
+#include <stdlib.h>
+#include <unistd.h>
+
+static int fails(const char *name, long *calls) {
+    const char *number = getenv(name);
+    *calls += 1;
+    return number != NULL && atol(number) == *calls;
+}
+
+static void say(void) {
+    ssize_t (*next)(int, const void *, size_t) = dlsym(RTLD_NEXT, "write");
+    next(9, "failed\n", 7);
+}
+
+static long allocs, reads, writes;
+
+void *malloc(size_t size) {
+    void *(*next)(size_t) = dlsym(RTLD_NEXT, "malloc");
+    if (fails("FAIL_ALLOC", &allocs)) {
+        say();
+        return NULL;
+    }
+    return next(size);
+}
+
+void *realloc(void *block, size_t size) {
+    void *(*next)(void *, size_t) = dlsym(RTLD_NEXT, "realloc");
+    if (fails("FAIL_ALLOC", &allocs)) {
+        say();
+        return NULL;
+    }
+    return next(block, size);
+}
+
+ssize_t read(int file, void *bytes, size_t count) {
+    ssize_t (*next)(int, void *, size_t) = dlsym(RTLD_NEXT, "read");
+    if (file == 0 && fails("FAIL_READ", &reads)) {
+        say();
+        errno = EIO;
+        return -1;
+    }
+    return next(file, bytes, count);
+}
+
+ssize_t write(int file, const void *bytes, size_t count) {
+    ssize_t (*next)(int, const void *, size_t) = dlsym(RTLD_NEXT, "write");
+    if (file == 1 && fails("FAIL_WRITE", &writes)) {
+        say();
+        errno = EIO;
+        return -1;
+    }
+    return next(file, bytes, count);
+}
+C
+cc -O1 -shared -fPIC -o "$folder/failing.so" "$folder/failing.c" -ldl
+
+# Runs a program with the N-th call failing, whose kind is the first word. Sets `status`, and `met` if there was such a call.
+run() {
+    local kind=$1 number=$2
+    shift 2
+    status=0
+    env "$kind=$number" LD_PRELOAD="$folder/failing.so" "$@" <"$folder/text" >"$folder/answer" 2>"$folder/errors" 9>"$folder/met" || status=$?
+    met=no
+    [ ! -s "$folder/met" ] || met=yes
+}
+
+# Whether what was written is a prefix of the text.
+is_prefix() {
+    cmp -s -n "$(wc -c <"$folder/answer")" "$folder/answer" "$folder/text"
+}
+
+# Runs the program with each call of a kind failing. The second word is the fault that is wanted.
+fail_each() {
+    local kind=$1 fault=$2 number=1 faults=0 unharmed=0
+    run "$kind" "$number" "$program"
+    while [ "$met" = yes ]; do
+        if [ "$status" = 0 ] && cmp -s "$folder/answer" "$folder/text"; then
+            unharmed=$((unharmed + 1))
+        elif [ "$status" = 1 ] && grep -q "$fault" "$folder/errors" && is_prefix; then
+            faults=$((faults + 1))
+        else
+            echo "bench/fail.sh: $kind $number: status $status, $(head -c 200 "$folder/errors")" >&2
+            exit 1
+        fi
+        number=$((number + 1))
+        run "$kind" "$number" "$program"
+    done
+    echo "$kind: $((number - 1)) runs, $faults with $fault, $unharmed with the right text"
+}
+
+# Runs a test with each request for memory refused. It should pass each time.
+fail_each_in_test() {
+    local number=1
+    run FAIL_ALLOC "$number" "$tests" "$1"
+    while [ "$met" = yes ]; do
+        if [ "$status" != 0 ]; then
+            echo "bench/fail.sh: $1: FAIL_ALLOC $number: status $status, $(head -c 200 "$folder/errors")" >&2
+            exit 1
+        fi
+        number=$((number + 1))
+        run FAIL_ALLOC "$number" "$tests" "$1"
+    done
+    echo "$1: $((number - 1)) runs, all passed"
+}
+
+{
+    printf 'hubsync state 1\nreplica /srv/hub\ndir a\nfile - a/b\nfile 6869 a/c\ndir a/d\ndir a/d/e\n'
+    seq -f 'file 6869 a/d/e/%02.0f' 40
+    printf 'file %0100000d a/z\n' 0
+    seq -f 'replica /srv/spoke%02.0f' 20
+    printf 'archive /srv/hub\nwith /srv/spoke01\ndir a\nfile %064d a/b\nend\n' 1
+} >"$folder/text"
+
+fail_each FAIL_ALLOC OutOfMemory
+fail_each FAIL_READ ReadFailed
+fail_each FAIL_WRITE WriteFailed
+fail_each_in_test tests::out_of_memory_changes_nothing

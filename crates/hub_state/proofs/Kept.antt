@@ -30,7 +30,7 @@ abbrev pub first_of : {X : Type 0} → Option X → Option X → Option X
 first_of None b = b
 first_of (Some x) b = Some x
 
-first_of-None : {X : Type 0} (a : Option X) → first_of a None ≡ a
+pub first_of-None : {X : Type 0} (a : Option X) → first_of a None ≡ a
 first_of-None None = refl
 first_of-None (Some x) = refl
 
@@ -45,7 +45,7 @@ not_both (Some x) f = absurd (f refl)
 
 module _ {K X : Type 0} {R : K → K → Ordering} (o : IsTotalOrder R) where
   -- What ties with a key below all of them, or is below such a key, isn't found.
-  find-tied_below : (q k : K) (es : List (K × X)) → eq_by_cmp R q k ≡ true → T (below_all R k es) → find R q es ≡ None
+  pub find-tied_below : (q k : K) (es : List (K × X)) → eq_by_cmp R q k ≡ true → T (below_all R k es) → find R q es ≡ None
   find-tied_below q k [] t h = refl
   find-tied_below q k (e ∷ es) t h =
       ap (λ r. cond (is_eq r) (Some e.1) (find R q es)) (o.congr q k e.0 (equal (R q k) t) ∙ T-less _ (T-first _ _ h))

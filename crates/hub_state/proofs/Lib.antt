@@ -1,6 +1,14 @@
+pub mod ByRoot
+pub mod Drafts
 pub mod Fields
+pub mod Inputs
 pub mod Kept
 pub mod Lines
+pub mod Maps
+pub mod Passing
+pub mod Quiet
 pub mod Sections
+pub mod States
+pub mod Taken
 pub mod Whole
 pub mod Written

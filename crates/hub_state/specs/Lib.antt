@@ -1,5 +1,9 @@
+pub mod Coded
+pub mod Devices
 pub mod Examples
 pub mod Laws
 pub mod Reading
 pub mod State
+pub mod Taking
+pub mod View
 pub mod Writing

@@ -1,10 +1,10 @@
 -- States: replicas by root and archives by unordered pair of roots, in the order of the roots' texts.
-use Rattle.std.specs.Prelude.{◌≡◌, ℕ, Bool, true, false, List, [], ◌∷◌, Option, Some, IsTrue, if◌then◌else◌}
+use Rattle.std.specs.Prelude.{◌≡◌, ℕ, Bool, true, false, ◌&&◌, ◌||◌, List, [], ◌∷◌, Option, Some, IsTrue, if◌then◌else◌}
 use Rattle.std.specs.FinMap as fin
 use Rattle.std.specs.Str.{encode_utf8_all}
 use Rattle.std.specs.declared.cmp.Ordering.{Ordering}
 use Rattle.std.specs.declared.cmp.Ordering.TheVariants.{Less, Equal, Greater}
-use Rattle.hub_path.specs.Path.{Path, name_cmp, path_cmp, text_of, is_place}
+use Rattle.hub_path.specs.Path.{Path, name_cmp, path_cmp, path_eq, text_of, is_place}
 use Rattle.hub_tree.specs.Tree.{Replica, Archive, IsTree, IsArchive, HasPaths, HasBytes, HasDigests}
 
 -- The characters of a root's text.
@@ -23,11 +23,17 @@ is_before Less = true
 is_before Equal = false
 is_before Greater = false
 
+-- Two texts, the smaller one first.
+abbrev pub in_order : Text → Text → List Text
+in_order t u = if is_before (name_cmp t u) then t ∷ u ∷ [] else u ∷ t ∷ []
+
 -- The pair of two roots in either order: their texts, the smaller one first.
 abbrev pub pair_of : Path → Path → List Text
-pair_of r s =
-    if is_before (name_cmp (root_text r) (root_text s)) then root_text r ∷ root_text s ∷ []
-    else root_text s ∷ root_text r ∷ []
+pair_of r s = in_order (root_text r) (root_text s)
+
+-- Whether p and q are the roots r and s, in either order.
+abbrev pub is_pair : Path → Path → Path → Path → Bool
+is_pair r s p q = (path_eq p r && path_eq q s) || (path_eq p s && path_eq q r)
 
 -- Replicas and archives under the texts of their roots: so both stand in the order of the texts.
 pub record State : Type 0 where

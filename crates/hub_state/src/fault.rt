@@ -1,3 +1,4 @@
+use std::alloc::AllocError;
 use thiserror::Error;
 
 /// What is wrong with a state text, or why it can't be read or written.
@@ -49,4 +50,15 @@ pub struct StateFault {
     pub line: usize,
     /// What is wrong.
     pub fault: Fault,
+}
+
+impl From<AllocError> for Fault {
+    ghost use Rattle.hub_state.specs.declared.fault.Fault.TheVariants.{OutOfMemory};
+    ghost use Rattle.std.specs.Prelude.{◌≡◌};
+
+    ghost from_gives = { λ _ e. e ≡ OutOfMemory };
+
+    fn from(_: AllocError) -> Self {
+        Fault::OutOfMemory
+    }
 }

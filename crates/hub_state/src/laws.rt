@@ -1,11 +1,36 @@
 //! Laws of states and their text: each is the contract of a function that does nothing.
-ghost use Rattle.std.specs.Prelude.{◌≡◌, Ok};
+ghost use Rattle.std.specs.Prelude.{◌≡◌, Ok, Some, IsTrue, if◌then◌else◌};
+ghost use Rattle.hub_path.specs.Path.{Path, is_place, path_eq};
+ghost use Rattle.hub_tree.specs.Tree.{Replica, Archive};
 ghost use Rattle.hub_state.specs.Laws.{IsReadable};
 ghost use Rattle.hub_state.specs.Reading.{state_reading};
-ghost use Rattle.hub_state.specs.State.{State, IsState};
+ghost use Rattle.hub_state.specs.State.{State, IsState, is_pair, replica_at, archive_at, with_replica, with_archive};
 ghost use Rattle.hub_state.specs.Writing.{state_text};
 
 /// The text of a state within the limits reads as the same state.
 pub fn what_is_written_reads_back()
     ensures { (S : State) → IsState S → IsReadable S → state_reading (state_text S) ≡ Ok S }
+{}
+
+/// A replica that is put at a root is there. The replicas of other roots stay.
+pub fn replicas_are_by_root()
+    ensures { (S : State) (r q : Path) (m : Replica) → IsTrue (is_place r) → IsTrue (is_place q)
+        → replica_at (with_replica S r m) q ≡ (if path_eq q r then Some m else replica_at S q) }
+{}
+
+/// An archive that is put at two roots is there, in either order of the roots. The archives of other pairs stay.
+pub fn archives_are_by_unordered_pair()
+    ensures turned { (S : State) (r s : Path) → archive_at S r s ≡ archive_at S s r }
+    ensures put { (S : State) (r s p q : Path) (a : Archive) → IsTrue (is_place r)
+        → IsTrue (is_place s) → IsTrue (is_place p) → IsTrue (is_place q)
+        → archive_at (with_archive S r s a) p q
+        ≡ (if is_pair r s p q then Some a else archive_at S p q) }
+{}
+
+/// States with the same replica at each root and the same archive at each pair of roots are equal.
+pub fn states_are_their_replicas_and_archives()
+    ensures { (S T : State) → IsState S → IsState T
+        → ((r : Path) → IsTrue (is_place r) → replica_at S r ≡ replica_at T r)
+        → ((r s : Path) → IsTrue (is_place r) → IsTrue (is_place s)
+        → archive_at S r s ≡ archive_at T r s) → S ≡ T }
 {}

@@ -1,15 +1,38 @@
 //! States: the replicas of roots and the archives of pairs of roots, and their text.
 //!
-//! So far this crate has the definitions of a state and of its text, in `specs/`, and the law that what is written reads
-//! back. The type of states, its reader and its writer are to come.
+//! - [`State`] has a replica for each of some roots, and an archive for each of some unordered pairs of roots.
+//! - [`read_state`] reads a state from an input, and [`read_bytes`] from bytes. Each returns the state or the first
+//!   [`StateFault`] of the text.
+//! - [`write_state`] writes the text of a state. What is written of a state within the limits reads back as the same
+//!   state.
+//!
+//! Contracts see a state as two finite maps, in the words of `specs/State`. `specs/Reading` says which bytes are a state
+//! text, what they say, and which fault comes first. `specs/Writing` says what the text of a state is.
+//!
+//! A text is read as a fold over its lines. What the lines above say is a draft: the sections that have ended, in a state;
+//! the section that hasn't, beside it; and how many entries there were. So an entry is put where it belongs without a
+//! look-up of its section. `specs/Taking` says what a line adds to a draft, and `proofs/Drafts` that it adds the same to
+//! the lists of entries of `specs/Reading`.
+//!
+//! Only functions that return a `Result` allocate.
 #![tactic(auto)]
 
+mod draft;
 mod fault;
 mod form;
 pub mod laws;
+mod line;
+mod reader;
+mod state;
+#[cfg(test)]
+mod tests;
+mod writer;
 
 pub use fault::{Fault, StateFault};
 pub use form::{Form, Section};
+pub use reader::{READ_TURNS, read_bytes, read_state};
+pub use state::State;
+pub use writer::write_state;
 
 /// How many entries a state text may have, those of replicas and of archives together.
 pub const ENTRIES: usize = 100_000;

@@ -1,0 +1,5 @@
+use Rattle.hub_state.proofs.ByRoot.{replica_put}
+use Rattle.hub_state.proofs.laws.replicas_are_by_root.Goals as goal
+
+pub returns : goal.returns
+returns c = replica_put

@@ -1,0 +1,28 @@
+-- What is passed on to a writer, and faults of devices.
+use Rattle.std.specs.Prelude.{◌≡◌, ℕ, Bool, true, false, List, ◌++◌, Option, Result, Ok, Err}
+use Rattle.std.specs.Io.KnownBytes.{Appends}
+use Rattle.hub_state.specs.declared.fault.Fault.{Fault}
+use Rattle.hub_state.specs.declared.fault.Fault.TheVariants.{ReadFailed, WriteFailed}
+use Rattle.hub_state.specs.declared.fault.StateFault.{StateFault}
+
+-- These bytes come after what the writer holds and the buffer before. The writer then holds some of them, and the buffer
+-- has the others.
+abbrev pub Passes : Option (List ℕ) → Option (List ℕ) → List ℕ → List ℕ → List ℕ → Type 0
+Passes old new before after bytes = (passed : List ℕ) × Appends old new passed × (passed ++ after ≡ before ++ bytes)
+
+abbrev pub is_write_failed : Fault → Bool
+is_write_failed WriteFailed = true
+is_write_failed _ = false
+
+abbrev pub is_read_failed : Fault → Bool
+is_read_failed ReadFailed = true
+is_read_failed _ = false
+
+-- Whether the fault is one of these.
+abbrev pub says : {T : Type 0} → (Fault → Bool) → Result T Fault → Bool
+says f (Ok x) = false
+says f (Err e) = f e
+
+abbrev pub reports : {T : Type 0} → (Fault → Bool) → Result T StateFault → Bool
+reports f (Ok x) = false
+reports f (Err e) = f e.fault

@@ -1,0 +1,34 @@
+-- The maps from texts that hold a state.
+use Rattle.std.specs.Prelude.{List, [], ◌∷◌, ◌++◌, map, String, string_bytes}
+use Rattle.std.specs.FinMap as fin
+use Rattle.std.specs.BTreeMap.{BTreeMap}
+use Rattle.hub_path.specs.Path.{name_cmp, path_cmp}
+use Rattle.hub_tree.specs.Tree.{Replica, Archive}
+use Rattle.hub_state.specs.State.{State, Text}
+
+-- Entries by the bytes of their keys, with what f has of their values.
+abbrev pub keyed : {Z X Y : Type 0} → (X → Y) → List (String Z × X) → List (Text × Y)
+keyed f es = map (λ e. (string_bytes e.0, f e.1)) es
+
+abbrev pub by_text : {Z X : Type 0} → List (String Z × X) → List (Text × X)
+by_text es = keyed (λ x. x) es
+
+abbrev pub by_two : {Z X : Type 0} → List (String Z × BTreeMap (String Z) X) → List (Text × List (Text × X))
+by_two es = keyed (λ m. by_text m.entries) es
+
+-- The entries below one text, and those below each text in order, by two texts.
+abbrev pub below : {X : Type 0} → Text → List (Text × X) → List (List Text × X)
+below t es = map (λ e. (t ∷ e.0 ∷ [], e.1)) es
+
+abbrev pub pairs : {X : Type 0} → List (Text × List (Text × X)) → List (List Text × X)
+pairs [] = []
+pairs (e ∷ es) = below e.0 e.1 ++ pairs es
+
+abbrev pub map_in : {Z X : Type 0} → List (String Z × X) → fin.FinMap name_cmp X
+map_in es = fin.from_entries (by_text es)
+
+abbrev pub pairs_in : {Z X : Type 0} → List (String Z × BTreeMap (String Z) X) → fin.FinMap path_cmp X
+pairs_in es = fin.from_entries (pairs (by_two es))
+
+abbrev pub state_in : {Z : Type 0} → List (String Z × Replica) → List (String Z × BTreeMap (String Z) Archive) → State
+state_in rs ks = record { replicas = map_in rs; archives = pairs_in ks }

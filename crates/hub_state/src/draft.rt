@@ -1,0 +1,345 @@
+ghost use Rattle.std.specs.Prelude.{◌≡◌, ◌⊎◌, ◌<◌, false, Some, Ok, Err, IfErr, IsTrue, OnOk};
+ghost use Rattle.hub_path.specs.Path.{is_path};
+ghost use Rattle.hub_tree.specs.Tree.{is_absent, kept};
+ghost use Rattle.hub_state.specs.Reading.{and_then, may_stand, path_field, root_field};
+ghost use Rattle.hub_state.specs.State as spec;
+ghost use Rattle.hub_state.specs.Taking as taking;
+ghost use Rattle.hub_state.specs.Taking.{IsApart};
+
+use crate::fault::Fault;
+use crate::form::Form;
+use crate::line::{bytes_in, digest_in, fields_of, form_of, path_in, root_in};
+use crate::state::State;
+use crate::{ENTRIES, FILE_BYTES};
+use hub_path::{RelPath, Root};
+use hub_tree::{Archive, Blob, Contents, Mark, SetFault, Tree};
+use std::alloc::{AllocError, Global};
+use std::mem::replace;
+use std::str::from_utf8;
+
+/// The section that the entries below belong to. It isn't in the draft's state yet.
+#[derive(Drop)]
+pub enum Open {
+    /// No section has begun.
+    Nothing,
+    /// The replica of a root.
+    Replica(Root, Tree),
+    /// An archive of this root; its other root follows.
+    HalfArchive(Root),
+    /// The archive of two roots.
+    Archive(Root, Root, Archive),
+}
+
+/// What the lines above say.
+#[derive(Drop)]
+pub struct Draft {
+    /// The sections that have ended.
+    pub state: State,
+    /// The section that hasn't.
+    pub current: Open,
+    /// How many entries there were.
+    pub entries: usize,
+    /// Whether there was an `end`.
+    pub ended: bool,
+}
+
+impl Draft {
+    /// The draft before the first line.
+    pub fn new(alloc: Global) -> Draft
+        ensures { result ≡ taking.nothing_taken spec.nothing }
+    {
+        Draft {
+            state: State::new(alloc),
+            current: Open::Nothing,
+            entries: 0,
+            ended: false,
+        }
+    }
+
+    /// Takes a line below the header. After a fault nothing is known of the draft.
+    pub fn take(&mut self, alloc: Global, line: &[u8]) -> Result<(), Fault>
+        requires { IsApart self.old.current }
+        ensures ok { OnOk result (taking.line_taken self.old line.now ≡ Ok self.new) }
+        ensures err { IfErr result
+            (λ f. (f ≡ Fault.OutOfMemory) ⊎ (taking.line_taken self.old line.now ≡ Err f)) }
+        ensures apart { OnOk result (IsApart self.new.current) }
+    {
+        let Ok(line) = from_utf8(line) else {
+            return Err(Fault::BadLine);
+        };
+        let Some((form, rest)) = form_of(line) else {
+            return Err(Fault::BadLine);
+        };
+        if self.ended {
+            return Err(Fault::BadLine);
+        }
+        if !self.current.allows(form) {
+            return Err(Fault::BadLine);
+        }
+        self.take_form(alloc, form, rest)
+    }
+
+    /// Takes what follows the word of a line.
+    fn take_form(&mut self, alloc: Global, form: Form, rest: &str) -> Result<(), Fault>
+        requires { IsApart self.old.current }
+        ensures ok { OnOk result (taking.form_taken self.old form rest.now ≡ Ok self.new) }
+        ensures err { IfErr result
+            (λ f. (f ≡ Fault.OutOfMemory) ⊎ (taking.form_taken self.old form rest.now ≡ Err f)) }
+        ensures apart { OnOk result (IsApart self.new.current) }
+    {
+        match form {
+            Form::Replica => self.begin_replica(alloc, rest),
+            Form::Archive => self.begin_archive(alloc, rest),
+            Form::With => self.begin_pair(alloc, rest),
+            Form::Dir => self.take_dir(alloc, rest),
+            Form::File => self.take_file(alloc, rest),
+            Form::End => {
+                self.ended = true;
+                Ok(())
+            }
+        }
+    }
+
+    /// Puts the section that is open into the state.
+    pub fn close(&mut self) -> Result<(), AllocError>
+        requires { IsApart self.old.current }
+        ensures { OnOk result (self.new ≡ taking.shut self.old) }
+    {
+        let current = replace(&mut self.current, Open::Nothing);
+        match current {
+            Open::Replica(root, tree) => self.state.put_replica(&root, tree),
+            Open::Archive(first, second, archive) => {
+                self.state.put_archive(&first, &second, archive)
+            }
+            Open::HalfArchive(_root) => Ok(()),
+            Open::Nothing => Ok(()),
+        }
+    }
+
+    /// Begins the replica of the root in a field.
+    fn begin_replica(&mut self, alloc: Global, field: &str) -> Result<(), Fault>
+        requires { IsApart self.old.current }
+        ensures ok { OnOk result
+            (and_then (root_field field.now) (taking.replica_begun self.old) ≡ Ok self.new) }
+        ensures err { IfErr result (λ f. (f ≡ Fault.OutOfMemory)
+            ⊎ (and_then (root_field field.now) (taking.replica_begun self.old) ≡ Err f)) }
+        ensures apart { OnOk result (IsApart self.new.current) }
+    {
+        let root = root_in(alloc, field)?;
+        self.close()?;
+        if self.state.replica(&root).is_some() {
+            return Err(Fault::Repeated);
+        }
+        self.current = Open::Replica(root, Tree::new(alloc));
+        Ok(())
+    }
+
+    /// Begins an archive of the root in a field.
+    fn begin_archive(&mut self, alloc: Global, field: &str) -> Result<(), Fault>
+        requires { IsApart self.old.current }
+        ensures ok { OnOk result
+            (and_then (root_field field.now) (taking.archive_begun self.old) ≡ Ok self.new) }
+        ensures err { IfErr result (λ f. (f ≡ Fault.OutOfMemory)
+            ⊎ (and_then (root_field field.now) (taking.archive_begun self.old) ≡ Err f)) }
+        ensures apart { OnOk result (IsApart self.new.current) }
+    {
+        let root = root_in(alloc, field)?;
+        self.close()?;
+        self.current = Open::HalfArchive(root);
+        Ok(())
+    }
+
+    /// Takes the other root of an archive, which is in a field.
+    fn begin_pair(&mut self, alloc: Global, field: &str) -> Result<(), Fault>
+        ensures ok { OnOk result
+            (and_then (root_field field.now) (taking.other_taken self.old self.old.current)
+            ≡ Ok self.new) }
+        ensures err { IfErr result (λ f. (f ≡ Fault.OutOfMemory)
+            ⊎ (and_then (root_field field.now) (taking.other_taken self.old self.old.current)
+            ≡ Err f)) }
+        ensures apart { OnOk result (IsApart self.new.current) }
+    {
+        let second = root_in(alloc, field)?;
+        let first = match &self.current {
+            Open::HalfArchive(root) => root.copy()?,
+            Open::Nothing => return Err(Fault::BadLine),
+            Open::Replica(_, _) => return Err(Fault::BadLine),
+            Open::Archive(_, _, _) => return Err(Fault::BadLine),
+        };
+        if first == second {
+            return Err(Fault::BadLine);
+        }
+        if self.state.archive(&first, &second).is_some() {
+            return Err(Fault::Repeated);
+        }
+        self.current = Open::Archive(first, second, Archive::new(alloc));
+        Ok(())
+    }
+
+    /// Takes the directory at the path in a field.
+    fn take_dir(&mut self, alloc: Global, field: &str) -> Result<(), Fault>
+        requires { IsApart self.old.current }
+        ensures ok { OnOk result
+            (and_then (path_field field.now) (taking.dir_taken self.old self.old.current)
+            ≡ Ok self.new) }
+        ensures err { IfErr result (λ f. (f ≡ Fault.OutOfMemory)
+            ⊎ (and_then (path_field field.now) (taking.dir_taken self.old self.old.current)
+            ≡ Err f)) }
+        ensures apart { OnOk result (IsApart self.new.current) }
+    {
+        let path = path_in(alloc, field)?;
+        let entries = self.entries;
+        match &mut self.current {
+            Open::Replica(_, tree) => put_dir(tree, entries, &path)?,
+            Open::Archive(_, _, archive) => put_old_dir(archive, entries, &path)?,
+            Open::Nothing => return Err(Fault::BadLine),
+            Open::HalfArchive(_) => return Err(Fault::BadLine),
+        }
+        self.entries = entries + 1;
+        Ok(())
+    }
+
+    /// Takes the file in two fields.
+    fn take_file(&mut self, alloc: Global, fields: &str) -> Result<(), Fault>
+        requires { IsApart self.old.current }
+        ensures ok { OnOk result (taking.file_taken self.old fields.now ≡ Ok self.new) }
+        ensures err { IfErr result
+            (λ f. (f ≡ Fault.OutOfMemory) ⊎ (taking.file_taken self.old fields.now ≡ Err f)) }
+        ensures apart { OnOk result (IsApart self.new.current) }
+    {
+        let Some((field, text)) = fields_of(fields) else {
+            return Err(Fault::BadLine);
+        };
+        let entries = self.entries;
+        match &mut self.current {
+            Open::Replica(_, tree) => put_file(alloc, tree, entries, field, text)?,
+            Open::Archive(_, _, archive) => put_old_file(alloc, archive, entries, field, text)?,
+            Open::Nothing => return Err(Fault::BadLine),
+            Open::HalfArchive(_) => return Err(Fault::BadLine),
+        }
+        self.entries = entries + 1;
+        Ok(())
+    }
+}
+
+impl Open {
+    /// Whether a line of this form may follow.
+    fn allows(&self, form: Form) -> bool
+        ensures { result ≡ may_stand (taking.section_of self.now) form }
+    {
+        match self {
+            Open::HalfArchive(_) => form == Form::With,
+            Open::Nothing => form != Form::With && form != Form::Dir && form != Form::File,
+            Open::Replica(_, _) => form != Form::With,
+            Open::Archive(_, _, _) => form != Form::With,
+        }
+    }
+}
+
+/// Puts a directory into a replica after this many entries.
+fn put_dir(tree: &mut Tree, entries: usize, path: &RelPath) -> Result<(), Fault>
+    requires { IsTrue (is_path path.now) }
+    ensures ok { OnOk result (taking.dir_put entries tree.old path.now ≡ Ok tree.new) }
+    ensures err { IfErr result
+        (λ f. (f ≡ Fault.OutOfMemory) ⊎ (taking.dir_put entries tree.old path.now ≡ Err f)) }
+    ensures room { OnOk result (entries < ENTRIES) }
+{
+    if entries >= ENTRIES {
+        return Err(Fault::TooLarge);
+    }
+    put_contents(tree, path, Contents::Directory)
+}
+
+/// Puts a file into a replica after this many entries.
+fn put_file(
+    alloc: Global,
+    tree: &mut Tree,
+    entries: usize,
+    field: &str,
+    text: &str,
+) -> Result<(), Fault>
+    ensures ok { OnOk result (taking.file_put entries tree.old field.now text.now ≡ Ok tree.new) }
+    ensures err { IfErr result (λ f. (f ≡ Fault.OutOfMemory)
+        ⊎ (taking.file_put entries tree.old field.now text.now ≡ Err f)) }
+    ensures room { OnOk result (entries < ENTRIES) }
+{
+    let bytes = bytes_in(alloc, field)?;
+    let path = path_in(alloc, text)?;
+    if entries >= ENTRIES || bytes.len() > FILE_BYTES {
+        return Err(Fault::TooLarge);
+    }
+    put_contents(tree, &path, Contents::File(Blob::new(bytes)))
+}
+
+/// Puts contents into a replica, which are not `Absent`.
+fn put_contents(tree: &mut Tree, path: &RelPath, contents: Contents) -> Result<(), Fault>
+    requires path { IsTrue (is_path path.now) }
+    requires some { is_absent contents ≡ false }
+    ensures ok { OnOk result (taking.contents_put tree.old path.now contents ≡ Ok tree.new) }
+    ensures err { IfErr result (λ f. (f ≡ Fault.OutOfMemory)
+        ⊎ (taking.contents_put tree.old path.now contents ≡ Err f)) }
+{
+    match tree.mark_at(path) {
+        Mark::Absent => {}
+        Mark::File(_) => return Err(Fault::Repeated),
+        Mark::Directory => return Err(Fault::Repeated),
+    }
+    match tree.set(path, contents) {
+        Ok(()) => Ok(()),
+        Err(SetFault::OutOfMemory) => Err(Fault::OutOfMemory),
+        Err(_) => Err(Fault::NoParent),
+    }
+}
+
+/// Puts a directory into an archive after this many entries.
+fn put_old_dir(archive: &mut Archive, entries: usize, path: &RelPath) -> Result<(), Fault>
+    requires { IsTrue (is_path path.now) }
+    ensures ok { OnOk result (taking.old_dir_put entries archive.old path.now ≡ Ok archive.new) }
+    ensures err { IfErr result (λ f. (f ≡ Fault.OutOfMemory)
+        ⊎ (taking.old_dir_put entries archive.old path.now ≡ Err f)) }
+    ensures room { OnOk result (entries < ENTRIES) }
+{
+    if entries >= ENTRIES {
+        return Err(Fault::TooLarge);
+    }
+    put_mark(archive, path, Mark::Directory)
+}
+
+/// Puts the digest of a file into an archive after this many entries.
+fn put_old_file(
+    alloc: Global,
+    archive: &mut Archive,
+    entries: usize,
+    field: &str,
+    text: &str,
+) -> Result<(), Fault>
+    ensures ok { OnOk result
+        (taking.old_file_put entries archive.old field.now text.now ≡ Ok archive.new) }
+    ensures err { IfErr result (λ f. (f ≡ Fault.OutOfMemory)
+        ⊎ (taking.old_file_put entries archive.old field.now text.now ≡ Err f)) }
+    ensures room { OnOk result (entries < ENTRIES) }
+{
+    let digest = digest_in(field)?;
+    let path = path_in(alloc, text)?;
+    if entries >= ENTRIES {
+        return Err(Fault::TooLarge);
+    }
+    put_mark(archive, &path, Mark::File(digest))
+}
+
+/// Puts a mark into an archive, which is not `Absent`.
+fn put_mark(archive: &mut Archive, path: &RelPath, mark: Mark) -> Result<(), Fault>
+    requires path { IsTrue (is_path path.now) }
+    requires some { kept mark ≡ Some mark }
+    ensures ok { OnOk result (taking.mark_put archive.old path.now mark ≡ Ok archive.new) }
+    ensures err { IfErr result (λ f. (f ≡ Fault.OutOfMemory)
+        ⊎ (taking.mark_put archive.old path.now mark ≡ Err f)) }
+{
+    match archive.mark_at(path) {
+        Mark::Absent => {}
+        Mark::File(_) => return Err(Fault::Repeated),
+        Mark::Directory => return Err(Fault::Repeated),
+    }
+    archive.set(path, mark)?;
+    Ok(())
+}

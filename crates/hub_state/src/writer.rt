@@ -1,0 +1,306 @@
+ghost use Rattle.std.specs.Prelude.{◌≡◌, ◌⊎◌, ◌++◌, ◌∷◌, [], false, IfErr, OnOk, is_err, string_bytes};
+ghost use Rattle.std.specs.FinMap as fin;
+ghost use Rattle.std.specs.Io.KnownBytes.{Appends};
+ghost use Rattle.std.specs.List.{flat_map};
+ghost use Rattle.std.specs.BTreeMap.{IsOrdered};
+ghost use Rattle.std.specs.String.{string_cmp};
+ghost use Rattle.hub_tree.specs.Tree.{contents_at};
+ghost use Rattle.hub_state.specs.Devices.{Passes, is_write_failed, says, reports};
+ghost use Rattle.hub_state.specs.View.{by_text, below, pairs_in};
+ghost use Rattle.hub_state.specs.Writing.{dir_line, file_line, hex_field, pair_lines};
+ghost use Rattle.hub_state.specs.Writing.{contents_lines, mark_lines, replica_lines};
+ghost use Rattle.hub_state.specs.Writing.{archive_lines, joined_lines, state_text};
+
+use crate::fault::{Fault, StateFault};
+use crate::state::State;
+use hub_path::RelPath;
+use hub_text::Watched;
+use hub_tree::{Archive, Mark, Tree};
+use std::alloc::{AllocError, Global};
+use std::collections::BTreeMap;
+use std::io::Write;
+
+/// How many bytes of text are kept before they are passed on to the writer.
+const BLOCK_BYTES: usize = 65_536;
+
+/// Writes the text of a state, version 1: replicas in the order of their roots' texts, then archives in the order of both
+/// texts, the smaller text first; the entries of each in the order of paths; digits in lower case.
+///
+/// Returns `WriteFailed` exactly when a write failed, and writes no further then. Both of its faults have line 0, and after
+/// either the writer may hold a part of the text. The text is written in blocks: only one block and the paths of one
+/// replica or archive are in memory.
+pub fn write_state<W: Write>(
+    alloc: Global,
+    output: &mut Watched<W>,
+    state: &State,
+) -> Result<(), StateFault>
+    requires { output.old.failed ≡ false }
+    ensures whole { OnOk result (Appends (W.contents output.old.device)
+        (W.contents output.new.device) (state_text state.now)) }
+    ensures faults { IfErr result (λ e. (e ≡ record { line = 0; fault = Fault.OutOfMemory })
+        ⊎ (e ≡ record { line = 0; fault = Fault.WriteFailed })) }
+    ensures failed { output.new.failed ≡ reports is_write_failed result }
+{
+    match write_parts(alloc, output, state) {
+        Ok(()) => Ok(()),
+        Err(fault) => Err(StateFault { line: 0, fault }),
+    }
+}
+
+/// Writes the text of a state.
+fn write_parts<W: Write>(alloc: Global, output: &mut Watched<W>, state: &State) -> Result<(), Fault>
+    requires { output.old.failed ≡ false }
+    ensures whole { OnOk result (Appends (W.contents output.old.device)
+        (W.contents output.new.device) (state_text state.now)) }
+    ensures faults { IfErr result (λ e. (e ≡ Fault.OutOfMemory) ⊎ (e ≡ Fault.WriteFailed)) }
+    ensures failed { output.new.failed ≡ says is_write_failed result }
+{
+    let mut text = String::new(alloc);
+    text.push_str("hubsync state 1\n")?;
+    write_replicas(alloc, output, &mut text, state.replicas())?;
+    write_archives(alloc, output, &mut text, state.archives())?;
+    text.push_str("end\n")?;
+    pass_on(output, &mut text)
+}
+
+/// Writes the lines of the replicas.
+fn write_replicas<W: Write>(
+    alloc: Global,
+    output: &mut Watched<W>,
+    text: &mut String,
+    replicas: &BTreeMap<String, Tree>,
+) -> Result<(), Fault>
+    requires { output.old.failed ≡ false }
+    ensures ok { OnOk result (Passes (W.contents output.old.device)
+        (W.contents output.new.device) (string_bytes text.old) (string_bytes text.new)
+        (joined_lines (flat_map replica_lines (by_text replicas.now.entries)))) }
+    ensures faults { IfErr result (λ e. (e ≡ Fault.OutOfMemory) ⊎ (e ≡ Fault.WriteFailed)) }
+    ensures failed { output.new.failed ≡ says is_write_failed result }
+{
+    for (root, tree) in replicas.iter() {
+        push_root(text, "replica ", root.as_str())?;
+        write_tree(alloc, output, text, tree)?;
+    }
+    Ok(())
+}
+
+/// Writes the lines of the archives.
+fn write_archives<W: Write>(
+    alloc: Global,
+    output: &mut Watched<W>,
+    text: &mut String,
+    archives: &BTreeMap<String, BTreeMap<String, Archive>>,
+) -> Result<(), Fault>
+    requires { output.old.failed ≡ false }
+    ensures ok { OnOk result (Passes (W.contents output.old.device)
+        (W.contents output.new.device) (string_bytes text.old) (string_bytes text.new)
+        (joined_lines (flat_map archive_lines (fin.entries (pairs_in archives.now.entries))))) }
+    ensures faults { IfErr result (λ e. (e ≡ Fault.OutOfMemory) ⊎ (e ≡ Fault.WriteFailed)) }
+    ensures failed { output.new.failed ≡ says is_write_failed result }
+{
+    for (first, others) in archives.iter() {
+        write_pairs(alloc, output, text, first.as_str(), others)?;
+    }
+    Ok(())
+}
+
+/// Writes the lines of the archives whose first text is this one.
+fn write_pairs<W: Write>(
+    alloc: Global,
+    output: &mut Watched<W>,
+    text: &mut String,
+    first: &str,
+    others: &BTreeMap<String, Archive>,
+) -> Result<(), Fault>
+    requires { output.old.failed ≡ false }
+    ensures ok { OnOk result (Passes (W.contents output.old.device)
+        (W.contents output.new.device) (string_bytes text.old) (string_bytes text.new)
+        (joined_lines (flat_map archive_lines (below first.now (by_text others.now.entries))))) }
+    ensures faults { IfErr result (λ e. (e ≡ Fault.OutOfMemory) ⊎ (e ≡ Fault.WriteFailed)) }
+    ensures failed { output.new.failed ≡ says is_write_failed result }
+    ensures ordered { IsOrdered string_cmp others.now }
+{
+    for (second, archive) in others.iter() {
+        push_pair(text, first, second.as_str())?;
+        write_marks(alloc, output, text, archive)?;
+    }
+    Ok(())
+}
+
+/// Writes the lines of a replica's entries.
+fn write_tree<W: Write>(
+    alloc: Global,
+    output: &mut Watched<W>,
+    text: &mut String,
+    tree: &Tree,
+) -> Result<(), Fault>
+    requires { output.old.failed ≡ false }
+    ensures ok { OnOk result (Passes (W.contents output.old.device)
+        (W.contents output.new.device) (string_bytes text.old) (string_bytes text.new)
+        (joined_lines (flat_map contents_lines (fin.entries tree.now)))) }
+    ensures faults { IfErr result (λ e. (e ≡ Fault.OutOfMemory) ⊎ (e ≡ Fault.WriteFailed)) }
+    ensures failed { output.new.failed ≡ says is_write_failed result }
+{
+    let _top = tree.mark_at(&RelPath::top(alloc));
+    let paths = tree.paths()?;
+    for path in paths.as_slice() {
+        push_entry(alloc, text, tree, path)?;
+        pass_block(output, text)?;
+    }
+    Ok(())
+}
+
+/// Writes the lines of an archive's marks.
+fn write_marks<W: Write>(
+    alloc: Global,
+    output: &mut Watched<W>,
+    text: &mut String,
+    archive: &Archive,
+) -> Result<(), Fault>
+    requires { output.old.failed ≡ false }
+    ensures ok { OnOk result (Passes (W.contents output.old.device)
+        (W.contents output.new.device) (string_bytes text.old) (string_bytes text.new)
+        (joined_lines (flat_map mark_lines (fin.entries archive.now)))) }
+    ensures faults { IfErr result (λ e. (e ≡ Fault.OutOfMemory) ⊎ (e ≡ Fault.WriteFailed)) }
+    ensures failed { output.new.failed ≡ says is_write_failed result }
+{
+    let paths = archive.paths()?;
+    for path in paths.as_slice() {
+        push_mark(alloc, text, archive.mark_at(path), path)?;
+        pass_block(output, text)?;
+    }
+    Ok(())
+}
+
+/// Passes the text on if there is a block of it.
+fn pass_block<W: Write>(output: &mut Watched<W>, text: &mut String) -> Result<(), Fault>
+    requires { output.old.failed ≡ false }
+    ensures ok { OnOk result (Passes (W.contents output.old.device)
+        (W.contents output.new.device) (string_bytes text.old) (string_bytes text.new) []) }
+    ensures faults { IfErr result (λ e. e ≡ Fault.WriteFailed) }
+    ensures failed { output.new.failed ≡ is_err result }
+{
+    if text.len() < BLOCK_BYTES {
+        return Ok(());
+    }
+    pass_on(output, text)
+}
+
+/// Passes all of the text on, and empties it.
+fn pass_on<W: Write>(output: &mut Watched<W>, text: &mut String) -> Result<(), Fault>
+    requires { output.old.failed ≡ false }
+    ensures ok { OnOk result (Appends (W.contents output.old.device)
+        (W.contents output.new.device) (string_bytes text.old)) }
+    ensures empty { OnOk result (string_bytes text.new ≡ []) }
+    ensures faults { IfErr result (λ e. e ≡ Fault.WriteFailed) }
+    ensures failed { output.new.failed ≡ is_err result }
+{
+    match output.write_all(text.as_bytes()) {
+        Ok(()) => {
+            text.clear();
+            Ok(())
+        }
+        Err(_) => Err(Fault::WriteFailed),
+    }
+}
+
+/// Appends the line of a root, after a word.
+fn push_root(text: &mut String, word: &str, root: &str) -> Result<(), AllocError>
+    ensures { OnOk result
+        (string_bytes text.new ≡ string_bytes text.old ++ (word.now ++ root.now ++ 10 ∷ [])) }
+{
+    text.push_str(word)?;
+    text.push_str(root)?;
+    text.push('\n')?;
+    Ok(())
+}
+
+/// Appends the lines of the two roots of a pair.
+fn push_pair(text: &mut String, first: &str, second: &str) -> Result<(), AllocError>
+    ensures { OnOk result (string_bytes text.new
+        ≡ string_bytes text.old ++ joined_lines (pair_lines (first.now ∷ second.now ∷ []))) }
+{
+    push_root(text, "archive ", first)?;
+    push_root(text, "with ", second)?;
+    Ok(())
+}
+
+/// Appends the line of what a replica has at a path, if there is something.
+fn push_entry(
+    alloc: Global,
+    text: &mut String,
+    tree: &Tree,
+    path: &RelPath,
+) -> Result<(), AllocError>
+    ensures { OnOk result (string_bytes text.new ≡ string_bytes text.old
+        ++ joined_lines (contents_lines (path.now, contents_at tree.now path.now))) }
+{
+    if let Some(bytes) = tree.bytes_at(path) {
+        return push_file(alloc, text, bytes, path);
+    }
+    match tree.mark_at(path) {
+        Mark::Directory => push_dir(text, path),
+        Mark::File(_) => Ok(()),
+        Mark::Absent => Ok(()),
+    }
+}
+
+/// Appends the line of a directory.
+fn push_dir(text: &mut String, path: &RelPath) -> Result<(), AllocError>
+    ensures { OnOk result (string_bytes text.new
+        ≡ string_bytes text.old ++ dir_line path.now ++ 10 ∷ []) }
+{
+    text.push_str("dir ")?;
+    text.push_str(path.text()?.as_str())?;
+    text.push('\n')?;
+    Ok(())
+}
+
+/// Appends the field of a file's bytes.
+fn push_hex(alloc: Global, text: &mut String, bytes: &[u8]) -> Result<(), AllocError>
+    ensures { OnOk result (string_bytes text.new ≡ string_bytes text.old ++ hex_field bytes.now) }
+{
+    if bytes.is_empty() {
+        text.push('-')?;
+    } else {
+        text.push_str(hex::encode(alloc, bytes)?.as_str())?;
+    }
+    Ok(())
+}
+
+/// Appends the line of a file of a replica.
+fn push_file(
+    alloc: Global,
+    text: &mut String,
+    bytes: &[u8],
+    path: &RelPath,
+) -> Result<(), AllocError>
+    ensures { OnOk result (string_bytes text.new
+        ≡ string_bytes text.old ++ file_line (hex_field bytes.now) path.now ++ 10 ∷ []) }
+{
+    text.push_str("file ")?;
+    push_hex(alloc, text, bytes)?;
+    text.push(' ')?;
+    text.push_str(path.text()?.as_str())?;
+    text.push('\n')?;
+    Ok(())
+}
+
+/// Appends the line of a mark of an archive, if there is one.
+fn push_mark(alloc: Global, text: &mut String, mark: Mark, path: &RelPath) -> Result<(), AllocError>
+    ensures { OnOk result (string_bytes text.new
+        ≡ string_bytes text.old ++ joined_lines (mark_lines (path.now, mark))) }
+{
+    match mark {
+        Mark::File(digest) => {
+            text.push_str("file ")?;
+            text.push_str(hex::encode(alloc, digest.as_slice())?.as_str())?;
+            text.push(' ')?;
+            text.push_str(path.text()?.as_str())?;
+            text.push('\n')?;
+        }
+        Mark::Directory => push_dir(text, path)?,
+        Mark::Absent => {}
+    }
+    Ok(())
+}

@@ -5,3 +5,8 @@ pub mod Run
 pub mod Alike
 pub mod Same
 pub mod Outcome
+pub mod History
+pub mod Settled
+pub mod Owned
+pub mod Together
+pub mod HistoryExamples

@@ -4,9 +4,11 @@ pub mod World
 pub mod Run
 pub mod Alike
 pub mod Same
-pub mod Outcome
 pub mod History
 pub mod Settled
 pub mod Owned
 pub mod Together
 pub mod HistoryExamples
+pub mod Outcome
+pub mod Promise
+pub mod Simulated

@@ -6,6 +6,7 @@ mod job_end;
 pub mod laws;
 mod log;
 mod op;
+pub mod promise;
 pub mod together;
 
 pub use answer::{Answer, OpFault};

@@ -1,5 +1,5 @@
 -- What no job of a root writes stays as it was.
-use Rattle.std.proofs.Common.{◌≡◌, ◌<◌, Bool, true, false, List, [], ◌∷◌, length, Option, Some, None, refl, ap, sym, ◌∙◌, subst}
+use Rattle.std.proofs.Common.{◌≡◌, List, [], ◌∷◌, Some, refl, sym, ◌∙◌, subst}
 use Rattle.std.specs.Prelude.{ℕ, slice_get, IsTrue}
 use Rattle.hub_path.specs.Path.{Path, path_eq}
 use Rattle.hub_profile.specs.Parts.{Parts}

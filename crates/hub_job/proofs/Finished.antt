@@ -1,5 +1,5 @@
 -- A finished job stays as it is, and what it has left alone is one synchronization.
-use Rattle.std.proofs.Common.{◌≡◌, ◌≤◌, ◌+◌, ◌-◌, ◌*◌, List, length, Some, refl, ap, sym, ◌∙◌, subst, arith}
+use Rattle.std.proofs.Common.{◌≡◌, ◌≤◌, ◌+◌, ◌-◌, ◌*◌, length, Some, refl, ap, ◌∙◌, subst, arith}
 use Rattle.std.specs.Prelude.{ℕ, zero, suc, slice_get, replicate}
 use Rattle.std.specs.FinMap as fin
 use Rattle.hub_path.specs.Path.{Path}

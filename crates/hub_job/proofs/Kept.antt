@@ -1,5 +1,5 @@
 -- The promise is kept: all its clauses for an outcome that histories settle.
-use Rattle.std.proofs.Common.{◌≡◌, List, length, Some}
+use Rattle.std.proofs.Common.{◌≡◌, List, Some}
 use Rattle.std.specs.Prelude.{ℕ, IsTrue, slice_get}
 use Rattle.hub_path.specs.Path.{Path}
 use Rattle.hub_profile.specs.Parts.{Parts}

@@ -1,5 +1,5 @@
 -- In the plan for two replicas no path changes twice, and each change is allowed.
-use Rattle.std.proofs.Common.{◌≡◌, inl, inr, Bool, true, false, cond, not, ◌&&◌, ◌||◌, List, [], ◌∷◌, ◌++◌, map, Option, refl, ap, sym, ◌∙◌, subst}
+use Rattle.std.proofs.Common.{◌≡◌, inl, inr, true, false, cond, not, ◌&&◌, ◌||◌, List, [], ◌∷◌, ◌++◌, map, refl, ap, sym, ◌∙◌, subst}
 use Rattle.std.specs.Prelude.{◌⊎◌, filter, reverse}
 use Rattle.std.specs.List.{list_any, flat_map}
 use Rattle.std.specs.List.Sorted.{IsStrictlySortedBy}
@@ -12,7 +12,6 @@ use Rattle.std.proofs.lemmas.Map.Keys.{sorted_tail}
 use Rattle.hub_path.specs.Laws.{is_over-reflexive}
 use Rattle.hub_path.specs.Path.{Path, path_cmp, path_eq, is_over}
 use Rattle.hub_path.specs.declared.side.Side.{Side}
-use Rattle.hub_path.specs.declared.side.Side.TheVariants.{Left, Right}
 use Rattle.hub_profile.specs.Parts.{Parts, IsProfile}
 use Rattle.hub_reach.specs.Reach.{reach}
 use Rattle.hub_tree.specs.Below.{is_below}
@@ -48,7 +47,7 @@ distinct_append : (xs ys : List Path) → Distinct xs → Distinct ys → ((q : 
 distinct_append [] ys d f apart = f
 distinct_append (x ∷ xs) ys d f apart = (
   list_any-append (eq_by_cmp path_cmp x) xs ys
-  ∙ or_from (among x xs) (among x ys) d.0 (false_from_ne_true (among x ys) (λ e. apart x (or_left (eq_by_cmp path_cmp x x) (among x xs) (path_itself x)) e)),
+      ∙ or_from (among x xs) (among x ys) d.0 (false_from_ne_true (among x ys) (λ e. apart x (or_left (eq_by_cmp path_cmp x x) (among x xs) (path_itself x)) e)),
   distinct_append xs ys d.1 f (λ q e. apart q (or_right (eq_by_cmp path_cmp q x) (among q xs) e)),
 )
 
@@ -187,8 +186,7 @@ module _ (P : Parts) (facts : IsProfile P) (A B : Replica) (O : Archive) (left :
   block_distinct from p =
       subst Distinct (sym (block_paths V from p))
       (distinct_append (reverse (going V from p)) (p ∷ coming V from p)
-      (distinct_reverse (going V from p) (distinct_sorted (going V from p) (IsStrictlySortedBy-filter path_cmp (λ q. is_present (V.mark (other from) q) && not (is_present (V.mark from q))) (below V p) (below_sorted p))))
-      (
+      (distinct_reverse (going V from p) (distinct_sorted (going V from p) (IsStrictlySortedBy-filter path_cmp (λ q. is_present (V.mark (other from) q) && not (is_present (V.mark from q))) (below V p) (below_sorted p)))) (
         false_from_ne_true (among p (coming V from p)) (λ e. not_itself p (in_coming V from p p e).1),
         distinct_sorted (coming V from p) (IsStrictlySortedBy-filter path_cmp (λ q. is_present (V.mark from q)) (below V p) (below_sorted p)),
       )

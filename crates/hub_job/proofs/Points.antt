@@ -1,13 +1,12 @@
 -- Each Set in a history that fits the logs is allowed by the contents that it finds, and no rule forbids it.
-use Rattle.std.proofs.Common.{◌≡◌, ◌≢◌, inl, Bool, true, false, cond, ◌&&◌, List, [], ◌∷◌, ◌++◌, length, map, Option, Some, None, refl, ap, sym, ◌∙◌, subst, append_assoc, append-nil, eq-eqb}
+use Rattle.std.proofs.Common.{◌≡◌, inl, Bool, true, false, cond, List, [], ◌∷◌, ◌++◌, length, map, Some, refl, ap, sym, ◌∙◌, subst, append_assoc, append-nil, eq-eqb}
 use Rattle.std.specs.Prelude.{◌==◌, ℕ, IsTrue, slice_get, filter, replicate}
-use Rattle.std.proofs.lemmas.Bool.{false≢true, false_from_ne_true}
+use Rattle.std.proofs.lemmas.Bool.{false_from_ne_true}
 use Rattle.std.proofs.lemmas.List.{map-append}
 use Rattle.std.proofs.lemmas.List.Elements.{filter-append}
 use Rattle.hub_path.specs.Path.{Path}
-use Rattle.hub_path.specs.declared.side.Side.{Side}
 use Rattle.hub_path.specs.declared.side.Side.TheVariants.{Left, Right}
-use Rattle.hub_profile.specs.Parts.{Parts, IsProfile, at_side, is_root_at}
+use Rattle.hub_profile.specs.Parts.{Parts, at_side, is_root_at}
 use Rattle.hub_reach.specs.Reach.{may_at, has_root, write}
 use Rattle.hub_reach.specs.Safe.{Rule, IsSafe}
 use Rattle.hub_tree.specs.Tree.{Replica, Archive, IsTree, contents_at, mark_at, mark_of}
@@ -16,23 +15,22 @@ use Rattle.hub_reconcile.specs.Items.{verb_of}
 use Rattle.hub_reconcile.specs.Sync.{root_or_top}
 use Rattle.hub_job.specs.declared.log.Entry.{Entry}
 use Rattle.hub_job.specs.declared.log.Logged.{Logged}
-use Rattle.hub_job.specs.declared.op.Op.{Op}
 use Rattle.hub_job.specs.declared.op.Op.TheVariants.{Set}
 use Rattle.hub_job.specs.declared.op.Next.TheVariants.{Ask}
-use Rattle.hub_job.specs.Alike.{May, Alike}
+use Rattle.hub_job.specs.Alike.{May}
 use Rattle.hub_job.specs.Job.{next}
-use Rattle.hub_job.specs.Machine.{answer, after}
-use Rattle.hub_job.specs.Run.{Runs, root_at, on_side, pair_of, pair_run, pair_opening}
+use Rattle.hub_job.specs.Machine.{after}
+use Rattle.hub_job.specs.Run.{Runs, root_at, pair_of, pair_run}
 use Rattle.hub_job.specs.Same.{AsksMay, AreApart}
 use Rattle.hub_job.specs.World.{Jobs, log_of, run, opening}
-use Rattle.hub_job.specs.History.{replay, IsLegal, IsAnswerOf, entries_of, entries_at}
+use Rattle.hub_job.specs.History.{replay, IsLegal, entries_of, entries_at}
 use Rattle.hub_job.specs.Settled.{AreProfiles, IsSettled}
 use Rattle.hub_job.specs.Together.{SetsAreAllowed, NoRuleForbids}
 use Rattle.hub_job.proofs.Alone.{a_log_each}
-use Rattle.hub_job.proofs.Apart.{legal_at, may_at_entry}
+use Rattle.hub_job.proofs.Apart.{may_at_entry}
 use Rattle.hub_job.proofs.Blind.{write-reaches, passes-itself}
 use Rattle.hub_job.proofs.InWorld.{by_side, run_pair, open_pair}
-use Rattle.hub_job.proofs.Threads.{AnswersAlike, OwnAlike, OthersAlike, MayAll, Answers, Projects, project, alone_from, root_there, no_log_yet, its_profile, may_all}
+use Rattle.hub_job.proofs.Threads.{AnswersAlike, OwnAlike, OthersAlike, MayAll, Answers, Projects, project, alone_from, root_there, no_log_yet, may_all}
 use Rattle.hub_job.proofs.Verbs.{AllowedOp, AllowedNext, alone_allowed}
 
 head_or : Entry → List Entry → Entry
@@ -193,11 +191,10 @@ module _ (asks : AsksMay) (answers : AnswersAlike) (own : OwnAlike) (others : Ot
       let place = place_of Q r (logs j) (entries_of j front) e (entries_of j rest) (sym (own_entries j front e rest refl) ∙ (ap (entries_of j) (sym cut) ∙ settled.agree j Q r is has)) in
       let alike = (project answers own others J.profiles r j Q front (replicas r) (replicas r) apart is has (legal_front J.profiles r (replicas r) front (e ∷ rest) legal) (may_front J.profiles r front (e ∷ rest) may) (λ p d. refl)).1 in
       let there : contents_at (replay (replicas r) front) p ≡ contents_at (replay (replicas r) (entries_at Q r place.front)) p =
-      alike p (inl (passes-itself Q p (write-reaches Q r p writes))) ∙ ap (λ es. contents_at (replay (replicas r) es) p) (sym place.before) in
-      (
+      alike p (inl (passes-itself Q p (write-reaches Q r p writes))) ∙ ap (λ es. contents_at (replay (replicas r) es) p) (sym place.before) in (
         writes,
         ap (λ x. may_at Q r p (verb_of (mark_of x) (mark_of c))) there
-        ∙ allowed_alone j Q r p c place.front place.here place.rest is place.whole (ap (λ x. x.op) place.is ∙ op) (root_there r (at_side Q.roots place.here.side) place.at) has,
+            ∙ allowed_alone j Q r p c place.front place.here place.rest is place.whole (ap (λ x. x.op) place.is ∙ op) (root_there r (at_side Q.roots place.here.side) place.at) has,
       )
 
 pub safe_apart : (Ps : List Parts) (Rs : List Rule) → IsSafe Ps Rs → AreApart Ps

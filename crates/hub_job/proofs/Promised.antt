@@ -1,20 +1,17 @@
 -- An outcome that histories settle is as promised.
 use Rattle.std.proofs.Common.{◌≡◌, ◌≢◌, ◌≤◌, ◌<◌, ◌+◌, inl, inr, Bool, true, false, cond, ◌&&◌, ◌||◌, List, [], ◌∷◌, length, Option, Some, None, refl, ap, sym, ◌∙◌, subst, arith}
-use Rattle.std.specs.Prelude.{◌==◌, ◌⊎◌, ℕ, zero, suc, if◌then◌else◌, IsTrue, slice_get, find, unwrap_or, replicate}
+use Rattle.std.specs.Prelude.{ℕ, zero, suc, IsTrue, slice_get, find, unwrap_or, replicate}
 use Rattle.std.specs.List.{list_any, list_all, range_with_len}
 use Rattle.std.specs.FinMap as fin
-use Rattle.std.proofs.lemmas.Bool.{false≢true, and_parts, and_from, or_cases, or_left, or_right, or_parts, cases_eq, false_from_ne_true}
+use Rattle.std.proofs.lemmas.Bool.{false≢true, and_parts, and_from, or_cases, or_left, or_right, cases_eq, false_from_ne_true}
 use Rattle.hub_path.specs.Laws.{is_over-reflexive}
 use Rattle.hub_path.specs.Path.{Name, Path, path_eq, path_cmp, parent}
 use Rattle.hub_path.specs.declared.side.Side.{Side}
 use Rattle.hub_path.specs.declared.side.Side.TheVariants.{Left, Right}
-use Rattle.hub_profile.specs.Facts.{are_roots}
 use Rattle.hub_profile.specs.Parts.{Parts, IsProfile, some_passes}
 use Rattle.hub_reach.specs.Reach.{reach, has_root}
 use Rattle.hub_reach.specs.Safe.{Rule, IsSafe, share_archive}
 use Rattle.hub_tree.specs.Tree.{Replica, Archive, IsTree, contents_at, old_mark_at, is_absent, is_directory}
-use Rattle.hub_tree.specs.declared.contents.Mark.{Mark}
-use Rattle.hub_tree.specs.declared.contents.Contents.{Contents}
 use Rattle.hub_tree.specs.declared.contents.Contents.TheVariants as contents
 use Rattle.hub_reconcile.specs.Items.{items}
 use Rattle.hub_reconcile.specs.Sync.{view_of, synced_mark}
@@ -29,15 +26,15 @@ use Rattle.hub_job.specs.declared.op.Next.{Next}
 use Rattle.hub_job.specs.declared.op.Next.TheVariants.{Ask, Finished, Stopped}
 use Rattle.hub_job.specs.Job.{next, is_refused, view_in}
 use Rattle.hub_job.specs.Run.{root_at, pair_of, IsSynced}
-use Rattle.hub_job.specs.World.{World, Jobs, log_of, run, opening, alone}
+use Rattle.hub_job.specs.World.{Jobs, log_of, run, opening, alone}
 use Rattle.hub_job.specs.History.{replay}
-use Rattle.hub_job.specs.Settled.{AreProfiles, IsSettled}
-use Rattle.hub_job.specs.Together.{left_at, LogsAreAlone, OwnPathsAreAlone, ElsewhereIsAsBefore, NobodyReaches}
-use Rattle.hub_job.specs.Outcome.{archive_of, jobs_of, replicas_of, end_by, is_finished, takes, mark_for, mark_by, IsEndOf, IsOutcomeWith}
-use Rattle.hub_job.specs.Promise.{log_or_none, logs_in, HasReplicas, Settles, view_at, IsSynchronized, FinishedAreSynchronized, ForeignAreAsBefore, NoneFinishedReaches, OldMarksStay, EnoughTurnsFinish}
+use Rattle.hub_job.specs.Settled.{AreProfiles}
+use Rattle.hub_job.specs.Together.{left_at, LogsAreAlone, OwnPathsAreAlone, ElsewhereIsAsBefore}
+use Rattle.hub_job.specs.Outcome.{archive_of, jobs_of, replicas_of, end_by, is_finished, takes, mark_for, mark_by, IsEndOf}
+use Rattle.hub_job.specs.Promise.{log_or_none, logs_in, HasReplicas, Settles, IsSynchronized, ForeignAreAsBefore, OldMarksStay}
 use Rattle.hub_job.proofs.Blind.{same_path, path_itself}
 use Rattle.hub_job.proofs.Core.{has_its_root}
-use Rattle.hub_job.proofs.InWorld.{TwoRoots, two_roots, by_side, side_root, left_not_right}
+use Rattle.hub_job.proofs.InWorld.{two_roots, by_side, side_root, left_not_right}
 use Rattle.hub_job.proofs.Finished.{alone_enough, finished_synced}
 
 -- Lists and options.
@@ -200,7 +197,7 @@ takes_one Ps Rs o r s p i j safe valid off a b =
     elim (cases_eq i j) [
       | inl e ↦ e
       | inr ne ↦ absurd (safe.no_clash i j a.profile b.profile a.is b.is ne
-        (inr (pair_shared a.profile b.profile r s (valid i a.profile a.is) off a.first a.second b.first b.second, (p, p, is_over-reflexive p, a.reaches, b.reaches))))
+          (inr (pair_shared a.profile b.profile r s (valid i a.profile a.is) off a.first a.second b.first b.second, (p, p, is_over-reflexive p, a.reaches, b.reaches))))
     ]
 
 takes_from : (Ps : List Parts) (o : Outcome) (r s p : Path) (j : ℕ) (P : Parts) (e : JobEnd) → slice_get Ps j ≡ Some P → slice_get o.jobs j ≡ Some e → e.end ≡ end.Finished

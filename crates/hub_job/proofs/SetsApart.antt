@@ -1,5 +1,5 @@
 -- What an entry of a settled history may, and whom it leaves alone.
-use Rattle.std.proofs.Common.{◌≡◌, ◌≢◌, List, [], ◌∷◌, length, Option, Some, None, refl, ap, sym, ◌∙◌, subst}
+use Rattle.std.proofs.Common.{◌≡◌, List, [], ◌∷◌, Option, Some, None, ap, sym, ◌∙◌, subst}
 use Rattle.std.specs.Prelude.{ℕ, zero, suc, slice_get, IsTrue}
 use Rattle.hub_path.specs.Path.{Path}
 use Rattle.hub_profile.specs.Parts.{Parts}
@@ -8,14 +8,13 @@ use Rattle.hub_tree.specs.Tree.{Replica}
 use Rattle.hub_tree.specs.declared.contents.Contents.{Contents}
 use Rattle.hub_job.specs.declared.log.Entry.{Entry}
 use Rattle.hub_job.specs.declared.log.Logged.{Logged}
-use Rattle.hub_job.specs.declared.op.Op.{Op}
-use Rattle.hub_job.specs.declared.op.Op.TheVariants.{Look, Fetch, Set}
+use Rattle.hub_job.specs.declared.op.Op.TheVariants.{Set}
 use Rattle.hub_job.specs.Machine.{after}
-use Rattle.hub_job.specs.Alike.{May, Depends}
+use Rattle.hub_job.specs.Alike.{May}
 use Rattle.hub_job.specs.Same.{AsksMay, AreApart}
 use Rattle.hub_job.specs.World.{Jobs}
 use Rattle.hub_job.proofs.Blind.{untouched}
-use Rattle.hub_job.specs.History.{IsLegal, IsAnswerOf}
+use Rattle.hub_job.specs.History.{IsLegal}
 use Rattle.hub_job.specs.Settled.{IsSettled}
 use Rattle.hub_job.specs.Owned.{IsItsOwn}
 use Rattle.hub_job.proofs.Threads.{MayAll, its_profile, may_all}

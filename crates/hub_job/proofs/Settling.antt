@@ -1,6 +1,6 @@
 -- The histories of a world and the logs of its jobs fit together, whatever the schedule is.
 use Rattle.std.proofs.Common.{◌≡◌, ◌≢◌, ◌<◌, Bool, true, false, cond, List, [], ◌∷◌, ◌++◌, length, map, Option, Some, None, refl, ap, sym, ◌∙◌, subst, arith, append_assoc, length-set, eq-eqb}
-use Rattle.std.specs.Prelude.{◌==◌, ℕ, zero, suc, if◌then◌else◌, IsTrue, slice_get, slice_index_or, filter}
+use Rattle.std.specs.Prelude.{◌==◌, ℕ, zero, suc, slice_get, slice_index_or, filter}
 use Rattle.std.proofs.lemmas.List.{append-nil, map-append, get_or-set_same, get_or-set_other}
 use Rattle.std.proofs.lemmas.List.Elements.{filter-append}
 use Rattle.std.proofs.lemmas.Bool.{false≢true}
@@ -8,7 +8,6 @@ use borrow.Author.Tests.{eqb-true}
 use Rattle.hub_path.specs.Path.{Path, path_eq}
 use Rattle.hub_path.specs.declared.side.Side.{Side}
 use Rattle.hub_profile.specs.Parts.{Parts, at_side, is_root_at}
-use Rattle.hub_reach.specs.Reach.{has_root}
 use Rattle.hub_tree.specs.Tree.{Replica, Archive, contents_at, set_fault}
 use Rattle.hub_tree.specs.declared.contents.Contents.{Contents}
 use Rattle.hub_tree.specs.declared.contents.Contents.TheVariants as contents
@@ -23,8 +22,8 @@ use Rattle.hub_job.specs.Machine.{answer, after, fetched, done_unless, Fits}
 use Rattle.hub_job.specs.Job.{next}
 use Rattle.hub_job.specs.Run.{Runs}
 use Rattle.hub_job.specs.World.{World, Jobs, log_of, entry, event, act, turn_of, turn, run, opening}
-use Rattle.hub_job.specs.History.{replay, IsAnswerOf, IsLegal, entries_of, entries_at, Agree}
-use Rattle.hub_job.specs.Settled.{IsSettled, IsSettledWorld}
+use Rattle.hub_job.specs.History.{replay, IsAnswerOf, IsLegal, entries_of, entries_at}
+use Rattle.hub_job.specs.Settled.{IsSettledWorld}
 use Rattle.hub_job.proofs.Blind.{same_path}
 use Rattle.hub_job.proofs.Core.{has_its_root}
 use Rattle.hub_job.proofs.Alone.{no_log}

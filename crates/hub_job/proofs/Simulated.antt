@@ -1,15 +1,12 @@
 -- The outcome of a schedule: it is settled, and its logs are those of the jobs alone.
-use Rattle.std.proofs.Common.{◌≡◌, ◌≢◌, ◌≤◌, ◌<◌, ◌+◌, ◌*◌, Bool, true, false, cond, List, [], ◌∷◌, length, Option, Some, None, refl, ap, sym, ◌∙◌, subst, arith}
-use Rattle.std.specs.Prelude.{◌==◌, ℕ, zero, suc, IsTrue, slice_get, slice_index_or, count_by, filter, replicate, unwrap_or}
-use Rattle.std.specs.List.{list_any}
-use Rattle.std.specs.FinMap as fin
+use Rattle.std.proofs.Common.{◌≡◌, ◌≢◌, ◌≤◌, List, [], ◌∷◌, length, Option, Some, None, refl, ap, sym, ◌∙◌, subst, arith}
+use Rattle.std.specs.Prelude.{◌==◌, ℕ, zero, suc, IsTrue, slice_get, slice_index_or, replicate}
 use Rattle.std.proofs.lemmas.List.Sums.{length-filter}
 use Rattle.hub_path.specs.Path.{Path}
 use Rattle.hub_path.specs.declared.side.Side.{Side}
 use Rattle.hub_path.specs.declared.side.Side.TheVariants.{Left, Right}
-use Rattle.hub_profile.specs.Parts.{Parts, IsProfile}
+use Rattle.hub_profile.specs.Parts.{Parts}
 use Rattle.hub_reach.specs.Reach.{has_root}
-use Rattle.hub_reach.specs.Safe.{Rule, IsSafe}
 use Rattle.hub_tree.specs.Tree.{Replica, Archive, IsTree, contents_at}
 use Rattle.hub_reconcile.specs.Sync.{synced_contents}
 use Rattle.hub_state.specs.State.{State}

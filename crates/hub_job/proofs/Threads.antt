@@ -1,12 +1,11 @@
 -- The entries of other jobs can be taken out of each legal history by itself; a job's log orders what is left.
-use Rattle.std.proofs.Common.{◌≡◌, ◌≢◌, ◌<◌, Bool, true, false, cond, not, ◌&&◌, List, [], ◌∷◌, ◌++◌, length, map, Option, Some, None, refl, ap, sym, ◌∙◌, subst, arith, append_assoc, length-set, eq-eqb}
+use Rattle.std.proofs.Common.{◌≡◌, ◌≢◌, ◌<◌, Bool, true, false, cond, List, [], ◌∷◌, ◌++◌, length, map, Option, Some, None, refl, ap, sym, ◌∙◌, subst, append_assoc, length-set, eq-eqb}
 use Rattle.std.proofs.lemmas.List.{append-nil}
-use Rattle.std.specs.Prelude.{◌==◌, ℕ, zero, suc, if◌then◌else◌, IsTrue, slice_get, slice_set, slice_index_or, filter, replicate}
-use Rattle.std.specs.List.{list_all}
+use Rattle.std.specs.Prelude.{◌==◌, ℕ, zero, suc, IsTrue, slice_get, slice_index_or, filter, replicate}
 use Rattle.std.proofs.lemmas.List.{get_or-set_same}
-use Rattle.std.proofs.lemmas.Bool.{false≢true, and_parts}
+use Rattle.std.proofs.lemmas.Bool.{false≢true}
 use borrow.Author.Tests.{eqb-true}
-use Rattle.hub_path.specs.Path.{Path, path_eq, is_place, none_over}
+use Rattle.hub_path.specs.Path.{Path, path_eq}
 use Rattle.hub_path.specs.declared.side.Side.{Side}
 use Rattle.hub_path.specs.declared.side.Side.TheVariants.{Left, Right}
 use Rattle.hub_profile.specs.Facts.{are_roots}
@@ -15,20 +14,18 @@ use Rattle.hub_reach.specs.Reach.{has_root}
 use Rattle.hub_reach.specs.Safe.{ClashesAt}
 use Rattle.hub_tree.specs.Tree.{Replica, Archive, contents_at}
 use Rattle.hub_job.specs.declared.op.Op.{Op}
-use Rattle.hub_job.specs.declared.op.Next.{Next}
-use Rattle.hub_job.specs.declared.op.Next.TheVariants.{Ask}
 use Rattle.hub_job.specs.declared.log.Entry.{Entry}
 use Rattle.hub_job.specs.declared.log.Logged.{Logged}
 use Rattle.hub_job.specs.Machine.{answer, after}
 use Rattle.hub_job.specs.Job.{next}
 use Rattle.hub_job.specs.Run.{Runs}
-use Rattle.hub_job.specs.World.{World, Jobs, log_of, entry, event, act, turn_of, turn, run, opening, alone}
+use Rattle.hub_job.specs.World.{World, Jobs, log_of, event, act, turn_of, turn, run, opening}
 use Rattle.hub_job.specs.Alike.{May, Alike}
 use Rattle.hub_job.specs.Same.{AsksMay, AreApart}
 use Rattle.hub_job.proofs.Blind.{same_path, path_itself}
 use Rattle.hub_job.proofs.Core.{has_its_root}
 use Rattle.hub_job.proofs.Alone.{no_log, a_log_each}
-use Rattle.hub_job.specs.History.{replay, IsAnswerOf, IsLegal, entries_of, entries_at, Agree}
+use Rattle.hub_job.specs.History.{replay, IsAnswerOf, IsLegal, entries_of, entries_at}
 use Rattle.hub_job.specs.Settled.{AreProfiles, IsSettled, IsAsAlone}
 
 -- What the laws of hub_job say, as lemmas take it.

@@ -1,6 +1,6 @@
 -- How many turns of a schedule a job keeps, if it is stopped after some of them.
-use Rattle.std.proofs.Common.{◌≡◌, ◌≢◌, ◌≤◌, ◌<◌, ◌+◌, ◌-◌, Bool, true, false, cond, List, [], ◌∷◌, length, refl, ap, sym, ◌∙◌, subst, arith, eq-eqb}
-use Rattle.std.specs.Prelude.{◌==◌, ℕ, zero, suc, if◌then◌else◌, filter, count_by, replicate}
+use Rattle.std.proofs.Common.{◌≡◌, ◌≤◌, ◌+◌, ◌-◌, Bool, true, false, cond, List, [], ◌∷◌, refl, ap, sym, ◌∙◌, arith, eq-eqb}
+use Rattle.std.specs.Prelude.{◌==◌, ℕ, zero, suc, if◌then◌else◌, count_by, replicate}
 use Rattle.std.proofs.lemmas.Bool.{false≢true, eqb-true, ne_eqb}
 use Rattle.std.proofs.lemmas.List.Sums.{sum_by-cons}
 use Rattle.hub_job.specs.Same.{own_turns}
@@ -85,7 +85,7 @@ fewer j (i ∷ js) limit =
     elim (limit i == 0) as (λ a. count j (cond a (first_turns limit js) (i ∷ first_turns (less limit i) js)) ≤ count j (i ∷ js)) [
       | true ↦ still_less (weight (i == j)) (count j (first_turns limit js)) (count j js) (count j (i ∷ js)) (count_first j i js) (fewer j js limit)
       | false ↦ both_more (weight (i == j)) (count j (first_turns (less limit i) js)) (count j js) (count j (i ∷ first_turns (less limit i) js)) (count j (i ∷ js))
-        (count_first j i (first_turns (less limit i) js)) (count_first j i js) (fewer j js (less limit i))
+          (count_first j i (first_turns (less limit i) js)) (count_first j i js) (fewer j js (less limit i))
     ]
 
 -- The schedule of one job alone.

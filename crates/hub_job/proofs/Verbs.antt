@@ -1,11 +1,11 @@
 -- Each Set that a job alone asks for is allowed by the contents that it finds.
-use Rattle.std.proofs.Common.{◌≡◌, ◌<◌, ◌≤◌, ◌+◌, ◌-◌, inl, inr, Bool, true, false, List, [], ◌∷◌, ◌++◌, length, Option, Some, None, refl, ap, sym, ◌∙◌, subst, arith, append_assoc, append-nil}
-use Rattle.std.specs.Prelude.{◌⊎◌, ℕ, zero, suc, IsTrue}
+use Rattle.std.proofs.Common.{◌≡◌, ◌<◌, ◌≤◌, ◌+◌, ◌-◌, inl, inr, true, false, List, [], ◌∷◌, ◌++◌, length, Option, Some, None, refl, ap, sym, ◌∙◌, subst, arith, append_assoc, append-nil}
+use Rattle.std.specs.Prelude.{ℕ, zero, suc}
 use Rattle.std.proofs.lemmas.Bool.{cases_lt}
 use Rattle.hub_path.specs.Path.{Path}
 use Rattle.hub_path.specs.declared.side.Side.{Side}
 use Rattle.hub_path.specs.declared.side.Side.TheVariants.{Left, Right}
-use Rattle.hub_profile.specs.Parts.{Parts, IsProfile, some_passes, at_side}
+use Rattle.hub_profile.specs.Parts.{Parts, IsProfile, some_passes}
 use Rattle.hub_reach.specs.Reach.{may_at}
 use Rattle.hub_tree.specs.Sets.{sets, each}
 use Rattle.hub_tree.specs.Tree.{Replica, Archive, IsTree, contents_at, mark_at, mark_of}
@@ -147,7 +147,7 @@ module _ (P : Parts) (facts : IsProfile P) (A B : Replica) (O : Archive) (left :
         elim (cases_lt n one.0) [
           | inl l ↦ early done todo c w c.mark n refl whole made (subst (λ m. n < m) one.3 l)
           | inr l ↦ subst (λ (v : Pair). Good v) (sym (ap (λ i. pair_run P O j i w) (rest_of one.0 n l) ∙ one.2 (n - one.0)))
-            (changes_good todo (done ++ c ∷ []) one.1 (n - one.0) (whole ∙ sym (append_assoc done (c ∷ []) todo)) one.4)
+              (changes_good todo (done ++ c ∷ []) one.1 (n - one.0) (whole ∙ sym (append_assoc done (c ∷ []) todo)) one.4)
         ]
 
   -- During the Looks.

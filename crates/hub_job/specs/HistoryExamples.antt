@@ -1,7 +1,7 @@
 -- Worked examples of histories.
-use Rattle.std.specs.Prelude.{⊤, ◌≡◌, ◌≢◌, ℕ, true, false, cond, T, List, [], ◌∷◌, ◌++◌, length, map, None, Some, refl, codes, IsTrue}
+use Rattle.std.specs.Prelude.{⊤, ◌≡◌, ◌≢◌, ℕ, false, cond, T, List, [], ◌∷◌, length, map, None, Some, refl, codes}
 use Rattle.std.proofs.Common.{ap, sym, ◌∙◌, subst}
-use Rattle.std.specs.FinMap.{FinMap, insert, put, get-insert, same_map, get-from_sorted, entries-from_sorted, is_sorted, from_sorted}
+use Rattle.std.specs.FinMap.{insert, put, get-insert, same_map, get-from_sorted, entries-from_sorted, is_sorted, from_sorted}
 use Rattle.std.specs.FinMap.Entries.{find-put}
 use Rattle.std.specs.Ordering.{eq_by_cmp}
 use Rattle.hub_path.specs.Laws.{path_cmp-total, path_cmp-exact}
@@ -15,17 +15,16 @@ use Rattle.hub_tree.specs.declared.contents.Contents.{Contents}
 use Rattle.hub_tree.specs.declared.contents.Contents.TheVariants as contents
 use Rattle.hub_tree.specs.declared.contents.Mark.TheVariants as mark
 use Rattle.hub_tree.specs.declared.fault.SetFault.TheVariants as set
-use Rattle.hub_job.specs.declared.op.Op.TheVariants.{Look, Fetch, Set}
+use Rattle.hub_job.specs.declared.op.Op.TheVariants.{Look, Set}
 use Rattle.hub_job.specs.declared.answer.OpFault.TheVariants.{NoParent}
-use Rattle.hub_job.specs.declared.answer.Answer.{Answer}
-use Rattle.hub_job.specs.declared.answer.Answer.TheVariants.{Seen, Bytes, Done, Refused}
+use Rattle.hub_job.specs.declared.answer.Answer.TheVariants.{Seen, Done, Refused}
 use Rattle.hub_job.specs.declared.log.Entry.{Entry}
 use Rattle.hub_job.specs.declared.log.Logged.{Logged}
 use Rattle.hub_glob.specs.Glob.{matches}
 use Rattle.hub_reach.specs.Reach.{reach}
 use Rattle.hub_reconcile.specs.Sight.{sight}
 use Rattle.hub_job.specs.Machine.{answer, after, changed_unless}
-use Rattle.hub_job.specs.History.{replay, IsLegal, entries_of, entries_at, Agree}
+use Rattle.hub_job.specs.History.{replay, IsLegal, entries_of, entries_at}
 
 -- What these examples compute.
 computed : ⊤

@@ -1,5 +1,5 @@
 -- The promise of a safe set: what its jobs leave of a state, whatever the order of their turns.
-use Rattle.std.specs.Prelude.{◌≡◌, ◌≢◌, ◌≤◌, ℕ, false, List, [], ◌∷◌, ◌++◌, length, slice_get, Option, Some, None, IsTrue, unwrap_or}
+use Rattle.std.specs.Prelude.{◌≡◌, ◌≢◌, ◌≤◌, ℕ, false, List, [], length, slice_get, Option, Some, None, IsTrue, unwrap_or}
 use Rattle.std.specs.List.{list_any}
 use Rattle.std.specs.FinMap as fin
 use Rattle.hub_path.specs.Path.{Path}
@@ -21,7 +21,7 @@ use Rattle.hub_job.specs.declared.log.Entry.{Entry}
 use Rattle.hub_job.specs.declared.log.Logged.{Logged}
 use Rattle.hub_job.specs.declared.op.Next.TheVariants.{Finished}
 use Rattle.hub_job.specs.Job.{next, is_refused}
-use Rattle.hub_job.specs.World.{Jobs, alone}
+use Rattle.hub_job.specs.World.{alone}
 use Rattle.hub_job.specs.Run.{root_at}
 use Rattle.hub_job.specs.History.{replay}
 use Rattle.hub_job.specs.Settled.{IsSettled}

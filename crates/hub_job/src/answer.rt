@@ -1,4 +1,4 @@
-use hub_path::{Name};
+use hub_path::Name;
 use hub_text::Items;
 use hub_tree::{Blob, Mark};
 

@@ -1,7 +1,7 @@
 use crate::log::Logged;
-use hub_text::Items;
 use hub_reconcile::Item;
 use hub_state::State;
+use hub_text::Items;
 
 /// How a job ended.
 #[derive(Clone, Copy, Debug, PartialEq, Eq)]

@@ -275,8 +275,8 @@ told_all P O j log l r h = by_length P O j log l (length log == l.told) refl r h
 filter_own : (f : Path → Bool) (front rest : List Path) → filter (λ s. list_any (path_eq s) (front ++ rest) && f s) rest ≡ filter f rest
 filter_own f front [] = refl
 filter_own f front (s ∷ rest) =
-    ap (λ b. cond (b && f s) (s ∷ filter (λ s. list_any (path_eq s) (front ++ s ∷ rest) && f s) rest) (filter (λ s. list_any (path_eq s) (front ++ s ∷ rest) && f s) rest)) (any_middle front rest s)
-    ∙ ap (λ ps. cond (f s) (s ∷ ps) ps) (ap (λ all. filter (λ s. list_any (path_eq s) all && f s) rest) (sym (append_assoc front (s ∷ []) rest)) ∙ filter_own f (front ++ s ∷ []) rest)
+    ap (λ b. cond (b && f s) (s ∷ filter (λ x. list_any (path_eq x) (front ++ s ∷ rest) && f x) rest) (filter (λ x. list_any (path_eq x) (front ++ s ∷ rest) && f x) rest)) (any_middle front rest s)
+    ∙ ap (λ ps. cond (f s) (s ∷ ps) ps) (ap (λ all. filter (λ x. list_any (path_eq x) all && f x) rest) (sym (append_assoc front (s ∷ []) rest)) ∙ filter_own f (front ++ s ∷ []) rest)
 
 put_each : (P : Parts) (ps qs : List Path) → put_all qs (flat_map looks_for (filter (λ s. length s == 0 || reach P s) ps)) ≡ fold (λ qs s. put_kept P qs s) qs ps
 put_each P [] qs = refl

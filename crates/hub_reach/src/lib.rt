@@ -9,6 +9,8 @@
 //! `specs/Shape`.
 #![tactic(auto)]
 
+#[cfg(test)]
+mod given;
 pub mod laws;
 mod mentions;
 mod reach;

@@ -6,7 +6,7 @@ use Rattle.hub_automaton.specs.Alphabet.{IsAlphabet, mentions, path_characters}
 use Rattle.hub_automaton.specs.Spots.{is_covered, path_alternatives}
 use Rattle.hub_automaton.proofs.Alphabets.{mentions_added}
 use Rattle.hub_automaton.proofs.Paths.{path_covered, text_mentioned}
-use Rattle.hub_automaton.proofs.tests.path_set.Goals as goal
+use Rattle.hub_automaton.proofs.tests.limits.path_set.Goals as goal
 
 pub build-requires : goal.build-requires
 build-requires c =

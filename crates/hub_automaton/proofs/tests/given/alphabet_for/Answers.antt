@@ -1,6 +1,6 @@
 use Rattle.std.proofs.Common.{arith}
 use Rattle.hub_automaton.proofs.Mentioned.{mentioned_step}
-use Rattle.hub_automaton.proofs.tests.alphabet_for.Goals as goal
+use Rattle.hub_automaton.proofs.tests.given.alphabet_for.Goals as goal
 
 pub loop-spec-preserved : goal.loop-spec-preserved
 loop-spec-preserved c =

@@ -2,7 +2,7 @@ use Rattle.std.proofs.Common.{ap, ◌∙◌}
 use Rattle.std.specs.List.{list_all}
 use Rattle.hub_automaton.specs.Alphabet.{mentions, path_characters, spec_characters}
 use Rattle.hub_automaton.proofs.Mentioned.{all_kept}
-use Rattle.hub_automaton.proofs.tests.alphabet_with.Goals as goal
+use Rattle.hub_automaton.proofs.tests.classes.alphabet_with.Goals as goal
 
 pub returns : goal.returns
 returns c =

@@ -1,5 +1,5 @@
 //! Positions of the empty text, and whether choices match by the positions of a text.
-ghost use Rattle.std.specs.Prelude.{◌≡◌, ◌+◌, ◌≤◌, ◌++◌, IfOk, OnOk};
+ghost use Rattle.std.specs.Prelude.{◌≡◌, ◌+◌, ◌≤◌, ◌++◌, OnOk};
 ghost use Rattle.hub_automaton.specs.Masks as masking;
 ghost use Rattle.hub_automaton.specs.Spots.{spot_count};
 ghost use Rattle.hub_automaton.specs.Stepping as stepping;

@@ -1,5 +1,5 @@
 //! What the lines of a text of certificates say so far.
-ghost use Rattle.std.specs.Prelude.{◌≡◌, ◌⊎◌, ◌≤◌, Ok, Err, IfOk, IfErr};
+ghost use Rattle.std.specs.Prelude.{◌≡◌, Ok, Err, IfOk};
 ghost use Rattle.hub_text.specs.Takes.{of_bytes};
 ghost use Rattle.hub_cert.specs.Reading as reading;
 

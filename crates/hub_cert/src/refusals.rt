@@ -1,9 +1,7 @@
 //! Why profiles and rules make no set.
-ghost use Rattle.std.specs.Prelude.{◌≡◌, ◌⊎◌, ◌<◌, ◌≤◌, ◌++◌, ℕ, true, map, length, slice_get, Some, IfOk, IfErr, IfSome, OnOk, MatchOption, IsTrue};
-ghost use Rattle.std.specs.List.{flat_map, list_all};
-ghost use Rattle.hub_path.specs.Path.{Name, Path};
+ghost use Rattle.std.specs.Prelude.{◌≡◌, ◌⊎◌, ◌<◌, ◌≤◌, ◌++◌, ℕ, length, slice_get, Some, IfOk, IfErr, OnOk, MatchOption, IsTrue};
+ghost use Rattle.std.specs.List.{flat_map};
 ghost use Rattle.hub_automaton.specs.Alphabet.{mentions, plain, spec_characters, with_characters, Refuses};
-ghost use Rattle.hub_automaton.specs.declared.alphabet.TheConstants.{MENTIONED_CHARACTERS};
 ghost use Rattle.hub_automaton.specs.declared.alternatives.TheConstants.{SPOTS};
 ghost use Rattle.hub_automaton.specs.declared.fault.AutomatonFault.TheVariants.{TooManyCharacters, TooManySpots};
 ghost use Rattle.hub_profile.specs.Parts.{Parts, IsProfile};

@@ -1,5 +1,5 @@
 //! Profiles and rules that are checked together, and their goals.
-ghost use Rattle.std.specs.Prelude.{◌≡◌, ◌⊎◌, ◌↔◌, ◌<◌, ◌≤◌, ◌++◌, ◌∷◌, [], ◌&&◌, map, filter, IsTrue, Contains, IfOk, IfErr, OnOk, length, Some};
+ghost use Rattle.std.specs.Prelude.{◌≡◌, ◌↔◌, ◌<◌, ◌++◌, ◌∷◌, [], ◌&&◌, map, filter, IsTrue, Contains, IfOk, IfErr, OnOk};
 ghost use Rattle.std.specs.List.{flat_map};
 ghost use Rattle.hub_cert.specs.Aim.{shares};
 ghost use Rattle.hub_reach.specs.Reach.{has_root, writes};

@@ -1,9 +1,8 @@
 //! What the lines of a profile say.
-ghost use Rattle.std.specs.Prelude.{◌≡◌, ◌⊎◌, [], ◌∷◌, Some, None, Ok, Err, IfOk, IfErr, OnOk, IsTrue, chars};
+ghost use Rattle.std.specs.Prelude.{◌≡◌, [], ◌∷◌, Some, None, Ok, Err, IfOk, IfErr, OnOk, IsTrue, chars};
 ghost use Rattle.std.specs.List.{list_all};
 ghost use Rattle.hub_path.specs.Path.{is_place};
 ghost use Rattle.hub_path.specs.Reading as path;
-ghost use Rattle.hub_glob.specs.Reading.{spec_reading};
 ghost use Rattle.hub_profile.specs.Faults.{FailsAs, FailsAt, FailsWith};
 ghost use Rattle.hub_profile.specs.Reading as reading;
 ghost use Rattle.hub_profile.specs.Said as said;

@@ -1,6 +1,6 @@
-ghost use Rattle.std.specs.Prelude.{◌≡◌, [], ◌&&◌, not, IfOk};
+ghost use Rattle.std.specs.Prelude.{◌≡◌, [], ◌&&◌, IfOk};
 ghost use Rattle.std.specs.List.{list_any};
-ghost use Rattle.hub_path.specs.Path.{path_eq, is_over};
+ghost use Rattle.hub_path.specs.Path.{path_eq};
 ghost use Rattle.hub_profile.specs.Marks as mark;
 ghost use Rattle.hub_profile.specs.Reading as reading;
 

@@ -1,5 +1,5 @@
 //! One line of a text.
-ghost use Rattle.std.specs.Prelude.{◌≡◌, ◌==◌, ◌<◌, [], ◌∷◌, false, true, Ok, Err, IfOk, IfErr, chars, length, nat_eq, MatchOption};
+ghost use Rattle.std.specs.Prelude.{◌≡◌, ◌<◌, false, Ok, Err, IfOk, IfErr, chars, MatchOption};
 ghost use Rattle.hub_profile.specs.Lines as lines;
 
 use crate::fault::Fault;

@@ -1,5 +1,5 @@
 //! A profile's text.
-ghost use Rattle.std.specs.Prelude.{◌≡◌, ◌⊎◌, Ok, Err, IfOk, IfErr};
+ghost use Rattle.std.specs.Prelude.{◌≡◌, Ok, IfOk, IfErr};
 ghost use Rattle.hub_profile.specs.Faults.{FailsAt};
 ghost use Rattle.hub_profile.specs.Parts.{IsProfile};
 ghost use Rattle.hub_profile.specs.Reading as reading;
@@ -16,42 +16,45 @@ mod tests;
 
 /// Reads the profile of that name from the bytes of its text.
 ///
-/// The text is UTF-8 and cut at LF. A CR at the end of a line is dropped (this project's choice), then the spaces
-/// and tabs around the line. A blank line and one that begins with `#` are skipped. Each other line sets a preference,
-/// `NAME = VALUE`, and is cut at its first `=`. The preferences are (Unison manual, "Preferences"):
+/// The text is UTF-8 and cut at LF. A CR at the end of a line is dropped (this project's choice),
+/// then the spaces and tabs around the line. A blank line and one that begins with `#` are skipped.
+/// Each other line sets a preference, `NAME = VALUE`, and is cut at its first `=`. The preferences
+/// are (Unison manual, "Preferences"):
 ///
-/// - `root`: a replica. There are exactly two (this project's choice), the left one first. They differ, and neither
-///   lies within the other.
-/// - `path`: only this path and what is below it. One `/` at its end is dropped, and an empty value means the whole
-///   replica (both this project's choice), as does a profile without such a line. A value that is equal to an earlier
-///   one or properly below another adds nothing.
-/// - `ignore`: a path specification (`hub_glob::PathSpec::read`). A path that it matches is not synchronized, nor is
-///   what is below it.
+/// - `root`: a replica. There are exactly two (this project's choice), the left one first. They
+///   differ, and neither lies within the other.
+/// - `path`: only this path and what is below it. One `/` at its end is dropped, and an empty value
+///   means the whole replica (both this project's choice), as does a profile without such a line. A
+///   value that is equal to an earlier one or properly below another adds nothing.
+/// - `ignore`: a path specification (`hub_glob::PathSpec::read`). A path that it matches is not
+///   synchronized, nor is what is below it.
 /// - `ignorenot`: a path specification. A path that it matches is not ignored itself.
 /// - `force`: the root that all differences are resolved in favour of.
-/// - `prefer`: the root that conflicts are resolved in favour of; where both are given, `force` decides (this project's
-///   choice).
-/// - `nodeletion`, `noupdate`, `nocreation`: a root at which no deletions, no updates and deletions, or no creations
-///   are made. Each may be given for each root, and a repeated line adds nothing.
-/// - `auto`, `batch`, `confirmbigdel`, `contactquietly`, `fastcheck`, `group`, `key`, `label`, `log`, `logfile`,
-///   `owner`, `perms`, `silent`, `terse`, `times`: accepted without effect (this project's choice).
+/// - `prefer`: the root that conflicts are resolved in favour of; where both are given, `force`
+///   decides (this project's choice).
+/// - `nodeletion`, `noupdate`, `nocreation`: a root at which no deletions, no updates and
+///   deletions, or no creations are made. Each may be given for each root, and a repeated line adds
+///   nothing.
+/// - `auto`, `batch`, `confirmbigdel`, `contactquietly`, `fastcheck`, `group`, `key`, `label`,
+///   `log`, `logfile`, `owner`, `perms`, `silent`, `terse`, `times`: accepted without effect (this
+///   project's choice).
 ///
-/// The fault is `NotUtf8` at line 0. Otherwise it is that of the lowest line that has one. Of one line it is the first
-/// of these:
+/// The fault is `NotUtf8` at line 0. Otherwise it is that of the lowest line that has one. Of one
+/// line it is the first of these:
 ///
-/// 1. `IncludeLeftOut`: the first word is `include`, `source`, `include?` or `source?`, and no `=` follows it directly
-///    or after spaces and tabs.
+/// 1. `IncludeLeftOut`: the first word is `include`, `source`, `include?` or `source?`, and no `=`
+///    follows it directly or after spaces and tabs.
 /// 2. `NoEquals`: the line has no `=`.
 /// 3. `UnknownPreference`: no preference has that name.
 /// 4. `Repeated`: a second `force` or a second `prefer` line, whatever its value.
 /// 5. `LeftOutValue`: `force` or `prefer` with the value `newer` or `older`.
-/// 6. `TooMany`: a `path` line after `PATH_LINES` of them, or an `ignore` or `ignorenot` line after `PATTERN_LINES` of
-///    both together.
+/// 6. `TooMany`: a `path` line after `PATH_LINES` of them, or an `ignore` or `ignorenot` line after
+///    `PATTERN_LINES` of both together.
 /// 7. `BadPath` or `BadPattern`: the value is not a root, not a path, or not a path specification.
 ///
-/// Where no line has a fault, it is `RootCount`, `SameRoots` or `RootsNested` at line 0; otherwise `NotARoot` at the
-/// lowest line whose `force`, `prefer`, `nodeletion`, `noupdate` or `nocreation` names neither of the two roots. Any
-/// call may instead report `OutOfMemory`, at any line.
+/// Where no line has a fault, it is `RootCount`, `SameRoots` or `RootsNested` at line 0; otherwise
+/// `NotARoot` at the lowest line whose `force`, `prefer`, `nodeletion`, `noupdate` or `nocreation`
+/// names neither of the two roots. Any call may instead report `OutOfMemory`, at any line.
 pub fn read_profile(alloc: Global, name: Name, bytes: &[u8]) -> Result<Profile, ProfileFault>
     ensures ok { IfOk result (λ P. reading.profile_in name bytes.now ≡ Ok P) }
     ensures err { IfErr result (FailsAt (reading.profile_in name bytes.now)) }

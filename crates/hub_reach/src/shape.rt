@@ -1,6 +1,5 @@
 //! The shape of a text's last component.
 ghost use Rattle.std.specs.Prelude.{◌≡◌, ◌++◌, ◌∷◌, [], ℕ, List, IsTrue};
-ghost use Rattle.hub_path.specs.Path.{path_of, is_path};
 ghost use Rattle.hub_reach.specs.Shape as shape;
 
 /// The shape of a text's last component: whether the text is the text of a path, or may become one.
@@ -36,7 +35,8 @@ impl Shape {
     /// The shape of the text with one more character, which may stand in a path's text.
     pub(crate) fn push(self, character: char) -> Shape
         requires { IsTrue (shape.is_text_character character) }
-        ensures { (t : List ℕ) → self ≡ shape.shape_of t → result ≡ shape.shape_of (t ++ character ∷ []) }
+        ensures { (t : List ℕ) → self ≡ shape.shape_of t
+            → result ≡ shape.shape_of (t ++ character ∷ []) }
     {
         self.pushed(character == '/', character == '.')
     }

@@ -1,12 +1,15 @@
--- What follows from reach.
-use Rattle.std.proofs.Common.{◌≡◌, ◌∙◌, Bool, true, false, not, ◌&&◌, ◌||◌, List, [], ◌∷◌, refl, ap}
+-- What follows from reach, and an alphabet that mentions what a profile does.
+use Rattle.std.proofs.Common.{◌≡◌, ◌∙◌, ℕ, Bool, true, false, not, ◌&&◌, ◌||◌, List, [], ◌∷◌, ◌++◌, refl, ap}
 use Rattle.std.proofs.lemmas.Bool.{and_parts, and_right}
 use Rattle.std.specs.Prelude.{IsTrue}
-use Rattle.std.specs.List.{list_any}
+use Rattle.std.specs.List.{flat_map, list_any}
 use Rattle.hub_path.specs.Path.{Path, is_over, is_path, prefixes}
 use Rattle.hub_glob.specs.Glob.{matches}
 use Rattle.hub_glob.specs.Specification.{Specification}
+use Rattle.hub_automaton.specs.Alphabet.{mentions, path_characters, spec_characters}
+use Rattle.hub_automaton.specs.Adding.{each-mentioned, parts-mentioned}
 use Rattle.hub_profile.specs.Parts.{Parts}
+use Rattle.hub_reach.specs.Mention.{Mentions, mentioned_by}
 use Rattle.std.proofs.Math.Bool.{and-true}
 use Rattle.hub_reach.specs.Reach.{reach, is_open, is_ignored}
 
@@ -52,3 +55,16 @@ reach-open P p none =
     ap (λ b. is_path p && b)
     (any-alike (λ s. is_over s p && is_open P s p) (λ s. is_over s p) P.paths
     (λ s. rw (nothing-ignored P s (prefixes p) none) (and-true (is_over s p))))
+
+-- An alphabet that mentions all that a profile mentions.
+pub says-all : (P : Parts) (ms : List ℕ) → mentions ms (mentioned_by P) ≡ true → Mentions ms P
+says-all P ms h =
+    let one = flat_map spec_characters P.ignore in
+    let other = flat_map spec_characters P.ignorenot in
+    let w = parts-mentioned ms (flat_map path_characters P.paths) (one ++ other) h in
+    let v = parts-mentioned ms one other w.1 in
+    record {
+      paths = each-mentioned path_characters ms P.paths w.0;
+      ignore = each-mentioned spec_characters ms P.ignore v.0;
+      ignorenot = each-mentioned spec_characters ms P.ignorenot v.1;
+    }

@@ -5,7 +5,9 @@ use Rattle.hub_path.specs.Path.{Path}
 use Rattle.hub_glob.specs.Specification.{Specification}
 use Rattle.hub_automaton.specs.Alphabet.{path_characters, spec_characters, with_characters, Refuses, mentions}
 use Rattle.hub_reach.specs.Mention.{mentioned_by, IsPartly}
-use Rattle.hub_reach.proofs.Grows.{added-behind, says-all, refused-front, refused-behind, partly-front, partly-behind}
+use Rattle.hub_automaton.specs.Adding.{added-after, refused-before, refused-after}
+use Rattle.hub_reach.specs.Laws.{says-all}
+use Rattle.hub_reach.proofs.Grows.{partly-front, partly-behind}
 use Rattle.hub_reach.proofs.mentions.mention.Goals as goal
 
 pub returns-in_err-mention_paths-clause-err : goal.returns-in_err-mention_paths-clause-err
@@ -15,7 +17,7 @@ returns-in_err-mention_paths-clause-err c =
     let p = err_from_is_err_and c.from_residual.result c.from_residual.ensures.1 in
     let e = c.in_err-mention_paths.field-0.0 in
     rw (p.1, p.2)
-    (refused-front old (flat_map path_characters P.paths) (flat_map spec_characters P.ignore ++ flat_map spec_characters P.ignorenot) e
+    (refused-before old (flat_map path_characters P.paths) (flat_map spec_characters P.ignore ++ flat_map spec_characters P.ignorenot) e
     (subst (λ (ps : List Path). Refuses old (flat_map path_characters ps) e) c.paths.ensures.value c.in_err-mention_paths.ensures.err))
 
 pub returns-in_err-mention_paths-clause-partly : goal.returns-in_err-mention_paths-clause-partly
@@ -37,8 +39,8 @@ returns-in_err-mention_specs-clause-err c =
     let first : a ≡ with_characters old (flat_map path_characters P.paths) =
     c.in_ok-mention_paths.ensures.ok ∙ ap (λ (ps : List Path). with_characters old (flat_map path_characters ps)) c.paths.ensures.value in
     rw (p.1, p.2)
-    (refused-behind old a (flat_map path_characters P.paths) (flat_map spec_characters P.ignore ++ flat_map spec_characters P.ignorenot) e first
-    (refused-front a (flat_map spec_characters P.ignore) (flat_map spec_characters P.ignorenot) e
+    (refused-after old a (flat_map path_characters P.paths) (flat_map spec_characters P.ignore ++ flat_map spec_characters P.ignorenot) e first
+    (refused-before a (flat_map spec_characters P.ignore) (flat_map spec_characters P.ignorenot) e
     (subst (λ (ss : List Specification). Refuses a (flat_map spec_characters ss) e) c.ignore.ensures c.in_err-mention_specs.ensures.err)))
 
 pub returns-in_err-mention_specs-clause-partly : goal.returns-in_err-mention_specs-clause-partly
@@ -68,8 +70,8 @@ returns-in_err-mention_specs-2-clause-err c =
     let second : b ≡ with_characters a (flat_map spec_characters P.ignore) =
     c.in_ok-mention_specs.ensures.ok ∙ ap (λ (ss : List Specification). with_characters a (flat_map spec_characters ss)) c.ignore.ensures in
     rw (p.1, p.2)
-    (refused-behind old a (flat_map path_characters P.paths) (flat_map spec_characters P.ignore ++ flat_map spec_characters P.ignorenot) e first
-    (refused-behind a b (flat_map spec_characters P.ignore) (flat_map spec_characters P.ignorenot) e second
+    (refused-after old a (flat_map path_characters P.paths) (flat_map spec_characters P.ignore ++ flat_map spec_characters P.ignorenot) e first
+    (refused-after a b (flat_map spec_characters P.ignore) (flat_map spec_characters P.ignorenot) e second
     (subst (λ (ss : List Specification). Refuses b (flat_map spec_characters ss) e) c.ignorenot.ensures c.in_err-mention_specs-2.ensures.err)))
 
 pub returns-in_err-mention_specs-2-clause-partly : goal.returns-in_err-mention_specs-2-clause-partly
@@ -102,8 +104,8 @@ returns-clause-ok c =
     c.in_ok-mention_specs.ensures.ok ∙ ap (λ (ss : List Specification). with_characters a (flat_map spec_characters ss)) c.ignore.ensures in
     let third : d ≡ with_characters b (flat_map spec_characters P.ignorenot) =
     c.in_ok-mention_specs-2.ensures.ok ∙ ap (λ (ss : List Specification). with_characters b (flat_map spec_characters ss)) c.ignorenot.ensures in
-    added-behind old a d (flat_map path_characters P.paths) (flat_map spec_characters P.ignore ++ flat_map spec_characters P.ignorenot) first
-    (added-behind a b d (flat_map spec_characters P.ignore) (flat_map spec_characters P.ignorenot) second third)
+    added-after old a d (flat_map path_characters P.paths) (flat_map spec_characters P.ignore ++ flat_map spec_characters P.ignorenot) first
+    (added-after a b d (flat_map spec_characters P.ignore) (flat_map spec_characters P.ignorenot) second third)
 
 pub returns-clause-kept : goal.returns-clause-kept
 returns-clause-kept c = λ cs h.

@@ -6,4 +6,5 @@ pub mod Shape
 pub mod Stage
 pub mod Walker
 pub mod Examples
+pub mod Classes
 pub mod Mention

@@ -12,7 +12,7 @@ use Rattle.std.specs.declared.cmp.Ordering.{Ordering}
 use Rattle.std.specs.declared.cmp.Ordering.TheVariants.{Less, Greater}
 use Rattle.std.proofs.lemmas.Map.Keys.{sorted_head, sorted_tail}
 
-both : (a b : Bool) → T a → T b → T (a && b)
+pub both : (a b : Bool) → T a → T b → T (a && b)
 both true b p q = q
 both false b p q = p
 
@@ -60,3 +60,8 @@ copy_more {R = R} o done iterator rest all e k i s same h =
     ap (λ k. insert_entry R done k e.1 ++ rest) same
     ∙ ap (λ es. es ++ rest) (insert_entry-last o done e rest (subst (λ es. IsStrictlySortedBy R (keys_of es)) (sym whole) h))
     ∙ append_assoc done (e ∷ []) rest ∙ whole
+
+-- maps are equal where their entries are
+pub same_entries : {K X : Type 0} {R : K → K → Ordering} (o : IsTotalOrder R) → fin.IsAntisymmetric R → (es fs : List (K × X)) → IsStrictlySortedBy R (keys_of es) → IsStrictlySortedBy R (keys_of fs)
+    → fin.from_entries {R = R} es ≡ fin.from_entries {R = R} fs → es ≡ fs
+same_entries o same es fs h k e = sym (entries-ascending o same es h) ∙ ap (λ m. fin.entries m) e ∙ entries-ascending o same fs k

@@ -2,12 +2,14 @@ pub mod Ascending
 pub mod Beneath
 pub mod Between
 pub mod Children
+pub mod Comparing
 pub mod Contented
 pub mod Copies
 pub mod Counts
 pub mod Listing
 pub mod LookUp
 pub mod MarkMaps
+pub mod Matching
 pub mod Names
 pub mod Order
 pub mod Paths
@@ -15,3 +17,4 @@ pub mod Replacing
 pub mod Runs
 pub mod Setting
 pub mod Trees
+pub mod Walk

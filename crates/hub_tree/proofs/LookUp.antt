@@ -28,7 +28,7 @@ abbrev pub or_else : {A : Type 0} → Option A → Option A → Option A
 or_else None o = o
 or_else (Some x) o = Some x
 
-or_else-none : {A : Type 0} (o : Option A) → or_else o None ≡ o
+pub or_else-none : {A : Type 0} (o : Option A) → or_else o None ≡ o
 or_else-none None = refl
 or_else-none (Some x) = refl
 
@@ -50,7 +50,7 @@ pub find-below : (n k : Name) (p : Path) (es : Entries) → find path_cmp (n ∷
 find-below n k p [] = either_way (eq_by_cmp name_cmp n k) None
 find-below n k p (e ∷ es) = one_below (name_cmp n k) (path_cmp p e.0) e.1 _ _ (find-below n k p es)
 
-find_top-below : (k : Name) (es : Entries) → find path_cmp [] (below k es) ≡ None
+pub find_top-below : (k : Name) (es : Entries) → find path_cmp [] (below k es) ≡ None
 find_top-below k [] = refl
 find_top-below k (e ∷ es) = find_top-below k es
 

@@ -47,7 +47,7 @@ in_node : (r : Path) (x : Node) → among r (node_paths x) ≡ is_some (node_get
 in_node [] x = refl
 in_node (m ∷ p) x = sym (fin.contains_key-keys (replica_of (kids_of x)) (m ∷ p))
 
-above_none : (n : Name) (cs : List (Name × Node)) → AllByRecursion (λ k. name_cmp n k ≡ Less) (keys_of cs) → find name_cmp n cs ≡ None
+pub above_none : (n : Name) (cs : List (Name × Node)) → AllByRecursion (λ k. name_cmp n k ≡ Less) (keys_of cs) → find name_cmp n cs ≡ None
 above_none n [] h = refl
 above_none n (c ∷ cs) h = ap (λ r. cond (is_eq r) (Some c.1) (find name_cmp n cs)) h.0 ∙ above_none n cs h.1
 
@@ -129,7 +129,7 @@ none_ascend : IsStrictlySortedBy path_cmp []
 unfolding IsStrictlySortedBy
 none_ascend = tt
 
-all_ascend : (cs : List (Name × Node)) → IsStrictlySortedBy name_cmp (keys_of cs) → IsStrictlySortedBy path_cmp (all_paths cs)
+pub all_ascend : (cs : List (Name × Node)) → IsStrictlySortedBy name_cmp (keys_of cs) → IsStrictlySortedBy path_cmp (all_paths cs)
 all_ascend [] h = none_ascend
 all_ascend (c ∷ cs) h =
     joined_ascend c.0 (node_paths c.1) cs (named_ascend c.0 (node_paths c.1) (node_ascends c.1))

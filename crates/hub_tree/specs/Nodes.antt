@@ -1,5 +1,5 @@
 -- The entries of a tree that is kept as names and what stands under each.
-use Rattle.std.specs.Prelude.{ℕ, ◌+◌, Bool, false, not, List, [], ◌∷◌, ◌++◌, map, length, ◌==◌, Option, Some, None, if◌then◌else◌}
+use Rattle.std.specs.Prelude.{◌≡◌, ℕ, ◌+◌, Bool, false, not, List, [], ◌∷◌, ◌++◌, map, length, ◌==◌, Option, Some, None, if◌then◌else◌}
 use Rattle.std.specs.FinMap as fin
 use Rattle.std.specs.FinMap.Entries.{where_key}
 use Rattle.std.specs.Ordering.{eq_by_cmp}
@@ -83,3 +83,7 @@ fault_below x p c = if is_directory (contents_of x) then set_fault (replica_of (
 -- How many entries a node is, with what is below it.
 abbrev pub size_of : Node → ℕ
 size_of x = fin.len (replica_of (kids_of x)) + 1
+
+-- Both nodes are the same, with all that they hold.
+abbrev pub AreSame : Node → Node → Type 0
+AreSame x y = (contents_of x ≡ contents_of y) × (replica_of (kids_of x) ≡ replica_of (kids_of y))

@@ -1,4 +1,4 @@
-ghost use Rattle.std.specs.Prelude.{◌≡◌, ◌<◌, length, IfOk, IsOk, OnOk, OnErr};
+ghost use Rattle.std.specs.Prelude.{◌≡◌, ◌<◌, ◌↔◌, length, IsTrue, IfOk, IsOk, OnOk, OnErr};
 ghost use Rattle.std.specs.FinMap as fin;
 ghost use Rattle.std.specs.BTreeMap.{keys, IsOrdered};
 ghost use Rattle.hub_path.specs.Path.{path_cmp};
@@ -9,6 +9,7 @@ use hub_path::RelPath;
 use hub_text::Items;
 use std::alloc::{AllocError, Global};
 use std::collections::BTreeMap;
+use std::collections::btree_map::Iter;
 use std::marker::Model;
 
 /// What a pair of replicas last agreed on: marks at finitely many paths.
@@ -60,6 +61,20 @@ impl Archive {
             alloc: self.alloc,
             marks: copy_of_marks(self.alloc, &self.marks)?,
         })
+    }
+
+    /// Whether both archives have the same mark at each path.
+    pub fn same(&self, other: &Archive) -> bool
+        ensures { IsTrue result ↔ (self.now ≡ other.now) }
+    {
+        have_same_marks(&self.marks, &other.marks)
+    }
+
+    /// Goes through the marks in the order of their paths.
+    pub fn iter(&self) -> Iter<'_, RelPath, Mark>
+        ensures { result ≡ fin.entries self.now }
+    {
+        self.marks.iter()
     }
 
     /// The paths that have marks, in ascending order.
@@ -143,4 +158,32 @@ fn copy_of_marks(
         copies.insert(path.copy()?, *mark)?;
     }
     Ok(copies)
+}
+
+/// Whether both have the same marks at the same paths.
+fn have_same_marks(marks: &BTreeMap<RelPath, Mark>, others: &BTreeMap<RelPath, Mark>) -> bool
+    ensures same { IsTrue result ↔ (marks.now.entries ≡ others.now.entries) }
+    ensures ordered { IsOrdered path_cmp marks.now }
+    ensures others { IsOrdered path_cmp others.now }
+{
+    let mut rest = others.iter();
+    for (path, mark) in marks.iter() {
+        let Some((other_path, other)) = rest.next() else {
+            return false;
+        };
+        if path != other_path {
+            return false;
+        }
+        if !are_equal(mark, other) {
+            return false;
+        }
+    }
+    rest.next().is_none()
+}
+
+/// Whether both marks are the same.
+fn are_equal(mark: &Mark, other: &Mark) -> bool
+    ensures { IsTrue result ↔ (mark.now ≡ other.now) }
+{
+    mark == other
 }

@@ -3,15 +3,19 @@
 //! A `Tree` is a replica: it has files and directories at finitely many paths. An `Archive` records the marks that both
 //! replicas of a pair last agreed on. Contracts see both as finite maps from paths, in the words of `specs/Tree`.
 //!
+//! [`Tree::entries`] goes through a replica in the order of its paths, and [`Archive::iter`] through an archive.
+//!
 //! Only functions that return a `Result` allocate, and `Blob::new` takes over the memory of its bytes.
 #![tactic(auto)]
 
 mod archive;
 mod blob;
 mod contents;
+mod entries;
 mod fault;
 pub mod laws;
 mod node;
+mod same;
 #[cfg(test)]
 mod tests;
 mod tree;
@@ -19,5 +23,6 @@ mod tree;
 pub use archive::Archive;
 pub use blob::Blob;
 pub use contents::{Contents, Mark};
+pub use entries::{Entries, Stored};
 pub use fault::SetFault;
 pub use tree::Tree;

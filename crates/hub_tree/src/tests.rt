@@ -1,4 +1,4 @@
-use crate::{Archive, Blob, Contents, Mark, SetFault, Tree};
+use crate::{Archive, Blob, Contents, Mark, SetFault, Stored, Tree};
 use hub_path::{Name, RelPath};
 use hub_text::Items;
 use std::alloc::{AllocError, Global};
@@ -275,6 +275,108 @@ fn marks_of_an_archive(rt: HostRuntime) -> Result<(), Fail> {
     are_paths(&rt, &archive.paths()?, &["a", "a/b", "a-b"]);
     assert_eq!(rt; opening.paths()?.len(), 4);
     is_marked(&rt, alloc, &opening, "b", Mark::File(ABC))
+}
+
+/// Whether these are the entries of the tree, in order: of a directory the text is that of its path, of a file that and the
+/// length of its bytes.
+fn has_entries(
+    rt: &impl Abort,
+    alloc: Global,
+    tree: &Tree,
+    want: &[(&str, usize)],
+) -> Result<(), Fail> {
+    let mut count: usize = 0;
+    for (entry, (text, len)) in tree.entries()?.zip(want) {
+        let (path, stored) = entry?;
+        assert!(rt; path == RelPath::read(alloc, text)?, "at {text}");
+        assert_eq!(rt; len_of(stored), *len, "at {text}");
+        count = count.saturating_add(1);
+    }
+    assert_eq!(rt; count, want.len());
+    assert_eq!(rt; tree.paths()?.len(), want.len());
+    Ok(())
+}
+
+/// How many bytes a file has, and 1,000 for a directory.
+fn len_of(stored: Stored<'_>) -> usize {
+    match stored {
+        Stored::File(blob) => blob.bytes().len(),
+        Stored::Directory => 1000,
+    }
+}
+
+#[test]
+fn entries_of_a_tree(rt: HostRuntime) -> Result<(), Fail> {
+    let alloc = rt.alloc();
+    has_entries(&rt, alloc, &Tree::new(alloc), &[])?;
+    let mut tree = small(alloc).ok_or("no memory")?;
+    set(alloc, &mut tree, "a-b", file(alloc, "")?)?;
+    set(alloc, &mut tree, "a/c", Contents::Directory)?;
+    set(alloc, &mut tree, "a/c/d", file(alloc, "x")?)?;
+    set(alloc, &mut tree, "b", Contents::Directory)?;
+    let all = [
+        ("a", 1000),
+        ("a/b", 3),
+        ("a/c", 1000),
+        ("a/c/d", 1),
+        ("a-b", 0),
+        ("b", 1000),
+    ];
+    has_entries(&rt, alloc, &tree, &all)
+}
+
+/// Whether the tree with these contents at that path is the same as the tree.
+fn is_same_with(alloc: Global, tree: &Tree, text: &str, contents: Contents) -> Result<bool, Fail> {
+    let mut other = tree.copy()?;
+    set(alloc, &mut other, text, contents)?;
+    Ok(tree.same(&other) || other.same(tree))
+}
+
+#[test]
+fn trees_are_compared(rt: HostRuntime) -> Result<(), Fail> {
+    let alloc = rt.alloc();
+    let tree = small(alloc).ok_or("no memory")?;
+    assert!(rt; is_same_with(alloc, &tree, "a", Contents::Directory)?);
+    assert!(rt; is_same_with(alloc, &tree, "a/b", file(alloc, "abc")?)?);
+    assert!(rt; !is_same_with(alloc, &tree, "a/b", file(alloc, "abd")?)?);
+    assert!(rt; !is_same_with(alloc, &tree, "a/b", Contents::Directory)?);
+    assert!(rt; !is_same_with(alloc, &tree, "a/b", Contents::Absent)?);
+    assert!(rt; !is_same_with(alloc, &tree, "a/c", Contents::Directory)?);
+    assert!(rt; !is_same_with(alloc, &tree, "A", Contents::Directory)?);
+    Ok(())
+}
+
+#[test]
+fn archives_are_compared(rt: HostRuntime) -> Result<(), Fail> {
+    let alloc = rt.alloc();
+    let mut archive = Archive::new(alloc);
+    set_mark(&rt, alloc, &mut archive, "a/b", Mark::File(ABC))?;
+    let opening = archive.copy()?;
+    assert!(rt; archive.same(&opening));
+    set_mark(&rt, alloc, &mut archive, "a/b", Mark::File(A))?;
+    assert!(rt; !archive.same(&opening));
+    set_mark(&rt, alloc, &mut archive, "a/b", Mark::File(ABC))?;
+    assert!(rt; archive.same(&opening));
+    set_mark(&rt, alloc, &mut archive, "a", Mark::Directory)?;
+    assert!(rt; !archive.same(&opening));
+    assert!(rt; !opening.same(&archive));
+    Ok(())
+}
+
+#[test]
+fn marks_in_order(rt: HostRuntime) -> Result<(), Fail> {
+    let alloc = rt.alloc();
+    let mut archive = Archive::new(alloc);
+    for text in ["b", "a/b", "a", "a-b"] {
+        set_mark(&rt, alloc, &mut archive, text, Mark::File(ABC))?;
+    }
+    let want = ["a", "a/b", "a-b", "b"];
+    assert_eq!(rt; archive.iter().len(), want.len());
+    for ((path, mark), text) in archive.iter().zip(want) {
+        assert!(rt; *path == RelPath::read(alloc, text)?, "at {text}");
+        assert_eq!(rt; *mark, Mark::File(ABC));
+    }
+    Ok(())
 }
 
 /// A tree whose `set` ran out of memory is as before.

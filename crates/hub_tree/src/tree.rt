@@ -1,11 +1,13 @@
-ghost use Rattle.std.specs.Prelude.{◌≡◌, min, None, IfOk, IfErr, OnOk, OnErr};
+ghost use Rattle.std.specs.Prelude.{◌≡◌, ◌↔◌, min, None, IsTrue, IfOk, IfErr, OnOk, OnErr};
 ghost use Rattle.std.specs.Option.{option_map};
 ghost use Rattle.std.specs.FinMap as fin;
 ghost use Rattle.hub_tree.specs.Tree as tree;
 
 use crate::contents::{Contents, Mark};
+use crate::entries::Entries;
 use crate::fault::SetFault;
 use crate::node::{Node, copies_of, count_of, names_of, node_at, push_paths, set_at};
+use crate::same::are_same;
 use hub_path::{Name, RelPath};
 use hub_text::Items;
 use std::alloc::{AllocError, Global};
@@ -62,6 +64,23 @@ impl Tree {
             alloc: self.alloc,
             children: copies_of(self.alloc, &self.children)?,
         })
+    }
+
+    /// Whether both replicas have the same contents at each path.
+    pub fn same(&self, other: &Tree) -> bool
+        ensures { IsTrue result ↔ (self.now ≡ other.now) }
+    {
+        are_same(&self.children, &other.children)
+    }
+
+    /// Goes through the files and directories in the order of their paths.
+    ///
+    /// The contents are borrowed, and each path is made when it is its turn: in memory are the path of one entry and of each
+    /// directory above it.
+    pub fn entries(&self) -> Result<Entries<'_>, AllocError>
+        ensures { IfOk result (λ e. e ≡ fin.entries self.now) }
+    {
+        Entries::new(self.alloc, &self.children)
     }
 
     /// The paths that have contents, in ascending order.

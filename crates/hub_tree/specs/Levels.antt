@@ -1,0 +1,24 @@
+-- What is left of a walk through a tree: directories with the children that are left, each before the one that it holds.
+use Rattle.std.specs.Prelude.{Bool, true, ◌&&◌, List, [], ◌∷◌, ◌++◌, map}
+use Rattle.std.specs.FinMap as fin
+use Rattle.std.specs.FinMap.Entries.{is_sorted}
+use Rattle.hub_path.specs.Path.{Path, name_cmp}
+use Rattle.hub_tree.specs.Nodes.{Entries, replica_of}
+use Rattle.hub_tree.specs.declared.entries.Level.{Level}
+
+-- The entries, each after a prefix.
+abbrev pub after : Path → Entries → Entries
+after p es = map (λ e. (p ++ e.0, e.1)) es
+
+-- The children that are left of a directory, and what they hold.
+abbrev pub level_entries : Level → Entries
+level_entries l = after l.path (fin.entries (replica_of l.children))
+
+-- What a directory holds comes before what is left of the directory that it is in.
+abbrev pub left_in : List Level → Entries
+left_in [] = []
+left_in (l ∷ ls) = left_in ls ++ level_entries l
+
+abbrev pub all_ascend : List Level → Bool
+all_ascend [] = true
+all_ascend (l ∷ ls) = is_sorted name_cmp l.children && all_ascend ls

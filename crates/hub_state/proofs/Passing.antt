@@ -1,28 +1,21 @@
 -- Lines that are written one after the other.
-use Rattle.std.proofs.Common.{◌≡◌, ℕ, ◌+◌, ◌<◌, List, [], ◌∷◌, ◌++◌, map, length, take, get_or, Option, Some, None, BTreeMap, String, string_bytes, refl, sym, ap, ◌∙◌, subst, append-nil, append_assoc}
+use Rattle.std.proofs.Common.{◌≡◌, ℕ, List, [], ◌∷◌, ◌++◌, Option, Some, None, BTreeMap, String, string_bytes, refl, sym, ap, ◌∙◌, subst, append-nil, append_assoc}
 use Rattle.std.specs.FinMap as fin
 use Rattle.std.specs.List.{flat_map}
-use Rattle.std.specs.Option.{unwrap_or}
+use Rattle.std.specs.Prelude.{Result, Ok}
+use Rattle.std.specs.declared.alloc.AllocError.{AllocError}
 use Rattle.std.specs.Io.KnownBytes.{Appends}
 use Rattle.std.proofs.KnownBytes.{Appends-trans}
-use Rattle.std.proofs.lemmas.Grind.{take_at_read}
 use Rattle.std.proofs.lemmas.List.Concat.{flat_map-append}
-use Rattle.hub_path.specs.Path.{Path, path_cmp}
-use Rattle.hub_path.specs.Laws.{path_cmp-total}
-use Rattle.hub_tree.specs.Tree.{Replica, IsTree, contents_at}
+use Rattle.hub_path.specs.Path.{Path}
+use Rattle.hub_tree.specs.Stored.{TakesEntry, stored_contents}
+use Rattle.hub_tree.specs.declared.entries.Stored.{Stored}
 use Rattle.hub_tree.specs.declared.contents.Contents.{Contents}
-use Rattle.hub_tree.specs.declared.contents.Contents.TheVariants as contents
 use Rattle.hub_state.specs.State.{State, Text}
 use Rattle.hub_state.specs.Devices.{Passes}
 use Rattle.hub_state.specs.View.{by_text, by_two, below, pairs, keyed}
 use Rattle.hub_state.specs.Writing.{header, end_line, replica_lines, archive_lines, joined_lines, state_text}
-use Rattle.hub_state.proofs.Kept.{back}
 use Rattle.hub_state.proofs.Maps.{by_two-push, pairs-push}
-use Rattle.hub_state.proofs.Sections.{there_in}
-
--- The text of the lines of the first items.
-abbrev pub text_to : {X : Type 0} → (X → List (List ℕ)) → List X → ℕ → List ℕ
-text_to f xs i = joined_lines (flat_map f (take i xs))
 
 pub one_line : (l : List ℕ) → joined_lines (l ∷ []) ≡ l ++ 10 ∷ []
 one_line l = append-nil (l ++ 10 ∷ [])
@@ -30,13 +23,10 @@ one_line l = append-nil (l ++ 10 ∷ [])
 pub joined-append : (ls ks : List (List ℕ)) → joined_lines (ls ++ ks) ≡ joined_lines ls ++ joined_lines ks
 joined-append ls ks = flat_map-append (λ (l : List ℕ). l ++ 10 ∷ []) ls ks
 
-joined_one : {X : Type 0} (f : X → List (List ℕ)) (xs : List X) (x : X) → joined_lines (flat_map f (xs ++ x ∷ [])) ≡ joined_lines (flat_map f xs) ++ joined_lines (f x)
+pub joined_one : {X : Type 0} (f : X → List (List ℕ)) (xs : List X) (x : X) → joined_lines (flat_map f (xs ++ x ∷ [])) ≡ joined_lines (flat_map f xs) ++ joined_lines (f x)
 joined_one f xs x =
     ap joined_lines (flat_map-append f xs (x ∷ []) ∙ ap (λ ls. flat_map f xs ++ ls) (append-nil (f x)))
     ∙ joined-append (flat_map f xs) (f x)
-
-pub text_more : {X : Type 0} (f : X → List (List ℕ)) (xs : List X) (i : ℕ) (d : X) → i < length xs → text_to f xs (i + 1) ≡ text_to f xs i ++ joined_lines (f (get_or xs i d))
-text_more f xs i d h = ap (λ ys. joined_lines (flat_map f ys)) (take_at_read xs i d h).1 ∙ joined_one f (take i xs) (get_or xs i d)
 
 -- One more entry of a map.
 keyed-push : {Z X Y : Type 0} (f : X → Y) (es : List (String Z × X)) (x : String Z × X) → keyed f (es ++ x ∷ []) ≡ keyed f es ++ (string_bytes x.0, f x.1) ∷ []
@@ -47,21 +37,9 @@ pub lines_more : {Z X : Type 0} (f : Text × X → List (List ℕ)) (es : List (
     → joined_lines (flat_map f (by_text (es ++ x ∷ []))) ≡ joined_lines (flat_map f (by_text es)) ++ joined_lines (f (string_bytes x.0, x.1))
 lines_more f es x = ap (λ ds. joined_lines (flat_map f ds)) (keyed-push (λ v. v) es x) ∙ joined_one f (by_text es) (string_bytes x.0, x.1)
 
--- To look up each key in order is to go through the entries.
-look_ups_from : {X Y : Type 0} (m : fin.FinMap path_cmp X) (there : Path → X) (f : Path × X → List Y) → ((p : Path) (v : X) → fin.get m p ≡ Some v → there p ≡ v)
-    → (es acc : List (Path × X)) → back acc es ≡ fin.entries m → flat_map (λ p. f (p, there p)) (map (λ (e : Path × X). e.0) es) ≡ flat_map f es
-look_ups_from m there f same [] acc h = refl
-look_ups_from {X = X} m there f same (e ∷ es) acc h =
-    ap (λ (v : X). f (e.0, v) ++ flat_map (λ p. f (p, there p)) (map (λ (e : Path × X). e.0) es)) (same e.0 e.1 (there_in path_cmp-total m acc e es h))
-    ∙ ap (λ ls. f e ++ ls) (look_ups_from m there f same es (e ∷ acc) h)
-
-pub look_ups : {X Y : Type 0} (m : fin.FinMap path_cmp X) (there : Path → X) (f : Path × X → List Y) → ((p : Path) (v : X) → fin.get m p ≡ Some v → there p ≡ v)
-    → flat_map (λ p. f (p, there p)) (fin.keys m) ≡ flat_map f (fin.entries m)
-look_ups m there f same = look_ups_from m there f same (fin.entries m) [] refl
-
-pub contents-there : (m : Replica) → IsTree m → (p : Path) (c : Contents) → fin.get m p ≡ Some c → contents_at m p ≡ c
-contents-there m tree [] c e = let w : None ≡ Some c = sym tree.no_top ∙ e in cc
-contents-there m tree (n ∷ p) c e = ap (λ (o : Option Contents). unwrap_or o contents.Absent) e
+-- A step through a replica that didn't run out of memory.
+pub next_entry : (left rest : List (Path × Contents)) (r : Result (Path × Stored) AllocError) (e : Path × Stored) → TakesEntry left (Some r) rest → r ≡ Ok e → left ≡ (e.0, stored_contents e.1) ∷ rest
+next_entry left rest r e h was = subst (λ (x : Result (Path × Stored) AllocError). TakesEntry left (Some x) rest) was h
 
 -- Bytes that are passed on.
 Appends-nothing : (c : Option (List ℕ)) → Appends c c []

@@ -4,7 +4,7 @@ ghost use Rattle.std.specs.Io.KnownBytes.{Appends};
 ghost use Rattle.std.specs.List.{flat_map};
 ghost use Rattle.std.specs.BTreeMap.{IsOrdered};
 ghost use Rattle.std.specs.String.{string_cmp};
-ghost use Rattle.hub_tree.specs.Tree.{contents_at};
+ghost use Rattle.hub_tree.specs.Stored.{stored_contents};
 ghost use Rattle.hub_state.specs.Devices.{Passes, is_write_failed, says, reports};
 ghost use Rattle.hub_state.specs.View.{by_text, below, pairs_in};
 ghost use Rattle.hub_state.specs.Writing.{dir_line, file_line, hex_field, pair_lines};
@@ -15,7 +15,7 @@ use crate::fault::{Fault, StateFault};
 use crate::state::State;
 use hub_path::RelPath;
 use hub_text::Watched;
-use hub_tree::{Archive, Mark, Tree};
+use hub_tree::{Archive, Mark, Stored, Tree};
 use std::alloc::{AllocError, Global};
 use std::collections::BTreeMap;
 use std::io::Write;
@@ -27,8 +27,7 @@ const BLOCK_BYTES: usize = 65_536;
 /// texts, the smaller text first; the entries of each in the order of paths; digits in lower case.
 ///
 /// Returns `WriteFailed` exactly when a write failed, and writes no further then. Both of its faults have line 0, and after
-/// either the writer may hold a part of the text. The text is written in blocks: only one block and the paths of one
-/// replica or archive are in memory.
+/// either the writer may hold a part of the text. The text is written in blocks, of which only one is in memory.
 pub fn write_state<W: Write>(
     alloc: Global,
     output: &mut Watched<W>,
@@ -141,10 +140,9 @@ fn write_tree<W: Write>(
     ensures faults { IfErr result (λ e. (e ≡ Fault.OutOfMemory) ⊎ (e ≡ Fault.WriteFailed)) }
     ensures failed { output.new.failed ≡ says is_write_failed result }
 {
-    let _top = tree.mark_at(&RelPath::top(alloc));
-    let paths = tree.paths()?;
-    for path in paths.as_slice() {
-        push_entry(alloc, text, tree, path)?;
+    for entry in tree.entries()? {
+        let (path, stored) = entry?;
+        push_entry(alloc, text, &path, stored)?;
         pass_block(output, text)?;
     }
     Ok(())
@@ -164,9 +162,8 @@ fn write_marks<W: Write>(
     ensures faults { IfErr result (λ e. (e ≡ Fault.OutOfMemory) ⊎ (e ≡ Fault.WriteFailed)) }
     ensures failed { output.new.failed ≡ says is_write_failed result }
 {
-    let paths = archive.paths()?;
-    for path in paths.as_slice() {
-        push_mark(alloc, text, archive.mark_at(path), path)?;
+    for (path, mark) in archive.iter() {
+        push_mark(alloc, text, *mark, path)?;
         pass_block(output, text)?;
     }
     Ok(())
@@ -225,23 +222,19 @@ fn push_pair(text: &mut String, first: &str, second: &str) -> Result<(), AllocEr
     Ok(())
 }
 
-/// Appends the line of what a replica has at a path, if there is something.
+/// Appends the line of what a replica has at a path.
 fn push_entry(
     alloc: Global,
     text: &mut String,
-    tree: &Tree,
     path: &RelPath,
+    stored: Stored<'_>,
 ) -> Result<(), AllocError>
     ensures { OnOk result (string_bytes text.new ≡ string_bytes text.old
-        ++ joined_lines (contents_lines (path.now, contents_at tree.now path.now))) }
+        ++ joined_lines (contents_lines (path.now, stored_contents stored.entry))) }
 {
-    if let Some(bytes) = tree.bytes_at(path) {
-        return push_file(alloc, text, bytes, path);
-    }
-    match tree.mark_at(path) {
-        Mark::Directory => push_dir(text, path),
-        Mark::File(_) => Ok(()),
-        Mark::Absent => Ok(()),
+    match stored {
+        Stored::File(blob) => push_file(alloc, text, blob.bytes(), path),
+        Stored::Directory => push_dir(text, path),
     }
 }
 

@@ -1,43 +1,40 @@
-use Rattle.std.proofs.Common.{◌≡◌, ℕ, ◌+◌, List, [], ◌++◌, Option, string_bytes, sym, ap, ◌∙◌, subst, arith, append-nil}
+use Rattle.std.proofs.Common.{◌≡◌, ℕ, List, [], ◌∷◌, ◌++◌, string_bytes, sym, ap, ◌∙◌, subst, append-nil, append_assoc}
 use Rattle.std.specs.List.{flat_map}
-use Rattle.std.specs.Option.{unwrap_or}
-use Rattle.std.proofs.lemmas.List.{take_all}
 use Rattle.hub_path.specs.Path.{Path}
-use Rattle.hub_tree.specs.Tree.{old_mark_at}
 use Rattle.hub_tree.specs.declared.contents.Mark.{Mark}
-use Rattle.hub_tree.specs.declared.contents.Mark.TheVariants as mark
 use Rattle.hub_state.specs.Devices.{Passes}
 use Rattle.hub_state.specs.Writing.{mark_lines, joined_lines}
-use Rattle.hub_state.proofs.Passing.{text_to, text_more, look_ups, passes-start, passes-step}
+use Rattle.hub_state.proofs.Passing.{joined_one, passes-start, passes-step}
 use Rattle.hub_state.proofs.writer.write_marks.Goals as goal
 
 pub loop-path-init : goal.loop-path-init
-loop-path-init g c = (passes-start (g.W.Write.contents c.args.output.now.device) (string_bytes c.args.text.now), c.requires)
+loop-path-init g c = (
+  [],
+  c.into_iter-path-iterator.ensures.into_iter_gives ∙ c.iter-path-items.ensures,
+  passes-start (g.W.Write.contents c.args.output.now.device) (string_bytes c.args.text.now),
+  c.requires,
+)
 
 pub loop-path-preserved : goal.loop-path-preserved
 loop-path-preserved g c =
-    let xs : List Path = c.as_slice-path-items.result.now in
-    let i : ℕ = c.loop-path.path-index in
-    let p : Path = c.path-item.result in
-    let f : Path → List (List ℕ) = λ p. mark_lines (p, old_mark_at c.args.archive.now p) in
-    let s : List ℕ = joined_lines (f p) in
-    let push : string_bytes c.push_mark.new.text ≡ string_bytes c.loop-path.text ++ s =
-    c.in_ok-push_mark.ensures ∙ ap (λ (m : Mark). string_bytes c.loop-path.text ++ joined_lines (mark_lines (p, m))) c.mark_at.ensures.mark in
-    let is : text_to f xs (i + 1) ≡ text_to f xs i ++ (s ++ []) =
-    text_more f xs i p (omega arith) ∙ ap (λ (q : Path). text_to f xs i ++ joined_lines (f q)) (sym c.path-item.is) ∙ ap (λ (u : List ℕ). text_to f xs i ++ u) (sym (append-nil s)) in (
+    let inv = c.loop-path.invariant in
+    let es = inv.0 in
+    let x : Path × Mark = (c.in-Some.path.now, c.in-Some.mark.now) in
+    let done : List ℕ = joined_lines (flat_map mark_lines es) in
+    let s : List ℕ = joined_lines (mark_lines x) in (
+      es ++ x ∷ [],
+      append_assoc es (x ∷ []) c.next.new.self ∙ ap (λ (r : List (Path × Mark)). es ++ r) (sym c.in-Some.ensures.steps) ∙ inv.1,
       passes-step (g.W.Write.contents c.args.output.now.device) (g.W.Write.contents c.loop-path.output.device) (g.W.Write.contents c.pass_block.new.output.device)
           (string_bytes c.args.text.now) (string_bytes c.loop-path.text) (string_bytes c.push_mark.new.text) (string_bytes c.pass_block.new.text)
-          (text_to f xs i) s [] (text_to f xs (i + 1)) c.loop-path.invariant.0 push c.in_ok-pass_block.ensures.ok is,
+          done s [] (joined_lines (flat_map mark_lines (es ++ x ∷ []))) inv.2 c.in_ok-push_mark.ensures c.in_ok-pass_block.ensures.ok
+          (joined_one mark_lines es x ∙ ap (λ (u : List ℕ). done ++ u) (sym (append-nil s))),
       c.in_ok-pass_block.ensures.failed,
     )
 
 pub returns-clause-ok : goal.returns-clause-ok
 returns-clause-ok g c =
-    let xs : List Path = c.as_slice-path-items.result.now in
-    let a = c.args.archive.now in
-    let f : Path → List (List ℕ) = λ p. mark_lines (p, old_mark_at a p) in
+    let inv = c.loop-path.invariant in
     subst
-    (λ (t : List ℕ). Passes (g.W.Write.contents c.args.output.now.device) (g.W.Write.contents c.loop-path.output.device) (string_bytes c.args.text.now) (string_bytes c.loop-path.text) t)
-    (ap (λ (ys : List Path). joined_lines (flat_map f ys)) (take_all c.loop-path.path-index xs (omega arith) ∙ c.as_slice-path-items.ensures ∙ c.in_ok-paths.ensures)
-    ∙ ap joined_lines (look_ups a (λ p. old_mark_at a p) mark_lines (λ p v e. ap (λ (o : Option Mark). unwrap_or o mark.Absent) e)))
-    c.loop-path.invariant.0
+    (λ (es : List (Path × Mark)). Passes (g.W.Write.contents c.args.output.now.device) (g.W.Write.contents c.loop-path.output.device) (string_bytes c.args.text.now) (string_bytes c.loop-path.text)
+    (joined_lines (flat_map mark_lines es)))
+    (sym (append-nil inv.0) ∙ ap (λ (r : List (Path × Mark)). inv.0 ++ r) (sym c.in-None.ensures.steps.0) ∙ inv.1) inv.2

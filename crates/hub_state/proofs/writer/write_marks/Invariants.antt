@@ -1,12 +1,14 @@
-use Rattle.std.proofs.Common.{◌≡◌, false, string_bytes}
-use Rattle.hub_tree.specs.Tree.{old_mark_at}
+use Rattle.std.proofs.Common.{◌≡◌, false, List, ◌++◌, string_bytes}
+use Rattle.std.specs.FinMap as fin
+use Rattle.std.specs.List.{flat_map}
+use Rattle.hub_path.specs.Path.{Path}
+use Rattle.hub_tree.specs.declared.contents.Mark.{Mark}
 use Rattle.hub_state.specs.Devices.{Passes}
-use Rattle.hub_state.specs.Writing.{mark_lines}
-use Rattle.hub_state.proofs.Passing.{text_to}
+use Rattle.hub_state.specs.Writing.{mark_lines, joined_lines}
 use Rattle.hub_state.proofs.writer.write_marks.Given as goal
 
 abbrev pub invariant-loop-path : goal.invariant-loop-path
 invariant-loop-path g l =
-    Passes (g.W.Write.contents l.fn.output.device) (g.W.Write.contents l.output.device) (string_bytes l.fn.text) (string_bytes l.text)
-    (text_to (λ p. mark_lines (p, old_mark_at l.archive p)) l.path-items l.path-index)
+    (es : List (Path × Mark)) × (es ++ l.path-iterator ≡ fin.entries l.archive)
+    × Passes (g.W.Write.contents l.fn.output.device) (g.W.Write.contents l.output.device) (string_bytes l.fn.text) (string_bytes l.text) (joined_lines (flat_map mark_lines es))
     × (l.output.failed ≡ false)

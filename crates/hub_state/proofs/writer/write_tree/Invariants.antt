@@ -1,12 +1,14 @@
-use Rattle.std.proofs.Common.{◌≡◌, false, string_bytes}
-use Rattle.hub_tree.specs.Tree.{contents_at}
+use Rattle.std.proofs.Common.{◌≡◌, false, List, ◌++◌, string_bytes}
+use Rattle.std.specs.FinMap as fin
+use Rattle.std.specs.List.{flat_map}
+use Rattle.hub_path.specs.Path.{Path}
+use Rattle.hub_tree.specs.declared.contents.Contents.{Contents}
 use Rattle.hub_state.specs.Devices.{Passes}
-use Rattle.hub_state.specs.Writing.{contents_lines}
-use Rattle.hub_state.proofs.Passing.{text_to}
+use Rattle.hub_state.specs.Writing.{contents_lines, joined_lines}
 use Rattle.hub_state.proofs.writer.write_tree.Given as goal
 
-abbrev pub invariant-loop-path : goal.invariant-loop-path
-invariant-loop-path g l =
-    Passes (g.W.Write.contents l.fn.output.device) (g.W.Write.contents l.output.device) (string_bytes l.fn.text) (string_bytes l.text)
-    (text_to (λ p. contents_lines (p, contents_at l.tree p)) l.path-items l.path-index)
+abbrev pub invariant-loop-entry : goal.invariant-loop-entry
+invariant-loop-entry g l =
+    (es : List (Path × Contents)) × (es ++ l.entry-iterator ≡ fin.entries l.tree)
+    × Passes (g.W.Write.contents l.fn.output.device) (g.W.Write.contents l.output.device) (string_bytes l.fn.text) (string_bytes l.text) (joined_lines (flat_map contents_lines es))
     × (l.output.failed ≡ false)

@@ -1,5 +1,5 @@
 -- The entries of a tree in order: for each name, what is there and then what it holds.
-use Rattle.std.proofs.Common.{◌≡◌, ◌<◌, Bool, true, false, cond, ◌&&◌, T, List, [], ◌∷◌, ◌++◌, length, map, Option, Some, None, refl, ap, sym, ◌∙◌, subst, append_assoc, append-nil, arith}
+use Rattle.std.proofs.Common.{◌≡◌, ◌<◌, Bool, true, false, cond, T, List, [], ◌∷◌, ◌++◌, length, Option, Some, None, refl, ap, sym, ◌∙◌, subst, append_assoc, append-nil, arith}
 use Rattle.std.specs.FinMap as fin
 use Rattle.std.specs.FinMap.Entries.{find, is_sorted}
 use Rattle.std.specs.List.{flat_map}
@@ -13,14 +13,13 @@ use Rattle.hub_text.specs.TestLaws.{T-first, T-second}
 use Rattle.hub_path.specs.Path.{Name, Path, path_cmp, name_cmp}
 use Rattle.hub_tree.specs.Levels.{after, level_entries, left_in, all_ascend}
 use Rattle.hub_tree.specs.Nodes.{Entries, replica_of, kids_of, node_get, contents_of, below}
-use Rattle.hub_tree.specs.Tree.{Replica}
 use Rattle.hub_tree.specs.declared.contents.Contents.{Contents}
 use Rattle.hub_tree.specs.declared.entries.Level.{Level}
 use Rattle.hub_tree.specs.declared.node.Node.{Node}
-use Rattle.hub_tree.proofs.Ascending.{both, is_sorted-from, entries-ascending}
+use Rattle.hub_tree.proofs.Ascending.{both, entries-ascending}
 use Rattle.hub_tree.proofs.Children.{sorted_keys}
 use Rattle.hub_tree.proofs.LookUp.{or_else, or_else-none, find-append, find-below, find_top-below, look_up, get_top}
-use Rattle.hub_tree.proofs.Order.{name_total, path_total, path_antisymmetric, same_name}
+use Rattle.hub_tree.proofs.Order.{path_total, path_antisymmetric, same_name}
 use Rattle.hub_tree.proofs.Paths.{named, node_paths, all_paths, above_none, all_ascend as paths_ascend}
 
 abbrev pub node_all : Node → Entries

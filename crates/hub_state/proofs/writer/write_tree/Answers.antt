@@ -11,7 +11,7 @@ use Rattle.hub_state.proofs.writer.write_tree.Goals as goal
 pub loop-entry-init : goal.loop-entry-init
 loop-entry-init g c = (
   [],
-  c.into_iter-entry-iterator.ensures.into_iter_gives ∙ c.in_ok-entries.ensures,
+  c.into_iter-entry-iterator.ensures.into_iter_gives ∙ c.in_ok-entry-items.ensures,
   passes-start (g.W.Write.contents c.args.output.now.device) (string_bytes c.args.text.now),
   c.requires,
 )

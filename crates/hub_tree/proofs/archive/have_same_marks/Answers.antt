@@ -5,7 +5,7 @@ use Rattle.std.specs.Map.Iter.{deref_pair}
 use Rattle.hub_path.specs.Laws.{name_eq-decides}
 use Rattle.hub_path.specs.Path.{Path, path_eq}
 use Rattle.hub_tree.specs.declared.contents.Mark.{Mark}
-use Rattle.hub_tree.proofs.Matching.{at_start, one_less, other_items, too_few, too_many, all_same, refuted, unequal, equal, by_none, step_none, step_some}
+use Rattle.hub_tree.proofs.Matching.{one_less, other_items, too_few, too_many, all_same, refuted, unequal, equal, by_none, step_none, step_some}
 use Rattle.hub_tree.proofs.archive.have_same_marks.Goals as goal
 
 pub returns-in_default-clause-same : goal.returns-in_default-clause-same

@@ -1,4 +1,4 @@
-use Rattle.std.proofs.Common.{◌≡◌, T, List, [], ◌∷◌, ◌++◌, sym, ap, ◌∙◌, subst}
+use Rattle.std.proofs.Common.{T, List, [], ◌∷◌, ◌++◌, sym, ap, ◌∙◌, subst}
 use Rattle.std.specs.FinMap.Entries.{is_sorted}
 use Rattle.hub_path.specs.Path.{Name, name_cmp}
 use Rattle.hub_tree.specs.Levels.{all_ascend}
@@ -13,7 +13,7 @@ use Rattle.hub_tree.proofs.entries.enter.Goals as goal
 pub returns-in-File-clause-left : goal.returns-in-File-clause-left
 returns-in-File-clause-left c =
     entered_file c.args.levels.now.items c.push.new.self.items c.args.level c.args.name.now c.args.node.now c.in_ok-push.ensures.items
-    (ap kids_of c.in-File.is ∙ kids-file c.in-File.blob.now)
+    (ap kids_of c.in-File.is ∙ kids-file c.in-File.blob)
 
 pub returns-in-File-clause-ascend : goal.returns-in-File-clause-ascend
 returns-in-File-clause-ascend c =

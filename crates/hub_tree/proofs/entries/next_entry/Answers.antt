@@ -1,6 +1,5 @@
-use Rattle.std.proofs.Common.{◌≡◌, T, List, [], ◌∷◌, ◌++◌, sym, ap, ◌∙◌}
+use Rattle.std.proofs.Common.{◌≡◌, List, [], ◌∷◌, ◌++◌, sym, ap, ◌∙◌}
 use Rattle.std.specs.FinMap as fin
-use Rattle.hub_path.specs.Path.{Path}
 use Rattle.hub_tree.specs.Levels.{after, left_in}
 use Rattle.hub_tree.specs.Nodes.{Entries, contents_of, kids_of, replica_of}
 use Rattle.hub_tree.specs.Stored.{stored_contents}

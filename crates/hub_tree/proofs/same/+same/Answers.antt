@@ -1,9 +1,8 @@
-use Rattle.std.proofs.Common.{◌≡◌, sym, ap, ◌∙◌}
+use Rattle.std.proofs.Common.{◌≡◌, sym, ◌∙◌}
 use Rattle.std.proofs.lemmas.Bool.{false≢true}
 use Rattle.std.specs.Map.Iter.{deref_pair}
 use Rattle.hub_path.specs.Laws.{name_eq-decides}
 use Rattle.hub_path.specs.Path.{Name, name_eq}
-use Rattle.hub_tree.specs.Nodes.{AreSame, replica_of}
 use Rattle.hub_tree.proofs.Comparing.{one_less, other_names, other_nodes, too_few, too_many, all_same}
 use Rattle.hub_tree.proofs.Matching.{refuted, unequal, equal, by_none, step_none, step_some}
 use Rattle.hub_tree.proofs.same.+same.Goals as goal

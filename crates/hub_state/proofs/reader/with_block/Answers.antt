@@ -1,0 +1,8 @@
+use Rattle.hub_state.proofs.Blocks.{stands-longer}
+use Rattle.hub_state.proofs.reader.with_block.Goals as goal
+
+pub returns-in-Ok-clause-stands : goal.returns-in-Ok-clause-stands
+returns-in-Ok-clause-stands c = λ bytes h. c.with_bytes.ensures.stands bytes h
+
+pub returns-in-Err-clause-stands : goal.returns-in-Err-clause-stands
+returns-in-Err-clause-stands c = λ bytes h. stands-longer bytes c.args.block.now c.in-Err.fault h

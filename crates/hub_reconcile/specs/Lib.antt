@@ -1,3 +1,4 @@
+pub mod SideOf
 pub mod Sight
 pub mod View
 pub mod Items
@@ -5,4 +6,8 @@ pub mod Picture
 pub mod Sides
 pub mod Sync
 pub mod Shown
+pub mod Rows
+pub mod Fates
+pub mod Blocks
+pub mod Merge
 pub mod Examples

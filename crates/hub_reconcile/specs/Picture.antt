@@ -3,6 +3,7 @@ use Rattle.std.specs.Prelude.{Bool, true, false, not, ◌&&◌, List, [], ◌∷
 use Rattle.std.specs.List.{list_any, flat_map, list_all}
 use Rattle.std.specs.FinMap as fin
 use Rattle.std.specs.FinMap.Entries.{is_sorted}
+use Rattle.std.specs.Ordering.{is_lt}
 use Rattle.hub_path.specs.Path.{Path, path_cmp, path_eq, parent, ascending}
 use Rattle.hub_path.specs.declared.side.Side.{Side}
 use Rattle.hub_path.specs.declared.side.Side.TheVariants.{Left, Right}
@@ -51,3 +52,8 @@ each_once (p ∷ ps) = not (list_any (path_eq p) ps) && each_once ps
 -- All Looks that a side needs are there, each once.
 abbrev pub has_looks : Parts → List (Path × Sight) → Bool
 has_looks P ss = each_once (map (λ s. s.0) ss) && list_all (was_seen ss) (needed P ss)
+
+-- A path stands before that of the first Look.
+abbrev pub is_before : Path → List (Path × Sight) → Bool
+is_before p [] = true
+is_before p (s ∷ ss) = is_lt (path_cmp p s.0)

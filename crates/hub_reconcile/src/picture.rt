@@ -1,7 +1,9 @@
 ghost use Rattle.std.specs.Prelude.{◌≡◌, IsTrue};
 ghost use Rattle.hub_reconcile.specs.Picture.{are_rising, told_by};
+ghost use Rattle.hub_reconcile.specs.SideOf.{of_side};
 
 use crate::look::Look;
+use hub_path::Side;
 use hub_profile::Profile;
 use hub_tree::Archive;
 
@@ -40,5 +42,30 @@ impl<'a> Picture<'a> {
             right,
             archive,
         }
+    }
+
+    /// For whom it is.
+    pub fn profile(&self) -> &'a Profile
+        ensures { result.now ≡ self.now.profile.now }
+    {
+        self.profile
+    }
+
+    /// The Looks at this side.
+    pub fn looks(&self, side: Side) -> &'a [Look<'a>]
+        ensures looks { result.now ≡ of_side self.now.left.now self.now.right.now side }
+        ensures rising { IsTrue (are_rising (told_by result.now)) }
+    {
+        match side {
+            Side::Left => self.left,
+            Side::Right => self.right,
+        }
+    }
+
+    /// The archive.
+    pub fn archive(&self) -> &'a Archive
+        ensures { result.now ≡ self.now.archive.now }
+    {
+        self.archive
     }
 }

@@ -1,5 +1,5 @@
 //! What a picture tells of an item's parent.
-ghost use Rattle.std.specs.Prelude.{◌≡◌, IfOk, IsTrue};
+ghost use Rattle.std.specs.Prelude.{◌≡◌, ◌<◌, IfOk, IsTrue, length};
 ghost use Rattle.hub_reconcile.specs.Items as spec;
 ghost use Rattle.hub_reconcile.specs.Picture.{are_rising, sight_in, told_by};
 ghost use Rattle.hub_reconcile.specs.Shown.{shown};
@@ -10,7 +10,6 @@ use crate::picture::Picture;
 use hub_path::{RelPath, Side};
 use hub_tree::Mark;
 use std::alloc::AllocError;
-use std::cmp::Ordering;
 
 /// Whether a path may be made on this side: its parent is the whole replica, or a directory there.
 pub(crate) fn has_parent(
@@ -28,21 +27,31 @@ pub(crate) fn has_parent(
 }
 
 /// The mark that the Looks of a side tell of a path.
-fn mark_in(looks: &[Look], path: &RelPath) -> Mark
+fn mark_in<'a>(looks: &'a [Look<'a>], path: &RelPath) -> Mark
     requires { IsTrue (are_rising (told_by looks.now)) }
     ensures { result ≡ (sight_in (told_by looks.now) path.now).mark }
 {
     let mut rest = looks;
-    while !rest.is_empty() {
-        let (front, back) = rest.split_at(rest.len() / 2);
-        let Some((look, after)) = back.split_first() else {
-            return Mark::Absent;
-        };
-        match path.cmp(look.path) {
-            Ordering::Less => rest = front,
-            Ordering::Equal => return look.mark,
-            Ordering::Greater => rest = after,
-        }
+    while rest.len() > 1 {
+        rest = half_with(rest, path);
     }
-    Mark::Absent
+    match rest {
+        [look] if look.path == path => look.mark,
+        _ => Mark::Absent,
+    }
+}
+
+/// The half of the Looks that has the path's, if one of them is of the path.
+fn half_with<'a>(looks: &'a [Look<'a>], path: &RelPath) -> &'a [Look<'a>]
+    requires rising { IsTrue (are_rising (told_by looks.now)) }
+    requires more { 1 < length looks.now }
+    ensures sight { sight_in (told_by result.now) path.now ≡ sight_in (told_by looks.now) path.now }
+    ensures rising { IsTrue (are_rising (told_by result.now)) }
+    ensures fewer { length result.now < length looks.now }
+{
+    let (front, back) = looks.split_at(looks.len() / 2);
+    match back {
+        [look, ..] if path.cmp(look.path).is_lt() => front,
+        _ => back,
+    }
 }

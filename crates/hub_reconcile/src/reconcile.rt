@@ -47,8 +47,9 @@ pub fn next_archive(alloc: Global, picture: &Picture) -> Result<Archive, AllocEr
     ensures { IfOk result
         (λ a. a ≡ sync.next_archive (shown picture.now) picture.now.archive.now) }
 {
-    let mut archive = picture.archive().copy()?;
-    let old_paths = picture.archive().paths()?;
+    let old = picture.archive();
+    let mut archive = old.copy()?;
+    let old_paths = old.paths()?;
     let rows = table(alloc, picture, old_paths.as_slice())?;
     let blocks = blocks(alloc, picture, rows.as_slice())?;
     update_all(&mut archive, blocks.as_slice())?;
@@ -124,7 +125,7 @@ fn push_going(changes: &mut Vec<Change>, below: &[Row], from: Side) -> Result<()
         ≡ changes.old.items ++ parts.going_rows from below.now) }
 {
     let mut rest = below;
-    while let Some((row, before)) = rest.split_last() {
+    while let [before @ .., row] = rest {
         if row.goes(from) {
             changes.push(change_to(row, from, Mark::Absent)?)?;
         }

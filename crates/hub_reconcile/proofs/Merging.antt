@@ -54,7 +54,7 @@ front_is (x ∷ xs) p s low =
           sym (none_seen p xs (λ q m. path_cmp-total.trans p x.0 q l (behind [] (seen_paths xs) x.0 q s m)))
     ] refl
 
-past_seen : (p : Path) (ss : List (Path × Sight)) → seen_paths (past_sight p ss) ≡ past p (seen_paths ss)
+pub past_seen : (p : Path) (ss : List (Path × Sight)) → seen_paths (past_sight p ss) ≡ past p (seen_paths ss)
 past_seen p [] = refl
 past_seen p (s ∷ ss) = elim (path_eq s.0 p) as (λ b. seen_paths (cond b ss (s ∷ ss)) ≡ cond b (seen_paths ss) (seen_paths (s ∷ ss))) [ true ↦ refl | false ↦ refl ]
 

@@ -1,7 +1,7 @@
 -- A search by halves among Looks in order finds the Look of a path, if there is one.
-use Rattle.std.proofs.Common.{◌≡◌, Bool, true, false, cond, ◌||◌, List, [], ◌∷◌, ◌++◌, map, refl, ap, sym, ◌∙◌, subst}
+use Rattle.std.proofs.Common.{Ordering, ◌≡◌, Bool, true, false, cond, ◌||◌, List, [], ◌∷◌, ◌++◌, map, refl, ap, sym, ◌∙◌, subst}
 use Rattle.std.specs.List.Sorted.{IsStrictlySortedBy}
-use Rattle.std.specs.Ordering.{eq_by_cmp, ordering_reverse}
+use Rattle.std.specs.Ordering.{eq_by_cmp, is_lt, ordering_reverse}
 use Rattle.std.specs.declared.cmp.Ordering.TheVariants.{Less, Equal, Greater}
 use Rattle.std.proofs.lemmas.Bool.{false≢true}
 use Rattle.std.proofs.lemmas.Map.Keys.{sorted_tail}
@@ -33,7 +33,7 @@ seen-append : (xs ys : List (Path × Sight)) → seen_paths (xs ++ ys) ≡ seen_
 seen-append [] ys = refl
 seen-append (x ∷ xs) ys = ap (λ ps. x.0 ∷ ps) (seen-append xs ys)
 
-told-append : (xs ys : List Look) → told_by (xs ++ ys) ≡ told_by xs ++ told_by ys
+pub told-append : (xs ys : List Look) → told_by (xs ++ ys) ≡ told_by xs ++ told_by ys
 told-append [] ys = refl
 told-append (x ∷ xs) ys = ap (λ ss. (x.path.now, record { mark = x.mark; names = x.names.now; others = x.others }) ∷ ss) (told-append xs ys)
 
@@ -56,13 +56,12 @@ module _ (p : Path) (xs : List (Path × Sight)) (t : Path × Sight) (ys : List (
   in_here : path_cmp t.0 p ≡ Less → (q : Path) → among q (seen_paths xs) ≡ true → path_cmp q p ≡ Less
   in_here l q e = path_cmp-total.trans q t.0 p (before (seen_paths xs) (seen_paths ys) t.0 q all e) l
 
-  pub in_back : path_cmp p t.0 ≡ Greater → sight_in (xs ++ t ∷ ys) p ≡ sight_in ys p
-  in_back g =
-      let l : path_cmp t.0 p ≡ Less = path_cmp-total.antisymm t.0 p ∙ ap ordering_reverse g in
-      past_front xs (t ∷ ys) p (in_here l) ∙ ap (λ b. cond b t.1 (sight_in ys p)) (apart_from t.0 p l)
-
-  pub in_middle : path_cmp p t.0 ≡ Equal → sight_in (xs ++ t ∷ ys) p ≡ t.1
-  in_middle e =
+  -- A path that isn't before the first Look of the back is not in front.
+  pub from_back : (r : Ordering) → path_cmp p t.0 ≡ r → is_lt r ≡ false → sight_in (xs ++ t ∷ ys) p ≡ sight_in (t ∷ ys) p
+  from_back Less e h = cc
+  from_back Equal e h =
       let is : p ≡ t.0 = path_cmp-exact p t.0 e in
       past_front xs (t ∷ ys) p (λ q m. ap (path_cmp q) is ∙ before (seen_paths xs) (seen_paths ys) t.0 q all m)
-      ∙ ap (λ b. cond b t.1 (sight_in ys p)) (ap (path_eq t.0) is ∙ paths_same t.0)
+  from_back Greater e h =
+      let l : path_cmp t.0 p ≡ Less = path_cmp-total.antisymm t.0 p ∙ ap ordering_reverse e in
+      past_front xs (t ∷ ys) p (in_here l)

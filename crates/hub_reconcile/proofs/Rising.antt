@@ -11,7 +11,7 @@ use Rattle.hub_reconcile.specs.Sight.{Sight}
 use Rattle.hub_reconcile.proofs.Ascend.{both_ways}
 use Rattle.hub_reconcile.proofs.Views.{both_hold}
 
-lt_less : (r : Ordering) → is_lt r ≡ true → r ≡ Less
+pub lt_less : (r : Ordering) → is_lt r ≡ true → r ≡ Less
 lt_less Less e = refl
 lt_less Equal e = cc
 lt_less Greater e = cc

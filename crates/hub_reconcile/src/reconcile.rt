@@ -47,13 +47,10 @@ pub fn next_archive(alloc: Global, picture: &Picture) -> Result<Archive, AllocEr
     ensures { IfOk result
         (λ a. a ≡ sync.next_archive (shown picture.now) picture.now.archive.now) }
 {
-    let old = picture.archive();
-    let mut archive = old.copy()?;
-    let old_paths = old.paths()?;
+    let old_paths = picture.archive().paths()?;
     let rows = table(alloc, picture, old_paths.as_slice())?;
     let blocks = blocks(alloc, picture, rows.as_slice())?;
-    update_all(&mut archive, blocks.as_slice())?;
-    Ok(archive)
+    archive_of(picture.archive(), blocks.as_slice())
 }
 
 /// The items of blocks.
@@ -124,12 +121,13 @@ fn push_going(changes: &mut Vec<Change>, below: &[Row], from: Side) -> Result<()
     ensures { OnOk result (changes.new.items
         ≡ changes.old.items ++ parts.going_rows from below.now) }
 {
-    let mut rest = below;
-    while let [before @ .., row] = rest {
+    let mut left = below.len();
+    while left > 0 {
+        left -= 1;
+        let row = &below[left];
         if row.goes(from) {
             changes.push(change_to(row, from, Mark::Absent)?)?;
         }
-        rest = before;
     }
     Ok(())
 }
@@ -159,6 +157,16 @@ fn change_to(row: &Row, from: Side, mark: Mark) -> Result<Change, AllocError>
         path,
         mark,
     })
+}
+
+/// The archive with the marks of all blocks' paths.
+fn archive_of(old: &Archive, blocks: &[Block]) -> Result<Archive, AllocError>
+    requires { parts.HaveAllNames blocks.now }
+    ensures { IfOk result (λ a. a ≡ fold parts.updated old.now blocks.now) }
+{
+    let mut archive = old.copy()?;
+    update_all(&mut archive, blocks)?;
+    Ok(archive)
 }
 
 /// Sets the marks of all blocks' paths.

@@ -47,10 +47,11 @@ pub fn next_archive(alloc: Global, picture: &Picture) -> Result<Archive, AllocEr
     ensures { IfOk result
         (λ a. a ≡ sync.next_archive (shown picture.now) picture.now.archive.now) }
 {
+    let old = picture.archive().copy()?;
     let old_paths = picture.archive().paths()?;
     let rows = table(alloc, picture, old_paths.as_slice())?;
     let blocks = blocks(alloc, picture, rows.as_slice())?;
-    archive_of(picture.archive(), blocks.as_slice())
+    Ok(archive_of(old, blocks.as_slice())?)
 }
 
 /// The items of blocks.
@@ -160,11 +161,11 @@ fn change_to(row: &Row, from: Side, mark: Mark) -> Result<Change, AllocError>
 }
 
 /// The archive with the marks of all blocks' paths.
-fn archive_of(old: &Archive, blocks: &[Block]) -> Result<Archive, AllocError>
+fn archive_of(old: Archive, blocks: &[Block]) -> Result<Archive, AllocError>
     requires { parts.HaveAllNames blocks.now }
-    ensures { IfOk result (λ a. a ≡ fold parts.updated old.now blocks.now) }
+    ensures { IfOk result (λ a. a ≡ fold parts.updated old blocks.now) }
 {
-    let mut archive = old.copy()?;
+    let mut archive = old;
     update_all(&mut archive, blocks)?;
     Ok(archive)
 }

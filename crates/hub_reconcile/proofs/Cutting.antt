@@ -56,8 +56,9 @@ module _ (picture : Picture) where
       (λ i. flat_map block_paths bs ++ (sym first i).path.now ∷ paths_of (sym below i)) ∙ sym (more_paths bs b) in
       let back : drop (length (rows_below r rs)) rs ≡ take (length rs - length b.below.now) (drop (length b.below.now) rs) =
       ap (λ k. drop k rs) (sym (ap length below)) ∙ sym (whole_rest (length b.below.now) rs) in
-      subst (λ (x : List Block). IsCutSoFar x (take (length rs - length b.below.now) (drop (length b.below.now) rs))) (sym e)
-      (are_more V bs b are is,
-      subst (λ (x : List Path). IsCut V x (take (length rs - length b.below.now) (drop (length b.below.now) rs))) front
-      (subst (λ (x : List Row). IsCut V (flat_map block_paths bs ++ r.path.now ∷ paths_of (rows_below r rs)) x) back
-      (next_cut picture (flat_map block_paths bs) r rs cut)))
+      subst (λ (x : List Block). IsCutSoFar x (take (length rs - length b.below.now) (drop (length b.below.now) rs))) (sym e) (
+        are_more V bs b are is,
+        subst (λ (x : List Path). IsCut V x (take (length rs - length b.below.now) (drop (length b.below.now) rs))) front
+            (subst (λ (x : List Row). IsCut V (flat_map block_paths bs ++ r.path.now ∷ paths_of (rows_below r rs)) x) back
+            (next_cut picture (flat_map block_paths bs) r rs cut)),
+      )

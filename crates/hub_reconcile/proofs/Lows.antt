@@ -88,9 +88,9 @@ least_firsts ls rs os p e =
       right = two.1;
       old = w.second;
       there = ⊎_elim
-      (λ h. let v = is_lesser (first_of ls) (first_of rs) p h in
-      or_first _ _ (⊎_elim (λ k. or_first _ _ (first_among ls p k)) (λ k. or_second (among p ls) _ (first_among rs p k)) v.one))
-      (λ h. or_second (among p ls || among p rs) _ (first_among os p h)) w.one;
+          (λ h. let v = is_lesser (first_of ls) (first_of rs) p h in
+          or_first _ _ (⊎_elim (λ k. or_first _ _ (first_among ls p k)) (λ k. or_second (among p ls) _ (first_among rs p k)) v.one))
+          (λ h. or_second (among p ls || among p rs) _ (first_among os p h)) w.one;
     }
 
 no_first : (ps : List Path) → first_of ps ≡ None → ps ≡ []

@@ -12,11 +12,7 @@ use hub_tree::Mark;
 use std::alloc::AllocError;
 
 /// Whether a path may be made on this side: its parent is the whole replica, or a directory there.
-pub(crate) fn has_parent(
-    picture: &Picture,
-    side: Side,
-    path: &RelPath,
-) -> Result<bool, AllocError>
+pub(crate) fn has_parent(picture: &Picture, side: Side, path: &RelPath) -> Result<bool, AllocError>
     ensures { IfOk result (λ b. b ≡ spec.has_parent (shown picture.now) side path.now) }
 {
     match path.parent()? {

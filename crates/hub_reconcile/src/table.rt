@@ -52,10 +52,7 @@ fn least_path<'a>(
     ensures { option_map (λ p. p.now) result ≡ merge.least_first
         (merge.seen_paths (told_by left.now)) (merge.seen_paths (told_by right.now)) old.now }
 {
-    lesser(
-        lesser(first_path(left), first_path(right)),
-        old.first(),
-    )
+    lesser(lesser(first_path(left), first_path(right)), old.first())
 }
 
 /// The path of the first Look.
@@ -76,23 +73,12 @@ fn lesser<'a>(a: Option<&'a RelPath>, b: Option<&'a RelPath>) -> Option<&'a RelP
     match (a, b) {
         (None, _) => b,
         (Some(_), None) => a,
-        (Some(p), Some(q)) => {
-            if q.cmp(p).is_lt() {
-                b
-            } else {
-                a
-            }
-        }
+        (Some(p), Some(q)) => { if q.cmp(p).is_lt() { b } else { a } }
     }
 }
 
 /// The row of a path, where these Looks are left, and none of them is of a path before it.
-fn row_of<'a>(
-    picture: &Picture<'a>,
-    path: &'a RelPath,
-    left: &[Look],
-    right: &[Look],
-) -> Row<'a>
+fn row_of<'a>(picture: &Picture<'a>, path: &'a RelPath, left: &[Look], right: &[Look]) -> Row<'a>
     ensures path { result.path.now ≡ path.now }
     ensures left { merge.IsSeen (merge.front_sight path.now (told_by left.now)) result.left }
     ensures right { merge.IsSeen (merge.front_sight path.now (told_by right.now)) result.right }

@@ -57,11 +57,7 @@ fn paths_of(alloc: Global, seen: &[Seen]) -> Result<Vec<RelPath>, Fail> {
     Ok(paths)
 }
 
-fn looks_of<'a>(
-    alloc: Global,
-    paths: &'a [RelPath],
-    seen: &[Seen],
-) -> Result<Vec<Look<'a>>, Fail> {
+fn looks_of<'a>(alloc: Global, paths: &'a [RelPath], seen: &[Seen]) -> Result<Vec<Look<'a>>, Fail> {
     let mut looks = Vec::new(alloc);
     for (path, (_, c)) in paths.iter().zip(seen) {
         looks.push(Look {
@@ -371,7 +367,14 @@ fn one_path(
     assert!(rt; are_rising(&right));
     let picture = Picture::new(&profile, &left, &right, &archive);
     let items = items_text(alloc, items(alloc, &picture)?.as_slice())?;
-    assert_eq!(rt; items.as_str(), want.0, "{} {} {}", marks.0, marks.1, marks.2);
+    assert_eq!(rt;
+        items.as_str(),
+        want.0,
+        "{} {} {}",
+        marks.0,
+        marks.1,
+        marks.2
+    );
     let new = next_archive(alloc, &picture)?.mark_at(&path);
     assert_eq!(rt; char_of(new), want.1, "{} {} {}", marks.0, marks.1, marks.2);
     Ok(())

@@ -37,5 +37,5 @@ returns-clause-block c =
     record {
       rows = subst (λ n. AreRows (shown V) (r ∷ take n rs)) (sym c.count_below.ensures) (tops_rows V c.requires.0 r rs c.requires.1);
       fated = subst (λ (n : ℕ). IsFated (shown V) r.path.now (paths_of (take n rs)) (Some c.in_ok-fate_of.field-0)) (sym c.count_below.ensures)
-        (item_fated V c.requires.0 r rs c.requires.1 c.in_ok-fate_of.field-0 d (sym c.in_ok-fate_of.ensures));
+          (item_fated V c.requires.0 r rs c.requires.1 c.in_ok-fate_of.field-0 d (sym c.in_ok-fate_of.ensures));
     }

@@ -6,7 +6,6 @@ use Rattle.hub_reconcile.specs.Sync.{of_side}
 use Rattle.hub_reconcile.proofs.Fated.{fate_of_some, fate_of_none}
 use Rattle.hub_reconcile.proofs.fate.fate_of.Goals as goal
 
-
 pub returns-in-Some : goal.returns-in-Some
 returns-in-Some c =
     let V = c.args.picture.now in

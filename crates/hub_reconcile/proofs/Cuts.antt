@@ -1,5 +1,5 @@
 -- The rows of a view, cut into blocks.
-use Rattle.std.proofs.Common.{Ordering, ◌≡◌, ℕ, zero, suc, ◌+◌, ◌<◌, Bool, true, false, cond, not, ◌&&◌, ◌||◌, List, [], ◌∷◌, ◌++◌, map, length, take, drop, Option, Some, None, refl, ap, sym, ◌∙◌, subst, arith, append_assoc}
+use Rattle.std.proofs.Common.{Ordering, ◌≡◌, ℕ, zero, suc, ◌+◌, ◌<◌, Bool, true, false, cond, not, ◌&&◌, List, [], ◌∷◌, ◌++◌, length, take, drop, Option, Some, None, refl, ap, sym, ◌∙◌, subst, arith, append_assoc}
 use Rattle.std.specs.Prelude.{filter, find, option_map}
 use Rattle.std.specs.List.{prefix_len, take_while}
 use Rattle.std.specs.List.Sorted.{IsStrictlySortedBy}
@@ -9,14 +9,14 @@ use Rattle.std.proofs.lemmas.Bool.{false≢true, and_parts}
 use Rattle.std.proofs.lemmas.List.Elements.{filter-append}
 use Rattle.std.proofs.lemmas.List.Folds.{length-prefix_len}
 use Rattle.std.proofs.lemmas.List.Sums.{take_while-cons}
-use Rattle.std.proofs.lemmas.Map.Keys.{sorted_head, sorted_tail}
+use Rattle.std.proofs.lemmas.Map.Keys.{sorted_tail}
 use Rattle.hub_path.specs.Laws.{name_eq-decides, name_cmp-total, name_cmp-exact, path_cmp-over, is_over-reflexive}
 use Rattle.hub_path.specs.Path.{Name, Path, name_eq, name_cmp, path_cmp, path_eq, is_over, prefixes}
 use Rattle.hub_path.specs.declared.side.Side.TheVariants.{Left, Right}
 use Rattle.hub_profile.specs.Parts.{some_passes}
 use Rattle.hub_tree.specs.Below.{is_below}
 use Rattle.hub_tree.proofs.Order.{path_itself}
-use Rattle.hub_tree.proofs.Between.{among, among_filter, before, behind, nowhere, not_both, among_middle}
+use Rattle.hub_tree.proofs.Between.{among, among_filter, before, behind, nowhere, not_both}
 use Rattle.hub_reconcile.specs.Blocks.{IsCut, rows_below}
 use Rattle.hub_reconcile.specs.Items.{differs, item_over, is_item, below, at_and_below}
 use Rattle.hub_reconcile.specs.Rows.{IsRow, AreRows, IsTable, is_different, paths_of}

@@ -1,12 +1,12 @@
 -- One step of the cutting into blocks, as the loop over rows makes it.
-use Rattle.std.proofs.Common.{◌≡◌, ◌-◌, ◌<◌, ◌≤◌, ℕ, zero, suc, Bool, true, false, cond, List, [], ◌∷◌, ◌++◌, take, drop, length, refl, ap, sym, ◌∙◌, subst, arith, append-nil, append_assoc}
+use Rattle.std.proofs.Common.{◌≡◌, ◌-◌, ◌<◌, ℕ, List, [], ◌∷◌, ◌++◌, take, drop, length, ap, sym, ◌∙◌, subst, arith, append-nil, append_assoc}
 use Rattle.std.specs.Prelude.{slice_index_or}
-use Rattle.std.specs.List.{flat_map, take_while}
+use Rattle.std.specs.List.{flat_map}
 use Rattle.std.proofs.lemmas.List.{length-drop}
 use Rattle.std.proofs.Math.Seq.{take-length}
-use Rattle.hub_path.specs.Path.{Path, is_over}
+use Rattle.hub_path.specs.Path.{Path}
 use Rattle.hub_reconcile.specs.Blocks.{IsCut, IsBlock, AreBlocks, block_paths, rows_below}
-use Rattle.hub_reconcile.specs.Rows.{IsTable, is_different, paths_of}
+use Rattle.hub_reconcile.specs.Rows.{IsTable, paths_of}
 use Rattle.hub_reconcile.specs.Shown.{shown}
 use Rattle.hub_reconcile.specs.View.{View}
 use Rattle.hub_reconcile.specs.declared.block.Block.{Block}

@@ -1,5 +1,5 @@
 -- What the rows of an item tell of its fate is what the view tells.
-use Rattle.std.proofs.Common.{◌≡◌, Bool, true, false, cond, not, ◌&&◌, ◌||◌, List, [], ◌∷◌, ◌++◌, map, Option, Some, None, refl, ap, sym, ◌∙◌}
+use Rattle.std.proofs.Common.{◌≡◌, Bool, true, false, cond, not, ◌&&◌, ◌||◌, List, [], ◌∷◌, map, Some, None, refl, ap, sym, ◌∙◌}
 use Rattle.std.specs.Prelude.{filter, reverse, is_some}
 use Rattle.std.specs.List.{list_any}
 use Rattle.std.proofs.lemmas.List.Folds.{list_any-append}
@@ -14,11 +14,10 @@ use Rattle.hub_tree.specs.declared.contents.Mark.TheVariants as mark
 use Rattle.hub_reconcile.specs.Fates as rows
 use Rattle.hub_reconcile.specs.Items.{other, below, at_and_below, is_updated, is_conflict, source, change, going, coming, changes, is_allowed, blocks, fate, fate_from, has_parent, verb_of}
 use Rattle.hub_reconcile.specs.Picture.{view_by}
-use Rattle.hub_reconcile.specs.Rows.{IsRow, AreRows, seen_on, mark_on, is_changed, is_going, is_coming, paths_of}
+use Rattle.hub_reconcile.specs.Rows.{IsRow, AreRows, seen_on, mark_on, is_changed, paths_of}
 use Rattle.hub_reconcile.specs.Sight.{Sight}
 use Rattle.hub_reconcile.specs.View.{View, allowed_at, is_folder, mark_eq, is_present}
 use Rattle.hub_reconcile.specs.declared.change.Change.{Change}
-use Rattle.hub_reconcile.specs.declared.item.Fate.{Fate}
 use Rattle.hub_reconcile.specs.declared.item.Fate.TheVariants.{To, Skip}
 use Rattle.hub_reconcile.specs.declared.item.Reason.TheVariants as reason
 use Rattle.hub_reconcile.specs.declared.row.Row.{Row}

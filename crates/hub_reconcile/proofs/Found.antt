@@ -1,20 +1,19 @@
 -- A search by halves among Looks in order finds the Look of a path, if there is one.
-use Rattle.std.proofs.Common.{Ordering, ◌≡◌, Bool, true, false, cond, ◌||◌, List, [], ◌∷◌, ◌++◌, map, refl, ap, sym, ◌∙◌, subst}
+use Rattle.std.proofs.Common.{Ordering, ◌≡◌, true, false, cond, ◌||◌, List, [], ◌∷◌, ◌++◌, refl, ap, sym, ◌∙◌, subst}
 use Rattle.std.specs.List.Sorted.{IsStrictlySortedBy}
 use Rattle.std.specs.Ordering.{eq_by_cmp, is_lt, ordering_reverse}
 use Rattle.std.specs.declared.cmp.Ordering.TheVariants.{Less, Equal, Greater}
-use Rattle.std.proofs.lemmas.Bool.{false≢true}
 use Rattle.std.proofs.lemmas.Map.Keys.{sorted_tail}
 use Rattle.hub_path.specs.Laws.{path_cmp-total, path_cmp-exact}
 use Rattle.hub_path.specs.Path.{Path, path_cmp, path_eq}
 use Rattle.hub_tree.proofs.Order.{path_itself, same_path}
-use Rattle.hub_tree.proofs.Between.{among, among_middle, before, behind, not_both}
+use Rattle.hub_tree.proofs.Between.{among, before, behind, not_both}
 use Rattle.hub_reconcile.specs.Merge.{seen_paths}
-use Rattle.hub_reconcile.specs.Picture.{nothing, sight_in, told_by}
+use Rattle.hub_reconcile.specs.Picture.{sight_in, told_by}
 use Rattle.hub_reconcile.specs.Sight.{Sight}
 use Rattle.hub_reconcile.specs.declared.look.Look.{Look}
 use Rattle.hub_reconcile.proofs.Merging.{none_seen}
-use Rattle.hub_reconcile.proofs.Views.{is_false, or_first, or_second, same_paths, paths_same}
+use Rattle.hub_reconcile.proofs.Views.{is_false, or_first, or_second, same_paths}
 
 apart_from : (q p : Path) → path_cmp q p ≡ Less → path_eq q p ≡ false
 apart_from q p l = is_false (path_eq q p) (λ k. let w : path_cmp p p ≡ Less = ap (λ z. path_cmp z p) (sym (same_paths q p k)) ∙ l in not_both p p w w)

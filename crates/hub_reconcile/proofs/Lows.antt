@@ -1,5 +1,5 @@
 -- The least of the first paths of lists in order, and the lists without it.
-use Rattle.std.proofs.Common.{Ordering, ◌≡◌, ◌⊎◌, inl, inr, ⊎_elim, Bool, true, false, T, cond, ◌||◌, List, [], ◌∷◌, ◌++◌, map, Option, Some, None, refl, ap, sym, ◌∙◌, subst}
+use Rattle.std.proofs.Common.{Ordering, ◌≡◌, ◌⊎◌, inl, inr, ⊎_elim, Bool, true, false, cond, ◌||◌, List, [], ◌∷◌, ◌++◌, Option, Some, None, refl, ap, sym, ◌∙◌, subst}
 use Rattle.std.specs.List.{AllByRecursion}
 use Rattle.std.specs.List.Sorted.{IsStrictlySortedBy}
 use Rattle.std.specs.Ordering.{eq_by_cmp, is_lt, ordering_reverse}
@@ -14,7 +14,7 @@ use Rattle.hub_tree.proofs.Between.{among, behind, not_both}
 use Rattle.hub_reconcile.specs.Merge.{first_of, lesser, least_first, past}
 use Rattle.hub_reconcile.proofs.Ascend.{ascending_sorted, among_ascending, same_list}
 use Rattle.hub_reconcile.proofs.Over.{some_inner}
-use Rattle.hub_reconcile.proofs.Views.{is_false, or_first, or_second, same_paths, paths_same}
+use Rattle.hub_reconcile.proofs.Views.{or_first, or_second, same_paths, paths_same}
 
 -- The path is no later than this one, if there is one.
 abbrev pub IsLow : Path → Option Path → Type 0

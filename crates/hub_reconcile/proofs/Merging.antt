@@ -1,5 +1,5 @@
 -- The rows of a picture: what the merge has made of the Looks and the archive's paths that it has passed.
-use Rattle.std.proofs.Common.{◌≡◌, ◌<◌, ⊎_elim, Bool, true, false, T, cond, not, ◌&&◌, ◌||◌, List, [], ◌∷◌, ◌++◌, map, length, Option, Some, None, refl, ap, sym, ◌∙◌, subst, append_assoc, append-nil, arith}
+use Rattle.std.proofs.Common.{◌≡◌, ◌<◌, ⊎_elim, Bool, true, false, T, cond, ◌&&◌, ◌||◌, List, [], ◌∷◌, ◌++◌, length, Some, None, refl, ap, sym, ◌∙◌, subst, append_assoc, append-nil, arith}
 use Rattle.std.specs.Prelude.{◌==◌, filter, IsTrue}
 use Rattle.std.specs.List.Sorted.{IsStrictlySortedBy}
 use Rattle.std.specs.FinMap as fin
@@ -8,31 +8,25 @@ use Rattle.std.specs.Ordering.{eq_by_cmp}
 use Rattle.std.specs.declared.cmp.Ordering.TheVariants.{Less}
 use Rattle.std.proofs.lemmas.Bool.{false≢true, and_parts}
 use Rattle.std.proofs.lemmas.List.Elements.{filter-append}
-use Rattle.std.proofs.lemmas.Map.Keys.{sorted_tail}
 use Rattle.hub_path.specs.Laws.{path_cmp-total}
-use Rattle.hub_path.specs.Path.{Name, Path, path_cmp, path_eq, ascending}
-use Rattle.hub_path.specs.declared.side.Side.{Side}
+use Rattle.hub_path.specs.Path.{Path, path_cmp, path_eq, ascending}
 use Rattle.hub_path.specs.declared.side.Side.TheVariants.{Left, Right}
 use Rattle.hub_profile.specs.Parts.{Parts}
-use Rattle.hub_reach.specs.Laws.{reach-is_path}
 use Rattle.hub_reach.specs.Reach.{reach}
 use Rattle.hub_tree.specs.Tree.{Archive, old_mark_at}
 use Rattle.hub_tree.specs.declared.contents.Mark.{Mark}
 use Rattle.hub_tree.specs.declared.contents.Mark.TheVariants as mark
-use Rattle.hub_tree.proofs.Order.{path_itself, same_path}
+use Rattle.hub_tree.proofs.Order.{path_itself}
 use Rattle.hub_tree.proofs.Children.{sorted_keys}
 use Rattle.hub_tree.proofs.Setting.{one_kid}
 use Rattle.hub_tree.proofs.Between.{among, behind, not_both}
 use Rattle.hub_reconcile.specs.Merge.{seen_paths, first_of, least_first, past, past_sight, front_sight, IsSeen}
 use Rattle.hub_reconcile.specs.Picture.{nothing, sight_in, view_by}
 use Rattle.hub_reconcile.specs.Rows.{IsRow, AreRows, IsTable, is_anywhere, paths_of}
-use Rattle.hub_reconcile.specs.Sides.{side_eq}
 use Rattle.hub_reconcile.specs.Sight.{Sight}
 use Rattle.hub_reconcile.specs.Sync.{of_side}
 use Rattle.hub_reconcile.specs.View.{View, is_present, counts}
 use Rattle.hub_reconcile.specs.declared.row.Row.{Row}
-use Rattle.hub_reconcile.specs.declared.row.Seen.{Seen}
-use Rattle.hub_reconcile.proofs.Ascend.{among_ascending}
 use Rattle.hub_reconcile.proofs.Lows.{IsLow, IsLeastFirst, least_firsts, nothing_left, three, past_sorted, later_three, is_there, least_next}
 use Rattle.hub_reconcile.proofs.Views.{is_false, or_first, or_second, same_paths, paths_same, reached_names}
 

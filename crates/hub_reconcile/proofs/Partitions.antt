@@ -1,5 +1,5 @@
 -- What the blocks of a view say of its items, of their changes and of the new archive.
-use Rattle.std.proofs.Common.{◌≡◌, ◌<◌, Bool, true, false, cond, not, ◌&&◌, ◌||◌, List, [], ◌∷◌, ◌++◌, map, length, Option, Some, None, refl, ap, sym, ◌∙◌, subst, append-nil}
+use Rattle.std.proofs.Common.{◌≡◌, ◌<◌, Bool, true, false, cond, not, ◌&&◌, ◌||◌, List, [], ◌∷◌, ◌++◌, map, length, Option, Some, None, refl, ap, sym, ◌∙◌, append-nil}
 use Rattle.std.specs.Prelude.{filter, reverse, fold, option_map}
 use Rattle.std.specs.List.{flat_map}
 use Rattle.std.specs.Ordering.{eq_by_cmp}
@@ -18,7 +18,7 @@ use Rattle.hub_tree.specs.declared.contents.Mark.{Mark}
 use Rattle.hub_tree.specs.declared.contents.Mark.TheVariants as mark
 use Rattle.hub_tree.proofs.Order.{path_itself, same_path}
 use Rattle.hub_tree.proofs.Between.{among, among_filter}
-use Rattle.hub_reconcile.specs.Blocks.{IsFated, IsBlock, AreBlocks, IsPartition, block_paths, item_by, block_items, row_goes, row_comes, going_rows, coming_rows, row_changes, changes_fated, block_changes, mark_fated, row_set, updated, HaveNames, HasNames, HaveAllNames}
+use Rattle.hub_reconcile.specs.Blocks.{IsFated, IsBlock, AreBlocks, IsPartition, block_paths, item_by, block_items, row_comes, going_rows, coming_rows, changes_fated, block_changes, mark_fated, row_set, updated, HaveNames, HaveAllNames}
 use Rattle.hub_reconcile.specs.Items.{other, differs, item_over, is_item, fate, below, change, going, coming, changes, changes_by, items, plan}
 use Rattle.hub_reconcile.specs.Rows.{IsRow, AreRows, mark_on, is_going, is_coming, paths_of}
 use Rattle.hub_reconcile.specs.Sync.{fate_over, mark_under, synced_mark, next_archive}

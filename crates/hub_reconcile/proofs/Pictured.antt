@@ -1,12 +1,12 @@
 -- The cuts and the merge of what a picture shows.
-use Rattle.std.proofs.Common.{◌≡◌, ◌<◌, Bool, true, false, List, [], ◌∷◌, ◌++◌, length, take, drop, Option, Some, None, refl, ap, sym, ◌∙◌}
+use Rattle.std.proofs.Common.{◌≡◌, ◌<◌, true, false, List, [], ◌∷◌, ◌++◌, length, drop, Some, None, refl}
 use Rattle.std.specs.List.{take_while}
 use Rattle.std.specs.List.Sorted.{IsStrictlySortedBy}
 use Rattle.hub_path.specs.Path.{Path, path_cmp, is_over}
 use Rattle.hub_path.specs.declared.side.Side.{Side}
 use Rattle.hub_tree.proofs.Between.{among}
-use Rattle.hub_reconcile.specs.Blocks.{IsCut, IsFated, IsBlock, rows_below}
-use Rattle.hub_reconcile.specs.Items.{differs, item_over, is_item, fate, below, at_and_below}
+use Rattle.hub_reconcile.specs.Blocks.{IsCut, IsFated, rows_below}
+use Rattle.hub_reconcile.specs.Items.{differs, fate, below, at_and_below}
 use Rattle.hub_reconcile.specs.Picture.{told_by}
 use Rattle.hub_reconcile.specs.Rows.{AreRows, is_different, paths_of}
 use Rattle.hub_reconcile.specs.Shown.{shown}

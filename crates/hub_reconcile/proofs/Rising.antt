@@ -1,9 +1,9 @@
 -- Looks are in order if each stands before the next.
-use Rattle.std.proofs.Common.{Ordering, ◌≡◌, Bool, true, false, ◌&&◌, List, [], ◌∷◌, refl, ap, sym, ◌∙◌}
-use Rattle.std.specs.FinMap.Entries.{below_all, is_sorted}
+use Rattle.std.proofs.Common.{Ordering, ◌≡◌, true, ◌&&◌, List, [], ◌∷◌, refl, ap}
+use Rattle.std.specs.FinMap.Entries.{below_all}
 use Rattle.std.specs.Ordering.{is_lt}
 use Rattle.std.specs.declared.cmp.Ordering.TheVariants.{Less, Equal, Greater}
-use Rattle.std.proofs.lemmas.Bool.{false≢true, and_parts}
+use Rattle.std.proofs.lemmas.Bool.{and_parts}
 use Rattle.hub_path.specs.Laws.{path_cmp-total}
 use Rattle.hub_path.specs.Path.{Path, path_cmp}
 use Rattle.hub_reconcile.specs.Picture.{is_before, are_rising}

@@ -1,4 +1,4 @@
-use Rattle.std.proofs.Common.{◌≡◌, ℕ, Bool, true, false, List, [], ◌∷◌, take, Some, refl, ap, sym, ◌∙◌, subst}
+use Rattle.std.proofs.Common.{◌≡◌, ℕ, true, ◌∷◌, take, Some, ap, sym, ◌∙◌, subst}
 use Rattle.hub_reconcile.specs.Blocks.{IsFated}
 use Rattle.hub_reconcile.specs.Rows.{AreRows, is_different, paths_of}
 use Rattle.hub_reconcile.specs.Shown.{shown}

@@ -1,4 +1,4 @@
-use Rattle.std.proofs.Common.{sym, ap, ◌∙◌, arith}
+use Rattle.std.proofs.Common.{◌∙◌, arith}
 use Rattle.hub_reconcile.proofs.Halves.{rising_step}
 use Rattle.hub_reconcile.proofs.look.are_rising.Goals as goal
 

@@ -1,6 +1,5 @@
-use Rattle.std.proofs.Common.{◌≡◌, true, false, ap, sym, ◌∙◌, arith}
+use Rattle.std.proofs.Common.{ap, sym, ◌∙◌, arith}
 use Rattle.std.specs.Ordering.{is_lt}
-use Rattle.hub_path.specs.Path.{path_cmp}
 use Rattle.hub_reconcile.proofs.Halves.{front_part_rises, back_part_rises, sight_in_front, sight_in_back}
 use Rattle.hub_reconcile.proofs.parent.half_with.Goals as goal
 

@@ -1,7 +1,6 @@
-use Rattle.std.proofs.Common.{◌≡◌, ◌&&◌, true, false, Option, Some, refl, ap, sym, ◌∙◌}
+use Rattle.std.proofs.Common.{◌&&◌, refl, ap, sym, ◌∙◌}
 use Rattle.std.specs.Option.{option_map}
 use Rattle.hub_reach.specs.Reach.{reach}
-use Rattle.hub_reconcile.specs.Merge.{seen_paths, least_first}
 use Rattle.hub_reconcile.specs.Picture.{are_rising, told_by}
 use Rattle.hub_reconcile.specs.Rows.{is_anywhere}
 use Rattle.hub_reconcile.proofs.Passing.{fewer, start_on, kept_on, skipped_on}

@@ -1,18 +1,21 @@
 #!/usr/bin/env bash
 # Runs `bench_state` on a small state text with each of its requests for memory refused in turn, then with each of its reads and
 # each of its writes failing. The answer should be `OutOfMemory`, `ReadFailed` or `WriteFailed`, and what was written before is a
-# prefix of the right text. Then it runs the test of hub_tree that out of memory changes nothing in the same way.
+# prefix of the right text. Then it runs in the same way the test of hub_tree that out of memory changes nothing, and `hubsync`
+# on a bundle with that state: there nothing stands before the line of the fault, and a failed write leaves a prefix.
 #
 #     bench/fail.sh
 #
-# Both must have been built: by `rt run` in crates/bench_state and by `rt test` in crates/hub_tree. A C compiler is needed, since
-# a few lines of C take the place of the C library's `malloc`, `realloc`, `read` and `write`. For each kind of call a line gives the
-# number of runs, how many ended with the fault, and how many with the right text. The status is 1 if an answer is wrong.
+# All must have been built: by `rt run` in crates/bench_state and crates/hubsync, and by `rt test` in crates/hub_tree. A C compiler
+# is needed, since a few lines of C take the place of the C library's `malloc`, `realloc`, `read` and `write`. For each kind of call
+# a line gives the number of runs, how many ended with the fault, and how many with the right text. The status is 1 if an answer is
+# wrong.
 set -euo pipefail
 top=$(dirname "$(dirname "$(readlink -f "${BASH_SOURCE[0]}")")")
 program=$top/crates/bench_state/out/bench_state
 tests=$top/crates/hub_tree/out/hub_tree_tests
-for built in "$program" "$tests"; do
+hubsync=$top/crates/hubsync/out/hubsync
+for built in "$program" "$tests" "$hubsync"; do
     if [ ! -x "$built" ]; then
         echo "bench/fail.sh: no program at $built" >&2
         exit 2
@@ -82,51 +85,73 @@ ssize_t write(int file, const void *bytes, size_t count) {
 C
 cc -O1 -shared -fPIC -o "$folder/failing.so" "$folder/failing.c" -ldl
 
-# Runs a program with the N-th call failing, whose kind is the first word. Sets `status`, and `met` if there was such a call.
+# Runs a program on an input with the N-th call failing, whose kind is the first word. Sets `status`, and `met` if there was such
+# a call.
 run() {
-    local kind=$1 number=$2
-    shift 2
+    local kind=$1 number=$2 input=$3
+    shift 3
     status=0
-    env "$kind=$number" LD_PRELOAD="$folder/failing.so" "$@" <"$folder/text" >"$folder/answer" 2>"$folder/errors" 9>"$folder/met" || status=$?
+    env "$kind=$number" LD_PRELOAD="$folder/failing.so" "$@" <"$folder/$input" >"$folder/answer" 2>"$folder/errors" 9>"$folder/met" || status=$?
     met=no
     [ ! -s "$folder/met" ] || met=yes
 }
 
-# Whether what was written is a prefix of the text.
+# Whether what was written is a prefix of the wanted text.
 is_prefix() {
-    cmp -s -n "$(wc -c <"$folder/answer")" "$folder/answer" "$folder/text"
+    cmp -s -n "$(wc -c <"$folder/answer")" "$folder/answer" "$folder/$1"
 }
 
-# Runs the program with each call of a kind failing. The second word is the fault that is wanted.
+# Whether `bench_state` told the fault on standard error, and wrote a prefix of the wanted text.
+bench_state_tells() {
+    [ "$status" = 1 ] && grep -q "$1" "$folder/errors" && is_prefix "$2"
+}
+
+# Whether `hubsync` wrote the line of the fault and nothing else, or a prefix of the wanted text if a write failed.
+hubsync_tells() {
+    local line
+    [ "$status" = 2 ] || return 1
+    case $1 in
+        OutOfMemory) line='fault: out of memory' ;;
+        ReadFailed) line='fault: bundle line 0: ReadFailed' ;;
+        *)
+            is_prefix "$2"
+            return
+            ;;
+    esac
+    cmp -s "$folder/answer" <(echo "$line")
+}
+
+# Runs a program on an input with each call of a kind failing. Its answers should tell the fault, as the function says that
+# is given first, or be the wanted text.
 fail_each() {
-    local kind=$1 fault=$2 number=1 faults=0 unharmed=0
-    run "$kind" "$number" "$program"
+    local tells=$1 program=$2 input=$3 wanted=$4 kind=$5 fault=$6 number=1 faults=0 unharmed=0
+    run "$kind" "$number" "$input" "$program"
     while [ "$met" = yes ]; do
-        if [ "$status" = 0 ] && cmp -s "$folder/answer" "$folder/text"; then
+        if [ "$status" = 0 ] && cmp -s "$folder/answer" "$folder/$wanted"; then
             unharmed=$((unharmed + 1))
-        elif [ "$status" = 1 ] && grep -q "$fault" "$folder/errors" && is_prefix; then
+        elif "$tells" "$fault" "$wanted"; then
             faults=$((faults + 1))
         else
-            echo "bench/fail.sh: $kind $number: status $status, $(head -c 200 "$folder/errors")" >&2
+            echo "bench/fail.sh: $(basename "$program"): $kind $number: status $status, $(head -c 200 "$folder/errors")" >&2
             exit 1
         fi
         number=$((number + 1))
-        run "$kind" "$number" "$program"
+        run "$kind" "$number" "$input" "$program"
     done
-    echo "$kind: $((number - 1)) runs, $faults with $fault, $unharmed with the right text"
+    echo "$(basename "$program"): $kind: $((number - 1)) runs, $faults with $fault, $unharmed with the right text"
 }
 
 # Runs a test with each request for memory refused. It should pass each time.
 fail_each_in_test() {
     local number=1
-    run FAIL_ALLOC "$number" "$tests" "$1"
+    run FAIL_ALLOC "$number" nothing "$tests" "$1"
     while [ "$met" = yes ]; do
         if [ "$status" != 0 ]; then
             echo "bench/fail.sh: $1: FAIL_ALLOC $number: status $status, $(head -c 200 "$folder/errors")" >&2
             exit 1
         fi
         number=$((number + 1))
-        run FAIL_ALLOC "$number" "$tests" "$1"
+        run FAIL_ALLOC "$number" nothing "$tests" "$1"
     done
     echo "$1: $((number - 1)) runs, all passed"
 }
@@ -139,7 +164,20 @@ fail_each_in_test() {
     printf 'archive /srv/hub\nwith /srv/spoke01\ndir a\nfile %064d a/b\nend\n' 1
 } >"$folder/text"
 
-fail_each FAIL_ALLOC OutOfMemory
-fail_each FAIL_READ ReadFailed
-fail_each FAIL_WRITE WriteFailed
+{
+    for name in a b; do
+        printf '%%profile %s\nroot = /srv/hub\nroot = /srv/spoke01\npath = %s\nignore = Name {x*,[0-9]y}\n' "$name" "$name"
+    done
+    printf '%%rules\nroot = /srv/hub\nnolose = BelowPath c\n%%state\n'
+    cat "$folder/text"
+} >"$folder/bundle"
+cat <(echo safe) "$folder/text" >"$folder/safe"
+: >"$folder/nothing"
+
+fail_each bench_state_tells "$program" text text FAIL_ALLOC OutOfMemory
+fail_each bench_state_tells "$program" text text FAIL_READ ReadFailed
+fail_each bench_state_tells "$program" text text FAIL_WRITE WriteFailed
 fail_each_in_test tests::out_of_memory_changes_nothing
+fail_each hubsync_tells "$hubsync" bundle safe FAIL_ALLOC OutOfMemory
+fail_each hubsync_tells "$hubsync" bundle safe FAIL_READ ReadFailed
+fail_each hubsync_tells "$hubsync" bundle safe FAIL_WRITE WriteFailed

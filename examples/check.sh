@@ -4,9 +4,10 @@
 #     examples/check.sh [PROGRAM]
 #
 # PROGRAM is the built program (crates/hubsync/out/hubsync if left out). Each row of the table is run: its bundle on
-# standard input, its words as arguments. The output is the row's one line and the status is the row's. A line is printed
-# for each wrong answer and for each bundle without a row. Then the certificates of each safe bundle are given back to the
-# program. The status is 1 if an answer was wrong, else 0.
+# standard input, its words as arguments. The output is the row's one line, and the text of the file that the row names
+# after it; the status is the row's. A line is printed for each wrong answer and for each bundle without a row. Then the
+# certificates of each safe bundle are given back to the program, and the state text of a folder is given to it. The status
+# is 1 if an answer was wrong, else 0.
 set -euo pipefail
 folder=$(dirname "$(readlink -f "${BASH_SOURCE[0]}")")
 program=$(readlink -f "${1:-$folder/../crates/hubsync/out/hubsync}")
@@ -42,6 +43,12 @@ while IFS='|' read -r _ bundle words output wanted _; do
     if [ -n "$words" ]; then
         mapfile -t arguments < <(xargs printf '%s\n' <<<"$words")
     fi
+    # a line, and perhaps a file below it
+    below=/dev/null
+    if [[ $output == *'` and `'* ]]; then
+        below=$folder/${output##*'` and `'}
+        output=${output%%'` and `'*}
+    fi
     # with the status after a dot, which also keeps the line's end
     answer=$(
         status=0
@@ -49,7 +56,7 @@ while IFS='|' read -r _ bundle words output wanted _; do
         echo ".$status"
     )
     rows=$((rows + 1))
-    if [ "$answer" != "$output"$'\n'".$wanted" ]; then
+    if [ "$answer" != "$output"$'\n'"$(cat "$below" && echo ".$wanted")" ]; then
         complain "$bundle $words: wanted '$output' and status $wanted, got '${answer%%$'\n'*}' and status ${answer##*.}"
     fi
 done < <(grep '^| `' "$table")
@@ -66,6 +73,24 @@ for bundle in "$folder"/*.bundle; do
         given=$((given + 1))
     fi
 done
+# the state text of a folder is read, and written as it is
+try_folder() {
+    local room=$1 name
+    mkdir -p "$room/hub/Möbel & so/leer" "$room/hub/a" "$room/other spoke/a"
+    for name in 'a/b' 'a-b' ' x' '-n' 'tab	x' 'back\slash' 'Möbel & so/"ß" $x *'; do
+        printf '%s\n\0\xff' "$name" >"$room/hub/$name"
+    done
+    : >"$room/hub/empty"
+    cp "$room/hub/a/b" "$room/other spoke/a/b"
+    "$folder/state-of-folder.sh" "$room/other spoke" "$room/hub" -a "$room/hub" "$room/other spoke" >"$room/state"
+    cat <(echo %state) "$room/state" | "$program" >"$room/answer" || true
+    # the replicas change places: their roots' texts are in order then
+    cat <(echo safe) <("$folder/state-of-folder.sh" "$room/hub" "$room/other spoke" -a "$room/hub" "$room/other spoke") |
+        cmp -s - "$room/answer"
+}
+room=$(mktemp -d)
+trap 'rm -rf "$room"' EXIT
+try_folder "$room" || complain "the state text of a folder is answered by '$(head -1 "$room/answer")'"
 [ "$rows" -gt 0 ] || complain 'the table has no rows'
 [ "$given" -gt 0 ] || complain 'no bundle is safe'
 echo "examples: ${1:-hubsync} answered $rows, $wrong of them wrongly"

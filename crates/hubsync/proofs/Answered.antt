@@ -14,19 +14,21 @@ use Rattle.hub_cert.specs.declared.goal.Place.{Place}
 use Rattle.hub_cert.specs.declared.fault.CheckFault.{CheckFault}
 use Rattle.hub_cert.specs.declared.fault.CheckFault.TheVariants as fault
 use Rattle.hub_search.specs.Search.{IsFirstFault}
+use Rattle.hub_state.specs.State.{State}
 use Rattle.hubsync.specs.declared.sections.Contents.{Contents}
 use Rattle.hubsync.specs.declared.words.Question.{Question}
-use Rattle.hubsync.specs.declared.words.Question.TheVariants.{Check, Certify, Verify}
+use Rattle.hubsync.specs.declared.words.Question.TheVariants.{CheckWithState, Check, Certify, Verify}
 use Rattle.hubsync.specs.Refusal.{breach_text, name_at, refusal_line}
 use Rattle.hubsync.specs.Sections.{Spells, members}
 use Rattle.hubsync.specs.declared.report.Report.{Report}
-use Rattle.hubsync.specs.declared.report.Report.TheVariants.{Safe, Verified, Certified, Refused, Reached, NotReached, NoProfile, BadPath, Unread, BadBundle, BadSection, OutOfMemory}
-use Rattle.hubsync.specs.Report.{IsLine, IsRefusedFor, IsTold, IsTrueOf, Holds, SpellsSafe, SpellsUnsafe, SpellsVerified, SpellsReach, Serves, Answers, AnswersNothing, WritesLine, status_of}
-use Rattle.hubsync.specs.Words.{Request, asked_of}
+use Rattle.hubsync.specs.declared.report.Report.TheVariants.{Safe, SafeWithState, Verified, Certified, Refused, Reached, NotReached, NoProfile, BadPath, Unread, BadBundle, BadSection, OutOfMemory}
+use Rattle.hubsync.specs.Report.{AsksNoState, IsText, IsRefusedFor, IsTold, IsTrueOf, Holds, SpellsSafe, SpellsUnsafe, SpellsVerified, SpellsReach, Serves, Answers, AnswersNothing, WritesText, status_of, text_below}
+use Rattle.hubsync.specs.Words.{Request, about, asked_of}
 
 -- What holds of what an input says holds of the input.
 pub told-holds : (request : Request) (bytes : List ℕ) (c : Contents) (r : Report) → Spells bytes c → IsTold request c r → Holds request bytes r
 told-holds request bytes c Safe s h = record { contents = c; spelled = s; told = h }
+told-holds request bytes c (SafeWithState S) s h = record { contents = c; spelled = s; told = h }
 told-holds request bytes c Verified s h = record { contents = c; spelled = s; told = h }
 told-holds request bytes c (Certified t) s h = record { contents = c; spelled = s; told = h }
 told-holds request bytes c (Refused t) s h = record { contents = c; spelled = s; told = h }
@@ -111,6 +113,8 @@ BreachesShown = (S : Members) (p k : ℕ) (path : Path) → IsFirstFault S (faul
 -- An overlap or a breach is told only as the first fault.
 overlap-first : (q : Question) (c : Contents) (w o : ℕ) (place : Place) (held path : Path) → IsRefusedFor q c (fault.Overlap w o place held path) → IsFirstFault (members c) (fault.Overlap w o place held path)
 overlap-first q c w o place held path (inl h) = absurd h
+overlap-first CheckWithState c w o place held path (inr (inl h)) = cc
+overlap-first CheckWithState c w o place held path (inr (inr h)) = h
 overlap-first Check c w o place held path (inr (inl h)) = cc
 overlap-first Check c w o place held path (inr (inr h)) = h
 overlap-first Certify c w o place held path (inr (inl h)) = cc
@@ -119,6 +123,8 @@ overlap-first Verify c w o place held path (inr h) = absurd h
 
 breach_first : (q : Question) (c : Contents) (p k : ℕ) (path : Path) → IsRefusedFor q c (fault.Breach p k path) → IsFirstFault (members c) (fault.Breach p k path)
 breach_first q c p k path (inl h) = absurd h
+breach_first CheckWithState c p k path (inr (inl h)) = cc
+breach_first CheckWithState c p k path (inr (inr h)) = h
 breach_first Check c p k path (inr (inl h)) = cc
 breach_first Check c p k path (inr (inr h)) = h
 breach_first Certify c p k path (inr (inl h)) = cc
@@ -163,24 +169,62 @@ only_breach shown q c (fault.AlphabetFault automaton.TooManySpots) u s is h = λ
 only_breach shown q c (fault.AlphabetFault automaton.OutOfMemory) u s is h = λ safe. begins 102 98 u _ s refl h
 only_breach shown q c fault.OutOfMemory u s is h = λ safe. begins 102 98 u _ s refl h
 
+-- What a front has after `safe` is a front of what follows there.
+after_safe : (w : ℕ) (t s : List ℕ) → take w (codes "safe\n" ++ t) ≡ codes "safe\n" ++ s → (v : ℕ) × (take v t ≡ s)
+after_safe w t s e =
+    let one = goes_on 115 115 w (97 ∷ 102 ∷ 101 ∷ 10 ∷ t) (97 ∷ 102 ∷ 101 ∷ 10 ∷ s) e in
+    let two = goes_on 97 97 one.0 (102 ∷ 101 ∷ 10 ∷ t) (102 ∷ 101 ∷ 10 ∷ s) one.1 in
+    let three = goes_on 102 102 two.0 (101 ∷ 10 ∷ t) (101 ∷ 10 ∷ s) two.1 in
+    let four = goes_on 101 101 three.0 (10 ∷ t) (10 ∷ s) three.1 in
+    goes_on 10 10 four.0 t s four.1
+
+-- Where no state is to be written, nothing is below `safe`.
+stateless-below : (q : Question) (state : Option State) → AsksNoState q state → codes "safe\n" ≡ codes "safe\n" ++ text_below q state
+stateless-below q state (inl h) = rw h refl
+stateless-below q state (inr h) = rw (h.0, h.1) refl
+
+-- What follows `safe` in a front of the text of a safe set.
+follows : (request : Request) (bytes : List ℕ) (q : Question) (c : Contents) (text s : List ℕ) (w : ℕ) (failed : Bool)
+    → request ≡ about q → Spells bytes c → IsSafeSet (members c) → text ≡ codes "safe\n" ++ text_below q c.state → take w text ≡ codes "safe\n" ++ s
+    → (failed ≡ false → take w text ≡ text) → SpellsSafe (Some request) bytes s failed
+follows request bytes q c text s w failed asked spelled safe is e whole =
+    let rest = text_below q c.state in
+    let after = after_safe w rest s (ap (take w) (sym is) ∙ e) in
+    record {
+      of_set = q;
+      is_asked = ap Some asked;
+      contents = c;
+      spelled = spelled;
+      safe = safe;
+      written = after.0;
+      text_is = sym after.1;
+      whole = λ f. append_cancel_left (codes "safe\n") s rest (sym e ∙ (whole f ∙ is));
+    }
+
 -- Only the line of a safe set begins with an s,
-only_safe : (request : Request) (bytes : List ℕ) (r : Report) (line : List ℕ) (w : ℕ) (s : List ℕ) → IsLine r line → take w line ≡ 115 ∷ s → Holds request bytes r → SpellsSafe bytes
-only_safe request bytes Safe line w s l e h = record { contents = h.contents; spelled = h.spelled; safe = h.told.1 }
-only_safe request bytes Verified line w s l e h = absurd (begins 118 115 w _ _ refl (ap (take w) (sym l) ∙ e))
-only_safe request bytes (Certified text) line w s l e h = absurd (begins 104 115 w _ _ refl (ap (take w) (sym (l ∙ h.told.text_is)) ∙ e))
-only_safe request bytes (Refused text) line w s l e h = absurd (unlike (members h.contents) h.told.reason 115 w s refl refl refl refl refl (ap (take w) (sym (l ∙ h.told.told.1)) ∙ e))
-only_safe request bytes Reached line w s l e h = absurd (begins 114 115 w _ _ refl (ap (take w) (sym l) ∙ e))
-only_safe request bytes NotReached line w s l e h = absurd (begins 110 115 w _ _ refl (ap (take w) (sym l) ∙ e))
-only_safe request bytes (NoProfile n) line w s l e h = absurd (begins 102 115 w _ _ refl (ap (take w) (sym l) ∙ e))
-only_safe request bytes (BadPath f) line w s l e h = absurd (begins 102 115 w _ _ refl (ap (take w) (sym l.1) ∙ e))
-only_safe request bytes (Unread f) line w s l e h = absurd (begins 102 115 w _ _ refl (ap (take w) (sym l.1) ∙ e))
-only_safe request bytes (BadBundle f) line w s l e h = absurd (begins 102 115 w _ _ refl (ap (take w) (sym l.1) ∙ e))
-only_safe request bytes (BadSection f) line w s l e h = absurd (begins 102 115 w _ _ refl (ap (take w) (sym l.1) ∙ e))
-only_safe request bytes OutOfMemory line w s l e h = absurd (begins 102 115 w _ _ refl (ap (take w) (sym l) ∙ e))
+only_safe : (request : Request) (bytes : List ℕ) (r : Report) (line : List ℕ) (w : ℕ) (s : List ℕ) (failed : Bool) → IsText r line → take w line ≡ codes "safe\n" ++ s
+    → (failed ≡ false → take w line ≡ line) → Holds request bytes r → SpellsSafe (Some request) bytes s failed
+only_safe request bytes Safe line w s failed l e whole h =
+    follows request bytes h.told.of_set h.contents line s w failed h.told.asked h.spelled h.told.safe (l ∙ stateless-below h.told.of_set h.contents.state h.told.stateless) e whole
+only_safe request bytes (SafeWithState S) line w s failed l e whole h =
+    let below = ap (λ (o : Option State). codes "safe\n" ++ text_below CheckWithState o) (sym h.told.state_is) in
+    follows request bytes CheckWithState h.contents line s w failed h.told.asked h.spelled h.told.safe (l ∙ below) e whole
+only_safe request bytes Verified line w s failed l e whole h = absurd (begins 118 115 w _ _ refl (ap (take w) (sym l) ∙ e))
+only_safe request bytes (Certified text) line w s failed l e whole h = absurd (begins 104 115 w _ _ refl (ap (take w) (sym (l ∙ h.told.text_is)) ∙ e))
+only_safe request bytes (Refused text) line w s failed l e whole h = absurd (unlike (members h.contents) h.told.reason 115 w _ refl refl refl refl refl (ap (take w) (sym (l ∙ h.told.told.1)) ∙ e))
+only_safe request bytes Reached line w s failed l e whole h = absurd (begins 114 115 w _ _ refl (ap (take w) (sym l) ∙ e))
+only_safe request bytes NotReached line w s failed l e whole h = absurd (begins 110 115 w _ _ refl (ap (take w) (sym l) ∙ e))
+only_safe request bytes (NoProfile n) line w s failed l e whole h = absurd (begins 102 115 w _ _ refl (ap (take w) (sym l) ∙ e))
+only_safe request bytes (BadPath f) line w s failed l e whole h = absurd (begins 102 115 w _ _ refl (ap (take w) (sym l.1) ∙ e))
+only_safe request bytes (Unread f) line w s failed l e whole h = absurd (begins 102 115 w _ _ refl (ap (take w) (sym l.1) ∙ e))
+only_safe request bytes (BadBundle f) line w s failed l e whole h = absurd (begins 102 115 w _ _ refl (ap (take w) (sym l.1) ∙ e))
+only_safe request bytes (BadSection f) line w s failed l e whole h = absurd (begins 102 115 w _ _ refl (ap (take w) (sym l.1) ∙ e))
+only_safe request bytes OutOfMemory line w s failed l e whole h = absurd (begins 102 115 w _ _ refl (ap (take w) (sym l) ∙ e))
 
 -- only that of a verified one with a v,
-only_verified : (request : Request) (bytes : List ℕ) (r : Report) (line : List ℕ) (w : ℕ) (s : List ℕ) → IsLine r line → take w line ≡ 118 ∷ s → Holds request bytes r → SpellsVerified (Some request) bytes
+only_verified : (request : Request) (bytes : List ℕ) (r : Report) (line : List ℕ) (w : ℕ) (s : List ℕ) → IsText r line → take w line ≡ 118 ∷ s → Holds request bytes r → SpellsVerified (Some request) bytes
 only_verified request bytes Safe line w s l e h = absurd (begins 115 118 w _ _ refl (ap (take w) (sym l) ∙ e))
+only_verified request bytes (SafeWithState S) line w s l e h = absurd (begins 115 118 w _ _ refl (ap (take w) (sym l) ∙ e))
 only_verified request bytes Verified line w s l e h = record { is_asked = ap Some h.told.0; contents = h.contents; spelled = h.spelled; inductive = h.told.1; safe = h.told.2 }
 only_verified request bytes (Certified text) line w s l e h = absurd (begins 104 118 w _ _ refl (ap (take w) (sym (l ∙ h.told.text_is)) ∙ e))
 only_verified request bytes (Refused text) line w s l e h = absurd (unlike (members h.contents) h.told.reason 118 w s refl refl refl refl refl (ap (take w) (sym (l ∙ h.told.told.1)) ∙ e))
@@ -194,8 +238,9 @@ only_verified request bytes (BadSection f) line w s l e h = absurd (begins 102 1
 only_verified request bytes OutOfMemory line w s l e h = absurd (begins 102 118 w _ _ refl (ap (take w) (sym l) ∙ e))
 
 -- only that of a reached path with `rea`,
-only_reached : (request : Request) (bytes : List ℕ) (r : Report) (line : List ℕ) (w : ℕ) (s : List ℕ) → IsLine r line → take w line ≡ 114 ∷ 101 ∷ 97 ∷ s → Holds request bytes r → IsTrueOf request bytes Reached
+only_reached : (request : Request) (bytes : List ℕ) (r : Report) (line : List ℕ) (w : ℕ) (s : List ℕ) → IsText r line → take w line ≡ 114 ∷ 101 ∷ 97 ∷ s → Holds request bytes r → IsTrueOf request bytes Reached
 only_reached request bytes Safe line w s l e h = absurd (begins 115 114 w _ _ refl (ap (take w) (sym l) ∙ e))
+only_reached request bytes (SafeWithState S) line w s l e h = absurd (begins 115 114 w _ _ refl (ap (take w) (sym l) ∙ e))
 only_reached request bytes Verified line w s l e h = absurd (begins 118 114 w _ _ refl (ap (take w) (sym l) ∙ e))
 only_reached request bytes (Certified text) line w s l e h = absurd (begins 104 114 w _ _ refl (ap (take w) (sym (l ∙ h.told.text_is)) ∙ e))
 only_reached request bytes (Refused text) line w s l e h = absurd (unlike_reached (members h.contents) h.told.reason w s (ap (take w) (sym (l ∙ h.told.told.1)) ∙ e))
@@ -209,8 +254,9 @@ only_reached request bytes (BadSection f) line w s l e h = absurd (begins 102 11
 only_reached request bytes OutOfMemory line w s l e h = absurd (begins 102 114 w _ _ refl (ap (take w) (sym l) ∙ e))
 
 -- only that of a path that isn't with an n,
-only_not_reached : (request : Request) (bytes : List ℕ) (r : Report) (line : List ℕ) (w : ℕ) (s : List ℕ) → IsLine r line → take w line ≡ 110 ∷ s → Holds request bytes r → IsTrueOf request bytes NotReached
+only_not_reached : (request : Request) (bytes : List ℕ) (r : Report) (line : List ℕ) (w : ℕ) (s : List ℕ) → IsText r line → take w line ≡ 110 ∷ s → Holds request bytes r → IsTrueOf request bytes NotReached
 only_not_reached request bytes Safe line w s l e h = absurd (begins 115 110 w _ _ refl (ap (take w) (sym l) ∙ e))
+only_not_reached request bytes (SafeWithState S) line w s l e h = absurd (begins 115 110 w _ _ refl (ap (take w) (sym l) ∙ e))
 only_not_reached request bytes Verified line w s l e h = absurd (begins 118 110 w _ _ refl (ap (take w) (sym l) ∙ e))
 only_not_reached request bytes (Certified text) line w s l e h = absurd (begins 104 110 w _ _ refl (ap (take w) (sym (l ∙ h.told.text_is)) ∙ e))
 only_not_reached request bytes (Refused text) line w s l e h = absurd (unlike (members h.contents) h.told.reason 110 w s refl refl refl refl refl (ap (take w) (sym (l ∙ h.told.told.1)) ∙ e))
@@ -224,8 +270,9 @@ only_not_reached request bytes (BadSection f) line w s l e h = absurd (begins 10
 only_not_reached request bytes OutOfMemory line w s l e h = absurd (begins 102 110 w _ _ refl (ap (take w) (sym l) ∙ e))
 
 -- only that of an overlap with an o,
-only_overlaps : OverlapsShown → (request : Request) (bytes : List ℕ) (r : Report) (line : List ℕ) (w : ℕ) (s : List ℕ) → IsLine r line → take w line ≡ 111 ∷ s → Holds request bytes r → SpellsUnsafe bytes
+only_overlaps : OverlapsShown → (request : Request) (bytes : List ℕ) (r : Report) (line : List ℕ) (w : ℕ) (s : List ℕ) → IsText r line → take w line ≡ 111 ∷ s → Holds request bytes r → SpellsUnsafe bytes
 only_overlaps shown request bytes Safe line w s l e h = absurd (begins 115 111 w _ _ refl (ap (take w) (sym l) ∙ e))
+only_overlaps shown request bytes (SafeWithState S) line w s l e h = absurd (begins 115 111 w _ _ refl (ap (take w) (sym l) ∙ e))
 only_overlaps shown request bytes Verified line w s l e h = absurd (begins 118 111 w _ _ refl (ap (take w) (sym l) ∙ e))
 only_overlaps shown request bytes (Certified text) line w s l e h = absurd (begins 104 111 w _ _ refl (ap (take w) (sym (l ∙ h.told.text_is)) ∙ e))
 only_overlaps shown request bytes (Refused text) line w s l e h = record { contents = h.contents; spelled = h.spelled; unsafe = only_overlap shown h.told.of_set h.contents h.told.reason w s h.told.refused (ap (take w) (sym (l ∙ h.told.told.1)) ∙ e) }
@@ -239,8 +286,9 @@ only_overlaps shown request bytes (BadSection f) line w s l e h = absurd (begins
 only_overlaps shown request bytes OutOfMemory line w s l e h = absurd (begins 102 111 w _ _ refl (ap (take w) (sym l) ∙ e))
 
 -- and only that of a breach with a b.
-only_breaches : BreachesShown → (request : Request) (bytes : List ℕ) (r : Report) (line : List ℕ) (w : ℕ) (s : List ℕ) → IsLine r line → take w line ≡ 98 ∷ s → Holds request bytes r → SpellsUnsafe bytes
+only_breaches : BreachesShown → (request : Request) (bytes : List ℕ) (r : Report) (line : List ℕ) (w : ℕ) (s : List ℕ) → IsText r line → take w line ≡ 98 ∷ s → Holds request bytes r → SpellsUnsafe bytes
 only_breaches shown request bytes Safe line w s l e h = absurd (begins 115 98 w _ _ refl (ap (take w) (sym l) ∙ e))
+only_breaches shown request bytes (SafeWithState S) line w s l e h = absurd (begins 115 98 w _ _ refl (ap (take w) (sym l) ∙ e))
 only_breaches shown request bytes Verified line w s l e h = absurd (begins 118 98 w _ _ refl (ap (take w) (sym l) ∙ e))
 only_breaches shown request bytes (Certified text) line w s l e h = absurd (begins 104 98 w _ _ refl (ap (take w) (sym (l ∙ h.told.text_is)) ∙ e))
 only_breaches shown request bytes (Refused text) line w s l e h = record { contents = h.contents; spelled = h.spelled; unsafe = only_breach shown h.told.of_set h.contents h.told.reason w s h.told.refused (ap (take w) (sym (l ∙ h.told.told.1)) ∙ e) }
@@ -265,31 +313,32 @@ module _ (request : Request) (remaining old new : Option (List ℕ)) (read_faile
   held a e = subst (λ r. IfSome r (λ bs. Holds request bs a.report)) e a.holds
 
   safe-written : (text : List ℕ) → Answers request remaining old new read_failed write_failed status → remaining ≡ Some bytes → old ≡ Some before
-      → new ≡ Some (before ++ (codes "safe\n" ++ text)) → SpellsSafe bytes
-  safe-written text a e f g = only_safe request bytes a.report a.line a.writes.written _ a.is_line (appended old new before _ _ a.writes.appends f g) (held a e)
+      → new ≡ Some (before ++ (codes "safe\n" ++ text)) → SpellsSafe (Some request) bytes text write_failed
+  safe-written text a e f g =
+      only_safe request bytes a.report a.text a.writes.written text write_failed a.is_text (appended old new before _ _ a.writes.appends f g) a.writes.whole (held a e)
 
   verified-written : (text : List ℕ) → Answers request remaining old new read_failed write_failed status → remaining ≡ Some bytes → old ≡ Some before
       → new ≡ Some (before ++ (codes "verified\n" ++ text)) → SpellsVerified (Some request) bytes
-  verified-written text a e f g = only_verified request bytes a.report a.line a.writes.written _ a.is_line (appended old new before _ _ a.writes.appends f g) (held a e)
+  verified-written text a e f g = only_verified request bytes a.report a.text a.writes.written _ a.is_text (appended old new before _ _ a.writes.appends f g) (held a e)
 
   overlap-written : OverlapsShown → (text : List ℕ) → Answers request remaining old new read_failed write_failed status → remaining ≡ Some bytes → old ≡ Some before
       → new ≡ Some (before ++ (codes "overlap: " ++ text)) → SpellsUnsafe bytes
-  overlap-written shown text a e f g = only_overlaps shown request bytes a.report a.line a.writes.written _ a.is_line (appended old new before _ _ a.writes.appends f g) (held a e)
+  overlap-written shown text a e f g = only_overlaps shown request bytes a.report a.text a.writes.written _ a.is_text (appended old new before _ _ a.writes.appends f g) (held a e)
 
   breach-written : BreachesShown → (text : List ℕ) → Answers request remaining old new read_failed write_failed status → remaining ≡ Some bytes → old ≡ Some before
       → new ≡ Some (before ++ (codes "breach: " ++ text)) → SpellsUnsafe bytes
-  breach-written shown text a e f g = only_breaches shown request bytes a.report a.line a.writes.written _ a.is_line (appended old new before _ _ a.writes.appends f g) (held a e)
+  breach-written shown text a e f g = only_breaches shown request bytes a.report a.text a.writes.written _ a.is_text (appended old new before _ _ a.writes.appends f g) (held a e)
 
   reached-written : (text : List ℕ) → Answers request remaining old new read_failed write_failed status → remaining ≡ Some bytes → old ≡ Some before
       → new ≡ Some (before ++ (codes "reached\n" ++ text)) → SpellsReach (Some request) bytes true
   reached-written text a e f g =
-      let h = only_reached request bytes a.report a.line a.writes.written _ a.is_line (appended old new before _ _ a.writes.appends f g) (held a e) in
+      let h = only_reached request bytes a.report a.text a.writes.written _ a.is_text (appended old new before _ _ a.writes.appends f g) (held a e) in
       record { request = request; is_asked = refl; contents = h.contents; spelled = h.spelled; answered = h.told }
 
   not_reached-written : (text : List ℕ) → Answers request remaining old new read_failed write_failed status → remaining ≡ Some bytes → old ≡ Some before
       → new ≡ Some (before ++ (codes "not reached\n" ++ text)) → SpellsReach (Some request) bytes false
   not_reached-written text a e f g =
-      let h = only_not_reached request bytes a.report a.line a.writes.written _ a.is_line (appended old new before _ _ a.writes.appends f g) (held a e) in
+      let h = only_not_reached request bytes a.report a.text a.writes.written _ a.is_text (appended old new before _ _ a.writes.appends f g) (held a e) in
       record { request = request; is_asked = refl; contents = h.contents; spelled = h.spelled; answered = h.told }
 
 -- Where the words ask for nothing, no such line is written: what is written begins with an f.
@@ -306,6 +355,7 @@ nothing-written old new status before text x a d f g = go a.writes
 
 status-le : (r : Report) → status_of r ≤ 2
 status-le Safe = omega arith
+status-le (SafeWithState S) = omega arith
 status-le Verified = omega arith
 status-le (Certified t) = omega arith
 status-le (Refused t) = omega arith
@@ -356,7 +406,7 @@ anything : (r : Option (List ℕ)) → IfSome r (λ _. ⊤)
 anything None = tt
 anything (Some bytes) = tt
 
-pub memory-nothing : (old new : Option (List ℕ)) (failed : Bool) (status : ℕ) → WritesLine old new (codes "fault: out of memory\n") 2 failed status
+pub memory-nothing : (old new : Option (List ℕ)) (failed : Bool) (status : ℕ) → WritesText old new (codes "fault: out of memory\n") 2 failed status
     → AnswersNothing old new status
 memory-nothing old new failed status w = record { status_is = two failed w.status_is; writes = inr (w.written, w.appends) }
   where
@@ -366,20 +416,20 @@ memory-nothing old new failed status w = record { status_is = two failed w.statu
 
 -- The line that memory is out answers every question.
 pub memory-answers : (request : Request) (remaining old new : Option (List ℕ)) (read_failed write_failed : Bool) (status : ℕ)
-    → WritesLine old new (codes "fault: out of memory\n") 2 write_failed status → Answers request remaining old new read_failed write_failed status
+    → WritesText old new (codes "fault: out of memory\n") 2 write_failed status → Answers request remaining old new read_failed write_failed status
 memory-answers request remaining old new read_failed write_failed status w = record {
   report = OutOfMemory;
   holds = anything remaining;
   only_failed = λ e. absurd (false≢true e);
   all_failed = λ e. inr refl;
-  line = codes "fault: out of memory\n";
-  is_line = refl;
+  text = codes "fault: out of memory\n";
+  is_text = refl;
   writes = w;
 }
 
 -- And it is right for words that ask for something and for those that don't.
 pub serves-memory : OverlapsShown → BreachesShown → (asked : Option Request) (remaining old new : Option (List ℕ)) (read_failed write_failed : Bool) (status : ℕ)
-    → WritesLine old new (codes "fault: out of memory\n") 2 write_failed status → Serves asked remaining old new read_failed write_failed status
+    → WritesText old new (codes "fault: out of memory\n") 2 write_failed status → Serves asked remaining old new read_failed write_failed status
 serves-memory overlaps breaches None remaining old new read_failed write_failed status w =
     serves-nothing remaining old new read_failed write_failed status (memory-nothing old new write_failed status w)
 serves-memory overlaps breaches (Some request) remaining old new read_failed write_failed status w =
@@ -387,7 +437,7 @@ serves-memory overlaps breaches (Some request) remaining old new read_failed wri
 
 -- Words that are refused ask for nothing, unless memory is out.
 pub serves-refused : {T : Type 0} → OverlapsShown → BreachesShown → (kind none : T) (asked : Option Request) (remaining old new : Option (List ℕ)) (read_failed write_failed : Bool) (status : ℕ)
-    → (kind ≡ none) ⊎ (asked ≡ None) → (kind ≡ none → WritesLine old new (codes "fault: out of memory\n") 2 write_failed status) → AnswersNothing old new status
+    → (kind ≡ none) ⊎ (asked ≡ None) → (kind ≡ none → WritesText old new (codes "fault: out of memory\n") 2 write_failed status) → AnswersNothing old new status
     → Serves asked remaining old new read_failed write_failed status
 serves-refused overlaps breaches kind none asked remaining old new read_failed write_failed status (inl e) memory a =
     serves-memory overlaps breaches asked remaining old new read_failed write_failed status (memory e)
@@ -406,9 +456,9 @@ serves-same words same remaining old new read_failed write_failed status e h =
     subst (λ ws. Serves (asked_of ws) remaining old new read_failed write_failed status) e h
 
 -- All of a line was written, and no call failed.
-pub line-written : (old mid new : Option (List ℕ)) (line : List ℕ) (status : ℕ) (failed : Bool) → Appends old mid line → Keeps mid new → failed ≡ false
-    → WritesLine old new line status failed status
-line-written old mid new line status failed all kept is =
+pub text-written : (old mid new : Option (List ℕ)) (line : List ℕ) (status : ℕ) (failed : Bool) → Appends old mid line → Keeps mid new → failed ≡ false
+    → WritesText old new line status failed status
+text-written old mid new line status failed all kept is =
     let whole : take (length line) line ≡ line = take_all (length line) line (omega arith) in
     record {
       written = length line;
@@ -418,9 +468,9 @@ line-written old mid new line status failed all kept is =
     }
 
 -- A prefix of a line was written, and a call failed.
-pub line-cut : (old new : Option (List ℕ)) (line : List ℕ) (n status : ℕ) (failed : Bool) → Appends old new (take n line) → failed ≡ true
-    → WritesLine old new line status failed 2
-line-cut old new line n status failed some is = record {
+pub text-cut : (old new : Option (List ℕ)) (line : List ℕ) (n status : ℕ) (failed : Bool) → Appends old new (take n line) → failed ≡ true
+    → WritesText old new line status failed 2
+text-cut old new line n status failed some is = record {
   written = n;
   appends = some;
   whole = λ e. absurd (true≢false (sym is ∙ e));
@@ -428,10 +478,10 @@ line-cut old new line n status failed some is = record {
 }
 
 -- All of a line was written, and then the flush failed.
-pub line-unflushed : (old mid new : Option (List ℕ)) (line : List ℕ) (status : ℕ) (failed : Bool) → Appends old mid line → Keeps mid new → failed ≡ true
-    → WritesLine old new line status failed 2
-line-unflushed old mid new line status failed all kept is =
-    line-cut old new line (length line) status failed (Appends-kept old mid new (take (length line) line) (subst (Appends old mid) (sym (take_all (length line) line (omega arith))) all) kept) is
+pub text-unflushed : (old mid new : Option (List ℕ)) (line : List ℕ) (status : ℕ) (failed : Bool) → Appends old mid line → Keeps mid new → failed ≡ true
+    → WritesText old new line status failed 2
+text-unflushed old mid new line status failed all kept is =
+    text-cut old new line (length line) status failed (Appends-kept old mid new (take (length line) line) (subst (Appends old mid) (sym (take_all (length line) line (omega arith))) all) kept) is
 
 -- A call that returned no error has not failed.
 pub unfailed : (failed err now : Bool) → failed ≡ false → false ≡ err → now ≡ (failed || err) → now ≡ false

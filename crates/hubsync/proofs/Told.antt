@@ -8,7 +8,7 @@ use Rattle.hub_cert.specs.declared.fault.CheckFault.{CheckFault}
 use Rattle.hubsync.specs.declared.sections.Contents.{Contents}
 use Rattle.hubsync.specs.declared.words.Question.{Question}
 use Rattle.hubsync.specs.declared.report.Report.{Report}
-use Rattle.hubsync.specs.declared.report.Report.TheVariants.{Safe, Verified, Certified, Refused, Reached, NotReached, NoProfile, BadPath, Unread, BadBundle, BadSection, OutOfMemory}
+use Rattle.hubsync.specs.declared.report.Report.TheVariants.{Safe, SafeWithState, Verified, Certified, Refused, Reached, NotReached, NoProfile, BadPath, Unread, BadBundle, BadSection, OutOfMemory}
 use Rattle.hubsync.specs.Report.{HasBadPath, IsRefusal, IsTold, says_read_failed}
 use Rattle.hubsync.specs.Sections.{members}
 use Rattle.hubsync.specs.Words.{Request, about}
@@ -16,6 +16,7 @@ use Rattle.hubsync.specs.Words.{Request, about}
 -- Profiles that are no set are refused, whatever the question is.
 pub refusal-told : (q : Question) (c : Contents) (e : CheckFault) (r : Report) → IsRefused (members c) e → IsRefusal (members c) e r → IsTold (about q) c r
 refusal-told q c e Safe i h = absurd h
+refusal-told q c e (SafeWithState S) i h = absurd h
 refusal-told q c e Verified i h = absurd h
 refusal-told q c e (Certified t) i h = absurd h
 refusal-told q c e (Refused t) i h = record { of_set = q; asked = refl; reason = e; refused = inl i; told = h }
@@ -30,6 +31,7 @@ refusal-told q c e OutOfMemory i h = tt
 
 pub refusal-read : (S : Members) (e : CheckFault) (r : Report) → IsRefusal S e r → says_read_failed r ≡ false
 refusal-read S e Safe h = absurd h
+refusal-read S e (SafeWithState state) h = absurd h
 refusal-read S e Verified h = absurd h
 refusal-read S e (Certified t) h = absurd h
 refusal-read S e (Refused t) h = refl

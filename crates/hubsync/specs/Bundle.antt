@@ -1,5 +1,5 @@
 -- Which bytes are bundles, what their sections are, and the first fault of all others.
-use Rattle.std.specs.Prelude.{ℕ, ◌+◌, Bool, true, false, ◌&&◌, ◌||◌, ◌==◌, nat_eq, List, [], ◌∷◌, ◌++◌, ◌-◌, take, drop, length, Option, Some, None, Result, Ok, Err, if◌then◌else◌, codes, bytes_eq}
+use Rattle.std.specs.Prelude.{ℕ, ◌+◌, Bool, true, false, ◌||◌, ◌==◌, nat_eq, List, [], ◌∷◌, ◌++◌, ◌-◌, take, drop, length, Option, Some, None, Result, Ok, Err, if◌then◌else◌, codes, bytes_eq}
 use Rattle.std.specs.List.{list_any, list_all, starts_with, ends_with}
 use Rattle.std.specs.Str.{is_utf8, chars}
 use Rattle.hub_text.specs.declared.line.Line.{Line}
@@ -8,7 +8,7 @@ use Rattle.hub_path.specs.Path.{Name}
 use Rattle.hub_path.specs.Reading.{name_reading}
 use Rattle.hub_path.specs.declared.fault.PathFault.{PathFault}
 use Rattle.hubsync.specs.declared.bundle.Heading.{Heading}
-use Rattle.hubsync.specs.declared.bundle.Heading.TheVariants.{Profile, Rules, Certificates}
+use Rattle.hubsync.specs.declared.bundle.Heading.TheVariants.{Profile, Rules, State, Certificates}
 use Rattle.hubsync.specs.declared.bundle.BundleFault.{BundleFault}
 use Rattle.hubsync.specs.declared.bundle.BundleFault.TheVariants.{NoSection, UnknownSection, BadName, SectionTwice, OutOfMemory}
 use Rattle.hubsync.specs.declared.bundle.BundleLineFault.{BundleLineFault}
@@ -75,7 +75,9 @@ profile_reading bytes = if is_utf8 bytes then profile_or_fault (name_reading (ch
 -- The other kinds of sections have a heading without a name.
 abbrev pub heading_once : List ℕ → Option Heading
 heading_once l =
-    if bytes_eq l (codes "%rules") then Some Rules else (if bytes_eq l (codes "%certificates") then Some Certificates else None)
+    if bytes_eq l (codes "%rules") then Some Rules
+    else (if bytes_eq l (codes "%state") then Some State
+    else (if bytes_eq l (codes "%certificates") then Some Certificates else None))
 
 abbrev pub known_or_fault : Option Heading → Result Heading BundleFault
 known_or_fault (Some h) = Ok h
@@ -89,17 +91,26 @@ heading_reading l =
 abbrev pub is_rules : Heading → Bool
 is_rules (Profile n) = false
 is_rules Rules = true
+is_rules State = false
 is_rules Certificates = false
+
+abbrev pub is_state : Heading → Bool
+is_state (Profile n) = false
+is_state Rules = false
+is_state State = true
+is_state Certificates = false
 
 abbrev pub is_certificates : Heading → Bool
 is_certificates (Profile n) = false
 is_certificates Rules = false
+is_certificates State = false
 is_certificates Certificates = true
 
 -- Profiles may be many; another kind of section is repeated if there is one above.
 abbrev pub is_repeated : List SectionValue → Heading → Bool
 is_repeated above (Profile n) = false
 is_repeated above Rules = list_any (λ s. is_rules s.heading) above
+is_repeated above State = list_any (λ s. is_state s.heading) above
 is_repeated above Certificates = list_any (λ s. is_certificates s.heading) above
 
 -- What a heading says below these sections.

@@ -1,7 +1,7 @@
 -- Worked values of the reading of bundles.
 use Rattle.std.specs.Prelude.{⊤, ◌≡◌, ℕ, List, [], ◌∷◌, ◌++◌, Result, Ok, Err, codes, replicate, refl}
 use Rattle.std.specs.Str.{is_utf8, chars}
-use Rattle.hubsync.specs.declared.bundle.Heading.TheVariants.{Profile, Rules, Certificates}
+use Rattle.hubsync.specs.declared.bundle.Heading.TheVariants.{Profile, Rules, State, Certificates}
 use Rattle.hubsync.specs.declared.bundle.BundleFault.{BundleFault}
 use Rattle.hubsync.specs.declared.bundle.BundleFault.TheVariants as fault
 use Rattle.hubsync.specs.declared.bundle.BundleLineFault.{BundleLineFault}
@@ -66,17 +66,25 @@ an_unknown_heading : bundle_reading (codes "%profile a\nx\n%rules \n%profile ..\
 unfolding computed
 an_unknown_heading = refl
 
-later_kinds_are_unknown : bundle_reading (codes "%state\n") ≡ at 1 fault.UnknownSection
-later_kinds_are_unknown = refl
+other_kinds_are_unknown : bundle_reading (codes "%jobs\n") ≡ at 1 fault.UnknownSection
+other_kinds_are_unknown = refl
+
+a_blank_behind_the_word : bundle_reading (codes "%state \n") ≡ at 1 fault.UnknownSection
+a_blank_behind_the_word = refl
 
 -- the kinds without a name stand in any order, and a CR ends their heading too
-all_kinds : bundle_reading (codes "%certificates\nx\n%rules\r\n%profile a\n")
-    ≡ Ok (record { heading = Certificates; bytes = codes "x\n" } ∷ record { heading = Rules; bytes = [] } ∷ profile (codes "a") [] ∷ [])
+all_kinds : bundle_reading (codes "%certificates\nx\n%state\r\nend\r\n%rules\r\n%profile a\n")
+    ≡ Ok (record { heading = Certificates; bytes = codes "x\n" } ∷ record { heading = State; bytes = codes "end\r\n" }
+    ∷ record { heading = Rules; bytes = [] } ∷ profile (codes "a") [] ∷ [])
 unfolding computed
 all_kinds = refl
 
 rules_twice : bundle_reading (codes "%rules\n%certificates\n%rules\n%rules \n") ≡ at 3 fault.SectionTwice
 rules_twice = refl
+
+states_twice : bundle_reading (codes "%state\n%certificates\n%profile a\n%state") ≡ at 4 fault.SectionTwice
+unfolding computed
+states_twice = refl
 
 certificates_twice : bundle_reading (codes "%certificates\n%certificates") ≡ at 2 fault.SectionTwice
 certificates_twice = refl

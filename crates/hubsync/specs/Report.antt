@@ -16,16 +16,18 @@ use Rattle.hub_cert.specs.declared.certificate.Certificate.{Certificate}
 use Rattle.hub_cert.specs.declared.fault.CheckFault.{CheckFault}
 use Rattle.hub_cert.specs.declared.fault.CheckFault.TheVariants as fault
 use Rattle.hub_search.specs.Search.{IsFirstFault}
+use Rattle.hub_state.specs.State.{State}
+use Rattle.hub_state.specs.Writing.{state_text}
 use Rattle.hubsync.specs.declared.input.TheConstants.{READ_TURNS}
 use Rattle.hubsync.specs.declared.input.InputFault.{InputFault}
 use Rattle.hubsync.specs.declared.input.InputFault.TheVariants as input
 use Rattle.hubsync.specs.declared.sections.Contents.{Contents}
 use Rattle.hubsync.specs.declared.sections.SectionFault.{SectionFault}
-use Rattle.hubsync.specs.declared.sections.SectionFault.TheVariants.{OfProfile, OfRules, OfCertificates}
+use Rattle.hubsync.specs.declared.sections.SectionFault.TheVariants.{OfProfile, OfRules, OfState, OfCertificates}
 use Rattle.hubsync.specs.declared.report.Report.{Report}
-use Rattle.hubsync.specs.declared.report.Report.TheVariants.{Safe, Verified, Certified, Refused, Reached, NotReached, NoProfile, BadPath, Unread, BadBundle, BadSection, OutOfMemory}
+use Rattle.hubsync.specs.declared.report.Report.TheVariants.{Safe, SafeWithState, Verified, Certified, Refused, Reached, NotReached, NoProfile, BadPath, Unread, BadBundle, BadSection, OutOfMemory}
 use Rattle.hubsync.specs.declared.words.Question.{Question}
-use Rattle.hubsync.specs.declared.words.Question.TheVariants.{Check, Certify, Verify}
+use Rattle.hubsync.specs.declared.words.Question.TheVariants.{CheckWithState, Check, Certify, Verify}
 use Rattle.hubsync.specs.Bundle.{bundle_reading}
 use Rattle.hubsync.specs.Input.{says_failed}
 use Rattle.hubsync.specs.Reached.{named}
@@ -34,11 +36,25 @@ use Rattle.hubsync.specs.Sections.{Spells, HasFault, members}
 use Rattle.hubsync.specs.Words.{Request}
 use Rattle.hubsync.specs.Words as question
 
--- The bytes are a bundle whose profiles and rules are a safe set.
-pub record SpellsSafe (bytes : List ℕ) : Type 0 where
+-- What is written below `safe`: the text of the bundle's state, if the words ask for it and there is one.
+abbrev pub text_below : Question → Option State → List ℕ
+text_below CheckWithState None = []
+text_below CheckWithState (Some S) = state_text S
+text_below Check state = []
+text_below Certify state = []
+text_below Verify state = []
+
+-- The bytes are a bundle whose profiles and rules are a safe set, and this text is what is to follow `safe`: all of it,
+-- unless a call of the output failed, and then a prefix.
+pub record SpellsSafe (asked : Option Request) (bytes text : List ℕ) (failed : Bool) : Type 0 where
+  pub of_set : Question
+  pub is_asked : asked ≡ Some (question.about of_set)
   pub contents : Contents
   pub spelled : Spells bytes contents
   pub safe : IsSafeSet (members contents)
+  pub written : ℕ
+  pub text_is : text ≡ take written (text_below of_set contents.state)
+  pub whole : failed ≡ false → text ≡ text_below of_set contents.state
 
 -- The bytes are a bundle whose profiles and rules aren't.
 pub record SpellsUnsafe (bytes : List ℕ) : Type 0 where
@@ -82,6 +98,7 @@ pub record HasBadPath (request : Request) (Ps : List Parts) (f : PathFault) : Ty
 
 -- The fault with which a question about a set that was made is answered, where these are the bundle's certificates.
 abbrev pub FaultOf : Question → Members → List Certificate → CheckFault → Type 0
+FaultOf CheckWithState S cs e = (e ≡ fault.OutOfMemory) ⊎ IsFirstFault S e
 FaultOf Check S cs e = (e ≡ fault.OutOfMemory) ⊎ IsFirstFault S e
 FaultOf Certify S cs e = (e ≡ fault.OutOfMemory) ⊎ IsFirstFault S e
 FaultOf Verify S cs e = Refuses S cs e
@@ -89,6 +106,7 @@ FaultOf Verify S cs e = Refuses S cs e
 -- A set is refused for that fault, by the fault's line. Out of memory is told by itself.
 abbrev pub IsRefusal : Members → CheckFault → Report → Type 0
 IsRefusal S e Safe = ⊥
+IsRefusal S e (SafeWithState state) = ⊥
 IsRefusal S e Verified = ⊥
 IsRefusal S e (Certified t) = ⊥
 IsRefusal S e (Refused t) = (e ≢ fault.OutOfMemory) × (string_bytes t ≡ refusal_line S e)
@@ -101,20 +119,25 @@ IsRefusal S e (BadBundle f) = ⊥
 IsRefusal S e (BadSection f) = ⊥
 IsRefusal S e OutOfMemory = ⊤
 
--- What holds of a set that was made and of the bundle's certificates where a question is answered so.
-abbrev pub IsToldOfSet : Question → Members → List Certificate → Report → Type 0
-IsToldOfSet q S cs Safe = (q ≡ Check) × IsSafeSet S
-IsToldOfSet q S cs Verified = (q ≡ Verify) × AreCertificates S cs × IsSafeSet S
-IsToldOfSet q S cs (Certified t) = (q ≡ Certify) × ((own : List Certificate) × AreCertificates S own × (string_bytes t ≡ certificates_text own))
-IsToldOfSet q S cs (Refused t) = (e : CheckFault) × FaultOf q S cs e × IsRefusal S e (Refused t)
-IsToldOfSet q S cs Reached = ⊥
-IsToldOfSet q S cs NotReached = ⊥
-IsToldOfSet q S cs (NoProfile name) = ⊥
-IsToldOfSet q S cs (BadPath f) = ⊥
-IsToldOfSet q S cs (Unread f) = ⊥
-IsToldOfSet q S cs (BadBundle f) = ⊥
-IsToldOfSet q S cs (BadSection f) = ⊥
-IsToldOfSet q S cs OutOfMemory = ⊤
+-- The question is whether the set is safe, and no state is to be written: it isn't asked for, or there is none.
+abbrev pub AsksNoState : Question → Option State → Type 0
+AsksNoState q state = (q ≡ Check) ⊎ ((q ≡ CheckWithState) × (state ≡ None))
+
+-- What holds of a set that was made, and of the bundle's certificates and its state, where a question is answered so.
+abbrev pub IsToldOfSet : Question → Members → List Certificate → Option State → Report → Type 0
+IsToldOfSet q S cs state Safe = AsksNoState q state × IsSafeSet S
+IsToldOfSet q S cs state (SafeWithState own) = (q ≡ CheckWithState) × (state ≡ Some own) × IsSafeSet S
+IsToldOfSet q S cs state Verified = (q ≡ Verify) × AreCertificates S cs × IsSafeSet S
+IsToldOfSet q S cs state (Certified t) = (q ≡ Certify) × ((own : List Certificate) × AreCertificates S own × (string_bytes t ≡ certificates_text own))
+IsToldOfSet q S cs state (Refused t) = (e : CheckFault) × FaultOf q S cs e × IsRefusal S e (Refused t)
+IsToldOfSet q S cs state Reached = ⊥
+IsToldOfSet q S cs state NotReached = ⊥
+IsToldOfSet q S cs state (NoProfile name) = ⊥
+IsToldOfSet q S cs state (BadPath f) = ⊥
+IsToldOfSet q S cs state (Unread f) = ⊥
+IsToldOfSet q S cs state (BadBundle f) = ⊥
+IsToldOfSet q S cs state (BadSection f) = ⊥
+IsToldOfSet q S cs state OutOfMemory = ⊤
 
 -- The profiles and rules are no set, or the set is refused.
 abbrev pub IsRefusedFor : Question → Contents → CheckFault → Type 0
@@ -135,9 +158,23 @@ pub record IsToldCertified (request : Request) (c : Contents) (text : List ℕ) 
   pub inductive : AreCertificates (members c) certificates
   pub text_is : text ≡ certificates_text certificates
 
+-- It was asked whether the set is safe, which it is, and no state is to be written.
+pub record IsToldSafe (request : Request) (c : Contents) : Type 0 where
+  pub of_set : Question
+  pub asked : request ≡ question.about of_set
+  pub stateless : AsksNoState of_set c.state
+  pub safe : IsSafeSet (members c)
+
+-- The words name no command, the set is safe, and this is the bundle's state.
+pub record IsToldWithState (request : Request) (c : Contents) (S : State) : Type 0 where
+  pub asked : request ≡ question.about CheckWithState
+  pub state_is : c.state ≡ Some S
+  pub safe : IsSafeSet (members c)
+
 -- What holds of the question and of what the bundle says where the program answers so to a bundle that was read.
 abbrev pub IsTold : Request → Contents → Report → Type 0
-IsTold request c Safe = (request ≡ question.about Check) × IsSafeSet (members c)
+IsTold request c Safe = IsToldSafe request c
+IsTold request c (SafeWithState S) = IsToldWithState request c S
 IsTold request c Verified = (request ≡ question.about Verify) × AreCertificates (members c) c.certificates × IsSafeSet (members c)
 IsTold request c (Certified t) = IsToldCertified request c (string_bytes t)
 IsTold request c (Refused t) = IsToldRefused request c (Refused t)
@@ -165,6 +202,7 @@ IsUnread bytes input.OutOfMemory = ⊤
 -- What holds of the question and the input where the program answers so.
 abbrev pub Holds : Request → List ℕ → Report → Type 0
 Holds request bytes Safe = IsTrueOf request bytes Safe
+Holds request bytes (SafeWithState S) = IsTrueOf request bytes (SafeWithState S)
 Holds request bytes Verified = IsTrueOf request bytes Verified
 Holds request bytes (Certified t) = IsTrueOf request bytes (Certified t)
 Holds request bytes (Refused t) = IsTrueOf request bytes (Refused t)
@@ -203,32 +241,38 @@ profile_place name line = codes "profile " ++ (encode_utf8_all name ++ (codes " 
 abbrev pub rules_place : ℕ → List ℕ
 rules_place line = codes "rules line " ++ decimal line
 
+abbrev pub state_place : ℕ → List ℕ
+state_place line = codes "state line " ++ decimal line
+
 abbrev pub certificates_place : ℕ → List ℕ
 certificates_place line = codes "certificates line " ++ decimal line
 
 abbrev pub section_place : SectionFault → List ℕ
 section_place (OfProfile name f) = profile_place name f.line
 section_place (OfRules f) = rules_place f.line
+section_place (OfState f) = state_place f.line
 section_place (OfCertificates line) = certificates_place line
 
--- The line that says an answer, or the certificates' text.
-abbrev pub IsLine : Report → List ℕ → Type 0
-IsLine Safe t = t ≡ codes "safe\n"
-IsLine Verified t = t ≡ codes "verified\n"
-IsLine (Certified text) t = t ≡ string_bytes text
-IsLine (Refused line) t = t ≡ string_bytes line
-IsLine Reached t = t ≡ codes "reached\n"
-IsLine NotReached t = t ≡ codes "not reached\n"
-IsLine (NoProfile name) t = t ≡ flat_map (λ t. t) (codes "fault: no profile " ∷ name.now ∷ codes "\n" ∷ [])
-IsLine (BadPath f) t = IsFaultLine (codes "path") t
-IsLine (Unread f) t = IsFaultLine (codes "bundle line 0") t
-IsLine (BadBundle f) t = IsFaultLine (bundle_place f.line) t
-IsLine (BadSection f) t = IsFaultLine (section_place f) t
-IsLine OutOfMemory t = t ≡ codes "fault: out of memory\n"
+-- The text that says an answer: its line, the certificates' text, or `safe` and below it the text of the state.
+abbrev pub IsText : Report → List ℕ → Type 0
+IsText Safe t = t ≡ codes "safe\n"
+IsText (SafeWithState S) t = t ≡ codes "safe\n" ++ state_text S
+IsText Verified t = t ≡ codes "verified\n"
+IsText (Certified text) t = t ≡ string_bytes text
+IsText (Refused line) t = t ≡ string_bytes line
+IsText Reached t = t ≡ codes "reached\n"
+IsText NotReached t = t ≡ codes "not reached\n"
+IsText (NoProfile name) t = t ≡ flat_map (λ t. t) (codes "fault: no profile " ∷ name.now ∷ codes "\n" ∷ [])
+IsText (BadPath f) t = IsFaultLine (codes "path") t
+IsText (Unread f) t = IsFaultLine (codes "bundle line 0") t
+IsText (BadBundle f) t = IsFaultLine (bundle_place f.line) t
+IsText (BadSection f) t = IsFaultLine (section_place f) t
+IsText OutOfMemory t = t ≡ codes "fault: out of memory\n"
 
 -- The status of an answer that was written whole.
 abbrev pub status_of : Report → ℕ
 status_of Safe = 0
+status_of (SafeWithState S) = 0
 status_of Verified = 0
 status_of (Certified t) = 0
 status_of (Refused t) = 1
@@ -244,6 +288,7 @@ status_of OutOfMemory = 2
 -- The answer says that a read of the input failed.
 abbrev pub says_read_failed : Report → Bool
 says_read_failed Safe = false
+says_read_failed (SafeWithState S) = false
 says_read_failed Verified = false
 says_read_failed (Certified t) = false
 says_read_failed (Refused t) = false
@@ -256,11 +301,11 @@ says_read_failed (BadBundle f) = false
 says_read_failed (BadSection f) = false
 says_read_failed OutOfMemory = false
 
--- A line was written to an output, whole unless a call of the output failed: then a prefix of it, and the status is 2.
-pub record WritesLine (old new : Option (List ℕ)) (line : List ℕ) (status : ℕ) (failed : Bool) (result : ℕ) : Type 0 where
+-- A text was written to an output, whole unless a call of the output failed: then a prefix of it, and the status is 2.
+pub record WritesText (old new : Option (List ℕ)) (text : List ℕ) (status : ℕ) (failed : Bool) (result : ℕ) : Type 0 where
   pub written : ℕ
-  pub appends : Appends old new (take written line)
-  pub whole : failed ≡ false → take written line ≡ line
+  pub appends : Appends old new (take written text)
+  pub whole : failed ≡ false → take written text ≡ text
   pub status_is : result ≡ (if failed then 2 else status)
 
 -- Nothing was written, or a prefix of the line that says `out of memory`. The status is that of a fault.
@@ -268,16 +313,16 @@ pub record AnswersNothing (old new : Option (List ℕ)) (status : ℕ) : Type 0 
   pub status_is : status ≡ 2
   pub writes : Keeps old new ⊎ ((written : ℕ) × Appends old new (take written (codes "fault: out of memory\n")))
 
--- The line of one answer was written, and the answer is true of the question and of the input, whose remaining bytes are
+-- The text of one answer was written, and the answer is true of the question and of the input, whose remaining bytes are
 -- these if they are known. It says that a read failed only if one did. If one did, it says so, or `out of memory`.
 pub record Answers (request : Request) (remaining old new : Option (List ℕ)) (read_failed write_failed : Bool) (status : ℕ) : Type 0 where
   pub report : Report
   pub holds : IfSome remaining (λ bytes. Holds request bytes report)
   pub only_failed : says_read_failed report ≡ true → read_failed ≡ true
   pub all_failed : read_failed ≡ true → (says_read_failed report ≡ true) ⊎ (report ≡ OutOfMemory)
-  pub line : List ℕ
-  pub is_line : IsLine report line
-  pub writes : WritesLine old new line (status_of report) write_failed status
+  pub text : List ℕ
+  pub is_text : IsText report text
+  pub writes : WritesText old new text (status_of report) write_failed status
 
 -- What the program does for the words that ask for this, or for nothing: an input and an output before and after, whether
 -- a call of each failed, and the status.
@@ -285,9 +330,9 @@ pub record Serves (asked : Option Request) (remaining old new : Option (List ℕ
   pub few : status ≤ 2
   pub nothing : asked ≡ None → AnswersNothing old new status
   pub answer : (request : Request) → asked ≡ Some request → Answers request remaining old new read_failed write_failed status
-  -- `safe` is written only if the input spells a safe set,
+  -- `safe` is written only if the input spells a safe set, and what follows it is the text of the input's state,
   pub safe : (bytes before text : List ℕ) → remaining ≡ Some bytes → old ≡ Some before
-      → new ≡ Some (before ++ (codes "safe\n" ++ text)) → SpellsSafe bytes
+      → new ≡ Some (before ++ (codes "safe\n" ++ text)) → SpellsSafe asked bytes text write_failed
   -- `verified` only if the words ask for `verify`, and the input's certificates show that the set that it spells is safe,
   pub verified : (bytes before text : List ℕ) → remaining ≡ Some bytes → old ≡ Some before
       → new ≡ Some (before ++ (codes "verified\n" ++ text)) → SpellsVerified asked bytes

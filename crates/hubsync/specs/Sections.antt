@@ -1,5 +1,5 @@
 -- What the sections of a bundle say, and the first fault of all others.
-use Rattle.std.specs.Prelude.{◌≡◌, ⊤, ℕ, List, [], ◌∷◌, ◌++◌, Result, Ok, Err}
+use Rattle.std.specs.Prelude.{◌≡◌, ⊤, ℕ, List, [], ◌∷◌, ◌++◌, Some, None, Result, Ok, Err}
 use Rattle.hub_path.specs.Path.{Name}
 use Rattle.hub_profile.specs.Parts.{Parts}
 use Rattle.hub_profile.specs.Reading.{profile_in}
@@ -11,31 +11,38 @@ use Rattle.hub_cert.specs.Set.{Members}
 use Rattle.hub_cert.specs.declared.certificate.Certificate.{Certificate}
 use Rattle.hub_cert.specs.declared.fault.CheckFault.{CheckFault}
 use Rattle.hub_cert.specs.declared.fault.CheckFault.TheVariants as check
+use Rattle.hub_state.specs.State.{State}
+use Rattle.hub_state.specs.Reading.{state_reading}
+use Rattle.hub_state.specs.declared.fault.StateFault.{StateFault}
 use Rattle.hubsync.specs.declared.bundle.Heading.{Heading}
-use Rattle.hubsync.specs.declared.bundle.Heading.TheVariants.{Profile, Rules, Certificates}
+use Rattle.hubsync.specs.declared.bundle.Heading.TheVariants as heading
 use Rattle.hubsync.specs.declared.sections.Contents.{Contents}
 use Rattle.hubsync.specs.declared.sections.SectionFault.{SectionFault}
-use Rattle.hubsync.specs.declared.sections.SectionFault.TheVariants.{OfProfile, OfRules, OfCertificates}
+use Rattle.hubsync.specs.declared.sections.SectionFault.TheVariants.{OfProfile, OfRules, OfState, OfCertificates}
 use Rattle.hubsync.specs.declared.sections.ReadError.{ReadError}
 use Rattle.hubsync.specs.declared.sections.ReadError.TheVariants as memory
 use Rattle.hubsync.specs.Bundle.{SectionValue, bundle_reading}
 
 -- Before the first section.
 abbrev pub nothing : Contents
-nothing = record { profiles = []; rules = []; certificates = [] }
+nothing = record { profiles = []; rules = []; state = None; certificates = [] }
 
 -- One more profile.
 abbrev pub and_profile : Contents → Parts → Contents
-and_profile c P = record { profiles = c.profiles ++ P ∷ []; rules = c.rules; certificates = c.certificates }
+and_profile c P = record c { profiles = c.profiles ++ P ∷ [] }
 
 abbrev pub with_profile : Contents → Name → Result Parts ProfileFault → Result Contents SectionFault
 with_profile c name (Ok P) = Ok (and_profile c P)
 with_profile c name (Err f) = Err (OfProfile name f)
 
--- There is one section of rules at most, and one of certificates: each says all of them.
+-- There is one section of rules at most, one of a state and one of certificates: each says all of them.
 abbrev pub with_rules : Contents → Result (List Rule) ProfileFault → Result Contents SectionFault
-with_rules c (Ok Rs) = Ok (record { profiles = c.profiles; rules = Rs; certificates = c.certificates })
+with_rules c (Ok Rs) = Ok (record c { rules = Rs })
 with_rules c (Err f) = Err (OfRules f)
+
+abbrev pub with_state : Contents → Result State StateFault → Result Contents SectionFault
+with_state c (Ok S) = Ok (record c { state = Some S })
+with_state c (Err f) = Err (OfState f)
 
 -- The line of a faulty text of certificates. No other fault comes of a text.
 abbrev pub faulty_line : CheckFault → ℕ
@@ -58,13 +65,14 @@ abbrev pub certificates_fault : CheckFault → SectionFault
 certificates_fault e = OfCertificates (faulty_line e)
 
 abbrev pub with_certificates : Contents → Result (List Certificate) CheckFault → Result Contents SectionFault
-with_certificates c (Ok cs) = Ok (record { profiles = c.profiles; rules = c.rules; certificates = cs })
+with_certificates c (Ok cs) = Ok (record c { certificates = cs })
 with_certificates c (Err e) = Err (certificates_fault e)
 
 abbrev pub under_heading : Contents → Heading → List ℕ → Result Contents SectionFault
-under_heading c (Profile name) bytes = with_profile c name (profile_in name bytes)
-under_heading c Rules bytes = with_rules c (rules_in bytes)
-under_heading c Certificates bytes = with_certificates c (certificates_in bytes)
+under_heading c (heading.Profile name) bytes = with_profile c name (profile_in name bytes)
+under_heading c heading.Rules bytes = with_rules c (rules_in bytes)
+under_heading c heading.State bytes = with_state c (state_reading bytes)
+under_heading c heading.Certificates bytes = with_certificates c (certificates_in bytes)
 
 -- What is said so far, and then by one more section, or that one's first fault.
 abbrev pub with_section : Contents → SectionValue → Result Contents SectionFault

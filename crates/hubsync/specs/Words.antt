@@ -7,7 +7,7 @@ use Rattle.clap.specs.Words.{App, Row, Rule, Text, fault_of, first_of, new_app, 
 use Rattle.hubsync.specs.declared.words.Asked.{Asked}
 use Rattle.hubsync.specs.declared.words.Asked.TheVariants.{About, Reach}
 use Rattle.hubsync.specs.declared.words.Question.{Question}
-use Rattle.hubsync.specs.declared.words.Question.TheVariants.{Check, Certify, Verify}
+use Rattle.hubsync.specs.declared.words.Question.TheVariants.{CheckWithState, Check, Certify, Verify}
 
 -- a required operand
 abbrev pub operand : Text → Rule
@@ -55,7 +55,7 @@ about_named name =
 
 -- what the command that was used asks for, by its name and the rows of its operands
 abbrev pub request_in : Option (Text × List Row) → Option Request
-request_in None = Some (about Check)
+request_in None = Some (about CheckWithState)
 request_in (Some p) =
     if bytes_eq p.0 (codes "reach") then operands_of (first_of (codes "profile") p.1) (first_of (codes "path") p.1)
     else about_named p.0

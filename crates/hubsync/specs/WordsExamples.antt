@@ -3,7 +3,7 @@ use Rattle.std.specs.Prelude.{⊤, ◌≡◌, List, [], ◌∷◌, Option, Some,
 use Rattle.clap.proofs.OnLiterals.{clap_on_literals}
 use Rattle.clap.specs.Words.{Text}
 use Rattle.hubsync.specs.Words.{Request, about, asked_of, hubsync_app, reach}
-use Rattle.hubsync.specs.declared.words.Question.TheVariants.{Check, Certify, Verify}
+use Rattle.hubsync.specs.declared.words.Question.TheVariants.{CheckWithState, Check, Certify, Verify}
 
 -- What these examples compute.
 computed : ⊤
@@ -13,7 +13,7 @@ computed = tt
 abbrev asked : List Text → Option Request
 asked words = asked_of (codes "hubsync" ∷ words)
 
-no_words : asked [] ≡ Some (about Check)
+no_words : asked [] ≡ Some (about CheckWithState)
 unfolding computed
 no_words = refl
 
@@ -37,7 +37,7 @@ a_hyphen_with_none_before_it : asked (codes "reach" ∷ codes "-p" ∷ codes "a"
 unfolding computed
 a_hyphen_with_none_before_it = refl
 
-two_hyphens_are_no_command : asked (codes "--" ∷ []) ≡ Some (about Check)
+two_hyphens_are_no_command : asked (codes "--" ∷ []) ≡ Some (about CheckWithState)
 unfolding computed
 two_hyphens_are_no_command = refl
 

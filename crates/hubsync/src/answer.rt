@@ -18,7 +18,8 @@ use std::io::Read;
 /// The answer to what was asked of an input. It says that a read failed exactly when one did.
 pub fn report_on<'a, R: Read>(alloc: Global, asked: Asked<'a>, input: &mut Watched<R>) -> Report<'a>
     requires { input.old.failed ≡ false }
-    ensures holds { IfSome (R.remaining input.old.device) (λ bytes. report.Holds (request_of asked.entry) bytes result) }
+    ensures holds { IfSome (R.remaining input.old.device) (λ bytes.
+        report.Holds (request_of asked.entry) bytes result) }
     ensures failed { input.new.failed ≡ report.says_read_failed result }
 {
     match read_input(alloc, input) {

@@ -18,6 +18,8 @@ pub enum Heading {
     Profile(Name),
     /// The rules.
     Rules,
+    /// The state: replicas and archives.
+    State,
     /// The certificates.
     Certificates,
 }
@@ -111,8 +113,8 @@ impl<T: Drop> From<AllocFailed<T>> for BundleLineFault {
 
 /// Reads the sections of a bundle, in order, in time linear in its bytes.
 ///
-/// A line that begins with `%` is a heading: `%profile NAME`, with one space before the name, `%rules` or `%certificates`;
-/// one CR at its end is dropped. Of several faults the one of the first faulty line is returned: `NoSection`,
+/// A line that begins with `%` is a heading: `%profile NAME`, with one space before the name, `%rules`, `%state` or
+/// `%certificates`; one CR at its end is dropped. Of several faults the one of the first faulty line is returned: `NoSection`,
 /// `UnknownSection`, `BadName` or `SectionTwice`. (The format is this project's choice.)
 pub fn read_bundle<'a>(alloc: Global, bytes: &'a [u8]) -> Result<Vec<Section<'a>>, BundleLineFault>
     ensures ok { IfOk result (λ v. bundle_reading bytes.now ≡ Ok v.items) }
@@ -206,8 +208,8 @@ fn read_heading_below(
     text: &[u8],
 ) -> Result<Heading, BundleLineFault>
     ensures ok { IfOk result (λ h. heading_below sections.now (heading_reading text.now) ≡ Ok h) }
-    ensures err { IfErr result (λ e. (e ≡ out_of_memory)
-        ⊎ ((e.line ≡ line) × (heading_below sections.now (heading_reading text.now) ≡ Err e.fault))) }
+    ensures err { IfErr result (λ e. (e ≡ out_of_memory) ⊎ ((e.line ≡ line)
+        × (heading_below sections.now (heading_reading text.now) ≡ Err e.fault))) }
 {
     let heading = read_heading(alloc, line, text)?;
     if is_repeated(sections, &heading) {
@@ -224,6 +226,7 @@ fn is_repeated(sections: &[Section<'_>], heading: &Heading) -> bool
     match heading {
         Heading::Profile(_) => false,
         Heading::Rules => has_rules(sections),
+        Heading::State => has_state(sections),
         Heading::Certificates => has_certificates(sections),
     }
 }
@@ -232,6 +235,12 @@ fn has_rules(sections: &[Section<'_>]) -> bool
     ensures { result ≡ list_any (λ s. bundle.is_rules s.heading) sections.now }
 {
     sections.iter().any(|section| is_rules(section.heading()))
+}
+
+fn has_state(sections: &[Section<'_>]) -> bool
+    ensures { result ≡ list_any (λ s. bundle.is_state s.heading) sections.now }
+{
+    sections.iter().any(|section| is_state(section.heading()))
 }
 
 fn has_certificates(sections: &[Section<'_>]) -> bool
@@ -247,7 +256,16 @@ fn is_rules(heading: &Heading) -> bool
 {
     match heading {
         Heading::Rules => true,
-        Heading::Profile(_) | Heading::Certificates => false,
+        Heading::Profile(_) | Heading::State | Heading::Certificates => false,
+    }
+}
+
+fn is_state(heading: &Heading) -> bool
+    ensures { result ≡ bundle.is_state heading.now }
+{
+    match heading {
+        Heading::State => true,
+        Heading::Profile(_) | Heading::Rules | Heading::Certificates => false,
     }
 }
 
@@ -256,7 +274,7 @@ fn is_certificates(heading: &Heading) -> bool
 {
     match heading {
         Heading::Certificates => true,
-        Heading::Profile(_) | Heading::Rules => false,
+        Heading::Profile(_) | Heading::Rules | Heading::State => false,
     }
 }
 
@@ -284,6 +302,9 @@ fn heading_once(text: &[u8]) -> Option<Heading>
 {
     if text == b"%rules".as_slice() {
         return Some(Heading::Rules);
+    }
+    if text == b"%state".as_slice() {
+        return Some(Heading::State);
     }
     if text == b"%certificates".as_slice() {
         return Some(Heading::Certificates);

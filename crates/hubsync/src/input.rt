@@ -44,7 +44,8 @@ impl From<AllocError> for InputFault {
 /// did not reach the end: such an input has at least `READ_TURNS` bytes.
 pub fn read_input<R: Read>(alloc: Global, input: &mut Watched<R>) -> Result<Vec<u8>, InputFault>
     requires { input.old.failed ≡ false }
-    ensures whole { IfOk result (λ v. IfSome (R.remaining input.old.device) (λ bytes. v.items ≡ bytes)) }
+    ensures whole { IfOk result (λ v. IfSome (R.remaining input.old.device)
+        (λ bytes. v.items ≡ bytes)) }
     ensures turns_spent { IsErrOf result InputFault.TurnsSpent
         → IfSome (R.remaining input.old.device) (λ bytes. READ_TURNS ≤ length bytes) }
     ensures failed { input.new.failed ≡ says_read_failed result }
@@ -59,7 +60,8 @@ fn read_turns<R: Read>(
     turns: usize,
 ) -> Result<Vec<u8>, InputFault>
     requires { input.old.failed ≡ false }
-    ensures whole { IfOk result (λ v. IfSome (R.remaining input.old.device) (λ bytes. v.items ≡ bytes)) }
+    ensures whole { IfOk result (λ v. IfSome (R.remaining input.old.device)
+        (λ bytes. v.items ≡ bytes)) }
     ensures turns_spent { IsErrOf result InputFault.TurnsSpent
         → IfSome (R.remaining input.old.device) (λ bytes. turns ≤ length bytes) }
     ensures failed { input.new.failed ≡ says_read_failed result }

@@ -48,7 +48,8 @@ fn bad_path<'a>(fault: PathFault) -> Report<'a>
 
 /// The first of these profiles with that name.
 fn profile_named<'a>(profiles: &'a [Profile], name: &str) -> Option<&'a Profile>
-    ensures { MatchOption result (named name.now profiles.now ≡ None) (λ P. named name.now profiles.now ≡ Some P.now) }
+    ensures { MatchOption result (named name.now profiles.now ≡ None)
+        (λ P. named name.now profiles.now ≡ Some P.now) }
 {
     for profile in profiles {
         if profile.name().text() == name {

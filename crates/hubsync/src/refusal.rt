@@ -60,7 +60,8 @@ pub fn fault_line(
 
 fn nested_line(alloc: Global, first: &Root, second: &Root) -> Result<String, AllocError>
     ensures { IfOk result (λ t. string_bytes t ≡ lines.joined (codes "refused: NestedRoots "
-        ∷ lines.root_text first.now ∷ codes " and " ∷ lines.root_text second.now ∷ codes "\n" ∷ [])) }
+        ∷ lines.root_text first.now ∷ codes " and "
+        ∷ lines.root_text second.now ∷ codes "\n" ∷ [])) }
 {
     let first = first.text()?;
     let second = second.text()?;
@@ -226,7 +227,8 @@ fn not_closed_line(
     stage: usize,
     class: usize,
 ) -> Result<String, AllocError>
-    ensures { IfOk result (λ t. string_bytes t ≡ lines.goal_line goal (lines.not_closed stage class)) }
+    ensures { IfOk result (λ t.
+        string_bytes t ≡ lines.goal_line goal (lines.not_closed stage class)) }
 {
     let wrong = not_closed_text(alloc, stage, class)?;
     goal_line(alloc, goal, wrong.as_str())
@@ -256,8 +258,8 @@ fn accepting_line(alloc: Global, goal: usize, stage: usize) -> Result<String, Al
 }
 
 fn stray_line(alloc: Global, certificate: usize) -> Result<String, AllocError>
-    ensures { IfOk result (λ t. string_bytes t
-        ≡ lines.joined (codes "refused: certificate " ∷ decimal certificate ∷ codes " Stray\n" ∷ [])) }
+    ensures { IfOk result (λ t. string_bytes t ≡ lines.joined
+        (codes "refused: certificate " ∷ decimal certificate ∷ codes " Stray\n" ∷ [])) }
 {
     let certificate = format!(in alloc; "{certificate}")?;
     joined(
@@ -267,8 +269,8 @@ fn stray_line(alloc: Global, certificate: usize) -> Result<String, AllocError>
 }
 
 fn bad_text_line(alloc: Global, line: usize) -> Result<String, AllocError>
-    ensures { IfOk result (λ t. string_bytes t
-        ≡ lines.joined (codes "fault: certificates line " ∷ decimal line ∷ codes ": BadText\n" ∷ [])) }
+    ensures { IfOk result (λ t. string_bytes t ≡ lines.joined
+        (codes "fault: certificates line " ∷ decimal line ∷ codes ": BadText\n" ∷ [])) }
 {
     let line = format!(in alloc; "{line}")?;
     joined(

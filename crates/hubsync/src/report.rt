@@ -1,5 +1,7 @@
-//! An answer to an input: its status and its line.
-ghost use Rattle.std.specs.Prelude.{◌≡◌, ◌⊎◌, IfOk, IfSome, string_bytes};
+//! An answer to an input: its status and its text.
+ghost use Rattle.std.specs.Prelude.{◌≡◌, ◌∷◌, [], ◌++◌, codes, IfOk};
+ghost use Rattle.std.specs.List.{flat_map};
+ghost use Rattle.hub_state.specs.Writing.{state_text};
 ghost use Rattle.hubsync.specs.Report as report;
 
 use crate::bundle::BundleLineFault;
@@ -8,16 +10,22 @@ use crate::parts::joined;
 use crate::sections::SectionFault;
 use hub_path::{Name, PathFault};
 use hub_profile::ProfileFault;
+use hub_state::{State, StateFault, write_state};
+use hub_text::Watched;
 use std::alloc::{AllocError, Global};
+use std::collections::VecDeque;
+use std::io::Read;
 
 /// The line of the answer that memory is out.
 pub const OUT_OF_MEMORY: &str = "fault: out of memory\n";
 
 /// What the program answers to an input.
-#[derive(Debug, Drop)]
+#[derive(Drop)]
 pub enum Report<'a> {
     /// The profiles may run at the same time.
     Safe,
+    /// The profiles may run at the same time. The bundle's state is written too.
+    SafeWithState(State),
     /// The bundle's certificates show that they may.
     Verified,
     /// The text of certificates that they may.
@@ -49,6 +57,7 @@ impl Report<'_> {
     {
         match self {
             Report::Safe
+            | Report::SafeWithState(_)
             | Report::Verified
             | Report::Certified(_)
             | Report::Reached
@@ -63,20 +72,19 @@ impl Report<'_> {
         }
     }
 
-    /// The line that says the answer, or the certificates' text. It ends with LF.
-    pub fn line(&self, alloc: Global) -> Result<String, AllocError>
-        ensures { IfOk result (λ t. report.IsLine self.now (string_bytes t)) }
+    /// The text that says the answer: its line, the certificates' text, or `safe` and below it the text of the state. It
+    /// ends with LF.
+    pub fn into_text(self, alloc: Global) -> Result<Vec<u8>, AllocError>
+        ensures { IfOk result (λ t. report.IsText self.entry t.items) }
     {
         match self {
-            Report::Safe => String::from_str(alloc, "safe\n"),
-            Report::Verified => String::from_str(alloc, "verified\n"),
-            Report::Certified(text) | Report::Refused(text) => String::from_str(
-                alloc,
-                text.as_str(),
-            ),
-            Report::Reached => String::from_str(alloc, "reached\n"),
-            Report::NotReached => String::from_str(alloc, "not reached\n"),
-            Report::NoProfile(name) => joined(alloc, &["fault: no profile ", name, "\n"]),
+            Report::Safe => bytes_of(alloc, "safe\n"),
+            Report::SafeWithState(state) => text_with_state(alloc, state),
+            Report::Verified => bytes_of(alloc, "verified\n"),
+            Report::Certified(text) | Report::Refused(text) => Ok(text.into_bytes()),
+            Report::Reached => bytes_of(alloc, "reached\n"),
+            Report::NotReached => bytes_of(alloc, "not reached\n"),
+            Report::NoProfile(name) => no_profile_line(alloc, name),
             Report::BadPath(fault) => {
                 let name = fault.to_string(alloc)?;
                 fault_line(alloc, "path", name.as_str())
@@ -85,16 +93,47 @@ impl Report<'_> {
                 let name = fault.to_string(alloc)?;
                 fault_line(alloc, "bundle line 0", name.as_str())
             }
-            Report::BadBundle(fault) => bundle_fault_line(alloc, fault),
-            Report::BadSection(fault) => section_fault_line(alloc, fault),
-            Report::OutOfMemory => String::from_str(alloc, OUT_OF_MEMORY),
+            Report::BadBundle(fault) => bundle_fault_line(alloc, &fault),
+            Report::BadSection(fault) => section_fault_line(alloc, &fault),
+            Report::OutOfMemory => bytes_of(alloc, OUT_OF_MEMORY),
         }
     }
 }
 
+fn bytes_of(alloc: Global, text: &str) -> Result<Vec<u8>, AllocError>
+    ensures { IfOk result (λ t. t.items ≡ text.now) }
+{
+    Vec::from_slice(alloc, text.as_bytes())
+}
+
+/// `safe`, and below it the text of the state.
+fn text_with_state(alloc: Global, state: State) -> Result<Vec<u8>, AllocError>
+    ensures { IfOk result (λ t. t.items ≡ codes "safe\n" ++ state_text state) }
+{
+    // a watched writer keeps its device, so the text is read out of it
+    let mut queue = Watched::new(VecDeque::new(alloc));
+    if write_state(alloc, &mut queue, &state).is_err() {
+        return Err(AllocError);
+    }
+    drop(state);
+    let mut text = bytes_of(alloc, "safe\n")?;
+    if queue.read_to_end(&mut text).is_err() {
+        return Err(AllocError);
+    }
+    Ok(text)
+}
+
+/// The line that no profile has that name.
+fn no_profile_line(alloc: Global, name: &str) -> Result<Vec<u8>, AllocError>
+    ensures { IfOk result (λ t. t.items ≡ flat_map (λ t. t)
+        (codes "fault: no profile " ∷ name.now ∷ codes "\n" ∷ [])) }
+{
+    Ok(joined(alloc, &["fault: no profile ", name, "\n"])?.into_bytes())
+}
+
 /// The line of a fault of the bundle.
-fn bundle_fault_line(alloc: Global, fault: &BundleLineFault) -> Result<String, AllocError>
-    ensures { IfOk result (λ t. report.IsFaultLine (report.bundle_place fault.now.line) (string_bytes t)) }
+fn bundle_fault_line(alloc: Global, fault: &BundleLineFault) -> Result<Vec<u8>, AllocError>
+    ensures { IfOk result (λ t. report.IsFaultLine (report.bundle_place fault.now.line) t.items) }
 {
     let line = fault.line;
     let place = format!(in alloc; "bundle line {line}")?;
@@ -103,12 +142,13 @@ fn bundle_fault_line(alloc: Global, fault: &BundleLineFault) -> Result<String, A
 }
 
 /// The line of a fault of a section.
-fn section_fault_line(alloc: Global, fault: &SectionFault) -> Result<String, AllocError>
-    ensures { IfOk result (λ t. report.IsFaultLine (report.section_place fault.now) (string_bytes t)) }
+fn section_fault_line(alloc: Global, fault: &SectionFault) -> Result<Vec<u8>, AllocError>
+    ensures { IfOk result (λ t. report.IsFaultLine (report.section_place fault.now) t.items) }
 {
     match fault {
         SectionFault::OfProfile { profile, fault } => profile_fault_line(alloc, profile, fault),
         SectionFault::OfRules(fault) => rules_fault_line(alloc, fault),
+        SectionFault::OfState(fault) => state_fault_line(alloc, fault),
         SectionFault::OfCertificates { line } => certificates_fault_line(alloc, *line),
     }
 }
@@ -118,9 +158,9 @@ fn profile_fault_line(
     alloc: Global,
     profile: &Name,
     fault: &ProfileFault,
-) -> Result<String, AllocError>
+) -> Result<Vec<u8>, AllocError>
     ensures { IfOk result (λ t. report.IsFaultLine
-        (report.profile_place profile.now fault.now.line) (string_bytes t)) }
+        (report.profile_place profile.now fault.now.line) t.items) }
 {
     let line = fault.line;
     let place = format!(in alloc; "profile {profile} line {line}")?;
@@ -129,8 +169,8 @@ fn profile_fault_line(
 }
 
 /// The line of a fault of the rules.
-fn rules_fault_line(alloc: Global, fault: &ProfileFault) -> Result<String, AllocError>
-    ensures { IfOk result (λ t. report.IsFaultLine (report.rules_place fault.now.line) (string_bytes t)) }
+fn rules_fault_line(alloc: Global, fault: &ProfileFault) -> Result<Vec<u8>, AllocError>
+    ensures { IfOk result (λ t. report.IsFaultLine (report.rules_place fault.now.line) t.items) }
 {
     let line = fault.line;
     let place = format!(in alloc; "rules line {line}")?;
@@ -138,18 +178,28 @@ fn rules_fault_line(alloc: Global, fault: &ProfileFault) -> Result<String, Alloc
     fault_line(alloc, place.as_str(), name.as_str())
 }
 
+/// The line of a fault of the state.
+fn state_fault_line(alloc: Global, fault: &StateFault) -> Result<Vec<u8>, AllocError>
+    ensures { IfOk result (λ t. report.IsFaultLine (report.state_place fault.now.line) t.items) }
+{
+    let line = fault.line;
+    let place = format!(in alloc; "state line {line}")?;
+    let name = fault.fault.to_string(alloc)?;
+    fault_line(alloc, place.as_str(), name.as_str())
+}
+
 /// The line of a faulty line of certificates.
-fn certificates_fault_line(alloc: Global, line: usize) -> Result<String, AllocError>
-    ensures { IfOk result (λ t. report.IsFaultLine (report.certificates_place line) (string_bytes t)) }
+fn certificates_fault_line(alloc: Global, line: usize) -> Result<Vec<u8>, AllocError>
+    ensures { IfOk result (λ t. report.IsFaultLine (report.certificates_place line) t.items) }
 {
     let place = format!(in alloc; "certificates line {line}")?;
     fault_line(alloc, place.as_str(), "BadText")
 }
 
 /// The line of the fault at a place that has this name.
-fn fault_line(alloc: Global, place: &str, name: &str) -> Result<String, AllocError>
-    ensures line { IfOk result (λ t. string_bytes t ≡ report.fault_line place.now name.now) }
-    ensures place { IfOk result (λ t. report.IsFaultLine place.now (string_bytes t)) }
+fn fault_line(alloc: Global, place: &str, name: &str) -> Result<Vec<u8>, AllocError>
+    ensures line { IfOk result (λ t. t.items ≡ report.fault_line place.now name.now) }
+    ensures place { IfOk result (λ t. report.IsFaultLine place.now t.items) }
 {
-    joined(alloc, &["fault: ", place, ": ", name, "\n"])
+    Ok(joined(alloc, &["fault: ", place, ": ", name, "\n"])?.into_bytes())
 }

@@ -3,22 +3,27 @@ ghost use Rattle.std.specs.Prelude.{◌≡◌, ◌⊎◌, Ok, Err, IfOk, IfErr};
 ghost use Rattle.hub_profile.specs.Reading.{profile_in};
 ghost use Rattle.hub_profile.specs.Rules.{rules_in};
 ghost use Rattle.hub_cert.specs.Reading.{certificates_in};
+ghost use Rattle.hub_state.specs.Reading.{state_reading};
+ghost use Rattle.hub_state.specs.declared.fault.Fault.TheVariants as of_state;
 ghost use Rattle.hubsync.specs.Sections as said;
 
 use crate::bundle::{Heading, Section};
 use hub_cert::{Certificate, CheckFault, read_certificates};
 use hub_path::Name;
 use hub_profile::{Fault, Profile, ProfileFault, Rules, read_profile, read_rules};
+use hub_state::{State, StateFault, read_bytes};
 use hub_text::Items;
 use std::alloc::{AllocError, AllocFailed, Global};
 
 /// What the sections of a bundle say.
-#[derive(Debug, Drop)]
+#[derive(Drop)]
 pub struct Contents {
     /// The profiles, in order.
     pub profiles: Items<Profile>,
     /// The rules, or none if there is no such section.
     pub rules: Rules,
+    /// The state, if there is such a section.
+    pub state: Option<State>,
     /// The certificates, or none if there is no such section.
     pub certificates: Items<Certificate>,
 }
@@ -35,6 +40,8 @@ pub enum SectionFault {
     },
     /// A fault of the rules.
     OfRules(ProfileFault),
+    /// A fault of the state.
+    OfState(StateFault),
     /// A faulty line of the certificates.
     OfCertificates {
         /// The number of the line.
@@ -83,6 +90,7 @@ pub fn read_sections(alloc: Global, sections: &[Section<'_>]) -> Result<Contents
     let mut contents = Contents {
         profiles: Items::new(alloc),
         rules: Rules::new(alloc),
+        state: None,
         certificates: Items::new(alloc),
     };
     for section in sections {
@@ -104,6 +112,7 @@ fn with_section(
     match section.heading() {
         Heading::Profile(name) => with_profile(alloc, contents, name, bytes),
         Heading::Rules => with_rules(alloc, contents, bytes),
+        Heading::State => with_state(alloc, contents, bytes),
         Heading::Certificates => with_certificates(alloc, contents, bytes),
     }
 }
@@ -115,8 +124,8 @@ fn with_profile(
     name: &Name,
     bytes: &[u8],
 ) -> Result<Contents, ReadError>
-    ensures ok { IfOk result (λ c. said.with_profile contents name.now (profile_in name.now bytes.now)
-        ≡ Ok c) }
+    ensures ok { IfOk result (λ c.
+        said.with_profile contents name.now (profile_in name.now bytes.now) ≡ Ok c) }
     ensures err { IfErr result (said.FailsAs
         (said.with_profile contents name.now (profile_in name.now bytes.now))) }
 {
@@ -132,6 +141,7 @@ fn and_profile(contents: Contents, profile: Profile) -> Result<Contents, AllocEr
     let Contents {
         mut profiles,
         rules,
+        state,
         certificates,
     } = contents;
     if profiles.push(profile).is_err() {
@@ -140,6 +150,7 @@ fn and_profile(contents: Contents, profile: Profile) -> Result<Contents, AllocEr
     Ok(Contents {
         profiles,
         rules,
+        state,
         certificates,
     })
 }
@@ -164,12 +175,14 @@ fn with_rules(alloc: Global, contents: Contents, bytes: &[u8]) -> Result<Content
     let Contents {
         profiles,
         rules: _,
+        state,
         certificates,
     } = contents;
     match read_rules(alloc, bytes) {
         Ok(rules) => Ok(Contents {
             profiles,
             rules,
+            state,
             certificates,
         }),
         Err(fault) => Err(faulty_rules(fault)),
@@ -188,21 +201,58 @@ fn faulty_rules(fault: ProfileFault) -> ReadError
     }
 }
 
+/// Adds the state.
+fn with_state(alloc: Global, contents: Contents, bytes: &[u8]) -> Result<Contents, ReadError>
+    ensures ok { IfOk result (λ c. said.with_state contents (state_reading bytes.now) ≡ Ok c) }
+    ensures err { IfErr result (said.FailsAs (said.with_state contents (state_reading bytes.now))) }
+{
+    let Contents {
+        profiles,
+        rules,
+        state: _,
+        certificates,
+    } = contents;
+    match read_bytes(alloc, bytes) {
+        Ok(state) => Ok(Contents {
+            profiles,
+            rules,
+            state: Some(state),
+            certificates,
+        }),
+        Err(fault) => Err(faulty_state(fault)),
+    }
+}
+
+/// The error of a state with that fault.
+fn faulty_state(fault: StateFault) -> ReadError
+    ensures memory { fault.fault ≡ of_state.OutOfMemory → result ≡ ReadError.OutOfMemory }
+    ensures fault { (result ≡ ReadError.OutOfMemory)
+        ⊎ (result ≡ ReadError.Faulty (SectionFault.OfState fault)) }
+{
+    match fault.fault {
+        hub_state::Fault::OutOfMemory => ReadError::OutOfMemory,
+        _ => ReadError::Faulty(SectionFault::OfState(fault)),
+    }
+}
+
 /// Adds the certificates.
 fn with_certificates(alloc: Global, contents: Contents, bytes: &[u8]) -> Result<Contents, ReadError>
-    ensures ok { IfOk result (λ c. said.with_certificates contents (certificates_in bytes.now) ≡ Ok c) }
+    ensures ok { IfOk result (λ c.
+        said.with_certificates contents (certificates_in bytes.now) ≡ Ok c) }
     ensures err { IfErr result (said.FailsAs
         (said.with_certificates contents (certificates_in bytes.now))) }
 {
     let Contents {
         profiles,
         rules,
+        state,
         certificates: _,
     } = contents;
     match read_certificates(alloc, bytes) {
         Ok(certificates) => Ok(Contents {
             profiles,
             rules,
+            state,
             certificates,
         }),
         Err(fault) => Err(faulty_certificates(&fault)),

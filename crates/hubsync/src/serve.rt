@@ -1,10 +1,9 @@
 //! What the program does, over any reader and writer.
-ghost use Rattle.std.specs.Prelude.{◌≡◌, ℕ, false, not, take, map, string_bytes, IfErr, IfOk, IsTrue};
-ghost use Rattle.std.specs.Io.KnownBytes.{Appends};
+ghost use Rattle.std.specs.Prelude.{◌≡◌, false, map, string_bytes, IfErr, IfOk};
 ghost use Rattle.std.specs.IoError.{error_kind};
 ghost use Rattle.std.specs.declared.io.ErrorKind.TheVariants as io_kind;
 ghost use Rattle.clap.specs.Words.{kind_of};
-ghost use Rattle.hubsync.specs.Report.{Answers, AnswersNothing, Serves, WritesLine};
+ghost use Rattle.hubsync.specs.Report.{Answers, AnswersNothing, Serves, WritesText};
 ghost use Rattle.hubsync.specs.Words.{asked_of, request_of};
 
 use crate::answer::report_on;
@@ -31,9 +30,11 @@ pub fn serve_process<T: AllocGlobal + Eprint, R: Read, W: Write>(
 ) -> u8
     requires input { input.old.failed ≡ false }
     requires output { output.old.failed ≡ false }
-    ensures read { IfOk words (λ v. Serves (asked_of (map string_bytes v.items)) (R.remaining input.old.device)
-        (W.contents output.old.device) (W.contents output.new.device) input.new.failed output.new.failed result) }
-    ensures unread { IfErr words (λ _. AnswersNothing (W.contents output.old.device) (W.contents output.new.device) result) }
+    ensures read { IfOk words (λ v. Serves (asked_of (map string_bytes v.items))
+        (R.remaining input.old.device) (W.contents output.old.device) (W.contents output.new.device)
+        input.new.failed output.new.failed result) }
+    ensures unread { IfErr words (λ _. AnswersNothing
+        (W.contents output.old.device) (W.contents output.new.device) result) }
 {
     match words {
         Ok(words) => serve(rt, words.as_slice(), input, output),
@@ -41,7 +42,8 @@ pub fn serve_process<T: AllocGlobal + Eprint, R: Read, W: Write>(
     }
 }
 
-/// Does what the words on the command line ask for: reads all of the input, and writes one line, or certificates.
+/// Does what the words on the command line ask for: reads all of the input, and writes one line, certificates, or `safe`
+/// and the text of the bundle's state.
 ///
 /// The first word is the program's name. The status is
 /// - 0 if the profiles and rules of the bundle are a safe set, and for both answers to `reach`;
@@ -59,7 +61,8 @@ pub fn serve<'a, S: AsStr, T: AllocGlobal + Eprint, R: Read, W: Write>(
     requires input { input.old.failed ≡ false }
     requires output { output.old.failed ≡ false }
     ensures { Serves (asked_of (map S.text words.entry.now)) (R.remaining input.old.device)
-        (W.contents output.old.device) (W.contents output.new.device) input.new.failed output.new.failed result }
+        (W.contents output.old.device) (W.contents output.new.device)
+        input.new.failed output.new.failed result }
 {
     what_is_shown_is_not_safe();
     let alloc = rt.alloc();
@@ -72,12 +75,14 @@ pub fn serve<'a, S: AsStr, T: AllocGlobal + Eprint, R: Read, W: Write>(
 /// Tells the user why the words ask for nothing, or that memory is out.
 fn refuse<T: Eprint, W: Write>(rt: &T, error: &Error, output: &mut Watched<W>) -> u8
     requires { output.old.failed ≡ false }
-    ensures nothing { AnswersNothing (W.contents output.old.device) (W.contents output.new.device) result }
-    ensures memory { kind_of error.now ≡ ErrorKind.OutOfMemory → WritesLine (W.contents output.old.device)
-        (W.contents output.new.device) OUT_OF_MEMORY.now 2 output.new.failed result }
+    ensures nothing { AnswersNothing
+        (W.contents output.old.device) (W.contents output.new.device) result }
+    ensures memory { kind_of error.now ≡ ErrorKind.OutOfMemory → WritesText
+        (W.contents output.old.device) (W.contents output.new.device)
+        OUT_OF_MEMORY.now 2 output.new.failed result }
 {
     if error.kind() == ErrorKind::OutOfMemory {
-        return write_line(OUT_OF_MEMORY, 2, output);
+        return write_out_of_memory(output);
     }
     // if standard error fails too, there is nobody left to tell
     let _ = rt.eprint(error);
@@ -87,12 +92,14 @@ fn refuse<T: Eprint, W: Write>(rt: &T, error: &Error, output: &mut Watched<W>) -
 /// Tells the user why the words on the command line can't be read, or that memory is out.
 pub fn refuse_unread<T: Eprint, W: Write>(rt: &T, error: &io::Error, output: &mut Watched<W>) -> u8
     requires { output.old.failed ≡ false }
-    ensures nothing { AnswersNothing (W.contents output.old.device) (W.contents output.new.device) result }
-    ensures memory { error_kind error.now ≡ io_kind.OutOfMemory → WritesLine (W.contents output.old.device)
-        (W.contents output.new.device) OUT_OF_MEMORY.now 2 output.new.failed result }
+    ensures nothing { AnswersNothing
+        (W.contents output.old.device) (W.contents output.new.device) result }
+    ensures memory { error_kind error.now ≡ io_kind.OutOfMemory → WritesText
+        (W.contents output.old.device) (W.contents output.new.device)
+        OUT_OF_MEMORY.now 2 output.new.failed result }
 {
     if error.kind() == io::ErrorKind::OutOfMemory {
-        return write_line(OUT_OF_MEMORY, 2, output);
+        return write_out_of_memory(output);
     }
     // if standard error fails too, there is nobody left to tell
     let _ = eprintln!(rt; "error: the words on the command line can't be read: {error}");
@@ -108,22 +115,34 @@ fn answer<R: Read, W: Write>(
 ) -> u8
     requires input { input.old.failed ≡ false }
     requires output { output.old.failed ≡ false }
-    ensures { Answers (request_of asked.entry) (R.remaining input.old.device) (W.contents output.old.device)
-        (W.contents output.new.device) input.new.failed output.new.failed result }
+    ensures { Answers (request_of asked.entry) (R.remaining input.old.device)
+        (W.contents output.old.device) (W.contents output.new.device)
+        input.new.failed output.new.failed result }
 {
     let report = report_on(alloc, asked, input);
-    match report.line(alloc) {
-        Ok(line) => write_line(line.as_str(), report.status(), output),
-        Err(_) => write_line(OUT_OF_MEMORY, 2, output),
+    let status = report.status();
+    match report.into_text(alloc) {
+        Ok(text) => write_text(text.as_slice(), status, output),
+        Err(_) => write_out_of_memory(output),
     }
 }
 
-/// Writes a line and returns its status, or 2 if a write or the flush failed.
-fn write_line<W: Write>(line: &str, status: u8, output: &mut Watched<W>) -> u8
+/// Writes that memory is out, and returns the status of a fault.
+fn write_out_of_memory<W: Write>(output: &mut Watched<W>) -> u8
     requires { output.old.failed ≡ false }
-    ensures { WritesLine (W.contents output.old.device) (W.contents output.new.device) line.now status output.new.failed result }
+    ensures { WritesText (W.contents output.old.device) (W.contents output.new.device)
+        OUT_OF_MEMORY.now 2 output.new.failed result }
 {
-    if output.write_all(line.as_bytes()).is_err() || output.flush().is_err() {
+    write_text(OUT_OF_MEMORY.as_bytes(), 2, output)
+}
+
+/// Writes a text and returns its status, or 2 if a write or the flush failed.
+fn write_text<W: Write>(text: &[u8], status: u8, output: &mut Watched<W>) -> u8
+    requires { output.old.failed ≡ false }
+    ensures { WritesText (W.contents output.old.device) (W.contents output.new.device)
+        text.now status output.new.failed result }
+{
+    if output.write_all(text).is_err() || output.flush().is_err() {
         return 2;
     }
     status

@@ -1,9 +1,9 @@
 //! Answers about the set of a bundle's profiles and rules.
-ghost use Rattle.std.specs.Prelude.{◌≡◌, ◌⊎◌, false, IfOk, IfErr};
-ghost use Rattle.hub_cert.specs.Set.{Members, IsSet};
+ghost use Rattle.std.specs.Prelude.{◌≡◌, ◌⊎◌, false, IfOk, IfErr, MatchOption, OnOk};
+ghost use Rattle.hub_cert.specs.Set.{Members, IsSafeSet};
 ghost use Rattle.hub_cert.specs.Refused.{IsRefused};
+ghost use Rattle.hub_search.specs.Search.{IsFirstFault};
 ghost use Rattle.hubsync.specs.Report as report;
-ghost use Rattle.hubsync.specs.Sections.{members};
 ghost use Rattle.hubsync.specs.Words.{about};
 
 use crate::refusal::fault_line;
@@ -12,6 +12,7 @@ use crate::sections::Contents;
 use crate::words::Question;
 use hub_cert::{Certificate, CheckFault, ProfileSet, verify, write_certificates};
 use hub_search::{certificates, check};
+use hub_state::State;
 use std::alloc::Global;
 
 /// The answer to a question about the set. Profiles and rules that are no set are refused, whatever the question is.
@@ -22,10 +23,11 @@ pub fn report_on_set<'a>(alloc: Global, question: Question, contents: Contents) 
     let Contents {
         profiles,
         rules,
+        state,
         certificates,
     } = contents;
     match ProfileSet::new(alloc, profiles, rules) {
-        Ok(set) => report_on_made(alloc, question, &set, certificates.as_slice()),
+        Ok(set) => report_on_made(alloc, question, &set, certificates.as_slice(), state),
         Err(fault) => refusal_without_set(alloc, &fault),
     }
 }
@@ -36,11 +38,12 @@ fn report_on_made<'a>(
     question: Question,
     set: &ProfileSet,
     own: &[Certificate],
+    state: Option<State>,
 ) -> Report<'a>
-    ensures told { report.IsToldOfSet question set.now own.now result }
+    ensures told { report.IsToldOfSet question set.now own.now state result }
     ensures read { report.says_read_failed result ≡ false }
 {
-    match answer(alloc, question, set, own) {
+    match answer(alloc, question, set, own, state) {
         Ok(report) => report,
         Err(fault) => refusal(alloc, set, &fault),
     }
@@ -52,15 +55,19 @@ fn answer<'a>(
     question: Question,
     set: &ProfileSet,
     own: &[Certificate],
+    state: Option<State>,
 ) -> Result<Report<'a>, CheckFault>
-    ensures told { IfOk result (report.IsToldOfSet question set.now own.now) }
+    ensures told { IfOk result (report.IsToldOfSet question set.now own.now state) }
     ensures refused { IfErr result (report.FaultOf question set.now own.now) }
     ensures read { IfOk result (λ r. report.says_read_failed r ≡ false) }
 {
     match question {
+        Question::CheckWithState => {
+            check_safe(alloc, set)?;
+            Ok(safe_with(state))
+        }
         Question::Check => {
-            // The type of what `check` returns says that the set is safe.
-            let _ = check(alloc, set)?.set();
+            check_safe(alloc, set)?;
             Ok(Report::Safe)
         }
         Question::Certify => {
@@ -73,6 +80,26 @@ fn answer<'a>(
             Ok(Report::Verified)
         }
     }
+}
+
+/// The answer for a safe set, with its bundle's state if there is one.
+fn safe_with<'a>(state: Option<State>) -> Report<'a>
+    ensures { MatchOption state (result ≡ Report.Safe) (λ s. result ≡ Report.SafeWithState s) }
+{
+    match state {
+        Some(state) => Report::SafeWithState(state),
+        None => Report::Safe,
+    }
+}
+
+/// Checks that the set is safe, or returns the fault by which it is refused.
+fn check_safe(alloc: Global, set: &ProfileSet) -> Result<(), CheckFault>
+    ensures safe { OnOk result (IsSafeSet set.now) }
+    ensures refused { IfErr result (λ e. (e ≡ CheckFault.OutOfMemory) ⊎ IsFirstFault set.now e) }
+{
+    // The type of what `check` returns says that the set is safe.
+    let _ = check(alloc, set)?.set();
+    Ok(())
 }
 
 /// The answer that refuses a set by its fault.

@@ -38,7 +38,8 @@ A section '%rules' may say what no profile may do at a root:
   root = /srv/hub
   nolose = BelowPath docs/archive
 
-For 'verify', a line '%certificates' and the text that 'certify' wrote are part of the bundle too.
+A section '%state' may say what the replicas hold; without a command it is written below 'safe'. For 'verify', a line
+'%certificates' and the text that 'certify' wrote are part of the bundle too.
 
 The output is one line: 'safe', 'verified', 'overlap: ..', 'breach: ..', 'too large: ..', 'refused: ..', 'reached',
 'not reached' or 'fault: ..'. 'certify' writes the text of the certificates in the place of 'safe'.
@@ -51,6 +52,8 @@ Exit status:
 /// What the words may ask about the set of a bundle's profiles and rules.
 #[derive(Clone, Copy, Debug, PartialEq, Eq)]
 pub enum Question {
+    /// Whether the set is safe; and if it is, the bundle's state.
+    CheckWithState,
     /// Whether the set is safe.
     Check,
     /// Certificates for its goals.
@@ -75,14 +78,16 @@ pub enum Asked<'a> {
 
 /// Reads the words, of which the first is the program's name.
 ///
-/// `check`, `certify` and `verify` ask about the set. Without a command the words ask for the check. `reach PROFILE PATH`
-/// takes any two operands, also the empty word and `-`. An operand that begins with `-` and is longer needs `--` before it.
+/// `check`, `certify` and `verify` ask about the set. Without a command the words ask for the check and for the state.
+/// `reach PROFILE PATH` takes any two operands, also the empty word and `-`. An operand that begins with `-` and is longer
+/// needs `--` before it.
 ///
 /// An `Err` is `clap`'s: a mistake in the words, a request for help or for the version, or out of memory. Its `Display` is
 /// the text for the user.
 pub fn read_words<'a, S: AsStr>(alloc: Global, words: &'a [S]) -> Result<Asked<'a>, Error>
     ensures ok { IfOk result (λ a. asked_of (map S.text words.entry.now) ≡ Some (request_of a)) }
-    ensures err { IfErr result (λ e. (kind_of e ≡ OutOfMemory) ⊎ (asked_of (map S.text words.entry.now) ≡ None)) }
+    ensures err { IfErr result (λ e. (kind_of e ≡ OutOfMemory)
+        ⊎ (asked_of (map S.text words.entry.now) ≡ None)) }
 {
     let mut hubsync = command(alloc)?;
     let matches = hubsync.try_get_matches_from_mut(words)?;
@@ -100,7 +105,7 @@ fn asked_in<'a>(matches: &ArgMatches<'a>) -> Option<Asked<'a>>
     ensures { option_map request_of result ≡ request_in (subcommand_rows_of matches.now) }
 {
     let Some((name, operands)) = matches.subcommand() else {
-        return Some(Asked::About(Question::Check));
+        return Some(Asked::About(Question::CheckWithState));
     };
     if name != "reach" {
         return about(name);
@@ -139,7 +144,7 @@ fn command<'a>(alloc: Global) -> Result<Command<'a>, AllocError>
         .help("A path below the roots, as docs/notes.txt; put -- before a word that begins with -")
         .required(true);
     let check = Command::new(alloc, "check").about(
-        "Says whether the profiles may run at the same time, as without a command",
+        "Says whether the profiles may run at the same time, and leaves the state out",
     );
     let certify = Command::new(alloc, "certify").about(
         "Writes certificates, which show that the profiles may run at the same time",

@@ -3,14 +3,14 @@ use crate::words::Question;
 use std::alloc::AllocError;
 use std::test::Fail;
 
-/// The status and the line that answer a question about a bundle.
+/// The status and the text that answer a question about a bundle.
 fn shown(alloc: Global, question: Question, bundle: &str) -> Result<String, AllocError> {
     let mut input = Watched::new(bundle.as_bytes());
     let report = report_on(alloc, Asked::About(question), &mut input);
     let status = report.status();
-    let line = report.line(alloc)?;
-    let line = line.as_str();
-    format!(in alloc; "{status} {line}")
+    let bytes = report.into_text(alloc)?;
+    let text = str::from_utf8(bytes.as_slice()).unwrap_or("?");
+    format!(in alloc; "{status} {text}")
 }
 
 /// What the profile `p` of `/srv/hub` and `/srv/s1` says besides, a text of rules, and the answer.

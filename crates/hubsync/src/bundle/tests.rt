@@ -12,6 +12,7 @@ fn shown(alloc: Global, input: &[u8]) -> Result<String, AllocError> {
         match section.heading() {
             Heading::Profile(name) => write!(text, "<{name}|")?,
             Heading::Rules => text.push_str("<%rules|")?,
+            Heading::State => text.push_str("<%state|")?,
             Heading::Certificates => text.push_str("<%certificates|")?,
         }
         let bytes = str::from_utf8(section.bytes()).unwrap_or("?");
@@ -22,7 +23,7 @@ fn shown(alloc: Global, input: &[u8]) -> Result<String, AllocError> {
 
 #[test]
 fn bundles_are_cut_at_their_headings(rt: HostRuntime) -> Result<(), Fail> {
-    let rows: [(&[u8], &str); 29] = [
+    let rows: [(&[u8], &str); 31] = [
         (b"", ""),
         (b" \t\r\n\n", ""),
         (b"%profile a\nx\n%profile b\ny\n", "<a|x\n><b|y\n>"),
@@ -48,7 +49,9 @@ fn bundles_are_cut_at_their_headings(rt: HostRuntime) -> Result<(), Fail> {
         (b"%rules \n", "line 1: UnknownSection"),
         (b"%rules\n%profile a\n%rules\n%", "line 3: SectionTwice"),
         (b"%certificates\n\n%certificates", "line 3: SectionTwice"),
-        (b"%profile a\n%state\n", "line 2: UnknownSection"),
+        (b"%profile a\n%jobs\n", "line 2: UnknownSection"),
+        (b"%state\r\nend\r\n%profile a", "<%state|end\r\n><a|>"),
+        (b"%state\nend\n%profile a\n%state", "line 4: SectionTwice"),
         (b"%profile a\nx\n%certificates", "<a|x\n><%certificates|>"),
         (b"%profile \n", "line 1: BadName"),
         (b"%profile ..\r\n%what\n", "line 1: BadName"),

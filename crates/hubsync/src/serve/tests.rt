@@ -1,3 +1,5 @@
+mod sections;
+
 use super::*;
 use std::alloc::AllocError;
 use std::io::ErrorKind;
@@ -343,57 +345,6 @@ fn patterns_are_compared(rt: HostRuntime) -> Result<(), Fail> {
     for (profiles, want) in rows {
         let input = bundle(rt.alloc(), profiles)?;
         assert_eq!(rt; answered(&rt, input.as_str())?.as_str(), want);
-    }
-    Ok(())
-}
-
-/// Two profiles that overlap nowhere, and some sections after them; what is asked; and the answer.
-static SECTIONS: [(&str, &str, &str); 8] = [
-    ("", "verify", "1 refused: goal 0 Missing\n"),
-    (
-        "%certificates\nhubsync certificates 1\ngoal clash 0 1 root 0\nend",
-        "verify",
-        "1 refused: goal 0 NoStart\n",
-    ),
-    (
-        "%certificates\nhubsync certificates 1\ngoal clash 0 1 root 0\nstage -\nend\n",
-        "verify",
-        "1 refused: goal 0 stage 0 class 0 NotClosed\n",
-    ),
-    (
-        "%certificates\nhubsync certificates 1\ngoal clash 0 0 archive\nend\n",
-        "verify",
-        "1 refused: certificate 0 Stray\n",
-    ),
-    (
-        "%certificates\nhubsync certificates 1\n",
-        "check",
-        "2 fault: certificates line 2: BadText\n",
-    ),
-    (
-        "%certificates\n",
-        "certify",
-        "2 fault: certificates line 1: BadText\n",
-    ),
-    (
-        "%certificates\nx\n%state\n%certificates\n",
-        "check",
-        "2 fault: bundle line 11: UnknownSection\n",
-    ),
-    (
-        "%certificates\nx\n%profile c\nx\n%certificates\n",
-        "verify",
-        "2 fault: bundle line 13: SectionTwice\n",
-    ),
-];
-
-#[test]
-fn sections_are_read_in_order(rt: HostRuntime) -> Result<(), Fail> {
-    for (sections, word, want) in &SECTIONS {
-        let mut text = bundle(rt.alloc(), &[("a", "path = a"), ("b", "path = b")])?;
-        text.push_str(sections)?;
-        let answer = answered_to(&rt, &["hubsync", word], text.as_str())?;
-        assert_eq!(rt; answer.as_str(), *want);
     }
     Ok(())
 }

@@ -4,8 +4,8 @@ use std::test::Fail;
 
 /// Words that are fine: the program's name and what follows it, and what they ask for.
 static FINE: [(&[&str], Asked<'static>); 11] = [
-    (&["hubsync"], Asked::About(Question::Check)),
-    (&["hubsync", "--"], Asked::About(Question::Check)),
+    (&["hubsync"], Asked::About(Question::CheckWithState)),
+    (&["hubsync", "--"], Asked::About(Question::CheckWithState)),
     (&["hubsync", "check"], Asked::About(Question::Check)),
     (&["hubsync", "certify"], Asked::About(Question::Certify)),
     (&["hubsync", "verify"], Asked::About(Question::Verify)),

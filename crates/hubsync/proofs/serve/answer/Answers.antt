@@ -2,5 +2,5 @@ use Rattle.hubsync.specs.Words.{request_of}
 use Rattle.hubsync.proofs.Answered.{memory-answers}
 use Rattle.hubsync.proofs.serve.answer.Goals as goal
 
-pub returns : goal.returns
-returns g c = memory-answers (request_of c.args.asked) _ _ _ _ _ _ c.write_line-in-Err.ensures
+pub returns-in-Err : goal.returns-in-Err
+returns-in-Err g c = memory-answers (request_of c.args.asked) _ _ _ _ _ _ c.write_out_of_memory.ensures

@@ -1,8 +1,6 @@
-use Rattle.std.proofs.Common.{subst}
-use Rattle.std.specs.Io.KnownBytes.{Appends}
 use Rattle.std.specs.Result.{is_err}
-use Rattle.hubsync.proofs.Answered.{unfailed, given-ok, line-written}
-use Rattle.hubsync.proofs.serve.write_line.Goals as goal
+use Rattle.hubsync.proofs.Answered.{unfailed, given-ok, text-written}
+use Rattle.hubsync.proofs.serve.write_text.Goals as goal
 
 pub returns : goal.returns
 returns g c =
@@ -11,6 +9,5 @@ returns g c =
     let new = g.W.Write.contents c.flush.new.self.device in
     let all = given-ok c.write_all.result _ c.if-is_err.ensures.value c.write_all.ensures.bytes in
     let written = unfailed c.args.output.now.failed (is_err c.write_all.result) c.write_all.new.self.failed c.requires c.if-is_err.ensures.value c.write_all.ensures.failed in
-    line-written old mid new c.args.line.now c.args.status c.flush.new.self.failed
-    (subst (Appends old mid) c.as_bytes.ensures.value all) c.flush.ensures.bytes
+    text-written old mid new c.args.text.now c.args.status c.flush.new.self.failed all c.flush.ensures.bytes
     (unfailed c.write_all.new.self.failed (is_err c.flush.result) c.flush.new.self.failed written c.if-is_err-2.ensures.value c.flush.ensures.failed)

@@ -1,3 +1,4 @@
+pub mod Blocks
 pub mod ByRoot
 pub mod Drafts
 pub mod Fields

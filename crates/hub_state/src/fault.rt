@@ -62,3 +62,17 @@ impl From<AllocError> for Fault {
         Fault::OutOfMemory
     }
 }
+
+impl From<AllocError> for StateFault {
+    ghost use Rattle.hub_state.specs.declared.fault.Fault.TheVariants.{OutOfMemory};
+    ghost use Rattle.std.specs.Prelude.{◌≡◌};
+
+    ghost from_gives = { λ _ e. e ≡ record { line = 0; fault = OutOfMemory } };
+
+    fn from(_: AllocError) -> Self {
+        StateFault {
+            line: 0,
+            fault: Fault::OutOfMemory,
+        }
+    }
+}

@@ -1,4 +1,11 @@
-ghost use Rattle.std.specs.Prelude.{◌≡◌, ◌⊎◌, ◌≤◌, length, false, Ok, Err, IfOk, IfErr, IfSome, OnOk};
+ghost use Rattle.std.specs.Prelude.{◌≡◌, ◌⊎◌, ◌+◌, ◌*◌, ◌^◌, ◌<◌, ◌≤◌, ◌++◌, length, false, Ok, Err, List, ℕ};
+ghost use Rattle.std.specs.Prelude.{IfOk, IfErr, IfSome, OnOk, vec_len};
+ghost use Rattle.std.specs.Result.{ForOk};
+ghost use Rattle.std.specs.Option.{option_map};
+ghost use Rattle.hub_text.specs.Lines.{line_text};
+ghost use Rattle.hub_text.specs.Takes.{of_bytes};
+ghost use Rattle.hub_state.specs.Blocks.{bytes_taken, text_of, Leaves, Stops, Continues, Stands};
+ghost use Rattle.hub_state.specs.Blocks.{IsWithin, out_of_memory};
 ghost use Rattle.hub_state.specs.Devices.{is_read_failed, says, reports};
 ghost use Rattle.hub_state.specs.Reading.{state_reading};
 ghost use Rattle.hub_state.specs.Taking as taking;
@@ -8,7 +15,7 @@ use crate::draft::Draft;
 use crate::fault::{Fault, StateFault};
 use crate::state::State;
 use hub_text::{Line, Lines, Watched};
-use std::alloc::Global;
+use std::alloc::{AllocError, Global};
 use std::io::Read;
 
 /// How many reads one input may take. The read that meets its end counts too.
@@ -17,11 +24,13 @@ pub const READ_TURNS: usize = 1_000_000;
 /// How many bytes one read of the input asks for at most.
 const READ_BYTES: usize = 4_096;
 
-/// Reads all of an input, and then the state that it is the text of, version 1.
+/// Reads all of an input, and the state that it is the text of, version 1.
 ///
 /// Returns `ReadFailed` exactly when a read failed, and reads no further then. Returns `TurnsSpent` if `READ_TURNS` reads
 /// did not reach the end: such an input has at least `READ_TURNS` bytes. Otherwise this is `read_bytes`. `ReadFailed`,
 /// `TurnsSpent` and `OutOfMemory` have line 0.
+///
+/// The text is read in blocks. In memory are one block and the line that is not complete, and not the whole text.
 pub fn read_state<R: Read>(alloc: Global, input: &mut Watched<R>) -> Result<State, StateFault>
     requires { input.old.failed ≡ false }
     ensures ok { IfOk result
@@ -33,8 +42,8 @@ pub fn read_state<R: Read>(alloc: Global, input: &mut Watched<R>) -> Result<Stat
         ⊎ IfSome (R.remaining input.old.device) (λ bytes. state_reading bytes ≡ Err e)) }
     ensures failed { input.new.failed ≡ reports is_read_failed result }
 {
-    match read_all(alloc, input, READ_TURNS) {
-        Ok(bytes) => read_bytes(alloc, bytes.as_slice()),
+    match read_blocks(alloc, input, READ_TURNS) {
+        Ok(prefix) => finish(alloc, prefix),
         Err(fault) => Err(StateFault { line: 0, fault }),
     }
 }
@@ -49,44 +58,202 @@ pub fn read_bytes(alloc: Global, bytes: &[u8]) -> Result<State, StateFault>
     ensures no_read { reports is_read_failed result ≡ false }
 {
     let _len = bytes.len();
-    let mut lines = Lines::new(bytes);
-    let Some(first) = lines.next() else {
-        let empty = placed(1, Fault::Truncated);
-        return Err(empty);
-    };
-    let mut draft = Draft::new(alloc);
-    let mut line = first;
-    let mut number = 1;
-    for next in lines {
-        take_line_at(alloc, &mut draft, number, line.text)?;
-        line = next;
-        number += 1;
-    }
-    take_last_at(alloc, draft, number, line)
+    let draft = Draft::new(alloc);
+    read_rest(alloc, draft, 1, bytes)
 }
 
-/// Reads all bytes of the input, in at most this many reads.
-fn read_all<R: Read>(alloc: Global, input: &mut Watched<R>, turns: usize) -> Result<Vec<u8>, Fault>
-    requires { input.old.failed ≡ false }
-    ensures whole { IfOk result
-        (λ v. IfSome (R.remaining input.old.device) (λ bytes. v.items ≡ bytes)) }
-    ensures faults { IfErr result (λ e. (e ≡ Fault.OutOfMemory) ⊎ (e ≡ Fault.ReadFailed)
-        ⊎ ((e ≡ Fault.TurnsSpent)
+/// What is kept of the bytes of a text that have come.
+#[derive(Drop)]
+struct Prefix {
+    /// What the lines say that were taken.
+    draft: Draft,
+    /// The number of the next line.
+    number: usize,
+    /// The bytes from the next line on.
+    rest: Vec<u8>,
+}
+
+/// Reads blocks of the input up to its end, in at most this many reads, and takes their lines up to the first fault.
+fn read_blocks<R: Read>(
+    alloc: Global,
+    input: &mut Watched<R>,
+    turns: usize,
+) -> Result<Result<Prefix, StateFault>, Fault>
+    requires unfailed { input.old.failed ≡ false }
+    requires turns { turns ≤ READ_TURNS }
+    ensures whole { IfOk result (λ prefix. (read : List ℕ) × Stands read prefix
+        × IfSome (R.remaining input.old.device) (λ bytes. read ≡ bytes)) }
+    ensures within { IfOk result (λ prefix. ForOk prefix (λ p. IsWithin p (2 ^ 62))) }
+    ensures faults { IfErr result (λ e. (e ≡ Fault.ReadFailed) ⊎ ((e ≡ Fault.TurnsSpent)
         × IfSome (R.remaining input.old.device) (λ bytes. turns ≤ length bytes))) }
     ensures failed { input.new.failed ≡ says is_read_failed result }
 {
-    let mut bytes = Vec::new(alloc);
+    let draft = Draft::new(alloc);
+    let rest = Vec::new(alloc);
+    let mut prefix = Ok(Prefix {
+        draft,
+        number: 1,
+        rest,
+    });
     let mut buffer = [0; READ_BYTES];
     for _ in 0..turns {
         let Ok(count) = input.read(&mut buffer) else {
             return Err(Fault::ReadFailed);
         };
         if count == 0 {
-            return Ok(bytes);
+            return Ok(prefix);
         }
-        bytes.extend_from_slice(&buffer[..count])?;
+        prefix = with_block(alloc, prefix, &buffer[..count]);
     }
     Err(Fault::TurnsSpent)
+}
+
+/// Takes one more block, if the bytes before have no fault.
+fn with_block(
+    alloc: Global,
+    prefix: Result<Prefix, StateFault>,
+    block: &[u8],
+) -> Result<Prefix, StateFault>
+    requires { ForOk prefix (λ p. IsWithin p (2 ^ 62)) }
+    ensures stands { (bytes : List ℕ) → Stands bytes prefix → Stands (bytes ++ block.now) result }
+    ensures within { ForOk result (λ q. IfOk prefix
+        (λ p. IsWithin q (p.number + length p.rest.items + length block.now))) }
+    ensures stopped { IfErr prefix (λ e. result ≡ Err e) }
+{
+    match prefix {
+        Ok(prefix) => with_bytes(alloc, prefix, block),
+        Err(fault) => Err(fault),
+    }
+}
+
+/// Takes more bytes.
+fn with_bytes(alloc: Global, prefix: Prefix, bytes: &[u8]) -> Result<Prefix, StateFault>
+    requires { IsWithin prefix (2 ^ 62) }
+    ensures stands { (before : List ℕ) → Continues before prefix
+        → Stands (before ++ bytes.now) result }
+    ensures within { ForOk result
+        (λ q. IsWithin q (prefix.number + vec_len prefix.rest + length bytes.now)) }
+{
+    let mut prefix = prefix;
+    prefix.rest.extend_from_slice(bytes)?;
+    if !has_line_end(bytes) {
+        return Ok(prefix);
+    }
+    with_lines_taken(alloc, prefix)
+}
+
+/// Whether a line ends in these bytes.
+fn has_line_end(bytes: &[u8]) -> bool {
+    match Lines::new(bytes).next() {
+        Some(line) => line.is_ended,
+        None => false,
+    }
+}
+
+/// Takes all lines but the last, which what follows may be a part of.
+fn with_lines_taken(alloc: Global, prefix: Prefix) -> Result<Prefix, StateFault>
+    requires apart { IsApart prefix.draft.current }
+    requires room { prefix.number + vec_len prefix.rest < 2 ^ 64 }
+    ensures stands { (bytes : List ℕ) → Stands bytes (Ok prefix) → Stands bytes result }
+    ensures within { ForOk result (λ q. IsWithin q (prefix.number + vec_len prefix.rest)) }
+{
+    let bytes = prefix.rest;
+    let mut draft = prefix.draft;
+    let mut number = prefix.number;
+    let last = take_lines(alloc, &mut draft, &mut number, bytes.as_slice())?;
+    let rest = bytes_of(alloc, last)?;
+    Ok(Prefix {
+        draft,
+        number,
+        rest,
+    })
+}
+
+/// Copies the bytes of a line, if there is one.
+fn bytes_of(alloc: Global, line: Option<Line<&[u8]>>) -> Result<Vec<u8>, AllocError>
+    ensures { IfOk result (λ v. v.items ≡ text_of (option_map of_bytes line.entry)) }
+{
+    let mut bytes = Vec::new(alloc);
+    if let Some(line) = line {
+        push_line(&mut bytes, line)?;
+    }
+    Ok(bytes)
+}
+
+/// Appends a line, with its LF if it has one.
+fn push_line(bytes: &mut Vec<u8>, line: Line<&[u8]>) -> Result<(), AllocError>
+    ensures { OnOk result
+        (bytes.new.items ≡ bytes.old.items ++ line_text (of_bytes line.entry)) }
+{
+    bytes.extend_from_slice(line.text)?;
+    if line.is_ended {
+        bytes.push(b'\n')?;
+    }
+    Ok(())
+}
+
+/// Reads the state of the whole text, whose bytes have all come.
+fn finish(alloc: Global, prefix: Result<Prefix, StateFault>) -> Result<State, StateFault>
+    requires { ForOk prefix (λ p. IsWithin p (2 ^ 62)) }
+    ensures ok { (bytes : List ℕ) → Stands bytes prefix
+        → IfOk result (λ s. state_reading bytes ≡ Ok s) }
+    ensures err { (bytes : List ℕ) → Stands bytes prefix
+        → IfErr result (λ e. (e ≡ out_of_memory) ⊎ (state_reading bytes ≡ Err e)) }
+{
+    match prefix {
+        Ok(prefix) => {
+            let rest = prefix.rest;
+            read_rest(alloc, prefix.draft, prefix.number, rest.as_slice())
+        }
+        Err(fault) => Err(fault),
+    }
+}
+
+/// Takes the lines of these bytes, which begin with the line of that number, and returns the state.
+fn read_rest(alloc: Global, draft: Draft, number: usize, bytes: &[u8]) -> Result<State, StateFault>
+    requires apart { IsApart draft.current }
+    requires room { number + length bytes.now < 2 ^ 64 }
+    ensures ok { IfOk result (λ s. bytes_taken number draft bytes.now ≡ Ok s) }
+    ensures err { IfErr result
+        (λ e. (e ≡ out_of_memory) ⊎ (bytes_taken number draft bytes.now ≡ Err e)) }
+{
+    let mut draft = draft;
+    let mut number = number;
+    let last = take_lines(alloc, &mut draft, &mut number, bytes)?;
+    match last {
+        Some(line) => take_last_at(alloc, draft, number, line),
+        None => Err(StateFault {
+            line: 1,
+            fault: Fault::Truncated,
+        }),
+    }
+}
+
+/// Takes all lines of these bytes but the last, which it returns.
+fn take_lines<'a>(
+    alloc: Global,
+    draft: &mut Draft,
+    number: &mut usize,
+    bytes: &'a [u8],
+) -> Result<Option<Line<&'a [u8]>>, StateFault>
+    requires apart { IsApart draft.old.current }
+    requires room { number.old + length bytes.now < 2 ^ 64 }
+    ensures left { IfOk result (λ line. Leaves number.old draft.old bytes.now
+        number.new draft.new (option_map of_bytes line)) }
+    ensures apart { OnOk result (IsApart draft.new.current) }
+    ensures err { IfErr result (λ e. Stops number.old draft.old bytes.now e) }
+{
+    let mut lines = Lines::new(bytes);
+    let Some(first) = lines.next() else {
+        return Ok(None);
+    };
+    let mut line = first;
+    for next in lines {
+        take_line_at(alloc, draft, *number, line.text)?;
+        line = next;
+        *number += 1;
+    }
+    Ok(Some(line))
 }
 
 /// The fault of a line. Out of memory has line 0.

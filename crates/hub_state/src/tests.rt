@@ -11,10 +11,37 @@ use std::{cmp, io};
 
 /// The text that is written of the state that a text says, or the fault of the text.
 fn answer(alloc: Global, text: &[u8]) -> Result<String, AllocError> {
-    let mut input = Watched::new(text);
-    match read_state(alloc, &mut input) {
+    shown(alloc, read_bytes(alloc, text))
+}
+
+/// The same of a text that comes so many bytes at a time.
+fn answer_in_pieces(alloc: Global, text: &[u8], size: usize) -> Result<String, AllocError> {
+    shown(
+        alloc,
+        read_state(alloc, &mut Watched::new(Pieces { left: text, size })),
+    )
+}
+
+fn shown(alloc: Global, state: Result<State, StateFault>) -> Result<String, AllocError> {
+    match state {
         Ok(state) => written(alloc, &state),
         Err(fault) => format!(in alloc; "{fault}"),
+    }
+}
+
+/// Gives a text some bytes at a time.
+#[derive(Drop)]
+struct Pieces<'a> {
+    left: &'a [u8],
+    size: usize,
+}
+
+impl<'a> Read for Pieces<'a> {
+    fn read(&mut self, buf: &mut [u8]) -> io::Result<usize> {
+        let count = cmp::min(cmp::min(self.size, buf.len()), self.left.len());
+        buf[..count].copy_from_slice(&self.left[..count]);
+        self.left = &self.left[count..];
+        Ok(count)
     }
 }
 
@@ -243,6 +270,16 @@ fn texts(rt: &impl Abort, alloc: Global, rows: &[(&str, &str)]) -> Result<(), Fa
     for (text, want) in rows {
         let found = answer(alloc, text.as_bytes())?;
         assert_eq!(rt; found.as_str(), *want, "of {text:?}");
+        in_pieces(rt, alloc, text, want)?;
+    }
+    Ok(())
+}
+
+/// Whether a text is answered so that comes in pieces of these sizes.
+fn in_pieces(rt: &impl Abort, alloc: Global, text: &str, want: &str) -> Result<(), Fail> {
+    for size in [1, 2, 7, 100] {
+        let found = answer_in_pieces(alloc, text.as_bytes(), size)?;
+        assert_eq!(rt; found.as_str(), want, "of {text:?} by {size} bytes");
     }
     Ok(())
 }
@@ -457,11 +494,13 @@ const SMALL: &[u8] = b"hubsync state 1\nreplica /a\ndir d\nend\n";
 
 #[test]
 fn a_reader_that_fails(rt: HostRuntime) -> Result<(), Fail> {
-    let mut input = Watched::new(Failing { left: SMALL });
-    let fault = read_state(rt.alloc(), &mut input).err().ok_or("no fault")?;
-    assert_eq!(rt; fault.fault, Fault::ReadFailed);
-    assert_eq!(rt; fault.line, 0);
-    assert!(rt; input.failed());
+    for left in [SMALL, b"hubsync state 9\nend\n".as_slice(), b"".as_slice()] {
+        let mut input = Watched::new(Failing { left });
+        let fault = read_state(rt.alloc(), &mut input).err().ok_or("no fault")?;
+        assert_eq!(rt; fault.fault, Fault::ReadFailed);
+        assert_eq!(rt; fault.line, 0);
+        assert!(rt; input.failed());
+    }
     Ok(())
 }
 

@@ -1,0 +1,10 @@
+use Rattle.std.proofs.Common.{◌≡◌, ℕ, ◌+◌, ◌*◌, ◌≤◌, List, length, false}
+use Rattle.std.specs.Io.KnownBytes.{Consumes}
+use Rattle.std.specs.Result.{ForOk}
+use Rattle.hub_state.specs.Blocks.{Stands, IsWithin}
+use Rattle.hub_state.proofs.reader.read_blocks.Given as goal
+
+abbrev pub invariant-loop : goal.invariant-loop
+invariant-loop g l =
+    (read : List ℕ) × Stands read l.prefix × Consumes (g.R.Read.remaining l.initial.input.device) (g.R.Read.remaining l.input.device) read
+    × (l.counter ≤ length read) × ForOk l.prefix (λ p. IsWithin p (1 + 4096 * l.counter)) × (l.input.failed ≡ false)

@@ -1,3 +1,5 @@
+pub mod Steps
+pub mod Numbered
 pub mod Prefixes
 pub mod Walks
 pub mod Shapes

@@ -1,3 +1,6 @@
+pub mod SpecTable
+pub mod Numbering
+pub mod Table
 pub mod Reach
 pub mod Laws
 pub mod Safe

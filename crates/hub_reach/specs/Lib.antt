@@ -1,4 +1,5 @@
 pub mod SpecTable
+pub mod Row
 pub mod Numbering
 pub mod Table
 pub mod Reach

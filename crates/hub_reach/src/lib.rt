@@ -11,6 +11,8 @@
 //! `specs/Shape`, `specs/Table` and `specs/Numbering`.
 #![tactic(auto)]
 
+#[cfg(test)]
+mod given;
 pub mod laws;
 mod mentions;
 mod reach;

@@ -154,7 +154,7 @@ fn blocks_below(row: &Row, from: Side) -> bool
         || (row.comes(from) && blocks(row, from, row.mark(from)))
 }
 
-/// Whether the path is such a directory, and the mark that it gets from that side is another one.
+/// Whether the path is such a directory, and doesn't stay one with this mark from that side.
 fn blocks(row: &Row, from: Side, mark: Mark) -> bool
     ensures { result ≡ fates.blocks from row.now mark }
 {

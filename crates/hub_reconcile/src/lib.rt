@@ -1,4 +1,18 @@
-//! What two replicas differ in, and what is done about it.
+//! Reconciliation: what two replicas differ in, and what one synchronization changes. docs/RECONCILIATION.md has the
+//! rules.
+//!
+//! - [`Picture`]: what a profile knows of two replicas and of their archive: the [`Look`]s at each side.
+//! - [`items`]: the least paths at which the sides differ, each with its [`Fate`]: the side that it goes to, or the
+//!   [`Reason`] for skipping it.
+//! - [`plan`]: the [`Change`]s of the items that aren't skipped, in the order in which they can be made.
+//! - [`next_archive`]: the archive after these changes.
+//! - [`laws`]: what the crates above may conclude.
+//!
+//! The contracts use the words of `specs/Items` (items and their changes), `specs/Sync` (what one synchronization
+//! leaves) and `specs/Shown` (the `specs/View` that a picture shows).
+//!
+//! Each of the three calls goes once through the Looks of both sides and the paths of the archive, in the order of
+//! paths, and copies no contents. Only functions that return a `Result` allocate.
 #![tactic(auto)]
 
 mod block;

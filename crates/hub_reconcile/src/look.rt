@@ -4,20 +4,20 @@ ghost use Rattle.hub_reconcile.specs.Picture as spec;
 use hub_path::{Name, RelPath};
 use hub_tree::Mark;
 
-/// What a Look at a path of a replica told.
+/// What a profile sees at a path of a replica.
 #[derive(Clone, Copy, Debug, Drop)]
 pub struct Look<'a> {
     /// The path.
     pub path: &'a RelPath,
     /// The mark of the path.
     pub mark: Mark,
-    /// The names of those children that the profile reaches.
+    /// The names of the children that the profile reaches. Nothing in this crate depends on them.
     pub names: &'a [Name],
-    /// Whether the path has other children.
+    /// Whether the path has children that the profile doesn't reach, where it writes.
     pub others: bool,
 }
 
-/// Returns whether Looks stand in the order of their paths, each path once.
+/// Returns whether Looks are in the order of their paths, each path once.
 pub fn are_rising(looks: &[Look]) -> bool
     ensures { result ≡ spec.are_rising (spec.told_by looks.now) }
 {
@@ -31,7 +31,7 @@ pub fn are_rising(looks: &[Look]) -> bool
     true
 }
 
-/// Whether the path stands before that of the first Look.
+/// Returns whether the path is before that of the first Look, if there is one.
 fn is_before(path: &RelPath, looks: &[Look]) -> bool
     ensures { result ≡ spec.is_before path.now (spec.told_by looks.now) }
 {

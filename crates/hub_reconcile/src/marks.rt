@@ -6,14 +6,14 @@ ghost use Rattle.hub_reconcile.specs.Items as spec;
 use hub_profile::Verb;
 use hub_tree::Mark;
 
-/// Whether two marks are the same: two files have the same digest.
+/// Returns whether two marks are the same. Files have the same mark if their digests are equal.
 pub(crate) fn is_same(a: Mark, b: Mark) -> bool
     ensures { result ≡ view.mark_eq a b }
 {
     a == b
 }
 
-/// Whether something is there.
+/// Returns whether something is there.
 pub(crate) fn is_present(mark: Mark) -> bool
     ensures { result ≡ view.is_present mark }
 {
@@ -24,7 +24,7 @@ pub(crate) fn is_present(mark: Mark) -> bool
     }
 }
 
-/// Whether it is a directory.
+/// Returns whether it is a directory.
 pub(crate) fn is_folder(mark: Mark) -> bool
     ensures { result ≡ view.is_folder mark }
 {
@@ -35,7 +35,7 @@ pub(crate) fn is_folder(mark: Mark) -> bool
     }
 }
 
-/// What a change does that puts the new mark in the place of the old one.
+/// Returns what a change does that replaces the old mark by the new one.
 pub(crate) fn verb_of(old: Mark, new: Mark) -> Verb
     ensures { result ≡ spec.verb_of old new }
 {

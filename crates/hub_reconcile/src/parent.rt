@@ -1,4 +1,4 @@
-//! What a picture tells of an item's parent.
+//! Whether an item's parent is there.
 ghost use Rattle.std.specs.Prelude.{◌≡◌, ◌<◌, IfOk, IsTrue, length};
 ghost use Rattle.hub_reconcile.specs.Items as spec;
 ghost use Rattle.hub_reconcile.specs.Picture.{are_rising, sight_in, told_by};
@@ -11,7 +11,7 @@ use hub_path::{RelPath, Side};
 use hub_tree::Mark;
 use std::alloc::AllocError;
 
-/// Whether a path may be made on this side: its parent is the whole replica, or a directory there.
+/// Returns whether a path can be created on this side: its parent is the whole replica, or a directory there.
 pub(crate) fn has_parent(picture: &Picture, side: Side, path: &RelPath) -> Result<bool, AllocError>
     ensures { IfOk result (λ b. b ≡ spec.has_parent (shown picture.now) side path.now) }
 {
@@ -22,7 +22,7 @@ pub(crate) fn has_parent(picture: &Picture, side: Side, path: &RelPath) -> Resul
     }
 }
 
-/// The mark that the Looks of a side tell of a path.
+/// The mark of a path, by the Looks of a side: `Absent` if none is of the path. Found by bisection.
 fn mark_in<'a>(looks: &'a [Look<'a>], path: &RelPath) -> Mark
     requires { IsTrue (are_rising (told_by looks.now)) }
     ensures { result ≡ (sight_in (told_by looks.now) path.now).mark }
@@ -37,7 +37,7 @@ fn mark_in<'a>(looks: &'a [Look<'a>], path: &RelPath) -> Mark
     }
 }
 
-/// The half of the Looks that has the path's, if one of them is of the path.
+/// The half of the Looks that has the path's Look, if there is one.
 fn half_with<'a>(looks: &'a [Look<'a>], path: &RelPath) -> &'a [Look<'a>]
     requires rising { IsTrue (are_rising (told_by looks.now)) }
     requires more { 1 < length looks.now }

@@ -9,8 +9,8 @@ use hub_tree::Archive;
 
 /// What a profile knows of two replicas and of their archive: the Looks at each side.
 ///
-/// The Looks of a side stand in the order of their paths, and no path stands twice. A path without a Look counts as
-/// absent.
+/// The Looks of a side are in the order of their paths, each path once. A path without a Look counts as absent. Nothing
+/// asks that the Looks are those of real replicas.
 #[derive(Clone, Copy, Drop)]
 pub struct Picture<'a> {
     profile: &'a Profile,
@@ -22,7 +22,7 @@ pub struct Picture<'a> {
 }
 
 impl<'a> Picture<'a> {
-    /// The picture of these Looks, which stand in the order of their paths, each path once.
+    /// Makes the picture of these Looks. Each side's are in the order of their paths, each path once ([`are_rising`]).
     pub fn new(
         profile: &'a Profile,
         left: &'a [Look<'a>],
@@ -44,14 +44,14 @@ impl<'a> Picture<'a> {
         }
     }
 
-    /// For whom it is.
+    /// The profile.
     pub fn profile(&self) -> &'a Profile
         ensures { result.now ≡ self.now.profile.now }
     {
         self.profile
     }
 
-    /// The Looks at this side.
+    /// The Looks at this side, in the order of their paths.
     pub fn looks(&self, side: Side) -> &'a [Look<'a>]
         ensures looks { result.now ≡ of_side self.now.left.now self.now.right.now side }
         ensures rising { IsTrue (are_rising (told_by result.now)) }

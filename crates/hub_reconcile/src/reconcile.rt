@@ -19,7 +19,7 @@ use hub_text::Items;
 use hub_tree::{Archive, Mark};
 use std::alloc::{AllocError, Global};
 
-/// Returns what the two sides differ in, in ascending order of paths, and what becomes of it.
+/// Returns the items of a picture in the order of their paths, or `AllocError` when out of memory.
 pub fn items(alloc: Global, picture: &Picture) -> Result<Items<Item>, AllocError>
     ensures { IfOk result (λ is. is ≡ spec.items (shown picture.now)) }
 {
@@ -29,9 +29,10 @@ pub fn items(alloc: Global, picture: &Picture) -> Result<Items<Item>, AllocError
     Ok(Items::from_vec(items_of(alloc, blocks.as_slice())?))
 }
 
-/// Returns the changes of the items that aren't skipped, in the order of the items.
+/// Returns the changes of the items that aren't skipped, in the order of the items, or `AllocError` when out of memory.
 ///
-/// The changes of an item are: what goes below it, the last path first; then the item; then what comes below it.
+/// The changes of an item are: what goes below it, the last path first; then the item; then what comes below it, in
+/// ascending order.
 pub fn plan(alloc: Global, picture: &Picture) -> Result<Items<Change>, AllocError>
     ensures { IfOk result (λ cs. cs ≡ spec.plan (shown picture.now)) }
 {
@@ -41,8 +42,10 @@ pub fn plan(alloc: Global, picture: &Picture) -> Result<Items<Change>, AllocErro
     Ok(Items::from_vec(changes_of(alloc, blocks.as_slice())?))
 }
 
-/// Returns the archive afterwards: the source's marks at and below the items that aren't skipped, the old marks at and
-/// below those that are, and at other reached paths the marks that both sides have. The picture's archive is unchanged.
+/// Returns the archive afterwards, or `AllocError` when out of memory. The picture's archive is unchanged.
+///
+/// It has the source's marks at and below the items that aren't skipped, the old marks at and below those that are, the
+/// common marks at the other reached paths, and the old marks elsewhere.
 pub fn next_archive(alloc: Global, picture: &Picture) -> Result<Archive, AllocError>
     ensures { IfOk result
         (λ a. a ≡ sync.next_archive (shown picture.now) picture.now.archive.now) }

@@ -7,7 +7,7 @@ use crate::side::other;
 use hub_path::{RelPath, Side};
 use hub_tree::Mark;
 
-/// What a side told of a path.
+/// What is known of a path on one side.
 #[derive(Clone, Copy, Drop)]
 pub(crate) struct Seen {
     /// Its mark.
@@ -21,16 +21,16 @@ pub(crate) struct Seen {
 pub(crate) struct Row<'a> {
     /// The path.
     pub path: &'a RelPath,
-    /// What the left side told.
+    /// What is known of it on the left.
     pub left: Seen,
-    /// What the right side told.
+    /// What is known of it on the right.
     pub right: Seen,
     /// Its mark in the archive.
     pub old: Mark,
 }
 
 impl Row<'_> {
-    /// What this side told.
+    /// What is known of it on this side.
     pub fn seen(&self, side: Side) -> Seen
         ensures { result ≡ rows.seen_on side self.now }
     {

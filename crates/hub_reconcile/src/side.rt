@@ -1,10 +1,10 @@
-//! What is said of both sides.
+//! The two sides of a synchronization.
 ghost use Rattle.std.specs.Prelude.{◌≡◌};
 ghost use Rattle.hub_reconcile.specs.Items as spec;
 
 use hub_path::Side;
 
-/// The other side.
+/// Returns the other side.
 pub(crate) fn other(side: Side) -> Side
     ensures { result ≡ spec.other side }
 {

@@ -38,9 +38,15 @@ fn char_of(mark: Mark) -> char {
     match mark {
         Mark::Directory => 'd',
         Mark::Absent => '-',
-        Mark::File([1, ..]) => '1',
-        Mark::File([2, ..]) => '2',
-        Mark::File(_) => '0',
+        Mark::File(digest) => digit_of(digest[0]),
+    }
+}
+
+fn digit_of(byte: u8) -> char {
+    match byte {
+        1 => '1',
+        2 => '2',
+        _ => '0',
     }
 }
 
@@ -96,13 +102,29 @@ fn item_text(alloc: Global, item: &Item) -> Result<String, Fail> {
     }
 }
 
+fn change_text(alloc: Global, change: &Change) -> Result<String, Fail> {
+    let path = change.path.text()?;
+    Ok(format!(in alloc; "{} {path} {}", root_of(change.side), char_of(change.mark))?)
+}
+
+fn entry_text(alloc: Global, path: &RelPath, mark: Mark) -> Result<String, Fail> {
+    let path = path.text()?;
+    Ok(format!(in alloc; "{path} {}", char_of(mark))?)
+}
+
+/// Adds a part to a list of parts.
+fn push_part(text: &mut String, part: &str) -> Result<(), Fail> {
+    if !text.is_empty() {
+        text.push_str(", ")?;
+    }
+    text.push_str(part)?;
+    Ok(())
+}
+
 fn items_text(alloc: Global, items: &[Item]) -> Result<String, Fail> {
     let mut text = String::new(alloc);
     for item in items {
-        if !text.is_empty() {
-            text.push_str(", ")?;
-        }
-        text.push_str(item_text(alloc, item)?.as_str())?;
+        push_part(&mut text, item_text(alloc, item)?.as_str())?;
     }
     Ok(text)
 }
@@ -110,15 +132,7 @@ fn items_text(alloc: Global, items: &[Item]) -> Result<String, Fail> {
 fn plan_text(alloc: Global, changes: &[Change]) -> Result<String, Fail> {
     let mut text = String::new(alloc);
     for change in changes {
-        if !text.is_empty() {
-            text.push_str(", ")?;
-        }
-        let path = change.path.text()?;
-        text.push_str(root_of(change.side))?;
-        text.push(' ')?;
-        text.push_str(path.as_str())?;
-        text.push(' ')?;
-        text.push(char_of(change.mark))?;
+        push_part(&mut text, change_text(alloc, change)?.as_str())?;
     }
     Ok(text)
 }
@@ -126,12 +140,8 @@ fn plan_text(alloc: Global, changes: &[Change]) -> Result<String, Fail> {
 fn archive_text(alloc: Global, archive: &Archive) -> Result<String, Fail> {
     let mut text = String::new(alloc);
     for path in archive.paths()?.as_slice() {
-        if !text.is_empty() {
-            text.push_str(", ")?;
-        }
-        text.push_str(path.text()?.as_str())?;
-        text.push(' ')?;
-        text.push(char_of(archive.mark_at(path)))?;
+        let entry = entry_text(alloc, path, archive.mark_at(path))?;
+        push_part(&mut text, entry.as_str())?;
     }
     Ok(text)
 }
@@ -158,6 +168,13 @@ fn is_right(rt: &impl Abort, alloc: Global, case: &Case) -> Result<(), Fail> {
     assert!(rt; are_rising(right.as_slice()));
     let picture = Picture::new(&profile, left.as_slice(), right.as_slice(), &archive);
     holds(rt, alloc, case, &picture)
+}
+
+fn all_are_right(rt: &impl Abort, alloc: Global, cases: &[Case]) -> Result<(), Fail> {
+    for case in cases {
+        is_right(rt, alloc, case)?;
+    }
+    Ok(())
 }
 
 /// One file that both sides changed, and what decides.
@@ -202,10 +219,7 @@ const CONFLICTS: [Case; 4] = [
 
 #[test]
 fn conflicts(rt: HostRuntime) -> Result<(), Fail> {
-    for case in &CONFLICTS {
-        is_right(&rt, rt.alloc(), case)?;
-    }
-    Ok(())
+    all_are_right(&rt, rt.alloc(), &CONFLICTS)
 }
 
 /// A directory that one side lost, with and without a file that isn't reached.
@@ -232,10 +246,7 @@ const LOST: [Case; 2] = [
 
 #[test]
 fn lost_directories(rt: HostRuntime) -> Result<(), Fail> {
-    for case in &LOST {
-        is_right(&rt, rt.alloc(), case)?;
-    }
-    Ok(())
+    all_are_right(&rt, rt.alloc(), &LOST)
 }
 
 /// Deletions that the profile forbids.
@@ -262,10 +273,7 @@ const BARRED: [Case; 2] = [
 
 #[test]
 fn barred_deletions(rt: HostRuntime) -> Result<(), Fail> {
-    for case in &BARRED {
-        is_right(&rt, rt.alloc(), case)?;
-    }
-    Ok(())
+    all_are_right(&rt, rt.alloc(), &BARRED)
 }
 
 /// A forced side, a missing parent, a new directory, and an item below none.
@@ -310,15 +318,15 @@ const OTHERS: [Case; 4] = [
 
 #[test]
 fn other_cases(rt: HostRuntime) -> Result<(), Fail> {
-    for case in &OTHERS {
-        is_right(&rt, rt.alloc(), case)?;
-    }
-    Ok(())
+    all_are_right(&rt, rt.alloc(), &OTHERS)
 }
 
 /// The marks of one path on the left, on the right and in the archive; its item without `prefer` and with the left root
 /// preferred; and its mark in the new archive in both cases.
-const TABLE: [(char, char, char, &str, &str, char, char); 27] = [
+type Line = (char, char, char, &'static str, &'static str, char, char);
+
+/// All that can stand at one path, worked out from the rules.
+const TABLE: [Line; 27] = [
     ('-', '-', '-', "", "", '-', '-'),
     ('-', '-', '1', "", "", '-', '-'),
     ('-', '-', 'd', "", "", '-', '-'),
@@ -348,6 +356,36 @@ const TABLE: [(char, char, char, &str, &str, char, char); 27] = [
     ('d', 'd', 'd', "", "", 'd', 'd'),
 ];
 
+/// What becomes of one path, with its marks.
+fn line_text(
+    alloc: Global,
+    marks: (char, char, char),
+    item: &str,
+    new: char,
+) -> Result<String, Fail> {
+    Ok(format!(in alloc; "{} {} {}: {item}, {new}", marks.0, marks.1, marks.2)?)
+}
+
+/// What the picture of one path gives.
+fn outcome(
+    alloc: Global,
+    marks: (char, char, char),
+    path: &RelPath,
+    picture: &Picture,
+) -> Result<String, Fail> {
+    let items = items_text(alloc, items(alloc, picture)?.as_slice())?;
+    let new = next_archive(alloc, picture)?.mark_at(path);
+    line_text(alloc, marks, items.as_str(), char_of(new))
+}
+
+fn archive_with(alloc: Global, path: &RelPath, c: char) -> Result<Archive, Fail> {
+    let mut archive = Archive::new(alloc);
+    if path.len() > 0 {
+        archive.set(path, mark_of(c))?;
+    }
+    Ok(archive)
+}
+
 fn one_path(
     rt: &impl Abort,
     alloc: Global,
@@ -357,26 +395,15 @@ fn one_path(
 ) -> Result<(), Fail> {
     let profile = profile_of(alloc, lines)?;
     let path = RelPath::read(alloc, "p")?;
-    let mut archive = Archive::new(alloc);
-    if path.len() > 0 {
-        archive.set(&path, mark_of(marks.2))?;
-    }
+    let archive = archive_with(alloc, &path, marks.2)?;
     let left = [look_at(&path, marks.0)];
     let right = [look_at(&path, marks.1)];
     assert!(rt; are_rising(&left));
     assert!(rt; are_rising(&right));
     let picture = Picture::new(&profile, &left, &right, &archive);
-    let items = items_text(alloc, items(alloc, &picture)?.as_slice())?;
-    assert_eq!(rt;
-        items.as_str(),
-        want.0,
-        "{} {} {}",
-        marks.0,
-        marks.1,
-        marks.2
-    );
-    let new = next_archive(alloc, &picture)?.mark_at(&path);
-    assert_eq!(rt; char_of(new), want.1, "{} {} {}", marks.0, marks.1, marks.2);
+    let seen = outcome(alloc, marks, &path, &picture)?;
+    let wanted = line_text(alloc, marks, want.0, want.1)?;
+    assert_eq!(rt; seen.as_str(), wanted.as_str());
     Ok(())
 }
 
@@ -389,13 +416,17 @@ fn look_at<'a>(path: &'a RelPath, c: char) -> Look<'a> {
     }
 }
 
-#[test]
-fn one_path_on_three_sides(rt: HostRuntime) -> Result<(), Fail> {
-    for (left, right, old, plain, preferred, new, preferred_new) in &TABLE {
+fn lines_hold(rt: &impl Abort, alloc: Global, lines: &[Line]) -> Result<(), Fail> {
+    for (left, right, old, plain, preferred, new, preferred_new) in lines {
         let marks = (*left, *right, *old);
-        one_path(&rt, rt.alloc(), "", marks, (plain, *new))?;
-        let lines = "prefer = /srv/hub";
-        one_path(&rt, rt.alloc(), lines, marks, (preferred, *preferred_new))?;
+        one_path(rt, alloc, "", marks, (plain, *new))?;
+        let preference = "prefer = /srv/hub";
+        one_path(rt, alloc, preference, marks, (preferred, *preferred_new))?;
     }
     Ok(())
+}
+
+#[test]
+fn one_path_on_three_sides(rt: HostRuntime) -> Result<(), Fail> {
+    lines_hold(&rt, rt.alloc(), &TABLE)
 }

@@ -30,13 +30,17 @@ use Rattle.hub_reconcile.proofs.Views.{both_hold, is_false, unnot, or_first, or_
 pub over_not_behind : (p y : Path) → path_cmp p y ≡ Less → is_over y p ≡ true → ⊥
 over_not_behind p y l o =
     elim (path_eq y p) as (λ b. path_eq y p ≡ b → ⊥) [
-      | true ↦ λ e. let w : path_cmp p p ≡ Less = ap (path_cmp p) (sym (same_paths y p e)) ∙ l in not_both p p w w
-      | false ↦ λ e. not_both p y l (path_cmp-over y p o (λ same. false≢true (sym e ∙ (ap (λ z. path_eq z p) same ∙ paths_same p))))
+      | true ↦ λ e. let w : path_cmp p p ≡ Less = ap (path_cmp p) (sym (same_paths y p e)) ∙ l in
+          not_both p p w w
+      | false ↦ λ e. not_both p y l
+          (path_cmp-over y p o (λ same. false≢true (sym e ∙ (ap (λ z. path_eq z p) same ∙ paths_same p))))
     ] refl
 
 -- What stands between a path and one that it is over, is below it.
-convex_by : (n k : Name) (p x z : Path) (r : Ordering) → (path_cmp p x ≡ Less → path_cmp x z ≡ Less → is_over p x ≡ true) → name_cmp n k ≡ r
-    → ordering_then r (path_cmp p x) ≡ Less → ordering_then (name_cmp k n) (path_cmp x z) ≡ Less → is_over (n ∷ p) (k ∷ x) ≡ true
+convex_by : (n k : Name) (p x z : Path) (r : Ordering)
+    → (path_cmp p x ≡ Less → path_cmp x z ≡ Less → is_over p x ≡ true) → name_cmp n k ≡ r
+    → ordering_then r (path_cmp p x) ≡ Less → ordering_then (name_cmp k n) (path_cmp x z) ≡ Less
+    → is_over (n ∷ p) (k ∷ x) ≡ true
 convex_by n k p x z Less more e h g =
     let back : name_cmp k n ≡ Greater = name_cmp-total.antisymm k n ∙ ap ordering_reverse e in
     let w : Less ≡ Greater = sym g ∙ ap (λ r. ordering_then r (path_cmp x z)) back in
@@ -47,14 +51,16 @@ convex_by n k p x z Equal more e h g =
     (more h (sym (ap (λ r. ordering_then r (path_cmp x z)) back) ∙ g))
 convex_by n k p x z Greater more e h g = cc
 
-pub convex : (p x z : Path) → path_cmp p x ≡ Less → path_cmp x z ≡ Less → is_over p z ≡ true → is_over p x ≡ true
+pub convex : (p x z : Path) → path_cmp p x ≡ Less → path_cmp x z ≡ Less → is_over p z ≡ true
+    → is_over p x ≡ true
 convex [] x z h g o = refl
 convex (n ∷ p) [] z h g o = cc
 convex (n ∷ p) (k ∷ x) [] h g o = cc
 convex (n ∷ p) (k ∷ x) (m ∷ z) h g o =
     let heads = and_parts (name_eq n m) (is_over p z) o in
     let same : n ≡ m = (name_eq-decides n m).0 heads.0 in
-    convex_by n k p x z (name_cmp n k) (λ a b. convex p x z a b heads.1) refl h (ap (λ y. ordering_then (name_cmp k y) (path_cmp x z)) same ∙ g)
+    convex_by n k p x z (name_cmp n k) (λ a b. convex p x z a b heads.1) refl h
+    (ap (λ y. ordering_then (name_cmp k y) (path_cmp x z)) same ∙ g)
 
 -- A test that passes at no prefix of a path doesn't pass at the path.
 some_not : (b : Bool) (x : Path) (o : Option Path) → cond b (Some x) o ≡ None → (b ≡ false) × (o ≡ None)
@@ -70,24 +76,30 @@ find_none f [] l e = absurd (omega arith)
 find_none f (n ∷ []) l e = (some_not (f (n ∷ [])) (n ∷ []) None e).0
 find_none f (n ∷ m ∷ p) l e =
     find_none (λ q. f (n ∷ q)) (m ∷ p) (omega arith)
-    (mapped_none n (find (λ q. f (n ∷ q)) (prefixes (m ∷ p))) (some_not (f (n ∷ [])) (n ∷ []) (option_map (λ q. n ∷ q) (find (λ q. f (n ∷ q)) (prefixes (m ∷ p)))) (sym (find_first f n (m ∷ p)) ∙ e)).1)
+    (mapped_none n (find (λ q. f (n ∷ q)) (prefixes (m ∷ p)))
+    (some_not (f (n ∷ [])) (n ∷ []) (option_map (λ q. n ∷ q) (find (λ q. f (n ∷ q)) (prefixes (m ∷ p))))
+    (sym (find_first f n (m ∷ p)) ∙ e)).1)
 
 -- Lists.
-filter_none : (g : Path → Bool) (zs : List Path) → ((z : Path) → among z zs ≡ true → g z ≡ false) → filter g zs ≡ []
+filter_none : (g : Path → Bool) (zs : List Path) → ((z : Path) → among z zs ≡ true → g z ≡ false)
+    → filter g zs ≡ []
 filter_none g [] h = refl
 filter_none g (z ∷ zs) h =
     ap (λ b. cond b (z ∷ filter g zs) (filter g zs)) (h z (or_first _ (among z zs) (path_itself z)))
     ∙ filter_none g zs (λ y e. h y (or_second (eq_by_cmp path_cmp y z) _ e))
 
-skip_sorted : (p x : Path) (xs : List Path) → IsStrictlySortedBy path_cmp (p ∷ x ∷ xs) → IsStrictlySortedBy path_cmp (p ∷ xs)
+skip_sorted : (p x : Path) (xs : List Path) → IsStrictlySortedBy path_cmp (p ∷ x ∷ xs)
+    → IsStrictlySortedBy path_cmp (p ∷ xs)
 unfolding IsStrictlySortedBy
 skip_sorted p x xs s = (s.0.1, s.1.1)
 
-back_sorted : (front rest : List Path) → IsStrictlySortedBy path_cmp (front ++ rest) → IsStrictlySortedBy path_cmp rest
+back_sorted : (front rest : List Path) → IsStrictlySortedBy path_cmp (front ++ rest)
+    → IsStrictlySortedBy path_cmp rest
 back_sorted [] rest s = s
 back_sorted (p ∷ front) rest s = back_sorted front rest (sorted_tail path_cmp p (front ++ rest) s)
 
-in_drop : (x : Path) (n : ℕ) (rs : List Row) → among x (paths_of (drop n rs)) ≡ true → among x (paths_of rs) ≡ true
+in_drop : (x : Path) (n : ℕ) (rs : List Row) → among x (paths_of (drop n rs)) ≡ true
+    → among x (paths_of rs) ≡ true
 in_drop x zero rs e = e
 in_drop x (suc n) [] e = e
 in_drop x (suc n) (r ∷ rs) e = or_second (eq_by_cmp path_cmp x r.path.now) _ (in_drop x n rs e)
@@ -117,40 +129,52 @@ one_plus n = omega arith
 first_after : (p x : Path) (xs : List Path) → IsStrictlySortedBy path_cmp (p ∷ x ∷ xs) → path_cmp p x ≡ Less
 first_after p x xs s = behind [] (x ∷ xs) p x s (or_first _ (among x xs) (path_itself x))
 
-none_later : (p x : Path) (xs : List Path) → path_cmp p x ≡ Less → is_over p x ≡ false → IsStrictlySortedBy path_cmp (x ∷ xs) → (z : Path) → among z xs ≡ true → is_over p z ≡ false
-none_later p x xs l away s z e = is_false (is_over p z) (λ o. false≢true (sym away ∙ convex p x z l (behind [] xs x z s e) o))
+none_later : (p x : Path) (xs : List Path) → path_cmp p x ≡ Less → is_over p x ≡ false
+    → IsStrictlySortedBy path_cmp (x ∷ xs) → (z : Path) → among z xs ≡ true → is_over p z ≡ false
+none_later p x xs l away s z e =
+    is_false (is_over p z) (λ o. false≢true (sym away ∙ convex p x z l (behind [] xs x z s e) o))
 
 run : (p : Path) (g : Path → Bool) → ((z : Path) → path_cmp p z ≡ Less → g z ≡ is_over p z) → (rs : List Row)
-    → IsStrictlySortedBy path_cmp (p ∷ paths_of rs) → filter g (paths_of rs) ≡ paths_of (take_while (is_under p) rs)
+    → IsStrictlySortedBy path_cmp (p ∷ paths_of rs)
+    → filter g (paths_of rs) ≡ paths_of (take_while (is_under p) rs)
 run p g same [] s = refl
 run p g same (r ∷ rs) s =
     let x = r.path.now in
     let l = first_after p x (paths_of rs) s in
-    elim (is_over p x) as (λ b. is_over p x ≡ b → filter g (x ∷ paths_of rs) ≡ paths_of (take_while (is_under p) (r ∷ rs))) [
+    elim (is_over p x) as (λ b. is_over p x ≡ b
+    → filter g (x ∷ paths_of rs) ≡ paths_of (take_while (is_under p) (r ∷ rs))) [
       | true ↦ λ e.
           ap (λ b. cond b (x ∷ filter g (paths_of rs)) (filter g (paths_of rs))) (same x l ∙ e)
           ∙ (ap (λ ps. x ∷ ps) (run p g same rs (skip_sorted p x (paths_of rs) s))
-          ∙ sym (ap paths_of (take_while-cons (is_under p) r rs ∙ ap (λ b. cond b (r ∷ take_while (is_under p) rs) []) e)))
+          ∙ sym (ap paths_of
+          (take_while-cons (is_under p) r rs ∙ ap (λ b. cond b (r ∷ take_while (is_under p) rs) []) e)))
       | false ↦ λ e.
           ap (λ b. cond b (x ∷ filter g (paths_of rs)) (filter g (paths_of rs))) (same x l ∙ e)
           ∙ (filter_none g (paths_of rs) (λ z m.
           same z (behind [] (x ∷ paths_of rs) p z s (or_second (eq_by_cmp path_cmp z x) _ m))
           ∙ none_later p x (paths_of rs) l e (sorted_tail path_cmp p (x ∷ paths_of rs) s) z m)
-          ∙ sym (ap paths_of (take_while-cons (is_under p) r rs ∙ ap (λ b. cond b (r ∷ take_while (is_under p) rs) []) e)))
+          ∙ sym (ap paths_of
+          (take_while-cons (is_under p) r rs ∙ ap (λ b. cond b (r ∷ take_while (is_under p) rs) []) e)))
     ] refl
 
-rest_clear : (p : Path) (rs : List Row) → IsStrictlySortedBy path_cmp (p ∷ paths_of rs) → (z : Path) → among z (paths_of (drop (prefix_len (is_under p) rs) rs)) ≡ true → is_over p z ≡ false
+rest_clear : (p : Path) (rs : List Row) → IsStrictlySortedBy path_cmp (p ∷ paths_of rs) → (z : Path)
+    → among z (paths_of (drop (prefix_len (is_under p) rs) rs)) ≡ true → is_over p z ≡ false
 rest_clear p [] s z e = absurd (false≢true e)
 rest_clear p (r ∷ rs) s z e =
     let x = r.path.now in
-    elim (is_over p x) as (λ b. is_over p x ≡ b → among z (paths_of (drop (cond b (1 + prefix_len (is_under p) rs) 0) (r ∷ rs))) ≡ true → is_over p z ≡ false) [
+    elim (is_over p x) as (λ b. is_over p x ≡ b
+    → among z (paths_of (drop (cond b (1 + prefix_len (is_under p) rs) 0) (r ∷ rs))) ≡ true
+    → is_over p z ≡ false) [
       | true ↦ λ o m.
           rest_clear p rs (skip_sorted p x (paths_of rs) s) z
           (ap (λ n. among z (paths_of (drop n (r ∷ rs)))) (sym (one_plus (prefix_len (is_under p) rs))) ∙ m)
       | false ↦ λ o m.
           is_false (is_over p z) (λ u.
-          nowhere z x [] (paths_of rs) (λ k. false≢true k) (λ k. false≢true (sym o ∙ (ap (is_over p) (sym k) ∙ u)))
-          (λ k. false≢true (sym (none_later p x (paths_of rs) (first_after p x (paths_of rs) s) o (sorted_tail path_cmp p (x ∷ paths_of rs) s) z k) ∙ u)) m)
+          nowhere z x [] (paths_of rs) (λ k. false≢true k)
+          (λ k. false≢true (sym o ∙ (ap (is_over p) (sym k) ∙ u)))
+          (λ k. false≢true
+          (sym (none_later p x (paths_of rs) (first_after p x (paths_of rs) s) o
+          (sorted_tail path_cmp p (x ∷ paths_of rs) s) z k) ∙ u)) m)
     ] refl e
 
 and_yes : (b : Bool) → (b && true) ≡ b
@@ -163,10 +187,14 @@ and_no false = refl
 
 below_less : (p z : Path) → path_cmp p z ≡ Less → is_below p z ≡ is_over p z
 below_less p z l =
-    let apart : path_eq p z ≡ false = is_false (path_eq p z) (λ e. let w : path_cmp p p ≡ Less = ap (path_cmp p) (same_paths p z e) ∙ l in not_both p p w w) in
+    let apart : path_eq p z ≡ false =
+    is_false (path_eq p z)
+    (λ e. let w : path_cmp p p ≡ Less = ap (path_cmp p) (same_paths p z e) ∙ l in not_both p p w w) in
     ap (λ b. is_over p z && not b) apart ∙ and_yes (is_over p z)
 
-module _ (V : View) (sorted : IsStrictlySortedBy path_cmp V.paths) (holds : (y : Path) → differs V y ≡ true → among y V.paths ≡ true) (names : (q : Path) → V.reached q ≡ true → 0 < length q) where
+module _ (V : View) (sorted : IsStrictlySortedBy path_cmp V.paths)
+    (holds : (y : Path) → differs V y ≡ true → among y V.paths ≡ true)
+    (names : (q : Path) → V.reached q ≡ true → 0 < length q) where
   pub differs_row : (r : Row) → IsRow V r → differs V r.path.now ≡ is_different r
   differs_row r row =
       ap (λ b. b && not (mark_eq (V.mark Left r.path.now) (V.mark Right r.path.now))) row.reached
@@ -221,7 +249,9 @@ module _ (V : View) (sorted : IsStrictlySortedBy path_cmp V.paths) (holds : (y :
     pub over_first : is_different r ≡ true → item_over V p ≡ Some p
     over_first d =
         elim (item_over V p) as (λ o. item_over V p ≡ o → o ≡ Some p) [
-          | None ↦ λ e. absurd (false≢true (sym (find_none (differs V) p (names p c.rows.0.reached) e) ∙ (differs_row r c.rows.0 ∙ d)))
+          | None ↦ λ e. absurd
+              (false≢true
+              (sym (find_none (differs V) p (names p c.rows.0.reached) e) ∙ (differs_row r c.rows.0 ∙ d)))
           | Some y ↦ λ e. ap (λ z. Some z) (only_itself y e)
         ] refl
 
@@ -229,9 +259,13 @@ module _ (V : View) (sorted : IsStrictlySortedBy path_cmp V.paths) (holds : (y :
     first_item d = item_itself p (over_first d)
 
     front_not : (g : Path → Bool) → ((z : Path) → is_over p z ≡ false → g z ≡ false) → filter g front ≡ []
-    front_not g away = filter_none g front (λ z e. away z (is_false (is_over p z) (λ o. over_not_behind z p (before front (paths_of rs) p z whole e) o)))
+    front_not g away =
+        filter_none g front
+        (λ z e. away z
+        (is_false (is_over p z) (λ o. over_not_behind z p (before front (paths_of rs) p z whole e) o)))
 
-    all_of : (g : Path → Bool) (b : Bool) → g p ≡ b → ((z : Path) → is_over p z ≡ false → g z ≡ false) → ((z : Path) → path_cmp p z ≡ Less → g z ≡ is_over p z)
+    all_of : (g : Path → Bool) (b : Bool) → g p ≡ b → ((z : Path) → is_over p z ≡ false → g z ≡ false)
+        → ((z : Path) → path_cmp p z ≡ Less → g z ≡ is_over p z)
         → filter g V.paths ≡ cond b (p ∷ paths_of tops) (paths_of tops)
     all_of g b e away same =
         ap (filter g) (sym c.paths)
@@ -251,7 +285,9 @@ module _ (V : View) (sorted : IsStrictlySortedBy path_cmp V.paths) (holds : (y :
     -- What is in the block is no other item.
     no_item_in : is_different r ≡ true → (y : Path) → among y (paths_of tops) ≡ true → is_item V y ≡ true → ⊥
     no_item_in d y m is =
-        let two = and_parts (is_below p y) (among y V.paths) (sym (among_filter y (is_below p) V.paths) ∙ (ap (among y) (sym is_below_tops) ∙ m)) in
+        let two =
+        and_parts (is_below p y) (among y V.paths)
+        (sym (among_filter y (is_below p) V.paths) ∙ (ap (among y) (sym is_below_tops) ∙ m)) in
         let parts = and_parts (is_over p y) (not (path_eq p y)) two.0 in
         let same : p ≡ y = same_item V p y y (first_item d) is parts.0 (is_over-reflexive y) in
         false≢true (sym (unnot (path_eq p y) parts.1) ∙ (ap (path_eq p) (sym same) ∙ paths_same p))
@@ -260,17 +296,22 @@ module _ (V : View) (sorted : IsStrictlySortedBy path_cmp V.paths) (holds : (y :
     in_rest x n e = or_second (eq_by_cmp path_cmp x p) _ (in_drop x n rs e)
 
     behind_block : (n : ℕ) → length tops ≡ n → paths_of tops ++ paths_of (drop n rs) ≡ paths_of rs
-    behind_block n e = ap (λ k. paths_of tops ++ paths_of (drop k rs)) (sym e ∙ length-prefix_len f rs) ∙ halves (prefix_len f rs) rs
+    behind_block n e = ap (λ k. paths_of tops ++ paths_of (drop k rs)) (sym e ∙ length-prefix_len f rs)
+        ∙ halves (prefix_len f rs) rs
 
     next_item : is_different r ≡ true → IsCut V (front ++ p ∷ paths_of tops) (drop (length tops) rs)
     next_item d = record {
-      paths = append_assoc front (p ∷ paths_of tops) (paths_of (drop (length tops) rs)) ∙ (ap (λ ps. front ++ p ∷ ps) (behind_block (length tops) refl) ∙ c.paths);
+      paths = append_assoc front (p ∷ paths_of tops) (paths_of (drop (length tops) rs))
+          ∙ (ap (λ ps. front ++ p ∷ ps) (behind_block (length tops) refl) ∙ c.paths);
       rows = drop_rows V (length tops) rs c.rows.1;
       clear = λ y x m is e.
           is_false (is_over y x) (λ o.
           nowhere y p front (paths_of tops)
           (λ k. false≢true (sym (c.clear y x k is (in_rest x (length tops) e)) ∙ o))
-          (λ k. false≢true (sym (rest_clear p rs tail x (ap (λ n. among x (paths_of (drop n rs))) (sym (length-prefix_len f rs)) ∙ e)) ∙ (ap (λ z. is_over z x) (sym k) ∙ o)))
+          (λ k. false≢true
+          (sym (rest_clear p rs tail x
+          (ap (λ n. among x (paths_of (drop n rs))) (sym (length-prefix_len f rs)) ∙ e))
+          ∙ (ap (λ z. is_over z x) (sym k) ∙ o)))
           (λ k. no_item_in d y k is) m);
     }
 
@@ -288,7 +329,8 @@ module _ (V : View) (sorted : IsStrictlySortedBy path_cmp V.paths) (holds : (y :
 
     pub next : IsCut V (front ++ p ∷ paths_of (rows_below r rs)) (drop (length (rows_below r rs)) rs)
     next =
-        elim (is_different r) as (λ b. is_different r ≡ b → IsCut V (front ++ p ∷ paths_of (cond b tops [])) (drop (length (cond b tops [])) rs)) [
+        elim (is_different r) as (λ b. is_different r ≡ b
+        → IsCut V (front ++ p ∷ paths_of (cond b tops [])) (drop (length (cond b tops [])) rs)) [
           | true ↦ λ d. next_item d
           | false ↦ λ d. next_path d
         ] refl

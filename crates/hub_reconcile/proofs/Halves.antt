@@ -29,7 +29,8 @@ rising_step (y ∷ ys) x l e b is holds =
     let many : length (y ∷ ys) - 1 ≡ length ys = omega arith in
     let all : take (length (y ∷ ys) - 1) ys ≡ ys = ap (λ n. take n ys) many ∙ take-length ys in
     let first : is_before y.path.now (told_by ys) ≡ true =
-    ap (λ (z : Look). is_before z.path.now (told_by ys)) (sym e) ∙ (ap (λ zs. is_before x.path.now (told_by zs)) (sym all) ∙ (sym is ∙ holds)) in
+    ap (λ (z : Look). is_before z.path.now (told_by ys)) (sym e)
+    ∙ (ap (λ zs. is_before x.path.now (told_by zs)) (sym all) ∙ (sym is ∙ holds)) in
     ap (λ zs. are_rising (told_by zs)) all
     ∙ sym (rising_front (told y) (told_by ys) ∙ ap (λ b. b && are_rising (told_by ys)) first)
 
@@ -37,7 +38,8 @@ head_of : (xs : List Look) (x : Look) → 0 < length xs → x ≡ slice_index_or
 head_of [] x l e = absurd (omega arith)
 head_of (y ∷ ys) x l e = ap (λ z. z ∷ ys) (sym e)
 
-below_front : (p : Path) (xs ys : List (Path × Sight)) → below_all path_cmp p (xs ++ ys) ≡ true → below_all path_cmp p xs ≡ true
+below_front : (p : Path) (xs ys : List (Path × Sight)) → below_all path_cmp p (xs ++ ys) ≡ true
+    → below_all path_cmp p xs ≡ true
 below_front p [] ys h = refl
 below_front p (x ∷ xs) ys h =
     let two = and_parts (is_lt (path_cmp p x.0)) (below_all path_cmp p (xs ++ ys)) h in
@@ -47,14 +49,17 @@ front_rises : (xs ys : List (Path × Sight)) → are_rising (xs ++ ys) ≡ true 
 front_rises [] ys h = refl
 front_rises (x ∷ xs) ys h =
     let two = and_parts (below_all path_cmp x.0 (xs ++ ys)) (are_rising (xs ++ ys)) h in
-    both_hold (below_all path_cmp x.0 xs) (are_rising xs) (below_front x.0 xs ys two.0) (front_rises xs ys two.1)
+    both_hold (below_all path_cmp x.0 xs) (are_rising xs) (below_front x.0 xs ys two.0)
+    (front_rises xs ys two.1)
 
 back_rises : (xs ys : List (Path × Sight)) → are_rising (xs ++ ys) ≡ true → are_rising ys ≡ true
 back_rises [] ys h = h
-back_rises (x ∷ xs) ys h = back_rises xs ys (and_parts (below_all path_cmp x.0 (xs ++ ys)) (are_rising (xs ++ ys)) h).1
+back_rises (x ∷ xs) ys h =
+    back_rises xs ys (and_parts (below_all path_cmp x.0 (xs ++ ys)) (are_rising (xs ++ ys)) h).1
 
 -- The two parts of Looks that rise.
-module _ (n : ℕ) (looks f b : List Look) (front : f ≡ take n looks) (back : b ≡ drop n looks) (rises : IsTrue (are_rising (told_by looks))) where
+module _ (n : ℕ) (looks f b : List Look) (front : f ≡ take n looks) (back : b ≡ drop n looks)
+    (rises : IsTrue (are_rising (told_by looks))) where
   parts : told_by looks ≡ told_by f ++ told_by b
   parts =
       ap told_by (sym (take-append-drop n looks) ∙ (λ i. sym front i ++ sym back i)) ∙ told-append f b
@@ -72,18 +77,23 @@ module _ (n : ℕ) (looks f b : List Look) (front : f ≡ take n looks) (back : 
     cut : (ys : List Look) → b ≡ t ∷ ys → told_by looks ≡ told_by f ++ told t ∷ told_by ys
     cut ys e = parts ∙ ap (λ zs. told_by f ++ told_by zs) e
 
-    sorted : (ys : List Look) → b ≡ t ∷ ys → IsStrictlySortedBy path_cmp (seen_paths (told_by f ++ told t ∷ told_by ys))
+    sorted : (ys : List Look) → b ≡ t ∷ ys
+        → IsStrictlySortedBy path_cmp (seen_paths (told_by f ++ told t ∷ told_by ys))
     sorted ys e = rising (told_by f ++ told t ∷ told_by ys) (ap are_rising (sym (cut ys e)) ∙ rises)
 
-    pub sight_in_front : is_lt (path_cmp p t.path.now) ≡ true → sight_in (told_by f) p ≡ sight_in (told_by looks) p
+    pub sight_in_front : is_lt (path_cmp p t.path.now) ≡ true
+        → sight_in (told_by f) p ≡ sight_in (told_by looks) p
     sight_in_front l =
         let e = head_of b t some first in
         sym (ap (λ ss. sight_in ss p) (cut (drop 1 b) e)
-        ∙ in_front p (told_by f) (told t) (told_by (drop 1 b)) (sorted (drop 1 b) e) (lt_less (path_cmp p t.path.now) l))
+        ∙ in_front p (told_by f) (told t) (told_by (drop 1 b)) (sorted (drop 1 b) e)
+        (lt_less (path_cmp p t.path.now) l))
 
-    pub sight_in_back : is_lt (path_cmp p t.path.now) ≡ false → sight_in (told_by b) p ≡ sight_in (told_by looks) p
+    pub sight_in_back : is_lt (path_cmp p t.path.now) ≡ false
+        → sight_in (told_by b) p ≡ sight_in (told_by looks) p
     sight_in_back l =
         let e = head_of b t some first in
         ap (λ zs. sight_in (told_by zs) p) e
         ∙ sym (ap (λ ss. sight_in ss p) (cut (drop 1 b) e)
-        ∙ from_back p (told_by f) (told t) (told_by (drop 1 b)) (sorted (drop 1 b) e) (path_cmp p t.path.now) refl l)
+        ∙ from_back p (told_by f) (told t) (told_by (drop 1 b)) (sorted (drop 1 b) e)
+        (path_cmp p t.path.now) refl l)

@@ -31,34 +31,46 @@ use Rattle.hub_reconcile.proofs.Lows.{IsLow, IsLeastFirst, least_firsts, nothing
 use Rattle.hub_reconcile.proofs.Views.{is_false, or_first, or_second, same_paths, paths_same, reached_names}
 
 -- Sights of paths behind a path don't tell of it.
-pub none_seen : (p : Path) (ss : List (Path × Sight)) → ((q : Path) → among q (seen_paths ss) ≡ true → path_cmp p q ≡ Less) → sight_in ss p ≡ nothing
+pub none_seen : (p : Path) (ss : List (Path × Sight))
+    → ((q : Path) → among q (seen_paths ss) ≡ true → path_cmp p q ≡ Less) → sight_in ss p ≡ nothing
 none_seen p [] h = refl
 none_seen p (s ∷ ss) h =
     let l : path_cmp p s.0 ≡ Less = h s.0 (or_first _ (among s.0 (seen_paths ss)) (path_itself s.0)) in
-    let apart : path_eq s.0 p ≡ false = is_false (path_eq s.0 p) (λ e. let w : path_cmp p p ≡ Less = ap (path_cmp p) (sym (same_paths s.0 p e)) ∙ l in not_both p p w w) in
-    ap (λ b. cond b s.1 (sight_in ss p)) apart ∙ none_seen p ss (λ q e. h q (or_second (eq_by_cmp path_cmp q s.0) _ e))
+    let apart : path_eq s.0 p ≡ false =
+    is_false (path_eq s.0 p)
+    (λ e. let w : path_cmp p p ≡ Less = ap (path_cmp p) (sym (same_paths s.0 p e)) ∙ l in
+    not_both p p w w) in
+    ap (λ b. cond b s.1 (sight_in ss p)) apart
+    ∙ none_seen p ss (λ q e. h q (or_second (eq_by_cmp path_cmp q s.0) _ e))
 
-pub front_is : (ss : List (Path × Sight)) (p : Path) → IsStrictlySortedBy path_cmp (seen_paths ss) → IsLow p (first_of (seen_paths ss)) → front_sight p ss ≡ sight_in ss p
+pub front_is : (ss : List (Path × Sight)) (p : Path) → IsStrictlySortedBy path_cmp (seen_paths ss)
+    → IsLow p (first_of (seen_paths ss)) → front_sight p ss ≡ sight_in ss p
 front_is [] p s low = refl
 front_is (x ∷ xs) p s low =
     elim (path_eq x.0 p) as (λ b. path_eq x.0 p ≡ b → cond b x.1 nothing ≡ cond b x.1 (sight_in xs p)) [
       | true ↦ λ e. refl
       | false ↦ λ e.
-          let l : path_cmp p x.0 ≡ Less = ⊎_elim (λ k. absurd (false≢true (sym e ∙ (ap (λ z. path_eq z p) k ∙ paths_same p)))) (λ k. k) low in
+          let l : path_cmp p x.0 ≡ Less =
+          ⊎_elim (λ k. absurd (false≢true (sym e ∙ (ap (λ z. path_eq z p) k ∙ paths_same p)))) (λ k. k)
+          low in
           sym (none_seen p xs (λ q m. path_cmp-total.trans p x.0 q l (behind [] (seen_paths xs) x.0 q s m)))
     ] refl
 
 pub past_seen : (p : Path) (ss : List (Path × Sight)) → seen_paths (past_sight p ss) ≡ past p (seen_paths ss)
 past_seen p [] = refl
-past_seen p (s ∷ ss) = elim (path_eq s.0 p) as (λ b. seen_paths (cond b ss (s ∷ ss)) ≡ cond b (seen_paths ss) (seen_paths (s ∷ ss))) [ true ↦ refl | false ↦ refl ]
+past_seen p (s ∷ ss) =
+    elim (path_eq s.0 p) as (λ b. seen_paths (cond b ss (s ∷ ss))
+    ≡ cond b (seen_paths ss) (seen_paths (s ∷ ss))) [ true ↦ refl | false ↦ refl ]
 
-skip_sight : (p q : Path) (ss : List (Path × Sight)) → path_cmp p q ≡ Less → sight_in ss q ≡ sight_in (past_sight p ss) q
+skip_sight : (p q : Path) (ss : List (Path × Sight)) → path_cmp p q ≡ Less
+    → sight_in ss q ≡ sight_in (past_sight p ss) q
 skip_sight p q [] l = refl
 skip_sight p q (s ∷ ss) l =
     elim (path_eq s.0 p) as (λ b. path_eq s.0 p ≡ b → sight_in (s ∷ ss) q ≡ sight_in (cond b ss (s ∷ ss)) q) [
       | true ↦ λ e.
           let apart : path_eq s.0 q ≡ false = is_false (path_eq s.0 q) (λ h.
-          let w : path_cmp p p ≡ Less = ap (path_cmp p) (sym (same_paths s.0 p e) ∙ same_paths s.0 q h) ∙ l in not_both p p w w) in
+          let w : path_cmp p p ≡ Less = ap (path_cmp p) (sym (same_paths s.0 p e) ∙ same_paths s.0 q h)
+          ∙ l in not_both p p w w) in
           ap (λ b. cond b s.1 (sight_in ss q)) apart
       | false ↦ λ e. refl
     ] refl
@@ -74,18 +86,21 @@ and_no : (b : Bool) → (b && false) ≡ false
 and_no true = refl
 and_no false = refl
 
-paths-append : (rows : List Row) (row : Row) → paths_of (rows ++ row ∷ []) ≡ paths_of rows ++ row.path.now ∷ []
+paths-append : (rows : List Row) (row : Row)
+    → paths_of (rows ++ row ∷ []) ≡ paths_of rows ++ row.path.now ∷ []
 paths-append [] row = refl
 paths-append (r ∷ rows) row = ap (λ ps. r.path.now ∷ ps) (paths-append rows row)
 
-rows-append : (V : View) (rows : List Row) (row : Row) → AreRows V rows → IsRow V row → AreRows V (rows ++ row ∷ [])
+rows-append : (V : View) (rows : List Row) (row : Row) → AreRows V rows → IsRow V row
+    → AreRows V (rows ++ row ∷ [])
 rows-append V [] row a is = (is, tt)
 rows-append V (r ∷ rows) row a is = (a.0, rows-append V rows row a.1 is)
 
 T_of : (b : Bool) → b ≡ true → T b
 T_of b e = subst T (sym e) tt
 
-pub rising : (ss : List (Path × Sight)) → IsTrue (is_sorted path_cmp ss) → IsStrictlySortedBy path_cmp (seen_paths ss)
+pub rising : (ss : List (Path × Sight)) → IsTrue (is_sorted path_cmp ss)
+    → IsStrictlySortedBy path_cmp (seen_paths ss)
 rising ss h = sorted_keys path_cmp ss (T_of (is_sorted path_cmp ss) h)
 
 abbrev pub picture_view : Parts → Archive → (L R : List (Path × Sight)) → View
@@ -95,13 +110,16 @@ abbrev pub counts_in : Parts → Archive → (L R : List (Path × Sight)) → Pa
 counts_in P O L R q = counts (reach P) (picture_view P O L R).mark (picture_view P O L R).old q
 
 -- The rows are those of the paths that are done; what is left are the Looks and the paths behind them.
-pub record IsMerged (P : Parts) (O : Archive) (L R : List (Path × Sight)) (rs : List Row) (l r : List (Path × Sight)) (o : List Path) : Type 0 where
+pub record IsMerged (P : Parts) (O : Archive) (L R : List (Path × Sight)) (rs : List Row)
+    (l r : List (Path × Sight)) (o : List Path) : Type 0 where
   pub done : List Path
-  pub paths : done ++ ascending (three (seen_paths l) (seen_paths r) o) ≡ ascending (three (seen_paths L) (seen_paths R) (fin.keys O))
+  pub paths : done ++ ascending (three (seen_paths l) (seen_paths r) o)
+      ≡ ascending (three (seen_paths L) (seen_paths R) (fin.keys O))
   pub made : paths_of rs ≡ filter (counts_in P O L R) done
   pub are : AreRows (picture_view P O L R) rs
   pub left : (q : Path) → among q (three (seen_paths l) (seen_paths r) o) ≡ true → sight_in L q ≡ sight_in l q
-  pub right : (q : Path) → among q (three (seen_paths l) (seen_paths r) o) ≡ true → sight_in R q ≡ sight_in r q
+  pub right : (q : Path) → among q (three (seen_paths l) (seen_paths r) o) ≡ true
+      → sight_in R q ≡ sight_in r q
   pub left_rises : IsStrictlySortedBy path_cmp (seen_paths l)
   pub right_rises : IsStrictlySortedBy path_cmp (seen_paths r)
   pub old_rises : IsStrictlySortedBy path_cmp o
@@ -113,7 +131,8 @@ module _ (P : Parts) (O : Archive) (L R : List (Path × Sight)) where
   abbrev does_count : Path → Bool
   does_count q = counts_in P O L R q
 
-  pub merge_start : IsTrue (is_sorted path_cmp L) → IsTrue (is_sorted path_cmp R) → IsMerged P O L R [] L R (fin.keys O)
+  pub merge_start : IsTrue (is_sorted path_cmp L) → IsTrue (is_sorted path_cmp R)
+      → IsMerged P O L R [] L R (fin.keys O)
   merge_start hl hr = record {
     done = [];
     paths = refl;
@@ -126,17 +145,22 @@ module _ (P : Parts) (O : Archive) (L R : List (Path × Sight)) where
     old_rises = sorted_keys path_cmp (fin.entries O) (fin.entries_sorted O);
   }
 
-  pub merge_end : (rows : List Row) (l r : List (Path × Sight)) (o : List Path) → IsMerged P O L R rows l r o → least_first (seen_paths l) (seen_paths r) o ≡ None → IsTable V rows
+  pub merge_end : (rows : List Row) (l r : List (Path × Sight)) (o : List Path)
+      → IsMerged P O L R rows l r o → least_first (seen_paths l) (seen_paths r) o ≡ None → IsTable V rows
   merge_end rows l r o m e =
       let none = nothing_left (seen_paths l) (seen_paths r) o e in
       let all : m.done ≡ ascending (three (seen_paths L) (seen_paths R) (fin.keys O)) =
-      sym (append-nil m.done) ∙ ((λ i. m.done ++ ascending (three (sym none.0 i) (sym none.1 i) (sym none.2 i))) ∙ m.paths) in
+      sym (append-nil m.done)
+      ∙ ((λ i. m.done ++ ascending (three (sym none.0 i) (sym none.1 i) (sym none.2 i))) ∙ m.paths) in
       record { paths = m.made ∙ ap (filter does_count) all; rows = m.are }
 
   -- One more path.
-  module _ (rows : List Row) (l r : List (Path × Sight)) (o : List Path) (m : IsMerged P O L R rows l r o) (row : Row)
+  module _ (rows : List Row) (l r : List (Path × Sight)) (o : List Path) (m : IsMerged P O L R rows l r o)
+      (row : Row)
       (least : least_first (seen_paths l) (seen_paths r) o ≡ Some row.path.now)
-      (seen_left : IsSeen (front_sight row.path.now l) row.left) (seen_right : IsSeen (front_sight row.path.now r) row.right) (old : row.old ≡ old_mark_at O row.path.now) where
+      (seen_left : IsSeen (front_sight row.path.now l) row.left)
+      (seen_right : IsSeen (front_sight row.path.now r) row.right)
+      (old : row.old ≡ old_mark_at O row.path.now) where
     abbrev p : Path
     p = row.path.now
 
@@ -188,19 +212,26 @@ module _ (P : Parts) (O : Archive) (L R : List (Path × Sight)) where
     abbrev rest : List Path
     rest = three (past p (seen_paths l)) (past p (seen_paths r)) (past p o)
 
-    next_paths : (m.done ++ p ∷ []) ++ ascending rest ≡ ascending (three (seen_paths L) (seen_paths R) (fin.keys O))
+    next_paths : (m.done ++ p ∷ []) ++ ascending rest
+        ≡ ascending (three (seen_paths L) (seen_paths R) (fin.keys O))
     next_paths =
         append_assoc m.done (p ∷ []) (ascending rest)
-        ∙ (ap (λ ps. m.done ++ ps) (sym (least_next (seen_paths l) (seen_paths r) o p m.left_rises m.right_rises m.old_rises w)) ∙ m.paths)
+        ∙ (ap (λ ps. m.done ++ ps)
+        (sym (least_next (seen_paths l) (seen_paths r) o p m.left_rises m.right_rises m.old_rises w))
+        ∙ m.paths)
 
     same_rest : three (seen_paths (past_sight p l)) (seen_paths (past_sight p r)) (past p o) ≡ rest
     same_rest = λ i. three (past_seen p l i) (past_seen p r i) (past p o)
 
-    later : (q : Path) → among q (three (seen_paths (past_sight p l)) (seen_paths (past_sight p r)) (past p o)) ≡ true
+    later : (q : Path)
+        → among q (three (seen_paths (past_sight p l)) (seen_paths (past_sight p r)) (past p o)) ≡ true
         → (among q (three (seen_paths l) (seen_paths r) o) ≡ true) × (path_cmp p q ≡ Less)
-    later q e = later_three (seen_paths l) (seen_paths r) o p m.left_rises m.right_rises m.old_rises w q (ap (among q) (sym same_rest) ∙ e)
+    later q e =
+        later_three (seen_paths l) (seen_paths r) o p m.left_rises m.right_rises m.old_rises w q
+        (ap (among q) (sym same_rest) ∙ e)
 
-    next_of : (more : List Row) → paths_of more ≡ filter does_count (m.done ++ p ∷ []) → AreRows V more → IsMerged P O L R more (past_sight p l) (past_sight p r) (past p o)
+    next_of : (more : List Row) → paths_of more ≡ filter does_count (m.done ++ p ∷ []) → AreRows V more
+        → IsMerged P O L R more (past_sight p l) (past_sight p r) (past p o)
     next_of more is_made they_are = record {
       done = m.done ++ p ∷ [];
       paths = ap (λ ps. (m.done ++ p ∷ []) ++ ascending ps) same_rest ∙ next_paths;
@@ -208,20 +239,30 @@ module _ (P : Parts) (O : Archive) (L R : List (Path × Sight)) where
       are = they_are;
       left = λ q e. let v = later q e in m.left q v.0 ∙ skip_sight p q l v.1;
       right = λ q e. let v = later q e in m.right q v.0 ∙ skip_sight p q r v.1;
-      left_rises = subst (λ (ps : List Path). IsStrictlySortedBy path_cmp ps) (sym (past_seen p l)) (past_sorted (seen_paths l) p m.left_rises);
-      right_rises = subst (λ (ps : List Path). IsStrictlySortedBy path_cmp ps) (sym (past_seen p r)) (past_sorted (seen_paths r) p m.right_rises);
+      left_rises =
+          subst (λ (ps : List Path). IsStrictlySortedBy path_cmp ps) (sym (past_seen p l))
+          (past_sorted (seen_paths l) p m.left_rises);
+      right_rises =
+          subst (λ (ps : List Path). IsStrictlySortedBy path_cmp ps) (sym (past_seen p r))
+          (past_sorted (seen_paths r) p m.right_rises);
       old_rises = past_sorted o p m.old_rises;
     }
 
-    made_by : (b : Bool) → does_count p ≡ b → filter does_count (m.done ++ p ∷ []) ≡ filter does_count m.done ++ cond b (p ∷ []) []
-    made_by b e = filter-append does_count m.done (p ∷ []) ∙ ap (λ b. filter does_count m.done ++ cond b (p ∷ []) []) e
+    made_by : (b : Bool) → does_count p ≡ b
+        → filter does_count (m.done ++ p ∷ []) ≡ filter does_count m.done ++ cond b (p ∷ []) []
+    made_by b e = filter-append does_count m.done (p ∷ [])
+        ∙ ap (λ b. filter does_count m.done ++ cond b (p ∷ []) []) e
 
-    pub merge_kept : (is_anywhere row && reach P p) ≡ true → IsMerged P O L R (rows ++ row ∷ []) (past_sight p l) (past_sight p r) (past p o)
+    pub merge_kept : (is_anywhere row && reach P p) ≡ true
+        → IsMerged P O L R (rows ++ row ∷ []) (past_sight p l) (past_sight p r) (past p o)
     merge_kept h =
         let two = and_parts (is_anywhere row) (reach P p) h in
         next_of (rows ++ row ∷ [])
         (paths-append rows row ∙ (ap (λ ps. ps ++ p ∷ []) m.made ∙ sym (made_by true (counted ∙ h))))
         (rows-append V rows row m.are (row_is two.1))
 
-    pub merge_skipped : (is_anywhere row && reach P p) ≡ false → IsMerged P O L R rows (past_sight p l) (past_sight p r) (past p o)
-    merge_skipped h = next_of rows (m.made ∙ (sym (append-nil (filter does_count m.done)) ∙ sym (made_by false (counted ∙ h)))) m.are
+    pub merge_skipped : (is_anywhere row && reach P p) ≡ false
+        → IsMerged P O L R rows (past_sight p l) (past_sight p r) (past p o)
+    merge_skipped h =
+        next_of rows
+        (m.made ∙ (sym (append-nil (filter does_count m.done)) ∙ sym (made_by false (counted ∙ h)))) m.are

@@ -24,7 +24,8 @@ lesser_one : (a b : Option Path) (p : Path) → lesser a b ≡ Some p → (a ≡
 lesser_one None b p e = inr e
 lesser_one (Some x) None p e = inl e
 lesser_one (Some x) (Some y) p e =
-    elim (is_lt (path_cmp y x)) as (λ b. cond b (Some y) (Some x) ≡ Some p → (Some x ≡ Some p) ⊎ (Some y ≡ Some p)) [
+    elim (is_lt (path_cmp y x)) as (λ b. cond b (Some y) (Some x) ≡ Some p
+    → (Some x ≡ Some p) ⊎ (Some y ≡ Some p)) [
       | true ↦ λ h. inr h
       | false ↦ λ h. inl h
     ] e
@@ -32,7 +33,10 @@ lesser_one (Some x) (Some y) p e =
 past_no_longer : (p : Path) (ps : List Path) → length (past p ps) ≤ length ps
 past_no_longer p [] = omega arith
 past_no_longer p (x ∷ xs) =
-    elim (path_eq x p) as (λ b. length (cond b xs (x ∷ xs)) ≤ length (x ∷ xs)) [ true ↦ omega arith | false ↦ omega arith ]
+    elim (path_eq x p) as (λ b. length (cond b xs (x ∷ xs)) ≤ length (x ∷ xs)) [
+      | true ↦ omega arith
+      | false ↦ omega arith
+    ]
 
 past_shorter : (p : Path) (ps : List Path) → first_of ps ≡ Some p → length (past p ps) < length ps
 past_shorter p [] e = cc
@@ -61,13 +65,18 @@ seen_length : (ss : List (Path × Sight)) → length (seen_paths ss) ≡ length 
 seen_length ss = length-map ss (λ s. s.0)
 
 told_length : (ls : List Look) → length (seen_paths (told_by ls)) ≡ length ls
-told_length ls = seen_length (told_by ls) ∙ length-map ls (λ l. (l.path.now, record { mark = l.mark; names = l.names.now; others = l.others }))
+told_length ls = seen_length (told_by ls)
+    ∙ length-map ls (λ l. (l.path.now, record { mark = l.mark; names = l.names.now; others = l.others }))
 
-passed_length : (ls more : List Look) (p : Path) → told_by more ≡ past_sight p (told_by ls) → length more ≡ length (past p (seen_paths (told_by ls)))
-passed_length ls more p e = sym (told_length more) ∙ ap (λ ss. length (seen_paths ss)) e ∙ ap length (past_seen p (told_by ls))
+passed_length : (ls more : List Look) (p : Path) → told_by more ≡ past_sight p (told_by ls)
+    → length more ≡ length (past p (seen_paths (told_by ls)))
+passed_length ls more p e = sym (told_length more) ∙ ap (λ ss. length (seen_paths ss)) e
+    ∙ ap length (past_seen p (told_by ls))
 
-pub fewer : (ls rs : List Look) (os : List Path) (p : Path) → least_first (seen_paths (told_by ls)) (seen_paths (told_by rs)) os ≡ Some p
-    → (ls2 rs2 : List Look) (os2 : List Path) → told_by ls2 ≡ past_sight p (told_by ls) → told_by rs2 ≡ past_sight p (told_by rs) → os2 ≡ past p os
+pub fewer : (ls rs : List Look) (os : List Path) (p : Path)
+    → least_first (seen_paths (told_by ls)) (seen_paths (told_by rs)) os ≡ Some p
+    → (ls2 rs2 : List Look) (os2 : List Path) → told_by ls2 ≡ past_sight p (told_by ls)
+    → told_by rs2 ≡ past_sight p (told_by rs) → os2 ≡ past p os
     → length ls2 + length rs2 + length os2 < length ls + length rs + length os
 fewer ls rs os p e ls2 rs2 os2 el er eo =
     let all = fewer_paths (seen_paths (told_by ls)) (seen_paths (told_by rs)) os p e in
@@ -79,7 +88,8 @@ fewer ls rs os p e ls2 rs2 os2 el er eo =
     omega (arith, all, a, b, c, x, y)
 
 module _ (P : Parts) (O : Archive) (L R : List (Path × Sight)) where
-  same_merged : (rs rs2 : List Row) (l l2 r r2 : List (Path × Sight)) (o o2 : List Path) → rs2 ≡ rs → l2 ≡ l → r2 ≡ r → o2 ≡ o
+  same_merged : (rs rs2 : List Row) (l l2 r r2 : List (Path × Sight)) (o o2 : List Path) → rs2 ≡ rs → l2 ≡ l
+      → r2 ≡ r → o2 ≡ o
       → IsMerged P O L R rs l r o → IsMerged P O L R rs2 l2 r2 o2
   same_merged rs rs2 l l2 r r2 o o2 ers el er eo m =
       subst (λ (x : List Row). IsMerged P O L R x l2 r2 o2) (sym ers)
@@ -87,14 +97,19 @@ module _ (P : Parts) (O : Archive) (L R : List (Path × Sight)) where
       (subst (λ (x : List (Path × Sight)). IsMerged P O L R rs l x o2) (sym er)
       (subst (λ (x : List Path). IsMerged P O L R rs l r x) (sym eo) m)))
 
-  pub start_on : (rs : List Row) (l r : List (Path × Sight)) (o : List Path) → rs ≡ [] → l ≡ L → r ≡ R → o ≡ fin.keys O
+  pub start_on : (rs : List Row) (l r : List (Path × Sight)) (o : List Path) → rs ≡ [] → l ≡ L → r ≡ R
+      → o ≡ fin.keys O
       → IsTrue (is_sorted path_cmp L) → IsTrue (is_sorted path_cmp R) → IsMerged P O L R rs l r o
-  start_on rs l r o ers el er eo hl hr = same_merged [] rs L l R r (fin.keys O) o ers el er eo (merge_start P O L R hl hr)
+  start_on rs l r o ers el er eo hl hr =
+      same_merged [] rs L l R r (fin.keys O) o ers el er eo (merge_start P O L R hl hr)
 
-  module _ (rows : List Row) (l r : List (Path × Sight)) (o : List Path) (m : IsMerged P O L R rows l r o) (row : Row) (q : Path) (same : row.path.now ≡ q)
+  module _ (rows : List Row) (l r : List (Path × Sight)) (o : List Path) (m : IsMerged P O L R rows l r o)
+      (row : Row) (q : Path) (same : row.path.now ≡ q)
       (least : least_first (seen_paths l) (seen_paths r) o ≡ Some q)
-      (seen_left : IsSeen (front_sight q l) row.left) (seen_right : IsSeen (front_sight q r) row.right) (old : row.old ≡ old_mark_at O q)
-      (more : List Row) (l2 r2 : List (Path × Sight)) (o2 : List Path) (el : l2 ≡ past_sight q l) (er : r2 ≡ past_sight q r) (eo : o2 ≡ past q o) where
+      (seen_left : IsSeen (front_sight q l) row.left) (seen_right : IsSeen (front_sight q r) row.right)
+      (old : row.old ≡ old_mark_at O q)
+      (more : List Row) (l2 r2 : List (Path × Sight)) (o2 : List Path) (el : l2 ≡ past_sight q l)
+      (er : r2 ≡ past_sight q r) (eo : o2 ≡ past q o) where
     own_least : least_first (seen_paths l) (seen_paths r) o ≡ Some row.path.now
     own_least = least ∙ ap (λ z. Some z) (sym same)
 
@@ -107,13 +122,22 @@ module _ (P : Parts) (O : Archive) (L R : List (Path × Sight)) where
     own_old : row.old ≡ old_mark_at O row.path.now
     own_old = old ∙ ap (old_mark_at O) (sym same)
 
-    onto : (rs : List Row) → more ≡ rs → IsMerged P O L R rs (past_sight row.path.now l) (past_sight row.path.now r) (past row.path.now o) → IsMerged P O L R more l2 r2 o2
+    onto : (rs : List Row) → more ≡ rs
+        → IsMerged P O L R rs (past_sight row.path.now l) (past_sight row.path.now r) (past row.path.now o)
+        → IsMerged P O L R more l2 r2 o2
     onto rs e n =
-        same_merged rs more (past_sight row.path.now l) l2 (past_sight row.path.now r) r2 (past row.path.now o) o2 e
-        (el ∙ ap (λ z. past_sight z l) (sym same)) (er ∙ ap (λ z. past_sight z r) (sym same)) (eo ∙ ap (λ z. past z o) (sym same)) n
+        same_merged rs more (past_sight row.path.now l) l2 (past_sight row.path.now r) r2
+        (past row.path.now o) o2 e
+        (el ∙ ap (λ z. past_sight z l) (sym same)) (er ∙ ap (λ z. past_sight z r) (sym same))
+        (eo ∙ ap (λ z. past z o) (sym same)) n
 
-    pub kept_on : (is_anywhere row && reach P row.path.now) ≡ true → more ≡ rows ++ row ∷ [] → IsMerged P O L R more l2 r2 o2
-    kept_on h e = onto (rows ++ row ∷ []) e (merge_kept P O L R rows l r o m row own_least own_left own_right own_old h)
+    pub kept_on : (is_anywhere row && reach P row.path.now) ≡ true → more ≡ rows ++ row ∷ []
+        → IsMerged P O L R more l2 r2 o2
+    kept_on h e =
+        onto (rows ++ row ∷ []) e
+        (merge_kept P O L R rows l r o m row own_least own_left own_right own_old h)
 
-    pub skipped_on : (is_anywhere row && reach P row.path.now) ≡ false → more ≡ rows → IsMerged P O L R more l2 r2 o2
-    skipped_on h e = onto rows e (merge_skipped P O L R rows l r o m row own_least own_left own_right own_old h)
+    pub skipped_on : (is_anywhere row && reach P row.path.now) ≡ false → more ≡ rows
+        → IsMerged P O L R more l2 r2 o2
+    skipped_on h e =
+        onto rows e (merge_skipped P O L R rows l r o m row own_least own_left own_right own_old h)

@@ -51,8 +51,10 @@ module _ (picture : Picture) where
     pub tops_all : paths_of (r ∷ tops) ≡ at_and_below V r.path.now
     tops_all = is_all_tops V sorted holds named front r rs c
 
-    pub item_fated : (f : Fate) → is_different r ≡ true → fate V r.path.now ≡ f → IsFated V r.path.now (paths_of tops) (Some f)
+    pub item_fated : (f : Fate) → is_different r ≡ true → fate V r.path.now ≡ f
+        → IsFated V r.path.now (paths_of tops) (Some f)
     item_fated f d e = (tops_below, first_item V sorted holds named front r rs c d, e)
 
-    pub next_cut : IsCut V (front ++ r.path.now ∷ paths_of (rows_below r rs)) (drop (length (rows_below r rs)) rs)
+    pub next_cut : IsCut V (front ++ r.path.now ∷ paths_of (rows_below r rs))
+        (drop (length (rows_below r rs)) rs)
     next_cut = next V sorted holds named front r rs c

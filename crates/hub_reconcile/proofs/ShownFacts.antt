@@ -25,10 +25,12 @@ use Rattle.hub_reconcile.proofs.Ascend.{ascending_sorted, among_ascending}
 use Rattle.hub_reconcile.proofs.Views.{both_hold, or_first, or_second, same_paths, reached_names}
 
 -- A path that has a mark has a Look.
-pub sight_there : (y : Path) (ss : List (Path × Sight)) → is_present (sight_in ss y).mark ≡ true → among y (map (λ s. s.0) ss) ≡ true
+pub sight_there : (y : Path) (ss : List (Path × Sight)) → is_present (sight_in ss y).mark ≡ true
+    → among y (map (λ s. s.0) ss) ≡ true
 sight_there y [] h = absurd (false≢true h)
 sight_there y (s ∷ ss) h =
-    elim (path_eq s.0 y) as (λ b. path_eq s.0 y ≡ b → is_present (cond b s.1 (sight_in ss y)).mark ≡ true → among y (s.0 ∷ map (λ s. s.0) ss) ≡ true) [
+    elim (path_eq s.0 y) as (λ b. path_eq s.0 y ≡ b → is_present (cond b s.1 (sight_in ss y)).mark ≡ true
+    → among y (s.0 ∷ map (λ s. s.0) ss) ≡ true) [
       | true ↦ λ e g. or_first _ _ (ap (eq_by_cmp path_cmp y) (same_paths s.0 y e) ∙ path_itself y)
       | false ↦ λ e g. or_second (eq_by_cmp path_cmp y s.0) _ (sight_there y ss g)
     ] refl h
@@ -55,11 +57,14 @@ module _ (P : Parts) (O : Archive) (seen : Side → List (Path × Sight)) where
   does_count q = counts (reach P) V.mark V.old q
 
   pub shown_sorted : IsStrictlySortedBy path_cmp V.paths
-  shown_sorted = IsStrictlySortedBy-filter path_cmp does_count (ascending all_paths) (ascending_sorted all_paths)
+  shown_sorted =
+      IsStrictlySortedBy-filter path_cmp does_count (ascending all_paths) (ascending_sorted all_paths)
 
   mark_there : (k : Side) (y : Path) → is_present (V.mark k y) ≡ true → among y (seen_at k) ≡ true
   mark_there k [] h = absurd (false≢true h)
-  mark_there k (n ∷ y) h = sight_there (n ∷ y) (seen k) (ap (λ b. is_present (cond b mark.Absent (sight_in (seen k) (n ∷ y)).mark)) (sym (one_kid n y)) ∙ h)
+  mark_there k (n ∷ y) h =
+      sight_there (n ∷ y) (seen k)
+      (ap (λ b. is_present (cond b mark.Absent (sight_in (seen k) (n ∷ y)).mark)) (sym (one_kid n y)) ∙ h)
 
   in_all : (k : Side) (y : Path) → among y (seen_at k) ≡ true → among y all_paths ≡ true
   in_all Left y e =
@@ -67,9 +72,12 @@ module _ (P : Parts) (O : Archive) (seen : Side → List (Path × Sight)) where
       ∙ or_first _ _ (list_any-append (eq_by_cmp path_cmp y) (seen_at Left) (seen_at Right) ∙ or_first _ _ e)
   in_all Right y e =
       list_any-append (eq_by_cmp path_cmp y) (seen_at Left ++ seen_at Right) (fin.keys O)
-      ∙ or_first _ _ (list_any-append (eq_by_cmp path_cmp y) (seen_at Left) (seen_at Right) ∙ or_second (among y (seen_at Left)) _ e)
+      ∙ or_first _ _
+      (list_any-append (eq_by_cmp path_cmp y) (seen_at Left) (seen_at Right)
+      ∙ or_second (among y (seen_at Left)) _ e)
 
-  either_there : (y : Path) (a b : Bool) → is_present (V.mark Left y) ≡ a → is_present (V.mark Right y) ≡ b → (a || b) ≡ true → among y all_paths ≡ true
+  either_there : (y : Path) (a b : Bool) → is_present (V.mark Left y) ≡ a → is_present (V.mark Right y) ≡ b
+      → (a || b) ≡ true → among y all_paths ≡ true
   either_there y true b e f h = in_all Left y (mark_there Left y e)
   either_there y false true e f h = in_all Right y (mark_there Right y f)
   either_there y false false e f h = absurd (false≢true h)
@@ -81,7 +89,8 @@ module _ (P : Parts) (O : Archive) (seen : Side → List (Path × Sight)) where
       let there = one_is_there (V.mark Left y) (V.mark Right y) two.1 in
       among_filter y does_count (ascending all_paths)
       ∙ both_hold (does_count y) _ (both_hold (reach P y) _ two.0 (or_first _ _ there))
-      (among_ascending y all_paths ∙ either_there y (is_present (V.mark Left y)) (is_present (V.mark Right y)) refl refl there)
+      (among_ascending y all_paths
+      ∙ either_there y (is_present (V.mark Left y)) (is_present (V.mark Right y)) refl refl there)
 
   pub shown_names : (q : Path) → V.reached q ≡ true → 0 < length q
   shown_names q h = reached_names P q h

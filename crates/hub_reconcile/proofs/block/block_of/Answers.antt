@@ -10,7 +10,9 @@ returns-then-not-differs-clause-block c =
     let e = c.if-not-differs.true in
     record {
       rows = (c.requires.1.rows.0, tt);
-      fated = plain_fated c.args.picture.now c.requires.0 c.args.first.now c.args.after.now c.requires.1 (sym c.differs.ensures ∙ e);
+      fated =
+          plain_fated c.args.picture.now c.requires.0 c.args.first.now c.args.after.now c.requires.1
+          (sym c.differs.ensures ∙ e);
     }
 
 pub fate_of-requires-clause-below : goal.fate_of-requires-clause-below
@@ -25,7 +27,8 @@ fate_of-requires-clause-whole c =
 
 pub fate_of-requires-clause-rows : goal.fate_of-requires-clause-rows
 fate_of-requires-clause-rows c =
-    subst (λ n. AreRows (shown c.args.picture.now) (c.args.first.now ∷ take n c.args.after.now)) (sym c.count_below.ensures)
+    subst (λ n. AreRows (shown c.args.picture.now) (c.args.first.now ∷ take n c.args.after.now))
+    (sym c.count_below.ensures)
     (tops_rows c.args.picture.now c.requires.0 c.args.first.now c.args.after.now c.requires.1)
 
 pub returns-clause-block : goal.returns-clause-block
@@ -35,7 +38,12 @@ returns-clause-block c =
     let rs = c.args.after.now in
     let d : is_different r ≡ true = sym c.differs.ensures ∙ c.if-not-differs.false in
     record {
-      rows = subst (λ n. AreRows (shown V) (r ∷ take n rs)) (sym c.count_below.ensures) (tops_rows V c.requires.0 r rs c.requires.1);
-      fated = subst (λ (n : ℕ). IsFated (shown V) r.path.now (paths_of (take n rs)) (Some c.in_ok-fate_of.field-0)) (sym c.count_below.ensures)
-          (item_fated V c.requires.0 r rs c.requires.1 c.in_ok-fate_of.field-0 d (sym c.in_ok-fate_of.ensures));
+      rows =
+          subst (λ n. AreRows (shown V) (r ∷ take n rs)) (sym c.count_below.ensures)
+          (tops_rows V c.requires.0 r rs c.requires.1);
+      fated =
+          subst (λ (n : ℕ). IsFated (shown V) r.path.now (paths_of (take n rs))
+          (Some c.in_ok-fate_of.field-0)) (sym c.count_below.ensures)
+          (item_fated V c.requires.0 r rs c.requires.1 c.in_ok-fate_of.field-0 d
+          (sym c.in_ok-fate_of.ensures));
     }

@@ -11,7 +11,8 @@ loop-path-init c =
     let V = c.args.picture.now in
     start_on V.profile.now V.archive.now (told_by V.left.now) (told_by V.right.now) c.new-rows.result.items
     (told_by c.looks-left.result.now) (told_by c.looks-right.result.now) c.args.old_paths.now
-    c.new-rows.ensures.items (ap told_by c.looks-left.ensures.looks) (ap told_by c.looks-right.ensures.looks) c.requires
+    c.new-rows.ensures.items (ap told_by c.looks-left.ensures.looks)
+    (ap told_by c.looks-right.ensures.looks) c.requires
     (ap (λ ls. are_rising (told_by ls)) (sym c.looks-left.ensures.looks) ∙ c.looks-left.ensures.rising)
     (ap (λ ls. are_rising (told_by ls)) (sym c.looks-right.ensures.looks) ∙ c.looks-right.ensures.rising)
 
@@ -31,9 +32,11 @@ loop-path-preserved-in-Continue-1 c =
     row c.in-Some.path.now c.row_of-row.ensures.path
     (sym c.least_path.ensures ∙ ap (option_map (λ p. p.now)) c.in-Some.is)
     c.row_of-row.ensures.left c.row_of-row.ensures.right c.row_of-row.ensures.old
-    c.push.new.self.items (told_by c.past_look-left.result.now) (told_by c.past_look-right.result.now) c.past_path-old.result.now
+    c.push.new.self.items (told_by c.past_look-left.result.now) (told_by c.past_look-right.result.now)
+    c.past_path-old.result.now
     c.past_look-left.ensures c.past_look-right.ensures c.past_path-old.ensures
-    (sym (c.counts.ensures ∙ ap (λ P. is_anywhere row && reach P row.path.now) c.profile.ensures) ∙ c.if-counts.true)
+    (sym (c.counts.ensures ∙ ap (λ P. is_anywhere row && reach P row.path.now) c.profile.ensures)
+    ∙ c.if-counts.true)
     c.in_ok-push.ensures.items
 
 pub loop-path-smaller : goal.loop-path-smaller
@@ -52,7 +55,9 @@ loop-path-preserved c =
     row c.in-Some.path.now c.row_of-row.ensures.path
     (sym c.least_path.ensures ∙ ap (option_map (λ p. p.now)) c.in-Some.is)
     c.row_of-row.ensures.left c.row_of-row.ensures.right c.row_of-row.ensures.old
-    c.loop-path.rows.items (told_by c.past_look-left.result.now) (told_by c.past_look-right.result.now) c.past_path-old.result.now
+    c.loop-path.rows.items (told_by c.past_look-left.result.now) (told_by c.past_look-right.result.now)
+    c.past_path-old.result.now
     c.past_look-left.ensures c.past_look-right.ensures c.past_path-old.ensures
-    (sym (c.counts.ensures ∙ ap (λ P. is_anywhere row && reach P row.path.now) c.profile.ensures) ∙ c.if-counts.false)
+    (sym (c.counts.ensures ∙ ap (λ P. is_anywhere row && reach P row.path.now) c.profile.ensures)
+    ∙ c.if-counts.false)
     refl

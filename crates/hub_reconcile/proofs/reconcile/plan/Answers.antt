@@ -1,0 +1,13 @@
+use Rattle.std.proofs.Common.{ap, ◌∙◌}
+use Rattle.std.specs.List.{flat_map}
+use Rattle.hub_reconcile.specs.Blocks.{block_changes}
+use Rattle.hub_reconcile.specs.Shown.{shown}
+use Rattle.hub_reconcile.proofs.Partitions.{partition_changes}
+use Rattle.hub_reconcile.proofs.reconcile.plan.Goals as goal
+
+pub returns : goal.returns
+returns c =
+    c.from_vec.ensures
+    ∙ (c.in_ok-changes_of.ensures
+    ∙ (ap (flat_map block_changes) c.as_slice-3.ensures.value
+    ∙ partition_changes (shown c.args.picture.now) _ c.in_ok-blocks.ensures))

@@ -1,0 +1,13 @@
+pub mod SideOf
+pub mod Sight
+pub mod View
+pub mod Items
+pub mod Picture
+pub mod Sides
+pub mod Sync
+pub mod Shown
+pub mod Rows
+pub mod Fates
+pub mod Blocks
+pub mod Merge
+pub mod Examples

@@ -1,0 +1,42 @@
+ghost use Rattle.std.specs.Prelude.{◌≡◌};
+ghost use Rattle.hub_reconcile.specs.Picture as spec;
+
+use hub_path::{Name, RelPath};
+use hub_tree::Mark;
+
+/// What a Look at a path of a replica told.
+#[derive(Clone, Copy, Debug, Drop)]
+pub struct Look<'a> {
+    /// The path.
+    pub path: &'a RelPath,
+    /// The mark of the path.
+    pub mark: Mark,
+    /// The names of those children that the profile reaches.
+    pub names: &'a [Name],
+    /// Whether the path has other children.
+    pub others: bool,
+}
+
+/// Returns whether Looks stand in the order of their paths, each path once.
+pub fn are_rising(looks: &[Look]) -> bool
+    ensures { result ≡ spec.are_rising (spec.told_by looks.now) }
+{
+    let mut rest = looks;
+    while let [first, after @ ..] = rest {
+        if !is_before(first.path, after) {
+            return false;
+        }
+        rest = after;
+    }
+    true
+}
+
+/// Whether the path stands before that of the first Look.
+fn is_before(path: &RelPath, looks: &[Look]) -> bool
+    ensures { result ≡ spec.is_before path.now (spec.told_by looks.now) }
+{
+    match looks {
+        [next, ..] => path.cmp(next.path).is_lt(),
+        [] => true,
+    }
+}

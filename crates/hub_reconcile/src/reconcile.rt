@@ -1,0 +1,220 @@
+//! The items of a picture, their changes, and the new archive.
+ghost use Rattle.std.specs.Prelude.{◌≡◌, ◌++◌, ◌<◌, IfOk, OnOk, length};
+ghost use Rattle.std.specs.List.{flat_map, fold};
+ghost use Rattle.hub_reconcile.specs.Blocks as parts;
+ghost use Rattle.hub_reconcile.specs.Items as spec;
+ghost use Rattle.hub_reconcile.specs.Shown.{shown};
+ghost use Rattle.hub_reconcile.specs.Sync as sync;
+ghost use Rattle.hub_tree.specs.Tree.{with_mark};
+
+use crate::block::{Block, blocks};
+use crate::change::Change;
+use crate::item::{Fate, Item};
+use crate::picture::Picture;
+use crate::row::Row;
+use crate::side::other;
+use crate::table::table;
+use hub_path::Side;
+use hub_text::Items;
+use hub_tree::{Archive, Mark};
+use std::alloc::{AllocError, Global};
+
+/// Returns what the two sides differ in, in ascending order of paths, and what becomes of it.
+pub fn items(alloc: Global, picture: &Picture) -> Result<Items<Item>, AllocError>
+    ensures { IfOk result (λ is. is ≡ spec.items (shown picture.now)) }
+{
+    let old_paths = picture.archive().paths()?;
+    let rows = table(alloc, picture, old_paths.as_slice())?;
+    let blocks = blocks(alloc, picture, rows.as_slice())?;
+    Ok(Items::from_vec(items_of(alloc, blocks.as_slice())?))
+}
+
+/// Returns the changes of the items that aren't skipped, in the order of the items.
+///
+/// The changes of an item are: what goes below it, the last path first; then the item; then what comes below it.
+pub fn plan(alloc: Global, picture: &Picture) -> Result<Items<Change>, AllocError>
+    ensures { IfOk result (λ cs. cs ≡ spec.plan (shown picture.now)) }
+{
+    let old_paths = picture.archive().paths()?;
+    let rows = table(alloc, picture, old_paths.as_slice())?;
+    let blocks = blocks(alloc, picture, rows.as_slice())?;
+    Ok(Items::from_vec(changes_of(alloc, blocks.as_slice())?))
+}
+
+/// Returns the archive afterwards: the source's marks at and below the items that aren't skipped, the old marks at and
+/// below those that are, and at other reached paths the marks that both sides have. The picture's archive is unchanged.
+pub fn next_archive(alloc: Global, picture: &Picture) -> Result<Archive, AllocError>
+    ensures { IfOk result
+        (λ a. a ≡ sync.next_archive (shown picture.now) picture.now.archive.now) }
+{
+    let old = picture.archive().copy()?;
+    let old_paths = picture.archive().paths()?;
+    let rows = table(alloc, picture, old_paths.as_slice())?;
+    let blocks = blocks(alloc, picture, rows.as_slice())?;
+    Ok(archive_of(old, blocks.as_slice())?)
+}
+
+/// The items of blocks.
+fn items_of(alloc: Global, blocks: &[Block]) -> Result<Vec<Item>, AllocError>
+    ensures { IfOk result (λ is. is.items ≡ flat_map parts.block_items blocks.now) }
+{
+    let mut items = Vec::new(alloc);
+    let mut rest = blocks;
+    while let [block, after @ ..] = rest {
+        push_block(&mut items, block)?;
+        rest = after;
+    }
+    Ok(items)
+}
+
+/// Adds the item of a block, if it has one.
+fn push_block(items: &mut Vec<Item>, block: &Block) -> Result<(), AllocError>
+    ensures { OnOk result (items.new.items ≡ items.old.items ++ parts.block_items block.now) }
+{
+    if let Some(fate) = block.fate {
+        let path = block.first.path.copy()?;
+        items.push(Item { path, fate })?;
+    }
+    Ok(())
+}
+
+/// The changes of blocks.
+fn changes_of(alloc: Global, blocks: &[Block]) -> Result<Vec<Change>, AllocError>
+    ensures { IfOk result (λ cs. cs.items ≡ flat_map parts.block_changes blocks.now) }
+{
+    let mut changes = Vec::new(alloc);
+    let mut rest = blocks;
+    while let [block, after @ ..] = rest {
+        push_changes(&mut changes, block)?;
+        rest = after;
+    }
+    Ok(changes)
+}
+
+/// Adds the changes of a block.
+fn push_changes(changes: &mut Vec<Change>, block: &Block) -> Result<(), AllocError>
+    ensures { OnOk result (changes.new.items ≡ changes.old.items ++ parts.block_changes block.now) }
+{
+    match block.fate {
+        Some(Fate::To(to)) => push_item(changes, block.first, block.below, other(to)),
+        Some(Fate::Skip(_)) => Ok(()),
+        None => Ok(()),
+    }
+}
+
+/// Adds the changes of an item that comes from this side.
+fn push_item(
+    changes: &mut Vec<Change>,
+    item: &Row,
+    below: &[Row],
+    from: Side,
+) -> Result<(), AllocError>
+    ensures { OnOk result (changes.new.items
+        ≡ changes.old.items ++ parts.row_changes from item.now below.now) }
+{
+    push_going(changes, below, from)?;
+    changes.push(change_to(item, from, item.mark(from))?)?;
+    push_coming(changes, below, from)
+}
+
+/// Adds what goes below an item, the last path first.
+fn push_going(changes: &mut Vec<Change>, below: &[Row], from: Side) -> Result<(), AllocError>
+    ensures { OnOk result (changes.new.items
+        ≡ changes.old.items ++ parts.going_rows from below.now) }
+{
+    let mut left = below.len();
+    while left > 0 {
+        left -= 1;
+        let row = &below[left];
+        if row.goes(from) {
+            changes.push(change_to(row, from, Mark::Absent)?)?;
+        }
+    }
+    Ok(())
+}
+
+/// Adds what comes below an item.
+fn push_coming(changes: &mut Vec<Change>, below: &[Row], from: Side) -> Result<(), AllocError>
+    ensures { OnOk result (changes.new.items
+        ≡ changes.old.items ++ parts.coming_rows from below.now) }
+{
+    let mut rest = below;
+    while let [row, after @ ..] = rest {
+        if row.comes(from) {
+            changes.push(change_to(row, from, row.mark(from))?)?;
+        }
+        rest = after;
+    }
+    Ok(())
+}
+
+/// The change that gives a path this mark, on the side that isn't the source.
+fn change_to(row: &Row, from: Side, mark: Mark) -> Result<Change, AllocError>
+    ensures { IfOk result (λ c. c ≡ spec.change (spec.other from) row.now.path.now mark) }
+{
+    let path = row.path.copy()?;
+    Ok(Change {
+        side: other(from),
+        path,
+        mark,
+    })
+}
+
+/// The archive with the marks of all blocks' paths.
+fn archive_of(old: Archive, blocks: &[Block]) -> Result<Archive, AllocError>
+    requires { parts.HaveAllNames blocks.now }
+    ensures { IfOk result (λ a. a ≡ fold parts.updated old blocks.now) }
+{
+    let mut archive = old;
+    update_all(&mut archive, blocks)?;
+    Ok(archive)
+}
+
+/// Sets the marks of all blocks' paths.
+fn update_all(archive: &mut Archive, blocks: &[Block]) -> Result<(), AllocError>
+    requires { parts.HaveAllNames blocks.now }
+    ensures { OnOk result (archive.new ≡ fold parts.updated archive.old blocks.now) }
+{
+    let mut rest = blocks;
+    while let [block, after @ ..] = rest {
+        update(archive, block)?;
+        rest = after;
+    }
+    Ok(())
+}
+
+/// Sets the marks of a block's paths.
+fn update(archive: &mut Archive, block: &Block) -> Result<(), AllocError>
+    requires { parts.HasNames block.now }
+    ensures { OnOk result (archive.new ≡ parts.updated archive.old block.now) }
+{
+    set_mark(archive, block.first, new_mark(block.first, block.fate))?;
+    let mut rest = block.below;
+    while let [row, after @ ..] = rest {
+        set_mark(archive, row, new_mark(row, block.fate))?;
+        rest = after;
+    }
+    Ok(())
+}
+
+/// The mark of a row's path in the new archive.
+fn new_mark(row: &Row, fate: Option<Fate>) -> Mark
+    ensures { result ≡ parts.mark_fated fate row.now }
+{
+    match fate {
+        Some(Fate::To(to)) => row.mark(other(to)),
+        Some(Fate::Skip(_)) => row.old,
+        None => row.left.mark,
+    }
+}
+
+/// Sets the mark of a row's path, unless the archive has it already.
+fn set_mark(archive: &mut Archive, row: &Row, mark: Mark) -> Result<(), AllocError>
+    requires { 0 < length row.now.path.now }
+    ensures { OnOk result (archive.new ≡ with_mark archive.old row.now.path.now mark) }
+{
+    if archive.mark_at(row.path) == mark {
+        return Ok(());
+    }
+    archive.set(row.path, mark)
+}

@@ -4,10 +4,17 @@ pub mod World
 pub mod Run
 pub mod Alike
 pub mod Same
+pub mod History
+pub mod Settled
+pub mod Owned
+pub mod Together
+pub mod HistoryExamples
 pub mod Coded
 pub mod Waiting
 pub mod Phase
 pub mod JobValue
 pub mod Ends
 pub mod Outcome
+pub mod Promise
+pub mod Simulated
 pub mod Examples

@@ -13,9 +13,11 @@ mod op;
 mod outcome;
 mod phase;
 mod planned;
+pub mod promise;
 mod run_fault;
 mod step;
 mod steps;
+pub mod together;
 mod waiting;
 
 pub use answer::{Answer, OpFault};

@@ -45,7 +45,7 @@ AllowedLaw = (J : Jobs) (Rs : List Rule) (replicas : Path → Replica) (historie
 own_paths : OwnLaw → (S : State) (Ps : List Parts) (Rs : List Rule) (histories : Path → List Entry) (o : Outcome) → HasReplicas S Ps → AreProfiles Ps → IsSafe Ps Rs → Settles S Ps histories o
     → OwnPathsAreAlone (jobs_of S Ps) (replicas_of S) (replicas_of o.state) (logs_in o)
 own_paths law S Ps Rs histories o there facts safe settles =
-    own S Ps histories o settles there (law (jobs_of S Ps) (replicas_of S) histories (logs_in o) (safe_apart Ps Rs safe) facts settles.settled)
+    own S Ps histories o settles facts there (law (jobs_of S Ps) (replicas_of S) histories (logs_in o) (safe_apart Ps Rs safe) facts settles.settled)
 
 pub all_finished : LogsLaw → OwnLaw → (S : State) (Ps : List Parts) (Rs : List Rule) (histories : Path → List Entry) (o : Outcome) → IsState S → HasReplicas S Ps → AreProfiles Ps → IsSafe Ps Rs → Settles S Ps histories o
     → FinishedAreSynchronized S Ps o
@@ -69,7 +69,7 @@ promise_kept logs others law stays verbs S Ps Rs histories o valid there facts s
       others = others J R histories (logs_in o) apart settles.settled;
       own = own_paths law S Ps Rs histories o there facts safe settles;
       finished = all_finished logs law S Ps Rs histories o valid there facts safe settles;
-      elsewhere = elsewhere S Ps histories o settles there (λ j P r is has. stays J R histories (logs_in o) j P r settles.settled is has);
+      elsewhere = elsewhere S Ps histories o settles facts there (λ j P r is has. stays J R histories (logs_in o) j P r settles.settled is has);
       foreign = foreign S Ps histories o settles;
       marks = marks_stay S Ps histories o settles;
       allowed = verbs J Rs R histories (logs_in o) facts safe (state_trees S valid) settles.settled;

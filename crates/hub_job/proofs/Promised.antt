@@ -1,11 +1,11 @@
 -- An outcome that histories settle is as promised.
 use Rattle.std.proofs.Common.{◌≡◌, ◌≢◌, ◌≤◌, ◌<◌, ◌+◌, inl, inr, Bool, true, false, cond, ◌&&◌, ◌||◌, List, [], ◌∷◌, length, Option, Some, None, refl, ap, sym, ◌∙◌, subst, arith}
-use Rattle.std.specs.Prelude.{ℕ, zero, suc, IsTrue, slice_get, find, unwrap_or, replicate}
+use Rattle.std.specs.Prelude.{◌==◌, ℕ, zero, suc, IsTrue, slice_get, find, unwrap_or, replicate}
 use Rattle.std.specs.List.{list_any, list_all, range_with_len}
 use Rattle.std.specs.FinMap as fin
 use Rattle.std.proofs.lemmas.Bool.{false≢true, and_parts, and_from, or_cases, or_left, or_right, cases_eq, false_from_ne_true}
 use Rattle.hub_path.specs.Laws.{is_over-reflexive}
-use Rattle.hub_path.specs.Path.{Name, Path, path_eq, path_cmp, parent}
+use Rattle.hub_path.specs.Path.{Name, Path, path_eq, path_cmp, parent, is_place, none_over}
 use Rattle.hub_path.specs.declared.side.Side.{Side}
 use Rattle.hub_path.specs.declared.side.Side.TheVariants.{Left, Right}
 use Rattle.hub_profile.specs.Parts.{Parts, IsProfile, some_passes}
@@ -14,7 +14,8 @@ use Rattle.hub_reach.specs.Safe.{Rule, IsSafe, share_archive}
 use Rattle.hub_tree.specs.Tree.{Replica, Archive, IsTree, contents_at, old_mark_at, is_absent, is_directory}
 use Rattle.hub_tree.specs.declared.contents.Contents.TheVariants as contents
 use Rattle.hub_reconcile.specs.Items.{items}
-use Rattle.hub_reconcile.specs.Sync.{view_of, synced_mark}
+use Rattle.hub_reconcile.specs.Sync.{view_of, next_archive}
+use Rattle.hub_reconcile.proofs.Archived.{archived}
 use Rattle.hub_state.specs.State.{State, IsState, replica_at, archive_at, root_text}
 use Rattle.hub_job.specs.declared.job_end.End.{End}
 use Rattle.hub_job.specs.declared.job_end.End.TheVariants as end
@@ -208,6 +209,21 @@ takes_from Ps o r s p j P e is at done a b h =
     (ap (some_passes (λ (e : JobEnd). is_finished e.end)) at ∙ ap is_finished done)
     (ap (some_passes (λ (P : Parts). has_root P r && has_root P s && reach P p)) is ∙ and_from (has_root P r && has_root P s) (reach P p) (and_from (has_root P r) (has_root P s) a b) h)
 
+-- The roots of profiles are places.
+one_of : (f : Path → Bool) (r : Path) (rs : List Path) → list_all f rs ≡ true → list_any (λ own. path_eq own r) rs ≡ true → f r ≡ true
+one_of f r [] all h = absurd (false≢true h)
+one_of f r (q ∷ rs) all h =
+    let two = and_parts (f q) (list_all f rs) all in
+    elim (or_cases (path_eq q r) (list_any (λ own. path_eq own r) rs) h) [
+      | inl e ↦ ap f (sym (same_path q r e)) ∙ two.0
+      | inr k ↦ one_of f r rs two.1 k
+    ]
+
+pub root_place : (P : Parts) (r : Path) → IsProfile P → has_root P r ≡ true → is_place r ≡ true
+root_place P r facts h =
+    let two = and_parts (length P.roots == 2 && list_all is_place P.roots) (none_over P.roots) facts.roots in
+    one_of is_place r P.roots (and_parts (length P.roots == 2) (list_all is_place P.roots) two.0).1 h
+
 module _ (S : State) (Ps : List Parts) (histories : Path → List Entry) (o : Outcome) (settles : Settles S Ps histories o) where
   abbrev J : Jobs
   J = jobs_of S Ps
@@ -216,46 +232,46 @@ module _ (S : State) (Ps : List Parts) (histories : Path → List Entry) (o : Ou
   before = replicas_of S
 
   -- Replicas.
-  pub left_in : HasReplicas S Ps → (j : ℕ) (P : Parts) (r : Path) → slice_get Ps j ≡ Some P → IsTrue (has_root P r) → replicas_of o.state r ≡ left_at before histories r
-  left_in there j P r is has =
+  pub left_in : AreProfiles Ps → HasReplicas S Ps → (j : ℕ) (P : Parts) (r : Path) → slice_get Ps j ≡ Some P → IsTrue (has_root P r) → replicas_of o.state r ≡ left_at before histories r
+  left_in facts there j P r is has =
       let m = there j P r is has in
       ap (λ x. unwrap_or x fin.empty)
-      (settles.outcome.replicas r m.0 m.1 ∙ ap (λ b. Some (cond b (replay (before r) (histories r)) m.0)) (listed (λ P. has_root P r) Ps j P is has))
+      (settles.outcome.replicas r m.0 (root_place P r (facts j P is) has) m.1 ∙ ap (λ b. Some (cond b (replay (before r) (histories r)) m.0)) (listed (λ P. has_root P r) Ps j P is has))
 
-  foreign_by : (r : Path) (x : Option Replica) → list_any (λ P. has_root P r) Ps ≡ false → replica_at S r ≡ x → replica_at o.state r ≡ x
-  foreign_by r None none e = settles.outcome.others r e
-  foreign_by r (Some m) none e = settles.outcome.replicas r m e ∙ ap (λ b. Some (cond b (replay (before r) (histories r)) m)) none
+  foreign_by : (r : Path) (x : Option Replica) → IsTrue (is_place r) → list_any (λ P. has_root P r) Ps ≡ false → replica_at S r ≡ x → replica_at o.state r ≡ x
+  foreign_by r None place none e = settles.outcome.others r place e
+  foreign_by r (Some m) place none e = settles.outcome.replicas r m place e ∙ ap (λ b. Some (cond b (replay (before r) (histories r)) m)) none
 
   pub foreign : ForeignAreAsBefore S Ps o.state
-  foreign = λ r none. foreign_by r (replica_at S r) none refl
+  foreign = λ r place none. foreign_by r (replica_at S r) place none refl
 
-  pub own : HasReplicas S Ps → OwnPathsAreAlone J before (left_at before histories) (logs_in o) → OwnPathsAreAlone J before (replicas_of o.state) (logs_in o)
-  own there alone = λ j P r q is has h. ap (λ m. contents_at m q) (left_in there j P r is has) ∙ alone j P r q is has h
+  pub own : AreProfiles Ps → HasReplicas S Ps → OwnPathsAreAlone J before (left_at before histories) (logs_in o) → OwnPathsAreAlone J before (replicas_of o.state) (logs_in o)
+  own facts there alone = λ j P r q is has h. ap (λ m. contents_at m q) (left_in facts there j P r is has) ∙ alone j P r q is has h
 
-  pub elsewhere : HasReplicas S Ps → ((j : ℕ) (P : Parts) (r : Path) → slice_get Ps j ≡ Some P → IsTrue (has_root P r) → ElsewhereIsAsBefore Ps r (before r) (left_at before histories r))
-      → (r : Path) → ElsewhereIsAsBefore Ps r (before r) (replicas_of o.state r)
-  elsewhere there stays r = λ q never.
+  pub elsewhere : AreProfiles Ps → HasReplicas S Ps → ((j : ℕ) (P : Parts) (r : Path) → slice_get Ps j ≡ Some P → IsTrue (has_root P r) → ElsewhereIsAsBefore Ps r (before r) (left_at before histories r))
+      → (r : Path) → IsTrue (is_place r) → ElsewhereIsAsBefore Ps r (before r) (replicas_of o.state r)
+  elsewhere facts there stays r place = λ q never.
       elim (list_any (λ P. has_root P r) Ps) as (λ b. list_any (λ P. has_root P r) Ps ≡ b → contents_at (replicas_of o.state r) q ≡ contents_at (before r) q) [
-        | true ↦ λ e. let w = a_profile (λ P. has_root P r) Ps e in ap (λ m. contents_at m q) (left_in there w.0 w.1 r w.2 w.3) ∙ stays w.0 w.1 r w.2 w.3 q never
-        | false ↦ λ e. ap (λ x. contents_at (unwrap_or x fin.empty) q) (foreign r e)
+        | true ↦ λ e. let w = a_profile (λ P. has_root P r) Ps e in ap (λ m. contents_at m q) (left_in facts there w.0 w.1 r w.2 w.3) ∙ stays w.0 w.1 r w.2 w.3 q never
+        | false ↦ λ e. ap (λ x. contents_at (unwrap_or x fin.empty) q) (foreign r place e)
       ] refl
 
   -- Archives.
   pub marks_stay : OldMarksStay S Ps o
-  marks_stay = λ r s p off never.
+  marks_stay = λ r s p one other off never.
       let none = none_passes (takes o Ps r s p) (range_with_len 0 (length Ps))
       (λ i. false_from_ne_true (takes o Ps r s p i) (λ h. let w = takes_is Ps o r s p i h in false≢true (sym (never i w.profile w.ended w.is w.at w.finished w.first w.second) ∙ w.reaches))) in
-      settles.outcome.archives r s p off ∙ ap (mark_by S Ps (logs_in o) p (old_mark_at (unwrap_or (archive_at S r s) fin.empty) p)) none
+      settles.outcome.archives r s p one other off ∙ ap (mark_by S Ps (logs_in o) p (old_mark_at (unwrap_or (archive_at S r s) fin.empty) p)) none
 
   mark_taken : (Rs : List Rule) → IsSafe Ps Rs → AreProfiles Ps → (j : ℕ) (P : Parts) (e : JobEnd) (r s p : Path) → slice_get Ps j ≡ Some P → slice_get o.jobs j ≡ Some e → e.end ≡ end.Finished
       → r ≢ s → has_root P r ≡ true → has_root P s ≡ true → reach P p ≡ true
-      → old_mark_at (unwrap_or (archive_at o.state r s) fin.empty) p ≡ synced_mark (view_in P (archive_of S (Some P)) (logs_in o j)) p
+      → old_mark_at (unwrap_or (archive_at o.state r s) fin.empty) p ≡ old_mark_at (next_archive (view_in P (archive_of S (Some P)) (logs_in o j)) (archive_of S (Some P))) p
   mark_taken Rs safe valid j P e r s p is at done off a b h =
       let taken = takes_from Ps o r s p j P e is at done a b h in
       let one = only_one (takes o Ps r s p) j (length Ps) (find (takes o Ps r s p) (range_with_len 0 (length Ps))) refl (within Ps j P is) taken
       (λ i g. takes_one Ps Rs o r s p i j safe valid off (takes_is Ps o r s p i g) (takes_is Ps o r s p j taken)) in
       let old = old_mark_at (unwrap_or (archive_at S r s) fin.empty) p in
-      settles.outcome.archives r s p off ∙ (ap (mark_by S Ps (logs_in o) p old) one ∙ ap (mark_for S (logs_in o) p old j) is)
+      settles.outcome.archives r s p (root_place P r (valid j P is) a) (root_place P s (valid j P is) b) off ∙ (ap (mark_by S Ps (logs_in o) p old) one ∙ ap (mark_for S (logs_in o) p old j) is)
 
   -- Jobs.
   module _ (facts : AreProfiles Ps) (trees : (r : Path) → IsTree (before r)) (alone_logs : LogsAreAlone J before (logs_in o)) (j : ℕ) (P : Parts) (e : JobEnd) (is : slice_get Ps j ≡ Some P) (at : slice_get o.jobs j ≡ Some e) where
@@ -309,7 +325,7 @@ module _ (S : State) (Ps : List Parts) (histories : Path → List Entry) (o : Ou
               ∙ (by_side P j k (run J (replicate (length e.log) j) (opening J before)) q ∙ (synced done).contents k q));
           marks = λ q h.
               mark_taken Rs safe facts j P e (root_at P Left) (root_at P Right) q is at finished roots_differ (root_of Left) (root_of Right) h
-              ∙ (ap (λ l. synced_mark (view_in P O l) q) log_is ∙ ap (λ V. synced_mark V q) (view_is done));
+              ∙ (ap (λ l. old_mark_at (next_archive (view_in P O l) O) q) log_is ∙ (ap (λ V. old_mark_at (next_archive V O) q) (view_is done) ∙ archived P A B O q));
           items = ends.items ∙ (ap (λ x. cond (is_finished x) (items (view_in P O e.log)) []) finished ∙ ap items (view_is done));
         }
 

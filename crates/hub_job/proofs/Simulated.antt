@@ -115,7 +115,7 @@ lone_synchronizes S Ps limit o j n P e valid trees there replayed settles finish
       finished = done;
       synchronized = finished j P e at ended done;
       contents = λ k q.
-          ap (λ m. contents_at m q) (left_in S Ps (world_after S Ps (first_turns limit (replicate n j))).history o settles there j P (root_at P k) at (root k) ∙ sym (replayed (root_at P k)))
+          ap (λ m. contents_at m q) (left_in S Ps (world_after S Ps (first_turns limit (replicate n j))).history o settles valid there j P (root_at P k) at (root k) ∙ sym (replayed (root_at P k)))
           ∙ (ap (λ js. contents_at ((run J js (opening J R)).replica (root_at P k)) q) turns
           ∙ (by_side P j k v q ∙ lone_contents P (R (root_at P Left)) (R (root_at P Right)) (J.archive j) (archive_of S (Some P)) archive (pair_of P j v) synced k q));
     }

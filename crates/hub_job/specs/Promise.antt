@@ -2,7 +2,7 @@
 use Rattle.std.specs.Prelude.{◌≡◌, ◌≢◌, ◌≤◌, ℕ, false, List, [], length, slice_get, Option, Some, None, IsTrue, unwrap_or}
 use Rattle.std.specs.List.{list_any}
 use Rattle.std.specs.FinMap as fin
-use Rattle.hub_path.specs.Path.{Path}
+use Rattle.hub_path.specs.Path.{Path, is_place}
 use Rattle.hub_path.specs.declared.side.Side.{Side}
 use Rattle.hub_path.specs.declared.side.Side.TheVariants.{Left, Right}
 use Rattle.hub_profile.specs.Parts.{Parts}
@@ -77,7 +77,8 @@ FinishedAreSynchronized S Ps o =
 -- A replica of no profile is the same as before.
 abbrev pub ForeignAreAsBefore : State → List Parts → State → Type 0
 ForeignAreAsBefore S Ps after =
-    (r : Path) → list_any (λ P. has_root P r) Ps ≡ false → replica_at after r ≡ replica_at S r
+    (r : Path) → IsTrue (is_place r) → list_any (λ P. has_root P r) Ps ≡ false
+    → replica_at after r ≡ replica_at S r
 
 -- No finished job of the pair reaches the path.
 abbrev pub NoneFinishedReaches : List Parts → Outcome → Path → Path → Path → Type 0
@@ -88,7 +89,7 @@ NoneFinishedReaches Ps o r s p =
 -- The archive of a pair of roots has its old mark at each path that no finished job of the pair reaches.
 abbrev pub OldMarksStay : State → List Parts → Outcome → Type 0
 OldMarksStay S Ps o =
-    (r s p : Path) → r ≢ s → NoneFinishedReaches Ps o r s p
+    (r s p : Path) → IsTrue (is_place r) → IsTrue (is_place s) → r ≢ s → NoneFinishedReaches Ps o r s p
     → old_mark_at (unwrap_or (archive_at o.state r s) fin.empty) p
     ≡ old_mark_at (unwrap_or (archive_at S r s) fin.empty) p
 
@@ -111,7 +112,7 @@ pub record IsAsPromised (S : State) (Ps : List Parts) (Rs : List Rule) (historie
   -- What a finished job left is one synchronization.
   pub finished : FinishedAreSynchronized S Ps o
   -- All else is as before.
-  pub elsewhere : (r : Path) → ElsewhereIsAsBefore Ps r (replicas_of S r) (replicas_of o.state r)
+  pub elsewhere : (r : Path) → IsTrue (is_place r) → ElsewhereIsAsBefore Ps r (replicas_of S r) (replicas_of o.state r)
   pub foreign : ForeignAreAsBefore S Ps o.state
   pub marks : OldMarksStay S Ps o
   -- Each Set was allowed.

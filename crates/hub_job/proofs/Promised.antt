@@ -44,17 +44,17 @@ passing : {X : Type 0} (t : X → Bool) (o : Option X) → some_passes t o ≡ t
 passing t None h = absurd (false≢true h)
 passing t (Some x) h = (x, refl, h)
 
-listed : (t : Parts → Bool) (Ps : List Parts) (j : ℕ) (P : Parts) → slice_get Ps j ≡ Some P → t P ≡ true → list_any t Ps ≡ true
-listed t [] j P is h = cc
-listed t (Q ∷ Ps) zero P is h = or_left (t Q) (list_any t Ps) (ap (some_passes t) is ∙ h)
-listed t (Q ∷ Ps) (suc j) P is h = or_right (t Q) (list_any t Ps) (listed t Ps j P is h)
+pub listed : {X : Type 0} (t : X → Bool) (xs : List X) (j : ℕ) (x : X) → slice_get xs j ≡ Some x → t x ≡ true → list_any t xs ≡ true
+listed t [] j x is h = cc
+listed t (y ∷ xs) zero x is h = or_left (t y) (list_any t xs) (ap (some_passes t) is ∙ h)
+listed t (y ∷ xs) (suc j) x is h = or_right (t y) (list_any t xs) (listed t xs j x is h)
 
-a_profile : (t : Parts → Bool) (Ps : List Parts) → list_any t Ps ≡ true → (j : ℕ) × (P : Parts) × (slice_get Ps j ≡ Some P) × (t P ≡ true)
-a_profile t [] h = absurd (false≢true h)
-a_profile t (Q ∷ Ps) h =
-    elim (t Q) as (λ b. t Q ≡ b → (b || list_any t Ps) ≡ true → (j : ℕ) × (P : Parts) × (slice_get (Q ∷ Ps) j ≡ Some P) × (t P ≡ true)) [
-      | true ↦ λ e g. (0, Q, refl, e)
-      | false ↦ λ e g. let w = a_profile t Ps g in (suc w.0, w.1, w.2, w.3)
+pub one_with : {X : Type 0} (t : X → Bool) (xs : List X) → list_any t xs ≡ true → (j : ℕ) × (x : X) × (slice_get xs j ≡ Some x) × (t x ≡ true)
+one_with t [] h = absurd (false≢true h)
+one_with {X} t (y ∷ xs) h =
+    elim (t y) as (λ b. t y ≡ b → (b || list_any t xs) ≡ true → (j : ℕ) × (x : X) × (slice_get (y ∷ xs) j ≡ Some x) × (t x ≡ true)) [
+      | true ↦ λ e g. (0, y, refl, e)
+      | false ↦ λ e g. let w = one_with t xs g in (suc w.0, w.1, w.2, w.3)
     ] refl h
 
 number_or : ℕ → Option ℕ → ℕ
@@ -252,7 +252,7 @@ module _ (S : State) (Ps : List Parts) (histories : Path → List Entry) (o : Ou
       → (r : Path) → IsTrue (is_place r) → ElsewhereIsAsBefore Ps r (before r) (replicas_of o.state r)
   elsewhere facts there stays r place = λ q never.
       elim (list_any (λ P. has_root P r) Ps) as (λ b. list_any (λ P. has_root P r) Ps ≡ b → contents_at (replicas_of o.state r) q ≡ contents_at (before r) q) [
-        | true ↦ λ e. let w = a_profile (λ P. has_root P r) Ps e in ap (λ m. contents_at m q) (left_in facts there w.0 w.1 r w.2 w.3) ∙ stays w.0 w.1 r w.2 w.3 q never
+        | true ↦ λ e. let w = one_with (λ P. has_root P r) Ps e in ap (λ m. contents_at m q) (left_in facts there w.0 w.1 r w.2 w.3) ∙ stays w.0 w.1 r w.2 w.3 q never
         | false ↦ λ e. ap (λ x. contents_at (unwrap_or x fin.empty) q) (foreign r place e)
       ] refl
 

@@ -6,17 +6,17 @@ use Rattle.std.proofs.lemmas.List.Sums.{sum_by-cons}
 use Rattle.hub_job.specs.Same.{own_turns}
 use Rattle.hub_job.specs.World.{first_turns}
 
-abbrev weight : Bool → ℕ
+abbrev pub weight : Bool → ℕ
 weight b = cond b 1 0
 
 -- The limits after a turn of job i.
-abbrev less : (ℕ → ℕ) → ℕ → ℕ → ℕ
+abbrev pub less : (ℕ → ℕ) → ℕ → ℕ → ℕ
 less limit i = λ k. if k == i then limit k - 1 else limit k
 
-abbrev count : ℕ → List ℕ → ℕ
+abbrev pub count : ℕ → List ℕ → ℕ
 count j js = count_by (λ i. i == j) js
 
-count_first : (j i : ℕ) (js : List ℕ) → count j (i ∷ js) ≡ weight (i == j) + count j js
+pub count_first : (j i : ℕ) (js : List ℕ) → count j (i ∷ js) ≡ weight (i == j) + count j js
 count_first j i js = sum_by-cons (λ (k : ℕ). cond (k == j) 1 0) i js
 
 one_there : (w c x l : ℕ) → x ≡ w + c → w ≡ 1 → x ≤ l → 1 + c ≤ l

@@ -17,4 +17,7 @@ pub mod Ends
 pub mod Outcome
 pub mod Promise
 pub mod Simulated
+pub mod Table
+pub mod Left
+pub mod Refusals
 pub mod Examples

@@ -1,5 +1,5 @@
 -- What a schedule's outcome is, turn by turn.
-use Rattle.std.specs.Prelude.{◌≡◌, ◌≢◌, ◌≤◌, ◌==◌, ◌*◌, ◌+◌, ℕ, List, length, slice_get, Some, count_by}
+use Rattle.std.specs.Prelude.{◌≡◌, ◌≢◌, ◌≤◌, ◌==◌, ◌*◌, ◌+◌, ℕ, List, length, replicate, slice_get, Some, count_by}
 use Rattle.std.specs.FinMap as fin
 use Rattle.hub_path.specs.Path.{Path}
 use Rattle.hub_path.specs.declared.side.Side.{Side}
@@ -15,7 +15,9 @@ use Rattle.hub_job.specs.Job.{next}
 use Rattle.hub_job.specs.Run.{root_at}
 use Rattle.hub_job.specs.World.{alone}
 use Rattle.hub_job.specs.Outcome.{archive_of, jobs_of, replicas_of}
-use Rattle.hub_job.specs.Promise.{IsSynchronized, synced_at}
+use Rattle.hub_reach.specs.Safe.{Rule}
+use Rattle.hub_job.specs.declared.log.Entry.{Entry}
+use Rattle.hub_job.specs.Promise.{IsAsPromised, IsSynchronized, Settles, synced_at}
 
 -- How many turns a job has in a schedule.
 abbrev pub turns_of : ℕ → List ℕ → ℕ
@@ -57,3 +59,15 @@ pub record IsLoneSynchronization (S : State) (P : Parts) (e : JobEnd) (after : S
   pub synchronized : IsSynchronized S P e after
   pub contents : (k : Side) (q : Path)
       → contents_at (replicas_of after (root_at P k)) q ≡ synced_at S P k q
+
+-- If one job alone has turns, at least so many, and wasn't stopped, it has synchronized.
+abbrev pub LoneIsSynchronized : State → List Parts → List ℕ → Outcome → Type 0
+LoneIsSynchronized S Ps schedule o =
+    (j n : ℕ) (P : Parts) (e : JobEnd) → schedule ≡ replicate n j → slice_get Ps j ≡ Some P
+    → slice_get o.jobs j ≡ Some e → e.end ≢ end.Stopped → turns_enough S P ≤ n
+    → IsLoneSynchronization S P e o.state
+
+-- There are histories that settle the outcome, and it is as promised.
+abbrev pub IsPromised : State → List Parts → List Rule → Outcome → Type 0
+IsPromised S Ps Rs o =
+    (histories : Path → List Entry) × Settles S Ps histories o × IsAsPromised S Ps Rs histories o

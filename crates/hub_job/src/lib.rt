@@ -3,6 +3,7 @@
 
 mod answer;
 mod asked;
+mod ends;
 mod job;
 mod job_end;
 pub mod laws;
@@ -14,10 +15,18 @@ mod outcome;
 mod phase;
 mod planned;
 pub mod promise;
+mod refusals;
 mod run_fault;
+mod schedule;
+#[cfg(test)]
+mod schedule_tests;
+mod seat;
+mod seats;
+
 mod step;
 mod steps;
 pub mod together;
+mod turn;
 mod waiting;
 
 pub use answer::{Answer, OpFault};
@@ -29,3 +38,4 @@ pub use machine::perform;
 pub use op::{Next, Op};
 pub use outcome::Outcome;
 pub use run_fault::RunFault;
+pub use schedule::simulate;

@@ -95,7 +95,7 @@ put_replicas replica q place (t ∷ trees) each places S =
     put_replicas replica q place trees (λ k u e. each (suc k) u e) (λ k u e. places (suc k) u e) (with_replica S t.root.now t.tree)
     ∙ (ap (cond (list_any (is_there q) trees) (Some (replica q))) (replica_put S t.root.now q t.tree (places 0 t refl) place)
     ∙ either (list_any (is_there q) trees) (is_there q t) (Some (replica q)) (Some t.tree) (replica_at S q)
-        (λ e. ap (λ m. Some m) (ap replica (same_path q t.root.now e) ∙ sym (each 0 t refl))))
+    (λ e. ap (λ m. Some m) (ap replica (same_path q t.root.now e) ∙ sym (each 0 t refl))))
 
 put_archives : (trees : List WorkingTree) (S : State) → (fold put_tree S trees).archives ≡ S.archives
 put_archives [] S = refl
@@ -126,14 +126,14 @@ module _ (S : State) (Ps : List Parts) (facts : AreProfiles Ps) (has : HasReplic
   job_at j e at = map_get end_value seats j e (sym (ap (λ (es : List JobEnd). slice_get es j) jobs) ∙ at)
 
   seat_profile : (j : ℕ) (s : Seat) (P : Parts) → slice_get seats j ≡ Some s → slice_get Ps j ≡ Some P → s.profile.now ≡ P
-  seat_profile j s P at is = one_value s.profile.now P (sym (table.seats j s at).is ∙ is)
+  seat_profile j s P at is = one_value s.profile.now P (sym (table.each j s at).is ∙ is)
 
   archive_is : (j : ℕ) (s : Seat) → slice_get seats j ≡ Some s → s.job.archive ≡ outcome.archive_of S (Some s.profile.now)
-  archive_is j s at = let a = table.seats j s at in a.archive ∙ (a.opening ∙ ap (outcome.archive_of S) a.is)
+  archive_is j s at = let a = table.each j s at in a.archive ∙ (a.opening ∙ ap (outcome.archive_of S) a.is)
 
   end_at : (j : ℕ) (s : Seat) (P : Parts) → slice_get seats j ≡ Some s → slice_get Ps j ≡ Some P → outcome.IsEndOf S P (end_value s)
   end_at j s P at is =
-      let a = table.seats j s at in
+      let a = table.each j s at in
       let profile : s.job.profile ≡ P = a.profile ∙ seat_profile j s P at is in
       let archive : s.job.archive ≡ outcome.archive_of S (Some P) = archive_is j s at ∙ ap (λ Q. outcome.archive_of S (Some Q)) (seat_profile j s P at is) in
       record {
@@ -145,7 +145,7 @@ module _ (S : State) (Ps : List Parts) (facts : AreProfiles Ps) (has : HasReplic
   ends_are j e P at is = let s = job_at j e at in subst (outcome.IsEndOf S P) (sym s.2) (end_at j s.0 P s.1 is)
 
   logs_are : (j : ℕ) (e : JobEnd) → slice_get o.jobs j ≡ Some e → e.log ≡ log_of w j
-  logs_are j e at = let s = job_at j e at in ap (λ (e : JobEnd). e.log) s.2 ∙ (table.seats j s.0 s.1).log
+  logs_are j e at = let s = job_at j e at in ap (λ (e : JobEnd). e.log) s.2 ∙ (table.each j s.0 s.1).log
 
   -- Replicas.
   tree_place : (k : ℕ) (t : WorkingTree) → slice_get trees k ≡ Some t → is_place t.root.now ≡ true
@@ -157,7 +157,7 @@ module _ (S : State) (Ps : List Parts) (facts : AreProfiles Ps) (has : HasReplic
   root_there : (r : Path) (P : (j : ℕ) × (P : Parts) × (slice_get Ps j ≡ Some P) × (has_root P r ≡ true)) → list_any (is_there r) trees ≡ true
   root_there r P =
       let s = as_long seats Ps P.0 P.1 table.count P.2 in
-      let a = table.seats P.0 s.0 s.1 in
+      let a = table.each P.0 s.0 s.1 in
       let is : s.0.profile.now ≡ P.1 = seat_profile P.0 s.0 P.1 s.1 P.2 in
       let side = root_side s.0.profile.now r a.valid (ap (λ Q. has_root Q r) is ∙ P.3) in
       listed_tree r (place_on s.0 side.0) (subst (λ q. IsPlaced trees q (place_on s.0 side.0)) side.1 (a.places side.0))
@@ -171,7 +171,7 @@ module _ (S : State) (Ps : List Parts) (facts : AreProfiles Ps) (has : HasReplic
   replica_is : (r : Path) → is_place r ≡ true → replica_at o.state r ≡ cond (list_any (λ P. has_root P r) Ps) (Some (w.replica r)) (replica_at S r)
   replica_is r place =
       ap (λ m. fin.get m (root_text r)) same
-      ∙ (put_replicas w.replica r place trees table.trees.each tree_place S ∙ ap (λ b. cond b (Some (w.replica r)) (replica_at S r)) (as_roots r))
+      ∙ (put_replicas w.replica r place trees table.replicas.each tree_place S ∙ ap (λ b. cond b (Some (w.replica r)) (replica_at S r)) (as_roots r))
 
   replica_by : (r : Path) (m : Replica) (b : Bool) → replica_at S r ≡ Some m → cond b (Some (w.replica r)) (replica_at S r) ≡ Some (if b then w.replica r else m)
   replica_by r m true e = refl
@@ -185,7 +185,7 @@ module _ (S : State) (Ps : List Parts) (facts : AreProfiles Ps) (has : HasReplic
   -- Archives.
   next_by : (k : ℕ) (s : Seat) → slice_get seats k ≡ Some s → IsNextOf S Ps (log_of w) o k (next_value s)
   next_by k s at =
-      let a = table.seats k s at in
+      let a = table.each k s at in
       record {
         is = a.is;
         done = ap (some_passes (λ (e : JobEnd). is_finished e.end)) (ap (λ (es : List JobEnd). slice_get es k) jobs ∙ map_at end_value seats k s at)

@@ -30,7 +30,7 @@ pub record IsOpened (S : State) (trees : List WorkingTree) (j : ℕ) (P : Parts)
 -- The first jobs of profiles, and their replicas.
 pub record AreOpened (S : State) (Ps : List Parts) (seats : List Seat) (trees : List WorkingTree) : Type 0 where
   pub each : (j : ℕ) (s : Seat) → slice_get seats j ≡ Some s → (P : Parts) × (slice_get Ps j ≡ Some P) × IsOpened S trees j P s
-  pub trees : AreTrees (replicas_of S) trees
+  pub replicas : AreTrees (replicas_of S) trees
   pub roots : (k : ℕ) (t : WorkingTree) → slice_get trees k ≡ Some t → list_any (λ P. has_root P t.root.now) Ps ≡ true
 
 no_tree : {X : Type 0} (k : ℕ) (x : X) → slice_get [] k ≡ Some x → ⊥
@@ -39,7 +39,7 @@ no_tree k x e = cc
 pub opened_none : (S : State) (Ps : List Parts) → AreOpened S Ps [] []
 opened_none S Ps = record {
   each = λ j s e. absurd (no_tree j s e);
-  trees = record { each = λ k t e. absurd (no_tree k t e); once = λ i k t u e f h. absurd (no_tree i t e) };
+  replicas = record { each = λ k t e. absurd (no_tree k t e); once = λ i k t u e f h. absurd (no_tree i t e) };
   roots = λ k t e. absurd (no_tree k t e);
 }
 
@@ -62,7 +62,7 @@ pub opened_more : (S : State) (Ps : List Parts) (seats : List Seat) (old new : L
     → IsOpened S new (length seats) P s → AreTrees (replicas_of S) new → Extends P old new → AreOpened S Ps (seats ++ s ∷ []) new
 opened_more S Ps seats old new P s opened is one trees more = record {
   each = get_push (λ j s. (P : Parts) × (slice_get Ps j ≡ Some P) × IsOpened S new j P s) seats s (λ j t e. earlier S Ps old new P more j t (opened.each j t e)) (P, is, one);
-  trees = trees;
+  replicas = trees;
   roots = λ k t e. elim (more.rest k t e) [
     | inl h ↦ opened.roots k t h
     | inr h ↦ listed (λ P. has_root P t.root.now) Ps (length seats) P is h
@@ -89,10 +89,10 @@ module _ (S : State) (Ps : List Parts) (seats : List Seat) (trees : List Working
 
   pub opened_table : IsTable (jobs_of S Ps) (opening (jobs_of S Ps) (replicas_of S)) seats trees
   opened_table = record {
-    seats = λ j s e. let P = opened.each j s e in seat_is j s P.0 P.1 P.2;
+    each = λ j s e. let P = opened.each j s e in seat_is j s P.0 P.1 P.2;
     count = all;
     logs = length-map Ps (λ (P : Parts). no_log);
-    trees = opened.trees;
+    replicas = opened.replicas;
     roots = opened.roots;
   }
 

@@ -72,8 +72,11 @@ tree_set : (trees : List WorkingTree) (k : ℕ) (t : WorkingTree) (m : Replica) 
 tree_set trees k t m is = record {
   back = each_set (λ i u. (v : WorkingTree) × (slice_get trees i ≡ Some v) × (v.root.now ≡ u.root.now)) trees k t (with_tree t m) is (t, is, refl) (λ i u off e. (u, e, refl));
   forth = λ i u e. elim (cases_eq i k) [
-    | inl same ↦ (with_tree t m, ap (slice_get (slice_set trees k (with_tree t m))) same ∙ set_here trees k t (with_tree t m) is,
-        ap (λ (v : WorkingTree). v.root.now) (one_value t u (sym is ∙ (ap (slice_get trees) (sym same) ∙ e))))
+    | inl same ↦ (
+      with_tree t m,
+      ap (slice_get (slice_set trees k (with_tree t m))) same ∙ set_here trees k t (with_tree t m) is,
+      ap (λ (v : WorkingTree). v.root.now) (one_value t u (sym is ∙ (ap (slice_get trees) (sym same) ∙ e))),
+    )
     | inr off ↦ (u, set_there trees i k (with_tree t m) off ∙ e, refl)
   ];
 }
@@ -102,7 +105,7 @@ module _ (J : Jobs) (w v : World) (seats : List Seat) (old new : List WorkingTre
     (log : t.job.log ≡ log_of v j) (others : (i : ℕ) → i ≢ j → log_of w i ≡ log_of v i) (count : length v.logs ≡ length w.logs) (trees : AreTrees v.replica new) where
   here : IsSeat J v new j t
   here =
-      let a = table.seats j s is in
+      let a = table.each j s is in
       record {
         is = a.is ∙ ap (λ P. Some P) (sym alike.profile);
         valid = subst IsProfile (sym alike.profile) a.valid;
@@ -117,7 +120,7 @@ module _ (J : Jobs) (w v : World) (seats : List Seat) (old new : List WorkingTre
 
   there : (i : ℕ) (u : Seat) → i ≢ j → slice_get seats i ≡ Some u → IsSeat J v new i u
   there i u off e =
-      let a = table.seats i u e in
+      let a = table.each i u e in
       record {
         is = a.is;
         valid = a.valid;
@@ -131,10 +134,10 @@ module _ (J : Jobs) (w v : World) (seats : List Seat) (old new : List WorkingTre
 
   pub table_set : IsTable J v (slice_set seats j t) new
   table_set = record {
-    seats = each_set (IsSeat J v new) seats j s t is here there;
+    each = each_set (IsSeat J v new) seats j s t is here there;
     count = length-set seats j t ∙ table.count;
     logs = count ∙ table.logs;
-    trees = trees;
+    replicas = trees;
     roots = λ k u e. let b = same.back k u e in ap (λ r. list_any (λ P. has_root P r) J.profiles) (sym b.2) ∙ table.roots k b.0 b.1;
   }
 
@@ -148,13 +151,13 @@ pub table_same : (J : Jobs) (w v : World) (seats : List Seat) (trees : List Work
     → IsTable J v (slice_set seats j t) trees
 table_same J w v seats trees j s t table is alike log e =
     subst (λ (v : World). IsTable J v (slice_set seats j t) trees) e
-    (table_set J w w seats trees trees table (same_roots trees) j s t is alike (log ∙ (table.seats j s is).log) (λ i off. refl) refl table.trees)
+    (table_set J w w seats trees trees table (same_roots trees) j s t is alike (log ∙ (table.each j s is).log) (λ i off. refl) refl table.replicas)
 
 module _ (J : Jobs) (w : World) (seats : List Seat) (trees : List WorkingTree) (table : IsTable J w seats trees) (j : ℕ) (s t : Seat) (is : slice_get seats j ≡ Some s) (alike : SameSeat s t) (side : Side) (op : Op)
     (asks : next s.job.profile s.job.archive s.job.log ≡ Ask side op) (u : WorkingTree) (at : slice_get trees (place_on s side) ≡ Some u)
     (log : t.job.log ≡ s.job.log ++ record { side = side; step = record { job = s.job.number; op = op; answer = answer u.tree s.profile.now u.root.now op } } ∷ []) where
   a : IsSeat J w trees j s
-  a = table.seats j s is
+  a = table.each j s is
 
   abbrev P : Parts
   P = s.profile.now
@@ -170,7 +173,7 @@ module _ (J : Jobs) (w : World) (seats : List Seat) (trees : List WorkingTree) (
   root_is = let p = a.places side in ap (λ (v : WorkingTree). v.root.now) (one_value u p.0 (sym at ∙ p.1)) ∙ p.2
 
   tree_is : u.tree ≡ w.replica r
-  tree_is = table.trees.each k u at ∙ ap w.replica root_is
+  tree_is = table.replicas.each k u at ∙ ap w.replica root_is
 
   abbrev v : World
   v = event P j side op w (Some r)
@@ -186,13 +189,13 @@ module _ (J : Jobs) (w : World) (seats : List Seat) (trees : List WorkingTree) (
 
   kept : (i : ℕ) (x : WorkingTree) → i ≢ k → slice_get trees i ≡ Some x → x.tree ≡ v.replica x.root.now
   kept i x off e =
-      table.trees.each i x e
-      ∙ sym (ap (λ b. cond b (after (w.replica r) op) (w.replica x.root.now)) (false_from_ne_true (path_eq r x.root.now) (λ h. off (table.trees.once i k x u e at (sym (root_is ∙ same_path r x.root.now h))))))
+      table.replicas.each i x e
+      ∙ sym (ap (λ b. cond b (after (w.replica r) op) (w.replica x.root.now)) (false_from_ne_true (path_eq r x.root.now) (λ h. off (table.replicas.once i k x u e at (sym (root_is ∙ same_path r x.root.now h))))))
 
   new_trees : AreTrees v.replica new
   new_trees = record {
     each = each_set (λ i x. x.tree ≡ v.replica x.root.now) trees k u (with_tree u (after u.tree op)) at changed kept;
-    once = once_again trees new (tree_set trees k u (after u.tree op) at) table.trees.once;
+    once = once_again trees new (tree_set trees k u (after u.tree op) at) table.replicas.once;
   }
 
   log_is : t.job.log ≡ log_of v j

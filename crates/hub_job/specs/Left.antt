@@ -1,5 +1,5 @@
 -- What the jobs of a schedule leave in a state.
-use Rattle.std.specs.Prelude.{◌≡◌, ◌≢◌, Bool, true, false, ◌&&◌, List, [], ◌∷◌, Option, Some, None, IsTrue, if◌then◌else◌, unwrap_or}
+use Rattle.std.specs.Prelude.{◌≡◌, ◌≢◌, ℕ, Bool, true, false, ◌&&◌, slice_get, List, [], ◌∷◌, Option, Some, None, IsTrue, if◌then◌else◌, unwrap_or}
 use Rattle.std.specs.FinMap as fin
 use Rattle.hub_path.specs.Path.{Path, is_place}
 use Rattle.hub_profile.specs.Parts.{Parts}
@@ -54,3 +54,6 @@ KeptIn P O (Some next) = (p : Path) → reach P p ≡ false → old_mark_at next
 -- A next archive has the marks of the opening at the paths that the profile doesn't reach.
 abbrev pub KeepsUnreached : NextArchive → Type 0
 KeepsUnreached n = KeptIn n.profile.now n.opening.now n.next
+
+abbrev pub AreKept : List NextArchive → Type 0
+AreKept ns = (k : ℕ) (n : NextArchive) → slice_get ns k ≡ Some n → KeepsUnreached n

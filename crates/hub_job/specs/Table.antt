@@ -1,5 +1,5 @@
 -- Jobs and replicas that a schedule works on, against the world that they stand for.
-use Rattle.std.specs.Prelude.{◌≡◌, ◌≤◌, ◌<◌, ◌⊎◌, ◌==◌, ℕ, Bool, true, false, List, [], ◌∷◌, length, slice_get, slice_set, count_by, Option, Some, None, if◌then◌else◌}
+use Rattle.std.specs.Prelude.{◌≡◌, ◌≢◌, ◌≤◌, ◌<◌, ◌⊎◌, ◌==◌, ℕ, Bool, true, false, List, [], ◌∷◌, length, slice_get, slice_set, count_by, Option, Some, None, if◌then◌else◌}
 use Rattle.std.specs.List.{list_any}
 use Rattle.hub_path.specs.Path.{Path}
 use Rattle.hub_path.specs.declared.side.Side.{Side}
@@ -30,6 +30,10 @@ stopped_at seats j = some_passes (λ s. s.job.stopped) (slice_get seats j)
 -- The replica of a root has this number.
 abbrev pub IsPlaced : List WorkingTree → Path → ℕ → Type 0
 IsPlaced trees r k = (t : WorkingTree) × (slice_get trees k ≡ Some t) × (t.root.now ≡ r)
+
+-- None of the first n replicas is that of a root.
+abbrev pub IsNotIn : List WorkingTree → ℕ → Path → Type 0
+IsNotIn trees n r = (k : ℕ) (t : WorkingTree) → k < n → slice_get trees k ≡ Some t → t.root.now ≢ r
 
 -- Each replica is that of its root, and no root is there twice.
 pub record AreTrees (replica : Path → Replica) (trees : List WorkingTree) : Type 0 where
@@ -65,10 +69,10 @@ pub record IsSeat (J : Jobs) (w : World) (trees : List WorkingTree) (j : ℕ) (s
 
 -- These jobs and replicas are those of a world.
 pub record IsTable (J : Jobs) (w : World) (seats : List Seat) (trees : List WorkingTree) : Type 0 where
-  pub seats : (j : ℕ) (s : Seat) → slice_get seats j ≡ Some s → IsSeat J w trees j s
+  pub each : (j : ℕ) (s : Seat) → slice_get seats j ≡ Some s → IsSeat J w trees j s
   pub count : length seats ≡ length J.profiles
   pub logs : length w.logs ≡ length J.profiles
-  pub trees : AreTrees w.replica trees
+  pub replicas : AreTrees w.replica trees
   pub roots : (k : ℕ) (t : WorkingTree) → slice_get trees k ≡ Some t → list_any (λ P. has_root P t.root.now) J.profiles ≡ true
 
 abbrev pub StayStopped : (ℕ → Bool) → (ℕ → Bool) → Type 0

@@ -1,5 +1,5 @@
 //! How the jobs of a schedule end, and what they leave in the state.
-ghost use Rattle.std.specs.Prelude.{◌≡◌, ◌≢◌, false, ◌&&◌, map, fold, All, IfOk, OnOk, if◌then◌else◌};
+ghost use Rattle.std.specs.Prelude.{◌≡◌, ◌≢◌, false, ◌&&◌, map, fold, IfOk, OnOk, if◌then◌else◌};
 ghost use Rattle.hub_path.specs.Path.{Path};
 ghost use Rattle.hub_reach.specs.Reach.{reach};
 ghost use Rattle.hub_tree.specs.Tree as of_tree;
@@ -30,8 +30,8 @@ pub(crate) fn end_jobs<'a>(
     alloc: Global,
     seats: Vec<Seat<'a>>,
 ) -> Result<(Items<JobEnd>, Vec<NextArchive<'a>>), AllocError>
-    ensures ends { IfOk result (λ r. r.0 ≡ map spec.end_value seats.items) }
-    ensures nexts { IfOk result (λ r. r.1.items ≡ map spec.next_value seats.items) }
+    ensures ends { IfOk result (λ r. r.0 ≡ map spec.end_value seats.entry.items) }
+    ensures nexts { IfOk result (λ r. r.1.items ≡ map spec.next_value seats.entry.items) }
 {
     let mut ends = Vec::new(alloc);
     let mut nexts = Vec::new(alloc);
@@ -56,7 +56,7 @@ pub(crate) fn end_jobs<'a>(
 
 /// Puts the replicas into the state. Out of memory may leave some of them there.
 pub(crate) fn put_trees(state: &mut State, trees: Vec<WorkingTree<'_>>) -> Result<(), AllocError>
-    ensures { OnOk result (state.new ≡ fold spec.put_tree state.old trees.items) }
+    ensures { OnOk result (state.new ≡ fold spec.put_tree state.old trees.entry.items) }
 {
     for replica in trees {
         let WorkingTree { root, tree } = replica;
@@ -70,24 +70,35 @@ pub(crate) fn put_trees(state: &mut State, trees: Vec<WorkingTree<'_>>) -> Resul
 pub(crate) fn put_archives(
     alloc: Global,
     state: &mut State,
-    nexts: Vec<NextArchive<'_>>,
+    mut nexts: Vec<NextArchive<'_>>,
 ) -> Result<(), AllocError>
-    requires { All spec.KeepsUnreached nexts.items }
+    requires { spec.AreKept nexts.items }
     ensures replicas { OnOk result (state.new.replicas ≡ state.old.replicas) }
-    ensures marks { OnOk result (spec.HasMarks (spec.mark_from nexts.items) state.old state.new) }
+    ensures marks { OnOk result
+        (spec.HasMarks (spec.mark_from nexts.entry.items) state.old state.new) }
 {
-    let mut nexts = nexts;
     while let Some(job) = nexts.pop() {
-        let NextArchive {
-            profile,
-            opening,
-            next,
-        } = job;
-        if let Some(next) = next {
-            put_marks(alloc, state, profile, opening, next)?;
-        }
+        put_next(alloc, state, job)?;
     }
     Ok(())
+}
+
+/// Puts what a job leaves into the archive of its pair of roots.
+fn put_next(alloc: Global, state: &mut State, job: NextArchive<'_>) -> Result<(), AllocError>
+    requires { spec.KeepsUnreached job }
+    ensures replicas { OnOk result (state.new.replicas ≡ state.old.replicas) }
+    ensures marks { OnOk result
+        (spec.HasMarks (spec.mark_of_next job.entry.profile.now job.entry.next) state.old state.new) }
+{
+    let NextArchive {
+        profile,
+        opening,
+        next,
+    } = job;
+    match next {
+        Some(next) => put_marks(alloc, state, profile, opening, next),
+        None => Ok(()),
+    }
 }
 
 /// Puts the marks of the paths that the profile reaches into the archive of its pair of roots.

@@ -22,7 +22,6 @@ mod schedule;
 mod schedule_tests;
 mod seat;
 mod seats;
-
 mod step;
 mod steps;
 pub mod together;

@@ -100,7 +100,8 @@ const TURNS: [(&[usize], &str); 6] = [
 ];
 
 /// Both jobs are finished.
-const BOTH: &str = "finished llfs\nfinished llfs\nhubsync state 1\nreplica /srv/hub\nfile 61 a\nfile 62 b\nreplica /srv/s1\nfile 61 a\nfile 62 b\narchive /srv/hub\nwith /srv/s1\nfile ca978112ca1bbdcafac231b39a23dc4da786eff8147c4e72b9807785afee48bb a\nfile 3e23e8160039594a33894f6564e1b1348bbd7a0088d42c4acb73eeaed59c009d b\nend\n";
+const BOTH: &str =
+    "finished llfs\nfinished llfs\nhubsync state 1\nreplica /srv/hub\nfile 61 a\nfile 62 b\nreplica /srv/s1\nfile 61 a\nfile 62 b\narchive /srv/hub\nwith /srv/s1\nfile ca978112ca1bbdcafac231b39a23dc4da786eff8147c4e72b9807785afee48bb a\nfile 3e23e8160039594a33894f6564e1b1348bbd7a0088d42c4acb73eeaed59c009d b\nend\n";
 
 #[test]
 fn two_jobs_take_turns(rt: HostRuntime) -> Result<(), Fail> {

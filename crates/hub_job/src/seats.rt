@@ -1,11 +1,11 @@
 //! The jobs of profiles, and the replicas that they change.
-ghost use Rattle.std.specs.Prelude.{◌≡◌, ◌≢◌, ◌⊎◌, ℕ, false, Some, All, MatchOption, slice_get, IfOk, OnOk};
+ghost use Rattle.std.specs.Prelude.{◌≡◌, ◌⊎◌, ℕ, false, Some, MatchOption, length, slice_get, IfOk, OnOk};
 ghost use Rattle.std.specs.FinMap as fin;
 ghost use Rattle.hub_path.specs.declared.side.Side.TheVariants as of_side;
 ghost use Rattle.hub_job.specs.declared.seat.WorkingTree.{WorkingTree};
 ghost use Rattle.hub_job.specs.Outcome.{archive_of, jobs_of, replicas_of};
 ghost use Rattle.hub_job.specs.Run.{root_at};
-ghost use Rattle.hub_job.specs.Table.{AreTrees, Extends, IsNew, IsPlaced, IsTable, stopped_at};
+ghost use Rattle.hub_job.specs.Table.{AreTrees, Extends, IsNew, IsNotIn, IsPlaced, IsTable, stopped_at};
 ghost use Rattle.hub_job.specs.World.{opening};
 
 use crate::job::Job;
@@ -101,7 +101,7 @@ fn place_for<'a>(
 
 /// Finds the replica of a root.
 fn find_tree(trees: &[WorkingTree<'_>], root: &Root) -> Option<usize>
-    ensures { MatchOption result (All (λ t. t.root.now ≢ root.now) trees.now)
+    ensures { MatchOption result (IsNotIn trees.now (length trees.now) root.now)
         (IsPlaced trees.now root.now) }
 {
     for (place, tree) in trees.iter().enumerate() {

@@ -101,6 +101,9 @@ put_archives : (trees : List WorkingTree) (S : State) → (fold put_tree S trees
 put_archives [] S = refl
 put_archives (t ∷ trees) S = put_archives trees (with_replica S t.root.now t.tree)
 
+from_zero : (k : ℕ) → 0 + k ≡ k
+from_zero k = omega arith
+
 no_value : {X : Type 0} (x : X) → None ≡ Some x → ⊥
 no_value x e = cc
 
@@ -205,7 +208,7 @@ module _ (S : State) (Ps : List Parts) (facts : AreProfiles Ps) (has : HasReplic
   marks_are r s p one other off =
       marks r s p one other off
       ∙ (ap (mark_from (map next_value seats) r s p) (ap (λ a. old_mark_at (unwrap_or (fin.get a (pair_of r s)) fin.empty) p) (put_archives trees S))
-      ∙ (find_marks S Ps (log_of w) o r s p (mark_in S r s p) (map next_value seats) 0 next_at
+      ∙ (find_marks S Ps (log_of w) o r s p (mark_in S r s p) (map next_value seats) 0 (λ k n e. subst (λ i. IsNextOf S Ps (log_of w) o i n) (sym (from_zero k)) (next_at k n e))
       ∙ ap (λ n. outcome.mark_by S Ps (log_of w) p (mark_in S r s p) (find (outcome.takes o Ps r s p) (range_with_len 0 n))) many))
 
   pub joined : outcome.IsOutcomeWith S Ps (log_of w) w.replica o

@@ -1,6 +1,6 @@
 -- What the code of operations has against their definition.
-use Rattle.std.proofs.Common.{◌≡◌, ◌≢◌, Bool, true, false, cond, not, ◌&&◌, ◌||◌, List, [], ◌∷◌, ◌++◌, length, map, Option, Some, None, refl, ap, sym, ◌∙◌, append_assoc}
-use Rattle.std.specs.Prelude.{ℕ, ◌==◌, filter, unwrap_or}
+use Rattle.std.proofs.Common.{◌≡◌, ◌≢◌, Bool, true, false, cond, not, ◌&&◌, ◌||◌, List, [], ◌∷◌, ◌++◌, length, map, Option, Some, None, refl, ap, sym, ◌∙◌, append_assoc, ◌<◌, ◌≤◌, drop, get_or, arith}
+use Rattle.std.specs.Prelude.{ℕ, zero, suc, ◌==◌, filter, unwrap_or}
 use Rattle.std.specs.List.{list_any}
 use Rattle.std.specs.Cmp.{tied_itself}
 use Rattle.std.specs.Cmp.Lexicographic.{slice_cmp, lists_ties, texts_ties}
@@ -12,18 +12,18 @@ use Rattle.std.proofs.lemmas.Bool.{false≢true, and_parts}
 use Rattle.hub_path.specs.Path.{Name, Path, path_cmp, path_eq, parent, last_name}
 use Rattle.hub_path.specs.Laws.{path_cmp-total, path_cmp-exact, parent-last_name}
 use Rattle.hub_profile.specs.Parts.{Parts}
-use Rattle.hub_reach.specs.Reach.{reach}
-use Rattle.hub_tree.specs.Tree.{Replica, IsRefusal, bytes_of, contents_at, children, names_at, is_absent, is_child, is_directory, mark_of}
+use Rattle.hub_reach.specs.Reach.{reach, writes}
+use Rattle.hub_tree.specs.Tree.{Replica, IsRefusal, bytes_of, contents_at, children, mark_at, names_at, is_absent, is_child, is_directory, mark_of}
 use Rattle.hub_tree.specs.declared.contents.Contents.{Contents}
 use Rattle.hub_tree.specs.declared.contents.Contents.TheVariants as contents
 use Rattle.hub_tree.specs.declared.contents.Mark.{Mark}
 use Rattle.hub_tree.specs.declared.contents.Mark.TheVariants as mark
 use Rattle.hub_tree.specs.declared.fault.SetFault.{SetFault}
 use Rattle.hub_tree.specs.declared.fault.SetFault.TheVariants as set
-use Rattle.hub_reconcile.specs.Sight.{is_kept, is_kept_parent, reached_names, directory_or_absent}
-use Rattle.hub_job.specs.declared.answer.Answer.TheVariants.{Bytes, Refused}
+use Rattle.hub_reconcile.specs.Sight.{Sight, is_kept, is_kept_parent, reached_names, directory_or_absent, sight}
+use Rattle.hub_job.specs.declared.answer.Answer.TheVariants.{Seen, Bytes, Refused}
 use Rattle.hub_job.specs.declared.answer.OpFault.TheVariants.{NoFile}
-use Rattle.hub_job.specs.Machine.{fetched}
+use Rattle.hub_job.specs.Machine.{fetched, seen}
 
 -- A Fetch.
 pub gives_bytes : (c : Contents) (bytes : List ℕ) → Some bytes ≡ bytes_of c → Bytes bytes ≡ fetched c
@@ -127,3 +127,63 @@ directory_mark true (contents.File bytes) e h = cc
 directory_mark true contents.Directory e h = refl
 directory_mark true contents.Absent e h = cc
 directory_mark false c e h = cc
+
+-- What is seen of a path that is reached, of the whole replica, and elsewhere.
+abbrev seen_there : Parts → Path → Replica → Path → Bool → Sight
+seen_there P r m d b = record { mark = mark_at m d; names = reached_names P m d; others = writes P r && b && list_any (λ q. not (reach P q)) (children m d) }
+
+abbrev seen_at_top : Parts → Replica → Sight
+seen_at_top P m = record { mark = mark.Directory; names = reached_names P m []; others = false }
+
+abbrev seen_elsewhere : Parts → Replica → Path → Sight
+seen_elsewhere P m d = record { mark = directory_or_absent (is_kept_parent P d && is_directory (contents_at m d)); names = []; others = false }
+
+sight_by : (P : Parts) (r : Path) (m : Replica) (d : Path) (b c : Bool) → reach P d ≡ b → (length d == 0 && is_kept P []) ≡ c
+    → sight P r m d ≡ cond b (seen_there P r m d b) (cond c (seen_at_top P m) (seen_elsewhere P m d))
+unfolding sight
+sight_by P r m d b c h k =
+    ap (λ b. cond b (seen_there P r m d b) (cond (length d == 0 && is_kept P []) (seen_at_top P m) (seen_elsewhere P m d))) h
+    ∙ ap (λ c. cond b (seen_there P r m d b) (cond c (seen_at_top P m) (seen_elsewhere P m d))) k
+
+and_true : (b : Bool) → (b && true) ≡ b
+and_true true = refl
+and_true false = refl
+
+same_seen : (a b : Mark) (ns ms : List Name) (o q : Bool) → a ≡ b → ns ≡ ms → o ≡ q → Seen a ns o ≡ Seen b ms q
+same_seen a b ns ms o q e f g = cc
+
+pub sees_reached : (P : Parts) (r : Path) (m : Replica) (d : Path) (mk : Mark) (ns : List Name) (o : Bool) → reach P d ≡ true → mk ≡ mark_at m d
+    → ns ≡ filter (λ n. reach P (d ++ n ∷ [])) (names_at m d) → o ≡ (writes P r && list_any (λ n. not (reach P (d ++ n ∷ []))) (names_at m d))
+    → Seen mk ns o ≡ seen (sight P r m d)
+sees_reached P r m d mk ns o h em en eo =
+    same_seen mk (mark_at m d) ns (reached_names P m d) o (writes P r && true && list_any (λ q. not (reach P q)) (children m d)) em (en ∙ names_reached P m d)
+    (eo ∙ (ap (λ b. writes P r && b) (names_not_reached P m d) ∙ ap (λ b. b && list_any (λ q. not (reach P q)) (children m d)) (sym (and_true (writes P r)))))
+    ∙ ap seen (sym (sight_by P r m d true (length d == 0 && is_kept P []) h refl))
+
+pub sees_top : (P : Parts) (r : Path) (m : Replica) (d : Path) (ns : List Name) → reach P d ≡ false → (length d == 0 && list_any (path_eq d) P.paths) ≡ true
+    → ns ≡ filter (λ n. reach P (d ++ n ∷ [])) (names_at m d) → Seen mark.Directory ns false ≡ seen (sight P r m d)
+sees_top P r m [] ns h k en =
+    same_seen mark.Directory mark.Directory ns (reached_names P m []) false false refl (en ∙ names_reached P m []) refl
+    ∙ ap seen (sym (sight_by P r m [] false true h (and_true (list_any (path_eq []) P.paths) ∙ k)))
+sees_top P r m (n ∷ d) ns h k en = absurd (false≢true k)
+
+pub sees_elsewhere : (P : Parts) (r : Path) (m : Replica) (d : Path) (mk : Mark) → reach P d ≡ false → (length d == 0 && list_any (path_eq d) P.paths) ≡ false
+    → mk ≡ directory_or_absent (is_kept_parent P d && is_directory (contents_at m d)) → Seen mk [] false ≡ seen (sight P r m d)
+sees_elsewhere P r m [] mk h k em =
+    same_seen mk (directory_or_absent (is_kept_parent P [] && is_directory (contents_at m []))) [] [] false false em refl refl
+    ∙ ap seen (sym (sight_by P r m [] false false h (and_true (list_any (path_eq []) P.paths) ∙ k)))
+sees_elsewhere P r m (n ∷ d) mk h k em =
+    same_seen mk (directory_or_absent (is_kept_parent P (n ∷ d) && is_directory (contents_at m (n ∷ d)))) [] [] false false em refl refl
+    ∙ ap seen (sym (sight_by P r m (n ∷ d) false false h refl))
+
+-- A loop over kept values.
+pub past_all : {X : Type 0} (n : ℕ) (xs : List X) → length xs ≤ n → drop n xs ≡ []
+past_all zero [] h = refl
+past_all zero (x ∷ xs) h = absurd (omega (arith, h))
+past_all (suc n) [] h = refl
+past_all (suc n) (x ∷ xs) h = past_all n xs (omega (arith, h))
+
+pub one_passes : (f : Path → Bool) (ps : List Path) (i : ℕ) (p : Path) → i < length ps → p ≡ get_or ps i p → f p ≡ true → list_any f (drop i ps) ≡ true
+one_passes f [] i p h e k = absurd (omega (arith, h))
+one_passes f (q ∷ ps) zero p h e k = ap (λ b. b || list_any f ps) (ap f (sym e) ∙ k)
+one_passes f (q ∷ ps) (suc i) p h e k = one_passes f ps i p (omega (arith, h)) e k

@@ -1,5 +1,5 @@
 -- What a job does next in its phase, and that the phase follows the log.
-use Rattle.std.proofs.Common.{◌≡◌, ◌<◌, ◌≤◌, ◌+◌, ◌-◌, Bool, true, false, cond, not, ◌&&◌, ◌||◌, List, [], ◌∷◌, ◌++◌, length, map, take, drop, Option, Some, None, refl, ap, sym, ◌∙◌, subst, arith, length-append}
+use Rattle.std.proofs.Common.{◌≡◌, ◌<◌, ◌≤◌, ◌+◌, ◌-◌, Bool, true, false, cond, not, ◌&&◌, ◌||◌, List, [], ◌∷◌, ◌++◌, length, map, take, drop, Option, Some, None, refl, ap, sym, ◌∙◌, subst, arith, length-append, IfOk, Result, Ok, Err}
 use Rattle.std.specs.Prelude.{ℕ, slice_get, unwrap_or}
 use Rattle.std.specs.List.{list_any, list_all}
 use Rattle.std.proofs.lemmas.Bool.{false≢true, and_parts}
@@ -82,10 +82,11 @@ pub all_made : (P : Parts) (O : Archive) (j : ℕ) (log : List Logged) (l : Look
 all_made P O j log l r h f =
     let m = told_more l (slice_get log l.told) in
     let all = told_all P O j log l r h in
-    let none = none_left (slice_get m.left 0) (slice_get m.right 0) f in
-    (h.looks,
-    subst (λ ps. IsWaiting P log Left ps) (none_first m.left none.0) all.0.left,
-    subst (λ ps. IsWaiting P log Right ps) (none_first m.right none.1) all.0.right)
+    let none = none_left (slice_get m.left 0) (slice_get m.right 0) f in (
+      h.looks,
+      subst (λ ps. IsWaiting P log Left ps) (none_first m.left none.0) all.0.left,
+      subst (λ ps. IsWaiting P log Right ps) (none_first m.right none.1) all.0.right,
+    )
 
 -- After the Looks.
 less_looks : (a b c : ℕ) → a + b ≡ c → a ≡ c - b
@@ -202,3 +203,37 @@ followed P O log (phase.Making s) e h a n f =
           ∙ (or_false (is_refused e.step.answer) ∙ sym (last_is log e)));
     }
 followed P O log phase.Stopped e h a n f = tt
+
+-- In the code's phases.
+told_follows : (P : Parts) (O : Archive) (log : List Logged) (p : Phase) (l : Looks) → Follows P O log p → p ≡ phase.Looking l → AreLooksOf P log l
+told_follows P O log p l h e = subst (λ p. Follows P O log p) e h
+
+pub looks_next : (P : Parts) (O : Archive) (log : List Logged) (p : Phase) (l m : Looks) (o : Option Next) (n : Next) → Follows P O log p → p ≡ phase.Looking l
+    → (j : ℕ) × Runs P O j [] log → m ≡ told_more l (slice_get log l.told) → o ≡ first_look m → o ≡ Some n → IsNext P O log (phase.Looking m) n
+looks_next P O log p l m o n h e r t f s =
+    subst (λ m. IsNext P O log (phase.Looking m) n) (sym t)
+    (looking_next P O r.0 log l n r.1 (told_follows P O log p l h e) (ap first_look (sym t) ∙ (sym f ∙ s)))
+
+no_next : (o : Option Next) → ((n : Next) → o ≡ Some n → ⊥) → o ≡ None
+no_next None h = refl
+no_next (Some n) h = absurd (h n refl)
+
+pub looks_made : (P : Parts) (O : Archive) (log : List Logged) (p : Phase) (l m : Looks) (o : Option Next) → Follows P O log p → p ≡ phase.Looking l
+    → (j : ℕ) × Runs P O j [] log → m ≡ told_more l (slice_get log l.told) → o ≡ first_look m → ((n : Next) → o ≡ Some n → ⊥)
+    → (are_looks log ≡ true) × IsWaiting P log Left [] × IsWaiting P log Right []
+looks_made P O log p l m o h e r t f s =
+    all_made P O r.0 log l r.1 (told_follows P O log p l h e) (ap first_look (sym t) ∙ (sym f ∙ no_next o s))
+
+pub steps_within : (P : Parts) (O : Archive) (log : List Logged) (p : Phase) (s : Steps) → Follows P O log p → p ≡ phase.Making s → s.looks ≤ length log
+steps_within P O log p s h e = looks_within P O log s (subst (λ p. Follows P O log p) e h)
+
+pub steps_next : (P : Parts) (O : Archive) (log : List Logged) (p : Phase) (s : Steps) {E : Type 0} (r : Result Next E) → Follows P O log p → p ≡ phase.Making s
+    → IfOk r (λ n. n ≡ next_step s log) → IfOk r (λ n. IsNext P O log (phase.Making s) n)
+steps_next P O log p s (Ok n) h e a = making_next P O log s n (subst (λ p. Follows P O log p) e h) a
+steps_next P O log p s (Err x) h e a = tt
+
+pub does_next : (P : Parts) (O : Archive) (log : List Logged) (p : Phase) (n : Next) → IsNext P O log p n → is_stopped p ≡ false → n ≡ next P O log
+does_next P O log p n h s = says_next P O log p n h.next s
+
+pub does_nothing : (P : Parts) (O : Archive) (log : List Logged) (p : Phase) (n : Next) → IsNext P O log p n → is_stopped p ≡ true → n ≡ Stopped
+does_nothing P O log p n h s = says_stopped P O log p n h.next s

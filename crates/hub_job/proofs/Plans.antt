@@ -13,7 +13,10 @@ use Rattle.hub_path.specs.declared.side.Side.TheVariants.{Left, Right}
 use Rattle.hub_profile.specs.Parts.{Parts, some_passes}
 use Rattle.hub_tree.specs.Tree.{Archive}
 use Rattle.hub_reconcile.specs.Sight.{Sight}
-use Rattle.hub_reconcile.specs.Picture.{view_by, needed, are_rising}
+use Rattle.hub_reconcile.specs.Picture.{view_by, needed, are_rising, told_by}
+use Rattle.hub_reconcile.specs.Shown.{shown}
+use Rattle.hub_reconcile.specs.declared.look.Look.{Look}
+use Rattle.hub_reconcile.specs.declared.picture.Picture.{Picture}
 use Rattle.hub_reconcile.specs.Sync.{of_side}
 use Rattle.hub_reconcile.specs.View.{View}
 use Rattle.hub_job.specs.declared.log.Logged.{Logged}
@@ -71,3 +74,14 @@ steps_follow P O log ss looks wl wr e = record {
   right = wr;
   refused = none_refused log looks ∙ sym (refused_at log (length log - 1) (none_refused log looks));
 }
+
+pub looks_rise_in : (P : Parts) (log : List Logged) (k : Side) (ls ms : List Look) → IsWaiting P log k [] → ms ≡ ls → told_by ls ≡ sights log k → IsTrue (are_rising (told_by ms))
+looks_rise_in P log k ls ms w e t = subst (λ ss. IsTrue (are_rising ss)) (sym (ap told_by e ∙ t)) (looks_rise P log k w)
+
+pub shown_by : (P : Parts) (O : Archive) (log : List Logged) (V : Picture) → V.profile.now ≡ P → V.archive.now ≡ O → told_by V.left.now ≡ sights log Left → told_by V.right.now ≡ sights log Right
+    → shown V ≡ view_in P O log
+shown_by P O log V p o l r =
+    ap (λ P. view_by P V.archive.now (of_side (told_by V.left.now) (told_by V.right.now))) p
+    ∙ (ap (λ O. view_by P O (of_side (told_by V.left.now) (told_by V.right.now))) o
+    ∙ (ap (λ ls. view_by P O (of_side ls (told_by V.right.now))) l
+    ∙ (ap (λ rs. view_by P O (of_side (sights log Left) rs)) r ∙ shown_is P O log)))

@@ -29,7 +29,7 @@ use Rattle.hub_job.specs.Run.{Runs}
 use Rattle.hub_job.specs.Waiting.{listed, put_all, looks_for, put_kept}
 use Rattle.hub_job.specs.Phase.{seen_paths, IsWaiting, told_to, told_on, told_more, look_at, first_look, are_looks, AreLooks, AreLooksOf}
 use Rattle.hub_job.proofs.Waits.{AllBefore, ascending-append, ascending_is, put_all-append, sorted-ascending, all_before, children_wait, find_behind, path_eq-less}
-use Rattle.hub_job.proofs.Performs.{path_itself, any_middle, true_and}
+use Rattle.hub_job.proofs.Performs.{path_itself, any_middle, past_all, true_and}
 
 -- What one more entry adds to what a side has seen.
 pub sights_own : (log : List Logged) (e : Logged) (k : Side) → side_eq e.side k ≡ true → sights (log ++ e ∷ []) k ≡ sights log k ++ told e.step.op e.step.answer
@@ -113,9 +113,10 @@ seen_middle (t ∷ front) rest s = ap (λ b. path_eq t.0 s.0 || b) (seen_middle 
 
 all_seen : (front rest : List (Path × Sight)) → AllByRecursion (λ p. not (was_seen (front ++ rest) p) ≡ false) (seen_paths rest)
 all_seen front [] = tt
-all_seen front (s ∷ rest) =
-    (ap not (seen_middle front rest s),
-    subst (λ ss. AllByRecursion (λ p. not (was_seen ss p) ≡ false) (seen_paths rest)) (append_assoc front (s ∷ []) rest) (all_seen (front ++ s ∷ []) rest))
+all_seen front (s ∷ rest) = (
+  ap not (seen_middle front rest s),
+  subst (λ ss. AllByRecursion (λ p. not (was_seen ss p) ≡ false) (seen_paths rest)) (append_assoc front (s ∷ []) rest) (all_seen (front ++ s ∷ []) rest),
+)
 
 head_missing : (P : Parts) (ss : List (Path × Sight)) (qs : List Path) → IsStrictlySortedBy path_cmp (seen_paths ss ++ qs) → find (λ p. not (was_seen ss p)) qs ≡ slice_get qs 0
 head_missing P ss [] s = refl
@@ -194,15 +195,17 @@ tell_entry P O front j side (Fetch p) a left right n wl wr e fits is = absurd (f
 tell_entry P O front j side (Set p c) a left right n wl wr e fits is = absurd (false≢true is)
 tell_entry P O front j side (Look d) a [] [] n wl wr e fits is = absurd (false≢true (sym (step_is_no_look _ _ side (Look d) e) ∙ is))
 tell_entry P O front j Left (Look d) a (q ∷ qs) right n wl wr e fits is =
-    let same : q ≡ d = ap (path_in d) e in
-    (told_look P front (logged_as j Left (Look d) a) Left d qs a (sights_own front (logged_as j Left (Look d) a) Left refl) fits (subst (λ p. IsWaiting P front Left (p ∷ qs)) same wl),
-    not_told P front (logged_as j Left (Look d) a) Right right (sights_other front (logged_as j Left (Look d) a) Right refl) wr)
+    let same : q ≡ d = ap (path_in d) e in (
+      told_look P front (logged_as j Left (Look d) a) Left d qs a (sights_own front (logged_as j Left (Look d) a) Left refl) fits (subst (λ p. IsWaiting P front Left (p ∷ qs)) same wl),
+      not_told P front (logged_as j Left (Look d) a) Right right (sights_other front (logged_as j Left (Look d) a) Right refl) wr,
+    )
 tell_entry P O front j Right (Look d) a (q ∷ qs) right n wl wr e fits is = absurd (two_sides (ap (side_in Left) e))
 tell_entry P O front j Left (Look d) a [] (q ∷ qs) n wl wr e fits is = absurd (two_sides (sym (ap (side_in Left) e)))
 tell_entry P O front j Right (Look d) a [] (q ∷ qs) n wl wr e fits is =
-    let same : q ≡ d = ap (path_in d) e in
-    (not_told P front (logged_as j Right (Look d) a) Left [] (sights_other front (logged_as j Right (Look d) a) Left refl) wl,
-    told_look P front (logged_as j Right (Look d) a) Right d qs a (sights_own front (logged_as j Right (Look d) a) Right refl) fits (subst (λ p. IsWaiting P front Right (p ∷ qs)) same wr))
+    let same : q ≡ d = ap (path_in d) e in (
+      not_told P front (logged_as j Right (Look d) a) Left [] (sights_other front (logged_as j Right (Look d) a) Left refl) wl,
+      told_look P front (logged_as j Right (Look d) a) Right d qs a (sights_own front (logged_as j Right (Look d) a) Right refl) fits (subst (λ p. IsWaiting P front Right (p ∷ qs)) same wr),
+    )
 
 told_count : (l : Looks) (side : Side) (op : Op) (a : Answer) → (told_on side l op a).told ≡ l.told + 1
 told_count l Left op a = refl
@@ -249,12 +252,14 @@ told_last P O j log l r h len =
     let run = runs-last P O j [] front e (subst (λ es. Runs P O j [] es) w.2 r) in
     let look = last_look front e (ap are_looks (sym w.2) ∙ h.looks) in
     let both = tell_entry P O front e.step.job e.side e.step.op e.step.answer l.left l.right l.told h.told.left h.told.right (sym (next_looks P O front l h.told) ∙ run.0) run.1 look in
-    subst (λ o. AllTold P log (told_more l o)) (sym w.1)
-    (record {
-      looks = h.looks;
-      left = subst (λ es. IsWaiting P es Left (told_on e.side l e.step.op e.step.answer).left) (sym w.2) both.0;
-      right = subst (λ es. IsWaiting P es Right (told_on e.side l e.step.op e.step.answer).right) (sym w.2) both.1;
-    }, told_count l e.side e.step.op e.step.answer ∙ sym len)
+    subst (λ o. AllTold P log (told_more l o)) (sym w.1) (
+      record {
+        looks = h.looks;
+        left = subst (λ es. IsWaiting P es Left (told_on e.side l e.step.op e.step.answer).left) (sym w.2) both.0;
+        right = subst (λ es. IsWaiting P es Right (told_on e.side l e.step.op e.step.answer).right) (sym w.2) both.1;
+      },
+      told_count l e.side e.step.op e.step.answer ∙ sym len,
+    )
 
 told_none : (P : Parts) (log : List Logged) (l : Looks) → AreLooksOf P log l → l.told ≡ length log → AllTold P log (told_more l (slice_get log l.told))
 told_none P log l h same =
@@ -292,3 +297,9 @@ first_looks_are P =
     ascending_is (first_looks P)
     ∙ (ap (λ ps. put_all [] (flat_map looks_for ps)) (filter_own (λ s. length s == 0 || reach P s) [] P.paths)
     ∙ put_each P P.paths [])
+
+pub kept_done : (P : Parts) (ps ws : List Path) (n : ℕ) → length ps ≤ n → ps ≡ P.paths → fold (λ qs s. put_kept P qs s) ws (drop n ps) ≡ fold (λ qs s. put_kept P qs s) [] ps
+    → ws ≡ ascending (first_looks P)
+kept_done P ps ws n h e inv =
+    ap (λ rest. fold (λ qs s. put_kept P qs s) ws rest) (sym (past_all n ps h))
+    ∙ (inv ∙ (ap (λ ps. fold (λ qs s. put_kept P qs s) [] ps) e ∙ sym (first_looks_are P)))

@@ -54,6 +54,11 @@ new_job j P O = record { number = j; profile = P; archive = O; log = []; asked =
 abbrev pub after_turn : JobValue → Bool → Next → JobValue
 after_turn J stopped n = record J { asked = asked_by n; stopped = stopped }
 
+-- A log with what was asked and its answer.
+abbrev pub log_with : ℕ → List Logged → Option Asked → Answer → List Logged
+log_with j log None answer = log
+log_with j log (Some a) answer = log ++ record { side = a.side; step = record { job = j; op = a.op; answer = answer } } ∷ []
+
 -- The job with an answer to what it asked.
 abbrev pub with_answer : JobValue → Asked → Answer → JobValue
 with_answer J a answer = record J { log = J.log ++ record { side = a.side; step = record { job = J.number; op = a.op; answer = answer } } ∷ []; asked = None }

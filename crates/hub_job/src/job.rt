@@ -121,15 +121,8 @@ impl<'a> Job<'a> {
         requires fits { IfSome self.old.asked (λ a. Fits a.op answer) }
         ensures { IfSome self.old.asked (λ a. self.new ≡ value.with_answer self.old a answer) }
     {
-        if let Some(asked) = self.asked.take() {
-            let Asked { side, op } = asked;
-            let step = Entry {
-                job: self.number,
-                op,
-                answer,
-            };
-            let _pushed = self.log.push(Logged { side, step });
-        }
+        let asked = self.asked.take();
+        push_answer(&mut self.log, self.number, asked, answer);
     }
 
     /// Stops the job. It allocates nothing.
@@ -149,11 +142,12 @@ impl<'a> Job<'a> {
     }
 
     /// Ends the job: how, with its log, and for a finished one its items and the next archive of its pair.
+    #[tactic(none)]
     pub fn end(self) -> Result<(JobEnd, Option<Archive>), AllocError>
-        ensures end { IfOk result (λ e. e.0.end ≡ ends.end_of self) }
-        ensures log { IfOk result (λ e. e.0.log ≡ self.log) }
-        ensures items { IfOk result (λ e. e.0.items ≡ ends.items_of self) }
-        ensures archive { IfOk result (λ e. e.1 ≡ ends.archive_of self) }
+        ensures end { IfOk result (λ e. e.0.end ≡ ends.end_of self.entry) }
+        ensures log { IfOk result (λ e. e.0.log ≡ self.entry.log) }
+        ensures items { IfOk result (λ e. e.0.items ≡ ends.items_of self.entry) }
+        ensures archive { IfOk result (λ e. e.1 ≡ ends.archive_of self.entry) }
     {
         let Job {
             alloc,
@@ -176,6 +170,18 @@ impl<'a> Job<'a> {
         ensures { result ≡ self.now.number }
     {
         self.number
+    }
+}
+
+/// Appends what a job asked, with its answer, to the log. It allocates nothing.
+fn push_answer(log: &mut Vec<Logged>, job: usize, asked: Option<Asked>, answer: Answer)
+    requires { value.IsRoomy asked (vec_len log.old) (vec_capacity log.old) }
+    ensures { log.new.items ≡ value.log_with job log.old.items asked answer }
+{
+    if let Some(asked) = asked {
+        let Asked { side, op } = asked;
+        let step = Entry { job, op, answer };
+        let _pushed = log.push(Logged { side, step });
     }
 }
 

@@ -16,6 +16,8 @@ mod planned;
 mod run_fault;
 mod step;
 mod steps;
+#[cfg(test)]
+mod tests;
 mod waiting;
 
 pub use answer::{Answer, OpFault};

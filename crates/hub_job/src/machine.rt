@@ -2,6 +2,7 @@
 ghost use Rattle.std.specs.Prelude.{◌≡◌, false, ◌&&◌, ◌||◌, ◌==◌, [], ◌∷◌, ◌++◌, not, length, filter, IfOk, OnOk, OnErr};
 ghost use Rattle.std.specs.List.{list_any};
 ghost use Rattle.hub_path.specs.Path.{parent, path_eq};
+ghost use Rattle.hub_reach.specs.Reach as of_reach;
 ghost use Rattle.hub_reach.specs.Reach.{reach};
 ghost use Rattle.hub_tree.specs.Tree as of_tree;
 ghost use Rattle.hub_reconcile.specs.Sight as of_sight;
@@ -46,7 +47,6 @@ pub fn perform(
 }
 
 /// Tells what the profile sees at the path.
-#[tactic(auto, unfolding(hub_reconcile::specs::Sight::sight))]
 fn look(
     alloc: Global,
     profile: &Profile,
@@ -61,24 +61,54 @@ fn look(
     if reaches(profile, path) {
         let (names, others) = split_names(alloc, profile, path, tree.names_at(path)?)?;
         let mark = tree.mark_at(path);
-        let others = writes(profile, root) && others;
-        return Ok(Answer::Seen { mark, names, others });
+        let others = are_told(profile, root, others);
+        return Ok(Answer::Seen {
+            mark,
+            names,
+            others,
+        });
     }
-    if path.len() == 0 && is_kept(profile, path) {
+    if is_kept_top(profile, path) {
         let (names, _) = split_names(alloc, profile, path, tree.names_at(path)?)?;
-        return Ok(seen(Mark::Directory, names));
+        return Ok(directory_with(names));
     }
     let is_parent = is_kept_parent(profile, path)?;
-    Ok(seen(parent_mark(is_parent, tree, path), Items::new(alloc)))
+    Ok(mark_alone(alloc, parent_mark(is_parent, tree, path)))
 }
 
-/// Tells a mark and names, and no others.
-fn seen(mark: Mark, names: Items<Name>) -> Answer
-    ensures { result ≡ machine.seen (record { mark = mark; names = names; others = false }) }
+/// Returns whether others are told: where the profile writes at the root.
+fn are_told(profile: &Profile, root: &Root, others: bool) -> bool
+    ensures { result ≡ (of_reach.writes profile.now root.now && others) }
+{
+    writes(profile, root) && others
+}
+
+/// Returns whether the path is the whole replica, and that is kept.
+fn is_kept_top(profile: &Profile, path: &RelPath) -> bool
+    ensures { result ≡ (length path.now == 0 && list_any (path_eq path.now) profile.now.paths) }
+{
+    path.len() == 0 && is_kept(profile, path)
+}
+
+/// Tells a directory with these names, and no others.
+fn directory_with(names: Items<Name>) -> Answer
+    ensures { result
+        ≡ machine.seen (record { mark = Mark.Directory; names = names; others = false }) }
+{
+    Answer::Seen {
+        mark: Mark::Directory,
+        names,
+        others: false,
+    }
+}
+
+/// Tells a mark, and no names and no others.
+fn mark_alone(alloc: Global, mark: Mark) -> Answer
+    ensures { result ≡ machine.seen (record { mark = mark; names = []; others = false }) }
 {
     Answer::Seen {
         mark,
-        names,
+        names: Items::new(alloc),
         others: false,
     }
 }
@@ -127,11 +157,7 @@ fn is_kept_parent(profile: &Profile, path: &RelPath) -> Result<bool, AllocError>
 }
 
 /// Returns whether a kept value is reached, or is the whole replica, and has this parent.
-fn is_reached_child(
-    profile: &Profile,
-    kept: &RelPath,
-    path: &RelPath,
-) -> Result<bool, AllocError>
+fn is_reached_child(profile: &Profile, kept: &RelPath, path: &RelPath) -> Result<bool, AllocError>
     ensures { IfOk result (λ b. b ≡ ((length kept.now == 0 || reach profile.now kept.now)
         && path_eq (parent kept.now) path.now)) }
 {

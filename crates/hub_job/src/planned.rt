@@ -14,51 +14,13 @@ use crate::op::Op;
 use crate::steps::{Steps, steps_of};
 use hub_path::{RelPath, Side};
 use hub_profile::Profile;
-use hub_reconcile::contracts::Calls;
-use hub_reconcile::{Item, Look, Picture};
+use hub_reconcile::{Item, Look, Picture, items, next_archive, plan};
 use hub_text::Items;
 use hub_tree::Archive;
 use std::alloc::{AllocError, Global};
 
-/// STAND-IN until hub_reconcile's `plan` is there: `steps_by` is the body.
-pub(crate) fn steps_after(
-    _alloc: Global,
-    profile: &Profile,
-    archive: &Archive,
-    log: &[Logged],
-) -> Result<Steps, AllocError>
-    requires looks { are_looks log.now ≡ true }
-    requires left { IsWaiting profile.now log.now of_side.Left [] }
-    requires right { IsWaiting profile.now log.now of_side.Right [] }
-    ensures { IfOk result (AreSteps profile.now archive.now log.now) }
-{
-    let _profile = profile.paths();
-    let _archive = archive;
-    let _log = log;
-    Err(AllocError)
-}
-
-/// STAND-IN until hub_reconcile's `items` and `next_archive` are there: `ending_by` is the body.
-pub(crate) fn ending(
-    _alloc: Global,
-    profile: &Profile,
-    archive: &Archive,
-    log: &[Logged],
-) -> Result<(Items<Item>, Archive), AllocError>
-    requires left { IsWaiting profile.now log.now of_side.Left [] }
-    requires right { IsWaiting profile.now log.now of_side.Right [] }
-    ensures items { IfOk result (λ e. e.0 ≡ items (view_in profile.now archive.now log.now)) }
-    ensures archive { IfOk result (λ e. e.1
-        ≡ next_archive (view_in profile.now archive.now log.now) archive.now) }
-{
-    let _profile = profile.paths();
-    let _archive = archive;
-    let _log = log;
-    Err(AllocError)
-}
-
 /// Returns the items of a job that has made all its Looks, and the next archive of its pair.
-pub(crate) fn ending_by<C: Calls>(
+pub(crate) fn ending(
     alloc: Global,
     profile: &Profile,
     archive: &Archive,
@@ -73,11 +35,11 @@ pub(crate) fn ending_by<C: Calls>(
     let left = looks_at(alloc, log, Side::Left)?;
     let right = looks_at(alloc, log, Side::Right)?;
     let picture = Picture::new(profile, left.as_slice(), right.as_slice(), archive);
-    Ok((C::items(alloc, &picture)?, C::next_archive(alloc, &picture)?))
+    Ok((items(alloc, &picture)?, next_archive(alloc, &picture)?))
 }
 
 /// Returns the steps of a job that has made all its Looks.
-pub(crate) fn steps_by<C: Calls>(
+pub(crate) fn steps_after(
     alloc: Global,
     profile: &Profile,
     archive: &Archive,
@@ -91,7 +53,7 @@ pub(crate) fn steps_by<C: Calls>(
     let left = looks_at(alloc, log, Side::Left)?;
     let right = looks_at(alloc, log, Side::Right)?;
     let picture = Picture::new(profile, left.as_slice(), right.as_slice(), archive);
-    let changes = C::plan(alloc, &picture)?;
+    let changes = plan(alloc, &picture)?;
     Ok(Steps {
         steps: steps_of(alloc, changes)?,
         looks: log.len(),
@@ -99,11 +61,7 @@ pub(crate) fn steps_by<C: Calls>(
 }
 
 /// Returns what the Looks of a side told, in the order of the log.
-fn looks_at<'a>(
-    alloc: Global,
-    log: &'a [Logged],
-    side: Side,
-) -> Result<Vec<Look<'a>>, AllocError>
+fn looks_at<'a>(alloc: Global, log: &'a [Logged], side: Side) -> Result<Vec<Look<'a>>, AllocError>
     ensures { IfOk result (λ v. told_by v.items ≡ sights log.now side) }
 {
     let mut looks = Vec::new(alloc);

@@ -1,0 +1,10 @@
+use Rattle.hub_job.proofs.job.ask.Goals as goal
+
+pub next_of-requires-clause-follows : goal.next_of-requires-clause-follows
+next_of-requires-clause-follows c = rw (c.as_slice.ensures.value, c.in_ok-reserve.ensures.items) c.requires.follows
+
+pub next_of-requires-clause-run : goal.next_of-requires-clause-run
+next_of-requires-clause-run c = rw (c.as_slice.ensures.value, c.in_ok-reserve.ensures.items) c.requires.run
+
+pub returns-clause-next : goal.returns-clause-next
+returns-clause-next c = rw (← c.as_slice.ensures.value) c.in_ok-next.ensures.next

@@ -30,6 +30,12 @@ use Rattle.hub_job.specs.Run.{Runs}
 use Rattle.hub_job.specs.Phase.{IsWaiting, AreLooks, AreLooksOf, Follows, IsAskedIn, asked_by, IsNextIn, IsNext, is_stopped}
 use Rattle.hub_job.proofs.Phases.{followed}
 
+-- Where nothing is asked.
+no_asked : (log : List Logged) (p : Phase) → IsAskedIn log p None
+no_asked log (phase.Looking l) = tt
+no_asked log (phase.Making s) = tt
+no_asked log phase.Stopped = tt
+
 -- A new job.
 first_wait : (P : Parts) (k : Side) (ps : List (List (List ℕ))) → ps ≡ ascending (first_looks P) → IsWaiting P [] k ps
 first_wait P k ps e = ap ascending (append-nil (first_looks P)) ∙ sym e
@@ -61,10 +67,11 @@ asked_next P O log (phase.Making s) n e = asks_next P O log n e
 asked_next P O log phase.Stopped n e = subst (λ n. IsAsked P O log (asked_by n)) (sym e) tt
 
 pub turned : (P : Parts) (O : Archive) (j : ℕ) (log new : List Logged) (asked : Option Asked) (p : Phase) (n : Next)
-    → Runs P O j [] log → new ≡ log → asked ≡ asked_by n → IsNext P O new p n → IsWhole (value_of j P O new asked p) p
+    → Runs P O j [] log → new ≡ log → asked ≡ asked_by n → IsNext P O log p n → IsWhole (value_of j P O new asked p) p
 turned P O j log new asked p n r e a h =
-    subst (λ asked. IsWhole (value_of j P O new asked p) p) (sym a)
-    (record { job = record { run = subst (λ es. Runs P O j [] es) (sym e) r; asked = asked_next P O new p n h.next }; follows = h.follows; asked = h.asked })
+    subst (λ log. IsWhole (value_of j P O log asked p) p) (sym e)
+    (subst (λ asked. IsWhole (value_of j P O log asked p) p) (sym a)
+    (record { job = record { run = r; asked = asked_next P O log p n h.next }; follows = h.follows; asked = h.asked }))
 
 pub turned_value : (J : JobValue) (P : Parts) (O : Archive) (j : ℕ) (log new : List Logged) (old asked : Option Asked) (q p : Phase) (n : Next)
     → value_of j P O log old q ≡ J → new ≡ log → asked ≡ asked_by n → value_of j P O new asked p ≡ after_turn J (is_stopped p) n
@@ -87,15 +94,22 @@ runs-push P O j front [] e r n f k = (ap (next P O) (sym (append-nil front)) ∙
 runs-push P O j front (d ∷ es) e r n f k =
     (r.0, r.1, r.2, runs-push P O j (front ++ d ∷ []) es e r.3 (ap (next P O) (append_assoc front (d ∷ []) es) ∙ n) f k)
 
-pub taken : (P : Parts) (O : Archive) (j : ℕ) (log new : List Logged) (p : Phase) (side : Side) (op : Op) (answer : Answer)
-    → IsWhole (value_of j P O log (Some (record { side = side; op = op })) p) p → Fits op answer
-    → new ≡ log ++ record { side = side; step = record { job = j; op = op; answer = answer } } ∷ [] → IsWhole (value_of j P O new None p) p
-taken P O j log new p side op answer w f e =
+abbrev entry_of : ℕ → Asked → Answer → Logged
+entry_of j a answer = record { side = a.side; step = record { job = j; op = a.op; answer = answer } }
+
+asked_in : (log : List Logged) (p : Phase) (a : Asked) → IsAskedIn log p (Some a) → IsAskedIn log p (Some (record { side = a.side; op = a.op }))
+asked_in log (phase.Looking l) a h = h
+asked_in log (phase.Making s) a h = h
+asked_in log phase.Stopped a h = h
+
+taken : (P : Parts) (O : Archive) (j : ℕ) (log new : List Logged) (p : Phase) (a : Asked) (answer : Answer)
+    → IsWhole (value_of j P O log (Some a) p) p → Fits a.op answer → new ≡ log ++ entry_of j a answer ∷ [] → IsWhole (value_of j P O new None p) p
+taken P O j log new p a answer w f e =
     subst (λ log. IsWhole (value_of j P O log None p) p) (sym e)
     (record {
-      job = record { run = runs-push P O j [] log _ w.job.run w.job.asked f refl; asked = tt };
-      follows = followed P O log p (record { side = side; step = record { job = j; op = op; answer = answer } }) w.follows w.asked w.job.asked f;
-      asked = tt;
+      job = record { run = runs-push P O j [] log (entry_of j a answer) w.job.run w.job.asked f refl; asked = tt };
+      follows = followed P O log p (entry_of j a answer) w.follows (asked_in log p a w.asked) w.job.asked f;
+      asked = no_asked (log ++ entry_of j a answer ∷ []) p;
     })
 
 has_asked : (o : Option Asked) → o ≢ None → (o ≡ None → ⊥)
@@ -104,7 +118,7 @@ has_asked o h = h
 pub taken_all : (P : Parts) (O : Archive) (j : ℕ) (log new : List Logged) (p : Phase) (o : Option Asked) (answer : Answer)
     → IsWhole (value_of j P O log o p) p → o ≢ None → IfSome o (λ a. Fits a.op answer) → new ≡ log_with j log o answer → IsWhole (value_of j P O new None p) p
 taken_all P O j log new p None answer w h f e = absurd (has_asked None h refl)
-taken_all P O j log new p (Some a) answer w h f e = taken P O j log new p a.side a.op answer w f e
+taken_all P O j log new p (Some a) answer w h f e = taken P O j log new p a answer w f e
 
 answered_value : (P : Parts) (O : Archive) (j : ℕ) (log new : List Logged) (p : Phase) (o : Option Asked) (answer : Answer)
     → new ≡ log_with j log o answer → IfSome o (λ a. value_of j P O new None p ≡ with_answer (value_of j P O log o p) a answer)
@@ -122,7 +136,7 @@ answered J P O j log new p o asked answer v e n =
 pub pushed_on : {E X : Type 0} (r : Result Unit E) (old new : List X) (x : X) (len capacity : ℕ) → new ≡ (if is_ok r then old ++ x ∷ [] else old)
     → (len < capacity → IsOk r) → len < capacity → new ≡ old ++ x ∷ []
 pushed_on (Ok u) old new x len capacity e k h = e
-pushed_on (Err y) old new x len capacity e k h = absurd (k h)
+pushed_on (Err y) old new x len capacity e k h = absurd (false≢true (k h))
 
 pub not_asked : (j : ℕ) (log : List Logged) (o : Option Asked) (answer : Answer) → ((a : Asked) → o ≡ Some a → ⊥) → log ≡ log_with j log o answer
 not_asked j log None answer h = refl

@@ -209,7 +209,7 @@ told_follows : (P : Parts) (O : Archive) (log : List Logged) (p : Phase) (l : Lo
 told_follows P O log p l h e = subst (λ p. Follows P O log p) e h
 
 pub looks_next : (P : Parts) (O : Archive) (log : List Logged) (p : Phase) (l m : Looks) (o : Option Next) (n : Next) → Follows P O log p → p ≡ phase.Looking l
-    → (j : ℕ) × Runs P O j [] log → m ≡ told_more l (slice_get log l.told) → o ≡ first_look m → o ≡ Some n → IsNext P O log (phase.Looking m) n
+    → ((j : ℕ) × Runs P O j [] log) → m ≡ told_more l (slice_get log l.told) → o ≡ first_look m → o ≡ Some n → IsNext P O log (phase.Looking m) n
 looks_next P O log p l m o n h e r t f s =
     subst (λ m. IsNext P O log (phase.Looking m) n) (sym t)
     (looking_next P O r.0 log l n r.1 (told_follows P O log p l h e) (ap first_look (sym t) ∙ (sym f ∙ s)))
@@ -219,7 +219,7 @@ no_next None h = refl
 no_next (Some n) h = absurd (h n refl)
 
 pub looks_made : (P : Parts) (O : Archive) (log : List Logged) (p : Phase) (l m : Looks) (o : Option Next) → Follows P O log p → p ≡ phase.Looking l
-    → (j : ℕ) × Runs P O j [] log → m ≡ told_more l (slice_get log l.told) → o ≡ first_look m → ((n : Next) → o ≡ Some n → ⊥)
+    → ((j : ℕ) × Runs P O j [] log) → m ≡ told_more l (slice_get log l.told) → o ≡ first_look m → ((n : Next) → o ≡ Some n → ⊥)
     → (are_looks log ≡ true) × IsWaiting P log Left [] × IsWaiting P log Right []
 looks_made P O log p l m o h e r t f s =
     all_made P O r.0 log l r.1 (told_follows P O log p l h e) (ap first_look (sym t) ∙ (sym f ∙ no_next o s))

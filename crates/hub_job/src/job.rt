@@ -142,7 +142,6 @@ impl<'a> Job<'a> {
     }
 
     /// Ends the job: how, with its log, and for a finished one its items and the next archive of its pair.
-    #[tactic(none)]
     pub fn end(self) -> Result<(JobEnd, Option<Archive>), AllocError>
         ensures end { IfOk result (λ e. e.0.end ≡ ends.end_of self.entry) }
         ensures log { IfOk result (λ e. e.0.log ≡ self.entry.log) }

@@ -260,10 +260,10 @@ fn take_turn(
     let _first = job.turn();
     let next = job.turn();
     if let Next::Ask(side, op) = &next {
-        let [hub, spoke] = profile.roots();
+        let roots = profile.roots();
         let answer = match side {
-            Side::Left => perform(alloc, profile, hub, left, op)?,
-            Side::Right => perform(alloc, profile, spoke, right, op)?,
+            Side::Left => perform(alloc, profile, &roots[0], left, op)?,
+            Side::Right => perform(alloc, profile, &roots[1], right, op)?,
         };
         job.take(answer);
     }

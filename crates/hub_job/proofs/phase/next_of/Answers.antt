@@ -1,5 +1,7 @@
-use Rattle.std.proofs.Common.{sym, ap}
-use Rattle.hub_job.specs.Phase.{is_stopped}
+use Rattle.std.proofs.Common.{sym, subst}
+use Rattle.hub_job.specs.Phase.{IsNext}
+use Rattle.hub_job.specs.declared.op.Next.TheVariants.{Stopped}
+use Rattle.hub_job.specs.declared.phase.Phase.{Phase}
 use Rattle.hub_job.proofs.Phases.{looks_next, looks_made, looks_within, making_next, steps_next, steps_within, stopped_next}
 use Rattle.hub_job.proofs.phase.next_of.Goals as goal
 
@@ -38,4 +40,5 @@ returns-in-Making-clause-next c =
     steps_next c.args.profile.now c.args.archive.now c.args.log.now _ _ _ c.requires.follows c.in-Making.is c.next-in-Making.ensures
 
 pub returns-in-Stopped-clause-next : goal.returns-in-Stopped-clause-next
-returns-in-Stopped-clause-next c = stopped_next c.args.profile.now c.args.archive.now c.args.log.now
+returns-in-Stopped-clause-next c =
+    subst (λ (p : Phase). IsNext c.args.profile.now c.args.archive.now c.args.log.now p Stopped) (sym c.in-Stopped.is) (stopped_next c.args.profile.now c.args.archive.now c.args.log.now)

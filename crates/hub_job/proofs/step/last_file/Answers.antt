@@ -17,13 +17,12 @@ one_less n i h = omega (arith, h)
 within : (n i : ℕ) → i < n → n - 1 - i < n
 within n i h = omega (arith, h)
 
-at_last : (log : List Logged) (i : ℕ) (e : Logged) → i < length log → e ≡ get_or log (length log - 1 - i) e
-    → fetched_last [] (take (length log - i) log) ≡ bytes_or (fetched_last [] (take (length log - 1 - i) log)) e.step.answer
-at_last log i e h is =
+at_last : (log : List Logged) (i : ℕ) (e : Logged) → i < length log
+    → fetched_last [] (take (length log - i) log) ≡ bytes_or (fetched_last [] (take (length log - 1 - i) log)) (get_or log (length log - 1 - i) e).step.answer
+at_last log i e h =
     ap (λ n. fetched_last [] (take n log)) (one_less (length log) i h)
     ∙ (ap (λ (es : List Logged). fetched_last [] es) (take_more log (length log - 1 - i) e (within (length log) i h))
-    ∙ (last_of [] (take (length log - 1 - i) log) (get_or log (length log - 1 - i) e)
-    ∙ ap (λ (d : Logged). bytes_or (fetched_last [] (take (length log - 1 - i) log)) d.step.answer) (sym is)))
+    ∙ last_of [] (take (length log - 1 - i) log) (get_or log (length log - 1 - i) e))
 
 no_bytes : (bytes : List ℕ) (a : Answer) → ((b : List ℕ) → a ≡ Bytes b → ⊥) → bytes_or bytes a ≡ bytes
 no_bytes bytes (Seen m ns o) h = refl
@@ -38,13 +37,13 @@ pub returns-in-Bytes : goal.returns-in-Bytes
 returns-in-Bytes c =
     let log = c.args.log.now in
     sym (sym c.loop-i.invariant
-    ∙ (at_last log c.loop-i.i c.index-log-log.result c.loop-i-test.true c.index-log-log.is
+    ∙ (at_last log c.loop-i.i c.index-log-log.result c.loop-i-test.true
     ∙ ap (λ (a : Answer). bytes_or (fetched_last [] (take (length log - 1 - c.loop-i.i) log)) a) c.in-Bytes.is))
 
 pub loop-i-preserved : goal.loop-i-preserved
 loop-i-preserved c =
     let log = c.args.log.now in
     ap (λ n. fetched_last [] (take n log)) (next_one (length log) c.loop-i.i)
-    ∙ (sym (at_last log c.loop-i.i c.index-log-log.result c.loop-i-test.true c.index-log-log.is
-    ∙ no_bytes (fetched_last [] (take (length log - 1 - c.loop-i.i) log)) c.index-log-log.result.step.answer c.in_default.not-Bytes)
+    ∙ (sym (at_last log c.loop-i.i c.index-log-log.result c.loop-i-test.true
+    ∙ no_bytes (fetched_last [] (take (length log - 1 - c.loop-i.i) log)) (get_or log (length log - 1 - c.loop-i.i) c.index-log-log.result).step.answer c.in_default.not-Bytes)
     ∙ c.loop-i.invariant)

@@ -1,4 +1,6 @@
-use Rattle.std.proofs.Common.{refl, ap, ◌∙◌}
+use Rattle.std.proofs.Common.{None, refl, ap, ◌∙◌}
+use Rattle.hub_job.specs.declared.op.Next.TheVariants.{Stopped}
+use Rattle.hub_job.specs.declared.phase.Phase.TheVariants as phase
 use Rattle.hub_job.specs.JobValue.{JobValue}
 use Rattle.hub_job.specs.Job.{next}
 use Rattle.hub_job.proofs.Jobs.{roomy, stopped_whole, turned, turned_value}
@@ -24,8 +26,7 @@ invariant_of-self-in-Err c =
 pub returns-in-Ok-clause-next : goal.returns-in-Ok-clause-next
 returns-in-Ok-clause-next c = λ s.
     does_next _ _ _ _ _ c.in-Ok.ensures.next s
-    ∙ (ap (next c.self.inside.profile.now c.self.inside.archive.now) c.in-Ok.ensures.log
-    ∙ ap (λ (J : JobValue). next J.profile J.archive J.log) c.self.view_is)
+    ∙ ap (λ (J : JobValue). next J.profile J.archive J.log) c.self.view_is
 
 pub returns-in-Ok-clause-stopped : goal.returns-in-Ok-clause-stopped
 returns-in-Ok-clause-stopped c = λ s. does_nothing _ _ _ _ _ c.in-Ok.ensures.next s
@@ -41,4 +42,4 @@ returns-in-Ok-clause-stays c = λ s. c.in-Ok.ensures.stopped ∙ (ap (λ (J : Jo
 pub returns-in-Err-clause-after : goal.returns-in-Err-clause-after
 returns-in-Err-clause-after c =
     let s = c.self.inside in
-    turned_value c.args.self.now s.profile.now s.archive.now s.number s.log.items _ s.asked _ s.phase _ _ c.self.view_is c.in-Err.ensures.log refl
+    turned_value c.args.self.now s.profile.now s.archive.now s.number s.log.items _ s.asked None s.phase phase.Stopped Stopped c.self.view_is c.in-Err.ensures.log refl

@@ -1,3 +1,6 @@
+pub mod Steps
+pub mod Numbered
+pub mod Rows
 pub mod Prefixes
 pub mod Walks
 pub mod Shapes

@@ -1,3 +1,7 @@
+pub mod SpecTable
+pub mod Row
+pub mod Numbering
+pub mod Table
 pub mod Reach
 pub mod Laws
 pub mod Safe

@@ -3,23 +3,32 @@
 //! - [`reaches`] decides whether a profile reaches a path; [`may`] and [`writes`] say what it may change at a root.
 //! - [`Walker`] decides the same text by text: its state is a [`Stage`], and it reads the [`Class`](hub_automaton::Class)es of
 //!   an alphabet's characters. [`mention`] adds a profile's characters to such an alphabet.
+//! - [`Table`] numbers the stages of a walker as they are found, and remembers the steps between them. [`SpecTable`]
+//!   numbers the states of some specifications.
 //! - [`laws`]: what the crates above may conclude of stages and of reach.
 //!
-//! Only functions that return a `Result` allocate. The contracts use the words of `specs/Reach`, `specs/Stage` and
-//! `specs/Shape`.
+//! Only functions that return a `Result` allocate. The contracts use the words of `specs/Reach`, `specs/Stage`,
+//! `specs/Shape`, `specs/Table` and `specs/Numbering`.
 #![tactic(auto)]
 
+#[cfg(test)]
+mod given;
 pub mod laws;
 mod mentions;
 mod reach;
+mod row;
 mod shape;
+mod spec_table;
 mod stage;
+mod table;
 mod verbs;
 mod walker;
 
 pub use mentions::mention;
 pub use reach::reaches;
 pub use shape::Shape;
+pub use spec_table::SpecTable;
 pub use stage::Stage;
+pub use table::Table;
 pub use verbs::{may, writes};
 pub use walker::Walker;

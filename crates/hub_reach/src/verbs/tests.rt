@@ -1,18 +1,17 @@
 //! What profiles over `/srv/hub` and `/srv/s1` may do, worked out by hand from the rules.
 use super::*;
-use hub_path::Name;
-use hub_profile::read_profile;
+use crate::given::profile_of;
 use std::alloc::Global;
 use std::test::Fail;
 
-const VERBS: [(Verb, &str); 3] = [
+const VERBS: &[(Verb, &str)] = &[
     (Verb::Create, "create"),
     (Verb::Update, "update"),
     (Verb::Delete, "delete"),
 ];
 
 /// Lines of a profile, a root, and what the profile may do there.
-const ROWS: [(&str, &str, &str); 42] = [
+const ROWS: &[(&str, &str, &str)] = &[
     // Nothing is protected.
     ("", "/srv/hub", "create update delete"),
     ("", "/srv/s1", "create update delete"),
@@ -113,7 +112,7 @@ const ROWS: [(&str, &str, &str); 42] = [
 ];
 
 /// Lines of a profile, a root, and whether the profile writes there.
-const WRITTEN: [(&str, &str, bool); 19] = [
+const WRITTEN: &[(&str, &str, bool)] = &[
     ("", "/srv/hub", true),
     ("", "/srv/hub/", true),
     ("", "/srv/s1", true),
@@ -151,34 +150,43 @@ const WRITTEN: [(&str, &str, bool); 19] = [
     ("noupdate = /srv/hub\nnocreation = /srv/s1", "/srv/s1", true),
 ];
 
-fn profile_of(alloc: Global, lines: &str) -> Result<Profile, Fail> {
-    let text = format!(in alloc; "root = /srv/hub\nroot = /srv/s1\n{lines}\n")?;
-    let name = Name::read(alloc, "p")?;
-    Ok(read_profile(alloc, name, text.as_bytes())?)
+/// Whether a profile may make exactly the changes at a root that are named.
+fn may_exactly(profile: &Profile, root: &Root, named: &str) -> bool {
+    for (verb, name) in VERBS {
+        if may(profile, root, *verb) != named.contains(*name) {
+            return false;
+        }
+    }
+    true
+}
+
+/// The same for the profile of these lines, at the root of that text.
+fn lines_allow(alloc: Global, lines: &str, root: &str, named: &str) -> Result<bool, Fail> {
+    let profile = profile_of(alloc, lines)?;
+    let root = Root::read(alloc, root)?;
+    Ok(may_exactly(&profile, &root, named))
 }
 
 #[test]
 fn changes_are_allowed_unless_they_are_forbidden(rt: HostRuntime) -> Result<(), Fail> {
     for (lines, root, want) in ROWS {
-        let profile = profile_of(rt.alloc(), lines)?;
-        let at = Root::read(rt.alloc(), root)?;
-        for (verb, name) in VERBS {
-            assert_eq!(rt;
-                may(&profile, &at, verb),
-                want.contains(name),
-                "{name} {root}: {lines}"
-            );
-        }
+        let is_right = lines_allow(rt.alloc(), lines, root, want)?;
+        assert!(rt; is_right, "{want} at {root}: {lines}");
     }
     Ok(())
+}
+
+fn lines_write(alloc: Global, lines: &str, root: &str) -> Result<bool, Fail> {
+    let profile = profile_of(alloc, lines)?;
+    let root = Root::read(alloc, root)?;
+    Ok(writes(&profile, &root))
 }
 
 #[test]
 fn a_profile_writes_at_its_roots_where_a_change_is_allowed(rt: HostRuntime) -> Result<(), Fail> {
     for (lines, root, want) in WRITTEN {
-        let profile = profile_of(rt.alloc(), lines)?;
-        let at = Root::read(rt.alloc(), root)?;
-        assert_eq!(rt; writes(&profile, &at), want, "{root}: {lines}");
+        let is_written = lines_write(rt.alloc(), lines, root)?;
+        assert_eq!(rt; is_written, *want, "{root}: {lines}");
     }
     Ok(())
 }

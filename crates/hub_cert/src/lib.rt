@@ -40,6 +40,3 @@ pub use set::{PROFILES, ProfileSet};
 pub use stage::GoalStage;
 pub use verified::{Verified, verify};
 pub use writing::write_certificates;
-
-#[cfg(test)]
-mod tests;

@@ -28,6 +28,3 @@ mod writing;
 pub use fault::GlobFault;
 pub use path_spec::{Kind, PathSpec};
 pub use piece::{Next, PATTERN_CHARACTERS, PATTERN_CHOICES, Part, Piece};
-
-#[cfg(test)]
-mod tests;

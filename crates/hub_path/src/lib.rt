@@ -22,8 +22,6 @@ mod name;
 mod rel_path;
 mod root;
 mod side;
-#[cfg(test)]
-mod tests;
 mod text;
 
 pub use fault::PathFault;

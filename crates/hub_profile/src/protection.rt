@@ -236,6 +236,3 @@ fn is_either(root: &Root, left: &Root, right: &Root) -> bool
 {
     root == left || root == right
 }
-
-#[cfg(test)]
-mod tests;

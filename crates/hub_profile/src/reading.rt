@@ -11,9 +11,6 @@ use crate::profile::Profile;
 use hub_path::Name;
 use std::alloc::Global;
 
-#[cfg(test)]
-mod tests;
-
 /// Reads the profile of that name from the bytes of its text.
 ///
 /// The text is UTF-8 and cut at LF. A CR at the end of a line is dropped (this project's choice), then the spaces

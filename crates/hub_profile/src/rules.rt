@@ -100,6 +100,3 @@ pub fn read_rules(alloc: Global, bytes: &[u8]) -> Result<Rules, ProfileFault>
     let draft = read_lines(RulesDraft::new(alloc), text)?;
     Ok(draft.into_rules())
 }
-
-#[cfg(test)]
-mod tests;

@@ -28,8 +28,6 @@ mod reconcile;
 mod row;
 mod side;
 mod table;
-#[cfg(test)]
-mod tests;
 
 pub use change::Change;
 pub use item::{Fate, Item, Reason};

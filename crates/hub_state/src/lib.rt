@@ -24,8 +24,6 @@ pub mod laws;
 mod line;
 mod reader;
 mod state;
-#[cfg(test)]
-mod tests;
 mod writer;
 
 pub use fault::{Fault, StateFault};

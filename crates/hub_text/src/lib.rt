@@ -27,6 +27,3 @@ pub use items::Items;
 pub use line::{Line, Lines, TextLines};
 pub use text::{begins_with, compare, is_empty, without_last};
 pub use watched::Watched;
-
-#[cfg(test)]
-mod tests;

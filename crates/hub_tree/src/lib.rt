@@ -16,8 +16,6 @@ mod fault;
 pub mod laws;
 mod node;
 mod same;
-#[cfg(test)]
-mod tests;
 mod tree;
 
 pub use archive::Archive;

@@ -1,19 +1,19 @@
 #!/usr/bin/env bash
 # Runs `bench_state` on a small state text with each of its requests for memory refused in turn, then with each of its reads and
 # each of its writes failing. The answer should be `OutOfMemory`, `ReadFailed` or `WriteFailed`, and what was written before is a
-# prefix of the right text. Then it runs in the same way the test of hub_tree that out of memory changes nothing, and `hubsync`
+# prefix of the right text. Then it runs in the same way the test of `hub_tree` that out of memory changes nothing, and `hubsync`
 # on a bundle with that state: there nothing stands before the line of the fault, and a failed write leaves a prefix.
 #
 #     bench/fail.sh
 #
-# All must have been built: by `rt run` in crates/bench_state and crates/hubsync, and by `rt test` in crates/hub_tree. A C compiler
+# All must have been built: by `rt run` in crates/bench_state and crates/hubsync, and by `rt test` in crates/test_states. A C compiler
 # is needed, since a few lines of C take the place of the C library's `malloc`, `realloc`, `read` and `write`. For each kind of call
 # a line gives the number of runs, how many ended with the fault, and how many with the right text. The status is 1 if an answer is
 # wrong.
 set -euo pipefail
 top=$(dirname "$(dirname "$(readlink -f "${BASH_SOURCE[0]}")")")
 program=$top/crates/bench_state/out/bench_state
-tests=$top/crates/hub_tree/out/hub_tree_tests
+tests=$top/crates/test_states/out/test_states_tests
 hubsync=$top/crates/hubsync/out/hubsync
 for built in "$program" "$tests" "$hubsync"; do
     if [ ! -x "$built" ]; then
@@ -177,7 +177,7 @@ cat <(echo safe) "$folder/text" >"$folder/safe"
 fail_each bench_state_tells "$program" text text FAIL_ALLOC OutOfMemory
 fail_each bench_state_tells "$program" text text FAIL_READ ReadFailed
 fail_each bench_state_tells "$program" text text FAIL_WRITE WriteFailed
-fail_each_in_test tests::out_of_memory_changes_nothing
+fail_each_in_test trees::out_of_memory_changes_nothing
 fail_each hubsync_tells "$hubsync" bundle safe FAIL_ALLOC OutOfMemory
 fail_each hubsync_tells "$hubsync" bundle safe FAIL_READ ReadFailed
 fail_each hubsync_tells "$hubsync" bundle safe FAIL_WRITE WriteFailed

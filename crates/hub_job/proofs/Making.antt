@@ -60,7 +60,7 @@ pub record Ready (L : List Logged) (front : List Step) (log : List Logged) : Typ
 abbrev weight : Bool → ℕ
 weight b = cond (not b) 1 0
 
-pushed : (L log : List Logged) (front : List Step) (x : Step) (e : Logged) → is_look e.step.op ≡ false → is_refused e.step.answer ≡ false → told e.step.op e.step.answer ≡ [] → Ready L front log → Ready L (front ++ x ∷ []) (log ++ e ∷ [])
+pub pushed : (L log : List Logged) (front : List Step) (x : Step) (e : Logged) → is_look e.step.op ≡ false → is_refused e.step.answer ≡ false → told e.step.op e.step.answer ≡ [] → Ready L front log → Ready L (front ++ x ∷ []) (log ++ e ∷ [])
 pushed L log front x e step ok none r = record {
   count =
       let one : weight (is_look e.step.op) ≡ weight false = ap weight step in
@@ -94,17 +94,17 @@ path_first k c cs true e = ap (λ b. map (λ (c : Change). c.path) (cond b (c �
 path_first k c cs false e = ap (λ b. map (λ (c : Change). c.path) (cond b (c ∷ filter (λ (c : Change). side_eq c.side k) cs) (filter (λ (c : Change). side_eq c.side k) cs))) e
 
 -- Marks and contents.
-file_of : (x : Contents) (d : List ℕ) → mark.File d ≡ mark_of x → (b : List ℕ) × (x ≡ contents.File b)
+pub file_of : (x : Contents) (d : List ℕ) → mark.File d ≡ mark_of x → (b : List ℕ) × (x ≡ contents.File b)
 file_of (contents.File bytes) d e = (bytes, refl)
 file_of contents.Directory d e = cc
 file_of contents.Absent d e = cc
 
-directory_of : (x : Contents) → mark.Directory ≡ mark_of x → contents.Directory ≡ x
+pub directory_of : (x : Contents) → mark.Directory ≡ mark_of x → contents.Directory ≡ x
 directory_of (contents.File bytes) e = cc
 directory_of contents.Directory e = refl
 directory_of contents.Absent e = cc
 
-nothing_of : (x : Contents) → mark.Absent ≡ mark_of x → contents.Absent ≡ x
+pub nothing_of : (x : Contents) → mark.Absent ≡ mark_of x → contents.Absent ≡ x
 nothing_of (contents.File bytes) e = cc
 nothing_of contents.Directory e = cc
 nothing_of contents.Absent e = refl
@@ -126,7 +126,7 @@ one_set : (m : Replica) (p : Path) (c : Contents) → set_fault m p c ≡ None �
 unfolding after
 one_set m p c free = ap (λ o. if is_some o then None else Some (with_contents m p c)) free ∙ ap (λ o. Some (changed_unless o m (with_contents m p c))) (sym free)
 
-any_each : (q : Path) (f : Path → Contents) (ps : List Path) → list_any (λ (c : Path × Contents). path_eq q c.0) (each f ps) ≡ list_any (path_eq q) ps
+pub any_each : (q : Path) (f : Path → Contents) (ps : List Path) → list_any (λ (c : Path × Contents). path_eq q c.0) (each f ps) ≡ list_any (path_eq q) ps
 any_each q f [] = refl
 any_each q f (p ∷ ps) = ap (λ b. path_eq q p || b) (any_each q f ps)
 
@@ -141,7 +141,7 @@ other_after P j w Left Right op e = refl
 other_after P j w Right Left op e = refl
 other_after P j w Right Right op e = absurd (false≢true (sym e))
 
-fetch_after : (P : Parts) (j : ℕ) (w : Pair) (side k : Side) (p : Path) → on_side (act_on P j w (Ask side (Fetch p))) k ≡ on_side w k
+pub fetch_after : (P : Parts) (j : ℕ) (w : Pair) (side k : Side) (p : Path) → on_side (act_on P j w (Ask side (Fetch p))) k ≡ on_side w k
 unfolding after
 fetch_after P j w Left Left p = refl
 fetch_after P j w Left Right p = refl
@@ -156,16 +156,16 @@ abbrev pub flat_steps : List Change → List Step
 flat_steps cs = flat_map (λ c. steps_of c.side c.path c.mark) cs
 
 module _ (P : Parts) (facts : IsProfile P) (A B : Replica) (O : Archive) (left : IsTree A) (right : IsTree B) (j : ℕ) where
-  abbrev R : Side → Replica
+  abbrev pub R : Side → Replica
   R k = of_side A B k
 
-  abbrev V : View
+  abbrev pub V : View
   V = view_of P A B O
 
-  abbrev s : Side → Path → Contents
+  abbrev pub s : Side → Path → Contents
   s k q = contents_at (R (other k)) q
 
-  abbrev Maps : List Change → Pair → Type 0
+  abbrev pub Maps : List Change → Pair → Type 0
   Maps done w = (k : Side) → sets (R k) (each (s k) (paths_on k done)) ≡ Some (on_side w k)
 
   -- The first of the plan's changes leave no Set after them refused.
@@ -203,14 +203,14 @@ module _ (P : Parts) (facts : IsProfile P) (A B : Replica) (O : Archive) (left :
       ∙ (maps k ∙ ap (λ m. Some m) (sym (other_after P j w c.side k (Set c.path (s c.side c.path)) e)))
 
   -- What a Fetch reads is still as it was.
-  unchanged : (done todo : List Change) (c : Change) (w : Pair) → plan V ≡ done ++ c ∷ todo → Maps done w → contents_at (on_side w (other c.side)) c.path ≡ s c.side c.path
+  pub unchanged : (done todo : List Change) (c : Change) (w : Pair) → plan V ≡ done ++ c ∷ todo → Maps done w → contents_at (on_side w (other c.side)) c.path ≡ s c.side c.path
   unchanged done todo c w whole maps =
       let good : Each (IsGood P facts A B O left right) (done ++ c ∷ todo) = subst (λ (cs : List Change). Each (IsGood P facts A B O left right) cs) whole (plan_good P facts A B O left right) in
       let to = (each-back (IsGood P facts A B O left right) done (c ∷ todo) good).0.1 in
       sets_keep_the_rest (R (other c.side)) (on_side w (other c.side)) (each (s (other c.side)) (paths_on (other c.side) done)) c.path (maps (other c.side))
       (any_each c.path (s (other c.side)) (paths_on (other c.side) done) ∙ apart_on P facts A B O left right c.side c.path done (each-front (IsGood P facts A B O left right) done (c ∷ todo) good) to)
 
-  marked : (done todo : List Change) (c : Change) → plan V ≡ done ++ c ∷ todo → c.mark ≡ mark_of (s c.side c.path)
+  pub marked : (done todo : List Change) (c : Change) → plan V ≡ done ++ c ∷ todo → c.mark ≡ mark_of (s c.side c.path)
   marked done todo c whole =
       (each-back (IsGood P facts A B O left right) done (c ∷ todo) (subst (λ (cs : List Change). Each (IsGood P facts A B O left right) cs) whole (plan_good P facts A B O left right))).0.0
 
@@ -226,7 +226,7 @@ module _ (P : Parts) (facts : IsProfile P) (A B : Replica) (O : Archive) (left :
         ∙ (ap (λ v. ask (fetched_last [] log) (slice_get (steps v) (steps_made log))) alike
         ∙ (ap (λ n. ask (fetched_last [] log) (slice_get (steps V) n)) r.count ∙ ap (ask (fetched_last [] log)) e))))
 
-    next_ask : (front : List Step) (x : Step) (rest : List Step) (log : List Logged) → steps V ≡ front ++ x ∷ rest → Ready L front log → next P O log ≡ Ask x.side (op_of (fetched_last [] log) x)
+    pub next_ask : (front : List Step) (x : Step) (rest : List Step) (log : List Logged) → steps V ≡ front ++ x ∷ rest → Ready L front log → next P O log ≡ Ask x.side (op_of (fetched_last [] log) x)
     next_ask front x rest log whole r = next_by front log (Some x) r (ap (λ xs. slice_get xs (length front)) whole ∙ get_middle front x rest)
 
     pub next_end : (log : List Logged) → Ready L (steps V) log → next P O log ≡ Finished
@@ -236,7 +236,7 @@ module _ (P : Parts) (facts : IsProfile P) (A B : Replica) (O : Archive) (left :
     abbrev pub Made : List Change → Pair → Type 0
     Made done w = Ready L (flat_steps done) w.log × Maps done w
 
-    steps_all : (done todo : List Change) (c : Change) (m : Mark) → c.mark ≡ m → plan V ≡ done ++ c ∷ todo → steps V ≡ flat_steps done ++ (steps_of c.side c.path m ++ flat_steps todo)
+    pub steps_all : (done todo : List Change) (c : Change) (m : Mark) → c.mark ≡ m → plan V ≡ done ++ c ∷ todo → steps V ≡ flat_steps done ++ (steps_of c.side c.path m ++ flat_steps todo)
     steps_all done todo c m e whole =
         ap flat_steps whole ∙ (flat_map-append (λ (c : Change). steps_of c.side c.path c.mark) done (c ∷ todo) ∙ ap (λ m. flat_steps done ++ (steps_of c.side c.path m ++ flat_steps todo)) e)
 
@@ -252,7 +252,7 @@ module _ (P : Parts) (facts : IsProfile P) (A B : Replica) (O : Archive) (left :
     set_entry done c w front x maps free r =
         pushed L w.log front x (logged P j c.side (Set c.path (s c.side c.path)) (on_side w c.side)) refl (ap (λ o. is_refused (done_unless o)) free) refl r
 
-    abbrev Goes_on : List Change → Change → Pair → Type 0
+    abbrev pub Goes_on : List Change → Change → Pair → Type 0
     Goes_on done c w = (m : ℕ) × (v : Pair) × ((n : ℕ) → pair_run P O j (m + n) w ≡ pair_run P O j n v) × (m ≡ length (steps_of c.side c.path c.mark)) × Made (done ++ c ∷ []) v
 
     plain : (done todo : List Change) (c : Change) (w : Pair) (x : Step) (m : Mark) → c.mark ≡ m → plan V ≡ done ++ c ∷ todo → Made done w → steps_of c.side c.path m ≡ x ∷ []
@@ -303,7 +303,7 @@ module _ (P : Parts) (facts : IsProfile P) (A B : Replica) (O : Archive) (left :
           ),
         )
 
-    by_mark : (done todo : List Change) (c : Change) (w : Pair) (m : Mark) → c.mark ≡ m → plan V ≡ done ++ c ∷ todo → Made done w → Goes_on done c w
+    pub by_mark : (done todo : List Change) (c : Change) (w : Pair) (m : Mark) → c.mark ≡ m → plan V ≡ done ++ c ∷ todo → Made done w → Goes_on done c w
     by_mark done todo c w (mark.File d) e whole made =
         let file = file_of (s c.side c.path) d (sym e ∙ marked done todo c whole) in
         filed done todo c w d file.0 e whole made file.1

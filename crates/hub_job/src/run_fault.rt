@@ -1,6 +1,7 @@
 use crate::log::Entry;
 use hub_path::Root;
 use hub_text::Items;
+use std::alloc::AllocError;
 
 /// Why jobs aren't run.
 #[derive(Debug, Drop)]
@@ -37,6 +38,17 @@ pub enum RunFault {
         /// Its number.
         job: usize,
     },
-    /// Memory was refused.
+    /// Out of memory.
     OutOfMemory,
+}
+
+impl From<AllocError> for RunFault {
+    ghost use Rattle.hub_job.specs.declared.run_fault.RunFault.TheVariants.{OutOfMemory};
+    ghost use Rattle.std.specs.Prelude.{◌≡◌};
+
+    ghost from_gives = { λ _ e. e ≡ OutOfMemory };
+
+    fn from(_: AllocError) -> Self {
+        RunFault::OutOfMemory
+    }
 }

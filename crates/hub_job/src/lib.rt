@@ -16,8 +16,6 @@ mod planned;
 mod run_fault;
 mod step;
 mod steps;
-#[cfg(test)]
-mod tests;
 mod waiting;
 
 pub use answer::{Answer, OpFault};

@@ -1,0 +1,13 @@
+pub mod Machine
+pub mod Job
+pub mod World
+pub mod Run
+pub mod Alike
+pub mod Same
+pub mod Coded
+pub mod Waiting
+pub mod Phase
+pub mod JobValue
+pub mod Ends
+pub mod Outcome
+pub mod Examples

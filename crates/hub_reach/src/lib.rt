@@ -11,8 +11,6 @@
 //! `specs/Shape`, `specs/Table` and `specs/Numbering`.
 #![tactic(auto)]
 
-#[cfg(test)]
-mod given;
 pub mod laws;
 mod mentions;
 mod reach;

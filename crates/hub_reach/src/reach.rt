@@ -106,6 +106,3 @@ fn is_matched_front(spec: &PathSpec, path: &RelPath, len: usize, below: bool) ->
         Kind::BelowPath | Kind::Name | Kind::Path => spec.matches_front(path, len),
     }
 }
-
-#[cfg(test)]
-mod tests;

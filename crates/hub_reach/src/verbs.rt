@@ -112,6 +112,3 @@ fn covers(verb: Verb, bars: Bars) -> bool
         Verb::Delete => bars.delete,
     }
 }
-
-#[cfg(test)]
-mod tests;

@@ -2,10 +2,10 @@
 ghost use Rattle.std.specs.Prelude.{IfOk};
 ghost use Rattle.hub_reach.specs.Mention.{Mentions};
 
-use crate::{mention, reaches};
 use hub_automaton::{Alphabet, AutomatonFault};
 use hub_path::{Name, RelPath};
 use hub_profile::{Profile, read_profile};
+use hub_reach::{mention, reaches};
 use std::alloc::Global;
 use std::test::Fail;
 

@@ -1,6 +1,8 @@
 //! What profiles over `/srv/hub` and `/srv/s1` may do, worked out by hand from the rules.
-use super::*;
 use crate::given::profile_of;
+use hub_path::Root;
+use hub_profile::{Profile, Verb};
+use hub_reach::{may, writes};
 use std::alloc::Global;
 use std::test::Fail;
 

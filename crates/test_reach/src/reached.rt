@@ -1,5 +1,7 @@
-use super::*;
+//! Which paths profiles reach, worked out by hand from the rules.
 use crate::given::{lines_reach, profile_of};
+use hub_path::RelPath;
+use hub_reach::reaches;
 use std::alloc::Global;
 use std::test::Fail;
 

@@ -1,0 +1,18 @@
+//! Tests of hub_reach: values worked out by hand from the rules.
+//!
+//! They stand in a crate of their own, since a crate that has tests is proved twice by the gate: once alone, and once
+//! more below its tests.
+#![tactic(auto)]
+
+#[cfg(test)]
+mod given;
+#[cfg(test)]
+mod reached;
+#[cfg(test)]
+mod spec_tables;
+#[cfg(test)]
+mod tables;
+#[cfg(test)]
+mod verbs;
+#[cfg(test)]
+mod walkers;

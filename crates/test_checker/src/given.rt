@@ -6,7 +6,7 @@ use hub_text::Items;
 use std::alloc::{AllocError, Global};
 use std::test::Fail;
 
-pub const PLACES: [Place; 3] = [
+pub(crate) const PLACES: [Place; 3] = [
     Place::Replica(Side::Left),
     Place::Replica(Side::Right),
     Place::Archive,
@@ -19,7 +19,7 @@ fn profile_text(alloc: Global, roots: [&str; 2], lines: &str) -> Result<String, 
 }
 
 /// Reads a profile with these roots below `/srv`.
-pub fn profile_with(
+pub(crate) fn profile_with(
     alloc: Global,
     name: &str,
     roots: [&str; 2],
@@ -44,12 +44,16 @@ fn set_with(
 }
 
 /// Makes a set of two profiles without rules.
-pub fn set_of(alloc: Global, first: Profile, second: Profile) -> Result<ProfileSet, CheckFault> {
+pub(crate) fn set_of(
+    alloc: Global,
+    first: Profile,
+    second: Profile,
+) -> Result<ProfileSet, CheckFault> {
     set_with(alloc, first, second, Rules::new(alloc))
 }
 
 /// Makes a set of two profiles with these lines, over the root `hub` and a root of their own, and of the rules of a text.
-pub fn guarded_pair_of(
+pub(crate) fn guarded_pair_of(
     alloc: Global,
     first: &str,
     second: &str,
@@ -62,7 +66,7 @@ pub fn guarded_pair_of(
 }
 
 /// Makes a set of one profile with these lines, over the roots `hub` and `disk`, and of the rules of a text.
-pub fn guarded_one_of(alloc: Global, lines: &str, rules: &str) -> Result<ProfileSet, Fail> {
+pub(crate) fn guarded_one_of(alloc: Global, lines: &str, rules: &str) -> Result<ProfileSet, Fail> {
     let mut profiles = Items::new(alloc);
     profiles.push(profile_with(alloc, "u", ["hub", "disk"], lines)?)?;
     let rules = read_rules(alloc, rules.as_bytes())?;
@@ -70,13 +74,13 @@ pub fn guarded_one_of(alloc: Global, lines: &str, rules: &str) -> Result<Profile
 }
 
 /// Makes a set of two profiles with these lines over the roots `hub` and `disk`.
-pub fn pair_of(alloc: Global, first: &str, second: &str) -> Result<ProfileSet, Fail> {
+pub(crate) fn pair_of(alloc: Global, first: &str, second: &str) -> Result<ProfileSet, Fail> {
     let first = profile_with(alloc, "u", ["hub", "disk"], first)?;
     let second = profile_with(alloc, "v", ["hub", "disk"], second)?;
     Ok(set_of(alloc, first, second)?)
 }
 
-pub fn clash(writer: usize, other: usize, place: Place) -> Goal {
+pub(crate) fn clash(writer: usize, other: usize, place: Place) -> Goal {
     Goal::Clash {
         writer,
         other,
@@ -92,7 +96,7 @@ fn stages_of(alloc: Global, texts: &[&str]) -> Result<Items<StageText>, AllocErr
     Ok(stages)
 }
 
-pub fn certificate_of(
+pub(crate) fn certificate_of(
     alloc: Global,
     goal: Goal,
     texts: &[&str],
@@ -101,7 +105,7 @@ pub fn certificate_of(
     Ok(Certificate { goal, stages })
 }
 
-pub fn breach(profile: usize, rule: usize) -> Goal {
+pub(crate) fn breach(profile: usize, rule: usize) -> Goal {
     Goal::Breach { profile, rule }
 }
 
@@ -120,7 +124,10 @@ fn push_certificates(
 }
 
 /// Returns the certificates of both profiles at all places, with these texts.
-pub fn all_certificates(alloc: Global, texts: &[&str]) -> Result<Vec<Certificate>, AllocError> {
+pub(crate) fn all_certificates(
+    alloc: Global,
+    texts: &[&str],
+) -> Result<Vec<Certificate>, AllocError> {
     let mut certificates = Vec::new(alloc);
     push_certificates(alloc, &mut certificates, 0, 1, texts)?;
     push_certificates(alloc, &mut certificates, 1, 0, texts)?;

@@ -5,8 +5,8 @@ ghost use Rattle.hub_cert.specs.Goals.{is_goal};
 ghost use Rattle.hub_cert.specs.Product.{HasClass};
 
 use super::given::{breach, clash, guarded_one_of, pair_of};
-use hub_cert::{CheckFault, Goal, GoalStage, Place, Product, ProfileSet};
 use hub_automaton::Alphabet;
+use hub_cert::{CheckFault, Goal, GoalStage, Place, Product, ProfileSet};
 use std::alloc::{AllocError, Global};
 use std::test::Fail;
 

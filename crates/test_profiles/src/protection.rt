@@ -1,7 +1,5 @@
-use hub_profile::Bars;
-use hub_profile::Profile;
-use hub_profile::read_profile;
 use hub_path::{Name, Side};
+use hub_profile::{Bars, Profile, read_profile};
 use std::alloc::{AllocError, Global};
 use std::test::Fail;
 

@@ -1,8 +1,6 @@
-use hub_profile::ProfileFault;
-use hub_profile::Profile;
-use hub_profile::read_profile;
 use hub_glob::PathSpec;
 use hub_path::{Name, RelPath};
+use hub_profile::{Profile, ProfileFault, read_profile};
 use std::alloc::{AllocError, Global};
 use std::test::Fail;
 

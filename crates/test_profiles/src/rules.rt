@@ -1,6 +1,4 @@
-use hub_profile::Rule;
-use hub_profile::read_rules;
-use hub_profile::Verb;
+use hub_profile::{Rule, Verb, read_rules};
 use std::alloc::{AllocError, Global};
 use std::test::Fail;
 

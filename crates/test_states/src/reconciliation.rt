@@ -1,6 +1,6 @@
-use hub_reconcile::{Change, Fate, Item, Look, Picture, are_rising, items, next_archive, plan};
 use hub_path::{Name, RelPath, Side};
 use hub_profile::{Profile, read_profile};
+use hub_reconcile::{Change, Fate, Item, Look, Picture, are_rising, items, next_archive, plan};
 use hub_tree::{Archive, Mark};
 use std::alloc::Global;
 use std::process::Abort;

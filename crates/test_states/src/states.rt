@@ -1,5 +1,5 @@
-use hub_state::{Fault, READ_TURNS, State, StateFault, read_bytes, read_state, write_state};
 use hub_path::{RelPath, Root};
+use hub_state::{Fault, READ_TURNS, State, StateFault, read_bytes, read_state, write_state};
 use hub_text::Watched;
 use hub_tree::{Archive, Mark, Tree};
 use std::alloc::{AllocError, Global};

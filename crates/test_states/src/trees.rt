@@ -1,6 +1,6 @@
-use hub_tree::{Archive, Blob, Contents, Mark, SetFault, Stored, Tree};
 use hub_path::{Name, RelPath};
 use hub_text::Items;
+use hub_tree::{Archive, Blob, Contents, Mark, SetFault, Stored, Tree};
 use std::alloc::{AllocError, Global};
 use std::process::Abort;
 use std::test::Fail;

@@ -1,0 +1,22 @@
+-- The Looks that a side waits for: paths in ascending order.
+use Rattle.std.specs.Prelude.{List, [], ◌∷◌, ◌++◌, ◌||◌, ◌==◌, map, fold, length, nat_lt, if◌then◌else◌}
+use Rattle.std.specs.BTreeSet.{insert_key}
+use Rattle.hub_path.specs.Path.{Name, Path, path_cmp, parent}
+use Rattle.hub_profile.specs.Parts.{Parts}
+use Rattle.hub_reach.specs.Reach.{reach}
+
+-- The children of a path that have these names.
+abbrev pub listed : Path → List Name → List Path
+listed d ns = map (λ n. d ++ n ∷ []) ns
+
+-- An ascending list of paths with these put in.
+abbrev pub put_all : List Path → List Path → List Path
+put_all qs ps = fold (λ qs p. insert_key path_cmp qs p) qs ps
+
+-- The Looks for a kept value: its parent, if it has at least two names, and itself.
+abbrev pub looks_for : Path → List Path
+looks_for s = if nat_lt 1 (length s) then parent s ∷ s ∷ [] else s ∷ []
+
+-- The list with the Looks for a kept value put in, if that is reached or is the whole replica.
+abbrev pub put_kept : Parts → List Path → Path → List Path
+put_kept P qs s = if length s == 0 || reach P s then put_all qs (looks_for s) else qs

@@ -1,0 +1,56 @@
+ghost use Rattle.std.specs.Prelude.{◌≡◌, ◌↔◌, IsTrue};
+ghost use Rattle.hub_job.specs.Machine.{Fits};
+
+use crate::op::Op;
+use hub_path::Name;
+use hub_text::Items;
+use hub_tree::{Blob, Mark};
+
+/// Why an operation is refused: the first of these that applies. A `Fetch` knows `NoFile` alone, and a `Set` the others.
+#[derive(Clone, Copy, Debug, PartialEq, Eq)]
+pub enum OpFault {
+    /// The path is the whole replica.
+    RootPath,
+    /// The parent of the path is not a directory.
+    NoParent,
+    /// A directory that holds something would be removed or become a file.
+    NotEmpty,
+    /// There is nothing to remove.
+    NothingThere,
+    /// There is no file.
+    NoFile,
+}
+
+/// What a replica answers to an operation.
+#[derive(Debug, Drop)]
+pub enum Answer {
+    /// To a `Look`.
+    Seen {
+        /// The mark of the path.
+        mark: Mark,
+        /// The names of the children that the profile reaches, ascending.
+        names: Items<Name>,
+        /// Whether there is a child that the profile doesn't reach. It is told only where the profile writes the path.
+        others: bool,
+    },
+    /// To a `Fetch`: the file. Contracts see its bytes.
+    Bytes(Blob),
+    /// To a `Set`: it was made.
+    Done,
+    /// To a `Fetch` or a `Set`: nothing was changed.
+    Refused(OpFault),
+}
+
+impl Answer {
+    /// Returns whether the answer is of a kind that fits the operation: `Seen` fits a `Look`, `Bytes` and `Refused` a
+    /// `Fetch`, `Done` and `Refused` a `Set`.
+    pub fn fits(&self, op: &Op) -> bool
+        ensures { IsTrue result ↔ Fits op.now self.now }
+    {
+        match op {
+            Op::Look(_) => matches!(self, Answer::Seen { .. }),
+            Op::Fetch(_) => matches!(self, Answer::Bytes(_) | Answer::Refused(_)),
+            Op::Set(_, _) => matches!(self, Answer::Done | Answer::Refused(_)),
+        }
+    }
+}

@@ -1,0 +1,259 @@
+//! Jobs.
+ghost use Rattle.std.specs.Prelude.{◌≡◌, true, false, ◌≢◌, ◌<◌, ℕ, [], IfOk, IfSome, OnOk};
+ghost use Rattle.std.specs.Vec.{vec_len, vec_capacity};
+ghost use Rattle.hub_job.specs.Ends as ends;
+ghost use Rattle.hub_job.specs.JobValue as value;
+ghost use Rattle.hub_job.specs.Machine.{Fits};
+ghost use Rattle.hub_path.specs.declared.side.Side.TheVariants as of_side;
+ghost use Rattle.hub_reconcile.specs.Items.{items};
+ghost use Rattle.hub_reconcile.specs.Sync.{next_archive};
+ghost use Rattle.hub_job.specs.Phase.{Follows, IsNext, IsWaiting, asked_by, is_stopped};
+ghost use Rattle.hub_job.specs.Run.{Runs};
+ghost use Rattle.hub_job.specs.Job as spec;
+
+use crate::answer::Answer;
+use crate::asked::Asked;
+use crate::job_end::{End, JobEnd};
+use crate::log::{Entry, Logged};
+use crate::looks::Looks;
+use crate::op::Next;
+use crate::phase::{Phase, next_of};
+use crate::planned::ending;
+use hub_profile::Profile;
+use hub_text::Items;
+use hub_tree::Archive;
+use std::alloc::{AllocError, Global};
+use std::marker::Model;
+
+/// A job: it synchronizes the two replicas of a profile by asking for one operation after the other.
+///
+/// Its log has all that it asked, and the answers. What it does next follows from its profile, its archive and the log
+/// alone. It is stopped by a refusal, by [`Job::stop`], or when it finds no memory.
+///
+/// Contracts see it as a `JobValue`. Its type keeps that the log is a run: each operation is the one that came next, each
+/// answer fits, and each entry has the job's number.
+#[derive(Drop)]
+pub struct Job<'a> {
+    alloc: Global,
+    number: usize,
+    profile: &'a Profile,
+    archive: &'a Archive,
+    log: Vec<Logged>,
+    asked: Option<Asked>,
+    phase: Phase,
+}
+
+impl<'a> Model for Job<'a> {
+    ghost use Rattle.std.specs.Coded.{codes};
+    ghost use Rattle.hub_job.specs.Coded.{coded_archive};
+    ghost use Rattle.hub_job.specs.JobValue.{JobValue};
+
+    ghost Value = { JobValue };
+
+    ghost coded = { Prim.hlevel (codes, coded_archive) };
+
+    ghost use Rattle.std.specs.Vec.{vec_len, vec_capacity};
+    ghost use Rattle.hub_job.specs.JobValue.{IsRoomy, IsWhole, value_of};
+
+    ghost view = { λ a. value_of a.number a.profile.now a.archive.now a.log.items a.asked a.phase };
+
+    ghost invariant = { λ a.
+        IsWhole (value_of a.number a.profile.now a.archive.now a.log.items a.asked a.phase) a.phase
+        × IsRoomy a.asked (vec_len a.log) (vec_capacity a.log) };
+}
+
+impl<'a> Job<'a> {
+    /// Makes the job of that number for a profile and the archive of its pair of roots. It hasn't asked anything.
+    pub fn new(
+        alloc: Global,
+        number: usize,
+        profile: &'a Profile,
+        archive: &'a Archive,
+    ) -> Result<Job<'a>, AllocError>
+        ensures { IfOk result
+            (λ j. j ≡ value.new_job number profile.now archive.now) }
+    {
+        let looks = Looks::new(alloc, profile)?;
+        Ok(Job {
+            alloc,
+            number,
+            profile,
+            archive,
+            log: Vec::new(alloc),
+            asked: None,
+            phase: Phase::Looking(looks),
+        })
+    }
+
+    /// Returns what the job does next. Until it takes an answer, the next turn returns the same.
+    ///
+    /// It makes room for the answer. If it finds no memory, the job is stopped from then on, and the log stays. A stopped
+    /// job returns `Stopped`.
+    pub fn turn(&mut self) -> Next
+        ensures next { self.new.stopped ≡ false
+            → result ≡ spec.next self.old.profile self.old.archive self.old.log }
+        ensures stopped { self.new.stopped ≡ true → result ≡ Next.Stopped }
+        ensures after { self.new ≡ value.after_turn self.old self.new.stopped result }
+        ensures stays { self.old.stopped ≡ true → self.new.stopped ≡ true }
+    {
+        match ask(
+            self.alloc,
+            self.profile,
+            self.archive,
+            &mut self.log,
+            &mut self.phase,
+        ) {
+            Ok((next, asked)) => {
+                self.asked = asked;
+                next
+            }
+            Err(AllocError) => {
+                self.phase = Phase::Stopped;
+                self.asked = None;
+                Next::Stopped
+            }
+        }
+    }
+
+    /// Takes the answer to what the job asked. It allocates nothing.
+    pub fn take(&mut self, answer: Answer)
+        requires asks { self.old.asked ≢ None }
+        requires fits { IfSome self.old.asked (λ a. Fits a.op answer) }
+        ensures { IfSome self.old.asked (λ a. self.new ≡ value.with_answer self.old a answer) }
+    {
+        let asked = self.asked.take();
+        push_answer(&mut self.log, self.number, asked, answer);
+    }
+
+    /// Stops the job. It allocates nothing.
+    pub fn stop(&mut self)
+        ensures { self.new ≡ value.stopped_job self.old }
+    {
+        self.phase = Phase::Stopped;
+        self.asked = None;
+    }
+
+    /// Borrows what the job asked, and the answers, in their order.
+    pub fn log(&self) -> &[Logged]
+        ensures value { result.now ≡ self.now.log }
+        ensures run { Runs self.now.profile self.now.archive self.now.number [] self.now.log }
+    {
+        self.log.as_slice()
+    }
+
+    /// Ends the job: how, with its log, and for a finished one its items and the next archive of its pair.
+    pub fn end(self) -> Result<(JobEnd, Option<Archive>), AllocError>
+        ensures end { IfOk result (λ e. e.0.end ≡ ends.end_of self.entry) }
+        ensures log { IfOk result (λ e. e.0.log ≡ self.entry.log) }
+        ensures items { IfOk result (λ e. e.0.items ≡ ends.items_of self.entry) }
+        ensures archive { IfOk result (λ e. e.1 ≡ ends.archive_of self.entry) }
+    {
+        let Job {
+            alloc,
+            number: _,
+            profile,
+            archive,
+            log,
+            asked: _,
+            mut phase,
+        } = self;
+        match next_of(alloc, profile, archive, log.as_slice(), &mut phase)? {
+            Next::Finished => finished_job(alloc, profile, archive, log),
+            Next::Ask(_, _) => Ok((other_job(alloc, End::Unfinished, log), None)),
+            Next::Stopped => Ok((other_job(alloc, End::Stopped, log), None)),
+        }
+    }
+
+    /// Returns the job's number.
+    pub fn number(&self) -> usize
+        ensures { result ≡ self.now.number }
+    {
+        self.number
+    }
+}
+
+/// Appends what a job asked, with its answer, to the log. It allocates nothing.
+fn push_answer(log: &mut Vec<Logged>, job: usize, asked: Option<Asked>, answer: Answer)
+    requires { value.IsRoomy asked (vec_len log.old) (vec_capacity log.old) }
+    ensures { log.new.items ≡ value.log_with job log.old.items asked answer }
+{
+    if let Some(asked) = asked {
+        let Asked { side, op } = asked;
+        let step = Entry { job, op, answer };
+        let _pushed = log.push(Logged { side, step });
+    }
+}
+
+/// Returns what a job does next, and what it then has asked, and makes room in the log for the answer. Out of memory may
+/// leave any phase.
+fn ask(
+    alloc: Global,
+    profile: &Profile,
+    archive: &Archive,
+    log: &mut Vec<Logged>,
+    phase: &mut Phase,
+) -> Result<(Next, Option<Asked>), AllocError>
+    requires follows { Follows profile.now archive.now log.old.items phase.old }
+    requires run { (j : ℕ) × Runs profile.now archive.now j [] log.old.items }
+    ensures next { IfOk result
+        (λ r. IsNext profile.now archive.now log.old.items phase.new r.0) }
+    ensures asked { IfOk result (λ r. r.1 ≡ asked_by r.0) }
+    ensures stopped { OnOk result (is_stopped phase.new ≡ is_stopped phase.old) }
+    ensures log { log.new.items ≡ log.old.items }
+    ensures room { OnOk result (vec_len log.new < vec_capacity log.new) }
+{
+    log.reserve(1)?;
+    let next = next_of(alloc, profile, archive, log.as_slice(), phase)?;
+    let asked = asked_of(&next)?;
+    Ok((next, asked))
+}
+
+/// Copies what is asked, if a job does this next.
+fn asked_of(next: &Next) -> Result<Option<Asked>, AllocError>
+    ensures { IfOk result (λ o. o ≡ asked_by next.now) }
+{
+    match next {
+        Next::Ask(side, op) => Ok(Some(Asked {
+            side: *side,
+            op: op.copy()?,
+        })),
+        Next::Finished => Ok(None),
+        Next::Stopped => Ok(None),
+    }
+}
+
+/// Ends a job that has done all.
+fn finished_job(
+    alloc: Global,
+    profile: &Profile,
+    archive: &Archive,
+    log: Vec<Logged>,
+) -> Result<(JobEnd, Option<Archive>), AllocError>
+    requires left { IsWaiting profile.now log.items of_side.Left [] }
+    requires right { IsWaiting profile.now log.items of_side.Right [] }
+    ensures end { IfOk result (λ e. e.0.end ≡ End.Finished) }
+    ensures log { IfOk result (λ e. e.0.log ≡ log.items) }
+    ensures items { IfOk result (λ e. e.0.items
+        ≡ items (spec.view_in profile.now archive.now log.items)) }
+    ensures archive { IfOk result (λ e. e.1
+        ≡ Some (next_archive (spec.view_in profile.now archive.now log.items) archive.now)) }
+{
+    let (items, next) = ending(alloc, profile, archive, log.as_slice())?;
+    let end = JobEnd {
+        end: End::Finished,
+        log: Items::from_vec(log),
+        items,
+    };
+    Ok((end, Some(next)))
+}
+
+/// Ends a job that hasn't done all.
+fn other_job(alloc: Global, end: End, log: Vec<Logged>) -> JobEnd
+    ensures { result ≡ record { end = end; log = log.items; items = [] } }
+{
+    JobEnd {
+        end,
+        log: Items::from_vec(log),
+        items: Items::new(alloc),
+    }
+}

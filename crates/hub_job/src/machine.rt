@@ -1,0 +1,211 @@
+//! Operations on a replica.
+ghost use Rattle.std.specs.Prelude.{◌≡◌, false, ◌&&◌, ◌||◌, ◌==◌, [], ◌∷◌, ◌++◌, not, length, filter, IfOk, OnOk, OnErr};
+ghost use Rattle.std.specs.List.{list_any};
+ghost use Rattle.hub_path.specs.Path.{parent, path_eq};
+ghost use Rattle.hub_reach.specs.Reach as of_reach;
+ghost use Rattle.hub_reach.specs.Reach.{reach};
+ghost use Rattle.hub_tree.specs.Tree as of_tree;
+ghost use Rattle.hub_reconcile.specs.Sight as of_sight;
+ghost use Rattle.hub_job.specs.Machine as machine;
+
+use crate::answer::{Answer, OpFault};
+use crate::op::Op;
+use hub_path::{Name, RelPath, Root};
+use hub_profile::Profile;
+use hub_reach::{reaches, writes};
+use hub_text::Items;
+use hub_tree::{Blob, Contents, Mark, SetFault, Tree};
+use std::alloc::{AllocError, Global};
+
+/// Makes an operation of a profile's job on the replica of a root, and returns its answer.
+///
+/// A `Look` at a path that the profile reaches tells its mark, the names of those children that the profile reaches, in
+/// ascending order, and whether there are others; that is told only where the profile writes the path. At the parent of a
+/// kept value it tells whether that is a directory, and nothing else. At the whole replica, if that is kept, it tells the
+/// reached names. Elsewhere it tells `Absent`. A `Fetch` and a `Set` may be refused, and a refusal changes nothing.
+///
+/// All memory is taken first: out of memory leaves the replica as it was.
+#[tactic(auto, unfolding(crate::specs::Machine::answer, crate::specs::Machine::after))]
+pub fn perform(
+    alloc: Global,
+    profile: &Profile,
+    root: &Root,
+    tree: &mut Tree,
+    op: &Op,
+) -> Result<Answer, AllocError>
+    ensures answer { IfOk result
+        (λ a. a ≡ machine.answer tree.old profile.now root.now op.now) }
+    ensures fits { IfOk result (machine.Fits op.now) }
+    ensures after { OnOk result (tree.new ≡ machine.after tree.old op.now) }
+    ensures err { OnErr result (tree.new ≡ tree.old) }
+{
+    match op {
+        Op::Look(path) => look(alloc, profile, root, tree, path),
+        Op::Fetch(path) => fetch(alloc, tree, path),
+        Op::Set(path, contents) => set(tree, path, contents.copy()?),
+    }
+}
+
+/// Tells what the profile sees at the path.
+fn look(
+    alloc: Global,
+    profile: &Profile,
+    root: &Root,
+    tree: &Tree,
+    path: &RelPath,
+) -> Result<Answer, AllocError>
+    ensures value { IfOk result
+        (λ a. a ≡ machine.seen (of_sight.sight profile.now root.now tree.now path.now)) }
+    ensures fits { IfOk result (machine.Fits (Op.Look path.now)) }
+{
+    if reaches(profile, path) {
+        let (names, others) = split_names(alloc, profile, path, tree.names_at(path)?)?;
+        let mark = tree.mark_at(path);
+        let others = are_told(profile, root, others);
+        return Ok(Answer::Seen {
+            mark,
+            names,
+            others,
+        });
+    }
+    if is_kept_top(profile, path) {
+        let (names, _) = split_names(alloc, profile, path, tree.names_at(path)?)?;
+        return Ok(directory_with(names));
+    }
+    let is_parent = is_kept_parent(profile, path)?;
+    Ok(mark_alone(alloc, parent_mark(is_parent, tree, path)))
+}
+
+/// Returns whether others are told: where the profile writes at the root.
+fn are_told(profile: &Profile, root: &Root, others: bool) -> bool
+    ensures { result ≡ (of_reach.writes profile.now root.now && others) }
+{
+    writes(profile, root) && others
+}
+
+/// Returns whether the path is the whole replica, and that is kept.
+fn is_kept_top(profile: &Profile, path: &RelPath) -> bool
+    ensures { result ≡ (length path.now == 0 && list_any (path_eq path.now) profile.now.paths) }
+{
+    path.len() == 0 && is_kept(profile, path)
+}
+
+/// Tells a directory with these names, and no others.
+fn directory_with(names: Items<Name>) -> Answer
+    ensures { result
+        ≡ machine.seen (record { mark = Mark.Directory; names = names; others = false }) }
+{
+    Answer::Seen {
+        mark: Mark::Directory,
+        names,
+        others: false,
+    }
+}
+
+/// Tells a mark, and no names and no others.
+fn mark_alone(alloc: Global, mark: Mark) -> Answer
+    ensures { result ≡ machine.seen (record { mark = mark; names = []; others = false }) }
+{
+    Answer::Seen {
+        mark,
+        names: Items::new(alloc),
+        others: false,
+    }
+}
+
+/// Splits the names of a path's children into those that the profile reaches, and whether there are others.
+fn split_names(
+    alloc: Global,
+    profile: &Profile,
+    path: &RelPath,
+    names: Items<Name>,
+) -> Result<(Items<Name>, bool), AllocError>
+    ensures names { IfOk result
+        (λ r. r.0 ≡ filter (λ n. reach profile.now (path.now ++ n ∷ [])) names) }
+    ensures others { IfOk result
+        (λ r. r.1 ≡ list_any (λ n. not (reach profile.now (path.now ++ n ∷ []))) names) }
+{
+    let mut reached = Vec::new(alloc);
+    let mut others = false;
+    for name in names.into_vec() {
+        if reaches(profile, &path.child(name.copy()?)?) {
+            reached.push(name)?;
+        } else {
+            others = true;
+        }
+    }
+    Ok((Items::from_vec(reached), others))
+}
+
+/// Returns whether the whole replica is a kept value.
+fn is_kept(profile: &Profile, path: &RelPath) -> bool
+    ensures { result ≡ list_any (path_eq path.now) profile.now.paths }
+{
+    profile.paths().iter().any(|kept| path == kept)
+}
+
+/// Returns whether the path is the parent of a kept value that is reached.
+fn is_kept_parent(profile: &Profile, path: &RelPath) -> Result<bool, AllocError>
+    ensures { IfOk result (λ b. b ≡ of_sight.is_kept_parent profile.now path.now) }
+{
+    for kept in profile.paths() {
+        if is_reached_child(profile, kept, path)? {
+            return Ok(true);
+        }
+    }
+    Ok(false)
+}
+
+/// Returns whether a kept value is reached, or is the whole replica, and has this parent.
+fn is_reached_child(profile: &Profile, kept: &RelPath, path: &RelPath) -> Result<bool, AllocError>
+    ensures { IfOk result (λ b. b ≡ ((length kept.now == 0 || reach profile.now kept.now)
+        && path_eq (parent kept.now) path.now)) }
+{
+    match kept.parent()? {
+        None => Ok(path.len() == 0),
+        Some(parent) => Ok(reaches(profile, kept) && parent == *path),
+    }
+}
+
+/// Tells whether a parent of a kept value is a directory.
+fn parent_mark(is_parent: bool, tree: &Tree, path: &RelPath) -> Mark
+    ensures { result ≡ of_sight.directory_or_absent
+        (is_parent && of_tree.is_directory (of_tree.contents_at tree.now path.now)) }
+{
+    match tree.mark_at(path) {
+        Mark::Directory if is_parent => Mark::Directory,
+        Mark::Directory | Mark::File(_) | Mark::Absent => Mark::Absent,
+    }
+}
+
+/// Gives the bytes of a file.
+fn fetch(alloc: Global, tree: &Tree, path: &RelPath) -> Result<Answer, AllocError>
+    ensures value { IfOk result
+        (λ a. a ≡ machine.fetched (of_tree.contents_at tree.now path.now)) }
+    ensures fits { IfOk result (machine.Fits (Op.Fetch path.now)) }
+{
+    match tree.bytes_at(path) {
+        Some(bytes) => Ok(Answer::Bytes(Blob::new(Vec::from_slice(alloc, bytes)?))),
+        None => Ok(Answer::Refused(OpFault::NoFile)),
+    }
+}
+
+/// Sets contents at the path, unless they are refused.
+fn set(tree: &mut Tree, path: &RelPath, contents: Contents) -> Result<Answer, AllocError>
+    ensures answer { IfOk result
+        (λ a. a ≡ machine.done_unless (of_tree.set_fault tree.old path.now contents)) }
+    ensures fits { IfOk result (machine.Fits (Op.Set path.now contents)) }
+    ensures after { OnOk result (tree.new ≡ machine.changed_unless
+        (of_tree.set_fault tree.old path.now contents) tree.old
+        (of_tree.with_contents tree.old path.now contents)) }
+    ensures err { OnErr result (tree.new ≡ tree.old) }
+{
+    match tree.set(path, contents) {
+        Ok(()) => Ok(Answer::Done),
+        Err(SetFault::RootPath) => Ok(Answer::Refused(OpFault::RootPath)),
+        Err(SetFault::NoParent) => Ok(Answer::Refused(OpFault::NoParent)),
+        Err(SetFault::NotEmpty) => Ok(Answer::Refused(OpFault::NotEmpty)),
+        Err(SetFault::NothingThere) => Ok(Answer::Refused(OpFault::NothingThere)),
+        Err(SetFault::OutOfMemory) => Err(AllocError),
+    }
+}

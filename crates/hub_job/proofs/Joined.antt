@@ -42,7 +42,7 @@ use Rattle.hub_job.proofs.Promised.{listed, one_with, root_place}
 use Rattle.hub_job.proofs.Tables.{one_value}
 
 -- Lists.
-map_get : {X Y : Type 0} (f : X → Y) (xs : List X) (j : ℕ) (y : Y) → slice_get (map f xs) j ≡ Some y → (x : X) × (slice_get xs j ≡ Some x) × (y ≡ f x)
+pub map_get : {X Y : Type 0} (f : X → Y) (xs : List X) (j : ℕ) (y : Y) → slice_get (map f xs) j ≡ Some y → (x : X) × (slice_get xs j ≡ Some x) × (y ≡ f x)
 map_get f [] j y e = cc
 map_get f (x ∷ xs) zero y e = (x, refl, sym (one_value (f x) y e))
 map_get f (x ∷ xs) (suc j) y e = map_get f xs j y e
@@ -73,7 +73,7 @@ root_side P r facts h =
     ]
 
 -- The state with these replicas.
-same_test : (a b : Bool) → (a ≡ true → b ≡ true) → (b ≡ true → a ≡ true) → a ≡ b
+pub same_test : (a b : Bool) → (a ≡ true → b ≡ true) → (b ≡ true → a ≡ true) → a ≡ b
 same_test true b f g = sym (f refl)
 same_test false true f g = g refl
 same_test false false f g = refl

@@ -1,5 +1,5 @@
 -- What the laws on schedules say of a schedule that was run.
-use Rattle.std.proofs.Common.{◌≡◌, ◌≢◌, ◌≤◌, ◌<◌, List, [], ◌∷◌, length, Option, Some, None, Result, Ok, Err, IfOk, refl, ap, sym, ◌∙◌, subst, arith}
+use Rattle.std.proofs.Common.{◌≡◌, ◌≢◌, ◌≤◌, ◌<◌, List, [], ◌∷◌, length, Option, Some, None, Result, Ok, Err, IfOk, IfErr, refl, ap, sym, ◌∙◌, subst, arith}
 use Rattle.std.specs.Prelude.{ℕ, IsTrue, slice_get, replicate}
 use Rattle.hub_path.specs.Path.{Path}
 use Rattle.hub_profile.specs.Parts.{Parts}
@@ -10,12 +10,15 @@ use Rattle.hub_job.specs.declared.job_end.End.TheVariants as end
 use Rattle.hub_job.specs.declared.job_end.JobEnd.{JobEnd}
 use Rattle.hub_job.specs.declared.log.Entry.{Entry}
 use Rattle.hub_job.specs.declared.outcome.Outcome.{Outcome}
+use Rattle.hub_job.specs.declared.run_fault.RunFault.{RunFault}
 use Rattle.hub_job.specs.Outcome.{IsOutcomeOf, IsSimulated, KeepsTurns, world_after}
 use Rattle.hub_job.specs.Promise.{HasReplicas, IsAsPromised, Settles}
+use Rattle.hub_job.specs.Refusals.{IsRunnable, IsUnrun}
 use Rattle.hub_job.specs.Settled.{AreProfiles}
 use Rattle.hub_job.specs.Simulated.{EnoughTurnsEnd, IsLoneSynchronization, IsPromised, LogsAreOfTurns, LoneIsSynchronized, TurnsSuffice, turns_enough}
 use Rattle.hub_job.specs.World.{first_turns}
 use Rattle.hub_job.proofs.Promised.{elsewhere, foreign, marks_stay}
+use Rattle.hub_job.proofs.Runnable.{have_replicas}
 use Rattle.hub_job.proofs.Tables.{within}
 
 -- A state may be none where there are no profiles.
@@ -77,3 +80,32 @@ turns_suffice_for law S Ps valid facts = λ j n P at h. law S Ps (valid (some_pr
 pub if_both : {X E : Type 0} (A B C : X → Type 0) (r : Result X E) → ((x : X) → A x → B x → C x) → IfOk r A → IfOk r B → IfOk r C
 if_both A B C (Ok x) f a b = f x a b
 if_both A B C (Err e) f a b = a
+
+-- What is known of jobs that were run.
+pub record HaveRun (S : State) (Ps : List Parts) (schedule : List ℕ) (r : Result Outcome RunFault) : Type 0 where
+  pub world : IfOk r (IsSimulated S Ps schedule)
+  pub run : IfOk r (λ o. IsRunnable S Ps schedule)
+  pub refused : IfErr r (IsUnrun S Ps schedule)
+  pub valid : IsStateFor S Ps
+
+-- The laws, for the jobs of a safe set.
+module _ (S : State) (Ps : List Parts) (Rs : List Rule) (schedule : List ℕ) (r : Result Outcome RunFault) (ran : HaveRun S Ps schedule r) (facts : AreProfiles Ps) (safe : IsSafe Ps Rs) where
+  pub promise_of : SettlesLaw → PromiseLaw → IfOk r (IsPromised S Ps Rs)
+  promise_of settle law =
+      if_both (IsSimulated S Ps schedule) (λ o. IsRunnable S Ps schedule) (IsPromised S Ps Rs) r
+      (λ o is run. is_promised settle law S Ps Rs schedule o ran.valid (have_replicas S Ps run.0) facts safe is) ran.world ran.run
+
+  pub lone_of : LoneLaw → IfOk r (LoneIsSynchronized S Ps schedule)
+  lone_of law =
+      if_both (IsSimulated S Ps schedule) (λ o. IsRunnable S Ps schedule) (LoneIsSynchronized S Ps schedule) r
+      (λ o is run. lone_synchronized law S Ps Rs schedule o ran.valid (have_replicas S Ps run.0) facts safe is) ran.world ran.run
+
+  pub logs_of : ((S : State) (Ps : List Parts) (Rs : List Rule) (limit : ℕ → ℕ) (schedule : List ℕ) (o : Outcome) → IsSafe Ps Rs → IsOutcomeOf S Ps (first_turns limit schedule) o → KeepsTurns limit schedule o → LogsAreOfTurns S Ps schedule o)
+      → IfOk r (LogsAreOfTurns S Ps schedule)
+  logs_of law =
+      if_both (IsSimulated S Ps schedule) (λ o. IsRunnable S Ps schedule) (LogsAreOfTurns S Ps schedule) r (λ o is run. law S Ps Rs is.0 schedule o safe is.1 is.2) ran.world ran.run
+
+  pub enough_of : ((S : State) (Ps : List Parts) (Rs : List Rule) (limit : ℕ → ℕ) (schedule : List ℕ) (o : Outcome) → IsSafe Ps Rs → IsOutcomeOf S Ps (first_turns limit schedule) o → KeepsTurns limit schedule o → EnoughTurnsEnd S Ps schedule o)
+      → IfOk r (EnoughTurnsEnd S Ps schedule)
+  enough_of law =
+      if_both (IsSimulated S Ps schedule) (λ o. IsRunnable S Ps schedule) (EnoughTurnsEnd S Ps schedule) r (λ o is run. law S Ps Rs is.0 schedule o safe is.1 is.2) ran.world ran.run

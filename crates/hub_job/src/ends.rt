@@ -1,12 +1,15 @@
 //! How the jobs of a schedule end, and what they leave in the state.
-ghost use Rattle.std.specs.Prelude.{◌≡◌, ◌≢◌, false, ◌&&◌, map, fold, IfOk, OnOk, if◌then◌else◌};
+ghost use Rattle.std.specs.Prelude.{◌≡◌, ◌≢◌, false, ◌&&◌, map, fold, unwrap_or, IfOk, OnOk, if◌then◌else◌};
+ghost use Rattle.std.specs.FinMap as fin;
 ghost use Rattle.hub_path.specs.Path.{Path};
 ghost use Rattle.hub_reach.specs.Reach.{reach};
 ghost use Rattle.hub_tree.specs.Tree as of_tree;
+ghost use Rattle.hub_state.specs.State.{archive_at};
 ghost use Rattle.hub_job.specs.Left as spec;
 
 use crate::job_end::JobEnd;
 use crate::seat::{Seat, WorkingTree};
+use hub_path::Root;
 use hub_profile::Profile;
 use hub_reach::reaches;
 use hub_state::State;
@@ -117,16 +120,40 @@ fn put_marks(
 {
     let roots = profile.roots();
     let empty = Archive::new(alloc);
-    let current = match state.archive(&roots[0], &roots[1]) {
-        Some(archive) => archive,
-        None => &empty,
-    };
-    let merged = if current.same(opening) {
-        next
-    } else {
-        merge(profile, current, &next)?
-    };
+    let current = archive_or(state, &roots[0], &roots[1], &empty);
+    let merged = merge_changes(profile, current, opening, next)?;
     state.put_archive(&roots[0], &roots[1], merged)
+}
+
+/// Borrows the archive of two roots, or the empty one.
+fn archive_or<'a>(state: &'a State, left: &Root, right: &Root, empty: &'a Archive) -> &'a Archive
+    requires { empty.now ≡ fin.empty }
+    ensures { result.now ≡ unwrap_or (archive_at state.now left.now right.now) fin.empty }
+{
+    match state.archive(left, right) {
+        Some(archive) => archive,
+        None => empty,
+    }
+}
+
+/// Returns an archive with the marks of the next one at the paths that the profile reaches, and the current marks
+/// elsewhere. If the current archive is that of the opening, it is the next one.
+fn merge_changes(
+    profile: &Profile,
+    current: &Archive,
+    opening: &Archive,
+    next: Archive,
+) -> Result<Archive, AllocError>
+    requires { (p : Path) → reach profile.now p ≡ false
+        → of_tree.old_mark_at next p ≡ of_tree.old_mark_at opening.now p }
+    ensures { IfOk result (λ a. (p : Path) → of_tree.old_mark_at a p
+        ≡ (if reach profile.now p then of_tree.old_mark_at next p
+        else of_tree.old_mark_at current.now p)) }
+{
+    if current.same(opening) {
+        return Ok(next);
+    }
+    merge(profile, current, &next)
 }
 
 /// Returns an archive with the marks of the next one at the paths that the profile reaches, and the current marks

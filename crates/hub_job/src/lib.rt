@@ -22,6 +22,7 @@ mod schedule;
 mod schedule_tests;
 mod seat;
 mod seats;
+//mod simulate;
 mod step;
 mod steps;
 #[cfg(test)]
@@ -39,4 +40,4 @@ pub use machine::perform;
 pub use op::{Next, Op};
 pub use outcome::Outcome;
 pub use run_fault::RunFault;
-pub use schedule::simulate;
+//pub use simulate::simulate;

@@ -60,10 +60,7 @@ fn seat_for<'a>(
     let roots = profile.roots();
     let left = place_for(alloc, state, &roots[0], trees)?;
     let right = place_for(alloc, state, &roots[1], trees)?;
-    let opening = match state.archive(&roots[0], &roots[1]) {
-        Some(archive) => archive,
-        None => empty,
-    };
+    let opening = opening_of(profile, state, empty);
     Ok(Seat {
         profile,
         opening,
@@ -91,12 +88,31 @@ fn place_for<'a>(
     if let Some(place) = find_tree(trees.as_slice(), root) {
         return Ok(place);
     }
-    let tree = match state.replica(root) {
-        Some(tree) => tree.copy()?,
-        None => Tree::new(alloc),
-    };
+    let tree = copy_of(alloc, state, root)?;
     trees.push(WorkingTree { root, tree })?;
     Ok(trees.len() - 1)
+}
+
+/// Borrows the archive of a profile's two roots, or the empty one.
+fn opening_of<'a>(profile: &Profile, state: &'a State, empty: &'a Archive) -> &'a Archive
+    requires { empty.now ≡ fin.empty }
+    ensures { result.now ≡ archive_of state.now (Some profile.now) }
+{
+    let roots = profile.roots();
+    match state.archive(&roots[0], &roots[1]) {
+        Some(archive) => archive,
+        None => empty,
+    }
+}
+
+/// Copies the replica of a root. One that the state lacks is empty.
+fn copy_of(alloc: Global, state: &State, root: &Root) -> Result<Tree, AllocError>
+    ensures { IfOk result (λ t. t ≡ replicas_of state.now root.now) }
+{
+    match state.replica(root) {
+        Some(tree) => tree.copy(),
+        None => Ok(Tree::new(alloc)),
+    }
 }
 
 /// Finds the replica of a root.

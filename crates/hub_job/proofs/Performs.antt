@@ -9,6 +9,7 @@ use Rattle.std.specs.Ordering.{nat_cmp, is_eq}
 use Rattle.std.specs.declared.cmp.Ordering.{Ordering}
 use Rattle.std.specs.declared.cmp.Ordering.TheVariants.{Less, Equal, Greater}
 use Rattle.std.proofs.lemmas.Bool.{false≢true, and_parts}
+use Rattle.std.proofs.lemmas.Bool.Decides.{nat_tests}
 use Rattle.hub_path.specs.Path.{Name, Path, path_cmp, path_eq, parent, last_name}
 use Rattle.hub_path.specs.Laws.{path_cmp-total, path_cmp-exact, parent-last_name}
 use Rattle.hub_profile.specs.Parts.{Parts}
@@ -145,6 +146,9 @@ sight_by P r m d b c h k =
     ap (λ b. cond b (seen_there P r m d b) (cond (length d == 0 && is_kept P []) (seen_at_top P m) (seen_elsewhere P m d))) h
     ∙ ap (λ c. cond b (seen_there P r m d b) (cond c (seen_at_top P m) (seen_elsewhere P m d))) k
 
+some_names : (n : Name) (d : Path) → (length (n ∷ d) == 0) ≡ false
+some_names n d = grind (arith, nat_tests)
+
 and_true : (b : Bool) → (b && true) ≡ b
 and_true true = refl
 and_true false = refl
@@ -165,7 +169,7 @@ pub sees_top : (P : Parts) (r : Path) (m : Replica) (d : Path) (ns : List Name) 
 sees_top P r m [] ns h k en =
     same_seen mark.Directory mark.Directory ns (reached_names P m []) false false refl (en ∙ names_reached P m []) refl
     ∙ ap seen (sym (sight_by P r m [] false true h (and_true (list_any (path_eq []) P.paths) ∙ k)))
-sees_top P r m (n ∷ d) ns h k en = absurd (false≢true k)
+sees_top P r m (n ∷ d) ns h k en = absurd (false≢true (sym (ap (λ b. b && list_any (path_eq (n ∷ d)) P.paths) (some_names n d)) ∙ k))
 
 pub sees_elsewhere : (P : Parts) (r : Path) (m : Replica) (d : Path) (mk : Mark) → reach P d ≡ false → (length d == 0 && list_any (path_eq d) P.paths) ≡ false
     → mk ≡ directory_or_absent (is_kept_parent P d && is_directory (contents_at m d)) → Seen mk [] false ≡ seen (sight P r m d)
@@ -174,7 +178,7 @@ sees_elsewhere P r m [] mk h k em =
     ∙ ap seen (sym (sight_by P r m [] false false h (and_true (list_any (path_eq []) P.paths) ∙ k)))
 sees_elsewhere P r m (n ∷ d) mk h k em =
     same_seen mk (directory_or_absent (is_kept_parent P (n ∷ d) && is_directory (contents_at m (n ∷ d)))) [] [] false false em refl refl
-    ∙ ap seen (sym (sight_by P r m (n ∷ d) false false h refl))
+    ∙ ap seen (sym (sight_by P r m (n ∷ d) false false h (ap (λ b. b && is_kept P []) (some_names n d))))
 
 -- A loop over kept values.
 pub past_all : {X : Type 0} (n : ℕ) (xs : List X) → length xs ≤ n → drop n xs ≡ []

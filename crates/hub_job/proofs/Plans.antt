@@ -7,6 +7,7 @@ use Rattle.std.specs.FinMap.Entries.{is_sorted, below_all}
 use Rattle.std.specs.Ordering.{is_lt}
 use Rattle.std.specs.declared.cmp.Ordering.TheVariants.{Less}
 use Rattle.std.proofs.lemmas.Bool.{false≢true, and_parts}
+use Rattle.std.proofs.lemmas.List.Sums.{sum_by-cons}
 use Rattle.hub_path.specs.Path.{Path, path_cmp, ascending}
 use Rattle.hub_path.specs.declared.side.Side.{Side}
 use Rattle.hub_path.specs.declared.side.Side.TheVariants.{Left, Right}
@@ -58,7 +59,7 @@ no_steps (e ∷ log) h =
     let parts = and_parts (is_look e.step.op && not (is_refused e.step.answer)) (are_looks log) h in
     let own = and_parts (is_look e.step.op) (not (is_refused e.step.answer)) parts.0 in
     let one : weight (is_look e.step.op) ≡ weight true = ap weight own.0 in
-    omega (arith, one, no_steps log parts.1)
+    omega (arith, sum_by-cons (λ (e : Logged). weight (is_look e.step.op)) e log, one, no_steps log parts.1)
 
 refused_at : (log : List Logged) (i : ℕ) → list_any (λ e. is_refused e.step.answer) log ≡ false → some_passes (λ e. is_refused e.step.answer) (slice_get log i) ≡ false
 refused_at [] i h = refl

@@ -3,7 +3,6 @@
 
 mod answer;
 mod asked;
-mod ends;
 mod job;
 mod job_end;
 pub mod laws;
@@ -14,21 +13,9 @@ mod op;
 mod outcome;
 mod phase;
 mod planned;
-pub mod promise;
-mod refusals;
 mod run_fault;
-mod schedule;
-#[cfg(test)]
-mod schedule_tests;
-mod seat;
-mod seats;
-//mod simulate;
 mod step;
 mod steps;
-#[cfg(test)]
-mod tests;
-pub mod together;
-mod turn;
 mod waiting;
 
 pub use answer::{Answer, OpFault};
@@ -40,4 +27,3 @@ pub use machine::perform;
 pub use op::{Next, Op};
 pub use outcome::Outcome;
 pub use run_fault::RunFault;
-//pub use simulate::simulate;

@@ -15,7 +15,7 @@ returns-then-branch c =
     let P = c.args.profile.now in
     let d = c.args.path.now in
     sym (kept_parent_is P d
-    ∙ (ap (λ (ps : List Path). list_any (counts P d) ps) (sym c.paths-kept-items.ensures)
+    ∙ (ap (λ (ps : List Path). list_any (counts P d) ps) (sym c.paths-kept-items.ensures.value)
     ∙ (sym c.loop-kept.invariant
     ∙ one_passes (counts P d) c.paths-kept-items.result.now c.loop-kept.kept-index c.kept-item.result (omega arith) c.kept-item.is
     (sym c.in_ok-is_reached_child.ensures ∙ c.if-branch.true))))
@@ -25,6 +25,6 @@ returns c =
     let P = c.args.profile.now in
     let d = c.args.path.now in
     sym (kept_parent_is P d
-    ∙ (ap (λ (ps : List Path). list_any (counts P d) ps) (sym c.paths-kept-items.ensures)
+    ∙ (ap (λ (ps : List Path). list_any (counts P d) ps) (sym c.paths-kept-items.ensures.value)
     ∙ (sym c.loop-kept.invariant
     ∙ ap (λ (ps : List Path). list_any (counts P d) ps) (past_all c.loop-kept.kept-index c.paths-kept-items.result.now (omega arith)))))

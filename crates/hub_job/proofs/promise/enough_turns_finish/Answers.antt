@@ -1,5 +1,0 @@
-use Rattle.hub_job.proofs.Kept.{all_enough}
-use Rattle.hub_job.proofs.promise.enough_turns_finish.Goals as goal
-
-pub returns : goal.returns
-returns c = all_enough c.jobs_leave_each_other_alone.ensures.logs

@@ -1,6 +1,0 @@
-use Rattle.hub_job.proofs.Kept.{promise_kept}
-use Rattle.hub_job.proofs.promise.safe_sets_keep_their_promise.Goals as goal
-
-pub returns : goal.returns
-returns c =
-    let four = c.jobs_leave_each_other_alone.ensures in promise_kept four.logs four.others four.own four.elsewhere c.each_set_is_allowed.ensures

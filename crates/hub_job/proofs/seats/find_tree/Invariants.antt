@@ -1,5 +1,0 @@
-use Rattle.hub_job.specs.Table.{IsNotIn}
-use Rattle.hub_job.proofs.seats.find_tree.Given as goal
-
-abbrev pub invariant-loop-place : goal.invariant-loop-place
-invariant-loop-place l = IsNotIn l.trees l.place l.root

@@ -1,0 +1,14 @@
+//! Tests of operations and jobs: answers and turns worked out by hand from the rules.
+//!
+//! They stand in a crate of their own, since a crate that has tests is proved twice by the gate: once alone, and once
+//! more below its tests.
+#![tactic(auto)]
+
+#[cfg(test)]
+mod alone;
+#[cfg(test)]
+mod given;
+#[cfg(test)]
+mod replicas;
+#[cfg(test)]
+mod stopped;

@@ -1,0 +1,6 @@
+//! Schedules of rounds.
+#![tactic(auto)]
+
+mod rounds;
+
+pub use rounds::rounds_for;

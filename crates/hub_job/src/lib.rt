@@ -16,6 +16,7 @@ mod phase;
 mod planned;
 pub mod promise;
 mod refusals;
+mod rounds;
 mod run_fault;
 mod schedule;
 #[cfg(test)]
@@ -38,5 +39,6 @@ pub use log::{Entry, Logged};
 pub use machine::perform;
 pub use op::{Next, Op};
 pub use outcome::Outcome;
+pub use rounds::{rounds_for, run_rounds};
 pub use run_fault::RunFault;
 pub use schedule::simulate;

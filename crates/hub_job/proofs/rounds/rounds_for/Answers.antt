@@ -1,7 +1,7 @@
 use Rattle.std.proofs.Common.{◌≡◌, ◌≤◌, length, subst, sym, arith}
-use Rattle.rounds_try.specs.Enough.{turns_enough}
-use Rattle.rounds_try.proofs.InRounds.{one_more, enough}
-use Rattle.rounds_try.proofs.rounds.rounds_for.Goals as goal
+use Rattle.hub_job.specs.Simulated.{turns_enough}
+use Rattle.hub_job.proofs.InRounds.{one_more, enough}
+use Rattle.hub_job.proofs.rounds.rounds_for.Goals as goal
 
 pub loop-preserved : goal.loop-preserved
 loop-preserved c = one_more (length c.args.profiles.now) c.loop.counter c.loop.schedule.items c.push_round.new.schedule.items c.loop.invariant c.in_ok-push_round.ensures

@@ -3,12 +3,36 @@ ghost use Rattle.std.specs.Prelude.{◌≡◌, ◌≤◌, ◌<◌, ℕ, All, Som
 ghost use Rattle.std.specs.List.{range_with_len};
 ghost use Rattle.std.specs.FinMap as fin;
 ghost use Rattle.hub_profile.specs.Parts.{Parts};
-ghost use Rattle.rounds_try.specs.Enough.{AllHaveEnough, replicas_of, turns_enough};
+ghost use Rattle.hub_job.specs.Outcome.{replicas_of};
+ghost use Rattle.hub_job.specs.Simulated.{AllHaveEnough, turns_enough};
 
+use crate::outcome::Outcome;
+use crate::run_fault::RunFault;
+use crate::schedule::simulate;
+use hub_cert::Verified;
 use hub_path::Root;
 use hub_profile::Profile;
 use hub_state::State;
 use std::alloc::{AllocError, Global};
+
+/// Runs the jobs of a set in rounds, until each of them is finished or stopped.
+///
+/// The fault is `MissingReplica` with the first root that the state has no replica for, in the order of the profiles, the
+/// left root of each first; or `OutOfMemory`, which may come at any point.
+pub fn run_rounds(
+    alloc: Global,
+    verified: &Verified<'_>,
+    state: &State,
+) -> Result<Outcome, RunFault>
+    ensures promise { IfOk result (IsPromised state.now verified.now.profiles
+        (map forbidden_by verified.now.rules)) }
+    ensures ended { IfOk result (λ o. HaveEnded o.jobs) }
+    ensures refused { IfErr result (λ e. (e ≡ RunFault.OutOfMemory) ⊎ LacksReplica state.now
+        verified.now.profiles e) }
+{
+    let schedule = rounds_for(alloc, verified.set().profiles(), state)?;
+    simulate(alloc, verified, state, schedule.as_slice())
+}
 
 /// A schedule of rounds: in each of them each job has one turn, in the order of the profiles. There are as many rounds as
 /// a synchronization of any of the profiles can take: four for each kept value, and three for each entry of the

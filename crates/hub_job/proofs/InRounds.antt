@@ -10,7 +10,8 @@ use Rattle.hub_profile.specs.Parts.{Parts}
 use Rattle.hub_tree.specs.Tree.{Replica}
 use Rattle.hub_tree.specs.declared.contents.Contents.{Contents}
 use Rattle.hub_state.specs.State.{State, replica_at}
-use Rattle.rounds_try.specs.Enough.{AllHaveEnough, replicas_of, turns_enough, turns_of}
+use Rattle.hub_job.specs.Outcome.{replicas_of}
+use Rattle.hub_job.specs.Simulated.{AllHaveEnough, turns_enough, turns_of}
 use Rattle.std.proofs.lemmas.List.{map-id, append_assoc}
 use Rattle.std.proofs.lemmas.List.FromFn.{map-range_with_len_more, length-range_with_len, get_or-range_with_len}
 use Rattle.std.proofs.lemmas.Bool.{ne_eqb, eqb-false}

@@ -1,8 +1,8 @@
 use Rattle.std.proofs.Common.{◌∙◌}
 use Rattle.std.specs.FinMap as fin
-use Rattle.rounds_try.proofs.InRounds.{counted, len_there, len_missing}
-use Rattle.rounds_try.proofs.rounds.entries_at.Goals as goal
-use Rattle.rounds_try.proofs.rounds.entries_at.Goals.{in-Some, in-None}
+use Rattle.hub_job.proofs.InRounds.{counted, len_there, len_missing}
+use Rattle.hub_job.proofs.rounds.entries_at.Goals as goal
+use Rattle.hub_job.proofs.rounds.entries_at.Goals.{in-Some, in-None}
 
 pub returns-else-count : goal.returns-else-count
 returns-else-count c = elim c.match-replica.branch [

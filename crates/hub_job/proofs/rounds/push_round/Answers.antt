@@ -1,6 +1,6 @@
 use Rattle.std.proofs.Common.{◌∙◌}
-use Rattle.rounds_try.proofs.InRounds.{round_more}
-use Rattle.rounds_try.proofs.rounds.push_round.Goals as goal
+use Rattle.hub_job.proofs.InRounds.{round_more}
+use Rattle.hub_job.proofs.rounds.push_round.Goals as goal
 
 pub loop-job-preserved : goal.loop-job-preserved
 loop-job-preserved c = c.in_ok-push.ensures.items ∙ round_more c.args.schedule.now.items c.loop-job.schedule.items c.loop-job.job c.loop-job.invariant

@@ -1,7 +1,7 @@
 use Rattle.std.proofs.Common.{◌≡◌, ◌≤◌, ◌<◌, ℕ, slice_get, Some}
 use Rattle.hub_profile.specs.Parts.{Parts}
-use Rattle.rounds_try.specs.Enough.{turns_enough}
-use Rattle.rounds_try.proofs.rounds.most_turns.Given as goal
+use Rattle.hub_job.specs.Simulated.{turns_enough}
+use Rattle.hub_job.proofs.rounds.most_turns.Given as goal
 
 abbrev pub invariant-loop-profile : goal.invariant-loop-profile
 invariant-loop-profile l =

@@ -1,6 +1,0 @@
-//! Schedules of rounds.
-#![tactic(auto)]
-
-mod rounds;
-
-pub use rounds::rounds_for;

@@ -1,5 +1,5 @@
 -- What the code of a job keeps.
-use Rattle.std.proofs.Common.{◌≡◌, ◌<◌, ◌≤◌, ◌+◌, Bool, true, false, cond, List, [], ◌∷◌, ◌++◌, length, take, Option, Some, None, refl, ap, sym, ◌∙◌, subst, append-nil, append_assoc, arith, Result, Ok, Err}
+use Rattle.std.proofs.Common.{◌≡◌, ◌<◌, List, [], ◌∷◌, ◌++◌, take, Option, Some, None, refl, ap, sym, ◌∙◌, subst, append-nil, append_assoc, arith, Result, Ok, Err}
 use Rattle.std.specs.Prelude.{◌≢◌, ℕ, zero, suc, if◌then◌else◌, IfSome, is_ok, IsOk}
 use Rattle.std.proofs.lemmas.Bool.{false≢true}
 use Rattle.hub_path.specs.Path.{ascending}
@@ -7,27 +7,22 @@ use Rattle.hub_path.specs.declared.side.Side.{Side}
 use Rattle.hub_path.specs.declared.side.Side.TheVariants.{Left, Right}
 use Rattle.hub_profile.specs.Parts.{Parts}
 use Rattle.hub_tree.specs.Tree.{Archive}
-use Rattle.hub_reconcile.specs.Picture.{first_looks, needed}
-use Rattle.hub_reconcile.specs.Items.{items}
-use Rattle.hub_reconcile.specs.Sync.{next_archive}
-use Rattle.hub_job.specs.declared.op.Op.{Op}
+use Rattle.hub_reconcile.specs.Picture.{first_looks}
 use Rattle.hub_job.specs.declared.op.Next.{Next}
 use Rattle.hub_job.specs.declared.op.Next.TheVariants.{Ask, Finished, Stopped}
 use Rattle.hub_job.specs.declared.answer.Answer.{Answer}
 use Rattle.hub_job.specs.declared.asked.Asked.{Asked}
-use Rattle.hub_job.specs.declared.job_end.End.{End}
 use Rattle.hub_job.specs.declared.job_end.End.TheVariants as end
 use Rattle.hub_job.specs.declared.log.Logged.{Logged}
 use Rattle.hub_job.specs.declared.looks.Looks.{Looks}
-use Rattle.hub_job.specs.declared.steps.Steps.{Steps}
 use Rattle.hub_job.specs.declared.phase.Phase.{Phase}
 use Rattle.hub_job.specs.declared.phase.Phase.TheVariants as phase
-use Rattle.hub_job.specs.Ends.{end_by, is_finished}
+use Rattle.hub_job.specs.Ends.{end_by}
 use Rattle.hub_job.specs.Machine.{Fits}
-use Rattle.hub_job.specs.Job.{next, view_in}
-use Rattle.hub_job.specs.JobValue.{JobValue, IsAsked, IsJob, IsRoomy, IsWhole, value_of, after_turn, log_with, with_answer}
+use Rattle.hub_job.specs.Job.{next}
+use Rattle.hub_job.specs.JobValue.{JobValue, IsAsked, IsRoomy, IsWhole, value_of, after_turn, log_with, with_answer}
 use Rattle.hub_job.specs.Run.{Runs}
-use Rattle.hub_job.specs.Phase.{IsWaiting, AreLooks, AreLooksOf, Follows, IsAskedIn, asked_by, IsNextIn, IsNext, is_stopped}
+use Rattle.hub_job.specs.Phase.{IsWaiting, AreLooks, AreLooksOf, IsAskedIn, asked_by, IsNextIn, IsNext, is_stopped}
 use Rattle.hub_job.proofs.Phases.{followed}
 
 -- Where nothing is asked.

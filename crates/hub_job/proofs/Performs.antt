@@ -10,7 +10,7 @@ use Rattle.std.specs.declared.cmp.Ordering.{Ordering}
 use Rattle.std.specs.declared.cmp.Ordering.TheVariants.{Less, Equal, Greater}
 use Rattle.std.proofs.lemmas.Bool.{false≢true, and_parts}
 use Rattle.std.proofs.lemmas.Bool.Decides.{nat_tests}
-use Rattle.hub_path.specs.Path.{Name, Path, path_cmp, path_eq, parent, last_name}
+use Rattle.hub_path.specs.Path.{Name, Path, path_eq, parent, last_name}
 use Rattle.hub_path.specs.Laws.{path_cmp-total, path_cmp-exact, parent-last_name}
 use Rattle.hub_profile.specs.Parts.{Parts}
 use Rattle.hub_reach.specs.Reach.{reach, writes}

@@ -1,8 +1,8 @@
 -- What a job does next in its phase, and that the phase follows the log.
-use Rattle.std.proofs.Common.{◌≡◌, ◌<◌, ◌≤◌, ◌+◌, ◌-◌, Bool, true, false, cond, not, ◌&&◌, ◌||◌, List, [], ◌∷◌, ◌++◌, length, map, take, drop, Option, Some, None, refl, ap, sym, ◌∙◌, subst, arith, length-append, IfOk, Result, Ok, Err}
+use Rattle.std.proofs.Common.{◌≡◌, ◌≤◌, ◌+◌, ◌-◌, Bool, true, false, cond, not, ◌&&◌, ◌||◌, List, [], ◌∷◌, ◌++◌, length, take, Option, Some, None, refl, ap, sym, ◌∙◌, subst, arith, length-append, IfOk, Result, Ok, Err}
 use Rattle.std.specs.Prelude.{ℕ, slice_get, unwrap_or}
-use Rattle.std.specs.List.{list_any, list_all}
-use Rattle.std.proofs.lemmas.Bool.{false≢true, and_parts}
+use Rattle.std.specs.List.{list_any}
+use Rattle.std.proofs.lemmas.Bool.{false≢true}
 use Rattle.std.proofs.lemmas.List.Folds.{list_any-append, list_all-append}
 use Rattle.std.proofs.lemmas.List.Sums.{sum_by_push}
 use Rattle.std.proofs.lemmas.List.{take-append-le}
@@ -18,17 +18,16 @@ use Rattle.hub_job.specs.declared.op.Next.{Next}
 use Rattle.hub_job.specs.declared.op.Next.TheVariants.{Ask, Finished, Stopped}
 use Rattle.hub_job.specs.declared.answer.Answer.{Answer}
 use Rattle.hub_job.specs.declared.answer.Answer.TheVariants.{Seen, Bytes, Done, Refused}
-use Rattle.hub_job.specs.declared.asked.Asked.{Asked}
 use Rattle.hub_job.specs.declared.log.Logged.{Logged}
 use Rattle.hub_job.specs.declared.looks.Looks.{Looks}
 use Rattle.hub_job.specs.declared.steps.Steps.{Steps}
 use Rattle.hub_job.specs.declared.phase.Phase.{Phase}
 use Rattle.hub_job.specs.declared.phase.Phase.TheVariants as phase
 use Rattle.hub_job.specs.Machine.{Fits}
-use Rattle.hub_job.specs.Job.{told, sights, view_in, missing, is_refused, is_look, fetched_last, Step, steps, steps_made, ask, step_or_end, look_or, next}
+use Rattle.hub_job.specs.Job.{told, sights, missing, is_refused, is_look, fetched_last, Step, steps, steps_made, ask, step_or_end, look_or, next}
 use Rattle.hub_job.specs.Run.{Runs}
 use Rattle.hub_job.specs.Phase.{seen_paths, IsWaiting, told_more, look_at, first_look, are_looks, AreLooks, AreLooksOf, AreSteps, last_refused, Follows, IsAskedIn, asked_by, IsNextIn, IsNext, is_stopped, next_step}
-use Rattle.hub_job.proofs.Told.{sights-push, AllTold, told_all, take_all, next_looks, missing_is, none_refused, step_is_no_look}
+use Rattle.hub_job.proofs.Told.{sights-push, AllTold, told_all, take_all, next_looks, missing_is, step_is_no_look}
 
 stops_not : Stopped ≡ Finished → ⊥
 stops_not h = cc

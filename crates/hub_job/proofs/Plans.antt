@@ -1,29 +1,27 @@
 -- The plan of a log is that of the picture which its Looks give.
-use Rattle.std.proofs.Common.{◌≡◌, ◌+◌, Bool, true, false, cond, not, ◌&&◌, ◌||◌, T, List, [], ◌∷◌, ◌++◌, length, map, Option, Some, None, refl, ap, sym, ◌∙◌, subst, arith, append-nil}
+use Rattle.std.proofs.Common.{◌≡◌, Bool, true, false, cond, not, ◌&&◌, ◌||◌, List, [], ◌∷◌, length, refl, ap, sym, ◌∙◌, subst, arith, append-nil}
 use Rattle.std.specs.Prelude.{ℕ, zero, suc, ◌-◌, slice_get, IsTrue}
 use Rattle.std.specs.List.{list_any, AllByRecursion}
 use Rattle.std.specs.List.Sorted.{IsStrictlySortedBy}
 use Rattle.std.specs.FinMap.Entries.{is_sorted, below_all}
 use Rattle.std.specs.Ordering.{is_lt}
 use Rattle.std.specs.declared.cmp.Ordering.TheVariants.{Less}
-use Rattle.std.proofs.lemmas.Bool.{false≢true, and_parts}
+use Rattle.std.proofs.lemmas.Bool.{and_parts}
 use Rattle.std.proofs.lemmas.List.Sums.{sum_by-cons}
-use Rattle.hub_path.specs.Path.{Path, path_cmp, ascending}
+use Rattle.hub_path.specs.Path.{Path, path_cmp}
 use Rattle.hub_path.specs.declared.side.Side.{Side}
 use Rattle.hub_path.specs.declared.side.Side.TheVariants.{Left, Right}
 use Rattle.hub_profile.specs.Parts.{Parts, some_passes}
 use Rattle.hub_tree.specs.Tree.{Archive}
 use Rattle.hub_reconcile.specs.Sight.{Sight}
-use Rattle.hub_reconcile.specs.Picture.{view_by, needed, are_rising, told_by}
+use Rattle.hub_reconcile.specs.Picture.{view_by, are_rising, told_by}
 use Rattle.hub_reconcile.specs.Shown.{shown}
 use Rattle.hub_reconcile.specs.declared.look.Look.{Look}
 use Rattle.hub_reconcile.specs.declared.picture.Picture.{Picture}
 use Rattle.hub_reconcile.specs.Sync.{of_side}
-use Rattle.hub_reconcile.specs.View.{View}
 use Rattle.hub_job.specs.declared.log.Logged.{Logged}
-use Rattle.hub_job.specs.declared.steps.Steps.{Steps}
 use Rattle.hub_job.specs.Job.{sights, view_in, is_refused, is_look, Step, steps, steps_made}
-use Rattle.hub_job.specs.Phase.{seen_paths, IsWaiting, are_looks, AreSteps, last_refused}
+use Rattle.hub_job.specs.Phase.{seen_paths, IsWaiting, are_looks, AreSteps}
 use Rattle.hub_job.proofs.Told.{sorted_needed, none_refused}
 
 all_below : (p : Path) (ss : List (Path × Sight)) → AllByRecursion (λ q. path_cmp p q ≡ Less) (seen_paths ss) → below_all path_cmp p ss ≡ true

@@ -1,7 +1,7 @@
 -- What the entries of a log tell of the Looks that wait.
-use Rattle.std.proofs.Common.{◌≡◌, ◌<◌, ◌≤◌, ◌+◌, Bool, true, false, cond, not, ◌&&◌, ◌||◌, List, [], ◌∷◌, ◌++◌, length, map, take, drop, Option, Some, None, refl, ap, sym, ◌∙◌, subst, append-nil, append_assoc, arith, length-append}
+use Rattle.std.proofs.Common.{◌≡◌, ◌≤◌, ◌+◌, Bool, true, false, cond, not, ◌&&◌, ◌||◌, List, [], ◌∷◌, ◌++◌, length, map, take, drop, Option, Some, None, refl, ap, sym, ◌∙◌, subst, append-nil, append_assoc, arith}
 use Rattle.std.specs.Prelude.{ℕ, zero, suc, ◌==◌, slice_get, filter, find, fold, unwrap_or}
-use Rattle.std.specs.List.{list_any, list_all, flat_map, AllByRecursion}
+use Rattle.std.specs.List.{list_any, flat_map, AllByRecursion}
 use Rattle.std.specs.List.Sorted.{IsStrictlySortedBy}
 use Rattle.std.proofs.lemmas.Bool.{false≢true, and_parts, eqb-true, eqb-false}
 use Rattle.std.proofs.lemmas.Grind.{flat_map-append}
@@ -12,7 +12,7 @@ use Rattle.hub_path.specs.declared.side.Side.TheVariants.{Left, Right}
 use Rattle.hub_profile.specs.Parts.{Parts}
 use Rattle.hub_reach.specs.Reach.{reach}
 use Rattle.hub_tree.specs.Tree.{Archive}
-use Rattle.hub_reconcile.specs.Sight.{Sight, is_kept}
+use Rattle.hub_reconcile.specs.Sight.{Sight}
 use Rattle.hub_reconcile.specs.Picture.{first_looks, needed, was_seen}
 use Rattle.hub_reconcile.specs.Sides.{side_eq}
 use Rattle.hub_job.specs.declared.op.Op.{Op}
@@ -29,7 +29,7 @@ use Rattle.hub_job.specs.Run.{Runs}
 use Rattle.hub_job.specs.Waiting.{listed, put_all, looks_for, put_kept}
 use Rattle.hub_job.specs.Phase.{seen_paths, IsWaiting, told_to, told_on, told_more, look_at, first_look, are_looks, AreLooks, AreLooksOf}
 use Rattle.hub_job.proofs.Waits.{AllBefore, ascending-append, ascending_is, put_all-append, sorted-ascending, all_before, children_wait, find_behind, path_eq-less}
-use Rattle.hub_job.proofs.Performs.{path_itself, any_middle, past_all, true_and}
+use Rattle.hub_job.proofs.Performs.{path_itself, any_middle, past_all}
 
 -- What one more entry adds to what a side has seen.
 pub sights_own : (log : List Logged) (e : Logged) (k : Side) → side_eq e.side k ≡ true → sights (log ++ e ∷ []) k ≡ sights log k ++ told e.step.op e.step.answer

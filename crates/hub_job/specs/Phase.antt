@@ -1,5 +1,5 @@
 -- How far a job is, against its log.
-use Rattle.std.specs.Prelude.{◌≡◌, ◌≤◌, ◌+◌, ◌-◌, ◌<◌, ℕ, Bool, true, false, not, ◌&&◌, List, [], ◌∷◌, ◌++◌, map, drop, take, length, slice_get, Option, Some, None, if◌then◌else◌}
+use Rattle.std.specs.Prelude.{◌≡◌, ◌≤◌, ◌+◌, ◌-◌, Bool, true, false, not, ◌&&◌, List, [], ◌++◌, map, drop, take, length, slice_get, Option, Some, None, if◌then◌else◌}
 use Rattle.std.specs.List.{list_any, list_all}
 use Rattle.hub_path.specs.Path.{Name, Path}
 use Rattle.hub_path.specs.declared.side.Side.{Side}
@@ -20,7 +20,7 @@ use Rattle.hub_job.specs.declared.looks.Looks.{Looks}
 use Rattle.hub_job.specs.declared.steps.Steps.{Steps}
 use Rattle.hub_job.specs.declared.phase.Phase.{Phase}
 use Rattle.hub_job.specs.declared.phase.Phase.TheVariants as phase
-use Rattle.hub_job.specs.Job.{sights, view_in, is_refused, is_look, fetched_last, Step, steps, steps_made, ask, next}
+use Rattle.hub_job.specs.Job.{sights, view_in, is_refused, is_look, fetched_last, steps, steps_made, ask, next}
 use Rattle.hub_job.specs.Waiting.{listed, put_all}
 
 abbrev pub seen_paths : List (Path × Sight) → List Path

@@ -1,4 +1,14 @@
-//! Jobs and their operations.
+//! A synchronization as a sequence of single operations.
+//!
+//! - [`Job`]: what a profile's job asks next, turn by turn, and how it ended.
+//! - [`perform`]: makes an operation ([`Op`]) on a replica, and returns its [`Answer`].
+//! - [`Logged`]: an operation of a job, with its answer and the side that answered.
+//! - [`laws`]: what the crates above may conclude.
+//!
+//! The contracts use the words of `specs/Machine` (the answers of a replica), `specs/Job` (what a job does next),
+//! `specs/JobValue` (a job as contracts see it), `specs/Ends` (how it ends) and `specs/Run` (runs of one job).
+//!
+//! Only functions that return a `Result` and [`Job::turn`] allocate.
 #![tactic(auto)]
 
 mod answer;

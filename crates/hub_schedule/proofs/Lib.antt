@@ -23,3 +23,4 @@ pub mod Merging
 pub mod Unreached
 pub mod PairMarks
 pub mod Simulation
+pub mod Turning

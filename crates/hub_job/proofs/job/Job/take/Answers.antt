@@ -1,4 +1,4 @@
-use Rattle.std.proofs.Common.{Option, List, sym, ap, ◌∙◌, ◌≢◌, subst}
+use Rattle.std.proofs.Common.{Option, sym, ap, ◌∙◌, ◌≢◌, subst}
 use Rattle.std.specs.Prelude.{None, IfSome}
 use Rattle.std.specs.Vec.{vec_len, vec_capacity}
 use Rattle.hub_job.specs.JobValue.{JobValue, IsRoomy, IsWhole, log_with, value_of}

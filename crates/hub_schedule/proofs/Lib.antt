@@ -24,3 +24,5 @@ pub mod Unreached
 pub mod PairMarks
 pub mod Simulation
 pub mod Turning
+pub mod Places
+pub mod Marked

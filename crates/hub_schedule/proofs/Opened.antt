@@ -50,6 +50,15 @@ get_push Q [] x each last (suc j) y e = cc
 get_push Q (z ∷ xs) x each last zero y e = each 0 y e
 get_push Q (z ∷ xs) x each last (suc j) y e = get_push (λ i. Q (suc i)) xs x (λ i w h. each (suc i) w h) last j y e
 
+-- A new job and its two places.
+pub open_at : (S : State) (trees : List WorkingTree) (i j : ℕ) (P : Parts) (s : Seat) → i ≡ j → IsNew i P (archive_of S (Some P)) s → IsPlaced trees (root_at P Left) s.left → IsPlaced trees (root_at P Right) s.right
+    → IsOpened S trees j P s
+open_at S trees i j P s e new l r = record { new = subst (λ k. IsNew k P (archive_of S (Some P)) s) e new; places = go }
+  where
+    go : (k : Side) → IsPlaced trees (root_at P k) (place_on s k)
+    go Left = l
+    go Right = r
+
 earlier : (S : State) (Ps : List Parts) (old new : List WorkingTree) (P : Parts) → Extends P old new → (j : ℕ) (t : Seat)
     → (Q : Parts) × (slice_get Ps j ≡ Some Q) × IsOpened S old j Q t → (Q : Parts) × (slice_get Ps j ≡ Some Q) × IsOpened S new j Q t
 earlier S Ps old new P more j t w = (

@@ -115,3 +115,25 @@ no_other_stopped seats j t i h e =
 pub still_placed : (seats : List Seat) (trees : List WorkingTree) (j : ℕ) (s t : Seat) → slice_get seats j ≡ Some s → ((k : Side) → place_on t k ≡ place_on s k) → ArePlaced seats trees → ArePlaced (slice_set seats j t) trees
 still_placed seats trees j s t is places placed = λ i x k e.
     each_set (λ (i : ℕ) (x : Seat). place_on x k < length trees) seats j s t is (subst (λ (m : ℕ). m < length trees) (sym (places k)) (placed j s k is)) (λ i z off h. placed i z k h) i x e
+
+-- Another state of the job leaves its places.
+pub place_same : (s : Seat) (v : JobValue) (k : Side) → place_on (with_job s v) k ≡ place_on s k
+place_same s v Left = refl
+place_same s v Right = refl
+
+pub same_places : (t t2 : Seat) (a b : JobValue) (X Y : Type 0) → (t2.job.stopped ≡ true → (t2 ≡ with_job t a) × X) → (t2.job.stopped ≡ false → (t2 ≡ with_job t b) × Y) → (k : Side) → place_on t2 k ≡ place_on t k
+same_places t t2 a b X Y lost made k = go t2.job.stopped refl
+  where
+    go : (c : Bool) → t2.job.stopped ≡ c → place_on t2 k ≡ place_on t k
+    go true e = ap (λ (x : Seat). place_on x k) (lost e).0 ∙ place_same t a k
+    go false e = ap (λ (x : Seat). place_on x k) (made e).0 ∙ place_same t b k
+
+pub not_asked : (n : Next) → ((side : Side) (op : Op) → n ≡ Ask side op → ⊥) → asked_by n ≡ None
+not_asked (Ask side op) h = absurd (h side op refl)
+not_asked Finished h = refl
+not_asked Stopped h = refl
+
+-- A job that asks isn't stopped.
+pub asks_going : (stopped : Bool) (n : Next) (side : Side) (op : Op) → n ≡ Ask side op → (stopped ≡ true → n ≡ Stopped) → stopped ≡ false
+asks_going true n side op e h = let never : Stopped ≡ Ask side op = sym (h refl) ∙ e in cc
+asks_going false n side op e h = refl

@@ -26,3 +26,4 @@ pub mod Simulation
 pub mod Turning
 pub mod Places
 pub mod Marked
+pub mod InRounds

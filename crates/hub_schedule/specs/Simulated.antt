@@ -30,6 +30,19 @@ turns_enough S P =
     4 * length P.paths
     + 3 * (fin.len (replicas_of S (root_at P Left)) + fin.len (replicas_of S (root_at P Right)))
 
+-- Each job of the profiles has so many turns in a schedule.
+abbrev pub AllHaveEnough : State → List Parts → List ℕ → Type 0
+AllHaveEnough S Ps schedule =
+    (j : ℕ) (P : Parts) → slice_get Ps j ≡ Some P → turns_enough S P ≤ turns_of j schedule
+
+-- Each job has ended.
+abbrev pub HaveEnded : List JobEnd → Type 0
+HaveEnded jobs = (j : ℕ) (e : JobEnd) → slice_get jobs j ≡ Some e → e.end ≢ end.Unfinished
+
+-- Each job is finished.
+abbrev pub AreFinished : List JobEnd → Type 0
+AreFinished jobs = (j : ℕ) (e : JobEnd) → slice_get jobs j ≡ Some e → e.end ≡ end.Finished
+
 -- Each job's log is the one that the job gets alone in as many turns as the schedule gives it; if it was stopped, perhaps
 -- in fewer.
 abbrev pub LogsAreOfTurns : State → List Parts → List ℕ → Outcome → Type 0

@@ -7,6 +7,7 @@
 mod ends;
 pub mod promise;
 mod refusals;
+mod rounds;
 mod safe;
 mod schedule;
 mod seat;
@@ -14,5 +15,6 @@ mod seats;
 pub mod together;
 mod turn;
 
+pub use rounds::{rounds_for, run_rounds};
 pub use safe::simulate;
 pub use schedule::simulate_jobs;

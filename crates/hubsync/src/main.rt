@@ -20,6 +20,7 @@ mod parts;
 mod reach;
 mod refusal;
 mod report;
+mod run;
 mod sections;
 mod serve;
 mod verdict;

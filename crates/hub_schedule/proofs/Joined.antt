@@ -52,7 +52,7 @@ map_at f [] j x e = cc
 map_at f (y ∷ xs) zero x e = ap (λ z. Some z) (ap f (one_value y x e))
 map_at f (y ∷ xs) (suc j) x e = map_at f xs j x e
 
-as_long : {X Y : Type 0} (xs : List X) (ys : List Y) (j : ℕ) (y : Y) → length xs ≡ length ys → slice_get ys j ≡ Some y → (x : X) × (slice_get xs j ≡ Some x)
+pub as_long : {X Y : Type 0} (xs : List X) (ys : List Y) (j : ℕ) (y : Y) → length xs ≡ length ys → slice_get ys j ≡ Some y → (x : X) × (slice_get xs j ≡ Some x)
 as_long [] [] j y e h = cc
 as_long [] (z ∷ ys) j y e h = absurd (omega (arith, e))
 as_long (x ∷ xs) [] j y e h = cc

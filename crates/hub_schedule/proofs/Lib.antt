@@ -27,3 +27,4 @@ pub mod Turning
 pub mod Places
 pub mod Marked
 pub mod InRounds
+pub mod Rounded

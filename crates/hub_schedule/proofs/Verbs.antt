@@ -27,7 +27,8 @@ use Rattle.hub_job.specs.declared.op.Next.TheVariants.{Ask, Finished, Stopped}
 use Rattle.hub_job.specs.declared.answer.Answer.TheVariants.{Bytes}
 use Rattle.hub_job.specs.declared.log.Logged.{Logged}
 use Rattle.hub_job.specs.Machine.{answer, fetched}
-use Rattle.hub_job.specs.Job.{next, missing, view_in, is_refused, fetched_last, bytes_or, Step, steps_of, steps, op_of, look_or, step_or_end}
+use Rattle.hub_job.specs.Job.{next, missing, view_in, is_refused, fetched_last, bytes_or, steps_of, steps, op_of, look_or, step_or_end}
+use Rattle.hub_job.specs.declared.step.Step.{Step}
 use Rattle.hub_job.specs.Run.{Pair, on_side, root_at, logged, act_on, pair_run, pair_opening}
 use Rattle.hub_job.proofs.Making.{Ready, Made, flat_steps, turn_is, next_end, fetched_last-push, pushed, file_of, directory_of, nothing_of, any_each, fetch_after, unchanged, marked, next_ask, steps_all, by_mark}
 use Rattle.hub_job.proofs.Looking.{at, log_by, next_is, act_look, both_none, looked_view, looked_ready}

@@ -66,13 +66,7 @@ impl Report<'_> {
             | Report::Certified(_)
             | Report::Reached
             | Report::NotReached => 0,
-            Report::Ran(run) => {
-                if run.finished {
-                    0
-                } else {
-                    3
-                }
-            }
+            Report::Ran(run) => { if run.finished { 0 } else { 3 } }
             Report::NotRun(_) => 3,
             Report::Refused(_) => 1,
             Report::NoProfile(_)

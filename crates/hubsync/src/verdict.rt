@@ -12,9 +12,7 @@ use crate::report::Report;
 use crate::run::run_set;
 use crate::sections::Contents;
 use crate::words::Question;
-use hub_cert::{
-    Certificate, CheckFault, ProfileSet, Verified, verify, write_certificates,
-};
+use hub_cert::{Certificate, CheckFault, ProfileSet, Verified, verify, write_certificates};
 use hub_search::{certificates, check};
 use hub_state::State;
 use std::alloc::Global;

@@ -5,4 +5,6 @@
 #![tactic(auto)]
 
 #[cfg(test)]
+mod random;
+#[cfg(test)]
 mod turns;

@@ -21,7 +21,7 @@ fn profiles_of(alloc: Global, all: &[&str]) -> Result<Vec<Profile>, Fail> {
 }
 
 /// The text of a state.
-fn text_of(alloc: Global, state: &State) -> Result<String, Fail> {
+pub(crate) fn text_of(alloc: Global, state: &State) -> Result<String, Fail> {
     let mut bytes = Vec::new(alloc);
     write_state(alloc, &mut Watched::new(&mut bytes), state)?;
     match from_utf8(bytes.as_slice()) {

@@ -63,7 +63,7 @@ module _ (J : Jobs) (w : World) (seats : List Seat) (trees : List WorkingTree) (
   still Finished e = refl
   still Stopped e = refl
 
-  same_world : asked_by n ≡ None → (b : Bool) → t.job.stopped ≡ b → w ≡ cond b w (turn J j w)
+  pub same_world : asked_by n ≡ None → (b : Bool) → t.job.stopped ≡ b → w ≡ cond b w (turn J j w)
   same_world none true e = refl
   same_world none false e = sym (turn_is J w trees j s (table.each j s is) ∙ (ap (act s.profile.now j w) (sym (next_is e)) ∙ still n none))
 

@@ -1,12 +1,9 @@
 -- The first that is found in a list.
-use Rattle.std.proofs.Common.{◌≡◌, ◌≢◌, ◌<◌, ◌≤◌, ◌+◌, inl, inr, List, [], ◌∷◌, length, drop, Option, Some, None, refl, ap, sym, ◌∙◌, subst, arith}
+use Rattle.std.proofs.Common.{◌≡◌, ◌<◌, ◌≤◌, ◌+◌, inl, inr, List, ◌∷◌, length, drop, Some, ap, sym, ◌∙◌, subst, arith}
 use Rattle.std.specs.Prelude.{ℕ, suc, slice_get}
 use Rattle.std.proofs.Math.Seq.{drop-cons}
 use Rattle.std.proofs.lemmas.Bool.{cases_eq}
 use Rattle.std.proofs.lemmas.Option.{get_or_from_slice_get}
-use Rattle.hub_path.specs.Path.{Path}
-use Rattle.hub_schedule.specs.declared.seat.WorkingTree.{WorkingTree}
-use Rattle.hub_schedule.specs.Table.{IsNotIn}
 use Rattle.hub_schedule.proofs.Tables.{one_value, within}
 
 -- What holds of the elements before one, and of it.

@@ -1,6 +1,6 @@
 -- The jobs and the replicas of a world at its end are an outcome of it.
-use Rattle.std.proofs.Common.{◌≡◌, ◌≢◌, ◌<◌, ◌+◌, ◌⊎◌, inl, inr, Bool, true, false, cond, ◌&&◌, ◌||◌, List, [], ◌∷◌, length, map, Option, Some, None, refl, ap, sym, ◌∙◌, subst, arith}
-use Rattle.std.specs.Prelude.{◌==◌, ℕ, zero, suc, IsTrue, slice_get, find, fold, is_some, unwrap_or, count_by, if◌then◌else◌}
+use Rattle.std.proofs.Common.{◌≡◌, ◌≢◌, ◌+◌, ◌⊎◌, inl, inr, Bool, true, false, cond, ◌||◌, List, [], ◌∷◌, length, map, Some, None, refl, ap, sym, ◌∙◌, subst, arith}
+use Rattle.std.specs.Prelude.{ℕ, zero, suc, IsTrue, slice_get, find, fold, is_some, unwrap_or, if◌then◌else◌}
 use Rattle.std.specs.List.{list_any, range_with_len}
 use Rattle.std.specs.FinMap as fin
 use Rattle.std.proofs.lemmas.List.{length-map}
@@ -11,30 +11,27 @@ use Rattle.hub_path.specs.declared.side.Side.TheVariants.{Left, Right}
 use Rattle.hub_profile.specs.Parts.{Parts, IsProfile, at_side, some_passes}
 use Rattle.hub_reach.specs.Reach.{has_root}
 use Rattle.hub_tree.specs.Tree.{Replica, Archive, old_mark_at}
-use Rattle.hub_tree.specs.declared.contents.Mark.{Mark}
 use Rattle.hub_reconcile.specs.Items.{items}
 use Rattle.hub_reconcile.specs.Sync.{root_or_top, next_archive}
-use Rattle.hub_state.specs.State.{State, replica_at, archive_at, with_replica, root_text, pair_of}
+use Rattle.hub_state.specs.State.{State, replica_at, with_replica, root_text, pair_of}
 use Rattle.hub_state.proofs.ByRoot.{replica_put}
 use Rattle.hub_schedule.specs.declared.ends.NextArchive.{NextArchive}
 use Rattle.hub_job.specs.declared.job_end.End.{End}
 use Rattle.hub_job.specs.declared.job_end.End.TheVariants as end
 use Rattle.hub_job.specs.declared.job_end.JobEnd.{JobEnd}
-use Rattle.hub_job.specs.declared.log.Logged.{Logged}
 use Rattle.hub_job.specs.declared.outcome.Outcome.{Outcome}
 use Rattle.hub_schedule.specs.declared.seat.Seat.{Seat}
 use Rattle.hub_schedule.specs.declared.seat.WorkingTree.{WorkingTree}
-use Rattle.hub_job.specs.Ends.{end_by, is_finished, end_of, items_of, archive_of}
+use Rattle.hub_job.specs.Ends.{end_by, is_finished, end_of}
 use Rattle.hub_job.specs.Job.{next, view_in}
-use Rattle.hub_job.specs.JobValue.{JobValue}
 use Rattle.hub_schedule.specs.Left.{end_value, next_value, put_tree, mark_in, mark_from, HasMarks}
 use Rattle.hub_job.specs.Outcome as outcome
 use Rattle.hub_job.specs.Outcome.{jobs_of}
 use Rattle.hub_schedule.specs.Promise.{HasReplicas}
 use Rattle.hub_job.specs.Run.{root_at}
 use Rattle.hub_schedule.specs.Settled.{AreProfiles}
-use Rattle.hub_schedule.specs.Table.{place_on, stopped_at, IsPlaced, IsSeat, IsTable, IsThinned}
-use Rattle.hub_job.specs.World.{World, Jobs, log_of, opening}
+use Rattle.hub_schedule.specs.Table.{place_on, stopped_at, IsPlaced, IsTable, IsThinned}
+use Rattle.hub_job.specs.World.{World, log_of, opening}
 use Rattle.hub_job.proofs.Blind.{same_path, path_itself}
 use Rattle.hub_job.proofs.InWorld.{two_roots}
 use Rattle.hub_schedule.proofs.NextMarks.{IsNextOf, find_marks}

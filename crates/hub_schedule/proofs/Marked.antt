@@ -1,5 +1,5 @@
 -- What a job leaves to the archive of its pair, and what all of them do, from the last one on.
-use Rattle.std.proofs.Common.{◌≡◌, ◌≢◌, ℕ, Bool, cond, Result, Ok, Err, List, [], ◌∷◌, ◌++◌, length, Some, slice_get, slice_index_or, ap, sym, ◌∙◌, subst}
+use Rattle.std.proofs.Common.{◌≡◌, ◌≢◌, cond, Result, Ok, Err, List, [], ◌∷◌, ◌++◌, length, Some, slice_get, slice_index_or, ap, sym, ◌∙◌, subst}
 use Rattle.std.specs.Prelude.{IsTrue, OnOk, unwrap_or}
 use Rattle.std.specs.FinMap as fin
 use Rattle.std.proofs.lemmas.Bool.{false≢true}

@@ -1,6 +1,6 @@
 -- The marks that finished jobs leave in the archives of their pairs.
 use Rattle.std.proofs.Common.{◌≡◌, ◌+◌, Bool, true, false, cond, ◌&&◌, List, [], ◌∷◌, ◌++◌, length, Option, Some, None, refl, ap, sym, ◌∙◌, subst, arith}
-use Rattle.std.specs.Prelude.{ℕ, zero, suc, slice_get, find, is_some}
+use Rattle.std.specs.Prelude.{ℕ, suc, slice_get, find, is_some}
 use Rattle.std.specs.List.{range_with_len}
 use Rattle.hub_path.specs.Path.{Path}
 use Rattle.hub_profile.specs.Parts.{Parts, some_passes}
@@ -15,7 +15,7 @@ use Rattle.hub_job.specs.declared.job_end.JobEnd.{JobEnd}
 use Rattle.hub_job.specs.declared.log.Logged.{Logged}
 use Rattle.hub_job.specs.Ends.{is_finished}
 use Rattle.hub_job.specs.Job.{view_in}
-use Rattle.hub_schedule.specs.Left.{mark_given, mark_of_next, mark_from}
+use Rattle.hub_schedule.specs.Left.{mark_of_next, mark_from}
 use Rattle.hub_job.specs.Outcome.{archive_of, takes, mark_for, mark_by}
 
 pub mark_from-append : (ns : List NextArchive) (n : NextArchive) (r s p : Path) (old : Mark) → mark_from (ns ++ n ∷ []) r s p old ≡ mark_from ns r s p (mark_of_next n.profile.now n.next r s p old)

@@ -1,5 +1,5 @@
 -- The jobs of profiles before their first turns.
-use Rattle.std.proofs.Common.{◌≡◌, ◌≢◌, ◌⊎◌, inl, inr, Bool, true, false, List, [], ◌∷◌, ◌++◌, length, map, Option, Some, None, refl, ap, sym, ◌∙◌, subst}
+use Rattle.std.proofs.Common.{◌≡◌, ◌≢◌, ◌⊎◌, inl, inr, true, false, List, [], ◌∷◌, ◌++◌, length, Option, Some, None, refl, ap, sym, ◌∙◌, subst}
 use Rattle.std.specs.Prelude.{ℕ, zero, suc, slice_get}
 use Rattle.std.specs.List.{list_any}
 use Rattle.std.proofs.lemmas.List.{length-map}
@@ -10,17 +10,16 @@ use Rattle.hub_profile.specs.Parts.{Parts, IsProfile, some_passes}
 use Rattle.hub_reach.specs.Reach.{has_root}
 use Rattle.hub_tree.specs.Tree.{Replica}
 use Rattle.hub_state.specs.State.{State}
-use Rattle.hub_job.specs.declared.log.Logged.{Logged}
 use Rattle.hub_schedule.specs.declared.seat.Seat.{Seat}
 use Rattle.hub_schedule.specs.declared.seat.WorkingTree.{WorkingTree}
 use Rattle.hub_job.specs.JobValue.{JobValue}
 use Rattle.hub_job.specs.Outcome.{archive_of, jobs_of, replicas_of}
 use Rattle.hub_job.specs.Run.{root_at}
 use Rattle.hub_schedule.specs.Table.{place_on, stopped_at, IsPlaced, AreTrees, IsNew, Extends, IsSeat, IsTable}
-use Rattle.hub_job.specs.World.{World, log_of, opening}
+use Rattle.hub_job.specs.World.{opening}
 use Rattle.hub_job.proofs.Alone.{no_log, open_log}
 use Rattle.hub_schedule.proofs.Promised.{listed}
-use Rattle.hub_schedule.proofs.Tables.{one_value, within}
+use Rattle.hub_schedule.proofs.Tables.{one_value}
 
 -- A new job, with its replicas in place.
 pub record IsOpened (S : State) (trees : List WorkingTree) (j : ℕ) (P : Parts) (s : Seat) : Type 0 where

@@ -1,12 +1,10 @@
 -- Enough rounds end all jobs, and only a missing replica or memory keeps them from being run.
-use Rattle.std.proofs.Common.{◌≡◌, ◌≢◌, ◌≤◌, ◌<◌, ◌⊎◌, inl, inr, List, length, Option, Some, None, Result, Ok, Err, IfOk, IfErr, refl, ap, sym, ◌∙◌, subst, arith}
-use Rattle.std.specs.Prelude.{ℕ, All, slice_get, slice_index_or}
+use Rattle.std.proofs.Common.{◌≡◌, ◌≤◌, ◌<◌, ◌⊎◌, inl, inr, List, length, Some, Result, Ok, Err, IfOk, IfErr, refl, sym, ◌∙◌, subst, arith}
+use Rattle.std.specs.Prelude.{ℕ, All, slice_get}
 use Rattle.std.proofs.lemmas.Option.{get_or_from_slice_get, slice_get_within}
 use Rattle.hub_profile.specs.Parts.{Parts}
 use Rattle.hub_state.specs.State.{State}
-use Rattle.hub_job.specs.declared.job_end.End.{End}
 use Rattle.hub_job.specs.declared.job_end.End.TheVariants as end
-use Rattle.hub_job.specs.declared.job_end.JobEnd.{JobEnd}
 use Rattle.hub_job.specs.declared.outcome.Outcome.{Outcome}
 use Rattle.hub_job.specs.declared.run_fault.RunFault.{RunFault}
 use Rattle.hub_job.specs.declared.run_fault.RunFault.TheVariants as fault
@@ -23,12 +21,12 @@ not_finished : end.Unfinished ≡ end.Finished → ⊥
 not_finished e = cc
 
 have_ended : (S : State) (Ps : List Parts) (js : List ℕ) (o : Outcome) → AllHaveEnough S Ps js → TurnsSuffice S Ps → EnoughTurnsEnd S Ps js o → IsSimulated S Ps js o → HaveEnded o.jobs
-have_ended S Ps js o many suffice enough world = λ j e at open.
+have_ended S Ps js o many suffice enough world = λ j e at going.
     let P = as_long Ps o.jobs j e (sym world.1.all) at in
     let n = turns_of j js in
     not_finished
-    (sym open
-    ∙ enough j n P.0 e P.1 at (λ h. other_end (sym open ∙ h)) (suffice j n P.0 P.1 (many j P.0 P.1)) (omega arith))
+    (sym going
+    ∙ enough j n P.0 e P.1 at (λ h. other_end (sym going ∙ h)) (suffice j n P.0 P.1 (many j P.0 P.1)) (omega arith))
 
 pub all_have_ended : (S : State) (Ps : List Parts) (js : List ℕ) (r : Result Outcome RunFault) → AllHaveEnough S Ps js → TurnsSuffice S Ps → IfOk r (EnoughTurnsEnd S Ps js) → IfOk r (IsSimulated S Ps js)
     → IfOk r (λ o. HaveEnded o.jobs)
@@ -37,7 +35,7 @@ all_have_ended S Ps js r many suffice enough world =
 
 -- A turn names a job.
 number_at : (k : ℕ) (js : List ℕ) (i j : ℕ) → All (λ j. j < k) js → slice_get js i ≡ Some j → j < k
-number_at k js i j numbers e = subst (λ n. n < k) (get_or_from_slice_get js i 0 j e) (numbers i 0 (slice_get_within js i j e))
+number_at k js i j numbers e = subst (λ n. n < k) (get_or_from_slice_get js i j 0 e) (numbers i 0 (slice_get_within js i j e))
 
 not_both : (j k : ℕ) → j < k → k ≤ j → ⊥
 not_both j k h l = omega (arith, h, l)

@@ -1,9 +1,8 @@
 -- What the laws on schedules say of a schedule that was run.
-use Rattle.std.proofs.Common.{◌≡◌, ◌≢◌, ◌≤◌, ◌<◌, List, [], ◌∷◌, length, Option, Some, None, Result, Ok, Err, IfOk, IfErr, refl, ap, sym, ◌∙◌, subst, arith}
-use Rattle.std.specs.Prelude.{ℕ, IsTrue, slice_get, replicate}
+use Rattle.std.proofs.Common.{◌≡◌, ◌≢◌, ◌≤◌, ◌<◌, List, [], ◌∷◌, length, Some, Result, Ok, Err, IfOk, IfErr, subst, arith}
+use Rattle.std.specs.Prelude.{ℕ, slice_get, replicate}
 use Rattle.hub_path.specs.Path.{Path}
 use Rattle.hub_profile.specs.Parts.{Parts}
-use Rattle.hub_reach.specs.Reach.{has_root}
 use Rattle.hub_reach.specs.Safe.{Rule, IsSafe}
 use Rattle.hub_state.specs.State.{State, IsState}
 use Rattle.hub_job.specs.declared.job_end.End.TheVariants as end

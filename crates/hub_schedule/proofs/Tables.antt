@@ -1,26 +1,22 @@
 -- What a turn of a job does to the jobs and the replicas of a world.
-use Rattle.std.proofs.Common.{◌≡◌, ◌≢◌, ◌<◌, ◌≤◌, inl, inr, Bool, true, false, cond, List, [], ◌∷◌, ◌++◌, length, Option, Some, None, refl, ap, sym, ◌∙◌, subst, length-set, arith}
-use Rattle.std.specs.Prelude.{◌==◌, ℕ, zero, suc, slice_get, slice_set}
+use Rattle.std.proofs.Common.{◌≡◌, ◌≢◌, ◌<◌, inl, inr, cond, List, [], ◌∷◌, ◌++◌, length, Option, Some, None, refl, ap, sym, ◌∙◌, subst, length-set, arith}
+use Rattle.std.specs.Prelude.{ℕ, zero, suc, slice_get, slice_set}
 use Rattle.std.specs.List.{list_any}
 use Rattle.std.proofs.lemmas.List.{get_or-set_same, get_or-set_other}
-use Rattle.std.proofs.lemmas.Bool.{false≢true, cases_eq, false_from_ne_true}
+use Rattle.std.proofs.lemmas.Bool.{cases_eq, false_from_ne_true}
 use Rattle.hub_path.specs.Path.{Path, path_eq}
 use Rattle.hub_path.specs.declared.side.Side.{Side}
-use Rattle.hub_path.specs.declared.side.Side.TheVariants.{Left, Right}
-use Rattle.hub_profile.specs.Parts.{Parts, IsProfile, at_side, some_passes}
+use Rattle.hub_profile.specs.Parts.{Parts, IsProfile}
 use Rattle.hub_reach.specs.Reach.{has_root}
-use Rattle.hub_tree.specs.Tree.{Replica, Archive}
-use Rattle.hub_job.specs.declared.log.Logged.{Logged}
+use Rattle.hub_tree.specs.Tree.{Replica}
 use Rattle.hub_job.specs.declared.op.Op.{Op}
-use Rattle.hub_job.specs.declared.op.Next.{Next}
-use Rattle.hub_job.specs.declared.op.Next.TheVariants.{Ask, Finished, Stopped}
+use Rattle.hub_job.specs.declared.op.Next.TheVariants.{Ask}
 use Rattle.hub_schedule.specs.declared.seat.Seat.{Seat}
 use Rattle.hub_schedule.specs.declared.seat.WorkingTree.{WorkingTree}
 use Rattle.hub_job.specs.Job.{next}
-use Rattle.hub_job.specs.JobValue.{JobValue}
 use Rattle.hub_job.specs.Machine.{answer, after}
 use Rattle.hub_job.specs.Run.{root_at}
-use Rattle.hub_schedule.specs.Table.{place_on, with_tree, stopped_at, IsPlaced, AreTrees, IsSeat, IsTable, ArePlaced}
+use Rattle.hub_schedule.specs.Table.{place_on, with_tree, IsPlaced, AreTrees, IsSeat, IsTable}
 use Rattle.hub_job.specs.World.{World, Jobs, log_of, entry, event, act, turn_of, turn}
 use Rattle.hub_job.proofs.Blind.{same_path, path_itself}
 use Rattle.hub_job.proofs.InWorld.{side_root}

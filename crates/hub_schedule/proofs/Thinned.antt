@@ -1,7 +1,12 @@
 -- The turns of a schedule that jobs lose, turn by turn.
+<<<<<<< HEAD
 use Rattle.std.proofs.Common.{◌≡◌, ◌≤◌, ◌<◌, ◌+◌, ◌-◌, ◌++◌, inl, inr, length, subst, Bool, true, false, cond, List, [], ◌∷◌, refl, ap, sym, ◌∙◌, arith, eq-eqb}
 use Rattle.std.specs.Prelude.{◌==◌, ℕ, zero, suc, All, if◌then◌else◌, count_by}
 use Rattle.std.specs.List.{range_with_len}
+=======
+use Rattle.std.proofs.Common.{◌≡◌, ◌≤◌, ◌+◌, ◌-◌, Bool, true, false, cond, List, [], ◌∷◌, refl, ap, sym, ◌∙◌, arith, eq-eqb}
+use Rattle.std.specs.Prelude.{◌==◌, ℕ, if◌then◌else◌}
+>>>>>>> 1560d5a968e7dc174eea6f263c04a97a7eb12f47
 use Rattle.std.proofs.lemmas.Bool.{false≢true, eqb-true, ne_eqb}
 use Rattle.hub_schedule.specs.declared.seat.Seat.{Seat}
 use Rattle.hub_schedule.specs.declared.seat.WorkingTree.{WorkingTree}

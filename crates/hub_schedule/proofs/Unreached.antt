@@ -1,6 +1,6 @@
 -- A next archive keeps the marks of the paths that its profile doesn't reach.
 use Rattle.std.proofs.Common.{◌≡◌, Bool, true, false, cond, List, [], ◌∷◌, map, Some, None, refl, ap, sym, ◌∙◌, subst}
-use Rattle.std.specs.Prelude.{ℕ, fold, slice_get, if◌then◌else◌}
+use Rattle.std.specs.Prelude.{ℕ, fold, if◌then◌else◌}
 use Rattle.hub_path.specs.Path.{Path, path_eq}
 use Rattle.hub_profile.specs.Parts.{Parts}
 use Rattle.hub_reach.specs.Reach.{reach}
@@ -12,7 +12,6 @@ use Rattle.hub_reconcile.specs.Sync.{fate_over, mark_under, synced_mark, next_ar
 use Rattle.hub_job.specs.declared.log.Logged.{Logged}
 use Rattle.hub_schedule.specs.declared.seat.Seat.{Seat}
 use Rattle.hub_schedule.specs.declared.seat.WorkingTree.{WorkingTree}
-use Rattle.hub_schedule.specs.declared.ends.NextArchive.{NextArchive}
 use Rattle.hub_job.specs.Ends.{is_finished, end_of, archive_of}
 use Rattle.hub_job.specs.Job.{view_in}
 use Rattle.hub_schedule.specs.Left.{next_value, KeptIn, KeepsUnreached, AreKept}

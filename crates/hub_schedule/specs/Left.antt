@@ -1,5 +1,5 @@
 -- What the jobs of a schedule leave in a state.
-use Rattle.std.specs.Prelude.{◌≡◌, ◌≢◌, ℕ, Bool, true, false, ◌&&◌, slice_get, List, [], ◌∷◌, Option, Some, None, IsTrue, if◌then◌else◌, unwrap_or}
+use Rattle.std.specs.Prelude.{◌≡◌, ◌≢◌, ℕ, Bool, false, ◌&&◌, slice_get, List, [], ◌∷◌, Option, Some, None, IsTrue, if◌then◌else◌, unwrap_or}
 use Rattle.std.specs.FinMap as fin
 use Rattle.hub_path.specs.Path.{Path, is_place}
 use Rattle.hub_profile.specs.Parts.{Parts}

@@ -1,5 +1,3 @@
-use Rattle.hub_state.specs.State.{with_archive}
-use Rattle.std.proofs.Common.{◌≡◌, slice_index_or}
 use Rattle.hub_schedule.specs.Left.{mark_given, HasMarks}
 use Rattle.hub_schedule.proofs.Marked.{on_ok, put_at_roots, roots_differ}
 use Rattle.hub_schedule.proofs.ends.put_marks.Goals as goal

@@ -1,7 +1,5 @@
-use Rattle.std.proofs.Common.{◌≡◌, None, refl, sym, ◌∙◌}
+use Rattle.std.proofs.Common.{refl, sym, ◌∙◌}
 use Rattle.std.proofs.lemmas.Option.{slice_get_read}
-use Rattle.hub_path.specs.Path.{Path}
-use Rattle.hub_schedule.specs.Refusals.{missing_of}
 use Rattle.hub_schedule.proofs.Runnable.{missing_here, missing_later}
 use Rattle.hub_schedule.proofs.refusals.find_missing.Goals as goal
 

@@ -1,4 +1,4 @@
-use Rattle.std.proofs.Common.{◌≡◌, List, Result, ap, ◌∙◌, subst}
+use Rattle.std.proofs.Common.{◌≡◌, List, ap, ◌∙◌, subst}
 use Rattle.std.specs.Prelude.{map}
 use Rattle.hub_cert.specs.Set.{Members, forbidden_by}
 use Rattle.hub_profile.specs.Parts.{Parts}

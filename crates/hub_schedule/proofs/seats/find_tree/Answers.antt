@@ -1,4 +1,4 @@
-use Rattle.std.proofs.Common.{◌≡◌, ◌≢◌, Some, refl, ap, sym, ◌∙◌}
+use Rattle.std.proofs.Common.{◌≢◌, Some, refl, ap, sym, ◌∙◌}
 use Rattle.std.proofs.lemmas.Bool.{false≢true}
 use Rattle.std.proofs.lemmas.Option.{slice_get_read}
 use Rattle.hub_job.proofs.Blind.{same_path, path_itself}

@@ -1,7 +1,5 @@
 use Rattle.std.proofs.Common.{◌≡◌, ◌∙◌, ◌+◌, List, length, Some, slice_get, refl, ap, sym, subst, length-append, arith}
 use Rattle.std.proofs.lemmas.Option.{slice_get_read}
-use Rattle.hub_path.specs.declared.side.Side.{Side}
-use Rattle.hub_path.specs.declared.side.Side.TheVariants.{Left, Right}
 use Rattle.hub_schedule.specs.declared.seat.Seat.{Seat}
 use Rattle.hub_schedule.proofs.Opened.{AreOpened, opened_more, opened_table, open_at}
 use Rattle.hub_schedule.proofs.seats.seats_for.Goals as goal

@@ -1,9 +1,8 @@
-use Rattle.std.proofs.Common.{◌≡◌, ◌<◌, ℕ, false, List, length, Some, slice_get, slice_set, refl, ap, sym, ◌∙◌, subst, length-set, arith}
+use Rattle.std.proofs.Common.{◌≡◌, ◌<◌, ℕ, length, Some, slice_get, refl, ap, sym, ◌∙◌, subst, length-set, arith}
 use Rattle.std.proofs.lemmas.Bool.{false≢true}
 use Rattle.std.proofs.lemmas.Option.{slice_get_read}
 use Rattle.hub_schedule.specs.declared.seat.Seat.{Seat}
-use Rattle.hub_schedule.specs.declared.seat.WorkingTree.{WorkingTree}
-use Rattle.hub_schedule.specs.Table.{ArePlaced, place_on, with_job}
+use Rattle.hub_schedule.specs.Table.{place_on, with_job}
 use Rattle.hub_schedule.proofs.Turning.{asks_going, busy, idle, no_other_stopped, not_asked, place_same, same_places, stay_stopped, still_placed}
 use Rattle.hub_schedule.proofs.turn.take_turn.Goals as goal
 

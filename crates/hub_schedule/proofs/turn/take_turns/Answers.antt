@@ -1,5 +1,5 @@
-use Rattle.std.proofs.Common.{◌≡◌, ◌+◌, ◌≤◌, ◌∙◌, ℕ, List, drop, length, subst, arith}
-use Rattle.std.specs.Prelude.{slice_get, slice_index_or}
+use Rattle.std.proofs.Common.{◌+◌, ◌≤◌, ◌∙◌, ℕ, drop, length, subst}
+use Rattle.std.specs.Prelude.{slice_index_or}
 use Rattle.std.proofs.lemmas.Option.{slice_get-get_or}
 use Rattle.std.proofs.lemmas.List.{drop_all}
 use Rattle.hub_schedule.proofs.Found.{drop_at}
@@ -29,6 +29,6 @@ returns c =
     let trees = c.args.trees.now.items in
     let js = c.args.schedule.now in
     let n = c.loop-number.number-index in
-    let over : length js ≤ n = ? in
+    let over : length js ≤ n = c.loop-number-test.false in
     taken_all seats c.loop-number.seats.items trees c.loop-number.trees.items js
     (subst (λ ks. Taken seats trees js c.loop-number.seats.items c.loop-number.trees.items ks) (drop_all n js over) c.loop-number.invariant.taken)

@@ -1,13 +1,8 @@
 -- The turns of a schedule that jobs lose, turn by turn.
-<<<<<<< HEAD
-use Rattle.std.proofs.Common.{◌≡◌, ◌≤◌, ◌<◌, ◌+◌, ◌-◌, ◌++◌, inl, inr, length, subst, Bool, true, false, cond, List, [], ◌∷◌, refl, ap, sym, ◌∙◌, arith, eq-eqb}
+use Rattle.std.proofs.Common.{◌≡◌, ◌≤◌, ◌<◌, ◌+◌, ◌-◌, ◌++◌, ◌⊎◌, inl, inr, length, subst, Bool, true, false, cond, List, [], ◌∷◌, refl, ap, sym, ◌∙◌, arith, eq-eqb}
 use Rattle.std.specs.Prelude.{◌==◌, ℕ, zero, suc, All, if◌then◌else◌, count_by}
 use Rattle.std.specs.List.{range_with_len}
-=======
-use Rattle.std.proofs.Common.{◌≡◌, ◌≤◌, ◌+◌, ◌-◌, Bool, true, false, cond, List, [], ◌∷◌, refl, ap, sym, ◌∙◌, arith, eq-eqb}
-use Rattle.std.specs.Prelude.{◌==◌, ℕ, if◌then◌else◌}
->>>>>>> 1560d5a968e7dc174eea6f263c04a97a7eb12f47
-use Rattle.std.proofs.lemmas.Bool.{false≢true, eqb-true, ne_eqb}
+use Rattle.std.proofs.lemmas.Bool.{cases_eq, false≢true, eqb-true, ne_eqb}
 use Rattle.hub_schedule.specs.declared.seat.Seat.{Seat}
 use Rattle.hub_schedule.specs.declared.seat.WorkingTree.{WorkingTree}
 use Rattle.hub_schedule.specs.Table.{IsIdle, IsTable, IsThinned, StayIdle, StayStopped, Taken, stopped_at, whole_rounds}
@@ -167,3 +162,40 @@ turns_left n j more h = ap (λ k. range_with_len j k ++ more) (turns_less n j (n
 
 pub no_turns_left : (n j : ℕ) (more : List ℕ) → n ≤ j → range_with_len j (n - j) ++ more ≡ more
 no_turns_left n j more h = ap (λ k. range_with_len j k ++ more) (let z : n - j ≡ 0 = omega (arith, h) in z)
+
+-- One more turn that changes nothing.
+same_if : (b : Bool) (w t : World) → (b ≡ true) ⊎ (t ≡ w) → cond b w t ≡ w
+same_if true w t h = refl
+same_if false w t (inl h) = absurd (false≢true h)
+same_if false w t (inr e) = e
+
+still_idle : (J : Jobs) (w : World) (s1 s2 : List Seat) (j : ℕ) → StayStopped (stopped_at s1) (stopped_at s2) → IsIdle J w s1 j → IsIdle J w s2 j
+still_idle J w s1 s2 j stays (inl h) = inl (stays j h)
+still_idle J w s1 s2 j stays (inr e) = inr e
+
+pub idle_more : (n : ℕ) (s0 s1 s2 : List Seat) (t0 t1 t2 : List WorkingTree) → StayIdle n s0 t0 s1 t1 → StayStopped (stopped_at s1) (stopped_at s2)
+    → ((J : Jobs) (w : World) → IsTable J w s1 t1 → IsTable J (if stopped_at s2 n then w else turn J n w) s2 t2) → ((J : Jobs) (w : World) → IsTable J w s1 t1 → IsIdle J w s2 n) → StayIdle (n + 1) s0 t0 s2 t2
+idle_more n s0 s1 s2 t0 t1 t2 idle stays turns is = λ J w table.
+    let x = idle J w table in
+    let here = is J w x.0 in (
+      subst (λ v. IsTable J v s2 t2) (same_if (stopped_at s2 n) w (turn J n w) here) (turns J w x.0),
+      λ j h. elim (cases_eq j n) [
+        | inl same ↦ subst (IsIdle J w s2) (sym same) here
+        | inr other ↦ still_idle J w s1 s2 j stays (x.1 j (omega (arith, h, other)))
+      ],
+    )
+
+pub taken_same : (s : List Seat) (t : List WorkingTree) (js ks : List ℕ) → js ≡ ks → Taken s t js s t ks
+taken_same s t js ks e = subst (λ ls. Taken s t js s t ls) e (taken_none s t js)
+
+all_left : (n m : ℕ) → n - 0 ≡ m → n ≡ m
+all_left n m e = omega (arith, e)
+
+pub all_turns_left : (n : ℕ) (more : List ℕ) → range_with_len 0 n ++ more ≡ range_with_len 0 (n - 0) ++ more
+all_turns_left n more = ap (λ k. range_with_len 0 k ++ more) (all_left n (n - 0) refl)
+
+pub all_rounds_left : (n R : ℕ) → whole_rounds n R ≡ whole_rounds n (R - 0)
+all_rounds_left n R = ap (whole_rounds n) (all_left R (R - 0) refl)
+
+pub none_idle : (s : List Seat) (t : List WorkingTree) → StayIdle 0 s t s t
+none_idle s t = λ J w table. (table, λ j h. absurd (omega (arith, h)))

@@ -8,7 +8,8 @@ ghost use Rattle.hub_cert.specs.Set.{forbidden_by};
 ghost use Rattle.hub_schedule.specs.Refusals.{LacksReplica};
 ghost use Rattle.hub_schedule.specs.Simulated.{AllHaveEnough, HaveEnded, IsPromised, turns_enough};
 
-use crate::safe::simulate;
+use crate::promise::{schedules_give_logs_alone, schedules_keep_the_promise, schedules_settle};
+use crate::schedule::simulate_rounds;
 use hub_cert::Verified;
 use hub_job::{Outcome, RunFault};
 use hub_path::Root;
@@ -31,8 +32,14 @@ pub fn run_rounds(
     ensures refused { IfErr result (λ e. (e ≡ RunFault.OutOfMemory) ⊎ LacksReplica state.now
         verified.now.profiles e) }
 {
-    let schedule = rounds_for(alloc, verified.set().profiles(), state)?;
-    simulate(alloc, verified, state, schedule.as_slice())
+    schedules_give_logs_alone();
+    schedules_keep_the_promise();
+    schedules_settle();
+    let profiles = verified.set().profiles();
+    let Some(rounds) = most_turns(profiles, state) else {
+        return Err(RunFault::OutOfMemory);
+    };
+    simulate_rounds(alloc, profiles, state, rounds)
 }
 
 /// A schedule of rounds: in each of them each job has one turn, in the order of the profiles. There are as many rounds as

@@ -1,5 +1,5 @@
 -- The jobs and the replicas of a world at its end are an outcome of it.
-use Rattle.std.proofs.Common.{◌≡◌, ◌≢◌, ◌+◌, ◌⊎◌, inl, inr, Bool, true, false, cond, ◌||◌, List, [], ◌∷◌, length, map, Some, None, refl, ap, sym, ◌∙◌, subst, arith}
+use Rattle.std.proofs.Common.{◌≡◌, ◌≢◌, ◌+◌, ◌⊎◌, inl, inr, Bool, true, false, cond, ◌||◌, List, [], ◌∷◌, length, map, Some, None, Result, Ok, Err, IfOk, refl, ap, sym, ◌∙◌, subst, arith}
 use Rattle.std.specs.Prelude.{ℕ, zero, suc, IsTrue, slice_get, find, fold, is_some, unwrap_or, if◌then◌else◌}
 use Rattle.std.specs.List.{list_any, range_with_len}
 use Rattle.std.specs.FinMap as fin
@@ -30,7 +30,7 @@ use Rattle.hub_job.specs.Outcome.{jobs_of}
 use Rattle.hub_schedule.specs.Promise.{HasReplicas}
 use Rattle.hub_job.specs.Run.{root_at}
 use Rattle.hub_schedule.specs.Settled.{AreProfiles}
-use Rattle.hub_schedule.specs.Table.{place_on, stopped_at, IsPlaced, IsTable, IsThinned}
+use Rattle.hub_schedule.specs.Table.{place_on, stopped_at, IsOutcomeAfter, IsPlaced, IsTable, IsThinned}
 use Rattle.hub_job.specs.World.{World, log_of, opening}
 use Rattle.hub_job.proofs.Blind.{same_path, path_itself}
 use Rattle.hub_job.proofs.InWorld.{two_roots}
@@ -233,3 +233,9 @@ module _ (S : State) (Ps : List Parts) (has : HasReplicas S Ps) (w : World) (sea
     subst (λ (x : World). outcome.IsOutcomeWith S Ps (log_of x) x.replica o) t.world joined,
     kept_turns (opening (jobs_of S Ps) (outcome.replicas_of S)) schedule before t,
   )
+
+-- The outcome of the schedule that was run.
+pub after_turns : {E : Type 0} (S : State) (Ps : List Parts) (w : World) (schedule : List ℕ) (before : ℕ → Bool) (seats : List Seat) (trees : List WorkingTree) (r : Result Outcome E) → HasReplicas S Ps → IsTable (jobs_of S Ps) w seats trees
+    → IsThinned (jobs_of S Ps) (opening (jobs_of S Ps) (outcome.replicas_of S)) w schedule before (stopped_at seats) → IfOk r (IsOutcomeAfter S seats trees) → IfOk r (outcome.IsSimulated S Ps schedule)
+after_turns S Ps w schedule before seats trees (Ok o) there table thinned h = h Ps w schedule before there table thinned
+after_turns S Ps w schedule before seats trees (Err e) there table thinned h = h

@@ -34,7 +34,7 @@ all_have_ended S Ps js r many suffice enough world =
     if_both (EnoughTurnsEnd S Ps js) (IsSimulated S Ps js) (λ o. HaveEnded o.jobs) r (λ o e w. have_ended S Ps js o many suffice e w) enough world
 
 -- A turn names a job.
-number_at : (k : ℕ) (js : List ℕ) (i j : ℕ) → All (λ j. j < k) js → slice_get js i ≡ Some j → j < k
+pub number_at : (k : ℕ) (js : List ℕ) (i j : ℕ) → All (λ j. j < k) js → slice_get js i ≡ Some j → j < k
 number_at k js i j numbers e = subst (λ n. n < k) (get_or_from_slice_get js i j 0 e) (numbers i 0 (slice_get_within js i j e))
 
 not_both : (j k : ℕ) → j < k → k ≤ j → ⊥

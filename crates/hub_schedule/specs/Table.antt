@@ -5,13 +5,17 @@ use Rattle.hub_path.specs.Path.{Path}
 use Rattle.hub_path.specs.declared.side.Side.{Side}
 use Rattle.hub_path.specs.declared.side.Side.TheVariants.{Left, Right}
 use Rattle.hub_profile.specs.Parts.{Parts, IsProfile, some_passes}
+use Rattle.hub_state.specs.State.{State}
+use Rattle.hub_job.specs.declared.outcome.Outcome.{Outcome}
+use Rattle.hub_job.specs.Outcome.{jobs_of, replicas_of, IsSimulated}
+use Rattle.hub_schedule.specs.Promise.{HasReplicas}
 use Rattle.hub_reach.specs.Reach.{has_root}
 use Rattle.hub_tree.specs.Tree.{Replica, Archive}
 use Rattle.hub_schedule.specs.declared.seat.Seat.{Seat}
 use Rattle.hub_schedule.specs.declared.seat.WorkingTree.{WorkingTree}
 use Rattle.hub_job.specs.JobValue.{JobValue, new_job}
 use Rattle.hub_job.specs.Run.{root_at}
-use Rattle.hub_job.specs.World.{World, Jobs, log_of, run, turn, first_turns}
+use Rattle.hub_job.specs.World.{World, Jobs, log_of, opening, run, turn, first_turns}
 
 abbrev pub place_on : Seat → Side → ℕ
 place_on s Left = s.left
@@ -107,3 +111,9 @@ IsIdle J w seats j = (stopped_at seats j ≡ true) ⊎ (turn J j w ≡ w)
 abbrev pub StayIdle : ℕ → List Seat → List WorkingTree → List Seat → List WorkingTree → Type 0
 StayIdle n seats trees seats_now trees_now =
     (J : Jobs) (w : World) → IsTable J w seats trees → IsTable J w seats_now trees_now × ((j : ℕ) → j < n → IsIdle J w seats_now j)
+
+-- The outcome of each schedule after which these are the jobs and the replicas.
+abbrev pub IsOutcomeAfter : State → List Seat → List WorkingTree → Outcome → Type 0
+IsOutcomeAfter S seats trees o =
+    (Ps : List Parts) (w : World) (schedule : List ℕ) (before : ℕ → Bool) → HasReplicas S Ps → IsTable (jobs_of S Ps) w seats trees
+    → IsThinned (jobs_of S Ps) (opening (jobs_of S Ps) (replicas_of S)) w schedule before (stopped_at seats) → IsSimulated S Ps schedule o

@@ -1,9 +1,8 @@
 //! Schedules of turns.
-ghost use Rattle.std.specs.Prelude.{◌<◌, ℕ, Bool, List, All, length, IfOk, IfErr};
-ghost use Rattle.hub_profile.specs.Parts.{Parts};
-ghost use Rattle.hub_job.specs.Outcome.{IsSimulated, jobs_of, replicas_of};
-ghost use Rattle.hub_job.specs.World.{Jobs, World, opening};
-ghost use Rattle.hub_schedule.specs.Table.{IsTable, IsThinned, stopped_at, whole_rounds};
+ghost use Rattle.std.specs.Prelude.{◌<◌, All, length, IfOk, IfErr};
+ghost use Rattle.hub_job.specs.Outcome.{IsSimulated};
+ghost use Rattle.hub_job.specs.World.{Jobs, World};
+ghost use Rattle.hub_schedule.specs.Table.{IsOutcomeAfter, IsTable, whole_rounds};
 ghost use Rattle.hub_schedule.specs.Promise.{HasReplicas};
 ghost use Rattle.hub_state.specs.State.{IsState};
 ghost use Rattle.hub_schedule.specs.Refusals.{IsRunnable, IsUnrun};
@@ -103,12 +102,8 @@ fn outcome_of(
     trees: Vec<WorkingTree<'_>>,
 ) -> Result<Outcome, AllocError>
     requires { (J : Jobs) × (w : World) × IsTable J w seats.items trees.items }
-    ensures { IfOk result (λ o. (Ps : List Parts) (w : World) (schedule : List ℕ) (before : ℕ → Bool)
-        → HasReplicas state.now Ps
-        → IsTable (jobs_of state.now Ps) w seats.entry.items trees.entry.items
-        → IsThinned (jobs_of state.now Ps) (opening (jobs_of state.now Ps) (replicas_of state.now))
-        w schedule before (stopped_at seats.entry.items)
-        → IsSimulated state.now Ps schedule o) }
+    ensures { IfOk result
+        (IsOutcomeAfter state.now seats.entry.items trees.entry.items) }
 {
     let (jobs, nexts) = end_jobs(alloc, seats)?;
     let mut after = state.copy()?;

@@ -2,6 +2,7 @@ use Rattle.std.proofs.Common.{◌≡◌}
 use Rattle.hub_job.specs.Outcome.{jobs_of, replicas_of}
 use Rattle.hub_job.specs.World.{opening}
 use Rattle.hub_schedule.specs.Table.{place_on, stopped_at}
+use Rattle.hub_schedule.proofs.Joined.{after_turns}
 use Rattle.hub_schedule.proofs.Tables.{within}
 use Rattle.hub_schedule.proofs.schedule.run_schedule.Goals as goal
 
@@ -16,4 +17,9 @@ outcome_of-requires c =
     (J, t.0, t.1)
 
 pub returns : goal.returns
-returns c = ?
+returns c =
+    let S = c.args.state.now in
+    let Ps = c.args.profiles.now in
+    let J = jobs_of S Ps in
+    let t = c.take_turns.ensures J (opening J (replicas_of S)) c.in_ok-seats.ensures.table in
+    after_turns S Ps t.0 c.args.schedule.now (stopped_at c.in_ok-seats.seats.items) c.take_turns.new.seats.items c.take_turns.new.trees.items c.outcome_of.result c.requires.there t.1 t.2 c.outcome_of.ensures

@@ -14,12 +14,12 @@ pub returns : goal.returns
 returns c =
     let S = c.args.state.now in
     let M = c.args.verified.now in
-    let Ps = c.profiles.result.now in
+    let Ps = c.profiles-profiles.result.now in
     let js = whole_rounds (length Ps) c.in-Some.rounds in
     let Rs = map forbidden_by M.rules in
     let r = c.simulate_rounds.result in
-    let same : Ps ≡ M.profiles = c.profiles.ensures.value ∙ ap (λ (m : Members). m.profiles) c.set.ensures.value in
-    let facts : AreProfiles M.profiles = subst AreProfiles (ap (λ (m : Members). m.profiles) c.set.ensures.value) c.profiles.ensures.valid in
+    let same : Ps ≡ M.profiles = c.profiles-profiles.ensures.value ∙ ap (λ (m : Members). m.profiles) c.set.ensures.value in
+    let facts : AreProfiles M.profiles = subst AreProfiles (ap (λ (m : Members). m.profiles) c.set.ensures.value) c.profiles-profiles.ensures.valid in
     let ran : HaveRun S M.profiles js r =
     subst (λ (Qs : List Parts). HaveRun S Qs js r) same
     (record { world = c.simulate_rounds.ensures.world; run = c.simulate_rounds.ensures.run; refused = c.simulate_rounds.ensures.refused; valid = c.simulate_rounds.ensures.valid }) in

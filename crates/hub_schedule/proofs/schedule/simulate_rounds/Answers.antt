@@ -15,6 +15,6 @@ returns c =
     record {
       world = c.in_ok-run_in_rounds.ensures;
       run = (sym c.in_default.ensures.value, λ i j e. number_at n js i j (whole_below n c.args.rounds) e);
-      refused = unit;
+      refused = tt;
       valid = c.in_default.ensures.valid;
     }

@@ -1,11 +1,12 @@
-ghost use Rattle.std.specs.Prelude.{◌≡◌, IfOk, OnErr, IfErr, IsTrue, slice_get};
+ghost use Rattle.std.specs.Prelude.{◌≡◌, ◌↔◌, IfOk, OnErr, IfErr, IsTrue, slice_get};
 ghost use Rattle.hub_job.specs.Machine.{Fits};
 ghost use Rattle.hub_reach.specs.Reach as of_reach;
 ghost use Rattle.hub_schedule.specs.History.{IsAnswerOf};
 ghost use Rattle.hub_history.specs.Book.{IsBook, entry_of, has_job, new_book, with_entry};
 
 use crate::answers::copy_of;
-use hub_cert::Verified;
+use crate::same::are_same;
+use hub_cert::ProfileSet;
 use hub_job::{Answer, Entry, Op, perform};
 use hub_path::Root;
 use hub_profile::Profile;
@@ -54,15 +55,15 @@ impl<'a> Model for Book<'a> {
 }
 
 impl<'a> Book<'a> {
-    /// Makes the book of a root for the profiles of a set, with this replica and no entries. Out of memory gives the
-    /// replica back.
+    /// Makes the book of a root for the jobs of a set, with this replica and no entries. Out of memory gives the replica
+    /// back.
     pub fn new(
         alloc: Global,
-        verified: &Verified<'a>,
+        set: &'a ProfileSet,
         root: Root,
         tree: Tree,
     ) -> Result<Book<'a>, AllocFailed<Tree>>
-        ensures ok { IfOk result (λ b. b ≡ new_book verified.now.profiles root tree) }
+        ensures ok { IfOk result (λ b. b ≡ new_book set.now.profiles root tree) }
         ensures err { IfErr result (λ e. e.value ≡ tree) }
     {
         let Ok(opening) = tree.copy() else {
@@ -70,7 +71,7 @@ impl<'a> Book<'a> {
         };
         Ok(Book {
             alloc,
-            profiles: verified.set().profiles(),
+            profiles: set.profiles(),
             root,
             opening,
             tree,
@@ -111,6 +112,13 @@ impl<'a> Book<'a> {
             Some(profile) => has_root(profile, &self.root),
             None => false,
         }
+    }
+
+    /// Returns whether the book was made for the profiles of this set.
+    pub fn made_for(&self, set: &ProfileSet) -> bool
+        ensures { IsTrue result ↔ (self.now.profiles ≡ set.now.profiles) }
+    {
+        are_same(self.profiles, set.profiles())
     }
 
     /// Borrows the root.

@@ -5,9 +5,10 @@
 //! - [`Desk`]: a book behind a lock, at which threads [`Desk::step`] one operation at a time.
 //! - [`Seat`]: the right to step at a desk. It counts the steps made with it.
 //! - [`Gate`]: what a caller does around each step.
+//! - [`Same`]: whether two values are the same; [`are_same`] compares lists.
 //!
 //! ```text
-//! let (desk, seats) = Desk::new(alloc, Book::new(alloc, &verified, root, tree)?, 2)?;
+//! let (desk, seats) = Desk::new(alloc, Book::new(alloc, &set, root, tree)?, 2)?;
 //! let answer = desk.step(&rt, &mut seat, job, op, &gate)?;
 //! let book = desk.close(seats)?;
 //! ```
@@ -26,9 +27,14 @@ mod answers;
 mod book;
 mod desk;
 mod gate;
+mod same;
+mod same_entry;
+mod same_pattern;
+mod same_profile;
 mod seat;
 
 pub use book::Book;
 pub use desk::{Desk, StepFault, Stranger};
 pub use gate::Gate;
+pub use same::{Same, are_same};
 pub use seat::Seat;

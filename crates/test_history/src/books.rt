@@ -1,8 +1,7 @@
 //! Books: what their operations leave, and what is known of them.
-use crate::given::{docs_and_photos, history_text, op_of, root};
+use crate::given::{docs_and_photos, history_text, op_of, root, set_of};
 use hub_history::Book;
 use hub_path::RelPath;
-use hub_search::check;
 use hub_tree::{Mark, Tree};
 use std::test::Fail;
 
@@ -10,11 +9,8 @@ use std::test::Fail;
 fn each_operation_is_an_entry(rt: HostRuntime) -> Result<(), Fail> {
     let alloc = rt.alloc();
     let set = docs_and_photos(alloc)?;
-    let Ok(verified) = check(alloc, &set) else {
-        return Err(Fail::new("not safe"));
-    };
     let hub = root(alloc, "/srv/hub")?;
-    let Ok(mut book) = Book::new(alloc, &verified, hub, Tree::new(alloc)) else {
+    let Ok(mut book) = Book::new(alloc, &set, hub, Tree::new(alloc)) else {
         return Err(Fail::new("no book"));
     };
     for (job, word, path) in [
@@ -46,16 +42,13 @@ fn each_operation_is_an_entry(rt: HostRuntime) -> Result<(), Fail> {
 fn a_book_has_the_jobs_of_its_root(rt: HostRuntime) -> Result<(), Fail> {
     let alloc = rt.alloc();
     let set = docs_and_photos(alloc)?;
-    let Ok(verified) = check(alloc, &set) else {
-        return Err(Fail::new("not safe"));
-    };
     for (text, jobs) in [
         ("/srv/hub", [true, true, false]),
         ("/srv/s1", [true, true, false]),
         ("/srv/s2", [false, false, false]),
     ] {
         let root = root(alloc, text)?;
-        let Ok(book) = Book::new(alloc, &verified, root, Tree::new(alloc)) else {
+        let Ok(book) = Book::new(alloc, &set, root, Tree::new(alloc)) else {
             return Err(Fail::new("no book"));
         };
         assert_eq!(rt; book.root().as_str(), text);
@@ -65,3 +58,33 @@ fn a_book_has_the_jobs_of_its_root(rt: HostRuntime) -> Result<(), Fail> {
     }
     Ok(())
 }
+
+#[test]
+fn a_book_is_made_for_the_profiles_of_one_set(rt: HostRuntime) -> Result<(), Fail> {
+    let alloc = rt.alloc();
+    let set = set_of(alloc, &FILTERED)?;
+    let Ok(book) = Book::new(alloc, &set, root(alloc, "/srv/hub")?, Tree::new(alloc)) else {
+        return Err(Fail::new("no book"));
+    };
+    assert!(rt; book.made_for(&set_of(alloc, &FILTERED)?));
+    for others in &OTHERS {
+        let set = set_of(alloc, others)?;
+        assert!(rt; !book.made_for(&set), "{:?}", others);
+    }
+    Ok(())
+}
+
+const FILTERED: [&str; 1] = ["path = a\nignore = Name {*.tmp,[ab-d]?}\nprefer = /srv/s1"];
+
+/// Sets that differ from `FILTERED` in one thing.
+const OTHERS: [&[&str]; 9] = [
+    &[],
+    &["path = a\nignore = Name {*.tmp,[ab-d]?}\nprefer = /srv/s1", "path = b"],
+    &["path = b\nignore = Name {*.tmp,[ab-d]?}\nprefer = /srv/s1"],
+    &["path = a\nignore = Path {*.tmp,[ab-d]?}\nprefer = /srv/s1"],
+    &["path = a\nignore = Name {*.tmp,[ab-e]?}\nprefer = /srv/s1"],
+    &["path = a\nignore = Name {*.tmp,[ab-d]*}\nprefer = /srv/s1"],
+    &["path = a\nignorenot = Name {*.tmp,[ab-d]?}\nprefer = /srv/s1"],
+    &["path = a\nignore = Name {*.tmp,[ab-d]?}\nprefer = /srv/hub"],
+    &["path = a\nignore = Name {*.tmp,[ab-d]?}\nprefer = /srv/s1\nnodeletion = /srv/hub"],
+];

@@ -2,17 +2,16 @@
 use crate::given::{Counted, answer_text, docs_and_photos, history_text, op_of, root};
 use hub_history::{Book, Desk, Seat, StepFault};
 use hub_job::Answer;
-use hub_cert::Verified;
-use hub_search::check;
+use hub_cert::ProfileSet;
 use hub_text::Items;
 use hub_tree::Tree;
 use std::alloc::Global;
 use std::test::Fail;
 
 /// Makes a desk over the empty replica of `/srv/hub`, and its one seat.
-fn desk_of<'a>(alloc: Global, verified: &Verified<'a>) -> Result<(Desk<'a>, Seat), Fail> {
+fn desk_of<'a>(alloc: Global, set: &'a ProfileSet) -> Result<(Desk<'a>, Seat), Fail> {
     let hub = root(alloc, "/srv/hub")?;
-    let Ok(book) = Book::new(alloc, verified, hub, Tree::new(alloc)) else {
+    let Ok(book) = Book::new(alloc, set, hub, Tree::new(alloc)) else {
         return Err(Fail::new("no book"));
     };
     let Ok((desk, seats)) = Desk::new(alloc, book, 1) else {
@@ -69,10 +68,7 @@ fn make_steps<R: std::sync::Wait>(
 fn steps_are_answered_and_the_gate_is_called_once_a_step(rt: HostRuntime) -> Result<(), Fail> {
     let alloc = rt.alloc();
     let set = docs_and_photos(alloc)?;
-    let Ok(verified) = check(alloc, &set) else {
-        return Err(Fail::new("not safe"));
-    };
-    let (desk, mut seat) = desk_of(alloc, &verified)?;
+    let (desk, mut seat) = desk_of(alloc, &set)?;
     let text = make_steps(&rt, alloc, &desk, &mut seat)?;
     assert_eq!(rt; text.as_str(), "done;directory;NoParent;Foreign;4");
     assert_eq!(rt; seat.steps(), 3);
@@ -87,11 +83,8 @@ fn steps_are_answered_and_the_gate_is_called_once_a_step(rt: HostRuntime) -> Res
 fn a_desk_is_closed_with_its_own_seats_alone(rt: HostRuntime) -> Result<(), Fail> {
     let alloc = rt.alloc();
     let set = docs_and_photos(alloc)?;
-    let Ok(verified) = check(alloc, &set) else {
-        return Err(Fail::new("not safe"));
-    };
-    let (desk, mut seat) = desk_of(alloc, &verified)?;
-    let (_other, unused) = desk_of(alloc, &verified)?;
+    let (desk, mut seat) = desk_of(alloc, &set)?;
+    let (_other, unused) = desk_of(alloc, &set)?;
     let _ = make_steps(&rt, alloc, &desk, &mut seat)?;
     let Err(none) = desk.close(Items::new(alloc)) else {
         return Err(Fail::new("closed without the seat"));
@@ -112,10 +105,7 @@ fn a_desk_is_closed_with_its_own_seats_alone(rt: HostRuntime) -> Result<(), Fail
 fn a_desk_counts_from_the_history_that_it_was_made_with(rt: HostRuntime) -> Result<(), Fail> {
     let alloc = rt.alloc();
     let set = docs_and_photos(alloc)?;
-    let Ok(verified) = check(alloc, &set) else {
-        return Err(Fail::new("not safe"));
-    };
-    let (desk, mut seat) = desk_of(alloc, &verified)?;
+    let (desk, mut seat) = desk_of(alloc, &set)?;
     let _ = make_steps(&rt, alloc, &desk, &mut seat)?;
     let Ok(book) = desk.close(one_seat(alloc, seat)?) else {
         return Err(Fail::new("not closed"));

@@ -42,22 +42,30 @@ impl Gate for Counted {
     }
 }
 
-fn profile_of(alloc: Global, name: &str) -> Result<Profile, Fail> {
-    let text = format!(in alloc; "root = /srv/hub\nroot = /srv/s1\npath = {name}\n")?;
-    let name = Name::read(alloc, name)?;
+/// The profile between `/srv/hub` and `/srv/s1` with these lines.
+fn profile_of(alloc: Global, number: usize, lines: &str) -> Result<Profile, Fail> {
+    let text = format!(in alloc; "root = /srv/hub\nroot = /srv/s1\n{lines}\n")?;
+    let name = format!(in alloc; "p{number}")?;
+    let name = Name::read(alloc, name.as_str())?;
     Ok(read_profile(alloc, name, text.as_bytes())?)
 }
 
-/// The set of the profiles `docs` and `photos`, each of the path of its name, between `/srv/hub` and `/srv/s1`.
-pub(crate) fn docs_and_photos(alloc: Global) -> Result<ProfileSet, Fail> {
+/// The set of the profiles with these lines.
+pub(crate) fn set_of(alloc: Global, all: &[&str]) -> Result<ProfileSet, Fail> {
     let mut profiles = Items::new(alloc);
-    profiles.push(profile_of(alloc, "docs")?)?;
-    profiles.push(profile_of(alloc, "photos")?)?;
+    for (number, lines) in all.iter().enumerate() {
+        profiles.push(profile_of(alloc, number, lines)?)?;
+    }
     let rules = read_rules(alloc, &[])?;
     match ProfileSet::new(alloc, profiles, rules) {
         Ok(set) => Ok(set),
         Err(_) => Err(Fail::new("no set")),
     }
+}
+
+/// The set of two profiles: one of the path `docs`, and one of the path `photos`.
+pub(crate) fn docs_and_photos(alloc: Global) -> Result<ProfileSet, Fail> {
+    set_of(alloc, &["path = docs", "path = photos"])
 }
 
 pub(crate) fn root(alloc: Global, text: &str) -> Result<Root, Fail> {
@@ -131,4 +139,26 @@ pub(crate) fn history_text(alloc: Global, history: &[Entry]) -> Result<String, F
         text.push_str(line.as_str())?;
     }
     Ok(text)
+}
+
+pub(crate) fn entry_of(
+    alloc: Global,
+    job: usize,
+    word: &str,
+    path: &str,
+    answer: Answer,
+) -> Result<Entry, Fail> {
+    let op = op_of(alloc, word, path)?;
+    Ok(Entry { job, op, answer })
+}
+
+/// The names of that text, with a space between two of them.
+pub(crate) fn names_of(alloc: Global, text: &str) -> Result<Items<Name>, Fail> {
+    let mut names = Items::new(alloc);
+    for name in text.split(' ') {
+        if !name.is_empty() {
+            names.push(Name::read(alloc, name)?)?;
+        }
+    }
+    Ok(names)
 }

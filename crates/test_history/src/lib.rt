@@ -11,4 +11,6 @@ mod desks;
 #[cfg(test)]
 mod given;
 #[cfg(test)]
+mod same;
+#[cfg(test)]
 mod threads;

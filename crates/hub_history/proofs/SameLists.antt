@@ -1,6 +1,6 @@
 -- Lists that have the same items.
 use Rattle.std.proofs.Common.{◌≡◌, ◌<◌, List, [], ◌∷◌, length, Some, refl, arith}
-use Rattle.std.specs.Prelude.{ℕ, zero, suc, slice_get}
+use Rattle.std.specs.Prelude.{ℕ, suc, slice_get}
 
 pub same_lists : {X : Type 0} (xs ys : List X) → length xs ≡ length ys → ((k : ℕ) → k < length xs → slice_get xs k ≡ slice_get ys k) → xs ≡ ys
 same_lists [] [] e at = refl

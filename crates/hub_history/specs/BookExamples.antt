@@ -1,6 +1,7 @@
 -- Worked examples of books.
-use Rattle.std.specs.Prelude.{⊤, ◌≡◌, ◌≢◌, ℕ, Bool, true, false, T, List, [], ◌∷◌, length, map, None, refl, codes}
+use Rattle.std.specs.Prelude.{⊤, ◌≡◌, ℕ, Bool, true, false, T, List, [], ◌∷◌, map, None, refl, codes}
 use Rattle.std.specs.FinMap.{get-from_sorted, entries-from_sorted, is_sorted, from_sorted}
+use Rattle.std.proofs.Common.{sym, ◌∙◌}
 use Rattle.hub_path.specs.Path.{Path, path_of, path_cmp}
 use Rattle.hub_profile.specs.Parts.{Parts}
 use Rattle.hub_profile.specs.declared.bars.Bars.{Bars}
@@ -10,7 +11,6 @@ use Rattle.hub_tree.specs.declared.contents.Contents.TheVariants as contents
 use Rattle.hub_tree.specs.declared.contents.Mark.TheVariants as mark
 use Rattle.hub_job.specs.declared.op.Op.TheVariants.{Look, Set}
 use Rattle.hub_job.specs.declared.answer.OpFault.TheVariants.{NoParent}
-use Rattle.hub_job.specs.declared.answer.Answer.{Answer}
 use Rattle.hub_job.specs.declared.answer.Answer.TheVariants.{Seen, Bytes, Done, Refused}
 use Rattle.hub_job.specs.declared.log.Entry.{Entry}
 use Rattle.hub_glob.specs.Glob.{matches}
@@ -96,12 +96,10 @@ with_two_entries_it_is_a_book : IsBook two_entries
 unfolding computed
 with_two_entries_it_is_a_book = record { legal = ((refl, nothing_is_seen), ((refl, a_parent_is_missing), tt)); replays = refl }
 
-is_done : Answer → Bool
-is_done (Seen m ns o) = false
-is_done (Bytes b) = false
-is_done Done = true
-is_done (Refused f) = false
-
 -- An entry of a job that doesn't have the root makes no book, nor does an invented answer.
 a_foreign_job_makes_no_book : ¬ (IsBook (with_entry opened (record seen { job = 2 })))
 a_foreign_job_makes_no_book b = b.legal.0
+
+an_invented_answer_makes_no_book : ¬ (IsBook (with_entry opened (record refused { answer = Done })))
+an_invented_answer_makes_no_book b =
+    let same : Done ≡ Refused NoParent = b.legal.0.1 ∙ sym a_parent_is_missing in cc

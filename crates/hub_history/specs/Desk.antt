@@ -1,5 +1,5 @@
 -- A desk as contracts see it. What lies under its lock no clause can name.
-use Rattle.std.specs.Prelude.{◌≡◌, ◌≢◌, ◌+◌, ◌⊎◌, ℕ, List, length, sum}
+use Rattle.std.specs.Prelude.{◌+◌, ℕ, List, sum}
 
 -- How many seats it has, and how long the history was when it was opened.
 pub record DeskValue : Type 0 where

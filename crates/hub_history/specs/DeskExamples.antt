@@ -1,5 +1,5 @@
 -- Worked examples of desks.
-use Rattle.std.specs.Prelude.{◌≡◌, ℕ, [], ◌∷◌, refl}
+use Rattle.std.specs.Prelude.{◌≡◌, [], ◌∷◌, refl}
 use Rattle.hub_history.specs.Desk.{DeskValue, counted_by}
 
 -- A desk of two seats over a book of three entries.

@@ -129,12 +129,7 @@ impl<'a> Desk<'a> {
 }
 
 /// Makes an operation of a job on a book, if the job has its root, and counts the step.
-fn step_in(
-    book: &mut Book<'_>,
-    seat: &mut Seat,
-    job: usize,
-    op: Op,
-) -> Result<Answer, StepFault>
+fn step_in(book: &mut Book<'_>, seat: &mut Seat, job: usize, op: Op) -> Result<Answer, StepFault>
     ensures answer { IfOk result (λ a.
         IsAnswerOf book.old.root book.old.tree (entry_of job op a) (slice_get book.old.profiles job)) }
     ensures fits { IfOk result (Fits op) }

@@ -1,4 +1,4 @@
-use Rattle.std.proofs.Common.{rules, ◌≡◌, sym, ◌∙◌, subst}
+use Rattle.std.proofs.Common.{rules, sym, ◌∙◌, subst}
 use Rattle.std.specs.Prelude.{IsTrue, slice_get}
 use Rattle.hub_schedule.specs.History.{IsAnswerOf}
 use Rattle.hub_history.specs.Book.{BookValue, entry_of, has_job}

@@ -1,14 +1,14 @@
-//! Copies of answers.
+//! Copies of answers and entries.
 ghost use Rattle.std.specs.Prelude.{◌≡◌, IfOk, OnErr, IsTrue};
 ghost use Rattle.hub_history.specs.Book.{takes_memory};
 
-use hub_job::Answer;
+use hub_job::{Answer, Entry};
 use hub_path::Name;
 use hub_text::Items;
 use std::alloc::{AllocError, Global};
 
 /// Copies the answer. Only names and bytes allocate.
-pub(crate) fn copy_of(answer: &Answer) -> Result<Answer, AllocError>
+pub fn copy_answer(answer: &Answer) -> Result<Answer, AllocError>
     ensures ok { IfOk result (λ a. a ≡ answer.now) }
     ensures err { OnErr result (IsTrue (takes_memory answer.now)) }
 {
@@ -26,6 +26,17 @@ pub(crate) fn copy_of(answer: &Answer) -> Result<Answer, AllocError>
         Answer::Done => Ok(Answer::Done),
         Answer::Refused(fault) => Ok(Answer::Refused(*fault)),
     }
+}
+
+/// Copies the entry.
+pub fn copy_entry(entry: &Entry) -> Result<Entry, AllocError>
+    ensures { IfOk result (λ e. e ≡ entry.now) }
+{
+    Ok(Entry {
+        job: entry.job,
+        op: entry.op.copy()?,
+        answer: copy_answer(&entry.answer)?,
+    })
 }
 
 /// Copies names.

@@ -4,7 +4,7 @@ ghost use Rattle.hub_reach.specs.Reach as of_reach;
 ghost use Rattle.hub_schedule.specs.History.{IsAnswerOf};
 ghost use Rattle.hub_history.specs.Book.{IsBook, entry_of, has_job, new_book, with_entry};
 
-use crate::answers::copy_of;
+use crate::answers::copy_answer;
 use crate::same::are_same;
 use hub_cert::ProfileSet;
 use hub_job::{Answer, Entry, Op, perform};
@@ -92,7 +92,7 @@ impl<'a> Book<'a> {
         self.history.reserve(1)?;
         let profile = &self.profiles[job];
         let answer = perform(self.alloc, profile, &self.root, &mut self.tree, &op)?;
-        let kept = copy_of(&answer)?;
+        let kept = copy_answer(&answer)?;
         let Ok(()) = self.history.push(Entry {
             job,
             op,
@@ -150,6 +150,14 @@ impl<'a> Book<'a> {
         ensures book { IsBook self.now }
     {
         self.history.as_slice()
+    }
+
+    /// Returns the replica. The rest of the book is dropped.
+    pub fn into_tree(self) -> Tree
+        ensures { result ≡ self.entry.tree }
+    {
+        let Book { tree, .. } = self;
+        tree
     }
 }
 

@@ -33,6 +33,7 @@ mod same_pattern;
 mod same_profile;
 mod seat;
 
+pub use answers::{copy_answer, copy_entry};
 pub use book::Book;
 pub use desk::{Desk, StepFault, Stranger};
 pub use gate::Gate;

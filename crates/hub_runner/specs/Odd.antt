@@ -1,5 +1,5 @@
 -- What is told of the jobs of one number.
-use Rattle.std.specs.Prelude.{◌≡◌, ◌≤◌, ◌<◌, ◌⊎◌, ℕ, List, slice_get, Some}
+use Rattle.std.specs.Prelude.{◌≡◌, ◌≤◌, ◌<◌, ℕ, List, slice_get, Option, Some, None, min, nat_lt, if◌then◌else◌}
 use Rattle.hub_profile.specs.Parts.{Parts}
 use Rattle.hub_tree.specs.Tree.{Archive}
 use Rattle.hub_job.specs.JobValue.{JobValue}
@@ -23,3 +23,11 @@ abbrev pub IsLeastFrom : List JobValue → ℕ → ℕ → Type 0
 IsLeastFrom jobs n j =
     (n ≤ j) × ((k : ℕ) × (J : JobValue) × (slice_get jobs k ≡ Some J) × (J.number ≡ j))
     × ((k : ℕ) (J : JobValue) → slice_get jobs k ≡ Some J → n ≤ J.number → j ≤ J.number)
+
+-- The lower of a number that may be there and another one, unless that is below n.
+abbrev pub lower_of : Option ℕ → ℕ → Option ℕ
+lower_of None i = Some i
+lower_of (Some j) i = Some (min j i)
+
+abbrev pub lower : ℕ → Option ℕ → ℕ → Option ℕ
+lower n o i = if nat_lt i n then o else lower_of o i

@@ -1,6 +1,6 @@
 -- Books and jobs that fit together, with a set and with a state.
-use Rattle.std.specs.Prelude.{◌≡◌, ◌≢◌, ◌⊎◌, ◌<◌, ◌==◌, ℕ, not, List, [], ◌∷◌, ◌++◌, All, length, map, find, filter, slice_get, count_by, Option, Some, None, IsTrue}
-use Rattle.std.specs.List.{flat_map, range_with_len}
+use Rattle.std.specs.Prelude.{◌≡◌, ◌≢◌, ◌⊎◌, ◌<◌, ◌==◌, ℕ, List, [], ◌∷◌, ◌++◌, All, length, map, find, filter, fold, if◌then◌else◌, slice_get, count_by, Option, Some, None, IsTrue}
+use Rattle.std.specs.List.{flat_map, list_any, range_with_len}
 use Rattle.hub_path.specs.Path.{Path, path_eq}
 use Rattle.hub_profile.specs.Parts.{Parts}
 use Rattle.hub_reach.specs.Reach.{has_root}
@@ -22,6 +22,12 @@ abbrev pub IsOdd : State → List Parts → List JobValue → ℕ → Type 0
 IsOdd S Ps jobs j =
     ((j < length Ps) × (count_by (λ J. J.number == j) jobs ≢ 1))
     ⊎ ((k : ℕ) × (J : JobValue) × (slice_get jobs k ≡ Some J) × (J.number ≡ j) × ¬ (IsMadeFor S Ps J))
+
+-- Each job is made for the set and the state, and exactly one has the number of each profile.
+abbrev pub AreDue : State → List Parts → List JobValue → Type 0
+AreDue S Ps jobs =
+    ((k : ℕ) (J : JobValue) → slice_get jobs k ≡ Some J → IsMadeFor S Ps J)
+    × ((j : ℕ) → j < length Ps → count_by (λ J. J.number == j) jobs ≡ 1)
 
 abbrev pub IsLowestOdd : State → List Parts → List JobValue → ℕ → Type 0
 IsLowestOdd S Ps jobs j = IsOdd S Ps jobs j × ((i : ℕ) → i < j → ¬ (IsOdd S Ps jobs i))
@@ -49,30 +55,30 @@ log_or_nothing (Some J) = J.log
 abbrev pub log_at : List JobValue → ℕ → List Logged
 log_at jobs j = log_or_nothing (find (λ J. J.number == j) jobs)
 
--- The root doesn't have exactly one book, or that book wasn't made for the set and the state.
-abbrev pub IsWrongBook : State → List Parts → List BookValue → Path → Type 0
-IsWrongBook S Ps books r =
-    (length (books_at books r) ≢ 1) ⊎ ((B : BookValue) × (slice_get (books_at books r) 0 ≡ Some B) × ¬ (OpensAs S Ps B))
+-- A place of a comparison is a root, and a job or none. With none the root has exactly one book, which was made for the
+-- set and the state. With a job that has the root, its entries in the root's history are those of its log there.
+abbrev pub IsRight : State → List Parts → List BookValue → List JobValue → Path × Option ℕ → Type 0
+IsRight S Ps books jobs (r, None) = (B : BookValue) × (books_at books r ≡ B ∷ []) × OpensAs S Ps B
+IsRight S Ps books jobs (r, Some j) =
+    (P : Parts) → slice_get Ps j ≡ Some P → IsTrue (has_root P r)
+    → entries_of j (history_at books r) ≡ entries_at P r (log_at jobs j)
 
--- The job has the root, and its entries in the root's history aren't those of its log there.
-abbrev pub Differs : List Parts → List BookValue → List JobValue → Path → ℕ → Type 0
-Differs Ps books jobs r j =
-    (P : Parts) × (slice_get Ps j ≡ Some P) × IsTrue (has_root P r) × (entries_of j (history_at books r) ≢ entries_at P r (log_at jobs j))
-
--- A place of a comparison is a root, and a job or none: with none the root's book is compared with the set and the state,
--- and with a job its entries in the root's history with those in its log.
+-- With none the root doesn't have exactly one book, or that wasn't made for the set and the state. With a job: it has the
+-- root, and the entries differ.
 abbrev pub IsWrong : State → List Parts → List BookValue → List JobValue → Path × Option ℕ → Type 0
-IsWrong S Ps books jobs (r, None) = IsWrongBook S Ps books r
-IsWrong S Ps books jobs (r, Some j) = Differs Ps books jobs r j
+IsWrong S Ps books jobs (r, None) =
+    (length (books_at books r) ≢ 1) ⊎ ((B : BookValue) × (books_at books r ≡ B ∷ []) × ¬ (OpensAs S Ps B))
+IsWrong S Ps books jobs (r, Some j) =
+    (P : Parts) × (slice_get Ps j ≡ Some P) × IsTrue (has_root P r)
+    × (entries_of j (history_at books r) ≢ entries_at P r (log_at jobs j))
 
--- Each root once, at its first place.
-abbrev pub once : List Path → List Path
-once [] = []
-once (r ∷ rs) = r ∷ filter (λ s. not (path_eq s r)) (once rs)
+-- A list with a root appended, unless it is there.
+abbrev pub with_new : List Path → Path → List Path
+with_new rs r = if list_any (λ s. path_eq s r) rs then rs else rs ++ r ∷ []
 
--- The roots of the profiles in their order, the left one of a profile first.
+-- The roots of the profiles in their order, each once, the left one of a profile first.
 abbrev pub roots_of : List Parts → List Path
-roots_of Ps = once (flat_map (λ P. P.roots) Ps)
+roots_of Ps = fold (λ rs P. fold with_new rs P.roots) [] Ps
 
 abbrev pub places_at : ℕ → Path → List (Path × Option ℕ)
 places_at n r = (r, None) ∷ map (λ j. (r, Some j)) (range_with_len 0 n)
@@ -81,11 +87,8 @@ places_at n r = (r, None) ∷ map (λ j. (r, Some j)) (range_with_len 0 n)
 abbrev pub places : List Parts → List (Path × Option ℕ)
 places Ps = flat_map (places_at (length Ps)) (roots_of Ps)
 
--- None of these places is wrong.
-abbrev pub NoneIsWrong : State → List Parts → List BookValue → List JobValue → List (Path × Option ℕ) → Type 0
-NoneIsWrong S Ps books jobs all = All (λ at. ¬ (IsWrong S Ps books jobs at)) all
-
--- The place is the first of these that is wrong.
+-- The place is the first of these that is wrong: those before it are right.
 abbrev pub IsFirstWrong : State → List Parts → List BookValue → List JobValue → List (Path × Option ℕ) → Path × Option ℕ → Type 0
 IsFirstWrong S Ps books jobs all at =
-    (front rest : List (Path × Option ℕ)) × (all ≡ front ++ at ∷ rest) × IsWrong S Ps books jobs at × NoneIsWrong S Ps books jobs front
+    (front rest : List (Path × Option ℕ)) × (all ≡ front ++ at ∷ rest) × IsWrong S Ps books jobs at
+    × All (IsRight S Ps books jobs) front

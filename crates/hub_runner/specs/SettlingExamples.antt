@@ -1,9 +1,9 @@
 -- Worked examples of places.
-use Rattle.std.specs.Prelude.{◌≡◌, ℕ, false, List, [], ◌∷◌, length, None, Some, refl, codes}
+use Rattle.std.specs.Prelude.{◌≡◌, ℕ, false, List, [], ◌∷◌, ◌++◌, length, None, Some, refl, codes}
 use Rattle.hub_path.specs.Path.{Path, path_of}
 use Rattle.hub_profile.specs.Parts.{Parts}
 use Rattle.hub_profile.specs.declared.bars.Bars.{Bars}
-use Rattle.hub_runner.specs.Settling.{once, places, roots_of}
+use Rattle.hub_runner.specs.Settling.{places, roots_of}
 
 abbrev no_bars : Bars
 no_bars = record { create = false; update = false; delete = false }
@@ -31,7 +31,7 @@ star = spoke (codes "s1") ∷ spoke (codes "s2") ∷ []
 each_root_comes_once : roots_of star ≡ root (codes "hub") ∷ root (codes "s1") ∷ root (codes "s2") ∷ []
 each_root_comes_once = refl
 
-a_root_stays_at_its_first_place : once (root (codes "b") ∷ root (codes "a") ∷ root (codes "b") ∷ []) ≡ root (codes "b") ∷ root (codes "a") ∷ []
+a_root_stays_at_its_first_place : roots_of (star ++ star) ≡ roots_of star
 a_root_stays_at_its_first_place = refl
 
 -- At each root the book comes first, and then each job.

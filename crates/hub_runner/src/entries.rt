@@ -1,9 +1,9 @@
 //! Entries of a job, in the history of a root and in the job's log.
-ghost use Rattle.std.specs.Prelude.{◌≡◌, ◌↔◌, map, IfOk, IsTrue};
+ghost use Rattle.std.specs.Prelude.{◌≡◌, IfOk};
 ghost use Rattle.hub_profile.specs.Parts as of_profile;
 ghost use Rattle.hub_schedule.specs.History as spec;
 
-use hub_history::Same;
+use crate::lent::Lent;
 use hub_job::{Entry, Logged};
 use hub_path::{Root, Side};
 use hub_profile::Profile;
@@ -14,13 +14,13 @@ pub(crate) fn entries_of<'a>(
     alloc: Global,
     history: &'a [Entry],
     job: usize,
-) -> Result<Vec<&'a Entry>, AllocError>
-    ensures { IfOk result (λ v. map (λ e. e.now) v.items ≡ spec.entries_of job history.now) }
+) -> Result<Vec<Lent<'a, Entry>>, AllocError>
+    ensures { IfOk result (λ v. v.items ≡ spec.entries_of job history.now) }
 {
     let mut entries = Vec::new(alloc);
     for entry in history {
         if entry.job == job {
-            entries.push(entry)?;
+            entries.push(Lent::new(entry))?;
         }
     }
     Ok(entries)
@@ -32,14 +32,13 @@ pub(crate) fn entries_at<'a>(
     profile: &Profile,
     root: &Root,
     log: &'a [Logged],
-) -> Result<Vec<&'a Entry>, AllocError>
-    ensures { IfOk result
-        (λ v. map (λ e. e.now) v.items ≡ spec.entries_at profile.now root.now log.now) }
+) -> Result<Vec<Lent<'a, Entry>>, AllocError>
+    ensures { IfOk result (λ v. v.items ≡ spec.entries_at profile.now root.now log.now) }
 {
     let mut entries = Vec::new(alloc);
     for entry in log {
         if is_root_at(profile, root, entry.side) {
-            entries.push(&entry.step)?;
+            entries.push(Lent::new(&entry.step))?;
         }
     }
     Ok(entries)
@@ -54,19 +53,4 @@ fn is_root_at(profile: &Profile, root: &Root, side: Side) -> bool
         Side::Left => root == &roots[0],
         Side::Right => root == &roots[1],
     }
-}
-
-/// Returns whether both are the same entries, in the same order.
-pub(crate) fn are_same_entries(first: &[&Entry], second: &[&Entry]) -> bool
-    ensures { IsTrue result ↔ (map (λ e. e.now) first.now ≡ map (λ e. e.now) second.now) }
-{
-    if first.len() != second.len() {
-        return false;
-    }
-    for (i, entry) in first.iter().enumerate() {
-        if !entry.same(second[i]) {
-            return false;
-        }
-    }
-    true
 }

@@ -11,6 +11,7 @@
 #![tactic(auto)]
 
 mod entries;
+mod lent;
 mod odd;
 mod task;
 mod wrong;

@@ -1,9 +1,10 @@
 //! Numbers that no job has, or several have, or one that wasn't made for the set and the state.
-ghost use Rattle.std.specs.Prelude.{◌≡◌, ◌==◌, ℕ, false, true, count_by, MatchBool, MatchOption, OnTrue, OnFalse};
+ghost use Rattle.std.specs.Prelude.{◌≡◌, ◌==◌, Some, count_by, MatchBool, MatchOption};
 ghost use Rattle.std.specs.FinMap as fin;
 ghost use Rattle.hub_job.specs.Outcome as of_outcome;
+ghost use Rattle.hub_runner.specs.Odd as spec;
 ghost use Rattle.hub_runner.specs.Odd.{AllAreBelow, AllAreOf, IsLeastFrom, OneIsNotOf};
-ghost use Rattle.hub_runner.specs.Settling.{IsLowestOdd, IsOdd};
+ghost use Rattle.hub_runner.specs.Settling.{AreDue, IsLowestOdd};
 
 use crate::task::Task;
 use hub_profile::Profile;
@@ -20,7 +21,7 @@ pub fn find_odd(
     state: &State,
 ) -> Option<usize>
     ensures { MatchOption result
-        ((j : ℕ) → ¬ (IsOdd state.now profiles.now tasks.now j))
+        (AreDue state.now profiles.now tasks.now)
         (IsLowestOdd state.now profiles.now tasks.now) }
 {
     let empty = Archive::new(alloc);
@@ -82,12 +83,14 @@ fn find_least(tasks: &[Task<'_>], from: usize) -> Option<usize>
 }
 
 /// Returns the lower of a number that may be there and another one, unless that is below `from`.
-fn lower(least: Option<usize>, from: usize, number: usize) -> Option<usize> {
+fn lower(least: Option<usize>, from: usize, number: usize) -> Option<usize>
+    ensures { result ≡ spec.lower from least number }
+{
     if number < from {
         return least;
     }
     match least {
-        Some(least) if least <= number => Some(least),
-        Some(_) | None => Some(number),
+        Some(least) => Some(least.min(number)),
+        None => Some(number),
     }
 }

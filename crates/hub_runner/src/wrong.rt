@@ -1,13 +1,14 @@
 //! Roots whose books or histories don't fit.
-ghost use Rattle.std.specs.Prelude.{◌≡◌, ◌≢◌, ◌↔◌, None, Some, [], ◌∷◌, length, map, slice_get, IsTrue, IfOk, MatchOption};
+ghost use Rattle.std.specs.Prelude.{◌≡◌, ◌≢◌, ◌↔◌, [], ◌∷◌, fold, length, All, IsTrue, IfOk, OnOk, MatchBool, MatchOption};
 ghost use Rattle.hub_reach.specs.Reach as of_reach;
 ghost use Rattle.hub_schedule.specs.History as of_history;
 ghost use Rattle.hub_runner.specs.Settling as spec;
 
-use crate::entries::{are_same_entries, entries_at, entries_of};
+use crate::entries::{entries_at, entries_of};
+use crate::lent::Lent;
 use crate::task::Task;
 use hub_cert::ProfileSet;
-use hub_history::Book;
+use hub_history::{Book, are_same};
 use hub_job::{Entry, Logged};
 use hub_path::Root;
 use hub_profile::Profile;
@@ -28,12 +29,14 @@ pub fn find_wrong<'a>(
     tasks: &[Task<'_>],
 ) -> Result<Option<(&'a Root, Option<usize>)>, AllocError>
     ensures { IfOk result (λ o. MatchOption o
-        (spec.NoneIsWrong state.now set.now.profiles books.now tasks.now
+        (All (spec.IsRight state.now set.now.profiles books.now tasks.now)
         (spec.places set.now.profiles))
         (λ at. spec.IsFirstWrong state.now set.now.profiles books.now tasks.now
         (spec.places set.now.profiles) (at.0.now, at.1))) }
 {
-    for root in roots_of(alloc, set.profiles())? {
+    let roots = roots_of(alloc, set.profiles())?;
+    for lent in roots.as_slice() {
+        let root = lent.item();
         if let Some(job) = find_wrong_at(alloc, set, state, books, tasks, root)? {
             return Ok(Some((root, job)));
         }
@@ -42,22 +45,32 @@ pub fn find_wrong<'a>(
 }
 
 /// Borrows the roots of the profiles in their order, each once.
-fn roots_of<'a>(alloc: Global, profiles: &'a [Profile]) -> Result<Vec<&'a Root>, AllocError>
-    ensures { IfOk result (λ v. map (λ r. r.now) v.items ≡ spec.roots_of profiles.now) }
+fn roots_of<'a>(alloc: Global, profiles: &'a [Profile]) -> Result<Vec<Lent<'a, Root>>, AllocError>
+    ensures { IfOk result (λ v. v.items ≡ spec.roots_of profiles.now) }
 {
     let mut roots = Vec::new(alloc);
     for profile in profiles {
-        for root in profile.roots() {
-            push_new(&mut roots, root)?;
-        }
+        push_all_new(&mut roots, profile.roots().as_slice())?;
     }
     Ok(roots)
 }
 
+/// Appends the roots that aren't there.
+fn push_all_new<'a>(roots: &mut Vec<Lent<'a, Root>>, own: &'a [Root]) -> Result<(), AllocError>
+    ensures { OnOk result (roots.new.items ≡ fold spec.with_new roots.old.items own.now) }
+{
+    for root in own {
+        push_new(roots, root)?;
+    }
+    Ok(())
+}
+
 /// Appends the root, unless it is there.
-fn push_new<'a>(roots: &mut Vec<&'a Root>, root: &'a Root) -> Result<(), AllocError> {
-    if !roots.iter().any(|other| *other == root) {
-        roots.push(root)?;
+fn push_new<'a>(roots: &mut Vec<Lent<'a, Root>>, root: &'a Root) -> Result<(), AllocError>
+    ensures { OnOk result (roots.new.items ≡ spec.with_new roots.old.items root.now) }
+{
+    if !roots.iter().any(|other| other.item() == root) {
+        roots.push(Lent::new(root))?;
     }
     Ok(())
 }
@@ -72,7 +85,7 @@ fn find_wrong_at(
     root: &Root,
 ) -> Result<Option<Option<usize>>, AllocError>
     ensures { IfOk result (λ o. MatchOption o
-        (spec.NoneIsWrong state.now set.now.profiles books.now tasks.now
+        (All (spec.IsRight state.now set.now.profiles books.now tasks.now)
         (spec.places_at (length set.now.profiles) root.now))
         (λ job. spec.IsFirstWrong state.now set.now.profiles books.now tasks.now
         (spec.places_at (length set.now.profiles) root.now) (root.now, job))) }
@@ -97,16 +110,17 @@ fn only_book<'b, 'a>(books: &'b [Book<'a>], root: &Root) -> Option<&'b Book<'a>>
         (length (spec.books_at books.now root.now) ≢ 1)
         (λ b. spec.books_at books.now root.now ≡ b.now ∷ []) }
 {
-    let mut found = None;
-    for book in books {
-        if book.root() == root {
-            if found.is_some() {
-                return None;
-            }
-            found = Some(book);
-        }
+    if count_of_books(books, root) != 1 {
+        return None;
     }
-    found
+    books.iter().find(|book| book.root() == root)
+}
+
+/// Returns how many books a root has.
+fn count_of_books(books: &[Book<'_>], root: &Root) -> usize
+    ensures { result ≡ length (spec.books_at books.now root.now) }
+{
+    books.iter().filter(|book| book.root() == root).count()
 }
 
 /// Returns whether the book was made for the set, and opens with the state's replica of its root.
@@ -140,15 +154,18 @@ fn differs(
     root: &Root,
     job: usize,
 ) -> Result<bool, AllocError>
-    ensures { IfOk result (λ b. IsTrue b
-        ↔ (IsTrue (of_reach.has_root profile.now root.now)
+    ensures { IfOk result (λ b. MatchBool b
+        (IsTrue (of_reach.has_root profile.now root.now)
         × (of_history.entries_of job history.now
-        ≢ of_history.entries_at profile.now root.now log.now))) }
+        ≢ of_history.entries_at profile.now root.now log.now))
+        (IsTrue (of_reach.has_root profile.now root.now)
+        → of_history.entries_of job history.now
+        ≡ of_history.entries_at profile.now root.now log.now)) }
 {
     if !profile.roots().iter().any(|own| own == root) {
         return Ok(false);
     }
     let done = entries_of(alloc, history, job)?;
     let logged = entries_at(alloc, profile, root, log)?;
-    Ok(!are_same_entries(done.as_slice(), logged.as_slice()))
+    Ok(!are_same(done.as_slice(), logged.as_slice()))
 }

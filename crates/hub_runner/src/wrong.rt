@@ -97,7 +97,14 @@ fn find_wrong_at(
         return Ok(Some(None));
     }
     for (job, profile) in set.profiles().iter().enumerate() {
-        if differs(alloc, book.history(), log_of(tasks, job), profile, root, job)? {
+        if differs(
+            alloc,
+            book.history(),
+            log_of(tasks, job),
+            profile,
+            root,
+            job,
+        )? {
             return Ok(Some(Some(job)));
         }
     }

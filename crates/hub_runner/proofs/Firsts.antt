@@ -50,8 +50,8 @@ module _ {A X : Type 0} (f : A → List X) (Right Wrong : X → Type 0) (xs : Li
     before.0 ++ first.0,
     first.1 ++ flat_map f (drop (n + 1) xs),
     sym split ∙ (ap (λ ys. before.0 ++ ys ++ flat_map f (drop (n + 1) xs)) first.2
-    ∙ (ap (λ ys. before.0 ++ ys) (append_assoc first.0 (x ∷ first.1) (flat_map f (drop (n + 1) xs)))
-    ∙ sym (append_assoc before.0 first.0 (x ∷ first.1 ++ flat_map f (drop (n + 1) xs))))),
+        ∙ (ap (λ ys. before.0 ++ ys) (append_assoc first.0 (x ∷ first.1) (flat_map f (drop (n + 1) xs)))
+        ∙ sym (append_assoc before.0 first.0 (x ∷ first.1 ++ flat_map f (drop (n + 1) xs))))),
     first.3,
     All-append Right before.0 first.0 before.2 first.4,
   )

@@ -79,7 +79,10 @@ const FILTERED: [&str; 1] = ["path = a\nignore = Name {*.tmp,[ab-d]?}\nprefer = 
 /// Sets that differ from `FILTERED` in one thing.
 const OTHERS: [&[&str]; 9] = [
     &[],
-    &["path = a\nignore = Name {*.tmp,[ab-d]?}\nprefer = /srv/s1", "path = b"],
+    &[
+        "path = a\nignore = Name {*.tmp,[ab-d]?}\nprefer = /srv/s1",
+        "path = b",
+    ],
     &["path = b\nignore = Name {*.tmp,[ab-d]?}\nprefer = /srv/s1"],
     &["path = a\nignore = Path {*.tmp,[ab-d]?}\nprefer = /srv/s1"],
     &["path = a\nignore = Name {*.tmp,[ab-e]?}\nprefer = /srv/s1"],

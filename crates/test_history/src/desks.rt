@@ -1,8 +1,8 @@
 //! Desks: steps, and what they can be closed with.
 use crate::given::{Counted, answer_text, docs_and_photos, history_text, op_of, root};
+use hub_cert::ProfileSet;
 use hub_history::{Book, Desk, Seat, StepFault};
 use hub_job::Answer;
-use hub_cert::ProfileSet;
 use hub_text::Items;
 use hub_tree::Tree;
 use std::alloc::Global;
@@ -93,7 +93,10 @@ fn a_desk_is_closed_with_its_own_seats_alone(rt: HostRuntime) -> Result<(), Fail
     let Err(foreign) = none.desk.close(one_seat(alloc, unused)?) else {
         return Err(Fail::new("closed with another seat"));
     };
-    assert_eq!(rt; (foreign.entries, foreign.counted, foreign.seats.len()), (3, 0, 1));
+    assert_eq!(rt;
+        (foreign.entries, foreign.counted, foreign.seats.len()),
+        (3, 0, 1)
+    );
     match foreign.desk.close(one_seat(alloc, seat)?) {
         Ok(book) => assert_eq!(rt; history_text(alloc, book.history())?.as_str(), HISTORY),
         Err(_) => return Err(Fail::new("not closed")),

@@ -45,10 +45,16 @@ fn a_job_of_another_profile_or_archive_is_odd(rt: HostRuntime) -> Result<(), Fai
     let mut tasks = Vec::new(alloc);
     tasks.push(Task::new(alloc, 0, &profiles[0], &empty)?)?;
     tasks.push(Task::new(alloc, 1, &profiles[0], &empty)?)?;
-    assert_eq!(rt; find_odd(alloc, tasks.as_slice(), profiles, &state), Some(1));
+    assert_eq!(rt;
+        find_odd(alloc, tasks.as_slice(), profiles, &state),
+        Some(1)
+    );
     let mut others = Vec::new(alloc);
     others.push(Task::new(alloc, 0, &profiles[0], &other)?)?;
     others.push(Task::new(alloc, 1, &profiles[1], &empty)?)?;
-    assert_eq!(rt; find_odd(alloc, others.as_slice(), profiles, &state), Some(0));
+    assert_eq!(rt;
+        find_odd(alloc, others.as_slice(), profiles, &state),
+        Some(0)
+    );
     Ok(())
 }

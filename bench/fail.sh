@@ -2,14 +2,16 @@
 # Runs `bench_state` on a small state text with each of its requests for memory refused in turn, then with each of its reads and
 # each of its writes failing. The answer should be `OutOfMemory`, `ReadFailed` or `WriteFailed`, and what was written before is a
 # prefix of the right text. Then it runs in the same way the test of `hub_tree` that out of memory changes nothing, and `hubsync`
-# on a bundle with that state: there nothing stands before the line of the fault, and a failed write leaves a prefix.
+# on a bundle of two profiles with that state: there nothing stands before the line of the fault, and a failed write leaves a
+# prefix. A refused request for memory may instead stop a job. Then the status is 3, and the state is what the other job leaves,
+# with or without the one change of the job that was stopped.
 #
 #     bench/fail.sh
 #
 # All must have been built: by `rt run` in crates/bench_state and crates/hubsync, and by `rt test` in crates/test_states. A C compiler
 # is needed, since a few lines of C take the place of the C library's `malloc`, `realloc`, `read` and `write`. For each kind of call
-# a line gives the number of runs, how many ended with the fault, and how many with the right text. The status is 1 if an answer is
-# wrong.
+# a line gives the number of runs, how many ended with the fault, how many with a stopped job, and how many with the right text.
+# The status is 1 if an answer is wrong.
 set -euo pipefail
 top=$(dirname "$(dirname "$(readlink -f "${BASH_SOURCE[0]}")")")
 program=$top/crates/bench_state/out/bench_state
@@ -121,14 +123,26 @@ hubsync_tells() {
     cmp -s "$folder/answer" <(echo "$line")
 }
 
+# Whether the answer is one of those in which a job was stopped.
+has_stopped_job() {
+    local answer
+    [ "$status" = 3 ] || return 1
+    for answer in stopped-a stopped-b stopped-late; do
+        ! cmp -s "$folder/answer" "$folder/$answer" || return 0
+    done
+    return 1
+}
+
 # Runs a program on an input with each call of a kind failing. Its answers should tell the fault, as the function says that
-# is given first, or be the wanted text.
+# is given first, or be the wanted text. A refused request for memory may also stop a job.
 fail_each() {
-    local tells=$1 program=$2 input=$3 wanted=$4 kind=$5 fault=$6 number=1 faults=0 unharmed=0
+    local tells=$1 program=$2 input=$3 wanted=$4 kind=$5 fault=$6 number=1 faults=0 stopped=0 unharmed=0
     run "$kind" "$number" "$input" "$program"
     while [ "$met" = yes ]; do
         if [ "$status" = 0 ] && cmp -s "$folder/answer" "$folder/$wanted"; then
             unharmed=$((unharmed + 1))
+        elif [ "$kind" = FAIL_ALLOC ] && has_stopped_job; then
+            stopped=$((stopped + 1))
         elif "$tells" "$fault" "$wanted"; then
             faults=$((faults + 1))
         else
@@ -138,7 +152,7 @@ fail_each() {
         number=$((number + 1))
         run "$kind" "$number" "$input" "$program"
     done
-    echo "$(basename "$program"): $kind: $((number - 1)) runs, $faults with $fault, $unharmed with the right text"
+    echo "$(basename "$program"): $kind: $((number - 1)) runs, $faults with $fault, $stopped with a stopped job, $unharmed with the right text"
 }
 
 # Runs a test with each request for memory refused. It should pass each time.
@@ -159,7 +173,7 @@ fail_each_in_test() {
 {
     printf 'hubsync state 1\nreplica /srv/hub\ndir a\nfile - a/b\nfile 6869 a/c\ndir a/d\ndir a/d/e\n'
     seq -f 'file 6869 a/d/e/%02.0f' 40
-    printf 'file %0100000d a/z\n' 0
+    printf 'file %0100000d a/z\nfile 6869 b\n' 0
     seq -f 'replica /srv/spoke%02.0f' 20
     printf 'archive /srv/hub\nwith /srv/spoke01\ndir a\nfile %064d a/b\nend\n' 1
 } >"$folder/text"
@@ -171,7 +185,15 @@ fail_each_in_test() {
     printf '%%rules\nroot = /srv/hub\nnolose = BelowPath c\n%%state\n'
     cat "$folder/text"
 } >"$folder/bundle"
-cat <(echo safe) "$folder/text" >"$folder/safe"
+# The job of `b` brings the file `b` to the spoke. That of `a` skips it all: the spoke has deleted the directory `a`, and the
+# hub has changed `a/b`.
+digest=$(printf hi | sha256sum | cut -d ' ' -f 1)
+sed 's|^replica /srv/spoke01$|&\nfile 6869 b|' "$folder/text" >"$folder/brought"
+sed "s|^end\$|file $digest b\n&|" "$folder/brought" >"$folder/after"
+{ printf 'safe\njob a finished\nskip Conflict a\njob b finished\nto /srv/spoke01 b\n'; cat "$folder/after"; } >"$folder/safe"
+{ printf 'safe\njob a stopped\njob b finished\nto /srv/spoke01 b\n'; cat "$folder/after"; } >"$folder/stopped-a"
+{ printf 'safe\njob a finished\nskip Conflict a\njob b stopped\n'; cat "$folder/text"; } >"$folder/stopped-b"
+{ printf 'safe\njob a finished\nskip Conflict a\njob b stopped\n'; cat "$folder/brought"; } >"$folder/stopped-late"
 : >"$folder/nothing"
 
 fail_each bench_state_tells "$program" text text FAIL_ALLOC OutOfMemory

@@ -73,7 +73,7 @@ for bundle in "$folder"/*.bundle; do
         given=$((given + 1))
     fi
 done
-# the state text of a folder is read, and written as it is
+# without profiles no job is run, so the state text of a folder is read, and written as it is
 try_folder() {
     local room=$1 name
     mkdir -p "$room/hub/Möbel & so/leer" "$room/hub/a" "$room/other spoke/a"

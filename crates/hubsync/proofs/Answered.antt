@@ -1,6 +1,6 @@
 -- From the line that was written to what is true of the input: what each line begins with.
-use Rattle.std.proofs.Common.{◌≡◌, ◌∙◌, ◌==◌, ◌≤◌, ◌⊎◌, inl, inr, ℕ, suc, zero, Bool, true, false, ◌||◌, cond, Result, Ok, Err, List, ◌∷◌, ◌++◌, length, take, Option, Some, None, codes, refl, sym, ap, subst, arith, eq-eqb, length-append}
-use Rattle.std.specs.Prelude.{IfOk, IfSome, OnOk, is_err, slice_get, ⊤}
+use Rattle.std.proofs.Common.{◌≡◌, ◌∙◌, ◌==◌, ◌≤◌, ◌⊎◌, inl, inr, ℕ, suc, zero, Bool, true, false, ◌||◌, cond, Result, Ok, Err, List, [], ◌∷◌, ◌++◌, length, take, Option, Some, None, codes, refl, sym, ap, subst, arith, eq-eqb, length-append}
+use Rattle.std.specs.Prelude.{IfOk, IfSome, OnOk, is_err, slice_get, string_bytes, ⊤}
 use Rattle.std.specs.Io.KnownBytes.{Appends, Keeps}
 use Rattle.std.proofs.KnownBytes.{Appends-kept}
 use Rattle.std.proofs.lemmas.List.{append_cancel_left, take_all}
@@ -15,20 +15,24 @@ use Rattle.hub_cert.specs.declared.fault.CheckFault.{CheckFault}
 use Rattle.hub_cert.specs.declared.fault.CheckFault.TheVariants as fault
 use Rattle.hub_search.specs.Search.{IsFirstFault}
 use Rattle.hub_state.specs.State.{State}
+use Rattle.hub_state.specs.Writing.{state_text}
 use Rattle.hubsync.specs.declared.sections.Contents.{Contents}
 use Rattle.hubsync.specs.declared.words.Question.{Question}
 use Rattle.hubsync.specs.declared.words.Question.TheVariants.{CheckWithState, Check, Certify, Verify}
 use Rattle.hubsync.specs.Refusal.{breach_text, name_at, refusal_line}
 use Rattle.hubsync.specs.Sections.{Spells, members}
 use Rattle.hubsync.specs.declared.report.Report.{Report}
-use Rattle.hubsync.specs.declared.report.Report.TheVariants.{Safe, SafeWithState, Verified, Certified, Refused, Reached, NotReached, NoProfile, BadPath, Unread, BadBundle, BadSection, OutOfMemory}
-use Rattle.hubsync.specs.Report.{AsksNoState, IsText, IsRefusedFor, IsTold, IsTrueOf, Holds, SpellsSafe, SpellsUnsafe, SpellsVerified, SpellsReach, Serves, Answers, AnswersNothing, WritesText, status_of, text_below}
+use Rattle.hubsync.specs.declared.report.Report.TheVariants.{Safe, Ran, NotRun, Verified, Certified, Refused, Reached, NotReached, NoProfile, BadPath, Unread, BadBundle, BadSection, OutOfMemory}
+use Rattle.hubsync.specs.Report.{AsksNoState, IsText, IsRefusedFor, IsTold, IsTrueOf, Holds, SpellsSafe, SpellsUnsafe, SpellsVerified, SpellsReach, Serves, Answers, AnswersNothing, WritesText, status_of}
+use Rattle.hubsync.specs.Runs.{HasRun, IsBelow, Lacks, missing_line}
+use Rattle.hubsync.specs.declared.run.Run.{Run}
 use Rattle.hubsync.specs.Words.{Request, about, asked_of}
 
 -- What holds of what an input says holds of the input.
 pub told-holds : (request : Request) (bytes : List ℕ) (c : Contents) (r : Report) → Spells bytes c → IsTold request c r → Holds request bytes r
 told-holds request bytes c Safe s h = record { contents = c; spelled = s; told = h }
-told-holds request bytes c (SafeWithState S) s h = record { contents = c; spelled = s; told = h }
+told-holds request bytes c (Ran r) s h = record { contents = c; spelled = s; told = h }
+told-holds request bytes c (NotRun root) s h = record { contents = c; spelled = s; told = h }
 told-holds request bytes c Verified s h = record { contents = c; spelled = s; told = h }
 told-holds request bytes c (Certified t) s h = record { contents = c; spelled = s; told = h }
 told-holds request bytes c (Refused t) s h = record { contents = c; spelled = s; told = h }
@@ -178,53 +182,84 @@ after_safe w t s e =
     let four = goes_on 101 101 three.0 (10 ∷ t) (10 ∷ s) three.1 in
     goes_on 10 10 four.0 t s four.1
 
--- Where no state is to be written, nothing is below `safe`.
-stateless-below : (q : Question) (state : Option State) → AsksNoState q state → codes "safe\n" ≡ codes "safe\n" ++ text_below q state
-stateless-below q state (inl h) = rw h refl
-stateless-below q state (inr h) = rw (h.0, h.1) refl
+-- Where no jobs are to be run, nothing is below `safe`.
+stateless : (q : Question) (M : Members) (state : Option State) (status : ℕ) → AsksNoState q state → IsBelow q M state status []
+stateless q M state status (inl h) = subst (λ p. IsBelow p M state status []) (sym h) refl
+stateless q M state status (inr h) =
+    subst (λ p. IsBelow p M state status []) (sym h.0) (subst (λ o. IsBelow CheckWithState M o status []) (sym h.1) refl)
+
+-- The status is 0 only if all jobs are finished.
+zero-finished : (failed finished : Bool) (status : ℕ) → status ≡ cond failed 2 (cond finished 0 3) → status ≡ 0 → finished ≡ true
+zero-finished true finished status e z = absurd (omega (arith, e, z))
+zero-finished false true status e z = refl
+zero-finished false false status e z = absurd (omega (arith, e, z))
+
+-- What jobs left is below `safe`,
+ran-below : (M : Members) (state : Option State) (r : Run) (status : ℕ) (failed : Bool) → HasRun M state r → status ≡ cond failed 2 (cond r.finished 0 3)
+    → IsBelow CheckWithState M state status (string_bytes r.lines ++ state_text r.state)
+ran-below M state r status failed h e =
+    subst (λ o. IsBelow CheckWithState M o status (string_bytes r.lines ++ state_text r.state)) (sym h.state_is)
+    (inl (record {
+      outcome = h.outcome;
+      run = h.run;
+      lines = string_bytes r.lines;
+      text = ap (λ s. string_bytes r.lines ++ state_text s) h.left;
+      finished = λ z. h.finished (zero-finished failed r.finished status e z);
+    }))
+
+-- or that a replica is missing.
+lacks-below : (M : Members) (state : Option State) (root : Path) (status : ℕ) → Lacks M state root → IsBelow CheckWithState M state status (missing_line root)
+lacks-below M state root status h =
+    subst (λ o. IsBelow CheckWithState M o status (missing_line root)) (sym h.state_is) (inr (record { root = root; missing = h.missing; text = refl }))
 
 -- What follows `safe` in a front of the text of a safe set.
-follows : (request : Request) (bytes : List ℕ) (q : Question) (c : Contents) (text s : List ℕ) (w : ℕ) (failed : Bool)
-    → request ≡ about q → Spells bytes c → IsSafeSet (members c) → text ≡ codes "safe\n" ++ text_below q c.state → take w text ≡ codes "safe\n" ++ s
-    → (failed ≡ false → take w text ≡ text) → SpellsSafe (Some request) bytes s failed
-follows request bytes q c text s w failed asked spelled safe is e whole =
-    let rest = text_below q c.state in
-    let after = after_safe w rest s (ap (take w) (sym is) ∙ e) in
+follows : (request : Request) (bytes : List ℕ) (q : Question) (c : Contents) (below text s : List ℕ) (w : ℕ) (failed : Bool) (status : ℕ)
+    → request ≡ about q → Spells bytes c → IsSafeSet (members c) → IsBelow q (members c) c.state status below → text ≡ codes "safe\n" ++ below
+    → take w text ≡ codes "safe\n" ++ s → (failed ≡ false → take w text ≡ text) → SpellsSafe (Some request) bytes s failed status
+follows request bytes q c below text s w failed status asked spelled safe below_is is e whole =
+    let after = after_safe w below s (ap (take w) (sym is) ∙ e) in
     record {
       of_set = q;
       is_asked = ap Some asked;
       contents = c;
       spelled = spelled;
       safe = safe;
+      below = below;
+      below_is = below_is;
       written = after.0;
       text_is = sym after.1;
-      whole = λ f. append_cancel_left (codes "safe\n") s rest (sym e ∙ (whole f ∙ is));
+      whole = λ f. append_cancel_left (codes "safe\n") s below (sym e ∙ (whole f ∙ is));
     }
 
--- Only the line of a safe set begins with an s,
-only_safe : (request : Request) (bytes : List ℕ) (r : Report) (line : List ℕ) (w : ℕ) (s : List ℕ) (failed : Bool) → IsText r line → take w line ≡ codes "safe\n" ++ s
-    → (failed ≡ false → take w line ≡ line) → Holds request bytes r → SpellsSafe (Some request) bytes s failed
-only_safe request bytes Safe line w s failed l e whole h =
-    follows request bytes h.told.of_set h.contents line s w failed h.told.asked h.spelled h.told.safe (l ∙ stateless-below h.told.of_set h.contents.state h.told.stateless) e whole
-only_safe request bytes (SafeWithState S) line w s failed l e whole h =
-    let below = ap (λ (o : Option State). codes "safe\n" ++ text_below CheckWithState o) (sym h.told.state_is) in
-    follows request bytes CheckWithState h.contents line s w failed h.told.asked h.spelled h.told.safe (l ∙ below) e whole
-only_safe request bytes Verified line w s failed l e whole h = absurd (begins 118 115 w _ _ refl (ap (take w) (sym l) ∙ e))
-only_safe request bytes (Certified text) line w s failed l e whole h = absurd (begins 104 115 w _ _ refl (ap (take w) (sym (l ∙ h.told.text_is)) ∙ e))
-only_safe request bytes (Refused text) line w s failed l e whole h = absurd (unlike (members h.contents) h.told.reason 115 w _ refl refl refl refl refl (ap (take w) (sym (l ∙ h.told.told.1)) ∙ e))
-only_safe request bytes Reached line w s failed l e whole h = absurd (begins 114 115 w _ _ refl (ap (take w) (sym l) ∙ e))
-only_safe request bytes NotReached line w s failed l e whole h = absurd (begins 110 115 w _ _ refl (ap (take w) (sym l) ∙ e))
-only_safe request bytes (NoProfile n) line w s failed l e whole h = absurd (begins 102 115 w _ _ refl (ap (take w) (sym l) ∙ e))
-only_safe request bytes (BadPath f) line w s failed l e whole h = absurd (begins 102 115 w _ _ refl (ap (take w) (sym l.1) ∙ e))
-only_safe request bytes (Unread f) line w s failed l e whole h = absurd (begins 102 115 w _ _ refl (ap (take w) (sym l.1) ∙ e))
-only_safe request bytes (BadBundle f) line w s failed l e whole h = absurd (begins 102 115 w _ _ refl (ap (take w) (sym l.1) ∙ e))
-only_safe request bytes (BadSection f) line w s failed l e whole h = absurd (begins 102 115 w _ _ refl (ap (take w) (sym l.1) ∙ e))
-only_safe request bytes OutOfMemory line w s failed l e whole h = absurd (begins 102 115 w _ _ refl (ap (take w) (sym l) ∙ e))
+-- Only the text of a safe set begins with an s,
+only_safe : (request : Request) (bytes : List ℕ) (r : Report) (line : List ℕ) (w : ℕ) (s : List ℕ) (failed : Bool) (status : ℕ) → IsText r line → take w line ≡ codes "safe\n" ++ s
+    → (failed ≡ false → take w line ≡ line) → status ≡ cond failed 2 (status_of r) → Holds request bytes r → SpellsSafe (Some request) bytes s failed status
+only_safe request bytes Safe line w s failed status l e whole z h =
+    follows request bytes h.told.of_set h.contents [] line s w failed status h.told.asked h.spelled h.told.safe
+    (stateless h.told.of_set (members h.contents) h.contents.state status h.told.stateless) l e whole
+only_safe request bytes (Ran r) line w s failed status l e whole z h =
+    follows request bytes CheckWithState h.contents (string_bytes r.lines ++ state_text r.state) line s w failed status h.told.asked h.spelled h.told.safe
+    (ran-below (members h.contents) h.contents.state r status failed h.told.run z) l e whole
+only_safe request bytes (NotRun root) line w s failed status l e whole z h =
+    follows request bytes CheckWithState h.contents (missing_line root) line s w failed status h.told.asked h.spelled h.told.safe
+    (lacks-below (members h.contents) h.contents.state root status h.told.lacks) l e whole
+only_safe request bytes Verified line w s failed status l e whole z h = absurd (begins 118 115 w _ _ refl (ap (take w) (sym l) ∙ e))
+only_safe request bytes (Certified text) line w s failed status l e whole z h = absurd (begins 104 115 w _ _ refl (ap (take w) (sym (l ∙ h.told.text_is)) ∙ e))
+only_safe request bytes (Refused text) line w s failed status l e whole z h = absurd (unlike (members h.contents) h.told.reason 115 w _ refl refl refl refl refl (ap (take w) (sym (l ∙ h.told.told.1)) ∙ e))
+only_safe request bytes Reached line w s failed status l e whole z h = absurd (begins 114 115 w _ _ refl (ap (take w) (sym l) ∙ e))
+only_safe request bytes NotReached line w s failed status l e whole z h = absurd (begins 110 115 w _ _ refl (ap (take w) (sym l) ∙ e))
+only_safe request bytes (NoProfile n) line w s failed status l e whole z h = absurd (begins 102 115 w _ _ refl (ap (take w) (sym l) ∙ e))
+only_safe request bytes (BadPath f) line w s failed status l e whole z h = absurd (begins 102 115 w _ _ refl (ap (take w) (sym l.1) ∙ e))
+only_safe request bytes (Unread f) line w s failed status l e whole z h = absurd (begins 102 115 w _ _ refl (ap (take w) (sym l.1) ∙ e))
+only_safe request bytes (BadBundle f) line w s failed status l e whole z h = absurd (begins 102 115 w _ _ refl (ap (take w) (sym l.1) ∙ e))
+only_safe request bytes (BadSection f) line w s failed status l e whole z h = absurd (begins 102 115 w _ _ refl (ap (take w) (sym l.1) ∙ e))
+only_safe request bytes OutOfMemory line w s failed status l e whole z h = absurd (begins 102 115 w _ _ refl (ap (take w) (sym l) ∙ e))
 
 -- only that of a verified one with a v,
 only_verified : (request : Request) (bytes : List ℕ) (r : Report) (line : List ℕ) (w : ℕ) (s : List ℕ) → IsText r line → take w line ≡ 118 ∷ s → Holds request bytes r → SpellsVerified (Some request) bytes
 only_verified request bytes Safe line w s l e h = absurd (begins 115 118 w _ _ refl (ap (take w) (sym l) ∙ e))
-only_verified request bytes (SafeWithState S) line w s l e h = absurd (begins 115 118 w _ _ refl (ap (take w) (sym l) ∙ e))
+only_verified request bytes (Ran r) line w s l e h = absurd (begins 115 118 w _ _ refl (ap (take w) (sym l) ∙ e))
+only_verified request bytes (NotRun root) line w s l e h = absurd (begins 115 118 w _ _ refl (ap (take w) (sym l) ∙ e))
 only_verified request bytes Verified line w s l e h = record { is_asked = ap Some h.told.0; contents = h.contents; spelled = h.spelled; inductive = h.told.1; safe = h.told.2 }
 only_verified request bytes (Certified text) line w s l e h = absurd (begins 104 118 w _ _ refl (ap (take w) (sym (l ∙ h.told.text_is)) ∙ e))
 only_verified request bytes (Refused text) line w s l e h = absurd (unlike (members h.contents) h.told.reason 118 w s refl refl refl refl refl (ap (take w) (sym (l ∙ h.told.told.1)) ∙ e))
@@ -240,7 +275,8 @@ only_verified request bytes OutOfMemory line w s l e h = absurd (begins 102 118 
 -- only that of a reached path with `rea`,
 only_reached : (request : Request) (bytes : List ℕ) (r : Report) (line : List ℕ) (w : ℕ) (s : List ℕ) → IsText r line → take w line ≡ 114 ∷ 101 ∷ 97 ∷ s → Holds request bytes r → IsTrueOf request bytes Reached
 only_reached request bytes Safe line w s l e h = absurd (begins 115 114 w _ _ refl (ap (take w) (sym l) ∙ e))
-only_reached request bytes (SafeWithState S) line w s l e h = absurd (begins 115 114 w _ _ refl (ap (take w) (sym l) ∙ e))
+only_reached request bytes (Ran r) line w s l e h = absurd (begins 115 114 w _ _ refl (ap (take w) (sym l) ∙ e))
+only_reached request bytes (NotRun root) line w s l e h = absurd (begins 115 114 w _ _ refl (ap (take w) (sym l) ∙ e))
 only_reached request bytes Verified line w s l e h = absurd (begins 118 114 w _ _ refl (ap (take w) (sym l) ∙ e))
 only_reached request bytes (Certified text) line w s l e h = absurd (begins 104 114 w _ _ refl (ap (take w) (sym (l ∙ h.told.text_is)) ∙ e))
 only_reached request bytes (Refused text) line w s l e h = absurd (unlike_reached (members h.contents) h.told.reason w s (ap (take w) (sym (l ∙ h.told.told.1)) ∙ e))
@@ -256,7 +292,8 @@ only_reached request bytes OutOfMemory line w s l e h = absurd (begins 102 114 w
 -- only that of a path that isn't with an n,
 only_not_reached : (request : Request) (bytes : List ℕ) (r : Report) (line : List ℕ) (w : ℕ) (s : List ℕ) → IsText r line → take w line ≡ 110 ∷ s → Holds request bytes r → IsTrueOf request bytes NotReached
 only_not_reached request bytes Safe line w s l e h = absurd (begins 115 110 w _ _ refl (ap (take w) (sym l) ∙ e))
-only_not_reached request bytes (SafeWithState S) line w s l e h = absurd (begins 115 110 w _ _ refl (ap (take w) (sym l) ∙ e))
+only_not_reached request bytes (Ran r) line w s l e h = absurd (begins 115 110 w _ _ refl (ap (take w) (sym l) ∙ e))
+only_not_reached request bytes (NotRun root) line w s l e h = absurd (begins 115 110 w _ _ refl (ap (take w) (sym l) ∙ e))
 only_not_reached request bytes Verified line w s l e h = absurd (begins 118 110 w _ _ refl (ap (take w) (sym l) ∙ e))
 only_not_reached request bytes (Certified text) line w s l e h = absurd (begins 104 110 w _ _ refl (ap (take w) (sym (l ∙ h.told.text_is)) ∙ e))
 only_not_reached request bytes (Refused text) line w s l e h = absurd (unlike (members h.contents) h.told.reason 110 w s refl refl refl refl refl (ap (take w) (sym (l ∙ h.told.told.1)) ∙ e))
@@ -272,7 +309,8 @@ only_not_reached request bytes OutOfMemory line w s l e h = absurd (begins 102 1
 -- only that of an overlap with an o,
 only_overlaps : OverlapsShown → (request : Request) (bytes : List ℕ) (r : Report) (line : List ℕ) (w : ℕ) (s : List ℕ) → IsText r line → take w line ≡ 111 ∷ s → Holds request bytes r → SpellsUnsafe bytes
 only_overlaps shown request bytes Safe line w s l e h = absurd (begins 115 111 w _ _ refl (ap (take w) (sym l) ∙ e))
-only_overlaps shown request bytes (SafeWithState S) line w s l e h = absurd (begins 115 111 w _ _ refl (ap (take w) (sym l) ∙ e))
+only_overlaps shown request bytes (Ran r) line w s l e h = absurd (begins 115 111 w _ _ refl (ap (take w) (sym l) ∙ e))
+only_overlaps shown request bytes (NotRun root) line w s l e h = absurd (begins 115 111 w _ _ refl (ap (take w) (sym l) ∙ e))
 only_overlaps shown request bytes Verified line w s l e h = absurd (begins 118 111 w _ _ refl (ap (take w) (sym l) ∙ e))
 only_overlaps shown request bytes (Certified text) line w s l e h = absurd (begins 104 111 w _ _ refl (ap (take w) (sym (l ∙ h.told.text_is)) ∙ e))
 only_overlaps shown request bytes (Refused text) line w s l e h = record { contents = h.contents; spelled = h.spelled; unsafe = only_overlap shown h.told.of_set h.contents h.told.reason w s h.told.refused (ap (take w) (sym (l ∙ h.told.told.1)) ∙ e) }
@@ -288,7 +326,8 @@ only_overlaps shown request bytes OutOfMemory line w s l e h = absurd (begins 10
 -- and only that of a breach with a b.
 only_breaches : BreachesShown → (request : Request) (bytes : List ℕ) (r : Report) (line : List ℕ) (w : ℕ) (s : List ℕ) → IsText r line → take w line ≡ 98 ∷ s → Holds request bytes r → SpellsUnsafe bytes
 only_breaches shown request bytes Safe line w s l e h = absurd (begins 115 98 w _ _ refl (ap (take w) (sym l) ∙ e))
-only_breaches shown request bytes (SafeWithState S) line w s l e h = absurd (begins 115 98 w _ _ refl (ap (take w) (sym l) ∙ e))
+only_breaches shown request bytes (Ran r) line w s l e h = absurd (begins 115 98 w _ _ refl (ap (take w) (sym l) ∙ e))
+only_breaches shown request bytes (NotRun root) line w s l e h = absurd (begins 115 98 w _ _ refl (ap (take w) (sym l) ∙ e))
 only_breaches shown request bytes Verified line w s l e h = absurd (begins 118 98 w _ _ refl (ap (take w) (sym l) ∙ e))
 only_breaches shown request bytes (Certified text) line w s l e h = absurd (begins 104 98 w _ _ refl (ap (take w) (sym (l ∙ h.told.text_is)) ∙ e))
 only_breaches shown request bytes (Refused text) line w s l e h = record { contents = h.contents; spelled = h.spelled; unsafe = only_breach shown h.told.of_set h.contents h.told.reason w s h.told.refused (ap (take w) (sym (l ∙ h.told.told.1)) ∙ e) }
@@ -313,9 +352,10 @@ module _ (request : Request) (remaining old new : Option (List ℕ)) (read_faile
   held a e = subst (λ r. IfSome r (λ bs. Holds request bs a.report)) e a.holds
 
   safe-written : (text : List ℕ) → Answers request remaining old new read_failed write_failed status → remaining ≡ Some bytes → old ≡ Some before
-      → new ≡ Some (before ++ (codes "safe\n" ++ text)) → SpellsSafe (Some request) bytes text write_failed
+      → new ≡ Some (before ++ (codes "safe\n" ++ text)) → SpellsSafe (Some request) bytes text write_failed status
   safe-written text a e f g =
-      only_safe request bytes a.report a.text a.writes.written text write_failed a.is_text (appended old new before _ _ a.writes.appends f g) a.writes.whole (held a e)
+      only_safe request bytes a.report a.text a.writes.written text write_failed status a.is_text (appended old new before _ _ a.writes.appends f g) a.writes.whole a.writes.status_is
+      (held a e)
 
   verified-written : (text : List ℕ) → Answers request remaining old new read_failed write_failed status → remaining ≡ Some bytes → old ≡ Some before
       → new ≡ Some (before ++ (codes "verified\n" ++ text)) → SpellsVerified (Some request) bytes
@@ -353,9 +393,14 @@ nothing-written old new status before text x a d f g = go a.writes
     go (inl k) = omega (arith, ap length (kept k), length-append before (x ∷ text))
     go (inr w) = begins 102 x w.0 _ text d (appended old new before _ _ w.1 f g)
 
-status-le : (r : Report) → status_of r ≤ 2
+ends-le : (finished : Bool) → cond finished 0 3 ≤ 3
+ends-le true = omega arith
+ends-le false = omega arith
+
+status-le : (r : Report) → status_of r ≤ 3
 status-le Safe = omega arith
-status-le (SafeWithState S) = omega arith
+status-le (Ran r) = ends-le r.finished
+status-le (NotRun root) = omega arith
 status-le Verified = omega arith
 status-le (Certified t) = omega arith
 status-le (Refused t) = omega arith
@@ -368,7 +413,7 @@ status-le (BadBundle f) = omega arith
 status-le (BadSection f) = omega arith
 status-le OutOfMemory = omega arith
 
-written-le : (failed : Bool) (status result : ℕ) → status ≤ 2 → result ≡ cond failed 2 status → result ≤ 2
+written-le : (failed : Bool) (status result : ℕ) → status ≤ 3 → result ≡ cond failed 2 status → result ≤ 3
 written-le true status result l e = omega (arith, e)
 written-le false status result l e = omega (arith, e, l)
 

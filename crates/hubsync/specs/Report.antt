@@ -25,36 +25,32 @@ use Rattle.hubsync.specs.declared.sections.Contents.{Contents}
 use Rattle.hubsync.specs.declared.sections.SectionFault.{SectionFault}
 use Rattle.hubsync.specs.declared.sections.SectionFault.TheVariants.{OfProfile, OfRules, OfState, OfCertificates}
 use Rattle.hubsync.specs.declared.report.Report.{Report}
-use Rattle.hubsync.specs.declared.report.Report.TheVariants.{Safe, SafeWithState, Verified, Certified, Refused, Reached, NotReached, NoProfile, BadPath, Unread, BadBundle, BadSection, OutOfMemory}
+use Rattle.hubsync.specs.declared.report.Report.TheVariants.{Safe, Ran, NotRun, Verified, Certified, Refused, Reached, NotReached, NoProfile, BadPath, Unread, BadBundle, BadSection, OutOfMemory}
+use Rattle.hubsync.specs.declared.run.Run.{Run}
 use Rattle.hubsync.specs.declared.words.Question.{Question}
 use Rattle.hubsync.specs.declared.words.Question.TheVariants.{CheckWithState, Check, Certify, Verify}
 use Rattle.hubsync.specs.Bundle.{bundle_reading}
 use Rattle.hubsync.specs.Input.{says_failed}
 use Rattle.hubsync.specs.Reached.{named}
+use Rattle.hubsync.specs.Runs.{HasRun, IsBelow, Lacks, missing_line}
 use Rattle.hubsync.specs.Refusal.{refusal_line}
 use Rattle.hubsync.specs.Sections.{Spells, HasFault, members}
 use Rattle.hubsync.specs.Words.{Request}
 use Rattle.hubsync.specs.Words as question
 
--- What is written below `safe`: the text of the bundle's state, if the words ask for it and there is one.
-abbrev pub text_below : Question → Option State → List ℕ
-text_below CheckWithState None = []
-text_below CheckWithState (Some S) = state_text S
-text_below Check state = []
-text_below Certify state = []
-text_below Verify state = []
-
 -- The bytes are a bundle whose profiles and rules are a safe set, and this text is what is to follow `safe`: all of it,
 -- unless a call of the output failed, and then a prefix.
-pub record SpellsSafe (asked : Option Request) (bytes text : List ℕ) (failed : Bool) : Type 0 where
+pub record SpellsSafe (asked : Option Request) (bytes text : List ℕ) (failed : Bool) (status : ℕ) : Type 0 where
   pub of_set : Question
   pub is_asked : asked ≡ Some (question.about of_set)
   pub contents : Contents
   pub spelled : Spells bytes contents
   pub safe : IsSafeSet (members contents)
+  pub below : List ℕ
+  pub below_is : IsBelow of_set (members contents) contents.state status below
   pub written : ℕ
-  pub text_is : text ≡ take written (text_below of_set contents.state)
-  pub whole : failed ≡ false → text ≡ text_below of_set contents.state
+  pub text_is : text ≡ take written below
+  pub whole : failed ≡ false → text ≡ below
 
 -- The bytes are a bundle whose profiles and rules aren't.
 pub record SpellsUnsafe (bytes : List ℕ) : Type 0 where
@@ -106,7 +102,8 @@ FaultOf Verify S cs e = Refuses S cs e
 -- A set is refused for that fault, by the fault's line. Out of memory is told by itself.
 abbrev pub IsRefusal : Members → CheckFault → Report → Type 0
 IsRefusal S e Safe = ⊥
-IsRefusal S e (SafeWithState state) = ⊥
+IsRefusal S e (Ran r) = ⊥
+IsRefusal S e (NotRun root) = ⊥
 IsRefusal S e Verified = ⊥
 IsRefusal S e (Certified t) = ⊥
 IsRefusal S e (Refused t) = (e ≢ fault.OutOfMemory) × (string_bytes t ≡ refusal_line S e)
@@ -119,14 +116,15 @@ IsRefusal S e (BadBundle f) = ⊥
 IsRefusal S e (BadSection f) = ⊥
 IsRefusal S e OutOfMemory = ⊤
 
--- The question is whether the set is safe, and no state is to be written: it isn't asked for, or there is none.
+-- The question is whether the set is safe, and no jobs are to be run: that isn't asked for, or there is no state.
 abbrev pub AsksNoState : Question → Option State → Type 0
 AsksNoState q state = (q ≡ Check) ⊎ ((q ≡ CheckWithState) × (state ≡ None))
 
 -- What holds of a set that was made, and of the bundle's certificates and its state, where a question is answered so.
 abbrev pub IsToldOfSet : Question → Members → List Certificate → Option State → Report → Type 0
 IsToldOfSet q S cs state Safe = AsksNoState q state × IsSafeSet S
-IsToldOfSet q S cs state (SafeWithState own) = (q ≡ CheckWithState) × (state ≡ Some own) × IsSafeSet S
+IsToldOfSet q S cs state (Ran r) = (q ≡ CheckWithState) × IsSafeSet S × HasRun S state r
+IsToldOfSet q S cs state (NotRun root) = (q ≡ CheckWithState) × IsSafeSet S × Lacks S state root
 IsToldOfSet q S cs state Verified = (q ≡ Verify) × AreCertificates S cs × IsSafeSet S
 IsToldOfSet q S cs state (Certified t) = (q ≡ Certify) × ((own : List Certificate) × AreCertificates S own × (string_bytes t ≡ certificates_text own))
 IsToldOfSet q S cs state (Refused t) = (e : CheckFault) × FaultOf q S cs e × IsRefusal S e (Refused t)
@@ -158,23 +156,30 @@ pub record IsToldCertified (request : Request) (c : Contents) (text : List ℕ) 
   pub inductive : AreCertificates (members c) certificates
   pub text_is : text ≡ certificates_text certificates
 
--- It was asked whether the set is safe, which it is, and no state is to be written.
+-- It was asked whether the set is safe, which it is, and no jobs are to be run.
 pub record IsToldSafe (request : Request) (c : Contents) : Type 0 where
   pub of_set : Question
   pub asked : request ≡ question.about of_set
   pub stateless : AsksNoState of_set c.state
   pub safe : IsSafeSet (members c)
 
--- The words name no command, the set is safe, and this is the bundle's state.
-pub record IsToldWithState (request : Request) (c : Contents) (S : State) : Type 0 where
+-- The words name no command, the set is safe, and its jobs were run on the bundle's state,
+pub record IsToldRun (request : Request) (c : Contents) (r : Run) : Type 0 where
   pub asked : request ≡ question.about CheckWithState
-  pub state_is : c.state ≡ Some S
   pub safe : IsSafeSet (members c)
+  pub run : HasRun (members c) c.state r
+
+-- or weren't, since that has no replica of a root.
+pub record IsToldLacking (request : Request) (c : Contents) (root : Path) : Type 0 where
+  pub asked : request ≡ question.about CheckWithState
+  pub safe : IsSafeSet (members c)
+  pub lacks : Lacks (members c) c.state root
 
 -- What holds of the question and of what the bundle says where the program answers so to a bundle that was read.
 abbrev pub IsTold : Request → Contents → Report → Type 0
 IsTold request c Safe = IsToldSafe request c
-IsTold request c (SafeWithState S) = IsToldWithState request c S
+IsTold request c (Ran r) = IsToldRun request c r
+IsTold request c (NotRun root) = IsToldLacking request c root
 IsTold request c Verified = (request ≡ question.about Verify) × AreCertificates (members c) c.certificates × IsSafeSet (members c)
 IsTold request c (Certified t) = IsToldCertified request c (string_bytes t)
 IsTold request c (Refused t) = IsToldRefused request c (Refused t)
@@ -202,7 +207,8 @@ IsUnread bytes input.OutOfMemory = ⊤
 -- What holds of the question and the input where the program answers so.
 abbrev pub Holds : Request → List ℕ → Report → Type 0
 Holds request bytes Safe = IsTrueOf request bytes Safe
-Holds request bytes (SafeWithState S) = IsTrueOf request bytes (SafeWithState S)
+Holds request bytes (Ran r) = IsTrueOf request bytes (Ran r)
+Holds request bytes (NotRun root) = IsTrueOf request bytes (NotRun root)
 Holds request bytes Verified = IsTrueOf request bytes Verified
 Holds request bytes (Certified t) = IsTrueOf request bytes (Certified t)
 Holds request bytes (Refused t) = IsTrueOf request bytes (Refused t)
@@ -253,10 +259,12 @@ section_place (OfRules f) = rules_place f.line
 section_place (OfState f) = state_place f.line
 section_place (OfCertificates line) = certificates_place line
 
--- The text that says an answer: its line, the certificates' text, or `safe` and below it the text of the state.
+-- The text that says an answer: its line, the certificates' text, or `safe` and below it what the jobs did and the text of
+-- the state that they left.
 abbrev pub IsText : Report → List ℕ → Type 0
 IsText Safe t = t ≡ codes "safe\n"
-IsText (SafeWithState S) t = t ≡ codes "safe\n" ++ state_text S
+IsText (Ran r) t = t ≡ codes "safe\n" ++ (string_bytes r.lines ++ state_text r.state)
+IsText (NotRun root) t = t ≡ codes "safe\n" ++ missing_line root
 IsText Verified t = t ≡ codes "verified\n"
 IsText (Certified text) t = t ≡ string_bytes text
 IsText (Refused line) t = t ≡ string_bytes line
@@ -272,7 +280,8 @@ IsText OutOfMemory t = t ≡ codes "fault: out of memory\n"
 -- The status of an answer that was written whole.
 abbrev pub status_of : Report → ℕ
 status_of Safe = 0
-status_of (SafeWithState S) = 0
+status_of (Ran r) = if r.finished then 0 else 3
+status_of (NotRun root) = 3
 status_of Verified = 0
 status_of (Certified t) = 0
 status_of (Refused t) = 1
@@ -288,7 +297,8 @@ status_of OutOfMemory = 2
 -- The answer says that a read of the input failed.
 abbrev pub says_read_failed : Report → Bool
 says_read_failed Safe = false
-says_read_failed (SafeWithState S) = false
+says_read_failed (Ran r) = false
+says_read_failed (NotRun root) = false
 says_read_failed Verified = false
 says_read_failed (Certified t) = false
 says_read_failed (Refused t) = false
@@ -327,12 +337,12 @@ pub record Answers (request : Request) (remaining old new : Option (List ℕ)) (
 -- What the program does for the words that ask for this, or for nothing: an input and an output before and after, whether
 -- a call of each failed, and the status.
 pub record Serves (asked : Option Request) (remaining old new : Option (List ℕ)) (read_failed write_failed : Bool) (status : ℕ) : Type 0 where
-  pub few : status ≤ 2
+  pub few : status ≤ 3
   pub nothing : asked ≡ None → AnswersNothing old new status
   pub answer : (request : Request) → asked ≡ Some request → Answers request remaining old new read_failed write_failed status
-  -- `safe` is written only if the input spells a safe set, and what follows it is the text of the input's state,
+  -- `safe` is written only if the input spells a safe set, and what follows it is what its jobs leave of the input's state,
   pub safe : (bytes before text : List ℕ) → remaining ≡ Some bytes → old ≡ Some before
-      → new ≡ Some (before ++ (codes "safe\n" ++ text)) → SpellsSafe asked bytes text write_failed
+      → new ≡ Some (before ++ (codes "safe\n" ++ text)) → SpellsSafe asked bytes text write_failed status
   -- `verified` only if the words ask for `verify`, and the input's certificates show that the set that it spells is safe,
   pub verified : (bytes before text : List ℕ) → remaining ≡ Some bytes → old ≡ Some before
       → new ≡ Some (before ++ (codes "verified\n" ++ text)) → SpellsVerified asked bytes

@@ -1,5 +1,5 @@
 //! The program: reads a bundle of profiles and rules on standard input, and says on standard output whether the profiles
-//! may run at the same time and keep the rules.
+//! may run at the same time and keep the rules. If the bundle has a state, it runs the jobs of a safe set on it.
 //!
 //! - [`serve_process`] does all that the process does between its arguments and its exit status, over any reader and
 //!   writer; its contract uses the words of `specs/Report.antt`.
@@ -7,7 +7,9 @@
 //!   reads them (`sections`).
 //! - Then it makes the set of the profiles and rules, and checks it or verifies its certificates (`verdict`), or asks one
 //!   profile whether it reaches a path (`reach`).
-//! - The answer (`answer`, `report`, `refusal`) is written as one line, or as the certificates' text.
+//! - The jobs of a safe set are run on the bundle's state (`run`).
+//! - The answer (`answer`, `report`, `refusal`) is written as one line, as the certificates' text, or as `safe` and below it
+//!   what the jobs did and the state that they left.
 //!
 //! Only functions that return a `Result` or write an answer allocate.
 #![tactic(auto)]
@@ -20,6 +22,7 @@ mod parts;
 mod reach;
 mod refusal;
 mod report;
+mod run;
 mod sections;
 mod serve;
 mod verdict;

@@ -1,16 +1,18 @@
 //! An answer to an input: its status and its text.
-ghost use Rattle.std.specs.Prelude.{◌≡◌, ◌∷◌, [], ◌++◌, codes, IfOk};
+ghost use Rattle.std.specs.Prelude.{◌≡◌, ◌∷◌, [], ◌++◌, codes, string_bytes, IfOk};
 ghost use Rattle.std.specs.List.{flat_map};
 ghost use Rattle.hub_state.specs.Writing.{state_text};
 ghost use Rattle.hubsync.specs.Report as report;
+ghost use Rattle.hubsync.specs.Runs as runs;
 
 use crate::bundle::BundleLineFault;
 use crate::input::InputFault;
 use crate::parts::joined;
+use crate::run::Run;
 use crate::sections::SectionFault;
-use hub_path::{Name, PathFault};
+use hub_path::{Name, PathFault, Root};
 use hub_profile::ProfileFault;
-use hub_state::{State, StateFault, write_state};
+use hub_state::{StateFault, write_state};
 use hub_text::Watched;
 use std::alloc::{AllocError, Global};
 use std::collections::VecDeque;
@@ -24,8 +26,10 @@ pub const OUT_OF_MEMORY: &str = "fault: out of memory\n";
 pub enum Report<'a> {
     /// The profiles may run at the same time.
     Safe,
-    /// The profiles may run at the same time. The bundle's state is written too.
-    SafeWithState(State),
+    /// The profiles may run at the same time, and their jobs were run on the bundle's state.
+    Ran(Run),
+    /// The profiles may run at the same time. The bundle's state has no replica of this root.
+    NotRun(Root),
     /// The bundle's certificates show that they may.
     Verified,
     /// The text of certificates that they may.
@@ -51,17 +55,19 @@ pub enum Report<'a> {
 }
 
 impl Report<'_> {
-    /// The exit status: 0 if the set is safe and for both answers to `reach`, 1 for a refusal, 2 for a fault.
+    /// The exit status: 0 if the set is safe and for both answers to `reach`, 1 for a refusal, 2 for a fault, 3 if a replica
+    /// is missing or a job was stopped.
     pub fn status(&self) -> u8
         ensures { result ≡ report.status_of self.now }
     {
         match self {
             Report::Safe
-            | Report::SafeWithState(_)
             | Report::Verified
             | Report::Certified(_)
             | Report::Reached
             | Report::NotReached => 0,
+            Report::Ran(run) => { if run.finished { 0 } else { 3 } }
+            Report::NotRun(_) => 3,
             Report::Refused(_) => 1,
             Report::NoProfile(_)
             | Report::BadPath(_)
@@ -72,14 +78,15 @@ impl Report<'_> {
         }
     }
 
-    /// The text that says the answer: its line, the certificates' text, or `safe` and below it the text of the state. It
-    /// ends with LF.
+    /// The text that says the answer: its line, the certificates' text, or `safe` and below it what the jobs did and the
+    /// text of the state that they left. It ends with LF.
     pub fn into_text(self, alloc: Global) -> Result<Vec<u8>, AllocError>
         ensures { IfOk result (λ t. report.IsText self.entry t.items) }
     {
         match self {
             Report::Safe => bytes_of(alloc, "safe\n"),
-            Report::SafeWithState(state) => text_with_state(alloc, state),
+            Report::Ran(run) => text_of_run(alloc, run),
+            Report::NotRun(root) => missing_line(alloc, &root),
             Report::Verified => bytes_of(alloc, "verified\n"),
             Report::Certified(text) | Report::Refused(text) => Ok(text.into_bytes()),
             Report::Reached => bytes_of(alloc, "reached\n"),
@@ -106,10 +113,12 @@ fn bytes_of(alloc: Global, text: &str) -> Result<Vec<u8>, AllocError>
     Vec::from_slice(alloc, text.as_bytes())
 }
 
-/// `safe`, and below it the text of the state.
-fn text_with_state(alloc: Global, state: State) -> Result<Vec<u8>, AllocError>
-    ensures { IfOk result (λ t. t.items ≡ codes "safe\n" ++ state_text state) }
+/// `safe`, and below it what the jobs did and the text of the state that they left.
+fn text_of_run(alloc: Global, run: Run) -> Result<Vec<u8>, AllocError>
+    ensures { IfOk result (λ t. t.items
+        ≡ codes "safe\n" ++ (string_bytes run.lines ++ state_text run.state)) }
 {
+    let Run { lines, state, .. } = run;
     // a watched writer keeps its device, so the text is read out of it
     let mut queue = Watched::new(VecDeque::new(alloc));
     if write_state(alloc, &mut queue, &state).is_err() {
@@ -117,10 +126,19 @@ fn text_with_state(alloc: Global, state: State) -> Result<Vec<u8>, AllocError>
     }
     drop(state);
     let mut text = bytes_of(alloc, "safe\n")?;
+    text.extend_from_slice(lines.as_bytes())?;
     if queue.read_to_end(&mut text).is_err() {
         return Err(AllocError);
     }
     Ok(text)
+}
+
+/// `safe`, and below it the line that a root's replica is missing.
+fn missing_line(alloc: Global, root: &Root) -> Result<Vec<u8>, AllocError>
+    ensures { IfOk result (λ t. t.items ≡ codes "safe\n" ++ runs.missing_line root.now) }
+{
+    let parts = ["safe\n", "run fault: MissingReplica ", root.as_str(), "\n"];
+    Ok(joined(alloc, &parts)?.into_bytes())
 }
 
 /// The line that no profile has that name.

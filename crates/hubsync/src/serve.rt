@@ -43,13 +43,15 @@ pub fn serve_process<T: AllocGlobal + Eprint, R: Read, W: Write>(
 }
 
 /// Does what the words on the command line ask for: reads all of the input, and writes one line, certificates, or `safe`
-/// and the text of the bundle's state.
+/// and below it what the jobs did and the text of the state that they left.
 ///
 /// The first word is the program's name. The status is
-/// - 0 if the profiles and rules of the bundle are a safe set, and for both answers to `reach`;
+/// - 0 if the profiles and rules of the bundle are a safe set, and each job that was run is finished; and for both answers
+///   to `reach`;
 /// - 1 if they are refused;
 /// - 2 for a fault, if a write or the flush of the output failed, and if the words ask for nothing. In the last case the
-///   input isn't read, and `clap`'s text goes to standard error: help, the version, or what is wrong with the words.
+///   input isn't read, and `clap`'s text goes to standard error: help, the version, or what is wrong with the words;
+/// - 3 if a job was stopped, or the bundle's state has no replica of a root.
 ///
 /// `Serves` says what is written. What it says of bytes holds for readers and writers whose bytes a contract can name.
 pub fn serve<'a, S: AsStr, T: AllocGlobal + Eprint, R: Read, W: Write>(

@@ -1,16 +1,18 @@
 //! Answers about the set of a bundle's profiles and rules.
-ghost use Rattle.std.specs.Prelude.{◌≡◌, ◌⊎◌, false, IfOk, IfErr, MatchOption, OnOk};
+ghost use Rattle.std.specs.Prelude.{◌≡◌, ◌⊎◌, List, false, IfOk, IfErr, OnOk};
 ghost use Rattle.hub_cert.specs.Set.{Members, IsSafeSet};
 ghost use Rattle.hub_cert.specs.Refused.{IsRefused};
+ghost use Rattle.hub_cert.specs.declared.certificate.Certificate.{Certificate};
 ghost use Rattle.hub_search.specs.Search.{IsFirstFault};
 ghost use Rattle.hubsync.specs.Report as report;
 ghost use Rattle.hubsync.specs.Words.{about};
 
 use crate::refusal::fault_line;
 use crate::report::Report;
+use crate::run::run_set;
 use crate::sections::Contents;
 use crate::words::Question;
-use hub_cert::{Certificate, CheckFault, ProfileSet, verify, write_certificates};
+use hub_cert::{Certificate, CheckFault, ProfileSet, Verified, verify, write_certificates};
 use hub_search::{certificates, check};
 use hub_state::State;
 use std::alloc::Global;
@@ -63,8 +65,8 @@ fn answer<'a>(
 {
     match question {
         Question::CheckWithState => {
-            check_safe(alloc, set)?;
-            Ok(safe_with(state))
+            let verified = check(alloc, set)?;
+            Ok(report_on_safe(alloc, &verified, state))
         }
         Question::Check => {
             check_safe(alloc, set)?;
@@ -82,12 +84,16 @@ fn answer<'a>(
     }
 }
 
-/// The answer for a safe set, with its bundle's state if there is one.
-fn safe_with<'a>(state: Option<State>) -> Report<'a>
-    ensures { MatchOption state (result ≡ Report.Safe) (λ s. result ≡ Report.SafeWithState s) }
+/// The answer for a safe set: its jobs are run, if there is a state.
+fn report_on_safe<'a>(alloc: Global, verified: &Verified<'_>, state: Option<State>) -> Report<'a>
+    ensures told { (cs : List Certificate) → report.IsToldOfSet Question.CheckWithState verified.now
+        cs state result }
+    ensures read { report.says_read_failed result ≡ false }
 {
+    // The type of the set says that it is safe.
+    let _ = verified.set();
     match state {
-        Some(state) => Report::SafeWithState(state),
+        Some(state) => run_set(alloc, verified, &state),
         None => Report::Safe,
     }
 }

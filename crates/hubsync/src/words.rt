@@ -19,7 +19,7 @@ const VERSION: &str = "0.1.0";
 const ABOUT: &str =
     "Reads profiles of Unison on standard input, and says whether they may run at the same time";
 
-/// A small bundle, and the statuses.
+/// A small bundle, the lines of the answer, and the statuses.
 const AFTER_HELP: &str = "\
 The input is a bundle of profiles, each after a line with its name:
 
@@ -38,21 +38,30 @@ A section '%rules' may say what no profile may do at a root:
   root = /srv/hub
   nolose = BelowPath docs/archive
 
-A section '%state' may say what the replicas hold; without a command it is written below 'safe'. For 'verify', a line
-'%certificates' and the text that 'certify' wrote are part of the bundle too.
+A section '%state' may say what the replicas hold. Without a command, the jobs of a safe set are then run on it. For
+'verify', a line '%certificates' and the text that 'certify' wrote are part of the bundle too.
 
 The output is one line: 'safe', 'verified', 'overlap: ..', 'breach: ..', 'too large: ..', 'refused: ..', 'reached',
 'not reached' or 'fault: ..'. 'certify' writes the text of the certificates in the place of 'safe'.
 
+If the jobs are run, these lines stand below 'safe', for the profiles in their order, and then the new state:
+
+  job docs finished              or stopped: it found no memory
+  to /srv/laptop docs/notes      an item of a finished job, with the root that it went to
+  skip Conflict docs/plan        or Barred, Blocked, NoParent: it stays as it is
+
+If the state has no replica of a root, 'run fault: MissingReplica ..' stands there alone.
+
 Exit status:
-  0  safe, verified, certificates, reached or not reached
+  0  safe and no job stopped, verified, certificates, reached or not reached
   1  the profiles may not run at the same time, or may break a rule, or that they are safe was not shown
-  2  a fault of the input or of the command line, or a failed output; help and version too";
+  2  a fault of the input or of the command line, or a failed output; help and version too
+  3  a job was stopped, or a replica is missing";
 
 /// What the words may ask about the set of a bundle's profiles and rules.
 #[derive(Clone, Copy, Debug, PartialEq, Eq)]
 pub enum Question {
-    /// Whether the set is safe; and if it is, the bundle's state.
+    /// Whether the set is safe; and if it is and the bundle has a state, what its jobs do and leave.
     CheckWithState,
     /// Whether the set is safe.
     Check,
@@ -78,7 +87,8 @@ pub enum Asked<'a> {
 
 /// Reads the words, of which the first is the program's name.
 ///
-/// `check`, `certify` and `verify` ask about the set. Without a command the words ask for the check and for the state.
+/// `check`, `certify` and `verify` ask about the set. Without a command the words ask for the check, and for a run of the
+/// jobs on the bundle's state.
 /// `reach PROFILE PATH` takes any two operands, also the empty word and `-`. An operand that begins with `-` and is longer
 /// needs `--` before it.
 ///
@@ -144,7 +154,7 @@ fn command<'a>(alloc: Global) -> Result<Command<'a>, AllocError>
         .help("A path below the roots, as docs/notes.txt; put -- before a word that begins with -")
         .required(true);
     let check = Command::new(alloc, "check").about(
-        "Says whether the profiles may run at the same time, and leaves the state out",
+        "Says whether the profiles may run at the same time, and runs no jobs",
     );
     let certify = Command::new(alloc, "certify").about(
         "Writes certificates, which show that the profiles may run at the same time",

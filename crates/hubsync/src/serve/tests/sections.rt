@@ -53,17 +53,28 @@ fn sections_are_read_in_order(rt: HostRuntime) -> Result<(), Fail> {
 }
 
 /// What follows the sections of two profiles that overlap nowhere; what is asked; and the answer.
-static STATES: [(&str, &[&str], &str); 14] = [
+static STATES: [(&str, &[&str], &str); 16] = [
     (
         "%state\nhubsync state 1\nend\n",
         &["hubsync"],
-        "0 safe\nhubsync state 1\nend\n",
+        "3 safe\nrun fault: MissingReplica /srv/hub\n",
     ),
-    // written in the one order, and with digits in lower case
+    (
+        "%state\nhubsync state 1\nreplica /srv/hub\nend\n",
+        &["hubsync"],
+        "3 safe\nrun fault: MissingReplica /srv/s1\n",
+    ),
+    // the file `a` was deleted at the hub
+    (
+        "%state\nhubsync state 1\nreplica /srv/hub\nreplica /srv/s1\nfile 61 a\narchive /srv/hub\nwith /srv/s1\nfile ca978112ca1bbdcafac231b39a23dc4da786eff8147c4e72b9807785afee48bb a\nend\n",
+        &["hubsync"],
+        "0 safe\njob a finished\nto /srv/s1 a\njob b finished\nhubsync state 1\nreplica /srv/hub\nreplica /srv/s1\narchive /srv/hub\nwith /srv/s1\nend\n",
+    ),
+    // the new state is written in the one order, and with digits in lower case
     (
         "%state\nhubsync state 1\nreplica /srv/s1/\nfile 4A a\nreplica /srv/hub\ndir b\ndir a\nend",
         &["hubsync"],
-        "0 safe\nhubsync state 1\nreplica /srv/hub\ndir a\ndir b\nreplica /srv/s1\nfile 4a a\nend\n",
+        "0 safe\njob a finished\nskip Conflict a\njob b finished\nto /srv/s1 b\nhubsync state 1\nreplica /srv/hub\ndir a\ndir b\nreplica /srv/s1\nfile 4a a\ndir b\narchive /srv/hub\nwith /srv/s1\ndir b\nend\n",
     ),
     (
         "%state\nhubsync state 1\nreplica /srv/hub\ndir a\nend\n",
@@ -130,7 +141,7 @@ static STATES: [(&str, &[&str], &str); 14] = [
 ];
 
 #[test]
-fn the_state_of_a_safe_set_is_written(rt: HostRuntime) -> Result<(), Fail> {
+fn the_jobs_of_a_safe_set_are_run(rt: HostRuntime) -> Result<(), Fail> {
     for (sections, words, want) in &STATES {
         let mut text = bundle(rt.alloc(), &[("a", "path = a"), ("b", "path = b")])?;
         text.push_str(sections)?;
@@ -141,7 +152,7 @@ fn the_state_of_a_safe_set_is_written(rt: HostRuntime) -> Result<(), Fail> {
 }
 
 #[test]
-fn a_state_is_written_without_profiles(rt: HostRuntime) -> Result<(), Fail> {
+fn a_state_without_profiles_stays(rt: HostRuntime) -> Result<(), Fail> {
     let state = "hubsync state 1\nreplica /\nend\n";
     let text = format!(in rt.alloc(); "%state\n{state}")?;
     let want = format!(in rt.alloc(); "0 safe\n{state}")?;

@@ -1,0 +1,235 @@
+-- The jobs and the replicas of a world at its end are an outcome of it.
+use Rattle.std.proofs.Common.{◌≡◌, ◌≢◌, ◌+◌, ◌⊎◌, inl, inr, Bool, true, false, cond, ◌||◌, List, [], ◌∷◌, length, map, Some, None, refl, ap, sym, ◌∙◌, subst, arith}
+use Rattle.std.specs.Prelude.{ℕ, zero, suc, IsTrue, slice_get, find, fold, is_some, unwrap_or, if◌then◌else◌}
+use Rattle.std.specs.List.{list_any, range_with_len}
+use Rattle.std.specs.FinMap as fin
+use Rattle.std.proofs.lemmas.List.{length-map}
+use Rattle.std.proofs.lemmas.Bool.{false≢true, or_cases, false_from_ne_true}
+use Rattle.hub_path.specs.Path.{Path, path_eq, is_place}
+use Rattle.hub_path.specs.declared.side.Side.{Side}
+use Rattle.hub_path.specs.declared.side.Side.TheVariants.{Left, Right}
+use Rattle.hub_profile.specs.Parts.{Parts, IsProfile, at_side, some_passes}
+use Rattle.hub_reach.specs.Reach.{has_root}
+use Rattle.hub_tree.specs.Tree.{Replica, Archive, old_mark_at}
+use Rattle.hub_reconcile.specs.Items.{items}
+use Rattle.hub_reconcile.specs.Sync.{root_or_top, next_archive}
+use Rattle.hub_state.specs.State.{State, replica_at, with_replica, root_text, pair_of}
+use Rattle.hub_state.proofs.ByRoot.{replica_put}
+use Rattle.hub_schedule.specs.declared.ends.NextArchive.{NextArchive}
+use Rattle.hub_job.specs.declared.job_end.End.{End}
+use Rattle.hub_job.specs.declared.job_end.End.TheVariants as end
+use Rattle.hub_job.specs.declared.job_end.JobEnd.{JobEnd}
+use Rattle.hub_job.specs.declared.outcome.Outcome.{Outcome}
+use Rattle.hub_schedule.specs.declared.seat.Seat.{Seat}
+use Rattle.hub_schedule.specs.declared.seat.WorkingTree.{WorkingTree}
+use Rattle.hub_job.specs.Ends.{end_by, is_finished, end_of}
+use Rattle.hub_job.specs.Job.{next, view_in}
+use Rattle.hub_schedule.specs.Left.{end_value, next_value, put_tree, mark_in, mark_from, HasMarks}
+use Rattle.hub_job.specs.Outcome as outcome
+use Rattle.hub_job.specs.Outcome.{jobs_of}
+use Rattle.hub_schedule.specs.Promise.{HasReplicas}
+use Rattle.hub_job.specs.Run.{root_at}
+use Rattle.hub_schedule.specs.Settled.{AreProfiles}
+use Rattle.hub_schedule.specs.Table.{place_on, stopped_at, IsPlaced, IsTable, IsThinned}
+use Rattle.hub_job.specs.World.{World, log_of, opening}
+use Rattle.hub_job.proofs.Blind.{same_path, path_itself}
+use Rattle.hub_job.proofs.InWorld.{two_roots}
+use Rattle.hub_schedule.proofs.NextMarks.{IsNextOf, find_marks}
+use Rattle.hub_schedule.proofs.Promised.{listed, one_with, root_place}
+use Rattle.hub_schedule.proofs.Tables.{one_value}
+
+-- Lists.
+pub map_get : {X Y : Type 0} (f : X → Y) (xs : List X) (j : ℕ) (y : Y) → slice_get (map f xs) j ≡ Some y → (x : X) × (slice_get xs j ≡ Some x) × (y ≡ f x)
+map_get f [] j y e = cc
+map_get f (x ∷ xs) zero y e = (x, refl, sym (one_value (f x) y e))
+map_get f (x ∷ xs) (suc j) y e = map_get f xs j y e
+
+map_at : {X Y : Type 0} (f : X → Y) (xs : List X) (j : ℕ) (x : X) → slice_get xs j ≡ Some x → slice_get (map f xs) j ≡ Some (f x)
+map_at f [] j x e = cc
+map_at f (y ∷ xs) zero x e = ap (λ z. Some z) (ap f (one_value y x e))
+map_at f (y ∷ xs) (suc j) x e = map_at f xs j x e
+
+pub as_long : {X Y : Type 0} (xs : List X) (ys : List Y) (j : ℕ) (y : Y) → length xs ≡ length ys → slice_get ys j ≡ Some y → (x : X) × (slice_get xs j ≡ Some x)
+as_long [] [] j y e h = cc
+as_long [] (z ∷ ys) j y e h = absurd (omega (arith, e))
+as_long (x ∷ xs) [] j y e h = cc
+as_long (x ∷ xs) (z ∷ ys) zero y e h = (x, refl)
+as_long (x ∷ xs) (z ∷ ys) (suc j) y e h = as_long xs ys j y (omega (arith, e)) h
+
+-- A root of a profile is that of a side.
+root_side : (P : Parts) (r : Path) → IsProfile P → has_root P r ≡ true → (k : Side) × (root_at P k ≡ r)
+root_side P r facts h =
+    let two = two_roots P.roots facts.roots in
+    let any : (path_eq two.first r || (path_eq two.second r || false)) ≡ true = sym (ap (list_any (λ own. path_eq own r)) two.are) ∙ h in
+    elim (or_cases (path_eq two.first r) (path_eq two.second r || false) any) [
+      | inl e ↦ (Left, ap (λ rs. root_or_top (at_side rs Left)) two.are ∙ same_path two.first r e)
+      | inr g ↦ elim (or_cases (path_eq two.second r) false g) [
+        | inl e ↦ (Right, ap (λ rs. root_or_top (at_side rs Right)) two.are ∙ same_path two.second r e)
+        | inr never ↦ absurd (false≢true never)
+      ]
+    ]
+
+-- The state with these replicas.
+pub same_test : (a b : Bool) → (a ≡ true → b ≡ true) → (b ≡ true → a ≡ true) → a ≡ b
+same_test true b f g = sym (f refl)
+same_test false true f g = g refl
+same_test false false f g = refl
+
+either : {X : Type 0} (b c : Bool) (x y z : X) → (c ≡ true → x ≡ y) → cond b x (cond c y z) ≡ cond (c || b) x z
+either true true x y z e = refl
+either true false x y z e = refl
+either false true x y z e = sym (e refl)
+either false false x y z e = refl
+
+abbrev is_there : Path → WorkingTree → Bool
+is_there q t = path_eq q t.root.now
+
+put_replicas : (replica : Path → Replica) (q : Path) → is_place q ≡ true → (trees : List WorkingTree) → ((k : ℕ) (t : WorkingTree) → slice_get trees k ≡ Some t → t.tree ≡ replica t.root.now)
+    → ((k : ℕ) (t : WorkingTree) → slice_get trees k ≡ Some t → is_place t.root.now ≡ true) → (S : State)
+    → replica_at (fold put_tree S trees) q ≡ cond (list_any (is_there q) trees) (Some (replica q)) (replica_at S q)
+put_replicas replica q place [] each places S = refl
+put_replicas replica q place (t ∷ trees) each places S =
+    put_replicas replica q place trees (λ k u e. each (suc k) u e) (λ k u e. places (suc k) u e) (with_replica S t.root.now t.tree)
+    ∙ (ap (cond (list_any (is_there q) trees) (Some (replica q))) (replica_put S t.root.now q t.tree (places 0 t refl) place)
+    ∙ either (list_any (is_there q) trees) (is_there q t) (Some (replica q)) (Some t.tree) (replica_at S q)
+    (λ e. ap (λ m. Some m) (ap replica (same_path q t.root.now e) ∙ sym (each 0 t refl))))
+
+put_archives : (trees : List WorkingTree) (S : State) → (fold put_tree S trees).archives ≡ S.archives
+put_archives [] S = refl
+put_archives (t ∷ trees) S = put_archives trees (with_replica S t.root.now t.tree)
+
+from_zero : (k : ℕ) → 0 + k ≡ k
+from_zero k = omega arith
+
+no_value : {X : Type 0} (x : X) → None ≡ Some x → ⊥
+no_value x e = cc
+
+-- How a job ends.
+finished_next : (x : End) (a : Archive) → is_some (if is_finished x then Some a else None) ≡ is_finished x
+finished_next end.Finished a = refl
+finished_next end.Stopped a = refl
+finished_next end.Unfinished a = refl
+
+next_of : (x : End) (a b : Archive) → (if is_finished x then Some a else None) ≡ Some b → b ≡ a
+next_of end.Finished a b e = sym (one_value a b e)
+next_of end.Stopped a b e = cc
+next_of end.Unfinished a b e = cc
+
+how_ended : (b : Bool) (x y : End) → x ≡ (if b then end.Stopped else y) → (x ≡ end.Stopped) ⊎ (x ≡ y)
+how_ended true x y e = inl e
+how_ended false x y e = inr e
+
+module _ (S : State) (Ps : List Parts) (has : HasReplicas S Ps) (w : World) (seats : List Seat) (trees : List WorkingTree) (table : IsTable (jobs_of S Ps) w seats trees) (o : Outcome)
+    (jobs : o.jobs ≡ map end_value seats) (same : o.state.replicas ≡ (fold put_tree S trees).replicas) (marks : HasMarks (mark_from (map next_value seats)) (fold put_tree S trees) o.state) where
+  -- Jobs.
+  job_at : (j : ℕ) (e : JobEnd) → slice_get o.jobs j ≡ Some e → (s : Seat) × (slice_get seats j ≡ Some s) × (e ≡ end_value s)
+  job_at j e at = map_get end_value seats j e (sym (ap (λ (es : List JobEnd). slice_get es j) jobs) ∙ at)
+
+  seat_profile : (j : ℕ) (s : Seat) (P : Parts) → slice_get seats j ≡ Some s → slice_get Ps j ≡ Some P → s.profile.now ≡ P
+  seat_profile j s P at is = one_value s.profile.now P (sym (table.each j s at).is ∙ is)
+
+  facts : AreProfiles Ps
+  facts j P is = let s = as_long seats Ps j P table.count is in subst IsProfile (seat_profile j s.0 P s.1 is) (table.each j s.0 s.1).valid
+
+  archive_is : (j : ℕ) (s : Seat) → slice_get seats j ≡ Some s → s.job.archive ≡ outcome.archive_of S (Some s.profile.now)
+  archive_is j s at = let a = table.each j s at in a.archive ∙ (a.opening ∙ ap (outcome.archive_of S) a.is)
+
+  end_at : (j : ℕ) (s : Seat) (P : Parts) → slice_get seats j ≡ Some s → slice_get Ps j ≡ Some P → outcome.IsEndOf S P (end_value s)
+  end_at j s P at is =
+      let a = table.each j s at in
+      let profile : s.job.profile ≡ P = a.profile ∙ seat_profile j s P at is in
+      let archive : s.job.archive ≡ outcome.archive_of S (Some P) = archive_is j s at ∙ ap (λ Q. outcome.archive_of S (Some Q)) (seat_profile j s P at is) in
+      record {
+        how = how_ended s.job.stopped (end_of s.job) (end_by (next P (outcome.archive_of S (Some P)) s.job.log)) (λ i. if s.job.stopped then end.Stopped else end_by (next (profile i) (archive i) s.job.log));
+        items = λ i. if is_finished (end_of s.job) then items (view_in (profile i) (archive i) s.job.log) else [];
+      }
+
+  ends_are : (j : ℕ) (e : JobEnd) (P : Parts) → slice_get o.jobs j ≡ Some e → slice_get Ps j ≡ Some P → outcome.IsEndOf S P e
+  ends_are j e P at is = let s = job_at j e at in subst (outcome.IsEndOf S P) (sym s.2) (end_at j s.0 P s.1 is)
+
+  logs_are : (j : ℕ) (e : JobEnd) → slice_get o.jobs j ≡ Some e → e.log ≡ log_of w j
+  logs_are j e at = let s = job_at j e at in ap (λ (e : JobEnd). e.log) s.2 ∙ (table.each j s.0 s.1).log
+
+  -- Replicas.
+  tree_place : (k : ℕ) (t : WorkingTree) → slice_get trees k ≡ Some t → is_place t.root.now ≡ true
+  tree_place k t at = let P = one_with (λ P. has_root P t.root.now) Ps (table.roots k t at) in root_place P.1 t.root.now (facts P.0 P.1 P.2) P.3
+
+  listed_tree : (r : Path) (k : ℕ) → IsPlaced trees r k → list_any (is_there r) trees ≡ true
+  listed_tree r k p = listed (is_there r) trees k p.0 p.1 (path_itself r p.0.root.now (ap (λ q. Some q) (sym p.2)))
+
+  root_there : (r : Path) (P : (j : ℕ) × (P : Parts) × (slice_get Ps j ≡ Some P) × (has_root P r ≡ true)) → list_any (is_there r) trees ≡ true
+  root_there r P =
+      let s = as_long seats Ps P.0 P.1 table.count P.2 in
+      let a = table.each P.0 s.0 s.1 in
+      let is : s.0.profile.now ≡ P.1 = seat_profile P.0 s.0 P.1 s.1 P.2 in
+      let side = root_side s.0.profile.now r a.valid (ap (λ Q. has_root Q r) is ∙ P.3) in
+      listed_tree r (place_on s.0 side.0) (subst (λ q. IsPlaced trees q (place_on s.0 side.0)) side.1 (a.places side.0))
+
+  tree_root : (r : Path) → list_any (is_there r) trees ≡ true → list_any (λ P. has_root P r) Ps ≡ true
+  tree_root r h = let t = one_with (is_there r) trees h in ap (λ q. list_any (λ P. has_root P q) Ps) (same_path r t.1.root.now t.3) ∙ table.roots t.0 t.1 t.2
+
+  as_roots : (r : Path) → list_any (is_there r) trees ≡ list_any (λ P. has_root P r) Ps
+  as_roots r = same_test (list_any (is_there r) trees) (list_any (λ P. has_root P r) Ps) (tree_root r) (λ h. root_there r (one_with (λ P. has_root P r) Ps h))
+
+  replica_is : (r : Path) → is_place r ≡ true → replica_at o.state r ≡ cond (list_any (λ P. has_root P r) Ps) (Some (w.replica r)) (replica_at S r)
+  replica_is r place =
+      ap (λ m. fin.get m (root_text r)) same
+      ∙ (put_replicas w.replica r place trees table.replicas.each tree_place S ∙ ap (λ b. cond b (Some (w.replica r)) (replica_at S r)) (as_roots r))
+
+  replica_by : (r : Path) (m : Replica) (b : Bool) → replica_at S r ≡ Some m → cond b (Some (w.replica r)) (replica_at S r) ≡ Some (if b then w.replica r else m)
+  replica_by r m true e = refl
+  replica_by r m false e = e
+
+  no_root : (r : Path) → replica_at S r ≡ None → list_any (λ P. has_root P r) Ps ≡ false
+  no_root r none =
+      false_from_ne_true (list_any (λ P. has_root P r) Ps)
+      (λ h. let P = one_with (λ P. has_root P r) Ps h in let m = has P.0 P.1 r P.2 P.3 in no_value m.0 (sym none ∙ m.1))
+
+  -- Archives.
+  next_by : (k : ℕ) (s : Seat) → slice_get seats k ≡ Some s → IsNextOf S Ps (log_of w) o k (next_value s)
+  next_by k s at =
+      let a = table.each k s at in
+      record {
+        is = a.is;
+        done = ap (some_passes (λ (e : JobEnd). is_finished e.end)) (ap (λ (es : List JobEnd). slice_get es k) jobs ∙ map_at end_value seats k s at)
+            ∙ sym (finished_next (end_of s.job) (next_archive (view_in s.job.profile s.job.archive s.job.log) s.job.archive));
+        next = λ b e. next_of (end_of s.job) (next_archive (view_in s.job.profile s.job.archive s.job.log) s.job.archive) b e
+            ∙ (λ i. next_archive (view_in (a.profile i) (archive_is k s at i) (a.log i)) (archive_is k s at i));
+      }
+
+  next_at : (k : ℕ) (n : NextArchive) → slice_get (map next_value seats) k ≡ Some n → IsNextOf S Ps (log_of w) o k n
+  next_at k n at = let s = map_get next_value seats k n at in subst (IsNextOf S Ps (log_of w) o k) (sym s.2) (next_by k s.0 s.1)
+
+  many : length (map next_value seats) ≡ length Ps
+  many = length-map seats next_value ∙ table.count
+
+  marks_are : (r s p : Path) → IsTrue (is_place r) → IsTrue (is_place s) → r ≢ s
+      → mark_in o.state r s p ≡ outcome.mark_by S Ps (log_of w) p (mark_in S r s p) (find (outcome.takes o Ps r s p) (range_with_len 0 (length Ps)))
+  marks_are r s p one other off =
+      marks r s p one other off
+      ∙ (ap (mark_from (map next_value seats) r s p) (ap (λ a. old_mark_at (unwrap_or (fin.get a (pair_of r s)) fin.empty) p) (put_archives trees S))
+      ∙ (find_marks S Ps (log_of w) o r s p (mark_in S r s p) (map next_value seats) 0 (λ k n e. subst (λ i. IsNextOf S Ps (log_of w) o i n) (sym (from_zero k)) (next_at k n e))
+      ∙ ap (λ n. outcome.mark_by S Ps (log_of w) p (mark_in S r s p) (find (outcome.takes o Ps r s p) (range_with_len 0 n))) many))
+
+  pub joined : outcome.IsOutcomeWith S Ps (log_of w) w.replica o
+  joined = record {
+    all = ap length jobs ∙ (length-map seats end_value ∙ table.count);
+    logs = logs_are;
+    ends = ends_are;
+    replicas = λ r m place e. replica_is r place ∙ replica_by r m (list_any (λ P. has_root P r) Ps) e;
+    others = λ r place e. replica_is r place ∙ (ap (λ b. cond b (Some (w.replica r)) (replica_at S r)) (no_root r e) ∙ e);
+    archives = marks_are;
+  }
+
+  -- A job that isn't stopped kept its turns.
+  pub kept_turns : (v : World) (schedule : List ℕ) (before : ℕ → Bool) (t : IsThinned (jobs_of S Ps) v w schedule before (stopped_at seats)) → outcome.KeepsTurns t.limit schedule o
+  kept_turns v schedule before t = λ j e at going.
+      let s = job_at j e at in
+      t.all j (ap (some_passes (λ (s : Seat). s.job.stopped)) s.1 ∙ false_from_ne_true s.0.job.stopped (λ h. going (ap (λ (e : JobEnd). e.end) s.2 ∙ ap (λ b. if b then end.Stopped else end_by (next s.0.job.profile s.0.job.archive s.0.job.log)) h)))
+
+  pub simulated : (schedule : List ℕ) (before : ℕ → Bool) → IsThinned (jobs_of S Ps) (opening (jobs_of S Ps) (outcome.replicas_of S)) w schedule before (stopped_at seats) → outcome.IsSimulated S Ps schedule o
+  simulated schedule before t = (
+    t.limit,
+    subst (λ (x : World). outcome.IsOutcomeWith S Ps (log_of x) x.replica o) t.world joined,
+    kept_turns (opening (jobs_of S Ps) (outcome.replicas_of S)) schedule before t,
+  )

@@ -1,0 +1,56 @@
+-- What a job leaves to the archive of its pair, and what all of them do, from the last one on.
+use Rattle.std.proofs.Common.{◌≡◌, ◌≢◌, cond, Result, Ok, Err, List, [], ◌∷◌, ◌++◌, length, Some, slice_get, slice_index_or, ap, sym, ◌∙◌, subst}
+use Rattle.std.specs.Prelude.{IsTrue, OnOk, unwrap_or}
+use Rattle.std.specs.FinMap as fin
+use Rattle.std.proofs.lemmas.Bool.{false≢true}
+use Rattle.hub_path.specs.Path.{Path, is_place}
+use Rattle.hub_path.specs.declared.side.Side.TheVariants.{Left, Right}
+use Rattle.hub_profile.specs.Parts.{Parts, IsProfile}
+use Rattle.hub_reach.specs.Reach.{reach}
+use Rattle.hub_tree.specs.Tree.{Archive, old_mark_at}
+use Rattle.hub_state.specs.State.{State, archive_at, with_archive}
+use Rattle.hub_job.specs.Run.{root_at}
+use Rattle.hub_job.proofs.Blind.{path_itself}
+use Rattle.hub_job.proofs.InWorld.{two_roots, left_not_right}
+use Rattle.hub_schedule.specs.declared.ends.NextArchive.{NextArchive}
+use Rattle.hub_schedule.specs.Left.{mark_in, mark_given, mark_from, mark_of_next, HasMarks, KeepsUnreached, AreKept}
+use Rattle.hub_schedule.proofs.NextMarks.{mark_from-append}
+use Rattle.hub_schedule.proofs.Opened.{get_front, get_last}
+use Rattle.hub_schedule.proofs.PairMarks.{put_given}
+use Rattle.hub_schedule.proofs.Places.{left_is, right_is}
+
+module _ (P : Parts) (facts : IsProfile P) (rs : List Path) (is : rs ≡ P.roots) where
+  -- The two roots are different.
+  pub roots_differ : (d e : Path) → slice_index_or rs 0 d ≢ slice_index_or rs 1 e
+  roots_differ d e h =
+      let same : root_at P Left ≡ root_at P Right = sym (left_is P facts rs is d) ∙ h ∙ right_is P facts rs is e in
+      false≢true (sym (left_not_right P facts 0) ∙ path_itself (root_at P Left) (root_at P Right) (ap (λ r. Some r) same))
+
+  pub put_at_roots : (d e f g : Path) (S : State) (next merged current : Archive) → current ≡ unwrap_or (archive_at S (slice_index_or rs 0 d) (slice_index_or rs 1 e)) fin.empty
+      → ((p : Path) → old_mark_at merged p ≡ cond (reach P p) (old_mark_at next p) (old_mark_at current p))
+      → (T : State) → T ≡ with_archive S (slice_index_or rs 0 f) (slice_index_or rs 1 g) merged → HasMarks (mark_given P next) S T
+  put_at_roots d e f g S next merged current now each T t =
+      let two = two_roots P.roots facts.roots in
+      let left : (x : Path) → slice_index_or rs 0 x ≡ two.first = λ x. ap (λ qs. slice_index_or qs 0 x) (is ∙ two.are) in
+      let right : (x : Path) → slice_index_or rs 1 x ≡ two.second = λ x. ap (λ qs. slice_index_or qs 1 x) (is ∙ two.are) in
+      let put : T ≡ with_archive S two.first two.second merged = t ∙ (λ i. with_archive S (left f i) (right g i) merged) in
+      let old : current ≡ unwrap_or (archive_at S two.first two.second) fin.empty = now ∙ (λ i. unwrap_or (archive_at S (left d i) (right e i)) fin.empty) in
+      subst (HasMarks (mark_given P next) S) (sym put)
+      (put_given P facts two.first two.second two.are S next merged (λ p. each p ∙ ap (λ (o : Archive). cond (reach P p) (old_mark_at next p) (old_mark_at o p)) old))
+
+pub on_ok : {T E : Type 0} (r : Result T E) (A B : Type 0) → (A → B) → OnOk r A → OnOk r B
+on_ok (Ok x) A B f h = f h
+on_ok (Err e) A B f h = h
+
+-- The last one goes.
+pub kept_last : (all rest : List NextArchive) (n : NextArchive) → all ≡ rest ++ n ∷ [] → AreKept all → KeepsUnreached n
+kept_last all rest n e kept = kept (length rest) n (ap (λ (ns : List NextArchive). slice_get ns (length rest)) e ∙ get_last rest n)
+
+pub kept_rest : (all rest : List NextArchive) (n : NextArchive) → all ≡ rest ++ n ∷ [] → AreKept all → AreKept rest
+kept_rest all rest n e kept = λ k m h. kept k m (ap (λ (ns : List NextArchive). slice_get ns k) e ∙ get_front rest (n ∷ []) k m h)
+
+pub marks_rest : (all rest : List NextArchive) (n : NextArchive) (S T : State) → all ≡ rest ++ n ∷ [] → HasMarks (mark_of_next n.profile.now n.next) S T
+    → (r s p : Path) → IsTrue (is_place r) → IsTrue (is_place s) → r ≢ s → mark_from rest r s p (mark_in T r s p) ≡ mark_from all r s p (mark_in S r s p)
+marks_rest all rest n S T e h r s p one other off =
+    ap (mark_from rest r s p) (h r s p one other off)
+    ∙ (sym (mark_from-append rest n r s p (mark_in S r s p)) ∙ ap (λ (ns : List NextArchive). mark_from ns r s p (mark_in S r s p)) (sym e))

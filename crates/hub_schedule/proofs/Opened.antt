@@ -1,0 +1,136 @@
+-- The jobs of profiles before their first turns.
+use Rattle.std.proofs.Common.{◌≡◌, ◌≢◌, ◌⊎◌, inl, inr, true, false, List, [], ◌∷◌, ◌++◌, length, Option, Some, None, refl, ap, sym, ◌∙◌, subst}
+use Rattle.std.specs.Prelude.{ℕ, zero, suc, slice_get}
+use Rattle.std.specs.List.{list_any}
+use Rattle.std.proofs.lemmas.List.{length-map}
+use Rattle.hub_path.specs.Path.{Path}
+use Rattle.hub_path.specs.declared.side.Side.{Side}
+use Rattle.hub_path.specs.declared.side.Side.TheVariants.{Left, Right}
+use Rattle.hub_profile.specs.Parts.{Parts, IsProfile, some_passes}
+use Rattle.hub_reach.specs.Reach.{has_root}
+use Rattle.hub_tree.specs.Tree.{Replica}
+use Rattle.hub_state.specs.State.{State}
+use Rattle.hub_schedule.specs.declared.seat.Seat.{Seat}
+use Rattle.hub_schedule.specs.declared.seat.WorkingTree.{WorkingTree}
+use Rattle.hub_job.specs.JobValue.{JobValue}
+use Rattle.hub_job.specs.Outcome.{archive_of, jobs_of, replicas_of}
+use Rattle.hub_job.specs.Run.{root_at}
+use Rattle.hub_schedule.specs.Table.{place_on, stopped_at, IsPlaced, AreTrees, IsNew, Extends, IsSeat, IsTable}
+use Rattle.hub_job.specs.World.{opening}
+use Rattle.hub_job.proofs.Alone.{no_log, open_log}
+use Rattle.hub_schedule.proofs.Promised.{listed}
+use Rattle.hub_schedule.proofs.Tables.{one_value}
+
+-- A new job, with its replicas in place.
+pub record IsOpened (S : State) (trees : List WorkingTree) (j : ℕ) (P : Parts) (s : Seat) : Type 0 where
+  pub new : IsNew j P (archive_of S (Some P)) s
+  pub places : (k : Side) → IsPlaced trees (root_at P k) (place_on s k)
+
+-- The first jobs of profiles, and their replicas.
+pub record AreOpened (S : State) (Ps : List Parts) (seats : List Seat) (trees : List WorkingTree) : Type 0 where
+  pub each : (j : ℕ) (s : Seat) → slice_get seats j ≡ Some s → (P : Parts) × (slice_get Ps j ≡ Some P) × IsOpened S trees j P s
+  pub replicas : AreTrees (replicas_of S) trees
+  pub roots : (k : ℕ) (t : WorkingTree) → slice_get trees k ≡ Some t → list_any (λ P. has_root P t.root.now) Ps ≡ true
+
+no_tree : {X : Type 0} (k : ℕ) (x : X) → slice_get [] k ≡ Some x → ⊥
+no_tree k x e = cc
+
+pub opened_none : (S : State) (Ps : List Parts) → AreOpened S Ps [] []
+opened_none S Ps = record {
+  each = λ j s e. absurd (no_tree j s e);
+  replicas = record { each = λ k t e. absurd (no_tree k t e); once = λ i k t u e f h. absurd (no_tree i t e) };
+  roots = λ k t e. absurd (no_tree k t e);
+}
+
+-- One more at the end.
+get_push : {X : Type 0} (Q : ℕ → X → Type 0) (xs : List X) (x : X) → ((j : ℕ) (y : X) → slice_get xs j ≡ Some y → Q j y) → Q (length xs) x → (j : ℕ) (y : X) → slice_get (xs ++ x ∷ []) j ≡ Some y → Q j y
+get_push Q [] x each last zero y e = subst (Q 0) (one_value x y e) last
+get_push Q [] x each last (suc j) y e = cc
+get_push Q (z ∷ xs) x each last zero y e = each 0 y e
+get_push Q (z ∷ xs) x each last (suc j) y e = get_push (λ i. Q (suc i)) xs x (λ i w h. each (suc i) w h) last j y e
+
+-- A new job and its two places.
+pub open_at : (S : State) (trees : List WorkingTree) (i j : ℕ) (P : Parts) (s : Seat) → i ≡ j → IsNew i P (archive_of S (Some P)) s → IsPlaced trees (root_at P Left) s.left → IsPlaced trees (root_at P Right) s.right
+    → IsOpened S trees j P s
+open_at S trees i j P s e new l r = record { new = subst (λ k. IsNew k P (archive_of S (Some P)) s) e new; places = go }
+  where
+    go : (k : Side) → IsPlaced trees (root_at P k) (place_on s k)
+    go Left = l
+    go Right = r
+
+earlier : (S : State) (Ps : List Parts) (old new : List WorkingTree) (P : Parts) → Extends P old new → (j : ℕ) (t : Seat)
+    → (Q : Parts) × (slice_get Ps j ≡ Some Q) × IsOpened S old j Q t → (Q : Parts) × (slice_get Ps j ≡ Some Q) × IsOpened S new j Q t
+earlier S Ps old new P more j t w = (
+  w.0,
+  w.1,
+  record { new = w.2.new; places = λ k. let p = w.2.places k in (p.0, more.kept (place_on t k) p.0 p.1, p.2) },
+)
+
+pub opened_more : (S : State) (Ps : List Parts) (seats : List Seat) (old new : List WorkingTree) (P : Parts) (s : Seat) → AreOpened S Ps seats old → slice_get Ps (length seats) ≡ Some P
+    → IsOpened S new (length seats) P s → AreTrees (replicas_of S) new → Extends P old new → AreOpened S Ps (seats ++ s ∷ []) new
+opened_more S Ps seats old new P s opened is one trees more = record {
+  each = get_push (λ j s. (P : Parts) × (slice_get Ps j ≡ Some P) × IsOpened S new j P s) seats s (λ j t e. earlier S Ps old new P more j t (opened.each j t e)) (P, is, one);
+  replicas = trees;
+  roots = λ k t e. elim (more.rest k t e) [
+    | inl h ↦ opened.roots k t h
+    | inr h ↦ listed (λ P. has_root P t.root.now) Ps (length seats) P is h
+  ];
+}
+
+-- All of them are those of the opening.
+module _ (S : State) (Ps : List Parts) (seats : List Seat) (trees : List WorkingTree) (opened : AreOpened S Ps seats trees) (all : length seats ≡ length Ps) where
+  seat_is : (j : ℕ) (s : Seat) (P : Parts) → slice_get Ps j ≡ Some P → IsOpened S trees j P s → IsSeat (jobs_of S Ps) (opening (jobs_of S Ps) (replicas_of S)) trees j s
+  seat_is j s P at o =
+      let new = o.new in
+      let own : s.job.profile ≡ P = ap (λ (v : JobValue). v.profile) new.job in
+      let archive : s.job.archive ≡ archive_of S (Some P) = ap (λ (v : JobValue). v.archive) new.job in
+      record {
+        is = at ∙ ap (λ Q. Some Q) (sym new.profile);
+        valid = subst IsProfile (sym new.profile) new.valid;
+        opening = new.opening ∙ ap (archive_of S) (sym at);
+        profile = own ∙ sym new.profile;
+        archive = archive ∙ sym new.opening;
+        number = ap (λ (v : JobValue). v.number) new.job;
+        log = ap (λ (v : JobValue). v.log) new.job ∙ sym (open_log Ps j);
+        places = λ k. subst (λ Q. IsPlaced trees (root_at Q k) (place_on s k)) (sym new.profile) (o.places k);
+      }
+
+  pub opened_table : IsTable (jobs_of S Ps) (opening (jobs_of S Ps) (replicas_of S)) seats trees
+  opened_table = record {
+    each = λ j s e. let P = opened.each j s e in seat_is j s P.0 P.1 P.2;
+    count = all;
+    logs = length-map Ps (λ (P : Parts). no_log);
+    replicas = opened.replicas;
+    roots = opened.roots;
+  }
+
+  going_by : (j : ℕ) (x : Option Seat) → slice_get seats j ≡ x → some_passes (λ (s : Seat). s.job.stopped) x ≡ false
+  going_by j None e = refl
+  going_by j (Some s) e = ap (λ (v : JobValue). v.stopped) (opened.each j s e).2.new.job
+
+  pub none_stopped : (j : ℕ) → stopped_at seats j ≡ false
+  none_stopped j = going_by j (slice_get seats j) refl
+
+-- Working copies.
+pub get_front : {X : Type 0} (xs ys : List X) (k : ℕ) (x : X) → slice_get xs k ≡ Some x → slice_get (xs ++ ys) k ≡ Some x
+get_front [] ys k x e = cc
+get_front (y ∷ xs) ys zero x e = e
+get_front (y ∷ xs) ys (suc k) x e = get_front xs ys k x e
+
+pub get_last : {X : Type 0} (xs : List X) (x : X) → slice_get (xs ++ x ∷ []) (length xs) ≡ Some x
+get_last [] x = refl
+get_last (y ∷ xs) x = get_last xs x
+
+pub trees_push : (replica : Path → Replica) (trees : List WorkingTree) (t : WorkingTree) → AreTrees replica trees → t.tree ≡ replica t.root.now
+    → ((k : ℕ) (u : WorkingTree) → slice_get trees k ≡ Some u → u.root.now ≢ t.root.now) → AreTrees replica (trees ++ t ∷ [])
+trees_push replica trees t are is new = record {
+  each = get_push (λ k u. u.tree ≡ replica u.root.now) trees t are.each is;
+  once = λ i k u v e f h.
+      get_push (λ i u. (k : ℕ) (v : WorkingTree) → slice_get (trees ++ t ∷ []) k ≡ Some v → u.root.now ≡ v.root.now → i ≡ k) trees t
+      (λ i u e. get_push (λ k v. u.root.now ≡ v.root.now → i ≡ k) trees t (λ k v f h. are.once i k u v e f h) (λ h. absurd (new i u e h)))
+      (get_push (λ k v. t.root.now ≡ v.root.now → length trees ≡ k) trees t (λ k v f h. absurd (new k v f (sym h))) (λ h. refl))
+      i u e k v f h;
+}
+
+pub rest_push : (trees : List WorkingTree) (t : WorkingTree) (r : Path) → t.root.now ≡ r → (k : ℕ) (u : WorkingTree) → slice_get (trees ++ t ∷ []) k ≡ Some u → (slice_get trees k ≡ Some u) ⊎ (u.root.now ≡ r)
+rest_push trees t r is = get_push (λ k u. (slice_get trees k ≡ Some u) ⊎ (u.root.now ≡ r)) trees t (λ k u e. inl e) (inr is)

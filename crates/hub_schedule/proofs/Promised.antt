@@ -1,0 +1,336 @@
+-- An outcome that histories settle is as promised.
+use Rattle.std.proofs.Common.{◌≡◌, ◌≢◌, ◌≤◌, ◌<◌, ◌+◌, inl, inr, Bool, true, false, cond, ◌&&◌, ◌||◌, List, [], ◌∷◌, length, Option, Some, None, refl, ap, sym, ◌∙◌, subst, arith}
+use Rattle.std.specs.Prelude.{◌==◌, ℕ, zero, suc, IsTrue, slice_get, find, unwrap_or, replicate}
+use Rattle.std.specs.List.{list_any, list_all, range_with_len}
+use Rattle.std.specs.FinMap as fin
+use Rattle.std.proofs.lemmas.Bool.{false≢true, and_parts, and_from, or_cases, or_left, or_right, cases_eq, false_from_ne_true}
+use Rattle.hub_path.specs.Laws.{is_over-reflexive}
+use Rattle.hub_path.specs.Path.{Name, Path, path_eq, path_cmp, parent, is_place, none_over}
+use Rattle.hub_path.specs.declared.side.Side.{Side}
+use Rattle.hub_path.specs.declared.side.Side.TheVariants.{Left, Right}
+use Rattle.hub_profile.specs.Parts.{Parts, IsProfile, some_passes}
+use Rattle.hub_reach.specs.Reach.{reach, has_root}
+use Rattle.hub_reach.specs.Safe.{Rule, IsSafe, share_archive}
+use Rattle.hub_tree.specs.Tree.{Replica, Archive, IsTree, contents_at, old_mark_at, is_absent, is_directory}
+use Rattle.hub_tree.specs.declared.contents.Contents.TheVariants as contents
+use Rattle.hub_reconcile.specs.Items.{items}
+use Rattle.hub_reconcile.specs.Sync.{view_of, next_archive}
+use Rattle.hub_reconcile.proofs.Archived.{archived}
+use Rattle.hub_state.specs.State.{State, IsState, replica_at, archive_at, root_text}
+use Rattle.hub_job.specs.declared.job_end.End.{End}
+use Rattle.hub_job.specs.declared.job_end.End.TheVariants as end
+use Rattle.hub_job.specs.declared.job_end.JobEnd.{JobEnd}
+use Rattle.hub_job.specs.declared.outcome.Outcome.{Outcome}
+use Rattle.hub_job.specs.declared.log.Entry.{Entry}
+use Rattle.hub_job.specs.declared.log.Logged.{Logged}
+use Rattle.hub_job.specs.declared.op.Next.{Next}
+use Rattle.hub_job.specs.declared.op.Next.TheVariants.{Ask, Finished, Stopped}
+use Rattle.hub_job.specs.Job.{next, is_refused, view_in}
+use Rattle.hub_job.specs.Run.{root_at, pair_of, IsSynced}
+use Rattle.hub_job.specs.World.{Jobs, log_of, run, opening, alone}
+use Rattle.hub_schedule.specs.History.{replay}
+use Rattle.hub_schedule.specs.Settled.{AreProfiles}
+use Rattle.hub_schedule.specs.Together.{left_at, LogsAreAlone, OwnPathsAreAlone, ElsewhereIsAsBefore}
+use Rattle.hub_job.specs.Ends.{end_by, is_finished}
+use Rattle.hub_job.specs.Outcome.{archive_of, jobs_of, replicas_of, takes, mark_for, mark_by, IsEndOf}
+use Rattle.hub_schedule.specs.Promise.{log_or_none, logs_in, HasReplicas, Settles, IsSynchronized, ForeignAreAsBefore, OldMarksStay}
+use Rattle.hub_job.proofs.Blind.{same_path, path_itself}
+use Rattle.hub_job.proofs.Core.{has_its_root}
+use Rattle.hub_job.proofs.InWorld.{two_roots, by_side, side_root, left_not_right}
+use Rattle.hub_schedule.proofs.Finished.{alone_enough, finished_synced}
+
+-- Lists and options.
+passing : {X : Type 0} (t : X → Bool) (o : Option X) → some_passes t o ≡ true → (x : X) × (o ≡ Some x) × (t x ≡ true)
+passing t None h = absurd (false≢true h)
+passing t (Some x) h = (x, refl, h)
+
+pub listed : {X : Type 0} (t : X → Bool) (xs : List X) (j : ℕ) (x : X) → slice_get xs j ≡ Some x → t x ≡ true → list_any t xs ≡ true
+listed t [] j x is h = cc
+listed t (y ∷ xs) zero x is h = or_left (t y) (list_any t xs) (ap (some_passes t) is ∙ h)
+listed t (y ∷ xs) (suc j) x is h = or_right (t y) (list_any t xs) (listed t xs j x is h)
+
+pub one_with : {X : Type 0} (t : X → Bool) (xs : List X) → list_any t xs ≡ true → (j : ℕ) × (x : X) × (slice_get xs j ≡ Some x) × (t x ≡ true)
+one_with t [] h = absurd (false≢true h)
+one_with {X} t (y ∷ xs) h =
+    elim (t y) as (λ b. t y ≡ b → (b || list_any t xs) ≡ true → (j : ℕ) × (x : X) × (slice_get (y ∷ xs) j ≡ Some x) × (t x ≡ true)) [
+      | true ↦ λ e g. (0, y, refl, e)
+      | false ↦ λ e g. let w = one_with t xs g in (suc w.0, w.1, w.2, w.3)
+    ] refl h
+
+number_or : ℕ → Option ℕ → ℕ
+number_or i None = i
+number_or i (Some j) = j
+
+some_number : (i j : ℕ) → Some i ≡ Some j → i ≡ j
+unfolding number_or
+some_number i j e = ap (number_or i) e
+
+no_number : {i : ℕ} → None ≡ Some i → ⊥
+no_number e = cc
+
+-- The least number that passes, if it is the only one, or if there is none.
+found_passes : (t : ℕ → Bool) (xs : List ℕ) (i : ℕ) → find t xs ≡ Some i → t i ≡ true
+found_passes t [] i e = cc
+found_passes t (x ∷ xs) i e =
+    elim (t x) as (λ b. t x ≡ b → cond b (Some x) (find t xs) ≡ Some i → t i ≡ true) [
+      | true ↦ λ g h. ap t (sym (some_number x i h)) ∙ g
+      | false ↦ λ g h. found_passes t xs i h
+    ] refl e
+
+none_passes : (t : ℕ → Bool) (xs : List ℕ) → ((i : ℕ) → t i ≡ false) → find t xs ≡ None
+none_passes t [] never = refl
+none_passes t (x ∷ xs) never = ap (λ b. cond b (Some x) (find t xs)) (never x) ∙ none_passes t xs never
+
+not_none : (t : ℕ → Bool) (j a n : ℕ) → a ≤ j → j < a + n → t j ≡ true → find t (range_with_len a n) ≡ None → ⊥
+not_none t j a zero l h passes none = absurd (omega (arith, l, h))
+not_none t j a (suc n) l h passes none =
+    elim (t a) as (λ b. t a ≡ b → cond b (Some a) (find t (range_with_len (a + 1) n)) ≡ None → ⊥) [
+      | true ↦ λ e g. no_number (sym g)
+      | false ↦ λ e g.
+          let other : a ≢ j = λ same. false≢true (sym e ∙ (ap t same ∙ passes)) in
+          not_none t j (a + 1) n (omega (arith, l, other)) (omega (arith, h)) passes g
+    ] refl none
+
+only_one : (t : ℕ → Bool) (j n : ℕ) (o : Option ℕ) → find t (range_with_len 0 n) ≡ o → j < n → t j ≡ true → ((i : ℕ) → t i ≡ true → i ≡ j) → o ≡ Some j
+only_one t j n None e l h only = absurd (not_none t j 0 n (omega arith) (omega (arith, l)) h e)
+only_one t j n (Some i) e l h only = ap (λ k. Some k) (only i (found_passes t (range_with_len 0 n) i e))
+
+within : (Ps : List Parts) (j : ℕ) (P : Parts) → slice_get Ps j ≡ Some P → j < length Ps
+within [] j P e = cc
+within (Q ∷ Ps) zero P e = omega arith
+within (Q ∷ Ps) (suc j) P e = let h = within Ps j P e in omega (arith, h)
+
+-- Ends.
+next_of : (n : Next) → end_by n ≡ end.Finished → n ≡ Finished
+next_of (Ask side op) e = cc
+next_of Finished e = refl
+next_of Stopped e = cc
+
+stopped_or_finished : (x : End) → x ≡ end.Stopped → x ≡ end.Finished → ⊥
+stopped_or_finished x e f = let both : end.Stopped ≡ end.Finished = sym e ∙ f in cc
+
+finished_of : (x : End) → is_finished x ≡ true → x ≡ end.Finished
+finished_of end.Finished e = refl
+finished_of end.Stopped e = absurd (false≢true e)
+finished_of end.Unfinished e = absurd (false≢true e)
+
+end_next : (S : State) (P : Parts) (e : JobEnd) → IsEndOf S P e → e.end ≡ end.Finished → next P (archive_of S (Some P)) e.log ≡ Finished
+end_next S P e is done =
+    elim (is.how) [
+      | inl stopped ↦ absurd (stopped_or_finished e.end stopped done)
+      | inr how ↦ next_of (next P (archive_of S (Some P)) e.log) (sym how ∙ done)
+    ]
+
+pub next_end : (S : State) (P : Parts) (e : JobEnd) → IsEndOf S P e → e.end ≢ end.Stopped → next P (archive_of S (Some P)) e.log ≡ Finished → e.end ≡ end.Finished
+next_end S P e is going done =
+    elim (is.how) [
+      | inl stopped ↦ absurd (going stopped)
+      | inr how ↦ how ∙ ap end_by done
+    ]
+
+-- The state's replicas are trees.
+empty_at : (n : Name) (p : Path) → contents_at fin.empty (n ∷ p) ≡ contents.Absent
+empty_at n p = ap (λ o. unwrap_or o contents.Absent) (fin.get-empty path_cmp (n ∷ p))
+
+empty_parents : (p : Path) → is_absent (contents_at fin.empty p) ≡ false → is_directory (contents_at fin.empty (parent p)) ≡ true
+empty_parents [] e = refl
+empty_parents (n ∷ p) e = absurd (false≢true (sym e ∙ ap is_absent (empty_at n p)))
+
+empty_tree : IsTree fin.empty
+empty_tree = record {
+  parents = empty_parents;
+  present = λ p e. let n : None ≡ Some contents.Absent = sym (fin.get-empty path_cmp p) ∙ e in cc;
+  no_top = fin.get-empty path_cmp [];
+}
+
+tree_or : (o : Option Replica) → ((m : Replica) → o ≡ Some m → IsTree m) → IsTree (unwrap_or o fin.empty)
+tree_or None h = empty_tree
+tree_or (Some m) h = h m refl
+
+pub state_trees : (S : State) → IsState S → (r : Path) → IsTree (replicas_of S r)
+state_trees S valid r = tree_or (replica_at S r) (λ m e. (valid.trees (root_text r) m e).0)
+
+-- The archive of a pair.
+or_alone : (b : Bool) → (b || false) ≡ true → b ≡ true
+or_alone true e = refl
+or_alone false e = e
+
+roots_two : (t : Path → Bool) (a b r s : Path) → r ≢ s → (path_eq a r || (path_eq b r || false)) ≡ true → (path_eq a s || (path_eq b s || false)) ≡ true → t r ≡ true → t s ≡ true → (t a && (t b && true)) ≡ true
+roots_two t a b r s off x y f g =
+    elim (or_cases (path_eq a r) (path_eq b r || false) x) [
+      | inl e ↦ elim (or_cases (path_eq a s) (path_eq b s || false) y) [
+        | inl h ↦ absurd (off (sym (same_path a r e) ∙ same_path a s h))
+        | inr h ↦ and_from (t a) (t b && true) (ap t (same_path a r e) ∙ f) (and_from (t b) true (ap t (same_path b s (or_alone (path_eq b s) h)) ∙ g) refl)
+      ]
+      | inr e ↦ elim (or_cases (path_eq a s) (path_eq b s || false) y) [
+        | inl h ↦ and_from (t a) (t b && true) (ap t (same_path a s h) ∙ g) (and_from (t b) true (ap t (same_path b r (or_alone (path_eq b r) e)) ∙ f) refl)
+        | inr h ↦ absurd (off (sym (same_path b r (or_alone (path_eq b r) e)) ∙ same_path b s (or_alone (path_eq b s) h)))
+      ]
+    ]
+
+pair_shared : (P Q : Parts) (r s : Path) → IsProfile P → r ≢ s → has_root P r ≡ true → has_root P s ≡ true → has_root Q r ≡ true → has_root Q s ≡ true → share_archive P Q ≡ true
+pair_shared P Q r s facts off a b c d =
+    let two = two_roots P.roots facts.roots in
+    ap (list_all (has_root Q)) two.are
+    ∙ roots_two (has_root Q) two.first two.second r s off (ap (list_any (λ own. path_eq own r)) (sym two.are) ∙ a) (ap (list_any (λ own. path_eq own s)) (sym two.are) ∙ b) c d
+
+-- What it is that a job's marks are taken.
+record Takes (Ps : List Parts) (o : Outcome) (r s p : Path) (j : ℕ) : Type 0 where
+  profile : Parts
+  ended : JobEnd
+  is : slice_get Ps j ≡ Some profile
+  at : slice_get o.jobs j ≡ Some ended
+  finished : ended.end ≡ end.Finished
+  first : has_root profile r ≡ true
+  second : has_root profile s ≡ true
+  reaches : reach profile p ≡ true
+
+takes_is : (Ps : List Parts) (o : Outcome) (r s p : Path) (j : ℕ) → takes o Ps r s p j ≡ true → Takes Ps o r s p j
+takes_is Ps o r s p j h =
+    let two = and_parts (some_passes (λ e. is_finished e.end) (slice_get o.jobs j)) (some_passes (λ P. has_root P r && has_root P s && reach P p) (slice_get Ps j)) h in
+    let e = passing (λ (e : JobEnd). is_finished e.end) (slice_get o.jobs j) two.0 in
+    let P = passing (λ (P : Parts). has_root P r && has_root P s && reach P p) (slice_get Ps j) two.1 in
+    let three = and_parts (has_root P.0 r && has_root P.0 s) (reach P.0 p) P.2 in
+    let roots = and_parts (has_root P.0 r) (has_root P.0 s) three.0 in
+    record { profile = P.0; ended = e.0; is = P.1; at = e.1; finished = finished_of e.0.end e.2; first = roots.0; second = roots.1; reaches = three.1 }
+
+takes_one : (Ps : List Parts) (Rs : List Rule) (o : Outcome) (r s p : Path) (i j : ℕ) → IsSafe Ps Rs → AreProfiles Ps → r ≢ s → Takes Ps o r s p i → Takes Ps o r s p j → i ≡ j
+takes_one Ps Rs o r s p i j safe valid off a b =
+    elim (cases_eq i j) [
+      | inl e ↦ e
+      | inr ne ↦ absurd (safe.no_clash i j a.profile b.profile a.is b.is ne
+          (inr (pair_shared a.profile b.profile r s (valid i a.profile a.is) off a.first a.second b.first b.second, (p, p, is_over-reflexive p, a.reaches, b.reaches))))
+    ]
+
+takes_from : (Ps : List Parts) (o : Outcome) (r s p : Path) (j : ℕ) (P : Parts) (e : JobEnd) → slice_get Ps j ≡ Some P → slice_get o.jobs j ≡ Some e → e.end ≡ end.Finished
+    → has_root P r ≡ true → has_root P s ≡ true → reach P p ≡ true → takes o Ps r s p j ≡ true
+takes_from Ps o r s p j P e is at done a b h =
+    and_from (some_passes (λ e. is_finished e.end) (slice_get o.jobs j)) (some_passes (λ P. has_root P r && has_root P s && reach P p) (slice_get Ps j))
+    (ap (some_passes (λ (e : JobEnd). is_finished e.end)) at ∙ ap is_finished done)
+    (ap (some_passes (λ (P : Parts). has_root P r && has_root P s && reach P p)) is ∙ and_from (has_root P r && has_root P s) (reach P p) (and_from (has_root P r) (has_root P s) a b) h)
+
+-- The roots of profiles are places.
+one_of : (f : Path → Bool) (r : Path) (rs : List Path) → list_all f rs ≡ true → list_any (λ own. path_eq own r) rs ≡ true → f r ≡ true
+one_of f r [] all h = absurd (false≢true h)
+one_of f r (q ∷ rs) all h =
+    let two = and_parts (f q) (list_all f rs) all in
+    elim (or_cases (path_eq q r) (list_any (λ own. path_eq own r) rs) h) [
+      | inl e ↦ ap f (sym (same_path q r e)) ∙ two.0
+      | inr k ↦ one_of f r rs two.1 k
+    ]
+
+pub root_place : (P : Parts) (r : Path) → IsProfile P → has_root P r ≡ true → is_place r ≡ true
+root_place P r facts h =
+    let two = and_parts (length P.roots == 2 && list_all is_place P.roots) (none_over P.roots) facts.roots in
+    one_of is_place r P.roots (and_parts (length P.roots == 2) (list_all is_place P.roots) two.0).1 h
+
+module _ (S : State) (Ps : List Parts) (histories : Path → List Entry) (o : Outcome) (settles : Settles S Ps histories o) where
+  abbrev J : Jobs
+  J = jobs_of S Ps
+
+  abbrev before : Path → Replica
+  before = replicas_of S
+
+  -- Replicas.
+  pub left_in : AreProfiles Ps → HasReplicas S Ps → (j : ℕ) (P : Parts) (r : Path) → slice_get Ps j ≡ Some P → IsTrue (has_root P r) → replicas_of o.state r ≡ left_at before histories r
+  left_in facts there j P r is has =
+      let m = there j P r is has in
+      ap (λ x. unwrap_or x fin.empty)
+      (settles.outcome.replicas r m.0 (root_place P r (facts j P is) has) m.1 ∙ ap (λ b. Some (cond b (replay (before r) (histories r)) m.0)) (listed (λ P. has_root P r) Ps j P is has))
+
+  foreign_by : (r : Path) (x : Option Replica) → IsTrue (is_place r) → list_any (λ P. has_root P r) Ps ≡ false → replica_at S r ≡ x → replica_at o.state r ≡ x
+  foreign_by r None place none e = settles.outcome.others r place e
+  foreign_by r (Some m) place none e = settles.outcome.replicas r m place e ∙ ap (λ b. Some (cond b (replay (before r) (histories r)) m)) none
+
+  pub foreign : ForeignAreAsBefore S Ps o.state
+  foreign = λ r place none. foreign_by r (replica_at S r) place none refl
+
+  pub own : AreProfiles Ps → HasReplicas S Ps → OwnPathsAreAlone J before (left_at before histories) (logs_in o) → OwnPathsAreAlone J before (replicas_of o.state) (logs_in o)
+  own facts there alone = λ j P r q is has h. ap (λ m. contents_at m q) (left_in facts there j P r is has) ∙ alone j P r q is has h
+
+  pub elsewhere : AreProfiles Ps → HasReplicas S Ps → ((j : ℕ) (P : Parts) (r : Path) → slice_get Ps j ≡ Some P → IsTrue (has_root P r) → ElsewhereIsAsBefore Ps r (before r) (left_at before histories r))
+      → (r : Path) → IsTrue (is_place r) → ElsewhereIsAsBefore Ps r (before r) (replicas_of o.state r)
+  elsewhere facts there stays r place = λ q never.
+      elim (list_any (λ P. has_root P r) Ps) as (λ b. list_any (λ P. has_root P r) Ps ≡ b → contents_at (replicas_of o.state r) q ≡ contents_at (before r) q) [
+        | true ↦ λ e. let w = one_with (λ P. has_root P r) Ps e in ap (λ m. contents_at m q) (left_in facts there w.0 w.1 r w.2 w.3) ∙ stays w.0 w.1 r w.2 w.3 q never
+        | false ↦ λ e. ap (λ x. contents_at (unwrap_or x fin.empty) q) (foreign r place e)
+      ] refl
+
+  -- Archives.
+  pub marks_stay : OldMarksStay S Ps o
+  marks_stay = λ r s p one other off never.
+      let none = none_passes (takes o Ps r s p) (range_with_len 0 (length Ps))
+      (λ i. false_from_ne_true (takes o Ps r s p i) (λ h. let w = takes_is Ps o r s p i h in false≢true (sym (never i w.profile w.ended w.is w.at w.finished w.first w.second) ∙ w.reaches))) in
+      settles.outcome.archives r s p one other off ∙ ap (mark_by S Ps (logs_in o) p (old_mark_at (unwrap_or (archive_at S r s) fin.empty) p)) none
+
+  mark_taken : (Rs : List Rule) → IsSafe Ps Rs → AreProfiles Ps → (j : ℕ) (P : Parts) (e : JobEnd) (r s p : Path) → slice_get Ps j ≡ Some P → slice_get o.jobs j ≡ Some e → e.end ≡ end.Finished
+      → r ≢ s → has_root P r ≡ true → has_root P s ≡ true → reach P p ≡ true
+      → old_mark_at (unwrap_or (archive_at o.state r s) fin.empty) p ≡ old_mark_at (next_archive (view_in P (archive_of S (Some P)) (logs_in o j)) (archive_of S (Some P))) p
+  mark_taken Rs safe valid j P e r s p is at done off a b h =
+      let taken = takes_from Ps o r s p j P e is at done a b h in
+      let one = only_one (takes o Ps r s p) j (length Ps) (find (takes o Ps r s p) (range_with_len 0 (length Ps))) refl (within Ps j P is) taken
+      (λ i g. takes_one Ps Rs o r s p i j safe valid off (takes_is Ps o r s p i g) (takes_is Ps o r s p j taken)) in
+      let old = old_mark_at (unwrap_or (archive_at S r s) fin.empty) p in
+      settles.outcome.archives r s p (root_place P r (valid j P is) a) (root_place P s (valid j P is) b) off ∙ (ap (mark_by S Ps (logs_in o) p old) one ∙ ap (mark_for S (logs_in o) p old j) is)
+
+  -- Jobs.
+  module _ (facts : AreProfiles Ps) (trees : (r : Path) → IsTree (before r)) (alone_logs : LogsAreAlone J before (logs_in o)) (j : ℕ) (P : Parts) (e : JobEnd) (is : slice_get Ps j ≡ Some P) (at : slice_get o.jobs j ≡ Some e) where
+    abbrev A : Replica
+    A = before (root_at P Left)
+
+    abbrev B : Replica
+    B = before (root_at P Right)
+
+    abbrev O : Archive
+    O = archive_of S (Some P)
+
+    archive_is : J.archive j ≡ O
+    archive_is = ap (archive_of S) is
+
+    log_is : logs_in o j ≡ e.log
+    log_is = ap log_or_none at
+
+    ends : IsEndOf S P e
+    ends = settles.outcome.ends j e P at is
+
+    -- The log is the one that the job gets alone.
+    pub log_alone : e.log ≡ alone J before j (length e.log)
+    log_alone = subst (λ l. l ≡ alone J before j (length l)) log_is (alone_logs j P is)
+
+    done_alone : next P O e.log ≡ Finished → next P (J.archive j) (alone J before j (length e.log)) ≡ Finished
+    done_alone done = ap (λ a. next P a (alone J before j (length e.log))) archive_is ∙ (ap (next P O) (sym log_alone) ∙ done)
+
+    synced : next P O e.log ≡ Finished → IsSynced P A B O (pair_of P j (run J (replicate (length e.log) j) (opening J before)))
+    synced done =
+        subst (λ a. IsSynced P A B a (pair_of P j (run J (replicate (length e.log) j) (opening J before)))) archive_is
+        (finished_synced J P before j (length e.log) is (facts j P is) (trees (root_at P Left)) (trees (root_at P Right)) (done_alone done))
+
+    view_is : next P O e.log ≡ Finished → view_in P O e.log ≡ view_of P A B O
+    view_is done = ap (view_in P O) log_alone ∙ (synced done).view
+
+    roots_differ : root_at P Left ≢ root_at P Right
+    roots_differ same = false≢true (sym (left_not_right P (facts j P is) j) ∙ path_itself (root_at P Left) (root_at P Right) (ap (λ r. Some r) same))
+
+    root_of : (k : Side) → has_root P (root_at P k) ≡ true
+    root_of k = has_its_root P k (root_at P k) (side_root P (facts j P is) j k)
+
+    pub synchronized : (Rs : List Rule) → IsSafe Ps Rs → OwnPathsAreAlone J before (replicas_of o.state) (logs_in o) → e.end ≡ end.Finished → IsSynchronized S P e o.state
+    synchronized Rs safe own finished =
+        let done = end_next S P e ends finished in
+        record {
+          ok = ap (list_any (λ (e : Logged). is_refused e.step.answer)) log_alone ∙ (synced done).ok;
+          contents = λ k q h.
+              own j P (root_at P k) q is (root_of k) h
+              ∙ (ap (λ l. contents_at ((run J (replicate (length l) j) (opening J before)).replica (root_at P k)) q) log_is
+              ∙ (by_side P j k (run J (replicate (length e.log) j) (opening J before)) q ∙ (synced done).contents k q));
+          marks = λ q h.
+              mark_taken Rs safe facts j P e (root_at P Left) (root_at P Right) q is at finished roots_differ (root_of Left) (root_of Right) h
+              ∙ (ap (λ l. old_mark_at (next_archive (view_in P O l) O) q) log_is ∙ (ap (λ V. old_mark_at (next_archive V O) q) (view_is done) ∙ archived P A B O q));
+          items = ends.items ∙ (ap (λ x. cond (is_finished x) (items (view_in P O e.log)) []) finished ∙ ap items (view_is done));
+        }
+
+    pub enough_finish : (n : ℕ) → e.end ≢ end.Stopped → next P O (alone J before j n) ≡ Finished → n ≤ length e.log → e.end ≡ end.Finished
+    enough_finish n going done h =
+        let there : next P (J.archive j) (alone J before j n) ≡ Finished = ap (λ a. next P a (alone J before j n)) archive_is ∙ done in
+        let same : e.log ≡ alone J before j n = log_alone ∙ ap (λ w. log_of w j) (alone_enough J P before j n (length e.log) is there h) in
+        next_end S P e ends going (ap (next P O) same ∙ done)

@@ -1,0 +1,110 @@
+-- What the laws on schedules say of a schedule that was run.
+use Rattle.std.proofs.Common.{◌≡◌, ◌≢◌, ◌≤◌, ◌<◌, List, [], ◌∷◌, length, Some, Result, Ok, Err, IfOk, IfErr, subst, arith}
+use Rattle.std.specs.Prelude.{ℕ, slice_get, replicate}
+use Rattle.hub_path.specs.Path.{Path}
+use Rattle.hub_profile.specs.Parts.{Parts}
+use Rattle.hub_reach.specs.Safe.{Rule, IsSafe}
+use Rattle.hub_state.specs.State.{State, IsState}
+use Rattle.hub_job.specs.declared.job_end.End.TheVariants as end
+use Rattle.hub_job.specs.declared.job_end.JobEnd.{JobEnd}
+use Rattle.hub_job.specs.declared.log.Entry.{Entry}
+use Rattle.hub_job.specs.declared.outcome.Outcome.{Outcome}
+use Rattle.hub_job.specs.declared.run_fault.RunFault.{RunFault}
+use Rattle.hub_job.specs.Outcome.{IsOutcomeOf, IsSimulated, KeepsTurns, world_after}
+use Rattle.hub_schedule.specs.Promise.{HasReplicas, IsAsPromised, Settles}
+use Rattle.hub_schedule.specs.Refusals.{IsRunnable, IsUnrun}
+use Rattle.hub_schedule.specs.Settled.{AreProfiles}
+use Rattle.hub_schedule.specs.Simulated.{EnoughTurnsEnd, IsLoneSynchronization, IsPromised, LogsAreOfTurns, LoneIsSynchronized, TurnsSuffice, turns_enough}
+use Rattle.hub_job.specs.World.{first_turns}
+use Rattle.hub_schedule.proofs.Promised.{elsewhere, foreign, marks_stay}
+use Rattle.hub_schedule.proofs.Runnable.{have_replicas}
+use Rattle.hub_schedule.proofs.Tables.{within}
+
+-- A state may be none where there are no profiles.
+abbrev pub IsStateFor : State → List Parts → Type 0
+IsStateFor S Ps = 0 < length Ps → IsState S
+
+some_profile : (Ps : List Parts) (j : ℕ) (P : Parts) → slice_get Ps j ≡ Some P → 0 < length Ps
+some_profile Ps j P at = let h = within Ps j P at in omega (arith, h)
+
+no_profile : (j : ℕ) (P : Parts) → slice_get [] j ≡ Some P → ⊥
+no_profile j P e = cc
+
+promise_none : (S : State) (Rs : List Rule) (histories : Path → List Entry) (o : Outcome) → Settles S [] histories o → IsAsPromised S [] Rs histories o
+promise_none S Rs histories o settles = record {
+  logs = λ j P is. absurd (no_profile j P is);
+  others = λ j P r q front rest e is. absurd (no_profile j P is);
+  own = λ j P r q is. absurd (no_profile j P is);
+  finished = λ j P e is. absurd (no_profile j P is);
+  elsewhere = elsewhere S [] histories o settles (λ j P is. absurd (no_profile j P is)) (λ j P r is. absurd (no_profile j P is)) (λ j P r is. absurd (no_profile j P is));
+  foreign = foreign S [] histories o settles;
+  marks = marks_stay S [] histories o settles;
+  allowed = λ Q r p c front rest e h at. absurd (no_profile e.job Q at);
+  enough = λ j n P e is. absurd (no_profile j P is);
+}
+
+abbrev pub SettlesLaw : Type 0
+SettlesLaw = (S : State) (Ps : List Parts) (turns : List ℕ) (o : Outcome) → IsOutcomeOf S Ps turns o → Settles S Ps (world_after S Ps turns).history o
+
+abbrev pub PromiseLaw : Type 0
+PromiseLaw = (S : State) (Ps : List Parts) (Rs : List Rule) (turns : List ℕ) (o : Outcome) → IsState S → HasReplicas S Ps → AreProfiles Ps → IsSafe Ps Rs → IsOutcomeOf S Ps turns o
+    → IsAsPromised S Ps Rs (world_after S Ps turns).history o
+
+abbrev pub LoneLaw : Type 0
+LoneLaw = (S : State) (Ps : List Parts) (Rs : List Rule) (limit : ℕ → ℕ) (o : Outcome) (j n : ℕ) (P : Parts) (e : JobEnd) → IsState S → HasReplicas S Ps → AreProfiles Ps → IsSafe Ps Rs
+    → IsOutcomeOf S Ps (first_turns limit (replicate n j)) o → KeepsTurns limit (replicate n j) o → slice_get Ps j ≡ Some P → slice_get o.jobs j ≡ Some e → e.end ≢ end.Stopped → turns_enough S P ≤ n
+    → IsLoneSynchronization S P e o.state
+
+as_promised : PromiseLaw → (S : State) (Ps : List Parts) (Rs : List Rule) (turns : List ℕ) (o : Outcome) → IsStateFor S Ps → HasReplicas S Ps → AreProfiles Ps → IsSafe Ps Rs → IsOutcomeOf S Ps turns o
+    → Settles S Ps (world_after S Ps turns).history o → IsAsPromised S Ps Rs (world_after S Ps turns).history o
+as_promised law S [] Rs turns o valid there facts safe is settles = promise_none S Rs (world_after S [] turns).history o settles
+as_promised law S (P ∷ Ps) Rs turns o valid there facts safe is settles = law S (P ∷ Ps) Rs turns o (valid (omega arith)) there facts safe is
+
+pub is_promised : SettlesLaw → PromiseLaw → (S : State) (Ps : List Parts) (Rs : List Rule) (schedule : List ℕ) (o : Outcome) → IsStateFor S Ps → HasReplicas S Ps → AreProfiles Ps → IsSafe Ps Rs
+    → IsSimulated S Ps schedule o → IsPromised S Ps Rs o
+is_promised settle law S Ps Rs schedule o valid there facts safe is =
+    let turns = first_turns is.0 schedule in
+    let settles = settle S Ps turns o is.1 in
+    ((world_after S Ps turns).history, settles, as_promised law S Ps Rs turns o valid there facts safe is.1 settles)
+
+pub lone_synchronized : LoneLaw → (S : State) (Ps : List Parts) (Rs : List Rule) (schedule : List ℕ) (o : Outcome) → IsStateFor S Ps → HasReplicas S Ps → AreProfiles Ps → IsSafe Ps Rs
+    → IsSimulated S Ps schedule o → LoneIsSynchronized S Ps schedule o
+lone_synchronized law S Ps Rs schedule o valid there facts safe is = λ j n P e one at ended going h.
+    law S Ps Rs is.0 o j n P e (valid (some_profile Ps j P at)) there facts safe (subst (λ js. IsOutcomeOf S Ps (first_turns is.0 js) o) one is.1) (subst (λ js. KeepsTurns is.0 js o) one is.2) at ended going h
+
+pub turns_suffice_for : ((S : State) (Ps : List Parts) → IsState S → AreProfiles Ps → TurnsSuffice S Ps) → (S : State) (Ps : List Parts) → IsStateFor S Ps → AreProfiles Ps → TurnsSuffice S Ps
+turns_suffice_for law S Ps valid facts = λ j n P at h. law S Ps (valid (some_profile Ps j P at)) facts j n P at h
+
+-- What two facts of a result say together.
+pub if_both : {X E : Type 0} (A B C : X → Type 0) (r : Result X E) → ((x : X) → A x → B x → C x) → IfOk r A → IfOk r B → IfOk r C
+if_both A B C (Ok x) f a b = f x a b
+if_both A B C (Err e) f a b = a
+
+-- What is known of jobs that were run.
+pub record HaveRun (S : State) (Ps : List Parts) (schedule : List ℕ) (r : Result Outcome RunFault) : Type 0 where
+  pub world : IfOk r (IsSimulated S Ps schedule)
+  pub run : IfOk r (λ o. IsRunnable S Ps schedule)
+  pub refused : IfErr r (IsUnrun S Ps schedule)
+  pub valid : IsStateFor S Ps
+
+-- The laws, for the jobs of a safe set.
+module _ (S : State) (Ps : List Parts) (Rs : List Rule) (schedule : List ℕ) (r : Result Outcome RunFault) (ran : HaveRun S Ps schedule r) (facts : AreProfiles Ps) (safe : IsSafe Ps Rs) where
+  pub promise_of : SettlesLaw → PromiseLaw → IfOk r (IsPromised S Ps Rs)
+  promise_of settle law =
+      if_both (IsSimulated S Ps schedule) (λ o. IsRunnable S Ps schedule) (IsPromised S Ps Rs) r
+      (λ o is run. is_promised settle law S Ps Rs schedule o ran.valid (have_replicas S Ps run.0) facts safe is) ran.world ran.run
+
+  pub lone_of : LoneLaw → IfOk r (LoneIsSynchronized S Ps schedule)
+  lone_of law =
+      if_both (IsSimulated S Ps schedule) (λ o. IsRunnable S Ps schedule) (LoneIsSynchronized S Ps schedule) r
+      (λ o is run. lone_synchronized law S Ps Rs schedule o ran.valid (have_replicas S Ps run.0) facts safe is) ran.world ran.run
+
+  pub logs_of : ((S : State) (Ps : List Parts) (Rs : List Rule) (limit : ℕ → ℕ) (schedule : List ℕ) (o : Outcome) → IsSafe Ps Rs → IsOutcomeOf S Ps (first_turns limit schedule) o → KeepsTurns limit schedule o → LogsAreOfTurns S Ps schedule o)
+      → IfOk r (LogsAreOfTurns S Ps schedule)
+  logs_of law =
+      if_both (IsSimulated S Ps schedule) (λ o. IsRunnable S Ps schedule) (LogsAreOfTurns S Ps schedule) r (λ o is run. law S Ps Rs is.0 schedule o safe is.1 is.2) ran.world ran.run
+
+  pub enough_of : ((S : State) (Ps : List Parts) (Rs : List Rule) (limit : ℕ → ℕ) (schedule : List ℕ) (o : Outcome) → IsSafe Ps Rs → IsOutcomeOf S Ps (first_turns limit schedule) o → KeepsTurns limit schedule o → EnoughTurnsEnd S Ps schedule o)
+      → IfOk r (EnoughTurnsEnd S Ps schedule)
+  enough_of law =
+      if_both (IsSimulated S Ps schedule) (λ o. IsRunnable S Ps schedule) (EnoughTurnsEnd S Ps schedule) r (λ o is run. law S Ps Rs is.0 schedule o safe is.1 is.2) ran.world ran.run

@@ -1,0 +1,207 @@
+-- What a turn of a job does to the jobs and the replicas of a world.
+use Rattle.std.proofs.Common.{◌≡◌, ◌≢◌, ◌<◌, inl, inr, cond, List, [], ◌∷◌, ◌++◌, length, Option, Some, None, refl, ap, sym, ◌∙◌, subst, length-set, arith}
+use Rattle.std.specs.Prelude.{ℕ, zero, suc, slice_get, slice_set}
+use Rattle.std.specs.List.{list_any}
+use Rattle.std.proofs.lemmas.List.{get_or-set_same, get_or-set_other}
+use Rattle.std.proofs.lemmas.Bool.{cases_eq, false_from_ne_true}
+use Rattle.hub_path.specs.Path.{Path, path_eq}
+use Rattle.hub_path.specs.declared.side.Side.{Side}
+use Rattle.hub_profile.specs.Parts.{Parts, IsProfile}
+use Rattle.hub_reach.specs.Reach.{has_root}
+use Rattle.hub_tree.specs.Tree.{Replica}
+use Rattle.hub_job.specs.declared.op.Op.{Op}
+use Rattle.hub_job.specs.declared.op.Next.TheVariants.{Ask}
+use Rattle.hub_schedule.specs.declared.seat.Seat.{Seat}
+use Rattle.hub_schedule.specs.declared.seat.WorkingTree.{WorkingTree}
+use Rattle.hub_job.specs.Job.{next}
+use Rattle.hub_job.specs.Machine.{answer, after}
+use Rattle.hub_job.specs.Run.{root_at}
+use Rattle.hub_schedule.specs.Table.{place_on, with_tree, IsPlaced, AreTrees, IsSeat, IsTable}
+use Rattle.hub_job.specs.World.{World, Jobs, log_of, entry, event, act, turn_of, turn}
+use Rattle.hub_job.proofs.Blind.{same_path, path_itself}
+use Rattle.hub_job.proofs.InWorld.{side_root}
+
+-- Lists.
+pub set_here : {X : Type 0} (xs : List X) (j : ℕ) (x y : X) → slice_get xs j ≡ Some x → slice_get (slice_set xs j y) j ≡ Some y
+set_here [] j x y e = cc
+set_here (z ∷ xs) zero x y e = refl
+set_here (z ∷ xs) (suc j) x y e = set_here xs j x y e
+
+pub set_there : {X : Type 0} (xs : List X) (i j : ℕ) (y : X) → i ≢ j → slice_get (slice_set xs j y) i ≡ slice_get xs i
+set_there [] i j y off = refl
+set_there (z ∷ xs) zero zero y off = absurd (off refl)
+set_there (z ∷ xs) zero (suc j) y off = refl
+set_there (z ∷ xs) (suc i) zero y off = refl
+set_there (z ∷ xs) (suc i) (suc j) y off = set_there xs i j y (λ e. off (ap suc e))
+
+pub within : {X : Type 0} (xs : List X) (j : ℕ) (x : X) → slice_get xs j ≡ Some x → j < length xs
+within [] j x e = cc
+within (y ∷ xs) zero x e = omega arith
+within (y ∷ xs) (suc j) x e = let h = within xs j x e in omega (arith, h)
+
+or_value : {X : Type 0} → X → Option X → X
+or_value x None = x
+or_value x (Some y) = y
+
+pub one_value : {X : Type 0} (x y : X) → Some x ≡ Some y → x ≡ y
+unfolding or_value
+one_value x y e = ap (or_value x) e
+
+-- Of a list with another value at one place, each property of all.
+pub each_set : {X : Type 0} (Q : ℕ → X → Type 0) (xs : List X) (j : ℕ) (x y : X) → slice_get xs j ≡ Some x → Q j y → ((i : ℕ) (z : X) → i ≢ j → slice_get xs i ≡ Some z → Q i z)
+    → (i : ℕ) (z : X) → slice_get (slice_set xs j y) i ≡ Some z → Q i z
+each_set Q xs j x y is here there i z e =
+    elim (cases_eq i j) [
+      | inl same ↦ subst (λ k. Q k z) (sym same) (subst (Q j) (one_value y z (sym (set_here xs j x y is) ∙ (ap (slice_get (slice_set xs j y)) (sym same) ∙ e))) here)
+      | inr off ↦ there i z off (sym (set_there xs i j y off) ∙ e)
+    ]
+
+-- Replicas whose roots stay.
+pub record SameRoots (old new : List WorkingTree) : Type 0 where
+  pub back : (k : ℕ) (t : WorkingTree) → slice_get new k ≡ Some t → (u : WorkingTree) × (slice_get old k ≡ Some u) × (u.root.now ≡ t.root.now)
+  pub forth : (k : ℕ) (t : WorkingTree) → slice_get old k ≡ Some t → (u : WorkingTree) × (slice_get new k ≡ Some u) × (u.root.now ≡ t.root.now)
+
+same_roots : (trees : List WorkingTree) → SameRoots trees trees
+same_roots trees = record { back = λ k t e. (t, e, refl); forth = λ k t e. (t, e, refl) }
+
+tree_set : (trees : List WorkingTree) (k : ℕ) (t : WorkingTree) (m : Replica) → slice_get trees k ≡ Some t → SameRoots trees (slice_set trees k (with_tree t m))
+tree_set trees k t m is = record {
+  back = each_set (λ i u. (v : WorkingTree) × (slice_get trees i ≡ Some v) × (v.root.now ≡ u.root.now)) trees k t (with_tree t m) is (t, is, refl) (λ i u off e. (u, e, refl));
+  forth = λ i u e. elim (cases_eq i k) [
+    | inl same ↦ (
+      with_tree t m,
+      ap (slice_get (slice_set trees k (with_tree t m))) same ∙ set_here trees k t (with_tree t m) is,
+      ap (λ (v : WorkingTree). v.root.now) (one_value t u (sym is ∙ (ap (slice_get trees) (sym same) ∙ e))),
+    )
+    | inr off ↦ (u, set_there trees i k (with_tree t m) off ∙ e, refl)
+  ];
+}
+
+placed : (old new : List WorkingTree) → SameRoots old new → (r : Path) (k : ℕ) → IsPlaced old r k → IsPlaced new r k
+placed old new same r k p = let u = same.forth k p.0 p.1 in (u.0, u.1, u.2 ∙ p.2)
+
+once_again : (old new : List WorkingTree) → SameRoots old new
+    → ((i k : ℕ) (t u : WorkingTree) → slice_get old i ≡ Some t → slice_get old k ≡ Some u → t.root.now ≡ u.root.now → i ≡ k)
+    → (i k : ℕ) (t u : WorkingTree) → slice_get new i ≡ Some t → slice_get new k ≡ Some u → t.root.now ≡ u.root.now → i ≡ k
+once_again old new same once i k t u e f h =
+    let a = same.back i t e in
+    let b = same.back k u f in
+    once i k a.0 b.0 a.1 b.1 (a.2 ∙ (h ∙ sym b.2))
+
+-- A job that has the same profile, archive, number and places.
+pub record SameSeat (s t : Seat) : Type 0 where
+  pub profile : t.profile.now ≡ s.profile.now
+  pub opening : t.opening.now ≡ s.opening.now
+  pub own : t.job.profile ≡ s.job.profile
+  pub archive : t.job.archive ≡ s.job.archive
+  pub number : t.job.number ≡ s.job.number
+  pub places : (k : Side) → place_on t k ≡ place_on s k
+
+module _ (J : Jobs) (w v : World) (seats : List Seat) (old new : List WorkingTree) (table : IsTable J w seats old) (same : SameRoots old new) (j : ℕ) (s t : Seat) (is : slice_get seats j ≡ Some s) (alike : SameSeat s t)
+    (log : t.job.log ≡ log_of v j) (others : (i : ℕ) → i ≢ j → log_of w i ≡ log_of v i) (count : length v.logs ≡ length w.logs) (trees : AreTrees v.replica new) where
+  here : IsSeat J v new j t
+  here =
+      let a = table.each j s is in
+      record {
+        is = a.is ∙ ap (λ P. Some P) (sym alike.profile);
+        valid = subst IsProfile (sym alike.profile) a.valid;
+        opening = alike.opening ∙ a.opening;
+        profile = alike.own ∙ (a.profile ∙ sym alike.profile);
+        archive = alike.archive ∙ (a.archive ∙ sym alike.opening);
+        number = alike.number ∙ a.number;
+        log = log;
+        places = λ k. subst (λ (P : Parts). IsPlaced new (root_at P k) (place_on t k)) (sym alike.profile)
+            (subst (IsPlaced new (root_at s.profile.now k)) (sym (alike.places k)) (placed old new same (root_at s.profile.now k) (place_on s k) (a.places k)));
+      }
+
+  there : (i : ℕ) (u : Seat) → i ≢ j → slice_get seats i ≡ Some u → IsSeat J v new i u
+  there i u off e =
+      let a = table.each i u e in
+      record {
+        is = a.is;
+        valid = a.valid;
+        opening = a.opening;
+        profile = a.profile;
+        archive = a.archive;
+        number = a.number;
+        log = a.log ∙ others i off;
+        places = λ k. placed old new same (root_at u.profile.now k) (place_on u k) (a.places k);
+      }
+
+  pub table_set : IsTable J v (slice_set seats j t) new
+  table_set = record {
+    each = each_set (IsSeat J v new) seats j s t is here there;
+    count = length-set seats j t ∙ table.count;
+    logs = count ∙ table.logs;
+    replicas = trees;
+    roots = λ k u e. let b = same.back k u e in ap (λ r. list_any (λ P. has_root P r) J.profiles) (sym b.2) ∙ table.roots k b.0 b.1;
+  }
+
+-- A turn by what the job does next.
+pub turn_is : (J : Jobs) (w : World) (trees : List WorkingTree) (j : ℕ) (s : Seat) → IsSeat J w trees j s → turn J j w ≡ act s.profile.now j w (next s.job.profile s.job.archive s.job.log)
+unfolding turn
+turn_is J w trees j s a = ap (turn_of J j w) a.is ∙ (λ i. act s.profile.now j w (next (sym a.profile i) (sym (a.archive ∙ a.opening) i) (sym a.log i)))
+
+-- The job and the replicas are the same as before.
+pub table_same : (J : Jobs) (w v : World) (seats : List Seat) (trees : List WorkingTree) (j : ℕ) (s t : Seat) → IsTable J w seats trees → slice_get seats j ≡ Some s → SameSeat s t → t.job.log ≡ s.job.log → w ≡ v
+    → IsTable J v (slice_set seats j t) trees
+table_same J w v seats trees j s t table is alike log e =
+    subst (λ (v : World). IsTable J v (slice_set seats j t) trees) e
+    (table_set J w w seats trees trees table (same_roots trees) j s t is alike (log ∙ (table.each j s is).log) (λ i off. refl) refl table.replicas)
+
+module _ (J : Jobs) (w : World) (seats : List Seat) (trees : List WorkingTree) (table : IsTable J w seats trees) (j : ℕ) (s t : Seat) (is : slice_get seats j ≡ Some s) (alike : SameSeat s t) (side : Side) (op : Op)
+    (asks : next s.job.profile s.job.archive s.job.log ≡ Ask side op) (u : WorkingTree) (at : slice_get trees (place_on s side) ≡ Some u)
+    (log : t.job.log ≡ s.job.log ++ record { side = side; step = record { job = s.job.number; op = op; answer = answer u.tree s.profile.now u.root.now op } } ∷ []) where
+  a : IsSeat J w trees j s
+  a = table.each j s is
+
+  abbrev P : Parts
+  P = s.profile.now
+
+  abbrev r : Path
+  r = root_at P side
+
+  abbrev k : ℕ
+  k = place_on s side
+
+  -- The replica is that of the side's root.
+  root_is : u.root.now ≡ r
+  root_is = let p = a.places side in ap (λ (v : WorkingTree). v.root.now) (one_value u p.0 (sym at ∙ p.1)) ∙ p.2
+
+  tree_is : u.tree ≡ w.replica r
+  tree_is = table.replicas.each k u at ∙ ap w.replica root_is
+
+  abbrev v : World
+  v = event P j side op w (Some r)
+
+  turned : turn J j w ≡ v
+  turned = turn_is J w trees j s a ∙ (ap (act P j w) asks ∙ ap (event P j side op w) (side_root P a.valid j side))
+
+  abbrev new : List WorkingTree
+  new = slice_set trees k (with_tree u (after u.tree op))
+
+  changed : after u.tree op ≡ v.replica u.root.now
+  changed = ap (λ m. after m op) tree_is ∙ sym (ap (λ b. cond b (after (w.replica r) op) (w.replica u.root.now)) (path_itself r u.root.now (ap (λ q. Some q) (sym root_is))))
+
+  kept : (i : ℕ) (x : WorkingTree) → i ≢ k → slice_get trees i ≡ Some x → x.tree ≡ v.replica x.root.now
+  kept i x off e =
+      table.replicas.each i x e
+      ∙ sym (ap (λ b. cond b (after (w.replica r) op) (w.replica x.root.now)) (false_from_ne_true (path_eq r x.root.now) (λ h. off (table.replicas.once i k x u e at (sym (root_is ∙ same_path r x.root.now h))))))
+
+  new_trees : AreTrees v.replica new
+  new_trees = record {
+    each = each_set (λ i x. x.tree ≡ v.replica x.root.now) trees k u (with_tree u (after u.tree op)) at changed kept;
+    once = once_again trees new (tree_set trees k u (after u.tree op) at) table.replicas.once;
+  }
+
+  log_is : t.job.log ≡ log_of v j
+  log_is =
+      let one : s.job.log ++ record { side = side; step = record { job = s.job.number; op = op; answer = answer u.tree P u.root.now op } } ∷ [] ≡ log_of w j ++ record { side = side; step = entry P j r (w.replica r) op } ∷ [] =
+      λ i. a.log i ++ record { side = side; step = record { job = a.number i; op = op; answer = answer (tree_is i) P (root_is i) op } } ∷ [] in
+      log ∙ (one ∙ sym (get_or-set_same w.logs j (log_of w j ++ record { side = side; step = entry P j r (w.replica r) op } ∷ []) [] (subst (λ n. j < n) (sym table.logs) (within J.profiles j P a.is))))
+
+  pub table_turn : IsTable J (turn J j w) (slice_set seats j t) new
+  table_turn =
+      subst (λ (x : World). IsTable J x (slice_set seats j t) new) (sym turned)
+      (table_set J w v seats trees new table (tree_set trees k u (after u.tree op) at) j s t is alike log_is
+      (λ i off. sym (get_or-set_other w.logs j i (log_of w j ++ record { side = side; step = entry P j r (w.replica r) op } ∷ []) [] off)) (length-set w.logs j _) new_trees)

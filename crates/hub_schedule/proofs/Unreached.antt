@@ -1,0 +1,48 @@
+-- A next archive keeps the marks of the paths that its profile doesn't reach.
+use Rattle.std.proofs.Common.{◌≡◌, Bool, true, false, cond, List, [], ◌∷◌, map, Some, None, refl, ap, sym, ◌∙◌, subst}
+use Rattle.std.specs.Prelude.{ℕ, fold, if◌then◌else◌}
+use Rattle.hub_path.specs.Path.{Path, path_eq}
+use Rattle.hub_profile.specs.Parts.{Parts}
+use Rattle.hub_reach.specs.Reach.{reach}
+use Rattle.hub_tree.specs.Tree.{Archive, old_mark_at, with_mark}
+use Rattle.hub_tree.specs.declared.contents.Mark.{Mark}
+use Rattle.hub_tree.proofs.MarkMaps.{old_mark-after}
+use Rattle.hub_reconcile.specs.View.{View}
+use Rattle.hub_reconcile.specs.Sync.{fate_over, mark_under, synced_mark, next_archive}
+use Rattle.hub_job.specs.declared.log.Logged.{Logged}
+use Rattle.hub_schedule.specs.declared.seat.Seat.{Seat}
+use Rattle.hub_schedule.specs.declared.seat.WorkingTree.{WorkingTree}
+use Rattle.hub_job.specs.Ends.{is_finished, end_of, archive_of}
+use Rattle.hub_job.specs.Job.{view_in}
+use Rattle.hub_schedule.specs.Left.{next_value, KeptIn, KeepsUnreached, AreKept}
+use Rattle.hub_schedule.specs.Table.{IsSeat, IsTable}
+use Rattle.hub_job.specs.World.{World, Jobs}
+use Rattle.hub_job.proofs.Blind.{same_path}
+use Rattle.hub_schedule.proofs.Joined.{map_get}
+
+one_more : (f : Path → Mark) (p q : Path) (a : Archive) (m : Mark) (b : Bool) → path_eq q p ≡ b → f q ≡ m → old_mark_at a q ≡ m → cond b (f p) (old_mark_at a q) ≡ m
+one_more f p q a m true same is e = ap f (sym (same_path q p same)) ∙ is
+one_more f p q a m false same is e = e
+
+-- A mark that is set to what it was.
+stays : (f : Path → Mark) (ps : List Path) (a : Archive) (q : Path) (m : Mark) → f q ≡ m → old_mark_at a q ≡ m → old_mark_at (fold (λ a p. with_mark a p (f p)) a ps) q ≡ m
+stays f [] a q m is e = e
+stays f (p ∷ ps) a q m is e = stays f ps (with_mark a p (f p)) q m is (old_mark-after a p q (f p) ∙ one_more f p q a m (path_eq q p) refl is e)
+
+keeps : (P : Parts) (O : Archive) (log : List Logged) (q : Path) → reach P q ≡ false → old_mark_at (next_archive (view_in P O log) O) q ≡ old_mark_at O q
+unfolding next_archive
+keeps P O log q never =
+    let V : View = view_in P O log in
+    stays (synced_mark V) V.paths O q (old_mark_at O q) (ap (λ b. cond b (mark_under V q (fate_over V q)) (old_mark_at O q)) never) refl
+
+if_finished : (P : Parts) (O : Archive) (log : List Logged) (b : Bool) → KeptIn P O (if b then Some (next_archive (view_in P O log) O) else None)
+if_finished P O log true = keeps P O log
+if_finished P O log false = tt
+
+of_seat : (J : Jobs) (w : World) (trees : List WorkingTree) (j : ℕ) (s : Seat) → IsSeat J w trees j s → KeepsUnreached (next_value s)
+of_seat J w trees j s a =
+    subst (λ (P : Parts). KeptIn P s.opening.now (archive_of s.job)) a.profile
+    (subst (λ (O : Archive). KeptIn s.job.profile O (archive_of s.job)) a.archive (if_finished s.job.profile s.job.archive s.job.log (is_finished (end_of s.job))))
+
+pub all_kept : (J : Jobs) (w : World) (seats : List Seat) (trees : List WorkingTree) → IsTable J w seats trees → AreKept (map next_value seats)
+all_kept J w seats trees table = λ k n e. let s = map_get next_value seats k n e in subst KeepsUnreached (sym s.2) (of_seat J w trees k s.0 (table.each k s.0 s.1))

@@ -1,0 +1,23 @@
+use Rattle.std.proofs.Common.{◌≢◌, Some, refl, ap, sym, ◌∙◌}
+use Rattle.std.proofs.lemmas.Bool.{false≢true}
+use Rattle.std.proofs.lemmas.Option.{slice_get_read}
+use Rattle.hub_job.proofs.Blind.{same_path, path_itself}
+use Rattle.hub_schedule.specs.declared.seat.WorkingTree.{WorkingTree}
+use Rattle.hub_schedule.proofs.Found.{also_here}
+use Rattle.hub_schedule.proofs.seats.find_tree.Goals as goal
+
+pub returns-then-eq : goal.returns-then-eq
+returns-then-eq c =
+    let t = c.index-trees-place.result in (
+      t,
+      slice_get_read c.args.trees.now _ c.loop-place.place t refl c.loop-place-test.true c.index-trees-place.is,
+      same_path t.root.now c.args.root.now (sym c.eq.ensures ∙ c.if-eq.true),
+    )
+
+pub loop-place-preserved : goal.loop-place-preserved
+loop-place-preserved c =
+    let ts = c.args.trees.now in
+    let n = c.loop-place.place in
+    let t = c.index-trees-place.result in
+    also_here (λ (t : WorkingTree). t.root.now ≢ c.args.root.now) ts n t (slice_get_read ts _ n t refl c.loop-place-test.true c.index-trees-place.is)
+    (λ e. false≢true (sym c.if-eq.false ∙ (c.eq.ensures ∙ path_itself t.root.now c.args.root.now (ap (λ p. Some p) e)))) c.loop-place.invariant

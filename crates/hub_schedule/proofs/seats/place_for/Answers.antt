@@ -1,0 +1,34 @@
+use Rattle.std.proofs.Common.{◌≡◌, List, [], ◌∷◌, length, Some, slice_get, refl, sym, subst, arith}
+use Rattle.hub_job.specs.Outcome.{replicas_of}
+use Rattle.hub_schedule.specs.declared.seat.WorkingTree.{WorkingTree}
+use Rattle.hub_schedule.specs.Table.{AreTrees, IsNotIn, IsPlaced}
+use Rattle.hub_schedule.proofs.Opened.{get_front, rest_push, trees_push}
+use Rattle.hub_schedule.proofs.Places.{placed_last}
+use Rattle.hub_schedule.proofs.Tables.{within}
+use Rattle.hub_schedule.proofs.seats.place_for.Goals as goal
+
+pub returns-in-Some-clause-placed : goal.returns-in-Some-clause-placed
+returns-in-Some-clause-placed c = subst (λ (ts : List WorkingTree). IsPlaced ts c.args.root.now c.in-Some.place) c.as_slice.ensures.value c.in-Some.ensures
+
+pub returns-clause-placed : goal.returns-clause-placed
+returns-clause-placed c =
+    placed_last c.args.trees.now.items c.push.new.self.items (record { root = c.args.root; tree = c.in_ok-tree.tree }) c.len.result c.in_ok-push.ensures.items
+    (omega (arith, c.len.ensures, c.push.new.self.ok.0))
+
+pub returns-clause-trees : goal.returns-clause-trees
+returns-clause-trees c =
+    let absent : IsNotIn c.args.trees.now.items (length c.args.trees.now.items) c.args.root.now =
+    subst (λ (ts : List WorkingTree). IsNotIn ts (length ts) c.args.root.now) c.as_slice.ensures.value c.in_default.ensures in
+    subst (AreTrees (replicas_of c.args.state.now)) (sym c.in_ok-push.ensures.items)
+    (trees_push (replicas_of c.args.state.now) c.args.trees.now.items (record { root = c.args.root; tree = c.in_ok-tree.tree }) c.requires c.in_ok-tree.ensures
+    (λ k u e. absent k u (within c.args.trees.now.items k u e) e))
+
+pub returns-clause-more : goal.returns-clause-more
+returns-clause-more c = λ k t e.
+    subst (λ (ts : List WorkingTree). slice_get ts k ≡ Some t) (sym c.in_ok-push.ensures.items)
+    (get_front c.args.trees.now.items (record { root = c.args.root; tree = c.in_ok-tree.tree } ∷ []) k t e)
+
+pub returns-clause-rest : goal.returns-clause-rest
+returns-clause-rest c = λ k t e.
+    rest_push c.args.trees.now.items (record { root = c.args.root; tree = c.in_ok-tree.tree }) c.args.root.now refl k t
+    (subst (λ (ts : List WorkingTree). slice_get ts k ≡ Some t) c.in_ok-push.ensures.items e)

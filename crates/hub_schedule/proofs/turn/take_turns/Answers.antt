@@ -1,0 +1,34 @@
+use Rattle.std.proofs.Common.{◌+◌, ◌≤◌, ◌∙◌, ℕ, drop, length, subst}
+use Rattle.std.specs.Prelude.{slice_index_or}
+use Rattle.std.proofs.lemmas.Option.{slice_get-get_or}
+use Rattle.std.proofs.lemmas.List.{drop_all}
+use Rattle.hub_schedule.proofs.Found.{drop_at}
+use Rattle.hub_schedule.proofs.Thinned.{Taken, taken_all, taken_more}
+use Rattle.hub_schedule.proofs.turn.take_turns.Goals as goal
+
+pub loop-number-preserved : goal.loop-number-preserved
+loop-number-preserved c =
+    let seats = c.args.seats.now.items in
+    let trees = c.args.trees.now.items in
+    let js = c.args.schedule.now in
+    let n = c.loop-number.number-index in
+    let inv = c.loop-number.invariant in
+    let j : ℕ = slice_index_or js n 0 in
+    let at = slice_get-get_or js n 0 c.loop-number-test.true in
+    record {
+      taken = taken_more seats c.loop-number.seats.items c.take_turn.new.seats.items trees c.loop-number.trees.items c.take_turn.new.trees.items js (drop (n + 1) js) j
+          (subst (λ ks. Taken seats trees js c.loop-number.seats.items c.loop-number.trees.items ks) (drop_at js n j at) inv.taken)
+          c.take_turn.ensures.turn c.take_turn.ensures.stays;
+      placed = c.take_turn.ensures.placed;
+      count = c.take_turn.ensures.count ∙ inv.count;
+    }
+
+pub returns : goal.returns
+returns c =
+    let seats = c.args.seats.now.items in
+    let trees = c.args.trees.now.items in
+    let js = c.args.schedule.now in
+    let n = c.loop-number.number-index in
+    let over : length js ≤ n = c.loop-number-test.false in
+    taken_all seats c.loop-number.seats.items trees c.loop-number.trees.items js
+    (subst (λ ks. Taken seats trees js c.loop-number.seats.items c.loop-number.trees.items ks) (drop_all n js over) c.loop-number.invariant.taken)

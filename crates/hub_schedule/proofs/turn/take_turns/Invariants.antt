@@ -1,0 +1,11 @@
+use Rattle.std.proofs.Common.{◌≡◌, drop, length}
+use Rattle.hub_schedule.specs.Table.{ArePlaced}
+use Rattle.hub_schedule.proofs.Thinned.{Taken}
+use Rattle.hub_schedule.proofs.turn.take_turns.Given as goal
+
+abbrev pub invariant-loop-number : goal.invariant-loop-number
+invariant-loop-number l = record {
+  taken : Taken l.initial.seats.items l.initial.trees.items l.schedule l.seats.items l.trees.items (drop l.number-index l.schedule);
+  placed : ArePlaced l.seats.items l.trees.items;
+  count : length l.seats.items ≡ length l.initial.seats.items;
+}

@@ -1,0 +1,59 @@
+-- What the jobs of a schedule leave in a state.
+use Rattle.std.specs.Prelude.{◌≡◌, ◌≢◌, ℕ, Bool, false, ◌&&◌, slice_get, List, [], ◌∷◌, Option, Some, None, IsTrue, if◌then◌else◌, unwrap_or}
+use Rattle.std.specs.FinMap as fin
+use Rattle.hub_path.specs.Path.{Path, is_place}
+use Rattle.hub_profile.specs.Parts.{Parts}
+use Rattle.hub_reach.specs.Reach.{reach, has_root}
+use Rattle.hub_tree.specs.Tree.{Archive, old_mark_at}
+use Rattle.hub_tree.specs.declared.contents.Mark.{Mark}
+use Rattle.hub_state.specs.State.{State, archive_at, with_replica}
+use Rattle.hub_job.specs.declared.job_end.JobEnd.{JobEnd}
+use Rattle.hub_schedule.specs.declared.seat.Seat.{Seat}
+use Rattle.hub_schedule.specs.declared.seat.WorkingTree.{WorkingTree}
+use Rattle.hub_schedule.specs.declared.ends.NextArchive.{NextArchive}
+use Rattle.hub_job.specs.Ends.{end_of, items_of, archive_of}
+
+abbrev pub end_value : Seat → JobEnd
+end_value s = record { end = end_of s.job; log = s.job.log; items = items_of s.job }
+
+abbrev pub next_value : Seat → NextArchive
+next_value s = record { profile = s.profile; opening = s.opening; next = archive_of s.job }
+
+abbrev pub put_tree : State → WorkingTree → State
+put_tree S t = with_replica S t.root.now t.tree
+
+abbrev pub is_in : Archive → Path → Bool
+is_in a p = fin.contains_key a p
+
+-- The mark of a pair's archive at a path.
+abbrev pub mark_in : State → Path → Path → Path → Mark
+mark_in S r s p = old_mark_at (unwrap_or (archive_at S r s) fin.empty) p
+
+-- The mark of a next archive, if the profile has both roots and reaches the path, or else the mark that was there.
+abbrev pub mark_given : Parts → Archive → Path → Path → Path → Mark → Mark
+mark_given P next r s p old = if has_root P r && has_root P s && reach P p then old_mark_at next p else old
+
+abbrev pub mark_of_next : Parts → Option Archive → Path → Path → Path → Mark → Mark
+mark_of_next P None r s p old = old
+mark_of_next P (Some next) r s p old = mark_given P next r s p old
+
+-- The mark of the first next archive whose profile has both roots and reaches the path, or else the mark that was there.
+abbrev pub mark_from : List NextArchive → Path → Path → Path → Mark → Mark
+mark_from [] r s p old = old
+mark_from (n ∷ ns) r s p old = mark_of_next n.profile.now n.next r s p (mark_from ns r s p old)
+
+-- The archive of each pair of different roots has these marks, given those that it had.
+abbrev pub HasMarks : (Path → Path → Path → Mark → Mark) → State → State → Type 0
+HasMarks f before after =
+    (r s p : Path) → IsTrue (is_place r) → IsTrue (is_place s) → r ≢ s → mark_in after r s p ≡ f r s p (mark_in before r s p)
+
+abbrev pub KeptIn : Parts → Archive → Option Archive → Type 0
+KeptIn P O None = Unit {0}
+KeptIn P O (Some next) = (p : Path) → reach P p ≡ false → old_mark_at next p ≡ old_mark_at O p
+
+-- A next archive has the marks of the opening at the paths that the profile doesn't reach.
+abbrev pub KeepsUnreached : NextArchive → Type 0
+KeepsUnreached n = KeptIn n.profile.now n.opening.now n.next
+
+abbrev pub AreKept : List NextArchive → Type 0
+AreKept ns = (k : ℕ) (n : NextArchive) → slice_get ns k ≡ Some n → KeepsUnreached n

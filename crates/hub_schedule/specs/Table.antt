@@ -1,0 +1,88 @@
+-- Jobs and replicas that a schedule works on, against the world that they stand for.
+use Rattle.std.specs.Prelude.{◌≡◌, ◌≢◌, ◌≤◌, ◌<◌, ◌⊎◌, ◌==◌, ℕ, Bool, true, false, List, length, slice_get, count_by, Some}
+use Rattle.std.specs.List.{list_any}
+use Rattle.hub_path.specs.Path.{Path}
+use Rattle.hub_path.specs.declared.side.Side.{Side}
+use Rattle.hub_path.specs.declared.side.Side.TheVariants.{Left, Right}
+use Rattle.hub_profile.specs.Parts.{Parts, IsProfile, some_passes}
+use Rattle.hub_reach.specs.Reach.{has_root}
+use Rattle.hub_tree.specs.Tree.{Replica, Archive}
+use Rattle.hub_schedule.specs.declared.seat.Seat.{Seat}
+use Rattle.hub_schedule.specs.declared.seat.WorkingTree.{WorkingTree}
+use Rattle.hub_job.specs.JobValue.{JobValue, new_job}
+use Rattle.hub_job.specs.Run.{root_at}
+use Rattle.hub_job.specs.World.{World, Jobs, log_of, run, first_turns}
+
+abbrev pub place_on : Seat → Side → ℕ
+place_on s Left = s.left
+place_on s Right = s.right
+
+abbrev pub with_job : Seat → JobValue → Seat
+with_job s job = record s { job = job }
+
+abbrev pub with_tree : WorkingTree → Replica → WorkingTree
+with_tree t m = record t { tree = m }
+
+-- Whether there is a job of this number, and it was stopped.
+abbrev pub stopped_at : List Seat → ℕ → Bool
+stopped_at seats j = some_passes (λ s. s.job.stopped) (slice_get seats j)
+
+-- The replica of a root has this number.
+abbrev pub IsPlaced : List WorkingTree → Path → ℕ → Type 0
+IsPlaced trees r k = (t : WorkingTree) × (slice_get trees k ≡ Some t) × (t.root.now ≡ r)
+
+-- None of the first n replicas is that of a root.
+abbrev pub IsNotIn : List WorkingTree → ℕ → Path → Type 0
+IsNotIn trees n r = (k : ℕ) (t : WorkingTree) → k < n → slice_get trees k ≡ Some t → t.root.now ≢ r
+
+-- Each replica is that of its root, and no root is there twice.
+pub record AreTrees (replica : Path → Replica) (trees : List WorkingTree) : Type 0 where
+  pub each : (k : ℕ) (t : WorkingTree) → slice_get trees k ≡ Some t → t.tree ≡ replica t.root.now
+  pub once : (i k : ℕ) (t u : WorkingTree) → slice_get trees i ≡ Some t → slice_get trees k ≡ Some u → t.root.now ≡ u.root.now → i ≡ k
+
+-- A job of this number, profile and archive, that has asked nothing.
+pub record IsNew (j : ℕ) (P : Parts) (O : Archive) (s : Seat) : Type 0 where
+  pub valid : IsProfile P
+  pub profile : s.profile.now ≡ P
+  pub opening : s.opening.now ≡ O
+  pub job : s.job ≡ new_job j P O
+
+-- All replicas keep their numbers, and each new one has a root of the profile.
+pub record Extends (P : Parts) (old new : List WorkingTree) : Type 0 where
+  pub kept : (k : ℕ) (t : WorkingTree) → slice_get old k ≡ Some t → slice_get new k ≡ Some t
+  pub rest : (k : ℕ) (t : WorkingTree) → slice_get new k ≡ Some t → (slice_get old k ≡ Some t) ⊎ (has_root P t.root.now ≡ true)
+
+-- The numbers of a job's replicas are numbers of replicas.
+abbrev pub ArePlaced : List Seat → List WorkingTree → Type 0
+ArePlaced seats trees = (j : ℕ) (s : Seat) (k : Side) → slice_get seats j ≡ Some s → place_on s k < length trees
+
+-- A job of a world: its profile, archive, number and log, and the numbers of its replicas.
+pub record IsSeat (J : Jobs) (w : World) (trees : List WorkingTree) (j : ℕ) (s : Seat) : Type 0 where
+  pub is : slice_get J.profiles j ≡ Some s.profile.now
+  pub valid : IsProfile s.profile.now
+  pub opening : s.opening.now ≡ J.archive j
+  pub profile : s.job.profile ≡ s.profile.now
+  pub archive : s.job.archive ≡ s.opening.now
+  pub number : s.job.number ≡ j
+  pub log : s.job.log ≡ log_of w j
+  pub places : (k : Side) → IsPlaced trees (root_at s.profile.now k) (place_on s k)
+
+-- These jobs and replicas are those of a world.
+pub record IsTable (J : Jobs) (w : World) (seats : List Seat) (trees : List WorkingTree) : Type 0 where
+  pub each : (j : ℕ) (s : Seat) → slice_get seats j ≡ Some s → IsSeat J w trees j s
+  pub count : length seats ≡ length J.profiles
+  pub logs : length w.logs ≡ length J.profiles
+  pub replicas : AreTrees w.replica trees
+  pub roots : (k : ℕ) (t : WorkingTree) → slice_get trees k ≡ Some t → list_any (λ P. has_root P t.root.now) J.profiles ≡ true
+
+abbrev pub StayStopped : (ℕ → Bool) → (ℕ → Bool) → Type 0
+StayStopped before after = (j : ℕ) → before j ≡ true → after j ≡ true
+
+-- The world v is what turns of a schedule make of w, if each job has so many of its turns: a job that was stopped before
+-- has none, and one that isn't stopped afterwards has all.
+pub record IsThinned (J : Jobs) (w v : World) (schedule : List ℕ) (before after : ℕ → Bool) : Type 0 where
+  pub limit : ℕ → ℕ
+  pub world : v ≡ run J (first_turns limit schedule) w
+  pub none : (j : ℕ) → before j ≡ true → limit j ≡ 0
+  pub all : (j : ℕ) → after j ≡ false → count_by (λ i. i == j) schedule ≤ limit j
+  pub stays : StayStopped before after

@@ -1,0 +1,189 @@
+//! How the jobs of a schedule end, and what they leave in the state.
+ghost use Rattle.std.specs.Prelude.{◌≡◌, ◌≢◌, false, ◌&&◌, map, fold, unwrap_or, IfOk, OnOk, if◌then◌else◌};
+ghost use Rattle.std.specs.FinMap as fin;
+ghost use Rattle.hub_path.specs.Path.{Path};
+ghost use Rattle.hub_reach.specs.Reach.{reach};
+ghost use Rattle.hub_tree.specs.Tree as of_tree;
+ghost use Rattle.hub_state.specs.State.{archive_at};
+ghost use Rattle.hub_schedule.specs.Left as spec;
+
+use crate::seat::{Seat, WorkingTree};
+use hub_job::JobEnd;
+use hub_path::Root;
+use hub_profile::Profile;
+use hub_reach::reaches;
+use hub_state::State;
+use hub_text::Items;
+use hub_tree::Archive;
+use std::alloc::{AllocError, Global};
+
+/// What a job leaves to the archive of its pair of roots.
+#[derive(Drop)]
+pub(crate) struct NextArchive<'a> {
+    /// The profile of the job.
+    pub(crate) profile: &'a Profile,
+    /// The archive at the opening.
+    pub(crate) opening: &'a Archive,
+    /// The next archive, if the job is finished.
+    pub(crate) next: Option<Archive>,
+}
+
+/// Ends the jobs, in their order.
+pub(crate) fn end_jobs<'a>(
+    alloc: Global,
+    seats: Vec<Seat<'a>>,
+) -> Result<(Items<JobEnd>, Vec<NextArchive<'a>>), AllocError>
+    ensures ends { IfOk result (λ r. r.0 ≡ map spec.end_value seats.entry.items) }
+    ensures nexts { IfOk result (λ r. r.1.items ≡ map spec.next_value seats.entry.items) }
+{
+    let mut ends = Vec::new(alloc);
+    let mut nexts = Vec::new(alloc);
+    for seat in seats {
+        let Seat {
+            profile,
+            opening,
+            job,
+            left: _,
+            right: _,
+        } = seat;
+        let (end, next) = job.end()?;
+        ends.push(end)?;
+        nexts.push(NextArchive {
+            profile,
+            opening,
+            next,
+        })?;
+    }
+    Ok((Items::from_vec(ends), nexts))
+}
+
+/// Puts the replicas into the state. Out of memory may leave some of them there.
+pub(crate) fn put_trees(state: &mut State, trees: Vec<WorkingTree<'_>>) -> Result<(), AllocError>
+    ensures { OnOk result (state.new ≡ fold spec.put_tree state.old trees.entry.items) }
+{
+    for replica in trees {
+        let WorkingTree { root, tree } = replica;
+        state.put_replica(root, tree)?;
+    }
+    Ok(())
+}
+
+/// Puts what the jobs leave into the archives of their pairs of roots: at each path the mark of the first finished job that
+/// reaches it. Out of memory may leave some of it there.
+pub(crate) fn put_archives(
+    alloc: Global,
+    state: &mut State,
+    mut nexts: Vec<NextArchive<'_>>,
+) -> Result<(), AllocError>
+    requires { spec.AreKept nexts.items }
+    ensures replicas { OnOk result (state.new.replicas ≡ state.old.replicas) }
+    ensures marks { OnOk result
+        (spec.HasMarks (spec.mark_from nexts.entry.items) state.old state.new) }
+{
+    while let Some(job) = nexts.pop() {
+        put_next(alloc, state, job)?;
+    }
+    Ok(())
+}
+
+/// Puts what a job leaves into the archive of its pair of roots.
+fn put_next(alloc: Global, state: &mut State, job: NextArchive<'_>) -> Result<(), AllocError>
+    requires { spec.KeepsUnreached job }
+    ensures replicas { OnOk result (state.new.replicas ≡ state.old.replicas) }
+    ensures marks { OnOk result
+        (spec.HasMarks (spec.mark_of_next job.entry.profile.now job.entry.next) state.old state.new) }
+{
+    let NextArchive {
+        profile,
+        opening,
+        next,
+    } = job;
+    match next {
+        Some(next) => put_marks(alloc, state, profile, opening, next),
+        None => Ok(()),
+    }
+}
+
+/// Puts the marks of the paths that the profile reaches into the archive of its pair of roots.
+fn put_marks(
+    alloc: Global,
+    state: &mut State,
+    profile: &Profile,
+    opening: &Archive,
+    next: Archive,
+) -> Result<(), AllocError>
+    requires { (p : Path) → reach profile.now p ≡ false
+        → of_tree.old_mark_at next p ≡ of_tree.old_mark_at opening.now p }
+    ensures replicas { OnOk result (state.new.replicas ≡ state.old.replicas) }
+    ensures marks { OnOk result
+        (spec.HasMarks (spec.mark_given profile.now next) state.old state.new) }
+{
+    let roots = profile.roots();
+    let empty = Archive::new(alloc);
+    let current = archive_or(state, &roots[0], &roots[1], &empty);
+    let merged = merge_changes(profile, current, opening, next)?;
+    state.put_archive(&roots[0], &roots[1], merged)
+}
+
+/// Borrows the archive of two roots, or the empty one.
+fn archive_or<'a>(state: &'a State, left: &Root, right: &Root, empty: &'a Archive) -> &'a Archive
+    requires { empty.now ≡ fin.empty }
+    ensures { result.now ≡ unwrap_or (archive_at state.now left.now right.now) fin.empty }
+{
+    match state.archive(left, right) {
+        Some(archive) => archive,
+        None => empty,
+    }
+}
+
+/// Returns an archive with the marks of the next one at the paths that the profile reaches, and the current marks
+/// elsewhere. If the current archive is that of the opening, it is the next one.
+fn merge_changes(
+    profile: &Profile,
+    current: &Archive,
+    opening: &Archive,
+    next: Archive,
+) -> Result<Archive, AllocError>
+    requires { (p : Path) → reach profile.now p ≡ false
+        → of_tree.old_mark_at next p ≡ of_tree.old_mark_at opening.now p }
+    ensures { IfOk result (λ a. (p : Path) → of_tree.old_mark_at a p
+        ≡ (if reach profile.now p then of_tree.old_mark_at next p
+        else of_tree.old_mark_at current.now p)) }
+{
+    if current.same(opening) {
+        return Ok(next);
+    }
+    merge(profile, current, &next)
+}
+
+/// Returns an archive with the marks of the next one at the paths that the profile reaches, and the current marks
+/// elsewhere.
+fn merge(profile: &Profile, current: &Archive, next: &Archive) -> Result<Archive, AllocError>
+    ensures { IfOk result (λ a. (p : Path) → of_tree.old_mark_at a p
+        ≡ (if reach profile.now p then of_tree.old_mark_at next.now p
+        else of_tree.old_mark_at current.now p)) }
+{
+    let mut merged = current.copy()?;
+    take_marks(profile, next, current, &mut merged)?;
+    take_marks(profile, next, next, &mut merged)?;
+    Ok(merged)
+}
+
+/// Takes over the marks of an archive at those paths of another one that the profile reaches.
+fn take_marks(
+    profile: &Profile,
+    next: &Archive,
+    paths: &Archive,
+    merged: &mut Archive,
+) -> Result<(), AllocError>
+    ensures { OnOk result ((p : Path) → of_tree.old_mark_at merged.new p
+        ≡ (if spec.is_in paths.now p && reach profile.now p then of_tree.old_mark_at next.now p
+        else of_tree.old_mark_at merged.old p)) }
+{
+    for (path, _) in paths.iter() {
+        if reaches(profile, path) {
+            merged.set(path, next.mark_at(path))?;
+        }
+    }
+    Ok(())
+}

@@ -1,0 +1,20 @@
+//! Runs of the jobs of a set, by a schedule of turns.
+//!
+//! [`simulate`] runs them. Its contract is the promise of a safe set: in whatever order the jobs take turns, each of them does
+//! what it does alone. The laws of [`promise`] and [`together`] say so of every history of the replicas.
+#![tactic(auto)]
+
+mod ends;
+pub mod promise;
+mod refusals;
+mod rounds;
+mod safe;
+mod schedule;
+mod seat;
+mod seats;
+pub mod together;
+mod turn;
+
+pub use rounds::{rounds_for, run_rounds};
+pub use safe::simulate;
+pub use schedule::simulate_jobs;

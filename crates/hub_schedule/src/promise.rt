@@ -1,0 +1,109 @@
+//! The promise of a safe set: where the checker accepted the set, the order in which its jobs take turns makes no
+//! difference to any of them. Each law is the contract of a function that does nothing.
+ghost use Rattle.std.specs.Prelude.{◌≡◌, ◌≢◌, ◌≤◌, ℕ, List, replicate, slice_get, Some};
+ghost use Rattle.hub_path.specs.Path.{Path};
+ghost use Rattle.hub_profile.specs.Parts.{Parts};
+ghost use Rattle.hub_reach.specs.Safe.{Rule, IsSafe};
+ghost use Rattle.hub_state.specs.State.{State, IsState};
+ghost use Rattle.hub_job.specs.declared.job_end.End.TheVariants as end;
+ghost use Rattle.hub_job.specs.declared.job_end.JobEnd.{JobEnd};
+ghost use Rattle.hub_job.specs.declared.outcome.Outcome.{Outcome};
+ghost use Rattle.hub_job.specs.declared.log.Entry.{Entry};
+ghost use Rattle.hub_job.specs.Outcome.{IsOutcomeOf, KeepsTurns, world_after};
+ghost use Rattle.hub_schedule.specs.Promise.{EnoughTurnsFinish, FinishedAreSynchronized, ForeignAreAsBefore, HasReplicas, IsAsPromised, OldMarksStay, Settles};
+ghost use Rattle.hub_schedule.specs.Settled.{AreProfiles};
+ghost use Rattle.hub_schedule.specs.Simulated.{EnoughTurnsEnd, IsLoneSynchronization, LogsAreOfTurns, TurnsSuffice, turns_enough};
+ghost use Rattle.hub_job.specs.World.{first_turns};
+
+use crate::together::{a_run_settles, each_set_is_allowed, jobs_leave_each_other_alone};
+use hub_job::laws::each_log_is_the_one_alone;
+
+/// Of an outcome that histories settle: each finished job of a safe set has synchronized its replicas and their archive,
+/// whatever other jobs of the pair did; an archive keeps its marks where no finished job of the pair reaches; and a
+/// replica of no profile is the same as before.
+pub fn finished_jobs_synchronize()
+    ensures finished { (S : State) (Ps : List Parts) (Rs : List Rule)
+        (histories : Path → List Entry) (o : Outcome) → IsState S → HasReplicas S Ps
+        → AreProfiles Ps → IsSafe Ps Rs → Settles S Ps histories o
+        → FinishedAreSynchronized S Ps o }
+    ensures marks { (S : State) (Ps : List Parts) (histories : Path → List Entry) (o : Outcome)
+        → Settles S Ps histories o → OldMarksStay S Ps o }
+    ensures foreign { (S : State) (Ps : List Parts) (histories : Path → List Entry) (o : Outcome)
+        → Settles S Ps histories o → ForeignAreAsBefore S Ps o.state }
+{
+    jobs_leave_each_other_alone();
+}
+
+/// Of an outcome that histories settle: a job of a safe set that wasn't stopped, and that took as many turns as it takes
+/// alone until it is finished, is finished.
+pub fn enough_turns_finish()
+    ensures { (S : State) (Ps : List Parts) (Rs : List Rule) (histories : Path → List Entry)
+        (o : Outcome) → IsState S → AreProfiles Ps → IsSafe Ps Rs → Settles S Ps histories o
+        → EnoughTurnsFinish S Ps o }
+{
+    jobs_leave_each_other_alone();
+}
+
+/// Where the checker accepted the set, no order of steps makes a difference to a job: every outcome that histories settle
+/// is as promised.
+pub fn safe_sets_keep_their_promise()
+    ensures { (S : State) (Ps : List Parts) (Rs : List Rule) (histories : Path → List Entry)
+        (o : Outcome) → IsState S → HasReplicas S Ps → AreProfiles Ps → IsSafe Ps Rs
+        → Settles S Ps histories o → IsAsPromised S Ps Rs histories o }
+{
+    jobs_leave_each_other_alone();
+    each_set_is_allowed();
+}
+
+/// An outcome of a schedule is settled by the histories of the world that the schedule leads to.
+pub fn schedules_settle()
+    ensures { (S : State) (Ps : List Parts) (turns : List ℕ) (o : Outcome)
+        → IsOutcomeOf S Ps turns o → Settles S Ps (world_after S Ps turns).history o }
+{
+    a_run_settles();
+}
+
+/// So every outcome of a schedule is as promised.
+pub fn schedules_keep_the_promise()
+    ensures { (S : State) (Ps : List Parts) (Rs : List Rule) (turns : List ℕ) (o : Outcome)
+        → IsState S → HasReplicas S Ps → AreProfiles Ps → IsSafe Ps Rs → IsOutcomeOf S Ps turns o
+        → IsAsPromised S Ps Rs (world_after S Ps turns).history o }
+{
+    safe_sets_keep_their_promise();
+    schedules_settle();
+}
+
+/// Of an outcome of a schedule: the log of each job of a safe set is the one that it gets alone in as many turns as the
+/// schedule gives it; a stopped job may have lost some. A job that wasn't stopped is finished, if it had as many turns as
+/// it takes alone; and 4k + 3n turns are always enough, for k kept values and n entries in the job's two replicas.
+pub fn schedules_give_logs_alone()
+    ensures logs { (S : State) (Ps : List Parts) (Rs : List Rule) (limit : ℕ → ℕ)
+        (schedule : List ℕ) (o : Outcome) → IsSafe Ps Rs
+        → IsOutcomeOf S Ps (first_turns limit schedule) o → KeepsTurns limit schedule o
+        → LogsAreOfTurns S Ps schedule o }
+    ensures enough { (S : State) (Ps : List Parts) (Rs : List Rule) (limit : ℕ → ℕ)
+        (schedule : List ℕ) (o : Outcome) → IsSafe Ps Rs
+        → IsOutcomeOf S Ps (first_turns limit schedule) o → KeepsTurns limit schedule o
+        → EnoughTurnsEnd S Ps schedule o }
+    ensures suffice { (S : State) (Ps : List Parts) → IsState S → AreProfiles Ps
+        → TurnsSuffice S Ps }
+{
+    each_log_is_the_one_alone();
+}
+
+/// A job of a safe set that alone takes turns, and wasn't stopped, is finished after 4k + 3n turns, for k kept values and
+/// n entries in its two replicas; nothing was refused to it; and its replicas, their archive and its items are those of
+/// one synchronization.
+pub fn a_lone_job_is_synchronized()
+    ensures { (S : State) (Ps : List Parts) (Rs : List Rule) (limit : ℕ → ℕ) (o : Outcome)
+        (j n : ℕ) (P : Parts) (e : JobEnd) → IsState S → HasReplicas S Ps → AreProfiles Ps
+        → IsSafe Ps Rs → IsOutcomeOf S Ps (first_turns limit (replicate n j)) o
+        → KeepsTurns limit (replicate n j) o → slice_get Ps j ≡ Some P
+        → slice_get o.jobs j ≡ Some e → e.end ≢ end.Stopped → turns_enough S P ≤ n
+        → IsLoneSynchronization S P e o.state }
+{
+    a_run_settles();
+    finished_jobs_synchronize();
+    schedules_settle();
+    schedules_give_logs_alone();
+}

@@ -1,0 +1,43 @@
+ghost use Rattle.std.specs.Prelude.{◌≡◌};
+ghost use Rattle.hub_schedule.specs.Table.{place_on};
+
+use hub_job::Job;
+use hub_path::{Root, Side};
+use hub_profile::Profile;
+use hub_tree::{Archive, Tree};
+
+/// A replica that the jobs change.
+#[derive(Drop)]
+pub(crate) struct WorkingTree<'a> {
+    /// Its root.
+    pub(crate) root: &'a Root,
+    /// The replica as it is now.
+    pub(crate) tree: Tree,
+}
+
+/// A job among others.
+#[derive(Drop)]
+pub(crate) struct Seat<'a> {
+    /// The profile of the job.
+    pub(crate) profile: &'a Profile,
+    /// The archive of its pair of roots at the opening.
+    pub(crate) opening: &'a Archive,
+    /// The job.
+    pub(crate) job: Job<'a>,
+    /// The number of its left replica in the list of replicas.
+    pub(crate) left: usize,
+    /// The number of its right replica there.
+    pub(crate) right: usize,
+}
+
+impl<'a> Seat<'a> {
+    /// Returns the number of the job's replica on that side.
+    pub(crate) fn place(&self, side: Side) -> usize
+        ensures { result ≡ place_on self.now side }
+    {
+        match side {
+            Side::Left => self.left,
+            Side::Right => self.right,
+        }
+    }
+}

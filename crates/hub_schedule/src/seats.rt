@@ -1,0 +1,129 @@
+//! The jobs of profiles, and the replicas that they change.
+ghost use Rattle.std.specs.Prelude.{◌≡◌, ◌⊎◌, ℕ, false, Some, MatchOption, length, slice_get, IfOk, OnOk};
+ghost use Rattle.std.specs.FinMap as fin;
+ghost use Rattle.hub_path.specs.declared.side.Side.TheVariants as of_side;
+ghost use Rattle.hub_schedule.specs.declared.seat.WorkingTree.{WorkingTree};
+ghost use Rattle.hub_job.specs.Outcome.{archive_of, jobs_of, replicas_of};
+ghost use Rattle.hub_job.specs.Run.{root_at};
+ghost use Rattle.hub_schedule.specs.Table.{AreTrees, Extends, IsNew, IsNotIn, IsPlaced, IsTable, stopped_at};
+ghost use Rattle.hub_job.specs.World.{opening};
+
+use crate::seat::{Seat, WorkingTree};
+use hub_job::Job;
+use hub_path::Root;
+use hub_profile::Profile;
+use hub_state::State;
+use hub_tree::{Archive, Tree};
+use std::alloc::{AllocError, Global};
+
+/// Makes the jobs of the profiles, by number, and a working copy of each replica that they have. A replica that the state
+/// lacks is empty, and so is an archive: `empty` is lent in its place.
+pub(crate) fn seats_for<'a>(
+    alloc: Global,
+    profiles: &'a [Profile],
+    state: &'a State,
+    empty: &'a Archive,
+) -> Result<(Vec<Seat<'a>>, Vec<WorkingTree<'a>>), AllocError>
+    requires { empty.now ≡ fin.empty }
+    ensures table { IfOk result (λ r. IsTable (jobs_of state.now profiles.now)
+        (opening (jobs_of state.now profiles.now) (replicas_of state.now)) r.0.items r.1.items) }
+    ensures going { IfOk result (λ r. (j : ℕ) → stopped_at r.0.items j ≡ false) }
+{
+    let mut seats = Vec::new(alloc);
+    let mut trees = Vec::new(alloc);
+    for profile in profiles {
+        let seat = seat_for(alloc, seats.len(), profile, state, empty, &mut trees)?;
+        seats.push(seat)?;
+    }
+    Ok((seats, trees))
+}
+
+/// Makes a job, and a working copy of each of its replicas, unless it is there.
+fn seat_for<'a>(
+    alloc: Global,
+    number: usize,
+    profile: &'a Profile,
+    state: &'a State,
+    empty: &'a Archive,
+    trees: &mut Vec<WorkingTree<'a>>,
+) -> Result<Seat<'a>, AllocError>
+    requires empty { empty.now ≡ fin.empty }
+    requires trees { AreTrees (replicas_of state.now) trees.old.items }
+    ensures seat { IfOk result (λ s. IsNew number profile.now (archive_of state.now (Some profile.now)) s) }
+    ensures left { IfOk result
+        (λ s. IsPlaced trees.new.items (root_at profile.now of_side.Left) s.left) }
+    ensures right { IfOk result
+        (λ s. IsPlaced trees.new.items (root_at profile.now of_side.Right) s.right) }
+    ensures trees { OnOk result (AreTrees (replicas_of state.now) trees.new.items) }
+    ensures more { OnOk result (Extends profile.now trees.old.items trees.new.items) }
+{
+    let roots = profile.roots();
+    let left = place_for(alloc, state, &roots[0], trees)?;
+    let right = place_for(alloc, state, &roots[1], trees)?;
+    let opening = opening_of(profile, state, empty);
+    Ok(Seat {
+        profile,
+        opening,
+        job: Job::new(alloc, number, profile, opening)?,
+        left,
+        right,
+    })
+}
+
+/// Returns the number of a root's replica, and makes a working copy of it first, unless it is there.
+fn place_for<'a>(
+    alloc: Global,
+    state: &'a State,
+    root: &'a Root,
+    trees: &mut Vec<WorkingTree<'a>>,
+) -> Result<usize, AllocError>
+    requires { AreTrees (replicas_of state.now) trees.old.items }
+    ensures placed { IfOk result (IsPlaced trees.new.items root.now) }
+    ensures trees { OnOk result (AreTrees (replicas_of state.now) trees.new.items) }
+    ensures more { OnOk result ((k : ℕ) (t : WorkingTree) → slice_get trees.old.items k ≡ Some t
+        → slice_get trees.new.items k ≡ Some t) }
+    ensures rest { OnOk result ((k : ℕ) (t : WorkingTree) → slice_get trees.new.items k ≡ Some t
+        → (slice_get trees.old.items k ≡ Some t) ⊎ (t.root.now ≡ root.now)) }
+{
+    if let Some(place) = find_tree(trees.as_slice(), root) {
+        return Ok(place);
+    }
+    let tree = copy_of(alloc, state, root)?;
+    trees.push(WorkingTree { root, tree })?;
+    Ok(trees.len() - 1)
+}
+
+/// Borrows the archive of a profile's two roots, or the empty one.
+fn opening_of<'a>(profile: &Profile, state: &'a State, empty: &'a Archive) -> &'a Archive
+    requires { empty.now ≡ fin.empty }
+    ensures { result.now ≡ archive_of state.now (Some profile.now) }
+{
+    let roots = profile.roots();
+    match state.archive(&roots[0], &roots[1]) {
+        Some(archive) => archive,
+        None => empty,
+    }
+}
+
+/// Copies the replica of a root. One that the state lacks is empty.
+fn copy_of(alloc: Global, state: &State, root: &Root) -> Result<Tree, AllocError>
+    ensures { IfOk result (λ t. t ≡ replicas_of state.now root.now) }
+{
+    match state.replica(root) {
+        Some(tree) => tree.copy(),
+        None => Ok(Tree::new(alloc)),
+    }
+}
+
+/// Finds the replica of a root.
+fn find_tree(trees: &[WorkingTree<'_>], root: &Root) -> Option<usize>
+    ensures { MatchOption result (IsNotIn trees.now (length trees.now) root.now)
+        (IsPlaced trees.now root.now) }
+{
+    for (place, tree) in trees.iter().enumerate() {
+        if tree.root == root {
+            return Some(place);
+        }
+    }
+    None
+}

@@ -1,0 +1,126 @@
+//! What holds of the jobs of a set together, whatever the order of their turns: each law is the contract of a function
+//! that does nothing.
+ghost use Rattle.std.specs.Prelude.{◌≡◌, ℕ, List, slice_get, Some, IsTrue, false};
+ghost use Rattle.std.specs.List.{list_any};
+ghost use Rattle.hub_path.specs.Path.{Path};
+ghost use Rattle.hub_profile.specs.Parts.{Parts};
+ghost use Rattle.hub_reach.specs.Reach.{has_root};
+ghost use Rattle.hub_reach.specs.Safe.{Rule, IsSafe};
+ghost use Rattle.hub_tree.specs.Tree.{Replica, IsTree, contents_at};
+ghost use Rattle.hub_tree.specs.declared.contents.Contents.{Contents};
+ghost use Rattle.hub_job.specs.declared.log.Entry.{Entry};
+ghost use Rattle.hub_job.specs.declared.log.Logged.{Logged};
+ghost use Rattle.hub_job.specs.declared.op.Op.TheVariants.{Set};
+ghost use Rattle.hub_schedule.specs.History.{replay};
+ghost use Rattle.hub_schedule.specs.Owned.{IsItsOwn, NobodyWrites};
+ghost use Rattle.hub_job.specs.Same.{AreApart};
+ghost use Rattle.hub_schedule.specs.Settled.{AreProfiles, IsSettled, IsAsAlone, IsSettledWorld};
+ghost use Rattle.hub_schedule.specs.Together.{left_at, LogsAreAlone, OthersAreLeftAlone, OwnPathsAreAlone, ElsewhereIsAsBefore, SetsAreAllowed};
+ghost use Rattle.hub_job.specs.World.{Jobs, log_of, run, opening};
+
+use hub_job::laws::{
+    a_job_asks_only_what_it_may, answers_are_by_what_they_depend_on, others_change_no_answer,
+};
+use hub_tree::laws::a_set_keeps_trees;
+
+/// After each schedule of turns the histories of the replicas are legal and agree with the logs of the jobs, each log is
+/// a run of its job, and each replica is what its history leaves of the opening.
+pub fn a_run_settles()
+    ensures { (J : Jobs) (replicas : Path → Replica) (js : List ℕ)
+        → IsSettledWorld J replicas (run J js (opening J replicas)) }
+{}
+
+/// Where histories are legal, and agree with the logs of jobs that don't clash, each log is the one that its job gets
+/// alone. No order between the histories of two replicas is used.
+pub fn agreeing_histories_are_as_alone()
+    ensures { (J : Jobs) (replicas : Path → Replica) (histories : Path → List Entry)
+        (logs : ℕ → List Logged) (j : ℕ) (P : Parts) → AreApart J.profiles
+        → AreProfiles J.profiles → slice_get J.profiles j ≡ Some P
+        → IsSettled J replicas histories logs → IsAsAlone J replicas histories logs j P }
+{
+    a_job_asks_only_what_it_may();
+    answers_are_by_what_they_depend_on();
+    others_change_no_answer();
+}
+
+/// Where histories are legal, and agree with the logs of jobs that don't clash, each Set in them stands where its job
+/// writes, and at no path that the answers to another job of the root depend on: none that it reaches or passes through.
+pub fn each_set_is_its_own()
+    ensures { (J : Jobs) (replicas : Path → Replica) (histories : Path → List Entry)
+        (logs : ℕ → List Logged) (i : ℕ) (P : Parts) (r : Path) (k : ℕ) (e : Entry) (p : Path)
+        (c : Contents) → AreApart J.profiles → IsSettled J replicas histories logs
+        → slice_get J.profiles i ≡ Some P → IsTrue (has_root P r)
+        → slice_get (histories r) k ≡ Some e → e.op ≡ Set p c → IsItsOwn J.profiles r e p }
+{
+    a_job_asks_only_what_it_may();
+}
+
+/// Where histories are legal and agree with the logs of jobs, a path that no job of the root writes is as at the opening.
+pub fn what_nobody_writes_stays()
+    ensures { (J : Jobs) (replicas : Path → Replica) (histories : Path → List Entry)
+        (logs : ℕ → List Logged) (i : ℕ) (P : Parts) (r p : Path)
+        → IsSettled J replicas histories logs → slice_get J.profiles i ≡ Some P
+        → IsTrue (has_root P r) → NobodyWrites J.profiles r p
+        → contents_at (replay (replicas r) (histories r)) p ≡ contents_at (replicas r) p }
+{
+    a_job_asks_only_what_it_may();
+    a_set_keeps_trees();
+}
+
+/// What histories and logs that fit together leave, where no two jobs clash: each log is the job's log alone, no operation
+/// changes what another job passes through, each job's own paths are as when it was alone, and what nobody reaches is as
+/// it was.
+pub fn jobs_leave_each_other_alone()
+    ensures logs { (J : Jobs) (replicas : Path → Replica) (histories : Path → List Entry)
+        (logs : ℕ → List Logged) → AreApart J.profiles → AreProfiles J.profiles
+        → IsSettled J replicas histories logs → LogsAreAlone J replicas logs }
+    ensures others { (J : Jobs) (replicas : Path → Replica) (histories : Path → List Entry)
+        (logs : ℕ → List Logged) → AreApart J.profiles → IsSettled J replicas histories logs
+        → OthersAreLeftAlone J replicas histories }
+    ensures own { (J : Jobs) (replicas : Path → Replica) (histories : Path → List Entry)
+        (logs : ℕ → List Logged) → AreApart J.profiles → AreProfiles J.profiles
+        → IsSettled J replicas histories logs
+        → OwnPathsAreAlone J replicas (left_at replicas histories) logs }
+    ensures elsewhere { (J : Jobs) (replicas : Path → Replica) (histories : Path → List Entry)
+        (logs : ℕ → List Logged) (j : ℕ) (P : Parts) (r : Path)
+        → IsSettled J replicas histories logs → slice_get J.profiles j ≡ Some P
+        → IsTrue (has_root P r)
+        → ElsewhereIsAsBefore J.profiles r (replicas r) (left_at replicas histories r) }
+{
+    a_job_asks_only_what_it_may();
+    others_change_no_answer();
+    agreeing_histories_are_as_alone();
+    what_nobody_writes_stays();
+}
+
+/// The same of the world after a schedule of turns. A replica of no profile is never changed.
+pub fn a_run_leaves_others_alone()
+    ensures others { (J : Jobs) (replicas : Path → Replica) (js : List ℕ) → AreApart J.profiles
+        → OthersAreLeftAlone J replicas (run J js (opening J replicas)).history }
+    ensures own { (J : Jobs) (replicas : Path → Replica) (js : List ℕ) → AreApart J.profiles
+        → AreProfiles J.profiles
+        → OwnPathsAreAlone J replicas (run J js (opening J replicas)).replica
+        (log_of (run J js (opening J replicas))) }
+    ensures elsewhere { (J : Jobs) (replicas : Path → Replica) (js : List ℕ) (j : ℕ) (P : Parts)
+        (r : Path) → slice_get J.profiles j ≡ Some P → IsTrue (has_root P r)
+        → ElsewhereIsAsBefore J.profiles r (replicas r) ((run J js (opening J replicas)).replica r) }
+    ensures foreign { (J : Jobs) (replicas : Path → Replica) (js : List ℕ) (r : Path)
+        → list_any (λ P. has_root P r) J.profiles ≡ false
+        → (run J js (opening J replicas)).replica r ≡ replicas r }
+{
+    a_run_settles();
+    jobs_leave_each_other_alone();
+}
+
+/// Each Set in histories that fit the logs of the jobs of a safe set creates, updates or deletes what its job's profile
+/// allows there, judged by the contents that it finds, and breaks no rule.
+pub fn each_set_is_allowed()
+    ensures { (J : Jobs) (Rs : List Rule) (replicas : Path → Replica)
+        (histories : Path → List Entry) (logs : ℕ → List Logged) → AreProfiles J.profiles
+        → IsSafe J.profiles Rs → ((r : Path) → IsTree (replicas r))
+        → IsSettled J replicas histories logs → SetsAreAllowed J.profiles Rs replicas histories }
+{
+    a_job_asks_only_what_it_may();
+    answers_are_by_what_they_depend_on();
+    others_change_no_answer();
+}

@@ -1,0 +1,73 @@
+//! Turns of jobs on shared replicas.
+ghost use Rattle.std.specs.Prelude.{◌≡◌, ◌<◌, ℕ, true, false, length, Some, All, if◌then◌else◌};
+ghost use Rattle.hub_job.specs.JobValue as value;
+ghost use Rattle.hub_job.specs.Machine as machine;
+ghost use Rattle.hub_schedule.specs.Table.{ArePlaced, IsTable, IsThinned, StayStopped, stopped_at, with_job, with_tree};
+ghost use Rattle.hub_job.specs.World.{Jobs, World, turn};
+
+use crate::seat::{Seat, WorkingTree};
+use hub_job::{Next, Op, perform};
+use hub_path::Side;
+use std::alloc::{AllocError, Global};
+
+/// Lets the jobs take the turns of a schedule. A job that finds no memory is stopped, and loses the rest of its turns.
+pub(crate) fn take_turns(
+    alloc: Global,
+    seats: &mut Vec<Seat<'_>>,
+    trees: &mut Vec<WorkingTree<'_>>,
+    schedule: &[usize],
+)
+    requires placed { ArePlaced seats.old.items trees.old.items }
+    requires numbers { All (λ j. j < length seats.old.items) schedule.now }
+    ensures { (J : Jobs) (w : World) → IsTable J w seats.old.items trees.old.items
+        → (v : World) × IsTable J v seats.new.items trees.new.items
+        × IsThinned J w v schedule.now (stopped_at seats.old.items) (stopped_at seats.new.items) }
+{
+    for number in schedule {
+        take_turn(alloc, seats, trees, *number);
+    }
+}
+
+/// Lets a job take a turn. If it finds no memory, it is stopped and has done nothing.
+fn take_turn(
+    alloc: Global,
+    seats: &mut Vec<Seat<'_>>,
+    trees: &mut Vec<WorkingTree<'_>>,
+    number: usize,
+)
+    requires placed { ArePlaced seats.old.items trees.old.items }
+    requires number { number < length seats.old.items }
+    ensures turn { (J : Jobs) (w : World) → IsTable J w seats.old.items trees.old.items
+        → IsTable J (if stopped_at seats.new.items number then w else turn J number w)
+        seats.new.items trees.new.items }
+    ensures stays { StayStopped (stopped_at seats.old.items) (stopped_at seats.new.items) }
+    ensures others { (j : ℕ) → stopped_at seats.new.items j ≡ true
+        → stopped_at seats.old.items j ≡ false → j ≡ number }
+    ensures placed { ArePlaced seats.new.items trees.new.items }
+    ensures count { length seats.new.items ≡ length seats.old.items }
+{
+    let seat = &mut seats[number];
+    if let Next::Ask(side, op) = seat.job.turn() {
+        let place = seat.place(side);
+        answer(alloc, seat, &mut trees[place], side, &op);
+    }
+}
+
+/// Gives a job the answer of a replica. If there is no memory, the job is stopped, and the replica is as it was.
+fn answer(alloc: Global, seat: &mut Seat<'_>, replica: &mut WorkingTree<'_>, side: Side, op: &Op)
+    requires going { seat.old.job.stopped ≡ false }
+    requires asks { seat.old.job.asked ≡ Some (record { side = side; op = op.now }) }
+    ensures lost { seat.new.job.stopped ≡ true
+        → (seat.new ≡ with_job seat.old (value.stopped_job seat.old.job))
+        × (replica.new ≡ replica.old) }
+    ensures made { seat.new.job.stopped ≡ false
+        → (seat.new ≡ with_job seat.old (value.with_answer seat.old.job
+        (record { side = side; op = op.now })
+        (machine.answer replica.old.tree seat.old.profile.now replica.old.root.now op.now)))
+        × (replica.new ≡ with_tree replica.old (machine.after replica.old.tree op.now)) }
+{
+    match perform(alloc, seat.profile, replica.root, &mut replica.tree, op) {
+        Ok(answer) => seat.job.take(answer),
+        Err(AllocError) => seat.job.stop(),
+    }
+}

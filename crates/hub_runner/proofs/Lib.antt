@@ -1,0 +1,4 @@
+pub mod Firsts
+pub mod JobPlaces
+pub mod Least
+pub mod OddJobs

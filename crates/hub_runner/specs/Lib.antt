@@ -1,0 +1,3 @@
+pub mod Settling
+pub mod Odd
+pub mod SettlingExamples

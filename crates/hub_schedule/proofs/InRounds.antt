@@ -11,6 +11,7 @@ use Rattle.hub_tree.specs.Tree.{Replica}
 use Rattle.hub_tree.specs.declared.contents.Contents.{Contents}
 use Rattle.hub_state.specs.State.{State, replica_at}
 use Rattle.hub_job.specs.Outcome.{replicas_of}
+use Rattle.hub_schedule.specs.Table.{whole_rounds}
 use Rattle.hub_schedule.specs.Simulated.{AllHaveEnough, turns_enough, turns_of}
 use Rattle.std.proofs.lemmas.List.{map-id, append_assoc}
 use Rattle.std.proofs.lemmas.List.FromFn.{map-range_with_len_more, length-range_with_len, get_or-range_with_len}
@@ -89,3 +90,16 @@ one_more jobs rounds old new are e = record {
 pub enough : (S : State) (Ps : List Parts) (rounds : ℕ) (schedule : List ℕ) → AreRounds (length Ps) rounds schedule
     → ((j : ℕ) (P : Parts) → slice_get Ps j ≡ Some P → turns_enough S P ≤ rounds) → AllHaveEnough S Ps schedule
 enough S Ps rounds schedule are most j P e = subst (λ n. turns_enough S P ≤ n) (sym (are.counts j (slice_get_within Ps j P e))) (most j P e)
+
+-- Whole rounds.
+pub whole_below : (n rounds : ℕ) → All (λ j. j < n) (whole_rounds n rounds)
+whole_below n zero = λ i d h. absurd (omega arith)
+whole_below n (suc rounds) = All-append (λ j. j < n) (range_with_len 0 n) (whole_rounds n rounds) (all_round n) (whole_below n rounds)
+
+pub whole_counts : (n rounds j : ℕ) → j < n → turns_of j (whole_rounds n rounds) ≡ rounds
+whole_counts n zero j h = refl
+whole_counts n (suc rounds) j h =
+    count_both j (range_with_len 0 n) (whole_rounds n rounds) ∙ (let a = count_round j n h in let b = whole_counts n rounds j h in omega arith)
+
+pub whole_enough : (S : State) (Ps : List Parts) (rounds : ℕ) → ((j : ℕ) (P : Parts) → slice_get Ps j ≡ Some P → turns_enough S P ≤ rounds) → AllHaveEnough S Ps (whole_rounds (length Ps) rounds)
+whole_enough S Ps rounds most j P e = subst (λ n. turns_enough S P ≤ n) (sym (whole_counts (length Ps) rounds j (slice_get_within Ps j P e))) (most j P e)

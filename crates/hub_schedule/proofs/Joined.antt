@@ -1,5 +1,5 @@
 -- The jobs and the replicas of a world at its end are an outcome of it.
-use Rattle.std.proofs.Common.{◌≡◌, ◌≢◌, ◌+◌, ◌⊎◌, inl, inr, Bool, true, false, cond, ◌||◌, List, [], ◌∷◌, length, map, Some, None, refl, ap, sym, ◌∙◌, subst, arith}
+use Rattle.std.proofs.Common.{◌≡◌, ◌≢◌, ◌+◌, ◌⊎◌, inl, inr, Bool, true, false, cond, ◌||◌, List, [], ◌∷◌, length, map, Some, None, Result, Ok, Err, IfOk, refl, ap, sym, ◌∙◌, subst, arith}
 use Rattle.std.specs.Prelude.{ℕ, zero, suc, IsTrue, slice_get, find, fold, is_some, unwrap_or, if◌then◌else◌}
 use Rattle.std.specs.List.{list_any, range_with_len}
 use Rattle.std.specs.FinMap as fin
@@ -30,7 +30,7 @@ use Rattle.hub_job.specs.Outcome.{jobs_of}
 use Rattle.hub_schedule.specs.Promise.{HasReplicas}
 use Rattle.hub_job.specs.Run.{root_at}
 use Rattle.hub_schedule.specs.Settled.{AreProfiles}
-use Rattle.hub_schedule.specs.Table.{place_on, stopped_at, IsPlaced, IsTable, IsThinned}
+use Rattle.hub_schedule.specs.Table.{place_on, stopped_at, IsOutcomeAfter, IsPlaced, IsTable, IsThinned}
 use Rattle.hub_job.specs.World.{World, log_of, opening}
 use Rattle.hub_job.proofs.Blind.{same_path, path_itself}
 use Rattle.hub_job.proofs.InWorld.{two_roots}
@@ -119,11 +119,21 @@ how_ended : (b : Bool) (x y : End) → x ≡ (if b then end.Stopped else y) → 
 how_ended true x y e = inl e
 how_ended false x y e = inr e
 
+seat_of : (seats : List Seat) (o : Outcome) → o.jobs ≡ map end_value seats → (j : ℕ) (e : JobEnd) → slice_get o.jobs j ≡ Some e → (s : Seat) × (slice_get seats j ≡ Some s) × (e ≡ end_value s)
+seat_of seats o jobs j e at = map_get end_value seats j e (sym (ap (λ (es : List JobEnd). slice_get es j) jobs) ∙ at)
+
+-- A stopped job ends as stopped.
+pub went_on : (seats : List Seat) (o : Outcome) → o.jobs ≡ map end_value seats → (j : ℕ) (e : JobEnd) → slice_get o.jobs j ≡ Some e → e.end ≢ end.Stopped → stopped_at seats j ≡ false
+went_on seats o jobs j e at going =
+    let s = seat_of seats o jobs j e at in
+    ap (some_passes (λ (s : Seat). s.job.stopped)) s.1
+    ∙ false_from_ne_true s.0.job.stopped (λ h. going (ap (λ (e : JobEnd). e.end) s.2 ∙ ap (λ b. if b then end.Stopped else end_by (next s.0.job.profile s.0.job.archive s.0.job.log)) h))
+
 module _ (S : State) (Ps : List Parts) (has : HasReplicas S Ps) (w : World) (seats : List Seat) (trees : List WorkingTree) (table : IsTable (jobs_of S Ps) w seats trees) (o : Outcome)
     (jobs : o.jobs ≡ map end_value seats) (same : o.state.replicas ≡ (fold put_tree S trees).replicas) (marks : HasMarks (mark_from (map next_value seats)) (fold put_tree S trees) o.state) where
   -- Jobs.
   job_at : (j : ℕ) (e : JobEnd) → slice_get o.jobs j ≡ Some e → (s : Seat) × (slice_get seats j ≡ Some s) × (e ≡ end_value s)
-  job_at j e at = map_get end_value seats j e (sym (ap (λ (es : List JobEnd). slice_get es j) jobs) ∙ at)
+  job_at = seat_of seats o jobs
 
   seat_profile : (j : ℕ) (s : Seat) (P : Parts) → slice_get seats j ≡ Some s → slice_get Ps j ≡ Some P → s.profile.now ≡ P
   seat_profile j s P at is = one_value s.profile.now P (sym (table.each j s at).is ∙ is)
@@ -221,15 +231,12 @@ module _ (S : State) (Ps : List Parts) (has : HasReplicas S Ps) (w : World) (sea
     archives = marks_are;
   }
 
-  -- A job that isn't stopped kept its turns.
-  pub kept_turns : (v : World) (schedule : List ℕ) (before : ℕ → Bool) (t : IsThinned (jobs_of S Ps) v w schedule before (stopped_at seats)) → outcome.KeepsTurns t.limit schedule o
-  kept_turns v schedule before t = λ j e at going.
-      let s = job_at j e at in
-      t.all j (ap (some_passes (λ (s : Seat). s.job.stopped)) s.1 ∙ false_from_ne_true s.0.job.stopped (λ h. going (ap (λ (e : JobEnd). e.end) s.2 ∙ ap (λ b. if b then end.Stopped else end_by (next s.0.job.profile s.0.job.archive s.0.job.log)) h)))
-
-  pub simulated : (schedule : List ℕ) (before : ℕ → Bool) → IsThinned (jobs_of S Ps) (opening (jobs_of S Ps) (outcome.replicas_of S)) w schedule before (stopped_at seats) → outcome.IsSimulated S Ps schedule o
-  simulated schedule before t = (
-    t.limit,
-    subst (λ (x : World). outcome.IsOutcomeWith S Ps (log_of x) x.replica o) t.world joined,
-    kept_turns (opening (jobs_of S Ps) (outcome.replicas_of S)) schedule before t,
-  )
+-- The outcome of the schedule that was run.
+pub after_turns : {E : Type 0} (S : State) (Ps : List Parts) (w : World) (schedule : List ℕ) (before : ℕ → Bool) (seats : List Seat) (trees : List WorkingTree) (r : Result Outcome E) → HasReplicas S Ps → IsTable (jobs_of S Ps) w seats trees
+    → IsThinned (jobs_of S Ps) (opening (jobs_of S Ps) (outcome.replicas_of S)) w schedule before (stopped_at seats) → IfOk r (IsOutcomeAfter S seats trees) → IfOk r (outcome.IsSimulated S Ps schedule)
+after_turns S Ps w schedule before seats trees (Ok o) there table thinned h = (
+  thinned.limit,
+  subst (λ (x : World). outcome.IsOutcomeWith S Ps (log_of x) x.replica o) thinned.world (h.0 Ps w there table),
+  λ j e at going. thinned.all j (h.1 j e at going),
+)
+after_turns S Ps w schedule before seats trees (Err e) there table thinned h = h

@@ -10,6 +10,7 @@ use Rattle.hub_job.specs.declared.run_fault.RunFault.{RunFault}
 use Rattle.hub_job.specs.declared.run_fault.RunFault.TheVariants as fault
 use Rattle.hub_job.specs.Outcome.{IsSimulated}
 use Rattle.hub_schedule.specs.Refusals.{IsUnrun, LacksReplica}
+use Rattle.hub_schedule.specs.Table.{IsInRounds, whole_rounds}
 use Rattle.hub_schedule.specs.Simulated.{AllHaveEnough, EnoughTurnsEnd, HaveEnded, TurnsSuffice, turns_of}
 use Rattle.hub_schedule.proofs.Joined.{as_long}
 use Rattle.hub_schedule.proofs.Simulation.{if_both}
@@ -34,7 +35,7 @@ all_have_ended S Ps js r many suffice enough world =
     if_both (EnoughTurnsEnd S Ps js) (IsSimulated S Ps js) (λ o. HaveEnded o.jobs) r (λ o e w. have_ended S Ps js o many suffice e w) enough world
 
 -- A turn names a job.
-number_at : (k : ℕ) (js : List ℕ) (i j : ℕ) → All (λ j. j < k) js → slice_get js i ≡ Some j → j < k
+pub number_at : (k : ℕ) (js : List ℕ) (i j : ℕ) → All (λ j. j < k) js → slice_get js i ≡ Some j → j < k
 number_at k js i j numbers e = subst (λ n. n < k) (get_or_from_slice_get js i j 0 e) (numbers i 0 (slice_get_within js i j e))
 
 not_both : (j k : ℕ) → j < k → k ≤ j → ⊥
@@ -54,3 +55,7 @@ pub only_lacks : (S : State) (Ps : List Parts) (js : List ℕ) (r : Result Outco
     → IfErr r (λ e. (e ≡ fault.OutOfMemory) ⊎ LacksReplica S Ps e)
 only_lacks S Ps js (Ok o) numbers h = h
 only_lacks S Ps js (Err e) numbers h = lacks S Ps js e numbers h
+
+pub in_rounds : (S : State) (Ps : List Parts) (rounds : ℕ) (r : Result Outcome RunFault) → IfOk r (IsSimulated S Ps (whole_rounds (length Ps) rounds)) → IfOk r (IsInRounds S Ps)
+in_rounds S Ps rounds (Ok o) h = (rounds, h)
+in_rounds S Ps rounds (Err e) h = h

@@ -1,10 +1,11 @@
 -- The turns of a schedule that jobs lose, turn by turn.
-use Rattle.std.proofs.Common.{◌≡◌, ◌≤◌, ◌+◌, ◌-◌, Bool, true, false, cond, List, [], ◌∷◌, refl, ap, sym, ◌∙◌, arith, eq-eqb}
-use Rattle.std.specs.Prelude.{◌==◌, ℕ, if◌then◌else◌}
-use Rattle.std.proofs.lemmas.Bool.{false≢true, eqb-true, ne_eqb}
+use Rattle.std.proofs.Common.{◌≡◌, ◌≤◌, ◌<◌, ◌+◌, ◌-◌, ◌++◌, ◌⊎◌, inl, inr, length, subst, Bool, true, false, cond, List, [], ◌∷◌, refl, ap, sym, ◌∙◌, arith, eq-eqb}
+use Rattle.std.specs.Prelude.{◌==◌, ℕ, zero, suc, All, if◌then◌else◌, count_by}
+use Rattle.std.specs.List.{range_with_len}
+use Rattle.std.proofs.lemmas.Bool.{cases_eq, false≢true, eqb-true, ne_eqb}
 use Rattle.hub_schedule.specs.declared.seat.Seat.{Seat}
 use Rattle.hub_schedule.specs.declared.seat.WorkingTree.{WorkingTree}
-use Rattle.hub_schedule.specs.Table.{IsTable, IsThinned, StayStopped, stopped_at}
+use Rattle.hub_schedule.specs.Table.{IsIdle, IsTable, IsThinned, StayIdle, StayStopped, Taken, stopped_at, whole_rounds}
 use Rattle.hub_job.specs.World.{World, Jobs, turn, run, first_turns}
 use Rattle.hub_schedule.proofs.Turns.{weight, less, count, count_first}
 
@@ -86,13 +87,6 @@ thinned_made J w v i js before now after stays going t = record {
   stays = λ j h. t.stays j (stays j h);
 }
 
--- From these jobs and replicas, a schedule has come as far as others, and the rest of it is left.
-abbrev pub Taken : List Seat → List WorkingTree → List ℕ → List Seat → List WorkingTree → List ℕ → Type 0
-Taken seats trees schedule seats_now trees_now rest =
-    (J : Jobs) (w : World) → IsTable J w seats trees
-    → (v : World) × IsTable J v seats_now trees_now
-    × ((u : World) (after : ℕ → Bool) → IsThinned J v u rest (stopped_at seats_now) after → IsThinned J w u schedule (stopped_at seats) after)
-
 pub taken_none : (seats : List Seat) (trees : List WorkingTree) (js : List ℕ) → Taken seats trees js seats trees js
 taken_none seats trees js = λ J w table. (w, table, λ u after h. h)
 
@@ -110,3 +104,98 @@ module _ (seats seats_now seats_next : List Seat) (trees trees_now trees_next : 
 pub taken_all : (seats now : List Seat) (trees trees_now : List WorkingTree) (schedule : List ℕ) → Taken seats trees schedule now trees_now []
     → (J : Jobs) (w : World) → IsTable J w seats trees → (v : World) × IsTable J v now trees_now × IsThinned J w v schedule (stopped_at seats) (stopped_at now)
 taken_all seats now trees trees_now schedule taken = λ J w table. let x = taken J w table in (x.0, x.1, x.2 x.0 (stopped_at now) (thinned_none J x.0 (stopped_at now)))
+
+pub taken_through : (s0 s1 s2 : List Seat) (t0 t1 t2 : List WorkingTree) (js ks ls : List ℕ) → Taken s0 t0 js s1 t1 ks → Taken s1 t1 ks s2 t2 ls → Taken s0 t0 js s2 t2 ls
+taken_through s0 s1 s2 t0 t1 t2 js ks ls first second = λ J w table. let x = first J w table in let y = second J x.0 x.1 in (y.0, y.1, λ u after h. x.2 u after (y.2 u after h))
+
+-- Turns that change nothing.
+idle_first : (J : Jobs) (w : World) (seats : List Seat) (j : ℕ) (js : List ℕ) (b : Bool) → stopped_at seats j ≡ b → IsIdle J w seats j → IsThinned J w w js (stopped_at seats) (stopped_at seats)
+    → IsThinned J w w (j ∷ js) (stopped_at seats) (stopped_at seats)
+idle_first J w seats j js true e idle t = thinned_lost J w w j js (stopped_at seats) (stopped_at seats) (stopped_at seats) (λ i h. h) e t
+idle_first J w seats j js false e (inl h) t = absurd (false≢true (sym e ∙ h))
+idle_first J w seats j js false e (inr still) t =
+    thinned_made J w w j js (stopped_at seats) (stopped_at seats) (stopped_at seats) (λ i h. h) e
+    (subst (λ v. IsThinned J v w js (stopped_at seats) (stopped_at seats)) (sym still) t)
+
+idle_from : (J : Jobs) (w : World) (seats : List Seat) (n a k : ℕ) (js : List ℕ) → a + k ≤ n → ((j : ℕ) → j < n → IsIdle J w seats j) → IsThinned J w w js (stopped_at seats) (stopped_at seats)
+    → IsThinned J w w (range_with_len a k ++ js) (stopped_at seats) (stopped_at seats)
+idle_from J w seats n a zero js h idle t = t
+idle_from J w seats n a (suc k) js h idle t =
+    idle_first J w seats a (range_with_len (a + 1) k ++ js) (stopped_at seats a) refl (idle a (omega (arith, h))) (idle_from J w seats n (a + 1) k js (omega (arith, h)) idle t)
+
+idle_rounds : (J : Jobs) (w : World) (seats : List Seat) (n rounds : ℕ) → ((j : ℕ) → j < n → IsIdle J w seats j) → IsThinned J w w (whole_rounds n rounds) (stopped_at seats) (stopped_at seats)
+idle_rounds J w seats n zero idle = thinned_none J w (stopped_at seats)
+idle_rounds J w seats n (suc rounds) idle = idle_from J w seats n 0 n (whole_rounds n rounds) (omega arith) idle (idle_rounds J w seats n rounds idle)
+
+thinned_before : (J : Jobs) (w v : World) (js : List ℕ) (before now after : ℕ → Bool) → StayStopped before now → IsThinned J w v js now after → IsThinned J w v js before after
+thinned_before J w v js before now after stays t = record {
+  limit = t.limit;
+  world = t.world;
+  none = λ j h. t.none j (stays j h);
+  all = t.all;
+  stays = λ j h. t.stays j (stays j h);
+}
+
+-- After a round in which no job asks, all rounds that are left change nothing.
+pub taken_idle : (s0 s1 s2 : List Seat) (t0 t1 t2 : List WorkingTree) (js : List ℕ) (n rounds : ℕ) → Taken s0 t0 js s1 t1 (whole_rounds n rounds) → StayStopped (stopped_at s1) (stopped_at s2) → StayIdle n s1 t1 s2 t2
+    → (J : Jobs) (w : World) → IsTable J w s0 t0 → (v : World) × IsTable J v s2 t2 × IsThinned J w v js (stopped_at s0) (stopped_at s2)
+taken_idle s0 s1 s2 t0 t1 t2 js n rounds taken stays idle = λ J w table.
+    let x = taken J w table in
+    let y = idle J x.0 x.1 in
+    (x.0, y.0, x.2 x.0 (stopped_at s2) (thinned_before J x.0 x.0 (whole_rounds n rounds) (stopped_at s1) (stopped_at s2) (stopped_at s2) stays (idle_rounds J x.0 s2 n rounds y.1)))
+
+-- The rounds that are left, and the turns that are left in one.
+left_less : (R i m : ℕ) → R - i ≡ m → i < R → m ≡ suc (R - (i + 1))
+left_less R i m e h = omega (arith, e, h)
+
+pub rounds_left : (n R i : ℕ) → i < R → whole_rounds n (R - i) ≡ range_with_len 0 n ++ whole_rounds n (R - (i + 1))
+rounds_left n R i h = ap (whole_rounds n) (left_less R i (R - i) refl h)
+
+pub no_rounds_left : (n R i : ℕ) → R ≤ i → whole_rounds n (R - i) ≡ []
+no_rounds_left n R i h = ap (whole_rounds n) (let z : R - i ≡ 0 = omega (arith, h) in z)
+
+turns_less : (n j m : ℕ) → n - j ≡ m → j < n → m ≡ suc (n - (j + 1))
+turns_less n j m e h = omega (arith, e, h)
+
+pub turns_left : (n j : ℕ) (more : List ℕ) → j < n → range_with_len j (n - j) ++ more ≡ j ∷ (range_with_len (j + 1) (n - (j + 1)) ++ more)
+turns_left n j more h = ap (λ k. range_with_len j k ++ more) (turns_less n j (n - j) refl h)
+
+pub no_turns_left : (n j : ℕ) (more : List ℕ) → n ≤ j → range_with_len j (n - j) ++ more ≡ more
+no_turns_left n j more h = ap (λ k. range_with_len j k ++ more) (let z : n - j ≡ 0 = omega (arith, h) in z)
+
+-- One more turn that changes nothing.
+same_if : (b : Bool) (w t : World) → (b ≡ true) ⊎ (t ≡ w) → cond b w t ≡ w
+same_if true w t h = refl
+same_if false w t (inl h) = absurd (false≢true h)
+same_if false w t (inr e) = e
+
+still_idle : (J : Jobs) (w : World) (s1 s2 : List Seat) (j : ℕ) → StayStopped (stopped_at s1) (stopped_at s2) → IsIdle J w s1 j → IsIdle J w s2 j
+still_idle J w s1 s2 j stays (inl h) = inl (stays j h)
+still_idle J w s1 s2 j stays (inr e) = inr e
+
+pub idle_more : (n : ℕ) (s0 s1 s2 : List Seat) (t0 t1 t2 : List WorkingTree) → StayIdle n s0 t0 s1 t1 → StayStopped (stopped_at s1) (stopped_at s2)
+    → ((J : Jobs) (w : World) → IsTable J w s1 t1 → IsTable J (if stopped_at s2 n then w else turn J n w) s2 t2) → ((J : Jobs) (w : World) → IsTable J w s1 t1 → IsIdle J w s2 n) → StayIdle (n + 1) s0 t0 s2 t2
+idle_more n s0 s1 s2 t0 t1 t2 idle stays turns is = λ J w table.
+    let x = idle J w table in
+    let here = is J w x.0 in (
+      subst (λ v. IsTable J v s2 t2) (same_if (stopped_at s2 n) w (turn J n w) here) (turns J w x.0),
+      λ j h. elim (cases_eq j n) [
+        | inl same ↦ subst (IsIdle J w s2) (sym same) here
+        | inr other ↦ still_idle J w s1 s2 j stays (x.1 j (omega (arith, h, other)))
+      ],
+    )
+
+pub taken_same : (s : List Seat) (t : List WorkingTree) (js ks : List ℕ) → js ≡ ks → Taken s t js s t ks
+taken_same s t js ks e = subst (λ ls. Taken s t js s t ls) e (taken_none s t js)
+
+all_left : (n m : ℕ) → n - 0 ≡ m → n ≡ m
+all_left n m e = omega (arith, e)
+
+pub all_turns_left : (n : ℕ) (more : List ℕ) → range_with_len 0 n ++ more ≡ range_with_len 0 (n - 0) ++ more
+all_turns_left n more = ap (λ k. range_with_len 0 k ++ more) (all_left n (n - 0) refl)
+
+pub all_rounds_left : (n R : ℕ) → whole_rounds n R ≡ whole_rounds n (R - 0)
+all_rounds_left n R = ap (whole_rounds n) (all_left R (R - 0) refl)
+
+pub none_idle : (s : List Seat) (t : List WorkingTree) → StayIdle 0 s t s t
+none_idle s t = λ J w table. (table, λ j h. absurd (omega (arith, h)))

@@ -16,7 +16,7 @@ use Rattle.hub_job.specs.Phase.{asked_by}
 use Rattle.hub_job.specs.World.{World, Jobs, act, turn}
 use Rattle.hub_schedule.specs.declared.seat.Seat.{Seat}
 use Rattle.hub_schedule.specs.declared.seat.WorkingTree.{WorkingTree}
-use Rattle.hub_schedule.specs.Table.{place_on, with_job, with_tree, stopped_at, IsTable, ArePlaced, StayStopped}
+use Rattle.hub_schedule.specs.Table.{place_on, with_job, with_tree, stopped_at, IsIdle, IsTable, ArePlaced, StayStopped}
 use Rattle.hub_schedule.proofs.Tables.{SameSeat, set_here, set_there, each_set, one_value, table_same, table_turn, turn_is}
 
 -- A job keeps its profile, archive, number and places.
@@ -71,6 +71,13 @@ module _ (J : Jobs) (w : World) (seats : List Seat) (trees : List WorkingTree) (
   idle none =
       table_same J w (cond (stopped_at (slice_set seats j t) j) w (turn J j w)) seats trees j s t table is turned (ap (λ (v : Seat). v.job.log) seat)
       (same_world none t.job.stopped refl ∙ ap (λ b. cond b w (turn J j w)) (sym (stopped_is seats j s t is)))
+
+  rests_by : asked_by n ≡ None → (b : Bool) → t.job.stopped ≡ b → IsIdle J w (slice_set seats j t) j
+  rests_by none true e = inl (stopped_is seats j s t is ∙ e)
+  rests_by none false e = inr (sym (same_world none false e))
+
+  pub rests : asked_by n ≡ None → IsIdle J w (slice_set seats j t) j
+  rests none = rests_by none t.job.stopped refl
 
   -- A turn in which it is answered, or finds no memory.
   module _ (side : Side) (op : Op) (asks : n ≡ Ask side op) (going : t.job.stopped ≡ false) (t2 : Seat) (k : ℕ) (u u2 : WorkingTree) (place : k ≡ place_on s side) (at : slice_get trees k ≡ Some u)

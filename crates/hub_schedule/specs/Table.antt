@@ -1,17 +1,23 @@
 -- Jobs and replicas that a schedule works on, against the world that they stand for.
-use Rattle.std.specs.Prelude.{◌≡◌, ◌≢◌, ◌≤◌, ◌<◌, ◌⊎◌, ◌==◌, ℕ, Bool, true, false, List, length, slice_get, count_by, Some}
-use Rattle.std.specs.List.{list_any}
+use Rattle.std.specs.Prelude.{◌≡◌, ◌≢◌, ◌≤◌, ◌<◌, ◌⊎◌, ◌==◌, ◌++◌, ℕ, zero, suc, Bool, true, false, List, [], ◌∷◌, length, slice_get, slice_set, count_by, Option, Some, None, if◌then◌else◌}
+use Rattle.std.specs.List.{list_any, range_with_len}
 use Rattle.hub_path.specs.Path.{Path}
 use Rattle.hub_path.specs.declared.side.Side.{Side}
 use Rattle.hub_path.specs.declared.side.Side.TheVariants.{Left, Right}
 use Rattle.hub_profile.specs.Parts.{Parts, IsProfile, some_passes}
+use Rattle.hub_state.specs.State.{State}
+use Rattle.hub_job.specs.declared.outcome.Outcome.{Outcome}
+use Rattle.hub_job.specs.declared.job_end.End.TheVariants as end
+use Rattle.hub_job.specs.declared.job_end.JobEnd.{JobEnd}
+use Rattle.hub_job.specs.Outcome.{jobs_of, IsOutcomeWith, IsSimulated}
+use Rattle.hub_schedule.specs.Promise.{HasReplicas}
 use Rattle.hub_reach.specs.Reach.{has_root}
 use Rattle.hub_tree.specs.Tree.{Replica, Archive}
 use Rattle.hub_schedule.specs.declared.seat.Seat.{Seat}
 use Rattle.hub_schedule.specs.declared.seat.WorkingTree.{WorkingTree}
 use Rattle.hub_job.specs.JobValue.{JobValue, new_job}
 use Rattle.hub_job.specs.Run.{root_at}
-use Rattle.hub_job.specs.World.{World, Jobs, log_of, run, first_turns}
+use Rattle.hub_job.specs.World.{World, Jobs, log_of, run, turn, first_turns}
 
 abbrev pub place_on : Seat → Side → ℕ
 place_on s Left = s.left
@@ -86,3 +92,34 @@ pub record IsThinned (J : Jobs) (w v : World) (schedule : List ℕ) (before afte
   pub none : (j : ℕ) → before j ≡ true → limit j ≡ 0
   pub all : (j : ℕ) → after j ≡ false → count_by (λ i. i == j) schedule ≤ limit j
   pub stays : StayStopped before after
+
+-- From these jobs and replicas, a schedule has come as far as others, and the rest of it is left.
+abbrev pub Taken : List Seat → List WorkingTree → List ℕ → List Seat → List WorkingTree → List ℕ → Type 0
+Taken seats trees schedule seats_now trees_now rest =
+    (J : Jobs) (w : World) → IsTable J w seats trees
+    → (v : World) × IsTable J v seats_now trees_now
+    × ((u : World) (after : ℕ → Bool) → IsThinned J v u rest (stopped_at seats_now) after → IsThinned J w u schedule (stopped_at seats) after)
+
+-- So many rounds, in each of which each job has one turn.
+abbrev pub whole_rounds : ℕ → ℕ → List ℕ
+whole_rounds jobs zero = []
+whole_rounds jobs (suc rounds) = range_with_len 0 jobs ++ whole_rounds jobs rounds
+
+-- A turn of the job changes nothing: it is stopped, or finished.
+abbrev pub IsIdle : Jobs → World → List Seat → ℕ → Type 0
+IsIdle J w seats j = (stopped_at seats j ≡ true) ⊎ (turn J j w ≡ w)
+
+-- The jobs and replicas stand for the same world as before, and a turn of any of the first jobs changes nothing in it.
+abbrev pub StayIdle : ℕ → List Seat → List WorkingTree → List Seat → List WorkingTree → Type 0
+StayIdle n seats trees seats_now trees_now =
+    (J : Jobs) (w : World) → IsTable J w seats trees → IsTable J w seats_now trees_now × ((j : ℕ) → j < n → IsIdle J w seats_now j)
+
+-- The outcome of each world that these jobs and replicas stand for; and a stopped job ends as stopped.
+abbrev pub IsOutcomeAfter : State → List Seat → List WorkingTree → Outcome → Type 0
+IsOutcomeAfter S seats trees o =
+    ((Ps : List Parts) (w : World) → HasReplicas S Ps → IsTable (jobs_of S Ps) w seats trees → IsOutcomeWith S Ps (log_of w) w.replica o)
+    × ((j : ℕ) (e : JobEnd) → slice_get o.jobs j ≡ Some e → e.end ≢ end.Stopped → stopped_at seats j ≡ false)
+
+-- The outcome is that of some number of whole rounds.
+abbrev pub IsInRounds : State → List Parts → Outcome → Type 0
+IsInRounds S Ps o = (rounds : ℕ) × IsSimulated S Ps (whole_rounds (length Ps) rounds) o

@@ -7,8 +7,10 @@ ghost use Rattle.hub_job.specs.Outcome.{replicas_of};
 ghost use Rattle.hub_cert.specs.Set.{forbidden_by};
 ghost use Rattle.hub_schedule.specs.Refusals.{LacksReplica};
 ghost use Rattle.hub_schedule.specs.Simulated.{AllHaveEnough, HaveEnded, IsPromised, turns_enough};
+ghost use Rattle.hub_schedule.specs.Table.{IsInRounds};
 
-use crate::safe::simulate;
+use crate::promise::{schedules_give_logs_alone, schedules_keep_the_promise, schedules_settle};
+use crate::schedule::simulate_rounds;
 use hub_cert::Verified;
 use hub_job::{Outcome, RunFault};
 use hub_path::Root;
@@ -28,11 +30,18 @@ pub fn run_rounds(
     ensures promise { IfOk result (IsPromised state.now verified.now.profiles
         (map forbidden_by verified.now.rules)) }
     ensures ended { IfOk result (λ o. HaveEnded o.jobs) }
+    ensures rounds { IfOk result (IsInRounds state.now verified.now.profiles) }
     ensures refused { IfErr result (λ e. (e ≡ RunFault.OutOfMemory) ⊎ LacksReplica state.now
         verified.now.profiles e) }
 {
-    let schedule = rounds_for(alloc, verified.set().profiles(), state)?;
-    simulate(alloc, verified, state, schedule.as_slice())
+    schedules_give_logs_alone();
+    schedules_keep_the_promise();
+    schedules_settle();
+    let profiles = verified.set().profiles();
+    let Some(rounds) = most_turns(profiles, state) else {
+        return Err(RunFault::OutOfMemory);
+    };
+    simulate_rounds(alloc, profiles, state, rounds)
 }
 
 /// A schedule of rounds: in each of them each job has one turn, in the order of the profiles. There are as many rounds as

@@ -1,14 +1,17 @@
 //! Schedules of turns.
 ghost use Rattle.std.specs.Prelude.{◌<◌, All, length, IfOk, IfErr};
 ghost use Rattle.hub_job.specs.Outcome.{IsSimulated};
+ghost use Rattle.hub_job.specs.World.{Jobs, World};
+ghost use Rattle.hub_schedule.specs.Table.{IsOutcomeAfter, IsTable, whole_rounds};
 ghost use Rattle.hub_schedule.specs.Promise.{HasReplicas};
 ghost use Rattle.hub_state.specs.State.{IsState};
 ghost use Rattle.hub_schedule.specs.Refusals.{IsRunnable, IsUnrun};
 
 use crate::ends::{end_jobs, put_archives, put_trees};
 use crate::refusals::{find_bad_turn, find_missing};
+use crate::seat::{Seat, WorkingTree};
 use crate::seats::seats_for;
-use crate::turn::take_turns;
+use crate::turn::{take_rounds, take_turns};
 use hub_job::{Outcome, RunFault};
 use hub_profile::Profile;
 use hub_state::State;
@@ -36,6 +39,27 @@ pub fn simulate_jobs(
     Ok(run_schedule(alloc, profiles, state, schedule)?)
 }
 
+/// Runs the jobs of profiles in rounds, as many as there may be, whether the profiles are a safe set or not.
+pub(crate) fn simulate_rounds(
+    alloc: Global,
+    profiles: &[Profile],
+    state: &State,
+    rounds: u64,
+) -> Result<Outcome, RunFault>
+    ensures world { IfOk result
+        (IsSimulated state.now profiles.now (whole_rounds (length profiles.now) rounds)) }
+    ensures run { IfOk result
+        (λ o. IsRunnable state.now profiles.now (whole_rounds (length profiles.now) rounds)) }
+    ensures refused { IfErr result
+        (IsUnrun state.now profiles.now (whole_rounds (length profiles.now) rounds)) }
+    ensures valid { 0 < length profiles.now → IsState state.now }
+{
+    if let Some(root) = find_missing(profiles, state) {
+        return Err(RunFault::MissingReplica { root: root.copy()? });
+    }
+    Ok(run_in_rounds(alloc, profiles, state, rounds)?)
+}
+
 /// Runs the jobs of profiles by a schedule whose turns are all theirs.
 fn run_schedule(
     alloc: Global,
@@ -50,6 +74,37 @@ fn run_schedule(
     let empty = Archive::new(alloc);
     let (mut seats, mut trees) = seats_for(alloc, profiles, state, &empty)?;
     take_turns(alloc, &mut seats, &mut trees, schedule);
+    outcome_of(alloc, state, seats, trees)
+}
+
+/// Runs the jobs of profiles in rounds.
+fn run_in_rounds(
+    alloc: Global,
+    profiles: &[Profile],
+    state: &State,
+    rounds: u64,
+) -> Result<Outcome, AllocError>
+    requires { HasReplicas state.now profiles.now }
+    ensures { IfOk result
+        (IsSimulated state.now profiles.now (whole_rounds (length profiles.now) rounds)) }
+{
+    let empty = Archive::new(alloc);
+    let (mut seats, mut trees) = seats_for(alloc, profiles, state, &empty)?;
+    take_rounds(alloc, &mut seats, &mut trees, rounds);
+    outcome_of(alloc, state, seats, trees)
+}
+
+/// Ends the jobs, and puts what they leave into a copy of the state.
+fn outcome_of(
+    alloc: Global,
+    state: &State,
+    seats: Vec<Seat<'_>>,
+    trees: Vec<WorkingTree<'_>>,
+) -> Result<Outcome, AllocError>
+    requires { (J : Jobs) × (w : World) × IsTable J w seats.items trees.items }
+    ensures { IfOk result
+        (IsOutcomeAfter state.now seats.entry.items trees.entry.items) }
+{
     let (jobs, nexts) = end_jobs(alloc, seats)?;
     let mut after = state.copy()?;
     put_trees(&mut after, trees)?;

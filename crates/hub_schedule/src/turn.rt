@@ -1,8 +1,9 @@
 //! Turns of jobs on shared replicas.
-ghost use Rattle.std.specs.Prelude.{◌≡◌, ◌<◌, ℕ, true, false, length, Some, All, if◌then◌else◌};
+ghost use Rattle.std.specs.Prelude.{◌≡◌, ◌<◌, ◌++◌, ℕ, List, true, false, length, Some, All, if◌then◌else◌};
+ghost use Rattle.std.specs.List.{range_with_len};
 ghost use Rattle.hub_job.specs.JobValue as value;
 ghost use Rattle.hub_job.specs.Machine as machine;
-ghost use Rattle.hub_schedule.specs.Table.{ArePlaced, IsTable, IsThinned, StayStopped, stopped_at, with_job, with_tree};
+ghost use Rattle.hub_schedule.specs.Table.{ArePlaced, IsIdle, IsTable, IsThinned, StayIdle, StayStopped, Taken, stopped_at, whole_rounds, with_job, with_tree};
 ghost use Rattle.hub_job.specs.World.{Jobs, World, turn};
 
 use crate::seat::{Seat, WorkingTree};
@@ -24,17 +25,62 @@ pub(crate) fn take_turns(
         × IsThinned J w v schedule.now (stopped_at seats.old.items) (stopped_at seats.new.items) }
 {
     for number in schedule {
-        take_turn(alloc, seats, trees, *number);
+        let _asked = take_turn(alloc, seats, trees, *number);
     }
 }
 
-/// Lets a job take a turn. If it finds no memory, it is stopped and has done nothing.
+/// Lets the jobs take turns in rounds, at most so many: in each round each job has one turn, in the order of their numbers.
+/// It ends after a round in which no job asks, since none would ask later.
+pub(crate) fn take_rounds(
+    alloc: Global,
+    seats: &mut Vec<Seat<'_>>,
+    trees: &mut Vec<WorkingTree<'_>>,
+    rounds: u64,
+)
+    requires { ArePlaced seats.old.items trees.old.items }
+    ensures { (J : Jobs) (w : World) → IsTable J w seats.old.items trees.old.items
+        → (v : World) × IsTable J v seats.new.items trees.new.items
+        × IsThinned J w v (whole_rounds (length seats.old.items) rounds)
+        (stopped_at seats.old.items) (stopped_at seats.new.items) }
+{
+    for _ in 0..rounds {
+        if !take_round(alloc, seats, trees) {
+            return;
+        }
+    }
+}
+
+/// Lets each job take a turn, in the order of their numbers. It returns whether one of them asked.
+fn take_round(
+    alloc: Global,
+    seats: &mut Vec<Seat<'_>>,
+    trees: &mut Vec<WorkingTree<'_>>,
+) -> bool
+    requires { ArePlaced seats.old.items trees.old.items }
+    ensures taken { (more : List ℕ) → Taken seats.old.items trees.old.items
+        (range_with_len 0 (length seats.old.items) ++ more) seats.new.items trees.new.items more }
+    ensures idle { result ≡ false → StayIdle (length seats.old.items)
+        seats.old.items trees.old.items seats.new.items trees.new.items }
+    ensures stays { StayStopped (stopped_at seats.old.items) (stopped_at seats.new.items) }
+    ensures placed { ArePlaced seats.new.items trees.new.items }
+    ensures count { length seats.new.items ≡ length seats.old.items }
+{
+    let mut asked = false;
+    for number in 0..seats.len() {
+        if take_turn(alloc, seats, trees, number) {
+            asked = true;
+        }
+    }
+    asked
+}
+
+/// Lets a job take a turn, and returns whether it asked. If it finds no memory, it is stopped and has done nothing.
 fn take_turn(
     alloc: Global,
     seats: &mut Vec<Seat<'_>>,
     trees: &mut Vec<WorkingTree<'_>>,
     number: usize,
-)
+) -> bool
     requires placed { ArePlaced seats.old.items trees.old.items }
     requires number { number < length seats.old.items }
     ensures turn { (J : Jobs) (w : World) → IsTable J w seats.old.items trees.old.items
@@ -43,6 +89,8 @@ fn take_turn(
     ensures stays { StayStopped (stopped_at seats.old.items) (stopped_at seats.new.items) }
     ensures others { (j : ℕ) → stopped_at seats.new.items j ≡ true
         → stopped_at seats.old.items j ≡ false → j ≡ number }
+    ensures idle { result ≡ false → (J : Jobs) (w : World) → IsTable J w seats.old.items trees.old.items
+        → IsIdle J w seats.new.items number }
     ensures placed { ArePlaced seats.new.items trees.new.items }
     ensures count { length seats.new.items ≡ length seats.old.items }
 {
@@ -50,7 +98,9 @@ fn take_turn(
     if let Next::Ask(side, op) = seat.job.turn() {
         let place = seat.place(side);
         answer(alloc, seat, &mut trees[place], side, &op);
+        return true;
     }
+    false
 }
 
 /// Gives a job the answer of a replica. If there is no memory, the job is stopped, and the replica is as it was.

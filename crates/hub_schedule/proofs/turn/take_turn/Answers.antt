@@ -3,7 +3,7 @@ use Rattle.std.proofs.lemmas.Bool.{false≢true}
 use Rattle.std.proofs.lemmas.Option.{slice_get_read}
 use Rattle.hub_schedule.specs.declared.seat.Seat.{Seat}
 use Rattle.hub_schedule.specs.Table.{place_on, with_job}
-use Rattle.hub_schedule.proofs.Turning.{asks_going, busy, idle, no_other_stopped, not_asked, place_same, same_places, stay_stopped, still_placed}
+use Rattle.hub_schedule.proofs.Turning.{asks_going, busy, idle, no_other_stopped, not_asked, place_same, rests, same_places, stay_stopped, still_placed}
 use Rattle.hub_schedule.proofs.turn.take_turn.Goals as goal
 
 pub index_mut-requires : goal.index_mut-requires
@@ -55,8 +55,8 @@ returns-in-Ask-clause-placed c =
     (λ k. same_places t c.answer.new.seat _ _ _ _ c.answer.ensures.lost c.answer.ensures.made k ∙ place_same s c.turn.new.self k) c.requires.placed in
     λ i x k e. subst (λ (m : ℕ). place_on x k < m) (sym (length-set trees c.place-place.result c.answer.new.replica)) (kept i x k e)
 
-pub returns-in_default : goal.returns-in_default
-returns-in_default c =
+pub returns : goal.returns
+returns c =
     let seats = c.args.seats.now.items in
     let trees = c.args.trees.now.items in
     let j = c.args.number in
@@ -68,6 +68,8 @@ returns-in_default c =
           idle J w seats trees table j s t c.turn.result at (ap (with_job s) c.turn.ensures.after) c.turn.ensures.next (not_asked c.turn.result c.in_default.not-Ask);
       stays = stay_stopped seats j s t at c.turn.ensures.stays;
       others = λ i h e. no_other_stopped seats j t i h e;
+      idle = λ e J w table.
+          rests J w seats trees table j s t c.turn.result at (ap (with_job s) c.turn.ensures.after) c.turn.ensures.next (not_asked c.turn.result c.in_default.not-Ask);
       placed = still_placed seats trees j s t at (place_same s c.turn.new.self) c.requires.placed;
       count = length-set seats j t;
     }

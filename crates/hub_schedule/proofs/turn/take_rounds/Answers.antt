@@ -1,0 +1,58 @@
+use Rattle.std.proofs.Common.{◌≡◌, ◌<◌, ◌+◌, ◌-◌, ◌++◌, ◌∙◌, List, ℕ, length, refl, sym, subst}
+use Rattle.std.specs.List.{range_with_len}
+use Rattle.hub_schedule.specs.Table.{StayIdle, Taken, whole_rounds}
+use Rattle.hub_schedule.proofs.Thinned.{all_rounds_left, no_rounds_left, rounds_left, taken_all, taken_idle, taken_same, taken_through}
+use Rattle.hub_schedule.proofs.turn.take_rounds.Goals as goal
+
+pub loop-init : goal.loop-init
+loop-init c =
+    let s0 = c.args.seats.now.items in
+    let n = length s0 in
+    record {
+      taken = taken_same s0 c.args.trees.now.items (whole_rounds n c.args.rounds) (whole_rounds n (c.args.rounds - 0)) (all_rounds_left n c.args.rounds);
+      placed = c.requires;
+      count = refl;
+    }
+
+pub loop-preserved : goal.loop-preserved
+loop-preserved c =
+    let s0 = c.args.seats.now.items in
+    let t0 = c.args.trees.now.items in
+    let s1 = c.loop.seats.items in
+    let t1 = c.loop.trees.items in
+    let s2 = c.take_round.new.seats.items in
+    let t2 = c.take_round.new.trees.items in
+    let n = length s0 in
+    let all = whole_rounds n c.args.rounds in
+    let i = c.loop.counter in
+    let inv = c.loop.invariant in
+    let rest = whole_rounds n (c.args.rounds - (i + 1)) in
+    record {
+      taken = taken_through s0 s1 s2 t0 t1 t2 all (whole_rounds n (c.args.rounds - i)) rest inv.taken
+          (subst (λ ks. Taken s1 t1 ks s2 t2 rest) (sym (rounds_left n c.args.rounds i c.loop-test.true))
+          (subst (λ m. Taken s1 t1 (range_with_len 0 m ++ rest) s2 t2 rest) inv.count (c.take_round.ensures.taken rest)));
+      placed = c.take_round.ensures.placed;
+      count = c.take_round.ensures.count ∙ inv.count;
+    }
+
+pub returns : goal.returns
+returns c =
+    let s0 = c.args.seats.now.items in
+    let t0 = c.args.trees.now.items in
+    let s1 = c.loop.seats.items in
+    let t1 = c.loop.trees.items in
+    let n = length s0 in
+    let all = whole_rounds n c.args.rounds in
+    taken_all s0 s1 t0 t1 all (subst (λ ks. Taken s0 t0 all s1 t1 ks) (no_rounds_left n c.args.rounds c.loop.counter c.loop-test.false) c.loop.invariant.taken)
+
+pub returns-then-not-take_round : goal.returns-then-not-take_round
+returns-then-not-take_round c =
+    let s0 = c.args.seats.now.items in
+    let t0 = c.args.trees.now.items in
+    let s1 = c.loop.seats.items in
+    let t1 = c.loop.trees.items in
+    let s2 = c.take_round.new.seats.items in
+    let t2 = c.take_round.new.trees.items in
+    let n = length s0 in
+    taken_idle s0 s1 s2 t0 t1 t2 (whole_rounds n c.args.rounds) n (c.args.rounds - c.loop.counter) c.loop.invariant.taken c.take_round.ensures.stays
+    (subst (λ m. StayIdle m s1 t1 s2 t2) c.loop.invariant.count (c.take_round.ensures.idle c.if-not-take_round.true))

@@ -1,0 +1,5 @@
+pub mod Coded
+pub mod Book
+pub mod Desk
+pub mod BookExamples
+pub mod DeskExamples

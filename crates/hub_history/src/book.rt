@@ -1,0 +1,170 @@
+ghost use Rattle.std.specs.Prelude.{◌≡◌, ◌↔◌, IfOk, OnErr, IfErr, IsTrue, slice_get};
+ghost use Rattle.hub_job.specs.Machine.{Fits};
+ghost use Rattle.hub_reach.specs.Reach as of_reach;
+ghost use Rattle.hub_schedule.specs.History.{IsAnswerOf};
+ghost use Rattle.hub_history.specs.Book.{IsBook, entry_of, has_job, new_book, with_entry};
+
+use crate::answers::copy_answer;
+use crate::same::are_same;
+use hub_cert::ProfileSet;
+use hub_job::{Answer, Entry, Op, perform};
+use hub_path::Root;
+use hub_profile::Profile;
+use hub_tree::Tree;
+use std::alloc::{AllocError, AllocFailed, Global};
+use std::marker::Model;
+
+/// The replica of a root, with all operations that jobs made on it since the opening, and their answers.
+///
+/// Contracts see it as a `BookValue`. Its type keeps that the history is legal (each entry is of a job that has the root, and
+/// its answer is the replica's at that point) and that it leads from the opening to the replica.
+#[derive(Drop)]
+pub struct Book<'a> {
+    alloc: Global,
+    profiles: &'a [Profile],
+    root: Root,
+    opening: Tree,
+    tree: Tree,
+    history: Vec<Entry>,
+}
+
+impl<'a> Model for Book<'a> {
+    ghost use Rattle.std.specs.Coded.{codes};
+    ghost use Rattle.hub_history.specs.Book.{BookValue, IsBook};
+    ghost use Rattle.hub_history.specs.Coded.{coded_replica};
+
+    ghost Value = { BookValue };
+
+    ghost coded = { Prim.hlevel (codes, coded_replica) };
+
+    ghost view = { λ b. record {
+      profiles = b.profiles.now;
+      root = b.root;
+      opening = b.opening;
+      tree = b.tree;
+      history = b.history.items;
+    } };
+
+    ghost invariant = { λ b. IsBook (record {
+      profiles = b.profiles.now;
+      root = b.root;
+      opening = b.opening;
+      tree = b.tree;
+      history = b.history.items;
+    }) };
+}
+
+impl<'a> Book<'a> {
+    /// Makes the book of a root for the jobs of a set, with this replica and no entries. Out of memory gives the replica
+    /// back.
+    pub fn new(
+        alloc: Global,
+        set: &'a ProfileSet,
+        root: Root,
+        tree: Tree,
+    ) -> Result<Book<'a>, AllocFailed<Tree>>
+        ensures ok { IfOk result (λ b. b ≡ new_book set.now.profiles root tree) }
+        ensures err { IfErr result (λ e. e.value ≡ tree) }
+    {
+        let Ok(opening) = tree.copy() else {
+            return Err(AllocFailed { value: tree });
+        };
+        Ok(Book {
+            alloc,
+            profiles: set.profiles(),
+            root,
+            opening,
+            tree,
+            history: Vec::new(alloc),
+        })
+    }
+
+    /// Makes an operation of a job on the replica, and appends it with its answer to the history. An operation that the
+    /// replica refuses is an entry too. Out of memory leaves the book as it was.
+    pub fn apply(&mut self, job: usize, op: Op) -> Result<Answer, AllocError>
+        requires { IsTrue (has_job self.old.profiles self.old.root job) }
+        ensures answer { IfOk result (λ a.
+            IsAnswerOf self.old.root self.old.tree (entry_of job op a)
+            (slice_get self.old.profiles job)) }
+        ensures fits { IfOk result (Fits op) }
+        ensures book { IfOk result (λ a. self.new ≡ with_entry self.old (entry_of job op a)) }
+        ensures err { OnErr result (self.new ≡ self.old) }
+    {
+        self.history.reserve(1)?;
+        let profile = &self.profiles[job];
+        let answer = perform(self.alloc, profile, &self.root, &mut self.tree, &op)?;
+        let kept = copy_answer(&answer)?;
+        let Ok(()) = self.history.push(Entry {
+            job,
+            op,
+            answer: kept,
+        })
+        else {
+            unreachable!()
+        };
+        Ok(answer)
+    }
+
+    /// Returns whether there is a profile of that number in the set, and it has the root.
+    pub fn has(&self, job: usize) -> bool
+        ensures { result ≡ has_job self.now.profiles self.now.root job }
+    {
+        match self.profiles.get(job) {
+            Some(profile) => has_root(profile, &self.root),
+            None => false,
+        }
+    }
+
+    /// Returns whether the book was made for the profiles of this set.
+    pub fn made_for(&self, set: &ProfileSet) -> bool
+        ensures { IsTrue result ↔ (self.now.profiles ≡ set.now.profiles) }
+    {
+        are_same(self.profiles, set.profiles())
+    }
+
+    /// Borrows the root.
+    pub fn root(&self) -> &Root
+        ensures { result.now ≡ self.now.root }
+    {
+        &self.root
+    }
+
+    /// Borrows the replica as it was at the opening.
+    pub fn opening(&self) -> &Tree
+        ensures value { result.now ≡ self.now.opening }
+        ensures book { IsBook self.now }
+    {
+        &self.opening
+    }
+
+    /// Borrows the replica.
+    pub fn tree(&self) -> &Tree
+        ensures value { result.now ≡ self.now.tree }
+        ensures book { IsBook self.now }
+    {
+        &self.tree
+    }
+
+    /// Borrows the operations since the opening, with their answers, in order.
+    pub fn history(&self) -> &[Entry]
+        ensures value { result.now ≡ self.now.history }
+        ensures book { IsBook self.now }
+    {
+        self.history.as_slice()
+    }
+
+    /// Returns the replica. The rest of the book is dropped.
+    pub fn into_tree(self) -> Tree
+        ensures { result ≡ self.entry.tree }
+    {
+        let Book { tree, .. } = self;
+        tree
+    }
+}
+
+/// Returns whether the profile has the root.
+fn has_root(profile: &Profile, root: &Root) -> bool
+    ensures { result ≡ of_reach.has_root profile.now root.now }
+{
+    profile.roots().iter().any(|own| own == root)
+}

@@ -1,0 +1,41 @@
+//! Replicas that threads share, with the history of all that was done on each.
+//!
+//! - [`Book`]: the replica of a root, and all operations on it since the opening, with their answers. Its type keeps that
+//!   the history is legal, and leads from the opening to the replica.
+//! - [`Desk`]: a book behind a lock, at which threads [`Desk::step`] one operation at a time.
+//! - [`Seat`]: the right to step at a desk. It counts the steps made with it.
+//! - [`Gate`]: what a caller does around each step.
+//! - [`Same`]: whether two values are the same; [`are_same`] compares lists.
+//!
+//! ```text
+//! let (desk, seats) = Desk::new(alloc, Book::new(alloc, &set, root, tree)?, 2)?;
+//! let answer = desk.step(&rt, &mut seat, job, op, &gate)?;
+//! let book = desk.close(seats)?;
+//! ```
+//!
+//! No clause can name what lies under a lock. So the contract of [`Desk::step`] speaks of the seat and of the kind of the
+//! answer alone; what a step does to the book is the contract of [`Book::apply`] and of `step_in`, which `step` calls while it
+//! holds the lock.
+//!
+//! The contracts use the words of `specs/Book` (a book as contracts see it), `specs/Desk`, and hub_schedule's
+//! `specs/History` (legal histories, and what they leave).
+//!
+//! Only functions that return a `Result` allocate.
+#![tactic(auto)]
+
+mod answers;
+mod book;
+mod desk;
+mod gate;
+mod same;
+mod same_entry;
+mod same_pattern;
+mod same_profile;
+mod seat;
+
+pub use answers::{copy_answer, copy_entry};
+pub use book::Book;
+pub use desk::{Desk, StepFault, Stranger};
+pub use gate::Gate;
+pub use same::{Same, are_same};
+pub use seat::Seat;

@@ -25,7 +25,7 @@ pub(crate) fn take_turns(
         × IsThinned J w v schedule.now (stopped_at seats.old.items) (stopped_at seats.new.items) }
 {
     for number in schedule {
-        let _asked = take_turn(alloc, seats, trees, *number);
+        take_turn(alloc, seats, trees, *number);
     }
 }
 
@@ -51,11 +51,7 @@ pub(crate) fn take_rounds(
 }
 
 /// Lets each job take a turn, in the order of their numbers. It returns whether one of them asked.
-fn take_round(
-    alloc: Global,
-    seats: &mut Vec<Seat<'_>>,
-    trees: &mut Vec<WorkingTree<'_>>,
-) -> bool
+fn take_round(alloc: Global, seats: &mut Vec<Seat<'_>>, trees: &mut Vec<WorkingTree<'_>>) -> bool
     requires { ArePlaced seats.old.items trees.old.items }
     ensures taken { (more : List ℕ) → Taken seats.old.items trees.old.items
         (range_with_len 0 (length seats.old.items) ++ more) seats.new.items trees.new.items more }

@@ -1,6 +1,5 @@
 use Rattle.std.proofs.Common.{◌≡◌, drop, length}
-use Rattle.hub_schedule.specs.Table.{ArePlaced}
-use Rattle.hub_schedule.proofs.Thinned.{Taken}
+use Rattle.hub_schedule.specs.Table.{ArePlaced, Taken}
 use Rattle.hub_schedule.proofs.turn.take_turns.Given as goal
 
 abbrev pub invariant-loop-number : goal.invariant-loop-number

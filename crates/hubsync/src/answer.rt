@@ -68,6 +68,3 @@ fn bad_bundle<'a>(fault: BundleLineFault) -> Report<'a>
         _ => Report::BadBundle(fault),
     }
 }
-
-#[cfg(test)]
-mod tests;

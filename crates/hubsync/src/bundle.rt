@@ -328,6 +328,3 @@ fn read_profile_name(alloc: Global, line: usize, bytes: &[u8]) -> Result<Heading
         Err(_) => Err(BundleLineFault { line, fault }),
     }
 }
-
-#[cfg(test)]
-mod tests;

@@ -79,6 +79,3 @@ fn read_turns<R: Read>(
     }
     Err(InputFault::TurnsSpent)
 }
-
-#[cfg(test)]
-mod tests;

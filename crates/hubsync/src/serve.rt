@@ -149,6 +149,3 @@ fn write_text<W: Write>(text: &[u8], status: u8, output: &mut Watched<W>) -> u8
     }
     status
 }
-
-#[cfg(test)]
-mod tests;

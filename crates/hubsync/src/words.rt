@@ -175,6 +175,3 @@ fn command<'a>(alloc: Global) -> Result<Command<'a>, AllocError>
         .subcommand(verify)?
         .subcommand(reach)
 }
-
-#[cfg(test)]
-mod tests;

@@ -1,0 +1,237 @@
+#!/usr/bin/env bash
+# Asks the program the questions of the tables examples/answers/*.txt, and compares its answers.
+#
+#     examples/answers.sh [PROGRAM]
+#
+# PROGRAM is the built program (crates/hubsync/out/hubsync if left out). A case of a table has a title, an input,
+# and one or more questions about it, as they would stand in a shell:
+#
+#     == a folder, and then a part of it
+#     %profile whole
+#     root = /srv/hub
+#     root = /srv/s1
+#     path = a
+#     %profile part
+#     root = /srv/hub
+#     root = /srv/s1
+#     path = a/b
+#     $ hubsync check
+#     overlap: whole writes a at /srv/hub, part reaches a/b
+#     status 1
+#     $ hubsync reach part a
+#     not reached
+#     status 0
+#
+# - The lines between `== TITLE` and the first `$` are the input. No lines are an empty one.
+# - The words behind `$` are those that the program is started with, the first one its name. '' is an empty word.
+# - The lines down to `status N` are all that it writes. The input is read to its end, and standard error
+#   stays empty.
+# - Where a line `stderr: TEXT` stands above the status, the words ask for nothing: standard error begins with
+#   that text, and the input isn't read.
+# - In inputs, words and answers `\` begins an escape of `printf '%b'`, as `\r`, `\0`, `\xff`, or `\x20` for
+#   a space at the end of a line. `\c` ends an input without a line end.
+# - Between a status and the next title there may be blank lines, and remarks that begin with `#`.
+#
+# Then it asks what no table can say: inputs that are long, come byte by byte or fail, and outputs that fail. A
+# line is printed for each wrong answer. The status is 1 if there was one, else 0.
+set -euo pipefail
+shopt -s nullglob
+folder=$(dirname "$(readlink -f "${BASH_SOURCE[0]}")")
+program=$(readlink -m "${1:-$folder/../crates/hubsync/out/hubsync}")
+asked=0
+wrong=0
+
+complain() {
+    echo "answers: $*"
+    wrong=$((wrong + 1))
+}
+
+# The first line of a file that another one lacks there.
+first_other() {
+    diff -a "$1" "$2" | awk '/^</ { print substr($0, 3); exit }' || true
+}
+
+# Compares what was written with the file `wanted`, and the status.
+#
+#     judge PLACE WANTED-STATUS STATUS
+judge() {
+    asked=$((asked + 1))
+    if ! cmp -s "$room/wanted" "$room/output"; then
+        complain "$1: wanted '$(first_other "$room/wanted" "$room/output")' and status $2," \
+            "got '$(first_other "$room/output" "$room/wanted")' and status $3"
+        return 1
+    elif [ "$2" != "$3" ]; then
+        complain "$1: wanted status $2, got status $3"
+        return 1
+    fi
+}
+
+# Asks the program about the file `input`, and compares its answer with the file `wanted`.
+#
+#     ask PLACE WANTED-STATUS WANTED-ERROR NAME WORD..
+ask() {
+    local place=$1 error=$3 status=0 unread=/dev/null
+    {
+        (exec -a "$4" "$program" "${@:5}") >"$room/output" 2>"$room/errors" || status=$?
+        cat >"$room/rest"
+    } <"$room/input"
+    judge "$place" "$2" "$status" || return 0
+    if [ -n "$error" ]; then
+        unread=$room/input
+    fi
+    if [[ $(<"$room/errors") != "$error"* ]] || { [ -z "$error" ] && [ -s "$room/errors" ]; }; then
+        complain "$place: wanted '$error' on standard error, got '$(head -1 "$room/errors")'"
+    elif ! cmp -s "$unread" "$room/rest"; then
+        complain "$place: wanted $(wc -c <"$unread") bytes of the input left, got $(wc -c <"$room/rest")"
+    fi
+}
+
+# Asks the question of a case.
+#
+#     ask_case PLACE WANTED-STATUS WANTED-ERROR WORDS INPUT OUTPUT
+ask_case() {
+    local words i
+    read -ra words <<<"$4"
+    for i in "${!words[@]}"; do
+        printf -v "words[i]" '%b' "${words[i]/#\'\'/}"
+    done
+    printf '%b' "$5" >"$room/input"
+    printf '%b' "$6" >"$room/wanted"
+    ask "$1: $4" "$2" "$3" "${words[@]}"
+}
+
+# Asks all questions of a table.
+ask_table() {
+    local table=${1##*/} part=between title='' input='' question='' output='' error='' line
+    while IFS= read -r line; do
+        case $part/$line in
+            between/'== '*) title=${line#== } input='' part=input ;;
+            input/'$ '* | between/'$ '*) question=${line#\$ } output='' error='' part=output ;;
+            output/'stderr: '*) error=${line#stderr: } ;;
+            output/'status '*)
+                ask_case "$table: $title" "${line#status }" "$error" "$question" "$input" "$output"
+                part=between
+                ;;
+            between/ | between/'#'*) : ;;
+            between/* | */'== '*) complain "$table: in no case, or in one without a status: $line" ;;
+            input/*) input+=$line$'\n' ;;
+            output/*) output+=$line$'\n' ;;
+        esac
+    done <"$1"
+    [ "$part" = between ] || complain "$table: the last case has no status"
+}
+
+# A bundle of so many profiles that share nothing.
+many_profiles() {
+    local i
+    for ((i = 0; i < $1; i++)); do
+        printf '%%profile p%d\nroot = /hub%d\nroot = /spoke%d\n' "$i" "$i" "$i"
+    done
+}
+
+# There may be 32 profiles.
+ask_many() {
+    many_profiles 32 >"$room/input"
+    echo safe >"$room/wanted"
+    ask '32 profiles' 0 '' hubsync
+    many_profiles 33 >"$room/input"
+    echo 'refused: TooManyProfiles' >"$room/wanted"
+    ask '33 profiles' 1 '' hubsync
+}
+
+# What certify writes, verify takes.
+ask_certificates() {
+    local roots=$'root = /srv/hub\nroot = /srv/s1'
+    printf '%s\n' '%profile a' "$roots" 'path = a' '%profile b' "$roots" 'path = b' >"$room/bundle"
+    printf '%s\n' '%rules' 'root = /srv/hub' 'nolose = Path c' >>"$room/bundle"
+    {
+        cat "$room/bundle"
+        echo %certificates
+        "$program" certify <"$room/bundle" || true
+    } >"$room/input"
+    echo verified >"$room/wanted"
+    ask 'its own certificates' 0 '' hubsync verify
+}
+
+# A bundle with a state alone, in the form in which it is written. Its 12,293 bytes are three reads of 4,096 bytes,
+# and five bytes more.
+long_state() {
+    printf '%s\n' %state 'hubsync state 1' 'replica /'
+    awk 'BEGIN { printf "file "; for (i = 0; i < 6124; i++) printf "%02x", i % 251; print " a" }'
+    echo end
+}
+
+# Asks about an input byte by byte: `dd` puts the pipe into packet mode, so that each read gets one byte.
+ask_slowly() {
+    local status=0
+    dd bs=1 oflag=direct status=none <"$room/input" | "$program" >"$room/output" || status=$?
+    judge "$1, byte by byte" "$2" "$status" || true
+}
+
+# Inputs that take many reads.
+ask_long() {
+    long_state >"$room/input"
+    sed '1s/.*/safe/' "$room/input" >"$room/wanted"
+    ask 'an input of several reads' 0 '' hubsync
+    ask_slowly 'an input of several reads' 0
+    # without a line end at its end
+    printf '%s\n' '%profile u' 'root = /srv/hub' 'root = /srv/s1' 'path = a' >"$room/input"
+    printf '%s\n' '%profile v' 'root = /srv/s1' 'root = /srv/hub' >>"$room/input"
+    printf 'path = a/b' >>"$room/input"
+    echo 'overlap: u writes a at /srv/hub, v reaches a/b' >"$room/wanted"
+    ask_slowly 'two profiles' 1
+}
+
+# Inputs that fail, at the first read or later.
+ask_failing_inputs() {
+    local status=0
+    echo 'fault: bundle line 0: ReadFailed' >"$room/wanted"
+    "$program" <"$room" >"$room/output" || status=$?
+    judge 'an input that is a directory' 2 "$status" || true
+    # 4,097 blanks in a pipe that has more to come, and whose reads don't wait for it, but fail
+    mkfifo "$room/pipe"
+    exec 3<>"$room/pipe"
+    printf '%4097s' '' >&3
+    dd iflag=nonblock count=0 status=none <&3
+    status=0
+    "$program" <&3 >"$room/output" || status=$?
+    exec 3>&-
+    judge 'an input that fails at a later read' 2 "$status" || true
+}
+
+# Outputs that fail: they take nothing, or the first 1,024 bytes.
+ask_failing_outputs() {
+    local status=0
+    : >"$room/wanted"
+    : >"$room/output"
+    "$program" </dev/null >/dev/full || status=$?
+    judge 'an output that is full' 2 "$status" || true
+    long_state >"$room/input"
+    sed '1s/.*/safe/' "$room/input" >"$room/whole"
+    head -c 1024 "$room/whole" >"$room/wanted"
+    status=0
+    (
+        trap '' XFSZ
+        ulimit -f 1
+        exec "$program" <"$room/input" >"$room/output"
+    ) || status=$?
+    judge 'an output that is soon full' 2 "$status" || true
+}
+
+if [ ! -x "$program" ]; then
+    echo "answers: there is no program at $program"
+    exit 1
+fi
+room=$(mktemp -d)
+trap 'rm -rf "$room"' EXIT
+for table in "$folder"/answers/*.txt; do
+    ask_table "$table"
+done
+[ "$asked" -gt 0 ] || complain 'the tables have no cases'
+ask_many
+ask_certificates
+ask_long
+ask_failing_inputs
+ask_failing_outputs
+echo "answers: ${1:-hubsync} answered $asked, $wrong of them wrongly"
+[ "$wrong" = 0 ]

@@ -1,5 +1,5 @@
 -- Jobs and replicas that a schedule works on, against the world that they stand for.
-use Rattle.std.specs.Prelude.{◌≡◌, ◌≢◌, ◌≤◌, ◌<◌, ◌⊎◌, ◌==◌, ◌++◌, ℕ, zero, suc, Bool, true, false, List, [], ◌∷◌, length, slice_get, slice_set, count_by, Option, Some, None, if◌then◌else◌}
+use Rattle.std.specs.Prelude.{◌≡◌, ◌≢◌, ◌≤◌, ◌<◌, ◌⊎◌, ◌==◌, ◌++◌, ℕ, zero, suc, Bool, true, false, List, [], length, slice_get, count_by, Some}
 use Rattle.std.specs.List.{list_any, range_with_len}
 use Rattle.hub_path.specs.Path.{Path}
 use Rattle.hub_path.specs.declared.side.Side.{Side}

@@ -1,4 +1,3 @@
-use Rattle.std.proofs.Common.{◌≡◌}
 use Rattle.hub_job.specs.Outcome.{jobs_of, replicas_of}
 use Rattle.hub_job.specs.World.{opening}
 use Rattle.hub_schedule.specs.Table.{place_on, stopped_at}

@@ -1,7 +1,7 @@
-use Rattle.std.proofs.Common.{◌≡◌, ◌<◌, ◌≤◌, ◌+◌, ◌-◌, ◌++◌, ◌∙◌, List, ℕ, false, length, refl, sym, subst, arith}
+use Rattle.std.proofs.Common.{◌<◌, ◌≤◌, ◌+◌, ◌-◌, ◌++◌, ◌∙◌, length, refl, sym, subst, arith}
 use Rattle.std.specs.List.{range_with_len}
 use Rattle.std.proofs.lemmas.Bool.{false≢true}
-use Rattle.hub_schedule.specs.Table.{IsIdle, StayIdle, Taken, stopped_at}
+use Rattle.hub_schedule.specs.Table.{Taken}
 use Rattle.hub_schedule.proofs.Thinned.{all_turns_left, idle_more, no_turns_left, none_idle, taken_more, taken_same, turns_left}
 use Rattle.hub_schedule.proofs.turn.take_round.Goals as goal
 use Rattle.hub_schedule.proofs.turn.take_round.Goals.{then-take_turn, else-take_turn}

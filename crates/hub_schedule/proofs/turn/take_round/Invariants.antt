@@ -1,4 +1,4 @@
-use Rattle.std.proofs.Common.{◌≡◌, ◌<◌, ◌-◌, ◌++◌, ℕ, List, false, length}
+use Rattle.std.proofs.Common.{◌≡◌, ◌-◌, ◌++◌, ℕ, List, false, length}
 use Rattle.std.specs.List.{range_with_len}
 use Rattle.hub_schedule.specs.Table.{ArePlaced, StayIdle, StayStopped, Taken, stopped_at}
 use Rattle.hub_schedule.proofs.turn.take_round.Given as goal

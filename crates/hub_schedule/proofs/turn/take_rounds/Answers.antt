@@ -1,4 +1,4 @@
-use Rattle.std.proofs.Common.{◌≡◌, ◌<◌, ◌+◌, ◌-◌, ◌++◌, ◌∙◌, List, ℕ, length, refl, sym, subst}
+use Rattle.std.proofs.Common.{◌+◌, ◌-◌, ◌++◌, ◌∙◌, length, refl, sym, subst}
 use Rattle.std.specs.List.{range_with_len}
 use Rattle.hub_schedule.specs.Table.{StayIdle, Taken, whole_rounds}
 use Rattle.hub_schedule.proofs.Thinned.{all_rounds_left, no_rounds_left, rounds_left, taken_all, taken_idle, taken_same, taken_through}

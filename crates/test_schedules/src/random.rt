@@ -1,118 +1,23 @@
-//! Random schedules of a star: whatever the order of the turns, the jobs leave what they leave one after the other.
-use crate::turns::text_of;
-use hub_job::End;
-use hub_path::Name;
-use hub_profile::{Profile, read_profile};
+//! Random schedules: whatever the order of the turns, the jobs leave what they leave one after the other.
+
+use crate::fields::cut;
+use crate::given::Case;
+use crate::schedules::{fault_text, one_after_the_other, state_text};
+use anyhow::{Result, bail};
+use hub_job::Outcome;
 use hub_schedule::{rounds_for, simulate_jobs};
-use hub_state::{State, read_bytes};
+use hub_state::State;
 use std::alloc::{AllocError, Global};
-use std::process::Abort;
-use std::test::Fail;
 
-const JOBS: usize = 4;
-
-/// The profiles of the star: the spoke of each, and its path, which is its name too. Two of them have the same archive.
-const STAR: [(&str, &str); JOBS] = [
-    ("/srv/s1", "a"),
-    ("/srv/s2", "b"),
-    ("/srv/s3", "c"),
-    ("/srv/s1", "d"),
-];
-
-/// In `a` each side has something new. In `b` the hub has changed a file and deleted a directory. In `c` there is a conflict,
-/// and the hub has deleted a file. In `d` the spoke has.
-const OPENING: &str = "\
-hubsync state 1
-replica /srv/hub
-dir a
-file 61 a/x
-dir a/y
-file 62 a/y/z
-dir b
-file 63 b/x
-dir c
-dir c/x
-dir d
-file 68 d/x
-replica /srv/s1
-dir a
-file 65 a/w
-dir d
-replica /srv/s2
-dir b
-file 64 b/x
-dir b/y
-file 66 b/y/z
-replica /srv/s3
-dir c
-file 66 c/x
-file 67 c/z
-archive /srv/hub
-with /srv/s1
-dir d
-file aaa9402664f1a41f40ebbc52c9993eb66aeb366602958fdfaa283b71e64db123 d/x
-archive /srv/hub
-with /srv/s2
-dir b
-file 18ac3e7343f016890c510e93f935261169d9e3f565436429830faf0934f4f8e4 b/x
-dir b/y
-file 252f10c83610ebca1a059c0bae8255eba2f95be4d1d7bcfa89d7248a82d9f111 b/y/z
-archive /srv/hub
-with /srv/s3
-dir c
-file cd0aa9856147b6c5b4ff2b7dfee5da20aa38253099ef1b4a64aced233c9afe29 c/z
-end
-";
-
-/// What the jobs leave, worked out by hand from the rules. In `c` the conflict stays, and the archive has no mark of it.
-const CLOSING: &str = "\
-hubsync state 1
-replica /srv/hub
-dir a
-file 65 a/w
-file 61 a/x
-dir a/y
-file 62 a/y/z
-dir b
-file 63 b/x
-dir c
-dir c/x
-dir d
-replica /srv/s1
-dir a
-file 65 a/w
-file 61 a/x
-dir a/y
-file 62 a/y/z
-dir d
-replica /srv/s2
-dir b
-file 63 b/x
-replica /srv/s3
-dir c
-file 66 c/x
-archive /srv/hub
-with /srv/s1
-dir a
-file 3f79bb7b435b05321651daefd374cdc681dc06faa65e374e38337b88ca046dea a/w
-file ca978112ca1bbdcafac231b39a23dc4da786eff8147c4e72b9807785afee48bb a/x
-dir a/y
-file 3e23e8160039594a33894f6564e1b1348bbd7a0088d42c4acb73eeaed59c009d a/y/z
-dir d
-archive /srv/hub
-with /srv/s2
-dir b
-file 2e7d2c03a9507ae265ecf5b5356885a53393a2029d241394997265a1a25aefc6 b/x
-archive /srv/hub
-with /srv/s3
-dir c
-end
-";
+/// How many turns are random. Those of the schedule of rounds follow, so that each job has enough.
+const RANDOM_TURNS: usize = 120;
 
 /// A linear congruential generator, with Knuth's constants for 64 bits.
 #[derive(Drop)]
 struct Dice {
     bits: usize,
+    /// How many jobs there are.
+    jobs: usize,
 }
 
 impl Dice {
@@ -120,104 +25,66 @@ impl Dice {
     fn throw(&mut self) -> usize {
         let product = self.bits.wrapping_mul(6364136223846793005);
         self.bits = product.wrapping_add(1442695040888963407);
-        (self.bits >> 33) % JOBS
+        (self.bits >> 33).checked_rem(self.jobs).unwrap_or(0)
     }
 }
 
-/// The profiles of the star.
-fn star(alloc: Global) -> Result<Vec<Profile>, Fail> {
-    let mut profiles = Vec::new(alloc);
-    for (spoke, path) in &STAR {
-        let text = format!(in alloc; "root = /srv/hub\nroot = {spoke}\npath = {path}\n")?;
-        let name = Name::read(alloc, path)?;
-        profiles.push(read_profile(alloc, name, text.as_bytes())?)?;
+/// Whether so many random schedules leave what the jobs leave one after the other. If one does not, what it leaves.
+pub fn answer(case: &Case, fields: &str) -> Result<String> {
+    let (count, seed) = cut(fields);
+    let state = case.state()?;
+    let sequence = one_after_the_other(case, &state)?;
+    let want = left_by(case, &state, sequence.as_slice())?;
+    let mut dice = Dice {
+        bits: seed.parse::<usize>()?,
+        jobs: case.profiles.len(),
+    };
+    for number in 0..count.parse::<usize>()? {
+        let text = left_by_chance(case, &state, &mut dice)?;
+        if text != want {
+            return Ok(format!(in case.alloc; "schedule {number} leaves\n{text}")?);
+        }
     }
-    Ok(profiles)
+    Ok(format!(in case.alloc; "{count} leave what the sequence leaves")?)
 }
 
-/// A schedule that begins with 120 random turns. These turns follow, so that each job has enough.
+/// What a random schedule leaves.
+fn left_by_chance(case: &Case, state: &State, dice: &mut Dice) -> Result<String> {
+    let rounds = rounds_for(case.alloc, case.profiles.as_slice(), state)?;
+    let schedule = random_schedule(case.alloc, dice, rounds.as_slice())?;
+    left_by(case, state, schedule.as_slice())
+}
+
+/// A schedule that begins with random turns.
 fn random_schedule(
     alloc: Global,
     dice: &mut Dice,
     rounds: &[usize],
 ) -> Result<Vec<usize>, AllocError> {
     let mut schedule = Vec::new(alloc);
-    for _ in 0..120 {
+    for _ in 0..RANDOM_TURNS {
         schedule.push(dice.throw())?;
     }
     schedule.extend_from_slice(rounds)?;
     Ok(schedule)
 }
 
-/// A schedule in which each job takes so many turns before the next one takes its first.
-fn one_after_the_other(alloc: Global, turns: usize) -> Result<Vec<usize>, AllocError> {
-    let mut schedule = Vec::new(alloc);
-    for job in 0..JOBS {
-        push_turns(&mut schedule, job, turns)?;
+/// All that a schedule leaves.
+fn left_by(case: &Case, state: &State, schedule: &[usize]) -> Result<String> {
+    match simulate_jobs(case.alloc, case.profiles.as_slice(), state, schedule) {
+        Ok(outcome) => whole_text(case.alloc, &outcome),
+        Err(fault) => {
+            let fault = fault_text(case.alloc, &fault)?;
+            bail!("{fault}")
+        }
     }
-    Ok(schedule)
 }
 
-/// Gives a job so many turns.
-fn push_turns(schedule: &mut Vec<usize>, job: usize, turns: usize) -> Result<(), AllocError> {
-    for _ in 0..turns {
-        schedule.push(job)?;
-    }
-    Ok(())
-}
-
-/// What a schedule leaves: the text of the state, and how each job ended, with its items and its log.
-fn left_by(
-    alloc: Global,
-    profiles: &[Profile],
-    state: &State,
-    schedule: &[usize],
-) -> Result<String, Fail> {
-    let outcome = simulate_jobs(alloc, profiles, state, schedule)?;
-    let mut text = text_of(alloc, &outcome.state)?;
+/// The text of the state, and how each job ended, with its items and its log.
+fn whole_text(alloc: Global, outcome: &Outcome) -> Result<String> {
+    let mut text = state_text(alloc, &outcome.state)?;
     for job in outcome.jobs.as_slice() {
         write!(text, "{job:?}\n")?;
     }
     Ok(text)
-}
-
-/// Compares what 100 random schedules leave with what the jobs leave one after the other.
-fn hundred_schedules_agree(rt: &impl Abort, alloc: Global, seed: usize) -> Result<(), Fail> {
-    let profiles = star(alloc)?;
-    let state = read_bytes(alloc, OPENING.as_bytes())?;
-    let rounds = rounds_for(alloc, profiles.as_slice(), &state)?;
-    let sequence = one_after_the_other(alloc, rounds.len() / JOBS)?;
-    let want = left_by(alloc, profiles.as_slice(), &state, sequence.as_slice())?;
-    let mut dice = Dice { bits: seed };
-    for _ in 0..100 {
-        let schedule = random_schedule(alloc, &mut dice, rounds.as_slice())?;
-        let text = left_by(alloc, profiles.as_slice(), &state, schedule.as_slice())?;
-        assert_eq!(rt; text.as_str(), want.as_str());
-    }
-    Ok(())
-}
-
-#[test]
-fn random_schedules_leave_what_a_sequence_leaves(rt: HostRuntime) -> Result<(), Fail> {
-    hundred_schedules_agree(&rt, rt.alloc(), 1)
-}
-
-#[test]
-fn other_random_schedules_do_so_too(rt: HostRuntime) -> Result<(), Fail> {
-    hundred_schedules_agree(&rt, rt.alloc(), 2)
-}
-
-#[test]
-fn rounds_end_all_jobs(rt: HostRuntime) -> Result<(), Fail> {
-    let alloc = rt.alloc();
-    let profiles = star(alloc)?;
-    let state = read_bytes(alloc, OPENING.as_bytes())?;
-    let rounds = rounds_for(alloc, profiles.as_slice(), &state)?;
-    let outcome = simulate_jobs(alloc, profiles.as_slice(), &state, rounds.as_slice())?;
-    assert_eq!(rt; outcome.jobs.len(), JOBS);
-    for job in outcome.jobs.as_slice() {
-        assert!(rt; job.end == End::Finished);
-    }
-    assert_eq!(rt; text_of(alloc, &outcome.state)?.as_str(), CLOSING);
-    Ok(())
 }

@@ -27,12 +27,7 @@ pub(crate) fn walk_answer(alloc: Global, fields: &str) -> Result<String> {
     }
 }
 
-fn walk(
-    alloc: Global,
-    set: &ProfileSet,
-    goal: Goal,
-    text: &str,
-) -> Result<&'static str, CheckFault>
+fn walk(alloc: Global, set: &ProfileSet, goal: Goal, text: &str) -> Result<&'static str, CheckFault>
     requires { IsTrue (is_goal set.now goal) }
 {
     let product = Product::new(alloc, set, goal)?;

@@ -60,7 +60,11 @@ fn comparisons(alloc: Global, set: &ProfileSet, certificates: &[Certificate]) ->
 fn comparison(alloc: Global, set: &ProfileSet, certificate: &Certificate) -> Result<String> {
     let texts = texts_of(alloc, certificate)?;
     let alone = found(alloc, set, certificate.goal)?;
-    let word = if texts == alone { "the same" } else { "not the same" };
+    let word = if texts == alone {
+        "the same"
+    } else {
+        "not the same"
+    };
     let goal = goal_text(alloc, certificate.goal)?;
     Ok(format!(in alloc; "{goal} {word}")?)
 }

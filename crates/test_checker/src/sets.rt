@@ -52,7 +52,9 @@ fn members_of(alloc: Global, fields: &str) -> Result<(Items<Profile>, Rules)> {
 }
 
 fn profile_of(alloc: Global, head: &str, lines: &str) -> Result<Profile> {
-    let (name, roots) = head.split_once(' ').context("a profile has a name and roots")?;
+    let (name, roots) = head
+        .split_once(' ')
+        .context("a profile has a name and roots")?;
     let (left, right) = roots.split_once(' ').context("a profile has two roots")?;
     let lines = text_of_lines(alloc, lines)?;
     let text = format!(in alloc; "root = /srv/{left}\nroot = /srv/{right}\n{lines}\n")?;

@@ -1,40 +1,73 @@
-//! Which profiles make no set.
-use super::given::{profile_with, set_of};
-use hub_cert::{CheckFault, ProfileSet};
+//! Sets of profiles and rules. A set is written as fields:
+//!
+//! - `NAME LEFT RIGHT: LINES` is a profile of that name over the roots `/srv/LEFT` and `/srv/RIGHT`.
+//! - `rules: LINES` are the rules.
+//!
+//! The lines have `; ` between them. Where there are none, the `: ` is left out, too.
+use crate::faults::fault_text;
+use anyhow::{Context, Result, bail};
+use hub_cert::ProfileSet;
+use hub_path::Name;
+use hub_profile::{Profile, Rules, read_profile, read_rules};
+use hub_text::Items;
 use std::alloc::{AllocError, Global};
-use std::test::Fail;
 
-/// The roots of the profile `u`, another one's name and roots, and what the answer begins with.
-const SETS: &[([&str; 2], &str, [&str; 2], &str)] = &[
-    (["a", "b"], "u", ["c", "d"], "SameName"),
-    (["a", "b"], "v", ["c", "a/x"], "NestedRoots"),
-    (["a/x", "b"], "v", ["c", "a"], "NestedRoots"),
-    (["a", "b"], "v", ["ax", "b"], "a set"),
-];
-
-fn answer(alloc: Global, made: Result<ProfileSet, CheckFault>) -> Result<String, AllocError> {
-    match made {
-        Ok(_) => format!(in alloc; "a set"),
-        Err(fault) => format!(in alloc; "{fault:?}"),
+/// How many profiles and rules the set has, or why there is no set.
+pub(crate) fn set_answer(alloc: Global, fields: &str) -> Result<String> {
+    let (profiles, rules) = members_of(alloc, fields)?;
+    match ProfileSet::new(alloc, profiles, rules) {
+        Ok(set) => Ok(counts_text(alloc, &set)?),
+        Err(fault) => Ok(fault_text(alloc, &fault)?),
     }
 }
 
-fn answer_to(
-    alloc: Global,
-    roots: [&str; 2],
-    name: &str,
-    others: [&str; 2],
-) -> Result<String, Fail> {
-    let first = profile_with(alloc, "u", roots, "")?;
-    let second = profile_with(alloc, name, others, "")?;
-    Ok(answer(alloc, set_of(alloc, first, second))?)
+fn counts_text(alloc: Global, set: &ProfileSet) -> Result<String, AllocError> {
+    let profiles = set.profiles().len();
+    let rules = set.rules().len();
+    format!(in alloc; "{profiles} profiles, {rules} rules")
 }
 
-#[test]
-fn sets_are_refused(rt: HostRuntime) -> Result<(), Fail> {
-    for (roots, name, others, want) in SETS {
-        let answer = answer_to(rt.alloc(), *roots, name, *others)?;
-        assert!(rt; answer.as_str().starts_with(want), "{answer}");
+/// Makes the set of these fields.
+pub(crate) fn set_of(alloc: Global, fields: &str) -> Result<ProfileSet> {
+    let (profiles, rules) = members_of(alloc, fields)?;
+    match ProfileSet::new(alloc, profiles, rules) {
+        Ok(set) => Ok(set),
+        Err(fault) => bail!("no set: {fault:?}"),
     }
-    Ok(())
+}
+
+/// Reads the profiles and the rules of these fields.
+fn members_of(alloc: Global, fields: &str) -> Result<(Items<Profile>, Rules)> {
+    let mut profiles = Items::new(alloc);
+    let mut rules = Rules::new(alloc);
+    for field in fields.split(" | ") {
+        let (head, lines) = field.split_once(": ").unwrap_or((field, ""));
+        match head {
+            "" => {}
+            "rules" => rules = rules_of(alloc, lines)?,
+            _ => profiles.push(profile_of(alloc, head, lines)?)?,
+        }
+    }
+    Ok((profiles, rules))
+}
+
+fn profile_of(alloc: Global, head: &str, lines: &str) -> Result<Profile> {
+    let (name, roots) = head
+        .split_once(' ')
+        .context("a profile has a name and roots")?;
+    let (left, right) = roots.split_once(' ').context("a profile has two roots")?;
+    let lines = text_of_lines(alloc, lines)?;
+    let text = format!(in alloc; "root = /srv/{left}\nroot = /srv/{right}\n{lines}\n")?;
+    let name = Name::read(alloc, name)?;
+    Ok(read_profile(alloc, name, text.as_bytes())?)
+}
+
+fn rules_of(alloc: Global, lines: &str) -> Result<Rules> {
+    let text = text_of_lines(alloc, lines)?;
+    Ok(read_rules(alloc, text.as_bytes())?)
+}
+
+/// The text that has these lines.
+fn text_of_lines(alloc: Global, lines: &str) -> Result<String, AllocError> {
+    lines.replace(alloc, "; ", "\n")
 }

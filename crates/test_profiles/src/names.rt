@@ -1,0 +1,57 @@
+//! Questions about names.
+use crate::answers::{hash_alike, quoted, shown, word_of, yes_or_no};
+use crate::fields::Fields;
+use anyhow::{Result, bail};
+use hub_path::Name;
+use std::alloc::Global;
+
+/// Answers a question about the text of a name:
+///
+/// - `read`: the name, or the fault. `from-text`: the name, or `none`.
+/// - `copy`: whether the name is equal to its copy, and how the copy is displayed.
+/// - `hash`: whether the name and its text are hashed alike.
+/// - `compare`: how the name compares with that of the second field.
+pub fn answer(question: &str, fields: &mut Fields<'_>) -> Result<String> {
+    let alloc = fields.alloc();
+    let text = fields.text()?;
+    match question {
+        "read" => name_or_fault(alloc, text.as_str()),
+        "from-text" => name_or_none(alloc, text.as_str()),
+        "copy" => copy(alloc, text.as_str()),
+        "hash" => hash(alloc, text.as_str()),
+        "compare" => compare(alloc, text.as_str(), fields),
+        _ => bail!("an unknown question"),
+    }
+}
+
+fn name_or_fault(alloc: Global, text: &str) -> Result<String> {
+    match Name::read(alloc, text) {
+        Ok(name) => quoted(alloc, name.text()),
+        Err(fault) => shown(alloc, &fault),
+    }
+}
+
+fn name_or_none(alloc: Global, text: &str) -> Result<String> {
+    match Name::from_text(alloc, text)? {
+        Some(name) => quoted(alloc, name.text()),
+        None => shown(alloc, &"none"),
+    }
+}
+
+fn copy(alloc: Global, text: &str) -> Result<String> {
+    let name = Name::read(alloc, text)?;
+    let copy = name.copy()?;
+    let is_equal = word_of(copy == name);
+    Ok(format!(in alloc; "{is_equal}, {copy}")?)
+}
+
+fn hash(alloc: Global, text: &str) -> Result<String> {
+    let name = Name::read(alloc, text)?;
+    yes_or_no(alloc, hash_alike(&name, &text))
+}
+
+fn compare(alloc: Global, text: &str, fields: &mut Fields<'_>) -> Result<String> {
+    let name = Name::read(alloc, text)?;
+    let other = Name::read(alloc, fields.text()?.as_str())?;
+    Ok(format!(in alloc; "{:?}", name.cmp(&other))?)
+}

@@ -1,23 +1,24 @@
 #!/usr/bin/env bash
 # Runs `bench_state` on a small state text with each of its requests for memory refused in turn, then with each of its reads and
 # each of its writes failing. The answer should be `OutOfMemory`, `ReadFailed` or `WriteFailed`, and what was written before is a
-# prefix of the right text. Then it runs in the same way the test of `hub_tree` that out of memory changes nothing, and `hubsync`
-# on a bundle of two profiles with that state: there nothing stands before the line of the fault, and a failed write leaves a
-# prefix. A refused request for memory may instead stop a job. Then the status is 3, and the state is what the other job leaves,
-# with or without the one change of the job that was stopped.
+# prefix of the right text. Then it asks `test_states` two questions with each request for memory refused: where memory for a step
+# of a replica or an archive is refused, the later answers should be as if that step weren't there. Last it runs `hubsync` on a
+# bundle of two profiles with that state: there nothing stands before the line of the fault, and a failed write leaves a prefix. A
+# refused request for memory may instead stop a job. Then the status is 3, and the state is what the other job leaves, with or
+# without the one change of the job that was stopped.
 #
 #     bench/fail.sh
 #
-# All must have been built: by `rt run` in crates/bench_state and crates/hubsync, and by `rt test` in crates/test_states. A C compiler
-# is needed, since a few lines of C take the place of the C library's `malloc`, `realloc`, `read` and `write`. For each kind of call
-# a line gives the number of runs, how many ended with the fault, how many with a stopped job, and how many with the right text.
+# All must have been built, by `rt run` in crates/bench_state, crates/test_states and crates/hubsync. A C compiler is needed, since a
+# few lines of C take the place of the C library's `malloc`, `realloc`, `read` and `write`. For each kind of call a line gives the
+# number of runs, how many ended with the fault, how many with a stopped job or a refused step, and how many with the right text.
 # The status is 1 if an answer is wrong.
 set -euo pipefail
 top=$(dirname "$(dirname "$(readlink -f "${BASH_SOURCE[0]}")")")
 program=$top/crates/bench_state/out/bench_state
-tests=$top/crates/test_states/out/test_states_tests
+questions=$top/crates/test_states/out/test_states
 hubsync=$top/crates/hubsync/out/hubsync
-for built in "$program" "$tests" "$hubsync"; do
+for built in "$program" "$questions" "$hubsync"; do
     if [ ! -x "$built" ]; then
         echo "bench/fail.sh: no program at $built" >&2
         exit 2
@@ -155,19 +156,30 @@ fail_each() {
     echo "$(basename "$program"): $kind: $((number - 1)) runs, $faults with $fault, $stopped with a stopped job, $unharmed with the right text"
 }
 
-# Runs a test with each request for memory refused. It should pass each time.
-fail_each_in_test() {
-    local number=1
-    run FAIL_ALLOC "$number" nothing "$tests" "$1"
+# Asks `test_states` a question with each request for memory refused. Its answer should be one of those given, the first with ample
+# memory, or it should end with the fault and no answer.
+fail_each_in_question() {
+    local question=$1 number=1 faults=0 steps=0 unharmed=0
+    shift
+    echo "$question" >"$folder/question"
+    printf '%s\n' "${@/#/$question => }" >"$folder/answers"
+    head -n 1 "$folder/answers" >"$folder/right"
+    run FAIL_ALLOC "$number" question "$questions"
     while [ "$met" = yes ]; do
-        if [ "$status" != 0 ]; then
-            echo "bench/fail.sh: $1: FAIL_ALLOC $number: status $status, $(head -c 200 "$folder/errors")" >&2
+        if [ "$status" = 0 ] && cmp -s "$folder/answer" "$folder/right"; then
+            unharmed=$((unharmed + 1))
+        elif [ "$status" = 0 ] && [ "$(wc -l <"$folder/answer")" = 1 ] && grep -qxF -f "$folder/answers" "$folder/answer"; then
+            steps=$((steps + 1))
+        elif [ "$status" = 1 ] && [ ! -s "$folder/answer" ] && grep -qiE 'OutOfMemory|out of memory|memory allocation failed' "$folder/errors"; then
+            faults=$((faults + 1))
+        else
+            echo "bench/fail.sh: $question: FAIL_ALLOC $number: status $status, $(head -c 200 "$folder/answer" "$folder/errors")" >&2
             exit 1
         fi
         number=$((number + 1))
-        run FAIL_ALLOC "$number" nothing "$tests" "$1"
+        run FAIL_ALLOC "$number" question "$questions"
     done
-    echo "$1: $((number - 1)) runs, all passed"
+    echo "test_states ${question%% *}: $((number - 1)) runs, $faults with the fault, $steps with a refused step, $unharmed with the right answer"
 }
 
 {
@@ -194,12 +206,21 @@ sed "s|^end\$|file $digest b\n&|" "$folder/brought" >"$folder/after"
 { printf 'safe\njob a stopped\njob b finished\nto /srv/spoke01 b\n'; cat "$folder/after"; } >"$folder/stopped-a"
 { printf 'safe\njob a finished\nskip Conflict a\njob b stopped\n'; cat "$folder/text"; } >"$folder/stopped-b"
 { printf 'safe\njob a finished\nskip Conflict a\njob b stopped\n'; cat "$folder/brought"; } >"$folder/stopped-late"
-: >"$folder/nothing"
 
 fail_each bench_state_tells "$program" text text FAIL_ALLOC OutOfMemory
 fail_each bench_state_tells "$program" text text FAIL_READ ReadFailed
 fail_each bench_state_tells "$program" text text FAIL_WRITE WriteFailed
-fail_each_in_test trees::out_of_memory_changes_nothing
+# The second answer is that where memory for the first step was refused, and so on.
+a=$(printf a | sha256sum | cut -d ' ' -f 1)
+abc=$(printf abc | sha256sum | cut -d ' ' -f 1)
+refused='memory allocation failed'
+fail_each_in_question 'tree set a d; set a/b f:abc; set a/c f:a; mark a/c; count; copy; swap; count; swap; count; mark a/b' \
+    "ok; ok; ok; $a; 3; ok; ok; 3; ok; 3; $abc" \
+    "OutOfMemory; NoParent; NoParent; -; 0; ok; ok; 0; ok; 0; -" \
+    "ok; OutOfMemory; ok; $a; 2; ok; ok; 2; ok; 2; -" \
+    "ok; ok; OutOfMemory; -; 2; ok; ok; 2; ok; 2; $abc" \
+    "ok; ok; ok; $a; 3; $refused; ok; 0; ok; 3; $abc"
+fail_each_in_question 'archive set a/b d; mark a/b' 'ok; d' "$refused; -"
 fail_each hubsync_tells "$hubsync" bundle safe FAIL_ALLOC OutOfMemory
 fail_each hubsync_tells "$hubsync" bundle safe FAIL_READ ReadFailed
 fail_each hubsync_tells "$hubsync" bundle safe FAIL_WRITE WriteFailed

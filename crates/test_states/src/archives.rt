@@ -1,0 +1,83 @@
+//! Steps of an archive and a second one, both empty at first:
+//!
+//! - `set PATH CONTENTS` sets the mark of these contents.
+//! - `mark PATH`, `paths` and `marks`: what is there. `marks` has the number of marks, too.
+//! - `copy` makes the second archive a copy of the first, `swap` swaps both, and `same` asks whether they are the same.
+
+use crate::fields::{
+    contents_of, list_text, mark_text, outcome_text, path_of, paths_text, yes_or_no,
+};
+use crate::steps::Subject;
+use anyhow::{Result, bail, ensure};
+use hub_tree::Archive;
+use std::alloc::Global;
+use std::mem;
+
+/// An archive, and a second one.
+#[derive(Drop)]
+pub struct Archives {
+    archive: Archive,
+    other: Archive,
+}
+
+impl Archives {
+    /// Two empty archives.
+    pub fn new(alloc: Global) -> Archives {
+        Archives {
+            archive: Archive::new(alloc),
+            other: Archive::new(alloc),
+        }
+    }
+
+    /// Makes the second archive a copy of the first.
+    fn copy(&mut self, alloc: Global) -> Result<String> {
+        self.other = self.archive.copy()?;
+        Ok(String::from_str(alloc, "ok")?)
+    }
+
+    /// Swaps both archives.
+    fn swap(&mut self, alloc: Global) -> Result<String> {
+        mem::swap(&mut self.archive, &mut self.other);
+        Ok(String::from_str(alloc, "ok")?)
+    }
+}
+
+impl Subject for Archives {
+    fn step(&mut self, alloc: Global, words: &[&str]) -> Result<String> {
+        match *words {
+            ["set", path, contents] => set(alloc, &mut self.archive, path, contents),
+            ["copy"] => self.copy(alloc),
+            ["swap"] => self.swap(alloc),
+            ["same"] => yes_or_no(alloc, self.archive.same(&self.other)),
+            ["mark", path] => mark_at(alloc, &self.archive, path),
+            ["paths"] => paths_text(alloc, self.archive.paths()?.as_slice()),
+            ["marks"] => marks_text(alloc, &self.archive),
+            _ => bail!("no step of an archive"),
+        }
+    }
+}
+
+/// Sets the mark of contents at a path, which isn't the top.
+fn set(alloc: Global, archive: &mut Archive, path: &str, contents: &str) -> Result<String> {
+    let path = path_of(alloc, path)?;
+    let mark = contents_of(alloc, contents)?.mark();
+    ensure!(path.len() > 0, "no path of an archive");
+    outcome_text(alloc, archive.set(&path, mark))
+}
+
+/// The mark at a path.
+fn mark_at(alloc: Global, archive: &Archive, path: &str) -> Result<String> {
+    mark_text(alloc, archive.mark_at(&path_of(alloc, path)?))
+}
+
+/// How the marks of an archive are shown.
+fn marks_text(alloc: Global, archive: &Archive) -> Result<String> {
+    let mut parts = Vec::new(alloc);
+    for (path, mark) in archive.iter() {
+        let path = path.text()?;
+        let mark = mark_text(alloc, *mark)?;
+        parts.push(format!(in alloc; "{path} {mark}")?)?;
+    }
+    let list = list_text(alloc, parts.as_slice())?;
+    Ok(format!(in alloc; "{}: {list}", archive.iter().len())?)
+}

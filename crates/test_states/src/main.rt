@@ -1,0 +1,65 @@
+//! Answers questions about replicas, archives, state texts and reconciliation. `stdin` has the questions, and `stdout` the
+//! answers, which were worked out by hand from the rules; so the program is a test of the crates below it.
+//!
+//! Each line of the input is a question: a word and its fields. The output has a line `QUESTION => ANSWER` for each. Empty
+//! lines are skipped, and so are those that begin with `#`.
+//!
+//! - `line LINE`: what is read of a state text with this line, at each of five places, from the top of the text down to below
+//!   its `end` (`states::PLACES`).
+//! - `text TEXT`: the text of the state that a state text says, or the text's fault. It is read whole and in pieces.
+//! - `failing_reader TEXT`: the same if a reader fails behind the text, and whether that was seen.
+//! - `failing_writer COUNT TEXT`: what comes of writing a state if the writer fails after so many writes.
+//! - `state STEPS`: steps of a state (`sections`).
+//! - `blob TEXT`: the digest of the bytes of a file, that of its copy, and the bytes.
+//! - `tree STEPS`: steps of a replica and a second one (`trees`).
+//! - `levels COUNT NAME`: what is seen as a replica gets a directory below the last one, again and again (`levels`).
+//! - `archive STEPS`: steps of an archive and a second one (`archives`).
+//! - `reconcile LINES | LEFT | RIGHT | OLD`: the items, the changes and the new archive (`reconciliation`).
+//!
+//! A LINE and a TEXT are written with `\n`, `\r` and `\xHH` for bytes. STEPS are separated by `; `.
+#![tactic(auto)]
+
+mod archives;
+mod devices;
+mod fields;
+mod levels;
+mod reconciliation;
+mod sections;
+mod states;
+mod steps;
+mod trees;
+
+use anyhow::{Result, bail};
+use hub_state::State;
+use std::alloc::Global;
+use std::io::{BufRead, BufReader};
+
+fn main(rt: HostRuntime) -> Result<()> {
+    let alloc = rt.alloc();
+    for line in BufReader::new(alloc, rt.reader())?.lines(alloc) {
+        let line = line?;
+        if !line.is_empty() && !line.starts_with('#') {
+            let answer = answer(alloc, line.as_str())?;
+            println!(rt; "{line} => {answer}")?;
+        }
+    }
+    Ok(())
+}
+
+/// The answer to a question.
+fn answer(alloc: Global, question: &str) -> Result<String> {
+    let (word, fields) = question.split_once(' ').unwrap_or((question, ""));
+    match word {
+        "line" => states::line_answer(alloc, fields),
+        "text" => states::text_answer(alloc, fields),
+        "failing_reader" => states::failing_reader_answer(alloc, fields),
+        "failing_writer" => states::failing_writer_answer(alloc, fields),
+        "state" => steps::answers(alloc, &mut State::new(alloc), fields),
+        "blob" => trees::blob_answer(alloc, fields),
+        "tree" => steps::answers(alloc, &mut trees::Trees::new(alloc), fields),
+        "levels" => levels::answer(alloc, fields),
+        "archive" => steps::answers(alloc, &mut archives::Archives::new(alloc), fields),
+        "reconcile" => reconciliation::answer(alloc, fields),
+        _ => bail!("no question: {word}"),
+    }
+}

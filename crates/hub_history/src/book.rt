@@ -155,7 +155,8 @@ impl<'a> Book<'a> {
 
     /// Returns the replica. The rest of the book is dropped.
     pub fn into_tree(self) -> Tree
-        ensures { result ≡ self.entry.tree }
+        ensures value { result ≡ self.entry.tree }
+        ensures book { IsBook self.entry }
     {
         let Book { tree, .. } = self;
         tree

@@ -164,9 +164,10 @@ impl<'a> Job<'a> {
         }
     }
 
-    /// Returns the job's number.
+    /// Returns the job's number, which each entry of its log has.
     pub fn number(&self) -> usize
-        ensures { result ≡ self.now.number }
+        ensures value { result ≡ self.now.number }
+        ensures run { Runs self.now.profile self.now.archive self.now.number [] self.now.log }
     {
         self.number
     }

@@ -28,3 +28,4 @@ pub mod Places
 pub mod Marked
 pub mod InRounds
 pub mod Rounded
+pub mod EndedJobs

@@ -43,7 +43,7 @@ opened_none S Ps = record {
 }
 
 -- One more at the end.
-get_push : {X : Type 0} (Q : ℕ → X → Type 0) (xs : List X) (x : X) → ((j : ℕ) (y : X) → slice_get xs j ≡ Some y → Q j y) → Q (length xs) x → (j : ℕ) (y : X) → slice_get (xs ++ x ∷ []) j ≡ Some y → Q j y
+pub get_push : {X : Type 0} (Q : ℕ → X → Type 0) (xs : List X) (x : X) → ((j : ℕ) (y : X) → slice_get xs j ≡ Some y → Q j y) → Q (length xs) x → (j : ℕ) (y : X) → slice_get (xs ++ x ∷ []) j ≡ Some y → Q j y
 get_push Q [] x each last zero y e = subst (Q 0) (one_value x y e) last
 get_push Q [] x each last (suc j) y e = cc
 get_push Q (z ∷ xs) x each last zero y e = each 0 y e

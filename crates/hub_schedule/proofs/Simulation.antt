@@ -30,7 +30,7 @@ some_profile Ps j P at = let h = within Ps j P at in omega (arith, h)
 no_profile : (j : ℕ) (P : Parts) → slice_get [] j ≡ Some P → ⊥
 no_profile j P e = cc
 
-promise_none : (S : State) (Rs : List Rule) (histories : Path → List Entry) (o : Outcome) → Settles S [] histories o → IsAsPromised S [] Rs histories o
+pub promise_none : (S : State) (Rs : List Rule) (histories : Path → List Entry) (o : Outcome) → Settles S [] histories o → IsAsPromised S [] Rs histories o
 promise_none S Rs histories o settles = record {
   logs = λ j P is. absurd (no_profile j P is);
   others = λ j P r q front rest e is. absurd (no_profile j P is);

@@ -8,3 +8,4 @@ pub mod Simulated
 pub mod Table
 pub mod Left
 pub mod Refusals
+pub mod Ended

@@ -4,6 +4,7 @@
 //! what it does alone. The laws of [`promise`] and [`together`] say so of every history of the replicas.
 #![tactic(auto)]
 
+mod ended;
 mod ends;
 pub mod promise;
 mod refusals;
@@ -15,6 +16,9 @@ mod seats;
 pub mod together;
 mod turn;
 
+pub use ended::{EndedJob, outcome_of_jobs};
+pub use refusals::find_missing;
 pub use rounds::{rounds_for, run_rounds};
 pub use safe::simulate;
 pub use schedule::simulate_jobs;
+pub use seat::WorkingTree;

@@ -9,7 +9,7 @@ use hub_profile::Profile;
 use hub_state::State;
 
 /// Borrows the first root of the profiles that the state has no replica for, the left one of a profile first.
-pub(crate) fn find_missing<'a>(profiles: &'a [Profile], state: &State) -> Option<&'a Root>
+pub fn find_missing<'a>(profiles: &'a [Profile], state: &State) -> Option<&'a Root>
     ensures value { option_map (λ r. r.now) result ≡ first_missing state.now profiles.now }
     ensures valid { 0 < length profiles.now → IsState state.now }
 {

@@ -1,7 +1,8 @@
 //! Schedules of turns.
-ghost use Rattle.std.specs.Prelude.{◌<◌, All, length, IfOk, IfErr};
+ghost use Rattle.std.specs.Prelude.{◌≡◌, ◌<◌, All, map, length, IfOk, IfErr};
 ghost use Rattle.hub_job.specs.Outcome.{IsSimulated};
 ghost use Rattle.hub_job.specs.World.{Jobs, World};
+ghost use Rattle.hub_schedule.specs.Left.{end_value};
 ghost use Rattle.hub_schedule.specs.Table.{IsOutcomeAfter, IsTable, whole_rounds};
 ghost use Rattle.hub_schedule.specs.Promise.{HasReplicas};
 ghost use Rattle.hub_state.specs.State.{IsState};
@@ -95,15 +96,16 @@ fn run_in_rounds(
 }
 
 /// Ends the jobs, and puts what they leave into a copy of the state.
-fn outcome_of(
+pub(crate) fn outcome_of(
     alloc: Global,
     state: &State,
     seats: Vec<Seat<'_>>,
     trees: Vec<WorkingTree<'_>>,
 ) -> Result<Outcome, AllocError>
     requires { (J : Jobs) × (w : World) × IsTable J w seats.items trees.items }
-    ensures { IfOk result
+    ensures outcome { IfOk result
         (IsOutcomeAfter state.now seats.entry.items trees.entry.items) }
+    ensures ends { IfOk result (λ o. o.jobs ≡ map end_value seats.entry.items) }
 {
     let (jobs, nexts) = end_jobs(alloc, seats)?;
     let mut after = state.copy()?;

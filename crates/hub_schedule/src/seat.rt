@@ -6,13 +6,13 @@ use hub_path::{Root, Side};
 use hub_profile::Profile;
 use hub_tree::{Archive, Tree};
 
-/// A replica that the jobs change.
+/// A replica that jobs change.
 #[derive(Drop)]
-pub(crate) struct WorkingTree<'a> {
+pub struct WorkingTree<'a> {
     /// Its root.
-    pub(crate) root: &'a Root,
+    pub root: &'a Root,
     /// The replica as it is now.
-    pub(crate) tree: Tree,
+    pub tree: Tree,
 }
 
 /// A job among others.

@@ -116,7 +116,7 @@ fn copy_of(alloc: Global, state: &State, root: &Root) -> Result<Tree, AllocError
 }
 
 /// Finds the replica of a root.
-fn find_tree(trees: &[WorkingTree<'_>], root: &Root) -> Option<usize>
+pub(crate) fn find_tree(trees: &[WorkingTree<'_>], root: &Root) -> Option<usize>
     ensures { MatchOption result (IsNotIn trees.now (length trees.now) root.now)
         (IsPlaced trees.now root.now) }
 {

@@ -22,9 +22,13 @@ returns c =
     let put : c.put_trees.new.state ≡ fold put_tree S trees = c.in_ok-put_trees.ensures ∙ ap (λ (s : State). fold put_tree s trees) c.in_ok-after.ensures in
     let marks : HasMarks (mark_from (map next_value seats)) (fold put_tree S trees) after =
     subst (λ (s : State). HasMarks (mark_from (map next_value seats)) s after) put
-    (subst (λ ns. HasMarks (mark_from ns) c.put_trees.new.state after) c.in_ok-jobs.ensures.nexts c.in_ok-put_archives.ensures.marks) in (
-      λ Ps w there table.
-          joined S Ps there w seats trees table o c.in_ok-jobs.ensures.ends
-          (c.in_ok-put_archives.ensures.replicas ∙ ap (λ (s : State). s.replicas) put) marks,
-      went_on seats o c.in_ok-jobs.ensures.ends,
-    )
+    (subst (λ ns. HasMarks (mark_from ns) c.put_trees.new.state after) c.in_ok-jobs.ensures.nexts c.in_ok-put_archives.ensures.marks) in
+    record {
+      outcome = (
+        λ Ps w there table.
+            joined S Ps there w seats trees table o c.in_ok-jobs.ensures.ends
+            (c.in_ok-put_archives.ensures.replicas ∙ ap (λ (s : State). s.replicas) put) marks,
+        went_on seats o c.in_ok-jobs.ensures.ends,
+      );
+      ends = c.in_ok-jobs.ensures.ends;
+    }

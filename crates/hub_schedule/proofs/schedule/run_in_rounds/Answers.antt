@@ -24,4 +24,4 @@ returns c =
     let t = c.take_rounds.ensures J (opening J (replicas_of S)) c.in_ok-seats.ensures.table in
     after_turns S Ps t.0 (whole_rounds (length Ps) c.args.rounds) (stopped_at c.in_ok-seats.seats.items) c.take_rounds.new.seats.items c.take_rounds.new.trees.items c.outcome_of.result c.requires t.1
     (subst (λ n. IsThinned J (opening J (replicas_of S)) t.0 (whole_rounds n c.args.rounds) (stopped_at c.in_ok-seats.seats.items) (stopped_at c.take_rounds.new.seats.items)) c.in_ok-seats.ensures.table.count t.2)
-    c.outcome_of.ensures
+    c.outcome_of.ensures.outcome

@@ -21,4 +21,4 @@ returns c =
     let Ps = c.args.profiles.now in
     let J = jobs_of S Ps in
     let t = c.take_turns.ensures J (opening J (replicas_of S)) c.in_ok-seats.ensures.table in
-    after_turns S Ps t.0 c.args.schedule.now (stopped_at c.in_ok-seats.seats.items) c.take_turns.new.seats.items c.take_turns.new.trees.items c.outcome_of.result c.requires.there t.1 t.2 c.outcome_of.ensures
+    after_turns S Ps t.0 c.args.schedule.now (stopped_at c.in_ok-seats.seats.items) c.take_turns.new.seats.items c.take_turns.new.trees.items c.outcome_of.result c.requires.there t.1 t.2 c.outcome_of.ensures.outcome

@@ -1,0 +1,13 @@
+pub mod Lists
+pub mod Roots
+pub mod Firsts
+pub mod JobPlaces
+pub mod Least
+pub mod OddJobs
+pub mod Found
+pub mod Differing
+pub mod Filling
+pub mod Trees
+pub mod Fitting
+pub mod Settlement
+pub mod Ending

@@ -1,0 +1,46 @@
+-- Books and jobs, put in order.
+use Rattle.std.specs.Prelude.{◌≡◌, ◌<◌, ℕ, Bool, List, [], All, length, map, filter, slice_get, Some}
+use Rattle.std.specs.List.{list_any}
+use Rattle.hub_path.specs.Path.{Path}
+use Rattle.hub_profile.specs.Parts.{Parts}
+use Rattle.hub_reach.specs.Reach.{has_root}
+use Rattle.hub_tree.specs.Tree.{Replica}
+use Rattle.hub_job.specs.JobValue.{JobValue}
+use Rattle.hub_job.specs.Run.{Runs}
+use Rattle.hub_history.specs.Book.{BookValue, IsBook}
+use Rattle.hub_schedule.specs.declared.ended.EndedJob.{EndedJob}
+use Rattle.hub_schedule.specs.declared.seat.WorkingTree.{WorkingTree}
+
+-- A root and its replica.
+abbrev pub of_tree : WorkingTree → Path × Replica
+of_tree t = (t.root.now, t.tree)
+
+abbrev pub of_book : BookValue → Path × Replica
+of_book B = (B.root, B.tree)
+
+-- Whether the book is that of a root of the profiles.
+abbrev pub is_due : List Parts → BookValue → Bool
+is_due Ps B = list_any (λ P. has_root P B.root) Ps
+
+-- The replicas of those books, in their order.
+pub record AreTreesOf (Ps : List Parts) (books : List BookValue) (trees : List WorkingTree) : Type 0 where
+  pub values : map of_tree trees ≡ map of_book (filter (is_due Ps) books)
+  pub legal : All IsBook (filter (is_due Ps) books)
+
+-- A job of a list, with what it was made for.
+pub record IsEndedOf (jobs : List JobValue) (e : EndedJob) : Type 0 where
+  pub place : ℕ
+  pub there : slice_get jobs place ≡ Some e.job
+  pub profile : e.profile.now ≡ e.job.profile
+  pub opening : e.opening.now ≡ e.job.archive
+  pub run : Runs e.job.profile e.job.archive e.job.number [] e.job.log
+
+-- The jobs of the first n numbers, in order.
+pub record AreInOrder (n : ℕ) (jobs : List JobValue) (ended : List EndedJob) : Type 0 where
+  pub each : (j : ℕ) (e : EndedJob) → slice_get ended j ≡ Some e → IsEndedOf jobs e × (e.job.number ≡ j)
+  pub count : length ended ≡ n
+
+-- Each number of a job is below n, and each number below n is that of a job.
+pub record AreNumbered (n : ℕ) (jobs : List JobValue) : Type 0 where
+  pub below : (k : ℕ) (J : JobValue) → slice_get jobs k ≡ Some J → J.number < n
+  pub all : (j : ℕ) → j < n → (k : ℕ) × (J : JobValue) × (slice_get jobs k ≡ Some J) × (J.number ≡ j)

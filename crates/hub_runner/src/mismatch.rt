@@ -1,0 +1,86 @@
+//! What the fault of a wrong place shows.
+ghost use Rattle.std.specs.Prelude.{◌≡◌, Some, IfOk};
+ghost use Rattle.hub_job.specs.declared.run_fault.RunFault.TheVariants.{Mismatch};
+ghost use Rattle.hub_runner.specs.Settling as spec;
+
+use crate::books::history_at;
+use crate::entries::{entries_at, entries_of};
+use crate::lent::Lent;
+use crate::task::Task;
+use crate::wrong::log_of;
+use hub_history::{Book, copy_entry};
+use hub_job::{Entry, RunFault};
+use hub_path::Root;
+use hub_profile::Profile;
+use hub_text::Items;
+use std::alloc::{AllocError, Global};
+
+/// Makes the fault of a wrong place: at a root, with a job or none. It copies the job's entries in the root's history and
+/// those of its log there.
+pub(crate) fn mismatch(
+    alloc: Global,
+    profiles: &[Profile],
+    books: &[Book<'_>],
+    tasks: &[Task<'_>],
+    root: &Root,
+    job: Option<usize>,
+) -> Result<RunFault, AllocError>
+    ensures { IfOk result (λ f. f ≡ Mismatch root.now job
+        (spec.history_shown books.now root.now job)
+        (spec.log_shown profiles.now tasks.now root.now job)) }
+{
+    let (history, log) = match job {
+        Some(job) => (
+            history_of(alloc, books, root, job)?,
+            logged(alloc, profiles, tasks, root, job)?,
+        ),
+        None => (Items::new(alloc), Items::new(alloc)),
+    };
+    Ok(RunFault::Mismatch {
+        root: root.copy()?,
+        job,
+        history,
+        log,
+    })
+}
+
+/// Copies a job's entries in the history of a root.
+fn history_of(
+    alloc: Global,
+    books: &[Book<'_>],
+    root: &Root,
+    job: usize,
+) -> Result<Items<Entry>, AllocError>
+    ensures { IfOk result (λ v. v ≡ spec.history_shown books.now root.now (Some job)) }
+{
+    let entries = entries_of(alloc, history_at(books, root), job)?;
+    copies(alloc, entries.as_slice())
+}
+
+/// Copies the entries of a job's log at a root. There are none if no profile has its number.
+fn logged(
+    alloc: Global,
+    profiles: &[Profile],
+    tasks: &[Task<'_>],
+    root: &Root,
+    job: usize,
+) -> Result<Items<Entry>, AllocError>
+    ensures { IfOk result (λ v. v ≡ spec.log_shown profiles.now tasks.now root.now (Some job)) }
+{
+    let Some(profile) = profiles.get(job) else {
+        return Ok(Items::new(alloc));
+    };
+    let entries = entries_at(alloc, profile, root, log_of(tasks, job))?;
+    copies(alloc, entries.as_slice())
+}
+
+/// Copies borrowed entries.
+fn copies(alloc: Global, entries: &[Lent<'_, Entry>]) -> Result<Items<Entry>, AllocError>
+    ensures { IfOk result (λ v. v ≡ entries.now) }
+{
+    let mut all = Vec::new(alloc);
+    for entry in entries {
+        all.push(copy_entry(entry.item())?)?;
+    }
+    Ok(Items::from_vec(all))
+}

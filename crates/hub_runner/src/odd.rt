@@ -1,0 +1,96 @@
+//! Numbers that no job has, or several have, or one that wasn't made for the set and the state.
+ghost use Rattle.std.specs.Prelude.{◌≡◌, ◌==◌, Some, count_by, MatchBool, MatchOption};
+ghost use Rattle.std.specs.FinMap as fin;
+ghost use Rattle.hub_job.specs.Outcome as of_outcome;
+ghost use Rattle.hub_runner.specs.Odd as spec;
+ghost use Rattle.hub_runner.specs.Odd.{AllAreBelow, AllAreOf, IsLeastFrom, OneIsNotOf};
+ghost use Rattle.hub_runner.specs.Settling.{AreDue, IsLowestOdd};
+
+use crate::task::Task;
+use hub_profile::Profile;
+use hub_state::State;
+use hub_tree::Archive;
+use std::alloc::Global;
+
+/// Returns the lowest number that is odd: it is that of a profile, and not exactly one job has it; or a job has it that
+/// wasn't made for the profile of that number and the archive of that profile's roots.
+pub(crate) fn find_odd(
+    alloc: Global,
+    tasks: &[Task<'_>],
+    profiles: &[Profile],
+    state: &State,
+) -> Option<usize>
+    ensures { MatchOption result
+        (AreDue state.now profiles.now tasks.now)
+        (IsLowestOdd state.now profiles.now tasks.now) }
+{
+    let empty = Archive::new(alloc);
+    for (number, profile) in profiles.iter().enumerate() {
+        let archive = archive_of(profile, state, &empty);
+        if !are_of(tasks, number, profile, archive) {
+            return Some(number);
+        }
+        if count_of(tasks, number) != 1 {
+            return Some(number);
+        }
+    }
+    find_least(tasks, profiles.len())
+}
+
+/// Borrows the archive of a profile's two roots, or the empty one.
+fn archive_of<'a>(profile: &Profile, state: &'a State, empty: &'a Archive) -> &'a Archive
+    requires { empty.now ≡ fin.empty }
+    ensures { result.now ≡ of_outcome.archive_of state.now (Some profile.now) }
+{
+    let roots = profile.roots();
+    match state.archive(&roots[0], &roots[1]) {
+        Some(archive) => archive,
+        None => empty,
+    }
+}
+
+/// Returns how many jobs have that number.
+fn count_of(tasks: &[Task<'_>], number: usize) -> usize
+    ensures { result ≡ count_by (λ J. J.number == number) tasks.now }
+{
+    tasks.iter().filter(|task| task.number() == number).count()
+}
+
+/// Returns whether all jobs of that number were made for this profile and this archive.
+fn are_of(tasks: &[Task<'_>], number: usize, profile: &Profile, archive: &Archive) -> bool
+    ensures { MatchBool result
+        (AllAreOf profile.now archive.now tasks.now number)
+        (OneIsNotOf profile.now archive.now tasks.now number) }
+{
+    for task in tasks {
+        if task.number() == number && !task.is_of(profile, archive) {
+            return false;
+        }
+    }
+    true
+}
+
+/// Returns the lowest number of a job that isn't below this one.
+fn find_least(tasks: &[Task<'_>], from: usize) -> Option<usize>
+    ensures { MatchOption result
+        (AllAreBelow tasks.now from) (IsLeastFrom tasks.now from) }
+{
+    let mut least = None;
+    for task in tasks {
+        least = lower(least, from, task.number());
+    }
+    least
+}
+
+/// Returns the lower of a number that may be there and another one, unless that is below `from`.
+fn lower(least: Option<usize>, from: usize, number: usize) -> Option<usize>
+    ensures { result ≡ spec.lower from least number }
+{
+    if number < from {
+        return least;
+    }
+    match least {
+        Some(least) => Some(least.min(number)),
+        None => Some(number),
+    }
+}

@@ -1,0 +1,114 @@
+//! Books and jobs, put in order.
+ghost use Rattle.std.specs.Prelude.{◌≡◌, ◌<◌, length, slice_set, Some, IfOk, IsTrue, MatchOption, false};
+ghost use Rattle.std.specs.List.{list_any};
+ghost use Rattle.hub_reach.specs.Reach as of_reach;
+ghost use Rattle.hub_runner.specs.Ordered.{AreInOrder, AreNumbered, AreTreesOf};
+ghost use Rattle.hub_runner.specs.Slots as spec;
+
+use crate::task::Task;
+use hub_history::Book;
+use hub_path::Root;
+use hub_profile::Profile;
+use hub_schedule::{EndedJob, WorkingTree};
+use std::alloc::{AllocError, Global};
+
+/// Returns the replicas of the books whose roots the profiles have, in the order of the books.
+pub(crate) fn trees_of<'a>(
+    alloc: Global,
+    profiles: &'a [Profile],
+    books: Vec<Book<'_>>,
+) -> Result<Vec<WorkingTree<'a>>, AllocError>
+    ensures { IfOk result (λ v. AreTreesOf profiles.now books.entry.items v.items) }
+{
+    let mut trees = Vec::new(alloc);
+    for book in books {
+        if let Some(root) = find_root(profiles, book.root()) {
+            let tree = book.into_tree();
+            trees.push(WorkingTree { root, tree })?;
+        }
+    }
+    Ok(trees)
+}
+
+/// Borrows a root from the profiles, if one of them has it.
+fn find_root<'a>(profiles: &'a [Profile], root: &Root) -> Option<&'a Root>
+    ensures { MatchOption result
+        (list_any (λ P. of_reach.has_root P root.now) profiles.now ≡ false)
+        (λ own. (own.now ≡ root.now)
+        × IsTrue (list_any (λ P. of_reach.has_root P root.now) profiles.now)) }
+{
+    for profile in profiles {
+        if let Some(own) = root_of(profile, root) {
+            return Some(own);
+        }
+    }
+    None
+}
+
+/// Borrows a root from a profile, if the profile has it.
+fn root_of<'a>(profile: &'a Profile, root: &Root) -> Option<&'a Root>
+    ensures { MatchOption result
+        (of_reach.has_root profile.now root.now ≡ false)
+        (λ own. (own.now ≡ root.now) × IsTrue (of_reach.has_root profile.now root.now)) }
+{
+    let roots = profile.roots();
+    if &roots[0] == root {
+        return Some(&roots[0]);
+    }
+    if &roots[1] == root {
+        return Some(&roots[1]);
+    }
+    None
+}
+
+/// Orders jobs by their numbers, which are those below `n`.
+pub(crate) fn in_order<'a>(
+    alloc: Global,
+    n: usize,
+    tasks: Vec<Task<'a>>,
+) -> Result<Vec<EndedJob<'a>>, AllocError>
+    requires { AreNumbered n tasks.items }
+    ensures { IfOk result (λ v. AreInOrder n tasks.entry.items v.items) }
+{
+    let mut slots = empty_slots(alloc, n)?;
+    for task in tasks {
+        let number = task.number();
+        fill(&mut slots, number, task.into_ended());
+    }
+    full_slots(alloc, slots)
+}
+
+/// Makes so many slots, each empty.
+fn empty_slots<'a>(alloc: Global, n: usize) -> Result<Vec<Option<EndedJob<'a>>>, AllocError>
+    ensures { IfOk result (λ v. v.items ≡ spec.empty n) }
+{
+    let mut slots = Vec::new(alloc);
+    for _ in 0..n {
+        slots.push(None)?;
+    }
+    Ok(slots)
+}
+
+/// Puts a job into the slot of that number.
+fn fill<'a>(slots: &mut Vec<Option<EndedJob<'a>>>, number: usize, job: EndedJob<'a>)
+    requires { number < length slots.old.items }
+    ensures { slots.new.items ≡ slice_set slots.old.items number (Some job.entry) }
+{
+    slots[number] = Some(job);
+}
+
+/// Returns what is in slots that are all full.
+fn full_slots<'a>(
+    alloc: Global,
+    slots: Vec<Option<EndedJob<'a>>>,
+) -> Result<Vec<EndedJob<'a>>, AllocError>
+    requires { spec.AreFull slots.items }
+    ensures { IfOk result (λ v. slots.entry.items ≡ spec.filled v.items) }
+{
+    let mut jobs = Vec::new(alloc);
+    for slot in slots {
+        let Some(job) = slot else { unreachable!() };
+        jobs.push(job)?;
+    }
+    Ok(jobs)
+}

@@ -1,0 +1,114 @@
+//! What books and jobs leave that fit together.
+ghost use Rattle.std.specs.Prelude.{◌<◌, length, map, IfOk, IfErr};
+ghost use Rattle.hub_cert.specs.Set.{forbidden_by};
+ghost use Rattle.hub_state.specs.State.{IsState};
+ghost use Rattle.hub_schedule.specs.Promise.{IsAsPromised, Settles};
+ghost use Rattle.hub_schedule.specs.Settled.{AreProfiles};
+ghost use Rattle.hub_runner.specs.Settling.{AreCompared, EndAsTheyAre, IsUnsettled, history_at};
+
+use crate::mismatch::mismatch;
+use crate::odd::find_odd;
+use crate::order::{in_order, trees_of};
+use crate::task::Task;
+use crate::wrong::find_wrong;
+use hub_cert::{ProfileSet, Verified};
+use hub_history::Book;
+use hub_job::{Outcome, RunFault};
+use hub_schedule::promise::safe_sets_keep_their_promise;
+use hub_schedule::{find_missing, outcome_of_jobs};
+use hub_state::State;
+use std::alloc::{AllocError, Global};
+
+/// Compares books and jobs with each other, with the set and with the state, entry by entry, and puts together what they
+/// leave: the state with the replicas of the books, and with the archive of each finished job. `state` stays as it is.
+/// Books of roots that no profile has are dropped.
+///
+/// Whatever order the steps had in which the jobs got their answers, each of them did what it does alone.
+///
+/// The fault is the first of these that applies:
+/// - `MissingReplica` with the first root that the state has no replica for, in the order of the profiles, the left root
+///   of each first;
+/// - `Stranger` with the lowest job number that is there twice, missing, or that of a job made for another profile or
+///   archive;
+/// - `Mismatch` with the first root, in that order, that hasn't exactly one book, or whose book wasn't made for the set or
+///   doesn't open with the state's replica (then it names no job); or whose history has other entries of a job than the
+///   job's log has there (then it names the first such job, and has both lists).
+///
+/// Any call may instead report `OutOfMemory`.
+pub fn settle<'a>(
+    alloc: Global,
+    verified: &Verified<'a>,
+    state: &State,
+    books: Vec<Book<'_>>,
+    tasks: Vec<Task<'a>>,
+) -> Result<Outcome, RunFault>
+    ensures settled { IfOk result
+        (Settles state.now verified.now.profiles (history_at books.entry.items)) }
+    ensures promise { IfOk result
+        (IsAsPromised state.now verified.now.profiles (map forbidden_by verified.now.rules)
+        (history_at books.entry.items)) }
+    ensures compared { IfOk result (λ o. AreCompared state.now verified.now.profiles
+        books.entry.items tasks.entry.items) }
+    ensures ends { IfOk result (EndAsTheyAre tasks.entry.items) }
+    ensures refused { IfErr result (IsUnsettled state.now verified.now.profiles
+        books.entry.items tasks.entry.items) }
+{
+    safe_sets_keep_their_promise();
+    settle_jobs(alloc, verified.set(), state, books, tasks)
+}
+
+/// Compares books and jobs, and puts together what they leave, as `settle` does, whether the set is safe or not.
+fn settle_jobs<'a>(
+    alloc: Global,
+    set: &'a ProfileSet,
+    state: &State,
+    books: Vec<Book<'_>>,
+    tasks: Vec<Task<'a>>,
+) -> Result<Outcome, RunFault>
+    ensures settled { IfOk result
+        (Settles state.now set.now.profiles (history_at books.entry.items)) }
+    ensures compared { IfOk result (λ o. AreCompared state.now set.now.profiles
+        books.entry.items tasks.entry.items) }
+    ensures ends { IfOk result (EndAsTheyAre tasks.entry.items) }
+    ensures refused { IfErr result (IsUnsettled state.now set.now.profiles
+        books.entry.items tasks.entry.items) }
+    ensures valid { 0 < length set.now.profiles → IsState state.now }
+    ensures profiles { AreProfiles set.now.profiles }
+{
+    if let Some(root) = find_missing(set.profiles(), state) {
+        return Err(RunFault::MissingReplica { root: root.copy()? });
+    }
+    if let Some(job) = find_odd(alloc, tasks.as_slice(), set.profiles(), state) {
+        return Err(RunFault::Stranger { job });
+    }
+    if let Some((root, job)) = find_wrong(alloc, set, state, books.as_slice(), tasks.as_slice())? {
+        return Err(mismatch(
+            alloc,
+            set.profiles(),
+            books.as_slice(),
+            tasks.as_slice(),
+            root,
+            job,
+        )?);
+    }
+    Ok(settle_all(alloc, set, state, books, tasks)?)
+}
+
+/// Puts together what books and jobs leave that fit together.
+fn settle_all<'a>(
+    alloc: Global,
+    set: &'a ProfileSet,
+    state: &State,
+    books: Vec<Book<'_>>,
+    tasks: Vec<Task<'a>>,
+) -> Result<Outcome, AllocError>
+    requires { AreCompared state.now set.now.profiles books.items tasks.items }
+    ensures settled { IfOk result
+        (Settles state.now set.now.profiles (history_at books.entry.items)) }
+    ensures ends { IfOk result (EndAsTheyAre tasks.entry.items) }
+{
+    let profiles = set.profiles();
+    let trees = trees_of(alloc, profiles, books)?;
+    let jobs = in_order(alloc, profiles.len(), tasks)?;
+    outcome_of_jobs(alloc, state, jobs, trees)
+}

@@ -18,21 +18,26 @@ use Rattle.hub_state.specs.State.{State}
 use Rattle.hub_state.specs.Writing.{state_text}
 use Rattle.hubsync.specs.declared.sections.Contents.{Contents}
 use Rattle.hubsync.specs.declared.words.Question.{Question}
-use Rattle.hubsync.specs.declared.words.Question.TheVariants.{CheckWithState, Check, Certify, Verify}
+use Rattle.hubsync.specs.declared.words.Question.TheVariants.{CheckWithState, Run, Check, Certify, Verify}
+use Rattle.hubsync.specs.declared.task.Task.{Task}
+use Rattle.hubsync.specs.declared.task.Task.TheVariants as task
 use Rattle.hubsync.specs.Refusal.{breach_text, name_at, refusal_line}
 use Rattle.hubsync.specs.Sections.{Spells, members}
 use Rattle.hubsync.specs.declared.report.Report.{Report}
-use Rattle.hubsync.specs.declared.report.Report.TheVariants.{Safe, Ran, NotRun, Verified, Certified, Refused, Reached, NotReached, NoProfile, BadPath, Unread, BadBundle, BadSection, OutOfMemory}
-use Rattle.hubsync.specs.Report.{AsksNoState, IsText, IsRefusedFor, IsTold, IsTrueOf, Holds, SpellsSafe, SpellsUnsafe, SpellsVerified, SpellsReach, Serves, Answers, AnswersNothing, WritesText, status_of}
-use Rattle.hubsync.specs.Runs.{HasRun, IsBelow, Lacks, missing_line}
-use Rattle.hubsync.specs.declared.run.Run.{Run}
+use Rattle.hubsync.specs.declared.report.Report.TheVariants.{Safe, Ran, NotRun, NoState, Verified, Certified, Refused, Reached, NotReached, NoProfile, BadPath, Unread, BadBundle, BadSection, OutOfMemory}
+use Rattle.hubsync.specs.Report.{IsText, IsRefusedFor, IsTold, IsTrueOf, Holds, SpellsSafe, SpellsUnsafe, SpellsVerified, SpellsReach, Serves, Answers, AnswersNothing, WritesText, status_of}
+use Rattle.hubsync.specs.Runs.{HasRunAs, IsBelow, IsPrevented, IsRunOn, error_line}
+use Rattle.hubsync.specs.Task.{AsksFor, task_of}
+use Rattle.hubsync.specs.declared.run.Run as run
+use Rattle.hubsync.specs.declared.run.RunError.{RunError}
 use Rattle.hubsync.specs.Words.{Request, about, asked_of}
 
 -- What holds of what an input says holds of the input.
 pub told-holds : (request : Request) (bytes : List ℕ) (c : Contents) (r : Report) → Spells bytes c → IsTold request c r → Holds request bytes r
 told-holds request bytes c Safe s h = record { contents = c; spelled = s; told = h }
 told-holds request bytes c (Ran r) s h = record { contents = c; spelled = s; told = h }
-told-holds request bytes c (NotRun root) s h = record { contents = c; spelled = s; told = h }
+told-holds request bytes c (NotRun f) s h = record { contents = c; spelled = s; told = h }
+told-holds request bytes c NoState s h = record { contents = c; spelled = s; told = h }
 told-holds request bytes c Verified s h = record { contents = c; spelled = s; told = h }
 told-holds request bytes c (Certified t) s h = record { contents = c; spelled = s; told = h }
 told-holds request bytes c (Refused t) s h = record { contents = c; spelled = s; told = h }
@@ -115,63 +120,63 @@ abbrev pub BreachesShown : Type 0
 BreachesShown = (S : Members) (p k : ℕ) (path : Path) → IsFirstFault S (fault.Breach p k path) → IsSafeSet S → ⊥
 
 -- An overlap or a breach is told only as the first fault.
-overlap-first : (q : Question) (c : Contents) (w o : ℕ) (place : Place) (held path : Path) → IsRefusedFor q c (fault.Overlap w o place held path) → IsFirstFault (members c) (fault.Overlap w o place held path)
-overlap-first q c w o place held path (inl h) = absurd h
-overlap-first CheckWithState c w o place held path (inr (inl h)) = cc
-overlap-first CheckWithState c w o place held path (inr (inr h)) = h
-overlap-first Check c w o place held path (inr (inl h)) = cc
-overlap-first Check c w o place held path (inr (inr h)) = h
-overlap-first Certify c w o place held path (inr (inl h)) = cc
-overlap-first Certify c w o place held path (inr (inr h)) = h
-overlap-first Verify c w o place held path (inr h) = absurd h
+overlap-first : (t : Task) (c : Contents) (w o : ℕ) (place : Place) (held path : Path) → IsRefusedFor t c (fault.Overlap w o place held path) → IsFirstFault (members c) (fault.Overlap w o place held path)
+overlap-first t c w o place held path (inl h) = absurd h
+overlap-first task.Check c w o place held path (inr (inl h)) = cc
+overlap-first task.Check c w o place held path (inr (inr h)) = h
+overlap-first (task.RunJobs n S) c w o place held path (inr (inl h)) = cc
+overlap-first (task.RunJobs n S) c w o place held path (inr (inr h)) = h
+overlap-first task.Certify c w o place held path (inr (inl h)) = cc
+overlap-first task.Certify c w o place held path (inr (inr h)) = h
+overlap-first task.Verify c w o place held path (inr h) = absurd h
 
-breach_first : (q : Question) (c : Contents) (p k : ℕ) (path : Path) → IsRefusedFor q c (fault.Breach p k path) → IsFirstFault (members c) (fault.Breach p k path)
-breach_first q c p k path (inl h) = absurd h
-breach_first CheckWithState c p k path (inr (inl h)) = cc
-breach_first CheckWithState c p k path (inr (inr h)) = h
-breach_first Check c p k path (inr (inl h)) = cc
-breach_first Check c p k path (inr (inr h)) = h
-breach_first Certify c p k path (inr (inl h)) = cc
-breach_first Certify c p k path (inr (inr h)) = h
-breach_first Verify c p k path (inr h) = absurd h
+breach_first : (t : Task) (c : Contents) (p k : ℕ) (path : Path) → IsRefusedFor t c (fault.Breach p k path) → IsFirstFault (members c) (fault.Breach p k path)
+breach_first t c p k path (inl h) = absurd h
+breach_first task.Check c p k path (inr (inl h)) = cc
+breach_first task.Check c p k path (inr (inr h)) = h
+breach_first (task.RunJobs n S) c p k path (inr (inl h)) = cc
+breach_first (task.RunJobs n S) c p k path (inr (inr h)) = h
+breach_first task.Certify c p k path (inr (inl h)) = cc
+breach_first task.Certify c p k path (inr (inr h)) = h
+breach_first task.Verify c p k path (inr h) = absurd h
 
 -- Only the line of an overlap begins with an o,
-only_overlap : OverlapsShown → (q : Question) (c : Contents) (e : CheckFault) (u : ℕ) (s : List ℕ) → IsRefusedFor q c e → take u (refusal_line (members c) e) ≡ 111 ∷ s → IsSafeSet (members c) → ⊥
-only_overlap shown q c fault.TooManyProfiles u s is h = λ safe. begins 114 111 u _ s refl h
-only_overlap shown q c (fault.SameName n) u s is h = λ safe. begins 114 111 u _ s refl h
-only_overlap shown q c (fault.NestedRoots a z) u s is h = λ safe. begins 114 111 u _ s refl h
-only_overlap shown q c (fault.Overlap w o place held path) u s is h = shown (members c) w o place held path (overlap-first q c w o place held path is)
-only_overlap shown q c (fault.Breach p k path) u s is h = λ safe. breach-first (name_at (members c).profiles p) (slice_get (members c).rules k) k path 111 u s refl h
-only_overlap shown q c (fault.TooLarge g) u s is h = λ safe. begins 116 111 u _ s refl h
-only_overlap shown q c (fault.Missing g) u s is h = λ safe. begins 114 111 u _ s refl h
-only_overlap shown q c (fault.NoStart g) u s is h = λ safe. begins 114 111 u _ s refl h
-only_overlap shown q c (fault.NotClosed g k class) u s is h = λ safe. begins 114 111 u _ s refl h
-only_overlap shown q c (fault.Accepting g k) u s is h = λ safe. begins 114 111 u _ s refl h
-only_overlap shown q c (fault.Stray i) u s is h = λ safe. begins 114 111 u _ s refl h
-only_overlap shown q c (fault.BadText l) u s is h = λ safe. begins 102 111 u _ s refl h
-only_overlap shown q c (fault.AlphabetFault automaton.TooManyCharacters) u s is h = λ safe. begins 114 111 u _ s refl h
-only_overlap shown q c (fault.AlphabetFault automaton.TooManySpots) u s is h = λ safe. begins 114 111 u _ s refl h
-only_overlap shown q c (fault.AlphabetFault automaton.OutOfMemory) u s is h = λ safe. begins 102 111 u _ s refl h
-only_overlap shown q c fault.OutOfMemory u s is h = λ safe. begins 102 111 u _ s refl h
+only_overlap : OverlapsShown → (t : Task) (c : Contents) (e : CheckFault) (u : ℕ) (s : List ℕ) → IsRefusedFor t c e → take u (refusal_line (members c) e) ≡ 111 ∷ s → IsSafeSet (members c) → ⊥
+only_overlap shown t c fault.TooManyProfiles u s is h = λ safe. begins 114 111 u _ s refl h
+only_overlap shown t c (fault.SameName n) u s is h = λ safe. begins 114 111 u _ s refl h
+only_overlap shown t c (fault.NestedRoots a z) u s is h = λ safe. begins 114 111 u _ s refl h
+only_overlap shown t c (fault.Overlap w o place held path) u s is h = shown (members c) w o place held path (overlap-first t c w o place held path is)
+only_overlap shown t c (fault.Breach p k path) u s is h = λ safe. breach-first (name_at (members c).profiles p) (slice_get (members c).rules k) k path 111 u s refl h
+only_overlap shown t c (fault.TooLarge g) u s is h = λ safe. begins 116 111 u _ s refl h
+only_overlap shown t c (fault.Missing g) u s is h = λ safe. begins 114 111 u _ s refl h
+only_overlap shown t c (fault.NoStart g) u s is h = λ safe. begins 114 111 u _ s refl h
+only_overlap shown t c (fault.NotClosed g k class) u s is h = λ safe. begins 114 111 u _ s refl h
+only_overlap shown t c (fault.Accepting g k) u s is h = λ safe. begins 114 111 u _ s refl h
+only_overlap shown t c (fault.Stray i) u s is h = λ safe. begins 114 111 u _ s refl h
+only_overlap shown t c (fault.BadText l) u s is h = λ safe. begins 102 111 u _ s refl h
+only_overlap shown t c (fault.AlphabetFault automaton.TooManyCharacters) u s is h = λ safe. begins 114 111 u _ s refl h
+only_overlap shown t c (fault.AlphabetFault automaton.TooManySpots) u s is h = λ safe. begins 114 111 u _ s refl h
+only_overlap shown t c (fault.AlphabetFault automaton.OutOfMemory) u s is h = λ safe. begins 102 111 u _ s refl h
+only_overlap shown t c fault.OutOfMemory u s is h = λ safe. begins 102 111 u _ s refl h
 
 -- and only that of a breach with a b.
-only_breach : BreachesShown → (q : Question) (c : Contents) (e : CheckFault) (u : ℕ) (s : List ℕ) → IsRefusedFor q c e → take u (refusal_line (members c) e) ≡ 98 ∷ s → IsSafeSet (members c) → ⊥
-only_breach shown q c fault.TooManyProfiles u s is h = λ safe. begins 114 98 u _ s refl h
-only_breach shown q c (fault.SameName n) u s is h = λ safe. begins 114 98 u _ s refl h
-only_breach shown q c (fault.NestedRoots a z) u s is h = λ safe. begins 114 98 u _ s refl h
-only_breach shown q c (fault.Overlap w o place held path) u s is h = λ safe. begins 111 98 u _ s refl h
-only_breach shown q c (fault.Breach p k path) u s is h = shown (members c) p k path (breach_first q c p k path is)
-only_breach shown q c (fault.TooLarge g) u s is h = λ safe. begins 116 98 u _ s refl h
-only_breach shown q c (fault.Missing g) u s is h = λ safe. begins 114 98 u _ s refl h
-only_breach shown q c (fault.NoStart g) u s is h = λ safe. begins 114 98 u _ s refl h
-only_breach shown q c (fault.NotClosed g k class) u s is h = λ safe. begins 114 98 u _ s refl h
-only_breach shown q c (fault.Accepting g k) u s is h = λ safe. begins 114 98 u _ s refl h
-only_breach shown q c (fault.Stray i) u s is h = λ safe. begins 114 98 u _ s refl h
-only_breach shown q c (fault.BadText l) u s is h = λ safe. begins 102 98 u _ s refl h
-only_breach shown q c (fault.AlphabetFault automaton.TooManyCharacters) u s is h = λ safe. begins 114 98 u _ s refl h
-only_breach shown q c (fault.AlphabetFault automaton.TooManySpots) u s is h = λ safe. begins 114 98 u _ s refl h
-only_breach shown q c (fault.AlphabetFault automaton.OutOfMemory) u s is h = λ safe. begins 102 98 u _ s refl h
-only_breach shown q c fault.OutOfMemory u s is h = λ safe. begins 102 98 u _ s refl h
+only_breach : BreachesShown → (t : Task) (c : Contents) (e : CheckFault) (u : ℕ) (s : List ℕ) → IsRefusedFor t c e → take u (refusal_line (members c) e) ≡ 98 ∷ s → IsSafeSet (members c) → ⊥
+only_breach shown t c fault.TooManyProfiles u s is h = λ safe. begins 114 98 u _ s refl h
+only_breach shown t c (fault.SameName n) u s is h = λ safe. begins 114 98 u _ s refl h
+only_breach shown t c (fault.NestedRoots a z) u s is h = λ safe. begins 114 98 u _ s refl h
+only_breach shown t c (fault.Overlap w o place held path) u s is h = λ safe. begins 111 98 u _ s refl h
+only_breach shown t c (fault.Breach p k path) u s is h = shown (members c) p k path (breach_first t c p k path is)
+only_breach shown t c (fault.TooLarge g) u s is h = λ safe. begins 116 98 u _ s refl h
+only_breach shown t c (fault.Missing g) u s is h = λ safe. begins 114 98 u _ s refl h
+only_breach shown t c (fault.NoStart g) u s is h = λ safe. begins 114 98 u _ s refl h
+only_breach shown t c (fault.NotClosed g k class) u s is h = λ safe. begins 114 98 u _ s refl h
+only_breach shown t c (fault.Accepting g k) u s is h = λ safe. begins 114 98 u _ s refl h
+only_breach shown t c (fault.Stray i) u s is h = λ safe. begins 114 98 u _ s refl h
+only_breach shown t c (fault.BadText l) u s is h = λ safe. begins 102 98 u _ s refl h
+only_breach shown t c (fault.AlphabetFault automaton.TooManyCharacters) u s is h = λ safe. begins 114 98 u _ s refl h
+only_breach shown t c (fault.AlphabetFault automaton.TooManySpots) u s is h = λ safe. begins 114 98 u _ s refl h
+only_breach shown t c (fault.AlphabetFault automaton.OutOfMemory) u s is h = λ safe. begins 102 98 u _ s refl h
+only_breach shown t c fault.OutOfMemory u s is h = λ safe. begins 102 98 u _ s refl h
 
 -- What a front has after `safe` is a front of what follows there.
 after_safe : (w : ℕ) (t s : List ℕ) → take w (codes "safe\n" ++ t) ≡ codes "safe\n" ++ s → (v : ℕ) × (take v t ≡ s)
@@ -183,10 +188,8 @@ after_safe w t s e =
     goes_on 10 10 four.0 t s four.1
 
 -- Where no jobs are to be run, nothing is below `safe`.
-stateless : (q : Question) (M : Members) (state : Option State) (status : ℕ) → AsksNoState q state → IsBelow q M state status []
-stateless q M state status (inl h) = subst (λ p. IsBelow p M state status []) (sym h) refl
-stateless q M state status (inr h) =
-    subst (λ p. IsBelow p M state status []) (sym h.0) (subst (λ o. IsBelow CheckWithState M o status []) (sym h.1) refl)
+check-below : (t : Task) (M : Members) (status : ℕ) → t ≡ task.Check → IsBelow t M status []
+check-below t M status is = subst (λ u. IsBelow u M status []) (sym is) refl
 
 -- The status is 0 only if all jobs are finished.
 zero-finished : (failed finished : Bool) (status : ℕ) → status ≡ cond failed 2 (cond finished 0 3) → status ≡ 0 → finished ≡ true
@@ -195,34 +198,39 @@ zero-finished false true status e z = refl
 zero-finished false false status e z = absurd (omega (arith, e, z))
 
 -- What jobs left is below `safe`,
-ran-below : (M : Members) (state : Option State) (r : Run) (status : ℕ) (failed : Bool) → HasRun M state r → status ≡ cond failed 2 (cond r.finished 0 3)
-    → IsBelow CheckWithState M state status (string_bytes r.lines ++ state_text r.state)
-ran-below M state r status failed h e =
-    subst (λ o. IsBelow CheckWithState M o status (string_bytes r.lines ++ state_text r.state)) (sym h.state_is)
-    (inl (record {
-      outcome = h.outcome;
-      run = h.run;
-      lines = string_bytes r.lines;
-      text = ap (λ s. string_bytes r.lines ++ state_text s) h.left;
-      finished = λ z. h.finished (zero-finished failed r.finished status e z);
-    }))
+ran-below : (t : Task) (M : Members) (r : run.Run) (status : ℕ) (failed : Bool) → HasRunAs t M r → status ≡ cond failed 2 (cond r.finished 0 3)
+    → IsBelow t M status (string_bytes r.lines ++ state_text r.state)
+ran-below t M r status failed h e =
+    subst (λ u. IsBelow u M status (string_bytes r.lines ++ state_text r.state)) (sym h.task_is)
+    (inl (
+      h.may,
+      record {
+        outcome = h.run.outcome;
+        run = subst (λ S. IsRunOn M S h.run.outcome) (sym (same_Some h.state h.run.opening h.run.state_is)) h.run.run;
+        lines = string_bytes r.lines;
+        text = ap (λ S. string_bytes r.lines ++ state_text S) h.run.left;
+        finished = λ z. h.run.finished (zero-finished failed r.finished status e z);
+      },
+    ))
 
--- or that a replica is missing.
-lacks-below : (M : Members) (state : Option State) (root : Path) (status : ℕ) → Lacks M state root → IsBelow CheckWithState M state status (missing_line root)
-lacks-below M state root status h =
-    subst (λ o. IsBelow CheckWithState M o status (missing_line root)) (sym h.state_is) (inr (record { root = root; missing = h.missing; text = refl }))
+-- or why they weren't run.
+error-below : (t : Task) (M : Members) (f : RunError) (status : ℕ) → IsPrevented t M f → IsBelow t M status (error_line f)
+error-below t M f status h =
+    subst (λ u. IsBelow u M status (error_line f)) (sym h.task_is) (inr (record { error = f; reason = h.reason; text = refl }))
 
 -- What follows `safe` in a front of the text of a safe set.
-follows : (request : Request) (bytes : List ℕ) (q : Question) (c : Contents) (below text s : List ℕ) (w : ℕ) (failed : Bool) (status : ℕ)
-    → request ≡ about q → Spells bytes c → IsSafeSet (members c) → IsBelow q (members c) c.state status below → text ≡ codes "safe\n" ++ below
+follows : (request : Request) (bytes : List ℕ) (t : Task) (c : Contents) (below text s : List ℕ) (w : ℕ) (failed : Bool) (status : ℕ)
+    → AsksFor request c.state t → Spells bytes c → IsSafeSet (members c) → IsBelow t (members c) status below → text ≡ codes "safe\n" ++ below
     → take w text ≡ codes "safe\n" ++ s → (failed ≡ false → take w text ≡ text) → SpellsSafe (Some request) bytes s failed status
-follows request bytes q c below text s w failed status asked spelled safe below_is is e whole =
+follows request bytes t c below text s w failed status asks spelled safe below_is is e whole =
     let after = after_safe w below s (ap (take w) (sym is) ∙ e) in
     record {
-      of_set = q;
-      is_asked = ap Some asked;
+      of_set = asks.of_set;
+      is_asked = ap Some asks.asked;
       contents = c;
       spelled = spelled;
+      to_do = t;
+      to_do_is = asks.task_is;
       safe = safe;
       below = below;
       below_is = below_is;
@@ -235,16 +243,17 @@ follows request bytes q c below text s w failed status asked spelled safe below_
 only_safe : (request : Request) (bytes : List ℕ) (r : Report) (line : List ℕ) (w : ℕ) (s : List ℕ) (failed : Bool) (status : ℕ) → IsText r line → take w line ≡ codes "safe\n" ++ s
     → (failed ≡ false → take w line ≡ line) → status ≡ cond failed 2 (status_of r) → Holds request bytes r → SpellsSafe (Some request) bytes s failed status
 only_safe request bytes Safe line w s failed status l e whole z h =
-    follows request bytes h.told.of_set h.contents [] line s w failed status h.told.asked h.spelled h.told.safe
-    (stateless h.told.of_set (members h.contents) h.contents.state status h.told.stateless) l e whole
+    follows request bytes h.told.to_do h.contents [] line s w failed status h.told.asked h.spelled h.told.told.1
+    (check-below h.told.to_do (members h.contents) status h.told.told.0) l e whole
 only_safe request bytes (Ran r) line w s failed status l e whole z h =
-    follows request bytes CheckWithState h.contents (string_bytes r.lines ++ state_text r.state) line s w failed status h.told.asked h.spelled h.told.safe
-    (ran-below (members h.contents) h.contents.state r status failed h.told.run z) l e whole
-only_safe request bytes (NotRun root) line w s failed status l e whole z h =
-    follows request bytes CheckWithState h.contents (missing_line root) line s w failed status h.told.asked h.spelled h.told.safe
-    (lacks-below (members h.contents) h.contents.state root status h.told.lacks) l e whole
+    follows request bytes h.told.to_do h.contents (string_bytes r.lines ++ state_text r.state) line s w failed status h.told.asked h.spelled h.told.told.safe
+    (ran-below h.told.to_do (members h.contents) r status failed h.told.told z) l e whole
+only_safe request bytes (NotRun f) line w s failed status l e whole z h =
+    follows request bytes h.told.to_do h.contents (error_line f) line s w failed status h.told.asked h.spelled h.told.told.safe
+    (error-below h.told.to_do (members h.contents) f status h.told.told) l e whole
+only_safe request bytes NoState line w s failed status l e whole z h = absurd (begins 102 115 w _ _ refl (ap (take w) (sym l) ∙ e))
 only_safe request bytes Verified line w s failed status l e whole z h = absurd (begins 118 115 w _ _ refl (ap (take w) (sym l) ∙ e))
-only_safe request bytes (Certified text) line w s failed status l e whole z h = absurd (begins 104 115 w _ _ refl (ap (take w) (sym (l ∙ h.told.text_is)) ∙ e))
+only_safe request bytes (Certified text) line w s failed status l e whole z h = absurd (begins 104 115 w _ _ refl (ap (take w) (sym (l ∙ h.told.told.1.2)) ∙ e))
 only_safe request bytes (Refused text) line w s failed status l e whole z h = absurd (unlike (members h.contents) h.told.reason 115 w _ refl refl refl refl refl (ap (take w) (sym (l ∙ h.told.told.1)) ∙ e))
 only_safe request bytes Reached line w s failed status l e whole z h = absurd (begins 114 115 w _ _ refl (ap (take w) (sym l) ∙ e))
 only_safe request bytes NotReached line w s failed status l e whole z h = absurd (begins 110 115 w _ _ refl (ap (take w) (sym l) ∙ e))
@@ -255,13 +264,33 @@ only_safe request bytes (BadBundle f) line w s failed status l e whole z h = abs
 only_safe request bytes (BadSection f) line w s failed status l e whole z h = absurd (begins 102 115 w _ _ refl (ap (take w) (sym l.1) ∙ e))
 only_safe request bytes OutOfMemory line w s failed status l e whole z h = absurd (begins 102 115 w _ _ refl (ap (take w) (sym l) ∙ e))
 
+-- Only `verify` asks to verify certificates.
+asks-verify : (request : Request) (state : Option State) → AsksFor request state task.Verify → request ≡ about Verify
+asks-verify request state a = a.asked ∙ ap about (go a.of_set state a.task_is)
+  where
+    go : (q : Question) (o : Option State) → task_of q o ≡ Some task.Verify → q ≡ Verify
+    go CheckWithState None is = cc
+    go CheckWithState (Some S) is = cc
+    go (Run n) None is = cc
+    go (Run n) (Some S) is = cc
+    go Check o is = cc
+    go Certify o is = cc
+    go Verify o is = refl
+
 -- only that of a verified one with a v,
 only_verified : (request : Request) (bytes : List ℕ) (r : Report) (line : List ℕ) (w : ℕ) (s : List ℕ) → IsText r line → take w line ≡ 118 ∷ s → Holds request bytes r → SpellsVerified (Some request) bytes
 only_verified request bytes Safe line w s l e h = absurd (begins 115 118 w _ _ refl (ap (take w) (sym l) ∙ e))
 only_verified request bytes (Ran r) line w s l e h = absurd (begins 115 118 w _ _ refl (ap (take w) (sym l) ∙ e))
-only_verified request bytes (NotRun root) line w s l e h = absurd (begins 115 118 w _ _ refl (ap (take w) (sym l) ∙ e))
-only_verified request bytes Verified line w s l e h = record { is_asked = ap Some h.told.0; contents = h.contents; spelled = h.spelled; inductive = h.told.1; safe = h.told.2 }
-only_verified request bytes (Certified text) line w s l e h = absurd (begins 104 118 w _ _ refl (ap (take w) (sym (l ∙ h.told.text_is)) ∙ e))
+only_verified request bytes (NotRun f) line w s l e h = absurd (begins 115 118 w _ _ refl (ap (take w) (sym l) ∙ e))
+only_verified request bytes NoState line w s l e h = absurd (begins 102 118 w _ _ refl (ap (take w) (sym l) ∙ e))
+only_verified request bytes Verified line w s l e h = record {
+  is_asked = ap Some (asks-verify request h.contents.state (subst (AsksFor request h.contents.state) h.told.told.0 h.told.asked));
+  contents = h.contents;
+  spelled = h.spelled;
+  inductive = h.told.told.1;
+  safe = h.told.told.2;
+}
+only_verified request bytes (Certified text) line w s l e h = absurd (begins 104 118 w _ _ refl (ap (take w) (sym (l ∙ h.told.told.1.2)) ∙ e))
 only_verified request bytes (Refused text) line w s l e h = absurd (unlike (members h.contents) h.told.reason 118 w s refl refl refl refl refl (ap (take w) (sym (l ∙ h.told.told.1)) ∙ e))
 only_verified request bytes Reached line w s l e h = absurd (begins 114 118 w _ _ refl (ap (take w) (sym l) ∙ e))
 only_verified request bytes NotReached line w s l e h = absurd (begins 110 118 w _ _ refl (ap (take w) (sym l) ∙ e))
@@ -276,9 +305,10 @@ only_verified request bytes OutOfMemory line w s l e h = absurd (begins 102 118 
 only_reached : (request : Request) (bytes : List ℕ) (r : Report) (line : List ℕ) (w : ℕ) (s : List ℕ) → IsText r line → take w line ≡ 114 ∷ 101 ∷ 97 ∷ s → Holds request bytes r → IsTrueOf request bytes Reached
 only_reached request bytes Safe line w s l e h = absurd (begins 115 114 w _ _ refl (ap (take w) (sym l) ∙ e))
 only_reached request bytes (Ran r) line w s l e h = absurd (begins 115 114 w _ _ refl (ap (take w) (sym l) ∙ e))
-only_reached request bytes (NotRun root) line w s l e h = absurd (begins 115 114 w _ _ refl (ap (take w) (sym l) ∙ e))
+only_reached request bytes (NotRun f) line w s l e h = absurd (begins 115 114 w _ _ refl (ap (take w) (sym l) ∙ e))
+only_reached request bytes NoState line w s l e h = absurd (begins 102 114 w _ _ refl (ap (take w) (sym l) ∙ e))
 only_reached request bytes Verified line w s l e h = absurd (begins 118 114 w _ _ refl (ap (take w) (sym l) ∙ e))
-only_reached request bytes (Certified text) line w s l e h = absurd (begins 104 114 w _ _ refl (ap (take w) (sym (l ∙ h.told.text_is)) ∙ e))
+only_reached request bytes (Certified text) line w s l e h = absurd (begins 104 114 w _ _ refl (ap (take w) (sym (l ∙ h.told.told.1.2)) ∙ e))
 only_reached request bytes (Refused text) line w s l e h = absurd (unlike_reached (members h.contents) h.told.reason w s (ap (take w) (sym (l ∙ h.told.told.1)) ∙ e))
 only_reached request bytes Reached line w s l e h = h
 only_reached request bytes NotReached line w s l e h = absurd (begins 110 114 w _ _ refl (ap (take w) (sym l) ∙ e))
@@ -293,9 +323,10 @@ only_reached request bytes OutOfMemory line w s l e h = absurd (begins 102 114 w
 only_not_reached : (request : Request) (bytes : List ℕ) (r : Report) (line : List ℕ) (w : ℕ) (s : List ℕ) → IsText r line → take w line ≡ 110 ∷ s → Holds request bytes r → IsTrueOf request bytes NotReached
 only_not_reached request bytes Safe line w s l e h = absurd (begins 115 110 w _ _ refl (ap (take w) (sym l) ∙ e))
 only_not_reached request bytes (Ran r) line w s l e h = absurd (begins 115 110 w _ _ refl (ap (take w) (sym l) ∙ e))
-only_not_reached request bytes (NotRun root) line w s l e h = absurd (begins 115 110 w _ _ refl (ap (take w) (sym l) ∙ e))
+only_not_reached request bytes (NotRun f) line w s l e h = absurd (begins 115 110 w _ _ refl (ap (take w) (sym l) ∙ e))
+only_not_reached request bytes NoState line w s l e h = absurd (begins 102 110 w _ _ refl (ap (take w) (sym l) ∙ e))
 only_not_reached request bytes Verified line w s l e h = absurd (begins 118 110 w _ _ refl (ap (take w) (sym l) ∙ e))
-only_not_reached request bytes (Certified text) line w s l e h = absurd (begins 104 110 w _ _ refl (ap (take w) (sym (l ∙ h.told.text_is)) ∙ e))
+only_not_reached request bytes (Certified text) line w s l e h = absurd (begins 104 110 w _ _ refl (ap (take w) (sym (l ∙ h.told.told.1.2)) ∙ e))
 only_not_reached request bytes (Refused text) line w s l e h = absurd (unlike (members h.contents) h.told.reason 110 w s refl refl refl refl refl (ap (take w) (sym (l ∙ h.told.told.1)) ∙ e))
 only_not_reached request bytes Reached line w s l e h = absurd (begins 114 110 w _ _ refl (ap (take w) (sym l) ∙ e))
 only_not_reached request bytes NotReached line w s l e h = h
@@ -310,10 +341,11 @@ only_not_reached request bytes OutOfMemory line w s l e h = absurd (begins 102 1
 only_overlaps : OverlapsShown → (request : Request) (bytes : List ℕ) (r : Report) (line : List ℕ) (w : ℕ) (s : List ℕ) → IsText r line → take w line ≡ 111 ∷ s → Holds request bytes r → SpellsUnsafe bytes
 only_overlaps shown request bytes Safe line w s l e h = absurd (begins 115 111 w _ _ refl (ap (take w) (sym l) ∙ e))
 only_overlaps shown request bytes (Ran r) line w s l e h = absurd (begins 115 111 w _ _ refl (ap (take w) (sym l) ∙ e))
-only_overlaps shown request bytes (NotRun root) line w s l e h = absurd (begins 115 111 w _ _ refl (ap (take w) (sym l) ∙ e))
+only_overlaps shown request bytes (NotRun f) line w s l e h = absurd (begins 115 111 w _ _ refl (ap (take w) (sym l) ∙ e))
+only_overlaps shown request bytes NoState line w s l e h = absurd (begins 102 111 w _ _ refl (ap (take w) (sym l) ∙ e))
 only_overlaps shown request bytes Verified line w s l e h = absurd (begins 118 111 w _ _ refl (ap (take w) (sym l) ∙ e))
-only_overlaps shown request bytes (Certified text) line w s l e h = absurd (begins 104 111 w _ _ refl (ap (take w) (sym (l ∙ h.told.text_is)) ∙ e))
-only_overlaps shown request bytes (Refused text) line w s l e h = record { contents = h.contents; spelled = h.spelled; unsafe = only_overlap shown h.told.of_set h.contents h.told.reason w s h.told.refused (ap (take w) (sym (l ∙ h.told.told.1)) ∙ e) }
+only_overlaps shown request bytes (Certified text) line w s l e h = absurd (begins 104 111 w _ _ refl (ap (take w) (sym (l ∙ h.told.told.1.2)) ∙ e))
+only_overlaps shown request bytes (Refused text) line w s l e h = record { contents = h.contents; spelled = h.spelled; unsafe = only_overlap shown h.told.to_do h.contents h.told.reason w s h.told.refused (ap (take w) (sym (l ∙ h.told.told.1)) ∙ e) }
 only_overlaps shown request bytes Reached line w s l e h = absurd (begins 114 111 w _ _ refl (ap (take w) (sym l) ∙ e))
 only_overlaps shown request bytes NotReached line w s l e h = absurd (begins 110 111 w _ _ refl (ap (take w) (sym l) ∙ e))
 only_overlaps shown request bytes (NoProfile n) line w s l e h = absurd (begins 102 111 w _ _ refl (ap (take w) (sym l) ∙ e))
@@ -327,10 +359,11 @@ only_overlaps shown request bytes OutOfMemory line w s l e h = absurd (begins 10
 only_breaches : BreachesShown → (request : Request) (bytes : List ℕ) (r : Report) (line : List ℕ) (w : ℕ) (s : List ℕ) → IsText r line → take w line ≡ 98 ∷ s → Holds request bytes r → SpellsUnsafe bytes
 only_breaches shown request bytes Safe line w s l e h = absurd (begins 115 98 w _ _ refl (ap (take w) (sym l) ∙ e))
 only_breaches shown request bytes (Ran r) line w s l e h = absurd (begins 115 98 w _ _ refl (ap (take w) (sym l) ∙ e))
-only_breaches shown request bytes (NotRun root) line w s l e h = absurd (begins 115 98 w _ _ refl (ap (take w) (sym l) ∙ e))
+only_breaches shown request bytes (NotRun f) line w s l e h = absurd (begins 115 98 w _ _ refl (ap (take w) (sym l) ∙ e))
+only_breaches shown request bytes NoState line w s l e h = absurd (begins 102 98 w _ _ refl (ap (take w) (sym l) ∙ e))
 only_breaches shown request bytes Verified line w s l e h = absurd (begins 118 98 w _ _ refl (ap (take w) (sym l) ∙ e))
-only_breaches shown request bytes (Certified text) line w s l e h = absurd (begins 104 98 w _ _ refl (ap (take w) (sym (l ∙ h.told.text_is)) ∙ e))
-only_breaches shown request bytes (Refused text) line w s l e h = record { contents = h.contents; spelled = h.spelled; unsafe = only_breach shown h.told.of_set h.contents h.told.reason w s h.told.refused (ap (take w) (sym (l ∙ h.told.told.1)) ∙ e) }
+only_breaches shown request bytes (Certified text) line w s l e h = absurd (begins 104 98 w _ _ refl (ap (take w) (sym (l ∙ h.told.told.1.2)) ∙ e))
+only_breaches shown request bytes (Refused text) line w s l e h = record { contents = h.contents; spelled = h.spelled; unsafe = only_breach shown h.told.to_do h.contents h.told.reason w s h.told.refused (ap (take w) (sym (l ∙ h.told.told.1)) ∙ e) }
 only_breaches shown request bytes Reached line w s l e h = absurd (begins 114 98 w _ _ refl (ap (take w) (sym l) ∙ e))
 only_breaches shown request bytes NotReached line w s l e h = absurd (begins 110 98 w _ _ refl (ap (take w) (sym l) ∙ e))
 only_breaches shown request bytes (NoProfile n) line w s l e h = absurd (begins 102 98 w _ _ refl (ap (take w) (sym l) ∙ e))
@@ -400,7 +433,8 @@ ends-le false = omega arith
 status-le : (r : Report) → status_of r ≤ 3
 status-le Safe = omega arith
 status-le (Ran r) = ends-le r.finished
-status-le (NotRun root) = omega arith
+status-le (NotRun f) = omega arith
+status-le NoState = omega arith
 status-le Verified = omega arith
 status-le (Certified t) = omega arith
 status-le (Refused t) = omega arith

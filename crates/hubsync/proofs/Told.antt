@@ -1,6 +1,5 @@
 -- What a refusal and a text that is no path are answered with.
-use Rattle.std.proofs.Common.{◌≡◌, ◌∙◌, ◌⊎◌, inl, inr, false, Some, refl, sym, ap, subst}
-use Rattle.hub_path.specs.Path.{Path}
+use Rattle.std.proofs.Common.{◌≡◌, ◌⊎◌, inl, inr, false, Some, refl, sym, subst}
 use Rattle.hub_path.specs.declared.fault.PathFault.{PathFault}
 use Rattle.hub_path.specs.declared.fault.PathFault.TheVariants as path
 use Rattle.hub_cert.specs.Set.{Members}
@@ -9,37 +8,60 @@ use Rattle.hub_cert.specs.declared.fault.CheckFault.{CheckFault}
 use Rattle.hubsync.specs.declared.sections.Contents.{Contents}
 use Rattle.hubsync.specs.declared.words.Question.{Question}
 use Rattle.hubsync.specs.declared.report.Report.{Report}
-use Rattle.hubsync.specs.declared.report.Report.TheVariants.{Safe, Ran, NotRun, Verified, Certified, Refused, Reached, NotReached, NoProfile, BadPath, Unread, BadBundle, BadSection, OutOfMemory}
-use Rattle.hubsync.specs.Report.{HasBadPath, IsRefusal, IsTold, says_read_failed}
-use Rattle.hub_state.specs.State.{State}
-use Rattle.hub_job.specs.declared.run_fault.RunFault.{RunFault}
-use Rattle.hub_job.specs.declared.run_fault.RunFault.TheVariants as run
-use Rattle.hub_schedule.specs.Refusals.{LacksReplica}
-use Rattle.hubsync.specs.Runs.{Lacks}
+use Rattle.hubsync.specs.declared.report.Report.TheVariants.{Safe, Ran, NotRun, NoState, Verified, Certified, Refused, Reached, NotReached, NoProfile, BadPath, Unread, BadBundle, BadSection, OutOfMemory}
+use Rattle.hubsync.specs.declared.task.Task.{Task}
+use Rattle.hubsync.specs.Report.{HasBadPath, IsRefusal, IsTold, IsToldOfSet, says_read_failed}
 use Rattle.hubsync.specs.Sections.{members}
+use Rattle.hubsync.specs.Task.{AsksFor, task_of}
 use Rattle.hubsync.specs.Words.{Request, about}
 
--- Profiles that are no set are refused, whatever the question is.
-pub refusal-told : (q : Question) (c : Contents) (e : CheckFault) (r : Report) → IsRefused (members c) e → IsRefusal (members c) e r → IsTold (about q) c r
-refusal-told q c e Safe i h = absurd h
-refusal-told q c e (Ran r) i h = absurd h
-refusal-told q c e (NotRun root) i h = absurd h
-refusal-told q c e Verified i h = absurd h
-refusal-told q c e (Certified t) i h = absurd h
-refusal-told q c e (Refused t) i h = record { of_set = q; asked = refl; reason = e; refused = inl i; told = h }
-refusal-told q c e Reached i h = absurd h
-refusal-told q c e NotReached i h = absurd h
-refusal-told q c e (NoProfile name) i h = absurd h
-refusal-told q c e (BadPath f) i h = absurd h
-refusal-told q c e (Unread f) i h = absurd h
-refusal-told q c e (BadBundle f) i h = absurd h
-refusal-told q c e (BadSection f) i h = absurd h
-refusal-told q c e OutOfMemory i h = tt
+-- It was asked to do this.
+asks-for : (q : Question) (c : Contents) (to_do : Task) → task_of q c.state ≡ Some to_do → AsksFor (about q) c.state to_do
+asks-for q c to_do is = record { of_set = q; asked = refl; task_is = is }
+
+-- Profiles that are no set are refused, whatever is to be done.
+pub refusal-told : (q : Question) (c : Contents) (to_do : Task) → task_of q c.state ≡ Some to_do → (e : CheckFault) (r : Report) → IsRefused (members c) e
+    → IsRefusal (members c) e r → IsTold (about q) c r
+refusal-told q c to_do is e Safe i h = absurd h
+refusal-told q c to_do is e (Ran r) i h = absurd h
+refusal-told q c to_do is e (NotRun f) i h = absurd h
+refusal-told q c to_do is e NoState i h = absurd h
+refusal-told q c to_do is e Verified i h = absurd h
+refusal-told q c to_do is e (Certified t) i h = absurd h
+refusal-told q c to_do is e (Refused t) i h = record { to_do = to_do; asked = asks-for q c to_do is; reason = e; refused = inl i; told = h }
+refusal-told q c to_do is e Reached i h = absurd h
+refusal-told q c to_do is e NotReached i h = absurd h
+refusal-told q c to_do is e (NoProfile name) i h = absurd h
+refusal-told q c to_do is e (BadPath f) i h = absurd h
+refusal-told q c to_do is e (Unread f) i h = absurd h
+refusal-told q c to_do is e (BadBundle f) i h = absurd h
+refusal-told q c to_do is e (BadSection f) i h = absurd h
+refusal-told q c to_do is e OutOfMemory i h = tt
+
+-- What is true of a set is true of the bundle that has it.
+pub set-told : (q : Question) (c : Contents) (to_do : Task) → task_of q c.state ≡ Some to_do → (r : Report) → IsToldOfSet to_do (members c) c.certificates r
+    → IsTold (about q) c r
+set-told q c to_do is Safe h = record { to_do = to_do; asked = asks-for q c to_do is; told = h }
+set-told q c to_do is (Ran r) h = record { to_do = to_do; asked = asks-for q c to_do is; told = h }
+set-told q c to_do is (NotRun f) h = record { to_do = to_do; asked = asks-for q c to_do is; told = h }
+set-told q c to_do is NoState h = absurd h
+set-told q c to_do is Verified h = record { to_do = to_do; asked = asks-for q c to_do is; told = h }
+set-told q c to_do is (Certified t) h = record { to_do = to_do; asked = asks-for q c to_do is; told = h }
+set-told q c to_do is (Refused t) h = record { to_do = to_do; asked = asks-for q c to_do is; reason = h.0; refused = inr h.1; told = h.2 }
+set-told q c to_do is Reached h = absurd h
+set-told q c to_do is NotReached h = absurd h
+set-told q c to_do is (NoProfile name) h = absurd h
+set-told q c to_do is (BadPath f) h = absurd h
+set-told q c to_do is (Unread f) h = absurd h
+set-told q c to_do is (BadBundle f) h = absurd h
+set-told q c to_do is (BadSection f) h = absurd h
+set-told q c to_do is OutOfMemory h = tt
 
 pub refusal-read : (S : Members) (e : CheckFault) (r : Report) → IsRefusal S e r → says_read_failed r ≡ false
 refusal-read S e Safe h = absurd h
 refusal-read S e (Ran r) h = absurd h
-refusal-read S e (NotRun root) h = absurd h
+refusal-read S e (NotRun f) h = absurd h
+refusal-read S e NoState h = absurd h
 refusal-read S e Verified h = absurd h
 refusal-read S e (Certified t) h = absurd h
 refusal-read S e (Refused t) h = refl
@@ -58,10 +80,3 @@ pub path-told : (request : Request) (c : Contents) (f : PathFault) (r : Report) 
 path-told request c f r memory (inl e) h = subst (IsTold request c) (sym e) tt
 path-told request c f r memory (inr e) (inl o) = subst (IsTold request c) (sym (memory o)) tt
 path-told request c f r memory (inr e) (inr h) = subst (IsTold request c) (sym e) h
-
--- The jobs aren't run, since a replica is missing.
-pub lacks-told : (M : Members) (S : State) (root : Path) (e : RunFault) → e ≡ run.MissingReplica root → (e ≡ run.OutOfMemory) ⊎ LacksReplica S M.profiles e → Lacks M (Some S) root
-lacks-told M S root e is (inl other) = cc
-lacks-told M S root e is (inr h) =
-    let same : h.0 ≡ root = cc in
-    record { opening = S; state_is = refl; missing = h.1 ∙ ap Some same }

@@ -2,6 +2,7 @@ pub mod Bundle
 pub mod Input
 pub mod Sections
 pub mod Refusal
+pub mod Task
 pub mod Runs
 pub mod Reached
 pub mod Report

@@ -16,7 +16,6 @@ use Rattle.hub_cert.specs.declared.certificate.Certificate.{Certificate}
 use Rattle.hub_cert.specs.declared.fault.CheckFault.{CheckFault}
 use Rattle.hub_cert.specs.declared.fault.CheckFault.TheVariants as fault
 use Rattle.hub_search.specs.Search.{IsFirstFault}
-use Rattle.hub_state.specs.State.{State}
 use Rattle.hub_state.specs.Writing.{state_text}
 use Rattle.hubsync.specs.declared.input.TheConstants.{READ_TURNS}
 use Rattle.hubsync.specs.declared.input.InputFault.{InputFault}
@@ -25,14 +24,16 @@ use Rattle.hubsync.specs.declared.sections.Contents.{Contents}
 use Rattle.hubsync.specs.declared.sections.SectionFault.{SectionFault}
 use Rattle.hubsync.specs.declared.sections.SectionFault.TheVariants.{OfProfile, OfRules, OfState, OfCertificates}
 use Rattle.hubsync.specs.declared.report.Report.{Report}
-use Rattle.hubsync.specs.declared.report.Report.TheVariants.{Safe, Ran, NotRun, Verified, Certified, Refused, Reached, NotReached, NoProfile, BadPath, Unread, BadBundle, BadSection, OutOfMemory}
-use Rattle.hubsync.specs.declared.run.Run.{Run}
+use Rattle.hubsync.specs.declared.report.Report.TheVariants.{Safe, Ran, NotRun, NoState, Verified, Certified, Refused, Reached, NotReached, NoProfile, BadPath, Unread, BadBundle, BadSection, OutOfMemory}
 use Rattle.hubsync.specs.declared.words.Question.{Question}
-use Rattle.hubsync.specs.declared.words.Question.TheVariants.{CheckWithState, Check, Certify, Verify}
+use Rattle.hubsync.specs.declared.words.Question.TheVariants.{Verify}
+use Rattle.hubsync.specs.declared.task.Task.{Task}
+use Rattle.hubsync.specs.declared.task.Task.TheVariants as task
 use Rattle.hubsync.specs.Bundle.{bundle_reading}
 use Rattle.hubsync.specs.Input.{says_failed}
 use Rattle.hubsync.specs.Reached.{named}
-use Rattle.hubsync.specs.Runs.{HasRun, IsBelow, Lacks, missing_line}
+use Rattle.hubsync.specs.Runs.{HasRunAs, IsBelow, IsPrevented, error_line}
+use Rattle.hubsync.specs.Task.{AsksFor, LacksState, task_of}
 use Rattle.hubsync.specs.Refusal.{refusal_line}
 use Rattle.hubsync.specs.Sections.{Spells, HasFault, members}
 use Rattle.hubsync.specs.Words.{Request}
@@ -45,9 +46,11 @@ pub record SpellsSafe (asked : Option Request) (bytes text : List ℕ) (failed :
   pub is_asked : asked ≡ Some (question.about of_set)
   pub contents : Contents
   pub spelled : Spells bytes contents
+  pub to_do : Task
+  pub to_do_is : task_of of_set contents.state ≡ Some to_do
   pub safe : IsSafeSet (members contents)
   pub below : List ℕ
-  pub below_is : IsBelow of_set (members contents) contents.state status below
+  pub below_is : IsBelow to_do (members contents) status below
   pub written : ℕ
   pub text_is : text ≡ take written below
   pub whole : failed ≡ false → text ≡ below
@@ -92,18 +95,19 @@ pub record HasBadPath (request : Request) (Ps : List Parts) (f : PathFault) : Ty
   pub profile_is : named profile Ps ≡ Some P
   pub fault : path_reading (chars path) ≡ Err f
 
--- The fault with which a question about a set that was made is answered, where these are the bundle's certificates.
-abbrev pub FaultOf : Question → Members → List Certificate → CheckFault → Type 0
-FaultOf CheckWithState S cs e = (e ≡ fault.OutOfMemory) ⊎ IsFirstFault S e
-FaultOf Check S cs e = (e ≡ fault.OutOfMemory) ⊎ IsFirstFault S e
-FaultOf Certify S cs e = (e ≡ fault.OutOfMemory) ⊎ IsFirstFault S e
-FaultOf Verify S cs e = Refuses S cs e
+-- The fault by which a set that was made is refused, where these are the bundle's certificates.
+abbrev pub FaultOf : Task → Members → List Certificate → CheckFault → Type 0
+FaultOf task.Check S cs e = (e ≡ fault.OutOfMemory) ⊎ IsFirstFault S e
+FaultOf (task.RunJobs n state) S cs e = (e ≡ fault.OutOfMemory) ⊎ IsFirstFault S e
+FaultOf task.Certify S cs e = (e ≡ fault.OutOfMemory) ⊎ IsFirstFault S e
+FaultOf task.Verify S cs e = Refuses S cs e
 
 -- A set is refused for that fault, by the fault's line. Out of memory is told by itself.
 abbrev pub IsRefusal : Members → CheckFault → Report → Type 0
 IsRefusal S e Safe = ⊥
 IsRefusal S e (Ran r) = ⊥
-IsRefusal S e (NotRun root) = ⊥
+IsRefusal S e (NotRun f) = ⊥
+IsRefusal S e NoState = ⊥
 IsRefusal S e Verified = ⊥
 IsRefusal S e (Certified t) = ⊥
 IsRefusal S e (Refused t) = (e ≢ fault.OutOfMemory) × (string_bytes t ≡ refusal_line S e)
@@ -116,72 +120,50 @@ IsRefusal S e (BadBundle f) = ⊥
 IsRefusal S e (BadSection f) = ⊥
 IsRefusal S e OutOfMemory = ⊤
 
--- The question is whether the set is safe, and no jobs are to be run: that isn't asked for, or there is no state.
-abbrev pub AsksNoState : Question → Option State → Type 0
-AsksNoState q state = (q ≡ Check) ⊎ ((q ≡ CheckWithState) × (state ≡ None))
-
--- What holds of a set that was made, and of the bundle's certificates and its state, where a question is answered so.
-abbrev pub IsToldOfSet : Question → Members → List Certificate → Option State → Report → Type 0
-IsToldOfSet q S cs state Safe = AsksNoState q state × IsSafeSet S
-IsToldOfSet q S cs state (Ran r) = (q ≡ CheckWithState) × IsSafeSet S × HasRun S state r
-IsToldOfSet q S cs state (NotRun root) = (q ≡ CheckWithState) × IsSafeSet S × Lacks S state root
-IsToldOfSet q S cs state Verified = (q ≡ Verify) × AreCertificates S cs × IsSafeSet S
-IsToldOfSet q S cs state (Certified t) = (q ≡ Certify) × ((own : List Certificate) × AreCertificates S own × (string_bytes t ≡ certificates_text own))
-IsToldOfSet q S cs state (Refused t) = (e : CheckFault) × FaultOf q S cs e × IsRefusal S e (Refused t)
-IsToldOfSet q S cs state Reached = ⊥
-IsToldOfSet q S cs state NotReached = ⊥
-IsToldOfSet q S cs state (NoProfile name) = ⊥
-IsToldOfSet q S cs state (BadPath f) = ⊥
-IsToldOfSet q S cs state (Unread f) = ⊥
-IsToldOfSet q S cs state (BadBundle f) = ⊥
-IsToldOfSet q S cs state (BadSection f) = ⊥
-IsToldOfSet q S cs state OutOfMemory = ⊤
+-- What holds of a set that was made, and of the bundle's certificates, where this was to be done and that is the answer.
+abbrev pub IsToldOfSet : Task → Members → List Certificate → Report → Type 0
+IsToldOfSet t S cs Safe = (t ≡ task.Check) × IsSafeSet S
+IsToldOfSet t S cs (Ran r) = HasRunAs t S r
+IsToldOfSet t S cs (NotRun e) = IsPrevented t S e
+IsToldOfSet t S cs NoState = ⊥
+IsToldOfSet t S cs Verified = (t ≡ task.Verify) × AreCertificates S cs × IsSafeSet S
+IsToldOfSet t S cs (Certified text) = (t ≡ task.Certify) × ((own : List Certificate) × AreCertificates S own × (string_bytes text ≡ certificates_text own))
+IsToldOfSet t S cs (Refused text) = (e : CheckFault) × FaultOf t S cs e × IsRefusal S e (Refused text)
+IsToldOfSet t S cs Reached = ⊥
+IsToldOfSet t S cs NotReached = ⊥
+IsToldOfSet t S cs (NoProfile name) = ⊥
+IsToldOfSet t S cs (BadPath f) = ⊥
+IsToldOfSet t S cs (Unread f) = ⊥
+IsToldOfSet t S cs (BadBundle f) = ⊥
+IsToldOfSet t S cs (BadSection f) = ⊥
+IsToldOfSet t S cs OutOfMemory = ⊤
 
 -- The profiles and rules are no set, or the set is refused.
-abbrev pub IsRefusedFor : Question → Contents → CheckFault → Type 0
-IsRefusedFor q c e = IsRefused (members c) e ⊎ FaultOf q (members c) c.certificates e
+abbrev pub IsRefusedFor : Task → Contents → CheckFault → Type 0
+IsRefusedFor t c e = IsRefused (members c) e ⊎ FaultOf t (members c) c.certificates e
 
--- It was asked about the set, and this refuses it.
+-- It was asked to do this about the set, which is refused.
 pub record IsToldRefused (request : Request) (c : Contents) (r : Report) : Type 0 where
-  pub of_set : Question
-  pub asked : request ≡ question.about of_set
+  pub to_do : Task
+  pub asked : AsksFor request c.state to_do
   pub reason : CheckFault
-  pub refused : IsRefusedFor of_set c reason
+  pub refused : IsRefusedFor to_do c reason
   pub told : IsRefusal (members c) reason r
 
--- It was asked for certificates, and this is the text of some that make the set safe.
-pub record IsToldCertified (request : Request) (c : Contents) (text : List ℕ) : Type 0 where
-  pub asked : request ≡ question.about Certify
-  pub certificates : List Certificate
-  pub inductive : AreCertificates (members c) certificates
-  pub text_is : text ≡ certificates_text certificates
-
--- It was asked whether the set is safe, which it is, and no jobs are to be run.
-pub record IsToldSafe (request : Request) (c : Contents) : Type 0 where
-  pub of_set : Question
-  pub asked : request ≡ question.about of_set
-  pub stateless : AsksNoState of_set c.state
-  pub safe : IsSafeSet (members c)
-
--- The words name no command, the set is safe, and its jobs were run on the bundle's state,
-pub record IsToldRun (request : Request) (c : Contents) (r : Run) : Type 0 where
-  pub asked : request ≡ question.about CheckWithState
-  pub safe : IsSafeSet (members c)
-  pub run : HasRun (members c) c.state r
-
--- or weren't, since that has no replica of a root.
-pub record IsToldLacking (request : Request) (c : Contents) (root : Path) : Type 0 where
-  pub asked : request ≡ question.about CheckWithState
-  pub safe : IsSafeSet (members c)
-  pub lacks : Lacks (members c) c.state root
+-- It was asked to do this about the set, and that is the answer.
+pub record IsToldAbout (request : Request) (c : Contents) (r : Report) : Type 0 where
+  pub to_do : Task
+  pub asked : AsksFor request c.state to_do
+  pub told : IsToldOfSet to_do (members c) c.certificates r
 
 -- What holds of the question and of what the bundle says where the program answers so to a bundle that was read.
 abbrev pub IsTold : Request → Contents → Report → Type 0
-IsTold request c Safe = IsToldSafe request c
-IsTold request c (Ran r) = IsToldRun request c r
-IsTold request c (NotRun root) = IsToldLacking request c root
-IsTold request c Verified = (request ≡ question.about Verify) × AreCertificates (members c) c.certificates × IsSafeSet (members c)
-IsTold request c (Certified t) = IsToldCertified request c (string_bytes t)
+IsTold request c Safe = IsToldAbout request c Safe
+IsTold request c (Ran r) = IsToldAbout request c (Ran r)
+IsTold request c (NotRun e) = IsToldAbout request c (NotRun e)
+IsTold request c NoState = LacksState request c.state
+IsTold request c Verified = IsToldAbout request c Verified
+IsTold request c (Certified t) = IsToldAbout request c (Certified t)
 IsTold request c (Refused t) = IsToldRefused request c (Refused t)
 IsTold request c Reached = ReachIs request c.profiles true
 IsTold request c NotReached = ReachIs request c.profiles false
@@ -208,7 +190,8 @@ IsUnread bytes input.OutOfMemory = ⊤
 abbrev pub Holds : Request → List ℕ → Report → Type 0
 Holds request bytes Safe = IsTrueOf request bytes Safe
 Holds request bytes (Ran r) = IsTrueOf request bytes (Ran r)
-Holds request bytes (NotRun root) = IsTrueOf request bytes (NotRun root)
+Holds request bytes (NotRun e) = IsTrueOf request bytes (NotRun e)
+Holds request bytes NoState = IsTrueOf request bytes NoState
 Holds request bytes Verified = IsTrueOf request bytes Verified
 Holds request bytes (Certified t) = IsTrueOf request bytes (Certified t)
 Holds request bytes (Refused t) = IsTrueOf request bytes (Refused t)
@@ -264,7 +247,8 @@ section_place (OfCertificates line) = certificates_place line
 abbrev pub IsText : Report → List ℕ → Type 0
 IsText Safe t = t ≡ codes "safe\n"
 IsText (Ran r) t = t ≡ codes "safe\n" ++ (string_bytes r.lines ++ state_text r.state)
-IsText (NotRun root) t = t ≡ codes "safe\n" ++ missing_line root
+IsText (NotRun e) t = t ≡ codes "safe\n" ++ error_line e
+IsText NoState t = t ≡ codes "fault: no state\n"
 IsText Verified t = t ≡ codes "verified\n"
 IsText (Certified text) t = t ≡ string_bytes text
 IsText (Refused line) t = t ≡ string_bytes line
@@ -281,7 +265,8 @@ IsText OutOfMemory t = t ≡ codes "fault: out of memory\n"
 abbrev pub status_of : Report → ℕ
 status_of Safe = 0
 status_of (Ran r) = if r.finished then 0 else 3
-status_of (NotRun root) = 3
+status_of (NotRun e) = 3
+status_of NoState = 2
 status_of Verified = 0
 status_of (Certified t) = 0
 status_of (Refused t) = 1
@@ -298,7 +283,8 @@ status_of OutOfMemory = 2
 abbrev pub says_read_failed : Report → Bool
 says_read_failed Safe = false
 says_read_failed (Ran r) = false
-says_read_failed (NotRun root) = false
+says_read_failed (NotRun e) = false
+says_read_failed NoState = false
 says_read_failed Verified = false
 says_read_failed (Certified t) = false
 says_read_failed (Refused t) = false
@@ -341,6 +327,7 @@ pub record Serves (asked : Option Request) (remaining old new : Option (List ℕ
   pub nothing : asked ≡ None → AnswersNothing old new status
   pub answer : (request : Request) → asked ≡ Some request → Answers request remaining old new read_failed write_failed status
   -- `safe` is written only if the input spells a safe set, and what follows it is what its jobs leave of the input's state,
+  -- or why they weren't run,
   pub safe : (bytes before text : List ℕ) → remaining ≡ Some bytes → old ≡ Some before
       → new ≡ Some (before ++ (codes "safe\n" ++ text)) → SpellsSafe asked bytes text write_failed status
   -- `verified` only if the words ask for `verify`, and the input's certificates show that the set that it spells is safe,

@@ -1,15 +1,19 @@
--- What is written below `safe` if the words name no command.
-use Rattle.std.specs.Prelude.{◌≡◌, ◌⊎◌, ◌∷◌, ◌++◌, ℕ, true, List, [], map, Option, Some, None, codes, string_bytes}
+-- What is written below `safe` if jobs are to be run.
+use Rattle.std.specs.Prelude.{◌≡◌, ◌⊎◌, ◌<◌, ◌∷◌, ◌++◌, ℕ, true, List, [], map, Option, Some, codes}
 use Rattle.hub_path.specs.Path.{Path}
-use Rattle.hub_cert.specs.Set.{Members, forbidden_by}
+use Rattle.hub_profile.specs.Parts.{Parts}
+use Rattle.hub_cert.specs.Set.{Members, IsSafeSet, forbidden_by}
 use Rattle.hub_state.specs.State.{State}
 use Rattle.hub_state.specs.Writing.{state_text}
 use Rattle.hub_job.specs.declared.outcome.Outcome.{Outcome}
 use Rattle.hub_schedule.specs.Refusals.{first_missing}
 use Rattle.hub_schedule.specs.Simulated.{AreFinished, HaveEnded, IsPromised}
+use Rattle.hub_runner.specs.Working.{AreWorkers, MayRun}
 use Rattle.hubsync.specs.declared.run.Run.{Run}
-use Rattle.hubsync.specs.declared.words.Question.{Question}
-use Rattle.hubsync.specs.declared.words.Question.TheVariants.{CheckWithState, Check, Certify, Verify}
+use Rattle.hubsync.specs.declared.run.RunError.{RunError}
+use Rattle.hubsync.specs.declared.run.RunError.TheVariants as fault
+use Rattle.hubsync.specs.declared.task.Task.{Task}
+use Rattle.hubsync.specs.declared.task.Task.TheVariants as task
 use Rattle.hubsync.specs.Refusal.{joined, root_text}
 
 -- The jobs of a set were run on a state, this is the outcome, and each of them has ended.
@@ -26,14 +30,43 @@ pub record HasRun (M : Members) (state : Option State) (r : Run) : Type 0 where
   pub left : r.state ≡ outcome.state
   pub finished : r.finished ≡ true → AreFinished outcome.jobs
 
--- The state has no replica of this root, which is the first such root of the profiles.
-pub record Lacks (M : Members) (state : Option State) (root : Path) : Type 0 where
-  pub opening : State
-  pub state_is : state ≡ Some opening
-  pub missing : first_missing opening M.profiles ≡ Some root
+-- Why the jobs of profiles aren't run on a state by n workers. The first of these that applies: there are no workers, or too
+-- many; a replica is missing; a thread is refused. A stranger and a mismatch are faults that no test shows.
+abbrev pub PreventsRun : State → List Parts → ℕ → RunError → Type 0
+PreventsRun S Ps n fault.NoWorkers = n ≡ 0
+PreventsRun S Ps n fault.TooManyWorkers = 16 < n
+PreventsRun S Ps n (fault.MissingReplica root) = AreWorkers n × (first_missing S Ps ≡ Some root)
+PreventsRun S Ps n fault.ThreadRefused = MayRun S Ps n
+PreventsRun S Ps n fault.Stranger = MayRun S Ps n
+PreventsRun S Ps n fault.Mismatch = MayRun S Ps n
+
+-- The jobs of a safe set were to be run, and were run: they left this,
+pub record HasRunAs (t : Task) (M : Members) (r : Run) : Type 0 where
+  pub workers : ℕ
+  pub state : State
+  pub task_is : t ≡ task.RunJobs workers state
+  pub safe : IsSafeSet M
+  pub may : MayRun state M.profiles workers
+  pub run : HasRun M (Some state) r
+
+-- or weren't, for this reason.
+pub record IsPrevented (t : Task) (M : Members) (e : RunError) : Type 0 where
+  pub workers : ℕ
+  pub state : State
+  pub task_is : t ≡ task.RunJobs workers state
+  pub safe : IsSafeSet M
+  pub reason : PreventsRun state M.profiles workers e
 
 abbrev pub missing_line : Path → List ℕ
 missing_line root = joined (codes "run fault: MissingReplica " ∷ root_text root ∷ codes "\n" ∷ [])
+
+abbrev pub error_line : RunError → List ℕ
+error_line fault.NoWorkers = codes "run fault: NoWorkers\n"
+error_line fault.TooManyWorkers = codes "run fault: TooManyWorkers\n"
+error_line (fault.MissingReplica root) = missing_line root
+error_line fault.ThreadRefused = codes "run fault: ThreadRefused\n"
+error_line fault.Stranger = codes "run fault: Stranger\n"
+error_line fault.Mismatch = codes "run fault: Mismatch\n"
 
 -- This is what jobs did, some lines, and below them the text of the state that they left. The status is 0 only if each of
 -- them is finished.
@@ -44,16 +77,15 @@ pub record WritesRun (M : Members) (S : State) (status : ℕ) (below : List ℕ)
   pub text : below ≡ lines ++ state_text outcome.state
   pub finished : status ≡ 0 → AreFinished outcome.jobs
 
--- This is the line that a replica is missing.
-pub record WritesMissing (M : Members) (S : State) (below : List ℕ) : Type 0 where
-  pub root : Path
-  pub missing : first_missing S M.profiles ≡ Some root
-  pub text : below ≡ missing_line root
+-- This is the line that says why n workers didn't run them.
+pub record WritesError (M : Members) (S : State) (n : ℕ) (below : List ℕ) : Type 0 where
+  pub error : RunError
+  pub reason : PreventsRun S M.profiles n error
+  pub text : below ≡ error_line error
 
--- What is to follow `safe`, with the status: nothing, unless the words name no command and there is a state.
-abbrev pub IsBelow : Question → Members → Option State → ℕ → List ℕ → Type 0
-IsBelow CheckWithState M None status below = below ≡ []
-IsBelow CheckWithState M (Some S) status below = WritesRun M S status below ⊎ WritesMissing M S below
-IsBelow Check M state status below = below ≡ []
-IsBelow Certify M state status below = below ≡ []
-IsBelow Verify M state status below = below ≡ []
+-- What is to follow `safe`, with the status: nothing, unless jobs are to be run.
+abbrev pub IsBelow : Task → Members → ℕ → List ℕ → Type 0
+IsBelow task.Check M status below = below ≡ []
+IsBelow (task.RunJobs n S) M status below = (MayRun S M.profiles n × WritesRun M S status below) ⊎ WritesError M S n below
+IsBelow task.Certify M status below = below ≡ []
+IsBelow task.Verify M status below = below ≡ []

@@ -3,7 +3,7 @@ use Rattle.std.specs.Prelude.{⊤, ◌≡◌, List, [], ◌∷◌, Option, Some,
 use Rattle.clap.proofs.OnLiterals.{clap_on_literals}
 use Rattle.clap.specs.Words.{Text}
 use Rattle.hubsync.specs.Words.{Request, about, asked_of, hubsync_app, reach}
-use Rattle.hubsync.specs.declared.words.Question.TheVariants.{CheckWithState, Check, Certify, Verify}
+use Rattle.hubsync.specs.declared.words.Question.TheVariants.{CheckWithState, Run, Check, Certify, Verify}
 
 -- What these examples compute.
 computed : ⊤
@@ -69,7 +69,63 @@ the_check_has_no_operands : asked (codes "check" ∷ codes "a" ∷ []) ≡ None
 unfolding computed
 the_check_has_no_operands = refl
 
-an_unknown_command : asked (codes "run" ∷ []) ≡ None
+a_run_has_two_workers : asked (codes "run" ∷ []) ≡ Some (about (Run 2))
+unfolding computed
+a_run_has_two_workers = refl
+
+a_run_by_none : asked (codes "run" ∷ codes "--workers" ∷ codes "0" ∷ []) ≡ Some (about (Run 0))
+unfolding computed
+a_run_by_none = refl
+
+a_run_by_the_most : asked (codes "run" ∷ codes "--workers=255" ∷ []) ≡ Some (about (Run 255))
+unfolding computed
+a_run_by_the_most = refl
+
+a_number_may_begin_with_zeros : asked (codes "run" ∷ codes "--workers" ∷ codes "017" ∷ []) ≡ Some (about (Run 17))
+unfolding computed
+a_number_may_begin_with_zeros = refl
+
+a_number_may_have_a_plus : asked (codes "run" ∷ codes "--workers" ∷ codes "+3" ∷ []) ≡ Some (about (Run 3))
+unfolding computed
+a_number_may_have_a_plus = refl
+
+more_than_a_byte : asked (codes "run" ∷ codes "--workers" ∷ codes "256" ∷ []) ≡ None
+unfolding computed
+more_than_a_byte = refl
+
+fewer_than_none : asked (codes "run" ∷ codes "--workers" ∷ codes "-1" ∷ []) ≡ None
+unfolding computed
+fewer_than_none = refl
+
+fewer_than_none_behind_an_equals_sign : asked (codes "run" ∷ codes "--workers=-1" ∷ []) ≡ None
+unfolding computed
+fewer_than_none_behind_an_equals_sign = refl
+
+an_empty_number : asked (codes "run" ∷ codes "--workers=" ∷ []) ≡ None
+unfolding computed
+an_empty_number = refl
+
+an_empty_word_for_a_number : asked (codes "run" ∷ codes "--workers" ∷ [] ∷ []) ≡ None
+unfolding computed
+an_empty_word_for_a_number = refl
+
+no_number : asked (codes "run" ∷ codes "--workers" ∷ codes "x" ∷ []) ≡ None
+unfolding computed
+no_number = refl
+
+a_missing_number : asked (codes "run" ∷ codes "--workers" ∷ []) ≡ None
+unfolding computed
+a_missing_number = refl
+
+two_numbers : asked (codes "run" ∷ codes "--workers=1" ∷ codes "--workers=1" ∷ []) ≡ None
+unfolding computed
+two_numbers = refl
+
+workers_without_a_run : asked (codes "--workers" ∷ codes "2" ∷ []) ≡ None
+unfolding computed
+workers_without_a_run = refl
+
+an_unknown_command : asked (codes "go" ∷ []) ≡ None
 unfolding computed
 an_unknown_command = refl
 

@@ -14,23 +14,35 @@ use crate::words::Asked;
 use hub_text::Watched;
 use std::alloc::Global;
 use std::io::Read;
+use std::sync::Wait;
+use std::thread::Threads;
 
 /// The answer to what was asked of an input. It says that a read failed exactly when one did.
-pub fn report_on<'a, R: Read>(alloc: Global, asked: Asked<'a>, input: &mut Watched<R>) -> Report<'a>
+pub fn report_on<'a, T: Threads + Wait + Sync, R: Read>(
+    rt: &T,
+    alloc: Global,
+    asked: Asked<'a>,
+    input: &mut Watched<R>,
+) -> Report<'a>
     requires { input.old.failed ≡ false }
     ensures holds { IfSome (R.remaining input.old.device) (λ bytes.
         report.Holds (request_of asked.entry) bytes result) }
     ensures failed { input.new.failed ≡ report.says_read_failed result }
 {
     match read_input(alloc, input) {
-        Ok(bytes) => report_on_bytes(alloc, asked, bytes.as_slice()),
+        Ok(bytes) => report_on_bytes(rt, alloc, asked, bytes.as_slice()),
         Err(InputFault::OutOfMemory) => Report::OutOfMemory,
         Err(fault) => Report::Unread(fault),
     }
 }
 
 /// The answer to what was asked of an input's bytes. The bundle is read first, with all of its sections.
-fn report_on_bytes<'a>(alloc: Global, asked: Asked<'a>, bytes: &[u8]) -> Report<'a>
+fn report_on_bytes<'a, T: Threads + Wait + Sync>(
+    rt: &T,
+    alloc: Global,
+    asked: Asked<'a>,
+    bytes: &[u8],
+) -> Report<'a>
     ensures holds { report.Holds (request_of asked.entry) bytes.now result }
     ensures read { report.says_read_failed result ≡ false }
 {
@@ -43,16 +55,21 @@ fn report_on_bytes<'a>(alloc: Global, asked: Asked<'a>, bytes: &[u8]) -> Report<
         Err(ReadError::Faulty(fault)) => return Report::BadSection(fault),
         Err(ReadError::OutOfMemory) => return Report::OutOfMemory,
     };
-    report_on_contents(alloc, asked, contents)
+    report_on_contents(rt, alloc, asked, contents)
 }
 
 /// The answer to what was asked of what a bundle says.
-fn report_on_contents<'a>(alloc: Global, asked: Asked<'a>, contents: Contents) -> Report<'a>
+fn report_on_contents<'a, T: Threads + Wait + Sync>(
+    rt: &T,
+    alloc: Global,
+    asked: Asked<'a>,
+    contents: Contents,
+) -> Report<'a>
     ensures told { report.IsTold (request_of asked.entry) contents result }
     ensures read { report.says_read_failed result ≡ false }
 {
     match asked {
-        Asked::About(question) => report_on_set(alloc, question, contents),
+        Asked::About(question) => report_on_set(rt, alloc, question, contents),
         Asked::Reach { profile, path } => report_on_reach(alloc, &contents, profile, path),
     }
 }

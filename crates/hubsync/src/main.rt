@@ -1,12 +1,12 @@
 //! The program: reads a bundle of profiles and rules on standard input, and says on standard output whether the profiles
-//! may run at the same time and keep the rules. If the bundle has a state, it runs the jobs of a safe set on it.
+//! may run at the same time and keep the rules. If the bundle has a state, it runs the jobs of a safe set on it, in threads.
 //!
 //! - [`serve_process`] does all that the process does between its arguments and its exit status, over any reader and
 //!   writer; its contract uses the words of `specs/Report.antt`.
 //! - It reads the words of the command line (`words`) and the input (`input`), cuts the input into sections (`bundle`) and
 //!   reads them (`sections`).
-//! - Then it makes the set of the profiles and rules, and checks it or verifies its certificates (`verdict`), or asks one
-//!   profile whether it reaches a path (`reach`).
+//! - Then it makes the set of the profiles and rules, and checks it or verifies its certificates (`task`, `verdict`), or asks
+//!   one profile whether it reaches a path (`reach`).
 //! - The jobs of a safe set are run on the bundle's state (`run`).
 //! - The answer (`answer`, `report`, `refusal`) is written as one line, as the certificates' text, or as `safe` and below it
 //!   what the jobs did and the state that they left.
@@ -25,6 +25,7 @@ mod report;
 mod run;
 mod sections;
 mod serve;
+mod task;
 mod verdict;
 mod words;
 

@@ -8,7 +8,7 @@ ghost use Rattle.hubsync.specs.Runs as runs;
 use crate::bundle::BundleLineFault;
 use crate::input::InputFault;
 use crate::parts::joined;
-use crate::run::Run;
+use crate::run::{Run, RunError};
 use crate::sections::SectionFault;
 use hub_path::{Name, PathFault, Root};
 use hub_profile::ProfileFault;
@@ -28,8 +28,10 @@ pub enum Report<'a> {
     Safe,
     /// The profiles may run at the same time, and their jobs were run on the bundle's state.
     Ran(Run),
-    /// The profiles may run at the same time. The bundle's state has no replica of this root.
-    NotRun(Root),
+    /// The profiles may run at the same time. Their jobs weren't run.
+    NotRun(RunError),
+    /// A run was asked for, and the bundle has no state.
+    NoState,
     /// The bundle's certificates show that they may.
     Verified,
     /// The text of certificates that they may.
@@ -55,8 +57,8 @@ pub enum Report<'a> {
 }
 
 impl Report<'_> {
-    /// The exit status: 0 if the set is safe and for both answers to `reach`, 1 for a refusal, 2 for a fault, 3 if a replica
-    /// is missing or a job was stopped.
+    /// The exit status: 0 if the set is safe and for both answers to `reach`, 1 for a refusal, 2 for a fault, 3 if the jobs
+    /// weren't run or a job was stopped.
     pub fn status(&self) -> u8
         ensures { result ≡ report.status_of self.now }
     {
@@ -74,6 +76,7 @@ impl Report<'_> {
             | Report::Unread(_)
             | Report::BadBundle(_)
             | Report::BadSection(_)
+            | Report::NoState
             | Report::OutOfMemory => 2,
         }
     }
@@ -86,7 +89,8 @@ impl Report<'_> {
         match self {
             Report::Safe => bytes_of(alloc, "safe\n"),
             Report::Ran(run) => text_of_run(alloc, run),
-            Report::NotRun(root) => missing_line(alloc, &root),
+            Report::NotRun(error) => text_of_error(alloc, &error),
+            Report::NoState => bytes_of(alloc, "fault: no state\n"),
             Report::Verified => bytes_of(alloc, "verified\n"),
             Report::Certified(text) | Report::Refused(text) => Ok(text.into_bytes()),
             Report::Reached => bytes_of(alloc, "reached\n"),
@@ -131,6 +135,20 @@ fn text_of_run(alloc: Global, run: Run) -> Result<Vec<u8>, AllocError>
         return Err(AllocError);
     }
     Ok(text)
+}
+
+/// `safe`, and below it the line that says why the jobs weren't run.
+fn text_of_error(alloc: Global, error: &RunError) -> Result<Vec<u8>, AllocError>
+    ensures { IfOk result (λ t. t.items ≡ codes "safe\n" ++ runs.error_line error.now) }
+{
+    match error {
+        RunError::NoWorkers => bytes_of(alloc, "safe\nrun fault: NoWorkers\n"),
+        RunError::TooManyWorkers => bytes_of(alloc, "safe\nrun fault: TooManyWorkers\n"),
+        RunError::MissingReplica(root) => missing_line(alloc, root),
+        RunError::ThreadRefused => bytes_of(alloc, "safe\nrun fault: ThreadRefused\n"),
+        RunError::Stranger => bytes_of(alloc, "safe\nrun fault: Stranger\n"),
+        RunError::Mismatch => bytes_of(alloc, "safe\nrun fault: Mismatch\n"),
+    }
 }
 
 /// `safe`, and below it the line that a root's replica is missing.

@@ -1,23 +1,26 @@
 //! Runs of the jobs of a safe set.
-ghost use Rattle.std.specs.Prelude.{◌≡◌, ◌⊎◌, List, Some, true, false};
+ghost use Rattle.std.specs.Prelude.{◌≡◌, ℕ, List, true, false};
 ghost use Rattle.hub_cert.specs.Set.{IsSafeSet, Members};
 ghost use Rattle.hub_cert.specs.declared.certificate.Certificate.{Certificate};
 ghost use Rattle.hub_state.specs.State.{State};
-ghost use Rattle.hub_schedule.specs.Refusals.{LacksReplica};
 ghost use Rattle.hub_schedule.specs.Simulated.{AreFinished};
+ghost use Rattle.hub_runner.specs.Working.{IsNotRun, MayRun};
 ghost use Rattle.hubsync.specs.Report as report;
 ghost use Rattle.hubsync.specs.Runs.{IsRunOn};
-ghost use Rattle.hubsync.specs.declared.words.Question.TheVariants as question;
+ghost use Rattle.hubsync.specs.declared.task.Task.TheVariants as task;
 
 use crate::report::Report;
 use hub_cert::Verified;
+use hub_history::Gate;
 use hub_job::{End, JobEnd, Outcome, RunFault};
 use hub_path::{Root, Side};
 use hub_profile::Profile;
 use hub_reconcile::{Fate, Item, Reason};
-use hub_schedule::run_rounds;
+use hub_runner::run;
 use hub_state::State;
 use std::alloc::{AllocError, Global};
+use std::sync::Wait;
+use std::thread::Threads;
 
 /// What the jobs of a safe set did, and what they left.
 #[derive(Drop)]
@@ -30,36 +33,75 @@ pub struct Run {
     pub finished: bool,
 }
 
-/// Runs the jobs of a safe set on a state.
-pub fn run_set<'a>(alloc: Global, verified: &Verified<'_>, state: &State) -> Report<'a>
-    ensures told { (cs : List Certificate) → report.IsToldOfSet question.CheckWithState verified.now
-        cs (Some state.now) result }
+/// Why the jobs of a safe set weren't run, but for lack of memory.
+#[derive(Drop)]
+pub enum RunError {
+    /// There are no workers.
+    NoWorkers,
+    /// There are more workers than hub_runner's `WORKERS`.
+    TooManyWorkers,
+    /// The state has no replica of this root.
+    MissingReplica(Root),
+    /// A thread can't be started.
+    ThreadRefused,
+    /// A job was there twice, missing or foreign. Tests show none.
+    Stranger,
+    /// A root's history and the logs of the jobs didn't fit. Tests show none.
+    Mismatch,
+}
+
+/// A gate that does nothing.
+struct NoGate;
+
+impl Gate for NoGate {
+    fn before(&self, _job: usize, _step: usize) {}
+
+    fn within(&self, _job: usize) {}
+
+    fn after(&self, _job: usize, _step: usize) {}
+}
+
+/// Runs the jobs of a safe set on a state, by that many workers.
+pub fn run_set<'a, T: Threads + Wait + Sync>(
+    rt: &T,
+    alloc: Global,
+    verified: &Verified<'_>,
+    state: &State,
+    workers: u8,
+) -> Report<'a>
+    ensures told { (cs : List Certificate) → report.IsToldOfSet (task.RunJobs workers state.now)
+        verified.now cs result }
     ensures read { report.says_read_failed result ≡ false }
 {
     let profiles = verified.set().profiles();
-    match run_rounds(alloc, verified, state) {
+    match run(rt, alloc, verified, state, usize::from(workers), &NoGate) {
         Ok(outcome) => report_on_outcome(alloc, profiles, outcome),
         Err(fault) => report_on_fault(fault),
     }
 }
 
-/// The answer if the jobs weren't run: the first root without a replica, or that memory is out.
+/// The answer if the jobs weren't run. `run` returns no `BadTurn`, which is of schedules alone.
 fn report_on_fault<'a>(fault: RunFault) -> Report<'a>
-    ensures told { (M : Members) (S : State) → IsSafeSet M
-        → (fault ≡ RunFault.OutOfMemory) ⊎ LacksReplica S M.profiles fault
-        → (cs : List Certificate) → report.IsToldOfSet question.CheckWithState M cs (Some S) result }
+    ensures told { (M : Members) (S : State) (n : ℕ) → IsSafeSet M → IsNotRun S M.profiles n fault
+        → (cs : List Certificate) → report.IsToldOfSet (task.RunJobs n S) M cs result }
     ensures read { report.says_read_failed result ≡ false }
 {
     match fault {
-        RunFault::MissingReplica { root } => Report::NotRun(root),
-        _ => Report::OutOfMemory,
+        RunFault::NoWorkers => Report::NotRun(RunError::NoWorkers),
+        RunFault::TooManyWorkers => Report::NotRun(RunError::TooManyWorkers),
+        RunFault::MissingReplica { root } => Report::NotRun(RunError::MissingReplica(root)),
+        RunFault::ThreadRefused => Report::NotRun(RunError::ThreadRefused),
+        RunFault::Stranger { .. } => Report::NotRun(RunError::Stranger),
+        RunFault::Mismatch { .. } => Report::NotRun(RunError::Mismatch),
+        RunFault::BadTurn { .. } | RunFault::OutOfMemory => Report::OutOfMemory,
     }
 }
 
 /// The answer with the outcome of the profiles' jobs.
 fn report_on_outcome<'a>(alloc: Global, profiles: &[Profile], outcome: Outcome) -> Report<'a>
-    ensures told { (M : Members) (S : State) → IsSafeSet M → IsRunOn M S outcome
-        → (cs : List Certificate) → report.IsToldOfSet question.CheckWithState M cs (Some S) result }
+    ensures told { (M : Members) (S : State) (n : ℕ) → IsSafeSet M → MayRun S M.profiles n
+        → IsRunOn M S outcome
+        → (cs : List Certificate) → report.IsToldOfSet (task.RunJobs n S) M cs result }
     ensures read { report.says_read_failed result ≡ false }
 {
     let finished = are_finished(outcome.jobs.as_slice());

@@ -17,12 +17,14 @@ use std::alloc::Global;
 use std::convert::AsStr;
 use std::io;
 use std::io::{Eprint, Read, Write};
+use std::sync::Wait;
+use std::thread::Threads;
 
 /// Does what the process does, by the words that it was started with, and returns its exit status.
 ///
 /// If the words can't be read, as when one is not UTF-8, nothing is written to the output but that memory is out, and the
 /// status is 2. Otherwise this is `serve`.
-pub fn serve_process<T: AllocGlobal + Eprint, R: Read, W: Write>(
+pub fn serve_process<T: AllocGlobal + Eprint + Threads + Wait + Sync, R: Read, W: Write>(
     rt: &T,
     words: io::Result<Vec<String>>,
     input: &mut Watched<R>,
@@ -51,10 +53,11 @@ pub fn serve_process<T: AllocGlobal + Eprint, R: Read, W: Write>(
 /// - 1 if they are refused;
 /// - 2 for a fault, if a write or the flush of the output failed, and if the words ask for nothing. In the last case the
 ///   input isn't read, and `clap`'s text goes to standard error: help, the version, or what is wrong with the words;
-/// - 3 if a job was stopped, or the bundle's state has no replica of a root.
+/// - 3 if a job was stopped, or the jobs weren't run: there are no workers or too many, the bundle's state has no replica of
+///   a root, or a thread can't be started.
 ///
 /// `Serves` says what is written. What it says of bytes holds for readers and writers whose bytes a contract can name.
-pub fn serve<'a, S: AsStr, T: AllocGlobal + Eprint, R: Read, W: Write>(
+pub fn serve<'a, S: AsStr, T: AllocGlobal + Eprint + Threads + Wait + Sync, R: Read, W: Write>(
     rt: &T,
     words: &'a [S],
     input: &mut Watched<R>,
@@ -69,7 +72,7 @@ pub fn serve<'a, S: AsStr, T: AllocGlobal + Eprint, R: Read, W: Write>(
     what_is_shown_is_not_safe();
     let alloc = rt.alloc();
     match read_words(alloc, words) {
-        Ok(asked) => answer(alloc, asked, input, output),
+        Ok(asked) => answer(rt, alloc, asked, input, output),
         Err(error) => refuse(rt, &error, output),
     }
 }
@@ -109,7 +112,8 @@ pub fn refuse_unread<T: Eprint, W: Write>(rt: &T, error: &io::Error, output: &mu
 }
 
 /// Reads all of an input, and writes the answer to what was asked of it.
-fn answer<R: Read, W: Write>(
+fn answer<T: Threads + Wait + Sync, R: Read, W: Write>(
+    rt: &T,
     alloc: Global,
     asked: Asked<'_>,
     input: &mut Watched<R>,
@@ -121,7 +125,7 @@ fn answer<R: Read, W: Write>(
         (W.contents output.old.device) (W.contents output.new.device)
         input.new.failed output.new.failed result }
 {
-    let report = report_on(alloc, asked, input);
+    let report = report_on(rt, alloc, asked, input);
     let status = report.status();
     match report.into_text(alloc) {
         Ok(text) => write_text(text.as_slice(), status, output),

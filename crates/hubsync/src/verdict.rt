@@ -1,8 +1,7 @@
 //! Answers about the set of a bundle's profiles and rules.
-ghost use Rattle.std.specs.Prelude.{◌≡◌, ◌⊎◌, List, false, IfOk, IfErr, OnOk};
+ghost use Rattle.std.specs.Prelude.{◌≡◌, ◌⊎◌, false, IfOk, IfErr, OnOk};
 ghost use Rattle.hub_cert.specs.Set.{Members, IsSafeSet};
 ghost use Rattle.hub_cert.specs.Refused.{IsRefused};
-ghost use Rattle.hub_cert.specs.declared.certificate.Certificate.{Certificate};
 ghost use Rattle.hub_search.specs.Search.{IsFirstFault};
 ghost use Rattle.hubsync.specs.Report as report;
 ghost use Rattle.hubsync.specs.Words.{about};
@@ -11,14 +10,22 @@ use crate::refusal::fault_line;
 use crate::report::Report;
 use crate::run::run_set;
 use crate::sections::Contents;
+use crate::task::Task;
 use crate::words::Question;
-use hub_cert::{Certificate, CheckFault, ProfileSet, Verified, verify, write_certificates};
+use hub_cert::{Certificate, CheckFault, ProfileSet, verify, write_certificates};
 use hub_search::{certificates, check};
-use hub_state::State;
 use std::alloc::Global;
+use std::sync::Wait;
+use std::thread::Threads;
 
-/// The answer to a question about the set. Profiles and rules that are no set are refused, whatever the question is.
-pub fn report_on_set<'a>(alloc: Global, question: Question, contents: Contents) -> Report<'a>
+/// The answer to a question about the set. A run without a state is a fault, whatever the profiles and rules are. If these
+/// are no set, they are refused, whatever the question is.
+pub fn report_on_set<'a, T: Threads + Wait + Sync>(
+    rt: &T,
+    alloc: Global,
+    question: Question,
+    contents: Contents,
+) -> Report<'a>
     ensures told { report.IsTold (about question) contents result }
     ensures read { report.says_read_failed result ≡ false }
 {
@@ -28,73 +35,62 @@ pub fn report_on_set<'a>(alloc: Global, question: Question, contents: Contents) 
         state,
         certificates,
     } = contents;
+    let Some(task) = Task::for_question(question, state) else {
+        return Report::NoState;
+    };
     match ProfileSet::new(alloc, profiles, rules) {
-        Ok(set) => report_on_made(alloc, question, &set, certificates.as_slice(), state),
+        Ok(set) => report_on_made(rt, alloc, task, &set, certificates.as_slice()),
         Err(fault) => refusal_without_set(alloc, &fault),
     }
 }
 
-/// The answer to a question about a set that was made.
-fn report_on_made<'a>(
+/// The answer about a set that was made.
+fn report_on_made<'a, T: Threads + Wait + Sync>(
+    rt: &T,
     alloc: Global,
-    question: Question,
+    task: Task,
     set: &ProfileSet,
     own: &[Certificate],
-    state: Option<State>,
 ) -> Report<'a>
-    ensures told { report.IsToldOfSet question set.now own.now state result }
+    ensures told { report.IsToldOfSet task set.now own.now result }
     ensures read { report.says_read_failed result ≡ false }
 {
-    match answer(alloc, question, set, own, state) {
+    match answer(rt, alloc, task, set, own) {
         Ok(report) => report,
         Err(fault) => refusal(alloc, set, &fault),
     }
 }
 
-/// The answer to a question, or the fault by which the set is refused.
-fn answer<'a>(
+/// The answer when the task is done, or the fault by which the set is refused.
+fn answer<'a, T: Threads + Wait + Sync>(
+    rt: &T,
     alloc: Global,
-    question: Question,
+    task: Task,
     set: &ProfileSet,
     own: &[Certificate],
-    state: Option<State>,
 ) -> Result<Report<'a>, CheckFault>
-    ensures told { IfOk result (report.IsToldOfSet question set.now own.now state) }
-    ensures refused { IfErr result (report.FaultOf question set.now own.now) }
+    ensures told { IfOk result (report.IsToldOfSet task set.now own.now) }
+    ensures refused { IfErr result (report.FaultOf task set.now own.now) }
     ensures read { IfOk result (λ r. report.says_read_failed r ≡ false) }
 {
-    match question {
-        Question::CheckWithState => {
-            let verified = check(alloc, set)?;
-            Ok(report_on_safe(alloc, &verified, state))
-        }
-        Question::Check => {
+    match task {
+        Task::Check => {
             check_safe(alloc, set)?;
             Ok(Report::Safe)
         }
-        Question::Certify => {
+        Task::RunJobs { workers, state } => {
+            let verified = check(alloc, set)?;
+            Ok(run_set(rt, alloc, &verified, &state, workers))
+        }
+        Task::Certify => {
             let certificates = certificates(alloc, set)?;
             let text = write_certificates(alloc, certificates.as_slice())?;
             Ok(Report::Certified(text))
         }
-        Question::Verify => {
+        Task::Verify => {
             let _ = verify(alloc, set, own)?.set();
             Ok(Report::Verified)
         }
-    }
-}
-
-/// The answer for a safe set: its jobs are run, if there is a state.
-fn report_on_safe<'a>(alloc: Global, verified: &Verified<'_>, state: Option<State>) -> Report<'a>
-    ensures told { (cs : List Certificate) → report.IsToldOfSet Question.CheckWithState verified.now
-        cs state result }
-    ensures read { report.says_read_failed result ≡ false }
-{
-    // The type of the set says that it is safe.
-    let _ = verified.set();
-    match state {
-        Some(state) => run_set(alloc, verified, &state),
-        None => Report::Safe,
     }
 }
 

@@ -2,14 +2,15 @@
 //!
 //! `specs/Words.antt` defines the command in `clap`'s terms, and with that what each list of words asks for.
 
-ghost use Rattle.std.specs.Prelude.{◌≡◌, ◌⊎◌, IfErr, IfOk, None, Some, map, option_map};
-ghost use Rattle.clap.specs.Words.{app_of, kind_of, subcommand_rows_of};
+ghost use Rattle.std.specs.Prelude.{◌≡◌, ◌⊎◌, IfErr, IfOk, None, Some, codes, false, map, option_map};
+ghost use Rattle.clap.specs.Words.{app_of, found_of, kind_of, one_text, subcommand_rows_of};
+ghost use Rattle.clap.specs.declared.builder.command.Command.TheViews.{out-Command as fields_of};
 ghost use Rattle.clap.specs.declared.error.kind.ErrorKind.TheVariants.{OutOfMemory};
 ghost use Rattle.hubsync.specs.Words as words;
-ghost use Rattle.hubsync.specs.Words.{asked_of, hubsync_app, request_in, request_of};
+ghost use Rattle.hubsync.specs.Words.{asked_of, hubsync_app, request_in, request_of, run_app};
 
 use clap::error::ErrorKind;
-use clap::{Arg, ArgMatches, Command, Error};
+use clap::{Arg, ArgMatches, Command, Error, value_parser};
 use std::alloc::{AllocError, Global};
 use std::convert::AsStr;
 
@@ -38,8 +39,9 @@ A section '%rules' may say what no profile may do at a root:
   root = /srv/hub
   nolose = BelowPath docs/archive
 
-A section '%state' may say what the replicas hold. Without a command, the jobs of a safe set are then run on it. For
-'verify', a line '%certificates' and the text that 'certify' wrote are part of the bundle too.
+A section '%state' may say what the replicas hold. 'run' runs the jobs of a safe set on it, and so does hubsync without a
+command if there is such a section. For 'verify', a line '%certificates' and the text that 'certify' wrote are part of the
+bundle too.
 
 The output is one line: 'safe', 'verified', 'overlap: ..', 'breach: ..', 'too large: ..', 'refused: ..', 'reached',
 'not reached' or 'fault: ..'. 'certify' writes the text of the certificates in the place of 'safe'.
@@ -50,19 +52,23 @@ If the jobs are run, these lines stand below 'safe', for the profiles in their o
   to /srv/laptop docs/notes      an item of a finished job, with the root that it went to
   skip Conflict docs/plan        or Barred, Blocked, NoParent: it stays as it is
 
-If the state has no replica of a root, 'run fault: MissingReplica ..' stands there alone.
+If they aren't run, one line stands below 'safe': 'run fault: MissingReplica ..' if the state has no replica of a root,
+'NoWorkers' for 0 workers, 'TooManyWorkers' for more than 16, or 'ThreadRefused' if a thread can't be started. The answer
+to 'run' without a state is 'fault: no state'.
 
 Exit status:
   0  safe and no job stopped, verified, certificates, reached or not reached
   1  the profiles may not run at the same time, or may break a rule, or that they are safe was not shown
   2  a fault of the input or of the command line, or a failed output; help and version too
-  3  a job was stopped, or a replica is missing";
+  3  a job was stopped, or no job was run: 'run fault: ..'";
 
 /// What the words may ask about the set of a bundle's profiles and rules.
 #[derive(Clone, Copy, Debug, PartialEq, Eq)]
 pub enum Question {
     /// Whether the set is safe; and if it is and the bundle has a state, what its jobs do and leave.
     CheckWithState,
+    /// What the jobs of the set do and leave on the bundle's state, if it is safe: with that many workers.
+    Run(u8),
     /// Whether the set is safe.
     Check,
     /// Certificates for its goals.
@@ -88,7 +94,8 @@ pub enum Asked<'a> {
 /// Reads the words, of which the first is the program's name.
 ///
 /// `check`, `certify` and `verify` ask about the set. Without a command the words ask for the check, and for a run of the
-/// jobs on the bundle's state.
+/// jobs if the bundle has a state. `run` asks for a run; `--workers N` gives the number of workers, from 0 to 255, and
+/// without it there are 2.
 /// `reach PROFILE PATH` takes any two operands, also the empty word and `-`. An operand that begins with `-` and is longer
 /// needs `--` before it.
 ///
@@ -118,16 +125,17 @@ fn asked_in<'a>(matches: &ArgMatches<'a>) -> Option<Asked<'a>>
         return Some(Asked::About(Question::CheckWithState));
     };
     if name != "reach" {
-        return about(name);
+        return about(name, operands);
     }
     let profile = operands.get_str("profile")?;
     let path = operands.get_str("path")?;
     Some(Asked::Reach { profile, path })
 }
 
-/// What a command without operands asks for.
-fn about<'a>(name: &str) -> Option<Asked<'a>>
-    ensures { option_map request_of result ≡ words.about_named name.now }
+/// What a command without operands asks for, by its name and what was found of its option.
+fn about<'a>(name: &str, found: &ArgMatches<'_>) -> Option<Asked<'a>>
+    ensures { option_map request_of result
+        ≡ words.about_named name.now (one_text (found_of found.now) (codes "workers")) }
 {
     if name == "check" {
         return Some(Asked::About(Question::Check));
@@ -138,7 +146,35 @@ fn about<'a>(name: &str) -> Option<Asked<'a>>
     if name == "verify" {
         return Some(Asked::About(Question::Verify));
     }
+    if name == "run" {
+        return run_by(found);
+    }
     None
+}
+
+/// A run by as many workers as the option says.
+fn run_by<'a>(found: &ArgMatches<'_>) -> Option<Asked<'a>>
+    ensures { option_map request_of result
+        ≡ words.run_by (one_text (found_of found.now) (codes "workers")) }
+{
+    let workers = found.get_one::<u8>("workers")?;
+    Some(Asked::About(Question::Run(workers)))
+}
+
+/// The command `run`, with its texts of help.
+fn run_command<'a>(alloc: Global) -> Result<Command<'a>, AllocError>
+    ensures app { IfOk result (λ c. app_of c ≡ run_app) }
+    ensures local { IfOk result (λ c. (fields_of c).has_globals ≡ false) }
+{
+    let workers = Arg::new(alloc, "workers")
+        .long("workers")
+        .value_name("N")
+        .help("How many workers run the jobs, from 1 to 16")
+        .value_parser(value_parser!(u8))
+        .default_value("2");
+    Command::new(alloc, "run")
+        .about("Runs the jobs of profiles that may run at the same time on the state of the input")
+        .arg(workers)
 }
 
 /// The program's command, with its texts of help.
@@ -166,6 +202,7 @@ fn command<'a>(alloc: Global) -> Result<Command<'a>, AllocError>
         .about("Says whether a profile of the input reaches a path")
         .arg(profile)?
         .arg(path)?;
+    let run = run_command(alloc)?;
     Command::new(alloc, "hubsync")
         .version(VERSION)
         .about(ABOUT)
@@ -173,5 +210,6 @@ fn command<'a>(alloc: Global) -> Result<Command<'a>, AllocError>
         .subcommand(check)?
         .subcommand(certify)?
         .subcommand(verify)?
-        .subcommand(reach)
+        .subcommand(reach)?
+        .subcommand(run)
 }

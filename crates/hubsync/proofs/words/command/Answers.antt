@@ -39,4 +39,5 @@ returns c =
     let with_check = c.in_ok-subcommand.ensures.shape check_local ∙ ap₂ with_subcommand top_is (ap (λ (a : App). a.top) check_is) in
     let with_certify = c.in_ok-subcommand-2.ensures.shape certify_local ∙ ap₂ with_subcommand with_check (ap (λ (a : App). a.top) certify_is) in
     let with_verify = c.in_ok-subcommand-3.ensures.shape verify_local ∙ ap₂ with_subcommand with_certify (ap (λ (a : App). a.top) verify_is) in
-    IfOk-weaker c.subcommand-4.result _ _ (λ r h. h.shape reach_local ∙ ap₂ with_subcommand with_verify (ap (λ (a : App). a.top) reach_is)) c.subcommand-4.ensures
+    let with_reach = c.in_ok-subcommand-4.ensures.shape reach_local ∙ ap₂ with_subcommand with_verify (ap (λ (a : App). a.top) reach_is) in
+    IfOk-weaker c.subcommand-5.result _ _ (λ r h. h.shape c.in_ok-run.ensures.local ∙ ap₂ with_subcommand with_reach (ap (λ (a : App). a.top) c.in_ok-run.ensures.app)) c.subcommand-5.ensures

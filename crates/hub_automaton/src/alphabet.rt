@@ -48,7 +48,8 @@ impl Alphabet {
     /// The fault is `TooManyCharacters` where more than `MENTIONED_CHARACTERS` would be mentioned then, or `OutOfMemory`.
     /// After either the alphabet is as it was.
     pub fn add_path(&mut self, path: &RelPath) -> Result<(), AutomatonFault>
-        ensures ok { OnOk result (self.new ≡ alphabet.with_characters self.old (alphabet.path_characters path.now)) }
+        ensures ok { OnOk result (self.new
+            ≡ alphabet.with_characters self.old (alphabet.path_characters path.now)) }
         ensures few { OnOk result (length self.new ≤ MENTIONED_CHARACTERS) }
         ensures err { IfErr result (alphabet.Refuses self.old (alphabet.path_characters path.now)) }
         ensures kept { OnErr result (self.new ≡ self.old) }
@@ -68,7 +69,8 @@ impl Alphabet {
     /// The fault is `TooManyCharacters` where more than `MENTIONED_CHARACTERS` would be mentioned then, or `OutOfMemory`.
     /// After either the alphabet is as it was.
     pub fn add_spec(&mut self, spec: &PathSpec) -> Result<(), AutomatonFault>
-        ensures ok { OnOk result (self.new ≡ alphabet.with_characters self.old (alphabet.spec_characters spec.now)) }
+        ensures ok { OnOk result (self.new
+            ≡ alphabet.with_characters self.old (alphabet.spec_characters spec.now)) }
         ensures few { OnOk result (length self.new ≤ MENTIONED_CHARACTERS) }
         ensures err { IfErr result (alphabet.Refuses self.old (alphabet.spec_characters spec.now)) }
         ensures kept { OnErr result (self.new ≡ self.old) }
@@ -108,7 +110,8 @@ impl Alphabet {
 
     /// Returns a representative of each class, in the order of their numbers.
     pub fn samples(&self, alloc: Global) -> Result<Vec<char>, AllocError>
-        ensures items { IfOk result (λ v. v.items ≡ alphabet.first_unmentioned self.now ∷ self.now) }
+        ensures items { IfOk result (λ v. v.items
+            ≡ alphabet.first_unmentioned self.now ∷ self.now) }
         ensures alphabet { OnOk result (alphabet.IsAlphabet self.now) }
     {
         let mut samples = Vec::with_capacity(alloc, self.count())?;

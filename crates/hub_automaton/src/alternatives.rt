@@ -22,7 +22,8 @@ pub(crate) fn with_spots(before: usize, choices: &[Items<Piece>]) -> Result<usiz
     requires { before ≤ SPOTS }
     ensures ok { IfOk result (λ n. n ≡ before + spot_count choices.now) }
     ensures few { IfOk result (λ n. n ≤ SPOTS) }
-    ensures err { IfErr result (λ e. (e ≡ AutomatonFault.TooManySpots) × (SPOTS < before + spot_count choices.now)) }
+    ensures err { IfErr result (λ e. (e ≡ AutomatonFault.TooManySpots)
+        × (SPOTS < before + spot_count choices.now)) }
 {
     let mut spots = before;
     for choice in choices {

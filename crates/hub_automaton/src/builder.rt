@@ -61,7 +61,8 @@ impl SpecSetBuilder {
     /// After either, the first ones of them may have been added.
     pub fn add_specs(&mut self, specs: &[PathSpec]) -> Result<(), AutomatonFault>
         ensures ok { OnOk result (self.new ≡ self.old ++ map seeing.alternatives_of specs.now) }
-        ensures err { IfErr result (RefusesSpots (self.old ++ map seeing.alternatives_of specs.now)) }
+        ensures err { IfErr result (RefusesSpots
+            (self.old ++ map seeing.alternatives_of specs.now)) }
     {
         for spec in specs {
             self.add(spec.kind(), spec.choices()?)?;
@@ -74,8 +75,10 @@ impl SpecSetBuilder {
     /// The fault is `TooManySpots` when all that is collected would have more than `SPOTS` positions, or `OutOfMemory`.
     /// After either, nothing has been added.
     pub fn add_path(&mut self, path: &RelPath) -> Result<(), AutomatonFault>
-        ensures ok { OnOk result (self.new ≡ self.old ++ seeing.path_alternatives (text_of path.now) ∷ []) }
-        ensures err { IfErr result (RefusesSpots (self.old ++ seeing.path_alternatives (text_of path.now) ∷ [])) }
+        ensures ok { OnOk result (self.new ≡ self.old
+            ++ seeing.path_alternatives (text_of path.now) ∷ []) }
+        ensures err { IfErr result (RefusesSpots
+            (self.old ++ seeing.path_alternatives (text_of path.now) ∷ [])) }
         ensures kept { OnErr result (self.new ≡ self.old) }
     {
         let choices = path_choices(*self.alternatives.allocator(), path)?;
@@ -84,8 +87,10 @@ impl SpecSetBuilder {
 
     /// Adds choices.
     fn add(&mut self, kind: Kind, choices: Items<Items<Piece>>) -> Result<(), AutomatonFault>
-        ensures ok { OnOk result (self.new ≡ self.old ++ (record { kind = kind; choices = choices }) ∷ []) }
-        ensures err { IfErr result (RefusesSpots (self.old ++ (record { kind = kind; choices = choices }) ∷ [])) }
+        ensures ok { OnOk result (self.new ≡ self.old
+            ++ (record { kind = kind; choices = choices }) ∷ []) }
+        ensures err { IfErr result (RefusesSpots
+            (self.old ++ (record { kind = kind; choices = choices }) ∷ [])) }
         ensures kept { OnErr result (self.new ≡ self.old) }
     {
         let spots = with_spots(self.spots, choices.as_slice())?;

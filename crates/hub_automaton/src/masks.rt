@@ -68,7 +68,8 @@ fn mask_choice(
     choice: &[Piece],
     bits: &mut Vec<bool>,
 ) -> Result<(), AllocError>
-    ensures { OnOk result (bits.new.items ≡ bits.old.items ++ masking.mask_choice mask kind choice.now) }
+    ensures { OnOk result (bits.new.items ≡ bits.old.items
+        ++ masking.mask_choice mask kind choice.now) }
 {
     bits.push(masks_start(mask, kind))?;
     for piece in choice {
@@ -84,7 +85,8 @@ fn mask_choices(
     choices: &[Items<Piece>],
     bits: &mut Vec<bool>,
 ) -> Result<(), AllocError>
-    ensures { OnOk result (bits.new.items ≡ bits.old.items ++ masking.mask_choices mask kind choices.now) }
+    ensures { OnOk result (bits.new.items ≡ bits.old.items
+        ++ masking.mask_choices mask kind choices.now) }
 {
     for choice in choices {
         mask_choice(mask, kind, choice.as_slice(), bits)?;

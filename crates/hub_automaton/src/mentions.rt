@@ -19,7 +19,8 @@ pub(crate) fn is_left_out(character: char) -> bool
 /// Puts a character in its place, unless it is there already or is left out.
 fn mention(mentioned: &mut Vec<char>, character: char) -> Result<(), AutomatonFault>
     requires { alphabet.IsAlphabet mentioned.old.items }
-    ensures ok { OnOk result (mentioned.new.items ≡ alphabet.with_characters mentioned.old.items (character ∷ [])) }
+    ensures ok { OnOk result (mentioned.new.items
+        ≡ alphabet.with_characters mentioned.old.items (character ∷ [])) }
     ensures err { IfErr result (alphabet.Refuses mentioned.old.items (character ∷ [])) }
     ensures alphabet { OnOk result (alphabet.IsAlphabet mentioned.new.items) }
 {
@@ -41,7 +42,8 @@ fn mention(mentioned: &mut Vec<char>, character: char) -> Result<(), AutomatonFa
 /// Puts the members of a set in their places.
 fn mention_set(mentioned: &mut Vec<char>, set: &[char]) -> Result<(), AutomatonFault>
     requires { alphabet.IsAlphabet mentioned.old.items }
-    ensures ok { OnOk result (mentioned.new.items ≡ alphabet.with_characters mentioned.old.items set.now) }
+    ensures ok { OnOk result (mentioned.new.items
+        ≡ alphabet.with_characters mentioned.old.items set.now) }
     ensures err { IfErr result (alphabet.Refuses mentioned.old.items set.now) }
     ensures alphabet { OnOk result (alphabet.IsAlphabet mentioned.new.items) }
 {
@@ -54,7 +56,8 @@ fn mention_set(mentioned: &mut Vec<char>, set: &[char]) -> Result<(), AutomatonF
 /// Puts the characters of a text in their places.
 fn mention_text(mentioned: &mut Vec<char>, text: &str) -> Result<(), AutomatonFault>
     requires { alphabet.IsAlphabet mentioned.old.items }
-    ensures ok { OnOk result (mentioned.new.items ≡ alphabet.with_characters mentioned.old.items (chars text.now)) }
+    ensures ok { OnOk result (mentioned.new.items
+        ≡ alphabet.with_characters mentioned.old.items (chars text.now)) }
     ensures err { IfErr result (alphabet.Refuses mentioned.old.items (chars text.now)) }
     ensures alphabet { OnOk result (alphabet.IsAlphabet mentioned.new.items) }
 {
@@ -67,8 +70,10 @@ fn mention_text(mentioned: &mut Vec<char>, text: &str) -> Result<(), AutomatonFa
 /// Puts the characters of a path in their places.
 pub(crate) fn mention_path(mentioned: &mut Vec<char>, path: &RelPath) -> Result<(), AutomatonFault>
     requires { alphabet.IsAlphabet mentioned.old.items }
-    ensures ok { OnOk result (mentioned.new.items ≡ alphabet.with_characters mentioned.old.items (alphabet.path_characters path.now)) }
-    ensures err { IfErr result (alphabet.Refuses mentioned.old.items (alphabet.path_characters path.now)) }
+    ensures ok { OnOk result (mentioned.new.items
+        ≡ alphabet.with_characters mentioned.old.items (alphabet.path_characters path.now)) }
+    ensures err { IfErr result (alphabet.Refuses mentioned.old.items
+        (alphabet.path_characters path.now)) }
     ensures alphabet { OnOk result (alphabet.IsAlphabet mentioned.new.items) }
 {
     for i in 0..path.len() {
@@ -80,8 +85,10 @@ pub(crate) fn mention_path(mentioned: &mut Vec<char>, path: &RelPath) -> Result<
 /// Puts the characters of a piece in their places.
 fn mention_piece(mentioned: &mut Vec<char>, piece: &Piece) -> Result<(), AutomatonFault>
     requires { alphabet.IsAlphabet mentioned.old.items }
-    ensures ok { OnOk result (mentioned.new.items ≡ alphabet.with_characters mentioned.old.items (alphabet.piece_characters piece.now)) }
-    ensures err { IfErr result (alphabet.Refuses mentioned.old.items (alphabet.piece_characters piece.now)) }
+    ensures ok { OnOk result (mentioned.new.items
+        ≡ alphabet.with_characters mentioned.old.items (alphabet.piece_characters piece.now)) }
+    ensures err { IfErr result (alphabet.Refuses mentioned.old.items
+        (alphabet.piece_characters piece.now)) }
     ensures alphabet { OnOk result (alphabet.IsAlphabet mentioned.new.items) }
 {
     match piece {
@@ -94,8 +101,10 @@ fn mention_piece(mentioned: &mut Vec<char>, piece: &Piece) -> Result<(), Automat
 /// Puts the characters of some pieces in their places.
 fn mention_pieces(mentioned: &mut Vec<char>, pieces: &[Piece]) -> Result<(), AutomatonFault>
     requires { alphabet.IsAlphabet mentioned.old.items }
-    ensures ok { OnOk result (mentioned.new.items ≡ alphabet.with_characters mentioned.old.items (alphabet.pieces_characters pieces.now)) }
-    ensures err { IfErr result (alphabet.Refuses mentioned.old.items (alphabet.pieces_characters pieces.now)) }
+    ensures ok { OnOk result (mentioned.new.items
+        ≡ alphabet.with_characters mentioned.old.items (alphabet.pieces_characters pieces.now)) }
+    ensures err { IfErr result (alphabet.Refuses mentioned.old.items
+        (alphabet.pieces_characters pieces.now)) }
     ensures alphabet { OnOk result (alphabet.IsAlphabet mentioned.new.items) }
 {
     for piece in pieces {
@@ -110,8 +119,11 @@ fn mention_choices(
     choices: &[Items<Piece>],
 ) -> Result<(), AutomatonFault>
     requires { alphabet.IsAlphabet mentioned.old.items }
-    ensures ok { OnOk result (mentioned.new.items ≡ alphabet.with_characters mentioned.old.items (flat_map alphabet.pieces_characters choices.now)) }
-    ensures err { IfErr result (alphabet.Refuses mentioned.old.items (flat_map alphabet.pieces_characters choices.now)) }
+    ensures ok { OnOk result (mentioned.new.items
+        ≡ alphabet.with_characters mentioned.old.items
+        (flat_map alphabet.pieces_characters choices.now)) }
+    ensures err { IfErr result (alphabet.Refuses mentioned.old.items
+        (flat_map alphabet.pieces_characters choices.now)) }
     ensures alphabet { OnOk result (alphabet.IsAlphabet mentioned.new.items) }
 {
     for choice in choices {
@@ -123,8 +135,11 @@ fn mention_choices(
 /// Puts the characters of the parts of a pattern in their places.
 pub(crate) fn mention_parts(mentioned: &mut Vec<char>, parts: &[Part]) -> Result<(), AutomatonFault>
     requires { alphabet.IsAlphabet mentioned.old.items }
-    ensures ok { OnOk result (mentioned.new.items ≡ alphabet.with_characters mentioned.old.items (flat_map alphabet.part_characters parts.now)) }
-    ensures err { IfErr result (alphabet.Refuses mentioned.old.items (flat_map alphabet.part_characters parts.now)) }
+    ensures ok { OnOk result (mentioned.new.items
+        ≡ alphabet.with_characters mentioned.old.items
+        (flat_map alphabet.part_characters parts.now)) }
+    ensures err { IfErr result (alphabet.Refuses mentioned.old.items
+        (flat_map alphabet.part_characters parts.now)) }
     ensures alphabet { OnOk result (alphabet.IsAlphabet mentioned.new.items) }
 {
     for part in parts {

@@ -1,0 +1,123 @@
+//! What the lines above a question give.
+
+use anyhow::{Result, bail};
+use hub_cert::{ProfileSet, Verified};
+use hub_path::Name;
+use hub_profile::{Profile, read_profile, read_rules};
+use hub_search::check;
+use hub_state::{State, read_bytes};
+use hub_text::Items;
+use std::alloc::Global;
+
+/// The name of a profile, and its text.
+#[derive(Drop)]
+struct Given {
+    name: String,
+    text: String,
+}
+
+/// What was given since the last line `case`.
+#[derive(Drop)]
+pub(crate) struct Case {
+    pub(crate) alloc: Global,
+    /// The profiles.
+    profiles: Vec<Given>,
+    /// The state text.
+    text: String,
+}
+
+impl Case {
+    /// Nothing is given yet.
+    pub(crate) fn new(alloc: Global) -> Case {
+        Case {
+            alloc,
+            profiles: Vec::new(alloc),
+            text: String::new(alloc),
+        }
+    }
+
+    /// Takes a line if it gives something, and returns whether it does.
+    pub(crate) fn takes(&mut self, line: &str) -> Result<bool> {
+        let (word, fields) = cut(line);
+        match word {
+            "case" => *self = Case::new(self.alloc),
+            "profile" => self.add_profile(fields)?,
+            "hubsync" => self.begin_text(line)?,
+            "replica" | "archive" | "with" | "dir" | "file" | "end" => self.add_line(line)?,
+            _ => return Ok(false),
+        }
+        Ok(true)
+    }
+
+    /// The set of the profiles.
+    pub(crate) fn set(&self) -> Result<ProfileSet> {
+        set_of(self.alloc, self.profiles.as_slice())
+    }
+
+    /// The set of the first profile alone, if there is one.
+    pub(crate) fn first_alone(&self) -> Result<ProfileSet> {
+        set_of(self.alloc, self.profiles.get(..1).unwrap_or(&[]))
+    }
+
+    /// The state that the state text says.
+    pub(crate) fn state(&self) -> Result<State> {
+        Ok(read_bytes(self.alloc, self.text.as_bytes())?)
+    }
+
+    /// Adds a profile: its name, its two roots, and its further lines.
+    fn add_profile(&mut self, fields: &str) -> Result<()> {
+        let (name, fields) = cut(fields);
+        let (left, fields) = cut(fields);
+        let (right, lines) = cut(fields);
+        let mut text = format!(in self.alloc; "root = {left}\nroot = {right}\n")?;
+        for line in lines.split("; ") {
+            write!(text, "{line}\n")?;
+        }
+        let name = String::from_str(self.alloc, name)?;
+        self.profiles.push(Given { name, text })?;
+        Ok(())
+    }
+
+    /// Begins a state text with this line.
+    fn begin_text(&mut self, line: &str) -> Result<()> {
+        self.text = String::new(self.alloc);
+        self.add_line(line)
+    }
+
+    /// Adds a line to the state text.
+    fn add_line(&mut self, line: &str) -> Result<()> {
+        self.text.push_str(line)?;
+        self.text.push('\n')?;
+        Ok(())
+    }
+}
+
+/// The set of these profiles.
+fn set_of(alloc: Global, given: &[Given]) -> Result<ProfileSet> {
+    let mut profiles = Items::new(alloc);
+    for one in given {
+        profiles.push(profile_of(alloc, one)?)?;
+    }
+    match ProfileSet::new(alloc, profiles, read_rules(alloc, &[])?) {
+        Ok(set) => Ok(set),
+        Err(_) => bail!("no set"),
+    }
+}
+
+fn profile_of(alloc: Global, given: &Given) -> Result<Profile> {
+    let name = Name::read(alloc, given.name.as_str())?;
+    Ok(read_profile(alloc, name, given.text.as_bytes())?)
+}
+
+/// The set, which is safe.
+pub(crate) fn verified_of(alloc: Global, set: &ProfileSet) -> Result<Verified<'_>> {
+    match check(alloc, set) {
+        Ok(verified) => Ok(verified),
+        Err(_) => bail!("the set isn't safe"),
+    }
+}
+
+/// Cuts a text at its first space. What isn't there is empty.
+pub(crate) fn cut(text: &str) -> (&str, &str) {
+    text.split_once(' ').unwrap_or((text, ""))
+}

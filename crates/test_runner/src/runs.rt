@@ -1,0 +1,137 @@
+//! Jobs that run at the same time.
+
+use crate::given::{Case, cut, verified_of};
+use crate::meeting::Meeting;
+use crate::shown::{left_text, outcome_text};
+use anyhow::{Result, bail};
+use hub_cert::{ProfileSet, Verified};
+use hub_history::Gate;
+use hub_runner::run;
+use hub_schedule::run_rounds;
+use hub_state::State;
+use std::alloc::Global;
+use std::sync::Wait;
+use std::thread::Threads;
+
+/// What is asked of jobs that run at the same time.
+#[derive(Clone, Copy)]
+pub(crate) enum Run {
+    /// What they leave, run by so many workers, or why they aren't run.
+    Once { workers: usize },
+    /// Whether so many runs leave what the jobs leave in rounds. If one doesn't, what it leaves.
+    Often { count: usize, workers: usize },
+    /// Whether two jobs meet within their first steps, or before them, and what they leave.
+    Meeting { within: bool },
+}
+
+impl Run {
+    pub(crate) fn read(word: &str, fields: &str) -> Result<Run> {
+        let (first, second) = cut(fields);
+        match word {
+            "run" => Ok(Run::Once {
+                workers: first.parse::<usize>()?,
+            }),
+            "runs" => Ok(Run::Often {
+                count: first.parse::<usize>()?,
+                workers: second.parse::<usize>()?,
+            }),
+            "meet" => Ok(Run::Meeting {
+                within: first == "within",
+            }),
+            _ => bail!("no question: {word}"),
+        }
+    }
+}
+
+/// A gate that does nothing.
+struct Open;
+
+impl Gate for Open {
+    fn before(&self, _job: usize, _step: usize) {}
+
+    fn within(&self, _job: usize) {}
+
+    fn after(&self, _job: usize, _step: usize) {}
+}
+
+/// The answer to a question about what was given.
+pub(crate) fn answer<R: Threads + Wait + Sync>(rt: &R, case: &Case, asked: Run) -> Result<String> {
+    let set = case.set()?;
+    answer_of_set(rt, case, &set, asked)
+}
+
+fn answer_of_set<R: Threads + Wait + Sync>(
+    rt: &R,
+    case: &Case,
+    set: &ProfileSet,
+    asked: Run,
+) -> Result<String> {
+    let state = case.state()?;
+    answer_of_state(rt, case.alloc, set, &state, asked)
+}
+
+fn answer_of_state<R: Threads + Wait + Sync>(
+    rt: &R,
+    alloc: Global,
+    set: &ProfileSet,
+    state: &State,
+    asked: Run,
+) -> Result<String> {
+    let verified = verified_of(alloc, set)?;
+    match asked {
+        Run::Once { workers } => run_text(rt, alloc, &verified, state, workers, &Open),
+        Run::Often { count, workers } => runs_text(rt, alloc, &verified, state, count, workers),
+        Run::Meeting { within } => meeting_text(rt, alloc, &verified, state, within),
+    }
+}
+
+/// What the jobs leave, or why they aren't run.
+fn run_text<R: Threads + Wait + Sync, G: Gate + Sync>(
+    rt: &R,
+    alloc: Global,
+    verified: &Verified<'_>,
+    state: &State,
+    workers: usize,
+    gate: &G,
+) -> Result<String> {
+    left_text(alloc, run(rt, alloc, verified, state, workers, gate))
+}
+
+fn runs_text<R: Threads + Wait + Sync>(
+    rt: &R,
+    alloc: Global,
+    verified: &Verified<'_>,
+    state: &State,
+    count: usize,
+    workers: usize,
+) -> Result<String> {
+    let want = rounds_text(alloc, verified, state)?;
+    for number in 0..count {
+        let text = run_text(rt, alloc, verified, state, workers, &Open)?;
+        if text != want {
+            return Ok(format!(in alloc; "run {number} leaves\n{text}")?);
+        }
+    }
+    Ok(format!(in alloc; "{count} leave what rounds leave")?)
+}
+
+/// What the jobs leave in rounds.
+fn rounds_text(alloc: Global, verified: &Verified<'_>, state: &State) -> Result<String> {
+    match run_rounds(alloc, verified, state) {
+        Ok(outcome) => outcome_text(alloc, &outcome),
+        Err(_) => bail!("the rounds aren't run"),
+    }
+}
+
+fn meeting_text<R: Threads + Wait + Sync>(
+    rt: &R,
+    alloc: Global,
+    verified: &Verified<'_>,
+    state: &State,
+    within: bool,
+) -> Result<String> {
+    let gate = Meeting::new(within);
+    let text = run_text(rt, alloc, verified, state, 2, &gate)?;
+    let met = if gate.is_late() { "late" } else { "met" };
+    Ok(format!(in alloc; "{met}, {text}")?)
+}

@@ -1,0 +1,127 @@
+#!/usr/bin/env bash
+# Times runs of a star in memory, without reading and writing: by jobs that take turns in one thread, and by jobs in threads of
+# their own. The two should take the same turns, so the ratio of their times says what threads gain or cost.
+#
+#     bench/threads.sh [PROGRAM [REPETITIONS]]
+#
+# PROGRAM is the built `bench_run` (crates/bench_run/out/bench_run if left out), REPETITIONS is 5 if left out. The stars:
+#
+# - `files`: 8 spokes; the hub has 8 files of 1 MiB for each of them, and they have none (aim: threads take half the time);
+# - `same`: 32 spokes, 33,000 entries of the hub in all: the hub, the spokes and their archives agree (aim: at most 1.2 times the
+#   time of one thread);
+# - `new`: 32 spokes: the hub has 99,000 entries, and the spokes have none (the same aim).
+#
+# A line gives the size of the state, and the least times in milliseconds. The status is 1 if the state that the threads leave is
+# another one than the jobs in one thread leave by `hubsync`'s rules: all that the hub has, at the hub and at the spokes.
+set -euo pipefail
+export LC_ALL=C
+top=$(dirname "$(dirname "$(readlink -f "${BASH_SOURCE[0]}")")")
+program=${1:-$top/crates/bench_run/out/bench_run}
+repetitions=${2:-5}
+
+if [ ! -x "$program" ]; then
+    echo "bench/threads.sh: no program at $program: build it with \`rt run\` in crates/bench_run" >&2
+    exit 2
+fi
+folder=$(mktemp -d)
+trap 'rm -rf "$folder"' EXIT
+
+# The text of a state with the sections on standard input.
+state() {
+    echo 'hubsync state 1'
+    cat
+    echo end
+}
+
+# The lines of a directory and of so many files in it. The last word stands for what each file has.
+team() {
+    awk -v team="team$1" -v files="$2" -v field="$3" 'BEGIN {
+        print "dir " team
+        for (f = 1; f <= files; f++)
+            printf "file %s %s/file%05d.txt\n", field, team, f
+    }'
+}
+
+# The sections of replicas and archives, of the files `replica` and `archive` with a part for each team. The names of roots are in
+# the order of their bytes.
+hub() {
+    echo 'replica /srv/hub'
+    cat "$folder"/*.replica
+}
+spokes() {
+    local file
+    for file in "$folder"/*.replica; do
+        echo "replica /srv/spoke$(number_of "$file")"
+        [ "$1" = empty ] || cat "$file"
+    done
+}
+archives() {
+    local file
+    for file in "$folder"/*.archive; do
+        printf 'archive /srv/hub\nwith /srv/spoke%s\n' "$(number_of "$file")"
+        cat "$file"
+    done
+}
+number_of() {
+    basename "${1%.*}" | sed 's/^team//'
+}
+
+# Makes the parts of so many teams with so many files each, of 20 bytes.
+small_teams() {
+    local number
+    rm -f "$folder"/*.replica "$folder"/*.archive
+    for number in $(seq "$1"); do
+        team "$number" "$2" "$(printf '%040d' 0)" >"$folder/team$number.replica"
+        team "$number" "$2" "$(head -c 20 /dev/zero | sha256sum | cut -d ' ' -f 1)" >"$folder/team$number.archive"
+    done
+}
+
+# The same of 8 teams with 8 files each, of 1 MiB that is different each time.
+large_teams() {
+    local number file
+    rm -f "$folder"/*.replica "$folder"/*.archive
+    for number in $(seq 8); do
+        echo "dir team$number" | tee "$folder/team$number.replica" >"$folder/team$number.archive"
+        for file in $(seq 8); do
+            head -c 1048576 /dev/urandom >"$folder/bytes"
+            echo "file $(od -An -v -tx1 "$folder/bytes" | tr -d ' \n') team$number/file$file" >>"$folder/team$number.replica"
+            echo "file $(sha256sum "$folder/bytes" | cut -d ' ' -f 1) team$number/file$file" >>"$folder/team$number.archive"
+        done
+    done
+}
+
+# Writes the two times of one run over the state `opening`. Ends the script if the state that is left is not `closing`.
+time_both() {
+    if ! "$program" "$1" <"$folder/opening" >"$folder/left" 2>"$folder/times" || ! cmp -s "$folder/left" "$folder/closing"; then
+        echo "bench/threads.sh: a wrong answer: $(head -c 200 "$folder/times")" >&2
+        exit 1
+    fi
+    sed -n 's/^in one thread: \([0-9]*\) ms$/one \1/p; s/^in threads: \([0-9]*\) ms$/threads \1/p' "$folder/times"
+}
+
+# Runs the star of that name and so many spokes again and again, and says the least times.
+measure() {
+    local i
+    for ((i = 0; i < repetitions; i++)); do
+        time_both "$2"
+    done >"$folder/all"
+    awk -v name="$1" -v bytes="$(wc -c <"$folder/opening")" -v aim="$3" '
+        !($1 in least) || $2 < least[$1] { least[$1] = $2 }
+        END {
+            printf "%-6s %10d bytes  one thread %6d ms  threads %6d ms  ratio %.2f (aim: at most %s)\n",
+                name, bytes, least["one"], least["threads"], least["threads"] / least["one"], aim
+        }' "$folder/all"
+}
+
+echo "$repetitions repetitions"
+large_teams
+{ hub; spokes empty; } | state >"$folder/opening"
+{ hub; spokes full; archives; } | state >"$folder/closing"
+measure files 8 0.5
+small_teams 32 1030
+{ hub; spokes full; archives; } | state | tee "$folder/opening" >"$folder/closing"
+measure same 32 1.2
+small_teams 32 3092
+{ hub; spokes empty; } | state >"$folder/opening"
+{ hub; spokes full; archives; } | state >"$folder/closing"
+measure new 32 1.2

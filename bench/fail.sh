@@ -4,14 +4,15 @@
 # prefix of the right text. Then it asks `test_states` two questions with each request for memory refused: where memory for a step
 # of a replica or an archive is refused, the later answers should be as if that step weren't there. Last it runs `hubsync` on a
 # bundle of two profiles with that state: there nothing stands before the line of the fault, and a failed write leaves a prefix. A
-# refused request for memory may instead stop a job. Then the status is 3, and the state is what the other job leaves, with or
-# without the one change of the job that was stopped.
+# refused request for memory may instead stop a job, or refuse a thread. Then the status is 3. Where a job is stopped, the state is
+# what the other job leaves, with or without the one change of the job that was stopped.
 #
 #     bench/fail.sh
 #
 # All must have been built, by `rt run` in crates/bench_state, crates/test_states and crates/hubsync. A C compiler is needed, since a
 # few lines of C take the place of the C library's `malloc`, `realloc`, `read` and `write`. For each kind of call a line gives the
-# number of runs, how many ended with the fault, how many with a stopped job or a refused step, and how many with the right text.
+# number of runs, how many ended with the fault, how many with a stopped job, a refused thread or a refused step, and how many with the
+# right text.
 # The status is 1 if an answer is wrong.
 set -euo pipefail
 top=$(dirname "$(dirname "$(readlink -f "${BASH_SOURCE[0]}")")")
@@ -37,8 +38,8 @@ cat >"$folder/failing.c" <<'C'
 
 static int fails(const char *name, long *calls) {
     const char *number = getenv(name);
-    *calls += 1;
-    return number != NULL && atol(number) == *calls;
+    long call = __atomic_add_fetch(calls, 1, __ATOMIC_RELAXED);
+    return number != NULL && atol(number) == call;
 }
 
 static void say(void) {
@@ -124,18 +125,18 @@ hubsync_tells() {
     cmp -s "$folder/answer" <(echo "$line")
 }
 
-# Whether the answer is one of those in which a job was stopped.
+# Whether the answer is one of those in which a job was stopped or a thread was refused.
 has_stopped_job() {
     local answer
     [ "$status" = 3 ] || return 1
-    for answer in stopped-a stopped-b stopped-late; do
+    for answer in stopped-a stopped-b stopped-late refused; do
         ! cmp -s "$folder/answer" "$folder/$answer" || return 0
     done
     return 1
 }
 
 # Runs a program on an input with each call of a kind failing. Its answers should tell the fault, as the function says that
-# is given first, or be the wanted text. A refused request for memory may also stop a job.
+# is given first, or be the wanted text. A refused request for memory may also stop a job, or refuse a thread.
 fail_each() {
     local tells=$1 program=$2 input=$3 wanted=$4 kind=$5 fault=$6 number=1 faults=0 stopped=0 unharmed=0
     run "$kind" "$number" "$input" "$program"
@@ -153,7 +154,7 @@ fail_each() {
         number=$((number + 1))
         run "$kind" "$number" "$input" "$program"
     done
-    echo "$(basename "$program"): $kind: $((number - 1)) runs, $faults with $fault, $stopped with a stopped job, $unharmed with the right text"
+    echo "$(basename "$program"): $kind: $((number - 1)) runs, $faults with $fault, $stopped with a stopped job or a refused thread, $unharmed with the right text"
 }
 
 # Asks `test_states` a question with each request for memory refused. Its answer should be one of those given, the first with ample
@@ -203,6 +204,7 @@ digest=$(printf hi | sha256sum | cut -d ' ' -f 1)
 sed 's|^replica /srv/spoke01$|&\nfile 6869 b|' "$folder/text" >"$folder/brought"
 sed "s|^end\$|file $digest b\n&|" "$folder/brought" >"$folder/after"
 { printf 'safe\njob a finished\nskip Conflict a\njob b finished\nto /srv/spoke01 b\n'; cat "$folder/after"; } >"$folder/safe"
+printf 'safe\nrun fault: ThreadRefused\n' >"$folder/refused"
 { printf 'safe\njob a stopped\njob b finished\nto /srv/spoke01 b\n'; cat "$folder/after"; } >"$folder/stopped-a"
 { printf 'safe\njob a finished\nskip Conflict a\njob b stopped\n'; cat "$folder/text"; } >"$folder/stopped-b"
 { printf 'safe\njob a finished\nskip Conflict a\njob b stopped\n'; cat "$folder/brought"; } >"$folder/stopped-late"

@@ -6,7 +6,6 @@ pub mod Kept
 pub mod Likes
 pub mod Loops
 pub mod Masked
-pub mod Mentioned
 pub mod Paths
 pub mod Progresses
 pub mod RowMoves

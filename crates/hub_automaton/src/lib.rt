@@ -34,6 +34,3 @@ pub use builder::SpecSetBuilder;
 pub use class::Class;
 pub use fault::AutomatonFault;
 pub use spec_set::{SpecSet, Spots};
-
-#[cfg(test)]
-mod tests;

@@ -14,7 +14,7 @@ use hub_path::{Name, RelPath, Root};
 use hub_profile::Profile;
 use hub_reach::{reaches, writes};
 use hub_text::Items;
-use hub_tree::{Blob, Contents, Mark, SetFault, Tree};
+use hub_tree::{Contents, Mark, SetFault, Tree};
 use std::alloc::{AllocError, Global};
 
 /// Makes an operation of a profile's job on the replica of a root, and returns its answer.
@@ -41,7 +41,7 @@ pub fn perform(
 {
     match op {
         Op::Look(path) => look(alloc, profile, root, tree, path),
-        Op::Fetch(path) => fetch(alloc, tree, path),
+        Op::Fetch(path) => fetch(tree, path),
         Op::Set(path, contents) => set(tree, path, contents.copy()?),
     }
 }
@@ -179,13 +179,13 @@ fn parent_mark(is_parent: bool, tree: &Tree, path: &RelPath) -> Mark
 }
 
 /// Gives the bytes of a file.
-fn fetch(alloc: Global, tree: &Tree, path: &RelPath) -> Result<Answer, AllocError>
+fn fetch(tree: &Tree, path: &RelPath) -> Result<Answer, AllocError>
     ensures value { IfOk result
         (λ a. a ≡ machine.fetched (of_tree.contents_at tree.now path.now)) }
     ensures fits { IfOk result (machine.Fits (Op.Fetch path.now)) }
 {
-    match tree.bytes_at(path) {
-        Some(bytes) => Ok(Answer::Bytes(Blob::new(Vec::from_slice(alloc, bytes)?))),
+    match tree.blob_at(path) {
+        Some(blob) => Ok(Answer::Bytes(blob.copy()?)),
         None => Ok(Answer::Refused(OpFault::NoFile)),
     }
 }

@@ -26,7 +26,8 @@ use std::hash::Hash;
 /// kept value, is ignored; nor is the path itself; and it is a kept value, or one is above it.
 #[tactic(auto, using(crate::proofs::Walks::walks))]
 pub fn walks_are_reach()
-    ensures { (P : Parts) (p : Path) → IsProfile P → IsTrue (is_path p) → reach P p ≡ is_walked P p }
+    ensures { (P : Parts) (p : Path) → IsProfile P → IsTrue (is_path p)
+        → reach P p ≡ is_walked P p }
 {}
 
 /// A path between a kept value and a reached path is reached.
@@ -44,27 +45,36 @@ pub fn named_texts_are_paths()
 /// every text. So each character of a text that isn't broken may stand in a path's text. A path's text isn't broken, and
 /// nothing is reached by a broken one.
 pub fn broken_texts_stay_broken()
-    ensures longer { (t : List ℕ) (x : ℕ) → IsTrue (is_broken t) → IsTrue (is_broken (t ++ x ∷ [])) }
-    ensures foreign { (t : List ℕ) (x : ℕ) → is_text_character x ≡ false → IsTrue (is_broken (t ++ x ∷ [])) }
+    ensures longer { (t : List ℕ) (x : ℕ) → IsTrue (is_broken t)
+        → IsTrue (is_broken (t ++ x ∷ [])) }
+    ensures foreign { (t : List ℕ) (x : ℕ) → is_text_character x ≡ false
+        → IsTrue (is_broken (t ++ x ∷ [])) }
     ensures whole { (t : List ℕ) → is_broken t ≡ false → IsTrue (list_all is_text_character t) }
     ensures path { (t : List ℕ) → IsTrue (is_path (path_of t)) → is_broken t ≡ false }
-    ensures reached { (P : Parts) (t : List ℕ) → IsTrue (is_broken t) → reach P (path_of t) ≡ false }
+    ensures reached { (P : Parts) (t : List ℕ) → IsTrue (is_broken t)
+        → reach P (path_of t) ≡ false }
 {}
 
 /// A stage says whether its text is broken. So texts with equal stages are equally broken.
 pub fn stages_tell_broken_texts()
     ensures stage { (P : Parts) (t : List ℕ) → is_broken_stage (stage_of P t) ≡ is_broken t }
-    ensures alike { (P : Parts) (t u : List ℕ) → stage_of P t ≡ stage_of P u → is_broken t ≡ is_broken u }
+    ensures alike { (P : Parts) (t u : List ℕ) → stage_of P t ≡ stage_of P u
+        → is_broken t ≡ is_broken u }
 {}
 
 /// If two texts lead to the same stage, they still do after any text is appended to both, and their paths are reached
 /// alike. Characters of one class lead to the same stage, if the alphabet mentions what the profile does.
 pub fn stages_go_on_alike()
-    ensures same { (P : Parts) (t u : List ℕ) (x : ℕ) → IsProfile P → stage_of P t ≡ stage_of P u → stage_of P (t ++ x ∷ []) ≡ stage_of P (u ++ x ∷ []) }
-    ensures followed { (P : Parts) (t u v : List ℕ) → IsProfile P → stage_of P t ≡ stage_of P u → stage_of P (t ++ v) ≡ stage_of P (u ++ v) }
-    ensures reached { (P : Parts) (t u : List ℕ) → IsProfile P → stage_of P t ≡ stage_of P u → reach P (path_of t) ≡ reach P (path_of u) }
-    ensures classes { (P : Parts) (ms t : List ℕ) (x y k : ℕ) → IsAlphabet ms → Mentions ms P → class_of ms x ≡ Some k → class_of ms y ≡ Some k
-        → IsTrue (is_text_character x) → IsTrue (is_text_character y) → stage_of P (t ++ x ∷ []) ≡ stage_of P (t ++ y ∷ []) }
+    ensures same { (P : Parts) (t u : List ℕ) (x : ℕ) → IsProfile P → stage_of P t ≡ stage_of P u
+        → stage_of P (t ++ x ∷ []) ≡ stage_of P (u ++ x ∷ []) }
+    ensures followed { (P : Parts) (t u v : List ℕ) → IsProfile P → stage_of P t ≡ stage_of P u
+        → stage_of P (t ++ v) ≡ stage_of P (u ++ v) }
+    ensures reached { (P : Parts) (t u : List ℕ) → IsProfile P → stage_of P t ≡ stage_of P u
+        → reach P (path_of t) ≡ reach P (path_of u) }
+    ensures classes { (P : Parts) (ms t : List ℕ) (x y k : ℕ) → IsAlphabet ms → Mentions ms P
+        → class_of ms x ≡ Some k → class_of ms y ≡ Some k
+        → IsTrue (is_text_character x) → IsTrue (is_text_character y)
+        → stage_of P (t ++ x ∷ []) ≡ stage_of P (t ++ y ∷ []) }
 {
     choices_match_what_their_specification_does();
     choices_mention_what_their_specification_does();
@@ -80,7 +90,8 @@ pub fn stages_go_on_alike()
 /// that has no class breaks every text.
 pub fn text_characters_have_classes()
     ensures same { (x : ℕ) → is_text_character x ≡ is_path_character x }
-    ensures classed { (ms : List ℕ) (x k : ℕ) → IsTrue (all_scalars (x ∷ [])) → class_of ms x ≡ Some k → IsTrue (is_text_character x) }
+    ensures classed { (ms : List ℕ) (x k : ℕ) → IsTrue (all_scalars (x ∷ []))
+        → class_of ms x ≡ Some k → IsTrue (is_text_character x) }
     ensures unclassed { (ms : List ℕ) (x : ℕ) → class_of ms x ≡ None → is_text_character x ≡ false }
 {}
 
@@ -89,7 +100,8 @@ pub fn text_characters_have_classes()
 pub fn shapes_compare_exactly()
     ensures equal { (x y : Shape) → IsTrue (⟦<Shape as PartialEq>⟧.eq x y) ↔ (x ≡ y) }
     ensures tied { (x y : Shape) → (⟦<Shape as Ord>⟧.cmp x y ≡ Equal) ↔ (x ≡ y) }
-    ensures hashed { (x y : Shape) → IsTrue (⟦<Shape as PartialEq>⟧.eq x y) → ⟦<Shape as Hash>⟧.hash_input x ≡ ⟦<Shape as Hash>⟧.hash_input y }
+    ensures hashed { (x y : Shape) → IsTrue (⟦<Shape as PartialEq>⟧.eq x y)
+        → ⟦<Shape as Hash>⟧.hash_input x ≡ ⟦<Shape as Hash>⟧.hash_input y }
 {}
 
 /// `==` holds of two stages exactly when their values are equal, and the order says `Equal` exactly then.
@@ -97,7 +109,8 @@ pub fn shapes_compare_exactly()
 pub fn stages_compare_exactly()
     ensures equal { (x y : Stage) → IsTrue (⟦<Stage as PartialEq>⟧.eq x y) ↔ (x ≡ y) }
     ensures tied { (x y : Stage) → (⟦<Stage as Ord>⟧.cmp x y ≡ Equal) ↔ (x ≡ y) }
-    ensures hashed { (x y : Stage) → IsTrue (⟦<Stage as PartialEq>⟧.eq x y) → ⟦<Stage as Hash>⟧.hash_input x ≡ ⟦<Stage as Hash>⟧.hash_input y }
+    ensures hashed { (x y : Stage) → IsTrue (⟦<Stage as PartialEq>⟧.eq x y)
+        → ⟦<Stage as Hash>⟧.hash_input x ≡ ⟦<Stage as Hash>⟧.hash_input y }
 {
     spots_compare_exactly();
 }

@@ -16,9 +16,11 @@ use hub_profile::Profile;
 /// either some of the characters may have been added: those of the kept values first, then those of `ignore`, then those of
 /// `ignorenot`.
 pub fn mention(alphabet: &mut Alphabet, profile: &Profile) -> Result<(), AutomatonFault>
-    ensures ok { OnOk result (alphabet.new ≡ with_characters alphabet.old (mentioned_by profile.now)) }
+    ensures ok { OnOk result (alphabet.new
+        ≡ with_characters alphabet.old (mentioned_by profile.now)) }
     ensures mentioned { OnOk result (Mentions alphabet.new profile.now) }
-    ensures kept { OnOk result ((cs : List ℕ) → IsTrue (mentions alphabet.old cs) → IsTrue (mentions alphabet.new cs)) }
+    ensures kept { OnOk result ((cs : List ℕ) → IsTrue (mentions alphabet.old cs)
+        → IsTrue (mentions alphabet.new cs)) }
     ensures err { IfErr result (Refuses alphabet.old (mentioned_by profile.now)) }
     ensures partly { OnErr result (IsPartly alphabet.old (mentioned_by profile.now) alphabet.new) }
 {
@@ -30,9 +32,11 @@ pub fn mention(alphabet: &mut Alphabet, profile: &Profile) -> Result<(), Automat
 }
 
 fn mention_paths(alphabet: &mut Alphabet, paths: &[RelPath]) -> Result<(), AutomatonFault>
-    ensures ok { OnOk result (alphabet.new ≡ with_characters alphabet.old (flat_map path_characters paths.now)) }
+    ensures ok { OnOk result (alphabet.new
+        ≡ with_characters alphabet.old (flat_map path_characters paths.now)) }
     ensures err { IfErr result (Refuses alphabet.old (flat_map path_characters paths.now)) }
-    ensures partly { OnErr result (IsPartly alphabet.old (flat_map path_characters paths.now) alphabet.new) }
+    ensures partly { OnErr result (IsPartly alphabet.old
+        (flat_map path_characters paths.now) alphabet.new) }
 {
     for path in paths {
         alphabet.add_path(path)?;
@@ -41,9 +45,11 @@ fn mention_paths(alphabet: &mut Alphabet, paths: &[RelPath]) -> Result<(), Autom
 }
 
 fn mention_specs(alphabet: &mut Alphabet, specs: &[PathSpec]) -> Result<(), AutomatonFault>
-    ensures ok { OnOk result (alphabet.new ≡ with_characters alphabet.old (flat_map spec_characters specs.now)) }
+    ensures ok { OnOk result (alphabet.new
+        ≡ with_characters alphabet.old (flat_map spec_characters specs.now)) }
     ensures err { IfErr result (Refuses alphabet.old (flat_map spec_characters specs.now)) }
-    ensures partly { OnErr result (IsPartly alphabet.old (flat_map spec_characters specs.now) alphabet.new) }
+    ensures partly { OnErr result (IsPartly alphabet.old
+        (flat_map spec_characters specs.now) alphabet.new) }
 {
     for spec in specs {
         alphabet.add_spec(spec)?;

@@ -24,7 +24,8 @@ pub fn reaches(profile: &Profile, path: &RelPath) -> bool
 
 /// Whether a path lies at or below a kept value, and nothing between them is ignored.
 fn is_kept(profile: &Profile, path: &RelPath) -> bool
-    ensures { result ≡ list_any (λ s. is_over s path.now && is_open profile.now s path.now) profile.now.paths }
+    ensures { result ≡ list_any (λ s. is_over s path.now
+        && is_open profile.now s path.now) profile.now.paths }
 {
     profile
         .paths()
@@ -56,7 +57,8 @@ fn is_open(profile: &Profile, kept: &RelPath, path: &RelPath) -> bool
 /// `below` may be false where none in `ignore` matches the path, and then none is tried.
 fn is_ignored(profile: &Profile, path: &RelPath, len: usize, below: bool) -> bool
     requires within { len ≤ length path.now }
-    requires below { below ≡ false → list_any (λ s. is_below_kind s.kind && matches s path.now) profile.now.ignore ≡ false }
+    requires below { below ≡ false → list_any
+        (λ s. is_below_kind s.kind && matches s path.now) profile.now.ignore ≡ false }
     ensures { result ≡ is_ignored profile.now (take len path.now) }
 {
     is_matched(profile.ignore(), path, len, below)
@@ -82,7 +84,8 @@ fn is_matched_below(spec: &PathSpec, path: &RelPath) -> bool
 /// Whether one of these matches the path of the first `len` names. Each `BelowPath` is tried only if `below` says so.
 fn is_matched(specs: &[PathSpec], path: &RelPath, len: usize, below: bool) -> bool
     requires within { len ≤ length path.now }
-    requires below { below ≡ false → list_any (λ s. is_below_kind s.kind && matches s path.now) specs.now ≡ false }
+    requires below { below ≡ false → list_any
+        (λ s. is_below_kind s.kind && matches s path.now) specs.now ≡ false }
     ensures { result ≡ list_any (λ s. matches s (take len path.now)) specs.now }
 {
     any_matched(specs, path, len, below)
@@ -90,7 +93,8 @@ fn is_matched(specs: &[PathSpec], path: &RelPath, len: usize, below: bool) -> bo
 
 fn any_matched(specs: &[PathSpec], path: &RelPath, len: usize, below: bool) -> bool
     requires { len ≤ length path.now }
-    ensures { result ≡ list_any (λ s. (below || not (is_below_kind s.kind)) && matches s (take len path.now)) specs.now }
+    ensures { result ≡ list_any (λ s. (below || not (is_below_kind s.kind))
+        && matches s (take len path.now)) specs.now }
 {
     specs
         .iter()
@@ -99,7 +103,8 @@ fn any_matched(specs: &[PathSpec], path: &RelPath, len: usize, below: bool) -> b
 
 fn is_matched_front(spec: &PathSpec, path: &RelPath, len: usize, below: bool) -> bool
     requires { len ≤ length path.now }
-    ensures { result ≡ ((below || not (is_below_kind spec.now.kind)) && matches spec.now (take len path.now)) }
+    ensures { result ≡ ((below || not (is_below_kind spec.now.kind))
+        && matches spec.now (take len path.now)) }
 {
     match spec.kind() {
         Kind::BelowPath if !below => false,

@@ -36,7 +36,8 @@ impl Shape {
     /// The shape of the text with one more character, which may stand in a path's text.
     pub(crate) fn push(self, character: char) -> Shape
         requires { IsTrue (shape.is_text_character character) }
-        ensures { (t : List ℕ) → self ≡ shape.shape_of t → result ≡ shape.shape_of (t ++ character ∷ []) }
+        ensures { (t : List ℕ) → self ≡ shape.shape_of t
+            → result ≡ shape.shape_of (t ++ character ∷ []) }
     {
         self.pushed(character == '/', character == '.')
     }

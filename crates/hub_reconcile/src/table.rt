@@ -57,7 +57,8 @@ fn least_path<'a>(
 
 /// The path of the first Look.
 fn first_path<'a>(looks: &'a [Look<'a>]) -> Option<&'a RelPath>
-    ensures { option_map (λ p. p.now) result ≡ merge.first_of (merge.seen_paths (told_by looks.now)) }
+    ensures { option_map (λ p. p.now) result
+        ≡ merge.first_of (merge.seen_paths (told_by looks.now)) }
 {
     match looks {
         [first, ..] => Some(first.path),

@@ -90,8 +90,8 @@ pub(crate) fn put_archives(
 fn put_next(alloc: Global, state: &mut State, job: NextArchive<'_>) -> Result<(), AllocError>
     requires { spec.KeepsUnreached job }
     ensures replicas { OnOk result (state.new.replicas ≡ state.old.replicas) }
-    ensures marks { OnOk result
-        (spec.HasMarks (spec.mark_of_next job.entry.profile.now job.entry.next) state.old state.new) }
+    ensures marks { OnOk result (spec.HasMarks
+        (spec.mark_of_next job.entry.profile.now job.entry.next) state.old state.new) }
 {
     let NextArchive {
         profile,

@@ -49,7 +49,8 @@ fn seat_for<'a>(
 ) -> Result<Seat<'a>, AllocError>
     requires empty { empty.now ≡ fin.empty }
     requires trees { AreTrees (replicas_of state.now) trees.old.items }
-    ensures seat { IfOk result (λ s. IsNew number profile.now (archive_of state.now (Some profile.now)) s) }
+    ensures seat { IfOk result (λ s.
+        IsNew number profile.now (archive_of state.now (Some profile.now)) s) }
     ensures left { IfOk result
         (λ s. IsPlaced trees.new.items (root_at profile.now of_side.Left) s.left) }
     ensures right { IfOk result

@@ -103,7 +103,8 @@ pub fn a_run_leaves_others_alone()
         (log_of (run J js (opening J replicas))) }
     ensures elsewhere { (J : Jobs) (replicas : Path → Replica) (js : List ℕ) (j : ℕ) (P : Parts)
         (r : Path) → slice_get J.profiles j ≡ Some P → IsTrue (has_root P r)
-        → ElsewhereIsAsBefore J.profiles r (replicas r) ((run J js (opening J replicas)).replica r) }
+        → ElsewhereIsAsBefore J.profiles r (replicas r)
+        ((run J js (opening J replicas)).replica r) }
     ensures foreign { (J : Jobs) (replicas : Path → Replica) (js : List ℕ) (r : Path)
         → list_any (λ P. has_root P r) J.profiles ≡ false
         → (run J js (opening J replicas)).replica r ≡ replicas r }

@@ -85,7 +85,8 @@ fn take_turn(
     ensures stays { StayStopped (stopped_at seats.old.items) (stopped_at seats.new.items) }
     ensures others { (j : ℕ) → stopped_at seats.new.items j ≡ true
         → stopped_at seats.old.items j ≡ false → j ≡ number }
-    ensures idle { result ≡ false → (J : Jobs) (w : World) → IsTable J w seats.old.items trees.old.items
+    ensures idle { result ≡ false → (J : Jobs) (w : World)
+        → IsTable J w seats.old.items trees.old.items
         → IsIdle J w seats.new.items number }
     ensures placed { ArePlaced seats.new.items trees.new.items }
     ensures count { length seats.new.items ≡ length seats.old.items }

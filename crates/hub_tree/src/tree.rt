@@ -3,6 +3,7 @@ ghost use Rattle.std.specs.Option.{option_map};
 ghost use Rattle.std.specs.FinMap as fin;
 ghost use Rattle.hub_tree.specs.Tree as tree;
 
+use crate::blob::Blob;
 use crate::contents::{Contents, Mark};
 use crate::entries::Entries;
 use crate::fault::SetFault;
@@ -117,16 +118,26 @@ impl Tree {
         }
     }
 
-    /// The bytes of the file at the path, or `None` if there is no file.
-    pub fn bytes_at<'a>(&'a self, path: &RelPath) -> Option<&'a [u8]>
+    /// The bytes of the file at the path, with their digest, or `None` if there is no file.
+    pub fn blob_at<'a>(&'a self, path: &RelPath) -> Option<&'a Blob>
         ensures { option_map (λ b. b.now) result ≡ tree.bytes_at self.now path.now }
     {
         if path.len() == 0 {
             return None;
         }
         match node_at(&self.children, path, 0) {
-            Some(Node::File(blob)) => Some(blob.bytes()),
+            Some(Node::File(blob)) => Some(blob),
             Some(Node::Directory(_)) => None,
+            None => None,
+        }
+    }
+
+    /// The bytes of the file at the path, or `None` if there is no file.
+    pub fn bytes_at<'a>(&'a self, path: &RelPath) -> Option<&'a [u8]>
+        ensures { option_map (λ b. b.now) result ≡ tree.bytes_at self.now path.now }
+    {
+        match self.blob_at(path) {
+            Some(blob) => Some(blob.bytes()),
             None => None,
         }
     }

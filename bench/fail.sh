@@ -3,17 +3,20 @@
 # each of its writes failing. The answer should be `OutOfMemory`, `ReadFailed` or `WriteFailed`, and what was written before is a
 # prefix of the right text. Then it asks `test_states` two questions with each request for memory refused: where memory for a step
 # of a replica or an archive is refused, the later answers should be as if that step weren't there. Last it runs `hubsync` on a
-# bundle of two profiles with that state: there nothing stands before the line of the fault, and a failed write leaves a prefix. A
-# refused request for memory may instead stop a job, or refuse a thread. Then the status is 3. Where a job is stopped, the state is
-# what the other job leaves, with or without the one change of the job that was stopped.
+# bundle of two profiles with that state: there nothing stands before the line of the fault, and a failed write leaves a prefix.
+#
+# `hubsync` runs two jobs, each in a thread of its own, so its requests are numbered in each thread apart. A refused request of the
+# first thread gives the fault, unless it belongs to the start of a thread: then it should refuse the thread. A refused request of
+# a job should stop this job and no other. Both have status 3. Where a job is stopped, the state is what the other job leaves, with
+# or without the one change of the job that was stopped.
 #
 #     bench/fail.sh
 #
-# All must have been built, by `rt run` in crates/bench_state, crates/test_states and crates/hubsync. A C compiler is needed, since a
-# few lines of C take the place of the C library's `malloc`, `realloc`, `read` and `write`. For each kind of call a line gives the
-# number of runs, how many ended with the fault, how many with a stopped job, a refused thread or a refused step, and how many with the
-# right text.
-# The status is 1 if an answer is wrong.
+# All must have been built, by `rt run` in crates/bench_state, crates/test_states and crates/hubsync. A C compiler is needed, since
+# a few lines of C take the place of the C library's `malloc`, `calloc`, `realloc`, `read`, `write` and `pthread_create`. As many
+# runs go on at a time as there are processors, and a run that takes a minute is ended. For each kind of call a line gives the
+# number of runs, how many ended with the fault, how many with a refused thread, a stopped job or a refused step, and how many with
+# the right text. The status is 1 if an answer is wrong.
 set -euo pipefail
 top=$(dirname "$(dirname "$(readlink -f "${BASH_SOURCE[0]}")")")
 program=$top/crates/bench_state/out/bench_state
@@ -27,50 +30,103 @@ for built in "$program" "$questions" "$hubsync"; do
 done
 folder=$(mktemp -d)
 trap 'rm -rf "$folder"' EXIT
+lanes=$(nproc)
 
-# Has the call fail whose number is in FAIL_ALLOC, FAIL_READ or FAIL_WRITE, and says so on file 9.
+# Has the call fail whose number is in a variable, and says so on file 9. FAIL_ALLOC is for requests for memory of the first
+# thread, FAIL_ALLOC_A and FAIL_ALLOC_B are for those of the two that it starts, FAIL_READ and FAIL_WRITE for reads and writes. If
+# SAY_STARTS is there, it says the numbers of the first thread's requests that belong to the start of a thread: the last one before
+# the call, which the program makes for what the thread runs, and those of the C library in the call.
 cat >"$folder/failing.c" <<'C'
 #define _GNU_SOURCE
 #include <dlfcn.h>
 #include <errno.h>
+#include <pthread.h>
+#include <stdio.h>
 #include <stdlib.h>
 #include <unistd.h>
 
+struct job {
+    void *(*run)(void *);
+    void *with;
+    int number;
+};
+
+static struct job jobs[2];
+static int started;
+static __thread int own __attribute__((tls_model("initial-exec")));
+static long allocs[3], reads, writes;
+
+__attribute__((constructor)) static void begin(void) {
+    alarm(60);
+}
+
 static int fails(const char *name, long *calls) {
     const char *number = getenv(name);
-    long call = __atomic_add_fetch(calls, 1, __ATOMIC_RELAXED);
-    return number != NULL && atol(number) == call;
+    *calls += 1;
+    return number != NULL && atol(number) == *calls;
 }
 
-static void say(void) {
-    ssize_t (*next)(int, const void *, size_t) = dlsym(RTLD_NEXT, "write");
-    next(9, "failed\n", 7);
+static ssize_t say(const char *text, size_t count) {
+    static ssize_t (*next)(int, const void *, size_t);
+    if (next == NULL)
+        next = dlsym(RTLD_NEXT, "write");
+    return next(9, text, count);
 }
 
-static long allocs, reads, writes;
+static int refuses(void) {
+    static const char *const names[] = {"FAIL_ALLOC", "FAIL_ALLOC_A", "FAIL_ALLOC_B"};
+    if (!fails(names[own], &allocs[own]))
+        return 0;
+    say("failed\n", 7);
+    errno = ENOMEM;
+    return 1;
+}
 
 void *malloc(size_t size) {
-    void *(*next)(size_t) = dlsym(RTLD_NEXT, "malloc");
-    if (fails("FAIL_ALLOC", &allocs)) {
-        say();
-        return NULL;
-    }
-    return next(size);
+    static void *(*next)(size_t);
+    if (next == NULL)
+        next = dlsym(RTLD_NEXT, "malloc");
+    return refuses() ? NULL : next(size);
+}
+
+void *calloc(size_t count, size_t size) {
+    static void *(*next)(size_t, size_t);
+    if (next == NULL)
+        next = dlsym(RTLD_NEXT, "calloc");
+    return refuses() ? NULL : next(count, size);
 }
 
 void *realloc(void *block, size_t size) {
-    void *(*next)(void *, size_t) = dlsym(RTLD_NEXT, "realloc");
-    if (fails("FAIL_ALLOC", &allocs)) {
-        say();
-        return NULL;
-    }
-    return next(block, size);
+    static void *(*next)(void *, size_t);
+    if (next == NULL)
+        next = dlsym(RTLD_NEXT, "realloc");
+    return refuses() ? NULL : next(block, size);
+}
+
+static void *run_job(void *at) {
+    struct job *job = at;
+    own = job->number;
+    return job->run(job->with);
+}
+
+int pthread_create(pthread_t *thread, const pthread_attr_t *how, void *(*run)(void *), void *with) {
+    int (*next)(pthread_t *, const pthread_attr_t *, void *(*)(void *), void *) = dlsym(RTLD_NEXT, "pthread_create");
+    long number = allocs[0], result;
+    char line[24];
+    if (started == 2)
+        abort();
+    struct job *job = &jobs[started++];
+    *job = (struct job){run, with, started};
+    result = next(thread, how, run_job, job);
+    for (; getenv("SAY_STARTS") != NULL && number <= allocs[0]; number++)
+        say(line, (size_t)snprintf(line, sizeof line, "%ld\n", number));
+    return (int)result;
 }
 
 ssize_t read(int file, void *bytes, size_t count) {
     ssize_t (*next)(int, void *, size_t) = dlsym(RTLD_NEXT, "read");
     if (file == 0 && fails("FAIL_READ", &reads)) {
-        say();
+        say("failed\n", 7);
         errno = EIO;
         return -1;
     }
@@ -80,7 +136,7 @@ ssize_t read(int file, void *bytes, size_t count) {
 ssize_t write(int file, const void *bytes, size_t count) {
     ssize_t (*next)(int, const void *, size_t) = dlsym(RTLD_NEXT, "write");
     if (file == 1 && fails("FAIL_WRITE", &writes)) {
-        say();
+        say("failed\n", 7);
         errno = EIO;
         return -1;
     }
@@ -89,98 +145,136 @@ ssize_t write(int file, const void *bytes, size_t count) {
 C
 cc -O1 -shared -fPIC -o "$folder/failing.so" "$folder/failing.c" -ldl
 
-# Runs a program on an input with the N-th call failing, whose kind is the first word. Sets `status`, and `met` if there was such
-# a call.
+# Sets a variable to all that a file has.
+take() {
+    IFS= read -r -d '' "$1" <"$2" || true
+}
+
+# Runs a program on an input with a variable set, in the folder of the lane. Sets `status`, `answer` and `errors`, and `said` to
+# what was said on file 9.
 run() {
-    local kind=$1 number=$2 input=$3
-    shift 3
+    local -x "$1"
     status=0
-    env "$kind=$number" LD_PRELOAD="$folder/failing.so" "$@" <"$folder/$input" >"$folder/answer" 2>"$folder/errors" 9>"$folder/met" || status=$?
-    met=no
-    [ ! -s "$folder/met" ] || met=yes
+    LD_PRELOAD=$folder/failing.so "$3" <"$folder/$2" >"$lane/answer" 2>"$lane/errors" 9>"$lane/said" || status=$?
+    take answer "$lane/answer"
+    take errors "$lane/errors"
+    take said "$lane/said"
 }
 
-# Whether what was written is a prefix of the wanted text.
-is_prefix() {
-    cmp -s -n "$(wc -c <"$folder/answer")" "$folder/answer" "$folder/$1"
+# Each of the functions that follow sets `told` to a word for what a run told: `right` for the right text, `fault`, and so on.
+# It is `wrong` if the answer may not come.
+
+# `bench_state` tells the fault on standard error, and writes a prefix of the right text.
+judge_bench_state() {
+    told=wrong
+    if [ "$status" = 0 ] && [ "$answer" = "$text" ]; then
+        told=right
+    elif [ "$status" = 1 ] && [[ $errors == *"$fault"* && $text == "$answer"* ]]; then
+        told=fault
+    fi
 }
 
-# Whether `bench_state` told the fault on standard error, and wrote a prefix of the wanted text.
-bench_state_tells() {
-    [ "$status" = 1 ] && grep -q "$1" "$folder/errors" && is_prefix "$2"
-}
-
-# Whether `hubsync` wrote the line of the fault and nothing else, or a prefix of the wanted text if a write failed.
-hubsync_tells() {
-    local line
-    [ "$status" = 2 ] || return 1
-    case $1 in
-        OutOfMemory) line='fault: out of memory' ;;
-        ReadFailed) line='fault: bundle line 0: ReadFailed' ;;
-        *)
-            is_prefix "$2"
-            return
-            ;;
+# `hubsync` writes the line of the fault and nothing else, or a prefix of the right text if a write failed. A thread is refused by
+# the requests of its start and by no others. A job is stopped by its own requests.
+judge_hubsync() {
+    told=wrong
+    case $kind-$status in
+        *-0) [ "$answer" != "$safe" ] || told=right ;;
+        FAIL_ALLOC-2) [ "$answer" != $'fault: out of memory\n' ] || told=fault ;;
+        FAIL_READ-2) [ "$answer" != $'fault: bundle line 0: ReadFailed\n' ] || told=fault ;;
+        FAIL_WRITE-2) [[ $safe != "$answer"* ]] || told=fault ;;
+        FAIL_ALLOC-3) [ "$answer" != "$refused" ] || told=refused ;;
+        FAIL_ALLOC_A-3) [ "$answer" != "$stopped_a" ] || told=stopped ;;
+        FAIL_ALLOC_B-3) [ "$answer" != "$stopped_b" ] && [ "$answer" != "$stopped_late" ] || told=stopped ;;
     esac
-    cmp -s "$folder/answer" <(echo "$line")
+    if [ "$kind" = FAIL_ALLOC ] && is_of_start "$number"; then
+        [ "$told" = refused ] || told=wrong
+    elif [ "$told" = refused ]; then
+        told=wrong
+    fi
 }
 
-# Whether the answer is one of those in which a job was stopped or a thread was refused.
-has_stopped_job() {
-    local answer
-    [ "$status" = 3 ] || return 1
-    for answer in stopped-a stopped-b stopped-late refused; do
-        ! cmp -s "$folder/answer" "$folder/$answer" || return 0
-    done
-    return 1
+# Whether the request of the first thread with this number belongs to the start of a thread.
+is_of_start() {
+    [[ $starts == *$'\n'$1$'\n'* ]]
 }
 
-# Runs a program on an input with each call of a kind failing. Its answers should tell the fault, as the function says that
-# is given first, or be the wanted text. A refused request for memory may also stop a job, or refuse a thread.
+# `test_states` answers one line. The answer is one of those given, the first with ample memory, or it ends with the fault and no
+# answer.
+judge_question() {
+    told=wrong
+    if [ "$status" = 0 ] && [ "$answer" = "$first" ]; then
+        told=right
+    elif [ "$status" = 0 ] && [[ $answer == *$'\n' && $'\n'$answers == *$'\n'"$answer"* ]]; then
+        told=step
+    elif [ "$status" = 1 ] && [ -z "$answer" ] && [[ ${errors,,} =~ outofmemory|out\ of\ memory|memory\ allocation\ failed ]]; then
+        told=fault
+    fi
+}
+
+# Runs a program on an input with each call of a kind failing. Then the file `told` has the word of each run, and `runs` is their
+# number.
 fail_each() {
-    local tells=$1 program=$2 input=$3 wanted=$4 kind=$5 fault=$6 number=1 faults=0 stopped=0 unharmed=0
-    run "$kind" "$number" "$input" "$program"
-    while [ "$met" = yes ]; do
-        if [ "$status" = 0 ] && cmp -s "$folder/answer" "$folder/$wanted"; then
-            unharmed=$((unharmed + 1))
-        elif [ "$kind" = FAIL_ALLOC ] && has_stopped_job; then
-            stopped=$((stopped + 1))
-        elif "$tells" "$fault" "$wanted"; then
-            faults=$((faults + 1))
-        else
-            echo "bench/fail.sh: $(basename "$program"): $kind $number: status $status, $(head -c 200 "$folder/errors")" >&2
-            exit 1
-        fi
-        number=$((number + 1))
-        run "$kind" "$number" "$input" "$program"
+    local judge=$1 program=$2 input=$3 kind=$4 fault=$5 number lane begun=() each
+    for ((number = 1; number <= lanes; number++)); do
+        lane=$folder/lane$number
+        mkdir -p "$lane"
+        fail_in_lane &
+        begun+=($!)
     done
-    echo "$(basename "$program"): $kind: $((number - 1)) runs, $faults with $fault, $stopped with a stopped job or a refused thread, $unharmed with the right text"
+    for each in "${begun[@]}"; do
+        wait "$each" || touch "$folder/wrong"
+    done
+    [ ! -e "$folder/wrong" ] || exit 1
+    cat "$folder"/lane*/told >"$folder/told"
+    runs=$(wc -l <"$folder/told")
 }
 
-# Asks `test_states` a question with each request for memory refused. Its answer should be one of those given, the first with ample
-# memory, or it should end with the fault and no answer.
-fail_each_in_question() {
-    local question=$1 number=1 faults=0 steps=0 unharmed=0
+# Takes each so-many-th number, from the lane's own on, until there is no such call. Without a failing call the text is right.
+fail_in_lane() {
+    : >"$lane/told"
+    while [ ! -e "$folder/wrong" ]; do
+        run "$kind=$number" "$input" "$program"
+        "$judge"
+        if [ -z "$said" ]; then
+            [ "$told" = right ] || is_wrong
+            return 0
+        fi
+        [ "$told" != wrong ] || is_wrong
+        echo "$told" >>"$lane/told"
+        number=$((number + lanes))
+    done
+}
+
+# Ends the lane, and soon the others, since an answer is wrong.
+is_wrong() {
+    touch "$folder/wrong"
+    echo "bench/fail.sh: $(basename "$program"): $kind $number: status $status, ${errors:0:200}${answer:0:200}" >&2
+    exit 1
+}
+
+# How many runs told this word.
+count() {
+    grep -cx "$1" "$folder/told" || true
+}
+
+# Runs a program on an input with each call of a kind failing, and says what the answers told.
+say_each() {
+    fail_each "$@"
+    echo "$(basename "$2"): $4: $runs runs, $(count fault) with $5, $(count refused) with a refused thread," \
+        "$(count stopped) with a stopped job, $(count right) with the right text"
+}
+
+# Asks `test_states` a question with each request for memory refused. Its answers are given.
+say_each_in_question() {
+    local question=$1 first answers
     shift
     echo "$question" >"$folder/question"
-    printf '%s\n' "${@/#/$question => }" >"$folder/answers"
-    head -n 1 "$folder/answers" >"$folder/right"
-    run FAIL_ALLOC "$number" question "$questions"
-    while [ "$met" = yes ]; do
-        if [ "$status" = 0 ] && cmp -s "$folder/answer" "$folder/right"; then
-            unharmed=$((unharmed + 1))
-        elif [ "$status" = 0 ] && [ "$(wc -l <"$folder/answer")" = 1 ] && grep -qxF -f "$folder/answers" "$folder/answer"; then
-            steps=$((steps + 1))
-        elif [ "$status" = 1 ] && [ ! -s "$folder/answer" ] && grep -qiE 'OutOfMemory|out of memory|memory allocation failed' "$folder/errors"; then
-            faults=$((faults + 1))
-        else
-            echo "bench/fail.sh: $question: FAIL_ALLOC $number: status $status, $(head -c 200 "$folder/answer" "$folder/errors")" >&2
-            exit 1
-        fi
-        number=$((number + 1))
-        run FAIL_ALLOC "$number" question "$questions"
-    done
-    echo "test_states ${question%% *}: $((number - 1)) runs, $faults with the fault, $steps with a refused step, $unharmed with the right answer"
+    answers=$(printf '%s\n' "${@/#/$question => }")$'\n'
+    first="$question => $1"$'\n'
+    fail_each judge_question "$questions" question FAIL_ALLOC 'the fault'
+    echo "test_states ${question%% *}: $runs runs, $(count fault) with the fault, $(count step) with a refused step," \
+        "$(count right) with the right answer"
 }
 
 {
@@ -203,26 +297,35 @@ fail_each_in_question() {
 digest=$(printf hi | sha256sum | cut -d ' ' -f 1)
 sed 's|^replica /srv/spoke01$|&\nfile 6869 b|' "$folder/text" >"$folder/brought"
 sed "s|^end\$|file $digest b\n&|" "$folder/brought" >"$folder/after"
-{ printf 'safe\njob a finished\nskip Conflict a\njob b finished\nto /srv/spoke01 b\n'; cat "$folder/after"; } >"$folder/safe"
-printf 'safe\nrun fault: ThreadRefused\n' >"$folder/refused"
-{ printf 'safe\njob a stopped\njob b finished\nto /srv/spoke01 b\n'; cat "$folder/after"; } >"$folder/stopped-a"
-{ printf 'safe\njob a finished\nskip Conflict a\njob b stopped\n'; cat "$folder/text"; } >"$folder/stopped-b"
-{ printf 'safe\njob a finished\nskip Conflict a\njob b stopped\n'; cat "$folder/brought"; } >"$folder/stopped-late"
+safe=$(printf 'safe\njob a finished\nskip Conflict a\njob b finished\nto /srv/spoke01 b\n' && cat "$folder/after")$'\n'
+refused=$'safe\nrun fault: ThreadRefused\n'
+stopped_a=$(printf 'safe\njob a stopped\njob b finished\nto /srv/spoke01 b\n' && cat "$folder/after")$'\n'
+stopped_b=$(printf 'safe\njob a finished\nskip Conflict a\njob b stopped\n' && cat "$folder/text")$'\n'
+stopped_late=$(printf 'safe\njob a finished\nskip Conflict a\njob b stopped\n' && cat "$folder/brought")$'\n'
+take text "$folder/text"
 
-fail_each bench_state_tells "$program" text text FAIL_ALLOC OutOfMemory
-fail_each bench_state_tells "$program" text text FAIL_READ ReadFailed
-fail_each bench_state_tells "$program" text text FAIL_WRITE WriteFailed
+say_each judge_bench_state "$program" text FAIL_ALLOC OutOfMemory
+say_each judge_bench_state "$program" text FAIL_READ ReadFailed
+say_each judge_bench_state "$program" text FAIL_WRITE WriteFailed
 # The second answer is that where memory for the first step was refused, and so on.
 a=$(printf a | sha256sum | cut -d ' ' -f 1)
 abc=$(printf abc | sha256sum | cut -d ' ' -f 1)
-refused='memory allocation failed'
-fail_each_in_question 'tree set a d; set a/b f:abc; set a/c f:a; mark a/c; count; copy; swap; count; swap; count; mark a/b' \
+no_memory='memory allocation failed'
+say_each_in_question 'tree set a d; set a/b f:abc; set a/c f:a; mark a/c; count; copy; swap; count; swap; count; mark a/b' \
     "ok; ok; ok; $a; 3; ok; ok; 3; ok; 3; $abc" \
     "OutOfMemory; NoParent; NoParent; -; 0; ok; ok; 0; ok; 0; -" \
     "ok; OutOfMemory; ok; $a; 2; ok; ok; 2; ok; 2; -" \
     "ok; ok; OutOfMemory; -; 2; ok; ok; 2; ok; 2; $abc" \
-    "ok; ok; ok; $a; 3; $refused; ok; 0; ok; 3; $abc"
-fail_each_in_question 'archive set a/b d; mark a/b' 'ok; d' "$refused; -"
-fail_each hubsync_tells "$hubsync" bundle safe FAIL_ALLOC OutOfMemory
-fail_each hubsync_tells "$hubsync" bundle safe FAIL_READ ReadFailed
-fail_each hubsync_tells "$hubsync" bundle safe FAIL_WRITE WriteFailed
+    "ok; ok; ok; $a; 3; $no_memory; ok; 0; ok; 3; $abc"
+say_each_in_question 'archive set a/b d; mark a/b' 'ok; d' "$no_memory; -"
+
+# Each start of a thread makes two requests, as this run says: one of the program for what the thread runs, and one of the C library
+# for the table of the thread's own variables. So four refuse a thread.
+lane=$folder
+run SAY_STARTS=1 bundle "$hubsync"
+starts=$'\n'$said
+say_each judge_hubsync "$hubsync" bundle FAIL_ALLOC OutOfMemory
+say_each judge_hubsync "$hubsync" bundle FAIL_ALLOC_A OutOfMemory
+say_each judge_hubsync "$hubsync" bundle FAIL_ALLOC_B OutOfMemory
+say_each judge_hubsync "$hubsync" bundle FAIL_READ ReadFailed
+say_each judge_hubsync "$hubsync" bundle FAIL_WRITE WriteFailed

@@ -30,7 +30,7 @@ use Rattle.hub_schedule.proofs.Places.{has_own}
 use Rattle.hub_schedule.proofs.Promised.{listed, one_with}
 use Rattle.hub_schedule.proofs.Runnable.{have_replicas}
 use Rattle.hub_runner.specs.Ordered.{AreInOrder, AreNumbered, AreTreesOf, is_due, of_book, of_tree}
-use Rattle.hub_runner.specs.Settling.{AreDue, EndAsTheyAre, IsRight, OpensAs, books_at, end_value, history_at, history_or_none, log_at, log_or_nothing, places}
+use Rattle.hub_runner.specs.Settling.{AreCompared, AreDue, EndAsTheyAre, IsRight, OpensAs, books_at, end_value, history_at, history_or_none, log_at, log_or_nothing, places}
 use Rattle.hub_runner.proofs.Lists.{all_at, count_filter, count_map, found_first, is_only, map_at, mapped, one_value, only, passed, passes, same_place}
 use Rattle.hub_runner.proofs.Roots.{at_book, at_job}
 
@@ -259,3 +259,21 @@ module _ (S : State) (Ps : List Parts) (books : List BookValue) (jobs : List Job
       pub ends_for : (r : Result Outcome E) → IfOk r (λ o. o.jobs ≡ map ended_value ended) → IfOk r (EndAsTheyAre jobs)
       ends_for (Ok o) ends = end_as_they_are S Ps jobs due ended order o ends
       ends_for (Err e) ends = tt
+
+-- The same, where Qs are the profiles as the program reads them.
+module _ (S : State) {Qs Ps : List Parts} (value : Qs ≡ Ps) (books : List BookValue) (jobs : List JobValue) (compared : AreCompared S Ps books jobs) (facts : AreProfiles Ps) {trees : List WorkingTree} (are : AreTreesOf Qs books trees) {ended : List EndedJob} (order : AreInOrder (length Qs) jobs ended) where
+  their_trees : AreTreesOf Ps books trees
+  their_trees = subst (λ (Rs : List Parts). AreTreesOf Rs books trees) value are
+
+  their_order : AreInOrder (length Ps) jobs ended
+  their_order = subst (λ (n : ℕ). AreInOrder n jobs ended) (ap length value) order
+
+  pub fit_together : (Rs : List Parts) × (replica : Path → Replica) × AreEnded S Rs replica ended trees
+  fit_together = (Ps, (λ (r : Path). replay (replicas_of S r) (history_at books r)), are_ended S Ps books jobs compared.right trees their_trees compared.due ended their_order facts)
+
+  module _ {E : Type 0} (r : Result Outcome E) (ends : IfOk r (λ o. o.jobs ≡ map ended_value ended)) where
+    pub all_settle : IfOk r (λ o. (Rs : List Parts) (replica : Path → Replica) → HasReplicas S Rs → AreEnded S Rs replica ended trees → IsOutcomeWith S Rs (logs_in o) replica o) → IfOk r (Settles S Ps (history_at books))
+    all_settle outcome = settled_for S Ps books jobs compared.right trees their_trees E compared.there compared.due ended their_order facts r outcome ends
+
+    pub all_end : IfOk r (EndAsTheyAre jobs)
+    all_end = ends_for S Ps books jobs compared.right trees their_trees E compared.there compared.due ended their_order facts r ends

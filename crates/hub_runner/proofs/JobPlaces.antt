@@ -8,7 +8,7 @@ use Rattle.hub_path.specs.Path.{Path}
 use Rattle.hub_runner.specs.Settling.{places_at}
 use Rattle.hub_runner.proofs.Firsts.{IsFirst}
 
-abbrev Place : Type 0
+abbrev pub Place : Type 0
 Place = Path × Option ℕ
 
 -- The places of the jobs from j on.

@@ -2,9 +2,11 @@ pub mod Lists
 pub mod Roots
 pub mod Firsts
 pub mod JobPlaces
+pub mod RootPlaces
 pub mod Least
 pub mod OddJobs
 pub mod Found
+pub mod Splitting
 pub mod Differing
 pub mod Filling
 pub mod Trees

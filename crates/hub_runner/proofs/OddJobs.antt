@@ -1,8 +1,8 @@
 -- Numbers that are odd, by what is told of the jobs of one number.
-use Rattle.std.proofs.Common.{◌≡◌, ◌≢◌, ◌≤◌, ◌<◌, ◌+◌, inl, inr, List, length, Option, Some, None, ap, sym, ◌∙◌, subst, arith}
+use Rattle.std.proofs.Common.{◌≡◌, ◌≢◌, ◌≤◌, ◌<◌, ◌+◌, inl, inr, List, length, get_or, Option, Some, None, refl, ap, sym, ◌∙◌, subst, arith}
 use Rattle.std.specs.Prelude.{ℕ, ◌==◌, count_by, slice_get, MatchOption}
 use Rattle.std.proofs.lemmas.Bool.{cases_lt}
-use Rattle.std.proofs.lemmas.Option.{slice_get_within}
+use Rattle.std.proofs.lemmas.Option.{slice_get_read, slice_get_within}
 use Rattle.hub_profile.specs.Parts.{Parts}
 use Rattle.hub_tree.specs.Tree.{Archive}
 use Rattle.hub_state.specs.State.{State}
@@ -22,11 +22,14 @@ module _ (S : State) (Ps : List Parts) (jobs : List JobValue) where
   not_odd i j due h (inl x) = x.1 (due.1 j h)
   not_odd i j due h (inr x) = x.4 (due.0 x.0 x.1 x.2 (subst (λ n. n < i) (sym x.3) h))
 
-  pub lowest_here : (j : ℕ) → IsOdd S Ps jobs j → DueUpTo S Ps jobs j → IsLowestOdd S Ps jobs j
+  lowest_here : (j : ℕ) → IsOdd S Ps jobs j → DueUpTo S Ps jobs j → IsLowestOdd S Ps jobs j
   lowest_here j odd due = (odd, λ i h. not_odd j i due h)
 
-  -- the jobs of one profile's number
-  module _ (j : ℕ) (P : Parts) (O : Archive) (at : slice_get Ps j ≡ Some P) (archive : O ≡ archive_of S (Some P)) where
+  -- the jobs of one profile's number, and those of the numbers before it
+  module _ (j : ℕ) (due : DueUpTo S Ps jobs j) (inside : j < length Ps) {P : Parts} (read : P ≡ get_or Ps j P) {O : Archive} (archive : O ≡ archive_of S (Some P)) where
+    at : slice_get Ps j ≡ Some P
+    at = slice_get_read Ps (length Ps) j P refl inside read
+
     made : (J : JobValue) → J.number ≡ j → IsOf P O J → IsMadeFor S Ps J
     made J is of = (
       ap (slice_get Ps) is ∙ (at ∙ ap (λ (Q : Parts). Some Q) (sym of.0)),
@@ -39,28 +42,28 @@ module _ (S : State) (Ps : List Parts) (jobs : List JobValue) where
         let same : J.profile ≡ P = cc in
         (same, m.1 ∙ (ap (λ (Q : Parts). archive_of S (Some Q)) same ∙ sym archive))
 
-    made_more : AllAreOf P O jobs j → DueUpTo S Ps jobs j → (k : ℕ) (J : JobValue) → slice_get jobs k ≡ Some J → J.number < j + 1 → IsMadeFor S Ps J
-    made_more all due k J here h =
+    made_more : AllAreOf P O jobs j → (k : ℕ) (J : JobValue) → slice_get jobs k ≡ Some J → J.number < j + 1 → IsMadeFor S Ps J
+    made_more all k J here h =
         elim (cases_lt J.number j) [
           | inl less ↦ due.0 k J here less
           | inr more ↦ let is : J.number ≡ j = omega arith in made J is (all k J here is)
         ]
 
-    once_more : count_by (λ J. J.number == j) jobs ≡ 1 → DueUpTo S Ps jobs j → (i : ℕ) → i < j + 1 → count_by (λ J. J.number == i) jobs ≡ 1
-    once_more one due i h =
+    once_more : count_by (λ J. J.number == j) jobs ≡ 1 → (i : ℕ) → i < j + 1 → count_by (λ J. J.number == i) jobs ≡ 1
+    once_more one i h =
         elim (cases_lt i j) [
           | inl less ↦ due.1 i less
           | inr more ↦ let is : j ≡ i = omega arith in subst (λ n. count_by (λ J. J.number == n) jobs ≡ 1) is one
         ]
 
-    pub due_more : AllAreOf P O jobs j → count_by (λ J. J.number == j) jobs ≡ 1 → DueUpTo S Ps jobs j → DueUpTo S Ps jobs (j + 1)
-    due_more all one due = (made_more all due, once_more one due)
+    pub due_more : AllAreOf P O jobs j → count_by (λ J. J.number == j) jobs ≡ 1 → DueUpTo S Ps jobs (j + 1)
+    due_more all one = (made_more all, once_more one)
 
-    pub odd_by_one : OneIsNotOf P O jobs j → IsOdd S Ps jobs j
-    odd_by_one x = inr (x.0, x.1, x.2, x.3, λ m. x.4 (is_of x.1 x.3 m))
+    pub odd_by_one : OneIsNotOf P O jobs j → IsLowestOdd S Ps jobs j
+    odd_by_one x = lowest_here j (inr (x.0, x.1, x.2, x.3, λ m. x.4 (is_of x.1 x.3 m))) due
 
-    pub odd_by_count : count_by (λ J. J.number == j) jobs ≢ 1 → IsOdd S Ps jobs j
-    odd_by_count many = inl (slice_get_within Ps j P at, many)
+    pub odd_by_count : count_by (λ J. J.number == j) jobs ≢ 1 → IsLowestOdd S Ps jobs j
+    odd_by_count many = lowest_here j (inl (inside, many)) due
 
   -- numbers of no profile
   pub all_due : AllAreBelow jobs (length Ps) → DueUpTo S Ps jobs (length Ps) → AreDue S Ps jobs

@@ -1,6 +1,6 @@
 -- What is told of a settlement, and of its refusals.
-use Rattle.std.proofs.Common.{◌≡◌, List, [], ◌∷◌, Option, Some, None, Result, Ok, Err, IfOk, refl, sym, subst, arith}
-use Rattle.std.specs.Prelude.{ℕ, MatchOption}
+use Rattle.std.proofs.Common.{◌≡◌, List, [], ◌∷◌, Option, None, Result, Ok, Err, IfOk, refl, ap, sym, ◌∙◌, subst, arith}
+use Rattle.std.specs.Prelude.{ℕ, All}
 use Rattle.hub_path.specs.Path.{Path}
 use Rattle.hub_profile.specs.Parts.{Parts}
 use Rattle.hub_reach.specs.Safe.{Rule, IsSafe}
@@ -8,7 +8,7 @@ use Rattle.hub_state.specs.State.{State, IsState}
 use Rattle.hub_job.specs.declared.log.Entry.{Entry}
 use Rattle.hub_job.specs.declared.outcome.Outcome.{Outcome}
 use Rattle.hub_job.specs.declared.run_fault.RunFault.{RunFault}
-use Rattle.hub_job.specs.declared.run_fault.RunFault.TheVariants.{Mismatch}
+use Rattle.hub_job.specs.declared.run_fault.RunFault.TheVariants.{Mismatch, Stranger}
 use Rattle.hub_job.specs.JobValue.{JobValue}
 use Rattle.hub_history.specs.Book.{BookValue}
 use Rattle.hub_schedule.specs.Promise.{HasReplicas, IsAsPromised, Settles}
@@ -16,17 +16,27 @@ use Rattle.hub_schedule.specs.Refusals.{first_missing}
 use Rattle.hub_schedule.specs.Settled.{AreProfiles}
 use Rattle.hub_schedule.proofs.Runnable.{have_replicas}
 use Rattle.hub_schedule.proofs.Simulation.{IsStateFor, promise_none}
-use Rattle.hub_runner.specs.Settling.{AreCompared, AreDue, IsFirstWrong, IsUnsettled, history_at, history_shown, log_shown, places}
+use Rattle.hub_runner.specs.Settling.{AreCompared, AreDue, IsFirstWrong, IsLowestOdd, IsRight, IsUnsettled, history_at, history_shown, log_shown, places}
 
-pub mismatch_is : (S : State) (Ps : List Parts) (books : List BookValue) (jobs : List JobValue) (f : RunFault) (r : Path) (j : Option ℕ)
-    → first_missing S Ps ≡ None → AreDue S Ps jobs → IsFirstWrong S Ps books jobs (places Ps) (r, j) → f ≡ Mismatch r j (history_shown books r j) (log_shown Ps jobs r j) → IsUnsettled S Ps books jobs f
-mismatch_is S Ps books jobs f r j there due first e = subst (IsUnsettled S Ps books jobs) (sym e) (there, due, first, refl, refl)
+-- What is told of a comparison, where Qs are the profiles as the program reads them.
+module _ (S : State) {Qs Ps : List Parts} (value : Qs ≡ Ps) (books : List BookValue) (jobs : List JobValue) (none_missing : None ≡ first_missing S Qs) where
+  there : first_missing S Ps ≡ None
+  there = sym (none_missing ∙ ap (first_missing S) value)
 
-pub told_some : {A : Type 0} (N : Type 0) (Y : A → Type 0) (o : Option A) (a : A) → o ≡ Some a → MatchOption o N Y → Y a
-told_some N Y o a e h = subst (λ p. MatchOption p N Y) e h
+  pub stranger_is : (j : ℕ) → IsLowestOdd S Qs jobs j → IsUnsettled S Ps books jobs (Stranger j)
+  stranger_is j odd = (there, subst (λ (Rs : List Parts). IsLowestOdd S Rs jobs j) value odd)
 
-pub told_none : {A : Type 0} (N : Type 0) (Y : A → Type 0) (o : Option A) → o ≡ None → MatchOption o N Y → N
-told_none N Y o e h = subst (λ p. MatchOption p N Y) e h
+  module _ (none_odd : AreDue S Qs jobs) where
+    due : AreDue S Ps jobs
+    due = subst (λ (Rs : List Parts). AreDue S Rs jobs) value none_odd
+
+    pub mismatch_is : (f : RunFault) (r : Path) (j : Option ℕ) → IsFirstWrong S Ps books jobs (places Ps) (r, j) → f ≡ Mismatch r j (history_shown books r j) (log_shown Qs jobs r j) → IsUnsettled S Ps books jobs f
+    mismatch_is f r j first e =
+        let shown : f ≡ Mismatch r j (history_shown books r j) (log_shown Ps jobs r j) = e ∙ ap (λ (Rs : List Parts). Mismatch r j (history_shown books r j) (log_shown Rs jobs r j)) value in
+        subst (IsUnsettled S Ps books jobs) (sym shown) (there, due, first, refl, refl)
+
+    pub are_compared : All (IsRight S Ps books jobs) (places Ps) → AreCompared S Ps books jobs
+    are_compared right = record { there = there; due = due; right = right }
 
 abbrev pub Law : Type 0
 Law = (S : State) (Ps : List Parts) (Rs : List Rule) (histories : Path → List Entry) (o : Outcome) → IsState S → HasReplicas S Ps → AreProfiles Ps → IsSafe Ps Rs → Settles S Ps histories o

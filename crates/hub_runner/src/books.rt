@@ -16,10 +16,17 @@ pub(crate) fn only_book<'b, 'a>(books: &'b [Book<'a>], root: &Root) -> Option<&'
         (length (spec.books_at books.now root.now) ≢ 1)
         (λ b. spec.books_at books.now root.now ≡ b.now ∷ []) }
 {
-    if count_of_books(books, root) != 1 {
+    if !has_one_book(books, root) {
         return None;
     }
     first_book(books, root)
+}
+
+/// Returns whether a root has exactly one book.
+fn has_one_book(books: &[Book<'_>], root: &Root) -> bool
+    ensures { IsTrue result ↔ (length (spec.books_at books.now root.now) ≡ 1) }
+{
+    count_of_books(books, root) == 1
 }
 
 /// Returns how many books a root has.

@@ -1,5 +1,6 @@
 //! Entries of a job, in the history of a root and in the job's log.
-ghost use Rattle.std.specs.Prelude.{◌≡◌, IfOk};
+ghost use Rattle.std.specs.Prelude.{◌≡◌, [], map, replicate, IfOk};
+ghost use Rattle.std.specs.List.{range_with_len};
 ghost use Rattle.hub_profile.specs.Parts as of_profile;
 ghost use Rattle.hub_schedule.specs.History as spec;
 
@@ -7,6 +8,7 @@ use crate::lent::Lent;
 use hub_job::{Entry, Logged};
 use hub_path::{Root, Side};
 use hub_profile::Profile;
+use hub_text::Items;
 use std::alloc::{AllocError, Global};
 
 /// Borrows a job's entries in a history, in their order.
@@ -24,6 +26,36 @@ pub(crate) fn entries_of<'a>(
         }
     }
     Ok(entries)
+}
+
+/// Borrows the entries of each of the first `n` jobs in a history, in their order: the list at `j`
+/// is that of the job `j`. It goes through the history once.
+pub(crate) fn split_by_job<'a>(
+    alloc: Global,
+    history: &'a [Entry],
+    n: usize,
+) -> Result<Vec<Items<Lent<'a, Entry>>>, AllocError>
+    ensures { IfOk result (λ v. v.items
+        ≡ map (λ j. spec.entries_of j history.now) (range_with_len 0 n)) }
+{
+    let mut lists = empty_lists(alloc, n)?;
+    for entry in history {
+        if entry.job < n {
+            lists[entry.job].push(Lent::new(entry))?;
+        }
+    }
+    Ok(lists)
+}
+
+/// Makes so many lists, each empty.
+fn empty_lists<'a>(alloc: Global, n: usize) -> Result<Vec<Items<Lent<'a, Entry>>>, AllocError>
+    ensures { IfOk result (λ v. v.items ≡ replicate n []) }
+{
+    let mut lists = Vec::new(alloc);
+    for _ in 0..n {
+        lists.push(Items::new(alloc))?;
+    }
+    Ok(lists)
 }
 
 /// Borrows the entries of a job's log at a root, in their order.

@@ -1,5 +1,5 @@
 //! Numbers that no job has, or several have, or one that wasn't made for the set and the state.
-ghost use Rattle.std.specs.Prelude.{◌≡◌, ◌==◌, Some, count_by, MatchBool, MatchOption};
+ghost use Rattle.std.specs.Prelude.{◌≡◌, ◌==◌, ◌↔◌, Some, count_by, IsTrue, MatchBool, MatchOption};
 ghost use Rattle.std.specs.FinMap as fin;
 ghost use Rattle.hub_job.specs.Outcome as of_outcome;
 ghost use Rattle.hub_runner.specs.Odd as spec;
@@ -30,7 +30,7 @@ pub(crate) fn find_odd(
         if !are_of(tasks, number, profile, archive) {
             return Some(number);
         }
-        if count_of(tasks, number) != 1 {
+        if !has_one(tasks, number) {
             return Some(number);
         }
     }
@@ -49,11 +49,12 @@ fn archive_of<'a>(profile: &Profile, state: &'a State, empty: &'a Archive) -> &'
     }
 }
 
-/// Returns how many jobs have that number.
-fn count_of(tasks: &[Task<'_>], number: usize) -> usize
-    ensures { result ≡ count_by (λ J. J.number == number) tasks.now }
+/// Returns whether exactly one job has that number.
+fn has_one(tasks: &[Task<'_>], number: usize) -> bool
+    ensures { IsTrue result ↔ (count_by (λ J. J.number == number) tasks.now ≡ 1) }
 {
-    tasks.iter().filter(|task| task.number() == number).count()
+    let own = tasks.iter().filter(|task| task.number() == number);
+    own.count() == 1
 }
 
 /// Returns whether all jobs of that number were made for this profile and this archive.

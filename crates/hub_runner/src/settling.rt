@@ -75,23 +75,36 @@ fn settle_jobs<'a>(
     ensures valid { 0 < length set.now.profiles → IsState state.now }
     ensures profiles { AreProfiles set.now.profiles }
 {
-    if let Some(root) = find_missing(set.profiles(), state) {
+    compare(alloc, set, state, books.as_slice(), tasks.as_slice())?;
+    Ok(settle_all(alloc, set, state, books, tasks)?)
+}
+
+/// Compares books and jobs with each other, with the set and with the state.
+fn compare(
+    alloc: Global,
+    set: &ProfileSet,
+    state: &State,
+    books: &[Book<'_>],
+    tasks: &[Task<'_>],
+) -> Result<(), RunFault>
+    ensures compared { IfOk result (λ _. AreCompared state.now set.now.profiles
+        books.now tasks.now) }
+    ensures refused { IfErr result (IsUnsettled state.now set.now.profiles
+        books.now tasks.now) }
+    ensures valid { 0 < length set.now.profiles → IsState state.now }
+    ensures profiles { AreProfiles set.now.profiles }
+{
+    let profiles = set.profiles();
+    if let Some(root) = find_missing(profiles, state) {
         return Err(RunFault::MissingReplica { root: root.copy()? });
     }
-    if let Some(job) = find_odd(alloc, tasks.as_slice(), set.profiles(), state) {
+    if let Some(job) = find_odd(alloc, tasks, profiles, state) {
         return Err(RunFault::Stranger { job });
     }
-    if let Some((root, job)) = find_wrong(alloc, set, state, books.as_slice(), tasks.as_slice())? {
-        return Err(mismatch(
-            alloc,
-            set.profiles(),
-            books.as_slice(),
-            tasks.as_slice(),
-            root,
-            job,
-        )?);
+    if let Some((root, job)) = find_wrong(alloc, set, state, books, tasks)? {
+        return Err(mismatch(alloc, profiles, books, tasks, root, job)?);
     }
-    Ok(settle_all(alloc, set, state, books, tasks)?)
+    Ok(())
 }
 
 /// Puts together what books and jobs leave that fit together.

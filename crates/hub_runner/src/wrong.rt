@@ -7,7 +7,7 @@ ghost use Rattle.hub_schedule.specs.History as of_history;
 ghost use Rattle.hub_runner.specs.Settling as spec;
 
 use crate::books::{only_book, opens_as};
-use crate::entries::{entries_at, entries_of};
+use crate::entries::{entries_at, split_by_job};
 use crate::lent::Lent;
 use crate::task::Task;
 use hub_cert::ProfileSet;
@@ -109,15 +109,10 @@ fn find_wrong_at(
     if !opens_as(book, set, state) {
         return Ok(Some(None));
     }
-    for (job, profile) in set.profiles().iter().enumerate() {
-        if differs(
-            alloc,
-            book.history(),
-            log_of(tasks, job),
-            profile,
-            root,
-            job,
-        )? {
+    let profiles = set.profiles();
+    let lists = split_by_job(alloc, book.history(), profiles.len())?;
+    for (job, profile) in profiles.iter().enumerate() {
+        if differs(alloc, lists[job].as_slice(), tasks, profile, root, job)? {
             return Ok(Some(Some(job)));
         }
     }
@@ -136,27 +131,23 @@ pub(crate) fn log_of<'b>(tasks: &'b [Task<'_>], number: usize) -> &'b [Logged]
     &[]
 }
 
-/// Returns whether the profile has the root, and the job's entries in the history aren't those of its log there.
+/// Returns whether the profile has the root, and these entries aren't those of the job's log there.
 fn differs(
     alloc: Global,
-    history: &[Entry],
-    log: &[Logged],
+    done: &[Lent<'_, Entry>],
+    tasks: &[Task<'_>],
     profile: &Profile,
     root: &Root,
     job: usize,
 ) -> Result<bool, AllocError>
-    ensures { IfOk result (λ b. MatchBool b
-        (IsTrue (of_reach.has_root profile.now root.now)
-        × (of_history.entries_of job history.now
-        ≢ of_history.entries_at profile.now root.now log.now))
-        (IsTrue (of_reach.has_root profile.now root.now)
-        → of_history.entries_of job history.now
-        ≡ of_history.entries_at profile.now root.now log.now)) }
+    ensures { let logged = of_history.entries_at profile.now root.now (spec.log_at tasks.now job)
+        in IfOk result (λ b. MatchBool b
+        (IsTrue (of_reach.has_root profile.now root.now) × (done.now ≢ logged))
+        (IsTrue (of_reach.has_root profile.now root.now) → done.now ≡ logged)) }
 {
     if !profile.roots().iter().any(|own| own == root) {
         return Ok(false);
     }
-    let done = entries_of(alloc, history, job)?;
-    let logged = entries_at(alloc, profile, root, log)?;
-    Ok(!are_same(done.as_slice(), logged.as_slice()))
+    let logged = entries_at(alloc, profile, root, log_of(tasks, job))?;
+    Ok(!are_same(done, logged.as_slice()))
 }

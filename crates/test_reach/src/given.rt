@@ -1,23 +1,55 @@
-//! Profiles that the tests are given, and alphabets that mention them.
+//! The fields of questions: profiles, alphabets that mention them, paths and characters.
 ghost use Rattle.std.specs.Prelude.{IfOk};
 ghost use Rattle.hub_reach.specs.Mention.{Mentions};
 
-use hub_automaton::{Alphabet, AutomatonFault};
+use anyhow::{Context, Result};
+use hub_automaton::{Alphabet, Class};
 use hub_path::{Name, RelPath};
 use hub_profile::{Profile, read_profile};
-use hub_reach::{mention, reaches};
-use std::alloc::Global;
-use std::test::Fail;
+use hub_reach::mention;
+use std::alloc::{AllocError, Global};
 
-/// Reads the profile of these lines over the roots `/srv/hub` and `/srv/s1`.
-pub(crate) fn profile_of(alloc: Global, lines: &str) -> Result<Profile, Fail> {
-    let text = format!(in alloc; "root = /srv/hub\nroot = /srv/s1\n{lines}\n")?;
+/// Two fields.
+pub(crate) fn two(fields: &str) -> Result<(&str, &str)> {
+    fields.split_once(" | ").context("a field is missing")
+}
+
+/// Three fields.
+pub(crate) fn three(fields: &str) -> Result<(&str, &str, &str)> {
+    let (first, others) = two(fields)?;
+    let (second, third) = two(others)?;
+    Ok((first, second, third))
+}
+
+/// Reads the profile over the roots `/srv/hub` and `/srv/s1` of these lines, with `; ` between them.
+pub(crate) fn profile_of(alloc: Global, lines: &str) -> Result<Profile> {
+    read(alloc, profile_text(alloc, "", lines)?.as_str())
+}
+
+/// Reads the profile that ignores what these specifications match, with `; ` between them.
+pub(crate) fn profile_ignoring(alloc: Global, specs: &str) -> Result<Profile> {
+    read(alloc, profile_text(alloc, "ignore = ", specs)?.as_str())
+}
+
+/// The text of the profile with these lines, each with this before it.
+fn profile_text(alloc: Global, before: &str, lines: &str) -> Result<String, AllocError> {
+    let mut text = String::from_str(alloc, "root = /srv/hub\nroot = /srv/s1\n")?;
+    for line in lines.split("; ") {
+        if !line.is_empty() {
+            write!(text, "{before}{line}\n")?;
+        }
+    }
+    Ok(text)
+}
+
+/// Reads the profile of a text. A fault becomes an error here, once for all questions.
+fn read(alloc: Global, text: &str) -> Result<Profile> {
     let name = Name::read(alloc, "p")?;
     Ok(read_profile(alloc, name, text.as_bytes())?)
 }
 
 /// Makes an alphabet that mentions the characters of a profile.
-pub(crate) fn alphabet_of(alloc: Global, profile: &Profile) -> Result<Alphabet, AutomatonFault>
+pub(crate) fn alphabet_of(alloc: Global, profile: &Profile) -> Result<Alphabet>
     ensures { IfOk result (λ a. Mentions a profile.now) }
 {
     let mut alphabet = Alphabet::new(alloc)?;
@@ -25,9 +57,26 @@ pub(crate) fn alphabet_of(alloc: Global, profile: &Profile) -> Result<Alphabet, 
     Ok(alphabet)
 }
 
-/// Whether the profile of these lines reaches the path of that text.
-pub(crate) fn lines_reach(alloc: Global, lines: &str, path: &str) -> Result<bool, Fail> {
-    let profile = profile_of(alloc, lines)?;
+/// Makes an alphabet that mentions the characters of a path and a profile.
+pub(crate) fn alphabet_with(alloc: Global, path: &str, profile: &Profile) -> Result<Alphabet>
+    ensures { IfOk result (λ a. Mentions a profile.now) }
+{
     let path = RelPath::read(alloc, path)?;
-    Ok(reaches(&profile, &path))
+    let mut alphabet = Alphabet::new(alloc)?;
+    alphabet.add_path(&path)?;
+    mention(&mut alphabet, profile)?;
+    Ok(alphabet)
+}
+
+/// The first character of a field.
+pub(crate) fn character_of(field: &str) -> Result<char> {
+    field.chars().next().context("a character is missing")
+}
+
+/// The number of a class, or `none`.
+pub(crate) fn class_text(alloc: Global, class: Option<Class>) -> Result<String, AllocError> {
+    match class {
+        Some(class) => format!(in alloc; "{}", class.number()),
+        None => String::from_str(alloc, "none"),
+    }
 }

@@ -1,0 +1,108 @@
+//! Questions about automata of specifications.
+use crate::automaton::{Automaton, digit};
+use crate::given::{three, two};
+use anyhow::{Context, Result};
+use hub_automaton::{Class, SpecSet, Spots};
+use std::alloc::{AllocError, Global};
+
+/// Whether one of the specifications matches what has been read of a text, after each of its characters.
+pub(crate) fn walk(alloc: Global, fields: &str) -> Result<String> {
+    let (specs, text) = two(fields)?;
+    let automaton = Automaton::of_specs(alloc, specs)?;
+    Ok(automaton.walk(alloc, text)?)
+}
+
+/// The same as `walk`, by states that are written over others. The first of those is a state of another automaton.
+pub(crate) fn walk_in_place(alloc: Global, fields: &str) -> Result<String> {
+    let (specs, text) = two(fields)?;
+    let mut next = state_of(alloc, "Path a/*; BelowPath [a-c]?{x,y}", "a/b")?;
+    let automaton = Automaton::of_specs(alloc, specs)?;
+    Ok(automaton.walk_in_place(alloc, text, &mut next)?)
+}
+
+/// The state that a text leads to.
+fn state_of(alloc: Global, specs: &str, text: &str) -> Result<Spots> {
+    let automaton = Automaton::of_specs(alloc, specs)?;
+    Ok(automaton.state_after(text)?)
+}
+
+/// Whether two texts lead to the same state.
+pub(crate) fn kept(alloc: Global, fields: &str) -> Result<String> {
+    let (specs, first, second) = three(fields)?;
+    let automaton = Automaton::of_specs(alloc, specs)?;
+    let said = comparison(
+        &automaton.state_after(first)?,
+        &automaton.state_after(second)?,
+    );
+    Ok(String::from_str(alloc, said)?)
+}
+
+/// What `==` and `<` say of two states.
+fn comparison(one: &Spots, other: &Spots) -> &'static str {
+    match (one == other, one < other || other < one) {
+        (true, false) => "the same",
+        (false, true) => "not the same",
+        _ => "equal and in order, or neither",
+    }
+}
+
+/// How many words the start state has, and whether one of the specifications matches the empty text; or why there is no
+/// automaton.
+pub(crate) fn start(alloc: Global, specs: &str) -> Result<String> {
+    match Automaton::of_specs(alloc, specs) {
+        Ok(automaton) => Ok(start_text(alloc, &automaton.set)?),
+        Err(fault) => Ok(format!(in alloc; "{fault}")?),
+    }
+}
+
+fn start_text(alloc: Global, set: &SpecSet) -> Result<String, AllocError> {
+    let start = set.start()?;
+    format!(in alloc; "{} {}", start.len(), set.matched(&start))
+}
+
+/// Whether one of the specifications matches a text, from that number on and up to that one.
+pub(crate) fn range(alloc: Global, fields: &str) -> Result<String> {
+    let (specs, text, numbers) = three(fields)?;
+    let (from, to) = numbers_of(numbers)?;
+    let automaton = Automaton::of_specs(alloc, specs)?;
+    let state = automaton.state_after(text)?;
+    let matched = automaton.set.matched_in(&state, from, to);
+    Ok(format!(in alloc; "{matched}")?)
+}
+
+/// The two numbers of a range.
+fn numbers_of(field: &str) -> Result<(usize, usize)> {
+    let (from, to) = field.split_once(' ').context("a range has two numbers")?;
+    Ok((from.parse::<usize>()?, to.parse::<usize>()?))
+}
+
+/// For each class the one that is treated like it, as a digit.
+pub(crate) fn likes(alloc: Global, fields: &str) -> Result<String> {
+    let (specs, path) = two(fields)?;
+    let automaton = Automaton::with_path(alloc, path, specs)?;
+    Ok(likes_text(alloc, &automaton.set)?)
+}
+
+fn likes_text(alloc: Global, set: &SpecSet) -> Result<String, AllocError> {
+    let mut likes = String::new(alloc);
+    for number in 0..set.class_count() {
+        write!(likes, "{}", set.like(Class::new(number)).number())?;
+    }
+    Ok(likes)
+}
+
+/// For each class whether it leads alike with class 0 from the state of a text, as `0` and `1`.
+pub(crate) fn leads(alloc: Global, fields: &str) -> Result<String> {
+    let (specs, path, text) = three(fields)?;
+    let automaton = Automaton::with_path(alloc, path, specs)?;
+    let state = automaton.state_after(text)?;
+    Ok(leads_text(alloc, &automaton.set, &state)?)
+}
+
+fn leads_text(alloc: Global, set: &SpecSet, state: &Spots) -> Result<String, AllocError> {
+    let mut leads = String::new(alloc);
+    for number in 0..set.class_count() {
+        leads.push(digit(set.leads_alike(state, Class::new(number), Class::new(0))))?;
+    }
+    Ok(leads)
+}

@@ -1,0 +1,82 @@
+//! Questions about automata of paths.
+ghost use Rattle.std.specs.Prelude.{◌≡◌, ◌∷◌, [], true, IfOk};
+ghost use Rattle.hub_path.specs.Path.{text_of};
+ghost use Rattle.hub_automaton.specs.Spots.{is_covered, path_alternatives};
+
+use crate::automaton::Automaton;
+use crate::given::two;
+use anyhow::Result;
+use hub_automaton::laws::{
+    paths_mention_their_characters, texts_mention_what_their_names_do, what_is_added_is_mentioned,
+};
+use hub_automaton::{Alphabet, SpecSetBuilder};
+use hub_path::RelPath;
+use std::alloc::{AllocError, Global};
+
+/// The alphabet that mentions the characters of a path.
+fn alphabet_of(alloc: Global, path: &RelPath) -> Result<Alphabet>
+    ensures { IfOk result (λ a. is_covered a (path_alternatives (text_of path.now)) ≡ true) }
+{
+    paths_mention_their_characters();
+    texts_mention_what_their_names_do();
+    what_is_added_is_mentioned();
+    let mut alphabet = Alphabet::new(alloc)?;
+    alphabet.add_path(path)?;
+    let _valid = alphabet.count();
+    Ok(alphabet)
+}
+
+/// A builder that has collected a path.
+fn builder_of(alloc: Global, path: &RelPath) -> Result<SpecSetBuilder>
+    ensures { IfOk result (λ b. b ≡ path_alternatives (text_of path.now) ∷ []) }
+{
+    let mut builder = SpecSetBuilder::new(alloc);
+    builder.add_path(path)?;
+    Ok(builder)
+}
+
+/// The automaton of a path.
+fn automaton_of(alloc: Global, path: &RelPath) -> Result<Automaton> {
+    let alphabet = alphabet_of(alloc, path)?;
+    let set = builder_of(alloc, path)?.build(&alphabet)?;
+    Ok(Automaton { alphabet, set })
+}
+
+/// How many positions the automaton of a path has, and whether the path matches what has been read of a text, after each of
+/// its characters.
+pub(crate) fn path(alloc: Global, fields: &str) -> Result<String> {
+    let (path, text) = two(fields)?;
+    let automaton = automaton_of(alloc, &RelPath::read(alloc, path)?)?;
+    Ok(path_text(alloc, &automaton, text)?)
+}
+
+fn path_text(alloc: Global, automaton: &Automaton, text: &str) -> Result<String, AllocError> {
+    let matched = automaton.walk(alloc, text)?;
+    format!(in alloc; "{} {matched}", automaton.set.spot_count())
+}
+
+/// For each of these paths the fault of adding it, if there is one, and then how many have been added.
+pub(crate) fn paths(alloc: Global, paths: &str) -> Result<String> {
+    let mut builder = SpecSetBuilder::new(alloc);
+    let mut answers = Vec::new(alloc);
+    for path in paths.split("; ") {
+        answers.push(add(alloc, &mut builder, path)?)?;
+    }
+    Ok(answers.as_slice().join(alloc, ", ")?)
+}
+
+fn add(alloc: Global, builder: &mut SpecSetBuilder, path: &str) -> Result<String> {
+    let path = RelPath::read(alloc, path)?;
+    Ok(add_path(alloc, builder, &path)?)
+}
+
+fn add_path(
+    alloc: Global,
+    builder: &mut SpecSetBuilder,
+    path: &RelPath,
+) -> Result<String, AllocError> {
+    match builder.add_path(path) {
+        Ok(()) => format!(in alloc; "{}", builder.len()),
+        Err(fault) => format!(in alloc; "{fault} {}", builder.len()),
+    }
+}

@@ -16,13 +16,14 @@ use Rattle.hub_cert.specs.declared.fault.CheckFault.TheVariants as fault
 use Rattle.hub_search.specs.Search.{IsFirstFault}
 use Rattle.hub_state.specs.State.{State}
 use Rattle.hub_state.specs.Writing.{state_text}
-use Rattle.hubsync.specs.declared.sections.Contents.{Contents}
-use Rattle.hubsync.specs.declared.words.Question.{Question}
-use Rattle.hubsync.specs.declared.words.Question.TheVariants.{CheckWithState, Run, Check, Certify, Verify}
+use Rattle.hub_bundle.specs.declared.sections.Contents.{Contents}
+use Rattle.hub_bundle.specs.Sections.{Spells, members}
+use Rattle.hub_words.specs.declared.words.Question.{Question}
+use Rattle.hub_words.specs.declared.words.Question.TheVariants.{CheckWithState, Run, Check, Certify, Verify}
+use Rattle.hub_words.specs.Words.{Request, about, asked_of}
 use Rattle.hubsync.specs.declared.task.Task.{Task}
 use Rattle.hubsync.specs.declared.task.Task.TheVariants as task
 use Rattle.hubsync.specs.Refusal.{breach_text, name_at, refusal_line}
-use Rattle.hubsync.specs.Sections.{Spells, members}
 use Rattle.hubsync.specs.declared.report.Report.{Report}
 use Rattle.hubsync.specs.declared.report.Report.TheVariants.{Safe, Ran, NotRun, NoState, Verified, Certified, Refused, Reached, NotReached, NoProfile, BadPath, Unread, BadBundle, BadSection, OutOfMemory}
 use Rattle.hubsync.specs.Report.{IsText, IsRefusedFor, IsTold, IsTrueOf, Holds, SpellsSafe, SpellsUnsafe, SpellsVerified, SpellsReach, Serves, Answers, AnswersNothing, WritesText, status_of}
@@ -30,7 +31,6 @@ use Rattle.hubsync.specs.Runs.{HasRunAs, IsBelow, IsPrevented, IsRunOn, error_li
 use Rattle.hubsync.specs.Task.{AsksFor, task_of}
 use Rattle.hubsync.specs.declared.run.Run as run
 use Rattle.hubsync.specs.declared.run.RunError.{RunError}
-use Rattle.hubsync.specs.Words.{Request, about, asked_of}
 
 -- What holds of what an input says holds of the input.
 pub told-holds : (request : Request) (bytes : List ℕ) (c : Contents) (r : Report) → Spells bytes c → IsTold request c r → Holds request bytes r

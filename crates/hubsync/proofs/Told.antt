@@ -5,15 +5,15 @@ use Rattle.hub_path.specs.declared.fault.PathFault.TheVariants as path
 use Rattle.hub_cert.specs.Set.{Members}
 use Rattle.hub_cert.specs.Refused.{IsRefused}
 use Rattle.hub_cert.specs.declared.fault.CheckFault.{CheckFault}
-use Rattle.hubsync.specs.declared.sections.Contents.{Contents}
-use Rattle.hubsync.specs.declared.words.Question.{Question}
+use Rattle.hub_bundle.specs.declared.sections.Contents.{Contents}
+use Rattle.hub_bundle.specs.Sections.{members}
+use Rattle.hub_words.specs.declared.words.Question.{Question}
+use Rattle.hub_words.specs.Words.{Request, about}
 use Rattle.hubsync.specs.declared.report.Report.{Report}
 use Rattle.hubsync.specs.declared.report.Report.TheVariants.{Safe, Ran, NotRun, NoState, Verified, Certified, Refused, Reached, NotReached, NoProfile, BadPath, Unread, BadBundle, BadSection, OutOfMemory}
 use Rattle.hubsync.specs.declared.task.Task.{Task}
 use Rattle.hubsync.specs.Report.{HasBadPath, IsRefusal, IsTold, IsToldOfSet, says_read_failed}
-use Rattle.hubsync.specs.Sections.{members}
 use Rattle.hubsync.specs.Task.{AsksFor, task_of}
-use Rattle.hubsync.specs.Words.{Request, about}
 
 -- It was asked to do this.
 asks-for : (q : Question) (c : Contents) (to_do : Task) → task_of q c.state ≡ Some to_do → AsksFor (about q) c.state to_do

@@ -1,11 +1,5 @@
-pub mod Bundle
-pub mod Input
-pub mod Sections
 pub mod Refusal
 pub mod Task
 pub mod Runs
 pub mod Reached
 pub mod Report
-pub mod Examples
-pub mod Words
-pub mod WordsExamples

@@ -17,27 +17,27 @@ use Rattle.hub_cert.specs.declared.fault.CheckFault.{CheckFault}
 use Rattle.hub_cert.specs.declared.fault.CheckFault.TheVariants as fault
 use Rattle.hub_search.specs.Search.{IsFirstFault}
 use Rattle.hub_state.specs.Writing.{state_text}
-use Rattle.hubsync.specs.declared.input.TheConstants.{READ_TURNS}
-use Rattle.hubsync.specs.declared.input.InputFault.{InputFault}
-use Rattle.hubsync.specs.declared.input.InputFault.TheVariants as input
-use Rattle.hubsync.specs.declared.sections.Contents.{Contents}
-use Rattle.hubsync.specs.declared.sections.SectionFault.{SectionFault}
-use Rattle.hubsync.specs.declared.sections.SectionFault.TheVariants.{OfProfile, OfRules, OfState, OfCertificates}
+use Rattle.hub_bundle.specs.declared.input.TheConstants.{READ_TURNS}
+use Rattle.hub_bundle.specs.declared.input.InputFault.{InputFault}
+use Rattle.hub_bundle.specs.declared.input.InputFault.TheVariants as input
+use Rattle.hub_bundle.specs.declared.sections.Contents.{Contents}
+use Rattle.hub_bundle.specs.declared.sections.SectionFault.{SectionFault}
+use Rattle.hub_bundle.specs.declared.sections.SectionFault.TheVariants.{OfProfile, OfRules, OfState, OfCertificates}
+use Rattle.hub_bundle.specs.Bundle.{bundle_reading}
+use Rattle.hub_bundle.specs.Input.{says_failed}
+use Rattle.hub_bundle.specs.Sections.{Spells, HasFault, members}
+use Rattle.hub_words.specs.declared.words.Question.{Question}
+use Rattle.hub_words.specs.declared.words.Question.TheVariants.{Verify}
+use Rattle.hub_words.specs.Words.{Request}
+use Rattle.hub_words.specs.Words as question
 use Rattle.hubsync.specs.declared.report.Report.{Report}
 use Rattle.hubsync.specs.declared.report.Report.TheVariants.{Safe, Ran, NotRun, NoState, Verified, Certified, Refused, Reached, NotReached, NoProfile, BadPath, Unread, BadBundle, BadSection, OutOfMemory}
-use Rattle.hubsync.specs.declared.words.Question.{Question}
-use Rattle.hubsync.specs.declared.words.Question.TheVariants.{Verify}
 use Rattle.hubsync.specs.declared.task.Task.{Task}
 use Rattle.hubsync.specs.declared.task.Task.TheVariants as task
-use Rattle.hubsync.specs.Bundle.{bundle_reading}
-use Rattle.hubsync.specs.Input.{says_failed}
 use Rattle.hubsync.specs.Reached.{named}
 use Rattle.hubsync.specs.Runs.{HasRunAs, IsBelow, IsPrevented, error_line}
 use Rattle.hubsync.specs.Task.{AsksFor, LacksState, task_of}
 use Rattle.hubsync.specs.Refusal.{refusal_line}
-use Rattle.hubsync.specs.Sections.{Spells, HasFault, members}
-use Rattle.hubsync.specs.Words.{Request}
-use Rattle.hubsync.specs.Words as question
 
 -- The bytes are a bundle whose profiles and rules are a safe set, and this text is what is to follow `safe`: all of it,
 -- unless a call of the output failed, and then a prefix.

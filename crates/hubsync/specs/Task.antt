@@ -1,11 +1,11 @@
 -- What is to be done about a set.
 use Rattle.std.specs.Prelude.{◌≡◌, ℕ, Option, Some, None}
 use Rattle.hub_state.specs.State.{State}
+use Rattle.hub_words.specs.declared.words.Question.{Question}
+use Rattle.hub_words.specs.declared.words.Question.TheVariants.{CheckWithState, Run, Check, Certify, Verify}
+use Rattle.hub_words.specs.Words.{Request, about}
 use Rattle.hubsync.specs.declared.task.Task.{Task}
 use Rattle.hubsync.specs.declared.task.Task.TheVariants as task
-use Rattle.hubsync.specs.declared.words.Question.{Question}
-use Rattle.hubsync.specs.declared.words.Question.TheVariants.{CheckWithState, Run, Check, Certify, Verify}
-use Rattle.hubsync.specs.Words.{Request, about}
 
 -- What a question asks to do if the bundle has this state, or none. Without a command, the jobs are run by two workers if
 -- there is a state. A run without a state can't be done.

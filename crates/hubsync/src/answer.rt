@@ -1,17 +1,18 @@
 //! Finds the answer to an input.
 ghost use Rattle.std.specs.Prelude.{◌≡◌, ◌⊎◌, false, IfSome};
+ghost use Rattle.hub_bundle.specs.Bundle as bundle;
+ghost use Rattle.hub_words.specs.Words.{request_of};
 ghost use Rattle.hubsync.specs.Report as report;
-ghost use Rattle.hubsync.specs.Bundle as bundle;
-ghost use Rattle.hubsync.specs.Words.{request_of};
 
-use crate::bundle::{BundleFault, BundleLineFault, read_bundle};
-use crate::input::{InputFault, read_input};
 use crate::reach::report_on_reach;
 use crate::report::Report;
-use crate::sections::{Contents, ReadError, read_sections};
 use crate::verdict::report_on_set;
-use crate::words::Asked;
+use hub_bundle::{
+    BundleFault, BundleLineFault, Contents, InputFault, ReadError, read_bundle, read_input,
+    read_sections,
+};
 use hub_text::Watched;
+use hub_words::Asked;
 use std::alloc::Global;
 use std::io::Read;
 use std::sync::Wait;

@@ -3,10 +3,9 @@
 //!
 //! - [`serve_process`] does all that the process does between its arguments and its exit status, over any reader and
 //!   writer; its contract uses the words of `specs/Report.antt`.
-//! - It reads the words of the command line (`words`) and the input (`input`), cuts the input into sections (`bundle`) and
-//!   reads them (`sections`).
-//! - Then it makes the set of the profiles and rules, and checks it or verifies its certificates (`task`, `verdict`), or asks
-//!   one profile whether it reaches a path (`reach`).
+//! - The words of the command line are read by `hub_words`. The input is read by `hub_bundle`, with all of its sections.
+//! - The set of the profiles and rules is made, and is checked or its certificates are verified (`task`, `verdict`); or one
+//!   profile is asked whether it reaches a path (`reach`).
 //! - The jobs of a safe set are run on the bundle's state (`run`).
 //! - The answer (`answer`, `report`, `refusal`) is written as one line, as the certificates' text, or as `safe` and below it
 //!   what the jobs did and the state that they left.
@@ -15,19 +14,15 @@
 #![tactic(auto)]
 
 mod answer;
-mod bundle;
-mod input;
 pub mod laws;
 mod parts;
 mod reach;
 mod refusal;
 mod report;
 mod run;
-mod sections;
 mod serve;
 mod task;
 mod verdict;
-mod words;
 
 use hub_text::Watched;
 use serve::serve_process;

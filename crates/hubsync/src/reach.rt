@@ -1,11 +1,11 @@
 //! Whether a profile of a bundle reaches a path.
 ghost use Rattle.std.specs.Prelude.{◌≡◌, ◌⊎◌, false, Some, None, MatchOption};
+ghost use Rattle.hub_words.specs.Words as words;
 ghost use Rattle.hubsync.specs.Report as report;
 ghost use Rattle.hubsync.specs.Reached.{named};
-ghost use Rattle.hubsync.specs.Words as words;
 
 use crate::report::Report;
-use crate::sections::Contents;
+use hub_bundle::Contents;
 use hub_path::{PathFault, RelPath};
 use hub_profile::Profile;
 use hub_reach::reaches;

@@ -5,11 +5,9 @@ ghost use Rattle.hub_state.specs.Writing.{state_text};
 ghost use Rattle.hubsync.specs.Report as report;
 ghost use Rattle.hubsync.specs.Runs as runs;
 
-use crate::bundle::BundleLineFault;
-use crate::input::InputFault;
 use crate::parts::joined;
 use crate::run::{Run, RunError};
-use crate::sections::SectionFault;
+use hub_bundle::{BundleLineFault, InputFault, SectionFault};
 use hub_path::{Name, PathFault, Root};
 use hub_profile::ProfileFault;
 use hub_state::{StateFault, write_state};

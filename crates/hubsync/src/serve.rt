@@ -2,17 +2,15 @@
 ghost use Rattle.std.specs.Prelude.{◌≡◌, false, map, string_bytes, IfErr, IfOk};
 ghost use Rattle.std.specs.IoError.{error_kind};
 ghost use Rattle.std.specs.declared.io.ErrorKind.TheVariants as io_kind;
-ghost use Rattle.clap.specs.Words.{kind_of};
+ghost use Rattle.hub_words.specs.ClapWords.{kind_of};
+ghost use Rattle.hub_words.specs.Words.{asked_of, request_of};
 ghost use Rattle.hubsync.specs.Report.{Answers, AnswersNothing, Serves, WritesText};
-ghost use Rattle.hubsync.specs.Words.{asked_of, request_of};
 
 use crate::answer::report_on;
 use crate::laws::what_is_shown_is_not_safe;
 use crate::report::OUT_OF_MEMORY;
-use crate::words::{Asked, read_words};
-use clap::Error;
-use clap::error::ErrorKind;
 use hub_text::Watched;
+use hub_words::{Asked, Error, ErrorKind, read_words};
 use std::alloc::Global;
 use std::convert::AsStr;
 use std::io;

@@ -2,8 +2,8 @@
 ghost use Rattle.std.specs.Prelude.{◌≡◌};
 ghost use Rattle.hubsync.specs.Task as spec;
 
-use crate::words::Question;
 use hub_state::State;
+use hub_words::Question;
 
 /// How many workers run the jobs if the words name no command.
 const WORKERS: u8 = 2;

@@ -3,17 +3,17 @@ ghost use Rattle.std.specs.Prelude.{◌≡◌, ◌⊎◌, false, IfOk, IfErr, On
 ghost use Rattle.hub_cert.specs.Set.{Members, IsSafeSet};
 ghost use Rattle.hub_cert.specs.Refused.{IsRefused};
 ghost use Rattle.hub_search.specs.Search.{IsFirstFault};
+ghost use Rattle.hub_words.specs.Words.{about};
 ghost use Rattle.hubsync.specs.Report as report;
-ghost use Rattle.hubsync.specs.Words.{about};
 
 use crate::refusal::fault_line;
 use crate::report::Report;
 use crate::run::run_set;
-use crate::sections::Contents;
 use crate::task::Task;
-use crate::words::Question;
+use hub_bundle::Contents;
 use hub_cert::{Certificate, CheckFault, ProfileSet, verify, write_certificates};
 use hub_search::{certificates, check};
+use hub_words::Question;
 use std::alloc::Global;
 use std::sync::Wait;
 use std::thread::Threads;

@@ -1,9 +1,9 @@
 use Rattle.std.proofs.Common.{◌∙◌, ◌≡◌, ◌⊎◌, List, ap, inl, inr, refl, sym}
 use Rattle.hub_path.specs.declared.fault.PathFault.TheVariants as path
 use Rattle.hub_profile.specs.Parts.{Parts}
+use Rattle.hub_words.specs.Words.{reach}
 use Rattle.hubsync.specs.Reached.{named}
 use Rattle.hubsync.specs.Report.{HasBadPath}
-use Rattle.hubsync.specs.Words.{reach}
 use Rattle.hubsync.proofs.Told.{path-told}
 use Rattle.hubsync.proofs.reach.report_on_reach.Goals as goal
 

@@ -1,4 +1,4 @@
-use Rattle.hubsync.specs.Words.{request_of}
+use Rattle.hub_words.specs.Words.{request_of}
 use Rattle.hubsync.proofs.Answered.{memory-answers}
 use Rattle.hubsync.proofs.serve.answer.Goals as goal
 

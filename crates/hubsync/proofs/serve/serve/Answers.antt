@@ -1,6 +1,4 @@
-use Rattle.clap.specs.Words.{kind_of}
-use Rattle.clap.specs.declared.error.kind.ErrorKind.TheVariants.{OutOfMemory}
-use Rattle.hubsync.specs.Words.{request_of}
+use Rattle.hub_words.specs.Words.{request_of}
 use Rattle.hubsync.proofs.Answered.{serves-asked, serves-refused}
 use Rattle.hubsync.proofs.serve.serve.Goals as goal
 
@@ -8,4 +6,4 @@ pub returns-in-Ok : goal.returns-in-Ok
 returns-in-Ok g c = serves-asked c.what_is_shown_is_not_safe.ensures.overlap c.what_is_shown_is_not_safe.ensures.breach _ (request_of c.in-Ok.asked) _ _ _ _ _ _ c.in-Ok.ensures.ok c.answer.ensures
 
 pub returns-in-Err : goal.returns-in-Err
-returns-in-Err g c = serves-refused c.what_is_shown_is_not_safe.ensures.overlap c.what_is_shown_is_not_safe.ensures.breach (kind_of c.in-Err.error) OutOfMemory _ _ _ _ _ _ _ c.in-Err.ensures.err c.refuse.ensures.memory c.refuse.ensures.nothing
+returns-in-Err g c = serves-refused c.what_is_shown_is_not_safe.ensures.overlap c.what_is_shown_is_not_safe.ensures.breach _ _ _ _ _ _ _ _ _ c.in-Err.ensures.err c.refuse.ensures.memory c.refuse.ensures.nothing

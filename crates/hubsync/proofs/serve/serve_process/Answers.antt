@@ -1,6 +1,6 @@
 use Rattle.std.proofs.Common.{ap, map, string_bytes, Global}
+use Rattle.hub_words.specs.Words.{asked_of}
 use Rattle.hubsync.specs.Report.{Serves}
-use Rattle.hubsync.specs.Words.{asked_of}
 use Rattle.hubsync.proofs.Answered.{ok-holds, serves-same}
 use Rattle.hubsync.proofs.serve.serve_process.Goals as goal
 

@@ -1,5 +1,5 @@
 use Rattle.std.proofs.Common.{sym}
-use Rattle.hubsync.specs.Sections.{members}
+use Rattle.hub_bundle.specs.Sections.{members}
 use Rattle.hubsync.proofs.Told.{refusal-read, refusal-told}
 use Rattle.hubsync.proofs.verdict.report_on_set.Goals as goal
 

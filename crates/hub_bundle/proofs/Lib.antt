@@ -1,0 +1,3 @@
+pub mod InputFacts
+pub mod Lines
+pub mod Headings

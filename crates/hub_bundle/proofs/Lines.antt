@@ -1,0 +1,107 @@
+-- The lines of bytes, one at a time: what is left below the next one, and what a section has of it.
+use Rattle.std.proofs.Common.{◌≡◌, Bool, true, false, ℕ, ◌+◌, ◌<◌, ◌≤◌, List, [], ◌∷◌, ◌++◌, length, get_or, drop, take, Option, Some, None, refl, sym, ap, subst, ◌∙◌, arith, append_assoc, append-nil, length-append, ◌-◌}
+use Rattle.std.specs.Prelude.{if◌then◌else◌}
+use Rattle.std.specs.List.{list_all}
+use Rattle.std.proofs.lemmas.Bool.{eqb-true, false≢true}
+use Rattle.std.proofs.lemmas.List.{drop_all, drop_more, take_at}
+use denote.Ref.{Bor}
+use Rattle.hub_text.specs.declared.line.Line.{Line}
+use Rattle.hub_text.specs.Lines.{lines_of, line_text, onto_first_line}
+use Rattle.hub_text.specs.LineLaws.{text-first_line, shorter-first_line}
+use Rattle.hub_text.specs.Takes.{of_bytes, TakesBytes}
+use Rattle.hub_bundle.specs.Bundle.{is_blank, is_heading, follows_section, bytes_before_heading, written, stray_line}
+
+-- Bytes begin with a heading exactly when their first line is one.
+pub heading_line : (s t : List ℕ) (l : Line (List ℕ)) → lines_of s ≡ l ∷ lines_of t → is_heading l.text ≡ is_heading s
+heading_line s t l e = by l.text refl l.is_ended refl
+  where
+    spelled : (text : List ℕ) → l.text ≡ text → (ended : Bool) → l.is_ended ≡ ended → s ≡ (if ended then text ++ 10 ∷ [] else text) ++ t
+    spelled text f ended g = text-first_line s t l e ∙ (λ i. (if (g i) then f i ++ 10 ∷ [] else f i) ++ t)
+
+    by : (text : List ℕ) → l.text ≡ text → (ended : Bool) → l.is_ended ≡ ended → is_heading l.text ≡ is_heading s
+    by [] f true g = ap is_heading f ∙ sym (ap is_heading (spelled [] f true g))
+    by [] f false g = absurd (omega (arith, shorter-first_line s t l e, ap length (spelled [] f false g)))
+    by (b ∷ bs) f true g = ap is_heading f ∙ sym (ap is_heading (spelled (b ∷ bs) f true g))
+    by (b ∷ bs) f false g = ap is_heading f ∙ sym (ap is_heading (spelled (b ∷ bs) f false g))
+
+-- A heading ends a section, and so does the end of the bytes.
+pub nothing_before : (s : List ℕ) → follows_section s ≡ true → bytes_before_heading (lines_of s) ≡ []
+nothing_before [] h = refl
+nothing_before (b ∷ s) h = subst (λ c. bytes_before_heading (lines_of (c ∷ s)) ≡ []) (sym (eqb-true b 37 h)) (onto (lines_of s))
+  where
+    onto : (ls : List (Line (List ℕ))) → bytes_before_heading (onto_first_line 37 ls) ≡ []
+    onto [] = refl
+    onto (l ∷ ls) = refl
+
+-- What was skipped of a section, and what is left.
+pub record SkippedSoFar (all s : List ℕ) (count : ℕ) : Type 0 where
+  pub front : List ℕ
+  pub whole : all ≡ front ++ s
+  pub bytes : bytes_before_heading (lines_of all) ≡ front ++ bytes_before_heading (lines_of s)
+  pub below : (n : ℕ) → written n (lines_of all) ≡ written (n + count) (lines_of s)
+  pub fewer : count + length s ≤ length all
+
+pub skip_start : (all : List ℕ) → SkippedSoFar all all 0
+skip_start all = record {
+  front = [];
+  whole = refl;
+  bytes = refl;
+  below = λ n. let same : n ≡ n + 0 = omega arith in ap (λ k. written k (lines_of all)) same;
+  fewer = omega arith;
+}
+
+not_at_end : (s : List ℕ) → follows_section s ≡ false → is_heading s ≡ false
+not_at_end [] h = refl
+not_at_end (b ∷ s) h = h
+
+skip_line : (all s t : List ℕ) (count : ℕ) (l : Line (List ℕ)) → SkippedSoFar all s count → lines_of s ≡ l ∷ lines_of t → follows_section s ≡ false → SkippedSoFar all t (count + 1)
+skip_line all s t count l so_far e going =
+    let plain : is_heading l.text ≡ false = heading_line s t l e ∙ not_at_end s going in
+    let one : bytes_before_heading (lines_of s) ≡ line_text l ++ bytes_before_heading (lines_of t) = ap bytes_before_heading e ∙ rw plain refl in
+    let later : (n : ℕ) → written n (lines_of s) ≡ written (n + 1) (lines_of t) = λ n. ap (written n) e ∙ rw plain refl in
+    record {
+      front = so_far.front ++ line_text l;
+      whole = so_far.whole ∙ ap (λ u. so_far.front ++ u) (text-first_line s t l e) ∙ sym (append_assoc so_far.front (line_text l) t);
+      bytes = so_far.bytes ∙ ap (λ u. so_far.front ++ u) one ∙ sym (append_assoc so_far.front (line_text l) (bytes_before_heading (lines_of t)));
+      below = λ n. let same : n + count + 1 ≡ n + (count + 1) = omega arith in so_far.below n ∙ later (n + count) ∙ ap (λ k. written k (lines_of t)) same;
+      fewer = omega (arith, so_far.fewer, shorter-first_line s t l e);
+    }
+
+-- One more line.
+pub skip_more : (all s t : List ℕ) (count : ℕ) (r : Option (Line (Bor (List ℕ)))) → SkippedSoFar all s count → TakesBytes s r t → follows_section s ≡ false → SkippedSoFar all t (count + 1)
+skip_more all s t count None so_far none going = absurd (false≢true (sym going ∙ ap follows_section none))
+skip_more all s t count (Some l) so_far e going = skip_line all s t count (of_bytes l) so_far e going
+
+pub skip_less : (s t : List ℕ) (r : Option (Line (Bor (List ℕ)))) → TakesBytes s r t → follows_section s ≡ false → length t < length s
+skip_less s t None none going = absurd (false≢true (sym going ∙ ap follows_section none))
+skip_less s t (Some l) e going = shorter-first_line s t (of_bytes l) e
+
+-- All lines of the section.
+pub skip_end : (all s : List ℕ) (count : ℕ) → SkippedSoFar all s count → follows_section s ≡ true → all ≡ bytes_before_heading (lines_of all) ++ s
+skip_end all s count so_far over =
+    let none : bytes_before_heading (lines_of all) ≡ so_far.front ++ [] = so_far.bytes ∙ ap (λ u. so_far.front ++ u) (nothing_before s over) in
+    so_far.whole ∙ ap (λ u. u ++ s) (sym (append-nil so_far.front) ∙ sym none)
+
+-- The bytes of a section, from how many there are below its heading and how many are left.
+pub section_bytes : (t u : List ℕ) → t ≡ bytes_before_heading (lines_of t) ++ u → take (length t - length u) t ≡ bytes_before_heading (lines_of t)
+section_bytes t u e =
+    let len : length t - length u ≡ length (bytes_before_heading (lines_of t)) = omega (arith, ap length e, length-append (bytes_before_heading (lines_of t)) u) in
+    ap (take (length t - length u)) e ∙ take_at (bytes_before_heading (lines_of t)) u (length t - length u) (sym len)
+
+at_line : (ls : List (Line (List ℕ))) (k : ℕ) (l : Line (List ℕ)) → k < length ls → l ≡ get_or ls k l → drop k ls ≡ l ∷ drop (k + 1) ls
+at_line ls k l h e = drop_more ls k l h ∙ ap (λ x. x ∷ drop (k + 1) ls) (sym e)
+
+-- A blank line above all headings.
+pub blank_more : (ls : List (Line (List ℕ))) (k : ℕ) (l : Line (List ℕ)) → k < length ls → l ≡ get_or ls k l → is_heading l.text ≡ false → list_all is_blank l.text ≡ true
+    → stray_line (k + 1) (drop k ls) ≡ stray_line (k + 1 + 1) (drop (k + 1) ls)
+blank_more ls k l h e plain blank = ap (stray_line (k + 1)) (at_line ls k l h e) ∙ rw (plain, blank) refl
+
+pub stray_found : (ls : List (Line (List ℕ))) (k : ℕ) (l : Line (List ℕ)) → k < length ls → l ≡ get_or ls k l → is_heading l.text ≡ false → list_all is_blank l.text ≡ false
+    → stray_line (k + 1) (drop k ls) ≡ Some (k + 1)
+stray_found ls k l h e plain stray = ap (stray_line (k + 1)) (at_line ls k l h e) ∙ rw (plain, stray) refl
+
+pub no_stray : (ls : List (Line (List ℕ))) (k : ℕ) (l : Line (List ℕ)) → k < length ls → l ≡ get_or ls k l → is_heading l.text ≡ true → stray_line (k + 1) (drop k ls) ≡ None
+no_stray ls k l h e heading = ap (stray_line (k + 1)) (at_line ls k l h e) ∙ rw heading refl
+
+pub none_left : (ls : List (Line (List ℕ))) (k : ℕ) → length ls ≤ k → stray_line (k + 1) (drop k ls) ≡ None
+none_left ls k e = ap (stray_line (k + 1)) (drop_all k ls (omega (arith, e)))

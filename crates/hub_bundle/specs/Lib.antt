@@ -1,0 +1,4 @@
+pub mod Bundle
+pub mod Input
+pub mod Sections
+pub mod Examples

@@ -1,0 +1,25 @@
+//! Bundles: inputs with profiles, rules, a state and certificates, and what they say.
+//!
+//! - [`read_input`] reads all bytes of an input, in bounded reads.
+//! - [`read_bundle`] cuts bytes into [`Section`]s, each below its [`Heading`], or returns the first [`BundleLineFault`].
+//! - [`read_sections`] reads the sections, and returns their [`Contents`] or the first [`SectionFault`].
+//!
+//! ```text
+//! let bytes = read_input(alloc, &mut input)?;
+//! let sections = read_bundle(alloc, bytes.as_slice())?;
+//! let contents = read_sections(alloc, sections.as_slice())?;
+//! ```
+//!
+//! The contracts use the words of `specs/Input`, of `specs/Bundle` (which bytes are a bundle, what its sections are, and
+//! which fault comes first) and of `specs/Sections` (what sections say).
+//!
+//! Only functions that return a `Result` allocate.
+#![tactic(auto)]
+
+mod bundle;
+mod input;
+mod sections;
+
+pub use bundle::{BundleFault, BundleLineFault, Heading, Section, read_bundle};
+pub use input::{InputFault, READ_BYTES, READ_TURNS, read_input};
+pub use sections::{Contents, ReadError, SectionFault, read_sections};

@@ -1,0 +1,121 @@
+-- From what clap says of a parse to what the words ask for.
+use Rattle.std.proofs.Common.{◌≡◌, ◌∙◌, ◌⊎◌, ◌<◌, ◌^◌, inl, inr, ℕ, refl, sym, ap, ap₂, subst, arith, Bool, true, false, cond, true≢false, List, [], ◌∷◌, Option, Some, None, Result, Ok, Err, IfErr, IsErrAnd, codes, is_some, option_map, unwrap_or}
+use Rattle.std.specs.Prelude.{Box}
+use Rattle.std.specs.Box.{box_value}
+use Rattle.std.specs.Str.{bytes_eq}
+use Rattle.std.specs.Str.Parse.{IsNumeral, ParsesUnsigned, digits_value, without_leading_plus}
+use Rattle.clap.proofs.OnLiterals.{clap_on_literals}
+use Rattle.clap.proofs.ValueTestLemmas.{Accepts-accepts, accepts-Accepts}
+use Rattle.clap.proofs.WalkLemmas.{first_value-rows, one_text-rows}
+use Rattle.clap.specs.Kinds.{HasKind, Kinds}
+use Rattle.clap.specs.Matches.{ReadsOne}
+use Rattle.clap.specs.Simple.{subcommand_rows}
+use Rattle.clap.specs.ValueTests.{accepts}
+use Rattle.clap.specs.Words.{App, HasMatchesOf, Row, Text, fault_of, first_of, first_value, found_of, is_simple, is_simple_and_free, kind_of, one_of, one_text, rows_of, subcommand_name_of, subcommand_of, subcommand_rows_of}
+use Rattle.clap.specs.declared.builder.value_parser.ValueParser.TheVariants.{Unsigned}
+use Rattle.clap.specs.declared.error.Error.{Error}
+use Rattle.clap.specs.declared.error.kind.ErrorKind.TheVariants.{OutOfMemory}
+use Rattle.clap.specs.declared.parser.matches.ArgMatches.{ArgMatches}
+use Rattle.clap.specs.declared.parser.matches.ArgMatches.TheViews.{out-ArgMatches, out-SubCommand}
+use Rattle.clap.specs.declared.parser.matches.SubCommand.{SubCommand}
+use Rattle.hub_words.specs.declared.words.Question.TheVariants.{Run}
+use Rattle.hub_words.specs.Words.{Request, about, about_named, asked_of, byte_of, hubsync_app, operands_of, request_in, run_by, unless_fault}
+
+simple : is_simple hubsync_app ≡ true
+unfolding clap_on_literals hubsync_app
+simple = refl
+
+simple_and_free : is_simple_and_free hubsync_app ≡ true
+unfolding clap_on_literals hubsync_app
+simple_and_free = refl
+
+-- where a parse gives matches, they say what is asked for
+pub asked_is : (a : App) (words : List Text) (m : ArgMatches) (request : Option Request) → a ≡ hubsync_app
+    → (is_simple_and_free a ≡ true → fault_of a words ≡ []) → HasMatchesOf a words m
+    → request ≡ request_in (subcommand_rows_of m) → asked_of words ≡ request
+unfolding asked_of
+asked_is a words m request is faultless matches e =
+    let none : fault_of hubsync_app words ≡ [] = subst (λ (b : App). fault_of b words ≡ []) is (faultless (ap is_simple_and_free is ∙ simple_and_free)) in
+    let used : subcommand_rows_of m ≡ subcommand_of hubsync_app words = (matches (ap is_simple is ∙ simple)).1 ∙ ap (λ (b : App). subcommand_of b words) is in
+    ap₂ unless_fault none (sym (ap request_in used)) ∙ sym e
+
+-- where it gives none, memory ran out, or nothing is asked for
+pub refused : (a : App) (words : List Text) (e : Error) → a ≡ hubsync_app
+    → (is_simple_and_free a ≡ true → HasKind (fault_of a words) e) → (kind_of e ≡ OutOfMemory) ⊎ (asked_of words ≡ None)
+unfolding asked_of
+refused a words e is faults =
+    go (fault_of hubsync_app words) (request_in (subcommand_of hubsync_app words))
+    (subst (λ (b : App). HasKind (fault_of b words) e) is (faults (ap is_simple_and_free is ∙ simple_and_free)))
+  where
+    go : (kinds : Kinds) (request : Option Request) → HasKind kinds e → (kind_of e ≡ OutOfMemory) ⊎ (unless_fault kinds request ≡ None)
+    go [] request (inl h) = inl h
+    go [] request (inr h) = absurd h
+    go (k ∷ ks) request h = inr refl
+
+pub passed_up : {T E : Type 0} (r : Result T E) (e : E) (P : E → Type 0) → IsErrAnd r (λ y. y ≡ e) → P e → IfErr r P
+passed_up (Ok x) e P is p = tt
+passed_up (Err y) e P is p = subst P (sym is) p
+
+module _ {Z : Type 0} where
+  abbrev name_in : Box SubCommand Z → Text
+  name_in b = (out-SubCommand (box_value b)).name.now
+
+  parts : (used : Option (Box SubCommand Z)) (name : Text) (rows : List Row) → Some name ≡ option_map name_in used
+      → Some rows ≡ option_map (λ p. p.1) (subcommand_rows used) → subcommand_rows used ≡ Some (name, rows)
+  parts None name rows e h = absurd (true≢false (ap (λ (o : Option Text). is_some o) e))
+  parts (Some b) name rows e h =
+      let p : (out-SubCommand (box_value b)).name.now ≡ name = ap (λ (o : Option Text). unwrap_or o name) (sym e) in
+      let q : rows_of (found_of (out-SubCommand (box_value b)).matches) ≡ rows = ap (λ (o : Option (List Row)). unwrap_or o rows) (sym h) in
+      λ i. Some (p i, q i)
+
+-- what a command asks for, where this says whether it is `reach`
+abbrev by_name : Text → List Row → Bool → Option Request
+by_name name rows b = cond b (operands_of (first_of (codes "profile") rows) (first_of (codes "path") rows)) (about_named name (one_of (codes "workers") rows))
+
+-- the operands of `reach`, by the getters of the subcommand's matches
+pub reach_in : (m : ArgMatches) (name : Text) (o : ArgMatches) → Some name ≡ subcommand_name_of m
+    → Some (rows_of (found_of o)) ≡ option_map (λ p. p.1) (subcommand_rows_of m) → bytes_eq name (codes "reach") ≡ true
+    → request_in (subcommand_rows_of m) ≡ operands_of (first_value (found_of o) (codes "profile")) (first_value (found_of o) (codes "path"))
+reach_in m name o e h is =
+    ap request_in (parts (out-ArgMatches m).subcommand name (rows_of (found_of o)) e h)
+    ∙ ap (λ (b : Bool). by_name name (rows_of (found_of o)) b) is
+    ∙ ap₂ operands_of (sym (first_value-rows (found_of o) (codes "profile"))) (sym (first_value-rows (found_of o) (codes "path")))
+
+-- what a command without operands asks for
+pub about_in : (m : ArgMatches) (name : Text) (o : ArgMatches) → Some name ≡ subcommand_name_of m
+    → Some (rows_of (found_of o)) ≡ option_map (λ p. p.1) (subcommand_rows_of m) → bytes_eq name (codes "reach") ≡ false
+    → request_in (subcommand_rows_of m) ≡ about_named name (one_text (found_of o) (codes "workers"))
+about_in m name o e h is =
+    ap request_in (parts (out-ArgMatches m).subcommand name (rows_of (found_of o)) e h)
+    ∙ ap (λ (b : Bool). by_name name (rows_of (found_of o)) b) is
+    ∙ ap (about_named name) (sym (one_text-rows (found_of o) (codes "workers")))
+
+-- the text is read as a byte
+abbrev IsByte : Text → Type 0
+IsByte text = IsNumeral 10 (without_leading_plus text) × (digits_value 10 (without_leading_plus text) < 2 ^ 8)
+
+-- such a text says its number,
+byte-ok : (text : Text) (n : ℕ) → IsByte text × (n ≡ digits_value 10 (without_leading_plus text)) → byte_of text ≡ Some n
+byte-ok text n h =
+    let accepted : accepts false (Unsigned 0 255) text ≡ true = Accepts-accepts false (Unsigned 0 255) text (h.0.0, omega (arith, h.0.1), omega arith, omega (arith, h.0.1)) in
+    ap (λ (b : Bool). cond b (Some (digits_value 10 (without_leading_plus text))) None) accepted ∙ ap Some (sym h.1)
+
+-- and another one says none
+byte-err : (text : Text) → ¬ (IsByte text) → byte_of text ≡ None
+byte-err text h = go (accepts false (Unsigned 0 255) text) refl
+  where
+    go : (b : Bool) → accepts false (Unsigned 0 255) text ≡ b → byte_of text ≡ None
+    go false is = ap (λ (b : Bool). cond b (Some (digits_value 10 (without_leading_plus text))) None) is
+    go true is =
+        let p = accepts-Accepts false (Unsigned 0 255) text is in
+        absurd (h (p.0, omega (arith, p.3)))
+
+-- the number of workers, by the getter of the subcommand's matches
+pub run_asked : {E : Type 0} (P : Text → Result ℕ E → Type 0) → ((text : Text) (q : Result ℕ E) → P text q → ParsesUnsigned 8 10 text q)
+    → (o : Option Text) (r : Option ℕ) → (o ≡ None → r ≡ None) → ((text : Text) → o ≡ Some text → ReadsOne P text r)
+    → option_map (λ n. about (Run n)) r ≡ run_by o
+run_asked P parses None r none value = ap (option_map (λ n. about (Run n))) (none refl)
+run_asked P parses (Some text) (Some n) none value = ap (option_map (λ n. about (Run n))) (sym (byte-ok text n (parses text (Ok n) (value text refl))))
+run_asked P parses (Some text) None none value =
+    let e = value text refl in
+    ap (option_map (λ n. about (Run n))) (sym (byte-err text (parses text (Err e.0) e.1)))

@@ -1,0 +1,26 @@
+use Rattle.std.proofs.Common.{◌∙◌, codes, sym, ap, ap₂}
+use Rattle.std.proofs.lemmas.Bool.{not-false, not-true}
+use Rattle.clap.specs.Words.{found_of, first_value}
+use Rattle.hub_words.specs.Words.{operands_of}
+use Rattle.hub_words.proofs.WordsFacts.{about_in, reach_in}
+use Rattle.hub_words.proofs.words.asked_in.Goals as goal
+
+pub returns-then-ne : goal.returns-then-ne
+returns-then-ne c =
+    c.about.ensures ∙ sym (about_in c.args.matches.now c.in-Some.name.now c.in-Some.operands.now c.in-Some.ensures.name c.in-Some.ensures.rows (not-true _ (sym c.ne.ensures ∙ c.if-ne.true)))
+
+pub returns-in_err-profile : goal.returns-in_err-profile
+returns-in_err-profile c =
+    let path = first_value (found_of c.in-Some.operands.now) (codes "path") in
+    let asked = reach_in c.args.matches.now c.in-Some.name.now c.in-Some.operands.now c.in-Some.ensures.name c.in-Some.ensures.rows (not-false _ (sym c.ne.ensures ∙ c.if-ne.false)) in
+    rw c.from_residual.ensures (sym (asked ∙ ap (λ p. operands_of p path) (sym c.in_err-profile.ensures)))
+
+pub returns-in_err-path : goal.returns-in_err-path
+returns-in_err-path c =
+    let asked = reach_in c.args.matches.now c.in-Some.name.now c.in-Some.operands.now c.in-Some.ensures.name c.in-Some.ensures.rows (not-false _ (sym c.ne.ensures ∙ c.if-ne.false)) in
+    rw c.from_residual-in_err-path.ensures (sym (asked ∙ ap₂ operands_of (sym c.in_ok-profile.ensures) (sym c.in_err-path.ensures)))
+
+pub returns : goal.returns
+returns c =
+    let asked = reach_in c.args.matches.now c.in-Some.name.now c.in-Some.operands.now c.in-Some.ensures.name c.in-Some.ensures.rows (not-false _ (sym c.ne.ensures ∙ c.if-ne.false)) in
+    sym (asked ∙ ap₂ operands_of (sym c.in_ok-profile.ensures) (sym c.in_ok-path.ensures))

@@ -1,0 +1,97 @@
+-- What the words on the command line ask for.
+use Rattle.std.specs.Prelude.{ℕ, List, [], ◌∷◌, Option, Some, None, option_map, pos, codes, if◌then◌else◌, true}
+use Rattle.std.specs.Str.{bytes_eq}
+use Rattle.std.specs.Str.Parse.{digits_value, without_leading_plus}
+use Rattle.clap.specs.Kinds.{Kinds}
+use Rattle.clap.specs.Simple.{on_top}
+use Rattle.clap.specs.ValueTests.{is_unsigned_in}
+use Rattle.clap.specs.Words.{App, Row, Rule, Text, fault_of, first_of, new_app, new_rule, one_of, subcommand_of, with_rule, with_subcommand}
+use Rattle.clap.specs.declared.builder.value_parser.ValueParser.TheVariants.{Signed}
+use Rattle.hub_words.specs.declared.words.Asked.{Asked}
+use Rattle.hub_words.specs.declared.words.Asked.TheVariants.{About, Reach}
+use Rattle.hub_words.specs.declared.words.Question.{Question}
+use Rattle.hub_words.specs.declared.words.Question.TheVariants.{CheckWithState, Run, Check, Certify, Verify}
+
+-- a required operand
+abbrev pub operand : Text → Rule
+operand id = record (new_rule id) { value_names = 1; required = true }
+
+-- `reach PROFILE PATH`
+abbrev pub reach_app : App
+reach_app = with_rule (with_rule (new_app (codes "reach")) (operand (codes "profile"))) (operand (codes "path"))
+
+-- the option `--workers N`: a number from 0 to 255, and 2 if the words don't have it
+abbrev pub workers_option : Rule
+workers_option = record (new_rule (codes "workers")) {
+  long = Some (codes "workers");
+  value_names = 1;
+  parser = Some (Signed (pos 0) (pos 255));
+  defaults = codes "2" ∷ [];
+}
+
+-- `run [--workers N]`
+abbrev pub run_app : App
+run_app = with_rule (new_app (codes "run")) workers_option
+
+-- `hubsync`, which has a version
+abbrev pub top_app : App
+top_app = on_top (λ s. record s { has_version = true }) (new_app (codes "hubsync"))
+
+-- `hubsync` with the commands that have no operands
+abbrev pub about_app : App
+about_app =
+    with_subcommand (with_subcommand (with_subcommand top_app (new_app (codes "check")).top) (new_app (codes "certify")).top)
+    (new_app (codes "verify")).top
+
+-- the command as clap reads it
+unfoldable pub hubsync_app : App
+hubsync_app = with_subcommand (with_subcommand about_app reach_app.top) run_app.top
+
+-- what is asked for: something about the set of the profiles and rules, or whether a profile reaches a path
+pub data Request : Type 0 where
+  about : Question → Request
+  reach : Text → Text → Request
+
+abbrev pub request_of : Asked → Request
+request_of (About question) = about question
+request_of (Reach profile path) = reach profile.now path.now
+
+-- the operands PROFILE and PATH, if both are there
+abbrev pub operands_of : Option Text → Option Text → Option Request
+operands_of None path = None
+operands_of (Some profile) None = None
+operands_of (Some profile) (Some path) = Some (reach profile path)
+
+-- the number that a text says, if it is one from 0 to 255: decimal digits, perhaps behind a plus
+abbrev pub byte_of : Text → Option ℕ
+byte_of text = if is_unsigned_in 0 255 text then Some (digits_value 10 (without_leading_plus text)) else None
+
+-- a run by so many workers as the text says
+abbrev pub run_by : Option Text → Option Request
+run_by None = None
+run_by (Some text) = option_map (λ n. about (Run n)) (byte_of text)
+
+-- what a command without operands asks for, where this is the text of the option `--workers`
+abbrev pub about_named : Text → Option Text → Option Request
+about_named name workers =
+    if bytes_eq name (codes "check") then Some (about Check)
+    else (if bytes_eq name (codes "certify") then Some (about Certify)
+    else (if bytes_eq name (codes "verify") then Some (about Verify)
+    else (if bytes_eq name (codes "run") then run_by workers else None)))
+
+-- what the command that was used asks for, by its name and the rows of its operands and options
+abbrev pub request_in : Option (Text × List Row) → Option Request
+request_in None = Some (about CheckWithState)
+request_in (Some p) =
+    if bytes_eq p.0 (codes "reach") then operands_of (first_of (codes "profile") p.1) (first_of (codes "path") p.1)
+    else about_named p.0 (one_of (codes "workers") p.1)
+
+-- nothing is asked for if there is a fault
+abbrev pub unless_fault : Kinds → Option Request → Option Request
+unless_fault [] request = request
+unless_fault (kind ∷ kinds) request = None
+
+-- what the words ask for, of which the first is the program's name; nothing if clap finds a fault in them or a request
+-- for help or the version
+unfoldable pub asked_of : List Text → Option Request
+asked_of words = unless_fault (fault_of hubsync_app words) (request_in (subcommand_of hubsync_app words))

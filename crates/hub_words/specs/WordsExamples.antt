@@ -1,0 +1,142 @@
+-- Worked values of the words on the command line.
+use Rattle.std.specs.Prelude.{⊤, ◌≡◌, List, [], ◌∷◌, Option, Some, None, codes, refl}
+use Rattle.clap.proofs.OnLiterals.{clap_on_literals}
+use Rattle.clap.specs.Words.{Text}
+use Rattle.hub_words.specs.Words.{Request, about, asked_of, hubsync_app, reach}
+use Rattle.hub_words.specs.declared.words.Question.TheVariants.{CheckWithState, Run, Check, Certify, Verify}
+
+-- What these examples compute.
+computed : ⊤
+unfolding clap_on_literals asked_of hubsync_app
+computed = tt
+
+abbrev asked : List Text → Option Request
+asked words = asked_of (codes "hubsync" ∷ words)
+
+no_words : asked [] ≡ Some (about CheckWithState)
+unfolding computed
+no_words = refl
+
+the_reach_of_a_path : asked (codes "reach" ∷ codes "p" ∷ codes "a" ∷ []) ≡ Some (reach (codes "p") (codes "a"))
+unfolding computed
+the_reach_of_a_path = refl
+
+an_empty_operand : asked (codes "reach" ∷ codes "p" ∷ [] ∷ []) ≡ Some (reach (codes "p") [])
+unfolding computed
+an_empty_operand = refl
+
+a_hyphen_alone_is_an_operand : asked (codes "reach" ∷ codes "-" ∷ codes "a" ∷ []) ≡ Some (reach (codes "-") (codes "a"))
+unfolding computed
+a_hyphen_alone_is_an_operand = refl
+
+a_hyphen_after_two_hyphens : asked (codes "reach" ∷ codes "--" ∷ codes "-p" ∷ codes "a" ∷ []) ≡ Some (reach (codes "-p") (codes "a"))
+unfolding computed
+a_hyphen_after_two_hyphens = refl
+
+a_hyphen_with_none_before_it : asked (codes "reach" ∷ codes "-p" ∷ codes "a" ∷ []) ≡ None
+unfolding computed
+a_hyphen_with_none_before_it = refl
+
+two_hyphens_are_no_command : asked (codes "--" ∷ []) ≡ Some (about CheckWithState)
+unfolding computed
+two_hyphens_are_no_command = refl
+
+no_command_follows_two_hyphens : asked (codes "--" ∷ codes "reach" ∷ codes "p" ∷ codes "a" ∷ []) ≡ None
+unfolding computed
+no_command_follows_two_hyphens = refl
+
+a_missing_path : asked (codes "reach" ∷ codes "p" ∷ []) ≡ None
+unfolding computed
+a_missing_path = refl
+
+an_operand_too_many : asked (codes "reach" ∷ codes "p" ∷ codes "a" ∷ codes "b" ∷ []) ≡ None
+unfolding computed
+an_operand_too_many = refl
+
+the_check_by_its_name : asked (codes "check" ∷ []) ≡ Some (about Check)
+unfolding computed
+the_check_by_its_name = refl
+
+certificates : asked (codes "certify" ∷ []) ≡ Some (about Certify)
+unfolding computed
+certificates = refl
+
+certificates_of_the_bundle : asked (codes "verify" ∷ []) ≡ Some (about Verify)
+unfolding computed
+certificates_of_the_bundle = refl
+
+the_check_has_no_operands : asked (codes "check" ∷ codes "a" ∷ []) ≡ None
+unfolding computed
+the_check_has_no_operands = refl
+
+a_run_has_two_workers : asked (codes "run" ∷ []) ≡ Some (about (Run 2))
+unfolding computed
+a_run_has_two_workers = refl
+
+a_run_by_none : asked (codes "run" ∷ codes "--workers" ∷ codes "0" ∷ []) ≡ Some (about (Run 0))
+unfolding computed
+a_run_by_none = refl
+
+a_run_by_the_most : asked (codes "run" ∷ codes "--workers=255" ∷ []) ≡ Some (about (Run 255))
+unfolding computed
+a_run_by_the_most = refl
+
+a_number_may_begin_with_zeros : asked (codes "run" ∷ codes "--workers" ∷ codes "017" ∷ []) ≡ Some (about (Run 17))
+unfolding computed
+a_number_may_begin_with_zeros = refl
+
+a_number_may_have_a_plus : asked (codes "run" ∷ codes "--workers" ∷ codes "+3" ∷ []) ≡ Some (about (Run 3))
+unfolding computed
+a_number_may_have_a_plus = refl
+
+more_than_a_byte : asked (codes "run" ∷ codes "--workers" ∷ codes "256" ∷ []) ≡ None
+unfolding computed
+more_than_a_byte = refl
+
+fewer_than_none : asked (codes "run" ∷ codes "--workers" ∷ codes "-1" ∷ []) ≡ None
+unfolding computed
+fewer_than_none = refl
+
+fewer_than_none_behind_an_equals_sign : asked (codes "run" ∷ codes "--workers=-1" ∷ []) ≡ None
+unfolding computed
+fewer_than_none_behind_an_equals_sign = refl
+
+an_empty_number : asked (codes "run" ∷ codes "--workers=" ∷ []) ≡ None
+unfolding computed
+an_empty_number = refl
+
+an_empty_word_for_a_number : asked (codes "run" ∷ codes "--workers" ∷ [] ∷ []) ≡ None
+unfolding computed
+an_empty_word_for_a_number = refl
+
+no_number : asked (codes "run" ∷ codes "--workers" ∷ codes "x" ∷ []) ≡ None
+unfolding computed
+no_number = refl
+
+a_missing_number : asked (codes "run" ∷ codes "--workers" ∷ []) ≡ None
+unfolding computed
+a_missing_number = refl
+
+two_numbers : asked (codes "run" ∷ codes "--workers=1" ∷ codes "--workers=1" ∷ []) ≡ None
+unfolding computed
+two_numbers = refl
+
+workers_without_a_run : asked (codes "--workers" ∷ codes "2" ∷ []) ≡ None
+unfolding computed
+workers_without_a_run = refl
+
+an_unknown_command : asked (codes "go" ∷ []) ≡ None
+unfolding computed
+an_unknown_command = refl
+
+an_unknown_flag : asked (codes "-x" ∷ []) ≡ None
+unfolding computed
+an_unknown_flag = refl
+
+help_is_no_check : asked (codes "--help" ∷ []) ≡ None
+unfolding computed
+help_is_no_check = refl
+
+the_version_asks_for_nothing : asked (codes "--version" ∷ []) ≡ None
+unfolding computed
+the_version_asks_for_nothing = refl

@@ -1,0 +1,25 @@
+//! The words on the command line, and what they ask for.
+//!
+//! - [`read_words`] reads the words with `clap`, and returns what they ask for or `clap`'s [`Error`].
+//! - [`Asked`]: what words ask for, a [`Question`] about the set of a bundle's profiles and rules, or whether a profile
+//!   reaches a path.
+//!
+//! ```text
+//! match read_words(alloc, words) {
+//!     Ok(Asked::About(question)) => ..,
+//!     Ok(Asked::Reach { profile, path }) => ..,
+//!     Err(error) => rt.eprint(&error),
+//! }
+//! ```
+//!
+//! The contracts use the words of `specs/Words`, which defines the command in `clap`'s terms, and with that what each list of
+//! words asks for. No other crate uses `clap`: what a caller needs of it is exported here.
+//!
+//! Only functions that return a `Result` allocate.
+#![tactic(auto)]
+
+mod words;
+
+pub use clap::Error;
+pub use clap::error::ErrorKind;
+pub use words::{Asked, Question, read_words};

@@ -1,3 +1,4 @@
+pub mod FirstLines
 pub mod Answered
 pub mod Told
 pub mod Unsafe

@@ -3,7 +3,8 @@
 # each of its writes failing. The answer should be `OutOfMemory`, `ReadFailed` or `WriteFailed`, and what was written before is a
 # prefix of the right text. Then it asks `test_states` two questions with each request for memory refused: where memory for a step
 # of a replica or an archive is refused, the later answers should be as if that step weren't there. Last it runs `hubsync` on a
-# bundle of two profiles with that state: there nothing stands before the line of the fault, and a failed write leaves a prefix.
+# bundle of two profiles with that state: there nothing stands before the line of the fault, and a failed write leaves a prefix. It
+# refuses each request for memory in a second, small bundle, too: there each of the two jobs brings a file to the other side.
 #
 # `hubsync` runs two jobs, each in a thread of its own, so its requests are numbered in each thread apart. A refused request of the
 # first thread gives the fault, unless it belongs to the start of a thread: then it should refuse the thread. A refused request of
@@ -184,8 +185,8 @@ judge_hubsync() {
         FAIL_READ-2) [ "$answer" != $'fault: bundle line 0: ReadFailed\n' ] || told=fault ;;
         FAIL_WRITE-2) [[ $safe != "$answer"* ]] || told=fault ;;
         FAIL_ALLOC-3) [ "$answer" != "$refused" ] || told=refused ;;
-        FAIL_ALLOC_A-3) [ "$answer" != "$stopped_a" ] || told=stopped ;;
-        FAIL_ALLOC_B-3) [ "$answer" != "$stopped_b" ] && [ "$answer" != "$stopped_late" ] || told=stopped ;;
+        FAIL_ALLOC_A-3) [ "$answer" != "$stopped_a" ] && [ "$answer" != "$stopped_a_late" ] || told=stopped ;;
+        FAIL_ALLOC_B-3) [ "$answer" != "$stopped_b" ] && [ "$answer" != "$stopped_b_late" ] || told=stopped ;;
     esac
     if [ "$kind" = FAIL_ALLOC ] && is_of_start "$number"; then
         [ "$told" = refused ] || told=wrong
@@ -277,6 +278,19 @@ say_each_in_question() {
         "$(count right) with the right answer"
 }
 
+# Refuses each request for memory of a run of `hubsync`, in each of its threads. Each start of a thread makes two requests, as the
+# first run says: one of the program for what the thread runs, and one of the C library for the table of the thread's own
+# variables. So four refuse a thread.
+say_each_in_run() {
+    local thread
+    lane=$folder
+    run SAY_STARTS=1 "$1" "$hubsync"
+    starts=$'\n'$said
+    for thread in '' _A _B; do
+        say_each judge_hubsync "$hubsync" "$1" "FAIL_ALLOC$thread" OutOfMemory
+    done
+}
+
 {
     printf 'hubsync state 1\nreplica /srv/hub\ndir a\nfile - a/b\nfile 6869 a/c\ndir a/d\ndir a/d/e\n'
     seq -f 'file 6869 a/d/e/%02.0f' 40
@@ -301,7 +315,8 @@ safe=$(printf 'safe\njob a finished\nskip Conflict a\njob b finished\nto /srv/sp
 refused=$'safe\nrun fault: ThreadRefused\n'
 stopped_a=$(printf 'safe\njob a stopped\njob b finished\nto /srv/spoke01 b\n' && cat "$folder/after")$'\n'
 stopped_b=$(printf 'safe\njob a finished\nskip Conflict a\njob b stopped\n' && cat "$folder/text")$'\n'
-stopped_late=$(printf 'safe\njob a finished\nskip Conflict a\njob b stopped\n' && cat "$folder/brought")$'\n'
+stopped_a_late=$stopped_a
+stopped_b_late=$(printf 'safe\njob a finished\nskip Conflict a\njob b stopped\n' && cat "$folder/brought")$'\n'
 take text "$folder/text"
 
 say_each judge_bench_state "$program" text FAIL_ALLOC OutOfMemory
@@ -319,13 +334,32 @@ say_each_in_question 'tree set a d; set a/b f:abc; set a/c f:a; mark a/c; count;
     "ok; ok; ok; $a; 3; $no_memory; ok; 0; ok; 3; $abc"
 say_each_in_question 'archive set a/b d; mark a/b' 'ok; d' "$no_memory; -"
 
-# Each start of a thread makes two requests, as this run says: one of the program for what the thread runs, and one of the C library
-# for the table of the thread's own variables. So four refuse a thread.
-lane=$folder
-run SAY_STARTS=1 bundle "$hubsync"
-starts=$'\n'$said
-say_each judge_hubsync "$hubsync" bundle FAIL_ALLOC OutOfMemory
-say_each judge_hubsync "$hubsync" bundle FAIL_ALLOC_A OutOfMemory
-say_each judge_hubsync "$hubsync" bundle FAIL_ALLOC_B OutOfMemory
+say_each_in_run bundle
 say_each judge_hubsync "$hubsync" bundle FAIL_READ ReadFailed
 say_each judge_hubsync "$hubsync" bundle FAIL_WRITE WriteFailed
+
+# The text of a state: the names of the files that the hub has, those that the spoke has, and those of the archive. Each file has
+# its own name as its only byte.
+exchanged() {
+    local name
+    printf 'hubsync state 1\nreplica /srv/hub\n'
+    for name in $1; do printf 'file %x %s\n' "'$name" "$name"; done
+    echo 'replica /srv/s1'
+    for name in $2; do printf 'file %x %s\n' "'$name" "$name"; done
+    [ -z "$3" ] || printf 'archive /srv/hub\nwith /srv/s1\n'
+    for name in $3; do printf 'file %s %s\n' "$(printf %s "$name" | sha256sum | cut -d ' ' -f 1)" "$name"; done
+    echo end
+}
+{
+    printf '%%profile %s\nroot = /srv/hub\nroot = /srv/s1\npath = %s\n' a a b b
+    echo %state
+    exchanged a b ''
+} >"$folder/exchange"
+finished_a=$'job a finished\nto /srv/s1 a\n'
+finished_b=$'job b finished\nto /srv/hub b\n'
+safe=$'safe\n'$finished_a$finished_b$(exchanged 'a b' 'a b' 'a b')$'\n'
+stopped_a=$'safe\njob a stopped\n'$finished_b$(exchanged 'a b' b b)$'\n'
+stopped_a_late=$'safe\njob a stopped\n'$finished_b$(exchanged 'a b' 'a b' b)$'\n'
+stopped_b=$'safe\n'$finished_a$'job b stopped\n'$(exchanged a 'a b' a)$'\n'
+stopped_b_late=$'safe\n'$finished_a$'job b stopped\n'$(exchanged 'a b' 'a b' a)$'\n'
+say_each_in_run exchange

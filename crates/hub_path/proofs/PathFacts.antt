@@ -25,7 +25,7 @@ take-parent (n ∷ m ∷ p) =
     let less : suc (suc (length p)) - 1 ≡ suc (suc (length p) - 1) = omega arith in
     rw less (ap (λ q. n ∷ q) (take-parent (m ∷ p)))
 
-text_of-push : (ns : Path) (n : Name) → 0 < length ns → text_of (ns ++ n ∷ []) ≡ text_of ns ++ 47 ∷ n
+pub text_of-push : (ns : Path) (n : Name) → 0 < length ns → text_of (ns ++ n ∷ []) ≡ text_of ns ++ 47 ∷ n
 text_of-push [] n l = absurd (omega arith)
 text_of-push (m ∷ []) n l = refl
 text_of-push (m ∷ k ∷ ns) n l = ap (λ t. m ++ 47 ∷ t) (text_of-push (k ∷ ns) n (omega arith)) ∙ sym (append_assoc m (47 ∷ text_of (k ∷ ns)) (47 ∷ n))
@@ -90,6 +90,9 @@ no-path t i n l e bad =
     ∙ ap (λ b. cond b (Some (path_of t)) None) (and-false some))
 
 -- All parts.
+pub all-names : (all names : Path) (i : ℕ) → NamesSoFar all names i → i ≡ length all → names ≡ all
+all-names all names i so_far e = so_far.front ∙ take_all i all (omega (arith, e))
+
 pub whole-path : (t : List ℕ) (names : Path) (i : ℕ) → NamesSoFar (path_of t) names i → i ≡ length (path_of t) → (Some names ≡ path_in t) × IsTrue (is_path names)
 whole-path t names i so_far e =
     let whole : names ≡ path_of t = so_far.front ∙ take_all i (path_of t) (omega (arith, e)) in

@@ -8,3 +8,5 @@ pub mod ReadNames
 pub mod Ascii
 pub mod Hashes
 pub mod TextLaws
+pub mod Shared
+pub mod TextOrder

@@ -11,6 +11,7 @@ use std::cmp::Ordering;
 use std::fmt;
 use std::hash::{Hash, Hasher};
 use std::marker::Model;
+use std::sync::ArcStr;
 
 /// How many bytes of UTF-8 a name may have that `Name::read` reads: what common file systems allow (`NAME_MAX` of POSIX
 /// systems).
@@ -19,22 +20,23 @@ pub const NAME_BYTES: usize = 255;
 /// A name of a path: one or more characters, none of them NUL, CR, LF or `/`, and neither `.` nor `..`.
 ///
 /// POSIX allows no NUL and no `/` in a file's name, and `.` and `..` name directories that are there already. CR and LF
-/// are excluded because names are written in lines (this project's choice). A name keeps its text once. Names are
-/// compared by their characters, as numbers (Unicode scalar values), which is the order of their UTF-8 bytes.
+/// are excluded because names are written in lines (this project's choice). Names are compared by their characters, as
+/// numbers (Unicode scalar values), which is the order of their UTF-8 bytes. Copies of a name share its text.
 #[derive(Debug, Drop)]
 pub struct Name {
-    text: String,
+    text: ArcStr,
 }
 
 impl Model for Name {
-    ghost use Rattle.std.specs.Prelude.{List, ℕ, chars, string_bytes, IsTrue};
+    ghost use Rattle.std.specs.Prelude.{List, ℕ, chars, IsTrue};
+    ghost use Rattle.std.specs.Arc.{arc_str_bytes};
     ghost use Rattle.hub_path.specs.Path.{is_name};
 
     ghost Value = { List ℕ };
 
-    ghost view = { λ a. chars (string_bytes a.text) };
+    ghost view = { λ a. chars (arc_str_bytes a.text) };
 
-    ghost invariant = { λ a. IsTrue (is_name (chars (string_bytes a.text))) };
+    ghost invariant = { λ a. IsTrue (is_name (chars (arc_str_bytes a.text))) };
 }
 
 impl Name {
@@ -91,7 +93,7 @@ fn with_text(alloc: Global, text: &str) -> Result<Name, AllocError>
     ensures valid { IfOk result (λ n. IsTrue (path.is_name n)) }
 {
     Ok(Name {
-        text: String::from_str(alloc, text)?,
+        text: ArcStr::from_str(alloc, text)?,
     })
 }
 
@@ -188,7 +190,7 @@ impl PartialEq for Name {
     ghost laws = { Prim.search (comparing, rules) };
 
     fn eq(&self, other: &Name) -> bool {
-        self.text == other.text
+        self.text() == other.text()
     }
 }
 

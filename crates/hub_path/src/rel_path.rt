@@ -5,32 +5,70 @@ ghost use Rattle.hub_path.specs.Reading.{FailsAs, path_reading, names_reading, p
 use crate::fault::PathFault;
 use crate::name::Name;
 use crate::text::begins_with_slash;
-use hub_text::{Items, is_empty};
+use hub_text::is_empty;
 use std::alloc::{AllocError, Global};
+use std::cmp::Ordering;
+use std::hash::{Hash, Hasher};
 use std::marker::Model;
+use std::sync::Arc;
 
 /// How many names a path or a root may have that `read` reads (this project's choice).
 pub const PATH_NAMES: usize = 64;
 
 /// A path inside a replica: its names, from the top down. The path without names stands for the whole replica.
 ///
-/// Paths are compared name by name, and a prefix comes first: `a/b` is before `a-b`.
-#[derive(Debug, Drop, PartialEq, Eq, PartialOrd, Ord, Hash)]
+/// Paths are compared name by name, and a prefix comes first: `a/b` is before `a-b`. Copies of a path share its names and
+/// its text.
+#[derive(Debug, Drop)]
 pub struct RelPath {
-    names: Items<Name>,
+    alloc: Global,
+    shared: Option<Arc<Stored>>,
 }
 
 impl Model for RelPath {
     ghost use Rattle.std.specs.Prelude.{List, ℕ, IsTrue};
     ghost use Rattle.hub_path.specs.Path.{is_place};
+    ghost use Rattle.hub_path.specs.Shared.{shared_names};
 
     ghost Value = { List (List ℕ) };
 
-    ghost view = { λ a. a.names };
+    ghost view = { λ a. shared_names a.shared };
 
-    ghost inverse = { λ p. record { names = p } };
+    ghost invariant = { λ a. IsTrue (is_place (shared_names a.shared)) };
+}
 
-    ghost invariant = { λ a. IsTrue (is_place a.names) };
+/// The names of a path, and its text.
+#[derive(Debug, Drop)]
+struct Stored {
+    names: Vec<Name>,
+    text: String,
+}
+
+impl Model for Stored {
+    ghost use Rattle.std.specs.Prelude.{◌≡◌, List, ℕ, string_bytes, encode_utf8_all};
+    ghost use Rattle.hub_path.specs.Path.{text_of};
+
+    ghost Value = { List (List ℕ) };
+
+    ghost view = { λ a. a.names.items };
+
+    ghost invariant = { λ a. string_bytes a.text ≡ encode_utf8_all (text_of a.names.items) };
+}
+
+impl Stored {
+    /// Borrows the names.
+    fn names(&self) -> &[Name]
+        ensures { result.now ≡ self.now }
+    {
+        self.names.as_slice()
+    }
+
+    /// Borrows the text.
+    fn text(&self) -> &str
+        ensures { result.now ≡ encode_utf8_all (path.text_of self.now) }
+    {
+        self.text.as_str()
+    }
 }
 
 impl RelPath {
@@ -39,7 +77,8 @@ impl RelPath {
         ensures { result ≡ [] }
     {
         RelPath {
-            names: Items::new(alloc),
+            alloc,
+            shared: None,
         }
     }
 
@@ -60,9 +99,7 @@ impl RelPath {
         if begins_with_slash(text) {
             return Err(PathFault::LeadingSlash);
         }
-        Ok(RelPath {
-            names: Items::from_vec(read_names(alloc, text)?),
-        })
+        Ok(with_text(alloc, read_names(alloc, text)?, text)?)
     }
 
     /// Returns the path whose text this is, whatever its length, or `None` if the text is not the text of a path.
@@ -79,8 +116,7 @@ impl RelPath {
                 None => return Ok(None),
             }
         }
-        let names = Items::from_vec(names);
-        Ok(Some(RelPath { names }))
+        Ok(Some(with_text(alloc, names, text)?))
     }
 
     /// Writes the text of the path: its names joined by `/`, which is the text that the path was read from. The whole
@@ -88,7 +124,18 @@ impl RelPath {
     pub fn text(&self) -> Result<String, AllocError>
         ensures { IfOk result (λ t. string_bytes t ≡ encode_utf8_all (path.text_of self.now)) }
     {
-        joined(self.names.alloc(), self.names.as_slice())
+        String::from_str(self.alloc, self.as_str())
+    }
+
+    /// Borrows the text of the path, as `text` copies it.
+    pub fn as_str(&self) -> &str
+        ensures text { result.now ≡ encode_utf8_all (path.text_of self.now) }
+        ensures valid { IsTrue (path.is_place self.now) }
+    {
+        match &self.shared {
+            Some(shared) => shared.text(),
+            None => "",
+        }
     }
 
     /// Returns the number of names. The whole replica has 0.
@@ -96,8 +143,7 @@ impl RelPath {
         ensures len { result ≡ length self.now }
         ensures valid { IsTrue (path.is_place self.now) }
     {
-        let _names = &self.names;
-        self.names.len()
+        self.names().len()
     }
 
     /// Borrows the name at this place, counted from 0.
@@ -106,7 +152,7 @@ impl RelPath {
         ensures name { slice_get self.now i ≡ Some result.now }
         ensures valid { IsTrue (path.is_place self.now) }
     {
-        &self.names.as_slice()[i]
+        &self.names()[i]
     }
 
     /// Returns whether the given path is a prefix of this one, by names. Each path is a prefix of itself.
@@ -115,7 +161,7 @@ impl RelPath {
     pub fn starts_with(&self, prefix: &RelPath) -> bool
         ensures { result ≡ path.is_over prefix.now self.now }
     {
-        self.names.as_slice().starts_with(prefix.names.as_slice())
+        self.names().starts_with(prefix.names())
     }
 
     /// Copies the path without its last name. The parent of a path of one name is the whole replica, and the whole
@@ -124,11 +170,13 @@ impl RelPath {
         ensures none { IfOk result (λ p. IsNone p ↔ (self.now ≡ [])) }
         ensures parent { IfOk result (λ p. IfSome p (λ q. q ≡ path.parent self.now)) }
     {
-        match self.names.as_slice() {
+        match self.names() {
             [] => Ok(None),
-            [front @ .., _] => Ok(Some(RelPath {
-                names: Items::from_vec(copies(self.names.alloc(), front)?),
-            })),
+            [front @ .., _] => {
+                let text = joined(self.alloc, front)?;
+                let names = copies(self.alloc, front, front.len())?;
+                Ok(Some(sharing(self.alloc, Stored { names, text })?))
+            }
         }
     }
 
@@ -137,27 +185,80 @@ impl RelPath {
     pub fn child(&self, name: Name) -> Result<RelPath, AllocError>
         ensures { IfOk result (λ p. p ≡ self.now ++ name ∷ []) }
     {
-        let mut child = self.copy()?;
-        let _text = name.text();
-        child.names.push(name)?;
-        Ok(child)
+        let text = longer(self.alloc, self, name.text())?;
+        let mut names = copies(self.alloc, self.names(), self.len() + 1)?;
+        names.push(name)?;
+        sharing(self.alloc, Stored { names, text })
     }
 
     /// Copies the path.
     pub fn copy(&self) -> Result<RelPath, AllocError>
         ensures { IfOk result (λ p. p ≡ self.now) }
     {
-        Ok(RelPath {
-            names: Items::from_vec(copies(self.names.alloc(), self.names.as_slice())?),
-        })
+        match &self.shared {
+            Some(shared) => Ok(RelPath {
+                alloc: self.alloc,
+                shared: Some(Arc::try_clone(shared)?),
+            }),
+            None => Ok(RelPath::top(self.alloc)),
+        }
+    }
+
+    /// Borrows the names.
+    fn names(&self) -> &[Name]
+        ensures names { result.now ≡ self.now }
+        ensures valid { IsTrue (path.is_place self.now) }
+    {
+        match &self.shared {
+            Some(shared) => shared.names(),
+            None => &[],
+        }
     }
 }
 
-/// Copies names.
-fn copies(alloc: Global, names: &[Name]) -> Result<Vec<Name>, AllocError>
+/// Makes the path of these names.
+fn sharing(alloc: Global, stored: Stored) -> Result<RelPath, AllocError>
+    requires { IsTrue (path.is_place stored) }
+    ensures { IfOk result (λ p. p ≡ stored) }
+{
+    let shared = Arc::new(alloc, stored)?;
+    Ok(RelPath {
+        alloc,
+        shared: Some(shared),
+    })
+}
+
+/// Makes the path of these names, which are those of the text.
+fn with_text(alloc: Global, names: Vec<Name>, text: &str) -> Result<RelPath, AllocError>
+    requires place { IsTrue (path.is_place names.items) }
+    requires text { names.items ≡ path.path_of (chars text.now) }
+    ensures { IfOk result (λ p. p ≡ names.items) }
+{
+    let text = String::from_str(alloc, text)?;
+    sharing(alloc, Stored { names, text })
+}
+
+/// Makes the text of a path with one more name.
+fn longer(alloc: Global, front: &RelPath, name: &str) -> Result<String, AllocError>
+    ensures { (n : path.Name) → name.now ≡ encode_utf8_all n
+        → IfOk result (λ t. string_bytes t ≡ encode_utf8_all (path.text_of (front.now ++ n ∷ []))) }
+{
+    let text = front.as_str();
+    let capacity = text.len().saturating_add(name.len()).saturating_add(1);
+    let mut longer = String::with_capacity(alloc, capacity)?;
+    if front.len() > 0 {
+        longer.push_str(text)?;
+        longer.push('/')?;
+    }
+    longer.push_str(name)?;
+    Ok(longer)
+}
+
+/// Copies names into a vector with room for this many.
+fn copies(alloc: Global, names: &[Name], capacity: usize) -> Result<Vec<Name>, AllocError>
     ensures { IfOk result (λ v. v.items ≡ names.now) }
 {
-    let mut copies = Vec::with_capacity(alloc, names.len())?;
+    let mut copies = Vec::with_capacity(alloc, capacity)?;
     for name in names {
         copies.push(name.copy()?)?;
     }
@@ -173,9 +274,7 @@ pub(crate) fn read_place(alloc: Global, text: &str) -> Result<RelPath, PathFault
     if is_empty(text) {
         return Ok(RelPath::top(alloc));
     }
-    Ok(RelPath {
-        names: Items::from_vec(read_names(alloc, text)?),
-    })
+    Ok(with_text(alloc, read_names(alloc, text)?, text)?)
 }
 
 /// Reads the names of a text, which are joined by `/`.
@@ -193,6 +292,80 @@ fn read_names(alloc: Global, text: &str) -> Result<Vec<Name>, PathFault>
         names.push(name)?;
     }
     Ok(names)
+}
+
+/// A path is hashed as the list of its names is.
+impl Hash for RelPath {
+    ghost use Rattle.std.specs.Prelude.{encode_utf8_all};
+    ghost use Rattle.std.specs.Hash as fed;
+    ghost use Rattle.hub_path.specs.Hashes.{path_hashed};
+
+    ghost hash_input = { fed.slice (λ n. fed.str (encode_utf8_all n)) };
+
+    ghost respects_eq = { path_hashed };
+
+    fn hash<H: Hasher>(&self, state: &mut H) {
+        self.names().hash(state);
+    }
+}
+
+impl PartialEq for RelPath {
+    ghost use Rattle.std.specs.Prelude.{nat_eq};
+    ghost use Rattle.std.proofs.Common.{rules};
+    ghost use Rattle.std.specs.Cmp.Rules.{comparing};
+    ghost use Rattle.std.specs.Cmp.Lexicographic.{pointwise};
+
+    ghost eq = { pointwise (pointwise nat_eq) };
+
+    ghost laws = { Prim.search (comparing, rules) };
+
+    fn eq(&self, other: &RelPath) -> bool {
+        self.as_str() == other.as_str()
+    }
+}
+
+impl Eq for RelPath {
+    ghost use Rattle.std.proofs.Common.{rules};
+    ghost use Rattle.std.specs.Cmp.Rules.{comparing};
+
+    ghost laws = { Prim.search (comparing, rules) };
+}
+
+impl PartialOrd for RelPath {
+    ghost use Rattle.std.proofs.Common.{rules};
+    ghost use Rattle.std.specs.Cmp.Rules.{comparing};
+    ghost use Rattle.std.specs.Cmp.{partial_order_from_own_ties};
+    ghost use Rattle.std.specs.Ordering.{nat_cmp, as_partial_cmp};
+    ghost use Rattle.std.specs.Cmp.Lexicographic.{slice_cmp, lists_ties, texts_ties};
+
+    ghost partial_cmp = { as_partial_cmp (slice_cmp (slice_cmp nat_cmp)) };
+
+    ghost laws = { partial_order_from_own_ties
+        (Prim.search (comparing, rules))
+        (λ x y. lists_ties (slice_cmp nat_cmp) texts_ties x y) };
+
+    fn partial_cmp(&self, other: &RelPath) -> Option<Ordering> {
+        Some(self.cmp(other))
+    }
+}
+
+impl Ord for RelPath {
+    ghost use Rattle.std.proofs.Common.{rules};
+    ghost use Rattle.std.specs.Cmp.Rules.{comparing};
+    ghost use Rattle.std.specs.Ordering.{nat_cmp};
+    ghost use Rattle.std.specs.Cmp.Lexicographic.{slice_cmp, lists_ties, texts_ties};
+
+    ghost cmp = { slice_cmp (slice_cmp nat_cmp) };
+
+    ghost total = { Prim.search (comparing, rules) };
+
+    ghost matches_partial_cmp = { Prim.search (comparing, rules) };
+
+    ghost matches_eq = { λ x y. lists_ties (slice_cmp nat_cmp) texts_ties x y };
+
+    fn cmp(&self, other: &RelPath) -> Ordering {
+        self.names().cmp(other.names())
+    }
 }
 
 /// Joins names by `/`.

@@ -49,7 +49,7 @@ next_apart : (s c : ℕ) (bs : List ℕ) → s < 128 → list_all (is_apart s) b
 next_apart s c bs l e = more_apart s (next c) bs l (omega arith) e
 
 -- The bytes of a character are none of an ASCII one.
-encode-apart : (s c : ℕ) → s < 128 → (c == s) ≡ false → list_all (is_apart s) (encode_utf8 c) ≡ true
+pub encode-apart : (s c : ℕ) → s < 128 → (c == s) ≡ false → list_all (is_apart s) (encode_utf8 c) ≡ true
 unfolding encode
 encode-apart s c l h =
     let one = next_apart s c [] l refl in

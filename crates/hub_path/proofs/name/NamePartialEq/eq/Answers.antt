@@ -1,8 +1,10 @@
 use Rattle.std.proofs.Common.{◌∙◌}
-use Rattle.std.proofs.lemmas.Str.{IsUtf8-string_bytes}
 use Rattle.hub_text.specs.Texts.{same_texts}
+use Rattle.hub_path.specs.NameFacts.{name_chars}
 use Rattle.hub_path.proofs.name.NamePartialEq.eq.Goals as goal
 
 pub returns : goal.returns
 returns c =
-    rw (← c.self.view_is, ← c.other.view_is) (c.eq.ensures ∙ same_texts _ _ (IsUtf8-string_bytes c.self.inside.text) (IsUtf8-string_bytes c.other.inside.text))
+    let one = name_chars c.args.self.now c.text.result.now c.text.ensures.text c.text.ensures.valid in
+    let two = name_chars c.args.other.now c.text-2.result.now c.text-2.ensures.text c.text-2.ensures.valid in
+    rw (← one, ← two) (c.eq.ensures ∙ same_texts _ _ c.text.utf8 c.text-2.utf8)

@@ -5,7 +5,7 @@ use Rattle.std.proofs.lemmas.Iterator.Splits.{YieldsList-from_str_split}
 use Rattle.std.proofs.lemmas.Iterator.Consumers.{YieldsList-turn, YieldsList-end}
 use Rattle.hub_text.specs.TextParts.{part-chars, length-parts}
 use Rattle.hub_path.specs.Path.{path_of}
-use Rattle.hub_path.proofs.PathFacts.{names-more, no-path, whole-path}
+use Rattle.hub_path.proofs.PathFacts.{all-names, names-more, no-path, whole-path}
 use Rattle.hub_path.proofs.rel_path.RelPath.from_text.Goals as goal
 
 pub loop-part-preserved : goal.loop-part-preserved
@@ -24,4 +24,9 @@ returns-in-None-2-clause-path c =
 pub returns-clause-path : goal.returns-clause-path
 returns-clause-path c =
     let end = YieldsList-end (YieldsList-from_str_split {s = c.into_iter-part-iterator.result} 47 c.args.text.now (lit< tt) (cc) (cc) (cc)) c.loop-part.yielded _ c.loop-part.yielded_by _ _ c.in-None.is c.next.ensures.steps in
-    rw c.from_vec-names.ensures (whole-path (chars c.args.text.now) c.loop-part.names.items (length c.loop-part.yielded) c.loop-part.invariant (end.1 ∙ sym (length-parts 47 c.args.text.now (lit< tt) c.utf8.text))).0
+    rw c.in_ok-with_text.ensures (whole-path (chars c.args.text.now) c.loop-part.names.items (length c.loop-part.yielded) c.loop-part.invariant (end.1 ∙ sym (length-parts 47 c.args.text.now (lit< tt) c.utf8.text))).0
+
+pub with_text-requires-clause-text : goal.with_text-requires-clause-text
+with_text-requires-clause-text c =
+    let end = YieldsList-end (YieldsList-from_str_split {s = c.into_iter-part-iterator.result} 47 c.args.text.now (lit< tt) (cc) (cc) (cc)) c.loop-part.yielded _ c.loop-part.yielded_by _ _ c.in-None.is c.next.ensures.steps in
+    all-names (path_of (chars c.args.text.now)) c.loop-part.names.items (length c.loop-part.yielded) c.loop-part.invariant (end.1 ∙ sym (length-parts 47 c.args.text.now (lit< tt) c.utf8.text))

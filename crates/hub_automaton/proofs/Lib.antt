@@ -1,11 +1,14 @@
 pub mod Alphabets
+pub mod ClassSets
 pub mod Classes
 pub mod Covered
 pub mod Exact
 pub mod Kept
 pub mod Likes
+pub mod Listings
 pub mod Loops
 pub mod Masked
+pub mod Openings
 pub mod Paths
 pub mod Progresses
 pub mod RowMoves

@@ -18,11 +18,11 @@ power_low k l = omega (arith, pow-le-pow_right {n = 2} (omega arith) (let m : k 
 pub one_up : (k : ℕ) → k < 64 → 1 * 2 ^ k % 2 ^ 64 ≡ 2 ^ k
 one_up k l = omega (arith, power_low k l)
 
-test-power_same : (k : ℕ) → test (2 ^ k) k ≡ true
+pub test-power_same : (k : ℕ) → test (2 ^ k) k ≡ true
 unfolding test
 test-power_same k = ap (λ n. n == 1) (bit_at-pow_same k)
 
-test-power_other : (k i : ℕ) → i ≢ k → test (2 ^ k) i ≡ false
+pub test-power_other : (k i : ℕ) → i ≢ k → test (2 ^ k) i ≡ false
 unfolding test
 test-power_other k i h = ap (λ n. n == 1) (bit_at-pow_other k i h)
 

@@ -448,3 +448,10 @@ sample_at ms (suc i) d l = sample_at-other ms i d (omega arith)
 pub class_of_sample : (ms samples : List ℕ) (k ch : ℕ) → samples ≡ first_unmentioned ms ∷ ms → IsAlphabet ms → k < class_count ms → ch ≡ get_or samples k ch → class_of ms ch ≡ Some k
 class_of_sample ms samples k ch e a l h =
     ap (class_of ms) (h ∙ ap (λ xs. get_or xs k ch) e ∙ sample_at ms k ch l) ∙ sample_class ms k a l
+
+-- A character of class 0 isn't mentioned.
+pub class_zero : (ms : List ℕ) (x c : ℕ) → class_of ms x ≡ Some 0 → (is_left_out c || is_mentioned ms c) ≡ true → (x == c) ≡ false
+class_zero ms x c h m = let w = classed ms x 0 h in by w.0 w.1 where
+  by : is_left_out x ≡ false → Classed ms x 0 → (x == c) ≡ false
+  by a (mentioned j e f) = absurd (omega (arith, e))
+  by a (other e f) = not_it ms x c m a f

@@ -168,7 +168,7 @@ same_bits stays es ss ts os here before l m (suc i) k =
     ∙ sym (list_next stays es ss ts os here before i l m)
 
 -- A word of fewer than 64 bits, or as many.
-and_few : (k a b : ℕ) → a < 2 ^ k → bit_and a b < 2 ^ k
+pub and_few : (k a b : ℕ) → a < 2 ^ k → bit_and a b < 2 ^ k
 and_few k a b l = omega (arith, and_le_l a b, l)
 
 spread_few : (s d : ℕ) → s < 2 ^ 64 → d < 2 ^ 64 → spread s d < 2 ^ 64
@@ -185,7 +185,7 @@ seeds_few stays e s t o here before l m n =
     by true = and_few 64 s o m
     by false = omega arith
 
-word_low : (bs : List Bool) → length bs ≤ 64 → word bs < 2 ^ 64
+pub word_low : (bs : List Bool) → length bs ≤ 64 → word bs < 2 ^ 64
 word_low bs l = omega (arith, word_few bs, pow-le-pow_right {n = 2} (omega arith) l)
 
 moved_length : (stays : Bool) (es ss ts os : List Bool) (here before : Bool) → length (moved stays es ss ts os here before) ≡ length ss
@@ -309,7 +309,7 @@ pub drop-none : (m : ℕ) → drop {A = Bool} m [] ≡ []
 drop-none zero = refl
 drop-none (suc m) = refl
 
-packed_word : (n k : ℕ) (bs : List Bool) → length bs ≤ 64 * n → slice_index_or (packed_by n bs) k 0 ≡ word (take 64 (drop (64 * k) bs))
+pub packed_word : (n k : ℕ) (bs : List Bool) → length bs ≤ 64 * n → slice_index_or (packed_by n bs) k 0 ≡ word (take 64 (drop (64 * k) bs))
 packed_word zero k bs l = ap (λ cs. word (take 64 cs)) (sym (drop-none (64 * k))) ∙ ap (λ cs. word (take 64 (drop (64 * k) cs))) (sym (no_bits bs (omega arith)))
 packed_word (suc n) zero bs l = refl
 packed_word (suc n) (suc k) bs l =

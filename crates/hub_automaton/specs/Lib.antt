@@ -1,9 +1,12 @@
 pub mod Adding
 pub mod Alike
 pub mod Alphabet
+pub mod ClassSets
 pub mod Examples
 pub mod Masks
+pub mod Opened
 pub mod Rows
 pub mod Spots
 pub mod Stepping
+pub mod Varied
 pub mod Words

@@ -7,11 +7,14 @@
 //!   other characters allowed in paths are one class.
 //! - [`SpecSet`] reads a text class by class for some specifications. Its state is [`Spots`]: for each choice, after how
 //!   many pieces it matches the text so far. So it knows after each character whether one of them matches the text.
+//! - [`ClassSet`] is a set of classes. [`SpecSet::open_classes`] finds by the active positions of a state which classes may
+//!   lead elsewhere than class 0.
 //! - [`SpecSetBuilder`] collects the specifications of a set, and paths that stand for themselves and all paths below.
 //!
 //! The contracts use the words of `specs/Alphabet` (classes) and `specs/Spots` (the state after a text). `specs/Stepping`
 //! defines a step position by position, `specs/Masks` and `specs/Words` for 64 positions at once, and `specs/Rows` for many
-//! words at once. `specs/Alike` says which classes are treated alike.
+//! words at once. `specs/Alike` says which classes are treated alike, `specs/Varied` at which positions a class is told from
+//! class 0, and `specs/Opened` what a class that isn't open leads to.
 #![tactic(auto)]
 
 mod alike;
@@ -19,6 +22,7 @@ mod alphabet;
 mod alternatives;
 mod builder;
 mod class;
+mod class_set;
 mod fault;
 pub mod laws;
 mod masks;
@@ -26,11 +30,13 @@ mod mentions;
 mod rows;
 mod spec_set;
 mod step;
+mod varied;
 mod words;
 
 pub use alphabet::{Alphabet, MENTIONED_CHARACTERS};
 pub use alternatives::{Alternatives, SPOTS};
 pub use builder::SpecSetBuilder;
 pub use class::Class;
+pub use class_set::ClassSet;
 pub use fault::AutomatonFault;
 pub use spec_set::{SpecSet, Spots};

@@ -1,6 +1,9 @@
 -- Copies of nodes.
 use Rattle.std.proofs.Common.{◌≡◌, ℕ, List, [], ◌∷◌, ◌++◌, map, refl, ap, sym, ◌∙◌, subst}
 use Rattle.std.specs.FinMap as fin
+use Rattle.std.specs.Arc.{arc_value}
+use Rattle.std.specs.declared.sync.Arc.{Arc}
+use Rattle.std.specs.Global.{Global}
 use Rattle.std.specs.BTreeMap.{BTreeMap, insert_entry}
 use Rattle.std.specs.List.Sorted.{IsStrictlySortedBy}
 use Rattle.std.specs.Map.{keys_of}
@@ -52,7 +55,7 @@ copy_node_more done iterator rest all n k x y i s same e h =
 pub entries_at-file : (b : List ℕ) → entries_at (block.File b) ≡ ([], contents.File b) ∷ []
 entries_at-file b = fold_out-Node Entries node_entries (block.File b) ∙ ap (λ x. node_entries (map-Node Node Entries (fold-Node Entries node_entries) x)) (out-file b)
 
-pub entries_at-directory : (m : BTreeMap Name Node) → entries_at (views.Directory m) ≡ ([], contents.Directory) ∷ entries_of m.entries
+pub entries_at-directory : (m : Arc (BTreeMap Name Node) Global) → entries_at (views.Directory m) ≡ ([], contents.Directory) ∷ entries_of (arc_value m).entries
 entries_at-directory m = fold_out-Node Entries node_entries (views.Directory m) ∙ ap (λ x. node_entries (map-Node Node Entries (fold-Node Entries node_entries) x)) (out-directory m)
 
 -- the same entries are the same replica

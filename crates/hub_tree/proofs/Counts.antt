@@ -1,6 +1,7 @@
 -- How many entries a tree has.
 use Rattle.std.proofs.Common.{◌≡◌, ℕ, ◌+◌, ◌≤◌, min, Bool, true, false, cond, not, List, [], ◌∷◌, ◌++◌, map, Option, Some, None, refl, ap, sym, ◌∙◌, arith, subst}
 use Rattle.std.specs.Prelude.{sum_by}
+use Rattle.std.specs.Arc.{arc_value}
 use Rattle.std.specs.FinMap as fin
 use Rattle.std.specs.FinMap.Entries.{find, where_key}
 use Rattle.std.specs.List.{AllByRecursion}
@@ -113,7 +114,8 @@ len-nothing = len-replica_of [] ∙ len_of-nothing
 
 layer_size : (x : Node-F Node) → len_of (node_entries (map-Node Node Entries (fold-Node Entries node_entries) x)) ≡ fin.len (replica_of (layer_kids x)) + 1
 layer_size (File blob) = let e = len-replica_of [] in let f = len_of-nothing in let g = len_of-cons ([], contents.File blob) [] in omega arith
-layer_size (Directory kids) =
+layer_size (Directory shared) =
+    let kids = arc_value shared in
     len_of-cons ([], contents.Directory) (entries_of kids.entries)
     ∙ ap (λ o. cond (is_some o) (len_of (entries_of kids.entries)) (len_of (entries_of kids.entries) + 1)) (find_top-joined (map (λ c. (c.0, entries_at c.1)) kids.entries))
     ∙ ap (λ n. n + 1) (sym (len-replica_of kids.entries))

@@ -20,6 +20,9 @@ use Rattle.hub_tree.specs.declared.node.Node.TheViews.{out-Node}
 use Rattle.hub_tree.specs.declared.node.Node.TheViews as views
 use Rattle.hub_tree.specs.declared.node.Node.TheBlock as block
 use Rattle.hub_tree.specs.declared.node.Node.TheVariants as variants
+use Rattle.std.specs.Arc.{arc_value}
+use Rattle.std.specs.declared.sync.Arc.{Arc}
+use Rattle.std.specs.Global.{Global}
 use Rattle.std.specs.BTreeMap.{BTreeMap}
 use Rattle.hub_tree.specs.declared.node.Node.TheOpen.{Node-F, File, Directory}
 use Rattle.hub_tree.proofs.Order.{path_total, path_antisymmetric}
@@ -169,19 +172,19 @@ along_file cs p d n q x e l f k = along_kids cs p d n q x [] e l f k ∙ get_not
 pub out-file : (b : List ℕ) → out-Node (block.File b) ≡ File b
 out-file b = ap out-Node (sym (variants.rolls-File b)) ∙ views.out-roll-Node (File b)
 
-pub out-directory : (m : BTreeMap Name Node) → out-Node (views.Directory m) ≡ Directory m
+pub out-directory : (m : Arc (BTreeMap Name Node) Global) → out-Node (views.Directory m) ≡ Directory m
 out-directory m = ap out-Node (sym (variants.rolls-Directory m)) ∙ views.out-roll-Node (Directory m)
 
 pub kids-file : (b : List ℕ) → kids_of (block.File b) ≡ []
 kids-file b = ap layer_kids (out-file b)
 
-pub kids-directory : (m : BTreeMap Name Node) → kids_of (views.Directory m) ≡ m.entries
+pub kids-directory : (m : Arc (BTreeMap Name Node) Global) → kids_of (views.Directory m) ≡ (arc_value m).entries
 kids-directory m = ap layer_kids (out-directory m)
 
 pub contents-file : (b : List ℕ) → contents_of (block.File b) ≡ contents.File b
 contents-file b = ap layer_contents (out-file b)
 
-pub contents-directory : (m : BTreeMap Name Node) → contents_of (views.Directory m) ≡ contents.Directory
+pub contents-directory : (m : Arc (BTreeMap Name Node) Global) → contents_of (views.Directory m) ≡ contents.Directory
 contents-directory m = ap layer_contents (out-directory m)
 
 -- a whole tree

@@ -1,6 +1,7 @@
 -- What a change of one path leaves, and when it is refused.
-use Rattle.std.proofs.Common.{◌≡◌, ◌<◌, Bool, true, false, cond, ◌&&◌, not, List, [], ◌∷◌, ◌++◌, length, Option, Some, None, refl, ap, sym, ◌∙◌, arith}
+use Rattle.std.proofs.Common.{◌≡◌, ℕ, ◌<◌, Bool, true, false, cond, ◌&&◌, not, List, [], ◌∷◌, ◌++◌, length, Option, Some, None, refl, ap, sym, ◌∙◌, arith}
 use Rattle.std.specs.Prelude.{◌==◌, if◌then◌else◌, Result, IfErr, ⊤}
+use Rattle.std.specs.Arc.{arc_value}
 use Rattle.std.specs.FinMap as fin
 use Rattle.std.specs.FinMap.Entries.{find}
 use Rattle.std.specs.Option.{option_and_then, unwrap_or}
@@ -152,7 +153,7 @@ swapped false false = refl
 
 layer_fault : (x : Node-F Node) (c : Contents) → later_fault (layer_contents x) (length (layer_kids x) == 0) c ≡ (if not (length (layer_kids x) == 0) && not (is_directory c) then Some NotEmpty else None)
 layer_fault (File blob) c = refl
-layer_fault (Directory kids) c = swapped (not (is_directory c)) (not (length kids.entries == 0))
+layer_fault (Directory kids) c = swapped (not (is_directory c)) (not (length (arc_value kids).entries == 0))
 
 set_fault-child : (cs : List (Name × Node)) (n : Name) (c : Contents) (o : Option Node) → find name_cmp n cs ≡ o → set_fault (replica_of cs) (n ∷ []) c ≡ child_fault o c
 set_fault-child cs n c None e = ap (λ d. later_fault d (length (children (replica_of cs) (n ∷ [])) == 0) c) (contents_of_child cs n None e)
@@ -249,6 +250,12 @@ step_by cs n m r x c false e d = no_parent (replica_of cs) n (m ∷ r) c (no_dir
 pub fault_through : (cs : List (Name × Node)) (n : Name) (p : Path) (x : Node) (c : Contents) → 0 < length p → find name_cmp n cs ≡ Some x → set_fault (replica_of cs) (n ∷ p) c ≡ fault_below x p c
 fault_through cs n [] x c l e = absurd (omega arith)
 fault_through cs n (m ∷ r) x c l e = step_by cs n m r x c (is_directory (contents_of x)) e refl
+
+pub fault_below-directory : (x : Node) (ks : List (Name × Node)) (p : Path) (c : Contents) → contents_of x ≡ contents.Directory → kids_of x ≡ ks → fault_below x p c ≡ set_fault (replica_of ks) p c
+fault_below-directory x ks p c d k = ap (λ d. if is_directory d then set_fault (replica_of (kids_of x)) p c else Some NoParent) d ∙ ap (λ ks. set_fault (replica_of ks) p c) k
+
+pub fault_below-file : (x : Node) (b : List ℕ) (p : Path) (c : Contents) → contents_of x ≡ contents.File b → fault_below x p c ≡ Some NoParent
+fault_below-file x b p c d = ap (λ d. if is_directory d then set_fault (replica_of (kids_of x)) p c else Some NoParent) d
 
 pub fault_nowhere : (cs : List (Name × Node)) (n : Name) (p : Path) (c : Contents) → 0 < length p → find name_cmp n cs ≡ None → set_fault (replica_of cs) (n ∷ p) c ≡ Some NoParent
 fault_nowhere cs n [] c l e = absurd (omega arith)

@@ -4,5 +4,6 @@ pub mod Examples
 pub mod Levels
 pub mod Nodes
 pub mod Sets
+pub mod Shared
 pub mod Stored
 pub mod Tree

@@ -1,5 +1,6 @@
 -- The entries of a tree that is kept as names and what stands under each.
 use Rattle.std.specs.Prelude.{◌≡◌, ℕ, ◌+◌, Bool, false, not, List, [], ◌∷◌, ◌++◌, map, length, ◌==◌, Option, Some, None, if◌then◌else◌}
+use Rattle.std.specs.Arc.{arc_value}
 use Rattle.std.specs.FinMap as fin
 use Rattle.std.specs.FinMap.Entries.{where_key}
 use Rattle.std.specs.Ordering.{eq_by_cmp}
@@ -33,7 +34,7 @@ joined (c ∷ cs) = below c.0 c.1 ++ where_key path_cmp (λ p. not (begins_with 
 -- A node at the empty path, and what is below it.
 abbrev pub node_entries : Node-F Entries → Entries
 node_entries (File blob) = ([], contents.File blob) ∷ []
-node_entries (Directory children) = ([], contents.Directory) ∷ joined children.entries
+node_entries (Directory children) = ([], contents.Directory) ∷ joined (arc_value children).entries
 
 abbrev pub entries_at : Node → Entries
 entries_at = fold-Node Entries node_entries
@@ -55,7 +56,7 @@ contents_of node = layer_contents (out-Node node)
 
 abbrev pub layer_kids : Node-F Node → List (Name × Node)
 layer_kids (File blob) = []
-layer_kids (Directory children) = children.entries
+layer_kids (Directory children) = (arc_value children).entries
 
 -- What a node holds.
 abbrev pub kids_of : Node → List (Name × Node)

@@ -4,17 +4,34 @@ ghost use Rattle.sha2.specs.Sha256.{sha256};
 use sha2::{Digest, Sha256};
 use std::alloc::AllocError;
 use std::marker::Model;
+use std::sync::Arc;
 
 /// The bytes of a file, with their digest. Contracts see the bytes alone.
 ///
-/// The digest is SHA-256 (FIPS 180-4). It is computed once, when the blob is made.
+/// The digest is SHA-256 (FIPS 180-4). It is computed once, when the blob is made. A blob and its copies share one place in
+/// memory, which is freed with the last of them.
 #[derive(Debug, Drop)]
 pub struct Blob {
+    shared: Arc<Digested>,
+}
+
+/// Bytes, and their digest.
+#[derive(Debug, Drop)]
+struct Digested {
     bytes: Vec<u8>,
     digest: [u8; 32],
 }
 
 impl Model for Blob {
+    ghost use Rattle.std.specs.Prelude.{List, ℕ};
+    ghost use Rattle.std.specs.Arc.{arc_value};
+
+    ghost Value = { List ℕ };
+
+    ghost view = { λ a. arc_value a.shared };
+}
+
+impl Model for Digested {
     ghost use Rattle.std.specs.Prelude.{◌≡◌, List, ℕ};
     ghost use Rattle.sha2.specs.Sha256.{sha256};
 
@@ -27,35 +44,51 @@ impl Model for Blob {
 
 impl Blob {
     /// A file with these bytes. Its time grows with them, since their digest is computed.
-    pub fn new(bytes: Vec<u8>) -> Blob
-        ensures { result ≡ bytes.items }
+    pub fn new(bytes: Vec<u8>) -> Result<Blob, AllocError>
+        ensures { IfOk result (λ b. b ≡ bytes.items) }
     {
+        let alloc = *bytes.allocator();
         let digest = Sha256::digest(bytes.as_slice());
-        Blob { bytes, digest }
+        let shared = Arc::new(alloc, Digested { bytes, digest })?;
+        Ok(Blob { shared })
     }
 
     /// The bytes.
     pub fn bytes(&self) -> &[u8]
         ensures { result.now ≡ self.now }
     {
-        self.bytes.as_slice()
+        self.shared.bytes()
     }
 
     /// The SHA-256 digest of the bytes, in constant time.
     pub fn digest(&self) -> [u8; 32]
         ensures { result ≡ sha256 self.now }
     {
-        self.digest
+        self.shared.digest()
     }
 
-    /// Copies the bytes, with their digest.
+    /// Another owner of the bytes and of their digest, in constant time. It allocates nothing, and fails only where they
+    /// have more owners than can be counted.
     pub fn copy(&self) -> Result<Blob, AllocError>
         ensures { IfOk result (λ b. b ≡ self.now) }
     {
-        let bytes = self.bytes.clone()?;
-        Ok(Blob {
-            bytes,
-            digest: self.digest,
-        })
+        let shared = Arc::try_clone(&self.shared)?;
+        Ok(Blob { shared })
+    }
+}
+
+impl Digested {
+    /// The bytes.
+    fn bytes(&self) -> &[u8]
+        ensures { result.now ≡ self.now }
+    {
+        self.bytes.as_slice()
+    }
+
+    /// Their digest.
+    fn digest(&self) -> [u8; 32]
+        ensures { result ≡ sha256 self.now }
+    {
+        self.digest
     }
 }

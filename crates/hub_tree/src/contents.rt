@@ -38,7 +38,7 @@ impl Contents {
         }
     }
 
-    /// Copies the contents, with the bytes of a file.
+    /// Copies the contents. The bytes of a file are shared with the copy.
     pub fn copy(&self) -> Result<Contents, AllocError>
         ensures { IfOk result (λ c. c ≡ self.now) }
     {

@@ -5,6 +5,9 @@
 //!
 //! [`Tree::entries`] goes through a replica in the order of its paths, and [`Archive::iter`] through an archive.
 //!
+//! A copy of a `Blob` or of a `Tree` shares its memory, until one of them is written: then the directories on the path of the
+//! write are copied, and no others.
+//!
 //! Only functions that return a `Result` allocate, and `Blob::new` takes over the memory of its bytes.
 #![tactic(auto)]
 

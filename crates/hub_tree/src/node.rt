@@ -1,4 +1,5 @@
 ghost use Rattle.std.specs.Prelude.{◌≡◌, ◌<◌, min, ◌++◌, [], ◌∷◌, drop, map, length, None, IfOk, IfErr, OnOk, OnErr};
+ghost use Rattle.std.specs.Arc.{arc_value};
 ghost use Rattle.std.specs.Option.{option_and_then, option_copied};
 ghost use Rattle.std.specs.FinMap as fin;
 ghost use Rattle.std.specs.BTreeMap.{get, insert_entry, keys, IsOrdered};
@@ -13,14 +14,15 @@ use hub_path::{Name, RelPath};
 use hub_text::Items;
 use std::alloc::{AllocError, Global};
 use std::collections::BTreeMap;
+use std::sync::Arc;
 
 /// What a directory holds at a name.
 #[derive(Drop)]
 pub enum Node {
     /// A file.
     File(Blob),
-    /// A directory, with what it holds.
-    Directory(BTreeMap<Name, Node>),
+    /// A directory, with what it holds. A directory and its copies share it, until one of them is written.
+    Directory(Arc<BTreeMap<Name, Node>>),
 }
 
 /// Finds the node at the names of the path from `depth` on.
@@ -93,9 +95,8 @@ fn push_below(path: RelPath, node: &Node, paths: &mut Vec<RelPath>) -> Result<()
     }
 }
 
-/// Copies these nodes, with all that they hold.
-#[cycle(copy)]
-pub fn copies_of(
+/// Copies these nodes. What a directory holds is shared.
+fn copies_of(
     alloc: Global,
     children: &BTreeMap<Name, Node>,
 ) -> Result<BTreeMap<Name, Node>, AllocError>
@@ -103,7 +104,7 @@ pub fn copies_of(
 {
     let mut copies = BTreeMap::new(alloc);
     for (name, node) in children.iter() {
-        let copy = copy_of(alloc, node)?;
+        let copy = copy_of(node)?;
         put(&mut copies, name.copy()?, copy)?;
     }
     Ok(copies)
@@ -118,14 +119,13 @@ fn put(children: &mut BTreeMap<Name, Node>, name: Name, node: Node) -> Result<()
     Ok(())
 }
 
-/// Copies a node, with all that it holds.
-#[cycle(copy)]
-fn copy_of(alloc: Global, node: &Node) -> Result<Node, AllocError>
+/// Copies a node. What a directory holds is shared.
+fn copy_of(node: &Node) -> Result<Node, AllocError>
     ensures { IfOk result (λ x. entries_at x ≡ entries_at node.now) }
 {
     match node {
         Node::File(blob) => Ok(Node::File(blob.copy()?)),
-        Node::Directory(children) => Ok(Node::Directory(copies_of(alloc, children)?)),
+        Node::Directory(children) => Ok(Node::Directory(Arc::try_clone(children)?)),
     }
 }
 
@@ -150,6 +150,90 @@ fn count_at(node: &Node) -> u64
         Node::File(_) => 1,
         Node::Directory(children) => count_of(children).saturating_add(1),
     }
+}
+
+/// Why contents can't be set at the names of the path from `depth` on, below these.
+fn fault_at(
+    children: &BTreeMap<Name, Node>,
+    path: &RelPath,
+    depth: usize,
+    contents: &Contents,
+) -> Option<SetFault>
+    requires { depth < length path.now }
+    ensures { result
+        ≡ set_fault (replica_of children.now.entries) (drop depth path.now) contents.now }
+{
+    let len = path.len();
+    let name = path.name(depth);
+    if depth + 1 == len {
+        return fault_of_child(children, name, contents);
+    }
+    match children.get(name) {
+        Some(Node::Directory(inner)) => fault_at(inner, path, depth + 1, contents),
+        Some(Node::File(_)) => Some(SetFault::NoParent),
+        None => Some(SetFault::NoParent),
+    }
+}
+
+/// Why contents can't be set at a name.
+fn fault_of_child(
+    children: &BTreeMap<Name, Node>,
+    name: &Name,
+    contents: &Contents,
+) -> Option<SetFault>
+    ensures { result
+        ≡ set_fault (replica_of children.now.entries) (name.now ∷ []) contents.now }
+{
+    match contents {
+        Contents::Directory => None,
+        Contents::File(_) => {
+            if is_occupied(children, name) {
+                return Some(SetFault::NotEmpty);
+            }
+            None
+        }
+        Contents::Absent => {
+            if is_occupied(children, name) {
+                return Some(SetFault::NotEmpty);
+            }
+            match children.get(name) {
+                Some(_) => None,
+                None => Some(SetFault::NothingThere),
+            }
+        }
+    }
+}
+
+/// Sets contents at the names of the path from `depth` on, below these. If they have other owners, they are copied first.
+#[cycle(set)]
+pub fn set_shared(
+    alloc: Global,
+    shared: &mut Arc<BTreeMap<Name, Node>>,
+    path: &RelPath,
+    depth: usize,
+    contents: Contents,
+) -> Result<(), SetFault>
+    requires { depth < length path.now }
+    ensures allowed { OnOk result
+        (set_fault (replica_of (arc_value shared.old).entries) (drop depth path.now) contents ≡ None) }
+    ensures ok { OnOk result (replica_of (arc_value shared.new).entries
+        ≡ with_contents (replica_of (arc_value shared.old).entries) (drop depth path.now) contents) }
+    ensures fault { IfErr result (IsRefusal
+        (set_fault (replica_of (arc_value shared.old).entries) (drop depth path.now) contents)) }
+    ensures err { OnErr result (replica_of (arc_value shared.new).entries
+        ≡ replica_of (arc_value shared.old).entries) }
+{
+    if let Some(children) = Arc::get_mut(shared) {
+        return set_at(alloc, children, path, depth, contents);
+    }
+    let fault = fault_at(shared, path, depth, &contents);
+    if let Some(fault) = fault {
+        return Err(fault);
+    }
+    let mut children = copies_of(alloc, shared)?;
+    set_at(alloc, &mut children, path, depth, contents)?;
+    *shared = Arc::new(alloc, children)?;
+    Ok(())
 }
 
 /// Sets contents at the names of the path from `depth` on, below these.
@@ -199,7 +283,7 @@ fn set_below(
     ensures kind { contents_of node.new ≡ contents_of node.old }
 {
     match node {
-        Node::Directory(children) => set_at(alloc, children, path, depth, contents),
+        Node::Directory(children) => set_shared(alloc, children, path, depth, contents),
         Node::File(_) => Err(SetFault::NoParent),
     }
 }
@@ -260,7 +344,8 @@ fn set_directory(
     if holds_directory(children, name) {
         return Ok(());
     }
-    let _old = children.insert(name.copy()?, Node::Directory(BTreeMap::new(alloc)))?;
+    let inner = Arc::new(alloc, BTreeMap::new(alloc))?;
+    let _old = children.insert(name.copy()?, Node::Directory(inner))?;
     Ok(())
 }
 

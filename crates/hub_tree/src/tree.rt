@@ -1,29 +1,36 @@
-ghost use Rattle.std.specs.Prelude.{◌≡◌, ◌↔◌, min, None, IsTrue, IfOk, IfErr, OnOk, OnErr};
+ghost use Rattle.std.specs.Prelude.{◌≡◌, ◌<◌, ◌↔◌, length, min, None, IsTrue, IfOk, IfErr, OnOk, OnErr};
 ghost use Rattle.std.specs.Option.{option_map};
 ghost use Rattle.std.specs.FinMap as fin;
+ghost use Rattle.hub_tree.specs.Nodes.{replica_of};
+ghost use Rattle.hub_tree.specs.Shared.{shared_entries};
 ghost use Rattle.hub_tree.specs.Tree as tree;
 
 use crate::blob::Blob;
 use crate::contents::{Contents, Mark};
 use crate::entries::Entries;
 use crate::fault::SetFault;
-use crate::node::{Node, copies_of, count_of, names_of, node_at, push_paths, set_at};
+use crate::node::{Node, count_of, names_of, node_at, push_paths, set_at, set_shared};
 use crate::same::are_same;
 use hub_path::{Name, RelPath};
 use hub_text::Items;
 use std::alloc::{AllocError, Global};
 use std::collections::BTreeMap;
 use std::marker::Model;
+use std::sync::Arc;
 
 /// A replica: files and directories at finitely many paths. The parent of each is a directory. The empty path stands for
 /// the whole replica, which is a directory too.
 ///
 /// Each directory is an ordered map from names to what it holds. So a look-up compares as many names as a search in each
 /// directory along the path does.
+///
+/// A replica and its copies share their memory. A write copies the directories on its path that are shared, each with what
+/// it names but not with what those hold.
 #[derive(Drop)]
 pub struct Tree {
     alloc: Global,
-    children: BTreeMap<Name, Node>,
+    nothing: BTreeMap<Name, Node>,
+    top: Option<Arc<BTreeMap<Name, Node>>>,
 }
 
 impl Model for Tree {
@@ -39,11 +46,15 @@ impl Model for Tree {
 
     ghost use Rattle.hub_tree.specs.Tree.{HasPaths, HasBytes};
     ghost use Rattle.hub_tree.specs.Nodes.{replica_of};
+    ghost use Rattle.hub_tree.specs.Shared.{shared_entries};
+    ghost use Rattle.std.specs.Prelude.{◌≡◌, []};
 
-    ghost view = { λ a. replica_of a.children.entries };
+    ghost view = { λ a. replica_of (shared_entries a.top) };
 
     ghost invariant = { λ a.
-        HasPaths (replica_of a.children.entries) × HasBytes (replica_of a.children.entries) };
+        HasPaths (replica_of (shared_entries a.top))
+        × HasBytes (replica_of (shared_entries a.top))
+        × (a.nothing.entries ≡ []) };
 }
 
 impl Tree {
@@ -53,25 +64,44 @@ impl Tree {
     {
         Tree {
             alloc,
-            children: BTreeMap::new(alloc),
+            nothing: BTreeMap::new(alloc),
+            top: None,
         }
     }
 
-    /// Copies the replica, with the bytes of its files.
+    /// Copies the replica, in constant time. It allocates nothing, and fails only where more copies share its memory than
+    /// can be counted.
     pub fn copy(&self) -> Result<Tree, AllocError>
         ensures { IfOk result (λ t. t ≡ self.now) }
     {
+        let top = match &self.top {
+            Some(shared) => Some(Arc::try_clone(shared)?),
+            None => None,
+        };
         Ok(Tree {
             alloc: self.alloc,
-            children: copies_of(self.alloc, &self.children)?,
+            nothing: BTreeMap::new(self.alloc),
+            top,
         })
+    }
+
+    /// What the whole replica holds.
+    fn children(&self) -> &BTreeMap<Name, Node>
+        ensures replica { replica_of result.now.entries ≡ self.now }
+        ensures paths { tree.HasPaths self.now }
+        ensures bytes { tree.HasBytes self.now }
+    {
+        match &self.top {
+            Some(shared) => shared,
+            None => &self.nothing,
+        }
     }
 
     /// Whether both replicas have the same contents at each path.
     pub fn same(&self, other: &Tree) -> bool
         ensures { IsTrue result ↔ (self.now ≡ other.now) }
     {
-        are_same(&self.children, &other.children)
+        are_same(self.children(), other.children())
     }
 
     /// Goes through the files and directories in the order of their paths.
@@ -81,7 +111,7 @@ impl Tree {
     pub fn entries(&self) -> Result<Entries<'_>, AllocError>
         ensures { IfOk result (λ e. e ≡ fin.entries self.now) }
     {
-        Entries::new(self.alloc, &self.children)
+        Entries::new(self.alloc, self.children())
     }
 
     /// The paths that have contents, in ascending order.
@@ -89,7 +119,7 @@ impl Tree {
         ensures { IfOk result (λ ps. ps ≡ fin.keys self.now) }
     {
         let mut paths = Vec::new(self.alloc);
-        push_paths(&RelPath::top(self.alloc), &self.children, &mut paths)?;
+        push_paths(&RelPath::top(self.alloc), self.children(), &mut paths)?;
         Ok(Items::from_vec(paths))
     }
 
@@ -97,7 +127,7 @@ impl Tree {
     pub fn count(&self) -> u64
         ensures { result ≡ min (fin.len self.now) u64.MAX }
     {
-        count_of(&self.children)
+        count_of(self.children())
     }
 
     /// The mark of the contents at the path.
@@ -107,7 +137,7 @@ impl Tree {
         ensures bytes { tree.HasBytes self.now }
         ensures mark { result ≡ tree.mark_at self.now path.now }
     {
-        let children = &self.children;
+        let children = self.children();
         if path.len() == 0 {
             return Mark::Directory;
         }
@@ -125,7 +155,7 @@ impl Tree {
         if path.len() == 0 {
             return None;
         }
-        match node_at(&self.children, path, 0) {
+        match node_at(self.children(), path, 0) {
             Some(Node::File(blob)) => Some(blob),
             Some(Node::Directory(_)) => None,
             None => None,
@@ -147,9 +177,9 @@ impl Tree {
         ensures { IfOk result (λ ns. ns ≡ tree.names_at self.now path.now) }
     {
         if path.len() == 0 {
-            return names_of(self.alloc, &self.children);
+            return names_of(self.alloc, self.children());
         }
-        match node_at(&self.children, path, 0) {
+        match node_at(self.children(), path, 0) {
             Some(Node::Directory(children)) => names_of(self.alloc, children),
             Some(Node::File(_)) => Ok(Items::new(self.alloc)),
             None => Ok(Items::new(self.alloc)),
@@ -171,6 +201,32 @@ impl Tree {
             return Err(SetFault::RootPath);
         }
         contents.has_bytes();
-        set_at(self.alloc, &mut self.children, path, 0, contents)
+        set_top(self.alloc, &mut self.top, path, contents)
     }
+}
+
+/// Sets contents at the path, which is not the whole replica.
+fn set_top(
+    alloc: Global,
+    top: &mut Option<Arc<BTreeMap<Name, Node>>>,
+    path: &RelPath,
+    contents: Contents,
+) -> Result<(), SetFault>
+    requires { 0 < length path.now }
+    ensures allowed { OnOk result
+        (tree.set_fault (replica_of (shared_entries top.old)) path.now contents ≡ None) }
+    ensures ok { OnOk result (replica_of (shared_entries top.new)
+        ≡ tree.with_contents (replica_of (shared_entries top.old)) path.now contents) }
+    ensures fault { IfErr result (tree.IsRefusal
+        (tree.set_fault (replica_of (shared_entries top.old)) path.now contents)) }
+    ensures err { OnErr result
+        (replica_of (shared_entries top.new) ≡ replica_of (shared_entries top.old)) }
+{
+    if let Some(shared) = top {
+        return set_shared(alloc, shared, path, 0, contents);
+    }
+    let mut children = BTreeMap::new(alloc);
+    set_at(alloc, &mut children, path, 0, contents)?;
+    *top = Some(Arc::new(alloc, children)?);
+    Ok(())
 }

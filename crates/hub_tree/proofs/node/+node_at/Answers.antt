@@ -16,4 +16,4 @@ pub returns-in-File : goal.returns-in-File
 returns-in-File t c = λ q. along_file _ c.args.path.now c.args.depth _ q _ c.name.ensures.name (omega arith) (sym c.in_ok-node.ensures.value) (ap kids_of c.in-File.is ∙ kids-file _)
 
 pub returns-in-Directory : goal.returns-in-Directory
-returns-in-Directory t c = λ q. along_kids _ c.args.path.now c.args.depth _ q _ _ c.name.ensures.name (omega arith) (sym c.in_ok-node.ensures.value) (ap kids_of c.in-Directory.is ∙ kids-directory _) ∙ c.node_at.ensures q
+returns-in-Directory t c = λ q. along_kids _ c.args.path.now c.args.depth _ q _ _ c.name.ensures.name (omega arith) (sym c.in_ok-node.ensures.value) (ap kids_of c.in-Directory.is ∙ kids-directory c.in-Directory.inner ∙ ap (λ m. m.entries) (sym c.deref.ensures)) ∙ c.node_at.ensures q

@@ -11,9 +11,9 @@ push_below-returns-in_ok-push-in-File t c =
 
 pub push_below-returns-in_ok-push-in-Directory : goal.push_below-returns-in_ok-push-in-Directory
 push_below-returns-in_ok-push-in-Directory t c =
-    one_directory_or_not c.push_paths.result c.args.path c.in_ok-prefix-in-Directory.prefix c.args.node.now c.in-Directory.children.entries
+    one_directory_or_not c.push_paths.result c.args.path c.in_ok-prefix-in-Directory.prefix c.args.node.now c.deref.result.now.entries
     c.args.paths.now.items c.push-in-Directory.new.self.items c.push_paths.new.paths.items
-    (ap kids_of c.in-Directory.is ∙ kids-directory c.in-Directory.children) c.in_ok-prefix-in-Directory.ensures c.in_ok-push-in-Directory.ensures.items
+    (ap kids_of c.in-Directory.is ∙ kids-directory c.in-Directory.children ∙ ap (λ m. m.entries) (sym c.deref.ensures)) c.in_ok-prefix-in-Directory.ensures c.in_ok-push-in-Directory.ensures.items
     c.push_paths.ensures
 
 pub push_paths-loop-name-preserved : goal.push_paths-loop-name-preserved

@@ -1,11 +1,13 @@
 use Rattle.std.proofs.Common.{◌≡◌, ◌+◌, refl, sym, ap, ◌∙◌, subst, Option, None, drop, arith}
 use Rattle.std.specs.Prelude.{OnOk, IfErr, IsSome}
-use Rattle.std.proofs.lemmas.Result.{on_ok_weaker, on_err_weaker}
+use Rattle.std.specs.Arc.{arc_value}
+use Rattle.std.proofs.lemmas.Result.{on_ok_weaker, on_err_weaker, err_from_is_err_and}
 use Rattle.hub_path.specs.Path.{Path}
-use Rattle.hub_tree.specs.Tree.{set_fault, with_contents, IsRefusal}
-use Rattle.hub_tree.specs.Nodes.{replica_of, fault_below}
+use Rattle.hub_tree.specs.Tree.{Replica, set_fault, with_contents, IsRefusal}
+use Rattle.hub_tree.specs.Nodes.{replica_of, entries_of, fault_below}
 use Rattle.hub_tree.specs.declared.fault.SetFault.{SetFault}
 use Rattle.hub_tree.specs.declared.node.Node.{Node}
+use Rattle.hub_tree.proofs.Copies.{same_replica}
 use Rattle.hub_tree.proofs.LookUp.{drop_at, last_rest, rest_left}
 use Rattle.hub_tree.proofs.Setting.{fault_through, fault_nowhere, changed_through, same_through, refusal}
 use Rattle.hub_tree.proofs.node.+set.Goals as goal
@@ -68,3 +70,18 @@ set_at-returns-in-None-clause-fault t c =
     refusal _ _
     (ap (λ q. set_fault (replica_of cs) q c.args.contents) (drop_at p c.args.depth _ c.name-name.ensures.name)
     ∙ fault_nowhere cs c.name-name.result.now (drop (c.args.depth + 1) p) c.args.contents (rest_left p _ (omega arith)) (sym c.in-None.ensures.value))
+
+pub set_shared-returns-in_err-set_at-clause-fault : goal.set_shared-returns-in_err-set_at-clause-fault
+set_shared-returns-in_err-set_at-clause-fault t c =
+    let same : replica_of c.in_ok-children.children.entries ≡ replica_of (arc_value c.args.shared.now).entries =
+    same_replica c.in_ok-children.children.entries (arc_value c.args.shared.now).entries (c.in_ok-children.ensures ∙ ap (λ m. entries_of m.entries) c.deref-2.ensures) in
+    let p = err_from_is_err_and c.from_residual-in_err-set_at.result c.from_residual-in_err-set_at.ensures.1 in
+    rw (p.1, p.2) (subst (λ (m : Replica). IsRefusal (set_fault m (drop c.args.depth c.args.path.now) c.args.contents) c.in_err-set_at.field-0.0) same c.in_err-set_at.ensures.fault)
+
+pub set_shared-returns-clause-ok : goal.set_shared-returns-clause-ok
+set_shared-returns-clause-ok t c =
+    let same : replica_of c.in_ok-children.children.entries ≡ replica_of (arc_value c.args.shared.now).entries =
+    same_replica c.in_ok-children.children.entries (arc_value c.args.shared.now).entries (c.in_ok-children.ensures ∙ ap (λ m. entries_of m.entries) c.deref-2.ensures) in
+    ap (λ m. replica_of m.entries) c.in_ok-shared.ensures.ok
+    ∙ c.in_ok-set_at.ensures.ok
+    ∙ ap (λ m. with_contents m (drop c.args.depth c.args.path.now) c.args.contents) same

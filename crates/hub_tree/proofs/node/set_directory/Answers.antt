@@ -8,9 +8,9 @@ use Rattle.hub_tree.proofs.node.set_directory.Goals as goal
 
 pub returns-clause-ok : goal.returns-clause-ok
 returns-clause-ok c =
-    changed_child c.args.children.now.entries c.insert.new.self.entries c.args.name.now (Some (node.Directory c.new.result)) Directory
-    (subst (λ (n : Name). Changes c.args.children.now.entries c.insert.new.self.entries n (Some (node.Directory c.new.result))) c.in_ok-copy.ensures c.in_ok-_old.ensures.updates.0)
-    (bare_file _ (sym c.holds_directory.ensures ∙ c.if-holds_directory.false)) (bare_kids _ (kids-directory c.new.result ∙ c.new.ensures.empty)) (ap Some (contents-directory c.new.result))
+    changed_child c.args.children.now.entries c.insert.new.self.entries c.args.name.now (Some (node.Directory c.in_ok-inner.inner)) Directory
+    (subst (λ (n : Name). Changes c.args.children.now.entries c.insert.new.self.entries n (Some (node.Directory c.in_ok-inner.inner))) c.in_ok-copy.ensures c.in_ok-_old.ensures.updates.0)
+    (bare_file _ (sym c.holds_directory.ensures ∙ c.if-holds_directory.false)) (bare_kids _ (kids-directory c.in_ok-inner.inner ∙ ap (λ m. m.entries) c.in_ok-inner.ensures.ok ∙ c.new.ensures.empty)) (ap Some (contents-directory c.in_ok-inner.inner))
 
 pub returns-then-holds_directory-clause-ok : goal.returns-then-holds_directory-clause-ok
 returns-then-holds_directory-clause-ok c = directory_found c.args.children.now.entries c.args.name.now _ refl (sym c.holds_directory.ensures ∙ c.if-holds_directory.true)

@@ -23,7 +23,7 @@ fn build(alloc: Global, directories: u32, bytes: &[u8]) -> Result<Tree> {
         tree.set(&directory, Contents::Directory)?;
         for f in 0..FILES {
             let name = Name::read(alloc, format!(in alloc; "file-{f}")?.as_str())?;
-            let blob = Blob::new(bytes.to_vec(alloc)?);
+            let blob = Blob::new(bytes.to_vec(alloc)?)?;
             tree.set(&directory.child(name)?, Contents::File(blob))?;
         }
     }

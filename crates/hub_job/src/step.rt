@@ -53,7 +53,7 @@ fn fetched_file(alloc: Global, log: &[Logged]) -> Result<Blob, AllocError>
 {
     match last_file(log) {
         Some(file) => file.copy(),
-        None => Ok(Blob::new(Vec::new(alloc))),
+        None => Blob::new(Vec::new(alloc)),
     }
 }
 

@@ -268,7 +268,7 @@ fn put_file(
     if entries >= ENTRIES || bytes.len() > FILE_BYTES {
         return Err(Fault::TooLarge);
     }
-    put_contents(tree, &path, Contents::File(Blob::new(bytes)))
+    put_contents(tree, &path, Contents::File(Blob::new(bytes)?))
 }
 
 /// Puts contents into a replica, which are not `Absent`.

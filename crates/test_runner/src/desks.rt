@@ -108,7 +108,7 @@ fn op_of(alloc: Global, fields: &str) -> Result<Op> {
 }
 
 fn file_of(alloc: Global, text: &str) -> Result<Contents> {
-    Ok(Contents::File(Blob::new(text.as_bytes().to_vec(alloc)?)))
+    Ok(Contents::File(Blob::new(text.as_bytes().to_vec(alloc)?)?))
 }
 
 fn push_answer(text: &mut String, answer: Result<Answer, StepFault>) -> Result<()> {

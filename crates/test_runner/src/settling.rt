@@ -46,7 +46,7 @@ impl Archives {
 
 fn archive_with_a(alloc: Global) -> Result<Archive> {
     let path = RelPath::read(alloc, "a")?;
-    let file = Contents::File(Blob::new(Vec::new(alloc)));
+    let file = Contents::File(Blob::new(Vec::new(alloc))?);
     let mut archive = Archive::new(alloc);
     archive.set(&path, file.mark())?;
     Ok(archive)

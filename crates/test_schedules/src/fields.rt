@@ -25,7 +25,7 @@ pub fn path_of(alloc: Global, field: &str) -> Result<RelPath> {
 pub fn contents_of(alloc: Global, field: &str) -> Result<Contents> {
     if let Some(text) = field.strip_prefix("f:") {
         let bytes = text.as_bytes().to_vec(alloc)?;
-        return Ok(Contents::File(Blob::new(bytes)));
+        return Ok(Contents::File(Blob::new(bytes)?));
     }
     match field {
         "d" => Ok(Contents::Directory),

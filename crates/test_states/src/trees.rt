@@ -17,7 +17,7 @@ use std::mem;
 
 /// The digest of a file's bytes, that of its copy, and the bytes.
 pub fn blob_answer(alloc: Global, field: &str) -> Result<String> {
-    let blob = Blob::new(bytes_of(alloc, field)?);
+    let blob = Blob::new(bytes_of(alloc, field)?)?;
     let digest = hex::encode(alloc, blob.digest().as_slice())?;
     let copied = hex::encode(alloc, blob.copy()?.digest().as_slice())?;
     let bytes = hex::encode(alloc, blob.bytes())?;

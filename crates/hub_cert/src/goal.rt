@@ -13,7 +13,7 @@ pub enum Place {
 /// What has to be ruled out of a set, by the numbers of its profiles and rules.
 #[derive(Clone, Copy, Debug, PartialEq, Eq, PartialOrd, Ord)]
 pub enum Goal {
-    /// The writer writes a path, and the other profile reaches it or one below it.
+    /// The writer writes a path (reaches one, for an archive), and the other profile reaches it or one below it.
     Clash {
         /// The number of the profile that writes.
         writer: usize,

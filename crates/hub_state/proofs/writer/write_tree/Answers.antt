@@ -16,8 +16,8 @@ loop-entry-init g c = (
   c.requires,
 )
 
-pub loop-entry-preserved : goal.loop-entry-preserved
-loop-entry-preserved g c =
+pub loop-entry-preserved-in_ok-pass_block : goal.loop-entry-preserved-in_ok-pass_block
+loop-entry-preserved-in_ok-pass_block g c =
     let inv = c.loop-entry.invariant in
     let es = inv.0 in
     let x : Path × Contents = (c.in_ok-path.path, stored_contents c.in_ok-path.stored) in

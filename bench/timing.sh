@@ -9,7 +9,7 @@ program=${1:-$top/crates/hubsync/out/hubsync}
 repetitions=${2:-5}
 
 if [ ! -x "$program" ]; then
-    echo "$script: no program at $program: build it with ./hubsync" >&2
+    echo "$script: no program at $program: build it with ./prove" >&2
     exit 2
 fi
 folder=$(mktemp -d)

@@ -44,9 +44,10 @@ count_memory() {
     echo "$found"
 }
 
-# Moves what was made of a library to its out/, in place of what is there.
+# Moves what was made of a library to its out/, in place of what is there. A room that is half made has nothing to keep.
 keep_work() {
     local part made=$rooms/$1/crates/$1/out out=$top/crates/$1/out
+    [ -e "$rooms/$1.made" ] || return 0
     for part in incremental rlib; do
         if [ -e "$made/$part" ] && { [ "$part" != rlib ] || [ -e "$made/rlib/stamp" ]; }; then
             rm -rf "${out:?}/$part"
@@ -110,6 +111,7 @@ make_room() {
         fi
     done
     [ ! -d "$top/crates/$1/out/incremental" ] || cp -rl "$top/crates/$1/out/incremental" "$room/crates/$1/out/"
+    : >"$rooms/$1.made"
 }
 
 # Proves and builds a library in a room, or a program where it is. `rt run` also runs the program: here on an empty input.
@@ -128,7 +130,7 @@ run_lane() {
         keep_work "$crate"
     fi
     [ "$status" != 0 ] || : >"$rooms/$crate.proved"
-    rm "$rooms/$crate.lane"
+    rm -rf "${rooms:?}/$crate" "$rooms/$crate.tmp" "$rooms/$crate.lane"
 }
 
 # The program's own status doesn't count: `rt` leaves a stamp if it was built.

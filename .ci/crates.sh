@@ -45,7 +45,7 @@ is_newer_than_sources() {
 }
 
 # Prints the checksum of what a program's bytes depend on: its crates' lines in crates.txt, and the names and contents of
-# their source files. Nothing is compiled of specs/ and proofs/. `b2sum` takes half the time of `sha256sum`. To be called in a
+# their source files. Nothing is compiled of specs/ and proofs/. `b2sum` takes two thirds of the time of `sha256sum`. To be called in a
 # subshell, since it changes the folder.
 sum_of_sources() {
     LC_ALL=C

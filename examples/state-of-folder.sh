@@ -1,171 +1,322 @@
 #!/usr/bin/env bash
-# Writes on standard output the state text of folders of this machine: a replica for each FOLDER, and for each -a an
-# archive of two folders, with what both have alike. It is a convenience beside hubsync: nothing about it is proved.
+# Writes on standard output the state text of folders of this machine. It is a convenience beside hubsync: nothing about it is
+# proved. It is written in Perl, and needs `perl` with the module Digest::SHA, which comes with it.
 #
-#     examples/state-of-folder.sh FOLDER.. [-a FOLDER FOLDER]..
+#     examples/state-of-folder.sh [--leave-out] [--archives OLDSTATE] [[--as ROOT] FOLDER].. [-a FOLDER FOLDER]..
 #
-# Only files and directories can be written, of names that are UTF-8 and have no line end, and within the limits of the
-# reader. The script names each path that can't be written on standard error, writes nothing and ends with status 1.
+# Each FOLDER gives a replica. Its root is the folder's absolute path without links, or ROOT: the root that the profiles have
+# for it, as for a copy of a folder of another machine. Each -a gives an archive of two folders, with what both have alike now.
+# That is what Unison remembers right after it ran, and at no other time. So keep a state made then, as OLDSTATE: --archives
+# takes over its archives.
+#
+# A state has only files and directories, of names that are UTF-8 and have no line end, within the limits of its reader. The
+# script names each other path on standard error, writes nothing and ends with status 1. With --leave-out it leaves such a path
+# and what is below it out of all folders and archives, since a path that one side lacks would look deleted there; it writes the
+# rest, and ends with status 0. The status is 2 if the words of the command line are wrong.
 set -euo pipefail
-export LC_ALL=C
-most_entries=100000
-most_bytes=1048576
-most_names=64
-
-usage() {
-    echo "usage: $0 FOLDER.. [-a FOLDER FOLDER].." >&2
+if ! command -v perl >/dev/null; then
+    echo "$0: there is no perl in PATH" >&2
     exit 2
+fi
+LC_ALL=C exec perl - "$@" <<'PERL'
+use strict;
+use warnings;
+use Cwd 'realpath';
+use Digest::SHA 'sha256_hex';
+use IO::Handle;
+
+my $usage = "usage: examples/state-of-folder.sh [--leave-out] [--archives OLDSTATE] [[--as ROOT] FOLDER].."
+    . " [-a FOLDER FOLDER]..\n";
+my $most_entries = 100_000;
+my $most_bytes = 1_048_576;
+my $most_names = 64;
+my $utf8 = qr/(?:[\x00-\x7f]|[\xc2-\xdf][\x80-\xbf]|\xe0[\xa0-\xbf][\x80-\xbf]|[\xe1-\xec\xee\xef][\x80-\xbf]{2}
+    |\xed[\x80-\x9f][\x80-\xbf]|\xf0[\x90-\xbf][\x80-\xbf]{2}|[\xf1-\xf3][\x80-\xbf]{3}|\xf4[\x80-\x8f][\x80-\xbf]{2})/x;
+
+my $leave_out = 0;
+my $old_state;
+my @replicas;    # folders, in the order of the command line
+my @pairs;       # two folders each
+my %folders;     # each folder that is read, by its absolute path
+my %left_out;    # paths that can't be written, of any folder
+my $stops = 0;   # whether something is wrong that can't be left out
+my $entries = 0;
+my ($started, $shown_at) = (time, 0);
+
+# A path in a message: control characters are written as \xHH, and so is each byte above 127 if the path is not UTF-8.
+sub shown {
+    my ($text) = @_;
+    my $odd = $text =~ /\A$utf8*\z/ ? qr/[\x00-\x1f\x7f]/ : qr/[^\x20-\x7e]/;
+    $text =~ s/($odd)/sprintf '\\x%02x', ord $1/ge;
+    return $text;
 }
 
-# The root of a folder: its absolute path, without links. The dot keeps a line end at its end.
-root_of() {
-    local root
-    root=$(realpath -- "$1" && echo .)
-    printf '%s' "${root%$'\n.'}"
+sub say_so {
+    print STDERR "\r\e[K" if $shown_at;
+    print STDERR "$_[0]\n";
 }
 
-# Names on standard error what can't be written of a folder.
-complain_of() {
-    printf '%s: %q\n' "$1" "$2" >&2
-    good=0
+sub give_up {
+    my ($status, $message) = @_;
+    say_so($message);
+    exit $status;
 }
 
-# Whether a text is UTF-8, and has no character that a name can't have. The script keeps 1 as a mark of its own.
-is_text() {
-    case $1 in
-        *[$'\001\r\n']*) return 1 ;;
-    esac
-    printf '%s' "$1" | iconv -f UTF-8 -t UTF-8 >/dev/null 2>&1
+# On a terminal, each second after the first two.
+sub show_progress {
+    my $now = time;
+    return if $now < $started + 2 || $now == $shown_at || !-t STDERR;
+    $shown_at = $now;
+    print STDERR "\r\e[K$_[0]";
 }
 
-# Takes a test of `find`, and complains of each path below the folder that passes it.
-complain_where() {
-    local folder=$1 words=$2 path
-    shift 2
-    while IFS= read -r -d '' path; do
-        complain_of "$words" "$path"
-    done < <(find "$folder" -mindepth 1 "$@" -print0)
+# What is wrong with the text of a root.
+sub root_fault {
+    my ($root) = @_;
+    my @names = split m{/}, substr($root, 1), -1;
+    return 'is not an absolute path' if $root !~ m{\A/} || $root =~ m{\A//};
+    return 'is not UTF-8' if $root !~ /\A$utf8*\z/;
+    return 'has a line end' if $root =~ /[\r\n]/;
+    return 'has a name that is empty, . or ..' if grep { $_ =~ /\A\.?\.?\z/ } @names;
+    return "has more than $most_names names" if @names > $most_names;
+    return;
 }
 
-# Complains of what can't be written of a folder.
-check() {
-    local root path slashes
-    root=$(root_of "$1")
-    is_text "$root" || complain_of 'a root whose name is not UTF-8, or has a line end' "$root"
-    slashes=${root//[!\/]/}
-    [ "${#slashes}" -le "$most_names" ] || complain_of "a root of more than $most_names names" "$root"
-    find "$root" >/dev/null || complain_of 'a folder that cannot be read whole' "$root"
-    complain_where "$root" 'neither a file nor a directory' ! -type f ! -type d
-    complain_where "$root" 'a name with a line end or the control character 1' -name $'*[\001\r\n]*'
-    complain_where "$root" "a file of more than $most_bytes bytes" -type f -size "+${most_bytes}c"
-    if [ -n "$(find "$root" -mindepth $((most_names + 1)) -print -quit)" ]; then
-        complain_of "paths of more than $most_names names" "$root"
-    fi
-    # each name by itself only where one of them is wrong
-    if ! find "$root" -mindepth 1 -print0 | tr '\0\n' '\n\001' | iconv -f UTF-8 -t UTF-8 >/dev/null 2>&1; then
-        while IFS= read -r -d '' path; do
-            printf '%s' "$path" | iconv -f UTF-8 -t UTF-8 >/dev/null 2>&1 || complain_of 'a name that is not UTF-8' "$path"
-        done < <(find "$root" -mindepth 1 -print0)
-    fi
+# The folder of a word of the command line, by its absolute path.
+sub folder_of {
+    my ($word) = @_;
+    give_up(1, 'not a folder: ' . shown($word)) if !-d $word;
+    my $path = realpath($word);
+    return $folders{$path} //= { path => $path, root => $path, entries => [], sizes => {} };
 }
 
-# The paths below a folder, in the order of their names: `a/b` comes before `a-b`.
-paths_in() {
-    find "$1" -mindepth 1 -printf '%P\n' | tr '/' '\001' | sort | tr '\001' '/'
+sub add_replica {
+    my ($word, $root) = @_;
+    my $folder = folder_of($word);
+    give_up(2, 'a folder twice: ' . shown($word)) if grep { $_ == $folder } @replicas;
+    if (defined $root) {
+        $root =~ s{(?<=.)/\z}{};
+        my $fault = root_fault($root);
+        give_up(2, 'the root ' . shown($root) . " $fault") if defined $fault;
+        $folder->{root} = $root;
+    }
+    push @replicas, $folder;
 }
 
-# The bytes of a file in hexadecimal digits, or `-` if there are none.
-hex_of() {
-    if [ -s "$1" ]; then
-        od -An -v -tx1 <"$1" | tr -d ' \n'
-    else
-        printf -- '-'
-    fi
+sub take_option {
+    my ($option) = @_;
+    if ($option eq '--leave-out') {
+        $leave_out = 1;
+    } elsif ($option eq '--archives' && @ARGV && !defined $old_state) {
+        $old_state = shift @ARGV;
+    } elsif ($option eq '--as' && @ARGV >= 2 && $ARGV[1] !~ /\A-/) {
+        my $root = shift @ARGV;
+        add_replica(shift @ARGV, $root);
+    } elsif ($option eq '-a' && @ARGV >= 2) {
+        push @pairs, [ folder_of(shift @ARGV), folder_of(shift @ARGV) ];
+    } else {
+        print STDERR $usage;
+        exit 2;
+    }
 }
 
-digest_of() {
-    sha256sum <"$1" | cut -c 1-64
+# The archives of a state text: two roots, and the lines below them.
+sub read_archives {
+    my ($file) = @_;
+    my (@archives, $archive, $is_whole);
+    open my $in, '<', $file or give_up(1, shown($file) . ": $!");
+    give_up(1, 'not a state text: ' . shown($file)) if (readline($in) // '') ne "hubsync state 1\n";
+    while (my $line = <$in>) {
+        chomp $line;
+        if ($line =~ /\Aarchive (.*)/) {
+            $archive = { roots => [$1], lines => [] };
+            push @archives, $archive;
+        } elsif ($line =~ /\Areplica /) {
+            $archive = undef;
+        } elsif ($archive && $line =~ /\Awith (.*)/) {
+            push @{ $archive->{roots} }, $1;
+        } elsif ($archive && $line =~ /\A(?:dir|file) /) {
+            push @{ $archive->{lines} }, $line;
+        }
+        $is_whole = $line eq 'end';
+    }
+    give_up(1, 'a state text without its end: ' . shown($file)) if !$is_whole;
+    give_up(1, 'a state text without archives: ' . shown($file)) if !@archives;
+    give_up(1, 'an archive line without a with line: ' . shown($file)) if grep { @{ $_->{roots} } != 2 } @archives;
+    return @archives;
 }
 
-write_replica() {
-    local root hex path
-    root=$(root_of "$1")
-    printf 'replica %s\n' "$root"
-    paths_in "$root" >"$room/paths"
-    while IFS= read -r path; do
-        if [ -d "$root/$path" ]; then
-            printf 'dir %s\n' "$path"
-        else
-            hex=$(hex_of "$root/$path")
-            printf 'file %s %s\n' "$hex" "$path"
-        fi
-    done <"$room/paths"
+# Each root has one replica, and each pair of roots one archive.
+sub check_roots {
+    my (@pairs) = @_;
+    my %seen;
+    for my $root (map { $_->{root} } @replicas) {
+        give_up(2, 'a root twice: ' . shown($root)) if $seen{$root}++;
+    }
+    for my $pair (@pairs) {
+        my ($first, $second) = sort map { s{(?<=.)/\z}{}r } @$pair;
+        give_up(2, 'an archive of one root: ' . shown($first)) if $first eq $second;
+        my $words = shown($first) . ' and ' . shown($second);
+        give_up(2, "an archive twice: of $words") if $seen{"$first\n$second"}++;
+    }
+}
+
+# Notes each replica that has no archive: then nothing of it is shown as changed or deleted.
+sub note_missing_archives {
+    my %has_archive = map { (s{(?<=.)/\z}{}r => 1) } map { @$_ } @_;
+    for my $root (map { $_->{root} } @replicas) {
+        say_so('note: no archive has the root ' . shown($root)) if !$has_archive{$root};
+    }
+}
+
+# Why an entry can't be written, if it can't. The last two are the path in full, and how many names it has below the folder.
+sub entry_fault {
+    my ($name, $path, $depth) = @_;
+    return 'a name that is not UTF-8' if $name !~ /\A$utf8*\z/;
+    return 'a name with a line end' if $name =~ /[\r\n]/;
+    return "a path of more than $most_names names" if $depth > $most_names;
+    return 'neither a file nor a directory' if !lstat $path || !(-f _ || -d _);
+    return "a file of more than $most_bytes bytes" if -f _ && -s _ > $most_bytes;
+    return -d _ ? 'a directory that cannot be read' : 'a file that cannot be read' if !-r $path || -d _ && !-x _;
+    return;
+}
+
+# Reads what is below a directory of a folder, in the order of names: `a/b` comes before `a-b`. The directory is a text of the
+# names above, each with its slash.
+sub read_below {
+    my ($folder, $above, $depth) = @_;
+    opendir my $handle, "$folder->{path}/$above" or give_up(1, shown("$folder->{path}/$above") . ": $!");
+    my @names = sort grep { $_ ne '.' && $_ ne '..' } readdir $handle;
+    closedir $handle;
+    for my $name (@names) {
+        my ($path, $full) = ("$above$name", "$folder->{path}/$above$name");
+        my $fault = entry_fault($name, $full, $depth);
+        if (defined $fault) {
+            say_so("$fault: " . shown($full));
+            $left_out{$path} = 1;
+        }
+        lstat $full;
+        my $is_directory = -d _;
+        push @{ $folder->{entries} }, $path;
+        $folder->{sizes}{$path} = $is_directory ? 'dir' : -s _;
+        show_progress(++$entries . ' entries found');
+        my $is_read = $is_directory && $depth <= $most_names && -r $full && -x _;
+        read_below($folder, "$path/", $depth + 1) if $is_read && !($leave_out && defined $fault);
+    }
+}
+
+sub read_folder {
+    my ($folder) = @_;
+    my $fault = root_fault($folder->{root});
+    if (defined $fault) {
+        say_so('the root ' . shown($folder->{root}) . " $fault");
+        $stops = 1;
+    }
+    read_below($folder, '', 1);
+}
+
+# Whether the path or a directory above it is left out.
+sub is_left_out {
+    my ($path) = @_;
+    return 0 if !%left_out;
+    while (1) {
+        return 1 if $left_out{$path};
+        $path =~ s{/[^/]*\z}{} or return 0;
+    }
+}
+
+sub bytes_of {
+    my ($folder, $path) = @_;
+    my $full = "$folder->{path}/$path";
+    open my $in, '<:raw', $full or give_up(1, shown($full) . ": $!");
+    my $bytes = do { local $/; <$in> } // '';
+    give_up(1, 'changed while it was read: ' . shown($full)) if length $bytes != $folder->{sizes}{$path};
+    return $bytes;
+}
+
+sub write_entry {
+    my ($out, $line) = @_;
+    print $out "$line\n" or give_up(1, "a temporary file: $!");
+    show_progress(++$entries . ' entries read');
+}
+
+sub write_replica {
+    my ($out, $folder) = @_;
+    print $out "replica $folder->{root}\n";
+    for my $path (grep { !is_left_out($_) } @{ $folder->{entries} }) {
+        if ($folder->{sizes}{$path} eq 'dir') {
+            write_entry($out, "dir $path");
+        } else {
+            my $hex = unpack 'H*', bytes_of($folder, $path);
+            write_entry($out, 'file ' . (length $hex ? $hex : '-') . " $path");
+        }
+    }
+}
+
+# What an earlier state remembers.
+sub write_old_archive {
+    my ($out, $archive) = @_;
+    print $out "archive $archive->{roots}[0]\nwith $archive->{roots}[1]\n";
+    for my $line (@{ $archive->{lines} }) {
+        my ($path) = $line =~ /\A(?:dir|file [^ ]*) (.*)/;
+        write_entry($out, $line) if !is_left_out($path // '');
+    }
 }
 
 # What both folders have alike: directories, and files with equal bytes.
-write_archive() {
-    local first second path digest
-    first=$(root_of "$1")
-    second=$(root_of "$2")
-    printf 'archive %s\nwith %s\n' "$first" "$second"
-    paths_in "$first" >"$room/paths"
-    while IFS= read -r path; do
-        if [ -d "$first/$path" ] && [ -d "$second/$path" ]; then
-            printf 'dir %s\n' "$path"
-        elif [ -f "$first/$path" ] && [ -f "$second/$path" ] && cmp -s -- "$first/$path" "$second/$path"; then
-            digest=$(digest_of "$first/$path")
-            printf 'file %s %s\n' "$digest" "$path"
-        fi
-    done <"$room/paths"
+sub write_archive {
+    my ($out, $first, $second) = @_;
+    print $out "archive $first->{root}\nwith $second->{root}\n";
+    for my $path (grep { !is_left_out($_) } @{ $first->{entries} }) {
+        next if ($second->{sizes}{$path} // '') ne $first->{sizes}{$path};
+        if ($first->{sizes}{$path} eq 'dir') {
+            write_entry($out, "dir $path");
+        } else {
+            my $bytes = bytes_of($first, $path);
+            write_entry($out, 'file ' . sha256_hex($bytes) . " $path") if $bytes eq bytes_of($second, $path);
+        }
+    }
 }
 
-folders=()
-pairs=()
-while [ $# -gt 0 ]; do
-    if [ "$1" = -a ]; then
-        [ $# -ge 3 ] || usage
-        pairs+=("$2" "$3")
-        shift 3
-    else
-        folders+=("$1")
-        shift
-    fi
-done
-[ ${#folders[@]} -gt 0 ] || usage
-good=1
-for folder in "${folders[@]}" "${pairs[@]}"; do
-    if [ ! -d "$folder" ]; then
-        complain_of 'not a folder' "$folder"
-    fi
-done
-[ "$good" = 1 ] || exit 1
-for folder in "${folders[@]}"; do
-    check "$folder"
-done
-for ((i = 0; i < ${#pairs[@]}; i += 2)); do
-    if [ "$(root_of "${pairs[i]}")" = "$(root_of "${pairs[i + 1]}")" ]; then
-        complain_of 'an archive of one folder' "${pairs[i]}"
-    fi
-    check "${pairs[i]}"
-    check "${pairs[i + 1]}"
-done
-[ "$good" = 1 ] || exit 1
+# The text goes to a file first, so that it is written whole or not at all.
+sub write_all {
+    my ($out, @archives) = @_;
+    $entries = 0;
+    print $out "hubsync state 1\n";
+    write_replica($out, $_) for @replicas;
+    write_old_archive($out, $_) for @archives;
+    write_archive($out, @$_) for @pairs;
+    print $out "end\n";
+    give_up(1, "$entries entries are more than $most_entries") if $entries > $most_entries;
+    $out->flush or give_up(1, "a temporary file: $!");
+}
 
-room=$(mktemp -d)
-trap 'rm -rf "$room"' EXIT
-{
-    echo 'hubsync state 1'
-    for folder in "${folders[@]}"; do
-        write_replica "$folder"
-    done
-    for ((i = 0; i < ${#pairs[@]}; i += 2)); do
-        write_archive "${pairs[i]}" "${pairs[i + 1]}"
-    done
-    echo end
-} >"$room/text"
-entries=$(grep -c -e '^dir ' -e '^file ' "$room/text" || true)
-if [ "$entries" -gt "$most_entries" ]; then
-    echo "$entries entries are more than $most_entries" >&2
-    exit 1
-fi
-cat "$room/text"
+STDERR->autoflush(1);
+while (@ARGV) {
+    my $word = shift @ARGV;
+    $word =~ /\A-/ ? take_option($word) : add_replica($word);
+}
+if (!@replicas && !@pairs) {
+    print STDERR $usage;
+    exit 2;
+}
+my @archives = defined $old_state ? read_archives($old_state) : ();
+my @pairs_of_roots = ((map { $_->{roots} } @archives), map { [ $_->[0]{root}, $_->[1]{root} ] } @pairs);
+check_roots(@pairs_of_roots);
+note_missing_archives(@pairs_of_roots) if defined $old_state;
+my %is_read;
+for my $folder (@replicas, map { @$_ } @pairs) {
+    read_folder($folder) if !$is_read{ $folder->{path} }++;
+}
+my $count = keys %left_out;
+exit 1 if $stops || $count && !$leave_out;
+say_so("left out of all folders and archives, with what is below: $count") if $count;
+open my $out, '+>', undef or give_up(1, "a temporary file: $!");
+write_all($out, @archives);
+print STDERR "\r\e[K" if $shown_at;
+seek $out, 0, 0;
+while (read $out, my $block, 1 << 20) {
+    print $block or give_up(1, "standard output: $!");
+}
+close STDOUT or give_up(1, "standard output: $!");
+PERL

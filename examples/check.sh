@@ -88,9 +88,78 @@ try_folder() {
     cat <(echo safe) <("$folder/state-of-folder.sh" "$room/hub" "$room/other spoke" -a "$room/hub" "$room/other spoke") |
         cmp -s - "$room/answer"
 }
+# What `state-of-folder.sh` writes with its options, in a room of its own, where the folders `hub` and `laptop` had the files f1
+# and f2 alike before f1 was edited and f2 deleted.
+try_options() {
+    local script=$folder/state-of-folder.sh digests
+    mkdir -p hub/d laptop/d
+    printf 1 | tee hub/d/f1 >laptop/d/f1
+    printf 2 | tee hub/d/f2 >laptop/d/f2
+    "$script" -a hub laptop >earlier
+    printf 11 >laptop/d/f1
+    rm laptop/d/f2
+    digests=$(printf 'file %s d/f1\nfile %s d/f2' "$(printf 1 | sha256sum | cut -c 1-64)" "$(printf 2 | sha256sum | cut -c 1-64)")
+    "$script" --archives earlier hub laptop >state 2>said
+    cmp -s state - <<LINES || return 1
+hubsync state 1
+replica $PWD/hub
+dir d
+file 31 d/f1
+file 32 d/f2
+replica $PWD/laptop
+dir d
+file 3131 d/f1
+archive $PWD/hub
+with $PWD/laptop
+dir d
+$digests
+end
+LINES
+    [ ! -s said ] || return 1
+    # a link in one folder, above a file in the other one; and a root of another machine
+    ln -s nowhere laptop/e
+    mkdir hub/e
+    printf 3 >hub/e/f3
+    head -c 1048577 /dev/zero >hub/d/f1
+    ! "$script" hub laptop >state 2>said && [ ! -s state ] || return 1
+    "$script" --leave-out hub --archives earlier --as /hosts/laptop laptop >state 2>said || return 1
+    cmp -s state - <<LINES || return 1
+hubsync state 1
+replica $PWD/hub
+dir d
+file 32 d/f2
+replica /hosts/laptop
+dir d
+archive $PWD/hub
+with $PWD/laptop
+dir d
+${digests#*$'\n'}
+end
+LINES
+    cmp -s said - <<LINES
+note: no archive has the root /hosts/laptop
+a file of more than 1048576 bytes: $PWD/hub/d/f1
+neither a file nor a directory: $PWD/laptop/e
+left out of all folders and archives, with what is below: 2
+LINES
+}
+# Words that are wrong give the status 2.
+try_words() {
+    local words status
+    for words in '' '--unknown hub' 'hub hub' '--as x hub' '--as /x hub --as /x/ laptop' 'hub -a hub hub' \
+        'hub -a hub laptop -a laptop hub' '--archives earlier hub -a laptop hub'; do
+        status=0
+        # shellcheck disable=SC2086 # several words
+        "$folder/state-of-folder.sh" $words >state 2>said || status=$?
+        [ "$status" = 2 ] && [ ! -s state ] && [ -s said ] || return 1
+    done
+}
 room=$(mktemp -d)
 trap 'rm -rf "$room"' EXIT
 try_folder "$room" || complain "the state text of a folder is answered by '$(head -1 "$room/answer")'"
+mkdir "$room/options"
+(cd -P "$room/options" && try_options) || complain 'state-of-folder.sh writes something else with its options'
+(cd -P "$room/options" && try_words) || complain 'state-of-folder.sh takes words that are wrong'
 [ "$rows" -gt 0 ] || complain 'the table has no rows'
 [ "$given" -gt 0 ] || complain 'no bundle is safe'
 echo "examples: ${1:-hubsync} answered $rows, $wrong of them wrongly"

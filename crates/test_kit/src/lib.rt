@@ -1,0 +1,37 @@
+//! What the programs `test_*` share: how a table of questions is read and answered, in one dialect.
+//!
+//! - [`answer_table`] reads the table on standard input, and writes `QUESTION => ANSWER` for each question. A program is an
+//!   [`Answers`].
+//! - [`cut`], [`first`], [`two`] and [`three`] split a question; [`bytes_of`], [`text_of`], [`character_of`] and
+//!   [`path_of`] read a field.
+//! - [`answers_to_steps`] answers steps, one after another. What takes them is a [`Subject`].
+//! - [`yes_or_no`], [`shown`], [`quoted`], [`in_one_line`], [`list_text`], [`outcome_text`] and [`digit`] write answers.
+//!
+//! A question is a word and fields. Fields are separated by ` | `, and steps or lines within a field by `; `. Empty lines are
+//! skipped, and so are those that begin with `#`. A question that can't be read ends the program with an error.
+//!
+//! In a question `<61 a>` stands for 61 times `a`, `<170 U+4E00>` for 170 characters from U+4E00 on, and `<>` for nothing. One
+//! may contain another. A field whose bytes matter is read with these escapes:
+//!
+//! | Escape | What it stands for |
+//! |---|---|
+//! | `\n`, `\r`, `\t`, `\0` | LF, CR, a tab, NUL |
+//! | `\s` | a space, where one can't be seen: at the start or the end |
+//! | `\\` | `\` |
+//! | `\xff` | the byte with these two hexadecimal digits |
+//!
+//! The tables are data, so no proof depends on them.
+#![tactic(auto)]
+
+mod answers;
+mod escapes;
+mod fields;
+mod shorthand;
+mod steps;
+mod table;
+
+pub use answers::{digit, in_one_line, list_text, outcome_text, quoted, shown, word_of, yes_or_no};
+pub use escapes::{bytes_of, text_of};
+pub use fields::{character_of, cut, first, path_of, three, two};
+pub use steps::{Subject, answers_to_steps};
+pub use table::{Answers, answer_table};

@@ -1,10 +1,11 @@
 //! Questions about alphabets.
-use crate::given::{character_of, class_text, two};
+use crate::given::class_text;
 use anyhow::Result;
 use hub_automaton::{Alphabet, Class};
 use hub_glob::PathSpec;
 use hub_path::RelPath;
 use std::alloc::{AllocError, Global};
+use test_kit::{character_of, two};
 
 /// Adds the characters of a specification, or of a path, as `path = a/b`.
 fn add(alloc: Global, alphabet: &mut Alphabet, item: &str) -> Result<()> {
@@ -27,10 +28,15 @@ fn add_spec(alloc: Global, alphabet: &mut Alphabet, spec: &str) -> Result<()> {
 /// The alphabet that mentions the characters of these, with `; ` between them.
 fn alphabet_of(alloc: Global, items: &str) -> Result<Alphabet> {
     let mut alphabet = Alphabet::new(alloc)?;
-    for item in items.split("; ") {
-        add(alloc, &mut alphabet, item)?;
-    }
+    add_all(alloc, &mut alphabet, items)?;
     Ok(alphabet)
+}
+
+fn add_all(alloc: Global, alphabet: &mut Alphabet, items: &str) -> Result<()> {
+    for item in items.split("; ") {
+        add(alloc, alphabet, item)?;
+    }
+    Ok(())
 }
 
 /// The samples of all classes, and the numbers of the samples' classes.
@@ -53,22 +59,41 @@ fn samples_text(alloc: Global, alphabet: &Alphabet) -> Result<String, AllocError
 /// The class of a character.
 pub(crate) fn class(alloc: Global, fields: &str) -> Result<String> {
     let (items, character) = two(fields)?;
+    let character = character_of(alloc, character)?;
     let alphabet = alphabet_of(alloc, items)?;
-    Ok(class_text(alloc, alphabet.class_of(character_of(character)?))?)
+    Ok(class_text(alloc, alphabet.class_of(character))?)
 }
 
 /// For each of the items the fault of adding it, if there is one, and then how many classes there are, and the class of a
 /// character.
 pub(crate) fn mentioned(alloc: Global, fields: &str) -> Result<String> {
     let (items, character) = two(fields)?;
-    let character = character_of(character)?;
+    let character = character_of(alloc, character)?;
     let mut alphabet = Alphabet::new(alloc)?;
+    mentions_text(alloc, &mut alphabet, items, character)
+}
+
+fn mentions_text(
+    alloc: Global,
+    alphabet: &mut Alphabet,
+    items: &str,
+    character: char,
+) -> Result<String> {
     let mut answers = Vec::new(alloc);
     for item in items.split("; ") {
-        let fault = fault_text(alloc, add(alloc, &mut alphabet, item))?;
-        answers.push(classes_text(alloc, &alphabet, character, fault.as_str())?)?;
+        answers.push(mention_text(alloc, alphabet, item, character)?)?;
     }
     Ok(answers.as_slice().join(alloc, ", ")?)
+}
+
+fn mention_text(
+    alloc: Global,
+    alphabet: &mut Alphabet,
+    item: &str,
+    character: char,
+) -> Result<String> {
+    let fault = fault_text(alloc, add(alloc, alphabet, item))?;
+    Ok(classes_text(alloc, alphabet, character, fault.as_str())?)
 }
 
 /// The fault with a space after it, or nothing.

@@ -1,9 +1,9 @@
 //! Questions about automata of specifications.
-use crate::automaton::{Automaton, digit};
-use crate::given::{three, two};
+use crate::automaton::Automaton;
 use anyhow::{Context, Result};
 use hub_automaton::{Class, SpecSet, Spots};
 use std::alloc::{AllocError, Global};
+use test_kit::{digit, shown, three, two};
 
 /// Whether one of the specifications matches what has been read of a text, after each of its characters.
 pub(crate) fn walk(alloc: Global, fields: &str) -> Result<String> {
@@ -30,11 +30,14 @@ fn state_of(alloc: Global, specs: &str, text: &str) -> Result<Spots> {
 pub(crate) fn kept(alloc: Global, fields: &str) -> Result<String> {
     let (specs, first, second) = three(fields)?;
     let automaton = Automaton::of_specs(alloc, specs)?;
-    let said = comparison(
-        &automaton.state_after(first)?,
-        &automaton.state_after(second)?,
-    );
-    Ok(String::from_str(alloc, said)?)
+    let said = compared(&automaton, first, second)?;
+    shown(alloc, &said)
+}
+
+fn compared(automaton: &Automaton, first: &str, second: &str) -> Result<&'static str, AllocError> {
+    let one = automaton.state_after(first)?;
+    let other = automaton.state_after(second)?;
+    Ok(comparison(&one, &other))
 }
 
 /// What `==` and `<` say of two states.
@@ -51,7 +54,7 @@ fn comparison(one: &Spots, other: &Spots) -> &'static str {
 pub(crate) fn start(alloc: Global, specs: &str) -> Result<String> {
     match Automaton::of_specs(alloc, specs) {
         Ok(automaton) => Ok(start_text(alloc, &automaton.set)?),
-        Err(fault) => Ok(format!(in alloc; "{fault}")?),
+        Err(fault) => shown(alloc, &fault),
     }
 }
 
@@ -65,9 +68,18 @@ pub(crate) fn range(alloc: Global, fields: &str) -> Result<String> {
     let (specs, text, numbers) = three(fields)?;
     let (from, to) = numbers_of(numbers)?;
     let automaton = Automaton::of_specs(alloc, specs)?;
+    let matched = is_matched_in(&automaton, text, from, to)?;
+    shown(alloc, &matched)
+}
+
+fn is_matched_in(
+    automaton: &Automaton,
+    text: &str,
+    from: usize,
+    to: usize,
+) -> Result<bool, AllocError> {
     let state = automaton.state_after(text)?;
-    let matched = automaton.set.matched_in(&state, from, to);
-    Ok(format!(in alloc; "{matched}")?)
+    Ok(automaton.set.matched_in(&state, from, to))
 }
 
 /// The two numbers of a range.
@@ -95,8 +107,12 @@ fn likes_text(alloc: Global, set: &SpecSet) -> Result<String, AllocError> {
 pub(crate) fn leads(alloc: Global, fields: &str) -> Result<String> {
     let (specs, path, text) = three(fields)?;
     let automaton = Automaton::with_path(alloc, path, specs)?;
+    Ok(leads_after(alloc, &automaton, text)?)
+}
+
+fn leads_after(alloc: Global, automaton: &Automaton, text: &str) -> Result<String, AllocError> {
     let state = automaton.state_after(text)?;
-    Ok(leads_text(alloc, &automaton.set, &state)?)
+    leads_text(alloc, &automaton.set, &state)
 }
 
 fn leads_text(alloc: Global, set: &SpecSet, state: &Spots) -> Result<String, AllocError> {

@@ -6,6 +6,7 @@ use anyhow::Result;
 use hub_automaton::{Alphabet, Class, SpecSet, Spots};
 use hub_profile::Profile;
 use std::alloc::{AllocError, Global};
+use test_kit::digit;
 
 /// An automaton, and the alphabet that it is over.
 #[derive(Drop)]
@@ -18,23 +19,31 @@ pub(crate) struct Automaton {
 
 impl Automaton {
     /// Makes the automaton of specifications, with `; ` between them.
-    pub(crate) fn of_specs(alloc: Global, specs: &str) -> Result<Automaton> {
+    pub(crate) fn of_specs(alloc: Global, specs: &str) -> Result<Box<Automaton>> {
         let profile = profile_ignoring(alloc, specs)?;
-        Automaton::over(alloc, alphabet_of(alloc, &profile)?, &profile)
+        Automaton::ignoring(alloc, &profile)
     }
 
     /// Makes the automaton of specifications over an alphabet that mentions a path, too.
-    pub(crate) fn with_path(alloc: Global, path: &str, specs: &str) -> Result<Automaton> {
+    pub(crate) fn with_path(alloc: Global, path: &str, specs: &str) -> Result<Box<Automaton>> {
         let profile = profile_ignoring(alloc, specs)?;
-        Automaton::over(alloc, alphabet_with(alloc, path, &profile)?, &profile)
+        Automaton::ignoring_with_path(alloc, path, &profile)
+    }
+
+    fn ignoring(alloc: Global, profile: &Profile) -> Result<Box<Automaton>> {
+        Automaton::over(alloc, alphabet_of(alloc, profile)?, profile)
+    }
+
+    fn ignoring_with_path(alloc: Global, path: &str, profile: &Profile) -> Result<Box<Automaton>> {
+        Automaton::over(alloc, alphabet_with(alloc, path, profile)?, profile)
     }
 
     /// Makes the automaton of what a profile ignores.
-    fn over(alloc: Global, alphabet: Alphabet, profile: &Profile) -> Result<Automaton>
+    fn over(alloc: Global, alphabet: Alphabet, profile: &Profile) -> Result<Box<Automaton>>
         requires { Mentions alphabet profile.now }
     {
         let set = SpecSet::build(alloc, &alphabet, profile.ignore())?;
-        Ok(Automaton { alphabet, set })
+        Ok(Box::new(alloc, Automaton { alphabet, set })?)
     }
 
     /// The state after a text.
@@ -101,9 +110,4 @@ impl Automaton {
         }
         Ok(())
     }
-}
-
-/// The digit for whether something holds.
-pub(crate) fn digit(holds: bool) -> char {
-    if holds { '1' } else { '0' }
 }

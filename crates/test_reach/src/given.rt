@@ -1,33 +1,21 @@
-//! The fields of questions: profiles, alphabets that mention them, paths and characters.
+//! The fields of questions: profiles, and alphabets that mention them.
 ghost use Rattle.std.specs.Prelude.{IfOk};
 ghost use Rattle.hub_reach.specs.Mention.{Mentions};
 
-use anyhow::{Context, Result};
+use anyhow::Result;
 use hub_automaton::{Alphabet, Class};
 use hub_path::{Name, RelPath};
 use hub_profile::{Profile, read_profile};
 use hub_reach::mention;
 use std::alloc::{AllocError, Global};
 
-/// Two fields.
-pub(crate) fn two(fields: &str) -> Result<(&str, &str)> {
-    fields.split_once(" | ").context("a field is missing")
-}
-
-/// Three fields.
-pub(crate) fn three(fields: &str) -> Result<(&str, &str, &str)> {
-    let (first, others) = two(fields)?;
-    let (second, third) = two(others)?;
-    Ok((first, second, third))
-}
-
 /// Reads the profile over the roots `/srv/hub` and `/srv/s1` of these lines, with `; ` between them.
-pub(crate) fn profile_of(alloc: Global, lines: &str) -> Result<Profile> {
+pub(crate) fn profile_of(alloc: Global, lines: &str) -> Result<Box<Profile>> {
     read(alloc, profile_text(alloc, "", lines)?.as_str())
 }
 
 /// Reads the profile that ignores what these specifications match, with `; ` between them.
-pub(crate) fn profile_ignoring(alloc: Global, specs: &str) -> Result<Profile> {
+pub(crate) fn profile_ignoring(alloc: Global, specs: &str) -> Result<Box<Profile>> {
     read(alloc, profile_text(alloc, "ignore = ", specs)?.as_str())
 }
 
@@ -43,9 +31,10 @@ fn profile_text(alloc: Global, before: &str, lines: &str) -> Result<String, Allo
 }
 
 /// Reads the profile of a text. A fault becomes an error here, once for all questions.
-fn read(alloc: Global, text: &str) -> Result<Profile> {
+fn read(alloc: Global, text: &str) -> Result<Box<Profile>> {
     let name = Name::read(alloc, "p")?;
-    Ok(read_profile(alloc, name, text.as_bytes())?)
+    let profile = read_profile(alloc, name, text.as_bytes())?;
+    Ok(Box::new(alloc, profile)?)
 }
 
 /// Makes an alphabet that mentions the characters of a profile.
@@ -66,11 +55,6 @@ pub(crate) fn alphabet_with(alloc: Global, path: &str, profile: &Profile) -> Res
     alphabet.add_path(&path)?;
     mention(&mut alphabet, profile)?;
     Ok(alphabet)
-}
-
-/// The first character of a field.
-pub(crate) fn character_of(field: &str) -> Result<char> {
-    field.chars().next().context("a character is missing")
 }
 
 /// The number of a class, or `none`.

@@ -1,11 +1,8 @@
 //! Answers questions about alphabets, automata and profiles. With the questions of `stdin` and the answers of `stdout`, which
 //! were worked out by hand from the rules, it is the test of `hub_automaton` and `hub_reach`.
 //!
-//! Each line of standard input is a question: a word, and fields with ` | ` between them. `stdin` says what each word asks
-//! for. Empty lines and those that begin with `#` are skipped. The answer is a line with the question, `: `, and what the
-//! crates say. If a question can't be read, the program ends with status 1.
-//!
-//! The questions are data, so no proof depends on them.
+//! Each line of standard input is a question, as `test_kit` says. `stdin` says what each word asks for. The answer is what
+//! the crates say.
 #![tactic(auto)]
 
 mod alphabets;
@@ -14,39 +11,30 @@ mod automaton;
 mod given;
 mod paths;
 mod reached;
-mod shorthand;
 mod stages;
 mod states;
 mod verbs;
 mod walkers;
 
-use anyhow::{Context, Result, bail};
-use shorthand::expand;
+use anyhow::{Result, bail};
 use std::alloc::Global;
-use std::io::{BufRead, BufReader};
+use test_kit::{Answers, answer_table};
 
 fn main(rt: HostRuntime) -> Result<()> {
-    let alloc = rt.alloc();
-    for line in BufReader::new(alloc, rt.reader())?.lines(alloc) {
-        let line = line?;
-        if is_question(line.as_str()) {
-            let answer = answer_to(alloc, line.as_str()).context(format_args!("{line}"))?;
-            println!(rt; "{line}: {answer}")?;
-        }
+    answer_table(&rt, &mut Program {})
+}
+
+/// What answers the questions. It keeps nothing from one to the next.
+#[derive(Drop)]
+struct Program {}
+
+impl Answers for Program {
+    fn takes(&mut self, _line: &str) -> Result<bool> {
+        Ok(false)
     }
-    Ok(())
-}
 
-fn is_question(line: &str) -> bool {
-    !line.is_empty() && !line.starts_with('#')
-}
-
-/// What the crates say.
-fn answer_to(alloc: Global, line: &str) -> Result<String> {
-    let question = expand(alloc, line)?;
-    match question.as_str().split_once(' ') {
-        Some((word, fields)) => answer(alloc, word, fields),
-        None => bail!("a question has fields"),
+    fn answer(&mut self, alloc: Global, word: &str, fields: &str) -> Result<String> {
+        answer(alloc, word, fields)
     }
 }
 

@@ -4,7 +4,6 @@ ghost use Rattle.hub_path.specs.Path.{text_of};
 ghost use Rattle.hub_automaton.specs.Spots.{is_covered, path_alternatives};
 
 use crate::automaton::Automaton;
-use crate::given::two;
 use anyhow::Result;
 use hub_automaton::laws::{
     paths_mention_their_characters, texts_mention_what_their_names_do, what_is_added_is_mentioned,
@@ -12,6 +11,7 @@ use hub_automaton::laws::{
 use hub_automaton::{Alphabet, SpecSetBuilder};
 use hub_path::RelPath;
 use std::alloc::{AllocError, Global};
+use test_kit::two;
 
 /// The alphabet that mentions the characters of a path.
 fn alphabet_of(alloc: Global, path: &RelPath) -> Result<Alphabet>
@@ -36,17 +36,22 @@ fn builder_of(alloc: Global, path: &RelPath) -> Result<SpecSetBuilder>
 }
 
 /// The automaton of a path.
-fn automaton_of(alloc: Global, path: &RelPath) -> Result<Automaton> {
+fn automaton_of(alloc: Global, path: &RelPath) -> Result<Box<Automaton>> {
     let alphabet = alphabet_of(alloc, path)?;
     let set = builder_of(alloc, path)?.build(&alphabet)?;
-    Ok(Automaton { alphabet, set })
+    Ok(Box::new(alloc, Automaton { alphabet, set })?)
 }
 
 /// How many positions the automaton of a path has, and whether the path matches what has been read of a text, after each of
 /// its characters.
 pub(crate) fn path(alloc: Global, fields: &str) -> Result<String> {
     let (path, text) = two(fields)?;
-    let automaton = automaton_of(alloc, &RelPath::read(alloc, path)?)?;
+    let path = RelPath::read(alloc, path)?;
+    walk_along(alloc, &path, text)
+}
+
+fn walk_along(alloc: Global, path: &RelPath, text: &str) -> Result<String> {
+    let automaton = automaton_of(alloc, path)?;
     Ok(path_text(alloc, &automaton, text)?)
 }
 
@@ -58,9 +63,13 @@ fn path_text(alloc: Global, automaton: &Automaton, text: &str) -> Result<String,
 /// For each of these paths the fault of adding it, if there is one, and then how many have been added.
 pub(crate) fn paths(alloc: Global, paths: &str) -> Result<String> {
     let mut builder = SpecSetBuilder::new(alloc);
+    added(alloc, &mut builder, paths)
+}
+
+fn added(alloc: Global, builder: &mut SpecSetBuilder, paths: &str) -> Result<String> {
     let mut answers = Vec::new(alloc);
     for path in paths.split("; ") {
-        answers.push(add(alloc, &mut builder, path)?)?;
+        answers.push(add(alloc, builder, path)?)?;
     }
     Ok(answers.as_slice().join(alloc, ", ")?)
 }

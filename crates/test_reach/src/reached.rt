@@ -1,16 +1,18 @@
 //! Questions about what profiles reach.
-use crate::given::{profile_of, two};
+use crate::given::profile_of;
 use crate::walkers::walk;
 use anyhow::Result;
 use hub_path::RelPath;
 use hub_profile::Profile;
 use hub_reach::reaches as is_reached;
 use std::alloc::Global;
+use test_kit::{shown, two};
 
 /// Whether the profile reaches the path: by its names, and by a walker along its text.
 pub(crate) fn reaches(alloc: Global, fields: &str) -> Result<String> {
     let (lines, path) = two(fields)?;
-    reaches_path(alloc, &profile_of(alloc, lines)?, path)
+    let profile = profile_of(alloc, lines)?;
+    reaches_path(alloc, &profile, path)
 }
 
 fn reaches_path(alloc: Global, profile: &Profile, path: &str) -> Result<String> {
@@ -23,5 +25,5 @@ fn reaches_path(alloc: Global, profile: &Profile, path: &str) -> Result<String> 
 pub(crate) fn reaches_top(alloc: Global, lines: &str) -> Result<String> {
     let profile = profile_of(alloc, lines)?;
     let reached = is_reached(&profile, &RelPath::top(alloc));
-    Ok(format!(in alloc; "{reached}")?)
+    shown(alloc, &reached)
 }

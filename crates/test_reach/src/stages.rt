@@ -1,23 +1,25 @@
 //! Questions about the numbers of stages.
-use crate::automaton::digit;
-use crate::given::{alphabet_of, alphabet_with, profile_of, three, two};
+ghost use Rattle.hub_reach.specs.Mention.{Mentions};
+
+use crate::given::{alphabet_of, alphabet_with, profile_of};
 use anyhow::Result;
 use hub_automaton::{Alphabet, Class};
 use hub_profile::Profile;
 use hub_reach::{Table, Walker};
 use std::alloc::{AllocError, Global};
+use test_kit::{digit, three, two};
 
 /// For each of these texts in turn the number of its stage and what the table says of it, and then how many stages were
 /// found.
 pub(crate) fn stages(alloc: Global, fields: &str) -> Result<String> {
     let (lines, texts) = two(fields)?;
-    stages_of(alloc, &profile_of(alloc, lines)?, texts)
+    let profile = profile_of(alloc, lines)?;
+    stages_of(alloc, &profile, texts)
 }
 
 fn stages_of(alloc: Global, profile: &Profile, texts: &str) -> Result<String> {
     let alphabet = alphabet_of(alloc, profile)?;
-    let walker = Walker::new(alloc, profile, &alphabet)?;
-    let mut table = Table::new(alloc, walker);
+    let mut table = table_of(alloc, profile, &alphabet)?;
     Ok(stages_text(alloc, &alphabet, &mut table, texts)?)
 }
 
@@ -43,6 +45,14 @@ fn numbers_text(
         numbers.push(number_text(alloc, table, number)?)?;
     }
     numbers.as_slice().join(alloc, ", ")
+}
+
+/// Makes the table of a profile's walker.
+fn table_of(alloc: Global, profile: &Profile, alphabet: &Alphabet) -> Result<Box<Table>>
+    requires { Mentions alphabet.now profile.now }
+{
+    let walker = Walker::new(alloc, profile, alphabet)?;
+    Ok(Box::new(alloc, Table::new(alloc, walker))?)
 }
 
 /// The number of a text's stage.
@@ -89,13 +99,13 @@ fn broken_word(table: &Table, number: usize) -> &'static str {
 /// class 0.
 pub(crate) fn remembered(alloc: Global, fields: &str) -> Result<String> {
     let (lines, path, characters) = three(fields)?;
-    remembered_of(alloc, &profile_of(alloc, lines)?, path, characters)
+    let profile = profile_of(alloc, lines)?;
+    remembered_of(alloc, &profile, path, characters)
 }
 
 fn remembered_of(alloc: Global, profile: &Profile, path: &str, characters: &str) -> Result<String> {
     let alphabet = alphabet_with(alloc, path, profile)?;
-    let walker = Walker::new(alloc, profile, &alphabet)?;
-    let mut table = Table::new(alloc, walker);
+    let mut table = table_of(alloc, profile, &alphabet)?;
     Ok(remembered_text(alloc, &alphabet, &mut table, characters)?)
 }
 

@@ -1,15 +1,15 @@
 //! Questions about the numbers of specifications' states.
 use crate::automaton::Automaton;
-use crate::given::two;
 use anyhow::Result;
 use hub_automaton::{Alphabet, Class};
 use hub_reach::SpecTable;
 use std::alloc::{AllocError, Global};
+use test_kit::two;
 
 /// For each of these texts in turn the number of its state and whether it is matched, and then how many states were found.
 pub(crate) fn states(alloc: Global, fields: &str) -> Result<String> {
     let (specs, texts) = two(fields)?;
-    let Automaton { alphabet, set } = Automaton::of_specs(alloc, specs)?;
+    let Automaton { alphabet, set } = Box::into_inner(Automaton::of_specs(alloc, specs)?);
     let mut table = SpecTable::new(alloc, set);
     Ok(states_text(alloc, &alphabet, &mut table, texts)?)
 }

@@ -1,10 +1,11 @@
 //! Questions about what profiles may do.
-use crate::given::{profile_of, two};
+use crate::given::profile_of;
 use anyhow::Result;
 use hub_path::Root;
 use hub_profile::{Profile, Verb};
 use hub_reach::{may, writes};
 use std::alloc::{AllocError, Global};
+use test_kit::{shown, two};
 
 const VERBS: [(Verb, &str); 3] = [
     (Verb::Create, "create"),
@@ -37,6 +38,7 @@ fn allowed_text(alloc: Global, profile: &Profile, root: &Root) -> Result<String,
 pub(crate) fn is_written(alloc: Global, fields: &str) -> Result<String> {
     let (lines, root) = two(fields)?;
     let root = Root::read(alloc, root)?;
-    let written = writes(&profile_of(alloc, lines)?, &root);
-    Ok(format!(in alloc; "{written}")?)
+    let profile = profile_of(alloc, lines)?;
+    let written = writes(&profile, &root);
+    shown(alloc, &written)
 }

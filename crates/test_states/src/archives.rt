@@ -7,22 +7,29 @@
 use crate::fields::{
     contents_of, list_text, mark_text, outcome_text, path_of, paths_text, yes_or_no,
 };
-use crate::steps::Subject;
+use crate::steps::{self, Subject};
 use anyhow::{Result, bail, ensure};
-use hub_tree::Archive;
+use hub_path::RelPath;
+use hub_tree::{Archive, Mark};
 use std::alloc::Global;
 use std::mem;
 
+/// The answers to the steps of two archives.
+pub fn answers(alloc: Global, steps: &str) -> Result<String> {
+    let mut archives = Archives::new(alloc);
+    steps::answers(alloc, &mut archives, steps)
+}
+
 /// An archive, and a second one.
 #[derive(Drop)]
-pub struct Archives {
+struct Archives {
     archive: Archive,
     other: Archive,
 }
 
 impl Archives {
     /// Two empty archives.
-    pub fn new(alloc: Global) -> Archives {
+    fn new(alloc: Global) -> Archives {
         Archives {
             archive: Archive::new(alloc),
             other: Archive::new(alloc),
@@ -74,10 +81,13 @@ fn mark_at(alloc: Global, archive: &Archive, path: &str) -> Result<String> {
 fn marks_text(alloc: Global, archive: &Archive) -> Result<String> {
     let mut parts = Vec::new(alloc);
     for (path, mark) in archive.iter() {
-        let path = path.text()?;
-        let mark = mark_text(alloc, *mark)?;
-        parts.push(format!(in alloc; "{path} {mark}")?)?;
+        parts.push(entry_text(alloc, path, *mark)?)?;
     }
     let list = list_text(alloc, parts.as_slice())?;
     Ok(format!(in alloc; "{}: {list}", archive.iter().len())?)
+}
+
+fn entry_text(alloc: Global, path: &RelPath, mark: Mark) -> Result<String> {
+    let mark = mark_text(alloc, mark)?;
+    Ok(format!(in alloc; "{} {mark}", path.text()?)?)
 }

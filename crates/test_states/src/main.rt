@@ -30,7 +30,6 @@ mod steps;
 mod trees;
 
 use anyhow::{Result, bail};
-use hub_state::State;
 use std::alloc::Global;
 use std::io::{BufRead, BufReader};
 
@@ -54,11 +53,11 @@ fn answer(alloc: Global, question: &str) -> Result<String> {
         "text" => states::text_answer(alloc, fields),
         "failing_reader" => states::failing_reader_answer(alloc, fields),
         "failing_writer" => states::failing_writer_answer(alloc, fields),
-        "state" => steps::answers(alloc, &mut State::new(alloc), fields),
+        "state" => sections::answers(alloc, fields),
         "blob" => trees::blob_answer(alloc, fields),
-        "tree" => steps::answers(alloc, &mut trees::Trees::new(alloc), fields),
+        "tree" => trees::answers(alloc, fields),
         "levels" => levels::answer(alloc, fields),
-        "archive" => steps::answers(alloc, &mut archives::Archives::new(alloc), fields),
+        "archive" => archives::answers(alloc, fields),
         "reconcile" => reconciliation::answer(alloc, fields),
         _ => bail!("no question: {word}"),
     }

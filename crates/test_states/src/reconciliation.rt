@@ -23,16 +23,53 @@ struct Seen {
 /// The items, the changes and the new archive.
 pub fn answer(alloc: Global, fields: &str) -> Result<String> {
     let parts: Vec<&str> = fields.split(" | ").collect(alloc)?;
-    let [lines, left, right, old] = *parts.as_slice() else {
-        bail!("not four fields");
-    };
+    match *parts.as_slice() {
+        [lines, left, right, old] => answer_by(alloc, lines, [left, right, old]),
+        _ => bail!("not four fields"),
+    }
+}
+
+fn answer_by(alloc: Global, lines: &str, fields: [&str; 3]) -> Result<String> {
     let profile = profile_of(alloc, lines)?;
+    answer_with(alloc, &profile, fields)
+}
+
+fn answer_with(alloc: Global, profile: &Profile, [left, right, old]: [&str; 3]) -> Result<String> {
+    let archive = archive_of(alloc, old)?;
+    answer_from(alloc, profile, &archive, left, right)
+}
+
+fn answer_from(
+    alloc: Global,
+    profile: &Profile,
+    archive: &Archive,
+    left: &str,
+    right: &str,
+) -> Result<String> {
     let left = all_seen(alloc, left)?;
     let right = all_seen(alloc, right)?;
-    let archive = archive_of(alloc, all_seen(alloc, old)?.as_slice())?;
-    let left = looks_of(alloc, left.as_slice())?;
-    let right = looks_of(alloc, right.as_slice())?;
-    outcome(alloc, &profile, left.as_slice(), right.as_slice(), &archive)
+    answer_to_seen(alloc, profile, archive, left.as_slice(), right.as_slice())
+}
+
+fn answer_to_seen(
+    alloc: Global,
+    profile: &Profile,
+    archive: &Archive,
+    left: &[Seen],
+    right: &[Seen],
+) -> Result<String> {
+    let left = looks_of(alloc, left)?;
+    let right = looks_of(alloc, right)?;
+    ensure!(
+        are_rising(left.as_slice()),
+        "the paths on the left are not in order"
+    );
+    ensure!(
+        are_rising(right.as_slice()),
+        "the paths on the right are not in order"
+    );
+    let picture = Picture::new(profile, left.as_slice(), right.as_slice(), archive);
+    outcome(alloc, &picture)
 }
 
 /// The profile with these lines after its two roots.
@@ -80,15 +117,21 @@ fn mark_text(alloc: Global, mark: Mark) -> Result<String> {
     }
 }
 
-/// The archive with these marks.
-fn archive_of(alloc: Global, all: &[Seen]) -> Result<Archive> {
+/// The archive with the marks of this field.
+fn archive_of(alloc: Global, field: &str) -> Result<Archive> {
+    let all = all_seen(alloc, field)?;
     let mut archive = Archive::new(alloc);
+    set_all(&mut archive, all.as_slice())?;
+    Ok(archive)
+}
+
+fn set_all(archive: &mut Archive, all: &[Seen]) -> Result<()> {
     for seen in all {
         if seen.path.len() > 0 {
             archive.set(&seen.path, seen.mark)?;
         }
     }
-    Ok(archive)
+    Ok(())
 }
 
 /// The Looks of what is seen.
@@ -106,19 +149,10 @@ fn looks_of<'a>(alloc: Global, all: &'a [Seen]) -> Result<Vec<Look<'a>>> {
 }
 
 /// What becomes of it.
-fn outcome(
-    alloc: Global,
-    profile: &Profile,
-    left: &[Look],
-    right: &[Look],
-    archive: &Archive,
-) -> Result<String> {
-    ensure!(are_rising(left), "the paths on the left are not in order");
-    ensure!(are_rising(right), "the paths on the right are not in order");
-    let picture = Picture::new(profile, left, right, archive);
-    let items = items_text(alloc, items(alloc, &picture)?.as_slice())?;
-    let changes = changes_text(alloc, plan(alloc, &picture)?.as_slice())?;
-    let archive = archive_text(alloc, &next_archive(alloc, &picture)?)?;
+fn outcome(alloc: Global, picture: &Picture<'_>) -> Result<String> {
+    let items = items_text(alloc, picture)?;
+    let changes = changes_text(alloc, picture)?;
+    let archive = archive_text(alloc, picture)?;
     Ok(format!(in alloc; "{items} | {changes} | {archive}")?)
 }
 
@@ -129,9 +163,9 @@ fn root_of(side: Side) -> &'static str {
     }
 }
 
-fn items_text(alloc: Global, items: &[Item]) -> Result<String> {
+fn items_text(alloc: Global, picture: &Picture<'_>) -> Result<String> {
     let mut parts = Vec::new(alloc);
-    for item in items {
+    for item in items(alloc, picture)?.as_slice() {
         parts.push(item_text(alloc, item)?)?;
     }
     list_text(alloc, parts.as_slice())
@@ -145,9 +179,9 @@ fn item_text(alloc: Global, item: &Item) -> Result<String> {
     }
 }
 
-fn changes_text(alloc: Global, changes: &[Change]) -> Result<String> {
+fn changes_text(alloc: Global, picture: &Picture<'_>) -> Result<String> {
     let mut parts = Vec::new(alloc);
-    for change in changes {
+    for change in plan(alloc, picture)?.as_slice() {
         parts.push(change_text(alloc, change)?)?;
     }
     list_text(alloc, parts.as_slice())
@@ -159,11 +193,20 @@ fn change_text(alloc: Global, change: &Change) -> Result<String> {
     Ok(format!(in alloc; "{} {path} {mark}", root_of(change.side))?)
 }
 
-fn archive_text(alloc: Global, archive: &Archive) -> Result<String> {
+fn archive_text(alloc: Global, picture: &Picture<'_>) -> Result<String> {
+    let archive = next_archive(alloc, picture)?;
+    marks_text(alloc, &archive)
+}
+
+fn marks_text(alloc: Global, archive: &Archive) -> Result<String> {
     let mut parts = Vec::new(alloc);
     for path in archive.paths()?.as_slice() {
-        let mark = mark_text(alloc, archive.mark_at(path))?;
-        parts.push(format!(in alloc; "{} {mark}", path.text()?)?)?;
+        parts.push(entry_text(alloc, archive, path)?)?;
     }
     list_text(alloc, parts.as_slice())
+}
+
+fn entry_text(alloc: Global, archive: &Archive, path: &RelPath) -> Result<String> {
+    let mark = mark_text(alloc, archive.mark_at(path))?;
+    Ok(format!(in alloc; "{} {mark}", path.text()?)?)
 }

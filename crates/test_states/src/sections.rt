@@ -7,27 +7,28 @@
 
 use crate::fields::{in_one_line, outcome_text, path_of, yes_or_no};
 use crate::states::written;
-use crate::steps::Subject;
-use anyhow::{Result, bail, ensure};
-use hub_path::Root;
+use crate::steps::{self, Subject};
+use anyhow::{Result, bail};
+use hub_path::{RelPath, Root};
 use hub_state::State;
 use hub_tree::{Archive, Mark, Tree};
-use std::alloc::Global;
+use std::alloc::{AllocError, Global};
+
+/// The answers to the steps of a state.
+pub fn answers(alloc: Global, steps: &str) -> Result<String> {
+    let mut state = State::new(alloc);
+    steps::answers(alloc, &mut state, steps)
+}
 
 impl Subject for State {
     fn step(&mut self, alloc: Global, words: &[&str]) -> Result<String> {
         match *words {
             ["put", root] => put_replica(alloc, self, root),
-            ["put", first, second] => put_archive(alloc, self, first, second, Archive::new(alloc)),
-            ["put", first, second, path] => {
-                put_archive(alloc, self, first, second, with_directory(alloc, path)?)
-            }
+            ["put", first, second] => put_archive(alloc, self, first, second, "."),
+            ["put", first, second, path] => put_archive(alloc, self, first, second, path),
             ["has", root] => has_replica(alloc, self, root),
             ["has", first, second] => has_archive(alloc, self, first, second),
-            ["copy"] => {
-                *self = self.copy()?;
-                Ok(String::from_str(alloc, "ok")?)
-            }
+            ["copy"] => outcome_text(alloc, become_copy(self)),
             ["text"] => in_one_line(alloc, written(alloc, self)?.as_str()),
             _ => bail!("no step of a state"),
         }
@@ -40,30 +41,49 @@ fn put_replica(alloc: Global, state: &mut State, root: &str) -> Result<String> {
     outcome_text(alloc, state.put_replica(&root, Tree::new(alloc)))
 }
 
-/// An archive with a directory at a path.
-fn with_directory(alloc: Global, path: &str) -> Result<Archive> {
-    let path = path_of(alloc, path)?;
-    let mut archive = Archive::new(alloc);
-    ensure!(path.len() > 0, "no path of an archive");
-    archive.set(&path, Mark::Directory)?;
-    Ok(archive)
+/// Makes a state a copy of itself.
+fn become_copy(state: &mut State) -> Result<(), AllocError> {
+    *state = state.copy()?;
+    Ok(())
 }
 
 /// Puts an archive in the place of that of two roots, which are different.
-#[tactic(auto, using(hub_state::proofs::States::other_roots))]
 fn put_archive(
     alloc: Global,
     state: &mut State,
     first: &str,
     second: &str,
-    archive: Archive,
+    path: &str,
 ) -> Result<String> {
     let first = Root::read(alloc, first)?;
     let second = Root::read(alloc, second)?;
+    put_between(alloc, state, &first, &second, path)
+}
+
+/// Puts an archive that has a directory at the path, or is empty if the path is that of the whole replica.
+#[tactic(auto, using(hub_state::proofs::States::other_roots))]
+fn put_between(
+    alloc: Global,
+    state: &mut State,
+    first: &Root,
+    second: &Root,
+    path: &str,
+) -> Result<String> {
+    let path = path_of(alloc, path)?;
+    let archive = with_directory(alloc, &path)?;
     if first == second {
         bail!("one root");
     }
-    outcome_text(alloc, state.put_archive(&first, &second, archive))
+    outcome_text(alloc, state.put_archive(first, second, archive))
+}
+
+/// An archive with a directory at a path, if that isn't the path of the whole replica.
+fn with_directory(alloc: Global, path: &RelPath) -> Result<Archive, AllocError> {
+    let mut archive = Archive::new(alloc);
+    if path.len() > 0 {
+        archive.set(path, Mark::Directory)?;
+    }
+    Ok(archive)
 }
 
 /// Whether the state has the replica of a root.

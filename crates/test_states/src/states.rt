@@ -1,11 +1,12 @@
 //! State texts: what is read of them, and what is written of the states that they say.
 
 use crate::devices::{Failing, Kept, Pieces};
-use crate::fields::{bytes_of, in_one_line, list_text, outcome_text, yes_or_no};
+use crate::fields::{bytes_of, in_one_line, list_text, outcome_text};
 use anyhow::{Result, bail};
 use hub_state::{State, StateFault, read_bytes, read_state, write_state};
 use hub_text::Watched;
 use std::alloc::Global;
+use std::io::Read;
 use std::str::from_utf8;
 
 /// The first line of a state text.
@@ -35,40 +36,59 @@ pub fn line_answer(alloc: Global, field: &str) -> Result<String> {
 
 /// What is read of a text with this line at a place.
 fn place_answer(alloc: Global, place: &str, line: &[u8]) -> Result<String> {
-    let mut text = HEADER.as_bytes().to_vec(alloc)?;
-    text.extend_from_slice(place.as_bytes())?;
-    text.extend_from_slice(line)?;
-    text.extend_from_slice(b"\nend\n")?;
-    let answer = state_text(alloc, read_bytes(alloc, text.as_slice()))?;
+    let text = text_at(alloc, place, line)?;
+    let answer = bytes_answer(alloc, text.as_slice())?;
     if answer.starts_with(HEADER) {
         return Ok(String::from_str(alloc, "ok")?);
     }
     Ok(answer)
 }
 
+/// The text with this line at a place.
+fn text_at(alloc: Global, place: &str, line: &[u8]) -> Result<Vec<u8>> {
+    let mut text = HEADER.as_bytes().to_vec(alloc)?;
+    for part in [place.as_bytes(), line, b"\nend\n"] {
+        text.extend_from_slice(part)?;
+    }
+    Ok(text)
+}
+
 /// The text of the state that a text says, or its fault. If it comes in pieces, the answer should be the same.
 pub fn text_answer(alloc: Global, field: &str) -> Result<String> {
     let text = bytes_of(alloc, field)?;
-    let answer = state_text(alloc, read_bytes(alloc, text.as_slice()))?;
-    for size in SIZES {
-        let other = pieces_answer(alloc, text.as_slice(), size)?;
-        if other != answer {
-            bail!("by {size} bytes: {other}");
-        }
-    }
+    let answer = bytes_answer(alloc, text.as_slice())?;
+    try_pieces(alloc, text.as_slice(), answer.as_str())?;
     in_one_line(alloc, answer.as_str())
 }
 
-/// The same of a text that comes so many bytes at a time.
-fn pieces_answer(alloc: Global, left: &[u8], size: usize) -> Result<String> {
-    let mut input = Watched::new(Pieces { left, size });
-    state_text(alloc, read_state(alloc, &mut input))
+/// An error if the answer to a text that comes in pieces is another one.
+fn try_pieces(alloc: Global, text: &[u8], answer: &str) -> Result<()> {
+    for size in SIZES {
+        let mut pieces = Pieces { left: text, size };
+        let other = reader_answer(alloc, &mut pieces)?;
+        if other.as_str() != answer {
+            bail!("by {size} bytes: {other}");
+        }
+    }
+    Ok(())
+}
+
+/// The text of the state that bytes say, or the fault.
+fn bytes_answer(alloc: Global, text: &[u8]) -> Result<String> {
+    let state = read_bytes(alloc, text);
+    state_text(alloc, &state)
+}
+
+/// The text of the state that a reader gives, or the fault.
+fn reader_answer<R: Read>(alloc: Global, reader: &mut R) -> Result<String> {
+    let state = read_state(alloc, &mut Watched::new(reader));
+    state_text(alloc, &state)
 }
 
 /// The text of a state, or the fault.
-fn state_text(alloc: Global, state: Result<State, StateFault>) -> Result<String> {
+fn state_text(alloc: Global, state: &Result<State, StateFault>) -> Result<String> {
     match state {
-        Ok(state) => written(alloc, &state),
+        Ok(state) => written(alloc, state),
         Err(fault) => Ok(format!(in alloc; "{fault}")?),
     }
 }
@@ -85,17 +105,26 @@ pub fn failing_reader_answer(alloc: Global, field: &str) -> Result<String> {
     let text = bytes_of(alloc, field)?;
     let left = text.as_slice();
     let mut input = Watched::new(Failing { left });
-    let answer = state_text(alloc, read_state(alloc, &mut input))?;
-    let failed = yes_or_no(alloc, input.failed())?;
+    let state = read_state(alloc, &mut input);
+    failed_text(alloc, state_text(alloc, &state)?, input.failed())
+}
+
+fn failed_text(alloc: Global, answer: String, failed: bool) -> Result<String> {
+    let failed = if failed { "yes" } else { "no" };
     Ok(format!(in alloc; "{answer}, failed: {failed}")?)
 }
 
 /// What comes of writing a state if the writer fails after so many writes, and whether that was seen.
 pub fn failing_writer_answer(alloc: Global, fields: &str) -> Result<String> {
     let (count, field) = fields.split_once(' ').unwrap_or((fields, ""));
-    let state = read_bytes(alloc, bytes_of(alloc, field)?.as_slice())?;
-    let mut output = Watched::new(Kept::new(alloc, count.parse::<usize>()?));
-    let answer = outcome_text(alloc, write_state(alloc, &mut output, &state))?;
-    let failed = yes_or_no(alloc, output.failed())?;
-    Ok(format!(in alloc; "{answer}, failed: {failed}")?)
+    let writes = count.parse::<usize>()?;
+    let text = bytes_of(alloc, field)?;
+    let state = read_bytes(alloc, text.as_slice())?;
+    writer_answer(alloc, &state, writes)
+}
+
+fn writer_answer(alloc: Global, state: &State, writes: usize) -> Result<String> {
+    let mut output = Watched::new(Kept::new(alloc, writes));
+    let answer = outcome_text(alloc, write_state(alloc, &mut output, state))?;
+    failed_text(alloc, answer, output.failed())
 }

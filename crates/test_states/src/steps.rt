@@ -13,8 +13,12 @@ pub trait Subject {
 pub fn answers<S: Subject>(alloc: Global, subject: &mut S, steps: &str) -> Result<String> {
     let mut answers = Vec::new(alloc);
     for step in steps.split("; ") {
-        let words: Vec<&str> = step.split(' ').collect(alloc)?;
-        answers.push(subject.step(alloc, words.as_slice())?)?;
+        answers.push(step_answer(alloc, subject, step)?)?;
     }
     Ok(answers.as_slice().join(alloc, "; ")?)
+}
+
+fn step_answer<S: Subject>(alloc: Global, subject: &mut S, step: &str) -> Result<String> {
+    let words: Vec<&str> = step.split(' ').collect(alloc)?;
+    subject.step(alloc, words.as_slice())
 }

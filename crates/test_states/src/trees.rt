@@ -8,32 +8,46 @@
 use crate::fields::{
     bytes_of, contents_of, list_text, mark_text, outcome_text, path_of, paths_text, yes_or_no,
 };
-use crate::steps::Subject;
+use crate::steps::{self, Subject};
 use anyhow::{Result, bail};
 use hub_path::{Name, RelPath};
 use hub_tree::{Blob, Stored, Tree};
-use std::alloc::Global;
+use std::alloc::{AllocError, Global};
 use std::mem;
 
 /// The digest of a file's bytes, that of its copy, and the bytes.
 pub fn blob_answer(alloc: Global, field: &str) -> Result<String> {
     let blob = Blob::new(bytes_of(alloc, field)?)?;
-    let digest = hex::encode(alloc, blob.digest().as_slice())?;
-    let copied = hex::encode(alloc, blob.copy()?.digest().as_slice())?;
+    blob_text(alloc, &blob)
+}
+
+fn blob_text(alloc: Global, blob: &Blob) -> Result<String> {
+    let digest = digest_text(alloc, blob)?;
+    let copied = digest_text(alloc, &blob.copy()?)?;
     let bytes = hex::encode(alloc, blob.bytes())?;
     Ok(format!(in alloc; "{digest}, copy {copied}, bytes [{bytes}]")?)
 }
 
+fn digest_text(alloc: Global, blob: &Blob) -> Result<String> {
+    Ok(hex::encode(alloc, blob.digest().as_slice())?)
+}
+
+/// The answers to the steps of two replicas.
+pub fn answers(alloc: Global, steps: &str) -> Result<String> {
+    let mut trees = Trees::new(alloc);
+    steps::answers(alloc, &mut trees, steps)
+}
+
 /// A replica, and a second one.
 #[derive(Drop)]
-pub struct Trees {
+struct Trees {
     tree: Tree,
     other: Tree,
 }
 
 impl Trees {
     /// Two empty replicas.
-    pub fn new(alloc: Global) -> Trees {
+    fn new(alloc: Global) -> Trees {
         Trees {
             tree: Tree::new(alloc),
             other: Tree::new(alloc),
@@ -41,14 +55,9 @@ impl Trees {
     }
 
     /// Makes the second replica a copy of the first.
-    fn copy(&mut self, alloc: Global) -> Result<String> {
-        match self.tree.copy() {
-            Ok(copy) => {
-                self.other = copy;
-                Ok(String::from_str(alloc, "ok")?)
-            }
-            Err(error) => Ok(format!(in alloc; "{error}")?),
-        }
+    fn copy(&mut self) -> Result<(), AllocError> {
+        self.other = self.tree.copy()?;
+        Ok(())
     }
 
     /// Swaps both replicas.
@@ -62,7 +71,7 @@ impl Subject for Trees {
     fn step(&mut self, alloc: Global, words: &[&str]) -> Result<String> {
         match *words {
             ["set", path, contents] => set(alloc, &mut self.tree, path, contents),
-            ["copy"] => self.copy(alloc),
+            ["copy"] => outcome_text(alloc, self.copy()),
             ["swap"] => self.swap(alloc),
             ["same"] => yes_or_no(alloc, self.tree.same(&self.other)),
             [word, path] => at_path(alloc, &self.tree, word, path),

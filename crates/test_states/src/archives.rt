@@ -4,20 +4,18 @@
 //! - `mark PATH`, `paths` and `marks`: what is there. `marks` has the number of marks, too.
 //! - `copy` makes the second archive a copy of the first, `swap` swaps both, and `same` asks whether they are the same.
 
-use crate::fields::{
-    contents_of, list_text, mark_text, outcome_text, path_of, paths_text, yes_or_no,
-};
-use crate::steps::{self, Subject};
+use crate::fields::{contents_of, mark_text, paths_text};
 use anyhow::{Result, bail, ensure};
 use hub_path::RelPath;
 use hub_tree::{Archive, Mark};
 use std::alloc::Global;
 use std::mem;
+use test_kit::{Subject, answers_to_steps, list_text, outcome_text, path_of, yes_or_no};
 
 /// The answers to the steps of two archives.
-pub fn answers(alloc: Global, steps: &str) -> Result<String> {
+pub(crate) fn answers(alloc: Global, steps: &str) -> Result<String> {
     let mut archives = Archives::new(alloc);
-    steps::answers(alloc, &mut archives, steps)
+    answers_to_steps(alloc, &mut archives, steps)
 }
 
 /// An archive, and a second one.

@@ -6,11 +6,11 @@ use std::{cmp, io};
 
 /// Gives a text some bytes at a time.
 #[derive(Drop)]
-pub struct Pieces<'a> {
+pub(crate) struct Pieces<'a> {
     /// What is left of the text.
-    pub left: &'a [u8],
+    pub(crate) left: &'a [u8],
     /// How many bytes come at a time.
-    pub size: usize,
+    pub(crate) size: usize,
 }
 
 impl<'a> Read for Pieces<'a> {
@@ -24,9 +24,9 @@ impl<'a> Read for Pieces<'a> {
 
 /// Gives a text one byte at a time, and then fails.
 #[derive(Drop)]
-pub struct Failing<'a> {
+pub(crate) struct Failing<'a> {
     /// What is left of the text.
-    pub left: &'a [u8],
+    pub(crate) left: &'a [u8],
 }
 
 impl<'a> Read for Failing<'a> {
@@ -44,16 +44,16 @@ impl<'a> Read for Failing<'a> {
 
 /// Keeps what is written, at most 1,000 bytes at a time, and fails after some writes.
 #[derive(Drop)]
-pub struct Kept {
+pub(crate) struct Kept {
     /// What was written.
-    pub text: Vec<u8>,
+    pub(crate) text: Vec<u8>,
     /// How many writes are left.
-    pub writes: usize,
+    pub(crate) writes: usize,
 }
 
 impl Kept {
     /// A writer that has kept nothing yet.
-    pub fn new(alloc: Global, writes: usize) -> Kept {
+    pub(crate) fn new(alloc: Global, writes: usize) -> Kept {
         Kept {
             text: Vec::new(alloc),
             writes,

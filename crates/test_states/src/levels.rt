@@ -1,14 +1,15 @@
 //! A replica that gets a directory below the last one, again and again.
 
-use crate::fields::{list_text, mark_text, outcome_text};
+use crate::fields::mark_text;
 use anyhow::Result;
 use hub_path::{Name, RelPath};
 use hub_tree::{Contents, Tree};
 use std::alloc::Global;
+use test_kit::{cut, list_text, outcome_text};
 
 /// The answer for each level, and in the end the number of the path's names, that of a copy's entries, and the path's mark.
-pub fn answer(alloc: Global, fields: &str) -> Result<String> {
-    let (count, name) = fields.split_once(' ').unwrap_or((fields, ""));
+pub(crate) fn answer(alloc: Global, fields: &str) -> Result<String> {
+    let (count, name) = cut(fields);
     let count = count.parse::<u64>()?;
     let mut tree = Tree::new(alloc);
     answer_in(alloc, &mut tree, count, name)

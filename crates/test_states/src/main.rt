@@ -1,8 +1,7 @@
 //! Answers questions about replicas, archives, state texts and reconciliation. `stdin` has the questions, and `stdout` the
 //! answers, which were worked out by hand from the rules; so the program is a test of the crates below it.
 //!
-//! Each line of the input is a question: a word and its fields. The output has a line `QUESTION => ANSWER` for each. Empty
-//! lines are skipped, and so are those that begin with `#`.
+//! The questions are written as `test_kit` says:
 //!
 //! - `line LINE`: what is read of a state text with this line, at each of five places, from the top of the text down to below
 //!   its `end` (`states::PLACES`).
@@ -16,7 +15,7 @@
 //! - `archive STEPS`: steps of an archive and a second one (`archives`).
 //! - `reconcile LINES | LEFT | RIGHT | OLD`: the items, the changes and the new archive (`reconciliation`).
 //!
-//! A LINE and a TEXT are written with `\n`, `\r` and `\xHH` for bytes. STEPS are separated by `; `.
+//! A LINE and a TEXT may have escapes. STEPS are separated by `; `.
 #![tactic(auto)]
 
 mod archives;
@@ -26,39 +25,38 @@ mod levels;
 mod reconciliation;
 mod sections;
 mod states;
-mod steps;
 mod trees;
 
 use anyhow::{Result, bail};
 use std::alloc::Global;
-use std::io::{BufRead, BufReader};
+use test_kit::{Answers, answer_table};
 
-fn main(rt: HostRuntime) -> Result<()> {
-    let alloc = rt.alloc();
-    for line in BufReader::new(alloc, rt.reader())?.lines(alloc) {
-        let line = line?;
-        if !line.is_empty() && !line.starts_with('#') {
-            let answer = answer(alloc, line.as_str())?;
-            println!(rt; "{line} => {answer}")?;
+/// Answers each question by itself.
+#[derive(Drop)]
+struct Program;
+
+impl Answers for Program {
+    fn takes(&mut self, _line: &str) -> Result<bool> {
+        Ok(false)
+    }
+
+    fn answer(&mut self, alloc: Global, word: &str, fields: &str) -> Result<String> {
+        match word {
+            "line" => states::line_answer(alloc, fields),
+            "text" => states::text_answer(alloc, fields),
+            "failing_reader" => states::failing_reader_answer(alloc, fields),
+            "failing_writer" => states::failing_writer_answer(alloc, fields),
+            "state" => sections::answers(alloc, fields),
+            "blob" => trees::blob_answer(alloc, fields),
+            "tree" => trees::answers(alloc, fields),
+            "levels" => levels::answer(alloc, fields),
+            "archive" => archives::answers(alloc, fields),
+            "reconcile" => reconciliation::answer(alloc, fields),
+            _ => bail!("no question: {word}"),
         }
     }
-    Ok(())
 }
 
-/// The answer to a question.
-fn answer(alloc: Global, question: &str) -> Result<String> {
-    let (word, fields) = question.split_once(' ').unwrap_or((question, ""));
-    match word {
-        "line" => states::line_answer(alloc, fields),
-        "text" => states::text_answer(alloc, fields),
-        "failing_reader" => states::failing_reader_answer(alloc, fields),
-        "failing_writer" => states::failing_writer_answer(alloc, fields),
-        "state" => sections::answers(alloc, fields),
-        "blob" => trees::blob_answer(alloc, fields),
-        "tree" => trees::answers(alloc, fields),
-        "levels" => levels::answer(alloc, fields),
-        "archive" => archives::answers(alloc, fields),
-        "reconcile" => reconciliation::answer(alloc, fields),
-        _ => bail!("no question: {word}"),
-    }
+fn main(rt: HostRuntime) -> Result<()> {
+    answer_table(&rt, &mut Program)
 }

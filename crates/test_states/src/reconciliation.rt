@@ -4,13 +4,13 @@
 //! archive has; each may be `none`. What is seen is a list of paths with their marks: `d` is a directory, `o` one with
 //! children that aren't reached, `-` nothing, and a number a file whose digest has that byte 32 times.
 
-use crate::fields::list_text;
 use anyhow::{Result, bail, ensure};
 use hub_path::{Name, RelPath, Side};
 use hub_profile::{Profile, read_profile};
 use hub_reconcile::{Change, Fate, Item, Look, Picture, are_rising, items, next_archive, plan};
 use hub_tree::{Archive, Mark};
 use std::alloc::Global;
+use test_kit::{cut, list_text};
 
 /// What is seen at a path.
 #[derive(Drop)]
@@ -21,7 +21,7 @@ struct Seen {
 }
 
 /// The items, the changes and the new archive.
-pub fn answer(alloc: Global, fields: &str) -> Result<String> {
+pub(crate) fn answer(alloc: Global, fields: &str) -> Result<String> {
     let parts: Vec<&str> = fields.split(" | ").collect(alloc)?;
     match *parts.as_slice() {
         [lines, left, right, old] => answer_by(alloc, lines, [left, right, old]),
@@ -93,7 +93,7 @@ fn all_seen(alloc: Global, field: &str) -> Result<Vec<Seen>> {
 
 /// A path with its mark.
 fn one_seen(alloc: Global, part: &str) -> Result<Seen> {
-    let (path, mark) = part.split_once(' ').unwrap_or((part, ""));
+    let (path, mark) = cut(part);
     Ok(Seen {
         path: RelPath::read(alloc, path)?,
         mark: mark_of(mark)?,

@@ -5,31 +5,37 @@
 //! - `copy` goes on with a copy of the state.
 //! - `text`: the text of the state.
 
-use crate::fields::{in_one_line, outcome_text, path_of, yes_or_no};
 use crate::states::written;
-use crate::steps::{self, Subject};
 use anyhow::{Result, bail};
 use hub_path::{RelPath, Root};
 use hub_state::State;
 use hub_tree::{Archive, Mark, Tree};
 use std::alloc::{AllocError, Global};
+use test_kit::{Subject, answers_to_steps, in_one_line, outcome_text, path_of, yes_or_no};
 
-/// The answers to the steps of a state.
-pub fn answers(alloc: Global, steps: &str) -> Result<String> {
-    let mut state = State::new(alloc);
-    steps::answers(alloc, &mut state, steps)
+/// A state that takes steps.
+#[derive(Drop)]
+struct Sections {
+    state: State,
 }
 
-impl Subject for State {
+/// The answers to the steps of a state.
+pub(crate) fn answers(alloc: Global, steps: &str) -> Result<String> {
+    let state = State::new(alloc);
+    answers_to_steps(alloc, &mut Sections { state }, steps)
+}
+
+impl Subject for Sections {
     fn step(&mut self, alloc: Global, words: &[&str]) -> Result<String> {
+        let state = &mut self.state;
         match *words {
-            ["put", root] => put_replica(alloc, self, root),
-            ["put", first, second] => put_archive(alloc, self, first, second, "."),
-            ["put", first, second, path] => put_archive(alloc, self, first, second, path),
-            ["has", root] => has_replica(alloc, self, root),
-            ["has", first, second] => has_archive(alloc, self, first, second),
-            ["copy"] => outcome_text(alloc, become_copy(self)),
-            ["text"] => in_one_line(alloc, written(alloc, self)?.as_str()),
+            ["put", root] => put_replica(alloc, state, root),
+            ["put", first, second] => put_archive(alloc, state, first, second, "."),
+            ["put", first, second, path] => put_archive(alloc, state, first, second, path),
+            ["has", root] => has_replica(alloc, state, root),
+            ["has", first, second] => has_archive(alloc, state, first, second),
+            ["copy"] => outcome_text(alloc, become_copy(state)),
+            ["text"] => in_one_line(alloc, written(alloc, state)?.as_str()),
             _ => bail!("no step of a state"),
         }
     }

@@ -1,13 +1,13 @@
 //! State texts: what is read of them, and what is written of the states that they say.
 
 use crate::devices::{Failing, Kept, Pieces};
-use crate::fields::{bytes_of, in_one_line, list_text, outcome_text};
 use anyhow::{Result, bail};
 use hub_state::{State, StateFault, read_bytes, read_state, write_state};
 use hub_text::Watched;
 use std::alloc::Global;
 use std::io::Read;
 use std::str::from_utf8;
+use test_kit::{bytes_of, cut, in_one_line, list_text, outcome_text, word_of};
 
 /// The first line of a state text.
 const HEADER: &str = "hubsync state 1\n";
@@ -25,7 +25,7 @@ const PLACES: [&str; 5] = [
 const SIZES: [usize; 4] = [1, 2, 7, 100];
 
 /// What is read of a text with this line at each place: `ok` or its fault. An `end` stands below the line.
-pub fn line_answer(alloc: Global, field: &str) -> Result<String> {
+pub(crate) fn line_answer(alloc: Global, field: &str) -> Result<String> {
     let line = bytes_of(alloc, field)?;
     let mut answers = Vec::new(alloc);
     for place in PLACES {
@@ -54,7 +54,7 @@ fn text_at(alloc: Global, place: &str, line: &[u8]) -> Result<Vec<u8>> {
 }
 
 /// The text of the state that a text says, or its fault. If it comes in pieces, the answer should be the same.
-pub fn text_answer(alloc: Global, field: &str) -> Result<String> {
+pub(crate) fn text_answer(alloc: Global, field: &str) -> Result<String> {
     let text = bytes_of(alloc, field)?;
     let answer = bytes_answer(alloc, text.as_slice())?;
     try_pieces(alloc, text.as_slice(), answer.as_str())?;
@@ -94,14 +94,14 @@ fn state_text(alloc: Global, state: &Result<State, StateFault>) -> Result<String
 }
 
 /// The text of a state.
-pub fn written(alloc: Global, state: &State) -> Result<String> {
+pub(crate) fn written(alloc: Global, state: &State) -> Result<String> {
     let mut output = Kept::new(alloc, usize::MAX);
     write_state(alloc, &mut Watched::new(&mut output), state)?;
     Ok(String::from_str(alloc, from_utf8(output.text.as_slice())?)?)
 }
 
 /// What is read if the reader fails behind a text, and whether that was seen.
-pub fn failing_reader_answer(alloc: Global, field: &str) -> Result<String> {
+pub(crate) fn failing_reader_answer(alloc: Global, field: &str) -> Result<String> {
     let text = bytes_of(alloc, field)?;
     let left = text.as_slice();
     let mut input = Watched::new(Failing { left });
@@ -110,13 +110,12 @@ pub fn failing_reader_answer(alloc: Global, field: &str) -> Result<String> {
 }
 
 fn failed_text(alloc: Global, answer: String, failed: bool) -> Result<String> {
-    let failed = if failed { "yes" } else { "no" };
-    Ok(format!(in alloc; "{answer}, failed: {failed}")?)
+    Ok(format!(in alloc; "{answer}, failed: {}", word_of(failed))?)
 }
 
 /// What comes of writing a state if the writer fails after so many writes, and whether that was seen.
-pub fn failing_writer_answer(alloc: Global, fields: &str) -> Result<String> {
-    let (count, field) = fields.split_once(' ').unwrap_or((fields, ""));
+pub(crate) fn failing_writer_answer(alloc: Global, fields: &str) -> Result<String> {
+    let (count, field) = cut(fields);
     let writes = count.parse::<usize>()?;
     let text = bytes_of(alloc, field)?;
     let state = read_bytes(alloc, text.as_slice())?;

@@ -5,18 +5,16 @@
 //! - `count`, `paths` and `entries`: all that is there. An entry of a file has the number of its bytes.
 //! - `copy` makes the second replica a copy of the first, `swap` swaps both, and `same` asks whether they are the same.
 
-use crate::fields::{
-    bytes_of, contents_of, list_text, mark_text, outcome_text, path_of, paths_text, yes_or_no,
-};
-use crate::steps::{self, Subject};
+use crate::fields::{contents_of, mark_text, paths_text};
 use anyhow::{Result, bail};
 use hub_path::{Name, RelPath};
 use hub_tree::{Blob, Stored, Tree};
 use std::alloc::{AllocError, Global};
 use std::mem;
+use test_kit::{Subject, answers_to_steps, bytes_of, list_text, outcome_text, path_of, yes_or_no};
 
 /// The digest of a file's bytes, that of its copy, and the bytes.
-pub fn blob_answer(alloc: Global, field: &str) -> Result<String> {
+pub(crate) fn blob_answer(alloc: Global, field: &str) -> Result<String> {
     let blob = Blob::new(bytes_of(alloc, field)?)?;
     blob_text(alloc, &blob)
 }
@@ -33,9 +31,9 @@ fn digest_text(alloc: Global, blob: &Blob) -> Result<String> {
 }
 
 /// The answers to the steps of two replicas.
-pub fn answers(alloc: Global, steps: &str) -> Result<String> {
+pub(crate) fn answers(alloc: Global, steps: &str) -> Result<String> {
     let mut trees = Trees::new(alloc);
-    steps::answers(alloc, &mut trees, steps)
+    answers_to_steps(alloc, &mut trees, steps)
 }
 
 /// A replica, and a second one.

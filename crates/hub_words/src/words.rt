@@ -3,11 +3,11 @@
 //! `specs/Words.antt` defines the command in `clap`'s terms, and with that what each list of words asks for.
 
 ghost use Rattle.std.specs.Prelude.{◌≡◌, ◌⊎◌, IfErr, IfOk, None, Some, codes, false, map, option_map};
-ghost use Rattle.clap.specs.Words.{app_of, found_of, kind_of, one_text, subcommand_rows_of};
+ghost use Rattle.clap.specs.Words.{app_of, found_of, kind_of, new_app, one_text, rule_of, subcommand_rows_of, with_subcommand};
 ghost use Rattle.clap.specs.declared.builder.command.Command.TheViews.{out-Command as fields_of};
 ghost use Rattle.clap.specs.declared.error.kind.ErrorKind.TheVariants.{OutOfMemory};
 ghost use Rattle.hub_words.specs.Words as words;
-ghost use Rattle.hub_words.specs.Words.{asked_of, hubsync_app, request_in, request_of, run_app};
+ghost use Rattle.hub_words.specs.Words.{about_app, asked_of, hubsync_app, reach_app, request_in, request_of, run_app, top_app};
 
 use clap::error::ErrorKind;
 use clap::{Arg, ArgMatches, Command, Error, value_parser};
@@ -107,6 +107,16 @@ pub fn read_words<'a, S: AsStr>(alloc: Global, words: &'a [S]) -> Result<Asked<'
         ⊎ (asked_of (map S.text words.entry.now) ≡ None)) }
 {
     let mut hubsync = command(alloc)?;
+    read_by(&mut hubsync, words)
+}
+
+/// Reads the words by the program's command.
+fn read_by<'a, S: AsStr>(hubsync: &mut Command<'a>, words: &'a [S]) -> Result<Asked<'a>, Error>
+    requires { app_of hubsync.old ≡ hubsync_app }
+    ensures ok { IfOk result (λ a. asked_of (map S.text words.entry.now) ≡ Some (request_of a)) }
+    ensures err { IfErr result (λ e. (kind_of e ≡ OutOfMemory)
+        ⊎ (asked_of (map S.text words.entry.now) ≡ None)) }
+{
     let matches = hubsync.try_get_matches_from_mut(words)?;
     match asked_in(&matches) {
         Some(asked) => Ok(asked),
@@ -177,39 +187,90 @@ fn run_command<'a>(alloc: Global) -> Result<Command<'a>, AllocError>
         .arg(workers)
 }
 
-/// The program's command, with its texts of help.
-fn command<'a>(alloc: Global) -> Result<Command<'a>, AllocError>
-    ensures { IfOk result (λ c. app_of c ≡ hubsync_app) }
+/// A required operand, with its text of help.
+fn operand<'a>(alloc: Global, id: &'a str, value_name: &'a str, help: &'a str) -> Arg<'a>
+    ensures rule { rule_of result ≡ words.operand id.now }
+    ensures local { result.global ≡ false }
 {
-    let profile = Arg::new(alloc, "profile")
-        .value_name("PROFILE")
-        .help("The name of a profile in the input")
-        .required(true);
-    let path = Arg::new(alloc, "path")
-        .value_name("PATH")
-        .help("A path below the roots, as docs/notes.txt; put -- before a word that begins with -")
-        .required(true);
-    let check = Command::new(alloc, "check").about(
-        "Says whether the profiles may run at the same time, and runs no jobs",
-    );
-    let certify = Command::new(alloc, "certify").about(
-        "Writes certificates, which show that the profiles may run at the same time",
-    );
-    let verify = Command::new(alloc, "verify").about(
-        "Says whether the certificates of the input show that the profiles may run at the same time",
-    );
+    Arg::new(alloc, id)
+        .value_name(value_name)
+        .help(help)
+        .required(true)
+}
+
+/// The command `reach`, with its texts of help.
+fn reach_command<'a>(alloc: Global) -> Result<Command<'a>, AllocError>
+    ensures app { IfOk result (λ c. app_of c ≡ reach_app) }
+    ensures local { IfOk result (λ c. (fields_of c).has_globals ≡ false) }
+{
     let reach = Command::new(alloc, "reach")
         .about("Says whether a profile of the input reaches a path")
-        .arg(profile)?
-        .arg(path)?;
-    let run = run_command(alloc)?;
+        .arg(operand(
+            alloc,
+            "profile",
+            "PROFILE",
+            "The name of a profile in the input",
+        ))?;
+    reach.arg(operand(
+        alloc,
+        "path",
+        "PATH",
+        "A path below the roots, as docs/notes.txt; put -- before a word that begins with -",
+    ))
+}
+
+/// A command with one more command, which has no operands.
+fn with_plain<'a>(
+    alloc: Global,
+    top: Command<'a>,
+    name: &'a str,
+    about: &'a str,
+) -> Result<Command<'a>, AllocError>
+    ensures { IfOk result
+        (λ c. app_of c ≡ with_subcommand (app_of top.entry) (new_app name.now).top) }
+{
+    top.subcommand(Command::new(alloc, name).about(about))
+}
+
+/// The program's command before it has commands.
+fn top_command<'a>(alloc: Global) -> Command<'a>
+    ensures { app_of result ≡ top_app }
+{
     Command::new(alloc, "hubsync")
         .version(VERSION)
         .about(ABOUT)
         .after_help(AFTER_HELP)
-        .subcommand(check)?
-        .subcommand(certify)?
-        .subcommand(verify)?
-        .subcommand(reach)?
-        .subcommand(run)
+}
+
+/// The program's command with the commands that have no operands.
+fn about_command<'a>(alloc: Global) -> Result<Command<'a>, AllocError>
+    ensures { IfOk result (λ c. app_of c ≡ about_app) }
+{
+    let top = with_plain(
+        alloc,
+        top_command(alloc),
+        "check",
+        "Says whether the profiles may run at the same time, and runs no jobs",
+    )?;
+    let top = with_plain(
+        alloc,
+        top,
+        "certify",
+        "Writes certificates, which show that the profiles may run at the same time",
+    )?;
+    with_plain(
+        alloc,
+        top,
+        "verify",
+        "Says whether the certificates of the input show that the profiles may run at the same time",
+    )
+}
+
+/// The program's command, with its texts of help.
+fn command<'a>(alloc: Global) -> Result<Command<'a>, AllocError>
+    ensures { IfOk result (λ c. app_of c ≡ hubsync_app) }
+{
+    let top = about_command(alloc)?;
+    let top = top.subcommand(reach_command(alloc)?)?;
+    top.subcommand(run_command(alloc)?)
 }

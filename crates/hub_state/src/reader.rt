@@ -327,7 +327,7 @@ fn take_line(alloc: Global, draft: &mut Draft, number: usize, line: &[u8]) -> Re
     draft.take(alloc, line)
 }
 
-/// Takes the last line, and returns the state. A text that is cut off is reported first.
+/// Takes the last line, and returns the state.
 fn take_last(alloc: Global, draft: Draft, number: usize, line: Line<&[u8]>) -> Result<State, Fault>
     requires { IsApart draft.current }
     ensures ok { IfOk result (λ s. taking.last_taken number draft line.entry.is_ended
@@ -335,18 +335,37 @@ fn take_last(alloc: Global, draft: Draft, number: usize, line: Line<&[u8]>) -> R
     ensures err { IfErr result (λ f. (f ≡ Fault.OutOfMemory)
         ⊎ (taking.last_taken number draft line.entry.is_ended line.entry.text.now ≡ Err f)) }
 {
-    let is_end = line.text == b"end".as_slice();
-    if !is_end && !(line.is_ended && draft.ended) {
-        return Err(Fault::Truncated);
-    }
     let mut draft = draft;
-    take_line(alloc, &mut draft, number, line.text)?;
-    draft.close()?;
+    take_end(alloc, &mut draft, number, line)?;
+    Ok(state_of(draft))
+}
+
+/// The state of a draft.
+fn state_of(draft: Draft) -> State
+    ensures { result ≡ draft.state }
+{
     let Draft {
         state,
         current: _current,
         entries: _entries,
         ended: _ended,
     } = draft;
-    Ok(state)
+    state
+}
+
+/// Takes the last line. A text that is cut off is reported first.
+fn take_end(alloc: Global, draft: &mut Draft, number: usize, line: Line<&[u8]>) -> Result<(), Fault>
+    requires { IsApart draft.old.current }
+    ensures ok { OnOk result (taking.last_taken number draft.old line.entry.is_ended
+        line.entry.text.now ≡ Ok draft.new.state) }
+    ensures err { IfErr result (λ f. (f ≡ Fault.OutOfMemory)
+        ⊎ (taking.last_taken number draft.old line.entry.is_ended line.entry.text.now ≡ Err f)) }
+{
+    let is_end = line.text == b"end".as_slice();
+    if !is_end && !(line.is_ended && draft.ended) {
+        return Err(Fault::Truncated);
+    }
+    take_line(alloc, draft, number, line.text)?;
+    draft.close()?;
+    Ok(())
 }

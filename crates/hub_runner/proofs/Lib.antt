@@ -13,3 +13,4 @@ pub mod Trees
 pub mod Fitting
 pub mod Settlement
 pub mod Ending
+pub mod Crossing

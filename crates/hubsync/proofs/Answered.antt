@@ -1,5 +1,5 @@
 -- From what was written to what is true of the input.
-use Rattle.std.proofs.Common.{◌≡◌, ◌∙◌, ◌==◌, ◌≤◌, ◌⊎◌, inl, inr, ℕ, Bool, true, false, ◌||◌, cond, Result, Ok, Err, List, ◌∷◌, ◌++◌, length, take, Option, Some, None, codes, refl, sym, ap, subst, arith, length-append}
+use Rattle.std.proofs.Common.{[], ◌≡◌, ◌∙◌, ◌==◌, ◌≤◌, ◌⊎◌, inl, inr, ℕ, Bool, true, false, ◌||◌, cond, Result, Ok, Err, List, ◌∷◌, ◌++◌, length, take, Option, Some, None, codes, refl, sym, ap, subst, arith, length-append, eq-eqb}
 use Rattle.std.specs.Prelude.{IfOk, IfSome, OnOk, is_err, ⊤}
 use Rattle.std.specs.Io.KnownBytes.{Appends, Keeps}
 use Rattle.std.proofs.KnownBytes.{Appends-kept}
@@ -7,10 +7,12 @@ use Rattle.std.proofs.lemmas.List.{append_cancel_left, take_all}
 use Rattle.std.proofs.lemmas.Option.{none-some, same_Some}
 use Rattle.std.proofs.lemmas.Bool.{false≢true, true≢false}
 use Rattle.hub_words.specs.Words.{Request, asked_of}
-use Rattle.hubsync.specs.declared.report.Report.{Report}
-use Rattle.hubsync.specs.declared.report.Report.TheVariants.{Safe, Ran, NotRun, NoState, Verified, Certified, Refused, Reached, NotReached, NoProfile, BadPath, Unread, BadBundle, BadSection, OutOfMemory}
-use Rattle.hubsync.specs.Report.{Holds, SpellsSafe, SpellsUnsafe, SpellsVerified, SpellsReach, Serves, Answers, AnswersNothing, WritesText, status_of}
-use Rattle.hubsync.proofs.FirstLines.{begins, only_safe, only_verified, only_overlaps, only_breaches, only_reached, only_not_reached, OverlapsShown, BreachesShown}
+use Rattle.hub_report.specs.declared.report.Report.{Report}
+use Rattle.hub_report.specs.declared.report.Report.TheVariants.{Safe, Ran, NotRun, NoState, Verified, Certified, Refused, Reached, NotReached, NoProfile, BadPath, Unread, BadBundle, BadSection, OutOfMemory}
+use Rattle.hub_report.specs.Report.{status_of}
+use Rattle.hub_report.proofs.Starts.{begins, first}
+use Rattle.hubsync.specs.Report.{Holds, SpellsSafe, SpellsUnsafe, SpellsVerified, SpellsReach, Serves, Answers, AnswersNothing, WritesText}
+use Rattle.hubsync.proofs.FirstLines.{only_safe, only_verified, only_overlaps, only_breaches, only_reached, only_not_reached, OverlapsShown, BreachesShown}
 
 -- What follows the bytes that were there is what was appended.
 appended : (old new : Option (List ℕ)) (before more text : List ℕ) → Appends old new more → old ≡ Some before → new ≡ Some (before ++ text) → more ≡ text
@@ -63,7 +65,10 @@ nothing-written old new status before text x a d f g = go a.writes
 
     go : Keeps old new ⊎ ((written : ℕ) × Appends old new (take written (codes "fault: out of memory\n"))) → ⊥
     go (inl k) = omega (arith, ap length (kept k), length-append before (x ∷ text))
-    go (inr w) = begins 102 x w.0 _ text d (appended old new before _ _ w.1 f g)
+    go (inr w) =
+        let front = begins (x ∷ []) (codes "fault: out of memory\n") text w.0 (appended old new before _ _ w.1 f g) in
+        let same : 102 ≡ x = ap first front.whole in
+        false≢true (sym d ∙ eq-eqb 102 x same)
 
 ends-le : (finished : Bool) → cond finished 0 3 ≤ 3
 ends-le true = omega arith

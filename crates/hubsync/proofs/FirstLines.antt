@@ -1,12 +1,9 @@
--- What each line that is written begins with, and what is true of the input if the output begins so.
-use Rattle.std.proofs.Common.{◌≡◌, ◌∙◌, ◌==◌, inl, inr, ℕ, suc, zero, Bool, true, false, cond, List, [], ◌∷◌, ◌++◌, take, Option, Some, None, codes, refl, sym, ap, subst, arith, eq-eqb}
-use Rattle.std.specs.Prelude.{slice_get, string_bytes}
+-- What is true of the input if what is written begins with these letters.
+use Rattle.std.proofs.Common.{◌≡◌, ◌∙◌, inl, inr, ℕ, Bool, true, false, cond, List, [], ◌∷◌, ◌++◌, take, Option, Some, None, codes, refl, sym, ap, subst, arith}
+use Rattle.std.specs.Prelude.{⊤, string_bytes}
 use Rattle.std.proofs.lemmas.List.{append_cancel_left}
 use Rattle.std.proofs.lemmas.Option.{same_Some}
-use Rattle.std.proofs.lemmas.Bool.{false≢true}
 use Rattle.hub_path.specs.Path.{Path}
-use Rattle.hub_automaton.specs.declared.fault.AutomatonFault.TheVariants as automaton
-use Rattle.hub_profile.specs.declared.rule.Rule.{Rule}
 use Rattle.hub_cert.specs.Set.{Members, IsSafeSet}
 use Rattle.hub_cert.specs.declared.goal.Place.{Place}
 use Rattle.hub_cert.specs.declared.fault.CheckFault.{CheckFault}
@@ -16,19 +13,22 @@ use Rattle.hub_state.specs.State.{State}
 use Rattle.hub_state.specs.Writing.{state_text}
 use Rattle.hub_bundle.specs.declared.sections.Contents.{Contents}
 use Rattle.hub_bundle.specs.Sections.{Spells, members}
+use Rattle.hub_report.specs.declared.report.Report.{Report}
+use Rattle.hub_report.specs.declared.report.Report.TheVariants.{Safe, Ran, NotRun, NoState, Verified, Certified, Refused, Reached, NotReached, NoProfile, BadPath, Unread, BadBundle, BadSection, OutOfMemory}
+use Rattle.hub_report.specs.declared.run.Run as run
+use Rattle.hub_report.specs.declared.run.RunError.{RunError}
+use Rattle.hub_report.specs.Report.{IsText, status_of}
+use Rattle.hub_report.specs.Refusal.{refusal_line}
+use Rattle.hub_report.specs.Run.{error_line}
+use Rattle.hub_report.proofs.Starts.{Start, SafeStart, VerifiedStart, OverlapStart, BreachStart, ReachedStart, NotReachedStart, OtherStart, start, begins, refusal-start}
 use Rattle.hub_words.specs.declared.words.Question.{Question}
 use Rattle.hub_words.specs.declared.words.Question.TheVariants.{CheckWithState, Run, Check, Certify, Verify}
 use Rattle.hub_words.specs.Words.{Request, about}
 use Rattle.hubsync.specs.declared.task.Task.{Task}
 use Rattle.hubsync.specs.declared.task.Task.TheVariants as task
-use Rattle.hubsync.specs.Refusal.{breach_text, name_at, refusal_line}
-use Rattle.hubsync.specs.declared.report.Report.{Report}
-use Rattle.hubsync.specs.declared.report.Report.TheVariants.{Safe, Ran, NotRun, NoState, Verified, Certified, Refused, Reached, NotReached, NoProfile, BadPath, Unread, BadBundle, BadSection, OutOfMemory}
-use Rattle.hubsync.specs.Report.{IsText, IsRefusedFor, IsTold, IsTrueOf, Holds, SpellsSafe, SpellsUnsafe, SpellsVerified, status_of}
-use Rattle.hubsync.specs.Runs.{HasRunAs, IsBelow, IsPrevented, IsRunOn, error_line}
+use Rattle.hubsync.specs.Report.{IsRefusedFor, IsTold, IsTrueOf, Holds, SpellsSafe, SpellsUnsafe, SpellsVerified}
+use Rattle.hubsync.specs.Runs.{HasRunAs, IsBelow, IsPrevented, IsRunOn}
 use Rattle.hubsync.specs.Task.{AsksFor, task_of}
-use Rattle.hubsync.specs.declared.run.Run as run
-use Rattle.hubsync.specs.declared.run.RunError.{RunError}
 
 -- What holds of what an input says holds of the input.
 pub told-holds : (request : Request) (bytes : List ℕ) (c : Contents) (r : Report) → Spells bytes c → IsTold request c r → Holds request bytes r
@@ -48,68 +48,6 @@ told-holds request bytes c (BadBundle f) s h = absurd h
 told-holds request bytes c (BadSection f) s h = absurd h
 told-holds request bytes c OutOfMemory s h = tt
 
--- A front of a line begins as the line does.
-pub begins : (a b w : ℕ) (t s : List ℕ) → (a == b) ≡ false → take w (a ∷ t) ≡ b ∷ s → ⊥
-begins a b zero t s d e = cc
-begins a b (suc w) t s d e = let same : a ≡ b = cc in absurd (false≢true (sym d ∙ eq-eqb a b same))
-
--- And goes on as it does.
-goes_on : (a b w : ℕ) (t s : List ℕ) → take w (a ∷ t) ≡ b ∷ s → (v : ℕ) × (take v t ≡ s)
-goes_on a b zero t s e = cc
-goes_on a b (suc w) t s e = (w, cc)
-
--- Two lines that differ in their third character.
-third : (a b c x y z w : ℕ) (t s : List ℕ) → (c == z) ≡ false → take w (a ∷ b ∷ c ∷ t) ≡ x ∷ y ∷ z ∷ s → ⊥
-third a b c x y z w t s d e =
-    let one = goes_on a x w (b ∷ c ∷ t) (y ∷ z ∷ s) e in
-    let two = goes_on b y one.0 (c ∷ t) (z ∷ s) one.1 in
-    begins c z two.0 t s d two.1
-
--- The line of a breach begins with a b, if there is a rule.
-breach-first : (name : List ℕ) (R : Option Rule) (n : ℕ) (path : Path) (x u : ℕ) (s : List ℕ) → (98 == x) ≡ false → take u (breach_text name R n path) ≡ x ∷ s → ⊥
-breach-first name None n path x zero s d h = cc
-breach-first name None n path x (suc u) s d h = cc
-breach-first name (Some R) n path x u s d h = begins 98 x u _ s d h
-
--- A refusal's line begins with one of five letters.
-unlike : (S : Members) (e : CheckFault) (x u : ℕ) (s : List ℕ) → (98 == x) ≡ false → (102 == x) ≡ false → (111 == x) ≡ false → (114 == x) ≡ false → (116 == x) ≡ false
-    → take u (refusal_line S e) ≡ x ∷ s → ⊥
-unlike S fault.TooManyProfiles x u s b f oo rr t h = begins 114 x u _ s rr h
-unlike S (fault.SameName n) x u s b f oo rr t h = begins 114 x u _ s rr h
-unlike S (fault.NestedRoots a z) x u s b f oo rr t h = begins 114 x u _ s rr h
-unlike S (fault.Overlap w o place held path) x u s b f oo rr t h = begins 111 x u _ s oo h
-unlike S (fault.Breach p k path) x u s b f oo rr t h = breach-first _ _ _ _ x u s b h
-unlike S (fault.TooLarge g) x u s b f oo rr t h = begins 116 x u _ s t h
-unlike S (fault.Missing g) x u s b f oo rr t h = begins 114 x u _ s rr h
-unlike S (fault.NoStart g) x u s b f oo rr t h = begins 114 x u _ s rr h
-unlike S (fault.NotClosed g k class) x u s b f oo rr t h = begins 114 x u _ s rr h
-unlike S (fault.Accepting g k) x u s b f oo rr t h = begins 114 x u _ s rr h
-unlike S (fault.Stray i) x u s b f oo rr t h = begins 114 x u _ s rr h
-unlike S (fault.BadText l) x u s b f oo rr t h = begins 102 x u _ s f h
-unlike S (fault.AlphabetFault automaton.TooManyCharacters) x u s b f oo rr t h = begins 114 x u _ s rr h
-unlike S (fault.AlphabetFault automaton.TooManySpots) x u s b f oo rr t h = begins 114 x u _ s rr h
-unlike S (fault.AlphabetFault automaton.OutOfMemory) x u s b f oo rr t h = begins 102 x u _ s f h
-unlike S fault.OutOfMemory x u s b f oo rr t h = begins 102 x u _ s f h
-
--- None of them begins with `rea`.
-unlike_reached : (S : Members) (e : CheckFault) (u : ℕ) (s : List ℕ) → take u (refusal_line S e) ≡ 114 ∷ 101 ∷ 97 ∷ s → ⊥
-unlike_reached S fault.TooManyProfiles u s h = third 114 101 102 114 101 97 u _ s refl h
-unlike_reached S (fault.SameName n) u s h = third 114 101 102 114 101 97 u _ s refl h
-unlike_reached S (fault.NestedRoots a z) u s h = third 114 101 102 114 101 97 u _ s refl h
-unlike_reached S (fault.Overlap w o place held path) u s h = begins 111 114 u _ _ refl h
-unlike_reached S (fault.Breach p k path) u s h = breach-first _ _ _ _ 114 u _ refl h
-unlike_reached S (fault.TooLarge g) u s h = begins 116 114 u _ _ refl h
-unlike_reached S (fault.Missing g) u s h = third 114 101 102 114 101 97 u _ s refl h
-unlike_reached S (fault.NoStart g) u s h = third 114 101 102 114 101 97 u _ s refl h
-unlike_reached S (fault.NotClosed g k class) u s h = third 114 101 102 114 101 97 u _ s refl h
-unlike_reached S (fault.Accepting g k) u s h = third 114 101 102 114 101 97 u _ s refl h
-unlike_reached S (fault.Stray i) u s h = third 114 101 102 114 101 97 u _ s refl h
-unlike_reached S (fault.BadText l) u s h = begins 102 114 u _ _ refl h
-unlike_reached S (fault.AlphabetFault automaton.TooManyCharacters) u s h = third 114 101 102 114 101 97 u _ s refl h
-unlike_reached S (fault.AlphabetFault automaton.TooManySpots) u s h = third 114 101 102 114 101 97 u _ s refl h
-unlike_reached S (fault.AlphabetFault automaton.OutOfMemory) u s h = begins 102 114 u _ _ refl h
-unlike_reached S fault.OutOfMemory u s h = begins 102 114 u _ _ refl h
-
 -- What is shown of a set that isn't safe.
 abbrev pub OverlapsShown : Type 0
 OverlapsShown = (S : Members) (w o : ℕ) (place : Place) (held path : Path) → IsFirstFault S (fault.Overlap w o place held path) → IsSafeSet S → ⊥
@@ -128,62 +66,15 @@ overlap-first task.Certify c w o place held path (inr (inl h)) = cc
 overlap-first task.Certify c w o place held path (inr (inr h)) = h
 overlap-first task.Verify c w o place held path (inr h) = absurd h
 
-breach_first : (t : Task) (c : Contents) (p k : ℕ) (path : Path) → IsRefusedFor t c (fault.Breach p k path) → IsFirstFault (members c) (fault.Breach p k path)
-breach_first t c p k path (inl h) = absurd h
-breach_first task.Check c p k path (inr (inl h)) = cc
-breach_first task.Check c p k path (inr (inr h)) = h
-breach_first (task.RunJobs n S) c p k path (inr (inl h)) = cc
-breach_first (task.RunJobs n S) c p k path (inr (inr h)) = h
-breach_first task.Certify c p k path (inr (inl h)) = cc
-breach_first task.Certify c p k path (inr (inr h)) = h
-breach_first task.Verify c p k path (inr h) = absurd h
-
--- Only the line of an overlap begins with an o,
-only_overlap : OverlapsShown → (t : Task) (c : Contents) (e : CheckFault) (u : ℕ) (s : List ℕ) → IsRefusedFor t c e → take u (refusal_line (members c) e) ≡ 111 ∷ s → IsSafeSet (members c) → ⊥
-only_overlap shown t c fault.TooManyProfiles u s is h = λ safe. begins 114 111 u _ s refl h
-only_overlap shown t c (fault.SameName n) u s is h = λ safe. begins 114 111 u _ s refl h
-only_overlap shown t c (fault.NestedRoots a z) u s is h = λ safe. begins 114 111 u _ s refl h
-only_overlap shown t c (fault.Overlap w o place held path) u s is h = shown (members c) w o place held path (overlap-first t c w o place held path is)
-only_overlap shown t c (fault.Breach p k path) u s is h = λ safe. breach-first (name_at (members c).profiles p) (slice_get (members c).rules k) k path 111 u s refl h
-only_overlap shown t c (fault.TooLarge g) u s is h = λ safe. begins 116 111 u _ s refl h
-only_overlap shown t c (fault.Missing g) u s is h = λ safe. begins 114 111 u _ s refl h
-only_overlap shown t c (fault.NoStart g) u s is h = λ safe. begins 114 111 u _ s refl h
-only_overlap shown t c (fault.NotClosed g k class) u s is h = λ safe. begins 114 111 u _ s refl h
-only_overlap shown t c (fault.Accepting g k) u s is h = λ safe. begins 114 111 u _ s refl h
-only_overlap shown t c (fault.Stray i) u s is h = λ safe. begins 114 111 u _ s refl h
-only_overlap shown t c (fault.BadText l) u s is h = λ safe. begins 102 111 u _ s refl h
-only_overlap shown t c (fault.AlphabetFault automaton.TooManyCharacters) u s is h = λ safe. begins 114 111 u _ s refl h
-only_overlap shown t c (fault.AlphabetFault automaton.TooManySpots) u s is h = λ safe. begins 114 111 u _ s refl h
-only_overlap shown t c (fault.AlphabetFault automaton.OutOfMemory) u s is h = λ safe. begins 102 111 u _ s refl h
-only_overlap shown t c fault.OutOfMemory u s is h = λ safe. begins 102 111 u _ s refl h
-
--- and only that of a breach with a b.
-only_breach : BreachesShown → (t : Task) (c : Contents) (e : CheckFault) (u : ℕ) (s : List ℕ) → IsRefusedFor t c e → take u (refusal_line (members c) e) ≡ 98 ∷ s → IsSafeSet (members c) → ⊥
-only_breach shown t c fault.TooManyProfiles u s is h = λ safe. begins 114 98 u _ s refl h
-only_breach shown t c (fault.SameName n) u s is h = λ safe. begins 114 98 u _ s refl h
-only_breach shown t c (fault.NestedRoots a z) u s is h = λ safe. begins 114 98 u _ s refl h
-only_breach shown t c (fault.Overlap w o place held path) u s is h = λ safe. begins 111 98 u _ s refl h
-only_breach shown t c (fault.Breach p k path) u s is h = shown (members c) p k path (breach_first t c p k path is)
-only_breach shown t c (fault.TooLarge g) u s is h = λ safe. begins 116 98 u _ s refl h
-only_breach shown t c (fault.Missing g) u s is h = λ safe. begins 114 98 u _ s refl h
-only_breach shown t c (fault.NoStart g) u s is h = λ safe. begins 114 98 u _ s refl h
-only_breach shown t c (fault.NotClosed g k class) u s is h = λ safe. begins 114 98 u _ s refl h
-only_breach shown t c (fault.Accepting g k) u s is h = λ safe. begins 114 98 u _ s refl h
-only_breach shown t c (fault.Stray i) u s is h = λ safe. begins 114 98 u _ s refl h
-only_breach shown t c (fault.BadText l) u s is h = λ safe. begins 102 98 u _ s refl h
-only_breach shown t c (fault.AlphabetFault automaton.TooManyCharacters) u s is h = λ safe. begins 114 98 u _ s refl h
-only_breach shown t c (fault.AlphabetFault automaton.TooManySpots) u s is h = λ safe. begins 114 98 u _ s refl h
-only_breach shown t c (fault.AlphabetFault automaton.OutOfMemory) u s is h = λ safe. begins 102 98 u _ s refl h
-only_breach shown t c fault.OutOfMemory u s is h = λ safe. begins 102 98 u _ s refl h
-
--- What a front has after `safe` is a front of what follows there.
-after_safe : (w : ℕ) (t s : List ℕ) → take w (codes "safe\n" ++ t) ≡ codes "safe\n" ++ s → (v : ℕ) × (take v t ≡ s)
-after_safe w t s e =
-    let one = goes_on 115 115 w (97 ∷ 102 ∷ 101 ∷ 10 ∷ t) (97 ∷ 102 ∷ 101 ∷ 10 ∷ s) e in
-    let two = goes_on 97 97 one.0 (102 ∷ 101 ∷ 10 ∷ t) (102 ∷ 101 ∷ 10 ∷ s) one.1 in
-    let three = goes_on 102 102 two.0 (101 ∷ 10 ∷ t) (101 ∷ 10 ∷ s) two.1 in
-    let four = goes_on 101 101 three.0 (10 ∷ t) (10 ∷ s) three.1 in
-    goes_on 10 10 four.0 t s four.1
+breach-first : (t : Task) (c : Contents) (p k : ℕ) (path : Path) → IsRefusedFor t c (fault.Breach p k path) → IsFirstFault (members c) (fault.Breach p k path)
+breach-first t c p k path (inl h) = absurd h
+breach-first task.Check c p k path (inr (inl h)) = cc
+breach-first task.Check c p k path (inr (inr h)) = h
+breach-first (task.RunJobs n S) c p k path (inr (inl h)) = cc
+breach-first (task.RunJobs n S) c p k path (inr (inr h)) = h
+breach-first task.Certify c p k path (inr (inl h)) = cc
+breach-first task.Certify c p k path (inr (inr h)) = h
+breach-first task.Verify c p k path (inr h) = absurd h
 
 -- Where no jobs are to be run, nothing is below `safe`.
 check-below : (t : Task) (M : Members) (status : ℕ) → t ≡ task.Check → IsBelow t M status []
@@ -216,52 +107,6 @@ error-below : (t : Task) (M : Members) (f : RunError) (status : ℕ) → IsPreve
 error-below t M f status h =
     subst (λ u. IsBelow u M status (error_line f)) (sym h.task_is) (inr (record { error = f; reason = h.reason; text = refl }))
 
--- What follows `safe` in a front of the text of a safe set.
-follows : (request : Request) (bytes : List ℕ) (t : Task) (c : Contents) (below text s : List ℕ) (w : ℕ) (failed : Bool) (status : ℕ)
-    → AsksFor request c.state t → Spells bytes c → IsSafeSet (members c) → IsBelow t (members c) status below → text ≡ codes "safe\n" ++ below
-    → take w text ≡ codes "safe\n" ++ s → (failed ≡ false → take w text ≡ text) → SpellsSafe (Some request) bytes s failed status
-follows request bytes t c below text s w failed status asks spelled safe below_is is e whole =
-    let after = after_safe w below s (ap (take w) (sym is) ∙ e) in
-    record {
-      of_set = asks.of_set;
-      is_asked = ap Some asks.asked;
-      contents = c;
-      spelled = spelled;
-      to_do = t;
-      to_do_is = asks.task_is;
-      safe = safe;
-      below = below;
-      below_is = below_is;
-      written = after.0;
-      text_is = sym after.1;
-      whole = λ f. append_cancel_left (codes "safe\n") s below (sym e ∙ (whole f ∙ is));
-    }
-
--- Only the text of a safe set begins with an s,
-pub only_safe : (request : Request) (bytes : List ℕ) (r : Report) (line : List ℕ) (w : ℕ) (s : List ℕ) (failed : Bool) (status : ℕ) → IsText r line → take w line ≡ codes "safe\n" ++ s
-    → (failed ≡ false → take w line ≡ line) → status ≡ cond failed 2 (status_of r) → Holds request bytes r → SpellsSafe (Some request) bytes s failed status
-only_safe request bytes Safe line w s failed status l e whole z h =
-    follows request bytes h.told.to_do h.contents [] line s w failed status h.told.asked h.spelled h.told.told.1
-    (check-below h.told.to_do (members h.contents) status h.told.told.0) l e whole
-only_safe request bytes (Ran r) line w s failed status l e whole z h =
-    follows request bytes h.told.to_do h.contents (string_bytes r.lines ++ state_text r.state) line s w failed status h.told.asked h.spelled h.told.told.safe
-    (ran-below h.told.to_do (members h.contents) r status failed h.told.told z) l e whole
-only_safe request bytes (NotRun f) line w s failed status l e whole z h =
-    follows request bytes h.told.to_do h.contents (error_line f) line s w failed status h.told.asked h.spelled h.told.told.safe
-    (error-below h.told.to_do (members h.contents) f status h.told.told) l e whole
-only_safe request bytes NoState line w s failed status l e whole z h = absurd (begins 102 115 w _ _ refl (ap (take w) (sym l) ∙ e))
-only_safe request bytes Verified line w s failed status l e whole z h = absurd (begins 118 115 w _ _ refl (ap (take w) (sym l) ∙ e))
-only_safe request bytes (Certified text) line w s failed status l e whole z h = absurd (begins 104 115 w _ _ refl (ap (take w) (sym (l ∙ h.told.told.1.2)) ∙ e))
-only_safe request bytes (Refused text) line w s failed status l e whole z h = absurd (unlike (members h.contents) h.told.reason 115 w _ refl refl refl refl refl (ap (take w) (sym (l ∙ h.told.told.1)) ∙ e))
-only_safe request bytes Reached line w s failed status l e whole z h = absurd (begins 114 115 w _ _ refl (ap (take w) (sym l) ∙ e))
-only_safe request bytes NotReached line w s failed status l e whole z h = absurd (begins 110 115 w _ _ refl (ap (take w) (sym l) ∙ e))
-only_safe request bytes (NoProfile n) line w s failed status l e whole z h = absurd (begins 102 115 w _ _ refl (ap (take w) (sym l) ∙ e))
-only_safe request bytes (BadPath f) line w s failed status l e whole z h = absurd (begins 102 115 w _ _ refl (ap (take w) (sym l.1) ∙ e))
-only_safe request bytes (Unread f) line w s failed status l e whole z h = absurd (begins 102 115 w _ _ refl (ap (take w) (sym l.1) ∙ e))
-only_safe request bytes (BadBundle f) line w s failed status l e whole z h = absurd (begins 102 115 w _ _ refl (ap (take w) (sym l.1) ∙ e))
-only_safe request bytes (BadSection f) line w s failed status l e whole z h = absurd (begins 102 115 w _ _ refl (ap (take w) (sym l.1) ∙ e))
-only_safe request bytes OutOfMemory line w s failed status l e whole z h = absurd (begins 102 115 w _ _ refl (ap (take w) (sym l) ∙ e))
-
 -- Only `verify` asks to verify certificates.
 asks-verify : (request : Request) (state : Option State) → AsksFor request state task.Verify → request ≡ about Verify
 asks-verify request state a = a.asked ∙ ap about (go a.of_set state a.task_is)
@@ -275,98 +120,154 @@ asks-verify request state a = a.asked ∙ ap about (go a.of_set state a.task_is)
     go Certify o is = cc
     go Verify o is = refl
 
+-- A text that says of the input that its set is safe: below `safe` is what is to follow it.
+record SaysSafe (request : Request) (bytes line : List ℕ) (status : ℕ) : Type 0 where
+  pub contents : Contents
+  pub spelled : Spells bytes contents
+  pub to_do : Task
+  pub asked : AsksFor request contents.state to_do
+  pub safe : IsSafeSet (members contents)
+  pub below : List ℕ
+  pub below_is : IsBelow to_do (members contents) status below
+  pub line_is : line ≡ codes "safe\n" ++ below
+
+-- What is true of the question and of the input if the text of the answer starts so.
+abbrev Means : Request → List ℕ → List ℕ → ℕ → Start → Type 0
+Means request bytes line status SafeStart = SaysSafe request bytes line status
+Means request bytes line status VerifiedStart = SpellsVerified (Some request) bytes
+Means request bytes line status OverlapStart = OverlapsShown → SpellsUnsafe bytes
+Means request bytes line status BreachStart = BreachesShown → SpellsUnsafe bytes
+Means request bytes line status ReachedStart = IsTrueOf request bytes Reached
+Means request bytes line status NotReachedStart = IsTrueOf request bytes NotReached
+Means request bytes line status OtherStart = ⊤
+
+-- It is true of the start of the line of a refusal,
+refusal-means : (request : Request) (bytes line : List ℕ) (status : ℕ) (c : Contents) (t : Task) (e : CheckFault) → Spells bytes c → IsRefusedFor t c e
+    → Means request bytes line status (start (refusal_line (members c) e))
+refusal-means request bytes line status c t e spelled refused =
+    refusal-start (Means request bytes line status) (members c) e tt
+    (λ w o place held path is shown. record {
+      contents = c;
+      spelled = spelled;
+      unsafe = shown (members c) w o place held path (overlap-first t c w o place held path (subst (IsRefusedFor t c) is refused));
+    })
+    (λ p k path is shown. record {
+      contents = c;
+      spelled = spelled;
+      unsafe = shown (members c) p k path (breach-first t c p k path (subst (IsRefusedFor t c) is refused));
+    })
+
+-- and of the start of the text of every answer.
+text-means : (request : Request) (bytes : List ℕ) (r : Report) (line : List ℕ) (failed : Bool) (status : ℕ) → IsText r line
+    → status ≡ cond failed 2 (status_of r) → Holds request bytes r → Means request bytes line status (start line)
+text-means request bytes Safe line failed status l z h =
+    let below = check-below h.told.to_do (members h.contents) status h.told.told.0 in
+    subst (λ t. Means request bytes line status (start t)) (sym l) (record {
+      contents = h.contents;
+      spelled = h.spelled;
+      to_do = h.told.to_do;
+      asked = h.told.asked;
+      safe = h.told.told.1;
+      below = [];
+      below_is = below;
+      line_is = l;
+    })
+text-means request bytes (Ran r) line failed status l z h =
+    let below = ran-below h.told.to_do (members h.contents) r status failed h.told.told z in
+    subst (λ t. Means request bytes line status (start t)) (sym l) (record {
+      contents = h.contents;
+      spelled = h.spelled;
+      to_do = h.told.to_do;
+      asked = h.told.asked;
+      safe = h.told.told.safe;
+      below = string_bytes r.lines ++ state_text r.state;
+      below_is = below;
+      line_is = l;
+    })
+text-means request bytes (NotRun f) line failed status l z h =
+    let below = error-below h.told.to_do (members h.contents) f status h.told.told in
+    subst (λ t. Means request bytes line status (start t)) (sym l) (record {
+      contents = h.contents;
+      spelled = h.spelled;
+      to_do = h.told.to_do;
+      asked = h.told.asked;
+      safe = h.told.told.safe;
+      below = error_line f;
+      below_is = below;
+      line_is = l;
+    })
+text-means request bytes NoState line failed status l z h = subst (λ t. Means request bytes line status (start t)) (sym l) tt
+text-means request bytes Verified line failed status l z h =
+    let asked = subst (AsksFor request h.contents.state) h.told.told.0 h.told.asked in
+    subst (λ t. Means request bytes line status (start t)) (sym l) (record {
+      is_asked = ap Some (asks-verify request h.contents.state asked);
+      contents = h.contents;
+      spelled = h.spelled;
+      inductive = h.told.told.1;
+      safe = h.told.told.2;
+    })
+text-means request bytes (Certified text) line failed status l z h =
+    subst (λ t. Means request bytes line status (start t)) (sym (l ∙ h.told.told.1.2)) tt
+text-means request bytes (Refused text) line failed status l z h =
+    subst (λ t. Means request bytes line status (start t)) (sym (l ∙ h.told.told.1))
+    (refusal-means request bytes line status h.contents h.told.to_do h.told.reason h.spelled h.told.refused)
+text-means request bytes Reached line failed status l z h = subst (λ t. Means request bytes line status (start t)) (sym l) h
+text-means request bytes NotReached line failed status l z h = subst (λ t. Means request bytes line status (start t)) (sym l) h
+text-means request bytes (NoProfile n) line failed status l z h = subst (λ t. Means request bytes line status (start t)) (sym l) tt
+text-means request bytes (BadPath f) line failed status l z h = subst (λ t. Means request bytes line status (start t)) (sym l.1) tt
+text-means request bytes (Unread f) line failed status l z h = subst (λ t. Means request bytes line status (start t)) (sym l.1) tt
+text-means request bytes (BadBundle f) line failed status l z h = subst (λ t. Means request bytes line status (start t)) (sym l.1) tt
+text-means request bytes (BadSection f) line failed status l z h = subst (λ t. Means request bytes line status (start t)) (sym l.1) tt
+text-means request bytes OutOfMemory line failed status l z h = subst (λ t. Means request bytes line status (start t)) (sym l) tt
+
+-- Of a text whose start is known.
+means : (request : Request) (bytes : List ℕ) (r : Report) (line : List ℕ) (x : Start) → IsText r line → start line ≡ x → Holds request bytes r
+    → Means request bytes line (status_of r) x
+means request bytes r line x l e h = subst (Means request bytes line (status_of r)) e (text-means request bytes r line false (status_of r) l refl h)
+
+-- Only the text of a safe set begins with `safe`,
+pub only_safe : (request : Request) (bytes : List ℕ) (r : Report) (line : List ℕ) (w : ℕ) (s : List ℕ) (failed : Bool) (status : ℕ) → IsText r line → take w line ≡ codes "safe\n" ++ s
+    → (failed ≡ false → take w line ≡ line) → status ≡ cond failed 2 (status_of r) → Holds request bytes r → SpellsSafe (Some request) bytes s failed status
+only_safe request bytes r line w s failed status l e whole z h =
+    let front = begins (codes "safe\n") line s w e in
+    let says : SaysSafe request bytes line status = subst (Means request bytes line status) (ap start front.whole) (text-means request bytes r line failed status l z h) in
+    let rest : front.rest ≡ says.below = append_cancel_left (codes "safe\n") front.rest says.below (sym front.whole ∙ says.line_is) in
+    record {
+      of_set = says.asked.of_set;
+      is_asked = ap Some says.asked.asked;
+      contents = says.contents;
+      spelled = says.spelled;
+      to_do = says.to_do;
+      to_do_is = says.asked.task_is;
+      safe = says.safe;
+      below = says.below;
+      below_is = says.below_is;
+      written = front.written;
+      text_is = sym front.front ∙ ap (take front.written) rest;
+      whole = λ f. append_cancel_left (codes "safe\n") s says.below (sym e ∙ (whole f ∙ says.line_is));
+    }
+
 -- only that of a verified one with a v,
 pub only_verified : (request : Request) (bytes : List ℕ) (r : Report) (line : List ℕ) (w : ℕ) (s : List ℕ) → IsText r line → take w line ≡ 118 ∷ s → Holds request bytes r → SpellsVerified (Some request) bytes
-only_verified request bytes Safe line w s l e h = absurd (begins 115 118 w _ _ refl (ap (take w) (sym l) ∙ e))
-only_verified request bytes (Ran r) line w s l e h = absurd (begins 115 118 w _ _ refl (ap (take w) (sym l) ∙ e))
-only_verified request bytes (NotRun f) line w s l e h = absurd (begins 115 118 w _ _ refl (ap (take w) (sym l) ∙ e))
-only_verified request bytes NoState line w s l e h = absurd (begins 102 118 w _ _ refl (ap (take w) (sym l) ∙ e))
-only_verified request bytes Verified line w s l e h = record {
-  is_asked = ap Some (asks-verify request h.contents.state (subst (AsksFor request h.contents.state) h.told.told.0 h.told.asked));
-  contents = h.contents;
-  spelled = h.spelled;
-  inductive = h.told.told.1;
-  safe = h.told.told.2;
-}
-only_verified request bytes (Certified text) line w s l e h = absurd (begins 104 118 w _ _ refl (ap (take w) (sym (l ∙ h.told.told.1.2)) ∙ e))
-only_verified request bytes (Refused text) line w s l e h = absurd (unlike (members h.contents) h.told.reason 118 w s refl refl refl refl refl (ap (take w) (sym (l ∙ h.told.told.1)) ∙ e))
-only_verified request bytes Reached line w s l e h = absurd (begins 114 118 w _ _ refl (ap (take w) (sym l) ∙ e))
-only_verified request bytes NotReached line w s l e h = absurd (begins 110 118 w _ _ refl (ap (take w) (sym l) ∙ e))
-only_verified request bytes (NoProfile n) line w s l e h = absurd (begins 102 118 w _ _ refl (ap (take w) (sym l) ∙ e))
-only_verified request bytes (BadPath f) line w s l e h = absurd (begins 102 118 w _ _ refl (ap (take w) (sym l.1) ∙ e))
-only_verified request bytes (Unread f) line w s l e h = absurd (begins 102 118 w _ _ refl (ap (take w) (sym l.1) ∙ e))
-only_verified request bytes (BadBundle f) line w s l e h = absurd (begins 102 118 w _ _ refl (ap (take w) (sym l.1) ∙ e))
-only_verified request bytes (BadSection f) line w s l e h = absurd (begins 102 118 w _ _ refl (ap (take w) (sym l.1) ∙ e))
-only_verified request bytes OutOfMemory line w s l e h = absurd (begins 102 118 w _ _ refl (ap (take w) (sym l) ∙ e))
+only_verified request bytes r line w s l e h =
+    means request bytes r line VerifiedStart l (ap start (begins (118 ∷ []) line s w e).whole) h
 
 -- only that of a reached path with `rea`,
 pub only_reached : (request : Request) (bytes : List ℕ) (r : Report) (line : List ℕ) (w : ℕ) (s : List ℕ) → IsText r line → take w line ≡ 114 ∷ 101 ∷ 97 ∷ s → Holds request bytes r → IsTrueOf request bytes Reached
-only_reached request bytes Safe line w s l e h = absurd (begins 115 114 w _ _ refl (ap (take w) (sym l) ∙ e))
-only_reached request bytes (Ran r) line w s l e h = absurd (begins 115 114 w _ _ refl (ap (take w) (sym l) ∙ e))
-only_reached request bytes (NotRun f) line w s l e h = absurd (begins 115 114 w _ _ refl (ap (take w) (sym l) ∙ e))
-only_reached request bytes NoState line w s l e h = absurd (begins 102 114 w _ _ refl (ap (take w) (sym l) ∙ e))
-only_reached request bytes Verified line w s l e h = absurd (begins 118 114 w _ _ refl (ap (take w) (sym l) ∙ e))
-only_reached request bytes (Certified text) line w s l e h = absurd (begins 104 114 w _ _ refl (ap (take w) (sym (l ∙ h.told.told.1.2)) ∙ e))
-only_reached request bytes (Refused text) line w s l e h = absurd (unlike_reached (members h.contents) h.told.reason w s (ap (take w) (sym (l ∙ h.told.told.1)) ∙ e))
-only_reached request bytes Reached line w s l e h = h
-only_reached request bytes NotReached line w s l e h = absurd (begins 110 114 w _ _ refl (ap (take w) (sym l) ∙ e))
-only_reached request bytes (NoProfile n) line w s l e h = absurd (begins 102 114 w _ _ refl (ap (take w) (sym l) ∙ e))
-only_reached request bytes (BadPath f) line w s l e h = absurd (begins 102 114 w _ _ refl (ap (take w) (sym l.1) ∙ e))
-only_reached request bytes (Unread f) line w s l e h = absurd (begins 102 114 w _ _ refl (ap (take w) (sym l.1) ∙ e))
-only_reached request bytes (BadBundle f) line w s l e h = absurd (begins 102 114 w _ _ refl (ap (take w) (sym l.1) ∙ e))
-only_reached request bytes (BadSection f) line w s l e h = absurd (begins 102 114 w _ _ refl (ap (take w) (sym l.1) ∙ e))
-only_reached request bytes OutOfMemory line w s l e h = absurd (begins 102 114 w _ _ refl (ap (take w) (sym l) ∙ e))
+only_reached request bytes r line w s l e h =
+    means request bytes r line ReachedStart l (ap start (begins (114 ∷ 101 ∷ 97 ∷ []) line s w e).whole) h
 
 -- only that of a path that isn't with an n,
 pub only_not_reached : (request : Request) (bytes : List ℕ) (r : Report) (line : List ℕ) (w : ℕ) (s : List ℕ) → IsText r line → take w line ≡ 110 ∷ s → Holds request bytes r → IsTrueOf request bytes NotReached
-only_not_reached request bytes Safe line w s l e h = absurd (begins 115 110 w _ _ refl (ap (take w) (sym l) ∙ e))
-only_not_reached request bytes (Ran r) line w s l e h = absurd (begins 115 110 w _ _ refl (ap (take w) (sym l) ∙ e))
-only_not_reached request bytes (NotRun f) line w s l e h = absurd (begins 115 110 w _ _ refl (ap (take w) (sym l) ∙ e))
-only_not_reached request bytes NoState line w s l e h = absurd (begins 102 110 w _ _ refl (ap (take w) (sym l) ∙ e))
-only_not_reached request bytes Verified line w s l e h = absurd (begins 118 110 w _ _ refl (ap (take w) (sym l) ∙ e))
-only_not_reached request bytes (Certified text) line w s l e h = absurd (begins 104 110 w _ _ refl (ap (take w) (sym (l ∙ h.told.told.1.2)) ∙ e))
-only_not_reached request bytes (Refused text) line w s l e h = absurd (unlike (members h.contents) h.told.reason 110 w s refl refl refl refl refl (ap (take w) (sym (l ∙ h.told.told.1)) ∙ e))
-only_not_reached request bytes Reached line w s l e h = absurd (begins 114 110 w _ _ refl (ap (take w) (sym l) ∙ e))
-only_not_reached request bytes NotReached line w s l e h = h
-only_not_reached request bytes (NoProfile n) line w s l e h = absurd (begins 102 110 w _ _ refl (ap (take w) (sym l) ∙ e))
-only_not_reached request bytes (BadPath f) line w s l e h = absurd (begins 102 110 w _ _ refl (ap (take w) (sym l.1) ∙ e))
-only_not_reached request bytes (Unread f) line w s l e h = absurd (begins 102 110 w _ _ refl (ap (take w) (sym l.1) ∙ e))
-only_not_reached request bytes (BadBundle f) line w s l e h = absurd (begins 102 110 w _ _ refl (ap (take w) (sym l.1) ∙ e))
-only_not_reached request bytes (BadSection f) line w s l e h = absurd (begins 102 110 w _ _ refl (ap (take w) (sym l.1) ∙ e))
-only_not_reached request bytes OutOfMemory line w s l e h = absurd (begins 102 110 w _ _ refl (ap (take w) (sym l) ∙ e))
+only_not_reached request bytes r line w s l e h =
+    means request bytes r line NotReachedStart l (ap start (begins (110 ∷ []) line s w e).whole) h
 
 -- only that of an overlap with an o,
 pub only_overlaps : OverlapsShown → (request : Request) (bytes : List ℕ) (r : Report) (line : List ℕ) (w : ℕ) (s : List ℕ) → IsText r line → take w line ≡ 111 ∷ s → Holds request bytes r → SpellsUnsafe bytes
-only_overlaps shown request bytes Safe line w s l e h = absurd (begins 115 111 w _ _ refl (ap (take w) (sym l) ∙ e))
-only_overlaps shown request bytes (Ran r) line w s l e h = absurd (begins 115 111 w _ _ refl (ap (take w) (sym l) ∙ e))
-only_overlaps shown request bytes (NotRun f) line w s l e h = absurd (begins 115 111 w _ _ refl (ap (take w) (sym l) ∙ e))
-only_overlaps shown request bytes NoState line w s l e h = absurd (begins 102 111 w _ _ refl (ap (take w) (sym l) ∙ e))
-only_overlaps shown request bytes Verified line w s l e h = absurd (begins 118 111 w _ _ refl (ap (take w) (sym l) ∙ e))
-only_overlaps shown request bytes (Certified text) line w s l e h = absurd (begins 104 111 w _ _ refl (ap (take w) (sym (l ∙ h.told.told.1.2)) ∙ e))
-only_overlaps shown request bytes (Refused text) line w s l e h = record { contents = h.contents; spelled = h.spelled; unsafe = only_overlap shown h.told.to_do h.contents h.told.reason w s h.told.refused (ap (take w) (sym (l ∙ h.told.told.1)) ∙ e) }
-only_overlaps shown request bytes Reached line w s l e h = absurd (begins 114 111 w _ _ refl (ap (take w) (sym l) ∙ e))
-only_overlaps shown request bytes NotReached line w s l e h = absurd (begins 110 111 w _ _ refl (ap (take w) (sym l) ∙ e))
-only_overlaps shown request bytes (NoProfile n) line w s l e h = absurd (begins 102 111 w _ _ refl (ap (take w) (sym l) ∙ e))
-only_overlaps shown request bytes (BadPath f) line w s l e h = absurd (begins 102 111 w _ _ refl (ap (take w) (sym l.1) ∙ e))
-only_overlaps shown request bytes (Unread f) line w s l e h = absurd (begins 102 111 w _ _ refl (ap (take w) (sym l.1) ∙ e))
-only_overlaps shown request bytes (BadBundle f) line w s l e h = absurd (begins 102 111 w _ _ refl (ap (take w) (sym l.1) ∙ e))
-only_overlaps shown request bytes (BadSection f) line w s l e h = absurd (begins 102 111 w _ _ refl (ap (take w) (sym l.1) ∙ e))
-only_overlaps shown request bytes OutOfMemory line w s l e h = absurd (begins 102 111 w _ _ refl (ap (take w) (sym l) ∙ e))
+only_overlaps shown request bytes r line w s l e h =
+    means request bytes r line OverlapStart l (ap start (begins (111 ∷ []) line s w e).whole) h shown
 
 -- and only that of a breach with a b.
 pub only_breaches : BreachesShown → (request : Request) (bytes : List ℕ) (r : Report) (line : List ℕ) (w : ℕ) (s : List ℕ) → IsText r line → take w line ≡ 98 ∷ s → Holds request bytes r → SpellsUnsafe bytes
-only_breaches shown request bytes Safe line w s l e h = absurd (begins 115 98 w _ _ refl (ap (take w) (sym l) ∙ e))
-only_breaches shown request bytes (Ran r) line w s l e h = absurd (begins 115 98 w _ _ refl (ap (take w) (sym l) ∙ e))
-only_breaches shown request bytes (NotRun f) line w s l e h = absurd (begins 115 98 w _ _ refl (ap (take w) (sym l) ∙ e))
-only_breaches shown request bytes NoState line w s l e h = absurd (begins 102 98 w _ _ refl (ap (take w) (sym l) ∙ e))
-only_breaches shown request bytes Verified line w s l e h = absurd (begins 118 98 w _ _ refl (ap (take w) (sym l) ∙ e))
-only_breaches shown request bytes (Certified text) line w s l e h = absurd (begins 104 98 w _ _ refl (ap (take w) (sym (l ∙ h.told.told.1.2)) ∙ e))
-only_breaches shown request bytes (Refused text) line w s l e h = record { contents = h.contents; spelled = h.spelled; unsafe = only_breach shown h.told.to_do h.contents h.told.reason w s h.told.refused (ap (take w) (sym (l ∙ h.told.told.1)) ∙ e) }
-only_breaches shown request bytes Reached line w s l e h = absurd (begins 114 98 w _ _ refl (ap (take w) (sym l) ∙ e))
-only_breaches shown request bytes NotReached line w s l e h = absurd (begins 110 98 w _ _ refl (ap (take w) (sym l) ∙ e))
-only_breaches shown request bytes (NoProfile n) line w s l e h = absurd (begins 102 98 w _ _ refl (ap (take w) (sym l) ∙ e))
-only_breaches shown request bytes (BadPath f) line w s l e h = absurd (begins 102 98 w _ _ refl (ap (take w) (sym l.1) ∙ e))
-only_breaches shown request bytes (Unread f) line w s l e h = absurd (begins 102 98 w _ _ refl (ap (take w) (sym l.1) ∙ e))
-only_breaches shown request bytes (BadBundle f) line w s l e h = absurd (begins 102 98 w _ _ refl (ap (take w) (sym l.1) ∙ e))
-only_breaches shown request bytes (BadSection f) line w s l e h = absurd (begins 102 98 w _ _ refl (ap (take w) (sym l.1) ∙ e))
-only_breaches shown request bytes OutOfMemory line w s l e h = absurd (begins 102 98 w _ _ refl (ap (take w) (sym l) ∙ e))
+only_breaches shown request bytes r line w s l e h =
+    means request bytes r line BreachStart l (ap start (begins (98 ∷ []) line s w e).whole) h shown

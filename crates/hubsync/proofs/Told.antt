@@ -1,18 +1,20 @@
 -- What a refusal and a text that is no path are answered with.
-use Rattle.std.proofs.Common.{◌≡◌, ◌⊎◌, inl, inr, false, Some, refl, sym, subst}
+use Rattle.std.proofs.Common.{◌≡◌, ◌⊎◌, inl, inr, List, Some, refl, sym, subst}
 use Rattle.hub_path.specs.declared.fault.PathFault.{PathFault}
 use Rattle.hub_path.specs.declared.fault.PathFault.TheVariants as path
 use Rattle.hub_cert.specs.Set.{Members}
 use Rattle.hub_cert.specs.Refused.{IsRefused}
+use Rattle.hub_cert.specs.declared.certificate.Certificate.{Certificate}
 use Rattle.hub_cert.specs.declared.fault.CheckFault.{CheckFault}
 use Rattle.hub_bundle.specs.declared.sections.Contents.{Contents}
 use Rattle.hub_bundle.specs.Sections.{members}
 use Rattle.hub_words.specs.declared.words.Question.{Question}
 use Rattle.hub_words.specs.Words.{Request, about}
-use Rattle.hubsync.specs.declared.report.Report.{Report}
-use Rattle.hubsync.specs.declared.report.Report.TheVariants.{Safe, Ran, NotRun, NoState, Verified, Certified, Refused, Reached, NotReached, NoProfile, BadPath, Unread, BadBundle, BadSection, OutOfMemory}
+use Rattle.hub_report.specs.declared.report.Report.{Report}
+use Rattle.hub_report.specs.declared.report.Report.TheVariants.{Safe, Ran, NotRun, NoState, Verified, Certified, Refused, Reached, NotReached, NoProfile, BadPath, Unread, BadBundle, BadSection, OutOfMemory}
 use Rattle.hubsync.specs.declared.task.Task.{Task}
-use Rattle.hubsync.specs.Report.{HasBadPath, IsRefusal, IsTold, IsToldOfSet, says_read_failed}
+use Rattle.hub_report.specs.Report.{IsRefusal}
+use Rattle.hubsync.specs.Report.{FaultOf, HasBadPath, IsTold, IsToldOfSet}
 use Rattle.hubsync.specs.Task.{AsksFor, task_of}
 
 -- It was asked to do this.
@@ -57,22 +59,23 @@ set-told q c to_do is (BadBundle f) h = absurd h
 set-told q c to_do is (BadSection f) h = absurd h
 set-told q c to_do is OutOfMemory h = tt
 
-pub refusal-read : (S : Members) (e : CheckFault) (r : Report) → IsRefusal S e r → says_read_failed r ≡ false
-refusal-read S e Safe h = absurd h
-refusal-read S e (Ran r) h = absurd h
-refusal-read S e (NotRun f) h = absurd h
-refusal-read S e NoState h = absurd h
-refusal-read S e Verified h = absurd h
-refusal-read S e (Certified t) h = absurd h
-refusal-read S e (Refused t) h = refl
-refusal-read S e Reached h = absurd h
-refusal-read S e NotReached h = absurd h
-refusal-read S e (NoProfile name) h = absurd h
-refusal-read S e (BadPath f) h = absurd h
-refusal-read S e (Unread f) h = absurd h
-refusal-read S e (BadBundle f) h = absurd h
-refusal-read S e (BadSection f) h = absurd h
-refusal-read S e OutOfMemory h = refl
+-- A set that is refused for a fault of it was to be told so.
+pub refused-told : (t : Task) (S : Members) (cs : List Certificate) (e : CheckFault) (r : Report) → FaultOf t S cs e → IsRefusal S e r → IsToldOfSet t S cs r
+refused-told t S cs e Safe f h = absurd h
+refused-told t S cs e (Ran r) f h = absurd h
+refused-told t S cs e (NotRun x) f h = absurd h
+refused-told t S cs e NoState f h = absurd h
+refused-told t S cs e Verified f h = absurd h
+refused-told t S cs e (Certified x) f h = absurd h
+refused-told t S cs e (Refused x) f h = (e, f, h)
+refused-told t S cs e Reached f h = absurd h
+refused-told t S cs e NotReached f h = absurd h
+refused-told t S cs e (NoProfile name) f h = absurd h
+refused-told t S cs e (BadPath x) f h = absurd h
+refused-told t S cs e (Unread x) f h = absurd h
+refused-told t S cs e (BadBundle x) f h = absurd h
+refused-told t S cs e (BadSection x) f h = absurd h
+refused-told t S cs e OutOfMemory f h = tt
 
 -- A text is no path, or memory ran out.
 pub path-told : (request : Request) (c : Contents) (f : PathFault) (r : Report) → (f ≡ path.OutOfMemory → r ≡ OutOfMemory)

@@ -1,4 +1,3 @@
-pub mod Refusal
 pub mod Task
 pub mod Runs
 pub mod Reached

@@ -1,6 +1,5 @@
 -- What is written below `safe` if jobs are to be run.
-use Rattle.std.specs.Prelude.{◌≡◌, ◌⊎◌, ◌<◌, ◌∷◌, ◌++◌, ℕ, true, List, [], map, Option, Some, codes}
-use Rattle.hub_path.specs.Path.{Path}
+use Rattle.std.specs.Prelude.{◌≡◌, ◌⊎◌, ◌<◌, ◌++◌, ℕ, true, List, [], map, Option, Some}
 use Rattle.hub_profile.specs.Parts.{Parts}
 use Rattle.hub_cert.specs.Set.{Members, IsSafeSet, forbidden_by}
 use Rattle.hub_state.specs.State.{State}
@@ -9,12 +8,12 @@ use Rattle.hub_job.specs.declared.outcome.Outcome.{Outcome}
 use Rattle.hub_schedule.specs.Refusals.{first_missing}
 use Rattle.hub_schedule.specs.Simulated.{AreFinished, HaveEnded, IsPromised}
 use Rattle.hub_runner.specs.Working.{AreWorkers, MayRun}
-use Rattle.hubsync.specs.declared.run.Run.{Run}
-use Rattle.hubsync.specs.declared.run.RunError.{RunError}
-use Rattle.hubsync.specs.declared.run.RunError.TheVariants as fault
+use Rattle.hub_report.specs.declared.run.Run.{Run}
+use Rattle.hub_report.specs.declared.run.RunError.{RunError}
+use Rattle.hub_report.specs.declared.run.RunError.TheVariants as fault
+use Rattle.hub_report.specs.Run.{error_line}
 use Rattle.hubsync.specs.declared.task.Task.{Task}
 use Rattle.hubsync.specs.declared.task.Task.TheVariants as task
-use Rattle.hubsync.specs.Refusal.{joined, root_text}
 
 -- The jobs of a set were run on a state, this is the outcome, and each of them has ended.
 pub record IsRunOn (M : Members) (S : State) (o : Outcome) : Type 0 where
@@ -56,17 +55,6 @@ pub record IsPrevented (t : Task) (M : Members) (e : RunError) : Type 0 where
   pub task_is : t ≡ task.RunJobs workers state
   pub safe : IsSafeSet M
   pub reason : PreventsRun state M.profiles workers e
-
-abbrev pub missing_line : Path → List ℕ
-missing_line root = joined (codes "run fault: MissingReplica " ∷ root_text root ∷ codes "\n" ∷ [])
-
-abbrev pub error_line : RunError → List ℕ
-error_line fault.NoWorkers = codes "run fault: NoWorkers\n"
-error_line fault.TooManyWorkers = codes "run fault: TooManyWorkers\n"
-error_line (fault.MissingReplica root) = missing_line root
-error_line fault.ThreadRefused = codes "run fault: ThreadRefused\n"
-error_line fault.Stranger = codes "run fault: Stranger\n"
-error_line fault.Mismatch = codes "run fault: Mismatch\n"
 
 -- This is what jobs did, some lines, and below them the text of the state that they left. The status is 0 only if each of
 -- them is finished.

@@ -2,15 +2,16 @@
 ghost use Rattle.std.specs.Prelude.{◌≡◌, ◌⊎◌, false, IfSome};
 ghost use Rattle.hub_bundle.specs.Bundle as bundle;
 ghost use Rattle.hub_words.specs.Words.{request_of};
+ghost use Rattle.hub_report.specs.Report.{says_read_failed};
 ghost use Rattle.hubsync.specs.Report as report;
 
 use crate::reach::report_on_reach;
-use crate::report::Report;
 use crate::verdict::report_on_set;
 use hub_bundle::{
     BundleFault, BundleLineFault, Contents, InputFault, ReadError, read_bundle, read_input,
     read_sections,
 };
+use hub_report::Report;
 use hub_text::Watched;
 use hub_words::Asked;
 use std::alloc::Global;
@@ -28,7 +29,7 @@ pub fn report_on<'a, T: Threads + Wait + Sync, R: Read>(
     requires { input.old.failed ≡ false }
     ensures holds { IfSome (R.remaining input.old.device) (λ bytes.
         report.Holds (request_of asked.entry) bytes result) }
-    ensures failed { input.new.failed ≡ report.says_read_failed result }
+    ensures failed { input.new.failed ≡ says_read_failed result }
 {
     match read_input(alloc, input) {
         Ok(bytes) => report_on_bytes(rt, alloc, asked, bytes.as_slice()),
@@ -45,7 +46,7 @@ fn report_on_bytes<'a, T: Threads + Wait + Sync>(
     bytes: &[u8],
 ) -> Report<'a>
     ensures holds { report.Holds (request_of asked.entry) bytes.now result }
-    ensures read { report.says_read_failed result ≡ false }
+    ensures read { says_read_failed result ≡ false }
 {
     let sections = match read_bundle(alloc, bytes) {
         Ok(sections) => sections,
@@ -67,7 +68,7 @@ fn report_on_contents<'a, T: Threads + Wait + Sync>(
     contents: Contents,
 ) -> Report<'a>
     ensures told { report.IsTold (request_of asked.entry) contents result }
-    ensures read { report.says_read_failed result ≡ false }
+    ensures read { says_read_failed result ≡ false }
 {
     match asked {
         Asked::About(question) => report_on_set(rt, alloc, question, contents),
@@ -79,7 +80,7 @@ fn report_on_contents<'a, T: Threads + Wait + Sync>(
 fn bad_bundle<'a>(fault: BundleLineFault) -> Report<'a>
     ensures memory { fault ≡ bundle.out_of_memory → result ≡ Report.OutOfMemory }
     ensures fault { (result ≡ Report.OutOfMemory) ⊎ (result ≡ Report.BadBundle fault) }
-    ensures read { report.says_read_failed result ≡ false }
+    ensures read { says_read_failed result ≡ false }
 {
     match fault.fault {
         BundleFault::OutOfMemory => Report::OutOfMemory,

@@ -7,18 +7,15 @@
 //! - The set of the profiles and rules is made, and is checked or its certificates are verified (`task`, `verdict`); or one
 //!   profile is asked whether it reaches a path (`reach`).
 //! - The jobs of a safe set are run on the bundle's state (`run`).
-//! - The answer (`answer`, `report`, `refusal`) is written as one line, as the certificates' text, or as `safe` and below it
-//!   what the jobs did and the state that they left.
+//! - The answer (`answer`) is a `Report` of `hub_report`. It is written as one line, as the certificates' text, or as `safe`
+//!   and below it what the jobs did and the state that they left.
 //!
 //! Only functions that return a `Result` or write an answer allocate.
 #![tactic(auto)]
 
 mod answer;
 pub mod laws;
-mod parts;
 mod reach;
-mod refusal;
-mod report;
 mod run;
 mod serve;
 mod task;

@@ -1,14 +1,15 @@
 //! Whether a profile of a bundle reaches a path.
 ghost use Rattle.std.specs.Prelude.{◌≡◌, ◌⊎◌, false, Some, None, MatchOption};
 ghost use Rattle.hub_words.specs.Words as words;
+ghost use Rattle.hub_report.specs.Report.{says_read_failed};
 ghost use Rattle.hubsync.specs.Report as report;
 ghost use Rattle.hubsync.specs.Reached.{named};
 
-use crate::report::Report;
 use hub_bundle::Contents;
 use hub_path::{PathFault, RelPath};
 use hub_profile::Profile;
 use hub_reach::reaches;
+use hub_report::Report;
 use std::alloc::Global;
 
 /// The answer to whether the bundle's first profile with that name reaches the path of that text.
@@ -22,7 +23,7 @@ pub fn report_on_reach<'a>(
     path: &str,
 ) -> Report<'a>
     ensures told { report.IsTold (words.reach profile.now path.now) contents.now result }
-    ensures read { report.says_read_failed result ≡ false }
+    ensures read { says_read_failed result ≡ false }
 {
     let Some(found) = profile_named(contents.profiles.as_slice(), profile) else {
         return Report::NoProfile(profile);
@@ -38,7 +39,7 @@ pub fn report_on_reach<'a>(
 fn bad_path<'a>(fault: PathFault) -> Report<'a>
     ensures memory { fault ≡ PathFault.OutOfMemory → result ≡ Report.OutOfMemory }
     ensures fault { (result ≡ Report.OutOfMemory) ⊎ (result ≡ Report.BadPath fault) }
-    ensures read { report.says_read_failed result ≡ false }
+    ensures read { says_read_failed result ≡ false }
 {
     match fault {
         PathFault::OutOfMemory => Report::OutOfMemory,

@@ -5,50 +5,23 @@ ghost use Rattle.hub_cert.specs.declared.certificate.Certificate.{Certificate};
 ghost use Rattle.hub_state.specs.State.{State};
 ghost use Rattle.hub_schedule.specs.Simulated.{AreFinished};
 ghost use Rattle.hub_runner.specs.Working.{IsNotRun, MayRun};
+ghost use Rattle.hub_report.specs.Report.{says_read_failed};
 ghost use Rattle.hubsync.specs.Report as report;
 ghost use Rattle.hubsync.specs.Runs.{IsRunOn};
 ghost use Rattle.hubsync.specs.declared.task.Task.TheVariants as task;
 
-use crate::report::Report;
 use hub_cert::Verified;
 use hub_history::Gate;
 use hub_job::{End, JobEnd, Outcome, RunFault};
 use hub_path::{Root, Side};
 use hub_profile::Profile;
 use hub_reconcile::{Fate, Item, Reason};
+use hub_report::{Report, Run, RunError};
 use hub_runner::run;
 use hub_state::State;
 use std::alloc::{AllocError, Global};
 use std::sync::Wait;
 use std::thread::Threads;
-
-/// What the jobs of a safe set did, and what they left.
-#[derive(Drop)]
-pub struct Run {
-    /// A line for each job, and below that of a finished job a line for each of its items.
-    pub lines: String,
-    /// The state that they left.
-    pub state: State,
-    /// Whether each of them is finished.
-    pub finished: bool,
-}
-
-/// Why the jobs of a safe set weren't run, but for lack of memory.
-#[derive(Drop)]
-pub enum RunError {
-    /// There are no workers.
-    NoWorkers,
-    /// There are more workers than hub_runner's `WORKERS`.
-    TooManyWorkers,
-    /// The state has no replica of this root.
-    MissingReplica(Root),
-    /// A thread can't be started.
-    ThreadRefused,
-    /// A job was there twice, missing or foreign. Tests show none.
-    Stranger,
-    /// A root's history and the logs of the jobs didn't fit. Tests show none.
-    Mismatch,
-}
 
 /// A gate that does nothing.
 struct NoGate;
@@ -71,7 +44,7 @@ pub fn run_set<'a, T: Threads + Wait + Sync>(
 ) -> Report<'a>
     ensures told { (cs : List Certificate) → report.IsToldOfSet (task.RunJobs workers state.now)
         verified.now cs result }
-    ensures read { report.says_read_failed result ≡ false }
+    ensures read { says_read_failed result ≡ false }
 {
     let profiles = verified.set().profiles();
     match run(rt, alloc, verified, state, usize::from(workers), &NoGate) {
@@ -84,7 +57,7 @@ pub fn run_set<'a, T: Threads + Wait + Sync>(
 fn report_on_fault<'a>(fault: RunFault) -> Report<'a>
     ensures told { (M : Members) (S : State) (n : ℕ) → IsSafeSet M → IsNotRun S M.profiles n fault
         → (cs : List Certificate) → report.IsToldOfSet (task.RunJobs n S) M cs result }
-    ensures read { report.says_read_failed result ≡ false }
+    ensures read { says_read_failed result ≡ false }
 {
     match fault {
         RunFault::NoWorkers => Report::NotRun(RunError::NoWorkers),
@@ -102,7 +75,7 @@ fn report_on_outcome<'a>(alloc: Global, profiles: &[Profile], outcome: Outcome) 
     ensures told { (M : Members) (S : State) (n : ℕ) → IsSafeSet M → MayRun S M.profiles n
         → IsRunOn M S outcome
         → (cs : List Certificate) → report.IsToldOfSet (task.RunJobs n S) M cs result }
-    ensures read { report.says_read_failed result ≡ false }
+    ensures read { says_read_failed result ≡ false }
 {
     let finished = are_finished(outcome.jobs.as_slice());
     match lines_of(alloc, profiles, outcome.jobs.as_slice()) {

@@ -8,7 +8,7 @@ ghost use Rattle.hubsync.specs.Report.{Answers, AnswersNothing, Serves, WritesTe
 
 use crate::answer::report_on;
 use crate::laws::what_is_shown_is_not_safe;
-use crate::report::OUT_OF_MEMORY;
+use hub_report::OUT_OF_MEMORY;
 use hub_text::Watched;
 use hub_words::{Asked, Error, ErrorKind, read_words};
 use std::alloc::Global;

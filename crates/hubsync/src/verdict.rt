@@ -1,17 +1,16 @@
 //! Answers about the set of a bundle's profiles and rules.
 ghost use Rattle.std.specs.Prelude.{◌≡◌, ◌⊎◌, false, IfOk, IfErr, OnOk};
-ghost use Rattle.hub_cert.specs.Set.{Members, IsSafeSet};
-ghost use Rattle.hub_cert.specs.Refused.{IsRefused};
+ghost use Rattle.hub_cert.specs.Set.{IsSafeSet};
+ghost use Rattle.hub_report.specs.Report.{says_read_failed};
 ghost use Rattle.hub_search.specs.Search.{IsFirstFault};
 ghost use Rattle.hub_words.specs.Words.{about};
 ghost use Rattle.hubsync.specs.Report as report;
 
-use crate::refusal::fault_line;
-use crate::report::Report;
 use crate::run::run_set;
 use crate::task::Task;
 use hub_bundle::Contents;
 use hub_cert::{Certificate, CheckFault, ProfileSet, verify, write_certificates};
+use hub_report::Report;
 use hub_search::{certificates, check};
 use hub_words::Question;
 use std::alloc::Global;
@@ -27,7 +26,7 @@ pub fn report_on_set<'a, T: Threads + Wait + Sync>(
     contents: Contents,
 ) -> Report<'a>
     ensures told { report.IsTold (about question) contents result }
-    ensures read { report.says_read_failed result ≡ false }
+    ensures read { says_read_failed result ≡ false }
 {
     let Contents {
         profiles,
@@ -40,7 +39,7 @@ pub fn report_on_set<'a, T: Threads + Wait + Sync>(
     };
     match ProfileSet::new(alloc, profiles, rules) {
         Ok(set) => report_on_made(rt, alloc, task, &set, certificates.as_slice()),
-        Err(fault) => refusal_without_set(alloc, &fault),
+        Err(fault) => Report::refusal_without_set(alloc, &fault),
     }
 }
 
@@ -53,11 +52,11 @@ fn report_on_made<'a, T: Threads + Wait + Sync>(
     own: &[Certificate],
 ) -> Report<'a>
     ensures told { report.IsToldOfSet task set.now own.now result }
-    ensures read { report.says_read_failed result ≡ false }
+    ensures read { says_read_failed result ≡ false }
 {
     match answer(rt, alloc, task, set, own) {
         Ok(report) => report,
-        Err(fault) => refusal(alloc, set, &fault),
+        Err(fault) => Report::refusal(alloc, set, &fault),
     }
 }
 
@@ -71,7 +70,7 @@ fn answer<'a, T: Threads + Wait + Sync>(
 ) -> Result<Report<'a>, CheckFault>
     ensures told { IfOk result (report.IsToldOfSet task set.now own.now) }
     ensures refused { IfErr result (report.FaultOf task set.now own.now) }
-    ensures read { IfOk result (λ r. report.says_read_failed r ≡ false) }
+    ensures read { IfOk result (λ r. says_read_failed r ≡ false) }
 {
     match task {
         Task::Check => {
@@ -102,33 +101,4 @@ fn check_safe(alloc: Global, set: &ProfileSet) -> Result<(), CheckFault>
     // The type of what `check` returns says that the set is safe.
     let _ = check(alloc, set)?.set();
     Ok(())
-}
-
-/// The answer that refuses a set by its fault.
-fn refusal<'a>(alloc: Global, set: &ProfileSet, fault: &CheckFault) -> Report<'a>
-    ensures { report.IsRefusal set.now fault.now result }
-{
-    let Ok(goals) = set.goals(alloc) else {
-        return Report::OutOfMemory;
-    };
-    match fault {
-        CheckFault::OutOfMemory => Report::OutOfMemory,
-        fault => match fault_line(alloc, set.profiles(), set.rules(), goals.as_slice(), fault) {
-            Ok(line) => Report::Refused(line),
-            Err(_) => Report::OutOfMemory,
-        },
-    }
-}
-
-/// The answer if there is no set, because of that fault. Such a fault has no numbers.
-fn refusal_without_set<'a>(alloc: Global, fault: &CheckFault) -> Report<'a>
-    ensures { (S : Members) → IsRefused S fault.now → report.IsRefusal S fault.now result }
-{
-    match fault {
-        CheckFault::OutOfMemory => Report::OutOfMemory,
-        fault => match fault_line(alloc, &[], &[], &[], fault) {
-            Ok(line) => Report::Refused(line),
-            Err(_) => Report::OutOfMemory,
-        },
-    }
 }

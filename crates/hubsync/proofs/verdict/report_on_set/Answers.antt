@@ -1,15 +1,10 @@
 use Rattle.std.proofs.Common.{sym}
 use Rattle.hub_bundle.specs.Sections.{members}
-use Rattle.hubsync.proofs.Told.{refusal-read, refusal-told}
+use Rattle.hubsync.proofs.Told.{refusal-told}
 use Rattle.hubsync.proofs.verdict.report_on_set.Goals as goal
 
 pub returns-clause-told : goal.returns-clause-told
 returns-clause-told g c =
     let S = members c.args.contents in
     let refused = c.in-Err.ensures.err in
-    refusal-told c.args.question c.args.contents c.in-Some.task (sym c.in-Some.ensures) c.in-Err.fault c.refusal_without_set.result refused (c.refusal_without_set.ensures S refused)
-
-pub returns-clause-read : goal.returns-clause-read
-returns-clause-read g c =
-    let S = members c.args.contents in
-    refusal-read S c.in-Err.fault c.refusal_without_set.result (c.refusal_without_set.ensures S c.in-Err.ensures.err)
+    refusal-told c.args.question c.args.contents c.in-Some.task (sym c.in-Some.ensures) c.in-Err.fault c.refusal_without_set.result refused (c.refusal_without_set.ensures.refusal S refused)

@@ -1,6 +1,6 @@
 use Rattle.std.proofs.Common.{◌≡◌, ◌+◌, drop}
-use Rattle.hubsync.specs.Refusal.{number_of}
-use Rattle.hubsync.proofs.refusal.number_of.Given as goal
+use Rattle.hub_report.specs.Refusal.{number_of}
+use Rattle.hub_report.proofs.refusal.number_of.Given as goal
 
 abbrev pub invariant-loop-own : goal.invariant-loop-own
 invariant-loop-own l = record {

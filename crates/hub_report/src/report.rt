@@ -1,20 +1,15 @@
 //! An answer to an input: its status and its text.
-ghost use Rattle.std.specs.Prelude.{◌≡◌, ◌∷◌, [], ◌++◌, codes, string_bytes, IfOk};
+ghost use Rattle.std.specs.Prelude.{◌≡◌, ◌∷◌, [], codes, IfOk};
 ghost use Rattle.std.specs.List.{flat_map};
-ghost use Rattle.hub_state.specs.Writing.{state_text};
-ghost use Rattle.hubsync.specs.Report as report;
-ghost use Rattle.hubsync.specs.Runs as runs;
+ghost use Rattle.hub_report.specs.Report as report;
 
-use crate::parts::joined;
-use crate::run::{Run, RunError};
+use crate::parts::{bytes_of, joined};
+use crate::run::{Run, RunError, text_of_error, text_of_run};
 use hub_bundle::{BundleLineFault, InputFault, SectionFault};
-use hub_path::{Name, PathFault, Root};
+use hub_path::{Name, PathFault};
 use hub_profile::ProfileFault;
-use hub_state::{StateFault, write_state};
-use hub_text::Watched;
+use hub_state::StateFault;
 use std::alloc::{AllocError, Global};
-use std::collections::VecDeque;
-use std::io::Read;
 
 /// The line of the answer that memory is out.
 pub const OUT_OF_MEMORY: &str = "fault: out of memory\n";
@@ -94,67 +89,13 @@ impl Report<'_> {
             Report::Reached => bytes_of(alloc, "reached\n"),
             Report::NotReached => bytes_of(alloc, "not reached\n"),
             Report::NoProfile(name) => no_profile_line(alloc, name),
-            Report::BadPath(fault) => {
-                let name = fault.to_string(alloc)?;
-                fault_line(alloc, "path", name.as_str())
-            }
-            Report::Unread(fault) => {
-                let name = fault.to_string(alloc)?;
-                fault_line(alloc, "bundle line 0", name.as_str())
-            }
+            Report::BadPath(fault) => path_fault_line(alloc, fault),
+            Report::Unread(fault) => input_fault_line(alloc, fault),
             Report::BadBundle(fault) => bundle_fault_line(alloc, &fault),
             Report::BadSection(fault) => section_fault_line(alloc, &fault),
             Report::OutOfMemory => bytes_of(alloc, OUT_OF_MEMORY),
         }
     }
-}
-
-fn bytes_of(alloc: Global, text: &str) -> Result<Vec<u8>, AllocError>
-    ensures { IfOk result (λ t. t.items ≡ text.now) }
-{
-    Vec::from_slice(alloc, text.as_bytes())
-}
-
-/// `safe`, and below it what the jobs did and the text of the state that they left.
-fn text_of_run(alloc: Global, run: Run) -> Result<Vec<u8>, AllocError>
-    ensures { IfOk result (λ t. t.items
-        ≡ codes "safe\n" ++ (string_bytes run.lines ++ state_text run.state)) }
-{
-    let Run { lines, state, .. } = run;
-    // a watched writer keeps its device, so the text is read out of it
-    let mut queue = Watched::new(VecDeque::new(alloc));
-    if write_state(alloc, &mut queue, &state).is_err() {
-        return Err(AllocError);
-    }
-    drop(state);
-    let mut text = bytes_of(alloc, "safe\n")?;
-    text.extend_from_slice(lines.as_bytes())?;
-    if queue.read_to_end(&mut text).is_err() {
-        return Err(AllocError);
-    }
-    Ok(text)
-}
-
-/// `safe`, and below it the line that says why the jobs weren't run.
-fn text_of_error(alloc: Global, error: &RunError) -> Result<Vec<u8>, AllocError>
-    ensures { IfOk result (λ t. t.items ≡ codes "safe\n" ++ runs.error_line error.now) }
-{
-    match error {
-        RunError::NoWorkers => bytes_of(alloc, "safe\nrun fault: NoWorkers\n"),
-        RunError::TooManyWorkers => bytes_of(alloc, "safe\nrun fault: TooManyWorkers\n"),
-        RunError::MissingReplica(root) => missing_line(alloc, root),
-        RunError::ThreadRefused => bytes_of(alloc, "safe\nrun fault: ThreadRefused\n"),
-        RunError::Stranger => bytes_of(alloc, "safe\nrun fault: Stranger\n"),
-        RunError::Mismatch => bytes_of(alloc, "safe\nrun fault: Mismatch\n"),
-    }
-}
-
-/// `safe`, and below it the line that a root's replica is missing.
-fn missing_line(alloc: Global, root: &Root) -> Result<Vec<u8>, AllocError>
-    ensures { IfOk result (λ t. t.items ≡ codes "safe\n" ++ runs.missing_line root.now) }
-{
-    let parts = ["safe\n", "run fault: MissingReplica ", root.as_str(), "\n"];
-    Ok(joined(alloc, &parts)?.into_bytes())
 }
 
 /// The line that no profile has that name.
@@ -163,6 +104,22 @@ fn no_profile_line(alloc: Global, name: &str) -> Result<Vec<u8>, AllocError>
         (codes "fault: no profile " ∷ name.now ∷ codes "\n" ∷ [])) }
 {
     Ok(joined(alloc, &["fault: no profile ", name, "\n"])?.into_bytes())
+}
+
+/// The line of a fault of the path.
+fn path_fault_line(alloc: Global, fault: PathFault) -> Result<Vec<u8>, AllocError>
+    ensures { IfOk result (λ t. report.IsFaultLine (codes "path") t.items) }
+{
+    let name = fault.to_string(alloc)?;
+    fault_line(alloc, "path", name.as_str())
+}
+
+/// The line of a fault of the input.
+fn input_fault_line(alloc: Global, fault: InputFault) -> Result<Vec<u8>, AllocError>
+    ensures { IfOk result (λ t. report.IsFaultLine (codes "bundle line 0") t.items) }
+{
+    let name = fault.to_string(alloc)?;
+    fault_line(alloc, "bundle line 0", name.as_str())
 }
 
 /// The line of a fault of the bundle.

@@ -1,20 +1,57 @@
-//! The lines of refusals.
-ghost use Rattle.std.specs.Prelude.{◌≡◌, ◌∷◌, [], IfOk, MatchOption, Option, None, Some, codes, slice_get, string_bytes};
+//! Refusals of profiles and rules, and the line of each.
+ghost use Rattle.std.specs.Prelude.{◌≡◌, ◌∷◌, [], false, IfOk, MatchOption, Option, None, Some, codes, slice_get, string_bytes};
 ghost use Rattle.std.specs.Fmt.{decimal};
 ghost use Rattle.hub_profile.specs.Parts.{Parts};
-ghost use Rattle.hubsync.specs.Refusal as lines;
+ghost use Rattle.hub_cert.specs.Refused.{IsRefused};
+ghost use Rattle.hub_cert.specs.Set.{Members};
+ghost use Rattle.hub_report.specs.Refusal as lines;
+ghost use Rattle.hub_report.specs.Report as report;
 
 use crate::parts::joined;
-use crate::report::OUT_OF_MEMORY;
+use crate::report::{OUT_OF_MEMORY, Report};
 use hub_automaton::AutomatonFault;
-use hub_cert::{CheckFault, Goal, Place};
+use hub_cert::{CheckFault, Goal, Place, ProfileSet};
 use hub_path::{RelPath, Root, Side};
 use hub_profile::{Profile, Rule, Verb};
 use hub_search::STAGES;
 use std::alloc::{AllocError, Global};
 
+impl<'a> Report<'a> {
+    /// The answer that refuses a set by its fault.
+    pub fn refusal(alloc: Global, set: &ProfileSet, fault: &CheckFault) -> Report<'a>
+        ensures refusal { report.IsRefusal set.now fault.now result }
+        ensures read { report.says_read_failed result ≡ false }
+    {
+        let Ok(goals) = set.goals(alloc) else {
+            return Report::OutOfMemory;
+        };
+        match fault {
+            CheckFault::OutOfMemory => Report::OutOfMemory,
+            fault => match fault_line(alloc, set.profiles(), set.rules(), goals.as_slice(), fault) {
+                Ok(line) => Report::Refused(line),
+                Err(_) => Report::OutOfMemory,
+            },
+        }
+    }
+
+    /// The answer if there is no set, because of that fault. Such a fault has no numbers.
+    pub fn refusal_without_set(alloc: Global, fault: &CheckFault) -> Report<'a>
+        ensures refusal { (S : Members) → IsRefused S fault.now
+            → report.IsRefusal S fault.now result }
+        ensures read { report.says_read_failed result ≡ false }
+    {
+        match fault {
+            CheckFault::OutOfMemory => Report::OutOfMemory,
+            fault => match fault_line(alloc, &[], &[], &[], fault) {
+                Ok(line) => Report::Refused(line),
+                Err(_) => Report::OutOfMemory,
+            },
+        }
+    }
+}
+
 /// The line of a fault, which ends with LF. Its numbers are those of these profiles, rules and goals.
-pub fn fault_line(
+fn fault_line(
     alloc: Global,
     profiles: &[Profile],
     rules: &[Rule],

@@ -14,3 +14,10 @@ pub fn joined(alloc: Global, parts: &[&str]) -> Result<String, AllocError>
     }
     Ok(text)
 }
+
+/// The bytes of a text.
+pub fn bytes_of(alloc: Global, text: &str) -> Result<Vec<u8>, AllocError>
+    ensures { IfOk result (λ t. t.items ≡ text.now) }
+{
+    Vec::from_slice(alloc, text.as_bytes())
+}

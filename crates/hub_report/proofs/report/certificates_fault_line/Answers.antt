@@ -1,6 +1,6 @@
 use Rattle.std.proofs.Common.{IfOk, subst, ◌∙◌}
-use Rattle.hubsync.specs.Report as report
-use Rattle.hubsync.proofs.report.certificates_fault_line.Goals as goal
+use Rattle.hub_report.specs.Report as report
+use Rattle.hub_report.proofs.report.certificates_fault_line.Goals as goal
 
 pub returns : goal.returns
 returns c =

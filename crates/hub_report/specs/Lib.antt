@@ -1,0 +1,3 @@
+pub mod Refusal
+pub mod Run
+pub mod Report

@@ -1,0 +1,119 @@
+-- The text and the status of each answer.
+use Rattle.std.specs.Prelude.{◌≡◌, ◌≢◌, ◌∷◌, ◌++◌, ⊤, ℕ, Bool, true, false, if◌then◌else◌, List, [], codes, encode_utf8_all, string_bytes}
+use Rattle.std.specs.List.{flat_map}
+use Rattle.std.specs.Fmt.{decimal}
+use Rattle.hub_path.specs.Path.{Name}
+use Rattle.hub_cert.specs.Set.{Members}
+use Rattle.hub_cert.specs.declared.fault.CheckFault.{CheckFault}
+use Rattle.hub_cert.specs.declared.fault.CheckFault.TheVariants as fault
+use Rattle.hub_state.specs.Writing.{state_text}
+use Rattle.hub_bundle.specs.declared.sections.SectionFault.{SectionFault}
+use Rattle.hub_bundle.specs.declared.sections.SectionFault.TheVariants.{OfProfile, OfRules, OfState, OfCertificates}
+use Rattle.hub_bundle.specs.Input.{says_failed}
+use Rattle.hub_report.specs.declared.report.Report.{Report}
+use Rattle.hub_report.specs.declared.report.Report.TheVariants.{Safe, Ran, NotRun, NoState, Verified, Certified, Refused, Reached, NotReached, NoProfile, BadPath, Unread, BadBundle, BadSection, OutOfMemory}
+use Rattle.hub_report.specs.Refusal.{refusal_line}
+use Rattle.hub_report.specs.Run.{error_line}
+
+-- The line of a fault: the place that has it, and what it is called.
+abbrev pub fault_line : List ℕ → List ℕ → List ℕ
+fault_line place name = flat_map (λ t. t) (codes "fault: " ∷ place ∷ codes ": " ∷ name ∷ codes "\n" ∷ [])
+
+-- What the fault is called is not said here.
+abbrev pub IsFaultLine : List ℕ → List ℕ → Type 0
+IsFaultLine place t = (name : List ℕ) × (t ≡ fault_line place name)
+
+-- The places: a line of the bundle, and a line of a section, counted from the one below its heading.
+abbrev pub bundle_place : ℕ → List ℕ
+bundle_place line = codes "bundle line " ++ decimal line
+
+abbrev pub profile_place : Name → ℕ → List ℕ
+profile_place name line = codes "profile " ++ (encode_utf8_all name ++ (codes " line " ++ decimal line))
+
+abbrev pub rules_place : ℕ → List ℕ
+rules_place line = codes "rules line " ++ decimal line
+
+abbrev pub state_place : ℕ → List ℕ
+state_place line = codes "state line " ++ decimal line
+
+abbrev pub certificates_place : ℕ → List ℕ
+certificates_place line = codes "certificates line " ++ decimal line
+
+abbrev pub section_place : SectionFault → List ℕ
+section_place (OfProfile name f) = profile_place name f.line
+section_place (OfRules f) = rules_place f.line
+section_place (OfState f) = state_place f.line
+section_place (OfCertificates line) = certificates_place line
+
+-- The text that says an answer: its line, the certificates' text, or `safe` and below it what the jobs did and the text of
+-- the state that they left.
+abbrev pub IsText : Report → List ℕ → Type 0
+IsText Safe t = t ≡ codes "safe\n"
+IsText (Ran r) t = t ≡ codes "safe\n" ++ (string_bytes r.lines ++ state_text r.state)
+IsText (NotRun e) t = t ≡ codes "safe\n" ++ error_line e
+IsText NoState t = t ≡ codes "fault: no state\n"
+IsText Verified t = t ≡ codes "verified\n"
+IsText (Certified text) t = t ≡ string_bytes text
+IsText (Refused line) t = t ≡ string_bytes line
+IsText Reached t = t ≡ codes "reached\n"
+IsText NotReached t = t ≡ codes "not reached\n"
+IsText (NoProfile name) t = t ≡ flat_map (λ t. t) (codes "fault: no profile " ∷ name.now ∷ codes "\n" ∷ [])
+IsText (BadPath f) t = IsFaultLine (codes "path") t
+IsText (Unread f) t = IsFaultLine (codes "bundle line 0") t
+IsText (BadBundle f) t = IsFaultLine (bundle_place f.line) t
+IsText (BadSection f) t = IsFaultLine (section_place f) t
+IsText OutOfMemory t = t ≡ codes "fault: out of memory\n"
+
+-- The status of an answer that was written whole.
+abbrev pub status_of : Report → ℕ
+status_of Safe = 0
+status_of (Ran r) = if r.finished then 0 else 3
+status_of (NotRun e) = 3
+status_of NoState = 2
+status_of Verified = 0
+status_of (Certified t) = 0
+status_of (Refused t) = 1
+status_of Reached = 0
+status_of NotReached = 0
+status_of (NoProfile name) = 2
+status_of (BadPath f) = 2
+status_of (Unread f) = 2
+status_of (BadBundle f) = 2
+status_of (BadSection f) = 2
+status_of OutOfMemory = 2
+
+-- The answer says that a read of the input failed.
+abbrev pub says_read_failed : Report → Bool
+says_read_failed Safe = false
+says_read_failed (Ran r) = false
+says_read_failed (NotRun e) = false
+says_read_failed NoState = false
+says_read_failed Verified = false
+says_read_failed (Certified t) = false
+says_read_failed (Refused t) = false
+says_read_failed Reached = false
+says_read_failed NotReached = false
+says_read_failed (NoProfile name) = false
+says_read_failed (BadPath f) = false
+says_read_failed (Unread f) = says_failed f
+says_read_failed (BadBundle f) = false
+says_read_failed (BadSection f) = false
+says_read_failed OutOfMemory = false
+
+-- A set is refused for that fault, by the fault's line. Out of memory is told by itself.
+abbrev pub IsRefusal : Members → CheckFault → Report → Type 0
+IsRefusal S e Safe = ⊥
+IsRefusal S e (Ran r) = ⊥
+IsRefusal S e (NotRun f) = ⊥
+IsRefusal S e NoState = ⊥
+IsRefusal S e Verified = ⊥
+IsRefusal S e (Certified t) = ⊥
+IsRefusal S e (Refused t) = (e ≢ fault.OutOfMemory) × (string_bytes t ≡ refusal_line S e)
+IsRefusal S e Reached = ⊥
+IsRefusal S e NotReached = ⊥
+IsRefusal S e (NoProfile name) = ⊥
+IsRefusal S e (BadPath f) = ⊥
+IsRefusal S e (Unread f) = ⊥
+IsRefusal S e (BadBundle f) = ⊥
+IsRefusal S e (BadSection f) = ⊥
+IsRefusal S e OutOfMemory = ⊤

@@ -1,0 +1,82 @@
+//! What jobs did and left, or why they weren't run, and how this is written.
+ghost use Rattle.std.specs.Prelude.{◌≡◌, ◌++◌, codes, string_bytes, IfOk};
+ghost use Rattle.hub_state.specs.Writing.{state_text};
+ghost use Rattle.hub_report.specs.Run as runs;
+
+use crate::parts::{bytes_of, joined};
+use hub_path::Root;
+use hub_state::{State, write_state};
+use hub_text::Watched;
+use std::alloc::{AllocError, Global};
+use std::collections::VecDeque;
+use std::io::Read;
+
+/// What the jobs of a safe set did, and what they left.
+#[derive(Drop)]
+pub struct Run {
+    /// A line for each job, and below that of a finished job a line for each of its items.
+    pub lines: String,
+    /// The state that they left.
+    pub state: State,
+    /// Whether each of them is finished.
+    pub finished: bool,
+}
+
+/// Why the jobs of a safe set weren't run, but for lack of memory.
+#[derive(Drop)]
+pub enum RunError {
+    /// There are no workers.
+    NoWorkers,
+    /// There are more workers than hub_runner's `WORKERS`.
+    TooManyWorkers,
+    /// The state has no replica of this root.
+    MissingReplica(Root),
+    /// A thread can't be started.
+    ThreadRefused,
+    /// A job was there twice, missing or foreign. Tests show none.
+    Stranger,
+    /// A root's history and the logs of the jobs didn't fit. Tests show none.
+    Mismatch,
+}
+
+/// `safe`, and below it what the jobs did and the text of the state that they left.
+pub fn text_of_run(alloc: Global, run: Run) -> Result<Vec<u8>, AllocError>
+    ensures { IfOk result (λ t. t.items
+        ≡ codes "safe\n" ++ (string_bytes run.lines ++ state_text run.state)) }
+{
+    let Run { lines, state, .. } = run;
+    // a watched writer keeps its device, so the text is read out of it
+    let mut queue = Watched::new(VecDeque::new(alloc));
+    if write_state(alloc, &mut queue, &state).is_err() {
+        return Err(AllocError);
+    }
+    drop(state);
+    let mut text = bytes_of(alloc, "safe\n")?;
+    text.extend_from_slice(lines.as_bytes())?;
+    if queue.read_to_end(&mut text).is_err() {
+        return Err(AllocError);
+    }
+    Ok(text)
+}
+
+/// `safe`, and below it the line that says why the jobs weren't run.
+pub fn text_of_error(alloc: Global, error: &RunError) -> Result<Vec<u8>, AllocError>
+    ensures { IfOk result (λ t. t.items ≡ codes "safe\n" ++ runs.error_line error.now) }
+{
+    match error {
+        RunError::NoWorkers => bytes_of(alloc, "safe\nrun fault: NoWorkers\n"),
+        RunError::TooManyWorkers => bytes_of(alloc, "safe\nrun fault: TooManyWorkers\n"),
+        RunError::MissingReplica(root) => missing_line(alloc, root),
+        RunError::ThreadRefused => bytes_of(alloc, "safe\nrun fault: ThreadRefused\n"),
+        RunError::Stranger => bytes_of(alloc, "safe\nrun fault: Stranger\n"),
+        RunError::Mismatch => bytes_of(alloc, "safe\nrun fault: Mismatch\n"),
+    }
+}
+
+/// `safe`, and below it the line that a root's replica is missing.
+fn missing_line(alloc: Global, root: &Root) -> Result<Vec<u8>, AllocError>
+    ensures { IfOk result (λ t. t.items ≡ codes "safe\n" ++ runs.missing_line root.now) }
+{
+    let parts = ["safe\n", "run fault: MissingReplica ", root.as_str(), "\n"];
+    Ok(joined(alloc, &parts)?.into_bytes())
+}

@@ -32,8 +32,8 @@
 #   a space at the end of a line. `\c` ends an input without a line end.
 # - Between a status and the next title there may be blank lines, and remarks that begin with `#`.
 #
-# Then it asks what no table can say: inputs that are long, come byte by byte or fail, and outputs that fail. A
-# line is printed for each wrong answer. The status is 1 if there was one, else 0.
+# Then it asks what no table can say: inputs that are long, come byte by byte or fail, and outputs that fail, of
+# which standard error says that. A line is printed for each wrong answer. The status is 1 if there was one, else 0.
 set -euo pipefail
 shopt -s nullglob
 folder=$(dirname "$(readlink -f "${BASH_SOURCE[0]}")")
@@ -64,6 +64,15 @@ judge() {
         complain "$1: wanted status $2, got status $3"
         return 1
     fi
+}
+
+# Compares what was written to standard error.
+#
+#     judge_errors PLACE WANTED-LINE
+judge_errors() {
+    local line=
+    [ -s "$room/errors" ] && line=$(<"$room/errors")
+    [ "$line" = "$2" ] || complain "$1: wanted '$2' on standard error, got '$line'"
 }
 
 # Asks the program about the file `input`, and compares its answer with the file `wanted`.
@@ -186,26 +195,35 @@ ask_long() {
 ask_failing_inputs() {
     local status=0
     echo 'fault: bundle line 0: ReadFailed' >"$room/wanted"
-    "$program" <"$room" >"$room/output" || status=$?
+    "$program" <"$room" >"$room/output" 2>"$room/errors" || status=$?
     judge 'an input that is a directory' 2 "$status" || true
+    judge_errors 'an input that is a directory' ''
     # 4,097 blanks in a pipe that has more to come, and whose reads don't wait for it, but fail
     mkfifo "$room/pipe"
     exec 3<>"$room/pipe"
     printf '%4097s' '' >&3
     dd iflag=nonblock count=0 status=none <&3
     status=0
-    "$program" <&3 >"$room/output" || status=$?
+    "$program" <&3 >"$room/output" 2>"$room/errors" || status=$?
     exec 3>&-
     judge 'an input that fails at a later read' 2 "$status" || true
+    judge_errors 'an input that fails at a later read' ''
 }
 
-# Outputs that fail: they take nothing, or the first 1,024 bytes.
+# Outputs that fail: they take nothing, or the first 1,024 bytes. Standard error says so, unless it fails too.
 ask_failing_outputs() {
-    local status=0
+    local status=0 error='hubsync: the answer could not be written'
     : >"$room/wanted"
     : >"$room/output"
-    "$program" </dev/null >/dev/full || status=$?
+    "$program" </dev/null >/dev/full 2>"$room/errors" || status=$?
     judge 'an output that is full' 2 "$status" || true
+    judge_errors 'an output that is full' "$error"
+    status=0
+    "$program" </dev/null >/dev/full 2>/dev/full || status=$?
+    judge 'two outputs that are full' 2 "$status" || true
+    status=0
+    "$program" --help </dev/null >"$room/output" 2>/dev/full || status=$?
+    judge 'help for a standard error that is full' 2 "$status" || true
     long_state >"$room/input"
     sed '1s/.*/safe/' "$room/input" >"$room/whole"
     head -c 1024 "$room/whole" >"$room/wanted"
@@ -213,9 +231,10 @@ ask_failing_outputs() {
     (
         trap '' XFSZ
         ulimit -f 1
-        exec "$program" <"$room/input" >"$room/output"
+        exec "$program" <"$room/input" >"$room/output" 2>"$room/errors"
     ) || status=$?
     judge 'an output that is soon full' 2 "$status" || true
+    judge_errors 'an output that is soon full' "$error"
 }
 
 if [ ! -x "$program" ]; then

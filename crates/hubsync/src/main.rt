@@ -9,6 +9,7 @@
 //! - The jobs of a safe set are run on the bundle's state (`run`).
 //! - The answer (`answer`) is a `Report` of `hub_report`. It is written as one line, as the certificates' text, or as `safe`
 //!   and below it what the jobs did and the state that they left.
+//! - If it could not be written, `main` says so on standard error.
 //!
 //! Only functions that return a `Result` or write an answer allocate.
 #![tactic(auto)]
@@ -30,7 +31,12 @@ use std::{env, io};
 fn main(rt: HostRuntime) -> ExitCode {
     let mut input = Watched::new(rt.reader());
     let mut output = Watched::new(io::writer(&rt));
-    ExitCode::from(serve_process(&rt, arguments(&rt), &mut input, &mut output))
+    let status = serve_process(&rt, arguments(&rt), &mut input, &mut output);
+    if output.failed() {
+        // if standard error fails too, there is nobody left to tell
+        let _ = eprintln!(rt; "hubsync: the answer could not be written");
+    }
+    ExitCode::from(status)
 }
 
 /// The words that the process was started with, of which the first is the program's name.

@@ -78,10 +78,6 @@ stopped_whole P O j log new r e =
     subst (λ log. IsWhole (value_of j P O log None phase.Stopped) phase.Stopped) (sym e)
     (record { job = record { run = r; asked = tt }; follows = tt; asked = tt })
 
-pub roomy : (asked : Option Asked) (len capacity : ℕ) → len < capacity → IsRoomy asked len capacity
-roomy None len capacity h = tt
-roomy (Some a) len capacity h = h
-
 -- An answer.
 runs-push : (P : Parts) (O : Archive) (j : ℕ) (front es : List Logged) (e : Logged) → Runs P O j front es → next P O (front ++ es) ≡ Ask e.side e.step.op
     → Fits e.step.op e.step.answer → e.step.job ≡ j → Runs P O j front (es ++ e ∷ [])

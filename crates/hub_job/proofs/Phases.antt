@@ -1,5 +1,5 @@
 -- What a job does next in its phase, and that the phase follows the log.
-use Rattle.std.proofs.Common.{◌≡◌, ◌≤◌, ◌+◌, ◌-◌, Bool, true, false, cond, not, ◌&&◌, ◌||◌, List, [], ◌∷◌, ◌++◌, length, take, Option, Some, None, refl, ap, sym, ◌∙◌, subst, arith, length-append, IfOk, Result, Ok, Err}
+use Rattle.std.proofs.Common.{◌≡◌, ◌<◌, ◌≤◌, ◌+◌, ◌-◌, Bool, true, false, cond, not, ◌&&◌, ◌||◌, List, [], ◌∷◌, ◌++◌, length, take, Option, Some, None, refl, ap, sym, ◌∙◌, subst, arith, length-append, IfOk, Result, Ok, Err}
 use Rattle.std.specs.Prelude.{ℕ, slice_get, unwrap_or}
 use Rattle.std.specs.List.{list_any}
 use Rattle.std.proofs.lemmas.Bool.{false≢true}
@@ -24,9 +24,10 @@ use Rattle.hub_job.specs.declared.steps.Steps.{Steps}
 use Rattle.hub_job.specs.declared.phase.Phase.{Phase}
 use Rattle.hub_job.specs.declared.phase.Phase.TheVariants as phase
 use Rattle.hub_job.specs.Machine.{Fits}
-use Rattle.hub_job.specs.Job.{told, sights, missing, is_refused, is_look, fetched_last, Step, steps, steps_made, ask, step_or_end, look_or, next}
+use Rattle.hub_job.specs.Job.{told, sights, missing, is_refused, is_look, is_ask, fetched_last, Step, steps, steps_made, ask, step_or_end, look_or, next}
 use Rattle.hub_job.specs.Run.{Runs}
 use Rattle.hub_job.specs.Phase.{seen_paths, IsWaiting, told_more, look_at, first_look, are_looks, AreLooks, AreLooksOf, AreSteps, last_refused, Follows, IsAskedIn, asked_by, IsNextIn, IsNext, is_stopped, next_step}
+use Rattle.hub_job.proofs.Plans.{no_steps}
 use Rattle.hub_job.proofs.Told.{sights-push, AllTold, told_all, take_all, next_looks, missing_is, step_is_no_look}
 
 stops_not : Stopped ≡ Finished → ⊥
@@ -230,6 +231,26 @@ pub steps_next : (P : Parts) (O : Archive) (log : List Logged) (p : Phase) (s : 
     → IfOk r (λ n. n ≡ next_step s log) → IfOk r (λ n. IsNext P O log (phase.Making s) n)
 steps_next P O log p s (Ok n) h e a = making_next P O log s n (subst (λ p. Follows P O log p) e h) a
 steps_next P O log p s (Err x) h e a = tt
+
+-- A job that has made a step makes no more Looks; and after its Looks it asks the next step.
+pub no_step_yet : (P : Parts) (O : Archive) (log : List Logged) (p : Phase) (l : Looks) → Follows P O log p → p ≡ phase.Looking l → 0 < steps_made log → ⊥
+no_step_yet P O log p l h e made = let none : steps_made log ≡ 0 = no_steps log (told_follows P O log p l h e).looks in absurd (omega (arith, made, none))
+
+pub asks_no_step : (P : Parts) (O : Archive) (log : List Logged) (p : Phase) (s : Steps) → Follows P O log p → p ≡ phase.Making s → is_ask (next P O log) ≡ false → is_ask (next_step s log) ≡ false
+asks_no_step P O log p s h e a = sym (ap is_ask (next_step_is P O log s (subst (λ p. Follows P O log p) e h))) ∙ a
+
+asks_nothing : (P : Parts) (O : Archive) (log : List Logged) (p : Phase) (n : Next) → IsNextIn P O log p n → is_ask (next P O log) ≡ false → is_ask n ≡ false
+asks_nothing P O log (phase.Looking l) n h a = ap is_ask h ∙ a
+asks_nothing P O log (phase.Making s) n h a = ap is_ask h ∙ a
+asks_nothing P O log phase.Stopped n h a = ap is_ask h
+
+pub does_not_ask : (P : Parts) (O : Archive) (log : List Logged) (p : Phase) (n : Next) → IsNext P O log p n → is_ask (next P O log) ≡ false → is_ask n ≡ false
+does_not_ask P O log p n h a = asks_nothing P O log p n h.next a
+
+pub none_asked : (n : Next) → is_ask n ≡ false → asked_by n ≡ None
+none_asked (Ask side op) e = absurd (false≢true (sym e))
+none_asked Finished e = refl
+none_asked Stopped e = refl
 
 pub does_next : (P : Parts) (O : Archive) (log : List Logged) (p : Phase) (n : Next) → IsNext P O log p n → is_stopped p ≡ false → n ≡ next P O log
 does_next P O log p n h s = says_next P O log p n h.next s

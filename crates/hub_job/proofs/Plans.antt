@@ -51,7 +51,7 @@ either_false : (a b : Bool) → (a || b) ≡ false → (a ≡ false) × (b ≡ f
 either_false true b h = cc
 either_false false b h = (refl, h)
 
-no_steps : (log : List Logged) → are_looks log ≡ true → steps_made log ≡ 0
+pub no_steps : (log : List Logged) → are_looks log ≡ true → steps_made log ≡ 0
 no_steps [] h = refl
 no_steps (e ∷ log) h =
     let parts = and_parts (is_look e.step.op && not (is_refused e.step.answer)) (are_looks log) h in

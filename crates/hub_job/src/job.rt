@@ -1,5 +1,5 @@
 //! Jobs.
-ghost use Rattle.std.specs.Prelude.{◌≡◌, true, false, ◌≢◌, ◌<◌, ℕ, [], IfOk, IfSome, OnOk};
+ghost use Rattle.std.specs.Prelude.{◌≡◌, true, false, ◌≢◌, ◌<◌, ℕ, [], IfOk, IfSome, IsOk, OnOk};
 ghost use Rattle.std.specs.Vec.{vec_len, vec_capacity};
 ghost use Rattle.hub_job.specs.Ends as ends;
 ghost use Rattle.hub_job.specs.JobValue as value;
@@ -89,12 +89,18 @@ impl<'a> Job<'a> {
     ///
     /// It makes room for the answer. If it finds no memory, the job is stopped from then on, and the log stays. A stopped
     /// job returns `Stopped`.
+    ///
+    /// After a step of its plan a job needs memory only to ask, so a turn of a finished one doesn't stop it. Before its
+    /// first step it may need memory to find out that there is none.
     pub fn turn(&mut self) -> Next
         ensures next { self.new.stopped ≡ false
             → result ≡ spec.next self.old.profile self.old.archive self.old.log }
         ensures stopped { self.new.stopped ≡ true → result ≡ Next.Stopped }
         ensures after { self.new ≡ value.after_turn self.old self.new.stopped result }
         ensures stays { self.old.stopped ≡ true → self.new.stopped ≡ true }
+        ensures memory { self.old.stopped ≡ false → 0 < spec.steps_made self.old.log
+            → spec.is_ask (spec.next self.old.profile self.old.archive self.old.log) ≡ false
+            → self.new.stopped ≡ false }
     {
         match ask(
             self.alloc,
@@ -201,17 +207,35 @@ fn ask(
     ensures asked { IfOk result (λ r. r.1 ≡ asked_by r.0) }
     ensures stopped { OnOk result (is_stopped phase.new ≡ is_stopped phase.old) }
     ensures log { log.new.items ≡ log.old.items }
-    ensures room { OnOk result (vec_len log.new < vec_capacity log.new) }
+    ensures room { IfOk result
+        (λ r. value.IsRoomy r.1 (vec_len log.new) (vec_capacity log.new)) }
+    ensures memory { 0 < spec.steps_made log.old.items
+        → spec.is_ask (spec.next profile.now archive.now log.old.items) ≡ false
+        → IsOk result }
 {
-    log.reserve(1)?;
     let next = next_of(alloc, profile, archive, log.as_slice(), phase)?;
     let asked = asked_of(&next)?;
+    make_room(log, &asked)?;
     Ok((next, asked))
+}
+
+/// Makes room in a log for the answer to what is asked, if something is.
+fn make_room(log: &mut Vec<Logged>, asked: &Option<Asked>) -> Result<(), AllocError>
+    ensures log { log.new.items ≡ log.old.items }
+    ensures room { OnOk result
+        (value.IsRoomy asked.now (vec_len log.new) (vec_capacity log.new)) }
+    ensures memory { asked.now ≡ None → IsOk result }
+{
+    if asked.is_some() {
+        log.reserve(1)?;
+    }
+    Ok(())
 }
 
 /// Copies what is asked, if a job does this next.
 fn asked_of(next: &Next) -> Result<Option<Asked>, AllocError>
-    ensures { IfOk result (λ o. o ≡ asked_by next.now) }
+    ensures value { IfOk result (λ o. o ≡ asked_by next.now) }
+    ensures memory { spec.is_ask next.now ≡ false → IsOk result }
 {
     match next {
         Next::Ask(side, op) => Ok(Some(Asked {

@@ -1,5 +1,6 @@
 //! How far a job is.
-ghost use Rattle.std.specs.Prelude.{◌≡◌, ℕ, [], IfOk, OnOk};
+ghost use Rattle.std.specs.Prelude.{◌≡◌, ◌<◌, ℕ, false, [], IfOk, IsOk, OnOk};
+ghost use Rattle.hub_job.specs.Job as spec;
 ghost use Rattle.hub_job.specs.Phase.{Follows, IsNext, is_stopped};
 ghost use Rattle.hub_job.specs.Run.{Runs};
 
@@ -23,7 +24,8 @@ pub(crate) enum Phase {
     Stopped,
 }
 
-/// Returns what a job does after this log, and goes on to the phase where it does. Out of memory may leave any phase.
+/// Returns what a job does after this log, and goes on to the phase where it does. After the first step of its plan it
+/// allocates only to ask. Out of memory may leave any phase.
 pub(crate) fn next_of(
     alloc: Global,
     profile: &Profile,
@@ -35,6 +37,8 @@ pub(crate) fn next_of(
     requires run { (j : ℕ) × Runs profile.now archive.now j [] log.now }
     ensures next { IfOk result (IsNext profile.now archive.now log.now phase.new) }
     ensures stopped { OnOk result (is_stopped phase.new ≡ is_stopped phase.old) }
+    ensures memory { 0 < spec.steps_made log.now
+        → spec.is_ask (spec.next profile.now archive.now log.now) ≡ false → IsOk result }
 {
     match phase {
         Phase::Looking(looks) => {

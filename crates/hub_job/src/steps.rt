@@ -1,5 +1,5 @@
 //! The steps of a job after its Looks.
-ghost use Rattle.std.specs.Prelude.{◌≡◌, ◌≤◌, [], ◌∷◌, ◌++◌, length, IfOk, OnOk};
+ghost use Rattle.std.specs.Prelude.{◌≡◌, ◌≤◌, false, [], ◌∷◌, ◌++◌, length, IfOk, IsOk, OnOk};
 ghost use Rattle.std.specs.List.{flat_map};
 ghost use Rattle.hub_reconcile.specs.Items as of_items;
 ghost use Rattle.hub_job.specs.Job as spec;
@@ -25,10 +25,11 @@ pub(crate) struct Steps {
 }
 
 impl Steps {
-    /// Returns what a job does after this log: the next step, unless the last answer is a refusal.
+    /// Returns what a job does after this log: the next step, unless the last answer is a refusal. It allocates only to ask.
     pub(crate) fn next(&self, log: &[Logged]) -> Result<Next, AllocError>
         requires { self.now.looks ≤ length log.now }
-        ensures { IfOk result (λ n. n ≡ next_step self.now log.now) }
+        ensures value { IfOk result (λ n. n ≡ next_step self.now log.now) }
+        ensures memory { spec.is_ask (next_step self.now log.now) ≡ false → IsOk result }
     {
         if is_last_refused(log) {
             return Ok(Next::Stopped);

@@ -1,9 +1,10 @@
-use Rattle.std.proofs.Common.{None, refl, ap, ◌∙◌}
+use Rattle.std.proofs.Common.{◌≡◌, ◌<◌, false, None, refl, ap, sym, ◌∙◌, subst}
+use Rattle.std.proofs.lemmas.Bool.{false≢true}
 use Rattle.hub_job.specs.declared.op.Next.TheVariants.{Stopped}
 use Rattle.hub_job.specs.declared.phase.Phase.TheVariants as phase
 use Rattle.hub_job.specs.JobValue.{JobValue}
-use Rattle.hub_job.specs.Job.{next}
-use Rattle.hub_job.proofs.Jobs.{roomy, stopped_whole, turned, turned_value}
+use Rattle.hub_job.specs.Job.{is_ask, next, steps_made}
+use Rattle.hub_job.proofs.Jobs.{stopped_whole, turned, turned_value}
 use Rattle.hub_job.proofs.Phases.{does_next, does_nothing}
 use Rattle.hub_job.proofs.job.Job.turn.Goals as goal
 
@@ -16,7 +17,7 @@ ask-requires-clause-run c = (c.self.inside.number, c.self.invariant.0.job.run)
 pub invariant_of-self : goal.invariant_of-self
 invariant_of-self c =
     let s = c.self.inside in
-    (turned s.profile.now s.archive.now s.number _ _ _ _ _ c.self.invariant.0.job.run c.in-Ok.ensures.log c.in-Ok.ensures.asked c.in-Ok.ensures.next, roomy _ _ _ c.in-Ok.ensures.room)
+    (turned s.profile.now s.archive.now s.number _ _ _ _ _ c.self.invariant.0.job.run c.in-Ok.ensures.log c.in-Ok.ensures.asked c.in-Ok.ensures.next, c.in-Ok.ensures.room)
 
 pub invariant_of-self-in-Err : goal.invariant_of-self-in-Err
 invariant_of-self-in-Err c =
@@ -39,7 +40,18 @@ returns-in-Ok-clause-after c =
 pub returns-in-Ok-clause-stays : goal.returns-in-Ok-clause-stays
 returns-in-Ok-clause-stays c = λ s. c.in-Ok.ensures.stopped ∙ (ap (λ (J : JobValue). J.stopped) c.self.view_is ∙ s)
 
+pub returns-in-Ok-clause-memory : goal.returns-in-Ok-clause-memory
+returns-in-Ok-clause-memory c = λ s made asks. c.in-Ok.ensures.stopped ∙ (ap (λ (J : JobValue). J.stopped) c.self.view_is ∙ s)
+
 pub returns-in-Err-clause-after : goal.returns-in-Err-clause-after
 returns-in-Err-clause-after c =
     let s = c.self.inside in
     turned_value c.args.self.now s.profile.now s.archive.now s.number s.log.items _ s.asked None s.phase phase.Stopped Stopped c.self.view_is c.in-Err.ensures.log refl
+
+pub returns-in-Err-clause-memory : goal.returns-in-Err-clause-memory
+returns-in-Err-clause-memory c = λ s made asks.
+    let back = sym c.self.view_is in
+    absurd
+    (false≢true
+    (c.in-Err.ensures.memory (subst (λ (J : JobValue). 0 < steps_made J.log) back made)
+    (subst (λ (J : JobValue). is_ask (next J.profile J.archive J.log) ≡ false) back asks)))

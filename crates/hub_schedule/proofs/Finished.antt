@@ -6,7 +6,8 @@ use Rattle.hub_path.specs.Path.{Path}
 use Rattle.hub_path.specs.declared.side.Side.TheVariants.{Left, Right}
 use Rattle.hub_profile.specs.Parts.{Parts, IsProfile}
 use Rattle.hub_tree.specs.Tree.{Replica, IsTree}
-use Rattle.hub_job.specs.declared.op.Next.TheVariants.{Finished}
+use Rattle.hub_job.specs.declared.op.Next.{Next}
+use Rattle.hub_job.specs.declared.op.Next.TheVariants.{Finished, Stopped}
 use Rattle.hub_job.specs.Job.{next}
 use Rattle.hub_job.specs.Run.{root_at, pair_of, IsSynced}
 use Rattle.hub_job.specs.World.{World, Jobs, log_of, act, turn_of, turn, run, opening, alone}
@@ -32,10 +33,20 @@ unfolding run
 run-more J j zero n w = ap (λ k. run J (replicate k j) w) (none_more n)
 run-more J j (suc m) n w = ap (λ k. run J (replicate k j) w) (one_more m n) ∙ run-more J j m n (turn J j w)
 
-still : (J : Jobs) (P : Parts) (j n : ℕ) (w : World) → slice_get J.profiles j ≡ Some P → next P (J.archive j) (log_of w j) ≡ Finished → run J (replicate n j) w ≡ w
+rests : (J : Jobs) (P : Parts) (j n : ℕ) (w : World) (x : Next) → slice_get J.profiles j ≡ Some P → next P (J.archive j) (log_of w j) ≡ x → act P j w x ≡ w → run J (replicate n j) w ≡ w
 unfolding run turn
-still J P j zero w is done = refl
-still J P j (suc n) w is done = ap (run J (replicate n j)) (ap (turn_of J j w) is ∙ ap (act P j w) done) ∙ still J P j n w is done
+rests J P j zero w x is does same = refl
+rests J P j (suc n) w x is does same = ap (run J (replicate n j)) (ap (turn_of J j w) is ∙ (ap (act P j w) does ∙ same)) ∙ rests J P j n w x is does same
+
+still : (J : Jobs) (P : Parts) (j n : ℕ) (w : World) → slice_get J.profiles j ≡ Some P → next P (J.archive j) (log_of w j) ≡ Finished → run J (replicate n j) w ≡ w
+still J P j n w is done = rests J P j n w Finished is done refl
+
+-- A job that is stopped by its log stays so.
+pub alone_stopped : (J : Jobs) (P : Parts) (replicas : Path → Replica) (j m n : ℕ) → slice_get J.profiles j ≡ Some P → next P (J.archive j) (alone J replicas j m) ≡ Stopped
+    → alone J replicas j (m + n) ≡ alone J replicas j m
+alone_stopped J P replicas j m n is stopped =
+    let w : World = opening J replicas in
+    ap (λ v. log_of v j) (run-more J j m n w ∙ rests J P j n (run J (replicate m j) w) Stopped is stopped refl)
 
 -- A job that is finished after m turns alone is where it was after any more of them.
 pub alone_enough : (J : Jobs) (P : Parts) (replicas : Path → Replica) (j m n : ℕ) → slice_get J.profiles j ≡ Some P → next P (J.archive j) (alone J replicas j m) ≡ Finished → m ≤ n

@@ -1,5 +1,5 @@
 -- The jobs and the replicas of a world at its end are an outcome of it.
-use Rattle.std.proofs.Common.{◌≡◌, ◌≢◌, ◌+◌, ◌⊎◌, inl, inr, Bool, true, false, cond, ◌||◌, List, [], ◌∷◌, length, map, Some, None, Result, Ok, Err, IfOk, refl, ap, sym, ◌∙◌, subst, arith}
+use Rattle.std.proofs.Common.{◌≡◌, ◌≢◌, ◌<◌, ◌+◌, ◌⊎◌, inl, inr, Bool, true, false, cond, ◌||◌, List, [], ◌∷◌, length, map, Some, None, Result, Ok, Err, IfOk, refl, ap, sym, ◌∙◌, subst, arith}
 use Rattle.std.specs.Prelude.{ℕ, zero, suc, IsTrue, slice_get, find, fold, is_some, unwrap_or, if◌then◌else◌}
 use Rattle.std.specs.List.{list_any, range_with_len}
 use Rattle.std.specs.FinMap as fin
@@ -16,6 +16,8 @@ use Rattle.hub_reconcile.specs.Sync.{root_or_top, next_archive}
 use Rattle.hub_state.specs.State.{State, replica_at, with_replica, root_text, pair_of}
 use Rattle.hub_state.proofs.ByRoot.{replica_put}
 use Rattle.hub_schedule.specs.declared.ends.NextArchive.{NextArchive}
+use Rattle.hub_job.specs.declared.op.Next.{Next}
+use Rattle.hub_job.specs.declared.op.Next.TheVariants.{Ask, Finished, Stopped}
 use Rattle.hub_job.specs.declared.job_end.End.{End}
 use Rattle.hub_job.specs.declared.job_end.End.TheVariants as end
 use Rattle.hub_job.specs.declared.job_end.JobEnd.{JobEnd}
@@ -23,18 +25,18 @@ use Rattle.hub_job.specs.declared.outcome.Outcome.{Outcome}
 use Rattle.hub_schedule.specs.declared.seat.Seat.{Seat}
 use Rattle.hub_schedule.specs.declared.seat.WorkingTree.{WorkingTree}
 use Rattle.hub_job.specs.Ends.{end_by, is_finished, end_of}
-use Rattle.hub_job.specs.Job.{next, view_in}
-use Rattle.hub_schedule.specs.Left.{end_value, next_value, put_tree, mark_in, mark_from, HasMarks}
+use Rattle.hub_job.specs.Job.{is_ask, next, steps_made, view_in}
+use Rattle.hub_schedule.specs.Left.{end_value, next_value, put_tree, mark_in, mark_from, one_is_left, HasArchives, HasMarks}
 use Rattle.hub_job.specs.Outcome as outcome
 use Rattle.hub_job.specs.Outcome.{jobs_of}
 use Rattle.hub_schedule.specs.Promise.{HasReplicas}
 use Rattle.hub_job.specs.Run.{root_at}
 use Rattle.hub_schedule.specs.Settled.{AreProfiles}
-use Rattle.hub_schedule.specs.Table.{place_on, stopped_at, IsOutcomeAfter, IsPlaced, IsTable, IsThinned}
+use Rattle.hub_schedule.specs.Table.{place_on, stopped_at, AllWouldAsk, IsOutcomeAfter, IsPlaced, IsTable, IsThinned}
 use Rattle.hub_job.specs.World.{World, log_of, opening}
 use Rattle.hub_job.proofs.Blind.{same_path, path_itself}
 use Rattle.hub_job.proofs.InWorld.{two_roots}
-use Rattle.hub_schedule.proofs.NextMarks.{IsNextOf, find_marks}
+use Rattle.hub_schedule.proofs.NextMarks.{IsNextOf, find_marks, some_leaves}
 use Rattle.hub_schedule.proofs.Promised.{listed, one_with, root_place}
 use Rattle.hub_schedule.proofs.Tables.{one_value}
 
@@ -74,6 +76,12 @@ pub same_test : (a b : Bool) → (a ≡ true → b ≡ true) → (b ≡ true →
 same_test true b f g = sym (f refl)
 same_test false true f g = g refl
 same_test false false f g = refl
+
+either_way : (a b : Bool) → (a || b) ≡ (b || a)
+either_way true true = refl
+either_way true false = refl
+either_way false true = refl
+either_way false false = refl
 
 either : {X : Type 0} (b c : Bool) (x y z : X) → (c ≡ true → x ≡ y) → cond b x (cond c y z) ≡ cond (c || b) x z
 either true true x y z e = refl
@@ -129,8 +137,38 @@ went_on seats o jobs j e at going =
     ap (some_passes (λ (s : Seat). s.job.stopped)) s.1
     ∙ false_from_ne_true s.0.job.stopped (λ h. going (ap (λ (e : JobEnd). e.end) s.2 ∙ ap (λ b. if b then end.Stopped else end_by (next s.0.job.profile s.0.job.archive s.0.job.log)) h))
 
+stops_next : (n : Next) → end_by n ≡ end.Stopped → n ≡ Stopped
+stops_next (Ask side op) e = cc
+stops_next Finished e = cc
+stops_next Stopped e = refl
+
+stopped_by : (b : Bool) (n : Next) → (if b then end.Stopped else end_by n) ≡ end.Stopped → (n ≡ Stopped → ⊥) → b ≡ true
+stopped_by true n e off = refl
+stopped_by false n e off = absurd (off (stops_next n e))
+
+-- A job that ends as stopped, though no answer in its log stops it, was stopped.
+pub was_stopped : (S : State) (seats : List Seat) (trees : List WorkingTree) (o : Outcome) → o.jobs ≡ map end_value seats
+    → (Ps : List Parts) (w : World) (j : ℕ) (P : Parts) (e : JobEnd) → IsTable (jobs_of S Ps) w seats trees → slice_get Ps j ≡ Some P → slice_get o.jobs j ≡ Some e → e.end ≡ end.Stopped
+    → next P (outcome.archive_of S (Some P)) e.log ≢ Stopped
+    → (stopped_at seats j ≡ true) × (AllWouldAsk seats → 0 < steps_made e.log → next P (outcome.archive_of S (Some P)) e.log ≢ Finished)
+was_stopped S seats trees o jobs Ps w j P e table is at ended off =
+    let s = seat_of seats o jobs j e at in
+    let a = table.each j s.0 s.1 in
+    let own : s.0.profile.now ≡ P = one_value s.0.profile.now P (sym a.is ∙ is) in
+    let profile : s.0.job.profile ≡ P = a.profile ∙ own in
+    let archive : s.0.job.archive ≡ outcome.archive_of S (Some P) =
+    a.archive ∙ (a.opening ∙ (ap (outcome.archive_of S) a.is ∙ ap (λ Q. outcome.archive_of S (Some Q)) own)) in
+    let log : s.0.job.log ≡ e.log = sym (ap (λ (e : JobEnd). e.log) s.2) in
+    let own_next : next s.0.job.profile s.0.job.archive s.0.job.log ≡ next P (outcome.archive_of S (Some P)) e.log = λ i. next (profile i) (archive i) (log i) in
+    let stopped : s.0.job.stopped ≡ true =
+    stopped_by s.0.job.stopped (next s.0.job.profile s.0.job.archive s.0.job.log) (sym (ap (λ (e : JobEnd). e.end) s.2) ∙ ended) (λ h. off (sym own_next ∙ h)) in (
+      ap (some_passes (λ (s : Seat). s.job.stopped)) s.1 ∙ stopped,
+      λ all made done. false≢true (sym (ap is_ask (own_next ∙ done)) ∙ all j s.0 s.1 stopped (subst (λ l. 0 < steps_made l) (sym log) made)),
+    )
+
 module _ (S : State) (Ps : List Parts) (has : HasReplicas S Ps) (w : World) (seats : List Seat) (trees : List WorkingTree) (table : IsTable (jobs_of S Ps) w seats trees) (o : Outcome)
-    (jobs : o.jobs ≡ map end_value seats) (same : o.state.replicas ≡ (fold put_tree S trees).replicas) (marks : HasMarks (mark_from (map next_value seats)) (fold put_tree S trees) o.state) where
+    (jobs : o.jobs ≡ map end_value seats) (same : o.state.replicas ≡ (fold put_tree S trees).replicas)
+    (there : HasArchives (one_is_left (map next_value seats)) (fold put_tree S trees) o.state) (marks : HasMarks (mark_from (map next_value seats)) (fold put_tree S trees) o.state) where
   -- Jobs.
   job_at : (j : ℕ) (e : JobEnd) → slice_get o.jobs j ≡ Some e → (s : Seat) × (slice_get seats j ≡ Some s) × (e ≡ end_value s)
   job_at = seat_of seats o jobs
@@ -213,12 +251,24 @@ module _ (S : State) (Ps : List Parts) (has : HasReplicas S Ps) (w : World) (sea
   many : length (map next_value seats) ≡ length Ps
   many = length-map seats next_value ∙ table.count
 
+  all_next : (k : ℕ) (n : NextArchive) → slice_get (map next_value seats) k ≡ Some n → IsNextOf S Ps (log_of w) o (0 + k) n
+  all_next k n e = subst (λ i. IsNextOf S Ps (log_of w) o i n) (sym (from_zero k)) (next_at k n e)
+
+  archives_there : outcome.ArchivesAreThere S Ps o
+  archives_there = λ r s one other off.
+      let leave : ℕ → Bool = outcome.leaves_archive o Ps r s in
+      let before : Bool = is_some (fin.get S.archives (pair_of r s)) in
+      there r s one other off
+      ∙ (ap (λ a. one_is_left (map next_value seats) r s || is_some (fin.get a (pair_of r s))) (put_archives trees S)
+      ∙ (ap (λ b. b || before) (some_leaves S Ps (log_of w) o r s (map next_value seats) 0 all_next ∙ ap (λ n. list_any leave (range_with_len 0 n)) many)
+      ∙ either_way (list_any leave (range_with_len 0 (length Ps))) before))
+
   marks_are : (r s p : Path) → IsTrue (is_place r) → IsTrue (is_place s) → r ≢ s
       → mark_in o.state r s p ≡ outcome.mark_by S Ps (log_of w) p (mark_in S r s p) (find (outcome.takes o Ps r s p) (range_with_len 0 (length Ps)))
   marks_are r s p one other off =
       marks r s p one other off
       ∙ (ap (mark_from (map next_value seats) r s p) (ap (λ a. old_mark_at (unwrap_or (fin.get a (pair_of r s)) fin.empty) p) (put_archives trees S))
-      ∙ (find_marks S Ps (log_of w) o r s p (mark_in S r s p) (map next_value seats) 0 (λ k n e. subst (λ i. IsNextOf S Ps (log_of w) o i n) (sym (from_zero k)) (next_at k n e))
+      ∙ (find_marks S Ps (log_of w) o r s p (mark_in S r s p) (map next_value seats) 0 all_next
       ∙ ap (λ n. outcome.mark_by S Ps (log_of w) p (mark_in S r s p) (find (outcome.takes o Ps r s p) (range_with_len 0 n))) many))
 
   pub joined : outcome.IsOutcomeWith S Ps (log_of w) w.replica o
@@ -228,15 +278,21 @@ module _ (S : State) (Ps : List Parts) (has : HasReplicas S Ps) (w : World) (sea
     ends = ends_are;
     replicas = λ r m place e. replica_is r place ∙ replica_by r m (list_any (λ P. has_root P r) Ps) e;
     others = λ r place e. replica_is r place ∙ (ap (λ b. cond b (Some (w.replica r)) (replica_at S r)) (no_root r e) ∙ e);
+    pairs = archives_there;
     archives = marks_are;
   }
 
+-- Where no job is stopped.
+pub none_stopped : (seats : List Seat) → ((j : ℕ) → stopped_at seats j ≡ false) → AllWouldAsk seats
+none_stopped seats going = λ j s at stopped made. absurd (false≢true (sym (going j) ∙ (ap (some_passes (λ (s : Seat). s.job.stopped)) at ∙ stopped)))
+
 -- The outcome of the schedule that was run.
-pub after_turns : {E : Type 0} (S : State) (Ps : List Parts) (w : World) (schedule : List ℕ) (before : ℕ → Bool) (seats : List Seat) (trees : List WorkingTree) (r : Result Outcome E) → HasReplicas S Ps → IsTable (jobs_of S Ps) w seats trees
+pub after_turns : {E : Type 0} (S : State) (Ps : List Parts) (w : World) (schedule : List ℕ) (before : ℕ → Bool) (seats : List Seat) (trees : List WorkingTree) (r : Result Outcome E) → ((j : ℕ) → before j ≡ false) → AllWouldAsk seats → HasReplicas S Ps → IsTable (jobs_of S Ps) w seats trees
     → IsThinned (jobs_of S Ps) (opening (jobs_of S Ps) (outcome.replicas_of S)) w schedule before (stopped_at seats) → IfOk r (IsOutcomeAfter S seats trees) → IfOk r (outcome.IsSimulated S Ps schedule)
-after_turns S Ps w schedule before seats trees (Ok o) there table thinned h = (
+after_turns S Ps w schedule before seats trees (Ok o) going more there table thinned h = (
   thinned.limit,
   subst (λ (x : World). outcome.IsOutcomeWith S Ps (log_of x) x.replica o) thinned.world (h.0 Ps w there table),
-  λ j e at going. thinned.all j (h.1 j e at going),
+  λ j e at on. thinned.all j (h.1 j e at on),
+  λ j P e is at ended off. let x = h.2 Ps w j P e table is at ended off in (thinned.lost j (going j) x.0, x.1 more),
 )
-after_turns S Ps w schedule before seats trees (Err e) there table thinned h = h
+after_turns S Ps w schedule before seats trees (Err e) going more there table thinned h = h

@@ -72,6 +72,7 @@ promise_kept logs others law stays verbs S Ps Rs histories o valid there facts s
       elsewhere = elsewhere S Ps histories o settles facts there (λ j P r is has. stays J R histories (logs_in o) j P r settles.settled is has);
       foreign = foreign S Ps histories o settles;
       marks = marks_stay S Ps histories o settles;
+      archives = settles.outcome.pairs;
       allowed = verbs J Rs R histories (logs_in o) facts safe (state_trees S valid) settles.settled;
       enough = all_enough logs S Ps Rs histories o valid facts safe settles;
     }

@@ -12,6 +12,7 @@ pub mod Promised
 pub mod Kept
 pub mod Turns
 pub mod Simulated
+pub mod Stopping
 pub mod Thinned
 pub mod Tables
 pub mod NextMarks

@@ -1,8 +1,9 @@
 -- What a job leaves to the archive of its pair, and what all of them do, from the last one on.
-use Rattle.std.proofs.Common.{◌≡◌, ◌≢◌, cond, Result, Ok, Err, List, [], ◌∷◌, ◌++◌, length, Some, slice_get, slice_index_or, ap, sym, ◌∙◌, subst}
-use Rattle.std.specs.Prelude.{IsTrue, OnOk, unwrap_or}
+use Rattle.std.proofs.Common.{◌≡◌, ◌≢◌, Bool, true, false, cond, ◌||◌, Result, Ok, Err, List, [], ◌∷◌, ◌++◌, length, Some, slice_get, slice_index_or, refl, ap, sym, ◌∙◌, subst}
+use Rattle.std.specs.Prelude.{IsTrue, OnOk, is_some, unwrap_or}
 use Rattle.std.specs.FinMap as fin
 use Rattle.std.proofs.lemmas.Bool.{false≢true}
+use Rattle.std.proofs.lemmas.List.Folds.{list_any-append}
 use Rattle.hub_path.specs.Path.{Path, is_place}
 use Rattle.hub_path.specs.declared.side.Side.TheVariants.{Left, Right}
 use Rattle.hub_profile.specs.Parts.{Parts, IsProfile}
@@ -13,10 +14,10 @@ use Rattle.hub_job.specs.Run.{root_at}
 use Rattle.hub_job.proofs.Blind.{path_itself}
 use Rattle.hub_job.proofs.InWorld.{two_roots, left_not_right}
 use Rattle.hub_schedule.specs.declared.ends.NextArchive.{NextArchive}
-use Rattle.hub_schedule.specs.Left.{mark_in, mark_given, mark_from, mark_of_next, HasMarks, KeepsUnreached, AreKept}
+use Rattle.hub_schedule.specs.Left.{mark_in, mark_given, mark_from, mark_of_next, has_pair, is_left, one_is_left, HasArchives, HasMarks, KeepsUnreached, AreKept}
 use Rattle.hub_schedule.proofs.NextMarks.{mark_from-append}
 use Rattle.hub_schedule.proofs.Opened.{get_front, get_last}
-use Rattle.hub_schedule.proofs.PairMarks.{put_given}
+use Rattle.hub_schedule.proofs.PairMarks.{put_given, put_there}
 use Rattle.hub_schedule.proofs.Places.{left_is, right_is}
 
 module _ (P : Parts) (facts : IsProfile P) (rs : List Path) (is : rs ≡ P.roots) where
@@ -25,6 +26,14 @@ module _ (P : Parts) (facts : IsProfile P) (rs : List Path) (is : rs ≡ P.roots
   roots_differ d e h =
       let same : root_at P Left ≡ root_at P Right = sym (left_is P facts rs is d) ∙ h ∙ right_is P facts rs is e in
       false≢true (sym (left_not_right P facts 0) ∙ path_itself (root_at P Left) (root_at P Right) (ap (λ r. Some r) same))
+
+  pub there_at_roots : (f g : Path) (S : State) (merged : Archive) (T : State) → T ≡ with_archive S (slice_index_or rs 0 f) (slice_index_or rs 1 g) merged → HasArchives (has_pair P) S T
+  there_at_roots f g S merged T t =
+      let two = two_roots P.roots facts.roots in
+      let left : slice_index_or rs 0 f ≡ two.first = ap (λ qs. slice_index_or qs 0 f) (is ∙ two.are) in
+      let right : slice_index_or rs 1 g ≡ two.second = ap (λ qs. slice_index_or qs 1 g) (is ∙ two.are) in
+      let put : T ≡ with_archive S two.first two.second merged = t ∙ (λ i. with_archive S (left i) (right i) merged) in
+      subst (HasArchives (has_pair P) S) (sym put) (put_there P facts two.first two.second two.are S merged)
 
   pub put_at_roots : (d e f g : Path) (S : State) (next merged current : Archive) → current ≡ unwrap_or (archive_at S (slice_index_or rs 0 d) (slice_index_or rs 1 e)) fin.empty
       → ((p : Path) → old_mark_at merged p ≡ cond (reach P p) (old_mark_at next p) (old_mark_at current p))
@@ -54,3 +63,17 @@ pub marks_rest : (all rest : List NextArchive) (n : NextArchive) (S T : State) �
 marks_rest all rest n S T e h r s p one other off =
     ap (mark_from rest r s p) (h r s p one other off)
     ∙ (sym (mark_from-append rest n r s p (mark_in S r s p)) ∙ ap (λ (ns : List NextArchive). mark_from ns r s p (mark_in S r s p)) (sym e))
+
+one_more : (x n b : Bool) → (x || (n || b)) ≡ ((x || (n || false)) || b)
+one_more true n b = refl
+one_more false true b = refl
+one_more false false b = refl
+
+pub there_rest : (all rest : List NextArchive) (n : NextArchive) (S T : State) → all ≡ rest ++ n ∷ [] → HasArchives (is_left n.profile.now n.next) S T
+    → (r s : Path) → IsTrue (is_place r) → IsTrue (is_place s) → r ≢ s → (one_is_left rest r s || is_some (archive_at T r s)) ≡ (one_is_left all r s || is_some (archive_at S r s))
+there_rest all rest n S T e h r s one other off =
+    let before : Bool = is_some (archive_at S r s) in
+    ap (λ x. one_is_left rest r s || x) (h r s one other off)
+    ∙ (one_more (one_is_left rest r s) (is_left n.profile.now n.next r s) before
+    ∙ ap (λ x. x || before)
+    (sym (list_any-append (λ (m : NextArchive). is_left m.profile.now m.next r s) rest (n ∷ [])) ∙ ap (λ (ns : List NextArchive). one_is_left ns r s) (sym e)))

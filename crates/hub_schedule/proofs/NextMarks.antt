@@ -1,7 +1,7 @@
 -- The marks that finished jobs leave in the archives of their pairs.
-use Rattle.std.proofs.Common.{◌≡◌, ◌+◌, Bool, true, false, cond, ◌&&◌, List, [], ◌∷◌, ◌++◌, length, Option, Some, None, refl, ap, sym, ◌∙◌, subst, arith}
+use Rattle.std.proofs.Common.{◌≡◌, ◌+◌, Bool, true, false, cond, ◌&&◌, ◌||◌, List, [], ◌∷◌, ◌++◌, length, Option, Some, None, refl, ap, sym, ◌∙◌, subst, arith}
 use Rattle.std.specs.Prelude.{ℕ, suc, slice_get, find, is_some}
-use Rattle.std.specs.List.{range_with_len}
+use Rattle.std.specs.List.{list_any, range_with_len}
 use Rattle.hub_path.specs.Path.{Path}
 use Rattle.hub_profile.specs.Parts.{Parts, some_passes}
 use Rattle.hub_reach.specs.Reach.{reach, has_root}
@@ -15,8 +15,8 @@ use Rattle.hub_job.specs.declared.job_end.JobEnd.{JobEnd}
 use Rattle.hub_job.specs.declared.log.Logged.{Logged}
 use Rattle.hub_job.specs.Ends.{is_finished}
 use Rattle.hub_job.specs.Job.{view_in}
-use Rattle.hub_schedule.specs.Left.{mark_of_next, mark_from}
-use Rattle.hub_job.specs.Outcome.{archive_of, takes, mark_for, mark_by}
+use Rattle.hub_schedule.specs.Left.{mark_of_next, mark_from, is_left, one_is_left}
+use Rattle.hub_job.specs.Outcome.{archive_of, takes, leaves_archive, mark_for, mark_by}
 
 pub mark_from-append : (ns : List NextArchive) (n : NextArchive) (r s p : Path) (old : Mark) → mark_from (ns ++ n ∷ []) r s p old ≡ mark_from ns r s p (mark_of_next n.profile.now n.next r s p old)
 mark_from-append [] n r s p old = refl
@@ -27,6 +27,32 @@ pub record IsNextOf (S : State) (Ps : List Parts) (logs : ℕ → List Logged) (
   pub is : slice_get Ps j ≡ Some n.profile.now
   pub done : some_passes (λ (e : JobEnd). is_finished e.end) (slice_get o.jobs j) ≡ is_some n.next
   pub next : (a : Archive) → n.next ≡ Some a → a ≡ next_archive (view_in n.profile.now (archive_of S (Some n.profile.now)) (logs j)) (archive_of S (Some n.profile.now))
+
+later : (a k : ℕ) → a + suc k ≡ a + 1 + k
+later a k = omega arith
+
+first : (a : ℕ) → a + 0 ≡ a
+first a = omega arith
+
+-- Some job leaves an archive of the pair.
+module _ (S : State) (Ps : List Parts) (logs : ℕ → List Logged) (o : Outcome) (r s : Path) where
+  by_next : (P : Parts) (x : Option Archive) → (is_some x && (has_root P r && has_root P s)) ≡ is_left P x r s
+  by_next P None = refl
+  by_next P (Some a) = refl
+
+  leaves : (j : ℕ) (n : NextArchive) → IsNextOf S Ps logs o j n → leaves_archive o Ps r s j ≡ is_left n.profile.now n.next r s
+  leaves j n is =
+      ap (λ b. b && some_passes (λ P. has_root P r && has_root P s) (slice_get Ps j)) is.done
+      ∙ (ap (λ x. is_some n.next && some_passes (λ P. has_root P r && has_root P s) x) is.is ∙ by_next n.profile.now n.next)
+
+  pub some_leaves : (ns : List NextArchive) (a : ℕ) → ((k : ℕ) (n : NextArchive) → slice_get ns k ≡ Some n → IsNextOf S Ps logs o (a + k) n)
+      → one_is_left ns r s ≡ list_any (leaves_archive o Ps r s) (range_with_len a (length ns))
+  some_leaves [] a each = refl
+  some_leaves (n ∷ ns) a each =
+      let here : IsNextOf S Ps logs o a n = subst (λ j. IsNextOf S Ps logs o j n) (first a) (each 0 n refl) in
+      let more : one_is_left ns r s ≡ list_any (leaves_archive o Ps r s) (range_with_len (a + 1) (length ns)) =
+      some_leaves ns (a + 1) (λ k m e. subst (λ j. IsNextOf S Ps logs o j m) (later a k) (each (suc k) m e)) in
+      ap (λ b. b || one_is_left ns r s) (sym (leaves a n here)) ∙ ap (λ b. leaves_archive o Ps r s a || b) more
 
 module _ (S : State) (Ps : List Parts) (logs : ℕ → List Logged) (o : Outcome) (r s p : Path) (old : Mark) where
   abbrev by : Option ℕ → Mark
@@ -45,12 +71,6 @@ module _ (S : State) (Ps : List Parts) (logs : ℕ → List Logged) (o : Outcome
       ap (λ c. cond c (old_mark_at a p) m) h
       ∙ (ap (λ (a : Archive). old_mark_at a p) (is.next a e) ∙ ap (mark_for S logs p old j) (sym is.is))
   one j n is (Some a) e false h rest m more = ap (λ c. cond c (old_mark_at a p) m) h ∙ more
-
-  later : (a k : ℕ) → a + suc k ≡ a + 1 + k
-  later a k = omega arith
-
-  first : (a : ℕ) → a + 0 ≡ a
-  first a = omega arith
 
   pub find_marks : (ns : List NextArchive) (a : ℕ) → ((k : ℕ) (n : NextArchive) → slice_get ns k ≡ Some n → IsNextOf S Ps logs o (a + k) n)
       → mark_from ns r s p old ≡ by (find (takes o Ps r s p) (range_with_len a (length ns)))

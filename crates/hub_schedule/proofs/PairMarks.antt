@@ -1,6 +1,6 @@
 -- An archive that is put at the two roots of a profile.
-use Rattle.std.proofs.Common.{◌≡◌, ◌≢◌, ◌⊎◌, inl, inr, Bool, true, false, cond, ◌&&◌, ◌||◌, [], ◌∷◌, Some, refl, ap, sym, ◌∙◌}
-use Rattle.std.specs.Prelude.{unwrap_or}
+use Rattle.std.proofs.Common.{◌≡◌, ◌≢◌, ◌⊎◌, inl, inr, Bool, true, false, cond, ◌&&◌, ◌||◌, [], ◌∷◌, Option, Some, refl, ap, sym, ◌∙◌}
+use Rattle.std.specs.Prelude.{is_some, unwrap_or}
 use Rattle.std.specs.List.{list_any}
 use Rattle.std.specs.FinMap as fin
 use Rattle.std.proofs.lemmas.Bool.{false≢true, or_cases, or_left, or_right, and_parts, and_from}
@@ -10,10 +10,14 @@ use Rattle.hub_reach.specs.Reach.{reach, has_root}
 use Rattle.hub_tree.specs.Tree.{Archive, old_mark_at}
 use Rattle.hub_state.specs.State.{State, is_pair, archive_at, with_archive}
 use Rattle.hub_state.proofs.ByRoot.{archive_put, pair_turned}
-use Rattle.hub_schedule.specs.Left.{mark_in, mark_given, HasMarks}
+use Rattle.hub_schedule.specs.Left.{mark_in, mark_given, has_pair, HasArchives, HasMarks}
 use Rattle.hub_job.proofs.Blind.{same_path, path_itself}
 use Rattle.hub_schedule.proofs.Joined.{same_test}
 use Rattle.hub_schedule.proofs.Promised.{root_place}
+
+there_if : (x : Bool) (a : Archive) (o : Option Archive) → is_some (cond x (Some a) o) ≡ (x || is_some o)
+there_if true a o = refl
+there_if false a o = refl
 
 module _ (P : Parts) (facts : IsProfile P) (a b : Path) (are : P.roots ≡ a ∷ b ∷ []) where
   has_is : (r : Path) → has_root P r ≡ (path_eq a r || (path_eq b r || false))
@@ -77,6 +81,11 @@ module _ (P : Parts) (facts : IsProfile P) (a b : Path) (are : P.roots ≡ a ∷
   turned : (S : State) (r s : Path) → AreBoth r s → archive_at S a b ≡ archive_at S r s
   turned S r s (inl w) = λ i. archive_at S (sym w.0 i) (sym w.1 i)
   turned S r s (inr w) = ap (fin.get S.archives) (pair_turned a b) ∙ (λ i. archive_at S (sym w.0 i) (sym w.1 i))
+
+  pub put_there : (S : State) (merged : Archive) → HasArchives (has_pair P) S (with_archive S a b merged)
+  put_there S merged = λ r s one other off.
+      ap (λ (o : Option Archive). is_some o) (archive_put S a b r s merged (root_place P a facts (has_first a refl)) (root_place P b facts (has_second b refl)) one other)
+      ∙ (there_if (is_pair a b r s) merged (archive_at S r s) ∙ ap (λ x. x || is_some (archive_at S r s)) (as_pair r s off))
 
   module _ (S : State) (next merged : Archive) (each : (p : Path) → old_mark_at merged p ≡ cond (reach P p) (old_mark_at next p) (mark_in S a b p)) where
     by_pair : (r s p : Path) (x : Bool) → is_pair a b r s ≡ x → old_mark_at (unwrap_or (cond x (Some merged) (archive_at S r s)) fin.empty) p ≡ cond (x && reach P p) (old_mark_at next p) (mark_in S r s p)

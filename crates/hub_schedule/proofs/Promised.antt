@@ -114,7 +114,7 @@ finished_of end.Finished e = refl
 finished_of end.Stopped e = absurd (false≢true e)
 finished_of end.Unfinished e = absurd (false≢true e)
 
-end_next : (S : State) (P : Parts) (e : JobEnd) → IsEndOf S P e → e.end ≡ end.Finished → next P (archive_of S (Some P)) e.log ≡ Finished
+pub end_next : (S : State) (P : Parts) (e : JobEnd) → IsEndOf S P e → e.end ≡ end.Finished → next P (archive_of S (Some P)) e.log ≡ Finished
 end_next S P e is done =
     elim (is.how) [
       | inl stopped ↦ absurd (stopped_or_finished e.end stopped done)
@@ -208,6 +208,9 @@ takes_from Ps o r s p j P e is at done a b h =
     and_from (some_passes (λ e. is_finished e.end) (slice_get o.jobs j)) (some_passes (λ P. has_root P r && has_root P s && reach P p) (slice_get Ps j))
     (ap (some_passes (λ (e : JobEnd). is_finished e.end)) at ∙ ap is_finished done)
     (ap (some_passes (λ (P : Parts). has_root P r && has_root P s && reach P p)) is ∙ and_from (has_root P r && has_root P s) (reach P p) (and_from (has_root P r) (has_root P s) a b) h)
+
+pub roots_apart : (P : Parts) → IsProfile P → root_at P Left ≢ root_at P Right
+roots_apart P facts same = false≢true (sym (left_not_right P facts 0) ∙ path_itself (root_at P Left) (root_at P Right) (ap (λ r. Some r) same))
 
 -- The roots of profiles are places.
 one_of : (f : Path → Bool) (r : Path) (rs : List Path) → list_all f rs ≡ true → list_any (λ own. path_eq own r) rs ≡ true → f r ≡ true
@@ -309,7 +312,7 @@ module _ (S : State) (Ps : List Parts) (histories : Path → List Entry) (o : Ou
     view_is done = ap (view_in P O) log_alone ∙ (synced done).view
 
     roots_differ : root_at P Left ≢ root_at P Right
-    roots_differ same = false≢true (sym (left_not_right P (facts j P is) j) ∙ path_itself (root_at P Left) (root_at P Right) (ap (λ r. Some r) same))
+    roots_differ = roots_apart P (facts j P is)
 
     root_of : (k : Side) → has_root P (root_at P k) ≡ true
     root_of k = has_its_root P k (root_at P k) (side_root P (facts j P is) j k)

@@ -189,7 +189,7 @@ empty_logs : (Ps : List Parts) → length (map (λ (Q : Parts). no_log) Ps) ≡ 
 empty_logs [] = refl
 empty_logs (Q ∷ Ps) = let h = empty_logs Ps in omega (arith, h)
 
-empty_log : (Ps : List Parts) (j : ℕ) → slice_index_or (map (λ (Q : Parts). no_log) Ps) j [] ≡ no_log
+pub empty_log : (Ps : List Parts) (j : ℕ) → slice_index_or (map (λ (Q : Parts). no_log) Ps) j [] ≡ no_log
 empty_log [] j = refl
 empty_log (Q ∷ Ps) zero = refl
 empty_log (Q ∷ Ps) (suc j) = empty_log Ps j

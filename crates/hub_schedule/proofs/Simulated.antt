@@ -1,14 +1,16 @@
 -- The outcome of a schedule: it is settled, and its logs are those of the jobs alone.
-use Rattle.std.proofs.Common.{◌≡◌, ◌≢◌, ◌≤◌, List, [], ◌∷◌, length, Option, Some, None, refl, ap, sym, ◌∙◌, subst, arith}
+use Rattle.std.proofs.Common.{◌≡◌, ◌≢◌, ◌≤◌, ◌+◌, inl, inr, Bool, true, false, cond, List, [], ◌∷◌, length, Option, Some, None, refl, ap, sym, ◌∙◌, subst, arith}
 use Rattle.std.specs.Prelude.{◌==◌, ℕ, zero, suc, IsTrue, slice_get, slice_index_or, replicate}
+use Rattle.std.proofs.lemmas.Bool.{cases_eq, ne_eqb}
 use Rattle.std.proofs.lemmas.List.Sums.{length-filter}
-use Rattle.hub_path.specs.Path.{Path}
+use Rattle.hub_path.specs.Path.{Path, is_place}
 use Rattle.hub_path.specs.declared.side.Side.{Side}
 use Rattle.hub_path.specs.declared.side.Side.TheVariants.{Left, Right}
-use Rattle.hub_profile.specs.Parts.{Parts}
-use Rattle.hub_reach.specs.Reach.{has_root}
-use Rattle.hub_tree.specs.Tree.{Replica, Archive, IsTree, contents_at}
-use Rattle.hub_reconcile.specs.Sync.{synced_contents}
+use Rattle.hub_profile.specs.Parts.{Parts, IsProfile}
+use Rattle.hub_reach.specs.Reach.{reach, has_root}
+use Rattle.hub_tree.specs.Tree.{Replica, Archive, IsTree, contents_at, old_mark_at}
+use Rattle.hub_reconcile.specs.Sync.{fate_over, mark_under, synced_contents, synced_mark}
+use Rattle.hub_reconcile.specs.View.{View}
 use Rattle.hub_state.specs.State.{State}
 use Rattle.hub_job.specs.declared.job_end.End.TheVariants as end
 use Rattle.hub_job.specs.declared.job_end.JobEnd.{JobEnd}
@@ -21,14 +23,16 @@ use Rattle.hub_job.specs.Same.{AreApart, own_turns}
 use Rattle.hub_job.specs.World.{World, Jobs, log_of, run, opening, alone, first_turns}
 use Rattle.hub_schedule.specs.History.{replay}
 use Rattle.hub_schedule.specs.Settled.{AreProfiles, IsSettled, IsSettledWorld}
-use Rattle.hub_job.specs.Outcome.{archive_of, jobs_of, replicas_of, world_after, IsOutcomeWith, IsOutcomeOf, KeepsTurns}
-use Rattle.hub_schedule.specs.Promise.{log_or_none, logs_in, HasReplicas, Settles, FinishedAreSynchronized}
+use Rattle.hub_job.specs.Outcome.{archive_of, jobs_of, replicas_of, world_after, IsEndOf, IsOutcomeWith, IsOutcomeOf, KeepsTurns}
+use Rattle.hub_schedule.specs.Promise.{log_or_none, logs_in, view_at, HasReplicas, IsSynchronized, NoneFinishedReaches, OldMarksStay, Settles, FinishedAreSynchronized}
 use Rattle.hub_schedule.specs.Simulated.{turns_of, turns_enough, LogsAreOfTurns, EnoughTurnsEnd, TurnsSuffice, IsLoneSynchronization}
 use Rattle.hub_job.proofs.Core.{has_its_root}
 use Rattle.hub_job.proofs.InWorld.{alone_synchronizes, by_side, side_root}
 use Rattle.hub_schedule.proofs.Finished.{alone_enough}
-use Rattle.hub_schedule.proofs.Promised.{left_in, next_end}
-use Rattle.hub_schedule.proofs.Turns.{keeps, fewer, count_alone, all_turns}
+use Rattle.hub_schedule.proofs.Promised.{end_next, left_in, marks_stay, next_end, root_place, roots_apart}
+use Rattle.hub_schedule.proofs.Settling.{empty_log}
+use Rattle.hub_schedule.proofs.Tables.{one_value}
+use Rattle.hub_schedule.proofs.Turns.{keeps, fewer, count_alone, count_first, all_turns, weight}
 
 no_log_there : (logs : List (List Logged)) (jobs : List JobEnd) (j : ℕ) → length logs ≡ length jobs → slice_get jobs j ≡ None → slice_index_or logs j [] ≡ []
 no_log_there [] [] j e none = refl
@@ -61,7 +65,7 @@ module _ (S : State) (Ps : List Parts) (turns : List ℕ) (o : Outcome) (is : Is
   }
 
 -- The turns that a job had.
-abbrev LogsAlone : Type 0
+abbrev pub LogsAlone : Type 0
 LogsAlone = (J : Jobs) (P : Parts) (j : ℕ) (js : List ℕ) (replicas : Path → Replica) → AreApart J.profiles → slice_get J.profiles j ≡ Some P
     → log_of (run J js (opening J replicas)) j ≡ alone J replicas j (length (own_turns j js))
 
@@ -98,11 +102,58 @@ turns_suffice S Ps valid trees = λ j n P at h.
 lone_contents : (P : Parts) (A B : Replica) (O Q : Archive) → O ≡ Q → (w : Pair) → IsSynced P A B O w → (k : Side) (q : Path) → contents_at (on_side w k) q ≡ synced_contents P A B Q k q
 lone_contents P A B O Q e w s k q = subst (λ a. contents_at (on_side w k) q ≡ synced_contents P A B a k q) e (s.contents k q)
 
-pub lone_synchronizes : (S : State) (Ps : List Parts) (limit : ℕ → ℕ) (o : Outcome) (j n : ℕ) (P : Parts) (e : JobEnd) → AreProfiles Ps → ((r : Path) → IsTree (replicas_of S r)) → HasReplicas S Ps
+-- A job that has no turn is finished only if it reaches nothing.
+no_weight : (w c x : ℕ) → x ≡ w + c → w ≡ 0 → c ≡ 0 → x ≡ 0
+no_weight w c x e f g = omega (arith, e, f, g)
+
+no_turns : (i j n : ℕ) → i ≢ j → turns_of i (replicate n j) ≡ 0
+no_turns i j zero off = refl
+no_turns i j (suc n) off =
+    no_weight (weight (j == i)) (turns_of i (replicate n j)) (turns_of i (replicate (suc n) j)) (count_first i j (replicate n j)) (ap weight (ne_eqb j i (λ e. off (sym e)))) (no_turns i j n off)
+
+at_start : (J : Jobs) (replicas : Path → Replica) (i : ℕ) → alone J replicas i 0 ≡ []
+unfolding run
+at_start J replicas i = empty_log J.profiles i
+
+no_more : (m n : ℕ) → m ≤ n → n ≡ 0 → m ≡ 0
+no_more m n h e = omega (arith, h, e)
+
+abbrev pub NothingLaw : Type 0
+NothingLaw = (P : Parts) (O : Archive) (q : Path) → IsProfile P → next P O [] ≡ Finished → reach P q ≡ false
+
+module _ (law : NothingLaw) (S : State) (Ps : List Parts) (valid : AreProfiles Ps) (o : Outcome) (j n : ℕ) (P : Parts) (e : JobEnd) (at : slice_get Ps j ≡ Some P)
+    (ends : (i : ℕ) (f : JobEnd) (Q : Parts) → slice_get o.jobs i ≡ Some f → slice_get Ps i ≡ Some Q → IsEndOf S Q f) (logs : LogsAreOfTurns S Ps (replicate n j) o) where
+  other_idle : (i : ℕ) (Q : Parts) (f : JobEnd) (q : Path) → i ≢ j → slice_get Ps i ≡ Some Q → slice_get o.jobs i ≡ Some f → f.end ≡ end.Finished → reach Q q ≡ false
+  other_idle i Q f q off its ended done =
+      let w = logs i Q f its ended in
+      let none : w.0 ≡ 0 = no_more w.0 (turns_of i (replicate n j)) w.1 (no_turns i j n off) in
+      let start : f.log ≡ [] = w.2 ∙ (ap (alone (jobs_of S Ps) (replicas_of S) i) none ∙ at_start (jobs_of S Ps) (replicas_of S) i) in
+      law Q (archive_of S (Some Q)) q (valid i Q its) (ap (next Q (archive_of S (Some Q))) (sym start) ∙ end_next S Q f (ends i f Q ended its) done)
+
+  none_reaches : (r s q : Path) → reach P q ≡ false → NoneFinishedReaches Ps o r s q
+  none_reaches r s q never = λ i Q f its ended done a b.
+      elim (cases_eq i j) [
+        | inl same ↦ ap (λ R. reach R q) (one_value Q P (sym its ∙ (ap (slice_get Ps) same ∙ at))) ∙ never
+        | inr off ↦ other_idle i Q f q off its ended done
+      ]
+
+  abbrev V : View
+  V = view_at S P
+
+  lone_mark : IsSynchronized S P e o.state → OldMarksStay S Ps o → (q : Path) (b : Bool) → reach P q ≡ b → old_mark_at (archive_of o.state (Some P)) q ≡ synced_mark V q
+  lone_mark synced stay q true h = synced.marks q h
+  lone_mark synced stay q false h =
+      let facts = valid j P at in
+      let has : (k : Side) → IsTrue (has_root P (root_at P k)) = λ k. has_its_root P k (root_at P k) (side_root P facts j k) in
+      let place : (k : Side) → IsTrue (is_place (root_at P k)) = λ k. root_place P (root_at P k) facts (has k) in
+      stay (root_at P Left) (root_at P Right) q (place Left) (place Right) (roots_apart P facts) (none_reaches (root_at P Left) (root_at P Right) q h)
+      ∙ sym (ap (λ b. cond b (mark_under V q (fate_over V q)) (old_mark_at (archive_of S (Some P)) q)) h)
+
+pub lone_synchronizes : NothingLaw → (S : State) (Ps : List Parts) (limit : ℕ → ℕ) (o : Outcome) (j n : ℕ) (P : Parts) (e : JobEnd) → AreProfiles Ps → ((r : Path) → IsTree (replicas_of S r)) → HasReplicas S Ps
     → ((r : Path) → (world_after S Ps (first_turns limit (replicate n j))).replica r ≡ replay (replicas_of S r) ((world_after S Ps (first_turns limit (replicate n j))).history r))
-    → Settles S Ps (world_after S Ps (first_turns limit (replicate n j))).history o → FinishedAreSynchronized S Ps o → EnoughTurnsEnd S Ps (replicate n j) o → KeepsTurns limit (replicate n j) o
+    → Settles S Ps (world_after S Ps (first_turns limit (replicate n j))).history o → FinishedAreSynchronized S Ps o → LogsAreOfTurns S Ps (replicate n j) o → EnoughTurnsEnd S Ps (replicate n j) o → KeepsTurns limit (replicate n j) o
     → slice_get Ps j ≡ Some P → slice_get o.jobs j ≡ Some e → e.end ≢ end.Stopped → turns_enough S P ≤ n → IsLoneSynchronization S P e o.state
-lone_synchronizes S Ps limit o j n P e valid trees there replayed settles finished enough keep at ended going h =
+lone_synchronizes law S Ps limit o j n P e valid trees there replayed settles finished logs enough keep at ended going h =
     let J = jobs_of S Ps in
     let R = replicas_of S in
     let turns : first_turns limit (replicate n j) ≡ replicate n j = all_turns j n limit (subst (λ m. m ≤ limit j) (count_alone j n) (keep j e ended going)) in
@@ -118,4 +169,7 @@ lone_synchronizes S Ps limit o j n P e valid trees there replayed settles finish
           ap (λ m. contents_at m q) (left_in S Ps (world_after S Ps (first_turns limit (replicate n j))).history o settles valid there j P (root_at P k) at (root k) ∙ sym (replayed (root_at P k)))
           ∙ (ap (λ js. contents_at ((run J js (opening J R)).replica (root_at P k)) q) turns
           ∙ (by_side P j k v q ∙ lone_contents P (R (root_at P Left)) (R (root_at P Right)) (J.archive j) (archive_of S (Some P)) archive (pair_of P j v) synced k q));
+      marks = λ q.
+          lone_mark law S Ps valid o j n P e at settles.outcome.ends logs (finished j P e at ended done)
+          (marks_stay S Ps (world_after S Ps (first_turns limit (replicate n j))).history o settles) q (reach P q) refl;
     }

@@ -10,11 +10,11 @@ use Rattle.hub_job.specs.declared.job_end.JobEnd.{JobEnd}
 use Rattle.hub_job.specs.declared.log.Entry.{Entry}
 use Rattle.hub_job.specs.declared.outcome.Outcome.{Outcome}
 use Rattle.hub_job.specs.declared.run_fault.RunFault.{RunFault}
-use Rattle.hub_job.specs.Outcome.{IsOutcomeOf, IsSimulated, KeepsTurns, world_after}
+use Rattle.hub_job.specs.Outcome.{IsOutcomeOf, IsSimulated, KeepsTurns, LosesTurns, world_after}
 use Rattle.hub_schedule.specs.Promise.{HasReplicas, IsAsPromised, Settles}
 use Rattle.hub_schedule.specs.Refusals.{IsRunnable, IsUnrun}
 use Rattle.hub_schedule.specs.Settled.{AreProfiles}
-use Rattle.hub_schedule.specs.Simulated.{EnoughTurnsEnd, IsLoneSynchronization, IsPromised, LogsAreOfTurns, LoneIsSynchronized, TurnsSuffice, turns_enough}
+use Rattle.hub_schedule.specs.Simulated.{EnoughTurnsEnd, IsLoneSynchronization, IsPromised, LogsAreOfTurns, LoneIsSynchronized, StoppedLostTurns, TurnsSuffice, turns_enough}
 use Rattle.hub_job.specs.World.{first_turns}
 use Rattle.hub_schedule.proofs.Promised.{elsewhere, foreign, marks_stay}
 use Rattle.hub_schedule.proofs.Runnable.{have_replicas}
@@ -39,6 +39,7 @@ promise_none S Rs histories o settles = record {
   elsewhere = elsewhere S [] histories o settles (λ j P is. absurd (no_profile j P is)) (λ j P r is. absurd (no_profile j P is)) (λ j P r is. absurd (no_profile j P is));
   foreign = foreign S [] histories o settles;
   marks = marks_stay S [] histories o settles;
+  archives = settles.outcome.pairs;
   allowed = λ Q r p c front rest e h at. absurd (no_profile e.job Q at);
   enough = λ j n P e is. absurd (no_profile j P is);
 }
@@ -75,6 +76,14 @@ lone_synchronized law S Ps Rs schedule o valid there facts safe is = λ j n P e 
 pub turns_suffice_for : ((S : State) (Ps : List Parts) → IsState S → AreProfiles Ps → TurnsSuffice S Ps) → (S : State) (Ps : List Parts) → IsStateFor S Ps → AreProfiles Ps → TurnsSuffice S Ps
 turns_suffice_for law S Ps valid facts = λ j n P at h. law S Ps (valid (some_profile Ps j P at)) facts j n P at h
 
+abbrev pub LostLaw : Type 0
+LostLaw = (S : State) (Ps : List Parts) (Rs : List Rule) (limit : ℕ → ℕ) (schedule : List ℕ) (o : Outcome) → IsState S → AreProfiles Ps → IsSafe Ps Rs
+    → IsOutcomeOf S Ps (first_turns limit schedule) o → LosesTurns S Ps limit schedule o → StoppedLostTurns S Ps schedule o
+
+lost_turns : LostLaw → (S : State) (Ps : List Parts) (Rs : List Rule) (schedule : List ℕ) (o : Outcome) → IsStateFor S Ps → AreProfiles Ps → IsSafe Ps Rs → IsSimulated S Ps schedule o → StoppedLostTurns S Ps schedule o
+lost_turns law S Ps Rs schedule o valid facts safe is = λ j P e there at ended.
+    law S Ps Rs is.0 schedule o (valid (some_profile Ps j P there)) facts safe is.1 is.3 j P e there at ended
+
 -- What two facts of a result say together.
 pub if_both : {X E : Type 0} (A B C : X → Type 0) (r : Result X E) → ((x : X) → A x → B x → C x) → IfOk r A → IfOk r B → IfOk r C
 if_both A B C (Ok x) f a b = f x a b
@@ -103,6 +112,11 @@ module _ (S : State) (Ps : List Parts) (Rs : List Rule) (schedule : List ℕ) (r
       → IfOk r (LogsAreOfTurns S Ps schedule)
   logs_of law =
       if_both (IsSimulated S Ps schedule) (λ o. IsRunnable S Ps schedule) (LogsAreOfTurns S Ps schedule) r (λ o is run. law S Ps Rs is.0 schedule o safe is.1 is.2) ran.world ran.run
+
+  pub lost_of : LostLaw → IfOk r (StoppedLostTurns S Ps schedule)
+  lost_of law =
+      if_both (IsSimulated S Ps schedule) (λ o. IsRunnable S Ps schedule) (StoppedLostTurns S Ps schedule) r
+      (λ o is run. lost_turns law S Ps Rs schedule o ran.valid facts safe is) ran.world ran.run
 
   pub enough_of : ((S : State) (Ps : List Parts) (Rs : List Rule) (limit : ℕ → ℕ) (schedule : List ℕ) (o : Outcome) → IsSafe Ps Rs → IsOutcomeOf S Ps (first_turns limit schedule) o → KeepsTurns limit schedule o → EnoughTurnsEnd S Ps schedule o)
       → IfOk r (EnoughTurnsEnd S Ps schedule)

@@ -1,17 +1,20 @@
 -- The turns of a schedule that jobs lose, turn by turn.
-use Rattle.std.proofs.Common.{◌≡◌, ◌≤◌, ◌<◌, ◌+◌, ◌-◌, ◌++◌, ◌⊎◌, inl, inr, subst, Bool, true, false, cond, List, [], ◌∷◌, refl, ap, sym, ◌∙◌, arith, eq-eqb}
-use Rattle.std.specs.Prelude.{◌==◌, ℕ, zero, suc, if◌then◌else◌}
+use Rattle.std.proofs.Common.{◌≡◌, ◌≤◌, ◌<◌, ◌+◌, ◌-◌, ◌++◌, ◌⊎◌, inl, inr, subst, Bool, true, false, cond, List, [], ◌∷◌, length, Option, Some, None, refl, ap, sym, ◌∙◌, arith, eq-eqb}
+use Rattle.std.specs.Prelude.{◌==◌, ℕ, zero, suc, slice_get, if◌then◌else◌}
 use Rattle.std.specs.List.{range_with_len}
-use Rattle.std.proofs.lemmas.Bool.{cases_eq, false≢true, eqb-true, ne_eqb}
+use Rattle.std.proofs.lemmas.Bool.{cases_eq, false≢true, false_from_ne_true, eqb-true, ne_eqb}
+use Rattle.hub_profile.specs.Parts.{some_passes}
 use Rattle.hub_schedule.specs.declared.seat.Seat.{Seat}
 use Rattle.hub_schedule.specs.declared.seat.WorkingTree.{WorkingTree}
 use Rattle.hub_schedule.specs.Table.{IsIdle, IsTable, IsThinned, StayIdle, StayStopped, Taken, stopped_at, whole_rounds}
 use Rattle.hub_job.specs.World.{World, Jobs, turn, run, first_turns}
+use Rattle.hub_schedule.proofs.InRounds.{whole_counts}
+use Rattle.hub_schedule.proofs.Tables.{within}
 use Rattle.hub_schedule.proofs.Turns.{weight, less, count, count_first}
 
 pub thinned_none : (J : Jobs) (w : World) (stopped : ℕ → Bool) → IsThinned J w w [] stopped stopped
 unfolding run
-thinned_none J w stopped = record { limit = λ j. 0; world = refl; none = λ j h. refl; all = λ j h. omega arith; stays = λ j h. h }
+thinned_none J w stopped = record { limit = λ j. 0; world = refl; none = λ j h. refl; all = λ j h. omega arith; lost = λ j a b. absurd (false≢true (sym a ∙ b)); stays = λ j h. h }
 
 no_weight : (w c x l : ℕ) → x ≡ w + c → w ≡ 0 → c ≤ l → x ≤ l
 no_weight w c x l e none h = omega (arith, e, none, h)
@@ -27,13 +30,33 @@ lost_all : (i j : ℕ) (js : List ℕ) (l : ℕ) (b : Bool) → (i == j) ≡ b �
 lost_all i j js l true e off h = absurd (off (eqb-true i j e))
 lost_all i j js l false e off h = no_weight (weight (i == j)) (count j js) (count j (i ∷ js)) l (count_first j i js) (ap weight e) h
 
-pub thinned_lost : (J : Jobs) (w v : World) (i : ℕ) (js : List ℕ) (before now after : ℕ → Bool) → StayStopped before now → now i ≡ true → IsThinned J w v js now after
+-- Between two turns no job is stopped but the one that has a turn.
+abbrev pub OneStops : ℕ → (ℕ → Bool) → (ℕ → Bool) → Type 0
+OneStops i before now = (j : ℕ) → now j ≡ true → before j ≡ false → j ≡ i
+
+still_going : (i j : ℕ) (before now : ℕ → Bool) → OneStops i before now → (i == j) ≡ false → before j ≡ false → now j ≡ false
+still_going i j before now one e h = false_from_ne_true (now j) (λ g. false≢true (sym e ∙ eq-eqb i j (sym (one j g h))))
+
+first_lost : (w c x l : ℕ) → x ≡ w + c → w ≡ 1 → l ≡ 0 → l < x
+first_lost w c x l e one none = omega (arith, e, one, none)
+
+later_lost : (w c x l : ℕ) → x ≡ w + c → l < c → l < x
+later_lost w c x l e h = omega (arith, e, h)
+
+lost_less : (limit : ℕ → ℕ) (i j : ℕ) (js : List ℕ) (before now : ℕ → Bool) → OneStops i before now → limit i ≡ 0 → (b : Bool) → (i == j) ≡ b → before j ≡ false → (now j ≡ false → limit j < count j js)
+    → limit j < count j (i ∷ js)
+lost_less limit i j js before now one none true e h more =
+    first_lost (weight (i == j)) (count j js) (count j (i ∷ js)) (limit j) (count_first j i js) (ap weight e) (ap limit (sym (eqb-true i j e)) ∙ none)
+lost_less limit i j js before now one none false e h more = later_lost (weight (i == j)) (count j js) (count j (i ∷ js)) (limit j) (count_first j i js) (more (still_going i j before now one e h))
+
+pub thinned_lost : (J : Jobs) (w v : World) (i : ℕ) (js : List ℕ) (before now after : ℕ → Bool) → StayStopped before now → OneStops i before now → now i ≡ true → IsThinned J w v js now after
     → IsThinned J w v (i ∷ js) before after
-thinned_lost J w v i js before now after stays stopped t = record {
+thinned_lost J w v i js before now after stays one stopped t = record {
   limit = t.limit;
   world = t.world ∙ ap (λ ks. run J ks w) (sym (lost_first t.limit i js (t.none i stopped)));
   none = λ j h. t.none j (stays j h);
   all = λ j h. lost_all i j js (t.limit j) (i == j) refl (λ e. false≢true (sym h ∙ (ap after (sym e) ∙ t.stays i stopped))) (t.all j h);
+  lost = λ j a b. lost_less t.limit i j js before now one (t.none i stopped) (i == j) refl a (λ g. t.lost j g b);
   stays = λ j h. t.stays j (stays j h);
 }
 
@@ -75,15 +98,30 @@ made_all limit i j js false e h =
     let off : i ≡ j → ⊥ = λ s. false≢true (sym e ∙ eq-eqb i j s) in
     no_weight (weight (i == j)) (count j js) (count j (i ∷ js)) (more limit i j) (count_first j i js) (ap weight e) (within_by (count j js) (more limit i j) (limit j) (more_there limit i j off) h)
 
+first_made : (w c x l m : ℕ) → x ≡ w + c → w ≡ 1 → m ≡ l + 1 → l < c → m < x
+first_made w c x l m e one more h = omega (arith, e, one, more, h)
+
+later_made : (w c x l m : ℕ) → x ≡ w + c → m ≡ l → l < c → m < x
+later_made w c x l m e same h = omega (arith, e, same, h)
+
+made_less : (limit : ℕ → ℕ) (i j : ℕ) (js : List ℕ) (before now : ℕ → Bool) → OneStops i before now → now i ≡ false → (b : Bool) → (i == j) ≡ b → before j ≡ false → (now j ≡ false → limit j < count j js)
+    → more limit i j < count j (i ∷ js)
+made_less limit i j js before now one going true e h left =
+    first_made (weight (i == j)) (count j js) (count j (i ∷ js)) (limit j) (more limit i j) (count_first j i js) (ap weight e) (more_here limit i j e) (left (ap now (sym (eqb-true i j e)) ∙ going))
+made_less limit i j js before now one going false e h left =
+    later_made (weight (i == j)) (count j js) (count j (i ∷ js)) (limit j) (more limit i j) (count_first j i js) (more_there limit i j (λ s. false≢true (sym e ∙ eq-eqb i j s)))
+    (left (still_going i j before now one e h))
+
 -- Any other turn is made.
-pub thinned_made : (J : Jobs) (w v : World) (i : ℕ) (js : List ℕ) (before now after : ℕ → Bool) → StayStopped before now → now i ≡ false → IsThinned J (turn J i w) v js now after
+pub thinned_made : (J : Jobs) (w v : World) (i : ℕ) (js : List ℕ) (before now after : ℕ → Bool) → StayStopped before now → OneStops i before now → now i ≡ false → IsThinned J (turn J i w) v js now after
     → IsThinned J w v (i ∷ js) before after
 unfolding run
-thinned_made J w v i js before now after stays going t = record {
+thinned_made J w v i js before now after stays one going t = record {
   limit = more t.limit i;
   world = t.world ∙ ap (λ ks. run J ks w) (sym (made_first t.limit i js));
   none = λ j h. more_there t.limit i j (λ e. false≢true (sym going ∙ (ap now e ∙ stays j h))) ∙ t.none j (stays j h);
   all = λ j h. made_all t.limit i j js (i == j) refl (t.all j h);
+  lost = λ j a b. made_less t.limit i j js before now one going (i == j) refl a (λ g. t.lost j g b);
   stays = λ j h. t.stays j (stays j h);
 }
 
@@ -91,12 +129,12 @@ pub taken_none : (seats : List Seat) (trees : List WorkingTree) (js : List ℕ) 
 taken_none seats trees js = λ J w table. (w, table, λ u after h. h)
 
 module _ (seats seats_now seats_next : List Seat) (trees trees_now trees_next : List WorkingTree) (schedule rest : List ℕ) (j : ℕ) (taken : Taken seats trees schedule seats_now trees_now (j ∷ rest))
-    (turns : (J : Jobs) (w : World) → IsTable J w seats_now trees_now → IsTable J (if stopped_at seats_next j then w else turn J j w) seats_next trees_next) (stays : StayStopped (stopped_at seats_now) (stopped_at seats_next)) where
+    (turns : (J : Jobs) (w : World) → IsTable J w seats_now trees_now → IsTable J (if stopped_at seats_next j then w else turn J j w) seats_next trees_next) (stays : StayStopped (stopped_at seats_now) (stopped_at seats_next)) (one : OneStops j (stopped_at seats_now) (stopped_at seats_next)) where
   by : (J : Jobs) (w v : World) → (b : Bool) → stopped_at seats_next j ≡ b → IsTable J (if b then v else turn J j v) seats_next trees_next
       → ((u : World) (after : ℕ → Bool) → IsThinned J v u (j ∷ rest) (stopped_at seats_now) after → IsThinned J w u schedule (stopped_at seats) after)
       → (x : World) × IsTable J x seats_next trees_next × ((u : World) (after : ℕ → Bool) → IsThinned J x u rest (stopped_at seats_next) after → IsThinned J w u schedule (stopped_at seats) after)
-  by J w v true e table more = (v, table, λ u after h. more u after (thinned_lost J v u j rest (stopped_at seats_now) (stopped_at seats_next) after stays e h))
-  by J w v false e table more = (turn J j v, table, λ u after h. more u after (thinned_made J v u j rest (stopped_at seats_now) (stopped_at seats_next) after stays e h))
+  by J w v true e table more = (v, table, λ u after h. more u after (thinned_lost J v u j rest (stopped_at seats_now) (stopped_at seats_next) after stays one e h))
+  by J w v false e table more = (turn J j v, table, λ u after h. more u after (thinned_made J v u j rest (stopped_at seats_now) (stopped_at seats_next) after stays one e h))
 
   pub taken_more : Taken seats trees schedule seats_next trees_next rest
   taken_more = λ J w table. let x = taken J w table in by J w x.0 (stopped_at seats_next j) refl (turns J x.0 x.1) x.2
@@ -108,13 +146,16 @@ taken_all seats now trees trees_now schedule taken = λ J w table. let x = taken
 pub taken_through : (s0 s1 s2 : List Seat) (t0 t1 t2 : List WorkingTree) (js ks ls : List ℕ) → Taken s0 t0 js s1 t1 ks → Taken s1 t1 ks s2 t2 ls → Taken s0 t0 js s2 t2 ls
 taken_through s0 s1 s2 t0 t1 t2 js ks ls first second = λ J w table. let x = first J w table in let y = second J x.0 x.1 in (y.0, y.1, λ u after h. x.2 u after (y.2 u after h))
 
+none_stops : (i : ℕ) (stopped : ℕ → Bool) → OneStops i stopped stopped
+none_stops i stopped = λ j a b. absurd (false≢true (sym b ∙ a))
+
 -- Turns that change nothing.
 idle_first : (J : Jobs) (w : World) (seats : List Seat) (j : ℕ) (js : List ℕ) (b : Bool) → stopped_at seats j ≡ b → IsIdle J w seats j → IsThinned J w w js (stopped_at seats) (stopped_at seats)
     → IsThinned J w w (j ∷ js) (stopped_at seats) (stopped_at seats)
-idle_first J w seats j js true e idle t = thinned_lost J w w j js (stopped_at seats) (stopped_at seats) (stopped_at seats) (λ i h. h) e t
+idle_first J w seats j js true e idle t = thinned_lost J w w j js (stopped_at seats) (stopped_at seats) (stopped_at seats) (λ i h. h) (none_stops j (stopped_at seats)) e t
 idle_first J w seats j js false e (inl h) t = absurd (false≢true (sym e ∙ h))
 idle_first J w seats j js false e (inr still) t =
-    thinned_made J w w j js (stopped_at seats) (stopped_at seats) (stopped_at seats) (λ i h. h) e
+    thinned_made J w w j js (stopped_at seats) (stopped_at seats) (stopped_at seats) (λ i h. h) (none_stops j (stopped_at seats)) e
     (subst (λ v. IsThinned J v w js (stopped_at seats) (stopped_at seats)) (sym still) t)
 
 idle_from : (J : Jobs) (w : World) (seats : List Seat) (n a k : ℕ) (js : List ℕ) → a + k ≤ n → ((j : ℕ) → j < n → IsIdle J w seats j) → IsThinned J w w js (stopped_at seats) (stopped_at seats)
@@ -127,22 +168,45 @@ idle_rounds : (J : Jobs) (w : World) (seats : List Seat) (n rounds : ℕ) → ((
 idle_rounds J w seats n zero idle = thinned_none J w (stopped_at seats)
 idle_rounds J w seats n (suc rounds) idle = idle_from J w seats n 0 n (whole_rounds n rounds) (omega arith) idle (idle_rounds J w seats n rounds idle)
 
-thinned_before : (J : Jobs) (w v : World) (js : List ℕ) (before now after : ℕ → Bool) → StayStopped before now → IsThinned J w v js now after → IsThinned J w v js before after
-thinned_before J w v js before now after stays t = record {
+none_less : (l x : ℕ) → l ≡ 0 → 0 < x → l < x
+none_less l x e h = omega (arith, e, h)
+
+lost_before : (limit : ℕ → ℕ) (j x : ℕ) (now : ℕ → Bool) (b : Bool) → now j ≡ b → (now j ≡ true → limit j ≡ 0) → (now j ≡ false → limit j < x) → (now j ≡ true → 0 < x) → limit j < x
+lost_before limit j x now true e none less has = none_less (limit j) x (none e) (has e)
+lost_before limit j x now false e none less has = less e
+
+thinned_before : (J : Jobs) (w v : World) (js : List ℕ) (before now after : ℕ → Bool) → StayStopped before now → ((j : ℕ) → now j ≡ true → 0 < count j js) → IsThinned J w v js now after
+    → IsThinned J w v js before after
+thinned_before J w v js before now after stays has t = record {
   limit = t.limit;
   world = t.world;
   none = λ j h. t.none j (stays j h);
   all = t.all;
+  lost = λ j a b. lost_before t.limit j (count j js) now (now j) refl (t.none j) (λ g. t.lost j g b) (has j);
   stays = λ j h. t.stays j (stays j h);
 }
 
+stopped_some : (seats : List Seat) (j : ℕ) (o : Option Seat) → slice_get seats j ≡ o → some_passes (λ (s : Seat). s.job.stopped) o ≡ true → j < length seats
+stopped_some seats j None at h = absurd (false≢true h)
+stopped_some seats j (Some s) at h = within seats j s at
+
+as_many : (j a b : ℕ) → j < a → a ≡ b → j < b
+as_many j a b h e = omega (arith, h, e)
+
+some_turns : (x rounds : ℕ) → x ≡ rounds → 0 < rounds → 0 < x
+some_turns x rounds e h = omega (arith, e, h)
+
+has_turns : (seats : List Seat) (n rounds j : ℕ) → length seats ≡ n → 0 < rounds → stopped_at seats j ≡ true → 0 < count j (whole_rounds n rounds)
+has_turns seats n rounds j long some h =
+    some_turns (count j (whole_rounds n rounds)) rounds (whole_counts n rounds j (as_many j (length seats) n (stopped_some seats j (slice_get seats j) refl h) long)) some
+
 -- After a round in which no job asks, all rounds that are left change nothing.
-pub taken_idle : (s0 s1 s2 : List Seat) (t0 t1 t2 : List WorkingTree) (js : List ℕ) (n rounds : ℕ) → Taken s0 t0 js s1 t1 (whole_rounds n rounds) → StayStopped (stopped_at s1) (stopped_at s2) → StayIdle n s1 t1 s2 t2
+pub taken_idle : (s0 s1 s2 : List Seat) (t0 t1 t2 : List WorkingTree) (js : List ℕ) (n rounds : ℕ) → length s2 ≡ n → 0 < rounds → Taken s0 t0 js s1 t1 (whole_rounds n rounds) → StayStopped (stopped_at s1) (stopped_at s2) → StayIdle n s1 t1 s2 t2
     → (J : Jobs) (w : World) → IsTable J w s0 t0 → (v : World) × IsTable J v s2 t2 × IsThinned J w v js (stopped_at s0) (stopped_at s2)
-taken_idle s0 s1 s2 t0 t1 t2 js n rounds taken stays idle = λ J w table.
+taken_idle s0 s1 s2 t0 t1 t2 js n rounds long some taken stays idle = λ J w table.
     let x = taken J w table in
     let y = idle J x.0 x.1 in
-    (x.0, y.0, x.2 x.0 (stopped_at s2) (thinned_before J x.0 x.0 (whole_rounds n rounds) (stopped_at s1) (stopped_at s2) (stopped_at s2) stays (idle_rounds J x.0 s2 n rounds y.1)))
+    (x.0, y.0, x.2 x.0 (stopped_at s2) (thinned_before J x.0 x.0 (whole_rounds n rounds) (stopped_at s1) (stopped_at s2) (stopped_at s2) stays (λ j h. has_turns s2 n rounds j long some h) (idle_rounds J x.0 s2 n rounds y.1)))
 
 -- The rounds that are left, and the turns that are left in one.
 left_less : (R i m : ℕ) → R - i ≡ m → i < R → m ≡ suc (R - (i + 1))

@@ -9,14 +9,14 @@ use Rattle.hub_job.specs.declared.asked.Asked.{Asked}
 use Rattle.hub_job.specs.declared.op.Op.{Op}
 use Rattle.hub_job.specs.declared.op.Next.{Next}
 use Rattle.hub_job.specs.declared.op.Next.TheVariants.{Ask, Finished, Stopped}
-use Rattle.hub_job.specs.Job.{next}
+use Rattle.hub_job.specs.Job.{is_ask, next, steps_made}
 use Rattle.hub_job.specs.JobValue.{JobValue, after_turn, with_answer, stopped_job}
 use Rattle.hub_job.specs.Machine.{answer, after}
 use Rattle.hub_job.specs.Phase.{asked_by}
 use Rattle.hub_job.specs.World.{World, Jobs, act, turn}
 use Rattle.hub_schedule.specs.declared.seat.Seat.{Seat}
 use Rattle.hub_schedule.specs.declared.seat.WorkingTree.{WorkingTree}
-use Rattle.hub_schedule.specs.Table.{place_on, with_job, with_tree, stopped_at, IsIdle, IsTable, ArePlaced, StayStopped}
+use Rattle.hub_schedule.specs.Table.{place_on, with_job, with_tree, stopped_at, AllWouldAsk, IsIdle, IsTable, ArePlaced, StayStopped, WouldAsk}
 use Rattle.hub_schedule.proofs.Tables.{SameSeat, set_here, set_there, each_set, one_value, table_same, table_turn, turn_is}
 
 -- A job keeps its profile, archive, number and places.
@@ -117,6 +117,31 @@ no_other_stopped seats j t i h e =
       | inl same ↦ same
       | inr off ↦ absurd (false≢true (sym e ∙ (sym (ap (some_passes (λ (v : Seat). v.job.stopped)) (set_there seats i j t off)) ∙ h)))
     ]
+
+-- A job that is stopped after a step would have asked.
+pub would_ask : (seats : List Seat) (j : ℕ) (s t : Seat) → slice_get seats j ≡ Some s → (WouldAsk s.job → WouldAsk t.job) → AllWouldAsk seats → AllWouldAsk (slice_set seats j t)
+would_ask seats j s t is more all = λ i x e. each_set (λ (i : ℕ) (x : Seat). WouldAsk x.job) seats j s t is (more (all j s is)) (λ k z off h. all k z h) i x e
+
+may_ask : (a b c : Bool) → (a ≡ false → b ≡ false → c ≡ false) → (a ≡ true → b ≡ true) → c ≡ true → b ≡ true
+may_ask true b c h old e = old refl
+may_ask false true c h old e = refl
+may_ask false false c h old e = absurd (false≢true (sym (h refl refl) ∙ e))
+
+pub turn_asks : (J K : JobValue) (n : Next) → K ≡ after_turn J K.stopped n
+    → (J.stopped ≡ false → 0 < steps_made J.log → is_ask (next J.profile J.archive J.log) ≡ false → K.stopped ≡ false) → WouldAsk J → WouldAsk K
+turn_asks J K n is memory old = λ stopped made.
+    let log : K.log ≡ J.log = ap (λ (x : JobValue). x.log) is in
+    let same : next K.profile K.archive K.log ≡ next J.profile J.archive J.log = ap (λ (x : JobValue). next x.profile x.archive x.log) is in
+    let done : 0 < steps_made J.log = subst (λ l. 0 < steps_made l) log made in
+    ap is_ask same ∙ may_ask J.stopped (is_ask (next J.profile J.archive J.log)) K.stopped (λ a b. memory a done b) (λ a. old a done) stopped
+
+lost_asks : (K L : JobValue) (side : Side) (op : Op) → L ≡ stopped_job K → next K.profile K.archive K.log ≡ Ask side op → is_ask (next L.profile L.archive L.log) ≡ true
+lost_asks K L side op is asks = ap (λ (x : JobValue). is_ask (next x.profile x.archive x.log)) is ∙ ap is_ask asks
+
+pub answer_asks : (J K L : JobValue) (n : Next) (side : Side) (op : Op) → K ≡ after_turn J K.stopped n → (K.stopped ≡ false → n ≡ next J.profile J.archive J.log) → n ≡ Ask side op → K.stopped ≡ false
+    → (L.stopped ≡ true → L ≡ stopped_job K) → WouldAsk L
+answer_asks J K L n side op is does asks going lost = λ stopped made.
+    lost_asks K L side op (lost stopped) (ap (λ (x : JobValue). next x.profile x.archive x.log) is ∙ (sym (does going) ∙ asks))
 
 -- The numbers of replicas stay numbers of replicas.
 pub still_placed : (seats : List Seat) (trees : List WorkingTree) (j : ℕ) (s t : Seat) → slice_get seats j ≡ Some s → ((k : Side) → place_on t k ≡ place_on s k) → ArePlaced seats trees → ArePlaced (slice_set seats j t) trees

@@ -1,5 +1,5 @@
 -- How many turns of a schedule a job keeps, if it is stopped after some of them.
-use Rattle.std.proofs.Common.{◌≡◌, ◌≤◌, ◌+◌, ◌-◌, Bool, true, false, cond, List, [], ◌∷◌, refl, ap, sym, ◌∙◌, arith, eq-eqb}
+use Rattle.std.proofs.Common.{◌≡◌, ◌<◌, ◌≤◌, ◌+◌, ◌-◌, Bool, true, false, cond, List, [], ◌∷◌, refl, ap, sym, ◌∙◌, arith, eq-eqb}
 use Rattle.std.specs.Prelude.{◌==◌, ℕ, zero, suc, if◌then◌else◌, count_by, replicate}
 use Rattle.std.proofs.lemmas.Bool.{false≢true, eqb-true, ne_eqb}
 use Rattle.std.proofs.lemmas.List.Sums.{sum_by-cons}
@@ -87,6 +87,36 @@ fewer j (i ∷ js) limit =
       | false ↦ both_more (weight (i == j)) (count j (first_turns (less limit i) js)) (count j js) (count j (i ∷ first_turns (less limit i) js)) (count j (i ∷ js))
           (count_first j i (first_turns (less limit i) js)) (count_first j i js) (fewer j js (less limit i))
     ]
+
+-- It never has more turns than it has left.
+limit_here : (w c x l m : ℕ) → x ≡ w + c → w ≡ 1 → m ≡ l - 1 → 0 < l → c ≤ m → x ≤ l
+limit_here w c x l m e one less some h = omega (arith, e, one, less, some, h)
+
+limit_there : (w c x l m : ℕ) → x ≡ w + c → w ≡ 0 → m ≡ l → c ≤ m → x ≤ l
+limit_there w c x l m e none same h = omega (arith, e, none, same, h)
+
+some_left : (n : ℕ) → (n == 0) ≡ false → 0 < n
+some_left zero e = absurd (false≢true (sym e ∙ eq-eqb 0 0 refl))
+some_left (suc n) e = omega arith
+
+within_first : (j i : ℕ) (js : List ℕ) (limit : ℕ → ℕ) → (limit i == 0) ≡ false → (b : Bool) → (i == j) ≡ b → count j (first_turns (less limit i) js) ≤ less limit i j
+    → count j (i ∷ first_turns (less limit i) js) ≤ limit j
+within_first j i js limit z true e h =
+    let rest = first_turns (less limit i) js in
+    limit_here (weight (i == j)) (count j rest) (count j (i ∷ rest)) (limit j) (less limit i j) (count_first j i rest) (ap weight e) (less_here limit i j e)
+    (some_left (limit j) (sym (ap (λ k. limit k == 0) (eqb-true i j e)) ∙ z)) h
+within_first j i js limit z false e h =
+    let rest = first_turns (less limit i) js in
+    limit_there (weight (i == j)) (count j rest) (count j (i ∷ rest)) (limit j) (less limit i j) (count_first j i rest) (ap weight e) (less_there limit i j e) h
+
+within_by : (j i : ℕ) (js : List ℕ) (limit : ℕ → ℕ) (a : Bool) → (limit i == 0) ≡ a → ((m : ℕ → ℕ) → count j (first_turns m js) ≤ m j)
+    → count j (cond a (first_turns limit js) (i ∷ first_turns (less limit i) js)) ≤ limit j
+within_by j i js limit true z more = more limit
+within_by j i js limit false z more = within_first j i js limit z (i == j) refl (more (less limit i))
+
+pub within_limit : (j : ℕ) (js : List ℕ) (limit : ℕ → ℕ) → count_by (λ i. i == j) (first_turns limit js) ≤ limit j
+within_limit j [] limit = omega arith
+within_limit j (i ∷ js) limit = within_by j i js limit (limit i == 0) refl (λ m. within_limit j js m)
 
 -- The schedule of one job alone.
 pub count_alone : (j n : ℕ) → count_by (λ i. i == j) (replicate n j) ≡ n

@@ -1,5 +1,6 @@
 -- What the jobs of a schedule leave in a state.
-use Rattle.std.specs.Prelude.{◌≡◌, ◌≢◌, ℕ, Bool, false, ◌&&◌, slice_get, List, [], ◌∷◌, Option, Some, None, IsTrue, if◌then◌else◌, unwrap_or}
+use Rattle.std.specs.Prelude.{◌≡◌, ◌≢◌, ℕ, Bool, false, ◌&&◌, ◌||◌, slice_get, List, [], ◌∷◌, Option, Some, None, is_some, IsTrue, if◌then◌else◌, unwrap_or}
+use Rattle.std.specs.List.{list_any}
 use Rattle.std.specs.FinMap as fin
 use Rattle.hub_path.specs.Path.{Path, is_place}
 use Rattle.hub_profile.specs.Parts.{Parts}
@@ -46,6 +47,23 @@ mark_from (n ∷ ns) r s p old = mark_of_next n.profile.now n.next r s p (mark_f
 abbrev pub HasMarks : (Path → Path → Path → Mark → Mark) → State → State → Type 0
 HasMarks f before after =
     (r s p : Path) → IsTrue (is_place r) → IsTrue (is_place s) → r ≢ s → mark_in after r s p ≡ f r s p (mark_in before r s p)
+
+abbrev pub has_pair : Parts → Path → Path → Bool
+has_pair P r s = has_root P r && has_root P s
+
+-- Whether a job leaves an archive of a pair of roots: it has a next archive, and both roots.
+abbrev pub is_left : Parts → Option Archive → Path → Path → Bool
+is_left P None r s = false
+is_left P (Some next) r s = has_pair P r s
+
+abbrev pub one_is_left : List NextArchive → Path → Path → Bool
+one_is_left ns r s = list_any (λ n. is_left n.profile.now n.next r s) ns
+
+-- The archive of a pair of different roots is there exactly if it is left, or was there.
+abbrev pub HasArchives : (Path → Path → Bool) → State → State → Type 0
+HasArchives f before after =
+    (r s : Path) → IsTrue (is_place r) → IsTrue (is_place s) → r ≢ s
+    → is_some (archive_at after r s) ≡ (f r s || is_some (archive_at before r s))
 
 abbrev pub KeptIn : Parts → Archive → Option Archive → Type 0
 KeptIn P O None = Unit {0}

@@ -26,7 +26,7 @@ use Rattle.hub_job.specs.Run.{root_at}
 use Rattle.hub_schedule.specs.History.{replay}
 use Rattle.hub_schedule.specs.Settled.{IsSettled}
 use Rattle.hub_schedule.specs.Together.{LogsAreAlone, OthersAreLeftAlone, OwnPathsAreAlone, ElsewhereIsAsBefore, SetsAreAllowed}
-use Rattle.hub_job.specs.Outcome.{archive_of, jobs_of, replicas_of, IsOutcomeWith}
+use Rattle.hub_job.specs.Outcome.{archive_of, jobs_of, replicas_of, ArchivesAreThere, IsOutcomeWith}
 
 abbrev pub log_or_none : Option JobEnd → List Logged
 log_or_none None = []
@@ -115,6 +115,8 @@ pub record IsAsPromised (S : State) (Ps : List Parts) (Rs : List Rule) (historie
   pub elsewhere : (r : Path) → IsTrue (is_place r) → ElsewhereIsAsBefore Ps r (replicas_of S r) (replicas_of o.state r)
   pub foreign : ForeignAreAsBefore S Ps o.state
   pub marks : OldMarksStay S Ps o
+  -- Each archive that was there is there, and that of each pair with a finished job; and no other one.
+  pub archives : ArchivesAreThere S Ps o
   -- Each Set was allowed.
   pub allowed : SetsAreAllowed Ps Rs (replicas_of S) histories
   -- A job with enough turns is finished.

@@ -9,7 +9,9 @@ use Rattle.hub_state.specs.State.{State}
 use Rattle.hub_job.specs.declared.outcome.Outcome.{Outcome}
 use Rattle.hub_job.specs.declared.job_end.End.TheVariants as end
 use Rattle.hub_job.specs.declared.job_end.JobEnd.{JobEnd}
-use Rattle.hub_job.specs.Outcome.{jobs_of, IsOutcomeWith, IsSimulated}
+use Rattle.hub_job.specs.declared.op.Next.TheVariants.{Finished, Stopped}
+use Rattle.hub_job.specs.Job.{is_ask, next, steps_made}
+use Rattle.hub_job.specs.Outcome.{archive_of, jobs_of, IsOutcomeWith, IsSimulated}
 use Rattle.hub_schedule.specs.Promise.{HasReplicas}
 use Rattle.hub_reach.specs.Reach.{has_root}
 use Rattle.hub_tree.specs.Tree.{Replica, Archive}
@@ -81,16 +83,24 @@ pub record IsTable (J : Jobs) (w : World) (seats : List Seat) (trees : List Work
   pub replicas : AreTrees w.replica trees
   pub roots : (k : ℕ) (t : WorkingTree) → slice_get trees k ≡ Some t → list_any (λ P. has_root P t.root.now) J.profiles ≡ true
 
+-- If the job is stopped and has made a step, it would have asked for another one.
+abbrev pub WouldAsk : JobValue → Type 0
+WouldAsk J = J.stopped ≡ true → 0 < steps_made J.log → is_ask (next J.profile J.archive J.log) ≡ true
+
+abbrev pub AllWouldAsk : List Seat → Type 0
+AllWouldAsk seats = (j : ℕ) (s : Seat) → slice_get seats j ≡ Some s → WouldAsk s.job
+
 abbrev pub StayStopped : (ℕ → Bool) → (ℕ → Bool) → Type 0
 StayStopped before after = (j : ℕ) → before j ≡ true → after j ≡ true
 
 -- The world v is what turns of a schedule make of w, if each job has so many of its turns: a job that was stopped before
--- has none, and one that isn't stopped afterwards has all.
+-- has none, one that isn't stopped afterwards has all, and one that was stopped meanwhile has fewer.
 pub record IsThinned (J : Jobs) (w v : World) (schedule : List ℕ) (before after : ℕ → Bool) : Type 0 where
   pub limit : ℕ → ℕ
   pub world : v ≡ run J (first_turns limit schedule) w
   pub none : (j : ℕ) → before j ≡ true → limit j ≡ 0
   pub all : (j : ℕ) → after j ≡ false → count_by (λ i. i == j) schedule ≤ limit j
+  pub lost : (j : ℕ) → before j ≡ false → after j ≡ true → limit j < count_by (λ i. i == j) schedule
   pub stays : StayStopped before after
 
 -- From these jobs and replicas, a schedule has come as far as others, and the rest of it is left.
@@ -114,11 +124,17 @@ abbrev pub StayIdle : ℕ → List Seat → List WorkingTree → List Seat → L
 StayIdle n seats trees seats_now trees_now =
     (J : Jobs) (w : World) → IsTable J w seats trees → IsTable J w seats_now trees_now × ((j : ℕ) → j < n → IsIdle J w seats_now j)
 
--- The outcome of each world that these jobs and replicas stand for; and a stopped job ends as stopped.
+-- The outcome of each world that these jobs and replicas stand for; and a job ends as stopped if it was stopped, or if an
+-- answer in its log stops it. A job that was stopped would have asked for another step, if that is so of all of these.
 abbrev pub IsOutcomeAfter : State → List Seat → List WorkingTree → Outcome → Type 0
 IsOutcomeAfter S seats trees o =
     ((Ps : List Parts) (w : World) → HasReplicas S Ps → IsTable (jobs_of S Ps) w seats trees → IsOutcomeWith S Ps (log_of w) w.replica o)
     × ((j : ℕ) (e : JobEnd) → slice_get o.jobs j ≡ Some e → e.end ≢ end.Stopped → stopped_at seats j ≡ false)
+    × ((Ps : List Parts) (w : World) (j : ℕ) (P : Parts) (e : JobEnd) → IsTable (jobs_of S Ps) w seats trees
+    → slice_get Ps j ≡ Some P → slice_get o.jobs j ≡ Some e → e.end ≡ end.Stopped
+    → next P (archive_of S (Some P)) e.log ≢ Stopped
+    → (stopped_at seats j ≡ true)
+    × (AllWouldAsk seats → 0 < steps_made e.log → next P (archive_of S (Some P)) e.log ≢ Finished))
 
 -- The outcome is that of some number of whole rounds.
 abbrev pub IsInRounds : State → List Parts → Outcome → Type 0

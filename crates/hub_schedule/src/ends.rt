@@ -69,7 +69,7 @@ pub(crate) fn put_trees(state: &mut State, trees: Vec<WorkingTree<'_>>) -> Resul
 }
 
 /// Puts what the jobs leave into the archives of their pairs of roots: at each path the mark of the first finished job that
-/// reaches it. Out of memory may leave some of it there.
+/// reaches it. Then each pair of a finished job has an archive. Out of memory may leave some of it there.
 pub(crate) fn put_archives(
     alloc: Global,
     state: &mut State,
@@ -77,6 +77,8 @@ pub(crate) fn put_archives(
 ) -> Result<(), AllocError>
     requires { spec.AreKept nexts.items }
     ensures replicas { OnOk result (state.new.replicas ≡ state.old.replicas) }
+    ensures archives { OnOk result
+        (spec.HasArchives (spec.one_is_left nexts.entry.items) state.old state.new) }
     ensures marks { OnOk result
         (spec.HasMarks (spec.mark_from nexts.entry.items) state.old state.new) }
 {
@@ -90,6 +92,8 @@ pub(crate) fn put_archives(
 fn put_next(alloc: Global, state: &mut State, job: NextArchive<'_>) -> Result<(), AllocError>
     requires { spec.KeepsUnreached job }
     ensures replicas { OnOk result (state.new.replicas ≡ state.old.replicas) }
+    ensures archives { OnOk result (spec.HasArchives
+        (spec.is_left job.entry.profile.now job.entry.next) state.old state.new) }
     ensures marks { OnOk result (spec.HasMarks
         (spec.mark_of_next job.entry.profile.now job.entry.next) state.old state.new) }
 {
@@ -115,6 +119,8 @@ fn put_marks(
     requires { (p : Path) → reach profile.now p ≡ false
         → of_tree.old_mark_at next p ≡ of_tree.old_mark_at opening.now p }
     ensures replicas { OnOk result (state.new.replicas ≡ state.old.replicas) }
+    ensures archives { OnOk result
+        (spec.HasArchives (spec.has_pair profile.now) state.old state.new) }
     ensures marks { OnOk result
         (spec.HasMarks (spec.mark_given profile.now next) state.old state.new) }
 {

@@ -9,14 +9,14 @@ ghost use Rattle.hub_job.specs.declared.job_end.End.TheVariants as end;
 ghost use Rattle.hub_job.specs.declared.job_end.JobEnd.{JobEnd};
 ghost use Rattle.hub_job.specs.declared.outcome.Outcome.{Outcome};
 ghost use Rattle.hub_job.specs.declared.log.Entry.{Entry};
-ghost use Rattle.hub_job.specs.Outcome.{IsOutcomeOf, KeepsTurns, world_after};
+ghost use Rattle.hub_job.specs.Outcome.{IsOutcomeOf, KeepsTurns, LosesTurns, world_after};
 ghost use Rattle.hub_schedule.specs.Promise.{EnoughTurnsFinish, FinishedAreSynchronized, ForeignAreAsBefore, HasReplicas, IsAsPromised, OldMarksStay, Settles};
 ghost use Rattle.hub_schedule.specs.Settled.{AreProfiles};
-ghost use Rattle.hub_schedule.specs.Simulated.{EnoughTurnsEnd, IsLoneSynchronization, LogsAreOfTurns, TurnsSuffice, turns_enough};
+ghost use Rattle.hub_schedule.specs.Simulated.{EnoughTurnsEnd, IsLoneSynchronization, LogsAreOfTurns, StoppedLostTurns, TurnsSuffice, turns_enough};
 ghost use Rattle.hub_job.specs.World.{first_turns};
 
 use crate::together::{a_run_settles, each_set_is_allowed, jobs_leave_each_other_alone};
-use hub_job::laws::each_log_is_the_one_alone;
+use hub_job::laws::{a_job_without_turns_reaches_nothing, each_log_is_the_one_alone};
 
 /// Of an outcome that histories settle: each finished job of a safe set has synchronized its replicas and their archive,
 /// whatever other jobs of the pair did; an archive keeps its marks where no finished job of the pair reaches; and a
@@ -74,7 +74,7 @@ pub fn schedules_keep_the_promise()
 }
 
 /// Of an outcome of a schedule: the log of each job of a safe set is the one that it gets alone in as many turns as the
-/// schedule gives it; a stopped job may have lost some. A job that wasn't stopped is finished, if it had as many turns as
+/// schedule gives it; a stopped job lost one at least. A job that wasn't stopped is finished, if it had as many turns as
 /// it takes alone; and 4k + 3n turns are always enough, for k kept values and n entries in the job's two replicas.
 pub fn schedules_give_logs_alone()
     ensures logs { (S : State) (Ps : List Parts) (Rs : List Rule) (limit : ℕ → ℕ)
@@ -87,13 +87,17 @@ pub fn schedules_give_logs_alone()
         → EnoughTurnsEnd S Ps schedule o }
     ensures suffice { (S : State) (Ps : List Parts) → IsState S → AreProfiles Ps
         → TurnsSuffice S Ps }
+    ensures lost { (S : State) (Ps : List Parts) (Rs : List Rule) (limit : ℕ → ℕ)
+        (schedule : List ℕ) (o : Outcome) → IsState S → AreProfiles Ps → IsSafe Ps Rs
+        → IsOutcomeOf S Ps (first_turns limit schedule) o → LosesTurns S Ps limit schedule o
+        → StoppedLostTurns S Ps schedule o }
 {
     each_log_is_the_one_alone();
 }
 
 /// A job of a safe set that alone takes turns, and wasn't stopped, is finished after 4k + 3n turns, for k kept values and
 /// n entries in its two replicas; nothing was refused to it; and its replicas, their archive and its items are those of
-/// one synchronization.
+/// one synchronization, on all paths.
 pub fn a_lone_job_is_synchronized()
     ensures { (S : State) (Ps : List Parts) (Rs : List Rule) (limit : ℕ → ℕ) (o : Outcome)
         (j n : ℕ) (P : Parts) (e : JobEnd) → IsState S → HasReplicas S Ps → AreProfiles Ps
@@ -102,6 +106,7 @@ pub fn a_lone_job_is_synchronized()
         → slice_get o.jobs j ≡ Some e → e.end ≢ end.Stopped → turns_enough S P ≤ n
         → IsLoneSynchronization S P e o.state }
 {
+    a_job_without_turns_reaches_nothing();
     a_run_settles();
     finished_jobs_synchronize();
     schedules_settle();

@@ -3,7 +3,7 @@ ghost use Rattle.std.specs.Prelude.{map, IfOk, IfErr};
 ghost use Rattle.hub_cert.specs.Set.{forbidden_by};
 ghost use Rattle.hub_job.specs.Outcome.{IsSimulated};
 ghost use Rattle.hub_schedule.specs.Refusals.{IsRunnable, IsUnrun};
-ghost use Rattle.hub_schedule.specs.Simulated.{EnoughTurnsEnd, IsPromised, LogsAreOfTurns, LoneIsSynchronized, TurnsSuffice};
+ghost use Rattle.hub_schedule.specs.Simulated.{EnoughTurnsEnd, IsPromised, LogsAreOfTurns, LoneIsSynchronized, StoppedLostTurns, TurnsSuffice};
 
 use crate::promise::{
     a_lone_job_is_synchronized, schedules_give_logs_alone, schedules_keep_the_promise,
@@ -38,6 +38,8 @@ pub fn simulate(
         (map forbidden_by verified.now.rules)) }
     ensures logs { IfOk result
         (LogsAreOfTurns state.now verified.now.profiles schedule.now) }
+    ensures lost { IfOk result
+        (StoppedLostTurns state.now verified.now.profiles schedule.now) }
     ensures enough { IfOk result
         (EnoughTurnsEnd state.now verified.now.profiles schedule.now) }
     ensures suffice { TurnsSuffice state.now verified.now.profiles }

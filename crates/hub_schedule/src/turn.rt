@@ -3,7 +3,7 @@ ghost use Rattle.std.specs.Prelude.{◌≡◌, ◌<◌, ◌++◌, ℕ, List, tru
 ghost use Rattle.std.specs.List.{range_with_len};
 ghost use Rattle.hub_job.specs.JobValue as value;
 ghost use Rattle.hub_job.specs.Machine as machine;
-ghost use Rattle.hub_schedule.specs.Table.{ArePlaced, IsIdle, IsTable, IsThinned, StayIdle, StayStopped, Taken, stopped_at, whole_rounds, with_job, with_tree};
+ghost use Rattle.hub_schedule.specs.Table.{AllWouldAsk, ArePlaced, IsIdle, IsTable, IsThinned, StayIdle, StayStopped, Taken, stopped_at, whole_rounds, with_job, with_tree};
 ghost use Rattle.hub_job.specs.World.{Jobs, World, turn};
 
 use crate::seat::{Seat, WorkingTree};
@@ -20,9 +20,10 @@ pub(crate) fn take_turns(
 )
     requires placed { ArePlaced seats.old.items trees.old.items }
     requires numbers { All (λ j. j < length seats.old.items) schedule.now }
-    ensures { (J : Jobs) (w : World) → IsTable J w seats.old.items trees.old.items
+    ensures turns { (J : Jobs) (w : World) → IsTable J w seats.old.items trees.old.items
         → (v : World) × IsTable J v seats.new.items trees.new.items
         × IsThinned J w v schedule.now (stopped_at seats.old.items) (stopped_at seats.new.items) }
+    ensures more { AllWouldAsk seats.old.items → AllWouldAsk seats.new.items }
 {
     for number in schedule {
         take_turn(alloc, seats, trees, *number);
@@ -38,10 +39,11 @@ pub(crate) fn take_rounds(
     rounds: u64,
 )
     requires { ArePlaced seats.old.items trees.old.items }
-    ensures { (J : Jobs) (w : World) → IsTable J w seats.old.items trees.old.items
+    ensures turns { (J : Jobs) (w : World) → IsTable J w seats.old.items trees.old.items
         → (v : World) × IsTable J v seats.new.items trees.new.items
         × IsThinned J w v (whole_rounds (length seats.old.items) rounds)
         (stopped_at seats.old.items) (stopped_at seats.new.items) }
+    ensures more { AllWouldAsk seats.old.items → AllWouldAsk seats.new.items }
 {
     for _ in 0..rounds {
         if !take_round(alloc, seats, trees) {
@@ -60,6 +62,7 @@ fn take_round(alloc: Global, seats: &mut Vec<Seat<'_>>, trees: &mut Vec<WorkingT
     ensures stays { StayStopped (stopped_at seats.old.items) (stopped_at seats.new.items) }
     ensures placed { ArePlaced seats.new.items trees.new.items }
     ensures count { length seats.new.items ≡ length seats.old.items }
+    ensures more { AllWouldAsk seats.old.items → AllWouldAsk seats.new.items }
 {
     let mut asked = false;
     for number in 0..seats.len() {
@@ -70,7 +73,8 @@ fn take_round(alloc: Global, seats: &mut Vec<Seat<'_>>, trees: &mut Vec<WorkingT
     asked
 }
 
-/// Lets a job take a turn, and returns whether it asked. If it finds no memory, it is stopped and has done nothing.
+/// Lets a job take a turn, and returns whether it asked. If it finds no memory, it is stopped and has done nothing. A
+/// finished job that has made a step isn't stopped.
 fn take_turn(
     alloc: Global,
     seats: &mut Vec<Seat<'_>>,
@@ -90,6 +94,7 @@ fn take_turn(
         → IsIdle J w seats.new.items number }
     ensures placed { ArePlaced seats.new.items trees.new.items }
     ensures count { length seats.new.items ≡ length seats.old.items }
+    ensures more { AllWouldAsk seats.old.items → AllWouldAsk seats.new.items }
 {
     let seat = &mut seats[number];
     if let Next::Ask(side, op) = seat.job.turn() {

@@ -9,6 +9,7 @@ pub returns : goal.returns
 returns c = λ S Ps Rs limit o j n P e valid there facts safe is keep at ended going h.
     let turns = first_turns limit (replicate n j) in
     let settles = c.schedules_settle.ensures S Ps turns o is in
-    lone_synchronizes S Ps limit o j n P e facts (state_trees S valid) there (c.a_run_settles.ensures (jobs_of S Ps) (replicas_of S) turns).replayed settles
+    lone_synchronizes c.a_job_without_turns_reaches_nothing.ensures S Ps limit o j n P e facts (state_trees S valid) there (c.a_run_settles.ensures (jobs_of S Ps) (replicas_of S) turns).replayed settles
     (c.finished_jobs_synchronize.ensures.finished S Ps Rs (world_after S Ps turns).history o valid there facts safe settles)
+    (c.schedules_give_logs_alone.ensures.logs S Ps Rs limit (replicate n j) o safe is keep)
     (c.schedules_give_logs_alone.ensures.enough S Ps Rs limit (replicate n j) o safe is keep) keep at ended going h

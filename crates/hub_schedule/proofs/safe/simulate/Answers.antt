@@ -3,7 +3,7 @@ use Rattle.std.specs.Prelude.{map}
 use Rattle.hub_cert.specs.Set.{Members, forbidden_by}
 use Rattle.hub_profile.specs.Parts.{Parts}
 use Rattle.hub_schedule.specs.Settled.{AreProfiles}
-use Rattle.hub_schedule.proofs.Simulation.{HaveRun, promise_of, lone_of, logs_of, enough_of, turns_suffice_for}
+use Rattle.hub_schedule.proofs.Simulation.{HaveRun, promise_of, lone_of, logs_of, lost_of, enough_of, turns_suffice_for}
 use Rattle.hub_schedule.proofs.safe.simulate.Goals as goal
 
 pub returns : goal.returns
@@ -21,6 +21,7 @@ returns c =
     record {
       promise = promise_of S M.profiles Rs js r ran facts c.set.ensures.safe c.schedules_settle.ensures c.schedules_keep_the_promise.ensures;
       logs = logs_of S M.profiles Rs js r ran facts c.set.ensures.safe c.schedules_give_logs_alone.ensures.logs;
+      lost = lost_of S M.profiles Rs js r ran facts c.set.ensures.safe c.schedules_give_logs_alone.ensures.lost;
       enough = enough_of S M.profiles Rs js r ran facts c.set.ensures.safe c.schedules_give_logs_alone.ensures.enough;
       suffice = turns_suffice_for c.schedules_give_logs_alone.ensures.suffice S M.profiles ran.valid facts;
       lone = lone_of S M.profiles Rs js r ran facts c.set.ensures.safe c.a_lone_job_is_synchronized.ensures;

@@ -1,7 +1,7 @@
 use Rattle.hub_job.specs.Outcome.{jobs_of, replicas_of}
 use Rattle.hub_job.specs.World.{opening}
 use Rattle.hub_schedule.specs.Table.{place_on, stopped_at}
-use Rattle.hub_schedule.proofs.Joined.{after_turns}
+use Rattle.hub_schedule.proofs.Joined.{after_turns, none_stopped}
 use Rattle.hub_schedule.proofs.Tables.{within}
 use Rattle.hub_schedule.proofs.schedule.run_schedule.Goals as goal
 
@@ -12,7 +12,7 @@ take_turns-requires-clause-placed c = λ j s k e.
 pub outcome_of-requires : goal.outcome_of-requires
 outcome_of-requires c =
     let J = jobs_of c.args.state.now c.args.profiles.now in
-    let t = c.take_turns.ensures J (opening J (replicas_of c.args.state.now)) c.in_ok-seats.ensures.table in
+    let t = c.take_turns.ensures.turns J (opening J (replicas_of c.args.state.now)) c.in_ok-seats.ensures.table in
     (J, t.0, t.1)
 
 pub returns : goal.returns
@@ -20,5 +20,6 @@ returns c =
     let S = c.args.state.now in
     let Ps = c.args.profiles.now in
     let J = jobs_of S Ps in
-    let t = c.take_turns.ensures J (opening J (replicas_of S)) c.in_ok-seats.ensures.table in
-    after_turns S Ps t.0 c.args.schedule.now (stopped_at c.in_ok-seats.seats.items) c.take_turns.new.seats.items c.take_turns.new.trees.items c.outcome_of.result c.requires.there t.1 t.2 c.outcome_of.ensures.outcome
+    let t = c.take_turns.ensures.turns J (opening J (replicas_of S)) c.in_ok-seats.ensures.table in
+    after_turns S Ps t.0 c.args.schedule.now (stopped_at c.in_ok-seats.seats.items) c.take_turns.new.seats.items c.take_turns.new.trees.items c.outcome_of.result c.in_ok-seats.ensures.going
+    (c.take_turns.ensures.more (none_stopped c.in_ok-seats.seats.items c.in_ok-seats.ensures.going)) c.requires.there t.1 t.2 c.outcome_of.ensures.outcome

@@ -17,6 +17,7 @@ loop-number-init c =
       placed = c.requires;
       count = refl;
       stays = λ j h. h;
+      more = λ h. h;
     }
 
 pub loop-number-preserved : goal.loop-number-preserved
@@ -34,7 +35,8 @@ loop-number-preserved c =
     record {
       taken = λ more.
           taken_more s0 s1 s2 t0 t1 t2 (range_with_len 0 n ++ more) (range_with_len (j + 1) (n - (j + 1)) ++ more) j
-          (subst (λ ks. Taken s0 t0 (range_with_len 0 n ++ more) s1 t1 ks) (turns_left n j more below) (inv.taken more)) c.take_turn.ensures.turn c.take_turn.ensures.stays;
+          (subst (λ ks. Taken s0 t0 (range_with_len 0 n ++ more) s1 t1 ks) (turns_left n j more below) (inv.taken more)) c.take_turn.ensures.turn c.take_turn.ensures.stays
+          c.take_turn.ensures.others;
       idle = elim c.if-take_turn.branch [
         | then-take_turn w ↦ λ e. absurd (false≢true (sym e ∙ w.asked-is))
         | else-take_turn w ↦ λ e. idle_more j s0 s1 s2 t0 t1 t2 (inv.idle (sym w.asked-is ∙ e)) c.take_turn.ensures.stays c.take_turn.ensures.turn (c.take_turn.ensures.idle w.if-take_turn.false)
@@ -42,6 +44,7 @@ loop-number-preserved c =
       placed = c.take_turn.ensures.placed;
       count = c.take_turn.ensures.count ∙ inv.count;
       stays = λ i h. c.take_turn.ensures.stays i (inv.stays i h);
+      more = λ h. c.take_turn.ensures.more (inv.more h);
     }
 
 pub returns : goal.returns
@@ -60,4 +63,5 @@ returns c =
       stays = inv.stays;
       placed = inv.placed;
       count = inv.count;
+      more = inv.more;
     }

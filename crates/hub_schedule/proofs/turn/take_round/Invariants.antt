@@ -1,6 +1,6 @@
 use Rattle.std.proofs.Common.{◌≡◌, ◌-◌, ◌++◌, ℕ, List, false, length}
 use Rattle.std.specs.List.{range_with_len}
-use Rattle.hub_schedule.specs.Table.{ArePlaced, StayIdle, StayStopped, Taken, stopped_at}
+use Rattle.hub_schedule.specs.Table.{AllWouldAsk, ArePlaced, StayIdle, StayStopped, Taken, stopped_at}
 use Rattle.hub_schedule.proofs.turn.take_round.Given as goal
 
 abbrev pub invariant-loop-number : goal.invariant-loop-number
@@ -12,4 +12,5 @@ invariant-loop-number l = record {
   placed : ArePlaced l.seats.items l.trees.items;
   count : length l.seats.items ≡ length l.initial.seats.items;
   stays : StayStopped (stopped_at l.initial.seats.items) (stopped_at l.seats.items);
+  more : AllWouldAsk l.initial.seats.items → AllWouldAsk l.seats.items;
 }

@@ -1,4 +1,4 @@
-use Rattle.std.proofs.Common.{◌+◌, ◌-◌, ◌++◌, ◌∙◌, length, refl, sym, subst}
+use Rattle.std.proofs.Common.{◌<◌, ◌+◌, ◌-◌, ◌++◌, ◌∙◌, length, refl, sym, subst, arith}
 use Rattle.std.specs.List.{range_with_len}
 use Rattle.hub_schedule.specs.Table.{StayIdle, Taken, whole_rounds}
 use Rattle.hub_schedule.proofs.Thinned.{all_rounds_left, no_rounds_left, rounds_left, taken_all, taken_idle, taken_same, taken_through}
@@ -12,6 +12,7 @@ loop-init c =
       taken = taken_same s0 c.args.trees.now.items (whole_rounds n c.args.rounds) (whole_rounds n (c.args.rounds - 0)) (all_rounds_left n c.args.rounds);
       placed = c.requires;
       count = refl;
+      more = λ h. h;
     }
 
 pub loop-preserved : goal.loop-preserved
@@ -33,10 +34,11 @@ loop-preserved c =
           (subst (λ m. Taken s1 t1 (range_with_len 0 m ++ rest) s2 t2 rest) inv.count (c.take_round.ensures.taken rest)));
       placed = c.take_round.ensures.placed;
       count = c.take_round.ensures.count ∙ inv.count;
+      more = λ h. c.take_round.ensures.more (inv.more h);
     }
 
-pub returns : goal.returns
-returns c =
+pub returns-clause-turns : goal.returns-clause-turns
+returns-clause-turns c =
     let s0 = c.args.seats.now.items in
     let t0 = c.args.trees.now.items in
     let s1 = c.loop.seats.items in
@@ -45,8 +47,11 @@ returns c =
     let all = whole_rounds n c.args.rounds in
     taken_all s0 s1 t0 t1 all (subst (λ ks. Taken s0 t0 all s1 t1 ks) (no_rounds_left n c.args.rounds c.loop.counter c.loop-test.false) c.loop.invariant.taken)
 
-pub returns-then-not-take_round : goal.returns-then-not-take_round
-returns-then-not-take_round c =
+pub returns-then-not-take_round-clause-more : goal.returns-then-not-take_round-clause-more
+returns-then-not-take_round-clause-more c = λ h. c.take_round.ensures.more (c.loop.invariant.more h)
+
+pub returns-then-not-take_round-clause-turns : goal.returns-then-not-take_round-clause-turns
+returns-then-not-take_round-clause-turns c =
     let s0 = c.args.seats.now.items in
     let t0 = c.args.trees.now.items in
     let s1 = c.loop.seats.items in
@@ -54,5 +59,6 @@ returns-then-not-take_round c =
     let s2 = c.take_round.new.seats.items in
     let t2 = c.take_round.new.trees.items in
     let n = length s0 in
-    taken_idle s0 s1 s2 t0 t1 t2 (whole_rounds n c.args.rounds) n (c.args.rounds - c.loop.counter) c.loop.invariant.taken c.take_round.ensures.stays
+    let some : 0 < c.args.rounds - c.loop.counter = omega (arith, c.loop-test.true) in
+    taken_idle s0 s1 s2 t0 t1 t2 (whole_rounds n c.args.rounds) n (c.args.rounds - c.loop.counter) (c.take_round.ensures.count ∙ c.loop.invariant.count) some c.loop.invariant.taken c.take_round.ensures.stays
     (subst (λ m. StayIdle m s1 t1 s2 t2) c.loop.invariant.count (c.take_round.ensures.idle c.if-not-take_round.true))

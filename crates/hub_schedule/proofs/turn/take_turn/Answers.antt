@@ -3,7 +3,7 @@ use Rattle.std.proofs.lemmas.Bool.{false≢true}
 use Rattle.std.proofs.lemmas.Option.{slice_get_read}
 use Rattle.hub_schedule.specs.declared.seat.Seat.{Seat}
 use Rattle.hub_schedule.specs.Table.{place_on, with_job}
-use Rattle.hub_schedule.proofs.Turning.{asks_going, busy, idle, no_other_stopped, not_asked, place_same, rests, same_places, stay_stopped, still_placed}
+use Rattle.hub_schedule.proofs.Turning.{answer_asks, asks_going, busy, idle, no_other_stopped, not_asked, place_same, rests, same_places, stay_stopped, still_placed, turn_asks, would_ask}
 use Rattle.hub_schedule.proofs.turn.take_turn.Goals as goal
 
 pub index_mut-requires : goal.index_mut-requires
@@ -43,6 +43,17 @@ returns-in-Ask-clause-stays c =
 pub returns-in-Ask-clause-others : goal.returns-in-Ask-clause-others
 returns-in-Ask-clause-others c = λ i h e. no_other_stopped c.args.seats.now.items c.args.number c.answer.new.seat i h e
 
+pub returns-in-Ask-clause-more : goal.returns-in-Ask-clause-more
+returns-in-Ask-clause-more c =
+    let seats = c.args.seats.now.items in
+    let s = c.index_mut-seat.result.now in
+    let side = c.in-Ask.side in
+    let at : slice_get seats c.args.number ≡ Some s = slice_get_read seats _ c.args.number s refl c.requires.number c.index_mut-seat.ensures.value in
+    let going = asks_going c.turn.new.self.stopped c.turn.result side c.in-Ask.op c.in-Ask.is c.turn.ensures.stopped in
+    would_ask seats c.args.number s c.answer.new.seat at
+    (λ old. answer_asks s.job c.turn.new.self c.answer.new.seat.job c.turn.result side c.in-Ask.op c.turn.ensures.after c.turn.ensures.next c.in-Ask.is going
+    (λ h. ap (λ (x : Seat). x.job) (c.answer.ensures.lost h).0))
+
 pub returns-in-Ask-clause-placed : goal.returns-in-Ask-clause-placed
 returns-in-Ask-clause-placed c =
     let seats = c.args.seats.now.items in
@@ -72,4 +83,5 @@ returns c =
           rests J w seats trees table j s t c.turn.result at (ap (with_job s) c.turn.ensures.after) c.turn.ensures.next (not_asked c.turn.result c.in_default.not-Ask);
       placed = still_placed seats trees j s t at (place_same s c.turn.new.self) c.requires.placed;
       count = length-set seats j t;
+      more = would_ask seats j s t at (turn_asks s.job c.turn.new.self c.turn.result c.turn.ensures.after c.turn.ensures.memory);
     }

@@ -19,13 +19,14 @@ loop-number-preserved c =
     record {
       taken = taken_more seats c.loop-number.seats.items c.take_turn.new.seats.items trees c.loop-number.trees.items c.take_turn.new.trees.items js (drop (n + 1) js) j
           (subst (λ ks. Taken seats trees js c.loop-number.seats.items c.loop-number.trees.items ks) (drop_at js n j at) inv.taken)
-          c.take_turn.ensures.turn c.take_turn.ensures.stays;
+          c.take_turn.ensures.turn c.take_turn.ensures.stays c.take_turn.ensures.others;
       placed = c.take_turn.ensures.placed;
       count = c.take_turn.ensures.count ∙ inv.count;
+      more = λ h. c.take_turn.ensures.more (inv.more h);
     }
 
-pub returns : goal.returns
-returns c =
+pub returns-clause-turns : goal.returns-clause-turns
+returns-clause-turns c =
     let seats = c.args.seats.now.items in
     let trees = c.args.trees.now.items in
     let js = c.args.schedule.now in

@@ -1,5 +1,5 @@
 use Rattle.std.proofs.Common.{◌≡◌, drop, length}
-use Rattle.hub_schedule.specs.Table.{ArePlaced, Taken}
+use Rattle.hub_schedule.specs.Table.{AllWouldAsk, ArePlaced, Taken}
 use Rattle.hub_schedule.proofs.turn.take_turns.Given as goal
 
 abbrev pub invariant-loop-number : goal.invariant-loop-number
@@ -7,4 +7,5 @@ invariant-loop-number l = record {
   taken : Taken l.initial.seats.items l.initial.trees.items l.schedule l.seats.items l.trees.items (drop l.number-index l.schedule);
   placed : ArePlaced l.seats.items l.trees.items;
   count : length l.seats.items ≡ length l.initial.seats.items;
+  more : AllWouldAsk l.initial.seats.items → AllWouldAsk l.seats.items;
 }

@@ -106,26 +106,50 @@ impl<'a> Desk<'a> {
         ensures back { IfErr result (λ s. (s.seats ≡ seats) × (s.desk ≡ self.entry)) }
         ensures sum { IfErr result (λ s. s.counted ≡ counted_by self.entry seats) }
     {
-        let n = self.seats;
-        let start = self.start;
-        let book = self.book.into_inner();
-        let entries = book.history().len() as u128;
-        let counted = start as u128 + all_steps(seats.as_slice());
-        if seats.len() == n && entries == counted {
-            return Ok(book);
-        }
-        let book = Mutex::new(book);
-        Err(Stranger {
-            desk: Desk {
-                book,
-                seats: n,
-                start,
-            },
-            seats,
-            entries,
-            counted,
-        })
+        let Desk {
+            book,
+            seats: n,
+            start,
+        } = self;
+        close_in(book.into_inner(), n, start, seats)
     }
+}
+
+/// Closes a desk of `n` seats over a book, whose history had the length `start` when the desk was made.
+fn close_in<'a>(
+    book: Book<'a>,
+    n: usize,
+    start: usize,
+    seats: Items<Seat>,
+) -> Result<Book<'a>, Stranger<'a>>
+    ensures book { IfOk result (λ b. b ≡ book.entry) }
+    ensures all { IfOk result (λ b. length seats ≡ n) }
+    ensures counted { IfOk result (λ b. length book.entry.history
+        ≡ counted_by (record { seats = n; start = start }) seats) }
+    ensures stranger { IfErr result
+        (λ s. (length seats ≢ n) ⊎ (s.entries ≢ s.counted)) }
+    ensures entries { IfErr result (λ s. s.entries ≡ length book.entry.history) }
+    ensures back { IfErr result
+        (λ s. (s.seats ≡ seats) × (s.desk ≡ record { seats = n; start = start })) }
+    ensures sum { IfErr result
+        (λ s. s.counted ≡ counted_by (record { seats = n; start = start }) seats) }
+{
+    let entries = book.history().len() as u128;
+    let counted = start as u128 + all_steps(seats.as_slice());
+    if seats.len() == n && entries == counted {
+        return Ok(book);
+    }
+    let desk = Desk {
+        book: Mutex::new(book),
+        seats: n,
+        start,
+    };
+    Err(Stranger {
+        desk,
+        seats,
+        entries,
+        counted,
+    })
 }
 
 /// Makes an operation of a job on a book, if the job has its root, and counts the step.

@@ -38,7 +38,7 @@ AreDue S Ps jobs =
 abbrev pub IsLowestOdd : State → List Parts → List JobValue → ℕ → Type 0
 IsLowestOdd S Ps jobs j = IsOdd S Ps jobs j × ((i : ℕ) → i < j → ¬ (IsOdd S Ps jobs i))
 
--- The book was made for the set, and opens with the state's replica of its root.
+-- The book was made for the profiles of the set, and opens with the state's replica of its root.
 abbrev pub OpensAs : State → List Parts → BookValue → Type 0
 OpensAs S Ps B = (B.profiles ≡ Ps) × (replica_at S B.root ≡ Some B.opening)
 

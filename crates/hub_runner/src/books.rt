@@ -36,7 +36,7 @@ fn count_of_books(books: &[Book<'_>], root: &Root) -> usize
     books.iter().filter(|book| book.root() == root).count()
 }
 
-/// Returns whether the book was made for the set, and opens with the state's replica of its root.
+/// Returns whether the book was made for the profiles of the set, and opens with the state's replica of its root.
 pub(crate) fn opens_as(book: &Book<'_>, set: &ProfileSet, state: &State) -> bool
     ensures { IsTrue result ↔ spec.OpensAs state.now set.now.profiles book.now }
 {

@@ -1,5 +1,5 @@
 #!/usr/bin/env bash
-# Runs `bench_state` on a small state text with each of its requests for memory refused in turn, then with each of its reads and
+# Runs `bench state` on a small state text with each of its requests for memory refused in turn, then with each of its reads and
 # each of its writes failing. The answer should be `OutOfMemory`, `ReadFailed` or `WriteFailed`, and what was written before is a
 # prefix of the right text. Then it asks `test_states` two questions with each request for memory refused: where memory for a step
 # of a replica or an archive is refused, the later answers should be as if that step weren't there. Last it runs `hubsync` on a
@@ -13,14 +13,14 @@
 #
 #     bench/fail.sh
 #
-# All must have been built, by `rt run` in crates/bench_state, crates/test_states and crates/hubsync. A C compiler is needed, since
+# All must have been built, by `rt run` in crates/bench, crates/test_states and crates/hubsync. A C compiler is needed, since
 # a few lines of C take the place of the C library's `malloc`, `calloc`, `realloc`, `read`, `write` and `pthread_create`. As many
 # runs go on at a time as there are processors, and a run that takes a minute is ended. For each kind of call a line gives the
 # number of runs, how many ended with the fault, how many with a refused thread, a stopped job or a refused step, and how many with
 # the right text. The status is 1 if an answer is wrong.
 set -euo pipefail
 top=$(dirname "$(dirname "$(readlink -f "${BASH_SOURCE[0]}")")")
-program=$top/crates/bench_state/out/bench_state
+program=$top/crates/bench/out/bench
 questions=$top/crates/test_states/out/test_states
 hubsync=$top/crates/hubsync/out/hubsync
 for built in "$program" "$questions" "$hubsync"; do
@@ -151,12 +151,12 @@ take() {
     IFS= read -r -d '' "$1" <"$2" || true
 }
 
-# Runs a program on an input with a variable set, in the folder of the lane. Sets `status`, `answer` and `errors`, and `said` to
-# what was said on file 9.
+# Runs a program with the words of `words` on an input with a variable set, in the folder of the lane. Sets `status`, `answer` and
+# `errors`, and `said` to what was said on file 9.
 run() {
     local -x "$1"
     status=0
-    LD_PRELOAD=$folder/failing.so "$3" <"$folder/$2" >"$lane/answer" 2>"$lane/errors" 9>"$lane/said" || status=$?
+    LD_PRELOAD=$folder/failing.so "$3" "${words[@]}" <"$folder/$2" >"$lane/answer" 2>"$lane/errors" 9>"$lane/said" || status=$?
     take answer "$lane/answer"
     take errors "$lane/errors"
     take said "$lane/said"
@@ -165,14 +165,19 @@ run() {
 # Each of the functions that follow sets `told` to a word for what a run told: `right` for the right text, `fault`, and so on.
 # It is `wrong` if the answer may not come.
 
-# `bench_state` tells the fault on standard error, and writes a prefix of the right text.
-judge_bench_state() {
+# `bench state` tells the fault on standard error, and writes a prefix of the right text.
+judge_bench() {
     told=wrong
     if [ "$status" = 0 ] && [ "$answer" = "$text" ]; then
         told=right
-    elif [ "$status" = 1 ] && [[ $errors == *"$fault"* && $text == "$answer"* ]]; then
+    elif [ "$status" = 1 ] && [[ $text == "$answer"* ]] && tells_fault; then
         told=fault
     fi
+}
+
+# Whether standard error has the fault. Where memory for the words of the command line is refused, the standard library says so.
+tells_fault() {
+    [[ $errors == *"$fault"* || $kind-$errors == FAIL_ALLOC-*'out of memory'* ]]
 }
 
 # `hubsync` writes the line of the fault and nothing else, or a prefix of the right text if a write failed. A thread is refused by
@@ -319,9 +324,12 @@ stopped_a_late=$stopped_a
 stopped_b_late=$(printf 'safe\njob a finished\nskip Conflict a\njob b stopped\n' && cat "$folder/brought")$'\n'
 take text "$folder/text"
 
-say_each judge_bench_state "$program" text FAIL_ALLOC OutOfMemory
-say_each judge_bench_state "$program" text FAIL_READ ReadFailed
-say_each judge_bench_state "$program" text FAIL_WRITE WriteFailed
+# `bench` is given a word, and the others none.
+words=(state)
+say_each judge_bench "$program" text FAIL_ALLOC OutOfMemory
+say_each judge_bench "$program" text FAIL_READ ReadFailed
+say_each judge_bench "$program" text FAIL_WRITE WriteFailed
+words=()
 # The second answer is that where memory for the first step was refused, and so on.
 a=$(printf a | sha256sum | cut -d ' ' -f 1)
 abc=$(printf abc | sha256sum | cut -d ' ' -f 1)

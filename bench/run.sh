@@ -11,7 +11,7 @@
 # - `star`, `starnew`: the entries of `same` and of `new` in a star of 32 spokes, each with a profile (aim: at most 1.3 times
 #   the time of `same` and of `new`);
 # - `files64`: one profile: the hub has 64 files of 1 MiB, and the spoke has none (aim: at most twice the time that
-#   `bench_state` takes to read the one state and to write the other, if it is built).
+#   `bench state` takes to read the one state and to write the other, if it is built).
 #
 # A line gives the size of the bundle, the least time of `cat` on the bundle and on the answer, the least time of the
 # program from start to end of the process, in milliseconds, and its peak memory, also in sizes of the larger text of the two,
@@ -20,7 +20,7 @@
 set -euo pipefail
 # shellcheck source=bench/timing.sh
 source "$(dirname "$(readlink -f "${BASH_SOURCE[0]}")")/timing.sh"
-bench_state=$top/crates/bench_state/out/bench_state
+bench=$top/crates/bench/out/bench
 
 bytes=$(printf '%040d' 0)
 digest=$(head -c 20 /dev/zero | sha256sum | cut -d ' ' -f 1)
@@ -115,7 +115,7 @@ prepare() {
     { "$lines"; "$closing" "$count"; } >"$folder/$name.answer"
 }
 
-# The same of 64 files of 1 MiB, of bytes that are different each time. Its two states are left for `bench_state`.
+# The same of 64 files of 1 MiB, of bytes that are different each time. Its two states are left for `bench state`.
 prepare_files() {
     local file
     for file in $(seq -w 1 64); do
@@ -189,9 +189,9 @@ compare() {
     }'
 }
 
-# The milliseconds that `bench_state` takes to read the state of that name (`read`) or to write it (`written`).
+# The milliseconds that `bench state` takes to read the state of that name (`read`) or to write it (`written`).
 time_state() {
-    "$bench_state" <"$folder/$1" 2>&1 >"$folder/copy" | sed -n "s/^$2: \([0-9]*\) ms\$/\1/p"
+    "$bench" state <"$folder/$1" 2>&1 >"$folder/copy" | sed -n "s/^$2: \([0-9]*\) ms\$/\1/p"
 }
 
 prepare same one_profile one_agreed one_same one_agreed 33000
@@ -213,9 +213,9 @@ compare 'same, an entry of 99,000 to one of 10,000' "${times[same]}" 99000 "${ti
 compare 'new, an entry of 99,000 to one of 10,000' "${times[new]}" 99000 "${times[new10]}" 9999 1.15
 compare 'star to same' "${times[star]}" 1 "${times[same]}" 1 1.3
 compare 'starnew to new' "${times[starnew]}" 1 "${times[new]}" 1 1.3
-if [ -x "$bench_state" ]; then
+if [ -x "$bench" ]; then
     compare 'files64 to its states alone' "${times[files64]}" 1 \
         "$(($(least time_state opening read) + $(least time_state closing written)))" 1 2
 else
-    echo "files64 to its states alone: not measured, since there is no program at $bench_state"
+    echo "files64 to its states alone: not measured, since there is no program at $bench"
 fi

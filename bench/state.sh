@@ -3,8 +3,8 @@
 #
 #     bench/state.sh [PROGRAM [REPETITIONS]]
 #
-# PROGRAM is the built `bench_state` (crates/bench_state/out/bench_state if left out), REPETITIONS is 5 if left out. Each text
-# but `files64` is tried in two sizes, of which the second is twice as large, so the time should double:
+# PROGRAM is the built `bench` (crates/bench/out/bench if left out), REPETITIONS is 5 if left out. Each text but `files64` is tried
+# in two sizes, of which the second is twice as large, so the time should double:
 #
 # - `spread`: 99,000 files of 20 bytes in 1,000 directories;
 # - `flat`: 99,999 files of 20 bytes in one directory;
@@ -19,11 +19,11 @@
 # memory, also in sizes of the text, if GNU time is installed. The status is 1 if an answer is wrong.
 set -euo pipefail
 top=$(dirname "$(dirname "$(readlink -f "${BASH_SOURCE[0]}")")")
-program=${1:-$top/crates/bench_state/out/bench_state}
+program=${1:-$top/crates/bench/out/bench}
 repetitions=${2:-5}
 
 if [ ! -x "$program" ]; then
-    echo "bench/state.sh: no program at $program: build it with \`rt run\` in crates/bench_state" >&2
+    echo "bench/state.sh: no program at $program: build it with \`rt run\` in crates/bench" >&2
     exit 2
 fi
 folder=$(mktemp -d)
@@ -74,7 +74,7 @@ large() {
 time_once() {
     local before after read written status=0
     before=${EPOCHREALTIME/[.,]/}
-    "$program" <"$folder/$1" >"$folder/answer" 2>"$folder/times" || status=$?
+    "$program" state <"$folder/$1" >"$folder/answer" 2>"$folder/times" || status=$?
     after=${EPOCHREALTIME/[.,]/}
     if [ "$status" != "$3" ] || ! cmp -s "$folder/answer" "$2"; then
         echo "bench/state.sh: $1: status $status, wanted $3; $(head -c 200 "$folder/times")" >&2
@@ -98,7 +98,7 @@ measure() {
     done >"$folder/runs"
     bytes=$(wc -c <"$folder/$1")
     if [ -x /usr/bin/time ]; then
-        /usr/bin/time -f %M -o "$folder/peak" "$program" <"$folder/$1" >/dev/null 2>&1 || true
+        /usr/bin/time -f %M -o "$folder/peak" "$program" state <"$folder/$1" >/dev/null 2>&1 || true
         peak=$(tail -n 1 "$folder/peak")
         sizes=$(awk -v peak="$peak" -v bytes="$bytes" 'BEGIN { printf "%.1f", peak * 1024 / bytes }')
     fi

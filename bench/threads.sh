@@ -4,7 +4,7 @@
 #
 #     bench/threads.sh [PROGRAM [REPETITIONS]]
 #
-# PROGRAM is the built `bench_run` (crates/bench_run/out/bench_run if left out), REPETITIONS is 5 if left out. The stars:
+# PROGRAM is the built `bench` (crates/bench/out/bench if left out), REPETITIONS is 5 if left out. The stars:
 #
 # - `files`: 8 spokes; the hub has 8 files of 1 MiB for each of them, and they have none (aim: threads take half the time);
 # - `same`: 32 spokes, 33,000 entries of the hub in all: the hub, the spokes and their archives agree (aim: at most 1.2 times the
@@ -16,11 +16,11 @@
 set -euo pipefail
 export LC_ALL=C
 top=$(dirname "$(dirname "$(readlink -f "${BASH_SOURCE[0]}")")")
-program=${1:-$top/crates/bench_run/out/bench_run}
+program=${1:-$top/crates/bench/out/bench}
 repetitions=${2:-5}
 
 if [ ! -x "$program" ]; then
-    echo "bench/threads.sh: no program at $program: build it with \`rt run\` in crates/bench_run" >&2
+    echo "bench/threads.sh: no program at $program: build it with \`rt run\` in crates/bench" >&2
     exit 2
 fi
 folder=$(mktemp -d)
@@ -92,7 +92,7 @@ large_teams() {
 
 # Writes the two times of one run over the state `opening`. Ends the script if the state that is left is not `closing`.
 time_both() {
-    if ! "$program" "$1" <"$folder/opening" >"$folder/left" 2>"$folder/times" || ! cmp -s "$folder/left" "$folder/closing"; then
+    if ! "$program" run "$1" <"$folder/opening" >"$folder/left" 2>"$folder/times" || ! cmp -s "$folder/left" "$folder/closing"; then
         echo "bench/threads.sh: a wrong answer: $(head -c 200 "$folder/times")" >&2
         exit 1
     fi

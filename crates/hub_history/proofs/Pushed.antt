@@ -13,7 +13,7 @@ use Rattle.hub_job.specs.declared.log.Entry.{Entry}
 use Rattle.hub_job.specs.declared.op.Op.{Op}
 use Rattle.hub_job.specs.declared.op.Op.TheVariants.{Look, Fetch, Set}
 use Rattle.hub_job.specs.Machine.{answer, after, Fits}
-use Rattle.hub_schedule.specs.History.{replay, IsAnswerOf, IsLegal}
+use Rattle.hub_job.specs.History.{replay, IsAnswerOf, IsLegal}
 use Rattle.hub_history.specs.Book.{BookValue, IsBook, has_job, entry_of, takes_memory}
 
 -- what takes memory to copy was read, and changed nothing

@@ -9,7 +9,7 @@ use Rattle.hub_job.specs.declared.answer.Answer.TheVariants.{Seen, Bytes, Done, 
 use Rattle.hub_job.specs.declared.log.Entry.{Entry}
 use Rattle.hub_job.specs.declared.op.Op.{Op}
 use Rattle.hub_job.specs.Machine.{after}
-use Rattle.hub_schedule.specs.History.{replay, IsLegal}
+use Rattle.hub_job.specs.History.{replay, IsLegal}
 
 -- The profiles of the set that it was made for, its root, the replica at the opening and now, and all operations since
 -- the opening, with their answers, in order.

@@ -1,7 +1,7 @@
 ghost use Rattle.std.specs.Prelude.{◌≡◌, ◌↔◌, IfOk, OnErr, IfErr, IsTrue, slice_get};
 ghost use Rattle.hub_job.specs.Machine.{Fits};
 ghost use Rattle.hub_reach.specs.Reach as of_reach;
-ghost use Rattle.hub_schedule.specs.History.{IsAnswerOf};
+ghost use Rattle.hub_job.specs.History.{IsAnswerOf};
 ghost use Rattle.hub_history.specs.Book.{IsBook, entry_of, has_job, new_book, with_entry};
 
 use crate::answers::copy_answer;

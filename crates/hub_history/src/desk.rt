@@ -1,6 +1,6 @@
 ghost use Rattle.std.specs.Prelude.{◌≡◌, ◌≢◌, ◌<◌, ◌+◌, ◌⊎◌, false, min, length, replicate, slice_get, IfOk, OnOk, OnErr, IfErr};
 ghost use Rattle.hub_job.specs.Machine.{Fits};
-ghost use Rattle.hub_schedule.specs.History.{IsAnswerOf};
+ghost use Rattle.hub_job.specs.History.{IsAnswerOf};
 ghost use Rattle.hub_history.specs.Book.{IsBook, entry_of, has_job, with_entry};
 ghost use Rattle.hub_history.specs.Desk.{counted_by};
 

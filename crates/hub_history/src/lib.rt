@@ -17,7 +17,7 @@
 //! answer alone; what a step does to the book is the contract of [`Book::apply`] and of `step_in`, which `step` calls while it
 //! holds the lock.
 //!
-//! The contracts use the words of `specs/Book` (a book as contracts see it), `specs/Desk`, and hub_schedule's
+//! The contracts use the words of `specs/Book` (a book as contracts see it), `specs/Desk`, and hub_job's
 //! `specs/History` (legal histories, and what they leave).
 //!
 //! Only functions that return a `Result` allocate.

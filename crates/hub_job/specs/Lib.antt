@@ -11,3 +11,5 @@ pub mod JobValue
 pub mod Ends
 pub mod Outcome
 pub mod Examples
+pub mod History
+pub mod HistoryExamples

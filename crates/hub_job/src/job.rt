@@ -170,6 +170,20 @@ impl<'a> Job<'a> {
         }
     }
 
+    /// Borrows the profile that the job was made for.
+    pub fn profile(&self) -> &'a Profile
+        ensures { result.now ≡ self.now.profile }
+    {
+        self.profile
+    }
+
+    /// Borrows the archive that the job was made for: that of its pair of roots at the opening.
+    pub fn archive(&self) -> &'a Archive
+        ensures { result.now ≡ self.now.archive }
+    {
+        self.archive
+    }
+
     /// Returns the job's number, which each entry of its log has.
     pub fn number(&self) -> usize
         ensures value { result ≡ self.now.number }

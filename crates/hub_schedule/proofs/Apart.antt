@@ -12,7 +12,7 @@ use Rattle.hub_job.specs.Alike.{May}
 use Rattle.hub_job.specs.Machine.{after}
 use Rattle.hub_job.specs.Same.{AsksMay, AreApart}
 use Rattle.hub_job.specs.World.{Jobs}
-use Rattle.hub_schedule.specs.History.{replay, IsAnswerOf, IsLegal}
+use Rattle.hub_job.specs.History.{replay, IsAnswerOf, IsLegal}
 use Rattle.hub_schedule.specs.Owned.{NobodyWrites}
 use Rattle.hub_schedule.specs.Settled.{AreProfiles, IsSettled, IsAsAlone}
 use Rattle.hub_schedule.specs.Together.{left_at, LogsAreAlone, OthersAreLeftAlone, OwnPathsAreAlone, ElsewhereIsAsBefore}

@@ -14,7 +14,7 @@ use Rattle.hub_job.specs.Alike.{May}
 use Rattle.hub_job.specs.Same.{AsksMay}
 use Rattle.hub_job.specs.World.{Jobs}
 use Rattle.hub_job.proofs.Blind.{SetsOne, elsewhere, reached_names_some, not_true, same_path, write-reaches}
-use Rattle.hub_schedule.specs.History.{replay, IsLegal}
+use Rattle.hub_job.specs.History.{replay, IsLegal}
 use Rattle.hub_schedule.specs.Settled.{IsSettled}
 use Rattle.hub_schedule.specs.Owned.{NobodyWrites}
 use Rattle.hub_schedule.proofs.Threads.{MayAll, its_profile, may_all}

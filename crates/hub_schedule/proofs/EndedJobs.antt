@@ -11,12 +11,10 @@ use Rattle.hub_state.specs.State.{State}
 use Rattle.hub_job.specs.declared.outcome.Outcome.{Outcome}
 use Rattle.hub_job.specs.declared.job_end.JobEnd.{JobEnd}
 use Rattle.hub_job.specs.declared.log.Logged.{Logged}
-use Rattle.hub_job.specs.Ends.{end_of, items_of}
 use Rattle.hub_job.specs.JobValue.{JobValue}
 use Rattle.hub_job.specs.Outcome.{archive_of, jobs_of, IsOutcomeWith}
 use Rattle.hub_job.specs.Run.{root_at}
 use Rattle.hub_job.specs.World.{World, log_of}
-use Rattle.hub_schedule.specs.declared.ended.EndedJob.{EndedJob}
 use Rattle.hub_schedule.specs.declared.seat.Seat.{Seat}
 use Rattle.hub_schedule.specs.declared.seat.WorkingTree.{WorkingTree}
 use Rattle.hub_schedule.specs.Ended.{ended_value, IsEnded, HasPlaces, AreEnded, IsSeatOf, AreSeatsOf}
@@ -26,47 +24,47 @@ use Rattle.hub_schedule.specs.Table.{place_on, IsOutcomeAfter, IsPlaced, IsSeat,
 use Rattle.hub_schedule.proofs.Opened.{get_front, get_last, get_push}
 use Rattle.hub_schedule.proofs.Tables.{one_value}
 
-abbrev job_log : EndedJob → List Logged
-job_log e = e.job.log
+abbrev job_log : JobValue → List Logged
+job_log e = e.log
 
 -- Nothing reads the histories of the world.
-abbrev pub world_of : (Path → Replica) → List EndedJob → World
+abbrev pub world_of : (Path → Replica) → List JobValue → World
 world_of replica jobs = record { replica = replica; history = λ r. []; logs = map job_log jobs }
 
-log_there : (jobs : List EndedJob) (j : ℕ) (e : EndedJob) → slice_get jobs j ≡ Some e → slice_index_or (map job_log jobs) j [] ≡ e.job.log
+log_there : (jobs : List JobValue) (j : ℕ) (e : JobValue) → slice_get jobs j ≡ Some e → slice_index_or (map job_log jobs) j [] ≡ e.log
 log_there [] j e at = cc
 log_there (d ∷ jobs) zero e at = ap job_log (one_value d e at)
 log_there (d ∷ jobs) (suc j) e at = log_there jobs j e at
 
-log_ended : (jobs : List EndedJob) (j : ℕ) → slice_index_or (map job_log jobs) j [] ≡ log_or_none (slice_get (map ended_value jobs) j)
+log_ended : (jobs : List JobValue) (j : ℕ) → slice_index_or (map job_log jobs) j [] ≡ log_or_none (slice_get (map ended_value jobs) j)
 log_ended [] j = refl
 log_ended (d ∷ jobs) zero = refl
 log_ended (d ∷ jobs) (suc j) = log_ended jobs j
 
-pub logs_are : (replica : Path → Replica) (jobs : List EndedJob) (o : Outcome) → o.jobs ≡ map ended_value jobs → log_of (world_of replica jobs) ≡ logs_in o
+pub logs_are : (replica : Path → Replica) (jobs : List JobValue) (o : Outcome) → o.jobs ≡ map ended_value jobs → log_of (world_of replica jobs) ≡ logs_in o
 logs_are replica jobs o e = λ i j. (log_ended jobs j ∙ ap (λ es. log_or_none (slice_get es j)) (sym e)) i
 
 -- Each job's replicas are there.
-pub have_places : (S : State) (Ps : List Parts) (replica : Path → Replica) (jobs : List EndedJob) (trees : List WorkingTree) → AreEnded S Ps replica jobs trees
-    → (j : ℕ) (e : EndedJob) → slice_get jobs j ≡ Some e → HasPlaces trees e.profile.now
-have_places S Ps replica jobs trees ended j e at = ended.places j e.profile.now (ended.each j e at).is
+pub have_places : (S : State) (Ps : List Parts) (replica : Path → Replica) (jobs : List JobValue) (trees : List WorkingTree) → AreEnded S Ps replica jobs trees
+    → (j : ℕ) (e : JobValue) → slice_get jobs j ≡ Some e → HasPlaces trees e.profile
+have_places S Ps replica jobs trees ended j e at = ended.places j e.profile (ended.each j e at).is
 
-seat_is : (S : State) (Ps : List Parts) (replica : Path → Replica) (jobs : List EndedJob) (trees : List WorkingTree) (j : ℕ) (e : EndedJob) (s : Seat)
+seat_is : (S : State) (Ps : List Parts) (replica : Path → Replica) (jobs : List JobValue) (trees : List WorkingTree) (j : ℕ) (e : JobValue) (s : Seat)
     → slice_get jobs j ≡ Some e → IsEnded S Ps j e → IsSeatOf trees e s → IsSeat (jobs_of S Ps) (world_of replica jobs) trees j s
 seat_is S Ps replica jobs trees j e s at ended is =
-    let there : slice_get Ps j ≡ Some s.profile.now = ended.is ∙ ap (λ (P : Parts). Some P) (sym is.profile) in
+    let profile : s.job.profile ≡ e.profile = ap (λ (J : JobValue). J.profile) is.job in
+    let there : slice_get Ps j ≡ Some s.job.profile = ended.is ∙ ap (λ (P : Parts). Some P) (sym profile) in
     record {
       is = there;
       valid = is.valid;
-      opening = is.opening ∙ (ended.opening ∙ (ap (λ (P : Parts). archive_of S (Some P)) (sym is.profile) ∙ ap (archive_of S) (sym there)));
-      profile = ap (λ (J : JobValue). J.profile) is.job ∙ (ended.profile ∙ sym is.profile);
-      archive = ap (λ (J : JobValue). J.archive) is.job ∙ (ended.archive ∙ sym is.opening);
+      archive = ap (λ (J : JobValue). J.archive) is.job
+          ∙ (ended.archive ∙ (ap (λ (P : Parts). archive_of S (Some P)) (sym profile) ∙ ap (archive_of S) (sym there)));
       number = ap (λ (J : JobValue). J.number) is.job ∙ ended.number;
       log = ap (λ (J : JobValue). J.log) is.job ∙ sym (log_there jobs j e at);
       places = is.places;
     }
 
-pub stands_for : (S : State) (Ps : List Parts) (replica : Path → Replica) (jobs : List EndedJob) (trees : List WorkingTree) (seats : List Seat) → AreEnded S Ps replica jobs trees → AreSeatsOf trees jobs seats
+pub stands_for : (S : State) (Ps : List Parts) (replica : Path → Replica) (jobs : List JobValue) (trees : List WorkingTree) (seats : List Seat) → AreEnded S Ps replica jobs trees → AreSeatsOf trees jobs seats
     → IsTable (jobs_of S Ps) (world_of replica jobs) seats trees
 stands_for S Ps replica jobs trees seats ended are = record {
   each = λ j s at. let of = are.each j s at in seat_is S Ps replica jobs trees j of.0 s of.1 (ended.each j of.0 of.1) of.2;
@@ -77,29 +75,26 @@ stands_for S Ps replica jobs trees seats ended are = record {
 }
 
 -- The jobs end in the same way.
-abbrev end_by_job : JobValue → JobEnd
-end_by_job J = record { end = end_of J; log = J.log; items = items_of J }
-
-pub same_ends : (jobs : List EndedJob) (seats : List Seat) → length seats ≡ length jobs → ((j : ℕ) (s : Seat) → slice_get seats j ≡ Some s → (e : EndedJob) × (slice_get jobs j ≡ Some e) × (s.job ≡ e.job))
+pub same_ends : (jobs : List JobValue) (seats : List Seat) → length seats ≡ length jobs → ((j : ℕ) (s : Seat) → slice_get seats j ≡ Some s → (e : JobValue) × (slice_get jobs j ≡ Some e) × (s.job ≡ e))
     → map end_value seats ≡ map ended_value jobs
 same_ends [] [] e each = refl
 same_ends [] (s ∷ seats) e each = absurd (omega (arith, e))
 same_ends (d ∷ jobs) [] e each = absurd (omega (arith, e))
 same_ends (d ∷ jobs) (s ∷ seats) e each =
     let first = each 0 s refl in
-    let same : s.job ≡ d.job = first.2 ∙ ap (λ (f : EndedJob). f.job) (sym (one_value d first.0 first.1)) in
-    ap (λ x. x ∷ map end_value seats) (ap end_by_job same)
+    let same : s.job ≡ d = first.2 ∙ sym (one_value d first.0 first.1) in
+    ap (λ x. x ∷ map end_value seats) (ap ended_value same)
     ∙ ap (λ xs. ended_value d ∷ xs) (same_ends jobs seats (omega (arith, e)) (λ j t at. each (suc j) t at))
 
 -- What the seats leave is what the jobs leave.
-pub outcome_is : (S : State) (jobs : List EndedJob) (trees : List WorkingTree) (seats : List Seat) (o : Outcome) → AreSeatsOf trees jobs seats → IsOutcomeAfter S seats trees o → o.jobs ≡ map ended_value jobs
+pub outcome_is : (S : State) (jobs : List JobValue) (trees : List WorkingTree) (seats : List Seat) (o : Outcome) → AreSeatsOf trees jobs seats → IsOutcomeAfter S seats trees o → o.jobs ≡ map ended_value jobs
     → (Ps : List Parts) (replica : Path → Replica) → HasReplicas S Ps → AreEnded S Ps replica jobs trees → IsOutcomeWith S Ps (logs_in o) replica o
 outcome_is S jobs trees seats o are after ends Ps replica there ended =
     subst (λ log. IsOutcomeWith S Ps log replica o) (logs_are replica jobs o ends)
     (after.0 Ps (world_of replica jobs) there (stands_for S Ps replica jobs trees seats ended are))
 
 -- What is told of an outcome that there may be.
-module _ (E : Type 0) (S : State) (jobs : List EndedJob) (trees : List WorkingTree) (seats : List Seat) (are : AreSeatsOf trees jobs seats) where
+module _ (E : Type 0) (S : State) (jobs : List JobValue) (trees : List WorkingTree) (seats : List Seat) (are : AreSeatsOf trees jobs seats) where
   same_jobs : map end_value seats ≡ map ended_value jobs
   same_jobs = same_ends jobs seats are.count (λ j s at. let w = are.each j s at in (w.0, w.1, w.2.job))
 
@@ -113,9 +108,9 @@ module _ (E : Type 0) (S : State) (jobs : List EndedJob) (trees : List WorkingTr
   ends_for (Err e) ends = tt
 
 -- One more job, and its seat.
-pub seats_more : (trees : List WorkingTree) (jobs : List EndedJob) (seats : List Seat) (e : EndedJob) (s : Seat) → AreSeatsOf trees jobs seats → IsSeatOf trees e s → AreSeatsOf trees (jobs ++ e ∷ []) (seats ++ s ∷ [])
+pub seats_more : (trees : List WorkingTree) (jobs : List JobValue) (seats : List Seat) (e : JobValue) (s : Seat) → AreSeatsOf trees jobs seats → IsSeatOf trees e s → AreSeatsOf trees (jobs ++ e ∷ []) (seats ++ s ∷ [])
 seats_more trees jobs seats e s are of = record {
-  each = get_push (λ j t. (d : EndedJob) × (slice_get (jobs ++ e ∷ []) j ≡ Some d) × IsSeatOf trees d t) seats s
+  each = get_push (λ j t. (d : JobValue) × (slice_get (jobs ++ e ∷ []) j ≡ Some d) × IsSeatOf trees d t) seats s
       (λ j t at. let w = are.each j t at in (w.0, get_front jobs (e ∷ []) j w.0 w.1, w.2))
       (e, ap (slice_get (jobs ++ e ∷ [])) are.count ∙ get_last jobs e, of);
   count = length-append seats (s ∷ []) ∙ (ap (λ n. n + 1) are.count ∙ sym (length-append jobs (e ∷ [])));

@@ -15,7 +15,7 @@ use Rattle.hub_reconcile.specs.Items.{items}
 use Rattle.hub_reconcile.specs.Sync.{root_or_top, next_archive}
 use Rattle.hub_state.specs.State.{State, replica_at, with_replica, root_text, pair_of}
 use Rattle.hub_state.proofs.ByRoot.{replica_put}
-use Rattle.hub_schedule.specs.declared.ends.NextArchive.{NextArchive}
+use Rattle.hub_schedule.specs.Next.{NextValue}
 use Rattle.hub_job.specs.declared.op.Next.{Next}
 use Rattle.hub_job.specs.declared.op.Next.TheVariants.{Ask, Finished, Stopped}
 use Rattle.hub_job.specs.declared.job_end.End.{End}
@@ -154,10 +154,9 @@ pub was_stopped : (S : State) (seats : List Seat) (trees : List WorkingTree) (o 
 was_stopped S seats trees o jobs Ps w j P e table is at ended off =
     let s = seat_of seats o jobs j e at in
     let a = table.each j s.0 s.1 in
-    let own : s.0.profile.now ≡ P = one_value s.0.profile.now P (sym a.is ∙ is) in
-    let profile : s.0.job.profile ≡ P = a.profile ∙ own in
+    let profile : s.0.job.profile ≡ P = one_value s.0.job.profile P (sym a.is ∙ is) in
     let archive : s.0.job.archive ≡ outcome.archive_of S (Some P) =
-    a.archive ∙ (a.opening ∙ (ap (outcome.archive_of S) a.is ∙ ap (λ Q. outcome.archive_of S (Some Q)) own)) in
+    a.archive ∙ (ap (outcome.archive_of S) a.is ∙ ap (λ Q. outcome.archive_of S (Some Q)) profile) in
     let log : s.0.job.log ≡ e.log = sym (ap (λ (e : JobEnd). e.log) s.2) in
     let own_next : next s.0.job.profile s.0.job.archive s.0.job.log ≡ next P (outcome.archive_of S (Some P)) e.log = λ i. next (profile i) (archive i) (log i) in
     let stopped : s.0.job.stopped ≡ true =
@@ -173,19 +172,18 @@ module _ (S : State) (Ps : List Parts) (has : HasReplicas S Ps) (w : World) (sea
   job_at : (j : ℕ) (e : JobEnd) → slice_get o.jobs j ≡ Some e → (s : Seat) × (slice_get seats j ≡ Some s) × (e ≡ end_value s)
   job_at = seat_of seats o jobs
 
-  seat_profile : (j : ℕ) (s : Seat) (P : Parts) → slice_get seats j ≡ Some s → slice_get Ps j ≡ Some P → s.profile.now ≡ P
-  seat_profile j s P at is = one_value s.profile.now P (sym (table.each j s at).is ∙ is)
+  seat_profile : (j : ℕ) (s : Seat) (P : Parts) → slice_get seats j ≡ Some s → slice_get Ps j ≡ Some P → s.job.profile ≡ P
+  seat_profile j s P at is = one_value s.job.profile P (sym (table.each j s at).is ∙ is)
 
   facts : AreProfiles Ps
   facts j P is = let s = as_long seats Ps j P table.count is in subst IsProfile (seat_profile j s.0 P s.1 is) (table.each j s.0 s.1).valid
 
-  archive_is : (j : ℕ) (s : Seat) → slice_get seats j ≡ Some s → s.job.archive ≡ outcome.archive_of S (Some s.profile.now)
-  archive_is j s at = let a = table.each j s at in a.archive ∙ (a.opening ∙ ap (outcome.archive_of S) a.is)
+  archive_is : (j : ℕ) (s : Seat) → slice_get seats j ≡ Some s → s.job.archive ≡ outcome.archive_of S (Some s.job.profile)
+  archive_is j s at = let a = table.each j s at in a.archive ∙ ap (outcome.archive_of S) a.is
 
   end_at : (j : ℕ) (s : Seat) (P : Parts) → slice_get seats j ≡ Some s → slice_get Ps j ≡ Some P → outcome.IsEndOf S P (end_value s)
   end_at j s P at is =
-      let a = table.each j s at in
-      let profile : s.job.profile ≡ P = a.profile ∙ seat_profile j s P at is in
+      let profile : s.job.profile ≡ P = seat_profile j s P at is in
       let archive : s.job.archive ≡ outcome.archive_of S (Some P) = archive_is j s at ∙ ap (λ Q. outcome.archive_of S (Some Q)) (seat_profile j s P at is) in
       record {
         how = how_ended s.job.stopped (end_of s.job) (end_by (next P (outcome.archive_of S (Some P)) s.job.log)) (λ i. if s.job.stopped then end.Stopped else end_by (next (profile i) (archive i) s.job.log));
@@ -209,8 +207,8 @@ module _ (S : State) (Ps : List Parts) (has : HasReplicas S Ps) (w : World) (sea
   root_there r P =
       let s = as_long seats Ps P.0 P.1 table.count P.2 in
       let a = table.each P.0 s.0 s.1 in
-      let is : s.0.profile.now ≡ P.1 = seat_profile P.0 s.0 P.1 s.1 P.2 in
-      let side = root_side s.0.profile.now r a.valid (ap (λ Q. has_root Q r) is ∙ P.3) in
+      let is : s.0.job.profile ≡ P.1 = seat_profile P.0 s.0 P.1 s.1 P.2 in
+      let side = root_side s.0.job.profile r a.valid (ap (λ Q. has_root Q r) is ∙ P.3) in
       listed_tree r (place_on s.0 side.0) (subst (λ q. IsPlaced trees q (place_on s.0 side.0)) side.1 (a.places side.0))
 
   tree_root : (r : Path) → list_any (is_there r) trees ≡ true → list_any (λ P. has_root P r) Ps ≡ true
@@ -242,16 +240,16 @@ module _ (S : State) (Ps : List Parts) (has : HasReplicas S Ps) (w : World) (sea
         done = ap (some_passes (λ (e : JobEnd). is_finished e.end)) (ap (λ (es : List JobEnd). slice_get es k) jobs ∙ map_at end_value seats k s at)
             ∙ sym (finished_next (end_of s.job) (next_archive (view_in s.job.profile s.job.archive s.job.log) s.job.archive));
         next = λ b e. next_of (end_of s.job) (next_archive (view_in s.job.profile s.job.archive s.job.log) s.job.archive) b e
-            ∙ (λ i. next_archive (view_in (a.profile i) (archive_is k s at i) (a.log i)) (archive_is k s at i));
+            ∙ (λ i. next_archive (view_in s.job.profile (archive_is k s at i) (a.log i)) (archive_is k s at i));
       }
 
-  next_at : (k : ℕ) (n : NextArchive) → slice_get (map next_value seats) k ≡ Some n → IsNextOf S Ps (log_of w) o k n
+  next_at : (k : ℕ) (n : NextValue) → slice_get (map next_value seats) k ≡ Some n → IsNextOf S Ps (log_of w) o k n
   next_at k n at = let s = map_get next_value seats k n at in subst (IsNextOf S Ps (log_of w) o k) (sym s.2) (next_by k s.0 s.1)
 
   many : length (map next_value seats) ≡ length Ps
   many = length-map seats next_value ∙ table.count
 
-  all_next : (k : ℕ) (n : NextArchive) → slice_get (map next_value seats) k ≡ Some n → IsNextOf S Ps (log_of w) o (0 + k) n
+  all_next : (k : ℕ) (n : NextValue) → slice_get (map next_value seats) k ≡ Some n → IsNextOf S Ps (log_of w) o (0 + k) n
   all_next k n e = subst (λ i. IsNextOf S Ps (log_of w) o i n) (sym (from_zero k)) (next_at k n e)
 
   archives_there : outcome.ArchivesAreThere S Ps o

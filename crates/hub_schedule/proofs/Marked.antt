@@ -13,7 +13,7 @@ use Rattle.hub_state.specs.State.{State, archive_at, with_archive}
 use Rattle.hub_job.specs.Run.{root_at}
 use Rattle.hub_job.proofs.Blind.{path_itself}
 use Rattle.hub_job.proofs.InWorld.{two_roots, left_not_right}
-use Rattle.hub_schedule.specs.declared.ends.NextArchive.{NextArchive}
+use Rattle.hub_schedule.specs.Next.{NextValue}
 use Rattle.hub_schedule.specs.Left.{mark_in, mark_given, mark_from, mark_of_next, has_pair, is_left, one_is_left, HasArchives, HasMarks, KeepsUnreached, AreKept}
 use Rattle.hub_schedule.proofs.NextMarks.{mark_from-append}
 use Rattle.hub_schedule.proofs.Opened.{get_front, get_last}
@@ -52,28 +52,28 @@ on_ok (Ok x) A B f h = f h
 on_ok (Err e) A B f h = h
 
 -- The last one goes.
-pub kept_last : (all rest : List NextArchive) (n : NextArchive) → all ≡ rest ++ n ∷ [] → AreKept all → KeepsUnreached n
-kept_last all rest n e kept = kept (length rest) n (ap (λ (ns : List NextArchive). slice_get ns (length rest)) e ∙ get_last rest n)
+pub kept_last : (all rest : List NextValue) (n : NextValue) → all ≡ rest ++ n ∷ [] → AreKept all → KeepsUnreached n
+kept_last all rest n e kept = kept (length rest) n (ap (λ (ns : List NextValue). slice_get ns (length rest)) e ∙ get_last rest n)
 
-pub kept_rest : (all rest : List NextArchive) (n : NextArchive) → all ≡ rest ++ n ∷ [] → AreKept all → AreKept rest
-kept_rest all rest n e kept = λ k m h. kept k m (ap (λ (ns : List NextArchive). slice_get ns k) e ∙ get_front rest (n ∷ []) k m h)
+pub kept_rest : (all rest : List NextValue) (n : NextValue) → all ≡ rest ++ n ∷ [] → AreKept all → AreKept rest
+kept_rest all rest n e kept = λ k m h. kept k m (ap (λ (ns : List NextValue). slice_get ns k) e ∙ get_front rest (n ∷ []) k m h)
 
-pub marks_rest : (all rest : List NextArchive) (n : NextArchive) (S T : State) → all ≡ rest ++ n ∷ [] → HasMarks (mark_of_next n.profile.now n.next) S T
+pub marks_rest : (all rest : List NextValue) (n : NextValue) (S T : State) → all ≡ rest ++ n ∷ [] → HasMarks (mark_of_next n.profile n.next) S T
     → (r s p : Path) → IsTrue (is_place r) → IsTrue (is_place s) → r ≢ s → mark_from rest r s p (mark_in T r s p) ≡ mark_from all r s p (mark_in S r s p)
 marks_rest all rest n S T e h r s p one other off =
     ap (mark_from rest r s p) (h r s p one other off)
-    ∙ (sym (mark_from-append rest n r s p (mark_in S r s p)) ∙ ap (λ (ns : List NextArchive). mark_from ns r s p (mark_in S r s p)) (sym e))
+    ∙ (sym (mark_from-append rest n r s p (mark_in S r s p)) ∙ ap (λ (ns : List NextValue). mark_from ns r s p (mark_in S r s p)) (sym e))
 
 one_more : (x n b : Bool) → (x || (n || b)) ≡ ((x || (n || false)) || b)
 one_more true n b = refl
 one_more false true b = refl
 one_more false false b = refl
 
-pub there_rest : (all rest : List NextArchive) (n : NextArchive) (S T : State) → all ≡ rest ++ n ∷ [] → HasArchives (is_left n.profile.now n.next) S T
+pub there_rest : (all rest : List NextValue) (n : NextValue) (S T : State) → all ≡ rest ++ n ∷ [] → HasArchives (is_left n.profile n.next) S T
     → (r s : Path) → IsTrue (is_place r) → IsTrue (is_place s) → r ≢ s → (one_is_left rest r s || is_some (archive_at T r s)) ≡ (one_is_left all r s || is_some (archive_at S r s))
 there_rest all rest n S T e h r s one other off =
     let before : Bool = is_some (archive_at S r s) in
     ap (λ x. one_is_left rest r s || x) (h r s one other off)
-    ∙ (one_more (one_is_left rest r s) (is_left n.profile.now n.next r s) before
+    ∙ (one_more (one_is_left rest r s) (is_left n.profile n.next r s) before
     ∙ ap (λ x. x || before)
-    (sym (list_any-append (λ (m : NextArchive). is_left m.profile.now m.next r s) rest (n ∷ [])) ∙ ap (λ (ns : List NextArchive). one_is_left ns r s) (sym e)))
+    (sym (list_any-append (λ (m : NextValue). is_left m.profile m.next r s) rest (n ∷ [])) ∙ ap (λ (ns : List NextValue). one_is_left ns r s) (sym e)))

@@ -85,14 +85,12 @@ module _ (S : State) (Ps : List Parts) (seats : List Seat) (trees : List Working
       let own : s.job.profile ≡ P = ap (λ (v : JobValue). v.profile) new.job in
       let archive : s.job.archive ≡ archive_of S (Some P) = ap (λ (v : JobValue). v.archive) new.job in
       record {
-        is = at ∙ ap (λ Q. Some Q) (sym new.profile);
-        valid = subst IsProfile (sym new.profile) new.valid;
-        opening = new.opening ∙ ap (archive_of S) (sym at);
-        profile = own ∙ sym new.profile;
-        archive = archive ∙ sym new.opening;
+        is = at ∙ ap (λ Q. Some Q) (sym own);
+        valid = subst IsProfile (sym own) new.valid;
+        archive = archive ∙ ap (archive_of S) (sym at);
         number = ap (λ (v : JobValue). v.number) new.job;
         log = ap (λ (v : JobValue). v.log) new.job ∙ sym (open_log Ps j);
-        places = λ k. subst (λ Q. IsPlaced trees (root_at Q k) (place_on s k)) (sym new.profile) (o.places k);
+        places = λ k. subst (λ Q. IsPlaced trees (root_at Q k) (place_on s k)) (sym own) (o.places k);
       }
 
   pub opened_table : IsTable (jobs_of S Ps) (opening (jobs_of S Ps) (replicas_of S)) seats trees

@@ -23,7 +23,7 @@ use Rattle.hub_job.specs.Machine.{after}
 use Rattle.hub_job.specs.Run.{Runs, root_at, pair_of, pair_run}
 use Rattle.hub_job.specs.Same.{AsksMay, AreApart}
 use Rattle.hub_job.specs.World.{Jobs, log_of, run, opening}
-use Rattle.hub_schedule.specs.History.{replay, IsLegal, entries_of, entries_at}
+use Rattle.hub_job.specs.History.{replay, IsLegal, entries_of, entries_at}
 use Rattle.hub_schedule.specs.Settled.{AreProfiles, IsSettled}
 use Rattle.hub_schedule.specs.Together.{SetsAreAllowed, NoRuleForbids}
 use Rattle.hub_job.proofs.Alone.{a_log_each}

@@ -28,7 +28,7 @@ use Rattle.hub_job.specs.declared.op.Next.TheVariants.{Ask, Finished, Stopped}
 use Rattle.hub_job.specs.Job.{next, is_refused, view_in}
 use Rattle.hub_job.specs.Run.{root_at, pair_of, IsSynced}
 use Rattle.hub_job.specs.World.{Jobs, log_of, run, opening, alone}
-use Rattle.hub_schedule.specs.History.{replay}
+use Rattle.hub_job.specs.History.{replay}
 use Rattle.hub_schedule.specs.Settled.{AreProfiles}
 use Rattle.hub_schedule.specs.Together.{left_at, LogsAreAlone, OwnPathsAreAlone, ElsewhereIsAsBefore}
 use Rattle.hub_job.specs.Ends.{end_by, is_finished}

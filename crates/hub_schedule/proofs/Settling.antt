@@ -22,7 +22,7 @@ use Rattle.hub_job.specs.Machine.{answer, after, fetched, done_unless, Fits}
 use Rattle.hub_job.specs.Job.{next}
 use Rattle.hub_job.specs.Run.{Runs}
 use Rattle.hub_job.specs.World.{World, Jobs, log_of, entry, event, act, turn_of, turn, run, opening}
-use Rattle.hub_schedule.specs.History.{replay, IsAnswerOf, IsLegal, entries_of, entries_at}
+use Rattle.hub_job.specs.History.{replay, IsAnswerOf, IsLegal, entries_of, entries_at}
 use Rattle.hub_schedule.specs.Settled.{IsSettledWorld}
 use Rattle.hub_job.proofs.Blind.{same_path}
 use Rattle.hub_job.proofs.Core.{has_its_root}

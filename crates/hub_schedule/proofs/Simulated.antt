@@ -21,7 +21,7 @@ use Rattle.hub_job.specs.Job.{next}
 use Rattle.hub_job.specs.Run.{Pair, root_at, pair_of, on_side, IsSynced}
 use Rattle.hub_job.specs.Same.{AreApart, own_turns}
 use Rattle.hub_job.specs.World.{World, Jobs, log_of, run, opening, alone, first_turns}
-use Rattle.hub_schedule.specs.History.{replay}
+use Rattle.hub_job.specs.History.{replay}
 use Rattle.hub_schedule.specs.Settled.{AreProfiles, IsSettled, IsSettledWorld}
 use Rattle.hub_job.specs.Outcome.{archive_of, jobs_of, replicas_of, world_after, IsEndOf, IsOutcomeWith, IsOutcomeOf, KeepsTurns}
 use Rattle.hub_schedule.specs.Promise.{log_or_none, logs_in, view_at, HasReplicas, IsSynchronized, NoneFinishedReaches, OldMarksStay, Settles, FinishedAreSynchronized}

@@ -90,9 +90,7 @@ once_again old new same once i k t u e f h =
 
 -- A job that has the same profile, archive, number and places.
 pub record SameSeat (s t : Seat) : Type 0 where
-  pub profile : t.profile.now ≡ s.profile.now
-  pub opening : t.opening.now ≡ s.opening.now
-  pub own : t.job.profile ≡ s.job.profile
+  pub profile : t.job.profile ≡ s.job.profile
   pub archive : t.job.archive ≡ s.job.archive
   pub number : t.job.number ≡ s.job.number
   pub places : (k : Side) → place_on t k ≡ place_on s k
@@ -105,13 +103,11 @@ module _ (J : Jobs) (w v : World) (seats : List Seat) (old new : List WorkingTre
       record {
         is = a.is ∙ ap (λ P. Some P) (sym alike.profile);
         valid = subst IsProfile (sym alike.profile) a.valid;
-        opening = alike.opening ∙ a.opening;
-        profile = alike.own ∙ (a.profile ∙ sym alike.profile);
-        archive = alike.archive ∙ (a.archive ∙ sym alike.opening);
+        archive = alike.archive ∙ a.archive;
         number = alike.number ∙ a.number;
         log = log;
         places = λ k. subst (λ (P : Parts). IsPlaced new (root_at P k) (place_on t k)) (sym alike.profile)
-            (subst (IsPlaced new (root_at s.profile.now k)) (sym (alike.places k)) (placed old new same (root_at s.profile.now k) (place_on s k) (a.places k)));
+            (subst (IsPlaced new (root_at s.job.profile k)) (sym (alike.places k)) (placed old new same (root_at s.job.profile k) (place_on s k) (a.places k)));
       }
 
   there : (i : ℕ) (u : Seat) → i ≢ j → slice_get seats i ≡ Some u → IsSeat J v new i u
@@ -120,12 +116,10 @@ module _ (J : Jobs) (w v : World) (seats : List Seat) (old new : List WorkingTre
       record {
         is = a.is;
         valid = a.valid;
-        opening = a.opening;
-        profile = a.profile;
         archive = a.archive;
         number = a.number;
         log = a.log ∙ others i off;
-        places = λ k. placed old new same (root_at u.profile.now k) (place_on u k) (a.places k);
+        places = λ k. placed old new same (root_at u.job.profile k) (place_on u k) (a.places k);
       }
 
   pub table_set : IsTable J v (slice_set seats j t) new
@@ -138,9 +132,9 @@ module _ (J : Jobs) (w v : World) (seats : List Seat) (old new : List WorkingTre
   }
 
 -- A turn by what the job does next.
-pub turn_is : (J : Jobs) (w : World) (trees : List WorkingTree) (j : ℕ) (s : Seat) → IsSeat J w trees j s → turn J j w ≡ act s.profile.now j w (next s.job.profile s.job.archive s.job.log)
+pub turn_is : (J : Jobs) (w : World) (trees : List WorkingTree) (j : ℕ) (s : Seat) → IsSeat J w trees j s → turn J j w ≡ act s.job.profile j w (next s.job.profile s.job.archive s.job.log)
 unfolding turn
-turn_is J w trees j s a = ap (turn_of J j w) a.is ∙ (λ i. act s.profile.now j w (next (sym a.profile i) (sym (a.archive ∙ a.opening) i) (sym a.log i)))
+turn_is J w trees j s a = ap (turn_of J j w) a.is ∙ (λ i. act s.job.profile j w (next s.job.profile (sym a.archive i) (sym a.log i)))
 
 -- The job and the replicas are the same as before.
 pub table_same : (J : Jobs) (w v : World) (seats : List Seat) (trees : List WorkingTree) (j : ℕ) (s t : Seat) → IsTable J w seats trees → slice_get seats j ≡ Some s → SameSeat s t → t.job.log ≡ s.job.log → w ≡ v
@@ -151,12 +145,12 @@ table_same J w v seats trees j s t table is alike log e =
 
 module _ (J : Jobs) (w : World) (seats : List Seat) (trees : List WorkingTree) (table : IsTable J w seats trees) (j : ℕ) (s t : Seat) (is : slice_get seats j ≡ Some s) (alike : SameSeat s t) (side : Side) (op : Op)
     (asks : next s.job.profile s.job.archive s.job.log ≡ Ask side op) (u : WorkingTree) (at : slice_get trees (place_on s side) ≡ Some u)
-    (log : t.job.log ≡ s.job.log ++ record { side = side; step = record { job = s.job.number; op = op; answer = answer u.tree s.profile.now u.root.now op } } ∷ []) where
+    (log : t.job.log ≡ s.job.log ++ record { side = side; step = record { job = s.job.number; op = op; answer = answer u.tree s.job.profile u.root.now op } } ∷ []) where
   a : IsSeat J w trees j s
   a = table.each j s is
 
   abbrev P : Parts
-  P = s.profile.now
+  P = s.job.profile
 
   abbrev r : Path
   r = root_at P side

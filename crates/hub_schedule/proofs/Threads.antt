@@ -25,7 +25,7 @@ use Rattle.hub_job.specs.Same.{AsksMay, AreApart}
 use Rattle.hub_job.proofs.Blind.{same_path, path_itself}
 use Rattle.hub_job.proofs.Core.{has_its_root}
 use Rattle.hub_job.proofs.Alone.{no_log, a_log_each}
-use Rattle.hub_schedule.specs.History.{replay, IsAnswerOf, IsLegal, entries_of, entries_at}
+use Rattle.hub_job.specs.History.{replay, IsAnswerOf, IsLegal, entries_of, entries_at}
 use Rattle.hub_schedule.specs.Settled.{AreProfiles, IsSettled, IsAsAlone}
 
 -- What the laws of hub_job say, as lemmas take it.

@@ -26,9 +26,7 @@ places_by s t l r Right = r
 
 same_with : (s t : Seat) (v : JobValue) → t ≡ with_job s v → v.profile ≡ s.job.profile → v.archive ≡ s.job.archive → v.number ≡ s.job.number → SameSeat s t
 same_with s t v e own archive number = record {
-  profile = ap (λ (x : Seat). x.profile.now) e;
-  opening = ap (λ (x : Seat). x.opening.now) e;
-  own = ap (λ (x : Seat). x.job.profile) e ∙ own;
+  profile = ap (λ (x : Seat). x.job.profile) e ∙ own;
   archive = ap (λ (x : Seat). x.job.archive) e ∙ archive;
   number = ap (λ (x : Seat). x.job.number) e ∙ number;
   places = places_by s t (ap (λ (x : Seat). x.left) e) (ap (λ (x : Seat). x.right) e);
@@ -37,8 +35,6 @@ same_with s t v e own archive number = record {
 same_again : (s t u : Seat) → SameSeat s t → SameSeat t u → SameSeat s u
 same_again s t u f g = record {
   profile = g.profile ∙ f.profile;
-  opening = g.opening ∙ f.opening;
-  own = g.own ∙ f.own;
   archive = g.archive ∙ f.archive;
   number = g.number ∙ f.number;
   places = λ k. g.places k ∙ f.places k;
@@ -58,14 +54,14 @@ module _ (J : Jobs) (w : World) (seats : List Seat) (trees : List WorkingTree) (
   turned = same_with s t (after_turn s.job t.job.stopped n) seat refl refl refl
 
   -- A turn in which the job asks nothing.
-  still : (n : Next) → asked_by n ≡ None → act s.profile.now j w n ≡ w
+  still : (n : Next) → asked_by n ≡ None → act s.job.profile j w n ≡ w
   still (Ask side op) e = cc
   still Finished e = refl
   still Stopped e = refl
 
   same_world : asked_by n ≡ None → (b : Bool) → t.job.stopped ≡ b → w ≡ cond b w (turn J j w)
   same_world none true e = refl
-  same_world none false e = sym (turn_is J w trees j s (table.each j s is) ∙ (ap (act s.profile.now j w) (sym (next_is e)) ∙ still n none))
+  same_world none false e = sym (turn_is J w trees j s (table.each j s is) ∙ (ap (act s.job.profile j w) (sym (next_is e)) ∙ still n none))
 
   pub idle : asked_by n ≡ None → IsTable J (if stopped_at (slice_set seats j t) j then w else turn J j w) (slice_set seats j t) trees
   idle none =
@@ -82,7 +78,7 @@ module _ (J : Jobs) (w : World) (seats : List Seat) (trees : List WorkingTree) (
   -- A turn in which it is answered, or finds no memory.
   module _ (side : Side) (op : Op) (asks : n ≡ Ask side op) (going : t.job.stopped ≡ false) (t2 : Seat) (k : ℕ) (u u2 : WorkingTree) (place : k ≡ place_on s side) (at : slice_get trees k ≡ Some u)
       (lost : t2.job.stopped ≡ true → (t2 ≡ with_job t (stopped_job t.job)) × (u2 ≡ u))
-      (made : t2.job.stopped ≡ false → (t2 ≡ with_job t (with_answer t.job (record { side = side; op = op }) (answer u.tree t.profile.now u.root.now op))) × (u2 ≡ with_tree u (after u.tree op))) where
+      (made : t2.job.stopped ≡ false → (t2 ≡ with_job t (with_answer t.job (record { side = side; op = op }) (answer u.tree t.job.profile u.root.now op))) × (u2 ≡ with_tree u (after u.tree op))) where
     stopped : (b : Bool) → t2.job.stopped ≡ b → IsTable J (cond b w (turn J j w)) (slice_set seats j t2) (slice_set trees k u2)
     stopped true e =
         let l = lost e in
@@ -94,10 +90,10 @@ module _ (J : Jobs) (w : World) (seats : List Seat) (trees : List WorkingTree) (
         let a : Asked = record { side = side; op = op } in
         subst (λ (v : WorkingTree). IsTable J (turn J j w) (slice_set seats j t2) (slice_set trees k v)) (sym m.1)
         (subst (λ (i : ℕ). IsTable J (turn J j w) (slice_set seats j t2) (slice_set trees i (with_tree u (after u.tree op)))) (sym place)
-        (table_turn J w seats trees table j s t2 is (same_again s t t2 turned (same_with t t2 (with_answer t.job a (answer u.tree t.profile.now u.root.now op)) m.0 refl refl refl)) side op
+        (table_turn J w seats trees table j s t2 is (same_again s t t2 turned (same_with t t2 (with_answer t.job a (answer u.tree t.job.profile u.root.now op)) m.0 refl refl refl)) side op
         (sym (next_is going) ∙ asks) u (ap (slice_get trees) (sym place) ∙ at)
         (ap (λ (v : Seat). v.job.log) m.0
-        ∙ (λ i. (seat i).job.log ++ record { side = side; step = record { job = (seat i).job.number; op = op; answer = answer u.tree (seat i).profile.now u.root.now op } } ∷ []))))
+        ∙ (λ i. (seat i).job.log ++ record { side = side; step = record { job = (seat i).job.number; op = op; answer = answer u.tree (seat i).job.profile u.root.now op } } ∷ []))))
 
     pub busy : IsTable J (if stopped_at (slice_set seats j t2) j then w else turn J j w) (slice_set seats j t2) (slice_set trees k u2)
     busy = subst (λ b. IsTable J (cond b w (turn J j w)) (slice_set seats j t2) (slice_set trees k u2)) (sym (stopped_is seats j s t2 is)) (stopped t2.job.stopped refl)

@@ -40,9 +40,7 @@ if_finished P O log true = keeps P O log
 if_finished P O log false = tt
 
 of_seat : (J : Jobs) (w : World) (trees : List WorkingTree) (j : ℕ) (s : Seat) → IsSeat J w trees j s → KeepsUnreached (next_value s)
-of_seat J w trees j s a =
-    subst (λ (P : Parts). KeptIn P s.opening.now (archive_of s.job)) a.profile
-    (subst (λ (O : Archive). KeptIn s.job.profile O (archive_of s.job)) a.archive (if_finished s.job.profile s.job.archive s.job.log (is_finished (end_of s.job))))
+of_seat J w trees j s a = if_finished s.job.profile s.job.archive s.job.log (is_finished (end_of s.job))
 
 pub all_kept : (J : Jobs) (w : World) (seats : List Seat) (trees : List WorkingTree) → IsTable J w seats trees → AreKept (map next_value seats)
 all_kept J w seats trees table = λ k n e. let s = map_get next_value seats k n e in subst KeepsUnreached (sym s.2) (of_seat J w trees k s.0 (table.each k s.0 s.1))

@@ -11,14 +11,14 @@ use Rattle.hub_state.specs.State.{State, archive_at, with_replica}
 use Rattle.hub_job.specs.declared.job_end.JobEnd.{JobEnd}
 use Rattle.hub_schedule.specs.declared.seat.Seat.{Seat}
 use Rattle.hub_schedule.specs.declared.seat.WorkingTree.{WorkingTree}
-use Rattle.hub_schedule.specs.declared.ends.NextArchive.{NextArchive}
+use Rattle.hub_schedule.specs.Next.{NextValue}
 use Rattle.hub_job.specs.Ends.{end_of, items_of, archive_of}
 
 abbrev pub end_value : Seat → JobEnd
 end_value s = record { end = end_of s.job; log = s.job.log; items = items_of s.job }
 
-abbrev pub next_value : Seat → NextArchive
-next_value s = record { profile = s.profile; opening = s.opening; next = archive_of s.job }
+abbrev pub next_value : Seat → NextValue
+next_value s = record { profile = s.job.profile; opening = s.job.archive; next = archive_of s.job }
 
 abbrev pub put_tree : State → WorkingTree → State
 put_tree S t = with_replica S t.root.now t.tree
@@ -39,9 +39,9 @@ mark_of_next P None r s p old = old
 mark_of_next P (Some next) r s p old = mark_given P next r s p old
 
 -- The mark of the first next archive whose profile has both roots and reaches the path, or else the mark that was there.
-abbrev pub mark_from : List NextArchive → Path → Path → Path → Mark → Mark
+abbrev pub mark_from : List NextValue → Path → Path → Path → Mark → Mark
 mark_from [] r s p old = old
-mark_from (n ∷ ns) r s p old = mark_of_next n.profile.now n.next r s p (mark_from ns r s p old)
+mark_from (n ∷ ns) r s p old = mark_of_next n.profile n.next r s p (mark_from ns r s p old)
 
 -- The archive of each pair of different roots has these marks, given those that it had.
 abbrev pub HasMarks : (Path → Path → Path → Mark → Mark) → State → State → Type 0
@@ -56,8 +56,8 @@ abbrev pub is_left : Parts → Option Archive → Path → Path → Bool
 is_left P None r s = false
 is_left P (Some next) r s = has_pair P r s
 
-abbrev pub one_is_left : List NextArchive → Path → Path → Bool
-one_is_left ns r s = list_any (λ n. is_left n.profile.now n.next r s) ns
+abbrev pub one_is_left : List NextValue → Path → Path → Bool
+one_is_left ns r s = list_any (λ n. is_left n.profile n.next r s) ns
 
 -- The archive of a pair of different roots is there exactly if it is left, or was there.
 abbrev pub HasArchives : (Path → Path → Bool) → State → State → Type 0
@@ -70,8 +70,8 @@ KeptIn P O None = Unit {0}
 KeptIn P O (Some next) = (p : Path) → reach P p ≡ false → old_mark_at next p ≡ old_mark_at O p
 
 -- A next archive has the marks of the opening at the paths that the profile doesn't reach.
-abbrev pub KeepsUnreached : NextArchive → Type 0
-KeepsUnreached n = KeptIn n.profile.now n.opening.now n.next
+abbrev pub KeepsUnreached : NextValue → Type 0
+KeepsUnreached n = KeptIn n.profile n.opening n.next
 
-abbrev pub AreKept : List NextArchive → Type 0
-AreKept ns = (k : ℕ) (n : NextArchive) → slice_get ns k ≡ Some n → KeepsUnreached n
+abbrev pub AreKept : List NextValue → Type 0
+AreKept ns = (k : ℕ) (n : NextValue) → slice_get ns k ≡ Some n → KeepsUnreached n

@@ -1,11 +1,10 @@
-pub mod History
 pub mod Settled
 pub mod Owned
 pub mod Together
-pub mod HistoryExamples
 pub mod Promise
 pub mod Simulated
 pub mod Table
+pub mod Next
 pub mod Left
 pub mod Refusals
 pub mod Ended

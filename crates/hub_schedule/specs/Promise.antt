@@ -23,7 +23,7 @@ use Rattle.hub_job.specs.declared.op.Next.TheVariants.{Finished}
 use Rattle.hub_job.specs.Job.{next, is_refused}
 use Rattle.hub_job.specs.World.{alone}
 use Rattle.hub_job.specs.Run.{root_at}
-use Rattle.hub_schedule.specs.History.{replay}
+use Rattle.hub_job.specs.History.{replay}
 use Rattle.hub_schedule.specs.Settled.{IsSettled}
 use Rattle.hub_schedule.specs.Together.{LogsAreAlone, OthersAreLeftAlone, OwnPathsAreAlone, ElsewhereIsAsBefore, SetsAreAllowed}
 use Rattle.hub_job.specs.Outcome.{archive_of, jobs_of, replicas_of, ArchivesAreThere, IsOutcomeWith}

@@ -9,7 +9,7 @@ use Rattle.hub_job.specs.declared.log.Logged.{Logged}
 use Rattle.hub_job.specs.Alike.{Alike}
 use Rattle.hub_job.specs.Run.{Runs}
 use Rattle.hub_job.specs.World.{World, Jobs, log_of, alone, run, opening}
-use Rattle.hub_schedule.specs.History.{replay, IsLegal, Agree}
+use Rattle.hub_job.specs.History.{replay, IsLegal, Agree}
 
 abbrev pub AreProfiles : List Parts → Type 0
 AreProfiles Ps = (j : ℕ) (P : Parts) → slice_get Ps j ≡ Some P → IsProfile P

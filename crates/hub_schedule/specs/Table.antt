@@ -51,8 +51,6 @@ pub record AreTrees (replica : Path → Replica) (trees : List WorkingTree) : Ty
 -- A job of this number, profile and archive, that has asked nothing.
 pub record IsNew (j : ℕ) (P : Parts) (O : Archive) (s : Seat) : Type 0 where
   pub valid : IsProfile P
-  pub profile : s.profile.now ≡ P
-  pub opening : s.opening.now ≡ O
   pub job : s.job ≡ new_job j P O
 
 -- All replicas keep their numbers, and each new one has a root of the profile.
@@ -66,14 +64,12 @@ ArePlaced seats trees = (j : ℕ) (s : Seat) (k : Side) → slice_get seats j �
 
 -- A job of a world: its profile, archive, number and log, and the numbers of its replicas.
 pub record IsSeat (J : Jobs) (w : World) (trees : List WorkingTree) (j : ℕ) (s : Seat) : Type 0 where
-  pub is : slice_get J.profiles j ≡ Some s.profile.now
-  pub valid : IsProfile s.profile.now
-  pub opening : s.opening.now ≡ J.archive j
-  pub profile : s.job.profile ≡ s.profile.now
-  pub archive : s.job.archive ≡ s.opening.now
+  pub is : slice_get J.profiles j ≡ Some s.job.profile
+  pub valid : IsProfile s.job.profile
+  pub archive : s.job.archive ≡ J.archive j
   pub number : s.job.number ≡ j
   pub log : s.job.log ≡ log_of w j
-  pub places : (k : Side) → IsPlaced trees (root_at s.profile.now k) (place_on s k)
+  pub places : (k : Side) → IsPlaced trees (root_at s.job.profile k) (place_on s k)
 
 -- These jobs and replicas are those of a world.
 pub record IsTable (J : Jobs) (w : World) (seats : List Seat) (trees : List WorkingTree) : Type 0 where

@@ -11,7 +11,7 @@ use Rattle.hub_job.specs.declared.log.Entry.{Entry}
 use Rattle.hub_job.specs.declared.log.Logged.{Logged}
 use Rattle.hub_job.specs.declared.op.Op.TheVariants.{Set}
 use Rattle.hub_job.specs.World.{Jobs, run, opening, alone}
-use Rattle.hub_schedule.specs.History.{replay}
+use Rattle.hub_job.specs.History.{replay}
 
 -- What a root's history leaves of its replica.
 abbrev pub left_at : (Path → Replica) → (Path → List Entry) → Path → Replica

@@ -4,7 +4,7 @@ ghost use Rattle.hub_path.specs.Path.{Path};
 ghost use Rattle.hub_profile.specs.Parts.{Parts};
 ghost use Rattle.hub_tree.specs.Tree.{Replica};
 ghost use Rattle.hub_job.specs.Outcome.{IsOutcomeWith};
-ghost use Rattle.hub_schedule.specs.declared.ended.EndedJob.{EndedJob};
+ghost use Rattle.hub_job.specs.JobValue.{JobValue};
 ghost use Rattle.hub_schedule.specs.Ended.{AreEnded, AreSeatsOf, HasPlaces, IsSeatOf, ended_value};
 ghost use Rattle.hub_schedule.specs.Promise.{HasReplicas, logs_in};
 ghost use Rattle.hub_schedule.specs.Table.{IsPlaced};
@@ -14,28 +14,15 @@ use crate::seat::{Seat, WorkingTree};
 use crate::seats::find_tree;
 use hub_job::{Job, Outcome};
 use hub_path::Root;
-use hub_profile::Profile;
 use hub_state::State;
-use hub_tree::Archive;
 use std::alloc::{AllocError, Global};
-
-/// A job that takes no more turns, with what it was made for.
-#[derive(Drop)]
-pub struct EndedJob<'a> {
-    /// The profile.
-    pub profile: &'a Profile,
-    /// The archive of its pair of roots at the opening.
-    pub opening: &'a Archive,
-    /// The job.
-    pub job: Job<'a>,
-}
 
 /// Ends the jobs of profiles, by number, and puts what they leave into a copy of the state: these replicas, and for each
 /// finished job the archive of its pair of roots. `state` stays as it is.
 pub fn outcome_of_jobs<'a>(
     alloc: Global,
     state: &State,
-    jobs: Vec<EndedJob<'a>>,
+    jobs: Vec<Job<'a>>,
     trees: Vec<WorkingTree<'a>>,
 ) -> Result<Outcome, AllocError>
     requires { (Ps : List Parts) × (replica : Path → Replica)
@@ -53,11 +40,11 @@ pub fn outcome_of_jobs<'a>(
 /// Finds the replicas of each job.
 fn seats_of<'a>(
     alloc: Global,
-    jobs: Vec<EndedJob<'a>>,
+    jobs: Vec<Job<'a>>,
     trees: &[WorkingTree<'_>],
 ) -> Result<Vec<Seat<'a>>, AllocError>
-    requires { (j : ℕ) (e : EndedJob) → slice_get jobs.items j ≡ Some e
-        → HasPlaces trees.now e.profile.now }
+    requires { (j : ℕ) (J : JobValue) → slice_get jobs.items j ≡ Some J
+        → HasPlaces trees.now J.profile }
     ensures { IfOk result (λ v. AreSeatsOf trees.now jobs.entry.items v.items) }
 {
     let mut seats = Vec::new(alloc);
@@ -68,25 +55,14 @@ fn seats_of<'a>(
 }
 
 /// Finds the replicas of a job.
-fn seat_of<'a>(job: EndedJob<'a>, trees: &[WorkingTree<'_>]) -> Seat<'a>
-    requires { HasPlaces trees.now job.profile.now }
+fn seat_of<'a>(job: Job<'a>, trees: &[WorkingTree<'_>]) -> Seat<'a>
+    requires { HasPlaces trees.now job.profile }
     ensures { IsSeatOf trees.now job.entry result }
 {
-    let EndedJob {
-        profile,
-        opening,
-        job,
-    } = job;
-    let roots = profile.roots();
+    let roots = job.profile().roots();
     let left = place_of(trees, &roots[0]);
     let right = place_of(trees, &roots[1]);
-    Seat {
-        profile,
-        opening,
-        job,
-        left,
-        right,
-    }
+    Seat { job, left, right }
 }
 
 /// Returns the number of a root's replica, which is there.

@@ -16,6 +16,7 @@ use hub_state::State;
 use hub_text::Items;
 use hub_tree::Archive;
 use std::alloc::{AllocError, Global};
+use std::marker::Model;
 
 /// What a job leaves to the archive of its pair of roots.
 #[derive(Drop)]
@@ -26,6 +27,22 @@ pub(crate) struct NextArchive<'a> {
     pub(crate) opening: &'a Archive,
     /// The next archive, if the job is finished.
     pub(crate) next: Option<Archive>,
+}
+
+impl<'a> Model for NextArchive<'a> {
+    ghost use Rattle.std.specs.Coded.{codes};
+    ghost use Rattle.hub_job.specs.Coded.{coded_archive};
+    ghost use Rattle.hub_schedule.specs.Next.{NextValue};
+
+    ghost Value = { NextValue };
+
+    ghost coded = { Prim.hlevel (codes, coded_archive) };
+
+    ghost view = { λ n. record {
+      profile = n.profile.now;
+      opening = n.opening.now;
+      next = n.next;
+    } };
 }
 
 /// Ends the jobs, in their order.
@@ -39,13 +56,9 @@ pub(crate) fn end_jobs<'a>(
     let mut ends = Vec::new(alloc);
     let mut nexts = Vec::new(alloc);
     for seat in seats {
-        let Seat {
-            profile,
-            opening,
-            job,
-            left: _,
-            right: _,
-        } = seat;
+        let Seat { job, .. } = seat;
+        let profile = job.profile();
+        let opening = job.archive();
         let (end, next) = job.end()?;
         ends.push(end)?;
         nexts.push(NextArchive {
@@ -93,9 +106,9 @@ fn put_next(alloc: Global, state: &mut State, job: NextArchive<'_>) -> Result<()
     requires { spec.KeepsUnreached job }
     ensures replicas { OnOk result (state.new.replicas ≡ state.old.replicas) }
     ensures archives { OnOk result (spec.HasArchives
-        (spec.is_left job.entry.profile.now job.entry.next) state.old state.new) }
+        (spec.is_left job.entry.profile job.entry.next) state.old state.new) }
     ensures marks { OnOk result (spec.HasMarks
-        (spec.mark_of_next job.entry.profile.now job.entry.next) state.old state.new) }
+        (spec.mark_of_next job.entry.profile job.entry.next) state.old state.new) }
 {
     let NextArchive {
         profile,

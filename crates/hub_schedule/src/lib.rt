@@ -16,7 +16,7 @@ mod seats;
 pub mod together;
 mod turn;
 
-pub use ended::{EndedJob, outcome_of_jobs};
+pub use ended::outcome_of_jobs;
 pub use refusals::find_missing;
 pub use rounds::{rounds_for, run_rounds};
 pub use safe::simulate;

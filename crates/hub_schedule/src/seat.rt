@@ -3,8 +3,7 @@ ghost use Rattle.hub_schedule.specs.Table.{place_on};
 
 use hub_job::Job;
 use hub_path::{Root, Side};
-use hub_profile::Profile;
-use hub_tree::{Archive, Tree};
+use hub_tree::Tree;
 
 /// A replica that jobs change.
 #[derive(Drop)]
@@ -18,10 +17,6 @@ pub struct WorkingTree<'a> {
 /// A job among others.
 #[derive(Drop)]
 pub(crate) struct Seat<'a> {
-    /// The profile of the job.
-    pub(crate) profile: &'a Profile,
-    /// The archive of its pair of roots at the opening.
-    pub(crate) opening: &'a Archive,
     /// The job.
     pub(crate) job: Job<'a>,
     /// The number of its left replica in the list of replicas.

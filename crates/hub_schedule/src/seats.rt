@@ -61,14 +61,8 @@ fn seat_for<'a>(
     let roots = profile.roots();
     let left = place_for(alloc, state, &roots[0], trees)?;
     let right = place_for(alloc, state, &roots[1], trees)?;
-    let opening = opening_of(profile, state, empty);
-    Ok(Seat {
-        profile,
-        opening,
-        job: Job::new(alloc, number, profile, opening)?,
-        left,
-        right,
-    })
+    let job = Job::new(alloc, number, profile, opening_of(profile, state, empty))?;
+    Ok(Seat { job, left, right })
 }
 
 /// Returns the number of a root's replica, and makes a working copy of it first, unless it is there.

@@ -11,7 +11,7 @@ ghost use Rattle.hub_tree.specs.declared.contents.Contents.{Contents};
 ghost use Rattle.hub_job.specs.declared.log.Entry.{Entry};
 ghost use Rattle.hub_job.specs.declared.log.Logged.{Logged};
 ghost use Rattle.hub_job.specs.declared.op.Op.TheVariants.{Set};
-ghost use Rattle.hub_schedule.specs.History.{replay};
+ghost use Rattle.hub_job.specs.History.{replay};
 ghost use Rattle.hub_schedule.specs.Owned.{IsItsOwn, NobodyWrites};
 ghost use Rattle.hub_job.specs.Same.{AreApart};
 ghost use Rattle.hub_schedule.specs.Settled.{AreProfiles, IsSettled, IsAsAlone, IsSettledWorld};

@@ -115,10 +115,16 @@ fn answer(alloc: Global, seat: &mut Seat<'_>, replica: &mut WorkingTree<'_>, sid
     ensures made { seat.new.job.stopped ≡ false
         → (seat.new ≡ with_job seat.old (value.with_answer seat.old.job
         (record { side = side; op = op.now })
-        (machine.answer replica.old.tree seat.old.profile.now replica.old.root.now op.now)))
+        (machine.answer replica.old.tree seat.old.job.profile replica.old.root.now op.now)))
         × (replica.new ≡ with_tree replica.old (machine.after replica.old.tree op.now)) }
 {
-    match perform(alloc, seat.profile, replica.root, &mut replica.tree, op) {
+    match perform(
+        alloc,
+        seat.job.profile(),
+        replica.root,
+        &mut replica.tree,
+        op,
+    ) {
         Ok(answer) => seat.job.take(answer),
         Err(AllocError) => seat.job.stop(),
     }

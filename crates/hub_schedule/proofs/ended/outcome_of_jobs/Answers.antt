@@ -1,6 +1,6 @@
 use Rattle.std.proofs.Common.{◌≡◌, ℕ, List, Some, slice_get, sym, subst}
 use Rattle.hub_job.specs.Outcome.{jobs_of}
-use Rattle.hub_schedule.specs.declared.ended.EndedJob.{EndedJob}
+use Rattle.hub_job.specs.JobValue.{JobValue}
 use Rattle.hub_schedule.specs.declared.seat.WorkingTree.{WorkingTree}
 use Rattle.hub_schedule.specs.Ended.{AreSeatsOf, HasPlaces}
 use Rattle.hub_schedule.proofs.EndedJobs.{ends_for, have_places, outcome_for, stands_for, world_of}
@@ -9,7 +9,7 @@ use Rattle.hub_schedule.proofs.ended.outcome_of_jobs.Goals as goal
 pub seats_of-requires : goal.seats_of-requires
 seats_of-requires c =
     let r = c.requires in
-    subst (λ (ts : List WorkingTree). (j : ℕ) (e : EndedJob) → slice_get c.args.jobs.items j ≡ Some e → HasPlaces ts e.profile.now) (sym c.as_slice.ensures.value)
+    subst (λ (ts : List WorkingTree). (j : ℕ) (J : JobValue) → slice_get c.args.jobs.items j ≡ Some J → HasPlaces ts J.profile) (sym c.as_slice.ensures.value)
     (have_places c.args.state.now r.0 r.1 c.args.jobs.items c.args.trees.items r.2)
 
 pub outcome_of-requires : goal.outcome_of-requires

@@ -1,5 +1,7 @@
-use Rattle.std.proofs.Common.{refl, sym, ◌∙◌, subst}
+use Rattle.std.proofs.Common.{refl, ap, sym, ◌∙◌, subst}
 use Rattle.hub_path.specs.declared.side.Side.TheVariants.{Left, Right}
+use Rattle.hub_profile.specs.Parts.{Parts, IsProfile}
+use Rattle.hub_job.specs.Run.{root_at}
 use Rattle.hub_schedule.specs.declared.seat.Seat.{Seat}
 use Rattle.hub_schedule.specs.Table.{IsPlaced}
 use Rattle.hub_schedule.proofs.EndedJobs.{on_both_sides}
@@ -9,26 +11,42 @@ use Rattle.hub_schedule.proofs.ended.seat_of.Goals as goal
 pub place_of-left-requires : goal.place_of-left-requires
 place_of-left-requires c =
     let p = c.requires Left in
-    (p.0, (p.1.0, p.1.1, p.1.2 ∙ sym (left_is c.args.job.profile.now c.roots-roots.ensures.valid c.roots-roots.result.now c.roots-roots.ensures.value c.index-roots-0.result)))
+    let P = c.profile.result.now in (
+      p.0,
+      (
+        p.1.0,
+        p.1.1,
+        p.1.2 ∙ (ap (λ (Q : Parts). root_at Q Left) (sym c.profile.ensures)
+            ∙ sym (left_is P c.roots-roots.ensures.valid c.roots-roots.result.now c.roots-roots.ensures.value c.index-roots-0.result)),
+      ),
+    )
 
 pub place_of-right-requires : goal.place_of-right-requires
 place_of-right-requires c =
     let p = c.requires Right in
-    (p.0, (p.1.0, p.1.1, p.1.2 ∙ sym (right_is c.args.job.profile.now c.roots-roots.ensures.valid c.roots-roots.result.now c.roots-roots.ensures.value c.index-roots-1.result)))
+    let P = c.profile.result.now in (
+      p.0,
+      (
+        p.1.0,
+        p.1.1,
+        p.1.2 ∙ (ap (λ (Q : Parts). root_at Q Right) (sym c.profile.ensures)
+            ∙ sym (right_is P c.roots-roots.ensures.valid c.roots-roots.result.now c.roots-roots.ensures.value c.index-roots-1.result)),
+      ),
+    )
 
 pub returns : goal.returns
 returns c =
-    let P = c.args.job.profile.now in
+    let P = c.profile.result.now in
     let rs = c.roots-roots.result.now in
     let facts = c.roots-roots.ensures.valid in
     let is = c.roots-roots.ensures.value in
-    let s : Seat = record { profile = c.args.job.profile; opening = c.args.job.opening; job = c.args.job.job; left = c.place_of-left.result; right = c.place_of-right.result } in
+    let s : Seat = record { job = c.args.job; left = c.place_of-left.result; right = c.place_of-right.result } in
+    let left = left_is P facts rs is c.index-roots-0.result ∙ ap (λ (Q : Parts). root_at Q Left) c.profile.ensures in
+    let right = right_is P facts rs is c.index-roots-1.result ∙ ap (λ (Q : Parts). root_at Q Right) c.profile.ensures in
     record {
-      valid = facts;
-      profile = refl;
-      opening = refl;
+      valid = subst IsProfile c.profile.ensures facts;
       job = refl;
-      places = on_both_sides c.args.trees.now P s
-          (subst (λ r. IsPlaced c.args.trees.now r c.place_of-left.result) (left_is P facts rs is c.index-roots-0.result) c.place_of-left.ensures)
-          (subst (λ r. IsPlaced c.args.trees.now r c.place_of-right.result) (right_is P facts rs is c.index-roots-1.result) c.place_of-right.ensures);
+      places = on_both_sides c.args.trees.now c.args.job.profile s
+          (subst (λ r. IsPlaced c.args.trees.now r c.place_of-left.result) left c.place_of-left.ensures)
+          (subst (λ r. IsPlaced c.args.trees.now r c.place_of-right.result) right c.place_of-right.ensures);
     }

@@ -1,6 +1,6 @@
 use Rattle.std.proofs.Common.{rules, sym, ◌∙◌, subst}
 use Rattle.std.specs.Prelude.{IsTrue, slice_get}
-use Rattle.hub_schedule.specs.History.{IsAnswerOf}
+use Rattle.hub_job.specs.History.{IsAnswerOf}
 use Rattle.hub_history.specs.Book.{BookValue, entry_of, has_job}
 use Rattle.hub_history.proofs.Pushed.{answer_at, nothing_changed, pushed}
 use Rattle.hub_history.proofs.book.Book.apply.Goals as goal

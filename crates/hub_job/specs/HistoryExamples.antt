@@ -24,7 +24,7 @@ use Rattle.hub_glob.specs.Glob.{matches}
 use Rattle.hub_reach.specs.Reach.{reach}
 use Rattle.hub_reconcile.specs.Sight.{sight}
 use Rattle.hub_job.specs.Machine.{answer, after, changed_unless}
-use Rattle.hub_schedule.specs.History.{replay, IsLegal, entries_of, entries_at}
+use Rattle.hub_job.specs.History.{replay, IsLegal, entries_of, entries_at}
 
 -- What these examples compute.
 computed : ⊤

@@ -14,6 +14,7 @@ use Rattle.hub_tree.specs.contracts.tree.Tree as Tree
 use Rattle.hub_job.proofs.log.Entry.TheSendSync as entry
 use Rattle.hub_history.specs.contracts.book.Book as Book
 use Rattle.hub_history.specs.contracts.desk.Desk as Desk
+use Rattle.hub_runner.specs.contracts.desks.Desks as Desks
 
 node_send : IsSend Node.the_row
 node_send = search (knot.both_send-Node, sendable, values.crosses, maps.crosses, name.the_send, name.the_sync, blob.the_send, blob.the_sync) depth 60
@@ -30,4 +31,7 @@ book_send κ = search (sendable, values.crosses, maps.crosses, tree_send, root.t
 pub desk_sync : (κ : NamedLft) → IsSync (Desk.the_row κ)
 desk_sync κ = search (sendable, values.crosses, maps.crosses, book_send) depth 60
 
-pub ruleset crosses = (sendable, values.crosses, maps.crosses, desk_sync, profile.the_sync)
+pub desks_sync : (κ : NamedLft) → IsSync (Desks.the_row κ)
+desks_sync κ = search (sendable, values.crosses, maps.crosses, desk_sync) depth 60
+
+pub ruleset crosses = (sendable, values.crosses, maps.crosses, desk_sync, desks_sync)

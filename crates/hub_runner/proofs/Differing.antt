@@ -10,7 +10,7 @@ use Rattle.hub_state.specs.State.{State}
 use Rattle.hub_job.specs.declared.log.Entry.{Entry}
 use Rattle.hub_job.specs.JobValue.{JobValue}
 use Rattle.hub_history.specs.Book.{BookValue}
-use Rattle.hub_schedule.specs.History.{entries_of, entries_at}
+use Rattle.hub_job.specs.History.{entries_of, entries_at}
 use Rattle.hub_runner.specs.Settling.{IsRight, IsWrong, books_at, history_at, history_or_none, log_at, places_at}
 use Rattle.hub_runner.proofs.Firsts.{IsFirst}
 use Rattle.hub_runner.proofs.JobPlaces.{Place, RightUpTo, first_book, first_job, right_at_root, right_book, right_job}

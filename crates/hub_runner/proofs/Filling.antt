@@ -6,9 +6,8 @@ use Rattle.std.proofs.lemmas.List.{length-map}
 use Rattle.std.proofs.lemmas.Option.{slice_get_within}
 use Rattle.hub_job.specs.JobValue.{JobValue}
 use Rattle.hub_job.specs.Run.{Runs}
-use Rattle.hub_schedule.specs.declared.ended.EndedJob.{EndedJob}
 use Rattle.hub_schedule.proofs.Opened.{get_front, get_last}
-use Rattle.hub_runner.specs.Ordered.{AreInOrder, AreNumbered, IsEndedOf}
+use Rattle.hub_runner.specs.Ordered.{AreInOrder, AreNumbered, IsJobOf}
 use Rattle.hub_runner.specs.Slots.{AreFull, empty, filled}
 use Rattle.hub_runner.proofs.Lists.{map_at, one_value}
 
@@ -31,21 +30,21 @@ push_cases [] x (suc k) y e = cc
 push_cases (z ∷ xs) x zero y e = inl e
 push_cases (z ∷ xs) x (suc k) y e = push_cases xs x k y e
 
-empty_slot : (n j : ℕ) (e : EndedJob) → slice_get (empty n) j ≡ Some (Some e) → ⊥
+empty_slot : (n j : ℕ) (e : JobValue) → slice_get (empty n) j ≡ Some (Some e) → ⊥
 empty_slot zero j e h = cc
 empty_slot (suc n) zero e h = cc
 empty_slot (suc n) (suc j) e h = empty_slot n j e h
 
 -- Each slot has a job of its number; each of the first jobs has one in its slot.
-pub record IsFilling (n : ℕ) (front : List JobValue) (slots : List (Option EndedJob)) : Type 0 where
+pub record IsFilling (n : ℕ) (front : List JobValue) (slots : List (Option JobValue)) : Type 0 where
   pub count : length slots ≡ n
-  pub each : (j : ℕ) (e : EndedJob) → slice_get slots j ≡ Some (Some e) → IsEndedOf front e × (e.job.number ≡ j)
-  pub full : (k : ℕ) (J : JobValue) → slice_get front k ≡ Some J → (e : EndedJob) × (slice_get slots J.number ≡ Some (Some e))
+  pub each : (j : ℕ) (e : JobValue) → slice_get slots j ≡ Some (Some e) → IsJobOf front e × (e.number ≡ j)
+  pub full : (k : ℕ) (J : JobValue) → slice_get front k ≡ Some J → (e : JobValue) × (slice_get slots J.number ≡ Some (Some e))
 
 no_job : (k : ℕ) (J : JobValue) → slice_get [] k ≡ Some J → ⊥
 no_job k J e = cc
 
-pub none_filled : (n : ℕ) (slots : List (Option EndedJob)) → slots ≡ empty n → length slots ≡ n → IsFilling n [] slots
+pub none_filled : (n : ℕ) (slots : List (Option JobValue)) → slots ≡ empty n → length slots ≡ n → IsFilling n [] slots
 none_filled n slots e count = record {
   count = count;
   each = λ j x h. absurd (empty_slot n j x (sym (ap (λ ss. slice_get ss j) e) ∙ h));
@@ -53,60 +52,48 @@ none_filled n slots e count = record {
 }
 
 -- One job more.
-later : (front : List JobValue) (J : JobValue) (e : EndedJob) → IsEndedOf front e → IsEndedOf (front ++ J ∷ []) e
-later front J e of = record {
-  place = of.place;
-  there = get_front front (J ∷ []) of.place e.job of.there;
-  profile = of.profile;
-  opening = of.opening;
-  run = of.run;
-}
+later : (front : List JobValue) (J e : JobValue) → IsJobOf front e → IsJobOf (front ++ J ∷ []) e
+later front J e of = record { place = of.place; there = get_front front (J ∷ []) of.place e of.there; run = of.run }
 
-pub ended_last : (front : List JobValue) (J : JobValue) (e : EndedJob) → e.job ≡ J → e.profile.now ≡ J.profile → e.opening.now ≡ J.archive → Runs J.profile J.archive J.number [] J.log → IsEndedOf (front ++ J ∷ []) e
-ended_last front J e is profile opening run = record {
-  place = length front;
-  there = get_last front J ∙ ap (λ (K : JobValue). Some K) (sym is);
-  profile = profile ∙ ap (λ (K : JobValue). K.profile) (sym is);
-  opening = opening ∙ ap (λ (K : JobValue). K.archive) (sym is);
-  run = subst (λ (K : JobValue). Runs K.profile K.archive K.number [] K.log) (sym is) run;
-}
+pub job_last : (front : List JobValue) (J : JobValue) → Runs J.profile J.archive J.number [] J.log → IsJobOf (front ++ J ∷ []) J
+job_last front J run = record { place = length front; there = get_last front J; run = run }
 
-module _ (n : ℕ) (front : List JobValue) (slots : List (Option EndedJob)) (filling : IsFilling n front slots) (J : JobValue) (e : EndedJob) (is : e.job ≡ J) (of : IsEndedOf (front ++ J ∷ []) e) (within : J.number < n) where
-  abbrev more : List (Option EndedJob)
-  more = slice_set slots J.number (Some e)
+module _ (n : ℕ) (front : List JobValue) (slots : List (Option JobValue)) (filling : IsFilling n front slots) (J : JobValue) (of : IsJobOf (front ++ J ∷ []) J) (within : J.number < n) where
+  abbrev more : List (Option JobValue)
+  more = slice_set slots J.number (Some J)
 
   inside : J.number < length slots
   inside = let c = filling.count in omega (arith, c, within)
 
-  each_more : (j : ℕ) (x : EndedJob) → slice_get more j ≡ Some (Some x) → IsEndedOf (front ++ J ∷ []) x × (x.job.number ≡ j)
+  each_more : (j : ℕ) (x : JobValue) → slice_get more j ≡ Some (Some x) → IsJobOf (front ++ J ∷ []) x × (x.number ≡ j)
   each_more j x h =
       elim (cases_eq j J.number) [
         | inl same ↦
-            let there = sym (put_here slots J.number (Some e) inside) ∙ (ap (slice_get more) (sym same) ∙ h) in
-            let one : e ≡ x = one_value e x (one_value (Some e) (Some x) there) in
-            subst (λ (y : EndedJob). IsEndedOf (front ++ J ∷ []) y × (y.job.number ≡ j)) one (of, ap (λ (K : JobValue). K.number) is ∙ sym same)
-        | inr other ↦ let w = filling.each j x (sym (put_other slots j J.number (Some e) other) ∙ h) in (later front J x w.0, w.1)
+            let there = sym (put_here slots J.number (Some J) inside) ∙ (ap (slice_get more) (sym same) ∙ h) in
+            let one : J ≡ x = one_value J x (one_value (Some J) (Some x) there) in
+            subst (λ (y : JobValue). IsJobOf (front ++ J ∷ []) y × (y.number ≡ j)) one (of, sym same)
+        | inr other ↦ let w = filling.each j x (sym (put_other slots j J.number (Some J) other) ∙ h) in (later front J x w.0, w.1)
       ]
 
-  still_full : (K : JobValue) → (x : EndedJob) × (slice_get slots K.number ≡ Some (Some x)) → (x : EndedJob) × (slice_get more K.number ≡ Some (Some x))
+  still_full : (K : JobValue) → (x : JobValue) × (slice_get slots K.number ≡ Some (Some x)) → (x : JobValue) × (slice_get more K.number ≡ Some (Some x))
   still_full K w =
       elim (cases_eq K.number J.number) [
-        | inl same ↦ (e, ap (slice_get more) same ∙ put_here slots J.number (Some e) inside)
-        | inr other ↦ (w.0, put_other slots K.number J.number (Some e) other ∙ w.1)
+        | inl same ↦ (J, ap (slice_get more) same ∙ put_here slots J.number (Some J) inside)
+        | inr other ↦ (w.0, put_other slots K.number J.number (Some J) other ∙ w.1)
       ]
 
-  full_more : (k : ℕ) (K : JobValue) → slice_get (front ++ J ∷ []) k ≡ Some K → (x : EndedJob) × (slice_get more K.number ≡ Some (Some x))
+  full_more : (k : ℕ) (K : JobValue) → slice_get (front ++ J ∷ []) k ≡ Some K → (x : JobValue) × (slice_get more K.number ≡ Some (Some x))
   full_more k K h =
       elim (push_cases front J k K h) [
         | inl old ↦ still_full K (filling.full k K old)
-        | inr new ↦ (e, ap (λ (L : JobValue). slice_get more L.number) (sym new) ∙ put_here slots J.number (Some e) inside)
+        | inr new ↦ (J, ap (λ (L : JobValue). slice_get more L.number) (sym new) ∙ put_here slots J.number (Some J) inside)
       ]
 
   pub filled_more : IsFilling n (front ++ J ∷ []) more
-  filled_more = record { count = length-set slots J.number (Some e) ∙ filling.count; each = each_more; full = full_more }
+  filled_more = record { count = length-set slots J.number (Some J) ∙ filling.count; each = each_more; full = full_more }
 
 -- All are in their slots.
-pub all_full : (n : ℕ) (jobs : List JobValue) (slots : List (Option EndedJob)) → AreNumbered n jobs → IsFilling n jobs slots → AreFull slots
+pub all_full : (n : ℕ) (jobs : List JobValue) (slots : List (Option JobValue)) → AreNumbered n jobs → IsFilling n jobs slots → AreFull slots
 all_full n jobs slots numbered filling = λ j o at.
     let count = filling.count in
     let h = slice_get_within slots j o at in
@@ -114,7 +101,7 @@ all_full n jobs slots numbered filling = λ j o at.
     let there = filling.full has.0 has.1 has.2 in
     (there.0, one_value o (Some there.0) (sym at ∙ (ap (slice_get slots) (sym has.3) ∙ there.1)))
 
-pub in_order : (n : ℕ) (jobs : List JobValue) (slots : List (Option EndedJob)) (ended : List EndedJob) → IsFilling n jobs slots → slots ≡ filled ended → AreInOrder n jobs ended
+pub in_order : (n : ℕ) (jobs : List JobValue) (slots : List (Option JobValue)) (ended : List JobValue) → IsFilling n jobs slots → slots ≡ filled ended → AreInOrder n jobs ended
 in_order n jobs slots ended filling e = record {
   each = λ j x at. filling.each j x (ap (λ ss. slice_get ss j) e ∙ map_at (λ y. Some y) ended j x at);
   count = sym (length-map ended (λ y. Some y)) ∙ (ap length (sym e) ∙ filling.count);

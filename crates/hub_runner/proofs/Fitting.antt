@@ -17,10 +17,9 @@ use Rattle.hub_job.specs.Outcome.{archive_of, jobs_of, replicas_of, IsOutcomeWit
 use Rattle.hub_job.specs.Run.{Runs, root_at}
 use Rattle.hub_job.proofs.Blind.{same_path, path_itself}
 use Rattle.hub_history.specs.Book.{BookValue, IsBook}
-use Rattle.hub_schedule.specs.declared.ended.EndedJob.{EndedJob}
 use Rattle.hub_schedule.specs.declared.seat.WorkingTree.{WorkingTree}
 use Rattle.hub_schedule.specs.Ended.{AreEnded, IsEnded, ended_value}
-use Rattle.hub_schedule.specs.History.{replay, entries_at, IsLegal, Agree}
+use Rattle.hub_job.specs.History.{replay, entries_at, IsLegal, Agree}
 use Rattle.hub_schedule.specs.Promise.{HasReplicas, Settles, log_or_none, logs_in}
 use Rattle.hub_schedule.specs.Refusals.{first_missing}
 use Rattle.hub_schedule.specs.Settled.{AreProfiles, IsSettled}
@@ -76,26 +75,19 @@ module _ (S : State) (Ps : List Parts) (jobs : List JobValue) (due : AreDue S Ps
       ap log_or_nothing (found_first (has_number j) jobs ∙ ap (λ Js. slice_get Js 0) one.1)
       ∙ ap (λ (K : JobValue). K.log) is
 
-  module _ (ended : List EndedJob) (order : AreInOrder (length Ps) jobs ended) where
-    is_ended : (j : ℕ) (e : EndedJob) → slice_get ended j ≡ Some e → IsEnded S Ps j e
+  module _ (ended : List JobValue) (order : AreInOrder (length Ps) jobs ended) where
+    is_ended : (j : ℕ) (e : JobValue) → slice_get ended j ≡ Some e → IsEnded S Ps j e
     is_ended j e at =
         let w = order.each j e at in
-        let made = due.0 w.0.place e.job w.0.there in
-        let own : e.job.profile ≡ e.profile.now = sym w.0.profile in
-        record {
-          is = ap (slice_get Ps) (sym w.1) ∙ (made.0 ∙ ap (λ (P : Parts). Some P) own);
-          opening = w.0.opening ∙ (made.1 ∙ ap (λ (P : Parts). archive_of S (Some P)) own);
-          profile = own;
-          archive = sym w.0.opening;
-          number = w.1;
-        }
+        let made = due.0 w.0.place e w.0.there in
+        record { is = ap (slice_get Ps) (sym w.1) ∙ made.0; archive = made.1; number = w.1 }
 
-    pub ended_there : (j : ℕ) (P : Parts) → slice_get Ps j ≡ Some P → (e : EndedJob) × (slice_get ended j ≡ Some e)
+    pub ended_there : (j : ℕ) (P : Parts) → slice_get Ps j ≡ Some P → (e : JobValue) × (slice_get ended j ≡ Some e)
     ended_there j P at = as_long ended Ps j P order.count at
 
     -- What is told of a job's end holds of the job that has its number.
     module _ (o : Outcome) (ends : o.jobs ≡ map ended_value ended) where
-      log_in : (j : ℕ) (e : EndedJob) → slice_get ended j ≡ Some e → logs_in o j ≡ e.job.log
+      log_in : (j : ℕ) (e : JobValue) → slice_get ended j ≡ Some e → logs_in o j ≡ e.log
       log_in j e at = ap (λ es. log_or_none (slice_get es j)) ends ∙ ap log_or_none (map_at ended_value ended j e at)
 
       pub end_as_they_are : EndAsTheyAre jobs o
@@ -104,7 +96,7 @@ module _ (S : State) (Ps : List Parts) (jobs : List JobValue) (due : AreDue S Ps
           let there = due.0 k J at in
           let one = ended_there J.number J.profile there.0 in
           let w = order.each J.number one.0 one.1 in
-          let same : one.0.job ≡ J = same_job w.0.place k one.0.job J w.0.there at w.1 in
+          let same : one.0 ≡ J = same_job w.0.place k one.0 J w.0.there at w.1 in
           ap (λ es. slice_get es J.number) ends ∙ (map_at ended_value ended J.number one.0 one.1 ∙ ap (λ (K : JobValue). Some (end_value K)) same)
 
       runs : (j : ℕ) (P : Parts) → slice_get Ps j ≡ Some P → Runs P (archive_of S (slice_get Ps j)) j [] (logs_in o j)
@@ -113,18 +105,18 @@ module _ (S : State) (Ps : List Parts) (jobs : List JobValue) (due : AreDue S Ps
           let e = one.0 in
           let w = order.each j e one.1 in
           let is = is_ended j e one.1 in
-          let own : e.job.profile ≡ P = is.profile ∙ one_value e.profile.now P (sym is.is ∙ at) in
-          let archive : e.job.archive ≡ archive_of S (slice_get Ps j) = is.archive ∙ (is.opening ∙ ap (archive_of S) (sym is.is)) in
+          let own : e.profile ≡ P = one_value e.profile P (sym is.is ∙ at) in
+          let archive : e.archive ≡ archive_of S (slice_get Ps j) = is.archive ∙ ap (archive_of S) (sym is.is) in
           subst (λ log. Runs P (archive_of S (slice_get Ps j)) j [] log) (sym (log_in j e one.1))
-          (subst (λ n. Runs P (archive_of S (slice_get Ps j)) n [] e.job.log) w.1
-          (subst (λ O. Runs P O e.job.number [] e.job.log) archive
-          (subst (λ Q. Runs Q e.job.archive e.job.number [] e.job.log) own w.0.run)))
+          (subst (λ n. Runs P (archive_of S (slice_get Ps j)) n [] e.log) w.1
+          (subst (λ O. Runs P O e.number [] e.log) archive
+          (subst (λ Q. Runs Q e.archive e.number [] e.log) own w.0.run)))
 
       pub log_at_is : (j : ℕ) (P : Parts) → slice_get Ps j ≡ Some P → log_at jobs j ≡ logs_in o j
       log_at_is j P at =
           let one = ended_there j P at in
           let w = order.each j one.0 one.1 in
-          ap (log_at jobs) (sym w.1) ∙ (log_is w.0.place one.0.job w.0.there ∙ sym (log_in j one.0 one.1))
+          ap (log_at jobs) (sym w.1) ∙ (log_is w.0.place one.0 w.0.there ∙ sym (log_in j one.0 one.1))
 
 -- The books, each by its root.
 module _ (S : State) (Ps : List Parts) (books : List BookValue) (jobs : List JobValue) (right : All (IsRight S Ps books jobs) (places Ps)) where
@@ -227,7 +219,7 @@ module _ (S : State) (Ps : List Parts) (books : List BookValue) (jobs : List Job
         (subst (λ Qs. IsLegal Qs B.root B.opening B.history) b.1.opens.0 book.legal)))
 
     -- They fit together with the jobs.
-    module _ (due : AreDue S Ps jobs) (ended : List EndedJob) (order : AreInOrder (length Ps) jobs ended) (facts : AreProfiles Ps) where
+    module _ (due : AreDue S Ps jobs) (ended : List JobValue) (order : AreInOrder (length Ps) jobs ended) (facts : AreProfiles Ps) where
       pub are_ended : AreEnded S Ps left ended trees
       are_ended = record {
         each = is_ended S Ps jobs due ended order;
@@ -250,7 +242,7 @@ module _ (S : State) (Ps : List Parts) (books : List BookValue) (jobs : List Job
         settles is = record { settled = are_settled; outcome = is }
 
     -- What is told of an outcome that there may be.
-    module _ (E : Type 0) (there : first_missing S Ps ≡ None) (due : AreDue S Ps jobs) (ended : List EndedJob) (order : AreInOrder (length Ps) jobs ended) (facts : AreProfiles Ps) where
+    module _ (E : Type 0) (there : first_missing S Ps ≡ None) (due : AreDue S Ps jobs) (ended : List JobValue) (order : AreInOrder (length Ps) jobs ended) (facts : AreProfiles Ps) where
       pub settled_for : (r : Result Outcome E) → IfOk r (λ o. (Qs : List Parts) (replica : Path → Replica) → HasReplicas S Qs → AreEnded S Qs replica ended trees → IsOutcomeWith S Qs (logs_in o) replica o)
           → IfOk r (λ o. o.jobs ≡ map ended_value ended) → IfOk r (Settles S Ps (history_at books))
       settled_for (Ok o) outcome ends = settles due ended order facts o ends (outcome Ps left (have_replicas S Ps there) (are_ended due ended order facts))
@@ -261,7 +253,7 @@ module _ (S : State) (Ps : List Parts) (books : List BookValue) (jobs : List Job
       ends_for (Err e) ends = tt
 
 -- The same, where Qs are the profiles as the program reads them.
-module _ (S : State) {Qs Ps : List Parts} (value : Qs ≡ Ps) (books : List BookValue) (jobs : List JobValue) (compared : AreCompared S Ps books jobs) (facts : AreProfiles Ps) {trees : List WorkingTree} (are : AreTreesOf Qs books trees) {ended : List EndedJob} (order : AreInOrder (length Qs) jobs ended) where
+module _ (S : State) {Qs Ps : List Parts} (value : Qs ≡ Ps) (books : List BookValue) (jobs : List JobValue) (compared : AreCompared S Ps books jobs) (facts : AreProfiles Ps) {trees : List WorkingTree} (are : AreTreesOf Qs books trees) {ended : List JobValue} (order : AreInOrder (length Qs) jobs ended) where
   their_trees : AreTreesOf Ps books trees
   their_trees = subst (λ (Rs : List Parts). AreTreesOf Rs books trees) value are
 

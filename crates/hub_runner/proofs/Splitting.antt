@@ -8,7 +8,7 @@ use Rattle.std.proofs.lemmas.List.{append-nil, length-replicate, length-set, get
 use Rattle.std.proofs.lemmas.List.Elements.{filter-append}
 use Rattle.std.proofs.lemmas.List.FromFn.{fill_by_all, get_or-map-range_with_len, length-map-range_with_len}
 use Rattle.hub_job.specs.declared.log.Entry.{Entry}
-use Rattle.hub_schedule.specs.History.{entries_of}
+use Rattle.hub_job.specs.History.{entries_of}
 
 -- The entries of each of the first n jobs.
 abbrev pub by_job : ℕ → List Entry → List (List Entry)

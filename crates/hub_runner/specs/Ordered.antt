@@ -8,7 +8,6 @@ use Rattle.hub_tree.specs.Tree.{Replica}
 use Rattle.hub_job.specs.JobValue.{JobValue}
 use Rattle.hub_job.specs.Run.{Runs}
 use Rattle.hub_history.specs.Book.{BookValue, IsBook}
-use Rattle.hub_schedule.specs.declared.ended.EndedJob.{EndedJob}
 use Rattle.hub_schedule.specs.declared.seat.WorkingTree.{WorkingTree}
 
 -- A root and its replica.
@@ -27,18 +26,16 @@ pub record AreTreesOf (Ps : List Parts) (books : List BookValue) (trees : List W
   pub values : map of_tree trees ≡ map of_book (filter (is_due Ps) books)
   pub legal : All IsBook (filter (is_due Ps) books)
 
--- A job of a list, with what it was made for.
-pub record IsEndedOf (jobs : List JobValue) (e : EndedJob) : Type 0 where
+-- A job of a list, whose log is a run.
+pub record IsJobOf (jobs : List JobValue) (J : JobValue) : Type 0 where
   pub place : ℕ
-  pub there : slice_get jobs place ≡ Some e.job
-  pub profile : e.profile.now ≡ e.job.profile
-  pub opening : e.opening.now ≡ e.job.archive
-  pub run : Runs e.job.profile e.job.archive e.job.number [] e.job.log
+  pub there : slice_get jobs place ≡ Some J
+  pub run : Runs J.profile J.archive J.number [] J.log
 
 -- The jobs of the first n numbers, in order.
-pub record AreInOrder (n : ℕ) (jobs : List JobValue) (ended : List EndedJob) : Type 0 where
-  pub each : (j : ℕ) (e : EndedJob) → slice_get ended j ≡ Some e → IsEndedOf jobs e × (e.job.number ≡ j)
-  pub count : length ended ≡ n
+pub record AreInOrder (n : ℕ) (jobs ordered : List JobValue) : Type 0 where
+  pub each : (j : ℕ) (J : JobValue) → slice_get ordered j ≡ Some J → IsJobOf jobs J × (J.number ≡ j)
+  pub count : length ordered ≡ n
 
 -- Each number of a job is below n, and each number below n is that of a job.
 pub record AreNumbered (n : ℕ) (jobs : List JobValue) : Type 0 where

@@ -15,7 +15,7 @@ use Rattle.hub_job.specs.Ends.{end_of, items_of}
 use Rattle.hub_job.specs.JobValue.{JobValue}
 use Rattle.hub_job.specs.Outcome.{archive_of}
 use Rattle.hub_history.specs.Book.{BookValue}
-use Rattle.hub_schedule.specs.History.{entries_of, entries_at}
+use Rattle.hub_job.specs.History.{entries_of, entries_at}
 use Rattle.hub_schedule.specs.Refusals.{first_missing}
 
 -- The job has the set's profile of its number, and the archive of that profile's roots in the state.

@@ -1,12 +1,11 @@
 //! Desks of roots, and seats at them.
-ghost use Rattle.std.specs.Prelude.{◌≡◌, ◌<◌, true, IfOk};
-ghost use Rattle.hub_runner.specs.Working.{is_over};
+ghost use Rattle.std.specs.Prelude.{◌<◌};
 
 use crate::lent::Lent;
-use crate::task::Task;
-use crate::worker::{Ended, Place, Worker};
+use crate::worker::{DeskNumbers, QueuedJob};
 use hub_cert::ProfileSet;
 use hub_history::{Book, Desk, Seat};
+use hub_job::Job;
 use hub_path::Root;
 use hub_profile::Profile;
 use hub_state::State;
@@ -14,31 +13,51 @@ use hub_text::Items;
 use hub_tree::{Archive, Tree};
 use std::alloc::{AllocError, Global};
 
-/// Desks, and the seats at each of them that no job has.
+/// The desks of roots, by number.
 #[derive(Drop)]
 pub(crate) struct Desks<'a> {
     /// The desks.
     pub(crate) desks: Vec<Desk<'a>>,
-    /// The free seats of each desk.
-    pub(crate) free: Vec<Vec<Seat>>,
 }
 
-/// Opens a desk for each root, with a seat for each job, over a copy of the state's replica.
+/// Opens a desk for each root, over a copy of the state's replica. Each of so many workers gets a seat at each desk: the list of
+/// a worker's seats is in the order of the desks.
 pub(crate) fn open_desks<'a>(
     alloc: Global,
     set: &'a ProfileSet,
     state: &State,
     roots: &[Lent<'_, Root>],
-) -> Result<Desks<'a>, AllocError> {
+    workers: usize,
+) -> Result<(Desks<'a>, Vec<Vec<Seat>>), AllocError>
+    requires { 0 < workers }
+{
     let mut desks = Vec::new(alloc);
-    let mut free = Vec::new(alloc);
-    let seats = set.profiles().len().max(1);
+    let mut seats = empty_lists(alloc, workers)?;
     for root in roots {
-        let (desk, own) = open_desk(alloc, set, state, root.item(), seats)?;
+        let (desk, own) = open_desk(alloc, set, state, root.item(), workers)?;
         desks.push(desk)?;
-        free.push(own.into_vec())?;
+        deal(&mut seats, own)?;
     }
-    Ok(Desks { desks, free })
+    Ok((Desks { desks }, seats))
+}
+
+/// Makes so many lists of seats, each empty.
+fn empty_lists(alloc: Global, count: usize) -> Result<Vec<Vec<Seat>>, AllocError> {
+    let mut lists = Vec::with_capacity(alloc, count)?;
+    for _ in 0..count {
+        lists.push(Vec::new(alloc))?;
+    }
+    Ok(lists)
+}
+
+/// Appends one of the seats to each list.
+fn deal(lists: &mut Vec<Vec<Seat>>, seats: Items<Seat>) -> Result<(), AllocError> {
+    for (i, seat) in seats.into_vec().into_iter().enumerate() {
+        if let Some(list) = lists.get_mut(i) {
+            list.push(seat)?;
+        }
+    }
+    Ok(())
 }
 
 /// Opens the desk of a root. A replica that the state lacks is empty.
@@ -64,69 +83,61 @@ fn open_desk<'a>(
     }
 }
 
-/// Makes the jobs of the profiles, each with a seat at the desks of its two roots. A job without a seat isn't made. A pair of
-/// roots that the state has no archive for gets the empty one.
-pub(crate) fn workers_for<'a>(
+/// Makes the jobs of the profiles, each with the numbers of the desks of its two roots. A job without desks isn't made. A pair
+/// of roots that the state has no archive for gets the empty one.
+pub(crate) fn jobs_for<'a>(
     alloc: Global,
     profiles: &'a [Profile],
     state: &'a State,
     empty: &'a Archive,
     roots: &[Lent<'_, Root>],
-    desks: &mut Desks<'_>,
-) -> Result<Vec<Worker<'a>>, AllocError> {
-    let mut workers = Vec::new(alloc);
+) -> Result<Vec<QueuedJob<'a>>, AllocError> {
+    let mut jobs = Vec::new(alloc);
     for (number, profile) in profiles.iter().enumerate() {
-        let own = profile.roots();
-        let archive = state.archive(&own[0], &own[1]).unwrap_or(empty);
-        let task = Task::new(alloc, number, profile, archive)?;
-        let Some(left) = take_seat(roots, desks, &own[0]) else {
-            continue;
-        };
-        let Some(right) = take_seat(roots, desks, &own[1]) else {
-            continue;
-        };
-        workers.push(Worker { task, left, right })?;
+        if let Some(desks) = desks_of(profile, roots) {
+            let own = profile.roots();
+            let archive = state.archive(&own[0], &own[1]).unwrap_or(empty);
+            let job = Job::new(alloc, number, profile, archive)?;
+            jobs.push(QueuedJob { job, desks })?;
+        }
     }
-    Ok(workers)
+    Ok(jobs)
 }
 
-/// Takes a free seat at the desk of a root.
-fn take_seat(roots: &[Lent<'_, Root>], desks: &mut Desks<'_>, root: &Root) -> Option<Place> {
-    let desk = roots.iter().position(|own| own.item() == root)?;
-    let seat = desks.free.get_mut(desk)?.pop()?;
-    Some(Place { desk, seat })
+/// Returns the numbers of the desks of a profile's two roots, if both are there.
+fn desks_of(profile: &Profile, roots: &[Lent<'_, Root>]) -> Option<DeskNumbers> {
+    let own = profile.roots();
+    let left = roots.iter().position(|root| root.item() == &own[0])?;
+    let right = roots.iter().position(|root| root.item() == &own[1])?;
+    Some(DeskNumbers { left, right })
 }
 
-/// Gives the seats of a job that has ended back, and returns the job.
-pub(crate) fn leave<'a>(desks: &mut Desks<'_>, ended: Ended<'a>) -> Result<Task<'a>, AllocError>
-    ensures { IfOk result (λ t. is_over t ≡ true) }
-{
-    let Ended { task, left, right } = ended;
-    give_seat(desks, left)?;
-    give_seat(desks, right)?;
-    Ok(task)
-}
-
-/// Gives a seat back.
-fn give_seat(desks: &mut Desks<'_>, place: Place) -> Result<(), AllocError> {
-    let Place { desk, seat } = place;
-    if let Some(free) = desks.free.get_mut(desk) {
-        free.push(seat)?;
-    }
-    Ok(())
-}
-
-/// Closes the desks. One that can't be closed gives no book.
+/// Closes the desks, with the seats of each worker. A desk that can't be closed gives no book.
 pub(crate) fn close_desks<'a>(
     alloc: Global,
     desks: Desks<'a>,
+    seats: Vec<Vec<Seat>>,
 ) -> Result<Vec<Book<'a>>, AllocError> {
-    let Desks { desks, free } = desks;
+    let Desks { desks } = desks;
+    let by_desk = by_desk(alloc, desks.len(), seats)?;
     let mut books = Vec::new(alloc);
-    for (desk, seats) in desks.into_iter().zip(free) {
-        if let Ok(book) = desk.close(Items::from_vec(seats)) {
+    for (desk, own) in desks.into_iter().zip(by_desk) {
+        if let Ok(book) = desk.close(Items::from_vec(own)) {
             books.push(book)?;
         }
     }
     Ok(books)
+}
+
+/// Returns a list for each desk, with the seats that the workers had at it.
+fn by_desk(
+    alloc: Global,
+    desks: usize,
+    seats: Vec<Vec<Seat>>,
+) -> Result<Vec<Vec<Seat>>, AllocError> {
+    let mut lists = empty_lists(alloc, desks)?;
+    for own in seats {
+        deal(&mut lists, Items::from_vec(own))?;
+    }
+    Ok(lists)
 }

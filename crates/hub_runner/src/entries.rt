@@ -2,7 +2,7 @@
 ghost use Rattle.std.specs.Prelude.{◌≡◌, [], map, replicate, IfOk};
 ghost use Rattle.std.specs.List.{range_with_len};
 ghost use Rattle.hub_profile.specs.Parts as of_profile;
-ghost use Rattle.hub_schedule.specs.History as spec;
+ghost use Rattle.hub_job.specs.History as spec;
 
 use crate::lent::Lent;
 use hub_job::{Entry, Logged};

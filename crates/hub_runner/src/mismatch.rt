@@ -6,10 +6,9 @@ ghost use Rattle.hub_runner.specs.Settling as spec;
 use crate::books::history_at;
 use crate::entries::{entries_at, entries_of};
 use crate::lent::Lent;
-use crate::task::Task;
 use crate::wrong::log_of;
 use hub_history::{Book, copy_entry};
-use hub_job::{Entry, RunFault};
+use hub_job::{Entry, Job, RunFault};
 use hub_path::Root;
 use hub_profile::Profile;
 use hub_text::Items;
@@ -21,18 +20,18 @@ pub(crate) fn mismatch(
     alloc: Global,
     profiles: &[Profile],
     books: &[Book<'_>],
-    tasks: &[Task<'_>],
+    jobs: &[Job<'_>],
     root: &Root,
     job: Option<usize>,
 ) -> Result<RunFault, AllocError>
     ensures { IfOk result (λ f. f ≡ Mismatch root.now job
         (spec.history_shown books.now root.now job)
-        (spec.log_shown profiles.now tasks.now root.now job)) }
+        (spec.log_shown profiles.now jobs.now root.now job)) }
 {
     let (history, log) = match job {
         Some(job) => (
             history_of(alloc, books, root, job)?,
-            logged(alloc, profiles, tasks, root, job)?,
+            logged(alloc, profiles, jobs, root, job)?,
         ),
         None => (Items::new(alloc), Items::new(alloc)),
     };
@@ -61,16 +60,16 @@ fn history_of(
 fn logged(
     alloc: Global,
     profiles: &[Profile],
-    tasks: &[Task<'_>],
+    jobs: &[Job<'_>],
     root: &Root,
     job: usize,
 ) -> Result<Items<Entry>, AllocError>
-    ensures { IfOk result (λ v. v ≡ spec.log_shown profiles.now tasks.now root.now (Some job)) }
+    ensures { IfOk result (λ v. v ≡ spec.log_shown profiles.now jobs.now root.now (Some job)) }
 {
     let Some(profile) = profiles.get(job) else {
         return Ok(Items::new(alloc));
     };
-    let entries = entries_at(alloc, profile, root, log_of(tasks, job))?;
+    let entries = entries_at(alloc, profile, root, log_of(jobs, job))?;
     copies(alloc, entries.as_slice())
 }
 

@@ -6,7 +6,8 @@ ghost use Rattle.hub_runner.specs.Odd as spec;
 ghost use Rattle.hub_runner.specs.Odd.{AllAreBelow, AllAreOf, IsLeastFrom, OneIsNotOf};
 ghost use Rattle.hub_runner.specs.Settling.{AreDue, IsLowestOdd};
 
-use crate::task::Task;
+use hub_history::Same;
+use hub_job::Job;
 use hub_profile::Profile;
 use hub_state::State;
 use hub_tree::Archive;
@@ -16,25 +17,25 @@ use std::alloc::Global;
 /// wasn't made for the profile of that number and the archive of that profile's roots.
 pub(crate) fn find_odd(
     alloc: Global,
-    tasks: &[Task<'_>],
+    jobs: &[Job<'_>],
     profiles: &[Profile],
     state: &State,
 ) -> Option<usize>
     ensures { MatchOption result
-        (AreDue state.now profiles.now tasks.now)
-        (IsLowestOdd state.now profiles.now tasks.now) }
+        (AreDue state.now profiles.now jobs.now)
+        (IsLowestOdd state.now profiles.now jobs.now) }
 {
     let empty = Archive::new(alloc);
     for (number, profile) in profiles.iter().enumerate() {
         let archive = archive_of(profile, state, &empty);
-        if !are_of(tasks, number, profile, archive) {
+        if !are_of(jobs, number, profile, archive) {
             return Some(number);
         }
-        if !has_one(tasks, number) {
+        if !has_one(jobs, number) {
             return Some(number);
         }
     }
-    find_least(tasks, profiles.len())
+    find_least(jobs, profiles.len())
 }
 
 /// Borrows the archive of a profile's two roots, or the empty one.
@@ -50,35 +51,42 @@ fn archive_of<'a>(profile: &Profile, state: &'a State, empty: &'a Archive) -> &'
 }
 
 /// Returns whether exactly one job has that number.
-fn has_one(tasks: &[Task<'_>], number: usize) -> bool
-    ensures { IsTrue result ↔ (count_by (λ J. J.number == number) tasks.now ≡ 1) }
+fn has_one(jobs: &[Job<'_>], number: usize) -> bool
+    ensures { IsTrue result ↔ (count_by (λ J. J.number == number) jobs.now ≡ 1) }
 {
-    let own = tasks.iter().filter(|task| task.number() == number);
+    let own = jobs.iter().filter(|job| job.number() == number);
     own.count() == 1
 }
 
 /// Returns whether all jobs of that number were made for this profile and this archive.
-fn are_of(tasks: &[Task<'_>], number: usize, profile: &Profile, archive: &Archive) -> bool
+fn are_of(jobs: &[Job<'_>], number: usize, profile: &Profile, archive: &Archive) -> bool
     ensures { MatchBool result
-        (AllAreOf profile.now archive.now tasks.now number)
-        (OneIsNotOf profile.now archive.now tasks.now number) }
+        (AllAreOf profile.now archive.now jobs.now number)
+        (OneIsNotOf profile.now archive.now jobs.now number) }
 {
-    for task in tasks {
-        if task.number() == number && !task.is_of(profile, archive) {
+    for job in jobs {
+        if job.number() == number && !is_made_for(job, profile, archive) {
             return false;
         }
     }
     true
 }
 
+/// Returns whether the job was made for this profile and this archive.
+fn is_made_for(job: &Job<'_>, profile: &Profile, archive: &Archive) -> bool
+    ensures { IsTrue result ↔ spec.IsOf profile.now archive.now job.now }
+{
+    job.profile().same(profile) && job.archive().same(archive)
+}
+
 /// Returns the lowest number of a job that isn't below this one.
-fn find_least(tasks: &[Task<'_>], from: usize) -> Option<usize>
+fn find_least(jobs: &[Job<'_>], from: usize) -> Option<usize>
     ensures { MatchOption result
-        (AllAreBelow tasks.now from) (IsLeastFrom tasks.now from) }
+        (AllAreBelow jobs.now from) (IsLeastFrom jobs.now from) }
 {
     let mut least = None;
-    for task in tasks {
-        least = lower(least, from, task.number());
+    for job in jobs {
+        least = lower(least, from, job.number());
     }
     least
 }

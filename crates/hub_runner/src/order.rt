@@ -5,11 +5,11 @@ ghost use Rattle.hub_reach.specs.Reach as of_reach;
 ghost use Rattle.hub_runner.specs.Ordered.{AreInOrder, AreNumbered, AreTreesOf};
 ghost use Rattle.hub_runner.specs.Slots as spec;
 
-use crate::task::Task;
 use hub_history::Book;
+use hub_job::Job;
 use hub_path::Root;
 use hub_profile::Profile;
-use hub_schedule::{EndedJob, WorkingTree};
+use hub_schedule::WorkingTree;
 use std::alloc::{AllocError, Global};
 
 /// Returns the replicas of the books whose roots the profiles have, in the order of the books.
@@ -65,21 +65,21 @@ fn root_of<'a>(profile: &'a Profile, root: &Root) -> Option<&'a Root>
 pub(crate) fn in_order<'a>(
     alloc: Global,
     n: usize,
-    tasks: Vec<Task<'a>>,
-) -> Result<Vec<EndedJob<'a>>, AllocError>
-    requires { AreNumbered n tasks.items }
-    ensures { IfOk result (λ v. AreInOrder n tasks.entry.items v.items) }
+    jobs: Vec<Job<'a>>,
+) -> Result<Vec<Job<'a>>, AllocError>
+    requires { AreNumbered n jobs.items }
+    ensures { IfOk result (λ v. AreInOrder n jobs.entry.items v.items) }
 {
     let mut slots = empty_slots(alloc, n)?;
-    for task in tasks {
-        let number = task.number();
-        fill(&mut slots, number, task.into_ended());
+    for job in jobs {
+        let number = job.number();
+        fill(&mut slots, number, job);
     }
     full_slots(alloc, slots)
 }
 
 /// Makes so many slots, each empty.
-fn empty_slots<'a>(alloc: Global, n: usize) -> Result<Vec<Option<EndedJob<'a>>>, AllocError>
+fn empty_slots<'a>(alloc: Global, n: usize) -> Result<Vec<Option<Job<'a>>>, AllocError>
     ensures { IfOk result (λ v. v.items ≡ spec.empty n) }
 {
     let mut slots = Vec::new(alloc);
@@ -90,7 +90,7 @@ fn empty_slots<'a>(alloc: Global, n: usize) -> Result<Vec<Option<EndedJob<'a>>>,
 }
 
 /// Puts a job into the slot of that number.
-fn fill<'a>(slots: &mut Vec<Option<EndedJob<'a>>>, number: usize, job: EndedJob<'a>)
+fn fill<'a>(slots: &mut Vec<Option<Job<'a>>>, number: usize, job: Job<'a>)
     requires { number < length slots.old.items }
     ensures { slots.new.items ≡ slice_set slots.old.items number (Some job.entry) }
 {
@@ -98,10 +98,7 @@ fn fill<'a>(slots: &mut Vec<Option<EndedJob<'a>>>, number: usize, job: EndedJob<
 }
 
 /// Returns what is in slots that are all full.
-fn full_slots<'a>(
-    alloc: Global,
-    slots: Vec<Option<EndedJob<'a>>>,
-) -> Result<Vec<EndedJob<'a>>, AllocError>
+fn full_slots<'a>(alloc: Global, slots: Vec<Option<Job<'a>>>) -> Result<Vec<Job<'a>>, AllocError>
     requires { spec.AreFull slots.items }
     ensures { IfOk result (λ v. slots.entry.items ≡ spec.filled v.items) }
 {

@@ -1,17 +1,18 @@
 //! Runs of the jobs of a safe set, at the same time.
-ghost use Rattle.std.specs.Prelude.{map, IfOk, IfErr};
+ghost use Rattle.std.specs.Prelude.{◌≡◌, ◌⊎◌, ◌<◌, true, map, IfOk, IfErr};
 ghost use Rattle.hub_cert.specs.Set.{forbidden_by};
 ghost use Rattle.hub_schedule.specs.Simulated.{HaveEnded, IsPromised};
-ghost use Rattle.hub_runner.specs.Working.{AreOver, IsNotRun, MayRun};
+ghost use Rattle.hub_job.specs.declared.run_fault.RunFault.TheVariants as fault;
+ghost use Rattle.hub_runner.specs.Working.{AreOver, IsNotRun, MayRun, is_over};
 
-use crate::desks::{Desks, close_desks, leave, open_desks, workers_for};
+use crate::desks::{close_desks, jobs_for, open_desks};
+use crate::pool::{PoolEnd, step_all};
 use crate::settling::settle;
-use crate::task::Task;
-use crate::worker::{Ended, work_all};
+use crate::worker::Ended;
 use crate::wrong::roots_of;
-use hub_cert::Verified;
-use hub_history::Gate;
-use hub_job::{Outcome, RunFault};
+use hub_cert::{ProfileSet, Verified};
+use hub_history::{Book, Gate};
+use hub_job::{Job, Outcome, RunFault};
 use hub_schedule::find_missing;
 use hub_state::State;
 use hub_tree::Archive;
@@ -22,14 +23,14 @@ use std::thread::Threads;
 /// The most workers.
 pub const WORKERS: usize = 16;
 
-/// Runs the jobs of a set at the same time, until each of them ends. Each job has a thread of its own, and each root a desk
-/// with a copy of the state's replica; then `settle` compares all that was done and puts the outcome together. `state`
-/// stays as it is.
+/// Runs the jobs of a set at the same time, until each of them ends. Each root has a desk with a copy of the state's replica.
+/// `workers` threads step the jobs, or as many as there are jobs if these are fewer: a worker makes a few steps of a job, and
+/// passes it on. Then `settle` compares all that was done and puts the outcome together. `state` stays as it is.
 ///
 /// Each job does what it does alone, and each has ended: it is finished, or it was stopped because it found no memory.
 ///
-/// It calls the gate's `before` and `after` around each step, and its `within` under the lock. Each job has a thread of its
-/// own, however many `workers` there are; their number is only tested.
+/// It calls the gate's `before` and `after` around each step, and its `within` under the lock. The number of threads is only
+/// tested.
 ///
 /// The fault is the first of these that applies:
 /// - `NoWorkers` for no workers, and `TooManyWorkers` for more than [`WORKERS`];
@@ -62,7 +63,7 @@ pub fn run<G: Gate + Sync, R: Threads + Wait + Sync>(
         return Err(RunFault::MissingReplica { root: root.copy()? });
     }
     let empty = Archive::new(alloc);
-    run_set(rt, alloc, verified, state, &empty, gate)
+    run_set(rt, alloc, verified, state, &empty, workers, gate)
 }
 
 /// Runs the jobs of a set at the same time, and settles what they leave. A pair of roots that the state has no archive for
@@ -73,42 +74,65 @@ fn run_set<'a, G: Gate + Sync, R: Threads + Wait + Sync>(
     verified: &Verified<'a>,
     state: &'a State,
     empty: &'a Archive,
+    workers: usize,
     gate: &G,
 ) -> Result<Outcome, RunFault>
-    requires { MayRun state.now verified.now.profiles 1 }
+    requires { MayRun state.now verified.now.profiles workers }
     ensures promise { IfOk result (IsPromised state.now verified.now.profiles
         (map forbidden_by verified.now.rules)) }
     ensures ended { IfOk result (λ o. HaveEnded o.jobs) }
-    ensures refused { IfErr result (IsNotRun state.now verified.now.profiles 1) }
+    ensures refused { IfErr result (IsNotRun state.now verified.now.profiles workers) }
 {
-    let set = verified.set();
-    let roots = roots_of(alloc, set.profiles())?;
-    let mut desks = open_desks(alloc, set, state, roots.as_slice())?;
-    let workers = workers_for(
-        alloc,
-        set.profiles(),
-        state,
-        empty,
-        roots.as_slice(),
-        &mut desks,
-    )?;
-    let ended = work_all(rt, alloc, gate, desks.desks.as_slice(), workers)?;
-    let tasks = leave_all(alloc, &mut desks, ended)?;
-    let books = close_desks(alloc, desks)?;
-    settle(alloc, verified, state, books, tasks)
+    let Done { books, jobs } = step_set(rt, alloc, verified.set(), state, empty, workers, gate)?;
+    settle(alloc, verified, state, books, jobs)
 }
 
-/// Gives the seats of jobs that have ended back, and returns the jobs.
-fn leave_all<'a>(
+/// What the jobs of a set have done: the books of its roots, and the jobs, which have ended.
+#[derive(Drop)]
+struct Done<'a> {
+    books: Vec<Book<'a>>,
+    jobs: Vec<Job<'a>>,
+}
+
+/// Steps the jobs of a set until they end.
+fn step_set<'a, G: Gate + Sync, R: Threads + Wait + Sync>(
+    rt: &R,
     alloc: Global,
-    desks: &mut Desks<'_>,
-    ended: Vec<Ended<'a>>,
-) -> Result<Vec<Task<'a>>, AllocError>
+    set: &'a ProfileSet,
+    state: &'a State,
+    empty: &'a Archive,
+    workers: usize,
+    gate: &G,
+) -> Result<Done<'a>, RunFault>
+    requires { 0 < workers }
+    ensures over { IfOk result (λ d. AreOver d.jobs.items) }
+    ensures refused { IfErr result (λ f. (f ≡ fault.ThreadRefused) ⊎ (f ≡ fault.OutOfMemory)) }
+{
+    let roots = roots_of(alloc, set.profiles())?;
+    let jobs = jobs_for(alloc, set.profiles(), state, empty, roots.as_slice())?;
+    let workers = workers.min(jobs.len().max(1));
+    let (desks, seats) = open_desks(alloc, set, state, roots.as_slice(), workers)?;
+    let PoolEnd { ended, seats } = step_all(rt, alloc, gate, &desks, seats, jobs)?;
+    let jobs = jobs_of(alloc, ended)?;
+    let books = close_desks(alloc, desks, seats)?;
+    Ok(Done { books, jobs })
+}
+
+/// Returns the jobs that have ended.
+fn jobs_of<'a>(alloc: Global, ended: Vec<Ended<'a>>) -> Result<Vec<Job<'a>>, AllocError>
     ensures { IfOk result (λ v. AreOver v.items) }
 {
-    let mut tasks = Vec::new(alloc);
+    let mut jobs = Vec::new(alloc);
     for one in ended {
-        tasks.push(leave(desks, one)?)?;
+        jobs.push(job_of(one))?;
     }
-    Ok(tasks)
+    Ok(jobs)
+}
+
+/// Returns a job that has ended.
+fn job_of<'a>(ended: Ended<'a>) -> Job<'a>
+    ensures { is_over result ≡ true }
+{
+    let Ended { job } = ended;
+    job
 }

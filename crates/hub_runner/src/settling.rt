@@ -9,11 +9,10 @@ ghost use Rattle.hub_runner.specs.Settling.{AreCompared, EndAsTheyAre, IsUnsettl
 use crate::mismatch::mismatch;
 use crate::odd::find_odd;
 use crate::order::{in_order, trees_of};
-use crate::task::Task;
 use crate::wrong::find_wrong;
 use hub_cert::{ProfileSet, Verified};
 use hub_history::Book;
-use hub_job::{Outcome, RunFault};
+use hub_job::{Job, Outcome, RunFault};
 use hub_schedule::promise::safe_sets_keep_their_promise;
 use hub_schedule::{find_missing, outcome_of_jobs};
 use hub_state::State;
@@ -40,7 +39,7 @@ pub fn settle<'a>(
     verified: &Verified<'a>,
     state: &State,
     books: Vec<Book<'_>>,
-    tasks: Vec<Task<'a>>,
+    jobs: Vec<Job<'a>>,
 ) -> Result<Outcome, RunFault>
     ensures settled { IfOk result
         (Settles state.now verified.now.profiles (history_at books.entry.items)) }
@@ -48,13 +47,13 @@ pub fn settle<'a>(
         (IsAsPromised state.now verified.now.profiles (map forbidden_by verified.now.rules)
         (history_at books.entry.items)) }
     ensures compared { IfOk result (λ o. AreCompared state.now verified.now.profiles
-        books.entry.items tasks.entry.items) }
-    ensures ends { IfOk result (EndAsTheyAre tasks.entry.items) }
+        books.entry.items jobs.entry.items) }
+    ensures ends { IfOk result (EndAsTheyAre jobs.entry.items) }
     ensures refused { IfErr result (IsUnsettled state.now verified.now.profiles
-        books.entry.items tasks.entry.items) }
+        books.entry.items jobs.entry.items) }
 {
     safe_sets_keep_their_promise();
-    settle_jobs(alloc, verified.set(), state, books, tasks)
+    settle_jobs(alloc, verified.set(), state, books, jobs)
 }
 
 /// Compares books and jobs, and puts together what they leave, as `settle` does, whether the set is safe or not.
@@ -63,20 +62,20 @@ fn settle_jobs<'a>(
     set: &'a ProfileSet,
     state: &State,
     books: Vec<Book<'_>>,
-    tasks: Vec<Task<'a>>,
+    jobs: Vec<Job<'a>>,
 ) -> Result<Outcome, RunFault>
     ensures settled { IfOk result
         (Settles state.now set.now.profiles (history_at books.entry.items)) }
     ensures compared { IfOk result (λ o. AreCompared state.now set.now.profiles
-        books.entry.items tasks.entry.items) }
-    ensures ends { IfOk result (EndAsTheyAre tasks.entry.items) }
+        books.entry.items jobs.entry.items) }
+    ensures ends { IfOk result (EndAsTheyAre jobs.entry.items) }
     ensures refused { IfErr result (IsUnsettled state.now set.now.profiles
-        books.entry.items tasks.entry.items) }
+        books.entry.items jobs.entry.items) }
     ensures valid { 0 < length set.now.profiles → IsState state.now }
     ensures profiles { AreProfiles set.now.profiles }
 {
-    compare(alloc, set, state, books.as_slice(), tasks.as_slice())?;
-    Ok(settle_all(alloc, set, state, books, tasks)?)
+    compare(alloc, set, state, books.as_slice(), jobs.as_slice())?;
+    Ok(settle_all(alloc, set, state, books, jobs)?)
 }
 
 /// Compares books and jobs with each other, with the set and with the state.
@@ -85,12 +84,12 @@ fn compare(
     set: &ProfileSet,
     state: &State,
     books: &[Book<'_>],
-    tasks: &[Task<'_>],
+    jobs: &[Job<'_>],
 ) -> Result<(), RunFault>
     ensures compared { IfOk result (λ _. AreCompared state.now set.now.profiles
-        books.now tasks.now) }
+        books.now jobs.now) }
     ensures refused { IfErr result (IsUnsettled state.now set.now.profiles
-        books.now tasks.now) }
+        books.now jobs.now) }
     ensures valid { 0 < length set.now.profiles → IsState state.now }
     ensures profiles { AreProfiles set.now.profiles }
 {
@@ -98,11 +97,11 @@ fn compare(
     if let Some(root) = find_missing(profiles, state) {
         return Err(RunFault::MissingReplica { root: root.copy()? });
     }
-    if let Some(job) = find_odd(alloc, tasks, profiles, state) {
+    if let Some(job) = find_odd(alloc, jobs, profiles, state) {
         return Err(RunFault::Stranger { job });
     }
-    if let Some((root, job)) = find_wrong(alloc, set, state, books, tasks)? {
-        return Err(mismatch(alloc, profiles, books, tasks, root, job)?);
+    if let Some((root, job)) = find_wrong(alloc, set, state, books, jobs)? {
+        return Err(mismatch(alloc, profiles, books, jobs, root, job)?);
     }
     Ok(())
 }
@@ -113,15 +112,15 @@ fn settle_all<'a>(
     set: &'a ProfileSet,
     state: &State,
     books: Vec<Book<'_>>,
-    tasks: Vec<Task<'a>>,
+    jobs: Vec<Job<'a>>,
 ) -> Result<Outcome, AllocError>
-    requires { AreCompared state.now set.now.profiles books.items tasks.items }
+    requires { AreCompared state.now set.now.profiles books.items jobs.items }
     ensures settled { IfOk result
         (Settles state.now set.now.profiles (history_at books.entry.items)) }
-    ensures ends { IfOk result (EndAsTheyAre tasks.entry.items) }
+    ensures ends { IfOk result (EndAsTheyAre jobs.entry.items) }
 {
     let profiles = set.profiles();
     let trees = trees_of(alloc, profiles, books)?;
-    let jobs = in_order(alloc, profiles.len(), tasks)?;
-    outcome_of_jobs(alloc, state, jobs, trees)
+    let ordered = in_order(alloc, profiles.len(), jobs)?;
+    outcome_of_jobs(alloc, state, ordered, trees)
 }

@@ -3,16 +3,15 @@ ghost use Rattle.std.specs.Prelude.{◌≡◌, ◌≢◌, ◌↔◌, [], ◌∷�
 ghost use Rattle.std.specs.List.{list_any};
 ghost use Rattle.hub_path.specs.Path.{path_eq};
 ghost use Rattle.hub_reach.specs.Reach as of_reach;
-ghost use Rattle.hub_schedule.specs.History as of_history;
+ghost use Rattle.hub_job.specs.History as of_history;
 ghost use Rattle.hub_runner.specs.Settling as spec;
 
 use crate::books::{only_book, opens_as};
 use crate::entries::{entries_at, split_by_job};
 use crate::lent::Lent;
-use crate::task::Task;
 use hub_cert::ProfileSet;
 use hub_history::{Book, are_same};
-use hub_job::{Entry, Logged};
+use hub_job::{Entry, Job, Logged};
 use hub_path::Root;
 use hub_profile::Profile;
 use hub_state::State;
@@ -29,18 +28,18 @@ pub(crate) fn find_wrong<'a>(
     set: &'a ProfileSet,
     state: &State,
     books: &[Book<'_>],
-    tasks: &[Task<'_>],
+    jobs: &[Job<'_>],
 ) -> Result<Option<(&'a Root, Option<usize>)>, AllocError>
     ensures { IfOk result (λ o. MatchOption o
-        (All (spec.IsRight state.now set.now.profiles books.now tasks.now)
+        (All (spec.IsRight state.now set.now.profiles books.now jobs.now)
         (spec.places set.now.profiles))
-        (λ at. spec.IsFirstWrong state.now set.now.profiles books.now tasks.now
+        (λ at. spec.IsFirstWrong state.now set.now.profiles books.now jobs.now
         (spec.places set.now.profiles) (at.0.now, at.1))) }
 {
     let roots = roots_of(alloc, set.profiles())?;
     for lent in roots.as_slice() {
         let root = lent.item();
-        if let Some(job) = find_wrong_at(alloc, set, state, books, tasks, root)? {
+        if let Some(job) = find_wrong_at(alloc, set, state, books, jobs, root)? {
             return Ok(Some((root, job)));
         }
     }
@@ -94,13 +93,13 @@ fn find_wrong_at(
     set: &ProfileSet,
     state: &State,
     books: &[Book<'_>],
-    tasks: &[Task<'_>],
+    jobs: &[Job<'_>],
     root: &Root,
 ) -> Result<Option<Option<usize>>, AllocError>
     ensures { IfOk result (λ o. MatchOption o
-        (All (spec.IsRight state.now set.now.profiles books.now tasks.now)
+        (All (spec.IsRight state.now set.now.profiles books.now jobs.now)
         (spec.places_at (length set.now.profiles) root.now))
-        (λ job. spec.IsFirstWrong state.now set.now.profiles books.now tasks.now
+        (λ job. spec.IsFirstWrong state.now set.now.profiles books.now jobs.now
         (spec.places_at (length set.now.profiles) root.now) (root.now, job))) }
 {
     let Some(book) = only_book(books, root) else {
@@ -112,7 +111,7 @@ fn find_wrong_at(
     let profiles = set.profiles();
     let lists = split_by_job(alloc, book.history(), profiles.len())?;
     for (job, profile) in profiles.iter().enumerate() {
-        if differs(alloc, lists[job].as_slice(), tasks, profile, root, job)? {
+        if differs(alloc, lists[job].as_slice(), jobs, profile, root, job)? {
             return Ok(Some(Some(job)));
         }
     }
@@ -120,12 +119,12 @@ fn find_wrong_at(
 }
 
 /// Borrows the log of the first job of that number; there are no entries if there is no such job.
-pub(crate) fn log_of<'b>(tasks: &'b [Task<'_>], number: usize) -> &'b [Logged]
-    ensures { result.now ≡ spec.log_at tasks.now number }
+pub(crate) fn log_of<'b>(jobs: &'b [Job<'_>], number: usize) -> &'b [Logged]
+    ensures { result.now ≡ spec.log_at jobs.now number }
 {
-    for task in tasks {
-        if task.number() == number {
-            return task.log();
+    for job in jobs {
+        if job.number() == number {
+            return job.log();
         }
     }
     &[]
@@ -135,12 +134,12 @@ pub(crate) fn log_of<'b>(tasks: &'b [Task<'_>], number: usize) -> &'b [Logged]
 fn differs(
     alloc: Global,
     done: &[Lent<'_, Entry>],
-    tasks: &[Task<'_>],
+    jobs: &[Job<'_>],
     profile: &Profile,
     root: &Root,
     job: usize,
 ) -> Result<bool, AllocError>
-    ensures { let logged = of_history.entries_at profile.now root.now (spec.log_at tasks.now job)
+    ensures { let logged = of_history.entries_at profile.now root.now (spec.log_at jobs.now job)
         in IfOk result (λ b. MatchBool b
         (IsTrue (of_reach.has_root profile.now root.now) × (done.now ≢ logged))
         (IsTrue (of_reach.has_root profile.now root.now) → done.now ≡ logged)) }
@@ -148,6 +147,6 @@ fn differs(
     if !profile.roots().iter().any(|own| own == root) {
         return Ok(false);
     }
-    let logged = entries_at(alloc, profile, root, log_of(tasks, job))?;
+    let logged = entries_at(alloc, profile, root, log_of(jobs, job))?;
     Ok(!are_same(done, logged.as_slice()))
 }

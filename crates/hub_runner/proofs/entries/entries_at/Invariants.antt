@@ -1,5 +1,5 @@
 use Rattle.std.proofs.Common.{◌≡◌, ◌++◌, drop}
-use Rattle.hub_schedule.specs.History.{entries_at}
+use Rattle.hub_job.specs.History.{entries_at}
 use Rattle.hub_runner.proofs.entries.entries_at.Given as goal
 
 abbrev pub invariant-loop-entry : goal.invariant-loop-entry

@@ -5,35 +5,35 @@ use Rattle.hub_job.specs.JobValue.{JobValue}
 use Rattle.hub_runner.specs.Odd.{IsOf}
 use Rattle.hub_runner.proofs.Firsts.{also_here}
 use Rattle.hub_runner.proofs.odd.are_of.Goals as goal
-use Rattle.hub_runner.proofs.odd.are_of.Goals.{else-number-via-then-number+else-not-is_of, else-number-via-else-number}
+use Rattle.hub_runner.proofs.odd.are_of.Goals.{else-number-via-then-number+else-not-is_made_for, else-number-via-else-number}
 
-pub returns-then-not-is_of : goal.returns-then-not-is_of
-returns-then-not-is_of c =
-    let jobs = c.args.tasks.now in
-    let i = c.loop-task.task-index in
-    let J = c.task-item.result in (
+pub returns-then-not-is_made_for : goal.returns-then-not-is_made_for
+returns-then-not-is_made_for c =
+    let jobs = c.args.jobs.now in
+    let i = c.loop-job.job-index in
+    let J = c.job-item.result in (
       i,
       J,
-      slice_get_read jobs _ i J refl c.loop-task-test.true c.task-item.is,
+      slice_get_read jobs _ i J refl c.loop-job-test.true c.job-item.is,
       sym c.number.ensures.value ∙ c.if-number.true,
-      iff_false c.is_of.ensures c.if-not-is_of.true,
+      iff_false c.is_made_for.ensures c.if-not-is_made_for.true,
     )
 
-pub loop-task-preserved : goal.loop-task-preserved
-loop-task-preserved c =
-    let jobs = c.args.tasks.now in
-    let i = c.loop-task.task-index in
-    let J = c.task-item.result in
+pub loop-job-preserved : goal.loop-job-preserved
+loop-job-preserved c =
+    let jobs = c.args.jobs.now in
+    let i = c.loop-job.job-index in
+    let J = c.job-item.result in
     let here : J.number ≡ c.args.number → IsOf c.args.profile.now c.args.archive.now J =
     elim c.else-number.branch [
-      | else-number-via-then-number+else-not-is_of w ↦ λ is. w.is_of.ensures.0 w.if-not-is_of.false
+      | else-number-via-then-number+else-not-is_made_for w ↦ λ is. w.is_made_for.ensures.0 w.if-not-is_made_for.false
       | else-number-via-else-number w ↦ λ is. absurd (w.if-number.false (c.number.ensures.value ∙ is))
     ] in
     also_here (λ (K : JobValue). K.number ≡ c.args.number → IsOf c.args.profile.now c.args.archive.now K) jobs i J
-    (slice_get_read jobs _ i J refl c.loop-task-test.true c.task-item.is) here (λ k K h at is. c.loop-task.invariant k K h at is)
+    (slice_get_read jobs _ i J refl c.loop-job-test.true c.job-item.is) here (λ k K h at is. c.loop-job.invariant k K h at is)
 
 pub returns : goal.returns
 returns c = λ k J at is.
-    let within = slice_get_within c.args.tasks.now k J at in
-    let past = c.loop-task-test.false in
-    c.loop-task.invariant k J (omega (arith, within, past)) at is
+    let within = slice_get_within c.args.jobs.now k J at in
+    let past = c.loop-job-test.false in
+    c.loop-job.invariant k J (omega (arith, within, past)) at is

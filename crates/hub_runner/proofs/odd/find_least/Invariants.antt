@@ -1,5 +1,5 @@
 use Rattle.hub_runner.proofs.Least.{LeastUpTo}
 use Rattle.hub_runner.proofs.odd.find_least.Given as goal
 
-abbrev pub invariant-loop-task : goal.invariant-loop-task
-invariant-loop-task l = LeastUpTo l.tasks l.task-index l.from l.least
+abbrev pub invariant-loop-job : goal.invariant-loop-job
+invariant-loop-job l = LeastUpTo l.jobs l.job-index l.from l.least

@@ -4,7 +4,7 @@ use Rattle.hub_runner.proofs.runs.run_set.Goals as goal
 
 pub returns-clause-ended : goal.returns-clause-ended
 returns-clause-ended g c =
-    let books = c.in_ok-books.books.items in
+    let books = c.in_ok-books.field-0.books.items in
     let settled = c.settle.ensures in
-    ended_by c.args.state.now c.args.verified.now.profiles (history_at books) books c.in_ok-tasks.tasks.items c.settle.result
-    settled.settled settled.compared settled.ends c.in_ok-tasks.ensures
+    ended_by c.args.state.now c.args.verified.now.profiles (history_at books) books c.in_ok-books.field-0.jobs.items c.settle.result
+    settled.settled settled.compared settled.ends c.in_ok-books.ensures.over

@@ -8,5 +8,5 @@ pub settle_all-requires : goal.settle_all-requires
 settle_all-requires c =
     let S = c.args.state.now in
     let Ps = c.args.set.now.profiles in
-    subst (λ (bs : List BookValue). AreCompared S Ps bs c.args.tasks.items) c.as_slice.ensures.value
+    subst (λ (bs : List BookValue). AreCompared S Ps bs c.args.jobs.items) c.as_slice.ensures.value
     (subst (λ (Js : List JobValue). AreCompared S Ps c.as_slice.result.now Js) c.as_slice-2.ensures.value c.in_ok-compare.ensures.compared)

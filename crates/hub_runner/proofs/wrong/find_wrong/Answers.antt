@@ -5,16 +5,16 @@ use Rattle.hub_runner.proofs.wrong.find_wrong.Goals as goal
 
 pub returns-in-Some : goal.returns-in-Some
 returns-in-Some c =
-    wrong_root c.args.state.now c.args.set.now.profiles c.args.books.now c.args.tasks.now c.as_slice-lent-items.result.now c.loop-lent.lent-index c.loop-lent.invariant
+    wrong_root c.args.state.now c.args.set.now.profiles c.args.books.now c.args.jobs.now c.as_slice-lent-items.result.now c.loop-lent.lent-index c.loop-lent.invariant
     c.loop-lent-test.true c.lent-item.is c.item-root.ensures c.in_ok-job.ensures c.in-Some.job c.in-Some.is
     (c.as_slice-lent-items.ensures.value ∙ (c.in_ok-roots.ensures ∙ ap roots_of c.profiles.ensures.value))
 
 pub loop-lent-preserved : goal.loop-lent-preserved
 loop-lent-preserved c =
-    roots_more c.args.state.now c.args.set.now.profiles c.args.books.now c.args.tasks.now c.as_slice-lent-items.result.now c.loop-lent.lent-index c.loop-lent.invariant
+    roots_more c.args.state.now c.args.set.now.profiles c.args.books.now c.args.jobs.now c.as_slice-lent-items.result.now c.loop-lent.lent-index c.loop-lent.invariant
     c.loop-lent-test.true c.lent-item.is c.item-root.ensures c.in_ok-job.ensures c.in_default.is
 
 pub returns : goal.returns
 returns c =
-    roots_are_right c.args.state.now c.args.set.now.profiles c.args.books.now c.args.tasks.now c.as_slice-lent-items.result.now c.loop-lent.lent-index c.loop-lent.invariant
+    roots_are_right c.args.state.now c.args.set.now.profiles c.args.books.now c.args.jobs.now c.as_slice-lent-items.result.now c.loop-lent.lent-index c.loop-lent.invariant
     c.loop-lent-test.false (c.as_slice-lent-items.ensures.value ∙ (c.in_ok-roots.ensures ∙ ap roots_of c.profiles.ensures.value))

@@ -1,12 +1,12 @@
 //! Questions about watched devices.
 ghost use Rattle.std.specs.Prelude.{◌≤◌, IfOk};
 
-use crate::answers::yes_or_no;
-use crate::fields::Fields;
 use anyhow::{Result, bail};
 use hub_text::Watched;
+use std::alloc::Global;
 use std::io;
 use std::io::{ErrorKind, Read, Write};
+use test_kit::yes_or_no;
 
 /// A device whose calls take so many bytes, or fail.
 #[derive(Drop)]
@@ -45,14 +45,15 @@ impl Write for Device {
 /// Answers whether a device has failed after a call. The first field is how many bytes the call takes, or `error`.
 ///
 /// The calls are `write` with the bytes of a second field, `read` and `flush`.
-pub fn answer(call: &str, fields: &mut Fields<'_>) -> Result<String> {
-    let answer = taken(fields.text()?.as_str())?;
-    let bytes = match call {
-        "write" => fields.bytes()?,
-        _ => Vec::new(fields.alloc()),
+pub(crate) fn answer(alloc: Global, call: &str, texts: &[String]) -> Result<String> {
+    let (answer, bytes) = match texts {
+        [answer] => (answer.as_str(), ""),
+        [answer, bytes] => (answer.as_str(), bytes.as_str()),
+        _ => bail!("not one or two fields"),
     };
-    let failed = has_failed(call, Device { answer }, bytes.as_slice())?;
-    yes_or_no(fields.alloc(), failed)
+    let answer = taken(answer)?;
+    let failed = has_failed(call, Device { answer }, bytes.as_bytes())?;
+    yes_or_no(alloc, failed)
 }
 
 /// How many bytes a call takes, unless it fails.
@@ -66,6 +67,12 @@ fn taken(text: &str) -> Result<Option<usize>> {
 /// Whether a device has failed after a call.
 fn has_failed(call: &str, device: Device, bytes: &[u8]) -> Result<bool> {
     let mut device = Watched::new(device);
+    make_call(call, &mut device, bytes)?;
+    Ok(device.failed())
+}
+
+/// Makes a call of a device, whatever comes of it.
+fn make_call(call: &str, device: &mut Watched<Device>, bytes: &[u8]) -> Result<()> {
     match call {
         "write" => {
             let _ = device.write(bytes);
@@ -78,5 +85,5 @@ fn has_failed(call: &str, device: Device, bytes: &[u8]) -> Result<bool> {
         }
         _ => bail!("an unknown call"),
     }
-    Ok(device.failed())
+    Ok(())
 }

@@ -4,33 +4,18 @@
 //! The file `stdin` has the questions. The file `stdout` has the answers that are expected, which were worked out by hand
 //! from the rules. They are data: no proof depends on them.
 //!
-//! A question is a line: a subject, a question about it, and one or more fields with ` | ` between them.
+//! A question is a line, as `test_kit` says: a subject, a question about it, and one or more fields.
 //!
 //! ```text
 //! pattern matches Name *.tmp | x.tmp
 //! ```
 //!
-//! It is answered by `pattern matches Name *.tmp | x.tmp -> yes`. A text in an answer stands in quotes, as Rust prints it
-//! for debugging. A fault is shown by its name. An empty line, or one that begins with `#`, is written as it is.
-//!
-//! A field is a text, or several texts joined by ` ++ `. A text before ` ** ` and a number stands there so many times:
-//! the field `a/ ** 63 ++ b` is a path of 64 names. These escapes may stand in a text:
-//!
-//! | Escape | What it stands for |
-//! |---|---|
-//! | `\n`, `\r`, `\t`, `\0` | LF, CR, a tab, NUL |
-//! | `\s` | a space, where one can't be seen: at the start or the end |
-//! | `\e` | nothing, so that the empty text can be seen |
-//! | `\\` | `\` |
-//! | `\xff` | the byte with these two hexadecimal digits |
-//!
-//! A line that is none of these ends the program with an error.
+//! It is answered by `pattern matches Name *.tmp | x.tmp => yes`. A text in an answer stands in quotes, as Rust prints it
+//! for debugging. A fault is shown by its name. The escapes of `test_kit` may stand in all fields.
 #![tactic(auto)]
 
 mod answers;
 mod devices;
-mod escapes;
-mod fields;
 mod lists;
 mod names;
 mod paths;
@@ -40,60 +25,67 @@ mod roots;
 mod rules;
 mod texts;
 
-use anyhow::{Context, Result, bail};
-use fields::Fields;
+use anyhow::{Result, bail};
 use std::alloc::Global;
-use std::io::{BufRead, BufReader};
+use test_kit::{Answers, answer_table, cut, text_of};
 
 fn main(rt: HostRuntime) -> Result<()> {
-    let alloc = rt.alloc();
-    for line in BufReader::new(alloc, rt.reader())?.lines(alloc) {
-        let line = line?;
-        write_line(&rt, alloc, line.as_str())?;
+    answer_table(&rt, &mut Program {})
+}
+
+/// What answers the questions. It keeps nothing from one to the next.
+#[derive(Drop)]
+struct Program {}
+
+impl Answers for Program {
+    fn takes(&mut self, _line: &str) -> Result<bool> {
+        Ok(false)
     }
-    Ok(())
-}
 
-/// Writes a line of the input, and the answer if it is a question.
-fn write_line(rt: &impl Print, alloc: Global, line: &str) -> Result<()> {
-    if line.is_empty() || line.starts_with('#') {
-        println!(rt; "{line}")?;
-    } else {
-        let answer = answer(alloc, line).context(format_args!("{line}"))?;
-        println!(rt; "{line} -> {answer}")?;
+    fn answer(&mut self, alloc: Global, word: &str, fields: &str) -> Result<String> {
+        let (question, fields) = cut(fields);
+        answer(alloc, word, question, fields)
     }
-    Ok(())
-}
-
-/// Answers the question of a line.
-fn answer(alloc: Global, line: &str) -> Result<String> {
-    let (subject, rest) = cut(line);
-    let (question, rest) = cut(rest);
-    let mut fields = Fields::new(alloc, rest);
-    let answer = answer_on(subject, question, &mut fields)?;
-    fields.end()?;
-    Ok(answer)
-}
-
-/// Cuts a text at its first space. What isn't there is empty.
-fn cut(text: &str) -> (&str, &str) {
-    text.split_once(' ').unwrap_or((text, ""))
 }
 
 /// Answers a question about a subject.
-fn answer_on(subject: &str, question: &str, fields: &mut Fields<'_>) -> Result<String> {
+fn answer(alloc: Global, subject: &str, question: &str, fields: &str) -> Result<String> {
     match subject {
-        "list" => lists::answer(question, fields),
-        "text" => texts::answer(question, fields),
-        "device" => devices::answer(question, fields),
-        "name" => names::answer(question, fields),
-        "path" => paths::answer(question, fields),
-        "root" => roots::answer(question, fields),
-        "side" => roots::answer_on_side(question, fields),
-        "pattern" => patterns::answer(question, fields),
-        "profile" => profiles::answer("", question, fields),
-        "lines" => profiles::answer(profiles::ROOTS, question, fields),
-        "rules" => rules::answer(question, fields),
+        "profile" => profiles::answer(alloc, "", question, fields),
+        "lines" => profiles::answer(alloc, profiles::ROOTS, question, fields),
+        "rules" => rules::answer(alloc, question, fields),
+        _ => {
+            let texts = texts_of(alloc, fields)?;
+            answer_on_texts(alloc, subject, question, texts.as_slice())
+        }
+    }
+}
+
+/// The fields, of which each is a text.
+fn texts_of(alloc: Global, fields: &str) -> Result<Vec<String>> {
+    let mut texts = Vec::new(alloc);
+    for field in fields.split(" | ") {
+        texts.push(text_of(alloc, field)?)?;
+    }
+    Ok(texts)
+}
+
+/// Answers a question about a subject that texts say.
+fn answer_on_texts(
+    alloc: Global,
+    subject: &str,
+    question: &str,
+    texts: &[String],
+) -> Result<String> {
+    match subject {
+        "list" => lists::answer(alloc, question, texts),
+        "text" => texts::answer(alloc, question, texts),
+        "device" => devices::answer(alloc, question, texts),
+        "name" => names::answer(alloc, question, texts),
+        "path" => paths::answer(alloc, question, texts),
+        "root" => roots::answer(alloc, question, texts),
+        "side" => roots::answer_on_side(alloc, question, texts),
+        "pattern" => patterns::answer(alloc, question, texts),
         _ => bail!("an unknown subject"),
     }
 }

@@ -1,9 +1,9 @@
 //! Questions about names.
-use crate::answers::{hash_alike, quoted, shown, word_of, yes_or_no};
-use crate::fields::Fields;
+use crate::answers::hash_alike;
 use anyhow::{Result, bail};
 use hub_path::Name;
 use std::alloc::Global;
+use test_kit::{quoted, shown, word_of, yes_or_no};
 
 /// Answers a question about the text of a name:
 ///
@@ -11,15 +11,20 @@ use std::alloc::Global;
 /// - `copy`: whether the name is equal to its copy, and how the copy is displayed.
 /// - `hash`: whether the name and its text are hashed alike.
 /// - `compare`: how the name compares with that of the second field.
-pub fn answer(question: &str, fields: &mut Fields<'_>) -> Result<String> {
-    let alloc = fields.alloc();
-    let text = fields.text()?;
+pub(crate) fn answer(alloc: Global, question: &str, texts: &[String]) -> Result<String> {
+    match texts {
+        [text] => answer_on_one(alloc, question, text.as_str()),
+        [text, other] => compare(alloc, question, text.as_str(), other.as_str()),
+        _ => bail!("not one or two fields"),
+    }
+}
+
+fn answer_on_one(alloc: Global, question: &str, text: &str) -> Result<String> {
     match question {
-        "read" => name_or_fault(alloc, text.as_str()),
-        "from-text" => name_or_none(alloc, text.as_str()),
-        "copy" => copy(alloc, text.as_str()),
-        "hash" => hash(alloc, text.as_str()),
-        "compare" => compare(alloc, text.as_str(), fields),
+        "read" => name_or_fault(alloc, text),
+        "from-text" => name_or_none(alloc, text),
+        "copy" => copy(alloc, text),
+        "hash" => hash(alloc, text),
         _ => bail!("an unknown question"),
     }
 }
@@ -50,8 +55,11 @@ fn hash(alloc: Global, text: &str) -> Result<String> {
     yes_or_no(alloc, hash_alike(&name, &text))
 }
 
-fn compare(alloc: Global, text: &str, fields: &mut Fields<'_>) -> Result<String> {
+fn compare(alloc: Global, question: &str, text: &str, other: &str) -> Result<String> {
+    if question != "compare" {
+        bail!("an unknown question");
+    }
     let name = Name::read(alloc, text)?;
-    let other = Name::read(alloc, fields.text()?.as_str())?;
+    let other = Name::read(alloc, other)?;
     Ok(format!(in alloc; "{:?}", name.cmp(&other))?)
 }

@@ -1,9 +1,8 @@
 //! Questions about paths.
-use crate::answers::{quoted, shown, yes_or_no};
-use crate::fields::Fields;
 use anyhow::{Result, bail, ensure};
 use hub_path::{Name, RelPath, without_last_slash};
 use std::alloc::Global;
+use test_kit::{quoted, shown, yes_or_no};
 
 /// Answers a question about the text of a path:
 ///
@@ -16,37 +15,40 @@ use std::alloc::Global;
 /// - `parent`: that of its parent, or `none`. `child`: that of its child with the name of the second field.
 /// - `name`: its name at the place of the second field, counted from 0.
 /// - `starts-with`, `compare`: how it compares with the path of the second field.
-pub fn answer(question: &str, fields: &mut Fields<'_>) -> Result<String> {
-    let alloc = fields.alloc();
-    let text = fields.text()?;
-    match question {
-        "read" => path_or_fault(alloc, text.as_str()),
-        "from-text" => path_or_none(alloc, RelPath::from_text(alloc, text.as_str())?),
-        "without-last-slash" => quoted(alloc, without_last_slash(text.as_str())),
-        _ => answer_on_path(question, &path_of(alloc, text.as_str())?, fields),
+pub(crate) fn answer(alloc: Global, question: &str, texts: &[String]) -> Result<String> {
+    match texts {
+        [text] => answer_on_one(alloc, question, text.as_str()),
+        [text, other] => {
+            let path = path_of(alloc, text.as_str())?;
+            answer_on_two(alloc, question, &path, other.as_str())
+        }
+        _ => bail!("not one or two fields"),
     }
 }
 
-/// Answers a question about a path.
-fn answer_on_path(question: &str, path: &RelPath, fields: &mut Fields<'_>) -> Result<String> {
-    let alloc = fields.alloc();
+fn answer_on_one(alloc: Global, question: &str, text: &str) -> Result<String> {
     match question {
-        "shown" => path_shown(alloc, path),
-        "parent" => path_or_none(alloc, path.parent()?),
-        "child" => child(path, fields),
-        "name" => name_at(path, fields),
-        "starts-with" => yes_or_no(alloc, path.starts_with(&read(fields)?)),
-        "compare" => compare(path, fields),
+        "read" => path_or_fault(alloc, text),
+        "from-text" => path_or_none(alloc, RelPath::from_text(alloc, text)?),
+        "without-last-slash" => quoted(alloc, without_last_slash(text)),
+        "shown" => path_shown(alloc, &path_of(alloc, text)?),
+        "parent" => parent(alloc, &path_of(alloc, text)?),
         _ => bail!("an unknown question"),
     }
 }
 
-/// Reads the path of the next field.
-pub fn read(fields: &mut Fields<'_>) -> Result<RelPath> {
-    path_of(fields.alloc(), fields.text()?.as_str())
+fn answer_on_two(alloc: Global, question: &str, path: &RelPath, other: &str) -> Result<String> {
+    match question {
+        "child" => child(alloc, path, other),
+        "name" => name_at(alloc, path, other.parse::<usize>()?),
+        "starts-with" => starts_with(alloc, path, other),
+        "compare" => compare(alloc, path, other),
+        _ => bail!("an unknown question"),
+    }
 }
 
-fn path_of(alloc: Global, text: &str) -> Result<RelPath> {
+/// The path of a text. The empty text is that of the path without names.
+pub(crate) fn path_of(alloc: Global, text: &str) -> Result<RelPath> {
     if text.is_empty() {
         return Ok(RelPath::top(alloc));
     }
@@ -73,19 +75,25 @@ fn path_or_none(alloc: Global, path: Option<RelPath>) -> Result<String> {
     }
 }
 
-fn child(path: &RelPath, fields: &mut Fields<'_>) -> Result<String> {
-    let alloc = fields.alloc();
-    let name = Name::read(alloc, fields.text()?.as_str())?;
+fn parent(alloc: Global, path: &RelPath) -> Result<String> {
+    path_or_none(alloc, path.parent()?)
+}
+
+fn child(alloc: Global, path: &RelPath, name: &str) -> Result<String> {
+    let name = Name::read(alloc, name)?;
     path_shown(alloc, &path.child(name)?)
 }
 
-fn name_at(path: &RelPath, fields: &mut Fields<'_>) -> Result<String> {
-    let place = fields.number()?;
+fn name_at(alloc: Global, path: &RelPath, place: usize) -> Result<String> {
     ensure!(place < path.len(), "the path has fewer names");
-    quoted(fields.alloc(), path.name(place).text())
+    quoted(alloc, path.name(place).text())
 }
 
-fn compare(path: &RelPath, fields: &mut Fields<'_>) -> Result<String> {
-    let order = path.cmp(&read(fields)?);
-    Ok(format!(in fields.alloc(); "{order:?}")?)
+fn starts_with(alloc: Global, path: &RelPath, prefix: &str) -> Result<String> {
+    yes_or_no(alloc, path.starts_with(&path_of(alloc, prefix)?))
+}
+
+fn compare(alloc: Global, path: &RelPath, other: &str) -> Result<String> {
+    let order = path.cmp(&path_of(alloc, other)?);
+    Ok(format!(in alloc; "{order:?}")?)
 }

@@ -1,10 +1,11 @@
 //! Questions about path specifications and their pieces.
-use crate::answers::{quoted, shown, yes_or_no};
-use crate::fields::Fields;
-use crate::paths;
+use crate::paths::path_of;
+use crate::texts::character_of;
 use anyhow::{Result, bail, ensure};
 use hub_glob::{Next, PathSpec, Piece};
+use hub_path::RelPath;
 use std::alloc::{AllocError, Global};
+use test_kit::{quoted, shown, yes_or_no};
 
 /// Answers a question about the text of a specification:
 ///
@@ -19,26 +20,64 @@ use std::alloc::{AllocError, Global};
 /// - `choices`: its choices, in which a piece is a letter, `*` for a star, and `?` for any other one.
 /// - `takes`: whether each piece of each choice takes the character of the second field. It stands at the place of the
 ///   third field: `first` or `later`.
-pub fn answer(question: &str, fields: &mut Fields<'_>) -> Result<String> {
-    let alloc = fields.alloc();
-    let text = fields.text()?;
-    match question {
-        "fault" => fault_or_none(alloc, text.as_str()),
-        _ => answer_on_pattern(question, &PathSpec::read(alloc, text.as_str())?, fields),
+pub(crate) fn answer(alloc: Global, question: &str, texts: &[String]) -> Result<String> {
+    match (question, texts) {
+        ("fault", [text]) => fault_or_none(alloc, text.as_str()),
+        (_, [text, others @ ..]) => {
+            let spec = PathSpec::read(alloc, text.as_str())?;
+            answer_on_pattern(alloc, question, &spec, others)
+        }
+        _ => bail!("a field is missing"),
     }
 }
 
 /// Answers a question about a specification.
-fn answer_on_pattern(question: &str, spec: &PathSpec, fields: &mut Fields<'_>) -> Result<String> {
-    let alloc = fields.alloc();
+fn answer_on_pattern(
+    alloc: Global,
+    question: &str,
+    spec: &PathSpec,
+    others: &[String],
+) -> Result<String> {
+    match others {
+        [] => answer_on_spec(alloc, question, spec),
+        [path] => matches(alloc, question, spec, path.as_str()),
+        [first, second] => answer_on_two(alloc, question, spec, first.as_str(), second.as_str()),
+        _ => bail!("a field too many"),
+    }
+}
+
+fn answer_on_spec(alloc: Global, question: &str, spec: &PathSpec) -> Result<String> {
     match question {
         "kind" => Ok(format!(in alloc; "{:?}", spec.kind())?),
         "parts" => shown(alloc, &spec.pattern().len()),
         "text" => quoted(alloc, spec.text()?.as_str()),
-        "matches" => yes_or_no(alloc, spec.matches(&paths::read(fields)?)),
-        "matches-front" => matches_front(spec, fields),
         "choices" => choices(alloc, spec),
-        "takes" => takes(spec, fields),
+        _ => bail!("an unknown question"),
+    }
+}
+
+fn matches(alloc: Global, question: &str, spec: &PathSpec, path: &str) -> Result<String> {
+    ensure!(question == "matches", "an unknown question");
+    yes_or_no(alloc, spec.matches(&path_of(alloc, path)?))
+}
+
+fn answer_on_two(
+    alloc: Global,
+    question: &str,
+    spec: &PathSpec,
+    first: &str,
+    second: &str,
+) -> Result<String> {
+    match question {
+        "matches-front" => {
+            matches_front(
+                alloc,
+                spec,
+                &path_of(alloc, first)?,
+                second.parse::<usize>()?,
+            )
+        }
+        "takes" => takes(alloc, spec, next_of(first, second)?),
         _ => bail!("an unknown question"),
     }
 }
@@ -50,11 +89,9 @@ fn fault_or_none(alloc: Global, text: &str) -> Result<String> {
     }
 }
 
-fn matches_front(spec: &PathSpec, fields: &mut Fields<'_>) -> Result<String> {
-    let path = paths::read(fields)?;
-    let count = fields.number()?;
+fn matches_front(alloc: Global, spec: &PathSpec, path: &RelPath, count: usize) -> Result<String> {
     ensure!(count <= path.len(), "the path has fewer names");
-    yes_or_no(fields.alloc(), spec.matches_front(&path, count))
+    yes_or_no(alloc, spec.matches_front(path, count))
 }
 
 fn choices(alloc: Global, spec: &PathSpec) -> Result<String> {
@@ -81,15 +118,20 @@ fn letter_of(piece: &Piece) -> char {
     }
 }
 
-fn takes(spec: &PathSpec, fields: &mut Fields<'_>) -> Result<String> {
-    let character = fields.character()?;
-    let first = fields.text()?.as_str() == "first";
-    let next = Next { character, first };
-    let mut taken = Vec::new(fields.alloc());
+/// A character at a place.
+fn next_of(character: &str, place: &str) -> Result<Next> {
+    Ok(Next {
+        character: character_of(character)?,
+        first: place == "first",
+    })
+}
+
+fn takes(alloc: Global, spec: &PathSpec, next: Next) -> Result<String> {
+    let mut taken = Vec::new(alloc);
     for choice in spec.choices()?.as_slice() {
         push_taken(&mut taken, choice.as_slice(), next)?;
     }
-    Ok(format!(in fields.alloc(); "{taken:?}")?)
+    Ok(format!(in alloc; "{taken:?}")?)
 }
 
 /// Appends whether each of the pieces takes a character.

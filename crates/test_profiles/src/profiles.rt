@@ -1,39 +1,69 @@
 //! Questions about profiles. Each has the name `p`.
-use crate::answers::quoted;
-use crate::fields::Fields;
-use crate::paths;
+use crate::paths::path_of;
 use anyhow::{Result, bail};
 use hub_glob::PathSpec;
 use hub_path::{Name, RelPath, Side};
-use hub_profile::{Bars, Profile, read_profile};
+use hub_profile::{Bars, Profile, ProfileFault, read_profile};
 use std::alloc::{AllocError, Global};
+use test_kit::{bytes_of, quoted, shown, two};
 
 /// The lines of two roots.
-pub const ROOTS: &str = "root = /srv/hub\nroot = /srv/s1\n";
+pub(crate) const ROOTS: &str = "root = /srv/hub\nroot = /srv/s1\n";
 
 /// Answers a question about the profile of lines that follow those of the roots, or reports a fault:
 ///
 /// - `kept`: its name, its roots and its kept values.
 /// - `protects`: the sides that `force` and `prefer` name, and the changes that aren't made at each root.
 /// - `ignores`: which of the `ignore` lines, and which of the `ignorenot` lines, match the path of the second field.
-pub fn answer(roots: &str, question: &str, fields: &mut Fields<'_>) -> Result<String> {
-    let alloc = fields.alloc();
-    let mut text = Vec::from_slice(alloc, roots.as_bytes())?;
-    text.extend_from_slice(fields.bytes()?.as_slice())?;
-    match read_profile(alloc, Name::read(alloc, "p")?, text.as_slice()) {
-        Ok(profile) => answer_on_profile(question, &profile, fields),
-        Err(fault) => quoted(alloc, fault.to_string(alloc)?.as_str()),
+pub(crate) fn answer(alloc: Global, roots: &str, question: &str, fields: &str) -> Result<String> {
+    match question {
+        "kept" | "protects" => answer_on_lines(alloc, roots, question, fields),
+        "ignores" => answer_on_path(alloc, roots, fields),
+        _ => bail!("an unknown question"),
     }
 }
 
-fn answer_on_profile(question: &str, profile: &Profile, fields: &mut Fields<'_>) -> Result<String> {
-    let alloc = fields.alloc();
+fn answer_on_lines(alloc: Global, roots: &str, question: &str, lines: &str) -> Result<String> {
+    let text = profile_text(alloc, roots, lines)?;
+    let name = Name::read(alloc, "p")?;
+    answer_on_reading(alloc, question, &read_profile(alloc, name, text.as_slice()))
+}
+
+fn answer_on_reading(
+    alloc: Global,
+    question: &str,
+    reading: &Result<Profile, ProfileFault>,
+) -> Result<String> {
+    match reading {
+        Ok(profile) => answer_on_profile(alloc, question, profile),
+        Err(fault) => quoted(alloc, shown(alloc, fault)?.as_str()),
+    }
+}
+
+fn answer_on_profile(alloc: Global, question: &str, profile: &Profile) -> Result<String> {
     match question {
         "kept" => kept(alloc, profile),
-        "protects" => protected(alloc, profile),
-        "ignores" => ignored(alloc, profile, &paths::read(fields)?),
-        _ => bail!("an unknown question"),
+        _ => protected(alloc, profile),
     }
+}
+
+fn answer_on_path(alloc: Global, roots: &str, fields: &str) -> Result<String> {
+    let (lines, path) = two(fields)?;
+    let text = profile_text(alloc, roots, lines)?;
+    let path = path_of(alloc, path)?;
+    ignored_in(alloc, text.as_slice(), &path)
+}
+
+fn ignored_in(alloc: Global, text: &[u8], path: &RelPath) -> Result<String> {
+    let profile = read_profile(alloc, Name::read(alloc, "p")?, text)?;
+    ignored(alloc, &profile, path)
+}
+
+/// The bytes of the roots and the lines.
+fn profile_text(alloc: Global, roots: &str, lines: &str) -> Result<Vec<u8>> {
+    let mut text = Vec::from_slice(alloc, roots.as_bytes())?;
+    text.extend_from_slice(bytes_of(alloc, lines)?.as_slice())?;
+    Ok(text)
 }
 
 /// The name and the roots of a profile, and its kept values in brackets.

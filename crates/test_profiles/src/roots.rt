@@ -1,9 +1,9 @@
 //! Questions about roots and sides.
-use crate::answers::{both, hash_alike, quoted, shown, yes_or_no};
-use crate::fields::Fields;
+use crate::answers::{both, hash_alike};
 use anyhow::{Result, bail};
 use hub_path::{Root, Side};
 use std::alloc::Global;
+use test_kit::{quoted, shown, yes_or_no};
 
 /// Answers a question about the text of a root:
 ///
@@ -14,24 +14,28 @@ use std::alloc::Global;
 /// - `text`, `names`: a copy of its text, and the number of its names.
 /// - `copy`: whether it is equal to its copy, and hashed alike. `hash`: whether it is hashed as its path.
 /// - `compare`: whether it is within that of the second field, and whether it is equal.
-pub fn answer(question: &str, fields: &mut Fields<'_>) -> Result<String> {
-    let alloc = fields.alloc();
-    let text = fields.text()?;
+pub(crate) fn answer(alloc: Global, question: &str, texts: &[String]) -> Result<String> {
+    match texts {
+        [text] => answer_on_one(alloc, question, text.as_str()),
+        [text, other] => compare(alloc, question, text.as_str(), other.as_str()),
+        _ => bail!("not one or two fields"),
+    }
+}
+
+fn answer_on_one(alloc: Global, question: &str, text: &str) -> Result<String> {
     match question {
-        "read" => root_or_fault(alloc, text.as_str()),
-        _ => answer_on_root(question, &Root::read(alloc, text.as_str())?, fields),
+        "read" => root_or_fault(alloc, text),
+        _ => answer_on_root(alloc, question, &Root::read(alloc, text)?),
     }
 }
 
 /// Answers a question about a root.
-fn answer_on_root(question: &str, root: &Root, fields: &mut Fields<'_>) -> Result<String> {
-    let alloc = fields.alloc();
+fn answer_on_root(alloc: Global, question: &str, root: &Root) -> Result<String> {
     match question {
         "text" => quoted(alloc, root.text()?.as_str()),
         "names" => shown(alloc, &root.path().len()),
         "copy" => copy(alloc, root),
         "hash" => yes_or_no(alloc, hash_alike(root, root.path())),
-        "compare" => compare(root, fields),
         _ => bail!("an unknown question"),
     }
 }
@@ -48,22 +52,27 @@ fn copy(alloc: Global, root: &Root) -> Result<String> {
     both(alloc, copy == *root, hash_alike(&copy, root))
 }
 
-fn compare(root: &Root, fields: &mut Fields<'_>) -> Result<String> {
-    let other = Root::read(fields.alloc(), fields.text()?.as_str())?;
-    both(fields.alloc(), root.is_within(&other), *root == other)
+fn compare(alloc: Global, question: &str, text: &str, other: &str) -> Result<String> {
+    if question != "compare" {
+        bail!("an unknown question");
+    }
+    let root = Root::read(alloc, text)?;
+    let other = Root::read(alloc, other)?;
+    both(alloc, root.is_within(&other), root == other)
 }
 
 /// Answers a question about a side: `is-less`, whether it is less than that of the second field.
-pub fn answer_on_side(question: &str, fields: &mut Fields<'_>) -> Result<String> {
-    let side = side_of(fields)?;
-    match question {
-        "is-less" => yes_or_no(fields.alloc(), side < side_of(fields)?),
+pub(crate) fn answer_on_side(alloc: Global, question: &str, texts: &[String]) -> Result<String> {
+    match (question, texts) {
+        ("is-less", [side, other]) => {
+            yes_or_no(alloc, side_of(side.as_str())? < side_of(other.as_str())?)
+        }
         _ => bail!("an unknown question"),
     }
 }
 
-fn side_of(fields: &mut Fields<'_>) -> Result<Side> {
-    match fields.text()?.as_str() {
+fn side_of(text: &str) -> Result<Side> {
+    match text {
         "left" => Ok(Side::Left),
         "right" => Ok(Side::Right),
         _ => bail!("an unknown side"),

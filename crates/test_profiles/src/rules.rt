@@ -1,19 +1,26 @@
 //! Questions about rules.
-use crate::answers::{quoted, shown};
-use crate::fields::Fields;
 use anyhow::{Result, bail};
-use hub_profile::{Rule, Verb, read_rules};
+use hub_profile::{ProfileFault, Rule, Rules, Verb, read_rules};
 use std::alloc::{AllocError, Global};
+use test_kit::{bytes_of, quoted, shown};
 
 /// Answers a question about the rules of a text, or reports the text's fault:
 ///
 /// - `count`: how many there are.
 /// - `list`: each of them.
-pub fn answer(question: &str, fields: &mut Fields<'_>) -> Result<String> {
-    let alloc = fields.alloc();
-    match read_rules(alloc, fields.bytes()?.as_slice()) {
+pub(crate) fn answer(alloc: Global, question: &str, text: &str) -> Result<String> {
+    let text = bytes_of(alloc, text)?;
+    answer_on_reading(alloc, question, &read_rules(alloc, text.as_slice()))
+}
+
+fn answer_on_reading(
+    alloc: Global,
+    question: &str,
+    reading: &Result<Rules, ProfileFault>,
+) -> Result<String> {
+    match reading {
         Ok(rules) => answer_on_rules(alloc, question, rules.as_slice()),
-        Err(fault) => quoted(alloc, fault.to_string(alloc)?.as_str()),
+        Err(fault) => quoted(alloc, shown(alloc, fault)?.as_str()),
     }
 }
 

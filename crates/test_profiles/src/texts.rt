@@ -1,12 +1,11 @@
 //! Questions about texts: their words, their ends and their lines.
-use crate::answers::{quoted, yes_or_no};
-use crate::fields::Fields;
 use anyhow::{Context, Result, bail, ensure};
 use hub_text::{
     Lines, TextLines, begins_with, compare, first_word, is_empty, skip_blanks, without_last,
 };
 use std::alloc::{AllocError, Global};
 use std::str;
+use test_kit::{quoted, yes_or_no};
 
 /// Answers a question about a text:
 ///
@@ -15,19 +14,31 @@ use std::str;
 /// - `compare`: how it compares with that of the second field, that one with it, and that one with itself.
 /// - `lines`, `byte-lines`: each line after a `<`, and before a `>` if an LF ends it.
 /// - `first-line`: it, and the bytes of the later lines.
-pub fn answer(question: &str, fields: &mut Fields<'_>) -> Result<String> {
-    let alloc = fields.alloc();
-    let text = fields.text()?;
+pub(crate) fn answer(alloc: Global, question: &str, texts: &[String]) -> Result<String> {
+    match texts {
+        [text] => answer_on_one(alloc, question, text.as_str()),
+        [text, other] => answer_on_two(alloc, question, text.as_str(), other.as_str()),
+        _ => bail!("not one or two fields"),
+    }
+}
+
+fn answer_on_one(alloc: Global, question: &str, text: &str) -> Result<String> {
     match question {
-        "first-word" => word_and_rest(alloc, text.as_str()),
-        "skip-blanks" => quoted(alloc, skip_blanks(text.as_str())),
-        "is-empty" => yes_or_no(alloc, is_empty(text.as_str())),
-        "begins-with" => begins(text.as_str(), fields),
-        "without-last" => shortened(text.as_str(), fields),
-        "compare" => compared(text.as_str(), fields),
-        "lines" => lines(alloc, text.as_str()),
+        "first-word" => word_and_rest(alloc, text),
+        "skip-blanks" => quoted(alloc, skip_blanks(text)),
+        "is-empty" => yes_or_no(alloc, is_empty(text)),
+        "lines" => lines(alloc, text),
         "byte-lines" => byte_lines(alloc, text.as_bytes()),
         "first-line" => line_and_rest(alloc, text.as_bytes()),
+        _ => bail!("an unknown question"),
+    }
+}
+
+fn answer_on_two(alloc: Global, question: &str, text: &str, other: &str) -> Result<String> {
+    match question {
+        "begins-with" => begins(alloc, text, character_of(other)?),
+        "without-last" => shortened(alloc, text, character_of(other)?),
+        "compare" => compared(alloc, text, other),
         _ => bail!("an unknown question"),
     }
 }
@@ -37,28 +48,25 @@ fn word_and_rest(alloc: Global, text: &str) -> Result<String> {
 }
 
 /// Whether a text begins with an ASCII character.
-fn begins(text: &str, fields: &mut Fields<'_>) -> Result<String> {
-    let character = fields.character()?;
+fn begins(alloc: Global, text: &str, character: char) -> Result<String> {
     ensure!(
         character.is_ascii() && character != '\0',
         "not an ASCII character, or NUL"
     );
-    yes_or_no(fields.alloc(), begins_with(text, character))
+    yes_or_no(alloc, begins_with(text, character))
 }
 
 /// A text without an ASCII character at its end.
-fn shortened(text: &str, fields: &mut Fields<'_>) -> Result<String> {
-    let character = fields.character()?;
+fn shortened(alloc: Global, text: &str, character: char) -> Result<String> {
     ensure!(character.is_ascii(), "not an ASCII character");
-    quoted(fields.alloc(), without_last(text, character))
+    quoted(alloc, without_last(text, character))
 }
 
-fn compared(text: &str, fields: &mut Fields<'_>) -> Result<String> {
-    let other = fields.text()?;
-    let order = compare(text, other.as_str());
-    let back = compare(other.as_str(), text);
-    let same = compare(other.as_str(), other.as_str());
-    Ok(format!(in fields.alloc(); "{order:?}, {back:?}, {same:?}")?)
+fn compared(alloc: Global, text: &str, other: &str) -> Result<String> {
+    let order = compare(text, other);
+    let back = compare(other, text);
+    let same = compare(other, other);
+    Ok(format!(in alloc; "{order:?}, {back:?}, {same:?}")?)
 }
 
 fn lines(alloc: Global, text: &str) -> Result<String> {
@@ -88,4 +96,13 @@ fn line_and_rest(alloc: Global, bytes: &[u8]) -> Result<String> {
     let first = str::from_utf8(line.text)?;
     let rest = str::from_utf8(lines.rest())?;
     Ok(format!(in alloc; "{:?}", (first, rest))?)
+}
+
+/// The character that a text is.
+pub(crate) fn character_of(text: &str) -> Result<char> {
+    let mut characters = text.chars();
+    match (characters.next(), characters.next()) {
+        (Some(character), None) => Ok(character),
+        _ => bail!("a field isn't one character"),
+    }
 }

@@ -5,18 +5,18 @@
 //! - `all: TEXTS` is such a certificate for each goal of the set that is asked about.
 //! - `none` is no certificate.
 use crate::faults::fault_text;
-use crate::fields::{text_of, word_of};
 use crate::goals::goal_of;
+use crate::words::{text_of, word_of};
 use anyhow::Result;
 use hub_cert::{Certificate, CheckFault, Goal, StageText, read_certificates, write_certificates};
 use hub_text::Items;
 use std::alloc::{AllocError, Global};
+use test_kit::{bytes_of, in_one_line};
 
 /// What is written of the certificates that are read from a text, or its fault.
 pub(crate) fn read_answer(alloc: Global, field: &str) -> Result<String> {
-    let text = field.replace(alloc, "\\n", "\n")?;
-    let text = text.as_str().replace(alloc, "\\r", "\r")?;
-    text_or_fault(alloc, read_and_write(alloc, text.as_bytes()))
+    let text = bytes_of(alloc, field)?;
+    text_or_fault(alloc, &read_and_write(alloc, text.as_slice()))
 }
 
 fn read_and_write(alloc: Global, bytes: &[u8]) -> Result<String, CheckFault> {
@@ -27,14 +27,14 @@ fn read_and_write(alloc: Global, bytes: &[u8]) -> Result<String, CheckFault> {
 /// The text of certificates.
 pub(crate) fn write_answer(alloc: Global, field: &str) -> Result<String> {
     let certificates = certificates_of(alloc, field, &[])?;
-    text_or_fault(alloc, write_certificates(alloc, certificates.as_slice()))
+    text_or_fault(alloc, &write_certificates(alloc, certificates.as_slice()))
 }
 
 /// A text in one line, or a fault.
-fn text_or_fault(alloc: Global, written: Result<String, CheckFault>) -> Result<String> {
+fn text_or_fault(alloc: Global, written: &Result<String, CheckFault>) -> Result<String> {
     match written {
-        Ok(text) => Ok(text.as_str().replace(alloc, "\n", "\\n")?),
-        Err(fault) => Ok(fault_text(alloc, &fault)?),
+        Ok(text) => in_one_line(alloc, text.as_str()),
+        Err(fault) => Ok(fault_text(alloc, fault)?),
     }
 }
 

@@ -1,23 +1,23 @@
 //! Goals, which are written as in docs/CERTIFICATES.md: `clash 0 1 root 0`, `clash 0 1 archive`, `breach 0 1`.
-use crate::fields::first;
 use crate::sets::set_of;
 use anyhow::{Context, Result, bail};
-use hub_cert::{Goal, Place};
+use hub_cert::{Goal, Place, ProfileSet};
 use hub_path::Side;
 use std::alloc::{AllocError, Global};
+use test_kit::{first, list_text, yes_or_no};
 
 /// The goals of a set, or `none`.
 pub(crate) fn goals_answer(alloc: Global, fields: &str) -> Result<String> {
     let set = set_of(alloc, fields)?;
-    let goals = set.goals(alloc)?;
+    goals_text(alloc, &set)
+}
+
+fn goals_text(alloc: Global, set: &ProfileSet) -> Result<String> {
     let mut texts = Vec::new(alloc);
-    for goal in goals.as_slice() {
+    for goal in set.goals(alloc)?.as_slice() {
         texts.push(goal_text(alloc, *goal)?)?;
     }
-    if texts.is_empty() {
-        return Ok(String::from_str(alloc, "none")?);
-    }
-    Ok(texts.as_slice().join(alloc, ", ")?)
+    list_text(alloc, texts.as_slice())
 }
 
 /// Whether a set has a goal.
@@ -25,8 +25,7 @@ pub(crate) fn has_answer(alloc: Global, fields: &str) -> Result<String> {
     let (goal, fields) = first(fields)?;
     let goal = goal_of(goal)?;
     let set = set_of(alloc, fields)?;
-    let answer = if set.has(goal) { "yes" } else { "no" };
-    Ok(String::from_str(alloc, answer)?)
+    yes_or_no(alloc, set.has(goal))
 }
 
 /// Reads a goal.

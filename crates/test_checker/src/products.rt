@@ -4,13 +4,14 @@ ghost use Rattle.hub_automaton.specs.Alphabet.{class_count};
 ghost use Rattle.hub_cert.specs.Goals.{is_goal};
 ghost use Rattle.hub_cert.specs.Product.{HasClass};
 
-use crate::fields::{first, text_of};
 use crate::goals::goal_of;
 use crate::sets::set_of;
+use crate::words::text_of;
 use anyhow::{Result, bail};
 use hub_automaton::Alphabet;
 use hub_cert::{CheckFault, Goal, GoalStage, Product, ProfileSet};
 use std::alloc::{AllocError, Global};
+use test_kit::{first, shown};
 
 /// Where the product of a goal is after a text.
 pub(crate) fn walk_answer(alloc: Global, fields: &str) -> Result<String> {
@@ -18,11 +19,15 @@ pub(crate) fn walk_answer(alloc: Global, fields: &str) -> Result<String> {
     let (text, fields) = first(fields)?;
     let goal = goal_of(goal)?;
     let set = set_of(alloc, fields)?;
+    place_text(alloc, &set, goal, text_of(text))
+}
+
+fn place_text(alloc: Global, set: &ProfileSet, goal: Goal, text: &str) -> Result<String> {
     if !set.has(goal) {
         bail!("no goal of the set");
     }
-    match walk(alloc, &set, goal, text_of(text)) {
-        Ok(place) => Ok(String::from_str(alloc, place)?),
+    match walk(alloc, set, goal, text) {
+        Ok(place) => shown(alloc, &place),
         Err(fault) => bail!("no product: {fault:?}"),
     }
 }
@@ -31,20 +36,41 @@ fn walk(alloc: Global, set: &ProfileSet, goal: Goal, text: &str) -> Result<&'sta
     requires { IsTrue (is_goal set.now goal) }
 {
     let product = Product::new(alloc, set, goal)?;
-    let stage = stage_after(&product, set.alphabet(), text)?;
-    Ok(place_of(&product, &stage))
+    place_after(&product, set.alphabet(), text)
 }
 
-fn stage_after(product: &Product, alphabet: &Alphabet, text: &str) -> Result<GoalStage, AllocError>
+fn place_after(
+    product: &Product,
+    alphabet: &Alphabet,
+    text: &str,
+) -> Result<&'static str, CheckFault>
     requires { (k : ℕ) → k < class_count alphabet.now → HasClass product.now.automata k }
 {
-    let mut stage = product.start()?.copy()?;
+    let mut stage = start_of(product)?;
+    go_along(product, alphabet, text, &mut stage)?;
+    Ok(place_of(product, &stage))
+}
+
+/// A copy of the stage of the empty text.
+fn start_of(product: &Product) -> Result<GoalStage, AllocError> {
+    product.start()?.copy()
+}
+
+/// Takes a stage along a text. The characters that the alphabet has no class for are left out.
+fn go_along(
+    product: &Product,
+    alphabet: &Alphabet,
+    text: &str,
+    stage: &mut GoalStage,
+) -> Result<(), AllocError>
+    requires { (k : ℕ) → k < class_count alphabet.now → HasClass product.now.automata k }
+{
     for character in text.chars() {
         if let Some(class) = alphabet.class_of(character) {
-            stage = product.advance(&stage, class)?;
+            *stage = product.advance(stage, class)?;
         }
     }
-    Ok(stage)
+    Ok(())
 }
 
 fn place_of(product: &Product, stage: &GoalStage) -> &'static str {

@@ -5,19 +5,24 @@
 //!
 //! The lines have `; ` between them. Where there are none, the `: ` is left out, too.
 use crate::faults::fault_text;
-use anyhow::{Context, Result, bail};
-use hub_cert::ProfileSet;
+use anyhow::{Result, bail};
+use hub_cert::{CheckFault, ProfileSet};
 use hub_path::Name;
 use hub_profile::{Profile, Rules, read_profile, read_rules};
 use hub_text::Items;
 use std::alloc::{AllocError, Global};
+use test_kit::cut;
 
 /// How many profiles and rules the set has, or why there is no set.
 pub(crate) fn set_answer(alloc: Global, fields: &str) -> Result<String> {
     let (profiles, rules) = members_of(alloc, fields)?;
-    match ProfileSet::new(alloc, profiles, rules) {
-        Ok(set) => Ok(counts_text(alloc, &set)?),
-        Err(fault) => Ok(fault_text(alloc, &fault)?),
+    Ok(set_text(alloc, &ProfileSet::new(alloc, profiles, rules))?)
+}
+
+fn set_text(alloc: Global, made: &Result<ProfileSet, CheckFault>) -> Result<String, AllocError> {
+    match made {
+        Ok(set) => counts_text(alloc, set),
+        Err(fault) => fault_text(alloc, fault),
     }
 }
 
@@ -28,10 +33,10 @@ fn counts_text(alloc: Global, set: &ProfileSet) -> Result<String, AllocError> {
 }
 
 /// Makes the set of these fields.
-pub(crate) fn set_of(alloc: Global, fields: &str) -> Result<ProfileSet> {
+pub(crate) fn set_of(alloc: Global, fields: &str) -> Result<Box<ProfileSet>> {
     let (profiles, rules) = members_of(alloc, fields)?;
     match ProfileSet::new(alloc, profiles, rules) {
-        Ok(set) => Ok(set),
+        Ok(set) => Ok(Box::new(alloc, set)?),
         Err(fault) => bail!("no set: {fault:?}"),
     }
 }
@@ -52,14 +57,17 @@ fn members_of(alloc: Global, fields: &str) -> Result<(Items<Profile>, Rules)> {
 }
 
 fn profile_of(alloc: Global, head: &str, lines: &str) -> Result<Profile> {
-    let (name, roots) = head
-        .split_once(' ')
-        .context("a profile has a name and roots")?;
-    let (left, right) = roots.split_once(' ').context("a profile has two roots")?;
-    let lines = text_of_lines(alloc, lines)?;
-    let text = format!(in alloc; "root = /srv/{left}\nroot = /srv/{right}\n{lines}\n")?;
+    let (name, roots) = cut(head);
+    let text = profile_text(alloc, roots, lines)?;
     let name = Name::read(alloc, name)?;
     Ok(read_profile(alloc, name, text.as_bytes())?)
+}
+
+/// The text of a profile that has two roots and these lines.
+fn profile_text(alloc: Global, roots: &str, lines: &str) -> Result<String, AllocError> {
+    let (left, right) = cut(roots);
+    let lines = text_of_lines(alloc, lines)?;
+    format!(in alloc; "root = /srv/{left}\nroot = /srv/{right}\n{lines}\n")
 }
 
 fn rules_of(alloc: Global, lines: &str) -> Result<Rules> {

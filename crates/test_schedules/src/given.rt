@@ -1,44 +1,65 @@
 //! What the lines above a question give.
 
-use crate::fields::cut;
-use anyhow::{Context, Result};
+use anyhow::{Context, Result, bail};
+use hub_cert::{ProfileSet, Verified};
 use hub_path::{Name, Root};
-use hub_profile::{Profile, read_profile};
+use hub_profile::{Profile, read_profile, read_rules};
+use hub_search::check;
 use hub_state::{State, read_bytes};
+use hub_text::Items;
 use hub_tree::Tree;
 use std::alloc::Global;
+use test_kit::cut;
+
+/// The first root of each profile, and at first that of the replica.
+const HUB: &str = "/srv/hub";
+
+/// The name of a profile, and its text.
+#[derive(Drop)]
+struct Given {
+    name: String,
+    text: String,
+}
 
 /// What was given since the last line `case`.
 #[derive(Drop)]
-pub struct Case {
-    pub alloc: Global,
+pub(crate) struct Case {
+    pub(crate) alloc: Global,
     /// The profiles.
-    pub profiles: Vec<Profile>,
+    profiles: Vec<Given>,
     /// The state text.
     text: String,
     /// The root of the replica that operations are made on.
-    pub root: Root,
+    pub(crate) root: Root,
     /// That replica.
-    pub replica: Tree,
+    pub(crate) replica: Tree,
 }
 
 impl Case {
     /// Nothing is given yet.
-    pub fn new(alloc: Global) -> Result<Case> {
+    pub(crate) fn new(alloc: Global) -> Result<Case> {
+        let root = Root::read(alloc, HUB)?;
         Ok(Case {
             alloc,
             profiles: Vec::new(alloc),
             text: String::new(alloc),
-            root: Root::read(alloc, "/srv/hub")?,
+            root,
             replica: Tree::new(alloc),
         })
     }
 
+    /// Takes all away that was given.
+    fn clear(&mut self) -> Result<()> {
+        self.profiles = Vec::new(self.alloc);
+        self.text = String::new(self.alloc);
+        self.begin_replica(HUB)
+    }
+
     /// Takes a line if it gives something, and returns whether it does.
-    pub fn takes(&mut self, line: &str) -> Result<bool> {
+    pub(crate) fn take_line(&mut self, line: &str) -> Result<bool> {
         let (word, fields) = cut(line);
         match word {
-            "case" => *self = Case::new(self.alloc)?,
+            "case" => self.clear()?,
             "profile" => self.add_profile(fields)?,
             "hubsync" => self.begin_text(line)?,
             "replica" | "archive" | "with" | "dir" | "file" | "end" => self.add_line(line)?,
@@ -48,13 +69,13 @@ impl Case {
         Ok(true)
     }
 
-    /// The profile that was given first.
-    pub fn profile(&self) -> Result<&Profile> {
-        self.profiles.as_slice().first().context("no profile")
+    /// The set of the profiles.
+    pub(crate) fn set(&self) -> Result<ProfileSet> {
+        set_of(self.alloc, self.profiles.as_slice())
     }
 
     /// The state that the state text says.
-    pub fn state(&self) -> Result<State> {
+    pub(crate) fn state(&self) -> Result<State> {
         Ok(read_bytes(self.alloc, self.text.as_bytes())?)
     }
 
@@ -62,10 +83,9 @@ impl Case {
     fn add_profile(&mut self, fields: &str) -> Result<()> {
         let (name, fields) = cut(fields);
         let (root, lines) = cut(fields);
-        let name = Name::read(self.alloc, name)?;
+        let name = String::from_str(self.alloc, name)?;
         let text = profile_text(self.alloc, root, lines)?;
-        let profile = read_profile(self.alloc, name, text.as_bytes())?;
-        self.profiles.push(profile)?;
+        self.profiles.push(Given { name, text })?;
         Ok(())
     }
 
@@ -92,11 +112,45 @@ impl Case {
 
 /// The text of a profile: its second root, and its further lines.
 fn profile_text(alloc: Global, root: &str, lines: &str) -> Result<String> {
-    let mut text = format!(in alloc; "root = /srv/hub\nroot = {root}\n")?;
+    let mut text = format!(in alloc; "root = {HUB}\nroot = {root}\n")?;
     for line in lines.split("; ") {
-        if !line.is_empty() {
-            write!(text, "{line}\n")?;
-        }
+        write!(text, "{line}\n")?;
     }
     Ok(text)
+}
+
+/// The set of these profiles, without rules.
+fn set_of(alloc: Global, given: &[Given]) -> Result<ProfileSet> {
+    let profiles = profiles_of(alloc, given)?;
+    let rules = read_rules(alloc, &[])?;
+    match ProfileSet::new(alloc, profiles, rules) {
+        Ok(set) => Ok(set),
+        Err(_) => bail!("no set"),
+    }
+}
+
+fn profiles_of(alloc: Global, given: &[Given]) -> Result<Items<Profile>> {
+    let mut profiles = Items::new(alloc);
+    for one in given {
+        profiles.push(profile_of(alloc, one)?)?;
+    }
+    Ok(profiles)
+}
+
+fn profile_of(alloc: Global, given: &Given) -> Result<Profile> {
+    let name = Name::read(alloc, given.name.as_str())?;
+    Ok(read_profile(alloc, name, given.text.as_bytes())?)
+}
+
+/// The first profile of a set.
+pub(crate) fn first_of(set: &ProfileSet) -> Result<&Profile> {
+    set.profiles().first().context("no profile")
+}
+
+/// The set, which is safe.
+pub(crate) fn verified_of(alloc: Global, set: &ProfileSet) -> Result<Verified<'_>> {
+    match check(alloc, set) {
+        Ok(verified) => Ok(verified),
+        Err(_) => bail!("the set isn't safe"),
+    }
 }

@@ -11,44 +11,82 @@
 //! `absent`. Behind the answers to the steps stands how the job ended, with its log (`shown::job_text`), its items, and the paths
 //! of the next archive. These are separated by ` | `.
 
-use crate::fields::cut;
-use crate::given::Case;
+use crate::given::{Case, first_of};
 use crate::shown::{archive_text, items_text, job_text, next_text};
 use anyhow::{Context, Result, bail};
-use hub_job::{Answer, Job, Next, Op, OpFault, perform};
+use hub_cert::ProfileSet;
+use hub_job::{Answer, Job, JobEnd, Next, Op, OpFault, perform};
 use hub_path::{Root, Side};
 use hub_profile::Profile;
 use hub_state::State;
 use hub_tree::{Archive, Tree};
 use std::alloc::Global;
+use test_kit::{cut, shown};
 
-/// A job with its two replicas.
+/// The two replicas of a job.
 #[derive(Drop)]
-struct Trial<'a> {
-    alloc: Global,
-    profile: &'a Profile,
-    job: Job<'a>,
+struct Replicas {
     left: Tree,
     right: Tree,
 }
 
 /// What a job does by these steps, and how it ends.
-pub fn answer(case: &Case, fields: &str) -> Result<String> {
+pub(crate) fn answer(case: &Case, fields: &str) -> Result<String> {
+    let set = case.set()?;
+    answer_of_set(case, &set, fields)
+}
+
+fn answer_of_set(case: &Case, set: &ProfileSet, fields: &str) -> Result<String> {
+    let profile = first_of(set)?;
+    let state = case.state()?;
+    answer_in(case.alloc, profile, &state, fields)
+}
+
+/// A pair of roots that the state has no archive for gets the empty one.
+fn answer_in(alloc: Global, profile: &Profile, state: &State, fields: &str) -> Result<String> {
+    let empty = Archive::new(alloc);
+    let [left, right] = profile.roots();
+    let archive = state.archive(left, right).unwrap_or(&empty);
+    answer_with(alloc, profile, state, archive, fields)
+}
+
+fn answer_with(
+    alloc: Global,
+    profile: &Profile,
+    state: &State,
+    archive: &Archive,
+    fields: &str,
+) -> Result<String> {
     let (number, steps) = cut(fields);
     let number = number.parse::<usize>()?;
-    let profile = case.profile()?;
-    let state = case.state()?;
-    let none = Archive::new(case.alloc);
+    let mut job = Job::new(alloc, number, profile, archive)?;
+    let answers = answers_of(alloc, &mut job, profile, state, steps)?;
+    end_text(alloc, job, answers.as_str())
+}
+
+/// The answers to steps.
+fn answers_of(
+    alloc: Global,
+    job: &mut Job<'_>,
+    profile: &Profile,
+    state: &State,
+    steps: &str,
+) -> Result<String> {
+    let mut replicas = replicas_of(state, profile)?;
+    let mut answers = Vec::new(alloc);
+    for step in steps.split("; ") {
+        answers.push(take_step(alloc, job, profile, &mut replicas, step)?)?;
+    }
+    Ok(answers.as_slice().join(alloc, "; ")?)
+}
+
+/// Copies of the two replicas of a profile.
+fn replicas_of(state: &State, profile: &Profile) -> Result<Replicas> {
     let [left, right] = profile.roots();
-    let archive = state.archive(left, right).unwrap_or(&none);
-    let trial = Trial {
-        alloc: case.alloc,
-        profile,
-        job: Job::new(case.alloc, number, profile, archive)?,
-        left: replica_of(&state, left)?,
-        right: replica_of(&state, right)?,
-    };
-    trial.answer(steps)
+    Ok(Replicas {
+        left: replica_of(state, left)?,
+        right: replica_of(state, right)?,
+    })
 }
 
 /// A copy of the replica of a root.
@@ -57,67 +95,68 @@ fn replica_of(state: &State, root: &Root) -> Result<Tree> {
     Ok(replica.copy()?)
 }
 
-impl<'a> Trial<'a> {
-    /// What the job does by these steps, and how it ends.
-    fn answer(mut self, steps: &str) -> Result<String> {
-        let answers = self.take_steps(steps)?;
-        let Trial {
-            alloc,
-            profile: _,
-            job,
-            left: _,
-            right: _,
-        } = self;
-        let (end, archive) = job.end()?;
-        let job = job_text(alloc, &end)?;
-        let items = items_text(alloc, end.items.as_slice())?;
-        let archive = archive_text(alloc, archive)?;
-        Ok(format!(in alloc; "{answers} | {job} | {items} | {archive}")?)
-    }
+/// How a job ends, after the answers to its steps.
+fn end_text(alloc: Global, job: Job<'_>, answers: &str) -> Result<String> {
+    let (end, archive) = job.end()?;
+    ended_text(alloc, answers, &end, &archive)
+}
 
-    /// The answers to steps.
-    fn take_steps(&mut self, steps: &str) -> Result<String> {
-        let mut answers = Vec::new(self.alloc);
-        for step in steps.split("; ") {
-            answers.push(self.take_step(step)?)?;
-        }
-        Ok(answers.as_slice().join(self.alloc, "; ")?)
-    }
+fn ended_text(
+    alloc: Global,
+    answers: &str,
+    end: &JobEnd,
+    archive: &Option<Archive>,
+) -> Result<String> {
+    let job = job_text(alloc, end)?;
+    let items = items_text(alloc, end.items.as_slice())?;
+    let archive = archive_text(alloc, archive)?;
+    Ok(format!(in alloc; "{answers} | {job} | {items} | {archive}")?)
+}
 
-    /// The answer to a step.
-    fn take_step(&mut self, step: &str) -> Result<String> {
-        match step {
-            "turn" => next_text(self.alloc, &self.job.turn()),
-            "go" => self.go(),
-            "refuse" => refuse(self.alloc, &mut self.job),
-            "stop" => stop(self.alloc, &mut self.job),
-            "log" => Ok(format!(in self.alloc; "{}", self.job.log().len())?),
-            "number" => Ok(format!(in self.alloc; "{}", self.job.number())?),
-            _ => bail!("no step: {step}"),
-        }
-    }
-
-    /// Lets the job have two turns, and gives it the answer of its replica.
-    fn go(&mut self) -> Result<String> {
-        take_turn(
-            self.alloc,
-            &mut self.job,
-            self.profile,
-            &mut self.left,
-            &mut self.right,
-        )
+/// The answer to a step.
+fn take_step(
+    alloc: Global,
+    job: &mut Job<'_>,
+    profile: &Profile,
+    replicas: &mut Replicas,
+    step: &str,
+) -> Result<String> {
+    match step {
+        "turn" => take_turn(alloc, job),
+        "go" => go(alloc, job, profile, replicas),
+        "refuse" => refuse(alloc, job),
+        "stop" => stop(alloc, job),
+        "log" => shown(alloc, &job.log().len()),
+        "number" => shown(alloc, &job.number()),
+        _ => bail!("no step: {step}"),
     }
 }
 
+/// Lets a job have a turn.
+fn take_turn(alloc: Global, job: &mut Job<'_>) -> Result<String> {
+    let next = job.turn();
+    next_text(alloc, &next)
+}
+
 /// Lets a job have a turn, twice, and gives it the answer of its replica if it asks.
-fn take_turn(
+fn go(
     alloc: Global,
-    job: &mut Job,
+    job: &mut Job<'_>,
+    profile: &Profile,
+    replicas: &mut Replicas,
+) -> Result<String> {
+    let _text = take_turn(alloc, job)?;
+    serve(alloc, job, profile, &mut replicas.left, &mut replicas.right)
+}
+
+/// Lets a job have a turn, and gives it the answer of its replica if it asks.
+fn serve(
+    alloc: Global,
+    job: &mut Job<'_>,
     profile: &Profile,
     left: &mut Tree,
     right: &mut Tree,
 ) -> Result<String> {
-    let _first = job.turn();
     let next = job.turn();
     if let Next::Ask(side, op) = &next {
         let roots = profile.roots();
@@ -131,7 +170,7 @@ fn take_turn(
 }
 
 /// Lets a job have a turn, and refuses a Set.
-fn refuse(alloc: Global, job: &mut Job) -> Result<String> {
+fn refuse(alloc: Global, job: &mut Job<'_>) -> Result<String> {
     let next = job.turn();
     if let Next::Ask(_, Op::Set(_, _)) = &next {
         job.take(Answer::Refused(OpFault::NoParent));
@@ -140,7 +179,7 @@ fn refuse(alloc: Global, job: &mut Job) -> Result<String> {
 }
 
 /// Stops a job.
-fn stop(alloc: Global, job: &mut Job) -> Result<String> {
+fn stop(alloc: Global, job: &mut Job<'_>) -> Result<String> {
     job.stop();
     Ok(String::from_str(alloc, "ok")?)
 }

@@ -5,25 +5,39 @@
 //! - to `set`: `done`;
 //! - the name of a refusal;
 //! - `out of memory`. The replica should then be as it was.
+//!
+//! Contents are `d` for a directory, `-` for nothing, and `f:` and a text for a file with the bytes of that text.
 
-use crate::fields::{contents_of, cut, path_of};
-use crate::given::Case;
+use crate::given::{Case, first_of};
 use crate::shown::answer_text;
-use anyhow::{Context, Result, bail, ensure};
+use anyhow::{Result, bail, ensure};
+use hub_cert::ProfileSet;
 use hub_job::{Op, perform};
-use std::alloc::{AllocError, Global};
+use hub_tree::{Blob, Contents};
+use std::alloc::Global;
+use test_kit::{cut, path_of};
 
 /// What the replica answers to an operation.
-pub fn answer(case: &mut Case, word: &str, fields: &str) -> Result<String> {
+pub(crate) fn answer(case: &mut Case, word: &str, fields: &str) -> Result<String> {
+    let set = case.set()?;
+    answer_in(case, &set, word, fields)
+}
+
+fn answer_in(case: &mut Case, set: &ProfileSet, word: &str, fields: &str) -> Result<String> {
+    let op = op_of(case.alloc, word, fields)?;
+    answer_to(case, set, &op)
+}
+
+fn answer_to(case: &mut Case, set: &ProfileSet, op: &Op) -> Result<String> {
     let alloc = case.alloc;
-    let op = op_of(alloc, word, fields)?;
-    let profile = case.profiles.as_slice().first().context("no profile")?;
-    match perform(alloc, profile, &case.root, &mut case.replica, &op) {
+    let profile = first_of(set)?;
+    let answer = perform(alloc, profile, &case.root, &mut case.replica, op);
+    match &answer {
         Ok(answer) => {
-            ensure!(answer.fits(&op), "an answer that doesn't fit");
-            answer_text(alloc, &answer)
+            ensure!(answer.fits(op), "an answer that doesn't fit");
+            answer_text(alloc, answer)
         }
-        Err(AllocError) => Ok(String::from_str(alloc, "out of memory")?),
+        Err(_) => Ok(String::from_str(alloc, "out of memory")?),
     }
 }
 
@@ -36,5 +50,18 @@ fn op_of(alloc: Global, word: &str, fields: &str) -> Result<Op> {
         "fetch" => Ok(Op::Fetch(path)),
         "set" => Ok(Op::Set(path, contents_of(alloc, contents)?)),
         _ => bail!("no operation: {word}"),
+    }
+}
+
+/// The contents of a field.
+fn contents_of(alloc: Global, field: &str) -> Result<Contents> {
+    if let Some(text) = field.strip_prefix("f:") {
+        let bytes = text.as_bytes().to_vec(alloc)?;
+        return Ok(Contents::File(Blob::new(bytes)?));
+    }
+    match field {
+        "d" => Ok(Contents::Directory),
+        "-" => Ok(Contents::Absent),
+        _ => bail!("no contents: {field}"),
     }
 }

@@ -1,13 +1,13 @@
 //! Random schedules: whatever the order of the turns, the jobs leave what they leave one after the other.
 
-use crate::fields::cut;
-use crate::given::Case;
-use crate::schedules::{fault_text, one_after_the_other, state_text};
+use crate::schedules::{one_after_the_other, state_text};
 use anyhow::{Result, bail};
+use hub_cert::Verified;
 use hub_job::Outcome;
-use hub_schedule::{rounds_for, simulate_jobs};
+use hub_schedule::{rounds_for, simulate};
 use hub_state::State;
 use std::alloc::{AllocError, Global};
+use test_kit::cut;
 
 /// How many turns are random. Those of the schedule of rounds follow, so that each job has enough.
 const RANDOM_TURNS: usize = 120;
@@ -29,30 +29,63 @@ impl Dice {
     }
 }
 
-/// Whether so many random schedules leave what the jobs leave one after the other. If one does not, what it leaves.
-pub fn answer(case: &Case, fields: &str) -> Result<String> {
+/// Whether so many random schedules leave what the jobs leave one after the other. If one does not, what it leaves. The fields
+/// are their number and the seed of the numbers.
+pub(crate) fn answer(
+    alloc: Global,
+    verified: &Verified<'_>,
+    state: &State,
+    fields: &str,
+) -> Result<String> {
     let (count, seed) = cut(fields);
-    let state = case.state()?;
-    let sequence = one_after_the_other(case, &state)?;
-    let want = left_by(case, &state, sequence.as_slice())?;
     let mut dice = Dice {
         bits: seed.parse::<usize>()?,
-        jobs: case.profiles.len(),
+        jobs: verified.set().profiles().len(),
     };
-    for number in 0..count.parse::<usize>()? {
-        let text = left_by_chance(case, &state, &mut dice)?;
-        if text != want {
-            return Ok(format!(in case.alloc; "schedule {number} leaves\n{text}")?);
+    let want = left_in_sequence(alloc, verified, state)?;
+    compared(
+        alloc,
+        verified,
+        state,
+        count.parse::<usize>()?,
+        &mut dice,
+        want.as_str(),
+    )
+}
+
+fn compared(
+    alloc: Global,
+    verified: &Verified<'_>,
+    state: &State,
+    count: usize,
+    dice: &mut Dice,
+    want: &str,
+) -> Result<String> {
+    for number in 0..count {
+        let text = left_by_chance(alloc, verified, state, dice)?;
+        if text.as_str() != want {
+            return Ok(format!(in alloc; "schedule {number} leaves\n{text}")?);
         }
     }
-    Ok(format!(in case.alloc; "{count} leave what the sequence leaves")?)
+    Ok(format!(in alloc; "{count} leave what the sequence leaves")?)
+}
+
+/// What the jobs leave one after the other.
+fn left_in_sequence(alloc: Global, verified: &Verified<'_>, state: &State) -> Result<String> {
+    let sequence = one_after_the_other(alloc, verified.set().profiles(), state)?;
+    left_by(alloc, verified, state, sequence.as_slice())
 }
 
 /// What a random schedule leaves.
-fn left_by_chance(case: &Case, state: &State, dice: &mut Dice) -> Result<String> {
-    let rounds = rounds_for(case.alloc, case.profiles.as_slice(), state)?;
-    let schedule = random_schedule(case.alloc, dice, rounds.as_slice())?;
-    left_by(case, state, schedule.as_slice())
+fn left_by_chance(
+    alloc: Global,
+    verified: &Verified<'_>,
+    state: &State,
+    dice: &mut Dice,
+) -> Result<String> {
+    let rounds = rounds_for(alloc, verified.set().profiles(), state)?;
+    let schedule = random_schedule(alloc, dice, rounds.as_slice())?;
+    left_by(alloc, verified, state, schedule.as_slice())
 }
 
 /// A schedule that begins with random turns.
@@ -70,13 +103,16 @@ fn random_schedule(
 }
 
 /// All that a schedule leaves.
-fn left_by(case: &Case, state: &State, schedule: &[usize]) -> Result<String> {
-    match simulate_jobs(case.alloc, case.profiles.as_slice(), state, schedule) {
-        Ok(outcome) => whole_text(case.alloc, &outcome),
-        Err(fault) => {
-            let fault = fault_text(case.alloc, &fault)?;
-            bail!("{fault}")
-        }
+fn left_by(
+    alloc: Global,
+    verified: &Verified<'_>,
+    state: &State,
+    schedule: &[usize],
+) -> Result<String> {
+    let left = simulate(alloc, verified, state, schedule);
+    match &left {
+        Ok(outcome) => whole_text(alloc, outcome),
+        Err(fault) => bail!("{fault:?}"),
     }
 }
 

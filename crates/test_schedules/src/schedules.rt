@@ -1,87 +1,171 @@
 //! What the jobs of the profiles leave by a schedule: how each of them ended, with its log (`shown::job_text`), and on further
 //! lines the text of the state. Or it is shown why the jobs aren't run.
+//!
+//! The profiles are a safe set, but for the question `overlapping`: there some overlap.
 
-use crate::given::Case;
-use crate::shown::{job_text, list_text};
-use anyhow::Result;
-use hub_job::{Outcome, RunFault};
-use hub_schedule::{rounds_for, simulate_jobs};
+use crate::given::{Case, verified_of};
+use crate::random;
+use crate::shown::job_text;
+use anyhow::{Result, bail};
+use hub_cert::{CheckFault, ProfileSet, Verified};
+use hub_job::{JobEnd, Outcome, RunFault};
+use hub_profile::Profile;
+use hub_schedule::{rounds_for, simulate, simulate_jobs};
+use hub_search::check;
 use hub_state::{State, write_state};
 use hub_text::Watched;
-use std::alloc::Global;
+use std::alloc::{AllocError, Global};
 use std::str::from_utf8;
+use test_kit::list_text;
+
+/// The answer to a question about the jobs of the profiles.
+pub(crate) fn answer(case: &Case, word: &str, fields: &str) -> Result<String> {
+    let set = case.set()?;
+    answer_of_set(case, &set, word, fields)
+}
+
+fn answer_of_set(case: &Case, set: &ProfileSet, word: &str, fields: &str) -> Result<String> {
+    let state = case.state()?;
+    if word == "overlapping" {
+        return left_by_overlapping(case.alloc, set, &state, fields);
+    }
+    answer_of_state(case.alloc, set, &state, word, fields)
+}
+
+fn answer_of_state(
+    alloc: Global,
+    set: &ProfileSet,
+    state: &State,
+    word: &str,
+    fields: &str,
+) -> Result<String> {
+    let verified = verified_of(alloc, set)?;
+    match word {
+        "turns" => left_by_turns(alloc, &verified, state, fields),
+        "rounds" => left_in_rounds(alloc, &verified, state),
+        "sequence" => left_in_sequence(alloc, &verified, state),
+        "schedules" => random::answer(alloc, &verified, state, fields),
+        _ => bail!("no question: {word}"),
+    }
+}
+
+/// What a schedule of a set leaves in which profiles overlap: the numbers of the jobs, in the order of their turns.
+fn left_by_overlapping(
+    alloc: Global,
+    set: &ProfileSet,
+    state: &State,
+    numbers: &str,
+) -> Result<String> {
+    if !is_overlapping(alloc, set) {
+        bail!("no profiles overlap");
+    }
+    let schedule = numbers_of(alloc, numbers)?;
+    let left = simulate_jobs(alloc, set.profiles(), state, schedule.as_slice());
+    left_text(alloc, &left)
+}
+
+/// Whether profiles of the set overlap.
+fn is_overlapping(alloc: Global, set: &ProfileSet) -> bool {
+    matches!(check(alloc, set), Err(CheckFault::Overlap { .. }))
+}
 
 /// What a schedule leaves: the numbers of the jobs, in the order of their turns.
-pub fn turns(case: &Case, numbers: &str) -> Result<String> {
-    let mut schedule = Vec::new(case.alloc);
-    for number in numbers.split_whitespace() {
-        schedule.push(number.parse::<usize>()?)?;
-    }
-    left_text(case, &case.state()?, schedule.as_slice())
+fn left_by_turns(
+    alloc: Global,
+    verified: &Verified<'_>,
+    state: &State,
+    numbers: &str,
+) -> Result<String> {
+    let schedule = numbers_of(alloc, numbers)?;
+    left_by(alloc, verified, state, schedule.as_slice())
 }
 
 /// What the schedule of rounds leaves.
-pub fn rounds(case: &Case) -> Result<String> {
-    let state = case.state()?;
-    let schedule = rounds_for(case.alloc, case.profiles.as_slice(), &state)?;
-    left_text(case, &state, schedule.as_slice())
+fn left_in_rounds(alloc: Global, verified: &Verified<'_>, state: &State) -> Result<String> {
+    let schedule = rounds_for(alloc, verified.set().profiles(), state)?;
+    left_by(alloc, verified, state, schedule.as_slice())
 }
 
 /// What the jobs leave if each has all of its turns before the next one has its first.
-pub fn sequence(case: &Case) -> Result<String> {
-    let state = case.state()?;
-    let schedule = one_after_the_other(case, &state)?;
-    left_text(case, &state, schedule.as_slice())
+fn left_in_sequence(alloc: Global, verified: &Verified<'_>, state: &State) -> Result<String> {
+    let schedule = one_after_the_other(alloc, verified.set().profiles(), state)?;
+    left_by(alloc, verified, state, schedule.as_slice())
+}
+
+fn numbers_of(alloc: Global, fields: &str) -> Result<Vec<usize>> {
+    let mut numbers = Vec::new(alloc);
+    for number in fields.split_whitespace() {
+        numbers.push(number.parse::<usize>()?)?;
+    }
+    Ok(numbers)
 }
 
 /// A schedule in which each job has all of its turns before the next one has its first. A job has as many as by the schedule
 /// of rounds.
-pub fn one_after_the_other(case: &Case, state: &State) -> Result<Vec<usize>> {
-    let jobs = case.profiles.len();
-    let rounds = rounds_for(case.alloc, case.profiles.as_slice(), state)?;
-    let turns = rounds.len().checked_div(jobs).unwrap_or(0);
-    let mut schedule = Vec::new(case.alloc);
-    for job in 0..jobs {
+pub(crate) fn one_after_the_other(
+    alloc: Global,
+    profiles: &[Profile],
+    state: &State,
+) -> Result<Vec<usize>, AllocError> {
+    let rounds = rounds_for(alloc, profiles, state)?;
+    let turns = rounds.len().checked_div(profiles.len()).unwrap_or(0);
+    let mut schedule = Vec::new(alloc);
+    for job in 0..profiles.len() {
         push_turns(&mut schedule, job, turns)?;
     }
     Ok(schedule)
 }
 
 /// Gives a job so many turns.
-fn push_turns(schedule: &mut Vec<usize>, job: usize, turns: usize) -> Result<()> {
+fn push_turns(schedule: &mut Vec<usize>, job: usize, turns: usize) -> Result<(), AllocError> {
     for _ in 0..turns {
         schedule.push(job)?;
     }
     Ok(())
 }
 
-/// What a schedule leaves, or the fault.
-fn left_text(case: &Case, state: &State, schedule: &[usize]) -> Result<String> {
-    match simulate_jobs(case.alloc, case.profiles.as_slice(), state, schedule) {
-        Ok(outcome) => outcome_text(case.alloc, &outcome),
-        Err(fault) => fault_text(case.alloc, &fault),
+/// What a schedule of a safe set leaves.
+fn left_by(
+    alloc: Global,
+    verified: &Verified<'_>,
+    state: &State,
+    schedule: &[usize],
+) -> Result<String> {
+    let left = simulate(alloc, verified, state, schedule);
+    left_text(alloc, &left)
+}
+
+/// What is left, or why the jobs aren't run.
+fn left_text(alloc: Global, left: &Result<Outcome, RunFault>) -> Result<String> {
+    match left {
+        Ok(outcome) => outcome_text(alloc, outcome),
+        Err(fault) => fault_text(alloc, fault),
     }
 }
 
 fn outcome_text(alloc: Global, outcome: &Outcome) -> Result<String> {
-    let mut jobs = Vec::new(alloc);
-    for job in outcome.jobs.as_slice() {
-        jobs.push(job_text(alloc, job)?)?;
-    }
-    let jobs = list_text(alloc, jobs.as_slice())?;
+    let jobs = jobs_text(alloc, outcome.jobs.as_slice())?;
     let state = state_text(alloc, &outcome.state)?;
     Ok(format!(in alloc; "{jobs}\n{state}")?)
 }
 
+fn jobs_text(alloc: Global, ends: &[JobEnd]) -> Result<String> {
+    let mut jobs = Vec::new(alloc);
+    for end in ends {
+        jobs.push(job_text(alloc, end)?)?;
+    }
+    list_text(alloc, jobs.as_slice())
+}
+
 /// The text of a state.
-pub fn state_text(alloc: Global, state: &State) -> Result<String> {
+pub(crate) fn state_text(alloc: Global, state: &State) -> Result<String> {
     let mut bytes = Vec::new(alloc);
     write_state(alloc, &mut Watched::new(&mut bytes), state)?;
     Ok(String::from_str(alloc, from_utf8(bytes.as_slice())?)?)
 }
 
 /// Why the jobs aren't run.
-pub fn fault_text(alloc: Global, fault: &RunFault) -> Result<String> {
+fn fault_text(alloc: Global, fault: &RunFault) -> Result<String> {
     match fault {
         RunFault::MissingReplica { root } => Ok(format!(in alloc; "missing {}", root.as_str())?),
         RunFault::BadTurn { turn } => Ok(format!(in alloc; "bad turn {turn}")?),

@@ -1,4 +1,4 @@
-//! How answers show values. An empty list is shown as `none`.
+//! How answers show values.
 
 use anyhow::Result;
 use hub_job::{Answer, End, JobEnd, Next, Op};
@@ -6,9 +6,10 @@ use hub_path::{Name, RelPath, Side};
 use hub_reconcile::{Fate, Item};
 use hub_tree::{Archive, Mark};
 use std::alloc::Global;
+use test_kit::list_text;
 
 /// The answer of a replica.
-pub fn answer_text(alloc: Global, answer: &Answer) -> Result<String> {
+pub(crate) fn answer_text(alloc: Global, answer: &Answer) -> Result<String> {
     match answer {
         Answer::Seen {
             mark,
@@ -43,7 +44,7 @@ fn kind_of(mark: Mark) -> &'static str {
 }
 
 /// What a job does next.
-pub fn next_text(alloc: Global, next: &Next) -> Result<String> {
+pub(crate) fn next_text(alloc: Global, next: &Next) -> Result<String> {
     match next {
         Next::Ask(side, op) => asked_text(alloc, *side, op),
         Next::Finished => Ok(String::from_str(alloc, "finished")?),
@@ -74,7 +75,7 @@ fn path_text(alloc: Global, path: &RelPath) -> Result<String> {
 
 /// How a job ended, and its log. An entry is shown by its operation, as `l` for a Look, `f` for a Fetch and `s` for a Set, and
 /// its job's number.
-pub fn job_text(alloc: Global, job: &JobEnd) -> Result<String> {
+pub(crate) fn job_text(alloc: Global, job: &JobEnd) -> Result<String> {
     let mut text = String::from_str(alloc, end_word(job.end))?;
     for entry in job.log.as_slice() {
         let letter = letter_of(&entry.step.op);
@@ -101,7 +102,7 @@ fn letter_of(op: &Op) -> char {
 }
 
 /// The items of a job.
-pub fn items_text(alloc: Global, items: &[Item]) -> Result<String> {
+pub(crate) fn items_text(alloc: Global, items: &[Item]) -> Result<String> {
     let mut parts = Vec::new(alloc);
     for item in items {
         parts.push(item_text(alloc, item)?)?;
@@ -118,7 +119,7 @@ fn item_text(alloc: Global, item: &Item) -> Result<String> {
 }
 
 /// The paths of the next archive, if there is one.
-pub fn archive_text(alloc: Global, archive: Option<Archive>) -> Result<String> {
+pub(crate) fn archive_text(alloc: Global, archive: &Option<Archive>) -> Result<String> {
     match archive {
         Some(archive) => paths_text(alloc, archive.paths()?.as_slice()),
         None => Ok(String::from_str(alloc, "no archive")?),
@@ -131,12 +132,4 @@ fn paths_text(alloc: Global, paths: &[RelPath]) -> Result<String> {
         parts.push(path_text(alloc, path)?)?;
     }
     list_text(alloc, parts.as_slice())
-}
-
-/// A list.
-pub fn list_text(alloc: Global, parts: &[String]) -> Result<String> {
-    if parts.is_empty() {
-        return Ok(String::from_str(alloc, "none")?);
-    }
-    Ok(parts.join(alloc, ", ")?)
 }

@@ -1,5 +1,5 @@
 -- How a text of an answer starts: its first letters say what kind of answer it is.
-use Rattle.std.proofs.Common.{◌≡◌, ◌==◌, inl, inr, ℕ, suc, zero, List, [], ◌∷◌, ◌++◌, take, Option, Some, None, refl}
+use Rattle.std.proofs.Common.{◌≡◌, ◌==◌, ℕ, suc, zero, List, [], ◌∷◌, ◌++◌, take, Option, Some, None, refl}
 use Rattle.std.specs.Prelude.{slice_get, if◌then◌else◌}
 use Rattle.hub_path.specs.Path.{Path}
 use Rattle.hub_automaton.specs.declared.fault.AutomatonFault.TheVariants as automaton

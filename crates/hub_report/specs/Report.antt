@@ -1,6 +1,5 @@
 -- The text and the status of each answer.
-use Rattle.std.specs.Prelude.{◌≡◌, ◌≢◌, ◌∷◌, ◌++◌, ⊤, ℕ, Bool, true, false, if◌then◌else◌, List, [], codes, encode_utf8_all, string_bytes}
-use Rattle.std.specs.List.{flat_map}
+use Rattle.std.specs.Prelude.{◌≡◌, ◌≢◌, ◌∷◌, ◌++◌, ⊤, ℕ, Bool, false, if◌then◌else◌, List, [], codes, encode_utf8_all, string_bytes}
 use Rattle.std.specs.Fmt.{decimal}
 use Rattle.hub_path.specs.Path.{Name}
 use Rattle.hub_cert.specs.Set.{Members}
@@ -12,16 +11,13 @@ use Rattle.hub_bundle.specs.declared.sections.SectionFault.TheVariants.{OfProfil
 use Rattle.hub_bundle.specs.Input.{says_failed}
 use Rattle.hub_report.specs.declared.report.Report.{Report}
 use Rattle.hub_report.specs.declared.report.Report.TheVariants.{Safe, Ran, NotRun, NoState, Verified, Certified, Refused, Reached, NotReached, NoProfile, BadPath, Unread, BadBundle, BadSection, OutOfMemory}
-use Rattle.hub_report.specs.Refusal.{refusal_line}
+use Rattle.hub_report.specs.Faults.{bundle_fault_name, input_fault_name, path_fault_name, section_fault_name}
+use Rattle.hub_report.specs.Refusal.{joined, refusal_line}
 use Rattle.hub_report.specs.Run.{error_line}
 
 -- The line of a fault: the place that has it, and what it is called.
 abbrev pub fault_line : List ℕ → List ℕ → List ℕ
-fault_line place name = flat_map (λ t. t) (codes "fault: " ∷ place ∷ codes ": " ∷ name ∷ codes "\n" ∷ [])
-
--- What the fault is called is not said here.
-abbrev pub IsFaultLine : List ℕ → List ℕ → Type 0
-IsFaultLine place t = (name : List ℕ) × (t ≡ fault_line place name)
+fault_line place name = joined (codes "fault: " ∷ place ∷ codes ": " ∷ name ∷ codes "\n" ∷ [])
 
 -- The places: a line of the bundle, and a line of a section, counted from the one below its heading.
 abbrev pub bundle_place : ℕ → List ℕ
@@ -47,22 +43,22 @@ section_place (OfCertificates line) = certificates_place line
 
 -- The text that says an answer: its line, the certificates' text, or `safe` and below it what the jobs did and the text of
 -- the state that they left.
-abbrev pub IsText : Report → List ℕ → Type 0
-IsText Safe t = t ≡ codes "safe\n"
-IsText (Ran r) t = t ≡ codes "safe\n" ++ (string_bytes r.lines ++ state_text r.state)
-IsText (NotRun e) t = t ≡ codes "safe\n" ++ error_line e
-IsText NoState t = t ≡ codes "fault: no state\n"
-IsText Verified t = t ≡ codes "verified\n"
-IsText (Certified text) t = t ≡ string_bytes text
-IsText (Refused line) t = t ≡ string_bytes line
-IsText Reached t = t ≡ codes "reached\n"
-IsText NotReached t = t ≡ codes "not reached\n"
-IsText (NoProfile name) t = t ≡ flat_map (λ t. t) (codes "fault: no profile " ∷ name.now ∷ codes "\n" ∷ [])
-IsText (BadPath f) t = IsFaultLine (codes "path") t
-IsText (Unread f) t = IsFaultLine (codes "bundle line 0") t
-IsText (BadBundle f) t = IsFaultLine (bundle_place f.line) t
-IsText (BadSection f) t = IsFaultLine (section_place f) t
-IsText OutOfMemory t = t ≡ codes "fault: out of memory\n"
+abbrev pub text_of : Report → List ℕ
+text_of Safe = codes "safe\n"
+text_of (Ran r) = codes "safe\n" ++ (string_bytes r.lines ++ state_text r.state)
+text_of (NotRun e) = codes "safe\n" ++ error_line e
+text_of NoState = codes "fault: no state\n"
+text_of Verified = codes "verified\n"
+text_of (Certified text) = string_bytes text
+text_of (Refused line) = string_bytes line
+text_of Reached = codes "reached\n"
+text_of NotReached = codes "not reached\n"
+text_of (NoProfile name) = joined (codes "fault: no profile " ∷ name.now ∷ codes "\n" ∷ [])
+text_of (BadPath f) = fault_line (codes "path") (path_fault_name f)
+text_of (Unread f) = fault_line (codes "bundle line 0") (input_fault_name f)
+text_of (BadBundle f) = fault_line (bundle_place f.line) (bundle_fault_name f.fault)
+text_of (BadSection f) = fault_line (section_place f) (section_fault_name f)
+text_of OutOfMemory = codes "fault: out of memory\n"
 
 -- The status of an answer that was written whole.
 abbrev pub status_of : Report → ℕ

@@ -1,5 +1,5 @@
 //! Texts, one after another.
-ghost use Rattle.std.specs.Prelude.{◌≡◌, IfOk, string_bytes};
+ghost use Rattle.std.specs.Prelude.{◌≡◌, ◌++◌, IfOk, OnOk, string_bytes};
 ghost use Rattle.std.specs.List.{flat_map};
 
 use std::alloc::{AllocError, Global};
@@ -9,10 +9,19 @@ pub fn joined(alloc: Global, parts: &[&str]) -> Result<String, AllocError>
     ensures { IfOk result (λ t. string_bytes t ≡ flat_map (λ p. p.now) parts.now) }
 {
     let mut text = String::new(alloc);
+    push_all(&mut text, parts)?;
+    Ok(text)
+}
+
+/// Adds these texts to a text, one after another.
+pub fn push_all(text: &mut String, parts: &[&str]) -> Result<(), AllocError>
+    ensures { OnOk result (string_bytes text.new
+        ≡ string_bytes text.old ++ flat_map (λ p. p.now) parts.now) }
+{
     for part in parts {
         text.push_str(part)?;
     }
-    Ok(text)
+    Ok(())
 }
 
 /// The bytes of a text.

@@ -1,8 +1,12 @@
 //! An answer to an input: its status and its text.
 ghost use Rattle.std.specs.Prelude.{◌≡◌, ◌∷◌, [], codes, IfOk};
-ghost use Rattle.std.specs.List.{flat_map};
+ghost use Rattle.hub_report.specs.Faults as names;
+ghost use Rattle.hub_report.specs.Refusal as lines;
 ghost use Rattle.hub_report.specs.Report as report;
 
+use crate::faults::{
+    bundle_fault_name, input_fault_name, path_fault_name, profile_fault_name, state_fault_name,
+};
 use crate::parts::{bytes_of, joined};
 use crate::run::{Run, RunError, text_of_error, text_of_run};
 use hub_bundle::{BundleLineFault, InputFault, SectionFault};
@@ -77,7 +81,7 @@ impl Report<'_> {
     /// The text that says the answer: its line, the certificates' text, or `safe` and below it what the jobs did and the
     /// text of the state that they left. It ends with LF.
     pub fn into_text(self, alloc: Global) -> Result<Vec<u8>, AllocError>
-        ensures { IfOk result (λ t. report.IsText self.entry t.items) }
+        ensures { IfOk result (λ t. t.items ≡ report.text_of self.entry) }
     {
         match self {
             Report::Safe => bytes_of(alloc, "safe\n"),
@@ -89,9 +93,9 @@ impl Report<'_> {
             Report::Reached => bytes_of(alloc, "reached\n"),
             Report::NotReached => bytes_of(alloc, "not reached\n"),
             Report::NoProfile(name) => no_profile_line(alloc, name),
-            Report::BadPath(fault) => path_fault_line(alloc, fault),
-            Report::Unread(fault) => input_fault_line(alloc, fault),
-            Report::BadBundle(fault) => bundle_fault_line(alloc, &fault),
+            Report::BadPath(fault) => fault_line(alloc, "path", path_fault_name(fault)),
+            Report::Unread(fault) => fault_line(alloc, "bundle line 0", input_fault_name(fault)),
+            Report::BadBundle(fault) => bundle_fault_line(alloc, fault),
             Report::BadSection(fault) => section_fault_line(alloc, &fault),
             Report::OutOfMemory => bytes_of(alloc, OUT_OF_MEMORY),
         }
@@ -100,46 +104,31 @@ impl Report<'_> {
 
 /// The line that no profile has that name.
 fn no_profile_line(alloc: Global, name: &str) -> Result<Vec<u8>, AllocError>
-    ensures { IfOk result (λ t. t.items ≡ flat_map (λ t. t)
-        (codes "fault: no profile " ∷ name.now ∷ codes "\n" ∷ [])) }
+    ensures { IfOk result (λ t.
+        t.items ≡ lines.joined (codes "fault: no profile " ∷ name.now ∷ codes "\n" ∷ [])) }
 {
     Ok(joined(alloc, &["fault: no profile ", name, "\n"])?.into_bytes())
 }
 
-/// The line of a fault of the path.
-fn path_fault_line(alloc: Global, fault: PathFault) -> Result<Vec<u8>, AllocError>
-    ensures { IfOk result (λ t. report.IsFaultLine (codes "path") t.items) }
-{
-    let name = fault.to_string(alloc)?;
-    fault_line(alloc, "path", name.as_str())
-}
-
-/// The line of a fault of the input.
-fn input_fault_line(alloc: Global, fault: InputFault) -> Result<Vec<u8>, AllocError>
-    ensures { IfOk result (λ t. report.IsFaultLine (codes "bundle line 0") t.items) }
-{
-    let name = fault.to_string(alloc)?;
-    fault_line(alloc, "bundle line 0", name.as_str())
-}
-
 /// The line of a fault of the bundle.
-fn bundle_fault_line(alloc: Global, fault: &BundleLineFault) -> Result<Vec<u8>, AllocError>
-    ensures { IfOk result (λ t. report.IsFaultLine (report.bundle_place fault.now.line) t.items) }
+fn bundle_fault_line(alloc: Global, fault: BundleLineFault) -> Result<Vec<u8>, AllocError>
+    ensures { IfOk result (λ t. t.items ≡ report.fault_line
+        (report.bundle_place fault.line) (names.bundle_fault_name fault.fault)) }
 {
     let line = fault.line;
     let place = format!(in alloc; "bundle line {line}")?;
-    let name = fault.fault.to_string(alloc)?;
-    fault_line(alloc, place.as_str(), name.as_str())
+    fault_line(alloc, place.as_str(), bundle_fault_name(fault.fault))
 }
 
 /// The line of a fault of a section.
 fn section_fault_line(alloc: Global, fault: &SectionFault) -> Result<Vec<u8>, AllocError>
-    ensures { IfOk result (λ t. report.IsFaultLine (report.section_place fault.now) t.items) }
+    ensures { IfOk result (λ t. t.items ≡ report.fault_line
+        (report.section_place fault.now) (names.section_fault_name fault.now)) }
 {
     match fault {
         SectionFault::OfProfile { profile, fault } => profile_fault_line(alloc, profile, fault),
         SectionFault::OfRules(fault) => rules_fault_line(alloc, fault),
-        SectionFault::OfState(fault) => state_fault_line(alloc, fault),
+        SectionFault::OfState(fault) => state_fault_line(alloc, *fault),
         SectionFault::OfCertificates { line } => certificates_fault_line(alloc, *line),
     }
 }
@@ -150,38 +139,41 @@ fn profile_fault_line(
     profile: &Name,
     fault: &ProfileFault,
 ) -> Result<Vec<u8>, AllocError>
-    ensures { IfOk result (λ t. report.IsFaultLine
-        (report.profile_place profile.now fault.now.line) t.items) }
+    ensures { IfOk result (λ t. t.items ≡ report.fault_line
+        (report.profile_place profile.now fault.now.line)
+        (names.profile_fault_name fault.now.fault)) }
 {
     let line = fault.line;
     let place = format!(in alloc; "profile {profile} line {line}")?;
-    let name = fault.fault.to_string(alloc)?;
+    let name = profile_fault_name(alloc, &fault.fault)?;
     fault_line(alloc, place.as_str(), name.as_str())
 }
 
 /// The line of a fault of the rules.
 fn rules_fault_line(alloc: Global, fault: &ProfileFault) -> Result<Vec<u8>, AllocError>
-    ensures { IfOk result (λ t. report.IsFaultLine (report.rules_place fault.now.line) t.items) }
+    ensures { IfOk result (λ t. t.items ≡ report.fault_line
+        (report.rules_place fault.now.line) (names.profile_fault_name fault.now.fault)) }
 {
     let line = fault.line;
     let place = format!(in alloc; "rules line {line}")?;
-    let name = fault.fault.to_string(alloc)?;
+    let name = profile_fault_name(alloc, &fault.fault)?;
     fault_line(alloc, place.as_str(), name.as_str())
 }
 
 /// The line of a fault of the state.
-fn state_fault_line(alloc: Global, fault: &StateFault) -> Result<Vec<u8>, AllocError>
-    ensures { IfOk result (λ t. report.IsFaultLine (report.state_place fault.now.line) t.items) }
+fn state_fault_line(alloc: Global, fault: StateFault) -> Result<Vec<u8>, AllocError>
+    ensures { IfOk result (λ t. t.items ≡ report.fault_line
+        (report.state_place fault.line) (names.state_fault_name fault.fault)) }
 {
     let line = fault.line;
     let place = format!(in alloc; "state line {line}")?;
-    let name = fault.fault.to_string(alloc)?;
-    fault_line(alloc, place.as_str(), name.as_str())
+    fault_line(alloc, place.as_str(), state_fault_name(fault.fault))
 }
 
 /// The line of a faulty line of certificates.
 fn certificates_fault_line(alloc: Global, line: usize) -> Result<Vec<u8>, AllocError>
-    ensures { IfOk result (λ t. report.IsFaultLine (report.certificates_place line) t.items) }
+    ensures { IfOk result (λ t.
+        t.items ≡ report.fault_line (report.certificates_place line) (codes "BadText")) }
 {
     let place = format!(in alloc; "certificates line {line}")?;
     fault_line(alloc, place.as_str(), "BadText")
@@ -189,8 +181,7 @@ fn certificates_fault_line(alloc: Global, line: usize) -> Result<Vec<u8>, AllocE
 
 /// The line of the fault at a place that has this name.
 fn fault_line(alloc: Global, place: &str, name: &str) -> Result<Vec<u8>, AllocError>
-    ensures line { IfOk result (λ t. t.items ≡ report.fault_line place.now name.now) }
-    ensures place { IfOk result (λ t. report.IsFaultLine place.now t.items) }
+    ensures { IfOk result (λ t. t.items ≡ report.fault_line place.now name.now) }
 {
     Ok(joined(alloc, &["fault: ", place, ": ", name, "\n"])?.into_bytes())
 }

@@ -11,6 +11,7 @@ use Rattle.hub_words.specs.declared.words.Asked.{Asked}
 use Rattle.hub_words.specs.declared.words.Asked.TheVariants.{About, Reach}
 use Rattle.hub_words.specs.declared.words.Question.{Question}
 use Rattle.hub_words.specs.declared.words.Question.TheVariants.{CheckWithState, Run, Check, Certify, Verify}
+use Rattle.hub_words.specs.declared.words.TheConstants.{DEFAULT_WORKERS_TEXT}
 
 -- a required operand
 abbrev pub operand : Text → Rule
@@ -20,13 +21,13 @@ operand id = record (new_rule id) { value_names = 1; required = true }
 abbrev pub reach_app : App
 reach_app = with_rule (with_rule (new_app (codes "reach")) (operand (codes "profile"))) (operand (codes "path"))
 
--- the option `--workers N`: a number from 0 to 255, and 2 if the words don't have it
+-- the option `--workers N`: a number from 0 to 255, and `DEFAULT_WORKERS` if the words don't have it
 abbrev pub workers_option : Rule
 workers_option = record (new_rule (codes "workers")) {
   long = Some (codes "workers");
   value_names = 1;
   parser = Some (Signed (pos 0) (pos 255));
-  defaults = codes "2" ∷ [];
+  defaults = DEFAULT_WORKERS_TEXT.now ∷ [];
 }
 
 -- `run [--workers N]`

@@ -4,6 +4,7 @@ use Rattle.clap.proofs.OnLiterals.{clap_on_literals}
 use Rattle.clap.specs.Words.{Text}
 use Rattle.hub_words.specs.Words.{Request, about, asked_of, hubsync_app, reach}
 use Rattle.hub_words.specs.declared.words.Question.TheVariants.{CheckWithState, Run, Check, Certify, Verify}
+use Rattle.hub_words.specs.declared.words.TheConstants.{DEFAULT_WORKERS}
 
 -- What these examples compute.
 computed : ⊤
@@ -69,9 +70,9 @@ the_check_has_no_operands : asked (codes "check" ∷ codes "a" ∷ []) ≡ None
 unfolding computed
 the_check_has_no_operands = refl
 
-a_run_has_two_workers : asked (codes "run" ∷ []) ≡ Some (about (Run 2))
+a_run_has_so_many_workers : asked (codes "run" ∷ []) ≡ Some (about (Run DEFAULT_WORKERS))
 unfolding computed
-a_run_has_two_workers = refl
+a_run_has_so_many_workers = refl
 
 a_run_by_none : asked (codes "run" ∷ codes "--workers" ∷ codes "0" ∷ []) ≡ Some (about (Run 0))
 unfolding computed

@@ -22,4 +22,4 @@ mod words;
 
 pub use clap::Error;
 pub use clap::error::ErrorKind;
-pub use words::{Asked, Question, read_words};
+pub use words::{Asked, DEFAULT_WORKERS, Question, read_words};

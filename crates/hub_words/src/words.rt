@@ -14,6 +14,12 @@ use clap::{Arg, ArgMatches, Command, Error, value_parser};
 use std::alloc::{AllocError, Global};
 use std::convert::AsStr;
 
+/// How many workers run the jobs if the words don't say.
+pub const DEFAULT_WORKERS: u8 = 2;
+
+/// The same, as it would stand on the command line.
+const DEFAULT_WORKERS_TEXT: &str = "2";
+
 /// The version that `--version` shows.
 const VERSION: &str = "0.1.0";
 
@@ -95,7 +101,7 @@ pub enum Asked<'a> {
 ///
 /// `check`, `certify` and `verify` ask about the set. Without a command the words ask for the check, and for a run of the
 /// jobs if the bundle has a state. `run` asks for a run; `--workers N` gives the number of workers, from 0 to 255, and
-/// without it there are 2.
+/// without it there are [`DEFAULT_WORKERS`].
 /// `reach PROFILE PATH` takes any two operands, also the empty word and `-`. An operand that begins with `-` and is longer
 /// needs `--` before it.
 ///
@@ -181,7 +187,7 @@ fn run_command<'a>(alloc: Global) -> Result<Command<'a>, AllocError>
         .value_name("N")
         .help("How many workers run the jobs, from 1 to 16")
         .value_parser(value_parser!(u8))
-        .default_value("2");
+        .default_value(DEFAULT_WORKERS_TEXT);
     Command::new(alloc, "run")
         .about("Runs the jobs of profiles that may run at the same time on the state of the input")
         .arg(workers)

@@ -1,0 +1,218 @@
+-- From what was written to what is true of the input.
+use Rattle.std.proofs.Common.{[], ◌≡◌, ◌∙◌, ◌==◌, ◌≤◌, ◌⊎◌, inl, inr, ℕ, Bool, true, false, ◌||◌, cond, Result, Ok, Err, List, ◌∷◌, ◌++◌, length, take, Option, Some, None, codes, refl, sym, ap, subst, arith, length-append, eq-eqb}
+use Rattle.std.specs.Prelude.{IfOk, IfSome, OnOk, is_err, ⊤}
+use Rattle.std.specs.Io.KnownBytes.{Appends, Keeps}
+use Rattle.std.proofs.KnownBytes.{Appends-kept}
+use Rattle.std.proofs.lemmas.List.{append_cancel_left, take_all}
+use Rattle.std.proofs.lemmas.Option.{none-some, same_Some}
+use Rattle.std.proofs.lemmas.Bool.{false≢true, true≢false}
+use Rattle.hub_words.specs.Words.{Request, asked_of}
+use Rattle.hub_report.specs.declared.report.Report.{Report}
+use Rattle.hub_report.specs.declared.report.Report.TheVariants.{Safe, Ran, NotRun, NoState, Verified, Certified, Refused, Reached, NotReached, NoProfile, BadPath, Unread, BadBundle, BadSection, OutOfMemory}
+use Rattle.hub_report.specs.Report.{status_of}
+use Rattle.hub_report.proofs.Starts.{begins, first}
+use Rattle.hub_serve.specs.Report.{Holds, SpellsSafe, SpellsUnsafe, SpellsVerified, SpellsReach, Serves, Answers, AnswersNothing, WritesText}
+use Rattle.hub_serve.proofs.FirstLines.{only_safe, only_verified, only_overlaps, only_breaches, only_reached, only_not_reached, OverlapsShown, BreachesShown}
+
+-- What follows the bytes that were there is what was appended.
+appended : (old new : Option (List ℕ)) (before more text : List ℕ) → Appends old new more → old ≡ Some before → new ≡ Some (before ++ text) → more ≡ text
+appended old new before more text h e f =
+    let from_old : Appends (Some before) new more = subst (λ o. Appends o new more) e h in
+    let grown : before ++ text ≡ before ++ more = subst (λ n. Appends (Some before) n more) f from_old in
+    sym (append_cancel_left before _ _ grown)
+
+module _ (request : Request) (remaining old new : Option (List ℕ)) (read_failed write_failed : Bool) (status : ℕ) (bytes before : List ℕ) where
+  held : (a : Answers request remaining old new read_failed write_failed status) → remaining ≡ Some bytes → Holds request bytes a.report
+  held a e = subst (λ r. IfSome r (λ bs. Holds request bs a.report)) e a.holds
+
+  safe-written : (text : List ℕ) → Answers request remaining old new read_failed write_failed status → remaining ≡ Some bytes → old ≡ Some before
+      → new ≡ Some (before ++ (codes "safe\n" ++ text)) → SpellsSafe (Some request) bytes text write_failed status
+  safe-written text a e f g =
+      only_safe request bytes a.report a.text a.writes.written text write_failed status a.is_text (appended old new before _ _ a.writes.appends f g) a.writes.whole a.writes.status_is
+      (held a e)
+
+  verified-written : (text : List ℕ) → Answers request remaining old new read_failed write_failed status → remaining ≡ Some bytes → old ≡ Some before
+      → new ≡ Some (before ++ (codes "verified\n" ++ text)) → SpellsVerified (Some request) bytes
+  verified-written text a e f g = only_verified request bytes a.report a.text a.writes.written _ a.is_text (appended old new before _ _ a.writes.appends f g) (held a e)
+
+  overlap-written : OverlapsShown → (text : List ℕ) → Answers request remaining old new read_failed write_failed status → remaining ≡ Some bytes → old ≡ Some before
+      → new ≡ Some (before ++ (codes "overlap: " ++ text)) → SpellsUnsafe bytes
+  overlap-written shown text a e f g = only_overlaps shown request bytes a.report a.text a.writes.written _ a.is_text (appended old new before _ _ a.writes.appends f g) (held a e)
+
+  breach-written : BreachesShown → (text : List ℕ) → Answers request remaining old new read_failed write_failed status → remaining ≡ Some bytes → old ≡ Some before
+      → new ≡ Some (before ++ (codes "breach: " ++ text)) → SpellsUnsafe bytes
+  breach-written shown text a e f g = only_breaches shown request bytes a.report a.text a.writes.written _ a.is_text (appended old new before _ _ a.writes.appends f g) (held a e)
+
+  reached-written : (text : List ℕ) → Answers request remaining old new read_failed write_failed status → remaining ≡ Some bytes → old ≡ Some before
+      → new ≡ Some (before ++ (codes "reached\n" ++ text)) → SpellsReach (Some request) bytes true
+  reached-written text a e f g =
+      let h = only_reached request bytes a.report a.text a.writes.written _ a.is_text (appended old new before _ _ a.writes.appends f g) (held a e) in
+      record { request = request; is_asked = refl; contents = h.contents; spelled = h.spelled; answered = h.told }
+
+  not_reached-written : (text : List ℕ) → Answers request remaining old new read_failed write_failed status → remaining ≡ Some bytes → old ≡ Some before
+      → new ≡ Some (before ++ (codes "not reached\n" ++ text)) → SpellsReach (Some request) bytes false
+  not_reached-written text a e f g =
+      let h = only_not_reached request bytes a.report a.text a.writes.written _ a.is_text (appended old new before _ _ a.writes.appends f g) (held a e) in
+      record { request = request; is_asked = refl; contents = h.contents; spelled = h.spelled; answered = h.told }
+
+-- Where the words ask for nothing, no such line is written: what is written begins with an f.
+nothing-written : (old new : Option (List ℕ)) (status : ℕ) (before text : List ℕ) (x : ℕ) → AnswersNothing old new status → (102 == x) ≡ false
+    → old ≡ Some before → new ≡ Some (before ++ (x ∷ text)) → ⊥
+nothing-written old new status before text x a d f g = go a.writes
+  where
+    kept : Keeps old new → before ++ (x ∷ text) ≡ before
+    kept k = subst (λ n. Keeps (Some before) n) g (subst (λ o. Keeps o new) f k)
+
+    go : Keeps old new ⊎ ((written : ℕ) × Appends old new (take written (codes "fault: out of memory\n"))) → ⊥
+    go (inl k) = omega (arith, ap length (kept k), length-append before (x ∷ text))
+    go (inr w) =
+        let front = begins (x ∷ []) (codes "fault: out of memory\n") text w.0 (appended old new before _ _ w.1 f g) in
+        let same : 102 ≡ x = ap first front.whole in
+        false≢true (sym d ∙ eq-eqb 102 x same)
+
+ends-le : (finished : Bool) → cond finished 0 3 ≤ 3
+ends-le true = omega arith
+ends-le false = omega arith
+
+status-le : (r : Report) → status_of r ≤ 3
+status-le Safe = omega arith
+status-le (Ran r) = ends-le r.finished
+status-le (NotRun f) = omega arith
+status-le NoState = omega arith
+status-le Verified = omega arith
+status-le (Certified t) = omega arith
+status-le (Refused t) = omega arith
+status-le Reached = omega arith
+status-le NotReached = omega arith
+status-le (NoProfile name) = omega arith
+status-le (BadPath f) = omega arith
+status-le (Unread f) = omega arith
+status-le (BadBundle f) = omega arith
+status-le (BadSection f) = omega arith
+status-le OutOfMemory = omega arith
+
+written-le : (failed : Bool) (status result : ℕ) → status ≤ 3 → result ≡ cond failed 2 status → result ≤ 3
+written-le true status result l e = omega (arith, e)
+written-le false status result l e = omega (arith, e, l)
+
+-- The words ask for something, and that is answered.
+pub serves-answer : OverlapsShown → BreachesShown → (request : Request) (remaining old new : Option (List ℕ)) (read_failed write_failed : Bool) (status : ℕ)
+    → Answers request remaining old new read_failed write_failed status → Serves (Some request) remaining old new read_failed write_failed status
+serves-answer overlaps breaches request remaining old new read_failed write_failed status a = record {
+  few = written-le write_failed (status_of a.report) status (status-le a.report) a.writes.status_is;
+  nothing = λ is. absurd (none-some request (sym is));
+  answer = λ other is. subst (λ r. Answers r remaining old new read_failed write_failed status) (same_Some request other is) a;
+  safe = λ bytes before text e f g. safe-written request remaining old new read_failed write_failed status bytes before text a e f g;
+  verified = λ bytes before text e f g. verified-written request remaining old new read_failed write_failed status bytes before text a e f g;
+  overlap = λ bytes before text e f g. overlap-written request remaining old new read_failed write_failed status bytes before overlaps text a e f g;
+  breach = λ bytes before text e f g. breach-written request remaining old new read_failed write_failed status bytes before breaches text a e f g;
+  reached = λ bytes before text e f g. reached-written request remaining old new read_failed write_failed status bytes before text a e f g;
+  not_reached = λ bytes before text e f g. not_reached-written request remaining old new read_failed write_failed status bytes before text a e f g;
+}
+
+-- The words ask for nothing.
+pub serves-nothing : (remaining old new : Option (List ℕ)) (read_failed write_failed : Bool) (status : ℕ)
+    → AnswersNothing old new status → Serves None remaining old new read_failed write_failed status
+serves-nothing remaining old new read_failed write_failed status a = record {
+  few = omega (arith, a.status_is);
+  nothing = λ is. a;
+  answer = λ request is. absurd (none-some request is);
+  safe = λ bytes before text e f g. absurd (nothing-written old new status before _ 115 a refl f g);
+  verified = λ bytes before text e f g. absurd (nothing-written old new status before _ 118 a refl f g);
+  overlap = λ bytes before text e f g. absurd (nothing-written old new status before _ 111 a refl f g);
+  breach = λ bytes before text e f g. absurd (nothing-written old new status before _ 98 a refl f g);
+  reached = λ bytes before text e f g. absurd (nothing-written old new status before _ 114 a refl f g);
+  not_reached = λ bytes before text e f g. absurd (nothing-written old new status before _ 110 a refl f g);
+}
+
+anything : (r : Option (List ℕ)) → IfSome r (λ _. ⊤)
+anything None = tt
+anything (Some bytes) = tt
+
+pub memory-nothing : (old new : Option (List ℕ)) (failed : Bool) (status : ℕ) → WritesText old new (codes "fault: out of memory\n") 2 failed status
+    → AnswersNothing old new status
+memory-nothing old new failed status w = record { status_is = two failed w.status_is; writes = inr (w.written, w.appends) }
+  where
+    two : (failed : Bool) → status ≡ cond failed 2 2 → status ≡ 2
+    two true e = e
+    two false e = e
+
+-- The line that memory is out answers every question.
+pub memory-answers : (request : Request) (remaining old new : Option (List ℕ)) (read_failed write_failed : Bool) (status : ℕ)
+    → WritesText old new (codes "fault: out of memory\n") 2 write_failed status → Answers request remaining old new read_failed write_failed status
+memory-answers request remaining old new read_failed write_failed status w = record {
+  report = OutOfMemory;
+  holds = anything remaining;
+  only_failed = λ e. absurd (false≢true e);
+  all_failed = λ e. inr refl;
+  text = codes "fault: out of memory\n";
+  is_text = refl;
+  writes = w;
+}
+
+-- And it is right for words that ask for something and for those that don't.
+pub serves-memory : OverlapsShown → BreachesShown → (asked : Option Request) (remaining old new : Option (List ℕ)) (read_failed write_failed : Bool) (status : ℕ)
+    → WritesText old new (codes "fault: out of memory\n") 2 write_failed status → Serves asked remaining old new read_failed write_failed status
+serves-memory overlaps breaches None remaining old new read_failed write_failed status w =
+    serves-nothing remaining old new read_failed write_failed status (memory-nothing old new write_failed status w)
+serves-memory overlaps breaches (Some request) remaining old new read_failed write_failed status w =
+    serves-answer overlaps breaches request remaining old new read_failed write_failed status (memory-answers request remaining old new read_failed write_failed status w)
+
+-- Words that are refused ask for nothing, unless memory is out.
+pub serves-refused : {T : Type 0} → OverlapsShown → BreachesShown → (kind none : T) (asked : Option Request) (remaining old new : Option (List ℕ)) (read_failed write_failed : Bool) (status : ℕ)
+    → (kind ≡ none) ⊎ (asked ≡ None) → (kind ≡ none → WritesText old new (codes "fault: out of memory\n") 2 write_failed status) → AnswersNothing old new status
+    → Serves asked remaining old new read_failed write_failed status
+serves-refused overlaps breaches kind none asked remaining old new read_failed write_failed status (inl e) memory a =
+    serves-memory overlaps breaches asked remaining old new read_failed write_failed status (memory e)
+serves-refused overlaps breaches kind none asked remaining old new read_failed write_failed status (inr e) memory a =
+    subst (λ o. Serves o remaining old new read_failed write_failed status) (sym e) (serves-nothing remaining old new read_failed write_failed status a)
+
+pub serves-asked : OverlapsShown → BreachesShown → (asked : Option Request) (request : Request) (remaining old new : Option (List ℕ)) (read_failed write_failed : Bool) (status : ℕ)
+    → asked ≡ Some request → Answers request remaining old new read_failed write_failed status → Serves asked remaining old new read_failed write_failed status
+serves-asked overlaps breaches asked request remaining old new read_failed write_failed status is a =
+    subst (λ o. Serves o remaining old new read_failed write_failed status) (sym is) (serves-answer overlaps breaches request remaining old new read_failed write_failed status a)
+
+-- Words that are the same ask for the same.
+pub serves-same : (words same : List (List ℕ)) (remaining old new : Option (List ℕ)) (read_failed write_failed : Bool) (status : ℕ)
+    → words ≡ same → Serves (asked_of words) remaining old new read_failed write_failed status → Serves (asked_of same) remaining old new read_failed write_failed status
+serves-same words same remaining old new read_failed write_failed status e h =
+    subst (λ ws. Serves (asked_of ws) remaining old new read_failed write_failed status) e h
+
+-- All of a line was written, and no call failed.
+pub text-written : (old mid new : Option (List ℕ)) (line : List ℕ) (status : ℕ) (failed : Bool) → Appends old mid line → Keeps mid new → failed ≡ false
+    → WritesText old new line status failed status
+text-written old mid new line status failed all kept is =
+    let whole : take (length line) line ≡ line = take_all (length line) line (omega arith) in
+    record {
+      written = length line;
+      appends = Appends-kept old mid new (take (length line) line) (subst (Appends old mid) (sym whole) all) kept;
+      whole = λ e. whole;
+      status_is = sym (ap (λ f. cond f 2 status) is);
+    }
+
+-- A prefix of a line was written, and a call failed.
+pub text-cut : (old new : Option (List ℕ)) (line : List ℕ) (n status : ℕ) (failed : Bool) → Appends old new (take n line) → failed ≡ true
+    → WritesText old new line status failed 2
+text-cut old new line n status failed some is = record {
+  written = n;
+  appends = some;
+  whole = λ e. absurd (true≢false (sym is ∙ e));
+  status_is = sym (ap (λ f. cond f 2 status) is);
+}
+
+-- All of a line was written, and then the flush failed.
+pub text-unflushed : (old mid new : Option (List ℕ)) (line : List ℕ) (status : ℕ) (failed : Bool) → Appends old mid line → Keeps mid new → failed ≡ true
+    → WritesText old new line status failed 2
+text-unflushed old mid new line status failed all kept is =
+    text-cut old new line (length line) status failed (Appends-kept old mid new (take (length line) line) (subst (Appends old mid) (sym (take_all (length line) line (omega arith))) all) kept) is
+
+-- A call that returned no error has not failed.
+pub unfailed : (failed err now : Bool) → failed ≡ false → false ≡ err → now ≡ (failed || err) → now ≡ false
+unfailed failed err now h k e = e ∙ rw (h, ← k) refl
+
+pub given-ok : {T E : Type 0} (r : Result T E) (P : Type 0) → false ≡ is_err r → OnOk r P → P
+given-ok (Ok x) P e h = h
+given-ok (Err x) P e h = cc
+
+pub ok-holds : {T E : Type 0} (r : Result T E) (v : T) (P : T → Type 0) → r ≡ Ok v → P v → IfOk r P
+ok-holds r v P e h = subst (λ x. IfOk x P) (sym e) h

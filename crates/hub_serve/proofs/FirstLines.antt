@@ -1,0 +1,278 @@
+-- What is true of the input if what is written begins with these letters.
+use Rattle.std.proofs.Common.{◌≡◌, ◌≢◌, ◌∙◌, inl, inr, ℕ, Bool, true, false, cond, List, [], ◌∷◌, ◌++◌, take, Option, Some, None, codes, refl, sym, ap, subst, arith}
+use Rattle.std.specs.Prelude.{⊤, string_bytes}
+use Rattle.std.proofs.lemmas.List.{append_cancel_left}
+use Rattle.std.proofs.lemmas.Option.{same_Some}
+use Rattle.hub_path.specs.Path.{Path}
+use Rattle.hub_cert.specs.Set.{Members, IsSafeSet}
+use Rattle.hub_cert.specs.declared.goal.Place.{Place}
+use Rattle.hub_cert.specs.declared.fault.CheckFault.{CheckFault}
+use Rattle.hub_cert.specs.declared.fault.CheckFault.TheVariants as fault
+use Rattle.hub_search.specs.Search.{IsFirstFault}
+use Rattle.hub_state.specs.State.{State}
+use Rattle.hub_state.specs.Writing.{state_text}
+use Rattle.hub_bundle.specs.declared.sections.Contents.{Contents}
+use Rattle.hub_bundle.specs.Sections.{Spells, members}
+use Rattle.hub_report.specs.declared.report.Report.{Report}
+use Rattle.hub_report.specs.declared.report.Report.TheVariants.{Safe, Ran, NotRun, NoState, Verified, Certified, Refused, Reached, NotReached, NoProfile, BadPath, Unread, BadBundle, BadSection, OutOfMemory}
+use Rattle.hub_report.specs.declared.run.Run as run
+use Rattle.hub_report.specs.declared.run.RunError.{RunError}
+use Rattle.hub_report.specs.Report.{status_of, text_of}
+use Rattle.hub_report.specs.Refusal.{refusal_line}
+use Rattle.hub_report.specs.Jobs.{lines_of_jobs}
+use Rattle.hub_report.specs.Run.{error_line}
+use Rattle.hub_report.proofs.Starts.{Start, SafeStart, VerifiedStart, OverlapStart, BreachStart, ReachedStart, NotReachedStart, OtherStart, start, begins, refusal-start}
+use Rattle.hub_words.specs.declared.words.Question.{Question}
+use Rattle.hub_words.specs.declared.words.Question.TheVariants.{CheckWithState, Run, Check, Certify, Verify}
+use Rattle.hub_words.specs.Words.{Request, about}
+use Rattle.hub_serve.specs.declared.task.Task.{Task}
+use Rattle.hub_serve.specs.declared.task.Task.TheVariants as task
+use Rattle.hub_serve.specs.Report.{IsRefusedFor, IsTold, IsTrueOf, Holds, SpellsSafe, SpellsUnsafe, SpellsVerified}
+use Rattle.hub_serve.specs.Runs.{HasRunAs, IsBelow, IsPrevented, IsRunOn}
+use Rattle.hub_serve.specs.Task.{AsksFor, task_of}
+
+-- What holds of what an input says holds of the input.
+pub told-holds : (request : Request) (bytes : List ℕ) (c : Contents) (r : Report) → Spells bytes c → IsTold request c r → Holds request bytes r
+told-holds request bytes c Safe s h = record { contents = c; spelled = s; told = h }
+told-holds request bytes c (Ran r) s h = record { contents = c; spelled = s; told = h }
+told-holds request bytes c (NotRun f) s h = record { contents = c; spelled = s; told = h }
+told-holds request bytes c NoState s h = record { contents = c; spelled = s; told = h }
+told-holds request bytes c Verified s h = record { contents = c; spelled = s; told = h }
+told-holds request bytes c (Certified t) s h = record { contents = c; spelled = s; told = h }
+told-holds request bytes c (Refused t) s h = record { contents = c; spelled = s; told = h }
+told-holds request bytes c Reached s h = record { contents = c; spelled = s; told = h }
+told-holds request bytes c NotReached s h = record { contents = c; spelled = s; told = h }
+told-holds request bytes c (NoProfile name) s h = record { contents = c; spelled = s; told = h }
+told-holds request bytes c (BadPath f) s h = record { contents = c; spelled = s; told = h }
+told-holds request bytes c (Unread f) s h = absurd h
+told-holds request bytes c (BadBundle f) s h = absurd h
+told-holds request bytes c (BadSection f) s h = absurd h
+told-holds request bytes c OutOfMemory s h = tt
+
+-- What is shown of a set that isn't safe.
+abbrev pub OverlapsShown : Type 0
+OverlapsShown = (S : Members) (w o : ℕ) (place : Place) (held path : Path) → IsFirstFault S (fault.Overlap w o place held path) → IsSafeSet S → ⊥
+
+abbrev pub BreachesShown : Type 0
+BreachesShown = (S : Members) (p k : ℕ) (path : Path) → IsFirstFault S (fault.Breach p k path) → IsSafeSet S → ⊥
+
+-- An overlap or a breach is told only as the first fault.
+overlap-first : (t : Task) (c : Contents) (w o : ℕ) (place : Place) (held path : Path) → IsRefusedFor t c (fault.Overlap w o place held path) → IsFirstFault (members c) (fault.Overlap w o place held path)
+overlap-first t c w o place held path (inl h) = absurd h
+overlap-first task.Check c w o place held path (inr (inl h)) = cc
+overlap-first task.Check c w o place held path (inr (inr h)) = h
+overlap-first (task.RunJobs n S) c w o place held path (inr (inl h)) = cc
+overlap-first (task.RunJobs n S) c w o place held path (inr (inr h)) = h
+overlap-first task.Certify c w o place held path (inr (inl h)) = cc
+overlap-first task.Certify c w o place held path (inr (inr h)) = h
+overlap-first task.Verify c w o place held path (inr h) = absurd h
+
+breach-first : (t : Task) (c : Contents) (p k : ℕ) (path : Path) → IsRefusedFor t c (fault.Breach p k path) → IsFirstFault (members c) (fault.Breach p k path)
+breach-first t c p k path (inl h) = absurd h
+breach-first task.Check c p k path (inr (inl h)) = cc
+breach-first task.Check c p k path (inr (inr h)) = h
+breach-first (task.RunJobs n S) c p k path (inr (inl h)) = cc
+breach-first (task.RunJobs n S) c p k path (inr (inr h)) = h
+breach-first task.Certify c p k path (inr (inl h)) = cc
+breach-first task.Certify c p k path (inr (inr h)) = h
+breach-first task.Verify c p k path (inr h) = absurd h
+
+-- Where no jobs are to be run, nothing is below `safe`.
+check-below : (t : Task) (M : Members) → t ≡ task.Check → IsBelow t M 0 []
+check-below t M is = subst (λ u. IsBelow u M 0 []) (sym is) (refl, refl)
+
+-- The status of a run: 0 if all jobs are finished, else 3.
+abbrev run_status : Bool → ℕ
+run_status finished = cond finished 0 3
+
+zero-finished : (finished : Bool) → run_status finished ≡ 0 → finished ≡ true
+zero-finished true z = refl
+zero-finished false z = absurd (omega (arith, z))
+
+other-is-3 : (finished : Bool) → run_status finished ≢ 0 → run_status finished ≡ 3
+other-is-3 true other = absurd (other refl)
+other-is-3 false other = refl
+
+-- What jobs left is below `safe`,
+ran-below : (t : Task) (M : Members) (r : run.Run) → HasRunAs t M r → IsBelow t M (run_status r.finished) (string_bytes r.lines ++ state_text r.state)
+ran-below t M r h =
+    subst (λ u. IsBelow u M (run_status r.finished) (string_bytes r.lines ++ state_text r.state)) (sym h.task_is)
+    (inl (
+      h.may,
+      record {
+        outcome = h.run.outcome;
+        run = subst (λ S. IsRunOn M S h.run.outcome) (sym (same_Some h.state h.run.opening h.run.state_is)) h.run.run;
+        text = ap (λ ls. ls ++ state_text r.state) h.run.lines ∙ ap (λ S. lines_of_jobs M.profiles h.run.outcome.jobs ++ state_text S) h.run.left;
+        finished = (λ z. h.run.finished.0 (zero-finished r.finished z), λ f. ap run_status (h.run.finished.1 f));
+        others = other-is-3 r.finished;
+      },
+    ))
+
+-- or why they weren't run.
+error-below : (t : Task) (M : Members) (f : RunError) → IsPrevented t M f → IsBelow t M 3 (error_line f)
+error-below t M f h =
+    subst (λ u. IsBelow u M 3 (error_line f)) (sym h.task_is) (inr (record { error = f; reason = h.reason; text = refl; status_is = refl }))
+
+-- Only `verify` asks to verify certificates.
+asks-verify : (request : Request) (state : Option State) → AsksFor request state task.Verify → request ≡ about Verify
+asks-verify request state a = a.asked ∙ ap about (go a.of_set state a.task_is)
+  where
+    go : (q : Question) (o : Option State) → task_of q o ≡ Some task.Verify → q ≡ Verify
+    go CheckWithState None is = cc
+    go CheckWithState (Some S) is = cc
+    go (Run n) None is = cc
+    go (Run n) (Some S) is = cc
+    go Check o is = cc
+    go Certify o is = cc
+    go Verify o is = refl
+
+-- A text that says of the input that its set is safe: below `safe` is what is to follow it.
+record SaysSafe (request : Request) (bytes line : List ℕ) (status : ℕ) : Type 0 where
+  pub contents : Contents
+  pub spelled : Spells bytes contents
+  pub to_do : Task
+  pub asked : AsksFor request contents.state to_do
+  pub safe : IsSafeSet (members contents)
+  pub below : List ℕ
+  pub below_is : IsBelow to_do (members contents) status below
+  pub line_is : line ≡ codes "safe\n" ++ below
+
+-- What is true of the question and of the input if the text of the answer starts so.
+abbrev Means : Request → List ℕ → List ℕ → ℕ → Start → Type 0
+Means request bytes line status SafeStart = SaysSafe request bytes line status
+Means request bytes line status VerifiedStart = SpellsVerified (Some request) bytes
+Means request bytes line status OverlapStart = OverlapsShown → SpellsUnsafe bytes
+Means request bytes line status BreachStart = BreachesShown → SpellsUnsafe bytes
+Means request bytes line status ReachedStart = IsTrueOf request bytes Reached
+Means request bytes line status NotReachedStart = IsTrueOf request bytes NotReached
+Means request bytes line status OtherStart = ⊤
+
+-- It is true of the start of the line of a refusal,
+refusal-means : (request : Request) (bytes line : List ℕ) (status : ℕ) (c : Contents) (t : Task) (e : CheckFault) → Spells bytes c → IsRefusedFor t c e
+    → Means request bytes line status (start (refusal_line (members c) e))
+refusal-means request bytes line status c t e spelled refused =
+    refusal-start (Means request bytes line status) (members c) e tt
+    (λ w o place held path is shown. record {
+      contents = c;
+      spelled = spelled;
+      unsafe = shown (members c) w o place held path (overlap-first t c w o place held path (subst (IsRefusedFor t c) is refused));
+    })
+    (λ p k path is shown. record {
+      contents = c;
+      spelled = spelled;
+      unsafe = shown (members c) p k path (breach-first t c p k path (subst (IsRefusedFor t c) is refused));
+    })
+
+-- and of the start of the text of every answer.
+text-means : (request : Request) (bytes : List ℕ) (r : Report) (line : List ℕ) → line ≡ text_of r → Holds request bytes r
+    → Means request bytes line (status_of r) (start line)
+text-means request bytes Safe line l h =
+    subst (λ t. Means request bytes line 0 (start t)) (sym l) (record {
+      contents = h.contents;
+      spelled = h.spelled;
+      to_do = h.told.to_do;
+      asked = h.told.asked;
+      safe = h.told.told.1;
+      below = [];
+      below_is = check-below h.told.to_do (members h.contents) h.told.told.0;
+      line_is = l;
+    })
+text-means request bytes (Ran r) line l h =
+    subst (λ t. Means request bytes line (run_status r.finished) (start t)) (sym l) (record {
+      contents = h.contents;
+      spelled = h.spelled;
+      to_do = h.told.to_do;
+      asked = h.told.asked;
+      safe = h.told.told.safe;
+      below = string_bytes r.lines ++ state_text r.state;
+      below_is = ran-below h.told.to_do (members h.contents) r h.told.told;
+      line_is = l;
+    })
+text-means request bytes (NotRun f) line l h =
+    subst (λ t. Means request bytes line 3 (start t)) (sym l) (record {
+      contents = h.contents;
+      spelled = h.spelled;
+      to_do = h.told.to_do;
+      asked = h.told.asked;
+      safe = h.told.told.safe;
+      below = error_line f;
+      below_is = error-below h.told.to_do (members h.contents) f h.told.told;
+      line_is = l;
+    })
+text-means request bytes NoState line l h = subst (λ t. Means request bytes line 2 (start t)) (sym l) tt
+text-means request bytes Verified line l h =
+    let asked = subst (AsksFor request h.contents.state) h.told.told.0 h.told.asked in
+    subst (λ t. Means request bytes line 0 (start t)) (sym l) (record {
+      is_asked = ap Some (asks-verify request h.contents.state asked);
+      contents = h.contents;
+      spelled = h.spelled;
+      inductive = h.told.told.1;
+      safe = h.told.told.2;
+    })
+text-means request bytes (Certified text) line l h =
+    subst (λ t. Means request bytes line 0 (start t)) (sym (l ∙ h.told.told.1.2)) tt
+text-means request bytes (Refused text) line l h =
+    subst (λ t. Means request bytes line 1 (start t)) (sym (l ∙ h.told.told.1))
+    (refusal-means request bytes line 1 h.contents h.told.to_do h.told.reason h.spelled h.told.refused)
+text-means request bytes Reached line l h = subst (λ t. Means request bytes line 0 (start t)) (sym l) h
+text-means request bytes NotReached line l h = subst (λ t. Means request bytes line 0 (start t)) (sym l) h
+text-means request bytes (NoProfile n) line l h = subst (λ t. Means request bytes line 2 (start t)) (sym l) tt
+text-means request bytes (BadPath f) line l h = subst (λ t. Means request bytes line 2 (start t)) (sym l) tt
+text-means request bytes (Unread f) line l h = subst (λ t. Means request bytes line 2 (start t)) (sym l) tt
+text-means request bytes (BadBundle f) line l h = subst (λ t. Means request bytes line 2 (start t)) (sym l) tt
+text-means request bytes (BadSection f) line l h = subst (λ t. Means request bytes line 2 (start t)) (sym l) tt
+text-means request bytes OutOfMemory line l h = subst (λ t. Means request bytes line 2 (start t)) (sym l) tt
+
+-- Of a text whose start is known.
+means : (request : Request) (bytes : List ℕ) (r : Report) (line : List ℕ) (x : Start) → line ≡ text_of r → start line ≡ x → Holds request bytes r
+    → Means request bytes line (status_of r) x
+means request bytes r line x l e h = subst (Means request bytes line (status_of r)) e (text-means request bytes r line l h)
+
+-- Only the text of a safe set begins with `safe`,
+pub only_safe : (request : Request) (bytes : List ℕ) (r : Report) (line : List ℕ) (w : ℕ) (s : List ℕ) (failed : Bool) (status : ℕ) → line ≡ text_of r → take w line ≡ codes "safe\n" ++ s
+    → (failed ≡ false → take w line ≡ line) → status ≡ cond failed 2 (status_of r) → Holds request bytes r → SpellsSafe (Some request) bytes s failed status
+only_safe request bytes r line w s failed status l e whole z h =
+    let front = begins (codes "safe\n") line s w e in
+    let says : SaysSafe request bytes line (status_of r) = means request bytes r line SafeStart l (ap start front.whole) h in
+    let rest : front.rest ≡ says.below = append_cancel_left (codes "safe\n") front.rest says.below (sym front.whole ∙ says.line_is) in
+    record {
+      of_set = says.asked.of_set;
+      is_asked = ap Some says.asked.asked;
+      contents = says.contents;
+      spelled = says.spelled;
+      to_do = says.to_do;
+      to_do_is = says.asked.task_is;
+      safe = says.safe;
+      below = says.below;
+      full = status_of r;
+      below_is = says.below_is;
+      written = front.written;
+      text_is = sym front.front ∙ ap (take front.written) rest;
+      whole = λ f. append_cancel_left (codes "safe\n") s says.below (sym e ∙ (whole f ∙ says.line_is));
+      status_is = z;
+    }
+
+-- only that of a verified one with a v,
+pub only_verified : (request : Request) (bytes : List ℕ) (r : Report) (line : List ℕ) (w : ℕ) (s : List ℕ) → line ≡ text_of r → take w line ≡ 118 ∷ s → Holds request bytes r → SpellsVerified (Some request) bytes
+only_verified request bytes r line w s l e h =
+    means request bytes r line VerifiedStart l (ap start (begins (118 ∷ []) line s w e).whole) h
+
+-- only that of a reached path with `rea`,
+pub only_reached : (request : Request) (bytes : List ℕ) (r : Report) (line : List ℕ) (w : ℕ) (s : List ℕ) → line ≡ text_of r → take w line ≡ 114 ∷ 101 ∷ 97 ∷ s → Holds request bytes r → IsTrueOf request bytes Reached
+only_reached request bytes r line w s l e h =
+    means request bytes r line ReachedStart l (ap start (begins (114 ∷ 101 ∷ 97 ∷ []) line s w e).whole) h
+
+-- only that of a path that isn't with an n,
+pub only_not_reached : (request : Request) (bytes : List ℕ) (r : Report) (line : List ℕ) (w : ℕ) (s : List ℕ) → line ≡ text_of r → take w line ≡ 110 ∷ s → Holds request bytes r → IsTrueOf request bytes NotReached
+only_not_reached request bytes r line w s l e h =
+    means request bytes r line NotReachedStart l (ap start (begins (110 ∷ []) line s w e).whole) h
+
+-- only that of an overlap with an o,
+pub only_overlaps : OverlapsShown → (request : Request) (bytes : List ℕ) (r : Report) (line : List ℕ) (w : ℕ) (s : List ℕ) → line ≡ text_of r → take w line ≡ 111 ∷ s → Holds request bytes r → SpellsUnsafe bytes
+only_overlaps shown request bytes r line w s l e h =
+    means request bytes r line OverlapStart l (ap start (begins (111 ∷ []) line s w e).whole) h shown
+
+-- and only that of a breach with a b.
+pub only_breaches : BreachesShown → (request : Request) (bytes : List ℕ) (r : Report) (line : List ℕ) (w : ℕ) (s : List ℕ) → line ≡ text_of r → take w line ≡ 98 ∷ s → Holds request bytes r → SpellsUnsafe bytes
+only_breaches shown request bytes r line w s l e h =
+    means request bytes r line BreachStart l (ap start (begins (98 ∷ []) line s w e).whole) h shown

@@ -1,0 +1,238 @@
+-- What the program answers to an input, and when.
+use Rattle.std.specs.Prelude.{◌≡◌, ◌⊎◌, ◌≤◌, ◌++◌, ⊤, ℕ, Bool, true, false, if◌then◌else◌, List, length, take, Option, Some, None, IfSome, Ok, Err, chars, codes, string_bytes}
+use Rattle.std.specs.Io.KnownBytes.{Appends, Keeps}
+use Rattle.hub_path.specs.Path.{Path}
+use Rattle.hub_path.specs.Reading.{path_reading}
+use Rattle.hub_path.specs.declared.fault.PathFault.{PathFault}
+use Rattle.hub_profile.specs.Parts.{Parts}
+use Rattle.hub_reach.specs.Reach.{reach}
+use Rattle.hub_cert.specs.Set.{Members, IsSafeSet}
+use Rattle.hub_cert.specs.Refused.{IsRefused}
+use Rattle.hub_cert.specs.Verdict.{AreCertificates, Refuses}
+use Rattle.hub_cert.specs.Writing.{certificates_text}
+use Rattle.hub_cert.specs.declared.certificate.Certificate.{Certificate}
+use Rattle.hub_cert.specs.declared.fault.CheckFault.{CheckFault}
+use Rattle.hub_cert.specs.declared.fault.CheckFault.TheVariants as fault
+use Rattle.hub_search.specs.Search.{IsFirstFault}
+use Rattle.hub_bundle.specs.declared.input.TheConstants.{READ_TURNS}
+use Rattle.hub_bundle.specs.declared.input.InputFault.{InputFault}
+use Rattle.hub_bundle.specs.declared.input.InputFault.TheVariants as input
+use Rattle.hub_bundle.specs.declared.sections.Contents.{Contents}
+use Rattle.hub_bundle.specs.Bundle.{bundle_reading}
+use Rattle.hub_bundle.specs.Sections.{Spells, HasFault, members}
+use Rattle.hub_words.specs.declared.words.Question.{Question}
+use Rattle.hub_words.specs.declared.words.Question.TheVariants.{Verify}
+use Rattle.hub_words.specs.Words.{Request}
+use Rattle.hub_words.specs.Words as question
+use Rattle.hub_report.specs.declared.report.Report.{Report}
+use Rattle.hub_report.specs.declared.report.Report.TheVariants.{Safe, Ran, NotRun, NoState, Verified, Certified, Refused, Reached, NotReached, NoProfile, BadPath, Unread, BadBundle, BadSection, OutOfMemory}
+use Rattle.hub_serve.specs.declared.task.Task.{Task}
+use Rattle.hub_serve.specs.declared.task.Task.TheVariants as task
+use Rattle.hub_serve.specs.Reached.{named}
+use Rattle.hub_report.specs.Report.{IsRefusal, says_read_failed, status_of, text_of}
+use Rattle.hub_serve.specs.Runs.{HasRunAs, IsBelow, IsPrevented}
+use Rattle.hub_serve.specs.Task.{AsksFor, LacksState, task_of}
+
+-- The bytes are a bundle whose profiles and rules are a safe set, and this text is what is to follow `safe`: all of it, with
+-- the status of the whole, unless a call of the output failed; then it is a prefix, and the status is 2.
+pub record SpellsSafe (asked : Option Request) (bytes text : List ℕ) (failed : Bool) (status : ℕ) : Type 0 where
+  pub of_set : Question
+  pub is_asked : asked ≡ Some (question.about of_set)
+  pub contents : Contents
+  pub spelled : Spells bytes contents
+  pub to_do : Task
+  pub to_do_is : task_of of_set contents.state ≡ Some to_do
+  pub safe : IsSafeSet (members contents)
+  pub below : List ℕ
+  pub full : ℕ
+  pub below_is : IsBelow to_do (members contents) full below
+  pub written : ℕ
+  pub text_is : text ≡ take written below
+  pub whole : failed ≡ false → text ≡ below
+  pub status_is : status ≡ (if failed then 2 else full)
+
+-- The bytes are a bundle whose profiles and rules aren't.
+pub record SpellsUnsafe (bytes : List ℕ) : Type 0 where
+  pub contents : Contents
+  pub spelled : Spells bytes contents
+  pub unsafe : IsSafeSet (members contents) → ⊥
+
+-- The words ask to verify the bundle's certificates, and these make its set safe.
+pub record SpellsVerified (asked : Option Request) (bytes : List ℕ) : Type 0 where
+  pub is_asked : asked ≡ Some (question.about Verify)
+  pub contents : Contents
+  pub spelled : Spells bytes contents
+  pub inductive : AreCertificates (members contents) contents.certificates
+  pub safe : IsSafeSet (members contents)
+
+-- It was asked whether a profile reaches a path, and this is the answer of the first profile of that name.
+pub record ReachIs (request : Request) (Ps : List Parts) (answer : Bool) : Type 0 where
+  pub profile : List ℕ
+  pub path : List ℕ
+  pub asked : request ≡ question.reach profile path
+  pub P : Parts
+  pub p : Path
+  pub profile_is : named profile Ps ≡ Some P
+  pub path_is : path_reading (chars path) ≡ Ok p
+  pub answer_is : reach P p ≡ answer
+
+-- It was asked of a profile that isn't there.
+pub record LacksProfile (request : Request) (Ps : List Parts) (profile : List ℕ) : Type 0 where
+  pub path : List ℕ
+  pub asked : request ≡ question.reach profile path
+  pub missing : named profile Ps ≡ None
+
+-- It was asked of a text that is no path.
+pub record HasBadPath (request : Request) (Ps : List Parts) (f : PathFault) : Type 0 where
+  pub profile : List ℕ
+  pub path : List ℕ
+  pub asked : request ≡ question.reach profile path
+  pub P : Parts
+  pub profile_is : named profile Ps ≡ Some P
+  pub fault : path_reading (chars path) ≡ Err f
+
+-- The fault by which a set that was made is refused, where these are the bundle's certificates.
+abbrev pub FaultOf : Task → Members → List Certificate → CheckFault → Type 0
+FaultOf task.Check S cs e = (e ≡ fault.OutOfMemory) ⊎ IsFirstFault S e
+FaultOf (task.RunJobs n state) S cs e = (e ≡ fault.OutOfMemory) ⊎ IsFirstFault S e
+FaultOf task.Certify S cs e = (e ≡ fault.OutOfMemory) ⊎ IsFirstFault S e
+FaultOf task.Verify S cs e = Refuses S cs e
+
+-- What holds of a set that was made, and of the bundle's certificates, where this was to be done and that is the answer.
+abbrev pub IsToldOfSet : Task → Members → List Certificate → Report → Type 0
+IsToldOfSet t S cs Safe = (t ≡ task.Check) × IsSafeSet S
+IsToldOfSet t S cs (Ran r) = HasRunAs t S r
+IsToldOfSet t S cs (NotRun e) = IsPrevented t S e
+IsToldOfSet t S cs NoState = ⊥
+IsToldOfSet t S cs Verified = (t ≡ task.Verify) × AreCertificates S cs × IsSafeSet S
+IsToldOfSet t S cs (Certified text) = (t ≡ task.Certify) × ((own : List Certificate) × AreCertificates S own × (string_bytes text ≡ certificates_text own))
+IsToldOfSet t S cs (Refused text) = (e : CheckFault) × FaultOf t S cs e × IsRefusal S e (Refused text)
+IsToldOfSet t S cs Reached = ⊥
+IsToldOfSet t S cs NotReached = ⊥
+IsToldOfSet t S cs (NoProfile name) = ⊥
+IsToldOfSet t S cs (BadPath f) = ⊥
+IsToldOfSet t S cs (Unread f) = ⊥
+IsToldOfSet t S cs (BadBundle f) = ⊥
+IsToldOfSet t S cs (BadSection f) = ⊥
+IsToldOfSet t S cs OutOfMemory = ⊤
+
+-- The profiles and rules are no set, or the set is refused.
+abbrev pub IsRefusedFor : Task → Contents → CheckFault → Type 0
+IsRefusedFor t c e = IsRefused (members c) e ⊎ FaultOf t (members c) c.certificates e
+
+-- It was asked to do this about the set, which is refused.
+pub record IsToldRefused (request : Request) (c : Contents) (r : Report) : Type 0 where
+  pub to_do : Task
+  pub asked : AsksFor request c.state to_do
+  pub reason : CheckFault
+  pub refused : IsRefusedFor to_do c reason
+  pub told : IsRefusal (members c) reason r
+
+-- It was asked to do this about the set, and that is the answer.
+pub record IsToldAbout (request : Request) (c : Contents) (r : Report) : Type 0 where
+  pub to_do : Task
+  pub asked : AsksFor request c.state to_do
+  pub told : IsToldOfSet to_do (members c) c.certificates r
+
+-- What holds of the question and of what the bundle says where the program answers so to a bundle that was read.
+abbrev pub IsTold : Request → Contents → Report → Type 0
+IsTold request c Safe = IsToldAbout request c Safe
+IsTold request c (Ran r) = IsToldAbout request c (Ran r)
+IsTold request c (NotRun e) = IsToldAbout request c (NotRun e)
+IsTold request c NoState = LacksState request c.state
+IsTold request c Verified = IsToldAbout request c Verified
+IsTold request c (Certified t) = IsToldAbout request c (Certified t)
+IsTold request c (Refused t) = IsToldRefused request c (Refused t)
+IsTold request c Reached = ReachIs request c.profiles true
+IsTold request c NotReached = ReachIs request c.profiles false
+IsTold request c (NoProfile name) = LacksProfile request c.profiles name.now
+IsTold request c (BadPath f) = HasBadPath request c.profiles f
+IsTold request c (Unread f) = ⊥
+IsTold request c (BadBundle f) = ⊥
+IsTold request c (BadSection f) = ⊥
+IsTold request c OutOfMemory = ⊤
+
+-- The bytes are a bundle of which that is true.
+pub record IsTrueOf (request : Request) (bytes : List ℕ) (r : Report) : Type 0 where
+  pub contents : Contents
+  pub spelled : Spells bytes contents
+  pub told : IsTold request contents r
+
+-- What holds of an input that isn't read. That a read failed is no fact about its bytes: `says_read_failed` tells it.
+abbrev pub IsUnread : List ℕ → InputFault → Type 0
+IsUnread bytes input.ReadFailed = ⊤
+IsUnread bytes input.TurnsSpent = READ_TURNS ≤ length bytes
+IsUnread bytes input.OutOfMemory = ⊤
+
+-- What holds of the question and the input where the program answers so.
+abbrev pub Holds : Request → List ℕ → Report → Type 0
+Holds request bytes Safe = IsTrueOf request bytes Safe
+Holds request bytes (Ran r) = IsTrueOf request bytes (Ran r)
+Holds request bytes (NotRun e) = IsTrueOf request bytes (NotRun e)
+Holds request bytes NoState = IsTrueOf request bytes NoState
+Holds request bytes Verified = IsTrueOf request bytes Verified
+Holds request bytes (Certified t) = IsTrueOf request bytes (Certified t)
+Holds request bytes (Refused t) = IsTrueOf request bytes (Refused t)
+Holds request bytes Reached = IsTrueOf request bytes Reached
+Holds request bytes NotReached = IsTrueOf request bytes NotReached
+Holds request bytes (NoProfile name) = IsTrueOf request bytes (NoProfile name)
+Holds request bytes (BadPath f) = IsTrueOf request bytes (BadPath f)
+Holds request bytes (Unread f) = IsUnread bytes f
+Holds request bytes (BadBundle f) = bundle_reading bytes ≡ Err f
+Holds request bytes (BadSection f) = HasFault bytes f
+Holds request bytes OutOfMemory = ⊤
+
+-- The words ask whether a profile reaches a path, and this is what a profile that the bytes spell answers.
+pub record SpellsReach (asked : Option Request) (bytes : List ℕ) (answer : Bool) : Type 0 where
+  pub request : Request
+  pub is_asked : asked ≡ Some request
+  pub contents : Contents
+  pub spelled : Spells bytes contents
+  pub answered : ReachIs request contents.profiles answer
+
+-- A text was written to an output, whole unless a call of the output failed: then a prefix of it, and the status is 2.
+pub record WritesText (old new : Option (List ℕ)) (text : List ℕ) (status : ℕ) (failed : Bool) (result : ℕ) : Type 0 where
+  pub written : ℕ
+  pub appends : Appends old new (take written text)
+  pub whole : failed ≡ false → take written text ≡ text
+  pub status_is : result ≡ (if failed then 2 else status)
+
+-- Nothing was written, or a prefix of the line that says `out of memory`. The status is that of a fault.
+pub record AnswersNothing (old new : Option (List ℕ)) (status : ℕ) : Type 0 where
+  pub status_is : status ≡ 2
+  pub writes : Keeps old new ⊎ ((written : ℕ) × Appends old new (take written (codes "fault: out of memory\n")))
+
+-- The text of one answer was written, and the answer is true of the question and of the input, whose remaining bytes are
+-- these if they are known. It says that a read failed only if one did. If one did, it says so, or `out of memory`.
+pub record Answers (request : Request) (remaining old new : Option (List ℕ)) (read_failed write_failed : Bool) (status : ℕ) : Type 0 where
+  pub report : Report
+  pub holds : IfSome remaining (λ bytes. Holds request bytes report)
+  pub only_failed : says_read_failed report ≡ true → read_failed ≡ true
+  pub all_failed : read_failed ≡ true → (says_read_failed report ≡ true) ⊎ (report ≡ OutOfMemory)
+  pub text : List ℕ
+  pub is_text : text ≡ text_of report
+  pub writes : WritesText old new text (status_of report) write_failed status
+
+-- What the program does for the words that ask for this, or for nothing: an input and an output before and after, whether
+-- a call of each failed, and the status.
+pub record Serves (asked : Option Request) (remaining old new : Option (List ℕ)) (read_failed write_failed : Bool) (status : ℕ) : Type 0 where
+  pub few : status ≤ 3
+  pub nothing : asked ≡ None → AnswersNothing old new status
+  pub answer : (request : Request) → asked ≡ Some request → Answers request remaining old new read_failed write_failed status
+  -- `safe` is written only if the words ask for a check or a run, and the input spells a safe set. What follows it is what
+  -- its jobs did and left of the input's state, or why they weren't run,
+  pub safe : (bytes before text : List ℕ) → remaining ≡ Some bytes → old ≡ Some before
+      → new ≡ Some (before ++ (codes "safe\n" ++ text)) → SpellsSafe asked bytes text write_failed status
+  -- `verified` only if the words ask for `verify`, and the input's certificates show that the set that it spells is safe,
+  pub verified : (bytes before text : List ℕ) → remaining ≡ Some bytes → old ≡ Some before
+      → new ≡ Some (before ++ (codes "verified\n" ++ text)) → SpellsVerified asked bytes
+  -- `overlap:` and `breach:` only if the input spells a set that isn't safe,
+  pub overlap : (bytes before text : List ℕ) → remaining ≡ Some bytes → old ≡ Some before
+      → new ≡ Some (before ++ (codes "overlap: " ++ text)) → SpellsUnsafe bytes
+  pub breach : (bytes before text : List ℕ) → remaining ≡ Some bytes → old ≡ Some before
+      → new ≡ Some (before ++ (codes "breach: " ++ text)) → SpellsUnsafe bytes
+  -- and `reached` and `not reached` only if the words ask for `reach` and that is the answer.
+  pub reached : (bytes before text : List ℕ) → remaining ≡ Some bytes → old ≡ Some before
+      → new ≡ Some (before ++ (codes "reached\n" ++ text)) → SpellsReach asked bytes true
+  pub not_reached : (bytes before text : List ℕ) → remaining ≡ Some bytes → old ≡ Some before
+      → new ≡ Some (before ++ (codes "not reached\n" ++ text)) → SpellsReach asked bytes false

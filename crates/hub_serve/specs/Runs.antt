@@ -1,0 +1,84 @@
+-- What is written below `safe` if jobs are to be run.
+use Rattle.std.specs.Prelude.{◌≡◌, ◌≢◌, ◌⊎◌, ◌↔◌, ◌<◌, ◌++◌, ℕ, true, List, [], map, Option, Some, string_bytes}
+use Rattle.hub_profile.specs.Parts.{Parts}
+use Rattle.hub_cert.specs.Set.{Members, IsSafeSet, forbidden_by}
+use Rattle.hub_state.specs.State.{State}
+use Rattle.hub_state.specs.Writing.{state_text}
+use Rattle.hub_job.specs.declared.outcome.Outcome.{Outcome}
+use Rattle.hub_schedule.specs.Refusals.{first_missing}
+use Rattle.hub_schedule.specs.Simulated.{AreFinished, HaveEnded, IsPromised}
+use Rattle.hub_runner.specs.Working.{AreWorkers, MayRun}
+use Rattle.hub_runner.specs.declared.runs.TheConstants.{WORKERS}
+use Rattle.hub_report.specs.declared.run.Run.{Run}
+use Rattle.hub_report.specs.declared.run.RunError.{RunError}
+use Rattle.hub_report.specs.declared.run.RunError.TheVariants as fault
+use Rattle.hub_report.specs.Jobs.{lines_of_jobs}
+use Rattle.hub_report.specs.Run.{error_line}
+use Rattle.hub_serve.specs.declared.task.Task.{Task}
+use Rattle.hub_serve.specs.declared.task.Task.TheVariants as task
+
+-- The jobs of a set were run on a state, this is the outcome, and each of them has ended.
+pub record IsRunOn (M : Members) (S : State) (o : Outcome) : Type 0 where
+  pub promised : IsPromised S M.profiles (map forbidden_by M.rules) o
+  pub ended : HaveEnded o.jobs
+
+-- They were run on this state, if there is one: that is what is said of them, and the state that they left.
+pub record HasRun (M : Members) (state : Option State) (r : Run) : Type 0 where
+  pub opening : State
+  pub state_is : state ≡ Some opening
+  pub outcome : Outcome
+  pub run : IsRunOn M opening outcome
+  pub lines : string_bytes r.lines ≡ lines_of_jobs M.profiles outcome.jobs
+  pub left : r.state ≡ outcome.state
+  pub finished : r.finished ≡ true ↔ AreFinished outcome.jobs
+
+-- Why the jobs of profiles aren't run on a state by n workers. The first of these that applies: there are no workers, or too
+-- many; a replica is missing; a thread is refused. A stranger and a mismatch are faults that no test shows.
+abbrev pub PreventsRun : State → List Parts → ℕ → RunError → Type 0
+PreventsRun S Ps n fault.NoWorkers = n ≡ 0
+PreventsRun S Ps n fault.TooManyWorkers = WORKERS < n
+PreventsRun S Ps n (fault.MissingReplica root) = AreWorkers n × (first_missing S Ps ≡ Some root)
+PreventsRun S Ps n fault.ThreadRefused = MayRun S Ps n
+PreventsRun S Ps n fault.Stranger = MayRun S Ps n
+PreventsRun S Ps n fault.Mismatch = MayRun S Ps n
+
+-- The jobs of a safe set were to be run, and were run: they left this,
+pub record HasRunAs (t : Task) (M : Members) (r : Run) : Type 0 where
+  pub workers : ℕ
+  pub state : State
+  pub task_is : t ≡ task.RunJobs workers state
+  pub safe : IsSafeSet M
+  pub may : MayRun state M.profiles workers
+  pub run : HasRun M (Some state) r
+
+-- or weren't, for this reason.
+pub record IsPrevented (t : Task) (M : Members) (e : RunError) : Type 0 where
+  pub workers : ℕ
+  pub state : State
+  pub task_is : t ≡ task.RunJobs workers state
+  pub safe : IsSafeSet M
+  pub reason : PreventsRun state M.profiles workers e
+
+-- These are the lines of the jobs, and below them the text of the state that they left. The status is 0 exactly if each of
+-- them is finished, else 3.
+pub record WritesRun (M : Members) (S : State) (status : ℕ) (below : List ℕ) : Type 0 where
+  pub outcome : Outcome
+  pub run : IsRunOn M S outcome
+  pub text : below ≡ lines_of_jobs M.profiles outcome.jobs ++ state_text outcome.state
+  pub finished : status ≡ 0 ↔ AreFinished outcome.jobs
+  pub others : status ≢ 0 → status ≡ 3
+
+-- This is the line that says why n workers didn't run them. The status is 3.
+pub record WritesError (M : Members) (S : State) (n status : ℕ) (below : List ℕ) : Type 0 where
+  pub error : RunError
+  pub reason : PreventsRun S M.profiles n error
+  pub text : below ≡ error_line error
+  pub status_is : status ≡ 3
+
+-- What is to follow `safe`, with the status if all is written: nothing and 0, unless jobs are to be run.
+abbrev pub IsBelow : Task → Members → ℕ → List ℕ → Type 0
+IsBelow task.Check M status below = (status ≡ 0) × (below ≡ [])
+IsBelow (task.RunJobs n S) M status below =
+    (MayRun S M.profiles n × WritesRun M S status below) ⊎ WritesError M S n status below
+IsBelow task.Certify M status below = ⊥
+IsBelow task.Verify M status below = ⊥

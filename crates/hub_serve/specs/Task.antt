@@ -1,0 +1,32 @@
+-- What is to be done about a set.
+use Rattle.std.specs.Prelude.{◌≡◌, ℕ, Option, Some, None}
+use Rattle.hub_state.specs.State.{State}
+use Rattle.hub_words.specs.declared.words.Question.{Question}
+use Rattle.hub_words.specs.declared.words.Question.TheVariants.{CheckWithState, Run, Check, Certify, Verify}
+use Rattle.hub_words.specs.Words.{Request, about}
+use Rattle.hub_words.specs.declared.words.TheConstants.{DEFAULT_WORKERS}
+use Rattle.hub_serve.specs.declared.task.Task.{Task}
+use Rattle.hub_serve.specs.declared.task.Task.TheVariants as task
+
+-- What a question asks to do if the bundle has this state, or none. Without a command, the jobs are run by
+-- `DEFAULT_WORKERS` workers if there is a state. A run without a state can't be done.
+abbrev pub task_of : Question → Option State → Option Task
+task_of CheckWithState None = Some task.Check
+task_of CheckWithState (Some S) = Some (task.RunJobs DEFAULT_WORKERS S)
+task_of (Run n) None = None
+task_of (Run n) (Some S) = Some (task.RunJobs n S)
+task_of Check state = Some task.Check
+task_of Certify state = Some task.Certify
+task_of Verify state = Some task.Verify
+
+-- It was asked to do this of a bundle that has this state, or none.
+pub record AsksFor (request : Request) (state : Option State) (t : Task) : Type 0 where
+  pub of_set : Question
+  pub asked : request ≡ about of_set
+  pub task_is : task_of of_set state ≡ Some t
+
+-- It was asked for a run by so many workers, of a bundle that has no state.
+pub record LacksState (request : Request) (state : Option State) : Type 0 where
+  pub workers : ℕ
+  pub asked : request ≡ about (Run workers)
+  pub missing : state ≡ None

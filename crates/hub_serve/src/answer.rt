@@ -1,0 +1,89 @@
+//! Finds the answer to an input.
+ghost use Rattle.std.specs.Prelude.{◌≡◌, ◌⊎◌, false, IfSome};
+ghost use Rattle.hub_bundle.specs.Bundle as bundle;
+ghost use Rattle.hub_words.specs.Words.{request_of};
+ghost use Rattle.hub_report.specs.Report.{says_read_failed};
+ghost use Rattle.hub_serve.specs.Report as report;
+
+use crate::reach::report_on_reach;
+use crate::verdict::report_on_set;
+use hub_bundle::{
+    BundleFault, BundleLineFault, Contents, InputFault, ReadError, read_bundle, read_input,
+    read_sections,
+};
+use hub_report::Report;
+use hub_text::Watched;
+use hub_words::Asked;
+use std::alloc::Global;
+use std::io::Read;
+use std::sync::Wait;
+use std::thread::Threads;
+
+/// The answer to what was asked of an input. It says that a read failed exactly when one did.
+pub fn report_on<'a, T: Threads + Wait + Sync, R: Read>(
+    rt: &T,
+    alloc: Global,
+    asked: Asked<'a>,
+    input: &mut Watched<R>,
+) -> Report<'a>
+    requires { input.old.failed ≡ false }
+    ensures holds { IfSome (R.remaining input.old.device) (λ bytes.
+        report.Holds (request_of asked.entry) bytes result) }
+    ensures failed { input.new.failed ≡ says_read_failed result }
+{
+    match read_input(alloc, input) {
+        Ok(bytes) => report_on_bytes(rt, alloc, asked, bytes.as_slice()),
+        Err(InputFault::OutOfMemory) => Report::OutOfMemory,
+        Err(fault) => Report::Unread(fault),
+    }
+}
+
+/// The answer to what was asked of an input's bytes. The bundle is read first, with all of its sections.
+fn report_on_bytes<'a, T: Threads + Wait + Sync>(
+    rt: &T,
+    alloc: Global,
+    asked: Asked<'a>,
+    bytes: &[u8],
+) -> Report<'a>
+    ensures holds { report.Holds (request_of asked.entry) bytes.now result }
+    ensures read { says_read_failed result ≡ false }
+{
+    let sections = match read_bundle(alloc, bytes) {
+        Ok(sections) => sections,
+        Err(fault) => return bad_bundle(fault),
+    };
+    let contents = match read_sections(alloc, sections.as_slice()) {
+        Ok(contents) => contents,
+        Err(ReadError::Faulty(fault)) => return Report::BadSection(fault),
+        Err(ReadError::OutOfMemory) => return Report::OutOfMemory,
+    };
+    report_on_contents(rt, alloc, asked, contents)
+}
+
+/// The answer to what was asked of what a bundle says.
+fn report_on_contents<'a, T: Threads + Wait + Sync>(
+    rt: &T,
+    alloc: Global,
+    asked: Asked<'a>,
+    contents: Contents,
+) -> Report<'a>
+    ensures told { report.IsTold (request_of asked.entry) contents result }
+    ensures read { says_read_failed result ≡ false }
+{
+    match asked {
+        Asked::About(question) => report_on_set(rt, alloc, question, contents),
+        Asked::Reach { profile, path } => report_on_reach(alloc, &contents, profile, path),
+    }
+}
+
+/// The answer if the bundle is read with that fault.
+fn bad_bundle<'a>(fault: BundleLineFault) -> Report<'a>
+    ensures memory { fault ≡ bundle.out_of_memory → result ≡ Report.OutOfMemory }
+    ensures fault { (result ≡ Report.OutOfMemory) ⊎ (result ≡ Report.BadBundle fault) }
+    ensures read { says_read_failed result ≡ false }
+{
+    match fault.fault {
+        BundleFault::OutOfMemory => Report::OutOfMemory,
+        _ => Report::BadBundle(fault),
+    }
+}

@@ -1,0 +1,32 @@
+//! What hubsync does between the words on its command line and its exit status, over any reader and writer.
+//!
+//! - [`serve_process`] is all of it, from the words as the process got them. [`serve`] begins with words that were read.
+//!
+//! ```text
+//! let mut input = Watched::new(reader);
+//! let mut output = Watched::new(writer);
+//! let status = serve(&rt, &["hubsync", "run"], &mut input, &mut output);
+//! ```
+//!
+//! - The words are read by `hub_words`. The input is read by `hub_bundle`, with all of its sections (`answer`).
+//! - The set of the profiles and rules is made, and is checked or its certificates are verified (`task`, `verdict`); or one
+//!   profile is asked whether it reaches a path (`reach`).
+//! - The jobs of a safe set are run on the bundle's state (`run`).
+//! - The answer is a `Report` of `hub_report`. It is written as one line, as the certificates' text, or as `safe` and below it
+//!   what the jobs did and the state that they left (`program`).
+//!
+//! The contracts use the words of `specs/Report` (which answer is right, and what the program does as a whole), `specs/Task`
+//! (what is to be done) and `specs/Runs` (what is written of a run).
+//!
+//! Only functions that return a `Result` or a `Report`, or write an answer, allocate.
+#![tactic(auto)]
+
+mod answer;
+pub mod laws;
+mod program;
+mod reach;
+mod run;
+mod task;
+mod verdict;
+
+pub use program::{serve, serve_process};

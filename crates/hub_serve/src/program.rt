@@ -1,0 +1,153 @@
+//! What the program does, over any reader and writer.
+ghost use Rattle.std.specs.Prelude.{◌≡◌, false, map, string_bytes, IfErr, IfOk};
+ghost use Rattle.std.specs.IoError.{error_kind};
+ghost use Rattle.std.specs.declared.io.ErrorKind.TheVariants as io_kind;
+ghost use Rattle.hub_words.specs.ClapWords.{kind_of};
+ghost use Rattle.hub_words.specs.Words.{asked_of, request_of};
+ghost use Rattle.hub_serve.specs.Report.{Answers, AnswersNothing, Serves, WritesText};
+
+use crate::answer::report_on;
+use crate::laws::what_is_shown_is_not_safe;
+use hub_report::OUT_OF_MEMORY;
+use hub_text::Watched;
+use hub_words::{Asked, Error, ErrorKind, read_words};
+use std::alloc::Global;
+use std::convert::AsStr;
+use std::io;
+use std::io::{Eprint, Read, Write};
+use std::sync::Wait;
+use std::thread::Threads;
+
+/// Does what the process does, by the words that it was started with, and returns its exit status.
+///
+/// If the words can't be read, as when one is not UTF-8, nothing is written to the output but that memory is out, and the
+/// status is 2. Otherwise this is `serve`.
+pub fn serve_process<T: AllocGlobal + Eprint + Threads + Wait + Sync, R: Read, W: Write>(
+    rt: &T,
+    words: io::Result<Vec<String>>,
+    input: &mut Watched<R>,
+    output: &mut Watched<W>,
+) -> u8
+    requires input { input.old.failed ≡ false }
+    requires output { output.old.failed ≡ false }
+    ensures read { IfOk words (λ v. Serves (asked_of (map string_bytes v.items))
+        (R.remaining input.old.device) (W.contents output.old.device) (W.contents output.new.device)
+        input.new.failed output.new.failed result) }
+    ensures unread { IfErr words (λ _. AnswersNothing
+        (W.contents output.old.device) (W.contents output.new.device) result) }
+{
+    match words {
+        Ok(words) => serve(rt, words.as_slice(), input, output),
+        Err(error) => refuse_unread(rt, &error, output),
+    }
+}
+
+/// Does what the words on the command line ask for: reads all of the input, and writes one line, certificates, or `safe`
+/// and below it what the jobs did and the text of the state that they left.
+///
+/// The first word is the program's name. The status is
+/// - 0 if the profiles and rules of the bundle are a safe set, and each job that was run is finished; and for both answers
+///   to `reach`;
+/// - 1 if they are refused;
+/// - 2 for a fault, if a write or the flush of the output failed, and if the words ask for nothing. In the last case the
+///   input isn't read, and `clap`'s text goes to standard error: help, the version, or what is wrong with the words;
+/// - 3 if a job was stopped, or the jobs weren't run: there are no workers or too many, the bundle's state has no replica of
+///   a root, or a thread can't be started.
+///
+/// `Serves` says what is written. What it says of bytes holds for readers and writers whose bytes a contract can name.
+pub fn serve<'a, S: AsStr, T: AllocGlobal + Eprint + Threads + Wait + Sync, R: Read, W: Write>(
+    rt: &T,
+    words: &'a [S],
+    input: &mut Watched<R>,
+    output: &mut Watched<W>,
+) -> u8
+    requires input { input.old.failed ≡ false }
+    requires output { output.old.failed ≡ false }
+    ensures { Serves (asked_of (map S.text words.entry.now)) (R.remaining input.old.device)
+        (W.contents output.old.device) (W.contents output.new.device)
+        input.new.failed output.new.failed result }
+{
+    what_is_shown_is_not_safe();
+    let alloc = rt.alloc();
+    match read_words(alloc, words) {
+        Ok(asked) => answer(rt, alloc, asked, input, output),
+        Err(error) => refuse(rt, &error, output),
+    }
+}
+
+/// Tells the user why the words ask for nothing, or that memory is out.
+fn refuse<T: Eprint, W: Write>(rt: &T, error: &Error, output: &mut Watched<W>) -> u8
+    requires { output.old.failed ≡ false }
+    ensures nothing { AnswersNothing
+        (W.contents output.old.device) (W.contents output.new.device) result }
+    ensures memory { kind_of error.now ≡ ErrorKind.OutOfMemory → WritesText
+        (W.contents output.old.device) (W.contents output.new.device)
+        OUT_OF_MEMORY.now 2 output.new.failed result }
+{
+    if error.kind() == ErrorKind::OutOfMemory {
+        return write_out_of_memory(output);
+    }
+    // if standard error fails too, there is nobody left to tell
+    let _ = rt.eprint(error);
+    2
+}
+
+/// Tells the user why the words on the command line can't be read, or that memory is out.
+pub fn refuse_unread<T: Eprint, W: Write>(rt: &T, error: &io::Error, output: &mut Watched<W>) -> u8
+    requires { output.old.failed ≡ false }
+    ensures nothing { AnswersNothing
+        (W.contents output.old.device) (W.contents output.new.device) result }
+    ensures memory { error_kind error.now ≡ io_kind.OutOfMemory → WritesText
+        (W.contents output.old.device) (W.contents output.new.device)
+        OUT_OF_MEMORY.now 2 output.new.failed result }
+{
+    if error.kind() == io::ErrorKind::OutOfMemory {
+        return write_out_of_memory(output);
+    }
+    // if standard error fails too, there is nobody left to tell
+    let _ = eprintln!(rt; "error: the words on the command line can't be read: {error}");
+    2
+}
+
+/// Reads all of an input, and writes the answer to what was asked of it.
+fn answer<T: Threads + Wait + Sync, R: Read, W: Write>(
+    rt: &T,
+    alloc: Global,
+    asked: Asked<'_>,
+    input: &mut Watched<R>,
+    output: &mut Watched<W>,
+) -> u8
+    requires input { input.old.failed ≡ false }
+    requires output { output.old.failed ≡ false }
+    ensures { Answers (request_of asked.entry) (R.remaining input.old.device)
+        (W.contents output.old.device) (W.contents output.new.device)
+        input.new.failed output.new.failed result }
+{
+    let report = report_on(rt, alloc, asked, input);
+    let status = report.status();
+    match report.into_text(alloc) {
+        Ok(text) => write_text(text.as_slice(), status, output),
+        Err(_) => write_out_of_memory(output),
+    }
+}
+
+/// Writes that memory is out, and returns the status of a fault.
+fn write_out_of_memory<W: Write>(output: &mut Watched<W>) -> u8
+    requires { output.old.failed ≡ false }
+    ensures { WritesText (W.contents output.old.device) (W.contents output.new.device)
+        OUT_OF_MEMORY.now 2 output.new.failed result }
+{
+    write_text(OUT_OF_MEMORY.as_bytes(), 2, output)
+}
+
+/// Writes a text and returns its status, or 2 if a write or the flush failed.
+fn write_text<W: Write>(text: &[u8], status: u8, output: &mut Watched<W>) -> u8
+    requires { output.old.failed ≡ false }
+    ensures { WritesText (W.contents output.old.device) (W.contents output.new.device)
+        text.now status output.new.failed result }
+{
+    if output.write_all(text).is_err() || output.flush().is_err() {
+        return 2;
+    }
+    status
+}

@@ -1,0 +1,61 @@
+//! Whether a profile of a bundle reaches a path.
+ghost use Rattle.std.specs.Prelude.{◌≡◌, ◌⊎◌, false, Some, None, MatchOption};
+ghost use Rattle.hub_words.specs.Words as words;
+ghost use Rattle.hub_report.specs.Report.{says_read_failed};
+ghost use Rattle.hub_serve.specs.Report as report;
+ghost use Rattle.hub_serve.specs.Reached.{named};
+
+use hub_bundle::Contents;
+use hub_path::{PathFault, RelPath};
+use hub_profile::Profile;
+use hub_reach::reaches;
+use hub_report::Report;
+use std::alloc::Global;
+
+/// The answer to whether the bundle's first profile with that name reaches the path of that text.
+///
+/// If there is no such profile, the answer says that, whatever the path is. The profiles aren't checked: two of them may
+/// have the same name or overlap.
+pub fn report_on_reach<'a>(
+    alloc: Global,
+    contents: &Contents,
+    profile: &'a str,
+    path: &str,
+) -> Report<'a>
+    ensures told { report.IsTold (words.reach profile.now path.now) contents.now result }
+    ensures read { says_read_failed result ≡ false }
+{
+    let Some(found) = profile_named(contents.profiles.as_slice(), profile) else {
+        return Report::NoProfile(profile);
+    };
+    match RelPath::read(alloc, path) {
+        Ok(path) if reaches(found, &path) => Report::Reached,
+        Ok(_) => Report::NotReached,
+        Err(fault) => bad_path(fault),
+    }
+}
+
+/// The answer if the text of a path is read with that fault.
+fn bad_path<'a>(fault: PathFault) -> Report<'a>
+    ensures memory { fault ≡ PathFault.OutOfMemory → result ≡ Report.OutOfMemory }
+    ensures fault { (result ≡ Report.OutOfMemory) ⊎ (result ≡ Report.BadPath fault) }
+    ensures read { says_read_failed result ≡ false }
+{
+    match fault {
+        PathFault::OutOfMemory => Report::OutOfMemory,
+        _ => Report::BadPath(fault),
+    }
+}
+
+/// The first of these profiles with that name.
+fn profile_named<'a>(profiles: &'a [Profile], name: &str) -> Option<&'a Profile>
+    ensures { MatchOption result (named name.now profiles.now ≡ None)
+        (λ P. named name.now profiles.now ≡ Some P.now) }
+{
+    for profile in profiles {
+        if profile.name().text() == name {
+            return Some(profile);
+        }
+    }
+    None
+}

@@ -1,0 +1,48 @@
+//! What is to be done about a set.
+ghost use Rattle.std.specs.Prelude.{◌≡◌};
+ghost use Rattle.hub_serve.specs.Task as spec;
+
+use hub_state::State;
+use hub_words::{DEFAULT_WORKERS, Question};
+
+/// What is to be done about the set of a bundle's profiles and rules.
+#[derive(Drop)]
+pub enum Task {
+    /// To say whether the set is safe.
+    Check,
+    /// And to run its jobs on this state, if it is.
+    RunJobs {
+        /// The number of workers.
+        workers: u8,
+        /// The state.
+        state: State,
+    },
+    /// To write certificates for its goals.
+    Certify,
+    /// To say whether the bundle's certificates show that it is safe.
+    Verify,
+}
+
+impl Task {
+    /// What a question asks to do if the bundle has that state, or none. A `None` is a run that has no state.
+    pub fn for_question(question: Question, state: Option<State>) -> Option<Task>
+        ensures { result ≡ spec.task_of question state }
+    {
+        match question {
+            Question::CheckWithState => match state {
+                Some(state) => Some(Task::RunJobs {
+                    workers: DEFAULT_WORKERS,
+                    state,
+                }),
+                None => Some(Task::Check),
+            },
+            Question::Run(workers) => match state {
+                Some(state) => Some(Task::RunJobs { workers, state }),
+                None => None,
+            },
+            Question::Check => Some(Task::Check),
+            Question::Certify => Some(Task::Certify),
+            Question::Verify => Some(Task::Verify),
+        }
+    }
+}

@@ -1,6 +1,0 @@
-use Rattle.hub_words.specs.Words.{request_of}
-use Rattle.hubsync.proofs.Answered.{memory-answers}
-use Rattle.hubsync.proofs.serve.answer.Goals as goal
-
-pub returns-in-Err : goal.returns-in-Err
-returns-in-Err g c = memory-answers (request_of c.args.asked) _ _ _ _ _ _ c.write_out_of_memory.ensures

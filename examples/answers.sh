@@ -148,6 +148,43 @@ ask_many() {
     ask '33 profiles' 1 '' hubsync
 }
 
+# A profile that ignores names of so many different characters, those from U+4E00 on.
+many_characters() {
+    local i character
+    printf '%%profile p\nroot = /srv/hub\nroot = /srv/s1'
+    for ((i = 0; i < $1; i++)); do
+        case $i in 0 | 170 | 340) printf '\nignore = Name ' ;; esac
+        printf -v character '\\xe4\\x%x\\x%x' $((0xb8 + i / 64)) $((0x80 + i % 64))
+        printf '%b' "$character"
+    done
+    echo
+}
+
+# A profile with so many positions in its patterns. A pattern has one more than its characters.
+many_positions() {
+    local i name
+    printf '%%profile p\nroot = /srv/hub\nroot = /srv/s1\n'
+    for ((i = $1; i > 0; i -= 201)); do
+        printf -v name '%0*d' $((i < 201 ? i - 1 : 200)) 0
+        echo "ignore = Name ${name//0/a}"
+    done
+}
+
+# There may be 512 characters, with `.` and `/`, and 4,096 positions.
+ask_large() {
+    echo safe >"$room/wanted"
+    many_characters 510 >"$room/input"
+    ask '512 characters' 0 '' hubsync
+    many_positions 4096 >"$room/input"
+    ask '4,096 positions' 0 '' hubsync
+    many_characters 511 >"$room/input"
+    echo 'refused: TooManyCharacters' >"$room/wanted"
+    ask '513 characters' 1 '' hubsync
+    many_positions 4097 >"$room/input"
+    echo 'refused: TooManySpots' >"$room/wanted"
+    ask '4,097 positions' 1 '' hubsync
+}
+
 # What certify writes, verify takes.
 ask_certificates() {
     local roots=$'root = /srv/hub\nroot = /srv/s1'
@@ -248,6 +285,7 @@ for table in "$folder"/answers/*.txt; do
 done
 [ "$asked" -gt 0 ] || complain 'the tables have no cases'
 ask_many
+ask_large
 ask_certificates
 ask_long
 ask_failing_inputs

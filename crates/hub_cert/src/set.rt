@@ -91,11 +91,12 @@ impl ProfileSet {
     }
 
     /// Borrows the alphabet of all characters that the profiles and the rules mention.
+    ///
+    /// Its contract says what holds of every set: at most `PROFILES` valid profiles with different names, at most `RULES` rules,
+    /// no two different roots nested, and few characters and spots.
     pub fn alphabet(&self) -> &Alphabet
         ensures value { result.now ≡ of_set.alphabet_of self.now }
-        ensures mentioned { of_set.Mentioned self.now result.now }
-        ensures few { of_set.HasFewSpots self.now }
-        ensures valid { of_set.AreProfiles self.now }
+        ensures set { of_set.IsSet self.now result.now }
     {
         &self.alphabet
     }

@@ -20,7 +20,7 @@ use Rattle.hub_job.specs.declared.phase.Phase.TheVariants as phase
 use Rattle.hub_job.specs.Ends.{end_by}
 use Rattle.hub_job.specs.Machine.{Fits}
 use Rattle.hub_job.specs.Job.{next}
-use Rattle.hub_job.specs.JobValue.{JobValue, IsAsked, IsRoomy, IsWhole, value_of, after_turn, log_with, with_answer}
+use Rattle.hub_job.specs.JobValue.{JobValue, IsAsked, IsWhole, value_of, after_turn, log_with, with_answer}
 use Rattle.hub_job.specs.Run.{Runs}
 use Rattle.hub_job.specs.Phase.{IsWaiting, AreLooks, AreLooksOf, IsAskedIn, asked_by, IsNextIn, IsNext, is_stopped}
 use Rattle.hub_job.proofs.Phases.{followed}

@@ -1,5 +1,5 @@
 //! How the product of a goal goes through a text: it is broken after it, it accepts, or it goes on.
-ghost use Rattle.std.specs.Prelude.{ℕ, ◌<◌, IsTrue};
+ghost use Rattle.std.specs.Prelude.{ℕ, ◌<◌, IfOk, IsTrue};
 ghost use Rattle.hub_automaton.specs.Alphabet.{class_count};
 ghost use Rattle.hub_cert.specs.Goals.{is_goal};
 ghost use Rattle.hub_cert.specs.Product.{HasClass};
@@ -26,24 +26,34 @@ fn place_text(alloc: Global, set: &ProfileSet, goal: Goal, text: &str) -> Result
     if !set.has(goal) {
         bail!("no goal of the set");
     }
-    match walk(alloc, set, goal, text) {
-        Ok(place) => shown(alloc, &place),
-        Err(fault) => bail!("no product: {fault:?}"),
-    }
+    shown(alloc, &walk(alloc, set, goal, text)?)
 }
 
-fn walk(alloc: Global, set: &ProfileSet, goal: Goal, text: &str) -> Result<&'static str, CheckFault>
+fn walk(alloc: Global, set: &ProfileSet, goal: Goal, text: &str) -> Result<&'static str>
     requires { IsTrue (is_goal set.now goal) }
 {
-    let product = Product::new(alloc, set, goal)?;
-    place_after(&product, set.alphabet(), text)
+    place_in(&Product::new(alloc, set, goal), set.alphabet(), text)
+}
+
+fn place_in(
+    product: &Result<Product, CheckFault>,
+    alphabet: &Alphabet,
+    text: &str,
+) -> Result<&'static str>
+    requires { IfOk product.now (λ p. (k : ℕ) → k < class_count alphabet.now
+        → HasClass p.automata k) }
+{
+    match product {
+        Ok(product) => Ok(place_after(product, alphabet, text)?),
+        Err(fault) => bail!("no product: {fault:?}"),
+    }
 }
 
 fn place_after(
     product: &Product,
     alphabet: &Alphabet,
     text: &str,
-) -> Result<&'static str, CheckFault>
+) -> Result<&'static str, AllocError>
     requires { (k : ℕ) → k < class_count alphabet.now → HasClass product.now.automata k }
 {
     let mut stage = start_of(product)?;

@@ -16,10 +16,14 @@ use test_kit::cut;
 /// How many profiles and rules the set has, or why there is no set.
 pub(crate) fn set_answer(alloc: Global, fields: &str) -> Result<String> {
     let (profiles, rules) = members_of(alloc, fields)?;
-    Ok(set_text(alloc, &ProfileSet::new(alloc, profiles, rules))?)
+    Ok(set_text(alloc, profiles, rules)?)
 }
 
-fn set_text(alloc: Global, made: &Result<ProfileSet, CheckFault>) -> Result<String, AllocError> {
+fn set_text(alloc: Global, profiles: Items<Profile>, rules: Rules) -> Result<String, AllocError> {
+    made_text(alloc, &ProfileSet::new(alloc, profiles, rules))
+}
+
+fn made_text(alloc: Global, made: &Result<ProfileSet, CheckFault>) -> Result<String, AllocError> {
     match made {
         Ok(set) => counts_text(alloc, set),
         Err(fault) => fault_text(alloc, fault),

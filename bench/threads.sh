@@ -108,8 +108,9 @@ measure() {
     awk -v name="$1" -v bytes="$(wc -c <"$folder/opening")" -v aim="$3" '
         !($1 in least) || $2 < least[$1] { least[$1] = $2 }
         END {
-            printf "%-6s %10d bytes  one thread %6d ms  threads %6d ms  ratio %.2f (aim: at most %s)\n",
-                name, bytes, least["one"], least["threads"], least["threads"] / least["one"], aim
+            ratio = least["one"] ? sprintf("%.2f", least["threads"] / least["one"]) : "-"
+            printf "%-6s %10d bytes  one thread %6d ms  threads %6d ms  ratio %s (aim: at most %s)\n",
+                name, bytes, least["one"], least["threads"], ratio, aim
         }' "$folder/all"
 }
 

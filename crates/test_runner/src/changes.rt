@@ -9,8 +9,8 @@
 //! - `archive JOB`: the job was made with an archive that has the file `a`.
 //! - `stop JOB STEPS`: the job is stopped after so many steps. `leave JOB STEPS`: it isn't stepped any more.
 
-use crate::given::cut;
 use anyhow::{Context, Result};
+use test_kit::cut;
 
 /// A list of changes.
 #[derive(Clone, Copy)]

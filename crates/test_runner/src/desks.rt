@@ -1,16 +1,18 @@
 //! Steps at a desk over an empty replica, and what the desk can be closed with.
 
-use crate::given::{Case, cut};
-use anyhow::{Result, bail};
+use crate::given::Case;
+use crate::shown::push_answer;
+use anyhow::{Context, Result, bail};
 use hub_cert::ProfileSet;
 use hub_history::{Book, Desk, Gate, Seat, StepFault};
 use hub_job::{Answer, Op};
-use hub_path::{RelPath, Root};
+use hub_path::Root;
 use hub_text::Items;
 use hub_tree::{Blob, Contents, Tree};
 use std::alloc::Global;
 use std::sync::Wait;
 use std::sync::atomic::{AtomicU64, Ordering};
+use test_kit::{cut, path_of};
 
 /// A gate that counts its calls: 1 for each `within`, 1,000 for each other one.
 #[derive(Drop)]
@@ -35,10 +37,14 @@ impl Gate for Counting {
 /// What the steps are answered, how often the gate is called, and what the desk is closed with. The fields are a root and the
 /// steps, which are separated by `; `. A step is the number of a job and an operation.
 pub(crate) fn answer<R: Wait>(rt: &R, case: &Case, fields: &str) -> Result<String> {
-    let set = case.set()?;
     let (root, steps) = cut(fields);
     let root = Root::read(case.alloc, root)?;
-    answer_of_set(rt, case.alloc, &set, &root, steps)
+    answer_at(rt, case, &root, steps)
+}
+
+fn answer_at<R: Wait>(rt: &R, case: &Case, root: &Root, steps: &str) -> Result<String> {
+    let set = case.set()?;
+    answer_of_set(rt, case.alloc, &set, root, steps)
 }
 
 fn answer_of_set<R: Wait>(
@@ -48,25 +54,45 @@ fn answer_of_set<R: Wait>(
     root: &Root,
     steps: &str,
 ) -> Result<String> {
-    let (desk, mut seat) = desk_of(alloc, set, root)?;
     let mut text = String::new(alloc);
-    push_steps(rt, alloc, &mut text, &desk, &mut seat, steps)?;
-    let (_, other) = desk_of(alloc, set, root)?;
-    push_closing(alloc, &mut text, desk, seat, other)?;
+    let strangers = seats_of_other(alloc, set, root)?;
+    push_all(rt, &mut text, set, root, strangers, steps)?;
     Ok(text)
 }
 
+/// The seats of another desk.
+fn seats_of_other(alloc: Global, set: &ProfileSet, root: &Root) -> Result<Items<Seat>> {
+    let (_, seats) = desk_of(alloc, set, root)?;
+    Ok(Items::from_vec(seats))
+}
+
+/// Opens a desk, makes the steps, and closes it.
+fn push_all<R: Wait>(
+    rt: &R,
+    text: &mut String,
+    set: &ProfileSet,
+    root: &Root,
+    strangers: Items<Seat>,
+    steps: &str,
+) -> Result<()> {
+    let (desk, mut seats) = desk_of(strangers.alloc(), set, root)?;
+    push_steps(rt, strangers.alloc(), text, &desk, &mut seats, steps)?;
+    push_closing(text, desk, Items::from_vec(seats), strangers)
+}
+
 /// A desk over an empty replica, with one seat.
-fn desk_of<'a>(alloc: Global, set: &'a ProfileSet, root: &Root) -> Result<(Desk<'a>, Seat)> {
-    let Ok(book) = Book::new(alloc, set, root.copy()?, Tree::new(alloc)) else {
-        bail!("no book");
-    };
-    let Ok((desk, seats)) = Desk::new(alloc, book, 1) else {
-        bail!("no desk");
-    };
-    match seats.into_vec().pop() {
-        Some(seat) => Ok((desk, seat)),
-        None => bail!("no seat"),
+fn desk_of<'a>(alloc: Global, set: &'a ProfileSet, root: &Root) -> Result<(Desk<'a>, Vec<Seat>)> {
+    let book = book_of(alloc, set, root)?;
+    match Desk::new(alloc, book, 1) {
+        Ok((desk, seats)) => Ok((desk, seats.into_vec())),
+        Err(_) => bail!("no desk"),
+    }
+}
+
+fn book_of<'a>(alloc: Global, set: &'a ProfileSet, root: &Root) -> Result<Book<'a>> {
+    match Book::new(alloc, set, root.copy()?, Tree::new(alloc)) {
+        Ok(book) => Ok(book),
+        Err(_) => bail!("no book"),
     }
 }
 
@@ -76,27 +102,43 @@ fn push_steps<R: Wait>(
     alloc: Global,
     text: &mut String,
     desk: &Desk<'_>,
-    seat: &mut Seat,
+    seats: &mut Vec<Seat>,
     steps: &str,
 ) -> Result<()> {
+    let seat = seats.get_mut(0).context("no seat")?;
     let gate = Counting {
         calls: AtomicU64::new(0),
     };
     for step in steps.split("; ") {
-        let (job, fields) = cut(step);
-        let job = job.parse::<usize>()?;
-        push_answer(text, desk.step(rt, seat, job, op_of(alloc, fields)?, &gate))?;
+        push_step(rt, alloc, text, desk, seat, &gate, step)?;
     }
     let calls = gate.calls.load(Ordering::SeqCst);
     write!(text, "gate {calls}; seat {}", seat.steps())?;
     Ok(())
 }
 
+/// Makes a step, and adds its answer.
+fn push_step<R: Wait>(
+    rt: &R,
+    alloc: Global,
+    text: &mut String,
+    desk: &Desk<'_>,
+    seat: &mut Seat,
+    gate: &Counting,
+    step: &str,
+) -> Result<()> {
+    let (job, fields) = cut(step);
+    let job = job.parse::<usize>()?;
+    let op = op_of(alloc, fields)?;
+    let answer = desk.step(rt, seat, job, op, gate);
+    push_told(text, &answer)
+}
+
 /// The operation of a word, a path, and the text of a file to write.
 fn op_of(alloc: Global, fields: &str) -> Result<Op> {
     let (word, fields) = cut(fields);
     let (path, file) = cut(fields);
-    let path = RelPath::read(alloc, path)?;
+    let path = path_of(alloc, path)?;
     match word {
         "look" => Ok(Op::Look(path)),
         "fetch" => Ok(Op::Fetch(path)),
@@ -111,28 +153,32 @@ fn file_of(alloc: Global, text: &str) -> Result<Contents> {
     Ok(Contents::File(Blob::new(text.as_bytes().to_vec(alloc)?)?))
 }
 
-fn push_answer(text: &mut String, answer: Result<Answer, StepFault>) -> Result<()> {
+/// Adds what the desk answers to a step.
+fn push_told(text: &mut String, answer: &Result<Answer, StepFault>) -> Result<()> {
     match answer {
-        Ok(Answer::Seen { names, .. }) => write!(text, "seen with {}; ", names.len())?,
-        Ok(Answer::Bytes(file)) => write!(text, "{} bytes; ", file.bytes().len())?,
-        Ok(Answer::Done) => write!(text, "done; ")?,
-        Ok(Answer::Refused(fault)) => write!(text, "{fault:?}; ")?,
-        Err(fault) => write!(text, "{fault:?}; ")?,
+        Ok(answer) => push_answer(text, answer)?,
+        Err(fault) => write!(text, "{fault:?}")?,
     }
+    text.push_str("; ")?;
     Ok(())
 }
 
-/// Adds what the desk says to no seat and to the seat of another desk, and the history that it closes with.
+/// Adds what the desk says to no seat and to the seats of another desk, and the history that it closes with.
 fn push_closing(
-    alloc: Global,
     text: &mut String,
     desk: Desk<'_>,
-    seat: Seat,
-    other: Seat,
+    seats: Items<Seat>,
+    strangers: Items<Seat>,
 ) -> Result<()> {
-    let desk = push_refusal(text, desk, Items::new(alloc))?;
-    let desk = push_refusal(text, desk, one_seat(alloc, other)?)?;
-    match desk.close(one_seat(alloc, seat)?) {
+    let none = Items::new(seats.alloc());
+    let desk = push_refusal(text, desk, none)?;
+    let desk = push_refusal(text, desk, strangers)?;
+    push_history(text, desk, seats)
+}
+
+/// Adds the history that the desk closes with.
+fn push_history(text: &mut String, desk: Desk<'_>, seats: Items<Seat>) -> Result<()> {
+    match desk.close(seats) {
         Ok(book) => write!(text, "; history of {}", book.history().len())?,
         Err(_) => bail!("not closed"),
     }
@@ -149,10 +195,4 @@ fn push_refusal<'a>(text: &mut String, desk: Desk<'a>, seats: Items<Seat>) -> Re
             Ok(stranger.desk)
         }
     }
-}
-
-fn one_seat(alloc: Global, seat: Seat) -> Result<Items<Seat>> {
-    let mut seats = Items::new(alloc);
-    seats.push(seat)?;
-    Ok(seats)
 }

@@ -8,6 +8,7 @@ use hub_search::check;
 use hub_state::{State, read_bytes};
 use hub_text::Items;
 use std::alloc::Global;
+use test_kit::cut;
 
 /// The name of a profile, and its text.
 #[derive(Drop)]
@@ -36,11 +37,17 @@ impl Case {
         }
     }
 
+    /// Takes all away that was given.
+    fn clear(&mut self) {
+        self.profiles = Vec::new(self.alloc);
+        self.text = String::new(self.alloc);
+    }
+
     /// Takes a line if it gives something, and returns whether it does.
     pub(crate) fn takes(&mut self, line: &str) -> Result<bool> {
         let (word, fields) = cut(line);
         match word {
-            "case" => *self = Case::new(self.alloc),
+            "case" => self.clear(),
             "profile" => self.add_profile(fields)?,
             "hubsync" => self.begin_text(line)?,
             "replica" | "archive" | "with" | "dir" | "file" | "end" => self.add_line(line)?,
@@ -94,14 +101,20 @@ impl Case {
 
 /// The set of these profiles.
 fn set_of(alloc: Global, given: &[Given]) -> Result<ProfileSet> {
+    let profiles = profiles_of(alloc, given)?;
+    let rules = read_rules(alloc, &[])?;
+    match ProfileSet::new(alloc, profiles, rules) {
+        Ok(set) => Ok(set),
+        Err(_) => bail!("no set"),
+    }
+}
+
+fn profiles_of(alloc: Global, given: &[Given]) -> Result<Items<Profile>> {
     let mut profiles = Items::new(alloc);
     for one in given {
         profiles.push(profile_of(alloc, one)?)?;
     }
-    match ProfileSet::new(alloc, profiles, read_rules(alloc, &[])?) {
-        Ok(set) => Ok(set),
-        Err(_) => bail!("no set"),
-    }
+    Ok(profiles)
 }
 
 fn profile_of(alloc: Global, given: &Given) -> Result<Profile> {
@@ -115,9 +128,4 @@ pub(crate) fn verified_of(alloc: Global, set: &ProfileSet) -> Result<Verified<'_
         Ok(verified) => Ok(verified),
         Err(_) => bail!("the set isn't safe"),
     }
-}
-
-/// Cuts a text at its first space. What isn't there is empty.
-pub(crate) fn cut(text: &str) -> (&str, &str) {
-    text.split_once(' ').unwrap_or((text, ""))
 }

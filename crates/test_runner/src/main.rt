@@ -1,8 +1,8 @@
 //! Answers questions about books, jobs and threads. `stdin` has the questions, and `stdout` the answers, which were worked out by
 //! hand from the rules; so the program is a test of `hub_history` and `hub_runner`.
 //!
-//! A line of the input gives something to the questions below it, or it is a question: a word and its fields. The output has
-//! `QUESTION => ANSWER` for each question. Empty lines are skipped, and so are those that begin with `#`.
+//! The questions are written as `test_kit` says, but without abbreviations. A line of the input gives something to the questions
+//! below it, or it is a question. What answers needs threads, so the table is read here: `test_kit::Answers` has no place for that.
 //!
 //! These lines give something (`given`):
 //!
@@ -16,7 +16,10 @@
 //!   (`settling`).
 //! - `desk ROOT STEPS`: what steps at a desk are answered, and what the desk can be closed with (`desks`).
 //! - `run WORKERS`: what the jobs leave that run at the same time (`runs`).
-//! - `meet before` and `meet within`: whether two jobs that run at the same time meet in their first steps (`runs`).
+//! - `meet POINT WORKERS`: how many of two jobs come to a point of their first steps (`before`, `within` or `after`), how many of
+//!   them wait there for the other one in vain (`meeting`), and what they leave.
+//! - `row WORKERS`: how many steps a job makes in a row at most (`row`), and what the jobs leave.
+//! - `watch WORKERS`: how a gate is called for each job (`watch`), and what the jobs leave, with their logs.
 //! - `runs COUNT WORKERS`: whether so many runs leave what the jobs leave one after the other (`runs`).
 #![tactic(auto)]
 
@@ -24,16 +27,19 @@ mod changes;
 mod desks;
 mod given;
 mod meeting;
+mod row;
 mod runs;
 mod settling;
 mod shown;
+mod watch;
 
 use anyhow::{Context, Result};
-use given::{Case, cut};
+use given::Case;
 use runs::Run;
 use std::io::{BufRead, BufReader};
 use std::sync::Wait;
 use std::thread::Threads;
+use test_kit::cut;
 
 fn main(rt: HostRuntime) -> Result<()> {
     let alloc = rt.alloc();

@@ -1,32 +1,60 @@
-//! Two jobs that meet: each of them waits in its first step until the other one is in its own.
+//! Two jobs that meet: each of them waits at its first step until the other one is at its own.
 
+use anyhow::{Result, bail};
 use hub_history::Gate;
-use std::sync::atomic::{AtomicBool, Ordering};
+use std::sync::atomic::{AtomicBool, AtomicUsize, Ordering};
 use std::thread;
 
 /// How often a job looks for the other one. It is late if it doesn't come.
 const TURNS: u32 = 50_000_000;
 
+/// When jobs meet.
+#[derive(Clone, Copy)]
+pub(crate) enum Point {
+    /// Before their first steps.
+    Before,
+    /// In them, while each holds the lock of a desk.
+    Within,
+    /// After them.
+    After,
+}
+
+impl Point {
+    pub(crate) fn read(word: &str) -> Result<Point> {
+        match word {
+            "before" => Ok(Point::Before),
+            "within" => Ok(Point::Within),
+            "after" => Ok(Point::After),
+            _ => bail!("no point: {word}"),
+        }
+    }
+}
+
 /// A gate at which jobs 0 and 1 meet.
 #[derive(Drop)]
 pub(crate) struct Meeting {
     here: [AtomicBool; 2],
-    late: AtomicBool,
-    /// Whether they meet while each holds the lock of a desk, or before their first steps.
-    within: bool,
+    late: AtomicUsize,
+    point: Point,
 }
 
 impl Meeting {
-    pub(crate) fn new(within: bool) -> Meeting {
+    pub(crate) fn new(point: Point) -> Meeting {
         Meeting {
             here: [AtomicBool::new(false), AtomicBool::new(false)],
-            late: AtomicBool::new(false),
-            within,
+            late: AtomicUsize::new(0),
+            point,
         }
     }
 
-    /// Whether a job waited in vain.
-    pub(crate) fn is_late(&self) -> bool {
+    /// How many jobs came.
+    pub(crate) fn came(&self) -> usize {
+        let [first, second] = &self.here;
+        usize::from(first.load(Ordering::SeqCst)) + usize::from(second.load(Ordering::SeqCst))
+    }
+
+    /// How many of them waited in vain.
+    pub(crate) fn late(&self) -> usize {
         self.late.load(Ordering::SeqCst)
     }
 
@@ -46,22 +74,26 @@ impl Meeting {
                 thread::yield_now();
             }
         }
-        self.late.store(true, Ordering::SeqCst);
+        self.late.fetch_add(1, Ordering::SeqCst);
     }
 }
 
 impl Gate for Meeting {
     fn before(&self, job: usize, _step: usize) {
-        if !self.within {
+        if matches!(self.point, Point::Before) {
             self.meet(job);
         }
     }
 
     fn within(&self, job: usize) {
-        if self.within {
+        if matches!(self.point, Point::Within) {
             self.meet(job);
         }
     }
 
-    fn after(&self, _job: usize, _step: usize) {}
+    fn after(&self, job: usize, _step: usize) {
+        if matches!(self.point, Point::After) {
+            self.meet(job);
+        }
+    }
 }

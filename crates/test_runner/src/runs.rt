@@ -1,8 +1,10 @@
 //! Jobs that run at the same time.
 
-use crate::given::{Case, cut, verified_of};
-use crate::meeting::Meeting;
+use crate::given::{Case, verified_of};
+use crate::meeting::{Meeting, Point};
+use crate::row::Row;
 use crate::shown::{left_text, outcome_text};
+use crate::watch::Watch;
 use anyhow::{Result, bail};
 use hub_cert::{ProfileSet, Verified};
 use hub_history::Gate;
@@ -12,6 +14,7 @@ use hub_state::State;
 use std::alloc::Global;
 use std::sync::Wait;
 use std::thread::Threads;
+use test_kit::cut;
 
 /// What is asked of jobs that run at the same time.
 #[derive(Clone, Copy)]
@@ -20,8 +23,13 @@ pub(crate) enum Run {
     Once { workers: usize },
     /// Whether so many runs leave what the jobs leave in rounds. If one doesn't, what it leaves.
     Often { count: usize, workers: usize },
-    /// Whether two jobs meet within their first steps, or before them, and what they leave.
-    Meeting { within: bool },
+    /// How many of two jobs come to their first steps, run by so many workers, how many of them wait for the other one in vain,
+    /// and what they leave.
+    Meeting { point: Point, workers: usize },
+    /// How many steps a job makes in a row at most, run by so many workers, and what the jobs leave.
+    InARow { workers: usize },
+    /// How a gate is called by so many workers, and what the jobs leave.
+    Watched { workers: usize },
 }
 
 impl Run {
@@ -36,7 +44,14 @@ impl Run {
                 workers: second.parse::<usize>()?,
             }),
             "meet" => Ok(Run::Meeting {
-                within: first == "within",
+                point: Point::read(first)?,
+                workers: second.parse::<usize>()?,
+            }),
+            "row" => Ok(Run::InARow {
+                workers: first.parse::<usize>()?,
+            }),
+            "watch" => Ok(Run::Watched {
+                workers: first.parse::<usize>()?,
             }),
             _ => bail!("no question: {word}"),
         }
@@ -81,7 +96,11 @@ fn answer_of_state<R: Threads + Wait + Sync>(
     match asked {
         Run::Once { workers } => run_text(rt, alloc, &verified, state, workers, &Open),
         Run::Often { count, workers } => runs_text(rt, alloc, &verified, state, count, workers),
-        Run::Meeting { within } => meeting_text(rt, alloc, &verified, state, within),
+        Run::Meeting { point, workers } => {
+            meeting_text(rt, alloc, &verified, state, point, workers)
+        }
+        Run::InARow { workers } => row_text(rt, alloc, &verified, state, workers),
+        Run::Watched { workers } => watched_text(rt, alloc, &verified, state, workers),
     }
 }
 
@@ -94,7 +113,8 @@ fn run_text<R: Threads + Wait + Sync, G: Gate + Sync>(
     workers: usize,
     gate: &G,
 ) -> Result<String> {
-    left_text(alloc, run(rt, alloc, verified, state, workers, gate))
+    let left = run(rt, alloc, verified, state, workers, gate);
+    left_text(alloc, &left)
 }
 
 fn runs_text<R: Threads + Wait + Sync>(
@@ -117,8 +137,9 @@ fn runs_text<R: Threads + Wait + Sync>(
 
 /// What the jobs leave in rounds.
 fn rounds_text(alloc: Global, verified: &Verified<'_>, state: &State) -> Result<String> {
-    match run_rounds(alloc, verified, state) {
-        Ok(outcome) => outcome_text(alloc, &outcome),
+    let left = run_rounds(alloc, verified, state);
+    match &left {
+        Ok(outcome) => outcome_text(alloc, outcome),
         Err(_) => bail!("the rounds aren't run"),
     }
 }
@@ -128,10 +149,35 @@ fn meeting_text<R: Threads + Wait + Sync>(
     alloc: Global,
     verified: &Verified<'_>,
     state: &State,
-    within: bool,
+    point: Point,
+    workers: usize,
 ) -> Result<String> {
-    let gate = Meeting::new(within);
-    let text = run_text(rt, alloc, verified, state, 2, &gate)?;
-    let met = if gate.is_late() { "late" } else { "met" };
-    Ok(format!(in alloc; "{met}, {text}")?)
+    let gate = Meeting::new(point);
+    let text = run_text(rt, alloc, verified, state, workers, &gate)?;
+    Ok(format!(in alloc; "{} came, {} late, {text}", gate.came(), gate.late())?)
+}
+
+fn row_text<R: Threads + Wait + Sync>(
+    rt: &R,
+    alloc: Global,
+    verified: &Verified<'_>,
+    state: &State,
+    workers: usize,
+) -> Result<String> {
+    let gate = Row::new();
+    let text = run_text(rt, alloc, verified, state, workers, &gate)?;
+    Ok(format!(in alloc; "at most {} in a row, {text}", gate.most())?)
+}
+
+fn watched_text<R: Threads + Wait + Sync>(
+    rt: &R,
+    alloc: Global,
+    verified: &Verified<'_>,
+    state: &State,
+    workers: usize,
+) -> Result<String> {
+    let gate = Watch::new(rt, alloc, verified.set().profiles().len())?;
+    let text = run_text(rt, alloc, verified, state, workers, &gate)?;
+    let calls = gate.text(alloc)?;
+    Ok(format!(in alloc; "calls{calls}; {text}")?)
 }

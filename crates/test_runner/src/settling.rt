@@ -1,18 +1,19 @@
 //! Books and jobs that are stepped one after the other, and then settled.
 
 use crate::changes::Changes;
-use crate::given::{Case, cut, verified_of};
+use crate::given::{Case, verified_of};
 use crate::shown::left_text;
 use anyhow::{Result, bail};
-use hub_cert::ProfileSet;
+use hub_cert::{ProfileSet, Verified};
 use hub_history::Book;
-use hub_job::{Next, Op};
+use hub_job::{Job, Next, Op};
 use hub_path::{RelPath, Root, Side};
 use hub_profile::Profile;
-use hub_runner::{Task, settle};
+use hub_runner::settle;
 use hub_state::State;
-use hub_tree::{Archive, Blob, Contents, Tree};
+use hub_tree::{Archive, Blob, Contents, Mark, Tree};
 use std::alloc::Global;
+use test_kit::cut;
 
 /// What books and tasks are made from.
 #[derive(Clone, Copy)]
@@ -37,19 +38,25 @@ struct Archives {
 
 impl Archives {
     fn new(alloc: Global) -> Result<Archives> {
+        let with_a = archive_with_a(alloc)?;
         Ok(Archives {
             empty: Archive::new(alloc),
-            with_a: archive_with_a(alloc)?,
+            with_a,
         })
     }
 }
 
 fn archive_with_a(alloc: Global) -> Result<Archive> {
     let path = RelPath::read(alloc, "a")?;
-    let file = Contents::File(Blob::new(Vec::new(alloc))?);
+    let mark = mark_of_empty(alloc)?;
     let mut archive = Archive::new(alloc);
-    archive.set(&path, file.mark())?;
+    archive.set(&path, mark)?;
     Ok(archive)
+}
+
+/// The mark of an empty file.
+fn mark_of_empty(alloc: Global) -> Result<Mark> {
+    Ok(Contents::File(Blob::new(Vec::new(alloc))?).mark())
 }
 
 /// What books and jobs leave after these changes, or why they aren't settled.
@@ -93,41 +100,64 @@ fn answer_of_state(
 
 fn settled_text(source: Source<'_>) -> Result<String> {
     let verified = verified_of(source.alloc, source.set)?;
-    let (books, tasks) = stepped(source)?;
-    left_text(
-        source.alloc,
-        settle(source.alloc, &verified, source.state, books, tasks),
-    )
+    stepped_text(source, &verified)
 }
 
-/// Books and tasks after their steps.
-fn stepped(source: Source<'_>) -> Result<(Vec<Book<'_>>, Vec<Task<'_>>)> {
+fn stepped_text<'a>(source: Source<'a>, verified: &Verified<'a>) -> Result<String> {
     let mut books = books_of(source)?;
     let tasks = stepped_tasks(source, &mut books)?;
-    Ok((kept(source, books)?, tasks))
+    let books = kept(source, books)?;
+    text_of(source, verified, books, tasks)
+}
+
+/// What books and tasks leave.
+fn text_of<'a>(
+    source: Source<'a>,
+    verified: &Verified<'a>,
+    books: Vec<Book<'a>>,
+    tasks: Vec<Job<'a>>,
+) -> Result<String> {
+    let left = settle(source.alloc, verified, source.state, books, tasks);
+    left_text(source.alloc, &left)
 }
 
 /// Tasks after their steps in these books.
-fn stepped_tasks<'a>(source: Source<'a>, books: &mut Vec<Book<'_>>) -> Result<Vec<Task<'a>>> {
+fn stepped_tasks<'a>(source: Source<'a>, books: &mut Vec<Book<'_>>) -> Result<Vec<Job<'a>>> {
     let mut tasks = tasks_of(source)?;
-    for task in &mut tasks {
-        step_all(source, books, task)?;
-    }
+    step_each(source, books, &mut tasks)?;
     look_all(source, books)?;
     Ok(tasks)
+}
+
+/// Steps each of the jobs.
+fn step_each(
+    source: Source<'_>,
+    books: &mut Vec<Book<'_>>,
+    tasks: &mut Vec<Job<'_>>,
+) -> Result<()> {
+    for task in tasks {
+        step_all(source, books, task)?;
+    }
+    Ok(())
 }
 
 /// A book for each root of the profiles.
 fn books_of(source: Source<'_>) -> Result<Vec<Book<'_>>> {
     let mut books = Vec::new(source.alloc);
     for profile in source.set.profiles() {
-        for root in profile.roots() {
-            if !has_book(books.as_slice(), root) {
-                books.push(book_of(source, root)?)?;
-            }
-        }
+        let [left, right] = profile.roots();
+        push_book(source, &mut books, left)?;
+        push_book(source, &mut books, right)?;
     }
     Ok(books)
+}
+
+/// Adds the book of a root, if it isn't there.
+fn push_book<'a>(source: Source<'a>, books: &mut Vec<Book<'a>>, root: &Root) -> Result<()> {
+    if has_book(books.as_slice(), root) {
+        return Ok(());
+    }
+    Ok(books.push(book_of(source, root)?)?)
 }
 
 fn has_book(books: &[Book<'_>], root: &Root) -> bool {
@@ -161,7 +191,7 @@ fn new_book<'a>(alloc: Global, set: &'a ProfileSet, root: &Root, tree: Tree) -> 
 }
 
 /// A task for each profile, and those that the changes double.
-fn tasks_of(source: Source<'_>) -> Result<Vec<Task<'_>>> {
+fn tasks_of(source: Source<'_>) -> Result<Vec<Job<'_>>> {
     let mut tasks = Vec::new(source.alloc);
     for (number, profile) in source.set.profiles().iter().enumerate() {
         push_tasks(source, &mut tasks, number, profile)?;
@@ -172,19 +202,29 @@ fn tasks_of(source: Source<'_>) -> Result<Vec<Task<'_>>> {
 /// Adds the tasks of the profile with this number.
 fn push_tasks<'a>(
     source: Source<'a>,
-    tasks: &mut Vec<Task<'a>>,
+    tasks: &mut Vec<Job<'a>>,
     number: usize,
     profile: &'a Profile,
 ) -> Result<()> {
     let name = format!(in source.alloc; "{number}")?;
     let archive = archive_of(source, profile, name.as_str());
     if !source.changes.has("drop", name.as_str()) {
-        tasks.push(Task::new(source.alloc, number, profile, archive)?)?;
+        push_task(source.alloc, tasks, number, profile, archive)?;
     }
     if let Some(second) = source.changes.number("double", name.as_str())? {
-        tasks.push(Task::new(source.alloc, second, profile, archive)?)?;
+        push_task(source.alloc, tasks, second, profile, archive)?;
     }
     Ok(())
+}
+
+fn push_task<'a>(
+    alloc: Global,
+    tasks: &mut Vec<Job<'a>>,
+    number: usize,
+    profile: &'a Profile,
+    archive: &'a Archive,
+) -> Result<()> {
+    Ok(tasks.push(Job::new(alloc, number, profile, archive)?)?)
 }
 
 /// The archive of a profile's roots, or the other one.
@@ -200,13 +240,24 @@ fn archive_of<'a>(source: Source<'a>, profile: &Profile, name: &str) -> &'a Arch
 }
 
 /// Steps a job until it ends, or as far as the changes say.
-fn step_all(source: Source<'_>, books: &mut Vec<Book<'_>>, task: &mut Task<'_>) -> Result<()> {
+fn step_all(source: Source<'_>, books: &mut Vec<Book<'_>>, task: &mut Job<'_>) -> Result<()> {
     let name = format!(in source.alloc; "{}", task.number())?;
     let stop = source.changes.number("stop", name.as_str())?;
     let leave = source.changes.number("leave", name.as_str())?;
     let Some(profile) = source.set.profiles().get(task.number()) else {
         return Ok(());
     };
+    step_all_of(profile, books, task, stop, leave)
+}
+
+/// Steps a job until it ends, or as many times as one of the numbers says.
+fn step_all_of(
+    profile: &Profile,
+    books: &mut Vec<Book<'_>>,
+    task: &mut Job<'_>,
+    stop: Option<usize>,
+    leave: Option<usize>,
+) -> Result<()> {
     for step in 0..100 {
         if stop == Some(step) {
             task.stop();
@@ -219,7 +270,7 @@ fn step_all(source: Source<'_>, books: &mut Vec<Book<'_>>, task: &mut Task<'_>) 
 }
 
 /// Steps a job, and returns whether it goes on.
-fn step_once(profile: &Profile, books: &mut Vec<Book<'_>>, task: &mut Task<'_>) -> Result<bool> {
+fn step_once(profile: &Profile, books: &mut Vec<Book<'_>>, task: &mut Job<'_>) -> Result<bool> {
     let Next::Ask(side, op) = task.turn() else {
         return Ok(false);
     };
@@ -229,8 +280,7 @@ fn step_once(profile: &Profile, books: &mut Vec<Book<'_>>, task: &mut Task<'_>) 
         task.stop();
         return Ok(false);
     }
-    let answer = book.apply(number, op)?;
-    task.take(answer);
+    task.take(book.apply(number, op)?);
     Ok(true)
 }
 
@@ -285,13 +335,19 @@ fn kept<'a>(source: Source<'a>, books: Vec<Book<'a>>) -> Result<Vec<Book<'a>>> {
 
 /// Adds the book, or none, or a second one before it.
 fn push_kept<'a>(source: Source<'a>, all: &mut Vec<Book<'a>>, book: Book<'a>) -> Result<()> {
-    if source.changes.has("twice", book.root().as_str()) {
-        all.push(second_of(source, &book)?)?;
+    push_second(source, all, &book)?;
+    if source.changes.has("no", book.root().as_str()) {
+        return Ok(());
     }
-    if !source.changes.has("no", book.root().as_str()) {
-        all.push(book)?;
+    Ok(all.push(book)?)
+}
+
+/// Adds the second book of a root, if it has one.
+fn push_second<'a>(source: Source<'a>, all: &mut Vec<Book<'a>>, book: &Book<'_>) -> Result<()> {
+    if !source.changes.has("twice", book.root().as_str()) {
+        return Ok(());
     }
-    Ok(())
+    Ok(all.push(second_of(source, book)?)?)
 }
 
 /// A book that opens as this one did, with no entries.

@@ -1,18 +1,21 @@
 //! How answers show outcomes: how each job ended, with its log, and on further lines the text of the state. An entry is shown by
-//! its operation, as `l` for a Look, `f` for a Fetch and `s` for a Set, and its job's number.
+//! its operation, as `l` for a Look, `f` for a Fetch and `s` for a Set, and its job's number. And how they show what a replica
+//! answers.
 
 use anyhow::Result;
-use hub_job::{End, JobEnd, Op, Outcome, RunFault};
+use hub_job::{Answer, End, JobEnd, Op, Outcome, RunFault};
+use hub_path::Name;
 use hub_state::{State, write_state};
 use hub_text::Watched;
+use hub_tree::Mark;
 use std::alloc::Global;
 use std::str::from_utf8;
 
 /// What jobs left, or why they weren't run.
-pub(crate) fn left_text(alloc: Global, left: Result<Outcome, RunFault>) -> Result<String> {
+pub(crate) fn left_text(alloc: Global, left: &Result<Outcome, RunFault>) -> Result<String> {
     match left {
-        Ok(outcome) => outcome_text(alloc, &outcome),
-        Err(fault) => fault_text(alloc, &fault),
+        Ok(outcome) => outcome_text(alloc, outcome),
+        Err(fault) => fault_text(alloc, fault),
     }
 }
 
@@ -80,5 +83,42 @@ fn fault_text(alloc: Global, fault: &RunFault) -> Result<String> {
         } => Ok(format!(in alloc; "{} book", root.as_str())?),
         RunFault::Stranger { job } => Ok(format!(in alloc; "stranger {job}")?),
         _ => Ok(format!(in alloc; "{fault:?}")?),
+    }
+}
+
+/// Adds the answer of a replica. To a Look it is `file`, `directory` or `absent`, the names of children, and `and others` if
+/// there are others.
+pub(crate) fn push_answer(text: &mut String, answer: &Answer) -> Result<()> {
+    match answer {
+        Answer::Seen {
+            mark,
+            names,
+            others,
+        } => push_seen(text, *mark, names.as_slice(), *others)?,
+        Answer::Bytes(file) => write!(text, "{} bytes", file.bytes().len())?,
+        Answer::Done => text.push_str("done")?,
+        Answer::Refused(fault) => write!(text, "{fault:?}")?,
+    }
+    Ok(())
+}
+
+/// Adds what is seen at a path.
+fn push_seen(text: &mut String, mark: Mark, names: &[Name], others: bool) -> Result<()> {
+    text.push_str(kind_of(mark))?;
+    for name in names {
+        text.push(' ')?;
+        text.push_str(name.text())?;
+    }
+    if others {
+        text.push_str(" and others")?;
+    }
+    Ok(())
+}
+
+fn kind_of(mark: Mark) -> &'static str {
+    match mark {
+        Mark::File(_) => "file",
+        Mark::Directory => "directory",
+        Mark::Absent => "absent",
     }
 }

@@ -6,10 +6,11 @@
 # bundle of two profiles with that state: there nothing stands before the line of the fault, and a failed write leaves a prefix. It
 # refuses each request for memory in a second, small bundle, too: there each of the two jobs brings a file to the other side.
 #
-# `hubsync` runs two jobs, each in a thread of its own, so its requests are numbered in each thread apart. A refused request of the
-# first thread gives the fault, unless it belongs to the start of a thread: then it should refuse the thread. A refused request of
-# a job should stop this job and no other. Both have status 3. Where a job is stopped, the state is what the other job leaves, with
-# or without the one change of the job that was stopped.
+# `hubsync` runs two jobs, by one worker and by two. Its requests are numbered in each thread apart. A refused request of the first
+# thread gives the fault, unless it belongs to the start of a thread: then it should refuse the thread. A refused request of a worker
+# should stop the job that it steps, which may be either, and no other. Both have status 3. Where a job is stopped, the state is
+# what the other job leaves, with or without the one change of the job that was stopped. One worker makes the same requests in each
+# run, so there each of them is refused once; with two, it depends on the run which worker steps which job.
 #
 #     bench/fail.sh
 #
@@ -181,7 +182,7 @@ tells_fault() {
 }
 
 # `hubsync` writes the line of the fault and nothing else, or a prefix of the right text if a write failed. A thread is refused by
-# the requests of its start and by no others. A job is stopped by its own requests.
+# the requests of its start and by no others. A job is stopped by a request of a worker.
 judge_hubsync() {
     told=wrong
     case $kind-$status in
@@ -190,14 +191,21 @@ judge_hubsync() {
         FAIL_READ-2) [ "$answer" != $'fault: bundle line 0: ReadFailed\n' ] || told=fault ;;
         FAIL_WRITE-2) [[ $safe != "$answer"* ]] || told=fault ;;
         FAIL_ALLOC-3) [ "$answer" != "$refused" ] || told=refused ;;
-        FAIL_ALLOC_A-3) [ "$answer" != "$stopped_a" ] && [ "$answer" != "$stopped_a_late" ] || told=stopped ;;
-        FAIL_ALLOC_B-3) [ "$answer" != "$stopped_b" ] && [ "$answer" != "$stopped_b_late" ] || told=stopped ;;
+        FAIL_ALLOC_[AB]-3) ! is_stopped || told=stopped ;;
     esac
     if [ "$kind" = FAIL_ALLOC ] && is_of_start "$number"; then
         [ "$told" = refused ] || told=wrong
     elif [ "$told" = refused ]; then
         told=wrong
     fi
+}
+
+# Whether the answer says that one job was stopped.
+is_stopped() {
+    case $answer in
+        "$stopped_a" | "$stopped_a_late" | "$stopped_b" | "$stopped_b_late") return 0 ;;
+    esac
+    return 1
 }
 
 # Whether the request of the first thread with this number belongs to the start of a thread.
@@ -283,17 +291,21 @@ say_each_in_question() {
         "$(count right) with the right answer"
 }
 
-# Refuses each request for memory of a run of `hubsync`, in each of its threads. Each start of a thread makes two requests, as the
-# first run says: one of the program for what the thread runs, and one of the C library for the table of the thread's own
-# variables. So four refuse a thread.
+# Refuses each request for memory of a run of `hubsync` by a number of workers, in each of its threads. Each start of a thread makes
+# two requests, as the first run says: one of the program for what the thread runs, and one of the C library for the table of the
+# thread's own variables.
 say_each_in_run() {
-    local thread
+    local input=$1 workers=$2 thread threads=('' _A)
+    [ "$workers" = 1 ] || threads+=(_B)
+    words=(run --workers "$workers")
     lane=$folder
-    run SAY_STARTS=1 "$1" "$hubsync"
+    run SAY_STARTS=1 "$input" "$hubsync"
     starts=$'\n'$said
-    for thread in '' _A _B; do
-        say_each judge_hubsync "$hubsync" "$1" "FAIL_ALLOC$thread" OutOfMemory
+    echo "hubsync $input, workers: $workers"
+    for thread in "${threads[@]}"; do
+        say_each judge_hubsync "$hubsync" "$input" "FAIL_ALLOC$thread" OutOfMemory
     done
+    words=()
 }
 
 {
@@ -342,7 +354,8 @@ say_each_in_question 'tree set a d; set a/b f:abc; set a/c f:a; mark a/c; count;
     "ok; ok; ok; $a; 3; $no_memory; ok; 0; ok; 3; $abc"
 say_each_in_question 'archive set a/b d; mark a/b' 'ok; d' "$no_memory; -"
 
-say_each_in_run bundle
+say_each_in_run bundle 1
+say_each_in_run bundle 2
 say_each judge_hubsync "$hubsync" bundle FAIL_READ ReadFailed
 say_each judge_hubsync "$hubsync" bundle FAIL_WRITE WriteFailed
 
@@ -370,4 +383,5 @@ stopped_a=$'safe\njob a stopped\n'$finished_b$(exchanged 'a b' b b)$'\n'
 stopped_a_late=$'safe\njob a stopped\n'$finished_b$(exchanged 'a b' 'a b' b)$'\n'
 stopped_b=$'safe\n'$finished_a$'job b stopped\n'$(exchanged a 'a b' a)$'\n'
 stopped_b_late=$'safe\n'$finished_a$'job b stopped\n'$(exchanged 'a b' 'a b' a)$'\n'
-say_each_in_run exchange
+say_each_in_run exchange 1
+say_each_in_run exchange 2

@@ -2,6 +2,7 @@ pub mod Ascii
 pub mod AsciiWords
 pub mod Blanks
 pub mod Devices
+pub mod Exact
 pub mod Examples
 pub mod LineLaws
 pub mod Lines

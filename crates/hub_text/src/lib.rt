@@ -1,6 +1,7 @@
 //! Lists, texts, lines and watched devices: what all of hubsync's crates stand on.
 //!
 //! - [`Items`]: a list, with equality, order, hash and clone.
+//! - [`Exact`]: types whose `==` tells values apart exactly, with [`is_equal`] and [`are_equal`].
 //! - [`Lines`] and [`TextLines`]: the lines of bytes and of a text, each a [`Line`] that says whether an LF ended it.
 //! - [`Watched`]: a reader or a writer that remembers whether a call of it has failed.
 //! - [`BLANKS`], [`first_word`] and [`skip_blanks`]: where a text is cut between words.
@@ -8,7 +9,7 @@
 //!   characters.
 //!
 //! Contracts see a text as the list of its characters, which are numbers (Unicode scalar values). The definitions are in
-//! `specs/Blanks` and `specs/Lines`. The other files of `specs/` prove general facts for the proofs of the crates above:
+//! `specs/Blanks`, `specs/Lines` and `specs/Exact`. The other files of `specs/` prove general facts for the proofs of the crates above:
 //! `TestLaws` of tests, `LineLaws` and `Takes` of lines, `TextCuts`, `TextParts`, `TextChars`, `Texts`, `Ascii` and
 //! `AsciiWords` of bytes and the characters that they encode, and `TextOrder` that the order of UTF-8 bytes is the order of
 //! characters.
@@ -17,12 +18,14 @@
 #![tactic(auto)]
 
 mod blank;
+mod exact;
 mod items;
 mod line;
 mod text;
 mod watched;
 
 pub use blank::{BLANKS, first_word, skip_blanks};
+pub use exact::{Exact, are_equal, is_equal};
 pub use items::Items;
 pub use line::{Line, Lines, TextLines};
 pub use text::{begins_with, compare, is_empty, without_last};

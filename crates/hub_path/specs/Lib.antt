@@ -10,3 +10,4 @@ pub mod Hashes
 pub mod TextLaws
 pub mod Shared
 pub mod TextOrder
+pub mod Sides

@@ -10,7 +10,8 @@
 //! returns the fault `EmptyName`.
 //!
 //! Contracts see a name as the list of its characters, and a path or a root as the list of its names. `specs/Path` says
-//! what names, paths, prefixes and their order are, and `specs/Reading` which texts are names, paths and roots.
+//! what names, paths, prefixes and their order are, `specs/Reading` which texts are names, paths and roots, and `specs/Sides`
+//! which side is the other one.
 //! `specs/Laws`, `specs/TextLaws` and `specs/ReadBack` prove what follows, for the proofs of the crates above.
 //!
 //! Only functions that return a `Result` allocate.

@@ -5,7 +5,7 @@ ghost use Rattle.hub_path.specs.Path as path;
 ghost use Rattle.hub_path.specs.Reading.{FailsAs, name_reading, name_fault};
 
 use crate::fault::PathFault;
-use hub_text::{compare, is_empty};
+use hub_text::{Exact, compare, is_empty};
 use std::alloc::{AllocError, Global};
 use std::cmp::Ordering;
 use std::fmt;
@@ -199,6 +199,12 @@ impl Eq for Name {
     ghost use Rattle.std.specs.Cmp.Rules.{comparing};
 
     ghost laws = { Prim.search (comparing, rules) };
+}
+
+impl Exact for Name {
+    ghost use Rattle.hub_text.specs.Exact.{items_exact, nat_exact};
+
+    ghost exact = { items_exact nat_exact };
 }
 
 impl PartialOrd for Name {

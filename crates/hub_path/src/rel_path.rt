@@ -5,7 +5,7 @@ ghost use Rattle.hub_path.specs.Reading.{FailsAs, path_reading, names_reading, p
 use crate::fault::PathFault;
 use crate::name::Name;
 use crate::text::begins_with_slash;
-use hub_text::is_empty;
+use hub_text::{Exact, is_empty};
 use std::alloc::{AllocError, Global};
 use std::cmp::Ordering;
 use std::hash::{Hash, Hasher};
@@ -329,6 +329,12 @@ impl Eq for RelPath {
     ghost use Rattle.std.specs.Cmp.Rules.{comparing};
 
     ghost laws = { Prim.search (comparing, rules) };
+}
+
+impl Exact for RelPath {
+    ghost use Rattle.hub_text.specs.Exact.{items_exact, nat_exact};
+
+    ghost exact = { items_exact (items_exact nat_exact) };
 }
 
 impl PartialOrd for RelPath {

@@ -5,7 +5,7 @@ ghost use Rattle.hub_path.specs.Reading.{FailsAs, root_reading};
 use crate::fault::PathFault;
 use crate::rel_path::{RelPath, read_place};
 use crate::text::{after_slash, is_remote, without_last_slash};
-use hub_text::is_empty;
+use hub_text::{Exact, is_empty};
 use std::alloc::{AllocError, Global};
 use std::hash::{Hash, Hasher};
 use std::marker::Model;
@@ -140,4 +140,10 @@ impl Eq for Root {
     ghost use Rattle.std.specs.Cmp.Rules.{comparing};
 
     ghost laws = { Prim.search (comparing, rules) };
+}
+
+impl Exact for Root {
+    ghost use Rattle.hub_text.specs.Exact.{items_exact, nat_exact};
+
+    ghost exact = { items_exact (items_exact nat_exact) };
 }

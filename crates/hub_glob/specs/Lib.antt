@@ -9,3 +9,4 @@ pub mod Specification
 pub mod Sweep
 pub mod Taking
 pub mod Writing
+pub mod Exact

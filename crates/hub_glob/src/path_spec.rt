@@ -14,7 +14,7 @@ use crate::reading::{read_kind, read_pattern, split_kind};
 use crate::sweep::Walk;
 use crate::writing::text_of;
 use hub_path::RelPath;
-use hub_text::Items;
+use hub_text::{Exact, Items};
 use std::alloc::{AllocError, Global};
 use std::marker::Model;
 
@@ -143,6 +143,50 @@ impl PathSpec {
             Kind::BelowPath => matches_above(parts, path, len),
         }
     }
+}
+
+impl Exact for Kind {
+    ghost use Rattle.hub_text.specs.Exact.{tags_exact};
+    ghost use Rattle.hub_glob.specs.contracts.path_spec.Kind.{enum};
+
+    ghost exact = { tags_exact enum tt };
+}
+
+/// Specifications are equal if their kinds and their patterns are.
+impl PartialEq for PathSpec {
+    ghost use Rattle.std.specs.Prelude.{◌&&◌};
+    ghost use Rattle.std.specs.Cmp.{decided, partial_equiv_from_equiv};
+    ghost use Rattle.std.specs.Cmp.Lexicographic.{pointwise};
+    ghost use Rattle.hub_glob.specs.Exact.{specification_exact};
+    ghost use Rattle.hub_glob.specs.contracts.path_spec.KindExact.TheImpl.Laws as kind;
+    ghost use Rattle.hub_glob.specs.contracts.piece.PartExact.TheImpl.Laws as part;
+
+    ghost eq = { λ s t. ⟦<Kind as PartialEq>⟧.eq s.kind t.kind
+        && pointwise ⟦<Part as PartialEq>⟧.eq s.pattern t.pattern };
+
+    ghost laws = { partial_equiv_from_equiv
+        (decided _ (specification_exact kind.exact-law part.exact-law)) };
+
+    fn eq(&self, other: &PathSpec) -> bool {
+        self.kind == other.kind && self.pattern == other.pattern
+    }
+}
+
+impl Eq for PathSpec {
+    ghost use Rattle.std.specs.Cmp.{decided};
+    ghost use Rattle.hub_glob.specs.Exact.{specification_exact};
+    ghost use Rattle.hub_glob.specs.contracts.path_spec.KindExact.TheImpl.Laws as kind;
+    ghost use Rattle.hub_glob.specs.contracts.piece.PartExact.TheImpl.Laws as part;
+
+    ghost laws = { decided _ (specification_exact kind.exact-law part.exact-law) };
+}
+
+impl Exact for PathSpec {
+    ghost use Rattle.hub_glob.specs.Exact.{specification_exact};
+    ghost use Rattle.hub_glob.specs.contracts.path_spec.KindExact.TheImpl.Laws as kind;
+    ghost use Rattle.hub_glob.specs.contracts.piece.PartExact.TheImpl.Laws as part;
+
+    ghost exact = { specification_exact kind.exact-law part.exact-law };
 }
 
 /// Whether a pattern matches the last of the first `len` names.

@@ -1,7 +1,7 @@
 ghost use Rattle.std.specs.Prelude.{◌≡◌};
 ghost use Rattle.hub_glob.specs.Taking as taking;
 
-use hub_text::Items;
+use hub_text::{Exact, Items};
 
 /// The most characters of a pattern that is read from a text, and so the most pieces (this project's choice).
 pub const PATTERN_CHARACTERS: usize = 200;
@@ -10,7 +10,7 @@ pub const PATTERN_CHARACTERS: usize = 200;
 pub const PATTERN_CHOICES: usize = 64;
 
 /// One step of a pattern: what it takes of a text.
-#[derive(Debug, Drop)]
+#[derive(Debug, Drop, PartialEq, Eq)]
 pub enum Piece {
     /// This character.
     Lit(char),
@@ -52,11 +52,28 @@ impl Piece {
     }
 }
 
+impl Exact for Piece {
+    ghost use Rattle.hub_text.specs.Exact.{variants_exact, no_field, last_field, items_exact, nat_exact};
+    ghost use Rattle.hub_glob.specs.contracts.piece.Piece.{enum};
+
+    ghost exact = { variants_exact enum _
+        (last_field nat_exact, (no_field, (no_field, (last_field (items_exact nat_exact), tt)))) };
+}
+
 /// A part of a pattern.
-#[derive(Debug, Drop)]
+#[derive(Debug, Drop, PartialEq, Eq)]
 pub enum Part {
     /// A piece outside braces.
     One(Piece),
     /// A brace: any one of its choices, each a list of pieces.
     Brace(Items<Items<Piece>>),
+}
+
+impl Exact for Part {
+    ghost use Rattle.hub_text.specs.Exact.{variants_exact, last_field, items_exact};
+    ghost use Rattle.hub_glob.specs.contracts.piece.Part.{enum};
+    ghost use Rattle.hub_glob.specs.contracts.piece.PieceExact.TheImpl.Laws as piece;
+
+    ghost exact = { variants_exact enum _
+        (last_field piece.exact-law, (last_field (items_exact (items_exact piece.exact-law)), tt)) };
 }

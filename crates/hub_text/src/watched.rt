@@ -1,30 +1,39 @@
-ghost use Rattle.std.specs.Prelude.{◌≡◌, ◌||◌, ℕ, length, take, false, OnOk, is_err};
+ghost use Rattle.std.specs.Prelude.{◌≡◌, ◌||◌, ◌+◌, ℕ, length, take, false, OnOk, is_err};
 ghost use Rattle.std.specs.Io.{ReadsAtMost, WritesAtMost};
 ghost use Rattle.std.specs.Io.KnownBytes.{Appends, Keeps, ReadConsumes, WriteAppends};
-ghost use Rattle.hub_text.specs.Devices.{is_failed_write};
+ghost use Rattle.hub_text.specs.Devices.{is_failed_write, is_end};
 
 use std::io;
 use std::io::{ErrorKind, Read, Write};
 
-/// A reader or a writer with a flag that its first failed call sets. No later call clears the flag.
+/// A reader or a writer with a count of its reads, and with two flags that no later call clears: one that its first failed
+/// call sets, and one that the first read sets that meets the end of the input.
 ///
 /// A call that returns an error has failed, an interrupted one too, and so has a write that takes nothing of a piece
-/// that isn't empty. The calls are passed on to the device as they are.
+/// that isn't empty. A read has met the end if it gives nothing for a buffer that isn't empty. The calls are passed on to
+/// the device as they are. Only after `u64::MAX` reads, more than any machine can make, a read fails without asking the
+/// device: so the count is always exact.
 #[derive(Drop)]
 pub struct Watched<D> {
     device: D,
     failed: bool,
+    at_end: bool,
+    reads: u64,
 }
 
 impl<D> Watched<D> {
-    /// Watches a device. No call of it has failed yet.
+    /// Watches a device, of which no call was made yet.
     pub fn new(device: D) -> Watched<D>
         ensures device { result.device ≡ device }
         ensures failed { result.failed ≡ false }
+        ensures at_end { result.at_end ≡ false }
+        ensures reads { result.reads ≡ 0 }
     {
         Watched {
             device,
             failed: false,
+            at_end: false,
+            reads: 0,
         }
     }
 
@@ -33,6 +42,27 @@ impl<D> Watched<D> {
         ensures { result ≡ self.now.failed }
     {
         self.failed
+    }
+
+    /// Returns whether a read has met the end of the input since `new`.
+    pub fn at_end(&self) -> bool
+        ensures { result ≡ self.now.at_end }
+    {
+        self.at_end
+    }
+
+    /// Returns how many reads were made since `new`.
+    pub fn reads(&self) -> u64
+        ensures { result ≡ self.now.reads }
+    {
+        self.reads
+    }
+
+    /// Returns the device, and watches it no longer.
+    pub fn into_inner(self) -> D
+        ensures { result ≡ self.device }
+    {
+        self.device
     }
 }
 
@@ -44,10 +74,19 @@ impl<R: Read> Read for Watched<R> {
         ensures bytes { ReadConsumes (R.remaining self.old.device) (R.remaining self.new.device)
             result buffer.new }
         ensures failed { self.new.failed ≡ (self.old.failed || is_err result) }
+        ensures at_end { self.new.at_end ≡ (self.old.at_end || is_end (length buffer.new) result) }
+        ensures reads { OnOk result (self.new.reads ≡ self.old.reads + 1) }
     {
-        let result = self.device.read(buffer);
-        if result.is_err() {
+        let Some(reads) = self.reads.checked_add(1) else {
             self.failed = true;
+            return Err(io::Error::from(ErrorKind::Other));
+        };
+        self.reads = reads;
+        let result = self.device.read(buffer);
+        match result {
+            Ok(0) if !buffer.is_empty() => self.at_end = true,
+            Ok(_) => (),
+            Err(_) => self.failed = true,
         }
         result
     }

@@ -3,7 +3,8 @@
 //! - [`Items`]: a list, with equality, order, hash and clone.
 //! - [`Exact`]: types whose `==` tells values apart exactly, with [`is_equal`] and [`are_equal`].
 //! - [`Lines`] and [`TextLines`]: the lines of bytes and of a text, each a [`Line`] that says whether an LF ended it.
-//! - [`Watched`]: a reader or a writer that remembers whether a call of it has failed.
+//! - [`Watched`]: a reader or a writer that remembers whether a call of it has failed, how many reads were made, and whether
+//!   one met the end.
 //! - [`BLANKS`], [`first_word`] and [`skip_blanks`]: where a text is cut between words.
 //! - [`compare`], [`is_empty`], [`begins_with`] and [`without_last`]: questions about a text, answered by its
 //!   characters.

@@ -1,7 +1,8 @@
--- No line of a text reports a failed read.
-use Rattle.std.proofs.Common.{◌≡◌, ◌⊎◌, inl, inr, ℕ, ◌+◌, Bool, true, false, cond, List, [], ◌∷◌, refl, sym, ap, ◌∙◌}
+-- No line of a text reports a failed read, or that the reads ended before the input.
+use Rattle.std.proofs.Common.{◌≡◌, ◌⊎◌, inl, inr, ℕ, ◌+◌, Bool, true, false, ◌||◌, cond, List, [], ◌∷◌, refl, sym, ap, ◌∙◌}
 use Rattle.std.specs.Prelude.{Option, Some, None, Result, Ok, Err}
 use Rattle.std.specs.Str.{is_utf8}
+use Rattle.std.proofs.lemmas.Bool.{or_parts}
 use Rattle.hub_text.specs.Lines.{lines_of}
 use Rattle.hub_text.specs.declared.line.Line.{Line as TextLine}
 use Rattle.hub_path.specs.Path.{Path}
@@ -16,20 +17,20 @@ use Rattle.hub_state.specs.declared.form.Form.{Form}
 use Rattle.hub_state.specs.declared.form.Form.TheVariants as form
 use Rattle.hub_state.specs.declared.form.Section.{Section}
 use Rattle.hub_state.specs.declared.form.Section.TheVariants as section
-use Rattle.hub_state.specs.Devices.{is_read_failed, says, reports}
+use Rattle.hub_state.specs.Devices.{is_read_failed, is_turns_spent, is_unread, says, reports}
 use Rattle.hub_state.specs.State.{Text}
 use Rattle.hub_state.specs.Reading.{Above, Line, line_of, or_else, and_then, unless, root_field, path_field, bytes_field, digest_field, with_other_root, with_contents_put, with_mark_put, with_dir, with_fields, with_line, with_line_of, numbered_reading, lines_reading, then_lines, fault_at, nothing_above, above_end, state_or_fault, state_reading}
 
 record Quiet {T : Type 0} (r : Result T Fault) : Type 0 where
-  quiet : says is_read_failed r ≡ false
+  quiet : says is_unread r ≡ false
 
 nothing_said : {T : Type 0} → (x : T) → Quiet {T = T} (Ok x)
 nothing_said x = record { quiet = refl }
 
-another_said : {T : Type 0} → (f : Fault) → is_read_failed f ≡ false → Quiet {T = T} (Err f)
+another_said : {T : Type 0} → (f : Fault) → is_unread f ≡ false → Quiet {T = T} (Err f)
 another_said f h = record { quiet = h }
 
-unless-quiet : {T : Type 0} (b : Bool) (f : Fault) (r : Result T Fault) → is_read_failed f ≡ false → Quiet r → Quiet (unless b f r)
+unless-quiet : {T : Type 0} (b : Bool) (f : Fault) (r : Result T Fault) → is_unread f ≡ false → Quiet r → Quiet (unless b f r)
 unless-quiet true f r h k = another_said f h
 unless-quiet false f r h k = k
 
@@ -37,7 +38,7 @@ then-quiet : {T U : Type 0} (r : Result T Fault) (f : T → Result U Fault) → 
 then-quiet (Ok x) f h k = k x
 then-quiet (Err e) f h k = another_said e h.quiet
 
-else-quiet : {T E : Type 0} (f : Fault) (r : Result T E) → is_read_failed f ≡ false → Quiet (or_else f r)
+else-quiet : {T E : Type 0} (f : Fault) (r : Result T E) → is_unread f ≡ false → Quiet (or_else f r)
 else-quiet f (Ok x) h = nothing_said x
 else-quiet f (Err e) h = another_said f h
 
@@ -102,27 +103,34 @@ line_of-quiet d (Some l) = unless-quiet _ BadLine _ refl (form-quiet d l.form l.
 numbered-quiet : (n : ℕ) (d : Above) (l : List ℕ) → Quiet (numbered_reading n d l)
 numbered-quiet n d l = cond-quiet _ _ _ (unless-quiet _ BadHeader _ refl (nothing_said _)) (cond-quiet (is_utf8 l) _ _ (line_of-quiet d (line_of l)) (another_said BadLine refl))
 
-at-quiet : {T : Type 0} (n : ℕ) (r : Result T Fault) → Quiet r → reports is_read_failed (fault_at n r) ≡ false
+at-quiet : {T : Type 0} (n : ℕ) (r : Result T Fault) → Quiet r → reports is_unread (fault_at n r) ≡ false
 at-quiet n (Ok x) h = refl
 at-quiet n (Err f) h = h.quiet
 
-lines_then-quiet : (r : Result Above StateFault) (f : Above → Result Above StateFault) → reports is_read_failed r ≡ false → ((d : Above) → reports is_read_failed (f d) ≡ false) → reports is_read_failed (then_lines r f) ≡ false
+lines_then-quiet : (r : Result Above StateFault) (f : Above → Result Above StateFault) → reports is_unread r ≡ false → ((d : Above) → reports is_unread (f d) ≡ false) → reports is_unread (then_lines r f) ≡ false
 lines_then-quiet (Ok d) f h k = k d
 lines_then-quiet (Err e) f h k = h
 
-lines-quiet : (ls : List (TextLine (List ℕ))) (n : ℕ) (d : Above) → reports is_read_failed (lines_reading n d ls) ≡ false
+lines-quiet : (ls : List (TextLine (List ℕ))) (n : ℕ) (d : Above) → reports is_unread (lines_reading n d ls) ≡ false
 lines-quiet [] n d = refl
 lines-quiet (l ∷ []) n d = at-quiet n _ (unless-quiet _ Truncated _ refl (numbered-quiet n d l.text))
 lines-quiet (l ∷ k ∷ ls) n d = lines_then-quiet _ _ (at-quiet n _ (numbered-quiet n d l.text)) (λ e. lines-quiet (k ∷ ls) (n + 1) e)
 
-state-quiet : (r : Result Above StateFault) → reports is_read_failed r ≡ false → reports is_read_failed (state_or_fault r) ≡ false
+state-quiet : (r : Result Above StateFault) → reports is_unread r ≡ false → reports is_unread (state_or_fault r) ≡ false
 state-quiet (Ok d) h = refl
 state-quiet (Err e) h = h
 
-pub reading-quiet : (bytes : List ℕ) (e : StateFault) → state_reading bytes ≡ Err e → is_read_failed e.fault ≡ false
+pub reading-quiet : (bytes : List ℕ) (e : StateFault) → state_reading bytes ≡ Err e → is_unread e.fault ≡ false
 unfolding state_reading
-reading-quiet bytes e h = ap (reports is_read_failed) (sym h) ∙ state-quiet (above_end bytes) (lines-quiet (lines_of bytes) 1 nothing_above)
+reading-quiet bytes e h = ap (reports is_unread) (sym h) ∙ state-quiet (above_end bytes) (lines-quiet (lines_of bytes) 1 nothing_above)
+
+-- The fault of a text, or that memory ran out, is neither.
+pub fault-unread : (bytes : List ℕ) (e : StateFault) → (e ≡ record { line = 0; fault = OutOfMemory }) ⊎ (state_reading bytes ≡ Err e) → is_unread e.fault ≡ false
+fault-unread bytes e (inl m) = ap (λ (x : StateFault). is_unread x.fault) m
+fault-unread bytes e (inr h) = reading-quiet bytes e h
 
 pub fault-quiet : (bytes : List ℕ) (e : StateFault) → (e ≡ record { line = 0; fault = OutOfMemory }) ⊎ (state_reading bytes ≡ Err e) → is_read_failed e.fault ≡ false
-fault-quiet bytes e (inl m) = ap (λ (x : StateFault). is_read_failed x.fault) m
-fault-quiet bytes e (inr h) = reading-quiet bytes e h
+fault-quiet bytes e h = (or_parts (is_read_failed e.fault) (is_turns_spent e.fault) (fault-unread bytes e h)).0
+
+pub fault-unspent : (bytes : List ℕ) (e : StateFault) → (e ≡ record { line = 0; fault = OutOfMemory }) ⊎ (state_reading bytes ≡ Err e) → is_turns_spent e.fault ≡ false
+fault-unspent bytes e h = (or_parts (is_read_failed e.fault) (is_turns_spent e.fault) (fault-unread bytes e h)).1

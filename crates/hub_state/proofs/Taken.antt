@@ -10,7 +10,7 @@ use Rattle.hub_state.specs.State.{State}
 use Rattle.hub_state.specs.Writing.{header, end_line}
 use Rattle.hub_state.specs.Reading.{Above, line_reading, unless, is_truncated, numbered_reading}
 use Rattle.hub_state.specs.Taking.{is_memory, placed, numbered_taken, line_taken}
-use Rattle.hub_state.specs.Devices.{is_read_failed, reports}
+use Rattle.hub_state.specs.Devices.{reports}
 use Rattle.hub_state.proofs.Drafts.{Holds, Same, same-unless, ended_is, line_same}
 
 pub numbered_same : (n : ℕ) (d : Above) (a : Draft) → Holds d a → (l : List ℕ) → Same (numbered_reading n d l) (numbered_taken n a l)
@@ -59,6 +59,6 @@ pub Err-then : {T E : Type 0} (r : Result T E) (P Q : E → Type 0) → ((e : E)
 Err-then (Ok x) P Q f h = tt
 Err-then (Err e) P Q f h = f e h
 
-pub quiet-then : {T : Type 0} (r : Result T StateFault) → IfErr r (λ e. is_read_failed e.fault ≡ false) → reports is_read_failed r ≡ false
-quiet-then (Ok x) h = refl
-quiet-then (Err e) h = h
+pub quiet-then : {T : Type 0} (f : Fault → Bool) (r : Result T StateFault) → IfErr r (λ e. f e.fault ≡ false) → reports f r ≡ false
+quiet-then f (Ok x) h = refl
+quiet-then f (Err e) h = h

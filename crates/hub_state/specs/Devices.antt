@@ -1,8 +1,8 @@
 -- What is passed on to a writer, and faults of devices.
-use Rattle.std.specs.Prelude.{◌≡◌, ℕ, Bool, true, false, List, ◌++◌, Option, Result, Ok, Err}
+use Rattle.std.specs.Prelude.{◌≡◌, ℕ, Bool, true, false, ◌||◌, List, ◌++◌, Option, Result, Ok, Err}
 use Rattle.std.specs.Io.KnownBytes.{Appends}
 use Rattle.hub_state.specs.declared.fault.Fault.{Fault}
-use Rattle.hub_state.specs.declared.fault.Fault.TheVariants.{ReadFailed, WriteFailed}
+use Rattle.hub_state.specs.declared.fault.Fault.TheVariants.{ReadFailed, WriteFailed, TurnsSpent, OutOfMemory}
 use Rattle.hub_state.specs.declared.fault.StateFault.{StateFault}
 
 -- These bytes come after what the writer holds and the buffer before. The writer then holds some of them, and the buffer
@@ -17,6 +17,19 @@ is_write_failed _ = false
 abbrev pub is_read_failed : Fault → Bool
 is_read_failed ReadFailed = true
 is_read_failed _ = false
+
+abbrev pub is_turns_spent : Fault → Bool
+is_turns_spent TurnsSpent = true
+is_turns_spent _ = false
+
+-- The reads ended before the input did.
+abbrev pub is_unread : Fault → Bool
+is_unread f = is_read_failed f || is_turns_spent f
+
+-- The fault says nothing about the text.
+abbrev pub is_not_of_text : Fault → Bool
+is_not_of_text OutOfMemory = true
+is_not_of_text f = is_unread f
 
 -- Whether the fault is one of these.
 abbrev pub says : {T : Type 0} → (Fault → Bool) → Result T Fault → Bool

@@ -1,12 +1,12 @@
-ghost use Rattle.std.specs.Prelude.{◌≡◌, ◌⊎◌, ◌+◌, ◌*◌, ◌^◌, ◌<◌, ◌≤◌, ◌++◌, length, false, Ok, Err, List, ℕ};
-ghost use Rattle.std.specs.Prelude.{IfOk, IfErr, IfSome, OnOk, vec_len};
+ghost use Rattle.std.specs.Prelude.{◌≡◌, ◌⊎◌, ◌+◌, ◌*◌, ◌^◌, ◌<◌, ◌≤◌, ◌++◌, length, false, true, Ok, Err, List, ℕ};
+ghost use Rattle.std.specs.Prelude.{IfOk, IfErr, IfSome, IsErrOf, OnOk, vec_len};
 ghost use Rattle.std.specs.Result.{ForOk};
 ghost use Rattle.std.specs.Option.{option_map};
 ghost use Rattle.hub_text.specs.Lines.{line_text};
 ghost use Rattle.hub_text.specs.Takes.{of_bytes};
 ghost use Rattle.hub_state.specs.Blocks.{bytes_taken, text_of, Leaves, Stops, Continues, Stands};
 ghost use Rattle.hub_state.specs.Blocks.{IsWithin, out_of_memory};
-ghost use Rattle.hub_state.specs.Devices.{is_read_failed, says, reports};
+ghost use Rattle.hub_state.specs.Devices.{is_not_of_text, is_read_failed, is_turns_spent, says, reports};
 ghost use Rattle.hub_state.specs.Reading.{state_reading};
 ghost use Rattle.hub_state.specs.Taking as taking;
 ghost use Rattle.hub_state.specs.Taking.{IsApart};
@@ -26,9 +26,10 @@ const READ_BYTES: usize = 4_096;
 
 /// Reads all of an input, and the state that it is the text of, version 1.
 ///
-/// Returns `ReadFailed` exactly when a read failed, and reads no further then. Returns `TurnsSpent` if `READ_TURNS` reads
-/// did not reach the end: such an input has at least `READ_TURNS` bytes. Otherwise this is `read_bytes`. `ReadFailed`,
-/// `TurnsSpent` and `OutOfMemory` have line 0.
+/// Returns `ReadFailed` exactly when a read failed, and reads no further then. Returns `TurnsSpent` only if `READ_TURNS` reads
+/// were made and none of them met the end: such an input has at least `READ_TURNS` bytes. Otherwise this is `read_bytes`, and
+/// the state or the fault of the text is returned only if a read met the end. So for an input that never ends, the result is
+/// one of `ReadFailed`, `TurnsSpent` and `OutOfMemory`, which have line 0.
 ///
 /// The text is read in blocks. In memory are one block and the line that is not complete, and not the whole text.
 pub fn read_state<R: Read>(alloc: Global, input: &mut Watched<R>) -> Result<State, StateFault>
@@ -41,6 +42,10 @@ pub fn read_state<R: Read>(alloc: Global, input: &mut Watched<R>) -> Result<Stat
         × IfSome (R.remaining input.old.device) (λ bytes. READ_TURNS ≤ length bytes))
         ⊎ IfSome (R.remaining input.old.device) (λ bytes. state_reading bytes ≡ Err e)) }
     ensures failed { input.new.failed ≡ reports is_read_failed result }
+    ensures whole { reports is_not_of_text result ≡ false → input.new.at_end ≡ true }
+    ensures turns_spent { reports is_turns_spent result ≡ true
+        → input.new.reads ≡ input.old.reads + READ_TURNS }
+    ensures no_end { reports is_turns_spent result ≡ true → input.new.at_end ≡ input.old.at_end }
 {
     match read_blocks(alloc, input, READ_TURNS) {
         Ok(prefix) => finish(alloc, prefix),
@@ -87,6 +92,10 @@ fn read_blocks<R: Read>(
     ensures faults { IfErr result (λ e. (e ≡ Fault.ReadFailed) ⊎ ((e ≡ Fault.TurnsSpent)
         × IfSome (R.remaining input.old.device) (λ bytes. turns ≤ length bytes))) }
     ensures failed { input.new.failed ≡ says is_read_failed result }
+    ensures at_end { OnOk result (input.new.at_end ≡ true) }
+    ensures turns_spent { IsErrOf result Fault.TurnsSpent
+        → input.new.reads ≡ input.old.reads + turns }
+    ensures no_end { IsErrOf result Fault.TurnsSpent → input.new.at_end ≡ input.old.at_end }
 {
     let draft = Draft::new(alloc);
     let rest = Vec::new(alloc);

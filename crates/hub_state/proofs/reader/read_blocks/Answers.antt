@@ -18,6 +18,8 @@ loop-init g c =
       omega arith,
       within-begun p 1 (subst (λ (a : Draft). IsApart a.current) (sym c.new-draft.ensures) tt) (omega (arith, ap length c.new-rest.ensures.items)),
       c.requires.unfailed,
+      omega arith,
+      refl,
     )
 
 pub loop-preserved : goal.loop-preserved
@@ -34,6 +36,8 @@ loop-preserved g c =
       Consumes-trans start before after read block c.loop.invariant.2 c.in-Ok.ensures.bytes.0,
       omega (arith, length-append read block, many, c.loop.invariant.3, c.if-count-eq0.false),
       within-block c.loop.prefix c.with_block-prefix.result (1 + 4096 * c.loop.counter) (1 + 4096 * (c.loop.counter + 1)) _ block c.loop.invariant.4 c.with_block-prefix.ensures.within c.with_block-prefix.ensures.stopped (grind (arith, common_steps)) (omega (arith, few, many)),
+      search rules,
+      omega (arith, c.in-Ok.ensures.reads, c.loop.invariant.6),
       search rules,
     )
 

@@ -8,3 +8,4 @@ abbrev pub invariant-loop : goal.invariant-loop
 invariant-loop g l =
     (read : List ℕ) × Stands read l.prefix × Consumes (g.R.Read.remaining l.initial.input.device) (g.R.Read.remaining l.input.device) read
     × (l.counter ≤ length read) × ForOk l.prefix (λ p. IsWithin p (1 + 4096 * l.counter)) × (l.input.failed ≡ false)
+    × (l.input.reads ≡ l.initial.input.reads + l.counter) × (l.input.at_end ≡ l.initial.input.at_end)

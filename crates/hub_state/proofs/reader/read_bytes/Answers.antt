@@ -1,5 +1,6 @@
 use Rattle.std.proofs.Common.{inl, inr, ⊎_elim, sym, ◌∙◌, subst}
 use Rattle.hub_state.specs.declared.draft.Draft.{Draft}
+use Rattle.hub_state.specs.Devices.{is_read_failed}
 use Rattle.hub_state.specs.Taking.{IsApart}
 use Rattle.hub_state.proofs.Blocks.{reading-taken}
 use Rattle.hub_state.proofs.Quiet.{fault-quiet}
@@ -18,6 +19,6 @@ returns-clause-err c =
 
 pub returns-clause-no_read : goal.returns-clause-no_read
 returns-clause-no_read c =
-    quiet-then c.read_rest.result
+    quiet-then is_read_failed c.read_rest.result
     (Err-then c.read_rest.result _ _
     (λ e h. fault-quiet c.args.bytes.now e (⊎_elim inl (λ f. inr (reading-taken c.new-draft.result c.args.bytes.now c.new-draft.ensures ∙ f)) h)) c.read_rest.ensures.err)

@@ -1,7 +1,9 @@
-use Rattle.std.proofs.Common.{inl, inr, ⊎_elim, sym, ◌∙◌}
+use Rattle.std.proofs.Common.{◌≡◌, false, inl, inr, ⊎_elim, sym, ◌∙◌}
 use Rattle.std.specs.Prelude.{Ok, Err}
+use Rattle.std.proofs.lemmas.Bool.{false≢true}
+use Rattle.hub_state.specs.Devices.{is_read_failed, is_turns_spent, reports}
 use Rattle.hub_state.proofs.Blocks.{known}
-use Rattle.hub_state.proofs.Quiet.{fault-quiet}
+use Rattle.hub_state.proofs.Quiet.{fault-quiet, fault-unspent}
 use Rattle.hub_state.proofs.Taken.{Ok-then, Err-then, quiet-then}
 use Rattle.hub_state.proofs.reader.read_state.Goals as goal
 
@@ -19,4 +21,18 @@ returns-in-Ok-clause-err g c =
 pub returns-in-Ok-clause-failed : goal.returns-in-Ok-clause-failed
 returns-in-Ok-clause-failed g c =
     let w = c.in-Ok.ensures.whole in
-    c.in-Ok.ensures.failed ∙ sym (quiet-then c.finish.result (Err-then c.finish.result _ _ (λ e h. fault-quiet w.0 e h) (c.finish.ensures.err w.0 w.1)))
+    c.in-Ok.ensures.failed ∙ sym (quiet-then is_read_failed c.finish.result (Err-then c.finish.result _ _ (λ e h. fault-quiet w.0 e h) (c.finish.ensures.err w.0 w.1)))
+
+pub returns-in-Ok-clause-turns_spent : goal.returns-in-Ok-clause-turns_spent
+returns-in-Ok-clause-turns_spent g c = λ spent.
+    let w = c.in-Ok.ensures.whole in
+    let unspent : reports is_turns_spent c.finish.result ≡ false =
+    quiet-then is_turns_spent c.finish.result (Err-then c.finish.result _ _ (λ e h. fault-unspent w.0 e h) (c.finish.ensures.err w.0 w.1)) in
+    absurd (false≢true (sym unspent ∙ spent))
+
+pub returns-in-Ok-clause-no_end : goal.returns-in-Ok-clause-no_end
+returns-in-Ok-clause-no_end g c = λ spent.
+    let w = c.in-Ok.ensures.whole in
+    let unspent : reports is_turns_spent c.finish.result ≡ false =
+    quiet-then is_turns_spent c.finish.result (Err-then c.finish.result _ _ (λ e h. fault-unspent w.0 e h) (c.finish.ensures.err w.0 w.1)) in
+    absurd (false≢true (sym unspent ∙ spent))

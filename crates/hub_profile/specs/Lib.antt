@@ -1,6 +1,7 @@
 pub mod Faults
 pub mod Facts
 pub mod Parts
+pub mod Exact
 pub mod Lines
 pub mod LineByLine
 pub mod Said

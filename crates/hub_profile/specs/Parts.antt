@@ -1,5 +1,6 @@
 -- What a profile says, as contracts see it.
 use Rattle.std.specs.Prelude.{Bool, false, List, slice_get, Option, Some, None, IsTrue}
+use Rattle.std.specs.List.{list_any}
 use Rattle.hub_path.specs.Path.{Name, Path, path_eq}
 use Rattle.hub_path.specs.declared.side.Side.{Side}
 use Rattle.hub_path.specs.declared.side.Side.TheVariants.{Left, Right}
@@ -38,3 +39,6 @@ at_side xs Right = slice_get xs 1
 -- The root of that side is r.
 abbrev pub is_root_at : Parts → Path → Side → Bool
 is_root_at P r side = some_passes (path_eq r) (at_side P.roots side)
+
+abbrev pub has_root : Parts → Path → Bool
+has_root P r = list_any (λ own. path_eq own r) P.roots

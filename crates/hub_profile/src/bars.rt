@@ -1,3 +1,5 @@
+use hub_text::Exact;
+
 /// The changes that a profile doesn't make at one of its roots (Unison manual, "Preferences").
 #[derive(Clone, Copy, Debug, PartialEq, Eq)]
 pub struct Bars {
@@ -7,4 +9,10 @@ pub struct Bars {
     pub update: bool,
     /// Nothing is deleted (`nodeletion`, and `noupdate`).
     pub delete: bool,
+}
+
+impl Exact for Bars {
+    ghost use Rattle.hub_profile.specs.Exact.{bars_exact};
+
+    ghost exact = { bars_exact };
 }

@@ -1,10 +1,10 @@
-ghost use Rattle.std.specs.Prelude.{◌≡◌};
+ghost use Rattle.std.specs.Prelude.{◌≡◌, Some};
 
 use crate::bars::Bars;
 use crate::protection::Protected;
 use hub_glob::PathSpec;
 use hub_path::{Name, RelPath, Root, Side};
-use hub_text::Items;
+use hub_text::{Exact, Items};
 use std::marker::Model;
 
 /// A profile: which roots it synchronizes, and what of them (Unison manual, "Preferences").
@@ -50,7 +50,7 @@ impl Model for Profile {
 }
 
 impl Profile {
-    ghost use Rattle.hub_profile.specs.Parts.{IsProfile};
+    ghost use Rattle.hub_profile.specs.Parts.{IsProfile, at_side, has_root};
 
     /// The profile's name.
     pub fn name(&self) -> &Name
@@ -65,6 +65,24 @@ impl Profile {
         ensures valid { IsProfile self.now }
     {
         &self.roots
+    }
+
+    /// The root of that side.
+    pub fn root(&self, side: Side) -> &Root
+        ensures value { at_side self.now.roots side ≡ Some result.now }
+        ensures valid { IsProfile self.now }
+    {
+        match side {
+            Side::Left => &self.roots[0],
+            Side::Right => &self.roots[1],
+        }
+    }
+
+    /// Returns whether this is the left or the right root.
+    pub fn has_root(&self, root: &Root) -> bool
+        ensures { result ≡ has_root self.now root.now }
+    {
+        self.roots.iter().any(|own| own == root)
     }
 
     /// The kept values in the order of their lines: only these paths, and what is below them, are synchronized.
@@ -113,4 +131,46 @@ impl Profile {
     {
         &self.protected.bars
     }
+}
+
+/// Profiles are equal if all that they say is.
+impl PartialEq for Profile {
+    ghost use Rattle.std.specs.Cmp.{decided, partial_equiv_from_equiv};
+    ghost use Rattle.hub_path.specs.contracts.side.SideExact.TheImpl.Laws as side;
+    ghost use Rattle.hub_glob.specs.contracts.path_spec.PathSpecExact.TheImpl.Laws as spec;
+    ghost use Rattle.hub_profile.specs.Exact.{parts_eq, parts_exact, bars_exact};
+
+    ghost eq = { parts_eq ⟦<PathSpec as PartialEq>⟧.eq ⟦<Side as PartialEq>⟧.eq
+        ⟦<Bars as PartialEq>⟧.eq };
+
+    ghost laws = { partial_equiv_from_equiv
+        (decided _ (parts_exact spec.exact-law side.exact-law bars_exact)) };
+
+    fn eq(&self, other: &Profile) -> bool {
+        self.name == other.name
+            && self.roots.as_slice() == other.roots.as_slice()
+            && self.paths == other.paths
+            && self.ignore == other.ignore
+            && self.ignorenot == other.ignorenot
+            && self.protected.force == other.protected.force
+            && self.protected.prefer == other.protected.prefer
+            && self.protected.bars.as_slice() == other.protected.bars.as_slice()
+    }
+}
+
+impl Eq for Profile {
+    ghost use Rattle.std.specs.Cmp.{decided};
+    ghost use Rattle.hub_path.specs.contracts.side.SideExact.TheImpl.Laws as side;
+    ghost use Rattle.hub_glob.specs.contracts.path_spec.PathSpecExact.TheImpl.Laws as spec;
+    ghost use Rattle.hub_profile.specs.Exact.{parts_exact, bars_exact};
+
+    ghost laws = { decided _ (parts_exact spec.exact-law side.exact-law bars_exact) };
+}
+
+impl Exact for Profile {
+    ghost use Rattle.hub_path.specs.contracts.side.SideExact.TheImpl.Laws as side;
+    ghost use Rattle.hub_glob.specs.contracts.path_spec.PathSpecExact.TheImpl.Laws as spec;
+    ghost use Rattle.hub_profile.specs.Exact.{parts_exact, bars_exact};
+
+    ghost exact = { parts_exact spec.exact-law side.exact-law bars_exact };
 }

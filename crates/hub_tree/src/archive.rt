@@ -6,7 +6,7 @@ ghost use Rattle.hub_tree.specs.Tree as tree;
 
 use crate::contents::Mark;
 use hub_path::RelPath;
-use hub_text::Items;
+use hub_text::{Items, is_equal};
 use std::alloc::{AllocError, Global};
 use std::collections::BTreeMap;
 use std::collections::btree_map::Iter;
@@ -174,16 +174,9 @@ fn have_same_marks(marks: &BTreeMap<RelPath, Mark>, others: &BTreeMap<RelPath, M
         if path != other_path {
             return false;
         }
-        if !are_equal(mark, other) {
+        if !is_equal(mark, other) {
             return false;
         }
     }
     rest.next().is_none()
-}
-
-/// Whether both marks are the same.
-fn are_equal(mark: &Mark, other: &Mark) -> bool
-    ensures { IsTrue result ↔ (mark.now ≡ other.now) }
-{
-    mark == other
 }

@@ -1,6 +1,7 @@
 ghost use Rattle.std.specs.Prelude.{◌≡◌, IfOk};
 ghost use Rattle.sha2.specs.Sha256.{sha256};
 
+use hub_text::Exact;
 use sha2::{Digest, Sha256};
 use std::alloc::AllocError;
 use std::marker::Model;
@@ -75,6 +76,35 @@ impl Blob {
         let shared = Arc::try_clone(&self.shared)?;
         Ok(Blob { shared })
     }
+}
+
+/// Blobs are equal if their bytes are. The digests aren't compared.
+impl PartialEq for Blob {
+    ghost use Rattle.std.specs.Prelude.{nat_eq};
+    ghost use Rattle.std.proofs.Common.{rules};
+    ghost use Rattle.std.specs.Cmp.Rules.{comparing};
+    ghost use Rattle.std.specs.Cmp.Lexicographic.{pointwise};
+
+    ghost eq = { pointwise nat_eq };
+
+    ghost laws = { Prim.search (comparing, rules) };
+
+    fn eq(&self, other: &Blob) -> bool {
+        self.bytes() == other.bytes()
+    }
+}
+
+impl Eq for Blob {
+    ghost use Rattle.std.proofs.Common.{rules};
+    ghost use Rattle.std.specs.Cmp.Rules.{comparing};
+
+    ghost laws = { Prim.search (comparing, rules) };
+}
+
+impl Exact for Blob {
+    ghost use Rattle.hub_text.specs.Exact.{items_exact, nat_exact};
+
+    ghost exact = { items_exact nat_exact };
 }
 
 impl Digested {

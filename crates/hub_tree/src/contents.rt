@@ -2,10 +2,11 @@ ghost use Rattle.std.specs.Prelude.{◌≡◌, IfOk, List, ℕ};
 ghost use Rattle.hub_tree.specs.Tree.{IsBytes, IsDigest, mark_of};
 
 use crate::blob::Blob;
+use hub_text::Exact;
 use std::alloc::AllocError;
 
 /// The contents of a path of a replica.
-#[derive(Debug, Drop)]
+#[derive(Debug, Drop, PartialEq, Eq)]
 pub enum Contents {
     /// A file with these bytes.
     File(Blob),
@@ -68,6 +69,22 @@ impl Mark {
             is_digest(digest);
         }
     }
+}
+
+impl Exact for Contents {
+    ghost use Rattle.hub_text.specs.Exact.{variants_exact, no_field, last_field, items_exact, nat_exact};
+    ghost use Rattle.hub_tree.specs.contracts.contents.Contents.{enum};
+
+    ghost exact = { variants_exact enum _
+        (last_field (items_exact nat_exact), (no_field, (no_field, tt))) };
+}
+
+impl Exact for Mark {
+    ghost use Rattle.hub_text.specs.Exact.{variants_exact, no_field, last_field, items_exact, nat_exact};
+    ghost use Rattle.hub_tree.specs.contracts.contents.Mark.{enum};
+
+    ghost exact = { variants_exact enum _
+        (last_field (items_exact nat_exact), (no_field, (no_field, tt))) };
 }
 
 /// Does nothing: bytes are below 256.

@@ -1,3 +1,4 @@
+use hub_text::Exact;
 use std::alloc::{AllocError, AllocFailed};
 use thiserror::Error;
 
@@ -41,4 +42,11 @@ impl<T: Drop> From<AllocFailed<T>> for SetFault {
     fn from(_: AllocFailed<T>) -> Self {
         SetFault::OutOfMemory
     }
+}
+
+impl Exact for SetFault {
+    ghost use Rattle.hub_text.specs.Exact.{tags_exact};
+    ghost use Rattle.hub_tree.specs.contracts.fault.SetFault.{enum};
+
+    ghost exact = { tags_exact enum tt };
 }

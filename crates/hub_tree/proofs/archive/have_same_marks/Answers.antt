@@ -21,11 +21,11 @@ returns-then-ne-clause-same c =
     (p, c.in-Some.mark.now) (q, c.in-Some-next.other.now) c.loop-path.invariant c.in-Some.ensures.steps c.in-Some-next.ensures.steps
     (λ e. unequal (path_eq p q) (p ≡ q) (slice_eq-Decides name_eq-decides p q (path_eq p q) refl).1 (sym c.ne.ensures ∙ c.if-ne.true) (ap (λ (x : Path × Mark). x.0) e)))
 
-pub returns-then-not-are_equal-clause-same : goal.returns-then-not-are_equal-clause-same
-returns-then-not-are_equal-clause-same c =
+pub returns-then-not-is_equal-clause-same : goal.returns-then-not-is_equal-clause-same
+returns-then-not-is_equal-clause-same c =
     refuted _ (other_items c.args.marks.now.entries c.args.others.now.entries c.loop-path.path-iterator c.loop-path.rest c.next.new.self c.next-in-loop-path.new.self
     (c.in-Some.path.now, c.in-Some.mark.now) (c.in-Some-next.other_path.now, c.in-Some-next.other.now) c.loop-path.invariant c.in-Some.ensures.steps c.in-Some-next.ensures.steps
-    (λ e. false≢true (sym c.if-not-are_equal.true ∙ c.are_equal.ensures.1 (ap (λ (x : Path × Mark). x.1) e))))
+    (λ e. false≢true (sym c.if-not-is_equal.true ∙ c.is_equal.ensures.1 (ap (λ (x : Path × Mark). x.1) e))))
 
 pub loop-path-preserved : goal.loop-path-preserved
 loop-path-preserved c =
@@ -35,7 +35,7 @@ loop-path-preserved c =
     let same : p ≡ q = (slice_eq-Decides name_eq-decides p q (path_eq p q) refl).0 (equal (path_eq p q) (sym c.ne.ensures ∙ c.if-ne.false)) in
     one_less c.args.marks.now.entries c.args.others.now.entries c.loop-path.path-iterator c.loop-path.rest c.next.new.self c.next-in-loop-path.new.self
     (p, m) (q, c.in-Some-next.other.now) c.loop-path.invariant c.in-Some.ensures.steps c.in-Some-next.ensures.steps
-    (ap (λ (x : Path). (x, m)) same ∙ ap (λ (x : Mark). (q, x)) (c.are_equal.ensures.0 c.if-not-are_equal.false))
+    (ap (λ (x : Path). (x, m)) same ∙ ap (λ (x : Mark). (q, x)) (c.is_equal.ensures.0 c.if-not-is_equal.false))
 
 pub returns-clause-same : goal.returns-clause-same
 returns-clause-same c =

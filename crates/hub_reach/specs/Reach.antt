@@ -1,10 +1,11 @@
 -- Which paths a profile reaches, and which changes it may make where.
 use Rattle.std.specs.Prelude.{Bool, not, ◌&&◌, ◌||◌, IsTrue}
 use Rattle.std.specs.List.{list_any}
-use Rattle.hub_path.specs.Path.{Path, path_eq, is_over, is_path, prefixes}
+use Rattle.hub_path.specs.Path.{Path, is_over, is_path, prefixes}
 use Rattle.hub_path.specs.declared.side.Side.{Side}
 use Rattle.hub_path.specs.declared.side.Side.TheVariants.{Left, Right}
 use Rattle.hub_glob.specs.Glob.{matches}
+pub use Rattle.hub_profile.specs.Parts.{has_root}
 use Rattle.hub_profile.specs.Parts.{Parts, some_passes, at_side, is_root_at}
 use Rattle.hub_profile.specs.declared.bars.Bars.{Bars}
 use Rattle.hub_profile.specs.declared.verb.Verb.{Verb}
@@ -53,9 +54,6 @@ may P r verb = not (is_forced_root P r || is_barred P r verb)
 -- The same at a path of the root.
 abbrev pub may_at : Parts → Path → Path → Verb → Bool
 may_at P r p verb = may P r verb
-
-abbrev pub has_root : Parts → Path → Bool
-has_root P r = list_any (λ own. path_eq own r) P.roots
 
 -- A profile writes at its root if some change is allowed there.
 abbrev pub writes : Parts → Path → Bool

@@ -1,5 +1,5 @@
 //! Which changes a profile may make, and where it writes.
-ghost use Rattle.std.specs.Prelude.{◌≡◌, ◌||◌, Some};
+ghost use Rattle.std.specs.Prelude.{◌≡◌, ◌||◌};
 ghost use Rattle.hub_profile.specs.Parts.{some_passes, at_side, is_root_at};
 ghost use Rattle.hub_profile.specs.declared.verb.Verb.TheVariants.{Create, Update, Delete};
 ghost use Rattle.hub_reach.specs.Reach as reach;
@@ -21,13 +21,7 @@ pub fn may(profile: &Profile, root: &Root, verb: Verb) -> bool
 pub fn writes(profile: &Profile, root: &Root) -> bool
     ensures { result ≡ reach.writes profile.now root.now }
 {
-    has_root(profile, root) && may_change(profile, root)
-}
-
-fn has_root(profile: &Profile, root: &Root) -> bool
-    ensures { result ≡ reach.has_root profile.now root.now }
-{
-    profile.roots().iter().any(|own| own == root)
+    profile.has_root(root) && may_change(profile, root)
 }
 
 /// Whether some change is allowed at the root.
@@ -69,17 +63,7 @@ fn is_barred_at(profile: &Profile, root: &Root, verb: Verb, side: Side) -> bool
 fn is_root_at(profile: &Profile, root: &Root, side: Side) -> bool
     ensures { result ≡ is_root_at profile.now root.now side }
 {
-    root == root_at(profile, side)
-}
-
-/// Borrows the root of that side.
-fn root_at(profile: &Profile, side: Side) -> &Root
-    ensures { at_side profile.now.roots side ≡ Some result.now }
-{
-    match side {
-        Side::Left => &profile.roots()[0],
-        Side::Right => &profile.roots()[1],
-    }
+    root == profile.root(side)
 }
 
 /// Whether the bars of that side forbid the change.

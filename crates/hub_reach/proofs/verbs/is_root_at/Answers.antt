@@ -4,4 +4,4 @@ use Rattle.hub_profile.specs.Parts.{some_passes}
 use Rattle.hub_reach.proofs.verbs.is_root_at.Goals as goal
 
 pub returns : goal.returns
-returns c = c.eq.ensures ∙ ap (some_passes (path_eq c.args.root.now)) (sym c.root_at.ensures)
+returns c = c.eq.ensures ∙ ap (some_passes (path_eq c.args.root.now)) (sym c.root.ensures.value)

@@ -1,5 +1,5 @@
 //! The bytes of an input, in bounded reads.
-ghost use Rattle.std.specs.Prelude.{◌≡◌, ◌≤◌, length, false, IfOk, IfSome, IsErrOf};
+ghost use Rattle.std.specs.Prelude.{◌≡◌, ◌+◌, ◌≤◌, length, false, true, IfOk, IfSome, IsErrOf, OnOk};
 ghost use Rattle.hub_bundle.specs.Input.{says_read_failed};
 
 use hub_text::Watched;
@@ -40,9 +40,10 @@ impl From<AllocError> for InputFault {
 
 /// Reads all bytes of the input, in reads of at most `READ_BYTES` bytes.
 ///
-/// Returns `ReadFailed` exactly when a read failed, and reads no further then. Returns `TurnsSpent` if `READ_TURNS` reads
-/// did not reach the end: such an input has at least `READ_TURNS` bytes. Returns `OutOfMemory` if there is no memory for the
-/// bytes. After a fault, the input is where the last read left it.
+/// Returns `ReadFailed` exactly when a read failed, and reads no further then. Returns `TurnsSpent` only if `READ_TURNS` reads
+/// were made and none of them met the end: such an input has at least `READ_TURNS` bytes. Returns `OutOfMemory` if there is no
+/// memory for the bytes. Returns the bytes only if a read met the end. So for an input that never ends, the result is a fault.
+/// After a fault, the input is where the last read left it.
 pub fn read_input<R: Read>(alloc: Global, input: &mut Watched<R>) -> Result<Vec<u8>, InputFault>
     requires { input.old.failed ≡ false }
     ensures whole { IfOk result (λ v. IfSome (R.remaining input.old.device)
@@ -50,6 +51,11 @@ pub fn read_input<R: Read>(alloc: Global, input: &mut Watched<R>) -> Result<Vec<
     ensures turns_spent { IsErrOf result InputFault.TurnsSpent
         → IfSome (R.remaining input.old.device) (λ bytes. READ_TURNS ≤ length bytes) }
     ensures failed { input.new.failed ≡ says_read_failed result }
+    ensures at_end { OnOk result (input.new.at_end ≡ true) }
+    ensures reads { IsErrOf result InputFault.TurnsSpent
+        → input.new.reads ≡ input.old.reads + READ_TURNS }
+    ensures no_end { IsErrOf result InputFault.TurnsSpent
+        → input.new.at_end ≡ input.old.at_end }
 {
     read_turns(alloc, input, READ_TURNS)
 }
@@ -66,6 +72,11 @@ fn read_turns<R: Read>(
     ensures turns_spent { IsErrOf result InputFault.TurnsSpent
         → IfSome (R.remaining input.old.device) (λ bytes. turns ≤ length bytes) }
     ensures failed { input.new.failed ≡ says_read_failed result }
+    ensures at_end { OnOk result (input.new.at_end ≡ true) }
+    ensures reads { IsErrOf result InputFault.TurnsSpent
+        → input.new.reads ≡ input.old.reads + turns }
+    ensures no_end { IsErrOf result InputFault.TurnsSpent
+        → input.new.at_end ≡ input.old.at_end }
 {
     let mut bytes = Vec::new(alloc);
     let mut buffer = [0; READ_BYTES];

@@ -1,6 +1,5 @@
 //! What becomes of an item.
-ghost use Rattle.std.specs.Prelude.{◌≡◌, ◌∷◌, IfOk, Some};
-ghost use Rattle.hub_profile.specs.Parts.{at_side};
+ghost use Rattle.std.specs.Prelude.{◌≡◌, ◌∷◌, IfOk};
 ghost use Rattle.hub_reconcile.specs.Fates as fates;
 ghost use Rattle.hub_reconcile.specs.Items as spec;
 ghost use Rattle.hub_reconcile.specs.Rows as spec_rows;
@@ -13,8 +12,7 @@ use crate::marks::{is_folder, verb_of};
 use crate::parent::has_parent;
 use crate::picture::Picture;
 use crate::row::Row;
-use crate::side::other;
-use hub_path::{Root, Side};
+use hub_path::Side;
 use hub_profile::Profile;
 use hub_reach::may;
 use hub_tree::Mark;
@@ -45,7 +43,7 @@ fn fate_from(picture: &Picture, item: &Row, below: &[Row], from: Side) -> Result
     if is_blocked(item, below, from) {
         return Ok(Fate::Skip(Reason::Blocked));
     }
-    let to = other(from);
+    let to = from.other();
     if has_parent(picture, to, item.path)? {
         Ok(Fate::To(to))
     } else {
@@ -118,18 +116,8 @@ fn bars_below(profile: &Profile, row: &Row, from: Side) -> bool
 fn bars(profile: &Profile, row: &Row, from: Side, mark: Mark) -> bool
     ensures { result ≡ fates.bars profile.now from row.now mark }
 {
-    let to = other(from);
-    !may(profile, root_at(profile, to), verb_of(row.mark(to), mark))
-}
-
-/// Borrows the profile's root of that side.
-fn root_at(profile: &Profile, side: Side) -> &Root
-    ensures { at_side profile.now.roots side ≡ Some result.now }
-{
-    match side {
-        Side::Left => &profile.roots()[0],
-        Side::Right => &profile.roots()[1],
-    }
+    let to = from.other();
+    !may(profile, profile.root(to), verb_of(row.mark(to), mark))
 }
 
 /// Whether some change of the item removes or replaces a directory that has children that aren't reached.
@@ -158,6 +146,6 @@ fn blocks_below(row: &Row, from: Side) -> bool
 fn blocks(row: &Row, from: Side, mark: Mark) -> bool
     ensures { result ≡ fates.blocks from row.now mark }
 {
-    let seen = row.seen(other(from));
+    let seen = row.seen(from.other());
     is_folder(seen.mark) && !is_folder(mark) && seen.others
 }

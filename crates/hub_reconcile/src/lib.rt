@@ -26,7 +26,6 @@ mod parent;
 mod picture;
 mod reconcile;
 mod row;
-mod side;
 mod table;
 
 pub use change::Change;

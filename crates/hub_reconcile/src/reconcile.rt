@@ -12,7 +12,6 @@ use crate::change::Change;
 use crate::item::{Fate, Item};
 use crate::picture::Picture;
 use crate::row::Row;
-use crate::side::other;
 use crate::table::table;
 use hub_path::Side;
 use hub_text::Items;
@@ -99,7 +98,7 @@ fn push_changes(changes: &mut Vec<Change>, block: &Block) -> Result<(), AllocErr
     ensures { OnOk result (changes.new.items ≡ changes.old.items ++ parts.block_changes block.now) }
 {
     match block.fate {
-        Some(Fate::To(to)) => push_item(changes, block.first, block.below, other(to)),
+        Some(Fate::To(to)) => push_item(changes, block.first, block.below, to.other()),
         Some(Fate::Skip(_)) => Ok(()),
         None => Ok(()),
     }
@@ -157,7 +156,7 @@ fn change_to(row: &Row, from: Side, mark: Mark) -> Result<Change, AllocError>
 {
     let path = row.path.copy()?;
     Ok(Change {
-        side: other(from),
+        side: from.other(),
         path,
         mark,
     })
@@ -205,7 +204,7 @@ fn new_mark(row: &Row, fate: Option<Fate>) -> Mark
     ensures { result ≡ parts.mark_fated fate row.now }
 {
     match fate {
-        Some(Fate::To(to)) => row.mark(other(to)),
+        Some(Fate::To(to)) => row.mark(to.other()),
         Some(Fate::Skip(_)) => row.old,
         None => row.left.mark,
     }

@@ -3,7 +3,6 @@ ghost use Rattle.std.specs.Prelude.{◌≡◌};
 ghost use Rattle.hub_reconcile.specs.Rows as rows;
 
 use crate::marks::{is_present, is_same};
-use crate::side::other;
 use hub_path::{RelPath, Side};
 use hub_tree::Mark;
 
@@ -65,7 +64,7 @@ impl Row<'_> {
     pub fn goes(&self, from: Side) -> bool
         ensures { result ≡ rows.is_going from self.now }
     {
-        is_present(self.mark(other(from))) && !is_present(self.mark(from))
+        is_present(self.mark(from.other())) && !is_present(self.mark(from))
     }
 
     /// Whether the path comes from this side: it has something there.

@@ -24,6 +24,7 @@ pub mod laws;
 mod line;
 mod reader;
 mod state;
+mod unmarked;
 mod writer;
 
 pub use fault::{Fault, StateFault};

@@ -1,11 +1,12 @@
 ghost use Rattle.std.specs.Prelude.{◌≡◌, ◌≢◌, [], ◌∷◌, length, string_bytes, IfOk, OnOk, OnErr};
-ghost use Rattle.std.specs.Option.{option_map};
+ghost use Rattle.std.specs.Option.{option_map, unwrap_or};
 ghost use Rattle.std.specs.BTreeMap.{insert_entry};
 ghost use Rattle.std.specs.FinMap as fin;
 ghost use Rattle.std.specs.String.{string_cmp};
 ghost use Rattle.hub_state.specs.State as spec;
 ghost use Rattle.hub_state.specs.View.{by_text, by_two, map_in, pairs_in};
 
+use crate::unmarked::Unmarked;
 use hub_path::{RelPath, Root};
 use hub_tree::{Archive, Tree};
 use std::alloc::{AllocError, Global};
@@ -15,12 +16,14 @@ use std::marker::Model;
 /// Replicas by root, and archives by unordered pair of roots.
 ///
 /// The maps have the texts of the roots as keys, in the order of their bytes. The archives of a pair are under the
-/// smaller text, and there under the other one.
+/// smaller text, and there under the other one. Contracts don't see the archive that is borrowed in place of one that
+/// isn't there.
 #[derive(Drop)]
 pub struct State {
     alloc: Global,
     replicas: BTreeMap<String, Tree>,
     archives: BTreeMap<String, BTreeMap<String, Archive>>,
+    unmarked: Unmarked,
 }
 
 impl Model for State {
@@ -47,6 +50,7 @@ impl State {
             alloc,
             replicas: BTreeMap::new(alloc),
             archives: BTreeMap::new(alloc),
+            unmarked: Unmarked::new(alloc),
         }
     }
 
@@ -58,6 +62,7 @@ impl State {
             alloc: self.alloc,
             replicas: copies_of_replicas(self.alloc, &self.replicas)?,
             archives: copies_of_pairs(self.alloc, &self.archives)?,
+            unmarked: Unmarked::new(self.alloc),
         })
     }
 
@@ -76,6 +81,16 @@ impl State {
         let archives = &self.archives;
         let (smaller, larger) = in_order(first.as_str(), second.as_str());
         find_pair(archives, smaller, larger)
+    }
+
+    /// Borrows the archive of the two roots, in either order, or the empty one if there is none.
+    pub fn archive_or_empty(&self, left: &Root, right: &Root) -> &Archive
+        ensures { result.now ≡ unwrap_or (spec.archive_at self.now left.now right.now) fin.empty }
+    {
+        match self.archive(left, right) {
+            Some(archive) => archive,
+            None => self.unmarked.archive(),
+        }
     }
 
     /// Borrows the replicas, under the texts of their roots.

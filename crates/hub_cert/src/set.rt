@@ -240,7 +240,7 @@ fn has_breach(profiles: &[Profile], rules: &[Rule], profile: usize, rule: usize)
         return false;
     }
     let forbidden = &rules[rule];
-    has_root(&profiles[profile], &forbidden.root)
+    profiles[profile].has_root(&forbidden.root)
         && may(&profiles[profile], &forbidden.root, forbidden.verb)
 }
 
@@ -248,11 +248,9 @@ fn has_breach(profiles: &[Profile], rules: &[Rule], profile: usize, rule: usize)
 fn share_place(writer: &Profile, other: &Profile, place: Place) -> bool
     ensures { result ≡ shares writer.now other.now place }
 {
-    let roots = writer.roots();
     match place {
-        Place::Replica(Side::Left) => shares_root(writer, other, &roots[0]),
-        Place::Replica(Side::Right) => shares_root(writer, other, &roots[1]),
-        Place::Archive => roots.iter().all(|root| has_root(other, root)),
+        Place::Replica(side) => shares_root(writer, other, writer.root(side)),
+        Place::Archive => writer.roots().iter().all(|root| other.has_root(root)),
     }
 }
 
@@ -260,11 +258,5 @@ fn share_place(writer: &Profile, other: &Profile, place: Place) -> bool
 fn shares_root(writer: &Profile, other: &Profile, root: &Root) -> bool
     ensures { result ≡ (writes writer.now root.now && has_root other.now root.now) }
 {
-    writes(writer, root) && has_root(other, root)
-}
-
-fn has_root(profile: &Profile, root: &Root) -> bool
-    ensures { result ≡ has_root profile.now root.now }
-{
-    profile.roots().iter().any(|own| own == root)
+    writes(writer, root) && other.has_root(root)
 }

@@ -1,5 +1,5 @@
 -- Worked examples.
-use Rattle.std.specs.Prelude.{⊤, ◌≡◌, ℕ, false, T, List, [], ◌∷◌, ◌++◌, length, map, refl, codes, None}
+use Rattle.std.specs.Prelude.{⊤, ◌≡◌, ℕ, true, false, T, List, [], ◌∷◌, ◌++◌, length, map, refl, codes, None}
 use Rattle.std.specs.FinMap.{get-from_sorted, entries-from_sorted, is_sorted, from_sorted}
 use Rattle.hub_path.specs.Path.{Path, path_of, path_cmp}
 use Rattle.hub_path.specs.declared.side.Side.{Side}
@@ -20,7 +20,7 @@ use Rattle.hub_glob.specs.Glob.{matches}
 use Rattle.hub_reach.specs.Reach.{reach}
 use Rattle.hub_reconcile.specs.Sight.{sight}
 use Rattle.hub_reconcile.specs.Items.{items, plan}
-use Rattle.hub_job.specs.Machine.{answer, after}
+use Rattle.hub_job.specs.Machine.{answer, after, takes_memory}
 use Rattle.hub_job.specs.Job.{next}
 use Rattle.hub_job.specs.World.{Jobs, opening, turn, run, first_turns}
 
@@ -72,6 +72,9 @@ the_parent_of_a_kept_value_is_told_as_a_directory = refl
 what_is_not_reached_is_told_as_nothing : answer one (kept (codes "docs/x")) hub (Look []) ≡ Seen mark.Absent [] false
 unfolding computed
 what_is_not_reached_is_told_as_nothing = refl
+
+names_and_bytes_take_memory : map takes_memory (Seen mark.Directory [] false ∷ Bytes [] ∷ Done ∷ Refused NoParent ∷ []) ≡ true ∷ true ∷ false ∷ false ∷ []
+names_and_bytes_take_memory = refl
 
 -- `path = p/q`: the first Look is at its parent, on the left.
 the_first_look_is_at_the_parent : next (kept (codes "p/q")) (from_sorted {R = path_cmp} none) [] ≡ Ask Left (Look (path_of (codes "p")))

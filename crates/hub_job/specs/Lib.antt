@@ -5,6 +5,7 @@ pub mod Run
 pub mod Alike
 pub mod Same
 pub mod Coded
+pub mod Exact
 pub mod Waiting
 pub mod Phase
 pub mod JobValue

@@ -1,10 +1,11 @@
-ghost use Rattle.std.specs.Prelude.{◌≡◌, ◌↔◌, IsTrue};
-ghost use Rattle.hub_job.specs.Machine.{Fits};
+ghost use Rattle.std.specs.Prelude.{◌≡◌, ◌↔◌, IfOk, IsTrue, OnErr};
+ghost use Rattle.hub_job.specs.Machine.{Fits, takes_memory};
 
 use crate::op::Op;
 use hub_path::Name;
 use hub_text::Items;
 use hub_tree::{Blob, Mark};
+use std::alloc::{AllocError, Global};
 
 /// Why an operation is refused: the first of these that applies. A `Fetch` knows `NoFile` alone, and a `Set` the others.
 #[derive(Clone, Copy, Debug, PartialEq, Eq)]
@@ -22,7 +23,7 @@ pub enum OpFault {
 }
 
 /// What a replica answers to an operation.
-#[derive(Debug, Drop)]
+#[derive(Debug, Drop, PartialEq, Eq)]
 pub enum Answer {
     /// To a `Look`.
     Seen {
@@ -42,6 +43,27 @@ pub enum Answer {
 }
 
 impl Answer {
+    /// Copies the answer. Only names and bytes allocate.
+    pub fn copy(&self) -> Result<Answer, AllocError>
+        ensures ok { IfOk result (λ a. a ≡ self.now) }
+        ensures err { OnErr result (IsTrue (takes_memory self.now)) }
+    {
+        match self {
+            Answer::Seen {
+                mark,
+                names,
+                others,
+            } => Ok(Answer::Seen {
+                mark: *mark,
+                names: copies(names.alloc(), names.as_slice())?,
+                others: *others,
+            }),
+            Answer::Bytes(file) => Ok(Answer::Bytes(file.copy()?)),
+            Answer::Done => Ok(Answer::Done),
+            Answer::Refused(fault) => Ok(Answer::Refused(*fault)),
+        }
+    }
+
     /// Returns whether the answer is of a kind that fits the operation: `Seen` fits a `Look`, `Bytes` and `Refused` a
     /// `Fetch`, `Done` and `Refused` a `Set`.
     pub fn fits(&self, op: &Op) -> bool
@@ -53,4 +75,15 @@ impl Answer {
             Op::Set(_, _) => matches!(self, Answer::Done | Answer::Refused(_)),
         }
     }
+}
+
+/// Copies names.
+fn copies(alloc: Global, names: &[Name]) -> Result<Items<Name>, AllocError>
+    ensures { IfOk result (λ ns. ns ≡ names.now) }
+{
+    let mut copies = Vec::with_capacity(alloc, names.len())?;
+    for name in names {
+        copies.push(name.copy()?)?;
+    }
+    Ok(Items::from_vec(copies))
 }

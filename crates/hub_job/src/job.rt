@@ -1,5 +1,5 @@
 //! Jobs.
-ghost use Rattle.std.specs.Prelude.{◌≡◌, true, false, ◌≢◌, ◌<◌, ℕ, [], IfOk, IfSome, IsOk, OnOk};
+ghost use Rattle.std.specs.Prelude.{◌≡◌, true, false, ◌≢◌, ◌<◌, ◌↔◌, ℕ, [], IfOk, IfSome, IsOk, IsTrue, OnOk};
 ghost use Rattle.std.specs.Vec.{vec_len, vec_capacity};
 ghost use Rattle.hub_job.specs.Ends as ends;
 ghost use Rattle.hub_job.specs.JobValue as value;
@@ -20,7 +20,7 @@ use crate::op::Next;
 use crate::phase::{Phase, next_of};
 use crate::planned::ending;
 use hub_profile::Profile;
-use hub_text::Items;
+use hub_text::{Items, is_equal};
 use hub_tree::Archive;
 use std::alloc::{AllocError, Global};
 use std::marker::Model;
@@ -182,6 +182,14 @@ impl<'a> Job<'a> {
         ensures { result.now ≡ self.now.archive }
     {
         self.archive
+    }
+
+    /// Returns whether the job was made for this profile and this archive.
+    pub fn made_for(&self, profile: &Profile, archive: &Archive) -> bool
+        ensures { IsTrue result
+            ↔ ((self.now.profile ≡ profile.now) × (self.now.archive ≡ archive.now)) }
+    {
+        is_equal(self.profile, profile) && self.archive.same(archive)
     }
 
     /// Returns the job's number, which each entry of its log has.

@@ -13,6 +13,7 @@
 
 mod answer;
 mod asked;
+mod exact;
 mod job;
 mod job_end;
 pub mod laws;

@@ -1,7 +1,6 @@
 //! The steps of a job after its Looks.
 ghost use Rattle.std.specs.Prelude.{◌≡◌, ◌≤◌, false, [], ◌∷◌, ◌++◌, length, IfOk, IsOk, OnOk};
 ghost use Rattle.std.specs.List.{flat_map};
-ghost use Rattle.hub_reconcile.specs.Items as of_items;
 ghost use Rattle.hub_job.specs.Job as spec;
 ghost use Rattle.hub_job.specs.Phase.{last_refused, next_step};
 
@@ -9,7 +8,6 @@ use crate::answer::Answer;
 use crate::log::Logged;
 use crate::op::Next;
 use crate::step::Step;
-use hub_path::Side;
 use hub_reconcile::Change;
 use hub_text::Items;
 use hub_tree::Mark;
@@ -81,7 +79,7 @@ fn push_steps(steps: &mut Vec<Step>, change: Change) -> Result<(), AllocError>
     let Change { side, path, mark } = change;
     if let Mark::File(_) = mark {
         steps.push(Step {
-            side: other(side),
+            side: side.other(),
             path: path.copy()?,
             fetches: true,
             mark,
@@ -94,14 +92,4 @@ fn push_steps(steps: &mut Vec<Step>, change: Change) -> Result<(), AllocError>
         mark,
     })?;
     Ok(())
-}
-
-/// Returns the other side.
-fn other(side: Side) -> Side
-    ensures { result ≡ of_items.other side }
-{
-    match side {
-        Side::Left => Side::Right,
-        Side::Right => Side::Left,
-    }
 }

@@ -12,9 +12,9 @@ use Rattle.hub_job.specs.declared.answer.Answer.TheVariants.{Seen, Bytes, Done, 
 use Rattle.hub_job.specs.declared.log.Entry.{Entry}
 use Rattle.hub_job.specs.declared.op.Op.{Op}
 use Rattle.hub_job.specs.declared.op.Op.TheVariants.{Look, Fetch, Set}
-use Rattle.hub_job.specs.Machine.{answer, after, Fits}
+use Rattle.hub_job.specs.Machine.{answer, after, takes_memory, Fits}
 use Rattle.hub_job.specs.History.{replay, IsAnswerOf, IsLegal}
-use Rattle.hub_history.specs.Book.{BookValue, IsBook, has_job, entry_of, takes_memory}
+use Rattle.hub_history.specs.Book.{BookValue, IsBook, has_job, entry_of}
 
 -- what takes memory to copy was read, and changed nothing
 pub nothing_changed : (m : Replica) (op : Op) (a : Answer) → Fits op a → IsTrue (takes_memory a) → after m op ≡ m

@@ -1,11 +1,10 @@
 -- A book as contracts see it: the replica of a root, with all that jobs did on it.
-use Rattle.std.specs.Prelude.{◌≡◌, ℕ, Bool, true, false, List, [], ◌∷◌, ◌++◌, slice_get}
+use Rattle.std.specs.Prelude.{◌≡◌, ℕ, Bool, List, [], ◌∷◌, ◌++◌, slice_get}
 use Rattle.hub_path.specs.Path.{Path}
 use Rattle.hub_profile.specs.Parts.{Parts, some_passes}
 use Rattle.hub_reach.specs.Reach.{has_root}
 use Rattle.hub_tree.specs.Tree.{Replica}
 use Rattle.hub_job.specs.declared.answer.Answer.{Answer}
-use Rattle.hub_job.specs.declared.answer.Answer.TheVariants.{Seen, Bytes, Done, Refused}
 use Rattle.hub_job.specs.declared.log.Entry.{Entry}
 use Rattle.hub_job.specs.declared.op.Op.{Op}
 use Rattle.hub_job.specs.Machine.{after}
@@ -39,10 +38,3 @@ entry_of j op a = record { job = j; op = op; answer = a }
 -- The book with one operation more.
 abbrev pub with_entry : BookValue → Entry → BookValue
 with_entry B e = record B { tree = after B.tree e.op; history = B.history ++ e ∷ [] }
-
--- A copy of the answer allocates: names and bytes do.
-abbrev pub takes_memory : Answer → Bool
-takes_memory (Seen m ns o) = true
-takes_memory (Bytes b) = true
-takes_memory Done = false
-takes_memory (Refused f) = false

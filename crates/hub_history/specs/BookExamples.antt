@@ -11,13 +11,13 @@ use Rattle.hub_tree.specs.declared.contents.Contents.TheVariants as contents
 use Rattle.hub_tree.specs.declared.contents.Mark.TheVariants as mark
 use Rattle.hub_job.specs.declared.op.Op.TheVariants.{Look, Set}
 use Rattle.hub_job.specs.declared.answer.OpFault.TheVariants.{NoParent}
-use Rattle.hub_job.specs.declared.answer.Answer.TheVariants.{Seen, Bytes, Done, Refused}
+use Rattle.hub_job.specs.declared.answer.Answer.TheVariants.{Seen, Done, Refused}
 use Rattle.hub_job.specs.declared.log.Entry.{Entry}
 use Rattle.hub_glob.specs.Glob.{matches}
 use Rattle.hub_reach.specs.Reach.{reach}
 use Rattle.hub_reconcile.specs.Sight.{sight}
 use Rattle.hub_job.specs.Machine.{answer, after}
-use Rattle.hub_history.specs.Book.{BookValue, IsBook, entry_of, has_job, new_book, takes_memory, with_entry}
+use Rattle.hub_history.specs.Book.{BookValue, IsBook, entry_of, has_job, new_book, with_entry}
 
 -- What these examples compute.
 computed : ⊤
@@ -55,9 +55,6 @@ one_job_has_the_second_spoke = refl
 
 no_job_has_another_root : jobs_at (path_of (codes "srv")) ≡ false ∷ false ∷ false ∷ []
 no_job_has_another_root = refl
-
-names_and_bytes_take_memory : map takes_memory (Seen mark.Directory [] false ∷ Bytes [] ∷ Done ∷ Refused NoParent ∷ []) ≡ true ∷ true ∷ false ∷ false ∷ []
-names_and_bytes_take_memory = refl
 
 abbrev none : List (Path × Contents)
 none = []

@@ -1,15 +1,13 @@
 ghost use Rattle.std.specs.Prelude.{◌≡◌, ◌↔◌, IfOk, OnErr, IfErr, IsTrue, slice_get};
 ghost use Rattle.hub_job.specs.Machine.{Fits};
-ghost use Rattle.hub_reach.specs.Reach as of_reach;
 ghost use Rattle.hub_job.specs.History.{IsAnswerOf};
 ghost use Rattle.hub_history.specs.Book.{IsBook, entry_of, has_job, new_book, with_entry};
 
-use crate::answers::copy_answer;
-use crate::same::are_same;
 use hub_cert::ProfileSet;
 use hub_job::{Answer, Entry, Op, perform};
 use hub_path::Root;
 use hub_profile::Profile;
+use hub_text::are_equal;
 use hub_tree::Tree;
 use std::alloc::{AllocError, AllocFailed, Global};
 use std::marker::Model;
@@ -93,7 +91,7 @@ impl<'a> Book<'a> {
         self.history.reserve(1)?;
         let profile = &self.profiles[job];
         let answer = perform(self.alloc, profile, &self.root, &mut self.tree, &op)?;
-        let kept = copy_answer(&answer)?;
+        let kept = answer.copy()?;
         let Ok(()) = self.history.push(Entry {
             job,
             op,
@@ -110,7 +108,7 @@ impl<'a> Book<'a> {
         ensures { result ≡ has_job self.now.profiles self.now.root job }
     {
         match self.profiles.get(job) {
-            Some(profile) => has_root(profile, &self.root),
+            Some(profile) => profile.has_root(&self.root),
             None => false,
         }
     }
@@ -119,7 +117,7 @@ impl<'a> Book<'a> {
     pub fn made_for(&self, set: &ProfileSet) -> bool
         ensures { IsTrue result ↔ (self.now.profiles ≡ set.now.profiles) }
     {
-        are_same(self.profiles, set.profiles())
+        are_equal(self.profiles, set.profiles())
     }
 
     /// Borrows the root.
@@ -161,11 +159,4 @@ impl<'a> Book<'a> {
         let Book { tree, .. } = self;
         tree
     }
-}
-
-/// Returns whether the profile has the root.
-fn has_root(profile: &Profile, root: &Root) -> bool
-    ensures { result ≡ of_reach.has_root profile.now root.now }
-{
-    profile.roots().iter().any(|own| own == root)
 }

@@ -5,7 +5,6 @@
 //! - [`Desk`]: a book behind a lock, at which threads [`Desk::step`] one operation at a time.
 //! - [`Seat`]: the right to step at a desk. It counts the steps made with it.
 //! - [`Gate`]: what a caller does around each step.
-//! - [`Same`]: whether two values are the same; [`are_same`] compares lists.
 //!
 //! ```text
 //! let (desk, seats) = Desk::new(alloc, Book::new(alloc, &set, root, tree)?, 2)?;
@@ -23,19 +22,12 @@
 //! Only functions that return a `Result` allocate.
 #![tactic(auto)]
 
-mod answers;
 mod book;
 mod desk;
 mod gate;
-mod same;
-mod same_entry;
-mod same_pattern;
-mod same_profile;
 mod seat;
 
-pub use answers::{copy_answer, copy_entry};
 pub use book::Book;
 pub use desk::{Desk, StepFault, Stranger};
 pub use gate::Gate;
-pub use same::{Same, are_same};
 pub use seat::Seat;

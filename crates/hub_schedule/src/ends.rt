@@ -1,15 +1,12 @@
 //! How the jobs of a schedule end, and what they leave in the state.
-ghost use Rattle.std.specs.Prelude.{◌≡◌, ◌≢◌, false, ◌&&◌, map, fold, unwrap_or, IfOk, OnOk, if◌then◌else◌};
-ghost use Rattle.std.specs.FinMap as fin;
+ghost use Rattle.std.specs.Prelude.{◌≡◌, ◌≢◌, false, ◌&&◌, map, fold, IfOk, OnOk, if◌then◌else◌};
 ghost use Rattle.hub_path.specs.Path.{Path};
 ghost use Rattle.hub_reach.specs.Reach.{reach};
 ghost use Rattle.hub_tree.specs.Tree as of_tree;
-ghost use Rattle.hub_state.specs.State.{archive_at};
 ghost use Rattle.hub_schedule.specs.Left as spec;
 
 use crate::seat::{Seat, WorkingTree};
 use hub_job::JobEnd;
-use hub_path::Root;
 use hub_profile::Profile;
 use hub_reach::reaches;
 use hub_state::State;
@@ -84,7 +81,6 @@ pub(crate) fn put_trees(state: &mut State, trees: Vec<WorkingTree<'_>>) -> Resul
 /// Puts what the jobs leave into the archives of their pairs of roots: at each path the mark of the first finished job that
 /// reaches it. Then each pair of a finished job has an archive. Out of memory may leave some of it there.
 pub(crate) fn put_archives(
-    alloc: Global,
     state: &mut State,
     mut nexts: Vec<NextArchive<'_>>,
 ) -> Result<(), AllocError>
@@ -96,13 +92,13 @@ pub(crate) fn put_archives(
         (spec.HasMarks (spec.mark_from nexts.entry.items) state.old state.new) }
 {
     while let Some(job) = nexts.pop() {
-        put_next(alloc, state, job)?;
+        put_next(state, job)?;
     }
     Ok(())
 }
 
 /// Puts what a job leaves into the archive of its pair of roots.
-fn put_next(alloc: Global, state: &mut State, job: NextArchive<'_>) -> Result<(), AllocError>
+fn put_next(state: &mut State, job: NextArchive<'_>) -> Result<(), AllocError>
     requires { spec.KeepsUnreached job }
     ensures replicas { OnOk result (state.new.replicas ≡ state.old.replicas) }
     ensures archives { OnOk result (spec.HasArchives
@@ -116,14 +112,13 @@ fn put_next(alloc: Global, state: &mut State, job: NextArchive<'_>) -> Result<()
         next,
     } = job;
     match next {
-        Some(next) => put_marks(alloc, state, profile, opening, next),
+        Some(next) => put_marks(state, profile, opening, next),
         None => Ok(()),
     }
 }
 
 /// Puts the marks of the paths that the profile reaches into the archive of its pair of roots.
 fn put_marks(
-    alloc: Global,
     state: &mut State,
     profile: &Profile,
     opening: &Archive,
@@ -138,21 +133,9 @@ fn put_marks(
         (spec.HasMarks (spec.mark_given profile.now next) state.old state.new) }
 {
     let roots = profile.roots();
-    let empty = Archive::new(alloc);
-    let current = archive_or(state, &roots[0], &roots[1], &empty);
+    let current = state.archive_or_empty(&roots[0], &roots[1]);
     let merged = merge_changes(profile, current, opening, next)?;
     state.put_archive(&roots[0], &roots[1], merged)
-}
-
-/// Borrows the archive of two roots, or the empty one.
-fn archive_or<'a>(state: &'a State, left: &Root, right: &Root, empty: &'a Archive) -> &'a Archive
-    requires { empty.now ≡ fin.empty }
-    ensures { result.now ≡ unwrap_or (archive_at state.now left.now right.now) fin.empty }
-{
-    match state.archive(left, right) {
-        Some(archive) => archive,
-        None => empty,
-    }
 }
 
 /// Returns an archive with the marks of the next one at the paths that the profile reaches, and the current marks

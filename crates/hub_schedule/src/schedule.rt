@@ -16,7 +16,6 @@ use crate::turn::{take_rounds, take_turns};
 use hub_job::{Outcome, RunFault};
 use hub_profile::Profile;
 use hub_state::State;
-use hub_tree::Archive;
 use std::alloc::{AllocError, Global};
 
 /// Runs the jobs of profiles by a schedule, as `simulate` does, whether the profiles are a safe set or not.
@@ -72,8 +71,7 @@ fn run_schedule(
     requires numbers { All (λ j. j < length profiles.now) schedule.now }
     ensures { IfOk result (IsSimulated state.now profiles.now schedule.now) }
 {
-    let empty = Archive::new(alloc);
-    let (mut seats, mut trees) = seats_for(alloc, profiles, state, &empty)?;
+    let (mut seats, mut trees) = seats_for(alloc, profiles, state)?;
     take_turns(alloc, &mut seats, &mut trees, schedule);
     outcome_of(alloc, state, seats, trees)
 }
@@ -89,8 +87,7 @@ fn run_in_rounds(
     ensures { IfOk result
         (IsSimulated state.now profiles.now (whole_rounds (length profiles.now) rounds)) }
 {
-    let empty = Archive::new(alloc);
-    let (mut seats, mut trees) = seats_for(alloc, profiles, state, &empty)?;
+    let (mut seats, mut trees) = seats_for(alloc, profiles, state)?;
     take_rounds(alloc, &mut seats, &mut trees, rounds);
     outcome_of(alloc, state, seats, trees)
 }
@@ -110,6 +107,6 @@ pub(crate) fn outcome_of(
     let (jobs, nexts) = end_jobs(alloc, seats)?;
     let mut after = state.copy()?;
     put_trees(&mut after, trees)?;
-    put_archives(alloc, &mut after, nexts)?;
+    put_archives(&mut after, nexts)?;
     Ok(Outcome { state: after, jobs })
 }

@@ -1,6 +1,5 @@
 //! The jobs of profiles, and the replicas that they change.
 ghost use Rattle.std.specs.Prelude.{◌≡◌, ◌⊎◌, ℕ, false, Some, MatchOption, length, slice_get, IfOk, OnOk};
-ghost use Rattle.std.specs.FinMap as fin;
 ghost use Rattle.hub_path.specs.declared.side.Side.TheVariants as of_side;
 ghost use Rattle.hub_schedule.specs.declared.seat.WorkingTree.{WorkingTree};
 ghost use Rattle.hub_job.specs.Outcome.{archive_of, jobs_of, replicas_of};
@@ -10,21 +9,19 @@ ghost use Rattle.hub_job.specs.World.{opening};
 
 use crate::seat::{Seat, WorkingTree};
 use hub_job::Job;
-use hub_path::Root;
+use hub_path::{Root, Side};
 use hub_profile::Profile;
 use hub_state::State;
 use hub_tree::{Archive, Tree};
 use std::alloc::{AllocError, Global};
 
 /// Makes the jobs of the profiles, by number, and a working copy of each replica that they have. A replica that the state
-/// lacks is empty, and so is an archive: `empty` is lent in its place.
+/// lacks is empty, and so is an archive.
 pub(crate) fn seats_for<'a>(
     alloc: Global,
     profiles: &'a [Profile],
     state: &'a State,
-    empty: &'a Archive,
 ) -> Result<(Vec<Seat<'a>>, Vec<WorkingTree<'a>>), AllocError>
-    requires { empty.now ≡ fin.empty }
     ensures table { IfOk result (λ r. IsTable (jobs_of state.now profiles.now)
         (opening (jobs_of state.now profiles.now) (replicas_of state.now)) r.0.items r.1.items) }
     ensures going { IfOk result (λ r. (j : ℕ) → stopped_at r.0.items j ≡ false) }
@@ -32,7 +29,7 @@ pub(crate) fn seats_for<'a>(
     let mut seats = Vec::new(alloc);
     let mut trees = Vec::new(alloc);
     for profile in profiles {
-        let seat = seat_for(alloc, seats.len(), profile, state, empty, &mut trees)?;
+        let seat = seat_for(alloc, seats.len(), profile, state, &mut trees)?;
         seats.push(seat)?;
     }
     Ok((seats, trees))
@@ -44,11 +41,9 @@ fn seat_for<'a>(
     number: usize,
     profile: &'a Profile,
     state: &'a State,
-    empty: &'a Archive,
     trees: &mut Vec<WorkingTree<'a>>,
 ) -> Result<Seat<'a>, AllocError>
-    requires empty { empty.now ≡ fin.empty }
-    requires trees { AreTrees (replicas_of state.now) trees.old.items }
+    requires { AreTrees (replicas_of state.now) trees.old.items }
     ensures seat { IfOk result (λ s.
         IsNew number profile.now (archive_of state.now (Some profile.now)) s) }
     ensures left { IfOk result
@@ -61,7 +56,7 @@ fn seat_for<'a>(
     let roots = profile.roots();
     let left = place_for(alloc, state, &roots[0], trees)?;
     let right = place_for(alloc, state, &roots[1], trees)?;
-    let job = Job::new(alloc, number, profile, opening_of(profile, state, empty))?;
+    let job = Job::new(alloc, number, profile, opening_of(profile, state))?;
     Ok(Seat { job, left, right })
 }
 
@@ -89,15 +84,10 @@ fn place_for<'a>(
 }
 
 /// Borrows the archive of a profile's two roots, or the empty one.
-fn opening_of<'a>(profile: &Profile, state: &'a State, empty: &'a Archive) -> &'a Archive
-    requires { empty.now ≡ fin.empty }
+fn opening_of<'a>(profile: &Profile, state: &'a State) -> &'a Archive
     ensures { result.now ≡ archive_of state.now (Some profile.now) }
 {
-    let roots = profile.roots();
-    match state.archive(&roots[0], &roots[1]) {
-        Some(archive) => archive,
-        None => empty,
-    }
+    state.archive_or_empty(profile.root(Side::Left), profile.root(Side::Right))
 }
 
 /// Copies the replica of a root. One that the state lacks is empty.

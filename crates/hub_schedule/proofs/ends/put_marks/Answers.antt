@@ -19,5 +19,5 @@ returns-clause-marks c =
     let S = c.args.state.now in
     on_ok c.put_archive.result _ (HasMarks (mark_given P c.args.next) S c.put_archive.new.self)
     (put_at_roots P c.roots-roots.ensures.valid c.roots-roots.result.now c.roots-roots.ensures.value c.index-roots-0.result c.index-roots-1.result c.index-roots-0-2.result c.index-roots-1-2.result
-    S c.args.next c.in_ok-merged.merged c.archive_or-current.result.now c.archive_or-current.ensures c.in_ok-merged.ensures c.put_archive.new.self)
+    S c.args.next c.in_ok-merged.merged c.archive_or_empty-current.result.now c.archive_or_empty-current.ensures c.in_ok-merged.ensures c.put_archive.new.self)
     c.put_archive.ensures.ok

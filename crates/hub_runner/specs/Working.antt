@@ -28,10 +28,15 @@ AreOver jobs = (k : ℕ) (J : JobValue) → slice_get jobs k ≡ Some J → is_o
 abbrev pub AsksFor : JobValue → Op → Type 0
 AsksFor J op = (a : Asked) × (J.asked ≡ Some a) × (a.op ≡ op)
 
--- So many workers may run the jobs of these profiles, and no replica is missing.
-abbrev pub AreWorkers : ℕ → Type 0
-AreWorkers n = (0 < n) × (n ≤ 16)
+-- The most workers.
+abbrev pub WORKERS : ℕ
+WORKERS = 16
 
+-- So many workers may run jobs.
+abbrev pub AreWorkers : ℕ → Type 0
+AreWorkers n = (0 < n) × (n ≤ WORKERS)
+
+-- So many workers may run the jobs of these profiles, and no replica is missing.
 abbrev pub MayRun : State → List Parts → ℕ → Type 0
 MayRun S Ps n = AreWorkers n × (first_missing S Ps ≡ None)
 
@@ -39,7 +44,7 @@ MayRun S Ps n = AreWorkers n × (first_missing S Ps ≡ None)
 -- is refused. Or there is no memory. A stranger and a mismatch are those of settling.
 abbrev pub IsNotRun : State → List Parts → ℕ → RunFault → Type 0
 IsNotRun S Ps n fault.NoWorkers = n ≡ 0
-IsNotRun S Ps n fault.TooManyWorkers = 16 < n
+IsNotRun S Ps n fault.TooManyWorkers = WORKERS < n
 IsNotRun S Ps n (fault.MissingReplica r) = AreWorkers n × (first_missing S Ps ≡ Some r)
 IsNotRun S Ps n (fault.Mismatch r j history log) = MayRun S Ps n
 IsNotRun S Ps n (fault.BadTurn t) = ⊥

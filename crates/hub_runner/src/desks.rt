@@ -6,11 +6,11 @@ use crate::worker::{DeskNumbers, QueuedJob};
 use hub_cert::ProfileSet;
 use hub_history::{Book, Desk, Seat};
 use hub_job::Job;
-use hub_path::Root;
+use hub_path::{Root, Side};
 use hub_profile::Profile;
 use hub_state::State;
 use hub_text::Items;
-use hub_tree::{Archive, Tree};
+use hub_tree::Tree;
 use std::alloc::{AllocError, Global};
 
 /// The desks of roots, by number.
@@ -83,20 +83,20 @@ fn open_desk<'a>(
     }
 }
 
-/// Makes the jobs of the profiles, each with the numbers of the desks of its two roots. A job without desks isn't made. A pair
-/// of roots that the state has no archive for gets the empty one.
+/// Makes the jobs of the profiles, each with the numbers of the desks of its two roots. A job without desks isn't made.
 pub(crate) fn jobs_for<'a>(
     alloc: Global,
     profiles: &'a [Profile],
     state: &'a State,
-    empty: &'a Archive,
     roots: &[Lent<'_, Root>],
 ) -> Result<Vec<QueuedJob<'a>>, AllocError> {
     let mut jobs = Vec::new(alloc);
     for (number, profile) in profiles.iter().enumerate() {
         if let Some(desks) = desks_of(profile, roots) {
-            let own = profile.roots();
-            let archive = state.archive(&own[0], &own[1]).unwrap_or(empty);
+            let archive = state.archive_or_empty(
+                profile.root(Side::Left),
+                profile.root(Side::Right),
+            );
             let job = Job::new(alloc, number, profile, archive)?;
             jobs.push(QueuedJob { job, desks })?;
         }
@@ -106,10 +106,15 @@ pub(crate) fn jobs_for<'a>(
 
 /// Returns the numbers of the desks of a profile's two roots, if both are there.
 fn desks_of(profile: &Profile, roots: &[Lent<'_, Root>]) -> Option<DeskNumbers> {
-    let own = profile.roots();
-    let left = roots.iter().position(|root| root.item() == &own[0])?;
-    let right = roots.iter().position(|root| root.item() == &own[1])?;
-    Some(DeskNumbers { left, right })
+    Some(DeskNumbers {
+        left: desk_of(profile.root(Side::Left), roots)?,
+        right: desk_of(profile.root(Side::Right), roots)?,
+    })
+}
+
+/// Returns the number of a root's desk, if it is there.
+fn desk_of(root: &Root, roots: &[Lent<'_, Root>]) -> Option<usize> {
+    roots.iter().position(|other| other.item() == root)
 }
 
 /// Closes the desks, with the seats of each worker. A desk that can't be closed gives no book.

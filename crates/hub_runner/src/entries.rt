@@ -80,9 +80,5 @@ pub(crate) fn entries_at<'a>(
 fn is_root_at(profile: &Profile, root: &Root, side: Side) -> bool
     ensures { result ≡ of_profile.is_root_at profile.now root.now side }
 {
-    let roots = profile.roots();
-    match side {
-        Side::Left => root == &roots[0],
-        Side::Right => root == &roots[1],
-    }
+    root == profile.root(side)
 }

@@ -1,7 +1,6 @@
-ghost use Rattle.std.specs.Prelude.{◌≡◌, ◌↔◌, IsTrue};
+ghost use Rattle.std.specs.Prelude.{◌≡◌};
 
-use hub_history::Same;
-use hub_job::Entry;
+use hub_text::Exact;
 use std::marker::Model;
 
 /// A borrowed value. Contracts see the value.
@@ -32,8 +31,20 @@ impl<'a, T> Lent<'a, T> {
     }
 }
 
-impl Same for Lent<'_, Entry> {
-    fn same(&self, other: &Lent<'_, Entry>) -> bool {
-        self.item.same(other.item)
+impl<T: PartialEq> PartialEq for Lent<'_, T> {
+    ghost eq = { T.eq };
+
+    ghost laws = { T.PartialEq.laws };
+
+    fn eq(&self, other: &Lent<'_, T>) -> bool {
+        self.item == other.item
     }
+}
+
+impl<T: Eq> Eq for Lent<'_, T> {
+    ghost laws = { T.Eq.laws };
+}
+
+impl<T: Exact> Exact for Lent<'_, T> {
+    ghost exact = { T.exact };
 }

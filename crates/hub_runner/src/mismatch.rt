@@ -7,7 +7,7 @@ use crate::books::history_at;
 use crate::entries::{entries_at, entries_of};
 use crate::lent::Lent;
 use crate::wrong::log_of;
-use hub_history::{Book, copy_entry};
+use hub_history::Book;
 use hub_job::{Entry, Job, RunFault};
 use hub_path::Root;
 use hub_profile::Profile;
@@ -79,7 +79,7 @@ fn copies(alloc: Global, entries: &[Lent<'_, Entry>]) -> Result<Items<Entry>, Al
 {
     let mut all = Vec::new(alloc);
     for entry in entries {
-        all.push(copy_entry(entry.item())?)?;
+        all.push(entry.item().copy()?)?;
     }
     Ok(Items::from_vec(all))
 }

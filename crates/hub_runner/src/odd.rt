@@ -1,33 +1,25 @@
 //! Numbers that no job has, or several have, or one that wasn't made for the set and the state.
 ghost use Rattle.std.specs.Prelude.{◌≡◌, ◌==◌, ◌↔◌, Some, count_by, IsTrue, MatchBool, MatchOption};
-ghost use Rattle.std.specs.FinMap as fin;
 ghost use Rattle.hub_job.specs.Outcome as of_outcome;
 ghost use Rattle.hub_runner.specs.Odd as spec;
 ghost use Rattle.hub_runner.specs.Odd.{AllAreBelow, AllAreOf, IsLeastFrom, OneIsNotOf};
 ghost use Rattle.hub_runner.specs.Settling.{AreDue, IsLowestOdd};
 
-use hub_history::Same;
 use hub_job::Job;
+use hub_path::Side;
 use hub_profile::Profile;
 use hub_state::State;
 use hub_tree::Archive;
-use std::alloc::Global;
 
 /// Returns the lowest number that is odd: it is that of a profile, and not exactly one job has it; or a job has it that
 /// wasn't made for the profile of that number and the archive of that profile's roots.
-pub(crate) fn find_odd(
-    alloc: Global,
-    jobs: &[Job<'_>],
-    profiles: &[Profile],
-    state: &State,
-) -> Option<usize>
+pub(crate) fn find_odd(jobs: &[Job<'_>], profiles: &[Profile], state: &State) -> Option<usize>
     ensures { MatchOption result
         (AreDue state.now profiles.now jobs.now)
         (IsLowestOdd state.now profiles.now jobs.now) }
 {
-    let empty = Archive::new(alloc);
     for (number, profile) in profiles.iter().enumerate() {
-        let archive = archive_of(profile, state, &empty);
+        let archive = archive_of(profile, state);
         if !are_of(jobs, number, profile, archive) {
             return Some(number);
         }
@@ -39,15 +31,10 @@ pub(crate) fn find_odd(
 }
 
 /// Borrows the archive of a profile's two roots, or the empty one.
-fn archive_of<'a>(profile: &Profile, state: &'a State, empty: &'a Archive) -> &'a Archive
-    requires { empty.now ≡ fin.empty }
+fn archive_of<'a>(profile: &Profile, state: &'a State) -> &'a Archive
     ensures { result.now ≡ of_outcome.archive_of state.now (Some profile.now) }
 {
-    let roots = profile.roots();
-    match state.archive(&roots[0], &roots[1]) {
-        Some(archive) => archive,
-        None => empty,
-    }
+    state.archive_or_empty(profile.root(Side::Left), profile.root(Side::Right))
 }
 
 /// Returns whether exactly one job has that number.
@@ -65,18 +52,11 @@ fn are_of(jobs: &[Job<'_>], number: usize, profile: &Profile, archive: &Archive)
         (OneIsNotOf profile.now archive.now jobs.now number) }
 {
     for job in jobs {
-        if job.number() == number && !is_made_for(job, profile, archive) {
+        if job.number() == number && !job.made_for(profile, archive) {
             return false;
         }
     }
     true
-}
-
-/// Returns whether the job was made for this profile and this archive.
-fn is_made_for(job: &Job<'_>, profile: &Profile, archive: &Archive) -> bool
-    ensures { IsTrue result ↔ spec.IsOf profile.now archive.now job.now }
-{
-    job.profile().same(profile) && job.archive().same(archive)
 }
 
 /// Returns the lowest number of a job that isn't below this one.

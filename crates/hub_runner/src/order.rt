@@ -7,7 +7,7 @@ ghost use Rattle.hub_runner.specs.Slots as spec;
 
 use hub_history::Book;
 use hub_job::Job;
-use hub_path::Root;
+use hub_path::{Root, Side};
 use hub_profile::Profile;
 use hub_schedule::WorkingTree;
 use std::alloc::{AllocError, Global};
@@ -51,12 +51,13 @@ fn root_of<'a>(profile: &'a Profile, root: &Root) -> Option<&'a Root>
         (of_reach.has_root profile.now root.now ≡ false)
         (λ own. (own.now ≡ root.now) × IsTrue (of_reach.has_root profile.now root.now)) }
 {
-    let roots = profile.roots();
-    if &roots[0] == root {
-        return Some(&roots[0]);
+    let left = profile.root(Side::Left);
+    if left == root {
+        return Some(left);
     }
-    if &roots[1] == root {
-        return Some(&roots[1]);
+    let right = profile.root(Side::Right);
+    if right == root {
+        return Some(right);
     }
     None
 }

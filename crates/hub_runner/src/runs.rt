@@ -15,7 +15,6 @@ use hub_history::{Book, Gate};
 use hub_job::{Job, Outcome, RunFault};
 use hub_schedule::find_missing;
 use hub_state::State;
-use hub_tree::Archive;
 use std::alloc::{AllocError, Global};
 use std::sync::Wait;
 use std::thread::Threads;
@@ -62,18 +61,15 @@ pub fn run<G: Gate + Sync, R: Threads + Wait + Sync>(
     if let Some(root) = find_missing(verified.set().profiles(), state) {
         return Err(RunFault::MissingReplica { root: root.copy()? });
     }
-    let empty = Archive::new(alloc);
-    run_set(rt, alloc, verified, state, &empty, workers, gate)
+    run_set(rt, alloc, verified, state, workers, gate)
 }
 
-/// Runs the jobs of a set at the same time, and settles what they leave. A pair of roots that the state has no archive for
-/// gets the empty one.
+/// Runs the jobs of a set at the same time, and settles what they leave.
 fn run_set<'a, G: Gate + Sync, R: Threads + Wait + Sync>(
     rt: &R,
     alloc: Global,
     verified: &Verified<'a>,
     state: &'a State,
-    empty: &'a Archive,
     workers: usize,
     gate: &G,
 ) -> Result<Outcome, RunFault>
@@ -83,7 +79,7 @@ fn run_set<'a, G: Gate + Sync, R: Threads + Wait + Sync>(
     ensures ended { IfOk result (λ o. HaveEnded o.jobs) }
     ensures refused { IfErr result (IsNotRun state.now verified.now.profiles workers) }
 {
-    let Done { books, jobs } = step_set(rt, alloc, verified.set(), state, empty, workers, gate)?;
+    let Done { books, jobs } = step_set(rt, alloc, verified.set(), state, workers, gate)?;
     settle(alloc, verified, state, books, jobs)
 }
 
@@ -100,7 +96,6 @@ fn step_set<'a, G: Gate + Sync, R: Threads + Wait + Sync>(
     alloc: Global,
     set: &'a ProfileSet,
     state: &'a State,
-    empty: &'a Archive,
     workers: usize,
     gate: &G,
 ) -> Result<Done<'a>, RunFault>
@@ -109,7 +104,7 @@ fn step_set<'a, G: Gate + Sync, R: Threads + Wait + Sync>(
     ensures refused { IfErr result (λ f. (f ≡ fault.ThreadRefused) ⊎ (f ≡ fault.OutOfMemory)) }
 {
     let roots = roots_of(alloc, set.profiles())?;
-    let jobs = jobs_for(alloc, set.profiles(), state, empty, roots.as_slice())?;
+    let jobs = jobs_for(alloc, set.profiles(), state, roots.as_slice())?;
     let workers = workers.min(jobs.len().max(1));
     let (desks, seats) = open_desks(alloc, set, state, roots.as_slice(), workers)?;
     let PoolEnd { ended, seats } = step_all(rt, alloc, gate, &desks, seats, jobs)?;

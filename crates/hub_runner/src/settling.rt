@@ -97,7 +97,7 @@ fn compare(
     if let Some(root) = find_missing(profiles, state) {
         return Err(RunFault::MissingReplica { root: root.copy()? });
     }
-    if let Some(job) = find_odd(alloc, jobs, profiles, state) {
+    if let Some(job) = find_odd(jobs, profiles, state) {
         return Err(RunFault::Stranger { job });
     }
     if let Some((root, job)) = find_wrong(alloc, set, state, books, jobs)? {

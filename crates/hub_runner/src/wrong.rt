@@ -10,11 +10,12 @@ use crate::books::{only_book, opens_as};
 use crate::entries::{entries_at, split_by_job};
 use crate::lent::Lent;
 use hub_cert::ProfileSet;
-use hub_history::{Book, are_same};
+use hub_history::Book;
 use hub_job::{Entry, Job, Logged};
 use hub_path::Root;
 use hub_profile::Profile;
 use hub_state::State;
+use hub_text::are_equal;
 use std::alloc::{AllocError, Global};
 
 /// Finds the first place where books and jobs don't fit, with each other or with the set and the state: a root, and a job
@@ -144,9 +145,9 @@ fn differs(
         (IsTrue (of_reach.has_root profile.now root.now) × (done.now ≢ logged))
         (IsTrue (of_reach.has_root profile.now root.now) → done.now ≡ logged)) }
 {
-    if !profile.roots().iter().any(|own| own == root) {
+    if !profile.has_root(root) {
         return Ok(false);
     }
     let logged = entries_at(alloc, profile, root, log_of(jobs, job))?;
-    Ok(!are_same(done, logged.as_slice()))
+    Ok(!are_equal(done, logged.as_slice()))
 }

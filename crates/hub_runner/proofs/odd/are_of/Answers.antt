@@ -5,10 +5,10 @@ use Rattle.hub_job.specs.JobValue.{JobValue}
 use Rattle.hub_runner.specs.Odd.{IsOf}
 use Rattle.hub_runner.proofs.Firsts.{also_here}
 use Rattle.hub_runner.proofs.odd.are_of.Goals as goal
-use Rattle.hub_runner.proofs.odd.are_of.Goals.{else-number-via-then-number+else-not-is_made_for, else-number-via-else-number}
+use Rattle.hub_runner.proofs.odd.are_of.Goals.{else-number-via-then-number+else-not-made_for, else-number-via-else-number}
 
-pub returns-then-not-is_made_for : goal.returns-then-not-is_made_for
-returns-then-not-is_made_for c =
+pub returns-then-not-made_for : goal.returns-then-not-made_for
+returns-then-not-made_for c =
     let jobs = c.args.jobs.now in
     let i = c.loop-job.job-index in
     let J = c.job-item.result in (
@@ -16,7 +16,7 @@ returns-then-not-is_made_for c =
       J,
       slice_get_read jobs _ i J refl c.loop-job-test.true c.job-item.is,
       sym c.number.ensures.value ∙ c.if-number.true,
-      iff_false c.is_made_for.ensures c.if-not-is_made_for.true,
+      iff_false c.made_for.ensures c.if-not-made_for.true,
     )
 
 pub loop-job-preserved : goal.loop-job-preserved
@@ -26,7 +26,7 @@ loop-job-preserved c =
     let J = c.job-item.result in
     let here : J.number ≡ c.args.number → IsOf c.args.profile.now c.args.archive.now J =
     elim c.else-number.branch [
-      | else-number-via-then-number+else-not-is_made_for w ↦ λ is. w.is_made_for.ensures.0 w.if-not-is_made_for.false
+      | else-number-via-then-number+else-not-made_for w ↦ λ is. w.made_for.ensures.0 w.if-not-made_for.false
       | else-number-via-else-number w ↦ λ is. absurd (w.if-number.false (c.number.ensures.value ∙ is))
     ] in
     also_here (λ (K : JobValue). K.number ≡ c.args.number → IsOf c.args.profile.now c.args.archive.now K) jobs i J

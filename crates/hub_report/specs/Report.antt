@@ -1,5 +1,5 @@
 -- The text and the status of each answer.
-use Rattle.std.specs.Prelude.{◌≡◌, ◌≢◌, ◌∷◌, ◌++◌, ⊤, ℕ, Bool, false, if◌then◌else◌, List, [], codes, encode_utf8_all, string_bytes}
+use Rattle.std.specs.Prelude.{◌≡◌, ◌≢◌, ◌∷◌, ◌++◌, ⊤, ℕ, Bool, if◌then◌else◌, List, [], Option, None, codes, encode_utf8_all, string_bytes}
 use Rattle.std.specs.Fmt.{decimal}
 use Rattle.hub_path.specs.Path.{Name}
 use Rattle.hub_cert.specs.Set.{Members}
@@ -8,7 +8,8 @@ use Rattle.hub_cert.specs.declared.fault.CheckFault.TheVariants as fault
 use Rattle.hub_state.specs.Writing.{state_text}
 use Rattle.hub_bundle.specs.declared.sections.SectionFault.{SectionFault}
 use Rattle.hub_bundle.specs.declared.sections.SectionFault.TheVariants.{OfProfile, OfRules, OfState, OfCertificates}
-use Rattle.hub_bundle.specs.Input.{says_failed}
+use Rattle.hub_bundle.specs.declared.input.InputFault.{InputFault}
+use Rattle.hub_bundle.specs.Input.{some_failed, unread_fault}
 use Rattle.hub_report.specs.declared.report.Report.{Report}
 use Rattle.hub_report.specs.declared.report.Report.TheVariants.{Safe, Ran, NotRun, NoState, Verified, Certified, Refused, Reached, NotReached, NoProfile, BadPath, Unread, BadBundle, BadSection, OutOfMemory}
 use Rattle.hub_report.specs.Faults.{bundle_fault_name, input_fault_name, path_fault_name, section_fault_name}
@@ -78,23 +79,27 @@ status_of (BadBundle f) = 2
 status_of (BadSection f) = 2
 status_of OutOfMemory = 2
 
+-- Why the input wasn't read to its end, if the answer says so: a read failed, or there were too many.
+abbrev pub unread_by : Report → Option InputFault
+unread_by Safe = None
+unread_by (Ran r) = None
+unread_by (NotRun e) = None
+unread_by NoState = None
+unread_by Verified = None
+unread_by (Certified t) = None
+unread_by (Refused t) = None
+unread_by Reached = None
+unread_by NotReached = None
+unread_by (NoProfile name) = None
+unread_by (BadPath f) = None
+unread_by (Unread f) = unread_fault f
+unread_by (BadBundle f) = None
+unread_by (BadSection f) = None
+unread_by OutOfMemory = None
+
 -- The answer says that a read of the input failed.
 abbrev pub says_read_failed : Report → Bool
-says_read_failed Safe = false
-says_read_failed (Ran r) = false
-says_read_failed (NotRun e) = false
-says_read_failed NoState = false
-says_read_failed Verified = false
-says_read_failed (Certified t) = false
-says_read_failed (Refused t) = false
-says_read_failed Reached = false
-says_read_failed NotReached = false
-says_read_failed (NoProfile name) = false
-says_read_failed (BadPath f) = false
-says_read_failed (Unread f) = says_failed f
-says_read_failed (BadBundle f) = false
-says_read_failed (BadSection f) = false
-says_read_failed OutOfMemory = false
+says_read_failed r = some_failed (unread_by r)
 
 -- A set is refused for that fault, by the fault's line. Out of memory is told by itself.
 abbrev pub IsRefusal : Members → CheckFault → Report → Type 0

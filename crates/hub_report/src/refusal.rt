@@ -1,5 +1,5 @@
 //! Refusals of profiles and rules, and the line of each.
-ghost use Rattle.std.specs.Prelude.{◌≡◌, ◌∷◌, [], false, IfOk, MatchOption, Option, None, Some, codes, slice_get, string_bytes};
+ghost use Rattle.std.specs.Prelude.{◌≡◌, ◌∷◌, [], IfOk, MatchOption, Option, None, Some, codes, slice_get, string_bytes};
 ghost use Rattle.std.specs.Fmt.{decimal};
 ghost use Rattle.hub_profile.specs.Parts.{Parts};
 ghost use Rattle.hub_cert.specs.Refused.{IsRefused};
@@ -20,7 +20,7 @@ impl<'a> Report<'a> {
     /// The answer that refuses a set by its fault.
     pub fn refusal(alloc: Global, set: &ProfileSet, fault: &CheckFault) -> Report<'a>
         ensures refusal { report.IsRefusal set.now fault.now result }
-        ensures read { report.says_read_failed result ≡ false }
+        ensures read { report.unread_by result ≡ None }
     {
         let Ok(goals) = set.goals(alloc) else {
             return Report::OutOfMemory;
@@ -38,7 +38,7 @@ impl<'a> Report<'a> {
     pub fn refusal_without_set(alloc: Global, fault: &CheckFault) -> Report<'a>
         ensures refusal { (S : Members) → IsRefused S fault.now
             → report.IsRefusal S fault.now result }
-        ensures read { report.says_read_failed result ≡ false }
+        ensures read { report.unread_by result ≡ None }
     {
         match fault {
             CheckFault::OutOfMemory => Report::OutOfMemory,

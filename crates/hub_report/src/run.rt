@@ -8,8 +8,6 @@ use hub_path::Root;
 use hub_state::{State, write_state};
 use hub_text::Watched;
 use std::alloc::{AllocError, Global};
-use std::collections::VecDeque;
-use std::io::Read;
 
 /// What the jobs of a safe set did, and what they left.
 #[derive(Drop)]
@@ -45,18 +43,13 @@ pub fn text_of_run(alloc: Global, run: Run) -> Result<Vec<u8>, AllocError>
         ≡ codes "safe\n" ++ (string_bytes run.lines ++ state_text run.state)) }
 {
     let Run { lines, state, .. } = run;
-    // a watched writer keeps its device, so the text is read out of it
-    let mut queue = Watched::new(VecDeque::new(alloc));
-    if write_state(alloc, &mut queue, &state).is_err() {
-        return Err(AllocError);
-    }
-    drop(state);
     let mut text = bytes_of(alloc, "safe\n")?;
     text.extend_from_slice(lines.as_bytes())?;
-    if queue.read_to_end(&mut text).is_err() {
-        return Err(AllocError);
+    let mut output = Watched::new(text);
+    match write_state(alloc, &mut output, &state) {
+        Ok(()) => Ok(output.into_inner()),
+        Err(_) => Err(AllocError),
     }
-    Ok(text)
 }
 
 /// `safe`, and below it the line that says why the jobs weren't run.

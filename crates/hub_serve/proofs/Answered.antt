@@ -11,6 +11,8 @@ use Rattle.hub_report.specs.declared.report.Report.{Report}
 use Rattle.hub_report.specs.declared.report.Report.TheVariants.{Safe, Ran, NotRun, NoState, Verified, Certified, Refused, Reached, NotReached, NoProfile, BadPath, Unread, BadBundle, BadSection, OutOfMemory}
 use Rattle.hub_report.specs.Report.{status_of}
 use Rattle.hub_report.proofs.Starts.{begins, first}
+use Rattle.hub_bundle.specs.declared.input.InputFault.TheVariants.{TurnsSpent}
+use Rattle.hub_serve.specs.Reads.{Reads}
 use Rattle.hub_serve.specs.Report.{Holds, SpellsSafe, SpellsUnsafe, SpellsVerified, SpellsReach, Serves, Answers, AnswersNothing, WritesText}
 use Rattle.hub_serve.proofs.FirstLines.{only_safe, only_verified, only_overlaps, only_breaches, only_reached, only_not_reached, OverlapsShown, BreachesShown}
 
@@ -21,35 +23,35 @@ appended old new before more text h e f =
     let grown : before ++ text ≡ before ++ more = subst (λ n. Appends (Some before) n more) f from_old in
     sym (append_cancel_left before _ _ grown)
 
-module _ (request : Request) (remaining old new : Option (List ℕ)) (read_failed write_failed : Bool) (status : ℕ) (bytes before : List ℕ) where
-  held : (a : Answers request remaining old new read_failed write_failed status) → remaining ≡ Some bytes → Holds request bytes a.report
+module _ (request : Request) (remaining old new : Option (List ℕ)) (reads : Reads) (write_failed : Bool) (status : ℕ) (bytes before : List ℕ) where
+  held : (a : Answers request remaining old new reads write_failed status) → remaining ≡ Some bytes → Holds request bytes a.report
   held a e = subst (λ r. IfSome r (λ bs. Holds request bs a.report)) e a.holds
 
-  safe-written : (text : List ℕ) → Answers request remaining old new read_failed write_failed status → remaining ≡ Some bytes → old ≡ Some before
+  safe-written : (text : List ℕ) → Answers request remaining old new reads write_failed status → remaining ≡ Some bytes → old ≡ Some before
       → new ≡ Some (before ++ (codes "safe\n" ++ text)) → SpellsSafe (Some request) bytes text write_failed status
   safe-written text a e f g =
       only_safe request bytes a.report a.text a.writes.written text write_failed status a.is_text (appended old new before _ _ a.writes.appends f g) a.writes.whole a.writes.status_is
       (held a e)
 
-  verified-written : (text : List ℕ) → Answers request remaining old new read_failed write_failed status → remaining ≡ Some bytes → old ≡ Some before
+  verified-written : (text : List ℕ) → Answers request remaining old new reads write_failed status → remaining ≡ Some bytes → old ≡ Some before
       → new ≡ Some (before ++ (codes "verified\n" ++ text)) → SpellsVerified (Some request) bytes
   verified-written text a e f g = only_verified request bytes a.report a.text a.writes.written _ a.is_text (appended old new before _ _ a.writes.appends f g) (held a e)
 
-  overlap-written : OverlapsShown → (text : List ℕ) → Answers request remaining old new read_failed write_failed status → remaining ≡ Some bytes → old ≡ Some before
+  overlap-written : OverlapsShown → (text : List ℕ) → Answers request remaining old new reads write_failed status → remaining ≡ Some bytes → old ≡ Some before
       → new ≡ Some (before ++ (codes "overlap: " ++ text)) → SpellsUnsafe bytes
   overlap-written shown text a e f g = only_overlaps shown request bytes a.report a.text a.writes.written _ a.is_text (appended old new before _ _ a.writes.appends f g) (held a e)
 
-  breach-written : BreachesShown → (text : List ℕ) → Answers request remaining old new read_failed write_failed status → remaining ≡ Some bytes → old ≡ Some before
+  breach-written : BreachesShown → (text : List ℕ) → Answers request remaining old new reads write_failed status → remaining ≡ Some bytes → old ≡ Some before
       → new ≡ Some (before ++ (codes "breach: " ++ text)) → SpellsUnsafe bytes
   breach-written shown text a e f g = only_breaches shown request bytes a.report a.text a.writes.written _ a.is_text (appended old new before _ _ a.writes.appends f g) (held a e)
 
-  reached-written : (text : List ℕ) → Answers request remaining old new read_failed write_failed status → remaining ≡ Some bytes → old ≡ Some before
+  reached-written : (text : List ℕ) → Answers request remaining old new reads write_failed status → remaining ≡ Some bytes → old ≡ Some before
       → new ≡ Some (before ++ (codes "reached\n" ++ text)) → SpellsReach (Some request) bytes true
   reached-written text a e f g =
       let h = only_reached request bytes a.report a.text a.writes.written _ a.is_text (appended old new before _ _ a.writes.appends f g) (held a e) in
       record { request = request; is_asked = refl; contents = h.contents; spelled = h.spelled; answered = h.told }
 
-  not_reached-written : (text : List ℕ) → Answers request remaining old new read_failed write_failed status → remaining ≡ Some bytes → old ≡ Some before
+  not_reached-written : (text : List ℕ) → Answers request remaining old new reads write_failed status → remaining ≡ Some bytes → old ≡ Some before
       → new ≡ Some (before ++ (codes "not reached\n" ++ text)) → SpellsReach (Some request) bytes false
   not_reached-written text a e f g =
       let h = only_not_reached request bytes a.report a.text a.writes.written _ a.is_text (appended old new before _ _ a.writes.appends f g) (held a e) in
@@ -96,24 +98,24 @@ written-le true status result l e = omega (arith, e)
 written-le false status result l e = omega (arith, e, l)
 
 -- The words ask for something, and that is answered.
-pub serves-answer : OverlapsShown → BreachesShown → (request : Request) (remaining old new : Option (List ℕ)) (read_failed write_failed : Bool) (status : ℕ)
-    → Answers request remaining old new read_failed write_failed status → Serves (Some request) remaining old new read_failed write_failed status
-serves-answer overlaps breaches request remaining old new read_failed write_failed status a = record {
+pub serves-answer : OverlapsShown → BreachesShown → (request : Request) (remaining old new : Option (List ℕ)) (reads : Reads) (write_failed : Bool) (status : ℕ)
+    → Answers request remaining old new reads write_failed status → Serves (Some request) remaining old new reads write_failed status
+serves-answer overlaps breaches request remaining old new reads write_failed status a = record {
   few = written-le write_failed (status_of a.report) status (status-le a.report) a.writes.status_is;
   nothing = λ is. absurd (none-some request (sym is));
-  answer = λ other is. subst (λ r. Answers r remaining old new read_failed write_failed status) (same_Some request other is) a;
-  safe = λ bytes before text e f g. safe-written request remaining old new read_failed write_failed status bytes before text a e f g;
-  verified = λ bytes before text e f g. verified-written request remaining old new read_failed write_failed status bytes before text a e f g;
-  overlap = λ bytes before text e f g. overlap-written request remaining old new read_failed write_failed status bytes before overlaps text a e f g;
-  breach = λ bytes before text e f g. breach-written request remaining old new read_failed write_failed status bytes before breaches text a e f g;
-  reached = λ bytes before text e f g. reached-written request remaining old new read_failed write_failed status bytes before text a e f g;
-  not_reached = λ bytes before text e f g. not_reached-written request remaining old new read_failed write_failed status bytes before text a e f g;
+  answer = λ other is. subst (λ r. Answers r remaining old new reads write_failed status) (same_Some request other is) a;
+  safe = λ bytes before text e f g. safe-written request remaining old new reads write_failed status bytes before text a e f g;
+  verified = λ bytes before text e f g. verified-written request remaining old new reads write_failed status bytes before text a e f g;
+  overlap = λ bytes before text e f g. overlap-written request remaining old new reads write_failed status bytes before overlaps text a e f g;
+  breach = λ bytes before text e f g. breach-written request remaining old new reads write_failed status bytes before breaches text a e f g;
+  reached = λ bytes before text e f g. reached-written request remaining old new reads write_failed status bytes before text a e f g;
+  not_reached = λ bytes before text e f g. not_reached-written request remaining old new reads write_failed status bytes before text a e f g;
 }
 
 -- The words ask for nothing.
-pub serves-nothing : (remaining old new : Option (List ℕ)) (read_failed write_failed : Bool) (status : ℕ)
-    → AnswersNothing old new status → Serves None remaining old new read_failed write_failed status
-serves-nothing remaining old new read_failed write_failed status a = record {
+pub serves-nothing : (remaining old new : Option (List ℕ)) (reads : Reads) (write_failed : Bool) (status : ℕ)
+    → AnswersNothing old new status → Serves None remaining old new reads write_failed status
+serves-nothing remaining old new reads write_failed status a = record {
   few = omega (arith, a.status_is);
   nothing = λ is. a;
   answer = λ request is. absurd (none-some request is);
@@ -138,45 +140,47 @@ memory-nothing old new failed status w = record { status_is = two failed w.statu
     two false e = e
 
 -- The line that memory is out answers every question.
-pub memory-answers : (request : Request) (remaining old new : Option (List ℕ)) (read_failed write_failed : Bool) (status : ℕ)
-    → WritesText old new (codes "fault: out of memory\n") 2 write_failed status → Answers request remaining old new read_failed write_failed status
-memory-answers request remaining old new read_failed write_failed status w = record {
+pub memory-answers : (request : Request) (remaining old new : Option (List ℕ)) (reads : Reads) (write_failed : Bool) (status : ℕ)
+    → WritesText old new (codes "fault: out of memory\n") 2 write_failed status → Answers request remaining old new reads write_failed status
+memory-answers request remaining old new reads write_failed status w = record {
   report = OutOfMemory;
   holds = anything remaining;
   only_failed = λ e. absurd (false≢true e);
   all_failed = λ e. inr refl;
+  spent = λ e. absurd (none-some TurnsSpent e);
+  whole = λ e. inr refl;
   text = codes "fault: out of memory\n";
   is_text = refl;
   writes = w;
 }
 
 -- And it is right for words that ask for something and for those that don't.
-pub serves-memory : OverlapsShown → BreachesShown → (asked : Option Request) (remaining old new : Option (List ℕ)) (read_failed write_failed : Bool) (status : ℕ)
-    → WritesText old new (codes "fault: out of memory\n") 2 write_failed status → Serves asked remaining old new read_failed write_failed status
-serves-memory overlaps breaches None remaining old new read_failed write_failed status w =
-    serves-nothing remaining old new read_failed write_failed status (memory-nothing old new write_failed status w)
-serves-memory overlaps breaches (Some request) remaining old new read_failed write_failed status w =
-    serves-answer overlaps breaches request remaining old new read_failed write_failed status (memory-answers request remaining old new read_failed write_failed status w)
+pub serves-memory : OverlapsShown → BreachesShown → (asked : Option Request) (remaining old new : Option (List ℕ)) (reads : Reads) (write_failed : Bool) (status : ℕ)
+    → WritesText old new (codes "fault: out of memory\n") 2 write_failed status → Serves asked remaining old new reads write_failed status
+serves-memory overlaps breaches None remaining old new reads write_failed status w =
+    serves-nothing remaining old new reads write_failed status (memory-nothing old new write_failed status w)
+serves-memory overlaps breaches (Some request) remaining old new reads write_failed status w =
+    serves-answer overlaps breaches request remaining old new reads write_failed status (memory-answers request remaining old new reads write_failed status w)
 
 -- Words that are refused ask for nothing, unless memory is out.
-pub serves-refused : {T : Type 0} → OverlapsShown → BreachesShown → (kind none : T) (asked : Option Request) (remaining old new : Option (List ℕ)) (read_failed write_failed : Bool) (status : ℕ)
+pub serves-refused : {T : Type 0} → OverlapsShown → BreachesShown → (kind none : T) (asked : Option Request) (remaining old new : Option (List ℕ)) (reads : Reads) (write_failed : Bool) (status : ℕ)
     → (kind ≡ none) ⊎ (asked ≡ None) → (kind ≡ none → WritesText old new (codes "fault: out of memory\n") 2 write_failed status) → AnswersNothing old new status
-    → Serves asked remaining old new read_failed write_failed status
-serves-refused overlaps breaches kind none asked remaining old new read_failed write_failed status (inl e) memory a =
-    serves-memory overlaps breaches asked remaining old new read_failed write_failed status (memory e)
-serves-refused overlaps breaches kind none asked remaining old new read_failed write_failed status (inr e) memory a =
-    subst (λ o. Serves o remaining old new read_failed write_failed status) (sym e) (serves-nothing remaining old new read_failed write_failed status a)
+    → Serves asked remaining old new reads write_failed status
+serves-refused overlaps breaches kind none asked remaining old new reads write_failed status (inl e) memory a =
+    serves-memory overlaps breaches asked remaining old new reads write_failed status (memory e)
+serves-refused overlaps breaches kind none asked remaining old new reads write_failed status (inr e) memory a =
+    subst (λ o. Serves o remaining old new reads write_failed status) (sym e) (serves-nothing remaining old new reads write_failed status a)
 
-pub serves-asked : OverlapsShown → BreachesShown → (asked : Option Request) (request : Request) (remaining old new : Option (List ℕ)) (read_failed write_failed : Bool) (status : ℕ)
-    → asked ≡ Some request → Answers request remaining old new read_failed write_failed status → Serves asked remaining old new read_failed write_failed status
-serves-asked overlaps breaches asked request remaining old new read_failed write_failed status is a =
-    subst (λ o. Serves o remaining old new read_failed write_failed status) (sym is) (serves-answer overlaps breaches request remaining old new read_failed write_failed status a)
+pub serves-asked : OverlapsShown → BreachesShown → (asked : Option Request) (request : Request) (remaining old new : Option (List ℕ)) (reads : Reads) (write_failed : Bool) (status : ℕ)
+    → asked ≡ Some request → Answers request remaining old new reads write_failed status → Serves asked remaining old new reads write_failed status
+serves-asked overlaps breaches asked request remaining old new reads write_failed status is a =
+    subst (λ o. Serves o remaining old new reads write_failed status) (sym is) (serves-answer overlaps breaches request remaining old new reads write_failed status a)
 
 -- Words that are the same ask for the same.
-pub serves-same : (words same : List (List ℕ)) (remaining old new : Option (List ℕ)) (read_failed write_failed : Bool) (status : ℕ)
-    → words ≡ same → Serves (asked_of words) remaining old new read_failed write_failed status → Serves (asked_of same) remaining old new read_failed write_failed status
-serves-same words same remaining old new read_failed write_failed status e h =
-    subst (λ ws. Serves (asked_of ws) remaining old new read_failed write_failed status) e h
+pub serves-same : (words same : List (List ℕ)) (remaining old new : Option (List ℕ)) (reads : Reads) (write_failed : Bool) (status : ℕ)
+    → words ≡ same → Serves (asked_of words) remaining old new reads write_failed status → Serves (asked_of same) remaining old new reads write_failed status
+serves-same words same remaining old new reads write_failed status e h =
+    subst (λ ws. Serves (asked_of ws) remaining old new reads write_failed status) e h
 
 -- All of a line was written, and no call failed.
 pub text-written : (old mid new : Option (List ℕ)) (line : List ℕ) (status : ℕ) (failed : Bool) → Appends old mid line → Keeps mid new → failed ≡ false

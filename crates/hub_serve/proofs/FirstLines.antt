@@ -210,7 +210,7 @@ text-means request bytes Verified line l h =
       safe = h.told.told.2;
     })
 text-means request bytes (Certified text) line l h =
-    subst (λ t. Means request bytes line 0 (start t)) (sym (l ∙ h.told.told.1.2)) tt
+    subst (λ t. Means request bytes line 0 (start t)) (sym (l ∙ h.told.told.1.text_is)) tt
 text-means request bytes (Refused text) line l h =
     subst (λ t. Means request bytes line 1 (start t)) (sym (l ∙ h.told.told.1))
     (refusal-means request bytes line 1 h.contents h.told.to_do h.told.reason h.spelled h.told.refused)

@@ -1,3 +1,4 @@
+pub mod Reads
 pub mod Task
 pub mod Runs
 pub mod Reached

@@ -8,7 +8,9 @@ use Rattle.hub_profile.specs.Parts.{Parts}
 use Rattle.hub_reach.specs.Reach.{reach}
 use Rattle.hub_cert.specs.Set.{Members, IsSafeSet}
 use Rattle.hub_cert.specs.Refused.{IsRefused}
-use Rattle.hub_cert.specs.Verdict.{AreCertificates, Refuses}
+use Rattle.hub_cert.specs.Goals.{goals}
+use Rattle.hub_cert.specs.Reading.{certificates_in}
+use Rattle.hub_cert.specs.Verdict.{AreCertificates, Refuses, goals_in}
 use Rattle.hub_cert.specs.Writing.{certificates_text}
 use Rattle.hub_cert.specs.declared.certificate.Certificate.{Certificate}
 use Rattle.hub_cert.specs.declared.fault.CheckFault.{CheckFault}
@@ -29,7 +31,8 @@ use Rattle.hub_report.specs.declared.report.Report.TheVariants.{Safe, Ran, NotRu
 use Rattle.hub_serve.specs.declared.task.Task.{Task}
 use Rattle.hub_serve.specs.declared.task.Task.TheVariants as task
 use Rattle.hub_serve.specs.Reached.{named}
-use Rattle.hub_report.specs.Report.{IsRefusal, says_read_failed, status_of, text_of}
+use Rattle.hub_report.specs.Report.{IsRefusal, says_read_failed, status_of, text_of, unread_by}
+use Rattle.hub_serve.specs.Reads.{AreSpent, Reads}
 use Rattle.hub_serve.specs.Runs.{HasRunAs, IsBelow, IsPrevented}
 use Rattle.hub_serve.specs.Task.{AsksFor, LacksState, task_of}
 
@@ -98,6 +101,14 @@ FaultOf (task.RunJobs n state) S cs e = (e ≡ fault.OutOfMemory) ⊎ IsFirstFau
 FaultOf task.Certify S cs e = (e ≡ fault.OutOfMemory) ⊎ IsFirstFault S e
 FaultOf task.Verify S cs e = Refuses S cs e
 
+-- The text is that of certificates of a set, one for each goal and in the order of the goals, and it is read as these.
+pub record WritesCertificates (S : Members) (text : List ℕ) : Type 0 where
+  pub own : List Certificate
+  pub inductive : AreCertificates S own
+  pub order : goals_in own ≡ goals S
+  pub text_is : text ≡ certificates_text own
+  pub read_back : certificates_in text ≡ Ok own
+
 -- What holds of a set that was made, and of the bundle's certificates, where this was to be done and that is the answer.
 abbrev pub IsToldOfSet : Task → Members → List Certificate → Report → Type 0
 IsToldOfSet t S cs Safe = (t ≡ task.Check) × IsSafeSet S
@@ -105,7 +116,7 @@ IsToldOfSet t S cs (Ran r) = HasRunAs t S r
 IsToldOfSet t S cs (NotRun e) = IsPrevented t S e
 IsToldOfSet t S cs NoState = ⊥
 IsToldOfSet t S cs Verified = (t ≡ task.Verify) × AreCertificates S cs × IsSafeSet S
-IsToldOfSet t S cs (Certified text) = (t ≡ task.Certify) × ((own : List Certificate) × AreCertificates S own × (string_bytes text ≡ certificates_text own))
+IsToldOfSet t S cs (Certified text) = (t ≡ task.Certify) × WritesCertificates S (string_bytes text)
 IsToldOfSet t S cs (Refused text) = (e : CheckFault) × FaultOf t S cs e × IsRefusal S e (Refused text)
 IsToldOfSet t S cs Reached = ⊥
 IsToldOfSet t S cs NotReached = ⊥
@@ -203,22 +214,26 @@ pub record AnswersNothing (old new : Option (List ℕ)) (status : ℕ) : Type 0 
   pub writes : Keeps old new ⊎ ((written : ℕ) × Appends old new (take written (codes "fault: out of memory\n")))
 
 -- The text of one answer was written, and the answer is true of the question and of the input, whose remaining bytes are
--- these if they are known. It says that a read failed only if one did. If one did, it says so, or `out of memory`.
-pub record Answers (request : Request) (remaining old new : Option (List ℕ)) (read_failed write_failed : Bool) (status : ℕ) : Type 0 where
+-- these if they are known. It says that a read failed only if one did. If one did, it says so, or `out of memory`. It says
+-- that the reads were spent only if they were, none of them having met the end. Each other answer but `out of memory` is
+-- given only if a read met the end.
+pub record Answers (request : Request) (remaining old new : Option (List ℕ)) (reads : Reads) (write_failed : Bool) (status : ℕ) : Type 0 where
   pub report : Report
   pub holds : IfSome remaining (λ bytes. Holds request bytes report)
-  pub only_failed : says_read_failed report ≡ true → read_failed ≡ true
-  pub all_failed : read_failed ≡ true → (says_read_failed report ≡ true) ⊎ (report ≡ OutOfMemory)
+  pub only_failed : says_read_failed report ≡ true → reads.failed ≡ true
+  pub all_failed : reads.failed ≡ true → (says_read_failed report ≡ true) ⊎ (report ≡ OutOfMemory)
+  pub spent : unread_by report ≡ Some input.TurnsSpent → AreSpent reads
+  pub whole : unread_by report ≡ None → (reads.at_end ≡ true) ⊎ (report ≡ OutOfMemory)
   pub text : List ℕ
   pub is_text : text ≡ text_of report
   pub writes : WritesText old new text (status_of report) write_failed status
 
--- What the program does for the words that ask for this, or for nothing: an input and an output before and after, whether
--- a call of each failed, and the status.
-pub record Serves (asked : Option Request) (remaining old new : Option (List ℕ)) (read_failed write_failed : Bool) (status : ℕ) : Type 0 where
+-- What the program does for the words that ask for this, or for nothing: an input's bytes, an output before and after, the
+-- reads of the input, whether a call of the output failed, and the status.
+pub record Serves (asked : Option Request) (remaining old new : Option (List ℕ)) (reads : Reads) (write_failed : Bool) (status : ℕ) : Type 0 where
   pub few : status ≤ 3
   pub nothing : asked ≡ None → AnswersNothing old new status
-  pub answer : (request : Request) → asked ≡ Some request → Answers request remaining old new read_failed write_failed status
+  pub answer : (request : Request) → asked ≡ Some request → Answers request remaining old new reads write_failed status
   -- `safe` is written only if the words ask for a check or a run, and the input spells a safe set. What follows it is what
   -- its jobs did and left of the input's state, or why they weren't run,
   pub safe : (bytes before text : List ℕ) → remaining ≡ Some bytes → old ≡ Some before

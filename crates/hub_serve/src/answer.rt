@@ -1,8 +1,9 @@
 //! Finds the answer to an input.
-ghost use Rattle.std.specs.Prelude.{◌≡◌, ◌⊎◌, false, IfSome};
+ghost use Rattle.std.specs.Prelude.{◌≡◌, ◌⊎◌, false, true, IfSome, None, Some};
 ghost use Rattle.hub_bundle.specs.Bundle as bundle;
 ghost use Rattle.hub_words.specs.Words.{request_of};
-ghost use Rattle.hub_report.specs.Report.{says_read_failed};
+ghost use Rattle.hub_report.specs.Report.{says_read_failed, unread_by};
+ghost use Rattle.hub_serve.specs.Reads.{AreSpent, reads_between};
 ghost use Rattle.hub_serve.specs.Report as report;
 
 use crate::reach::report_on_reach;
@@ -19,7 +20,9 @@ use std::io::Read;
 use std::sync::Wait;
 use std::thread::Threads;
 
-/// The answer to what was asked of an input. It says that a read failed exactly when one did.
+/// The answer to what was asked of an input. It says that a read failed exactly when one did, and that the reads were spent
+/// only after `READ_TURNS` reads without an end. Each other answer, but that memory is out, is given only if a read met the
+/// end.
 pub fn report_on<'a, T: Threads + Wait + Sync, R: Read>(
     rt: &T,
     alloc: Global,
@@ -30,6 +33,10 @@ pub fn report_on<'a, T: Threads + Wait + Sync, R: Read>(
     ensures holds { IfSome (R.remaining input.old.device) (λ bytes.
         report.Holds (request_of asked.entry) bytes result) }
     ensures failed { input.new.failed ≡ says_read_failed result }
+    ensures spent { unread_by result ≡ Some InputFault.TurnsSpent
+        → AreSpent (reads_between input.old input.new) }
+    ensures whole { unread_by result ≡ None
+        → (input.new.at_end ≡ true) ⊎ (result ≡ Report.OutOfMemory) }
 {
     match read_input(alloc, input) {
         Ok(bytes) => report_on_bytes(rt, alloc, asked, bytes.as_slice()),
@@ -46,7 +53,7 @@ fn report_on_bytes<'a, T: Threads + Wait + Sync>(
     bytes: &[u8],
 ) -> Report<'a>
     ensures holds { report.Holds (request_of asked.entry) bytes.now result }
-    ensures read { says_read_failed result ≡ false }
+    ensures read { unread_by result ≡ None }
 {
     let sections = match read_bundle(alloc, bytes) {
         Ok(sections) => sections,
@@ -68,7 +75,7 @@ fn report_on_contents<'a, T: Threads + Wait + Sync>(
     contents: Contents,
 ) -> Report<'a>
     ensures told { report.IsTold (request_of asked.entry) contents result }
-    ensures read { says_read_failed result ≡ false }
+    ensures read { unread_by result ≡ None }
 {
     match asked {
         Asked::About(question) => report_on_set(rt, alloc, question, contents),
@@ -80,7 +87,7 @@ fn report_on_contents<'a, T: Threads + Wait + Sync>(
 fn bad_bundle<'a>(fault: BundleLineFault) -> Report<'a>
     ensures memory { fault ≡ bundle.out_of_memory → result ≡ Report.OutOfMemory }
     ensures fault { (result ≡ Report.OutOfMemory) ⊎ (result ≡ Report.BadBundle fault) }
-    ensures read { says_read_failed result ≡ false }
+    ensures read { unread_by result ≡ None }
 {
     match fault.fault {
         BundleFault::OutOfMemory => Report::OutOfMemory,

@@ -15,8 +15,8 @@
 //! - The answer is a `Report` of `hub_report`. It is written as one line, as the certificates' text, or as `safe` and below it
 //!   what the jobs did and the state that they left (`program`).
 //!
-//! The contracts use the words of `specs/Report` (which answer is right, and what the program does as a whole), `specs/Task`
-//! (what is to be done) and `specs/Runs` (what is written of a run).
+//! The contracts use the words of `specs/Report` (which answer is right, and what the program does as a whole), `specs/Reads`
+//! (the reads of the input), `specs/Task` (what is to be done) and `specs/Runs` (what is written of a run).
 //!
 //! Only functions that return a `Result` or a `Report`, or write an answer, allocate.
 #![tactic(auto)]

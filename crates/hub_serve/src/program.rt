@@ -4,6 +4,7 @@ ghost use Rattle.std.specs.IoError.{error_kind};
 ghost use Rattle.std.specs.declared.io.ErrorKind.TheVariants as io_kind;
 ghost use Rattle.hub_words.specs.ClapWords.{kind_of};
 ghost use Rattle.hub_words.specs.Words.{asked_of, request_of};
+ghost use Rattle.hub_serve.specs.Reads.{reads_between};
 ghost use Rattle.hub_serve.specs.Report.{Answers, AnswersNothing, Serves, WritesText};
 
 use crate::answer::report_on;
@@ -32,7 +33,7 @@ pub fn serve_process<T: AllocGlobal + Eprint + Threads + Wait + Sync, R: Read, W
     requires output { output.old.failed ≡ false }
     ensures read { IfOk words (λ v. Serves (asked_of (map string_bytes v.items))
         (R.remaining input.old.device) (W.contents output.old.device) (W.contents output.new.device)
-        input.new.failed output.new.failed result) }
+        (reads_between input.old input.new) output.new.failed result) }
     ensures unread { IfErr words (λ _. AnswersNothing
         (W.contents output.old.device) (W.contents output.new.device) result) }
 {
@@ -54,6 +55,10 @@ pub fn serve_process<T: AllocGlobal + Eprint + Threads + Wait + Sync, R: Read, W
 /// - 3 if a job was stopped, or the jobs weren't run: there are no workers or too many, the bundle's state has no replica of
 ///   a root, or a thread can't be started.
 ///
+/// The answer says that a read failed exactly when one did, unless memory is out. It says that the reads were spent only after
+/// `READ_TURNS` reads none of which met the end of the input. Each other answer, but that memory is out, is given only if a
+/// read met the end.
+///
 /// `Serves` says what is written. What it says of bytes holds for readers and writers whose bytes a contract can name.
 pub fn serve<'a, S: AsStr, T: AllocGlobal + Eprint + Threads + Wait + Sync, R: Read, W: Write>(
     rt: &T,
@@ -65,7 +70,7 @@ pub fn serve<'a, S: AsStr, T: AllocGlobal + Eprint + Threads + Wait + Sync, R: R
     requires output { output.old.failed ≡ false }
     ensures { Serves (asked_of (map S.text words.entry.now)) (R.remaining input.old.device)
         (W.contents output.old.device) (W.contents output.new.device)
-        input.new.failed output.new.failed result }
+        (reads_between input.old input.new) output.new.failed result }
 {
     what_is_shown_is_not_safe();
     let alloc = rt.alloc();
@@ -121,7 +126,7 @@ fn answer<T: Threads + Wait + Sync, R: Read, W: Write>(
     requires output { output.old.failed ≡ false }
     ensures { Answers (request_of asked.entry) (R.remaining input.old.device)
         (W.contents output.old.device) (W.contents output.new.device)
-        input.new.failed output.new.failed result }
+        (reads_between input.old input.new) output.new.failed result }
 {
     let report = report_on(rt, alloc, asked, input);
     let status = report.status();

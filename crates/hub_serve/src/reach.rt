@@ -1,7 +1,7 @@
 //! Whether a profile of a bundle reaches a path.
-ghost use Rattle.std.specs.Prelude.{◌≡◌, ◌⊎◌, false, Some, None, MatchOption};
+ghost use Rattle.std.specs.Prelude.{◌≡◌, ◌⊎◌, Some, None, MatchOption};
 ghost use Rattle.hub_words.specs.Words as words;
-ghost use Rattle.hub_report.specs.Report.{says_read_failed};
+ghost use Rattle.hub_report.specs.Report.{unread_by};
 ghost use Rattle.hub_serve.specs.Report as report;
 ghost use Rattle.hub_serve.specs.Reached.{named};
 
@@ -23,7 +23,7 @@ pub fn report_on_reach<'a>(
     path: &str,
 ) -> Report<'a>
     ensures told { report.IsTold (words.reach profile.now path.now) contents.now result }
-    ensures read { says_read_failed result ≡ false }
+    ensures read { unread_by result ≡ None }
 {
     let Some(found) = profile_named(contents.profiles.as_slice(), profile) else {
         return Report::NoProfile(profile);
@@ -39,7 +39,7 @@ pub fn report_on_reach<'a>(
 fn bad_path<'a>(fault: PathFault) -> Report<'a>
     ensures memory { fault ≡ PathFault.OutOfMemory → result ≡ Report.OutOfMemory }
     ensures fault { (result ≡ Report.OutOfMemory) ⊎ (result ≡ Report.BadPath fault) }
-    ensures read { says_read_failed result ≡ false }
+    ensures read { unread_by result ≡ None }
 {
     match fault {
         PathFault::OutOfMemory => Report::OutOfMemory,

@@ -1,11 +1,11 @@
 //! Runs of the jobs of a safe set.
-ghost use Rattle.std.specs.Prelude.{◌≡◌, ◌↔◌, ℕ, List, true, false};
+ghost use Rattle.std.specs.Prelude.{◌≡◌, ◌↔◌, ℕ, List, true, None};
 ghost use Rattle.hub_cert.specs.Set.{IsSafeSet, Members};
 ghost use Rattle.hub_cert.specs.declared.certificate.Certificate.{Certificate};
 ghost use Rattle.hub_state.specs.State.{State};
 ghost use Rattle.hub_schedule.specs.Simulated.{AreFinished};
 ghost use Rattle.hub_runner.specs.Working.{IsNotRun, MayRun};
-ghost use Rattle.hub_report.specs.Report.{says_read_failed};
+ghost use Rattle.hub_report.specs.Report.{unread_by};
 ghost use Rattle.hub_serve.specs.Report as report;
 ghost use Rattle.hub_serve.specs.Runs.{IsRunOn};
 ghost use Rattle.hub_serve.specs.declared.task.Task.TheVariants as task;
@@ -42,7 +42,7 @@ pub fn run_set<'a, T: Threads + Wait + Sync>(
 ) -> Report<'a>
     ensures told { (cs : List Certificate) → report.IsToldOfSet (task.RunJobs workers state.now)
         verified.now cs result }
-    ensures read { says_read_failed result ≡ false }
+    ensures read { unread_by result ≡ None }
 {
     let profiles = verified.set().profiles();
     match run(rt, alloc, verified, state, usize::from(workers), &NoGate) {
@@ -55,7 +55,7 @@ pub fn run_set<'a, T: Threads + Wait + Sync>(
 fn report_on_fault<'a>(fault: RunFault) -> Report<'a>
     ensures told { (M : Members) (S : State) (n : ℕ) → IsSafeSet M → IsNotRun S M.profiles n fault
         → (cs : List Certificate) → report.IsToldOfSet (task.RunJobs n S) M cs result }
-    ensures read { says_read_failed result ≡ false }
+    ensures read { unread_by result ≡ None }
 {
     match fault {
         RunFault::NoWorkers => Report::NotRun(RunError::NoWorkers),
@@ -73,7 +73,7 @@ fn report_on_outcome<'a>(alloc: Global, profiles: &[Profile], outcome: Outcome) 
     ensures told { (M : Members) (S : State) (n : ℕ) → profiles.now ≡ M.profiles → IsSafeSet M
         → MayRun S M.profiles n → IsRunOn M S outcome
         → (cs : List Certificate) → report.IsToldOfSet (task.RunJobs n S) M cs result }
-    ensures read { says_read_failed result ≡ false }
+    ensures read { unread_by result ≡ None }
 {
     let finished = are_finished(outcome.jobs.as_slice());
     match lines_of_jobs(alloc, profiles, outcome.jobs.as_slice()) {

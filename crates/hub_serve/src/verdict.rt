@@ -1,7 +1,7 @@
 //! Answers about the set of a bundle's profiles and rules.
-ghost use Rattle.std.specs.Prelude.{◌≡◌, ◌⊎◌, false, IfOk, IfErr, OnOk};
+ghost use Rattle.std.specs.Prelude.{◌≡◌, ◌⊎◌, None, IfOk, IfErr, OnOk};
 ghost use Rattle.hub_cert.specs.Set.{IsSafeSet};
-ghost use Rattle.hub_report.specs.Report.{says_read_failed};
+ghost use Rattle.hub_report.specs.Report.{unread_by};
 ghost use Rattle.hub_search.specs.Search.{IsFirstFault};
 ghost use Rattle.hub_words.specs.Words.{about};
 ghost use Rattle.hub_serve.specs.Report as report;
@@ -26,7 +26,7 @@ pub fn report_on_set<'a, T: Threads + Wait + Sync>(
     contents: Contents,
 ) -> Report<'a>
     ensures told { report.IsTold (about question) contents result }
-    ensures read { says_read_failed result ≡ false }
+    ensures read { unread_by result ≡ None }
 {
     let Contents {
         profiles,
@@ -52,7 +52,7 @@ fn report_on_made<'a, T: Threads + Wait + Sync>(
     own: &[Certificate],
 ) -> Report<'a>
     ensures told { report.IsToldOfSet task set.now own.now result }
-    ensures read { says_read_failed result ≡ false }
+    ensures read { unread_by result ≡ None }
 {
     match answer(rt, alloc, task, set, own) {
         Ok(report) => report,
@@ -70,7 +70,7 @@ fn answer<'a, T: Threads + Wait + Sync>(
 ) -> Result<Report<'a>, CheckFault>
     ensures told { IfOk result (report.IsToldOfSet task set.now own.now) }
     ensures refused { IfErr result (report.FaultOf task set.now own.now) }
-    ensures read { IfOk result (λ r. says_read_failed r ≡ false) }
+    ensures read { IfOk result (λ r. unread_by r ≡ None) }
 {
     match task {
         Task::Check => {

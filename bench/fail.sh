@@ -10,15 +10,16 @@
 # thread gives the fault, unless it belongs to the start of a thread: then it should refuse the thread. A refused request of a worker
 # should stop the job that it steps, which may be either, and no other. Both have status 3. Where a job is stopped, the state is
 # what the other job leaves, with or without the one change of the job that was stopped. One worker makes the same requests in each
-# run, so there each of them is refused once; with two, it depends on the run which worker steps which job.
+# run, so there each of them is refused once. With two, it depends on the run which worker steps which job, and how many requests it
+# makes: each number that one worker comes to is tried once with either, and a run in which it isn't come to has the right text.
 #
 #     bench/fail.sh
 #
 # All must have been built, by `rt run` in crates/bench, crates/test_states and crates/hubsync. A C compiler is needed, since
 # a few lines of C take the place of the C library's `malloc`, `calloc`, `realloc`, `read`, `write` and `pthread_create`. As many
 # runs go on at a time as there are processors, and a run that takes a minute is ended. For each kind of call a line gives the
-# number of runs, how many ended with the fault, how many with a refused thread, a stopped job or a refused step, and how many with
-# the right text. The status is 1 if an answer is wrong.
+# number of runs, how many ended with the fault, how many with a refused thread, a stopped job or a refused step, how many with
+# the right text, and in how many the worker didn't make the call. The status is 1 if an answer is wrong.
 set -euo pipefail
 top=$(dirname "$(dirname "$(readlink -f "${BASH_SOURCE[0]}")")")
 program=$top/crates/bench/out/bench
@@ -33,11 +34,13 @@ done
 folder=$(mktemp -d)
 trap 'rm -rf "$folder"' EXIT
 lanes=$(nproc)
+bound=''
 
 # Has the call fail whose number is in a variable, and says so on file 9. FAIL_ALLOC is for requests for memory of the first
 # thread, FAIL_ALLOC_A and FAIL_ALLOC_B are for those of the two that it starts, FAIL_READ and FAIL_WRITE for reads and writes. If
 # SAY_STARTS is there, it says the numbers of the first thread's requests that belong to the start of a thread: the last one before
-# the call, which the program makes for what the thread runs, and those of the C library in the call.
+# the call, which the program makes for what the thread runs, and those of the C library in the call. A thread waits until as many
+# are there as THREADS says, for 20 ms at most, so that no worker has done all before the other one comes.
 cat >"$folder/failing.c" <<'C'
 #define _GNU_SOURCE
 #include <dlfcn.h>
@@ -54,7 +57,7 @@ struct job {
 };
 
 static struct job jobs[2];
-static int started;
+static int started, arrived;
 static __thread int own __attribute__((tls_model("initial-exec")));
 static long allocs[3], reads, writes;
 
@@ -107,7 +110,11 @@ void *realloc(void *block, size_t size) {
 
 static void *run_job(void *at) {
     struct job *job = at;
+    const char *threads = getenv("THREADS");
     own = job->number;
+    __atomic_add_fetch(&arrived, 1, __ATOMIC_SEQ_CST);
+    for (int turn = 0; threads != NULL && turn < 200 && __atomic_load_n(&arrived, __ATOMIC_SEQ_CST) < atoi(threads); turn++)
+        usleep(100);
     return job->run(job->with);
 }
 
@@ -226,8 +233,8 @@ judge_question() {
     fi
 }
 
-# Runs a program on an input with each call of a kind failing. Then the file `told` has the word of each run, and `runs` is their
-# number.
+# Runs a program on an input with each call of a kind failing, until there is no such call, or up to the number `bound` if there is
+# one. Then the file `told` has the word of each run, and `runs` is their number.
 fail_each() {
     local judge=$1 program=$2 input=$3 kind=$4 fault=$5 number lane begun=() each
     for ((number = 1; number <= lanes; number++)); do
@@ -244,15 +251,16 @@ fail_each() {
     runs=$(wc -l <"$folder/told")
 }
 
-# Takes each so-many-th number, from the lane's own on, until there is no such call. Without a failing call the text is right.
+# Takes each so-many-th number, from the lane's own on. Without a failing call the text is right.
 fail_in_lane() {
     : >"$lane/told"
-    while [ ! -e "$folder/wrong" ]; do
+    while [ ! -e "$folder/wrong" ] && [ "$number" -le "${bound:-$number}" ]; do
         run "$kind=$number" "$input" "$program"
         "$judge"
         if [ -z "$said" ]; then
             [ "$told" = right ] || is_wrong
-            return 0
+            [ -n "$bound" ] || return 0
+            told=missed
         fi
         [ "$told" != wrong ] || is_wrong
         echo "$told" >>"$lane/told"
@@ -276,7 +284,7 @@ count() {
 say_each() {
     fail_each "$@"
     echo "$(basename "$2"): $4: $runs runs, $(count fault) with $5, $(count refused) with a refused thread," \
-        "$(count stopped) with a stopped job, $(count right) with the right text"
+        "$(count stopped) with a stopped job, $(count right) with the right text, $(count missed) without the call"
 }
 
 # Asks `test_states` a question with each request for memory refused. Its answers are given.
@@ -293,18 +301,25 @@ say_each_in_question() {
 
 # Refuses each request for memory of a run of `hubsync` by a number of workers, in each of its threads. Each start of a thread makes
 # two requests, as the first run says: one of the program for what the thread runs, and one of the C library for the table of the
-# thread's own variables.
+# thread's own variables. For two workers `requests` has to be how many requests one worker makes, as the call for one leaves it.
 say_each_in_run() {
-    local input=$1 workers=$2 thread threads=('' _A)
-    [ "$workers" = 1 ] || threads+=(_B)
+    local input=$1 workers=$2 thread threads=(_A)
+    local -x THREADS=$workers
     words=(run --workers "$workers")
     lane=$folder
     run SAY_STARTS=1 "$input" "$hubsync"
     starts=$'\n'$said
     echo "hubsync $input, workers: $workers"
+    say_each judge_hubsync "$hubsync" "$input" FAIL_ALLOC OutOfMemory
+    if [ "$workers" = 2 ]; then
+        threads=(_A _B)
+        bound=$requests
+    fi
     for thread in "${threads[@]}"; do
         say_each judge_hubsync "$hubsync" "$input" "FAIL_ALLOC$thread" OutOfMemory
     done
+    requests=$runs
+    bound=''
     words=()
 }
 

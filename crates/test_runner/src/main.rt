@@ -18,12 +18,14 @@
 //! - `run WORKERS`: what the jobs leave that run at the same time (`runs`).
 //! - `meet POINT WORKERS`: how many of two jobs come to a point of their first steps (`before`, `within` or `after`), how many of
 //!   them wait there for the other one in vain (`meeting`), and what they leave.
+//! - `crowd WORKERS`: how many jobs make a step at the same time, at most (`crowd`), and what the jobs leave.
 //! - `row WORKERS`: how many steps a job makes in a row at most (`row`), and what the jobs leave.
 //! - `watch WORKERS`: how a gate is called for each job (`watch`), and what the jobs leave, with their logs.
 //! - `runs COUNT WORKERS`: whether so many runs leave what the jobs leave one after the other (`runs`).
 #![tactic(auto)]
 
 mod changes;
+mod crowd;
 mod desks;
 mod given;
 mod meeting;

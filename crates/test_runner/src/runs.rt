@@ -1,5 +1,6 @@
 //! Jobs that run at the same time.
 
+use crate::crowd::Crowd;
 use crate::given::{Case, verified_of};
 use crate::meeting::{Meeting, Point};
 use crate::row::Row;
@@ -26,6 +27,8 @@ pub(crate) enum Run {
     /// How many of two jobs come to their first steps, run by so many workers, how many of them wait for the other one in vain,
     /// and what they leave.
     Meeting { point: Point, workers: usize },
+    /// How many jobs make a step at the same time at most, run by so many workers, and what the jobs leave.
+    Crowd { workers: usize },
     /// How many steps a job makes in a row at most, run by so many workers, and what the jobs leave.
     InARow { workers: usize },
     /// How a gate is called by so many workers, and what the jobs leave.
@@ -46,6 +49,9 @@ impl Run {
             "meet" => Ok(Run::Meeting {
                 point: Point::read(first)?,
                 workers: second.parse::<usize>()?,
+            }),
+            "crowd" => Ok(Run::Crowd {
+                workers: first.parse::<usize>()?,
             }),
             "row" => Ok(Run::InARow {
                 workers: first.parse::<usize>()?,
@@ -99,6 +105,7 @@ fn answer_of_state<R: Threads + Wait + Sync>(
         Run::Meeting { point, workers } => {
             meeting_text(rt, alloc, &verified, state, point, workers)
         }
+        Run::Crowd { workers } => crowd_text(rt, alloc, &verified, state, workers),
         Run::InARow { workers } => row_text(rt, alloc, &verified, state, workers),
         Run::Watched { workers } => watched_text(rt, alloc, &verified, state, workers),
     }
@@ -155,6 +162,18 @@ fn meeting_text<R: Threads + Wait + Sync>(
     let gate = Meeting::new(point);
     let text = run_text(rt, alloc, verified, state, workers, &gate)?;
     Ok(format!(in alloc; "{} came, {} late, {text}", gate.came(), gate.late())?)
+}
+
+fn crowd_text<R: Threads + Wait + Sync>(
+    rt: &R,
+    alloc: Global,
+    verified: &Verified<'_>,
+    state: &State,
+    workers: usize,
+) -> Result<String> {
+    let gate = Crowd::new(verified.set().profiles().len());
+    let text = run_text(rt, alloc, verified, state, workers, &gate)?;
+    Ok(format!(in alloc; "{} at a time, {text}", gate.most())?)
 }
 
 fn row_text<R: Threads + Wait + Sync>(

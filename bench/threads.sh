@@ -1,23 +1,26 @@
 #!/usr/bin/env bash
-# Times runs of a star in memory, without reading and writing: by jobs that take turns in one thread, and by jobs in threads of
-# their own. The two should take the same turns, so the ratio of their times says what threads gain or cost.
+# Times runs of a star in memory, without reading and writing: in rounds, which take turns in one thread, by one worker, and by
+# several. They make the same steps, so the ratio of the times of several workers and of one says what threads gain or cost.
 #
-#     bench/threads.sh [PROGRAM [REPETITIONS]]
+#     bench/threads.sh [PROGRAM [REPETITIONS [WORKERS]]]
 #
-# PROGRAM is the built `bench` (crates/bench/out/bench if left out), REPETITIONS is 5 if left out. The stars:
+# PROGRAM is the built `bench` (crates/bench/out/bench if left out), REPETITIONS is 5 if left out, and WORKERS is 4. The stars:
 #
-# - `files`: 8 spokes; the hub has 8 files of 1 MiB for each of them, and they have none (aim: threads take half the time);
-# - `same`: 32 spokes, 33,000 entries of the hub in all: the hub, the spokes and their archives agree (aim: at most 1.2 times the
-#   time of one thread);
+# - `files`: 8 spokes; the hub has 8 files of 1 MiB for each of them, and they have none (aim: several workers take half the time
+#   of one);
+# - `same`: 32 spokes, 33,000 entries of the hub in all: the hub, the spokes and their archives agree (aim: no more time);
 # - `new`: 32 spokes: the hub has 99,000 entries, and the spokes have none (the same aim).
 #
-# A line gives the size of the state, and the least times in milliseconds. The status is 1 if the state that the threads leave is
-# another one than the jobs in one thread leave by `hubsync`'s rules: all that the hub has, at the hub and at the spokes.
+# What is compared is the time from the start of a run to its last step. After that the run compares what was done, and puts the
+# outcome together, in one thread. Lines give the size of the state, and the least times in milliseconds: of rounds in all, and of
+# each number of workers to the last step and in all. The status is 1 if the state that is left is another one than `hubsync`'s
+# rules say: all that the hub has, at the hub and at the spokes.
 set -euo pipefail
 export LC_ALL=C
 top=$(dirname "$(dirname "$(readlink -f "${BASH_SOURCE[0]}")")")
 program=${1:-$top/crates/bench/out/bench}
 repetitions=${2:-5}
+workers=${3:-4}
 
 if [ ! -x "$program" ]; then
     echo "bench/threads.sh: no program at $program: build it with \`rt run\` in crates/bench" >&2
@@ -90,27 +93,35 @@ large_teams() {
     done
 }
 
-# Writes the two times of one run over the state `opening`. Ends the script if the state that is left is not `closing`.
-time_both() {
-    if ! "$program" run "$1" <"$folder/opening" >"$folder/left" 2>"$folder/times" || ! cmp -s "$folder/left" "$folder/closing"; then
+# Writes the times of one run over the state `opening` by so many spokes, each below its name. Ends the script if the state that is
+# left is not `closing`.
+time_once() {
+    if ! "$program" run "$1" "$workers" <"$folder/opening" >"$folder/left" 2>"$folder/times" ||
+        ! cmp -s "$folder/left" "$folder/closing"; then
         echo "bench/threads.sh: a wrong answer: $(head -c 200 "$folder/times")" >&2
         exit 1
     fi
-    sed -n 's/^in one thread: \([0-9]*\) ms$/one \1/p; s/^in threads: \([0-9]*\) ms$/threads \1/p' "$folder/times"
+    sed -n 's/^rounds: \([0-9]*\) ms$/rounds \1000/p
+        s/^workers \([0-9]*\): \([0-9]*\) us to the last step, \([0-9]*\) us in all$/steps\1 \2\nall\1 \3/p' "$folder/times"
 }
 
 # Runs the star of that name and so many spokes again and again, and says the least times.
 measure() {
     local i
     for ((i = 0; i < repetitions; i++)); do
-        time_both "$2"
+        time_once "$2"
     done >"$folder/all"
-    awk -v name="$1" -v bytes="$(wc -c <"$folder/opening")" -v aim="$3" '
+    awk -v name="$1" -v bytes="$(wc -c <"$folder/opening")" -v aim="$3" -v workers="$workers" '
         !($1 in least) || $2 < least[$1] { least[$1] = $2 }
         END {
-            ratio = least["one"] ? sprintf("%.2f", least["threads"] / least["one"]) : "-"
-            printf "%-6s %10d bytes  one thread %6d ms  threads %6d ms  ratio %s (aim: at most %s)\n",
-                name, bytes, least["one"], least["threads"], ratio, aim
+            ratio = least["steps1"] ? sprintf("%.2f", least["steps" workers] / least["steps1"]) : "-"
+            printf "%s: %d bytes, rounds %.0f ms\n", name, bytes, least["rounds"] / 1000
+            print_workers(1)
+            print_workers(workers)
+            printf "  ratio %s (aim: at most %s)\n", ratio, aim
+        }
+        function print_workers(n) {
+            printf "  workers %d: %.1f ms to the last step, %.1f ms in all\n", n, least["steps" n] / 1000, least["all" n] / 1000
         }' "$folder/all"
 }
 
@@ -121,8 +132,8 @@ large_teams
 measure files 8 0.5
 small_teams 32 1030
 { hub; spokes full; archives; } | state | tee "$folder/opening" >"$folder/closing"
-measure same 32 1.2
+measure same 32 1.0
 small_teams 32 3092
 { hub; spokes empty; } | state >"$folder/opening"
 { hub; spokes full; archives; } | state >"$folder/closing"
-measure new 32 1.2
+measure new 32 1.0

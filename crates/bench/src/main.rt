@@ -3,7 +3,7 @@
 //! - `tree [DIRECTORIES [BYTES]]`: a replica in memory;
 //! - `walk [ROUNDS]`: a walker's steps;
 //! - `state`: reading and writing the state text on standard input;
-//! - `run [PROFILES]`: the jobs of a star on that state, in one thread and in threads of their own.
+//! - `run [PROFILES [WORKERS]]`: the jobs of a star on that state, in rounds, by one worker and by several.
 //!
 //! Without a word it does a little of `tree` and `walk`, and then `run`. Standard output has what was found, which is the same
 //! each time, and standard error has the times.
@@ -19,6 +19,7 @@ use std::time::Clock;
 mod profiles;
 mod run;
 mod state;
+mod stopwatch;
 mod times;
 mod tree;
 mod walk;
@@ -34,6 +35,9 @@ const ROUNDS: u32 = 10;
 
 /// How many profiles the star has, unless the command line says so.
 const PROFILES: u32 = 8;
+
+/// How many workers step its jobs, unless the command line says so.
+const WORKERS: u32 = 4;
 
 fn main(rt: HostRuntime) -> Result<()> {
     match env::args(&rt)?.nth(1) {
@@ -53,7 +57,10 @@ fn time<R: AllocGlobal + Clock + Env + Eprint + Input + Print + Sync + Threads +
         }
         "walk" => walk::time(rt, number(rt, 2, ROUNDS)?),
         "state" => state::time(rt),
-        "run" => run::time(rt, number(rt, 2, PROFILES)?),
+        "run" => {
+            let profiles = number(rt, 2, PROFILES)?;
+            run::time(rt, profiles, number(rt, 3, WORKERS)?)
+        }
         _ => bail!("the first word is tree, walk, state or run"),
     }
 }
@@ -63,7 +70,7 @@ fn time_all<R: AllocGlobal + Clock + Eprint + Input + Print + Sync + Threads + W
 ) -> Result<()> {
     tree::time(rt, DIRECTORIES, BYTES)?;
     walk::time(rt, ROUNDS)?;
-    run::time(rt, PROFILES)
+    run::time(rt, PROFILES, WORKERS)
 }
 
 /// The word of the command line at a place, or a number that stands for it.

@@ -1,14 +1,15 @@
-//! Runs the jobs of a star over the state text on standard input: in one thread, where they take turns, and then each in a thread
-//! of its own. Standard error has the time of each run, and standard output has the text of the state that the threads leave.
+//! Runs the jobs of a star over the state text on standard input: in rounds, which take turns in one thread, then by one worker,
+//! and then by several. Standard error has the times of each run, and standard output has the text of the state that the last run
+//! leaves.
 //!
 //! Profile N of the star is between the roots `/srv/hub` and `/srv/spokeN`, and has the path `teamN`.
 
 use crate::profiles::profile_of;
 use crate::state;
-use crate::times::report;
+use crate::stopwatch::Stopwatch;
+use crate::times::{microseconds, report};
 use anyhow::{Result, bail};
 use hub_cert::{ProfileSet, Verified};
-use hub_history::Gate;
 use hub_job::Outcome;
 use hub_profile::{Profile, Rules};
 use hub_runner::run;
@@ -21,27 +22,14 @@ use std::sync::Wait;
 use std::thread::Threads;
 use std::time::{Clock, Instant};
 
-/// How many workers there may be.
-const WORKERS: usize = 2;
-
-/// A gate that does nothing.
-struct Open;
-
-impl Gate for Open {
-    fn before(&self, _job: usize, _step: usize) {}
-
-    fn within(&self, _job: usize) {}
-
-    fn after(&self, _job: usize, _step: usize) {}
-}
-
-/// Runs the jobs of the star of so many profiles, in both ways.
+/// Runs the jobs of the star of so many profiles, in all three ways.
 pub(crate) fn time<R: AllocGlobal + Clock + Eprint + Input + Print + Sync + Threads + Wait>(
     rt: &R,
     count: u32,
+    workers: u32,
 ) -> Result<()> {
     let set = star(rt.alloc(), count)?;
-    run_set(rt, &set)
+    run_set(rt, &set, workers as usize)
 }
 
 /// The set of the star's profiles.
@@ -71,23 +59,27 @@ fn spoke(alloc: Global, number: u32) -> Result<Profile> {
 fn run_set<R: AllocGlobal + Clock + Eprint + Input + Print + Sync + Threads + Wait>(
     rt: &R,
     set: &ProfileSet,
+    workers: usize,
 ) -> Result<()> {
     let Ok(verified) = check(rt.alloc(), set) else {
         bail!("the star isn't safe");
     };
-    run_jobs(rt, &verified)
+    run_jobs(rt, &verified, workers)
 }
 
 fn run_jobs<R: AllocGlobal + Clock + Eprint + Input + Print + Sync + Threads + Wait>(
     rt: &R,
     verified: &Verified<'_>,
+    workers: usize,
 ) -> Result<()> {
     let opening = state::read(rt)?;
-    run_in_one(rt, verified, &opening)?;
-    run_in_threads(rt, verified, &opening)
+    run_in_rounds(rt, verified, &opening)?;
+    drop(run_by(rt, verified, &opening, 1)?);
+    let outcome = run_by(rt, verified, &opening, workers)?;
+    state::write(rt, &outcome.state)
 }
 
-fn run_in_one<R: AllocGlobal + Clock + Eprint>(
+fn run_in_rounds<R: AllocGlobal + Clock + Eprint>(
     rt: &R,
     verified: &Verified<'_>,
     opening: &State,
@@ -96,27 +88,32 @@ fn run_in_one<R: AllocGlobal + Clock + Eprint>(
     if run_rounds(rt.alloc(), verified, opening).is_err() {
         bail!("the jobs weren't run");
     }
-    report(rt, "in one thread", start)
+    report(rt, "rounds", start)
 }
 
-fn run_in_threads<R: AllocGlobal + Clock + Eprint + Print + Sync + Threads + Wait>(
+/// Runs the jobs by so many workers, and prints how long that took.
+fn run_by<R: AllocGlobal + Clock + Eprint + Sync + Threads + Wait>(
     rt: &R,
     verified: &Verified<'_>,
     opening: &State,
-) -> Result<()> {
-    let start = Instant::now(rt)?;
-    let Ok(outcome) = run(rt, rt.alloc(), verified, opening, WORKERS, &Open) else {
-        bail!("the jobs weren't run in threads");
+    workers: usize,
+) -> Result<Outcome> {
+    let stopwatch = Stopwatch::new(rt)?;
+    let Ok(outcome) = run(rt, rt.alloc(), verified, opening, workers, &stopwatch) else {
+        bail!("the jobs weren't run by workers");
     };
-    report_outcome(rt, start, &outcome)
+    report_run(rt, workers, &stopwatch)?;
+    Ok(outcome)
 }
 
-/// Prints how long it is since the start of the run in threads, and writes the state that it leaves.
-fn report_outcome<R: AllocGlobal + Clock + Eprint + Print>(
+/// Prints how long a run took until its last step, and how long it took in all.
+fn report_run<R: Clock + Eprint>(
     rt: &R,
-    start: Instant,
-    outcome: &Outcome,
+    workers: usize,
+    stopwatch: &Stopwatch<'_, R>,
 ) -> Result<()> {
-    report(rt, "in threads", start)?;
-    state::write(rt, &outcome.state)
+    let stepped = stopwatch.last();
+    let all = microseconds(stopwatch.elapsed()?);
+    eprintln!(rt; "workers {workers}: {stepped} us to the last step, {all} us in all")?;
+    Ok(())
 }

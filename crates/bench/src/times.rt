@@ -9,6 +9,12 @@ pub(crate) fn milliseconds(time: Duration) -> u64 {
     seconds.saturating_add(u64::from(time.subsec_millis()))
 }
 
+/// A time in microseconds.
+pub(crate) fn microseconds(time: Duration) -> u64 {
+    let seconds = time.as_secs().saturating_mul(1_000_000);
+    seconds.saturating_add(u64::from(time.subsec_micros()))
+}
+
 /// A time in nanoseconds.
 pub(crate) fn nanoseconds(time: Duration) -> u64 {
     let seconds = time.as_secs().saturating_mul(1_000_000_000);

@@ -38,6 +38,7 @@ kept other t = record {
   force = None;
   prefer = None;
   bars = no_bars ∷ no_bars ∷ [];
+  partial = [];
 }
 
 abbrev profiles : List Parts

@@ -53,6 +53,7 @@ kept t = record {
   force = None;
   prefer = None;
   bars = no_bars ∷ no_bars ∷ [];
+  partial = [];
 }
 
 abbrev hub : Path

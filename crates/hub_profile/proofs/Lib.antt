@@ -1,4 +1,5 @@
 pub mod Cuts
+pub mod ArrowCuts
 pub mod Words
 pub mod KeptValues
 pub mod ProfileFacts

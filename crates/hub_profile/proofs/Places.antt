@@ -21,16 +21,18 @@ use Rattle.hub_glob.specs.Specification.{Specification}
 use Rattle.hub_glob.specs.Reading.{spec_reading}
 use Rattle.hub_glob.specs.declared.fault.GlobFault.{GlobFault}
 use Rattle.hub_profile.specs.declared.fault.Fault.{Fault}
-use Rattle.hub_profile.specs.declared.fault.Fault.TheVariants.{IncludeLeftOut, NoEquals}
+use Rattle.hub_profile.specs.declared.fault.Fault.TheVariants.{IncludeLeftOut, NoEquals, NoArrow}
 use Rattle.hub_profile.specs.declared.fault.ProfileFault.{ProfileFault}
 use Rattle.hub_profile.specs.declared.key.Key.{Key}
 use Rattle.hub_profile.specs.declared.key.Key.TheVariants as key
 use Rattle.hub_profile.specs.declared.protection.Protection.{Protection}
+use Rattle.hub_profile.specs.declared.bars.Bars.{Bars}
 use Rattle.hub_profile.specs.Protection.{repeats, is_left_out}
+use Rattle.hub_profile.specs.Arrow.{has_arrow, spec_and_root}
 use Rattle.hub_profile.specs.Lines.{setting, is_setting, is_include, has_equals, line_text, trimmed}
 use Rattle.hub_profile.specs.LineByLine.{with_pair, with_line, at_line, and_line, lines_reading, look_up}
 use Rattle.hub_profile.specs.Said.{Said, nothing}
-use Rattle.hub_profile.specs.Reading.{kept_reading, keys, with_root, with_path, with_ignore, with_ignorenot, with_protected, has_all_paths, has_all_patterns, with_value, with_key, with_preference}
+use Rattle.hub_profile.specs.Reading.{kept_reading, keys, with_root, with_path, with_ignore, with_ignorenot, with_protected, with_partial, with_spec_and_root, has_all_paths, has_all_patterns, has_all_partials, with_value, with_key, with_preference}
 
 -- Cuts of characters are characters.
 cut_either : (b : Bool) (xs ys : List ℕ) → all_scalars xs ≡ true → all_scalars ys ≡ true → all_scalars (cond b xs ys) ≡ true
@@ -158,6 +160,15 @@ protected_said : (said : Said) (p : Protection) (n : ℕ) (r : Result Path PathF
 protected_said said p n (Ok root) h = h
 protected_said said p n (Err f) h = tt
 
+partial_said : (said : Said) (bars : Bars) (n : ℕ) (s : Result Specification GlobFault) (r : Result Path PathFault) → ArePlaces said → IfSaid (with_partial bars said n s r)
+partial_said said bars n (Ok spec) (Ok root) h = h
+partial_said said bars n (Ok spec) (Err f) h = tt
+partial_said said bars n (Err f) r h = tt
+
+if_arrow : (b : Bool) (r : Result Said Fault) → IfSaid r → IfSaid (cond b r (Err NoArrow))
+if_arrow true r h = h
+if_arrow false r h = tt
+
 unless_fault : (b : Bool) (f : Fault) (r : Result Said Fault) → IfSaid r → IfSaid (cond b (Err f) r)
 unless_fault true f r h = tt
 unless_fault false f r h = h
@@ -169,6 +180,8 @@ value_said key.Ignore said n v h s = unless_fault (has_all_patterns said) _ _ (i
 value_said key.IgnoreNot said n v h s = unless_fault (has_all_patterns said) _ _ (ignorenot_said said (spec_reading v) h)
 value_said (key.Protect p) said n v h s =
     unless_fault (repeats p said.protections) _ _ (unless_fault (is_left_out p v) _ _ (protected_said said p n (root_reading v) h))
+value_said (key.Partial bars) said n v h s =
+    unless_fault (has_all_partials said) _ _ (if_arrow (has_arrow v) (with_spec_and_root bars said n (spec_and_root v)) (partial_said said bars n _ _ h))
 value_said key.NoEffect said n v h s = h
 
 key_said : (o : Option Key) (said : Said) (n : ℕ) (name v : List ℕ) → ArePlaces said → all_scalars v ≡ true → IfSaid (with_key o said n name v)

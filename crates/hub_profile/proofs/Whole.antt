@@ -9,7 +9,7 @@ use Rattle.hub_profile.specs.declared.fault.Fault.TheVariants.{NotUtf8}
 use Rattle.hub_profile.specs.declared.fault.ProfileFault.{ProfileFault}
 use Rattle.hub_profile.specs.Parts.{Parts, IsProfile}
 use Rattle.hub_profile.specs.Said.{Said, nothing}
-use Rattle.hub_profile.specs.Protection.{foreign_fault}
+use Rattle.hub_profile.specs.Foreign.{foreign_fault}
 use Rattle.hub_profile.specs.LineByLine.{lines_reading, if_text}
 use Rattle.hub_profile.specs.Reading.{with_preference, roots_fault, profile, or_later, unless_fault, if_said, profile_reading, profile_in}
 use Rattle.hub_profile.proofs.Places.{ArePlaces, said_are_places}
@@ -37,7 +37,7 @@ is_profile_read name bytes P h = by_text (is_utf8 bytes) refl h
     by_roots said (Some f) later places r e = cc
 
     by_lines : (r : Result Said ProfileFault) → is_utf8 bytes ≡ true → lines_reading with_preference nothing (chars bytes) ≡ r → if_said name r ≡ Ok P → IsProfile P
-    by_lines (Ok said) u e k = by_roots said (roots_fault said.roots) (foreign_fault said.roots said.protections) (places_of_text bytes bytes said refl u e) refl k
+    by_lines (Ok said) u e k = by_roots said (roots_fault said.roots) (foreign_fault said.roots said.protections said.partials) (places_of_text bytes bytes said refl u e) refl k
     by_lines (Err f) u e k = cc
 
     by_text : (b : Bool) → is_utf8 bytes ≡ b → cond b (profile_reading name (chars bytes)) (Err (record { line = 0; fault = NotUtf8 })) ≡ Ok P → IsProfile P

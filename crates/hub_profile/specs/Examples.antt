@@ -15,6 +15,9 @@ use Rattle.hub_profile.specs.LineByLine.{lines_reading}
 use Rattle.hub_profile.specs.Said.{Said, nothing}
 use Rattle.hub_profile.specs.Protection.{no_bars}
 use Rattle.hub_profile.specs.declared.bars.Bars.{Bars}
+use Rattle.hub_profile.specs.Arrow.{has_arrow, spec_and_root}
+use Rattle.hub_profile.specs.declared.partial.Partial.{Partial}
+use Rattle.hub_path.specs.declared.side.Side.{Side}
 use Rattle.hub_path.specs.declared.side.Side.TheVariants.{Left, Right}
 use Rattle.hub_profile.specs.Reading.{with_preference, kept, or_whole, profile, profile_reading, profile_in}
 use Rattle.hub_profile.specs.Rules.{rules_reading, rules_in}
@@ -219,8 +222,8 @@ names_need_an_equals : map third (codes "batch" ∷ codes "times true" ∷ codes
 names_need_an_equals = refl
 
 -- Other names of Unison's are left out.
-names_are_unknown : map (λ n. third (n ++ codes " = x")) (codes "newer" ∷ codes "older" ∷ codes "merge" ∷ codes "backup" ∷ codes "follow" ∷ codes "mountpoint" ∷ codes "ignorecase" ∷ codes "forcepartial" ∷ codes "preferpartial" ∷ codes "nodeletionpartial" ∷ [])
-    ≡ map (λ n. at 3 (fault.UnknownPreference n)) (codes "newer" ∷ codes "older" ∷ codes "merge" ∷ codes "backup" ∷ codes "follow" ∷ codes "mountpoint" ∷ codes "ignorecase" ∷ codes "forcepartial" ∷ codes "preferpartial" ∷ codes "nodeletionpartial" ∷ [])
+names_are_unknown : map (λ n. third (n ++ codes " = x")) (codes "newer" ∷ codes "older" ∷ codes "merge" ∷ codes "backup" ∷ codes "follow" ∷ codes "mountpoint" ∷ codes "ignorecase" ∷ codes "forcepartial" ∷ codes "preferpartial" ∷ [])
+    ≡ map (λ n. at 3 (fault.UnknownPreference n)) (codes "newer" ∷ codes "older" ∷ codes "merge" ∷ codes "backup" ∷ codes "follow" ∷ codes "mountpoint" ∷ codes "ignorecase" ∷ codes "forcepartial" ∷ codes "preferpartial" ∷ [])
 names_are_unknown = refl
 
 -- A profile with two roots and these lines.
@@ -239,6 +242,53 @@ bars_are_read : map (λ t. (with_roots t).bars) (codes "nodeletion = /srv/hub" �
     ≡ (bars false false true ∷ no_bars ∷ []) ∷ (no_bars ∷ bars false true true ∷ []) ∷ (bars true false false ∷ no_bars ∷ []) ∷ (no_bars ∷ bars true true true ∷ []) ∷ (bars false false true ∷ bars false false true ∷ []) ∷ (no_bars ∷ no_bars ∷ []) ∷ []
 bars_are_read = refl
 
+-- A value is cut at its last arrow, and the blanks around both parts are dropped.
+cuts_are_read : map spec_and_root (codes "Path a->/srv/hub" ∷ codes "Path a -> b -> /srv/hub" ∷ codes " -> /srv/hub" ∷ codes "Path a ->" ∷ codes "->" ∷ codes "a -->\t/b" ∷ codes "a ->> /b" ∷ codes "->->" ∷ [])
+    ≡ (codes "Path a", codes "/srv/hub") ∷ (codes "Path a -> b", codes "/srv/hub") ∷ (codes "", codes "/srv/hub") ∷ (codes "Path a", codes "") ∷ (codes "", codes "") ∷ (codes "a -", codes "/b") ∷ (codes "a", codes "> /b") ∷ (codes "->", codes "") ∷ []
+cuts_are_read = refl
+
+arrows_are_found : map has_arrow (codes "Path a->/srv/hub" ∷ codes "->" ∷ codes "" ∷ codes "-" ∷ codes ">" ∷ codes "a - > /b" ∷ codes "a >- /b" ∷ codes "a => /b" ∷ []) ≡ true ∷ true ∷ false ∷ false ∷ false ∷ false ∷ false ∷ false ∷ []
+arrows_are_found = refl
+
+-- Of one line the arrow is missed first, then the specification is at fault, then the root.
+partial_values_are_faulty : map (λ v. third (codes "noupdatepartial = " ++ v)) (codes "Path a" ∷ codes "" ∷ codes "Foo a" ∷ codes "-> /srv/hub" ∷ codes "Foo -> srv" ∷ codes "Path /a -> srv" ∷ codes "Path a ->" ∷ codes "Path a -> srv" ∷ codes "Path a -> ssh://h/d" ∷ codes "Path a -> newer" ∷ codes "Path a->/srv/hub" ∷ codes "Path a -> b -> /srv/hub/" ∷ [])
+    ≡ at 3 fault.NoArrow ∷ at 3 fault.NoArrow ∷ at 3 fault.NoArrow ∷ bad_pattern glob.NoKind ∷ bad_pattern glob.NoKind ∷ bad_pattern glob.LeadingSlash ∷ at 3 (fault.BadPath path.Empty) ∷ at 3 (fault.BadPath path.NotAbsolute) ∷ at 3 (fault.BadPath path.RemoteRoot) ∷ at 3 (fault.BadPath path.NotAbsolute) ∷ None ∷ None ∷ []
+partial_values_are_faulty = refl
+
+abbrev partial_lines : List ℕ
+partial_lines = codes "nodeletionpartial=Name a->/srv/s1\nnoupdatepartial=Name a->/srv/s1\nnocreationpartial=Name a->/srv/s1\nnoupdatepartial=Name a->/srv/hub\n"
+
+-- 64 lines of the three kinds together may be there
+many_partials_are_read : third (eight_times (partial_lines ++ partial_lines)) ≡ None
+many_partials_are_read = refl
+
+-- the 65th is too many, of each kind and whatever its value; lines of other kinds are not counted
+one_more_partial_is_too_many : map (λ t. third (eight_times (partial_lines ++ partial_lines) ++ t)) (codes "nodeletionpartial = Foo" ∷ codes "noupdatepartial = Name a -> /srv/hub" ∷ codes "nocreationpartial =" ∷ codes "nocreation = /srv/hub\nignore = Name a\npath = a" ∷ []) ≡ at 67 fault.TooMany ∷ at 67 fault.TooMany ∷ at 67 fault.TooMany ∷ None ∷ []
+one_more_partial_is_too_many = refl
+
+-- The lowest line that names another root is reported, of either kind.
+other_partial_roots_are_told : map third (codes "noupdatepartial = Path a -> /srv/s3" ∷ codes "noupdatepartial = Path a -> /srv" ∷ codes "nocreation = /srv/hub\nnodeletionpartial = Path a -> /srv/s3\nforce = /srv/s3" ∷ codes "noupdate = /srv/s3\nnodeletionpartial = Path a -> /srv/s3" ∷ codes "nodeletionpartial = Path a -> /srv/hub\nnodeletionpartial = Path a -> /srv/s3" ∷ [])
+    ≡ at 3 fault.NotARoot ∷ at 3 fault.NotARoot ∷ at 4 fault.NotARoot ∷ at 3 fault.NotARoot ∷ at 4 fault.NotARoot ∷ []
+other_partial_roots_are_told = refl
+
+other_partial_roots_come_last : map faulty (codes "noupdatepartial = Path a -> /b\nroot = /a" ∷ codes "noupdatepartial = Path a -> /b\nroot = /a\nroot = /a" ∷ codes "noupdatepartial = Path a -> /b\nroot = /a\nroot = /a/c" ∷ codes "noupdatepartial = Path a -> /b\nroot = /a\nroot = /c\npath = /" ∷ codes "noupdatepartial = Path a -> /b\nroot = /a\nroot = /b" ∷ [])
+    ≡ at 0 fault.RootCount ∷ at 0 fault.SameRoots ∷ at 0 fault.RootsNested ∷ at 4 (fault.BadPath path.LeadingSlash) ∷ None ∷ []
+other_partial_roots_come_last = refl
+
+abbrev below_a : Specification
+below_a = record { kind = kind.BelowPath; pattern = One (Lit 97) ∷ [] }
+
+abbrev partial_bar : Side → Bars → Partial
+partial_bar side b = record { side = side; bars = b; spec = below_a }
+
+-- Bars on paths stand in the order of their lines, also those that add nothing, and are none of the bars on a root.
+partials_are_read : (with_roots (codes "nocreationpartial = BelowPath a -> /srv/s1/\nnodeletionpartial = BelowPath a -> /srv/hub\nnoupdatepartial = BelowPath a->/srv/s1\nnodeletionpartial = BelowPath a -> /srv/hub")).partial
+    ≡ partial_bar Right (bars true false false) ∷ partial_bar Left (bars false false true) ∷ partial_bar Right (bars false true true) ∷ partial_bar Left (bars false false true) ∷ []
+partials_are_read = refl
+
+partials_bar_no_root : (with_roots (codes "noupdatepartial = BelowPath a -> /srv/hub\nnocreationpartial = BelowPath a -> /srv/s1")).bars ≡ no_bars ∷ no_bars ∷ []
+partials_bar_no_root = refl
+
 roots_apart : map are_roots ((path_of (codes "srv/hub") ∷ path_of (codes "srv/s1") ∷ []) ∷ (path_of (codes "srv") ∷ path_of (codes "srv/hub") ∷ []) ∷ (path_of (codes "srv") ∷ path_of (codes "srv") ∷ []) ∷ []) ≡ true ∷ false ∷ false ∷ []
 roots_apart = refl
 
@@ -249,7 +299,7 @@ abbrev two_values : Parts
 two_values = profile (codes "p") (said_in (codes "root = /srv/hub\nroot = /srv/s1\npath = a\npath = b/c"))
 
 two_values_read : profile_reading (codes "p") (codes "\troot=/srv/hub \r\nroot = /srv/s1/\n#path = x\n\npath = a\npath = b/c/\n")
-    ≡ Ok (record { name = codes "p"; roots = path_of (codes "srv/hub") ∷ path_of (codes "srv/s1") ∷ []; paths = path_of (codes "a") ∷ path_of (codes "b/c") ∷ []; ignore = []; ignorenot = []; force = None; prefer = None; bars = no_bars ∷ no_bars ∷ [] })
+    ≡ Ok (record { name = codes "p"; roots = path_of (codes "srv/hub") ∷ path_of (codes "srv/s1") ∷ []; paths = path_of (codes "a") ∷ path_of (codes "b/c") ∷ []; ignore = []; ignorenot = []; force = None; prefer = None; bars = no_bars ∷ no_bars ∷ []; partial = [] })
 two_values_read = refl
 
 two_values_hold : IsProfile two_values
@@ -270,9 +320,6 @@ rules_fault t = fault_of (rules_reading t)
 
 abbrev rule : List ℕ → Verb → Specification → Rule
 rule root verb spec = record { root = path_of root; verb = verb; spec = spec }
-
-abbrev below_a : Specification
-below_a = record { kind = kind.BelowPath; pattern = One (Lit 97) ∷ [] }
 
 -- A rule is for the last root above it, and has one kind of change; rules stand in the order of their lines.
 rules_are_numbered : rules_reading (codes "root = /srv/hub\nnolose = BelowPath a\n\nnochange=BelowPath a\nroot = /srv/s1/\n# root = /x\nnonew = BelowPath a\nnolose = BelowPath a")

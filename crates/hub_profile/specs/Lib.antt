@@ -6,6 +6,9 @@ pub mod Lines
 pub mod LineByLine
 pub mod Said
 pub mod Protection
+pub mod Arrow
+pub mod PartialLines
+pub mod Foreign
 pub mod Reading
 pub mod Rules
 pub mod Marks

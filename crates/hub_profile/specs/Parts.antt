@@ -6,11 +6,13 @@ use Rattle.hub_path.specs.declared.side.Side.{Side}
 use Rattle.hub_path.specs.declared.side.Side.TheVariants.{Left, Right}
 use Rattle.hub_glob.specs.Specification.{Specification}
 use Rattle.hub_profile.specs.declared.bars.Bars.{Bars}
+use Rattle.hub_profile.specs.declared.partial.Partial.{Partial}
 use Rattle.hub_profile.specs.Facts.{are_roots, are_kept}
 
 -- A profile's name, its roots in the order Left, Right, its kept values, and what its `ignore` and its `ignorenot`
 -- lines specify, each in the order of their lines. Then the side whose root all differences (`force`), or conflicts
--- alone (`prefer`), are resolved in favour of, and the changes that are not made at the left and at the right root.
+-- alone (`prefer`), are resolved in favour of, the changes that are not made at the left and at the right root, and
+-- those that are not made on the paths that a specification matches, in the order of their lines.
 pub record Parts : Type 0 where
   pub name : Name
   pub roots : List Path
@@ -20,6 +22,7 @@ pub record Parts : Type 0 where
   pub force : Option Side
   pub prefer : Option Side
   pub bars : List Bars
+  pub partial : List Partial
 
 -- What holds of each profile that is read.
 pub record IsProfile (P : Parts) : Type 0 where

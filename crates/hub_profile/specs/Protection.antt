@@ -1,5 +1,5 @@
 -- Lines that protect a root, and what they mean for the two roots of a profile.
-use Rattle.std.specs.Prelude.{ℕ, Bool, true, false, ◌&&◌, List, [], ◌∷◌, Option, Some, None, if◌then◌else◌, codes}
+use Rattle.std.specs.Prelude.{ℕ, Bool, true, false, ◌&&◌, List, [], ◌∷◌, Option, Some, None, codes}
 use Rattle.std.specs.List.{list_any}
 use Rattle.hub_path.specs.Path.{Path, path_eq}
 use Rattle.hub_path.specs.declared.side.Side.{Side}
@@ -8,8 +8,6 @@ use Rattle.hub_profile.specs.declared.bars.Bars.{Bars}
 use Rattle.hub_profile.specs.declared.protection.Protection.{Protection}
 use Rattle.hub_profile.specs.declared.protection.Protection.TheVariants.{Force, Prefer, Bar}
 use Rattle.hub_profile.specs.declared.protection.ProtectionLine.{ProtectionLine}
-use Rattle.hub_profile.specs.declared.fault.Fault.TheVariants.{NotARoot}
-use Rattle.hub_profile.specs.declared.fault.ProfileFault.{ProfileFault}
 use Rattle.hub_profile.specs.Lines.{is_one_of}
 use Rattle.hub_profile.specs.Parts.{some_passes, at_side}
 
@@ -91,11 +89,3 @@ bars_at lines r = record {
   update = bars_update lines r;
   delete = bars_deletion lines r;
 }
-
--- The first line that names a root which is not among these, reported with its number. Lines stand in the order of the
--- text, so it is the lowest one.
-abbrev pub foreign_fault : List Path → List ProtectionLine → Option ProfileFault
-foreign_fault roots [] = None
-foreign_fault roots (line ∷ lines) =
-    if list_any (path_eq line.root) roots then foreign_fault roots lines
-    else Some (record { line = line.line; fault = NotARoot })

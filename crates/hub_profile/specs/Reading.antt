@@ -11,7 +11,10 @@ use Rattle.hub_glob.specs.declared.fault.GlobFault.{GlobFault}
 use Rattle.hub_profile.specs.Faults.{FailsAs}
 use Rattle.hub_profile.specs.Parts.{Parts}
 use Rattle.hub_profile.specs.Said.{Said, nothing}
-use Rattle.hub_profile.specs.Protection.{repeats, is_left_out, is_forced, is_preferred, side_where, bars_at, foreign_fault}
+use Rattle.hub_profile.specs.Protection.{repeats, is_left_out, is_forced, is_preferred, side_where, bars_at}
+use Rattle.hub_profile.specs.Arrow.{has_arrow, spec_and_root}
+use Rattle.hub_profile.specs.PartialLines.{partial_line, partials_of}
+use Rattle.hub_profile.specs.Foreign.{foreign_fault}
 use Rattle.hub_profile.specs.LineByLine.{Table, lines_reading, if_text, look_up}
 use Rattle.hub_profile.specs.declared.key.Key.{Key}
 use Rattle.hub_profile.specs.declared.key.Key.TheVariants as key
@@ -22,9 +25,10 @@ use Rattle.hub_profile.specs.declared.protection.Protection.TheVariants.{Force, 
 use Rattle.hub_profile.specs.declared.fault.Fault.{Fault}
 use Rattle.hub_profile.specs.declared.fault.Fault.TheVariants as fault
 use Rattle.hub_profile.specs.declared.fault.ProfileFault.{ProfileFault}
-use Rattle.hub_profile.specs.declared.draft.TheConstants.{PATH_LINES, PATTERN_LINES}
+use Rattle.hub_profile.specs.declared.draft.TheConstants.{PATH_LINES, PATTERN_LINES, PARTIAL_LINES}
 
--- What `nodeletion`, `noupdate` and `nocreation` forbid at their root: `noupdate` forbids deletions too.
+-- What `nodeletion`, `noupdate` and `nocreation` forbid at their root: `noupdate` forbids deletions too. The preferences
+-- whose names end in `partial` forbid the same on some paths.
 abbrev pub no_deletion : Bars
 no_deletion = record { create = false; update = false; delete = true }
 
@@ -46,6 +50,9 @@ keys =
     ∷ (codes "nodeletion", key.Protect (Bar no_deletion))
     ∷ (codes "noupdate", key.Protect (Bar no_update))
     ∷ (codes "nocreation", key.Protect (Bar no_creation))
+    ∷ (codes "nodeletionpartial", key.Partial no_deletion)
+    ∷ (codes "noupdatepartial", key.Partial no_update)
+    ∷ (codes "nocreationpartial", key.Partial no_creation)
     ∷ (codes "auto", key.NoEffect)
     ∷ (codes "batch", key.NoEffect)
     ∷ (codes "confirmbigdel", key.NoEffect)
@@ -108,6 +115,29 @@ protection_added p said n v =
     else
     (if is_left_out p v then Err fault.LeftOutValue else with_protected p said n (root_reading v))
 
+-- `nodeletionpartial`, `noupdatepartial` and `nocreationpartial` lines are counted together.
+abbrev pub has_all_partials : Said → Bool
+has_all_partials said = nat_le PARTIAL_LINES (length said.partials)
+
+-- The fault of the specification is reported before that of the root.
+abbrev pub with_partial :
+    Bars → Said → ℕ → Result Specification GlobFault → Result Path PathFault → Result Said Fault
+with_partial bars said n (Ok spec) (Ok root) =
+    Ok (record said { partials = said.partials ++ partial_line n bars spec root ∷ [] })
+with_partial bars said n (Ok spec) (Err e) = Err (fault.BadPath e)
+with_partial bars said n (Err e) root = Err (fault.BadPattern e)
+
+abbrev pub with_spec_and_root : Bars → Said → ℕ → List ℕ × List ℕ → Result Said Fault
+with_spec_and_root bars said n pair =
+    with_partial bars said n (spec_reading pair.0) (root_reading pair.1)
+
+-- A line that bars changes on some paths of a root: that there are enough of them is reported first, then that the value
+-- has no arrow.
+abbrev pub partial_added : Bars → Said → ℕ → List ℕ → Result Said Fault
+partial_added bars said n v =
+    if has_all_partials said then Err fault.TooMany
+    else (if has_arrow v then with_spec_and_root bars said n (spec_and_root v) else Err fault.NoArrow)
+
 abbrev pub root_added : Said → List ℕ → Result Said Fault
 root_added said v = with_root said (root_reading v)
 
@@ -130,6 +160,7 @@ with_value key.Path said n v = path_added said v
 with_value key.Ignore said n v = ignore_added said v
 with_value key.IgnoreNot said n v = ignorenot_added said v
 with_value (key.Protect p) said n v = protection_added p said n v
+with_value (key.Partial bars) said n v = partial_added bars said n v
 with_value key.NoEffect said n v = Ok said
 
 -- What is said once a value of that preference was added, and the fault of a value that is not.
@@ -189,6 +220,7 @@ profile name said = record {
   force = side_where (is_forced said.protections) said.roots;
   prefer = side_where (is_preferred said.protections) said.roots;
   bars = map (bars_at said.protections) said.roots;
+  partial = partials_of said.roots said.partials;
 }
 
 -- A fault of the roots is at line 0; without one, the later fault counts.
@@ -196,9 +228,10 @@ abbrev pub or_later : Option Fault → Option ProfileFault → Option ProfileFau
 or_later None later = later
 or_later (Some f) later = Some (record { line = 0; fault = f })
 
--- What is wrong with what all lines say: with the roots first, then the first line that protects neither of the two.
+-- What is wrong with what all lines say: with the roots first, then the lowest line that names another root.
 abbrev pub whole_fault : Said → Option ProfileFault
-whole_fault said = or_later (roots_fault said.roots) (foreign_fault said.roots said.protections)
+whole_fault said =
+    or_later (roots_fault said.roots) (foreign_fault said.roots said.protections said.partials)
 
 abbrev pub unless_fault : {T : Type 0} → Option ProfileFault → T → Result T ProfileFault
 unless_fault None x = Ok x

@@ -8,10 +8,13 @@ ghost use Rattle.hub_profile.specs.Faults.{FailsAs, FailsAt, FailsWith};
 ghost use Rattle.hub_profile.specs.Reading as reading;
 ghost use Rattle.hub_profile.specs.Said as said;
 
+use crate::arrow::spec_and_root;
+use crate::bars::Bars;
 use crate::fault::{Fault, ProfileFault};
 use crate::kept::kept_or_whole;
 use crate::key::{Key, key_named};
 use crate::line_by_line::{FromLines, unknown};
+use crate::partial_line::PartialLine;
 use crate::profile::Profile;
 use crate::protection::{Protected, Protection, ProtectionLine, is_left_out, repeats};
 use hub_glob::PathSpec;
@@ -26,8 +29,11 @@ pub const PATH_LINES: usize = 64;
 /// How many `ignore` and `ignorenot` lines a profile may have together.
 pub const PATTERN_LINES: usize = 64;
 
-/// What the lines of a profile say so far: each root, each value of a `path` line, each specification, and each line
-/// that protects a root.
+/// How many `nodeletionpartial`, `noupdatepartial` and `nocreationpartial` lines a profile may have together.
+pub const PARTIAL_LINES: usize = 64;
+
+/// What the lines of a profile say so far: each root, each value of a `path` line, each specification, each line that
+/// protects a root, and each line that bars changes on some paths of a root.
 #[derive(Drop)]
 pub(crate) struct Draft {
     roots: Vec<Root>,
@@ -35,6 +41,7 @@ pub(crate) struct Draft {
     ignore: Vec<PathSpec>,
     ignorenot: Vec<PathSpec>,
     protections: Vec<ProtectionLine>,
+    partials: Vec<PartialLine>,
 }
 
 impl Model for Draft {
@@ -48,6 +55,7 @@ impl Model for Draft {
       ignore = a.ignore.items;
       ignorenot = a.ignorenot.items;
       protections = a.protections.items;
+      partials = a.partials.items;
     } };
 }
 
@@ -75,6 +83,7 @@ impl Draft {
             ignore: Vec::new(alloc),
             ignorenot: Vec::new(alloc),
             protections: Vec::new(alloc),
+            partials: Vec::new(alloc),
         }
     }
 
@@ -89,6 +98,7 @@ impl Draft {
             Key::Ignore => self.add_ignore(value),
             Key::IgnoreNot => self.add_ignorenot(value),
             Key::Protect(kind) => self.add_protection(kind, number, value),
+            Key::Partial(bars) => self.add_partial(bars, number, value),
             Key::NoEffect => Ok(()),
         }
     }
@@ -160,6 +170,29 @@ impl Draft {
         Ok(())
     }
 
+    fn add_partial(&mut self, bars: Bars, number: usize, value: &str) -> Result<(), Fault>
+        ensures ok { OnOk result (
+            reading.partial_added bars self.old number (chars value.now) ≡ Ok self.new) }
+        ensures err { IfErr result (
+            FailsAs (reading.partial_added bars self.old number (chars value.now))) }
+    {
+        if self.partials.len() >= PARTIAL_LINES {
+            return Err(Fault::TooMany);
+        }
+        let Some((spec, root)) = spec_and_root(value) else {
+            return Err(Fault::NoArrow);
+        };
+        let spec = PathSpec::read(*self.partials.allocator(), spec)?;
+        let root = Root::read(*self.roots.allocator(), root)?;
+        self.partials.push(PartialLine {
+            line: number,
+            bars,
+            spec,
+            root,
+        })?;
+        Ok(())
+    }
+
     /// Whether there are as many `ignore` and `ignorenot` lines as there may be.
     fn has_all_patterns(&self) -> bool
         ensures { result ≡ reading.has_all_patterns self.now }
@@ -167,7 +200,7 @@ impl Draft {
         self.ignore.len() + self.ignorenot.len() >= PATTERN_LINES
     }
 
-    /// The profile of that name, if the roots are two and apart, and no line protects another one.
+    /// The profile of that name, if the roots are two and apart, and no line names another one.
     pub(crate) fn finish(self, name: Name) -> Result<Profile, ProfileFault>
         requires roots { IsTrue (list_all is_place self.roots) }
         requires paths { IsTrue (list_all is_place self.paths) }
@@ -190,10 +223,11 @@ impl Draft {
             ignore,
             ignorenot,
             protections,
+            partials,
         } = self;
         let alloc = *roots.allocator();
         let (left, right) = apart_roots(roots)?;
-        let protected = Protected::of_lines(protections.as_slice(), &left, &right)?;
+        let protected = Protected::of_lines(protections.as_slice(), partials, &left, &right)?;
         let paths = kept_or_whole(alloc, paths)?;
         Ok(Profile {
             name,

@@ -85,19 +85,24 @@ pub enum Fault {
     /// One root lies within the other.
     #[error("RootsNested")]
     RootsNested,
-    /// The root of a `force`, `prefer`, `nodeletion`, `noupdate` or `nocreation` line is neither of the two roots.
+    /// A line names a root that is neither of the two: one of `force`, `prefer`, `nodeletion`, `noupdate`, `nocreation`,
+    /// `nodeletionpartial`, `noupdatepartial` or `nocreationpartial`.
     #[error("NotARoot")]
     NotARoot,
     /// A rule has no `root` line above it.
     #[error("RuleBeforeRoot")]
     RuleBeforeRoot,
-    /// There are more `path` lines than `PATH_LINES`, more `ignore` and `ignorenot` lines than `PATTERN_LINES`, or more
-    /// rules than `RULES`.
+    /// There are more `path` lines than `PATH_LINES`, more `ignore` and `ignorenot` lines than `PATTERN_LINES`, more
+    /// `nodeletionpartial`, `noupdatepartial` and `nocreationpartial` lines than `PARTIAL_LINES`, or more rules than
+    /// `RULES`.
     #[error("TooMany")]
     TooMany,
     /// Out of memory.
     #[error("OutOfMemory")]
     OutOfMemory,
+    /// The value of a `nodeletionpartial`, `noupdatepartial` or `nocreationpartial` line has no `->`.
+    #[error("NoArrow")]
+    NoArrow,
 }
 
 impl From<AllocError> for Fault {

@@ -14,6 +14,7 @@ pub(crate) enum Key {
     Ignore,
     IgnoreNot,
     Protect(Protection),
+    Partial(Bars),
     /// The line is accepted and says nothing (this project's choice).
     NoEffect,
 }
@@ -40,7 +41,7 @@ const NO_CREATION: Bars = Bars {
 };
 
 /// Each preference by its name (Unison manual, "Preferences").
-const KEYS: [(&str, Key); 24] = [
+const KEYS: [(&str, Key); 27] = [
     ("root", Key::Root),
     ("path", Key::Path),
     ("ignore", Key::Ignore),
@@ -50,6 +51,9 @@ const KEYS: [(&str, Key); 24] = [
     ("nodeletion", Key::Protect(Protection::Bar(NO_DELETION))),
     ("noupdate", Key::Protect(Protection::Bar(NO_UPDATE))),
     ("nocreation", Key::Protect(Protection::Bar(NO_CREATION))),
+    ("nodeletionpartial", Key::Partial(NO_DELETION)),
+    ("noupdatepartial", Key::Partial(NO_UPDATE)),
+    ("nocreationpartial", Key::Partial(NO_CREATION)),
     ("auto", Key::NoEffect),
     ("batch", Key::NoEffect),
     ("confirmbigdel", Key::NoEffect),

@@ -18,14 +18,18 @@
 //! Only functions that return a `Result` allocate.
 #![tactic(auto)]
 
+mod arrow;
 mod bars;
 mod draft;
 mod fault;
+mod foreign;
 mod kept;
 mod key;
 pub mod laws;
 mod line;
 mod line_by_line;
+mod partial;
+mod partial_line;
 mod profile;
 mod protection;
 mod reading;
@@ -36,8 +40,9 @@ mod rules_draft;
 mod verb;
 
 pub use bars::Bars;
-pub use draft::{PATH_LINES, PATTERN_LINES};
+pub use draft::{PARTIAL_LINES, PATH_LINES, PATTERN_LINES};
 pub use fault::{Fault, Preference, ProfileFault};
+pub use partial::Partial;
 pub use profile::Profile;
 pub use reading::read_profile;
 pub use rule::Rule;

@@ -58,7 +58,7 @@ fn includes(word: &str) -> bool
 }
 
 /// A text without blanks around it.
-fn trimmed(text: &str) -> &str
+pub(crate) fn trimmed(text: &str) -> &str
     ensures { chars result.now ≡ lines.trimmed (chars text.now) }
 {
     skip_blanks(text).trim_end_matches(BLANKS)

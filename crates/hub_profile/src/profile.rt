@@ -1,6 +1,7 @@
 ghost use Rattle.std.specs.Prelude.{◌≡◌, Some};
 
 use crate::bars::Bars;
+use crate::partial::Partial;
 use crate::protection::Protected;
 use hub_glob::PathSpec;
 use hub_path::{Name, RelPath, Root, Side};
@@ -35,6 +36,7 @@ impl Model for Profile {
       force = a.protected.force;
       prefer = a.protected.prefer;
       bars = a.protected.bars;
+      partial = a.protected.partial;
     } };
 
     ghost invariant = { λ a. IsProfile (record {
@@ -46,6 +48,7 @@ impl Model for Profile {
       force = a.protected.force;
       prefer = a.protected.prefer;
       bars = a.protected.bars;
+      partial = a.protected.partial;
     }) };
 }
 
@@ -131,6 +134,14 @@ impl Profile {
     {
         &self.protected.bars
     }
+
+    /// The changes that are not made at a root on the paths that a specification matches, by `nocreationpartial`,
+    /// `noupdatepartial` and `nodeletionpartial` lines in their order.
+    pub fn partial(&self) -> &[Partial]
+        ensures { result.now ≡ self.now.partial }
+    {
+        self.protected.partial.as_slice()
+    }
 }
 
 /// Profiles are equal if all that they say is.
@@ -138,13 +149,14 @@ impl PartialEq for Profile {
     ghost use Rattle.std.specs.Cmp.{decided, partial_equiv_from_equiv};
     ghost use Rattle.hub_path.specs.contracts.side.SideExact.TheImpl.Laws as side;
     ghost use Rattle.hub_glob.specs.contracts.path_spec.PathSpecExact.TheImpl.Laws as spec;
-    ghost use Rattle.hub_profile.specs.Exact.{parts_eq, parts_exact, bars_exact};
+    ghost use Rattle.hub_profile.specs.Exact.{parts_eq, parts_exact, partial_exact, bars_exact};
 
     ghost eq = { parts_eq ⟦<PathSpec as PartialEq>⟧.eq ⟦<Side as PartialEq>⟧.eq
-        ⟦<Bars as PartialEq>⟧.eq };
+        ⟦<Bars as PartialEq>⟧.eq ⟦<Partial as PartialEq>⟧.eq };
 
     ghost laws = { partial_equiv_from_equiv
-        (decided _ (parts_exact spec.exact-law side.exact-law bars_exact)) };
+        (decided _ (parts_exact spec.exact-law side.exact-law bars_exact
+        (partial_exact side.exact-law bars_exact spec.exact-law))) };
 
     fn eq(&self, other: &Profile) -> bool {
         self.name == other.name
@@ -155,6 +167,7 @@ impl PartialEq for Profile {
             && self.protected.force == other.protected.force
             && self.protected.prefer == other.protected.prefer
             && self.protected.bars.as_slice() == other.protected.bars.as_slice()
+            && self.protected.partial == other.protected.partial
     }
 }
 
@@ -162,15 +175,17 @@ impl Eq for Profile {
     ghost use Rattle.std.specs.Cmp.{decided};
     ghost use Rattle.hub_path.specs.contracts.side.SideExact.TheImpl.Laws as side;
     ghost use Rattle.hub_glob.specs.contracts.path_spec.PathSpecExact.TheImpl.Laws as spec;
-    ghost use Rattle.hub_profile.specs.Exact.{parts_exact, bars_exact};
+    ghost use Rattle.hub_profile.specs.Exact.{parts_exact, partial_exact, bars_exact};
 
-    ghost laws = { decided _ (parts_exact spec.exact-law side.exact-law bars_exact) };
+    ghost laws = { decided _ (parts_exact spec.exact-law side.exact-law bars_exact
+        (partial_exact side.exact-law bars_exact spec.exact-law)) };
 }
 
 impl Exact for Profile {
     ghost use Rattle.hub_path.specs.contracts.side.SideExact.TheImpl.Laws as side;
     ghost use Rattle.hub_glob.specs.contracts.path_spec.PathSpecExact.TheImpl.Laws as spec;
-    ghost use Rattle.hub_profile.specs.Exact.{parts_exact, bars_exact};
+    ghost use Rattle.hub_profile.specs.Exact.{parts_exact, partial_exact, bars_exact};
 
-    ghost exact = { parts_exact spec.exact-law side.exact-law bars_exact };
+    ghost exact = { parts_exact spec.exact-law side.exact-law bars_exact
+        (partial_exact side.exact-law bars_exact spec.exact-law) };
 }

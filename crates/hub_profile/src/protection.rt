@@ -1,12 +1,17 @@
 //! Lines that protect a root: `force`, `prefer`, `nodeletion`, `noupdate` and `nocreation`.
 ghost use Rattle.std.specs.Prelude.{◌≡◌, ◌∷◌, [], chars, map, IfOk, IfErr, OnOk, Some, None};
-ghost use Rattle.std.specs.List.{list_any};
-ghost use Rattle.hub_path.specs.Path.{path_eq};
+ghost use Rattle.hub_profile.specs.Faults.{FailsWith};
+ghost use Rattle.hub_profile.specs.Foreign.{foreign_fault};
+ghost use Rattle.hub_profile.specs.PartialLines as partial;
 ghost use Rattle.hub_profile.specs.Protection as protection;
 
 use crate::bars::Bars;
-use crate::fault::{Fault, ProfileFault};
+use crate::fault::ProfileFault;
+use crate::foreign::check_roots;
+use crate::partial::Partial;
+use crate::partial_line::{PartialLine, partials_of};
 use hub_path::{Root, Side};
+use hub_text::Items;
 
 /// What a line says of the root that it names (Unison manual, "Preferences").
 #[derive(Clone, Copy, Debug, PartialEq, Eq)]
@@ -27,7 +32,7 @@ pub(crate) struct ProtectionLine {
     pub(crate) root: Root,
 }
 
-/// What all lines that protect a root say of the left and of the right root.
+/// What all lines that protect a root, or some paths of it, say of the left and of the right root.
 #[derive(Debug, Drop)]
 pub(crate) struct Protected {
     /// The side whose root all differences are resolved in favour of.
@@ -36,6 +41,8 @@ pub(crate) struct Protected {
     pub(crate) prefer: Option<Side>,
     /// The changes that are not made at the left and at the right root.
     pub(crate) bars: [Bars; 2],
+    /// The changes that are not made at a root on some paths.
+    pub(crate) partial: Items<Partial>,
 }
 
 impl Protection {
@@ -69,28 +76,32 @@ impl Protection {
 }
 
 impl Protected {
-    /// What the lines say of the two roots, or `NotARoot` at the first line whose root is neither of them.
+    /// What the lines say of the two roots, or `NotARoot` at the lowest line whose root is neither of them.
     pub(crate) fn of_lines(
-        lines: &[ProtectionLine],
+        protections: &[ProtectionLine],
+        partials: Vec<PartialLine>,
         left: &Root,
         right: &Root,
     ) -> Result<Protected, ProfileFault>
-        ensures fine { OnOk result (
-            protection.foreign_fault (left.now ∷ right.now ∷ []) lines.now ≡ None) }
-        ensures force { IfOk result (λ p. p.force ≡
-            protection.side_where (protection.is_forced lines.now) (left.now ∷ right.now ∷ [])) }
-        ensures prefer { IfOk result (λ p. p.prefer ≡
-            protection.side_where (protection.is_preferred lines.now) (left.now ∷ right.now ∷ [])) }
+        ensures fine { OnOk result (foreign_fault (left.now ∷ right.now ∷ [])
+            protections.now partials.items ≡ None) }
+        ensures force { IfOk result (λ p. p.force ≡ protection.side_where
+            (protection.is_forced protections.now) (left.now ∷ right.now ∷ [])) }
+        ensures prefer { IfOk result (λ p. p.prefer ≡ protection.side_where
+            (protection.is_preferred protections.now) (left.now ∷ right.now ∷ [])) }
         ensures bars { IfOk result (λ p. p.bars ≡
-            map (protection.bars_at lines.now) (left.now ∷ right.now ∷ [])) }
-        ensures err { IfErr result (λ f.
-            protection.foreign_fault (left.now ∷ right.now ∷ []) lines.now ≡ Some f) }
+            map (protection.bars_at protections.now) (left.now ∷ right.now ∷ [])) }
+        ensures partial { IfOk result (λ p. p.partial ≡
+            partial.partials_of (left.now ∷ right.now ∷ []) partials.items) }
+        ensures err { IfErr result (FailsWith (foreign_fault (left.now ∷ right.now ∷ [])
+            protections.now partials.items)) }
     {
-        check_roots(lines, left, right)?;
+        check_roots(protections, partials.as_slice(), left, right)?;
         Ok(Protected {
-            force: forced_side(lines, left, right),
-            prefer: preferred_side(lines, left, right),
-            bars: [bars_at(lines, left), bars_at(lines, right)],
+            force: forced_side(protections, left, right),
+            prefer: preferred_side(protections, left, right),
+            bars: [bars_at(protections, left), bars_at(protections, right)],
+            partial: partials_of(*partials.allocator(), partials, left)?,
         })
     }
 }
@@ -211,28 +222,4 @@ fn bars_deletion(lines: &[ProtectionLine], root: &Root) -> bool
     lines
         .iter()
         .any(|line| line.protection.bars().delete && line.root == *root)
-}
-
-/// `NotARoot` at the first line whose root is neither of the two.
-fn check_roots(lines: &[ProtectionLine], left: &Root, right: &Root) -> Result<(), ProfileFault>
-    ensures ok { OnOk result (
-        protection.foreign_fault (left.now ∷ right.now ∷ []) lines.now ≡ None) }
-    ensures err { IfErr result (λ f.
-        protection.foreign_fault (left.now ∷ right.now ∷ []) lines.now ≡ Some f) }
-{
-    for line in lines {
-        if !is_either(&line.root, left, right) {
-            return Err(ProfileFault {
-                line: line.line,
-                fault: Fault::NotARoot,
-            });
-        }
-    }
-    Ok(())
-}
-
-fn is_either(root: &Root, left: &Root, right: &Root) -> bool
-    ensures { result ≡ list_any (path_eq root.now) (left.now ∷ right.now ∷ []) }
-{
-    root == left || root == right
 }

@@ -30,6 +30,10 @@ use std::alloc::Global;
 ///   choice).
 /// - `nodeletion`, `noupdate`, `nocreation`: a root at which no deletions, no updates and deletions, or no creations
 ///   are made. Each may be given for each root, and a repeated line adds nothing.
+/// - `nodeletionpartial`, `noupdatepartial`, `nocreationpartial`: the value is `PATHSPEC -> ROOT`. The changes that
+///   `nodeletion`, `noupdate` or `nocreation` would forbid are not made at the root on the paths that the specification
+///   matches (this project's choice). The value is cut at its last `->`, and spaces and tabs around both parts are
+///   dropped.
 /// - `auto`, `batch`, `confirmbigdel`, `contactquietly`, `fastcheck`, `group`, `key`, `label`, `log`, `logfile`,
 ///   `owner`, `perms`, `silent`, `terse`, `times`: accepted without effect (this project's choice).
 ///
@@ -42,12 +46,14 @@ use std::alloc::Global;
 /// 3. `UnknownPreference`: no preference has that name.
 /// 4. `Repeated`: a second `force` or a second `prefer` line, whatever its value.
 /// 5. `LeftOutValue`: `force` or `prefer` with the value `newer` or `older`.
-/// 6. `TooMany`: a `path` line after `PATH_LINES` of them, or an `ignore` or `ignorenot` line after `PATTERN_LINES` of
-///    both together.
-/// 7. `BadPath` or `BadPattern`: the value is not a root, not a path, or not a path specification.
+/// 6. `TooMany`: a `path` line after `PATH_LINES` of them, an `ignore` or `ignorenot` line after `PATTERN_LINES` of
+///    both together, or a `nodeletionpartial`, `noupdatepartial` or `nocreationpartial` line after `PARTIAL_LINES` of
+///    all three together.
+/// 7. `NoArrow`: the value of such a line has no `->`.
+/// 8. `BadPattern`, then `BadPath`: the value, or its part, is not a path specification, not a root, or not a path.
 ///
 /// Where no line has a fault, it is `RootCount`, `SameRoots` or `RootsNested` at line 0; otherwise `NotARoot` at the
-/// lowest line whose `force`, `prefer`, `nodeletion`, `noupdate` or `nocreation` names neither of the two roots. Any
+/// lowest line that names neither of the two roots, by one of the preferences from `force` to `nocreationpartial`. Any
 /// call may instead report `OutOfMemory`, at any line.
 pub fn read_profile(alloc: Global, name: Name, bytes: &[u8]) -> Result<Profile, ProfileFault>
     ensures ok { IfOk result (λ P. reading.profile_in name bytes.now ≡ Ok P) }

@@ -61,6 +61,7 @@ profile_fault_name fault.NotARoot = codes "NotARoot"
 profile_fault_name fault.RuleBeforeRoot = codes "RuleBeforeRoot"
 profile_fault_name fault.TooMany = codes "TooMany"
 profile_fault_name fault.OutOfMemory = codes "OutOfMemory"
+profile_fault_name fault.NoArrow = codes "NoArrow"
 
 abbrev pub state_fault_name : of_state.Fault → List ℕ
 state_fault_name state.BadHeader = codes "BadHeader"

@@ -29,6 +29,7 @@ profile_of name left right = record {
   force = None;
   prefer = None;
   bars = [];
+  partial = [];
 }
 
 abbrev job_of : End → List Item → JobEnd

@@ -68,6 +68,7 @@ pub fn profile_fault_name(alloc: Global, fault: &Fault) -> Result<String, AllocE
         Fault::RuleBeforeRoot => String::from_str(alloc, "RuleBeforeRoot"),
         Fault::TooMany => String::from_str(alloc, "TooMany"),
         Fault::OutOfMemory => String::from_str(alloc, "OutOfMemory"),
+        Fault::NoArrow => String::from_str(alloc, "NoArrow"),
     }
 }
 

@@ -22,6 +22,7 @@ spoke t = record {
   force = None;
   prefer = None;
   bars = no_bars ∷ no_bars ∷ [];
+  partial = [];
 }
 
 abbrev star : List Parts

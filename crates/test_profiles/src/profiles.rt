@@ -3,7 +3,7 @@ use crate::paths::path_of;
 use anyhow::{Result, bail};
 use hub_glob::PathSpec;
 use hub_path::{Name, RelPath, Side};
-use hub_profile::{Bars, Profile, ProfileFault, read_profile};
+use hub_profile::{Bars, Partial, Profile, ProfileFault, read_profile};
 use std::alloc::{AllocError, Global};
 use test_kit::{bytes_of, quoted, shown, two};
 
@@ -14,10 +14,11 @@ pub(crate) const ROOTS: &str = "root = /srv/hub\nroot = /srv/s1\n";
 ///
 /// - `kept`: its name, its roots and its kept values.
 /// - `protects`: the sides that `force` and `prefer` name, and the changes that aren't made at each root.
+/// - `partial`: the changes that aren't made on some paths of a root: the side, the changes and the specification.
 /// - `ignores`: which of the `ignore` lines, and which of the `ignorenot` lines, match the path of the second field.
 pub(crate) fn answer(alloc: Global, roots: &str, question: &str, fields: &str) -> Result<String> {
     match question {
-        "kept" | "protects" => answer_on_lines(alloc, roots, question, fields),
+        "kept" | "protects" | "partial" => answer_on_lines(alloc, roots, question, fields),
         "ignores" => answer_on_path(alloc, roots, fields),
         _ => bail!("an unknown question"),
     }
@@ -43,6 +44,7 @@ fn answer_on_reading(
 fn answer_on_profile(alloc: Global, question: &str, profile: &Profile) -> Result<String> {
     match question {
         "kept" => kept(alloc, profile),
+        "partial" => partial(alloc, profile),
         _ => protected(alloc, profile),
     }
 }
@@ -85,6 +87,22 @@ fn protected(alloc: Global, profile: &Profile) -> Result<String> {
     let left = bars_word(left);
     let right = bars_word(right);
     Ok(format!(in alloc; "{force} {prefer} {left} {right}")?)
+}
+
+/// The partial bars in their order, each followed by `; `.
+fn partial(alloc: Global, profile: &Profile) -> Result<String> {
+    let mut text = String::new(alloc);
+    for bar in profile.partial() {
+        push_partial(&mut text, bar)?;
+    }
+    quoted(alloc, text.as_str())
+}
+
+fn push_partial(text: &mut String, bar: &Partial) -> Result<(), AllocError> {
+    let side = side_word(Some(bar.side));
+    let bars = bars_word(&bar.bars);
+    let spec = bar.spec.text()?;
+    write!(text, "{side} {bars} {spec}; ")
 }
 
 fn side_word(side: Option<Side>) -> &'static str {

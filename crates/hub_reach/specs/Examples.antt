@@ -9,15 +9,19 @@ use Rattle.hub_glob.specs.declared.path_spec.Kind.TheVariants as Kind
 use Rattle.hub_glob.specs.declared.piece.Part.{Part}
 use Rattle.hub_glob.specs.declared.piece.Part.TheVariants.{One}
 use Rattle.hub_glob.specs.declared.piece.Piece.TheVariants.{Lit, Run}
+use Rattle.hub_path.specs.declared.side.Side.{Side}
 use Rattle.hub_path.specs.declared.side.Side.TheVariants.{Left, Right}
 use Rattle.hub_profile.specs.Parts.{Parts}
 use Rattle.hub_profile.specs.Protection.{no_bars}
 use Rattle.hub_profile.specs.Reading.{profile_reading}
 use Rattle.hub_profile.specs.declared.fault.ProfileFault.{ProfileFault}
 use Rattle.hub_profile.specs.declared.bars.Bars.{Bars}
+use Rattle.hub_profile.specs.declared.partial.Partial.{Partial}
 use Rattle.hub_profile.specs.declared.verb.Verb.TheVariants.{Create, Update, Delete}
-use Rattle.hub_reach.specs.Reach.{reach, may, writes, write}
-use Rattle.hub_reach.specs.Stage.{stage_of}
+use Rattle.hub_reach.specs.Reach.{reach, may, may_at, writes, writes_at, write}
+use Rattle.hub_reach.specs.Bars.{may_at_side, writes_at_side}
+use Rattle.hub_reach.specs.Mention.{mentioned_by}
+use Rattle.hub_reach.specs.Stage.{spots_of, stage_of}
 use Rattle.hub_reach.specs.Safe.{Rule, Clash, ClashesAt, ClashesInArchive, Breach, IsSafe, share_archive}
 
 -- What these examples compute.
@@ -36,7 +40,7 @@ s2 = path_of (codes "srv/s2")
 
 -- A profile of this kept value, over the hub and s1.
 abbrev kept : List ℕ → Parts
-kept t = record { name = t; roots = hub ∷ s1 ∷ []; paths = path_of t ∷ []; ignore = []; ignorenot = []; force = None; prefer = None; bars = no_bars ∷ no_bars ∷ [] }
+kept t = record { name = t; roots = hub ∷ s1 ∷ []; paths = path_of t ∷ []; ignore = []; ignorenot = []; force = None; prefer = None; bars = no_bars ∷ no_bars ∷ []; partial = [] }
 
 -- One of the whole replica, and one of no path at all.
 abbrev whole : Parts
@@ -193,6 +197,99 @@ not_reached_not_written = refl
 forced_not_written : map (λ r. write (record (kept (codes "docs")) { force = Some Left }) r (path_of (codes "docs/x"))) (hub ∷ s1 ∷ []) ≡ false ∷ true ∷ []
 unfolding computed
 forced_not_written = refl
+
+-- A profile of the whole replica with this partial bar, and what a profile may do at a path of a root.
+abbrev bar : Side → Bars → Specification → Partial
+bar side bs s = record { side = side; bars = bs; spec = s }
+
+abbrev partly : Side → Bars → Specification → Parts
+partly side bs s = record whole { partial = bar side bs s ∷ [] }
+
+abbrev allowed_at : Parts → Path → List ℕ → List Bool
+allowed_at P r t = map (may_at P r (path_of t)) (Create ∷ Update ∷ Delete ∷ [])
+
+abbrev all_bars : Bars
+all_bars = bars true true true
+
+-- a partial bar forbids its own kinds of change, on the paths that its specification matches
+what_it_matches : map (allowed_at (partly Left (bars true true false) (path_is (literals (codes "a")))) hub) (codes "a" ∷ codes "a/b" ∷ codes "b" ∷ []) ≡ (false ∷ false ∷ true ∷ []) ∷ all_three ∷ all_three ∷ []
+unfolding computed
+what_it_matches = refl
+
+and_what_is_below : map (allowed_at (partly Right (bars false false true) (below_is (literals (codes "a")))) s1) (codes "a" ∷ codes "a/b" ∷ codes "ab" ∷ []) ≡ (true ∷ true ∷ false ∷ []) ∷ (true ∷ true ∷ false ∷ []) ∷ all_three ∷ []
+unfolding computed
+and_what_is_below = refl
+
+-- a bar on a path below leaves the path above free
+a_bar_on_a_path_below : map (allowed_at (partly Left all_bars (path_is (literals (codes "a/b")))) hub) (codes "a" ∷ codes "a/b" ∷ codes "a/b/c" ∷ []) ≡ all_three ∷ none_of_three ∷ all_three ∷ []
+unfolding computed
+a_bar_on_a_path_below = refl
+
+-- it is a bar on the root of its side alone; at a root that isn't the profile's nothing is forbidden
+a_bar_of_each_side : map (λ side. map (λ r. allowed_at (partly side all_bars (path_is (literals (codes "a")))) r (codes "a")) (hub ∷ s1 ∷ s2 ∷ [])) (Left ∷ Right ∷ [])
+    ≡ (none_of_three ∷ all_three ∷ all_three ∷ []) ∷ (all_three ∷ none_of_three ∷ all_three ∷ []) ∷ []
+unfolding computed
+a_bar_of_each_side = refl
+
+-- none counts at the whole replica, which no specification matches, nor without a path
+none_at_the_whole_replica : map (may_at (partly Left all_bars (name_is star)) hub []) (Create ∷ Update ∷ Delete ∷ []) ≡ all_three
+unfolding computed
+none_at_the_whole_replica = refl
+
+without_a_path : allowed (partly Left all_bars (name_is star)) hub ≡ all_three
+without_a_path = refl
+
+-- partial bars add up, also with bars on the whole root and `force`
+two_partial_bars : map (allowed_at (record (barred_left (bars false false true)) { partial = bar Left (bars true false false) (path_is (literals (codes "a"))) ∷ bar Left (bars false true false) (name_is star) ∷ [] }) hub) (codes "a" ∷ codes "b" ∷ codes ".b" ∷ [])
+    ≡ none_of_three ∷ (true ∷ false ∷ false ∷ []) ∷ (true ∷ true ∷ false ∷ []) ∷ []
+unfolding computed
+two_partial_bars = refl
+
+beside_force : map (λ r. allowed_at (record (partly Right (bars true false false) (name_is (literals (codes "a")))) { force = Some Left }) r (codes "x/a")) (hub ∷ s1 ∷ []) ≡ none_of_three ∷ (false ∷ true ∷ true ∷ []) ∷ []
+unfolding computed
+beside_force = refl
+
+-- a profile writes at a path of its root where one kind of change is left to it; the root counts as written all the same
+where_it_writes_paths : map (λ bs. map (λ t. writes_at (partly Left bs (path_is (literals (codes "a")))) hub (path_of t)) (codes "a" ∷ codes "a/b" ∷ [])) (all_bars ∷ bars true true false ∷ bars false true true ∷ [])
+    ≡ (false ∷ true ∷ []) ∷ (true ∷ true ∷ []) ∷ (true ∷ true ∷ []) ∷ []
+unfolding computed
+where_it_writes_paths = refl
+
+the_root_is_written : map (writes (partly Left all_bars (name_is star))) (hub ∷ s1 ∷ s2 ∷ []) ≡ true ∷ true ∷ false ∷ []
+the_root_is_written = refl
+
+paths_of_other_roots : map (λ r. writes_at (partly Left all_bars (path_is (literals (codes "a")))) r (path_of (codes "a"))) (hub ∷ s1 ∷ s2 ∷ []) ≡ false ∷ true ∷ false ∷ []
+unfolding computed
+paths_of_other_roots = refl
+
+-- and it writes of these the paths that it reaches
+barred_not_written : map (λ t. write (record (kept (codes "docs")) { partial = bar Left all_bars (path_is (literals (codes "docs/x"))) ∷ [] }) hub (path_of t)) (codes "docs" ∷ codes "docs/x" ∷ codes "docs/x/y" ∷ codes "photos" ∷ []) ≡ true ∷ false ∷ true ∷ false ∷ []
+unfolding computed
+barred_not_written = refl
+
+-- by sides: what is allowed at the left and at the right root
+by_sides : map (λ side. may_at_side (partly Right (bars false true false) (path_is (literals (codes "a")))) side (path_of (codes "a")) Update) (Left ∷ Right ∷ []) ≡ true ∷ false ∷ []
+unfolding computed
+by_sides = refl
+
+written_sides : map (λ side. writes_at_side (partly Left all_bars (path_is (literals (codes "a")))) side (path_of (codes "a"))) (Left ∷ Right ∷ []) ≡ false ∷ true ∷ []
+unfolding computed
+written_sides = refl
+
+-- the pattern of a partial bar has spots, its characters are mentioned, and a stage has its positions and its flag
+the_spots_of_bars : map spots_of (whole ∷ partly Left all_bars (path_is (literals (codes "ab"))) ∷ record (partly Left all_bars (path_is (literals (codes "ab")))) { ignore = name_is star ∷ [] } ∷ []) ≡ 0 ∷ 3 ∷ 5 ∷ []
+the_spots_of_bars = refl
+
+what_bars_mention : mentioned_by (record (kept (codes "d/e")) { ignore = name_is (literals (codes "i")) ∷ []; ignorenot = name_is (literals (codes "n")) ∷ []; partial = bar Left all_bars (path_is (literals (codes "p"))) ∷ [] }) ≡ codes "deinp"
+what_bars_mention = refl
+
+stages_of_bars : map (λ t. (stage_of (partly Left all_bars (path_is (literals (codes "a")))) t).spots.row) (codes "" ∷ codes "a" ∷ codes "b" ∷ []) ≡ (1 ∷ 0 ∷ []) ∷ (2 ∷ 0 ∷ []) ∷ (0 ∷ 0 ∷ []) ∷ []
+unfolding computed
+stages_of_bars = refl
+
+stages_without_bars : map (λ t. (stage_of whole t).spots.row) (codes "" ∷ codes "a" ∷ codes "b" ∷ []) ≡ [] ∷ [] ∷ [] ∷ []
+unfolding computed
+stages_without_bars = refl
 
 -- `path = a` and `path = a/b` clash at the hub, each way round, and in the archive
 one_over_the_other : ClashesAt (kept (codes "a")) (kept (codes "a/b")) hub

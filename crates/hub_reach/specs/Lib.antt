@@ -3,6 +3,7 @@ pub mod Row
 pub mod Numbering
 pub mod Table
 pub mod Reach
+pub mod Bars
 pub mod Laws
 pub mod Safe
 pub mod Walk

@@ -8,6 +8,7 @@ use Rattle.hub_glob.specs.Glob.{matches}
 pub use Rattle.hub_profile.specs.Parts.{has_root}
 use Rattle.hub_profile.specs.Parts.{Parts, some_passes, at_side, is_root_at}
 use Rattle.hub_profile.specs.declared.bars.Bars.{Bars}
+use Rattle.hub_profile.specs.declared.partial.Partial.{Partial}
 use Rattle.hub_profile.specs.declared.verb.Verb.{Verb}
 use Rattle.hub_profile.specs.declared.verb.Verb.TheVariants.{Create, Update, Delete}
 
@@ -51,14 +52,27 @@ is_barred P r verb = is_barred_at P r verb Left || is_barred_at P r verb Right
 abbrev pub may : Parts → Path → Verb → Bool
 may P r verb = not (is_forced_root P r || is_barred P r verb)
 
--- The same at a path of the root.
-abbrev pub may_at : Parts → Path → Path → Verb → Bool
-may_at P r p verb = may P r verb
+-- A partial bar forbids the change on a path of this root: it is on the root, and its specification matches the path.
+abbrev pub is_partly_barred_by : Parts → Path → Verb → Path → Partial → Bool
+is_partly_barred_by P r verb p b = is_root_at P r b.side && covers verb b.bars && matches b.spec p
 
--- A profile writes at its root if some change is allowed there.
+-- Some partial bar forbids it. None does at the whole replica: no specification matches that.
+abbrev pub is_partly_barred : Parts → Path → Path → Verb → Bool
+is_partly_barred P r p verb = list_any (is_partly_barred_by P r verb p) P.partial
+
+-- Whether a change of that kind is allowed at a path of the root: it is allowed at the root, and no partial bar forbids
+-- it at the path.
+abbrev pub may_at : Parts → Path → Path → Verb → Bool
+may_at P r p verb = may P r verb && not (is_partly_barred P r p verb)
+
+-- Some change is allowed at the root, whatever the partial bars.
 abbrev pub writes : Parts → Path → Bool
 writes P r = has_root P r && (may P r Create || may P r Update || may P r Delete)
 
--- It writes a path of its root if some change is allowed there and it reaches the path.
+-- A profile writes at a path of its root if some change is allowed there.
+abbrev pub writes_at : Parts → Path → Path → Bool
+writes_at P r p = has_root P r && (may_at P r p Create || may_at P r p Update || may_at P r p Delete)
+
+-- It writes a path of its root if it writes at the path and reaches it.
 abbrev pub write : Parts → Path → Path → Bool
-write P r p = has_root P r && (may_at P r p Create || may_at P r p Update || may_at P r p Delete) && reach P p
+write P r p = writes_at P r p && reach P p

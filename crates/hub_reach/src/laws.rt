@@ -7,7 +7,8 @@ ghost use Rattle.hub_path.specs.Path.{Path, is_over, is_path, path_of};
 ghost use Rattle.hub_automaton.specs.Alphabet.{IsAlphabet, class_of, is_path_character};
 ghost use Rattle.hub_profile.specs.Parts.{Parts, IsProfile};
 ghost use Rattle.hub_reach.specs.Mention.{Mentions};
-ghost use Rattle.hub_reach.specs.Reach.{reach};
+ghost use Rattle.hub_profile.specs.declared.verb.Verb.{Verb};
+ghost use Rattle.hub_reach.specs.Reach.{may_at, reach};
 ghost use Rattle.hub_reach.specs.Shape.{is_broken, is_named, is_text_character, shape_of};
 ghost use Rattle.hub_reach.specs.Stage.{is_broken_stage, stage_of};
 ghost use Rattle.hub_reach.specs.Walk.{is_walked};
@@ -62,8 +63,8 @@ pub fn stages_tell_broken_texts()
         → is_broken t ≡ is_broken u }
 {}
 
-/// If two texts lead to the same stage, they still do after any text is appended to both, and their paths are reached
-/// alike. Characters of one class lead to the same stage, if the alphabet mentions what the profile does.
+/// If two texts lead to the same stage, they still do after any text is appended to both, their paths are reached
+/// alike, and the same changes are allowed there. Characters of one class lead to the same stage, if the alphabet mentions what the profile does.
 pub fn stages_go_on_alike()
     ensures same { (P : Parts) (t u : List ℕ) (x : ℕ) → IsProfile P → stage_of P t ≡ stage_of P u
         → stage_of P (t ++ x ∷ []) ≡ stage_of P (u ++ x ∷ []) }
@@ -71,6 +72,9 @@ pub fn stages_go_on_alike()
         → stage_of P (t ++ v) ≡ stage_of P (u ++ v) }
     ensures reached { (P : Parts) (t u : List ℕ) → IsProfile P → stage_of P t ≡ stage_of P u
         → reach P (path_of t) ≡ reach P (path_of u) }
+    ensures allowed { (P : Parts) (t u : List ℕ) (r : Path) (verb : Verb) → IsProfile P
+        → stage_of P t ≡ stage_of P u → IsTrue (is_path (path_of t))
+        → may_at P r (path_of t) verb ≡ may_at P r (path_of u) verb }
     ensures classes { (P : Parts) (ms t : List ℕ) (x y k : ℕ) → IsAlphabet ms → Mentions ms P
         → class_of ms x ≡ Some k → class_of ms y ≡ Some k
         → IsTrue (is_text_character x) → IsTrue (is_text_character y)

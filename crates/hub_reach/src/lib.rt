@@ -1,18 +1,21 @@
 //! Which paths a profile reaches, and what it may change there.
 //!
-//! - [`reaches`] decides whether a profile reaches a path; [`may`] and [`writes`] say what it may change at a root.
-//! - [`Walker`] decides the same text by text: its state is a [`Stage`], and it reads the [`Class`](hub_automaton::Class)es of
-//!   an alphabet's characters. [`mention`] adds a profile's characters to such an alphabet.
+//! - [`reaches`] decides whether a profile reaches a path; [`may`] and [`writes`] say what it may change at a root, [`may_at`]
+//!   and [`writes_at`] what it may change at a path of one.
+//! - [`Walker`] decides reach, and what may be changed at a path, text by text: its state is a [`Stage`], and it reads the
+//!   [`Class`](hub_automaton::Class)es of an alphabet's characters. [`mention`] adds a profile's characters to such an
+//!   alphabet.
 //! - [`Table`] numbers the stages of a walker as they are found, and remembers the steps between them. [`SpecTable`]
 //!   numbers the states of some specifications.
 //! - [`laws`]: what the crates above may conclude of stages and of reach.
 //!
-//! Only functions that return a `Result` allocate. The contracts use the words of `specs/Reach`, `specs/Stage`,
-//! `specs/Shape`, `specs/Table` and `specs/Numbering`.
+//! Only functions that return a `Result` allocate. The contracts use the words of `specs/Reach`, `specs/Bars`,
+//! `specs/Stage`, `specs/Shape`, `specs/Table` and `specs/Numbering`.
 #![tactic(auto)]
 
 pub mod laws;
 mod mentions;
+mod placed_bar;
 mod reach;
 mod row;
 mod shape;
@@ -28,5 +31,5 @@ pub use shape::Shape;
 pub use spec_table::SpecTable;
 pub use stage::Stage;
 pub use table::Table;
-pub use verbs::{may, writes};
+pub use verbs::{may, may_at, writes, writes_at};
 pub use walker::Walker;

@@ -5,6 +5,7 @@
 //! the crates say.
 #![tactic(auto)]
 
+mod allowed;
 mod alphabets;
 mod automata;
 mod automaton;
@@ -65,6 +66,9 @@ fn answer_on_profile(alloc: Global, word: &str, fields: &str) -> Result<String> 
         "reaches-top" => reached::reaches_top(alloc, fields),
         "may" => verbs::may_change(alloc, fields),
         "writes" => verbs::is_written(alloc, fields),
+        "may-at" => verbs::may_change_at(alloc, fields),
+        "writes-at" => verbs::is_written_at(alloc, fields),
+        "allowed" => allowed::allowed(alloc, fields),
         "fronts" => walkers::fronts(alloc, fields),
         "fronts-in-place" => walkers::fronts_in_place(alloc, fields),
         "like" => walkers::like(alloc, fields),

@@ -48,7 +48,7 @@ fn numbers_text(
 }
 
 /// Makes the table of a profile's walker.
-fn table_of(alloc: Global, profile: &Profile, alphabet: &Alphabet) -> Result<Box<Table>>
+pub(crate) fn table_of(alloc: Global, profile: &Profile, alphabet: &Alphabet) -> Result<Box<Table>>
     requires { Mentions alphabet.now profile.now }
 {
     let walker = Walker::new(alloc, profile, alphabet)?;
@@ -56,7 +56,11 @@ fn table_of(alloc: Global, profile: &Profile, alphabet: &Alphabet) -> Result<Box
 }
 
 /// The number of a text's stage.
-fn number_after(alphabet: &Alphabet, table: &mut Table, text: &str) -> Result<usize, AllocError> {
+pub(crate) fn number_after(
+    alphabet: &Alphabet,
+    table: &mut Table,
+    text: &str,
+) -> Result<usize, AllocError> {
     let mut number = table.start()?;
     for character in text.chars() {
         if let Some(class) = alphabet.class_of(character) {

@@ -1,6 +1,6 @@
 use Rattle.hub_path.specs.Path.{text_of}
 use Rattle.hub_reach.specs.Stage.{profile_alternatives}
-use Rattle.hub_reach.proofs.Alike.{goes-on, follows, characters-alike, reached-alike}
+use Rattle.hub_reach.proofs.Alike.{goes-on, follows, characters-alike, reached-alike, allowed-alike}
 use Rattle.hub_reach.proofs.Choices.{covers-profile}
 use Rattle.hub_reach.proofs.laws.stages_go_on_alike.Goals as goal
 
@@ -15,6 +15,9 @@ returns-clause-followed c = λ P t u v facts. follows P t u v (λ r q x. returns
 pub returns-clause-reached : goal.returns-clause-reached
 returns-clause-reached c = λ P t u facts.
     reached-alike c.choices_match_what_their_specification_does.ensures c.paths_match_their_text.ensures.path c.what_is_kept_tells_each_match.ensures P t u facts
+
+pub returns-clause-allowed : goal.returns-clause-allowed
+returns-clause-allowed c = λ P t u r verb facts h path. allowed-alike c.choices_match_what_their_specification_does.ensures c.what_is_kept_tells_each_match.ensures P t u r verb h path
 
 pub returns-clause-classes : goal.returns-clause-classes
 returns-clause-classes c = λ P ms t x y k al says class_x class_y text_x text_y.

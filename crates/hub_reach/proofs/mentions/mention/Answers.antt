@@ -4,9 +4,24 @@ use Rattle.std.proofs.lemmas.Result.{err_from_is_err_and}
 use Rattle.hub_path.specs.Path.{Path}
 use Rattle.hub_glob.specs.Specification.{Specification}
 use Rattle.hub_automaton.specs.Alphabet.{path_characters, spec_characters, with_characters, Refuses, mentions}
-use Rattle.hub_reach.specs.Mention.{mentioned_by, IsPartly}
+use Rattle.hub_profile.specs.Parts.{Parts}
+use Rattle.hub_profile.specs.declared.partial.Partial.{Partial}
+use Rattle.hub_reach.specs.Mention.{mentioned_by, partial_characters, IsPartly}
 use Rattle.hub_reach.proofs.Grows.{added-behind, says-all, refused-front, refused-behind, partly-front, partly-behind}
 use Rattle.hub_reach.proofs.mentions.mention.Goals as goal
+
+-- The characters of each part.
+abbrev kept : Parts → List ℕ
+kept P = flat_map path_characters P.paths
+
+abbrev ignored : Parts → List ℕ
+ignored P = flat_map spec_characters P.ignore
+
+abbrev exceptions : Parts → List ℕ
+exceptions P = flat_map spec_characters P.ignorenot
+
+abbrev barred : Parts → List ℕ
+barred P = flat_map partial_characters P.partial
 
 pub returns-in_err-mention_paths-clause-err : goal.returns-in_err-mention_paths-clause-err
 returns-in_err-mention_paths-clause-err c =
@@ -15,7 +30,7 @@ returns-in_err-mention_paths-clause-err c =
     let p = err_from_is_err_and c.from_residual.result c.from_residual.ensures.1 in
     let e = c.in_err-mention_paths.field-0.0 in
     rw (p.1, p.2)
-    (refused-front old (flat_map path_characters P.paths) (flat_map spec_characters P.ignore ++ flat_map spec_characters P.ignorenot) e
+    (refused-front old (kept P) (ignored P ++ (exceptions P ++ barred P)) e
     (subst (λ (ps : List Path). Refuses old (flat_map path_characters ps) e) c.paths.ensures.value c.in_err-mention_paths.ensures.err))
 
 pub returns-in_err-mention_paths-clause-partly : goal.returns-in_err-mention_paths-clause-partly
@@ -24,7 +39,7 @@ returns-in_err-mention_paths-clause-partly c =
     let old = c.args.alphabet.now in
     let p = err_from_is_err_and c.from_residual.result c.from_residual.ensures.1 in
     rw p.1
-    (partly-front old (flat_map path_characters P.paths) (flat_map spec_characters P.ignore ++ flat_map spec_characters P.ignorenot) c.mention_paths.new.alphabet
+    (partly-front old (kept P) (ignored P ++ (exceptions P ++ barred P)) c.mention_paths.new.alphabet
     (subst (λ (ps : List Path). IsPartly old (flat_map path_characters ps) c.mention_paths.new.alphabet) c.paths.ensures.value c.in_err-mention_paths.ensures.partly))
 
 pub returns-in_err-mention_specs-clause-err : goal.returns-in_err-mention_specs-clause-err
@@ -34,11 +49,11 @@ returns-in_err-mention_specs-clause-err c =
     let a = c.mention_paths.new.alphabet in
     let p = err_from_is_err_and c.from_residual-in_err-mention_specs.result c.from_residual-in_err-mention_specs.ensures.1 in
     let e = c.in_err-mention_specs.field-0.0 in
-    let first : a ≡ with_characters old (flat_map path_characters P.paths) =
+    let first : a ≡ with_characters old (kept P) =
     c.in_ok-mention_paths.ensures.ok ∙ ap (λ (ps : List Path). with_characters old (flat_map path_characters ps)) c.paths.ensures.value in
     rw (p.1, p.2)
-    (refused-behind old a (flat_map path_characters P.paths) (flat_map spec_characters P.ignore ++ flat_map spec_characters P.ignorenot) e first
-    (refused-front a (flat_map spec_characters P.ignore) (flat_map spec_characters P.ignorenot) e
+    (refused-behind old a (kept P) (ignored P ++ (exceptions P ++ barred P)) e first
+    (refused-front a (ignored P) (exceptions P ++ barred P) e
     (subst (λ (ss : List Specification). Refuses a (flat_map spec_characters ss) e) c.ignore.ensures c.in_err-mention_specs.ensures.err)))
 
 pub returns-in_err-mention_specs-clause-partly : goal.returns-in_err-mention_specs-clause-partly
@@ -48,11 +63,11 @@ returns-in_err-mention_specs-clause-partly c =
     let a = c.mention_paths.new.alphabet in
     let b = c.mention_specs.new.alphabet in
     let p = err_from_is_err_and c.from_residual-in_err-mention_specs.result c.from_residual-in_err-mention_specs.ensures.1 in
-    let first : a ≡ with_characters old (flat_map path_characters P.paths) =
+    let first : a ≡ with_characters old (kept P) =
     c.in_ok-mention_paths.ensures.ok ∙ ap (λ (ps : List Path). with_characters old (flat_map path_characters ps)) c.paths.ensures.value in
     rw p.1
-    (partly-behind old a (flat_map path_characters P.paths) (flat_map spec_characters P.ignore ++ flat_map spec_characters P.ignorenot) b first
-    (partly-front a (flat_map spec_characters P.ignore) (flat_map spec_characters P.ignorenot) b
+    (partly-behind old a (kept P) (ignored P ++ (exceptions P ++ barred P)) b first
+    (partly-front a (ignored P) (exceptions P ++ barred P) b
     (subst (λ (ss : List Specification). IsPartly a (flat_map spec_characters ss) b) c.ignore.ensures c.in_err-mention_specs.ensures.partly)))
 
 pub returns-in_err-mention_specs-2-clause-err : goal.returns-in_err-mention_specs-2-clause-err
@@ -63,14 +78,15 @@ returns-in_err-mention_specs-2-clause-err c =
     let b = c.mention_specs.new.alphabet in
     let p = err_from_is_err_and c.from_residual-in_err-mention_specs-2.result c.from_residual-in_err-mention_specs-2.ensures.1 in
     let e = c.in_err-mention_specs-2.field-0.0 in
-    let first : a ≡ with_characters old (flat_map path_characters P.paths) =
+    let first : a ≡ with_characters old (kept P) =
     c.in_ok-mention_paths.ensures.ok ∙ ap (λ (ps : List Path). with_characters old (flat_map path_characters ps)) c.paths.ensures.value in
-    let second : b ≡ with_characters a (flat_map spec_characters P.ignore) =
+    let second : b ≡ with_characters a (ignored P) =
     c.in_ok-mention_specs.ensures.ok ∙ ap (λ (ss : List Specification). with_characters a (flat_map spec_characters ss)) c.ignore.ensures in
     rw (p.1, p.2)
-    (refused-behind old a (flat_map path_characters P.paths) (flat_map spec_characters P.ignore ++ flat_map spec_characters P.ignorenot) e first
-    (refused-behind a b (flat_map spec_characters P.ignore) (flat_map spec_characters P.ignorenot) e second
-    (subst (λ (ss : List Specification). Refuses b (flat_map spec_characters ss) e) c.ignorenot.ensures c.in_err-mention_specs-2.ensures.err)))
+    (refused-behind old a (kept P) (ignored P ++ (exceptions P ++ barred P)) e first
+    (refused-behind a b (ignored P) (exceptions P ++ barred P) e second
+    (refused-front b (exceptions P) (barred P) e
+    (subst (λ (ss : List Specification). Refuses b (flat_map spec_characters ss) e) c.ignorenot.ensures c.in_err-mention_specs-2.ensures.err))))
 
 pub returns-in_err-mention_specs-2-clause-partly : goal.returns-in_err-mention_specs-2-clause-partly
 returns-in_err-mention_specs-2-clause-partly c =
@@ -80,14 +96,57 @@ returns-in_err-mention_specs-2-clause-partly c =
     let b = c.mention_specs.new.alphabet in
     let d = c.mention_specs-2.new.alphabet in
     let p = err_from_is_err_and c.from_residual-in_err-mention_specs-2.result c.from_residual-in_err-mention_specs-2.ensures.1 in
-    let first : a ≡ with_characters old (flat_map path_characters P.paths) =
+    let first : a ≡ with_characters old (kept P) =
     c.in_ok-mention_paths.ensures.ok ∙ ap (λ (ps : List Path). with_characters old (flat_map path_characters ps)) c.paths.ensures.value in
-    let second : b ≡ with_characters a (flat_map spec_characters P.ignore) =
+    let second : b ≡ with_characters a (ignored P) =
     c.in_ok-mention_specs.ensures.ok ∙ ap (λ (ss : List Specification). with_characters a (flat_map spec_characters ss)) c.ignore.ensures in
     rw p.1
-    (partly-behind old a (flat_map path_characters P.paths) (flat_map spec_characters P.ignore ++ flat_map spec_characters P.ignorenot) d first
-    (partly-behind a b (flat_map spec_characters P.ignore) (flat_map spec_characters P.ignorenot) d second
-    (subst (λ (ss : List Specification). IsPartly b (flat_map spec_characters ss) d) c.ignorenot.ensures c.in_err-mention_specs-2.ensures.partly)))
+    (partly-behind old a (kept P) (ignored P ++ (exceptions P ++ barred P)) d first
+    (partly-behind a b (ignored P) (exceptions P ++ barred P) d second
+    (partly-front b (exceptions P) (barred P) d
+    (subst (λ (ss : List Specification). IsPartly b (flat_map spec_characters ss) d) c.ignorenot.ensures c.in_err-mention_specs-2.ensures.partly))))
+
+pub returns-in_err-mention_bars-clause-err : goal.returns-in_err-mention_bars-clause-err
+returns-in_err-mention_bars-clause-err c =
+    let P = c.args.profile.now in
+    let old = c.args.alphabet.now in
+    let a = c.mention_paths.new.alphabet in
+    let b = c.mention_specs.new.alphabet in
+    let d = c.mention_specs-2.new.alphabet in
+    let p = err_from_is_err_and c.from_residual-in_err-mention_bars.result c.from_residual-in_err-mention_bars.ensures.1 in
+    let e = c.in_err-mention_bars.field-0.0 in
+    let first : a ≡ with_characters old (kept P) =
+    c.in_ok-mention_paths.ensures.ok ∙ ap (λ (ps : List Path). with_characters old (flat_map path_characters ps)) c.paths.ensures.value in
+    let second : b ≡ with_characters a (ignored P) =
+    c.in_ok-mention_specs.ensures.ok ∙ ap (λ (ss : List Specification). with_characters a (flat_map spec_characters ss)) c.ignore.ensures in
+    let third : d ≡ with_characters b (exceptions P) =
+    c.in_ok-mention_specs-2.ensures.ok ∙ ap (λ (ss : List Specification). with_characters b (flat_map spec_characters ss)) c.ignorenot.ensures in
+    rw (p.1, p.2)
+    (refused-behind old a (kept P) (ignored P ++ (exceptions P ++ barred P)) e first
+    (refused-behind a b (ignored P) (exceptions P ++ barred P) e second
+    (refused-behind b d (exceptions P) (barred P) e third
+    (subst (λ (bs : List Partial). Refuses d (flat_map partial_characters bs) e) c.partial.ensures c.in_err-mention_bars.ensures.err))))
+
+pub returns-in_err-mention_bars-clause-partly : goal.returns-in_err-mention_bars-clause-partly
+returns-in_err-mention_bars-clause-partly c =
+    let P = c.args.profile.now in
+    let old = c.args.alphabet.now in
+    let a = c.mention_paths.new.alphabet in
+    let b = c.mention_specs.new.alphabet in
+    let d = c.mention_specs-2.new.alphabet in
+    let f = c.mention_bars.new.alphabet in
+    let p = err_from_is_err_and c.from_residual-in_err-mention_bars.result c.from_residual-in_err-mention_bars.ensures.1 in
+    let first : a ≡ with_characters old (kept P) =
+    c.in_ok-mention_paths.ensures.ok ∙ ap (λ (ps : List Path). with_characters old (flat_map path_characters ps)) c.paths.ensures.value in
+    let second : b ≡ with_characters a (ignored P) =
+    c.in_ok-mention_specs.ensures.ok ∙ ap (λ (ss : List Specification). with_characters a (flat_map spec_characters ss)) c.ignore.ensures in
+    let third : d ≡ with_characters b (exceptions P) =
+    c.in_ok-mention_specs-2.ensures.ok ∙ ap (λ (ss : List Specification). with_characters b (flat_map spec_characters ss)) c.ignorenot.ensures in
+    rw p.1
+    (partly-behind old a (kept P) (ignored P ++ (exceptions P ++ barred P)) f first
+    (partly-behind a b (ignored P) (exceptions P ++ barred P) f second
+    (partly-behind b d (exceptions P) (barred P) f third
+    (subst (λ (bs : List Partial). IsPartly d (flat_map partial_characters bs) f) c.partial.ensures c.in_err-mention_bars.ensures.partly))))
 
 pub returns-clause-ok : goal.returns-clause-ok
 returns-clause-ok c =
@@ -96,22 +155,25 @@ returns-clause-ok c =
     let a = c.mention_paths.new.alphabet in
     let b = c.mention_specs.new.alphabet in
     let d = c.mention_specs-2.new.alphabet in
-    let first : a ≡ with_characters old (flat_map path_characters P.paths) =
+    let f = c.mention_bars.new.alphabet in
+    let first : a ≡ with_characters old (kept P) =
     c.in_ok-mention_paths.ensures.ok ∙ ap (λ (ps : List Path). with_characters old (flat_map path_characters ps)) c.paths.ensures.value in
-    let second : b ≡ with_characters a (flat_map spec_characters P.ignore) =
+    let second : b ≡ with_characters a (ignored P) =
     c.in_ok-mention_specs.ensures.ok ∙ ap (λ (ss : List Specification). with_characters a (flat_map spec_characters ss)) c.ignore.ensures in
-    let third : d ≡ with_characters b (flat_map spec_characters P.ignorenot) =
+    let third : d ≡ with_characters b (exceptions P) =
     c.in_ok-mention_specs-2.ensures.ok ∙ ap (λ (ss : List Specification). with_characters b (flat_map spec_characters ss)) c.ignorenot.ensures in
-    added-behind old a d (flat_map path_characters P.paths) (flat_map spec_characters P.ignore ++ flat_map spec_characters P.ignorenot) first
-    (added-behind a b d (flat_map spec_characters P.ignore) (flat_map spec_characters P.ignorenot) second third)
+    let fourth : f ≡ with_characters d (barred P) =
+    c.in_ok-mention_bars.ensures.ok ∙ ap (λ (bs : List Partial). with_characters d (flat_map partial_characters bs)) c.partial.ensures in
+    added-behind old a f (kept P) (ignored P ++ (exceptions P ++ barred P)) first
+    (added-behind a b f (ignored P) (exceptions P ++ barred P) second (added-behind b d f (exceptions P) (barred P) third fourth))
 
 pub returns-clause-kept : goal.returns-clause-kept
 returns-clause-kept c = λ cs h.
-    let is : c.mention_specs-2.new.alphabet ≡ with_characters c.args.alphabet.now (mentioned_by c.args.profile.now) = returns-clause-ok c in
+    let is : c.mention_bars.new.alphabet ≡ with_characters c.args.alphabet.now (mentioned_by c.args.profile.now) = returns-clause-ok c in
     ap (λ (ms : List ℕ). mentions ms cs) is ∙ c.what_is_added_is_mentioned.ensures.kept c.args.alphabet.now (mentioned_by c.args.profile.now) cs h
 
 pub returns-clause-mentioned : goal.returns-clause-mentioned
 returns-clause-mentioned c =
     let P = c.args.profile.now in
-    let is : c.mention_specs-2.new.alphabet ≡ with_characters c.args.alphabet.now (mentioned_by P) = returns-clause-ok c in
-    says-all P c.mention_specs-2.new.alphabet (ap (λ (ms : List ℕ). mentions ms (mentioned_by P)) is ∙ c.what_is_added_is_mentioned.ensures.added c.args.alphabet.now (mentioned_by P))
+    let is : c.mention_bars.new.alphabet ≡ with_characters c.args.alphabet.now (mentioned_by P) = returns-clause-ok c in
+    says-all P c.mention_bars.new.alphabet (ap (λ (ms : List ℕ). mentions ms (mentioned_by P)) is ∙ c.what_is_added_is_mentioned.ensures.added c.args.alphabet.now (mentioned_by P))

@@ -9,7 +9,7 @@ use Rattle.hub_automaton.specs.declared.fault.AutomatonFault.{AutomatonFault}
 use Rattle.hub_automaton.specs.Alphabet.{mentions, path_characters, spec_characters, is_left_out, is_mentioned, with_characters, Refuses}
 use Rattle.hub_automaton.specs.Adding.{with-append, mention_refused, flat_drop}
 use Rattle.hub_profile.specs.Parts.{Parts}
-use Rattle.hub_reach.specs.Mention.{Mentions, mentioned_by}
+use Rattle.hub_reach.specs.Mention.{Mentions, mentioned_by, partial_characters}
 
 pub parts-mentioned : (ms cs ds : List ℕ) → mentions ms (cs ++ ds) ≡ true → (mentions ms cs ≡ true) × (mentions ms ds ≡ true)
 parts-mentioned ms cs ds h = and_parts (mentions ms cs) (mentions ms ds) (sym (list_all-append (λ c. is_left_out c || is_mentioned ms c) cs ds) ∙ h)
@@ -56,10 +56,13 @@ module _ {X : Type 0} (f : X → List ℕ) where
 -- An alphabet that mentions all that a profile mentions.
 pub says-all : (P : Parts) (ms : List ℕ) → mentions ms (mentioned_by P) ≡ true → Mentions ms P
 says-all P ms h =
-    let w = parts-mentioned ms (flat_map path_characters P.paths) (flat_map spec_characters P.ignore ++ flat_map spec_characters P.ignorenot) h in
-    let v = parts-mentioned ms (flat_map spec_characters P.ignore) (flat_map spec_characters P.ignorenot) w.1 in
+    let bars = flat_map partial_characters P.partial in
+    let w = parts-mentioned ms (flat_map path_characters P.paths) (flat_map spec_characters P.ignore ++ (flat_map spec_characters P.ignorenot ++ bars)) h in
+    let v = parts-mentioned ms (flat_map spec_characters P.ignore) (flat_map spec_characters P.ignorenot ++ bars) w.1 in
+    let u = parts-mentioned ms (flat_map spec_characters P.ignorenot) bars v.1 in
     record {
       paths = each-mentioned path_characters ms P.paths w.0;
       ignore = each-mentioned spec_characters ms P.ignore v.0;
-      ignorenot = each-mentioned spec_characters ms P.ignorenot v.1;
+      ignorenot = each-mentioned spec_characters ms P.ignorenot u.0;
+      partial = each-mentioned partial_characters ms P.partial u.1;
     }

@@ -24,3 +24,4 @@ pub mod LineByLine
 pub mod Written
 pub mod Pushed
 pub mod GoalLines
+pub mod Forbids

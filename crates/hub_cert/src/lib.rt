@@ -6,7 +6,8 @@
 //! - [`Certificate`]: a goal and a list of texts. It rules the goal out if the list is inductive.
 //! - [`verify`]: checks certificates, and returns the set as a [`Verified`], whose type says that the set is safe.
 //! - [`read_certificates`] and [`write_certificates`]: the text of certificates, which docs/CERTIFICATES.md describes.
-//! - [`Product`]: the automaton of a goal, whose state is a [`GoalStage`]. [`walker_of`] and [`rule_set_of`] make its parts.
+//! - [`Product`]: the automaton of a goal, whose state is a [`GoalStage`]. [`walker_of`], [`rule_set_of`] and [`forbidden_to`]
+//!   make its parts.
 //! - [`laws`]: what the crates above may conclude.
 //!
 //! The contracts use the words of `specs/Set`, `specs/Goals`, `specs/Aim` (what a goal asks, and its stages),
@@ -18,6 +19,7 @@
 mod certificate;
 mod draft;
 mod fault;
+mod forbidden;
 mod goal;
 pub mod laws;
 mod product;
@@ -33,6 +35,7 @@ mod writing;
 
 pub use certificate::{Certificate, StageText};
 pub use fault::CheckFault;
+pub use forbidden::{Forbidden, forbidden_to};
 pub use goal::{Goal, Place};
 pub use product::{Product, rule_set_of, slash_class, walker_of};
 pub use reading::read_certificates;

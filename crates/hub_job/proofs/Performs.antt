@@ -13,7 +13,7 @@ use Rattle.std.proofs.lemmas.Bool.Decides.{nat_tests}
 use Rattle.hub_path.specs.Path.{Name, Path, path_eq, parent, last_name}
 use Rattle.hub_path.specs.Laws.{path_cmp-total, path_cmp-exact, parent-last_name}
 use Rattle.hub_profile.specs.Parts.{Parts}
-use Rattle.hub_reach.specs.Reach.{reach, writes}
+use Rattle.hub_reach.specs.Reach.{reach, writes_at}
 use Rattle.hub_tree.specs.Tree.{Replica, IsRefusal, bytes_of, contents_at, children, mark_at, names_at, is_absent, is_child, is_directory, mark_of}
 use Rattle.hub_tree.specs.declared.contents.Contents.{Contents}
 use Rattle.hub_tree.specs.declared.contents.Contents.TheVariants as contents
@@ -131,7 +131,7 @@ directory_mark false c e h = cc
 
 -- What is seen of a path that is reached, of the whole replica, and elsewhere.
 abbrev seen_there : Parts → Path → Replica → Path → Bool → Sight
-seen_there P r m d b = record { mark = mark_at m d; names = reached_names P m d; others = writes P r && b && list_any (λ q. not (reach P q)) (children m d) }
+seen_there P r m d b = record { mark = mark_at m d; names = reached_names P m d; others = writes_at P r d && b && list_any (λ q. not (reach P q)) (children m d) }
 
 abbrev seen_at_top : Parts → Replica → Sight
 seen_at_top P m = record { mark = mark.Directory; names = reached_names P m []; others = false }
@@ -157,11 +157,11 @@ same_seen : (a b : Mark) (ns ms : List Name) (o q : Bool) → a ≡ b → ns ≡
 same_seen a b ns ms o q e f g = cc
 
 pub sees_reached : (P : Parts) (r : Path) (m : Replica) (d : Path) (mk : Mark) (ns : List Name) (o : Bool) → reach P d ≡ true → mk ≡ mark_at m d
-    → ns ≡ filter (λ n. reach P (d ++ n ∷ [])) (names_at m d) → o ≡ (writes P r && list_any (λ n. not (reach P (d ++ n ∷ []))) (names_at m d))
+    → ns ≡ filter (λ n. reach P (d ++ n ∷ [])) (names_at m d) → o ≡ (writes_at P r d && list_any (λ n. not (reach P (d ++ n ∷ []))) (names_at m d))
     → Seen mk ns o ≡ seen (sight P r m d)
 sees_reached P r m d mk ns o h em en eo =
-    same_seen mk (mark_at m d) ns (reached_names P m d) o (writes P r && true && list_any (λ q. not (reach P q)) (children m d)) em (en ∙ names_reached P m d)
-    (eo ∙ (ap (λ b. writes P r && b) (names_not_reached P m d) ∙ ap (λ b. b && list_any (λ q. not (reach P q)) (children m d)) (sym (and_true (writes P r)))))
+    same_seen mk (mark_at m d) ns (reached_names P m d) o (writes_at P r d && true && list_any (λ q. not (reach P q)) (children m d)) em (en ∙ names_reached P m d)
+    (eo ∙ (ap (λ b. writes_at P r d && b) (names_not_reached P m d) ∙ ap (λ b. b && list_any (λ q. not (reach P q)) (children m d)) (sym (and_true (writes_at P r d)))))
     ∙ ap seen (sym (sight_by P r m d true (length d == 0 && is_kept P []) h refl))
 
 pub sees_top : (P : Parts) (r : Path) (m : Replica) (d : Path) (ns : List Name) → reach P d ≡ false → (length d == 0 && list_any (path_eq d) P.paths) ≡ true

@@ -4,6 +4,10 @@ use Rattle.std.specs.FinMap.{get-from_sorted, entries-from_sorted, is_sorted, fr
 use Rattle.hub_path.specs.Path.{Path, path_of, path_cmp}
 use Rattle.hub_path.specs.declared.side.Side.{Side}
 use Rattle.hub_path.specs.declared.side.Side.TheVariants.{Left, Right}
+use Rattle.hub_glob.specs.Specification.{Specification}
+use Rattle.hub_glob.specs.declared.path_spec.Kind.TheVariants as kind
+use Rattle.hub_glob.specs.declared.piece.Part.TheVariants.{One}
+use Rattle.hub_glob.specs.declared.piece.Piece.TheVariants.{Lit}
 use Rattle.hub_profile.specs.Parts.{Parts}
 use Rattle.hub_profile.specs.declared.bars.Bars.{Bars}
 use Rattle.hub_tree.specs.Tree.{Replica}
@@ -42,6 +46,7 @@ kept t = record {
   force = None;
   prefer = None;
   bars = no_bars ∷ no_bars ∷ [];
+  partial = [];
 }
 
 abbrev hub : Path
@@ -75,6 +80,53 @@ what_is_not_reached_is_told_as_nothing = refl
 
 names_and_bytes_take_memory : map takes_memory (Seen mark.Directory [] false ∷ Bytes [] ∷ Done ∷ Refused NoParent ∷ []) ≡ true ∷ true ∷ false ∷ false ∷ []
 names_and_bytes_take_memory = refl
+
+-- `path = d`, `ignore = Name y`: d has a child y, which isn't reached. Others are told of d where some change of it is allowed.
+abbrev named : List ℕ → Specification
+named t = record { kind = kind.Name; pattern = map (λ c. One (Lit c)) t }
+
+abbrev without_y : Parts
+without_y = record (kept (codes "d")) { ignore = named (codes "y") ∷ [] }
+
+abbrev d : Path
+d = path_of (codes "d")
+
+abbrev entries_of_d : List (Path × Contents)
+entries_of_d = (d, contents.Directory) ∷ (path_of (codes "d/y"), contents.Directory) ∷ []
+
+abbrev holding_y : Replica
+holding_y = from_sorted {R = path_cmp} entries_of_d
+
+others_are_told_where_it_writes : answer holding_y without_y hub (Look d) ≡ Seen mark.Directory [] true
+unfolding computed
+others_are_told_where_it_writes = let h : T (is_sorted path_cmp entries_of_d) = tt in simp (get-from_sorted, entries-from_sorted)
+
+-- `noupdatepartial`, which bars deletions too, and `nocreationpartial`, both with `Name NAME -> ROOT`.
+abbrev no_updates_at : Side → List ℕ → Parts
+no_updates_at side t = record without_y { partial = record { side = side; bars = record no_bars { update = true; delete = true }; spec = named t } ∷ [] }
+
+abbrev no_changes_at : Side → List ℕ → Parts
+no_changes_at side t = record without_y {
+  partial = record { side = side; bars = record no_bars { update = true; delete = true }; spec = named t }
+      ∷ record { side = side; bars = record no_bars { create = true }; spec = named t }
+      ∷ [];
+}
+
+others_are_not_told_where_nothing_is_written : answer holding_y (no_changes_at Left (codes "d")) hub (Look d) ≡ Seen mark.Directory [] false
+unfolding computed
+others_are_not_told_where_nothing_is_written = let h : T (is_sorted path_cmp entries_of_d) = tt in simp (get-from_sorted, entries-from_sorted)
+
+others_are_told_where_something_may_be_created : answer holding_y (no_updates_at Left (codes "d")) hub (Look d) ≡ Seen mark.Directory [] true
+unfolding computed
+others_are_told_where_something_may_be_created = let h : T (is_sorted path_cmp entries_of_d) = tt in simp (get-from_sorted, entries-from_sorted)
+
+bars_on_another_path_hide_nothing_here : answer holding_y (no_changes_at Left (codes "y")) hub (Look d) ≡ Seen mark.Directory [] true
+unfolding computed
+bars_on_another_path_hide_nothing_here = let h : T (is_sorted path_cmp entries_of_d) = tt in simp (get-from_sorted, entries-from_sorted)
+
+bars_on_the_other_root_hide_nothing_here : answer holding_y (no_changes_at Right (codes "d")) hub (Look d) ≡ Seen mark.Directory [] true
+unfolding computed
+bars_on_the_other_root_hide_nothing_here = let h : T (is_sorted path_cmp entries_of_d) = tt in simp (get-from_sorted, entries-from_sorted)
 
 -- `path = p/q`: the first Look is at its parent, on the left.
 the_first_look_is_at_the_parent : next (kept (codes "p/q")) (from_sorted {R = path_cmp} none) [] ≡ Ask Left (Look (path_of (codes "p")))

@@ -12,7 +12,7 @@ use crate::answer::{Answer, OpFault};
 use crate::op::Op;
 use hub_path::{Name, RelPath, Root};
 use hub_profile::Profile;
-use hub_reach::{reaches, writes};
+use hub_reach::{reaches, writes_at};
 use hub_text::Items;
 use hub_tree::{Contents, Mark, SetFault, Tree};
 use std::alloc::{AllocError, Global};
@@ -61,7 +61,7 @@ fn look(
     if reaches(profile, path) {
         let (names, others) = split_names(alloc, profile, path, tree.names_at(path)?)?;
         let mark = tree.mark_at(path);
-        let others = are_told(profile, root, others);
+        let others = are_told(profile, root, path, others);
         return Ok(Answer::Seen {
             mark,
             names,
@@ -76,11 +76,11 @@ fn look(
     Ok(mark_alone(alloc, parent_mark(is_parent, tree, path)))
 }
 
-/// Returns whether others are told: where the profile writes at the root.
-fn are_told(profile: &Profile, root: &Root, others: bool) -> bool
-    ensures { result ≡ (of_reach.writes profile.now root.now && others) }
+/// Returns whether others are told: where the profile writes at that path of the root.
+fn are_told(profile: &Profile, root: &Root, path: &RelPath, others: bool) -> bool
+    ensures { result ≡ (of_reach.writes_at profile.now root.now path.now && others) }
 {
-    writes(profile, root) && others
+    writes_at(profile, root, path) && others
 }
 
 /// Returns whether the path is the whole replica, and that is kept.

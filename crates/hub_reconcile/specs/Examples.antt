@@ -6,11 +6,13 @@ use Rattle.hub_path.specs.Path.{Path, path_cmp, path_eq, path_of, ascending}
 use Rattle.hub_path.specs.declared.side.Side.{Side}
 use Rattle.hub_path.specs.declared.side.Side.TheVariants.{Left, Right}
 use Rattle.hub_glob.specs.Glob.{matches}
+use Rattle.hub_glob.specs.Specification.{Specification}
 use Rattle.hub_glob.specs.declared.path_spec.Kind.TheVariants as kind
 use Rattle.hub_glob.specs.declared.piece.Part.TheVariants.{One}
 use Rattle.hub_glob.specs.declared.piece.Piece.TheVariants.{Lit, Run}
 use Rattle.hub_profile.specs.Parts.{Parts}
 use Rattle.hub_profile.specs.Protection.{no_bars}
+use Rattle.hub_profile.specs.declared.bars.Bars.{Bars}
 use Rattle.hub_profile.specs.declared.verb.Verb.{Verb}
 use Rattle.hub_profile.specs.declared.verb.Verb.TheVariants.{Create, Update, Delete}
 use Rattle.hub_tree.specs.declared.contents.Mark.{Mark}
@@ -166,6 +168,7 @@ no_tmp = record {
   force = None;
   prefer = None;
   bars = no_bars ∷ no_bars ∷ [];
+  partial = [];
 }
 
 abbrev seen_by : Parts → Marks → Marks → Marks → List (List ℕ) → View
@@ -193,3 +196,44 @@ only_pq = record no_tmp { paths = path_of (codes "p/q") ∷ []; ignore = [] }
 a_kept_value_without_a_parent_is_skipped : items (seen_by only_pq ((codes "p", mark.Directory) ∷ (codes "p/q", file 0) ∷ []) [] [] []) ≡ item (codes "p/q") (Skip reason.NoParent) ∷ []
 unfolding computed
 a_kept_value_without_a_parent_is_skipped = refl
+
+-- Bars on paths of one root. The left side has a file d, where the right side and the archive have a directory with d/x and d/y.
+-- So d/x and d/y would be deleted on the right, and d would be updated.
+abbrev named : List ℕ → Specification
+named t = record { kind = kind.Name; pattern = map (λ c. One (Lit c)) t }
+
+abbrev no_deletions : Bars
+no_deletions = record { create = false; update = false; delete = true }
+
+abbrev no_updates : Bars
+no_updates = record { create = false; update = true; delete = true }
+
+abbrev barred_on : Side → Bars → List ℕ → Parts
+barred_on side bars t = record no_tmp { ignore = []; partial = record { side = side; bars = bars; spec = named t } ∷ [] }
+
+abbrev file_for_full : Parts → View
+file_for_full P = seen_by P ((codes "d", file 1) ∷ []) full full []
+
+a_bar_on_a_path_below_bars_the_item : items (file_for_full (barred_on Right no_deletions (codes "x"))) ≡ item (codes "d") (Skip reason.Barred) ∷ []
+unfolding computed
+a_bar_on_a_path_below_bars_the_item = refl
+
+a_bar_on_the_item_bars_it : items (file_for_full (barred_on Right no_updates (codes "d"))) ≡ item (codes "d") (Skip reason.Barred) ∷ []
+unfolding computed
+a_bar_on_the_item_bars_it = refl
+
+a_bar_on_the_item_says_nothing_of_what_is_below : items (file_for_full (barred_on Right no_deletions (codes "d"))) ≡ item (codes "d") (To Right) ∷ []
+unfolding computed
+a_bar_on_the_item_says_nothing_of_what_is_below = refl
+
+a_bar_on_another_path_bars_nothing_here : items (file_for_full (barred_on Right no_deletions (codes "z"))) ≡ item (codes "d") (To Right) ∷ []
+unfolding computed
+a_bar_on_another_path_bars_nothing_here = refl
+
+a_bar_on_the_source_bars_nothing : items (file_for_full (barred_on Left no_updates (codes "x"))) ≡ item (codes "d") (To Right) ∷ []
+unfolding computed
+a_bar_on_the_source_bars_nothing = refl
+
+a_barred_item_leaves_the_others : items (seen_by (barred_on Right no_updates (codes "d")) ((codes "d", file 1) ∷ (codes "e", file 1) ∷ []) full full []) ≡ item (codes "d") (Skip reason.Barred) ∷ item (codes "e") (To Right) ∷ []
+unfolding computed
+a_barred_item_leaves_the_others = refl

@@ -14,7 +14,7 @@ use crate::picture::Picture;
 use crate::row::Row;
 use hub_path::Side;
 use hub_profile::Profile;
-use hub_reach::may;
+use hub_reach::may_at;
 use hub_tree::Mark;
 use std::alloc::AllocError;
 
@@ -117,7 +117,8 @@ fn bars(profile: &Profile, row: &Row, from: Side, mark: Mark) -> bool
     ensures { result ≡ fates.bars profile.now from row.now mark }
 {
     let to = from.other();
-    !may(profile, profile.root(to), verb_of(row.mark(to), mark))
+    let verb = verb_of(row.mark(to), mark);
+    !may_at(profile, profile.root(to), row.path, verb)
 }
 
 /// Whether some change of the item removes or replaces a directory that has children that aren't reached.

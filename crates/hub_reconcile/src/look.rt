@@ -13,7 +13,7 @@ pub struct Look<'a> {
     pub mark: Mark,
     /// The names of the children that the profile reaches. Nothing in this crate depends on them.
     pub names: &'a [Name],
-    /// Whether the path has children that the profile doesn't reach, where it writes.
+    /// Whether the path has children that the profile doesn't reach. It is told only if the profile writes the path.
     pub others: bool,
 }
 

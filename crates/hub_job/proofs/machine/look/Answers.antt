@@ -2,7 +2,7 @@ use Rattle.std.proofs.Common.{Bool, ◌&&◌, not, List, [], ◌∷◌, ◌++◌
 use Rattle.std.specs.Prelude.{filter}
 use Rattle.std.specs.List.{list_any}
 use Rattle.hub_path.specs.Path.{Name}
-use Rattle.hub_reach.specs.Reach.{reach, writes}
+use Rattle.hub_reach.specs.Reach.{reach, writes_at}
 use Rattle.hub_tree.specs.Tree.{contents_at, is_directory}
 use Rattle.hub_reconcile.specs.Sight.{directory_or_absent}
 use Rattle.hub_job.specs.declared.answer.Answer.{Answer}
@@ -17,7 +17,7 @@ returns-then-reaches-clause-value c =
     let d = c.args.path.now in
     sees_reached P c.args.root.now c.args.tree.now d _ _ _ (sym c.reaches.ensures ∙ c.if-reaches.true) c.mark_at-mark.ensures.mark
     (c.in_ok-names.ensures.names ∙ ap (λ (ns : List Name). filter (λ n. reach P (d ++ n ∷ [])) ns) c.in_ok-names_at.ensures)
-    (c.are_told-others.ensures ∙ ap (λ (b : Bool). writes P c.args.root.now && b) (c.in_ok-names.ensures.others ∙ ap (λ (ns : List Name). list_any (λ n. not (reach P (d ++ n ∷ []))) ns) c.in_ok-names_at.ensures))
+    (c.are_told-others.ensures ∙ ap (λ (b : Bool). writes_at P c.args.root.now d && b) (c.in_ok-names.ensures.others ∙ ap (λ (ns : List Name). list_any (λ n. not (reach P (d ++ n ∷ []))) ns) c.in_ok-names_at.ensures))
 
 pub returns-then-is_kept_top-clause-value : goal.returns-then-is_kept_top-clause-value
 returns-then-is_kept_top-clause-value c =

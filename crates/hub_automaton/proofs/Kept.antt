@@ -162,11 +162,11 @@ tail-drop i bs = ap (λ n. drop n bs) (add-one i) ∙ by i bs where
   by (suc i) (b ∷ bs) = by i bs
 
 -- Whether some test is passed from a place on, where the first of them has this number.
-abbrev any_from : ℕ → ℕ → List Bool → Bool
+abbrev pub any_from : ℕ → ℕ → List Bool → Bool
 any_from from i [] = false
 any_from from i (b ∷ bs) = (not (nat_lt i from) && b) || any_from from (i + 1) bs
 
-any_from-drop : (from i : ℕ) (bs : List Bool) → any_from from i bs ≡ list_any (λ b. b) (drop (from - i) bs)
+pub any_from-drop : (from i : ℕ) (bs : List Bool) → any_from from i bs ≡ list_any (λ b. b) (drop (from - i) bs)
 any_from-drop from i [] = ap (list_any (λ b. b)) (sym (drop-none (from - i)))
 any_from-drop from i (b ∷ bs) = by_test (nat_lt i from) refl (any_from-drop from (i + 1) bs) where
   by_test : (c : Bool) → nat_lt i from ≡ c → any_from from (i + 1) bs ≡ list_any (λ b. b) (drop (from - (i + 1)) bs)
@@ -195,12 +195,12 @@ each-take (suc n) [] flags old = refl
 each-take (suc n) (a ∷ ls) flags old =
     ap (λ bs. (head flags || ended_choices a.choices old) ∷ bs) (each-take n ls (tail flags) (drop (spot_count a.choices) old))
 
-drop-map : (f : Alternatives → Bool) (n : ℕ) (ls : List Alternatives) → drop n (map f ls) ≡ map f (drop n ls)
+pub drop-map : (f : Alternatives → Bool) (n : ℕ) (ls : List Alternatives) → drop n (map f ls) ≡ map f (drop n ls)
 drop-map f zero ls = refl
 drop-map f (suc n) [] = refl
 drop-map f (suc n) (a ∷ ls) = drop-map f n ls
 
-range_is : (from to : ℕ) (ls : List Alternatives) → drop from (take to ls) ≡ take (to - from) (drop from ls)
+pub range_is : (from to : ℕ) (ls : List Alternatives) → drop from (take to ls) ≡ take (to - from) (drop from ls)
 range_is zero to ls = ap (λ n. take n ls) (let e : to ≡ to - 0 = omega arith in e)
 range_is (suc from) zero ls = ap (λ n. take n (drop (suc from) ls)) (let e : 0 ≡ 0 - suc from = omega arith in e)
 range_is (suc from) (suc to) [] = ap (λ bs. bs) (sym (none (suc to - suc from))) where

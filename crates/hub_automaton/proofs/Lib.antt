@@ -2,6 +2,7 @@ pub mod Alphabets
 pub mod ClassSets
 pub mod Classes
 pub mod Covered
+pub mod Endings
 pub mod Exact
 pub mod Kept
 pub mod Likes

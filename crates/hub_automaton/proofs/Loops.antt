@@ -36,7 +36,7 @@ last_is here (p ∷ ps) [] = last_is false ps [] ∙ past (length ps) where
   past (suc n) = refl
 last_is here (p ∷ ps) (b ∷ old) = last_is b ps old
 
-ended_is : (c : List Piece) (old : List Bool) → ended c old ≡ slice_index_or old (length c) false
+pub ended_is : (c : List Piece) (old : List Bool) → ended c old ≡ slice_index_or old (length c) false
 ended_is c [] = last_is false c [] ∙ past (length c) where
   past : (n : ℕ) → slice_index_or (false ∷ []) n false ≡ false
   past zero = refl

@@ -89,7 +89,7 @@ test-word [] i = test-zero i
 test-word (b ∷ bs) zero = onto_first b (word bs)
 test-word (b ∷ bs) (suc i) = onto_next b (word bs) i ∙ test-word bs i
 
-number_few : (b : Bool) → bool_byte b < 2
+pub number_few : (b : Bool) → bool_byte b < 2
 number_few true = omega arith
 number_few false = omega arith
 

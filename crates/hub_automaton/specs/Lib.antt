@@ -2,6 +2,7 @@ pub mod Adding
 pub mod Alike
 pub mod Alphabet
 pub mod ClassSets
+pub mod Ends
 pub mod Examples
 pub mod Masks
 pub mod Opened

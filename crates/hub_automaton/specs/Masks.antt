@@ -11,6 +11,7 @@ use Rattle.hub_automaton.specs.declared.masks.Mask.TheVariants as mask
 use Rattle.hub_automaton.specs.declared.masks.SpotMasks.{SpotMasks}
 use Rattle.hub_glob.specs.declared.piece.Next.{Next}
 use Rattle.hub_automaton.specs.Alike.{is_exchangeable}
+use Rattle.hub_automaton.specs.Ends.{below_ends}
 use Rattle.hub_automaton.specs.Spots.{Seen, is_name_kind, is_below_kind, spot_count}
 use Rattle.hub_automaton.specs.Words.{packed, bit, with_bit, moved_words}
 
@@ -46,6 +47,7 @@ pub record AreMasksOf (ls : List Alternatives) (characters : List ℕ) (m : Spot
   pub entered : m.entries ≡ packed (mask_all mask.Entries ls)
   pub starred : m.stars ≡ packed (mask_all mask.Stars ls)
   pub taken : m.takers.items ≡ map (λ c. packed (mask_all (mask.Takers c) ls)) characters
+  pub ended : m.below_ends ≡ below_ends ls
 
 -- Whether one of the choices whose spots begin at that place matches the text.
 abbrev pub ended_at : List (List Piece) → List ℕ → ℕ → Bool

@@ -7,6 +7,8 @@
 //!   other characters allowed in paths are one class.
 //! - [`SpecSet`] reads a text class by class for some specifications. Its state is [`Spots`]: for each choice, after how
 //!   many pieces it matches the text so far. So it knows after each character whether one of them matches the text.
+//! - [`Ends`] is a range of the specifications of a set as a mask, so that [`Spots::meets`] finds in one pass over words
+//!   whether one of them matches.
 //! - [`ClassSet`] is a set of classes. [`SpecSet::open_classes`] finds by the active positions of a state which classes may
 //!   lead elsewhere than class 0.
 //! - [`SpecSetBuilder`] collects the specifications of a set, and paths that stand for themselves and all paths below.
@@ -14,7 +16,7 @@
 //! The contracts use the words of `specs/Alphabet` (classes) and `specs/Spots` (the state after a text). `specs/Stepping`
 //! defines a step position by position, `specs/Masks` and `specs/Words` for 64 positions at once, and `specs/Rows` for many
 //! words at once. `specs/Alike` says which classes are treated alike, `specs/Varied` at which positions a class is told from
-//! class 0, and `specs/Opened` what a class that isn't open leads to.
+//! class 0, `specs/Opened` what a class that isn't open leads to, and `specs/Ends` the masks of last positions.
 #![tactic(auto)]
 
 mod alike;
@@ -23,6 +25,7 @@ mod alternatives;
 mod builder;
 mod class;
 mod class_set;
+mod ends;
 mod fault;
 pub mod laws;
 mod masks;
@@ -38,5 +41,6 @@ pub use alternatives::{Alternatives, SPOTS};
 pub use builder::SpecSetBuilder;
 pub use class::Class;
 pub use class_set::ClassSet;
+pub use ends::Ends;
 pub use fault::AutomatonFault;
 pub use spec_set::{SpecSet, Spots};

@@ -6,6 +6,7 @@ ghost use Rattle.hub_automaton.specs.Spots.{is_name_kind};
 ghost use Rattle.hub_automaton.specs.Words.{packed};
 
 use crate::alternatives::Alternatives;
+use crate::ends::below_ends;
 use crate::words::{Words, pack};
 use hub_glob::{Kind, Next, Piece};
 use hub_text::Items;
@@ -22,12 +23,14 @@ pub(crate) enum Mask {
     Takers(char),
 }
 
-/// The masks of some specifications, those of takers for each class of an alphabet.
+/// The masks of some specifications, those of takers for each class of an alphabet, and the last positions of the choices of
+/// `BelowPath` specifications.
 #[derive(Debug, Drop)]
 pub(crate) struct SpotMasks {
     pub(crate) entries: Words,
     pub(crate) stars: Words,
     pub(crate) takers: Vec<Words>,
+    pub(crate) below_ends: Words,
 }
 
 fn is_name(kind: Kind) -> bool
@@ -122,6 +125,7 @@ impl SpotMasks {
             entries: masked(alloc, Mask::Entries, alternatives)?,
             stars: masked(alloc, Mask::Stars, alternatives)?,
             takers,
+            below_ends: below_ends(alloc, alternatives)?,
         })
     }
 

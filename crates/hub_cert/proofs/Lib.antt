@@ -25,3 +25,5 @@ pub mod Written
 pub mod Pushed
 pub mod GoalLines
 pub mod Forbids
+pub mod Machined
+pub mod Opened

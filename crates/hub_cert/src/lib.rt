@@ -22,6 +22,7 @@ mod fault;
 mod forbidden;
 mod goal;
 pub mod laws;
+mod machines;
 mod product;
 mod reading;
 mod refusals;
@@ -31,6 +32,7 @@ mod stage;
 mod stages;
 mod texts;
 mod verified;
+mod view;
 mod writing;
 
 pub use certificate::{Certificate, StageText};

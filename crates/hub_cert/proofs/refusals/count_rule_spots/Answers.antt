@@ -1,6 +1,5 @@
-use Rattle.std.proofs.Common.{◌≤◌, List, [], ◌∷◌, map, subst, refl, arith, ap, sym, ◌∙◌}
+use Rattle.std.proofs.Common.{◌≤◌, List, map, subst, refl, arith, ap, ◌∙◌}
 use Rattle.std.proofs.lemmas.Option.{slice_get_read, slice_get_within}
-use Rattle.hub_glob.specs.Specification.{Specification}
 use Rattle.hub_automaton.specs.Spots.{alternatives_of, spots_count}
 use Rattle.hub_automaton.specs.declared.alternatives.Alternatives.{Alternatives}
 use Rattle.hub_automaton.specs.declared.alternatives.TheConstants.{SPOTS}

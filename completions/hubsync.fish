@@ -1,0 +1,16 @@
+# Completion of hubsync's words for fish: to be put into ~/.config/fish/completions.
+# The gate compares the words with those of the program (.ci/words).
+complete -c hubsync -f
+
+complete -c hubsync -n __fish_use_subcommand -a check -d 'Say whether the profiles may run at the same time'
+complete -c hubsync -n __fish_use_subcommand -a certify -d 'Write certificates, which show that the profiles may run at the same time'
+complete -c hubsync -n __fish_use_subcommand -a verify -d 'Say whether the certificates of the input show it'
+complete -c hubsync -n __fish_use_subcommand -a reach -d 'Say whether a profile of the input reaches a path'
+complete -c hubsync -n __fish_use_subcommand -a run -d 'Run the jobs of profiles on the state of the input'
+complete -c hubsync -n __fish_use_subcommand -a help -d 'Show help'
+complete -c hubsync -n __fish_use_subcommand -s h -l help -d 'Show help'
+complete -c hubsync -n __fish_use_subcommand -s V -l version -d 'Show the version'
+
+complete -c hubsync -n '__fish_seen_subcommand_from check certify verify reach run' -s h -l help -d 'Show help'
+complete -c hubsync -n '__fish_seen_subcommand_from run' -l workers -x -a '(seq 1 16)' -d 'How many workers run the jobs'
+complete -c hubsync -n '__fish_seen_subcommand_from help' -a 'check certify verify reach run help'

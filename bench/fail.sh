@@ -21,18 +21,12 @@
 # number of runs, how many ended with the fault, how many with a refused thread, a stopped job or a refused step, how many with
 # the right text, and in how many the worker didn't make the call. The status is 1 if an answer is wrong.
 set -euo pipefail
-top=$(dirname "$(dirname "$(readlink -f "${BASH_SOURCE[0]}")")")
-program=$top/crates/bench/out/bench
-questions=$top/crates/test_states/out/test_states
-hubsync=$top/crates/hubsync/out/hubsync
-for built in "$program" "$questions" "$hubsync"; do
-    if [ ! -x "$built" ]; then
-        echo "bench/fail.sh: no program at $built" >&2
-        exit 2
-    fi
-done
-folder=$(mktemp -d)
-trap 'rm -rf "$folder"' EXIT
+crate=bench
+# shellcheck source=bench/head.sh
+source "$(dirname "$(readlink -f "${BASH_SOURCE[0]}")")/head.sh"
+questions=$(built test_states)
+hubsync=$(built hubsync)
+need "$questions" "$hubsync"
 lanes=$(nproc)
 bound=''
 
@@ -271,7 +265,7 @@ fail_in_lane() {
 # Ends the lane, and soon the others, since an answer is wrong.
 is_wrong() {
     touch "$folder/wrong"
-    echo "bench/fail.sh: $(basename "$program"): $kind $number: status $status, ${errors:0:200}${answer:0:200}" >&2
+    echo "$script: $(basename "$program"): $kind $number: status $status, ${errors:0:200}${answer:0:200}" >&2
     exit 1
 }
 

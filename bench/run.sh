@@ -20,7 +20,7 @@
 set -euo pipefail
 # shellcheck source=bench/timing.sh
 source "$(dirname "$(readlink -f "${BASH_SOURCE[0]}")")/timing.sh"
-bench=$top/crates/bench/out/bench
+bench=$(built bench)
 
 bytes=$(printf '%040d' 0)
 digest=$(head -c 20 /dev/zero | sha256sum | cut -d ' ' -f 1)
@@ -42,13 +42,6 @@ entries() {
             }
         }
     }'
-}
-
-# The text of a state with the sections on standard input.
-state() {
-    echo 'hubsync state 1'
-    cat
-    echo end
 }
 
 # One profile, or one for each spoke of the star.
@@ -171,15 +164,12 @@ least() {
 # Times the bundle of that name. Sets `times` of the name.
 declare -A times
 measure_run() {
-    local name=$1 larger peak sizes=-
+    local name=$1 larger peak
     larger=$(wc -c "$folder/$name.bundle" "$folder/$name.answer" | sort -n | tail -n 2 | awk 'NR == 1 { print $1 }')
     times[$name]=$(least time_run "$name")
     peak=$(peak "$folder/$name.bundle")
-    if [ "$peak" != - ]; then
-        sizes=$(awk -v peak="$peak" -v bytes="$larger" 'BEGIN { printf "%.1f", peak * 1024 / bytes }')
-    fi
     printf '%-8s %10s %9s %10s %9s %6s\n' "$name" "$(wc -c <"$folder/$name.bundle")" "$(least time_cat "$name")" \
-        "${times[$name]}" "$peak" "$sizes"
+        "${times[$name]}" "$peak" "$(in_sizes "$peak" "$larger")"
 }
 
 # Says how two measured times compare, each divided by a number, and what the aim is.

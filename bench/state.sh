@@ -18,23 +18,9 @@
 # A line gives the size of the text, the least times of reading, of writing and of the whole process in milliseconds, and the peak
 # memory, also in sizes of the text, if GNU time is installed. The status is 1 if an answer is wrong.
 set -euo pipefail
-top=$(dirname "$(dirname "$(readlink -f "${BASH_SOURCE[0]}")")")
-program=${1:-$top/crates/bench/out/bench}
-repetitions=${2:-5}
-
-if [ ! -x "$program" ]; then
-    echo "bench/state.sh: no program at $program: build it with \`rt run\` in crates/bench" >&2
-    exit 2
-fi
-folder=$(mktemp -d)
-trap 'rm -rf "$folder"' EXIT
-
-# The text of a state with these sections, which are on standard input.
-state() {
-    echo 'hubsync state 1'
-    cat
-    echo end
-}
+crate=bench
+# shellcheck source=bench/head.sh
+source "$(dirname "$(readlink -f "${BASH_SOURCE[0]}")")/head.sh"
 
 # So many directories with so many files each, whose fields are the one given.
 spread() {
@@ -77,7 +63,7 @@ time_once() {
     "$program" state <"$folder/$1" >"$folder/answer" 2>"$folder/times" || status=$?
     after=${EPOCHREALTIME/[.,]/}
     if [ "$status" != "$3" ] || ! cmp -s "$folder/answer" "$2"; then
-        echo "bench/state.sh: $1: status $status, wanted $3; $(head -c 200 "$folder/times")" >&2
+        echo "$script: $1: status $status, wanted $3; $(head -c 200 "$folder/times")" >&2
         exit 1
     fi
     read=$(sed -n 's/^read: \([0-9]*\) ms$/\1/p' "$folder/times")
@@ -92,17 +78,14 @@ least() {
 
 # Times a text. The second word is the text that is wanted, the third the status.
 measure() {
-    local bytes peak=- sizes=- i
+    local bytes peak i
     for ((i = 0; i < repetitions; i++)); do
         time_once "$1" "$folder/$2" "$3"
     done >"$folder/runs"
     bytes=$(wc -c <"$folder/$1")
-    if [ -x /usr/bin/time ]; then
-        /usr/bin/time -f %M -o "$folder/peak" "$program" state <"$folder/$1" >/dev/null 2>&1 || true
-        peak=$(tail -n 1 "$folder/peak")
-        sizes=$(awk -v peak="$peak" -v bytes="$bytes" 'BEGIN { printf "%.1f", peak * 1024 / bytes }')
-    fi
-    printf '%-9s %10s %7s %7s %8s %9s %6s\n' "$1" "$bytes" "$(least 1)" "$(least 2)" "$(least 3)" "$peak" "$sizes"
+    peak=$(peak "$folder/$1" state)
+    printf '%-9s %10s %7s %7s %8s %9s %6s\n' "$1" "$bytes" "$(least 1)" "$(least 2)" "$(least 3)" "$peak" \
+        "$(in_sizes "$peak" "$bytes")"
 }
 
 echo "$repetitions repetitions"

@@ -17,24 +17,10 @@
 # rules say: all that the hub has, at the hub and at the spokes.
 set -euo pipefail
 export LC_ALL=C
-top=$(dirname "$(dirname "$(readlink -f "${BASH_SOURCE[0]}")")")
-program=${1:-$top/crates/bench/out/bench}
-repetitions=${2:-5}
+crate=bench
+# shellcheck source=bench/head.sh
+source "$(dirname "$(readlink -f "${BASH_SOURCE[0]}")")/head.sh"
 workers=${3:-4}
-
-if [ ! -x "$program" ]; then
-    echo "bench/threads.sh: no program at $program: build it with \`rt run\` in crates/bench" >&2
-    exit 2
-fi
-folder=$(mktemp -d)
-trap 'rm -rf "$folder"' EXIT
-
-# The text of a state with the sections on standard input.
-state() {
-    echo 'hubsync state 1'
-    cat
-    echo end
-}
 
 # The lines of a directory and of so many files in it. The last word stands for what each file has.
 team() {
@@ -98,7 +84,7 @@ large_teams() {
 time_once() {
     if ! "$program" run "$1" "$workers" <"$folder/opening" >"$folder/left" 2>"$folder/times" ||
         ! cmp -s "$folder/left" "$folder/closing"; then
-        echo "bench/threads.sh: a wrong answer: $(head -c 200 "$folder/times")" >&2
+        echo "$script: a wrong answer: $(head -c 200 "$folder/times")" >&2
         exit 1
     fi
     sed -n 's/^rounds: \([0-9]*\) ms$/rounds \1000/p

@@ -1,28 +1,11 @@
 # shellcheck shell=bash
-# How the scripts that time the program do so: they read this file with `source`, which leaves it their own arguments.
-#
-# It sets `program` and `repetitions` by these, and makes `folder`, which is gone at the end. `measure` times the program
-# on a bundle in that folder.
-script=bench/$(basename "$0")
-top=$(dirname "$(dirname "$(readlink -f "${BASH_SOURCE[0]}")")")
-program=${1:-$top/crates/hubsync/out/hubsync}
-repetitions=${2:-5}
-
-if [ ! -x "$program" ]; then
-    echo "$script: no program at $program: build it with ./prove" >&2
-    exit 2
-fi
-folder=$(mktemp -d)
-trap 'rm -rf "$folder"' EXIT
+# How the scripts that time answers do so: they read this file with `source`, which leaves it their own arguments. `measure` times
+# the program on a bundle in `folder`.
+# shellcheck source=bench/head.sh
+source "$(dirname "$(readlink -f "${BASH_SOURCE[0]}")")/head.sh"
 
 # What the program writes for `certify` begins with this line. All other answers have one line.
 header='hubsync certificates 1'
-
-# Milliseconds between two readings of EPOCHREALTIME, to three places.
-milliseconds() {
-    local microseconds=$((10#${2/[.,]/} - 10#${1/[.,]/}))
-    printf '%d.%03d\n' $((microseconds / 1000)) $((microseconds % 1000))
-}
 
 # Runs the program on a file, with the words after the wanted status and the wanted first line. Prints the milliseconds from
 # start to end of the process. Ends the script if the answer is another one.
@@ -39,18 +22,6 @@ time_once() {
         exit 1
     fi
     milliseconds "$before" "$after"
-}
-
-# The peak memory of a run on this file, with the words after it.
-peak() {
-    local file=$1
-    shift
-    if [ -x /usr/bin/time ]; then
-        /usr/bin/time -f %M -o "$folder/peak" "$program" "$@" <"$file" >/dev/null || true
-        tail -n 1 "$folder/peak"
-    else
-        echo -
-    fi
 }
 
 # Prints the heads of the columns of `measure`.

@@ -1,0 +1,60 @@
+# shellcheck shell=bash
+# The head of the scripts of this folder: they read this file with `source`, which leaves it their own arguments.
+#
+# It sets `script` and `top`, and `program` and `repetitions` by the arguments: the program of the crate `crate`, which is `hubsync`
+# if nothing else is said, and 5. It makes `folder`, which is gone at the end.
+script=bench/$(basename "$0")
+top=$(dirname "$(dirname "$(readlink -f "${BASH_SOURCE[0]}")")")
+
+# The place of a crate's program, as `./prove` builds it.
+built() {
+    echo "$top/crates/$1/out/$1"
+}
+
+# Ends the script if one of these programs isn't built.
+need() {
+    local each
+    for each in "$@"; do
+        if [ ! -x "$each" ]; then
+            echo "$script: no program at $each: build it with ./prove and the name of its crate" >&2
+            exit 2
+        fi
+    done
+}
+
+program=${1:-$(built "${crate:-hubsync}")}
+# shellcheck disable=SC2034 # the scripts read it
+repetitions=${2:-5}
+need "$program"
+folder=$(mktemp -d)
+trap 'rm -rf "$folder"' EXIT
+
+# The text of a state with the sections on standard input.
+state() {
+    echo 'hubsync state 1'
+    cat
+    echo end
+}
+
+# Milliseconds between two readings of EPOCHREALTIME, to three places.
+milliseconds() {
+    local microseconds=$((10#${2/[.,]/} - 10#${1/[.,]/}))
+    printf '%d.%03d\n' $((microseconds / 1000)) $((microseconds % 1000))
+}
+
+# The peak memory in KiB of a run on this file, with the words after it, if GNU time is installed.
+peak() {
+    local file=$1
+    shift
+    if [ -x /usr/bin/time ]; then
+        /usr/bin/time -f %M -o "$folder/peak" "$program" "$@" <"$file" >/dev/null 2>&1 || true
+        tail -n 1 "$folder/peak"
+    else
+        echo -
+    fi
+}
+
+# This memory in sizes of a text of so many bytes.
+in_sizes() {
+    awk -v peak="$1" -v bytes="$2" 'BEGIN { if (peak == "-") print peak; else printf "%.1f\n", peak * 1024 / bytes }'
+}

@@ -32,12 +32,14 @@
 #   a space at the end of a line. `\c` ends an input without a line end.
 # - Between a status and the next title there may be blank lines, and remarks that begin with `#`.
 #
-# Then it asks what no table can say: inputs that are long, come byte by byte or fail, and outputs that fail, of
-# which standard error says that. A line is printed for each wrong answer. The status is 1 if there was one, else 0.
+# Each question that reads its input is asked once more with an input that comes byte by byte. Then it asks what no table can
+# say: inputs that are long, forged, cut (hostile.sh) or that fail, and outputs that fail, of which standard error says that. A line is printed for each wrong answer. The status is 1 if there was one, else 0.
 set -euo pipefail
 shopt -s nullglob
 folder=$(dirname "$(readlink -f "${BASH_SOURCE[0]}")")
 program=$(readlink -m "${1:-$folder/../crates/hubsync/out/hubsync}")
+# shellcheck source=examples/hostile.sh
+source "$folder/hostile.sh"
 asked=0
 wrong=0
 
@@ -107,6 +109,9 @@ ask_case() {
     printf '%b' "$5" >"$room/input"
     printf '%b' "$6" >"$room/wanted"
     ask "$1: $4" "$2" "$3" "${words[@]}"
+    if [ -z "$3" ]; then
+        ask_bytes "$1: $4" "$2" "${words[@]}"
+    fi
 }
 
 # Asks all questions of a table.
@@ -207,25 +212,18 @@ long_state() {
     echo end
 }
 
-# Asks about an input byte by byte: `dd` puts the pipe into packet mode, so that each read gets one byte.
-ask_slowly() {
-    local status=0
-    dd bs=1 oflag=direct status=none <"$room/input" | "$program" >"$room/output" || status=$?
-    judge "$1, byte by byte" "$2" "$status" || true
-}
-
 # Inputs that take many reads.
 ask_long() {
     long_state >"$room/input"
     sed '1s/.*/safe/' "$room/input" >"$room/wanted"
     ask 'an input of several reads' 0 '' hubsync
-    ask_slowly 'an input of several reads' 0
+    ask_bytes 'an input of several reads' 0 hubsync
     # without a line end at its end
     printf '%s\n' '%profile u' 'root = /srv/hub' 'root = /srv/s1' 'path = a' >"$room/input"
     printf '%s\n' '%profile v' 'root = /srv/s1' 'root = /srv/hub' >>"$room/input"
     printf 'path = a/b' >>"$room/input"
     echo 'overlap: u writes a at /srv/hub, v reaches a/b' >"$room/wanted"
-    ask_slowly 'two profiles' 1
+    ask_bytes 'two profiles' 1 hubsync
 }
 
 # Inputs that fail, at the first read or later.
@@ -290,5 +288,6 @@ ask_certificates
 ask_long
 ask_failing_inputs
 ask_failing_outputs
+ask_hostile
 echo "answers: ${1:-hubsync} answered $asked, $wrong of them wrongly"
 [ "$wrong" = 0 ]

@@ -37,7 +37,7 @@ use IO::Handle;
 # The preferences of Unison 2.52 that hubsync refuses, and that change nothing that is synchronized: what is shown and asked, how
 # Unison connects and copies, how often it runs or tries again, backups in a folder of their own, owners and permissions.
 my %is_left_out = map { $_ => 1 } qw(
-    addprefsto color confirmmerge debug diff dumbtty expert height showarchive sortbysize sortfirst sortlast sortnewfirst
+    addprefsto color confirmmerge debug diff dumbtty height showarchive sortbysize sortfirst sortlast sortnewfirst
     addversionno halfduplex killserver servercmd sshargs sshcmd
     copymax copyprog copyprogrest copyquoterem copythreshold maxthreads rsync stream xferbycopying
     ignoreinodenumbers repeat retry watch
@@ -98,7 +98,7 @@ sub read_lines {
     open my $in, '<:raw', $file or return (undef, "$!");
     my @lines = <$in>;
     close $in or return (undef, "$!");
-    s/\r?\n\z// for @lines;
+    s/\r?\n?\z// for @lines;
     say_so("$file:1: a byte order mark is dropped") if @lines && $lines[0] =~ s/\A\xef\xbb\xbf//;
     return $lines_of{$file} = \@lines;
 }
@@ -125,47 +125,44 @@ sub included_name {
     return length $name ? $name : undef;
 }
 
-# The file that a line includes: its path and a remark, or neither if it may be missing, or the error alone.
+# The file that a line includes, or why there is none. Neither is returned if the file may be missing.
 sub included_file {
-    my ($word, $may_be_missing, $words) = @_;
+    my ($word, $mark, $words) = @_;
     my $name = included_name($words);
-    return { error => "$word takes one name, with \\ before each space in it: $word$may_be_missing $words" } if !defined $name;
+    return (undef, "$word takes one name, with \\ before each space in it: $word$mark $words") if !defined $name;
     my $file = "$folder/$name";
     $file .= '.prf' if $word eq 'include' && !-e $file;
-    return { file => $file } if -e $file;
-    return { error => "no file $file" } if !$may_be_missing;
-    return {};
+    return $file if -e $file;
+    return (undef, $mark ? undef : "no file $file");
 }
 
-# Adds the lines of a file to those of a profile, with those that it includes. `$open` has the files that are being read.
+# Adds the lines of a file to those of a profile, with those that it includes. `$open` has the files that are being read, and `$at` the
+# line that includes this one, or the file itself.
 sub add_lines {
     my ($profile, $file, $open, $at) = @_;
     my ($lines, $why) = read_lines($file);
-    return complain("$at: $file: $why") if !$lines;
+    return complain("$at: " . ($at eq $file ? '' : "$file: ") . $why) if !$lines;
     my $number = 0;
     for my $text (@$lines) {
-        my $here = "$file:" . ++$number;
-        my $line = { at => $here, text => $text };
+        my $line = { at => "$file:" . ++$number, text => $text };
         push @$profile, $line;
-        if (@$profile > $most_lines) {
-            give_up(1, "$here: the profile has more than $most_lines lines with what it includes");
-        }
-        my ($word, $mark, $words) = $text =~ /\A(include|source)(\??) (.*)\z/ or next;
-        my $found = included_file($word, $mark, $words);
-        $line->{text} = "# $text";
-        if ($found->{error}) {
-            complain("$here: $found->{error}");
-        } elsif (!$found->{file}) {
-            $line->{remark} = "there is no such file: $text";
-        } elsif ($open->{ $found->{file} }) {
-            complain("$here: $found->{file} includes itself");
-        } else {
-            $line->{remark} = "in place: $found->{file}";
-            $is_included{ $found->{file} } = 1;
-            local $open->{ $found->{file} } = 1;
-            add_lines($profile, $found->{file}, $open, $here);
-        }
+        give_up(1, "$line->{at}: line " . @$profile . ' of the profile with what it includes') if @$profile > $most_lines;
+        add_included($profile, $line, $open, $1, $2, $3) if $text =~ /\A(include|source)(\??) (.*)\z/;
     }
+}
+
+# Adds the lines of the file that a line includes, and makes a comment of the line.
+sub add_included {
+    my ($profile, $line, $open, @words) = @_;
+    my ($file, $why) = included_file(@words);
+    $why = "$file includes itself" if defined $file && $open->{$file};
+    return complain("$line->{at}: $why") if defined $why;
+    $line->{remark} = defined $file ? "in place: $file" : "there is no such file: $line->{text}";
+    $line->{text} = "# $line->{text}";
+    return if !defined $file;
+    $is_included{$file} = 1;
+    local $open->{$file} = 1;
+    add_lines($profile, $file, $open, $line->{at});
 }
 
 # The path that stands for a root on another machine, or nothing and why there is none.
@@ -347,7 +344,7 @@ $folder =~ s{(?<=.)/+\z}{};
 give_up(1, "not a folder: $folder") if !-d $folder;
 give_up(2, "no program at $program") if defined $program && !-x $program;
 read_hosts() if defined $hosts_file;
-my @names = @ARGV;
+my @names = map { s/\.prf\z//r } @ARGV;
 if (!@names) {
     opendir my $handle, $folder or give_up(1, "$folder: $!");
     @names = sort map { s/\.prf\z//r } grep { /.\.prf\z/ } readdir $handle;

@@ -1,5 +1,6 @@
 #!/usr/bin/env bash
-# Tries from-prf.sh and items.sh. examples/check.sh calls this script, which is part of the gate.
+# Tries from-prf.sh and items.sh, and state-of-folder.sh on a state of version 2. examples/check.sh calls this script, which is part
+# of the gate.
 #
 #     examples/scripts.sh [PROGRAM]
 #
@@ -231,7 +232,7 @@ end
 LINES
 }
 
-# The same from a bundle with a state of version 2.
+# The items of a run from version 1 to version 2, and those of a run from what it left to what it was given.
 try_items() {
     write_states
     ask 0 items.sh given <left
@@ -260,6 +261,21 @@ LINES
     ask 2 items.sh <answer
 }
 
+# The archive of an earlier state of version 2.
+try_archive() {
+    mkdir hub
+    sed -n '/^hubsync state /,$p' left >old
+    ask 0 state-of-folder.sh --archives old hub
+    grep -v '^replica ' written >archive
+    compare 'an archive of version 2' archive <<LINES
+hubsync state 1
+archive /hub
+with /hub same
+file $(printf a | sha256sum | cut -c 1-64) to
+end
+LINES
+}
+
 # The items of an example, asked of the program.
 try_run() {
     "$program" run <"$folder/star.bundle" >answer
@@ -286,5 +302,6 @@ try_folder
 try_faults
 try_answers
 try_items
+try_archive
 try_run
 [ "$wrong" = 0 ]

@@ -120,12 +120,12 @@ sub take_option {
     }
 }
 
-# The archives of a state text: two roots, and the lines below them.
+# The archives of a state text of version 1 or 2, which are alike: two roots, and the lines below them.
 sub read_archives {
     my ($file) = @_;
     my (@archives, $archive, $is_whole);
     open my $in, '<', $file or give_up(1, shown($file) . ": $!");
-    give_up(1, 'not a state text: ' . shown($file)) if (readline($in) // '') ne "hubsync state 1\n";
+    give_up(1, 'not a state text: ' . shown($file)) if (readline($in) // '') !~ /\Ahubsync state [12]\n\z/;
     while (my $line = <$in>) {
         chomp $line;
         if ($line =~ /\Aarchive (.*)/) {

@@ -29,7 +29,8 @@ if ! command -v perl >/dev/null; then
     echo "$0: there is no perl in PATH" >&2
     exit 2
 fi
-LC_ALL=C exec perl - "$@" <<'PERL'
+# standard input stays open, so that no other file gets its number
+LC_ALL=C exec perl /dev/fd/3 "$@" 3<<'PERL' </dev/null
 use strict;
 use warnings;
 use IO::Handle;
@@ -284,7 +285,8 @@ sub name_refused {
     my ($profile) = @_;
     for (1 .. $most_refused) {
         my $answer = answer_to(section('p', $profile->{lines}));
-        my ($number, $fault) = $answer =~ /\Afault: profile p line ([0-9]+): (.*)\z/ or return 1;
+        return 1 if $answer !~ /\Afault: /;
+        my ($number, $fault) = $answer =~ /\Afault: profile p line ([0-9]+): (.*)\z/ or give_up(1, "$program answers: $answer");
         if ($number == 0) {
             say_so("$profile->{file}: refused: $fault");
             return 0;
@@ -317,15 +319,16 @@ sub name_clashes {
 
 # Asks the program about the profiles. Returns whether they are safe as they are.
 sub is_safe {
-    my @profiles = grep { name_refused($_) } @_;
+    my @profiles = grep { name_refused($_) } @_ or return 0;
     my $answer = answer_to(join '', map { section($_->{name}, $_->{lines}) } @profiles);
     my $are_whole = @profiles == @_ && !grep { $_->{is_refused} } @profiles;
-    if ($answer ne 'safe') {
-        name_clashes($answer, @profiles);
-    } else {
-        say_so($are_whole ? 'safe' : 'the profiles without what is refused: safe');
+    say_so('without what is refused:') if !$are_whole;
+    if ($answer eq 'safe') {
+        say_so('safe');
+        return $are_whole;
     }
-    return $answer eq 'safe' && $are_whole;
+    name_clashes($answer, @profiles);
+    return 0;
 }
 
 STDERR->autoflush(1);
@@ -355,6 +358,6 @@ exit 1 if $is_wrong;
 @profiles = without_parts(@profiles) if !@ARGV;
 change_lines($_) for @profiles;
 print map { section($_->{name}, $_->{lines}) } @profiles or give_up(1, "standard output: $!");
-close STDOUT or give_up(1, "standard output: $!");
+STDOUT->flush or give_up(1, "standard output: $!");
 exit(defined $program && !is_safe(@profiles) ? 1 : 0);
 PERL

@@ -167,15 +167,18 @@ LINES
 try_answers() {
     mkdir unison
     printf '%s\n' 'root = /srv/hub' 'root = /srv/desk' 'path = docs' 'retry = 1' >unison/desk.prf
-    ask 0 from-prf.sh --ask "$program" unison
+    ask 0 from-prf.sh --ask "$program" unison <&-
     compare 'a safe set' said <<<$'unison/desk.prf:4: left out: retry = 1\nsafe'
+    echo 'follow = Path docs' >>unison/desk.prf
     printf '%s\n' 'root = /srv/hub' 'root = /srv/home' 'path = docs/a' 'merge = Name a' >unison/home.prf
     echo 'root = /srv/hub' >unison/one.prf
     ask 1 from-prf.sh --ask "$program" unison
     compare 'an unsafe set' said <<'LINES'
 unison/desk.prf:4: left out: retry = 1
+unison/desk.prf:5: refused: UnknownPreference follow: follow = Path docs
 unison/home.prf:4: refused: UnknownPreference merge: merge = Name a
 unison/one.prf: refused: RootCount
+without what is refused:
 desk and home: overlap: desk writes docs at /srv/hub, home reaches docs/a
 LINES
     rm -R unison

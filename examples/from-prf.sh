@@ -66,6 +66,7 @@ my %path_of;      # the path of a host, by the first word of its line
 my %lines_of;     # the lines of each file that was read
 my %is_included;  # files that another one includes
 my %is_said;      # what was said of lines
+my $refused_roots = 0;
 my $is_wrong = 0;
 
 sub say_so {
@@ -295,7 +296,7 @@ sub name_refused {
         say_of($line, "refused: $fault: " . trimmed($line->{text}));
         $profile->{is_refused} = 1;
         my $is_root = $line->{text} =~ /\A[ \t]*root[ \t]*=/;
-        $line->{text} = $is_root ? "root = /refused/$profile->{name}/$number" : '#';
+        $line->{text} = $is_root ? 'root = /refused/' . ++$refused_roots : '#';
     }
     say_so("$profile->{file}: more than $most_refused lines are refused");
     return 0;

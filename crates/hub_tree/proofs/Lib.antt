@@ -8,6 +8,7 @@ pub mod Copies
 pub mod Counts
 pub mod Listing
 pub mod LookUp
+pub mod Inserted
 pub mod MarkMaps
 pub mod Matching
 pub mod Names

@@ -2,6 +2,7 @@ pub mod Below
 pub mod Coded
 pub mod Examples
 pub mod Levels
+pub mod Marked
 pub mod Nodes
 pub mod Sets
 pub mod Shared

@@ -12,6 +12,8 @@ use std::collections::BTreeMap;
 use std::collections::btree_map::Iter;
 use std::marker::Model;
 
+pub(crate) mod builder;
+
 /// What a pair of replicas last agreed on: marks at finitely many paths.
 ///
 /// It is an ordered map from paths to marks.

@@ -3,7 +3,8 @@
 //! A `Tree` is a replica: it has files and directories at finitely many paths. An `Archive` records the marks that both
 //! replicas of a pair last agreed on. Contracts see both as finite maps from paths, in the words of `specs/Tree`.
 //!
-//! [`Tree::entries`] goes through a replica in the order of its paths, and [`Archive::iter`] through an archive.
+//! [`Tree::entries`] goes through a replica in the order of its paths, and [`Archive::iter`] through an archive. An
+//! [`ArchiveBuilder`] makes an archive at once.
 //!
 //! A copy of a `Blob` or of a `Tree` shares its memory, until one of them is written: then the directories on the path of the
 //! write are copied, and no others.
@@ -22,6 +23,7 @@ mod same;
 mod tree;
 
 pub use archive::Archive;
+pub use archive::builder::ArchiveBuilder;
 pub use blob::Blob;
 pub use contents::{Contents, Mark};
 pub use entries::{Entries, Stored};

@@ -51,7 +51,7 @@ pub fn names_of(alloc: Global, children: &BTreeMap<Name, Node>) -> Result<Items<
     ensures names { IfOk result (λ ns. ns ≡ keys children.now) }
     ensures ordered { IsOrdered name_cmp children.now }
 {
-    let mut names = Vec::new(alloc);
+    let mut names = Vec::with_capacity(alloc, children.len())?;
     for name in children.keys() {
         names.push(name.copy()?)?;
     }

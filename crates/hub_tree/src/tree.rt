@@ -186,6 +186,24 @@ impl Tree {
         }
     }
 
+    /// What `mark_at` and `names_at` return, in one walk: the mark of the contents at the path, and the names in the
+    /// directory there.
+    pub fn mark_and_names_at(&self, path: &RelPath) -> Result<(Mark, Items<Name>), AllocError>
+        ensures paths { tree.HasPaths self.now }
+        ensures mark { IfOk result (λ r. r.0 ≡ tree.mark_at self.now path.now) }
+        ensures names { IfOk result (λ r. r.1 ≡ tree.names_at self.now path.now) }
+    {
+        let children = self.children();
+        if path.len() == 0 {
+            return Ok((Mark::Directory, names_of(self.alloc, children)?));
+        }
+        match node_at(children, path, 0) {
+            Some(Node::File(blob)) => Ok((Mark::File(blob.digest()), Items::new(self.alloc))),
+            Some(Node::Directory(inner)) => Ok((Mark::Directory, names_of(self.alloc, inner)?)),
+            None => Ok((Mark::Absent, Items::new(self.alloc))),
+        }
+    }
+
     /// Sets contents at the path; `Absent` removes what is there.
     ///
     /// To set `Directory` where a directory is changes nothing. The fault is the first of `RootPath`, `NoParent`,

@@ -6,6 +6,8 @@
 # bundle of two profiles with that state: there nothing stands before the line of the fault, and a failed write leaves a prefix. It
 # refuses each request for memory in a second, small bundle, too: there each of the two jobs brings a file to the other side.
 #
+# bench/refuse.py does this for the other commands, for one and three jobs, and for calls that the test programs make.
+#
 # `hubsync` runs two jobs, by one worker and by two. Its requests are numbered in each thread apart. A refused request of the first
 # thread gives the fault, unless it belongs to the start of a thread: then it should refuse the thread. A refused request of a worker
 # should stop the job that it steps, which may be either, and no other. Both have status 3. Where a job is stopped, the state is

@@ -18,11 +18,11 @@
 # - `replicas`: 250,000 and 500,000 replicas of no profile;
 # - `archives`: 125,000 and 250,000 archives of one root with others;
 # - `long`: 32,000 and 64,000 entries with names of 255 bytes;
-# - `reached`: the same, which a job brings to the other side.
+# - `reached`, `carried`: 32,000 and 64,000 such entries, or 6,400 and 12,800 in chains, which a job brings to the other side.
 #
-# A line gives the command, the size of the bundle, the least and the middle time in milliseconds from start to end of the
-# process, its peak memory if GNU time is installed, and how many times longer the second size took than the first. The last
-# line names those that took more than 3 times as long, of 20 ms and more. The status is 1 if an answer is wrong, or if one of them did.
+# A line gives the command, the size of the bundle, the least and the middle processor time in milliseconds, the peak memory if
+# GNU time is installed, and how many times longer the second size took than the first, by the least times. The last line names
+# those that took more than 3 times as long, of 20 ms and more. The status is 1 if an answer is wrong, or if one of them did.
 set -euo pipefail
 set -- "${1:-}" "${2:-3}"
 [ -n "$1" ] || set -- "$(dirname "$(dirname "$(readlink -f "${BASH_SOURCE[0]}")")")/crates/hubsync/out/hubsync" "$2"
@@ -76,13 +76,13 @@ try() {
     for each in "$size" $((2 * size)); do
         "make_$name" "$each" >"$folder/$name.bundle"
         for ((i = 0; i < repetitions; i++)); do
-            time_first "$folder/$name.bundle" "$status" "$wanted" "$@"
+            time_answer "$folder/$name.bundle" "$status" "$wanted" "$@"
         done | sort -n >"$folder/times"
         times+=("$(sed -n 1p "$folder/times")")
         printf '%-9s %-8s %9s %9s %9s %9s' "$name" "${1-}" "$(wc -c <"$folder/$name.bundle")" "${times[-1]}" \
             "$(sed -n $(((repetitions + 1) / 2))p "$folder/times")" "$(peak "$folder/$name.bundle" "$@")"
         if [ "${#times[@]}" = 2 ]; then
-            ratio=$(awk -v a="${times[0]}" -v b="${times[1]}" 'BEGIN { printf "%.2f", b / a }')
+            ratio=$(awk -v a="${times[0]}" -v b="${times[1]}" 'BEGIN { printf "%.2f", b / (a > 0 ? a : 1) }')
             printf ' %7s' "$ratio"
             awk -v r="$ratio" -v b="${times[1]}" 'BEGIN { exit !(r > 3 && b >= 20) }' && slow+=" $name"
         fi
@@ -91,19 +91,18 @@ try() {
     done
 }
 
-# As `time_once`, but the first line only begins with the wanted text, and other lines may follow it.
-time_first() {
-    local file=$1 wanted_status=$2 wanted=$3 status=0 before after first
+# Runs the program on a file, with the words after the wanted status and the wanted start of the answer. Prints the milliseconds of
+# processor time that it took. Ends the script if the answer is another one.
+time_answer() {
+    local file=$1 wanted_status=$2 wanted=$3 status=0 first TIMEFORMAT='%3U %3S'
     shift 3
-    before=$EPOCHREALTIME
-    "$program" "$@" <"$file" >"$folder/answer" || status=$?
-    after=$EPOCHREALTIME
+    { time "$program" "$@" <"$file" >"$folder/answer" || status=$?; } 2>"$folder/time"
     IFS= read -r first < <(head -c 200 "$folder/answer" && echo) || true
     if [ "$status" != "$wanted_status" ] || [[ $first != "$wanted"* ]]; then
         echo "$script: $(basename "$file" .bundle): status $status and '$first', wanted $wanted_status and '$wanted'" >&2
         exit 1
     fi
-    milliseconds "$before" "$after"
+    awk '{ printf "%.0f\n", ($1 + $2) * 1000 }' "$folder/time"
 }
 
 make_blank() { printf '%%profile p\n%s\n' "$roots" && lines "$1" ' '; }
@@ -124,9 +123,10 @@ make_replicas() { seq "$1" | sed 's|^|replica /r|' | state; }
 make_archives() { seq "$1" | sed 's|.*|archive /r\nwith /r&|' | state; }
 make_long() { { echo 'replica /a' && long_names "$1"; } | state; }
 make_reached() { printf '%%profile p\n%s\n' "$roots" && { echo 'replica /srv/hub' && long_names "$1" && echo 'replica /srv/s1'; } | state; }
+make_carried() { printf '%%profile p\n%s\n' "$roots" && { echo 'replica /srv/hub' && chains "$1" && echo 'replica /srv/s1'; } | state; }
 
 echo "$repetitions repetitions"
-print_columns
+printf '%-9s %-8s %9s %9s %9s %9s %7s\n' bundle command bytes least/ms middle/ms peak/KiB times
 million=1000000
 try blank $((million / 2)) 0 safe
 try comments $((million / 2)) 0 safe
@@ -146,5 +146,6 @@ try replicas 250000 0 safe
 try archives 125000 0 safe
 try long 32000 0 safe
 try reached 32000 0 safe run
+try carried 6400 0 safe run
 echo "more than 3 times as long:${slow:- none}"
 [ -z "$slow" ]

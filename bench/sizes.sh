@@ -3,7 +3,7 @@
 #
 #     bench/sizes.sh [PROGRAM [REPETITIONS]]
 #
-# PROGRAM is the built program (crates/hubsync/out/hubsync if left out), REPETITIONS is 3 if left out. Each input is tried in
+# PROGRAM is the built program (crates/hubsync/out/hubsync if left out), REPETITIONS is 5 if left out. Each input is tried in
 # two sizes, of which the second is twice as large:
 #
 # - `blank`, `comments`, `settings`: a profile of 500,000 and 1,000,000 blank lines, comments, or lines `auto = true`;
@@ -24,7 +24,7 @@
 # GNU time is installed, and how many times longer the second size took than the first, by the least times. The last line names
 # those that took more than 3 times as long, of 20 ms and more. The status is 1 if an answer is wrong, or if one of them did.
 set -euo pipefail
-set -- "${1:-}" "${2:-3}"
+set -- "${1:-}" "${2:-5}"
 [ -n "$1" ] || set -- "$(dirname "$(dirname "$(readlink -f "${BASH_SOURCE[0]}")")")/crates/hubsync/out/hubsync" "$2"
 # shellcheck source=bench/timing.sh
 source "$(dirname "$(readlink -f "${BASH_SOURCE[0]}")")/timing.sh"

@@ -10,5 +10,6 @@ pub mod Walk
 pub mod Shape
 pub mod Stage
 pub mod Walker
+pub mod WalkerEnds
 pub mod Examples
 pub mod Mention

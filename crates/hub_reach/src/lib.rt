@@ -24,6 +24,7 @@ mod stage;
 mod table;
 mod verbs;
 mod walker;
+mod walker_ends;
 
 pub use mentions::mention;
 pub use reach::reaches;

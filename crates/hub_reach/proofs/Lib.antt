@@ -5,6 +5,7 @@ pub mod Prefixes
 pub mod Walks
 pub mod Shapes
 pub mod Choices
+pub mod BarEnds
 pub mod Barring
 pub mod Stages
 pub mod Broken

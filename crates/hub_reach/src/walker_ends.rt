@@ -1,42 +1,49 @@
 //! The choices of a walker as masks of its rows.
-ghost use Rattle.std.specs.Prelude.{◌≡◌, ◌-◌, ◌&&◌, ℕ, List, not, take, drop, IfOk};
-ghost use Rattle.std.specs.List.{list_any};
+ghost use Rattle.std.specs.Prelude.{◌≡◌, ◌<◌, ◌&&◌, [], ℕ, List, length, map, not, slice_index_or, IfOk};
 ghost use Rattle.hub_automaton.specs.declared.alternatives.Alternatives.{Alternatives};
-ghost use Rattle.hub_automaton.specs.Spots.{is_matched, seen};
-ghost use Rattle.hub_reach.specs.WalkerEnds.{AreEndsOf, some_match};
+ghost use Rattle.hub_automaton.specs.Spots.{seen};
+ghost use Rattle.hub_reach.specs.WalkerEnds.{AreEndsOf, bar_ends, some_match};
+ghost use Rattle.hub_reach.specs.declared.placed_bar.PlacedBar.{PlacedBar};
 
+use crate::placed_bar::PlacedBar;
 use hub_automaton::{Ends, SpecSet, Spots};
-use std::alloc::AllocError;
+use std::alloc::{AllocError, Global};
 
-/// Masks of the choices of `ignore`, of those of `ignorenot`, and of the texts of the kept values.
+/// Masks of the choices of `ignore`, of those of `ignorenot`, of the texts of the kept values, and of each partial bar.
 #[derive(Debug, Drop)]
 pub(crate) struct WalkerEnds {
     pub(crate) ignore: Ends,
     pub(crate) ignorenot: Ends,
     pub(crate) kept: Ends,
+    pub(crate) barred: Vec<Ends>,
 }
 
 impl WalkerEnds {
-    /// The masks of the choices up to these numbers: first those of `ignore`, then those of `ignorenot`, then the kept values.
+    /// The masks of the choices up to these numbers, first those of `ignore`, then those of `ignorenot`, then the kept values;
+    /// and of those of these bars.
     pub(crate) fn build(
+        alloc: Global,
         set: &SpecSet,
         ignore_end: usize,
         ignorenot_end: usize,
         kept_end: usize,
+        bars: &[PlacedBar],
     ) -> Result<WalkerEnds, AllocError>
         ensures { IfOk result
-            (AreEndsOf set.now.alternatives ignore_end ignorenot_end kept_end) }
+            (AreEndsOf set.now.alternatives ignore_end ignorenot_end kept_end bars.now) }
     {
         Ok(WalkerEnds {
             ignore: set.ends_in(0, ignore_end)?,
             ignorenot: set.ends_in(ignore_end, ignorenot_end)?,
             kept: set.ends_in(ignorenot_end, kept_end)?,
+            barred: ends_of(alloc, set, bars)?,
         })
     }
 
     /// Whether a pattern of `ignore` matches the text of the state, and none of `ignorenot` does.
     pub(crate) fn ignore(&self, spots: &Spots) -> bool
-        ensures { (ls : List Alternatives) (t : List ℕ) (i n k : ℕ) → AreEndsOf ls i n k self.now
+        ensures { (ls : List Alternatives) (t : List ℕ) (i n k : ℕ) (bs : List PlacedBar)
+            → AreEndsOf ls i n k bs self.now
             → spots.now ≡ seen ls t
             → result ≡ (some_match ls t 0 i && not (some_match ls t i n)) }
     {
@@ -45,9 +52,32 @@ impl WalkerEnds {
 
     /// Whether the text of the state is that of a kept value.
     pub(crate) fn keep(&self, spots: &Spots) -> bool
-        ensures { (ls : List Alternatives) (t : List ℕ) (i n k : ℕ) → AreEndsOf ls i n k self.now
+        ensures { (ls : List Alternatives) (t : List ℕ) (i n k : ℕ) (bs : List PlacedBar)
+            → AreEndsOf ls i n k bs self.now
             → spots.now ≡ seen ls t → result ≡ some_match ls t n k }
     {
         spots.meets(&self.kept)
     }
+
+    /// Whether a choice of the partial bar with that number matches the text of the state.
+    pub(crate) fn bar(&self, number: usize, spots: &Spots) -> bool
+        requires { number < length self.now.barred.items }
+        ensures { (ls : List Alternatives) (t : List ℕ) → spots.now ≡ seen ls t
+            → (b : PlacedBar)
+            → slice_index_or self.now.barred.items number [] ≡ bar_ends ls b
+            → result ≡ some_match ls t b.from b.to }
+    {
+        spots.meets(&self.barred[number])
+    }
+}
+
+/// The masks of the choices of partial bars.
+fn ends_of(alloc: Global, set: &SpecSet, bars: &[PlacedBar]) -> Result<Vec<Ends>, AllocError>
+    ensures { IfOk result (λ v. v.items ≡ map (bar_ends set.now.alternatives) bars.now) }
+{
+    let mut ends = Vec::with_capacity(alloc, bars.len())?;
+    for bar in bars {
+        ends.push(set.ends_in(bar.from, bar.to)?)?;
+    }
+    Ok(ends)
 }

@@ -1,9 +1,10 @@
 -- The rows of a picture: what the merge has made of the Looks and the archive's paths that it has passed.
 use Rattle.std.proofs.Common.{◌≡◌, ◌<◌, ⊎_elim, Bool, true, false, T, cond, ◌&&◌, ◌||◌, List, [], ◌∷◌, ◌++◌, length, Some, None, refl, ap, sym, ◌∙◌, subst, append_assoc, append-nil, arith}
 use Rattle.std.specs.Prelude.{◌==◌, filter, IsTrue}
+use Rattle.std.specs.Option.{unwrap_or}
 use Rattle.std.specs.List.Sorted.{IsStrictlySortedBy}
 use Rattle.std.specs.FinMap as fin
-use Rattle.std.specs.FinMap.Entries.{is_sorted}
+use Rattle.std.specs.FinMap.Entries.{find, is_sorted}
 use Rattle.std.specs.Ordering.{eq_by_cmp}
 use Rattle.std.specs.declared.cmp.Ordering.TheVariants.{Less}
 use Rattle.std.proofs.lemmas.Bool.{false≢true, and_parts}
@@ -16,52 +17,93 @@ use Rattle.hub_reach.specs.Reach.{reach}
 use Rattle.hub_tree.specs.Tree.{Archive, old_mark_at}
 use Rattle.hub_tree.specs.declared.contents.Mark.{Mark}
 use Rattle.hub_tree.specs.declared.contents.Mark.TheVariants as mark
-use Rattle.hub_tree.proofs.Order.{path_itself}
+use Rattle.hub_tree.proofs.Order.{path_itself, same_path}
 use Rattle.hub_tree.proofs.Children.{sorted_keys}
 use Rattle.hub_tree.proofs.Setting.{one_kid}
 use Rattle.hub_tree.proofs.Between.{among, behind, not_both}
-use Rattle.hub_reconcile.specs.Merge.{seen_paths, first_of, least_first, past, past_sight, front_sight, IsSeen}
+use Rattle.hub_reconcile.specs.Merge.{seen_paths, paths_in, first_of, least_first, past, past_of, past_sight, front_of, front_sight, front_mark, IsSeen}
 use Rattle.hub_reconcile.specs.Picture.{nothing, sight_in, view_by}
 use Rattle.hub_reconcile.specs.Rows.{IsRow, AreRows, IsTable, is_anywhere, paths_of}
 use Rattle.hub_reconcile.specs.Sight.{Sight}
 use Rattle.hub_reconcile.specs.Sync.{of_side}
 use Rattle.hub_reconcile.specs.View.{View, is_present, counts}
 use Rattle.hub_reconcile.specs.declared.row.Row.{Row}
+use Rattle.hub_reconcile.proofs.Ascend.{both_ways}
 use Rattle.hub_reconcile.proofs.Lows.{IsLow, IsLeastFirst, least_firsts, nothing_left, three, past_sorted, later_three, is_there, least_next}
 use Rattle.hub_reconcile.proofs.Views.{is_false, or_first, or_second, same_paths, paths_same, reached_names}
 
--- Sights of paths behind a path don't tell of it.
-pub none_seen : (p : Path) (ss : List (Path × Sight)) → ((q : Path) → among q (seen_paths ss) ≡ true → path_cmp p q ≡ Less) → sight_in ss p ≡ nothing
-none_seen p [] h = refl
-none_seen p (s ∷ ss) h =
-    let l : path_cmp p s.0 ≡ Less = h s.0 (or_first _ (among s.0 (seen_paths ss)) (path_itself s.0)) in
-    let apart : path_eq s.0 p ≡ false = is_false (path_eq s.0 p) (λ e. let w : path_cmp p p ≡ Less = ap (path_cmp p) (sym (same_paths s.0 p e)) ∙ l in not_both p p w w) in
-    ap (λ b. cond b s.1 (sight_in ss p)) apart ∙ none_seen p ss (λ q e. h q (or_second (eq_by_cmp path_cmp q s.0) _ e))
+-- The value of a path in a list, and else d.
+abbrev pub value_in : {T : Type 0} → T → List (Path × T) → Path → T
+value_in d [] p = d
+value_in d (e ∷ es) p = cond (path_eq e.0 p) e.1 (value_in d es p)
 
-pub front_is : (ss : List (Path × Sight)) (p : Path) → IsStrictlySortedBy path_cmp (seen_paths ss) → IsLow p (first_of (seen_paths ss)) → front_sight p ss ≡ sight_in ss p
-front_is [] p s low = refl
-front_is (x ∷ xs) p s low =
-    elim (path_eq x.0 p) as (λ b. path_eq x.0 p ≡ b → cond b x.1 nothing ≡ cond b x.1 (sight_in xs p)) [
-      | true ↦ λ e. refl
-      | false ↦ λ e.
-          let l : path_cmp p x.0 ≡ Less = ⊎_elim (λ k. absurd (false≢true (sym e ∙ (ap (λ z. path_eq z p) k ∙ paths_same p)))) (λ k. k) low in
-          sym (none_seen p xs (λ q m. path_cmp-total.trans p x.0 q l (behind [] (seen_paths xs) x.0 q s m)))
-    ] refl
+module _ {T : Type 0} (d : T) where
+  -- Values of paths behind a path don't tell of it.
+  none_in : (p : Path) (es : List (Path × T)) → ((q : Path) → among q (paths_in es) ≡ true → path_cmp p q ≡ Less) → value_in d es p ≡ d
+  none_in p [] h = refl
+  none_in p (e ∷ es) h =
+      let l : path_cmp p e.0 ≡ Less = h e.0 (or_first _ (among e.0 (paths_in es)) (path_itself e.0)) in
+      let apart : path_eq e.0 p ≡ false = is_false (path_eq e.0 p) (λ k. let w : path_cmp p p ≡ Less = ap (path_cmp p) (sym (same_paths e.0 p k)) ∙ l in not_both p p w w) in
+      ap (λ b. cond b e.1 (value_in d es p)) apart ∙ none_in p es (λ q k. h q (or_second (eq_by_cmp path_cmp q e.0) _ k))
+
+  front_in : (es : List (Path × T)) (p : Path) → IsStrictlySortedBy path_cmp (paths_in es) → IsLow p (first_of (paths_in es)) → front_of d p es ≡ value_in d es p
+  front_in [] p s low = refl
+  front_in (x ∷ xs) p s low =
+      elim (path_eq x.0 p) as (λ b. path_eq x.0 p ≡ b → cond b x.1 d ≡ cond b x.1 (value_in d xs p)) [
+        | true ↦ λ e. refl
+        | false ↦ λ e.
+            let l : path_cmp p x.0 ≡ Less = ⊎_elim (λ k. absurd (false≢true (sym e ∙ (ap (λ z. path_eq z p) k ∙ paths_same p)))) (λ k. k) low in
+            sym (none_in p xs (λ q m. path_cmp-total.trans p x.0 q l (behind [] (paths_in xs) x.0 q s m)))
+      ] refl
+
+  skip_in : (p q : Path) (es : List (Path × T)) → path_cmp p q ≡ Less → value_in d es q ≡ value_in d (past_of p es) q
+  skip_in p q [] l = refl
+  skip_in p q (e ∷ es) l =
+      elim (path_eq e.0 p) as (λ b. path_eq e.0 p ≡ b → value_in d (e ∷ es) q ≡ value_in d (cond b es (e ∷ es)) q) [
+        | true ↦ λ k.
+            let apart : path_eq e.0 q ≡ false = is_false (path_eq e.0 q) (λ h.
+            let w : path_cmp p p ≡ Less = ap (path_cmp p) (sym (same_paths e.0 p k) ∙ same_paths e.0 q h) ∙ l in not_both p p w w) in
+            ap (λ b. cond b e.1 (value_in d es q)) apart
+        | false ↦ λ k. refl
+      ] refl
+
+pub past_in : {T : Type 0} (p : Path) (es : List (Path × T)) → paths_in (past_of p es) ≡ past p (paths_in es)
+past_in p [] = refl
+past_in p (e ∷ es) = elim (path_eq e.0 p) as (λ b. paths_in (cond b es (e ∷ es)) ≡ cond b (paths_in es) (paths_in (e ∷ es))) [ true ↦ refl | false ↦ refl ]
+
+-- Sights.
+sight_value : (ss : List (Path × Sight)) (p : Path) → sight_in ss p ≡ value_in nothing ss p
+sight_value [] p = refl
+sight_value (s ∷ ss) p = ap (cond (path_eq s.0 p) s.1) (sight_value ss p)
+
+pub none_seen : (p : Path) (ss : List (Path × Sight)) → ((q : Path) → among q (seen_paths ss) ≡ true → path_cmp p q ≡ Less) → sight_in ss p ≡ nothing
+none_seen p ss h = sight_value ss p ∙ none_in nothing p ss h
+
+front_is : (ss : List (Path × Sight)) (p : Path) → IsStrictlySortedBy path_cmp (seen_paths ss) → IsLow p (first_of (seen_paths ss)) → front_sight p ss ≡ sight_in ss p
+front_is ss p s low = front_in nothing ss p s low ∙ sym (sight_value ss p)
 
 pub past_seen : (p : Path) (ss : List (Path × Sight)) → seen_paths (past_sight p ss) ≡ past p (seen_paths ss)
-past_seen p [] = refl
-past_seen p (s ∷ ss) = elim (path_eq s.0 p) as (λ b. seen_paths (cond b ss (s ∷ ss)) ≡ cond b (seen_paths ss) (seen_paths (s ∷ ss))) [ true ↦ refl | false ↦ refl ]
+past_seen p ss = past_in p ss
 
 skip_sight : (p q : Path) (ss : List (Path × Sight)) → path_cmp p q ≡ Less → sight_in ss q ≡ sight_in (past_sight p ss) q
-skip_sight p q [] l = refl
-skip_sight p q (s ∷ ss) l =
-    elim (path_eq s.0 p) as (λ b. path_eq s.0 p ≡ b → sight_in (s ∷ ss) q ≡ sight_in (cond b ss (s ∷ ss)) q) [
-      | true ↦ λ e.
-          let apart : path_eq s.0 q ≡ false = is_false (path_eq s.0 q) (λ h.
-          let w : path_cmp p p ≡ Less = ap (path_cmp p) (sym (same_paths s.0 p e) ∙ same_paths s.0 q h) ∙ l in not_both p p w w) in
-          ap (λ b. cond b s.1 (sight_in ss q)) apart
-      | false ↦ λ e. refl
-    ] refl
+skip_sight p q ss l = sight_value ss q ∙ (skip_in nothing p q ss l ∙ sym (sight_value (past_sight p ss) q))
+
+-- Marks.
+eq_tied : (q x : Path) → eq_by_cmp path_cmp q x ≡ path_eq x q
+eq_tied q x =
+    both_ways (eq_by_cmp path_cmp q x) (path_eq x q) (λ e. ap (path_eq x) (same_path q x e) ∙ paths_same x) (λ e. ap (eq_by_cmp path_cmp q) (same_paths x q e) ∙ path_itself q)
+
+found_value : (es : List (Path × Mark)) (q : Path) → unwrap_or (find path_cmp q es) mark.Absent ≡ value_in mark.Absent es q
+found_value [] q = refl
+found_value (e ∷ es) q =
+    ap (λ b. unwrap_or (cond b (Some e.1) (find path_cmp q es)) mark.Absent) (eq_tied q e.0)
+    ∙ elim (path_eq e.0 q) as (λ b. unwrap_or (cond b (Some e.1) (find path_cmp q es)) mark.Absent ≡ cond b e.1 (value_in mark.Absent es q)) [
+      | true ↦ refl
+      | false ↦ found_value es q
+    ]
+
+old_value : (O : Archive) (q : Path) → old_mark_at O q ≡ value_in mark.Absent (fin.entries O) q
+old_value O q = ap (λ o. unwrap_or o mark.Absent) (fin.get-entries O q) ∙ found_value (fin.entries O) q
 
 no_names : 0 < 0 → ⊥
 no_names l = absurd (omega (arith, l))
@@ -95,16 +137,17 @@ abbrev pub counts_in : Parts → Archive → (L R : List (Path × Sight)) → Pa
 counts_in P O L R q = counts (reach P) (picture_view P O L R).mark (picture_view P O L R).old q
 
 -- The rows are those of the paths that are done; what is left are the Looks and the paths behind them.
-pub record IsMerged (P : Parts) (O : Archive) (L R : List (Path × Sight)) (rs : List Row) (l r : List (Path × Sight)) (o : List Path) : Type 0 where
+pub record IsMerged (P : Parts) (O : Archive) (L R : List (Path × Sight)) (rs : List Row) (l r : List (Path × Sight)) (o : List (Path × Mark)) : Type 0 where
   pub done : List Path
-  pub paths : done ++ ascending (three (seen_paths l) (seen_paths r) o) ≡ ascending (three (seen_paths L) (seen_paths R) (fin.keys O))
+  pub paths : done ++ ascending (three (seen_paths l) (seen_paths r) (paths_in o)) ≡ ascending (three (seen_paths L) (seen_paths R) (fin.keys O))
   pub made : paths_of rs ≡ filter (counts_in P O L R) done
   pub are : AreRows (picture_view P O L R) rs
-  pub left : (q : Path) → among q (three (seen_paths l) (seen_paths r) o) ≡ true → sight_in L q ≡ sight_in l q
-  pub right : (q : Path) → among q (three (seen_paths l) (seen_paths r) o) ≡ true → sight_in R q ≡ sight_in r q
+  pub left : (q : Path) → among q (three (seen_paths l) (seen_paths r) (paths_in o)) ≡ true → sight_in L q ≡ sight_in l q
+  pub right : (q : Path) → among q (three (seen_paths l) (seen_paths r) (paths_in o)) ≡ true → sight_in R q ≡ sight_in r q
+  pub old : (q : Path) → among q (three (seen_paths l) (seen_paths r) (paths_in o)) ≡ true → old_mark_at O q ≡ value_in mark.Absent o q
   pub left_rises : IsStrictlySortedBy path_cmp (seen_paths l)
   pub right_rises : IsStrictlySortedBy path_cmp (seen_paths r)
-  pub old_rises : IsStrictlySortedBy path_cmp o
+  pub old_rises : IsStrictlySortedBy path_cmp (paths_in o)
 
 module _ (P : Parts) (O : Archive) (L R : List (Path × Sight)) where
   abbrev V : View
@@ -113,7 +156,7 @@ module _ (P : Parts) (O : Archive) (L R : List (Path × Sight)) where
   abbrev does_count : Path → Bool
   does_count q = counts_in P O L R q
 
-  pub merge_start : IsTrue (is_sorted path_cmp L) → IsTrue (is_sorted path_cmp R) → IsMerged P O L R [] L R (fin.keys O)
+  pub merge_start : IsTrue (is_sorted path_cmp L) → IsTrue (is_sorted path_cmp R) → IsMerged P O L R [] L R (fin.entries O)
   merge_start hl hr = record {
     done = [];
     paths = refl;
@@ -121,36 +164,40 @@ module _ (P : Parts) (O : Archive) (L R : List (Path × Sight)) where
     are = tt;
     left = λ q e. refl;
     right = λ q e. refl;
+    old = λ q e. old_value O q;
     left_rises = rising L hl;
     right_rises = rising R hr;
     old_rises = sorted_keys path_cmp (fin.entries O) (fin.entries_sorted O);
   }
 
-  pub merge_end : (rows : List Row) (l r : List (Path × Sight)) (o : List Path) → IsMerged P O L R rows l r o → least_first (seen_paths l) (seen_paths r) o ≡ None → IsTable V rows
+  pub merge_end : (rows : List Row) (l r : List (Path × Sight)) (o : List (Path × Mark)) → IsMerged P O L R rows l r o → least_first (seen_paths l) (seen_paths r) (paths_in o) ≡ None → IsTable V rows
   merge_end rows l r o m e =
-      let none = nothing_left (seen_paths l) (seen_paths r) o e in
+      let none = nothing_left (seen_paths l) (seen_paths r) (paths_in o) e in
       let all : m.done ≡ ascending (three (seen_paths L) (seen_paths R) (fin.keys O)) =
       sym (append-nil m.done) ∙ ((λ i. m.done ++ ascending (three (sym none.0 i) (sym none.1 i) (sym none.2 i))) ∙ m.paths) in
       record { paths = m.made ∙ ap (filter does_count) all; rows = m.are }
 
   -- One more path.
-  module _ (rows : List Row) (l r : List (Path × Sight)) (o : List Path) (m : IsMerged P O L R rows l r o) (row : Row)
-      (least : least_first (seen_paths l) (seen_paths r) o ≡ Some row.path.now)
-      (seen_left : IsSeen (front_sight row.path.now l) row.left) (seen_right : IsSeen (front_sight row.path.now r) row.right) (old : row.old ≡ old_mark_at O row.path.now) where
+  module _ (rows : List Row) (l r : List (Path × Sight)) (o : List (Path × Mark)) (m : IsMerged P O L R rows l r o) (row : Row)
+      (least : least_first (seen_paths l) (seen_paths r) (paths_in o) ≡ Some row.path.now)
+      (seen_left : IsSeen (front_sight row.path.now l) row.left) (seen_right : IsSeen (front_sight row.path.now r) row.right) (seen_old : row.old ≡ front_mark row.path.now o) where
     abbrev p : Path
     p = row.path.now
 
-    w : IsLeastFirst (seen_paths l) (seen_paths r) o p
-    w = least_firsts (seen_paths l) (seen_paths r) o p least
+    w : IsLeastFirst (seen_paths l) (seen_paths r) (paths_in o) p
+    w = least_firsts (seen_paths l) (seen_paths r) (paths_in o) p least
 
-    here : among p (three (seen_paths l) (seen_paths r) o) ≡ true
-    here = is_there (seen_paths l) (seen_paths r) o p m.left_rises m.right_rises m.old_rises w
+    here : among p (three (seen_paths l) (seen_paths r) (paths_in o)) ≡ true
+    here = is_there (seen_paths l) (seen_paths r) (paths_in o) p m.left_rises m.right_rises m.old_rises w
 
     left_sight : front_sight p l ≡ sight_in L p
     left_sight = front_is l p m.left_rises w.left ∙ sym (m.left p here)
 
     right_sight : front_sight p r ≡ sight_in R p
     right_sight = front_is r p m.right_rises w.right ∙ sym (m.right p here)
+
+    old : row.old ≡ old_mark_at O p
+    old = seen_old ∙ (front_in mark.Absent o p m.old_rises w.old ∙ sym (m.old p here))
 
     left_mark : row.left.mark ≡ (sight_in L p).mark
     left_mark = seen_left.mark ∙ ap (λ s. s.mark) left_sight
@@ -186,21 +233,21 @@ module _ (P : Parts) (O : Archive) (L R : List (Path × Sight)) where
 
     -- What is left behind the path.
     abbrev rest : List Path
-    rest = three (past p (seen_paths l)) (past p (seen_paths r)) (past p o)
+    rest = three (past p (seen_paths l)) (past p (seen_paths r)) (past p (paths_in o))
 
     next_paths : (m.done ++ p ∷ []) ++ ascending rest ≡ ascending (three (seen_paths L) (seen_paths R) (fin.keys O))
     next_paths =
         append_assoc m.done (p ∷ []) (ascending rest)
-        ∙ (ap (λ ps. m.done ++ ps) (sym (least_next (seen_paths l) (seen_paths r) o p m.left_rises m.right_rises m.old_rises w)) ∙ m.paths)
+        ∙ (ap (λ ps. m.done ++ ps) (sym (least_next (seen_paths l) (seen_paths r) (paths_in o) p m.left_rises m.right_rises m.old_rises w)) ∙ m.paths)
 
-    same_rest : three (seen_paths (past_sight p l)) (seen_paths (past_sight p r)) (past p o) ≡ rest
-    same_rest = λ i. three (past_seen p l i) (past_seen p r i) (past p o)
+    same_rest : three (seen_paths (past_sight p l)) (seen_paths (past_sight p r)) (paths_in (past_of p o)) ≡ rest
+    same_rest = λ i. three (past_seen p l i) (past_seen p r i) (past_in p o i)
 
-    later : (q : Path) → among q (three (seen_paths (past_sight p l)) (seen_paths (past_sight p r)) (past p o)) ≡ true
-        → (among q (three (seen_paths l) (seen_paths r) o) ≡ true) × (path_cmp p q ≡ Less)
-    later q e = later_three (seen_paths l) (seen_paths r) o p m.left_rises m.right_rises m.old_rises w q (ap (among q) (sym same_rest) ∙ e)
+    later : (q : Path) → among q (three (seen_paths (past_sight p l)) (seen_paths (past_sight p r)) (paths_in (past_of p o))) ≡ true
+        → (among q (three (seen_paths l) (seen_paths r) (paths_in o)) ≡ true) × (path_cmp p q ≡ Less)
+    later q e = later_three (seen_paths l) (seen_paths r) (paths_in o) p m.left_rises m.right_rises m.old_rises w q (ap (among q) (sym same_rest) ∙ e)
 
-    next_of : (more : List Row) → paths_of more ≡ filter does_count (m.done ++ p ∷ []) → AreRows V more → IsMerged P O L R more (past_sight p l) (past_sight p r) (past p o)
+    next_of : (more : List Row) → paths_of more ≡ filter does_count (m.done ++ p ∷ []) → AreRows V more → IsMerged P O L R more (past_sight p l) (past_sight p r) (past_of p o)
     next_of more is_made they_are = record {
       done = m.done ++ p ∷ [];
       paths = ap (λ ps. (m.done ++ p ∷ []) ++ ascending ps) same_rest ∙ next_paths;
@@ -208,20 +255,21 @@ module _ (P : Parts) (O : Archive) (L R : List (Path × Sight)) where
       are = they_are;
       left = λ q e. let v = later q e in m.left q v.0 ∙ skip_sight p q l v.1;
       right = λ q e. let v = later q e in m.right q v.0 ∙ skip_sight p q r v.1;
+      old = λ q e. let v = later q e in m.old q v.0 ∙ skip_in mark.Absent p q o v.1;
       left_rises = subst (λ (ps : List Path). IsStrictlySortedBy path_cmp ps) (sym (past_seen p l)) (past_sorted (seen_paths l) p m.left_rises);
       right_rises = subst (λ (ps : List Path). IsStrictlySortedBy path_cmp ps) (sym (past_seen p r)) (past_sorted (seen_paths r) p m.right_rises);
-      old_rises = past_sorted o p m.old_rises;
+      old_rises = subst (λ (ps : List Path). IsStrictlySortedBy path_cmp ps) (sym (past_in p o)) (past_sorted (paths_in o) p m.old_rises);
     }
 
     made_by : (b : Bool) → does_count p ≡ b → filter does_count (m.done ++ p ∷ []) ≡ filter does_count m.done ++ cond b (p ∷ []) []
     made_by b e = filter-append does_count m.done (p ∷ []) ∙ ap (λ b. filter does_count m.done ++ cond b (p ∷ []) []) e
 
-    pub merge_kept : (is_anywhere row && reach P p) ≡ true → IsMerged P O L R (rows ++ row ∷ []) (past_sight p l) (past_sight p r) (past p o)
+    pub merge_kept : (is_anywhere row && reach P p) ≡ true → IsMerged P O L R (rows ++ row ∷ []) (past_sight p l) (past_sight p r) (past_of p o)
     merge_kept h =
         let two = and_parts (is_anywhere row) (reach P p) h in
         next_of (rows ++ row ∷ [])
         (paths-append rows row ∙ (ap (λ ps. ps ++ p ∷ []) m.made ∙ sym (made_by true (counted ∙ h))))
         (rows-append V rows row m.are (row_is two.1))
 
-    pub merge_skipped : (is_anywhere row && reach P p) ≡ false → IsMerged P O L R rows (past_sight p l) (past_sight p r) (past p o)
+    pub merge_skipped : (is_anywhere row && reach P p) ≡ false → IsMerged P O L R rows (past_sight p l) (past_sight p r) (past_of p o)
     merge_skipped h = next_of rows (m.made ∙ (sym (append-nil (filter does_count m.done)) ∙ sym (made_by false (counted ∙ h)))) m.are

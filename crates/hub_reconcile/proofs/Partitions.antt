@@ -13,15 +13,14 @@ use Rattle.hub_path.specs.declared.side.Side.{Side}
 use Rattle.hub_path.specs.declared.side.Side.TheVariants.{Left, Right}
 use Rattle.hub_profile.specs.Parts.{some_passes}
 use Rattle.hub_tree.specs.Below.{is_below}
-use Rattle.hub_tree.specs.Tree.{Archive, with_mark}
 use Rattle.hub_tree.specs.declared.contents.Mark.{Mark}
 use Rattle.hub_tree.specs.declared.contents.Mark.TheVariants as mark
 use Rattle.hub_tree.proofs.Order.{path_itself, same_path}
 use Rattle.hub_tree.proofs.Between.{among, among_filter}
-use Rattle.hub_reconcile.specs.Blocks.{IsFated, IsBlock, AreBlocks, IsPartition, block_paths, item_by, block_items, row_comes, going_rows, coming_rows, changes_fated, block_changes, mark_fated, row_set, updated, HaveNames, HaveAllNames}
+use Rattle.hub_reconcile.specs.Blocks.{IsFated, AreBlocks, IsPartition, block_paths, item_by, block_items, row_comes, going_rows, coming_rows, changes_fated, block_changes, mark_fated, HaveNames, HaveAllNames}
 use Rattle.hub_reconcile.specs.Items.{other, differs, item_over, is_item, fate, below, change, going, coming, changes, changes_by, items, plan}
 use Rattle.hub_reconcile.specs.Rows.{IsRow, AreRows, mark_on, is_going, is_coming, paths_of}
-use Rattle.hub_reconcile.specs.Sync.{fate_over, mark_under, synced_mark, next_archive}
+use Rattle.hub_reconcile.specs.Sync.{fate_over, mark_under, synced_mark}
 use Rattle.hub_reconcile.specs.View.{View, is_present}
 use Rattle.hub_reconcile.specs.declared.block.Block.{Block}
 use Rattle.hub_reconcile.specs.declared.change.Change.{Change}
@@ -33,7 +32,7 @@ use Rattle.hub_reconcile.proofs.Over.{longer}
 use Rattle.hub_reconcile.proofs.Synced.{over_itself, same_item}
 use Rattle.hub_reconcile.proofs.Views.{is_false, unnot, or_first, or_second, paths_same}
 
-map-append : {X Y : Type 0} (h : X → Y) (xs ys : List X) → map h (xs ++ ys) ≡ map h xs ++ map h ys
+pub map-append : {X Y : Type 0} (h : X → Y) (xs ys : List X) → map h (xs ++ ys) ≡ map h xs ++ map h ys
 map-append h [] ys = refl
 map-append h (x ∷ xs) ys = ap (λ zs. h x ∷ zs) (map-append h xs ys)
 
@@ -45,7 +44,7 @@ flat_map-flat_map : {X Y Z : Type 0} (g : Y → List Z) (h : X → List Y) (xs :
 flat_map-flat_map g h [] = refl
 flat_map-flat_map g h (x ∷ xs) = flat_map-append g (h x) (flat_map h xs) ∙ ap (λ zs. flat_map g (h x) ++ zs) (flat_map-flat_map g h xs)
 
-fold-append : {X Y : Type 0} (g : Y → X → Y) (y : Y) (xs zs : List X) → fold g y (xs ++ zs) ≡ fold g (fold g y xs) zs
+pub fold-append : {X Y : Type 0} (g : Y → X → Y) (y : Y) (xs zs : List X) → fold g y (xs ++ zs) ≡ fold g (fold g y xs) zs
 fold-append g y [] zs = refl
 fold-append g y (x ∷ xs) zs = fold-append g (g y x) xs zs
 
@@ -165,9 +164,6 @@ module _ (V : View) where
       blocks_changes bs w.blocks ∙ (sym (flat_map-flat_map change_list block_items bs) ∙ ap (flat_map change_list) (partition_items bs w))
 
   -- The archive.
-  abbrev marked : Archive → Path → Archive
-  marked a p = with_mark a p (synced_mark V p)
-
   reached_mark : (p : Path) (b : Bool) (m n : Mark) → b ≡ true → m ≡ cond b m n
   reached_mark p true m n e = refl
   reached_mark p false m n e = absurd (false≢true e)
@@ -177,15 +173,9 @@ module _ (V : View) where
   fate_mark r (Some (To side)) row = mark_row (other side) r row
   fate_mark r (Some (Skip why)) row = row.old
 
-  row_mark : (r : Row) (f : Option Fate) → IsRow V r → fate_over V r.path.now ≡ f → mark_fated f r ≡ synced_mark V r.path.now
+  pub row_mark : (r : Row) (f : Option Fate) → IsRow V r → fate_over V r.path.now ≡ f → mark_fated f r ≡ synced_mark V r.path.now
   row_mark r f row e =
       fate_mark r f row ∙ (ap (mark_under V r.path.now) (sym e) ∙ reached_mark r.path.now (V.reached r.path.now) (mark_under V r.path.now (fate_over V r.path.now)) (V.old r.path.now) row.reached)
-
-  rows_marked : (f : Option Fate) (a : Archive) (rs : List Row) → AreRows V rs → ((q : Path) → among q (paths_of rs) ≡ true → fate_over V q ≡ f) → fold (row_set f) a rs ≡ fold marked a (paths_of rs)
-  rows_marked f a [] are h = refl
-  rows_marked f a (r ∷ rs) are h =
-      rows_marked f (row_set f a r) rs are.1 (λ q e. h q (or_second (eq_by_cmp path_cmp q r.path.now) _ e))
-      ∙ ap (λ m. fold marked (with_mark a r.path.now m) (paths_of rs)) (row_mark r f are.0 (h r.path.now (or_first _ (among r.path.now (paths_of rs)) (path_itself r.path.now))))
 
   or_no : (b : Bool) → (b || false) ≡ b
   or_no true = refl
@@ -200,26 +190,13 @@ module _ (V : View) where
             (and_parts (is_over p q) (not (path_eq p q)) two.0).0
       ] refl e
 
-  fate_at : (p : Path) (ps : List Path) (f : Option Fate) → IsFated V p ps f → (q : Path) → among q (p ∷ ps) ≡ true → fate_over V q ≡ f
+  pub fate_at : (p : Path) (ps : List Path) (f : Option Fate) → IsFated V p ps f → (q : Path) → among q (p ∷ ps) ≡ true → fate_over V q ≡ f
   fate_at p ps None h q e =
       let only : among q (p ∷ []) ≡ true = ap (λ qs. among q (p ∷ qs)) (sym h.0) ∙ e in
       ap (option_map (fate V)) (ap (item_over V) (same_path q p (sym (or_no (eq_by_cmp path_cmp q p)) ∙ only)) ∙ h.1)
   fate_at p ps (Some f) h q e =
       let low : among q (p ∷ below V p) ≡ true = ap (λ qs. among q (p ∷ qs)) (sym h.0) ∙ e in
       ap (option_map (fate V)) (longer (differs V) p q p (over_block p q low) (over_itself V p h.1)) ∙ ap (λ x. Some x) h.2
-
-  pub updated_marks : (a : Archive) (b : Block) → IsBlock V b → updated a b ≡ fold marked a (block_paths b)
-  updated_marks a b is = rows_marked b.fate a (b.first.now ∷ b.below.now) is.rows (fate_at b.first.now.path.now (paths_of b.below.now) b.fate is.fated)
-
-  all_updated : (a : Archive) (bs : List Block) → AreBlocks V bs → fold updated a bs ≡ fold marked a (flat_map block_paths bs)
-  all_updated a [] are = refl
-  all_updated a (b ∷ bs) are =
-      all_updated (updated a b) bs are.1
-      ∙ (ap (λ x. fold marked x (flat_map block_paths bs)) (updated_marks a b are.0) ∙ sym (fold-append marked a (block_paths b) (flat_map block_paths bs)))
-
-  pub partition_archive : (O : Archive) (bs : List Block) → IsPartition V bs → fold updated O bs ≡ next_archive V O
-  unfolding next_archive
-  partition_archive O bs w = all_updated O bs w.blocks ∙ ap (fold marked O) w.paths
 
   -- No row is of the whole replica.
   module _ (names : (q : Path) → V.reached q ≡ true → 0 < length q) where

@@ -1,5 +1,5 @@
 -- One step of the merge, as the loop over Looks makes it.
-use Rattle.std.proofs.Common.{◌≡◌, ◌+◌, ◌<◌, ◌≤◌, ◌⊎◌, inl, inr, ⊎_elim, true, false, cond, ◌&&◌, List, [], ◌∷◌, ◌++◌, length, Option, Some, None, ap, sym, ◌∙◌, subst, arith}
+use Rattle.std.proofs.Common.{◌≡◌, ◌+◌, ◌<◌, ◌≤◌, ◌⊎◌, inl, inr, ⊎_elim, true, false, cond, ◌&&◌, List, [], ◌∷◌, ◌++◌, length, Option, Some, None, refl, ap, sym, ◌∙◌, subst, append-nil, arith}
 use Rattle.std.specs.Prelude.{IsTrue}
 use Rattle.std.specs.FinMap as fin
 use Rattle.std.specs.FinMap.Entries.{is_sorted}
@@ -8,10 +8,11 @@ use Rattle.std.proofs.lemmas.List.{length-map}
 use Rattle.hub_path.specs.Path.{Path, path_cmp, path_eq}
 use Rattle.hub_profile.specs.Parts.{Parts}
 use Rattle.hub_reach.specs.Reach.{reach}
-use Rattle.hub_tree.specs.Tree.{Archive, old_mark_at}
-use Rattle.hub_reconcile.specs.Merge.{seen_paths, first_of, lesser, least_first, past, past_sight, front_sight, IsSeen}
+use Rattle.hub_tree.specs.Tree.{Archive}
+use Rattle.hub_tree.specs.declared.contents.Mark.{Mark}
+use Rattle.hub_reconcile.specs.Merge.{seen_paths, paths_in, first_of, lesser, least_first, past, past_of, past_sight, front_sight, front_mark, IsSeen}
 use Rattle.hub_reconcile.specs.Picture.{told_by}
-use Rattle.hub_reconcile.specs.Rows.{is_anywhere}
+use Rattle.hub_reconcile.specs.Rows.{is_anywhere, is_counted}
 use Rattle.hub_reconcile.specs.Sight.{Sight}
 use Rattle.hub_reconcile.specs.declared.look.Look.{Look}
 use Rattle.hub_reconcile.specs.declared.row.Row.{Row}
@@ -79,23 +80,23 @@ fewer ls rs os p e ls2 rs2 os2 el er eo =
     omega (arith, all, a, b, c, x, y)
 
 module _ (P : Parts) (O : Archive) (L R : List (Path × Sight)) where
-  same_merged : (rs rs2 : List Row) (l l2 r r2 : List (Path × Sight)) (o o2 : List Path) → rs2 ≡ rs → l2 ≡ l → r2 ≡ r → o2 ≡ o
+  same_merged : (rs rs2 : List Row) (l l2 r r2 : List (Path × Sight)) (o o2 : List (Path × Mark)) → rs2 ≡ rs → l2 ≡ l → r2 ≡ r → o2 ≡ o
       → IsMerged P O L R rs l r o → IsMerged P O L R rs2 l2 r2 o2
   same_merged rs rs2 l l2 r r2 o o2 ers el er eo m =
       subst (λ (x : List Row). IsMerged P O L R x l2 r2 o2) (sym ers)
       (subst (λ (x : List (Path × Sight)). IsMerged P O L R rs x r2 o2) (sym el)
       (subst (λ (x : List (Path × Sight)). IsMerged P O L R rs l x o2) (sym er)
-      (subst (λ (x : List Path). IsMerged P O L R rs l r x) (sym eo) m)))
+      (subst (λ (x : List (Path × Mark)). IsMerged P O L R rs l r x) (sym eo) m)))
 
-  pub start_on : (rs : List Row) (l r : List (Path × Sight)) (o : List Path) → rs ≡ [] → l ≡ L → r ≡ R → o ≡ fin.keys O
+  pub start_on : (rs : List Row) (l r : List (Path × Sight)) (o : List (Path × Mark)) → rs ≡ [] → l ≡ L → r ≡ R → o ≡ fin.entries O
       → IsTrue (is_sorted path_cmp L) → IsTrue (is_sorted path_cmp R) → IsMerged P O L R rs l r o
-  start_on rs l r o ers el er eo hl hr = same_merged [] rs L l R r (fin.keys O) o ers el er eo (merge_start P O L R hl hr)
+  start_on rs l r o ers el er eo hl hr = same_merged [] rs L l R r (fin.entries O) o ers el er eo (merge_start P O L R hl hr)
 
-  module _ (rows : List Row) (l r : List (Path × Sight)) (o : List Path) (m : IsMerged P O L R rows l r o) (row : Row) (q : Path) (same : row.path.now ≡ q)
-      (least : least_first (seen_paths l) (seen_paths r) o ≡ Some q)
-      (seen_left : IsSeen (front_sight q l) row.left) (seen_right : IsSeen (front_sight q r) row.right) (old : row.old ≡ old_mark_at O q)
-      (more : List Row) (l2 r2 : List (Path × Sight)) (o2 : List Path) (el : l2 ≡ past_sight q l) (er : r2 ≡ past_sight q r) (eo : o2 ≡ past q o) where
-    own_least : least_first (seen_paths l) (seen_paths r) o ≡ Some row.path.now
+  module _ (rows : List Row) (l r : List (Path × Sight)) (o : List (Path × Mark)) (m : IsMerged P O L R rows l r o) (row : Row) (q : Path) (same : row.path.now ≡ q)
+      (least : least_first (seen_paths l) (seen_paths r) (paths_in o) ≡ Some q)
+      (seen_left : IsSeen (front_sight q l) row.left) (seen_right : IsSeen (front_sight q r) row.right) (old : row.old ≡ front_mark q o)
+      (more : List Row) (l2 r2 : List (Path × Sight)) (o2 : List (Path × Mark)) (el : l2 ≡ past_sight q l) (er : r2 ≡ past_sight q r) (eo : o2 ≡ past_of q o) where
+    own_least : least_first (seen_paths l) (seen_paths r) (paths_in o) ≡ Some row.path.now
     own_least = least ∙ ap (λ z. Some z) (sym same)
 
     own_left : IsSeen (front_sight row.path.now l) row.left
@@ -104,16 +105,23 @@ module _ (P : Parts) (O : Archive) (L R : List (Path × Sight)) where
     own_right : IsSeen (front_sight row.path.now r) row.right
     own_right = subst (λ (z : Path). IsSeen (front_sight z r) row.right) (sym same) seen_right
 
-    own_old : row.old ≡ old_mark_at O row.path.now
-    own_old = old ∙ ap (old_mark_at O) (sym same)
+    own_old : row.old ≡ front_mark row.path.now o
+    own_old = old ∙ ap (λ z. front_mark z o) (sym same)
 
-    onto : (rs : List Row) → more ≡ rs → IsMerged P O L R rs (past_sight row.path.now l) (past_sight row.path.now r) (past row.path.now o) → IsMerged P O L R more l2 r2 o2
+    onto : (rs : List Row) → more ≡ rs → IsMerged P O L R rs (past_sight row.path.now l) (past_sight row.path.now r) (past_of row.path.now o) → IsMerged P O L R more l2 r2 o2
     onto rs e n =
-        same_merged rs more (past_sight row.path.now l) l2 (past_sight row.path.now r) r2 (past row.path.now o) o2 e
-        (el ∙ ap (λ z. past_sight z l) (sym same)) (er ∙ ap (λ z. past_sight z r) (sym same)) (eo ∙ ap (λ z. past z o) (sym same)) n
+        same_merged rs more (past_sight row.path.now l) l2 (past_sight row.path.now r) r2 (past_of row.path.now o) o2 e
+        (el ∙ ap (λ z. past_sight z l) (sym same)) (er ∙ ap (λ z. past_sight z r) (sym same)) (eo ∙ ap (λ z. past_of z o) (sym same)) n
 
-    pub kept_on : (is_anywhere row && reach P row.path.now) ≡ true → more ≡ rows ++ row ∷ [] → IsMerged P O L R more l2 r2 o2
+    kept_on : (is_anywhere row && reach P row.path.now) ≡ true → more ≡ rows ++ row ∷ [] → IsMerged P O L R more l2 r2 o2
     kept_on h e = onto (rows ++ row ∷ []) e (merge_kept P O L R rows l r o m row own_least own_left own_right own_old h)
 
-    pub skipped_on : (is_anywhere row && reach P row.path.now) ≡ false → more ≡ rows → IsMerged P O L R more l2 r2 o2
+    skipped_on : (is_anywhere row && reach P row.path.now) ≡ false → more ≡ rows → IsMerged P O L R more l2 r2 o2
     skipped_on h e = onto rows e (merge_skipped P O L R rows l r o m row own_least own_left own_right own_old h)
+
+    pub added_on : more ≡ rows ++ cond (is_counted P row) (row ∷ []) [] → IsMerged P O L R more l2 r2 o2
+    added_on e =
+        elim (is_counted P row) as (λ b. is_counted P row ≡ b → more ≡ rows ++ cond b (row ∷ []) [] → IsMerged P O L R more l2 r2 o2) [
+          | true ↦ λ h k. kept_on h k
+          | false ↦ λ h k. skipped_on h (k ∙ append-nil rows)
+        ] refl e

@@ -1,11 +1,11 @@
 -- Blocks: the rows of a picture are cut into items, each with what is below it, and paths at which nothing differs.
-use Rattle.std.specs.Prelude.{◌≡◌, ◌<◌, true, false, List, [], ◌∷◌, ◌++◌, Bool, fold, length, map, reverse, filter, Option, None, Some, if◌then◌else◌}
+use Rattle.std.specs.Prelude.{◌≡◌, ◌<◌, true, false, List, [], ◌∷◌, ◌++◌, Bool, length, map, reverse, filter, Option, None, Some, if◌then◌else◌}
 use Rattle.std.specs.List.{flat_map, list_any, take_while}
 use Rattle.std.specs.Ordering.{eq_by_cmp}
 use Rattle.hub_path.specs.Path.{Path, path_cmp, is_over}
 use Rattle.hub_path.specs.declared.side.Side.{Side}
 use Rattle.hub_tree.specs.declared.contents.Mark.{Mark}
-use Rattle.hub_tree.specs.Tree.{Archive, with_mark}
+use Rattle.hub_tree.specs.Marked.{entries_of}
 use Rattle.hub_tree.specs.declared.contents.Mark.TheVariants as mark
 use Rattle.hub_reconcile.specs.Items.{other, item_over, is_item, fate, below, change}
 use Rattle.hub_reconcile.specs.Rows.{AreRows, is_different, is_going, is_coming, mark_on, paths_of}
@@ -91,11 +91,20 @@ mark_fated None r = r.left.mark
 mark_fated (Some (To side)) r = mark_on (other side) r
 mark_fated (Some (Skip why)) r = r.old
 
-abbrev pub row_set : Option Fate → Archive → Row → Archive
-row_set f a r = with_mark a r.path.now (mark_fated f r)
+abbrev pub row_told : Option Fate → Row → Path × Mark
+row_told f r = (r.path.now, mark_fated f r)
 
-abbrev pub updated : Archive → Block → Archive
-updated a b = fold (row_set b.fate) a (b.first.now ∷ b.below.now)
+abbrev pub block_marks : Block → List (Path × Mark)
+block_marks b = map (row_told b.fate) (b.first.now ∷ b.below.now)
+
+-- What an archive keeps of marks.
+abbrev pub pushed : List (Path × Mark) → List (Path × Mark)
+pushed es = flat_map (λ e. entries_of e.0 e.1) es
+
+-- No mark is of the whole replica.
+abbrev pub HaveMarkNames : List (Path × Mark) → Type 0
+HaveMarkNames [] = Unit {0}
+HaveMarkNames (e ∷ es) = (0 < length e.0) × HaveMarkNames es
 
 -- None of a block's paths is the whole replica.
 abbrev pub HaveNames : List Row → Type 0

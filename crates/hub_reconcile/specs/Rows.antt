@@ -1,8 +1,10 @@
 -- Rows: what is known of a path on both sides and in the archive. Items are found by going through them once.
-use Rattle.std.specs.Prelude.{◌≡◌, Bool, true, not, ◌&&◌, ◌||◌, List, [], ◌∷◌, map}
+use Rattle.std.specs.Prelude.{◌≡◌, Bool, true, not, ◌&&◌, ◌||◌, List, [], ◌∷◌, map, if◌then◌else◌}
 use Rattle.hub_path.specs.Path.{Path}
 use Rattle.hub_path.specs.declared.side.Side.{Side}
 use Rattle.hub_path.specs.declared.side.Side.TheVariants.{Left, Right}
+use Rattle.hub_profile.specs.Parts.{Parts}
+use Rattle.hub_reach.specs.Reach.{reach}
 use Rattle.hub_tree.specs.declared.contents.Mark.{Mark}
 use Rattle.hub_reconcile.specs.Items.{other}
 use Rattle.hub_reconcile.specs.Sync.{of_side}
@@ -30,6 +32,14 @@ is_coming from r = is_present (mark_on from r)
 
 abbrev pub is_anywhere : Row → Bool
 is_anywhere r = is_present r.left.mark || is_present r.right.mark || is_present r.old
+
+-- A row counts if something is known of its path, and the profile reaches it.
+abbrev pub is_counted : Parts → Row → Bool
+is_counted P r = is_anywhere r && reach P r.path.now
+
+-- The old mark of a row that doesn't count, with its path, if there is one.
+abbrev pub other_of : Parts → Row → List (Path × Mark)
+other_of P r = if is_counted P r then [] else (if is_present r.old then (r.path.now, r.old) ∷ [] else [])
 
 abbrev pub path_of_row : Row → Path
 path_of_row r = r.path.now

@@ -5,14 +5,14 @@
 //! - [`items`]: the least paths at which the sides differ, each with its [`Fate`]: the side that it goes to, or the
 //!   [`Reason`] for skipping it.
 //! - [`plan`]: the [`Change`]s of the items that aren't skipped, in the order in which they can be made.
-//! - [`next_archive`]: the archive after these changes.
+//! - [`next_archive`]: the archive after these changes. [`items_and_archive`] is both at the cost of one.
 //! - [`laws`]: what the crates above may conclude.
 //!
 //! The contracts use the words of `specs/Items` (items and their changes), `specs/Sync` (what one synchronization
 //! leaves) and `specs/Shown` (the `specs/View` that a picture shows).
 //!
-//! Each of the three calls goes once through the Looks of both sides and the paths of the archive, in the order of
-//! paths, and copies no contents. Only functions that return a `Result` allocate.
+//! Each of these calls goes once through the Looks of both sides and the marks of the archive, in the order of paths, and
+//! copies no contents. Only functions that return a `Result` allocate.
 #![tactic(auto)]
 
 mod block;
@@ -22,6 +22,7 @@ mod item;
 pub mod laws;
 mod look;
 mod marks;
+mod old_mark;
 mod parent;
 mod picture;
 mod reconcile;
@@ -32,4 +33,4 @@ pub use change::Change;
 pub use item::{Fate, Item, Reason};
 pub use look::{Look, are_rising};
 pub use picture::Picture;
-pub use reconcile::{items, next_archive, plan};
+pub use reconcile::{items, items_and_archive, next_archive, plan};

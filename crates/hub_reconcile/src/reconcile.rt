@@ -1,30 +1,32 @@
 //! The items of a picture, their changes, and the new archive.
-ghost use Rattle.std.specs.Prelude.{◌≡◌, ◌++◌, ◌<◌, IfOk, OnOk, length};
-ghost use Rattle.std.specs.List.{flat_map, fold};
+ghost use Rattle.std.specs.Prelude.{◌≡◌, ◌++◌, IfOk, OnOk, filter};
+ghost use Rattle.std.specs.FinMap as fin;
+ghost use Rattle.std.specs.List.{flat_map};
+ghost use Rattle.hub_reach.specs.Reach.{reach};
 ghost use Rattle.hub_reconcile.specs.Blocks as parts;
 ghost use Rattle.hub_reconcile.specs.Items as spec;
+ghost use Rattle.hub_reconcile.specs.Merge as merge;
 ghost use Rattle.hub_reconcile.specs.Shown.{shown};
 ghost use Rattle.hub_reconcile.specs.Sync as sync;
-ghost use Rattle.hub_tree.specs.Tree.{with_mark};
 
 use crate::block::{Block, blocks};
 use crate::change::Change;
 use crate::item::{Fate, Item};
+use crate::old_mark::OldMark;
 use crate::picture::Picture;
 use crate::row::Row;
-use crate::table::table;
-use hub_path::Side;
+use crate::table::table_of;
+use hub_path::{RelPath, Side};
 use hub_text::Items;
-use hub_tree::{Archive, Mark};
+use hub_tree::{Archive, ArchiveBuilder, Mark};
 use std::alloc::{AllocError, Global};
 
 /// Returns the items of a picture in the order of their paths, or `AllocError` when out of memory.
 pub fn items(alloc: Global, picture: &Picture) -> Result<Items<Item>, AllocError>
     ensures { IfOk result (λ is. is ≡ spec.items (shown picture.now)) }
 {
-    let old_paths = picture.archive().paths()?;
-    let rows = table(alloc, picture, old_paths.as_slice())?;
-    let blocks = blocks(alloc, picture, rows.as_slice())?;
+    let table = table_of(alloc, picture)?;
+    let blocks = blocks(alloc, picture, table.rows.as_slice())?;
     Ok(Items::from_vec(items_of(alloc, blocks.as_slice())?))
 }
 
@@ -35,9 +37,8 @@ pub fn items(alloc: Global, picture: &Picture) -> Result<Items<Item>, AllocError
 pub fn plan(alloc: Global, picture: &Picture) -> Result<Items<Change>, AllocError>
     ensures { IfOk result (λ cs. cs ≡ spec.plan (shown picture.now)) }
 {
-    let old_paths = picture.archive().paths()?;
-    let rows = table(alloc, picture, old_paths.as_slice())?;
-    let blocks = blocks(alloc, picture, rows.as_slice())?;
+    let table = table_of(alloc, picture)?;
+    let blocks = blocks(alloc, picture, table.rows.as_slice())?;
     Ok(Items::from_vec(changes_of(alloc, blocks.as_slice())?))
 }
 
@@ -49,11 +50,26 @@ pub fn next_archive(alloc: Global, picture: &Picture) -> Result<Archive, AllocEr
     ensures { IfOk result
         (λ a. a ≡ sync.next_archive (shown picture.now) picture.now.archive.now) }
 {
-    let old = picture.archive().copy()?;
-    let old_paths = picture.archive().paths()?;
-    let rows = table(alloc, picture, old_paths.as_slice())?;
-    let blocks = blocks(alloc, picture, rows.as_slice())?;
-    Ok(archive_of(old, blocks.as_slice())?)
+    let table = table_of(alloc, picture)?;
+    let blocks = blocks(alloc, picture, table.rows.as_slice())?;
+    archive_of(alloc, picture, table.others.as_slice(), blocks.as_slice())
+}
+
+/// Returns the items of a picture and the archive afterwards, as [`items`] and [`next_archive`] do, or `AllocError` when
+/// out of memory. The Looks and the archive are gone through once for both.
+pub fn items_and_archive(
+    alloc: Global,
+    picture: &Picture,
+) -> Result<(Items<Item>, Archive), AllocError>
+    ensures items { IfOk result (λ both. both.0 ≡ spec.items (shown picture.now)) }
+    ensures archive { IfOk result
+        (λ both. both.1 ≡ sync.next_archive (shown picture.now) picture.now.archive.now) }
+{
+    let table = table_of(alloc, picture)?;
+    let blocks = blocks(alloc, picture, table.rows.as_slice())?;
+    let items = Items::from_vec(items_of(alloc, blocks.as_slice())?);
+    let archive = archive_of(alloc, picture, table.others.as_slice(), blocks.as_slice())?;
+    Ok((items, archive))
 }
 
 /// The items of blocks.
@@ -162,38 +178,65 @@ fn change_to(row: &Row, from: Side, mark: Mark) -> Result<Change, AllocError>
     })
 }
 
-/// The archive with the marks of all blocks' paths.
-fn archive_of(old: Archive, blocks: &[Block]) -> Result<Archive, AllocError>
-    requires { parts.HaveAllNames blocks.now }
-    ensures { IfOk result (λ a. a ≡ fold parts.updated old blocks.now) }
+/// The archive afterwards: the old marks at the paths that aren't reached, and the new ones at the blocks' paths.
+fn archive_of(
+    alloc: Global,
+    picture: &Picture,
+    others: &[OldMark],
+    blocks: &[Block],
+) -> Result<Archive, AllocError>
+    requires others { merge.told_marks others.now
+        ≡ filter (merge.is_other (reach picture.now.profile.now))
+        (fin.entries picture.now.archive.now) }
+    requires blocks { parts.IsPartition (shown picture.now) blocks.now }
+    ensures { IfOk result
+        (λ a. a ≡ sync.next_archive (shown picture.now) picture.now.archive.now) }
 {
-    let mut archive = old;
-    update_all(&mut archive, blocks)?;
-    Ok(archive)
+    let _top = picture.archive().mark_at(&RelPath::top(alloc));
+    let mut marks = ArchiveBuilder::new(alloc);
+    keep_all(&mut marks, others)?;
+    update_all(&mut marks, blocks)?;
+    marks.build()
 }
 
-/// Sets the marks of all blocks' paths.
-fn update_all(archive: &mut Archive, blocks: &[Block]) -> Result<(), AllocError>
-    requires { parts.HaveAllNames blocks.now }
-    ensures { OnOk result (archive.new ≡ fold parts.updated archive.old blocks.now) }
+/// Adds old marks.
+fn keep_all(marks: &mut ArchiveBuilder, others: &[OldMark]) -> Result<(), AllocError>
+    requires { parts.HaveMarkNames (merge.told_marks others.now) }
+    ensures { OnOk result (marks.new
+        ≡ marks.old ++ parts.pushed (merge.told_marks others.now)) }
 {
-    let mut rest = blocks;
-    while let [block, after @ ..] = rest {
-        update(archive, block)?;
+    let mut rest = others;
+    while let [other, after @ ..] = rest {
+        marks.push(other.path, other.mark)?;
         rest = after;
     }
     Ok(())
 }
 
-/// Sets the marks of a block's paths.
-fn update(archive: &mut Archive, block: &Block) -> Result<(), AllocError>
-    requires { parts.HasNames block.now }
-    ensures { OnOk result (archive.new ≡ parts.updated archive.old block.now) }
+/// Adds the new marks of all blocks' paths.
+fn update_all(marks: &mut ArchiveBuilder, blocks: &[Block]) -> Result<(), AllocError>
+    requires { parts.HaveAllNames blocks.now }
+    ensures { OnOk result (marks.new
+        ≡ marks.old ++ parts.pushed (flat_map parts.block_marks blocks.now)) }
 {
-    set_mark(archive, block.first, new_mark(block.first, block.fate))?;
+    let mut rest = blocks;
+    while let [block, after @ ..] = rest {
+        update(marks, block)?;
+        rest = after;
+    }
+    Ok(())
+}
+
+/// Adds the new marks of a block's paths.
+fn update(marks: &mut ArchiveBuilder, block: &Block) -> Result<(), AllocError>
+    requires { parts.HasNames block.now }
+    ensures { OnOk result (marks.new
+        ≡ marks.old ++ parts.pushed (parts.block_marks block.now)) }
+{
+    marks.push(block.first.path, new_mark(block.first, block.fate))?;
     let mut rest = block.below;
     while let [row, after @ ..] = rest {
-        set_mark(archive, row, new_mark(row, block.fate))?;
+        marks.push(row.path, new_mark(row, block.fate))?;
         rest = after;
     }
     Ok(())
@@ -208,15 +251,4 @@ fn new_mark(row: &Row, fate: Option<Fate>) -> Mark
         Some(Fate::Skip(_)) => row.old,
         None => row.left.mark,
     }
-}
-
-/// Sets the mark of a row's path, unless the archive has it already.
-fn set_mark(archive: &mut Archive, row: &Row, mark: Mark) -> Result<(), AllocError>
-    requires { 0 < length row.now.path.now }
-    ensures { OnOk result (archive.new ≡ with_mark archive.old row.now.path.now mark) }
-{
-    if archive.mark_at(row.path) == mark {
-        return Ok(());
-    }
-    archive.set(row.path, mark)
 }

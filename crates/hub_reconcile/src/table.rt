@@ -1,15 +1,16 @@
 //! The rows of a picture: one for each path that counts, in the order of paths.
-ghost use Rattle.std.specs.Prelude.{◌≡◌, ◌&&◌, IfOk};
+ghost use Rattle.std.specs.Prelude.{◌≡◌, ◌&&◌, [], ◌∷◌, ◌++◌, IfOk, OnOk, filter, if◌then◌else◌};
 ghost use Rattle.std.specs.FinMap as fin;
 ghost use Rattle.std.specs.Option.{option_map};
 ghost use Rattle.hub_reach.specs.Reach.{reach};
 ghost use Rattle.hub_reconcile.specs.Merge as merge;
 ghost use Rattle.hub_reconcile.specs.Picture.{told_by};
-ghost use Rattle.hub_reconcile.specs.Rows.{IsTable, is_anywhere};
+ghost use Rattle.hub_reconcile.specs.Rows.{IsTable, is_counted, other_of};
 ghost use Rattle.hub_reconcile.specs.Shown.{shown};
-ghost use Rattle.hub_tree.specs.Tree.{old_mark_at};
 
 use crate::look::Look;
+use crate::marks::is_present;
+use crate::old_mark::{OldMark, mark_of, next_mark, past_mark, path_of};
 use crate::picture::Picture;
 use crate::row::{Row, Seen};
 use hub_path::{RelPath, Side};
@@ -18,41 +19,69 @@ use hub_reach::reaches;
 use hub_tree::Mark;
 use std::alloc::{AllocError, Global};
 
-/// Makes the rows of a picture, by one pass over the Looks of both sides and the paths of the archive.
-pub(crate) fn table<'a>(
-    alloc: Global,
-    picture: &Picture<'a>,
-    old_paths: &'a [RelPath],
-) -> Result<Vec<Row<'a>>, AllocError>
-    requires { old_paths.now ≡ fin.keys picture.now.archive.now }
-    ensures { IfOk result (λ rs. IsTable (shown picture.now) rs.items) }
+/// The rows of a picture, and the marks of its archive at the paths that the profile doesn't reach.
+#[derive(Drop)]
+pub(crate) struct Table<'a> {
+    /// The rows, in the order of their paths.
+    pub rows: Vec<Row<'a>>,
+    /// The other marks, in the order of their paths.
+    pub others: Vec<OldMark<'a>>,
+}
+
+/// Makes the table of a picture, by one pass over the Looks of both sides and the marks of the archive.
+pub(crate) fn table_of<'a>(alloc: Global, picture: &Picture<'a>) -> Result<Table<'a>, AllocError>
+    ensures rows { IfOk result (λ t. IsTable (shown picture.now) t.rows.items) }
+    ensures others { IfOk result (λ t. merge.told_marks t.others.items
+        ≡ filter (merge.is_other (reach picture.now.profile.now))
+        (fin.entries picture.now.archive.now)) }
 {
-    let mut rows = Vec::new(alloc);
+    let mut table = Table {
+        rows: Vec::new(alloc),
+        others: Vec::new(alloc),
+    };
     let mut left = picture.looks(Side::Left);
     let mut right = picture.looks(Side::Right);
-    let mut old = old_paths;
+    let mut marks = picture.archive().iter();
+    let mut old = next_mark(&mut marks);
     while let Some(path) = least_path(left, right, old) {
-        let row = row_of(picture, path, left, right);
+        let row = row_of(path, left, right, old);
         left = past_look(left, path);
         right = past_look(right, path);
-        old = past_path(old, path);
-        if counts(picture.profile(), &row) {
-            rows.push(row)?;
-        }
+        old = past_mark(old, &mut marks, path);
+        add_row(&mut table, picture.profile(), row)?;
     }
-    Ok(rows)
+    Ok(table)
+}
+
+/// Adds a row, if it counts, and else the mark of its path, if the archive has one.
+fn add_row<'a>(table: &mut Table<'a>, profile: &Profile, row: Row<'a>) -> Result<(), AllocError>
+    ensures rows { OnOk result (table.new.rows.items ≡ table.old.rows.items
+        ++ (if is_counted profile.now row.entry then row.entry ∷ [] else [])) }
+    ensures others { OnOk result (merge.told_marks table.new.others.items
+        ≡ merge.told_marks table.old.others.items ++ other_of profile.now row.entry) }
+{
+    if counts(profile, &row) {
+        table.rows.push(row)?;
+    } else if is_present(row.old) {
+        table.others.push(OldMark {
+            path: row.path,
+            mark: row.old,
+        })?;
+    }
+    Ok(())
 }
 
 /// The least of the first paths of both sides and of the archive.
 fn least_path<'a>(
     left: &'a [Look<'a>],
     right: &'a [Look<'a>],
-    old: &'a [RelPath],
+    old: Option<OldMark<'a>>,
 ) -> Option<&'a RelPath>
     ensures { option_map (λ p. p.now) result ≡ merge.least_first
-        (merge.seen_paths (told_by left.now)) (merge.seen_paths (told_by right.now)) old.now }
+        (merge.seen_paths (told_by left.now)) (merge.seen_paths (told_by right.now))
+        (merge.paths_in (merge.taken old.entry)) }
 {
-    lesser(lesser(first_path(left), first_path(right)), old.first())
+    lesser(lesser(first_path(left), first_path(right)), path_of(old))
 }
 
 /// The path of the first Look.
@@ -78,18 +107,19 @@ fn lesser<'a>(a: Option<&'a RelPath>, b: Option<&'a RelPath>) -> Option<&'a RelP
     }
 }
 
-/// The row of a path, where these Looks are left, and none of them is of a path before it.
-fn row_of<'a>(picture: &Picture<'a>, path: &'a RelPath, left: &[Look], right: &[Look]) -> Row<'a>
+/// The row of a path, where these Looks are left and this mark is the next one of the archive. None of them is of a path
+/// before it.
+fn row_of<'a>(path: &'a RelPath, left: &[Look], right: &[Look], old: Option<OldMark>) -> Row<'a>
     ensures path { result.path.now ≡ path.now }
     ensures left { merge.IsSeen (merge.front_sight path.now (told_by left.now)) result.left }
     ensures right { merge.IsSeen (merge.front_sight path.now (told_by right.now)) result.right }
-    ensures old { result.old ≡ old_mark_at picture.now.archive.now path.now }
+    ensures old { result.old ≡ merge.front_mark path.now (merge.taken old.entry) }
 {
     Row {
         path,
         left: front_seen(left, path),
         right: front_seen(right, path),
-        old: picture.archive().mark_at(path),
+        old: mark_of(old, path),
     }
 }
 
@@ -119,19 +149,9 @@ fn past_look<'a>(looks: &'a [Look<'a>], path: &RelPath) -> &'a [Look<'a>]
     }
 }
 
-/// The paths without the first one, if it is this one.
-fn past_path<'a>(paths: &'a [RelPath], path: &RelPath) -> &'a [RelPath]
-    ensures { result.now ≡ merge.past path.now paths.now }
-{
-    match paths {
-        [first, rest @ ..] if first == path => rest,
-        _ => paths,
-    }
-}
-
 /// Whether a row counts: something is known of its path, and the profile reaches it.
 fn counts(profile: &Profile, row: &Row) -> bool
-    ensures { result ≡ (is_anywhere row.now && reach profile.now row.now.path.now) }
+    ensures { result ≡ is_counted profile.now row.now }
 {
     row.is_known() && reaches(profile, row.path)
 }

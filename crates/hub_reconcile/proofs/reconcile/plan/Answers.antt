@@ -9,5 +9,5 @@ pub returns : goal.returns
 returns c =
     c.from_vec.ensures
     ∙ (c.in_ok-changes_of.ensures
-    ∙ (ap (flat_map block_changes) c.as_slice-3.ensures.value
+    ∙ (ap (flat_map block_changes) c.as_slice-2.ensures.value
     ∙ partition_changes (shown c.args.picture.now) _ c.in_ok-blocks.ensures))

@@ -27,7 +27,7 @@ step_same n k ls (Err f) (Ok b) s more = absurd s.same
 step_same n k ls (Err f) (Err g) s more = ap (λ (q : Fault). Err (record { line = n; fault = q })) s.same
 
 end_same : (n : ℕ) (x : Result Above Fault) (y : Result Draft Fault) → Same x y → state_or_fault (fault_at n x) ≡ fault_at n (and_then y (λ b. Ok (closed b.state b.current)))
-end_same n (Ok d) (Ok b) s = ap (λ (t : State). Ok t) (sym (closed_is d b.state b.current b.entries b.ended s.same))
+end_same n (Ok d) (Ok b) s = ap (λ (t : State). Ok t) (sym (closed_is d b.state b.current b.entries b.ended s.same.0))
 end_same n (Ok d) (Err g) s = absurd s.same
 end_same n (Err f) (Ok b) s = absurd s.same
 end_same n (Err f) (Err g) s = ap (λ (q : Fault). Err (record { line = n; fault = q })) s.same
@@ -43,7 +43,7 @@ is_read bytes = refl
 
 pub reading-taken : (a : Draft) (bytes : List ℕ) → a ≡ nothing_taken nothing → state_reading bytes ≡ bytes_taken 1 a bytes
 reading-taken a bytes start =
-    is_read bytes ∙ lines_same (lines_of bytes) 1 nothing_above a (subst (λ (b : Draft). Holds nothing_above b) (sym start) ([], [], refl, refl))
+    is_read bytes ∙ lines_same (lines_of bytes) 1 nothing_above a (subst (λ (b : Draft). Holds nothing_above b) (sym start) (([], [], refl, refl), tt))
 
 -- What follows a text doesn't change its lines but the last.
 line_and_rest : (k l : Line (List ℕ)) (ks ls : List (Line (List ℕ))) → k ∷ ks ≡ l ∷ ls → (k ≡ l) × (ks ≡ ls)

@@ -1,7 +1,9 @@
 pub mod Blocks
 pub mod ByRoot
+pub mod Digests
 pub mod Drafts
 pub mod Fields
+pub mod Files
 pub mod Inputs
 pub mod Kept
 pub mod Lines

@@ -1,5 +1,5 @@
 -- Lines that are written one after the other.
-use Rattle.std.proofs.Common.{◌≡◌, ℕ, List, [], ◌∷◌, ◌++◌, Option, Some, None, BTreeMap, String, string_bytes, refl, sym, ap, ◌∙◌, subst, append-nil, append_assoc}
+use Rattle.std.proofs.Common.{◌≡◌, ℕ, map, List, [], ◌∷◌, ◌++◌, Option, Some, None, BTreeMap, String, string_bytes, refl, sym, ap, ◌∙◌, subst, append-nil, append_assoc}
 use Rattle.std.specs.FinMap as fin
 use Rattle.std.specs.List.{flat_map}
 use Rattle.std.specs.Prelude.{Result, Ok}
@@ -14,7 +14,8 @@ use Rattle.hub_tree.specs.declared.contents.Contents.{Contents}
 use Rattle.hub_state.specs.State.{State, Text}
 use Rattle.hub_state.specs.Devices.{Passes}
 use Rattle.hub_state.specs.View.{by_text, by_two, below, pairs, keyed}
-use Rattle.hub_state.specs.Writing.{header, end_line, replica_lines, archive_lines, joined_lines, state_text}
+use Rattle.hub_state.specs.declared.form.Version.{Version}
+use Rattle.hub_state.specs.Writing.{header, end_line, replica_lines, archive_lines, blob_lines, state_files, version_of, version_lines, joined_lines, state_text}
 use Rattle.hub_state.proofs.Maps.{by_two-push, pairs-push}
 
 pub one_line : (l : List ℕ) → joined_lines (l ∷ []) ≡ l ++ 10 ∷ []
@@ -82,13 +83,20 @@ pairs_more f es x =
     ∙ ap joined_lines (flat_map-append f (pairs (by_two es)) (below (string_bytes x.0) (by_text x.1.entries)))
     ∙ joined-append (flat_map f (pairs (by_two es))) (flat_map f (below (string_bytes x.0) (by_text x.1.entries)))
 
+-- One more line.
+pub joined_mapped : {X : Type 0} (f : X → List ℕ) (xs : List X) (x : X) → joined_lines (map f (xs ++ x ∷ [])) ≡ joined_lines (map f xs) ++ (f x ++ 10 ∷ [])
+joined_mapped f [] x = append-nil (f x ++ 10 ∷ [])
+joined_mapped f (y ∷ xs) x =
+    ap (λ t. (f y ++ 10 ∷ []) ++ t) (joined_mapped f xs x) ∙ sym (append_assoc (f y ++ 10 ∷ []) (joined_lines (map f xs)) (f x ++ 10 ∷ []))
+
 -- The parts of a state's text.
-pub text_parts : (S : State) → (header ++ 10 ∷ []) ++ joined_lines (flat_map replica_lines (fin.entries S.replicas)) ++ joined_lines (flat_map archive_lines (fin.entries S.archives)) ++ ((end_line ++ 10 ∷ []) ++ []) ≡ state_text S
+pub text_parts : (S : State) (v : Version) → v ≡ version_of (state_files S)
+    → joined_lines (header v ∷ blob_lines v (state_files S)) ++ joined_lines (flat_map (replica_lines v) (fin.entries S.replicas)) ++ joined_lines (flat_map archive_lines (fin.entries S.archives)) ++ ((end_line ++ 10 ∷ []) ++ []) ≡ state_text S
 unfolding state_text
-text_parts S =
-    let h = header ++ 10 ∷ [] in
-    let rs = flat_map replica_lines (fin.entries S.replicas) in
-    let ks = flat_map archive_lines (fin.entries S.archives) in
-    let e = (end_line ++ 10 ∷ []) ++ [] in
-    append_assoc (h ++ joined_lines rs) (joined_lines ks) e ∙ append_assoc h (joined_lines rs) (joined_lines ks ++ e)
-    ∙ ap (λ t. h ++ t) (sym (append_assoc (joined_lines rs) (joined_lines ks) e) ∙ ap (λ t. t ++ e) (sym (joined-append rs ks)) ∙ sym (joined-append (rs ++ ks) (end_line ∷ [])))
+text_parts S v is =
+    let h : List (List ℕ) = header v ∷ blob_lines v (state_files S) in
+    let rs : List (List ℕ) = flat_map (replica_lines v) (fin.entries S.replicas) in
+    let ks : List (List ℕ) = flat_map archive_lines (fin.entries S.archives) in
+    let e : List (List ℕ) = end_line ∷ [] in
+    sym (joined-append (h ++ rs ++ ks) e ∙ ap (λ t. t ++ joined_lines e) (joined-append (h ++ rs) ks ∙ ap (λ t. t ++ joined_lines ks) (joined-append h rs)))
+    ∙ ap (λ (x : Version). joined_lines (version_lines x S)) is

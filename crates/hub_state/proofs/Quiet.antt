@@ -1,6 +1,7 @@
 -- No line of a text reports a failed read, or that the reads ended before the input.
-use Rattle.std.proofs.Common.{◌≡◌, ◌⊎◌, inl, inr, ℕ, ◌+◌, Bool, true, false, ◌||◌, cond, List, [], ◌∷◌, refl, sym, ap, ◌∙◌}
+use Rattle.std.proofs.Common.{◌≡◌, ◌⊎◌, inl, inr, ℕ, ◌+◌, Bool, true, false, cond, List, [], ◌∷◌, refl, sym, ap, ◌∙◌}
 use Rattle.std.specs.Prelude.{Option, Some, None, Result, Ok, Err}
+use Rattle.std.specs.List.{before_first, after_first}
 use Rattle.std.specs.Str.{is_utf8}
 use Rattle.std.proofs.lemmas.Bool.{or_parts}
 use Rattle.hub_text.specs.Lines.{lines_of}
@@ -11,7 +12,7 @@ use Rattle.hub_tree.specs.declared.contents.Contents.TheVariants as contents
 use Rattle.hub_tree.specs.declared.contents.Mark.{Mark}
 use Rattle.hub_tree.specs.declared.contents.Mark.TheVariants as mark
 use Rattle.hub_state.specs.declared.fault.Fault.{Fault}
-use Rattle.hub_state.specs.declared.fault.Fault.TheVariants.{BadHeader, BadLine, BadPath, BadHex, NoParent, Repeated, TooLarge, Truncated, OutOfMemory}
+use Rattle.hub_state.specs.declared.fault.Fault.TheVariants.{BadHeader, BadLine, BadPath, BadHex, NoParent, Repeated, TooLarge, Truncated, OutOfMemory, UnknownBlob, WrongDigest}
 use Rattle.hub_state.specs.declared.fault.StateFault.{StateFault}
 use Rattle.hub_state.specs.declared.form.Form.{Form}
 use Rattle.hub_state.specs.declared.form.Form.TheVariants as form
@@ -19,7 +20,7 @@ use Rattle.hub_state.specs.declared.form.Section.{Section}
 use Rattle.hub_state.specs.declared.form.Section.TheVariants as section
 use Rattle.hub_state.specs.Devices.{is_read_failed, is_turns_spent, is_unread, says, reports}
 use Rattle.hub_state.specs.State.{Text}
-use Rattle.hub_state.specs.Reading.{Above, Line, line_of, or_else, and_then, unless, root_field, path_field, bytes_field, digest_field, with_other_root, with_contents_put, with_mark_put, with_dir, with_fields, with_line, with_line_of, numbered_reading, lines_reading, then_lines, fault_at, nothing_above, above_end, state_or_fault, state_reading}
+use Rattle.hub_state.specs.Reading.{Above, Blobs, with_new_contents, with_blob_named, blob_found, with_file, with_blob_put, with_blob, Line, line_of, or_else, and_then, unless, root_field, path_field, bytes_field, digest_field, is_space, with_other_root, with_contents_put, with_mark_put, with_dir, with_fields, with_line, with_line_of, numbered_reading, lines_reading, then_lines, fault_at, nothing_above, above_end, state_or_fault, state_reading}
 
 record Quiet {T : Type 0} (r : Result T Fault) : Type 0 where
   quiet : says is_unread r ≡ false
@@ -64,9 +65,20 @@ other-quiet d section.Replica r = another_said BadLine refl
 other-quiet d (section.HalfArchive q) r = unless-quiet _ BadLine _ refl (unless-quiet _ Repeated _ refl (nothing_said _))
 other-quiet d section.Archive r = another_said BadLine refl
 
+new-quiet : (d : Above) (p : Path) (c : Contents) (e : Text × List (Path × Contents)) (es : List (Text × List (Path × Contents))) → Quiet (with_new_contents d p c e es)
+new-quiet d p c e es = unless-quiet _ NoParent _ refl (nothing_said _)
+
 contents-quiet : (d : Above) (p : Path) (c : Contents) (rs : List (Text × List (Path × Contents))) → Quiet (with_contents_put d p c rs)
 contents-quiet d p c [] = another_said BadLine refl
-contents-quiet d p c (e ∷ es) = unless-quiet _ Repeated _ refl (unless-quiet _ NoParent _ refl (nothing_said _))
+contents-quiet d p c (e ∷ es) = unless-quiet _ Repeated _ refl (new-quiet d p c e es)
+
+found-quiet : (o : Option (List ℕ)) → Quiet (blob_found o)
+found-quiet None = another_said UnknownBlob refl
+found-quiet (Some bytes) = nothing_said bytes
+
+named-quiet : (d : Above) (p : Path) (o : Option (List ℕ)) (rs : List (Text × List (Path × Contents))) → Quiet (with_blob_named d p o rs)
+named-quiet d p o [] = another_said BadLine refl
+named-quiet d p o (e ∷ es) = unless-quiet _ Repeated _ refl (then-quiet (blob_found o) _ (found-quiet o) (λ bytes. new-quiet d p (contents.File bytes) e es))
 
 mark-quiet : (d : Above) (p : Path) (c : Mark) (ks : List (List Text × List (Path × Mark))) → Quiet (with_mark_put d p c ks)
 mark-quiet d p c [] = another_said BadLine refl
@@ -78,17 +90,33 @@ dir-quiet d section.Replica p = unless-quiet _ TooLarge _ refl (contents-quiet d
 dir-quiet d (section.HalfArchive q) p = another_said BadLine refl
 dir-quiet d section.Archive p = unless-quiet _ TooLarge _ refl (mark-quiet d p mark.Directory d.archives)
 
-fields-quiet : (d : Above) (s : Section) (f t : List ℕ) → Quiet (with_fields d s f t)
-fields-quiet d section.Nothing f t = another_said BadLine refl
-fields-quiet d section.Replica f t =
+file-quiet : (d : Above) (o : Option Blobs) (f t : List ℕ) → Quiet (with_file d o f t)
+file-quiet d None f t =
     then-quiet (bytes_field f) _ (bytes-quiet f) (λ bytes. then-quiet (path_field t) _ (path-quiet t) (λ p.
     unless-quiet _ TooLarge _ refl (contents-quiet d p (contents.File bytes) d.replicas)))
+file-quiet d (Some bs) f t =
+    then-quiet (digest_field f) _ (digest-quiet f) (λ digest. then-quiet (path_field t) _ (path-quiet t) (λ p.
+    unless-quiet _ TooLarge _ refl (named-quiet d p _ d.replicas)))
+
+put-quiet : (d : Above) (bs : Blobs) (digest bytes : List ℕ) → Quiet (with_blob_put d bs digest bytes)
+put-quiet d bs digest bytes = unless-quiet _ TooLarge _ refl (unless-quiet _ WrongDigest _ refl (unless-quiet _ Repeated _ refl (nothing_said _)))
+
+blob-quiet : (d : Above) (o : Option Blobs) (t : List ℕ) → Quiet (with_blob d o t)
+blob-quiet d None t = another_said BadLine refl
+blob-quiet d (Some bs) t =
+    unless-quiet _ BadLine _ refl (then-quiet (digest_field (before_first is_space t)) _ (digest-quiet (before_first is_space t)) (λ digest.
+    then-quiet (bytes_field (after_first is_space t)) _ (bytes-quiet (after_first is_space t)) (λ bytes. put-quiet d bs digest bytes)))
+
+fields-quiet : (d : Above) (s : Section) (f t : List ℕ) → Quiet (with_fields d s f t)
+fields-quiet d section.Nothing f t = another_said BadLine refl
+fields-quiet d section.Replica f t = file-quiet d d.blobs f t
 fields-quiet d (section.HalfArchive q) f t = another_said BadLine refl
 fields-quiet d section.Archive f t =
     then-quiet (digest_field f) _ (digest-quiet f) (λ digest. then-quiet (path_field t) _ (path-quiet t) (λ p.
     unless-quiet _ TooLarge _ refl (mark-quiet d p (mark.File digest) d.archives)))
 
 form-quiet : (d : Above) (f : Form) (t : List ℕ) → Quiet (with_line d f t)
+form-quiet d form.Blob t = blob-quiet d d.blobs t
 form-quiet d form.Replica t = then-quiet (root_field t) _ (root-quiet t) (λ r. unless-quiet _ Repeated _ refl (nothing_said _))
 form-quiet d form.Archive t = then-quiet (root_field t) _ (root-quiet t) (λ r. nothing_said _)
 form-quiet d form.With t = then-quiet (root_field t) _ (root-quiet t) (λ r. other-quiet d d.section r)
@@ -101,7 +129,7 @@ line_of-quiet d None = another_said BadLine refl
 line_of-quiet d (Some l) = unless-quiet _ BadLine _ refl (form-quiet d l.form l.rest)
 
 numbered-quiet : (n : ℕ) (d : Above) (l : List ℕ) → Quiet (numbered_reading n d l)
-numbered-quiet n d l = cond-quiet _ _ _ (unless-quiet _ BadHeader _ refl (nothing_said _)) (cond-quiet (is_utf8 l) _ _ (line_of-quiet d (line_of l)) (another_said BadLine refl))
+numbered-quiet n d l = cond-quiet _ _ _ (cond-quiet _ _ _ (nothing_said _) (unless-quiet _ BadHeader _ refl (nothing_said _))) (cond-quiet (is_utf8 l) _ _ (line_of-quiet d (line_of l)) (another_said BadLine refl))
 
 at-quiet : {T : Type 0} (n : ℕ) (r : Result T Fault) → Quiet r → reports is_unread (fault_at n r) ≡ false
 at-quiet n (Ok x) h = refl

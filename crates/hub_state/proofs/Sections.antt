@@ -10,7 +10,8 @@ use Rattle.std.specs.declared.cmp.Ordering.{Ordering}
 use Rattle.std.specs.declared.cmp.Ordering.TheVariants.{Less}
 use Rattle.hex.specs.Hex.{IsBytes, encode_lower}
 use lib.Utf8.{encode}
-use Rattle.hub_path.specs.Path.{Name, Path, path_cmp, path_eq, is_path, is_place, parent, last_name}
+use Rattle.sha2.specs.Sha256.{sha256}
+use Rattle.hub_path.specs.Path.{Name, Path, name_cmp, path_cmp, path_eq, is_path, is_place, parent, last_name}
 use Rattle.hub_path.specs.Reading.{names_fault}
 use Rattle.hub_path.specs.Laws.{path_cmp-over, path_cmp-total, is_over-parent, parent-last_name}
 use Rattle.hub_tree.specs.Tree.{Replica, Archive, IsTree, IsArchive, HasPaths, contents_at, is_directory, is_absent}
@@ -21,15 +22,18 @@ use Rattle.hub_tree.specs.declared.contents.Mark.TheVariants as mark
 use Rattle.hub_state.specs.declared.TheConstants.{ENTRIES, FILE_BYTES}
 use Rattle.hub_state.specs.declared.form.Section.{Section}
 use Rattle.hub_state.specs.declared.form.Section.TheVariants as section
+use Rattle.hub_state.specs.declared.form.Version.{Version}
+use Rattle.hub_state.specs.declared.form.Version.TheVariants.{One, Two}
 use Rattle.hub_state.specs.State.{Text, root_text, pair_of}
 use Rattle.hub_state.specs.Writing.{path_bytes, dir_line, file_line, hex_field, contents_lines, mark_lines}
-use Rattle.hub_state.specs.Reading.{line_reading, is_half, has_directory, is_directory_among}
+use Rattle.hub_state.specs.Reading.{Blobs, line_reading, is_half, has_directory, is_directory_among}
 use Rattle.std.proofs.lemmas.Bool.{or_right}
 use Rattle.hub_state.proofs.Lines.{digits-in_line}
+use Rattle.hub_state.proofs.Digests.{IsDigest-sha256}
 use Rattle.hub_state.proofs.Fields.{path-in_line, IsUtf8-root, root_field-written, hex-in_line}
 use Rattle.hub_path.specs.ReadBack.{path-place}
 use Rattle.hub_state.proofs.Kept.{back, onto, next_is_new, next_is_there, find-before}
-use Rattle.hub_state.proofs.Written.{Reads, Reads-none, Reads-append, Reads-line, above, word_utf8, word_in_line, fields_in_line, dir_reads, file_reads, old_dir_reads, old_file_reads}
+use Rattle.hub_state.proofs.Written.{Reads, Reads-none, Reads-append, Reads-line, above, word_utf8, word_in_line, fields_in_line, dir_reads, file_reads, named_reads, old_dir_reads, old_file_reads}
 
 -- What the entries of a replica and of an archive must be.
 pub record IsWritable (m : Replica) : Type 0 where
@@ -74,6 +78,15 @@ parents m tree acc (n ∷ q) c es e path there k =
     directory_before m acc d shown
     (fin.get-entries m d ∙ ap (find path_cmp d) (sym e) ∙ find-before path_cmp-total acc (n ∷ q, c) es d (sorted_back m _ e) (parent_before n q))
 
+-- What the files of a replica are written as, and read by.
+abbrev pub version_in : Option Blobs → Version
+version_in None = One
+version_in (Some xs) = Two
+
+abbrev pub HasBlobs : Option Blobs → Replica → Type 0
+HasBlobs None m = Unit {0}
+HasBlobs (Some xs) m = (p : Path) (bytes : List ℕ) → fin.get m p ≡ Some (contents.File bytes) → find name_cmp (sha256 bytes) xs ≡ Some bytes
+
 -- An entry of a replica.
 pub there_in : {K X : Type 0} {R : K → K → Ordering} (o : IsTotalOrder R) (m : fin.FinMap R X) (acc : List (K × X)) (e : K × X) (es : List (K × X)) → back acc (e ∷ es) ≡ fin.entries m → fin.get m e.0 ≡ Some e.1
 there_in {R = R} o m acc e es s = fin.get-entries m e.0 ∙ ap (find R e.0) (sym s) ∙ next_is_there o acc e es (sorted_back m _ s)
@@ -81,69 +94,78 @@ there_in {R = R} o m acc e es s = fin.get-entries m e.0 ∙ ap (find R e.0) (sym
 pub new_in : {K X : Type 0} {R : K → K → Ordering} (o : IsTotalOrder R) (m : fin.FinMap R X) (acc : List (K × X)) (e : K × X) (es : List (K × X)) → back acc (e ∷ es) ≡ fin.entries m → find R e.0 acc ≡ None
 new_in o m acc e es s = next_is_new o acc e es (sorted_back m _ s)
 
-entry_reads : (m : Replica) → IsWritable m → (rs : List (Text × List (Path × Contents))) (ks : List (List Text × List (Path × Mark))) (n : ℕ) (t : Text) (acc : List (Path × Contents)) (p : Path) (c : Contents) (es : List (Path × Contents))
+entry_reads : (m : Replica) → IsWritable m → (bs : Option Blobs) → HasBlobs bs m → (rs : List (Text × List (Path × Contents))) (ks : List (List Text × List (Path × Mark))) (n : ℕ) (t : Text) (acc : List (Path × Contents)) (p : Path) (c : Contents) (es : List (Path × Contents))
     → back acc ((p, c) ∷ es) ≡ fin.entries m → n < ENTRIES
-    → Reads (above ((t, acc) ∷ rs) ks section.Replica n) (contents_lines (p, c)) (above ((t, (p, c) ∷ acc) ∷ rs) ks section.Replica (n + 1))
-entry_reads m w rs ks n t acc p (contents.File bytes) es e room =
+    → Reads (above bs ((t, acc) ∷ rs) ks section.Replica n) (contents_lines (version_in bs) (p, c)) (above bs ((t, (p, c) ∷ acc) ∷ rs) ks section.Replica (n + 1))
+entry_reads m w None blobs rs ks n t acc p (contents.File bytes) es e room =
     let c : Contents = contents.File bytes in
     let there : fin.get m p ≡ Some c = there_in path_cmp-total m acc (p, c) es e in
     let path : is_path p ≡ true = w.paths p (ap is_some there) in
     Reads-line _ _ (file_line (hex_field bytes) p) (fields_in_line (hex_field bytes) _ (hex-in_line bytes) (path-in_line p (path-place p path)))
     (file_reads rs ks n t acc p bytes path (w.names p (ap is_some there)) (w.bytes p bytes there) (w.short p bytes there) room (new_in path_cmp-total m acc (p, c) es e)
     (parents m w.tree acc p c es e path there refl))
-entry_reads m w rs ks n t acc p contents.Directory es e room =
+entry_reads m w (Some xs) blobs rs ks n t acc p (contents.File bytes) es e room =
+    let c : Contents = contents.File bytes in
+    let digest : List ℕ = sha256 bytes in
+    let there : fin.get m p ≡ Some c = there_in path_cmp-total m acc (p, c) es e in
+    let path : is_path p ≡ true = w.paths p (ap is_some there) in
+    let fit = IsDigest-sha256 bytes in
+    Reads-line _ _ (file_line (encode_lower digest) p) (fields_in_line (encode_lower digest) _ (digits-in_line digest) (path-in_line p (path-place p path)))
+    (named_reads xs rs ks n t acc p digest bytes path (w.names p (ap is_some there)) fit.0 fit.1 (blobs p bytes there) room (new_in path_cmp-total m acc (p, c) es e)
+    (parents m w.tree acc p c es e path there refl))
+entry_reads m w bs blobs rs ks n t acc p contents.Directory es e room =
     let there : fin.get m p ≡ Some contents.Directory = there_in path_cmp-total m acc (p, contents.Directory) es e in
     let path : is_path p ≡ true = w.paths p (ap is_some there) in
     Reads-line _ _ (dir_line p) (word_in_line (codes "dir ") (path_bytes p) refl (path-in_line p (path-place p path)))
-    (dir_reads rs ks n t acc p path (w.names p (ap is_some there)) room (new_in path_cmp-total m acc (p, contents.Directory) es e)
+    (dir_reads bs rs ks n t acc p path (w.names p (ap is_some there)) room (new_in path_cmp-total m acc (p, contents.Directory) es e)
     (parents m w.tree acc p contents.Directory es e path there refl))
-entry_reads m w rs ks n t acc p contents.Absent es e room = absurd (w.tree.present p (there_in path_cmp-total m acc (p, contents.Absent) es e))
+entry_reads m w bs blobs rs ks n t acc p contents.Absent es e room = absurd (w.tree.present p (there_in path_cmp-total m acc (p, contents.Absent) es e))
 
 -- The entries of a replica from one on.
 one_later : (n k : ℕ) → n + 1 + k ≡ n + suc k
 one_later n k = omega arith
 
-pub entries_read : (m : Replica) → IsWritable m → (rs : List (Text × List (Path × Contents))) (ks : List (List Text × List (Path × Mark))) (t : Text) (es acc : List (Path × Contents)) (n : ℕ)
+pub entries_read : (m : Replica) → IsWritable m → (bs : Option Blobs) → HasBlobs bs m → (rs : List (Text × List (Path × Contents))) (ks : List (List Text × List (Path × Mark))) (t : Text) (es acc : List (Path × Contents)) (n : ℕ)
     → back acc es ≡ fin.entries m → n + length es ≤ ENTRIES
-    → Reads (above ((t, acc) ∷ rs) ks section.Replica n) (flat_map contents_lines es) (above ((t, onto acc es) ∷ rs) ks section.Replica (n + length es))
-entries_read m w rs ks t [] acc n e room =
+    → Reads (above bs ((t, acc) ∷ rs) ks section.Replica n) (flat_map (contents_lines (version_in bs)) es) (above bs ((t, onto acc es) ∷ rs) ks section.Replica (n + length es))
+entries_read m w bs blobs rs ks t [] acc n e room =
     let same : n ≡ n + 0 = omega arith in
-    subst (λ (k : ℕ). Reads (above ((t, acc) ∷ rs) ks section.Replica n) [] (above ((t, acc) ∷ rs) ks section.Replica k)) same (Reads-none _)
-entries_read m w rs ks t ((p, c) ∷ es) acc n e room =
-    let one = entry_reads m w rs ks n t acc p c es e (omega arith) in
-    let more = entries_read m w rs ks t es ((p, c) ∷ acc) (n + 1) e (omega arith) in
-    let all = Reads-append (above ((t, acc) ∷ rs) ks section.Replica n) (above ((t, (p, c) ∷ acc) ∷ rs) ks section.Replica (n + 1)) _ (contents_lines (p, c)) (flat_map contents_lines es) one more in
-    subst (λ (k : ℕ). Reads (above ((t, acc) ∷ rs) ks section.Replica n) (contents_lines (p, c) ++ flat_map contents_lines es) (above ((t, onto ((p, c) ∷ acc) es) ∷ rs) ks section.Replica k)) (one_later n (length es)) all
+    subst (λ (k : ℕ). Reads (above bs ((t, acc) ∷ rs) ks section.Replica n) [] (above bs ((t, acc) ∷ rs) ks section.Replica k)) same (Reads-none _)
+entries_read m w bs blobs rs ks t ((p, c) ∷ es) acc n e room =
+    let one = entry_reads m w bs blobs rs ks n t acc p c es e (omega arith) in
+    let more = entries_read m w bs blobs rs ks t es ((p, c) ∷ acc) (n + 1) e (omega arith) in
+    let all = Reads-append (above bs ((t, acc) ∷ rs) ks section.Replica n) (above bs ((t, (p, c) ∷ acc) ∷ rs) ks section.Replica (n + 1)) _ (contents_lines (version_in bs) (p, c)) (flat_map (contents_lines (version_in bs)) es) one more in
+    subst (λ (k : ℕ). Reads (above bs ((t, acc) ∷ rs) ks section.Replica n) (contents_lines (version_in bs) (p, c) ++ flat_map (contents_lines (version_in bs)) es) (above bs ((t, onto ((p, c) ∷ acc) es) ∷ rs) ks section.Replica k)) (one_later n (length es)) all
 
 -- The same of an archive.
-old_entry_reads : (a : Archive) → IsOldWritable a → (rs : List (Text × List (Path × Contents))) (ks : List (List Text × List (Path × Mark))) (n : ℕ) (k : List Text) (acc : List (Path × Mark)) (p : Path) (c : Mark) (es : List (Path × Mark))
+old_entry_reads : (a : Archive) → IsOldWritable a → (bs : Option Blobs) (rs : List (Text × List (Path × Contents))) (ks : List (List Text × List (Path × Mark))) (n : ℕ) (k : List Text) (acc : List (Path × Mark)) (p : Path) (c : Mark) (es : List (Path × Mark))
     → back acc ((p, c) ∷ es) ≡ fin.entries a → n < ENTRIES
-    → Reads (above rs ((k, acc) ∷ ks) section.Archive n) (mark_lines (p, c)) (above rs ((k, (p, c) ∷ acc) ∷ ks) section.Archive (n + 1))
-old_entry_reads a w rs ks n k acc p (mark.File digest) es e room =
+    → Reads (above bs rs ((k, acc) ∷ ks) section.Archive n) (mark_lines (p, c)) (above bs rs ((k, (p, c) ∷ acc) ∷ ks) section.Archive (n + 1))
+old_entry_reads a w bs rs ks n k acc p (mark.File digest) es e room =
     let c : Mark = mark.File digest in
     let there : fin.get a p ≡ Some c = there_in path_cmp-total a acc (p, c) es e in
     let path : is_path p ≡ true = w.paths p (ap is_some there) in
     let fit = w.digests p digest there in
     Reads-line _ _ (file_line (encode_lower digest) p) (fields_in_line (encode_lower digest) _ (digits-in_line digest) (path-in_line p (path-place p path)))
-    (old_file_reads rs ks n k acc p digest path (w.names p (ap is_some there)) fit.0 fit.1 room (new_in path_cmp-total a acc (p, c) es e))
-old_entry_reads a w rs ks n k acc p mark.Directory es e room =
+    (old_file_reads bs rs ks n k acc p digest path (w.names p (ap is_some there)) fit.0 fit.1 room (new_in path_cmp-total a acc (p, c) es e))
+old_entry_reads a w bs rs ks n k acc p mark.Directory es e room =
     let there : fin.get a p ≡ Some mark.Directory = there_in path_cmp-total a acc (p, mark.Directory) es e in
     let path : is_path p ≡ true = w.paths p (ap is_some there) in
     Reads-line _ _ (dir_line p) (word_in_line (codes "dir ") (path_bytes p) refl (path-in_line p (path-place p path)))
-    (old_dir_reads rs ks n k acc p path (w.names p (ap is_some there)) room (new_in path_cmp-total a acc (p, mark.Directory) es e))
-old_entry_reads a w rs ks n k acc p mark.Absent es e room = absurd (w.marks.present p (there_in path_cmp-total a acc (p, mark.Absent) es e))
+    (old_dir_reads bs rs ks n k acc p path (w.names p (ap is_some there)) room (new_in path_cmp-total a acc (p, mark.Directory) es e))
+old_entry_reads a w bs rs ks n k acc p mark.Absent es e room = absurd (w.marks.present p (there_in path_cmp-total a acc (p, mark.Absent) es e))
 
-pub old_entries_read : (a : Archive) → IsOldWritable a → (rs : List (Text × List (Path × Contents))) (ks : List (List Text × List (Path × Mark))) (k : List Text) (es acc : List (Path × Mark)) (n : ℕ)
+pub old_entries_read : (a : Archive) → IsOldWritable a → (bs : Option Blobs) (rs : List (Text × List (Path × Contents))) (ks : List (List Text × List (Path × Mark))) (k : List Text) (es acc : List (Path × Mark)) (n : ℕ)
     → back acc es ≡ fin.entries a → n + length es ≤ ENTRIES
-    → Reads (above rs ((k, acc) ∷ ks) section.Archive n) (flat_map mark_lines es) (above rs ((k, onto acc es) ∷ ks) section.Archive (n + length es))
-old_entries_read a w rs ks k [] acc n e room =
+    → Reads (above bs rs ((k, acc) ∷ ks) section.Archive n) (flat_map mark_lines es) (above bs rs ((k, onto acc es) ∷ ks) section.Archive (n + length es))
+old_entries_read a w bs rs ks k [] acc n e room =
     let same : n ≡ n + 0 = omega arith in
-    subst (λ (j : ℕ). Reads (above rs ((k, acc) ∷ ks) section.Archive n) [] (above rs ((k, acc) ∷ ks) section.Archive j)) same (Reads-none _)
-old_entries_read a w rs ks k ((p, c) ∷ es) acc n e room =
-    let one = old_entry_reads a w rs ks n k acc p c es e (omega arith) in
-    let more = old_entries_read a w rs ks k es ((p, c) ∷ acc) (n + 1) e (omega arith) in
-    let all = Reads-append (above rs ((k, acc) ∷ ks) section.Archive n) (above rs ((k, (p, c) ∷ acc) ∷ ks) section.Archive (n + 1)) _ (mark_lines (p, c)) (flat_map mark_lines es) one more in
-    subst (λ (j : ℕ). Reads (above rs ((k, acc) ∷ ks) section.Archive n) (mark_lines (p, c) ++ flat_map mark_lines es) (above rs ((k, onto ((p, c) ∷ acc) es) ∷ ks) section.Archive j)) (one_later n (length es)) all
+    subst (λ (j : ℕ). Reads (above bs rs ((k, acc) ∷ ks) section.Archive n) [] (above bs rs ((k, acc) ∷ ks) section.Archive j)) same (Reads-none _)
+old_entries_read a w bs rs ks k ((p, c) ∷ es) acc n e room =
+    let one = old_entry_reads a w bs rs ks n k acc p c es e (omega arith) in
+    let more = old_entries_read a w bs rs ks k es ((p, c) ∷ acc) (n + 1) e (omega arith) in
+    let all = Reads-append (above bs rs ((k, acc) ∷ ks) section.Archive n) (above bs rs ((k, (p, c) ∷ acc) ∷ ks) section.Archive (n + 1)) _ (mark_lines (p, c)) (flat_map mark_lines es) one more in
+    subst (λ (j : ℕ). Reads (above bs rs ((k, acc) ∷ ks) section.Archive n) (mark_lines (p, c) ++ flat_map mark_lines es) (above bs rs ((k, onto ((p, c) ∷ acc) es) ∷ ks) section.Archive j)) (one_later n (length es)) all
 
 -- A section begins.
 replica_word : is_utf8 (codes "replica ") ≡ true
@@ -158,19 +180,19 @@ with_word : is_utf8 (codes "with ") ≡ true
 unfolding is_utf8 chars encode
 with_word = refl
 
-pub replica_begins : (rs : List (Text × List (Path × Contents))) (ks : List (List Text × List (Path × Mark))) (s : Section) (n : ℕ) (r : Path) → is_place r ≡ true → names_fault 0 r ≡ None → is_half s ≡ false
+pub replica_begins : (bs : Option Blobs) (rs : List (Text × List (Path × Contents))) (ks : List (List Text × List (Path × Mark))) (s : Section) (n : ℕ) (r : Path) → is_place r ≡ true → names_fault 0 r ≡ None → is_half s ≡ false
     → list_any (λ e. bytes_eq e.0 (root_text r)) rs ≡ false
-    → line_reading (above rs ks s n) (codes "replica " ++ root_text r) ≡ Ok (above ((root_text r, []) ∷ rs) ks section.Replica n)
-replica_begins rs ks s n r place ok whole new =
+    → line_reading (above bs rs ks s n) (codes "replica " ++ root_text r) ≡ Ok (above bs ((root_text r, []) ∷ rs) ks section.Replica n)
+replica_begins bs rs ks s n r place ok whole new =
     rw (word_utf8 (codes "replica ") replica_word (root_text r) (IsUtf8-root r place), whole, root_field-written r place ok, new) refl
 
-pub archive_begins : (rs : List (Text × List (Path × Contents))) (ks : List (List Text × List (Path × Mark))) (s : Section) (n : ℕ) (r : Path) → is_place r ≡ true → names_fault 0 r ≡ None → is_half s ≡ false
-    → line_reading (above rs ks s n) (codes "archive " ++ root_text r) ≡ Ok (above rs ks (section.HalfArchive r) n)
-archive_begins rs ks s n r place ok whole =
+pub archive_begins : (bs : Option Blobs) (rs : List (Text × List (Path × Contents))) (ks : List (List Text × List (Path × Mark))) (s : Section) (n : ℕ) (r : Path) → is_place r ≡ true → names_fault 0 r ≡ None → is_half s ≡ false
+    → line_reading (above bs rs ks s n) (codes "archive " ++ root_text r) ≡ Ok (above bs rs ks (section.HalfArchive r) n)
+archive_begins bs rs ks s n r place ok whole =
     rw (word_utf8 (codes "archive ") archive_word (root_text r) (IsUtf8-root r place), whole, root_field-written r place ok) refl
 
-pub with_reads : (rs : List (Text × List (Path × Contents))) (ks : List (List Text × List (Path × Mark))) (n : ℕ) (r s : Path) → is_place s ≡ true → names_fault 0 s ≡ None → path_eq r s ≡ false
+pub with_reads : (bs : Option Blobs) (rs : List (Text × List (Path × Contents))) (ks : List (List Text × List (Path × Mark))) (n : ℕ) (r s : Path) → is_place s ≡ true → names_fault 0 s ≡ None → path_eq r s ≡ false
     → list_any (λ e. path_eq e.0 (pair_of r s)) ks ≡ false
-    → line_reading (above rs ks (section.HalfArchive r) n) (codes "with " ++ root_text s) ≡ Ok (above rs ((pair_of r s, []) ∷ ks) section.Archive n)
-with_reads rs ks n r s place ok other new =
+    → line_reading (above bs rs ks (section.HalfArchive r) n) (codes "with " ++ root_text s) ≡ Ok (above bs rs ((pair_of r s, []) ∷ ks) section.Archive n)
+with_reads bs rs ks n r s place ok other new =
     rw (word_utf8 (codes "with ") with_word (root_text s) (IsUtf8-root s place), root_field-written s place ok, other, new) refl

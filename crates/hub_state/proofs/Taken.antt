@@ -1,23 +1,38 @@
 -- The lines of a text, taken one after the other.
-use Rattle.std.proofs.Common.{◌≡◌, ◌⊎◌, inl, inr, ℕ, ◌==◌, Bool, true, false, not, ◌&&◌, cond, List, refl, sym, ap, ◌∙◌}
-use Rattle.std.specs.Prelude.{Result, Ok, Err, IfOk, IfErr, bytes_eq}
+use Rattle.std.proofs.Common.{◌≡◌, ◌⊎◌, inl, inr, ℕ, ◌==◌, Bool, true, false, not, ◌&&◌, cond, List, [], refl, sym, ap, ◌∙◌}
+use Rattle.std.specs.Prelude.{Result, Ok, Err, Some, IfOk, IfErr, bytes_eq}
+use Rattle.std.specs.FinMap as fin
+use Rattle.hub_path.specs.Path.{name_cmp}
 use Rattle.hub_text.specs.declared.line.Line.{Line}
 use Rattle.hub_state.specs.declared.fault.Fault.{Fault}
-use Rattle.hub_state.specs.declared.fault.Fault.TheVariants.{BadHeader, BadLine, BadPath, BadHex, NoParent, Repeated, TooLarge, Truncated, ReadFailed, WriteFailed, TurnsSpent, OutOfMemory}
+use Rattle.hub_state.specs.declared.fault.Fault.TheVariants.{BadHeader, BadLine, BadPath, BadHex, NoParent, Repeated, TooLarge, Truncated, ReadFailed, WriteFailed, TurnsSpent, OutOfMemory, UnknownBlob, WrongDigest}
 use Rattle.hub_state.specs.declared.fault.StateFault.{StateFault}
 use Rattle.hub_state.specs.declared.draft.Draft.{Draft}
+use Rattle.hub_state.specs.declared.form.Version.TheVariants.{One, Two}
 use Rattle.hub_state.specs.State.{State}
 use Rattle.hub_state.specs.Writing.{header, end_line}
-use Rattle.hub_state.specs.Reading.{Above, line_reading, unless, is_truncated, numbered_reading}
-use Rattle.hub_state.specs.Taking.{is_memory, placed, numbered_taken, line_taken}
+use Rattle.hub_state.specs.Reading.{Above, line_reading, unless, is_truncated, header_reading, numbered_reading}
+use Rattle.hub_state.specs.Taking.{is_memory, placed, header_taken, numbered_taken, line_taken}
 use Rattle.hub_state.specs.Devices.{reports}
-use Rattle.hub_state.proofs.Drafts.{Holds, Same, same-unless, ended_is, line_same}
+use Rattle.hub_state.proofs.Drafts.{Holds, Same, same-unless, holds_other_blobs, ended_is, line_same}
+
+-- The header names the version for both.
+header_same : (d : Above) (a : Draft) → Holds d a → (l : List ℕ) → Same (header_reading d l) (header_taken a l)
+header_same d a h l = by (bytes_eq l (header One))
+  where
+    by : (b : Bool)
+        → Same (cond b (Ok d) (unless (not (bytes_eq l (header Two))) BadHeader (Ok (record d { blobs = Some [] }))))
+        (cond b (Ok a) (unless (not (bytes_eq l (header Two))) BadHeader (Ok (record a { blobs = Some fin.empty }))))
+    by true = record { same = h }
+    by false =
+        same-unless (not (bytes_eq l (header Two))) (not (bytes_eq l (header Two))) BadHeader (Ok (record d { blobs = Some [] })) (Ok (record a { blobs = Some fin.empty })) refl
+        (record { same = (holds_other_blobs d a.state a.current a.entries a.ended (Some []) h.0, (refl, fin.len-empty name_cmp (List ℕ))) })
 
 pub numbered_same : (n : ℕ) (d : Above) (a : Draft) → Holds d a → (l : List ℕ) → Same (numbered_reading n d l) (numbered_taken n a l)
 numbered_same n d a h l = by (n == 1)
   where
-    by : (b : Bool) → Same (cond b (unless (not (bytes_eq l header)) BadHeader (Ok d)) (line_reading d l)) (cond b (unless (not (bytes_eq l header)) BadHeader (Ok a)) (line_taken a l))
-    by true = same-unless (not (bytes_eq l header)) (not (bytes_eq l header)) BadHeader (Ok d) (Ok a) refl (record { same = h })
+    by : (b : Bool) → Same (cond b (header_reading d l) (line_reading d l)) (cond b (header_taken a l) (line_taken a l))
+    by true = header_same d a h l
     by false = line_same d a h l
 
 -- The last line.
@@ -40,6 +55,8 @@ memory_or ReadFailed = inr refl
 memory_or WriteFailed = inr refl
 memory_or TurnsSpent = inr refl
 memory_or OutOfMemory = inl refl
+memory_or UnknownBlob = inr refl
+memory_or WrongDigest = inr refl
 
 pub placed_fault : (n : ℕ) (f : Fault) (x : StateFault) (r : Result State StateFault) → x ≡ placed n f → (f ≡ OutOfMemory) ⊎ (r ≡ Err (record { line = n; fault = f }))
     → (x ≡ record { line = 0; fault = OutOfMemory }) ⊎ (r ≡ Err x)

@@ -1,6 +1,6 @@
 -- The lines that are written, read one after the other.
 use Rattle.std.proofs.Common.{◌≡◌, ℕ, ◌+◌, ◌<◌, ◌≤◌, true, false, ◌==◌, List, [], ◌∷◌, ◌++◌, length, refl, sym, ap, ◌∙◌, arith, subst}
-use Rattle.std.specs.Prelude.{codes, None, Result, Ok, Err, nat_le, nat_lt}
+use Rattle.std.specs.Prelude.{codes, Option, Some, None, Result, Ok, Err, bytes_eq, nat_le, nat_lt}
 use Rattle.std.specs.FinMap.Entries.{find}
 use Rattle.std.specs.List.{list_all}
 use Rattle.std.specs.Str.{is_utf8, chars, IsUtf8}
@@ -9,26 +9,27 @@ use Rattle.std.proofs.lemmas.List.Folds.{list_all-append}
 use Rattle.std.proofs.lemmas.Bool.Decides.{nat_tests}
 use Rattle.hex.specs.Hex.{IsBytes, encode_lower}
 use lib.Utf8.{encode}
-use Rattle.hub_path.specs.Path.{Path, path_cmp, is_path, parent}
+use Rattle.sha2.specs.Sha256.{sha256}
+use Rattle.hub_path.specs.Path.{Path, path_cmp, name_cmp, is_path, parent}
 use Rattle.hub_path.specs.Reading.{names_fault}
 use Rattle.hub_tree.specs.declared.contents.Contents.{Contents}
 use Rattle.hub_tree.specs.declared.contents.Contents.TheVariants as contents
 use Rattle.hub_tree.specs.declared.contents.Mark.{Mark}
 use Rattle.hub_tree.specs.declared.contents.Mark.TheVariants as mark
-use Rattle.hub_state.specs.declared.TheConstants.{ENTRIES, FILE_BYTES}
+use Rattle.hub_state.specs.declared.TheConstants.{ENTRIES, BLOBS, FILE_BYTES}
 use Rattle.hub_state.specs.declared.fault.Fault.{Fault}
 use Rattle.hub_state.specs.declared.fault.StateFault.{StateFault}
 use Rattle.hub_state.specs.declared.form.Form.TheVariants as form
 use Rattle.hub_state.specs.declared.form.Section.{Section}
 use Rattle.hub_state.specs.declared.form.Section.TheVariants as section
 use Rattle.hub_state.specs.State.{Text}
-use Rattle.hub_state.specs.Writing.{end_line, dir_line, file_line, path_bytes, hex_field}
-use Rattle.hub_state.specs.Reading.{Above, and_then, line_reading, numbered_reading, lines_reading, then_lines, fault_at, may_stand, has_directory}
+use Rattle.hub_state.specs.Writing.{end_line, dir_line, file_line, blob_line, path_bytes, hex_field}
+use Rattle.hub_state.specs.Reading.{Above, Blobs, and_then, line_reading, numbered_reading, lines_reading, then_lines, fault_at, may_stand, has_directory}
 use Rattle.std.proofs.lemmas.Bool.{and_from}
 use Rattle.hub_state.proofs.Lines.{in_line, all_ended, field_before, field_after, field_ends}
-use Rattle.hub_state.proofs.Fields.{IsUtf8-path, path_field-written, bytes_field-written, digest_field-written, IsUtf8-digits, IsUtf8-hex, hex-in_field}
+use Rattle.hub_state.proofs.Fields.{IsUtf8-path, path_field-written, bytes_field-written, digest_field-written, IsUtf8-digits, IsUtf8-hex, hex-in_line, hex-in_field}
 use Rattle.hub_path.specs.ReadBack.{path-place}
-use Rattle.hub_state.proofs.Lines.{digits-in_field}
+use Rattle.hub_state.proofs.Lines.{digits-in_line, digits-in_field}
 
 -- What is read of some lines.
 abbrev pub lines_from : Above → List (List ℕ) → Result Above Fault
@@ -98,8 +99,8 @@ lines_reading-ended (l ∷ k ∷ ls) n d e h says going place =
     (λ x g. lines_reading-ended (k ∷ ls) (n + 1) x e (omega arith) g going place)
 
 -- What was read within a section.
-abbrev pub above : List (Text × List (Path × Contents)) → List (List Text × List (Path × Mark)) → Section → ℕ → Above
-above rs ks s n = record { replicas = rs; archives = ks; section = s; entries = n; ended = false }
+abbrev pub above : Option Blobs → List (Text × List (Path × Contents)) → List (List Text × List (Path × Mark)) → Section → ℕ → Above
+above bs rs ks s n = record { blobs = bs; replicas = rs; archives = ks; section = s; entries = n; ended = false }
 
 pub word_utf8 : (w : List ℕ) → is_utf8 w ≡ true → (t : List ℕ) → IsUtf8 t → is_utf8 (w ++ t) ≡ true
 word_utf8 w h t u = is_utf8-from_IsUtf8 (w ++ t) (IsUtf8-append w t (IsUtf8-from_is_utf8 w h) u)
@@ -138,15 +139,15 @@ not_long : (n : ℕ) → n ≤ FILE_BYTES → nat_lt FILE_BYTES n ≡ false
 not_long n h = grind (arith, nat_tests)
 
 -- A directory, and a file, of a replica and of an archive.
-pub dir_reads : (rs : List (Text × List (Path × Contents))) (ks : List (List Text × List (Path × Mark))) (n : ℕ) (t : Text) (acc : List (Path × Contents)) (p : Path)
+pub dir_reads : (bs : Option Blobs) (rs : List (Text × List (Path × Contents))) (ks : List (List Text × List (Path × Mark))) (n : ℕ) (t : Text) (acc : List (Path × Contents)) (p : Path)
     → is_path p ≡ true → names_fault 0 p ≡ None → n < ENTRIES → find path_cmp p acc ≡ None → has_directory acc (parent p) ≡ true
-    → line_reading (above ((t, acc) ∷ rs) ks section.Replica n) (dir_line p) ≡ Ok (above ((t, (p, contents.Directory) ∷ acc) ∷ rs) ks section.Replica (n + 1))
-dir_reads rs ks n t acc p path ok room new parents =
+    → line_reading (above bs ((t, acc) ∷ rs) ks section.Replica n) (dir_line p) ≡ Ok (above bs ((t, (p, contents.Directory) ∷ acc) ∷ rs) ks section.Replica (n + 1))
+dir_reads bs rs ks n t acc p path ok room new parents =
     rw (dir_utf8 (path_bytes p) (IsUtf8-path p (path-place p path)), path_field-written p path ok, not_full n room, new, parents) refl
 
 pub file_reads : (rs : List (Text × List (Path × Contents))) (ks : List (List Text × List (Path × Mark))) (n : ℕ) (t : Text) (acc : List (Path × Contents)) (p : Path) (bytes : List ℕ)
     → is_path p ≡ true → names_fault 0 p ≡ None → IsBytes bytes → length bytes ≤ FILE_BYTES → n < ENTRIES → find path_cmp p acc ≡ None → has_directory acc (parent p) ≡ true
-    → line_reading (above ((t, acc) ∷ rs) ks section.Replica n) (file_line (hex_field bytes) p) ≡ Ok (above ((t, (p, contents.File bytes) ∷ acc) ∷ rs) ks section.Replica (n + 1))
+    → line_reading (above None ((t, acc) ∷ rs) ks section.Replica n) (file_line (hex_field bytes) p) ≡ Ok (above None ((t, (p, contents.File bytes) ∷ acc) ∷ rs) ks section.Replica (n + 1))
 file_reads rs ks n t acc p bytes path ok fit short room new parents =
     rw (
       file_utf8 (hex_field bytes ++ 32 ∷ path_bytes p) (fields_utf8 (hex_field bytes) (path_bytes p) (IsUtf8-hex bytes) (IsUtf8-path p (path-place p path))),
@@ -161,16 +162,61 @@ file_reads rs ks n t acc p bytes path ok fit short room new parents =
       parents,
     ) refl
 
-pub old_dir_reads : (rs : List (Text × List (Path × Contents))) (ks : List (List Text × List (Path × Mark))) (n : ℕ) (k : List Text) (acc : List (Path × Mark)) (p : Path)
+pub named_reads : (xs : Blobs) (rs : List (Text × List (Path × Contents))) (ks : List (List Text × List (Path × Mark))) (n : ℕ) (t : Text) (acc : List (Path × Contents)) (p : Path) (digest bytes : List ℕ)
+    → is_path p ≡ true → names_fault 0 p ≡ None → length digest ≡ 32 → IsBytes digest → find name_cmp digest xs ≡ Some bytes → n < ENTRIES → find path_cmp p acc ≡ None → has_directory acc (parent p) ≡ true
+    → line_reading (above (Some xs) ((t, acc) ∷ rs) ks section.Replica n) (file_line (encode_lower digest) p) ≡ Ok (above (Some xs) ((t, (p, contents.File bytes) ∷ acc) ∷ rs) ks section.Replica (n + 1))
+named_reads xs rs ks n t acc p digest bytes path ok long fit found room new parents =
+    rw (
+      file_utf8 (encode_lower digest ++ 32 ∷ path_bytes p) (fields_utf8 (encode_lower digest) (path_bytes p) (IsUtf8-digits digest) (IsUtf8-path p (path-place p path))),
+      field_ends (encode_lower digest) (path_bytes p),
+      field_before (encode_lower digest) (path_bytes p) (digits-in_field digest),
+      field_after (encode_lower digest) (path_bytes p) (digits-in_field digest),
+      digest_field-written digest long fit,
+      path_field-written p path ok,
+      not_full n room,
+      new,
+      found,
+      parents,
+    ) refl
+
+-- A blob.
+blob_word : is_utf8 (codes "blob ") ≡ true
+unfolding is_utf8 chars encode
+blob_word = refl
+
+not_many : (n : ℕ) → n < BLOBS → nat_le BLOBS n ≡ false
+not_many n h = grind (arith, nat_tests)
+
+pub blob_reads : (xs : Blobs) (n : ℕ) (digest bytes : List ℕ) → length digest ≡ 32 → IsBytes digest → bytes_eq (sha256 bytes) digest ≡ true → IsBytes bytes → length bytes ≤ FILE_BYTES → length xs < BLOBS
+    → find name_cmp digest xs ≡ None
+    → line_reading (above (Some xs) [] [] section.Nothing n) (blob_line (digest, bytes)) ≡ Ok (above (Some ((digest, bytes) ∷ xs)) [] [] section.Nothing n)
+blob_reads xs n digest bytes long fit right whole short room new =
+    rw (
+      word_utf8 (codes "blob ") blob_word (encode_lower digest ++ 32 ∷ hex_field bytes) (fields_utf8 (encode_lower digest) (hex_field bytes) (IsUtf8-digits digest) (IsUtf8-hex bytes)),
+      field_ends (encode_lower digest) (hex_field bytes),
+      field_before (encode_lower digest) (hex_field bytes) (digits-in_field digest),
+      field_after (encode_lower digest) (hex_field bytes) (digits-in_field digest),
+      digest_field-written digest long fit,
+      bytes_field-written bytes whole,
+      not_many (length xs) room,
+      not_long (length bytes) short,
+      right,
+      new,
+    ) refl
+
+pub blob_in_line : (digest bytes : List ℕ) → list_all in_line (blob_line (digest, bytes)) ≡ true
+blob_in_line digest bytes = word_in_line (codes "blob ") (encode_lower digest ++ 32 ∷ hex_field bytes) refl (word_in_line (encode_lower digest) (32 ∷ hex_field bytes) (digits-in_line digest) (hex-in_line bytes))
+
+pub old_dir_reads : (bs : Option Blobs) (rs : List (Text × List (Path × Contents))) (ks : List (List Text × List (Path × Mark))) (n : ℕ) (k : List Text) (acc : List (Path × Mark)) (p : Path)
     → is_path p ≡ true → names_fault 0 p ≡ None → n < ENTRIES → find path_cmp p acc ≡ None
-    → line_reading (above rs ((k, acc) ∷ ks) section.Archive n) (dir_line p) ≡ Ok (above rs ((k, (p, mark.Directory) ∷ acc) ∷ ks) section.Archive (n + 1))
-old_dir_reads rs ks n k acc p path ok room new =
+    → line_reading (above bs rs ((k, acc) ∷ ks) section.Archive n) (dir_line p) ≡ Ok (above bs rs ((k, (p, mark.Directory) ∷ acc) ∷ ks) section.Archive (n + 1))
+old_dir_reads bs rs ks n k acc p path ok room new =
     rw (dir_utf8 (path_bytes p) (IsUtf8-path p (path-place p path)), path_field-written p path ok, not_full n room, new) refl
 
-pub old_file_reads : (rs : List (Text × List (Path × Contents))) (ks : List (List Text × List (Path × Mark))) (n : ℕ) (k : List Text) (acc : List (Path × Mark)) (p : Path) (digest : List ℕ)
+pub old_file_reads : (bs : Option Blobs) (rs : List (Text × List (Path × Contents))) (ks : List (List Text × List (Path × Mark))) (n : ℕ) (k : List Text) (acc : List (Path × Mark)) (p : Path) (digest : List ℕ)
     → is_path p ≡ true → names_fault 0 p ≡ None → length digest ≡ 32 → IsBytes digest → n < ENTRIES → find path_cmp p acc ≡ None
-    → line_reading (above rs ((k, acc) ∷ ks) section.Archive n) (file_line (encode_lower digest) p) ≡ Ok (above rs ((k, (p, mark.File digest) ∷ acc) ∷ ks) section.Archive (n + 1))
-old_file_reads rs ks n k acc p digest path ok long fit room new =
+    → line_reading (above bs rs ((k, acc) ∷ ks) section.Archive n) (file_line (encode_lower digest) p) ≡ Ok (above bs rs ((k, (p, mark.File digest) ∷ acc) ∷ ks) section.Archive (n + 1))
+old_file_reads bs rs ks n k acc p digest path ok long fit room new =
     rw (
       file_utf8 (encode_lower digest ++ 32 ∷ path_bytes p) (fields_utf8 (encode_lower digest) (path_bytes p) (IsUtf8-digits digest) (IsUtf8-path p (path-place p path))),
       field_ends (encode_lower digest) (path_bytes p),

@@ -1,3 +1,4 @@
+pub mod Adding
 pub mod Blocks
 pub mod Coded
 pub mod Devices

@@ -1,32 +1,39 @@
--- Which bytes are state texts of version 1, what they say, and the first fault of all others.
+-- Which bytes are state texts, of version 1 or 2, what they say, and the first fault of all others.
 use Rattle.std.specs.Prelude.{ℕ, ◌+◌, Bool, true, false, not, ◌&&◌, ◌||◌, ◌==◌, nat_eq, nat_le, nat_lt, List, [], ◌∷◌, map, drop, length, Option, Some, None, Result, Ok, Err, is_some, if◌then◌else◌, codes, bytes_eq}
 use Rattle.std.specs.List.{list_any, starts_with, before_first, after_first}
 use Rattle.std.specs.Str.{is_utf8, chars}
 use Rattle.std.specs.FinMap as fin
 use Rattle.hex.specs.Hex.{decode_of}
+use Rattle.sha2.specs.Sha256.{sha256}
 use Rattle.hub_text.specs.declared.line.Line.{Line as TextLine}
 use Rattle.hub_text.specs.Lines.{lines_of}
-use Rattle.hub_path.specs.Path.{Path, path_eq, path_cmp, parent}
+use Rattle.hub_path.specs.Path.{Path, path_eq, path_cmp, name_cmp, parent}
 use Rattle.hub_path.specs.Reading.{path_reading, root_reading}
 use Rattle.hub_tree.specs.declared.contents.Contents.{Contents}
 use Rattle.hub_tree.specs.declared.contents.Contents.TheVariants as contents
 use Rattle.hub_tree.specs.declared.contents.Mark.{Mark}
 use Rattle.hub_tree.specs.declared.contents.Mark.TheVariants as mark
 use Rattle.hub_tree.specs.Tree.{is_directory}
-use Rattle.hub_state.specs.declared.TheConstants.{ENTRIES, FILE_BYTES}
+use Rattle.hub_state.specs.declared.TheConstants.{ENTRIES, BLOBS, FILE_BYTES}
 use Rattle.hub_state.specs.declared.fault.Fault.{Fault}
-use Rattle.hub_state.specs.declared.fault.Fault.TheVariants.{BadHeader, BadLine, BadPath, BadHex, NoParent, Repeated, TooLarge, Truncated}
+use Rattle.hub_state.specs.declared.fault.Fault.TheVariants.{BadHeader, BadLine, BadPath, BadHex, NoParent, Repeated, TooLarge, Truncated, UnknownBlob, WrongDigest}
 use Rattle.hub_state.specs.declared.fault.StateFault.{StateFault}
 use Rattle.hub_state.specs.declared.form.Form.{Form}
 use Rattle.hub_state.specs.declared.form.Form.TheVariants as form
 use Rattle.hub_state.specs.declared.form.Section.{Section}
 use Rattle.hub_state.specs.declared.form.Section.TheVariants as section
+use Rattle.hub_state.specs.declared.form.Version.TheVariants.{One, Two}
 use Rattle.hub_state.specs.State.{State, Text, root_text, pair_of}
 use Rattle.hub_state.specs.Writing.{header, end_line}
 
--- What the lines above say: the replicas and the archives, with their entries, the last one first; to which the next
--- entry belongs; how many entries there are; and whether there was an `end`.
+-- Blobs: the digest and the bytes of each, the last one first.
+abbrev pub Blobs : Type 0
+Blobs = List (List ℕ × List ℕ)
+
+-- What the lines above say: the blobs, if the text is of version 2; the replicas and the archives, with their entries, the
+-- last one first; to which the next entry belongs; how many entries there are; and whether there was an `end`.
 pub record Above : Type 0 where
+  pub blobs : Option Blobs
   pub replicas : List (Text × List (Path × Contents))
   pub archives : List (List Text × List (Path × Mark))
   pub section : Section
@@ -34,7 +41,7 @@ pub record Above : Type 0 where
   pub ended : Bool
 
 abbrev pub nothing_above : Above
-nothing_above = record { replicas = []; archives = []; section = section.Nothing; entries = 0; ended = false }
+nothing_above = record { blobs = None; replicas = []; archives = []; section = section.Nothing; entries = 0; ended = false }
 
 -- The state that these lines say.
 abbrev pub state_of : Above → State
@@ -43,11 +50,12 @@ state_of d = record {
   archives = fin.from_entries (map (λ e. (e.0, fin.from_entries e.1)) d.archives);
 }
 
--- The words that begin lines, each with the space after it.
+-- The words that begin lines, each with the space after it: those of lines within a section, and all.
+abbrev pub inner_words : List (List ℕ × Form)
+inner_words = (codes "with ", form.With) ∷ (codes "dir ", form.Dir) ∷ (codes "file ", form.File) ∷ []
+
 abbrev pub words : List (List ℕ × Form)
-words =
-    (codes "replica ", form.Replica) ∷ (codes "archive ", form.Archive) ∷ (codes "with ", form.With) ∷ (codes "dir ", form.Dir)
-    ∷ (codes "file ", form.File) ∷ []
+words = (codes "blob ", form.Blob) ∷ (codes "replica ", form.Replica) ∷ (codes "archive ", form.Archive) ∷ inner_words
 
 pub record Line : Type 0 where
   pub form : Form
@@ -73,8 +81,15 @@ takes_entries section.Replica = true
 takes_entries (section.HalfArchive r) = false
 takes_entries section.Archive = true
 
--- Where a line may stand: `with` right below `archive` and nowhere else, and entries in a section.
+abbrev pub is_start : Section → Bool
+is_start section.Nothing = true
+is_start section.Replica = false
+is_start (section.HalfArchive r) = false
+is_start section.Archive = false
+
+-- Where a line may stand: `blob` above all sections, `with` right below `archive` and nowhere else, and entries in a section.
 abbrev pub may_stand : Section → Form → Bool
+may_stand s form.Blob = is_start s
 may_stand s form.Replica = not (is_half s)
 may_stand s form.Archive = not (is_half s)
 may_stand s form.With = is_half s
@@ -138,13 +153,27 @@ is_directory_among (Some c) = is_directory c
 abbrev pub has_directory : List (Path × Contents) → Path → Bool
 has_directory es p = length p == 0 || is_directory_among (fin.find path_cmp p es)
 
+-- An entry of the replica that began last, at a path that it doesn't have yet.
+abbrev pub with_new_contents : Above → Path → Contents → Text × List (Path × Contents) → List (Text × List (Path × Contents)) → Result Above Fault
+with_new_contents d p c e es =
+    unless (not (has_directory e.1 (parent p))) NoParent
+    (Ok (record d { replicas = (e.0, (p, c) ∷ e.1) ∷ es; entries = d.entries + 1 }))
+
 -- An entry of the replica that began last.
 abbrev pub with_contents_put : Above → Path → Contents → List (Text × List (Path × Contents)) → Result Above Fault
 with_contents_put d p c [] = Err BadLine
-with_contents_put d p c (e ∷ es) =
+with_contents_put d p c (e ∷ es) = unless (is_some (fin.find path_cmp p e.1)) Repeated (with_new_contents d p c e es)
+
+-- A file of the replica that began last, whose bytes are those of a blob.
+abbrev pub blob_found : Option (List ℕ) → Result (List ℕ) Fault
+blob_found None = Err UnknownBlob
+blob_found (Some bytes) = Ok bytes
+
+abbrev pub with_blob_named : Above → Path → Option (List ℕ) → List (Text × List (Path × Contents)) → Result Above Fault
+with_blob_named d p blob [] = Err BadLine
+with_blob_named d p blob (e ∷ es) =
     unless (is_some (fin.find path_cmp p e.1)) Repeated
-    (unless (not (has_directory e.1 (parent p))) NoParent
-    (Ok (record d { replicas = (e.0, (p, c) ∷ e.1) ∷ es; entries = d.entries + 1 })))
+    (and_then (blob_found blob) (λ bytes. with_new_contents d p (contents.File bytes) e es))
 
 -- An entry of the archive that began last; nothing is asked of parents.
 abbrev pub with_mark_put : Above → Path → Mark → List (List Text × List (Path × Mark)) → Result Above Fault
@@ -163,11 +192,14 @@ with_dir d section.Replica p = unless (is_full d) TooLarge (with_contents_put d 
 with_dir d (section.HalfArchive r) p = Err BadLine
 with_dir d section.Archive p = unless (is_full d) TooLarge (with_mark_put d p mark.Directory d.archives)
 
--- `file HEX PATH` in a replica, and `file DIGEST PATH` in an archive.
-abbrev pub with_file : Above → List ℕ → List ℕ → Result Above Fault
-with_file d field t =
+-- `file HEX PATH` in a replica, or `file DIGEST PATH` if the text is of version 2; and `file DIGEST PATH` in an archive.
+abbrev pub with_file : Above → Option Blobs → List ℕ → List ℕ → Result Above Fault
+with_file d None field t =
     and_then (bytes_field field) (λ bytes. and_then (path_field t) (λ p.
     unless (is_full d || nat_lt FILE_BYTES (length bytes)) TooLarge (with_contents_put d p (contents.File bytes) d.replicas)))
+with_file d (Some bs) field t =
+    and_then (digest_field field) (λ digest. and_then (path_field t) (λ p.
+    unless (is_full d) TooLarge (with_blob_named d p (fin.find name_cmp digest bs) d.replicas)))
 
 abbrev pub with_digest : Above → List ℕ → List ℕ → Result Above Fault
 with_digest d field t =
@@ -176,12 +208,29 @@ with_digest d field t =
 
 abbrev pub with_fields : Above → Section → List ℕ → List ℕ → Result Above Fault
 with_fields d section.Nothing field t = Err BadLine
-with_fields d section.Replica field t = with_file d field t
+with_fields d section.Replica field t = with_file d d.blobs field t
 with_fields d (section.HalfArchive r) field t = Err BadLine
 with_fields d section.Archive field t = with_digest d field t
 
+-- `blob DIGEST HEX`, if the text is of version 2.
+abbrev pub with_blob_put : Above → Blobs → List ℕ → List ℕ → Result Above Fault
+with_blob_put d bs digest bytes =
+    unless (nat_le BLOBS (length bs) || nat_lt FILE_BYTES (length bytes)) TooLarge
+    (unless (not (bytes_eq (sha256 bytes) digest)) WrongDigest
+    (unless (is_some (fin.find name_cmp digest bs)) Repeated
+    (Ok (record d { blobs = Some ((digest, bytes) ∷ bs) }))))
+
+abbrev pub with_blob_fields : Above → Blobs → List ℕ → List ℕ → Result Above Fault
+with_blob_fields d bs field t = and_then (digest_field field) (λ digest. and_then (bytes_field t) (λ bytes. with_blob_put d bs digest bytes))
+
+abbrev pub with_blob : Above → Option Blobs → List ℕ → Result Above Fault
+with_blob d None t = Err BadLine
+with_blob d (Some bs) t =
+    unless (not (list_any is_space t)) BadLine (with_blob_fields d bs (before_first is_space t) (after_first is_space t))
+
 -- What a line adds that may stand there.
 abbrev pub with_line : Above → Form → List ℕ → Result Above Fault
+with_line d form.Blob t = with_blob d d.blobs t
 with_line d form.Replica t = and_then (root_field t) (with_replica_begun d)
 with_line d form.Archive t = and_then (root_field t) (λ r. Ok (record d { section = section.HalfArchive r }))
 with_line d form.With t = and_then (root_field t) (with_other_root d d.section)
@@ -198,9 +247,15 @@ with_line_of d (Some l) = unless (d.ended || not (may_stand d.section l.form)) B
 abbrev pub line_reading : Above → List ℕ → Result Above Fault
 line_reading d l = if is_utf8 l then with_line_of d (line_of l) else Err BadLine
 
+-- The header has the version.
+abbrev pub header_reading : Above → List ℕ → Result Above Fault
+header_reading d l =
+    if bytes_eq l (header One) then Ok d
+    else unless (not (bytes_eq l (header Two))) BadHeader (Ok (record d { blobs = Some [] }))
+
 -- The first line is the header.
 abbrev pub numbered_reading : ℕ → Above → List ℕ → Result Above Fault
-numbered_reading n d l = if n == 1 then unless (not (bytes_eq l header)) BadHeader (Ok d) else line_reading d l
+numbered_reading n d l = if n == 1 then header_reading d l else line_reading d l
 
 -- A text is whole if its last line is `end`, or if there is an `end` above and the last line ends with LF.
 abbrev pub is_truncated : Bool → Above → List ℕ → Bool

@@ -3,26 +3,28 @@ use Rattle.std.specs.Prelude.{◌≡◌, ◌≢◌, ◌⊎◌, ℕ, ◌+◌, Boo
 use Rattle.std.specs.List.{list_any, before_first, after_first}
 use Rattle.std.specs.Str.{is_utf8}
 use Rattle.std.specs.FinMap as fin
-use Rattle.hub_path.specs.Path.{Path, path_eq, parent}
+use Rattle.sha2.specs.Sha256.{sha256}
+use Rattle.hub_path.specs.Path.{Path, path_eq, name_cmp, parent}
 use Rattle.hub_tree.specs.declared.contents.Contents.{Contents}
 use Rattle.hub_tree.specs.declared.contents.Contents.TheVariants as contents
 use Rattle.hub_tree.specs.declared.contents.Mark.{Mark}
 use Rattle.hub_tree.specs.declared.contents.Mark.TheVariants as mark
 use Rattle.hub_tree.specs.Tree.{Replica, Archive, is_directory, contents_at}
-use Rattle.hub_state.specs.declared.TheConstants.{ENTRIES, FILE_BYTES}
+use Rattle.hub_state.specs.declared.TheConstants.{ENTRIES, BLOBS, FILE_BYTES}
 use Rattle.hub_state.specs.declared.fault.Fault.{Fault}
-use Rattle.hub_state.specs.declared.fault.Fault.TheVariants.{BadHeader, BadLine, NoParent, Repeated, TooLarge, Truncated, OutOfMemory}
+use Rattle.hub_state.specs.declared.fault.Fault.TheVariants.{BadHeader, BadLine, NoParent, Repeated, TooLarge, Truncated, OutOfMemory, WrongDigest}
 use Rattle.hub_state.specs.declared.fault.StateFault.{StateFault}
 use Rattle.hub_state.specs.declared.form.Form.{Form}
 use Rattle.hub_state.specs.declared.form.Form.TheVariants as form
 use Rattle.hub_state.specs.declared.form.Section.{Section}
 use Rattle.hub_state.specs.declared.form.Section.TheVariants as section
+use Rattle.hub_state.specs.declared.form.Version.TheVariants.{One, Two}
 use Rattle.hub_state.specs.declared.draft.Draft.{Draft}
 use Rattle.hub_state.specs.declared.draft.Open.{Open}
 use Rattle.hub_state.specs.declared.draft.Open.TheVariants as opened
 use Rattle.hub_state.specs.State.{State, replica_at, archive_at, with_replica, with_archive}
 use Rattle.hub_state.specs.Writing.{header, end_line}
-use Rattle.hub_state.specs.Reading.{Line, line_of, may_stand, and_then, unless, root_field, path_field, bytes_field, digest_field, is_space}
+use Rattle.hub_state.specs.Reading.{Line, line_of, may_stand, and_then, unless, root_field, path_field, bytes_field, digest_field, is_space, blob_found}
 
 -- The section that is open.
 abbrev pub section_of : Open → Section
@@ -46,7 +48,7 @@ closed S (opened.HalfArchive r) = S
 closed S (opened.Archive r s a) = with_archive S r s a
 
 abbrev pub nothing_taken : State → Draft
-nothing_taken S = record { state = S; current = opened.Nothing; entries = 0; ended = false }
+nothing_taken S = record { blobs = None; state = S; current = opened.Nothing; entries = 0; ended = false }
 
 abbrev pub shut : Draft → Draft
 shut a = record a { state = closed a.state a.current; current = opened.Nothing }
@@ -70,10 +72,29 @@ other_taken a (opened.Replica r t) s = Err BadLine
 other_taken a (opened.HalfArchive r) s = pair_begun a r s
 other_taken a (opened.Archive r q m) s = Err BadLine
 
--- An entry of a replica, and of an archive.
+-- The blobs of a text by their digests.
+abbrev pub BlobMap : Type 0
+BlobMap = fin.FinMap name_cmp (List ℕ)
+
+abbrev pub blob_put : BlobMap → List ℕ → List ℕ → Result BlobMap Fault
+blob_put m digest bytes =
+    unless (nat_le BLOBS (fin.len m) || nat_lt FILE_BYTES (length bytes)) TooLarge
+    (unless (not (bytes_eq (sha256 bytes) digest)) WrongDigest
+    (unless (is_some (fin.get m digest)) Repeated (Ok (fin.insert m digest bytes))))
+
+abbrev pub blob_fields_put : BlobMap → List ℕ → List ℕ → Result BlobMap Fault
+blob_fields_put m field text = and_then (digest_field field) (λ digest. and_then (bytes_field text) (λ bytes. blob_put m digest bytes))
+
+-- An entry of a replica, at a path that it doesn't have yet and at any path; a file of a blob; and an entry of an archive.
+abbrev pub new_contents_put : Replica → Path → Contents → Result Replica Fault
+new_contents_put m p c = unless (not (is_directory (contents_at m (parent p)))) NoParent (Ok (fin.insert m p c))
+
 abbrev pub contents_put : Replica → Path → Contents → Result Replica Fault
-contents_put m p c =
-    unless (is_some (fin.get m p)) Repeated (unless (not (is_directory (contents_at m (parent p)))) NoParent (Ok (fin.insert m p c)))
+contents_put m p c = unless (is_some (fin.get m p)) Repeated (new_contents_put m p c)
+
+abbrev pub blob_named_put : Replica → Path → Option (List ℕ) → Result Replica Fault
+blob_named_put m p blob =
+    unless (is_some (fin.get m p)) Repeated (and_then (blob_found blob) (λ bytes. new_contents_put m p (contents.File bytes)))
 
 abbrev pub mark_put : Archive → Path → Mark → Result Archive Fault
 mark_put a p m = unless (is_some (fin.get a p)) Repeated (Ok (fin.insert a p m))
@@ -84,14 +105,32 @@ dir_put n t p = unless (nat_le ENTRIES n) TooLarge (contents_put t p contents.Di
 abbrev pub old_dir_put : ℕ → Archive → Path → Result Archive Fault
 old_dir_put n m p = unless (nat_le ENTRIES n) TooLarge (mark_put m p mark.Directory)
 
-abbrev pub file_put : ℕ → Replica → List ℕ → List ℕ → Result Replica Fault
-file_put n t field text =
+abbrev pub bytes_put : ℕ → Replica → List ℕ → List ℕ → Result Replica Fault
+bytes_put n t field text =
     and_then (bytes_field field) (λ bytes. and_then (path_field text) (λ p.
     unless (nat_le ENTRIES n || nat_lt FILE_BYTES (length bytes)) TooLarge (contents_put t p (contents.File bytes))))
+
+abbrev pub digest_put : BlobMap → ℕ → Replica → List ℕ → List ℕ → Result Replica Fault
+digest_put m n t field text =
+    and_then (digest_field field) (λ digest. and_then (path_field text) (λ p.
+    unless (nat_le ENTRIES n) TooLarge (blob_named_put t p (fin.get m digest))))
+
+abbrev pub file_put : Option BlobMap → ℕ → Replica → List ℕ → List ℕ → Result Replica Fault
+file_put None n t field text = bytes_put n t field text
+file_put (Some m) n t field text = digest_put m n t field text
 
 abbrev pub old_file_put : ℕ → Archive → List ℕ → List ℕ → Result Archive Fault
 old_file_put n m field text =
     and_then (digest_field field) (λ digest. and_then (path_field text) (λ p. unless (nat_le ENTRIES n) TooLarge (mark_put m p (mark.File digest))))
+
+-- The draft with other blobs.
+abbrev pub with_blobs : Draft → Result BlobMap Fault → Result Draft Fault
+with_blobs a x = and_then x (λ m. Ok (record a { blobs = Some m }))
+
+abbrev pub blob_taken : Draft → Option BlobMap → List ℕ → Result Draft Fault
+blob_taken a None t = Err BadLine
+blob_taken a (Some m) t =
+    unless (not (list_any is_space t)) BadLine (with_blobs a (blob_fields_put m (before_first is_space t) (after_first is_space t)))
 
 -- The draft with one more entry.
 abbrev pub with_tree : Draft → Path → Result Replica Fault → Result Draft Fault
@@ -108,7 +147,7 @@ dir_taken a (opened.Archive r s m) p = with_marks a r s (old_dir_put a.entries m
 
 abbrev pub fields_taken : Draft → Open → List ℕ → List ℕ → Result Draft Fault
 fields_taken a opened.Nothing field text = Err BadLine
-fields_taken a (opened.Replica r t) field text = with_tree a r (file_put a.entries t field text)
+fields_taken a (opened.Replica r t) field text = with_tree a r (file_put a.blobs a.entries t field text)
 fields_taken a (opened.HalfArchive r) field text = Err BadLine
 fields_taken a (opened.Archive r s m) field text = with_marks a r s (old_file_put a.entries m field text)
 
@@ -117,6 +156,7 @@ file_taken a t =
     unless (not (list_any is_space t)) BadLine (fields_taken a a.current (before_first is_space t) (after_first is_space t))
 
 abbrev pub form_taken : Draft → Form → List ℕ → Result Draft Fault
+form_taken a form.Blob t = blob_taken a a.blobs t
 form_taken a form.Replica t = and_then (root_field t) (replica_begun a)
 form_taken a form.Archive t = and_then (root_field t) (archive_begun a)
 form_taken a form.With t = and_then (root_field t) (other_taken a a.current)
@@ -131,9 +171,14 @@ line_form_taken a (Some l) = unless (a.ended || not (may_stand (section_of a.cur
 abbrev pub line_taken : Draft → List ℕ → Result Draft Fault
 line_taken a l = if is_utf8 l then line_form_taken a (line_of l) else Err BadLine
 
+abbrev pub header_taken : Draft → List ℕ → Result Draft Fault
+header_taken a l =
+    if bytes_eq l (header One) then Ok a
+    else unless (not (bytes_eq l (header Two))) BadHeader (Ok (record a { blobs = Some fin.empty }))
+
 -- The first line is the header.
 abbrev pub numbered_taken : ℕ → Draft → List ℕ → Result Draft Fault
-numbered_taken n a l = if n == 1 then unless (not (bytes_eq l header)) BadHeader (Ok a) else line_taken a l
+numbered_taken n a l = if n == 1 then header_taken a l else line_taken a l
 
 -- The last line, and the state then.
 abbrev pub last_taken : ℕ → Draft → Bool → List ℕ → Result State Fault

@@ -1,4 +1,5 @@
-ghost use Rattle.std.specs.Prelude.{◌≡◌, ◌⊎◌, ◌<◌, false, Some, Ok, Err, IfErr, IsTrue, OnOk};
+ghost use Rattle.std.specs.Prelude.{◌≡◌, ◌⊎◌, ◌<◌, false, Some, Ok, Err, is_some, IfErr, IsTrue, OnOk};
+ghost use Rattle.std.specs.FinMap as fin;
 ghost use Rattle.hub_path.specs.Path.{is_path};
 ghost use Rattle.hub_tree.specs.Tree.{is_absent, kept};
 ghost use Rattle.hub_state.specs.Reading.{and_then, may_stand, path_field, root_field};
@@ -6,11 +7,12 @@ ghost use Rattle.hub_state.specs.State as spec;
 ghost use Rattle.hub_state.specs.Taking as taking;
 ghost use Rattle.hub_state.specs.Taking.{IsApart};
 
+use crate::blobs::Blobs;
 use crate::fault::Fault;
 use crate::form::Form;
 use crate::line::{bytes_in, digest_in, fields_of, form_of, path_in, root_in};
 use crate::state::State;
-use crate::{ENTRIES, FILE_BYTES};
+use crate::{BLOBS, ENTRIES, FILE_BYTES};
 use hub_path::{RelPath, Root};
 use hub_tree::{Archive, Blob, Contents, Mark, SetFault, Tree};
 use std::alloc::{AllocError, Global};
@@ -33,6 +35,8 @@ pub enum Open {
 /// What the lines above say.
 #[derive(Drop)]
 pub struct Draft {
+    /// The blobs, if the text is of version 2.
+    pub blobs: Option<Blobs>,
     /// The sections that have ended.
     pub state: State,
     /// The section that hasn't.
@@ -49,11 +53,29 @@ impl Draft {
         ensures { result ≡ taking.nothing_taken spec.nothing }
     {
         Draft {
+            blobs: None,
             state: State::new(alloc),
             current: Open::Nothing,
             entries: 0,
             ended: false,
         }
+    }
+
+    /// Takes the header.
+    pub fn take_header(&mut self, alloc: Global, line: &[u8]) -> Result<(), Fault>
+        requires { IsApart self.old.current }
+        ensures ok { OnOk result (taking.header_taken self.old line.now ≡ Ok self.new) }
+        ensures err { IfErr result (λ f. taking.header_taken self.old line.now ≡ Err f) }
+        ensures apart { OnOk result (IsApart self.new.current) }
+    {
+        if line == b"hubsync state 1".as_slice() {
+            return Ok(());
+        }
+        if line != b"hubsync state 2".as_slice() {
+            return Err(Fault::BadHeader);
+        }
+        self.blobs = Some(Blobs::new(alloc));
+        Ok(())
     }
 
     /// Takes a line below the header. After a fault nothing is known of the draft.
@@ -88,6 +110,7 @@ impl Draft {
         ensures apart { OnOk result (IsApart self.new.current) }
     {
         match form {
+            Form::Blob => self.take_blob(alloc, rest),
             Form::Replica => self.begin_replica(alloc, rest),
             Form::Archive => self.begin_archive(alloc, rest),
             Form::With => self.begin_pair(alloc, rest),
@@ -114,6 +137,24 @@ impl Draft {
             Open::HalfArchive(_root) => Ok(()),
             Open::Nothing => Ok(()),
         }
+    }
+
+    /// Takes the blob in two fields, if the text is of version 2.
+    fn take_blob(&mut self, alloc: Global, fields: &str) -> Result<(), Fault>
+        requires { IsApart self.old.current }
+        ensures ok { OnOk result
+            (taking.blob_taken self.old self.old.blobs fields.now ≡ Ok self.new) }
+        ensures err { IfErr result (λ f. (f ≡ Fault.OutOfMemory)
+            ⊎ (taking.blob_taken self.old self.old.blobs fields.now ≡ Err f)) }
+        ensures apart { OnOk result (IsApart self.new.current) }
+    {
+        let Some(blobs) = &mut self.blobs else {
+            return Err(Fault::BadLine);
+        };
+        let Some((field, text)) = fields_of(fields) else {
+            return Err(Fault::BadLine);
+        };
+        put_blob(alloc, blobs, field, text)
     }
 
     /// Begins the replica of the root in a field.
@@ -212,7 +253,7 @@ impl Draft {
         };
         let entries = self.entries;
         match &mut self.current {
-            Open::Replica(_, tree) => put_file(alloc, tree, entries, field, text)?,
+            Open::Replica(_, tree) => put_file(alloc, tree, &self.blobs, entries, field, text)?,
             Open::Archive(_, _, archive) => put_old_file(alloc, archive, entries, field, text)?,
             Open::Nothing => return Err(Fault::BadLine),
             Open::HalfArchive(_) => return Err(Fault::BadLine),
@@ -230,10 +271,32 @@ impl Open {
         match self {
             Open::HalfArchive(_) => form == Form::With,
             Open::Nothing => form != Form::With && form != Form::Dir && form != Form::File,
-            Open::Replica(_, _) => form != Form::With,
-            Open::Archive(_, _, _) => form != Form::With,
+            Open::Replica(_, _) => form != Form::With && form != Form::Blob,
+            Open::Archive(_, _, _) => form != Form::With && form != Form::Blob,
         }
     }
+}
+
+/// Puts the blob in two fields to the others.
+fn put_blob(alloc: Global, blobs: &mut Blobs, field: &str, text: &str) -> Result<(), Fault>
+    ensures ok { OnOk result (taking.blob_fields_put blobs.old field.now text.now ≡ Ok blobs.new) }
+    ensures err { IfErr result (λ f. (f ≡ Fault.OutOfMemory)
+        ⊎ (taking.blob_fields_put blobs.old field.now text.now ≡ Err f)) }
+{
+    let digest = digest_in(field)?;
+    let bytes = bytes_in(alloc, text)?;
+    if blobs.len() >= BLOBS || bytes.len() > FILE_BYTES {
+        return Err(Fault::TooLarge);
+    }
+    let blob = Blob::new(bytes)?;
+    if blob.digest() != digest {
+        return Err(Fault::WrongDigest);
+    }
+    if blobs.get(&digest).is_some() {
+        return Err(Fault::Repeated);
+    }
+    blobs.insert(blob)?;
+    Ok(())
 }
 
 /// Puts a directory into a replica after this many entries.
@@ -250,17 +313,67 @@ fn put_dir(tree: &mut Tree, entries: usize, path: &RelPath) -> Result<(), Fault>
     put_contents(tree, path, Contents::Directory)
 }
 
-/// Puts a file into a replica after this many entries.
+/// Puts a file into a replica after this many entries. In a text of version 2 it names a blob.
 fn put_file(
+    alloc: Global,
+    tree: &mut Tree,
+    blobs: &Option<Blobs>,
+    entries: usize,
+    field: &str,
+    text: &str,
+) -> Result<(), Fault>
+    ensures ok { OnOk result
+        (taking.file_put blobs.now entries tree.old field.now text.now ≡ Ok tree.new) }
+    ensures err { IfErr result (λ f. (f ≡ Fault.OutOfMemory)
+        ⊎ (taking.file_put blobs.now entries tree.old field.now text.now ≡ Err f)) }
+    ensures room { OnOk result (entries < ENTRIES) }
+{
+    match blobs {
+        None => put_bytes(alloc, tree, entries, field, text),
+        Some(blobs) => put_named(alloc, tree, blobs, entries, field, text),
+    }
+}
+
+/// Puts a file that names a blob into a replica after this many entries. It shares the bytes of the blob.
+fn put_named(
+    alloc: Global,
+    tree: &mut Tree,
+    blobs: &Blobs,
+    entries: usize,
+    field: &str,
+    text: &str,
+) -> Result<(), Fault>
+    ensures ok { OnOk result
+        (taking.digest_put blobs.now entries tree.old field.now text.now ≡ Ok tree.new) }
+    ensures err { IfErr result (λ f. (f ≡ Fault.OutOfMemory)
+        ⊎ (taking.digest_put blobs.now entries tree.old field.now text.now ≡ Err f)) }
+    ensures room { OnOk result (entries < ENTRIES) }
+{
+    let digest = digest_in(field)?;
+    let path = path_in(alloc, text)?;
+    if entries >= ENTRIES {
+        return Err(Fault::TooLarge);
+    }
+    if has_entry(tree, &path) {
+        return Err(Fault::Repeated);
+    }
+    let Some(blob) = blobs.get(&digest) else {
+        return Err(Fault::UnknownBlob);
+    };
+    put_new(tree, &path, Contents::File(blob.copy()?))
+}
+
+/// Puts a file with these bytes into a replica after this many entries.
+fn put_bytes(
     alloc: Global,
     tree: &mut Tree,
     entries: usize,
     field: &str,
     text: &str,
 ) -> Result<(), Fault>
-    ensures ok { OnOk result (taking.file_put entries tree.old field.now text.now ≡ Ok tree.new) }
+    ensures ok { OnOk result (taking.bytes_put entries tree.old field.now text.now ≡ Ok tree.new) }
     ensures err { IfErr result (λ f. (f ≡ Fault.OutOfMemory)
-        ⊎ (taking.file_put entries tree.old field.now text.now ≡ Err f)) }
+        ⊎ (taking.bytes_put entries tree.old field.now text.now ≡ Err f)) }
     ensures room { OnOk result (entries < ENTRIES) }
 {
     let bytes = bytes_in(alloc, field)?;
@@ -279,11 +392,34 @@ fn put_contents(tree: &mut Tree, path: &RelPath, contents: Contents) -> Result<(
     ensures err { IfErr result (λ f. (f ≡ Fault.OutOfMemory)
         ⊎ (taking.contents_put tree.old path.now contents ≡ Err f)) }
 {
-    match tree.mark_at(path) {
-        Mark::Absent => {}
-        Mark::File(_) => return Err(Fault::Repeated),
-        Mark::Directory => return Err(Fault::Repeated),
+    if has_entry(tree, path) {
+        return Err(Fault::Repeated);
     }
+    put_new(tree, path, contents)
+}
+
+/// Whether a replica has an entry at the path.
+fn has_entry(tree: &Tree, path: &RelPath) -> bool
+    requires { IsTrue (is_path path.now) }
+    ensures { result ≡ is_some (fin.get tree.now path.now) }
+{
+    match tree.mark_at(path) {
+        Mark::Absent => false,
+        Mark::File(_) => true,
+        Mark::Directory => true,
+    }
+}
+
+/// Puts contents, which are not `Absent`, into a replica that has no entry at the path.
+fn put_new(tree: &mut Tree, path: &RelPath, contents: Contents) -> Result<(), Fault>
+    requires path { IsTrue (is_path path.now) }
+    requires some { is_absent contents ≡ false }
+    requires new { is_some (fin.get tree.old path.now) ≡ false }
+    ensures ok { OnOk result
+        (taking.new_contents_put tree.old path.now contents ≡ Ok tree.new) }
+    ensures err { IfErr result (λ f. (f ≡ Fault.OutOfMemory)
+        ⊎ (taking.new_contents_put tree.old path.now contents ≡ Err f)) }
+{
     match tree.set(path, contents) {
         Ok(()) => Ok(()),
         Err(SetFault::OutOfMemory) => Err(Fault::OutOfMemory),

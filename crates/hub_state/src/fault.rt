@@ -4,7 +4,7 @@ use thiserror::Error;
 /// What is wrong with a state text, or why it can't be read or written.
 #[derive(Clone, Copy, Debug, PartialEq, Eq, Error)]
 pub enum Fault {
-    /// The first line is not the header `hubsync state 1`.
+    /// The first line is not one of the headers `hubsync state 1` and `hubsync state 2`.
     #[error("BadHeader")]
     BadHeader,
     /// The line has none of the forms, or a form that is not allowed there.
@@ -19,10 +19,10 @@ pub enum Fault {
     /// The parent of a replica's entry is not a directory of the lines above.
     #[error("NoParent")]
     NoParent,
-    /// The lines above have the replica, the pair of roots or the path already.
+    /// The lines above have the replica, the pair of roots, the path or the blob already.
     #[error("Repeated")]
     Repeated,
-    /// There are more than `ENTRIES` entries, or a file has more than `FILE_BYTES` bytes.
+    /// There are more than `ENTRIES` entries or `BLOBS` blobs, or a file or a blob has more than `FILE_BYTES` bytes.
     #[error("TooLarge")]
     TooLarge,
     /// The text does not end with `end`, or its last line does not end with LF.
@@ -40,9 +40,15 @@ pub enum Fault {
     /// Out of memory.
     #[error("OutOfMemory")]
     OutOfMemory,
+    /// The lines above have no blob with the digest that a file names.
+    #[error("UnknownBlob")]
+    UnknownBlob,
+    /// The bytes of a blob don't have its digest.
+    #[error("WrongDigest")]
+    WrongDigest,
 }
 
-/// A fault and its line, counted from 1. The line is 0 for the faults `ReadFailed` to `OutOfMemory`.
+/// A fault and its line, counted from 1. The line is 0 for `ReadFailed`, `WriteFailed`, `TurnsSpent` and `OutOfMemory`.
 #[derive(Clone, Copy, Debug, PartialEq, Eq, Error)]
 #[error("line {line}: {fault}")]
 pub struct StateFault {

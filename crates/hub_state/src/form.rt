@@ -1,8 +1,19 @@
 use hub_path::Root;
 
+/// The version of a state text, which its header names.
+#[derive(Clone, Copy, Debug, PartialEq, Eq)]
+pub enum Version {
+    /// `hubsync state 1`: a file of a replica has its bytes.
+    One,
+    /// `hubsync state 2`: blobs stand above the sections, and a file of a replica names one by its digest.
+    Two,
+}
+
 /// The form of a line, by its first word.
 #[derive(Clone, Copy, Debug, PartialEq, Eq)]
 pub enum Form {
+    /// `blob DIGEST HEX`
+    Blob,
     /// `replica ROOT`
     Replica,
     /// `archive ROOT`
@@ -11,7 +22,7 @@ pub enum Form {
     With,
     /// `dir PATH`
     Dir,
-    /// `file HEX PATH`
+    /// `file HEX PATH` or `file DIGEST PATH`
     File,
     /// `end`
     End,

@@ -6,17 +6,23 @@
 //! - [`write_state`] writes the text of a state. What is written of a state within the limits reads back as the same
 //!   state.
 //!
+//! A text has one of two versions. In version 1 each file has its bytes. In version 2 the bytes are in blobs, each of which
+//! stands once, and files name blobs by their digests. Both are read. Version 2 is written, unless two files of one digest
+//! have different bytes.
+//!
 //! Contracts see a state as two finite maps, in the words of `specs/State`. `specs/Reading` says which bytes are a state
 //! text, what they say, and which fault comes first. `specs/Writing` says what the text of a state is.
 //!
 //! A text is read as a fold over its lines. What the lines above say is a draft: the sections that have ended, in a state;
 //! the section that hasn't, beside it; and how many entries there were. So an entry is put where it belongs without a
-//! look-up of its section. `specs/Taking` says what a line adds to a draft, and `proofs/Drafts` that it adds the same to
+//! look-up of its section. Blobs stand in a map by their digests, and a file shares the bytes of its blob, which are hashed
+//! once. `specs/Taking` says what a line adds to a draft, and `proofs/Drafts` that it adds the same to
 //! the lists of entries of `specs/Reading`.
 //!
 //! Only functions that return a `Result` allocate.
 #![tactic(auto)]
 
+mod blobs;
 mod draft;
 mod fault;
 mod form;
@@ -28,7 +34,7 @@ mod unmarked;
 mod writer;
 
 pub use fault::{Fault, StateFault};
-pub use form::{Form, Section};
+pub use form::{Form, Section, Version};
 pub use reader::{READ_TURNS, read_bytes, read_state};
 pub use state::State;
 pub use writer::write_state;
@@ -36,5 +42,8 @@ pub use writer::write_state;
 /// How many entries a state text may have, those of replicas and of archives together.
 pub const ENTRIES: usize = 100_000;
 
-/// How many bytes a file may have that is read from a state text.
+/// How many blobs a state text may have.
+pub const BLOBS: usize = 100_000;
+
+/// How many bytes a file or a blob may have that is read from a state text.
 pub const FILE_BYTES: usize = 1_048_576;

@@ -1,8 +1,8 @@
 ghost use Rattle.std.specs.Prelude.{◌≡◌, ◌⊎◌, true, false, Ok, Err, Some, None, IfOk, IfErr, IsTrue, MatchOption};
 ghost use Rattle.std.specs.List.{list_any, before_first, after_first};
 ghost use Rattle.hub_path.specs.Path.{is_path};
-ghost use Rattle.hub_state.specs.Reading.{line_of, path_field, root_field, bytes_field};
-ghost use Rattle.hub_state.specs.Reading.{digest_field, is_space};
+ghost use Rattle.hub_state.specs.Reading.{line_of, line_among, words, inner_words, is_space};
+ghost use Rattle.hub_state.specs.Reading.{path_field, root_field, bytes_field, digest_field};
 
 use crate::fault::Fault;
 use crate::form::Form;
@@ -18,12 +18,31 @@ pub fn form_of(line: &str) -> Option<(Form, &str)>
     if line == "end" {
         return Some((Form::End, ""));
     }
+    word_of(line)
+}
+
+/// The form of a line whose word a space follows, and what follows that.
+fn word_of(line: &str) -> Option<(Form, &str)>
+    ensures { MatchOption result (line_among words line.now ≡ None)
+        (λ x. line_among words line.now ≡ Some (record { form = x.0; rest = x.1.now })) }
+{
+    if let Some(rest) = line.strip_prefix("blob ") {
+        return Some((Form::Blob, rest));
+    }
     if let Some(rest) = line.strip_prefix("replica ") {
         return Some((Form::Replica, rest));
     }
     if let Some(rest) = line.strip_prefix("archive ") {
         return Some((Form::Archive, rest));
     }
+    inner_word_of(line)
+}
+
+/// The same of a line within a section.
+fn inner_word_of(line: &str) -> Option<(Form, &str)>
+    ensures { MatchOption result (line_among inner_words line.now ≡ None)
+        (λ x. line_among inner_words line.now ≡ Some (record { form = x.0; rest = x.1.now })) }
+{
     if let Some(rest) = line.strip_prefix("with ") {
         return Some((Form::With, rest));
     }

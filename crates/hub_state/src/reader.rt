@@ -24,7 +24,7 @@ pub const READ_TURNS: usize = 1_000_000;
 /// How many bytes one read of the input asks for at most.
 const READ_BYTES: usize = 4_096;
 
-/// Reads all of an input, and the state that it is the text of, version 1.
+/// Reads all of an input, and the state that it is the text of.
 ///
 /// Returns `ReadFailed` exactly when a read failed, and reads no further then. Returns `TurnsSpent` only if `READ_TURNS` reads
 /// were made and none of them met the end: such an input has at least `READ_TURNS` bytes. Otherwise this is `read_bytes`, and
@@ -53,7 +53,7 @@ pub fn read_state<R: Read>(alloc: Global, input: &mut Watched<R>) -> Result<Stat
     }
 }
 
-/// Reads the state that bytes are the text of, version 1, or the first fault of the text with its line.
+/// Reads the state that bytes are the text of, or the first fault of the text with its line.
 ///
 /// `OutOfMemory` has line 0, and may come in place of the state or of a fault.
 pub fn read_bytes(alloc: Global, bytes: &[u8]) -> Result<State, StateFault>
@@ -328,10 +328,7 @@ fn take_line(alloc: Global, draft: &mut Draft, number: usize, line: &[u8]) -> Re
     ensures apart { OnOk result (IsApart draft.new.current) }
 {
     if number == 1 {
-        if line == b"hubsync state 1".as_slice() {
-            return Ok(());
-        }
-        return Err(Fault::BadHeader);
+        return draft.take_header(alloc, line);
     }
     draft.take(alloc, line)
 }
@@ -354,6 +351,7 @@ fn state_of(draft: Draft) -> State
     ensures { result ≡ draft.state }
 {
     let Draft {
+        blobs: _blobs,
         state,
         current: _current,
         entries: _entries,

@@ -1,21 +1,25 @@
-ghost use Rattle.std.specs.Prelude.{◌≡◌, ◌⊎◌, ◌++◌, ◌∷◌, [], false, IfErr, OnOk, is_err, string_bytes};
+ghost use Rattle.std.specs.Prelude.{◌≡◌, ◌⊎◌, ◌++◌, ◌∷◌, [], false, map, IfErr, OnOk, is_err, string_bytes};
 ghost use Rattle.std.specs.FinMap as fin;
 ghost use Rattle.std.specs.Io.KnownBytes.{Appends};
 ghost use Rattle.std.specs.List.{flat_map};
 ghost use Rattle.std.specs.BTreeMap.{IsOrdered};
 ghost use Rattle.std.specs.String.{string_cmp};
+ghost use Rattle.hex.specs.Hex.{encode_lower};
 ghost use Rattle.hub_tree.specs.Stored.{stored_contents};
 ghost use Rattle.hub_state.specs.Devices.{Passes, is_write_failed, says, reports};
 ghost use Rattle.hub_state.specs.View.{by_text, below, pairs_in};
-ghost use Rattle.hub_state.specs.Writing.{dir_line, file_line, hex_field, pair_lines};
+ghost use Rattle.hub_state.specs.Writing.{dir_line, file_line, hex_field, file_field, pair_lines};
 ghost use Rattle.hub_state.specs.Writing.{contents_lines, mark_lines, replica_lines};
+ghost use Rattle.hub_state.specs.Writing.{header, blob_line};
 ghost use Rattle.hub_state.specs.Writing.{archive_lines, joined_lines, state_text};
 
+use crate::blobs::{Blobs, head_of};
 use crate::fault::{Fault, StateFault};
+use crate::form::Version;
 use crate::state::State;
 use hub_path::RelPath;
 use hub_text::Watched;
-use hub_tree::{Archive, Mark, Stored, Tree};
+use hub_tree::{Archive, Blob, Mark, Stored, Tree};
 use std::alloc::{AllocError, Global};
 use std::collections::BTreeMap;
 use std::io::Write;
@@ -23,8 +27,10 @@ use std::io::Write;
 /// How many bytes of text are kept before they are passed on to the writer.
 const BLOCK_BYTES: usize = 65_536;
 
-/// Writes the text of a state, version 1: replicas in the order of their roots' texts, then archives in the order of both
-/// texts, the smaller text first; the entries of each in the order of paths; digits in lower case.
+/// Writes the text of a state, of version 2: the blobs that its files name, each once, in the order of their digests;
+/// replicas in the order of their roots' texts, then archives in the order of both texts, the smaller text first; the entries
+/// of each in the order of paths; digits in lower case. If two files of one digest have different bytes, it writes version 1,
+/// which has the bytes of each file in place of the blobs.
 ///
 /// Returns `WriteFailed` exactly when a write failed, and writes no further then. Both of its faults have line 0, and after
 /// either the writer may hold a part of the text. The text is written in blocks, of which only one is in memory.
@@ -55,11 +61,34 @@ fn write_parts<W: Write>(alloc: Global, output: &mut Watched<W>, state: &State) 
     ensures failed { output.new.failed ≡ says is_write_failed result }
 {
     let mut text = String::new(alloc);
-    text.push_str("hubsync state 1\n")?;
-    write_replicas(alloc, output, &mut text, state.replicas())?;
+    let head = head_of(alloc, state.replicas())?;
+    push_header(&mut text, head.version)?;
+    write_blobs(alloc, output, &mut text, &head.blobs)?;
+    write_replicas(alloc, output, &mut text, head.version, state.replicas())?;
     write_archives(alloc, output, &mut text, state.archives())?;
     text.push_str("end\n")?;
     pass_on(output, &mut text)
+}
+
+/// Writes the lines of blobs.
+fn write_blobs<W: Write>(
+    alloc: Global,
+    output: &mut Watched<W>,
+    text: &mut String,
+    blobs: &Blobs,
+) -> Result<(), Fault>
+    requires { output.old.failed ≡ false }
+    ensures ok { OnOk result (Passes (W.contents output.old.device)
+        (W.contents output.new.device) (string_bytes text.old) (string_bytes text.new)
+        (joined_lines (map blob_line (fin.entries blobs.now)))) }
+    ensures faults { IfErr result (λ e. (e ≡ Fault.OutOfMemory) ⊎ (e ≡ Fault.WriteFailed)) }
+    ensures failed { output.new.failed ≡ says is_write_failed result }
+{
+    for (digest, blob) in blobs.iter() {
+        push_blob(alloc, text, digest, blob)?;
+        pass_block(output, text)?;
+    }
+    Ok(())
 }
 
 /// Writes the lines of the replicas.
@@ -67,18 +96,19 @@ fn write_replicas<W: Write>(
     alloc: Global,
     output: &mut Watched<W>,
     text: &mut String,
+    version: Version,
     replicas: &BTreeMap<String, Tree>,
 ) -> Result<(), Fault>
     requires { output.old.failed ≡ false }
     ensures ok { OnOk result (Passes (W.contents output.old.device)
         (W.contents output.new.device) (string_bytes text.old) (string_bytes text.new)
-        (joined_lines (flat_map replica_lines (by_text replicas.now.entries)))) }
+        (joined_lines (flat_map (replica_lines version) (by_text replicas.now.entries)))) }
     ensures faults { IfErr result (λ e. (e ≡ Fault.OutOfMemory) ⊎ (e ≡ Fault.WriteFailed)) }
     ensures failed { output.new.failed ≡ says is_write_failed result }
 {
     for (root, tree) in replicas.iter() {
         push_root(text, "replica ", root.as_str())?;
-        write_tree(alloc, output, text, tree)?;
+        write_tree(alloc, output, text, version, tree)?;
     }
     Ok(())
 }
@@ -131,18 +161,19 @@ fn write_tree<W: Write>(
     alloc: Global,
     output: &mut Watched<W>,
     text: &mut String,
+    version: Version,
     tree: &Tree,
 ) -> Result<(), Fault>
     requires { output.old.failed ≡ false }
     ensures ok { OnOk result (Passes (W.contents output.old.device)
         (W.contents output.new.device) (string_bytes text.old) (string_bytes text.new)
-        (joined_lines (flat_map contents_lines (fin.entries tree.now)))) }
+        (joined_lines (flat_map (contents_lines version) (fin.entries tree.now)))) }
     ensures faults { IfErr result (λ e. (e ≡ Fault.OutOfMemory) ⊎ (e ≡ Fault.WriteFailed)) }
     ensures failed { output.new.failed ≡ says is_write_failed result }
 {
     for entry in tree.entries()? {
         let (path, stored) = entry?;
-        push_entry(alloc, text, &path, stored)?;
+        push_entry(alloc, text, version, &path, stored)?;
         pass_block(output, text)?;
     }
     Ok(())
@@ -201,6 +232,17 @@ fn pass_on<W: Write>(output: &mut Watched<W>, text: &mut String) -> Result<(), F
     }
 }
 
+/// Appends the header.
+fn push_header(text: &mut String, version: Version) -> Result<(), AllocError>
+    ensures { OnOk result
+        (string_bytes text.new ≡ string_bytes text.old ++ (header version ++ 10 ∷ [])) }
+{
+    match version {
+        Version::One => text.push_str("hubsync state 1\n"),
+        Version::Two => text.push_str("hubsync state 2\n"),
+    }
+}
+
 /// Appends the line of a root, after a word.
 fn push_root(text: &mut String, word: &str, root: &str) -> Result<(), AllocError>
     ensures { OnOk result
@@ -226,14 +268,15 @@ fn push_pair(text: &mut String, first: &str, second: &str) -> Result<(), AllocEr
 fn push_entry(
     alloc: Global,
     text: &mut String,
+    version: Version,
     path: &RelPath,
     stored: Stored<'_>,
 ) -> Result<(), AllocError>
     ensures { OnOk result (string_bytes text.new ≡ string_bytes text.old
-        ++ joined_lines (contents_lines (path.now, stored_contents stored.entry))) }
+        ++ joined_lines (contents_lines version (path.now, stored_contents stored.entry))) }
 {
     match stored {
-        Stored::File(blob) => push_file(alloc, text, blob.bytes(), path),
+        Stored::File(blob) => push_file(alloc, text, version, blob, path),
         Stored::Directory => push_dir(text, path),
     }
 }
@@ -249,30 +292,73 @@ fn push_dir(text: &mut String, path: &RelPath) -> Result<(), AllocError>
     Ok(())
 }
 
-/// Appends the field of a file's bytes.
+/// Appends the digits of bytes.
+fn push_digits(alloc: Global, text: &mut String, bytes: &[u8]) -> Result<(), AllocError>
+    ensures { OnOk result
+        (string_bytes text.new ≡ string_bytes text.old ++ encode_lower bytes.now) }
+{
+    text.push_str(hex::encode(alloc, bytes)?.as_str())?;
+    Ok(())
+}
+
+/// Appends the field of bytes.
 fn push_hex(alloc: Global, text: &mut String, bytes: &[u8]) -> Result<(), AllocError>
     ensures { OnOk result (string_bytes text.new ≡ string_bytes text.old ++ hex_field bytes.now) }
 {
     if bytes.is_empty() {
         text.push('-')?;
-    } else {
-        text.push_str(hex::encode(alloc, bytes)?.as_str())?;
+        return Ok(());
     }
+    push_digits(alloc, text, bytes)
+}
+
+/// Appends the line of a blob.
+fn push_blob(
+    alloc: Global,
+    text: &mut String,
+    digest: &[u8; 32],
+    blob: &Blob,
+) -> Result<(), AllocError>
+    ensures { OnOk result (string_bytes text.new
+        ≡ string_bytes text.old ++ (blob_line (digest.now, blob.now) ++ 10 ∷ [])) }
+{
+    text.push_str("blob ")?;
+    push_digits(alloc, text, digest.as_slice())?;
+    text.push(' ')?;
+    push_hex(alloc, text, blob.bytes())?;
+    text.push('\n')?;
     Ok(())
+}
+
+/// Appends the field of a file of a replica.
+fn push_field(
+    alloc: Global,
+    text: &mut String,
+    version: Version,
+    blob: &Blob,
+) -> Result<(), AllocError>
+    ensures { OnOk result
+        (string_bytes text.new ≡ string_bytes text.old ++ file_field version blob.now) }
+{
+    match version {
+        Version::One => push_hex(alloc, text, blob.bytes()),
+        Version::Two => push_digits(alloc, text, blob.digest().as_slice()),
+    }
 }
 
 /// Appends the line of a file of a replica.
 fn push_file(
     alloc: Global,
     text: &mut String,
-    bytes: &[u8],
+    version: Version,
+    blob: &Blob,
     path: &RelPath,
 ) -> Result<(), AllocError>
     ensures { OnOk result (string_bytes text.new
-        ≡ string_bytes text.old ++ file_line (hex_field bytes.now) path.now ++ 10 ∷ []) }
+        ≡ string_bytes text.old ++ file_line (file_field version blob.now) path.now ++ 10 ∷ []) }
 {
     text.push_str("file ")?;
-    push_hex(alloc, text, bytes)?;
+    push_field(alloc, text, version, blob)?;
     text.push(' ')?;
     text.push_str(path.text()?.as_str())?;
     text.push('\n')?;
@@ -287,7 +373,7 @@ fn push_mark(alloc: Global, text: &mut String, mark: Mark, path: &RelPath) -> Re
     match mark {
         Mark::File(digest) => {
             text.push_str("file ")?;
-            text.push_str(hex::encode(alloc, digest.as_slice())?.as_str())?;
+            push_digits(alloc, text, digest.as_slice())?;
             text.push(' ')?;
             text.push_str(path.text()?.as_str())?;
             text.push('\n')?;

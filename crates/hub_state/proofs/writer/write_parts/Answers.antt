@@ -1,40 +1,50 @@
-use Rattle.std.proofs.Common.{◌≡◌, List, ℕ, [], ◌∷◌, ◌++◌, string_bytes, refl, sym, ap, ◌∙◌, subst, append-nil}
+use Rattle.std.proofs.Common.{◌≡◌, List, ℕ, map, [], ◌∷◌, ◌++◌, string_bytes, refl, sym, ap, ◌∙◌, subst, append-nil}
 use Rattle.std.specs.FinMap as fin
 use Rattle.std.specs.Io.KnownBytes.{Appends}
 use Rattle.std.specs.List.{flat_map}
 use Rattle.std.proofs.lemmas.Result.{on_ok_weaker}
 use Rattle.hub_path.specs.Path.{path_cmp}
 use Rattle.hub_tree.specs.Tree.{Replica, Archive}
+use Rattle.hub_state.specs.declared.form.Version.{Version}
 use Rattle.hub_state.specs.Devices.{Passes}
 use Rattle.hub_state.specs.State.{State, Text}
 use Rattle.hub_state.specs.View.{by_text, pairs_in}
-use Rattle.hub_state.specs.Writing.{header, end_line, replica_lines, archive_lines, joined_lines, state_text}
+use Rattle.hub_state.specs.Writing.{header, end_line, blob_line, blob_lines, replica_lines, replica_files, archive_lines, version_of, joined_lines, state_text}
 use Rattle.hub_state.proofs.Passing.{passes-start, passes-step, passes-all, text_parts}
 use Rattle.hub_state.proofs.writer.write_parts.Goals as goal
 
 pub returns-clause-whole : goal.returns-clause-whole
 returns-clause-whole g c =
     let S : State = c.args.state.now in
+    let v : Version = c.in_ok-head.head.version in
     let a = g.W.Write.contents c.args.output.now.device in
-    let b = g.W.Write.contents c.write_replicas.new.output.device in
-    let d = g.W.Write.contents c.write_archives.new.output.device in
-    let e = g.W.Write.contents c.pass_on.new.output.device in
+    let b = g.W.Write.contents c.write_blobs.new.output.device in
+    let d = g.W.Write.contents c.write_replicas.new.output.device in
+    let e = g.W.Write.contents c.write_archives.new.output.device in
+    let f = g.W.Write.contents c.pass_on.new.output.device in
     let x : List ℕ = string_bytes c.new-text.result in
-    let y : List ℕ = string_bytes c.write_replicas.new.text in
-    let z : List ℕ = string_bytes c.write_archives.new.text in
-    let w : List ℕ = string_bytes c.push_str-2.new.self in
-    let first : List ℕ = header ++ 10 ∷ [] in
+    let y : List ℕ = string_bytes c.write_blobs.new.text in
+    let z : List ℕ = string_bytes c.write_replicas.new.text in
+    let w : List ℕ = string_bytes c.write_archives.new.text in
+    let u : List ℕ = string_bytes c.push_str.new.self in
+    let p : List ℕ = string_bytes c.push_header.new.text in
     let last : List ℕ = end_line ++ 10 ∷ [] in
-    let rs : List ℕ = joined_lines (flat_map replica_lines (by_text c.replicas.result.now.entries)) in
+    let first : List ℕ = header v ++ 10 ∷ [] in
+    let bs : List ℕ = joined_lines (map blob_line (fin.entries c.in_ok-head.head.blobs)) in
+    let head : List ℕ = first ++ bs in
+    let one : Passes a b x y head = passes-step a a b x x p y [] first bs head (passes-start a x) c.in_ok-push_header.ensures c.in_ok-write_blobs.ensures.ok refl in
+    let rs : List ℕ = joined_lines (flat_map (replica_lines v) (by_text c.replicas-2.result.now.entries)) in
     let ks : List ℕ = joined_lines (flat_map archive_lines (fin.entries (pairs_in c.archives.result.now.entries))) in
-    let one : Passes a b x y (first ++ rs) = passes-step a a b x x (string_bytes c.push_str.new.self) y [] first rs (first ++ rs) (passes-start a x) c.in_ok-push_str.ensures.bytes c.in_ok-write_replicas.ensures.ok refl in
-    let two : Passes a d x z (first ++ rs ++ ks) = passes-step a b d x y y z (first ++ rs) [] ks (first ++ rs ++ ks) one (sym (append-nil y)) c.in_ok-write_archives.ensures.ok refl in
-    let all : List ℕ = first ++ rs ++ ks ++ (last ++ []) in
-    let three : Passes a d x w all = passes-step a d d x z w w (first ++ rs ++ ks) last [] all two c.in_ok-push_str-2.ensures.bytes (passes-start d w) refl in
+    let two : Passes a d x z (head ++ rs) = passes-step a b d x y y z head [] rs (head ++ rs) one (sym (append-nil y)) c.in_ok-write_replicas.ensures.ok refl in
+    let three : Passes a e x w (head ++ rs ++ ks) = passes-step a d e x z z w (head ++ rs) [] ks (head ++ rs ++ ks) two (sym (append-nil z)) c.in_ok-write_archives.ensures.ok refl in
+    let all : List ℕ = head ++ rs ++ ks ++ (last ++ []) in
+    let four : Passes a e x u all = passes-step a e e x w u u (head ++ rs ++ ks) last [] all three c.in_ok-push_str.ensures.bytes (passes-start e u) refl in
     let same : x ++ all ≡ state_text S =
     ap (λ (t : List ℕ). t ++ all) c.new-text.ensures.bytes
-    ∙ ap (λ (es : List (Text × Replica)). first ++ joined_lines (flat_map replica_lines es) ++ ks ++ (last ++ [])) (sym c.replicas.ensures)
-    ∙ ap (λ (m : fin.FinMap path_cmp Archive). first ++ joined_lines (flat_map replica_lines (fin.entries S.replicas)) ++ joined_lines (flat_map archive_lines (fin.entries m)) ++ (last ++ [])) c.archives.ensures
-    ∙ text_parts S
+    ∙ ap (λ (ls : List (List ℕ)). first ++ joined_lines ls ++ rs ++ ks ++ (last ++ [])) c.in_ok-head.ensures.blobs
+    ∙ ap (λ (es : List (Text × Replica)). joined_lines (header v ∷ blob_lines v (flat_map replica_files es)) ++ rs ++ ks ++ (last ++ [])) (sym c.replicas.ensures)
+    ∙ ap (λ (es : List (Text × Replica)). joined_lines (header v ∷ blob_lines v (flat_map replica_files (fin.entries S.replicas))) ++ joined_lines (flat_map (replica_lines v) es) ++ ks ++ (last ++ [])) (sym c.replicas-2.ensures)
+    ∙ ap (λ (m : fin.FinMap path_cmp Archive). joined_lines (header v ∷ blob_lines v (flat_map replica_files (fin.entries S.replicas))) ++ joined_lines (flat_map (replica_lines v) (fin.entries S.replicas)) ++ joined_lines (flat_map archive_lines (fin.entries m)) ++ (last ++ [])) c.archives.ensures
+    ∙ text_parts S v (c.in_ok-head.ensures.version ∙ ap (λ (es : List (Text × Replica)). version_of (flat_map replica_files es)) (sym c.replicas.ensures))
     in
-    on_ok_weaker c.pass_on.result (λ h. subst (λ (t : List ℕ). Appends a e t) same (passes-all a d e x w all three h)) c.pass_on.ensures.ok
+    on_ok_weaker c.pass_on.result (λ h. subst (λ (t : List ℕ). Appends a f t) same (passes-all a e f x u all four h)) c.pass_on.ensures.ok

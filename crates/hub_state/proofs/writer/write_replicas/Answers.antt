@@ -25,13 +25,13 @@ loop-root-preserved g c =
     let y : List ℕ = string_bytes c.loop-root.text in
     let s : List ℕ = codes "replica " ++ string_bytes x.0 ++ 10 ∷ [] in
     let push : string_bytes c.push_root.new.text ≡ y ++ s = c.in_ok-push_root.ensures ∙ ap (λ (t : List ℕ). y ++ (codes "replica " ++ t ++ 10 ∷ [])) c.as_str.ensures.value in
-    let done : List ℕ = joined_lines (flat_map replica_lines (by_text es)) in (
+    let done : List ℕ = joined_lines (flat_map (replica_lines c.args.version) (by_text es)) in (
       es ++ x ∷ [],
       append_assoc es (x ∷ []) c.next.new.self ∙ ap (λ (r : List (String Global × Replica)). es ++ r) (sym c.in-Some.ensures.steps) ∙ inv.1,
       passes-step (g.W.Write.contents c.args.output.now.device) (g.W.Write.contents c.loop-root.output.device) (g.W.Write.contents c.write_tree.new.output.device)
           (string_bytes c.args.text.now) y (string_bytes c.push_root.new.text) (string_bytes c.write_tree.new.text)
-          done s (joined_lines (flat_map contents_lines (fin.entries x.1))) (joined_lines (flat_map replica_lines (by_text (es ++ x ∷ []))))
-          inv.2 push c.in_ok-write_tree.ensures.ok (lines_more replica_lines es x),
+          done s (joined_lines (flat_map (contents_lines c.args.version) (fin.entries x.1))) (joined_lines (flat_map (replica_lines c.args.version) (by_text (es ++ x ∷ []))))
+          inv.2 push c.in_ok-write_tree.ensures.ok (lines_more (replica_lines c.args.version) es x),
       c.in_ok-write_tree.ensures.failed,
     )
 
@@ -40,5 +40,5 @@ returns-clause-ok g c =
     let inv = c.loop-root.invariant in
     subst
     (λ (es : List (String Global × Replica)). Passes (g.W.Write.contents c.args.output.now.device) (g.W.Write.contents c.loop-root.output.device) (string_bytes c.args.text.now) (string_bytes c.loop-root.text)
-    (joined_lines (flat_map replica_lines (by_text es))))
+    (joined_lines (flat_map (replica_lines c.args.version) (by_text es))))
     (sym (append-nil inv.0) ∙ ap (λ (r : List (String Global × Replica)). inv.0 ++ r) (sym c.in-None.ensures.steps.0) ∙ inv.1) inv.2

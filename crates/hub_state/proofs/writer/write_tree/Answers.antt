@@ -22,16 +22,16 @@ loop-entry-preserved g c =
     let inv = c.loop-entry.invariant in
     let es = inv.0 in
     let x : Path × Contents = (c.in_ok-path.path, stored_contents c.in_ok-path.stored) in
-    let done : List ℕ = joined_lines (flat_map contents_lines es) in
-    let s : List ℕ = joined_lines (contents_lines x) in (
+    let done : List ℕ = joined_lines (flat_map (contents_lines c.args.version) es) in
+    let s : List ℕ = joined_lines (contents_lines c.args.version x) in (
       es ++ x ∷ [],
       append_assoc es (x ∷ []) c.next.new.self
           ∙ ap (λ (r : List (Path × Contents)). es ++ r) (sym (next_entry c.loop-entry.entry-iterator c.next.new.self c.in-Some.entry (c.in_ok-path.path, c.in_ok-path.stored) c.in-Some.ensures.steps c.in_ok-path.was))
           ∙ inv.1,
       passes-step (g.W.Write.contents c.args.output.now.device) (g.W.Write.contents c.loop-entry.output.device) (g.W.Write.contents c.pass_block.new.output.device)
           (string_bytes c.args.text.now) (string_bytes c.loop-entry.text) (string_bytes c.push_entry.new.text) (string_bytes c.pass_block.new.text)
-          done s [] (joined_lines (flat_map contents_lines (es ++ x ∷ []))) inv.2 c.in_ok-push_entry.ensures c.in_ok-pass_block.ensures.ok
-          (joined_one contents_lines es x ∙ ap (λ (u : List ℕ). done ++ u) (sym (append-nil s))),
+          done s [] (joined_lines (flat_map (contents_lines c.args.version) (es ++ x ∷ []))) inv.2 c.in_ok-push_entry.ensures c.in_ok-pass_block.ensures.ok
+          (joined_one (contents_lines c.args.version) es x ∙ ap (λ (u : List ℕ). done ++ u) (sym (append-nil s))),
       c.in_ok-pass_block.ensures.failed,
     )
 
@@ -40,16 +40,16 @@ loop-entry-preserved-in_ok-pass_block g c =
     let inv = c.loop-entry.invariant in
     let es = inv.0 in
     let x : Path × Contents = (c.in_ok-path.path, stored_contents c.in_ok-path.stored) in
-    let done : List ℕ = joined_lines (flat_map contents_lines es) in
-    let s : List ℕ = joined_lines (contents_lines x) in (
+    let done : List ℕ = joined_lines (flat_map (contents_lines c.args.version) es) in
+    let s : List ℕ = joined_lines (contents_lines c.args.version x) in (
       es ++ x ∷ [],
       append_assoc es (x ∷ []) c.next.new.self
           ∙ ap (λ (r : List (Path × Contents)). es ++ r) (sym (next_entry c.loop-entry.entry-iterator c.next.new.self c.in-Some.entry (c.in_ok-path.path, c.in_ok-path.stored) c.in-Some.ensures.steps c.in_ok-path.was))
           ∙ inv.1,
       passes-step (g.W.Write.contents c.args.output.now.device) (g.W.Write.contents c.loop-entry.output.device) (g.W.Write.contents c.pass_block.new.output.device)
           (string_bytes c.args.text.now) (string_bytes c.loop-entry.text) (string_bytes c.push_entry.new.text) (string_bytes c.pass_block.new.text)
-          done s [] (joined_lines (flat_map contents_lines (es ++ x ∷ []))) inv.2 c.in_ok-push_entry.ensures c.in_ok-pass_block.ensures.ok
-          (joined_one contents_lines es x ∙ ap (λ (u : List ℕ). done ++ u) (sym (append-nil s))),
+          done s [] (joined_lines (flat_map (contents_lines c.args.version) (es ++ x ∷ []))) inv.2 c.in_ok-push_entry.ensures c.in_ok-pass_block.ensures.ok
+          (joined_one (contents_lines c.args.version) es x ∙ ap (λ (u : List ℕ). done ++ u) (sym (append-nil s))),
       c.in_ok-pass_block.ensures.failed,
     )
 
@@ -58,5 +58,5 @@ returns-clause-ok g c =
     let inv = c.loop-entry.invariant in
     subst
     (λ (es : List (Path × Contents)). Passes (g.W.Write.contents c.args.output.now.device) (g.W.Write.contents c.loop-entry.output.device) (string_bytes c.args.text.now) (string_bytes c.loop-entry.text)
-    (joined_lines (flat_map contents_lines es)))
+    (joined_lines (flat_map (contents_lines c.args.version) es)))
     (sym (append-nil inv.0) ∙ ap (λ (r : List (Path × Contents)). inv.0 ++ r) (sym c.in-None.ensures.steps.0) ∙ inv.1) inv.2

@@ -10,5 +10,5 @@ use Rattle.hub_state.proofs.writer.write_tree.Given as goal
 abbrev pub invariant-loop-entry : goal.invariant-loop-entry
 invariant-loop-entry g l =
     (es : List (Path × Contents)) × (es ++ l.entry-iterator ≡ fin.entries l.tree)
-    × Passes (g.W.Write.contents l.fn.output.device) (g.W.Write.contents l.output.device) (string_bytes l.fn.text) (string_bytes l.text) (joined_lines (flat_map contents_lines es))
+    × Passes (g.W.Write.contents l.fn.output.device) (g.W.Write.contents l.output.device) (string_bytes l.fn.text) (string_bytes l.text) (joined_lines (flat_map (contents_lines l.version) es))
     × (l.output.failed ≡ false)

@@ -7,7 +7,8 @@ A bundle is made of random sections, or of an example or a table's input, and is
 out, doubled, changed and swapped, lines are put in whose words are right or almost, and it is cut. Half of the safe bundles get
 their own certificates, which are then damaged in the same way. Each is asked with the words of a random command.
 
-A run may take --seconds (20) and --megabytes of memory (2,000). An answer is right if
+A run may take --seconds (20) and --megabytes of memory (2,000). With few of them many answers are `fault: out of memory`, which is
+always right, or a refused thread. Another answer is right if
 
 - the status is 0 to 3, and standard error is empty unless the status is 2 and nothing was written;
 - it is one line that this status may have, or `safe` and a run fault, or a whole report: `safe`, a line for each thing that the jobs
@@ -32,6 +33,7 @@ import time
 
 TOP = pathlib.Path(__file__).resolve().parent.parent
 HEADERS = ('hubsync state 1', 'hubsync state 2')
+OUT_OF_MEMORY = b'fault: out of memory\n'
 FAULT = re.compile(rb'fault: [^\n]*\n')
 STOPS = re.compile(rb'run fault: (MissingReplica /[^\n]*|NoWorkers|TooManyWorkers|ThreadRefused)\n')
 JOB_LINE = re.compile(rb'(job [^\n]* (finished|stopped)|to /[^\n]*|skip [A-Za-z]+ [^\n]*)\n')
@@ -299,7 +301,7 @@ class Hunt:
         status, output, errors = asked(self.options, words, data)
         self.longest = max(self.longest, time.monotonic() - begin)
         problem = wrong_with(status, output, errors)
-        if problem is None and wanted is not None and output not in wanted:
+        if problem is None and wanted is not None and output not in [*wanted, OUT_OF_MEMORY]:
             problem = f'wanted {[text[:200] for text in wanted]}, got {output[:200]!r}'
         if problem is not None:
             self.keep(words, data, problem)
@@ -319,7 +321,7 @@ class Hunt:
         """Asks what has to follow from an answer."""
         if output == b'verified\n':
             _, other = self.ask(['check'], data)
-            if other and not (other == b'safe\n' or other.startswith(b'too large')):
+            if other and not (other in (b'safe\n', OUT_OF_MEMORY) or other.startswith(b'too large')):
                 self.keep(['check'], data, f'verified, and then {other[:200]!r}')
         elif output.startswith(b'safe\n') and len(output) > 5 and STOPS.match(output[5:]) is None:
             text = re.search(rb'^hubsync state \d\n', output, re.M)
@@ -334,7 +336,7 @@ class Hunt:
             data += b'\n'
         status, output = self.ask(['certify'], data)
         if status != 0 or not output.startswith(b'hubsync'):
-            if status is not None:
+            if status is not None and output != OUT_OF_MEMORY:
                 self.keep(['certify'], data, f'safe, and then {output[:200]!r}')
             return
         self.ask(['verify'], data + b'%certificates\n' + output, [b'verified\n'])

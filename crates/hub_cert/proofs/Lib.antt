@@ -27,3 +27,4 @@ pub mod GoalLines
 pub mod Forbids
 pub mod Machined
 pub mod Opened
+pub mod StageLists

@@ -29,6 +29,7 @@ mod refusals;
 mod row;
 mod set;
 mod stage;
+mod stage_list;
 mod stages;
 mod texts;
 mod verified;

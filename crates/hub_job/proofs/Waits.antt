@@ -42,10 +42,10 @@ pub ascending-append : (xs ys : List Path) → ascending (xs ++ ys) ≡ put_all 
 ascending-append xs ys = ascending_is (xs ++ ys) ∙ (put_all-append xs ys [] ∙ ap (λ qs. put_all qs ys) (sym (ascending_is xs)))
 
 -- Order.
-turned : (p q : Path) → path_cmp p q ≡ Less → path_cmp q p ≡ Greater
+pub turned : (p q : Path) → path_cmp p q ≡ Less → path_cmp q p ≡ Greater
 turned p q h = path_cmp-total.antisymm q p ∙ ap ordering_reverse h
 
-turned_back : (p q : Path) → path_cmp p q ≡ Greater → path_cmp q p ≡ Less
+pub turned_back : (p q : Path) → path_cmp p q ≡ Greater → path_cmp q p ≡ Less
 turned_back p q h = path_cmp-total.antisymm q p ∙ ap ordering_reverse h
 
 abbrev pub AllBefore : List Path → Path → Type 0

@@ -1,4 +1,4 @@
-ghost use Rattle.std.specs.Prelude.{◌≡◌, [], ◌∷◌, drop, slice_get, IfOk, OnOk};
+ghost use Rattle.std.specs.Prelude.{◌≡◌, ◌≤◌, [], ◌∷◌, drop, length, reverse, slice_get, insert, IfNone, IfSome, OnOk};
 ghost use Rattle.std.specs.Option.{option_map};
 ghost use Rattle.std.specs.BTreeSet.{insert_key};
 ghost use Rattle.hub_path.specs.Path.{path_cmp};
@@ -6,22 +6,25 @@ ghost use Rattle.hub_job.specs.Waiting.{listed, put_all};
 
 use hub_path::{Name, RelPath};
 use std::alloc::{AllocError, Global};
-use std::collections::BTreeSet;
+use std::cmp::Ordering;
 use std::marker::Model;
 
-/// The paths of a side that a job has to look at and hasn't, each once, in ascending order.
+/// The paths of a side that a job has to look at and hasn't, each once. Contracts see them in ascending order.
+///
+/// They are a stack: the first is at the end. The children of the path that was taken out last come before all others, so
+/// each is put in with one comparison.
 #[derive(Drop)]
 pub(crate) struct Waiting {
-    paths: BTreeSet<RelPath>,
+    stack: Vec<RelPath>,
 }
 
 impl Model for Waiting {
-    ghost use Rattle.std.specs.Prelude.{List};
+    ghost use Rattle.std.specs.Prelude.{List, reverse};
     ghost use Rattle.hub_path.specs.Path.{Path};
 
     ghost Value = { List Path };
 
-    ghost view = { λ a. a.paths.keys };
+    ghost view = { λ a. reverse a.stack.items };
 }
 
 impl Waiting {
@@ -30,7 +33,7 @@ impl Waiting {
         ensures { result ≡ [] }
     {
         Waiting {
-            paths: BTreeSet::new(alloc),
+            stack: Vec::new(alloc),
         }
     }
 
@@ -38,31 +41,54 @@ impl Waiting {
     pub(crate) fn first(&self) -> Option<&RelPath>
         ensures { option_map (λ p. p.now) result ≡ slice_get self.now 0 }
     {
-        self.paths.first()
+        self.stack.last()
     }
 
     /// Takes the first path out, if there is one.
     pub(crate) fn pop(&mut self)
         ensures { self.new ≡ drop 1 self.old }
     {
-        let _first = self.paths.pop_first();
+        let _first = self.stack.pop();
     }
 
     /// Puts a path in, unless it is there. Out of memory leaves the paths as they are.
     pub(crate) fn add(&mut self, path: RelPath) -> Result<(), AllocError>
         ensures { OnOk result (self.new ≡ insert_key path_cmp self.old path) }
     {
-        let _new = self.paths.insert(path)?;
+        if let Some(place) = place_of(self.stack.as_slice(), &path) {
+            self.stack.insert(place, path)?;
+        }
         Ok(())
     }
 
-    /// Puts in the children of a path that have these names. Out of memory may leave some of them there.
+    /// Puts in the children of a path that have these names, the last one first: where the names ascend, each child comes
+    /// before those that are there. Out of memory may leave some of them there.
     pub(crate) fn add_children(&mut self, path: &RelPath, names: &[Name]) -> Result<(), AllocError>
         ensures { OnOk result (self.new ≡ put_all self.old (listed path.now names.now)) }
     {
-        for name in names {
+        for i in 0..names.len() {
+            let name = &names[names.len() - 1 - i];
             self.add(path.child(name.copy()?)?)?;
         }
         Ok(())
     }
+}
+
+/// Returns where a path goes in a stack, or `None` if it is there. It looks from the end on.
+fn place_of(stack: &[RelPath], path: &RelPath) -> Option<usize>
+    ensures within { IfSome result (λ at. at ≤ length stack.now) }
+    ensures place { IfSome result (λ at. insert_key path_cmp (reverse stack.now) path.now
+        ≡ reverse (insert stack.now at path.now)) }
+    ensures there { IfNone result
+        (insert_key path_cmp (reverse stack.now) path.now ≡ reverse stack.now) }
+{
+    for i in 0..stack.len() {
+        let at = stack.len() - i;
+        match path.cmp(&stack[at - 1]) {
+            Ordering::Less => return Some(at),
+            Ordering::Equal => return None,
+            Ordering::Greater => {}
+        }
+    }
+    Some(0)
 }

@@ -51,14 +51,14 @@ is_equal Greater h = cc
 pub same_path : (p q : Path) → path_eq p q ≡ true → p ≡ q
 same_path p q h = path_cmp-exact p q (is_equal _ (sym (lists_ties (slice_cmp nat_cmp) texts_ties p q) ∙ h))
 
-some_path : (b : Bool) (p d : Path) → (not (length p == 0) && path_eq (parent p) d && b) ≡ true → d ++ last_name p ∷ [] ≡ p
+pub some_path : (b : Bool) (p d : Path) → (not (length p == 0) && path_eq (parent p) d && b) ≡ true → d ++ last_name p ∷ [] ≡ p
 some_path b [] d h = absurd (false≢true h)
 some_path b (n ∷ p) d h =
     let child = and_parts (is_child d (n ∷ p)) b h in
     let own = and_parts (not (length (n ∷ p) == 0)) (path_eq (parent (n ∷ p)) d) child.0 in
     ap (λ q. q ++ last_name (n ∷ p) ∷ []) (sym (same_path (parent (n ∷ p)) d own.1)) ∙ parent-last_name n p
 
-abbrev child_where : Path → (Path → Bool) → Path → Bool
+abbrev pub child_where : Path → (Path → Bool) → Path → Bool
 child_where d g p = is_child d p && g p
 
 filtered_names : (d : Path) (f g : Path → Bool) (ps : List Path) → filter (λ n. f (d ++ n ∷ [])) (map last_name (filter (child_where d g) ps)) ≡ map last_name (filter f (filter (child_where d g) ps))

@@ -1,7 +1,7 @@
 //! Operations on a replica.
-ghost use Rattle.std.specs.Prelude.{◌≡◌, false, ◌&&◌, ◌||◌, ◌==◌, [], ◌∷◌, ◌++◌, not, length, filter, IfOk, OnOk, OnErr};
-ghost use Rattle.std.specs.List.{list_any};
-ghost use Rattle.hub_path.specs.Path.{parent, path_eq};
+ghost use Rattle.std.specs.Prelude.{◌≡◌, false, ◌&&◌, ◌||◌, ◌==◌, [], ◌∷◌, ◌++◌, not, length, filter, IfOk, IsTrue, OnOk, OnErr};
+ghost use Rattle.std.specs.List.{list_all, list_any};
+ghost use Rattle.hub_path.specs.Path.{is_over, is_path, parent, path_eq};
 ghost use Rattle.hub_reach.specs.Reach as of_reach;
 ghost use Rattle.hub_reach.specs.Reach.{reach};
 ghost use Rattle.hub_tree.specs.Tree as of_tree;
@@ -59,8 +59,8 @@ fn look(
     ensures fits { IfOk result (machine.Fits (Op.Look path.now)) }
 {
     if reaches(profile, path) {
-        let (names, others) = split_names(alloc, profile, path, tree.names_at(path)?)?;
-        let mark = tree.mark_at(path);
+        let (mark, all) = tree.mark_and_names_at(path)?;
+        let (names, others) = seen_names(alloc, profile, path, all)?;
         let others = are_told(profile, root, path, others);
         return Ok(Answer::Seen {
             mark,
@@ -69,8 +69,9 @@ fn look(
         });
     }
     if is_kept_top(profile, path) {
-        let (names, _) = split_names(alloc, profile, path, tree.names_at(path)?)?;
-        return Ok(directory_with(names));
+        let (_, every) = tree.mark_and_names_at(path)?;
+        let (reached, _) = seen_names(alloc, profile, path, every)?;
+        return Ok(directory_with(reached));
     }
     let is_parent = is_kept_parent(profile, path)?;
     Ok(mark_alone(alloc, parent_mark(is_parent, tree, path)))
@@ -111,6 +112,27 @@ fn mark_alone(alloc: Global, mark: Mark) -> Answer
         names: Items::new(alloc),
         others: false,
     }
+}
+
+/// Splits the names of the children of a path at or below a kept value into those that the profile reaches, and whether there
+/// are others. A profile that ignores nothing reaches them all: then no path is made.
+fn seen_names(
+    alloc: Global,
+    profile: &Profile,
+    path: &RelPath,
+    names: Items<Name>,
+) -> Result<(Items<Name>, bool), AllocError>
+    requires kept { IsTrue (list_any (λ s. is_over s path.now) profile.now.paths) }
+    requires paths { IsTrue (list_all (λ n. is_path (path.now ++ n ∷ [])) names) }
+    ensures names { IfOk result
+        (λ r. r.0 ≡ filter (λ n. reach profile.now (path.now ++ n ∷ [])) names) }
+    ensures others { IfOk result
+        (λ r. r.1 ≡ list_any (λ n. not (reach profile.now (path.now ++ n ∷ []))) names) }
+{
+    if profile.ignore().is_empty() {
+        return Ok((names, false));
+    }
+    split_names(alloc, profile, path, names)
 }
 
 /// Splits the names of a path's children into those that the profile reaches, and whether there are others.

@@ -21,7 +21,7 @@ use std::alloc::{AllocError, Global};
 use std::marker::Model;
 
 /// How many profiles a set may have (this project's choice).
-pub const PROFILES: usize = 32;
+pub const PROFILES: usize = 128;
 
 /// Profiles and rules that may be checked together: at most `PROFILES` profiles with different names, and at most `RULES`
 /// rules, no two different roots of them nested.

@@ -76,6 +76,8 @@ state_fault_name state.ReadFailed = codes "ReadFailed"
 state_fault_name state.WriteFailed = codes "WriteFailed"
 state_fault_name state.TurnsSpent = codes "TurnsSpent"
 state_fault_name state.OutOfMemory = codes "OutOfMemory"
+state_fault_name state.UnknownBlob = codes "UnknownBlob"
+state_fault_name state.WrongDigest = codes "WrongDigest"
 
 abbrev pub bundle_fault_name : BundleFault → List ℕ
 bundle_fault_name bundle.NoSection = codes "NoSection"

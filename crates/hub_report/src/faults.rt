@@ -9,6 +9,7 @@ use hub_path::PathFault;
 use hub_profile::Fault;
 use std::alloc::{AllocError, Global};
 
+/// The name of a fault of a path or of a root.
 pub fn path_fault_name<'a>(fault: PathFault) -> &'a str
     ensures { result.now ≡ names.path_fault_name fault }
 {
@@ -79,6 +80,7 @@ fn with_detail(alloc: Global, name: &str, detail: &str) -> Result<String, AllocE
     joined(alloc, &[name, detail])
 }
 
+/// The name of a fault of a state text.
 pub fn state_fault_name<'a>(fault: hub_state::Fault) -> &'a str
     ensures { result.now ≡ names.state_fault_name fault }
 {
@@ -95,9 +97,12 @@ pub fn state_fault_name<'a>(fault: hub_state::Fault) -> &'a str
         hub_state::Fault::WriteFailed => "WriteFailed",
         hub_state::Fault::TurnsSpent => "TurnsSpent",
         hub_state::Fault::OutOfMemory => "OutOfMemory",
+        hub_state::Fault::UnknownBlob => "UnknownBlob",
+        hub_state::Fault::WrongDigest => "WrongDigest",
     }
 }
 
+/// The name of a fault of a bundle's sections.
 pub fn bundle_fault_name<'a>(fault: BundleFault) -> &'a str
     ensures { result.now ≡ names.bundle_fault_name fault }
 {
@@ -110,6 +115,7 @@ pub fn bundle_fault_name<'a>(fault: BundleFault) -> &'a str
     }
 }
 
+/// The name of a fault of an input that can't be read to its end.
 pub fn input_fault_name<'a>(fault: InputFault) -> &'a str
     ensures { result.now ≡ names.input_fault_name fault }
 {

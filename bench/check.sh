@@ -8,11 +8,11 @@
 # - `paths`: 32 profiles of 64 `path` lines each, over one hub: 992 goals;
 # - `overlap`: the same, but the last two profiles overlap, in their last lines;
 # - `star`: 32 profiles over one hub, each with 3 `path` lines and 5 patterns: 992 goals, 351,000 stages together;
-# - `large`: two profiles with two goals of 19,531 stages and 40 classes each, near the limit of 20,000 stages;
+# - `large`: two profiles with two goals of 19,531 stages and 40 classes each;
 # - `rules`: 32 profiles over one hub, each with a path, a pattern and a bar, and 64 rules of the hub: 3,040 goals, 2,048 of them
 #   of rules;
 # - `shown`: a profile without `path` lines and a rule of 16 pieces, which it may break: 16,000 stages before the path is found;
-# - `many`: the same with a rule of 18 pieces, which has more than 20,000 stages;
+# - `many`: the same with a rule of 19 pieces, which has more than 100,000 stages;
 # - `limit`: 8 profiles of 32 `path` lines, each of 64 names: as many positions as a profile may have;
 # - `deep`: 32 profiles of 64 such `path` lines, which are too many.
 #
@@ -131,7 +131,7 @@ star >"$folder/star.bundle"
 large >"$folder/large.bundle"
 rules >"$folder/rules.bundle"
 remembered 14 >"$folder/shown.bundle"
-remembered 16 >"$folder/many.bundle"
+remembered 17 >"$folder/many.bundle"
 deep 8 32 >"$folder/limit.bundle"
 deep 32 64 >"$folder/deep.bundle"
 
@@ -140,7 +140,7 @@ print_columns
 measure deep 1 'refused: TooManySpots' check
 measure overlap 1 'overlap: team31 writes shared/team31/project64 at /srv/hub, team32 reaches shared/team31/project64/notes' check
 measure shown 1 'breach: team1 may delete abbbbbbbbbbbbbb at /srv/hub, rule 0' check
-measure many 1 'too large: goal 0 has more than 20000 stages' check
+measure many 1 'too large: goal 0 has more than 100000 stages' check
 measure_safe rules
 measure_safe paths
 measure_safe star

@@ -143,14 +143,14 @@ many_profiles() {
     done
 }
 
-# There may be 32 profiles.
+# There may be 128 profiles.
 ask_many() {
-    many_profiles 32 >"$room/input"
+    many_profiles 128 >"$room/input"
     echo safe >"$room/wanted"
-    ask '32 profiles' 0 '' hubsync
-    many_profiles 33 >"$room/input"
+    ask '128 profiles' 0 '' hubsync
+    many_profiles 129 >"$room/input"
     echo 'refused: TooManyProfiles' >"$room/wanted"
-    ask '33 profiles' 1 '' hubsync
+    ask '129 profiles' 1 '' hubsync
 }
 
 # A profile that ignores names of so many different characters, those from U+4E00 on.

@@ -319,13 +319,27 @@ say_each_in_run() {
     words=()
 }
 
+# The same state as that of a text of version 1, as it is written: in version 2.
+in_version_2() {
+    perl -MDigest::SHA=sha256_hex -ne '
+        s/^hubsync state 1$/hubsync state 2/;
+        $is_replica = /^replica / if /^(?:replica|archive) /;
+        if ($is_replica && /^file ([0-9a-f]+|-) (.*)/) {
+            my $digest = sha256_hex(pack "H*", $1 eq "-" ? "" : $1);
+            $blobs{$digest} = $1;
+            $_ = "file $digest $2\n";
+        }
+        push @lines, $_;
+        END { print shift @lines, map { "blob $_ $blobs{$_}\n" } sort keys %blobs; print @lines }'
+}
+
 {
     printf 'hubsync state 1\nreplica /srv/hub\ndir a\nfile - a/b\nfile 6869 a/c\ndir a/d\ndir a/d/e\n'
     seq -f 'file 6869 a/d/e/%02.0f' 40
     printf 'file %0100000d a/z\nfile 6869 b\n' 0
     seq -f 'replica /srv/spoke%02.0f' 20
     printf 'archive /srv/hub\nwith /srv/spoke01\ndir a\nfile %064d a/b\nend\n' 1
-} >"$folder/text"
+} | in_version_2 >"$folder/text"
 
 {
     for name in a b; do
@@ -337,7 +351,7 @@ say_each_in_run() {
 # The job of `b` brings the file `b` to the spoke. That of `a` skips it all: the spoke has deleted the directory `a`, and the
 # hub has changed `a/b`.
 digest=$(printf hi | sha256sum | cut -d ' ' -f 1)
-sed 's|^replica /srv/spoke01$|&\nfile 6869 b|' "$folder/text" >"$folder/brought"
+sed "s|^replica /srv/spoke01\$|&\nfile $digest b|" "$folder/text" >"$folder/brought"
 sed "s|^end\$|file $digest b\n&|" "$folder/brought" >"$folder/after"
 safe=$(printf 'safe\njob a finished\nskip Conflict a\njob b finished\nto /srv/spoke01 b\n' && cat "$folder/after")$'\n'
 refused=$'safe\nrun fault: ThreadRefused\n'
@@ -373,6 +387,9 @@ say_each judge_hubsync "$hubsync" bundle FAIL_WRITE WriteFailed
 # The text of a state: the names of the files that the hub has, those that the spoke has, and those of the archive. Each file has
 # its own name as its only byte.
 exchanged() {
+    exchanged_in_version_1 "$@" | in_version_2
+}
+exchanged_in_version_1() {
     local name
     printf 'hubsync state 1\nreplica /srv/hub\n'
     for name in $1; do printf 'file %x %s\n' "'$name" "$name"; done

@@ -207,9 +207,11 @@ ask_certificates() {
 # A bundle with a state alone, in the form in which it is written. Its 12,293 bytes are three reads of 4,096 bytes,
 # and five bytes more.
 long_state() {
-    printf '%s\n' %state 'hubsync state 1' 'replica /'
-    awk 'BEGIN { printf "file "; for (i = 0; i < 6124; i++) printf "%02x", i % 251; print " a" }'
-    echo end
+    local digest
+    seq 2000 | head -c 6056 >"$room/bytes"
+    digest=$(sha256sum <"$room/bytes" | cut -c 1-64)
+    printf '%s\n' %state 'hubsync state 2' "blob $digest $(od -An -v -tx1 <"$room/bytes" | tr -d ' \n')"
+    printf '%s\n' 'replica /' "file $digest ab" end
 }
 
 # Inputs that take many reads.

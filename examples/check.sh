@@ -91,28 +91,32 @@ try_folder() {
 # What `state-of-folder.sh` writes with its options, in a room of its own, where the folders `hub` and `laptop` had the files f1
 # and f2 alike before f1 was edited and f2 deleted.
 try_options() {
-    local script=$folder/state-of-folder.sh digests
+    local script=$folder/state-of-folder.sh one two eleven
     mkdir -p hub/d laptop/d
     printf 1 | tee hub/d/f1 >laptop/d/f1
     printf 2 | tee hub/d/f2 >laptop/d/f2
     "$script" -a hub laptop >earlier
     printf 11 >laptop/d/f1
     rm laptop/d/f2
-    digests=$(printf 'file %s d/f1\nfile %s d/f2' "$(printf 1 | sha256sum | cut -c 1-64)" "$(printf 2 | sha256sum | cut -c 1-64)")
+    one=$(printf 1 | sha256sum | cut -c 1-64)
+    two=$(printf 2 | sha256sum | cut -c 1-64)
+    eleven=$(printf 11 | sha256sum | cut -c 1-64)
     "$script" --archives earlier hub laptop >state 2>said
     cmp -s state - <<LINES || return 1
-hubsync state 1
+hubsync state 2
+$(printf 'blob %s %s\n' "$one" 31 "$two" 32 "$eleven" 3131 | sort)
 replica $PWD/hub
 dir d
-file 31 d/f1
-file 32 d/f2
+file $one d/f1
+file $two d/f2
 replica $PWD/laptop
 dir d
-file 3131 d/f1
+file $eleven d/f1
 archive $PWD/hub
 with $PWD/laptop
 dir d
-$digests
+file $one d/f1
+file $two d/f2
 end
 LINES
     [ ! -s said ] || return 1
@@ -124,16 +128,17 @@ LINES
     ! "$script" hub laptop >state 2>said && [ ! -s state ] || return 1
     "$script" --leave-out hub --archives earlier --as /hosts/laptop laptop >state 2>said || return 1
     cmp -s state - <<LINES || return 1
-hubsync state 1
+hubsync state 2
+blob $two 32
 replica $PWD/hub
 dir d
-file 32 d/f2
+file $two d/f2
 replica /hosts/laptop
 dir d
 archive $PWD/hub
 with $PWD/laptop
 dir d
-${digests#*$'\n'}
+file $two d/f2
 end
 LINES
     cmp -s said - <<LINES

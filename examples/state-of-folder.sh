@@ -7,7 +7,7 @@
 # Each FOLDER gives a replica. Its root is the folder's absolute path without links, or ROOT: the root that the profiles have
 # for it, as for a copy of a folder of another machine. Each -a gives an archive of two folders, with what both have alike now.
 # That is what Unison remembers right after it ran, and at no other time. So keep a state made then, as OLDSTATE: --archives
-# takes over its archives.
+# takes over its archives. It may be of version 1 or 2; what is written is of version 2, which has the bytes of equal files once.
 #
 # A state has only files and directories, of names that are UTF-8 and have no line end, within the limits of its reader. The
 # script names each other path on standard error, writes nothing and ends with status 1. With --leave-out it leaves such a path
@@ -240,16 +240,34 @@ sub write_entry {
     show_progress(++$entries . ' entries read');
 }
 
+# The digest of each file of a folder. Of files with one digest, one is kept as the source of their blob.
+sub find_blobs {
+    my ($blobs, $folder) = @_;
+    for my $path (grep { !is_left_out($_) } @{ $folder->{entries} }) {
+        next if $folder->{sizes}{$path} eq 'dir';
+        my $digest = sha256_hex(bytes_of($folder, $path));
+        $folder->{digests}{$path} = $digest;
+        $blobs->{$digest} //= [ $folder, $path ];
+        show_progress(keys(%$blobs) . ' blobs found');
+    }
+}
+
+# The blobs, in the order of their digests. A file is read again for its blob, so that the bytes of all aren't in memory.
+sub write_blobs {
+    my ($out, $blobs) = @_;
+    for my $digest (sort keys %$blobs) {
+        my ($folder, $path) = @{ $blobs->{$digest} };
+        my $bytes = bytes_of($folder, $path);
+        give_up(1, 'changed while it was read: ' . shown("$folder->{path}/$path")) if sha256_hex($bytes) ne $digest;
+        print $out "blob $digest " . (length $bytes ? unpack 'H*', $bytes : '-') . "\n" or give_up(1, "a temporary file: $!");
+    }
+}
+
 sub write_replica {
     my ($out, $folder) = @_;
     print $out "replica $folder->{root}\n";
     for my $path (grep { !is_left_out($_) } @{ $folder->{entries} }) {
-        if ($folder->{sizes}{$path} eq 'dir') {
-            write_entry($out, "dir $path");
-        } else {
-            my $hex = unpack 'H*', bytes_of($folder, $path);
-            write_entry($out, 'file ' . (length $hex ? $hex : '-') . " $path");
-        }
+        write_entry($out, $folder->{sizes}{$path} eq 'dir' ? "dir $path" : "file $folder->{digests}{$path} $path");
     }
 }
 
@@ -281,8 +299,11 @@ sub write_archive {
 # The text goes to a file first, so that it is written whole or not at all.
 sub write_all {
     my ($out, @archives) = @_;
+    my %blobs;
     $entries = 0;
-    print $out "hubsync state 1\n";
+    print $out "hubsync state 2\n";
+    find_blobs(\%blobs, $_) for @replicas;
+    write_blobs($out, \%blobs);
     write_replica($out, $_) for @replicas;
     write_old_archive($out, $_) for @archives;
     write_archive($out, @$_) for @pairs;

@@ -4,7 +4,6 @@ ghost use Rattle.hub_automaton.specs.Words as words;
 ghost use Rattle.hub_automaton.specs.Masks.{moved_row};
 
 use crate::rows::move_row;
-use smallvec::SmallVec;
 use std::alloc::{AllocError, Global};
 use std::cmp::Ordering;
 use std::hash::{Hash, Hasher};
@@ -12,9 +11,6 @@ use std::marker::Model;
 
 /// How many bits a word has.
 pub(crate) const WORD_BITS: usize = 64;
-
-/// How many words a row may have that needs no allocation.
-const PLACED_WORDS: usize = 4;
 
 /// Masks of the positions of a word: which become active, which come after stars, and which come after pieces that accept
 /// the character and aren't stars.
@@ -25,10 +21,10 @@ pub(crate) struct Masks {
     pub(crate) takers: u64,
 }
 
-/// Bits in words, the first one the lowest. A few words lie in the value itself, and more of them in an allocation.
+/// Bits in words, the first one the lowest.
 #[derive(Debug, Drop)]
 pub(crate) struct Words {
-    words: SmallVec<u64, PLACED_WORDS>,
+    words: Vec<u64>,
 }
 
 impl Model for Words {
@@ -45,7 +41,7 @@ impl Words {
         ensures { IfOk result (λ ws. ws ≡ self.now) }
     {
         Ok(Words {
-            words: SmallVec::from_slice(*self.words.allocator(), self.words.as_slice())?,
+            words: Vec::from_slice(*self.words.allocator(), self.words.as_slice())?,
         })
     }
 
@@ -54,7 +50,6 @@ impl Words {
         ensures ok { OnOk result (self.new ≡ other.now) }
         ensures room { length self.old ≡ length other.now → IsOk result }
     {
-        let _room = self.words.len();
         self.words.clear();
         self.words.extend_from_slice(other.words.as_slice())
     }
@@ -87,8 +82,7 @@ impl Words {
         ensures { self.new ≡ words.with_bit first place self.old }
     {
         if place / WORD_BITS < self.words.len().saturating_sub(first) {
-            let words = self.words.as_mut_slice();
-            words[first + place / WORD_BITS] |= 1 << (place % WORD_BITS);
+            self.words[first + place / WORD_BITS] |= 1 << (place % WORD_BITS);
         }
     }
 
@@ -192,7 +186,7 @@ impl Hash for Words {
 pub(crate) fn pack(alloc: Global, bits: &[bool]) -> Result<Words, AllocError>
     ensures { IfOk result (λ ws. ws ≡ words.packed bits.now) }
 {
-    let mut packed = SmallVec::with_capacity(alloc, bits.len().div_ceil(WORD_BITS))?;
+    let mut packed = Vec::with_capacity(alloc, bits.len() / WORD_BITS + 1)?;
     let mut rest = bits;
     while !rest.is_empty() {
         let (first, more) = rest.split_at(rest.len().min(WORD_BITS));

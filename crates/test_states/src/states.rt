@@ -9,8 +9,11 @@ use std::io::Read;
 use std::str::from_utf8;
 use test_kit::{bytes_of, cut, in_one_line, list_text, outcome_text, word_of};
 
-/// The first line of a state text.
+/// The first line of a state text of version 1, which is read.
 const HEADER: &str = "hubsync state 1\n";
+
+/// The first line of a state text of version 2, which is written.
+const WRITTEN_HEADER: &str = "hubsync state 2\n";
 
 /// What stands between the first line and a line: nothing, a replica, half an archive, an archive, and an `end`.
 const PLACES: [&str; 5] = [
@@ -38,7 +41,7 @@ pub(crate) fn line_answer(alloc: Global, field: &str) -> Result<String> {
 fn place_answer(alloc: Global, place: &str, line: &[u8]) -> Result<String> {
     let text = text_at(alloc, place, line)?;
     let answer = bytes_answer(alloc, text.as_slice())?;
-    if answer.starts_with(HEADER) {
+    if answer.starts_with(WRITTEN_HEADER) {
         return Ok(String::from_str(alloc, "ok")?);
     }
     Ok(answer)

@@ -271,7 +271,7 @@ try_archive() {
     ask 0 state-of-folder.sh --archives old hub
     grep -v '^replica ' written >archive
     compare 'an archive of version 2' archive <<LINES
-hubsync state 1
+hubsync state 2
 archive /hub
 with /hub same
 file $(printf a | sha256sum | cut -c 1-64) to

@@ -319,20 +319,6 @@ say_each_in_run() {
     words=()
 }
 
-# The same state as that of a text of version 1, as it is written: in version 2.
-in_version_2() {
-    perl -MDigest::SHA=sha256_hex -ne '
-        s/^hubsync state 1$/hubsync state 2/;
-        $is_replica = /^replica / if /^(?:replica|archive) /;
-        if ($is_replica && /^file ([0-9a-f]+|-) (.*)/) {
-            my $digest = sha256_hex(pack "H*", $1 eq "-" ? "" : $1);
-            $blobs{$digest} = $1;
-            $_ = "file $digest $2\n";
-        }
-        push @lines, $_;
-        END { print shift @lines, map { "blob $_ $blobs{$_}\n" } sort keys %blobs; print @lines }'
-}
-
 {
     printf 'hubsync state 1\nreplica /srv/hub\ndir a\nfile - a/b\nfile 6869 a/c\ndir a/d\ndir a/d/e\n'
     seq -f 'file 6869 a/d/e/%02.0f' 40

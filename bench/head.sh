@@ -36,6 +36,20 @@ state() {
     echo end
 }
 
+# The same state as that of a text of version 1, as it is written: in version 2.
+in_version_2() {
+    perl -MDigest::SHA=sha256_hex -ne '
+        s/^hubsync state 1$/hubsync state 2/;
+        $is_replica = /^replica / if /^(?:replica|archive) /;
+        if ($is_replica && /^file ([0-9a-f]+|-) (.*)/) {
+            my $digest = sha256_hex(pack "H*", $1 eq "-" ? "" : $1);
+            $blobs{$digest} = $1;
+            $_ = "file $digest $2\n";
+        }
+        push @lines, $_;
+        END { print shift @lines, map { "blob $_ $blobs{$_}\n" } sort keys %blobs; print @lines }'
+}
+
 # Milliseconds between two readings of EPOCHREALTIME, to three places.
 milliseconds() {
     local microseconds=$((10#${2/[.,]/} - 10#${1/[.,]/}))

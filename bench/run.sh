@@ -105,7 +105,7 @@ star_went() {
 prepare() {
     local name=$1 profiles=$2 opening=$3 lines=$4 closing=$5 count=$6
     { "$profiles"; echo %state; "$opening" "$count"; } >"$folder/$name.bundle"
-    { "$lines"; "$closing" "$count"; } >"$folder/$name.answer"
+    { "$lines"; "$closing" "$count" | in_version_2; } >"$folder/$name.answer"
 }
 
 # The same of 64 files of 1 MiB, of bytes that are different each time. Its two states are left for `bench state`.
@@ -124,7 +124,7 @@ prepare_files() {
         cat "$folder/files"
         printf 'archive /srv/hub\nwith /srv/spoke\n'
         cat "$folder/marks"
-    } | state >"$folder/closing"
+    } | state | in_version_2 >"$folder/closing"
     { one_profile; echo %state; cat "$folder/opening"; } >"$folder/files64.bundle"
     { one_same; seq -f 'to /srv/spoke file%02.0f' 64; cat "$folder/closing"; } >"$folder/files64.answer"
 }

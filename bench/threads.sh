@@ -114,12 +114,12 @@ measure() {
 echo "$repetitions repetitions"
 large_teams
 { hub; spokes empty; } | state >"$folder/opening"
-{ hub; spokes full; archives; } | state >"$folder/closing"
+{ hub; spokes full; archives; } | state | in_version_2 >"$folder/closing"
 measure files 8 0.5
 small_teams 32 1030
-{ hub; spokes full; archives; } | state | tee "$folder/opening" >"$folder/closing"
+{ hub; spokes full; archives; } | state | tee "$folder/opening" | in_version_2 >"$folder/closing"
 measure same 32 1.0
 small_teams 32 3092
 { hub; spokes empty; } | state >"$folder/opening"
-{ hub; spokes full; archives; } | state >"$folder/closing"
+{ hub; spokes full; archives; } | state | in_version_2 >"$folder/closing"
 measure new 32 1.0

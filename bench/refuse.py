@@ -170,10 +170,16 @@ class Answered:
 
 
 class Tested(Answered):
-    """Judges the answers of a test program: it ends with an error, and wrote a prefix of the answer."""
+    """Judges the answers of a test program: it ends with an error, and wrote a prefix of the answer. Its error is `WriteFailed` if the
+    text that it writes a state into could not grow. Where it compares two searches of each goal, one refused search is not the same."""
+
+    def judge(self, status, output, errors, thread):
+        word = super().judge(status, output, errors, thread)
+        is_one = output.count(b'not the same') == 1 and output.replace(b'not the same', b'the same') == self.wanted[1]
+        return 'refused step' if word == 'wrong' and status == 0 and not errors and is_one else word
 
     def is_error(self, status, output, errors):
-        words = (b'OutOfMemory', b'out of memory', b'memory allocation failed', b'AllocError', b'no set', b"isn't safe", b'no book', b'no desk')
+        words = (b'OutOfMemory', b'WriteFailed', b'out of memory', b'memory allocation failed', b'AllocError', b'no set', b"isn't safe", b'no book', b'no desk')
         return status == 1 and self.wanted[1].startswith(output) and any(word in errors for word in words)
 
 

@@ -5,7 +5,11 @@ use hub_history::Gate;
 use std::sync::atomic::{AtomicBool, AtomicUsize, Ordering};
 use std::thread;
 
-/// How often a job looks for the other one. It is late if it doesn't come.
+/// How often a job looks for the other one if there are several workers: for some seconds, in case other programs have the
+/// processors. It is late if it doesn't come.
+const PATIENCE: u32 = 4_000_000_000;
+
+/// How often a job looks for the other one if there is one worker.
 const TURNS: u32 = 50_000_000;
 
 /// When jobs meet.
@@ -36,14 +40,17 @@ pub(crate) struct Meeting {
     here: [AtomicBool; 2],
     late: AtomicUsize,
     point: Point,
+    turns: u32,
 }
 
 impl Meeting {
-    pub(crate) fn new(point: Point) -> Meeting {
+    /// No job has come. So many workers step them.
+    pub(crate) fn new(point: Point, workers: usize) -> Meeting {
         Meeting {
             here: [AtomicBool::new(false), AtomicBool::new(false)],
             late: AtomicUsize::new(0),
             point,
+            turns: if workers > 1 { PATIENCE } else { TURNS },
         }
     }
 
@@ -66,7 +73,7 @@ impl Meeting {
         if own.swap(true, Ordering::SeqCst) {
             return;
         }
-        for turn in 0..TURNS {
+        for turn in 0..self.turns {
             if other.load(Ordering::SeqCst) {
                 return;
             }

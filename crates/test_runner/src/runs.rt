@@ -159,7 +159,7 @@ fn meeting_text<R: Threads + Wait + Sync>(
     point: Point,
     workers: usize,
 ) -> Result<String> {
-    let gate = Meeting::new(point);
+    let gate = Meeting::new(point, workers);
     let text = run_text(rt, alloc, verified, state, workers, &gate)?;
     Ok(format!(in alloc; "{} came, {} late, {text}", gate.came(), gate.late())?)
 }
@@ -171,7 +171,7 @@ fn crowd_text<R: Threads + Wait + Sync>(
     state: &State,
     workers: usize,
 ) -> Result<String> {
-    let gate = Crowd::new(verified.set().profiles().len());
+    let gate = Crowd::new(verified.set().profiles().len(), workers);
     let text = run_text(rt, alloc, verified, state, workers, &gate)?;
     Ok(format!(in alloc; "{} at a time, {text}", gate.most())?)
 }

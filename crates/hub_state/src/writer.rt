@@ -1,4 +1,5 @@
-ghost use Rattle.std.specs.Prelude.{◌≡◌, ◌⊎◌, ◌++◌, ◌∷◌, [], false, map, IfErr, OnOk, is_err, string_bytes};
+ghost use Rattle.std.specs.Prelude.{◌≡◌, ◌⊎◌, ◌+◌, ◌*◌, ◌++◌, ◌∷◌, [], false, length, take, map};
+ghost use Rattle.std.specs.Prelude.{IfErr, IfSome, OnOk, is_err};
 ghost use Rattle.std.specs.FinMap as fin;
 ghost use Rattle.std.specs.Io.KnownBytes.{Appends};
 ghost use Rattle.std.specs.List.{flat_map};
@@ -60,32 +61,31 @@ fn write_parts<W: Write>(alloc: Global, output: &mut Watched<W>, state: &State) 
     ensures faults { IfErr result (λ e. (e ≡ Fault.OutOfMemory) ⊎ (e ≡ Fault.WriteFailed)) }
     ensures failed { output.new.failed ≡ says is_write_failed result }
 {
-    let mut text = String::new(alloc);
+    let mut text = Vec::new(alloc);
     let head = head_of(alloc, state.replicas())?;
     push_header(&mut text, head.version)?;
-    write_blobs(alloc, output, &mut text, &head.blobs)?;
-    write_replicas(alloc, output, &mut text, head.version, state.replicas())?;
-    write_archives(alloc, output, &mut text, state.archives())?;
-    text.push_str("end\n")?;
+    write_blobs(output, &mut text, &head.blobs)?;
+    write_replicas(output, &mut text, head.version, state.replicas())?;
+    write_archives(output, &mut text, state.archives())?;
+    push(&mut text, "end\n")?;
     pass_on(output, &mut text)
 }
 
 /// Writes the lines of blobs.
 fn write_blobs<W: Write>(
-    alloc: Global,
     output: &mut Watched<W>,
-    text: &mut String,
+    text: &mut Vec<u8>,
     blobs: &Blobs,
 ) -> Result<(), Fault>
     requires { output.old.failed ≡ false }
     ensures ok { OnOk result (Passes (W.contents output.old.device)
-        (W.contents output.new.device) (string_bytes text.old) (string_bytes text.new)
+        (W.contents output.new.device) text.old.items text.new.items
         (joined_lines (map blob_line (fin.entries blobs.now)))) }
     ensures faults { IfErr result (λ e. (e ≡ Fault.OutOfMemory) ⊎ (e ≡ Fault.WriteFailed)) }
     ensures failed { output.new.failed ≡ says is_write_failed result }
 {
     for (digest, blob) in blobs.iter() {
-        push_blob(alloc, text, digest, blob)?;
+        push_blob(text, digest, blob)?;
         pass_block(output, text)?;
     }
     Ok(())
@@ -93,57 +93,54 @@ fn write_blobs<W: Write>(
 
 /// Writes the lines of the replicas.
 fn write_replicas<W: Write>(
-    alloc: Global,
     output: &mut Watched<W>,
-    text: &mut String,
+    text: &mut Vec<u8>,
     version: Version,
     replicas: &BTreeMap<String, Tree>,
 ) -> Result<(), Fault>
     requires { output.old.failed ≡ false }
     ensures ok { OnOk result (Passes (W.contents output.old.device)
-        (W.contents output.new.device) (string_bytes text.old) (string_bytes text.new)
+        (W.contents output.new.device) text.old.items text.new.items
         (joined_lines (flat_map (replica_lines version) (by_text replicas.now.entries)))) }
     ensures faults { IfErr result (λ e. (e ≡ Fault.OutOfMemory) ⊎ (e ≡ Fault.WriteFailed)) }
     ensures failed { output.new.failed ≡ says is_write_failed result }
 {
     for (root, tree) in replicas.iter() {
         push_root(text, "replica ", root.as_str())?;
-        write_tree(alloc, output, text, version, tree)?;
+        write_tree(output, text, version, tree)?;
     }
     Ok(())
 }
 
 /// Writes the lines of the archives.
 fn write_archives<W: Write>(
-    alloc: Global,
     output: &mut Watched<W>,
-    text: &mut String,
+    text: &mut Vec<u8>,
     archives: &BTreeMap<String, BTreeMap<String, Archive>>,
 ) -> Result<(), Fault>
     requires { output.old.failed ≡ false }
     ensures ok { OnOk result (Passes (W.contents output.old.device)
-        (W.contents output.new.device) (string_bytes text.old) (string_bytes text.new)
+        (W.contents output.new.device) text.old.items text.new.items
         (joined_lines (flat_map archive_lines (fin.entries (pairs_in archives.now.entries))))) }
     ensures faults { IfErr result (λ e. (e ≡ Fault.OutOfMemory) ⊎ (e ≡ Fault.WriteFailed)) }
     ensures failed { output.new.failed ≡ says is_write_failed result }
 {
     for (first, others) in archives.iter() {
-        write_pairs(alloc, output, text, first.as_str(), others)?;
+        write_pairs(output, text, first.as_str(), others)?;
     }
     Ok(())
 }
 
 /// Writes the lines of the archives whose first text is this one.
 fn write_pairs<W: Write>(
-    alloc: Global,
     output: &mut Watched<W>,
-    text: &mut String,
+    text: &mut Vec<u8>,
     first: &str,
     others: &BTreeMap<String, Archive>,
 ) -> Result<(), Fault>
     requires { output.old.failed ≡ false }
     ensures ok { OnOk result (Passes (W.contents output.old.device)
-        (W.contents output.new.device) (string_bytes text.old) (string_bytes text.new)
+        (W.contents output.new.device) text.old.items text.new.items
         (joined_lines (flat_map archive_lines (below first.now (by_text others.now.entries))))) }
     ensures faults { IfErr result (λ e. (e ≡ Fault.OutOfMemory) ⊎ (e ≡ Fault.WriteFailed)) }
     ensures failed { output.new.failed ≡ says is_write_failed result }
@@ -151,29 +148,28 @@ fn write_pairs<W: Write>(
 {
     for (second, archive) in others.iter() {
         push_pair(text, first, second.as_str())?;
-        write_marks(alloc, output, text, archive)?;
+        write_marks(output, text, archive)?;
     }
     Ok(())
 }
 
 /// Writes the lines of a replica's entries.
 fn write_tree<W: Write>(
-    alloc: Global,
     output: &mut Watched<W>,
-    text: &mut String,
+    text: &mut Vec<u8>,
     version: Version,
     tree: &Tree,
 ) -> Result<(), Fault>
     requires { output.old.failed ≡ false }
     ensures ok { OnOk result (Passes (W.contents output.old.device)
-        (W.contents output.new.device) (string_bytes text.old) (string_bytes text.new)
+        (W.contents output.new.device) text.old.items text.new.items
         (joined_lines (flat_map (contents_lines version) (fin.entries tree.now)))) }
     ensures faults { IfErr result (λ e. (e ≡ Fault.OutOfMemory) ⊎ (e ≡ Fault.WriteFailed)) }
     ensures failed { output.new.failed ≡ says is_write_failed result }
 {
     for entry in tree.entries()? {
         let (path, stored) = entry?;
-        push_entry(alloc, text, version, &path, stored)?;
+        push_entry(text, version, &path, stored)?;
         pass_block(output, text)?;
     }
     Ok(())
@@ -181,30 +177,29 @@ fn write_tree<W: Write>(
 
 /// Writes the lines of an archive's marks.
 fn write_marks<W: Write>(
-    alloc: Global,
     output: &mut Watched<W>,
-    text: &mut String,
+    text: &mut Vec<u8>,
     archive: &Archive,
 ) -> Result<(), Fault>
     requires { output.old.failed ≡ false }
     ensures ok { OnOk result (Passes (W.contents output.old.device)
-        (W.contents output.new.device) (string_bytes text.old) (string_bytes text.new)
+        (W.contents output.new.device) text.old.items text.new.items
         (joined_lines (flat_map mark_lines (fin.entries archive.now)))) }
     ensures faults { IfErr result (λ e. (e ≡ Fault.OutOfMemory) ⊎ (e ≡ Fault.WriteFailed)) }
     ensures failed { output.new.failed ≡ says is_write_failed result }
 {
     for (path, mark) in archive.iter() {
-        push_mark(alloc, text, *mark, path)?;
+        push_mark(text, *mark, path)?;
         pass_block(output, text)?;
     }
     Ok(())
 }
 
 /// Passes the text on if there is a block of it.
-fn pass_block<W: Write>(output: &mut Watched<W>, text: &mut String) -> Result<(), Fault>
+fn pass_block<W: Write>(output: &mut Watched<W>, text: &mut Vec<u8>) -> Result<(), Fault>
     requires { output.old.failed ≡ false }
     ensures ok { OnOk result (Passes (W.contents output.old.device)
-        (W.contents output.new.device) (string_bytes text.old) (string_bytes text.new) []) }
+        (W.contents output.new.device) text.old.items text.new.items []) }
     ensures faults { IfErr result (λ e. e ≡ Fault.WriteFailed) }
     ensures failed { output.new.failed ≡ is_err result }
 {
@@ -215,15 +210,15 @@ fn pass_block<W: Write>(output: &mut Watched<W>, text: &mut String) -> Result<()
 }
 
 /// Passes all of the text on, and empties it.
-fn pass_on<W: Write>(output: &mut Watched<W>, text: &mut String) -> Result<(), Fault>
+fn pass_on<W: Write>(output: &mut Watched<W>, text: &mut Vec<u8>) -> Result<(), Fault>
     requires { output.old.failed ≡ false }
     ensures ok { OnOk result (Appends (W.contents output.old.device)
-        (W.contents output.new.device) (string_bytes text.old)) }
-    ensures empty { OnOk result (string_bytes text.new ≡ []) }
+        (W.contents output.new.device) text.old.items) }
+    ensures empty { OnOk result (text.new.items ≡ []) }
     ensures faults { IfErr result (λ e. e ≡ Fault.WriteFailed) }
     ensures failed { output.new.failed ≡ is_err result }
 {
-    match output.write_all(text.as_bytes()) {
+    match output.write_all(text.as_slice()) {
         Ok(()) => {
             text.clear();
             Ok(())
@@ -232,154 +227,169 @@ fn pass_on<W: Write>(output: &mut Watched<W>, text: &mut String) -> Result<(), F
     }
 }
 
+/// Appends a text.
+fn push(text: &mut Vec<u8>, more: &str) -> Result<(), AllocError>
+    ensures { OnOk result (text.new.items ≡ text.old.items ++ more.now) }
+{
+    text.extend_from_slice(more.as_bytes())
+}
+
 /// Appends the header.
-fn push_header(text: &mut String, version: Version) -> Result<(), AllocError>
+fn push_header(text: &mut Vec<u8>, version: Version) -> Result<(), AllocError>
     ensures { OnOk result
-        (string_bytes text.new ≡ string_bytes text.old ++ (header version ++ 10 ∷ [])) }
+        (text.new.items ≡ text.old.items ++ (header version ++ 10 ∷ [])) }
 {
     match version {
-        Version::One => text.push_str("hubsync state 1\n"),
-        Version::Two => text.push_str("hubsync state 2\n"),
+        Version::One => push(text, "hubsync state 1\n"),
+        Version::Two => push(text, "hubsync state 2\n"),
     }
 }
 
 /// Appends the line of a root, after a word.
-fn push_root(text: &mut String, word: &str, root: &str) -> Result<(), AllocError>
+fn push_root(text: &mut Vec<u8>, word: &str, root: &str) -> Result<(), AllocError>
     ensures { OnOk result
-        (string_bytes text.new ≡ string_bytes text.old ++ (word.now ++ root.now ++ 10 ∷ [])) }
+        (text.new.items ≡ text.old.items ++ (word.now ++ root.now ++ 10 ∷ [])) }
 {
-    text.push_str(word)?;
-    text.push_str(root)?;
-    text.push('\n')?;
-    Ok(())
+    push(text, word)?;
+    push(text, root)?;
+    push(text, "\n")
 }
 
 /// Appends the lines of the two roots of a pair.
-fn push_pair(text: &mut String, first: &str, second: &str) -> Result<(), AllocError>
-    ensures { OnOk result (string_bytes text.new
-        ≡ string_bytes text.old ++ joined_lines (pair_lines (first.now ∷ second.now ∷ []))) }
+fn push_pair(text: &mut Vec<u8>, first: &str, second: &str) -> Result<(), AllocError>
+    ensures { OnOk result (text.new.items
+        ≡ text.old.items ++ joined_lines (pair_lines (first.now ∷ second.now ∷ []))) }
 {
     push_root(text, "archive ", first)?;
-    push_root(text, "with ", second)?;
-    Ok(())
+    push_root(text, "with ", second)
 }
 
 /// Appends the line of what a replica has at a path.
 fn push_entry(
-    alloc: Global,
-    text: &mut String,
+    text: &mut Vec<u8>,
     version: Version,
     path: &RelPath,
     stored: Stored<'_>,
 ) -> Result<(), AllocError>
-    ensures { OnOk result (string_bytes text.new ≡ string_bytes text.old
+    ensures { OnOk result (text.new.items ≡ text.old.items
         ++ joined_lines (contents_lines version (path.now, stored_contents stored.entry))) }
 {
     match stored {
-        Stored::File(blob) => push_file(alloc, text, version, blob, path),
+        Stored::File(blob) => push_file(text, version, blob, path),
         Stored::Directory => push_dir(text, path),
     }
 }
 
 /// Appends the line of a directory.
-fn push_dir(text: &mut String, path: &RelPath) -> Result<(), AllocError>
-    ensures { OnOk result (string_bytes text.new
-        ≡ string_bytes text.old ++ dir_line path.now ++ 10 ∷ []) }
+fn push_dir(text: &mut Vec<u8>, path: &RelPath) -> Result<(), AllocError>
+    ensures { OnOk result (text.new.items
+        ≡ text.old.items ++ dir_line path.now ++ 10 ∷ []) }
 {
-    text.push_str("dir ")?;
-    text.push_str(path.text()?.as_str())?;
-    text.push('\n')?;
-    Ok(())
+    push(text, "dir ")?;
+    push(text, path.as_str())?;
+    push(text, "\n")
 }
 
 /// Appends the digits of bytes.
-fn push_digits(alloc: Global, text: &mut String, bytes: &[u8]) -> Result<(), AllocError>
-    ensures { OnOk result
-        (string_bytes text.new ≡ string_bytes text.old ++ encode_lower bytes.now) }
+fn push_digits(text: &mut Vec<u8>, bytes: &[u8]) -> Result<(), AllocError>
+    ensures { OnOk result (text.new.items ≡ text.old.items ++ encode_lower bytes.now) }
 {
-    text.push_str(hex::encode(alloc, bytes)?.as_str())?;
+    let start = text.len();
+    let Some(end) = digits_end(start, bytes.len()) else {
+        return Err(AllocError);
+    };
+    text.resize(end, 0)?;
+    write_digits(text.as_mut_slice(), start, bytes);
     Ok(())
+}
+
+/// Where the digits of so many bytes end, if they begin at `start` and a `usize` is large enough.
+fn digits_end(start: usize, count: usize) -> Option<usize>
+    ensures { IfSome result (λ end. end ≡ start + 2 * count) }
+{
+    count.checked_mul(2)?.checked_add(start)
+}
+
+/// Writes the digits of bytes over what is there from `start` on.
+fn write_digits(text: &mut [u8], start: usize, bytes: &[u8])
+    requires { length text.old ≡ start + 2 * length bytes.now }
+    ensures { text.new ≡ take start text.old ++ encode_lower bytes.now }
+{
+    let Ok(()) = hex::encode_to_slice(bytes, &mut text[start..]) else {
+        unreachable!();
+    };
 }
 
 /// Appends the field of bytes.
-fn push_hex(alloc: Global, text: &mut String, bytes: &[u8]) -> Result<(), AllocError>
-    ensures { OnOk result (string_bytes text.new ≡ string_bytes text.old ++ hex_field bytes.now) }
+fn push_hex(text: &mut Vec<u8>, bytes: &[u8]) -> Result<(), AllocError>
+    ensures { OnOk result (text.new.items ≡ text.old.items ++ hex_field bytes.now) }
 {
     if bytes.is_empty() {
-        text.push('-')?;
-        return Ok(());
+        return push(text, "-");
     }
-    push_digits(alloc, text, bytes)
+    push_digits(text, bytes)
 }
 
 /// Appends the line of a blob.
-fn push_blob(
-    alloc: Global,
-    text: &mut String,
-    digest: &[u8; 32],
-    blob: &Blob,
-) -> Result<(), AllocError>
-    ensures { OnOk result (string_bytes text.new
-        ≡ string_bytes text.old ++ (blob_line (digest.now, blob.now) ++ 10 ∷ [])) }
+fn push_blob(text: &mut Vec<u8>, digest: &[u8; 32], blob: &Blob) -> Result<(), AllocError>
+    ensures { OnOk result (text.new.items
+        ≡ text.old.items ++ (blob_line (digest.now, blob.now) ++ 10 ∷ [])) }
 {
-    text.push_str("blob ")?;
-    push_digits(alloc, text, digest.as_slice())?;
-    text.push(' ')?;
-    push_hex(alloc, text, blob.bytes())?;
-    text.push('\n')?;
-    Ok(())
+    push(text, "blob ")?;
+    push_digits(text, digest.as_slice())?;
+    push(text, " ")?;
+    push_hex(text, blob.bytes())?;
+    push(text, "\n")
 }
 
 /// Appends the field of a file of a replica.
-fn push_field(
-    alloc: Global,
-    text: &mut String,
-    version: Version,
-    blob: &Blob,
-) -> Result<(), AllocError>
+fn push_field(text: &mut Vec<u8>, version: Version, blob: &Blob) -> Result<(), AllocError>
     ensures { OnOk result
-        (string_bytes text.new ≡ string_bytes text.old ++ file_field version blob.now) }
+        (text.new.items ≡ text.old.items ++ file_field version blob.now) }
 {
     match version {
-        Version::One => push_hex(alloc, text, blob.bytes()),
-        Version::Two => push_digits(alloc, text, blob.digest().as_slice()),
+        Version::One => push_hex(text, blob.bytes()),
+        Version::Two => push_digits(text, blob.digest().as_slice()),
     }
 }
 
 /// Appends the line of a file of a replica.
 fn push_file(
-    alloc: Global,
-    text: &mut String,
+    text: &mut Vec<u8>,
     version: Version,
     blob: &Blob,
     path: &RelPath,
 ) -> Result<(), AllocError>
-    ensures { OnOk result (string_bytes text.new
-        ≡ string_bytes text.old ++ file_line (file_field version blob.now) path.now ++ 10 ∷ []) }
+    ensures { OnOk result (text.new.items
+        ≡ text.old.items ++ file_line (file_field version blob.now) path.now ++ 10 ∷ []) }
 {
-    text.push_str("file ")?;
-    push_field(alloc, text, version, blob)?;
-    text.push(' ')?;
-    text.push_str(path.text()?.as_str())?;
-    text.push('\n')?;
-    Ok(())
+    push(text, "file ")?;
+    push_field(text, version, blob)?;
+    push(text, " ")?;
+    push(text, path.as_str())?;
+    push(text, "\n")
 }
 
 /// Appends the line of a mark of an archive, if there is one.
-fn push_mark(alloc: Global, text: &mut String, mark: Mark, path: &RelPath) -> Result<(), AllocError>
-    ensures { OnOk result (string_bytes text.new
-        ≡ string_bytes text.old ++ joined_lines (mark_lines (path.now, mark))) }
+fn push_mark(text: &mut Vec<u8>, mark: Mark, path: &RelPath) -> Result<(), AllocError>
+    ensures { OnOk result (text.new.items
+        ≡ text.old.items ++ joined_lines (mark_lines (path.now, mark))) }
 {
     match mark {
-        Mark::File(digest) => {
-            text.push_str("file ")?;
-            push_digits(alloc, text, digest.as_slice())?;
-            text.push(' ')?;
-            text.push_str(path.text()?.as_str())?;
-            text.push('\n')?;
-        }
-        Mark::Directory => push_dir(text, path)?,
-        Mark::Absent => {}
+        Mark::File(digest) => push_old_file(text, &digest, path),
+        Mark::Directory => push_dir(text, path),
+        Mark::Absent => Ok(()),
     }
-    Ok(())
+}
+
+/// Appends the line of a file of an archive.
+fn push_old_file(text: &mut Vec<u8>, digest: &[u8; 32], path: &RelPath) -> Result<(), AllocError>
+    ensures { OnOk result (text.new.items
+        ≡ text.old.items ++ file_line (encode_lower digest.now) path.now ++ 10 ∷ []) }
+{
+    push(text, "file ")?;
+    push_digits(text, digest.as_slice())?;
+    push(text, " ")?;
+    push(text, path.as_str())?;
+    push(text, "\n")
 }

@@ -1,4 +1,4 @@
-use Rattle.std.proofs.Common.{◌≡◌, false, List, ◌++◌, BTreeMap, String, Global, string_bytes}
+use Rattle.std.proofs.Common.{◌≡◌, false, List, ◌++◌, BTreeMap, String, Global}
 use Rattle.std.specs.List.{flat_map}
 use Rattle.hub_tree.specs.Tree.{Archive}
 use Rattle.hub_state.specs.Devices.{Passes}
@@ -10,5 +10,5 @@ use Rattle.hub_state.proofs.writer.write_archives.Given as goal
 abbrev pub invariant-loop-first : goal.invariant-loop-first
 invariant-loop-first g l =
     (es : List (String Global × BTreeMap (String Global) Archive)) × (es ++ l.first-iterator ≡ l.archives.entries)
-    × Passes (g.W.Write.contents l.fn.output.device) (g.W.Write.contents l.output.device) (string_bytes l.fn.text) (string_bytes l.text) (joined_lines (flat_map archive_lines (pairs (by_two es))))
+    × Passes (g.W.Write.contents l.fn.output.device) (g.W.Write.contents l.output.device) l.fn.text.items l.text.items (joined_lines (flat_map archive_lines (pairs (by_two es))))
     × (l.output.failed ≡ false) × AllSorted (by_two es)

@@ -1,4 +1,4 @@
-use Rattle.std.proofs.Common.{ℕ, List, [], ◌∷◌, ◌++◌, map, string_bytes, sym, ap, ◌∙◌, subst, append-nil, append_assoc}
+use Rattle.std.proofs.Common.{ℕ, List, [], ◌∷◌, ◌++◌, map, sym, ap, ◌∙◌, subst, append-nil, append_assoc}
 use Rattle.hub_state.specs.Devices.{Passes}
 use Rattle.hub_state.specs.Writing.{blob_line, joined_lines}
 use Rattle.hub_state.proofs.Passing.{joined_mapped, passes-start, passes-step}
@@ -8,7 +8,7 @@ pub loop-digest-init : goal.loop-digest-init
 loop-digest-init g c = (
   [],
   c.into_iter-digest-iterator.ensures.into_iter_gives ∙ c.iter-digest-items.ensures,
-  passes-start (g.W.Write.contents c.args.output.now.device) (string_bytes c.args.text.now),
+  passes-start (g.W.Write.contents c.args.output.now.device) c.args.text.now.items,
   c.requires,
 )
 
@@ -22,7 +22,7 @@ loop-digest-preserved g c =
       es ++ x ∷ [],
       append_assoc es (x ∷ []) c.next.new.self ∙ ap (λ (r : List (List ℕ × List ℕ)). es ++ r) (sym c.in-Some.ensures.steps) ∙ inv.1,
       passes-step (g.W.Write.contents c.args.output.now.device) (g.W.Write.contents c.loop-digest.output.device) (g.W.Write.contents c.pass_block.new.output.device)
-          (string_bytes c.args.text.now) (string_bytes c.loop-digest.text) (string_bytes c.push_blob.new.text) (string_bytes c.pass_block.new.text)
+          c.args.text.now.items c.loop-digest.text.items c.push_blob.new.text.items c.pass_block.new.text.items
           done s [] (joined_lines (map blob_line (es ++ x ∷ []))) inv.2 c.in_ok-push_blob.ensures c.in_ok-pass_block.ensures.ok
           (joined_mapped blob_line es x ∙ ap (λ (u : List ℕ). done ++ u) (sym (append-nil s))),
       c.in_ok-pass_block.ensures.failed,
@@ -32,6 +32,6 @@ pub returns-clause-ok : goal.returns-clause-ok
 returns-clause-ok g c =
     let inv = c.loop-digest.invariant in
     subst
-    (λ (es : List (List ℕ × List ℕ)). Passes (g.W.Write.contents c.args.output.now.device) (g.W.Write.contents c.loop-digest.output.device) (string_bytes c.args.text.now) (string_bytes c.loop-digest.text)
+    (λ (es : List (List ℕ × List ℕ)). Passes (g.W.Write.contents c.args.output.now.device) (g.W.Write.contents c.loop-digest.output.device) c.args.text.now.items c.loop-digest.text.items
     (joined_lines (map blob_line es)))
     (sym (append-nil inv.0) ∙ ap (λ (r : List (List ℕ × List ℕ)). inv.0 ++ r) (sym c.in-None.ensures.steps.0) ∙ inv.1) inv.2

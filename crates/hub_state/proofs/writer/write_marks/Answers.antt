@@ -1,4 +1,4 @@
-use Rattle.std.proofs.Common.{ℕ, List, [], ◌∷◌, ◌++◌, string_bytes, sym, ap, ◌∙◌, subst, append-nil, append_assoc}
+use Rattle.std.proofs.Common.{ℕ, List, [], ◌∷◌, ◌++◌, sym, ap, ◌∙◌, subst, append-nil, append_assoc}
 use Rattle.std.specs.List.{flat_map}
 use Rattle.hub_path.specs.Path.{Path}
 use Rattle.hub_tree.specs.declared.contents.Mark.{Mark}
@@ -11,7 +11,7 @@ pub loop-path-init : goal.loop-path-init
 loop-path-init g c = (
   [],
   c.into_iter-path-iterator.ensures.into_iter_gives ∙ c.iter-path-items.ensures,
-  passes-start (g.W.Write.contents c.args.output.now.device) (string_bytes c.args.text.now),
+  passes-start (g.W.Write.contents c.args.output.now.device) c.args.text.now.items,
   c.requires,
 )
 
@@ -25,7 +25,7 @@ loop-path-preserved g c =
       es ++ x ∷ [],
       append_assoc es (x ∷ []) c.next.new.self ∙ ap (λ (r : List (Path × Mark)). es ++ r) (sym c.in-Some.ensures.steps) ∙ inv.1,
       passes-step (g.W.Write.contents c.args.output.now.device) (g.W.Write.contents c.loop-path.output.device) (g.W.Write.contents c.pass_block.new.output.device)
-          (string_bytes c.args.text.now) (string_bytes c.loop-path.text) (string_bytes c.push_mark.new.text) (string_bytes c.pass_block.new.text)
+          c.args.text.now.items c.loop-path.text.items c.push_mark.new.text.items c.pass_block.new.text.items
           done s [] (joined_lines (flat_map mark_lines (es ++ x ∷ []))) inv.2 c.in_ok-push_mark.ensures c.in_ok-pass_block.ensures.ok
           (joined_one mark_lines es x ∙ ap (λ (u : List ℕ). done ++ u) (sym (append-nil s))),
       c.in_ok-pass_block.ensures.failed,
@@ -35,6 +35,6 @@ pub returns-clause-ok : goal.returns-clause-ok
 returns-clause-ok g c =
     let inv = c.loop-path.invariant in
     subst
-    (λ (es : List (Path × Mark)). Passes (g.W.Write.contents c.args.output.now.device) (g.W.Write.contents c.loop-path.output.device) (string_bytes c.args.text.now) (string_bytes c.loop-path.text)
+    (λ (es : List (Path × Mark)). Passes (g.W.Write.contents c.args.output.now.device) (g.W.Write.contents c.loop-path.output.device) c.args.text.now.items c.loop-path.text.items
     (joined_lines (flat_map mark_lines es)))
     (sym (append-nil inv.0) ∙ ap (λ (r : List (Path × Mark)). inv.0 ++ r) (sym c.in-None.ensures.steps.0) ∙ inv.1) inv.2

@@ -1,4 +1,4 @@
-use Rattle.std.proofs.Common.{◌≡◌, false, List, ◌++◌, string_bytes}
+use Rattle.std.proofs.Common.{◌≡◌, false, List, ◌++◌}
 use Rattle.std.specs.FinMap as fin
 use Rattle.std.specs.List.{flat_map}
 use Rattle.hub_path.specs.Path.{Path}
@@ -10,5 +10,5 @@ use Rattle.hub_state.proofs.writer.write_marks.Given as goal
 abbrev pub invariant-loop-path : goal.invariant-loop-path
 invariant-loop-path g l =
     (es : List (Path × Mark)) × (es ++ l.path-iterator ≡ fin.entries l.archive)
-    × Passes (g.W.Write.contents l.fn.output.device) (g.W.Write.contents l.output.device) (string_bytes l.fn.text) (string_bytes l.text) (joined_lines (flat_map mark_lines es))
+    × Passes (g.W.Write.contents l.fn.output.device) (g.W.Write.contents l.output.device) l.fn.text.items l.text.items (joined_lines (flat_map mark_lines es))
     × (l.output.failed ≡ false)

@@ -1,4 +1,4 @@
-use Rattle.std.proofs.Common.{◌≡◌, List, ℕ, map, [], ◌∷◌, ◌++◌, string_bytes, refl, sym, ap, ◌∙◌, subst, append-nil}
+use Rattle.std.proofs.Common.{◌≡◌, List, ℕ, map, [], ◌∷◌, ◌++◌, refl, sym, ap, ◌∙◌, subst, append-nil}
 use Rattle.std.specs.FinMap as fin
 use Rattle.std.specs.Io.KnownBytes.{Appends}
 use Rattle.std.specs.List.{flat_map}
@@ -22,12 +22,12 @@ returns-clause-whole g c =
     let d = g.W.Write.contents c.write_replicas.new.output.device in
     let e = g.W.Write.contents c.write_archives.new.output.device in
     let f = g.W.Write.contents c.pass_on.new.output.device in
-    let x : List ℕ = string_bytes c.new-text.result in
-    let y : List ℕ = string_bytes c.write_blobs.new.text in
-    let z : List ℕ = string_bytes c.write_replicas.new.text in
-    let w : List ℕ = string_bytes c.write_archives.new.text in
-    let u : List ℕ = string_bytes c.push_str.new.self in
-    let p : List ℕ = string_bytes c.push_header.new.text in
+    let x : List ℕ = c.new-text.result.items in
+    let y : List ℕ = c.write_blobs.new.text.items in
+    let z : List ℕ = c.write_replicas.new.text.items in
+    let w : List ℕ = c.write_archives.new.text.items in
+    let u : List ℕ = c.push.new.text.items in
+    let p : List ℕ = c.push_header.new.text.items in
     let last : List ℕ = end_line ++ 10 ∷ [] in
     let first : List ℕ = header v ++ 10 ∷ [] in
     let bs : List ℕ = joined_lines (map blob_line (fin.entries c.in_ok-head.head.blobs)) in
@@ -38,9 +38,9 @@ returns-clause-whole g c =
     let two : Passes a d x z (head ++ rs) = passes-step a b d x y y z head [] rs (head ++ rs) one (sym (append-nil y)) c.in_ok-write_replicas.ensures.ok refl in
     let three : Passes a e x w (head ++ rs ++ ks) = passes-step a d e x z z w (head ++ rs) [] ks (head ++ rs ++ ks) two (sym (append-nil z)) c.in_ok-write_archives.ensures.ok refl in
     let all : List ℕ = head ++ rs ++ ks ++ (last ++ []) in
-    let four : Passes a e x u all = passes-step a e e x w u u (head ++ rs ++ ks) last [] all three c.in_ok-push_str.ensures.bytes (passes-start e u) refl in
+    let four : Passes a e x u all = passes-step a e e x w u u (head ++ rs ++ ks) last [] all three c.in_ok-push.ensures (passes-start e u) refl in
     let same : x ++ all ≡ state_text S =
-    ap (λ (t : List ℕ). t ++ all) c.new-text.ensures.bytes
+    ap (λ (t : List ℕ). t ++ all) c.new-text.ensures.items
     ∙ ap (λ (ls : List (List ℕ)). first ++ joined_lines ls ++ rs ++ ks ++ (last ++ [])) c.in_ok-head.ensures.blobs
     ∙ ap (λ (es : List (Text × Replica)). joined_lines (header v ∷ blob_lines v (flat_map replica_files es)) ++ rs ++ ks ++ (last ++ [])) (sym c.replicas.ensures)
     ∙ ap (λ (es : List (Text × Replica)). joined_lines (header v ∷ blob_lines v (flat_map replica_files (fin.entries S.replicas))) ++ joined_lines (flat_map (replica_lines v) es) ++ ks ++ (last ++ [])) (sym c.replicas-2.ensures)

@@ -13,7 +13,7 @@ pub loop-root-init : goal.loop-root-init
 loop-root-init g c = (
   [],
   c.into_iter-root-iterator.ensures.into_iter_gives ∙ c.iter-root-items.ensures.rest,
-  passes-start (g.W.Write.contents c.args.output.now.device) (string_bytes c.args.text.now),
+  passes-start (g.W.Write.contents c.args.output.now.device) c.args.text.now.items,
   c.requires,
 )
 
@@ -22,14 +22,14 @@ loop-root-preserved g c =
     let inv = c.loop-root.invariant in
     let es = inv.0 in
     let x : String Global × Replica = (c.in-Some.root.now, c.in-Some.tree.now) in
-    let y : List ℕ = string_bytes c.loop-root.text in
+    let y : List ℕ = c.loop-root.text.items in
     let s : List ℕ = codes "replica " ++ string_bytes x.0 ++ 10 ∷ [] in
-    let push : string_bytes c.push_root.new.text ≡ y ++ s = c.in_ok-push_root.ensures ∙ ap (λ (t : List ℕ). y ++ (codes "replica " ++ t ++ 10 ∷ [])) c.as_str.ensures.value in
+    let push : c.push_root.new.text.items ≡ y ++ s = c.in_ok-push_root.ensures ∙ ap (λ (t : List ℕ). y ++ (codes "replica " ++ t ++ 10 ∷ [])) c.as_str.ensures.value in
     let done : List ℕ = joined_lines (flat_map (replica_lines c.args.version) (by_text es)) in (
       es ++ x ∷ [],
       append_assoc es (x ∷ []) c.next.new.self ∙ ap (λ (r : List (String Global × Replica)). es ++ r) (sym c.in-Some.ensures.steps) ∙ inv.1,
       passes-step (g.W.Write.contents c.args.output.now.device) (g.W.Write.contents c.loop-root.output.device) (g.W.Write.contents c.write_tree.new.output.device)
-          (string_bytes c.args.text.now) y (string_bytes c.push_root.new.text) (string_bytes c.write_tree.new.text)
+          c.args.text.now.items y c.push_root.new.text.items c.write_tree.new.text.items
           done s (joined_lines (flat_map (contents_lines c.args.version) (fin.entries x.1))) (joined_lines (flat_map (replica_lines c.args.version) (by_text (es ++ x ∷ []))))
           inv.2 push c.in_ok-write_tree.ensures.ok (lines_more (replica_lines c.args.version) es x),
       c.in_ok-write_tree.ensures.failed,
@@ -39,6 +39,6 @@ pub returns-clause-ok : goal.returns-clause-ok
 returns-clause-ok g c =
     let inv = c.loop-root.invariant in
     subst
-    (λ (es : List (String Global × Replica)). Passes (g.W.Write.contents c.args.output.now.device) (g.W.Write.contents c.loop-root.output.device) (string_bytes c.args.text.now) (string_bytes c.loop-root.text)
+    (λ (es : List (String Global × Replica)). Passes (g.W.Write.contents c.args.output.now.device) (g.W.Write.contents c.loop-root.output.device) c.args.text.now.items c.loop-root.text.items
     (joined_lines (flat_map (replica_lines c.args.version) (by_text es))))
     (sym (append-nil inv.0) ∙ ap (λ (r : List (String Global × Replica)). inv.0 ++ r) (sym c.in-None.ensures.steps.0) ∙ inv.1) inv.2

@@ -1,4 +1,4 @@
-use Rattle.std.proofs.Common.{◌≡◌, false, List, ◌++◌, String, Global, string_bytes}
+use Rattle.std.proofs.Common.{◌≡◌, false, List, ◌++◌, String, Global}
 use Rattle.std.specs.List.{flat_map}
 use Rattle.hub_tree.specs.Tree.{Replica}
 use Rattle.hub_state.specs.Devices.{Passes}
@@ -9,5 +9,5 @@ use Rattle.hub_state.proofs.writer.write_replicas.Given as goal
 abbrev pub invariant-loop-root : goal.invariant-loop-root
 invariant-loop-root g l =
     (es : List (String Global × Replica)) × (es ++ l.root-iterator ≡ l.replicas.entries)
-    × Passes (g.W.Write.contents l.fn.output.device) (g.W.Write.contents l.output.device) (string_bytes l.fn.text) (string_bytes l.text) (joined_lines (flat_map (replica_lines l.version) (by_text es)))
+    × Passes (g.W.Write.contents l.fn.output.device) (g.W.Write.contents l.output.device) l.fn.text.items l.text.items (joined_lines (flat_map (replica_lines l.version) (by_text es)))
     × (l.output.failed ≡ false)

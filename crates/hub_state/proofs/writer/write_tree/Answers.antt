@@ -1,4 +1,4 @@
-use Rattle.std.proofs.Common.{ℕ, List, [], ◌∷◌, ◌++◌, string_bytes, sym, ap, ◌∙◌, subst, append-nil, append_assoc}
+use Rattle.std.proofs.Common.{ℕ, List, [], ◌∷◌, ◌++◌, sym, ap, ◌∙◌, subst, append-nil, append_assoc}
 use Rattle.std.specs.List.{flat_map}
 use Rattle.hub_path.specs.Path.{Path}
 use Rattle.hub_tree.specs.Stored.{stored_contents}
@@ -12,7 +12,7 @@ pub loop-entry-init : goal.loop-entry-init
 loop-entry-init g c = (
   [],
   c.into_iter-entry-iterator.ensures.into_iter_gives ∙ c.in_ok-entry-items.ensures,
-  passes-start (g.W.Write.contents c.args.output.now.device) (string_bytes c.args.text.now),
+  passes-start (g.W.Write.contents c.args.output.now.device) c.args.text.now.items,
   c.requires,
 )
 
@@ -29,7 +29,7 @@ loop-entry-preserved g c =
           ∙ ap (λ (r : List (Path × Contents)). es ++ r) (sym (next_entry c.loop-entry.entry-iterator c.next.new.self c.in-Some.entry (c.in_ok-path.path, c.in_ok-path.stored) c.in-Some.ensures.steps c.in_ok-path.was))
           ∙ inv.1,
       passes-step (g.W.Write.contents c.args.output.now.device) (g.W.Write.contents c.loop-entry.output.device) (g.W.Write.contents c.pass_block.new.output.device)
-          (string_bytes c.args.text.now) (string_bytes c.loop-entry.text) (string_bytes c.push_entry.new.text) (string_bytes c.pass_block.new.text)
+          c.args.text.now.items c.loop-entry.text.items c.push_entry.new.text.items c.pass_block.new.text.items
           done s [] (joined_lines (flat_map (contents_lines c.args.version) (es ++ x ∷ []))) inv.2 c.in_ok-push_entry.ensures c.in_ok-pass_block.ensures.ok
           (joined_one (contents_lines c.args.version) es x ∙ ap (λ (u : List ℕ). done ++ u) (sym (append-nil s))),
       c.in_ok-pass_block.ensures.failed,
@@ -47,7 +47,7 @@ loop-entry-preserved-in_ok-pass_block g c =
           ∙ ap (λ (r : List (Path × Contents)). es ++ r) (sym (next_entry c.loop-entry.entry-iterator c.next.new.self c.in-Some.entry (c.in_ok-path.path, c.in_ok-path.stored) c.in-Some.ensures.steps c.in_ok-path.was))
           ∙ inv.1,
       passes-step (g.W.Write.contents c.args.output.now.device) (g.W.Write.contents c.loop-entry.output.device) (g.W.Write.contents c.pass_block.new.output.device)
-          (string_bytes c.args.text.now) (string_bytes c.loop-entry.text) (string_bytes c.push_entry.new.text) (string_bytes c.pass_block.new.text)
+          c.args.text.now.items c.loop-entry.text.items c.push_entry.new.text.items c.pass_block.new.text.items
           done s [] (joined_lines (flat_map (contents_lines c.args.version) (es ++ x ∷ []))) inv.2 c.in_ok-push_entry.ensures c.in_ok-pass_block.ensures.ok
           (joined_one (contents_lines c.args.version) es x ∙ ap (λ (u : List ℕ). done ++ u) (sym (append-nil s))),
       c.in_ok-pass_block.ensures.failed,
@@ -57,6 +57,6 @@ pub returns-clause-ok : goal.returns-clause-ok
 returns-clause-ok g c =
     let inv = c.loop-entry.invariant in
     subst
-    (λ (es : List (Path × Contents)). Passes (g.W.Write.contents c.args.output.now.device) (g.W.Write.contents c.loop-entry.output.device) (string_bytes c.args.text.now) (string_bytes c.loop-entry.text)
+    (λ (es : List (Path × Contents)). Passes (g.W.Write.contents c.args.output.now.device) (g.W.Write.contents c.loop-entry.output.device) c.args.text.now.items c.loop-entry.text.items
     (joined_lines (flat_map (contents_lines c.args.version) es)))
     (sym (append-nil inv.0) ∙ ap (λ (r : List (Path × Contents)). inv.0 ++ r) (sym c.in-None.ensures.steps.0) ∙ inv.1) inv.2

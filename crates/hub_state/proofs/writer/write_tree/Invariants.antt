@@ -1,4 +1,4 @@
-use Rattle.std.proofs.Common.{◌≡◌, false, List, ◌++◌, string_bytes}
+use Rattle.std.proofs.Common.{◌≡◌, false, List, ◌++◌}
 use Rattle.std.specs.FinMap as fin
 use Rattle.std.specs.List.{flat_map}
 use Rattle.hub_path.specs.Path.{Path}
@@ -10,5 +10,5 @@ use Rattle.hub_state.proofs.writer.write_tree.Given as goal
 abbrev pub invariant-loop-entry : goal.invariant-loop-entry
 invariant-loop-entry g l =
     (es : List (Path × Contents)) × (es ++ l.entry-iterator ≡ fin.entries l.tree)
-    × Passes (g.W.Write.contents l.fn.output.device) (g.W.Write.contents l.output.device) (string_bytes l.fn.text) (string_bytes l.text) (joined_lines (flat_map (contents_lines l.version) es))
+    × Passes (g.W.Write.contents l.fn.output.device) (g.W.Write.contents l.output.device) l.fn.text.items l.text.items (joined_lines (flat_map (contents_lines l.version) es))
     × (l.output.failed ≡ false)

@@ -43,13 +43,20 @@ pub fn text_of_run(alloc: Global, run: Run) -> Result<Vec<u8>, AllocError>
         ≡ codes "safe\n" ++ (string_bytes run.lines ++ state_text run.state)) }
 {
     let Run { lines, state, .. } = run;
-    let mut text = bytes_of(alloc, "safe\n")?;
-    text.extend_from_slice(lines.as_bytes())?;
-    let mut output = Watched::new(text);
+    let mut output = Watched::new(below_safe(lines)?);
     match write_state(alloc, &mut output, &state) {
         Ok(()) => Ok(output.into_inner()),
         Err(_) => Err(AllocError),
     }
+}
+
+/// `safe`, and below it these lines, in their own memory.
+fn below_safe(lines: String) -> Result<Vec<u8>, AllocError>
+    ensures { IfOk result (λ t. t.items ≡ codes "safe\n" ++ string_bytes lines) }
+{
+    let mut text = lines;
+    text.insert_str(0, "safe\n")?;
+    Ok(text.into_bytes())
 }
 
 /// `safe`, and below it the line that says why the jobs weren't run.

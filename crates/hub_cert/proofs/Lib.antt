@@ -28,3 +28,4 @@ pub mod Forbids
 pub mod Machined
 pub mod Opened
 pub mod StageLists
+pub mod TextBuffer

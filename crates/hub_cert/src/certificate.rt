@@ -3,7 +3,7 @@ ghost use Rattle.std.specs.Prelude.{◌≡◌, IsTrue, chars};
 ghost use Rattle.std.specs.Str.{all_scalars};
 
 use crate::goal::Goal;
-use hub_text::Items;
+use crate::stage_texts::StageTexts;
 use std::marker::Model;
 
 /// A text that leads to a stage: that of the goal's product after it.
@@ -52,5 +52,5 @@ pub struct Certificate {
     /// The goal.
     pub goal: Goal,
     /// A text for each stage. A stage's number is its place, from 0 on.
-    pub stages: Items<StageText>,
+    pub stages: StageTexts,
 }

@@ -7,6 +7,7 @@ use crate::certificate::Certificate;
 use crate::fault::CheckFault;
 use crate::goal::Goal;
 use crate::row::{read_goal, read_stage};
+use crate::stage_texts::StageTexts;
 use hub_text::{Items, Line};
 use std::alloc::{AllocError, Global};
 
@@ -114,7 +115,7 @@ impl Draft {
             certificates: self.closed()?,
             last: Some(Certificate {
                 goal,
-                stages: Items::new(alloc),
+                stages: StageTexts::new(alloc),
             }),
         })
     }
@@ -147,8 +148,9 @@ impl Draft {
             mut certificates,
             last,
         } = self;
-        if let Some(certificate) = last {
-            certificates.push(certificate)?;
+        if let Some(Certificate { goal, mut stages }) = last {
+            stages.shrink_to_fit();
+            certificates.push(Certificate { goal, stages })?;
         }
         Ok(certificates)
     }
@@ -169,6 +171,6 @@ fn with_text(
         return Ok(None);
     };
     let Certificate { goal, mut stages } = certificate;
-    stages.push(text)?;
+    stages.push(text.as_str())?;
     Ok(Some(Certificate { goal, stages }))
 }

@@ -3,7 +3,7 @@
 //! - [`ProfileSet`]: profiles and rules that may be checked together.
 //! - [`Goal`]: one thing that a safe set rules out: that a profile writes over what another one reaches, or that a profile
 //!   does what a rule forbids. `ProfileSet::goals` lists the goals of a set.
-//! - [`Certificate`]: a goal and a list of texts. It rules the goal out if the list is inductive.
+//! - [`Certificate`]: a goal and a list of texts, its [`StageTexts`]. It rules the goal out if the list is inductive.
 //! - [`verify`]: checks certificates, and returns the set as a [`Verified`], whose type says that the set is safe.
 //! - [`read_certificates`] and [`write_certificates`]: the text of certificates, which docs/CERTIFICATES.md describes.
 //! - [`Product`]: the automaton of a goal, whose state is a [`GoalStage`]. [`walker_of`], [`rule_set_of`] and [`forbidden_to`]
@@ -30,6 +30,7 @@ mod row;
 mod set;
 mod stage;
 mod stage_list;
+mod stage_texts;
 mod stages;
 mod texts;
 mod verified;
@@ -44,5 +45,6 @@ pub use product::{Product, rule_set_of, slash_class, walker_of};
 pub use reading::read_certificates;
 pub use set::{PROFILES, ProfileSet};
 pub use stage::GoalStage;
+pub use stage_texts::StageTexts;
 pub use verified::{Verified, verify};
 pub use writing::write_certificates;

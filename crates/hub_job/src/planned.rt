@@ -14,7 +14,7 @@ use crate::op::Op;
 use crate::steps::{Steps, steps_of};
 use hub_path::{RelPath, Side};
 use hub_profile::Profile;
-use hub_reconcile::{Item, Look, Picture, items, next_archive, plan};
+use hub_reconcile::{Item, Look, Picture, items_and_archive, plan};
 use hub_text::Items;
 use hub_tree::Archive;
 use std::alloc::{AllocError, Global};
@@ -35,7 +35,7 @@ pub(crate) fn ending(
     let left = looks_at(alloc, log, Side::Left)?;
     let right = looks_at(alloc, log, Side::Right)?;
     let picture = Picture::new(profile, left.as_slice(), right.as_slice(), archive);
-    Ok((items(alloc, &picture)?, next_archive(alloc, &picture)?))
+    items_and_archive(alloc, &picture)
 }
 
 /// Returns the steps of a job that has made all its Looks.

@@ -19,8 +19,8 @@ use Rattle.hub_tree.specs.declared.contents.Contents.TheVariants as contents
 use Rattle.hub_tree.specs.declared.contents.Mark.{Mark}
 use Rattle.hub_tree.specs.declared.contents.Mark.TheVariants as mark
 use Rattle.hub_tree.specs.declared.fault.SetFault.{SetFault}
-use Rattle.hub_tree.proofs.Replacing.{sets_keep_the_rest, sets_begin}
-use Rattle.hub_tree.proofs.Runs.{sets-append}
+use Rattle.hub_tree.specs.Laws.Replacing.{sets_keep_the_rest, sets_begin}
+use Rattle.hub_tree.specs.Laws.Runs.{sets-append}
 use Rattle.hub_reconcile.specs.Picture.{view_by, needed, was_seen}
 use Rattle.hub_reconcile.specs.View.{View}
 use Rattle.hub_reconcile.specs.Items.{other, plan}

@@ -15,8 +15,8 @@ use Rattle.hub_path.specs.Path.{Name, Path, name_eq, name_cmp, path_cmp, path_eq
 use Rattle.hub_path.specs.declared.side.Side.TheVariants.{Left, Right}
 use Rattle.hub_profile.specs.Parts.{some_passes}
 use Rattle.hub_tree.specs.Below.{is_below}
-use Rattle.hub_tree.proofs.Order.{path_itself}
-use Rattle.hub_tree.proofs.Between.{among, among_filter, before, behind, nowhere, not_both}
+use Rattle.hub_tree.specs.Laws.Order.{path_itself}
+use Rattle.hub_tree.specs.Laws.Between.{among, among_filter, before, behind, nowhere, not_both}
 use Rattle.hub_reconcile.specs.Blocks.{IsCut, rows_below}
 use Rattle.hub_reconcile.specs.Items.{differs, item_over, is_item, below, at_and_below}
 use Rattle.hub_reconcile.specs.Rows.{IsRow, AreRows, IsTable, is_different, paths_of}

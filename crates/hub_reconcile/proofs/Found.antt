@@ -6,8 +6,8 @@ use Rattle.std.specs.declared.cmp.Ordering.TheVariants.{Less, Equal, Greater}
 use Rattle.std.proofs.lemmas.Map.Keys.{sorted_tail}
 use Rattle.hub_path.specs.Laws.{path_cmp-total, path_cmp-exact}
 use Rattle.hub_path.specs.Path.{Path, path_cmp, path_eq}
-use Rattle.hub_tree.proofs.Order.{path_itself, same_path}
-use Rattle.hub_tree.proofs.Between.{among, before, behind, not_both}
+use Rattle.hub_tree.specs.Laws.Order.{path_itself, same_path}
+use Rattle.hub_tree.specs.Laws.Between.{among, before, behind, not_both}
 use Rattle.hub_reconcile.specs.Merge.{seen_paths}
 use Rattle.hub_reconcile.specs.Picture.{sight_in, told_by}
 use Rattle.hub_reconcile.specs.Sight.{Sight}

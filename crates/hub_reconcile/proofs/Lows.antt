@@ -9,8 +9,8 @@ use Rattle.std.proofs.lemmas.List.Folds.{list_any-append}
 use Rattle.std.proofs.lemmas.Map.Keys.{sorted_tail}
 use Rattle.hub_path.specs.Laws.{path_cmp-total, path_cmp-exact}
 use Rattle.hub_path.specs.Path.{Path, path_cmp, path_eq, ascending}
-use Rattle.hub_tree.proofs.Order.{path_itself, same_path}
-use Rattle.hub_tree.proofs.Between.{among, behind, not_both}
+use Rattle.hub_tree.specs.Laws.Order.{path_itself, same_path}
+use Rattle.hub_tree.specs.Laws.Between.{among, behind, not_both}
 use Rattle.hub_reconcile.specs.Merge.{first_of, lesser, least_first, past}
 use Rattle.hub_reconcile.proofs.Ascend.{ascending_sorted, among_ascending, same_list}
 use Rattle.hub_reconcile.proofs.Over.{some_inner}

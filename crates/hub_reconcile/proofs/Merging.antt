@@ -17,10 +17,9 @@ use Rattle.hub_reach.specs.Reach.{reach}
 use Rattle.hub_tree.specs.Tree.{Archive, old_mark_at}
 use Rattle.hub_tree.specs.declared.contents.Mark.{Mark}
 use Rattle.hub_tree.specs.declared.contents.Mark.TheVariants as mark
-use Rattle.hub_tree.proofs.Order.{path_itself, same_path}
-use Rattle.hub_tree.proofs.Children.{sorted_keys}
-use Rattle.hub_tree.proofs.Setting.{one_kid}
-use Rattle.hub_tree.proofs.Between.{among, behind, not_both}
+use Rattle.hub_tree.specs.Laws.Order.{path_itself, same_path}
+use Rattle.hub_tree.specs.Laws.Children.{sorted_keys, one_item}
+use Rattle.hub_tree.specs.Laws.Between.{among, behind, not_both}
 use Rattle.hub_reconcile.specs.Merge.{seen_paths, paths_in, first_of, least_first, past, past_of, past_sight, front_of, front_sight, front_mark, IsSeen}
 use Rattle.hub_reconcile.specs.Picture.{nothing, sight_in, view_by}
 use Rattle.hub_reconcile.specs.Rows.{IsRow, AreRows, IsTable, is_anywhere, paths_of}
@@ -207,7 +206,7 @@ module _ (P : Parts) (O : Archive) (L R : List (Path × Sight)) where
 
     mark_named : (q : Path) (a : Mark) → 0 < length q → a ≡ cond (length q == 0) mark.Absent a
     mark_named [] a n = absurd (no_names n)
-    mark_named (x ∷ q) a n = ap (λ b. cond b mark.Absent a) (sym (one_kid x q))
+    mark_named (x ∷ q) a n = ap (λ b. cond b mark.Absent a) (sym (one_item x q))
 
     pub row_is : reach P p ≡ true → IsRow V row
     row_is h = record {

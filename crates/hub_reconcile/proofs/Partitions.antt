@@ -15,8 +15,8 @@ use Rattle.hub_profile.specs.Parts.{some_passes}
 use Rattle.hub_tree.specs.Below.{is_below}
 use Rattle.hub_tree.specs.declared.contents.Mark.{Mark}
 use Rattle.hub_tree.specs.declared.contents.Mark.TheVariants as mark
-use Rattle.hub_tree.proofs.Order.{path_itself, same_path}
-use Rattle.hub_tree.proofs.Between.{among, among_filter}
+use Rattle.hub_tree.specs.Laws.Order.{path_itself, same_path}
+use Rattle.hub_tree.specs.Laws.Between.{among, among_filter}
 use Rattle.hub_reconcile.specs.Blocks.{IsFated, AreBlocks, IsPartition, block_paths, item_by, block_items, row_comes, going_rows, coming_rows, changes_fated, block_changes, mark_fated, HaveNames, HaveAllNames}
 use Rattle.hub_reconcile.specs.Items.{other, differs, item_over, is_item, fate, below, change, going, coming, changes, changes_by, items, plan}
 use Rattle.hub_reconcile.specs.Rows.{IsRow, AreRows, mark_on, is_going, is_coming, paths_of}

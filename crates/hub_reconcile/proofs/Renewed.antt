@@ -22,9 +22,9 @@ use Rattle.hub_tree.specs.Marked.{kept_entries, entries_of, with_entries}
 use Rattle.hub_tree.specs.Tree.{Archive, IsArchive, kept, old_mark_at, with_kept, with_mark}
 use Rattle.hub_tree.specs.declared.contents.Mark.{Mark}
 use Rattle.hub_tree.specs.declared.contents.Mark.TheVariants as mark
-use Rattle.hub_tree.proofs.Between.{among, among_filter, not_both}
-use Rattle.hub_tree.proofs.Children.{sorted_keys}
-use Rattle.hub_tree.proofs.Order.{path_itself, same_path}
+use Rattle.hub_tree.specs.Laws.Between.{among, among_filter, not_both}
+use Rattle.hub_tree.specs.Laws.Children.{sorted_keys}
+use Rattle.hub_tree.specs.Laws.Order.{path_itself, same_path}
 use Rattle.hub_reconcile.specs.Blocks.{AreBlocks, IsPartition, block_marks, block_paths, pushed, row_told, HaveMarkNames}
 use Rattle.hub_reconcile.specs.Merge.{paths_in, is_other}
 use Rattle.hub_reconcile.specs.Picture.{view_by}

@@ -14,9 +14,9 @@ use Rattle.hub_reach.specs.Reach.{reach}
 use Rattle.hub_tree.specs.Tree.{Archive}
 use Rattle.hub_tree.specs.declared.contents.Mark.{Mark}
 use Rattle.hub_tree.specs.declared.contents.Mark.TheVariants as mark
-use Rattle.hub_tree.proofs.Order.{path_itself}
-use Rattle.hub_tree.proofs.Setting.{one_kid}
-use Rattle.hub_tree.proofs.Between.{among, among_filter}
+use Rattle.hub_tree.specs.Laws.Order.{path_itself}
+use Rattle.hub_tree.specs.Laws.Children.{one_item}
+use Rattle.hub_tree.specs.Laws.Between.{among, among_filter}
 use Rattle.hub_reconcile.specs.Items.{differs}
 use Rattle.hub_reconcile.specs.Picture.{sight_in, view_by}
 use Rattle.hub_reconcile.specs.Sight.{Sight}
@@ -59,7 +59,7 @@ module _ (P : Parts) (O : Archive) (seen : Side → List (Path × Sight)) where
 
   mark_there : (k : Side) (y : Path) → is_present (V.mark k y) ≡ true → among y (seen_at k) ≡ true
   mark_there k [] h = absurd (false≢true h)
-  mark_there k (n ∷ y) h = sight_there (n ∷ y) (seen k) (ap (λ b. is_present (cond b mark.Absent (sight_in (seen k) (n ∷ y)).mark)) (sym (one_kid n y)) ∙ h)
+  mark_there k (n ∷ y) h = sight_there (n ∷ y) (seen k) (ap (λ b. is_present (cond b mark.Absent (sight_in (seen k) (n ∷ y)).mark)) (sym (one_item n y)) ∙ h)
 
   in_all : (k : Side) (y : Path) → among y (seen_at k) ≡ true → among y all_paths ≡ true
   in_all Left y e =

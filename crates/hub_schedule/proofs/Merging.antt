@@ -12,10 +12,10 @@ use Rattle.hub_reach.specs.Reach.{reach}
 use Rattle.hub_tree.specs.Tree.{Archive, old_mark_at, with_mark}
 use Rattle.hub_tree.specs.declared.contents.Mark.{Mark}
 use Rattle.hub_tree.specs.declared.contents.Mark.TheVariants as mark
-use Rattle.hub_tree.proofs.Between.{among}
-use Rattle.hub_tree.proofs.Children.{path_eq-cmp}
-use Rattle.hub_tree.proofs.MarkMaps.{old_mark-after}
-use Rattle.hub_tree.proofs.Order.{same_path}
+use Rattle.hub_tree.specs.Laws.Between.{among}
+use Rattle.hub_tree.specs.Laws.Children.{path_eq-cmp}
+use Rattle.hub_tree.specs.Laws.MarkMaps.{old_mark-after}
+use Rattle.hub_tree.specs.Laws.Order.{same_path}
 use Rattle.hub_schedule.specs.Left.{is_in}
 
 abbrev pub paths_of : List (Path × Mark) → List Path

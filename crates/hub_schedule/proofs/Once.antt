@@ -18,9 +18,9 @@ use Rattle.hub_tree.specs.Below.{is_below}
 use Rattle.hub_tree.specs.Tree.{Replica, Archive, IsTree}
 use Rattle.hub_tree.specs.declared.contents.Mark.{Mark}
 use Rattle.hub_tree.specs.declared.contents.Mark.TheVariants as mark
-use Rattle.hub_tree.proofs.Between.{among, among_middle, among_filter, among_reverse, behind, not_both}
-use Rattle.hub_tree.proofs.Children.{path_eq-cmp}
-use Rattle.hub_tree.proofs.Order.{same_path, path_itself}
+use Rattle.hub_tree.specs.Laws.Between.{among, among_middle, among_filter, among_reverse, behind, not_both}
+use Rattle.hub_tree.specs.Laws.Children.{path_eq-cmp}
+use Rattle.hub_tree.specs.Laws.Order.{same_path, path_itself}
 use Rattle.hub_reconcile.specs.View.{View, is_present}
 use Rattle.hub_reconcile.specs.Items.{other, is_item, is_allowed, changes, change, changes_by, going, coming, below, fate, items, plan}
 use Rattle.hub_reconcile.specs.Sides.{side_eq, paths_on}

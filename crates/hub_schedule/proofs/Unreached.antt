@@ -6,7 +6,7 @@ use Rattle.hub_profile.specs.Parts.{Parts}
 use Rattle.hub_reach.specs.Reach.{reach}
 use Rattle.hub_tree.specs.Tree.{Archive, old_mark_at, with_mark}
 use Rattle.hub_tree.specs.declared.contents.Mark.{Mark}
-use Rattle.hub_tree.proofs.MarkMaps.{old_mark-after}
+use Rattle.hub_tree.specs.Laws.MarkMaps.{old_mark-after}
 use Rattle.hub_reconcile.specs.View.{View}
 use Rattle.hub_reconcile.specs.Sync.{fate_over, mark_under, synced_mark, next_archive}
 use Rattle.hub_job.specs.declared.log.Logged.{Logged}

@@ -13,7 +13,7 @@ use Rattle.hub_tree.specs.declared.contents.Contents.{Contents}
 use Rattle.hub_tree.specs.declared.contents.Contents.TheVariants as contents
 use Rattle.hub_tree.specs.declared.contents.Mark.{Mark}
 use Rattle.hub_tree.specs.declared.contents.Mark.TheVariants as mark
-use Rattle.hub_tree.proofs.Replacing.{sets_keep_the_rest}
+use Rattle.hub_tree.specs.Laws.Replacing.{sets_keep_the_rest}
 use Rattle.hub_reconcile.specs.View.{View}
 use Rattle.hub_reconcile.specs.Items.{other, plan, verb_of}
 use Rattle.hub_reconcile.specs.Sides.{paths_on}

@@ -8,8 +8,8 @@ use Rattle.std.proofs.lemmas.Bool.{and_parts, and_from}
 use Rattle.hub_path.specs.Path.{Path, name_cmp, path_cmp, path_eq, is_place}
 use Rattle.hub_path.specs.Laws.{name_cmp-total, name_cmp-exact, path_cmp-total, path_cmp-exact}
 use Rattle.hub_tree.specs.Tree.{Replica, Archive}
-use Rattle.hub_tree.proofs.Children.{path_eq-cmp}
-use Rattle.hub_tree.proofs.Order.{same_path, same_name, name_itself, path_itself}
+use Rattle.hub_tree.specs.Laws.Children.{path_eq-cmp}
+use Rattle.hub_tree.specs.Laws.Order.{same_path, same_name, name_itself, path_itself}
 use Rattle.hub_state.specs.State.{State, Text, IsState, root_text, is_before, in_order, pair_of, is_pair, replica_at, archive_at, with_replica, with_archive}
 use Rattle.hub_state.proofs.States.{same_roots}
 use Rattle.hub_state.proofs.Maps.{is_eq-pair}

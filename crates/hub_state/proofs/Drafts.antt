@@ -17,7 +17,7 @@ use Rattle.hub_tree.specs.declared.contents.Contents.{Contents}
 use Rattle.hub_tree.specs.declared.contents.Contents.TheVariants as contents
 use Rattle.hub_tree.specs.declared.contents.Mark.{Mark}
 use Rattle.hub_tree.specs.declared.contents.Mark.TheVariants as mark
-use Rattle.hub_tree.proofs.Children.{path_eq-cmp}
+use Rattle.hub_tree.specs.Laws.Children.{path_eq-cmp}
 use Rattle.hub_state.specs.declared.fault.Fault.{Fault}
 use Rattle.hub_state.specs.declared.fault.Fault.TheVariants.{BadLine, TooLarge, Repeated, NoParent, WrongDigest}
 use Rattle.hub_state.specs.declared.form.Form.{Form}

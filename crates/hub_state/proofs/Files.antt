@@ -16,7 +16,7 @@ use Rattle.hub_path.specs.Laws.{name_cmp-total, name_cmp-exact}
 use Rattle.hub_tree.specs.Tree.{Replica}
 use Rattle.hub_tree.specs.declared.contents.Contents.{Contents}
 use Rattle.hub_tree.specs.declared.contents.Contents.TheVariants as contents
-use Rattle.hub_tree.proofs.Order.{same_name, name_itself}
+use Rattle.hub_tree.specs.Laws.Order.{same_name, name_itself}
 use Rattle.hub_state.specs.declared.form.Version.TheVariants.{One, Two}
 use Rattle.hub_state.specs.Taking.{BlobMap}
 use Rattle.hub_state.specs.Adding.{added_to, file_added, files_added}

@@ -18,8 +18,8 @@ use Rattle.std.proofs.lemmas.Map.Text.{is_eq-slice_cmp}
 use Rattle.std.proofs.lemmas.Slice.Eq.{bytes_eq-Decides}
 use Rattle.hub_path.specs.Path.{name_cmp, path_cmp}
 use Rattle.hub_path.specs.Laws.{name_cmp-total, name_cmp-exact, path_cmp-total, path_cmp-exact}
-use Rattle.hub_tree.proofs.Ascending.{is_sorted-from, entries-ascending, copy_more}
-use Rattle.hub_tree.proofs.Order.{is_eq-then}
+use Rattle.hub_tree.specs.Laws.Ascending.{is_sorted-from, entries-ascending, copy_more}
+use Rattle.hub_tree.specs.Laws.Order.{is_eq-then}
 use Rattle.hub_state.specs.State.{Text}
 use Rattle.hub_state.specs.View.{keyed, by_text, by_two, below, pairs, map_in, pairs_in}
 use Rattle.hub_text.specs.TestLaws.{T-first, T-second, T-less}

@@ -12,9 +12,9 @@ use lib.Utf8.{encode}
 use Rattle.hub_path.specs.Path.{Path, name_cmp, path_cmp, path_eq, path_of, text_of, is_place, root_bytes}
 use Rattle.hub_path.specs.Laws.{name_cmp-total, name_cmp-exact, path_cmp-total, path_of-text_of}
 use Rattle.hub_tree.specs.Tree.{Replica, Archive, IsTree, IsArchive, HasPaths, HasBytes, HasDigests}
-use Rattle.hub_tree.proofs.MarkMaps.{is_path-names}
-use Rattle.hub_tree.proofs.Children.{path_eq-cmp}
-use Rattle.hub_tree.proofs.Order.{same_path, same_name, path_itself}
+use Rattle.hub_tree.specs.Laws.MarkMaps.{is_path-names}
+use Rattle.hub_tree.specs.Laws.Children.{path_eq-cmp}
+use Rattle.hub_tree.specs.Laws.Order.{same_path, same_name, path_itself}
 use Rattle.hub_state.specs.State.{State, Text, IsState, nothing, root_chars, root_text, is_before, pair_of, with_replica, with_archive}
 use Rattle.hub_state.proofs.Fields.{scalars-text}
 

@@ -16,8 +16,8 @@ use Rattle.hub_tree.specs.declared.node.Node.{Node}
 use Rattle.hub_tree.specs.declared.node.Node.TheFolds.{fold-Node, fold_out-Node, map-Node}
 use Rattle.hub_tree.specs.declared.node.Node.TheViews as views
 use Rattle.hub_tree.specs.declared.node.Node.TheBlock as block
-use Rattle.hub_tree.proofs.Order.{name_total}
-use Rattle.hub_tree.proofs.Ascending.{copy_more}
+use Rattle.hub_tree.specs.Laws.Order.{name_total}
+use Rattle.hub_tree.specs.Laws.Ascending.{copy_more}
 use Rattle.hub_tree.proofs.LookUp.{out-file, out-directory}
 
 -- The names, each with the entries of its node.

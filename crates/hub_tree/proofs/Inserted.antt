@@ -10,8 +10,8 @@ use Rattle.hub_tree.specs.Marked.{kept_entries, entries_of, with_entries}
 use Rattle.hub_tree.specs.Tree.{Archive, IsArchive, HasPaths, HasDigests, IsDigest, kept, with_kept}
 use Rattle.hub_tree.specs.declared.contents.Mark.{Mark}
 use Rattle.hub_tree.specs.declared.contents.Mark.TheVariants as mark
-use Rattle.hub_tree.proofs.MarkMaps.{IsArchive-set}
-use Rattle.hub_tree.proofs.Order.{path_total, path_antisymmetric}
+use Rattle.hub_tree.specs.Laws.MarkMaps.{IsArchive-set}
+use Rattle.hub_tree.specs.Laws.Order.{path_total, path_antisymmetric}
 
 -- What the type of archives asks.
 abbrev pub IsGood : Archive → Type 0

@@ -11,11 +11,11 @@ use Rattle.hub_tree.specs.Below.{is_below, under}
 use Rattle.hub_tree.specs.Tree.{Replica, IsTree, contents_at, is_absent, is_child, children}
 use Rattle.hub_tree.specs.declared.contents.Contents.{Contents}
 use Rattle.hub_tree.specs.declared.contents.Contents.TheVariants as contents
-use Rattle.hub_tree.proofs.Beneath.{below_from}
-use Rattle.hub_tree.proofs.Order.{path_total, path_antisymmetric}
-use Rattle.hub_tree.proofs.Children.{same_sorted, sorted_keys, child_of, any_children-push, path_eq-cmp}
-use Rattle.hub_tree.proofs.Between.{among, among_filter, under_sorted}
-use Rattle.hub_tree.proofs.Contented.{shown_contents, child_names}
+use Rattle.hub_tree.specs.Laws.Beneath.{below_from}
+use Rattle.hub_tree.specs.Laws.Order.{path_total, path_antisymmetric}
+use Rattle.hub_tree.specs.Laws.Children.{same_sorted, sorted_keys, child_of, any_children-push, path_eq-cmp}
+use Rattle.hub_tree.specs.Laws.Between.{among, among_filter, under_sorted}
+use Rattle.hub_tree.specs.Laws.Contented.{shown_contents, child_names}
 
 abbrev stands_below : Replica → Path → Path → Bool
 stands_below m d q = is_child d q && not (is_absent (contents_at m q))

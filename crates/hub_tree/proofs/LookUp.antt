@@ -25,7 +25,7 @@ use Rattle.std.specs.declared.sync.Arc.{Arc}
 use Rattle.std.specs.Global.{Global}
 use Rattle.std.specs.BTreeMap.{BTreeMap}
 use Rattle.hub_tree.specs.declared.node.Node.TheOpen.{Node-F, File, Directory}
-use Rattle.hub_tree.proofs.Order.{path_total, path_antisymmetric}
+use Rattle.hub_tree.specs.Laws.Order.{path_total, path_antisymmetric}
 
 abbrev pub or_else : {A : Type 0} → Option A → Option A → Option A
 or_else None o = o

@@ -7,7 +7,6 @@ use Rattle.std.specs.FinMap.Entries.{find}
 use Rattle.std.specs.Option.{option_and_then, unwrap_or}
 use Rattle.std.specs.Cmp.{eq_by_cmp_equiv}
 use Rattle.std.specs.Ordering.{eq_by_cmp}
-use Rattle.std.proofs.lemmas.Bool.Decides.{nat_tests}
 use Rattle.std.proofs.lemmas.Bool.{false≢true, false_from_ne_true}
 use Rattle.hub_path.specs.Path.{Name, Path, path_cmp, name_cmp, parent}
 use Rattle.hub_tree.specs.Tree.{Replica, contents_at, is_absent, is_directory, children, set_fault, with_contents, IsRefusal}
@@ -19,20 +18,11 @@ use Rattle.hub_tree.specs.declared.fault.SetFault.TheVariants.{NoParent, NotEmpt
 use Rattle.hub_tree.specs.declared.node.Node.{Node}
 use Rattle.hub_tree.specs.declared.node.Node.TheViews.{out-Node}
 use Rattle.hub_tree.specs.declared.node.Node.TheOpen.{Node-F, File, Directory}
-use Rattle.hub_tree.proofs.Order.{name_total, path_total, path_antisymmetric, same_name, name_itself, is_eq-then}
+use Rattle.hub_tree.specs.Laws.Order.{name_total, path_total, path_antisymmetric, same_name, name_itself, is_eq-then}
 use Rattle.hub_tree.proofs.LookUp.{look_up, get_top, get_nothing}
-use Rattle.hub_tree.proofs.Children.{shown, childless_none, none_childless, same_childless}
-
--- the map after a change
-abbrev pub held : Contents → Option Contents
-held (contents.File bytes) = Some (contents.File bytes)
-held contents.Directory = Some contents.Directory
-held contents.Absent = None
-
-pub get-with_contents : (m : Replica) (p : Path) (c : Contents) (q : Path) → fin.get (with_contents m p c) q ≡ cond (eq_by_cmp path_cmp q p) (held c) (fin.get m q)
-get-with_contents m p (contents.File bytes) q = fin.get-insert path_total m p (contents.File bytes) q
-get-with_contents m p contents.Directory q = fin.get-insert path_total m p contents.Directory q
-get-with_contents m p contents.Absent q = fin.get-remove path_total m p q
+use Rattle.hub_tree.specs.Laws.Children.{shown, one_item, childless_none, none_childless, same_childless}
+use Rattle.hub_tree.specs.Laws.Beneath.{is_a_directory}
+use Rattle.hub_tree.specs.Laws.Contented.{held, get-with_contents}
 
 -- The names fs have w under n, and what cs have elsewhere.
 abbrev pub Changes : List (Name × Node) → List (Name × Node) → Name → Option Node → Type 0
@@ -76,12 +66,9 @@ bare_nothing s t = refl
 pub bare_kids : (x : Node) → kids_of x ≡ [] → IsBare (Some x)
 bare_kids x e = λ s t. ap (λ ks. fin.get (replica_of ks) (s ∷ t)) e ∙ get_nothing (s ∷ t)
 
-pub one_kid : {X : Type 0} (k : X) (ks : List X) → (length (k ∷ ks) == 0) ≡ false
-one_kid k ks = grind (arith, nat_tests)
-
 no_kids : {X : Type 0} (ks : List X) → not (length ks == 0) ≡ false → ks ≡ []
 no_kids [] e = refl
-no_kids (k ∷ ks) e = absurd (false≢true (sym e ∙ ap not (one_kid k ks)))
+no_kids (k ∷ ks) e = absurd (false≢true (sym e ∙ ap not (one_item k ks)))
 
 pub bare_vacant : (o : Option Node) → occupied o ≡ false → IsBare o
 bare_vacant None e = bare_nothing
@@ -130,7 +117,7 @@ childless_top [] = none_childless (replica_of []) [] (λ n. ap shown (get_nothin
 childless_top (e ∷ es) =
     false_from_ne_true _ (λ s. false≢true (sym (childless_none (replica_of (e ∷ es)) [] s e.0)
     ∙ (ap shown (look_up (e ∷ es) e.0 [] ∙ ap (option_and_then (node_get [])) (find_first e es)) ∙ node_shown e.1)))
-    ∙ sym (one_kid e es)
+    ∙ sym (one_item e es)
 
 childless_child : (cs : List (Name × Node)) (n : Name) (x : Node) → find name_cmp n cs ≡ Some x → (length (children (replica_of cs) (n ∷ [])) == 0) ≡ (length (kids_of x) == 0)
 childless_child cs n x e =
@@ -202,7 +189,7 @@ contents_below cs n x [] e d = contents_of_child cs n (Some x) e ∙ d
 contents_below cs n x (s ∷ t) e d = ap (λ o. unwrap_or o contents.Absent) (look_up cs n (s ∷ t) ∙ ap (option_and_then (node_get (s ∷ t))) e)
 
 some_names : (n : Name) (p : Path) → (length (n ∷ p) == 0) ≡ false
-some_names n p = one_kid n p
+some_names n p = one_item n p
 
 full_fault : Replica → Path → Contents → Option SetFault
 full_fault m p c = if not (is_directory (contents_at m (parent p))) then Some NoParent else later_fault (contents_at m p) (length (children m p) == 0) c
@@ -237,11 +224,6 @@ no_directory cs n x [] e d = ap is_directory (contents_of_child cs n (Some x) e)
 no_directory cs n x (s ∷ t) e d =
     ap (λ o. is_directory (unwrap_or o contents.Absent)) (look_up cs n (s ∷ t) ∙ ap (option_and_then (node_get (s ∷ t))) e
     ∙ ap (λ ks. fin.get (replica_of ks) (s ∷ t)) (layer_bare (out-Node x) d) ∙ get_nothing (s ∷ t))
-
-pub is_a_directory : (d : Contents) → is_directory d ≡ true → d ≡ contents.Directory
-is_a_directory (contents.File bytes) e = absurd (false≢true e)
-is_a_directory contents.Directory e = refl
-is_a_directory contents.Absent e = absurd (false≢true e)
 
 step_by : (cs : List (Name × Node)) (n m : Name) (r : Path) (x : Node) (c : Contents) (b : Bool) → find name_cmp n cs ≡ Some x → is_directory (contents_of x) ≡ b → set_fault (replica_of cs) (n ∷ m ∷ r) c ≡ (if b then set_fault (replica_of (kids_of x)) (m ∷ r) c else Some NoParent)
 step_by cs n m r x c true e d = step_fault cs n m r x c e (is_a_directory (contents_of x) d)

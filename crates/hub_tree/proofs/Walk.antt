@@ -16,10 +16,10 @@ use Rattle.hub_tree.specs.Nodes.{Entries, replica_of, kids_of, node_get, content
 use Rattle.hub_tree.specs.declared.contents.Contents.{Contents}
 use Rattle.hub_tree.specs.declared.entries.Level.{Level}
 use Rattle.hub_tree.specs.declared.node.Node.{Node}
-use Rattle.hub_tree.proofs.Ascending.{both, entries-ascending}
-use Rattle.hub_tree.proofs.Children.{sorted_keys}
+use Rattle.hub_tree.specs.Laws.Ascending.{both, entries-ascending}
+use Rattle.hub_tree.specs.Laws.Children.{sorted_keys}
 use Rattle.hub_tree.proofs.LookUp.{or_else, or_else-none, find-append, find-below, find_top-below, look_up, get_top}
-use Rattle.hub_tree.proofs.Order.{path_total, path_antisymmetric, same_name}
+use Rattle.hub_tree.specs.Laws.Order.{path_total, path_antisymmetric, same_name}
 use Rattle.hub_tree.proofs.Paths.{named, node_paths, all_paths, above_none, all_ascend as paths_ascend}
 
 abbrev pub node_all : Node → Entries

@@ -1,6 +1,7 @@
 pub mod Below
 pub mod Coded
 pub mod Examples
+pub mod Laws
 pub mod Levels
 pub mod Marked
 pub mod Nodes

@@ -1,6 +1,6 @@
 use Rattle.std.proofs.Common.{ap, ◌∙◌, ◌++◌}
-use Rattle.hub_tree.proofs.Order.{path_total}
-use Rattle.hub_tree.proofs.Ascending.{copy_more}
+use Rattle.hub_tree.specs.Laws.Order.{path_total}
+use Rattle.hub_tree.specs.Laws.Ascending.{copy_more}
 use Rattle.hub_tree.proofs.archive.copy_of_marks.Goals as goal
 
 pub loop-path-preserved : goal.loop-path-preserved

@@ -1,7 +1,7 @@
 use Rattle.std.proofs.Common.{sym, ap, subst, refl, Some, ◌∙◌}
 use Rattle.std.specs.FinMap.{from_entries}
 use Rattle.hub_tree.specs.Tree.{Archive, with_kept, IsArchive, HasPaths, HasDigests}
-use Rattle.hub_tree.proofs.MarkMaps.{changed_marks, IsArchive-set, is_path-names}
+use Rattle.hub_tree.specs.Laws.MarkMaps.{changed_marks, IsArchive-set, is_path-names}
 use Rattle.hub_tree.proofs.archive.Archive.set.Goals as goal
 
 pub returns-in-None-clause-ok : goal.returns-in-None-clause-ok

@@ -1,7 +1,7 @@
 use Rattle.std.proofs.Common.{arith}
 use Rattle.hub_tree.specs.Nodes.{replica_of}
 use Rattle.hub_tree.specs.Shared.{shared_entries}
-use Rattle.hub_tree.proofs.MarkMaps.{is_path-names}
+use Rattle.hub_tree.specs.Laws.MarkMaps.{is_path-names}
 use Rattle.hub_tree.proofs.Trees.{HasPaths-after, HasBytes-after}
 use Rattle.hub_tree.proofs.tree.Tree.set.Goals as goal
 

@@ -14,12 +14,12 @@ use Rattle.hub_tree.specs.Tree.{Replica, IsTree, contents_at, is_absent, is_dire
 use Rattle.hub_tree.specs.declared.contents.Contents.{Contents}
 use Rattle.hub_tree.specs.declared.contents.Contents.TheVariants as contents
 use Rattle.hub_tree.specs.declared.fault.SetFault.{SetFault}
-use Rattle.hub_tree.proofs.Order.{path_itself, same_path}
-use Rattle.hub_tree.proofs.Children.{path_eq-cmp, some_length}
-use Rattle.hub_tree.proofs.Beneath.{below_from, below_rest, below_order, above_directory}
-use Rattle.hub_tree.proofs.Between.{not_both, not_below_itself, parent_order, nothing_under}
-use Rattle.hub_tree.proofs.Contented.{MayBeSet, no_fault, no_fault-from, some_names, contents_by_eq-after, absent_childless, IsTree-after}
-use Rattle.hub_tree.proofs.Runs.{all_down, all_up, sets-append, IsClosed}
+use Rattle.hub_tree.specs.Laws.Order.{path_itself, same_path}
+use Rattle.hub_tree.specs.Laws.Children.{path_eq-cmp, some_length}
+use Rattle.hub_tree.specs.Laws.Beneath.{below_from, below_rest, below_order, above_directory}
+use Rattle.hub_tree.specs.Laws.Between.{not_both, not_below_itself, parent_order, nothing_under}
+use Rattle.hub_tree.specs.Laws.Contented.{MayBeSet, no_fault, no_fault-from, some_names, contents_by_eq-after, absent_childless, IsTree-after}
+use Rattle.hub_tree.specs.Laws.Runs.{all_down, all_up, sets-append, IsClosed}
 
 same_from : (q p : Path) → path_eq q p ≡ true → q ≡ p
 same_from q p e = same_path q p (sym (path_eq-cmp q p) ∙ e)

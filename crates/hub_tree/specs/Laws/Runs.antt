@@ -10,18 +10,17 @@ use Rattle.std.proofs.lemmas.Bool.{false≢true, and_parts, true_from_ne_false, 
 use Rattle.std.proofs.lemmas.List.Folds.{list_any-append}
 use Rattle.std.proofs.lemmas.List.Kept.{IsStrictlySortedBy-filter}
 use Rattle.std.proofs.Math.Bool.{and-false}
-use Rattle.hub_tree.proofs.Children.{some_length}
+use Rattle.hub_tree.specs.Laws.Children.{some_length}
 use Rattle.hub_path.specs.Path.{Name, Path, path_cmp, parent}
 use Rattle.hub_tree.specs.Below.{is_below, under}
 use Rattle.hub_tree.specs.Sets.{sets, each}
 use Rattle.hub_tree.specs.Tree.{Replica, IsTree, contents_at, is_absent, is_directory, children, set_fault, with_contents}
 use Rattle.hub_tree.specs.declared.contents.Contents.{Contents}
 use Rattle.hub_tree.specs.declared.contents.Contents.TheVariants as contents
-use Rattle.hub_tree.proofs.Order.{same_path}
-use Rattle.hub_tree.proofs.Setting.{is_a_directory}
-use Rattle.hub_tree.proofs.Beneath.{below_order}
-use Rattle.hub_tree.proofs.Between.{among, among_middle, among_reverse, among_filter, nowhere, turned, not_both, before, behind, below_names, not_below_itself, below_child, under_sorted, in_under, of_under, not_under, parent_below, below_parent, parent_order}
-use Rattle.hub_tree.proofs.Contented.{MayBeSet, no_fault-from, some_names, contents-after, absent_childless, IsTree-after}
+use Rattle.hub_tree.specs.Laws.Order.{same_path}
+use Rattle.hub_tree.specs.Laws.Beneath.{below_order, is_a_directory}
+use Rattle.hub_tree.specs.Laws.Between.{among, among_middle, among_reverse, among_filter, nowhere, turned, not_both, before, behind, below_names, not_below_itself, below_child, under_sorted, in_under, of_under, not_under, parent_below, below_parent, parent_order}
+use Rattle.hub_tree.specs.Laws.Contented.{MayBeSet, no_fault-from, some_names, contents-after, absent_childless, IsTree-after}
 
 -- f at these paths, and as before elsewhere
 abbrev pub IsChanged : Replica → (Path → Contents) → List Path → Replica → Type 0

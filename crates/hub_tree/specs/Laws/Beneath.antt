@@ -8,10 +8,10 @@ use Rattle.hub_path.specs.Laws.{is_over-rest, is_over-append, parent-push}
 use Rattle.hub_path.specs.Path.{Name, Path, path_cmp, path_eq, is_over}
 use Rattle.hub_tree.specs.Below.{is_below}
 use Rattle.hub_tree.specs.Tree.{Replica, IsTree, contents_at, is_absent, is_directory}
+use Rattle.hub_tree.specs.declared.contents.Contents.{Contents}
 use Rattle.hub_tree.specs.declared.contents.Contents.TheVariants as contents
-use Rattle.hub_tree.proofs.Order.{name_total, same_path, path_itself}
-use Rattle.hub_tree.proofs.Children.{path_eq-cmp}
-use Rattle.hub_tree.proofs.Setting.{is_a_directory}
+use Rattle.hub_tree.specs.Laws.Order.{name_total, same_path, path_itself}
+use Rattle.hub_tree.specs.Laws.Children.{path_eq-cmp}
 
 -- a path below another one is that one with more names
 not_itself : (p : Path) (n : Name) (r : Path) (b : Bool) → path_eq p (p ++ n ∷ r) ≡ b → not b ≡ true
@@ -33,6 +33,11 @@ below_rest p q h =
 pub below_order : (p : Path) (n : Name) (r : Path) → path_cmp p (p ++ n ∷ r) ≡ Less
 below_order [] n r = refl
 below_order (k ∷ p) n r = ap (λ o. ordering_then o (path_cmp p (p ++ n ∷ r))) (tied_itself name_total k) ∙ below_order p n r
+
+pub is_a_directory : (d : Contents) → is_directory d ≡ true → d ≡ contents.Directory
+is_a_directory (contents.File bytes) e = absurd (false≢true e)
+is_a_directory contents.Directory e = refl
+is_a_directory contents.Absent e = absurd (false≢true e)
 
 -- what lies above
 one_above : (m : Replica) (p : Path) (n : Name) → IsTree m → is_absent (contents_at m (p ++ n ∷ [])) ≡ false → contents_at m p ≡ contents.Directory

@@ -22,8 +22,8 @@ use Rattle.hub_path.specs.Laws.{parent-last_name, parent-push, last_name-push}
 use Rattle.hub_path.specs.Path.{Name, Path, path_cmp, name_cmp, path_eq, parent, last_name}
 use Rattle.hub_tree.specs.Tree.{Replica, contents_at, is_absent, is_child, children}
 use Rattle.hub_tree.specs.declared.contents.Contents.{Contents}
-use Rattle.hub_tree.proofs.Order.{name_total, path_total, path_antisymmetric, same_path, same_name, path_itself, name_itself}
-use Rattle.hub_tree.proofs.Ascending.{is_sorted-from}
+use Rattle.hub_tree.specs.Laws.Order.{name_total, path_total, path_antisymmetric, same_path, same_name, path_itself, name_itself}
+use Rattle.hub_tree.specs.Laws.Ascending.{is_sorted-from}
 
 -- two lists in order that have the same items
 module _ {K X : Type 0} (R : K → K → Ordering) where
@@ -114,7 +114,7 @@ any_children-push m d n =
     ∙ names_shown m (d ++ n ∷ []) (some_names d n)
 
 -- a path without children
-one_item : {X : Type 0} (x : X) (xs : List X) → (length (x ∷ xs) == 0) ≡ false
+pub one_item : {X : Type 0} (x : X) (xs : List X) → (length (x ∷ xs) == 0) ≡ false
 one_item x xs = grind (arith, nat_tests)
 
 no_items : {X : Type 0} (xs : List X) → (length xs == 0) ≡ true → xs ≡ []

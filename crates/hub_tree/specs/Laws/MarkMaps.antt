@@ -11,9 +11,9 @@ use Rattle.hub_path.specs.Path.{Path, path_cmp, path_eq, is_path, is_place}
 use Rattle.hub_tree.specs.Tree.{Archive, IsArchive, HasPaths, HasDigests, IsDigest, old_mark_at, kept, with_kept, with_mark}
 use Rattle.hub_tree.specs.declared.contents.Mark.{Mark}
 use Rattle.hub_tree.specs.declared.contents.Mark.TheVariants as mark
-use Rattle.hub_tree.proofs.Order.{path_total, path_antisymmetric, same_path}
-use Rattle.hub_tree.proofs.Ascending.{get_changed}
-use Rattle.hub_tree.proofs.Children.{path_eq-cmp}
+use Rattle.hub_tree.specs.Laws.Order.{path_total, path_antisymmetric, same_path}
+use Rattle.hub_tree.specs.Laws.Ascending.{get_changed}
+use Rattle.hub_tree.specs.Laws.Children.{path_eq-cmp}
 
 pub get-with_kept : (a : Archive) (p : Path) (w : Option Mark) (q : Path) → fin.get (with_kept a p w) q ≡ cond (eq_by_cmp path_cmp q p) w (fin.get a q)
 get-with_kept a p (Some m) q = fin.get-insert path_total a p m q

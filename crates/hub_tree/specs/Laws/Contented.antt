@@ -13,9 +13,19 @@ use Rattle.hub_tree.specs.declared.contents.Contents.TheVariants as contents
 use Rattle.hub_tree.specs.declared.contents.Mark.TheVariants as mark
 use Rattle.hub_tree.specs.declared.fault.SetFault.{SetFault}
 use Rattle.hub_tree.specs.declared.fault.SetFault.TheVariants.{RootPath, NoParent, NotEmpty, NothingThere}
-use Rattle.hub_tree.proofs.Order.{path_total, path_antisymmetric, same_path}
-use Rattle.hub_tree.proofs.Children.{shown, path_eq-cmp, childless_none, none_childless}
-use Rattle.hub_tree.proofs.Setting.{held, get-with_contents}
+use Rattle.hub_tree.specs.Laws.Order.{path_total, path_antisymmetric, same_path}
+use Rattle.hub_tree.specs.Laws.Children.{shown, path_eq-cmp, childless_none, none_childless}
+
+-- the map after a change
+abbrev pub held : Contents → Option Contents
+held (contents.File bytes) = Some (contents.File bytes)
+held contents.Directory = Some contents.Directory
+held contents.Absent = None
+
+pub get-with_contents : (m : Replica) (p : Path) (c : Contents) (q : Path) → fin.get (with_contents m p c) q ≡ cond (eq_by_cmp path_cmp q p) (held c) (fin.get m q)
+get-with_contents m p (contents.File bytes) q = fin.get-insert path_total m p (contents.File bytes) q
+get-with_contents m p contents.Directory q = fin.get-insert path_total m p contents.Directory q
+get-with_contents m p contents.Absent q = fin.get-remove path_total m p q
 
 -- equal by what stands at each path
 told : {C : Type 0} (o u : Option C) (nothing : C) → (o ≡ Some nothing → ⊥) → (u ≡ Some nothing → ⊥) → unwrap_or o nothing ≡ unwrap_or u nothing → o ≡ u

@@ -22,9 +22,9 @@ use Rattle.hub_tree.specs.Below.{is_below, under}
 use Rattle.hub_tree.specs.Tree.{Replica, contents_at, is_absent}
 use Rattle.hub_tree.specs.declared.contents.Contents.{Contents}
 use Rattle.hub_tree.specs.declared.contents.Contents.TheVariants as contents
-use Rattle.hub_tree.proofs.Order.{path_total, same_path, path_itself}
-use Rattle.hub_tree.proofs.Children.{sorted_keys}
-use Rattle.hub_tree.proofs.Beneath.{below_from, below_rest, below_order}
+use Rattle.hub_tree.specs.Laws.Order.{path_total, same_path, path_itself}
+use Rattle.hub_tree.specs.Laws.Children.{sorted_keys}
+use Rattle.hub_tree.specs.Laws.Beneath.{below_from, below_rest, below_order}
 
 -- whether a path is in a list
 abbrev pub among : Path → List Path → Bool

@@ -4,6 +4,7 @@ ghost use Rattle.std.specs.BTreeMap.{keys, IsOrdered};
 ghost use Rattle.hub_path.specs.Path.{path_cmp};
 ghost use Rattle.hub_tree.specs.Tree as tree;
 
+use crate::archive::builder::map_of;
 use crate::contents::Mark;
 use hub_path::RelPath;
 use hub_text::{Items, is_equal};
@@ -148,18 +149,18 @@ fn copies_of_paths(
     Ok(paths)
 }
 
-/// Copies the marks.
+/// Copies the marks. Since they are in order, none of them is searched for.
 fn copy_of_marks(
     alloc: Global,
     marks: &BTreeMap<RelPath, Mark>,
 ) -> Result<BTreeMap<RelPath, Mark>, AllocError>
     ensures { IfOk result (λ m. m.entries ≡ marks.now.entries) }
 {
-    let mut copies = BTreeMap::new(alloc);
+    let mut copies = Vec::with_capacity(alloc, marks.len())?;
     for (path, mark) in marks.iter() {
-        copies.insert(path.copy()?, *mark)?;
+        copies.push((path.copy()?, *mark))?;
     }
-    Ok(copies)
+    map_of(alloc, copies)
 }
 
 /// Whether both have the same marks at the same paths.

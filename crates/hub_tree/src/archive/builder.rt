@@ -78,8 +78,11 @@ impl ArchiveBuilder {
     }
 }
 
-/// The map of these marks.
-fn map_of(alloc: Global, marks: Vec<(RelPath, Mark)>) -> Result<BTreeMap<RelPath, Mark>, AllocError>
+/// The map of these marks. If a path has several, the last one counts.
+pub(crate) fn map_of(
+    alloc: Global,
+    marks: Vec<(RelPath, Mark)>,
+) -> Result<BTreeMap<RelPath, Mark>, AllocError>
     ensures { IfOk result (IsFromIterResult path_cmp marks.items) }
 {
     marks.into_iter().collect(alloc)

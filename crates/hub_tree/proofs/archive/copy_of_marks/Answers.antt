@@ -1,9 +1,22 @@
-use Rattle.std.proofs.Common.{ap, ◌∙◌, ◌++◌}
-use Rattle.hub_tree.specs.Laws.Order.{path_total}
-use Rattle.hub_tree.specs.Laws.Ascending.{copy_more}
+use Rattle.std.proofs.Common.{List, [], ◌∷◌, ◌++◌, ap, sym, ◌∙◌, append_assoc, append-nil}
+use Rattle.std.proofs.lemmas.Result.{IfOk-weaker}
+use Rattle.hub_path.specs.Path.{Path}
+use Rattle.hub_tree.specs.declared.contents.Mark.{Mark}
+use Rattle.hub_tree.proofs.Inserted.{collected_in_order}
 use Rattle.hub_tree.proofs.archive.copy_of_marks.Goals as goal
 
 pub loop-path-preserved : goal.loop-path-preserved
 loop-path-preserved c =
-    ap (λ es. es ++ c.next.new.self) c.in_ok-insert.ensures.entries
-    ∙ copy_more path_total _ _ _ _ (c.in-Some.path.now, c.in-Some.mark.now) _ c.loop-path.invariant c.in-Some.ensures.steps c.in_ok-copy.ensures c.iter-path-items.ensures.ordered
+    let done : List (Path × Mark) = c.loop-path.copies.items in
+    ap (λ (es : List (Path × Mark)). es ++ c.next.new.self)
+    (c.in_ok-push.ensures.items ∙ ap (λ (p : Path). done ++ (p, c.in-Some.mark.now) ∷ []) c.in_ok-copy.ensures)
+    ∙ append_assoc done ((c.in-Some.path.now, c.in-Some.mark.now) ∷ []) c.next.new.self
+    ∙ ap (λ (es : List (Path × Mark)). done ++ es) (sym c.in-Some.ensures.steps) ∙ c.loop-path.invariant
+
+pub returns : goal.returns
+returns c =
+    let done : List (Path × Mark) = c.loop-path.copies.items in
+    let all = sym (append-nil done) ∙ ap (λ (es : List (Path × Mark)). done ++ es) (sym c.in-None.ensures.steps.0) ∙ c.loop-path.invariant in
+    IfOk-weaker c.map_of.result _ _
+    (λ m h. collected_in_order done c.args.marks.now.entries m h all c.iter-path-items.ensures.ordered)
+    c.map_of.ensures

@@ -471,11 +471,9 @@ fn put_mark(archive: &mut Archive, path: &RelPath, mark: Mark) -> Result<(), Fau
     ensures err { IfErr result (λ f. (f ≡ Fault.OutOfMemory)
         ⊎ (taking.mark_put archive.old path.now mark ≡ Err f)) }
 {
-    match archive.mark_at(path) {
-        Mark::Absent => {}
-        Mark::File(_) => return Err(Fault::Repeated),
-        Mark::Directory => return Err(Fault::Repeated),
+    match archive.replace(path, mark)? {
+        Mark::Absent => Ok(()),
+        Mark::File(_) => Err(Fault::Repeated),
+        Mark::Directory => Err(Fault::Repeated),
     }
-    archive.set(path, mark)?;
-    Ok(())
 }

@@ -109,17 +109,36 @@ impl Archive {
         ensures err { OnErr result (self.new ≡ self.old) }
         ensures absent { mark ≡ Mark.Absent → IsOk result }
     {
+        match self.replace(path, mark) {
+            Ok(_old) => Ok(()),
+            Err(error) => Err(error),
+        }
+    }
+
+    /// Sets the mark at the path as [`Archive::set`] does, and returns the mark that was there, or `Absent` if there was
+    /// none. The path is searched for once.
+    ///
+    /// Out of memory leaves the archive unchanged. To set `Absent` allocates nothing.
+    pub fn replace(&mut self, path: &RelPath, mark: Mark) -> Result<Mark, AllocError>
+        requires { 0 < length path.now }
+        ensures archive { tree.IsArchive self.old }
+        ensures old { IfOk result (λ m. m ≡ tree.old_mark_at self.old path.now) }
+        ensures ok { OnOk result (self.new ≡ tree.with_mark self.old path.now mark) }
+        ensures err { OnErr result (self.new ≡ self.old) }
+        ensures absent { mark ≡ Mark.Absent → IsOk result }
+    {
         let _names = path.len();
         mark.has_digest();
         match kept(mark) {
             None => {
-                let _old = self.marks.remove(path);
+                let old = self.marks.remove(path);
+                Ok(old.unwrap_or(Mark::Absent))
             }
             Some(mark) => {
-                let _old = self.marks.insert(path.copy()?, mark)?;
+                let old = self.marks.insert(path.copy()?, mark)?;
+                Ok(old.unwrap_or(Mark::Absent))
             }
         }
-        Ok(())
     }
 }
 

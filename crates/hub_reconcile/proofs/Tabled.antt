@@ -45,13 +45,6 @@ taken_length o (Some x) ms t =
     let b : length (paths_in ms) ≡ length ms = length-map ms (λ e. e.0) in
     omega (arith, a, b)
 
--- To pass a path, where its mark was taken, and where another one was.
-pub past_taken : (p : Path) (o ms : List (Path × Mark)) (x : OldMark) → o ≡ told_mark x ∷ ms → path_eq x.path.now p ≡ true → past_of p o ≡ ms
-past_taken p o ms x e h = ap (past_of p) e ∙ ap (λ b. cond b ms (told_mark x ∷ ms)) h
-
-pub past_other : (p : Path) (o ms : List (Path × Mark)) (x : OldMark) → o ≡ told_mark x ∷ ms → path_eq x.path.now p ≡ false → past_of p o ≡ told_mark x ∷ ms
-past_other p o ms x e h = ap (past_of p) e ∙ ap (λ b. cond b ms (told_mark x ∷ ms)) h
-
 -- The old mark of a row that doesn't count.
 split : (a r k : Bool) (xs : List (Path × Mark)) → (k ≡ true → a ≡ true) → cond (a && r) [] (cond k xs []) ≡ cond (not r && k) xs []
 split true true k xs h = refl

@@ -9,10 +9,10 @@ use hub_tree::Mark;
 pub struct Look<'a> {
     /// The path.
     pub path: &'a RelPath,
-    /// The mark of the path.
-    pub mark: Mark,
     /// The names of the children that the profile reaches. Nothing in this crate depends on them.
     pub names: &'a [Name],
+    /// The mark of the path.
+    pub mark: Mark,
     /// Whether the path has children that the profile doesn't reach. It is told only if the profile writes the path.
     pub others: bool,
 }

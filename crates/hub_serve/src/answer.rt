@@ -1,7 +1,8 @@
 //! Finds the answer to an input.
-ghost use Rattle.std.specs.Prelude.{◌≡◌, ◌⊎◌, false, true, IfSome, None, Some};
+ghost use Rattle.std.specs.Prelude.{◌≡◌, ◌⊎◌, false, true, IfErr, IfOk, IfSome, None, Some};
 ghost use Rattle.hub_bundle.specs.Bundle as bundle;
-ghost use Rattle.hub_words.specs.Words.{request_of};
+ghost use Rattle.hub_bundle.specs.Sections.{Spells};
+ghost use Rattle.hub_words.specs.Words.{Request, request_of};
 ghost use Rattle.hub_report.specs.Report.{says_read_failed, unread_by};
 ghost use Rattle.hub_serve.specs.Reads.{AreSpent, reads_between};
 ghost use Rattle.hub_serve.specs.Report as report;
@@ -39,32 +40,43 @@ pub fn report_on<'a, T: Threads + Wait + Sync, R: Read>(
         → (input.new.at_end ≡ true) ⊎ (result ≡ Report.OutOfMemory) }
 {
     match read_input(alloc, input) {
-        Ok(bytes) => report_on_bytes(rt, alloc, asked, bytes.as_slice()),
+        Ok(bytes) => report_on_bytes(rt, alloc, asked, bytes),
         Err(InputFault::OutOfMemory) => Report::OutOfMemory,
         Err(fault) => Report::Unread(fault),
     }
 }
 
-/// The answer to what was asked of an input's bytes. The bundle is read first, with all of its sections.
+/// The answer to what was asked of an input's bytes. They are dropped as soon as they are read, before anything is done.
 fn report_on_bytes<'a, T: Threads + Wait + Sync>(
     rt: &T,
     alloc: Global,
     asked: Asked<'a>,
-    bytes: &[u8],
+    bytes: Vec<u8>,
 ) -> Report<'a>
-    ensures holds { report.Holds (request_of asked.entry) bytes.now result }
+    ensures holds { report.Holds (request_of asked.entry) bytes.items result }
     ensures read { unread_by result ≡ None }
 {
-    let sections = match read_bundle(alloc, bytes) {
+    match contents_in(alloc, bytes) {
+        Ok(contents) => report_on_contents(rt, alloc, asked, contents),
+        Err(report) => report,
+    }
+}
+
+/// What a bundle says with all of its sections, or the answer if it can't be read. Its bytes are dropped.
+fn contents_in<'a>(alloc: Global, bytes: Vec<u8>) -> Result<Contents, Report<'a>>
+    ensures spelled { IfOk result (λ c. Spells bytes.items c) }
+    ensures faulty { (request : Request) → IfErr result (report.Holds request bytes.items) }
+    ensures read { IfErr result (λ r. unread_by r ≡ None) }
+{
+    let sections = match read_bundle(alloc, bytes.as_slice()) {
         Ok(sections) => sections,
-        Err(fault) => return bad_bundle(fault),
+        Err(fault) => return Err(bad_bundle(fault)),
     };
-    let contents = match read_sections(alloc, sections.as_slice()) {
-        Ok(contents) => contents,
-        Err(ReadError::Faulty(fault)) => return Report::BadSection(fault),
-        Err(ReadError::OutOfMemory) => return Report::OutOfMemory,
-    };
-    report_on_contents(rt, alloc, asked, contents)
+    match read_sections(alloc, sections.as_slice()) {
+        Ok(contents) => Ok(contents),
+        Err(ReadError::Faulty(fault)) => Err(Report::BadSection(fault)),
+        Err(ReadError::OutOfMemory) => Err(Report::OutOfMemory),
+    }
 }
 
 /// The answer to what was asked of what a bundle says.

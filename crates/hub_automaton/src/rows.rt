@@ -31,12 +31,16 @@ pub(crate) fn move_row(
     }
 }
 
-/// Copies the words from a place on.
+/// Copies the words from a place on. Mostly there is one, which takes no loop.
 fn copy_behind(new: &mut [u64], old: &[u64], place: usize)
     requires row { length new.old ≡ length old.now }
     requires place { place ≤ length old.now }
     ensures { drop place new.new ≡ drop place old.now }
 {
+    if old.len() - place == 1 {
+        new[place] = old[place];
+        return;
+    }
     for i in place..old.len() {
         new[i] = old[i];
     }

@@ -1,5 +1,7 @@
-//! Positions of the empty text, and whether choices match by the positions of a text.
+//! Positions of the empty text, which characters stars accept, and whether choices match by the positions of a text.
 ghost use Rattle.std.specs.Prelude.{◌≡◌, ◌+◌, ◌≤◌, ◌++◌, IfOk, OnOk};
+ghost use Rattle.hub_glob.specs.Taking.{takes};
+ghost use Rattle.hub_glob.specs.declared.piece.Piece.TheVariants.{Run};
 ghost use Rattle.hub_automaton.specs.Masks as masking;
 ghost use Rattle.hub_automaton.specs.Spots.{spot_count};
 ghost use Rattle.hub_automaton.specs.Stepping as stepping;
@@ -31,6 +33,13 @@ pub(crate) fn enter_choices(choices: &[Items<Piece>], new: &mut Vec<bool>) -> Re
         enter_choice(choice.as_slice(), new)?;
     }
     Ok(())
+}
+
+/// Whether a `*` accepts the character, where `first` says whether a component starts there, as `Piece::takes` does.
+pub(crate) fn stays_at(character: char, first: bool) -> bool
+    ensures { result ≡ takes (record { character = character; first = first }) Run }
+{
+    character != '/' && !(first && character == '.')
 }
 
 /// Of the choices of a specification and a text: whether one of them matches it, and the place after their positions.

@@ -1,0 +1,127 @@
+//! What is said about an answer.
+
+use crate::asked::{say_asked_path, say_not_reached, say_profiles, say_run_fault, say_words};
+use crate::bundle::say_bundle_fault;
+use crate::note::say_notes;
+use crate::place::{place_in, place_in_profile};
+use crate::refusal::{say_breach, say_overlap, say_refused};
+use crate::setting::say_setting_fault;
+use crate::source::Source;
+use crate::text::{say_certificates_fault, say_state_fault};
+use crate::words::{Said, say};
+use hub_text::Lines;
+use std::alloc::{AllocError, Global};
+
+/// The first bytes of an input or of an output.
+#[derive(Clone, Copy)]
+pub struct Front<'a> {
+    /// The bytes.
+    pub bytes: &'a [u8],
+    /// Whether these are all of its bytes.
+    pub is_whole: bool,
+}
+
+/// What is to be said about an answer: lines that begin with `hubsync: `, or nothing.
+///
+/// The words are those of the command line, the program's name first. The text is free: no clause says
+/// what it is. If the input goes on behind these bytes, only faults get remarks.
+pub fn remark(
+    alloc: Global,
+    words: &[String],
+    input: Front<'_>,
+    output: Front<'_>,
+) -> Result<String, AllocError> {
+    let mut out = String::new(alloc);
+    let mut lines = Lines::new(output.bytes);
+    let first = next_text(&mut lines);
+    if first.is_empty() {
+        say_words(&mut out, words)?;
+        return Ok(out);
+    }
+    let second = next_text(&mut lines);
+    let source = Source::read(alloc, input.bytes, input.is_whole)?;
+    say_answer(&mut out, &source, words, first, second)?;
+    Ok(out)
+}
+
+/// The text of the next line. It is empty if there is none.
+fn next_text<'a>(lines: &mut Lines<'a>) -> &'a str {
+    match lines.next() {
+        Some(line) => str::from_utf8(line.text).unwrap_or(""),
+        None => "",
+    }
+}
+
+/// Says what belongs to an answer of these first two lines.
+fn say_answer(
+    out: &mut String,
+    source: &Source<'_>,
+    words: &[String],
+    first: &str,
+    second: &str,
+) -> Said {
+    let (kind, text) = first.split_once(": ").unwrap_or((first, ""));
+    if kind == "fault" {
+        return say_fault(out, source, words, text);
+    }
+    if !source.is_whole() {
+        return Ok(());
+    }
+    match kind {
+        "overlap" => say_overlap(out, source, text),
+        "breach" => say_breach(out, source, text),
+        "refused" => say_refused(out, source, text),
+        "too large" => say(out, "nothing is known: fewer * in patterns would help"),
+        "not reached" => say_not_reached(out, source, words),
+        "safe" | "verified" => say_yes(out, source, second),
+        _ => Ok(()),
+    }
+}
+
+/// Says what belongs to a yes above this line.
+fn say_yes(out: &mut String, source: &Source<'_>, below: &str) -> Said {
+    match below.strip_prefix("run fault: ") {
+        Some(fault) => say_run_fault(out, source, fault),
+        None => say_notes(out, source),
+    }
+}
+
+/// Says what to do about a fault.
+fn say_fault(out: &mut String, source: &Source<'_>, words: &[String], fault: &str) -> Said {
+    if let Some(fault) = fault.strip_prefix("bundle line ") {
+        return say_bundle_fault(out, source, fault);
+    }
+    if let Some(fault) = fault.strip_prefix("path: ") {
+        return say_asked_path(out, source, words, fault);
+    }
+    if let Some(name) = fault.strip_prefix("no profile ") {
+        return say_profiles(out, source, name);
+    }
+    if fault == "no state" {
+        return say(
+            out,
+            "run needs a section %state, as docs/USE.md shows, and check needs none",
+        );
+    }
+    say_section_fault(out, source, fault)
+}
+
+/// Says what to do about a fault of a section.
+fn say_section_fault(out: &mut String, source: &Source<'_>, fault: &str) -> Said {
+    if let Some(fault) = fault.strip_prefix("profile ") {
+        return match place_in_profile(source, fault) {
+            Some(place) => say_setting_fault(out, source, place, false),
+            None => Ok(()),
+        };
+    }
+    if let Some(place) = place_in(source, "rules", fault) {
+        return say_setting_fault(out, source, place, true);
+    }
+    if let Some(place) = place_in(source, "state", fault) {
+        return say_state_fault(out, source, place);
+    }
+    match place_in(source, "certificates", fault) {
+        Some(place) => say_certificates_fault(out, source, place),
+        None => Ok(()),
+    }
+}

@@ -1,0 +1,199 @@
+//! Remarks on what the words on the command line ask for.
+
+use crate::near::nearest;
+use crate::refusal::say_kept;
+use crate::source::Source;
+use crate::value::path_remedy;
+use crate::words::{Said, covers, name_of, say};
+use std::alloc::AllocError;
+
+/// The commands.
+const COMMANDS: [&str; 6] = ["check", "certify", "verify", "reach", "run", "help"];
+
+/// How many names are listed at most.
+const LISTED: usize = 10;
+
+/// Says how the input is given, if the words seem to name a file.
+pub(crate) fn say_words(out: &mut String, words: &[String]) -> Said {
+    if words
+        .iter()
+        .any(|word| word.as_str().starts_with("--workers"))
+    {
+        return say(out, "--workers is a number from 1 to 16");
+    }
+    let Some(first) = words.get(1) else {
+        return Ok(());
+    };
+    if first.as_str() == "version" {
+        return say(out, "hubsync --version shows the version");
+    }
+    let place = if COMMANDS.contains(&first.as_str()) {
+        2
+    } else {
+        1
+    };
+    match words.get(place) {
+        Some(word) if first.as_str() != "reach" => say_file(out, word.as_str()),
+        _ => Ok(()),
+    }
+}
+
+/// Says how a bundle is given, if a word is not an option.
+fn say_file(out: &mut String, word: &str) -> Said {
+    if word.starts_with('-') || COMMANDS.contains(&word) {
+        return Ok(());
+    }
+    writeln!(
+        out,
+        "hubsync: the bundle comes on standard input, as in: hubsync check < {word}"
+    )
+}
+
+/// Says what is wrong with the path that `reach` was asked about.
+pub(crate) fn say_asked_path(
+    out: &mut String,
+    source: &Source<'_>,
+    words: &[String],
+    fault: &str,
+) -> Said {
+    let (name, path) = operands(words);
+    match fault {
+        "LeadingSlash" => say_below_root(out, source, name, path),
+        "EmptyName" => {
+            let path = path.trim_end_matches('/');
+            writeln!(
+                out,
+                "hubsync: a / is there twice, or at the end: write {path}"
+            )
+        }
+        _ => say(out, path_remedy(fault)),
+    }
+}
+
+/// The operands of `reach`: the last two words.
+fn operands(words: &[String]) -> (&str, &str) {
+    match words {
+        [.., name, path] => (name.as_str(), path.as_str()),
+        _ => ("", ""),
+    }
+}
+
+/// Says how to write a path that begins with `/`: below the profile's root, if it lies there.
+fn say_below_root(out: &mut String, source: &Source<'_>, name: &str, path: &str) -> Said {
+    let mut below = path;
+    let profile = section_named(source, name)?.unwrap_or(0);
+    let roots = source.settings(profile, "root")?;
+    for line in roots.as_slice() {
+        let root = line.value_of("root").unwrap_or("");
+        if covers(root, path) {
+            below = path.strip_prefix(root).unwrap_or(path);
+        }
+    }
+    let below = below.trim_start_matches('/');
+    writeln!(out, "hubsync: a path is below the roots: write {below}")
+}
+
+/// The section of the first profile of that name.
+fn section_named(source: &Source<'_>, name: &str) -> Result<Option<usize>, AllocError> {
+    let profiles = source.profiles()?;
+    for profile in profiles.as_slice() {
+        if profile.profile() == Some(name) {
+            return Ok(Some(profile.section));
+        }
+    }
+    Ok(None)
+}
+
+/// Says which profiles there are.
+pub(crate) fn say_profiles(out: &mut String, source: &Source<'_>, asked: &str) -> Said {
+    let profiles = source.profiles()?;
+    if profiles.is_empty() || !source.is_whole() {
+        return say(out, "a profile follows a line %profile NAME");
+    }
+    write!(out, "hubsync: the profiles are")?;
+    for (i, profile) in profiles.iter().enumerate().take(LISTED) {
+        push_name(out, i, profile.profile().unwrap_or(""))?;
+    }
+    out.push_str(if profiles.len() > LISTED {
+        ", ..\n"
+    } else {
+        "\n"
+    })?;
+    say_meant(out, source, asked)
+}
+
+/// Adds a name to a list in which so many stand before it.
+fn push_name(out: &mut String, before: usize, name: &str) -> Said {
+    out.push_str(if before == 0 { " " } else { ", " })?;
+    out.push_str(name)
+}
+
+/// Says which profile's name is near to a word.
+fn say_meant(out: &mut String, source: &Source<'_>, asked: &str) -> Said {
+    let mut names = Vec::new(source.alloc());
+    let profiles = source.profiles()?;
+    for profile in profiles.iter().take(LISTED) {
+        names.push(profile.profile().unwrap_or(""))?;
+    }
+    match nearest(source.alloc(), asked, names.as_slice())? {
+        Some(name) => writeln!(out, "hubsync: did you mean {name}?"),
+        None => Ok(()),
+    }
+}
+
+/// Says why a profile doesn't reach a path.
+pub(crate) fn say_not_reached(out: &mut String, source: &Source<'_>, words: &[String]) -> Said {
+    let (name, path) = operands(words);
+    let Some(section) = section_named(source, name)? else {
+        return Ok(());
+    };
+    if !is_kept(source, section, path)? {
+        let name = name_of(source, section);
+        return writeln!(
+            out,
+            "hubsync: no line path = .. of {name} is this path or above it"
+        );
+    }
+    say_kept(out, source, section, path)?;
+    say(
+        out,
+        "a line ignore matches the path, or a folder between it and that line",
+    )
+}
+
+/// Whether a profile has a path at this one or above it.
+fn is_kept(source: &Source<'_>, section: usize, path: &str) -> Result<bool, AllocError> {
+    let lines = source.settings(section, "path")?;
+    let kept = lines
+        .iter()
+        .any(|line| covers(line.value_of("path").unwrap_or(path), path));
+    Ok(kept || lines.is_empty())
+}
+
+/// Says why the jobs weren't run.
+pub(crate) fn say_run_fault(out: &mut String, source: &Source<'_>, fault: &str) -> Said {
+    match fault {
+        "NoWorkers" | "TooManyWorkers" => say(out, "--workers is a number from 1 to 16"),
+        "ThreadRefused" => say(out, "the system gives no further thread: try --workers 1"),
+        _ => say_replicas(out, source),
+    }
+}
+
+/// Says of which roots the state has replicas.
+fn say_replicas(out: &mut String, source: &Source<'_>) -> Said {
+    let section = source.section("%state").unwrap_or(0);
+    let mut count = 0usize;
+    write!(
+        out,
+        "hubsync: roots are compared by their text, and the state has these replicas:"
+    )?;
+    for line in source.lines() {
+        if line.section == section && count < LISTED {
+            if let Some(root) = line.text().strip_prefix("replica ") {
+                push_name(out, count, root)?;
+                count = count.saturating_add(1);
+            }
+        }
+    }
+    out.push_str("\n")
+}

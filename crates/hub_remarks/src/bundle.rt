@@ -1,0 +1,91 @@
+//! Remarks on inputs that are not bundles.
+
+use crate::near::nearest;
+use crate::place::number_and_fault;
+use crate::source::{Source, SourceLine};
+use crate::words::{Said, odd_encoding, say, say_line};
+use std::alloc::Global;
+
+/// How the headings of sections begin.
+const HEADINGS: [&str; 4] = ["%profile", "%rules", "%state", "%certificates"];
+
+/// Says what to do about `NUMBER: FAULT` of a bundle.
+pub(crate) fn say_bundle_fault(out: &mut String, source: &Source<'_>, text: &str) -> Said {
+    let Some((number, fault)) = number_and_fault(text) else {
+        return Ok(());
+    };
+    let Some(line) = source.line_at(number) else {
+        return say_unread(out, fault);
+    };
+    say_line(out, source.alloc(), &line)?;
+    match odd_encoding(line.bytes) {
+        Some(words) => say(out, words),
+        None => say_heading_fault(out, source, &line, fault),
+    }
+}
+
+/// Says why an input wasn't read.
+fn say_unread(out: &mut String, fault: &str) -> Said {
+    match fault {
+        "TurnsSpent" => say(out, "standard input has not ended after 1,000,000 reads"),
+        _ => Ok(()),
+    }
+}
+
+/// Says what to do about a line that stands where a heading is expected.
+fn say_heading_fault(
+    out: &mut String,
+    source: &Source<'_>,
+    line: &SourceLine<'_>,
+    fault: &str,
+) -> Said {
+    match fault {
+        "NoSection" => say(out, "a line %profile NAME is missing: a profile follows it"),
+        "UnknownSection" => say_unknown_section(out, source.alloc(), line.text()),
+        "BadName" => say(out, name_remedy(line)),
+        "SectionTwice" => say_twice(out, source, line),
+        _ => Ok(()),
+    }
+}
+
+/// Says which section a heading may mean.
+fn say_unknown_section(out: &mut String, alloc: Global, heading: &str) -> Said {
+    let (word, _) = heading.split_once(' ').unwrap_or((heading, ""));
+    match nearest(alloc, word, &HEADINGS)? {
+        Some("%profile") => say(
+            out,
+            "a profile's heading is %profile, one space and its name",
+        ),
+        Some(near) if near == word => writeln!(out, "hubsync: nothing may follow {near}"),
+        Some(near) => writeln!(out, "hubsync: did you mean {near}?"),
+        None => say(
+            out,
+            "the headings are %profile NAME, %rules, %state and %certificates",
+        ),
+    }
+}
+
+/// What to do about the name in a profile's heading.
+fn name_remedy(line: &SourceLine<'_>) -> &'static str {
+    if str::from_utf8(line.bytes).is_err() {
+        return "the name is not UTF-8: save the file as UTF-8";
+    }
+    match line.text().strip_prefix("%profile ") {
+        Some("") => "a profile's heading is %profile, one space and its name",
+        Some(".") | Some("..") => "a profile's name is not . or ..",
+        Some(name) if name.contains('/') => "a profile's name has no /",
+        _ => "a profile's name has at most 255 bytes, and no NUL and no CR",
+    }
+}
+
+/// Says where a section stands that is there twice.
+fn say_twice(out: &mut String, source: &Source<'_>, line: &SourceLine<'_>) -> Said {
+    for other in source.lines() {
+        if other.is_heading() && other.text() == line.text() {
+            let at = other.at;
+            let heading = other.text();
+            return writeln!(out, "hubsync: {heading} is on bundle line {at} already");
+        }
+    }
+    Ok(())
+}

@@ -1,0 +1,31 @@
+//! The known word that is nearest to one that isn't known.
+
+use std::alloc::{AllocError, Global};
+use strsim::osa_distance;
+
+/// How many edits lead to a word that was meant, at most.
+const EDITS: usize = 2;
+
+/// How long a word may be, in bytes, for which a nearer one is sought.
+const WORD_BYTES: usize = 40;
+
+/// The word that is nearest to this one, if a third of its letters or fewer are wrong.
+pub(crate) fn nearest<'a>(
+    alloc: Global,
+    word: &str,
+    known: &[&'a str],
+) -> Result<Option<&'a str>, AllocError> {
+    if word.len() > WORD_BYTES {
+        return Ok(None);
+    }
+    let mut best = None;
+    let mut least = (word.len() / 3).min(EDITS).saturating_add(1);
+    for name in known {
+        let edits = osa_distance(alloc, word, *name)?;
+        if edits < least {
+            least = edits;
+            best = Some(*name);
+        }
+    }
+    Ok(best)
+}

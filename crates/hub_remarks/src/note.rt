@@ -1,0 +1,138 @@
+//! Remarks on a yes that may mislead.
+
+use crate::refusal::is_same_root;
+use crate::source::{Source, SourceLine, trimmed};
+use crate::words::{Said, name_of, say, say_placed};
+use std::alloc::AllocError;
+
+/// The two roots of a profile, of which either may come first.
+#[derive(Clone, Copy)]
+struct Pair<'a> {
+    section: usize,
+    one: &'a str,
+    other: &'a str,
+}
+
+/// Says what the profiles and rules of a set that is safe may not have been meant to say.
+pub(crate) fn say_notes(out: &mut String, source: &Source<'_>) -> Said {
+    let profiles = source.profiles()?;
+    if profiles.is_empty() {
+        return say(
+            out,
+            "note: the input has no profile, so nothing was checked",
+        );
+    }
+    say_blank_names(out, profiles.as_slice())?;
+    say_strange_root(out, source)?;
+    say_same_pair(out, source, profiles.as_slice())
+}
+
+/// Says which names have a blank at an end.
+fn say_blank_names(out: &mut String, profiles: &[SourceLine<'_>]) -> Said {
+    for profile in profiles {
+        let name = profile.profile().unwrap_or("");
+        if trimmed(name).len() < name.len() {
+            let at = profile.at;
+            return writeln!(
+                out,
+                "hubsync: note: bundle line {at}: a blank at an end of {name:?}"
+            );
+        }
+    }
+    Ok(())
+}
+
+/// Says which root of the rules no profile has.
+fn say_strange_root(out: &mut String, source: &Source<'_>) -> Said {
+    let Some(section) = source.section("%rules") else {
+        return Ok(());
+    };
+    let roots = roots_beside(source, section)?;
+    let lines = source.settings(section, "root")?;
+    for line in lines.as_slice() {
+        if !is_among(roots.as_slice(), line) {
+            say(
+                out,
+                "note: no profile has this root, so no rule below it protects anything:",
+            )?;
+            return say_placed(out, source, line);
+        }
+    }
+    Ok(())
+}
+
+/// The root lines of all other sections.
+fn roots_beside<'a>(
+    source: &Source<'a>,
+    section: usize,
+) -> Result<Vec<SourceLine<'a>>, AllocError> {
+    let mut roots = Vec::new(source.alloc());
+    for line in source.lines() {
+        if line.section != section && line.value_of("root").is_some() {
+            roots.push(*line)?;
+        }
+    }
+    Ok(roots)
+}
+
+/// Whether one of these lines has the root of a line.
+fn is_among(roots: &[SourceLine<'_>], line: &SourceLine<'_>) -> bool {
+    let root = line.value_of("root").unwrap_or("");
+    roots.iter().any(|own| is_same_root(own.value_of("root").unwrap_or(""), root))
+}
+
+/// Says which two profiles have the same two roots.
+fn say_same_pair(out: &mut String, source: &Source<'_>, profiles: &[SourceLine<'_>]) -> Said {
+    let mut pairs = Vec::new(source.alloc());
+    for profile in profiles {
+        if let Some(pair) = pair_of(source, profile.section)? {
+            if let Some(same) = same_pair(pairs.as_slice(), pair) {
+                return say_pair(
+                    out,
+                    name_of(source, same.section),
+                    name_of(source, pair.section),
+                );
+            }
+            pairs.push(pair)?;
+        }
+    }
+    Ok(())
+}
+
+/// Says that two profiles have the same two roots.
+fn say_pair(out: &mut String, one: &str, other: &str) -> Said {
+    writeln!(
+        out,
+        "hubsync: note: {one} and {other} have the same two roots"
+    )?;
+    say(
+        out,
+        "note: Unison locks the archive of two roots: don't run these profiles at once",
+    )
+}
+
+/// The two roots of a profile.
+fn pair_of<'a>(source: &Source<'a>, section: usize) -> Result<Option<Pair<'a>>, AllocError> {
+    let lines = source.settings(section, "root")?;
+    let (Some(one), Some(other)) = (lines.first(), lines.last()) else {
+        return Ok(None);
+    };
+    let one = one.value_of("root").unwrap_or("");
+    let other = other.value_of("root").unwrap_or("");
+    Ok(Some(Pair {
+        section,
+        one,
+        other,
+    }))
+}
+
+/// The first of these pairs with the same two roots.
+fn same_pair<'a>(pairs: &[Pair<'a>], pair: Pair<'_>) -> Option<Pair<'a>> {
+    for own in pairs {
+        let straight = is_same_root(own.one, pair.one) && is_same_root(own.other, pair.other);
+        if straight || (is_same_root(own.one, pair.other) && is_same_root(own.other, pair.one)) {
+            return Some(*own);
+        }
+    }
+    None
+}

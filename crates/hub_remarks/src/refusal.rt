@@ -1,0 +1,231 @@
+//! Remarks on sets that are refused: the lines that make it so.
+
+use crate::source::{Source, SourceLine};
+use crate::words::{Said, covers, name_of, say, say_placed};
+
+/// Says which lines make two profiles overlap: `WRITER writes PATH at PLACE, OTHER reaches PATH`.
+pub(crate) fn say_overlap(out: &mut String, source: &Source<'_>, text: &str) -> Said {
+    let Some((before, path)) = text.rsplit_once(" reaches ") else {
+        return Ok(());
+    };
+    let profiles = source.profiles()?;
+    for profile in profiles.as_slice() {
+        if is_overlapping(profile, before) {
+            say_kept(out, source, profile.section, path)?;
+        }
+    }
+    say(
+        out,
+        "run one after the other, or give one other paths, an ignore or a bar",
+    )
+}
+
+/// Whether a profile is one of the two in `WRITER writes PATH at PLACE, OTHER`.
+fn is_overlapping(profile: &SourceLine<'_>, text: &str) -> bool {
+    let Some(name) = profile.profile() else {
+        return false;
+    };
+    let writes = text
+        .strip_prefix(name)
+        .is_some_and(|rest| rest.starts_with(" writes "));
+    writes
+        || text
+            .strip_suffix(name)
+            .is_some_and(|rest| rest.ends_with(", "))
+}
+
+/// Says which line gives a profile a path.
+pub(crate) fn say_kept(out: &mut String, source: &Source<'_>, section: usize, path: &str) -> Said {
+    let lines = source.settings(section, "path")?;
+    if lines.is_empty() {
+        let name = name_of(source, section);
+        return writeln!(
+            out,
+            "hubsync: {name} has no line path, so it has all of its roots"
+        );
+    }
+    for line in lines.as_slice() {
+        if line
+            .value_of("path")
+            .is_some_and(|value| covers(value, path))
+        {
+            return say_placed(out, source, line);
+        }
+    }
+    Ok(())
+}
+
+/// Says which rule a profile may break: `PROFILE may VERB PATH at ROOT, rule NUMBER`.
+pub(crate) fn say_breach(out: &mut String, source: &Source<'_>, text: &str) -> Said {
+    let Some((before, number)) = text.rsplit_once(", rule ") else {
+        return Ok(());
+    };
+    say_rule(out, source, number)?;
+    let Some((before, root)) = before.rsplit_once(" at ") else {
+        return Ok(());
+    };
+    let profiles = source.profiles()?;
+    for profile in profiles.as_slice() {
+        if let Some((verb, path)) = verb_and_path(profile.profile().unwrap_or(""), before) {
+            say_kept(out, source, profile.section, path)?;
+            return say_bar(out, verb, root);
+        }
+    }
+    Ok(())
+}
+
+/// Says which line is the rule of that number.
+fn say_rule(out: &mut String, source: &Source<'_>, number: &str) -> Said {
+    let Ok(number) = number.parse::<usize>() else {
+        return Ok(());
+    };
+    match rule_line(source, number) {
+        Some(line) => say_placed(out, source, &line),
+        None => Ok(()),
+    }
+}
+
+/// The verb and the path of `NAME may VERB PATH`.
+fn verb_and_path<'t>(name: &str, text: &'t str) -> Option<(&'t str, &'t str)> {
+    text.strip_prefix(name)?
+        .strip_prefix(" may ")?
+        .split_once(' ')
+}
+
+/// Says which bar forbids a change.
+fn say_bar(out: &mut String, verb: &str, root: &str) -> Said {
+    let bar = match verb {
+        "create" => "nocreation",
+        "update" => "noupdate",
+        _ => "nodeletion",
+    };
+    writeln!(
+        out,
+        "hubsync: a line {bar} = {root} in the profile would keep the rule"
+    )
+}
+
+/// The line of the rule of that number, from 0 on.
+fn rule_line<'a>(source: &Source<'a>, number: usize) -> Option<SourceLine<'a>> {
+    let section = source.section("%rules")?;
+    let mut left = number;
+    for line in source.lines() {
+        if line.section == section && is_rule(line) {
+            if left == 0 {
+                return Some(*line);
+            }
+            left = left.saturating_sub(1);
+        }
+    }
+    None
+}
+
+/// Whether a line of the rules is a rule.
+fn is_rule(line: &SourceLine<'_>) -> bool {
+    match line.setting() {
+        Some((name, _)) => name == "nolose" || name == "nochange" || name == "nonew",
+        None => false,
+    }
+}
+
+/// Says what to do about a set that is refused.
+pub(crate) fn say_refused(out: &mut String, source: &Source<'_>, text: &str) -> Said {
+    if let Some(name) = text.strip_prefix("SameName ") {
+        return say_same_name(out, source, name);
+    }
+    if let Some(roots) = text.strip_prefix("NestedRoots ") {
+        return say_nested(out, source, roots);
+    }
+    match text {
+        "TooManyProfiles" => say_too_many_profiles(out, source),
+        "TooManyCharacters" => say(out, "paths and patterns may have 512 different characters"),
+        "TooManySpots" => say(
+            out,
+            "a profile's paths and patterns have at most 4,096 positions",
+        ),
+        _ => say_certificates(out, source),
+    }
+}
+
+/// Says which headings have the same name.
+fn say_same_name(out: &mut String, source: &Source<'_>, name: &str) -> Said {
+    let profiles = source.profiles()?;
+    write!(
+        out,
+        "hubsync: give each profile a name of its own: bundle lines"
+    )?;
+    for profile in profiles.as_slice() {
+        if profile.profile() == Some(name) {
+            let at = profile.at;
+            write!(out, " {at}")?;
+        }
+    }
+    out.push_str("\n")
+}
+
+/// Says how many profiles there are.
+fn say_too_many_profiles(out: &mut String, source: &Source<'_>) -> Said {
+    let count = source.profiles()?.len();
+    writeln!(
+        out,
+        "hubsync: a bundle may have 128 profiles, and this one has {count}"
+    )
+}
+
+/// Says where the roots of `ROOT and ROOT` stand, and how to write both over one.
+fn say_nested(out: &mut String, source: &Source<'_>, roots: &str) -> Said {
+    let Some((first, second)) = roots.split_once(" and ") else {
+        return Ok(());
+    };
+    say_root(out, source, first)?;
+    say_root(out, source, second)?;
+    if covers(first, second) {
+        say_over(out, first, second)
+    } else {
+        say_over(out, second, first)
+    }
+}
+
+/// Says which line has a root, the first one.
+fn say_root(out: &mut String, source: &Source<'_>, root: &str) -> Said {
+    for line in source.lines() {
+        if line
+            .value_of("root")
+            .is_some_and(|value| is_same_root(value, root))
+        {
+            return say_placed(out, source, line);
+        }
+    }
+    Ok(())
+}
+
+/// Whether two texts are one root.
+pub(crate) fn is_same_root(one: &str, other: &str) -> bool {
+    one.strip_suffix('/').unwrap_or(one) == other.strip_suffix('/').unwrap_or(other)
+}
+
+/// Says how to write the inner root over the outer one.
+fn say_over(out: &mut String, outer: &str, inner: &str) -> Said {
+    let below = inner
+        .strip_prefix(outer)
+        .unwrap_or(inner)
+        .trim_start_matches('/');
+    writeln!(
+        out,
+        "hubsync: write both over one root: root = {outer} with path = {below}"
+    )
+}
+
+/// Says what to do about certificates that don't show that the set is safe.
+fn say_certificates(out: &mut String, source: &Source<'_>) -> Said {
+    match source.section("%certificates") {
+        Some(_) => say(
+            out,
+            "the certificates are of another bundle: hubsync certify makes new ones",
+        ),
+        None => say(
+            out,
+            "there is no section %certificates: hubsync certify writes its text",
+        ),
+    }
+}

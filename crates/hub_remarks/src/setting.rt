@@ -1,0 +1,249 @@
+//! Remarks on faults of profiles and rules.
+
+use crate::near::nearest;
+use crate::pattern::say_bad_pattern;
+use crate::place::Place;
+use crate::source::{Source, SourceLine, trimmed};
+use crate::value::{say_bad_path, say_too_many};
+use crate::words::{Said, odd_encoding, say, say_line};
+use hub_text::first_word;
+use std::alloc::Global;
+
+/// The preferences of a profile that hubsync reads.
+const PREFERENCES: [&str; 27] = [
+    "root",
+    "path",
+    "ignore",
+    "ignorenot",
+    "force",
+    "prefer",
+    "nodeletion",
+    "noupdate",
+    "nocreation",
+    "nodeletionpartial",
+    "noupdatepartial",
+    "nocreationpartial",
+    "auto",
+    "batch",
+    "confirmbigdel",
+    "contactquietly",
+    "fastcheck",
+    "group",
+    "key",
+    "label",
+    "log",
+    "logfile",
+    "owner",
+    "perms",
+    "silent",
+    "terse",
+    "times",
+];
+
+/// The preferences of rules.
+const RULES: [&str; 4] = ["root", "nolose", "nochange", "nonew"];
+
+/// Preferences that hubsync refuses, and that change nothing that is synchronized.
+const WITHOUT_EFFECT: &str = "\
+    addprefsto addversionno backup backupcurr backupcurrent backupcurrentnot \
+    backupcurrnot backupdir backupnot backupprefix backupsuffix backupversions color \
+    confirmmerge copymax copyprog copyprogrest copyquoterem copythreshold debug diff \
+    dontchmod dumbtty halfduplex height ignoreinodenumbers killserver maxbackups \
+    maxthreads numericids repeat retry rsync servercmd showarchive sortbysize sortfirst \
+    sortlast sortnewfirst sshargs sshcmd stream watch xferbycopying";
+
+/// Says what to do about a fault of a profile, or of the rules.
+pub(crate) fn say_setting_fault(
+    out: &mut String,
+    source: &Source<'_>,
+    place: Place<'_>,
+    is_of_rules: bool,
+) -> Said {
+    if place.number == 0 {
+        return say_whole_fault(out, source, place);
+    }
+    let Some(line) = source.line(place.section, place.number) else {
+        return Ok(());
+    };
+    say_line(out, source.alloc(), &line)?;
+    match odd_encoding(line.bytes) {
+        Some(words) => say(out, words),
+        None => say_line_fault(out, source, &line, place.fault, is_of_rules),
+    }
+}
+
+/// Says what to do about a fault that is of no line.
+fn say_whole_fault(out: &mut String, source: &Source<'_>, place: Place<'_>) -> Said {
+    if !source.is_whole() {
+        return Ok(());
+    }
+    let section = place.section;
+    match place.fault {
+        "NotUtf8" => say_not_utf8(out, source, section),
+        "RootCount" => say_roots(
+            out,
+            source,
+            section,
+            "a profile has two roots, and this one has",
+        ),
+        "SameRoots" => say_roots(out, source, section, "the two roots are one folder:"),
+        "RootsNested" => say_roots(out, source, section, "no root lies within the other:"),
+        _ => Ok(()),
+    }
+}
+
+/// Says what to do about a fault of a line.
+fn say_line_fault(
+    out: &mut String,
+    source: &Source<'_>,
+    line: &SourceLine<'_>,
+    fault: &str,
+    is_of_rules: bool,
+) -> Said {
+    let alloc = source.alloc();
+    let (kind, detail) = fault.split_once(' ').unwrap_or((fault, ""));
+    let name = line.name();
+    match kind {
+        "NoEquals" => say_no_equals(out, trimmed(line.text())),
+        "UnknownPreference" => say_unknown(out, alloc, name, is_of_rules),
+        "BadPath" => say_bad_path(out, line.value(), detail),
+        "BadPattern" => say_bad_pattern(out, alloc, line.text(), detail),
+        "Repeated" => say_repeated(out, source, line.section, name),
+        "TooMany" => say_too_many(out, name),
+        "NotARoot" => say_roots(
+            out,
+            source,
+            line.section,
+            "write one of the two roots, which are",
+        ),
+        _ => say(out, remedy(kind)),
+    }
+}
+
+/// What to do about a fault, whatever the line says.
+fn remedy(fault: &str) -> &'static str {
+    match fault {
+        "IncludeLeftOut" => "write that file's lines in its place, as examples/from-prf.sh does",
+        "LeftOutValue" => "newer and older depend on times: name one of the two roots",
+        "RuleBeforeRoot" => "a rule is for the root line above it: write root = .. before it",
+        "NoArrow" => "write PATTERN -> ROOT",
+        _ => "docs/UNISON.md says how hubsync reads a line",
+    }
+}
+
+/// Says which line is not UTF-8.
+fn say_not_utf8(out: &mut String, source: &Source<'_>, section: usize) -> Said {
+    for line in source.lines() {
+        if line.section == section && line.number > 0 {
+            if let Err(error) = str::from_utf8(line.bytes) {
+                let byte = error.valid_up_to().saturating_add(1);
+                return say_bad_byte(out, line, byte);
+            }
+        }
+    }
+    Ok(())
+}
+
+/// Says that a byte of a line is not UTF-8.
+fn say_bad_byte(out: &mut String, line: &SourceLine<'_>, byte: usize) -> Said {
+    let number = line.number;
+    let at = line.at;
+    writeln!(
+        out,
+        "hubsync: line {number} (bundle line {at}) is not UTF-8 at byte {byte}"
+    )?;
+    match odd_encoding(line.bytes) {
+        Some(words) => say(out, words),
+        None => say(out, "save the file as UTF-8"),
+    }
+}
+
+/// Says how a line would set something.
+fn say_no_equals(out: &mut String, text: &str) -> Said {
+    let (word, rest) = first_word(text);
+    let rest = trimmed(rest);
+    if PREFERENCES.contains(&word) || RULES.contains(&word) {
+        return writeln!(out, "hubsync: there is no = in it: write {word} = {rest}");
+    }
+    say(
+        out,
+        "there is no = in it: a line is NAME = VALUE, or begins with #",
+    )
+}
+
+/// Says what an unknown preference may mean.
+fn say_unknown(out: &mut String, alloc: Global, name: &str, is_of_rules: bool) -> Said {
+    if !is_of_rules && RULES.contains(&name) {
+        return writeln!(
+            out,
+            "hubsync: {name} is a rule: a line %rules is missing above it"
+        );
+    }
+    if is_of_rules && PREFERENCES.contains(&name) {
+        return writeln!(
+            out,
+            "hubsync: {name} is for profiles: the rules are nolose, nochange, nonew"
+        );
+    }
+    if WITHOUT_EFFECT.split(' ').any(|word| word == name) {
+        return writeln!(
+            out,
+            "hubsync: {name} changes nothing that is synchronized: leave it out"
+        );
+    }
+    if is_of_rules {
+        return say_near_rule(out, alloc, name);
+    }
+    say_near_preference(out, alloc, name)
+}
+
+fn say_near_rule(out: &mut String, alloc: Global, name: &str) -> Said {
+    match nearest(alloc, name, &RULES)? {
+        Some(near) => writeln!(out, "hubsync: did you mean {near}?"),
+        None => say(
+            out,
+            "rules are nolose, nochange and nonew, each below a line root = ..",
+        ),
+    }
+}
+
+fn say_near_preference(out: &mut String, alloc: Global, name: &str) -> Said {
+    match nearest(alloc, name, &PREFERENCES)? {
+        Some(near) => writeln!(out, "hubsync: did you mean {near}?"),
+        None => say(out, "docs/USE.md lists the preferences that hubsync reads"),
+    }
+}
+
+/// Says where a preference was given before.
+fn say_repeated(out: &mut String, source: &Source<'_>, section: usize, name: &str) -> Said {
+    let lines = source.settings(section, name)?;
+    let Some(first) = lines.first() else {
+        return Ok(());
+    };
+    let at = first.at;
+    writeln!(
+        out,
+        "hubsync: {name} is given on bundle line {at} already: keep one of the two"
+    )
+}
+
+/// Says which roots a section has, after these words.
+fn say_roots(out: &mut String, source: &Source<'_>, section: usize, words: &str) -> Said {
+    let lines = source.settings(section, "root")?;
+    write!(out, "hubsync: {words}")?;
+    if lines.is_empty() {
+        out.push_str(" none")?;
+    }
+    for (i, line) in lines.iter().enumerate() {
+        push_root(out, i, line)?;
+    }
+    out.push_str("\n")
+}
+
+/// Adds the root of a line to a list in which so many stand before it.
+fn push_root(out: &mut String, before: usize, line: &SourceLine<'_>) -> Said {
+    let at = line.at;
+    let root = line.value_of("root").unwrap_or("");
+    out.push_str(if before == 0 { " " } else { ", " })?;
+    write!(out, "{root} (bundle line {at})")
+}

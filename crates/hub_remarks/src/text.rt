@@ -1,0 +1,93 @@
+//! Remarks on faults of a state and of certificates.
+
+use crate::place::Place;
+use crate::source::{Source, SourceLine};
+use crate::words::{Said, say, say_line};
+
+/// What `certify` writes of a set that isn't safe.
+const REFUSALS: [&str; 5] = [
+    "overlap: ",
+    "breach: ",
+    "refused: ",
+    "too large: ",
+    "fault: ",
+];
+
+/// Says what to do about a fault of the state.
+pub(crate) fn say_state_fault(out: &mut String, source: &Source<'_>, place: Place<'_>) -> Said {
+    let Some(line) = source.line(place.section, place.number) else {
+        return say(out, state_remedy(place.fault));
+    };
+    say_line(out, source.alloc(), &line)?;
+    if line.bytes.ends_with(b"\r") {
+        return say(
+            out,
+            "lines of a state end with LF alone, and this one with CR and LF",
+        );
+    }
+    if is_below_end(source, &line) {
+        return say(
+            out,
+            "nothing may follow the line end of a state, not even a blank line",
+        );
+    }
+    say(out, state_remedy(place.fault))
+}
+
+/// Whether the line `end` of its section stands above a line.
+fn is_below_end(source: &Source<'_>, line: &SourceLine<'_>) -> bool {
+    for other in source.lines() {
+        let is_above = other.section == line.section && other.number < line.number;
+        if is_above && other.bytes == b"end".as_slice() {
+            return true;
+        }
+    }
+    false
+}
+
+/// What to do about a fault of a state's line.
+fn state_remedy(fault: &str) -> &'static str {
+    match fault {
+        "BadHeader" => "the first line below %state is hubsync state 1 or hubsync state 2",
+        "BadLine" => "a state has no blank lines and no comments: docs/USE.md shows its lines",
+        "BadPath" => "a path of a state is below its root, without a / at an end, . and ..",
+        "BadHex" => "file, one space, hexadecimal digits or -, one space, the path",
+        "NoParent" => "a line dir for the folder of this path is missing above it",
+        "Repeated" => "it is in the state already: keep one of the two lines",
+        "TooLarge" => "a file has at most 1,048,576 bytes, and a state at most 100,000 entries",
+        "Truncated" => "the last line of a state is end, and a line end follows it",
+        "UnknownBlob" => "a line blob with this SHA-256 is missing above it",
+        "WrongDigest" => "the bytes of the blob have another SHA-256: they were changed",
+        _ => "docs/USE.md shows the lines of a state",
+    }
+}
+
+/// Says what to do about a faulty line of the certificates.
+pub(crate) fn say_certificates_fault(
+    out: &mut String,
+    source: &Source<'_>,
+    place: Place<'_>,
+) -> Said {
+    let Some(line) = source.line(place.section, place.number) else {
+        return say(out, "certificates are as hubsync certify wrote them");
+    };
+    say_line(out, source.alloc(), &line)?;
+    if is_refusal(line.text()) {
+        return say(out, "hubsync certify wrote this answer and no certificates");
+    }
+    if line.bytes.ends_with(b"\r") {
+        return say(
+            out,
+            "lines of certificates end with LF alone, and this one with CR and LF",
+        );
+    }
+    say(
+        out,
+        "certificates are as hubsync certify wrote them: make them anew",
+    )
+}
+
+/// Whether a line is an answer that refuses a set.
+fn is_refusal(line: &str) -> bool {
+    REFUSALS.iter().any(|start| line.starts_with(*start))
+}

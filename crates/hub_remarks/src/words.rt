@@ -1,0 +1,88 @@
+//! How a remark is written.
+
+use crate::source::{Source, SourceLine};
+use std::alloc::{AllocError, Global};
+
+/// How many characters of a line are shown at most.
+const SHOWN_CHARACTERS: usize = 200;
+
+/// What a function gives that adds to a remark: nothing, or that memory is out.
+pub(crate) type Said = Result<(), AllocError>;
+
+/// Adds a line of a remark.
+pub(crate) fn say(out: &mut String, words: &str) -> Said {
+    writeln!(out, "hubsync: {words}")
+}
+
+/// Adds a line of the input, with its number.
+pub(crate) fn say_line(out: &mut String, alloc: Global, line: &SourceLine<'_>) -> Said {
+    let at = line.at;
+    let text = shown(alloc, line.bytes)?;
+    writeln!(out, "hubsync: bundle line {at}: {text}")
+}
+
+/// Adds a line of a profile or of the rules, with its number there and its number in the input.
+pub(crate) fn say_placed(out: &mut String, source: &Source<'_>, line: &SourceLine<'_>) -> Said {
+    let name = name_of(source, line.section);
+    let number = line.number;
+    let at = line.at;
+    let text = shown(source.alloc(), line.bytes)?;
+    writeln!(
+        out,
+        "hubsync: {name}, line {number} (bundle line {at}): {text}"
+    )
+}
+
+/// What a section is called: its profile's name, or its heading.
+pub(crate) fn name_of<'a>(source: &Source<'a>, section: usize) -> &'a str {
+    let Some(heading) = source.line(section, 0) else {
+        return "";
+    };
+    match heading.profile() {
+        Some(name) => name,
+        None => heading.text(),
+    }
+}
+
+/// The start of a line as it is shown: with escapes, if a character of it can't be seen.
+pub(crate) fn shown(alloc: Global, bytes: &[u8]) -> Result<String, AllocError> {
+    let Ok(text) = str::from_utf8(bytes.strip_suffix(b"\r").unwrap_or(bytes)) else {
+        return String::from_str(alloc, "(not UTF-8)");
+    };
+    if text.is_empty() {
+        return String::from_str(alloc, "(blank)");
+    }
+    let start: String = text.chars().take(SHOWN_CHARACTERS).collect(alloc)?;
+    if start.as_str().chars().any(is_hidden) {
+        return format!(in alloc; "{start:?}");
+    }
+    Ok(start)
+}
+
+/// Whether a character can't be seen as it is.
+fn is_hidden(c: char) -> bool {
+    c.is_control() || c == '\u{feff}'
+}
+
+/// What is odd about the encoding of a line, if anything is.
+pub(crate) fn odd_encoding(bytes: &[u8]) -> Option<&'static str> {
+    if bytes.starts_with(b"\xef\xbb\xbf") {
+        return Some("a byte order mark stands before this line: save the file as UTF-8 without it");
+    }
+    if bytes.starts_with(b"\xff\xfe") || bytes.starts_with(b"\xfe\xff") || bytes.contains(&0) {
+        return Some("the input seems to be UTF-16: save it as UTF-8");
+    }
+    if bytes.strip_suffix(b"\r").unwrap_or(bytes).contains(&b'\r') {
+        return Some("a CR stands within this line: a line ends with LF, or with CR and LF");
+    }
+    None
+}
+
+/// Whether a path is this one or below it. This one may end with a `/`, and the empty one is above all.
+pub(crate) fn covers(above: &str, path: &str) -> bool {
+    let above = above.strip_suffix('/').unwrap_or(above);
+    match path.strip_prefix(above) {
+        Some(rest) => above.is_empty() || rest.is_empty() || rest.starts_with('/'),
+        None => false,
+    }
+}

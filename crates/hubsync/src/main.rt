@@ -1,25 +1,28 @@
 //! The program: reads a bundle of profiles and rules on standard input, and says on standard output whether the profiles
 //! may run at the same time and keep the rules. If the bundle has a state, it runs the jobs of a safe set on it, in threads.
+//! Standard error says which lines an answer is about, and what to do.
 //!
 //! `serve_process` of `hub_serve` does all that the process does between its arguments and its exit status, over any reader
-//! and writer; its contract says what is written. `main` hands it the process's own. If the answer could not be written,
-//! `main` says so on standard error.
+//! and writer; its contract says what is written. `serve_with_remarks` adds the remarks of `hub_remarks` under the same
+//! contract: it keeps a copy of the first bytes of the input and of the answer (`kept`). `main` hands it the process's own
+//! devices.
 #![tactic(auto)]
 
-use hub_serve::serve_process;
+mod kept;
+mod served;
+
+use crate::kept::Kept;
+use crate::served::{Seen, serve_with_remarks};
 use hub_text::Watched;
 use std::process::ExitCode;
 use std::rt::Env;
 use std::{env, io};
 
 fn main(rt: HostRuntime) -> ExitCode {
-    let mut input = Watched::new(rt.reader());
-    let mut output = Watched::new(io::writer(&rt));
-    let status = serve_process(&rt, arguments(&rt), &mut input, &mut output);
-    if output.failed() {
-        // if standard error fails too, there is nobody left to tell
-        let _ = eprintln!(rt; "hubsync: the answer could not be written");
-    }
+    let seen = Seen::new(rt.alloc());
+    let mut input = Watched::new(Kept::new(rt.reader(), &seen.input));
+    let mut output = Watched::new(Kept::new(io::writer(&rt), &seen.output));
+    let status = serve_with_remarks(&rt, arguments(&rt), &mut input, &mut output, &seen);
     ExitCode::from(status)
 }
 

@@ -1,0 +1,119 @@
+//! Devices of which the first bytes are kept.
+ghost use Rattle.std.specs.Prelude.{◌≡◌};
+
+use hub_remarks::Front;
+use std::alloc::Global;
+use std::cell::RefCell;
+use std::io;
+use std::io::{Read, Write};
+
+/// The first bytes that passed through a device, up to a limit, and the device's last error.
+#[derive(Drop)]
+pub struct Passed {
+    bytes: Vec<u8>,
+    limit: usize,
+    is_whole: bool,
+    error: Option<io::Error>,
+}
+
+impl Passed {
+    /// Nothing has passed, and so many bytes are kept at most. It doesn't allocate.
+    pub fn new(alloc: Global, limit: usize) -> Passed {
+        Passed {
+            bytes: Vec::new(alloc),
+            limit,
+            is_whole: true,
+            error: None,
+        }
+    }
+
+    /// Borrows the bytes.
+    pub fn front(&self) -> Front<'_> {
+        Front {
+            bytes: self.bytes.as_slice(),
+            is_whole: self.is_whole,
+        }
+    }
+
+    /// The device's last error.
+    pub fn error(&self) -> Option<io::Error> {
+        self.error
+    }
+
+    /// Keeps the first of these bytes, as many as there is room for. When memory is out, it keeps no more.
+    fn keep(&mut self, bytes: &[u8]) {
+        let room = self.limit.saturating_sub(self.bytes.len());
+        let count = bytes.len().min(room);
+        if count < bytes.len() {
+            self.is_whole = false;
+        }
+        if self.bytes.extend_from_slice(&bytes[..count]).is_err() {
+            self.limit = 0;
+            self.is_whole = false;
+        }
+    }
+}
+
+/// A reader or a writer of which the first bytes are kept elsewhere. The calls are passed on to the device as they are.
+#[derive(Drop)]
+pub struct Kept<'a, D> {
+    device: D,
+    passed: &'a RefCell<Passed>,
+}
+
+impl<'a, D> Kept<'a, D> {
+    /// Keeps there what passes through a device.
+    pub fn new(device: D, passed: &'a RefCell<Passed>) -> Kept<'a, D>
+        ensures { result.device ≡ device }
+    {
+        Kept { device, passed }
+    }
+}
+
+impl<'a, R: Read> Read for Kept<'a, R> {
+    ghost remaining = { λ k. R.remaining k.device };
+
+    fn read(&mut self, buffer: &mut [u8]) -> io::Result<usize> {
+        let result = self.device.read(buffer);
+        match result {
+            Ok(count) => keep(self.passed, &buffer[..count]),
+            Err(error) => keep_error(self.passed, error),
+        }
+        result
+    }
+}
+
+impl<'a, W: Write> Write for Kept<'a, W> {
+    ghost contents = { λ k. W.contents k.device };
+
+    fn write(&mut self, bytes: &[u8]) -> io::Result<usize> {
+        let result = self.device.write(bytes);
+        match result {
+            Ok(count) => keep(self.passed, &bytes[..count]),
+            Err(error) => keep_error(self.passed, error),
+        }
+        result
+    }
+
+    fn flush(&mut self) -> io::Result<()> {
+        let result = self.device.flush();
+        if let Err(error) = result {
+            keep_error(self.passed, error);
+        }
+        result
+    }
+}
+
+/// Keeps bytes.
+fn keep(passed: &RefCell<Passed>, bytes: &[u8]) {
+    if let Ok(mut passed) = passed.try_borrow_mut() {
+        passed.keep(bytes);
+    }
+}
+
+/// Keeps an error.
+fn keep_error(passed: &RefCell<Passed>, error: io::Error) {
+    if let Ok(mut passed) = passed.try_borrow_mut() {
+        passed.error = Some(error);
+    }
+}

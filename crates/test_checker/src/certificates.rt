@@ -8,8 +8,7 @@ use crate::faults::fault_text;
 use crate::goals::goal_of;
 use crate::words::{text_of, word_of};
 use anyhow::Result;
-use hub_cert::{Certificate, CheckFault, Goal, StageText, read_certificates, write_certificates};
-use hub_text::Items;
+use hub_cert::{Certificate, CheckFault, Goal, StageTexts, read_certificates, write_certificates};
 use std::alloc::{AllocError, Global};
 use test_kit::{bytes_of, in_one_line};
 
@@ -86,10 +85,10 @@ fn listed_goals(alloc: Global, field: &str) -> Result<Vec<Goal>> {
     Ok(goals)
 }
 
-fn stages_of(alloc: Global, words: &str) -> Result<Items<StageText>, AllocError> {
-    let mut stages = Items::new(alloc);
+fn stages_of(alloc: Global, words: &str) -> Result<StageTexts, AllocError> {
+    let mut stages = StageTexts::new(alloc);
     for word in words.split_whitespace() {
-        stages.push(StageText::new(String::from_str(alloc, text_of(word))?))?;
+        stages.push(text_of(word))?;
     }
     Ok(stages)
 }
@@ -97,8 +96,8 @@ fn stages_of(alloc: Global, words: &str) -> Result<Items<StageText>, AllocError>
 /// How the texts of a certificate are written.
 pub(crate) fn texts_of(alloc: Global, certificate: &Certificate) -> Result<String, AllocError> {
     let mut words = Vec::new(alloc);
-    for stage in certificate.stages.as_slice() {
-        words.push(word_of(stage.as_str()))?;
+    for number in 0..certificate.stages.len() {
+        words.push(word_of(certificate.stages.text(number)))?;
     }
     words.as_slice().join(alloc, " ")
 }

@@ -24,8 +24,8 @@
 #
 # - The lines between `== TITLE` and the first `$` are the input. No lines are an empty one.
 # - The words behind `$` are those that the program is started with, the first one its name. '' is an empty word.
-# - The lines down to `status N` are all that it writes. The input is read to its end, and standard error
-#   stays empty.
+# - The lines down to `status N` are all that it writes to standard output. The input is read to its end, and standard error
+#   has nothing but remarks, which remarks.sh compares: up to five lines, each of which begins with `hubsync: `.
 # - Where a line `stderr: TEXT` stands above the status, the words ask for nothing: standard error begins with
 #   that text, and the input isn't read.
 # - In inputs, words and answers `\` begins an escape of `printf '%b'`, as `\r`, `\0`, `\xff`, or `\x20` for
@@ -68,6 +68,18 @@ judge() {
     fi
 }
 
+# Whether standard error has nothing but remarks.
+has_remarks_alone() {
+    ! grep -avq '^hubsync: ' "$room/errors" && [ "$(wc -l <"$room/errors")" -le 5 ]
+}
+
+# Looks for anything else than remarks on standard error.
+#
+#     judge_remarks PLACE
+judge_remarks() {
+    has_remarks_alone || complain "$1: on standard error there is '$(head -1 "$room/errors")'"
+}
+
 # Compares what was written to standard error.
 #
 #     judge_errors PLACE WANTED-LINE
@@ -90,7 +102,7 @@ ask() {
     if [ -n "$error" ]; then
         unread=$room/input
     fi
-    if [[ $(<"$room/errors") != "$error"* ]] || { [ -z "$error" ] && [ -s "$room/errors" ]; }; then
+    if [[ $(<"$room/errors") != "$error"* ]] || { [ -z "$error" ] && ! has_remarks_alone; }; then
         complain "$place: wanted '$error' on standard error, got '$(head -1 "$room/errors")'"
     elif ! cmp -s "$unread" "$room/rest"; then
         complain "$place: wanted $(wc -c <"$unread") bytes of the input left, got $(wc -c <"$room/rest")"
@@ -198,7 +210,7 @@ ask_certificates() {
     {
         cat "$room/bundle"
         echo %certificates
-        "$program" certify <"$room/bundle" || true
+        "$program" certify <"$room/bundle" 2>/dev/null || true
     } >"$room/input"
     echo verified >"$room/wanted"
     ask 'its own certificates' 0 '' hubsync verify
@@ -234,7 +246,7 @@ ask_failing_inputs() {
     echo 'fault: bundle line 0: ReadFailed' >"$room/wanted"
     "$program" <"$room" >"$room/output" 2>"$room/errors" || status=$?
     judge 'an input that is a directory' 2 "$status" || true
-    judge_errors 'an input that is a directory' ''
+    judge_errors 'an input that is a directory' "hubsync: standard input can't be read: Is a directory (os error 21)"
     # 4,097 blanks in a pipe that has more to come, and whose reads don't wait for it, but fail
     mkfifo "$room/pipe"
     exec 3<>"$room/pipe"
@@ -244,7 +256,8 @@ ask_failing_inputs() {
     "$program" <&3 >"$room/output" 2>"$room/errors" || status=$?
     exec 3>&-
     judge 'an input that fails at a later read' 2 "$status" || true
-    judge_errors 'an input that fails at a later read' ''
+    judge_errors 'an input that fails at a later read' \
+        "hubsync: standard input can't be read: Resource temporarily unavailable (os error 11)"
 }
 
 # Outputs that fail: they take nothing, or the first 1,024 bytes. Standard error says so, unless it fails too.
@@ -254,7 +267,7 @@ ask_failing_outputs() {
     : >"$room/output"
     "$program" </dev/null >/dev/full 2>"$room/errors" || status=$?
     judge 'an output that is full' 2 "$status" || true
-    judge_errors 'an output that is full' "$error"
+    judge_errors 'an output that is full' "$error: No space left on device (os error 28)"
     status=0
     "$program" </dev/null >/dev/full 2>/dev/full || status=$?
     judge 'two outputs that are full' 2 "$status" || true
@@ -271,7 +284,7 @@ ask_failing_outputs() {
         exec "$program" <"$room/input" >"$room/output" 2>"$room/errors"
     ) || status=$?
     judge 'an output that is soon full' 2 "$status" || true
-    judge_errors 'an output that is soon full' "$error"
+    judge_errors 'an output that is soon full' "$error: File too large (os error 27)"
 }
 
 if [ ! -x "$program" ]; then

@@ -1,6 +1,6 @@
 # shellcheck shell=bash
 # Hostile inputs that are made: too long for a table, forged, cut, or read byte by byte. `answers.sh` reads this file with
-# `source`, and it uses what stands there: `room`, `program`, `ask`, `judge` and `complain`.
+# `source`, and it uses what stands there: `room`, `program`, `ask`, `judge`, `judge_remarks` and `complain`.
 
 # A text, so many times.
 #
@@ -24,7 +24,7 @@ ask_first() {
     "$program" "${@:4}" <"$room/input" >"$room/whole" 2>"$room/errors" || status=$?
     head -n "$3" "$room/whole" >"$room/output"
     judge "$1" "$2" "$status" || true
-    judge_errors "$1" ''
+    judge_remarks "$1"
 }
 
 # Asks a question that gets one line.
@@ -161,7 +161,8 @@ ask_each_cut() {
     for ((cut = 0; cut < size; cut++)); do
         head -c "$cut" "$room/bundle" >"$room/input"
         status=0
-        output=$("$program" <"$room/input" 2>&1) || status=$?
+        output=$("$program" <"$room/input" 2>"$room/errors") || status=$?
+        judge_remarks "$1, cut at $cut"
         asked=$((asked + 1))
         case $status-$output in
             [012]-*$'\n'*) [ "$cut" = $((size - 1)) ] || complain "$1, cut at $cut: more than a line: $output" ;;
@@ -188,7 +189,7 @@ ask_cut() {
     head -c $((size - 1)) "$room/bundle" >"$room/input"
     ask_first 'cut before the last line end' 0 3
     cp "$room/whole" "$room/cut"
-    "$program" <"$room/bundle" | cmp -s - "$room/cut" || complain 'cut before the last line end: another answer'
+    "$program" <"$room/bundle" 2>/dev/null | cmp -s - "$room/cut" || complain 'cut before the last line end: another answer'
 }
 
 # Inputs that are almost too long to be read, byte by byte, or longer, in whole blocks.

@@ -281,7 +281,7 @@ LINES
 
 # The items of an example, asked of the program.
 try_run() {
-    "$program" run <"$folder/star.bundle" >answer
+    "$program" run <"$folder/star.bundle" >answer 2>/dev/null
     ask 0 items.sh "$folder/star.bundle" <answer
     grep -v '^job ' written >items
     compare 'items of star.bundle' items <<'LINES'

@@ -1,0 +1,165 @@
+#!/usr/bin/env bash
+# Asks the program the questions of the table examples/remarks.txt, and compares what it says on standard error.
+#
+#     examples/remarks.sh [PROGRAM]
+#
+# PROGRAM is the built program (crates/hubsync/out/hubsync if left out). A case of the table has a title, an input, and one or
+# more questions about it, as they would stand in a shell:
+#
+#     == a preference that is misspelled
+#     %profile p
+#     ignroe = Name x
+#     $ hubsync
+#     fault: profile p line 1: UnknownPreference ignroe
+#     hubsync: bundle line 2: ignroe = Name x
+#     hubsync: did you mean ignore?
+#     status 2
+#
+# - The lines between `== TITLE` and the first `$` are the input. No lines are an empty one.
+# - The words behind `$` are those that the program is started with, the first one its name. '' is an empty word.
+# - The lines down to `status N` are the first line that it writes to standard output, and all lines that it writes to standard error.
+# - Where standard error begins with clap's text, which words that ask for nothing get, only its lines that begin with `hubsync: ` count.
+# - In inputs, words and answers `\` begins an escape of `printf '%b'`, as in the tables of answers.sh. `\c` ends an input without
+#   a line end.
+# - Between a status and the next title there may be blank lines, and remarks that begin with `#`.
+#
+# Each question is asked once more with a standard error that is full: the output and the status are the same. At last it asks what no
+# table can say: inputs that are long, with too many lines, or that fail. A line is printed for each wrong answer. The status is 1
+# if there was one, else 0.
+set -euo pipefail
+folder=$(dirname "$(readlink -f "${BASH_SOURCE[0]}")")
+program=$(readlink -m "${1:-$folder/../crates/hubsync/out/hubsync}")
+asked=0
+wrong=0
+
+complain() {
+    echo "remarks: $*"
+    wrong=$((wrong + 1))
+}
+
+# The first line of a file that another one lacks there.
+first_other() {
+    diff -a "$1" "$2" | awk '/^</ { print substr($0, 3); exit }' || true
+}
+
+# Compares the answer and what was said with the file `wanted`, and the status.
+#
+#     judge PLACE WANTED-STATUS STATUS
+judge() {
+    asked=$((asked + 1))
+    {
+        head -n 1 "$room/output"
+        if grep -aq '^error: ' "$room/errors"; then grep -a '^hubsync: ' "$room/errors" || true; else cat "$room/errors"; fi
+    } >"$room/said"
+    if ! cmp -s "$room/wanted" "$room/said"; then
+        complain "$1: wanted '$(first_other "$room/wanted" "$room/said")', got '$(first_other "$room/said" "$room/wanted")'"
+    elif [ "$2" != "$3" ]; then
+        complain "$1: wanted status $2, got status $3"
+    fi
+}
+
+# Asks the program about the file `input`.
+#
+#     ask PLACE WANTED-STATUS NAME WORD..
+ask() {
+    local status=0
+    (exec -a "$3" "$program" "${@:4}") <"$room/input" >"$room/output" 2>"$room/errors" || status=$?
+    judge "$1" "$2" "$status"
+    ask_unheard "$1" "$status" "${@:3}"
+}
+
+# Asks the same with a standard error that is full: the output and the status are the same.
+#
+#     ask_unheard PLACE STATUS NAME WORD..
+ask_unheard() {
+    local status=0
+    (exec -a "$3" "$program" "${@:4}") <"$room/input" >"$room/unheard" 2>/dev/full || status=$?
+    if [ "$status" != "$2" ] || ! cmp -s "$room/output" "$room/unheard"; then
+        complain "$1: another answer if standard error is full"
+    fi
+}
+
+# Asks the question of a case.
+#
+#     ask_case PLACE WANTED-STATUS WORDS INPUT WANTED
+ask_case() {
+    local words i
+    read -ra words <<<"$3"
+    for i in "${!words[@]}"; do
+        printf -v "words[i]" '%b' "${words[i]/#\'\'/}"
+    done
+    printf '%b' "$4" >"$room/input"
+    printf '%b' "$5" >"$room/wanted"
+    ask "$1: $3" "$2" "${words[@]}"
+}
+
+# Asks all questions of a table.
+ask_table() {
+    local part=between title='' input='' question='' wanted='' line
+    while IFS= read -r line; do
+        case $part/$line in
+            between/'== '*) title=${line#== } input='' part=input ;;
+            input/'$ '* | between/'$ '*) question=${line#\$ } wanted='' part=output ;;
+            output/'status '*)
+                ask_case "$title" "${line#status }" "$question" "$input" "$wanted"
+                part=between
+                ;;
+            between/ | between/'#'*) : ;;
+            between/* | */'== '*) complain "in no case, or in one without a status: $line" ;;
+            input/*) input+=$line$'\n' ;;
+            output/*) wanted+=$line$'\n' ;;
+        esac
+    done <"$1"
+    [ "$part" = between ] || complain 'the last case has no status'
+}
+
+# Of an input of 3 MB, a line near its start is shown, and none near its end.
+ask_long() {
+    local comments
+    comments=$(yes '# 30 characters in each line ..' | head -n 100000 || true)
+    printf '%s\n' '%profile p' 'root /srv/hub' "$comments" >"$room/input"
+    printf '%s\n' 'fault: profile p line 1: NoEquals' 'hubsync: bundle line 2: root /srv/hub' \
+        'hubsync: there is no = in it: write root = /srv/hub' >"$room/wanted"
+    ask 'a fault at the start of a long input' 2 hubsync
+    printf '%s\n' '%profile p' "$comments" 'root /srv/hub' >"$room/input"
+    echo 'fault: profile p line 100001: NoEquals' >"$room/wanted"
+    ask 'a fault at the end of a long input' 2 hubsync
+}
+
+# Lines and profiles too many.
+ask_many() {
+    local i lines
+    mapfile -t lines < <(yes 'path = a' | head -n 65)
+    printf '%s\n' '%profile p' 'root = /srv/hub' 'root = /srv/s1' "${lines[@]}" >"$room/input"
+    printf '%s\n' 'fault: profile p line 67: TooMany' 'hubsync: bundle line 68: path = a' \
+        'hubsync: a profile may have 64 lines path = ..' >"$room/wanted"
+    ask '65 paths' 2 hubsync
+    for ((i = 0; i < 129; i++)); do
+        printf '%%profile p%d\nroot = /hub%d\nroot = /spoke%d\n' "$i" "$i" "$i"
+    done >"$room/input"
+    printf '%s\n' 'refused: TooManyProfiles' 'hubsync: a bundle may have 128 profiles, and this one has 129' >"$room/wanted"
+    ask '129 profiles' 1 hubsync
+}
+
+# An input that fails is said with the system's words.
+ask_failing_input() {
+    local status=0
+    printf '%s\n' 'fault: bundle line 0: ReadFailed' \
+        "hubsync: standard input can't be read: Is a directory (os error 21)" >"$room/wanted"
+    "$program" <"$room" >"$room/output" 2>"$room/errors" || status=$?
+    judge 'an input that is a directory' 2 "$status"
+}
+
+if [ ! -x "$program" ]; then
+    echo "remarks: there is no program at $program"
+    exit 1
+fi
+room=$(mktemp -d)
+trap 'rm -rf "$room"' EXIT
+ask_table "$folder/remarks.txt"
+[ "$asked" -gt 0 ] || complain 'the table has no cases'
+ask_many
+ask_long
+ask_failing_input
+echo "remarks: ${1:-hubsync} was asked $asked, and said $wrong of them wrongly"
+[ "$wrong" = 0 ]

@@ -228,7 +228,9 @@ def asked(options, words, data):
         done = subprocess.run([options.program, *words], input=data, capture_output=True, timeout=options.seconds, preexec_fn=bound)
     except subprocess.TimeoutExpired:
         return None, b'', b''
-    return done.returncode, done.stdout, done.stderr
+    # without the remarks on the answer
+    errors = b''.join(line for line in done.stderr.splitlines(True) if not line.startswith(b'hubsync: '))
+    return done.returncode, done.stdout, errors
 
 
 def is_whole_state(text):

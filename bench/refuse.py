@@ -56,7 +56,9 @@ class Runner:
         os.close(theirs)
         said = os.read(ours, 1)
         os.close(ours)
-        return said != b'', done.returncode, done.stdout, done.stderr
+        # without the remarks on the answer
+        errors = b''.join(line for line in done.stderr.splitlines(True) if not line.startswith(b'hubsync: '))
+        return said != b'', done.returncode, done.stdout, errors
 
     def each(self, command, data, judge, thread=0, threads=0, bound=None):
         """Counts what `judge` says of each run, up to the first that makes no such request, or to a number of requests."""

@@ -90,6 +90,19 @@ impl ProfileSet {
         self.rules.as_slice()
     }
 
+    /// Takes the set apart into its profiles and its rules. Nothing is copied.
+    pub fn into_members(self) -> (Items<Profile>, Rules)
+        ensures profiles { result.0 ≡ self.profiles }
+        ensures rules { result.1 ≡ self.rules }
+    {
+        let ProfileSet {
+            profiles,
+            rules,
+            ..
+        } = self;
+        (profiles, rules)
+    }
+
     /// Borrows the alphabet of all characters that the profiles and the rules mention.
     ///
     /// Its contract says what holds of every set: at most `PROFILES` valid profiles with different names, at most `RULES` rules,

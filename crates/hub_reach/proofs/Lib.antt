@@ -1,6 +1,7 @@
 pub mod Steps
 pub mod Numbered
 pub mod Rows
+pub mod Opened
 pub mod Prefixes
 pub mod Walks
 pub mod Shapes

@@ -1,5 +1,4 @@
 pub mod SpecTable
-pub mod Row
 pub mod Numbering
 pub mod Table
 pub mod Reach

@@ -5,14 +5,15 @@
 //! - [`Walker`] decides reach, and what may be changed at a path, text by text: its state is a [`Stage`], and it reads the
 //!   [`Class`](hub_automaton::Class)es of an alphabet's characters. [`mention`] adds a profile's characters to such an
 //!   alphabet.
-//! - [`Table`] numbers the stages of a walker as they are found, and remembers the steps between them. [`SpecTable`]
-//!   numbers the states of some specifications.
+//! - [`Table`] numbers the stages of a walker as they are found, and remembers the steps between them. [`SpecTable`] does
+//!   the same for the states of some specifications.
 //! - [`laws`]: what the crates above may conclude of stages and of reach.
 //!
 //! Only functions that return a `Result` allocate. The contracts use the words of `specs/Reach`, `specs/Bars`,
 //! `specs/Stage`, `specs/Shape`, `specs/Table` and `specs/Numbering`.
 #![tactic(auto)]
 
+mod known;
 pub mod laws;
 mod mentions;
 mod placed_bar;

@@ -74,7 +74,7 @@ fn answer_on_profile(alloc: Global, word: &str, fields: &str) -> Result<String> 
         "like" => walkers::like(alloc, fields),
         "walker" => walkers::walker(alloc, fields),
         "stages" => stages::stages(alloc, fields),
-        "remembered" => stages::remembered(alloc, fields),
+        "open" => stages::open_classes(alloc, fields),
         _ => bail!("no question has this word"),
     }
 }

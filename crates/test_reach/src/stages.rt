@@ -3,7 +3,7 @@ ghost use Rattle.hub_reach.specs.Mention.{Mentions};
 
 use crate::given::{alphabet_of, alphabet_with, profile_of};
 use anyhow::Result;
-use hub_automaton::{Alphabet, Class};
+use hub_automaton::{Alphabet, Class, ClassSet};
 use hub_profile::Profile;
 use hub_reach::{Table, Walker};
 use std::alloc::{AllocError, Global};
@@ -99,50 +99,34 @@ fn broken_word(table: &Table, number: usize) -> &'static str {
     ""
 }
 
-/// For each of these characters whether it is known to lead from the start to where class 0 does, before and after a step by
-/// class 0.
-pub(crate) fn remembered(alloc: Global, fields: &str) -> Result<String> {
+/// For each of these characters whether its class may lead from the start elsewhere than class 0 does, as `0` and `1`.
+pub(crate) fn open_classes(alloc: Global, fields: &str) -> Result<String> {
     let (lines, path, characters) = three(fields)?;
     let profile = profile_of(alloc, lines)?;
-    remembered_of(alloc, &profile, path, characters)
+    let alphabet = alphabet_with(alloc, path, &profile)?;
+    let mut table = table_of(alloc, &profile, &alphabet)?;
+    Ok(open_text(alloc, &alphabet, &mut table, characters)?)
 }
 
-fn remembered_of(alloc: Global, profile: &Profile, path: &str, characters: &str) -> Result<String> {
-    let alphabet = alphabet_with(alloc, path, profile)?;
-    let mut table = table_of(alloc, profile, &alphabet)?;
-    Ok(remembered_text(alloc, &alphabet, &mut table, characters)?)
-}
-
-fn remembered_text(
+fn open_text(
     alloc: Global,
     alphabet: &Alphabet,
     table: &mut Table,
     characters: &str,
 ) -> Result<String, AllocError> {
     let start = table.start()?;
-    let before = known_text(alloc, alphabet, table, characters)?;
-    next_number(table, start, Class::new(0))?;
-    let after = known_text(alloc, alphabet, table, characters)?;
-    format!(in alloc; "{before} {after}")
-}
-
-/// For each of these characters whether it is known to lead from the start to where class 0 does, as `0` and `1`.
-fn known_text(
-    alloc: Global,
-    alphabet: &Alphabet,
-    table: &Table,
-    characters: &str,
-) -> Result<String, AllocError> {
-    let mut known = String::new(alloc);
+    let mut opened = ClassSet::new(alloc, table.walker().class_count())?;
+    table.open_classes(start, &mut opened);
+    let mut digits = String::new(alloc);
     for character in characters.chars() {
-        known.push(digit(is_known(alphabet, table, character)))?;
+        digits.push(digit(is_open(alphabet, &opened, character)))?;
     }
-    Ok(known)
+    Ok(digits)
 }
 
-fn is_known(alphabet: &Alphabet, table: &Table, character: char) -> bool {
+fn is_open(alphabet: &Alphabet, opened: &ClassSet, character: char) -> bool {
     match alphabet.class_of(character) {
-        Some(class) => table.leads_alike(0, class, Class::new(0)),
+        Some(class) => opened.has(class),
         None => false,
     }
 }

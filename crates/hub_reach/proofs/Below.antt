@@ -9,7 +9,7 @@ use Rattle.hub_glob.specs.Glob.{glob, by_kind, matches}
 use Rattle.hub_glob.specs.Specification.{Specification}
 use Rattle.hub_automaton.specs.Spots.{is_below_kind}
 use Rattle.hub_glob.specs.OneStep.{nonzero}
-use Rattle.hub_reach.proofs.Walks.{both}
+use Rattle.hub_reach.specs.WalkLaws.{both}
 
 or-weaker : (a b c : Bool) → (b ≡ true → c ≡ true) → (a || b) ≡ true → (a || c) ≡ true
 or-weaker true b c f h = refl

@@ -23,7 +23,7 @@ use Rattle.hub_reach.specs.Walk.{is_inside, is_kept}
 use Rattle.hub_reach.specs.Walker.{WalkerParts}
 use Rattle.hub_reach.specs.declared.placed_bar.PlacedBar.{PlacedBar}
 use Rattle.hub_reach.specs.Stage.{IsWalkerOf, texts_of, profile_alternatives, text_spots, spots_of}
-use Rattle.hub_reach.proofs.Walks.{both, kept-over-path}
+use Rattle.hub_reach.specs.WalkLaws.{both, kept-over-path}
 
 -- The parts of a list.
 module _ {X : Type 0} where

@@ -8,7 +8,7 @@ use Rattle.hub_automaton.specs.Alphabet.{mentions, path_characters, spec_charact
 use Rattle.hub_automaton.specs.Adding.{with-append, mention_refused, flat_drop}
 use Rattle.hub_profile.specs.Parts.{Parts}
 use Rattle.hub_reach.specs.Mention.{Mentions, mentioned_by, partial_characters, IsPartly}
-use Rattle.hub_reach.proofs.Walks.{both}
+use Rattle.hub_reach.specs.WalkLaws.{both}
 
 parts-mentioned : (ms cs ds : List ℕ) → mentions ms (cs ++ ds) ≡ true → (mentions ms cs ≡ true) × (mentions ms ds ≡ true)
 parts-mentioned ms cs ds h = both (mentions ms cs) (mentions ms ds) (sym (list_all-append (λ c. is_left_out c || is_mentioned ms c) cs ds) ∙ h)

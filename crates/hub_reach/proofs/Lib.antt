@@ -2,8 +2,6 @@ pub mod Steps
 pub mod Numbered
 pub mod Rows
 pub mod Opened
-pub mod Prefixes
-pub mod Walks
 pub mod Shapes
 pub mod Choices
 pub mod BarEnds
@@ -14,6 +12,5 @@ pub mod Advances
 pub mod Grows
 pub mod Alike
 pub mod Below
-pub mod Between
 pub mod Exact
 pub mod Classed

@@ -12,3 +12,6 @@ pub mod Walker
 pub mod WalkerEnds
 pub mod Examples
 pub mod Mention
+pub mod WalkLaws
+pub mod PrefixLaws
+pub mod Between

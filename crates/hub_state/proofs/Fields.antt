@@ -1,15 +1,14 @@
 -- Paths, roots and bytes as fields of a line: they read as what was written.
-use Rattle.std.proofs.Common.{◌≡◌, ℕ, zero, suc, ◌*◌, ◌<◌, Bool, true, false, not, ◌&&◌, ◌||◌, ◌==◌, cond, List, [], ◌∷◌, length, refl, sym, ap, ◌∙◌, arith, subst}
+use Rattle.std.proofs.Common.{◌≡◌, ℕ, zero, suc, ◌*◌, ◌<◌, Bool, true, false, not, ◌||◌, ◌==◌, cond, List, [], ◌∷◌, length, refl, sym, ap, ◌∙◌, arith, subst}
 use Rattle.std.specs.Prelude.{codes, None, Ok, nat_lt, bytes_eq, slice_index}
 use Rattle.std.specs.List.{list_all}
-use Rattle.std.specs.Str.{all_scalars, IsUtf8, IsAscii}
+use Rattle.std.specs.Str.{IsUtf8, IsAscii}
 use Rattle.std.proofs.lemmas.Str.{chars-encodes, IsUtf8-from_ascii}
-use Rattle.std.proofs.lemmas.List.Folds.{list_all-append}
 use Rattle.std.proofs.lemmas.Bool.Decides.{nat_tests}
 use Rattle.hex.specs.Hex.{IsBytes, encode_with, encode_lower, lower_digits, decode_of}
 use Rattle.hex.proofs.HexLemmas.{decode_of-encode_lower, IsAscii-encode_with, length-encode_with}
-use lib.Utf8.{scalar, encode}
-use Rattle.hub_path.specs.Path.{Name, Path, is_name, is_place, is_path, is_forbidden, text_of}
+use lib.Utf8.{encode}
+use Rattle.hub_path.specs.Path.{Name, Path, is_place, is_path, is_forbidden, text_of}
 use Rattle.hub_path.specs.Reading.{names_fault, path_reading, root_reading}
 use Rattle.hub_path.specs.NameFacts.{name_parts}
 use Rattle.hub_path.specs.ReadBack.{path-place, path_reading-names, root_reading-names}
@@ -20,22 +19,7 @@ use Rattle.hub_state.specs.Writing.{path_bytes, hex_field}
 use Rattle.hub_state.specs.Reading.{path_field, root_field, bytes_field, digest_field, or_else, unless}
 use Rattle.hub_state.specs.declared.fault.Fault.TheVariants.{BadPath, BadHex}
 use Rattle.hub_state.proofs.Lines.{in_line, in_field, encodes-in_line, digits-in_line, digits-in_field}
-
--- A test on all characters of a text by those of its names.
-pub joined-pass : (f : ℕ → Bool) → f 47 ≡ true → ((n : Name) → is_name n ≡ true → list_all f n ≡ true) → (p : Path) → is_place p ≡ true → list_all f (text_of p) ≡ true
-joined-pass f slash names [] h = refl
-joined-pass f slash names (n ∷ []) h = names n (and_parts (is_name n) true h).0
-joined-pass f slash names (n ∷ m ∷ p) h =
-    let parts = and_parts (is_name n) (is_place (m ∷ p)) h in
-    list_all-append f n (47 ∷ text_of (m ∷ p))
-    ∙ and_from (list_all f n) (list_all f (47 ∷ text_of (m ∷ p))) (names n parts.0) (and_from (f 47) (list_all f (text_of (m ∷ p))) slash (joined-pass f slash names (m ∷ p) parts.1))
-
-scalars-all : (cs : List ℕ) → all_scalars cs ≡ list_all scalar cs
-scalars-all [] = refl
-scalars-all (c ∷ cs) = ap (λ b. scalar c && b) (scalars-all cs)
-
-pub scalars-text : (p : Path) → is_place p ≡ true → all_scalars (text_of p) ≡ true
-scalars-text p h = scalars-all (text_of p) ∙ joined-pass scalar refl (λ n k. sym (scalars-all n) ∙ (name_parts n k).scalars) p h
+use Rattle.hub_state.specs.RootTexts.{joined-pass, scalars-text}
 
 second_of_four : (a b c d : Bool) → not (a || b || c || d) ≡ true → not b ≡ true
 second_of_four true b c d h = cc

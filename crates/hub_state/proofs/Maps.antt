@@ -19,11 +19,11 @@ use Rattle.std.proofs.lemmas.Slice.Eq.{bytes_eq-Decides}
 use Rattle.hub_path.specs.Path.{name_cmp, path_cmp}
 use Rattle.hub_path.specs.Laws.{name_cmp-total, name_cmp-exact, path_cmp-total, path_cmp-exact}
 use Rattle.hub_tree.specs.Laws.Ascending.{is_sorted-from, entries-ascending, copy_more}
-use Rattle.hub_tree.specs.Laws.Order.{is_eq-then}
 use Rattle.hub_state.specs.State.{Text}
 use Rattle.hub_state.specs.View.{keyed, by_text, by_two, below, pairs, map_in, pairs_in}
 use Rattle.hub_text.specs.TestLaws.{T-first, T-second, T-less}
 use Rattle.hub_state.proofs.Kept.{first_of, first_of-None, find-tied_below}
+use Rattle.hub_state.specs.RootTexts.{is_eq-pair}
 
 -- What is found at a text.
 find-by_text : {Z X : Type 0} (q : Text) (es : List (String Z × X)) → find name_cmp q (by_text es) ≡ lookup (is_at (λ k. slice_cmp nat_cmp q (string_bytes k))) es
@@ -73,16 +73,6 @@ texts_ascend f es h = subst (λ (ks : List Text). IsStrictlySortedBy name_cmp ks
 
 pub sorted_texts : {Z X Y : Type 0} (f : X → Y) (es : List (String Z × X)) → IsStrictlySortedBy string_cmp (keys_of es) → T (is_sorted name_cmp (keyed f es))
 sorted_texts f es h = is_sorted-from name_cmp (keyed f es) (texts_ascend f es h)
-
--- What is found at two texts.
-is_eq-last : (r : Ordering) → is_eq (ordering_then r Equal) ≡ is_eq r
-is_eq-last Less = refl
-is_eq-last Equal = refl
-is_eq-last Greater = refl
-
-pub is_eq-pair : (t u a b : Text) → eq_by_cmp path_cmp (t ∷ u ∷ []) (a ∷ b ∷ []) ≡ (eq_by_cmp name_cmp t a && eq_by_cmp name_cmp u b)
-is_eq-pair t u a b =
-    is_eq-then (name_cmp t a) (ordering_then (name_cmp u b) Equal) ∙ ap (λ x. is_eq (name_cmp t a) && x) (is_eq-last (name_cmp u b))
 
 nothing_there : {X : Type 0} (b : Bool) (o : Option X) → o ≡ None → cond b o None ≡ o
 nothing_there true o e = refl

@@ -1,22 +1,18 @@
 -- What holds of a state after a change.
-use Rattle.std.proofs.Common.{◌≡◌, ◌≢◌, ℕ, Bool, true, false, cond, ◌<◌, List, [], ◌∷◌, length, refl, sym, ap, ◌∙◌, subst, arith}
+use Rattle.std.proofs.Common.{◌≡◌, ◌≢◌, Bool, true, false, cond, List, [], ◌∷◌, refl, sym, ap, ◌∙◌, subst}
 use Rattle.std.specs.Prelude.{Option, Some, None, Result, Ok, Err, OnOk, OnErr, unwrap_or}
 use Rattle.std.specs.FinMap as fin
 use Rattle.std.specs.Ordering.{eq_by_cmp, ordering_reverse}
-use Rattle.std.specs.Str.{chars}
 use Rattle.std.specs.declared.cmp.Ordering.{Ordering}
 use Rattle.std.specs.declared.cmp.Ordering.TheVariants.{Less, Equal, Greater}
-use Rattle.std.proofs.lemmas.Str.{chars-encodes}
 use Rattle.std.proofs.lemmas.Bool.{false≢true}
 use lib.Utf8.{encode}
-use Rattle.hub_path.specs.Path.{Path, name_cmp, path_cmp, path_eq, path_of, text_of, is_place, root_bytes}
-use Rattle.hub_path.specs.Laws.{name_cmp-total, name_cmp-exact, path_cmp-total, path_of-text_of}
+use Rattle.hub_path.specs.Path.{Path, name_cmp, path_cmp, is_place, root_bytes}
+use Rattle.hub_path.specs.Laws.{name_cmp-total, name_cmp-exact, path_cmp-total}
 use Rattle.hub_tree.specs.Tree.{Replica, Archive, IsTree, IsArchive, HasPaths, HasBytes, HasDigests}
-use Rattle.hub_tree.specs.Laws.MarkMaps.{is_path-names}
-use Rattle.hub_tree.specs.Laws.Children.{path_eq-cmp}
-use Rattle.hub_tree.specs.Laws.Order.{same_path, same_name, path_itself}
-use Rattle.hub_state.specs.State.{State, Text, IsState, nothing, root_chars, root_text, is_before, pair_of, with_replica, with_archive}
-use Rattle.hub_state.proofs.Fields.{scalars-text}
+use Rattle.hub_tree.specs.Laws.Order.{same_path, same_name}
+use Rattle.hub_state.specs.State.{State, Text, IsState, nothing, root_text, is_before, pair_of, with_replica, with_archive}
+use Rattle.hub_state.specs.RootTexts.{same_roots}
 
 -- The text of a root by its two definitions.
 pub root_text-bytes : (r : Path) → root_bytes r ≡ root_text r
@@ -44,36 +40,6 @@ IsState-replica S r m is place tree = record {
   pairs = is.pairs;
   marks = is.marks;
 }
-
--- Different roots have different texts.
-path_from : (p : Path) → 0 < length p → is_place p ≡ true → path_of (text_of p) ≡ p
-path_from p l h = path_of-text_of p (is_path-names p l h)
-
-no_empty_name : (p : Path) → [] ∷ [] ≡ p → is_place p ≡ true → ⊥
-no_empty_name p e h = let w : false ≡ true = ap is_place e ∙ h in cc
-
-same_places : (p q : Path) → is_place p ≡ true → is_place q ≡ true → text_of p ≡ text_of q → p ≡ q
-same_places [] [] h k e = refl
-same_places [] (m ∷ q) h k e = absurd (no_empty_name (m ∷ q) (ap path_of e ∙ path_from (m ∷ q) (omega arith) k) k)
-same_places (n ∷ p) [] h k e = absurd (no_empty_name (n ∷ p) (ap path_of (sym e) ∙ path_from (n ∷ p) (omega arith) h) h)
-same_places (n ∷ p) (m ∷ q) h k e = sym (path_from (n ∷ p) (omega arith) h) ∙ ap path_of e ∙ path_from (m ∷ q) (omega arith) k
-
-tail : List ℕ → List ℕ
-tail [] = []
-tail (c ∷ cs) = cs
-
-tail-cons : (c : ℕ) (cs : List ℕ) → tail (c ∷ cs) ≡ cs
-unfolding tail
-tail-cons c cs = refl
-
-pub same_roots : (r s : Path) → is_place r ≡ true → is_place s ≡ true → root_text r ≡ root_text s → r ≡ s
-same_roots r s h k e =
-    let cs : root_chars r ≡ root_chars s = sym (chars-encodes (root_chars r) (scalars-text r h)) ∙ ap chars e ∙ chars-encodes (root_chars s) (scalars-text s k) in
-    same_places r s h k (sym (tail-cons 47 (text_of r)) ∙ ap tail cs ∙ tail-cons 47 (text_of s))
-
--- Roots for which the test says no are different.
-pub other_roots : (r s : Path) → path_eq r s ≡ false → r ≢ s
-other_roots r s e same = false≢true (sym e ∙ path_eq-cmp r s ∙ ap (λ p. eq_by_cmp path_cmp p s) same ∙ path_itself s)
 
 -- Of two different roots one comes before the other.
 other_before : (r s : Path) → is_place r ≡ true → is_place s ≡ true → r ≢ s → is_before (name_cmp (root_text r) (root_text s)) ≡ false → is_before (name_cmp (root_text s) (root_text r)) ≡ true

@@ -9,3 +9,4 @@ pub mod State
 pub mod Taking
 pub mod View
 pub mod Writing
+pub mod RootTexts

@@ -5,11 +5,12 @@ use Rattle.std.specs.List.{prefix_len, take_while}
 use Rattle.std.specs.List.Sorted.{IsStrictlySortedBy}
 use Rattle.std.specs.Ordering.{eq_by_cmp, ordering_then, ordering_reverse}
 use Rattle.std.specs.declared.cmp.Ordering.TheVariants.{Less, Equal, Greater}
-use Rattle.std.proofs.lemmas.Bool.{false≢true, and_parts}
+use Rattle.std.proofs.lemmas.Bool.{false≢true, and_parts, and_from, or_left, or_right, not-true, false_from_ne_true}
 use Rattle.std.proofs.lemmas.List.Elements.{filter-append}
 use Rattle.std.proofs.lemmas.List.Folds.{length-prefix_len}
 use Rattle.std.proofs.lemmas.List.Sums.{take_while-cons}
 use Rattle.std.proofs.lemmas.Map.Keys.{sorted_tail}
+use Rattle.std.proofs.Math.Bool.{and-false, and-true}
 use Rattle.hub_path.specs.Laws.{name_eq-decides, name_cmp-total, name_cmp-exact, path_cmp-over, is_over-reflexive}
 use Rattle.hub_path.specs.Path.{Name, Path, name_eq, name_cmp, path_cmp, path_eq, is_over, prefixes}
 use Rattle.hub_path.specs.declared.side.Side.TheVariants.{Left, Right}
@@ -22,9 +23,9 @@ use Rattle.hub_reconcile.specs.Items.{differs, item_over, is_item, below, at_and
 use Rattle.hub_reconcile.specs.Rows.{IsRow, AreRows, IsTable, is_different, paths_of}
 use Rattle.hub_reconcile.specs.View.{View, mark_eq}
 use Rattle.hub_reconcile.specs.declared.row.Row.{Row}
-use Rattle.hub_reconcile.proofs.Over.{find_first, least}
-use Rattle.hub_reconcile.proofs.Synced.{same_item}
-use Rattle.hub_reconcile.proofs.Views.{both_hold, is_false, unnot, or_first, or_second, same_paths, paths_same}
+use Rattle.hub_reconcile.specs.Laws.Over.{find_first, least}
+use Rattle.hub_reconcile.specs.Laws.Synced.{same_item}
+use Rattle.hub_reconcile.specs.Laws.Views.{same_paths, paths_same}
 
 -- A path that is over another one is not behind it.
 pub over_not_behind : (p y : Path) → path_cmp p y ≡ Less → is_over y p ≡ true → ⊥
@@ -43,7 +44,7 @@ convex_by n k p x z Less more e h g =
     cc
 convex_by n k p x z Equal more e h g =
     let back : name_cmp k n ≡ Equal = name_cmp-total.antisymm k n ∙ ap ordering_reverse e in
-    both_hold (name_eq n k) (is_over p x) ((name_eq-decides n k).1 (name_cmp-exact n k e))
+    and_from (name_eq n k) (is_over p x) ((name_eq-decides n k).1 (name_cmp-exact n k e))
     (more h (sym (ap (λ r. ordering_then r (path_cmp x z)) back) ∙ g))
 convex_by n k p x z Greater more e h g = cc
 
@@ -73,24 +74,24 @@ find_none f (n ∷ m ∷ p) l e =
     (mapped_none n (find (λ q. f (n ∷ q)) (prefixes (m ∷ p))) (some_not (f (n ∷ [])) (n ∷ []) (option_map (λ q. n ∷ q) (find (λ q. f (n ∷ q)) (prefixes (m ∷ p)))) (sym (find_first f n (m ∷ p)) ∙ e)).1)
 
 -- Lists.
-filter_none : (g : Path → Bool) (zs : List Path) → ((z : Path) → among z zs ≡ true → g z ≡ false) → filter g zs ≡ []
+pub filter_none : (g : Path → Bool) (zs : List Path) → ((z : Path) → among z zs ≡ true → g z ≡ false) → filter g zs ≡ []
 filter_none g [] h = refl
 filter_none g (z ∷ zs) h =
-    ap (λ b. cond b (z ∷ filter g zs) (filter g zs)) (h z (or_first _ (among z zs) (path_itself z)))
-    ∙ filter_none g zs (λ y e. h y (or_second (eq_by_cmp path_cmp y z) _ e))
+    ap (λ b. cond b (z ∷ filter g zs) (filter g zs)) (h z (or_left _ (among z zs) (path_itself z)))
+    ∙ filter_none g zs (λ y e. h y (or_right (eq_by_cmp path_cmp y z) _ e))
 
 skip_sorted : (p x : Path) (xs : List Path) → IsStrictlySortedBy path_cmp (p ∷ x ∷ xs) → IsStrictlySortedBy path_cmp (p ∷ xs)
 unfolding IsStrictlySortedBy
 skip_sorted p x xs s = (s.0.1, s.1.1)
 
-back_sorted : (front rest : List Path) → IsStrictlySortedBy path_cmp (front ++ rest) → IsStrictlySortedBy path_cmp rest
+pub back_sorted : (front rest : List Path) → IsStrictlySortedBy path_cmp (front ++ rest) → IsStrictlySortedBy path_cmp rest
 back_sorted [] rest s = s
 back_sorted (p ∷ front) rest s = back_sorted front rest (sorted_tail path_cmp p (front ++ rest) s)
 
 in_drop : (x : Path) (n : ℕ) (rs : List Row) → among x (paths_of (drop n rs)) ≡ true → among x (paths_of rs) ≡ true
 in_drop x zero rs e = e
 in_drop x (suc n) [] e = e
-in_drop x (suc n) (r ∷ rs) e = or_second (eq_by_cmp path_cmp x r.path.now) _ (in_drop x n rs e)
+in_drop x (suc n) (r ∷ rs) e = or_right (eq_by_cmp path_cmp x r.path.now) _ (in_drop x n rs e)
 
 halves : (n : ℕ) (rs : List Row) → paths_of (take n rs) ++ paths_of (drop n rs) ≡ paths_of rs
 halves zero rs = refl
@@ -115,10 +116,10 @@ one_plus : (n : ℕ) → 1 + n ≡ suc n
 one_plus n = omega arith
 
 first_after : (p x : Path) (xs : List Path) → IsStrictlySortedBy path_cmp (p ∷ x ∷ xs) → path_cmp p x ≡ Less
-first_after p x xs s = behind [] (x ∷ xs) p x s (or_first _ (among x xs) (path_itself x))
+first_after p x xs s = behind [] (x ∷ xs) p x s (or_left _ (among x xs) (path_itself x))
 
 none_later : (p x : Path) (xs : List Path) → path_cmp p x ≡ Less → is_over p x ≡ false → IsStrictlySortedBy path_cmp (x ∷ xs) → (z : Path) → among z xs ≡ true → is_over p z ≡ false
-none_later p x xs l away s z e = is_false (is_over p z) (λ o. false≢true (sym away ∙ convex p x z l (behind [] xs x z s e) o))
+none_later p x xs l away s z e = false_from_ne_true (is_over p z) (λ o. false≢true (sym away ∙ convex p x z l (behind [] xs x z s e) o))
 
 run : (p : Path) (g : Path → Bool) → ((z : Path) → path_cmp p z ≡ Less → g z ≡ is_over p z) → (rs : List Row)
     → IsStrictlySortedBy path_cmp (p ∷ paths_of rs) → filter g (paths_of rs) ≡ paths_of (take_while (is_under p) rs)
@@ -134,7 +135,7 @@ run p g same (r ∷ rs) s =
       | false ↦ λ e.
           ap (λ b. cond b (x ∷ filter g (paths_of rs)) (filter g (paths_of rs))) (same x l ∙ e)
           ∙ (filter_none g (paths_of rs) (λ z m.
-          same z (behind [] (x ∷ paths_of rs) p z s (or_second (eq_by_cmp path_cmp z x) _ m))
+          same z (behind [] (x ∷ paths_of rs) p z s (or_right (eq_by_cmp path_cmp z x) _ m))
           ∙ none_later p x (paths_of rs) l e (sorted_tail path_cmp p (x ∷ paths_of rs) s) z m)
           ∙ sym (ap paths_of (take_while-cons (is_under p) r rs ∙ ap (λ b. cond b (r ∷ take_while (is_under p) rs) []) e)))
     ] refl
@@ -148,23 +149,15 @@ rest_clear p (r ∷ rs) s z e =
           rest_clear p rs (skip_sorted p x (paths_of rs) s) z
           (ap (λ n. among z (paths_of (drop n (r ∷ rs)))) (sym (one_plus (prefix_len (is_under p) rs))) ∙ m)
       | false ↦ λ o m.
-          is_false (is_over p z) (λ u.
+          false_from_ne_true (is_over p z) (λ u.
           nowhere z x [] (paths_of rs) (λ k. false≢true k) (λ k. false≢true (sym o ∙ (ap (is_over p) (sym k) ∙ u)))
           (λ k. false≢true (sym (none_later p x (paths_of rs) (first_after p x (paths_of rs) s) o (sorted_tail path_cmp p (x ∷ paths_of rs) s) z k) ∙ u)) m)
     ] refl e
 
-and_yes : (b : Bool) → (b && true) ≡ b
-and_yes true = refl
-and_yes false = refl
-
-and_no : (b : Bool) → (b && false) ≡ false
-and_no true = refl
-and_no false = refl
-
 below_less : (p z : Path) → path_cmp p z ≡ Less → is_below p z ≡ is_over p z
 below_less p z l =
-    let apart : path_eq p z ≡ false = is_false (path_eq p z) (λ e. let w : path_cmp p p ≡ Less = ap (path_cmp p) (same_paths p z e) ∙ l in not_both p p w w) in
-    ap (λ b. is_over p z && not b) apart ∙ and_yes (is_over p z)
+    let apart : path_eq p z ≡ false = false_from_ne_true (path_eq p z) (λ e. let w : path_cmp p p ≡ Less = ap (path_cmp p) (same_paths p z e) ∙ l in not_both p p w w) in
+    ap (λ b. is_over p z && not b) apart ∙ and-true (is_over p z)
 
 module _ (V : View) (sorted : IsStrictlySortedBy path_cmp V.paths) (holds : (y : Path) → differs V y ≡ true → among y V.paths ≡ true) (names : (q : Path) → V.reached q ≡ true → 0 < length q) where
   pub differs_row : (r : Row) → IsRow V r → differs V r.path.now ≡ is_different r
@@ -192,7 +185,7 @@ module _ (V : View) (sorted : IsStrictlySortedBy path_cmp V.paths) (holds : (y :
     tail = back_sorted front (p ∷ paths_of rs) whole
 
     here : among p (paths_of (r ∷ rs)) ≡ true
-    here = or_first _ (among p (paths_of rs)) (path_itself p)
+    here = or_left _ (among p (paths_of rs)) (path_itself p)
 
     -- No other item is over the first row.
     only_itself : (y : Path) → item_over V p ≡ Some y → y ≡ p
@@ -229,7 +222,7 @@ module _ (V : View) (sorted : IsStrictlySortedBy path_cmp V.paths) (holds : (y :
     first_item d = item_itself p (over_first d)
 
     front_not : (g : Path → Bool) → ((z : Path) → is_over p z ≡ false → g z ≡ false) → filter g front ≡ []
-    front_not g away = filter_none g front (λ z e. away z (is_false (is_over p z) (λ o. over_not_behind z p (before front (paths_of rs) p z whole e) o)))
+    front_not g away = filter_none g front (λ z e. away z (false_from_ne_true (is_over p z) (λ o. over_not_behind z p (before front (paths_of rs) p z whole e) o)))
 
     all_of : (g : Path → Bool) (b : Bool) → g p ≡ b → ((z : Path) → is_over p z ≡ false → g z ≡ false) → ((z : Path) → path_cmp p z ≡ Less → g z ≡ is_over p z)
         → filter g V.paths ≡ cond b (p ∷ paths_of tops) (paths_of tops)
@@ -242,7 +235,7 @@ module _ (V : View) (sorted : IsStrictlySortedBy path_cmp V.paths) (holds : (y :
 
     pub is_below_tops : paths_of tops ≡ below V p
     is_below_tops =
-        sym (all_of (is_below p) false (ap (λ b. is_over p p && not b) (paths_same p) ∙ and_no (is_over p p))
+        sym (all_of (is_below p) false (ap (λ b. is_over p p && not b) (paths_same p) ∙ and-false (is_over p p))
         (λ z e. ap (λ b. b && not (path_eq p z)) e) (below_less p))
 
     pub is_all_tops : paths_of (r ∷ tops) ≡ at_and_below V p
@@ -254,10 +247,10 @@ module _ (V : View) (sorted : IsStrictlySortedBy path_cmp V.paths) (holds : (y :
         let two = and_parts (is_below p y) (among y V.paths) (sym (among_filter y (is_below p) V.paths) ∙ (ap (among y) (sym is_below_tops) ∙ m)) in
         let parts = and_parts (is_over p y) (not (path_eq p y)) two.0 in
         let same : p ≡ y = same_item V p y y (first_item d) is parts.0 (is_over-reflexive y) in
-        false≢true (sym (unnot (path_eq p y) parts.1) ∙ (ap (path_eq p) (sym same) ∙ paths_same p))
+        false≢true (sym (not-true (path_eq p y) parts.1) ∙ (ap (path_eq p) (sym same) ∙ paths_same p))
 
     in_rest : (x : Path) (n : ℕ) → among x (paths_of (drop n rs)) ≡ true → among x (paths_of (r ∷ rs)) ≡ true
-    in_rest x n e = or_second (eq_by_cmp path_cmp x p) _ (in_drop x n rs e)
+    in_rest x n e = or_right (eq_by_cmp path_cmp x p) _ (in_drop x n rs e)
 
     behind_block : (n : ℕ) → length tops ≡ n → paths_of tops ++ paths_of (drop n rs) ≡ paths_of rs
     behind_block n e = ap (λ k. paths_of tops ++ paths_of (drop k rs)) (sym e ∙ length-prefix_len f rs) ∙ halves (prefix_len f rs) rs
@@ -267,7 +260,7 @@ module _ (V : View) (sorted : IsStrictlySortedBy path_cmp V.paths) (holds : (y :
       paths = append_assoc front (p ∷ paths_of tops) (paths_of (drop (length tops) rs)) ∙ (ap (λ ps. front ++ p ∷ ps) (behind_block (length tops) refl) ∙ c.paths);
       rows = drop_rows V (length tops) rs c.rows.1;
       clear = λ y x m is e.
-          is_false (is_over y x) (λ o.
+          false_from_ne_true (is_over y x) (λ o.
           nowhere y p front (paths_of tops)
           (λ k. false≢true (sym (c.clear y x k is (in_rest x (length tops) e)) ∙ o))
           (λ k. false≢true (sym (rest_clear p rs tail x (ap (λ n. among x (paths_of (drop n rs))) (sym (length-prefix_len f rs)) ∙ e)) ∙ (ap (λ z. is_over z x) (sym k) ∙ o)))
@@ -279,9 +272,9 @@ module _ (V : View) (sorted : IsStrictlySortedBy path_cmp V.paths) (holds : (y :
       paths = append_assoc front (p ∷ []) (paths_of rs) ∙ c.paths;
       rows = c.rows.1;
       clear = λ y x m is e.
-          is_false (is_over y x) (λ o.
+          false_from_ne_true (is_over y x) (λ o.
           nowhere y p front []
-          (λ k. false≢true (sym (c.clear y x k is (or_second (eq_by_cmp path_cmp x p) _ e)) ∙ o))
+          (λ k. false≢true (sym (c.clear y x k is (or_right (eq_by_cmp path_cmp x p) _ e)) ∙ o))
           (λ k. false≢true (sym (ap (some_passes (path_eq p)) (no_item d)) ∙ (ap (is_item V) (sym k) ∙ is)))
           (λ k. false≢true k) m);
     }

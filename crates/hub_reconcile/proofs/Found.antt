@@ -1,28 +1,25 @@
 -- A search by halves among Looks in order finds the Look of a path, if there is one.
-use Rattle.std.proofs.Common.{Ordering, ◌≡◌, true, false, cond, ◌||◌, List, [], ◌∷◌, ◌++◌, refl, ap, sym, ◌∙◌, subst}
+use Rattle.std.proofs.Common.{Ordering, ◌≡◌, true, false, cond, ◌||◌, List, [], ◌∷◌, ◌++◌, refl, ap, ◌∙◌, subst}
 use Rattle.std.specs.List.Sorted.{IsStrictlySortedBy}
 use Rattle.std.specs.Ordering.{eq_by_cmp, is_lt, ordering_reverse}
 use Rattle.std.specs.declared.cmp.Ordering.TheVariants.{Less, Equal, Greater}
-use Rattle.std.proofs.lemmas.Map.Keys.{sorted_tail}
+use Rattle.std.proofs.lemmas.Bool.{or_left, or_right}
 use Rattle.hub_path.specs.Laws.{path_cmp-total, path_cmp-exact}
 use Rattle.hub_path.specs.Path.{Path, path_cmp, path_eq}
 use Rattle.hub_tree.specs.Laws.Order.{path_itself, same_path}
-use Rattle.hub_tree.specs.Laws.Between.{among, before, behind, not_both}
+use Rattle.hub_tree.specs.Laws.Between.{among, before, behind}
 use Rattle.hub_reconcile.specs.Merge.{seen_paths}
 use Rattle.hub_reconcile.specs.Picture.{sight_in, told_by}
 use Rattle.hub_reconcile.specs.Sight.{Sight}
 use Rattle.hub_reconcile.specs.declared.look.Look.{Look}
 use Rattle.hub_reconcile.proofs.Merging.{none_seen}
-use Rattle.hub_reconcile.proofs.Views.{is_false, or_first, or_second, same_paths}
-
-apart_from : (q p : Path) → path_cmp q p ≡ Less → path_eq q p ≡ false
-apart_from q p l = is_false (path_eq q p) (λ k. let w : path_cmp p p ≡ Less = ap (λ z. path_cmp z p) (sym (same_paths q p k)) ∙ l in not_both p p w w)
+use Rattle.hub_reconcile.specs.Laws.Views.{apart_from}
 
 past_front : (xs ys : List (Path × Sight)) (p : Path) → ((q : Path) → among q (seen_paths xs) ≡ true → path_cmp q p ≡ Less) → sight_in (xs ++ ys) p ≡ sight_in ys p
 past_front [] ys p h = refl
 past_front (x ∷ xs) ys p h =
-    ap (λ b. cond b x.1 (sight_in (xs ++ ys) p)) (apart_from x.0 p (h x.0 (or_first _ (among x.0 (seen_paths xs)) (path_itself x.0))))
-    ∙ past_front xs ys p (λ q e. h q (or_second (eq_by_cmp path_cmp q x.0) _ e))
+    ap (λ b. cond b x.1 (sight_in (xs ++ ys) p)) (apart_from x.0 p (h x.0 (or_left _ (among x.0 (seen_paths xs)) (path_itself x.0))))
+    ∙ past_front xs ys p (λ q e. h q (or_right (eq_by_cmp path_cmp q x.0) _ e))
 
 only_front : (xs ys : List (Path × Sight)) (p : Path) → ((q : Path) → among q (seen_paths ys) ≡ true → path_cmp p q ≡ Less) → sight_in (xs ++ ys) p ≡ sight_in xs p
 only_front [] ys p h = none_seen p ys h
@@ -35,10 +32,6 @@ seen-append (x ∷ xs) ys = ap (λ ps. x.0 ∷ ps) (seen-append xs ys)
 pub told-append : (xs ys : List Look) → told_by (xs ++ ys) ≡ told_by xs ++ told_by ys
 told-append [] ys = refl
 told-append (x ∷ xs) ys = ap (λ ss. (x.path.now, record { mark = x.mark; names = x.names.now; others = x.others }) ∷ ss) (told-append xs ys)
-
-front_sorted : (front rest : List Path) → IsStrictlySortedBy path_cmp (front ++ rest) → IsStrictlySortedBy path_cmp rest
-front_sorted [] rest s = s
-front_sorted (p ∷ front) rest s = front_sorted front rest (sorted_tail path_cmp p (front ++ rest) s)
 
 module _ (p : Path) (xs : List (Path × Sight)) (t : Path × Sight) (ys : List (Path × Sight)) (s : IsStrictlySortedBy path_cmp (seen_paths (xs ++ t ∷ ys))) where
   all : IsStrictlySortedBy path_cmp (seen_paths xs ++ t.0 ∷ seen_paths ys)

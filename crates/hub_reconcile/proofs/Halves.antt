@@ -4,7 +4,7 @@ use Rattle.std.specs.Prelude.{IsTrue, slice_index_or}
 use Rattle.std.specs.List.Sorted.{IsStrictlySortedBy}
 use Rattle.std.specs.FinMap.Entries.{below_all}
 use Rattle.std.specs.Ordering.{is_lt}
-use Rattle.std.proofs.lemmas.Bool.{and_parts}
+use Rattle.std.proofs.lemmas.Bool.{and_parts, and_from}
 use Rattle.std.proofs.lemmas.List.{take-append-drop}
 use Rattle.std.proofs.Math.Seq.{take-length}
 use Rattle.hub_path.specs.Path.{Path, path_cmp}
@@ -15,7 +15,6 @@ use Rattle.hub_reconcile.specs.declared.look.Look.{Look}
 use Rattle.hub_reconcile.proofs.Found.{told-append, in_front, from_back}
 use Rattle.hub_reconcile.proofs.Merging.{rising}
 use Rattle.hub_reconcile.proofs.Rising.{lt_less, rising_front}
-use Rattle.hub_reconcile.proofs.Views.{both_hold}
 
 abbrev pub told : Look → Path × Sight
 told l = (l.path.now, record { mark = l.mark; names = l.names.now; others = l.others })
@@ -41,13 +40,13 @@ below_front : (p : Path) (xs ys : List (Path × Sight)) → below_all path_cmp p
 below_front p [] ys h = refl
 below_front p (x ∷ xs) ys h =
     let two = and_parts (is_lt (path_cmp p x.0)) (below_all path_cmp p (xs ++ ys)) h in
-    both_hold (is_lt (path_cmp p x.0)) (below_all path_cmp p xs) two.0 (below_front p xs ys two.1)
+    and_from (is_lt (path_cmp p x.0)) (below_all path_cmp p xs) two.0 (below_front p xs ys two.1)
 
 front_rises : (xs ys : List (Path × Sight)) → are_rising (xs ++ ys) ≡ true → are_rising xs ≡ true
 front_rises [] ys h = refl
 front_rises (x ∷ xs) ys h =
     let two = and_parts (below_all path_cmp x.0 (xs ++ ys)) (are_rising (xs ++ ys)) h in
-    both_hold (below_all path_cmp x.0 xs) (are_rising xs) (below_front x.0 xs ys two.0) (front_rises xs ys two.1)
+    and_from (below_all path_cmp x.0 xs) (are_rising xs) (below_front x.0 xs ys two.0) (front_rises xs ys two.1)
 
 back_rises : (xs ys : List (Path × Sight)) → are_rising (xs ++ ys) ≡ true → are_rising ys ≡ true
 back_rises [] ys h = h

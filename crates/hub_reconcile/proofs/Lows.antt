@@ -4,27 +4,23 @@ use Rattle.std.specs.List.{AllByRecursion}
 use Rattle.std.specs.List.Sorted.{IsStrictlySortedBy}
 use Rattle.std.specs.Ordering.{eq_by_cmp, is_lt, ordering_reverse}
 use Rattle.std.specs.declared.cmp.Ordering.TheVariants.{Less, Equal, Greater}
-use Rattle.std.proofs.lemmas.Bool.{false≢true}
+use Rattle.std.proofs.lemmas.Bool.{false≢true, or_left, or_right}
 use Rattle.std.proofs.lemmas.List.Folds.{list_any-append}
 use Rattle.std.proofs.lemmas.Map.Keys.{sorted_tail}
+use Rattle.hub_reconcile.proofs.Rising.{lt_less}
 use Rattle.hub_path.specs.Laws.{path_cmp-total, path_cmp-exact}
 use Rattle.hub_path.specs.Path.{Path, path_cmp, path_eq, ascending}
 use Rattle.hub_tree.specs.Laws.Order.{path_itself, same_path}
 use Rattle.hub_tree.specs.Laws.Between.{among, behind, not_both}
 use Rattle.hub_reconcile.specs.Merge.{first_of, lesser, least_first, past}
-use Rattle.hub_reconcile.proofs.Ascend.{ascending_sorted, among_ascending, same_list}
-use Rattle.hub_reconcile.proofs.Over.{some_inner}
-use Rattle.hub_reconcile.proofs.Views.{or_first, or_second, same_paths, paths_same}
+use Rattle.hub_reconcile.specs.Laws.Ascend.{ascending_sorted, among_ascending, same_list}
+use Rattle.hub_reconcile.specs.Laws.Over.{some_inner}
+use Rattle.hub_reconcile.specs.Laws.Views.{same_paths, paths_same}
 
 -- The path is no later than this one, if there is one.
 abbrev pub IsLow : Path → Option Path → Type 0
 IsLow p None = Unit {0}
 IsLow p (Some x) = (x ≡ p) ⊎ (path_cmp p x ≡ Less)
-
-lt_less : (r : Ordering) → is_lt r ≡ true → r ≡ Less
-lt_less Less e = refl
-lt_less Equal e = cc
-lt_less Greater e = cc
 
 low_by : (x y : Path) (r : Ordering) → path_cmp y x ≡ r → is_lt r ≡ false → IsLow x (Some y)
 low_by x y Less e h = cc
@@ -77,7 +73,7 @@ pub record IsLeastFirst (ls rs os : List Path) (p : Path) : Type 0 where
 
 first_among : (ps : List Path) (p : Path) → first_of ps ≡ Some p → among p ps ≡ true
 first_among [] p e = cc
-first_among (x ∷ xs) p e = or_first _ (among p xs) (ap (eq_by_cmp path_cmp p) (some_inner x p e) ∙ path_itself p)
+first_among (x ∷ xs) p e = or_left _ (among p xs) (ap (eq_by_cmp path_cmp p) (some_inner x p e) ∙ path_itself p)
 
 pub least_firsts : (ls rs os : List Path) (p : Path) → least_first ls rs os ≡ Some p → IsLeastFirst ls rs os p
 least_firsts ls rs os p e =
@@ -89,8 +85,8 @@ least_firsts ls rs os p e =
       old = w.second;
       there = ⊎_elim
           (λ h. let v = is_lesser (first_of ls) (first_of rs) p h in
-          or_first _ _ (⊎_elim (λ k. or_first _ _ (first_among ls p k)) (λ k. or_second (among p ls) _ (first_among rs p k)) v.one))
-          (λ h. or_second (among p ls || among p rs) _ (first_among os p h)) w.one;
+          or_left _ _ (⊎_elim (λ k. or_left _ _ (first_among ls p k)) (λ k. or_right (among p ls) _ (first_among rs p k)) v.one))
+          (λ h. or_right (among p ls || among p rs) _ (first_among os p h)) w.one;
     }
 
 no_first : (ps : List Path) → first_of ps ≡ None → ps ≡ []
@@ -132,7 +128,7 @@ pub past_in : (ps : List Path) (p q : Path) → IsStrictlySortedBy path_cmp ps �
 past_in [] p q s low e = absurd (false≢true e)
 past_in (x ∷ xs) p q s low e =
     elim (path_eq x p) as (λ b. path_eq x p ≡ b → among q (cond b xs (x ∷ xs)) ≡ true → (among q (x ∷ xs) ≡ true) × (path_cmp p q ≡ Less)) [
-      | true ↦ λ h m. (or_second (eq_by_cmp path_cmp q x) _ m, ap (λ z. path_cmp z q) (sym (same_paths x p h)) ∙ behind [] xs x q s m)
+      | true ↦ λ h m. (or_right (eq_by_cmp path_cmp q x) _ m, ap (λ z. path_cmp z q) (sym (same_paths x p h)) ∙ behind [] xs x q s m)
       | false ↦ λ h m.
           let l : path_cmp p x ≡ Less = ⊎_elim (λ k. absurd (false≢true (sym h ∙ (ap (λ z. path_eq z p) k ∙ paths_same p)))) (λ k. k) low in
           (m, ⊎_elim (λ k. ap (path_cmp p) k ∙ l) (λ k. path_cmp-total.trans p x q l k) (head_or_behind x xs q s m))
@@ -170,7 +166,7 @@ by_three false false c X e f g h = h e
 
 all_behind : (p : Path) (ys : List Path) → ((q : Path) → among q ys ≡ true → path_cmp p q ≡ Less) → AllByRecursion (λ y. path_cmp p y ≡ Less) ys
 all_behind p [] h = tt
-all_behind p (y ∷ ys) h = (h y (or_first _ (among y ys) (path_itself y)), all_behind p ys (λ q e. h q (or_second (eq_by_cmp path_cmp q y) _ e)))
+all_behind p (y ∷ ys) h = (h y (or_left _ (among y ys) (path_itself y)), all_behind p ys (λ q e. h q (or_right (eq_by_cmp path_cmp q y) _ e)))
 
 more_sorted : (p : Path) (ys : List Path) → ((q : Path) → among q ys ≡ true → path_cmp p q ≡ Less) → IsStrictlySortedBy path_cmp ys → IsStrictlySortedBy path_cmp (p ∷ ys)
 unfolding IsStrictlySortedBy
@@ -185,16 +181,16 @@ module _ (ls rs os : List Path) (p : Path) (sl : IsStrictlySortedBy path_cmp ls)
   later_three q e =
       by_three (among q (past p ls)) (among q (past p rs)) (among q (past p os)) ((among q (three ls rs os) ≡ true) × (path_cmp p q ≡ Less))
       (sym (among_three q (past p ls) (past p rs) (past p os)) ∙ e)
-      (λ k. let v = past_in ls p q sl w.left k in (among_three q ls rs os ∙ or_first _ _ (or_first _ _ v.0), v.1))
-      (λ k. let v = past_in rs p q sr w.right k in (among_three q ls rs os ∙ or_first _ _ (or_second (among q ls) _ v.0), v.1))
-      (λ k. let v = past_in os p q so w.old k in (among_three q ls rs os ∙ or_second (among q ls || among q rs) _ v.0, v.1))
+      (λ k. let v = past_in ls p q sl w.left k in (among_three q ls rs os ∙ or_left _ _ (or_left _ _ v.0), v.1))
+      (λ k. let v = past_in rs p q sr w.right k in (among_three q ls rs os ∙ or_left _ _ (or_right (among q ls) _ v.0), v.1))
+      (λ k. let v = past_in os p q so w.old k in (among_three q ls rs os ∙ or_right (among q ls || among q rs) _ v.0, v.1))
 
   into : (q : Path) → path_cmp p q ≡ Less → among q (three ls rs os) ≡ true → among q after ≡ true
   into q l e =
       by_three (among q ls) (among q rs) (among q os) (among q after ≡ true) (sym (among_three q ls rs os) ∙ e)
-      (λ k. among_three q (past p ls) (past p rs) (past p os) ∙ or_first _ _ (or_first _ _ (in_past ls p q l k)))
-      (λ k. among_three q (past p ls) (past p rs) (past p os) ∙ or_first _ _ (or_second (among q (past p ls)) _ (in_past rs p q l k)))
-      (λ k. among_three q (past p ls) (past p rs) (past p os) ∙ or_second (among q (past p ls) || among q (past p rs)) _ (in_past os p q l k))
+      (λ k. among_three q (past p ls) (past p rs) (past p os) ∙ or_left _ _ (or_left _ _ (in_past ls p q l k)))
+      (λ k. among_three q (past p ls) (past p rs) (past p os) ∙ or_left _ _ (or_right (among q (past p ls)) _ (in_past rs p q l k)))
+      (λ k. among_three q (past p ls) (past p rs) (past p os) ∙ or_right (among q (past p ls) || among q (past p rs)) _ (in_past os p q l k))
 
   lowest : (q : Path) → among q (three ls rs os) ≡ true → (q ≡ p) ⊎ (path_cmp p q ≡ Less)
   lowest q e =
@@ -211,8 +207,8 @@ module _ (ls rs os : List Path) (p : Path) (sl : IsStrictlySortedBy path_cmp ls)
       (λ q e.
       let m : among q (three ls rs os) ≡ true = sym (among_ascending q (three ls rs os)) ∙ e in
       ⊎_elim
-      (λ is. or_first _ (among q (ascending after)) (ap (eq_by_cmp path_cmp q) (sym is) ∙ path_itself q))
-      (λ l. or_second (eq_by_cmp path_cmp q p) _ (among_ascending q after ∙ into q l m)) (lowest q m))
+      (λ is. or_left _ (among q (ascending after)) (ap (eq_by_cmp path_cmp q) (sym is) ∙ path_itself q))
+      (λ l. or_right (eq_by_cmp path_cmp q p) _ (among_ascending q after ∙ into q l m)) (lowest q m))
       (λ q e.
       among_ascending q (three ls rs os)
       ∙ (elim (eq_by_cmp path_cmp q p) as (λ b. eq_by_cmp path_cmp q p ≡ b → (b || among q (ascending after)) ≡ true → among q (three ls rs os) ≡ true) [

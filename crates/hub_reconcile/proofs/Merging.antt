@@ -1,5 +1,5 @@
 -- The rows of a picture: what the merge has made of the Looks and the archive's paths that it has passed.
-use Rattle.std.proofs.Common.{◌≡◌, ◌<◌, ⊎_elim, Bool, true, false, T, cond, ◌&&◌, ◌||◌, List, [], ◌∷◌, ◌++◌, length, Some, None, refl, ap, sym, ◌∙◌, subst, append_assoc, append-nil, arith}
+use Rattle.std.proofs.Common.{◌≡◌, ◌<◌, ⊎_elim, Bool, true, false, T, cond, ◌&&◌, ◌||◌, List, [], ◌∷◌, ◌++◌, length, Some, None, refl, ap, sym, ◌∙◌, subst, append_assoc, append-nil}
 use Rattle.std.specs.Prelude.{◌==◌, filter, IsTrue}
 use Rattle.std.specs.Option.{unwrap_or}
 use Rattle.std.specs.List.Sorted.{IsStrictlySortedBy}
@@ -7,8 +7,12 @@ use Rattle.std.specs.FinMap as fin
 use Rattle.std.specs.FinMap.Entries.{find, is_sorted}
 use Rattle.std.specs.Ordering.{eq_by_cmp}
 use Rattle.std.specs.declared.cmp.Ordering.TheVariants.{Less}
-use Rattle.std.proofs.lemmas.Bool.{false≢true, and_parts}
+use Rattle.std.proofs.lemmas.Bool.{false≢true, and_parts, or_left, or_right, false_from_ne_true}
 use Rattle.std.proofs.lemmas.List.Elements.{filter-append}
+use Rattle.std.specs.Cmp.{both_ways}
+use Rattle.std.proofs.Math.Bool.{and-false, and-true}
+use Rattle.hub_reconcile.specs.Laws.Counts.{no_names}
+use Rattle.hub_reconcile.proofs.Partitions.{paths-push}
 use Rattle.hub_path.specs.Laws.{path_cmp-total}
 use Rattle.hub_path.specs.Path.{Path, path_cmp, path_eq, ascending}
 use Rattle.hub_path.specs.declared.side.Side.TheVariants.{Left, Right}
@@ -27,9 +31,8 @@ use Rattle.hub_reconcile.specs.Sight.{Sight}
 use Rattle.hub_reconcile.specs.Sync.{of_side}
 use Rattle.hub_reconcile.specs.View.{View, is_present, counts}
 use Rattle.hub_reconcile.specs.declared.row.Row.{Row}
-use Rattle.hub_reconcile.proofs.Ascend.{both_ways}
 use Rattle.hub_reconcile.proofs.Lows.{IsLow, IsLeastFirst, least_firsts, nothing_left, three, past_sorted, later_three, is_there, least_next}
-use Rattle.hub_reconcile.proofs.Views.{is_false, or_first, or_second, same_paths, paths_same, reached_names}
+use Rattle.hub_reconcile.specs.Laws.Views.{same_paths, paths_same, reached_names}
 
 -- The value of a path in a list, and else d.
 abbrev pub value_in : {T : Type 0} → T → List (Path × T) → Path → T
@@ -41,9 +44,9 @@ module _ {T : Type 0} (d : T) where
   none_in : (p : Path) (es : List (Path × T)) → ((q : Path) → among q (paths_in es) ≡ true → path_cmp p q ≡ Less) → value_in d es p ≡ d
   none_in p [] h = refl
   none_in p (e ∷ es) h =
-      let l : path_cmp p e.0 ≡ Less = h e.0 (or_first _ (among e.0 (paths_in es)) (path_itself e.0)) in
-      let apart : path_eq e.0 p ≡ false = is_false (path_eq e.0 p) (λ k. let w : path_cmp p p ≡ Less = ap (path_cmp p) (sym (same_paths e.0 p k)) ∙ l in not_both p p w w) in
-      ap (λ b. cond b e.1 (value_in d es p)) apart ∙ none_in p es (λ q k. h q (or_second (eq_by_cmp path_cmp q e.0) _ k))
+      let l : path_cmp p e.0 ≡ Less = h e.0 (or_left _ (among e.0 (paths_in es)) (path_itself e.0)) in
+      let apart : path_eq e.0 p ≡ false = false_from_ne_true (path_eq e.0 p) (λ k. let w : path_cmp p p ≡ Less = ap (path_cmp p) (sym (same_paths e.0 p k)) ∙ l in not_both p p w w) in
+      ap (λ b. cond b e.1 (value_in d es p)) apart ∙ none_in p es (λ q k. h q (or_right (eq_by_cmp path_cmp q e.0) _ k))
 
   front_in : (es : List (Path × T)) (p : Path) → IsStrictlySortedBy path_cmp (paths_in es) → IsLow p (first_of (paths_in es)) → front_of d p es ≡ value_in d es p
   front_in [] p s low = refl
@@ -60,7 +63,7 @@ module _ {T : Type 0} (d : T) where
   skip_in p q (e ∷ es) l =
       elim (path_eq e.0 p) as (λ b. path_eq e.0 p ≡ b → value_in d (e ∷ es) q ≡ value_in d (cond b es (e ∷ es)) q) [
         | true ↦ λ k.
-            let apart : path_eq e.0 q ≡ false = is_false (path_eq e.0 q) (λ h.
+            let apart : path_eq e.0 q ≡ false = false_from_ne_true (path_eq e.0 q) (λ h.
             let w : path_cmp p p ≡ Less = ap (path_cmp p) (sym (same_paths e.0 p k) ∙ same_paths e.0 q h) ∙ l in not_both p p w w) in
             ap (λ b. cond b e.1 (value_in d es q)) apart
         | false ↦ λ k. refl
@@ -103,21 +106,6 @@ found_value (e ∷ es) q =
 
 old_value : (O : Archive) (q : Path) → old_mark_at O q ≡ value_in mark.Absent (fin.entries O) q
 old_value O q = ap (λ o. unwrap_or o mark.Absent) (fin.get-entries O q) ∙ found_value (fin.entries O) q
-
-no_names : 0 < 0 → ⊥
-no_names l = absurd (omega (arith, l))
-
-and_yes : (b : Bool) → (b && true) ≡ b
-and_yes true = refl
-and_yes false = refl
-
-and_no : (b : Bool) → (b && false) ≡ false
-and_no true = refl
-and_no false = refl
-
-paths-append : (rows : List Row) (row : Row) → paths_of (rows ++ row ∷ []) ≡ paths_of rows ++ row.path.now ∷ []
-paths-append [] row = refl
-paths-append (r ∷ rows) row = ap (λ ps. r.path.now ∷ ps) (paths-append rows row)
 
 rows-append : (V : View) (rows : List Row) (row : Row) → AreRows V rows → IsRow V row → AreRows V (rows ++ row ∷ [])
 rows-append V [] row a is = (is, tt)
@@ -222,10 +210,10 @@ module _ (P : Parts) (O : Archive) (L R : List (Path × Sight)) where
     counted_by true h =
         let v = row_is h in
         (λ i. h i && (is_present (sym v.left i) || is_present (sym v.right i) || is_present (sym v.old i)))
-        ∙ (sym (and_yes (is_anywhere row)) ∙ ap (λ b. is_anywhere row && b) (sym h))
+        ∙ (sym (and-true (is_anywhere row)) ∙ ap (λ b. is_anywhere row && b) (sym h))
     counted_by false h =
         ap (λ b. b && (is_present (V.mark Left p) || is_present (V.mark Right p) || is_present (V.old p))) h
-        ∙ (sym (and_no (is_anywhere row)) ∙ ap (λ b. is_anywhere row && b) (sym h))
+        ∙ (sym (and-false (is_anywhere row)) ∙ ap (λ b. is_anywhere row && b) (sym h))
 
     counted : does_count p ≡ (is_anywhere row && reach P p)
     counted = counted_by (reach P p) refl
@@ -267,7 +255,7 @@ module _ (P : Parts) (O : Archive) (L R : List (Path × Sight)) where
     merge_kept h =
         let two = and_parts (is_anywhere row) (reach P p) h in
         next_of (rows ++ row ∷ [])
-        (paths-append rows row ∙ (ap (λ ps. ps ++ p ∷ []) m.made ∙ sym (made_by true (counted ∙ h))))
+        (paths-push rows row ∙ (ap (λ ps. ps ++ p ∷ []) m.made ∙ sym (made_by true (counted ∙ h))))
         (rows-append V rows row m.are (row_is two.1))
 
     pub merge_skipped : (is_anywhere row && reach P p) ≡ false → IsMerged P O L R rows (past_sight p l) (past_sight p r) (past_of p o)

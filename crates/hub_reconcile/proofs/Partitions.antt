@@ -3,10 +3,11 @@ use Rattle.std.proofs.Common.{◌≡◌, ◌<◌, Bool, true, false, cond, not, 
 use Rattle.std.specs.Prelude.{filter, reverse, fold, option_map}
 use Rattle.std.specs.List.{flat_map}
 use Rattle.std.specs.Ordering.{eq_by_cmp}
-use Rattle.std.proofs.lemmas.Bool.{false≢true, and_parts}
+use Rattle.std.proofs.lemmas.Bool.{false≢true, and_parts, not-true, false_from_ne_true}
 use Rattle.std.proofs.lemmas.List.{reverse-append}
 use Rattle.std.proofs.lemmas.List.Concat.{flat_map-append}
 use Rattle.std.proofs.lemmas.List.Elements.{filter-append}
+use Rattle.hub_reconcile.proofs.Cuts.{filter_none}
 use Rattle.hub_path.specs.Laws.{is_over-reflexive}
 use Rattle.hub_path.specs.Path.{Path, path_cmp, path_eq, is_over}
 use Rattle.hub_path.specs.declared.side.Side.{Side}
@@ -15,7 +16,7 @@ use Rattle.hub_profile.specs.Parts.{some_passes}
 use Rattle.hub_tree.specs.Below.{is_below}
 use Rattle.hub_tree.specs.declared.contents.Mark.{Mark}
 use Rattle.hub_tree.specs.declared.contents.Mark.TheVariants as mark
-use Rattle.hub_tree.specs.Laws.Order.{path_itself, same_path}
+use Rattle.hub_tree.specs.Laws.Order.{same_path}
 use Rattle.hub_tree.specs.Laws.Between.{among, among_filter}
 use Rattle.hub_reconcile.specs.Blocks.{IsFated, AreBlocks, IsPartition, block_paths, item_by, block_items, row_comes, going_rows, coming_rows, changes_fated, block_changes, mark_fated, HaveNames, HaveAllNames}
 use Rattle.hub_reconcile.specs.Items.{other, differs, item_over, is_item, fate, below, change, going, coming, changes, changes_by, items, plan}
@@ -28,9 +29,9 @@ use Rattle.hub_reconcile.specs.declared.item.Fate.{Fate}
 use Rattle.hub_reconcile.specs.declared.item.Fate.TheVariants.{To, Skip}
 use Rattle.hub_reconcile.specs.declared.item.Item.{Item}
 use Rattle.hub_reconcile.specs.declared.row.Row.{Row}
-use Rattle.hub_reconcile.proofs.Over.{longer}
-use Rattle.hub_reconcile.proofs.Synced.{over_itself, same_item}
-use Rattle.hub_reconcile.proofs.Views.{is_false, unnot, or_first, or_second, paths_same}
+use Rattle.hub_reconcile.specs.Laws.Over.{longer}
+use Rattle.hub_reconcile.specs.Laws.Synced.{over_itself, same_item}
+use Rattle.hub_reconcile.specs.Laws.Views.{paths_same}
 
 pub map-append : {X Y : Type 0} (h : X → Y) (xs ys : List X) → map h (xs ++ ys) ≡ map h xs ++ map h ys
 map-append h [] ys = refl
@@ -48,12 +49,6 @@ pub fold-append : {X Y : Type 0} (g : Y → X → Y) (y : Y) (xs zs : List X) �
 fold-append g y [] zs = refl
 fold-append g y (x ∷ xs) zs = fold-append g (g y x) xs zs
 
-filter_none : (g : Path → Bool) (zs : List Path) → ((z : Path) → among z zs ≡ true → g z ≡ false) → filter g zs ≡ []
-filter_none g [] h = refl
-filter_none g (z ∷ zs) h =
-    ap (λ b. cond b (z ∷ filter g zs) (filter g zs)) (h z (or_first _ (among z zs) (path_itself z)))
-    ∙ filter_none g zs (λ y e. h y (or_second (eq_by_cmp path_cmp y z) _ e))
-
 -- Rows and their paths.
 paths-filter : (V : View) (f : Row → Bool) (g : Path → Bool) → ((r : Row) → IsRow V r → f r ≡ g r.path.now) → (rs : List Row) → AreRows V rs → paths_of (filter f rs) ≡ filter g (paths_of rs)
 paths-filter V f g same [] a = refl
@@ -69,7 +64,7 @@ rows-filter V f [] a = tt
 rows-filter V f (r ∷ rs) a =
     elim (f r) as (λ b. AreRows V (cond b (r ∷ filter f rs) (filter f rs))) [ true ↦ (a.0, rows-filter V f rs a.1) | false ↦ rows-filter V f rs a.1 ]
 
-paths-push : (xs : List Row) (r : Row) → paths_of (xs ++ r ∷ []) ≡ paths_of xs ++ r.path.now ∷ []
+pub paths-push : (xs : List Row) (r : Row) → paths_of (xs ++ r ∷ []) ≡ paths_of xs ++ r.path.now ∷ []
 paths-push xs r = map-append (λ (x : Row). x.path.now) xs (r ∷ [])
 
 paths-reverse : (xs : List Row) → paths_of (reverse xs) ≡ reverse (paths_of xs)
@@ -93,9 +88,9 @@ module _ (V : View) where
   under_not p is y m =
       let two = and_parts (is_below p y) (among y V.paths) (sym (among_filter y (is_below p) V.paths) ∙ m) in
       let parts = and_parts (is_over p y) (not (path_eq p y)) two.0 in
-      is_false (is_item V y) (λ h.
+      false_from_ne_true (is_item V y) (λ h.
       let same : p ≡ y = same_item V p y y is h parts.0 (is_over-reflexive y) in
-      false≢true (sym (unnot (path_eq p y) parts.1) ∙ (ap (path_eq p) (sym same) ∙ paths_same p)))
+      false≢true (sym (not-true (path_eq p y) parts.1) ∙ (ap (path_eq p) (sym same) ∙ paths_same p)))
 
   fated_items : (p : Path) (ps : List Path) (f : Option Fate) → IsFated V p ps f → item_by p f ≡ map item_at (filter (is_item V) (p ∷ ps))
   fated_items p ps None h =

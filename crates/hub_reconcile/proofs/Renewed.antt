@@ -8,10 +8,11 @@ use Rattle.std.specs.List.Sorted.{IsStrictlySortedBy}
 use Rattle.std.specs.Option.{is_some, unwrap_or}
 use Rattle.std.specs.Ordering.{eq_by_cmp}
 use Rattle.std.specs.declared.cmp.Ordering.TheVariants.{Less}
-use Rattle.std.proofs.lemmas.Bool.{false≢true, and_parts}
+use Rattle.std.proofs.lemmas.Bool.{false≢true, and_parts, and_from, or_left, or_right, not-true, false_from_ne_true, or_parts}
 use Rattle.std.proofs.lemmas.List.Concat.{flat_map-append}
 use Rattle.std.proofs.lemmas.List.Folds.{list_any-append}
 use Rattle.std.proofs.lemmas.Map.Keys.{sorted_head, sorted_tail}
+use Rattle.hub_tree.specs.Laws.MarkMaps.{get-with_kept}
 use Rattle.hub_path.specs.Laws.{path_cmp-total, path_cmp-exact}
 use Rattle.hub_path.specs.Path.{Path, path_cmp, ascending}
 use Rattle.hub_path.specs.declared.side.Side.{Side}
@@ -19,7 +20,7 @@ use Rattle.hub_path.specs.declared.side.Side.TheVariants.{Left, Right}
 use Rattle.hub_profile.specs.Parts.{Parts}
 use Rattle.hub_reach.specs.Reach.{reach}
 use Rattle.hub_tree.specs.Marked.{kept_entries, entries_of, with_entries}
-use Rattle.hub_tree.specs.Tree.{Archive, IsArchive, kept, old_mark_at, with_kept, with_mark}
+use Rattle.hub_tree.specs.Tree.{Archive, IsArchive, kept, old_mark_at, with_mark}
 use Rattle.hub_tree.specs.declared.contents.Mark.{Mark}
 use Rattle.hub_tree.specs.declared.contents.Mark.TheVariants as mark
 use Rattle.hub_tree.specs.Laws.Between.{among, among_filter, not_both}
@@ -35,18 +36,13 @@ use Rattle.hub_reconcile.specs.View.{View, is_present}
 use Rattle.hub_reconcile.specs.declared.block.Block.{Block}
 use Rattle.hub_reconcile.specs.declared.item.Fate.{Fate}
 use Rattle.hub_reconcile.specs.declared.row.Row.{Row}
-use Rattle.hub_reconcile.proofs.Ascend.{among_ascending}
-use Rattle.hub_reconcile.proofs.Each.{Each, each-append, each-filter, each-weaker}
-use Rattle.hub_reconcile.proofs.Looked.{old_among}
+use Rattle.hub_reconcile.specs.Laws.Ascend.{among_ascending}
+use Rattle.hub_reconcile.specs.Laws.Each.{Each, each-append, each-filter, each-weaker}
+use Rattle.hub_reconcile.specs.Laws.Looked.{old_among}
 use Rattle.hub_reconcile.proofs.Partitions.{fate_at, fold-append, map-append, row_mark}
 use Rattle.hub_reconcile.proofs.ShownFacts.{all_paths, does_count, seen_at}
-use Rattle.hub_reconcile.proofs.Views.{both_hold, is_false, or_first, or_second, unnot}
 
 -- Look-ups after marks were set.
-get_kept : (a : Archive) (p : Path) (k : Option Mark) (q : Path) → fin.get (with_kept a p k) q ≡ cond (eq_by_cmp path_cmp q p) k (fin.get a q)
-get_kept a p (Some m) q = fin.get-insert path_cmp-total a p m q
-get_kept a p None q = fin.get-remove path_cmp-total a p q
-
 either : (b c : Bool) (x y z : Option Mark) → (c ≡ true → x ≡ y) → cond b x (cond c y z) ≡ cond (c || b) x z
 either true true x y z e = refl
 either true false x y z e = refl
@@ -57,7 +53,7 @@ kept_after : (f : Path → Mark) (ps : List Path) (a : Archive) (q : Path) → f
 kept_after f [] a q = refl
 kept_after f (p ∷ ps) a q =
     kept_after f ps (with_mark a p (f p)) q
-    ∙ (ap (cond (among q ps) (kept (f q))) (get_kept a p (kept (f p)) q)
+    ∙ (ap (cond (among q ps) (kept (f q))) (get-with_kept a p (kept (f p)) q)
     ∙ either (among q ps) (eq_by_cmp path_cmp q p) (kept (f q)) (kept (f p)) (fin.get a q) (λ e. ap (λ z. kept (f z)) (same_path q p e)))
 
 -- Look-ups after marks were put in.
@@ -86,10 +82,6 @@ shut : (b : Bool) (k : Option Mark) → (b ≡ false → k ≡ None) → cond b 
 shut true k h = refl
 shut false k h = sym (h refl)
 
-neither : (a b : Bool) → (a || b) ≡ false → (a ≡ false) × (b ≡ false)
-neither true b e = absurd (false≢true (sym e))
-neither false b e = (refl, e)
-
 gets : (g : Path → Option Mark) (es : List (Path × Mark)) (a : Archive) (c : Path → Bool) → ((q : Path) → fin.get a q ≡ cond (c q) (g q) None) → Each (λ (e : Path × Mark). kept e.1 ≡ g e.0) es
     → (q : Path) → fin.get (with_entries a (pushed es)) q ≡ cond (c q || among q (paths_in es)) (g q) None
 gets g [] a c h right q = h q ∙ ap (λ b. cond b (g q) None) (or_none (c q))
@@ -114,7 +106,7 @@ found_later : (x : Path × Mark) (xs es : List (Path × Mark)) → Each (λ (e :
     → Each (λ (e : Path × Mark). find path_cmp e.0 (x ∷ xs) ≡ Some e.1) es
 found_later x xs [] less found = tt
 found_later x xs (e ∷ es) less found =
-    let apart : eq_by_cmp path_cmp e.0 x.0 ≡ false = is_false _ (λ k.
+    let apart : eq_by_cmp path_cmp e.0 x.0 ≡ false = false_from_ne_true _ (λ k.
     let w : path_cmp x.0 x.0 ≡ Less = ap (path_cmp x.0) (sym (same_path e.0 x.0 k)) ∙ less.0 in not_both x.0 x.0 w w) in
     (ap (λ b. cond b (Some x.1) (find path_cmp e.0 xs)) apart ∙ found.0, found_later x xs es less.1 found.1)
 
@@ -159,11 +151,11 @@ other_there f q m (x ∷ es) e h =
     elim (eq_by_cmp path_cmp q x.0) as (λ b. eq_by_cmp path_cmp q x.0 ≡ b → cond b (Some x.1) (find path_cmp q es) ≡ Some m → among q (paths_in (filter (is_other f) (x ∷ es))) ≡ true) [
       | true ↦ λ k g.
           let same : is_other f x ≡ true = (λ i. not (f (sym (same_path q x.0 k) i)) && is_present (unwrap_or (g i) mark.Absent)) ∙ h in
-          ap (λ b. among q (paths_in (cond b (x ∷ filter (is_other f) es) (filter (is_other f) es)))) same ∙ or_first _ _ k
+          ap (λ b. among q (paths_in (cond b (x ∷ filter (is_other f) es) (filter (is_other f) es)))) same ∙ or_left _ _ k
       | false ↦ λ k g.
           let rest : among q (paths_in (filter (is_other f) es)) ≡ true = other_there f q m es g h in
           elim (is_other f x) as (λ b. among q (paths_in (cond b (x ∷ filter (is_other f) es) (filter (is_other f) es))) ≡ true) [
-            | true ↦ or_second (eq_by_cmp path_cmp q x.0) _ rest
+            | true ↦ or_right (eq_by_cmp path_cmp q x.0) _ rest
             | false ↦ rest
           ]
     ] refl e
@@ -184,17 +176,17 @@ module _ (P : Parts) (O : Archive) (seen : Side → List (Path × Sight)) (is : 
 
   not_in : (q : Path) → reach P q ≡ false → among q V.paths ≡ false
   not_in q h =
-      is_false (among q V.paths) (λ e.
+      false_from_ne_true (among q V.paths) (λ e.
       let counted = (and_parts (does_count P O seen q) (among q (ascending (all_paths P O seen))) (sym (among_filter q (does_count P O seen) (ascending (all_paths P O seen))) ∙ e)).0 in
       false≢true (sym h ∙ (and_parts (reach P q) _ counted).0))
 
   in_paths : (q : Path) → reach P q ≡ true → is_present (old_mark_at O q) ≡ true → among q V.paths ≡ true
   in_paths q h there =
       among_filter q (does_count P O seen) (ascending (all_paths P O seen))
-      ∙ both_hold (does_count P O seen q) _ (both_hold (reach P q) _ h (or_second (is_present (V.mark Left q) || is_present (V.mark Right q)) _ there))
+      ∙ and_from (does_count P O seen q) _ (and_from (reach P q) _ h (or_right (is_present (V.mark Left q) || is_present (V.mark Right q)) _ there))
       (among_ascending q (all_paths P O seen)
       ∙ (list_any-append (eq_by_cmp path_cmp q) (seen_at P O seen Left ++ seen_at P O seen Right) (fin.keys O)
-      ∙ or_second (among q (seen_at P O seen Left ++ seen_at P O seen Right)) _ (old_among O q (fin.get O q) refl there)))
+      ∙ or_right (among q (seen_at P O seen Left ++ seen_at P O seen Right)) _ (old_among O q (fin.get O q) refl there)))
 
   -- The old marks that are kept.
   abbrev IsKept : Path × Mark → Type 0
@@ -209,7 +201,7 @@ module _ (P : Parts) (O : Archive) (seen : Side → List (Path × Sight)) (is : 
   kept_right e w =
       let two = and_parts (not (reach P e.0)) (is_present e.1) w.0 in
       kept_present e.1 two.1
-      ∙ sym (next_get e.0 ∙ (ap (λ b. cond b (kept (synced_mark V e.0)) (fin.get O e.0)) (not_in e.0 (unnot (reach P e.0) two.0)) ∙ (fin.get-entries O e.0 ∙ w.1)))
+      ∙ sym (next_get e.0 ∙ (ap (λ b. cond b (kept (synced_mark V e.0)) (fin.get O e.0)) (not_in e.0 (not-true (reach P e.0) two.0)) ∙ (fin.get-entries O e.0 ∙ w.1)))
 
   has_name : (p : Path) (m : Mark) → fin.get O p ≡ Some m → 0 < length p
   has_name [] m e = let w : None ≡ Some m = sym is.no_top ∙ e in cc
@@ -225,9 +217,9 @@ module _ (P : Parts) (O : Archive) (seen : Side → List (Path × Sight)) (is : 
   rows_right f [] are fates into = tt
   rows_right f (r ∷ rs) are fates into =
       let p : Path = r.path.now in
-      let here : among p (p ∷ paths_of rs) ≡ true = or_first _ (among p (paths_of rs)) (path_itself p) in (
+      let here : among p (p ∷ paths_of rs) ≡ true = or_left _ (among p (paths_of rs)) (path_itself p) in (
         ap kept (row_mark V r f are.0 (fates p here)) ∙ sym (next_get p ∙ ap (λ b. cond b (kept (synced_mark V p)) (fin.get O p)) (into p here)),
-        rows_right f rs are.1 (λ q e. fates q (or_second (eq_by_cmp path_cmp q p) _ e)) (λ q e. into q (or_second (eq_by_cmp path_cmp q p) _ e)),
+        rows_right f rs are.1 (λ q e. fates q (or_right (eq_by_cmp path_cmp q p) _ e)) (λ q e. into q (or_right (eq_by_cmp path_cmp q p) _ e)),
       )
 
   blocks_right : (bs : List Block) → AreBlocks V bs → ((q : Path) → among q (flat_map block_paths bs) ≡ true → among q V.paths ≡ true) → Each IsRight (flat_map block_marks bs)
@@ -235,8 +227,8 @@ module _ (P : Parts) (O : Archive) (seen : Side → List (Path × Sight)) (is : 
   blocks_right (b ∷ bs) are into =
       each-append IsRight (block_marks b) (flat_map block_marks bs)
       (rows_right b.fate (b.first.now ∷ b.below.now) are.0.rows (fate_at V b.first.now.path.now (paths_of b.below.now) b.fate are.0.fated)
-      (λ q e. into q (list_any-append (eq_by_cmp path_cmp q) (block_paths b) (flat_map block_paths bs) ∙ or_first _ _ e)))
-      (blocks_right bs are.1 (λ q e. into q (list_any-append (eq_by_cmp path_cmp q) (block_paths b) (flat_map block_paths bs) ∙ or_second (among q (block_paths b)) _ e)))
+      (λ q e. into q (list_any-append (eq_by_cmp path_cmp q) (block_paths b) (flat_map block_paths bs) ∙ or_left _ _ e)))
+      (blocks_right bs are.1 (λ q e. into q (list_any-append (eq_by_cmp path_cmp q) (block_paths b) (flat_map block_paths bs) ∙ or_right (among q (block_paths b)) _ e)))
 
   module _ (bs : List Block) (w : IsPartition V bs) where
     abbrev all_marks : List (Path × Mark)
@@ -253,7 +245,7 @@ module _ (P : Parts) (O : Archive) (seen : Side → List (Path × Sight)) (is : 
         not_new (in_paths q h (ap (λ k. is_present (unwrap_or k mark.Absent)) e ∙ present))
     is_there q m false e h not_kept not_new =
         let present = not_absent m (λ k. is.present q (e ∙ ap (λ x. Some x) k)) in
-        not_kept (other_there (reach P) q m (fin.entries O) (sym (fin.get-entries O q) ∙ e) (both_hold (not (reach P q)) (is_present m) (ap not h) present))
+        not_kept (other_there (reach P) q m (fin.entries O) (sym (fin.get-entries O q) ∙ e) (and_from (not (reach P q)) (is_present m) (ap not h) present))
 
     none_there : (q : Path) (k : Option Mark) → fin.get O q ≡ k → among q (paths_in others) ≡ false → among q V.paths ≡ false → fin.get O q ≡ None
     none_there q None e a b = e
@@ -261,7 +253,7 @@ module _ (P : Parts) (O : Archive) (seen : Side → List (Path × Sight)) (is : 
 
     all_full : (q : Path) → among q (paths_in all_marks) ≡ false → fin.get (next_archive V O) q ≡ None
     all_full q e =
-        let two = neither (among q (paths_in others)) (among q V.paths)
+        let two = or_parts (among q (paths_in others)) (among q V.paths)
         (sym (ap (among q) (map-append (λ (e : Path × Mark). e.0) others (flat_map block_marks bs))
         ∙ (list_any-append (eq_by_cmp path_cmp q) (paths_in others) (paths_in (flat_map block_marks bs))
         ∙ ap (λ ps. among q (paths_in others) || among q ps) (paths_blocks bs ∙ w.paths))) ∙ e) in

@@ -3,7 +3,7 @@ use Rattle.std.proofs.Common.{◌≡◌, ◌<◌, Bool, true, false, cond, not, 
 use Rattle.std.specs.List.Sorted.{IsStrictlySortedBy}
 use Rattle.std.specs.FinMap as fin
 use Rattle.std.specs.Ordering.{eq_by_cmp}
-use Rattle.std.proofs.lemmas.Bool.{false≢true, and_parts}
+use Rattle.std.proofs.lemmas.Bool.{false≢true, and_parts, and_from, or_left, or_right}
 use Rattle.std.proofs.lemmas.List.Folds.{list_any-append}
 use Rattle.std.proofs.lemmas.List.Kept.{IsStrictlySortedBy-filter}
 use Rattle.hub_path.specs.Path.{Path, path_cmp, path_eq, ascending}
@@ -21,16 +21,16 @@ use Rattle.hub_reconcile.specs.Items.{differs}
 use Rattle.hub_reconcile.specs.Picture.{sight_in, view_by}
 use Rattle.hub_reconcile.specs.Sight.{Sight}
 use Rattle.hub_reconcile.specs.View.{View, mark_eq, is_present, counts}
-use Rattle.hub_reconcile.proofs.Ascend.{ascending_sorted, among_ascending}
-use Rattle.hub_reconcile.proofs.Views.{both_hold, or_first, or_second, same_paths, reached_names}
+use Rattle.hub_reconcile.specs.Laws.Ascend.{ascending_sorted, among_ascending}
+use Rattle.hub_reconcile.specs.Laws.Views.{same_paths, reached_names}
 
 -- A path that has a mark has a Look.
 pub sight_there : (y : Path) (ss : List (Path × Sight)) → is_present (sight_in ss y).mark ≡ true → among y (map (λ s. s.0) ss) ≡ true
 sight_there y [] h = absurd (false≢true h)
 sight_there y (s ∷ ss) h =
     elim (path_eq s.0 y) as (λ b. path_eq s.0 y ≡ b → is_present (cond b s.1 (sight_in ss y)).mark ≡ true → among y (s.0 ∷ map (λ s. s.0) ss) ≡ true) [
-      | true ↦ λ e g. or_first _ _ (ap (eq_by_cmp path_cmp y) (same_paths s.0 y e) ∙ path_itself y)
-      | false ↦ λ e g. or_second (eq_by_cmp path_cmp y s.0) _ (sight_there y ss g)
+      | true ↦ λ e g. or_left _ _ (ap (eq_by_cmp path_cmp y) (same_paths s.0 y e) ∙ path_itself y)
+      | false ↦ λ e g. or_right (eq_by_cmp path_cmp y s.0) _ (sight_there y ss g)
     ] refl h
 
 -- Marks that differ are not both absent.
@@ -64,10 +64,10 @@ module _ (P : Parts) (O : Archive) (seen : Side → List (Path × Sight)) where
   in_all : (k : Side) (y : Path) → among y (seen_at k) ≡ true → among y all_paths ≡ true
   in_all Left y e =
       list_any-append (eq_by_cmp path_cmp y) (seen_at Left ++ seen_at Right) (fin.keys O)
-      ∙ or_first _ _ (list_any-append (eq_by_cmp path_cmp y) (seen_at Left) (seen_at Right) ∙ or_first _ _ e)
+      ∙ or_left _ _ (list_any-append (eq_by_cmp path_cmp y) (seen_at Left) (seen_at Right) ∙ or_left _ _ e)
   in_all Right y e =
       list_any-append (eq_by_cmp path_cmp y) (seen_at Left ++ seen_at Right) (fin.keys O)
-      ∙ or_first _ _ (list_any-append (eq_by_cmp path_cmp y) (seen_at Left) (seen_at Right) ∙ or_second (among y (seen_at Left)) _ e)
+      ∙ or_left _ _ (list_any-append (eq_by_cmp path_cmp y) (seen_at Left) (seen_at Right) ∙ or_right (among y (seen_at Left)) _ e)
 
   either_there : (y : Path) (a b : Bool) → is_present (V.mark Left y) ≡ a → is_present (V.mark Right y) ≡ b → (a || b) ≡ true → among y all_paths ≡ true
   either_there y true b e f h = in_all Left y (mark_there Left y e)
@@ -80,7 +80,7 @@ module _ (P : Parts) (O : Archive) (seen : Side → List (Path × Sight)) where
       let two = and_parts (reach P y) (not (mark_eq (V.mark Left y) (V.mark Right y))) h in
       let there = one_is_there (V.mark Left y) (V.mark Right y) two.1 in
       among_filter y does_count (ascending all_paths)
-      ∙ both_hold (does_count y) _ (both_hold (reach P y) _ two.0 (or_first _ _ there))
+      ∙ and_from (does_count y) _ (and_from (reach P y) _ two.0 (or_left _ _ there))
       (among_ascending y all_paths ∙ either_there y (is_present (V.mark Left y)) (is_present (V.mark Right y)) refl refl there)
 
   pub shown_names : (q : Path) → V.reached q ≡ true → 0 < length q

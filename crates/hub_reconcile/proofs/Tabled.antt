@@ -4,7 +4,7 @@ use Rattle.std.specs.Prelude.{IsTrue, filter}
 use Rattle.std.specs.FinMap as fin
 use Rattle.std.specs.FinMap.Entries.{is_sorted}
 use Rattle.std.specs.Map.Iter.{TakesFirst}
-use Rattle.std.proofs.lemmas.Bool.{false≢true}
+use Rattle.std.proofs.lemmas.Bool.{false≢true, or_right}
 use Rattle.std.proofs.lemmas.List.{length-map}
 use Rattle.hub_path.specs.Path.{Path, path_cmp, path_eq}
 use Rattle.hub_profile.specs.Parts.{Parts}
@@ -24,7 +24,7 @@ use Rattle.hub_reconcile.specs.declared.table.Table.{Table}
 use Rattle.hub_reconcile.proofs.Lows.{nothing_left}
 use Rattle.hub_reconcile.proofs.Merging.{IsMerged, merge_end, past_in, picture_view}
 use Rattle.hub_reconcile.proofs.Passing.{fewer, start_on, added_on}
-use Rattle.hub_reconcile.proofs.Views.{or_second, same_paths}
+use Rattle.hub_reconcile.specs.Laws.Views.{same_paths}
 
 -- What the mark that was taken says of those that were left before.
 taken_first : (o : List (Path × Mark)) (old : Option OldMark) (ms : List (Path × Mark)) → TakesFirst told_mark o old ms → first_of (paths_in (taken old)) ≡ first_of (paths_in o)
@@ -76,7 +76,7 @@ module _ (P : Parts) where
 
   some_other : (row : Row) (x : Path × Mark) → x.0 ≡ row.path.now → row.old ≡ x.1 → other_of P row ≡ cond (other x) (x ∷ []) []
   some_other row x e h =
-      split (is_anywhere row) (reach P row.path.now) (is_present row.old) (one_mark row.path.now row.old) (λ k. or_second (is_present row.left.mark || is_present row.right.mark) _ k)
+      split (is_anywhere row) (reach P row.path.now) (is_present row.old) (one_mark row.path.now row.old) (λ k. or_right (is_present row.left.mark || is_present row.right.mark) _ k)
       ∙ (λ i. other_at (sym e i) (h i))
 
   others_step : (row : Row) (o : List (Path × Mark)) → row.old ≡ front_mark row.path.now o → other_of P row ++ filter other (past_of row.path.now o) ≡ filter other o

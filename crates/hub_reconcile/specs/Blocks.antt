@@ -1,4 +1,5 @@
--- Blocks: the rows of a picture are cut into items, each with what is below it, and paths at which nothing differs.
+-- Blocks: the rows of a picture are cut into items, each with what is below it, and paths at which
+-- nothing differs.
 use Rattle.std.specs.Prelude.{◌≡◌, ◌<◌, true, false, List, [], ◌∷◌, ◌++◌, Bool, length, map, reverse, filter, Option, None, Some, if◌then◌else◌}
 use Rattle.std.specs.List.{flat_map, list_any, take_while}
 use Rattle.std.specs.Ordering.{eq_by_cmp}
@@ -21,8 +22,8 @@ use Rattle.hub_reconcile.specs.declared.row.Row.{Row}
 abbrev pub is_in : Path → List Path → Bool
 is_in p ps = list_any (eq_by_cmp path_cmp p) ps
 
--- The paths of the view are cut into those before a place, and the rows from there on. What is before it has no item
--- that is over one of these rows.
+-- The paths of the view are cut into those before a place, and the rows from there on. What is
+-- before it has no item that is over one of these rows.
 pub record IsCut (V : View) (front : List Path) (rest : List Row) : Type 0 where
   pub paths : front ++ paths_of rest ≡ V.paths
   pub rows : AreRows V rest

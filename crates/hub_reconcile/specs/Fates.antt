@@ -41,7 +41,8 @@ is_barred P from item below =
     list_any (changes_with (bars P from) from) below || bars P from item (mark_on from item)
 
 abbrev pub blocks : Side → Row → Mark → Bool
-blocks from r m = is_folder (mark_on (other from) r) && not (is_folder m) && (seen_on (other from) r).others
+blocks from r m =
+    is_folder (mark_on (other from) r) && not (is_folder m) && (seen_on (other from) r).others
 
 abbrev pub is_blocked : Side → Row → List Row → Bool
 is_blocked from item below =

@@ -11,3 +11,4 @@ pub mod Fates
 pub mod Blocks
 pub mod Merge
 pub mod Examples
+pub mod Laws

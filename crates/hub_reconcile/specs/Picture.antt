@@ -23,11 +23,16 @@ sight_in (s ∷ ss) p = if path_eq s.0 p then s.1 else sight_in ss p
 
 -- The view that sights of both sides give. A path without a Look is absent.
 abbrev pub view_by : Parts → Archive → (Side → List (Path × Sight)) → View
-view_by P O seen = view P (λ side p. sight_in (seen side) p) (old_mark_at O) (map (λ s. s.0) (seen Left) ++ map (λ s. s.0) (seen Right) ++ fin.keys O)
+view_by P O seen =
+    view P (λ side p. sight_in (seen side) p) (old_mark_at O)
+    (map (λ s. s.0) (seen Left) ++ map (λ s. s.0) (seen Right) ++ fin.keys O)
 
--- The Looks that each side needs at first: each kept value that counts, and its parent if it has at least two names.
+-- The Looks that each side needs at first: each kept value that counts, and its parent if it has at
+-- least two names.
 abbrev pub first_looks : Parts → List Path
-first_looks P = flat_map (λ s. if nat_lt 1 (length s) then parent s ∷ s ∷ [] else s ∷ []) (filter (is_kept P) P.paths)
+first_looks P =
+    flat_map (λ s. if nat_lt 1 (length s) then parent s ∷ s ∷ [] else s ∷ [])
+    (filter (is_kept P) P.paths)
 
 -- The Looks that a side needs: those, and one for each name that a Look on that side listed.
 abbrev pub needed : Parts → List (Path × Sight) → List Path
@@ -38,7 +43,14 @@ was_seen ss p = list_any (λ s. path_eq s.0 p) ss
 
 -- The Looks of a picture's side, as they are told.
 abbrev pub told_by : List look.Look → List (Path × Sight)
-told_by ls = map (λ l. (l.path.now, record { mark = l.mark; names = l.names.now; others = l.others })) ls
+told_by ls = map (λ l. (
+  l.path.now,
+  record {
+    mark = l.mark;
+    names = l.names.now;
+    others = l.others;
+  },
+)) ls
 
 -- The Looks stand in the order of their paths, and no path stands twice.
 abbrev pub are_rising : List (Path × Sight) → Bool

@@ -1,4 +1,5 @@
--- Rows: what is known of a path on both sides and in the archive. Items are found by going through them once.
+-- Rows: what is known of a path on both sides and in the archive. Items are found by going through
+-- them once.
 use Rattle.std.specs.Prelude.{◌≡◌, Bool, true, not, ◌&&◌, ◌||◌, List, [], ◌∷◌, map, if◌then◌else◌}
 use Rattle.hub_path.specs.Path.{Path}
 use Rattle.hub_path.specs.declared.side.Side.{Side}
@@ -39,7 +40,8 @@ is_counted P r = is_anywhere r && reach P r.path.now
 
 -- The old mark of a row that doesn't count, with its path, if there is one.
 abbrev pub other_of : Parts → Row → List (Path × Mark)
-other_of P r = if is_counted P r then [] else (if is_present r.old then (r.path.now, r.old) ∷ [] else [])
+other_of P r =
+    if is_counted P r then [] else (if is_present r.old then (r.path.now, r.old) ∷ [] else [])
 
 abbrev pub path_of_row : Row → Path
 path_of_row r = r.path.now

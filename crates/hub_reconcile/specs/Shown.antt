@@ -5,4 +5,6 @@ use Rattle.hub_reconcile.specs.Sync.{of_side}
 use Rattle.hub_reconcile.specs.View.{View}
 
 abbrev pub shown : Picture → View
-shown picture = view_by picture.profile.now picture.archive.now (of_side (told_by picture.left.now) (told_by picture.right.now))
+shown picture =
+    view_by picture.profile.now picture.archive.now
+    (of_side (told_by picture.left.now) (told_by picture.right.now))

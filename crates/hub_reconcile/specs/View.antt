@@ -11,9 +11,9 @@ use Rattle.hub_tree.specs.declared.contents.Mark.{Mark}
 use Rattle.hub_tree.specs.declared.contents.Mark.TheVariants as mark
 use Rattle.hub_reconcile.specs.Sight.{Sight}
 
--- What a profile asks for (which paths, which side decides, which changes are allowed where), the marks of both sides
--- and of the archive, where a directory holds a child that isn't reached, and in ascending order the reached paths at
--- which any of the three has contents.
+-- What a profile asks for (which paths, which side decides, which changes are allowed where), the
+-- marks of both sides and of the archive, where a directory holds a child that isn't reached, and
+-- in ascending order the reached paths at which any of the three has contents.
 pub record View : Type 0 where
   pub reached : Path → Bool
   pub force : Option Side
@@ -38,7 +38,8 @@ is_folder a = mark_eq a mark.Directory
 
 -- A path counts if it is reached and has contents on a side or in the archive.
 abbrev pub counts : (Path → Bool) → (Side → Path → Mark) → (Path → Mark) → Path → Bool
-counts reached marks old p = reached p && (is_present (marks Left p) || is_present (marks Right p) || is_present (old p))
+counts reached marks old p =
+    reached p && (is_present (marks Left p) || is_present (marks Right p) || is_present (old p))
 
 -- Whether the profile may make the change at its own root of that side.
 abbrev pub allowed_at : Parts → Side → Path → Verb → Bool

@@ -29,3 +29,4 @@ pub mod Machined
 pub mod Opened
 pub mod StageLists
 pub mod TextBuffer
+pub mod Walks

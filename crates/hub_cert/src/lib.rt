@@ -19,6 +19,7 @@
 mod certificate;
 mod draft;
 mod fault;
+mod finder;
 mod forbidden;
 mod goal;
 pub mod laws;
@@ -35,6 +36,7 @@ mod stages;
 mod texts;
 mod verified;
 mod view;
+mod walked;
 mod writing;
 
 pub use certificate::{Certificate, StageText};

@@ -1,7 +1,8 @@
 -- What the code of a job keeps.
-use Rattle.std.proofs.Common.{◌≡◌, ◌<◌, List, [], ◌∷◌, ◌++◌, take, Option, Some, None, refl, ap, sym, ◌∙◌, subst, append-nil, append_assoc, arith, Result, Ok, Err}
+use Rattle.std.proofs.Common.{◌≡◌, ◌<◌, List, [], ◌∷◌, ◌++◌, take, Option, Some, None, refl, ap, sym, ◌∙◌, subst, append-nil, arith, Result, Ok, Err}
 use Rattle.std.specs.Prelude.{◌≢◌, ℕ, zero, suc, if◌then◌else◌, IfSome, is_ok, IsOk}
 use Rattle.std.proofs.lemmas.Bool.{false≢true}
+use Rattle.hub_job.specs.Laws.Logs.{runs-push}
 use Rattle.hub_path.specs.Path.{ascending}
 use Rattle.hub_path.specs.declared.side.Side.{Side}
 use Rattle.hub_path.specs.declared.side.Side.TheVariants.{Left, Right}
@@ -79,12 +80,6 @@ stopped_whole P O j log new r e =
     (record { job = record { run = r; asked = tt }; follows = tt; asked = tt })
 
 -- An answer.
-runs-push : (P : Parts) (O : Archive) (j : ℕ) (front es : List Logged) (e : Logged) → Runs P O j front es → next P O (front ++ es) ≡ Ask e.side e.step.op
-    → Fits e.step.op e.step.answer → e.step.job ≡ j → Runs P O j front (es ++ e ∷ [])
-runs-push P O j front [] e r n f k = (ap (next P O) (sym (append-nil front)) ∙ n, f, k, tt)
-runs-push P O j front (d ∷ es) e r n f k =
-    (r.0, r.1, r.2, runs-push P O j (front ++ d ∷ []) es e r.3 (ap (next P O) (append_assoc front (d ∷ []) es) ∙ n) f k)
-
 abbrev entry_of : ℕ → Asked → Answer → Logged
 entry_of j a answer = record { side = a.side; step = record { job = j; op = a.op; answer = answer } }
 

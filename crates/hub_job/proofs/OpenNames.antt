@@ -1,10 +1,11 @@
 -- The names of a path's children where a profile ignores nothing: it reaches them all.
-use Rattle.std.proofs.Common.{◌≡◌, Bool, true, false, cond, not, ◌&&◌, ◌||◌, List, [], ◌∷◌, ◌++◌, map, Option, Some, None, refl, ap, sym, ◌∙◌, arith}
+use Rattle.std.proofs.Common.{◌≡◌, Bool, true, false, cond, not, ◌&&◌, ◌||◌, List, [], ◌∷◌, ◌++◌, map, Option, Some, None, refl, ap, sym, ◌∙◌}
 use Rattle.std.specs.Prelude.{filter, unwrap_or, is_some, ◌==◌, length}
 use Rattle.std.specs.List.{list_all, list_any}
 use Rattle.std.specs.FinMap as fin
 use Rattle.std.proofs.lemmas.Bool.{false≢true, and_parts}
-use Rattle.std.proofs.lemmas.Bool.Decides.{nat_tests}
+use Rattle.std.proofs.Math.Bool.{or-true}
+use Rattle.hub_tree.specs.Laws.Children.{one_item}
 use Rattle.hub_path.specs.Path.{Name, Path, is_over, is_path, last_name}
 use Rattle.hub_path.specs.Laws.{is_over-append, is_over-transitive}
 use Rattle.hub_profile.specs.Parts.{Parts}
@@ -15,16 +16,9 @@ use Rattle.hub_tree.specs.declared.contents.Contents.{Contents}
 use Rattle.hub_tree.specs.declared.contents.Contents.TheVariants as contents
 use Rattle.hub_job.proofs.Performs.{child_where, some_path}
 
-some_items : {A : Type 0} (x : A) (xs : List A) → (length (x ∷ xs) == 0) ≡ false
-some_items x xs = grind (arith, nat_tests)
-
 pub no_items : {A : Type 0} (xs : List A) → (length xs == 0) ≡ true → xs ≡ []
 no_items [] h = refl
-no_items (x ∷ xs) h = absurd (false≢true (sym (some_items x xs) ∙ h))
-
-or_true : (b : Bool) → (b || true) ≡ true
-or_true true = refl
-or_true false = refl
+no_items (x ∷ xs) h = absurd (false≢true (sym (one_item x xs) ∙ h))
 
 -- The children of a path are paths.
 present : (o : Option Contents) → not (is_absent (unwrap_or o contents.Absent)) ≡ true → is_some o ≡ true
@@ -60,7 +54,7 @@ over_child [] d n h = absurd (false≢true h)
 over_child (s ∷ ss) d n h =
     elim (is_over s d) as (λ b. is_over s d ≡ b → (b || list_any (λ s. is_over s d) ss) ≡ true → list_any (λ s. is_over s (d ++ n ∷ [])) (s ∷ ss) ≡ true) [
       | true ↦ λ g k. ap (λ b. b || list_any (λ s. is_over s (d ++ n ∷ [])) ss) (is_over-transitive s d (d ++ n ∷ []) g (is_over-append d (n ∷ [])))
-      | false ↦ λ g k. ap (λ b. is_over s (d ++ n ∷ []) || b) (over_child ss d n k) ∙ or_true (is_over s (d ++ n ∷ []))
+      | false ↦ λ g k. ap (λ b. is_over s (d ++ n ∷ []) || b) (over_child ss d n k) ∙ or-true (is_over s (d ++ n ∷ []))
     ] refl h
 
 reached_child : (P : Parts) (d : Path) (n : Name) → P.ignore ≡ [] → list_any (λ s. is_over s d) P.paths ≡ true → is_path (d ++ n ∷ []) ≡ true → reach P (d ++ n ∷ []) ≡ true

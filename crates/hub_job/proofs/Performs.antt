@@ -2,16 +2,13 @@
 use Rattle.std.proofs.Common.{◌≡◌, ◌≢◌, Bool, true, false, cond, not, ◌&&◌, ◌||◌, List, [], ◌∷◌, ◌++◌, length, map, Option, Some, None, refl, ap, sym, ◌∙◌, append_assoc, ◌<◌, ◌≤◌, drop, get_or, arith}
 use Rattle.std.specs.Prelude.{ℕ, zero, suc, ◌==◌, filter, unwrap_or}
 use Rattle.std.specs.List.{list_any}
-use Rattle.std.specs.Cmp.{tied_itself}
-use Rattle.std.specs.Cmp.Lexicographic.{slice_cmp, lists_ties, texts_ties}
 use Rattle.std.specs.FinMap as fin
-use Rattle.std.specs.Ordering.{nat_cmp, is_eq}
-use Rattle.std.specs.declared.cmp.Ordering.{Ordering}
-use Rattle.std.specs.declared.cmp.Ordering.TheVariants.{Less, Equal, Greater}
 use Rattle.std.proofs.lemmas.Bool.{false≢true, and_parts}
-use Rattle.std.proofs.lemmas.Bool.Decides.{nat_tests}
+use Rattle.std.proofs.Math.Bool.{and-true, or-true}
+use Rattle.hub_tree.specs.Laws.Children.{one_item}
+use Rattle.hub_reconcile.specs.Laws.Views.{same_paths, paths_same}
 use Rattle.hub_path.specs.Path.{Name, Path, path_eq, parent, last_name}
-use Rattle.hub_path.specs.Laws.{path_cmp-total, path_cmp-exact, parent-last_name}
+use Rattle.hub_path.specs.Laws.{parent-last_name}
 use Rattle.hub_profile.specs.Parts.{Parts}
 use Rattle.hub_reach.specs.Reach.{reach, writes_at}
 use Rattle.hub_tree.specs.Tree.{Replica, IsRefusal, bytes_of, contents_at, children, mark_at, names_at, is_absent, is_child, is_directory, mark_of}
@@ -43,20 +40,12 @@ refused_by None e h other = absurd (other h)
 refused_by (Some f) e h other = ap (λ x. Some x) (sym h)
 
 -- A Look.
-is_equal : (o : Ordering) → is_eq o ≡ true → o ≡ Equal
-is_equal Less h = cc
-is_equal Equal h = refl
-is_equal Greater h = cc
-
-pub same_path : (p q : Path) → path_eq p q ≡ true → p ≡ q
-same_path p q h = path_cmp-exact p q (is_equal _ (sym (lists_ties (slice_cmp nat_cmp) texts_ties p q) ∙ h))
-
 pub some_path : (b : Bool) (p d : Path) → (not (length p == 0) && path_eq (parent p) d && b) ≡ true → d ++ last_name p ∷ [] ≡ p
 some_path b [] d h = absurd (false≢true h)
 some_path b (n ∷ p) d h =
     let child = and_parts (is_child d (n ∷ p)) b h in
     let own = and_parts (not (length (n ∷ p) == 0)) (path_eq (parent (n ∷ p)) d) child.0 in
-    ap (λ q. q ++ last_name (n ∷ p) ∷ []) (sym (same_path (parent (n ∷ p)) d own.1)) ∙ parent-last_name n p
+    ap (λ q. q ++ last_name (n ∷ p) ∷ []) (sym (same_paths (parent (n ∷ p)) d own.1)) ∙ parent-last_name n p
 
 abbrev pub child_where : Path → (Path → Bool) → Path → Bool
 child_where d g p = is_child d p && g p
@@ -103,16 +92,9 @@ pub true_and : (a b c : Bool) → a ≡ true → (a && b && c) ≡ (b && c)
 true_and true b c e = refl
 true_and false b c e = cc
 
-pub path_itself : (p : Path) → path_eq p p ≡ true
-path_itself p = lists_ties (slice_cmp nat_cmp) texts_ties p p ∙ ap is_eq (tied_itself path_cmp-total p)
-
-or_true : (b : Bool) → (b || true) ≡ true
-or_true true = refl
-or_true false = refl
-
 pub any_middle : (front rest : List Path) (s : Path) → list_any (path_eq s) (front ++ s ∷ rest) ≡ true
-any_middle [] rest s = ap (λ b. b || list_any (path_eq s) rest) (path_itself s)
-any_middle (x ∷ front) rest s = ap (λ b. path_eq s x || b) (any_middle front rest s) ∙ or_true (path_eq s x)
+any_middle [] rest s = ap (λ b. b || list_any (path_eq s) rest) (paths_same s)
+any_middle (x ∷ front) rest s = ap (λ b. path_eq s x || b) (any_middle front rest s) ∙ or-true (path_eq s x)
 
 any_own : (f k : Path → Bool) (front rest : List Path) → list_any (own f k (front ++ rest)) rest ≡ list_any (λ s. f s && k s) rest
 any_own f k front [] = refl
@@ -146,13 +128,6 @@ sight_by P r m d b c h k =
     ap (λ b. cond b (seen_there P r m d b) (cond (length d == 0 && is_kept P []) (seen_at_top P m) (seen_elsewhere P m d))) h
     ∙ ap (λ c. cond b (seen_there P r m d b) (cond c (seen_at_top P m) (seen_elsewhere P m d))) k
 
-some_names : (n : Name) (d : Path) → (length (n ∷ d) == 0) ≡ false
-some_names n d = grind (arith, nat_tests)
-
-and_true : (b : Bool) → (b && true) ≡ b
-and_true true = refl
-and_true false = refl
-
 same_seen : (a b : Mark) (ns ms : List Name) (o q : Bool) → a ≡ b → ns ≡ ms → o ≡ q → Seen a ns o ≡ Seen b ms q
 same_seen a b ns ms o q e f g = cc
 
@@ -161,24 +136,24 @@ pub sees_reached : (P : Parts) (r : Path) (m : Replica) (d : Path) (mk : Mark) (
     → Seen mk ns o ≡ seen (sight P r m d)
 sees_reached P r m d mk ns o h em en eo =
     same_seen mk (mark_at m d) ns (reached_names P m d) o (writes_at P r d && true && list_any (λ q. not (reach P q)) (children m d)) em (en ∙ names_reached P m d)
-    (eo ∙ (ap (λ b. writes_at P r d && b) (names_not_reached P m d) ∙ ap (λ b. b && list_any (λ q. not (reach P q)) (children m d)) (sym (and_true (writes_at P r d)))))
+    (eo ∙ (ap (λ b. writes_at P r d && b) (names_not_reached P m d) ∙ ap (λ b. b && list_any (λ q. not (reach P q)) (children m d)) (sym (and-true (writes_at P r d)))))
     ∙ ap seen (sym (sight_by P r m d true (length d == 0 && is_kept P []) h refl))
 
 pub sees_top : (P : Parts) (r : Path) (m : Replica) (d : Path) (ns : List Name) → reach P d ≡ false → (length d == 0 && list_any (path_eq d) P.paths) ≡ true
     → ns ≡ filter (λ n. reach P (d ++ n ∷ [])) (names_at m d) → Seen mark.Directory ns false ≡ seen (sight P r m d)
 sees_top P r m [] ns h k en =
     same_seen mark.Directory mark.Directory ns (reached_names P m []) false false refl (en ∙ names_reached P m []) refl
-    ∙ ap seen (sym (sight_by P r m [] false true h (and_true (list_any (path_eq []) P.paths) ∙ k)))
-sees_top P r m (n ∷ d) ns h k en = absurd (false≢true (sym (ap (λ b. b && list_any (path_eq (n ∷ d)) P.paths) (some_names n d)) ∙ k))
+    ∙ ap seen (sym (sight_by P r m [] false true h (and-true (list_any (path_eq []) P.paths) ∙ k)))
+sees_top P r m (n ∷ d) ns h k en = absurd (false≢true (sym (ap (λ b. b && list_any (path_eq (n ∷ d)) P.paths) (one_item n d)) ∙ k))
 
 pub sees_elsewhere : (P : Parts) (r : Path) (m : Replica) (d : Path) (mk : Mark) → reach P d ≡ false → (length d == 0 && list_any (path_eq d) P.paths) ≡ false
     → mk ≡ directory_or_absent (is_kept_parent P d && is_directory (contents_at m d)) → Seen mk [] false ≡ seen (sight P r m d)
 sees_elsewhere P r m [] mk h k em =
     same_seen mk (directory_or_absent (is_kept_parent P [] && is_directory (contents_at m []))) [] [] false false em refl refl
-    ∙ ap seen (sym (sight_by P r m [] false false h (and_true (list_any (path_eq []) P.paths) ∙ k)))
+    ∙ ap seen (sym (sight_by P r m [] false false h (and-true (list_any (path_eq []) P.paths) ∙ k)))
 sees_elsewhere P r m (n ∷ d) mk h k em =
     same_seen mk (directory_or_absent (is_kept_parent P (n ∷ d) && is_directory (contents_at m (n ∷ d)))) [] [] false false em refl refl
-    ∙ ap seen (sym (sight_by P r m (n ∷ d) false false h (ap (λ b. b && is_kept P []) (some_names n d))))
+    ∙ ap seen (sym (sight_by P r m (n ∷ d) false false h (ap (λ b. b && is_kept P []) (one_item n d))))
 
 -- A loop over kept values.
 pub past_all : {X : Type 0} (n : ℕ) (xs : List X) → length xs ≤ n → drop n xs ≡ []

@@ -6,6 +6,8 @@ use Rattle.std.proofs.lemmas.Bool.{false≢true}
 use Rattle.std.proofs.lemmas.List.Folds.{list_any-append, list_all-append}
 use Rattle.std.proofs.lemmas.List.Sums.{sum_by_push}
 use Rattle.std.proofs.lemmas.List.{take-append-le}
+use Rattle.std.proofs.Math.Bool.{or-false}
+use Rattle.hub_job.specs.Laws.Making.{weight}
 use Rattle.hub_path.specs.Path.{Path}
 use Rattle.hub_path.specs.declared.side.Side.{Side}
 use Rattle.hub_path.specs.declared.side.Side.TheVariants.{Left, Right}
@@ -28,7 +30,8 @@ use Rattle.hub_job.specs.Job.{told, sights, missing, is_refused, is_look, is_ask
 use Rattle.hub_job.specs.Run.{Runs}
 use Rattle.hub_job.specs.Phase.{seen_paths, IsWaiting, told_more, look_at, first_look, are_looks, AreLooks, AreLooksOf, AreSteps, last_refused, Follows, IsAskedIn, asked_by, IsNextIn, IsNext, is_stopped, next_step}
 use Rattle.hub_job.proofs.Plans.{no_steps}
-use Rattle.hub_job.proofs.Told.{sights-push, AllTold, told_all, take_all, next_looks, missing_is, step_is_no_look}
+use Rattle.hub_job.specs.Laws.Logs.{sights-push}
+use Rattle.hub_job.proofs.Told.{AllTold, told_all, take_all, next_looks, missing_is, step_is_no_look}
 
 stops_not : Stopped ≡ Finished → ⊥
 stops_not h = cc
@@ -168,15 +171,8 @@ last_is log e =
     ap (λ n. some_passes (λ (e : Logged). is_refused e.step.answer) (slice_get (log ++ e ∷ []) n)) one
     ∙ ap (some_passes (λ (e : Logged). is_refused e.step.answer)) (get_last log e)
 
-abbrev weight : Bool → ℕ
-weight b = cond (not b) 1 0
-
 take_front : (log : List Logged) (e : Logged) (n : ℕ) → n ≡ length log → take n (log ++ e ∷ []) ≡ log
 take_front log e n h = take-append-le n log (e ∷ []) (omega (arith, h)) ∙ take_all log n h
-
-or_false : (b : Bool) → (b || false) ≡ b
-or_false true = refl
-or_false false = refl
 
 pub followed : (P : Parts) (O : Archive) (log : List Logged) (p : Phase) (e : Logged) → Follows P O log p → IsAskedIn log p (Some (record { side = e.side; op = e.step.op })) → next P O log ≡ Ask e.side e.step.op → Fits e.step.op e.step.answer
     → Follows P O (log ++ e ∷ []) p
@@ -200,7 +196,7 @@ followed P O log (phase.Making s) e h a n f =
       refused =
           list_any-append (λ (e : Logged). is_refused e.step.answer) log (e ∷ [])
           ∙ (ap (λ b. b || (is_refused e.step.answer || false)) (no_refusal P O log e.side e.step.op n)
-          ∙ (or_false (is_refused e.step.answer) ∙ sym (last_is log e)));
+          ∙ (or-false (is_refused e.step.answer) ∙ sym (last_is log e)));
     }
 followed P O log phase.Stopped e h a n f = tt
 

@@ -1,5 +1,5 @@
 -- The plan of a log is that of the picture which its Looks give.
-use Rattle.std.proofs.Common.{◌≡◌, Bool, true, false, cond, not, ◌&&◌, ◌||◌, List, [], ◌∷◌, length, refl, ap, sym, ◌∙◌, subst, arith, append-nil}
+use Rattle.std.proofs.Common.{◌≡◌, Bool, true, false, not, ◌&&◌, ◌||◌, List, [], ◌∷◌, length, refl, ap, sym, ◌∙◌, subst, arith, append-nil}
 use Rattle.std.specs.Prelude.{ℕ, zero, suc, ◌-◌, slice_get, IsTrue}
 use Rattle.std.specs.List.{list_any, AllByRecursion}
 use Rattle.std.specs.List.Sorted.{IsStrictlySortedBy}
@@ -8,6 +8,7 @@ use Rattle.std.specs.Ordering.{is_lt}
 use Rattle.std.specs.declared.cmp.Ordering.TheVariants.{Less}
 use Rattle.std.proofs.lemmas.Bool.{and_parts}
 use Rattle.std.proofs.lemmas.List.Sums.{sum_by-cons}
+use Rattle.hub_job.specs.Laws.Making.{weight}
 use Rattle.hub_path.specs.Path.{Path, path_cmp}
 use Rattle.hub_path.specs.declared.side.Side.{Side}
 use Rattle.hub_path.specs.declared.side.Side.TheVariants.{Left, Right}
@@ -43,9 +44,6 @@ sides_same log Right = refl
 
 pub shown_is : (P : Parts) (O : Archive) (log : List Logged) → view_by P O (of_side (sights log Left) (sights log Right)) ≡ view_in P O log
 shown_is P O log = ap (view_by P O) (λ i k. sides_same log k i)
-
-abbrev weight : Bool → ℕ
-weight b = cond (not b) 1 0
 
 either_false : (a b : Bool) → (a || b) ≡ false → (a ≡ false) × (b ≡ false)
 either_false true b h = cc

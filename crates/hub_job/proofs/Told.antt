@@ -3,9 +3,12 @@ use Rattle.std.proofs.Common.{◌≡◌, ◌≤◌, ◌+◌, Bool, true, false, 
 use Rattle.std.specs.Prelude.{ℕ, zero, suc, ◌==◌, slice_get, filter, find, fold, unwrap_or}
 use Rattle.std.specs.List.{list_any, flat_map, AllByRecursion}
 use Rattle.std.specs.List.Sorted.{IsStrictlySortedBy}
-use Rattle.std.proofs.lemmas.Bool.{false≢true, and_parts, eqb-true, eqb-false}
+use Rattle.std.proofs.lemmas.Bool.{false≢true, and_parts, eqb-true, eqb-false, not-true}
 use Rattle.std.proofs.lemmas.Grind.{flat_map-append}
 use Rattle.std.proofs.lemmas.Option.{slice_get_past}
+use Rattle.std.proofs.Math.Bool.{or-true}
+use Rattle.hub_reconcile.specs.Laws.Ascend.{ascending_sorted}
+use Rattle.hub_reconcile.specs.Laws.Views.{apart_from, paths_same}
 use Rattle.hub_path.specs.Path.{Path, path_cmp, path_eq, ascending}
 use Rattle.hub_path.specs.declared.side.Side.{Side}
 use Rattle.hub_path.specs.declared.side.Side.TheVariants.{Left, Right}
@@ -14,7 +17,6 @@ use Rattle.hub_reach.specs.Reach.{reach}
 use Rattle.hub_tree.specs.Tree.{Archive}
 use Rattle.hub_reconcile.specs.Sight.{Sight}
 use Rattle.hub_reconcile.specs.Picture.{first_looks, needed, was_seen}
-use Rattle.hub_reconcile.specs.Sides.{side_eq}
 use Rattle.hub_job.specs.declared.op.Op.{Op}
 use Rattle.hub_job.specs.declared.op.Op.TheVariants.{Look, Fetch, Set}
 use Rattle.hub_job.specs.declared.op.Next.{Next}
@@ -28,35 +30,9 @@ use Rattle.hub_job.specs.Job.{told, sights, missing, is_refused, is_look, Step, 
 use Rattle.hub_job.specs.Run.{Runs}
 use Rattle.hub_job.specs.Waiting.{listed, put_all, looks_for, put_kept}
 use Rattle.hub_job.specs.Phase.{seen_paths, IsWaiting, told_to, told_on, told_more, look_at, first_look, are_looks, AreLooks, AreLooksOf}
-use Rattle.hub_job.proofs.Waits.{AllBefore, ascending-append, ascending_is, put_all-append, sorted-ascending, all_before, children_wait, find_behind, path_eq-less}
-use Rattle.hub_job.proofs.Performs.{path_itself, any_middle, past_all}
-
--- What one more entry adds to what a side has seen.
-pub sights_own : (log : List Logged) (e : Logged) (k : Side) → side_eq e.side k ≡ true → sights (log ++ e ∷ []) k ≡ sights log k ++ told e.step.op e.step.answer
-sights_own [] e k h = ap (λ b. flat_map (λ (e : Logged). told e.step.op e.step.answer) (cond b (e ∷ []) [])) h ∙ append-nil (told e.step.op e.step.answer)
-sights_own (d ∷ log) e k h =
-    elim (side_eq d.side k) as (λ b. flat_map (λ (e : Logged). told e.step.op e.step.answer) (cond b (d ∷ filter (λ (e : Logged). side_eq e.side k) (log ++ e ∷ [])) (filter (λ (e : Logged). side_eq e.side k) (log ++ e ∷ [])))
-    ≡ flat_map (λ (e : Logged). told e.step.op e.step.answer) (cond b (d ∷ filter (λ (e : Logged). side_eq e.side k) log) (filter (λ (e : Logged). side_eq e.side k) log)) ++ told e.step.op e.step.answer) [
-      | true ↦ ap (λ ss. told d.step.op d.step.answer ++ ss) (sights_own log e k h) ∙ sym (append_assoc (told d.step.op d.step.answer) (sights log k) (told e.step.op e.step.answer))
-      | false ↦ sights_own log e k h
-    ]
-
-pub sights_other : (log : List Logged) (e : Logged) (k : Side) → side_eq e.side k ≡ false → sights (log ++ e ∷ []) k ≡ sights log k
-sights_other [] e k h = ap (λ b. flat_map (λ (e : Logged). told e.step.op e.step.answer) (cond b (e ∷ []) [])) h
-sights_other (d ∷ log) e k h =
-    elim (side_eq d.side k) as (λ b. flat_map (λ (e : Logged). told e.step.op e.step.answer) (cond b (d ∷ filter (λ (e : Logged). side_eq e.side k) (log ++ e ∷ [])) (filter (λ (e : Logged). side_eq e.side k) (log ++ e ∷ [])))
-    ≡ flat_map (λ (e : Logged). told e.step.op e.step.answer) (cond b (d ∷ filter (λ (e : Logged). side_eq e.side k) log) (filter (λ (e : Logged). side_eq e.side k) log))) [
-      | true ↦ ap (λ ss. told d.step.op d.step.answer ++ ss) (sights_other log e k h)
-      | false ↦ sights_other log e k h
-    ]
-
--- An entry that isn't of a Look tells nothing.
-pub sights-push : (log : List Logged) (e : Logged) (k : Side) → told e.step.op e.step.answer ≡ [] → sights (log ++ e ∷ []) k ≡ sights log k
-sights-push log e k h =
-    elim (side_eq e.side k) as (λ b. side_eq e.side k ≡ b → sights (log ++ e ∷ []) k ≡ sights log k) [
-      | true ↦ λ g. sights_own log e k g ∙ (ap (λ ss. sights log k ++ ss) h ∙ append-nil (sights log k))
-      | false ↦ λ g. sights_other log e k g
-    ] refl
+use Rattle.hub_job.proofs.Waits.{AllBefore, ascending-append, ascending_is, put_all-append, all_before, children_wait, find_behind}
+use Rattle.hub_job.proofs.Performs.{any_middle, past_all}
+use Rattle.hub_job.specs.Laws.Logs.{sights_own, sights_other}
 
 -- One more Look.
 abbrev kids : Path × Sight → List Path
@@ -73,7 +49,7 @@ seen-push [] s = refl
 seen-push (t ∷ ss) s = ap (λ ps. t.0 ∷ ps) (seen-push ss s)
 
 pub sorted_needed : (P : Parts) (ss : List (Path × Sight)) (qs : List Path) → needed P ss ≡ seen_paths ss ++ qs → IsStrictlySortedBy path_cmp (seen_paths ss ++ qs)
-sorted_needed P ss qs w = subst (λ ps. IsStrictlySortedBy path_cmp ps) w (sorted-ascending (first_looks P ++ flat_map kids ss))
+sorted_needed P ss qs w = subst (λ ps. IsStrictlySortedBy path_cmp ps) w (ascending_sorted (first_looks P ++ flat_map kids ss))
 
 waiting_more : (P : Parts) (ss : List (Path × Sight)) (s : Path × Sight) (qs : List Path) → needed P ss ≡ seen_paths ss ++ s.0 ∷ qs
     → needed P (ss ++ s ∷ []) ≡ seen_paths (ss ++ s ∷ []) ++ put_all qs (listed s.0 s.1.names)
@@ -94,22 +70,14 @@ told_look P log e k d qs (Refused f) s fits w = absurd fits
 not_told : (P : Parts) (log : List Logged) (e : Logged) (k : Side) (qs : List Path) → sights (log ++ e ∷ []) k ≡ sights log k → IsWaiting P log k qs → IsWaiting P (log ++ e ∷ []) k qs
 not_told P log e k qs s w = subst (λ ss. needed P ss ≡ seen_paths ss ++ qs) (sym s) w
 
-or_true : (b : Bool) → (b || true) ≡ true
-or_true true = refl
-or_true false = refl
-
-unnot : (b : Bool) → not b ≡ true → b ≡ false
-unnot true h = cc
-unnot false h = refl
-
 -- The first that waits is what is missing.
 not_seen : (ss : List (Path × Sight)) (p : Path) → AllBefore (seen_paths ss) p → was_seen ss p ≡ false
 not_seen [] p a = refl
-not_seen (s ∷ ss) p a = ap (λ b. b || was_seen ss p) (path_eq-less s.0 p a.0) ∙ not_seen ss p a.1
+not_seen (s ∷ ss) p a = ap (λ b. b || was_seen ss p) (apart_from s.0 p a.0) ∙ not_seen ss p a.1
 
 seen_middle : (front rest : List (Path × Sight)) (s : Path × Sight) → was_seen (front ++ s ∷ rest) s.0 ≡ true
-seen_middle [] rest s = ap (λ b. b || was_seen rest s.0) (path_itself s.0)
-seen_middle (t ∷ front) rest s = ap (λ b. path_eq t.0 s.0 || b) (seen_middle front rest s) ∙ or_true (path_eq t.0 s.0)
+seen_middle [] rest s = ap (λ b. b || was_seen rest s.0) (paths_same s.0)
+seen_middle (t ∷ front) rest s = ap (λ b. path_eq t.0 s.0 || b) (seen_middle front rest s) ∙ or-true (path_eq t.0 s.0)
 
 all_seen : (front rest : List (Path × Sight)) → AllByRecursion (λ p. not (was_seen (front ++ rest) p) ≡ false) (seen_paths rest)
 all_seen front [] = tt
@@ -135,7 +103,7 @@ none_refused [] h = refl
 none_refused (e ∷ log) h =
     let parts = and_parts (is_look e.step.op && not (is_refused e.step.answer)) (are_looks log) h in
     let own = and_parts (is_look e.step.op) (not (is_refused e.step.answer)) parts.0 in
-    ap (λ b. b || list_any (λ (e : Logged). is_refused e.step.answer) log) (unnot (is_refused e.step.answer) own.1) ∙ none_refused log parts.1
+    ap (λ b. b || list_any (λ (e : Logged). is_refused e.step.answer) log) (not-true (is_refused e.step.answer) own.1) ∙ none_refused log parts.1
 
 look_first : (a b : Option Path) (n : Next) → look_or Left (look_or Right n b) a ≡ unwrap_or (look_at Left a (look_at Right b None)) n
 look_first (Some p) b n = refl
@@ -217,11 +185,6 @@ runs-last P O j front [] e r = (ap (next P O) (append-nil front) ∙ r.0, r.1)
 runs-last P O j front (x ∷ es) e r =
     let w = runs-last P O j (front ++ x ∷ []) es e r.3 in
     (ap (next P O) (sym (append_assoc front (x ∷ []) es)) ∙ w.0, w.1)
-
-pub runs-push : (P : Parts) (O : Archive) (j : ℕ) (front es : List Logged) (e : Logged) → Runs P O j front es → next P O (front ++ es) ≡ Ask e.side e.step.op → Fits e.step.op e.step.answer → e.step.job ≡ j
-    → Runs P O j front (es ++ e ∷ [])
-runs-push P O j front [] e r n f i = (ap (next P O) (sym (append-nil front)) ∙ n, f, i, tt)
-runs-push P O j front (x ∷ es) e r n f i = (r.0, r.1, r.2, runs-push P O j (front ++ x ∷ []) es e r.3 (ap (next P O) (append_assoc front (x ∷ []) es) ∙ n) f i)
 
 -- The last entry of a list.
 pub last_split : {X : Type 0} (xs : List X) (n : ℕ) → length xs ≡ n + 1 → (x : X) × (slice_get xs n ≡ Some x) × (xs ≡ take n xs ++ x ∷ [])

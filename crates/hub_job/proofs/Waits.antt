@@ -1,15 +1,14 @@
 -- Ascending lists of paths, and what is put into them.
-use Rattle.std.proofs.Common.{◌≡◌, ◌≢◌, Bool, true, false, cond, List, [], ◌∷◌, ◌++◌, length, map, Some, refl, ap, sym, ◌∙◌, subst, append_assoc, arith, length-append}
+use Rattle.std.proofs.Common.{◌≡◌, ◌≢◌, Bool, true, false, cond, List, [], ◌∷◌, ◌++◌, length, map, Some, refl, ap, sym, ◌∙◌, append_assoc, arith, length-append}
 use Rattle.std.specs.Prelude.{fold, find}
 use Rattle.std.specs.List.{AllByRecursion}
 use Rattle.std.specs.List.Sorted.{IsStrictlySortedBy}
 use Rattle.std.specs.BTreeSet.{insert_key}
-use Rattle.std.specs.Cmp.Lexicographic.{slice_cmp, lists_ties, texts_ties}
 use Rattle.std.specs.FinMap.Entries.{put, by_order}
-use Rattle.std.specs.Ordering.{nat_cmp, is_eq, match_ordering, ordering_reverse}
+use Rattle.std.specs.Ordering.{match_ordering, ordering_reverse}
 use Rattle.std.specs.declared.cmp.Ordering.{Ordering}
 use Rattle.std.specs.declared.cmp.Ordering.TheVariants.{Less, Equal, Greater}
-use Rattle.hub_path.specs.Path.{Name, Path, path_cmp, path_eq, ascending}
+use Rattle.hub_path.specs.Path.{Name, Path, path_cmp, ascending}
 use Rattle.hub_path.specs.Laws.{path_cmp-total, path_cmp-over, is_over-append}
 use Rattle.hub_job.specs.Waiting.{listed, put_all}
 
@@ -54,43 +53,9 @@ AllBefore xs p = AllByRecursion (λ x. path_cmp x p ≡ Less) xs
 abbrev AllAfter : Path → List Path → Type 0
 AllAfter p xs = AllByRecursion (λ x. path_cmp p x ≡ Less) xs
 
-after_more : (p q : Path) (xs : List Path) → path_cmp p q ≡ Less → AllAfter q xs → AllAfter p xs
-after_more p q [] h a = tt
-after_more p q (x ∷ xs) h a = (path_cmp-total.trans p q x h a.0, after_more p q xs h a.1)
-
 pub before_more : (xs : List Path) (p q : Path) → AllBefore xs p → path_cmp p q ≡ Less → AllBefore xs q
 before_more [] p q a h = tt
 before_more (x ∷ xs) p q a h = (path_cmp-total.trans x p q a.0 h, before_more xs p q a.1 h)
-
-after_insert : (p q : Path) (xs : List Path) → path_cmp p q ≡ Less → AllAfter p xs → AllAfter p (insert_key path_cmp xs q)
-after_insert p q [] h a = (h, tt)
-after_insert p q (x ∷ xs) h a =
-    elim (path_cmp q x) as (λ o. AllAfter p (match_ordering o (q ∷ x ∷ xs) (x ∷ xs) (x ∷ insert_key path_cmp xs q))) [
-      | Less ↦ (h, (a.0, a.1))
-      | Equal ↦ (a.0, a.1)
-      | Greater ↦ (a.0, after_insert p q xs h a.1)
-    ]
-
-pub sorted-insert : (q : Path) (xs : List Path) → IsStrictlySortedBy path_cmp xs → IsStrictlySortedBy path_cmp (insert_key path_cmp xs q)
-unfolding IsStrictlySortedBy
-sorted-insert q [] s = (tt, tt)
-sorted-insert q (x ∷ xs) s =
-    elim (path_cmp q x) as (λ o. path_cmp q x ≡ o → IsStrictlySortedBy path_cmp (match_ordering o (q ∷ x ∷ xs) (x ∷ xs) (x ∷ insert_key path_cmp xs q))) [
-      | Less ↦ λ h. ((h, after_more q x xs h s.0), s)
-      | Equal ↦ λ h. s
-      | Greater ↦ λ h. (after_insert x q xs (turned_back q x h) s.0, sorted-insert q xs s.1)
-    ] refl
-
-sorted-put_all : (ps qs : List Path) → IsStrictlySortedBy path_cmp qs → IsStrictlySortedBy path_cmp (put_all qs ps)
-sorted-put_all [] qs s = s
-sorted-put_all (p ∷ ps) qs s = sorted-put_all ps (insert_key path_cmp qs p) (sorted-insert p qs s)
-
-no_paths_sorted : IsStrictlySortedBy path_cmp []
-unfolding IsStrictlySortedBy
-no_paths_sorted = tt
-
-pub sorted-ascending : (ps : List Path) → IsStrictlySortedBy path_cmp (ascending ps)
-sorted-ascending ps = subst (λ qs. IsStrictlySortedBy path_cmp qs) (sym (ascending_is ps)) (sorted-put_all ps [] no_paths_sorted)
 
 middle_after : (p x : Path) (front rest : List Path) → AllAfter p (front ++ x ∷ rest) → path_cmp p x ≡ Less
 middle_after p x [] rest a = a.0
@@ -137,6 +102,3 @@ children_wait front rest d ns s =
 pub find_behind : (f : Path → Bool) (front rest : List Path) → AllByRecursion (λ x. f x ≡ false) front → find f (front ++ rest) ≡ find f rest
 find_behind f [] rest a = refl
 find_behind f (x ∷ front) rest a = ap (λ b. cond b (Some x) (find f (front ++ rest))) a.0 ∙ find_behind f front rest a.1
-
-pub path_eq-less : (p q : Path) → path_cmp p q ≡ Less → path_eq p q ≡ false
-path_eq-less p q h = lists_ties (slice_cmp nat_cmp) texts_ties p q ∙ ap is_eq h

@@ -30,4 +30,6 @@ abbrev pub items_of : JobValue → List Item
 items_of J = if is_finished (end_of J) then items (job.view_in J.profile J.archive J.log) else []
 
 abbrev pub archive_of : JobValue → Option Archive
-archive_of J = if is_finished (end_of J) then Some (next_archive (job.view_in J.profile J.archive J.log) J.archive) else None
+archive_of J =
+    if is_finished (end_of J) then Some
+    (next_archive (job.view_in J.profile J.archive J.log) J.archive) else None

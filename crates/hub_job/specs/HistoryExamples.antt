@@ -31,14 +31,18 @@ computed : ⊤
 unfolding answer after sight reach matches
 computed = tt
 
--- A map of a list, with one entry more, is the map of a list: so what stands after a Set is computed too.
-inserted : {X : Type 0} (es : List (Path × X)) (p : Path) (x : X) → T (is_sorted path_cmp es) → T (is_sorted path_cmp (put path_cmp p x es))
+-- A map of a list, with one entry more, is the map of a list: so what stands after a Set is
+-- computed too.
+inserted : {X : Type 0} (es : List (Path × X)) (p : Path) (x : X) → T (is_sorted path_cmp es)
+    → T (is_sorted path_cmp (put path_cmp p x es))
     → insert (from_sorted {R = path_cmp} es) p x ≡ from_sorted {R = path_cmp} (put path_cmp p x es)
 inserted es p x h k =
-    same_map path_cmp-total path_cmp-exact (insert (from_sorted {R = path_cmp} es) p x) (from_sorted {R = path_cmp} (put path_cmp p x es))
+    same_map path_cmp-total path_cmp-exact (insert (from_sorted {R = path_cmp} es) p x)
+    (from_sorted {R = path_cmp} (put path_cmp p x es))
     (λ q. get-insert path_cmp-total (from_sorted {R = path_cmp} es) p x q
     ∙ (ap (cond (eq_by_cmp path_cmp q p) (Some x)) (get-from_sorted path_cmp es q h)
-    ∙ sym (get-from_sorted path_cmp (put path_cmp p x es) q k ∙ find-put path_cmp path_cmp-total q p x es)))
+    ∙ sym (get-from_sorted path_cmp (put path_cmp p x es) q k
+    ∙ find-put path_cmp path_cmp-total q p x es)))
 
 abbrev no_bars : Bars
 no_bars = record { create = false; update = false; delete = false }
@@ -84,14 +88,21 @@ abbrev seen : Entry
 seen = record { job = 0; op = Look docs; answer = Seen mark.Directory [] false }
 
 abbrev refused : Entry
-refused = record { job = 0; op = Set (path_of (codes "docs/x/y")) (contents.File []); answer = Refused NoParent }
+refused = record {
+  job = 0;
+  op = Set (path_of (codes "docs/x/y")) (contents.File []);
+  answer = Refused NoParent;
+}
 
 nothing_hinders : set_fault nobody docs contents.Directory ≡ None
-nothing_hinders = let h : T (is_sorted path_cmp none) = tt in simp (get-from_sorted, entries-from_sorted)
+nothing_hinders =
+    let h : T (is_sorted path_cmp none) = tt in simp (get-from_sorted, entries-from_sorted)
 
 after_the_first : after nobody made.op ≡ one
 unfolding computed
-after_the_first = ap (λ o. changed_unless o nobody (insert nobody docs contents.Directory)) nothing_hinders ∙ inserted none docs contents.Directory tt tt
+after_the_first =
+    ap (λ o. changed_unless o nobody (insert nobody docs contents.Directory)) nothing_hinders
+    ∙ inserted none docs contents.Directory tt tt
 
 it_is_made : made.answer ≡ answer nobody (kept (codes "docs")) hub made.op
 unfolding computed
@@ -99,11 +110,13 @@ it_is_made = let h : T (is_sorted path_cmp none) = tt in simp (get-from_sorted, 
 
 it_is_seen : seen.answer ≡ answer one (kept (codes "docs")) hub seen.op
 unfolding computed
-it_is_seen = let h : T (is_sorted path_cmp with_docs) = tt in simp (get-from_sorted, entries-from_sorted)
+it_is_seen =
+    let h : T (is_sorted path_cmp with_docs) = tt in simp (get-from_sorted, entries-from_sorted)
 
 it_is_refused : refused.answer ≡ answer one (kept (codes "docs")) hub refused.op
 unfolding computed
-it_is_refused = let h : T (is_sorted path_cmp with_docs) = tt in simp (get-from_sorted, entries-from_sorted)
+it_is_refused =
+    let h : T (is_sorted path_cmp with_docs) = tt in simp (get-from_sorted, entries-from_sorted)
 
 -- An empty replica: a directory is made and seen, and a file without a parent is refused.
 abbrev history : List Entry
@@ -114,16 +127,22 @@ unfolding computed
 from_the_second = ((refl, it_is_seen), ((refl, it_is_refused), tt))
 
 the_history_is_legal : IsLegal profiles hub nobody history
-the_history_is_legal = ((refl, it_is_made), subst (λ m. IsLegal profiles hub m (seen ∷ refused ∷ [])) (sym after_the_first) from_the_second)
+the_history_is_legal = (
+  (refl, it_is_made),
+  subst (λ m. IsLegal profiles hub m (seen ∷ refused ∷ [])) (sym after_the_first) from_the_second,
+)
 
-a_parent_is_missing : set_fault one (path_of (codes "docs/x/y")) (contents.File []) ≡ Some set.NoParent
-a_parent_is_missing = let h : T (is_sorted path_cmp with_docs) = tt in simp (get-from_sorted, entries-from_sorted)
+a_parent_is_missing :
+    set_fault one (path_of (codes "docs/x/y")) (contents.File []) ≡ Some set.NoParent
+a_parent_is_missing =
+    let h : T (is_sorted path_cmp with_docs) = tt in simp (get-from_sorted, entries-from_sorted)
 
 it_leaves_the_directory : replay nobody history ≡ one
 unfolding computed
 it_leaves_the_directory =
     ap (λ m. replay m (seen ∷ refused ∷ [])) after_the_first
-    ∙ ap (λ o. changed_unless o one (insert one (path_of (codes "docs/x/y")) (contents.File []))) a_parent_is_missing
+    ∙ ap (λ o. changed_unless o one (insert one (path_of (codes "docs/x/y")) (contents.File [])))
+    a_parent_is_missing
 
 -- A history with an entry of a job that isn't there is not legal, nor is one with another answer.
 a_foreign_job_has_no_entry : ¬ (IsLegal profiles hub nobody (record made { job = 2 } ∷ []))
@@ -135,12 +154,16 @@ by_job = refl
 
 -- A log of two Looks, one on each side: each root has one of them.
 abbrev looked : Side → Logged
-looked side = record { side = side; step = record { job = 0; op = Look docs; answer = Seen mark.Absent [] false } }
+looked side = record {
+  side = side;
+  step = record { job = 0; op = Look docs; answer = Seen mark.Absent [] false };
+}
 
 abbrev log : List Logged
 log = looked Left ∷ looked Right ∷ []
 
-by_root : map (λ r. length (entries_at (kept (codes "docs")) r log)) (hub ∷ path_of (codes "srv/s1") ∷ path_of (codes "srv/s2") ∷ []) ≡ 1 ∷ 1 ∷ 0 ∷ []
+by_root : map (λ r. length (entries_at (kept (codes "docs")) r log))
+    (hub ∷ path_of (codes "srv/s1") ∷ path_of (codes "srv/s2") ∷ []) ≡ 1 ∷ 1 ∷ 0 ∷ []
 by_root = refl
 
 -- One Look more was stepped in the job's name than its log has: the lists differ.

@@ -12,8 +12,8 @@ use Rattle.hub_job.specs.declared.log.Logged.{Logged}
 use Rattle.hub_job.specs.Job.{next}
 use Rattle.hub_job.specs.Run.{Runs}
 
--- Its number, its profile and archive, its log, what it asked and isn't answered yet, and whether it was stopped from
--- outside or found no memory.
+-- Its number, its profile and archive, its log, what it asked and isn't answered yet, and whether
+-- it was stopped from outside or found no memory.
 pub record JobValue : Type 0 where
   pub number : ℕ
   pub profile : Parts
@@ -33,7 +33,14 @@ pub record IsJob (J : JobValue) : Type 0 where
   pub asked : IsAsked J.profile J.archive J.log J.asked
 
 abbrev pub value_of : ℕ → Parts → Archive → List Logged → Option Asked → Phase → JobValue
-value_of j P O log asked p = record { number = j; profile = P; archive = O; log = log; asked = asked; stopped = is_stopped p }
+value_of j P O log asked p = record {
+  number = j;
+  profile = P;
+  archive = O;
+  log = log;
+  asked = asked;
+  stopped = is_stopped p;
+}
 
 -- It is a job, and its phase follows its log.
 pub record IsWhole (J : JobValue) (p : Phase) : Type 0 where
@@ -48,7 +55,14 @@ IsRoomy (Some a) len capacity = len < capacity
 
 -- A job that has asked nothing.
 abbrev pub new_job : ℕ → Parts → Archive → JobValue
-new_job j P O = record { number = j; profile = P; archive = O; log = []; asked = None; stopped = false }
+new_job j P O = record {
+  number = j;
+  profile = P;
+  archive = O;
+  log = [];
+  asked = None;
+  stopped = false;
+}
 
 -- A job after a turn: it has asked what it does next.
 abbrev pub after_turn : JobValue → Bool → Next → JobValue
@@ -57,11 +71,20 @@ after_turn J stopped n = record J { asked = asked_by n; stopped = stopped }
 -- A log with what was asked and its answer.
 abbrev pub log_with : ℕ → List Logged → Option Asked → Answer → List Logged
 log_with j log None answer = log
-log_with j log (Some a) answer = log ++ record { side = a.side; step = record { job = j; op = a.op; answer = answer } } ∷ []
+log_with j log (Some a) answer = log ++ record {
+  side = a.side;
+  step = record { job = j; op = a.op; answer = answer };
+} ∷ []
 
 -- The job with an answer to what it asked.
 abbrev pub with_answer : JobValue → Asked → Answer → JobValue
-with_answer J a answer = record J { log = J.log ++ record { side = a.side; step = record { job = J.number; op = a.op; answer = answer } } ∷ []; asked = None }
+with_answer J a answer = record J {
+  log = J.log ++ record {
+    side = a.side;
+    step = record { job = J.number; op = a.op; answer = answer };
+  } ∷ [];
+  asked = None;
+}
 
 abbrev pub stopped_job : JobValue → JobValue
 stopped_job J = record J { asked = None; stopped = true }

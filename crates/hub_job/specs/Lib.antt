@@ -14,3 +14,4 @@ pub mod Outcome
 pub mod Examples
 pub mod History
 pub mod HistoryExamples
+pub mod Laws

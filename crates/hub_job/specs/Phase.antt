@@ -123,7 +123,8 @@ IsNextIn P O log (phase.Making s) n = n ≡ next P O log
 IsNextIn P O log phase.Stopped n = n ≡ Stopped
 
 -- It does this next, in a phase that follows the log.
-pub record IsNext (P : Parts) (O : Archive) (log : List Logged) (p : Phase) (n : Next) : Type 0 where
+pub record IsNext (P : Parts) (O : Archive) (log : List Logged) (p : Phase) (n : Next) :
+    Type 0 where
   pub next : IsNextIn P O log p n
   pub follows : Follows P O log p
   pub asked : IsAskedIn log p (asked_by n)
@@ -131,4 +132,6 @@ pub record IsNext (P : Parts) (O : Archive) (log : List Logged) (p : Phase) (n :
 
 -- What is next of these steps.
 abbrev pub next_step : Steps → List Logged → Next
-next_step s log = if last_refused log then Stopped else ask (fetched_last [] log) (slice_get s.steps (length log - s.looks))
+next_step s log =
+    if last_refused log then Stopped else ask (fetched_last [] log)
+    (slice_get s.steps (length log - s.looks))

@@ -1,15 +1,12 @@
-use Rattle.std.proofs.Common.{◌≡◌, ◌<◌, ◌+◌, ◌-◌, List, [], ◌∷◌, ◌++◌, length, take, get_or, refl, ap, sym, ◌∙◌, arith}
+use Rattle.std.proofs.Common.{◌≡◌, ◌<◌, ◌+◌, ◌-◌, List, [], length, take, get_or, refl, ap, sym, ◌∙◌, arith}
 use Rattle.std.specs.Prelude.{ℕ}
 use Rattle.std.proofs.lemmas.List.{take_more}
+use Rattle.hub_job.specs.Laws.Making.{fetched_last-push}
 use Rattle.hub_job.specs.declared.answer.Answer.{Answer}
 use Rattle.hub_job.specs.declared.answer.Answer.TheVariants.{Seen, Bytes, Done, Refused}
 use Rattle.hub_job.specs.declared.log.Logged.{Logged}
 use Rattle.hub_job.specs.Job.{bytes_or, fetched_last}
 use Rattle.hub_job.proofs.step.last_file.Goals as goal
-
-last_of : (bytes : List ℕ) (log : List Logged) (e : Logged) → fetched_last bytes (log ++ e ∷ []) ≡ bytes_or (fetched_last bytes log) e.step.answer
-last_of bytes [] e = refl
-last_of bytes (d ∷ log) e = last_of (bytes_or bytes d.step.answer) log e
 
 one_less : (n i : ℕ) → i < n → n - i ≡ (n - 1 - i) + 1
 one_less n i h = omega (arith, h)
@@ -22,7 +19,7 @@ at_last : (log : List Logged) (i : ℕ) (e : Logged) → i < length log
 at_last log i e h =
     ap (λ n. fetched_last [] (take n log)) (one_less (length log) i h)
     ∙ (ap (λ (es : List Logged). fetched_last [] es) (take_more log (length log - 1 - i) e (within (length log) i h))
-    ∙ last_of [] (take (length log - 1 - i) log) (get_or log (length log - 1 - i) e))
+    ∙ fetched_last-push [] (take (length log - 1 - i) log) (get_or log (length log - 1 - i) e))
 
 no_bytes : (bytes : List ℕ) (a : Answer) → ((b : List ℕ) → a ≡ Bytes b → ⊥) → bytes_or bytes a ≡ bytes
 no_bytes bytes (Seen m ns o) h = refl

@@ -1,0 +1,10 @@
+-- What holds of jobs: what a log and a history are with one more entry, what a job alone looks at
+-- and makes until it is finished, and what it leaves in a world of others.
+pub mod Untouched
+pub mod Roots
+pub mod Logs
+pub mod Histories
+pub mod Making
+pub mod Looking
+pub mod Finishing
+pub mod LoneJobs

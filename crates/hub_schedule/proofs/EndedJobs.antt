@@ -9,7 +9,6 @@ use Rattle.hub_profile.specs.Parts.{Parts}
 use Rattle.hub_tree.specs.Tree.{Replica}
 use Rattle.hub_state.specs.State.{State}
 use Rattle.hub_job.specs.declared.outcome.Outcome.{Outcome}
-use Rattle.hub_job.specs.declared.job_end.JobEnd.{JobEnd}
 use Rattle.hub_job.specs.declared.log.Logged.{Logged}
 use Rattle.hub_job.specs.JobValue.{JobValue}
 use Rattle.hub_job.specs.Outcome.{archive_of, jobs_of, IsOutcomeWith}
@@ -21,8 +20,9 @@ use Rattle.hub_schedule.specs.Ended.{ended_value, IsEnded, HasPlaces, AreEnded, 
 use Rattle.hub_schedule.specs.Left.{end_value}
 use Rattle.hub_schedule.specs.Promise.{HasReplicas, log_or_none, logs_in}
 use Rattle.hub_schedule.specs.Table.{place_on, IsOutcomeAfter, IsPlaced, IsSeat, IsTable}
-use Rattle.hub_schedule.proofs.Opened.{get_front, get_last, get_push}
-use Rattle.hub_schedule.proofs.Tables.{one_value}
+use Rattle.hub_schedule.specs.Laws.Lists.{get_front, get_last}
+use Rattle.hub_schedule.proofs.Opened.{get_push}
+use Rattle.hub_schedule.specs.Laws.Lists.{one_value}
 
 abbrev job_log : JobValue → List Logged
 job_log e = e.log

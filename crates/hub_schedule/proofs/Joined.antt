@@ -1,10 +1,13 @@
 -- The jobs and the replicas of a world at its end are an outcome of it.
-use Rattle.std.proofs.Common.{◌≡◌, ◌≢◌, ◌<◌, ◌+◌, ◌⊎◌, inl, inr, Bool, true, false, cond, ◌||◌, List, [], ◌∷◌, length, map, Some, None, Result, Ok, Err, IfOk, refl, ap, sym, ◌∙◌, subst, arith}
-use Rattle.std.specs.Prelude.{ℕ, zero, suc, IsTrue, slice_get, find, fold, is_some, unwrap_or, if◌then◌else◌}
+use Rattle.std.proofs.Common.{◌≡◌, ◌≢◌, ◌<◌, ◌+◌, ◌⊎◌, inl, inr, Bool, true, false, cond, ◌||◌, List, [], ◌∷◌, length, map, Some, None, Result, Ok, Err, IfOk, refl, ap, sym, ◌∙◌, subst}
+use Rattle.std.specs.Prelude.{ℕ, suc, IsTrue, slice_get, find, fold, is_some, unwrap_or, if◌then◌else◌}
 use Rattle.std.specs.List.{list_any, range_with_len}
 use Rattle.std.specs.FinMap as fin
 use Rattle.std.proofs.lemmas.List.{length-map}
 use Rattle.std.proofs.lemmas.Bool.{false≢true, or_cases, false_from_ne_true}
+use Rattle.std.specs.Cmp.{both_ways}
+use Rattle.hub_job.specs.Laws.Making.{none_more}
+use Rattle.hub_reconcile.specs.Laws.Views.{same_paths}
 use Rattle.hub_path.specs.Path.{Path, path_eq, is_place}
 use Rattle.hub_path.specs.declared.side.Side.{Side}
 use Rattle.hub_path.specs.declared.side.Side.TheVariants.{Left, Right}
@@ -14,7 +17,7 @@ use Rattle.hub_tree.specs.Tree.{Replica, Archive, old_mark_at}
 use Rattle.hub_reconcile.specs.Items.{items}
 use Rattle.hub_reconcile.specs.Sync.{root_or_top, next_archive}
 use Rattle.hub_state.specs.State.{State, replica_at, with_replica, root_text, pair_of}
-use Rattle.hub_state.proofs.ByRoot.{replica_put}
+use Rattle.hub_state.specs.RootTexts.{replica_put}
 use Rattle.hub_schedule.specs.Next.{NextValue}
 use Rattle.hub_job.specs.declared.op.Next.{Next}
 use Rattle.hub_job.specs.declared.op.Next.TheVariants.{Ask, Finished, Stopped}
@@ -34,29 +37,11 @@ use Rattle.hub_job.specs.Run.{root_at}
 use Rattle.hub_schedule.specs.Settled.{AreProfiles}
 use Rattle.hub_schedule.specs.Table.{place_on, stopped_at, AllWouldAsk, IsOutcomeAfter, IsPlaced, IsTable, IsThinned}
 use Rattle.hub_job.specs.World.{World, log_of, opening}
-use Rattle.hub_job.proofs.Blind.{same_path, path_itself}
-use Rattle.hub_job.proofs.InWorld.{two_roots}
+use Rattle.hub_job.specs.Laws.Untouched.{path_itself}
+use Rattle.hub_job.specs.Laws.Roots.{two_roots}
 use Rattle.hub_schedule.proofs.NextMarks.{IsNextOf, find_marks, some_leaves}
-use Rattle.hub_schedule.proofs.Promised.{listed, one_with, root_place}
-use Rattle.hub_schedule.proofs.Tables.{one_value}
-
--- Lists.
-pub map_get : {X Y : Type 0} (f : X → Y) (xs : List X) (j : ℕ) (y : Y) → slice_get (map f xs) j ≡ Some y → (x : X) × (slice_get xs j ≡ Some x) × (y ≡ f x)
-map_get f [] j y e = cc
-map_get f (x ∷ xs) zero y e = (x, refl, sym (one_value (f x) y e))
-map_get f (x ∷ xs) (suc j) y e = map_get f xs j y e
-
-map_at : {X Y : Type 0} (f : X → Y) (xs : List X) (j : ℕ) (x : X) → slice_get xs j ≡ Some x → slice_get (map f xs) j ≡ Some (f x)
-map_at f [] j x e = cc
-map_at f (y ∷ xs) zero x e = ap (λ z. Some z) (ap f (one_value y x e))
-map_at f (y ∷ xs) (suc j) x e = map_at f xs j x e
-
-pub as_long : {X Y : Type 0} (xs : List X) (ys : List Y) (j : ℕ) (y : Y) → length xs ≡ length ys → slice_get ys j ≡ Some y → (x : X) × (slice_get xs j ≡ Some x)
-as_long [] [] j y e h = cc
-as_long [] (z ∷ ys) j y e h = absurd (omega (arith, e))
-as_long (x ∷ xs) [] j y e h = cc
-as_long (x ∷ xs) (z ∷ ys) zero y e h = (x, refl)
-as_long (x ∷ xs) (z ∷ ys) (suc j) y e h = as_long xs ys j y (omega (arith, e)) h
+use Rattle.hub_schedule.proofs.Promised.{root_place}
+use Rattle.hub_schedule.specs.Laws.Lists.{listed, one_with, one_value, map_get, map_at, as_long}
 
 -- A root of a profile is that of a side.
 root_side : (P : Parts) (r : Path) → IsProfile P → has_root P r ≡ true → (k : Side) × (root_at P k ≡ r)
@@ -64,19 +49,14 @@ root_side P r facts h =
     let two = two_roots P.roots facts.roots in
     let any : (path_eq two.first r || (path_eq two.second r || false)) ≡ true = sym (ap (list_any (λ own. path_eq own r)) two.are) ∙ h in
     elim (or_cases (path_eq two.first r) (path_eq two.second r || false) any) [
-      | inl e ↦ (Left, ap (λ rs. root_or_top (at_side rs Left)) two.are ∙ same_path two.first r e)
+      | inl e ↦ (Left, ap (λ rs. root_or_top (at_side rs Left)) two.are ∙ same_paths two.first r e)
       | inr g ↦ elim (or_cases (path_eq two.second r) false g) [
-        | inl e ↦ (Right, ap (λ rs. root_or_top (at_side rs Right)) two.are ∙ same_path two.second r e)
+        | inl e ↦ (Right, ap (λ rs. root_or_top (at_side rs Right)) two.are ∙ same_paths two.second r e)
         | inr never ↦ absurd (false≢true never)
       ]
     ]
 
 -- The state with these replicas.
-pub same_test : (a b : Bool) → (a ≡ true → b ≡ true) → (b ≡ true → a ≡ true) → a ≡ b
-same_test true b f g = sym (f refl)
-same_test false true f g = g refl
-same_test false false f g = refl
-
 either_way : (a b : Bool) → (a || b) ≡ (b || a)
 either_way true true = refl
 either_way true false = refl
@@ -100,14 +80,11 @@ put_replicas replica q place (t ∷ trees) each places S =
     put_replicas replica q place trees (λ k u e. each (suc k) u e) (λ k u e. places (suc k) u e) (with_replica S t.root.now t.tree)
     ∙ (ap (cond (list_any (is_there q) trees) (Some (replica q))) (replica_put S t.root.now q t.tree (places 0 t refl) place)
     ∙ either (list_any (is_there q) trees) (is_there q t) (Some (replica q)) (Some t.tree) (replica_at S q)
-    (λ e. ap (λ m. Some m) (ap replica (same_path q t.root.now e) ∙ sym (each 0 t refl))))
+    (λ e. ap (λ m. Some m) (ap replica (same_paths q t.root.now e) ∙ sym (each 0 t refl))))
 
 put_archives : (trees : List WorkingTree) (S : State) → (fold put_tree S trees).archives ≡ S.archives
 put_archives [] S = refl
 put_archives (t ∷ trees) S = put_archives trees (with_replica S t.root.now t.tree)
-
-from_zero : (k : ℕ) → 0 + k ≡ k
-from_zero k = omega arith
 
 no_value : {X : Type 0} (x : X) → None ≡ Some x → ⊥
 no_value x e = cc
@@ -212,10 +189,10 @@ module _ (S : State) (Ps : List Parts) (has : HasReplicas S Ps) (w : World) (sea
       listed_tree r (place_on s.0 side.0) (subst (λ q. IsPlaced trees q (place_on s.0 side.0)) side.1 (a.places side.0))
 
   tree_root : (r : Path) → list_any (is_there r) trees ≡ true → list_any (λ P. has_root P r) Ps ≡ true
-  tree_root r h = let t = one_with (is_there r) trees h in ap (λ q. list_any (λ P. has_root P q) Ps) (same_path r t.1.root.now t.3) ∙ table.roots t.0 t.1 t.2
+  tree_root r h = let t = one_with (is_there r) trees h in ap (λ q. list_any (λ P. has_root P q) Ps) (same_paths r t.1.root.now t.3) ∙ table.roots t.0 t.1 t.2
 
   as_roots : (r : Path) → list_any (is_there r) trees ≡ list_any (λ P. has_root P r) Ps
-  as_roots r = same_test (list_any (is_there r) trees) (list_any (λ P. has_root P r) Ps) (tree_root r) (λ h. root_there r (one_with (λ P. has_root P r) Ps h))
+  as_roots r = both_ways (list_any (is_there r) trees) (list_any (λ P. has_root P r) Ps) (tree_root r) (λ h. root_there r (one_with (λ P. has_root P r) Ps h))
 
   replica_is : (r : Path) → is_place r ≡ true → replica_at o.state r ≡ cond (list_any (λ P. has_root P r) Ps) (Some (w.replica r)) (replica_at S r)
   replica_is r place =
@@ -250,7 +227,7 @@ module _ (S : State) (Ps : List Parts) (has : HasReplicas S Ps) (w : World) (sea
   many = length-map seats next_value ∙ table.count
 
   all_next : (k : ℕ) (n : NextValue) → slice_get (map next_value seats) k ≡ Some n → IsNextOf S Ps (log_of w) o (0 + k) n
-  all_next k n e = subst (λ i. IsNextOf S Ps (log_of w) o i n) (sym (from_zero k)) (next_at k n e)
+  all_next k n e = subst (λ i. IsNextOf S Ps (log_of w) o i n) (sym (none_more k)) (next_at k n e)
 
   archives_there : outcome.ArchivesAreThere S Ps o
   archives_there = λ r s one other off.

@@ -18,7 +18,6 @@ pub mod Tables
 pub mod NextMarks
 pub mod Opened
 pub mod Joined
-pub mod Found
 pub mod Runnable
 pub mod Merging
 pub mod Unreached

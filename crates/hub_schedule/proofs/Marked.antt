@@ -11,12 +11,12 @@ use Rattle.hub_reach.specs.Reach.{reach}
 use Rattle.hub_tree.specs.Tree.{Archive, old_mark_at}
 use Rattle.hub_state.specs.State.{State, archive_at, with_archive}
 use Rattle.hub_job.specs.Run.{root_at}
-use Rattle.hub_job.proofs.Blind.{path_itself}
-use Rattle.hub_job.proofs.InWorld.{two_roots, left_not_right}
+use Rattle.hub_job.specs.Laws.Untouched.{path_itself}
+use Rattle.hub_job.specs.Laws.Roots.{two_roots, left_not_right}
 use Rattle.hub_schedule.specs.Next.{NextValue}
 use Rattle.hub_schedule.specs.Left.{mark_in, mark_given, mark_from, mark_of_next, has_pair, is_left, one_is_left, HasArchives, HasMarks, KeepsUnreached, AreKept}
 use Rattle.hub_schedule.proofs.NextMarks.{mark_from-append}
-use Rattle.hub_schedule.proofs.Opened.{get_front, get_last}
+use Rattle.hub_schedule.specs.Laws.Lists.{get_front, get_last}
 use Rattle.hub_schedule.proofs.PairMarks.{put_given, put_there}
 use Rattle.hub_schedule.proofs.Places.{left_is, right_is}
 

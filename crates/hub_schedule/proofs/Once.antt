@@ -4,7 +4,7 @@ use Rattle.std.specs.Prelude.{◌⊎◌, filter, reverse}
 use Rattle.std.specs.List.{list_any, flat_map}
 use Rattle.std.specs.List.Sorted.{IsStrictlySortedBy}
 use Rattle.std.specs.Ordering.{eq_by_cmp}
-use Rattle.std.proofs.lemmas.Bool.{false≢true, and_parts, or_cases, or_left, or_right, or_parts, or_from, false_from_ne_true, not-false}
+use Rattle.std.proofs.lemmas.Bool.{false≢true, and_parts, or_cases, or_left, or_right, or_parts, or_from, false_from_ne_true, not-false, not-true}
 use Rattle.std.proofs.lemmas.List.{map-append, reverse-append}
 use Rattle.std.proofs.lemmas.List.Folds.{list_any-append}
 use Rattle.std.proofs.lemmas.List.Kept.{IsStrictlySortedBy-filter}
@@ -28,11 +28,11 @@ use Rattle.hub_reconcile.specs.Sync.{view_of}
 use Rattle.hub_reconcile.specs.declared.change.Change.{Change}
 use Rattle.hub_reconcile.specs.declared.item.Fate.{Fate}
 use Rattle.hub_reconcile.specs.declared.item.Fate.TheVariants.{To, Skip}
-use Rattle.hub_reconcile.proofs.Views.{paths_same, paths_sorted, unnot}
-use Rattle.hub_reconcile.proofs.Blocks.{goes, below_of}
-use Rattle.hub_reconcile.proofs.Steps.{differ}
-use Rattle.hub_reconcile.proofs.Synced.{Apart, items_apart, all_items, of_items, item_differs, flat_items}
-use Rattle.hub_reconcile.proofs.Each.{Each, each-back, each-map, each-flat_map}
+use Rattle.hub_reconcile.specs.Laws.Views.{paths_same, paths_sorted}
+use Rattle.hub_reconcile.specs.Laws.Blocks.{goes, below_of}
+use Rattle.hub_reconcile.specs.Laws.Steps.{differ}
+use Rattle.hub_reconcile.specs.Laws.Synced.{Apart, items_apart, all_items, of_items, item_differs, flat_items}
+use Rattle.hub_reconcile.specs.Laws.Each.{Each, each-back, each-map, each-flat_map}
 
 -- Lists without repetition.
 abbrev Distinct : List Path → Type 0
@@ -87,7 +87,7 @@ in_going V from p q e =
     let two = and_parts (is_present (V.mark (other from) q) && not (is_present (V.mark from q))) (among q (below V p))
     (sym (among_filter q (λ q. is_present (V.mark (other from) q) && not (is_present (V.mark from q))) (below V p)) ∙ e) in
     let marks = and_parts (is_present (V.mark (other from) q)) (not (is_present (V.mark from q))) two.0 in
-    (unnot (is_present (V.mark from q)) marks.1, two.1)
+    (not-true (is_present (V.mark from q)) marks.1, two.1)
 
 in_coming : (V : View) (from : Side) (p q : Path) → among q (coming V from p) ≡ true → (is_present (V.mark from q) ≡ true) × (among q (below V p) ≡ true)
 in_coming V from p q e = and_parts (is_present (V.mark from q)) (among q (below V p)) (sym (among_filter q (λ q. is_present (V.mark from q)) (below V p)) ∙ e)
@@ -169,7 +169,7 @@ module _ (P : Parts) (facts : IsProfile P) (A B : Replica) (O : Archive) (left :
   below_over p q e = (and_parts (is_over p q) (not (path_eq p q)) (below_of P A B O left right p q e).0).0
 
   not_itself : (p : Path) → among p (below V p) ≡ true → ⊥
-  not_itself p e = false≢true (sym (unnot (path_eq p p) (and_parts (is_over p p) (not (path_eq p p)) (below_of P A B O left right p p e).0).1) ∙ paths_same p)
+  not_itself p e = false≢true (sym (not-true (path_eq p p) (and_parts (is_over p p) (not (path_eq p p)) (below_of P A B O left right p p e).0).1) ∙ paths_same p)
 
   over_of : (p q : Path) → (q ≡ p) ⊎ (among q (below V p) ≡ true) → is_over p q ≡ true
   over_of p q (inl e) = ap (is_over p) e ∙ is_over-reflexive p

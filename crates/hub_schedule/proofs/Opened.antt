@@ -17,9 +17,8 @@ use Rattle.hub_job.specs.Outcome.{archive_of, jobs_of, replicas_of}
 use Rattle.hub_job.specs.Run.{root_at}
 use Rattle.hub_schedule.specs.Table.{place_on, stopped_at, IsPlaced, AreTrees, IsNew, Extends, IsSeat, IsTable}
 use Rattle.hub_job.specs.World.{opening}
-use Rattle.hub_job.proofs.Alone.{no_log, open_log}
-use Rattle.hub_schedule.proofs.Promised.{listed}
-use Rattle.hub_schedule.proofs.Tables.{one_value}
+use Rattle.hub_job.specs.Laws.Logs.{no_log, open_log}
+use Rattle.hub_schedule.specs.Laws.Lists.{listed, one_value}
 
 -- A new job, with its replicas in place.
 pub record IsOpened (S : State) (trees : List WorkingTree) (j : ℕ) (P : Parts) (s : Seat) : Type 0 where
@@ -108,16 +107,6 @@ module _ (S : State) (Ps : List Parts) (seats : List Seat) (trees : List Working
 
   pub none_stopped : (j : ℕ) → stopped_at seats j ≡ false
   none_stopped j = going_by j (slice_get seats j) refl
-
--- Working copies.
-pub get_front : {X : Type 0} (xs ys : List X) (k : ℕ) (x : X) → slice_get xs k ≡ Some x → slice_get (xs ++ ys) k ≡ Some x
-get_front [] ys k x e = cc
-get_front (y ∷ xs) ys zero x e = e
-get_front (y ∷ xs) ys (suc k) x e = get_front xs ys k x e
-
-pub get_last : {X : Type 0} (xs : List X) (x : X) → slice_get (xs ++ x ∷ []) (length xs) ≡ Some x
-get_last [] x = refl
-get_last (y ∷ xs) x = get_last xs x
 
 pub trees_push : (replica : Path → Replica) (trees : List WorkingTree) (t : WorkingTree) → AreTrees replica trees → t.tree ≡ replica t.root.now
     → ((k : ℕ) (u : WorkingTree) → slice_get trees k ≡ Some u → u.root.now ≢ t.root.now) → AreTrees replica (trees ++ t ∷ [])

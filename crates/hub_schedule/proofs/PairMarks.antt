@@ -4,15 +4,16 @@ use Rattle.std.specs.Prelude.{is_some, unwrap_or}
 use Rattle.std.specs.List.{list_any}
 use Rattle.std.specs.FinMap as fin
 use Rattle.std.proofs.lemmas.Bool.{false≢true, or_cases, or_left, or_right, and_parts, and_from}
+use Rattle.std.specs.Cmp.{both_ways}
+use Rattle.hub_reconcile.specs.Laws.Views.{same_paths}
 use Rattle.hub_path.specs.Path.{Path, path_eq}
 use Rattle.hub_profile.specs.Parts.{Parts, IsProfile}
 use Rattle.hub_reach.specs.Reach.{reach, has_root}
 use Rattle.hub_tree.specs.Tree.{Archive, old_mark_at}
 use Rattle.hub_state.specs.State.{State, is_pair, archive_at, with_archive}
-use Rattle.hub_state.proofs.ByRoot.{archive_put, pair_turned}
+use Rattle.hub_state.specs.RootTexts.{archive_put, pair_turned}
 use Rattle.hub_schedule.specs.Left.{mark_in, mark_given, has_pair, HasArchives, HasMarks}
-use Rattle.hub_job.proofs.Blind.{same_path, path_itself}
-use Rattle.hub_schedule.proofs.Joined.{same_test}
+use Rattle.hub_job.specs.Laws.Untouched.{path_itself}
 use Rattle.hub_schedule.proofs.Promised.{root_place}
 
 there_if : (x : Bool) (a : Archive) (o : Option Archive) → is_some (cond x (Some a) o) ≡ (x || is_some o)
@@ -35,9 +36,9 @@ module _ (P : Parts) (facts : IsProfile P) (a b : Path) (are : P.roots ≡ a ∷
   which : (r : Path) → has_root P r ≡ true → (r ≡ a) ⊎ (r ≡ b)
   which r h =
       elim (or_cases (path_eq a r) (path_eq b r || false) (sym (has_is r) ∙ h)) [
-        | inl e ↦ inl (sym (same_path a r e))
+        | inl e ↦ inl (sym (same_paths a r e))
         | inr e ↦ elim (or_cases (path_eq b r) false e) [
-          | inl e ↦ inr (sym (same_path b r e))
+          | inl e ↦ inr (sym (same_paths b r e))
           | inr never ↦ absurd (false≢true never)
         ]
       ]
@@ -49,8 +50,8 @@ module _ (P : Parts) (facts : IsProfile P) (a b : Path) (are : P.roots ≡ a ∷
   pair_both : (r s : Path) → is_pair a b r s ≡ true → AreBoth r s
   pair_both r s h =
       elim (or_cases (path_eq r a && path_eq s b) (path_eq r b && path_eq s a) h) [
-        | inl e ↦ let w = and_parts (path_eq r a) (path_eq s b) e in inl (same_path r a w.0, same_path s b w.1)
-        | inr e ↦ let w = and_parts (path_eq r b) (path_eq s a) e in inr (same_path r b w.0, same_path s a w.1)
+        | inl e ↦ let w = and_parts (path_eq r a) (path_eq s b) e in inl (same_paths r a w.0, same_paths s b w.1)
+        | inr e ↦ let w = and_parts (path_eq r b) (path_eq s a) e in inr (same_paths r b w.0, same_paths s a w.1)
       ]
 
   both_pair : (r s : Path) → AreBoth r s → is_pair a b r s ≡ true
@@ -76,7 +77,7 @@ module _ (P : Parts) (facts : IsProfile P) (a b : Path) (are : P.roots ≡ a ∷
       ]
 
   as_pair : (r s : Path) → r ≢ s → is_pair a b r s ≡ (has_root P r && has_root P s)
-  as_pair r s off = same_test (is_pair a b r s) (has_root P r && has_root P s) (λ h. both_has r s (pair_both r s h)) (λ h. both_pair r s (has_both r s off h))
+  as_pair r s off = both_ways (is_pair a b r s) (has_root P r && has_root P s) (λ h. both_has r s (pair_both r s h)) (λ h. both_pair r s (has_both r s off h))
 
   turned : (S : State) (r s : Path) → AreBoth r s → archive_at S a b ≡ archive_at S r s
   turned S r s (inl w) = λ i. archive_at S (sym w.0 i) (sym w.1 i)

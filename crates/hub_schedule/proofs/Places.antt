@@ -1,17 +1,14 @@
 -- Where the replicas of a profile's roots stand.
-use Rattle.std.proofs.Common.{◌≡◌, ◌⊎◌, ◌-◌, inl, inr, ℕ, true, List, [], ◌∷◌, ◌++◌, length, Some, slice_get, slice_index_or, refl, ap, sym, ◌∙◌, subst, length-append, arith}
+use Rattle.std.proofs.Common.{◌≡◌, ◌⊎◌, ◌-◌, inl, inr, ℕ, List, [], ◌∷◌, ◌++◌, length, Some, slice_get, slice_index_or, refl, ap, sym, ◌∙◌, length-append, arith}
 use Rattle.hub_path.specs.Path.{Path}
-use Rattle.hub_path.specs.declared.side.Side.{Side}
 use Rattle.hub_path.specs.declared.side.Side.TheVariants.{Left, Right}
 use Rattle.hub_profile.specs.Parts.{Parts, IsProfile, at_side}
-use Rattle.hub_reach.specs.Reach.{has_root}
 use Rattle.hub_reconcile.specs.Sync.{root_or_top}
 use Rattle.hub_job.specs.Run.{root_at}
-use Rattle.hub_job.proofs.Core.{has_its_root}
-use Rattle.hub_job.proofs.InWorld.{two_roots, side_root}
+use Rattle.hub_job.specs.Laws.Roots.{two_roots, has_own}
 use Rattle.hub_schedule.specs.declared.seat.WorkingTree.{WorkingTree}
 use Rattle.hub_schedule.specs.Table.{IsPlaced, Extends}
-use Rattle.hub_schedule.proofs.Opened.{get_last}
+use Rattle.hub_schedule.specs.Laws.Lists.{get_last}
 
 -- The replica that was put last.
 pub placed_last : (old new : List WorkingTree) (t : WorkingTree) (n : ℕ) → new ≡ old ++ t ∷ [] → n ≡ length new → IsPlaced new t.root.now (n - 1)
@@ -29,10 +26,6 @@ module _ (P : Parts) (facts : IsProfile P) (rs : List Path) (is : rs ≡ P.roots
   right_is =
       let two = two_roots P.roots facts.roots in
       ap (λ qs. slice_index_or qs 1 d) (is ∙ two.are) ∙ sym (ap (λ qs. root_or_top (at_side qs Right)) two.are)
-
--- A profile has its roots.
-pub has_own : (P : Parts) → IsProfile P → (side : Side) (r : Path) → r ≡ root_at P side → has_root P r ≡ true
-has_own P facts side r e = subst (λ q. has_root P q ≡ true) (sym e) (has_its_root P side (root_at P side) (side_root P facts 0 side))
 
 -- Replicas were put for the left root, and then for the right one.
 pub both_put : (P : Parts) → IsProfile P → (old mid new : List WorkingTree) (l r : Path) → l ≡ root_at P Left → r ≡ root_at P Right

@@ -4,6 +4,7 @@ use Rattle.std.specs.Prelude.{◌==◌, ℕ, IsTrue, slice_get, filter, replicat
 use Rattle.std.proofs.lemmas.Bool.{false_from_ne_true}
 use Rattle.std.proofs.lemmas.List.{map-append}
 use Rattle.std.proofs.lemmas.List.Elements.{filter-append}
+use Rattle.hub_reconcile.specs.Laws.Synced.{item_by}
 use Rattle.hub_path.specs.Path.{Path}
 use Rattle.hub_path.specs.declared.side.Side.TheVariants.{Left, Right}
 use Rattle.hub_profile.specs.Parts.{Parts, at_side, is_root_at}
@@ -26,11 +27,11 @@ use Rattle.hub_job.specs.World.{Jobs, log_of, run, opening}
 use Rattle.hub_job.specs.History.{replay, IsLegal, entries_of, entries_at}
 use Rattle.hub_schedule.specs.Settled.{AreProfiles, IsSettled}
 use Rattle.hub_schedule.specs.Together.{SetsAreAllowed, NoRuleForbids}
-use Rattle.hub_job.proofs.Alone.{a_log_each}
+use Rattle.hub_job.specs.Laws.Logs.{a_log_each}
 use Rattle.hub_schedule.proofs.Apart.{may_at_entry}
-use Rattle.hub_job.proofs.Blind.{write-reaches, passes-itself}
-use Rattle.hub_job.proofs.InWorld.{by_side, run_pair, open_pair}
-use Rattle.hub_schedule.proofs.Threads.{AnswersAlike, OwnAlike, OthersAlike, MayAll, Answers, Projects, project, alone_from, root_there, no_log_yet, may_all}
+use Rattle.hub_job.specs.Laws.Untouched.{write-reaches, passes-itself}
+use Rattle.hub_job.specs.Laws.LoneJobs.{by_side, run_pair, open_pair}
+use Rattle.hub_schedule.proofs.Threads.{AnswersAlike, OwnAlike, OthersAlike, MayAll, Answers, Projects, project, alone_from, no_log_yet, may_all}
 use Rattle.hub_schedule.proofs.Verbs.{AllowedOp, AllowedNext, alone_allowed}
 
 head_or : Entry → List Entry → Entry
@@ -194,7 +195,7 @@ module _ (asks : AsksMay) (answers : AnswersAlike) (own : OwnAlike) (others : Ot
       alike p (inl (passes-itself Q p (write-reaches Q r p writes))) ∙ ap (λ es. contents_at (replay (replicas r) es) p) (sym place.before) in (
         writes,
         ap (λ x. may_at Q r p (verb_of (mark_of x) (mark_of c))) there
-            ∙ allowed_alone j Q r p c place.front place.here place.rest is place.whole (ap (λ x. x.op) place.is ∙ op) (root_there r (at_side Q.roots place.here.side) place.at) has,
+            ∙ allowed_alone j Q r p c place.front place.here place.rest is place.whole (ap (λ x. x.op) place.is ∙ op) (item_by r (at_side Q.roots place.here.side) place.at) has,
       )
 
 pub safe_apart : (Ps : List Parts) (Rs : List Rule) → IsSafe Ps Rs → AreApart Ps

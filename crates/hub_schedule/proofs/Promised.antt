@@ -3,7 +3,10 @@ use Rattle.std.proofs.Common.{◌≡◌, ◌≢◌, ◌≤◌, ◌<◌, ◌+◌,
 use Rattle.std.specs.Prelude.{◌==◌, ℕ, zero, suc, IsTrue, slice_get, find, unwrap_or, replicate}
 use Rattle.std.specs.List.{list_any, list_all, range_with_len}
 use Rattle.std.specs.FinMap as fin
-use Rattle.std.proofs.lemmas.Bool.{false≢true, and_parts, and_from, or_cases, or_left, or_right, cases_eq, false_from_ne_true}
+use Rattle.std.proofs.lemmas.Bool.{false≢true, and_parts, and_from, or_cases, cases_eq}
+use Rattle.std.proofs.lemmas.Option.{slice_get_within}
+use Rattle.hub_schedule.specs.Laws.Unchanged.{Takes, takes_is, foreign}
+use Rattle.hub_reconcile.specs.Laws.Views.{same_paths}
 use Rattle.hub_path.specs.Laws.{is_over-reflexive}
 use Rattle.hub_path.specs.Path.{Name, Path, path_eq, path_cmp, parent, is_place, none_over}
 use Rattle.hub_path.specs.declared.side.Side.{Side}
@@ -15,7 +18,7 @@ use Rattle.hub_tree.specs.Tree.{Replica, Archive, IsTree, contents_at, old_mark_
 use Rattle.hub_tree.specs.declared.contents.Contents.TheVariants as contents
 use Rattle.hub_reconcile.specs.Items.{items}
 use Rattle.hub_reconcile.specs.Sync.{view_of, next_archive}
-use Rattle.hub_reconcile.proofs.Archived.{archived}
+use Rattle.hub_reconcile.specs.Laws.Archived.{archived}
 use Rattle.hub_state.specs.State.{State, IsState, replica_at, archive_at, root_text}
 use Rattle.hub_job.specs.declared.job_end.End.{End}
 use Rattle.hub_job.specs.declared.job_end.End.TheVariants as end
@@ -33,29 +36,13 @@ use Rattle.hub_schedule.specs.Settled.{AreProfiles}
 use Rattle.hub_schedule.specs.Together.{left_at, LogsAreAlone, OwnPathsAreAlone, ElsewhereIsAsBefore}
 use Rattle.hub_job.specs.Ends.{end_by, is_finished}
 use Rattle.hub_job.specs.Outcome.{archive_of, jobs_of, replicas_of, takes, mark_for, mark_by, IsEndOf}
-use Rattle.hub_schedule.specs.Promise.{log_or_none, logs_in, HasReplicas, Settles, IsSynchronized, ForeignAreAsBefore, OldMarksStay}
-use Rattle.hub_job.proofs.Blind.{same_path, path_itself}
-use Rattle.hub_job.proofs.Core.{has_its_root}
-use Rattle.hub_job.proofs.InWorld.{two_roots, by_side, side_root, left_not_right}
+use Rattle.hub_schedule.specs.Promise.{log_or_none, logs_in, HasReplicas, Settles, IsSynchronized}
+use Rattle.hub_job.specs.Laws.Untouched.{path_itself}
+use Rattle.hub_job.specs.Laws.Roots.{has_its_root}
+use Rattle.hub_job.specs.Laws.Roots.{two_roots, side_root, left_not_right}
+use Rattle.hub_job.specs.Laws.LoneJobs.{by_side}
 use Rattle.hub_schedule.proofs.Finished.{alone_enough, finished_synced}
-
--- Lists and options.
-passing : {X : Type 0} (t : X → Bool) (o : Option X) → some_passes t o ≡ true → (x : X) × (o ≡ Some x) × (t x ≡ true)
-passing t None h = absurd (false≢true h)
-passing t (Some x) h = (x, refl, h)
-
-pub listed : {X : Type 0} (t : X → Bool) (xs : List X) (j : ℕ) (x : X) → slice_get xs j ≡ Some x → t x ≡ true → list_any t xs ≡ true
-listed t [] j x is h = cc
-listed t (y ∷ xs) zero x is h = or_left (t y) (list_any t xs) (ap (some_passes t) is ∙ h)
-listed t (y ∷ xs) (suc j) x is h = or_right (t y) (list_any t xs) (listed t xs j x is h)
-
-pub one_with : {X : Type 0} (t : X → Bool) (xs : List X) → list_any t xs ≡ true → (j : ℕ) × (x : X) × (slice_get xs j ≡ Some x) × (t x ≡ true)
-one_with t [] h = absurd (false≢true h)
-one_with {X} t (y ∷ xs) h =
-    elim (t y) as (λ b. t y ≡ b → (b || list_any t xs) ≡ true → (j : ℕ) × (x : X) × (slice_get (y ∷ xs) j ≡ Some x) × (t x ≡ true)) [
-      | true ↦ λ e g. (0, y, refl, e)
-      | false ↦ λ e g. let w = one_with t xs g in (suc w.0, w.1, w.2, w.3)
-    ] refl h
+use Rattle.hub_schedule.specs.Laws.Lists.{listed, one_with}
 
 number_or : ℕ → Option ℕ → ℕ
 number_or i None = i
@@ -77,10 +64,6 @@ found_passes t (x ∷ xs) i e =
       | false ↦ λ g h. found_passes t xs i h
     ] refl e
 
-none_passes : (t : ℕ → Bool) (xs : List ℕ) → ((i : ℕ) → t i ≡ false) → find t xs ≡ None
-none_passes t [] never = refl
-none_passes t (x ∷ xs) never = ap (λ b. cond b (Some x) (find t xs)) (never x) ∙ none_passes t xs never
-
 not_none : (t : ℕ → Bool) (j a n : ℕ) → a ≤ j → j < a + n → t j ≡ true → find t (range_with_len a n) ≡ None → ⊥
 not_none t j a zero l h passes none = absurd (omega (arith, l, h))
 not_none t j a (suc n) l h passes none =
@@ -95,11 +78,6 @@ only_one : (t : ℕ → Bool) (j n : ℕ) (o : Option ℕ) → find t (range_wit
 only_one t j n None e l h only = absurd (not_none t j 0 n (omega arith) (omega (arith, l)) h e)
 only_one t j n (Some i) e l h only = ap (λ k. Some k) (only i (found_passes t (range_with_len 0 n) i e))
 
-within : (Ps : List Parts) (j : ℕ) (P : Parts) → slice_get Ps j ≡ Some P → j < length Ps
-within [] j P e = cc
-within (Q ∷ Ps) zero P e = omega arith
-within (Q ∷ Ps) (suc j) P e = let h = within Ps j P e in omega (arith, h)
-
 -- Ends.
 next_of : (n : Next) → end_by n ≡ end.Finished → n ≡ Finished
 next_of (Ask side op) e = cc
@@ -108,11 +86,6 @@ next_of Stopped e = cc
 
 stopped_or_finished : (x : End) → x ≡ end.Stopped → x ≡ end.Finished → ⊥
 stopped_or_finished x e f = let both : end.Stopped ≡ end.Finished = sym e ∙ f in cc
-
-finished_of : (x : End) → is_finished x ≡ true → x ≡ end.Finished
-finished_of end.Finished e = refl
-finished_of end.Stopped e = absurd (false≢true e)
-finished_of end.Unfinished e = absurd (false≢true e)
 
 pub end_next : (S : State) (P : Parts) (e : JobEnd) → IsEndOf S P e → e.end ≡ end.Finished → next P (archive_of S (Some P)) e.log ≡ Finished
 end_next S P e is done =
@@ -159,12 +132,12 @@ roots_two : (t : Path → Bool) (a b r s : Path) → r ≢ s → (path_eq a r ||
 roots_two t a b r s off x y f g =
     elim (or_cases (path_eq a r) (path_eq b r || false) x) [
       | inl e ↦ elim (or_cases (path_eq a s) (path_eq b s || false) y) [
-        | inl h ↦ absurd (off (sym (same_path a r e) ∙ same_path a s h))
-        | inr h ↦ and_from (t a) (t b && true) (ap t (same_path a r e) ∙ f) (and_from (t b) true (ap t (same_path b s (or_alone (path_eq b s) h)) ∙ g) refl)
+        | inl h ↦ absurd (off (sym (same_paths a r e) ∙ same_paths a s h))
+        | inr h ↦ and_from (t a) (t b && true) (ap t (same_paths a r e) ∙ f) (and_from (t b) true (ap t (same_paths b s (or_alone (path_eq b s) h)) ∙ g) refl)
       ]
       | inr e ↦ elim (or_cases (path_eq a s) (path_eq b s || false) y) [
-        | inl h ↦ and_from (t a) (t b && true) (ap t (same_path a s h) ∙ g) (and_from (t b) true (ap t (same_path b r (or_alone (path_eq b r) e)) ∙ f) refl)
-        | inr h ↦ absurd (off (sym (same_path b r (or_alone (path_eq b r) e)) ∙ same_path b s (or_alone (path_eq b s) h)))
+        | inl h ↦ and_from (t a) (t b && true) (ap t (same_paths a s h) ∙ g) (and_from (t b) true (ap t (same_paths b r (or_alone (path_eq b r) e)) ∙ f) refl)
+        | inr h ↦ absurd (off (sym (same_paths b r (or_alone (path_eq b r) e)) ∙ same_paths b s (or_alone (path_eq b s) h)))
       ]
     ]
 
@@ -173,26 +146,6 @@ pair_shared P Q r s facts off a b c d =
     let two = two_roots P.roots facts.roots in
     ap (list_all (has_root Q)) two.are
     ∙ roots_two (has_root Q) two.first two.second r s off (ap (list_any (λ own. path_eq own r)) (sym two.are) ∙ a) (ap (list_any (λ own. path_eq own s)) (sym two.are) ∙ b) c d
-
--- What it is that a job's marks are taken.
-record Takes (Ps : List Parts) (o : Outcome) (r s p : Path) (j : ℕ) : Type 0 where
-  profile : Parts
-  ended : JobEnd
-  is : slice_get Ps j ≡ Some profile
-  at : slice_get o.jobs j ≡ Some ended
-  finished : ended.end ≡ end.Finished
-  first : has_root profile r ≡ true
-  second : has_root profile s ≡ true
-  reaches : reach profile p ≡ true
-
-takes_is : (Ps : List Parts) (o : Outcome) (r s p : Path) (j : ℕ) → takes o Ps r s p j ≡ true → Takes Ps o r s p j
-takes_is Ps o r s p j h =
-    let two = and_parts (some_passes (λ e. is_finished e.end) (slice_get o.jobs j)) (some_passes (λ P. has_root P r && has_root P s && reach P p) (slice_get Ps j)) h in
-    let e = passing (λ (e : JobEnd). is_finished e.end) (slice_get o.jobs j) two.0 in
-    let P = passing (λ (P : Parts). has_root P r && has_root P s && reach P p) (slice_get Ps j) two.1 in
-    let three = and_parts (has_root P.0 r && has_root P.0 s) (reach P.0 p) P.2 in
-    let roots = and_parts (has_root P.0 r) (has_root P.0 s) three.0 in
-    record { profile = P.0; ended = e.0; is = P.1; at = e.1; finished = finished_of e.0.end e.2; first = roots.0; second = roots.1; reaches = three.1 }
 
 takes_one : (Ps : List Parts) (Rs : List Rule) (o : Outcome) (r s p : Path) (i j : ℕ) → IsSafe Ps Rs → AreProfiles Ps → r ≢ s → Takes Ps o r s p i → Takes Ps o r s p j → i ≡ j
 takes_one Ps Rs o r s p i j safe valid off a b =
@@ -218,7 +171,7 @@ one_of f r [] all h = absurd (false≢true h)
 one_of f r (q ∷ rs) all h =
     let two = and_parts (f q) (list_all f rs) all in
     elim (or_cases (path_eq q r) (list_any (λ own. path_eq own r) rs) h) [
-      | inl e ↦ ap f (sym (same_path q r e)) ∙ two.0
+      | inl e ↦ ap f (sym (same_paths q r e)) ∙ two.0
       | inr k ↦ one_of f r rs two.1 k
     ]
 
@@ -241,13 +194,6 @@ module _ (S : State) (Ps : List Parts) (histories : Path → List Entry) (o : Ou
       ap (λ x. unwrap_or x fin.empty)
       (settles.outcome.replicas r m.0 (root_place P r (facts j P is) has) m.1 ∙ ap (λ b. Some (cond b (replay (before r) (histories r)) m.0)) (listed (λ P. has_root P r) Ps j P is has))
 
-  foreign_by : (r : Path) (x : Option Replica) → IsTrue (is_place r) → list_any (λ P. has_root P r) Ps ≡ false → replica_at S r ≡ x → replica_at o.state r ≡ x
-  foreign_by r None place none e = settles.outcome.others r place e
-  foreign_by r (Some m) place none e = settles.outcome.replicas r m place e ∙ ap (λ b. Some (cond b (replay (before r) (histories r)) m)) none
-
-  pub foreign : ForeignAreAsBefore S Ps o.state
-  foreign = λ r place none. foreign_by r (replica_at S r) place none refl
-
   pub own : AreProfiles Ps → HasReplicas S Ps → OwnPathsAreAlone J before (left_at before histories) (logs_in o) → OwnPathsAreAlone J before (replicas_of o.state) (logs_in o)
   own facts there alone = λ j P r q is has h. ap (λ m. contents_at m q) (left_in facts there j P r is has) ∙ alone j P r q is has h
 
@@ -256,22 +202,16 @@ module _ (S : State) (Ps : List Parts) (histories : Path → List Entry) (o : Ou
   elsewhere facts there stays r place = λ q never.
       elim (list_any (λ P. has_root P r) Ps) as (λ b. list_any (λ P. has_root P r) Ps ≡ b → contents_at (replicas_of o.state r) q ≡ contents_at (before r) q) [
         | true ↦ λ e. let w = one_with (λ P. has_root P r) Ps e in ap (λ m. contents_at m q) (left_in facts there w.0 w.1 r w.2 w.3) ∙ stays w.0 w.1 r w.2 w.3 q never
-        | false ↦ λ e. ap (λ x. contents_at (unwrap_or x fin.empty) q) (foreign r place e)
+        | false ↦ λ e. ap (λ x. contents_at (unwrap_or x fin.empty) q) (foreign S Ps histories o settles r place e)
       ] refl
 
   -- Archives.
-  pub marks_stay : OldMarksStay S Ps o
-  marks_stay = λ r s p one other off never.
-      let none = none_passes (takes o Ps r s p) (range_with_len 0 (length Ps))
-      (λ i. false_from_ne_true (takes o Ps r s p i) (λ h. let w = takes_is Ps o r s p i h in false≢true (sym (never i w.profile w.ended w.is w.at w.finished w.first w.second) ∙ w.reaches))) in
-      settles.outcome.archives r s p one other off ∙ ap (mark_by S Ps (logs_in o) p (old_mark_at (unwrap_or (archive_at S r s) fin.empty) p)) none
-
   mark_taken : (Rs : List Rule) → IsSafe Ps Rs → AreProfiles Ps → (j : ℕ) (P : Parts) (e : JobEnd) (r s p : Path) → slice_get Ps j ≡ Some P → slice_get o.jobs j ≡ Some e → e.end ≡ end.Finished
       → r ≢ s → has_root P r ≡ true → has_root P s ≡ true → reach P p ≡ true
       → old_mark_at (unwrap_or (archive_at o.state r s) fin.empty) p ≡ old_mark_at (next_archive (view_in P (archive_of S (Some P)) (logs_in o j)) (archive_of S (Some P))) p
   mark_taken Rs safe valid j P e r s p is at done off a b h =
       let taken = takes_from Ps o r s p j P e is at done a b h in
-      let one = only_one (takes o Ps r s p) j (length Ps) (find (takes o Ps r s p) (range_with_len 0 (length Ps))) refl (within Ps j P is) taken
+      let one = only_one (takes o Ps r s p) j (length Ps) (find (takes o Ps r s p) (range_with_len 0 (length Ps))) refl (slice_get_within Ps j P is) taken
       (λ i g. takes_one Ps Rs o r s p i j safe valid off (takes_is Ps o r s p i g) (takes_is Ps o r s p j taken)) in
       let old = old_mark_at (unwrap_or (archive_at S r s) fin.empty) p in
       settles.outcome.archives r s p (root_place P r (valid j P is) a) (root_place P s (valid j P is) b) off ∙ (ap (mark_by S Ps (logs_in o) p old) one ∙ ap (mark_for S (logs_in o) p old j) is)

@@ -12,7 +12,7 @@ use Rattle.hub_job.specs.Outcome.{IsSimulated}
 use Rattle.hub_schedule.specs.Refusals.{IsUnrun, LacksReplica}
 use Rattle.hub_schedule.specs.Table.{IsInRounds, whole_rounds}
 use Rattle.hub_schedule.specs.Simulated.{AllHaveEnough, EnoughTurnsEnd, HaveEnded, TurnsSuffice, turns_of}
-use Rattle.hub_schedule.proofs.Joined.{as_long}
+use Rattle.hub_schedule.specs.Laws.Lists.{as_long}
 use Rattle.hub_schedule.proofs.Simulation.{if_both}
 
 other_end : end.Unfinished ≡ end.Stopped → ⊥

@@ -3,6 +3,7 @@ use Rattle.std.proofs.Common.{◌≡◌, Bool, true, false, cond, List, [], ◌�
 use Rattle.std.specs.Prelude.{ℕ, zero, suc, IsTrue, slice_get}
 use Rattle.std.specs.List.{list_any}
 use Rattle.std.proofs.lemmas.Bool.{false≢true, or_left, or_right}
+use Rattle.hub_reconcile.specs.Laws.Views.{same_paths}
 use Rattle.hub_path.specs.Path.{Path, path_eq}
 use Rattle.hub_path.specs.declared.side.Side.{Side}
 use Rattle.hub_profile.specs.Parts.{Parts, at_side, some_passes}
@@ -16,8 +17,7 @@ use Rattle.hub_job.specs.Machine.{after}
 use Rattle.hub_job.specs.World.{World, Jobs, log_of, event, act, turn_of, turn, run, opening}
 use Rattle.hub_schedule.specs.Settled.{IsSettledWorld}
 use Rattle.hub_schedule.specs.Together.{left_at, OwnPathsAreAlone, ElsewhereIsAsBefore}
-use Rattle.hub_job.proofs.Blind.{same_path}
-use Rattle.hub_job.proofs.Core.{has_its_root}
+use Rattle.hub_job.specs.Laws.Roots.{has_its_root}
 
 pub world_own : (J : Jobs) (replicas : Path → Replica) (w : World) → IsSettledWorld J replicas w → OwnPathsAreAlone J replicas (left_at replicas w.history) (log_of w) → OwnPathsAreAlone J replicas w.replica (log_of w)
 world_own J replicas w settled own = λ j P r q is has h. ap (λ m. contents_at m q) (settled.replayed r) ∙ own j P r q is has h
@@ -39,7 +39,7 @@ event_foreign : (J : Jobs) (i : ℕ) (Q : Parts) (r : Path) (w : World) (side : 
 event_foreign J i Q r w side op None is none at = refl
 event_foreign J i Q r w side op (Some s) is none at =
     elim (path_eq s r) as (λ b. path_eq s r ≡ b → cond b (after (w.replica s) op) (w.replica r) ≡ w.replica r) [
-      | true ↦ λ e. absurd (false≢true (sym none ∙ listed (λ P. has_root P r) J.profiles i Q is (subst (λ t. IsTrue (has_root Q t)) (same_path s r e) (has_its_root Q side s at))))
+      | true ↦ λ e. absurd (false≢true (sym none ∙ listed (λ P. has_root P r) J.profiles i Q is (subst (λ t. IsTrue (has_root Q t)) (same_paths s r e) (has_its_root Q side s at))))
       | false ↦ λ e. refl
     ] refl
 

@@ -13,7 +13,7 @@ use Rattle.hub_job.specs.Machine.{after}
 use Rattle.hub_job.specs.Alike.{May}
 use Rattle.hub_job.specs.Same.{AsksMay, AreApart}
 use Rattle.hub_job.specs.World.{Jobs}
-use Rattle.hub_job.proofs.Blind.{untouched}
+use Rattle.hub_job.specs.Laws.Untouched.{untouched}
 use Rattle.hub_job.specs.History.{IsLegal}
 use Rattle.hub_schedule.specs.Settled.{IsSettled}
 use Rattle.hub_schedule.specs.Owned.{IsItsOwn}

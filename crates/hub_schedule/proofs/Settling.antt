@@ -1,14 +1,18 @@
 -- The histories of a world and the logs of its jobs fit together, whatever the schedule is.
-use Rattle.std.proofs.Common.{◌≡◌, ◌≢◌, ◌<◌, Bool, true, false, cond, List, [], ◌∷◌, ◌++◌, length, map, Option, Some, None, refl, ap, sym, ◌∙◌, subst, arith, append_assoc, length-set, eq-eqb}
+use Rattle.std.proofs.Common.{◌≡◌, ◌≢◌, ◌<◌, Bool, true, false, cond, List, [], ◌∷◌, ◌++◌, length, map, Option, Some, None, refl, ap, sym, ◌∙◌, subst, arith, length-set, eq-eqb}
 use Rattle.std.specs.Prelude.{◌==◌, ℕ, zero, suc, slice_get, slice_index_or, filter}
 use Rattle.std.proofs.lemmas.List.{append-nil, map-append, get_or-set_same, get_or-set_other}
 use Rattle.std.proofs.lemmas.List.Elements.{filter-append}
 use Rattle.std.proofs.lemmas.Bool.{false≢true}
+use Rattle.std.proofs.lemmas.Option.{slice_get_within}
+use Rattle.hub_job.specs.Laws.Histories.{replay-push, legal-push}
+use Rattle.hub_job.specs.Laws.Logs.{runs-push, no_log}
+use Rattle.hub_reconcile.specs.Laws.Views.{same_paths}
 use borrow.Author.Tests.{eqb-true}
 use Rattle.hub_path.specs.Path.{Path, path_eq}
 use Rattle.hub_path.specs.declared.side.Side.{Side}
 use Rattle.hub_profile.specs.Parts.{Parts, at_side, is_root_at}
-use Rattle.hub_tree.specs.Tree.{Replica, Archive, contents_at, set_fault}
+use Rattle.hub_tree.specs.Tree.{Replica, contents_at, set_fault}
 use Rattle.hub_tree.specs.declared.contents.Contents.{Contents}
 use Rattle.hub_tree.specs.declared.contents.Contents.TheVariants as contents
 use Rattle.hub_tree.specs.declared.fault.SetFault.{SetFault}
@@ -24,26 +28,10 @@ use Rattle.hub_job.specs.Run.{Runs}
 use Rattle.hub_job.specs.World.{World, Jobs, log_of, entry, event, act, turn_of, turn, run, opening}
 use Rattle.hub_job.specs.History.{replay, IsAnswerOf, IsLegal, entries_of, entries_at}
 use Rattle.hub_schedule.specs.Settled.{IsSettledWorld}
-use Rattle.hub_job.proofs.Blind.{same_path}
-use Rattle.hub_job.proofs.Core.{has_its_root}
-use Rattle.hub_job.proofs.Alone.{no_log}
+use Rattle.hub_job.specs.Laws.Roots.{has_its_root}
 use Rattle.hub_schedule.proofs.Threads.{root_is}
 
 -- One entry more.
-runs-push : (P : Parts) (O : Archive) (j : ℕ) (front es : List Logged) (e : Logged) → Runs P O j front es → next P O (front ++ es) ≡ Ask e.side e.step.op → Fits e.step.op e.step.answer → e.step.job ≡ j
-    → Runs P O j front (es ++ e ∷ [])
-runs-push P O j front [] e runs asks fits is = (ap (next P O) (sym (append-nil front)) ∙ asks, fits, is, tt)
-runs-push P O j front (x ∷ es) e runs asks fits is =
-    (runs.0, runs.1, runs.2, runs-push P O j (front ++ x ∷ []) es e runs.3 (ap (next P O) (append_assoc front (x ∷ []) es) ∙ asks) fits is)
-
-pub replay-push : (m : Replica) (h : List Entry) (e : Entry) → replay m (h ++ e ∷ []) ≡ after (replay m h) e.op
-replay-push m [] e = refl
-replay-push m (x ∷ h) e = replay-push (after m x.op) h e
-
-legal-push : (Ps : List Parts) (r : Path) (m : Replica) (h : List Entry) (e : Entry) → IsLegal Ps r m h → IsAnswerOf r (replay m h) e (slice_get Ps e.job) → IsLegal Ps r m (h ++ e ∷ [])
-legal-push Ps r m [] e legal is = (is, tt)
-legal-push Ps r m (x ∷ h) e legal is = (legal.0, legal-push Ps r (after m x.op) h e legal.1 is)
-
 entries_of-push : (j : ℕ) (h : List Entry) (e : Entry) (b : Bool) → (e.job == j) ≡ b → entries_of j (h ++ e ∷ []) ≡ entries_of j h ++ cond b (e ∷ []) []
 entries_of-push j h e b is = filter-append (λ (e : Entry). e.job == j) h (e ∷ []) ∙ ap (λ b. entries_of j h ++ cond b (e ∷ []) []) is
 
@@ -71,11 +59,6 @@ answer-fits m P r (Look d) = tt
 answer-fits m P r (Fetch p) = fetched-fits p (contents_at m p)
 answer-fits m P r (Set p c) = done-fits p c (set_fault m p c)
 
-within : (Ps : List Parts) (j : ℕ) (P : Parts) → slice_get Ps j ≡ Some P → j < length Ps
-within [] j P e = cc
-within (Q ∷ Ps) zero P e = omega arith
-within (Q ∷ Ps) (suc j) P e = let h = within Ps j P e in omega (arith, h)
-
 parts_or : Parts → Option Parts → Parts
 parts_or P None = P
 parts_or P (Some Q) = Q
@@ -99,7 +82,7 @@ module _ (J : Jobs) (replicas : Path → Replica) (i : ℕ) (Q : Parts) (is : sl
   v = event Q i side op w (Some r)
 
   own_log : log_of v i ≡ log_of w i ++ logged ∷ []
-  own_log = get_or-set_same w.logs i _ [] (subst (λ n. i < n) (sym settled.count) (within J.profiles i Q is))
+  own_log = get_or-set_same w.logs i _ [] (subst (λ n. i < n) (sym settled.count) (slice_get_within J.profiles i Q is))
 
   other_log : (j : ℕ) → (i == j) ≡ false → log_of v j ≡ log_of w j
   other_log j e = get_or-set_other w.logs i j _ [] (off i j e)
@@ -121,7 +104,7 @@ module _ (J : Jobs) (replicas : Path → Replica) (i : ℕ) (Q : Parts) (is : sl
 
   legal_by : (s : Path) (b : Bool) → path_eq r s ≡ b → IsLegal J.profiles s (replicas s) (w.history s) → IsLegal J.profiles s (replicas s) (cond b (w.history r ++ step ∷ []) (w.history s))
   legal_by s true e legal =
-      subst (λ t. IsLegal J.profiles t (replicas t) (w.history t) → IsLegal J.profiles t (replicas t) (w.history r ++ step ∷ [])) (same_path r s e)
+      subst (λ t. IsLegal J.profiles t (replicas t) (w.history t) → IsLegal J.profiles t (replicas t) (w.history r ++ step ∷ [])) (same_paths r s e)
       (λ legal. legal-push J.profiles r (replicas r) (w.history r) step legal (subst (λ m. IsAnswerOf r m step (slice_get J.profiles i)) (settled.replayed r) answered)) legal
   legal_by s false e legal = legal
 
@@ -130,13 +113,13 @@ module _ (J : Jobs) (replicas : Path → Replica) (i : ℕ) (Q : Parts) (is : sl
   agree_by j P s true true e f its old =
       let same : i ≡ j = eqb-true i j e in
       let mine : Q ≡ P = some_parts (sym is ∙ (ap (slice_get J.profiles) same ∙ its)) in
-      ap (λ t. entries_of j (w.history t ++ step ∷ [])) (same_path r s f)
+      ap (λ t. entries_of j (w.history t ++ step ∷ [])) (same_paths r s f)
       ∙ (entries_of-push j (w.history s) step true e
       ∙ (ap (λ es. es ++ step ∷ []) (old ∙ ap (λ k. entries_at P s (log_of w k)) (sym same))
       ∙ (sym (entries_at-push P s (log_of w i) logged true (ap (λ P. is_root_at P s side) (sym mine) ∙ (root_is Q r s side at ∙ f)))
       ∙ (ap (entries_at P s) (sym own_log) ∙ ap (λ k. entries_at P s (log_of v k)) same))))
   agree_by j P s false true e f its old =
-      ap (λ t. entries_of j (w.history t ++ step ∷ [])) (same_path r s f)
+      ap (λ t. entries_of j (w.history t ++ step ∷ [])) (same_paths r s f)
       ∙ (entries_of-push j (w.history s) step false e ∙ (append-nil (entries_of j (w.history s)) ∙ (old ∙ ap (entries_at P s) (sym (other_log j e)))))
   agree_by j P s true false e f its old =
       let same : i ≡ j = eqb-true i j e in
@@ -149,7 +132,7 @@ module _ (J : Jobs) (replicas : Path → Replica) (i : ℕ) (Q : Parts) (is : sl
 
   replayed_by : (s : Path) (b : Bool) → path_eq r s ≡ b → cond b (after (w.replica r) op) (w.replica s) ≡ replay (replicas s) (cond b (w.history r ++ step ∷ []) (w.history s))
   replayed_by s true e =
-      subst (λ t. after (w.replica r) op ≡ replay (replicas t) (w.history r ++ step ∷ [])) (same_path r s e)
+      subst (λ t. after (w.replica r) op ≡ replay (replicas t) (w.history r ++ step ∷ [])) (same_paths r s e)
       (ap (λ m. after m op) (settled.replayed r) ∙ sym (replay-push (replicas r) (w.history r) step))
   replayed_by s false e = settled.replayed s
 

@@ -26,12 +26,14 @@ use Rattle.hub_schedule.specs.Settled.{AreProfiles, IsSettled, IsSettledWorld}
 use Rattle.hub_job.specs.Outcome.{archive_of, jobs_of, replicas_of, world_after, IsEndOf, IsOutcomeWith, IsOutcomeOf, KeepsTurns}
 use Rattle.hub_schedule.specs.Promise.{log_or_none, logs_in, view_at, HasReplicas, IsSynchronized, NoneFinishedReaches, OldMarksStay, Settles, FinishedAreSynchronized}
 use Rattle.hub_schedule.specs.Simulated.{turns_of, turns_enough, LogsAreOfTurns, EnoughTurnsEnd, TurnsSuffice, IsLoneSynchronization}
-use Rattle.hub_job.proofs.Core.{has_its_root}
-use Rattle.hub_job.proofs.InWorld.{alone_synchronizes, by_side, side_root}
+use Rattle.hub_job.specs.Laws.Roots.{has_its_root}
+use Rattle.hub_job.specs.Laws.Roots.{side_root}
+use Rattle.hub_job.specs.Laws.LoneJobs.{alone_synchronizes, by_side}
 use Rattle.hub_schedule.proofs.Finished.{alone_enough}
-use Rattle.hub_schedule.proofs.Promised.{end_next, left_in, marks_stay, next_end, root_place, roots_apart}
+use Rattle.hub_schedule.specs.Laws.Unchanged.{marks_stay}
+use Rattle.hub_schedule.proofs.Promised.{end_next, left_in, next_end, root_place, roots_apart}
 use Rattle.hub_schedule.proofs.Settling.{empty_log}
-use Rattle.hub_schedule.proofs.Tables.{one_value}
+use Rattle.hub_schedule.specs.Laws.Lists.{one_value}
 use Rattle.hub_schedule.proofs.Turns.{keeps, fewer, count_alone, count_first, all_turns, weight}
 
 no_log_there : (logs : List (List Logged)) (jobs : List JobEnd) (j : ℕ) → length logs ≡ length jobs → slice_get jobs j ≡ None → slice_index_or logs j [] ≡ []

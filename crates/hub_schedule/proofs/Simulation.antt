@@ -1,13 +1,12 @@
 -- What the laws on schedules say of a schedule that was run.
 use Rattle.std.proofs.Common.{◌≡◌, ◌≢◌, ◌≤◌, ◌<◌, List, [], ◌∷◌, length, Some, Result, Ok, Err, IfOk, IfErr, subst, arith}
 use Rattle.std.specs.Prelude.{ℕ, slice_get, replicate}
-use Rattle.hub_path.specs.Path.{Path}
+use Rattle.std.proofs.lemmas.Option.{slice_get_within}
 use Rattle.hub_profile.specs.Parts.{Parts}
 use Rattle.hub_reach.specs.Safe.{Rule, IsSafe}
 use Rattle.hub_state.specs.State.{State, IsState}
 use Rattle.hub_job.specs.declared.job_end.End.TheVariants as end
 use Rattle.hub_job.specs.declared.job_end.JobEnd.{JobEnd}
-use Rattle.hub_job.specs.declared.log.Entry.{Entry}
 use Rattle.hub_job.specs.declared.outcome.Outcome.{Outcome}
 use Rattle.hub_job.specs.declared.run_fault.RunFault.{RunFault}
 use Rattle.hub_job.specs.Outcome.{IsOutcomeOf, IsSimulated, KeepsTurns, LosesTurns, world_after}
@@ -16,33 +15,11 @@ use Rattle.hub_schedule.specs.Refusals.{IsRunnable, IsUnrun}
 use Rattle.hub_schedule.specs.Settled.{AreProfiles}
 use Rattle.hub_schedule.specs.Simulated.{EnoughTurnsEnd, IsLoneSynchronization, IsPromised, LogsAreOfTurns, LoneIsSynchronized, StoppedLostTurns, TurnsSuffice, turns_enough}
 use Rattle.hub_job.specs.World.{first_turns}
-use Rattle.hub_schedule.proofs.Promised.{elsewhere, foreign, marks_stay}
-use Rattle.hub_schedule.proofs.Runnable.{have_replicas}
-use Rattle.hub_schedule.proofs.Tables.{within}
-
--- A state may be none where there are no profiles.
-abbrev pub IsStateFor : State → List Parts → Type 0
-IsStateFor S Ps = 0 < length Ps → IsState S
+use Rattle.hub_schedule.specs.Laws.Unchanged.{IsStateFor, promise_none}
+use Rattle.hub_schedule.specs.Laws.Missing.{have_replicas}
 
 some_profile : (Ps : List Parts) (j : ℕ) (P : Parts) → slice_get Ps j ≡ Some P → 0 < length Ps
-some_profile Ps j P at = let h = within Ps j P at in omega (arith, h)
-
-no_profile : (j : ℕ) (P : Parts) → slice_get [] j ≡ Some P → ⊥
-no_profile j P e = cc
-
-pub promise_none : (S : State) (Rs : List Rule) (histories : Path → List Entry) (o : Outcome) → Settles S [] histories o → IsAsPromised S [] Rs histories o
-promise_none S Rs histories o settles = record {
-  logs = λ j P is. absurd (no_profile j P is);
-  others = λ j P r q front rest e is. absurd (no_profile j P is);
-  own = λ j P r q is. absurd (no_profile j P is);
-  finished = λ j P e is. absurd (no_profile j P is);
-  elsewhere = elsewhere S [] histories o settles (λ j P is. absurd (no_profile j P is)) (λ j P r is. absurd (no_profile j P is)) (λ j P r is. absurd (no_profile j P is));
-  foreign = foreign S [] histories o settles;
-  marks = marks_stay S [] histories o settles;
-  archives = settles.outcome.pairs;
-  allowed = λ Q r p c front rest e h at. absurd (no_profile e.job Q at);
-  enough = λ j n P e is. absurd (no_profile j P is);
-}
+some_profile Ps j P at = let h = slice_get_within Ps j P at in omega (arith, h)
 
 abbrev pub SettlesLaw : Type 0
 SettlesLaw = (S : State) (Ps : List Parts) (turns : List ℕ) (o : Outcome) → IsOutcomeOf S Ps turns o → Settles S Ps (world_after S Ps turns).history o

@@ -1,14 +1,12 @@
 -- A job of a safe set that is stopped lost a turn.
-use Rattle.std.proofs.Common.{◌≡◌, ◌≢◌, ◌<◌, ◌≤◌, ◌+◌, List, [], ◌∷◌, ◌++◌, length, Option, Some, None, refl, ap, sym, ◌∙◌, subst, arith, length-append}
+use Rattle.std.proofs.Common.{◌≡◌, ◌≢◌, ◌<◌, ◌≤◌, ◌+◌, List, [], ◌∷◌, ◌++◌, length, Option, Some, None, ap, sym, ◌∙◌, subst, arith, length-append}
 use Rattle.std.specs.Prelude.{◌==◌, ℕ, zero, suc, slice_get, slice_set, slice_index_or, replicate}
 use Rattle.std.proofs.lemmas.List.Sums.{length-filter}
 use Rattle.hub_path.specs.Path.{Path}
 use Rattle.hub_path.specs.declared.side.Side.{Side}
 use Rattle.hub_profile.specs.Parts.{Parts, at_side}
-use Rattle.hub_tree.specs.Tree.{Replica, IsTree}
+use Rattle.hub_tree.specs.Tree.{Replica}
 use Rattle.hub_state.specs.State.{State}
-use Rattle.hub_job.specs.declared.job_end.End.TheVariants as end
-use Rattle.hub_job.specs.declared.job_end.JobEnd.{JobEnd}
 use Rattle.hub_job.specs.declared.log.Logged.{Logged}
 use Rattle.hub_job.specs.declared.op.Next.{Next}
 use Rattle.hub_job.specs.declared.op.Next.TheVariants.{Ask, Finished, Stopped}
@@ -18,7 +16,6 @@ use Rattle.hub_job.specs.Job.{next}
 use Rattle.hub_job.specs.Outcome.{archive_of, jobs_of, replicas_of, IsOutcomeOf, LosesTurns}
 use Rattle.hub_job.specs.Same.{AreApart, own_turns}
 use Rattle.hub_job.specs.World.{World, Jobs, log_of, entry, event, act, turn_of, turn, run, opening, alone, first_turns}
-use Rattle.hub_schedule.specs.Settled.{AreProfiles}
 use Rattle.hub_schedule.specs.Simulated.{turns_of, turns_enough, StoppedLostTurns, TurnsSuffice}
 use Rattle.hub_schedule.proofs.Finished.{alone_stopped}
 use Rattle.hub_schedule.proofs.Settling.{empty_log}

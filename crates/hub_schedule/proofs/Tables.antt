@@ -1,9 +1,11 @@
 -- What a turn of a job does to the jobs and the replicas of a world.
-use Rattle.std.proofs.Common.{◌≡◌, ◌≢◌, ◌<◌, inl, inr, cond, List, [], ◌∷◌, ◌++◌, length, Option, Some, None, refl, ap, sym, ◌∙◌, subst, length-set, arith}
-use Rattle.std.specs.Prelude.{ℕ, zero, suc, slice_get, slice_set}
+use Rattle.std.proofs.Common.{◌≡◌, ◌≢◌, ◌<◌, inl, inr, cond, List, [], ◌∷◌, ◌++◌, length, Some, refl, ap, sym, ◌∙◌, subst, length-set}
+use Rattle.std.specs.Prelude.{ℕ, slice_get, slice_set}
 use Rattle.std.specs.List.{list_any}
 use Rattle.std.proofs.lemmas.List.{get_or-set_same, get_or-set_other}
 use Rattle.std.proofs.lemmas.Bool.{cases_eq, false_from_ne_true}
+use Rattle.std.proofs.lemmas.Option.{slice_get_within}
+use Rattle.hub_reconcile.specs.Laws.Views.{same_paths}
 use Rattle.hub_path.specs.Path.{Path, path_eq}
 use Rattle.hub_path.specs.declared.side.Side.{Side}
 use Rattle.hub_profile.specs.Parts.{Parts, IsProfile}
@@ -18,43 +20,9 @@ use Rattle.hub_job.specs.Machine.{answer, after}
 use Rattle.hub_job.specs.Run.{root_at}
 use Rattle.hub_schedule.specs.Table.{place_on, with_tree, IsPlaced, AreTrees, IsSeat, IsTable}
 use Rattle.hub_job.specs.World.{World, Jobs, log_of, entry, event, act, turn_of, turn}
-use Rattle.hub_job.proofs.Blind.{same_path, path_itself}
-use Rattle.hub_job.proofs.InWorld.{side_root}
-
--- Lists.
-pub set_here : {X : Type 0} (xs : List X) (j : ℕ) (x y : X) → slice_get xs j ≡ Some x → slice_get (slice_set xs j y) j ≡ Some y
-set_here [] j x y e = cc
-set_here (z ∷ xs) zero x y e = refl
-set_here (z ∷ xs) (suc j) x y e = set_here xs j x y e
-
-pub set_there : {X : Type 0} (xs : List X) (i j : ℕ) (y : X) → i ≢ j → slice_get (slice_set xs j y) i ≡ slice_get xs i
-set_there [] i j y off = refl
-set_there (z ∷ xs) zero zero y off = absurd (off refl)
-set_there (z ∷ xs) zero (suc j) y off = refl
-set_there (z ∷ xs) (suc i) zero y off = refl
-set_there (z ∷ xs) (suc i) (suc j) y off = set_there xs i j y (λ e. off (ap suc e))
-
-pub within : {X : Type 0} (xs : List X) (j : ℕ) (x : X) → slice_get xs j ≡ Some x → j < length xs
-within [] j x e = cc
-within (y ∷ xs) zero x e = omega arith
-within (y ∷ xs) (suc j) x e = let h = within xs j x e in omega (arith, h)
-
-or_value : {X : Type 0} → X → Option X → X
-or_value x None = x
-or_value x (Some y) = y
-
-pub one_value : {X : Type 0} (x y : X) → Some x ≡ Some y → x ≡ y
-unfolding or_value
-one_value x y e = ap (or_value x) e
-
--- Of a list with another value at one place, each property of all.
-pub each_set : {X : Type 0} (Q : ℕ → X → Type 0) (xs : List X) (j : ℕ) (x y : X) → slice_get xs j ≡ Some x → Q j y → ((i : ℕ) (z : X) → i ≢ j → slice_get xs i ≡ Some z → Q i z)
-    → (i : ℕ) (z : X) → slice_get (slice_set xs j y) i ≡ Some z → Q i z
-each_set Q xs j x y is here there i z e =
-    elim (cases_eq i j) [
-      | inl same ↦ subst (λ k. Q k z) (sym same) (subst (Q j) (one_value y z (sym (set_here xs j x y is) ∙ (ap (slice_get (slice_set xs j y)) (sym same) ∙ e))) here)
-      | inr off ↦ there i z off (sym (set_there xs i j y off) ∙ e)
-    ]
+use Rattle.hub_job.specs.Laws.Untouched.{path_itself}
+use Rattle.hub_job.specs.Laws.Roots.{side_root}
+use Rattle.hub_schedule.specs.Laws.Lists.{set_here, set_there, one_value, each_set}
 
 -- Replicas whose roots stay.
 pub record SameRoots (old new : List WorkingTree) : Type 0 where
@@ -180,7 +148,7 @@ module _ (J : Jobs) (w : World) (seats : List Seat) (trees : List WorkingTree) (
   kept : (i : ℕ) (x : WorkingTree) → i ≢ k → slice_get trees i ≡ Some x → x.tree ≡ v.replica x.root.now
   kept i x off e =
       table.replicas.each i x e
-      ∙ sym (ap (λ b. cond b (after (w.replica r) op) (w.replica x.root.now)) (false_from_ne_true (path_eq r x.root.now) (λ h. off (table.replicas.once i k x u e at (sym (root_is ∙ same_path r x.root.now h))))))
+      ∙ sym (ap (λ b. cond b (after (w.replica r) op) (w.replica x.root.now)) (false_from_ne_true (path_eq r x.root.now) (λ h. off (table.replicas.once i k x u e at (sym (root_is ∙ same_paths r x.root.now h))))))
 
   new_trees : AreTrees v.replica new
   new_trees = record {
@@ -192,7 +160,7 @@ module _ (J : Jobs) (w : World) (seats : List Seat) (trees : List WorkingTree) (
   log_is =
       let one : s.job.log ++ record { side = side; step = record { job = s.job.number; op = op; answer = answer u.tree P u.root.now op } } ∷ [] ≡ log_of w j ++ record { side = side; step = entry P j r (w.replica r) op } ∷ [] =
       λ i. a.log i ++ record { side = side; step = record { job = a.number i; op = op; answer = answer (tree_is i) P (root_is i) op } } ∷ [] in
-      log ∙ (one ∙ sym (get_or-set_same w.logs j (log_of w j ++ record { side = side; step = entry P j r (w.replica r) op } ∷ []) [] (subst (λ n. j < n) (sym table.logs) (within J.profiles j P a.is))))
+      log ∙ (one ∙ sym (get_or-set_same w.logs j (log_of w j ++ record { side = side; step = entry P j r (w.replica r) op } ∷ []) [] (subst (λ n. j < n) (sym table.logs) (slice_get_within J.profiles j P a.is))))
 
   pub table_turn : IsTable J (turn J j w) (slice_set seats j t) new
   table_turn =

@@ -3,13 +3,13 @@ use Rattle.std.proofs.Common.{◌≡◌, ◌≤◌, ◌<◌, ◌+◌, ◌-◌, �
 use Rattle.std.specs.Prelude.{◌==◌, ℕ, zero, suc, slice_get, if◌then◌else◌}
 use Rattle.std.specs.List.{range_with_len}
 use Rattle.std.proofs.lemmas.Bool.{cases_eq, false≢true, false_from_ne_true, eqb-true, ne_eqb}
+use Rattle.std.proofs.lemmas.Option.{slice_get_within}
 use Rattle.hub_profile.specs.Parts.{some_passes}
 use Rattle.hub_schedule.specs.declared.seat.Seat.{Seat}
 use Rattle.hub_schedule.specs.declared.seat.WorkingTree.{WorkingTree}
 use Rattle.hub_schedule.specs.Table.{IsIdle, IsTable, IsThinned, StayIdle, StayStopped, Taken, stopped_at, whole_rounds}
 use Rattle.hub_job.specs.World.{World, Jobs, turn, run, first_turns}
 use Rattle.hub_schedule.proofs.InRounds.{whole_counts}
-use Rattle.hub_schedule.proofs.Tables.{within}
 use Rattle.hub_schedule.proofs.Turns.{weight, less, count, count_first}
 
 pub thinned_none : (J : Jobs) (w : World) (stopped : ℕ → Bool) → IsThinned J w w [] stopped stopped
@@ -188,7 +188,7 @@ thinned_before J w v js before now after stays has t = record {
 
 stopped_some : (seats : List Seat) (j : ℕ) (o : Option Seat) → slice_get seats j ≡ o → some_passes (λ (s : Seat). s.job.stopped) o ≡ true → j < length seats
 stopped_some seats j None at h = absurd (false≢true h)
-stopped_some seats j (Some s) at h = within seats j s at
+stopped_some seats j (Some s) at h = slice_get_within seats j s at
 
 as_many : (j a b : ℕ) → j < a → a ≡ b → j < b
 as_many j a b h e = omega (arith, h, e)
@@ -218,11 +218,8 @@ rounds_left n R i h = ap (whole_rounds n) (left_less R i (R - i) refl h)
 pub no_rounds_left : (n R i : ℕ) → R ≤ i → whole_rounds n (R - i) ≡ []
 no_rounds_left n R i h = ap (whole_rounds n) (let z : R - i ≡ 0 = omega (arith, h) in z)
 
-turns_less : (n j m : ℕ) → n - j ≡ m → j < n → m ≡ suc (n - (j + 1))
-turns_less n j m e h = omega (arith, e, h)
-
 pub turns_left : (n j : ℕ) (more : List ℕ) → j < n → range_with_len j (n - j) ++ more ≡ j ∷ (range_with_len (j + 1) (n - (j + 1)) ++ more)
-turns_left n j more h = ap (λ k. range_with_len j k ++ more) (turns_less n j (n - j) refl h)
+turns_left n j more h = ap (λ k. range_with_len j k ++ more) (left_less n j (n - j) refl h)
 
 pub no_turns_left : (n j : ℕ) (more : List ℕ) → n ≤ j → range_with_len j (n - j) ++ more ≡ more
 no_turns_left n j more h = ap (λ k. range_with_len j k ++ more) (let z : n - j ≡ 0 = omega (arith, h) in z)

@@ -4,6 +4,8 @@ use Rattle.std.proofs.lemmas.List.{append-nil}
 use Rattle.std.specs.Prelude.{◌==◌, ℕ, zero, suc, IsTrue, slice_get, slice_index_or, filter, replicate}
 use Rattle.std.proofs.lemmas.List.{get_or-set_same}
 use Rattle.std.proofs.lemmas.Bool.{false≢true}
+use Rattle.hub_reconcile.specs.Laws.Synced.{item_by}
+use Rattle.hub_reconcile.specs.Laws.Views.{same_paths}
 use borrow.Author.Tests.{eqb-true}
 use Rattle.hub_path.specs.Path.{Path, path_eq}
 use Rattle.hub_path.specs.declared.side.Side.{Side}
@@ -22,9 +24,9 @@ use Rattle.hub_job.specs.Run.{Runs}
 use Rattle.hub_job.specs.World.{World, Jobs, log_of, event, act, turn_of, turn, run, opening}
 use Rattle.hub_job.specs.Alike.{May, Alike}
 use Rattle.hub_job.specs.Same.{AsksMay, AreApart}
-use Rattle.hub_job.proofs.Blind.{same_path, path_itself}
-use Rattle.hub_job.proofs.Core.{has_its_root}
-use Rattle.hub_job.proofs.Alone.{no_log, a_log_each}
+use Rattle.hub_job.specs.Laws.Untouched.{path_itself}
+use Rattle.hub_job.specs.Laws.Roots.{has_its_root}
+use Rattle.hub_job.specs.Laws.Logs.{no_log, a_log_each}
 use Rattle.hub_job.specs.History.{replay, IsAnswerOf, IsLegal, entries_of, entries_at}
 use Rattle.hub_schedule.specs.Settled.{AreProfiles, IsSettled, IsAsAlone}
 
@@ -53,10 +55,6 @@ Answers P r m [] = Unit {0}
 Answers P r m (e ∷ es) = (e.answer ≡ answer m P r e.op) × Answers P r (after m e.op) es
 
 -- what a log's entries may
-pub root_there : (r : Path) (o : Option Path) → some_passes (path_eq r) o ≡ true → o ≡ Some r
-root_there r None h = absurd (false≢true h)
-root_there r (Some s) h = ap Some (sym (same_path r s h))
-
 each_by : (Q : Parts) (r : Path) (e : Logged) (es : List Logged) (b : Bool) → (b ≡ true → May Q r e.step.op) → MayEach Q r (map (λ e. e.step) es) → MayEach Q r (map (λ e. e.step) (cond b (e ∷ es) es))
 each_by Q r e es true here more = (here refl, more)
 each_by Q r e es false here more = more
@@ -65,7 +63,7 @@ runs_may : AsksMay → (Q : Parts) (O : Archive) (i : ℕ) (r : Path) (front es 
 runs_may asks Q O i r front [] runs = tt
 runs_may asks Q O i r front (e ∷ es) runs =
     each_by Q r e (filter (λ e. is_root_at Q r e.side) es) (is_root_at Q r e.side)
-    (λ h. asks Q O front e.side e.step.op r runs.0 (root_there r (at_side Q.roots e.side) h))
+    (λ h. asks Q O front e.side e.step.op r runs.0 (item_by r (at_side Q.roots e.side) h))
     (runs_may asks Q O i r (front ++ e ∷ []) es runs.3)
 
 -- and so a history's
@@ -129,8 +127,8 @@ two_roots (a ∷ b ∷ rs) Right h = (b, refl)
 one_way : (a b : Path) (x y : Bool) → path_eq a b ≡ x → path_eq b a ≡ y → x ≡ y
 one_way a b true true e f = refl
 one_way a b false false e f = refl
-one_way a b true false e f = absurd (false≢true (sym f ∙ path_itself b a (ap Some (sym (same_path a b e)))))
-one_way a b false true e f = absurd (false≢true (sym e ∙ path_itself a b (ap Some (sym (same_path b a f)))))
+one_way a b true false e f = absurd (false≢true (sym f ∙ path_itself b a (ap Some (sym (same_paths a b e)))))
+one_way a b false true e f = absurd (false≢true (sym e ∙ path_itself a b (ap Some (sym (same_paths b a f)))))
 
 pub root_is : (P : Parts) (r s : Path) (side : Side) → at_side P.roots side ≡ Some r → is_root_at P s side ≡ path_eq r s
 root_is P r s side e = ap (some_passes (path_eq s)) e ∙ one_way s r (path_eq s r) (path_eq r s) refl refl
@@ -142,12 +140,12 @@ entries_step P r s e es at = ap (λ b. map (λ e. e.step) (cond b (e ∷ filter 
 -- the job alone goes on as its log does
 answers_step : (P : Parts) (r s : Path) (e : Logged) (es : List Logged) (v : Path → Replica) (b : Bool) → path_eq r s ≡ b
     → Answers P s (v s) (map (λ e. e.step) (cond b (e ∷ es) es)) → Answers P s (cond b (after (v r) e.step.op) (v s)) (map (λ e. e.step) es)
-answers_step P r s e es v true eq a = subst (λ t. Answers P s (after (v t) e.step.op) (map (λ e. e.step) es)) (sym (same_path r s eq)) a.1
+answers_step P r s e es v true eq a = subst (λ t. Answers P s (after (v t) e.step.op) (map (λ e. e.step) es)) (sym (same_paths r s eq)) a.1
 answers_step P r s e es v false eq a = a
 
 replay_step : (r s : Path) (e : Logged) (es : List Logged) (v : Path → Replica) (b : Bool) → path_eq r s ≡ b
     → replay (cond b (after (v r) e.step.op) (v s)) (map (λ e. e.step) es) ≡ replay (v s) (map (λ e. e.step) (cond b (e ∷ es) es))
-replay_step r s e es v true eq = ap (λ t. replay (after (v t) e.step.op) (map (λ e. e.step) es)) (same_path r s eq)
+replay_step r s e es v true eq = ap (λ t. replay (after (v t) e.step.op) (map (λ e. e.step) es)) (same_paths r s eq)
 replay_step r s e es v false eq = refl
 
 answer_here : (P : Parts) (r : Path) (e : Logged) (es : List Logged) (m : Replica) (b : Bool) → b ≡ true → Answers P r m (map (λ e. e.step) (cond b (e ∷ es) es)) → e.step.answer ≡ answer m P r e.step.op

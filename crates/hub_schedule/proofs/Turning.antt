@@ -17,7 +17,8 @@ use Rattle.hub_job.specs.World.{World, Jobs, act, turn}
 use Rattle.hub_schedule.specs.declared.seat.Seat.{Seat}
 use Rattle.hub_schedule.specs.declared.seat.WorkingTree.{WorkingTree}
 use Rattle.hub_schedule.specs.Table.{place_on, with_job, with_tree, stopped_at, AllWouldAsk, IsIdle, IsTable, ArePlaced, StayStopped, WouldAsk}
-use Rattle.hub_schedule.proofs.Tables.{SameSeat, set_here, set_there, each_set, one_value, table_same, table_turn, turn_is}
+use Rattle.hub_schedule.specs.Laws.Lists.{set_here, set_there, each_set, one_value}
+use Rattle.hub_schedule.proofs.Tables.{SameSeat, table_same, table_turn, turn_is}
 
 -- A job keeps its profile, archive, number and places.
 places_by : (s t : Seat) → t.left ≡ s.left → t.right ≡ s.right → (k : Side) → place_on t k ≡ place_on s k

@@ -1,6 +1,7 @@
 -- A next archive keeps the marks of the paths that its profile doesn't reach.
 use Rattle.std.proofs.Common.{◌≡◌, Bool, true, false, cond, List, [], ◌∷◌, map, Some, None, refl, ap, sym, ◌∙◌, subst}
 use Rattle.std.specs.Prelude.{ℕ, fold, if◌then◌else◌}
+use Rattle.hub_reconcile.specs.Laws.Views.{same_paths}
 use Rattle.hub_path.specs.Path.{Path, path_eq}
 use Rattle.hub_profile.specs.Parts.{Parts}
 use Rattle.hub_reach.specs.Reach.{reach}
@@ -12,16 +13,15 @@ use Rattle.hub_reconcile.specs.Sync.{fate_over, mark_under, synced_mark, next_ar
 use Rattle.hub_job.specs.declared.log.Logged.{Logged}
 use Rattle.hub_schedule.specs.declared.seat.Seat.{Seat}
 use Rattle.hub_schedule.specs.declared.seat.WorkingTree.{WorkingTree}
-use Rattle.hub_job.specs.Ends.{is_finished, end_of, archive_of}
+use Rattle.hub_job.specs.Ends.{is_finished, end_of}
 use Rattle.hub_job.specs.Job.{view_in}
 use Rattle.hub_schedule.specs.Left.{next_value, KeptIn, KeepsUnreached, AreKept}
 use Rattle.hub_schedule.specs.Table.{IsSeat, IsTable}
 use Rattle.hub_job.specs.World.{World, Jobs}
-use Rattle.hub_job.proofs.Blind.{same_path}
-use Rattle.hub_schedule.proofs.Joined.{map_get}
+use Rattle.hub_schedule.specs.Laws.Lists.{map_get}
 
 one_more : (f : Path → Mark) (p q : Path) (a : Archive) (m : Mark) (b : Bool) → path_eq q p ≡ b → f q ≡ m → old_mark_at a q ≡ m → cond b (f p) (old_mark_at a q) ≡ m
-one_more f p q a m true same is e = ap f (sym (same_path q p same)) ∙ is
+one_more f p q a m true same is e = ap f (sym (same_paths q p same)) ∙ is
 one_more f p q a m false same is e = e
 
 -- A mark that is set to what it was.

@@ -1,5 +1,5 @@
 -- Each Set that a job alone asks for is allowed by the contents that it finds.
-use Rattle.std.proofs.Common.{◌≡◌, ◌<◌, ◌≤◌, ◌+◌, ◌-◌, inl, inr, true, false, List, [], ◌∷◌, ◌++◌, length, Option, Some, None, refl, ap, sym, ◌∙◌, subst, arith, append_assoc, append-nil}
+use Rattle.std.proofs.Common.{◌≡◌, ◌<◌, ◌-◌, inl, inr, true, false, List, [], ◌∷◌, ◌++◌, length, Option, Some, None, refl, ap, sym, ◌∙◌, subst, arith, append_assoc, append-nil}
 use Rattle.std.specs.Prelude.{ℕ, zero, suc}
 use Rattle.std.proofs.lemmas.Bool.{cases_lt}
 use Rattle.hub_path.specs.Path.{Path}
@@ -19,7 +19,7 @@ use Rattle.hub_reconcile.specs.Items.{other, plan, verb_of}
 use Rattle.hub_reconcile.specs.Sides.{paths_on}
 use Rattle.hub_reconcile.specs.Sync.{of_side, view_of}
 use Rattle.hub_reconcile.specs.declared.change.Change.{Change}
-use Rattle.hub_reconcile.proofs.Views.{mark_here}
+use Rattle.hub_reconcile.specs.Laws.Views.{mark_here}
 use Rattle.hub_job.specs.declared.op.Op.{Op}
 use Rattle.hub_job.specs.declared.op.Op.TheVariants.{Look, Fetch, Set}
 use Rattle.hub_job.specs.declared.op.Next.{Next}
@@ -30,10 +30,10 @@ use Rattle.hub_job.specs.Machine.{answer, fetched}
 use Rattle.hub_job.specs.Job.{next, missing, view_in, is_refused, fetched_last, bytes_or, steps_of, steps, op_of, look_or, step_or_end}
 use Rattle.hub_job.specs.declared.step.Step.{Step}
 use Rattle.hub_job.specs.Run.{Pair, on_side, root_at, logged, act_on, pair_run, pair_opening}
-use Rattle.hub_job.proofs.Making.{Ready, Made, flat_steps, turn_is, next_end, fetched_last-push, pushed, file_of, directory_of, nothing_of, any_each, fetch_after, unchanged, marked, next_ask, steps_all, by_mark}
-use Rattle.hub_job.proofs.Looking.{at, log_by, next_is, act_look, both_none, looked_view, looked_ready}
-use Rattle.hub_job.proofs.Finishing.{stays_finished}
-use Rattle.hub_job.proofs.InWorld.{side_root}
+use Rattle.hub_job.specs.Laws.Making.{Ready, Made, flat_steps, turn_is, next_end, fetched_last-push, pushed, file_of, directory_of, nothing_of, any_each, fetch_after, unchanged, marked, next_ask, steps_all, by_mark}
+use Rattle.hub_job.specs.Laws.Looking.{at, log_by, next_is, act_look, both_none, looked_view, looked_ready}
+use Rattle.hub_job.specs.Laws.Finishing.{stays_finished, rest_of}
+use Rattle.hub_job.specs.Laws.Roots.{side_root}
 use Rattle.hub_schedule.proofs.Once.{change_allowed, not_before, change_reached}
 
 -- An operation that is allowed by the contents of the replica that it is for; and what comes next.
@@ -46,9 +46,6 @@ abbrev pub AllowedNext : Parts → Pair → Next → Type 0
 AllowedNext P w (Ask k op) = AllowedOp P w k op
 AllowedNext P w Finished = Unit {0}
 AllowedNext P w Stopped = Unit {0}
-
-rest_of : (m n : ℕ) → m ≤ n → n ≡ m + (n - m)
-rest_of m n h = omega (arith, h)
 
 module _ (P : Parts) (facts : IsProfile P) (A B : Replica) (O : Archive) (left : IsTree A) (right : IsTree B) (j : ℕ) where
   abbrev R : Side → Replica

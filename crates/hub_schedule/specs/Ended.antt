@@ -20,7 +20,8 @@ use Rattle.hub_schedule.specs.Table.{place_on, AreTrees, IsPlaced}
 abbrev pub ended_value : JobValue → JobEnd
 ended_value J = record { end = end_of J; log = J.log; items = items_of J }
 
--- The job of this number: it was made for the number's profile, and for the archive of that profile's roots in the state.
+-- The job of this number: it was made for the number's profile, and for the archive of that
+-- profile's roots in the state.
 pub record IsEnded (S : State) (Ps : List Parts) (j : ℕ) (J : JobValue) : Type 0 where
   pub is : slice_get Ps j ≡ Some J.profile
   pub archive : J.archive ≡ archive_of S (Some J.profile)
@@ -31,12 +32,14 @@ abbrev pub HasPlaces : List WorkingTree → Parts → Type 0
 HasPlaces trees P = (k : Side) → (n : ℕ) × IsPlaced trees (root_at P k) n
 
 -- The jobs of profiles, by number, and the replicas of all their roots, each once.
-pub record AreEnded (S : State) (Ps : List Parts) (replica : Path → Replica) (jobs : List JobValue) (trees : List WorkingTree) : Type 0 where
+pub record AreEnded (S : State) (Ps : List Parts) (replica : Path → Replica) (jobs : List JobValue)
+    (trees : List WorkingTree) : Type 0 where
   pub each : (j : ℕ) (K : JobValue) → slice_get jobs j ≡ Some K → IsEnded S Ps j K
   pub count : length jobs ≡ length Ps
   pub replicas : AreTrees replica trees
   pub places : (j : ℕ) (P : Parts) → slice_get Ps j ≡ Some P → HasPlaces trees P
-  pub roots : (k : ℕ) (t : WorkingTree) → slice_get trees k ≡ Some t → list_any (λ P. has_root P t.root.now) Ps ≡ true
+  pub roots : (k : ℕ) (t : WorkingTree) → slice_get trees k ≡ Some t
+      → list_any (λ P. has_root P t.root.now) Ps ≡ true
 
 -- A job with the numbers of its replicas.
 pub record IsSeatOf (trees : List WorkingTree) (J : JobValue) (s : Seat) : Type 0 where
@@ -45,6 +48,8 @@ pub record IsSeatOf (trees : List WorkingTree) (J : JobValue) (s : Seat) : Type 
   pub places : (k : Side) → IsPlaced trees (root_at s.job.profile k) (place_on s k)
 
 -- The jobs, in their order, with the numbers of their replicas.
-pub record AreSeatsOf (trees : List WorkingTree) (jobs : List JobValue) (seats : List Seat) : Type 0 where
-  pub each : (j : ℕ) (s : Seat) → slice_get seats j ≡ Some s → (J : JobValue) × (slice_get jobs j ≡ Some J) × IsSeatOf trees J s
+pub record AreSeatsOf (trees : List WorkingTree) (jobs : List JobValue) (seats : List Seat) :
+    Type 0 where
+  pub each : (j : ℕ) (s : Seat) → slice_get seats j ≡ Some s → (J : JobValue)
+      × (slice_get jobs j ≡ Some J) × IsSeatOf trees J s
   pub count : length seats ≡ length jobs

@@ -30,15 +30,18 @@ is_in a p = fin.contains_key a p
 abbrev pub mark_in : State → Path → Path → Path → Mark
 mark_in S r s p = old_mark_at (unwrap_or (archive_at S r s) fin.empty) p
 
--- The mark of a next archive, if the profile has both roots and reaches the path, or else the mark that was there.
+-- The mark of a next archive, if the profile has both roots and reaches the path, or else the mark
+-- that was there.
 abbrev pub mark_given : Parts → Archive → Path → Path → Path → Mark → Mark
-mark_given P next r s p old = if has_root P r && has_root P s && reach P p then old_mark_at next p else old
+mark_given P next r s p old =
+    if has_root P r && has_root P s && reach P p then old_mark_at next p else old
 
 abbrev pub mark_of_next : Parts → Option Archive → Path → Path → Path → Mark → Mark
 mark_of_next P None r s p old = old
 mark_of_next P (Some next) r s p old = mark_given P next r s p old
 
--- The mark of the first next archive whose profile has both roots and reaches the path, or else the mark that was there.
+-- The mark of the first next archive whose profile has both roots and reaches the path, or else the
+-- mark that was there.
 abbrev pub mark_from : List NextValue → Path → Path → Path → Mark → Mark
 mark_from [] r s p old = old
 mark_from (n ∷ ns) r s p old = mark_of_next n.profile n.next r s p (mark_from ns r s p old)
@@ -46,7 +49,8 @@ mark_from (n ∷ ns) r s p old = mark_of_next n.profile n.next r s p (mark_from 
 -- The archive of each pair of different roots has these marks, given those that it had.
 abbrev pub HasMarks : (Path → Path → Path → Mark → Mark) → State → State → Type 0
 HasMarks f before after =
-    (r s p : Path) → IsTrue (is_place r) → IsTrue (is_place s) → r ≢ s → mark_in after r s p ≡ f r s p (mark_in before r s p)
+    (r s p : Path) → IsTrue (is_place r) → IsTrue (is_place s) → r ≢ s
+    → mark_in after r s p ≡ f r s p (mark_in before r s p)
 
 abbrev pub has_pair : Parts → Path → Path → Bool
 has_pair P r s = has_root P r && has_root P s

@@ -8,3 +8,4 @@ pub mod Next
 pub mod Left
 pub mod Refusals
 pub mod Ended
+pub mod Laws

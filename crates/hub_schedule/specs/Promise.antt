@@ -42,24 +42,28 @@ HasReplicas S Ps =
     (j : ℕ) (P : Parts) (r : Path) → slice_get Ps j ≡ Some P → IsTrue (has_root P r)
     → (m : Replica) × (replica_at S r ≡ Some m)
 
--- These histories settle the outcome: they are legal from the state's replicas and agree with its logs, which are runs of
--- the jobs; and its replicas are those that the histories leave.
-pub record Settles (S : State) (Ps : List Parts) (histories : Path → List Entry) (o : Outcome) : Type 0 where
+-- These histories settle the outcome: they are legal from the state's replicas and agree with its
+-- logs, which are runs of the jobs; and its replicas are those that the histories leave.
+pub record Settles (S : State) (Ps : List Parts) (histories : Path → List Entry) (o : Outcome) :
+    Type 0 where
   pub settled : IsSettled (jobs_of S Ps) (replicas_of S) histories (logs_in o)
   pub outcome : IsOutcomeWith S Ps (logs_in o) (λ r. replay (replicas_of S r) (histories r)) o
 
 -- The view of a profile's two replicas and of their archive in a state.
 abbrev pub view_at : State → Parts → View
 view_at S P =
-    view_of P (replicas_of S (root_at P Left)) (replicas_of S (root_at P Right)) (archive_of S (Some P))
+    view_of P (replicas_of S (root_at P Left)) (replicas_of S (root_at P Right))
+    (archive_of S (Some P))
 
 -- What one synchronization of them leaves at a path of a side.
 abbrev pub synced_at : State → Parts → Side → Path → Contents
 synced_at S P k q =
-    synced_contents P (replicas_of S (root_at P Left)) (replicas_of S (root_at P Right)) (archive_of S (Some P)) k q
+    synced_contents P (replicas_of S (root_at P Left)) (replicas_of S (root_at P Right))
+    (archive_of S (Some P)) k q
 
--- What one synchronization of a profile's two replicas leaves of a state on the paths that the profile reaches: contents,
--- marks of the archive, and the job's items. Nothing was refused to the job.
+-- What one synchronization of a profile's two replicas leaves of a state on the paths that the
+-- profile reaches: contents, marks of the archive, and the job's items. Nothing was refused to the
+-- job.
 pub record IsSynchronized (S : State) (P : Parts) (e : JobEnd) (after : State) : Type 0 where
   pub ok : list_any (λ e. is_refused e.step.answer) e.log ≡ false
   pub contents : (k : Side) (q : Path) → IsTrue (reach P q)
@@ -86,14 +90,17 @@ NoneFinishedReaches Ps o r s p =
     (j : ℕ) (P : Parts) (e : JobEnd) → slice_get Ps j ≡ Some P → slice_get o.jobs j ≡ Some e
     → e.end ≡ end.Finished → IsTrue (has_root P r) → IsTrue (has_root P s) → reach P p ≡ false
 
--- The archive of a pair of roots has its old mark at each path that no finished job of the pair reaches.
+-- The archive of a pair of roots has its old mark at each path that no finished job of the pair
+-- reaches.
 abbrev pub OldMarksStay : State → List Parts → Outcome → Type 0
 OldMarksStay S Ps o =
-    (r s p : Path) → IsTrue (is_place r) → IsTrue (is_place s) → r ≢ s → NoneFinishedReaches Ps o r s p
+    (r s p : Path) → IsTrue (is_place r) → IsTrue (is_place s) → r ≢ s
+    → NoneFinishedReaches Ps o r s p
     → old_mark_at (unwrap_or (archive_at o.state r s) fin.empty) p
     ≡ old_mark_at (unwrap_or (archive_at S r s) fin.empty) p
 
--- A job that wasn't stopped, and whose log has as many entries as turns after which the job alone is finished, is finished.
+-- A job that wasn't stopped, and whose log has as many entries as turns after which the job alone
+-- is finished, is finished.
 abbrev pub EnoughTurnsFinish : State → List Parts → Outcome → Type 0
 EnoughTurnsFinish S Ps o =
     (j n : ℕ) (P : Parts) (e : JobEnd) → slice_get Ps j ≡ Some P → slice_get o.jobs j ≡ Some e
@@ -101,8 +108,10 @@ EnoughTurnsFinish S Ps o =
     → next P (archive_of S (Some P)) (alone (jobs_of S Ps) (replicas_of S) j n) ≡ Finished
     → n ≤ length e.log → e.end ≡ end.Finished
 
--- The promise: the order in which the jobs of a safe set take turns makes no difference to any of them.
-pub record IsAsPromised (S : State) (Ps : List Parts) (Rs : List Rule) (histories : Path → List Entry) (o : Outcome) : Type 0 where
+-- The promise: the order in which the jobs of a safe set take turns makes no difference to any of
+-- them.
+pub record IsAsPromised (S : State) (Ps : List Parts) (Rs : List Rule)
+    (histories : Path → List Entry) (o : Outcome) : Type 0 where
   -- Each job got the answers that it gets alone.
   pub logs : LogsAreAlone (jobs_of S Ps) (replicas_of S) (logs_in o)
   -- No job changed what another one reaches or passes through.
@@ -112,10 +121,12 @@ pub record IsAsPromised (S : State) (Ps : List Parts) (Rs : List Rule) (historie
   -- What a finished job left is one synchronization.
   pub finished : FinishedAreSynchronized S Ps o
   -- All else is as before.
-  pub elsewhere : (r : Path) → IsTrue (is_place r) → ElsewhereIsAsBefore Ps r (replicas_of S r) (replicas_of o.state r)
+  pub elsewhere : (r : Path) → IsTrue (is_place r)
+      → ElsewhereIsAsBefore Ps r (replicas_of S r) (replicas_of o.state r)
   pub foreign : ForeignAreAsBefore S Ps o.state
   pub marks : OldMarksStay S Ps o
-  -- Each archive that was there is there, and that of each pair with a finished job; and no other one.
+  -- Each archive that was there is there, and that of each pair with a finished job; and no other
+  -- one.
   pub archives : ArchivesAreThere S Ps o
   -- Each Set was allowed.
   pub allowed : SetsAreAllowed Ps Rs (replicas_of S) histories

@@ -22,9 +22,11 @@ IsBad js jobs t = (j : ℕ) × (slice_get js t ≡ Some j) × (jobs ≤ j)
 -- The first turn of a schedule that names no job.
 abbrev pub IsFirstBad : List ℕ → ℕ → Option ℕ → Type 0
 IsFirstBad js jobs None = (i j : ℕ) → slice_get js i ≡ Some j → j < jobs
-IsFirstBad js jobs (Some t) = IsBad js jobs t × ((i j : ℕ) → i < t → slice_get js i ≡ Some j → j < jobs)
+IsFirstBad js jobs (Some t) =
+    IsBad js jobs t × ((i j : ℕ) → i < t → slice_get js i ≡ Some j → j < jobs)
 
--- Why a schedule isn't run: a replica is missing, or none is and a turn names no job. Or there is no memory.
+-- Why a schedule isn't run: a replica is missing, or none is and a turn names no job. Or there is
+-- no memory.
 abbrev pub IsUnrun : State → List Parts → List ℕ → RunFault → Type 0
 IsUnrun S Ps js fault.NoWorkers = ⊥
 IsUnrun S Ps js fault.TooManyWorkers = ⊥

@@ -1,4 +1,5 @@
--- Histories of replicas and logs of jobs that fit together. Nothing orders the entries of two replicas.
+-- Histories of replicas and logs of jobs that fit together. Nothing orders the entries of two
+-- replicas.
 use Rattle.std.specs.Prelude.{◌≡◌, ℕ, List, [], length, replicate, slice_get, Some, IsTrue}
 use Rattle.hub_path.specs.Path.{Path}
 use Rattle.hub_profile.specs.Parts.{Parts, IsProfile}
@@ -15,19 +16,25 @@ abbrev pub AreProfiles : List Parts → Type 0
 AreProfiles Ps = (j : ℕ) (P : Parts) → slice_get Ps j ≡ Some P → IsProfile P
 
 -- Each log is a run of its job; each root's history is legal from the opening; both agree.
-pub record IsSettled (J : Jobs) (replicas : Path → Replica) (histories : Path → List Entry) (logs : ℕ → List Logged) : Type 0 where
-  pub runs : (j : ℕ) (P : Parts) → slice_get J.profiles j ≡ Some P → Runs P (J.archive j) j [] (logs j)
-  pub legal : (j : ℕ) (P : Parts) (r : Path) → slice_get J.profiles j ≡ Some P → IsTrue (has_root P r) → IsLegal J.profiles r (replicas r) (histories r)
+pub record IsSettled (J : Jobs) (replicas : Path → Replica) (histories : Path → List Entry)
+    (logs : ℕ → List Logged) : Type 0 where
+  pub runs : (j : ℕ) (P : Parts) → slice_get J.profiles j ≡ Some P
+      → Runs P (J.archive j) j [] (logs j)
+  pub legal : (j : ℕ) (P : Parts) (r : Path) → slice_get J.profiles j ≡ Some P
+      → IsTrue (has_root P r) → IsLegal J.profiles r (replicas r) (histories r)
   pub agree : Agree J.profiles histories logs
 
--- To a job these histories and logs are what it gets alone: its log, and all that its answers depend on.
-pub record IsAsAlone (J : Jobs) (replicas : Path → Replica) (histories : Path → List Entry) (logs : ℕ → List Logged) (j : ℕ) (P : Parts) : Type 0 where
+-- To a job these histories and logs are what it gets alone: its log, and all that its answers
+-- depend on.
+pub record IsAsAlone (J : Jobs) (replicas : Path → Replica) (histories : Path → List Entry)
+    (logs : ℕ → List Logged) (j : ℕ) (P : Parts) : Type 0 where
   pub log : logs j ≡ alone J replicas j (length (logs j))
   pub alike : (r : Path) → IsTrue (has_root P r)
-      → Alike P r (replay (replicas r) (histories r)) ((run J (replicate (length (logs j)) j) (opening J replicas)).replica r)
+      → Alike P r (replay (replicas r) (histories r))
+      ((run J (replicate (length (logs j)) j) (opening J replicas)).replica r)
 
--- The histories and the logs of a world fit together, each replica is what its history leaves of the opening, and each
--- job has a log.
+-- The histories and the logs of a world fit together, each replica is what its history leaves of
+-- the opening, and each job has a log.
 pub record IsSettledWorld (J : Jobs) (replicas : Path → Replica) (w : World) : Type 0 where
   pub fits : IsSettled J replicas w.history (log_of w)
   pub replayed : (r : Path) → w.replica r ≡ replay (replicas r) (w.history r)

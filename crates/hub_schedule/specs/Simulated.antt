@@ -24,8 +24,8 @@ use Rattle.hub_schedule.specs.Promise.{IsAsPromised, IsSynchronized, Settles, sy
 abbrev pub turns_of : ℕ → List ℕ → ℕ
 turns_of j schedule = count_by (λ i. i == j) schedule
 
--- As many turns as any synchronization of a profile's two replicas takes: four for each kept value, and three for each
--- entry of the two replicas.
+-- As many turns as any synchronization of a profile's two replicas takes: four for each kept value,
+-- and three for each entry of the two replicas.
 abbrev pub turns_enough : State → Parts → ℕ
 turns_enough S P =
     4 * length P.paths
@@ -44,16 +44,16 @@ HaveEnded jobs = (j : ℕ) (e : JobEnd) → slice_get jobs j ≡ Some e → e.en
 abbrev pub AreFinished : List JobEnd → Type 0
 AreFinished jobs = (j : ℕ) (e : JobEnd) → slice_get jobs j ≡ Some e → e.end ≡ end.Finished
 
--- Each job's log is the one that the job gets alone in as many turns as the schedule gives it; if it was stopped, perhaps
--- in fewer.
+-- Each job's log is the one that the job gets alone in as many turns as the schedule gives it; if
+-- it was stopped, perhaps in fewer.
 abbrev pub LogsAreOfTurns : State → List Parts → List ℕ → Outcome → Type 0
 LogsAreOfTurns S Ps schedule o =
     (j : ℕ) (P : Parts) (e : JobEnd) → slice_get Ps j ≡ Some P → slice_get o.jobs j ≡ Some e
     → (n : ℕ) × (n ≤ turns_of j schedule) × (e.log ≡ alone (jobs_of S Ps) (replicas_of S) j n)
     × (e.end ≢ end.Stopped → n ≡ turns_of j schedule)
 
--- A stopped job lost a turn: its log has fewer entries than the schedule has turns of it. If it has made a step of its plan,
--- it isn't finished.
+-- A stopped job lost a turn: its log has fewer entries than the schedule has turns of it. If it has
+-- made a step of its plan, it isn't finished.
 abbrev pub StoppedLostTurns : State → List Parts → List ℕ → Outcome → Type 0
 StoppedLostTurns S Ps schedule o =
     (j : ℕ) (P : Parts) (e : JobEnd) → slice_get Ps j ≡ Some P → slice_get o.jobs j ≡ Some e
@@ -61,7 +61,8 @@ StoppedLostTurns S Ps schedule o =
     → (length e.log < turns_of j schedule)
     × (0 < steps_made e.log → next P (archive_of S (Some P)) e.log ≢ Finished)
 
--- A job that wasn't stopped, and that had as many turns as it takes alone until it is finished, is finished.
+-- A job that wasn't stopped, and that had as many turns as it takes alone until it is finished, is
+-- finished.
 abbrev pub EnoughTurnsEnd : State → List Parts → List ℕ → Outcome → Type 0
 EnoughTurnsEnd S Ps schedule o =
     (j n : ℕ) (P : Parts) (e : JobEnd) → slice_get Ps j ≡ Some P → slice_get o.jobs j ≡ Some e
@@ -75,8 +76,8 @@ TurnsSuffice S Ps =
     (j n : ℕ) (P : Parts) → slice_get Ps j ≡ Some P → turns_enough S P ≤ n
     → next P (archive_of S (Some P)) (alone (jobs_of S Ps) (replicas_of S) j n) ≡ Finished
 
--- A job that ran alone, as its end and the state after it show: it is finished, and the whole of its two replicas and of
--- their archive, and its items, are those of one synchronization.
+-- A job that ran alone, as its end and the state after it show: it is finished, and the whole of
+-- its two replicas and of their archive, and its items, are those of one synchronization.
 pub record IsLoneSynchronization (S : State) (P : Parts) (e : JobEnd) (after : State) : Type 0 where
   pub finished : e.end ≡ end.Finished
   pub synchronized : IsSynchronized S P e after

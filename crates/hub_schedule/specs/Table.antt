@@ -46,7 +46,8 @@ IsNotIn trees n r = (k : ℕ) (t : WorkingTree) → k < n → slice_get trees k 
 -- Each replica is that of its root, and no root is there twice.
 pub record AreTrees (replica : Path → Replica) (trees : List WorkingTree) : Type 0 where
   pub each : (k : ℕ) (t : WorkingTree) → slice_get trees k ≡ Some t → t.tree ≡ replica t.root.now
-  pub once : (i k : ℕ) (t u : WorkingTree) → slice_get trees i ≡ Some t → slice_get trees k ≡ Some u → t.root.now ≡ u.root.now → i ≡ k
+  pub once : (i k : ℕ) (t u : WorkingTree) → slice_get trees i ≡ Some t → slice_get trees k ≡ Some u
+      → t.root.now ≡ u.root.now → i ≡ k
 
 -- A job of this number, profile and archive, that has asked nothing.
 pub record IsNew (j : ℕ) (P : Parts) (O : Archive) (s : Seat) : Type 0 where
@@ -56,14 +57,17 @@ pub record IsNew (j : ℕ) (P : Parts) (O : Archive) (s : Seat) : Type 0 where
 -- All replicas keep their numbers, and each new one has a root of the profile.
 pub record Extends (P : Parts) (old new : List WorkingTree) : Type 0 where
   pub kept : (k : ℕ) (t : WorkingTree) → slice_get old k ≡ Some t → slice_get new k ≡ Some t
-  pub rest : (k : ℕ) (t : WorkingTree) → slice_get new k ≡ Some t → (slice_get old k ≡ Some t) ⊎ (has_root P t.root.now ≡ true)
+  pub rest : (k : ℕ) (t : WorkingTree) → slice_get new k ≡ Some t → (slice_get old k ≡ Some t)
+      ⊎ (has_root P t.root.now ≡ true)
 
 -- The numbers of a job's replicas are numbers of replicas.
 abbrev pub ArePlaced : List Seat → List WorkingTree → Type 0
-ArePlaced seats trees = (j : ℕ) (s : Seat) (k : Side) → slice_get seats j ≡ Some s → place_on s k < length trees
+ArePlaced seats trees =
+    (j : ℕ) (s : Seat) (k : Side) → slice_get seats j ≡ Some s → place_on s k < length trees
 
 -- A job of a world: its profile, archive, number and log, and the numbers of its replicas.
-pub record IsSeat (J : Jobs) (w : World) (trees : List WorkingTree) (j : ℕ) (s : Seat) : Type 0 where
+pub record IsSeat (J : Jobs) (w : World) (trees : List WorkingTree) (j : ℕ) (s : Seat) :
+    Type 0 where
   pub is : slice_get J.profiles j ≡ Some s.job.profile
   pub valid : IsProfile s.job.profile
   pub archive : s.job.archive ≡ J.archive j
@@ -72,16 +76,19 @@ pub record IsSeat (J : Jobs) (w : World) (trees : List WorkingTree) (j : ℕ) (s
   pub places : (k : Side) → IsPlaced trees (root_at s.job.profile k) (place_on s k)
 
 -- These jobs and replicas are those of a world.
-pub record IsTable (J : Jobs) (w : World) (seats : List Seat) (trees : List WorkingTree) : Type 0 where
+pub record IsTable (J : Jobs) (w : World) (seats : List Seat) (trees : List WorkingTree) :
+    Type 0 where
   pub each : (j : ℕ) (s : Seat) → slice_get seats j ≡ Some s → IsSeat J w trees j s
   pub count : length seats ≡ length J.profiles
   pub logs : length w.logs ≡ length J.profiles
   pub replicas : AreTrees w.replica trees
-  pub roots : (k : ℕ) (t : WorkingTree) → slice_get trees k ≡ Some t → list_any (λ P. has_root P t.root.now) J.profiles ≡ true
+  pub roots : (k : ℕ) (t : WorkingTree) → slice_get trees k ≡ Some t
+      → list_any (λ P. has_root P t.root.now) J.profiles ≡ true
 
 -- If the job is stopped and has made a step, it would have asked for another one.
 abbrev pub WouldAsk : JobValue → Type 0
-WouldAsk J = J.stopped ≡ true → 0 < steps_made J.log → is_ask (next J.profile J.archive J.log) ≡ true
+WouldAsk J =
+    J.stopped ≡ true → 0 < steps_made J.log → is_ask (next J.profile J.archive J.log) ≡ true
 
 abbrev pub AllWouldAsk : List Seat → Type 0
 AllWouldAsk seats = (j : ℕ) (s : Seat) → slice_get seats j ≡ Some s → WouldAsk s.job
@@ -89,9 +96,11 @@ AllWouldAsk seats = (j : ℕ) (s : Seat) → slice_get seats j ≡ Some s → Wo
 abbrev pub StayStopped : (ℕ → Bool) → (ℕ → Bool) → Type 0
 StayStopped before after = (j : ℕ) → before j ≡ true → after j ≡ true
 
--- The world v is what turns of a schedule make of w, if each job has so many of its turns: a job that was stopped before
--- has none, one that isn't stopped afterwards has all, and one that was stopped meanwhile has fewer.
-pub record IsThinned (J : Jobs) (w v : World) (schedule : List ℕ) (before after : ℕ → Bool) : Type 0 where
+-- The world v is what turns of a schedule make of w, if each job has so many of its turns: a job
+-- that was stopped before has none, one that isn't stopped afterwards has all, and one that was
+-- stopped meanwhile has fewer.
+pub record IsThinned (J : Jobs) (w v : World) (schedule : List ℕ) (before after : ℕ → Bool) :
+    Type 0 where
   pub limit : ℕ → ℕ
   pub world : v ≡ run J (first_turns limit schedule) w
   pub none : (j : ℕ) → before j ≡ true → limit j ≡ 0
@@ -100,11 +109,13 @@ pub record IsThinned (J : Jobs) (w v : World) (schedule : List ℕ) (before afte
   pub stays : StayStopped before after
 
 -- From these jobs and replicas, a schedule has come as far as others, and the rest of it is left.
-abbrev pub Taken : List Seat → List WorkingTree → List ℕ → List Seat → List WorkingTree → List ℕ → Type 0
+abbrev pub Taken : List Seat → List WorkingTree → List ℕ → List Seat → List WorkingTree → List ℕ
+    → Type 0
 Taken seats trees schedule seats_now trees_now rest =
     (J : Jobs) (w : World) → IsTable J w seats trees
     → (v : World) × IsTable J v seats_now trees_now
-    × ((u : World) (after : ℕ → Bool) → IsThinned J v u rest (stopped_at seats_now) after → IsThinned J w u schedule (stopped_at seats) after)
+    × ((u : World) (after : ℕ → Bool) → IsThinned J v u rest (stopped_at seats_now) after
+    → IsThinned J w u schedule (stopped_at seats) after)
 
 -- So many rounds, in each of which each job has one turn.
 abbrev pub whole_rounds : ℕ → ℕ → List ℕ
@@ -115,18 +126,24 @@ whole_rounds jobs (suc rounds) = range_with_len 0 jobs ++ whole_rounds jobs roun
 abbrev pub IsIdle : Jobs → World → List Seat → ℕ → Type 0
 IsIdle J w seats j = (stopped_at seats j ≡ true) ⊎ (turn J j w ≡ w)
 
--- The jobs and replicas stand for the same world as before, and a turn of any of the first jobs changes nothing in it.
+-- The jobs and replicas stand for the same world as before, and a turn of any of the first jobs
+-- changes nothing in it.
 abbrev pub StayIdle : ℕ → List Seat → List WorkingTree → List Seat → List WorkingTree → Type 0
 StayIdle n seats trees seats_now trees_now =
-    (J : Jobs) (w : World) → IsTable J w seats trees → IsTable J w seats_now trees_now × ((j : ℕ) → j < n → IsIdle J w seats_now j)
+    (J : Jobs) (w : World) → IsTable J w seats trees → IsTable J w seats_now trees_now
+    × ((j : ℕ) → j < n → IsIdle J w seats_now j)
 
--- The outcome of each world that these jobs and replicas stand for; and a job ends as stopped if it was stopped, or if an
--- answer in its log stops it. A job that was stopped would have asked for another step, if that is so of all of these.
+-- The outcome of each world that these jobs and replicas stand for; and a job ends as stopped if it
+-- was stopped, or if an answer in its log stops it. A job that was stopped would have asked for
+-- another step, if that is so of all of these.
 abbrev pub IsOutcomeAfter : State → List Seat → List WorkingTree → Outcome → Type 0
 IsOutcomeAfter S seats trees o =
-    ((Ps : List Parts) (w : World) → HasReplicas S Ps → IsTable (jobs_of S Ps) w seats trees → IsOutcomeWith S Ps (log_of w) w.replica o)
-    × ((j : ℕ) (e : JobEnd) → slice_get o.jobs j ≡ Some e → e.end ≢ end.Stopped → stopped_at seats j ≡ false)
-    × ((Ps : List Parts) (w : World) (j : ℕ) (P : Parts) (e : JobEnd) → IsTable (jobs_of S Ps) w seats trees
+    ((Ps : List Parts) (w : World) → HasReplicas S Ps → IsTable (jobs_of S Ps) w seats trees
+    → IsOutcomeWith S Ps (log_of w) w.replica o)
+    × ((j : ℕ) (e : JobEnd) → slice_get o.jobs j ≡ Some e → e.end ≢ end.Stopped
+    → stopped_at seats j ≡ false)
+    × ((Ps : List Parts) (w : World) (j : ℕ) (P : Parts) (e : JobEnd)
+    → IsTable (jobs_of S Ps) w seats trees
     → slice_get Ps j ≡ Some P → slice_get o.jobs j ≡ Some e → e.end ≡ end.Stopped
     → next P (archive_of S (Some P)) e.log ≢ Stopped
     → (stopped_at seats j ≡ true)

@@ -1,4 +1,5 @@
--- What the jobs of a set leave, whatever the order of their turns. Each clause can be read by itself.
+-- What the jobs of a set leave, whatever the order of their turns. Each clause can be read by
+-- itself.
 use Rattle.std.specs.Prelude.{◌≡◌, ◌≢◌, ℕ, false, List, [], ◌∷◌, ◌++◌, length, replicate, slice_get, Some, IsTrue}
 use Rattle.hub_path.specs.Path.{Path}
 use Rattle.hub_profile.specs.Parts.{Parts}
@@ -27,8 +28,8 @@ LogsAreAlone J replicas logs =
     (j : ℕ) (P : Parts) → slice_get J.profiles j ≡ Some P
     → logs j ≡ alone J replicas j (length (logs j))
 
--- No operation of a job changes a path that another job of the root passes through. A job passes through each path that
--- it reaches.
+-- No operation of a job changes a path that another job of the root passes through. A job passes
+-- through each path that it reaches.
 abbrev pub OthersAreLeftAlone : Jobs → (Path → Replica) → (Path → List Entry) → Type 0
 OthersAreLeftAlone J replicas histories =
     (j : ℕ) (P : Parts) (r q : Path) (front rest : List Entry) (e : Entry)
@@ -37,8 +38,8 @@ OthersAreLeftAlone J replicas histories =
     → contents_at (replay (replicas r) (front ++ e ∷ [])) q
     ≡ contents_at (replay (replicas r) front) q
 
--- On the paths that a job reaches, each of its replicas is as if the job alone had taken turns, as many as its log has
--- entries.
+-- On the paths that a job reaches, each of its replicas is as if the job alone had taken turns, as
+-- many as its log has entries.
 abbrev pub OwnPathsAreAlone : Jobs → (Path → Replica) → (Path → Replica) → (ℕ → List Logged)
     → Type 0
 OwnPathsAreAlone J before after logs =
@@ -62,11 +63,12 @@ NoRuleForbids Rs r old new p =
     (k : ℕ) (R : Rule) → slice_get Rs k ≡ Some R → R.root ≡ r
     → R.verb ≡ verb_of (mark_of old) (mark_of new) → R.matches p ≡ false
 
--- Each Set creates, updates or deletes what its job's profile allows there, judged by the contents that it finds, and no
--- rule forbids it.
+-- Each Set creates, updates or deletes what its job's profile allows there, judged by the contents
+-- that it finds, and no rule forbids it.
 abbrev pub SetsAreAllowed : List Parts → List Rule → (Path → Replica) → (Path → List Entry) → Type 0
 SetsAreAllowed Ps Rs replicas histories =
     (Q : Parts) (r p : Path) (c : Contents) (front rest : List Entry) (e : Entry)
-    → histories r ≡ front ++ e ∷ rest → slice_get Ps e.job ≡ Some Q → IsTrue (has_root Q r) → e.op ≡ Set p c
+    → histories r ≡ front ++ e ∷ rest → slice_get Ps e.job ≡ Some Q → IsTrue (has_root Q r)
+    → e.op ≡ Set p c
     → IsTrue (may_at Q r p (verb_of (mark_at (replay (replicas r) front) p) (mark_of c)))
     × NoRuleForbids Rs r (contents_at (replay (replicas r) front) p) c p

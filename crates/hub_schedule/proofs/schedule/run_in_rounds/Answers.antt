@@ -1,14 +1,14 @@
 use Rattle.std.proofs.Common.{length, subst}
+use Rattle.std.proofs.lemmas.Option.{slice_get_within}
 use Rattle.hub_job.specs.Outcome.{jobs_of, replicas_of}
 use Rattle.hub_job.specs.World.{opening}
 use Rattle.hub_schedule.specs.Table.{IsThinned, place_on, stopped_at, whole_rounds}
 use Rattle.hub_schedule.proofs.Joined.{after_turns, none_stopped}
-use Rattle.hub_schedule.proofs.Tables.{within}
 use Rattle.hub_schedule.proofs.schedule.run_in_rounds.Goals as goal
 
 pub take_rounds-requires : goal.take_rounds-requires
 take_rounds-requires c = λ j s k e.
-    let p = (c.in_ok-seats.ensures.table.each j s e).places k in within c.in_ok-seats.trees.items (place_on s k) p.0 p.1
+    let p = (c.in_ok-seats.ensures.table.each j s e).places k in slice_get_within c.in_ok-seats.trees.items (place_on s k) p.0 p.1
 
 pub outcome_of-requires : goal.outcome_of-requires
 outcome_of-requires c =

@@ -2,12 +2,12 @@ use Rattle.hub_job.specs.Outcome.{jobs_of, replicas_of}
 use Rattle.hub_job.specs.World.{opening}
 use Rattle.hub_schedule.specs.Table.{place_on, stopped_at}
 use Rattle.hub_schedule.proofs.Joined.{after_turns, none_stopped}
-use Rattle.hub_schedule.proofs.Tables.{within}
 use Rattle.hub_schedule.proofs.schedule.run_schedule.Goals as goal
+use Rattle.std.proofs.lemmas.Option.{slice_get_within}
 
 pub take_turns-requires-clause-placed : goal.take_turns-requires-clause-placed
 take_turns-requires-clause-placed c = λ j s k e.
-    let p = (c.in_ok-seats.ensures.table.each j s e).places k in within c.in_ok-seats.trees.items (place_on s k) p.0 p.1
+    let p = (c.in_ok-seats.ensures.table.each j s e).places k in slice_get_within c.in_ok-seats.trees.items (place_on s k) p.0 p.1
 
 pub outcome_of-requires : goal.outcome_of-requires
 outcome_of-requires c =

@@ -2,7 +2,7 @@ use Rattle.std.proofs.Common.{length, sym}
 use Rattle.hub_schedule.specs.Table.{whole_rounds}
 use Rattle.hub_schedule.proofs.InRounds.{whole_below}
 use Rattle.hub_schedule.proofs.Rounded.{number_at}
-use Rattle.hub_schedule.proofs.Runnable.{have_replicas}
+use Rattle.hub_schedule.specs.Laws.Missing.{have_replicas}
 use Rattle.hub_schedule.proofs.schedule.simulate_rounds.Goals as goal
 
 pub run_in_rounds-requires : goal.run_in_rounds-requires

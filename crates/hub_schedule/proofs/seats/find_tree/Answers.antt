@@ -1,9 +1,10 @@
 use Rattle.std.proofs.Common.{◌≢◌, Some, refl, ap, sym, ◌∙◌}
 use Rattle.std.proofs.lemmas.Bool.{false≢true}
 use Rattle.std.proofs.lemmas.Option.{slice_get_read}
-use Rattle.hub_job.proofs.Blind.{same_path, path_itself}
+use Rattle.hub_reconcile.specs.Laws.Views.{same_paths}
+use Rattle.hub_job.specs.Laws.Untouched.{path_itself}
 use Rattle.hub_schedule.specs.declared.seat.WorkingTree.{WorkingTree}
-use Rattle.hub_schedule.proofs.Found.{also_here}
+use Rattle.hub_schedule.specs.Laws.Lists.{also_here}
 use Rattle.hub_schedule.proofs.seats.find_tree.Goals as goal
 
 pub returns-then-eq : goal.returns-then-eq
@@ -11,7 +12,7 @@ returns-then-eq c =
     let t = c.index-trees-place.result in (
       t,
       slice_get_read c.args.trees.now _ c.loop-place.place t refl c.loop-place-test.true c.index-trees-place.is,
-      same_path t.root.now c.args.root.now (sym c.eq.ensures ∙ c.if-eq.true),
+      same_paths t.root.now c.args.root.now (sym c.eq.ensures ∙ c.if-eq.true),
     )
 
 pub loop-place-preserved : goal.loop-place-preserved

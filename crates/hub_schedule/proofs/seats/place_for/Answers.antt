@@ -1,10 +1,11 @@
 use Rattle.std.proofs.Common.{◌≡◌, List, [], ◌∷◌, length, Some, slice_get, refl, sym, subst, arith}
+use Rattle.std.proofs.lemmas.Option.{slice_get_within}
 use Rattle.hub_job.specs.Outcome.{replicas_of}
 use Rattle.hub_schedule.specs.declared.seat.WorkingTree.{WorkingTree}
 use Rattle.hub_schedule.specs.Table.{AreTrees, IsNotIn, IsPlaced}
-use Rattle.hub_schedule.proofs.Opened.{get_front, rest_push, trees_push}
+use Rattle.hub_schedule.specs.Laws.Lists.{get_front}
+use Rattle.hub_schedule.proofs.Opened.{rest_push, trees_push}
 use Rattle.hub_schedule.proofs.Places.{placed_last}
-use Rattle.hub_schedule.proofs.Tables.{within}
 use Rattle.hub_schedule.proofs.seats.place_for.Goals as goal
 
 pub returns-in-Some-clause-placed : goal.returns-in-Some-clause-placed
@@ -21,7 +22,7 @@ returns-clause-trees c =
     subst (λ (ts : List WorkingTree). IsNotIn ts (length ts) c.args.root.now) c.as_slice.ensures.value c.in_default.ensures in
     subst (AreTrees (replicas_of c.args.state.now)) (sym c.in_ok-push.ensures.items)
     (trees_push (replicas_of c.args.state.now) c.args.trees.now.items (record { root = c.args.root; tree = c.in_ok-tree.tree }) c.requires c.in_ok-tree.ensures
-    (λ k u e. absent k u (within c.args.trees.now.items k u e) e))
+    (λ k u e. absent k u (slice_get_within c.args.trees.now.items k u e) e))
 
 pub returns-clause-more : goal.returns-clause-more
 returns-clause-more c = λ k t e.

@@ -2,7 +2,7 @@ use Rattle.std.proofs.Common.{◌+◌, ◌≤◌, ◌∙◌, ℕ, drop, length, 
 use Rattle.std.specs.Prelude.{slice_index_or}
 use Rattle.std.proofs.lemmas.Option.{slice_get-get_or}
 use Rattle.std.proofs.lemmas.List.{drop_all}
-use Rattle.hub_schedule.proofs.Found.{drop_at}
+use Rattle.hub_schedule.specs.Laws.Lists.{drop_at}
 use Rattle.hub_schedule.specs.Table.{Taken}
 use Rattle.hub_schedule.proofs.Thinned.{taken_all, taken_more}
 use Rattle.hub_schedule.proofs.turn.take_turns.Goals as goal

@@ -1,0 +1,117 @@
+-- Profiles that are taken out round by round.
+use Rattle.std.proofs.Common.{◌≡◌, ◌∙◌, ◌&&◌, ◌==◌, ◌<◌, ◌+◌, ℕ, suc, Bool, true, false, not, cond, List, [], ◌∷◌, filter, get_or, length, map, Some, refl, sym, ap, ap₂, subst, arith}
+use Rattle.std.specs.List.{range_with_len}
+use Rattle.std.specs.Prelude.{nat_lt, slice_get}
+use Rattle.std.proofs.lemmas.Bool.Decides.{nat_tests}
+use Rattle.std.proofs.lemmas.List.FromFn.{get_or-map-range_with_len, length-map-range_with_len}
+use Rattle.std.proofs.lemmas.Option.{get_or_from_slice_get, slice_get_within}
+use Rattle.hub_profile.specs.Parts.{Parts}
+use Rattle.hub_cert.specs.Set.{IsSafeSet, Members}
+use Rattle.hub_cert.specs.declared.fault.CheckFault.{CheckFault}
+use Rattle.hub_rounds.specs.Rounds.{ArePlaced, AreRivals, AreRounds, IsPlaced, is_in, is_in_some, is_outside, members}
+use Rattle.hub_rounds.specs.declared.placing.Placed.{Placed}
+use Rattle.hub_rounds.specs.declared.placing.Placing.{Placing}
+use Rattle.hub_rounds.specs.declared.placing.Placing.TheVariants.{Left, Round}
+use Rattle.hub_rounds.specs.declared.rounds.Rounds.{Rounds}
+
+-- What passes one test and then another.
+filter-both : {X : Type 0} (f g : X → Bool) (xs : List X) → filter f (filter g xs) ≡ filter (λ x. g x && f x) xs
+filter-both f g [] = refl
+filter-both {X} f g (x ∷ xs) = go (g x) (filter-both f g xs)
+  where
+    go : (b : Bool) → filter f (filter g xs) ≡ filter (λ y. g y && f y) xs
+        → filter f (cond b (x ∷ filter g xs) (filter g xs)) ≡ cond (b && f x) (x ∷ filter (λ y. g y && f y) xs) (filter (λ y. g y && f y) xs)
+    go true rest = ap (λ ys. cond (f x) (x ∷ ys) ys) rest
+    go false rest = rest
+
+-- Tests that agree on all items of a list.
+filter-alike : {X : Type 0} (f g : X → Bool) (xs : List X) → ((n : ℕ) (x : X) → slice_get xs n ≡ Some x → f x ≡ g x) → filter f xs ≡ filter g xs
+filter-alike f g [] same = refl
+filter-alike f g (x ∷ xs) same = ap₂ (λ b ys. cond b (x ∷ ys) ys) (same 0 x refl) (filter-alike f g xs (λ n y at. same (suc n) y at))
+
+filter-all : {X : Type 0} (f : X → Bool) (xs : List X) → ((x : X) → f x ≡ true) → filter f xs ≡ xs
+filter-all f [] all = refl
+filter-all f (x ∷ xs) all = ap₂ (λ b ys. cond b (x ∷ ys) ys) (all x) (filter-all f xs all)
+
+none-below-zero : (q : Placing) → is_outside 0 q ≡ true
+none-below-zero (Left why) = refl
+none-below-zero (Round own) = go (nat_lt own 0) refl
+  where
+    go : (b : Bool) → nat_lt own 0 ≡ b → not b ≡ true
+    go false e = refl
+    go true e = let l : own < 0 = grind (arith, nat_tests, e) in absurd (omega (arith, l))
+
+-- Who is in a round isn't in one before it.
+in-outside : (j : ℕ) (q : Placing) → (is_outside j q && is_in j q) ≡ is_in j q
+in-outside j (Left why) = refl
+in-outside j (Round own) = go (nat_lt own j) refl
+  where
+    go : (b : Bool) → nat_lt own j ≡ b → (not b && own == j) ≡ (own == j)
+    go false e = refl
+    go true e = grind (arith, nat_tests, e)
+
+-- Who is in none of the rounds before, and not in this one.
+outside-next : (j : ℕ) (q : Placing) → (is_outside j q && not (is_in j q)) ≡ is_outside (j + 1) q
+outside-next j (Left why) = refl
+outside-next j (Round own) = go (nat_lt own j) (own == j) (nat_lt own (j + 1)) refl refl refl
+  where
+    go : (b c d : Bool) → nat_lt own j ≡ b → (own == j) ≡ c → nat_lt own (j + 1) ≡ d → (not b && not c) ≡ not d
+    go true c true e f h = refl
+    go true c false e f h = absurd (grind (arith, nat_tests, e, h))
+    go false true true e f h = refl
+    go false true false e f h = absurd (grind (arith, nat_tests, f, h))
+    go false false true e f h = absurd (grind (arith, nat_tests, e, f, h))
+    go false false false e f h = refl
+
+pub all-outside : (ps : List Placed) → ps ≡ filter (λ p. is_outside 0 p.placing) ps
+all-outside ps = sym (filter-all (λ (p : Placed). is_outside 0 p.placing) ps (λ p. none-below-zero p.placing))
+
+pub members-outside : (j : ℕ) (ps : List Placed) → members j (filter (λ p. is_outside j p.placing) ps) ≡ members j ps
+members-outside j ps =
+    ap (map (λ (p : Placed). p.profile))
+    (filter-both (λ (p : Placed). is_in j p.placing) (λ (p : Placed). is_outside j p.placing) ps
+    ∙ filter-alike (λ (p : Placed). is_outside j p.placing && is_in j p.placing) (λ (p : Placed). is_in j p.placing) ps (λ n p at. in-outside j p.placing))
+
+pub others-outside : (j : ℕ) (ps : List Placed) → filter (λ p. not (is_in j p.placing)) (filter (λ p. is_outside j p.placing) ps) ≡ filter (λ p. is_outside (j + 1) p.placing) ps
+others-outside j ps =
+    filter-both (λ (p : Placed). not (is_in j p.placing)) (λ (p : Placed). is_outside j p.placing) ps
+    ∙ filter-alike (λ (p : Placed). is_outside j p.placing && not (is_in j p.placing)) (λ (p : Placed). is_outside (j + 1) p.placing) ps (λ n p at. outside-next j p.placing)
+
+-- Whoever is in none of all rounds was left out.
+outside-left : (es : List CheckFault) (count i : ℕ) (q : Placing) → IsPlaced es count i q → is_outside count q ≡ not (is_in_some q)
+outside-left es count i (Left why) h = refl
+outside-left es count i (Round own) h = go (nat_lt own count) refl
+  where
+    go : (b : Bool) → nat_lt own count ≡ b → not b ≡ false
+    go true e = refl
+    go false e = absurd (grind (arith, nat_tests, e, h))
+
+pub left-outside : (es : List CheckFault) (count : ℕ) (ps : List Placed) → ArePlaced es count ps
+    → filter (λ p. is_outside count p.placing) ps ≡ filter (λ p. not (is_in_some p.placing)) ps
+left-outside es count ps told = filter-alike (λ (p : Placed). is_outside count p.placing) (λ (p : Placed). not (is_in_some p.placing)) ps (λ n p at. outside-left es count n p.placing (told n p at))
+
+-- The profiles of a round, by its number.
+round-at : (count : ℕ) (rs : List (List Parts)) (f : ℕ → List Parts) (k : ℕ) (Ps : List Parts) → rs ≡ map f (range_with_len 0 count) → slice_get rs k ≡ Some Ps → (k < count) × (Ps ≡ f k)
+round-at count rs f k Ps is at =
+    let many = ap length is ∙ length-map-range_with_len f 0 count in
+    let within = slice_get_within rs k Ps at in
+    let l : k < count = omega (arith, many, within) in
+    (l, sym (get_or_from_slice_get rs k Ps Ps at) ∙ (ap (λ xs. get_or xs k Ps) is ∙ get_or-map-range_with_len f 0 count k k Ps l (omega arith)))
+
+-- What is known of the profiles and of the rounds makes the answer.
+pub are-rounds : (S : Members) (es : List CheckFault) (r : Rounds) (ps : List Placed) (count : ℕ) → map (λ p. p.profile) ps ≡ S.profiles → ArePlaced es count ps
+    → r.rounds ≡ map (λ k. members k ps) (range_with_len 0 count) → r.left ≡ filter (λ p. is_outside count p.placing) ps
+    → ((k : ℕ) → k < count → IsSafeSet (record { profiles = members k ps; rules = S.rules })) → AreRivals es ps r.rivals → AreRounds S es r
+are-rounds S es r ps count all told rounds left safe rivals =
+    let many : length r.rounds ≡ count = ap length rounds ∙ length-map-range_with_len (λ k. members k ps) 0 count in
+    record {
+      placed = ps;
+      all = all;
+      told = subst (λ (n : ℕ). ArePlaced es n ps) (sym many) told;
+      rounds = rounds ∙ ap (λ n. map (λ k. members k ps) (range_with_len 0 n)) (sym many);
+      left = left ∙ left-outside es count ps told;
+      safe = λ k Ps at.
+          let w = round-at count r.rounds (λ n. members n ps) k Ps rounds at in
+          subst (λ (Qs : List Parts). IsSafeSet (record { profiles = Qs; rules = S.rules })) (sym w.1) (safe k w.0);
+      rivals = rivals;
+    }

@@ -1,0 +1,62 @@
+-- Lists to which items are added.
+use Rattle.std.proofs.Common.{◌≡◌, ◌⊎◌, inl, inr, ⊎_elim, ◌<◌, ◌≤◌, ◌+◌, ℕ, zero, suc, List, [], ◌∷◌, ◌++◌, length, Option, None, Some, refl, ap, subst, sym, arith}
+use Rattle.std.specs.Prelude.{IfSome, slice_get}
+use Rattle.std.proofs.lemmas.Bool.{cases_lt}
+use Rattle.std.proofs.lemmas.Option.{same_Some, slice_get_within}
+use Rattle.hub_cert.specs.declared.fault.CheckFault.{CheckFault}
+use Rattle.hub_rounds.specs.Lines.{HasPair}
+use Rattle.hub_rounds.specs.Rounds.{ArePlaced, AreRivals, IsInRound, IsPlaced, MayJoin}
+use Rattle.hub_rounds.specs.declared.placing.Placed.{Placed}
+use Rattle.hub_rounds.specs.declared.placing.Placing.{Placing}
+use Rattle.hub_rounds.specs.declared.placing.Placing.TheVariants.{Left, Round}
+
+-- (also in hub_search/proofs/Growing; they belong into hub_path's lists)
+pub snoc-cases : {X : Type 0} (xs : List X) (x y : X) (j : ℕ) → slice_get (xs ++ x ∷ []) j ≡ Some y → (slice_get xs j ≡ Some y) ⊎ ((j ≡ length xs) × (x ≡ y))
+snoc-cases [] x y zero e = inr (refl, same_Some x y e)
+snoc-cases [] x y (suc j) e = cc
+snoc-cases (z ∷ zs) x y zero e = inl e
+snoc-cases (z ∷ zs) x y (suc j) e = ⊎_elim (λ h. inl h) (λ h. inr (ap suc h.0, h.1)) (snoc-cases zs x y j e)
+
+-- What holds of the value that may be there, and what follows from it.
+pub some-weaker : {X : Type 0} (r : Option X) (P Q : X → Type 0) → ((x : X) → P x → Q x) → IfSome r P → IfSome r Q
+some-weaker None P Q f h = tt
+some-weaker (Some x) P Q f h = f x h
+
+-- No rivals, and one more.
+pub no-rivals : (es : List CheckFault) (ps : List Placed) → AreRivals es ps []
+no-rivals es ps = record { placed = λ m i at. absurd (gone m i at); clash = λ m n i j l at_i at_j. absurd (gone m i at_i) }
+  where
+    gone : (n x : ℕ) → slice_get [] n ≡ Some x → ⊥
+    gone n x e = cc
+
+pub one-rival-more : (es : List CheckFault) (ps : List Placed) (ns : List ℕ) (k : ℕ) → AreRivals es ps ns → MayJoin es ps ns k → AreRivals es ps (ns ++ k ∷ [])
+one-rival-more es ps ns k are may = record {
+  placed = λ m i at. ⊎_elim (λ old. are.placed m i old) (λ new. subst (λ (x : ℕ). IsInRound ps x) new.1 may.placed) (snoc-cases ns k i m at);
+  clash = λ m n i j l at_i at_j. ⊎_elim
+      (λ old_i. ⊎_elim (λ old_j. are.clash m n i j l old_i old_j) (λ new_j. subst (λ (x : ℕ). HasPair es i x) new_j.1 (may.clashes m i old_i)) (snoc-cases ns k j n at_j))
+      (λ new_i. ⊎_elim
+      (λ old_j. let below = slice_get_within ns n j old_j in let last = new_i.0 in absurd (omega (arith, l, below, last)))
+      (λ new_j. let last_i = new_i.0 in let last_j = new_j.0 in absurd (omega (arith, l, last_i, last_j)))
+      (snoc-cases ns k j n at_j))
+      (snoc-cases ns k i m at_i);
+}
+
+-- Where profiles stand when there may be more rounds, and one more profile.
+placed-still : (es : List CheckFault) (n m i : ℕ) (q : Placing) → n ≤ m → IsPlaced es n i q → IsPlaced es m i q
+placed-still es n m i (Round k) l h = omega (arith, l, h)
+placed-still es n m i (Left why) l h = h
+
+pub none-placed : (es : List CheckFault) (n : ℕ) → ArePlaced es n []
+none-placed es n = λ i p at. absurd (gone i p at)
+  where
+    gone : (i : ℕ) (p : Placed) → slice_get [] i ≡ Some p → ⊥
+    gone i p e = cc
+
+pub one-placed-more : (es : List CheckFault) (n m : ℕ) (ps : List Placed) (p : Placed) → n ≤ m → IsPlaced es m (length ps) p.placing → ArePlaced es n ps → ArePlaced es m (ps ++ p ∷ [])
+one-placed-more es n m ps p l is are = λ i q at. ⊎_elim
+    (λ old. placed-still es n m i q.placing l (are i q old))
+    (λ new. subst (λ (r : Placed). IsPlaced es m i r.placing) new.1 (subst (λ (x : ℕ). IsPlaced es m x p.placing) (sym new.0) is))
+    (snoc-cases ps p q i at)
+
+pub less-or-same : (k n : ℕ) → k < n + 1 → (k < n) ⊎ (k ≡ n)
+less-or-same k n l = ⊎_elim (λ h. inl h) (λ h. inr (omega (arith, h, l))) (cases_lt k n)

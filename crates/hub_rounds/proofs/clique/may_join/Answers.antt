@@ -1,0 +1,27 @@
+use Rattle.std.proofs.Common.{◌∙◌, ⊎_elim, ℕ, get_or, sym, ap, subst, arith}
+use Rattle.std.proofs.lemmas.Option.{get_or_from_slice_get, slice_get_within}
+use Rattle.hub_rounds.specs.Lines.{HasPair}
+use Rattle.hub_rounds.proofs.Rivals.{less-or-same}
+use Rattle.hub_rounds.proofs.clique.may_join.Goals as goal
+
+pub loop-rival-init : goal.loop-rival-init
+loop-rival-init c = λ m j l at. absurd (omega (arith, l))
+
+pub loop-rival-preserved : goal.loop-rival-preserved
+loop-rival-preserved c =
+    let rivals = c.args.rivals.now in
+    let i = c.loop-rival.rival-index in
+    λ m j l at. ⊎_elim
+    (λ before. c.loop-rival.invariant m j before at)
+    (λ now. subst (λ (x : ℕ). HasPair c.args.lines.now x c.args.profile) (ap (λ (n : ℕ). get_or rivals n 0) (sym now) ∙ get_or_from_slice_get rivals m j 0 at) (c.clash.ensures c.if-not-clash.false))
+    (less-or-same m i l)
+
+pub returns : goal.returns
+returns c =
+    let rivals = c.args.rivals.now in
+    let past = c.loop-rival-test.false in
+    let end = c.loop-rival.auto.rival-index-end in
+    λ is. record {
+      placed = c.is_in_round.ensures c.if-not-is_in_round.false;
+      clashes = λ m j at. let h = slice_get_within rivals m j at in c.loop-rival.invariant m j (omega (arith, h, past, end)) at;
+    }

@@ -1,0 +1,29 @@
+use Rattle.std.proofs.Common.{◌∙◌, ◌++◌, ◌∷◌, [], ℕ, List, map, sym, ap, subst, length}
+use Rattle.std.proofs.lemmas.List.{map-append}
+use Rattle.hub_profile.specs.Parts.{Parts}
+use Rattle.hub_rounds.specs.Rounds.{ArePlaced, IsPlaced}
+use Rattle.hub_rounds.specs.declared.placing.Placed.{Placed}
+use Rattle.hub_rounds.proofs.Rivals.{none-placed, one-placed-more}
+use Rattle.hub_rounds.proofs.placing.place_each.Goals as goal
+
+pub loop-profile-init : goal.loop-profile-init
+loop-profile-init c =
+    let es = c.args.lines.now in
+    let n = length c.new-seen.result.items in
+    record {
+      all = ap (map (λ (p : Placed). p.profile)) c.in_ok-placed.ensures.items;
+      told = subst (λ (ps : List Placed). ArePlaced es n ps) (sym c.in_ok-placed.ensures.items) (none-placed es n);
+    }
+
+pub loop-profile-preserved : goal.loop-profile-preserved
+loop-profile-preserved c =
+    let es = c.args.lines.now in
+    let ps = c.loop-profile.placed.items in
+    let i = c.loop-profile.invariant in
+    let p : Placed = record { profile = c.in-Some.profile; placing = c.in_ok-placing.placing } in
+    let e = c.in_ok-placing.ensures in
+    let told = subst (λ (n : ℕ). IsPlaced es (length c.placing_of.new.seen.items) n p.placing) (c.len-in-loop-profile.ensures ∙ c.loop-profile.placed.ok.0) e.told in
+    record {
+      all = ap (map (λ (q : Placed). q.profile)) c.in_ok-push.ensures.items ∙ (map-append (λ (q : Placed). q.profile) ps (p ∷ []) ∙ ap (λ (xs : List Parts). xs ++ p.profile ∷ []) i.all);
+      told = subst (λ (qs : List Placed). ArePlaced es (length c.placing_of.new.seen.items) qs) (sym c.in_ok-push.ensures.items) (one-placed-more es (length c.loop-profile.seen.items) (length c.placing_of.new.seen.items) ps p e.grows told i.told);
+    }

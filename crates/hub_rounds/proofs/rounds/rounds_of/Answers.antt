@@ -1,0 +1,23 @@
+use Rattle.std.proofs.Common.{◌∙◌, List, subst}
+use Rattle.hub_cert.specs.Set.{IsSafeSet}
+use Rattle.hub_cert.specs.declared.fault.CheckFault.{CheckFault}
+use Rattle.hub_profile.specs.declared.rule.Rule.{Rule}
+use Rattle.hub_rounds.specs.Rounds.{ArePlaced, AreRivals, members}
+use Rattle.hub_rounds.specs.declared.placing.Placed.{Placed}
+use Rattle.hub_rounds.proofs.Cutting.{are-rounds}
+use Rattle.hub_rounds.proofs.rounds.rounds_of.Goals as goal
+
+pub returns : goal.returns
+returns c =
+    let ps = c.in_ok-placed.placed.items in
+    let count = c.in_ok-placed.count in
+    let rivals = c.in_ok-rivals.rivals in
+    let e = c.in_ok-rounds.ensures in
+    let lines = c.lines-lines.ensures in
+    are-rounds c.args.set c.args.clashes.now _ ps count
+    (c.in_ok-placed.ensures.all ∙ (c.into_vec-profiles.ensures ∙ c.into_members-profiles.ensures.profiles))
+    (subst (λ (es : List CheckFault). ArePlaced es count ps) lines c.in_ok-placed.ensures.told)
+    e.rounds
+    e.left
+    (λ k l. subst (λ (Rs : List Rule). IsSafeSet (record { profiles = members k ps; rules = Rs })) c.into_members-profiles.ensures.rules (e.safe k l))
+    (subst (λ (es : List CheckFault). AreRivals es ps rivals) lines (subst (λ (qs : List Placed). AreRivals c.lines-lines.result.now qs rivals) c.as_slice-2.ensures.value c.in_ok-rivals.ensures.rivals))

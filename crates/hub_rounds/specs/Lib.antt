@@ -1,0 +1,3 @@
+pub mod Lines
+pub mod Rounds
+pub mod RoundsExamples

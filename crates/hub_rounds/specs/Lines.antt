@@ -1,0 +1,46 @@
+-- What lines say of which profiles. A line is a fault of the check.
+use Rattle.std.specs.Prelude.{◌≡◌, ◌==◌, ◌&&◌, ◌||◌, ℕ, Bool, true, false, List, Contains}
+use Rattle.hub_cert.specs.declared.fault.CheckFault.{CheckFault}
+use Rattle.hub_cert.specs.declared.fault.CheckFault.TheVariants as fault
+use Rattle.hub_cert.specs.declared.goal.Goal.{Goal}
+use Rattle.hub_cert.specs.declared.goal.Goal.TheVariants as goal
+use Rattle.hub_rounds.specs.declared.placing.Reason.{Reason}
+use Rattle.hub_rounds.specs.declared.placing.Reason.TheVariants.{Breach, TooLarge}
+use Rattle.hub_rounds.specs.declared.subject.Subject.{Subject}
+use Rattle.hub_rounds.specs.declared.subject.Subject.TheVariants.{Pair, Alone, Nothing}
+
+-- A goal that is too large: both profiles of a clash count as clashing, and the profile of a breach as breaking the rule.
+abbrev pub subject_of_goal : Goal → Subject
+subject_of_goal (goal.Clash w o place) = Pair w o
+subject_of_goal (goal.Breach p r) = Alone p (TooLarge r)
+
+-- What a line says of which profiles.
+abbrev pub subject_of : CheckFault → Subject
+subject_of fault.TooManyProfiles = Nothing
+subject_of (fault.SameName name) = Nothing
+subject_of (fault.NestedRoots first second) = Nothing
+subject_of (fault.Overlap w o place held path) = Pair w o
+subject_of (fault.Breach p r path) = Alone p (Breach r)
+subject_of (fault.TooLarge g) = subject_of_goal g
+subject_of (fault.Missing g) = Nothing
+subject_of (fault.NoStart g) = Nothing
+subject_of (fault.NotClosed g k class) = Nothing
+subject_of (fault.Accepting g k) = Nothing
+subject_of (fault.Stray i) = Nothing
+subject_of (fault.BadText line) = Nothing
+subject_of (fault.AlphabetFault e) = Nothing
+subject_of fault.OutOfMemory = Nothing
+
+-- It is about these two profiles, either way round.
+abbrev pub names_pair : Subject → ℕ → ℕ → Bool
+names_pair (Pair w o) i j = (w == i && o == j) || (w == j && o == i)
+names_pair (Alone p why) i j = false
+names_pair Nothing i j = false
+
+-- One of the lines is about these two profiles: they clash, or whether they do was not decided.
+abbrev pub HasPair : List CheckFault → ℕ → ℕ → Type 0
+HasPair es i j = (e : CheckFault) × Contains es e × (names_pair (subject_of e) i j ≡ true)
+
+-- One of the lines is about this profile alone, and says why it is in no round.
+abbrev pub HasOwnLine : List CheckFault → ℕ → Reason → Type 0
+HasOwnLine es i why = (e : CheckFault) × Contains es e × (subject_of e ≡ Alone i why)

@@ -1,0 +1,62 @@
+-- Where the profiles of a set stand, and rounds.
+use Rattle.std.specs.Prelude.{◌≡◌, ◌<◌, ◌==◌, ℕ, nat_lt, Bool, true, false, not, List, map, filter, length, slice_get, Some}
+use Rattle.std.specs.List.{range_with_len}
+use Rattle.hub_profile.specs.Parts.{Parts}
+use Rattle.hub_cert.specs.Set.{IsSafeSet, Members}
+use Rattle.hub_cert.specs.declared.fault.CheckFault.{CheckFault}
+use Rattle.hub_rounds.specs.Lines.{HasOwnLine, HasPair}
+use Rattle.hub_rounds.specs.declared.placing.Placed.{Placed}
+use Rattle.hub_rounds.specs.declared.placing.Placing.{Placing}
+use Rattle.hub_rounds.specs.declared.placing.Placing.TheVariants.{Round, Left}
+use Rattle.hub_rounds.specs.declared.rounds.Rounds.{Rounds}
+
+-- A profile stands in this round; in some round; and in no round below this number.
+abbrev pub is_in : ℕ → Placing → Bool
+is_in k (Round own) = own == k
+is_in k (Left why) = false
+
+abbrev pub is_in_some : Placing → Bool
+is_in_some (Round own) = true
+is_in_some (Left why) = false
+
+abbrev pub is_outside : ℕ → Placing → Bool
+is_outside n (Round own) = not (nat_lt own n)
+is_outside n (Left why) = true
+
+-- The profiles of a round, in their order.
+abbrev pub members : ℕ → List Placed → List Parts
+members k ps = map (λ p. p.profile) (filter (λ p. is_in k p.placing) ps)
+
+-- A profile stands in one of so many rounds, or a line says why it is in none.
+abbrev pub IsPlaced : List CheckFault → ℕ → ℕ → Placing → Type 0
+IsPlaced es count i (Round k) = k < count
+IsPlaced es count i (Left why) = HasOwnLine es i why
+
+-- Each of them does.
+abbrev pub ArePlaced : List CheckFault → ℕ → List Placed → Type 0
+ArePlaced es count ps = (i : ℕ) (p : Placed) → slice_get ps i ≡ Some p → IsPlaced es count i p.placing
+
+-- The profile of that number stands in a round.
+abbrev pub IsInRound : List Placed → ℕ → Type 0
+IsInRound ps i = (p : Placed) × (slice_get ps i ≡ Some p) × (is_in_some p.placing ≡ true)
+
+-- It does, and it clashes with each of these.
+pub record MayJoin (es : List CheckFault) (ps : List Placed) (ns : List ℕ) (i : ℕ) : Type 0 where
+  pub placed : IsInRound ps i
+  pub clashes : (m j : ℕ) → slice_get ns m ≡ Some j → HasPair es j i
+
+-- Profiles of rounds, of which each two clash. So each is in a round of its own.
+pub record AreRivals (es : List CheckFault) (ps : List Placed) (ns : List ℕ) : Type 0 where
+  pub placed : (m i : ℕ) → slice_get ns m ≡ Some i → IsInRound ps i
+  pub clash : (m n i j : ℕ) → m < n → slice_get ns m ≡ Some i → slice_get ns n ≡ Some j → HasPair es i j
+
+-- The profiles of a set are cut into rounds by these lines. Each stands in exactly one place: in a round, or left out for a
+-- reason that a line gives. Each round is a safe set together with the rules.
+pub record AreRounds (S : Members) (es : List CheckFault) (r : Rounds) : Type 0 where
+  pub placed : List Placed
+  pub all : map (λ p. p.profile) placed ≡ S.profiles
+  pub told : ArePlaced es (length r.rounds) placed
+  pub rounds : r.rounds ≡ map (λ k. members k placed) (range_with_len 0 (length r.rounds))
+  pub left : r.left ≡ filter (λ p. not (is_in_some p.placing)) placed
+  pub safe : (k : ℕ) (Ps : List Parts) → slice_get r.rounds k ≡ Some Ps → IsSafeSet (record { profiles = Ps; rules = S.rules })
+  pub rivals : AreRivals es placed r.rivals

@@ -1,0 +1,151 @@
+//! Colours of profiles: two that clash are to have different ones.
+//!
+//! Nothing is stated of colours. The profiles of one colour are checked.
+
+use crate::named::Named;
+use std::alloc::{AllocError, Global};
+
+/// How many times the profiles are coloured again (this project's choice).
+const PASSES: usize = 8;
+
+/// A profile's turn to be coloured. Turns come by rank, then by colour, then by profile.
+#[derive(Clone, Copy, Debug, PartialEq, Eq, PartialOrd, Ord)]
+pub(crate) struct Turn {
+    rank: usize,
+    colour: usize,
+    pub(crate) profile: usize,
+}
+
+/// Colours the profiles that have no line of their own, and returns the colour of each.
+///
+/// Those with the most clashes come first. Then the profiles are coloured again `PASSES` times, and if this takes fewer colours,
+/// the last colours are returned, else the first ones.
+pub(crate) fn colours_of(alloc: Global, named: &Named) -> Result<Vec<Option<usize>>, AllocError> {
+    let turns = turns_by_clashes(alloc, named)?;
+    let first = colour_in_turn(alloc, named, turns.as_slice())?;
+    let last = colour_again(alloc, named, first.as_slice())?;
+    if bound_of(last.as_slice()) < bound_of(first.as_slice()) {
+        Ok(last)
+    } else {
+        Ok(first)
+    }
+}
+
+/// Colours the profiles again `PASSES` times, colour by colour: the last colour first, or the one with the most profiles, in
+/// turn. No pass takes more colours than the one before it.
+fn colour_again(
+    alloc: Global,
+    named: &Named,
+    first: &[Option<usize>],
+) -> Result<Vec<Option<usize>>, AllocError> {
+    let mut colours = Vec::from_slice(alloc, first)?;
+    for pass in 0..PASSES {
+        let turns = turns_by_colours(alloc, colours.as_slice(), pass % 2 == 0)?;
+        colours = colour_in_turn(alloc, named, turns.as_slice())?;
+    }
+    Ok(colours)
+}
+
+/// Returns the greatest colour, if there is one. The colours below it are all there.
+fn bound_of(colours: &[Option<usize>]) -> Option<usize> {
+    let mut bound = None;
+    for own in colours {
+        if *own > bound {
+            bound = *own;
+        }
+    }
+    bound
+}
+
+/// Returns the turns of the profiles that have no line of their own: those with the most clashes first.
+pub(crate) fn turns_by_clashes(alloc: Global, named: &Named) -> Result<Vec<Turn>, AllocError> {
+    let mut turns = Vec::new(alloc);
+    for profile in 0..named.len() {
+        if named.own_line(profile).is_none() {
+            let rank = usize::MAX - named.degree(profile);
+            let colour = 0;
+            turns.push(Turn {
+                rank,
+                colour,
+                profile,
+            })?;
+        }
+    }
+    turns.sort()?;
+    Ok(turns)
+}
+
+/// Returns the turns of the profiles that have a colour, colour by colour.
+fn turns_by_colours(
+    alloc: Global,
+    colours: &[Option<usize>],
+    is_last_first: bool,
+) -> Result<Vec<Turn>, AllocError> {
+    let mut turns = Vec::new(alloc);
+    for (profile, own) in colours.iter().enumerate() {
+        if let Some(colour) = *own {
+            let weight = if is_last_first {
+                colour
+            } else {
+                count_of(colours, colour)
+            };
+            let rank = usize::MAX - weight;
+            turns.push(Turn {
+                rank,
+                colour,
+                profile,
+            })?;
+        }
+    }
+    turns.sort()?;
+    Ok(turns)
+}
+
+/// Returns how many profiles have the colour.
+fn count_of(colours: &[Option<usize>], colour: usize) -> usize {
+    colours.iter().filter(|own| **own == Some(colour)).count()
+}
+
+/// Gives each profile in its turn the least colour that no profile has with which it clashes.
+fn colour_in_turn(
+    alloc: Global,
+    named: &Named,
+    turns: &[Turn],
+) -> Result<Vec<Option<usize>>, AllocError> {
+    let mut colours = Vec::new(alloc);
+    colours.resize(named.len(), None)?;
+    let mut taken = Vec::new(alloc);
+    taken.resize(named.len(), false)?;
+    for turn in turns {
+        let colour = free_colour(named, colours.as_slice(), &mut taken, turn.profile);
+        if turn.profile < colours.len() {
+            colours[turn.profile] = Some(colour);
+        }
+    }
+    Ok(colours)
+}
+
+/// Returns the least colour that no profile has with which this one clashes. There are fewer such profiles than colours.
+fn free_colour(
+    named: &Named,
+    colours: &[Option<usize>],
+    taken: &mut Vec<bool>,
+    profile: usize,
+) -> usize {
+    for is_taken in taken.iter_mut() {
+        *is_taken = false;
+    }
+    take_colours(named, colours, taken, profile);
+    taken.iter().position(|is_taken| !*is_taken).unwrap_or(0)
+}
+
+/// Takes each colour of a profile with which this one clashes.
+fn take_colours(named: &Named, colours: &[Option<usize>], taken: &mut Vec<bool>, profile: usize) {
+    for (other, own) in colours.iter().enumerate() {
+        if let Some(colour) = *own {
+            if colour < taken.len() && named.pair_line(profile, other).is_some() {
+                taken[colour] = true;
+            }
+        }
+    }
+}

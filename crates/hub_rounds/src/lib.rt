@@ -1,0 +1,42 @@
+//! What clashes in a set of profiles, and rounds: groups of profiles that may run at the same time.
+//!
+//! - [`clashes_of`] searches for each goal of a set, and returns [`Clashes`]: a line for each goal that isn't ruled out.
+//! - [`rounds_of`] cuts the set into [`Rounds`]. The profiles of a round are a safe set, which `hub_search::check` has verified.
+//!   A profile that breaks a rule by itself is in no round.
+//!
+//! ```text
+//! let clashes = clashes_of(alloc, &set)?;
+//! let rounds = rounds_of(alloc, set, &clashes)?;
+//! ```
+//!
+//! Three profiles keep the folders `a`, `a/b` and `c` of one hub. The first two clash, so there are two rounds: the first and
+//! the third profile, and then the second one. At least two are needed.
+//!
+//! The rounds come from a colouring of the profiles in which two that clash have different colours: first those with the most
+//! clashes, each with the least colour that is free (Welsh and Powell), and then a few passes that colour again, class by
+//! class (Culberson, "iterated greedy": no pass needs more colours). How many rounds are needed is bounded from below by
+//! profiles of which each two clash.
+//!
+//! A colouring is a guess. What is stated of rounds rests on `check`, and on the lines: each profile that is left out, and each
+//! two profiles of the lower bound, have a line that is looked at.
+//!
+//! The contracts use the words of `specs/Lines` (what a line says of which profiles) and `specs/Rounds` (where profiles stand),
+//! and hub_search's `specs/Faults` (the lines of a set).
+//!
+//! Only functions that return a `Result` allocate.
+#![tactic(auto)]
+
+mod clashes;
+mod clique;
+mod colouring;
+mod fault;
+mod named;
+mod placing;
+mod rounds;
+mod subject;
+
+pub use clashes::{Clashes, clashes_of};
+pub use fault::RoundsFault;
+pub use placing::{Placed, Placing, Reason};
+pub use rounds::{Rounds, rounds_of};
+pub use subject::{Subject, subject_of};

@@ -1,0 +1,139 @@
+//! Where profiles stand.
+ghost use Rattle.std.specs.Prelude.{◌≡◌, ◌<◌, ◌≤◌, length, map, IfOk, IfSome};
+ghost use Rattle.hub_rounds.specs.Lines as said;
+ghost use Rattle.hub_rounds.specs.Lines.{HasOwnLine};
+ghost use Rattle.hub_rounds.specs.Rounds.{ArePlaced, IsPlaced, is_in, is_in_some};
+ghost use Rattle.hub_rounds.specs.declared.subject.Subject.TheVariants.{Alone};
+
+use crate::named::Named;
+use crate::subject::{Subject, subject_of};
+use hub_cert::CheckFault;
+use hub_profile::Profile;
+use std::alloc::{AllocError, Global};
+
+/// Where a profile stands.
+#[derive(Clone, Copy, Debug, PartialEq, Eq)]
+pub enum Placing {
+    /// In the round of this number, from 0 on.
+    Round(usize),
+    /// In no round.
+    Left(Reason),
+}
+
+/// Why a profile is in no round. Rules are numbered from 0 on.
+#[derive(Clone, Copy, Debug, PartialEq, Eq)]
+pub enum Reason {
+    /// It may break this rule.
+    Breach(usize),
+    /// Whether it may break this rule has too many stages to be searched.
+    TooLarge(usize),
+}
+
+/// A profile, and where it stands.
+#[derive(Debug, Drop)]
+pub struct Placed {
+    /// The profile.
+    pub profile: Profile,
+    /// Where it stands.
+    pub placing: Placing,
+}
+
+impl Placing {
+    /// Returns whether this is the round of that number.
+    pub fn is_round(self, round: usize) -> bool
+        ensures { result ≡ is_in round self }
+    {
+        match self {
+            Placing::Round(own) => own == round,
+            Placing::Left(_) => false,
+        }
+    }
+
+    /// Returns whether this is a round.
+    pub fn is_in_a_round(self) -> bool
+        ensures { result ≡ is_in_some self }
+    {
+        match self {
+            Placing::Round(_) => true,
+            Placing::Left(_) => false,
+        }
+    }
+}
+
+/// Says of each profile where it stands, and how many rounds there are. A profile with a line of its own is in no round. The
+/// rounds are those of the colours, in the order of their first profiles.
+pub(crate) fn place_each(
+    alloc: Global,
+    lines: &[CheckFault],
+    named: &Named,
+    colours: &[Option<usize>],
+    profiles: Vec<Profile>,
+) -> Result<(Vec<Placed>, usize), AllocError>
+    ensures all { IfOk result (λ r. map (λ p. p.profile) r.0.items ≡ profiles.items) }
+    ensures told { IfOk result (λ r. ArePlaced lines.now r.1 r.0.items) }
+{
+    let mut placed = Vec::with_capacity(alloc, profiles.len())?;
+    let mut seen = Vec::new(alloc);
+    for profile in profiles {
+        let placing = placing_of(&mut seen, lines, named, colours, placed.len())?;
+        placed.push(Placed { profile, placing })?;
+    }
+    Ok((placed, seen.len()))
+}
+
+/// Says where the profile of that number stands, where these are the colours of the rounds so far.
+fn placing_of(
+    seen: &mut Vec<usize>,
+    lines: &[CheckFault],
+    named: &Named,
+    colours: &[Option<usize>],
+    number: usize,
+) -> Result<Placing, AllocError>
+    ensures told { IfOk result (λ p. IsPlaced lines.now (length seen.new.items) number p) }
+    ensures grows { length seen.old.items ≤ length seen.new.items }
+{
+    if let Some(reason) = own_reason(lines, named, number) {
+        return Ok(Placing::Left(reason));
+    }
+    let colour = match colours.get(number) {
+        Some(Some(colour)) => *colour,
+        _ => 0,
+    };
+    Ok(Placing::Round(round_of(seen, colour)?))
+}
+
+/// Returns why the profile of that number is in no round, if there is a line about it alone.
+fn own_reason(lines: &[CheckFault], named: &Named, number: usize) -> Option<Reason>
+    ensures { IfSome result (λ why. HasOwnLine lines.now number why) }
+{
+    let line = named.own_line(number)?;
+    let own = lines.get(line)?;
+    reason_of(own, number)
+}
+
+/// Returns why the profile of that number is in no round, if the line is about it alone.
+fn reason_of(line: &CheckFault, number: usize) -> Option<Reason>
+    ensures { IfSome result (λ why. said.subject_of line.now ≡ Alone number why) }
+{
+    let Subject::Alone { profile, reason } = subject_of(line) else {
+        return None;
+    };
+    if profile == number {
+        Some(reason)
+    } else {
+        None
+    }
+}
+
+/// Returns the round of a colour. A colour that has none gets the next one.
+fn round_of(seen: &mut Vec<usize>, colour: usize) -> Result<usize, AllocError>
+    ensures below { IfOk result (λ k. k < length seen.new.items) }
+    ensures grows { length seen.old.items ≤ length seen.new.items }
+{
+    if let Some(round) = seen.iter().position(|own| *own == colour) {
+        return Ok(round);
+    }
+    let round = seen.len();
+    seen.push(colour)?;
+    Ok(round)
+}

@@ -1,0 +1,146 @@
+//! Rounds of a set.
+ghost use Rattle.std.specs.Prelude.{◌≡◌, ◌<◌, ℕ, not, filter, map, IfOk, OnOk};
+ghost use Rattle.std.specs.List.{range_with_len};
+ghost use Rattle.hub_cert.specs.Set.{IsSafeSet};
+ghost use Rattle.hub_rounds.specs.Rounds.{AreRounds, is_in, is_outside, members};
+
+use crate::clashes::Clashes;
+use crate::clique::rivals_of;
+use crate::colouring::colours_of;
+use crate::fault::RoundsFault;
+use crate::named::Named;
+use crate::placing::{Placed, place_each};
+use hub_cert::{CheckFault, ProfileSet};
+use hub_profile::{Profile, Rules};
+use hub_search::check;
+use hub_text::Items;
+use std::alloc::{AllocError, Global};
+
+/// The profiles of a set, by rounds.
+#[derive(Debug, Drop)]
+pub struct Rounds {
+    /// The profiles of each round, in their order.
+    pub rounds: Items<Items<Profile>>,
+    /// The profiles that are in no round, in their order.
+    pub left: Items<Placed>,
+    /// The numbers of profiles of which each two clash. So at least as many rounds are needed.
+    pub rivals: Items<usize>,
+}
+
+/// Cuts a set into rounds, by what clashes in it. The profiles and rules of a round are a safe set, which the check has verified.
+///
+/// Each profile is in exactly one round, or it is left out because a line says that it breaks a rule by itself, or that the
+/// rule's goal is too large; the first breach is told, if there is one. Two profiles that a line names are put into different
+/// rounds, also if their goal is too large. The rounds are as few as were found, in the order of their first profiles.
+///
+/// The set is taken apart, and nothing of it is copied. It is lost if there is a fault: `NotVerified` if the check refuses a
+/// round, as it may if the lines are those of another set; or `OutOfMemory`.
+pub fn rounds_of(alloc: Global, set: ProfileSet, clashes: &Clashes) -> Result<Rounds, RoundsFault>
+    ensures { IfOk result (AreRounds set clashes.now) }
+{
+    let lines = clashes.lines();
+    let named = Named::new(alloc, set.profiles().len(), lines)?;
+    let colours = colours_of(alloc, &named)?;
+    let (profiles, rules) = set.into_members();
+    let profiles = profiles.into_vec();
+    let (placed, count) = place_each(alloc, lines, &named, colours.as_slice(), profiles)?;
+    let rivals = rivals_of(alloc, lines, &named, placed.as_slice())?;
+    let (rounds, left) = cut(alloc, placed, count, rules)?;
+    Ok(Rounds {
+        rounds,
+        left,
+        rivals,
+    })
+}
+
+/// Cuts the profiles into so many rounds, each of which is checked. Returns the rounds, and who is in none of them.
+fn cut(
+    alloc: Global,
+    placed: Vec<Placed>,
+    count: usize,
+    rules: Rules,
+) -> Result<(Items<Items<Profile>>, Items<Placed>), RoundsFault>
+    ensures rounds { IfOk result
+        (λ r. r.0 ≡ map (λ k. members k placed.items) (range_with_len 0 count)) }
+    ensures left { IfOk result
+        (λ r. r.1 ≡ filter (λ p. is_outside count p.placing) placed.items) }
+    ensures safe { IfOk result (λ r. (k : ℕ) → k < count → IsSafeSet
+        (record { profiles = members k placed.items; rules = rules })) }
+{
+    let mut rest = placed;
+    let mut rules = rules;
+    let mut rounds = Vec::with_capacity(alloc, count)?;
+    for round in 0..count {
+        let (own, others) = take_round(alloc, rest, round)?;
+        let (own, kept) = verified(alloc, own, rules, round)?;
+        rounds.push(own)?;
+        rest = others;
+        rules = kept;
+    }
+    Ok((Items::from_vec(rounds), Items::from_vec(rest)))
+}
+
+/// Takes the profiles of a round, and returns them and the others, both in their order.
+fn take_round(
+    alloc: Global,
+    placed: Vec<Placed>,
+    round: usize,
+) -> Result<(Items<Profile>, Vec<Placed>), AllocError>
+    ensures own { IfOk result (λ r. r.0 ≡ members round placed.items) }
+    ensures others { IfOk result (λ r.
+        r.1.items ≡ filter (λ p. not (is_in round p.placing)) placed.items) }
+{
+    let mut own = Items::new(alloc);
+    let mut others = Vec::new(alloc);
+    for one in placed {
+        if one.placing.is_round(round) {
+            let Placed { profile, .. } = one;
+            own.push(profile)?;
+        } else {
+            others.push(one)?;
+        }
+    }
+    Ok((own, others))
+}
+
+/// Checks that these profiles and rules are a safe set, and returns them.
+fn verified(
+    alloc: Global,
+    profiles: Items<Profile>,
+    rules: Rules,
+    round: usize,
+) -> Result<(Items<Profile>, Rules), RoundsFault>
+    ensures profiles { IfOk result (λ r. r.0 ≡ profiles) }
+    ensures rules { IfOk result (λ r. r.1 ≡ rules) }
+    ensures safe { IfOk result (λ r. IsSafeSet (record { profiles = profiles; rules = rules })) }
+{
+    match ProfileSet::new(alloc, profiles, rules) {
+        Ok(set) => {
+            check_round(alloc, &set, round)?;
+            Ok(set.into_members())
+        }
+        Err(fault) => Err(fault_of(&fault, round)),
+    }
+}
+
+/// Checks the set of a round.
+fn check_round(alloc: Global, set: &ProfileSet, round: usize) -> Result<(), RoundsFault>
+    ensures { OnOk result (IsSafeSet set.now) }
+{
+    match check(alloc, set) {
+        Ok(verified) => {
+            // Its type says that the set is safe.
+            let _ = verified.set();
+            Ok(())
+        }
+        Err(fault) => Err(fault_of(&fault, round)),
+    }
+}
+
+/// Returns why a round isn't verified.
+fn fault_of(fault: &CheckFault, round: usize) -> RoundsFault {
+    match fault {
+        CheckFault::OutOfMemory => RoundsFault::OutOfMemory,
+        _ => RoundsFault::NotVerified { round },
+    }
+}

@@ -3,6 +3,7 @@ use Rattle.std.proofs.Common.{◌≡◌, ◌<◌, inl, inr, ℕ, List, [], ◌�
 use Rattle.std.specs.Prelude.{IsTrue, slice_get}
 use Rattle.std.proofs.lemmas.Option.{slice_get_cases, slice_get-get_or}
 use Rattle.std.proofs.lemmas.Bool.{false≢true}
+use Rattle.hub_job.specs.Laws.Histories.{replay-push, legal-push}
 use Rattle.hub_path.specs.Path.{Path}
 use Rattle.hub_profile.specs.Parts.{Parts, some_passes}
 use Rattle.hub_reach.specs.Reach.{has_root}
@@ -13,7 +14,7 @@ use Rattle.hub_job.specs.declared.log.Entry.{Entry}
 use Rattle.hub_job.specs.declared.op.Op.{Op}
 use Rattle.hub_job.specs.declared.op.Op.TheVariants.{Look, Fetch, Set}
 use Rattle.hub_job.specs.Machine.{answer, after, takes_memory, Fits}
-use Rattle.hub_job.specs.History.{replay, IsAnswerOf, IsLegal}
+use Rattle.hub_job.specs.History.{IsAnswerOf}
 use Rattle.hub_history.specs.Book.{BookValue, IsBook, has_job, entry_of}
 
 -- what takes memory to copy was read, and changed nothing
@@ -40,14 +41,6 @@ answer_of r m j op a P o is has says =
 
 pub answer_at : (Ps : List Parts) (r : Path) (m : Replica) (j : ℕ) (op : Op) (a : Answer) (d : Parts) → IsTrue (has_job Ps r j) → a ≡ answer m (get_or Ps j d) r op → IsAnswerOf r m (entry_of j op a) (slice_get Ps j)
 answer_at Ps r m j op a d has says = answer_of r m j op a (get_or Ps j d) (slice_get Ps j) (slice_get-get_or Ps j d (has_within Ps r j has)) has says
-
-replay-push : (m : Replica) (h : List Entry) (e : Entry) → replay m (h ++ e ∷ []) ≡ after (replay m h) e.op
-replay-push m [] e = refl
-replay-push m (x ∷ h) e = replay-push (after m x.op) h e
-
-legal-push : (Ps : List Parts) (r : Path) (m : Replica) (h : List Entry) (e : Entry) → IsLegal Ps r m h → IsAnswerOf r (replay m h) e (slice_get Ps e.job) → IsLegal Ps r m (h ++ e ∷ [])
-legal-push Ps r m [] e legal is = (is, tt)
-legal-push Ps r m (x ∷ h) e legal is = (legal.0, legal-push Ps r (after m x.op) h e legal.1 is)
 
 abbrev book : List Parts → Path → Replica → Replica → List Entry → BookValue
 book Ps r o m h = record { profiles = Ps; root = r; opening = o; tree = m; history = h }

@@ -10,8 +10,8 @@ use Rattle.hub_job.specs.declared.op.Op.{Op}
 use Rattle.hub_job.specs.Machine.{after}
 use Rattle.hub_job.specs.History.{replay, IsLegal}
 
--- The profiles of the set that it was made for, its root, the replica at the opening and now, and all operations since
--- the opening, with their answers, in order.
+-- The profiles of the set that it was made for, its root, the replica at the opening and now, and
+-- all operations since the opening, with their answers, in order.
 pub record BookValue : Type 0 where
   pub profiles : List Parts
   pub root : Path

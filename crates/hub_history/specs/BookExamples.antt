@@ -79,20 +79,27 @@ refused = entry_of 1 (Set (path_of (codes "photos/x")) contents.Directory) (Refu
 abbrev two_entries : BookValue
 two_entries = with_entry (with_entry opened seen) refused
 
-nothing_is_seen : seen.answer ≡ answer nobody (kept (codes "srv/s1") (codes "docs")) opened.root seen.op
+nothing_is_seen : seen.answer ≡ answer nobody (kept (codes "srv/s1") (codes "docs")) opened.root
+    seen.op
 unfolding computed
-nothing_is_seen = let h : T (is_sorted path_cmp none) = tt in simp (get-from_sorted, entries-from_sorted)
+nothing_is_seen =
+    let h : T (is_sorted path_cmp none) = tt in simp (get-from_sorted, entries-from_sorted)
 
-a_parent_is_missing : refused.answer ≡ answer nobody (kept (codes "srv/s2") (codes "photos")) opened.root refused.op
+a_parent_is_missing :
+    refused.answer ≡ answer nobody (kept (codes "srv/s2") (codes "photos")) opened.root refused.op
 unfolding computed
-a_parent_is_missing = let h : T (is_sorted path_cmp none) = tt in simp (get-from_sorted, entries-from_sorted)
+a_parent_is_missing =
+    let h : T (is_sorted path_cmp none) = tt in simp (get-from_sorted, entries-from_sorted)
 
 entries_are_appended : two_entries.history ≡ seen ∷ refused ∷ []
 entries_are_appended = refl
 
 with_two_entries_it_is_a_book : IsBook two_entries
 unfolding computed
-with_two_entries_it_is_a_book = record { legal = ((refl, nothing_is_seen), ((refl, a_parent_is_missing), tt)); replays = refl }
+with_two_entries_it_is_a_book = record {
+  legal = ((refl, nothing_is_seen), ((refl, a_parent_is_missing), tt));
+  replays = refl;
+}
 
 -- An entry of a job that doesn't have the root makes no book, nor does an invented answer.
 a_foreign_job_makes_no_book : ¬ (IsBook (with_entry opened (record seen { job = 2 })))

@@ -3,12 +3,10 @@
 use crate::asked::{say_asked_path, say_not_reached, say_profiles, say_run_fault, say_words};
 use crate::bundle::say_bundle_fault;
 use crate::note::say_notes;
-use crate::place::{place_in, place_in_profile};
 use crate::refusal::{say_breach, say_overlap, say_refused};
 use crate::setting::say_setting_fault;
-use crate::source::Source;
 use crate::text::{say_certificates_fault, say_state_fault};
-use crate::words::{Said, say};
+use hub_source::{Said, Source, place_in, place_in_profile, say};
 use hub_text::Lines;
 use std::alloc::{AllocError, Global};
 
@@ -23,11 +21,13 @@ pub struct Front<'a> {
 
 /// What is to be said about an answer: lines that begin with `hubsync: `, or nothing.
 ///
-/// The words are those of the command line, the program's name first. The text is free: no clause says
-/// what it is. If the input goes on behind these bytes, only faults get remarks.
+/// The words are those of the command line, the program's name first. If the sections of the input were made of files, these
+/// are the files in the order of the sections. The text is free: no clause says what it is. If the input goes on behind these
+/// bytes, only faults get remarks.
 pub fn remark(
     alloc: Global,
     words: &[String],
+    files: &[&str],
     input: Front<'_>,
     output: Front<'_>,
 ) -> Result<String, AllocError> {
@@ -39,7 +39,7 @@ pub fn remark(
         return Ok(out);
     }
     let second = next_text(&mut lines);
-    let source = Source::read(alloc, input.bytes, input.is_whole)?;
+    let source = Source::read(alloc, input.bytes, input.is_whole, files)?;
     say_answer(&mut out, &source, words, first, second)?;
     Ok(out)
 }

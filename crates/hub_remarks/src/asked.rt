@@ -1,10 +1,9 @@
 //! Remarks on what the words on the command line ask for.
 
-use crate::near::nearest;
+use crate::ignored::ignoring_line;
 use crate::refusal::say_kept;
-use crate::source::Source;
 use crate::value::path_remedy;
-use crate::words::{Said, covers, name_of, say};
+use hub_source::{Said, Source, covers, name_of, nearest, say, say_placed};
 use std::alloc::AllocError;
 
 /// The commands.
@@ -24,22 +23,20 @@ pub(crate) fn say_words(out: &mut String, words: &[String]) -> Said {
     let Some(first) = words.get(1) else {
         return Ok(());
     };
-    if first.as_str() == "version" {
-        return say(out, "hubsync --version shows the version");
-    }
-    let place = if COMMANDS.contains(&first.as_str()) {
-        2
-    } else {
-        1
-    };
-    match words.get(place) {
-        Some(word) if first.as_str() != "reach" => say_file(out, word.as_str()),
-        _ => Ok(()),
+    match first.as_str() {
+        "version" => say(out, "hubsync --version shows the version"),
+        "reach" => Ok(()),
+        word if COMMANDS.contains(&word) => say_file(out, words.get(2)),
+        _ => say_file(out, Some(first)),
     }
 }
 
-/// Says how a bundle is given, if a word is not an option.
-fn say_file(out: &mut String, word: &str) -> Said {
+/// Says how a bundle is given, if there is a word and it is not an option.
+fn say_file(out: &mut String, word: Option<&String>) -> Said {
+    let Some(word) = word else {
+        return Ok(());
+    };
+    let word = word.as_str();
     if word.starts_with('-') || COMMANDS.contains(&word) {
         return Ok(());
     }
@@ -155,10 +152,13 @@ pub(crate) fn say_not_reached(out: &mut String, source: &Source<'_>, words: &[St
         );
     }
     say_kept(out, source, section, path)?;
-    say(
-        out,
-        "a line ignore matches the path, or a folder between it and that line",
-    )
+    match ignoring_line(source, section, path)? {
+        Some(line) => say_placed(out, source, &line),
+        None => say(
+            out,
+            "a line ignore matches the path, or a folder between it and that line",
+        ),
+    }
 }
 
 /// Whether a profile has a path at this one or above it.
@@ -187,8 +187,8 @@ fn say_replicas(out: &mut String, source: &Source<'_>) -> Said {
         out,
         "hubsync: roots are compared by their text, and the state has these replicas:"
     )?;
-    for line in source.lines() {
-        if line.section == section && count < LISTED {
+    for line in source.section_lines(section) {
+        if count < LISTED {
             if let Some(root) = line.text().strip_prefix("replica ") {
                 push_name(out, count, root)?;
                 count = count.saturating_add(1);

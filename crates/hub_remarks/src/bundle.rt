@@ -1,9 +1,8 @@
 //! Remarks on inputs that are not bundles.
 
-use crate::near::nearest;
-use crate::place::number_and_fault;
-use crate::source::{Source, SourceLine};
-use crate::words::{Said, odd_encoding, say, say_line};
+use hub_source::{
+    Said, Source, SourceLine, nearest, number_and_fault, odd_encoding, say, say_line,
+};
 use std::alloc::Global;
 
 /// How the headings of sections begin.
@@ -82,9 +81,9 @@ fn name_remedy(line: &SourceLine<'_>) -> &'static str {
 fn say_twice(out: &mut String, source: &Source<'_>, line: &SourceLine<'_>) -> Said {
     for other in source.lines() {
         if other.is_heading() && other.text() == line.text() {
-            let at = other.at;
+            let place = other.place();
             let heading = other.text();
-            return writeln!(out, "hubsync: {heading} is on bundle line {at} already");
+            return writeln!(out, "hubsync: {heading} is on {place} already");
         }
     }
     Ok(())

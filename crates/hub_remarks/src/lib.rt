@@ -25,15 +25,13 @@
 mod answer;
 mod asked;
 mod bundle;
-mod near;
+mod idle;
+mod ignored;
 mod note;
 mod pattern;
-mod place;
 mod refusal;
 mod setting;
-mod source;
 mod text;
 mod value;
-mod words;
 
 pub use answer::{Front, remark};

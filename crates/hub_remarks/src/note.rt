@@ -1,8 +1,8 @@
 //! Remarks on a yes that may mislead.
 
+use crate::idle::say_idle_rule;
 use crate::refusal::is_same_root;
-use crate::source::{Source, SourceLine, trimmed};
-use crate::words::{Said, name_of, say, say_placed};
+use hub_source::{Said, Source, SourceLine, name_of, say, say_placed, trimmed};
 use std::alloc::AllocError;
 
 /// The two roots of a profile, of which either may come first.
@@ -23,7 +23,7 @@ pub(crate) fn say_notes(out: &mut String, source: &Source<'_>) -> Said {
         );
     }
     say_blank_names(out, profiles.as_slice())?;
-    say_strange_root(out, source)?;
+    say_strange_rule(out, source)?;
     say_same_pair(out, source, profiles.as_slice())
 }
 
@@ -32,18 +32,15 @@ fn say_blank_names(out: &mut String, profiles: &[SourceLine<'_>]) -> Said {
     for profile in profiles {
         let name = profile.profile().unwrap_or("");
         if trimmed(name).len() < name.len() {
-            let at = profile.at;
-            return writeln!(
-                out,
-                "hubsync: note: bundle line {at}: a blank at an end of {name:?}"
-            );
+            let place = profile.place();
+            return writeln!(out, "hubsync: note: {place}: a blank at an end of {name:?}");
         }
     }
     Ok(())
 }
 
-/// Says which root of the rules no profile has.
-fn say_strange_root(out: &mut String, source: &Source<'_>) -> Said {
+/// Says which root of the rules no profile has, or else which rule is for a path that no profile reaches.
+fn say_strange_rule(out: &mut String, source: &Source<'_>) -> Said {
     let Some(section) = source.section("%rules") else {
         return Ok(());
     };
@@ -58,7 +55,7 @@ fn say_strange_root(out: &mut String, source: &Source<'_>) -> Said {
             return say_placed(out, source, line);
         }
     }
-    Ok(())
+    say_idle_rule(out, source, section)
 }
 
 /// The root lines of all other sections.

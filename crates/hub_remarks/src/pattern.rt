@@ -1,8 +1,6 @@
 //! Remarks on patterns.
 
-use crate::near::nearest;
-use crate::source::trimmed;
-use crate::words::{Said, say};
+use hub_source::{Said, nearest, say, trimmed};
 use hub_text::first_word;
 use std::alloc::Global;
 

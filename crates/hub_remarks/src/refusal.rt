@@ -1,7 +1,6 @@
 //! Remarks on sets that are refused: the lines that make it so.
 
-use crate::source::{Source, SourceLine};
-use crate::words::{Said, covers, name_of, say, say_placed};
+use hub_source::{Said, Source, SourceLine, covers, name_of, say, say_placed};
 
 /// Says which lines make two profiles overlap: `WRITER writes PATH at PLACE, OTHER reaches PATH`.
 pub(crate) fn say_overlap(out: &mut String, source: &Source<'_>, text: &str) -> Said {
@@ -109,8 +108,8 @@ fn say_bar(out: &mut String, verb: &str, root: &str) -> Said {
 fn rule_line<'a>(source: &Source<'a>, number: usize) -> Option<SourceLine<'a>> {
     let section = source.section("%rules")?;
     let mut left = number;
-    for line in source.lines() {
-        if line.section == section && is_rule(line) {
+    for line in source.section_lines(section) {
+        if is_rule(line) {
             if left == 0 {
                 return Some(*line);
             }
@@ -121,7 +120,7 @@ fn rule_line<'a>(source: &Source<'a>, number: usize) -> Option<SourceLine<'a>> {
 }
 
 /// Whether a line of the rules is a rule.
-fn is_rule(line: &SourceLine<'_>) -> bool {
+pub(crate) fn is_rule(line: &SourceLine<'_>) -> bool {
     match line.setting() {
         Some((name, _)) => name == "nolose" || name == "nochange" || name == "nonew",
         None => false,
@@ -147,20 +146,30 @@ pub(crate) fn say_refused(out: &mut String, source: &Source<'_>, text: &str) -> 
     }
 }
 
-/// Says which headings have the same name.
+/// Says which headings, or which files, have the same name.
 fn say_same_name(out: &mut String, source: &Source<'_>, name: &str) -> Said {
     let profiles = source.profiles()?;
-    write!(
-        out,
-        "hubsync: give each profile a name of its own: bundle lines"
-    )?;
+    out.push_str("hubsync: give each profile a name of its own:")?;
+    out.push_str(if source.has_files() {
+        ""
+    } else {
+        " bundle lines"
+    })?;
     for profile in profiles.as_slice() {
         if profile.profile() == Some(name) {
-            let at = profile.at;
-            write!(out, " {at}")?;
+            push_heading(out, profile)?;
         }
     }
     out.push_str("\n")
+}
+
+/// Adds the number or the file of a heading to a list.
+fn push_heading(out: &mut String, heading: &SourceLine<'_>) -> Said {
+    let at = heading.at;
+    match heading.file {
+        Some(file) => write!(out, " {file}"),
+        None => write!(out, " {at}"),
+    }
 }
 
 /// Says how many profiles there are.

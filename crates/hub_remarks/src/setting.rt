@@ -1,11 +1,8 @@
 //! Remarks on faults of profiles and rules.
 
-use crate::near::nearest;
 use crate::pattern::say_bad_pattern;
-use crate::place::Place;
-use crate::source::{Source, SourceLine, trimmed};
 use crate::value::{say_bad_path, say_too_many};
-use crate::words::{Said, odd_encoding, say, say_line};
+use hub_source::{Place, Said, Source, SourceLine, nearest, odd_encoding, say, say_line, trimmed};
 use hub_text::first_word;
 use std::alloc::Global;
 
@@ -133,8 +130,8 @@ fn remedy(fault: &str) -> &'static str {
 
 /// Says which line is not UTF-8.
 fn say_not_utf8(out: &mut String, source: &Source<'_>, section: usize) -> Said {
-    for line in source.lines() {
-        if line.section == section && line.number > 0 {
+    for line in source.section_lines(section) {
+        if line.number > 0 {
             if let Err(error) = str::from_utf8(line.bytes) {
                 let byte = error.valid_up_to().saturating_add(1);
                 return say_bad_byte(out, line, byte);
@@ -147,10 +144,10 @@ fn say_not_utf8(out: &mut String, source: &Source<'_>, section: usize) -> Said {
 /// Says that a byte of a line is not UTF-8.
 fn say_bad_byte(out: &mut String, line: &SourceLine<'_>, byte: usize) -> Said {
     let number = line.number;
-    let at = line.at;
+    let place = line.place();
     writeln!(
         out,
-        "hubsync: line {number} (bundle line {at}) is not UTF-8 at byte {byte}"
+        "hubsync: line {number} ({place}) is not UTF-8 at byte {byte}"
     )?;
     match odd_encoding(line.bytes) {
         Some(words) => say(out, words),
@@ -173,18 +170,6 @@ fn say_no_equals(out: &mut String, text: &str) -> Said {
 
 /// Says what an unknown preference may mean.
 fn say_unknown(out: &mut String, alloc: Global, name: &str, is_of_rules: bool) -> Said {
-    if !is_of_rules && RULES.contains(&name) {
-        return writeln!(
-            out,
-            "hubsync: {name} is a rule: a line %rules is missing above it"
-        );
-    }
-    if is_of_rules && PREFERENCES.contains(&name) {
-        return writeln!(
-            out,
-            "hubsync: {name} is for profiles: the rules are nolose, nochange, nonew"
-        );
-    }
     if WITHOUT_EFFECT.split(' ').any(|word| word == name) {
         return writeln!(
             out,
@@ -192,12 +177,20 @@ fn say_unknown(out: &mut String, alloc: Global, name: &str, is_of_rules: bool) -
         );
     }
     if is_of_rules {
-        return say_near_rule(out, alloc, name);
+        say_unknown_rule(out, alloc, name)
+    } else {
+        say_unknown_preference(out, alloc, name)
     }
-    say_near_preference(out, alloc, name)
 }
 
-fn say_near_rule(out: &mut String, alloc: Global, name: &str) -> Said {
+/// Says what an unknown rule may mean.
+fn say_unknown_rule(out: &mut String, alloc: Global, name: &str) -> Said {
+    if PREFERENCES.contains(&name) {
+        return writeln!(
+            out,
+            "hubsync: {name} is for profiles: the rules are nolose, nochange, nonew"
+        );
+    }
     match nearest(alloc, name, &RULES)? {
         Some(near) => writeln!(out, "hubsync: did you mean {near}?"),
         None => say(
@@ -207,7 +200,14 @@ fn say_near_rule(out: &mut String, alloc: Global, name: &str) -> Said {
     }
 }
 
-fn say_near_preference(out: &mut String, alloc: Global, name: &str) -> Said {
+/// Says what an unknown preference of a profile may mean.
+fn say_unknown_preference(out: &mut String, alloc: Global, name: &str) -> Said {
+    if RULES.contains(&name) {
+        return writeln!(
+            out,
+            "hubsync: {name} is a rule: a line %rules is missing above it"
+        );
+    }
     match nearest(alloc, name, &PREFERENCES)? {
         Some(near) => writeln!(out, "hubsync: did you mean {near}?"),
         None => say(out, "docs/USE.md lists the preferences that hubsync reads"),
@@ -220,10 +220,10 @@ fn say_repeated(out: &mut String, source: &Source<'_>, section: usize, name: &st
     let Some(first) = lines.first() else {
         return Ok(());
     };
-    let at = first.at;
+    let place = first.place();
     writeln!(
         out,
-        "hubsync: {name} is given on bundle line {at} already: keep one of the two"
+        "hubsync: {name} is given on {place} already: keep one of the two"
     )
 }
 
@@ -242,8 +242,8 @@ fn say_roots(out: &mut String, source: &Source<'_>, section: usize, words: &str)
 
 /// Adds the root of a line to a list in which so many stand before it.
 fn push_root(out: &mut String, before: usize, line: &SourceLine<'_>) -> Said {
-    let at = line.at;
+    let place = line.place();
     let root = line.value_of("root").unwrap_or("");
     out.push_str(if before == 0 { " " } else { ", " })?;
-    write!(out, "{root} (bundle line {at})")
+    write!(out, "{root} ({place})")
 }

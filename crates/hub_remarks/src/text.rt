@@ -1,8 +1,6 @@
 //! Remarks on faults of a state and of certificates.
 
-use crate::place::Place;
-use crate::source::{Source, SourceLine};
-use crate::words::{Said, say, say_line};
+use hub_source::{Place, Said, Source, SourceLine, say, say_line};
 
 /// What `certify` writes of a set that isn't safe.
 const REFUSALS: [&str; 5] = [
@@ -36,9 +34,8 @@ pub(crate) fn say_state_fault(out: &mut String, source: &Source<'_>, place: Plac
 
 /// Whether the line `end` of its section stands above a line.
 fn is_below_end(source: &Source<'_>, line: &SourceLine<'_>) -> bool {
-    for other in source.lines() {
-        let is_above = other.section == line.section && other.number < line.number;
-        if is_above && other.bytes == b"end".as_slice() {
+    for other in source.section_lines(line.section) {
+        if other.number < line.number && other.bytes == b"end".as_slice() {
             return true;
         }
     }

@@ -1,6 +1,6 @@
 //! Remarks on values that are no paths, and on lines too many.
 
-use crate::words::{Said, say};
+use hub_source::{Said, say};
 
 /// Says what is wrong with the text of a path or a root.
 pub(crate) fn say_bad_path(out: &mut String, value: &str, fault: &str) -> Said {

@@ -91,7 +91,7 @@ fn say_remarks<T: AllocGlobal + Eprint>(rt: &T, words: &[String], seen: &Seen, i
     if let Some(error) = input.error() {
         let _ = eprintln!(rt; "hubsync: standard input can't be read: {error}");
     }
-    if let Ok(text) = remark(rt.alloc(), words, input.front(), output.front()) {
+    if let Ok(text) = remark(rt.alloc(), words, &[], input.front(), output.front()) {
         let _ = eprint!(rt; "{text}");
     }
 }

@@ -4,17 +4,17 @@ use crate::source::Source;
 
 /// The place of a fault, and what it is called.
 #[derive(Clone, Copy)]
-pub(crate) struct Place<'t> {
+pub struct Place<'t> {
     /// The number of the section.
-    pub(crate) section: usize,
+    pub section: usize,
     /// The number of the line in the section, or 0 if no line is named.
-    pub(crate) number: usize,
+    pub number: usize,
     /// The name of the fault.
-    pub(crate) fault: &'t str,
+    pub fault: &'t str,
 }
 
 /// The place that `NAME line NUMBER: FAULT` names, where NAME is a profile's.
-pub(crate) fn place_in_profile<'t>(source: &Source<'_>, text: &'t str) -> Option<Place<'t>> {
+pub fn place_in_profile<'t>(source: &Source<'_>, text: &'t str) -> Option<Place<'t>> {
     for line in source.lines() {
         if let Some(name) = line.profile() {
             if let Some(place) = place_below(line.section, name, text) {
@@ -26,7 +26,7 @@ pub(crate) fn place_in_profile<'t>(source: &Source<'_>, text: &'t str) -> Option
 }
 
 /// The place that `NAME line NUMBER: FAULT` names, where NAME follows the `%` of a heading.
-pub(crate) fn place_in<'t>(source: &Source<'_>, name: &str, text: &'t str) -> Option<Place<'t>> {
+pub fn place_in<'t>(source: &Source<'_>, name: &str, text: &'t str) -> Option<Place<'t>> {
     for line in source.lines() {
         if line.is_heading() && line.text().strip_prefix('%') == Some(name) {
             return place_below(line.section, name, text);
@@ -47,7 +47,7 @@ fn place_below<'t>(section: usize, name: &str, text: &'t str) -> Option<Place<'t
 }
 
 /// The parts of `NUMBER: FAULT`.
-pub(crate) fn number_and_fault(text: &str) -> Option<(usize, &str)> {
+pub fn number_and_fault(text: &str) -> Option<(usize, &str)> {
     let (number, fault) = text.split_once(": ")?;
     Some((number.parse::<usize>().ok()?, fault))
 }

@@ -7,34 +7,31 @@ use std::alloc::{AllocError, Global};
 const SHOWN_CHARACTERS: usize = 200;
 
 /// What a function gives that adds to a remark: nothing, or that memory is out.
-pub(crate) type Said = Result<(), AllocError>;
+pub type Said = Result<(), AllocError>;
 
 /// Adds a line of a remark.
-pub(crate) fn say(out: &mut String, words: &str) -> Said {
+pub fn say(out: &mut String, words: &str) -> Said {
     writeln!(out, "hubsync: {words}")
 }
 
-/// Adds a line of the input, with its number.
-pub(crate) fn say_line(out: &mut String, alloc: Global, line: &SourceLine<'_>) -> Said {
-    let at = line.at;
+/// Adds a line of the input, with its place.
+pub fn say_line(out: &mut String, alloc: Global, line: &SourceLine<'_>) -> Said {
+    let place = line.place();
     let text = shown(alloc, line.bytes)?;
-    writeln!(out, "hubsync: bundle line {at}: {text}")
+    writeln!(out, "hubsync: {place}: {text}")
 }
 
-/// Adds a line of a profile or of the rules, with its number there and its number in the input.
-pub(crate) fn say_placed(out: &mut String, source: &Source<'_>, line: &SourceLine<'_>) -> Said {
+/// Adds a line of a profile or of the rules, with its number there and its place.
+pub fn say_placed(out: &mut String, source: &Source<'_>, line: &SourceLine<'_>) -> Said {
     let name = name_of(source, line.section);
     let number = line.number;
-    let at = line.at;
+    let place = line.place();
     let text = shown(source.alloc(), line.bytes)?;
-    writeln!(
-        out,
-        "hubsync: {name}, line {number} (bundle line {at}): {text}"
-    )
+    writeln!(out, "hubsync: {name}, line {number} ({place}): {text}")
 }
 
 /// What a section is called: its profile's name, or its heading.
-pub(crate) fn name_of<'a>(source: &Source<'a>, section: usize) -> &'a str {
+pub fn name_of<'a>(source: &Source<'a>, section: usize) -> &'a str {
     let Some(heading) = source.line(section, 0) else {
         return "";
     };
@@ -45,7 +42,7 @@ pub(crate) fn name_of<'a>(source: &Source<'a>, section: usize) -> &'a str {
 }
 
 /// The start of a line as it is shown: with escapes, if a character of it can't be seen.
-pub(crate) fn shown(alloc: Global, bytes: &[u8]) -> Result<String, AllocError> {
+pub fn shown(alloc: Global, bytes: &[u8]) -> Result<String, AllocError> {
     let Ok(text) = str::from_utf8(bytes.strip_suffix(b"\r").unwrap_or(bytes)) else {
         return String::from_str(alloc, "(not UTF-8)");
     };
@@ -65,7 +62,7 @@ fn is_hidden(c: char) -> bool {
 }
 
 /// What is odd about the encoding of a line, if anything is.
-pub(crate) fn odd_encoding(bytes: &[u8]) -> Option<&'static str> {
+pub fn odd_encoding(bytes: &[u8]) -> Option<&'static str> {
     if bytes.starts_with(b"\xef\xbb\xbf") {
         return Some("a byte order mark stands before this line: save the file as UTF-8 without it");
     }
@@ -79,7 +76,7 @@ pub(crate) fn odd_encoding(bytes: &[u8]) -> Option<&'static str> {
 }
 
 /// Whether a path is this one or below it. This one may end with a `/`, and the empty one is above all.
-pub(crate) fn covers(above: &str, path: &str) -> bool {
+pub fn covers(above: &str, path: &str) -> bool {
     let above = above.strip_suffix('/').unwrap_or(above);
     match path.strip_prefix(above) {
         Some(rest) => above.is_empty() || rest.is_empty() || rest.starts_with('/'),

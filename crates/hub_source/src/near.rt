@@ -10,7 +10,7 @@ const EDITS: usize = 2;
 const WORD_BYTES: usize = 40;
 
 /// The word that is nearest to this one, if a third of its letters or fewer are wrong.
-pub(crate) fn nearest<'a>(
+pub fn nearest<'a>(
     alloc: Global,
     word: &str,
     known: &[&'a str],

@@ -1,0 +1,28 @@
+//! The lines of an input, each with its place, and how a remark shows them.
+//!
+//! - [`Source`]: the first lines of an input. A [`SourceLine`] knows its section, its number there and in the input, and the file
+//!   that it came from, if there is one.
+//! - [`Place`]: where a fault is, as the line of an answer says it.
+//! - [`say`], [`say_line`] and [`say_placed`] add a line to a remark. [`nearest`] is the known word that was meant.
+//!
+//! ```text
+//! let source = Source::read(alloc, b"%profile p\npath docs\n", true, &[])?;
+//! let place = place_in_profile(&source, "p line 1: NoEquals")?;
+//! // place.section == 1, place.number == 1, place.fault == "NoEquals"
+//! ```
+//!
+//! What an answer names is looked up in the text of the input, so this crate uses none of those that read profiles, states and
+//! certificates. What is proved is that each function is safe and ends.
+//!
+//! Only functions that return a `Result` allocate.
+#![tactic(auto)]
+
+mod near;
+mod place;
+mod said;
+mod source;
+
+pub use near::nearest;
+pub use place::{Place, number_and_fault, place_in, place_in_profile};
+pub use said::{Said, covers, name_of, odd_encoding, say, say_line, say_placed, shown};
+pub use source::{LinePlace, Source, SourceLine, trimmed};

@@ -1,0 +1,247 @@
+//! The lines of an input, each with its place in its section.
+
+use hub_text::{BLANKS, Lines};
+use std::alloc::{AllocError, Global};
+use std::fmt;
+
+/// How many lines of an input are known at most.
+const LINES: usize = 50_000;
+
+/// A line of an input.
+#[derive(Clone, Copy)]
+pub struct SourceLine<'a> {
+    /// The number of its section, from 1 on. It is 0 before the first heading.
+    pub section: usize,
+    /// Its number in its section. The heading is line 0.
+    pub number: usize,
+    /// Its number in the input, from 1 on.
+    pub at: usize,
+    /// The line without its LF.
+    pub bytes: &'a [u8],
+    /// The file that its section was made of, if it was made of one.
+    pub file: Option<&'a str>,
+}
+
+/// Where a line is, as a remark names it: `bundle line 4`, or `docs.prf line 3`.
+#[derive(Clone, Copy)]
+pub struct LinePlace<'a> {
+    file: Option<&'a str>,
+    number: usize,
+}
+
+impl<'a> fmt::Display for LinePlace<'a> {
+    fn fmt<W: fmt::Write>(&self, f: &mut fmt::Formatter<W>) -> fmt::Result {
+        let number = self.number;
+        match self.file {
+            Some(file) if number == 0 => write!(f, "{file}"),
+            Some(file) => write!(f, "{file} line {number}"),
+            None => write!(f, "bundle line {number}"),
+        }
+    }
+}
+
+impl<'a> SourceLine<'a> {
+    /// The line's text without a CR at its end. It is empty if the line is not UTF-8.
+    pub fn text(&self) -> &'a str {
+        let bytes = self.bytes;
+        str::from_utf8(bytes.strip_suffix(b"\r").unwrap_or(bytes)).unwrap_or("")
+    }
+
+    /// Where it is: its number in its file, or in the input.
+    pub fn place(&self) -> LinePlace<'a> {
+        let file = self.file;
+        let number = if file.is_some() { self.number } else { self.at };
+        LinePlace { file, number }
+    }
+
+    /// Whether it is the heading of a section.
+    pub fn is_heading(&self) -> bool {
+        self.section > 0 && self.number == 0
+    }
+
+    /// The name of the profile whose heading it is.
+    pub fn profile(&self) -> Option<&'a str> {
+        if !self.is_heading() {
+            return None;
+        }
+        self.text().strip_prefix("%profile ")
+    }
+
+    /// The name and the value that it sets.
+    pub fn setting(&self) -> Option<(&'a str, &'a str)> {
+        let text = trimmed(self.text());
+        if self.is_heading() || text.starts_with('#') {
+            return None;
+        }
+        let (name, value) = text.split_once('=')?;
+        Some((trimmed(name), trimmed(value)))
+    }
+
+    /// The name that it sets, or nothing.
+    pub fn name(&self) -> &'a str {
+        match self.setting() {
+            Some((name, _)) => name,
+            None => "",
+        }
+    }
+
+    /// The value that it sets, or nothing.
+    pub fn value(&self) -> &'a str {
+        match self.setting() {
+            Some((_, value)) => value,
+            None => "",
+        }
+    }
+
+    /// The value that it sets, if it sets the preference of that name.
+    pub fn value_of(&self, wanted: &str) -> Option<&'a str> {
+        let (name, value) = self.setting()?;
+        if name == wanted { Some(value) } else { None }
+    }
+}
+
+/// A text without blanks around it.
+pub fn trimmed(text: &str) -> &str {
+    text.trim_start_matches(BLANKS).trim_end_matches(BLANKS)
+}
+
+/// The first lines of an input.
+#[derive(Drop)]
+pub struct Source<'a> {
+    alloc: Global,
+    lines: Vec<SourceLine<'a>>,
+    /// Where each heading stands among the lines.
+    headings: Vec<usize>,
+    is_whole: bool,
+}
+
+impl<'a> Source<'a> {
+    /// Finds the lines of an input, of which these are the first bytes, or all. If its sections were made of files, these are
+    /// the files in the order of the sections; else there are none.
+    pub fn read(
+        alloc: Global,
+        bytes: &'a [u8],
+        is_whole: bool,
+        files: &[&'a str],
+    ) -> Result<Source<'a>, AllocError> {
+        let mut source = Source {
+            alloc,
+            lines: Vec::new(alloc),
+            headings: Vec::new(alloc),
+            is_whole,
+        };
+        for line in Lines::new(bytes) {
+            if source.lines.len() >= LINES || (!is_whole && !line.is_ended) {
+                source.is_whole = false;
+                return Ok(source);
+            }
+            source.push(line.text, files)?;
+        }
+        Ok(source)
+    }
+
+    /// Adds the next line of the input.
+    fn push(&mut self, bytes: &'a [u8], files: &[&'a str]) -> Result<(), AllocError> {
+        let before = self.lines.len();
+        if bytes.starts_with(b"%") {
+            self.headings.push(before)?;
+        }
+        let section = self.headings.len();
+        let number = match self.headings.last() {
+            Some(heading) => before.saturating_sub(*heading),
+            None => before.saturating_add(1),
+        };
+        self.lines.push(SourceLine {
+            section,
+            number,
+            at: before.saturating_add(1),
+            bytes,
+            file: file_of(files, section),
+        })?;
+        Ok(())
+    }
+
+    /// The allocator.
+    pub fn alloc(&self) -> Global {
+        self.alloc
+    }
+
+    /// Whether these are all lines of the input.
+    pub fn is_whole(&self) -> bool {
+        self.is_whole
+    }
+
+    /// Whether its sections were made of files.
+    pub fn has_files(&self) -> bool {
+        self.lines().iter().any(|line| line.file.is_some())
+    }
+
+    /// The lines, in their order.
+    pub fn lines(&self) -> &[SourceLine<'a>] {
+        self.lines.as_slice()
+    }
+
+    /// The line of that number in the input.
+    pub fn line_at(&self, at: usize) -> Option<SourceLine<'a>> {
+        let line = self.lines().get(at.checked_sub(1)?)?;
+        Some(*line)
+    }
+
+    /// The lines of a section, its heading first.
+    pub fn section_lines(&self, section: usize) -> &[SourceLine<'a>] {
+        let lines = self.lines();
+        let start = match section.checked_sub(1) {
+            Some(before) => self.headings.get(before).copied().unwrap_or(lines.len()),
+            None => 0,
+        };
+        let end = self.headings.get(section).copied().unwrap_or(lines.len());
+        lines.get(start..end).unwrap_or(&lines[..0])
+    }
+
+    /// The line of that number in a section.
+    pub fn line(&self, section: usize, number: usize) -> Option<SourceLine<'a>> {
+        for line in self.section_lines(section) {
+            if line.number == number {
+                return Some(*line);
+            }
+        }
+        None
+    }
+
+    /// The number of the first section whose heading has this text.
+    pub fn section(&self, heading: &str) -> Option<usize> {
+        for line in self.lines() {
+            if line.is_heading() && line.text() == heading {
+                return Some(line.section);
+            }
+        }
+        None
+    }
+
+    /// The headings of the profiles.
+    pub fn profiles(&self) -> Result<Vec<SourceLine<'a>>, AllocError> {
+        let mut found = Vec::new(self.alloc);
+        for line in self.lines() {
+            if line.profile().is_some() {
+                found.push(*line)?;
+            }
+        }
+        Ok(found)
+    }
+
+    /// The lines of a section that set this preference.
+    pub fn settings(&self, section: usize, name: &str) -> Result<Vec<SourceLine<'a>>, AllocError> {
+        let mut found = Vec::new(self.alloc);
+        for line in self.section_lines(section) {
+            if line.value_of(name).is_some() {
+                found.push(*line)?;
+            }
+        }
+        Ok(found)
+    }
+}
+
+/// The file that a section was made of, if it was made of one.
+fn file_of<'a>(files: &[&'a str], section: usize) -> Option<&'a str> {
+    files.get(section.checked_sub(1)?).copied()
+}

@@ -18,6 +18,8 @@
 //! Only functions that return a `Result` allocate.
 #![tactic(auto)]
 
+mod app;
+mod help;
 mod words;
 
 pub use clap::Error;

@@ -1,0 +1,104 @@
+//! What `-h` and `--help` say.
+
+/// What the help of a command says.
+#[derive(Clone, Copy)]
+pub(crate) struct Help {
+    /// What the command does, in a line.
+    pub(crate) about: &'static str,
+    /// How it is called.
+    pub(crate) usage: &'static str,
+    /// A call of it.
+    pub(crate) example: &'static str,
+}
+
+/// The program's.
+pub(crate) const HUBSYNC: Help = Help {
+    about: "Reads profiles of Unison, and says whether they may run at the same time",
+    usage: "hubsync [COMMAND] < BUNDLE",
+    example: "Example: hubsync < examples/two-profiles.bundle",
+};
+
+/// That of `check`.
+pub(crate) const CHECK: Help = Help {
+    about: "Says whether the profiles may run at the same time, and runs no jobs",
+    usage: "hubsync check < BUNDLE",
+    example: "Example: hubsync check < examples/two-profiles.bundle",
+};
+
+/// That of `certify`.
+pub(crate) const CERTIFY: Help = Help {
+    about: "Writes certificates, which show that they may run at the same time",
+    usage: "hubsync certify < BUNDLE",
+    example: "Example: hubsync certify < examples/two-profiles.bundle > certificates",
+};
+
+/// That of `verify`.
+pub(crate) const VERIFY: Help = Help {
+    about: "Says whether the certificates of the input show that they may",
+    usage: "hubsync verify < BUNDLE",
+    example: "Example: cat my.bundle <(echo %certificates) certificates | hubsync verify",
+};
+
+/// That of `reach`.
+pub(crate) const REACH: Help = Help {
+    about: "Says whether a profile of the input reaches a path",
+    usage: "hubsync reach PROFILE PATH < BUNDLE",
+    example: "Example: hubsync reach docs docs/report.txt < examples/patterns.bundle",
+};
+
+/// That of `run`.
+pub(crate) const RUN: Help = Help {
+    about: "Runs the jobs of profiles that may on the state of the input",
+    usage: "hubsync run [--workers N] < BUNDLE",
+    example: "Example: hubsync run --workers 4 < examples/star.bundle",
+};
+
+/// What follows the options in `hubsync --help`: a small bundle, the lines of the answer, and the statuses.
+pub(crate) const LONG: &str = "\
+The input is a bundle of profiles, each after a line with its name:
+
+  %profile docs
+  root = /srv/hub
+  root = /srv/laptop
+  path = docs
+  %profile photos
+  root = /srv/hub
+  root = /srv/laptop
+  path = photos
+
+A section '%rules' may say what no profile may do at a root:
+
+  %rules
+  root = /srv/hub
+  nolose = BelowPath docs/archive
+
+A section '%state' may say what the replicas hold. 'run' runs the jobs of a
+safe set on it, and so does hubsync without a command if there is such a
+section. For 'verify', a line '%certificates' and the text that 'certify' wrote
+are part of the bundle too.
+
+The output is one line: 'safe', 'verified', 'overlap: ..', 'breach: ..',
+'too large: ..', 'refused: ..', 'reached', 'not reached' or 'fault: ..'.
+'certify' writes the text of the certificates in the place of 'safe'.
+
+If the jobs are run, these lines stand below 'safe', for the profiles in their
+order, and then the new state:
+
+  job docs finished         or stopped: it found no memory
+  to /srv/laptop docs/note  an item of a finished job, and the root it went to
+  skip Conflict docs/plan   or Barred, Blocked, NoParent: it stays as it is
+
+If they aren't run, 'run fault: MissingReplica ..' stands below 'safe'
+if the state has no replica of a root, or 'NoWorkers' for 0 workers,
+'TooManyWorkers' for more than 16, or 'ThreadRefused' if a thread can't be
+started. The answer to 'run' without a state is 'fault: no state'.
+
+Exit status:
+  0  safe and no job stopped, verified, certificates, reached or not reached
+  1  the profiles may not run at the same time, or may break a rule, or that
+     they are safe was not shown
+  2  a fault of the input or of the command line, or a failed output; help and
+     version too
+  3  a job was stopped, or no job was run: 'run fault: ..'
+
+Example: hubsync < examples/two-profiles.bundle";

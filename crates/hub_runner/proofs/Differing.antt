@@ -3,6 +3,7 @@ use Rattle.std.proofs.Common.{◌≡◌, ◌≢◌, ◌<◌, ◌≤◌, ◌+◌,
 use Rattle.std.specs.Prelude.{ℕ, All, IsTrue, MatchBool, slice_get}
 use Rattle.std.proofs.lemmas.Bool.{MatchBool-at_true, MatchBool-at_false}
 use Rattle.std.proofs.lemmas.Option.{slice_get_read}
+use Rattle.hub_schedule.specs.Laws.Lists.{one_value}
 use Rattle.hub_path.specs.Path.{Path}
 use Rattle.hub_profile.specs.Parts.{Parts}
 use Rattle.hub_reach.specs.Reach.{has_root}
@@ -14,7 +15,6 @@ use Rattle.hub_job.specs.History.{entries_of, entries_at}
 use Rattle.hub_runner.specs.Settling.{IsRight, IsWrong, books_at, history_at, history_or_none, log_at, places_at}
 use Rattle.hub_runner.proofs.Firsts.{IsFirst}
 use Rattle.hub_runner.proofs.JobPlaces.{Place, RightUpTo, first_book, first_job, right_at_root, right_book, right_job}
-use Rattle.hub_runner.proofs.Lists.{one_value}
 use Rattle.hub_runner.proofs.Splitting.{by_job, list_of}
 
 -- The profile has the root, and the job's entries in the history aren't those of its log.

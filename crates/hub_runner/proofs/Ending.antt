@@ -5,6 +5,7 @@ use Rattle.std.proofs.lemmas.Bool.{false≢true}
 use Rattle.std.proofs.lemmas.Bool.Decides.{nat_tests}
 use Rattle.std.proofs.lemmas.List.Sums.{length-filter}
 use Rattle.std.proofs.lemmas.Option.{slice_get_within}
+use Rattle.hub_schedule.specs.Laws.Lists.{one_value}
 use Rattle.hub_path.specs.Path.{Path}
 use Rattle.hub_path.specs.declared.side.Side.{Side}
 use Rattle.hub_profile.specs.Parts.{Parts}
@@ -25,7 +26,7 @@ use Rattle.hub_schedule.specs.Promise.{Settles}
 use Rattle.hub_schedule.specs.Simulated.{HaveEnded}
 use Rattle.hub_runner.specs.Settling.{AreCompared, AreDue, EndAsTheyAre, end_value}
 use Rattle.hub_runner.specs.Working.{AreOver, AsksFor, asks_nothing, is_over}
-use Rattle.hub_runner.proofs.Lists.{one_value, only, passed}
+use Rattle.hub_runner.proofs.Lists.{only, passed}
 
 -- A job that asks for an operation in its turn has asked for it.
 pub asks_after : (J K : JobValue) (side : Side) (op : Op) → K ≡ after_turn J K.stopped (Ask side op) → AsksFor K op

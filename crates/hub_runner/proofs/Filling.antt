@@ -1,28 +1,20 @@
 -- Slots that jobs are put into, by their numbers.
-use Rattle.std.proofs.Common.{◌≡◌, ◌≢◌, ◌<◌, ◌⊎◌, inl, inr, List, [], ◌∷◌, ◌++◌, length, Option, Some, refl, ap, sym, ◌∙◌, subst, length-set, arith}
+use Rattle.std.proofs.Common.{◌≡◌, ◌<◌, ◌⊎◌, inl, inr, List, [], ◌∷◌, ◌++◌, length, Option, Some, refl, ap, sym, ◌∙◌, subst, length-set, arith}
 use Rattle.std.specs.Prelude.{ℕ, zero, suc, slice_get, slice_set}
 use Rattle.std.proofs.lemmas.Bool.{cases_eq}
 use Rattle.std.proofs.lemmas.List.{length-map}
 use Rattle.std.proofs.lemmas.Option.{slice_get_within}
 use Rattle.hub_job.specs.JobValue.{JobValue}
 use Rattle.hub_job.specs.Run.{Runs}
-use Rattle.hub_schedule.proofs.Opened.{get_front, get_last}
+use Rattle.hub_schedule.specs.Laws.Lists.{get_front, get_last, one_value, map_at, set_there}
 use Rattle.hub_runner.specs.Ordered.{AreInOrder, AreNumbered, IsJobOf}
 use Rattle.hub_runner.specs.Slots.{AreFull, empty, filled}
-use Rattle.hub_runner.proofs.Lists.{map_at, one_value}
 
 -- Lists.
 put_here : {X : Type 0} (xs : List X) (j : ℕ) (y : X) → j < length xs → slice_get (slice_set xs j y) j ≡ Some y
 put_here [] j y h = absurd (omega (arith, h))
 put_here (x ∷ xs) zero y h = refl
 put_here (x ∷ xs) (suc j) y h = put_here xs j y (omega (arith, h))
-
-put_other : {X : Type 0} (xs : List X) (i j : ℕ) (y : X) → i ≢ j → slice_get (slice_set xs j y) i ≡ slice_get xs i
-put_other [] i j y other = refl
-put_other (x ∷ xs) zero zero y other = absurd (other refl)
-put_other (x ∷ xs) zero (suc j) y other = refl
-put_other (x ∷ xs) (suc i) zero y other = refl
-put_other (x ∷ xs) (suc i) (suc j) y other = put_other xs i j y (λ e. other (ap suc e))
 
 push_cases : {X : Type 0} (xs : List X) (x : X) (k : ℕ) (y : X) → slice_get (xs ++ x ∷ []) k ≡ Some y → (slice_get xs k ≡ Some y) ⊎ (x ≡ y)
 push_cases [] x zero y e = inr (one_value x y e)
@@ -72,14 +64,14 @@ module _ (n : ℕ) (front : List JobValue) (slots : List (Option JobValue)) (fil
             let there = sym (put_here slots J.number (Some J) inside) ∙ (ap (slice_get more) (sym same) ∙ h) in
             let one : J ≡ x = one_value J x (one_value (Some J) (Some x) there) in
             subst (λ (y : JobValue). IsJobOf (front ++ J ∷ []) y × (y.number ≡ j)) one (of, sym same)
-        | inr other ↦ let w = filling.each j x (sym (put_other slots j J.number (Some J) other) ∙ h) in (later front J x w.0, w.1)
+        | inr other ↦ let w = filling.each j x (sym (set_there slots j J.number (Some J) other) ∙ h) in (later front J x w.0, w.1)
       ]
 
   still_full : (K : JobValue) → (x : JobValue) × (slice_get slots K.number ≡ Some (Some x)) → (x : JobValue) × (slice_get more K.number ≡ Some (Some x))
   still_full K w =
       elim (cases_eq K.number J.number) [
         | inl same ↦ (J, ap (slice_get more) same ∙ put_here slots J.number (Some J) inside)
-        | inr other ↦ (w.0, put_other slots K.number J.number (Some J) other ∙ w.1)
+        | inr other ↦ (w.0, set_there slots K.number J.number (Some J) other ∙ w.1)
       ]
 
   full_more : (k : ℕ) (K : JobValue) → slice_get (front ++ J ∷ []) k ≡ Some K → (x : JobValue) × (slice_get more K.number ≡ Some (Some x))

@@ -1,29 +1,10 @@
 -- The first place that is wrong, found list by list.
-use Rattle.std.proofs.Common.{◌≡◌, ◌<◌, ◌≤◌, ◌+◌, inl, inr, List, ◌∷◌, ◌++◌, length, drop, Some, ap, sym, ◌∙◌, subst, arith, append_assoc}
-use Rattle.std.specs.Prelude.{ℕ, suc, All, slice_get}
+use Rattle.std.proofs.Common.{◌≡◌, ◌≤◌, ◌+◌, List, ◌∷◌, ◌++◌, length, drop, Some, ap, sym, ◌∙◌, subst, append_assoc}
+use Rattle.std.specs.Prelude.{ℕ, All, slice_get}
 use Rattle.std.specs.List.{flat_map}
-use Rattle.std.proofs.Math.Seq.{drop-cons}
-use Rattle.std.proofs.lemmas.Bool.{cases_eq}
 use Rattle.std.proofs.lemmas.List.{append-nil, drop_all}
 use Rattle.std.proofs.lemmas.List.Elements.{All-append}
-use Rattle.std.proofs.lemmas.Option.{slice_get_within, get_or_from_slice_get}
-
--- What holds of the elements before one, and of it.
-pub also_here : {X : Type 0} (Q : X → Type 0) (xs : List X) (n : ℕ) (x : X) → slice_get xs n ≡ Some x → Q x → ((k : ℕ) (y : X) → k < n → slice_get xs k ≡ Some y → Q y)
-    → (k : ℕ) (y : X) → k < n + 1 → slice_get xs k ≡ Some y → Q y
-also_here Q xs n x at here before k y h e =
-    elim (cases_eq k n) [
-      | inl same ↦ let one : Some x ≡ Some y = sym at ∙ (ap (slice_get xs) (sym same) ∙ e) in let is : x ≡ y = cc in subst Q is here
-      | inr other ↦ before k y (omega (arith, h, other)) e
-    ]
-
-after : (n : ℕ) → suc n ≡ n + 1
-after n = omega arith
-
-pub drop_at : {X : Type 0} (xs : List X) (n : ℕ) (x : X) → slice_get xs n ≡ Some x → drop n xs ≡ x ∷ drop (n + 1) xs
-drop_at xs n x e =
-    drop-cons xs n x (slice_get_within xs n x e)
-    ∙ (ap (λ y. y ∷ drop (suc n) xs) (get_or_from_slice_get xs n x x e) ∙ ap (λ m. x ∷ drop m xs) (after n))
+use Rattle.hub_schedule.specs.Laws.Lists.{drop_at}
 
 -- The element is the first of a list that is wrong: those before it are right.
 abbrev pub IsFirst : {X : Type 0} → (X → Type 0) → (X → Type 0) → List X → X → Type 0

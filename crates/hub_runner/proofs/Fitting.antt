@@ -6,6 +6,7 @@ use Rattle.std.specs.FinMap as fin
 use Rattle.std.proofs.lemmas.Bool.Decides.{nat_tests}
 use Rattle.std.proofs.lemmas.List.Sums.{length-filter}
 use Rattle.std.proofs.lemmas.Option.{slice_get_within}
+use Rattle.hub_reconcile.specs.Laws.Views.{same_paths}
 use Rattle.hub_path.specs.Path.{Path, path_eq}
 use Rattle.hub_profile.specs.Parts.{Parts}
 use Rattle.hub_reach.specs.Reach.{has_root}
@@ -15,7 +16,7 @@ use Rattle.hub_job.specs.declared.outcome.Outcome.{Outcome}
 use Rattle.hub_job.specs.JobValue.{JobValue}
 use Rattle.hub_job.specs.Outcome.{archive_of, jobs_of, replicas_of, IsOutcomeWith}
 use Rattle.hub_job.specs.Run.{Runs, root_at}
-use Rattle.hub_job.proofs.Blind.{same_path, path_itself}
+use Rattle.hub_job.specs.Laws.Untouched.{path_itself}
 use Rattle.hub_history.specs.Book.{BookValue, IsBook}
 use Rattle.hub_schedule.specs.declared.seat.WorkingTree.{WorkingTree}
 use Rattle.hub_schedule.specs.Ended.{AreEnded, IsEnded, ended_value}
@@ -24,13 +25,12 @@ use Rattle.hub_schedule.specs.Promise.{HasReplicas, Settles, log_or_none, logs_i
 use Rattle.hub_schedule.specs.Refusals.{first_missing}
 use Rattle.hub_schedule.specs.Settled.{AreProfiles, IsSettled}
 use Rattle.hub_schedule.specs.Table.{AreTrees, IsPlaced}
-use Rattle.hub_schedule.proofs.Joined.{as_long}
-use Rattle.hub_schedule.proofs.Places.{has_own}
-use Rattle.hub_schedule.proofs.Promised.{listed, one_with}
-use Rattle.hub_schedule.proofs.Runnable.{have_replicas}
+use Rattle.hub_schedule.specs.Laws.Lists.{as_long, listed, one_with, one_value, map_at}
+use Rattle.hub_job.specs.Laws.Roots.{has_own}
+use Rattle.hub_schedule.specs.Laws.Missing.{have_replicas}
 use Rattle.hub_runner.specs.Ordered.{AreInOrder, AreNumbered, AreTreesOf, is_due, of_book, of_tree}
 use Rattle.hub_runner.specs.Settling.{AreCompared, AreDue, EndAsTheyAre, IsRight, OpensAs, books_at, end_value, history_at, history_or_none, log_at, log_or_nothing, places}
-use Rattle.hub_runner.proofs.Lists.{all_at, count_filter, count_map, found_first, is_only, map_at, mapped, one_value, only, passed, passes, same_place}
+use Rattle.hub_runner.proofs.Lists.{all_at, count_filter, count_map, found_first, is_only, mapped, only, passed, passes, same_place}
 use Rattle.hub_runner.proofs.Roots.{at_book, at_job}
 
 abbrev has_number : ℕ → JobValue → Bool
@@ -140,7 +140,7 @@ module _ (S : State) (Ps : List Parts) (books : List BookValue) (jobs : List Job
         let w = at_book (IsRight S Ps books jobs) Ps right j P r at has in
         let B = w.0 in
         let from = passed (λ C. path_eq C.root r) books 0 B (ap (λ Bs. slice_get Bs 0) w.1) in
-        let root : B.root ≡ r = same_path B.root r from.1 in
+        let root : B.root ≡ r = same_paths B.root r from.1 in
         let due : is_due Ps B ≡ true = subst (λ q. list_any (λ Q. has_root Q q) Ps ≡ true) (sym root) (listed (λ Q. has_root Q r) Ps j P at has) in
         let at_root = passes (is_due Ps) books from.0.0 B from.0.1 due in (
           B,

@@ -4,9 +4,7 @@ use Rattle.std.specs.Prelude.{ℕ, zero, suc, All, slice_get, find}
 use Rattle.std.specs.List.{flat_map, list_any, range_with_len}
 use Rattle.std.proofs.lemmas.Option.{slice_get_within}
 use Rattle.std.proofs.lemmas.List.Elements.{All-nil, All-cons, All-head, All-tail}
-
-pub one_value : {X : Type 0} (x y : X) → Some x ≡ Some y → x ≡ y
-one_value x y e = cc
+use Rattle.hub_schedule.specs.Laws.Lists.{one_value}
 
 -- Each element.
 pub all_at : {X : Type 0} (Q : X → Type 0) (xs : List X) (k : ℕ) (x : X) → All Q xs → slice_get xs k ≡ Some x → Q x
@@ -146,11 +144,6 @@ count_map p f (x ∷ xs) =
     ]
 
 -- Elements of a list that is mapped.
-pub map_at : {X Y : Type 0} (f : X → Y) (xs : List X) (k : ℕ) (x : X) → slice_get xs k ≡ Some x → slice_get (map f xs) k ≡ Some (f x)
-map_at f [] k x e = cc
-map_at f (y ∷ xs) zero x e = ap (λ z. Some (f z)) (one_value y x e)
-map_at f (y ∷ xs) (suc k) x e = map_at f xs k x e
-
 pub mapped : {X Y : Type 0} (f : X → Y) (xs : List X) (k : ℕ) (y : Y) → slice_get (map f xs) k ≡ Some y → (x : X) × (slice_get xs k ≡ Some x) × (f x ≡ y)
 mapped f [] k y e = cc
 mapped f (x ∷ xs) zero y e = (x, refl, one_value (f x) y e)

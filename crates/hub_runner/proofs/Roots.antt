@@ -4,16 +4,18 @@ use Rattle.std.specs.Prelude.{ℕ, zero, suc, All, slice_get, fold}
 use Rattle.std.specs.List.{list_any, range_with_len}
 use Rattle.std.proofs.lemmas.Bool.{false≢true, or_cases}
 use Rattle.std.proofs.lemmas.List.Elements.{All-head, All-tail}
+use Rattle.hub_schedule.specs.Laws.Lists.{one_value}
+use Rattle.hub_reconcile.specs.Laws.Views.{same_paths}
 use Rattle.hub_path.specs.Path.{Path, path_eq}
 use Rattle.hub_path.specs.declared.side.Side.TheVariants.{Left, Right}
 use Rattle.hub_profile.specs.Parts.{Parts, IsProfile, at_side}
 use Rattle.hub_reach.specs.Reach.{has_root}
 use Rattle.hub_reconcile.specs.Sync.{root_or_top}
 use Rattle.hub_job.specs.Run.{root_at}
-use Rattle.hub_job.proofs.Blind.{same_path, path_itself}
-use Rattle.hub_job.proofs.InWorld.{two_roots}
+use Rattle.hub_job.specs.Laws.Untouched.{path_itself}
+use Rattle.hub_job.specs.Laws.Roots.{two_roots}
 use Rattle.hub_runner.specs.Settling.{with_new, roots_of, places, places_at}
-use Rattle.hub_runner.proofs.Lists.{all_flat, all_range, one_value}
+use Rattle.hub_runner.proofs.Lists.{all_flat, all_range}
 
 -- A profile has its two roots, and no other.
 pub no_root : (P : Parts) → IsProfile P → (l r q : Path) → l ≡ root_at P Left → r ≡ root_at P Right → path_eq l q ≡ false → path_eq r q ≡ false → has_root P q ≡ false
@@ -70,7 +72,7 @@ comes : (r : Path) (own rs : List Path) → is_in r own ≡ true → is_in r (fo
 comes r [] rs e = absurd (false≢true e)
 comes r (s ∷ own) rs e =
     elim (or_cases (path_eq s r) (is_in r own) e) [
-      | inl h ↦ stays r own (with_new rs s) (subst (λ q. is_in q (with_new rs s) ≡ true) (same_path s r h) (now_in s rs))
+      | inl h ↦ stays r own (with_new rs s) (subst (λ q. is_in q (with_new rs s) ≡ true) (same_paths s r h) (now_in s rs))
       | inr h ↦ comes r own (with_new rs s) h
     ]
 
@@ -94,7 +96,7 @@ place_of : (r : Path) (rs : List Path) → is_in r rs ≡ true → (k : ℕ) × 
 place_of r [] e = absurd (false≢true e)
 place_of r (s ∷ rs) e =
     elim (or_cases (path_eq s r) (is_in r rs) e) [
-      | inl h ↦ (0, ap (λ q. Some q) (same_path s r h))
+      | inl h ↦ (0, ap (λ q. Some q) (same_paths s r h))
       | inr h ↦ let w = place_of r rs h in (suc w.0, w.1)
     ]
 

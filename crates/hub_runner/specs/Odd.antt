@@ -12,7 +12,8 @@ abbrev pub AllAreOf : Parts → Archive → List JobValue → ℕ → Type 0
 AllAreOf P O jobs j = (k : ℕ) (J : JobValue) → slice_get jobs k ≡ Some J → J.number ≡ j → IsOf P O J
 
 abbrev pub OneIsNotOf : Parts → Archive → List JobValue → ℕ → Type 0
-OneIsNotOf P O jobs j = (k : ℕ) × (J : JobValue) × (slice_get jobs k ≡ Some J) × (J.number ≡ j) × ¬ (IsOf P O J)
+OneIsNotOf P O jobs j =
+    (k : ℕ) × (J : JobValue) × (slice_get jobs k ≡ Some J) × (J.number ≡ j) × ¬ (IsOf P O J)
 
 -- Each job's number is below n.
 abbrev pub AllAreBelow : List JobValue → ℕ → Type 0

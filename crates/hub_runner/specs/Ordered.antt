@@ -22,7 +22,8 @@ abbrev pub is_due : List Parts → BookValue → Bool
 is_due Ps B = list_any (λ P. has_root P B.root) Ps
 
 -- The replicas of those books, in their order.
-pub record AreTreesOf (Ps : List Parts) (books : List BookValue) (trees : List WorkingTree) : Type 0 where
+pub record AreTreesOf (Ps : List Parts) (books : List BookValue) (trees : List WorkingTree) :
+    Type 0 where
   pub values : map of_tree trees ≡ map of_book (filter (is_due Ps) books)
   pub legal : All IsBook (filter (is_due Ps) books)
 
@@ -40,4 +41,5 @@ pub record AreInOrder (n : ℕ) (jobs ordered : List JobValue) : Type 0 where
 -- Each number of a job is below n, and each number below n is that of a job.
 pub record AreNumbered (n : ℕ) (jobs : List JobValue) : Type 0 where
   pub below : (k : ℕ) (J : JobValue) → slice_get jobs k ≡ Some J → J.number < n
-  pub all : (j : ℕ) → j < n → (k : ℕ) × (J : JobValue) × (slice_get jobs k ≡ Some J) × (J.number ≡ j)
+  pub all : (j : ℕ) → j < n → (k : ℕ) × (J : JobValue) × (slice_get jobs k ≡ Some J)
+      × (J.number ≡ j)

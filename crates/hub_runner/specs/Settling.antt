@@ -18,16 +18,19 @@ use Rattle.hub_history.specs.Book.{BookValue}
 use Rattle.hub_job.specs.History.{entries_of, entries_at}
 use Rattle.hub_schedule.specs.Refusals.{first_missing}
 
--- The job has the set's profile of its number, and the archive of that profile's roots in the state.
-abbrev pub IsMadeFor : State → List Parts → JobValue → Type 0
-IsMadeFor S Ps J = (slice_get Ps J.number ≡ Some J.profile) × (J.archive ≡ archive_of S (Some J.profile))
-
--- The number is that of a profile, and not exactly one job has it; or a job has it that isn't made for the set and the
+-- The job has the set's profile of its number, and the archive of that profile's roots in the
 -- state.
+abbrev pub IsMadeFor : State → List Parts → JobValue → Type 0
+IsMadeFor S Ps J =
+    (slice_get Ps J.number ≡ Some J.profile) × (J.archive ≡ archive_of S (Some J.profile))
+
+-- The number is that of a profile, and not exactly one job has it; or a job has it that isn't made
+-- for the set and the state.
 abbrev pub IsOdd : State → List Parts → List JobValue → ℕ → Type 0
 IsOdd S Ps jobs j =
     ((j < length Ps) × (count_by (λ J. J.number == j) jobs ≢ 1))
-    ⊎ ((k : ℕ) × (J : JobValue) × (slice_get jobs k ≡ Some J) × (J.number ≡ j) × ¬ (IsMadeFor S Ps J))
+    ⊎ ((k : ℕ) × (J : JobValue) × (slice_get jobs k ≡ Some J) × (J.number ≡ j)
+    × ¬ (IsMadeFor S Ps J))
 
 -- Each job is made for the set and the state, and exactly one has the number of each profile.
 abbrev pub AreDue : State → List Parts → List JobValue → Type 0
@@ -61,19 +64,21 @@ log_or_nothing (Some J) = J.log
 abbrev pub log_at : List JobValue → ℕ → List Logged
 log_at jobs j = log_or_nothing (find (λ J. J.number == j) jobs)
 
--- A place of a comparison is a root, and a job or none. With none the root has exactly one book, which was made for the
--- set and the state. With a job that has the root, its entries in the root's history are those of its log there.
+-- A place of a comparison is a root, and a job or none. With none the root has exactly one book,
+-- which was made for the set and the state. With a job that has the root, its entries in the root's
+-- history are those of its log there.
 abbrev pub IsRight : State → List Parts → List BookValue → List JobValue → Path × Option ℕ → Type 0
 IsRight S Ps books jobs (r, None) = (B : BookValue) × (books_at books r ≡ B ∷ []) × OpensAs S Ps B
 IsRight S Ps books jobs (r, Some j) =
     (P : Parts) → slice_get Ps j ≡ Some P → IsTrue (has_root P r)
     → entries_of j (history_at books r) ≡ entries_at P r (log_at jobs j)
 
--- With none the root doesn't have exactly one book, or that wasn't made for the set and the state. With a job: it has the
--- root, and the entries differ.
+-- With none the root doesn't have exactly one book, or that wasn't made for the set and the state.
+-- With a job: it has the root, and the entries differ.
 abbrev pub IsWrong : State → List Parts → List BookValue → List JobValue → Path × Option ℕ → Type 0
 IsWrong S Ps books jobs (r, None) =
-    (length (books_at books r) ≢ 1) ⊎ ((B : BookValue) × (books_at books r ≡ B ∷ []) × ¬ (OpensAs S Ps B))
+    (length (books_at books r) ≢ 1)
+    ⊎ ((B : BookValue) × (books_at books r ≡ B ∷ []) × ¬ (OpensAs S Ps B))
 IsWrong S Ps books jobs (r, Some j) =
     (P : Parts) × (slice_get Ps j ≡ Some P) × IsTrue (has_root P r)
     × (entries_of j (history_at books r) ≢ entries_at P r (log_at jobs j))
@@ -94,7 +99,8 @@ abbrev pub places : List Parts → List (Path × Option ℕ)
 places Ps = flat_map (places_at (length Ps)) (roots_of Ps)
 
 -- The place is the first of these that is wrong: those before it are right.
-abbrev pub IsFirstWrong : State → List Parts → List BookValue → List JobValue → List (Path × Option ℕ) → Path × Option ℕ → Type 0
+abbrev pub IsFirstWrong : State → List Parts → List BookValue → List JobValue
+    → List (Path × Option ℕ) → Path × Option ℕ → Type 0
 IsFirstWrong S Ps books jobs all at =
     (front rest : List (Path × Option ℕ)) × (all ≡ front ++ at ∷ rest) × IsWrong S Ps books jobs at
     × All (IsRight S Ps books jobs) front
@@ -112,8 +118,8 @@ abbrev pub log_shown : List Parts → List JobValue → Path → Option ℕ → 
 log_shown Ps jobs r None = []
 log_shown Ps jobs r (Some j) = log_of_job jobs r j (slice_get Ps j)
 
--- Why books and jobs aren't settled. The first of these that applies: a replica is missing; a number is odd; a place is
--- wrong. Or there is no memory.
+-- Why books and jobs aren't settled. The first of these that applies: a replica is missing; a
+-- number is odd; a place is wrong. Or there is no memory.
 abbrev pub IsUnsettled : State → List Parts → List BookValue → List JobValue → RunFault → Type 0
 IsUnsettled S Ps books jobs fault.NoWorkers = ⊥
 IsUnsettled S Ps books jobs fault.TooManyWorkers = ⊥
@@ -123,11 +129,13 @@ IsUnsettled S Ps books jobs (fault.Mismatch r j history log) =
     × (history ≡ history_shown books r j) × (log ≡ log_shown Ps jobs r j)
 IsUnsettled S Ps books jobs (fault.BadTurn t) = ⊥
 IsUnsettled S Ps books jobs fault.ThreadRefused = ⊥
-IsUnsettled S Ps books jobs (fault.Stranger j) = (first_missing S Ps ≡ None) × IsLowestOdd S Ps jobs j
+IsUnsettled S Ps books jobs (fault.Stranger j) =
+    (first_missing S Ps ≡ None) × IsLowestOdd S Ps jobs j
 IsUnsettled S Ps books jobs fault.OutOfMemory = Unit {0}
 
 -- Nothing is missing, no number is odd, and no place is wrong.
-pub record AreCompared (S : State) (Ps : List Parts) (books : List BookValue) (jobs : List JobValue) : Type 0 where
+pub record AreCompared (S : State) (Ps : List Parts) (books : List BookValue)
+    (jobs : List JobValue) : Type 0 where
   pub there : first_missing S Ps ≡ None
   pub due : AreDue S Ps jobs
   pub right : All (IsRight S Ps books jobs) (places Ps)
@@ -138,4 +146,6 @@ end_value J = record { end = end_of J; log = J.log; items = items_of J }
 
 -- Each job has ended by its number: as stopped, if it is, and else by its log.
 abbrev pub EndAsTheyAre : List JobValue → Outcome → Type 0
-EndAsTheyAre jobs o = (k : ℕ) (J : JobValue) → slice_get jobs k ≡ Some J → slice_get o.jobs J.number ≡ Some (end_value J)
+EndAsTheyAre jobs o =
+    (k : ℕ) (J : JobValue) → slice_get jobs k ≡ Some J
+    → slice_get o.jobs J.number ≡ Some (end_value J)

@@ -10,4 +10,5 @@ filled jobs = map (λ e. Some e) jobs
 
 -- Each slot has a job.
 abbrev pub AreFull : List (Option JobValue) → Type 0
-AreFull slots = (j : ℕ) (o : Option JobValue) → slice_get slots j ≡ Some o → (e : JobValue) × (o ≡ Some e)
+AreFull slots =
+    (j : ℕ) (o : Option JobValue) → slice_get slots j ≡ Some o → (e : JobValue) × (o ≡ Some e)

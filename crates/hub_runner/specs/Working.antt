@@ -40,8 +40,9 @@ AreWorkers n = (0 < n) × (n ≤ WORKERS)
 abbrev pub MayRun : State → List Parts → ℕ → Type 0
 MayRun S Ps n = AreWorkers n × (first_missing S Ps ≡ None)
 
--- Why jobs aren't run. The first of these that applies: there are no workers, or too many; a replica is missing; a thread
--- is refused. Or there is no memory. A stranger and a mismatch are those of settling.
+-- Why jobs aren't run. The first of these that applies: there are no workers, or too many; a
+-- replica is missing; a thread is refused. Or there is no memory. A stranger and a mismatch are
+-- those of settling.
 abbrev pub IsNotRun : State → List Parts → ℕ → RunFault → Type 0
 IsNotRun S Ps n fault.NoWorkers = n ≡ 0
 IsNotRun S Ps n fault.TooManyWorkers = WORKERS < n

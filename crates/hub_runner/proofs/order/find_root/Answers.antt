@@ -2,8 +2,7 @@ use Rattle.std.proofs.Common.{◌≡◌, false, refl, arith}
 use Rattle.std.proofs.lemmas.Option.{slice_get_read, slice_get_within}
 use Rattle.hub_profile.specs.Parts.{Parts}
 use Rattle.hub_reach.specs.Reach.{has_root}
-use Rattle.hub_schedule.proofs.Promised.{listed}
-use Rattle.hub_runner.proofs.Firsts.{also_here}
+use Rattle.hub_schedule.specs.Laws.Lists.{listed, also_here}
 use Rattle.hub_runner.proofs.Lists.{none_any}
 use Rattle.hub_runner.proofs.order.find_root.Goals as goal
 

@@ -13,6 +13,8 @@
 //! - `search GOAL | SET`: what a search for a goal finds (`searches`).
 //! - `certificates SET`: the goals whose certificates are found, each with whether its own search finds the same texts.
 //! - `check SET`: what `check` says of the set.
+//! - `clashes SET`: what each goal of the set shows, if it isn't ruled out (`rounds`).
+//! - `rounds SET`: the profiles of each round, then those that are in none, and how many rounds are needed.
 //!
 //! A fault is shown as `faults` says. Tests in a table that is read cost no proof, as tests in code do.
 #![tactic(auto)]
@@ -21,6 +23,7 @@ mod certificates;
 mod faults;
 mod goals;
 mod products;
+mod rounds;
 mod searches;
 mod sets;
 mod verdicts;
@@ -61,6 +64,8 @@ fn answer(alloc: Global, word: &str, fields: &str) -> Result<String> {
         "search" => searches::search_answer(alloc, fields),
         "certificates" => searches::certificates_answer(alloc, fields),
         "check" => searches::check_answer(alloc, fields),
+        "clashes" => rounds::clashes_answer(alloc, fields),
+        "rounds" => rounds::rounds_answer(alloc, fields),
         _ => bail!("no question: {word}"),
     }
 }

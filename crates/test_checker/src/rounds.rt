@@ -1,0 +1,64 @@
+//! What clashes in a set, and its rounds.
+use crate::faults::fault_text;
+use crate::sets::set_of;
+use anyhow::{Result, bail};
+use hub_profile::Profile;
+use hub_rounds::{Clashes, Placed, Placing, Reason, Rounds, clashes_of, rounds_of};
+use std::alloc::{AllocError, Global};
+
+/// What the goals of a set show, each as a fault; or `nothing`.
+pub(crate) fn clashes_answer(alloc: Global, fields: &str) -> Result<String> {
+    let set = set_of(alloc, fields)?;
+    Ok(clashes_text(alloc, &clashes_of(alloc, &set)?)?)
+}
+
+fn clashes_text(alloc: Global, clashes: &Clashes) -> Result<String, AllocError> {
+    let mut said = Vec::new(alloc);
+    for line in clashes.lines() {
+        said.push(fault_text(alloc, line)?)?;
+    }
+    if said.is_empty() {
+        return String::from_str(alloc, "nothing");
+    }
+    said.as_slice().join(alloc, " / ")
+}
+
+/// The profiles of each round, how many rounds are needed, and who is in none.
+pub(crate) fn rounds_answer(alloc: Global, fields: &str) -> Result<String> {
+    let set = set_of(alloc, fields)?;
+    let clashes = clashes_of(alloc, &set)?;
+    match rounds_of(alloc, Box::into_inner(set), &clashes) {
+        Ok(rounds) => Ok(rounds_text(alloc, &rounds)?),
+        Err(fault) => bail!("no rounds: {fault:?}"),
+    }
+}
+
+fn rounds_text(alloc: Global, rounds: &Rounds) -> Result<String, AllocError> {
+    let mut said = Vec::new(alloc);
+    for round in rounds.rounds.as_slice() {
+        said.push(names_text(alloc, round.as_slice())?)?;
+    }
+    for left in rounds.left.as_slice() {
+        said.push(left_text(alloc, left)?)?;
+    }
+    let least = rounds.rivals.len();
+    said.push(format!(in alloc; "at least {least}")?)?;
+    said.as_slice().join(alloc, " | ")
+}
+
+fn names_text(alloc: Global, profiles: &[Profile]) -> Result<String, AllocError> {
+    let mut names = Vec::new(alloc);
+    for profile in profiles {
+        names.push(String::from_str(alloc, profile.name().text())?)?;
+    }
+    names.as_slice().join(alloc, " ")
+}
+
+fn left_text(alloc: Global, left: &Placed) -> Result<String, AllocError> {
+    let name = left.profile.name().text();
+    match left.placing {
+        Placing::Left(Reason::Breach(rule)) => format!(in alloc; "breach {rule} {name}"),
+        Placing::Left(Reason::TooLarge(rule)) => format!(in alloc; "too large {rule} {name}"),
+        Placing::Round(_) => format!(in alloc; "a round {name}"),
+    }
+}

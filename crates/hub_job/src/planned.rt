@@ -64,7 +64,8 @@ pub(crate) fn steps_after(
 fn looks_at<'a>(alloc: Global, log: &'a [Logged], side: Side) -> Result<Vec<Look<'a>>, AllocError>
     ensures { IfOk result (λ v. told_by v.items ≡ sights log.now side) }
 {
-    let mut looks = Vec::new(alloc);
+    let here = log.iter().filter(|entry| is_side(entry.side, side)).count();
+    let mut looks = Vec::with_capacity(alloc, here)?;
     for entry in log {
         if is_side(entry.side, side) {
             push_look(&mut looks, &entry.step)?;

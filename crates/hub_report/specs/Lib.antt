@@ -1,3 +1,4 @@
+pub mod Blocks
 pub mod Refusal
 pub mod Run
 pub mod Jobs

@@ -3,6 +3,7 @@
 //! - [`Report`] is an answer to an input.
 //! - [`Run`] is what the jobs of a safe set did and left; [`RunError`] is why they weren't run.
 //! - [`lines_of_jobs`] are the lines that say what jobs did.
+//! - [`Blocks`] is the text of an answer, in blocks.
 //!
 //! ```text
 //! let report = Report::refusal(alloc, &set, &fault);
@@ -10,13 +11,14 @@
 //! let text = report.into_text(alloc)?;
 //! ```
 //!
-//! The contracts use the words of `specs/Report` (the text and the status of each answer), `specs/Jobs` (the lines of
-//! jobs), `specs/Run` (the line of why jobs weren't run), `specs/Refusal` (the lines of refusals) and `specs/Faults` (the
-//! names of faults). When an answer is right is said in `hub_serve`.
+//! The contracts use the words of `specs/Report` (the text and the status of each answer), `specs/Blocks` (the bytes of a
+//! text in blocks), `specs/Jobs` (the lines of jobs), `specs/Run` (the line of why jobs weren't run), `specs/Refusal` (the
+//! lines of refusals) and `specs/Faults` (the names of faults). When an answer is right is said in `hub_serve`.
 //!
 //! Only functions that return a `Result` or a `Report` allocate.
 #![tactic(auto)]
 
+mod blocks;
 mod faults;
 mod jobs;
 mod parts;
@@ -24,6 +26,7 @@ mod refusal;
 mod report;
 mod run;
 
+pub use blocks::Blocks;
 pub use jobs::lines_of_jobs;
 pub use report::{OUT_OF_MEMORY, Report};
 pub use run::{Run, RunError};

@@ -23,10 +23,3 @@ pub fn push_all(text: &mut String, parts: &[&str]) -> Result<(), AllocError>
     }
     Ok(())
 }
-
-/// The bytes of a text.
-pub fn bytes_of(alloc: Global, text: &str) -> Result<Vec<u8>, AllocError>
-    ensures { IfOk result (λ t. t.items ≡ text.now) }
-{
-    Vec::from_slice(alloc, text.as_bytes())
-}

@@ -1,13 +1,15 @@
 //! An answer to an input: its status and its text.
 ghost use Rattle.std.specs.Prelude.{◌≡◌, ◌∷◌, [], codes, IfOk};
+ghost use Rattle.hub_report.specs.Blocks.{bytes_in};
 ghost use Rattle.hub_report.specs.Faults as names;
 ghost use Rattle.hub_report.specs.Refusal as lines;
 ghost use Rattle.hub_report.specs.Report as report;
 
+use crate::blocks::{Blocks, block_of};
 use crate::faults::{
     bundle_fault_name, input_fault_name, path_fault_name, profile_fault_name, state_fault_name,
 };
-use crate::parts::{bytes_of, joined};
+use crate::parts::joined;
 use crate::run::{Run, RunError, text_of_error, text_of_run};
 use hub_bundle::{BundleLineFault, InputFault, SectionFault};
 use hub_path::{Name, PathFault};
@@ -80,39 +82,42 @@ impl Report<'_> {
 
     /// The text that says the answer: its line, the certificates' text, or `safe` and below it what the jobs did and the
     /// text of the state that they left. It ends with LF.
-    pub fn into_text(self, alloc: Global) -> Result<Vec<u8>, AllocError>
-        ensures { IfOk result (λ t. t.items ≡ report.text_of self.entry) }
+    pub fn into_text(self, alloc: Global) -> Result<Blocks, AllocError>
+        ensures { IfOk result (λ t. bytes_in t ≡ report.text_of self.entry) }
     {
         match self {
-            Report::Safe => bytes_of(alloc, "safe\n"),
+            Report::Safe => block_of(alloc, "safe\n"),
             Report::Ran(run) => text_of_run(alloc, run),
             Report::NotRun(error) => text_of_error(alloc, &error),
-            Report::NoState => bytes_of(alloc, "fault: no state\n"),
-            Report::Verified => bytes_of(alloc, "verified\n"),
-            Report::Certified(text) | Report::Refused(text) => Ok(text.into_bytes()),
-            Report::Reached => bytes_of(alloc, "reached\n"),
-            Report::NotReached => bytes_of(alloc, "not reached\n"),
+            Report::NoState => block_of(alloc, "fault: no state\n"),
+            Report::Verified => block_of(alloc, "verified\n"),
+            Report::Certified(text) | Report::Refused(text) => {
+                Blocks::new(alloc, text.into_bytes())
+            }
+            Report::Reached => block_of(alloc, "reached\n"),
+            Report::NotReached => block_of(alloc, "not reached\n"),
             Report::NoProfile(name) => no_profile_line(alloc, name),
             Report::BadPath(fault) => fault_line(alloc, "path", path_fault_name(fault)),
             Report::Unread(fault) => fault_line(alloc, "bundle line 0", input_fault_name(fault)),
             Report::BadBundle(fault) => bundle_fault_line(alloc, fault),
             Report::BadSection(fault) => section_fault_line(alloc, &fault),
-            Report::OutOfMemory => bytes_of(alloc, OUT_OF_MEMORY),
+            Report::OutOfMemory => block_of(alloc, OUT_OF_MEMORY),
         }
     }
 }
 
 /// The line that no profile has that name.
-fn no_profile_line(alloc: Global, name: &str) -> Result<Vec<u8>, AllocError>
+fn no_profile_line(alloc: Global, name: &str) -> Result<Blocks, AllocError>
     ensures { IfOk result (λ t.
-        t.items ≡ lines.joined (codes "fault: no profile " ∷ name.now ∷ codes "\n" ∷ [])) }
+        bytes_in t ≡ lines.joined (codes "fault: no profile " ∷ name.now ∷ codes "\n" ∷ [])) }
 {
-    Ok(joined(alloc, &["fault: no profile ", name, "\n"])?.into_bytes())
+    let line = joined(alloc, &["fault: no profile ", name, "\n"])?;
+    Blocks::new(alloc, line.into_bytes())
 }
 
 /// The line of a fault of the bundle.
-fn bundle_fault_line(alloc: Global, fault: BundleLineFault) -> Result<Vec<u8>, AllocError>
-    ensures { IfOk result (λ t. t.items ≡ report.fault_line
+fn bundle_fault_line(alloc: Global, fault: BundleLineFault) -> Result<Blocks, AllocError>
+    ensures { IfOk result (λ t. bytes_in t ≡ report.fault_line
         (report.bundle_place fault.line) (names.bundle_fault_name fault.fault)) }
 {
     let line = fault.line;
@@ -121,8 +126,8 @@ fn bundle_fault_line(alloc: Global, fault: BundleLineFault) -> Result<Vec<u8>, A
 }
 
 /// The line of a fault of a section.
-fn section_fault_line(alloc: Global, fault: &SectionFault) -> Result<Vec<u8>, AllocError>
-    ensures { IfOk result (λ t. t.items ≡ report.fault_line
+fn section_fault_line(alloc: Global, fault: &SectionFault) -> Result<Blocks, AllocError>
+    ensures { IfOk result (λ t. bytes_in t ≡ report.fault_line
         (report.section_place fault.now) (names.section_fault_name fault.now)) }
 {
     match fault {
@@ -138,8 +143,8 @@ fn profile_fault_line(
     alloc: Global,
     profile: &Name,
     fault: &ProfileFault,
-) -> Result<Vec<u8>, AllocError>
-    ensures { IfOk result (λ t. t.items ≡ report.fault_line
+) -> Result<Blocks, AllocError>
+    ensures { IfOk result (λ t. bytes_in t ≡ report.fault_line
         (report.profile_place profile.now fault.now.line)
         (names.profile_fault_name fault.now.fault)) }
 {
@@ -150,8 +155,8 @@ fn profile_fault_line(
 }
 
 /// The line of a fault of the rules.
-fn rules_fault_line(alloc: Global, fault: &ProfileFault) -> Result<Vec<u8>, AllocError>
-    ensures { IfOk result (λ t. t.items ≡ report.fault_line
+fn rules_fault_line(alloc: Global, fault: &ProfileFault) -> Result<Blocks, AllocError>
+    ensures { IfOk result (λ t. bytes_in t ≡ report.fault_line
         (report.rules_place fault.now.line) (names.profile_fault_name fault.now.fault)) }
 {
     let line = fault.line;
@@ -161,8 +166,8 @@ fn rules_fault_line(alloc: Global, fault: &ProfileFault) -> Result<Vec<u8>, Allo
 }
 
 /// The line of a fault of the state.
-fn state_fault_line(alloc: Global, fault: StateFault) -> Result<Vec<u8>, AllocError>
-    ensures { IfOk result (λ t. t.items ≡ report.fault_line
+fn state_fault_line(alloc: Global, fault: StateFault) -> Result<Blocks, AllocError>
+    ensures { IfOk result (λ t. bytes_in t ≡ report.fault_line
         (report.state_place fault.line) (names.state_fault_name fault.fault)) }
 {
     let line = fault.line;
@@ -171,17 +176,18 @@ fn state_fault_line(alloc: Global, fault: StateFault) -> Result<Vec<u8>, AllocEr
 }
 
 /// The line of a faulty line of certificates.
-fn certificates_fault_line(alloc: Global, line: usize) -> Result<Vec<u8>, AllocError>
+fn certificates_fault_line(alloc: Global, line: usize) -> Result<Blocks, AllocError>
     ensures { IfOk result (λ t.
-        t.items ≡ report.fault_line (report.certificates_place line) (codes "BadText")) }
+        bytes_in t ≡ report.fault_line (report.certificates_place line) (codes "BadText")) }
 {
     let place = format!(in alloc; "certificates line {line}")?;
     fault_line(alloc, place.as_str(), "BadText")
 }
 
 /// The line of the fault at a place that has this name.
-fn fault_line(alloc: Global, place: &str, name: &str) -> Result<Vec<u8>, AllocError>
-    ensures { IfOk result (λ t. t.items ≡ report.fault_line place.now name.now) }
+fn fault_line(alloc: Global, place: &str, name: &str) -> Result<Blocks, AllocError>
+    ensures { IfOk result (λ t. bytes_in t ≡ report.fault_line place.now name.now) }
 {
-    Ok(joined(alloc, &["fault: ", place, ": ", name, "\n"])?.into_bytes())
+    let line = joined(alloc, &["fault: ", place, ": ", name, "\n"])?;
+    Blocks::new(alloc, line.into_bytes())
 }

@@ -1,9 +1,11 @@
 //! What jobs did and left, or why they weren't run, and how this is written.
 ghost use Rattle.std.specs.Prelude.{◌≡◌, ◌++◌, codes, string_bytes, IfOk};
 ghost use Rattle.hub_state.specs.Writing.{state_text};
+ghost use Rattle.hub_report.specs.Blocks.{bytes_in};
 ghost use Rattle.hub_report.specs.Run as runs;
 
-use crate::parts::{bytes_of, joined};
+use crate::blocks::{Blocks, block_of};
+use crate::parts::joined;
 use hub_path::Root;
 use hub_state::{State, write_state};
 use hub_text::Watched;
@@ -38,12 +40,13 @@ pub enum RunError {
 }
 
 /// `safe`, and below it what the jobs did and the text of the state that they left.
-pub fn text_of_run(alloc: Global, run: Run) -> Result<Vec<u8>, AllocError>
-    ensures { IfOk result (λ t. t.items
+pub fn text_of_run(alloc: Global, run: Run) -> Result<Blocks, AllocError>
+    ensures { IfOk result (λ t. bytes_in t
         ≡ codes "safe\n" ++ (string_bytes run.lines ++ state_text run.state)) }
 {
     let Run { lines, state, .. } = run;
-    let mut output = Watched::new(below_safe(lines)?);
+    let above = Blocks::new(alloc, below_safe(lines)?)?;
+    let mut output = Watched::new(above);
     match write_state(alloc, &mut output, &state) {
         Ok(()) => Ok(output.into_inner()),
         Err(_) => Err(AllocError),
@@ -60,23 +63,24 @@ fn below_safe(lines: String) -> Result<Vec<u8>, AllocError>
 }
 
 /// `safe`, and below it the line that says why the jobs weren't run.
-pub fn text_of_error(alloc: Global, error: &RunError) -> Result<Vec<u8>, AllocError>
-    ensures { IfOk result (λ t. t.items ≡ codes "safe\n" ++ runs.error_line error.now) }
+pub fn text_of_error(alloc: Global, error: &RunError) -> Result<Blocks, AllocError>
+    ensures { IfOk result (λ t. bytes_in t ≡ codes "safe\n" ++ runs.error_line error.now) }
 {
     match error {
-        RunError::NoWorkers => bytes_of(alloc, "safe\nrun fault: NoWorkers\n"),
-        RunError::TooManyWorkers => bytes_of(alloc, "safe\nrun fault: TooManyWorkers\n"),
+        RunError::NoWorkers => block_of(alloc, "safe\nrun fault: NoWorkers\n"),
+        RunError::TooManyWorkers => block_of(alloc, "safe\nrun fault: TooManyWorkers\n"),
         RunError::MissingReplica(root) => missing_line(alloc, root),
-        RunError::ThreadRefused => bytes_of(alloc, "safe\nrun fault: ThreadRefused\n"),
-        RunError::Stranger => bytes_of(alloc, "safe\nrun fault: Stranger\n"),
-        RunError::Mismatch => bytes_of(alloc, "safe\nrun fault: Mismatch\n"),
+        RunError::ThreadRefused => block_of(alloc, "safe\nrun fault: ThreadRefused\n"),
+        RunError::Stranger => block_of(alloc, "safe\nrun fault: Stranger\n"),
+        RunError::Mismatch => block_of(alloc, "safe\nrun fault: Mismatch\n"),
     }
 }
 
 /// `safe`, and below it the line that a root's replica is missing.
-fn missing_line(alloc: Global, root: &Root) -> Result<Vec<u8>, AllocError>
-    ensures { IfOk result (λ t. t.items ≡ codes "safe\n" ++ runs.missing_line root.now) }
+fn missing_line(alloc: Global, root: &Root) -> Result<Blocks, AllocError>
+    ensures { IfOk result (λ t. bytes_in t ≡ codes "safe\n" ++ runs.missing_line root.now) }
 {
     let parts = ["safe\n", "run fault: MissingReplica ", root.as_str(), "\n"];
-    Ok(joined(alloc, &parts)?.into_bytes())
+    let line = joined(alloc, &parts)?;
+    Blocks::new(alloc, line.into_bytes())
 }

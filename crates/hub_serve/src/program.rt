@@ -1,7 +1,9 @@
 //! What the program does, over any reader and writer.
-ghost use Rattle.std.specs.Prelude.{◌≡◌, false, map, string_bytes, IfErr, IfOk};
+ghost use Rattle.std.specs.Prelude.{◌≡◌, ℕ, false, is_err, map, string_bytes, take, IfErr, IfOk, OnOk};
+ghost use Rattle.std.specs.Io.KnownBytes.{Appends};
 ghost use Rattle.std.specs.IoError.{error_kind};
 ghost use Rattle.std.specs.declared.io.ErrorKind.TheVariants as io_kind;
+ghost use Rattle.hub_report.specs.Blocks.{bytes_in};
 ghost use Rattle.hub_words.specs.ClapWords.{kind_of};
 ghost use Rattle.hub_words.specs.Words.{asked_of, request_of};
 ghost use Rattle.hub_serve.specs.Reads.{reads_between};
@@ -9,7 +11,7 @@ ghost use Rattle.hub_serve.specs.Report.{Answers, AnswersNothing, Serves, Writes
 
 use crate::answer::report_on;
 use crate::laws::what_is_shown_is_not_safe;
-use hub_report::OUT_OF_MEMORY;
+use hub_report::{Blocks, OUT_OF_MEMORY};
 use hub_text::Watched;
 use hub_words::{Asked, Error, ErrorKind, read_words};
 use std::alloc::Global;
@@ -131,7 +133,7 @@ fn answer<T: Threads + Wait + Sync, R: Read, W: Write>(
     let report = report_on(rt, alloc, asked, input);
     let status = report.status();
     match report.into_text(alloc) {
-        Ok(text) => write_text(text.as_slice(), status, output),
+        Ok(text) => write_text(&text, status, output),
         Err(_) => write_out_of_memory(output),
     }
 }
@@ -142,17 +144,45 @@ fn write_out_of_memory<W: Write>(output: &mut Watched<W>) -> u8
     ensures { WritesText (W.contents output.old.device) (W.contents output.new.device)
         OUT_OF_MEMORY.now 2 output.new.failed result }
 {
-    write_text(OUT_OF_MEMORY.as_bytes(), 2, output)
+    write_line(OUT_OF_MEMORY.as_bytes(), 2, output)
 }
 
-/// Writes a text and returns its status, or 2 if a write or the flush failed.
-fn write_text<W: Write>(text: &[u8], status: u8, output: &mut Watched<W>) -> u8
+/// Writes a line and returns its status, or 2 if a write or the flush failed.
+fn write_line<W: Write>(line: &[u8], status: u8, output: &mut Watched<W>) -> u8
     requires { output.old.failed ≡ false }
     ensures { WritesText (W.contents output.old.device) (W.contents output.new.device)
-        text.now status output.new.failed result }
+        line.now status output.new.failed result }
 {
-    if output.write_all(text).is_err() || output.flush().is_err() {
+    if output.write_all(line).is_err() || output.flush().is_err() {
         return 2;
     }
     status
+}
+
+/// Writes a text and returns its status, or 2 if a write or the flush failed.
+fn write_text<W: Write>(text: &Blocks, status: u8, output: &mut Watched<W>) -> u8
+    requires { output.old.failed ≡ false }
+    ensures { WritesText (W.contents output.old.device) (W.contents output.new.device)
+        (bytes_in text.now) status output.new.failed result }
+{
+    if write_blocks(text, output).is_err() || output.flush().is_err() {
+        return 2;
+    }
+    status
+}
+
+/// Writes all blocks of a text, or a prefix of it up to the first call that fails.
+fn write_blocks<W: Write>(text: &Blocks, output: &mut Watched<W>) -> io::Result<()>
+    requires { output.old.failed ≡ false }
+    ensures bytes { OnOk result (Appends (W.contents output.old.device)
+        (W.contents output.new.device) (bytes_in text.now)) }
+    ensures prefix { (n : ℕ) × Appends (W.contents output.old.device)
+        (W.contents output.new.device) (take n (bytes_in text.now)) }
+    ensures failed { output.new.failed ≡ is_err result }
+{
+    let blocks = text.as_slice();
+    for block in blocks {
+        output.write_all(block.as_slice())?;
+    }
+    Ok(())
 }

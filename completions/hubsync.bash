@@ -4,7 +4,7 @@
 
 _hubsync() {
     local word=${COMP_WORDS[COMP_CWORD]} before=${COMP_WORDS[COMP_CWORD - 1]} command='' each candidates=''
-    local commands='check certify verify reach run help'
+    local commands='check certify verify clashes rounds reach run help'
     COMPREPLY=()
     # after a redirection come the names of files, which bash completes by itself
     [[ $before != [\<\>]* && $word != [\<\>]* ]] || return 0

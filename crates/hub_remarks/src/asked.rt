@@ -7,7 +7,9 @@ use hub_source::{Said, Source, covers, name_of, nearest, say, say_placed};
 use std::alloc::AllocError;
 
 /// The commands.
-const COMMANDS: [&str; 6] = ["check", "certify", "verify", "reach", "run", "help"];
+const COMMANDS: [&str; 8] = [
+    "check", "certify", "verify", "clashes", "rounds", "reach", "run", "help",
+];
 
 /// How many names are listed at most.
 const LISTED: usize = 10;

@@ -10,7 +10,7 @@ use Rattle.clap.specs.declared.builder.value_parser.ValueParser.TheVariants.{Sig
 use Rattle.hub_words.specs.declared.words.Asked.{Asked}
 use Rattle.hub_words.specs.declared.words.Asked.TheVariants.{About, Reach}
 use Rattle.hub_words.specs.declared.words.Question.{Question}
-use Rattle.hub_words.specs.declared.words.Question.TheVariants.{CheckWithState, Run, Check, Certify, Verify}
+use Rattle.hub_words.specs.declared.words.Question.TheVariants.{CheckWithState, Run, Check, Certify, Verify, Clashes, Rounds}
 use Rattle.hub_words.specs.declared.words.TheConstants.{DEFAULT_WORKERS_TEXT}
 
 -- a required operand
@@ -38,11 +38,15 @@ run_app = with_rule (new_app (codes "run")) workers_option
 abbrev pub top_app : App
 top_app = on_top (λ s. record s { has_version = true }) (new_app (codes "hubsync"))
 
--- `hubsync` with the commands that have no operands
-abbrev pub about_app : App
-about_app =
+-- `hubsync` with the commands of the checker
+abbrev pub checker_app : App
+checker_app =
     with_subcommand (with_subcommand (with_subcommand top_app (new_app (codes "check")).top) (new_app (codes "certify")).top)
     (new_app (codes "verify")).top
+
+-- and with those that say more than a yes or a no
+abbrev pub about_app : App
+about_app = with_subcommand (with_subcommand checker_app (new_app (codes "clashes")).top) (new_app (codes "rounds")).top
 
 -- the command as clap reads it
 unfoldable pub hubsync_app : App
@@ -78,7 +82,9 @@ about_named name workers =
     if bytes_eq name (codes "check") then Some (about Check)
     else (if bytes_eq name (codes "certify") then Some (about Certify)
     else (if bytes_eq name (codes "verify") then Some (about Verify)
-    else (if bytes_eq name (codes "run") then run_by workers else None)))
+    else (if bytes_eq name (codes "clashes") then Some (about Clashes)
+    else (if bytes_eq name (codes "rounds") then Some (about Rounds)
+    else (if bytes_eq name (codes "run") then run_by workers else None)))))
 
 -- what the command that was used asks for, by its name and the rows of its operands and options
 abbrev pub request_in : Option (Text × List Row) → Option Request

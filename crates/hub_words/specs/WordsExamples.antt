@@ -3,7 +3,7 @@ use Rattle.std.specs.Prelude.{⊤, ◌≡◌, List, [], ◌∷◌, Option, Some,
 use Rattle.clap.proofs.OnLiterals.{clap_on_literals}
 use Rattle.clap.specs.Words.{Text}
 use Rattle.hub_words.specs.Words.{Request, about, asked_of, hubsync_app, reach}
-use Rattle.hub_words.specs.declared.words.Question.TheVariants.{CheckWithState, Run, Check, Certify, Verify}
+use Rattle.hub_words.specs.declared.words.Question.TheVariants.{CheckWithState, Run, Check, Certify, Verify, Clashes, Rounds}
 use Rattle.hub_words.specs.declared.words.TheConstants.{DEFAULT_WORKERS}
 
 -- What these examples compute.
@@ -65,6 +65,18 @@ certificates = refl
 certificates_of_the_bundle : asked (codes "verify" ∷ []) ≡ Some (about Verify)
 unfolding computed
 certificates_of_the_bundle = refl
+
+all_clashes : asked (codes "clashes" ∷ []) ≡ Some (about Clashes)
+unfolding computed
+all_clashes = refl
+
+rounds_of_the_profiles : asked (codes "rounds" ∷ []) ≡ Some (about Rounds)
+unfolding computed
+rounds_of_the_profiles = refl
+
+rounds_have_no_operands : asked (codes "rounds" ∷ codes "2" ∷ []) ≡ None
+unfolding computed
+rounds_have_no_operands = refl
 
 the_check_has_no_operands : asked (codes "check" ∷ codes "a" ∷ []) ≡ None
 unfolding computed

@@ -4,9 +4,9 @@ ghost use Rattle.std.specs.Prelude.{◌≡◌, IfOk, codes, false};
 ghost use Rattle.clap.specs.Words.{app_of, new_app, rule_of, with_subcommand};
 ghost use Rattle.clap.specs.declared.builder.command.Command.TheViews.{out-Command as fields_of};
 ghost use Rattle.hub_words.specs.Words as words;
-ghost use Rattle.hub_words.specs.Words.{about_app, hubsync_app, reach_app, run_app, top_app};
+ghost use Rattle.hub_words.specs.Words.{about_app, checker_app, hubsync_app, reach_app, run_app, top_app};
 
-use crate::help::{CERTIFY, CHECK, HUBSYNC, Help, LONG, REACH, RUN, VERIFY};
+use crate::help::{CERTIFY, CHECK, CLASHES, HUBSYNC, Help, LONG, REACH, ROUNDS, RUN, VERIFY};
 use crate::words::DEFAULT_WORKERS_TEXT;
 use clap::{Arg, Command, value_parser};
 use std::alloc::{AllocError, Global};
@@ -92,13 +92,22 @@ fn top_command<'a>(alloc: Global) -> Command<'a>
         .after_long_help(LONG)
 }
 
-/// The program's command with the commands that have no operands.
-fn about_command<'a>(alloc: Global) -> Result<Command<'a>, AllocError>
-    ensures { IfOk result (λ c. app_of c ≡ about_app) }
+/// The program's command with the commands of the checker.
+fn checker_command<'a>(alloc: Global) -> Result<Command<'a>, AllocError>
+    ensures { IfOk result (λ c. app_of c ≡ checker_app) }
 {
     let top = with_plain(alloc, top_command(alloc), "check", CHECK)?;
     let top = with_plain(alloc, top, "certify", CERTIFY)?;
     with_plain(alloc, top, "verify", VERIFY)
+}
+
+/// The program's command with all commands that have no operands.
+fn about_command<'a>(alloc: Global) -> Result<Command<'a>, AllocError>
+    ensures { IfOk result (λ c. app_of c ≡ about_app) }
+{
+    let top = checker_command(alloc)?;
+    let top = with_plain(alloc, top, "clashes", CLASHES)?;
+    with_plain(alloc, top, "rounds", ROUNDS)
 }
 
 /// The program's command, with its texts of help.

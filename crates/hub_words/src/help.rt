@@ -39,6 +39,20 @@ pub(crate) const VERIFY: Help = Help {
     example: "Example: cat my.bundle <(echo %certificates) certificates | hubsync verify",
 };
 
+/// That of `clashes`.
+pub(crate) const CLASHES: Help = Help {
+    about: "Lists all overlaps of profiles, and all rules that are broken",
+    usage: "hubsync clashes < BUNDLE",
+    example: "Example: hubsync clashes < examples/unsafe-star.bundle",
+};
+
+/// That of `rounds`.
+pub(crate) const ROUNDS: Help = Help {
+    about: "Cuts the profiles into rounds: those of a round may run at the same time",
+    usage: "hubsync rounds < BUNDLE",
+    example: "Example: hubsync rounds < examples/unsafe-star.bundle",
+};
+
 /// That of `reach`.
 pub(crate) const REACH: Help = Help {
     about: "Says whether a profile of the input reaches a path",

@@ -33,6 +33,10 @@ pub enum Question {
     Certify,
     /// Whether the bundle's certificates show that the set is safe.
     Verify,
+    /// Every overlap and every breach.
+    Clashes,
+    /// Rounds of profiles that may run at the same time.
+    Rounds,
 }
 
 /// What the words on the command line ask for.
@@ -51,9 +55,9 @@ pub enum Asked<'a> {
 
 /// Reads the words, of which the first is the program's name.
 ///
-/// `check`, `certify` and `verify` ask about the set. Without a command the words ask for the check, and for a run of the
-/// jobs if the bundle has a state. `run` asks for a run; `--workers N` gives the number of workers, from 0 to 255, and
-/// without it there are [`DEFAULT_WORKERS`].
+/// `check`, `certify`, `verify`, `clashes` and `rounds` ask about the set. Without a command the words ask for the check, and
+/// for a run of the jobs if the bundle has a state. `run` asks for a run; `--workers N` gives the number of workers, from 0 to
+/// 255, and without it there are [`DEFAULT_WORKERS`].
 /// `reach PROFILE PATH` takes any two operands, also the empty word and `-`. An operand that begins with `-` and is longer
 /// needs `--` before it.
 ///
@@ -113,6 +117,12 @@ fn about<'a>(name: &str, found: &ArgMatches<'_>) -> Option<Asked<'a>>
     }
     if name == "verify" {
         return Some(Asked::About(Question::Verify));
+    }
+    if name == "clashes" {
+        return Some(Asked::About(Question::Clashes));
+    }
+    if name == "rounds" {
+        return Some(Asked::About(Question::Rounds));
     }
     if name == "run" {
         return run_by(found);

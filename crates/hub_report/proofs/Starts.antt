@@ -1,5 +1,5 @@
 -- How a text of an answer starts: its first letters say what kind of answer it is.
-use Rattle.std.proofs.Common.{◌≡◌, ◌==◌, ℕ, suc, zero, List, [], ◌∷◌, ◌++◌, take, Option, Some, None, refl}
+use Rattle.std.proofs.Common.{◌≡◌, ◌==◌, ℕ, suc, zero, List, [], ◌∷◌, ◌++◌, take, Option, Some, None, append-nil, refl, subst}
 use Rattle.std.specs.Prelude.{slice_get, if◌then◌else◌}
 use Rattle.hub_path.specs.Path.{Path}
 use Rattle.hub_automaton.specs.declared.fault.AutomatonFault.TheVariants as automaton
@@ -8,13 +8,17 @@ use Rattle.hub_cert.specs.Set.{Members}
 use Rattle.hub_cert.specs.declared.goal.Place.{Place}
 use Rattle.hub_cert.specs.declared.fault.CheckFault.{CheckFault}
 use Rattle.hub_cert.specs.declared.fault.CheckFault.TheVariants as fault
+use Rattle.hub_cert.specs.declared.goal.Goal.{Goal}
 use Rattle.hub_report.specs.Refusal.{breach_text, name_at, refusal_line}
+use Rattle.hub_report.specs.Rounds.{clash_lines}
 
 pub data Start : Type 0 where
   SafeStart : Start
   VerifiedStart : Start
   OverlapStart : Start
   BreachStart : Start
+  TooLargeStart : Start
+  RoundsStart : Start
   ReachedStart : Start
   NotReachedStart : Start
   OtherStart : Start
@@ -29,11 +33,14 @@ third (a ∷ []) = 0
 third (a ∷ b ∷ []) = 0
 third (a ∷ b ∷ c ∷ t) = c
 
--- `reached` and the lines of refusals begin with the same two letters.
+-- `reached`, `rounds` and the lines of refusals begin with the same letter.
+abbrev pub r_start : ℕ → Start
+r_start c = if c == 97 then ReachedStart else (if c == 117 then RoundsStart else OtherStart)
+
 abbrev pub start_of : ℕ → ℕ → Start
 start_of a c =
     if a == 115 then SafeStart else (if a == 118 then VerifiedStart else (if a == 111 then OverlapStart else (if a == 98 then BreachStart
-    else (if a == 110 then NotReachedStart else (if a == 114 then (if c == 97 then ReachedStart else OtherStart) else OtherStart)))))
+    else (if a == 110 then NotReachedStart else (if a == 116 then TooLargeStart else (if a == 114 then r_start c else OtherStart))))))
 
 abbrev pub start : List ℕ → Start
 start t = start_of (first t) (third t)
@@ -54,30 +61,47 @@ begins (b ∷ p) (a ∷ t) s (suc w) e =
     let more = begins p t s w cc in
     record { rest = more.rest; whole = cc; written = more.written; front = more.front }
 
--- The line of a breach begins with a b, if there is a rule.
-breach-start : (P : Start → Type 0) (name : List ℕ) (R : Option Rule) (n : ℕ) (path : Path) → P OtherStart → P BreachStart
-    → P (start (breach_text name R n path))
-breach-start P name None n path other breach = other
-breach-start P name (Some R) n path other breach = breach
+-- The line of a breach begins with a b, if there is a rule. If there is none, the line is empty.
+breach-start : (P : Start → Type 0) (name : List ℕ) (R : Option Rule) (n : ℕ) (path : Path) (more : List ℕ) → P (start more) → P BreachStart
+    → P (start (breach_text name R n path ++ more))
+breach-start P name None n path more other breach = other
+breach-start P name (Some R) n path more other breach = breach
 
--- What holds of the start of the line of an overlap, of that of a breach and of any other holds of the start of a refusal's line.
-pub refusal-start : (P : Start → Type 0) (S : Members) (e : CheckFault) → P OtherStart
-    → ((w o : ℕ) (place : Place) (held path : Path) → e ≡ fault.Overlap w o place held path → P OverlapStart)
-    → ((p k : ℕ) (path : Path) → e ≡ fault.Breach p k path → P BreachStart) → P (start (refusal_line S e))
-refusal-start P S fault.TooManyProfiles other overlap breach = other
-refusal-start P S (fault.SameName n) other overlap breach = other
-refusal-start P S (fault.NestedRoots a z) other overlap breach = other
-refusal-start P S (fault.Overlap w o place held path) other overlap breach = overlap w o place held path refl
-refusal-start P S (fault.Breach p k path) other overlap breach =
-    breach-start P (name_at S.profiles p) (slice_get S.rules k) k path other (breach p k path refl)
-refusal-start P S (fault.TooLarge g) other overlap breach = other
-refusal-start P S (fault.Missing g) other overlap breach = other
-refusal-start P S (fault.NoStart g) other overlap breach = other
-refusal-start P S (fault.NotClosed g k class) other overlap breach = other
-refusal-start P S (fault.Accepting g k) other overlap breach = other
-refusal-start P S (fault.Stray i) other overlap breach = other
-refusal-start P S (fault.BadText l) other overlap breach = other
-refusal-start P S (fault.AlphabetFault automaton.TooManyCharacters) other overlap breach = other
-refusal-start P S (fault.AlphabetFault automaton.TooManySpots) other overlap breach = other
-refusal-start P S (fault.AlphabetFault automaton.OutOfMemory) other overlap breach = other
-refusal-start P S fault.OutOfMemory other overlap breach = other
+-- What holds of the start of the line of an overlap, of that of a breach, of that of a goal that is too large and of any other
+-- holds of the start of a refusal's line, whatever follows it.
+pub record HoldsOfStarts (P : Start → Type 0) (e : CheckFault) : Type 0 where
+  pub other : P OtherStart
+  pub overlap : (w o : ℕ) (place : Place) (held path : Path) → e ≡ fault.Overlap w o place held path → P OverlapStart
+  pub breach : (p k : ℕ) (path : Path) → e ≡ fault.Breach p k path → P BreachStart
+  pub too_large : (g : Goal) → e ≡ fault.TooLarge g → P TooLargeStart
+
+line-start : (P : Start → Type 0) (S : Members) (e : CheckFault) (more : List ℕ) → P (start more) → HoldsOfStarts P e
+    → P (start (refusal_line S e ++ more))
+line-start P S fault.TooManyProfiles more rest h = h.other
+line-start P S (fault.SameName n) more rest h = h.other
+line-start P S (fault.NestedRoots a z) more rest h = h.other
+line-start P S (fault.Overlap w o place held path) more rest h = h.overlap w o place held path refl
+line-start P S (fault.Breach p k path) more rest h =
+    breach-start P (name_at S.profiles p) (slice_get S.rules k) k path more rest (h.breach p k path refl)
+line-start P S (fault.TooLarge g) more rest h = h.too_large g refl
+line-start P S (fault.Missing g) more rest h = h.other
+line-start P S (fault.NoStart g) more rest h = h.other
+line-start P S (fault.NotClosed g k class) more rest h = h.other
+line-start P S (fault.Accepting g k) more rest h = h.other
+line-start P S (fault.Stray i) more rest h = h.other
+line-start P S (fault.BadText l) more rest h = h.other
+line-start P S (fault.AlphabetFault automaton.TooManyCharacters) more rest h = h.other
+line-start P S (fault.AlphabetFault automaton.TooManySpots) more rest h = h.other
+line-start P S (fault.AlphabetFault automaton.OutOfMemory) more rest h = h.other
+line-start P S fault.OutOfMemory more rest h = h.other
+
+pub refusal-start : (P : Start → Type 0) (S : Members) (e : CheckFault) → HoldsOfStarts P e → P (start (refusal_line S e))
+refusal-start P S e h =
+    subst (λ t. P (start t)) (append-nil (refusal_line S e)) (line-start P S e [] h.other h)
+
+-- And of the start of the lines of many.
+pub lines-start : (P : Start → Type 0) (S : Members) (es : List CheckFault) → P OtherStart
+    → ((n : ℕ) (e : CheckFault) → slice_get es n ≡ Some e → HoldsOfStarts P e) → P (start (clash_lines S es))
+lines-start P S [] other h = other
+lines-start P S (e ∷ es) other h =
+    line-start P S e (clash_lines S es) (lines-start P S es other (λ n f at. h (suc n) f at)) (h 0 e refl)

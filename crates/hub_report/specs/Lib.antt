@@ -2,6 +2,7 @@ pub mod Blocks
 pub mod Refusal
 pub mod Run
 pub mod Jobs
+pub mod Rounds
 pub mod JobsExamples
 pub mod Faults
 pub mod Report

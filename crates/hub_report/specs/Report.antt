@@ -11,7 +11,7 @@ use Rattle.hub_bundle.specs.declared.sections.SectionFault.TheVariants.{OfProfil
 use Rattle.hub_bundle.specs.declared.input.InputFault.{InputFault}
 use Rattle.hub_bundle.specs.Input.{some_failed, unread_fault}
 use Rattle.hub_report.specs.declared.report.Report.{Report}
-use Rattle.hub_report.specs.declared.report.Report.TheVariants.{Safe, Ran, NotRun, NoState, Verified, Certified, Refused, Reached, NotReached, NoProfile, BadPath, Unread, BadBundle, BadSection, OutOfMemory}
+use Rattle.hub_report.specs.declared.report.Report.TheVariants.{Safe, Ran, NotRun, NoState, Verified, Certified, Refused, Clashes, Cut, NotVerified, Reached, NotReached, NoProfile, BadPath, Unread, BadBundle, BadSection, OutOfMemory}
 use Rattle.hub_report.specs.Faults.{bundle_fault_name, input_fault_name, path_fault_name, section_fault_name}
 use Rattle.hub_report.specs.Refusal.{joined, refusal_line}
 use Rattle.hub_report.specs.Run.{error_line}
@@ -42,8 +42,8 @@ section_place (OfRules f) = rules_place f.line
 section_place (OfState f) = state_place f.line
 section_place (OfCertificates line) = certificates_place line
 
--- The text that says an answer: its line, the certificates' text, or `safe` and below it what the jobs did and the text of
--- the state that they left.
+-- The text that says an answer: its line, the lines of clashes or of rounds, the certificates' text, or `safe` and below it
+-- what the jobs did and the text of the state that they left.
 abbrev pub text_of : Report → List ℕ
 text_of Safe = codes "safe\n"
 text_of (Ran r) = codes "safe\n" ++ (string_bytes r.lines ++ state_text r.state)
@@ -52,6 +52,9 @@ text_of NoState = codes "fault: no state\n"
 text_of Verified = codes "verified\n"
 text_of (Certified text) = string_bytes text
 text_of (Refused line) = string_bytes line
+text_of (Clashes lines) = string_bytes lines
+text_of (Cut c) = string_bytes c.text
+text_of NotVerified = codes "fault: a round was not verified\n"
 text_of Reached = codes "reached\n"
 text_of NotReached = codes "not reached\n"
 text_of (NoProfile name) = joined (codes "fault: no profile " ∷ name.now ∷ codes "\n" ∷ [])
@@ -70,6 +73,9 @@ status_of NoState = 2
 status_of Verified = 0
 status_of (Certified t) = 0
 status_of (Refused t) = 1
+status_of (Clashes t) = 1
+status_of (Cut c) = if c.decided then 0 else 1
+status_of NotVerified = 2
 status_of Reached = 0
 status_of NotReached = 0
 status_of (NoProfile name) = 2
@@ -88,6 +94,9 @@ unread_by NoState = None
 unread_by Verified = None
 unread_by (Certified t) = None
 unread_by (Refused t) = None
+unread_by (Clashes t) = None
+unread_by (Cut c) = None
+unread_by NotVerified = None
 unread_by Reached = None
 unread_by NotReached = None
 unread_by (NoProfile name) = None
@@ -110,6 +119,9 @@ IsRefusal S e NoState = ⊥
 IsRefusal S e Verified = ⊥
 IsRefusal S e (Certified t) = ⊥
 IsRefusal S e (Refused t) = (e ≢ fault.OutOfMemory) × (string_bytes t ≡ refusal_line S e)
+IsRefusal S e (Clashes t) = ⊥
+IsRefusal S e (Cut c) = ⊥
+IsRefusal S e NotVerified = ⊥
 IsRefusal S e Reached = ⊥
 IsRefusal S e NotReached = ⊥
 IsRefusal S e (NoProfile name) = ⊥

@@ -3,6 +3,7 @@
 //! - [`Report`] is an answer to an input.
 //! - [`Run`] is what the jobs of a safe set did and left; [`RunError`] is why they weren't run.
 //! - [`lines_of_jobs`] are the lines that say what jobs did.
+//! - [`lines_of_clashes`] are the lines of all that clashes in a set, and [`text_of_rounds`] is the text of its rounds.
 //! - [`Blocks`] is the text of an answer, in blocks.
 //!
 //! ```text
@@ -12,7 +13,7 @@
 //! ```
 //!
 //! The contracts use the words of `specs/Report` (the text and the status of each answer), `specs/Blocks` (the bytes of a
-//! text in blocks), `specs/Jobs` (the lines of jobs), `specs/Run` (the line of why jobs weren't run), `specs/Refusal` (the
+//! text in blocks), `specs/Jobs` (the lines of jobs), `specs/Rounds` (those of clashes and rounds), `specs/Run` (the line of why jobs weren't run), `specs/Refusal` (the
 //! lines of refusals) and `specs/Faults` (the names of faults). When an answer is right is said in `hub_serve`.
 //!
 //! Only functions that return a `Result` or a `Report` allocate.
@@ -24,9 +25,12 @@ mod jobs;
 mod parts;
 mod refusal;
 mod report;
+mod rounds;
 mod run;
 
 pub use blocks::Blocks;
 pub use jobs::lines_of_jobs;
+pub use refusal::{lines_of_clashes, undecided_pairs};
 pub use report::{OUT_OF_MEMORY, Report};
+pub use rounds::{Cut, text_of_rounds};
 pub use run::{Run, RunError};

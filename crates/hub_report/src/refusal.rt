@@ -6,6 +6,7 @@ ghost use Rattle.hub_cert.specs.Refused.{IsRefused};
 ghost use Rattle.hub_cert.specs.Set.{Members};
 ghost use Rattle.hub_report.specs.Refusal as lines;
 ghost use Rattle.hub_report.specs.Report as report;
+ghost use Rattle.hub_report.specs.Rounds.{clash_lines};
 
 use crate::parts::joined;
 use crate::report::{OUT_OF_MEMORY, Report};
@@ -13,6 +14,7 @@ use hub_automaton::AutomatonFault;
 use hub_cert::{CheckFault, Goal, Place, ProfileSet};
 use hub_path::{RelPath, Root, Side};
 use hub_profile::{Profile, Rule, Verb};
+use hub_rounds::Clashes;
 use hub_search::STAGES;
 use std::alloc::{AllocError, Global};
 
@@ -48,6 +50,65 @@ impl<'a> Report<'a> {
             },
         }
     }
+}
+
+/// The lines of what clashes in a set and of what breaks a rule, each as if it were the only one.
+pub fn lines_of_clashes(
+    alloc: Global,
+    set: &ProfileSet,
+    clashes: &Clashes,
+) -> Result<String, AllocError>
+    ensures { IfOk result (λ t. string_bytes t ≡ clash_lines set.now clashes.now) }
+{
+    let goals = set.goals(alloc)?;
+    let profiles = set.profiles();
+    let rules = set.rules();
+    let faults = clashes.lines();
+    let mut text = String::new(alloc);
+    for fault in faults {
+        let line = fault_line(alloc, profiles, rules, goals.as_slice(), fault)?;
+        text.push_str(line.as_str())?;
+    }
+    Ok(text)
+}
+
+/// Lines for standard error: two profiles each that count as clashing, since their goal was too large to be searched.
+pub fn undecided_pairs(
+    alloc: Global,
+    set: &ProfileSet,
+    clashes: &Clashes,
+) -> Result<String, AllocError> {
+    let mut text = String::new(alloc);
+    for fault in clashes.lines() {
+        if let CheckFault::TooLarge { goal } = fault {
+            push_pair(alloc, &mut text, set.profiles(), *goal)?;
+        }
+    }
+    Ok(text)
+}
+
+/// Adds the line that names the two profiles of a goal, if it is a clash and no line above names them.
+fn push_pair(
+    alloc: Global,
+    text: &mut String,
+    profiles: &[Profile],
+    goal: Goal,
+) -> Result<(), AllocError> {
+    let Goal::Clash { writer, other, .. } = goal else {
+        return Ok(());
+    };
+    let parts = [
+        "hubsync: too large to decide, so in different rounds: ",
+        name_at(profiles, writer),
+        " and ",
+        name_at(profiles, other),
+        "\n",
+    ];
+    let line = joined(alloc, &parts)?;
+    if !text.ends_with(line.as_str()) {
+        text.push_str(line.as_str())?;
+    }
+    Ok(())
 }
 
 /// The line of a fault, which ends with LF. Its numbers are those of these profiles, rules and goals.

@@ -10,6 +10,7 @@ use crate::faults::{
     bundle_fault_name, input_fault_name, path_fault_name, profile_fault_name, state_fault_name,
 };
 use crate::parts::joined;
+use crate::rounds::Cut;
 use crate::run::{Run, RunError, text_of_error, text_of_run};
 use hub_bundle::{BundleLineFault, InputFault, SectionFault};
 use hub_path::{Name, PathFault};
@@ -37,6 +38,12 @@ pub enum Report<'a> {
     Certified(String),
     /// The profiles may not run at the same time, or can't be shown to. The line of the fault.
     Refused(String),
+    /// The lines of all that clashes in the set, and of all that breaks a rule.
+    Clashes(String),
+    /// The rounds of the set.
+    Cut(Cut),
+    /// The check didn't verify a round. Tests show none.
+    NotVerified,
     /// The profile reaches the path.
     Reached,
     /// The profile doesn't reach the path.
@@ -56,7 +63,8 @@ pub enum Report<'a> {
 }
 
 impl Report<'_> {
-    /// The exit status: 0 if the set is safe and for both answers to `reach`, 1 for a refusal, 2 for a fault, 3 if the jobs
+    /// The exit status: 0 if the set is safe, if all of it is in rounds, and for both answers to `reach`; 1 for a refusal, for
+    /// what clashes, and for rounds that leave a profile out or rest on a goal that was too large; 2 for a fault; 3 if the jobs
     /// weren't run or a job was stopped.
     pub fn status(&self) -> u8
         ensures { result ≡ report.status_of self.now }
@@ -69,19 +77,29 @@ impl Report<'_> {
             | Report::NotReached => 0,
             Report::Ran(run) => { if run.finished { 0 } else { 3 } }
             Report::NotRun(_) => 3,
-            Report::Refused(_) => 1,
+            Report::Refused(_) | Report::Clashes(_) => 1,
+            Report::Cut(cut) => { if cut.decided { 0 } else { 1 } }
             Report::NoProfile(_)
             | Report::BadPath(_)
             | Report::Unread(_)
             | Report::BadBundle(_)
             | Report::BadSection(_)
             | Report::NoState
+            | Report::NotVerified
             | Report::OutOfMemory => 2,
         }
     }
 
-    /// The text that says the answer: its line, the certificates' text, or `safe` and below it what the jobs did and the
-    /// text of the state that they left. It ends with LF.
+    /// The lines that belong on standard error: which two profiles count as clashing, since their goal was too large.
+    pub fn undecided(&self) -> &str {
+        match self {
+            Report::Cut(cut) => cut.undecided.as_str(),
+            _ => "",
+        }
+    }
+
+    /// The text that says the answer: its line, the lines of clashes or of rounds, the certificates' text, or `safe` and below
+    /// it what the jobs did and the text of the state that they left. It ends with LF.
     pub fn into_text(self, alloc: Global) -> Result<Blocks, AllocError>
         ensures { IfOk result (λ t. bytes_in t ≡ report.text_of self.entry) }
     {
@@ -91,9 +109,11 @@ impl Report<'_> {
             Report::NotRun(error) => text_of_error(alloc, &error),
             Report::NoState => block_of(alloc, "fault: no state\n"),
             Report::Verified => block_of(alloc, "verified\n"),
-            Report::Certified(text) | Report::Refused(text) => {
+            Report::Certified(text) | Report::Refused(text) | Report::Clashes(text) => {
                 Blocks::new(alloc, text.into_bytes())
             }
+            Report::Cut(cut) => Blocks::new(alloc, cut.text.into_bytes()),
+            Report::NotVerified => block_of(alloc, "fault: a round was not verified\n"),
             Report::Reached => block_of(alloc, "reached\n"),
             Report::NotReached => block_of(alloc, "not reached\n"),
             Report::NoProfile(name) => no_profile_line(alloc, name),

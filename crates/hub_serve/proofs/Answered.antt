@@ -6,15 +6,17 @@ use Rattle.std.proofs.KnownBytes.{Appends-kept}
 use Rattle.std.proofs.lemmas.List.{append_cancel_left, take_all}
 use Rattle.std.proofs.lemmas.Option.{none-some, same_Some}
 use Rattle.std.proofs.lemmas.Bool.{false≢true, true≢false}
-use Rattle.hub_words.specs.Words.{Request, asked_of}
+use Rattle.hub_words.specs.declared.words.Question.TheVariants as ask
+use Rattle.hub_words.specs.Words.{Request, about, asked_of}
 use Rattle.hub_report.specs.declared.report.Report.{Report}
-use Rattle.hub_report.specs.declared.report.Report.TheVariants.{Safe, Ran, NotRun, NoState, Verified, Certified, Refused, Reached, NotReached, NoProfile, BadPath, Unread, BadBundle, BadSection, OutOfMemory}
+use Rattle.hub_report.specs.declared.report.Report.TheVariants.{Safe, Ran, NotRun, NoState, Verified, Certified, Refused, Clashes, Cut, NotVerified, Reached, NotReached, NoProfile, BadPath, Unread, BadBundle, BadSection, OutOfMemory}
 use Rattle.hub_report.specs.Report.{status_of}
 use Rattle.hub_report.proofs.Starts.{begins, first}
 use Rattle.hub_bundle.specs.declared.input.InputFault.TheVariants.{TurnsSpent}
 use Rattle.hub_serve.specs.Reads.{Reads}
-use Rattle.hub_serve.specs.Report.{Holds, SpellsSafe, SpellsUnsafe, SpellsVerified, SpellsReach, Serves, Answers, AnswersNothing, WritesText}
-use Rattle.hub_serve.proofs.FirstLines.{only_safe, only_verified, only_overlaps, only_breaches, only_reached, only_not_reached, OverlapsShown, BreachesShown}
+use Rattle.hub_serve.specs.Rounds.{BeginsAsClash}
+use Rattle.hub_serve.specs.Report.{Holds, SpellsClashes, SpellsReach, SpellsRounds, SpellsSafe, SpellsUnsafe, SpellsVerified, Serves, Answers, AnswersNothing, WritesText}
+use Rattle.hub_serve.proofs.FirstLines.{only_safe, only_clashes, only_rounds, only_verified, only_overlaps, only_breaches, only_reached, only_not_reached, OverlapsShown, BreachesShown}
 
 -- What follows the bytes that were there is what was appended.
 appended : (old new : Option (List ℕ)) (before more text : List ℕ) → Appends old new more → old ≡ Some before → new ≡ Some (before ++ text) → more ≡ text
@@ -44,6 +46,18 @@ module _ (request : Request) (remaining old new : Option (List ℕ)) (reads : Re
   breach-written : BreachesShown → (text : List ℕ) → Answers request remaining old new reads write_failed status → remaining ≡ Some bytes → old ≡ Some before
       → new ≡ Some (before ++ (codes "breach: " ++ text)) → SpellsUnsafe bytes
   breach-written shown text a e f g = only_breaches shown request bytes a.report a.text a.writes.written _ a.is_text (appended old new before _ _ a.writes.appends f g) (held a e)
+
+  rounds-written : (text : List ℕ) → Answers request remaining old new reads write_failed status → remaining ≡ Some bytes → old ≡ Some before
+      → new ≡ Some (before ++ (codes "rounds " ++ text)) → SpellsRounds (Some request) bytes (codes "rounds " ++ text) write_failed status
+  rounds-written text a e f g =
+      only_rounds request bytes a.report a.text a.writes.written text write_failed status a.is_text (appended old new before _ _ a.writes.appends f g) a.writes.whole a.writes.status_is
+      (held a e)
+
+  clashes-written : (text : List ℕ) → Answers request remaining old new reads write_failed status → Some request ≡ Some (about ask.Clashes) → remaining ≡ Some bytes → old ≡ Some before
+      → new ≡ Some (before ++ text) → BeginsAsClash text → SpellsClashes bytes text write_failed status
+  clashes-written text a is e f g b =
+      only_clashes request bytes a.report a.text a.writes.written text write_failed status (same_Some request (about ask.Clashes) is) a.is_text
+      (appended old new before _ _ a.writes.appends f g) a.writes.whole a.writes.status_is (held a e) b
 
   reached-written : (text : List ℕ) → Answers request remaining old new reads write_failed status → remaining ≡ Some bytes → old ≡ Some before
       → new ≡ Some (before ++ (codes "reached\n" ++ text)) → SpellsReach (Some request) bytes true
@@ -76,6 +90,10 @@ ends-le : (finished : Bool) → cond finished 0 3 ≤ 3
 ends-le true = omega arith
 ends-le false = omega arith
 
+decided-le : (decided : Bool) → cond decided 0 1 ≤ 3
+decided-le true = omega arith
+decided-le false = omega arith
+
 status-le : (r : Report) → status_of r ≤ 3
 status-le Safe = omega arith
 status-le (Ran r) = ends-le r.finished
@@ -84,6 +102,9 @@ status-le NoState = omega arith
 status-le Verified = omega arith
 status-le (Certified t) = omega arith
 status-le (Refused t) = omega arith
+status-le (Clashes t) = omega arith
+status-le (Cut c) = decided-le c.decided
+status-le NotVerified = omega arith
 status-le Reached = omega arith
 status-le NotReached = omega arith
 status-le (NoProfile name) = omega arith
@@ -108,6 +129,8 @@ serves-answer overlaps breaches request remaining old new reads write_failed sta
   verified = λ bytes before text e f g. verified-written request remaining old new reads write_failed status bytes before text a e f g;
   overlap = λ bytes before text e f g. overlap-written request remaining old new reads write_failed status bytes before overlaps text a e f g;
   breach = λ bytes before text e f g. breach-written request remaining old new reads write_failed status bytes before breaches text a e f g;
+  rounds = λ bytes before text e f g. rounds-written request remaining old new reads write_failed status bytes before text a e f g;
+  clashes = λ bytes before text is e f g b. clashes-written request remaining old new reads write_failed status bytes before text a is e f g b;
   reached = λ bytes before text e f g. reached-written request remaining old new reads write_failed status bytes before text a e f g;
   not_reached = λ bytes before text e f g. not_reached-written request remaining old new reads write_failed status bytes before text a e f g;
 }
@@ -123,6 +146,8 @@ serves-nothing remaining old new reads write_failed status a = record {
   verified = λ bytes before text e f g. absurd (nothing-written old new status before _ 118 a refl f g);
   overlap = λ bytes before text e f g. absurd (nothing-written old new status before _ 111 a refl f g);
   breach = λ bytes before text e f g. absurd (nothing-written old new status before _ 98 a refl f g);
+  rounds = λ bytes before text e f g. absurd (nothing-written old new status before _ 114 a refl f g);
+  clashes = λ bytes before text is e f g b. absurd (none-some (about ask.Clashes) is);
   reached = λ bytes before text e f g. absurd (nothing-written old new status before _ 114 a refl f g);
   not_reached = λ bytes before text e f g. absurd (nothing-written old new status before _ 110 a refl f g);
 }

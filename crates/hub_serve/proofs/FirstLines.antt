@@ -1,33 +1,36 @@
 -- What is true of the input if what is written begins with these letters.
-use Rattle.std.proofs.Common.{◌≡◌, ◌≢◌, ◌∙◌, inl, inr, ℕ, Bool, true, false, cond, List, [], ◌∷◌, ◌++◌, take, Option, Some, None, codes, refl, sym, ap, subst, arith}
+use Rattle.std.proofs.Common.{◌≡◌, ◌≢◌, ◌∙◌, ◌⊎◌, inl, inr, ℕ, Bool, true, false, cond, List, [], ◌∷◌, ◌++◌, take, Option, Some, None, codes, refl, sym, ap, subst, arith}
 use Rattle.std.specs.Prelude.{⊤, string_bytes}
 use Rattle.std.proofs.lemmas.List.{append_cancel_left}
-use Rattle.std.proofs.lemmas.Option.{same_Some}
+use Rattle.std.proofs.lemmas.Option.{get_or_from_slice_get, same_Some, slice_get_within}
 use Rattle.hub_path.specs.Path.{Path}
+use Rattle.hub_cert.specs.Refused.{IsRefused}
 use Rattle.hub_cert.specs.Set.{Members, IsSafeSet}
 use Rattle.hub_cert.specs.declared.goal.Place.{Place}
 use Rattle.hub_cert.specs.declared.fault.CheckFault.{CheckFault}
 use Rattle.hub_cert.specs.declared.fault.CheckFault.TheVariants as fault
-use Rattle.hub_search.specs.Search.{IsFirstFault}
+use Rattle.hub_search.specs.Search.{Disproves, IsFirstFault}
 use Rattle.hub_state.specs.State.{State}
 use Rattle.hub_state.specs.Writing.{state_text}
 use Rattle.hub_bundle.specs.declared.sections.Contents.{Contents}
 use Rattle.hub_bundle.specs.Sections.{Spells, members}
 use Rattle.hub_report.specs.declared.report.Report.{Report}
-use Rattle.hub_report.specs.declared.report.Report.TheVariants.{Safe, Ran, NotRun, NoState, Verified, Certified, Refused, Reached, NotReached, NoProfile, BadPath, Unread, BadBundle, BadSection, OutOfMemory}
+use Rattle.hub_report.specs.declared.report.Report.TheVariants.{Safe, Ran, NotRun, NoState, Verified, Certified, Refused, Clashes, Cut, NotVerified, Reached, NotReached, NoProfile, BadPath, Unread, BadBundle, BadSection, OutOfMemory}
 use Rattle.hub_report.specs.declared.run.Run as run
 use Rattle.hub_report.specs.declared.run.RunError.{RunError}
 use Rattle.hub_report.specs.Report.{status_of, text_of}
 use Rattle.hub_report.specs.Refusal.{refusal_line}
 use Rattle.hub_report.specs.Jobs.{lines_of_jobs}
 use Rattle.hub_report.specs.Run.{error_line}
-use Rattle.hub_report.proofs.Starts.{Start, SafeStart, VerifiedStart, OverlapStart, BreachStart, ReachedStart, NotReachedStart, OtherStart, start, begins, refusal-start}
+use Rattle.hub_report.proofs.Starts.{HoldsOfStarts, Start, SafeStart, VerifiedStart, OverlapStart, BreachStart, TooLargeStart, RoundsStart, ReachedStart, NotReachedStart, OtherStart, start, begins, lines-start, refusal-start}
 use Rattle.hub_words.specs.declared.words.Question.{Question}
+use Rattle.hub_words.specs.declared.words.Question.TheVariants as ask
 use Rattle.hub_words.specs.declared.words.Question.TheVariants.{CheckWithState, Run, Check, Certify, Verify}
 use Rattle.hub_words.specs.Words.{Request, about}
 use Rattle.hub_serve.specs.declared.task.Task.{Task}
 use Rattle.hub_serve.specs.declared.task.Task.TheVariants as task
-use Rattle.hub_serve.specs.Report.{IsRefusedFor, IsTold, IsTrueOf, Holds, SpellsSafe, SpellsUnsafe, SpellsVerified}
+use Rattle.hub_serve.specs.Report.{FaultOf, IsRefusedFor, IsTold, IsTrueOf, Holds, SpellsClashes, SpellsRounds, SpellsSafe, SpellsUnsafe, SpellsVerified}
+use Rattle.hub_serve.specs.Rounds.{BeginsAsClash, ListsClashes, WritesRounds}
 use Rattle.hub_serve.specs.Runs.{HasRunAs, IsBelow, IsPrevented, IsRunOn}
 use Rattle.hub_serve.specs.Task.{AsksFor, task_of}
 
@@ -40,6 +43,9 @@ told-holds request bytes c NoState s h = record { contents = c; spelled = s; tol
 told-holds request bytes c Verified s h = record { contents = c; spelled = s; told = h }
 told-holds request bytes c (Certified t) s h = record { contents = c; spelled = s; told = h }
 told-holds request bytes c (Refused t) s h = record { contents = c; spelled = s; told = h }
+told-holds request bytes c (Clashes t) s h = record { contents = c; spelled = s; told = h }
+told-holds request bytes c (Cut t) s h = record { contents = c; spelled = s; told = h }
+told-holds request bytes c NotVerified s h = record { contents = c; spelled = s; told = h }
 told-holds request bytes c Reached s h = record { contents = c; spelled = s; told = h }
 told-holds request bytes c NotReached s h = record { contents = c; spelled = s; told = h }
 told-holds request bytes c (NoProfile name) s h = record { contents = c; spelled = s; told = h }
@@ -66,6 +72,8 @@ overlap-first (task.RunJobs n S) c w o place held path (inr (inr h)) = h
 overlap-first task.Certify c w o place held path (inr (inl h)) = cc
 overlap-first task.Certify c w o place held path (inr (inr h)) = h
 overlap-first task.Verify c w o place held path (inr h) = absurd h
+overlap-first task.Clashes c w o place held path (inr h) = absurd h
+overlap-first task.Rounds c w o place held path (inr h) = absurd h
 
 breach-first : (t : Task) (c : Contents) (p k : ℕ) (path : Path) → IsRefusedFor t c (fault.Breach p k path) → IsFirstFault (members c) (fault.Breach p k path)
 breach-first t c p k path (inl h) = absurd h
@@ -76,10 +84,13 @@ breach-first (task.RunJobs n S) c p k path (inr (inr h)) = h
 breach-first task.Certify c p k path (inr (inl h)) = cc
 breach-first task.Certify c p k path (inr (inr h)) = h
 breach-first task.Verify c p k path (inr h) = absurd h
+breach-first task.Clashes c p k path (inr h) = absurd h
+breach-first task.Rounds c p k path (inr h) = absurd h
 
 -- Where no jobs are to be run, nothing is below `safe`.
-check-below : (t : Task) (M : Members) → t ≡ task.Check → IsBelow t M 0 []
-check-below t M is = subst (λ u. IsBelow u M 0 []) (sym is) (refl, refl)
+check-below : (t : Task) (M : Members) → (t ≡ task.Check) ⊎ (t ≡ task.Clashes) → IsBelow t M 0 []
+check-below t M (inl is) = subst (λ u. IsBelow u M 0 []) (sym is) (refl, refl)
+check-below t M (inr is) = subst (λ u. IsBelow u M 0 []) (sym is) (refl, refl)
 
 -- The status of a run: 0 if all jobs are finished, else 3.
 abbrev run_status : Bool → ℕ
@@ -113,7 +124,7 @@ error-below : (t : Task) (M : Members) (f : RunError) → IsPrevented t M f → 
 error-below t M f h =
     subst (λ u. IsBelow u M 3 (error_line f)) (sym h.task_is) (inr (record { error = f; reason = h.reason; text = refl; status_is = refl }))
 
--- Only `verify` asks to verify certificates.
+-- Each of these is asked for by one question.
 asks-verify : (request : Request) (state : Option State) → AsksFor request state task.Verify → request ≡ about Verify
 asks-verify request state a = a.asked ∙ ap about (go a.of_set state a.task_is)
   where
@@ -125,6 +136,40 @@ asks-verify request state a = a.asked ∙ ap about (go a.of_set state a.task_is)
     go Check o is = cc
     go Certify o is = cc
     go Verify o is = refl
+    go ask.Clashes o is = cc
+    go ask.Rounds o is = cc
+
+asks-rounds : (request : Request) (state : Option State) → AsksFor request state task.Rounds → request ≡ about ask.Rounds
+asks-rounds request state a = a.asked ∙ ap about (go a.of_set state a.task_is)
+  where
+    go : (q : Question) (o : Option State) → task_of q o ≡ Some task.Rounds → q ≡ ask.Rounds
+    go CheckWithState None is = cc
+    go CheckWithState (Some S) is = cc
+    go (Run n) None is = cc
+    go (Run n) (Some S) is = cc
+    go Check o is = cc
+    go Certify o is = cc
+    go Verify o is = cc
+    go ask.Clashes o is = cc
+    go ask.Rounds o is = refl
+
+-- The question what clashes asks for nothing else.
+asked-clashes : (request : Request) (state : Option State) (t : Task) → AsksFor request state t → request ≡ about ask.Clashes → t ≡ task.Clashes
+asked-clashes request state t a is = go a.of_set (sym a.asked ∙ is) a.task_is
+  where
+    go : (q : Question) → about q ≡ about ask.Clashes → task_of q state ≡ Some t → t ≡ task.Clashes
+    go CheckWithState e h = cc
+    go (Run n) e h = cc
+    go Check e h = cc
+    go Certify e h = cc
+    go Verify e h = cc
+    go ask.Clashes e h = sym (same_Some task.Clashes t h)
+    go ask.Rounds e h = cc
+
+-- So no set is refused for a goal then.
+unrefused : (request : Request) (c : Contents) (t : Task) (e : CheckFault) → AsksFor request c.state t → request ≡ about ask.Clashes → IsRefusedFor t c e → IsRefused (members c) e
+unrefused request c t e a is (inl h) = h
+unrefused request c t e a is (inr h) = absurd (subst (λ u. FaultOf u (members c) c.certificates e) (asked-clashes request c.state t a is) h)
 
 -- A text that says of the input that its set is safe: below `safe` is what is to follow it.
 record SaysSafe (request : Request) (bytes line : List ℕ) (status : ℕ) : Type 0 where
@@ -137,31 +182,80 @@ record SaysSafe (request : Request) (bytes line : List ℕ) (status : ℕ) : Typ
   pub below_is : IsBelow to_do (members contents) status below
   pub line_is : line ≡ codes "safe\n" ++ below
 
+-- A text that lists what clashes in the set of the input,
+record SaysClashes (bytes line : List ℕ) (status : ℕ) : Type 0 where
+  pub contents : Contents
+  pub spelled : Spells bytes contents
+  pub listed : ListsClashes (members contents) line
+  pub status_is : status ≡ 1
+
+-- and a text of its rounds.
+record SaysRounds (request : Request) (bytes line : List ℕ) (status : ℕ) : Type 0 where
+  pub asked : request ≡ about ask.Rounds
+  pub contents : Contents
+  pub spelled : Spells bytes contents
+  pub decided : Bool
+  pub cut : WritesRounds (members contents) line decided
+  pub status_is : status ≡ cond decided 0 1
+
+-- The words ask what clashes: then the text says it.
+abbrev AreClashes : Request → List ℕ → List ℕ → ℕ → Type 0
+AreClashes request bytes line status = request ≡ about ask.Clashes → SaysClashes bytes line status
+
 -- What is true of the question and of the input if the text of the answer starts so.
 abbrev Means : Request → List ℕ → List ℕ → ℕ → Start → Type 0
 Means request bytes line status SafeStart = SaysSafe request bytes line status
 Means request bytes line status VerifiedStart = SpellsVerified (Some request) bytes
-Means request bytes line status OverlapStart = OverlapsShown → SpellsUnsafe bytes
-Means request bytes line status BreachStart = BreachesShown → SpellsUnsafe bytes
+Means request bytes line status OverlapStart = (OverlapsShown → SpellsUnsafe bytes) × AreClashes request bytes line status
+Means request bytes line status BreachStart = (BreachesShown → SpellsUnsafe bytes) × AreClashes request bytes line status
+Means request bytes line status TooLargeStart = AreClashes request bytes line status
+Means request bytes line status RoundsStart = SaysRounds request bytes line status
 Means request bytes line status ReachedStart = IsTrueOf request bytes Reached
 Means request bytes line status NotReachedStart = IsTrueOf request bytes NotReached
 Means request bytes line status OtherStart = ⊤
 
 -- It is true of the start of the line of a refusal,
-refusal-means : (request : Request) (bytes line : List ℕ) (status : ℕ) (c : Contents) (t : Task) (e : CheckFault) → Spells bytes c → IsRefusedFor t c e
+refusal-means : (request : Request) (bytes line : List ℕ) (status : ℕ) (c : Contents) (t : Task) (e : CheckFault) → Spells bytes c → AsksFor request c.state t → IsRefusedFor t c e
     → Means request bytes line status (start (refusal_line (members c) e))
-refusal-means request bytes line status c t e spelled refused =
-    refusal-start (Means request bytes line status) (members c) e tt
-    (λ w o place held path is shown. record {
-      contents = c;
-      spelled = spelled;
-      unsafe = shown (members c) w o place held path (overlap-first t c w o place held path (subst (IsRefusedFor t c) is refused));
+refusal-means request bytes line status c t e spelled asked refused =
+    refusal-start (Means request bytes line status) (members c) e (record {
+      other = tt;
+      overlap = λ w o place held path is. (
+        λ shown. record {
+          contents = c;
+          spelled = spelled;
+          unsafe = shown (members c) w o place held path (overlap-first t c w o place held path (subst (IsRefusedFor t c) is refused));
+        },
+        λ asks. absurd (subst (IsRefused (members c)) is (unrefused request c t e asked asks refused)),
+      );
+      breach = λ p k path is. (
+        λ shown. record {
+          contents = c;
+          spelled = spelled;
+          unsafe = shown (members c) p k path (breach-first t c p k path (subst (IsRefusedFor t c) is refused));
+        },
+        λ asks. absurd (subst (IsRefused (members c)) is (unrefused request c t e asked asks refused)),
+      );
+      too_large = λ g is. λ asks. absurd (subst (IsRefused (members c)) is (unrefused request c t e asked asks refused));
     })
-    (λ p k path is shown. record {
-      contents = c;
-      spelled = spelled;
-      unsafe = shown (members c) p k path (breach-first t c p k path (subst (IsRefusedFor t c) is refused));
-    })
+
+-- of that of the lines of what clashes,
+clashes-mean : (request : Request) (bytes line : List ℕ) (c : Contents) → Spells bytes c → ListsClashes (members c) line
+    → Means request bytes line 1 (start line)
+clashes-mean request bytes line c spelled h =
+    subst (λ t. Means request bytes line 1 (start t)) (sym h.text_is)
+    (lines-start (Means request bytes line 1) (members c) h.lines tt (λ n e at. each e (h.disproved e (n, slice_get_within h.lines n e at, get_or_from_slice_get h.lines n e e at))))
+  where
+    says : AreClashes request bytes line 1
+    says asks = record { contents = c; spelled = spelled; listed = h; status_is = refl }
+
+    each : (e : CheckFault) → Disproves (members c) e → HoldsOfStarts (Means request bytes line 1) e
+    each e d = record {
+      other = tt;
+      overlap = λ w o place held path is. (λ shown. record { contents = c; spelled = spelled; unsafe = subst (Disproves (members c)) is d }, says);
+      breach = λ p k path is. (λ shown. record { contents = c; spelled = spelled; unsafe = subst (Disproves (members c)) is d }, says);
+      too_large = λ g is. says;
+    }
 
 -- and of the start of the text of every answer.
 text-means : (request : Request) (bytes : List ℕ) (r : Report) (line : List ℕ) → line ≡ text_of r → Holds request bytes r
@@ -213,7 +307,20 @@ text-means request bytes (Certified text) line l h =
     subst (λ t. Means request bytes line 0 (start t)) (sym (l ∙ h.told.told.1.text_is)) tt
 text-means request bytes (Refused text) line l h =
     subst (λ t. Means request bytes line 1 (start t)) (sym (l ∙ h.told.told.1))
-    (refusal-means request bytes line 1 h.contents h.told.to_do h.told.reason h.spelled h.told.refused)
+    (refusal-means request bytes line 1 h.contents h.told.to_do h.told.reason h.spelled h.told.asked h.told.refused)
+text-means request bytes (Clashes text) line l h =
+    clashes-mean request bytes line h.contents h.spelled (subst (ListsClashes (members h.contents)) (sym l) h.told.told.1)
+text-means request bytes (Cut c) line l h =
+    let cut = subst (λ t. WritesRounds (members h.contents) t c.decided) (sym l) h.told.told.1 in
+    subst (λ t. Means request bytes line (cond c.decided 0 1) (start t)) (sym cut.text_is) (record {
+      asked = asks-rounds request h.contents.state (subst (AsksFor request h.contents.state) h.told.told.0 h.told.asked);
+      contents = h.contents;
+      spelled = h.spelled;
+      decided = c.decided;
+      cut = cut;
+      status_is = refl;
+    })
+text-means request bytes NotVerified line l h = subst (λ t. Means request bytes line 2 (start t)) (sym l) tt
 text-means request bytes Reached line l h = subst (λ t. Means request bytes line 0 (start t)) (sym l) h
 text-means request bytes NotReached line l h = subst (λ t. Means request bytes line 0 (start t)) (sym l) h
 text-means request bytes (NoProfile n) line l h = subst (λ t. Means request bytes line 2 (start t)) (sym l) tt
@@ -252,6 +359,54 @@ only_safe request bytes r line w s failed status l e whole z h =
       status_is = z;
     }
 
+-- only that of rounds with `rou`,
+pub only_rounds : (request : Request) (bytes : List ℕ) (r : Report) (line : List ℕ) (w : ℕ) (s : List ℕ) (failed : Bool) (status : ℕ) → line ≡ text_of r
+    → take w line ≡ codes "rounds " ++ s → (failed ≡ false → take w line ≡ line) → status ≡ cond failed 2 (status_of r) → Holds request bytes r
+    → SpellsRounds (Some request) bytes (codes "rounds " ++ s) failed status
+only_rounds request bytes r line w s failed status l e whole z h =
+    let front = begins (codes "rounds ") line s w e in
+    let says : SaysRounds request bytes line (status_of r) = means request bytes r line RoundsStart l (ap start front.whole) h in
+    record {
+      is_asked = ap Some says.asked;
+      contents = says.contents;
+      spelled = says.spelled;
+      full = line;
+      decided = says.decided;
+      cut = says.cut;
+      written = w;
+      text_is = sym e;
+      whole = λ f. sym e ∙ whole f;
+      status_is = z ∙ ap (cond failed 2) says.status_is;
+    }
+
+-- that of what clashes as a line of it, if the words ask for it,
+clashes-spelled : (bytes line : List ℕ) (w : ℕ) (text : List ℕ) (failed : Bool) (full status : ℕ) → take w line ≡ text
+    → (failed ≡ false → take w line ≡ line) → status ≡ cond failed 2 full → SaysClashes bytes line full → SpellsClashes bytes text failed status
+clashes-spelled bytes line w text failed full status e whole z says = record {
+  contents = says.contents;
+  spelled = says.spelled;
+  full = line;
+  listed = says.listed;
+  written = w;
+  text_is = sym e;
+  whole = λ f. sym e ∙ whole f;
+  status_is = z ∙ ap (cond failed 2) says.status_is;
+}
+
+pub only_clashes : (request : Request) (bytes : List ℕ) (r : Report) (line : List ℕ) (w : ℕ) (text : List ℕ) (failed : Bool) (status : ℕ)
+    → request ≡ about ask.Clashes → line ≡ text_of r → take w line ≡ text → (failed ≡ false → take w line ≡ line)
+    → status ≡ cond failed 2 (status_of r) → Holds request bytes r → BeginsAsClash text → SpellsClashes bytes text failed status
+only_clashes request bytes r line w text failed status is l e whole z h b =
+    clashes-spelled bytes line w text failed (status_of r) status e whole z (go b.1)
+  where
+    rest : List ℕ
+    rest = b.0
+
+    go : (text ≡ codes "overlap: " ++ rest) ⊎ (text ≡ codes "breach: " ++ rest) ⊎ (text ≡ codes "too large: " ++ rest) → SaysClashes bytes line (status_of r)
+    go (inl o) = (means request bytes r line OverlapStart l (ap start (begins (codes "overlap: ") line rest w (e ∙ o)).whole) h).1 is
+    go (inr (inl o)) = (means request bytes r line BreachStart l (ap start (begins (codes "breach: ") line rest w (e ∙ o)).whole) h).1 is
+    go (inr (inr o)) = means request bytes r line TooLargeStart l (ap start (begins (codes "too large: ") line rest w (e ∙ o)).whole) h is
+
 -- only that of a verified one with a v,
 pub only_verified : (request : Request) (bytes : List ℕ) (r : Report) (line : List ℕ) (w : ℕ) (s : List ℕ) → line ≡ text_of r → take w line ≡ 118 ∷ s → Holds request bytes r → SpellsVerified (Some request) bytes
 only_verified request bytes r line w s l e h =
@@ -270,9 +425,9 @@ only_not_reached request bytes r line w s l e h =
 -- only that of an overlap with an o,
 pub only_overlaps : OverlapsShown → (request : Request) (bytes : List ℕ) (r : Report) (line : List ℕ) (w : ℕ) (s : List ℕ) → line ≡ text_of r → take w line ≡ 111 ∷ s → Holds request bytes r → SpellsUnsafe bytes
 only_overlaps shown request bytes r line w s l e h =
-    means request bytes r line OverlapStart l (ap start (begins (111 ∷ []) line s w e).whole) h shown
+    (means request bytes r line OverlapStart l (ap start (begins (111 ∷ []) line s w e).whole) h).0 shown
 
 -- and only that of a breach with a b.
 pub only_breaches : BreachesShown → (request : Request) (bytes : List ℕ) (r : Report) (line : List ℕ) (w : ℕ) (s : List ℕ) → line ≡ text_of r → take w line ≡ 98 ∷ s → Holds request bytes r → SpellsUnsafe bytes
 only_breaches shown request bytes r line w s l e h =
-    means request bytes r line BreachStart l (ap start (begins (98 ∷ []) line s w e).whole) h shown
+    (means request bytes r line BreachStart l (ap start (begins (98 ∷ []) line s w e).whole) h).0 shown

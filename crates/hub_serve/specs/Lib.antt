@@ -1,5 +1,6 @@
 pub mod Reads
 pub mod Task
 pub mod Runs
+pub mod Rounds
 pub mod Reached
 pub mod Report

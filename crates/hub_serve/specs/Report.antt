@@ -23,16 +23,18 @@ use Rattle.hub_bundle.specs.declared.sections.Contents.{Contents}
 use Rattle.hub_bundle.specs.Bundle.{bundle_reading}
 use Rattle.hub_bundle.specs.Sections.{Spells, HasFault, members}
 use Rattle.hub_words.specs.declared.words.Question.{Question}
+use Rattle.hub_words.specs.declared.words.Question.TheVariants as ask
 use Rattle.hub_words.specs.declared.words.Question.TheVariants.{Verify}
 use Rattle.hub_words.specs.Words.{Request}
 use Rattle.hub_words.specs.Words as question
 use Rattle.hub_report.specs.declared.report.Report.{Report}
-use Rattle.hub_report.specs.declared.report.Report.TheVariants.{Safe, Ran, NotRun, NoState, Verified, Certified, Refused, Reached, NotReached, NoProfile, BadPath, Unread, BadBundle, BadSection, OutOfMemory}
+use Rattle.hub_report.specs.declared.report.Report.TheVariants.{Safe, Ran, NotRun, NoState, Verified, Certified, Refused, Clashes, Cut, NotVerified, Reached, NotReached, NoProfile, BadPath, Unread, BadBundle, BadSection, OutOfMemory}
 use Rattle.hub_serve.specs.declared.task.Task.{Task}
 use Rattle.hub_serve.specs.declared.task.Task.TheVariants as task
 use Rattle.hub_serve.specs.Reached.{named}
 use Rattle.hub_report.specs.Report.{IsRefusal, says_read_failed, status_of, text_of, unread_by}
 use Rattle.hub_serve.specs.Reads.{AreSpent, Reads}
+use Rattle.hub_serve.specs.Rounds.{BeginsAsClash, ListsClashes, WritesRounds}
 use Rattle.hub_serve.specs.Runs.{HasRunAs, IsBelow, IsPrevented}
 use Rattle.hub_serve.specs.Task.{AsksFor, LacksState, task_of}
 
@@ -68,6 +70,32 @@ pub record SpellsVerified (asked : Option Request) (bytes : List ℕ) : Type 0 w
   pub inductive : AreCertificates (members contents) contents.certificates
   pub safe : IsSafeSet (members contents)
 
+-- The words ask for what clashes, and the bytes are a bundle of whose set this text is to say it: all of it, with status 1,
+-- unless a call of the output failed; then it is a prefix, and the status is 2.
+pub record SpellsClashes (bytes text : List ℕ) (failed : Bool) (status : ℕ) : Type 0 where
+  pub contents : Contents
+  pub spelled : Spells bytes contents
+  pub full : List ℕ
+  pub listed : ListsClashes (members contents) full
+  pub written : ℕ
+  pub text_is : text ≡ take written full
+  pub whole : failed ≡ false → text ≡ full
+  pub status_is : status ≡ (if failed then 2 else 1)
+
+-- The words ask for rounds, and the bytes are a bundle whose set is cut so. The status is 0 if each profile is in a round and no
+-- goal was too large, else 1.
+pub record SpellsRounds (asked : Option Request) (bytes text : List ℕ) (failed : Bool) (status : ℕ) : Type 0 where
+  pub is_asked : asked ≡ Some (question.about ask.Rounds)
+  pub contents : Contents
+  pub spelled : Spells bytes contents
+  pub full : List ℕ
+  pub decided : Bool
+  pub cut : WritesRounds (members contents) full decided
+  pub written : ℕ
+  pub text_is : text ≡ take written full
+  pub whole : failed ≡ false → text ≡ full
+  pub status_is : status ≡ (if failed then 2 else (if decided then 0 else 1))
+
 -- It was asked whether a profile reaches a path, and this is the answer of the first profile of that name.
 pub record ReachIs (request : Request) (Ps : List Parts) (answer : Bool) : Type 0 where
   pub profile : List ℕ
@@ -100,6 +128,8 @@ FaultOf task.Check S cs e = (e ≡ fault.OutOfMemory) ⊎ IsFirstFault S e
 FaultOf (task.RunJobs n state) S cs e = (e ≡ fault.OutOfMemory) ⊎ IsFirstFault S e
 FaultOf task.Certify S cs e = (e ≡ fault.OutOfMemory) ⊎ IsFirstFault S e
 FaultOf task.Verify S cs e = Refuses S cs e
+FaultOf task.Clashes S cs e = ⊥
+FaultOf task.Rounds S cs e = ⊥
 
 -- The text is that of certificates of a set, one for each goal and in the order of the goals, and it is read as these.
 pub record WritesCertificates (S : Members) (text : List ℕ) : Type 0 where
@@ -111,13 +141,16 @@ pub record WritesCertificates (S : Members) (text : List ℕ) : Type 0 where
 
 -- What holds of a set that was made, and of the bundle's certificates, where this was to be done and that is the answer.
 abbrev pub IsToldOfSet : Task → Members → List Certificate → Report → Type 0
-IsToldOfSet t S cs Safe = (t ≡ task.Check) × IsSafeSet S
+IsToldOfSet t S cs Safe = ((t ≡ task.Check) ⊎ (t ≡ task.Clashes)) × IsSafeSet S
 IsToldOfSet t S cs (Ran r) = HasRunAs t S r
 IsToldOfSet t S cs (NotRun e) = IsPrevented t S e
 IsToldOfSet t S cs NoState = ⊥
 IsToldOfSet t S cs Verified = (t ≡ task.Verify) × AreCertificates S cs × IsSafeSet S
 IsToldOfSet t S cs (Certified text) = (t ≡ task.Certify) × WritesCertificates S (string_bytes text)
 IsToldOfSet t S cs (Refused text) = (e : CheckFault) × FaultOf t S cs e × IsRefusal S e (Refused text)
+IsToldOfSet t S cs (Clashes text) = (t ≡ task.Clashes) × ListsClashes S (string_bytes text)
+IsToldOfSet t S cs (Cut c) = (t ≡ task.Rounds) × WritesRounds S (string_bytes c.text) c.decided
+IsToldOfSet t S cs NotVerified = t ≡ task.Rounds
 IsToldOfSet t S cs Reached = ⊥
 IsToldOfSet t S cs NotReached = ⊥
 IsToldOfSet t S cs (NoProfile name) = ⊥
@@ -154,6 +187,9 @@ IsTold request c NoState = LacksState request c.state
 IsTold request c Verified = IsToldAbout request c Verified
 IsTold request c (Certified t) = IsToldAbout request c (Certified t)
 IsTold request c (Refused t) = IsToldRefused request c (Refused t)
+IsTold request c (Clashes t) = IsToldAbout request c (Clashes t)
+IsTold request c (Cut t) = IsToldAbout request c (Cut t)
+IsTold request c NotVerified = IsToldAbout request c NotVerified
 IsTold request c Reached = ReachIs request c.profiles true
 IsTold request c NotReached = ReachIs request c.profiles false
 IsTold request c (NoProfile name) = LacksProfile request c.profiles name.now
@@ -184,6 +220,9 @@ Holds request bytes NoState = IsTrueOf request bytes NoState
 Holds request bytes Verified = IsTrueOf request bytes Verified
 Holds request bytes (Certified t) = IsTrueOf request bytes (Certified t)
 Holds request bytes (Refused t) = IsTrueOf request bytes (Refused t)
+Holds request bytes (Clashes t) = IsTrueOf request bytes (Clashes t)
+Holds request bytes (Cut c) = IsTrueOf request bytes (Cut c)
+Holds request bytes NotVerified = IsTrueOf request bytes NotVerified
 Holds request bytes Reached = IsTrueOf request bytes Reached
 Holds request bytes NotReached = IsTrueOf request bytes NotReached
 Holds request bytes (NoProfile name) = IsTrueOf request bytes (NoProfile name)
@@ -234,7 +273,7 @@ pub record Serves (asked : Option Request) (remaining old new : Option (List ℕ
   pub few : status ≤ 3
   pub nothing : asked ≡ None → AnswersNothing old new status
   pub answer : (request : Request) → asked ≡ Some request → Answers request remaining old new reads write_failed status
-  -- `safe` is written only if the words ask for a check or a run, and the input spells a safe set. What follows it is what
+  -- `safe` is written only if the words ask for a check, for what clashes or for a run, and the input spells a safe set. What follows it is what
   -- its jobs did and left of the input's state, or why they weren't run,
   pub safe : (bytes before text : List ℕ) → remaining ≡ Some bytes → old ≡ Some before
       → new ≡ Some (before ++ (codes "safe\n" ++ text)) → SpellsSafe asked bytes text write_failed status
@@ -246,6 +285,12 @@ pub record Serves (asked : Option Request) (remaining old new : Option (List ℕ
       → new ≡ Some (before ++ (codes "overlap: " ++ text)) → SpellsUnsafe bytes
   pub breach : (bytes before text : List ℕ) → remaining ≡ Some bytes → old ≡ Some before
       → new ≡ Some (before ++ (codes "breach: " ++ text)) → SpellsUnsafe bytes
+  -- `rounds` only if the words ask for rounds, and the input spells a set that is cut so. For words that ask for what clashes,
+  -- a first line of that kind is the first of all such lines,
+  pub rounds : (bytes before text : List ℕ) → remaining ≡ Some bytes → old ≡ Some before
+      → new ≡ Some (before ++ (codes "rounds " ++ text)) → SpellsRounds asked bytes (codes "rounds " ++ text) write_failed status
+  pub clashes : (bytes before text : List ℕ) → asked ≡ Some (question.about ask.Clashes) → remaining ≡ Some bytes
+      → old ≡ Some before → new ≡ Some (before ++ text) → BeginsAsClash text → SpellsClashes bytes text write_failed status
   -- and `reached` and `not reached` only if the words ask for `reach` and that is the answer.
   pub reached : (bytes before text : List ℕ) → remaining ≡ Some bytes → old ≡ Some before
       → new ≡ Some (before ++ (codes "reached\n" ++ text)) → SpellsReach asked bytes true

@@ -82,3 +82,5 @@ IsBelow (task.RunJobs n S) M status below =
     (MayRun S M.profiles n × WritesRun M S status below) ⊎ WritesError M S n status below
 IsBelow task.Certify M status below = ⊥
 IsBelow task.Verify M status below = ⊥
+IsBelow task.Clashes M status below = (status ≡ 0) × (below ≡ [])
+IsBelow task.Rounds M status below = ⊥

@@ -2,7 +2,7 @@
 use Rattle.std.specs.Prelude.{◌≡◌, ℕ, Option, Some, None}
 use Rattle.hub_state.specs.State.{State}
 use Rattle.hub_words.specs.declared.words.Question.{Question}
-use Rattle.hub_words.specs.declared.words.Question.TheVariants.{CheckWithState, Run, Check, Certify, Verify}
+use Rattle.hub_words.specs.declared.words.Question.TheVariants.{CheckWithState, Run, Check, Certify, Verify, Clashes, Rounds}
 use Rattle.hub_words.specs.Words.{Request, about}
 use Rattle.hub_words.specs.declared.words.TheConstants.{DEFAULT_WORKERS}
 use Rattle.hub_serve.specs.declared.task.Task.{Task}
@@ -18,6 +18,8 @@ task_of (Run n) (Some S) = Some (task.RunJobs n S)
 task_of Check state = Some task.Check
 task_of Certify state = Some task.Certify
 task_of Verify state = Some task.Verify
+task_of Clashes state = Some task.Clashes
+task_of Rounds state = Some task.Rounds
 
 -- It was asked to do this of a bundle that has this state, or none.
 pub record AsksFor (request : Request) (state : Option State) (t : Task) : Type 0 where

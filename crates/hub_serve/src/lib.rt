@@ -11,12 +11,14 @@
 //! - The words are read by `hub_words`. The input is read by `hub_bundle`, with all of its sections (`answer`).
 //! - The set of the profiles and rules is made, and is checked or its certificates are verified (`task`, `verdict`); or one
 //!   profile is asked whether it reaches a path (`reach`).
+//! - Or all that clashes in the set is listed, or it is cut into rounds (`rounds`).
 //! - The jobs of a safe set are run on the bundle's state (`run`).
 //! - The answer is a `Report` of `hub_report`. It is written as one line, as the certificates' text, or as `safe` and below it
 //!   what the jobs did and the state that they left (`program`).
 //!
 //! The contracts use the words of `specs/Report` (which answer is right, and what the program does as a whole), `specs/Reads`
-//! (the reads of the input), `specs/Task` (what is to be done) and `specs/Runs` (what is written of a run).
+//! (the reads of the input), `specs/Task` (what is to be done), `specs/Runs` (what is written of a run) and `specs/Rounds` (what is written of clashes
+//! and rounds).
 //!
 //! Only functions that return a `Result` or a `Report`, or write an answer, allocate.
 #![tactic(auto)]
@@ -25,6 +27,7 @@ mod answer;
 pub mod laws;
 mod program;
 mod reach;
+mod rounds;
 mod run;
 mod task;
 mod verdict;

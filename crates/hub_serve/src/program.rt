@@ -49,9 +49,9 @@ pub fn serve_process<T: AllocGlobal + Eprint + Threads + Wait + Sync, R: Read, W
 /// and below it what the jobs did and the text of the state that they left.
 ///
 /// The first word is the program's name. The status is
-/// - 0 if the profiles and rules of the bundle are a safe set, and each job that was run is finished; and for both answers
-///   to `reach`;
-/// - 1 if they are refused;
+/// - 0 if the profiles and rules of the bundle are a safe set, and each job that was run is finished; if all of it is in
+///   rounds; and for both answers to `reach`;
+/// - 1 if they are refused, or something clashes; if a profile is in no round, or a goal was too large;
 /// - 2 for a fault, if a write or the flush of the output failed, and if the words ask for nothing. In the last case the
 ///   input isn't read, and `clap`'s text goes to standard error: help, the version, or what is wrong with the words;
 /// - 3 if a job was stopped, or the jobs weren't run: there are no workers or too many, the bundle's state has no replica of
@@ -117,7 +117,7 @@ pub fn refuse_unread<T: Eprint, W: Write>(rt: &T, error: &io::Error, output: &mu
 }
 
 /// Reads all of an input, and writes the answer to what was asked of it.
-fn answer<T: Threads + Wait + Sync, R: Read, W: Write>(
+fn answer<T: Eprint + Threads + Wait + Sync, R: Read, W: Write>(
     rt: &T,
     alloc: Global,
     asked: Asked<'_>,
@@ -132,9 +132,18 @@ fn answer<T: Threads + Wait + Sync, R: Read, W: Write>(
 {
     let report = report_on(rt, alloc, asked, input);
     let status = report.status();
+    name_undecided(rt, report.undecided());
     match report.into_text(alloc) {
         Ok(text) => write_text(&text, status, output),
         Err(_) => write_out_of_memory(output),
+    }
+}
+
+/// Names on standard error the profiles of which it wasn't decided whether they clash.
+fn name_undecided<T: Eprint>(rt: &T, pairs: &str) {
+    if !pairs.is_empty() {
+        // if standard error fails too, there is nobody left to tell
+        let _ = rt.eprint(pairs);
     }
 }
 

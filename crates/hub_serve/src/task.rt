@@ -21,6 +21,10 @@ pub enum Task {
     Certify,
     /// To say whether the bundle's certificates show that it is safe.
     Verify,
+    /// To say all that clashes in it, and all that breaks a rule.
+    Clashes,
+    /// To cut it into rounds.
+    Rounds,
 }
 
 impl Task {
@@ -43,6 +47,8 @@ impl Task {
             Question::Check => Some(Task::Check),
             Question::Certify => Some(Task::Certify),
             Question::Verify => Some(Task::Verify),
+            Question::Clashes => Some(Task::Clashes),
+            Question::Rounds => Some(Task::Rounds),
         }
     }
 }

@@ -1,17 +1,20 @@
 //! Answers about the set of a bundle's profiles and rules.
-ghost use Rattle.std.specs.Prelude.{◌≡◌, ◌⊎◌, None, IfOk, IfErr, OnOk};
-ghost use Rattle.hub_cert.specs.Set.{IsSafeSet};
+ghost use Rattle.std.specs.Prelude.{◌≡◌, List, None, IfOk, IfErr};
+ghost use Rattle.hub_cert.specs.declared.certificate.Certificate.{Certificate};
 ghost use Rattle.hub_report.specs.Report.{unread_by};
-ghost use Rattle.hub_search.specs.Search.{IsFirstFault};
 ghost use Rattle.hub_words.specs.Words.{about};
 ghost use Rattle.hub_serve.specs.Report as report;
+ghost use Rattle.hub_serve.specs.declared.task.Task.{Task};
+ghost use Rattle.hub_serve.specs.declared.task.Task.TheVariants as task;
 
+use crate::rounds::{report_on_clashes, report_on_rounds};
 use crate::run::run_set;
 use crate::task::Task;
 use hub_bundle::Contents;
 use hub_cert::{Certificate, CheckFault, ProfileSet, verify, write_certificates};
 use hub_report::Report;
 use hub_search::{certificates, check};
+use hub_state::State;
 use hub_words::Question;
 use std::alloc::Global;
 use std::sync::Wait;
@@ -38,7 +41,7 @@ pub fn report_on_set<'a, T: Threads + Wait + Sync>(
         return Report::NoState;
     };
     match ProfileSet::new(alloc, profiles, rules) {
-        Ok(set) => report_on_made(rt, alloc, task, &set, certificates.as_slice()),
+        Ok(set) => report_on_made(rt, alloc, task, set, certificates.as_slice()),
         Err(fault) => Report::refusal_without_set(alloc, &fault),
     }
 }
@@ -48,57 +51,99 @@ fn report_on_made<'a, T: Threads + Wait + Sync>(
     rt: &T,
     alloc: Global,
     task: Task,
-    set: &ProfileSet,
+    set: ProfileSet,
     own: &[Certificate],
 ) -> Report<'a>
-    ensures told { report.IsToldOfSet task set.now own.now result }
+    ensures told { report.IsToldOfSet task set own.now result }
     ensures read { unread_by result ≡ None }
 {
-    match answer(rt, alloc, task, set, own) {
+    match task {
+        Task::Check => or_refusal(alloc, &set, report_on_safety(alloc, &set)),
+        Task::RunJobs { workers, state } => {
+            or_refusal(
+                alloc,
+                &set,
+                report_on_jobs(rt, alloc, &set, &state, workers),
+            )
+        }
+        Task::Certify => or_refusal(alloc, &set, report_with_certificates(alloc, &set)),
+        Task::Verify => or_refusal(alloc, &set, report_on_certificates(alloc, &set, own)),
+        Task::Clashes => report_on_clashes(alloc, &set),
+        Task::Rounds => report_on_rounds(alloc, set),
+    }
+}
+
+/// The answer, or the refusal of the set by its fault.
+fn or_refusal<'a>(
+    alloc: Global,
+    set: &ProfileSet,
+    answer: Result<Report<'a>, CheckFault>,
+) -> Report<'a>
+    ensures told { (t : Task) (cs : List Certificate)
+        → IfOk answer.entry (report.IsToldOfSet t set.now cs)
+        → IfErr answer.entry (report.FaultOf t set.now cs) → report.IsToldOfSet t set.now cs result }
+    ensures read { IfOk answer.entry (λ r. unread_by r ≡ None) → unread_by result ≡ None }
+{
+    match answer {
         Ok(report) => report,
         Err(fault) => Report::refusal(alloc, set, &fault),
     }
 }
 
-/// The answer when the task is done, or the fault by which the set is refused.
-fn answer<'a, T: Threads + Wait + Sync>(
-    rt: &T,
-    alloc: Global,
-    task: Task,
-    set: &ProfileSet,
-    own: &[Certificate],
-) -> Result<Report<'a>, CheckFault>
-    ensures told { IfOk result (report.IsToldOfSet task set.now own.now) }
-    ensures refused { IfErr result (report.FaultOf task set.now own.now) }
+/// The answer whether the set is safe, or the fault by which it is refused.
+fn report_on_safety<'a>(alloc: Global, set: &ProfileSet) -> Result<Report<'a>, CheckFault>
+    ensures told { (cs : List Certificate) → IfOk result
+        (report.IsToldOfSet task.Check set.now cs) }
+    ensures refused { (cs : List Certificate) → IfErr result
+        (report.FaultOf task.Check set.now cs) }
     ensures read { IfOk result (λ r. unread_by r ≡ None) }
-{
-    match task {
-        Task::Check => {
-            check_safe(alloc, set)?;
-            Ok(Report::Safe)
-        }
-        Task::RunJobs { workers, state } => {
-            let verified = check(alloc, set)?;
-            Ok(run_set(rt, alloc, &verified, &state, workers))
-        }
-        Task::Certify => {
-            let certificates = certificates(alloc, set)?;
-            let text = write_certificates(alloc, certificates.as_slice())?;
-            Ok(Report::Certified(text))
-        }
-        Task::Verify => {
-            let _ = verify(alloc, set, own)?.set();
-            Ok(Report::Verified)
-        }
-    }
-}
-
-/// Checks that the set is safe, or returns the fault by which it is refused.
-fn check_safe(alloc: Global, set: &ProfileSet) -> Result<(), CheckFault>
-    ensures safe { OnOk result (IsSafeSet set.now) }
-    ensures refused { IfErr result (λ e. (e ≡ CheckFault.OutOfMemory) ⊎ IsFirstFault set.now e) }
 {
     // The type of what `check` returns says that the set is safe.
     let _ = check(alloc, set)?.set();
-    Ok(())
+    Ok(Report::Safe)
+}
+
+/// The answer what its jobs did and left, if it is safe.
+fn report_on_jobs<'a, T: Threads + Wait + Sync>(
+    rt: &T,
+    alloc: Global,
+    set: &ProfileSet,
+    state: &State,
+    workers: u8,
+) -> Result<Report<'a>, CheckFault>
+    ensures told { (cs : List Certificate) → IfOk result
+        (report.IsToldOfSet (task.RunJobs workers state.now) set.now cs) }
+    ensures refused { (cs : List Certificate) → IfErr result
+        (report.FaultOf (task.RunJobs workers state.now) set.now cs) }
+    ensures read { IfOk result (λ r. unread_by r ≡ None) }
+{
+    let verified = check(alloc, set)?;
+    Ok(run_set(rt, alloc, &verified, state, workers))
+}
+
+/// The answer with certificates for its goals.
+fn report_with_certificates<'a>(alloc: Global, set: &ProfileSet) -> Result<Report<'a>, CheckFault>
+    ensures told { (cs : List Certificate) → IfOk result
+        (report.IsToldOfSet task.Certify set.now cs) }
+    ensures refused { (cs : List Certificate) → IfErr result
+        (report.FaultOf task.Certify set.now cs) }
+    ensures read { IfOk result (λ r. unread_by r ≡ None) }
+{
+    let certificates = certificates(alloc, set)?;
+    let text = write_certificates(alloc, certificates.as_slice())?;
+    Ok(Report::Certified(text))
+}
+
+/// The answer whether these certificates show that the set is safe.
+fn report_on_certificates<'a>(
+    alloc: Global,
+    set: &ProfileSet,
+    own: &[Certificate],
+) -> Result<Report<'a>, CheckFault>
+    ensures told { IfOk result (report.IsToldOfSet task.Verify set.now own.now) }
+    ensures refused { IfErr result (report.FaultOf task.Verify set.now own.now) }
+    ensures read { IfOk result (λ r. unread_by r ≡ None) }
+{
+    let _ = verify(alloc, set, own)?.set();
+    Ok(Report::Verified)
 }

@@ -1,0 +1,54 @@
+-- The lines of what clashes in a set, and of its rounds.
+use Rattle.std.specs.Prelude.{ℕ, ◌+◌, List, [], ◌∷◌, ◌++◌, length, codes, encode_utf8_all}
+use Rattle.std.specs.List.{flat_map}
+use Rattle.std.specs.Fmt.{decimal}
+use Rattle.hub_profile.specs.Parts.{Parts}
+use Rattle.hub_cert.specs.Set.{Members}
+use Rattle.hub_cert.specs.declared.fault.CheckFault.{CheckFault}
+use Rattle.hub_rounds.specs.declared.placing.Placed.{Placed}
+use Rattle.hub_rounds.specs.declared.placing.Placing.{Placing}
+use Rattle.hub_rounds.specs.declared.placing.Placing.TheVariants.{Round, Left}
+use Rattle.hub_rounds.specs.declared.placing.Reason.{Reason}
+use Rattle.hub_rounds.specs.declared.placing.Reason.TheVariants.{Breach, TooLarge}
+use Rattle.hub_rounds.specs.declared.rounds.Rounds.{Rounds}
+use Rattle.hub_report.specs.Refusal.{joined, refusal_line}
+
+-- The lines of the faults of a set, each as if it were the only one.
+abbrev pub clash_lines : Members → List CheckFault → List ℕ
+clash_lines S es = flat_map (refusal_line S) es
+
+-- The line of a profile of the round of that number.
+abbrev pub line_in : List ℕ → Parts → List ℕ
+line_in number P =
+    joined (codes "round " ∷ number ∷ codes " " ∷ encode_utf8_all P.name ∷ codes "\n" ∷ [])
+
+-- The lines of these rounds, of which the first has this number.
+abbrev pub lines_of_rounds : ℕ → List (List Parts) → List ℕ
+lines_of_rounds k [] = []
+lines_of_rounds k (Ps ∷ rounds) = flat_map (line_in (decimal k)) Ps ++ lines_of_rounds (k + 1) rounds
+
+-- The line of a profile that is in no round: why, the number of the rule, and its name.
+abbrev pub rule_line : List ℕ → ℕ → List ℕ → List ℕ
+rule_line why rule name = joined (why ∷ decimal rule ∷ codes " " ∷ name ∷ codes "\n" ∷ [])
+
+abbrev pub reason_line : Parts → Reason → List ℕ
+reason_line P (Breach rule) = rule_line (codes "breach ") rule (encode_utf8_all P.name)
+reason_line P (TooLarge rule) = rule_line (codes "too large ") rule (encode_utf8_all P.name)
+
+abbrev pub placing_line : Parts → Placing → List ℕ
+placing_line P (Round k) = []
+placing_line P (Left why) = reason_line P why
+
+abbrev pub left_line : Placed → List ℕ
+left_line p = placing_line p.profile p.placing
+
+-- How many rounds were found, and how many are needed at least.
+abbrev pub counts_text : ℕ → ℕ → List ℕ
+counts_text found least =
+    joined (codes "rounds " ∷ decimal found ∷ codes "\nat least " ∷ decimal least ∷ codes "\n" ∷ [])
+
+-- These counts, the profiles of each round, and those that are in none.
+abbrev pub rounds_text : Rounds → List ℕ
+rounds_text r =
+    counts_text (length r.rounds) (length r.rivals)
+    ++ (lines_of_rounds 1 r.rounds ++ flat_map left_line r.left)

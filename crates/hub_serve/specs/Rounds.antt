@@ -1,0 +1,60 @@
+-- What is written of what clashes in a set, and of its rounds.
+use Rattle.std.specs.Prelude.{◌≡◌, ◌≢◌, ◌⊎◌, ◌==◌, ◌&&◌, ◌∷◌, ◌++◌, ℕ, Bool, true, false, not, List, [], length, Contains, IsTrue, codes}
+use Rattle.std.specs.List.{list_any}
+use Rattle.hub_cert.specs.Goals.{is_goal}
+use Rattle.hub_cert.specs.Set.{Members}
+use Rattle.hub_cert.specs.declared.fault.CheckFault.{CheckFault}
+use Rattle.hub_cert.specs.declared.fault.CheckFault.TheVariants as fault
+use Rattle.hub_cert.specs.declared.goal.Goal.{Goal}
+use Rattle.hub_search.specs.Faults.{AreFaults, HasLine, IsRuledOut}
+use Rattle.hub_search.specs.Search.{Disproves, IsFirstFault}
+use Rattle.hub_rounds.specs.Rounds.{AreRounds}
+use Rattle.hub_rounds.specs.declared.rounds.Rounds.{Rounds}
+use Rattle.hub_report.specs.Rounds.{clash_lines, rounds_text}
+
+-- A text has a line for each goal of a set that isn't ruled out, in the order of the goals, and there is one. Each line shows
+-- that the set isn't safe, unless it says that its goal is too large. The first is one by which the set may be refused.
+pub record ListsClashes (S : Members) (text : List ℕ) : Type 0 where
+  pub lines : List CheckFault
+  pub some : lines ≢ []
+  pub all : AreFaults S lines
+  pub disproved : (e : CheckFault) → Contains lines e → Disproves S e
+  pub rest : (g : Goal) → IsTrue (is_goal S g) → IsRuledOut S g ⊎ HasLine S lines g
+  pub first : (e : CheckFault) (others : List CheckFault) → lines ≡ e ∷ others → IsFirstFault S e
+  pub text_is : text ≡ clash_lines S lines
+
+-- A fault says that a goal is too large.
+abbrev pub is_too_large : CheckFault → Bool
+is_too_large fault.TooManyProfiles = false
+is_too_large (fault.SameName name) = false
+is_too_large (fault.NestedRoots first second) = false
+is_too_large (fault.Overlap w o place held path) = false
+is_too_large (fault.Breach p r path) = false
+is_too_large (fault.TooLarge g) = true
+is_too_large (fault.Missing g) = false
+is_too_large (fault.NoStart g) = false
+is_too_large (fault.NotClosed g k class) = false
+is_too_large (fault.Accepting g k) = false
+is_too_large (fault.Stray i) = false
+is_too_large (fault.BadText line) = false
+is_too_large (fault.AlphabetFault e) = false
+is_too_large fault.OutOfMemory = false
+
+-- Each profile is in a round, and no goal was too large.
+abbrev pub is_decided : List CheckFault → Rounds → Bool
+is_decided es r = length r.left == 0 && not (list_any is_too_large es)
+
+-- A text is that of rounds of a set, which rest on what clashes in it.
+pub record WritesRounds (S : Members) (text : List ℕ) (decided : Bool) : Type 0 where
+  pub lines : List CheckFault
+  pub all : AreFaults S lines
+  pub rounds : Rounds
+  pub cut : AreRounds S lines rounds
+  pub text_is : text ≡ rounds_text rounds
+  pub decided_is : decided ≡ is_decided lines rounds
+
+-- A text begins as the line of an overlap, of a breach, or of a goal that is too large.
+abbrev pub BeginsAsClash : List ℕ → Type 0
+BeginsAsClash text =
+    (rest : List ℕ)
+    × ((text ≡ codes "overlap: " ++ rest) ⊎ (text ≡ codes "breach: " ++ rest) ⊎ (text ≡ codes "too large: " ++ rest))

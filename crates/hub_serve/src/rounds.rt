@@ -1,0 +1,78 @@
+//! What clashes in a set, and its rounds.
+ghost use Rattle.std.specs.Prelude.{◌≡◌, List, None, IfOk, string_bytes};
+ghost use Rattle.std.specs.List.{list_any};
+ghost use Rattle.hub_cert.specs.declared.certificate.Certificate.{Certificate};
+ghost use Rattle.hub_report.specs.Report.{unread_by};
+ghost use Rattle.hub_serve.specs.Report as report;
+ghost use Rattle.hub_serve.specs.Rounds as rounds;
+ghost use Rattle.hub_serve.specs.Rounds.{WritesRounds};
+ghost use Rattle.hub_serve.specs.declared.task.Task.TheVariants as task;
+
+use hub_cert::{CheckFault, ProfileSet};
+use hub_report::{Cut, Report, lines_of_clashes, text_of_rounds, undecided_pairs};
+use hub_rounds::{Rounds, RoundsFault, clashes_of, rounds_of};
+use std::alloc::{AllocError, Global};
+
+/// The answer with all that clashes in a set and all that breaks a rule, or that it is safe if nothing does.
+pub fn report_on_clashes<'a>(alloc: Global, set: &ProfileSet) -> Report<'a>
+    ensures told { (cs : List Certificate) → report.IsToldOfSet task.Clashes set.now cs result }
+    ensures read { unread_by result ≡ None }
+{
+    let Ok(clashes) = clashes_of(alloc, set) else {
+        return Report::OutOfMemory;
+    };
+    if clashes.lines().is_empty() {
+        return Report::Safe;
+    }
+    match lines_of_clashes(alloc, set, &clashes) {
+        Ok(lines) => Report::Clashes(lines),
+        Err(AllocError) => Report::OutOfMemory,
+    }
+}
+
+/// The answer with the rounds of a set.
+pub fn report_on_rounds<'a>(alloc: Global, set: ProfileSet) -> Report<'a>
+    ensures told { (cs : List Certificate) → report.IsToldOfSet task.Rounds set cs result }
+    ensures read { unread_by result ≡ None }
+{
+    match cut(alloc, set) {
+        Ok(cut) => Report::Cut(cut),
+        Err(RoundsFault::NotVerified { .. }) => Report::NotVerified,
+        Err(RoundsFault::OutOfMemory) => Report::OutOfMemory,
+    }
+}
+
+/// Cuts a set into rounds.
+fn cut(alloc: Global, set: ProfileSet) -> Result<Cut, RoundsFault>
+    ensures { IfOk result (λ c. WritesRounds set (string_bytes c.text) c.decided) }
+{
+    let clashes = clashes_of(alloc, &set)?;
+    let undecided = undecided_pairs(alloc, &set, &clashes)?;
+    let rounds = rounds_of(alloc, set, &clashes)?;
+    let decided = is_decided(clashes.lines(), &rounds);
+    let text = text_of_rounds(alloc, &rounds)?;
+    Ok(Cut {
+        text,
+        decided,
+        undecided,
+    })
+}
+
+/// Whether each profile is in a round, and no goal was too large.
+fn is_decided(lines: &[CheckFault], found: &Rounds) -> bool
+    ensures { result ≡ rounds.is_decided lines.now found.now }
+{
+    found.left.is_empty() && !has_too_large(lines)
+}
+
+fn has_too_large(lines: &[CheckFault]) -> bool
+    ensures { result ≡ list_any rounds.is_too_large lines.now }
+{
+    lines.iter().any(is_too_large)
+}
+
+fn is_too_large(line: &CheckFault) -> bool
+    ensures { result ≡ rounds.is_too_large line.now }
+{
+    matches!(line, CheckFault::TooLarge { .. })
+}

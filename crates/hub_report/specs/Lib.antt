@@ -7,3 +7,4 @@ pub mod JobsExamples
 pub mod Faults
 pub mod Report
 pub mod ReportExamples
+pub mod Starts

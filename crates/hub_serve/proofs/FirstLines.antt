@@ -22,7 +22,7 @@ use Rattle.hub_report.specs.Report.{status_of, text_of}
 use Rattle.hub_report.specs.Refusal.{refusal_line}
 use Rattle.hub_report.specs.Jobs.{lines_of_jobs}
 use Rattle.hub_report.specs.Run.{error_line}
-use Rattle.hub_report.proofs.Starts.{HoldsOfStarts, Start, SafeStart, VerifiedStart, OverlapStart, BreachStart, TooLargeStart, RoundsStart, ReachedStart, NotReachedStart, OtherStart, start, begins, lines-start, refusal-start}
+use Rattle.hub_report.specs.Starts.{HoldsOfStarts, Start, SafeStart, VerifiedStart, OverlapStart, BreachStart, TooLargeStart, RoundsStart, ReachedStart, NotReachedStart, OtherStart, start, begins, lines-start, refusal-start}
 use Rattle.hub_words.specs.declared.words.Question.{Question}
 use Rattle.hub_words.specs.declared.words.Question.TheVariants as ask
 use Rattle.hub_words.specs.declared.words.Question.TheVariants.{CheckWithState, Run, Check, Certify, Verify}

@@ -138,7 +138,8 @@ docs: nodeletion = $PWD/hub/: Unison wants the text of the root line
 LINES
     echo 'follow = Path a' >>prf/docs.prf
     ask 1 "$program" prf
-    compare 'a line that hubsync refuses' said <<<"$program rounds: fault: profile docs line 20: UnknownPreference follow"
+    grep -v '^hubsync: ' said >refused
+    compare 'a line that hubsync refuses' refused <<<"$program rounds: fault: profile docs line 20: UnknownPreference follow"
     [ ! -s written ] || complain 'something is started though a line is refused'
     ask 2
     ask 2 --unison

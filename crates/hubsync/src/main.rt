@@ -14,6 +14,8 @@ mod served;
 use crate::kept::Kept;
 use crate::served::{Seen, serve_with_remarks};
 use hub_text::Watched;
+use hub_words::read_words;
+use std::io::{Eprint, IsTerminal};
 use std::process::ExitCode;
 use std::rt::Env;
 use std::{env, io};
@@ -22,8 +24,24 @@ fn main(rt: HostRuntime) -> ExitCode {
     let seen = Seen::new(rt.alloc());
     let mut input = Watched::new(Kept::new(rt.reader(), &seen.input));
     let mut output = Watched::new(Kept::new(io::writer(&rt), &seen.output));
-    let status = serve_with_remarks(&rt, arguments(&rt), &mut input, &mut output, &seen);
+    let words = arguments(&rt);
+    if rt.stdin().is_terminal() {
+        say_waiting(&rt, &words);
+    }
+    let status = serve_with_remarks(&rt, words, &mut input, &mut output, &seen);
     ExitCode::from(status)
+}
+
+/// Says on a terminal that an input is awaited there, if the words ask for an answer to one.
+fn say_waiting<T: AllocGlobal + Eprint>(rt: &T, words: &io::Result<Vec<String>>) {
+    let Ok(words) = words else {
+        return;
+    };
+    if read_words(rt.alloc(), words.as_slice()).is_ok() {
+        let _ = eprintln!(rt;
+            "hubsync: reads a bundle from the terminal, up to Ctrl-D: see hubsync --help"
+        );
+    }
 }
 
 /// The words that the process was started with, of which the first is the program's name.

@@ -12,7 +12,7 @@ use Rattle.hub_job.specs.declared.log.Entry.{Entry}
 use Rattle.hub_job.specs.JobValue.{JobValue}
 use Rattle.hub_history.specs.Book.{BookValue}
 use Rattle.hub_job.specs.History.{entries_of, entries_at}
-use Rattle.hub_runner.specs.Settling.{IsRight, IsWrong, books_at, history_at, history_or_none, log_at, places_at}
+use Rattle.hub_runner.specs.Settling.{Agrees, Disagrees, books_at, history_at, history_or_none, log_at, places_at}
 use Rattle.hub_runner.proofs.Firsts.{IsFirst}
 use Rattle.hub_runner.proofs.JobPlaces.{Place, RightUpTo, first_book, first_job, right_at_root, right_book, right_job}
 use Rattle.hub_runner.proofs.Splitting.{by_job, list_of}
@@ -26,10 +26,10 @@ Match P r done logged = IsTrue (has_root P r) → done ≡ logged
 
 module _ (S : State) (Ps : List Parts) (books : List BookValue) (jobs : List JobValue) (r : Path) where
   abbrev Right : Place → Type 0
-  Right = IsRight S Ps books jobs
+  Right = Agrees S Ps books jobs
 
   abbrev Wrong : Place → Type 0
-  Wrong = IsWrong S Ps books jobs
+  Wrong = Disagrees S Ps books jobs
 
   pub wrong_book : Wrong (r, None) → IsFirst Right Wrong (places_at (length Ps) r) (r, None)
   wrong_book wrong = first_book Right Wrong r (length Ps) wrong

@@ -24,8 +24,8 @@ use Rattle.hub_job.specs.JobValue.{JobValue, after_turn}
 use Rattle.hub_history.specs.Book.{BookValue}
 use Rattle.hub_schedule.specs.Promise.{Settles}
 use Rattle.hub_schedule.specs.Simulated.{HaveEnded}
-use Rattle.hub_runner.specs.Settling.{AreCompared, AreDue, EndAsTheyAre, end_value}
-use Rattle.hub_runner.specs.Working.{AreOver, AsksFor, asks_nothing, is_over}
+use Rattle.hub_runner.specs.Settling.{AreCompared, AreConsistent, EndAsTheyAre, end_value}
+use Rattle.hub_runner.specs.Working.{AreEnded, AsksFor, asks_nothing, is_ended}
 use Rattle.hub_runner.proofs.Lists.{only, passed}
 
 -- A job that asks for an operation in its turn has asked for it.
@@ -33,8 +33,8 @@ pub asks_after : (J K : JobValue) (side : Side) (op : Op) → K ≡ after_turn J
 asks_after J K side op after = (record { side = side; op = op }, ap (λ (L : JobValue). L.asked) after, refl)
 
 -- One job more.
-pub over_push : (jobs : List JobValue) (J : JobValue) → AreOver jobs → is_over J ≡ true → (k : ℕ) (K : JobValue) → slice_get (jobs ++ J ∷ []) k ≡ Some K → is_over K ≡ true
-over_push [] J all over zero K at = ap is_over (sym (one_value J K at)) ∙ over
+pub over_push : (jobs : List JobValue) (J : JobValue) → AreEnded jobs → is_ended J ≡ true → (k : ℕ) (K : JobValue) → slice_get (jobs ++ J ∷ []) k ≡ Some K → is_ended K ≡ true
+over_push [] J all over zero K at = ap is_ended (sym (one_value J K at)) ∙ over
 over_push [] J all over (suc k) K at = cc
 over_push (L ∷ jobs) J all over zero K at = all 0 K at
 over_push (L ∷ jobs) J all over (suc k) K at = over_push jobs J (λ i M e. all (suc i) M e) over k K at
@@ -49,7 +49,7 @@ ends_with : (s : Bool) (n : Next) → (s || asks_nothing n) ≡ true → cond s 
 ends_with true n over = λ e. cc
 ends_with false n over = ends_by n over
 
-has_ended : (J : JobValue) → is_over J ≡ true → end_of J ≢ end.Unfinished
+has_ended : (J : JobValue) → is_ended J ≡ true → end_of J ≢ end.Unfinished
 has_ended J over = ends_with J.stopped (next J.profile J.archive J.log) over
 
 -- The job of a number.
@@ -66,7 +66,7 @@ due_job jobs j one =
     )
 
 -- Where exactly one job has each number, all have ended if all are over.
-have_ended : (S : State) (Ps : List Parts) (jobs : List JobValue) (o : Outcome) → length o.jobs ≡ length Ps → AreDue S Ps jobs → EndAsTheyAre jobs o → AreOver jobs
+have_ended : (S : State) (Ps : List Parts) (jobs : List JobValue) (o : Outcome) → length o.jobs ≡ length Ps → AreConsistent S Ps jobs → EndAsTheyAre jobs o → AreEnded jobs
     → HaveEnded o.jobs
 have_ended S Ps jobs o long due ends over = λ j e at.
     let inside = slice_get_within o.jobs j e at in
@@ -78,6 +78,6 @@ have_ended S Ps jobs o long due ends over = λ j e at.
 
 -- What is settled of jobs that are over has ended.
 pub ended_by : (S : State) (Ps : List Parts) (histories : Path → List Entry) (books : List BookValue) (jobs : List JobValue) (r : Result Outcome RunFault)
-    → IfOk r (Settles S Ps histories) → IfOk r (λ o. AreCompared S Ps books jobs) → IfOk r (EndAsTheyAre jobs) → AreOver jobs → IfOk r (λ o. HaveEnded o.jobs)
+    → IfOk r (Settles S Ps histories) → IfOk r (λ o. AreCompared S Ps books jobs) → IfOk r (EndAsTheyAre jobs) → AreEnded jobs → IfOk r (λ o. HaveEnded o.jobs)
 ended_by S Ps histories books jobs (Ok o) settles compared ends over = have_ended S Ps jobs o settles.outcome.all compared.due ends over
 ended_by S Ps histories books jobs (Err f) settles compared ends over = tt

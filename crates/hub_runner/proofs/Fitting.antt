@@ -29,7 +29,7 @@ use Rattle.hub_schedule.specs.Laws.Lists.{as_long, listed, one_with, one_value, 
 use Rattle.hub_job.specs.Laws.Roots.{has_own}
 use Rattle.hub_schedule.specs.Laws.Missing.{have_replicas}
 use Rattle.hub_runner.specs.Ordered.{AreInOrder, AreNumbered, AreTreesOf, is_due, of_book, of_tree}
-use Rattle.hub_runner.specs.Settling.{AreCompared, AreDue, EndAsTheyAre, IsRight, OpensAs, books_at, end_value, history_at, history_or_none, log_at, log_or_nothing, places}
+use Rattle.hub_runner.specs.Settling.{AreCompared, AreConsistent, EndAsTheyAre, Agrees, OpensAs, books_at, end_value, history_at, history_or_none, log_at, log_or_nothing, places}
 use Rattle.hub_runner.proofs.Lists.{all_at, count_filter, count_map, found_first, is_only, mapped, only, passed, passes, same_place}
 use Rattle.hub_runner.proofs.Roots.{at_book, at_job}
 
@@ -43,7 +43,7 @@ is_number : (J : JobValue) (j : ℕ) → J.number ≡ j → has_number j J ≡ t
 is_number J j e = grind (arith, nat_tests, e)
 
 -- The jobs, each by its number.
-module _ (S : State) (Ps : List Parts) (jobs : List JobValue) (due : AreDue S Ps jobs) where
+module _ (S : State) (Ps : List Parts) (jobs : List JobValue) (due : AreConsistent S Ps jobs) where
   below : (k : ℕ) (J : JobValue) → slice_get jobs k ≡ Some J → J.number < length Ps
   below k J at = slice_get_within Ps J.number J.profile (due.0 k J at).0
 
@@ -119,7 +119,7 @@ module _ (S : State) (Ps : List Parts) (jobs : List JobValue) (due : AreDue S Ps
           ap (log_at jobs) (sym w.1) ∙ (log_is w.0.place one.0 w.0.there ∙ sym (log_in j one.0 one.1))
 
 -- The books, each by its root.
-module _ (S : State) (Ps : List Parts) (books : List BookValue) (jobs : List JobValue) (right : All (IsRight S Ps books jobs) (places Ps)) where
+module _ (S : State) (Ps : List Parts) (books : List BookValue) (jobs : List JobValue) (right : All (Agrees S Ps books jobs) (places Ps)) where
   abbrev dues : List BookValue
   dues = filter (is_due Ps) books
 
@@ -137,7 +137,7 @@ module _ (S : State) (Ps : List Parts) (books : List BookValue) (jobs : List Job
   module _ (j : ℕ) (P : Parts) (r : Path) (at : slice_get Ps j ≡ Some P) (has : has_root P r ≡ true) where
     book_of : (B : BookValue) × IsBookOf r B
     book_of =
-        let w = at_book (IsRight S Ps books jobs) Ps right j P r at has in
+        let w = at_book (Agrees S Ps books jobs) Ps right j P r at has in
         let B = w.0 in
         let from = passed (λ C. path_eq C.root r) books 0 B (ap (λ Bs. slice_get Bs 0) w.1) in
         let root : B.root ≡ r = same_paths B.root r from.1 in
@@ -219,7 +219,7 @@ module _ (S : State) (Ps : List Parts) (books : List BookValue) (jobs : List Job
         (subst (λ Qs. IsLegal Qs B.root B.opening B.history) b.1.opens.0 book.legal)))
 
     -- They fit together with the jobs.
-    module _ (due : AreDue S Ps jobs) (ended : List JobValue) (order : AreInOrder (length Ps) jobs ended) (facts : AreProfiles Ps) where
+    module _ (due : AreConsistent S Ps jobs) (ended : List JobValue) (order : AreInOrder (length Ps) jobs ended) (facts : AreProfiles Ps) where
       pub are_ended : AreEnded S Ps left ended trees
       are_ended = record {
         each = is_ended S Ps jobs due ended order;
@@ -232,7 +232,7 @@ module _ (S : State) (Ps : List Parts) (books : List BookValue) (jobs : List Job
       module _ (o : Outcome) (ends : o.jobs ≡ map ended_value ended) where
         agree : Agree Ps (history_at books) (logs_in o)
         agree j P r at has =
-            at_job (IsRight S Ps books jobs) Ps right j P r at has j (slice_get_within Ps j P at) P at has
+            at_job (Agrees S Ps books jobs) Ps right j P r at has j (slice_get_within Ps j P at) P at has
             ∙ ap (entries_at P r) (log_at_is S Ps jobs due ended order o ends j P at)
 
         are_settled : IsSettled (jobs_of S Ps) (replicas_of S) (history_at books) (logs_in o)
@@ -242,7 +242,7 @@ module _ (S : State) (Ps : List Parts) (books : List BookValue) (jobs : List Job
         settles is = record { settled = are_settled; outcome = is }
 
     -- What is told of an outcome that there may be.
-    module _ (E : Type 0) (there : first_missing S Ps ≡ None) (due : AreDue S Ps jobs) (ended : List JobValue) (order : AreInOrder (length Ps) jobs ended) (facts : AreProfiles Ps) where
+    module _ (E : Type 0) (there : first_missing S Ps ≡ None) (due : AreConsistent S Ps jobs) (ended : List JobValue) (order : AreInOrder (length Ps) jobs ended) (facts : AreProfiles Ps) where
       pub settled_for : (r : Result Outcome E) → IfOk r (λ o. (Qs : List Parts) (replica : Path → Replica) → HasReplicas S Qs → AreEnded S Qs replica ended trees → IsOutcomeWith S Qs (logs_in o) replica o)
           → IfOk r (λ o. o.jobs ≡ map ended_value ended) → IfOk r (Settles S Ps (history_at books))
       settled_for (Ok o) outcome ends = settles due ended order facts o ends (outcome Ps left (have_replicas S Ps there) (are_ended due ended order facts))

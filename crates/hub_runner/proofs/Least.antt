@@ -6,7 +6,7 @@ use Rattle.std.proofs.lemmas.Bool.Decides.{nat_tests}
 use Rattle.std.proofs.lemmas.Option.{slice_get_within}
 use Rattle.hub_schedule.specs.Laws.Lists.{also_here}
 use Rattle.hub_job.specs.JobValue.{JobValue}
-use Rattle.hub_runner.specs.Odd.{AllAreBelow, IsLeastFrom, lower, lower_of}
+use Rattle.hub_runner.specs.Inconsistent.{AllAreBelow, IsLeastFrom, lower, lower_of}
 
 -- Of the first i jobs.
 abbrev pub LeastUpTo : List JobValue → ℕ → ℕ → Option ℕ → Type 0

@@ -4,7 +4,7 @@ pub mod Firsts
 pub mod JobPlaces
 pub mod RootPlaces
 pub mod Least
-pub mod OddJobs
+pub mod InconsistentJobs
 pub mod Found
 pub mod Splitting
 pub mod Differing

@@ -8,16 +8,16 @@ use Rattle.hub_profile.specs.Parts.{Parts}
 use Rattle.hub_state.specs.State.{State}
 use Rattle.hub_job.specs.JobValue.{JobValue}
 use Rattle.hub_history.specs.Book.{BookValue}
-use Rattle.hub_runner.specs.Settling.{IsRight, IsWrong, places, places_at, roots_of}
+use Rattle.hub_runner.specs.Settling.{Agrees, Disagrees, places, places_at, roots_of}
 use Rattle.hub_runner.proofs.Firsts.{IsFirst, RightBefore, first_more, right_in_all, right_more}
 use Rattle.hub_runner.proofs.JobPlaces.{Place}
 
 module _ (S : State) (Ps : List Parts) (books : List BookValue) (jobs : List JobValue) where
   abbrev Right : Place → Type 0
-  Right = IsRight S Ps books jobs
+  Right = Agrees S Ps books jobs
 
   abbrev Wrong : Place → Type 0
-  Wrong = IsWrong S Ps books jobs
+  Wrong = Disagrees S Ps books jobs
 
   abbrev places_of : Path → List Place
   places_of = places_at (length Ps)

@@ -1,5 +1,5 @@
 pub mod Settling
-pub mod Odd
+pub mod Inconsistent
 pub mod Slots
 pub mod Ordered
 pub mod Working

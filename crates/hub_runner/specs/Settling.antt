@@ -26,20 +26,20 @@ IsMadeFor S Ps J =
 
 -- The number is that of a profile, and not exactly one job has it; or a job has it that isn't made
 -- for the set and the state.
-abbrev pub IsOdd : State → List Parts → List JobValue → ℕ → Type 0
-IsOdd S Ps jobs j =
+abbrev pub IsInconsistent : State → List Parts → List JobValue → ℕ → Type 0
+IsInconsistent S Ps jobs j =
     ((j < length Ps) × (count_by (λ J. J.number == j) jobs ≢ 1))
     ⊎ ((k : ℕ) × (J : JobValue) × (slice_get jobs k ≡ Some J) × (J.number ≡ j)
     × ¬ (IsMadeFor S Ps J))
 
 -- Each job is made for the set and the state, and exactly one has the number of each profile.
-abbrev pub AreDue : State → List Parts → List JobValue → Type 0
-AreDue S Ps jobs =
+abbrev pub AreConsistent : State → List Parts → List JobValue → Type 0
+AreConsistent S Ps jobs =
     ((k : ℕ) (J : JobValue) → slice_get jobs k ≡ Some J → IsMadeFor S Ps J)
     × ((j : ℕ) → j < length Ps → count_by (λ J. J.number == j) jobs ≡ 1)
 
-abbrev pub IsLowestOdd : State → List Parts → List JobValue → ℕ → Type 0
-IsLowestOdd S Ps jobs j = IsOdd S Ps jobs j × ((i : ℕ) → i < j → ¬ (IsOdd S Ps jobs i))
+abbrev pub IsLowestInconsistent : State → List Parts → List JobValue → ℕ → Type 0
+IsLowestInconsistent S Ps jobs j = IsInconsistent S Ps jobs j × ((i : ℕ) → i < j → ¬ (IsInconsistent S Ps jobs i))
 
 -- The book was made for the profiles of the set, and opens with the state's replica of its root.
 abbrev pub OpensAs : State → List Parts → BookValue → Type 0
@@ -67,19 +67,19 @@ log_at jobs j = log_or_nothing (find (λ J. J.number == j) jobs)
 -- A place of a comparison is a root, and a job or none. With none the root has exactly one book,
 -- which was made for the set and the state. With a job that has the root, its entries in the root's
 -- history are those of its log there.
-abbrev pub IsRight : State → List Parts → List BookValue → List JobValue → Path × Option ℕ → Type 0
-IsRight S Ps books jobs (r, None) = (B : BookValue) × (books_at books r ≡ B ∷ []) × OpensAs S Ps B
-IsRight S Ps books jobs (r, Some j) =
+abbrev pub Agrees : State → List Parts → List BookValue → List JobValue → Path × Option ℕ → Type 0
+Agrees S Ps books jobs (r, None) = (B : BookValue) × (books_at books r ≡ B ∷ []) × OpensAs S Ps B
+Agrees S Ps books jobs (r, Some j) =
     (P : Parts) → slice_get Ps j ≡ Some P → IsTrue (has_root P r)
     → entries_of j (history_at books r) ≡ entries_at P r (log_at jobs j)
 
 -- With none the root doesn't have exactly one book, or that wasn't made for the set and the state.
 -- With a job: it has the root, and the entries differ.
-abbrev pub IsWrong : State → List Parts → List BookValue → List JobValue → Path × Option ℕ → Type 0
-IsWrong S Ps books jobs (r, None) =
+abbrev pub Disagrees : State → List Parts → List BookValue → List JobValue → Path × Option ℕ → Type 0
+Disagrees S Ps books jobs (r, None) =
     (length (books_at books r) ≢ 1)
     ⊎ ((B : BookValue) × (books_at books r ≡ B ∷ []) × ¬ (OpensAs S Ps B))
-IsWrong S Ps books jobs (r, Some j) =
+Disagrees S Ps books jobs (r, Some j) =
     (P : Parts) × (slice_get Ps j ≡ Some P) × IsTrue (has_root P r)
     × (entries_of j (history_at books r) ≢ entries_at P r (log_at jobs j))
 
@@ -99,11 +99,11 @@ abbrev pub places : List Parts → List (Path × Option ℕ)
 places Ps = flat_map (places_at (length Ps)) (roots_of Ps)
 
 -- The place is the first of these that is wrong: those before it are right.
-abbrev pub IsFirstWrong : State → List Parts → List BookValue → List JobValue
+abbrev pub IsFirstMismatch : State → List Parts → List BookValue → List JobValue
     → List (Path × Option ℕ) → Path × Option ℕ → Type 0
-IsFirstWrong S Ps books jobs all at =
-    (front rest : List (Path × Option ℕ)) × (all ≡ front ++ at ∷ rest) × IsWrong S Ps books jobs at
-    × All (IsRight S Ps books jobs) front
+IsFirstMismatch S Ps books jobs all at =
+    (front rest : List (Path × Option ℕ)) × (all ≡ front ++ at ∷ rest) × Disagrees S Ps books jobs at
+    × All (Agrees S Ps books jobs) front
 
 -- The entries that a mismatch shows: of the job in the root's history, and of its log there.
 abbrev pub history_shown : List BookValue → Path → Option ℕ → List Entry
@@ -119,26 +119,26 @@ log_shown Ps jobs r None = []
 log_shown Ps jobs r (Some j) = log_of_job jobs r j (slice_get Ps j)
 
 -- Why books and jobs aren't settled. The first of these that applies: a replica is missing; a
--- number is odd; a place is wrong. Or there is no memory.
+-- number is inconsistent; a place is wrong. Or there is no memory.
 abbrev pub IsUnsettled : State → List Parts → List BookValue → List JobValue → RunFault → Type 0
 IsUnsettled S Ps books jobs fault.NoWorkers = ⊥
 IsUnsettled S Ps books jobs fault.TooManyWorkers = ⊥
 IsUnsettled S Ps books jobs (fault.MissingReplica r) = first_missing S Ps ≡ Some r
 IsUnsettled S Ps books jobs (fault.Mismatch r j history log) =
-    (first_missing S Ps ≡ None) × AreDue S Ps jobs × IsFirstWrong S Ps books jobs (places Ps) (r, j)
+    (first_missing S Ps ≡ None) × AreConsistent S Ps jobs × IsFirstMismatch S Ps books jobs (places Ps) (r, j)
     × (history ≡ history_shown books r j) × (log ≡ log_shown Ps jobs r j)
 IsUnsettled S Ps books jobs (fault.BadTurn t) = ⊥
 IsUnsettled S Ps books jobs fault.ThreadRefused = ⊥
 IsUnsettled S Ps books jobs (fault.Stranger j) =
-    (first_missing S Ps ≡ None) × IsLowestOdd S Ps jobs j
+    (first_missing S Ps ≡ None) × IsLowestInconsistent S Ps jobs j
 IsUnsettled S Ps books jobs fault.OutOfMemory = Unit {0}
 
--- Nothing is missing, no number is odd, and no place is wrong.
+-- Nothing is missing, no number is inconsistent, and no place is wrong.
 pub record AreCompared (S : State) (Ps : List Parts) (books : List BookValue)
     (jobs : List JobValue) : Type 0 where
   pub there : first_missing S Ps ≡ None
-  pub due : AreDue S Ps jobs
-  pub right : All (IsRight S Ps books jobs) (places Ps)
+  pub due : AreConsistent S Ps jobs
+  pub right : All (Agrees S Ps books jobs) (places Ps)
 
 -- How a job ends.
 abbrev pub end_value : JobValue → JobEnd

@@ -11,6 +11,7 @@ use Rattle.hub_job.specs.declared.run_fault.RunFault.TheVariants as fault
 use Rattle.hub_job.specs.Job.{next}
 use Rattle.hub_job.specs.JobValue.{JobValue}
 use Rattle.hub_schedule.specs.Refusals.{first_missing}
+use Rattle.hub_runner.specs.declared.runs.TheConstants.{WORKERS}
 
 abbrev pub asks_nothing : Next → Bool
 asks_nothing (Ask side op) = false
@@ -18,19 +19,15 @@ asks_nothing Finished = true
 asks_nothing Stopped = true
 
 -- The job is finished or stopped.
-abbrev pub is_over : JobValue → Bool
-is_over J = J.stopped || asks_nothing (next J.profile J.archive J.log)
+abbrev pub is_ended : JobValue → Bool
+is_ended J = J.stopped || asks_nothing (next J.profile J.archive J.log)
 
-abbrev pub AreOver : List JobValue → Type 0
-AreOver jobs = (k : ℕ) (J : JobValue) → slice_get jobs k ≡ Some J → is_over J ≡ true
+abbrev pub AreEnded : List JobValue → Type 0
+AreEnded jobs = (k : ℕ) (J : JobValue) → slice_get jobs k ≡ Some J → is_ended J ≡ true
 
 -- The job has asked for this operation, and has no answer yet.
 abbrev pub AsksFor : JobValue → Op → Type 0
 AsksFor J op = (a : Asked) × (J.asked ≡ Some a) × (a.op ≡ op)
-
--- The most workers.
-abbrev pub WORKERS : ℕ
-WORKERS = 16
 
 -- So many workers may run jobs.
 abbrev pub AreWorkers : ℕ → Type 0

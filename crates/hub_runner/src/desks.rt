@@ -1,7 +1,7 @@
 //! Desks of roots, and seats at them.
 ghost use Rattle.std.specs.Prelude.{◌<◌};
 
-use crate::lent::Lent;
+use crate::borrowed::Borrowed;
 use crate::worker::{DeskNumbers, QueuedJob};
 use hub_cert::ProfileSet;
 use hub_history::{Book, Desk, Seat};
@@ -26,7 +26,7 @@ pub(crate) fn open_desks<'a>(
     alloc: Global,
     set: &'a ProfileSet,
     state: &State,
-    roots: &[Lent<'_, Root>],
+    roots: &[Borrowed<'_, Root>],
     workers: usize,
 ) -> Result<(Desks<'a>, Vec<Vec<Seat>>), AllocError>
     requires { 0 < workers }
@@ -88,7 +88,7 @@ pub(crate) fn jobs_for<'a>(
     alloc: Global,
     profiles: &'a [Profile],
     state: &'a State,
-    roots: &[Lent<'_, Root>],
+    roots: &[Borrowed<'_, Root>],
 ) -> Result<Vec<QueuedJob<'a>>, AllocError> {
     let mut jobs = Vec::new(alloc);
     for (number, profile) in profiles.iter().enumerate() {
@@ -105,7 +105,7 @@ pub(crate) fn jobs_for<'a>(
 }
 
 /// Returns the numbers of the desks of a profile's two roots, if both are there.
-fn desks_of(profile: &Profile, roots: &[Lent<'_, Root>]) -> Option<DeskNumbers> {
+fn desks_of(profile: &Profile, roots: &[Borrowed<'_, Root>]) -> Option<DeskNumbers> {
     Some(DeskNumbers {
         left: desk_of(profile.root(Side::Left), roots)?,
         right: desk_of(profile.root(Side::Right), roots)?,
@@ -113,7 +113,7 @@ fn desks_of(profile: &Profile, roots: &[Lent<'_, Root>]) -> Option<DeskNumbers> 
 }
 
 /// Returns the number of a root's desk, if it is there.
-fn desk_of(root: &Root, roots: &[Lent<'_, Root>]) -> Option<usize> {
+fn desk_of(root: &Root, roots: &[Borrowed<'_, Root>]) -> Option<usize> {
     roots.iter().position(|other| other.item() == root)
 }
 

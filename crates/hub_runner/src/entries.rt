@@ -4,7 +4,7 @@ ghost use Rattle.std.specs.List.{range_with_len};
 ghost use Rattle.hub_profile.specs.Parts as of_profile;
 ghost use Rattle.hub_job.specs.History as spec;
 
-use crate::lent::Lent;
+use crate::borrowed::Borrowed;
 use hub_job::{Entry, Logged};
 use hub_path::{Root, Side};
 use hub_profile::Profile;
@@ -16,13 +16,13 @@ pub(crate) fn entries_of<'a>(
     alloc: Global,
     history: &'a [Entry],
     job: usize,
-) -> Result<Vec<Lent<'a, Entry>>, AllocError>
+) -> Result<Vec<Borrowed<'a, Entry>>, AllocError>
     ensures { IfOk result (λ v. v.items ≡ spec.entries_of job history.now) }
 {
     let mut entries = Vec::new(alloc);
     for entry in history {
         if entry.job == job {
-            entries.push(Lent::new(entry))?;
+            entries.push(Borrowed::new(entry))?;
         }
     }
     Ok(entries)
@@ -34,21 +34,21 @@ pub(crate) fn split_by_job<'a>(
     alloc: Global,
     history: &'a [Entry],
     n: usize,
-) -> Result<Vec<Items<Lent<'a, Entry>>>, AllocError>
+) -> Result<Vec<Items<Borrowed<'a, Entry>>>, AllocError>
     ensures { IfOk result (λ v. v.items
         ≡ map (λ j. spec.entries_of j history.now) (range_with_len 0 n)) }
 {
     let mut lists = empty_lists(alloc, n)?;
     for entry in history {
         if entry.job < n {
-            lists[entry.job].push(Lent::new(entry))?;
+            lists[entry.job].push(Borrowed::new(entry))?;
         }
     }
     Ok(lists)
 }
 
 /// Makes so many lists, each empty.
-fn empty_lists<'a>(alloc: Global, n: usize) -> Result<Vec<Items<Lent<'a, Entry>>>, AllocError>
+fn empty_lists<'a>(alloc: Global, n: usize) -> Result<Vec<Items<Borrowed<'a, Entry>>>, AllocError>
     ensures { IfOk result (λ v. v.items ≡ replicate n []) }
 {
     let mut lists = Vec::new(alloc);
@@ -64,13 +64,13 @@ pub(crate) fn entries_at<'a>(
     profile: &Profile,
     root: &Root,
     log: &'a [Logged],
-) -> Result<Vec<Lent<'a, Entry>>, AllocError>
+) -> Result<Vec<Borrowed<'a, Entry>>, AllocError>
     ensures { IfOk result (λ v. v.items ≡ spec.entries_at profile.now root.now log.now) }
 {
     let mut entries = Vec::new(alloc);
     for entry in log {
         if is_root_at(profile, root, entry.side) {
-            entries.push(Lent::new(&entry.step))?;
+            entries.push(Borrowed::new(&entry.step))?;
         }
     }
     Ok(entries)

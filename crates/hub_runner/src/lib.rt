@@ -10,17 +10,17 @@
 #![tactic(auto)]
 
 mod books;
+mod borrowed;
+mod by_number;
+mod comparison;
 mod desks;
 mod entries;
-mod lent;
+mod inconsistent;
 mod mismatch;
-mod odd;
-mod order;
 mod pool;
 mod runs;
 mod settling;
 mod worker;
-mod wrong;
 
 pub use runs::{WORKERS, run};
 pub use settling::settle;

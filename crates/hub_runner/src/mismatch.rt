@@ -1,12 +1,12 @@
-//! What the fault of a wrong place shows.
+//! What the fault of a mismatch shows.
 ghost use Rattle.std.specs.Prelude.{◌≡◌, Some, IfOk};
 ghost use Rattle.hub_job.specs.declared.run_fault.RunFault.TheVariants.{Mismatch};
 ghost use Rattle.hub_runner.specs.Settling as spec;
 
 use crate::books::history_at;
+use crate::borrowed::Borrowed;
+use crate::comparison::log_of;
 use crate::entries::{entries_at, entries_of};
-use crate::lent::Lent;
-use crate::wrong::log_of;
 use hub_history::Book;
 use hub_job::{Entry, Job, RunFault};
 use hub_path::Root;
@@ -14,7 +14,7 @@ use hub_profile::Profile;
 use hub_text::Items;
 use std::alloc::{AllocError, Global};
 
-/// Makes the fault of a wrong place: at a root, with a job or none. It copies the job's entries in the root's history and
+/// Makes the fault of a mismatch: at a root, with a job or none. It copies the job's entries in the root's history and
 /// those of its log there.
 pub(crate) fn mismatch(
     alloc: Global,
@@ -74,7 +74,7 @@ fn logged(
 }
 
 /// Copies borrowed entries.
-fn copies(alloc: Global, entries: &[Lent<'_, Entry>]) -> Result<Items<Entry>, AllocError>
+fn copies(alloc: Global, entries: &[Borrowed<'_, Entry>]) -> Result<Items<Entry>, AllocError>
     ensures { IfOk result (λ v. v ≡ entries.now) }
 {
     let mut all = Vec::new(alloc);

@@ -3,13 +3,13 @@ ghost use Rattle.std.specs.Prelude.{◌≡◌, ◌⊎◌, ◌<◌, true, map, If
 ghost use Rattle.hub_cert.specs.Set.{forbidden_by};
 ghost use Rattle.hub_schedule.specs.Simulated.{HaveEnded, IsPromised};
 ghost use Rattle.hub_job.specs.declared.run_fault.RunFault.TheVariants as fault;
-ghost use Rattle.hub_runner.specs.Working.{AreOver, IsNotRun, MayRun, is_over};
+ghost use Rattle.hub_runner.specs.Working.{AreEnded, IsNotRun, MayRun, is_ended};
 
+use crate::comparison::roots_of;
 use crate::desks::{close_desks, jobs_for, open_desks};
 use crate::pool::{PoolEnd, step_all};
 use crate::settling::settle;
 use crate::worker::Ended;
-use crate::wrong::roots_of;
 use hub_cert::{ProfileSet, Verified};
 use hub_history::{Book, Gate};
 use hub_job::{Job, Outcome, RunFault};
@@ -100,7 +100,7 @@ fn step_set<'a, G: Gate + Sync, R: Threads + Wait + Sync>(
     gate: &G,
 ) -> Result<Done<'a>, RunFault>
     requires { 0 < workers }
-    ensures over { IfOk result (λ d. AreOver d.jobs.items) }
+    ensures over { IfOk result (λ d. AreEnded d.jobs.items) }
     ensures refused { IfErr result (λ f. (f ≡ fault.ThreadRefused) ⊎ (f ≡ fault.OutOfMemory)) }
 {
     let roots = roots_of(alloc, set.profiles())?;
@@ -115,7 +115,7 @@ fn step_set<'a, G: Gate + Sync, R: Threads + Wait + Sync>(
 
 /// Returns the jobs that have ended.
 fn jobs_of<'a>(alloc: Global, ended: Vec<Ended<'a>>) -> Result<Vec<Job<'a>>, AllocError>
-    ensures { IfOk result (λ v. AreOver v.items) }
+    ensures { IfOk result (λ v. AreEnded v.items) }
 {
     let mut jobs = Vec::new(alloc);
     for one in ended {
@@ -126,7 +126,7 @@ fn jobs_of<'a>(alloc: Global, ended: Vec<Ended<'a>>) -> Result<Vec<Job<'a>>, All
 
 /// Returns a job that has ended.
 fn job_of<'a>(ended: Ended<'a>) -> Job<'a>
-    ensures { is_over result ≡ true }
+    ensures { is_ended result ≡ true }
 {
     let Ended { job } = ended;
     job

@@ -6,10 +6,10 @@ ghost use Rattle.hub_schedule.specs.Promise.{IsAsPromised, Settles};
 ghost use Rattle.hub_schedule.specs.Settled.{AreProfiles};
 ghost use Rattle.hub_runner.specs.Settling.{AreCompared, EndAsTheyAre, IsUnsettled, history_at};
 
+use crate::by_number::{in_order, trees_of};
+use crate::comparison::find_mismatch;
+use crate::inconsistent::find_inconsistent;
 use crate::mismatch::mismatch;
-use crate::odd::find_odd;
-use crate::order::{in_order, trees_of};
-use crate::wrong::find_wrong;
 use hub_cert::{ProfileSet, Verified};
 use hub_history::Book;
 use hub_job::{Job, Outcome, RunFault};
@@ -97,10 +97,10 @@ fn compare(
     if let Some(root) = find_missing(profiles, state) {
         return Err(RunFault::MissingReplica { root: root.copy()? });
     }
-    if let Some(job) = find_odd(jobs, profiles, state) {
+    if let Some(job) = find_inconsistent(jobs, profiles, state) {
         return Err(RunFault::Stranger { job });
     }
-    if let Some((root, job)) = find_wrong(alloc, set, state, books, jobs)? {
+    if let Some((root, job)) = find_mismatch(alloc, set, state, books, jobs)? {
         return Err(mismatch(alloc, profiles, books, jobs, root, job)?);
     }
     Ok(())

@@ -1,6 +1,6 @@
 //! Workers, which step the jobs at the desks.
 ghost use Rattle.std.specs.Prelude.{◌≡◌, true};
-ghost use Rattle.hub_runner.specs.Working.{AsksFor, is_over};
+ghost use Rattle.hub_runner.specs.Working.{AsksFor, is_ended};
 
 use crate::desks::Desks;
 use crossbeam_channel::{Receiver, Sender};
@@ -35,7 +35,7 @@ pub(crate) struct QueuedJob<'a> {
 pub(crate) struct Ended<'a> {
     /// The job.
     pub(crate) job: Job<'a>,
-    ghost over: { is_over job ≡ true },
+    ghost over: { is_ended job ≡ true },
 }
 
 /// What a worker is sent.
@@ -207,7 +207,7 @@ fn step_at<G: Gate, R: Wait>(
 
 /// Returns a job that has ended.
 fn as_ended<'a>(job: Job<'a>) -> Ended<'a>
-    requires { is_over job ≡ true }
+    requires { is_ended job ≡ true }
 {
     Ended { job }
 }

@@ -1,5 +1,0 @@
-use Rattle.hub_runner.proofs.Least.{LeastUpTo}
-use Rattle.hub_runner.proofs.odd.find_least.Given as goal
-
-abbrev pub invariant-loop-job : goal.invariant-loop-job
-invariant-loop-job l = LeastUpTo l.jobs l.job-index l.from l.least

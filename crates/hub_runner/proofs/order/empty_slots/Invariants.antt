@@ -1,6 +1,0 @@
-use Rattle.std.proofs.Common.{◌≡◌}
-use Rattle.hub_runner.specs.Slots.{empty}
-use Rattle.hub_runner.proofs.order.empty_slots.Given as goal
-
-abbrev pub invariant-loop : goal.invariant-loop
-invariant-loop l = l.slots.items ≡ empty l.counter

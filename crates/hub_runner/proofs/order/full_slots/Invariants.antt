@@ -1,6 +1,0 @@
-use Rattle.std.proofs.Common.{◌≡◌}
-use Rattle.hub_runner.specs.Slots.{filled}
-use Rattle.hub_runner.proofs.order.full_slots.Given as goal
-
-abbrev pub invariant-loop-slot : goal.invariant-loop-slot
-invariant-loop-slot l = l.yielded ≡ filled l.jobs.items

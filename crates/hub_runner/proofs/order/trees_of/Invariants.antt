@@ -1,5 +1,0 @@
-use Rattle.hub_runner.specs.Ordered.{AreTreesOf}
-use Rattle.hub_runner.proofs.order.trees_of.Given as goal
-
-abbrev pub invariant-loop-book : goal.invariant-loop-book
-invariant-loop-book l = AreTreesOf l.profiles l.yielded l.trees.items

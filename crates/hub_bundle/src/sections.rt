@@ -14,6 +14,7 @@ use hub_profile::{Fault, Profile, ProfileFault, Rules, read_profile, read_rules}
 use hub_state::{State, StateFault, read_bytes};
 use hub_text::Items;
 use std::alloc::{AllocError, AllocFailed, Global};
+use thiserror::Error;
 
 /// What the sections of a bundle say.
 #[derive(Drop)]
@@ -28,10 +29,11 @@ pub struct Contents {
     pub certificates: Items<Certificate>,
 }
 
-/// The fault of a section. The line after the section's heading is line 1.
-#[derive(Debug, Drop)]
+/// The fault of a section. The line after the section's heading is line 1. It is shown as the variant's name.
+#[derive(Debug, Drop, Error)]
 pub enum SectionFault {
     /// A fault of a profile.
+    #[error("OfProfile")]
     OfProfile {
         /// The profile's name, from the heading.
         profile: Name,
@@ -39,22 +41,27 @@ pub enum SectionFault {
         fault: ProfileFault,
     },
     /// A fault of the rules.
+    #[error("OfRules")]
     OfRules(ProfileFault),
     /// A fault of the state.
+    #[error("OfState")]
     OfState(StateFault),
     /// A faulty line of the certificates.
+    #[error("OfCertificates")]
     OfCertificates {
         /// The number of the line.
         line: usize,
     },
 }
 
-/// Why a bundle's sections are not read.
-#[derive(Debug, Drop)]
+/// Why a bundle's sections are not read. It is shown as the variant's name.
+#[derive(Debug, Drop, Error)]
 pub enum ReadError {
     /// A section is faulty.
+    #[error("Faulty")]
     Faulty(SectionFault),
     /// Out of memory.
+    #[error("OutOfMemory")]
     OutOfMemory,
 }
 

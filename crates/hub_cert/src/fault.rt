@@ -5,19 +5,23 @@ use crate::goal::{Goal, Place};
 use hub_automaton::AutomatonFault;
 use hub_path::{Name, RelPath, Root};
 use std::alloc::{AllocError, AllocFailed};
+use thiserror::Error;
 
 /// Why a set isn't made, isn't safe, or isn't shown to be safe by some certificates. Stages and certificates are numbered from
-/// 0 on, lines from 1 on.
-#[derive(Debug, Drop)]
+/// 0 on, lines from 1 on. It is shown as the fault's name, as in `NestedRoots`.
+#[derive(Debug, Drop, Error)]
 pub enum CheckFault {
     /// More than `PROFILES` profiles.
+    #[error("TooManyProfiles")]
     TooManyProfiles,
     /// Two profiles have this name.
+    #[error("SameName")]
     SameName {
         /// The first name that an earlier profile has.
         name: Name,
     },
     /// One of these different roots lies within the other.
+    #[error("NestedRoots")]
     NestedRoots {
         /// The earlier root.
         first: Root,
@@ -25,6 +29,7 @@ pub enum CheckFault {
         second: Root,
     },
     /// The writer writes `held`, and the other profile reaches `path`, which is `held` or lies below it.
+    #[error("Overlap")]
     Overlap {
         /// The number of the profile that writes.
         writer: usize,
@@ -38,6 +43,7 @@ pub enum CheckFault {
         path: RelPath,
     },
     /// The profile may do at the path what the rule forbids.
+    #[error("Breach")]
     Breach {
         /// The profile's number.
         profile: usize,
@@ -47,21 +53,25 @@ pub enum CheckFault {
         path: RelPath,
     },
     /// The goal has too many stages to be searched.
+    #[error("TooLarge")]
     TooLarge {
         /// The goal.
         goal: Goal,
     },
     /// The goal has no certificate.
+    #[error("Missing")]
     Missing {
         /// The goal.
         goal: Goal,
     },
     /// No text of the goal's certificate has the stage of the empty text.
+    #[error("NoStart")]
     NoStart {
         /// The goal.
         goal: Goal,
     },
     /// The stage of that number goes by that class to one that the goal's certificate doesn't have.
+    #[error("NotClosed")]
     NotClosed {
         /// The goal.
         goal: Goal,
@@ -71,6 +81,7 @@ pub enum CheckFault {
         class: usize,
     },
     /// The text of that number in the goal's certificate accepts the goal.
+    #[error("Accepting")]
     Accepting {
         /// The goal.
         goal: Goal,
@@ -78,18 +89,22 @@ pub enum CheckFault {
         stage: usize,
     },
     /// The certificate's goal isn't one of the set, or an earlier certificate has it.
+    #[error("Stray")]
     Stray {
         /// The certificate's number.
         certificate: usize,
     },
     /// That line of a text of certificates is faulty.
+    #[error("BadText")]
     BadText {
         /// The line's number.
         line: usize,
     },
     /// Too many characters are mentioned, or a profile or a rule has too many spots.
+    #[error("{0}")]
     AlphabetFault(AutomatonFault),
     /// An allocation failed.
+    #[error("OutOfMemory")]
     OutOfMemory,
 }
 

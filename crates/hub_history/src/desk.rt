@@ -12,13 +12,16 @@ use hub_text::Items;
 use std::alloc::{AllocFailed, Global};
 use std::marker::Model;
 use std::sync::{Mutex, Wait};
+use thiserror::Error;
 
-/// Why a step isn't made.
-#[derive(Clone, Copy, Debug, PartialEq, Eq)]
+/// Why a step isn't made. It is shown as the fault's name, as in `Foreign`.
+#[derive(Clone, Copy, Debug, PartialEq, Eq, Error)]
 pub enum StepFault {
     /// The job doesn't have the book's root.
+    #[error("Foreign")]
     Foreign,
     /// Out of memory.
+    #[error("OutOfMemory")]
     OutOfMemory,
 }
 

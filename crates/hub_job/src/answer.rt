@@ -6,19 +6,26 @@ use hub_path::Name;
 use hub_text::Items;
 use hub_tree::{Blob, Mark};
 use std::alloc::{AllocError, Global};
+use thiserror::Error;
 
-/// Why an operation is refused: the first of these that applies. A `Fetch` knows `NoFile` alone, and a `Set` the others.
-#[derive(Clone, Copy, Debug, PartialEq, Eq)]
+/// Why an operation is refused: the first of these that applies. A `Fetch` knows `NoFile` alone, and a `Set` the others. It is
+/// shown as the fault's name, as in `NoParent`.
+#[derive(Clone, Copy, Debug, PartialEq, Eq, Error)]
 pub enum OpFault {
     /// The path is the whole replica.
+    #[error("RootPath")]
     RootPath,
     /// The parent of the path is not a directory.
+    #[error("NoParent")]
     NoParent,
     /// A directory that holds something would be removed or become a file.
+    #[error("NotEmpty")]
     NotEmpty,
     /// There is nothing to remove.
+    #[error("NothingThere")]
     NothingThere,
     /// There is no file.
+    #[error("NoFile")]
     NoFile,
 }
 

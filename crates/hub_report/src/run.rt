@@ -10,6 +10,7 @@ use hub_path::Root;
 use hub_state::{State, write_state};
 use hub_text::Watched;
 use std::alloc::{AllocError, Global};
+use thiserror::Error;
 
 /// What the jobs of a safe set did, and what they left.
 #[derive(Drop)]
@@ -22,20 +23,26 @@ pub struct Run {
     pub finished: bool,
 }
 
-/// Why the jobs of a safe set weren't run, but for lack of memory.
-#[derive(Drop)]
+/// Why the jobs of a safe set weren't run, but for lack of memory. It is shown as the fault's name, as in `NoWorkers`.
+#[derive(Debug, Drop, Error)]
 pub enum RunError {
     /// There are no workers.
+    #[error("NoWorkers")]
     NoWorkers,
     /// There are more workers than hub_runner's `WORKERS`.
+    #[error("TooManyWorkers")]
     TooManyWorkers,
     /// The state has no replica of this root.
+    #[error("MissingReplica")]
     MissingReplica(Root),
     /// A thread can't be started.
+    #[error("ThreadRefused")]
     ThreadRefused,
     /// A job was there twice, missing or foreign. Tests show none.
+    #[error("Stranger")]
     Stranger,
     /// A root's history and the logs of the jobs didn't fit. Tests show none.
+    #[error("Mismatch")]
     Mismatch,
 }
 

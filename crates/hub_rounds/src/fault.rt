@@ -1,15 +1,18 @@
 //! Why a set isn't cut into rounds.
 use std::alloc::{AllocError, AllocFailed};
+use thiserror::Error;
 
-/// Why a set isn't cut into rounds.
-#[derive(Clone, Copy, Debug, PartialEq, Eq)]
+/// Why a set isn't cut into rounds. It is shown as the fault's name, as in `NotVerified`.
+#[derive(Clone, Copy, Debug, PartialEq, Eq, Error)]
 pub enum RoundsFault {
     /// The check didn't verify a round, which is counted from 0 on. Tests show none.
+    #[error("NotVerified")]
     NotVerified {
         /// The round's number.
         round: usize,
     },
     /// An allocation failed.
+    #[error("OutOfMemory")]
     OutOfMemory,
 }
 

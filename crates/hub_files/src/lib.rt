@@ -1,0 +1,23 @@
+//! The bundle that is made of files.
+//!
+//! - [`Part`]: a file of a section, and the bytes that it has.
+//! - [`bundle_of`] puts parts together: the heading of each section, and below it the lines of its file.
+//! - [`part_fault`] says why a file can't be a section ([`PartFault`]).
+//!
+//! ```text
+//! let docs = Part { kind: Kind::Profile, file: "unison/docs.prf", bytes: b"root = /a\nroot = /b" };
+//! let bundle = bundle_of(alloc, &[docs])?;
+//! // %profile docs
+//! // root = /a
+//! // root = /b
+//! ```
+//!
+//! The contracts use the words of `specs/Files`. Only functions that return a `Result` allocate.
+#![tactic(auto)]
+
+mod bundle;
+mod name;
+mod part;
+
+pub use bundle::{BundleFault, bundle_of};
+pub use part::{Kind, Part, PartFault, part_fault};

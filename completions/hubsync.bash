@@ -14,13 +14,16 @@ _hubsync() {
             break
         fi
     done
+    # so do they after an option that takes one
+    case $before in --rules | --state | --certificates) return 0 ;; esac
     case $command/$word in
         /-*) candidates='-h --help -V --version' ;;
         /*) candidates=$commands ;;
         help/-*) ;;
         help/*) candidates=$commands ;;
-        run/-*) candidates='--workers -h --help' ;;
-        */-*) candidates='-h --help' ;;
+        reach/-*) candidates='-h --help' ;;
+        run/-*) candidates='--rules --state --certificates --workers -h --help' ;;
+        */-*) candidates='--rules --state --certificates -h --help' ;;
         run/*) [[ $before != --workers ]] || candidates='1 2 3 4 5 6 7 8 9 10 11 12 13 14 15 16' ;;
     esac
     mapfile -t COMPREPLY < <(compgen -W "$candidates" -- "$word")

@@ -14,5 +14,9 @@ complete -c hubsync -n __fish_use_subcommand -s h -l help -d 'Show help'
 complete -c hubsync -n __fish_use_subcommand -s V -l version -d 'Show the version'
 
 complete -c hubsync -n '__fish_seen_subcommand_from check certify verify clashes rounds reach run' -s h -l help -d 'Show help'
+complete -c hubsync -n '__fish_seen_subcommand_from check certify verify clashes rounds run' -F
+complete -c hubsync -n '__fish_seen_subcommand_from check certify verify clashes rounds run' -l rules -r -F -d 'The file of the rules'
+complete -c hubsync -n '__fish_seen_subcommand_from check certify verify clashes rounds run' -l state -r -F -d 'The file of the state'
+complete -c hubsync -n '__fish_seen_subcommand_from check certify verify clashes rounds run' -l certificates -r -F -d 'The file of the certificates'
 complete -c hubsync -n '__fish_seen_subcommand_from run' -l workers -x -a '(seq 1 16)' -d 'How many workers run the jobs'
 complete -c hubsync -n '__fish_seen_subcommand_from help' -a 'check certify verify clashes rounds reach run help'

@@ -216,6 +216,49 @@ ask_certificates() {
     ask 'its own certificates' 0 '' hubsync verify
 }
 
+# Files: each operand is a profile, and options name the rules, the state and the certificates.
+ask_files() {
+    local at=$room/files roots=$'root = /srv/hub\nroot = /srv/s1'
+    mkdir -p "$at/folder.prf" "$at/sub"
+    : >"$room/input"
+    printf '%s\npath = a' "$roots" >"$at/one.prf"
+    printf '%s\r\npath = a/b\r\n' "$roots" >"$at/sub/two.prf"
+    printf '%s\npath = c\n' "$roots" >"$at/three.prf"
+    printf '%s\n' 'root = /srv/hub' 'nolose = BelowPath c/d' >"$at/rules"
+    printf '%s\n' 'hubsync state 1' end >"$at/state"
+    printf '%s\n' "$roots" '%rules' >"$at/bundle.prf"
+    echo 'overlap: one writes a at /srv/hub, two reaches a/b' >"$room/wanted"
+    ask 'two files' 1 '' hubsync check "$at/one.prf" "$at/sub/two.prf"
+    ask 'two files for all that clashes' 1 '' hubsync clashes "$at/one.prf" "$at/sub/two.prf"
+    ask 'two files for certificates' 1 '' hubsync certify "$at/one.prf" "$at/sub/two.prf"
+    echo safe >"$room/wanted"
+    ask 'the files of two profiles that are safe' 0 '' hubsync check -- "$at/one.prf" "$at/three.prf"
+    ask 'rules alone' 0 '' hubsync check --rules="$at/rules"
+    printf '%s\n' 'rounds 1' 'at least 1' 'round 1 three' >"$room/wanted"
+    ask 'a file for rounds' 0 '' hubsync rounds "$at/three.prf"
+    echo 'breach: three may delete c/d at /srv/hub, rule 0' >"$room/wanted"
+    ask 'the file of rules' 1 '' hubsync check "$at/three.prf" --rules "$at/rules"
+    "$program" certify "$at/one.prf" "$at/three.prf" >"$at/certificates" 2>"$room/errors" || true
+    echo verified >"$room/wanted"
+    ask 'the file of certificates' 0 '' hubsync verify "$at/one.prf" "$at/three.prf" --certificates "$at/certificates"
+    printf '%s\n' safe 'run fault: MissingReplica /srv/hub' >"$room/wanted"
+    ask 'the file of a state' 3 '' hubsync run --workers 1 --state "$at/state" "$at/one.prf"
+    echo 'fault: profile one line 4: NoEquals' >"$room/wanted"
+    printf '\nx\n' >>"$at/one.prf"
+    ask 'a faulty file' 2 '' hubsync check "$at/one.prf"
+    echo 'refused: SameName three' >"$room/wanted"
+    ask 'a file twice' 1 '' hubsync check "$at/three.prf" "$at/three.prf"
+    echo "fault: $at/four.prf: ReadFailed" >"$room/wanted"
+    ask 'a file that is missing' 2 '' hubsync check "$at/three.prf" "$at/four.prf" "$at/bundle.prf"
+    echo "fault: $at/folder.prf: ReadFailed" >"$room/wanted"
+    ask 'a folder' 2 '' hubsync check "$at/folder.prf"
+    echo "fault: $at/bundle.prf: HasHeading" >"$room/wanted"
+    ask 'a bundle as a file' 2 '' hubsync check "$at/three.prf" "$at/bundle.prf"
+    cp "$at/three.prf" "$at/"$'a\n%rules\n.prf'
+    printf 'fault: %s: BadName\n' "$at/"$'a\n%rules\n.prf' >"$room/wanted"
+    ask 'a line end in the name of a file' 2 '' hubsync check "$at/"$'a\n%rules\n.prf'
+}
+
 # A bundle with a state alone, in the form in which it is written. Its 12,293 bytes are three reads of 4,096 bytes,
 # and five bytes more.
 long_state() {
@@ -300,6 +343,7 @@ done
 ask_many
 ask_large
 ask_certificates
+ask_files
 ask_long
 ask_failing_inputs
 ask_failing_outputs

@@ -141,6 +141,41 @@ ask_many() {
     ask '129 profiles' 1 hubsync
 }
 
+# Of files, remarks name the file and the line there.
+ask_files() {
+    local at=$room/files
+    mkdir -p "$at/sub"
+    : >"$room/input"
+    printf '%s\n' 'root = /srv/hub' 'root = /srv/s1' 'path = docs' >"$at/whole.prf"
+    printf '%s\n' '# a part' 'root = /srv/hub' 'root = /srv/s2' 'path = docs/2026' >"$at/part.prf"
+    printf '%s\n' 'root = /srv/hub' 'ignroe = Name x' >"$at/sub/part.prf"
+    printf '%s\n' 'root = /srv/hub' 'nolose = BelowPath docs' >"$at/rules"
+    printf '%s\n' 'overlap: whole writes docs at /srv/hub, part reaches docs/2026' \
+        "hubsync: whole, line 3 ($at/whole.prf line 3): path = docs" \
+        "hubsync: part, line 4 ($at/part.prf line 4): path = docs/2026" \
+        'hubsync: run one after the other, or give one other paths, an ignore or a bar' >"$room/wanted"
+    ask 'files that overlap' 1 hubsync check "$at/whole.prf" "$at/part.prf"
+    printf '%s\n' 'breach: whole may delete docs at /srv/hub, rule 0' \
+        "hubsync: %rules, line 2 ($at/rules line 2): nolose = BelowPath docs" \
+        "hubsync: whole, line 3 ($at/whole.prf line 3): path = docs" \
+        'hubsync: a line nodeletion = /srv/hub in the profile would keep the rule' >"$room/wanted"
+    ask 'the file of rules' 1 hubsync check --rules "$at/rules" "$at/whole.prf"
+    printf '%s\n' 'fault: profile part line 2: UnknownPreference ignroe' "hubsync: $at/sub/part.prf line 2: ignroe = Name x" \
+        'hubsync: did you mean ignore?' >"$room/wanted"
+    ask 'a fault in a file' 2 hubsync check "$at/whole.prf" "$at/sub/part.prf"
+    sed -i 's/ignroe = Name x/root = \/srv\/s3/' "$at/sub/part.prf"
+    printf '%s\n' 'refused: SameName part' \
+        "hubsync: give each profile a name of its own: $at/part.prf $at/sub/part.prf" >"$room/wanted"
+    ask 'files of one name' 1 hubsync check "$at/part.prf" "$at/sub/part.prf"
+    printf '%s\n' "fault: $at/none.prf: ReadFailed" \
+        "hubsync: $at/none.prf can't be read: No such file or directory (os error 2)" >"$room/wanted"
+    ask 'a file that is missing' 2 hubsync check "$at/none.prf"
+    printf '%s\n' "fault: $at/bundle.prf: HasHeading" \
+        "hubsync: $at/bundle.prf line 2 begins with %, as only a line of a bundle does" >"$room/wanted"
+    printf '%s\n' '# a bundle' '%profile a' >"$at/bundle.prf"
+    ask 'a bundle as a file' 2 hubsync check "$at/bundle.prf"
+}
+
 # An input that fails is said with the system's words.
 ask_failing_input() {
     local status=0
@@ -159,6 +194,7 @@ trap 'rm -rf "$room"' EXIT
 ask_table "$folder/remarks.txt"
 [ "$asked" -gt 0 ] || complain 'the table has no cases'
 ask_many
+ask_files
 ask_long
 ask_failing_input
 echo "remarks: ${1:-hubsync} was asked $asked, and said $wrong of them wrongly"

@@ -28,19 +28,31 @@ pub(crate) fn say_words(out: &mut String, words: &[String]) -> Said {
     match first.as_str() {
         "version" => say(out, "hubsync --version shows the version"),
         "reach" => Ok(()),
-        word if COMMANDS.contains(&word) => say_file(out, words.get(2)),
-        _ => say_file(out, Some(first)),
+        word if COMMANDS.contains(&word) => say_stray(out, words),
+        word => say_file(out, word),
     }
 }
 
-/// Says how a bundle is given, if there is a word and it is not an option.
-fn say_file(out: &mut String, word: Option<&String>) -> Said {
-    let Some(word) = word else {
-        return Ok(());
-    };
-    let word = word.as_str();
+/// Says how a bundle is given, if a word after the command is not an option and not the file of a profile.
+fn say_stray(out: &mut String, words: &[String]) -> Said {
+    for word in words.iter().skip(2) {
+        if !word.as_str().ends_with(".prf") {
+            return say_file(out, word.as_str());
+        }
+    }
+    Ok(())
+}
+
+/// Says how a file is given, if a word is not an option.
+fn say_file(out: &mut String, word: &str) -> Said {
     if word.starts_with('-') || COMMANDS.contains(&word) {
         return Ok(());
+    }
+    if word.ends_with(".prf") {
+        return writeln!(
+            out,
+            "hubsync: a command stands before the files, as in: hubsync check {word}"
+        );
     }
     writeln!(
         out,

@@ -6,20 +6,21 @@ use Rattle.std.specs.Str.{bytes_eq}
 use Rattle.std.specs.Str.Parse.{IsNumeral, ParsesUnsigned, digits_value, without_leading_plus}
 use Rattle.clap.proofs.OnLiterals.{clap_on_literals}
 use Rattle.clap.proofs.ValueTestLemmas.{Accepts-accepts, accepts-Accepts}
-use Rattle.clap.proofs.WalkLemmas.{first_value-rows, one_text-rows}
+use Rattle.clap.proofs.WalkLemmas.{first_value-rows, one_text-rows, raw_values-rows}
 use Rattle.clap.specs.Kinds.{HasKind, Kinds}
 use Rattle.clap.specs.Matches.{ReadsOne}
 use Rattle.clap.specs.Simple.{subcommand_rows}
 use Rattle.clap.specs.ValueTests.{accepts}
-use Rattle.clap.specs.Words.{App, HasMatchesOf, Row, Text, fault_of, first_of, first_value, found_of, is_simple, is_simple_and_free, kind_of, one_of, one_text, rows_of, subcommand_name_of, subcommand_of, subcommand_rows_of}
+use Rattle.clap.specs.Words.{App, HasMatchesOf, Row, Text, all_of, fault_of, first_of, first_value, found_of, is_simple, is_simple_and_free, kind_of, matched_of, one_of, one_text, raw_values, rows_of, subcommand_name_of, subcommand_of, subcommand_rows_of}
 use Rattle.clap.specs.declared.builder.value_parser.ValueParser.TheVariants.{Unsigned}
 use Rattle.clap.specs.declared.error.Error.{Error}
 use Rattle.clap.specs.declared.error.kind.ErrorKind.TheVariants.{OutOfMemory}
+use Rattle.clap.specs.declared.parser.matches.Found.{Found}
 use Rattle.clap.specs.declared.parser.matches.ArgMatches.{ArgMatches}
 use Rattle.clap.specs.declared.parser.matches.ArgMatches.TheViews.{out-ArgMatches, out-SubCommand}
 use Rattle.clap.specs.declared.parser.matches.SubCommand.{SubCommand}
 use Rattle.hub_words.specs.declared.words.Question.TheVariants.{Run}
-use Rattle.hub_words.specs.Words.{Request, about, about_named, asked_of, byte_of, hubsync_app, operands_of, request_in, run_by, unless_fault}
+use Rattle.hub_words.specs.Words.{Request, about, about_files, asked_of, byte_of, files_of, hubsync_app, names_found, names_in, operands_of, request_in, run_by, unless_fault, Names}
 
 simple : is_simple hubsync_app ≡ true
 unfolding clap_on_literals hubsync_app
@@ -29,15 +30,25 @@ simple_and_free : is_simple_and_free hubsync_app ≡ true
 unfolding clap_on_literals hubsync_app
 simple_and_free = refl
 
--- where a parse gives matches, they say what is asked for
-pub asked_is : (a : App) (words : List Text) (m : ArgMatches) (request : Option Request) → a ≡ hubsync_app
+-- the matches have the command that was used, and its rows
+used_is : (a : App) (words : List Text) (m : ArgMatches) → a ≡ hubsync_app → HasMatchesOf a words m
+    → subcommand_rows_of m ≡ subcommand_of hubsync_app words
+used_is a words m is matches = (matches (ap is_simple is ∙ simple)).1 ∙ ap (λ (b : App). subcommand_of b words) is
+
+-- where a parse gives matches, they say what is asked for,
+pub asked_is : (a : App) (words : List Text) (m : ArgMatches) → a ≡ hubsync_app
     → (is_simple_and_free a ≡ true → fault_of a words ≡ []) → HasMatchesOf a words m
-    → request ≡ request_in (subcommand_rows_of m) → asked_of words ≡ request
+    → asked_of words ≡ request_in (subcommand_rows_of m)
 unfolding asked_of
-asked_is a words m request is faultless matches e =
+asked_is a words m is faultless matches =
     let none : fault_of hubsync_app words ≡ [] = subst (λ (b : App). fault_of b words ≡ []) is (faultless (ap is_simple_and_free is ∙ simple_and_free)) in
-    let used : subcommand_rows_of m ≡ subcommand_of hubsync_app words = (matches (ap is_simple is ∙ simple)).1 ∙ ap (λ (b : App). subcommand_of b words) is in
-    ap₂ unless_fault none (sym (ap request_in used)) ∙ sym e
+    ap₂ unless_fault none (sym (ap request_in (used_is a words m is matches)))
+
+-- and which files the words name
+pub files_are : (a : App) (words : List Text) (m : ArgMatches) → a ≡ hubsync_app → HasMatchesOf a words m
+    → files_of words ≡ names_in (subcommand_rows_of m)
+unfolding files_of
+files_are a words m is matches = sym (ap names_in (used_is a words m is matches))
 
 -- where it gives none, memory ran out, or nothing is asked for
 pub refused : (a : App) (words : List Text) (e : Error) → a ≡ hubsync_app
@@ -70,7 +81,7 @@ module _ {Z : Type 0} where
 
 -- what a command asks for, where this says whether it is `reach`
 abbrev by_name : Text → List Row → Bool → Option Request
-by_name name rows b = cond b (operands_of (first_of (codes "profile") rows) (first_of (codes "path") rows)) (about_named name (one_of (codes "workers") rows))
+by_name name rows b = cond b (operands_of (first_of (codes "profile") rows) (first_of (codes "path") rows)) (about_files (all_of (codes "files") rows) name (one_of (codes "workers") rows))
 
 -- the operands of `reach`, by the getters of the subcommand's matches
 pub reach_in : (m : ArgMatches) (name : Text) (o : ArgMatches) → Some name ≡ subcommand_name_of m
@@ -81,14 +92,38 @@ reach_in m name o e h is =
     ∙ ap (λ (b : Bool). by_name name (rows_of (found_of o)) b) is
     ∙ ap₂ operands_of (sym (first_value-rows (found_of o) (codes "profile"))) (sym (first_value-rows (found_of o) (codes "path")))
 
--- what a command without operands asks for
+-- what a command about the set asks for
 pub about_in : (m : ArgMatches) (name : Text) (o : ArgMatches) → Some name ≡ subcommand_name_of m
     → Some (rows_of (found_of o)) ≡ option_map (λ p. p.1) (subcommand_rows_of m) → bytes_eq name (codes "reach") ≡ false
-    → request_in (subcommand_rows_of m) ≡ about_named name (one_text (found_of o) (codes "workers"))
+    → request_in (subcommand_rows_of m)
+    ≡ about_files (option_map raw_values (matched_of (found_of o) (codes "files"))) name (one_text (found_of o) (codes "workers"))
 about_in m name o e h is =
     ap request_in (parts (out-ArgMatches m).subcommand name (rows_of (found_of o)) e h)
     ∙ ap (λ (b : Bool). by_name name (rows_of (found_of o)) b) is
-    ∙ ap (about_named name) (sym (one_text-rows (found_of o) (codes "workers")))
+    ∙ ap₂ (λ fs w. about_files fs name w) (sym (raw_values-rows (found_of o) (codes "files"))) (sym (one_text-rows (found_of o) (codes "workers")))
+
+-- the files that a command names, by the rows of the subcommand's matches
+pub names_by : (m : ArgMatches) (rows : List Row) → Some rows ≡ option_map (λ p. p.1) (subcommand_rows_of m)
+    → names_in (subcommand_rows_of m) ≡ names_found rows
+names_by m rows h = go (subcommand_rows_of m) h
+  where
+    go : (used : Option (Text × List Row)) → Some rows ≡ option_map (λ p. p.1) used → names_in used ≡ names_found rows
+    go None h = absurd (true≢false (ap (λ (o : Option (List Row)). is_some o) h))
+    go (Some p) h = ap names_found (ap (λ (o : Option (List Row)). unwrap_or o rows) (sym h))
+
+-- the files that a command names, by the getters of the subcommand's matches
+abbrev with_names : List Text → Option Text → Option Text → Option Text → Names
+with_names ps r s c = record { profiles = ps; rules = r; state = s; certificates = c }
+
+pub names_are : {ps : List Text} {r s c : Option Text} (f : Found)
+    → ps ≡ unwrap_or (option_map raw_values (matched_of f (codes "files"))) [] → r ≡ first_value f (codes "rules")
+    → s ≡ first_value f (codes "state") → c ≡ first_value f (codes "certificates")
+    → with_names ps r s c ≡ names_found (rows_of f)
+names_are {s = s} {c = c} f hp hr hs hc =
+    let rows = rows_of f in
+    ap₂ (λ p q. with_names p q s c) (hp ∙ ap (λ o. unwrap_or o []) (raw_values-rows f (codes "files"))) (hr ∙ first_value-rows f (codes "rules"))
+    ∙ ap₂ (with_names (unwrap_or (all_of (codes "files") rows) []) (first_of (codes "rules") rows)) (hs ∙ first_value-rows f (codes "state"))
+    (hc ∙ first_value-rows f (codes "certificates"))
 
 -- the text is read as a byte
 abbrev IsByte : Text → Type 0

@@ -1,12 +1,15 @@
 -- What the words on the command line ask for.
-use Rattle.std.specs.Prelude.{ℕ, List, [], ◌∷◌, Option, Some, None, option_map, pos, codes, if◌then◌else◌, true}
+use Rattle.std.specs.Prelude.{ℕ, Bool, List, [], ◌∷◌, Option, Some, None, map, option_map, unwrap_or, is_some, length, not, pos, codes, if◌then◌else◌, nat_eq, ◌==◌, ◌&&◌, true}
+use Rattle.std.specs.List.{ends_with, list_all}
 use Rattle.std.specs.Str.{bytes_eq}
 use Rattle.std.specs.Str.Parse.{digits_value, without_leading_plus}
 use Rattle.clap.specs.Kinds.{Kinds}
 use Rattle.clap.specs.Simple.{on_top}
 use Rattle.clap.specs.ValueTests.{is_unsigned_in}
-use Rattle.clap.specs.Words.{App, Row, Rule, Text, fault_of, first_of, new_app, new_rule, one_of, subcommand_of, with_rule, with_subcommand}
+use Rattle.clap.specs.Words.{App, Row, Rule, Text, all_of, fault_of, first_of, new_app, new_rule, one_of, subcommand_of, with_rule, with_subcommand}
+use Rattle.clap.specs.declared.builder.action.ArgAction.TheVariants.{Append}
 use Rattle.clap.specs.declared.builder.value_parser.ValueParser.TheVariants.{Signed}
+use Rattle.hub_words.specs.declared.files.Files.{Files}
 use Rattle.hub_words.specs.declared.words.Asked.{Asked}
 use Rattle.hub_words.specs.declared.words.Asked.TheVariants.{About, Reach}
 use Rattle.hub_words.specs.declared.words.Question.{Question}
@@ -30,9 +33,23 @@ workers_option = record (new_rule (codes "workers")) {
   defaults = DEFAULT_WORKERS_TEXT.now ∷ [];
 }
 
--- `run [--workers N]`
+-- the operands `FILE..`
+abbrev pub files_operand : Rule
+files_operand = record (new_rule (codes "files")) { value_names = 1; action = Some Append }
+
+-- an option `--NAME FILE`
+abbrev pub file_option : Text → Rule
+file_option name = record (new_rule name) { long = Some name; value_names = 1 }
+
+-- a command about the set, which may take its profiles, rules, state and certificates from files
+abbrev pub set_app : Text → App
+set_app name =
+    with_rule (with_rule (with_rule (with_rule (new_app name) files_operand) (file_option (codes "rules"))) (file_option (codes "state")))
+    (file_option (codes "certificates"))
+
+-- `run`, which may also have `--workers N`
 abbrev pub run_app : App
-run_app = with_rule (new_app (codes "run")) workers_option
+run_app = with_rule (set_app (codes "run")) workers_option
 
 -- `hubsync`, which has a version
 abbrev pub top_app : App
@@ -41,12 +58,12 @@ top_app = on_top (λ s. record s { has_version = true }) (new_app (codes "hubsyn
 -- `hubsync` with the commands of the checker
 abbrev pub checker_app : App
 checker_app =
-    with_subcommand (with_subcommand (with_subcommand top_app (new_app (codes "check")).top) (new_app (codes "certify")).top)
-    (new_app (codes "verify")).top
+    with_subcommand (with_subcommand (with_subcommand top_app (set_app (codes "check")).top) (set_app (codes "certify")).top)
+    (set_app (codes "verify")).top
 
 -- and with those that say more than a yes or a no
 abbrev pub about_app : App
-about_app = with_subcommand (with_subcommand checker_app (new_app (codes "clashes")).top) (new_app (codes "rounds")).top
+about_app = with_subcommand (with_subcommand checker_app (set_app (codes "clashes")).top) (set_app (codes "rounds")).top
 
 -- the command as clap reads it
 unfoldable pub hubsync_app : App
@@ -76,7 +93,16 @@ abbrev pub run_by : Option Text → Option Request
 run_by None = None
 run_by (Some text) = option_map (λ n. about (Run n)) (byte_of text)
 
--- what a command without operands asks for, where this is the text of the option `--workers`
+-- the file of a profile
+abbrev pub is_profile_file : Text → Bool
+is_profile_file file = ends_with nat_eq file (codes ".prf")
+
+-- each operand is the file of a profile, if there are any
+abbrev pub are_profile_files : Option (List Text) → Bool
+are_profile_files None = true
+are_profile_files (Some files) = list_all is_profile_file files
+
+-- what a command about the set asks for, where this is the text of the option `--workers`
 abbrev pub about_named : Text → Option Text → Option Request
 about_named name workers =
     if bytes_eq name (codes "check") then Some (about Check)
@@ -86,12 +112,16 @@ about_named name workers =
     else (if bytes_eq name (codes "rounds") then Some (about Rounds)
     else (if bytes_eq name (codes "run") then run_by workers else None)))))
 
+-- the same, where these are its operands: nothing if one of them isn't the file of a profile
+abbrev pub about_files : Option (List Text) → Text → Option Text → Option Request
+about_files files name workers = if are_profile_files files then about_named name workers else None
+
 -- what the command that was used asks for, by its name and the rows of its operands and options
 abbrev pub request_in : Option (Text × List Row) → Option Request
 request_in None = Some (about CheckWithState)
 request_in (Some p) =
     if bytes_eq p.0 (codes "reach") then operands_of (first_of (codes "profile") p.1) (first_of (codes "path") p.1)
-    else about_named p.0 (one_of (codes "workers") p.1)
+    else about_files (all_of (codes "files") p.1) p.0 (one_of (codes "workers") p.1)
 
 -- nothing is asked for if there is a fault
 abbrev pub unless_fault : Kinds → Option Request → Option Request
@@ -102,3 +132,45 @@ unless_fault (kind ∷ kinds) request = None
 -- for help or the version
 unfoldable pub asked_of : List Text → Option Request
 asked_of words = unless_fault (fault_of hubsync_app words) (request_in (subcommand_of hubsync_app words))
+
+-- the files that words name
+pub record Names : Type 0 where
+  pub profiles : List Text
+  pub rules : Option Text
+  pub state : Option Text
+  pub certificates : Option Text
+
+abbrev pub names_of : Files → Names
+names_of files = record {
+  profiles = map (λ file. file.now) files.profiles.items;
+  rules = option_map (λ file. file.now) files.rules;
+  state = option_map (λ file. file.now) files.state;
+  certificates = option_map (λ file. file.now) files.certificates;
+}
+
+-- no file
+abbrev pub no_names : Names
+no_names = record { profiles = []; rules = None; state = None; certificates = None }
+
+-- the files that a command names, by the rows of its operands and options
+abbrev pub names_found : List Row → Names
+names_found rows = record {
+  profiles = unwrap_or (all_of (codes "files") rows) [];
+  rules = first_of (codes "rules") rows;
+  state = first_of (codes "state") rows;
+  certificates = first_of (codes "certificates") rows;
+}
+
+-- the files that the command that was used names
+abbrev pub names_in : Option (Text × List Row) → Names
+names_in None = no_names
+names_in (Some p) = names_found p.1
+
+-- there is no file among them
+abbrev pub are_none : Names → Bool
+are_none names =
+    length names.profiles == 0 && (not (is_some names.rules) && (not (is_some names.state) && not (is_some names.certificates)))
+
+-- the files that the words name, of which the first is the program's name
+unfoldable pub files_of : List Text → Names
+files_of words = names_in (subcommand_of hubsync_app words)

@@ -2,17 +2,20 @@
 use Rattle.std.specs.Prelude.{⊤, ◌≡◌, List, [], ◌∷◌, Option, Some, None, codes, refl}
 use Rattle.clap.proofs.OnLiterals.{clap_on_literals}
 use Rattle.clap.specs.Words.{Text}
-use Rattle.hub_words.specs.Words.{Request, about, asked_of, hubsync_app, reach}
+use Rattle.hub_words.specs.Words.{Names, Request, about, asked_of, files_of, hubsync_app, no_names, reach}
 use Rattle.hub_words.specs.declared.words.Question.TheVariants.{CheckWithState, Run, Check, Certify, Verify, Clashes, Rounds}
 use Rattle.hub_words.specs.declared.words.TheConstants.{DEFAULT_WORKERS}
 
 -- What these examples compute.
 computed : ⊤
-unfolding clap_on_literals asked_of hubsync_app
+unfolding clap_on_literals asked_of files_of hubsync_app
 computed = tt
 
 abbrev asked : List Text → Option Request
 asked words = asked_of (codes "hubsync" ∷ words)
+
+abbrev named : List Text → Names
+named words = files_of (codes "hubsync" ∷ words)
 
 no_words : asked [] ≡ Some (about CheckWithState)
 unfolding computed
@@ -74,13 +77,34 @@ rounds_of_the_profiles : asked (codes "rounds" ∷ []) ≡ Some (about Rounds)
 unfolding computed
 rounds_of_the_profiles = refl
 
-rounds_have_no_operands : asked (codes "rounds" ∷ codes "2" ∷ []) ≡ None
+rounds_have_no_other_operands : asked (codes "rounds" ∷ codes "2" ∷ []) ≡ None
 unfolding computed
-rounds_have_no_operands = refl
+rounds_have_no_other_operands = refl
 
-the_check_has_no_operands : asked (codes "check" ∷ codes "a" ∷ []) ≡ None
+an_operand_is_the_file_of_a_profile : asked (codes "check" ∷ codes "a.prf" ∷ codes "b/c.prf" ∷ []) ≡ Some (about Check)
 unfolding computed
-the_check_has_no_operands = refl
+an_operand_is_the_file_of_a_profile = refl
+
+a_bundle_is_no_operand : asked (codes "check" ∷ codes "a.prf" ∷ codes "b.bundle" ∷ []) ≡ None
+unfolding computed
+a_bundle_is_no_operand = refl
+
+reach_names_no_files : asked (codes "reach" ∷ codes "p" ∷ codes "a" ∷ codes "--rules" ∷ codes "r" ∷ []) ≡ None
+unfolding computed
+reach_names_no_files = refl
+
+no_command_names_no_files : named [] ≡ no_names
+unfolding computed
+no_command_names_no_files = refl
+
+operands_in_their_order : named (codes "check" ∷ codes "b.prf" ∷ codes "--rules" ∷ codes "r" ∷ codes "a.prf" ∷ [])
+    ≡ record { profiles = codes "b.prf" ∷ codes "a.prf" ∷ []; rules = Some (codes "r"); state = None; certificates = None }
+unfolding computed
+operands_in_their_order = refl
+
+the_check_has_no_other_operands : asked (codes "check" ∷ codes "a" ∷ []) ≡ None
+unfolding computed
+the_check_has_no_other_operands = refl
 
 a_run_has_so_many_workers : asked (codes "run" ∷ []) ≡ Some (about (Run DEFAULT_WORKERS))
 unfolding computed

@@ -4,11 +4,11 @@ ghost use Rattle.std.specs.Prelude.{◌≡◌, IfOk, codes, false};
 ghost use Rattle.clap.specs.Words.{app_of, new_app, rule_of, with_subcommand};
 ghost use Rattle.clap.specs.declared.builder.command.Command.TheViews.{out-Command as fields_of};
 ghost use Rattle.hub_words.specs.Words as words;
-ghost use Rattle.hub_words.specs.Words.{about_app, checker_app, hubsync_app, reach_app, run_app, top_app};
+ghost use Rattle.hub_words.specs.Words.{about_app, checker_app, hubsync_app, reach_app, run_app, set_app, top_app};
 
 use crate::help::{CERTIFY, CHECK, CLASHES, HUBSYNC, Help, LONG, REACH, ROUNDS, RUN, VERIFY};
 use crate::words::DEFAULT_WORKERS_TEXT;
-use clap::{Arg, Command, value_parser};
+use clap::{Arg, ArgAction, Command, value_parser};
 use std::alloc::{AllocError, Global};
 
 /// The version that `--version` shows.
@@ -25,6 +25,41 @@ fn plain_command<'a>(alloc: Global, name: &'a str, help: Help) -> Command<'a>
         .after_help(help.example)
 }
 
+/// The operands of a command about the set.
+fn files_operand<'a>(alloc: Global) -> Arg<'a>
+    ensures rule { rule_of result ≡ words.files_operand }
+    ensures local { result.global ≡ false }
+{
+    Arg::new(alloc, "files")
+        .value_name("FILE")
+        .action(ArgAction::Append)
+        .help("The file of a profile: docs.prf is the profile docs")
+}
+
+/// An option that names a file.
+fn file_option<'a>(alloc: Global, name: &'a str, help: &'a str) -> Arg<'a>
+    ensures rule { rule_of result ≡ words.file_option name.now }
+    ensures local { result.global ≡ false }
+{
+    Arg::new(alloc, name)
+        .long(name)
+        .value_name("FILE")
+        .help(help)
+}
+
+/// A command about the set, which may take files.
+fn set_command<'a>(alloc: Global, name: &'a str, help: Help) -> Result<Command<'a>, AllocError>
+    ensures app { IfOk result (λ c. app_of c ≡ set_app name.now) }
+    ensures local { IfOk result (λ c. (fields_of c).has_globals ≡ false) }
+{
+    let rules = file_option(alloc, "rules", "The file of the rules");
+    let state = file_option(alloc, "state", "The file of the state");
+    let certificates = file_option(alloc, "certificates", "The file of the certificates");
+    let command = plain_command(alloc, name, help).arg(files_operand(alloc))?;
+    let command = command.arg(rules)?.arg(state)?;
+    command.arg(certificates)
+}
+
 /// The command `run`.
 fn run_command<'a>(alloc: Global) -> Result<Command<'a>, AllocError>
     ensures app { IfOk result (λ c. app_of c ≡ run_app) }
@@ -36,7 +71,7 @@ fn run_command<'a>(alloc: Global) -> Result<Command<'a>, AllocError>
         .help("How many workers run the jobs, from 1 to 16")
         .value_parser(value_parser!(u8))
         .default_value(DEFAULT_WORKERS_TEXT);
-    plain_command(alloc, "run", RUN).arg(workers)
+    set_command(alloc, "run", RUN)?.arg(workers)
 }
 
 /// A required operand, with its text of help.
@@ -70,17 +105,17 @@ fn reach_command<'a>(alloc: Global) -> Result<Command<'a>, AllocError>
     plain_command(alloc, "reach", REACH).arg(profile)?.arg(path)
 }
 
-/// A command with one more command, which has no operands.
-fn with_plain<'a>(
+/// A command with one more command, which is about the set.
+fn with_set<'a>(
     alloc: Global,
     top: Command<'a>,
     name: &'a str,
     help: Help,
 ) -> Result<Command<'a>, AllocError>
     ensures { IfOk result
-        (λ c. app_of c ≡ with_subcommand (app_of top.entry) (new_app name.now).top) }
+        (λ c. app_of c ≡ with_subcommand (app_of top.entry) (set_app name.now).top) }
 {
-    top.subcommand(plain_command(alloc, name, help))
+    top.subcommand(set_command(alloc, name, help)?)
 }
 
 /// The program's command before it has commands.
@@ -96,18 +131,18 @@ fn top_command<'a>(alloc: Global) -> Command<'a>
 fn checker_command<'a>(alloc: Global) -> Result<Command<'a>, AllocError>
     ensures { IfOk result (λ c. app_of c ≡ checker_app) }
 {
-    let top = with_plain(alloc, top_command(alloc), "check", CHECK)?;
-    let top = with_plain(alloc, top, "certify", CERTIFY)?;
-    with_plain(alloc, top, "verify", VERIFY)
+    let top = with_set(alloc, top_command(alloc), "check", CHECK)?;
+    let top = with_set(alloc, top, "certify", CERTIFY)?;
+    with_set(alloc, top, "verify", VERIFY)
 }
 
-/// The program's command with all commands that have no operands.
+/// The program's command with all commands about the set but `run`.
 fn about_command<'a>(alloc: Global) -> Result<Command<'a>, AllocError>
     ensures { IfOk result (λ c. app_of c ≡ about_app) }
 {
     let top = checker_command(alloc)?;
-    let top = with_plain(alloc, top, "clashes", CLASHES)?;
-    with_plain(alloc, top, "rounds", ROUNDS)
+    let top = with_set(alloc, top, "clashes", CLASHES)?;
+    with_set(alloc, top, "rounds", ROUNDS)
 }
 
 /// The program's command, with its texts of help.

@@ -14,43 +14,43 @@ pub(crate) struct Help {
 /// The program's.
 pub(crate) const HUBSYNC: Help = Help {
     about: "Reads profiles of Unison, and says whether they may run at the same time",
-    usage: "hubsync [COMMAND] < BUNDLE",
-    example: "Example: hubsync < examples/two-profiles.bundle",
+    usage: "hubsync [COMMAND] < BUNDLE\n       hubsync COMMAND [OPTIONS] FILE.prf..",
+    example: "Example: hubsync check docs.prf photos.prf --rules rules",
 };
 
 /// That of `check`.
 pub(crate) const CHECK: Help = Help {
     about: "Says whether the profiles may run at the same time, and runs no jobs",
-    usage: "hubsync check < BUNDLE",
-    example: "Example: hubsync check < examples/two-profiles.bundle",
+    usage: "hubsync check < BUNDLE\n       hubsync check [OPTIONS] FILE.prf..",
+    example: "Example: hubsync check docs.prf photos.prf --rules rules",
 };
 
 /// That of `certify`.
 pub(crate) const CERTIFY: Help = Help {
     about: "Writes certificates, which show that they may run at the same time",
-    usage: "hubsync certify < BUNDLE",
-    example: "Example: hubsync certify < examples/two-profiles.bundle > certificates",
+    usage: "hubsync certify < BUNDLE\n       hubsync certify [OPTIONS] FILE.prf..",
+    example: "Example: hubsync certify docs.prf photos.prf > certificates",
 };
 
 /// That of `verify`.
 pub(crate) const VERIFY: Help = Help {
     about: "Says whether the certificates of the input show that they may",
-    usage: "hubsync verify < BUNDLE",
-    example: "Example: cat my.bundle <(echo %certificates) certificates | hubsync verify",
+    usage: "hubsync verify < BUNDLE\n       hubsync verify [OPTIONS] FILE.prf..",
+    example: "Example: hubsync verify docs.prf photos.prf --certificates certificates",
 };
 
 /// That of `clashes`.
 pub(crate) const CLASHES: Help = Help {
     about: "Lists all overlaps of profiles, and all rules that are broken",
-    usage: "hubsync clashes < BUNDLE",
-    example: "Example: hubsync clashes < examples/unsafe-star.bundle",
+    usage: "hubsync clashes < BUNDLE\n       hubsync clashes [OPTIONS] FILE.prf..",
+    example: "Example: hubsync clashes docs.prf photos.prf --rules rules",
 };
 
 /// That of `rounds`.
 pub(crate) const ROUNDS: Help = Help {
     about: "Cuts the profiles into rounds: those of a round may run at the same time",
-    usage: "hubsync rounds < BUNDLE",
-    example: "Example: hubsync rounds < examples/unsafe-star.bundle",
+    usage: "hubsync rounds < BUNDLE\n       hubsync rounds [OPTIONS] FILE.prf..",
+    example: "Example: hubsync rounds docs.prf photos.prf",
 };
 
 /// That of `reach`.
@@ -63,11 +63,11 @@ pub(crate) const REACH: Help = Help {
 /// That of `run`.
 pub(crate) const RUN: Help = Help {
     about: "Runs the jobs of profiles that may on the state of the input",
-    usage: "hubsync run [--workers N] < BUNDLE",
-    example: "Example: hubsync run --workers 4 < examples/star.bundle",
+    usage: "hubsync run [--workers N] < BUNDLE\n       hubsync run [OPTIONS] FILE.prf..",
+    example: "Example: hubsync run docs.prf photos.prf --state state",
 };
 
-/// What follows the options in `hubsync --help`: a small bundle, the lines of the answer, and the statuses.
+/// What follows the options in `hubsync --help`: a small bundle, the files, the lines of the answer, and the statuses.
 pub(crate) const LONG: &str = "\
 The input is a bundle of profiles, each after a line with its name:
 
@@ -90,6 +90,11 @@ A section '%state' may say what the replicas hold. 'run' runs the jobs of a
 safe set on it, and so does hubsync without a command if there is such a
 section. For 'verify', a line '%certificates' and the text that 'certify' wrote
 are part of the bundle too.
+
+If a command but 'reach' is given files, the bundle is made of them, and
+standard input isn't read. Each operand is a profile, which is named by it:
+'docs.prf' is the profile docs. The files of --rules, --state and
+--certificates have the lines of these sections, without their headings.
 
 The output is one line: 'safe', 'verified', 'overlap: ..', 'breach: ..',
 'too large: ..', 'refused: ..', 'reached', 'not reached' or 'fault: ..'.
@@ -115,4 +120,4 @@ Exit status:
      version too
   3  a job was stopped, or no job was run: 'run fault: ..'
 
-Example: hubsync < examples/two-profiles.bundle";
+Example: hubsync check docs.prf photos.prf --rules rules";

@@ -3,6 +3,7 @@
 //! - [`read_words`] reads the words with `clap`, and returns what they ask for or `clap`'s [`Error`].
 //! - [`Asked`]: what words ask for, a [`Question`] about the set of a bundle's profiles and rules, or whether a profile
 //!   reaches a path.
+//! - [`read_files`] reads which [`Files`] the words name.
 //!
 //! ```text
 //! match read_words(alloc, words) {
@@ -19,9 +20,11 @@
 #![tactic(auto)]
 
 mod app;
+mod files;
 mod help;
 mod words;
 
 pub use clap::Error;
 pub use clap::error::ErrorKind;
+pub use files::{Files, read_files};
 pub use words::{Asked, DEFAULT_WORKERS, Question, read_words};

@@ -2,16 +2,17 @@
 //!
 //! `specs/Words.antt` defines the command in `clap`'s terms, and with that what each list of words asks for.
 
-ghost use Rattle.std.specs.Prelude.{◌≡◌, ◌⊎◌, IfErr, IfOk, None, Some, codes, map, option_map};
-ghost use Rattle.clap.specs.Words.{app_of, found_of, kind_of, one_text, subcommand_rows_of};
+ghost use Rattle.std.specs.Prelude.{◌≡◌, ◌⊎◌, IfErr, IfOk, None, Some, codes, false, map, option_map};
+ghost use Rattle.std.specs.List.{list_all};
+ghost use Rattle.clap.specs.Words.{app_of, found_of, kind_of, matched_of, one_text, raw_values, subcommand_rows_of};
 ghost use Rattle.clap.specs.declared.error.kind.ErrorKind.TheVariants.{OutOfMemory};
 ghost use Rattle.hub_words.specs.Words as words;
-ghost use Rattle.hub_words.specs.Words.{asked_of, hubsync_app, request_in, request_of};
+ghost use Rattle.hub_words.specs.Words.{asked_of, files_of, hubsync_app, names_in, request_in, request_of};
 
 use crate::app::command;
 use clap::error::ErrorKind;
 use clap::{ArgMatches, Command, Error};
-use std::alloc::Global;
+use std::alloc::{AllocError, Global};
 use std::convert::AsStr;
 
 /// How many workers run the jobs if the words don't say.
@@ -57,7 +58,7 @@ pub enum Asked<'a> {
 ///
 /// `check`, `certify`, `verify`, `clashes` and `rounds` ask about the set. Without a command the words ask for the check, and
 /// for a run of the jobs if the bundle has a state. `run` asks for a run; `--workers N` gives the number of workers, from 0 to
-/// 255, and without it there are [`DEFAULT_WORKERS`].
+/// 255, and without it there are [`DEFAULT_WORKERS`]. Each of these commands may name files (`read_files`).
 /// `reach PROFILE PATH` takes any two operands, also the empty word and `-`. An operand that begins with `-` and is longer
 /// needs `--` before it.
 ///
@@ -69,42 +70,115 @@ pub fn read_words<'a, S: AsStr>(alloc: Global, words: &'a [S]) -> Result<Asked<'
         ⊎ (asked_of (map S.text words.entry.now) ≡ None)) }
 {
     let mut hubsync = command(alloc)?;
-    read_by(&mut hubsync, words)
+    let matches = parse(&mut hubsync, words)?;
+    match asked_in(&matches) {
+        Some(asked) => Ok(asked),
+        None => Err(refusal(alloc, &mut hubsync, &matches)?),
+    }
 }
 
 /// Reads the words by the program's command.
-fn read_by<'a, S: AsStr>(hubsync: &mut Command<'a>, words: &'a [S]) -> Result<Asked<'a>, Error>
+pub(crate) fn parse<'a, S: AsStr>(
+    hubsync: &mut Command<'a>,
+    words: &'a [S],
+) -> Result<ArgMatches<'a>, Error>
     requires { app_of hubsync.old ≡ hubsync_app }
-    ensures ok { IfOk result (λ a. asked_of (map S.text words.entry.now) ≡ Some (request_of a)) }
+    ensures asked { IfOk result (λ m. asked_of (map S.text words.entry.now)
+        ≡ request_in (subcommand_rows_of m)) }
+    ensures files { IfOk result (λ m. files_of (map S.text words.entry.now)
+        ≡ names_in (subcommand_rows_of m)) }
     ensures err { IfErr result (λ e. (kind_of e ≡ OutOfMemory)
         ⊎ (asked_of (map S.text words.entry.now) ≡ None)) }
 {
     let matches = hubsync.try_get_matches_from_mut(words)?;
-    match asked_in(&matches) {
-        Some(asked) => Ok(asked),
-        None => {
-            let kind = ErrorKind::MissingRequiredArgument;
-            Err(hubsync.error(kind, "an operand of the command is missing")?)
+    Ok(matches)
+}
+
+/// The error for words that `clap` takes and that ask for nothing: an operand that isn't the file of a profile, or else one
+/// that is missing.
+pub(crate) fn refusal<'a>(
+    alloc: Global,
+    hubsync: &mut Command<'a>,
+    matches: &ArgMatches<'a>,
+) -> Result<Error, AllocError> {
+    match stray_operand(matches) {
+        Some(word) => {
+            let message = format!(in alloc; "unexpected argument '{word}' found")?;
+            hubsync.error(ErrorKind::UnknownArgument, message.as_str())
         }
+        None => hubsync.error(
+            ErrorKind::MissingRequiredArgument,
+            "an operand of the command is missing",
+        ),
     }
 }
 
-/// What was asked for, by the matches. A `None` is an unknown command, or one without its operands.
-fn asked_in<'a>(matches: &ArgMatches<'a>) -> Option<Asked<'a>>
+/// The first operand of a command about the set that isn't the file of a profile.
+fn stray_operand<'a>(matches: &ArgMatches<'a>) -> Option<&'a str> {
+    let (_, found) = matches.subcommand()?;
+    for file in found.get_raw("files")? {
+        if !is_profile_file(*file) {
+            return Some(*file);
+        }
+    }
+    None
+}
+
+/// What was asked for, by the matches. A `None` is an unknown command, one without its operands, or one with an operand
+/// that isn't the file of a profile.
+pub(crate) fn asked_in<'a>(matches: &ArgMatches<'a>) -> Option<Asked<'a>>
     ensures { option_map request_of result ≡ request_in (subcommand_rows_of matches.now) }
 {
     let Some((name, operands)) = matches.subcommand() else {
         return Some(Asked::About(Question::CheckWithState));
     };
     if name != "reach" {
-        return about(name, operands);
+        return about_files(name, operands);
     }
     let profile = operands.get_str("profile")?;
     let path = operands.get_str("path")?;
     Some(Asked::Reach { profile, path })
 }
 
-/// What a command without operands asks for, by its name and what was found of its option.
+/// What a command about the set asks for, if all of its operands are files of profiles.
+fn about_files<'a>(name: &str, found: &ArgMatches<'_>) -> Option<Asked<'a>>
+    ensures { option_map request_of result
+        ≡ words.about_files (option_map raw_values (matched_of (found_of found.now) (codes "files")))
+        name.now (one_text (found_of found.now) (codes "workers")) }
+{
+    if are_profile_files(found) {
+        about(name, found)
+    } else {
+        None
+    }
+}
+
+/// Whether all operands are files of profiles.
+fn are_profile_files(found: &ArgMatches<'_>) -> bool
+    ensures { result ≡ words.are_profile_files
+        (option_map raw_values (matched_of (found_of found.now) (codes "files"))) }
+{
+    match found.get_raw("files") {
+        Some(files) => are_all_profile_files(files),
+        None => true,
+    }
+}
+
+/// Whether these words are files of profiles.
+fn are_all_profile_files(files: &[&str]) -> bool
+    ensures { result ≡ list_all (λ file. words.is_profile_file file.now) files.now }
+{
+    files.iter().all(|file| is_profile_file(*file))
+}
+
+/// Whether a word is the file of a profile.
+fn is_profile_file(file: &str) -> bool
+    ensures { result ≡ words.is_profile_file file.now }
+{
+    file.as_bytes().ends_with(b".prf")
+}
+
+/// What a command about the set asks for, by its name and what was found of its option.
 fn about<'a>(name: &str, found: &ArgMatches<'_>) -> Option<Asked<'a>>
     ensures { option_map request_of result
         ≡ words.about_named name.now (one_text (found_of found.now) (codes "workers")) }

@@ -1,50 +1,100 @@
-//! The program: reads a bundle of profiles and rules on standard input, and says on standard output whether the profiles
-//! may run at the same time and keep the rules. If the bundle has a state, it runs the jobs of a safe set on it, in threads.
-//! Standard error says which lines an answer is about, and what to do.
+//! The program: reads a bundle of profiles and rules, and says on standard output whether the profiles may run at the same time
+//! and keep the rules. If the bundle has a state, it runs the jobs of a safe set on it, in threads. Standard error says which lines
+//! an answer is about, and what to do.
 //!
-//! `serve_process` of `hub_serve` does all that the process does between its arguments and its exit status, over any reader
-//! and writer; its contract says what is written. `serve_with_remarks` adds the remarks of `hub_remarks` under the same
-//! contract: it keeps a copy of the first bytes of the input and of the answer (`kept`). `main` hands it the process's own
-//! devices.
+//! `serve` of `hub_serve` does all that the process does between its arguments and its exit status, over any reader and writer; its
+//! contract says what is written. `serve_with_remarks` adds the remarks of `hub_remarks` under the same contract: it keeps a copy
+//! of the first bytes of the input and of the answer (`kept`). The input is standard input, or the bundle that is made of the files
+//! that the words name (`files` reads them, and `bundled` answers over them).
 #![tactic(auto)]
 
+mod bundled;
+mod files;
 mod kept;
 mod served;
 
+ghost use Rattle.std.specs.Prelude.{◌≡◌, false, map, string_bytes, true};
+ghost use Rattle.hub_words.specs.Words.{are_none, asked_of, files_of};
+ghost use Rattle.hub_serve.specs.Reads.{reads_between};
+ghost use Rattle.hubsync.specs.Bundled.{ServesInput};
+
+use crate::bundled::write_memory;
+use crate::files::serve_files;
 use crate::kept::Kept;
 use crate::served::{Seen, serve_with_remarks};
+use hub_serve::serve_process;
 use hub_text::Watched;
-use hub_words::read_words;
-use std::io::{Eprint, IsTerminal};
+use hub_words::{ErrorKind, read_files};
+use std::fs::Files;
+use std::io::{Eprint, IsTerminal, Read, Write};
 use std::process::ExitCode;
 use std::rt::Env;
+use std::sync::Wait;
+use std::thread::Threads;
 use std::{env, io};
 
 fn main(rt: HostRuntime) -> ExitCode {
     let seen = Seen::new(rt.alloc());
     let mut input = Watched::new(Kept::new(rt.reader(), &seen.input));
     let mut output = Watched::new(Kept::new(io::writer(&rt), &seen.output));
-    let words = arguments(&rt);
-    if rt.stdin().is_terminal() {
-        say_waiting(&rt, &words);
-    }
-    let status = serve_with_remarks(&rt, words, &mut input, &mut output, &seen);
-    ExitCode::from(status)
-}
-
-/// Says on a terminal that an input is awaited there, if the words ask for an answer to one.
-fn say_waiting<T: AllocGlobal + Eprint>(rt: &T, words: &io::Result<Vec<String>>) {
-    let Ok(words) = words else {
-        return;
+    let is_terminal = rt.stdin().is_terminal();
+    let status = match arguments(&rt) {
+        Ok(words) => answer(
+            &rt,
+            words.as_slice(),
+            is_terminal,
+            &mut input,
+            &mut output,
+            &seen,
+        ),
+        Err(error) => serve_process(&rt, Err(error), &mut input, &mut output),
     };
-    if read_words(rt.alloc(), words.as_slice()).is_ok() {
-        let _ = eprintln!(rt;
-            "hubsync: reads a bundle from the terminal, up to Ctrl-D: see hubsync --help"
-        );
-    }
+    ExitCode::from(status)
 }
 
 /// The words that the process was started with, of which the first is the program's name.
 fn arguments<R: AllocGlobal + Env>(rt: &R) -> io::Result<Vec<String>> {
     Ok(env::args(rt)?.collect(rt.alloc())?)
+}
+
+/// Answers over the files that the words name, or over standard input if they name none.
+fn answer<T: AllocGlobal + Eprint + Files + Threads + Wait + Sync, R: Read, W: Write>(
+    rt: &T,
+    words: &[String],
+    is_terminal: bool,
+    input: &mut Watched<Kept<'_, R>>,
+    output: &mut Watched<Kept<'_, W>>,
+    seen: &Seen,
+) -> u8
+    requires input { input.old.failed ≡ false }
+    requires output { output.old.failed ≡ false }
+    ensures { are_none (files_of (map string_bytes words.now)) ≡ true
+        → ServesInput (asked_of (map string_bytes words.now))
+        (R.remaining input.old.device.device) (W.contents output.old.device.device)
+        (W.contents output.new.device.device)
+        (reads_between input.old input.new) output.new.failed result }
+{
+    match read_files(rt.alloc(), words) {
+        Ok(files) => {
+            if !files.is_empty() {
+                return serve_files(rt, words, &files, output, seen);
+            }
+            say_waiting(rt, is_terminal);
+        }
+        Err(error) => {
+            if error.kind() == ErrorKind::OutOfMemory {
+                return write_memory(output);
+            }
+        }
+    }
+    serve_with_remarks(rt, words, &[], input, output, seen)
+}
+
+/// Says on a terminal that an input is awaited there.
+fn say_waiting<T: Eprint>(rt: &T, is_terminal: bool) {
+    if is_terminal {
+        let _ = eprintln!(rt;
+            "hubsync: reads a bundle from the terminal, up to Ctrl-D: see hubsync --help"
+        );
+    }
 }

@@ -1,12 +1,12 @@
 //! An answer, and remarks on it.
-ghost use Rattle.std.specs.Prelude.{◌≡◌, false, map, string_bytes, IfErr, IfOk};
+ghost use Rattle.std.specs.Prelude.{◌≡◌, false, map, string_bytes};
 ghost use Rattle.hub_words.specs.Words.{asked_of};
 ghost use Rattle.hub_serve.specs.Reads.{reads_between};
-ghost use Rattle.hub_serve.specs.Report.{AnswersNothing, Serves};
+ghost use Rattle.hub_serve.specs.Report.{Serves};
 
 use crate::kept::{Kept, Passed};
 use hub_remarks::remark;
-use hub_serve::serve_process;
+use hub_serve::serve;
 use hub_text::Watched;
 use std::alloc::Global;
 use std::cell::RefCell;
@@ -40,45 +40,38 @@ impl Seen {
     }
 }
 
-/// Does what `serve_process` does, and then says on standard error what belongs to the answer.
+/// Does what `serve` does, and then says on standard error what belongs to the answer.
 ///
 /// The remarks change neither the output nor the status, also if they can't be made or written. They are made of what is kept in
-/// `seen`.
+/// `seen`. If the sections of the input were made of files, these are the files in their order.
 pub fn serve_with_remarks<T: AllocGlobal + Eprint + Threads + Wait + Sync, R: Read, W: Write>(
     rt: &T,
-    words: io::Result<Vec<String>>,
+    words: &[String],
+    files: &[&str],
     input: &mut Watched<Kept<'_, R>>,
     output: &mut Watched<Kept<'_, W>>,
     seen: &Seen,
 ) -> u8
     requires input { input.old.failed ≡ false }
     requires output { output.old.failed ≡ false }
-    ensures read { IfOk words (λ v. Serves (asked_of (map string_bytes v.items))
+    ensures { Serves (asked_of (map string_bytes words.now))
         (R.remaining input.old.device.device) (W.contents output.old.device.device)
         (W.contents output.new.device.device)
-        (reads_between input.old input.new) output.new.failed result) }
-    ensures unread { IfErr words (λ _. AnswersNothing
-        (W.contents output.old.device.device) (W.contents output.new.device.device) result) }
+        (reads_between input.old input.new) output.new.failed result }
 {
-    let own = copied(rt.alloc(), &words);
-    let status = serve_process(rt, words, input, output);
-    say_remarks(rt, own.as_slice(), seen, output.failed());
+    let status = serve(rt, words, input, output);
+    say_remarks(rt, words, files, seen, output.failed());
     status
 }
 
-/// A copy of the words, or no words if they can't be read or copied.
-fn copied(alloc: Global, words: &io::Result<Vec<String>>) -> Vec<String> {
-    let Ok(words) = words else {
-        return Vec::new(alloc);
-    };
-    match words.clone() {
-        Ok(copy) => copy,
-        Err(_) => Vec::new(alloc),
-    }
-}
-
 /// Says what belongs to the answer. If standard error fails too, there is nobody left to tell.
-fn say_remarks<T: AllocGlobal + Eprint>(rt: &T, words: &[String], seen: &Seen, is_cut: bool) {
+fn say_remarks<T: AllocGlobal + Eprint>(
+    rt: &T,
+    words: &[String],
+    files: &[&str],
+    seen: &Seen,
+    is_cut: bool,
+) {
     let Ok(input) = seen.input.try_borrow() else {
         return;
     };
@@ -91,7 +84,7 @@ fn say_remarks<T: AllocGlobal + Eprint>(rt: &T, words: &[String], seen: &Seen, i
     if let Some(error) = input.error() {
         let _ = eprintln!(rt; "hubsync: standard input can't be read: {error}");
     }
-    if let Ok(text) = remark(rt.alloc(), words, &[], input.front(), output.front()) {
+    if let Ok(text) = remark(rt.alloc(), words, files, input.front(), output.front()) {
         let _ = eprint!(rt; "{text}");
     }
 }

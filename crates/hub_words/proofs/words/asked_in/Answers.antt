@@ -7,7 +7,7 @@ use Rattle.hub_words.proofs.words.asked_in.Goals as goal
 
 pub returns-then-ne : goal.returns-then-ne
 returns-then-ne c =
-    c.about.ensures ∙ sym (about_in c.args.matches.now c.in-Some.name.now c.in-Some.operands.now c.in-Some.ensures.name c.in-Some.ensures.rows (not-true _ (sym c.ne.ensures ∙ c.if-ne.true)))
+    c.about_files.ensures ∙ sym (about_in c.args.matches.now c.in-Some.name.now c.in-Some.operands.now c.in-Some.ensures.name c.in-Some.ensures.rows (not-true _ (sym c.ne.ensures ∙ c.if-ne.true)))
 
 pub returns-in_err-profile : goal.returns-in_err-profile
 returns-in_err-profile c =

@@ -1,0 +1,96 @@
+//! The files that the words on the command line name.
+
+ghost use Rattle.std.specs.Prelude.{◌≡◌, ◌⊎◌, [], IfErr, IfOk, None, codes, is_some, map, option_map, true, unwrap_or};
+ghost use Rattle.clap.specs.Words.{found_of, kind_of, matched_of, raw_values, rows_of, subcommand_rows_of};
+ghost use Rattle.clap.specs.declared.error.kind.ErrorKind.TheVariants.{OutOfMemory};
+ghost use Rattle.hub_words.specs.Words as words;
+ghost use Rattle.hub_words.specs.Words.{are_none, asked_of, files_of, names_in, names_of};
+
+use crate::app::command;
+use crate::words::{asked_in, parse, refusal};
+use clap::{ArgMatches, Error};
+use std::alloc::{AllocError, Global};
+use std::convert::AsStr;
+
+/// The files of which the input is to be made, as the words name them.
+#[derive(Drop)]
+pub struct Files<'a> {
+    /// Those of the profiles, in the order of the words. Each ends with `.prf`.
+    pub profiles: Vec<&'a str>,
+    /// That of the rules.
+    pub rules: Option<&'a str>,
+    /// That of the state.
+    pub state: Option<&'a str>,
+    /// That of the certificates.
+    pub certificates: Option<&'a str>,
+}
+
+impl<'a> Files<'a> {
+    /// Whether no file is named: then the input comes on standard input.
+    pub fn is_empty(&self) -> bool
+        ensures { result ≡ are_none (names_of self.now) }
+    {
+        self.profiles.is_empty()
+            && self.rules.is_none()
+            && self.state.is_none()
+            && self.certificates.is_none()
+    }
+}
+
+/// Reads which files the words name, of which the first is the program's name.
+///
+/// Each command but `reach` may have operands, each of which is the file of a profile and ends with `.prf`, and the options
+/// `--rules FILE`, `--state FILE` and `--certificates FILE`. No other words name files.
+///
+/// An `Err` is that of [`read_words`](crate::read_words).
+pub fn read_files<'a, S: AsStr>(alloc: Global, words: &'a [S]) -> Result<Files<'a>, Error>
+    ensures ok { IfOk result (λ f. names_of f ≡ files_of (map S.text words.entry.now)) }
+    ensures asked { IfOk result (λ _. is_some (asked_of (map S.text words.entry.now)) ≡ true) }
+    ensures err { IfErr result (λ e. (kind_of e ≡ OutOfMemory)
+        ⊎ (asked_of (map S.text words.entry.now) ≡ None)) }
+{
+    let mut hubsync = command(alloc)?;
+    let matches = parse(&mut hubsync, words)?;
+    match asked_in(&matches) {
+        Some(_) => Ok(files_in(alloc, &matches)?),
+        None => Err(refusal(alloc, &mut hubsync, &matches)?),
+    }
+}
+
+/// The files that the command that was used names, by the matches.
+fn files_in<'a>(alloc: Global, matches: &ArgMatches<'a>) -> Result<Files<'a>, AllocError>
+    ensures { IfOk result (λ f. names_of f ≡ names_in (subcommand_rows_of matches.now)) }
+{
+    match matches.subcommand() {
+        Some((_, found)) => files_found(alloc, found),
+        None => Ok(Files {
+            profiles: Vec::new(alloc),
+            rules: None,
+            state: None,
+            certificates: None,
+        }),
+    }
+}
+
+/// The files that a command names, by what was found of its operands and options.
+fn files_found<'a>(alloc: Global, found: &ArgMatches<'a>) -> Result<Files<'a>, AllocError>
+    ensures { IfOk result (λ f. names_of f ≡ words.names_found (rows_of (found_of found.now))) }
+{
+    Ok(Files {
+        profiles: operands_found(alloc, found)?,
+        rules: found.get_str("rules"),
+        state: found.get_str("state"),
+        certificates: found.get_str("certificates"),
+    })
+}
+
+/// The operands of a command, by what was found of them.
+fn operands_found<'a>(alloc: Global, found: &ArgMatches<'a>) -> Result<Vec<&'a str>, AllocError>
+    ensures { IfOk result (λ v. map (λ file. file.now) v.items ≡ unwrap_or
+        (option_map raw_values (matched_of (found_of found.now) (codes "files"))) []) }
+{
+    match found.get_raw("files") {
+        Some(files) => Vec::from_slice(alloc, files),
+        None => Ok(Vec::new(alloc)),
+    }
+}

@@ -1,0 +1,40 @@
+-- What is answered over files.
+use Rattle.std.specs.Prelude.{◌≡◌, ◌⊎◌, ◌++◌, ℕ, zero, suc, Bool, List, [], ◌∷◌, Option, Some, None, codes}
+use Rattle.hub_words.specs.Words.{Request}
+use Rattle.hub_files.specs.Files.{bundle_of, first_faulty}
+use Rattle.hub_files.specs.declared.part.Part.{Part}
+use Rattle.hub_serve.specs.Reads.{Reads}
+use Rattle.hub_serve.specs.Report.{Serves, WritesText}
+
+-- The line that says what is wrong with a file.
+abbrev pub fault_line : List ℕ → List ℕ → List ℕ
+fault_line file reason = codes "fault: " ++ file ++ codes ": " ++ reason ++ 10 ∷ []
+
+abbrev pub memory_line : List ℕ
+memory_line = codes "fault: out of memory\n"
+
+-- A fault of this file was written, whatever it is, or that memory is out.
+abbrev pub WritesFault : List ℕ → Option (List ℕ) → Option (List ℕ) → Bool → ℕ → Type 0
+WritesFault file old new failed status =
+    ((reason : List ℕ) × WritesText old new (fault_line file reason) 2 failed status) ⊎ WritesText old new memory_line 2 failed status
+
+-- The answer is given over the bundle that the files make, with some reads of it.
+abbrev pub ServesBundle : Option Request → List Part → Option (List ℕ) → Option (List ℕ) → Bool → ℕ → Type 0
+ServesBundle asked parts old new failed status = (reads : Reads) × Serves asked (Some (bundle_of parts)) old new reads failed status
+
+-- The answer is given over an input, or it was written that memory is out.
+abbrev pub ServesInput : Option Request → Option (List ℕ) → Option (List ℕ) → Option (List ℕ) → Reads → Bool → ℕ → Type 0
+ServesInput asked remaining old new reads failed status =
+    Serves asked remaining old new reads failed status ⊎ WritesText old new memory_line 2 failed status
+
+-- The file of that number.
+abbrev pub file_at : List Part → ℕ → List ℕ
+file_at [] n = []
+file_at (p ∷ ps) zero = p.file.now
+file_at (p ∷ ps) (suc n) = file_at ps n
+
+-- If each file can be a section, the answer is given over the bundle that they make. Else a fault of the first that can't be one was
+-- written. In both cases it may be that memory is out instead.
+pub record ServesParts (asked : Option Request) (parts : List Part) (old new : Option (List ℕ)) (failed : Bool) (status : ℕ) : Type 0 where
+  pub bundled : first_faulty parts ≡ None → ServesBundle asked parts old new failed status ⊎ WritesText old new memory_line 2 failed status
+  pub refused : (n : ℕ) → first_faulty parts ≡ Some n → WritesFault (file_at parts n) old new failed status

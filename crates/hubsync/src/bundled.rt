@@ -1,0 +1,138 @@
+//! Answers over a bundle that is made of files.
+ghost use Rattle.std.specs.Prelude.{◌≡◌, ◌++◌, ◌∷◌, [], IfOk, codes, false, map, string_bytes};
+ghost use Rattle.hub_words.specs.Words.{asked_of};
+ghost use Rattle.hub_files.specs.Files.{bundle_of};
+ghost use Rattle.hub_serve.specs.Report.{WritesText};
+ghost use Rattle.hubsync.specs.Bundled.{ServesBundle, ServesParts, WritesFault, fault_line, file_at, memory_line};
+
+use crate::kept::Kept;
+use crate::served::{Seen, serve_with_remarks};
+use hub_files::{BundleFault, Part, PartFault, bundle_of, part_fault};
+use hub_text::Watched;
+use std::alloc::{AllocError, Global};
+use std::io::{Eprint, Write};
+use std::sync::Wait;
+use std::thread::Threads;
+
+/// Does what `serve_with_remarks` does over the bundle that is made of these parts, whose files these are. If none can be made of
+/// them, a fault says why: the first file that can't be a section, or that memory is out. Then the status is 2.
+pub fn serve_parts<T: AllocGlobal + Eprint + Threads + Wait + Sync, W: Write>(
+    rt: &T,
+    words: &[String],
+    files: &[&str],
+    parts: &[Part<'_>],
+    output: &mut Watched<Kept<'_, W>>,
+    seen: &Seen,
+) -> u8
+    requires { output.old.failed ≡ false }
+    ensures { ServesParts (asked_of (map string_bytes words.now)) parts.now
+        (W.contents output.old.device.device) (W.contents output.new.device.device)
+        output.new.failed result }
+{
+    let alloc = rt.alloc();
+    match bundle_of(alloc, parts) {
+        Ok(bundle) => {
+            let mut input = Watched::new(Kept::new(bundle.as_slice(), &seen.input));
+            serve_with_remarks(rt, words, files, &mut input, output, seen)
+        }
+        Err(BundleFault::File(i)) => write_part_fault(rt, parts, i, output),
+        Err(BundleFault::OutOfMemory) => write_memory(output),
+    }
+}
+
+/// Says why a file can't be a section.
+fn write_part_fault<T: AllocGlobal + Eprint, W: Write>(
+    rt: &T,
+    parts: &[Part<'_>],
+    i: usize,
+    output: &mut Watched<Kept<'_, W>>,
+) -> u8
+    requires { output.old.failed ≡ false }
+    ensures { WritesFault (file_at parts.now i)
+        (W.contents output.old.device.device) (W.contents output.new.device.device)
+        output.new.failed result }
+{
+    let (file, fault) = match parts.get(i) {
+        Some(part) => (part.file, part_fault(part)),
+        None => ("", None),
+    };
+    let status = write_fault(rt.alloc(), file, reason_of(fault), output);
+    say_part_fault(rt, file, fault);
+    status
+}
+
+/// Why a file can't be a section, as a word of the answer.
+fn reason_of(fault: Option<PartFault>) -> &'static str {
+    match fault {
+        Some(PartFault::BadName) => "BadName",
+        Some(PartFault::HasHeading(_)) => "HasHeading",
+        None => "",
+    }
+}
+
+/// Says the same on standard error, and what to do. If that fails too, there is nobody left to tell.
+fn say_part_fault<T: Eprint>(rt: &T, file: &str, fault: Option<PartFault>) {
+    let _ = match fault {
+        Some(PartFault::BadName) => {
+            eprintln!(rt; "hubsync: the name of a profile's file has no line end: rename it")
+        }
+        Some(PartFault::HasHeading(line)) => {
+            eprintln!(rt;
+                "hubsync: {file} line {line} begins with %, as only a line of a bundle does"
+            )
+        }
+        None => Ok(()),
+    };
+}
+
+/// Says what is wrong with a file.
+pub fn write_fault<W: Write>(
+    alloc: Global,
+    file: &str,
+    reason: &str,
+    output: &mut Watched<Kept<'_, W>>,
+) -> u8
+    requires { output.old.failed ≡ false }
+    ensures { WritesFault file.now
+        (W.contents output.old.device.device) (W.contents output.new.device.device)
+        output.new.failed result }
+{
+    match fault_line(alloc, file, reason) {
+        Ok(line) => write_text(line.as_slice(), 2, output),
+        Err(_) => write_memory(output),
+    }
+}
+
+/// The line that says what is wrong with a file.
+fn fault_line(alloc: Global, file: &str, reason: &str) -> Result<Vec<u8>, AllocError>
+    ensures { IfOk result (λ l. l.items ≡ fault_line file.now reason.now) }
+{
+    let mut line = Vec::new(alloc);
+    line.extend_from_slice(b"fault: ")?;
+    line.extend_from_slice(file.as_bytes())?;
+    line.extend_from_slice(b": ")?;
+    line.extend_from_slice(reason.as_bytes())?;
+    line.push(b'\n')?;
+    Ok(line)
+}
+
+/// Says that memory is out.
+pub fn write_memory<W: Write>(output: &mut Watched<Kept<'_, W>>) -> u8
+    requires { output.old.failed ≡ false }
+    ensures { WritesText (W.contents output.old.device.device) (W.contents output.new.device.device)
+        memory_line 2 output.new.failed result }
+{
+    write_text(b"fault: out of memory\n", 2, output)
+}
+
+/// Writes a text and returns its status, or 2 if a write or the flush failed.
+fn write_text<W: Write>(text: &[u8], status: u8, output: &mut Watched<Kept<'_, W>>) -> u8
+    requires { output.old.failed ≡ false }
+    ensures { WritesText (W.contents output.old.device.device) (W.contents output.new.device.device)
+        text.now status output.new.failed result }
+{
+    if output.write_all(text).is_err() || output.flush().is_err() {
+        return 2;
+    }
+    status
+}

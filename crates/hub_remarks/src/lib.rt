@@ -31,6 +31,7 @@ mod note;
 mod pattern;
 mod refusal;
 mod setting;
+mod start;
 mod text;
 mod value;
 

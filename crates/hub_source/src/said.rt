@@ -1,6 +1,9 @@
 //! How a remark is written.
+ghost use Rattle.std.specs.Prelude.{◌≡◌, chars};
+ghost use Rattle.hub_source.specs.Covering as covering;
 
 use crate::source::{Source, SourceLine};
+use hub_text::{begins_with, is_empty, without_last};
 use std::alloc::{AllocError, Global};
 
 /// How many characters of a line are shown at most.
@@ -76,10 +79,32 @@ pub fn odd_encoding(bytes: &[u8]) -> Option<&'static str> {
 }
 
 /// Whether a path is this one or below it. This one may end with a `/`, and the empty one is above all.
-pub fn covers(above: &str, path: &str) -> bool {
-    let above = above.strip_suffix('/').unwrap_or(above);
-    match path.strip_prefix(above) {
-        Some(rest) => above.is_empty() || rest.is_empty() || rest.starts_with('/'),
+pub fn covers(above: &str, path: &str) -> bool
+    ensures { result ≡ covering.covers (chars above.now) (chars path.now) }
+{
+    begins_with_names(without_last(above, '/'), path)
+}
+
+/// Whether a path begins with the names of another one.
+fn begins_with_names(above: &str, path: &str) -> bool
+    ensures { result ≡ covering.begins_with_names (chars above.now) (chars path.now) }
+{
+    match after_front(path, above) {
+        Some(rest) => is_empty(above) || ends_name(rest),
         None => false,
     }
+}
+
+/// What follows a front in a text, if the text begins with it.
+fn after_front<'t>(text: &'t str, front: &str) -> Option<&'t str>
+    ensures { covering.Follows (chars front.now) (chars text.now) result }
+{
+    text.strip_prefix(front)
+}
+
+/// Whether a name ends where this text follows it in a path.
+fn ends_name(rest: &str) -> bool
+    ensures { result ≡ covering.ends_name (chars rest.now) }
+{
+    is_empty(rest) || begins_with(rest, '/')
 }

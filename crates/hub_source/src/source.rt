@@ -1,4 +1,7 @@
 //! The lines of an input, each with its place in its section.
+ghost use Rattle.std.specs.Prelude.{◌≡◌};
+ghost use Rattle.std.specs.List.{list_any};
+ghost use Rattle.hub_source.specs.Places as places;
 
 use hub_text::{BLANKS, Lines};
 use std::alloc::{AllocError, Global};
@@ -55,7 +58,9 @@ impl<'a> SourceLine<'a> {
     }
 
     /// Whether it is the heading of a section.
-    pub fn is_heading(&self) -> bool {
+    pub fn is_heading(&self) -> bool
+        ensures { result ≡ places.is_heading self.now }
+    {
         self.section > 0 && self.number == 0
     }
 
@@ -162,27 +167,37 @@ impl<'a> Source<'a> {
     }
 
     /// The allocator.
-    pub fn alloc(&self) -> Global {
+    pub fn alloc(&self) -> Global
+        ensures { result ≡ self.now.alloc }
+    {
         self.alloc
     }
 
     /// Whether these are all lines of the input.
-    pub fn is_whole(&self) -> bool {
+    pub fn is_whole(&self) -> bool
+        ensures { result ≡ self.now.is_whole }
+    {
         self.is_whole
     }
 
     /// Whether its sections were made of files.
-    pub fn has_files(&self) -> bool {
+    pub fn has_files(&self) -> bool
+        ensures { result ≡ list_any places.has_file self.now.lines.items }
+    {
         self.lines().iter().any(|line| line.file.is_some())
     }
 
     /// The lines, in their order.
-    pub fn lines(&self) -> &[SourceLine<'a>] {
+    pub fn lines(&self) -> &[SourceLine<'a>]
+        ensures { result.now ≡ self.now.lines.items }
+    {
         self.lines.as_slice()
     }
 
     /// The line of that number in the input.
-    pub fn line_at(&self, at: usize) -> Option<SourceLine<'a>> {
+    pub fn line_at(&self, at: usize) -> Option<SourceLine<'a>>
+        ensures { result ≡ places.line_at self.now.lines.items at }
+    {
         let line = self.lines().get(at.checked_sub(1)?)?;
         Some(*line)
     }

@@ -1,0 +1,15 @@
+-- Where the lines of an input are.
+use Rattle.std.specs.Prelude.{ℕ, Bool, ◌&&◌, ◌==◌, ◌-◌, nat_lt, List, Option, None, is_some, slice_get, if◌then◌else◌}
+use Rattle.hub_source.specs.declared.source.SourceLine.{SourceLine}
+
+-- The first line of a section is its heading. Those before the first heading are of no section.
+abbrev pub is_heading : SourceLine → Bool
+is_heading l = nat_lt 0 l.section && l.number == 0
+
+-- The file of its section is known.
+abbrev pub has_file : SourceLine → Bool
+has_file l = is_some l.file
+
+-- The line of that number, from 1 on.
+abbrev pub line_at : List SourceLine → ℕ → Option SourceLine
+line_at ls n = if n == 0 then None else slice_get ls (n - 1)

@@ -50,7 +50,7 @@ abbrev pub lists : Option Blobs → List (Text × List (Path × Contents)) → L
 lists bs rs ks s n e = record { blobs = bs; replicas = rs; archives = ks; section = s; entries = n; ended = e }
 
 abbrev pub draft : Option BlobMap → State → Open → ℕ → Bool → Draft
-draft bm S o n e = record { blobs = bm; state = S; current = o; entries = n; ended = e }
+draft bm S o n e = record { blobs = bm; state = S; current = o; entries = n; ended = e; near = tt }
 
 -- What the draft has stands in these lists.
 abbrev pub HoldsAt : Above → State → Open → ℕ → Bool → Type 0

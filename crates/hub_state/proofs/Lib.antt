@@ -4,6 +4,7 @@ pub mod Digests
 pub mod Drafts
 pub mod Fields
 pub mod Files
+pub mod Folders
 pub mod Inputs
 pub mod Kept
 pub mod Lines

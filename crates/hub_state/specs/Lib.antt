@@ -4,6 +4,7 @@ pub mod Coded
 pub mod Devices
 pub mod Examples
 pub mod Laws
+pub mod Near
 pub mod Reading
 pub mod State
 pub mod Taking

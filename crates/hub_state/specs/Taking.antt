@@ -48,7 +48,7 @@ closed S (opened.HalfArchive r) = S
 closed S (opened.Archive r s a) = with_archive S r s a
 
 abbrev pub nothing_taken : State → Draft
-nothing_taken S = record { blobs = None; state = S; current = opened.Nothing; entries = 0; ended = false }
+nothing_taken S = record { blobs = None; state = S; current = opened.Nothing; entries = 0; ended = false; near = tt }
 
 abbrev pub shut : Draft → Draft
 shut a = record a { state = closed a.state a.current; current = opened.Nothing }

@@ -10,7 +10,8 @@ ghost use Rattle.hub_state.specs.Taking.{IsApart};
 use crate::blobs::Blobs;
 use crate::fault::Fault;
 use crate::form::Form;
-use crate::line::{bytes_in, digest_in, fields_of, form_of, path_in, root_in};
+use crate::line::{bytes_in, digest_in, fields_of, form_of, root_in};
+use crate::near::Near;
 use crate::state::State;
 use crate::{BLOBS, ENTRIES, FILE_BYTES};
 use hub_path::{RelPath, Root};
@@ -45,6 +46,8 @@ pub struct Draft {
     pub entries: usize,
     /// Whether there was an `end`.
     pub ended: bool,
+    /// What reads the paths.
+    pub near: Near,
 }
 
 impl Draft {
@@ -58,6 +61,7 @@ impl Draft {
             current: Open::Nothing,
             entries: 0,
             ended: false,
+            near: Near::new(alloc),
         }
     }
 
@@ -114,7 +118,7 @@ impl Draft {
             Form::Replica => self.begin_replica(alloc, rest),
             Form::Archive => self.begin_archive(alloc, rest),
             Form::With => self.begin_pair(alloc, rest),
-            Form::Dir => self.take_dir(alloc, rest),
+            Form::Dir => self.take_dir(rest),
             Form::File => self.take_file(alloc, rest),
             Form::End => {
                 self.ended = true;
@@ -218,7 +222,7 @@ impl Draft {
     }
 
     /// Takes the directory at the path in a field.
-    fn take_dir(&mut self, alloc: Global, field: &str) -> Result<(), Fault>
+    fn take_dir(&mut self, field: &str) -> Result<(), Fault>
         requires { IsApart self.old.current }
         ensures ok { OnOk result
             (and_then (path_field field.now) (taking.dir_taken self.old self.old.current)
@@ -228,7 +232,7 @@ impl Draft {
             ≡ Err f)) }
         ensures apart { OnOk result (IsApart self.new.current) }
     {
-        let path = path_in(alloc, field)?;
+        let path = self.near.read(field)?;
         let entries = self.entries;
         match &mut self.current {
             Open::Replica(_, tree) => put_dir(tree, entries, &path)?,
@@ -252,9 +256,11 @@ impl Draft {
             return Err(Fault::BadLine);
         };
         let entries = self.entries;
+        let near = &mut self.near;
+        let blobs = &self.blobs;
         match &mut self.current {
-            Open::Replica(_, tree) => put_file(alloc, tree, &self.blobs, entries, field, text)?,
-            Open::Archive(_, _, archive) => put_old_file(alloc, archive, entries, field, text)?,
+            Open::Replica(_, tree) => put_file(alloc, near, tree, blobs, entries, field, text)?,
+            Open::Archive(_, _, archive) => put_old_file(near, archive, entries, field, text)?,
             Open::Nothing => return Err(Fault::BadLine),
             Open::HalfArchive(_) => return Err(Fault::BadLine),
         }
@@ -316,6 +322,7 @@ fn put_dir(tree: &mut Tree, entries: usize, path: &RelPath) -> Result<(), Fault>
 /// Puts a file into a replica after this many entries. In a text of version 2 it names a blob.
 fn put_file(
     alloc: Global,
+    near: &mut Near,
     tree: &mut Tree,
     blobs: &Option<Blobs>,
     entries: usize,
@@ -329,14 +336,14 @@ fn put_file(
     ensures room { OnOk result (entries < ENTRIES) }
 {
     match blobs {
-        None => put_bytes(alloc, tree, entries, field, text),
-        Some(blobs) => put_named(alloc, tree, blobs, entries, field, text),
+        None => put_bytes(alloc, near, tree, entries, field, text),
+        Some(blobs) => put_named(near, tree, blobs, entries, field, text),
     }
 }
 
 /// Puts a file that names a blob into a replica after this many entries. It shares the bytes of the blob.
 fn put_named(
-    alloc: Global,
+    near: &mut Near,
     tree: &mut Tree,
     blobs: &Blobs,
     entries: usize,
@@ -350,7 +357,7 @@ fn put_named(
     ensures room { OnOk result (entries < ENTRIES) }
 {
     let digest = digest_in(field)?;
-    let path = path_in(alloc, text)?;
+    let path = near.read(text)?;
     if entries >= ENTRIES {
         return Err(Fault::TooLarge);
     }
@@ -366,6 +373,7 @@ fn put_named(
 /// Puts a file with these bytes into a replica after this many entries.
 fn put_bytes(
     alloc: Global,
+    near: &mut Near,
     tree: &mut Tree,
     entries: usize,
     field: &str,
@@ -377,7 +385,7 @@ fn put_bytes(
     ensures room { OnOk result (entries < ENTRIES) }
 {
     let bytes = bytes_in(alloc, field)?;
-    let path = path_in(alloc, text)?;
+    let path = near.read(text)?;
     if entries >= ENTRIES || bytes.len() > FILE_BYTES {
         return Err(Fault::TooLarge);
     }
@@ -443,7 +451,7 @@ fn put_old_dir(archive: &mut Archive, entries: usize, path: &RelPath) -> Result<
 
 /// Puts the digest of a file into an archive after this many entries.
 fn put_old_file(
-    alloc: Global,
+    near: &mut Near,
     archive: &mut Archive,
     entries: usize,
     field: &str,
@@ -456,7 +464,7 @@ fn put_old_file(
     ensures room { OnOk result (entries < ENTRIES) }
 {
     let digest = digest_in(field)?;
-    let path = path_in(alloc, text)?;
+    let path = near.read(text)?;
     if entries >= ENTRIES {
         return Err(Fault::TooLarge);
     }

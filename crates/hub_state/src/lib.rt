@@ -16,8 +16,8 @@
 //! A text is read as a fold over its lines. What the lines above say is a draft: the sections that have ended, in a state;
 //! the section that hasn't, beside it; and how many entries there were. So an entry is put where it belongs without a
 //! look-up of its section. Blobs stand in a map by their digests, and a file shares the bytes of its blob, which are hashed
-//! once. `specs/Taking` says what a line adds to a draft, and `proofs/Drafts` that it adds the same to
-//! the lists of entries of `specs/Reading`.
+//! once. A path shares the names of its folder with the path before. `specs/Taking` says what a line adds to a draft, and
+//! `proofs/Drafts` that it adds the same to the lists of entries of `specs/Reading`.
 //!
 //! Only functions that return a `Result` allocate.
 #![tactic(auto)]
@@ -28,6 +28,7 @@ mod fault;
 mod form;
 pub mod laws;
 mod line;
+mod near;
 mod reader;
 mod state;
 mod unmarked;

@@ -1,6 +1,7 @@
 ghost use Rattle.std.specs.Prelude.{◌≡◌, ◌⊎◌, true, false, Ok, Err, Some, None, IfOk, IfErr, IsTrue, MatchOption};
 ghost use Rattle.std.specs.List.{list_any, before_first, after_first};
 ghost use Rattle.hub_path.specs.Path.{is_path};
+ghost use Rattle.hub_path.specs.Reading.{names_fault};
 ghost use Rattle.hub_state.specs.Reading.{line_of, line_among, words, inner_words, is_space};
 ghost use Rattle.hub_state.specs.Reading.{path_field, root_field, bytes_field, digest_field};
 
@@ -59,6 +60,7 @@ fn inner_word_of(line: &str) -> Option<(Form, &str)>
 pub fn path_in(alloc: Global, field: &str) -> Result<RelPath, Fault>
     ensures ok { IfOk result (λ p. path_field field.now ≡ Ok p) }
     ensures valid { IfOk result (λ p. IsTrue (is_path p)) }
+    ensures names { IfOk result (λ p. names_fault 0 p ≡ None) }
     ensures err { IfErr result (λ e. (e ≡ Fault.OutOfMemory) ⊎ (path_field field.now ≡ Err e)) }
 {
     match RelPath::read(alloc, field) {

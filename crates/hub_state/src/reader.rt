@@ -356,6 +356,7 @@ fn state_of(draft: Draft) -> State
         current: _current,
         entries: _entries,
         ended: _ended,
+        near: _near,
     } = draft;
     state
 }

@@ -1,0 +1,84 @@
+-- The names of a path that is read have no fault, and neither have those of its folder, nor those of a path in it.
+use Rattle.std.proofs.Common.{◌≡◌, ◌==◌, ℕ, ◌+◌, ◌<◌, Bool, true, false, cond, List, [], ◌∷◌, ◌++◌, length, refl, sym, ap, ◌∙◌, subst, arith}
+use Rattle.std.specs.Prelude.{Option, Some, None, Ok}
+use Rattle.std.specs.Prelude.{not, bytes_eq, encode_utf8_all}
+use Rattle.std.proofs.lemmas.Bool.{and_from}
+use Rattle.std.proofs.lemmas.Bool.Decides.{nat_tests}
+use Rattle.std.proofs.lemmas.Slice.Eq.{bytes_eq-Decides}
+use Rattle.hub_path.specs.Path.{Name, Path, parent, path_of, is_path, is_place, text_of}
+use Rattle.hub_path.specs.Reading.{name_fault, name_reading, names_fault, path_fault, path_reading, first_fault, begins_with_slash}
+use Rattle.hub_path.specs.ReadNames.{or_fault-Ok}
+use Rattle.hub_path.specs.declared.fault.PathFault.{PathFault}
+use Rattle.hub_path.specs.declared.fault.PathFault.TheVariants.{TooDeep, Empty, LeadingSlash}
+use Rattle.hub_path.specs.declared.rel_path.TheConstants.{PATH_NAMES}
+use Rattle.hub_state.specs.Near.{IsReadFrom}
+use Rattle.hub_state.specs.Reading.{path_field}
+use Rattle.hub_state.specs.Writing.{path_bytes}
+use Rattle.hub_state.proofs.Fields.{path_field-written}
+
+-- What a test without a fault says.
+no_test : (b : Bool) (e : PathFault) (x : Option PathFault) → cond b (Some e) x ≡ None → (b ≡ false) × (x ≡ None)
+no_test true e x h = cc
+no_test false e x h = (refl, h)
+
+no_first : (f x : Option PathFault) → first_fault f x ≡ None → (f ≡ None) × (x ≡ None)
+no_first None x h = (refl, h)
+no_first (Some e) x h = cc
+
+-- The first name, and the others.
+record Fine (depth : ℕ) (n : Name) (p : Path) : Type 0 where
+  room : (depth == PATH_NAMES) ≡ false
+  first : name_fault n ≡ None
+  rest : names_fault (depth + 1) p ≡ None
+
+fine : (depth : ℕ) (n : Name) (p : Path) → names_fault depth (n ∷ p) ≡ None → Fine depth n p
+fine depth n p h =
+    let a = no_test (depth == PATH_NAMES) TooDeep _ h in
+    let b = no_first (name_fault n) (names_fault (depth + 1) p) a.1 in
+    record { room = a.0; first = b.0; rest = b.1 }
+
+not_equal : (a b : ℕ) → a < b → (a == b) ≡ false
+not_equal a b l = grind (arith, nat_tests)
+
+fine-below : (depth : ℕ) (p : Path) (n : Name) → names_fault depth p ≡ None → depth + length p < PATH_NAMES → name_fault n ≡ None → names_fault depth (p ++ n ∷ []) ≡ None
+fine-below depth [] n h l one = rw (not_equal depth PATH_NAMES (omega (arith, l)), one) refl
+fine-below depth (m ∷ p) n h l one =
+    let f = fine depth m p h in
+    rw (f.room, f.first) (fine-below (depth + 1) p n f.rest (omega (arith, l)) one)
+
+fine-parent : (depth : ℕ) (p : Path) → names_fault depth p ≡ None → names_fault depth (parent p) ≡ None
+fine-parent depth [] h = refl
+fine-parent depth (n ∷ []) h = refl
+fine-parent depth (n ∷ m ∷ p) h =
+    let f = fine depth n (m ∷ p) h in
+    rw (f.room, f.first) (fine-parent (depth + 1) (m ∷ p) f.rest)
+
+-- A name that is read, in a folder with room.
+pub below_fine : (p : Path) (t n : List ℕ) → names_fault 0 p ≡ None → length p < PATH_NAMES → name_reading t ≡ Ok n → names_fault 0 (p ++ n ∷ []) ≡ None
+below_fine p t n h l read =
+    let r = or_fault-Ok (name_fault t) t n read in
+    fine-below 0 p n h (omega (arith, l)) (sym (ap name_fault r.1) ∙ r.0)
+
+pub parent_fine : (p : Path) → names_fault 0 p ≡ None → names_fault 0 (parent p) ≡ None
+parent_fine p h = fine-parent 0 p h
+
+-- A path that is read.
+pub read_fine : (t : List ℕ) (p : Path) → path_reading t ≡ Ok p → names_fault 0 p ≡ None
+read_fine t p read =
+    let r = or_fault-Ok (path_fault t) (path_of t) p read in
+    let some = no_test (length t == 0) Empty _ r.0 in
+    let begun = no_test (begins_with_slash t) LeadingSlash _ some.1 in
+    sym (ap (names_fault 0) r.1) ∙ begun.1
+
+-- A path whose text is the field.
+some_more : (p : Path) (n : Name) → not (length (p ++ n ∷ []) == 0) ≡ true
+some_more [] n = grind (arith, nat_tests)
+some_more (m ∷ p) n = grind (arith, nat_tests)
+
+pub is_read_from : (folder : Path) (n : Name) (p : Path) (text field : List ℕ) → p ≡ folder ++ n ∷ [] → names_fault 0 (folder ++ n ∷ []) ≡ None → is_place p ≡ true → text ≡ encode_utf8_all (text_of p) → bytes_eq text field ≡ true
+    → IsReadFrom field p
+is_read_from folder n p text field e fine place t same =
+    let is : is_path p ≡ true = and_from (not (length p == 0)) (is_place p) (ap (λ q. not (length q == 0)) e ∙ some_more folder n) place in
+    let names : names_fault 0 p ≡ None = ap (names_fault 0) e ∙ fine in
+    let field_is : path_bytes p ≡ field = sym t ∙ (bytes_eq-Decides text field).0 same in
+    (subst (λ u. path_field u ≡ Ok p) field_is (path_field-written p is names), is, names)

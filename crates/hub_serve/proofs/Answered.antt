@@ -6,8 +6,8 @@ use Rattle.std.proofs.KnownBytes.{Appends-kept}
 use Rattle.std.proofs.lemmas.List.{append_cancel_left, take_all}
 use Rattle.std.proofs.lemmas.Option.{none-some, same_Some}
 use Rattle.std.proofs.lemmas.Bool.{false≢true, true≢false}
-use Rattle.hub_words.specs.declared.words.Question.TheVariants as ask
-use Rattle.hub_words.specs.Words.{Request, about, asked_of}
+use Rattle.hub_cli.specs.declared.words.Question.TheVariants as ask
+use Rattle.hub_cli.specs.Words.{Request, about, asked_of}
 use Rattle.hub_report.specs.declared.report.Report.{Report}
 use Rattle.hub_report.specs.declared.report.Report.TheVariants.{Safe, Ran, NotRun, NoState, Verified, Certified, Refused, Clashes, Cut, NotVerified, Reached, NotReached, NoProfile, BadPath, Unread, BadBundle, BadSection, OutOfMemory}
 use Rattle.hub_report.specs.Report.{status_of}

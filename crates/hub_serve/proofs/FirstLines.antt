@@ -23,10 +23,10 @@ use Rattle.hub_report.specs.Refusal.{refusal_line}
 use Rattle.hub_report.specs.Jobs.{lines_of_jobs}
 use Rattle.hub_report.specs.Run.{error_line}
 use Rattle.hub_report.specs.Starts.{HoldsOfStarts, Start, SafeStart, VerifiedStart, OverlapStart, BreachStart, TooLargeStart, RoundsStart, ReachedStart, NotReachedStart, OtherStart, start, begins, lines-start, refusal-start}
-use Rattle.hub_words.specs.declared.words.Question.{Question}
-use Rattle.hub_words.specs.declared.words.Question.TheVariants as ask
-use Rattle.hub_words.specs.declared.words.Question.TheVariants.{CheckWithState, Run, Check, Certify, Verify}
-use Rattle.hub_words.specs.Words.{Request, about}
+use Rattle.hub_cli.specs.declared.words.Question.{Question}
+use Rattle.hub_cli.specs.declared.words.Question.TheVariants as ask
+use Rattle.hub_cli.specs.declared.words.Question.TheVariants.{CheckWithState, Run, Check, Certify, Verify}
+use Rattle.hub_cli.specs.Words.{Request, about}
 use Rattle.hub_serve.specs.declared.task.Task.{Task}
 use Rattle.hub_serve.specs.declared.task.Task.TheVariants as task
 use Rattle.hub_serve.specs.Report.{FaultOf, IsRefusedFor, IsTold, IsTrueOf, Holds, SpellsClashes, SpellsRounds, SpellsSafe, SpellsUnsafe, SpellsVerified}

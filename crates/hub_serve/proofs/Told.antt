@@ -8,8 +8,8 @@ use Rattle.hub_cert.specs.declared.certificate.Certificate.{Certificate}
 use Rattle.hub_cert.specs.declared.fault.CheckFault.{CheckFault}
 use Rattle.hub_bundle.specs.declared.sections.Contents.{Contents}
 use Rattle.hub_bundle.specs.Sections.{members}
-use Rattle.hub_words.specs.declared.words.Question.{Question}
-use Rattle.hub_words.specs.Words.{Request, about}
+use Rattle.hub_cli.specs.declared.words.Question.{Question}
+use Rattle.hub_cli.specs.Words.{Request, about}
 use Rattle.hub_report.specs.declared.report.Report.{Report}
 use Rattle.hub_report.specs.declared.report.Report.TheVariants.{Safe, Ran, NotRun, NoState, Verified, Certified, Refused, Clashes, Cut, NotVerified, Reached, NotReached, NoProfile, BadPath, Unread, BadBundle, BadSection, OutOfMemory}
 use Rattle.hub_serve.specs.declared.task.Task.{Task}

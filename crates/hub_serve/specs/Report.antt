@@ -22,11 +22,11 @@ use Rattle.hub_bundle.specs.declared.input.InputFault.TheVariants as input
 use Rattle.hub_bundle.specs.declared.sections.Contents.{Contents}
 use Rattle.hub_bundle.specs.Bundle.{bundle_reading}
 use Rattle.hub_bundle.specs.Sections.{Spells, HasFault, members}
-use Rattle.hub_words.specs.declared.words.Question.{Question}
-use Rattle.hub_words.specs.declared.words.Question.TheVariants as ask
-use Rattle.hub_words.specs.declared.words.Question.TheVariants.{Verify}
-use Rattle.hub_words.specs.Words.{Request}
-use Rattle.hub_words.specs.Words as question
+use Rattle.hub_cli.specs.declared.words.Question.{Question}
+use Rattle.hub_cli.specs.declared.words.Question.TheVariants as ask
+use Rattle.hub_cli.specs.declared.words.Question.TheVariants.{Verify}
+use Rattle.hub_cli.specs.Words.{Request}
+use Rattle.hub_cli.specs.Words as question
 use Rattle.hub_report.specs.declared.report.Report.{Report}
 use Rattle.hub_report.specs.declared.report.Report.TheVariants.{Safe, Ran, NotRun, NoState, Verified, Certified, Refused, Clashes, Cut, NotVerified, Reached, NotReached, NoProfile, BadPath, Unread, BadBundle, BadSection, OutOfMemory}
 use Rattle.hub_serve.specs.declared.task.Task.{Task}

@@ -1,10 +1,10 @@
 -- What is to be done about a set.
 use Rattle.std.specs.Prelude.{◌≡◌, ℕ, Option, Some, None}
 use Rattle.hub_state.specs.State.{State}
-use Rattle.hub_words.specs.declared.words.Question.{Question}
-use Rattle.hub_words.specs.declared.words.Question.TheVariants.{CheckWithState, Run, Check, Certify, Verify, Clashes, Rounds}
-use Rattle.hub_words.specs.Words.{Request, about}
-use Rattle.hub_words.specs.declared.words.TheConstants.{DEFAULT_WORKERS}
+use Rattle.hub_cli.specs.declared.words.Question.{Question}
+use Rattle.hub_cli.specs.declared.words.Question.TheVariants.{CheckWithState, Run, Check, Certify, Verify, Clashes, Rounds}
+use Rattle.hub_cli.specs.Words.{Request, about}
+use Rattle.hub_cli.specs.declared.words.TheConstants.{DEFAULT_WORKERS}
 use Rattle.hub_serve.specs.declared.task.Task.{Task}
 use Rattle.hub_serve.specs.declared.task.Task.TheVariants as task
 

@@ -2,7 +2,7 @@
 ghost use Rattle.std.specs.Prelude.{◌≡◌, ◌⊎◌, false, true, IfErr, IfOk, IfSome, None, Some};
 ghost use Rattle.hub_bundle.specs.Bundle as bundle;
 ghost use Rattle.hub_bundle.specs.Sections.{Spells};
-ghost use Rattle.hub_words.specs.Words.{Request, request_of};
+ghost use Rattle.hub_cli.specs.Words.{Request, request_of};
 ghost use Rattle.hub_report.specs.Report.{says_read_failed, unread_by};
 ghost use Rattle.hub_serve.specs.Reads.{AreSpent, reads_between};
 ghost use Rattle.hub_serve.specs.Report as report;
@@ -13,9 +13,9 @@ use hub_bundle::{
     BundleFault, BundleLineFault, Contents, InputFault, ReadError, read_bundle, read_input,
     read_sections,
 };
+use hub_cli::Asked;
 use hub_report::Report;
 use hub_text::Watched;
-use hub_words::Asked;
 use std::alloc::Global;
 use std::io::Read;
 use std::sync::Wait;

@@ -8,7 +8,7 @@
 //! let status = serve(&rt, &["hubsync", "run"], &mut input, &mut output);
 //! ```
 //!
-//! - The words are read by `hub_words`. The input is read by `hub_bundle`, with all of its sections (`answer`).
+//! - The words are read by `hub_cli`. The input is read by `hub_bundle`, with all of its sections (`answer`).
 //! - The set of the profiles and rules is made, and is checked or its certificates are verified (`task`, `verdict`); or one
 //!   profile is asked whether it reaches a path (`reach`).
 //! - Or all that clashes in the set is listed, or it is cut into rounds (`rounds`).

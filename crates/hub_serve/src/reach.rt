@@ -1,6 +1,6 @@
 //! Whether a profile of a bundle reaches a path.
 ghost use Rattle.std.specs.Prelude.{◌≡◌, ◌⊎◌, Some, None, MatchOption};
-ghost use Rattle.hub_words.specs.Words as words;
+ghost use Rattle.hub_cli.specs.Words as words;
 ghost use Rattle.hub_report.specs.Report.{unread_by};
 ghost use Rattle.hub_serve.specs.Report as report;
 ghost use Rattle.hub_serve.specs.Reached.{named};

@@ -2,8 +2,8 @@
 ghost use Rattle.std.specs.Prelude.{◌≡◌};
 ghost use Rattle.hub_serve.specs.Task as spec;
 
+use hub_cli::{DEFAULT_WORKERS, Question};
 use hub_state::State;
-use hub_words::{DEFAULT_WORKERS, Question};
 
 /// What is to be done about the set of a bundle's profiles and rules.
 #[derive(Drop)]

@@ -1,6 +1,6 @@
 -- What is answered over files.
 use Rattle.std.specs.Prelude.{◌≡◌, ◌⊎◌, ◌++◌, ℕ, zero, suc, Bool, List, [], ◌∷◌, Option, Some, None, codes}
-use Rattle.hub_words.specs.Words.{Request}
+use Rattle.hub_cli.specs.Words.{Request}
 use Rattle.hub_files.specs.Files.{bundle_of, first_faulty}
 use Rattle.hub_files.specs.declared.part.Part.{Part}
 use Rattle.hub_serve.specs.Reads.{Reads}

@@ -1,6 +1,6 @@
 //! Answers over a bundle that is made of files.
 ghost use Rattle.std.specs.Prelude.{◌≡◌, ◌++◌, ◌∷◌, [], IfOk, codes, false, map, string_bytes};
-ghost use Rattle.hub_words.specs.Words.{asked_of};
+ghost use Rattle.hub_cli.specs.Words.{asked_of};
 ghost use Rattle.hub_files.specs.Files.{bundle_of};
 ghost use Rattle.hub_serve.specs.Report.{WritesText};
 ghost use Rattle.hubsync.specs.Bundled.{ServesBundle, ServesParts, WritesFault, fault_line, file_at, memory_line};

@@ -14,7 +14,7 @@ mod kept;
 mod served;
 
 ghost use Rattle.std.specs.Prelude.{◌≡◌, false, map, string_bytes, true};
-ghost use Rattle.hub_words.specs.Words.{are_none, asked_of, files_of};
+ghost use Rattle.hub_cli.specs.Words.{are_none, asked_of, files_of};
 ghost use Rattle.hub_serve.specs.Reads.{reads_between};
 ghost use Rattle.hubsync.specs.Bundled.{ServesInput};
 
@@ -22,9 +22,9 @@ use crate::bundled::write_memory;
 use crate::files::serve_files;
 use crate::kept::Kept;
 use crate::served::{Seen, serve_with_remarks};
+use hub_cli::{ErrorKind, read_files};
 use hub_serve::serve_process;
 use hub_text::Watched;
-use hub_words::{ErrorKind, read_files};
 use std::fs::Files;
 use std::io::{Eprint, IsTerminal, Read, Write};
 use std::process::ExitCode;

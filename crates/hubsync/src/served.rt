@@ -1,6 +1,6 @@
 //! An answer, and remarks on it.
 ghost use Rattle.std.specs.Prelude.{◌≡◌, false, map, string_bytes};
-ghost use Rattle.hub_words.specs.Words.{asked_of};
+ghost use Rattle.hub_cli.specs.Words.{asked_of};
 ghost use Rattle.hub_serve.specs.Reads.{reads_between};
 ghost use Rattle.hub_serve.specs.Report.{Serves};
 

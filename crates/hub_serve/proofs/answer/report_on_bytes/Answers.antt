@@ -1,4 +1,4 @@
-use Rattle.hub_words.specs.Words.{request_of}
+use Rattle.hub_cli.specs.Words.{request_of}
 use Rattle.hub_serve.proofs.answer.report_on_bytes.Goals as goal
 
 pub returns-in-Err-clause-holds : goal.returns-in-Err-clause-holds

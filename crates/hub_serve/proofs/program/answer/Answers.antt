@@ -1,4 +1,4 @@
-use Rattle.hub_words.specs.Words.{request_of}
+use Rattle.hub_cli.specs.Words.{request_of}
 use Rattle.hub_serve.proofs.Answered.{memory-answers}
 use Rattle.hub_serve.proofs.program.answer.Goals as goal
 

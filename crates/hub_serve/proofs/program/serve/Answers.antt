@@ -1,4 +1,4 @@
-use Rattle.hub_words.specs.Words.{request_of}
+use Rattle.hub_cli.specs.Words.{request_of}
 use Rattle.hub_serve.proofs.Answered.{serves-asked, serves-refused}
 use Rattle.hub_serve.proofs.program.serve.Goals as goal
 

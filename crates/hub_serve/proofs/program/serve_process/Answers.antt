@@ -1,5 +1,5 @@
 use Rattle.std.proofs.Common.{ap, map, string_bytes, Global}
-use Rattle.hub_words.specs.Words.{asked_of}
+use Rattle.hub_cli.specs.Words.{asked_of}
 use Rattle.hub_serve.specs.Reads.{reads_between}
 use Rattle.hub_serve.specs.Report.{Serves}
 use Rattle.hub_serve.proofs.Answered.{ok-holds, serves-same}

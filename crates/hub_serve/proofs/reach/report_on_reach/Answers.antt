@@ -1,7 +1,7 @@
 use Rattle.std.proofs.Common.{◌∙◌, ◌≡◌, ◌⊎◌, List, ap, inl, inr, refl, sym}
 use Rattle.hub_path.specs.declared.fault.PathFault.TheVariants as path
 use Rattle.hub_profile.specs.Parts.{Parts}
-use Rattle.hub_words.specs.Words.{reach}
+use Rattle.hub_cli.specs.Words.{reach}
 use Rattle.hub_serve.specs.Reached.{named}
 use Rattle.hub_serve.specs.Report.{HasBadPath}
 use Rattle.hub_serve.proofs.Told.{path-told}

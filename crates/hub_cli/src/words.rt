@@ -6,8 +6,8 @@ ghost use Rattle.std.specs.Prelude.{◌≡◌, ◌⊎◌, IfErr, IfOk, None, Som
 ghost use Rattle.std.specs.List.{list_all};
 ghost use Rattle.clap.specs.Words.{app_of, found_of, kind_of, matched_of, one_text, raw_values, subcommand_rows_of};
 ghost use Rattle.clap.specs.declared.error.kind.ErrorKind.TheVariants.{OutOfMemory};
-ghost use Rattle.hub_words.specs.Words as words;
-ghost use Rattle.hub_words.specs.Words.{asked_of, files_of, hubsync_app, names_in, request_in, request_of};
+ghost use Rattle.hub_cli.specs.Words as words;
+ghost use Rattle.hub_cli.specs.Words.{asked_of, files_of, hubsync_app, names_in, request_in, request_of};
 
 use crate::app::command;
 use clap::error::ErrorKind;

@@ -1,7 +1,7 @@
 use Rattle.std.proofs.Common.{map}
 use Rattle.clap.specs.Words.{app_of}
-use Rattle.hub_words.proofs.WordsFacts.{asked_is, files_are, passed_up, refused}
-use Rattle.hub_words.proofs.words.parse.Goals as goal
+use Rattle.hub_cli.proofs.WordsFacts.{asked_is, files_are, passed_up, refused}
+use Rattle.hub_cli.proofs.words.parse.Goals as goal
 
 pub returns-in_err-matches-clause-err : goal.returns-in_err-matches-clause-err
 returns-in_err-matches-clause-err g c =

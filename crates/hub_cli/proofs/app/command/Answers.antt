@@ -1,8 +1,8 @@
 use Rattle.std.proofs.Common.{◌∙◌, ap, ap₂}
 use Rattle.std.proofs.lemmas.Result.{IfOk-weaker}
 use Rattle.clap.specs.Words.{App, with_subcommand}
-use Rattle.hub_words.specs.Words.{hubsync_app}
-use Rattle.hub_words.proofs.app.command.Goals as goal
+use Rattle.hub_cli.specs.Words.{hubsync_app}
+use Rattle.hub_cli.proofs.app.command.Goals as goal
 
 pub returns : goal.returns
 unfolding hubsync_app

@@ -2,9 +2,9 @@
 use Rattle.std.specs.Prelude.{⊤, ◌≡◌, List, [], ◌∷◌, Option, Some, None, codes, refl}
 use Rattle.clap.proofs.OnLiterals.{clap_on_literals}
 use Rattle.clap.specs.Words.{Text}
-use Rattle.hub_words.specs.Words.{Names, Request, about, asked_of, files_of, hubsync_app, no_names, reach}
-use Rattle.hub_words.specs.declared.words.Question.TheVariants.{CheckWithState, Run, Check, Certify, Verify, Clashes, Rounds}
-use Rattle.hub_words.specs.declared.words.TheConstants.{DEFAULT_WORKERS}
+use Rattle.hub_cli.specs.Words.{Names, Request, about, asked_of, files_of, hubsync_app, no_names, reach}
+use Rattle.hub_cli.specs.declared.words.Question.TheVariants.{CheckWithState, Run, Check, Certify, Verify, Clashes, Rounds}
+use Rattle.hub_cli.specs.declared.words.TheConstants.{DEFAULT_WORKERS}
 
 -- What these examples compute.
 computed : ⊤

@@ -1,8 +1,8 @@
 use Rattle.std.proofs.Common.{Some, None, codes}
 use Rattle.std.specs.Str.Parse.{ParsesUnsigned, ExplainsUnsignedError, HasUnsignedDigitsIfOk}
 use Rattle.clap.specs.Words.{found_of, one_text}
-use Rattle.hub_words.proofs.WordsFacts.{run_asked}
-use Rattle.hub_words.proofs.words.run_by.Goals as goal
+use Rattle.hub_cli.proofs.WordsFacts.{run_asked}
+use Rattle.hub_cli.proofs.words.run_by.Goals as goal
 
 pub returns-in_err-workers : goal.returns-in_err-workers
 returns-in_err-workers c =

@@ -3,8 +3,8 @@
 ghost use Rattle.std.specs.Prelude.{◌≡◌, ◌⊎◌, [], IfErr, IfOk, None, codes, is_some, map, option_map, true, unwrap_or};
 ghost use Rattle.clap.specs.Words.{found_of, kind_of, matched_of, raw_values, rows_of, subcommand_rows_of};
 ghost use Rattle.clap.specs.declared.error.kind.ErrorKind.TheVariants.{OutOfMemory};
-ghost use Rattle.hub_words.specs.Words as words;
-ghost use Rattle.hub_words.specs.Words.{are_none, asked_of, files_of, names_in, names_of};
+ghost use Rattle.hub_cli.specs.Words as words;
+ghost use Rattle.hub_cli.specs.Words.{are_none, asked_of, files_of, names_in, names_of};
 
 use crate::app::command;
 use crate::words::{asked_in, parse, refusal};

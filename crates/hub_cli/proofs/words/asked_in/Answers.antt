@@ -1,9 +1,9 @@
 use Rattle.std.proofs.Common.{◌∙◌, codes, sym, ap, ap₂}
 use Rattle.std.proofs.lemmas.Bool.{not-false, not-true}
 use Rattle.clap.specs.Words.{found_of, first_value}
-use Rattle.hub_words.specs.Words.{operands_of}
-use Rattle.hub_words.proofs.WordsFacts.{about_in, reach_in}
-use Rattle.hub_words.proofs.words.asked_in.Goals as goal
+use Rattle.hub_cli.specs.Words.{operands_of}
+use Rattle.hub_cli.proofs.WordsFacts.{about_in, reach_in}
+use Rattle.hub_cli.proofs.words.asked_in.Goals as goal
 
 pub returns-then-ne : goal.returns-then-ne
 returns-then-ne c =

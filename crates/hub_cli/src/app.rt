@@ -3,8 +3,8 @@
 ghost use Rattle.std.specs.Prelude.{◌≡◌, IfOk, codes, false};
 ghost use Rattle.clap.specs.Words.{app_of, new_app, rule_of, with_subcommand};
 ghost use Rattle.clap.specs.declared.builder.command.Command.TheViews.{out-Command as fields_of};
-ghost use Rattle.hub_words.specs.Words as words;
-ghost use Rattle.hub_words.specs.Words.{about_app, checker_app, hubsync_app, reach_app, run_app, set_app, top_app};
+ghost use Rattle.hub_cli.specs.Words as words;
+ghost use Rattle.hub_cli.specs.Words.{about_app, checker_app, hubsync_app, reach_app, run_app, set_app, top_app};
 
 use crate::help::{CERTIFY, CHECK, CLASHES, HUBSYNC, Help, LONG, REACH, ROUNDS, RUN, VERIFY};
 use crate::words::DEFAULT_WORKERS_TEXT;

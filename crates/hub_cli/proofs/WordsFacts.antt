@@ -19,8 +19,8 @@ use Rattle.clap.specs.declared.parser.matches.Found.{Found}
 use Rattle.clap.specs.declared.parser.matches.ArgMatches.{ArgMatches}
 use Rattle.clap.specs.declared.parser.matches.ArgMatches.TheViews.{out-ArgMatches, out-SubCommand}
 use Rattle.clap.specs.declared.parser.matches.SubCommand.{SubCommand}
-use Rattle.hub_words.specs.declared.words.Question.TheVariants.{Run}
-use Rattle.hub_words.specs.Words.{Request, about, about_files, asked_of, byte_of, files_of, hubsync_app, names_found, names_in, operands_of, request_in, run_by, unless_fault, Names}
+use Rattle.hub_cli.specs.declared.words.Question.TheVariants.{Run}
+use Rattle.hub_cli.specs.Words.{Request, about, about_files, asked_of, byte_of, files_of, hubsync_app, names_found, names_in, operands_of, request_in, run_by, unless_fault, Names}
 
 simple : is_simple hubsync_app ≡ true
 unfolding clap_on_literals hubsync_app

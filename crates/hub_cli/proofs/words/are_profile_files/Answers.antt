@@ -1,7 +1,7 @@
 use Rattle.std.proofs.Common.{◌∙◌, ap, map, sym}
 use Rattle.std.proofs.lemmas.List.Folds.{list_all-map}
-use Rattle.hub_words.specs.Words.{are_profile_files, is_profile_file}
-use Rattle.hub_words.proofs.words.are_profile_files.Goals as goal
+use Rattle.hub_cli.specs.Words.{are_profile_files, is_profile_file}
+use Rattle.hub_cli.proofs.words.are_profile_files.Goals as goal
 
 pub returns-in-Some : goal.returns-in-Some
 returns-in-Some c =

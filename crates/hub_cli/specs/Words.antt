@@ -9,12 +9,12 @@ use Rattle.clap.specs.ValueTests.{is_unsigned_in}
 use Rattle.clap.specs.Words.{App, Row, Rule, Text, all_of, fault_of, first_of, new_app, new_rule, one_of, subcommand_of, with_rule, with_subcommand}
 use Rattle.clap.specs.declared.builder.action.ArgAction.TheVariants.{Append}
 use Rattle.clap.specs.declared.builder.value_parser.ValueParser.TheVariants.{Signed}
-use Rattle.hub_words.specs.declared.files.Files.{Files}
-use Rattle.hub_words.specs.declared.words.Asked.{Asked}
-use Rattle.hub_words.specs.declared.words.Asked.TheVariants.{About, Reach}
-use Rattle.hub_words.specs.declared.words.Question.{Question}
-use Rattle.hub_words.specs.declared.words.Question.TheVariants.{CheckWithState, Run, Check, Certify, Verify, Clashes, Rounds}
-use Rattle.hub_words.specs.declared.words.TheConstants.{DEFAULT_WORKERS_TEXT}
+use Rattle.hub_cli.specs.declared.files.Files.{Files}
+use Rattle.hub_cli.specs.declared.words.Asked.{Asked}
+use Rattle.hub_cli.specs.declared.words.Asked.TheVariants.{About, Reach}
+use Rattle.hub_cli.specs.declared.words.Question.{Question}
+use Rattle.hub_cli.specs.declared.words.Question.TheVariants.{CheckWithState, Run, Check, Certify, Verify, Clashes, Rounds}
+use Rattle.hub_cli.specs.declared.words.TheConstants.{DEFAULT_WORKERS_TEXT}
 
 -- a required operand
 abbrev pub operand : Text → Rule

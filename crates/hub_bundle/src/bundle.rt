@@ -172,7 +172,7 @@ fn take_section<'a>(lines: &mut Lines<'a>) -> (&'a [u8], usize)
     (&below[..len], count)
 }
 
-/// Whether a section ends before these bytes: they are none, or begin with a heading.
+/// Returns whether a section ends before these bytes: they are none, or begin with a heading.
 fn is_over(rest: &[u8]) -> bool
     ensures { result ≡ follows_section rest.now }
 {
@@ -221,7 +221,8 @@ fn read_heading_below(
     Ok(heading)
 }
 
-/// Whether the heading's kind may occur once, and has one of these sections. Only such kinds look at the sections.
+/// Returns whether the heading's kind may occur once, and has one of these sections. Only such kinds look at the
+/// sections.
 fn is_repeated(sections: &[Section<'_>], heading: &Heading) -> bool
     ensures { result ≡ bundle.is_repeated sections.now heading.now }
 {

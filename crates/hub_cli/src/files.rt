@@ -26,7 +26,7 @@ pub struct Files<'a> {
 }
 
 impl<'a> Files<'a> {
-    /// Whether no file is named: then the input comes on standard input.
+    /// Returns whether no file is named: then the input comes on standard input.
     pub fn is_empty(&self) -> bool
         ensures { result ≡ are_none (names_of self.now) }
     {

@@ -153,7 +153,7 @@ fn about_files<'a>(name: &str, found: &ArgMatches<'_>) -> Option<Asked<'a>>
     }
 }
 
-/// Whether all operands are files of profiles.
+/// Returns whether all operands are files of profiles.
 fn are_profile_files(found: &ArgMatches<'_>) -> bool
     ensures { result ≡ words.are_profile_files
         (option_map raw_values (matched_of (found_of found.now) (codes "files"))) }
@@ -164,14 +164,14 @@ fn are_profile_files(found: &ArgMatches<'_>) -> bool
     }
 }
 
-/// Whether these words are files of profiles.
+/// Returns whether these words are files of profiles.
 fn are_all_profile_files(files: &[&str]) -> bool
     ensures { result ≡ list_all (λ file. words.is_profile_file file.now) files.now }
 {
     files.iter().all(|file| is_profile_file(*file))
 }
 
-/// Whether a word is the file of a profile.
+/// Returns whether a word is the file of a profile.
 fn is_profile_file(file: &str) -> bool
     ensures { result ≡ words.is_profile_file file.now }
 {

@@ -67,7 +67,7 @@ fn push_part(bundle: &mut Vec<u8>, part: &Part<'_>) -> Result<(), AllocError>
     Ok(())
 }
 
-/// Whether there is a last line without an LF.
+/// Returns whether there is a last line without an LF.
 fn lacks_end(bytes: &[u8]) -> bool
     ensures { result ≡ files.lacks_end bytes.now }
 {

@@ -74,7 +74,7 @@ pub fn part_fault(part: &Part<'_>) -> Option<PartFault>
     }
 }
 
-/// Whether a name has an LF or a CR.
+/// Returns whether a name has an LF or a CR.
 fn has_break(name: &[u8]) -> bool
     ensures { result ≡ files.has_break name.now }
 {
@@ -93,7 +93,7 @@ fn heading_line(bytes: &[u8]) -> Option<usize>
     None
 }
 
-/// Whether a line begins with `%`.
+/// Returns whether a line begins with `%`.
 fn is_heading(line: &[u8]) -> bool
     ensures { result ≡ files.is_heading line.now }
 {

@@ -68,7 +68,7 @@ fn source(profile: &Profile, item: &Row, below: &[Row]) -> Option<Side>
     }
 }
 
-/// Whether one side is updated at the item, and the other one at or below it.
+/// Returns whether one side is updated at the item, and the other one at or below it.
 fn is_conflict(item: &Row, below: &[Row]) -> bool
     ensures { result ≡ fates.is_conflict item.now below.now }
 {
@@ -76,35 +76,35 @@ fn is_conflict(item: &Row, below: &[Row]) -> bool
         || (item.is_updated(Side::Right) && is_updated_in(item, below, Side::Left))
 }
 
-/// Whether the side is updated at the item or below it.
+/// Returns whether the side is updated at the item or below it.
 fn is_updated_in(item: &Row, below: &[Row], side: Side) -> bool
     ensures { result ≡ fates.is_updated_in side item.now below.now }
 {
     item.is_updated(side) || is_updated_below(below, side)
 }
 
-/// Whether the side is updated below the item.
+/// Returns whether the side is updated below the item.
 fn is_updated_below(below: &[Row], side: Side) -> bool
     ensures { result ≡ list_any (spec_rows.is_changed side) below.now }
 {
     below.iter().any(|row| row.is_updated(side))
 }
 
-/// Whether some change of the item is not allowed.
+/// Returns whether some change of the item is not allowed.
 fn is_barred(profile: &Profile, item: &Row, below: &[Row], from: Side) -> bool
     ensures { result ≡ fates.is_barred profile.now from item.now below.now }
 {
     is_barred_below(profile, below, from) || bars(profile, item, from, item.mark(from))
 }
 
-/// Whether some change below an item is not allowed.
+/// Returns whether some change below an item is not allowed.
 fn is_barred_below(profile: &Profile, below: &[Row], from: Side) -> bool
     ensures { result ≡ list_any (fates.changes_with (fates.bars profile.now from) from) below.now }
 {
     below.iter().any(|row| bars_below(profile, row, from))
 }
 
-/// Whether the change of a row below an item is not allowed.
+/// Returns whether the change of a row below an item is not allowed.
 fn bars_below(profile: &Profile, row: &Row, from: Side) -> bool
     ensures { result ≡ fates.changes_with (fates.bars profile.now from) from row.now }
 {
@@ -112,7 +112,7 @@ fn bars_below(profile: &Profile, row: &Row, from: Side) -> bool
         || (row.comes(from) && bars(profile, row, from, row.mark(from)))
 }
 
-/// Whether the path may not get this mark from that side.
+/// Returns whether the path may not get this mark from that side.
 fn bars(profile: &Profile, row: &Row, from: Side, mark: Mark) -> bool
     ensures { result ≡ fates.bars profile.now from row.now mark }
 {
@@ -121,21 +121,21 @@ fn bars(profile: &Profile, row: &Row, from: Side, mark: Mark) -> bool
     !may_at(profile, profile.root(to), row.path, verb)
 }
 
-/// Whether some change of the item removes or replaces a directory that has children that aren't reached.
+/// Returns whether some change of the item removes or replaces a directory that has children that aren't reached.
 fn is_blocked(item: &Row, below: &[Row], from: Side) -> bool
     ensures { result ≡ fates.is_blocked from item.now below.now }
 {
     is_blocked_below(below, from) || blocks(item, from, item.mark(from))
 }
 
-/// Whether some change below an item removes or replaces such a directory.
+/// Returns whether some change below an item removes or replaces such a directory.
 fn is_blocked_below(below: &[Row], from: Side) -> bool
     ensures { result ≡ list_any (fates.changes_with (fates.blocks from) from) below.now }
 {
     below.iter().any(|row| blocks_below(row, from))
 }
 
-/// Whether the change of a row below an item removes or replaces such a directory.
+/// Returns whether the change of a row below an item removes or replaces such a directory.
 fn blocks_below(row: &Row, from: Side) -> bool
     ensures { result ≡ fates.changes_with (fates.blocks from) from row.now }
 {
@@ -143,7 +143,7 @@ fn blocks_below(row: &Row, from: Side) -> bool
         || (row.comes(from) && blocks(row, from, row.mark(from)))
 }
 
-/// Whether the path is such a directory, and doesn't stay one with this mark from that side.
+/// Returns whether the path is such a directory, and doesn't stay one with this mark from that side.
 fn blocks(row: &Row, from: Side, mark: Mark) -> bool
     ensures { result ≡ fates.blocks from row.now mark }
 {

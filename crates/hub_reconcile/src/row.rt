@@ -46,35 +46,35 @@ impl Row<'_> {
         self.seen(side).mark
     }
 
-    /// Whether the marks of the two sides differ.
+    /// Returns whether the marks of the two sides differ.
     pub fn differs(&self) -> bool
         ensures { result ≡ rows.is_different self.now }
     {
         !is_same(self.left.mark, self.right.mark)
     }
 
-    /// Whether the side's mark is not that of the archive.
+    /// Returns whether the side's mark is not that of the archive.
     pub fn is_updated(&self, side: Side) -> bool
         ensures { result ≡ rows.is_changed side self.now }
     {
         !is_same(self.mark(side), self.old)
     }
 
-    /// Whether the path goes where the contents come from this side: only the other side has something there.
+    /// Returns whether the path goes where the contents come from this side: only the other side has something there.
     pub fn goes(&self, from: Side) -> bool
         ensures { result ≡ rows.is_going from self.now }
     {
         is_present(self.mark(from.other())) && !is_present(self.mark(from))
     }
 
-    /// Whether the path comes from this side: it has something there.
+    /// Returns whether the path comes from this side: it has something there.
     pub fn comes(&self, from: Side) -> bool
         ensures { result ≡ rows.is_coming from self.now }
     {
         is_present(self.mark(from))
     }
 
-    /// Whether anything is known of the path: it is on a side or in the archive.
+    /// Returns whether anything is known of the path: it is on a side or in the archive.
     pub fn is_known(&self) -> bool
         ensures { result ≡ rows.is_anywhere self.now }
     {

@@ -149,7 +149,7 @@ fn past_look<'a>(looks: &'a [Look<'a>], path: &RelPath) -> &'a [Look<'a>]
     }
 }
 
-/// Whether a row counts: something is known of its path, and the profile reaches it.
+/// Returns whether a row counts: something is known of its path, and the profile reaches it.
 fn counts(profile: &Profile, row: &Row) -> bool
     ensures { result ≡ is_counted profile.now row.now }
 {

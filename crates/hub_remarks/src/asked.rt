@@ -175,7 +175,7 @@ pub(crate) fn say_not_reached(out: &mut String, source: &Source<'_>, words: &[St
     }
 }
 
-/// Whether a profile has a path at this one or above it.
+/// Returns whether a profile has a path at this one or above it.
 fn is_kept(source: &Source<'_>, section: usize, path: &str) -> Result<bool, AllocError> {
     let lines = source.settings(section, "path")?;
     let kept = lines

@@ -21,7 +21,7 @@ pub(crate) fn say_idle_rule(out: &mut String, source: &Source<'_>, section: usiz
     Ok(())
 }
 
-/// Whether some profiles have a root, but none of them reaches there a path that begins so.
+/// Returns whether some profiles have a root, but none of them reaches there a path that begins so.
 fn is_idle(source: &Source<'_>, profiles: &[SourceLine<'_>], root: &str, start: Start<'_>) -> bool {
     let mut has_root = false;
     for profile in profiles {
@@ -36,13 +36,13 @@ fn is_idle(source: &Source<'_>, profiles: &[SourceLine<'_>], root: &str, start: 
     has_root
 }
 
-/// Whether a line gives a profile a root.
+/// Returns whether a line gives a profile a root.
 fn is_root(line: &SourceLine<'_>, root: &str) -> bool {
     line.value_of("root")
         .is_some_and(|own| is_same_root(own, root))
 }
 
-/// Whether a profile of these lines may reach a path that begins so.
+/// Returns whether a profile of these lines may reach a path that begins so.
 fn may_reach(lines: &[SourceLine<'_>], start: Start<'_>) -> bool {
     let mut has_paths = false;
     for line in lines {

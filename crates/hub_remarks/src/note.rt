@@ -72,7 +72,7 @@ fn roots_beside<'a>(
     Ok(roots)
 }
 
-/// Whether one of these lines has the root of a line.
+/// Returns whether one of these lines has the root of a line.
 fn is_among(roots: &[SourceLine<'_>], line: &SourceLine<'_>) -> bool {
     let root = line.value_of("root").unwrap_or("");
     roots.iter().any(|own| is_same_root(own.value_of("root").unwrap_or(""), root))

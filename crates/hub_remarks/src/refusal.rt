@@ -19,7 +19,7 @@ pub(crate) fn say_overlap(out: &mut String, source: &Source<'_>, text: &str) -> 
     )
 }
 
-/// Whether a profile is one of the two in `WRITER writes PATH at PLACE, OTHER`.
+/// Returns whether a profile is one of the two in `WRITER writes PATH at PLACE, OTHER`.
 fn is_overlapping(profile: &SourceLine<'_>, text: &str) -> bool {
     let Some(name) = profile.profile() else {
         return false;
@@ -119,7 +119,7 @@ fn rule_line<'a>(source: &Source<'a>, number: usize) -> Option<SourceLine<'a>> {
     None
 }
 
-/// Whether a line of the rules is a rule.
+/// Returns whether a line of the rules is a rule.
 pub(crate) fn is_rule(line: &SourceLine<'_>) -> bool {
     match line.setting() {
         Some((name, _)) => name == "nolose" || name == "nochange" || name == "nonew",
@@ -208,7 +208,7 @@ fn say_root(out: &mut String, source: &Source<'_>, root: &str) -> Said {
     Ok(())
 }
 
-/// Whether two texts are one root.
+/// Returns whether two texts are one root.
 pub(crate) fn is_same_root(one: &str, other: &str) -> bool {
     one.strip_suffix('/').unwrap_or(one) == other.strip_suffix('/').unwrap_or(other)
 }

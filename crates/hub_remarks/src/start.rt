@@ -17,7 +17,7 @@ pub(crate) struct Start<'a> {
 }
 
 impl Start<'_> {
-    /// Whether a line `path` of this value may keep a path that is matched, or one above or below it.
+    /// Returns whether a line `path` of this value may keep a path that is matched, or one above or below it.
     pub(crate) fn may_meet(&self, kept: &str) -> bool {
         covers(kept, self.text)
             || if self.is_whole {

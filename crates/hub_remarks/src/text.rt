@@ -32,7 +32,7 @@ pub(crate) fn say_state_fault(out: &mut String, source: &Source<'_>, place: Plac
     say(out, state_remedy(place.fault))
 }
 
-/// Whether the line `end` of its section stands above a line.
+/// Returns whether the line `end` of its section stands above a line.
 fn is_below_end(source: &Source<'_>, line: &SourceLine<'_>) -> bool {
     for other in source.section_lines(line.section) {
         if other.number < line.number && other.bytes == b"end".as_slice() {
@@ -84,7 +84,7 @@ pub(crate) fn say_certificates_fault(
     )
 }
 
-/// Whether a line is an answer that refuses a set.
+/// Returns whether a line is an answer that refuses a set.
 fn is_refusal(line: &str) -> bool {
     REFUSALS.iter().any(|start| line.starts_with(*start))
 }

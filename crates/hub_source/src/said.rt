@@ -59,7 +59,7 @@ pub fn shown(alloc: Global, bytes: &[u8]) -> Result<String, AllocError> {
     Ok(start)
 }
 
-/// Whether a character can't be seen as it is.
+/// Returns whether a character can't be seen as it is.
 fn is_hidden(c: char) -> bool {
     c.is_control() || c == '\u{feff}'
 }
@@ -78,14 +78,14 @@ pub fn odd_encoding(bytes: &[u8]) -> Option<&'static str> {
     None
 }
 
-/// Whether a path is this one or below it. This one may end with a `/`, and the empty one is above all.
+/// Returns whether a path is this one or below it. This one may end with a `/`, and the empty one is above all.
 pub fn covers(above: &str, path: &str) -> bool
     ensures { result ≡ covering.covers (chars above.now) (chars path.now) }
 {
     begins_with_names(without_last(above, '/'), path)
 }
 
-/// Whether a path begins with the names of another one.
+/// Returns whether a path begins with the names of another one.
 fn begins_with_names(above: &str, path: &str) -> bool
     ensures { result ≡ covering.begins_with_names (chars above.now) (chars path.now) }
 {
@@ -102,7 +102,7 @@ fn after_front<'t>(text: &'t str, front: &str) -> Option<&'t str>
     text.strip_prefix(front)
 }
 
-/// Whether a name ends where this text follows it in a path.
+/// Returns whether a name ends where this text follows it in a path.
 fn ends_name(rest: &str) -> bool
     ensures { result ≡ covering.ends_name (chars rest.now) }
 {

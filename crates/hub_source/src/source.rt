@@ -57,7 +57,7 @@ impl<'a> SourceLine<'a> {
         LinePlace { file, number }
     }
 
-    /// Whether it is the heading of a section.
+    /// Returns whether it is the heading of a section.
     pub fn is_heading(&self) -> bool
         ensures { result ≡ places.is_heading self.now }
     {
@@ -173,14 +173,14 @@ impl<'a> Source<'a> {
         self.alloc
     }
 
-    /// Whether these are all lines of the input.
+    /// Returns whether these are all lines of the input.
     pub fn is_whole(&self) -> bool
         ensures { result ≡ self.now.is_whole }
     {
         self.is_whole
     }
 
-    /// Whether its sections were made of files.
+    /// Returns whether its sections were made of files.
     pub fn has_files(&self) -> bool
         ensures { result ≡ list_any places.has_file self.now.lines.items }
     {

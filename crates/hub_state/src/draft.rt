@@ -270,7 +270,7 @@ impl Draft {
 }
 
 impl Open {
-    /// Whether a line of this form may follow.
+    /// Returns whether a line of this form may follow.
     fn allows(&self, form: Form) -> bool
         ensures { result ≡ may_stand (taking.section_of self.now) form }
     {
@@ -406,7 +406,7 @@ fn put_contents(tree: &mut Tree, path: &RelPath, contents: Contents) -> Result<(
     put_new(tree, path, contents)
 }
 
-/// Whether a replica has an entry at the path.
+/// Returns whether a replica has an entry at the path.
 fn has_entry(tree: &Tree, path: &RelPath) -> bool
     requires { IsTrue (is_path path.now) }
     ensures { result ≡ is_some (fin.get tree.now path.now) }

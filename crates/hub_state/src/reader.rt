@@ -151,7 +151,7 @@ fn with_bytes(alloc: Global, prefix: Prefix, bytes: &[u8]) -> Result<Prefix, Sta
     with_lines_taken(alloc, prefix)
 }
 
-/// Whether a line ends in these bytes.
+/// Returns whether a line ends in these bytes.
 fn has_line_end(bytes: &[u8]) -> bool {
     match Lines::new(bytes).next() {
         Some(line) => line.is_ended,

@@ -1,14 +1,14 @@
 -- Profiles that are taken out round by round.
-use Rattle.std.proofs.Common.{◌≡◌, ◌∙◌, ◌&&◌, ◌==◌, ◌<◌, ◌+◌, ℕ, suc, Bool, true, false, not, cond, List, [], ◌∷◌, filter, get_or, length, map, Some, refl, sym, ap, ap₂, subst, arith}
+use Rattle.std.proofs.Common.{◌≡◌, ◌∙◌, ◌&&◌, ◌==◌, ◌<◌, ◌+◌, ℕ, zero, suc, Bool, true, false, not, cond, List, [], ◌∷◌, filter, get_or, length, map, Some, refl, sym, ap, ap₂, subst, arith}
 use Rattle.std.specs.List.{range_with_len}
 use Rattle.std.specs.Prelude.{nat_lt, slice_get}
 use Rattle.std.proofs.lemmas.Bool.Decides.{nat_tests}
 use Rattle.std.proofs.lemmas.List.FromFn.{get_or-map-range_with_len, length-map-range_with_len}
-use Rattle.std.proofs.lemmas.Option.{get_or_from_slice_get, slice_get_within}
+use Rattle.std.proofs.lemmas.Option.{get_or_from_slice_get, same_Some, slice_get_within}
 use Rattle.hub_profile.specs.Parts.{Parts}
 use Rattle.hub_cert.specs.Set.{IsSafeSet, Members}
 use Rattle.hub_cert.specs.declared.fault.CheckFault.{CheckFault}
-use Rattle.hub_rounds.specs.Rounds.{ArePlaced, AreRivals, AreRounds, IsPlaced, is_in, is_in_some, is_outside, members}
+use Rattle.hub_rounds.specs.Rounds.{ArePlaced, AreRivals, AreRounds, AreUsed, IsPlaced, is_in, is_in_some, is_outside, members}
 use Rattle.hub_rounds.specs.declared.placing.Placed.{Placed}
 use Rattle.hub_rounds.specs.declared.placing.Placing.{Placing}
 use Rattle.hub_rounds.specs.declared.placing.Placing.TheVariants.{Left, Round}
@@ -98,11 +98,25 @@ round-at count rs f k Ps is at =
     let l : k < count = omega (arith, many, within) in
     (l, sym (get_or_from_slice_get rs k Ps Ps at) ∙ (ap (λ xs. get_or xs k Ps) is ∙ get_or-map-range_with_len f 0 count k k Ps l (omega arith)))
 
+-- A round that has a profile isn't empty.
+used-members : (k : ℕ) (ps : List Placed) (i : ℕ) (p : Placed) → slice_get ps i ≡ Some p → is_in k p.placing ≡ true → members k ps ≡ [] → ⊥
+used-members k [] i p at is e = cc
+used-members k (q ∷ ps) zero p at is e = go (is_in k q.placing) (ap (λ (r : Placed). is_in k r.placing) (same_Some q p at) ∙ is) e
+  where
+    go : (b : Bool) → b ≡ true → map (λ (r : Placed). r.profile) (cond b (q ∷ filter (λ r. is_in k r.placing) ps) (filter (λ r. is_in k r.placing) ps)) ≡ [] → ⊥
+    go true h f = cc
+    go false h f = cc
+used-members k (q ∷ ps) (suc i) p at is e = go (is_in k q.placing) (used-members k ps i p at is) e
+  where
+    go : (b : Bool) → (members k ps ≡ [] → ⊥) → map (λ (r : Placed). r.profile) (cond b (q ∷ filter (λ r. is_in k r.placing) ps) (filter (λ r. is_in k r.placing) ps)) ≡ [] → ⊥
+    go true rest f = cc
+    go false rest f = rest f
+
 -- What is known of the profiles and of the rounds makes the answer.
-pub are-rounds : (S : Members) (es : List CheckFault) (r : Rounds) (ps : List Placed) (count : ℕ) → map (λ p. p.profile) ps ≡ S.profiles → ArePlaced es count ps
+pub are-rounds : (S : Members) (es : List CheckFault) (r : Rounds) (ps : List Placed) (count : ℕ) → map (λ p. p.profile) ps ≡ S.profiles → ArePlaced es count ps → AreUsed count ps
     → r.rounds ≡ map (λ k. members k ps) (range_with_len 0 count) → r.left ≡ filter (λ p. is_outside count p.placing) ps
     → ((k : ℕ) → k < count → IsSafeSet (record { profiles = members k ps; rules = S.rules })) → AreRivals es ps r.rivals → AreRounds S es r
-are-rounds S es r ps count all told rounds left safe rivals =
+are-rounds S es r ps count all told used rounds left safe rivals =
     let many : length r.rounds ≡ count = ap length rounds ∙ length-map-range_with_len (λ k. members k ps) 0 count in
     record {
       placed = ps;
@@ -110,6 +124,10 @@ are-rounds S es r ps count all told rounds left safe rivals =
       told = subst (λ (n : ℕ). ArePlaced es n ps) (sym many) told;
       rounds = rounds ∙ ap (λ n. map (λ k. members k ps) (range_with_len 0 n)) (sym many);
       left = left ∙ left-outside es count ps told;
+      used = λ k Ps at empty.
+          let w = round-at count r.rounds (λ n. members n ps) k Ps rounds at in
+          let u = used k w.0 in
+          used-members k ps u.0 u.1 u.2 u.3 (sym w.1 ∙ empty);
       safe = λ k Ps at.
           let w = round-at count r.rounds (λ n. members n ps) k Ps rounds at in
           subst (λ (Qs : List Parts). IsSafeSet (record { profiles = Qs; rules = S.rules })) (sym w.1) (safe k w.0);

@@ -5,7 +5,7 @@ use Rattle.std.proofs.lemmas.Bool.{cases_lt}
 use Rattle.std.proofs.lemmas.Option.{same_Some, slice_get_within}
 use Rattle.hub_cert.specs.declared.fault.CheckFault.{CheckFault}
 use Rattle.hub_rounds.specs.Lines.{HasPair}
-use Rattle.hub_rounds.specs.Rounds.{ArePlaced, AreRivals, IsInRound, IsPlaced, MayJoin}
+use Rattle.hub_rounds.specs.Rounds.{ArePlaced, AreRivals, AreUsed, IsInRound, IsPlaced, MayJoin, Opens}
 use Rattle.hub_rounds.specs.declared.placing.Placed.{Placed}
 use Rattle.hub_rounds.specs.declared.placing.Placing.{Placing}
 use Rattle.hub_rounds.specs.declared.placing.Placing.TheVariants.{Left, Round}
@@ -16,6 +16,15 @@ snoc-cases [] x y zero e = inr (refl, same_Some x y e)
 snoc-cases [] x y (suc j) e = cc
 snoc-cases (z ∷ zs) x y zero e = inl e
 snoc-cases (z ∷ zs) x y (suc j) e = ⊎_elim (λ h. inl h) (λ h. inr (ap suc h.0, h.1)) (snoc-cases zs x y j e)
+
+snoc-old : {X : Type 0} (xs : List X) (x y : X) (j : ℕ) → slice_get xs j ≡ Some y → slice_get (xs ++ x ∷ []) j ≡ Some y
+snoc-old [] x y j e = cc
+snoc-old (z ∷ zs) x y zero e = e
+snoc-old (z ∷ zs) x y (suc j) e = snoc-old zs x y j e
+
+snoc-new : {X : Type 0} (xs : List X) (x : X) → slice_get (xs ++ x ∷ []) (length xs) ≡ Some x
+snoc-new [] x = refl
+snoc-new (z ∷ zs) x = snoc-new zs x
 
 -- What holds of the value that may be there, and what follows from it.
 pub some-weaker : {X : Type 0} (r : Option X) (P Q : X → Type 0) → ((x : X) → P x → Q x) → IfSome r P → IfSome r Q
@@ -60,3 +69,13 @@ one-placed-more es n m ps p l is are = λ i q at. ⊎_elim
 
 pub less-or-same : (k n : ℕ) → k < n + 1 → (k < n) ⊎ (k ≡ n)
 less-or-same k n l = ⊎_elim (λ h. inl h) (λ h. inr (omega (arith, h, l))) (cases_lt k n)
+
+-- Rounds that have a profile when there is one more profile, which opens the rounds that are new.
+pub none-used : (ps : List Placed) → AreUsed 0 ps
+none-used ps = λ k l. absurd (omega (arith, l))
+
+pub one-used-more : (n m : ℕ) (ps : List Placed) (p : Placed) → Opens n m p.placing → AreUsed n ps → AreUsed m (ps ++ p ∷ [])
+one-used-more n m ps p opens are = λ k l. ⊎_elim
+    (λ old. let w = are k old in (w.0, w.1, snoc-old ps p w.1 w.0 w.2, w.3))
+    (λ new. (length ps, p, snoc-new ps p, new))
+    (opens k l)

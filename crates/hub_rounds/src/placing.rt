@@ -2,7 +2,8 @@
 ghost use Rattle.std.specs.Prelude.{◌≡◌, ◌<◌, ◌≤◌, length, map, IfOk, IfSome};
 ghost use Rattle.hub_rounds.specs.Lines as said;
 ghost use Rattle.hub_rounds.specs.Lines.{HasOwnLine};
-ghost use Rattle.hub_rounds.specs.Rounds.{ArePlaced, IsPlaced, is_in, is_in_some};
+ghost use Rattle.hub_rounds.specs.Rounds.{ArePlaced, AreUsed, IsPlaced, Opens, is_in, is_in_some};
+ghost use Rattle.hub_rounds.specs.declared.placing.Placing.TheVariants.{Round};
 ghost use Rattle.hub_rounds.specs.declared.subject.Subject.TheVariants.{Alone};
 
 use crate::named::Named;
@@ -71,6 +72,7 @@ pub(crate) fn place_each(
 ) -> Result<(Vec<Placed>, usize), AllocError>
     ensures all { IfOk result (λ r. map (λ p. p.profile) r.0.items ≡ profiles.items) }
     ensures told { IfOk result (λ r. ArePlaced lines.now r.1 r.0.items) }
+    ensures used { IfOk result (λ r. AreUsed r.1 r.0.items) }
 {
     let mut placed = Vec::with_capacity(alloc, profiles.len())?;
     let mut seen = Vec::new(alloc);
@@ -91,6 +93,7 @@ fn placing_of(
 ) -> Result<Placing, AllocError>
     ensures told { IfOk result (λ p. IsPlaced lines.now (length seen.new.items) number p) }
     ensures grows { length seen.old.items ≤ length seen.new.items }
+    ensures opened { IfOk result (Opens (length seen.old.items) (length seen.new.items)) }
 {
     if let Some(reason) = own_reason(lines, named, number) {
         return Ok(Placing::Left(reason));
@@ -129,11 +132,13 @@ fn reason_of(line: &CheckFault, number: usize) -> Option<Reason>
 fn round_of(seen: &mut Vec<usize>, colour: usize) -> Result<usize, AllocError>
     ensures below { IfOk result (λ k. k < length seen.new.items) }
     ensures grows { length seen.old.items ≤ length seen.new.items }
+    ensures opened { IfOk result (λ k. Opens (length seen.old.items) (length seen.new.items)
+        (Round k)) }
 {
     if let Some(round) = seen.iter().position(|own| *own == colour) {
         return Ok(round);
     }
-    let round = seen.len();
+    let round = seen.as_slice().len();
     seen.push(colour)?;
     Ok(round)
 }

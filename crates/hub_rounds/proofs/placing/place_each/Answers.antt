@@ -1,9 +1,9 @@
 use Rattle.std.proofs.Common.{◌∙◌, ◌++◌, ◌∷◌, [], ℕ, List, map, sym, ap, subst, length}
 use Rattle.std.proofs.lemmas.List.{map-append}
 use Rattle.hub_profile.specs.Parts.{Parts}
-use Rattle.hub_rounds.specs.Rounds.{ArePlaced, IsPlaced}
+use Rattle.hub_rounds.specs.Rounds.{ArePlaced, AreUsed, IsPlaced}
 use Rattle.hub_rounds.specs.declared.placing.Placed.{Placed}
-use Rattle.hub_rounds.proofs.Rivals.{none-placed, one-placed-more}
+use Rattle.hub_rounds.proofs.Rivals.{none-placed, none-used, one-placed-more, one-used-more}
 use Rattle.hub_rounds.proofs.placing.place_each.Goals as goal
 
 pub loop-profile-init : goal.loop-profile-init
@@ -13,6 +13,7 @@ loop-profile-init c =
     record {
       all = ap (map (λ (p : Placed). p.profile)) c.in_ok-placed.ensures.items;
       told = subst (λ (ps : List Placed). ArePlaced es n ps) (sym c.in_ok-placed.ensures.items) (none-placed es n);
+      used = subst (λ (m : ℕ). AreUsed m c.in_ok-placed.placed.items) (sym (ap length c.new-seen.ensures.items)) (none-used c.in_ok-placed.placed.items);
     }
 
 pub loop-profile-preserved : goal.loop-profile-preserved
@@ -26,4 +27,5 @@ loop-profile-preserved c =
     record {
       all = ap (map (λ (q : Placed). q.profile)) c.in_ok-push.ensures.items ∙ (map-append (λ (q : Placed). q.profile) ps (p ∷ []) ∙ ap (λ (xs : List Parts). xs ++ p.profile ∷ []) i.all);
       told = subst (λ (qs : List Placed). ArePlaced es (length c.placing_of.new.seen.items) qs) (sym c.in_ok-push.ensures.items) (one-placed-more es (length c.loop-profile.seen.items) (length c.placing_of.new.seen.items) ps p e.grows told i.told);
+      used = subst (λ (qs : List Placed). AreUsed (length c.placing_of.new.seen.items) qs) (sym c.in_ok-push.ensures.items) (one-used-more (length c.loop-profile.seen.items) (length c.placing_of.new.seen.items) ps p e.opened i.used);
     }

@@ -17,6 +17,7 @@ returns c =
     are-rounds c.args.set c.args.clashes.now _ ps count
     (c.in_ok-placed.ensures.all ∙ (c.into_vec-profiles.ensures ∙ c.into_members-profiles.ensures.profiles))
     (subst (λ (es : List CheckFault). ArePlaced es count ps) lines c.in_ok-placed.ensures.told)
+    c.in_ok-placed.ensures.used
     e.rounds
     e.left
     (λ k l. subst (λ (Rs : List Rule). IsSafeSet (record { profiles = members k ps; rules = Rs })) c.into_members-profiles.ensures.rules (e.safe k l))

@@ -3,6 +3,7 @@ pub mod Refusal
 pub mod Run
 pub mod Jobs
 pub mod Rounds
+pub mod Undecided
 pub mod JobsExamples
 pub mod Faults
 pub mod Report

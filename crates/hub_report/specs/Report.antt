@@ -85,6 +85,27 @@ status_of (BadBundle f) = 2
 status_of (BadSection f) = 2
 status_of OutOfMemory = 2
 
+-- The lines of an answer that belong on standard error.
+abbrev pub undecided_of : Report → List ℕ
+undecided_of Safe = []
+undecided_of (Ran r) = []
+undecided_of (NotRun e) = []
+undecided_of NoState = []
+undecided_of Verified = []
+undecided_of (Certified t) = []
+undecided_of (Refused t) = []
+undecided_of (Clashes t) = []
+undecided_of (Cut c) = string_bytes c.undecided
+undecided_of NotVerified = []
+undecided_of Reached = []
+undecided_of NotReached = []
+undecided_of (NoProfile name) = []
+undecided_of (BadPath f) = []
+undecided_of (Unread f) = []
+undecided_of (BadBundle f) = []
+undecided_of (BadSection f) = []
+undecided_of OutOfMemory = []
+
 -- Why the input wasn't read to its end, if the answer says so: a read failed, or there were too many.
 abbrev pub unread_by : Report → Option InputFault
 unread_by Safe = None

@@ -4,6 +4,7 @@
 //! - [`Run`] is what the jobs of a safe set did and left; [`RunError`] is why they weren't run.
 //! - [`lines_of_jobs`] are the lines that say what jobs did.
 //! - [`lines_of_clashes`] are the lines of all that clashes in a set, and [`text_of_rounds`] is the text of its rounds.
+//! - [`undecided_pairs`] are the lines for standard error: which two profiles were too large to decide.
 //! - [`Blocks`] is the text of an answer, in blocks.
 //!
 //! ```text
@@ -13,8 +14,9 @@
 //! ```
 //!
 //! The contracts use the words of `specs/Report` (the text and the status of each answer), `specs/Blocks` (the bytes of a
-//! text in blocks), `specs/Jobs` (the lines of jobs), `specs/Rounds` (those of clashes and rounds), `specs/Run` (the line of why jobs weren't run), `specs/Refusal` (the
-//! lines of refusals) and `specs/Faults` (the names of faults). When an answer is right is said in `hub_serve`.
+//! text in blocks), `specs/Jobs` (the lines of jobs), `specs/Rounds` (those of clashes and rounds), `specs/Undecided` (those for
+//! standard error), `specs/Run` (the line of why jobs weren't run), `specs/Refusal` (the lines of refusals) and `specs/Faults`
+//! (the names of faults). When an answer is right is said in `hub_serve`.
 //!
 //! Only functions that return a `Result` or a `Report` allocate.
 #![tactic(auto)]
@@ -27,10 +29,12 @@ mod refusal;
 mod report;
 mod rounds;
 mod run;
+mod undecided;
 
 pub use blocks::Blocks;
 pub use jobs::lines_of_jobs;
-pub use refusal::{lines_of_clashes, undecided_pairs};
+pub use refusal::lines_of_clashes;
 pub use report::{OUT_OF_MEMORY, Report};
 pub use rounds::{Cut, text_of_rounds};
 pub use run::{Run, RunError};
+pub use undecided::undecided_pairs;

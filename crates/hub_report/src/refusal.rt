@@ -72,45 +72,6 @@ pub fn lines_of_clashes(
     Ok(text)
 }
 
-/// Lines for standard error: two profiles each that count as clashing, since their goal was too large to be searched.
-pub fn undecided_pairs(
-    alloc: Global,
-    set: &ProfileSet,
-    clashes: &Clashes,
-) -> Result<String, AllocError> {
-    let mut text = String::new(alloc);
-    for fault in clashes.lines() {
-        if let CheckFault::TooLarge { goal } = fault {
-            push_pair(alloc, &mut text, set.profiles(), *goal)?;
-        }
-    }
-    Ok(text)
-}
-
-/// Adds the line that names the two profiles of a goal, if it is a clash and no line above names them.
-fn push_pair(
-    alloc: Global,
-    text: &mut String,
-    profiles: &[Profile],
-    goal: Goal,
-) -> Result<(), AllocError> {
-    let Goal::Clash { writer, other, .. } = goal else {
-        return Ok(());
-    };
-    let parts = [
-        "hubsync: too large to decide, so in different rounds: ",
-        name_at(profiles, writer),
-        " and ",
-        name_at(profiles, other),
-        "\n",
-    ];
-    let line = joined(alloc, &parts)?;
-    if !text.ends_with(line.as_str()) {
-        text.push_str(line.as_str())?;
-    }
-    Ok(())
-}
-
 /// The line of a fault, which ends with LF. Its numbers are those of these profiles, rules and goals.
 fn fault_line(
     alloc: Global,
@@ -205,7 +166,7 @@ fn overlap_line(
 }
 
 /// The name of the profile of that number, or nothing if there is none.
-fn name_at(profiles: &[Profile], number: usize) -> &str
+pub(crate) fn name_at(profiles: &[Profile], number: usize) -> &str
     ensures { result.now ≡ lines.name_at profiles.now number }
 {
     match profiles.get(number) {

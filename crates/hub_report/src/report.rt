@@ -91,7 +91,9 @@ impl Report<'_> {
     }
 
     /// The lines that belong on standard error: which two profiles count as clashing, since their goal was too large.
-    pub fn undecided(&self) -> &str {
+    pub fn undecided(&self) -> &str
+        ensures { result.now ≡ report.undecided_of self.now }
+    {
         match self {
             Report::Cut(cut) => cut.undecided.as_str(),
             _ => "",

@@ -1,2 +1,4 @@
 pub mod Covering
+pub mod LineText
 pub mod Places
+pub mod Saying

@@ -12,7 +12,9 @@
 //! ```
 //!
 //! What an answer names is looked up in the text of the input, so this crate uses none of those that read profiles, states and
-//! certificates. What is proved is that each function is safe and ends.
+//! certificates. What is proved is that each function is safe and ends, and of some what they give: the text of a line and what is odd
+//! about its bytes (`specs/LineText`), where it is (`specs/Places`), whether a path covers another one (`specs/Covering`), the line
+//! that [`say`] adds, and that [`nearest`] gives one of the known words (`specs/Saying`).
 //!
 //! Only functions that return a `Result` allocate.
 #![tactic(auto)]

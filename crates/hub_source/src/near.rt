@@ -1,4 +1,6 @@
 //! The known word that is nearest to one that isn't known.
+ghost use Rattle.std.specs.Prelude.{◌≡◌, ◌<◌, Ok, None, IfOk, IfSome, length};
+ghost use Rattle.hub_source.specs.Saying as saying;
 
 use std::alloc::{AllocError, Global};
 use strsim::osa_distance;
@@ -14,7 +16,10 @@ pub fn nearest<'a>(
     alloc: Global,
     word: &str,
     known: &[&'a str],
-) -> Result<Option<&'a str>, AllocError> {
+) -> Result<Option<&'a str>, AllocError>
+    ensures known { IfOk result (λ r. IfSome r (λ w. saying.IsAmong known.now w)) }
+    ensures long { WORD_BYTES < length word.now → result ≡ Ok None }
+{
     if word.len() > WORD_BYTES {
         return Ok(None);
     }

@@ -1,8 +1,10 @@
 //! How a remark is written.
-ghost use Rattle.std.specs.Prelude.{◌≡◌, chars};
+ghost use Rattle.std.specs.Prelude.{◌≡◌, ◌++◌, OnOk, chars, is_some, string_bytes};
 ghost use Rattle.hub_source.specs.Covering as covering;
+ghost use Rattle.hub_source.specs.LineText as line_text;
+ghost use Rattle.hub_source.specs.Saying as saying;
 
-use crate::source::{Source, SourceLine};
+use crate::source::{Source, SourceLine, without_cr};
 use hub_text::{begins_with, is_empty, without_last};
 use std::alloc::{AllocError, Global};
 
@@ -13,8 +15,12 @@ const SHOWN_CHARACTERS: usize = 200;
 pub type Said = Result<(), AllocError>;
 
 /// Adds a line of a remark.
-pub fn say(out: &mut String, words: &str) -> Said {
-    writeln!(out, "hubsync: {words}")
+pub fn say(out: &mut String, words: &str) -> Said
+    ensures { OnOk result (string_bytes out.new ≡ string_bytes out.old ++ saying.said words.now) }
+{
+    out.push_str("hubsync: ")?;
+    out.push_str(words)?;
+    out.push_str("\n")
 }
 
 /// Adds a line of the input, with its place.
@@ -46,7 +52,7 @@ pub fn name_of<'a>(source: &Source<'a>, section: usize) -> &'a str {
 
 /// The start of a line as it is shown: with escapes, if a character of it can't be seen.
 pub fn shown(alloc: Global, bytes: &[u8]) -> Result<String, AllocError> {
-    let Ok(text) = str::from_utf8(bytes.strip_suffix(b"\r").unwrap_or(bytes)) else {
+    let Ok(text) = str::from_utf8(without_cr(bytes)) else {
         return String::from_str(alloc, "(not UTF-8)");
     };
     if text.is_empty() {
@@ -65,17 +71,26 @@ fn is_hidden(c: char) -> bool {
 }
 
 /// What is odd about the encoding of a line, if anything is.
-pub fn odd_encoding(bytes: &[u8]) -> Option<&'static str> {
+pub fn odd_encoding(bytes: &[u8]) -> Option<&'static str>
+    ensures { is_some result ≡ line_text.is_odd bytes.now }
+{
     if bytes.starts_with(b"\xef\xbb\xbf") {
         return Some("a byte order mark stands before this line: save the file as UTF-8 without it");
     }
-    if bytes.starts_with(b"\xff\xfe") || bytes.starts_with(b"\xfe\xff") || bytes.contains(&0) {
+    if seems_utf16(bytes) {
         return Some("the input seems to be UTF-16: save it as UTF-8");
     }
-    if bytes.strip_suffix(b"\r").unwrap_or(bytes).contains(&b'\r') {
+    if without_cr(bytes).contains(&b'\r') {
         return Some("a CR stands within this line: a line ends with LF, or with CR and LF");
     }
     None
+}
+
+/// Returns whether a line begins with a byte order mark of UTF-16, or has a NUL.
+fn seems_utf16(bytes: &[u8]) -> bool
+    ensures { result ≡ line_text.seems_utf16 bytes.now }
+{
+    bytes.starts_with(b"\xff\xfe") || bytes.starts_with(b"\xfe\xff") || bytes.contains(&0)
 }
 
 /// Returns whether a path is this one or below it. This one may end with a `/`, and the empty one is above all.

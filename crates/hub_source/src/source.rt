@@ -1,6 +1,7 @@
 //! The lines of an input, each with its place in its section.
 ghost use Rattle.std.specs.Prelude.{◌≡◌};
 ghost use Rattle.std.specs.List.{list_any};
+ghost use Rattle.hub_source.specs.LineText as line_text;
 ghost use Rattle.hub_source.specs.Places as places;
 
 use hub_text::{BLANKS, Lines};
@@ -45,13 +46,16 @@ impl<'a> fmt::Display for LinePlace<'a> {
 
 impl<'a> SourceLine<'a> {
     /// The line's text without a CR at its end. It is empty if the line is not UTF-8.
-    pub fn text(&self) -> &'a str {
-        let bytes = self.bytes;
-        str::from_utf8(bytes.strip_suffix(b"\r").unwrap_or(bytes)).unwrap_or("")
+    pub fn text(&self) -> &'a str
+        ensures { result.now ≡ line_text.line_text self.now.bytes.now }
+    {
+        utf8_or_empty(without_cr(self.bytes))
     }
 
     /// Where it is: its number in its file, or in the input.
-    pub fn place(&self) -> LinePlace<'a> {
+    pub fn place(&self) -> LinePlace<'a>
+        ensures { result ≡ places.place_of self.now }
+    {
         let file = self.file;
         let number = if file.is_some() { self.number } else { self.at };
         LinePlace { file, number }
@@ -102,6 +106,23 @@ impl<'a> SourceLine<'a> {
     pub fn value_of(&self, wanted: &str) -> Option<&'a str> {
         let (name, value) = self.setting()?;
         if name == wanted { Some(value) } else { None }
+    }
+}
+
+/// A line without a CR at its end.
+pub(crate) fn without_cr(line: &[u8]) -> &[u8]
+    ensures { result.now ≡ line_text.without_last_cr line.now }
+{
+    line.strip_suffix(b"\r").unwrap_or(line)
+}
+
+/// The text of these bytes. It is empty if they are not UTF-8.
+fn utf8_or_empty(bytes: &[u8]) -> &str
+    ensures { result.now ≡ line_text.utf8_or_empty bytes.now }
+{
+    match str::from_utf8(bytes) {
+        Ok(text) => text,
+        Err(_) => "",
     }
 }
 

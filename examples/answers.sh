@@ -229,8 +229,12 @@ ask_files() {
     printf '%s\n' "$roots" '%rules' >"$at/bundle.prf"
     echo 'overlap: one writes a at /srv/hub, two reaches a/b' >"$room/wanted"
     ask 'two files' 1 '' hubsync check "$at/one.prf" "$at/sub/two.prf"
-    ask 'two files for all that clashes' 1 '' hubsync clashes "$at/one.prf" "$at/sub/two.prf"
     ask 'two files for certificates' 1 '' hubsync certify "$at/one.prf" "$at/sub/two.prf"
+    printf '%s\n' 'overlap: one writes a at /srv/hub, two reaches a/b' 'overlap: one writes a at /srv/s1, two reaches a/b' \
+        'overlap: one writes a at archive of /srv/hub and /srv/s1, two reaches a/b' \
+        'overlap: two writes a/b at /srv/hub, one reaches a/b' 'overlap: two writes a/b at /srv/s1, one reaches a/b' \
+        'overlap: two writes a/b at archive of /srv/hub and /srv/s1, one reaches a/b' >"$room/wanted"
+    ask 'two files for all that clashes' 1 '' hubsync clashes "$at/one.prf" "$at/sub/two.prf"
     echo safe >"$room/wanted"
     ask 'the files of two profiles that are safe' 0 '' hubsync check -- "$at/one.prf" "$at/three.prf"
     ask 'rules alone' 0 '' hubsync check --rules="$at/rules"

@@ -90,7 +90,7 @@ fn push_new(
     }
 }
 
-/// Whether these two are named last.
+/// Returns whether these two are named last.
 fn is_named(last: Option<Pair>, pair: Pair) -> bool
     ensures { result ≡ lines.is_named last pair }
 {

@@ -58,7 +58,7 @@ fn cut(alloc: Global, set: ProfileSet) -> Result<Cut, RoundsFault>
     })
 }
 
-/// Whether each profile is in a round, and no goal was too large.
+/// Returns whether each profile is in a round, and no goal was too large.
 fn is_decided(lines: &[CheckFault], found: &Rounds) -> bool
     ensures { result ≡ rounds.is_decided lines.now found.now }
 {

@@ -86,7 +86,7 @@ fn report_on_outcome<'a>(alloc: Global, profiles: &[Profile], outcome: Outcome) 
     }
 }
 
-/// Whether all jobs are finished.
+/// Returns whether all jobs are finished.
 fn are_finished(jobs: &[JobEnd]) -> bool
     ensures { result ≡ true ↔ AreFinished jobs.now }
 {

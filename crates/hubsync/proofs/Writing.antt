@@ -1,5 +1,5 @@
 -- From what was written to an output to what a text is written means.
-use Rattle.std.proofs.Common.{◌≡◌, ◌∙◌, ℕ, Bool, true, false, ◌||◌, cond, Result, Ok, Err, List, length, take, Option, refl, sym, ap, subst, arith}
+use Rattle.std.proofs.Common.{◌≡◌, ◌∙◌, ℕ, Bool, false, ◌||◌, cond, Result, Ok, Err, List, length, take, Option, refl, sym, ap, subst, arith}
 use Rattle.std.specs.Prelude.{OnOk, is_err}
 use Rattle.std.specs.Io.KnownBytes.{Appends, Keeps}
 use Rattle.std.proofs.KnownBytes.{Appends-kept}

@@ -40,7 +40,7 @@ pub fn serve_parts<T: AllocGlobal + Eprint + Threads + Wait + Sync, W: Write>(
     }
 }
 
-/// Says why a file can't be a section.
+/// Says why the file of this number can't be a section.
 fn write_part_fault<T: AllocGlobal + Eprint, W: Write>(
     rt: &T,
     parts: &[Part<'_>],
@@ -52,12 +52,26 @@ fn write_part_fault<T: AllocGlobal + Eprint, W: Write>(
         (W.contents output.old.device.device) (W.contents output.new.device.device)
         output.new.failed result }
 {
-    let (file, fault) = match parts.get(i) {
-        Some(part) => (part.file, part_fault(part)),
-        None => ("", None),
-    };
-    let status = write_fault(rt.alloc(), file, reason_of(fault), output);
-    say_part_fault(rt, file, fault);
+    match parts.get(i) {
+        Some(part) => write_why(rt, part, output),
+        None => write_fault(rt.alloc(), "", "", output),
+    }
+}
+
+/// Says why a file can't be a section.
+fn write_why<T: AllocGlobal + Eprint, W: Write>(
+    rt: &T,
+    part: &Part<'_>,
+    output: &mut Watched<Kept<'_, W>>,
+) -> u8
+    requires { output.old.failed ≡ false }
+    ensures { WritesFault part.now.file.now
+        (W.contents output.old.device.device) (W.contents output.new.device.device)
+        output.new.failed result }
+{
+    let fault = part_fault(part);
+    let status = write_fault(rt.alloc(), part.file, reason_of(fault), output);
+    say_part_fault(rt, part.file, fault);
     status
 }
 

@@ -1,6 +1,9 @@
 //! The files that the words on the command line name, and what they have.
-ghost use Rattle.std.specs.Prelude.{◌≡◌, false, IfErr};
-ghost use Rattle.hubsync.specs.Bundled.{WritesFault};
+ghost use Rattle.std.specs.Prelude.{◌≡◌, ◌++◌, false, length, map, option_map, string_bytes, IfErr, IfOk, OnOk};
+ghost use Rattle.hub_cli.specs.Words.{asked_of, names_of};
+ghost use Rattle.hubsync.specs.Bundled.{ServesFiles, WritesFault, label_if, label_of, labels};
+ghost use Rattle.hub_files.specs.declared.part.Kind.TheVariants.{Profile};
+ghost use Rattle.hubsync.specs.Named.{label_named};
 
 use crate::bundled::{serve_parts, write_fault, write_memory};
 use crate::kept::Kept;
@@ -35,9 +38,11 @@ impl<'a> From<AllocError> for Unread<'a> {
     }
 }
 
-/// Answers over the files that the words name. If one can't be read, a fault says so, and the status is 2.
+/// Answers over the files that the words name, each in the section that it is for. If one can't be read, a fault says so, and the
+/// status is 2.
 ///
-/// What a file has, no contract can say. What is answered over the bytes that were read, `serve_parts` says.
+/// What a file has, no contract can say: only that the answer is given over some bytes for each of these files, as `serve_parts`
+/// says.
 pub fn serve_files<T: AllocGlobal + Eprint + fs::Files + Threads + Wait + Sync, W: Write>(
     rt: &T,
     words: &[String],
@@ -46,6 +51,9 @@ pub fn serve_files<T: AllocGlobal + Eprint + fs::Files + Threads + Wait + Sync, 
     seen: &Seen,
 ) -> u8
     requires { output.old.failed ≡ false }
+    ensures { ServesFiles (asked_of (map string_bytes words.now)) (names_of files.now)
+        (W.contents output.old.device.device) (W.contents output.new.device.device)
+        output.new.failed result }
 {
     match serve_named(rt, words, files, output, seen) {
         Ok(status) => status,
@@ -63,7 +71,12 @@ fn serve_named<'a, T: AllocGlobal + Eprint + fs::Files + Threads + Wait + Sync, 
     seen: &Seen,
 ) -> Result<u8, Unread<'a>>
     requires { output.old.failed ≡ false }
-    ensures { IfErr result (λ _. output.new.failed ≡ false) }
+    ensures served { IfOk result (ServesFiles (asked_of (map string_bytes words.now))
+        (names_of files.now) (W.contents output.old.device.device)
+        (W.contents output.new.device.device) output.new.failed) }
+    ensures unread { IfErr result (λ _. output.new.failed ≡ false) }
+    ensures silent { IfErr result (λ _. W.contents output.new.device.device
+        ≡ W.contents output.old.device.device) }
 {
     let alloc = rt.alloc();
     let named = named_files(alloc, files)?;
@@ -74,15 +87,26 @@ fn serve_named<'a, T: AllocGlobal + Eprint + fs::Files + Threads + Wait + Sync, 
 }
 
 /// The files in the order of their sections: the profiles, the rules, the state, the certificates.
-fn named_files<'a>(alloc: Global, files: &Files<'a>) -> Result<Vec<Named<'a>>, AllocError> {
-    let mut named = Vec::new(alloc);
-    for file in files.profiles.iter() {
-        let kind = Kind::Profile;
-        named.push(Named { kind, file: *file })?;
-    }
+fn named_files<'a>(alloc: Global, files: &Files<'a>) -> Result<Vec<Named<'a>>, AllocError>
+    ensures { IfOk result (λ v. map label_named v.items ≡ labels (names_of files.now)) }
+{
+    let mut named = profile_files(alloc, files.profiles.as_slice())?;
     push_named(&mut named, Kind::Rules, files.rules)?;
     push_named(&mut named, Kind::State, files.state)?;
     push_named(&mut named, Kind::Certificates, files.certificates)?;
+    Ok(named)
+}
+
+/// The files of profiles.
+fn profile_files<'a>(alloc: Global, files: &[&'a str]) -> Result<Vec<Named<'a>>, AllocError>
+    ensures { IfOk result (λ v. map label_named v.items
+        ≡ map (λ file. (Profile, file)) (map (λ f. f.now) files.now)) }
+{
+    let mut named = Vec::new(alloc);
+    for file in files {
+        let kind = Kind::Profile;
+        named.push(Named { kind, file: *file })?;
+    }
     Ok(named)
 }
 
@@ -91,7 +115,10 @@ fn push_named<'a>(
     named: &mut Vec<Named<'a>>,
     kind: Kind,
     file: Option<&'a str>,
-) -> Result<(), AllocError> {
+) -> Result<(), AllocError>
+    ensures { OnOk result (map label_named named.new.items ≡ map label_named named.old.items
+        ++ label_if kind (option_map (λ f. f.now) file.entry)) }
+{
     if let Some(file) = file {
         named.push(Named { kind, file })?;
     }
@@ -102,7 +129,9 @@ fn push_named<'a>(
 fn read_all<'a, T: AllocGlobal + fs::Files>(
     rt: &T,
     named: &[Named<'a>],
-) -> Result<Vec<Vec<u8>>, Unread<'a>> {
+) -> Result<Vec<Vec<u8>>, Unread<'a>>
+    ensures { IfOk result (λ v. length v.items ≡ length named.now) }
+{
     let mut contents = Vec::new(rt.alloc());
     for name in named {
         match fs::read(rt, name.file) {
@@ -117,18 +146,21 @@ fn read_all<'a, T: AllocGlobal + fs::Files>(
     Ok(contents)
 }
 
-/// The files with their bytes.
+/// The files with their bytes, of which there are as many.
 fn parts_of<'a>(
     alloc: Global,
     named: &[Named<'a>],
     contents: &'a [Vec<u8>],
-) -> Result<Vec<Part<'a>>, AllocError> {
+) -> Result<Vec<Part<'a>>, AllocError>
+    requires { length contents.now ≡ length named.now }
+    ensures { IfOk result (λ v. map label_of v.items ≡ map label_named named.now) }
+{
     let mut parts = Vec::new(alloc);
-    for (name, bytes) in named.iter().zip(contents.iter()) {
+    for (number, name) in named.iter().enumerate() {
         parts.push(Part {
             kind: name.kind,
             file: name.file,
-            bytes: bytes.as_slice(),
+            bytes: contents[number].as_slice(),
         })?;
     }
     Ok(parts)

@@ -13,10 +13,10 @@ mod files;
 mod kept;
 mod served;
 
-ghost use Rattle.std.specs.Prelude.{◌≡◌, false, map, string_bytes, true};
+ghost use Rattle.std.specs.Prelude.{◌≡◌, ◌⊎◌, None, false, map, string_bytes, true};
 ghost use Rattle.hub_cli.specs.Words.{are_none, asked_of, files_of};
 ghost use Rattle.hub_serve.specs.Reads.{reads_between};
-ghost use Rattle.hubsync.specs.Bundled.{ServesInput};
+ghost use Rattle.hubsync.specs.Bundled.{ServesFiles, ServesInput};
 
 use crate::bundled::write_memory;
 use crate::files::serve_files;
@@ -68,11 +68,16 @@ fn answer<T: AllocGlobal + Eprint + Files + Threads + Wait + Sync, R: Read, W: W
 ) -> u8
     requires input { input.old.failed ≡ false }
     requires output { output.old.failed ≡ false }
-    ensures { are_none (files_of (map string_bytes words.now)) ≡ true
+    ensures input { are_none (files_of (map string_bytes words.now)) ≡ true
         → ServesInput (asked_of (map string_bytes words.now))
         (R.remaining input.old.device.device) (W.contents output.old.device.device)
         (W.contents output.new.device.device)
         (reads_between input.old input.new) output.new.failed result }
+    ensures files { are_none (files_of (map string_bytes words.now)) ≡ false
+        → ServesFiles (asked_of (map string_bytes words.now)) (files_of (map string_bytes words.now))
+        (W.contents output.old.device.device) (W.contents output.new.device.device)
+        output.new.failed result
+        ⊎ (asked_of (map string_bytes words.now) ≡ None) }
 {
     match read_files(rt.alloc(), words) {
         Ok(files) => {

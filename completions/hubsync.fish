@@ -19,4 +19,6 @@ complete -c hubsync -n '__fish_seen_subcommand_from check certify verify clashes
 complete -c hubsync -n '__fish_seen_subcommand_from check certify verify clashes rounds run' -l state -r -F -d 'The file of the state'
 complete -c hubsync -n '__fish_seen_subcommand_from check certify verify clashes rounds run' -l certificates -r -F -d 'The file of the certificates'
 complete -c hubsync -n '__fish_seen_subcommand_from run' -l workers -x -a '(seq 1 16)' -d 'How many workers run the jobs'
+complete -c hubsync -n '__fish_seen_subcommand_from run' -l rounds -d 'Run the rounds of the set one after another'
+complete -c hubsync -n '__fish_seen_subcommand_from clashes' -l dot -d 'Draw what clashes as a graph for Graphviz'
 complete -c hubsync -n '__fish_seen_subcommand_from help' -a 'check certify verify clashes rounds reach run help'

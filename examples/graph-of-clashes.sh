@@ -7,6 +7,13 @@
 # Standard input is the answer to `clashes`. A box is a profile, and lines lead from it to its two roots. A red line joins two profiles
 # that clash, with the path of the first line of the answer that names them. A profile that breaks a rule is a red box.
 #
+# The answer to `rounds` may follow it, with what that writes to standard error. Then what was too large to decide is drawn too: a
+# dashed red line joins two profiles that no red line joins, and a profile is a dashed red box if it isn't a red one.
+#
+#     { ./hubsync clashes < BUNDLE; ./hubsync rounds < BUNDLE 2>&1; } | examples/graph-of-clashes.sh BUNDLE
+#
+# `./hubsync clashes --dot < BUNDLE` draws the same. The gate compares the two (graphs.sh).
+#
 # The status is 1 if the answer is none of `clashes`, as `fault: ..`, or names a profile that the bundle lacks. It is 2 if the words of
 # the command line are wrong.
 set -euo pipefail
@@ -48,7 +55,7 @@ sub read_profiles {
 give_up(2, 'usage: ./hubsync clashes < BUNDLE | examples/graph-of-clashes.sh BUNDLE') if @ARGV != 1;
 my ($names, $roots_of) = read_profiles($ARGV[0]);
 my $name = join '|', map { quotemeta } sort { length $b <=> length $a } @$names;
-my (%is_broken, %is_drawn, @clashes);
+my (%is_broken, %is_undecided, %is_drawn, @clashes, @undecided);
 while (my $line = <STDIN>) {
     chomp $line;
     if ($line =~ /\Aoverlap: ($name) writes .* at .*, ($name) reaches (.*)\z/) {
@@ -56,13 +63,17 @@ while (my $line = <STDIN>) {
         push @clashes, [ $writer, $other, $path ] if !$is_drawn{ join "\n", sort $writer, $other }++;
     } elsif ($line =~ /\Abreach: ($name) may /) {
         $is_broken{$1} = 1;
-    } elsif ($line !~ /\A(?:safe\z|too large: )/) {
+    } elsif ($line =~ /\Ahubsync: too large to decide, so in different rounds: ($name) and ($name)\z/) {
+        push @undecided, [ $1, $2 ];
+    } elsif ($line =~ /\Atoo large \d+ ($name)\z/) {
+        $is_undecided{$1} = 1;
+    } elsif ($line !~ /\A(?:safe\z|too large: |rounds \d+\z|at least \d+\z|round \d+ |breach \d+ |hubsync: )/) {
         give_up(1, "not an answer to `clashes` about this bundle: $line");
     }
 }
 print "graph clashes {\n    graph [rankdir = LR];\n    node [fontname = \"sans-serif\"];\n    edge [fontname = \"sans-serif\"];\n";
 for my $profile (@$names) {
-    my $color = $is_broken{$profile} ? ', color = red' : '';
+    my $color = $is_broken{$profile} ? ', color = red' : $is_undecided{$profile} ? ', color = red, style = dashed' : '';
     print '    ', quoted("profile $profile"), ' [shape = box, label = ', quoted($profile), "$color];\n";
     for my $root (@{ $roots_of->{$profile} // [] }) {
         print '    ', quoted("profile $profile"), ' -- ', quoted("root $root"), " [color = gray50];\n";
@@ -74,6 +85,11 @@ for (@clashes) {
     my ($writer, $other, $path) = @$_;
     print '    ', quoted("profile $writer"), ' -- ', quoted("profile $other"), ' [color = red, fontcolor = red, label = ',
         quoted($path), "];\n";
+}
+for (@undecided) {
+    my ($writer, $other) = @$_;
+    print '    ', quoted("profile $writer"), ' -- ', quoted("profile $other"), " [color = red, style = dashed];\n"
+        if !$is_drawn{ join "\n", sort $writer, $other }++;
 }
 print "}\n";
 PERL

@@ -47,4 +47,6 @@ impl<'r, R: Clock> Gate for Stopwatch<'r, R> {
             self.last.store(microseconds(time), Ordering::Relaxed);
         }
     }
+
+    fn ended(&self, _job: usize) {}
 }

@@ -13,7 +13,7 @@ use Rattle.std.proofs.Math.Bool.{and-true, and-false, or-false}
 use Rattle.hub_automaton.specs.declared.alternatives.Alternatives.{Alternatives}
 use Rattle.hub_automaton.specs.declared.masks.Mask.{Mask}
 use Rattle.hub_automaton.specs.declared.masks.Mask.TheVariants as mask
-use Rattle.hub_glob.specs.declared.piece.Next.{Next}
+use Rattle.hub_glob.specs.declared.piece.NextCharacter.{NextCharacter}
 use Rattle.hub_automaton.specs.Masks.{masks_piece, mask_choice, mask_choices, mask_all, ended_at, matched_at, marked, moved_row, moved_seen}
 use Rattle.hub_automaton.specs.Spots.{is_name_kind, is_below_kind, is_below, is_matched, spot_count, spots_count, unpacked, kept, Unpacked, Seen, seen}
 use Rattle.hub_automaton.specs.Stepping.{stepped_all, ended_choices, goes_below, below_one, below_all, matched_each, pushed}
@@ -27,32 +27,32 @@ use Rattle.hub_automaton.proofs.Steps.{next_of}
 use Rattle.hub_automaton.proofs.WordMoves.{Packs, packs_by, words_move, packed_bit, length-packed, drop-none}
 
 -- How long masks are.
-length-mask_choice : (m : Mask) (k : Kind) (c : List Piece) → length (mask_choice m k c) ≡ length c + 1
+pub length-mask_choice : (m : Mask) (k : Kind) (c : List Piece) → length (mask_choice m k c) ≡ length c + 1
 length-mask_choice m k c = ap suc (length-map c (masks_piece m k)) ∙ sym (add-one (length c))
 
-length-mask_choices : (m : Mask) (k : Kind) (cs : List (List Piece)) → length (mask_choices m k cs) ≡ spot_count cs
+pub length-mask_choices : (m : Mask) (k : Kind) (cs : List (List Piece)) → length (mask_choices m k cs) ≡ spot_count cs
 length-mask_choices m k [] = refl
 length-mask_choices m k (c ∷ cs) = length-append (mask_choice m k c) (mask_choices m k cs) ∙ (λ i. length-mask_choice m k c i + length-mask_choices m k cs i)
 
-length-mask_all : (m : Mask) (ls : List Alternatives) → length (mask_all m ls) ≡ spots_count ls
+pub length-mask_all : (m : Mask) (ls : List Alternatives) → length (mask_all m ls) ≡ spots_count ls
 length-mask_all m [] = refl
 length-mask_all m (a ∷ ls) = length-append (mask_choices m a.kind a.choices) (mask_all m ls) ∙ (λ i. length-mask_choices m a.kind a.choices i + length-mask_all m ls i)
 
-length-entry_choices : (x : Next) (k : Kind) (cs : List (List Piece)) → length (entry_choices x k cs) ≡ spot_count cs
+length-entry_choices : (x : NextCharacter) (k : Kind) (cs : List (List Piece)) → length (entry_choices x k cs) ≡ spot_count cs
 length-entry_choices x k [] = refl
 length-entry_choices x k (c ∷ cs) =
     length-append (entry x k c) (entry_choices x k cs) ∙ (λ i. (ap suc (length-map c (λ p. false)) ∙ sym (add-one (length c))) i + length-entry_choices x k cs i)
 
-length-entries : (x : Next) (ls : List Alternatives) → length (entries x ls) ≡ spots_count ls
+length-entries : (x : NextCharacter) (ls : List Alternatives) → length (entries x ls) ≡ spots_count ls
 length-entries x [] = refl
 length-entries x (a ∷ ls) = length-append (entry_choices x a.kind a.choices) (entries x ls) ∙ (λ i. length-entry_choices x a.kind a.choices i + length-entries x ls i)
 
--- Which spots are entered behind a `/`, and that none are behind another character.
-choices_entered : (x : Next) (k : Kind) (cs : List (List Piece)) → (x.character == 47) ≡ true → entry_choices x k cs ≡ mask_choices mask.Entries k cs
+-- Which spots are entered after a `/`, and that none are after another character.
+choices_entered : (x : NextCharacter) (k : Kind) (cs : List (List Piece)) → (x.character == 47) ≡ true → entry_choices x k cs ≡ mask_choices mask.Entries k cs
 choices_entered x k [] e = refl
 choices_entered x k (c ∷ cs) e = λ i. (((ap (λ b. is_name_kind k && b) e ∙ and-true (is_name_kind k)) i) ∷ map (λ p. false) c) ++ choices_entered x k cs e i
 
-all_entered : (x : Next) (ls : List Alternatives) → (x.character == 47) ≡ true → entries x ls ≡ mask_all mask.Entries ls
+all_entered : (x : NextCharacter) (ls : List Alternatives) → (x.character == 47) ≡ true → entries x ls ≡ mask_all mask.Entries ls
 all_entered x [] e = refl
 all_entered x (a ∷ ls) e = λ i. choices_entered x a.kind a.choices e i ++ all_entered x ls e i
 
@@ -68,13 +68,13 @@ none-pieces : (c : List Piece) → none_set (map (λ p. false) c) ≡ true
 none-pieces [] = refl
 none-pieces (p ∷ c) = none-pieces c
 
-choices_not_entered : (x : Next) (k : Kind) (cs : List (List Piece)) → (x.character == 47) ≡ false → none_set (entry_choices x k cs) ≡ true
+choices_not_entered : (x : NextCharacter) (k : Kind) (cs : List (List Piece)) → (x.character == 47) ≡ false → none_set (entry_choices x k cs) ≡ true
 choices_not_entered x k [] e = refl
 choices_not_entered x k (c ∷ cs) e =
     none-append (entry x k c) (entry_choices x k cs)
     ((λ i. not ((ap (λ b. is_name_kind k && b) e ∙ and-false (is_name_kind k)) i) && none_set (map (λ p. false) c)) ∙ none-pieces c) (choices_not_entered x k cs e)
 
-none_entered : (x : Next) (ls : List Alternatives) → (x.character == 47) ≡ false → none_set (entries x ls) ≡ true
+none_entered : (x : NextCharacter) (ls : List Alternatives) → (x.character == 47) ≡ false → none_set (entries x ls) ≡ true
 none_entered x [] e = refl
 none_entered x (a ∷ ls) e = none-append (entry_choices x a.kind a.choices) (entries x ls) (choices_not_entered x a.kind a.choices e) (none_entered x ls e)
 
@@ -98,7 +98,7 @@ none_packs (suc n) bs h = (none-take 64 bs h, none_packs n (drop 64 bs) (none-dr
 packs_of : (n : ℕ) (ws : List ℕ) (bs : List Bool) → length bs ≡ n → ws ≡ packed bs → Packs (words_for n) ws bs
 packs_of n ws bs l e = subst (λ vs. Packs (words_for n) vs bs) (sym (e ∙ ap (λ m. packed_by (words_for m) bs) l)) (packs_by (words_for n) bs)
 
-packs_entries : (x : Next) (ls : List Alternatives) (ws : List ℕ) → ws ≡ packed (mask_all mask.Entries ls) → Packs (words_for (spots_count ls)) (cond (x.character == 47) ws []) (entries x ls)
+packs_entries : (x : NextCharacter) (ls : List Alternatives) (ws : List ℕ) → ws ≡ packed (mask_all mask.Entries ls) → Packs (words_for (spots_count ls)) (cond (x.character == 47) ws []) (entries x ls)
 packs_entries x ls ws e = by_test (x.character == 47) refl where
   n : ℕ
   n = words_for (spots_count ls)
@@ -107,7 +107,7 @@ packs_entries x ls ws e = by_test (x.character == 47) refl where
   by_test true h = subst (λ bs. Packs n ws bs) (sym (all_entered x ls h)) (packs_of (spots_count ls) ws (mask_all mask.Entries ls) (length-mask_all mask.Entries ls) e)
   by_test false h = none_packs n (entries x ls) (none_entered x ls h)
 
-live_moves : (x : Next) (ls : List Alternatives) (old : List Bool) (ews sws tws : List ℕ) → length old ≡ spots_count ls
+live_moves : (x : NextCharacter) (ls : List Alternatives) (old : List Bool) (ews sws tws : List ℕ) → length old ≡ spots_count ls
     → ews ≡ packed (mask_all mask.Entries ls) → sws ≡ packed (mask_all mask.Stars ls) → tws ≡ packed (mask_all (mask.Takers x.character) ls)
     → length (stepped_all x ls old) ≡ spots_count ls
     → moved_words (takes x Run) (cond (x.character == 47) ews []) sws tws (packed old) 0 0 ≡ packed (stepped_all x ls old)
@@ -232,7 +232,7 @@ range_matches ls t n from to m e f =
     ∙ ap (λ ks. list_any g (drop from ks)) (ap (λ k. take k ls) f ∙ take_min to ls)
     ∙ ap (list_any g) (range_is from to ls)
 
-below_is : (x : Next) (a : Alternatives) (old : List Bool) (n : ℕ) → (x.character == 47) ≡ true
+below_is : (x : NextCharacter) (a : Alternatives) (old : List Bool) (n : ℕ) → (x.character == 47) ≡ true
     → (is_below_kind a.kind && ended_at a.choices (packed old) n) ≡ goes_below x a (drop n old)
 below_is x a old n e = λ i. sym (ap (λ b. is_below_kind a.kind && b) e ∙ and-true (is_below_kind a.kind)) i && ended_is_at a.choices old n i
 
@@ -240,7 +240,7 @@ or-true : (a : Bool) → true ≡ (a || true)
 or-true true = refl
 or-true false = refl
 
-flag_set : (front : List ℕ) (before flags : List Bool) (f b : Bool)
+pub flag_set : (front : List ℕ) (before flags : List Bool) (f b : Bool)
     → cond b (with_bit (length front) (length before) (front ++ packed (before ++ f ∷ flags))) (front ++ packed (before ++ f ∷ flags))
     ≡ front ++ packed (before ++ (f || b) ∷ flags)
 flag_set front before flags f false = ap (λ g. front ++ packed (before ++ g ∷ flags)) (sym (or-false f))
@@ -248,7 +248,7 @@ flag_set front before flags f true =
     set_packed front (length before) (before ++ f ∷ flags) (omega (arith, length-append before (f ∷ flags)))
     ∙ ap (λ bs. front ++ packed bs) (set_at before f flags true (length before) refl) ∙ ap (λ g. front ++ packed (before ++ g ∷ flags)) (or-true f)
 
-marks : (x : Next) (ls : List Alternatives) (flags old : List Bool) (front : List ℕ) (n : ℕ) (before : List Bool) → (x.character == 47) ≡ true → length flags ≡ length ls
+marks : (x : NextCharacter) (ls : List Alternatives) (flags old : List Bool) (front : List ℕ) (n : ℕ) (before : List Bool) → (x.character == 47) ≡ true → length flags ≡ length ls
     → marked ls (packed old) n (length front) (length before) (front ++ packed (before ++ flags)) ≡ front ++ packed (before ++ below_all x ls flags (drop n old))
 marks x [] [] old front n before e l = refl
 marks x [] (f ∷ flags) old front n before e l = absurd (omega (arith, l))
@@ -267,7 +267,7 @@ marks x (a ∷ ls) (f ∷ flags) old front n before e l =
     ∙ ap (λ bs. front ++ packed bs) (append_assoc before (g ∷ []) (below_all x ls flags (drop m old)))
     ∙ ap (λ bs. front ++ packed (before ++ g ∷ below_all x ls flags bs)) (sym (drop-drop (spot_count a.choices) n old))
 
-below_stays : (x : Next) (ls : List Alternatives) (flags old : List Bool) → (x.character == 47) ≡ false → length flags ≡ length ls → flags ≡ below_all x ls flags old
+below_stays : (x : NextCharacter) (ls : List Alternatives) (flags old : List Bool) → (x.character == 47) ≡ false → length flags ≡ length ls → flags ≡ below_all x ls flags old
 below_stays x [] [] old e l = refl
 below_stays x [] (f ∷ flags) old e l = absurd (omega (arith, l))
 below_stays x (a ∷ ls) [] old e l = absurd (omega (arith, l))

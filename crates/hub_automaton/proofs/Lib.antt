@@ -16,6 +16,7 @@ pub mod RowMoves
 pub mod SetBits
 pub mod Spotted
 pub mod Steps
+pub mod Takings
 pub mod WordBits
 pub mod WordLoops
 pub mod WordMoves

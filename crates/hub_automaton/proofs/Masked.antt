@@ -9,7 +9,7 @@ use Rattle.hub_glob.specs.Taking.{takes, is_star}
 use Rattle.hub_text.specs.TestLaws.{head, tail}
 use Rattle.hub_automaton.specs.declared.alternatives.Alternatives.{Alternatives}
 use Rattle.hub_automaton.specs.declared.masks.Mask.TheVariants as mask
-use Rattle.hub_glob.specs.declared.piece.Next.{Next}
+use Rattle.hub_glob.specs.declared.piece.NextCharacter.{NextCharacter}
 use Rattle.hub_automaton.specs.Masks.{mask_choice, mask_choices, mask_all}
 use Rattle.hub_automaton.specs.Spots.{is_name_kind, spot_count}
 use Rattle.hub_automaton.specs.Stepping.{spot_past, stepped_pieces, stepped, entered_pieces, entered, stepped_choices, entered_choices, stepped_one, stepped_all}
@@ -47,13 +47,13 @@ plain_spot false true there false before = refl
 plain_spot false false there true before = refl
 plain_spot false false there false before = refl
 
-abbrev anywhere : Next → Next
+abbrev anywhere : NextCharacter → NextCharacter
 anywhere x = record { character = x.character; first = false }
 
-abbrev taker : Bool → Next → Piece → Bool
+abbrev taker : Bool → NextCharacter → Piece → Bool
 taker goes x p = goes && (not (is_star p) && takes (anywhere x) p)
 
-spot_is : (x : Next) (p : Piece) (here there before : Bool)
+spot_is : (x : NextCharacter) (p : Piece) (here there before : Bool)
     → (false || ((takes x Run && (is_star p && there)) || ((taker true x p && here) || (is_star p && before)))) ≡ spot_past x p here there before
 spot_is x Run here there before = star_spot (takes x Run) there before
 spot_is x (Lit c) here there before = plain_spot (takes x Run) (takes x (Lit c)) there here before
@@ -61,7 +61,7 @@ spot_is x Any here there before = plain_spot (takes x Run) (takes x Any) there h
 spot_is x (OneOf cs) here there before = plain_spot (takes x Run) (takes x (OneOf cs)) there here before
 
 -- The spots of the pieces of a choice.
-pieces_move : (x : Next) (ps : List Piece) (es ss ts old : List Bool) (here before : Bool)
+pieces_move : (x : NextCharacter) (ps : List Piece) (es ss ts old : List Bool) (here before : Bool)
     → Begins (moved (takes x Run) (map (λ p. false) ps ++ es) (map is_star ps ++ ss) (map (taker true x) ps ++ ts) old here before)
     (stepped_pieces x here before ps old) (moved (takes x Run) es ss ts (drop (length ps) old))
 pieces_move x [] es ss ts old here before = record { here = here; before = before; is = refl }
@@ -79,7 +79,7 @@ pieces_move x (p ∷ ps) es ss ts old here before =
 
 -- The same where they are entered.
 
-pieces_enter : (x : Next) (ps : List Piece) (es ss ts old : List Bool) (here before : Bool)
+pieces_enter : (x : NextCharacter) (ps : List Piece) (es ss ts old : List Bool) (here before : Bool)
     → Begins (moved false (map (λ p. false) ps ++ es) (map is_star ps ++ ss) (map (taker false x) ps ++ ts) old here before)
     (entered_pieces before ps) (moved false es ss ts (drop (length ps) old))
 pieces_enter x [] es ss ts old here before = record { here = here; before = before; is = refl }
@@ -94,13 +94,13 @@ pieces_enter x (p ∷ ps) es ss ts old here before =
     }
 
 -- A choice, with the spot that is entered.
-abbrev pub entry : Next → Kind → List Piece → List Bool
+abbrev pub entry : NextCharacter → Kind → List Piece → List Bool
 entry x k c = (is_name_kind k && x.character == 47) ∷ map (λ p. false) c
 
-abbrev pub entry_choices : Next → Kind → List (List Piece) → List Bool
+abbrev pub entry_choices : NextCharacter → Kind → List (List Piece) → List Bool
 entry_choices x k cs = flat_map (entry x k) cs
 
-abbrev pub entries : Next → List Alternatives → List Bool
+abbrev pub entries : NextCharacter → List Alternatives → List Bool
 entries x ls = flat_map (λ a. entry_choices x a.kind a.choices) ls
 
 first_spot : (e stays there here before : Bool) → (e || ((stays && (false && there)) || ((false && here) || (false && before)))) ≡ e
@@ -112,12 +112,12 @@ right_true : (a b : Bool) → (a && b) ≡ true → b ≡ true
 right_true true b h = h
 right_true false b h = cc
 
-choice_moves : (x : Next) (k : Kind) (c : List Piece) (es ss ts old : List Bool) (here before : Bool)
+choice_moves : (x : NextCharacter) (k : Kind) (c : List Piece) (es ss ts old : List Bool) (here before : Bool)
     → Begins (moved (takes x Run) (entry x k c ++ es) (mask_choice mask.Stars k c ++ ss) (mask_choice (mask.Takers x.character) k c ++ ts) old here before)
     (cond (is_name_kind k && x.character == 47) (entered c) (stepped x c old)) (moved (takes x Run) es ss ts (drop (length c + 1) old))
 choice_moves x k c es ss ts old here before = by_test (is_name_kind k && x.character == 47) refl where
-  behind : drop (length c) (tail old) ≡ drop (length c + 1) old
-  behind = drop-tail (length c) old ∙ ap (λ n. drop n old) (sym (add-one (length c)))
+  after : drop (length c) (tail old) ≡ drop (length c + 1) old
+  after = drop-tail (length c) old ∙ ap (λ n. drop n old) (sym (add-one (length c)))
 
   by_test : (b : Bool) → (is_name_kind k && x.character == 47) ≡ b
       → Begins (moved (takes x Run) ((b ∷ map (λ p. false) c) ++ es) ((false ∷ map is_star c) ++ ss) ((false ∷ map (taker (not b) x) c) ++ ts) old here before)
@@ -130,7 +130,7 @@ choice_moves x k c es ss ts old here before = by_test (is_name_kind k && x.chara
         is = (λ i. let b = first_spot false (takes x Run) (head old) here before i in
             b ∷ moved (takes x Run) (map (λ p. false) c ++ es) (map is_star c ++ ss) (map (taker true x) c ++ ts) (tail old) (head old) b)
             ∙ ap (λ bs. false ∷ bs) more.is
-            ∙ ap (λ bs. false ∷ (stepped_pieces x (head old) false c (tail old) ++ moved (takes x Run) es ss ts bs more.here more.before)) behind;
+            ∙ ap (λ bs. false ∷ (stepped_pieces x (head old) false c (tail old) ++ moved (takes x Run) es ss ts bs more.here more.before)) after;
       }
   by_test true e =
       let none : takes x Run ≡ false = ap (λ b. not b && not (x.first && x.character == 46)) (right_true (is_name_kind k) (x.character == 47) e) in
@@ -141,14 +141,14 @@ choice_moves x k c es ss ts old here before = by_test (is_name_kind k && x.chara
         is = (λ i. let b = first_spot true (takes x Run) (head old) here before i in
             b ∷ moved (none i) (map (λ p. false) c ++ es) (map is_star c ++ ss) (map (taker false x) c ++ ts) (tail old) (head old) b)
             ∙ ap (λ bs. true ∷ bs) more.is
-            ∙ (λ i. true ∷ (entered_pieces true c ++ moved (sym none i) es ss ts (behind i) more.here more.before));
+            ∙ (λ i. true ∷ (entered_pieces true c ++ moved (sym none i) es ss ts (after i) more.here more.before));
       }
 
 join_cases : (b : Bool) (p q r s : List Bool) → (cond b p q ++ cond b r s) ≡ cond b (p ++ r) (q ++ s)
 join_cases true p q r s = refl
 join_cases false p q r s = refl
 
-choices_move : (x : Next) (k : Kind) (cs : List (List Piece)) (es ss ts old : List Bool) (here before : Bool)
+choices_move : (x : NextCharacter) (k : Kind) (cs : List (List Piece)) (es ss ts old : List Bool) (here before : Bool)
     → Begins (moved (takes x Run) (entry_choices x k cs ++ es) (mask_choices mask.Stars k cs ++ ss) (mask_choices (mask.Takers x.character) k cs ++ ts) old here before)
     (cond (is_name_kind k && x.character == 47) (entered_choices cs) (stepped_choices x cs old)) (moved (takes x Run) es ss ts (drop (spot_count cs) old))
 choices_move x k [] es ss ts old here before = record { here = here; before = before; is = nothing (is_name_kind k && x.character == 47) } where
@@ -175,7 +175,7 @@ choices_move x k (c ∷ cs) es ss ts old here before =
           ++ moved (takes x Run) es ss ts (drop-drop (spot_count cs) (length c + 1) old i) more.here more.before);
     }
 
-pub all_move : (x : Next) (ls : List Alternatives) (old : List Bool) (here before : Bool)
+pub all_move : (x : NextCharacter) (ls : List Alternatives) (old : List Bool) (here before : Bool)
     → moved (takes x Run) (entries x ls) (mask_all mask.Stars ls) (mask_all (mask.Takers x.character) ls) old here before ≡ stepped_all x ls old
 all_move x [] old here before = refl
 all_move x (a ∷ ls) old here before =

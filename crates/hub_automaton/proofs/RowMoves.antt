@@ -9,13 +9,13 @@ use Rattle.std.proofs.lemmas.Bool.{cases_lt}
 use Rattle.std.proofs.lemmas.Grind.{get_or-set_at}
 use Rattle.std.proofs.lemmas.List.{drop_min, drop-set-lt, drop-set-add, length-append, length-drop, length-set, length-take, get_or-append-add, get_or-drop, get_or-set_same, get_or-set_other, get_or-take, set-append_right, set_past, take-set-le, take-append-drop}
 use lib.Bits.{bit_and}
-use Rattle.hub_glob.specs.declared.piece.Next.{Next}
+use Rattle.hub_glob.specs.declared.piece.NextCharacter.{NextCharacter}
 use Rattle.hub_glob.specs.declared.piece.Piece.TheVariants.{Run}
 use Rattle.hub_glob.specs.Taking.{takes}
 use Rattle.hub_automaton.specs.declared.alternatives.Alternatives.{Alternatives}
 use Rattle.hub_automaton.specs.declared.words.Masks.{Masks}
 use Rattle.hub_automaton.specs.Masks.{ended_at, marked, moved_row, moved_seen}
-use Rattle.hub_automaton.specs.Rows.{AreApart, AreMoved, AreTakenAlike, NoneCarried, last_before, masks_at, shifted_at, word_at}
+use Rattle.hub_automaton.specs.Rows.{AreMovedApart, AreMoved, AreTakenAlike, NoneCarried, last_before, masks_at, shifted_at, word_at}
 use Rattle.hub_automaton.specs.Spots.{Seen, is_below_kind, spot_count}
 use Rattle.hub_automaton.specs.Words.{first_word, other_words, spread, moved_word, moved_words, with_bit}
 
@@ -32,13 +32,13 @@ same_step xs ys m i w l e h j p q = by (eq-or-lt_of_le (let k : j ≤ i = omega 
   by (inl s) = get_or-set_at xs i j w 0 s l ∙ e ∙ ap (get ys) (sym s)
   by (inr s) = get_or-set_other xs i j w 0 (let d : j ≢ i = omega arith in d) ∙ h j p s
 
-pub same_behind : (m : ℕ) (xs ys : List ℕ) → length xs ≡ length ys → SameBetween xs ys m (length xs) → drop m xs ≡ drop m ys
-same_behind m [] [] l h = refl
-same_behind m [] (y ∷ ys) l h = absurd (omega (arith, l))
-same_behind m (x ∷ xs) [] l h = absurd (omega (arith, l))
-same_behind zero (x ∷ xs) (y ∷ ys) l h =
-    λ i. h zero (omega arith) (omega arith) i ∷ same_behind zero xs ys (omega (arith, l)) (λ j p q. h (suc j) (omega arith) (omega arith)) i
-same_behind (suc m) (x ∷ xs) (y ∷ ys) l h = same_behind m xs ys (omega (arith, l)) (λ j p q. h (suc j) (omega arith) (omega arith))
+pub same_after : (m : ℕ) (xs ys : List ℕ) → length xs ≡ length ys → SameBetween xs ys m (length xs) → drop m xs ≡ drop m ys
+same_after m [] [] l h = refl
+same_after m [] (y ∷ ys) l h = absurd (omega (arith, l))
+same_after m (x ∷ xs) [] l h = absurd (omega (arith, l))
+same_after zero (x ∷ xs) (y ∷ ys) l h =
+    λ i. h zero (omega arith) (omega arith) i ∷ same_after zero xs ys (omega (arith, l)) (λ j p q. h (suc j) (omega arith) (omega arith)) i
+same_after (suc m) (x ∷ xs) (y ∷ ys) l h = same_after m xs ys (omega (arith, l)) (λ j p q. h (suc j) (omega arith) (omega arith))
 
 -- The spot before a word.
 before-set : (ws : List ℕ) (i j w : ℕ) → j ≤ i → last_before 0 (slice_set ws i w) j ≡ last_before 0 ws j
@@ -57,7 +57,7 @@ before_apart : (stays : Bool) (m : Masks) (o here b : ℕ) → bit_and m.stars b
 before_apart stays m o here b none =
     λ k. spread m.stars (bit_or m.entries (bit_or (cond stays (bit_and m.stars o) 0) (bit_or (bit_and m.takers (bit_or (o * 2 ^ 1 % 2 ^ 64) here)) ((and_zero_r m.stars ∙ sym none) k))))
 
-pub apart_moved : (stays : Bool) (es ss ts old ws : List ℕ) (n : ℕ) → AreApart stays es ss ts old ws n → NoneCarried ss ws n → AreMoved stays es ss ts old ws n
+pub apart_moved : (stays : Bool) (es ss ts old ws : List ℕ) (n : ℕ) → AreMovedApart stays es ss ts old ws n → NoneCarried ss ws n → AreMoved stays es ss ts old ws n
 apart_moved stays es ss ts old ws n h k i l = h i l ∙ before_apart stays (masks_at es ss ts i) (get old i) (last_before 0 old i) (last_before 0 ws i) (k i l)
 
 -- A row in which the words up to a place are moved, each without the spot before it.
@@ -65,13 +65,13 @@ pub record Apart (stays : Bool) (es ss ts old first ws : List ℕ) (n i here bef
   pub long : length ws ≡ length old
   pub here_is : here ≡ last_before 0 old i
   pub before_is : before ≡ last_before 0 ws i
-  pub apart : AreApart stays es ss ts old ws i
-  pub behind : drop n ws ≡ drop n first
+  pub apart : AreMovedApart stays es ss ts old ws i
+  pub after : drop n ws ≡ drop n first
   pub none : carried ≡ 0 → NoneCarried ss ws i
 
 pub apart_begins : (stays : Bool) (es ss ts old first : List ℕ) (n : ℕ) → length first ≡ length old → Apart stays es ss ts old first first n 0 0 0 0
 apart_begins stays es ss ts old first n l =
-    record { long = l; here_is = refl; before_is = refl; apart = λ i p. absurd (omega arith); behind = refl; none = λ z i p. absurd (omega arith) }
+    record { long = l; here_is = refl; before_is = refl; apart = λ i p. absurd (omega arith); after = refl; none = λ z i p. absurd (omega arith) }
 
 pub apart_step : (stays : Bool) (es ss ts old first ws : List ℕ) (n i here before carried o w : ℕ) (m : Masks)
     → Apart stays es ss ts old first ws n i here before carried → i < n → i < length ws
@@ -83,7 +83,7 @@ apart_step stays es ss ts old first ws n i here before carried o w m h l r em eo
       here_is = before-next old i o eo;
       before_is = before-next (slice_set ws i w) i w (sym (get_or-set_same ws i w 0 r));
       apart = λ j q. by_place j (eq-or-lt_of_le (let k : j ≤ i = omega arith in k));
-      behind = drop-set-lt n ws i w l ∙ h.behind;
+      after = drop-set-lt n ws i w l ∙ h.after;
       none = λ z j q. ap (bit_and (get ss j)) (before-set ws i j w (omega arith)) ∙ by_carry z j (eq-or-lt_of_le (let k : j ≤ i = omega arith in k));
     }
   where
@@ -104,11 +104,11 @@ pub record Carried (stays : Bool) (es ss ts old first ws : List ℕ) (n i : ℕ)
   pub long : length ws ≡ length old
   pub moved : (j : ℕ) → j < i → j < n → slice_index_or ws j 0 ≡ word_at stays es ss ts old j (last_before 0 ws j)
   pub apart : (j : ℕ) → i ≤ j → j < n → slice_index_or ws j 0 ≡ word_at stays es ss ts old j 0
-  pub behind : drop n ws ≡ drop n first
+  pub after : drop n ws ≡ drop n first
 
-pub carry_begins : (stays : Bool) (es ss ts old first : List ℕ) (n : ℕ) → length first ≡ length old → AreApart stays es ss ts old first n → Carried stays es ss ts old first first n 1
+pub carry_begins : (stays : Bool) (es ss ts old first : List ℕ) (n : ℕ) → length first ≡ length old → AreMovedApart stays es ss ts old first n → Carried stays es ss ts old first first n 1
 carry_begins stays es ss ts old first n l h =
-    record { some = omega arith; long = l; moved = by; apart = λ j p q. h j q; behind = refl }
+    record { some = omega arith; long = l; moved = by; apart = λ j p q. h j q; after = refl }
   where
     by : (j : ℕ) → j < 1 → j < n → get first j ≡ word_at stays es ss ts old j (last_before 0 first j)
     by zero p q = h zero q
@@ -120,7 +120,7 @@ carry_skips stays es ss ts old first ws n i before h eb z =
     record {
       some = omega arith;
       long = h.long;
-      behind = h.behind;
+      after = h.after;
       moved = λ j p q. by j q (eq-or-lt_of_le (let k : j ≤ i = omega arith in k));
       apart = λ j p q. h.apart j (omega arith) q;
     }
@@ -143,7 +143,7 @@ carry_step stays es ss ts old first ws n i here before o w m h l r eb eh em eo e
     record {
       some = omega arith;
       long = length-set ws i w ∙ h.long;
-      behind = drop-set-lt n ws i w l ∙ h.behind;
+      after = drop-set-lt n ws i w l ∙ h.after;
       moved = λ j p q. by j q (eq-or-lt_of_le (let k : j ≤ i = omega arith in k));
       apart = λ j p q. get_or-set_other ws i j w 0 (let d : j ≢ i = omega arith in d) ∙ h.apart j (omega arith) q;
     }
@@ -247,7 +247,7 @@ row_alike stays es ss ts us row l h =
     let at : bit_or (get os j * 2 ^ 1 % 2 ^ 64) (last_before 0 os j) ≡ shifted_at row j = λ k. bit_or (get_or-take n row j 0 p k * 2 ^ 1 % 2 ^ 64) (sym (before-take n row j p) k) in
     ap (bit_and (get ts j)) at ∙ h j r ∙ ap (bit_and (get us j)) (sym at)))
 
--- Flags behind the words that are moved.
+-- Flags after the words that are moved.
 moved_words-length : (stays : Bool) (es ss ts os : List ℕ) (here before : ℕ) → length (moved_words stays es ss ts os here before) ≡ length os
 moved_words-length stays es ss ts [] here before = refl
 moved_words-length stays es ss ts (o ∷ os) here before =
@@ -300,8 +300,8 @@ marks_move stays es ss ts live (a ∷ ls) n i row =
     by true = word_set stays es ss ts row (i / 64) (λ w. bit_or w (2 ^ (i % 64)))
     by false = refl
 
--- Before a `/` the flags may be set behind the words that are moved already.
-pub seen_moves : (x : Next) (ls : List Alternatives) (es ss ts row : List ℕ) (s : Seen)
+-- Before a `/` the flags may be set after the words that are moved already.
+pub seen_moves : (x : NextCharacter) (ls : List Alternatives) (es ss ts row : List ℕ) (s : Seen)
     → row ≡ cond (x.character == 47) (marked ls (take (length ss) s.row) 0 (length ss) 0 (moved_row (takes x Run) (cond (x.character == 47) es []) ss ts s.row))
     (moved_row (takes x Run) (cond (x.character == 47) es []) ss ts s.row)
     → let r : Seen = record { row = row; start = x.character == 47 } in r ≡ moved_seen x ls es ss ts s

@@ -19,7 +19,7 @@ use Rattle.std.proofs.Math.Bool.{or-false}
 use Rattle.hub_glob.specs.ChoiceLaws.{glob_choices}
 use Rattle.hub_automaton.specs.Alphabet.{is_left_out, is_mentioned, class_of, mentions, piece_characters, pieces_characters, class_count, first_unmentioned, sample, IsAlphabet}
 use Rattle.hub_automaton.specs.declared.alternatives.Alternatives.{Alternatives}
-use Rattle.hub_glob.specs.declared.piece.Next.{Next}
+use Rattle.hub_glob.specs.declared.piece.NextCharacter.{NextCharacter}
 use Rattle.hub_automaton.specs.Spots.{spots, since_slash, looked_at, folders, starts, fits, is_name_kind, is_below_kind, alternatives_of, spots_of, is_below, is_matched, Unpacked, unpacked, spot_count, is_covered}
 use Rattle.hub_automaton.specs.Stepping.{stepped_pieces, stepped, ended, stepped_choices, ended_choices, entered_choices, stepped_all, below_all, matched_each, pushed}
 use Rattle.hub_automaton.proofs.Alphabets.{both, and, sample_class}
@@ -100,14 +100,14 @@ one_law kind.Name cs t x rest = by_test (x == 47) ∙ ap (λ u. flat_map (λ c. 
   name : List ℕ
   name = since_slash [] t
 
-  here : Next → List Bool
+  here : NextCharacter → List Bool
   here y = stepped_choices y cs (flat_map (λ c. spots c (since_slash [] t)) cs ++ rest)
 
   by_test : (b : Bool) → cond b (entered_choices cs) (stepped_choices (next_of t x) cs (flat_map (λ c. spots c (since_slash [] t)) cs ++ rest))
       ≡ flat_map (λ c. spots c (cond b [] (since_slash [] t ++ x ∷ []))) cs
   by_test true = entered_law cs
   by_test false =
-      (λ i. let y : Next = record { character = x; first = sym (starts-since [] t) i } in stepped_choices y cs (flat_map (λ c. spots c (since_slash [] t)) cs ++ rest))
+      (λ i. let y : NextCharacter = record { character = x; first = sym (starts-since [] t) i } in stepped_choices y cs (flat_map (λ c. spots c (since_slash [] t)) cs ++ rest))
       ∙ choices_law cs (since_slash [] t) x rest
 
 -- All specifications, with one more character.
@@ -237,7 +237,7 @@ any_told ms x y (c ∷ cs) a h =
     let w = both (is_left_out c || is_mentioned ms c) (mentions ms cs) h in
     λ i. (flip x c ∙ told ms x y c a w.0 ∙ sym (flip y c)) i || any_told ms x y cs a w.1 i
 
-abbrev at_character : Bool → ℕ → Next
+abbrev at_character : Bool → ℕ → NextCharacter
 at_character f x = record { character = x; first = f }
 
 right_or : (a b : Bool) → b ≡ true → (a || b) ≡ true

@@ -8,7 +8,7 @@ use Rattle.hub_glob.specs.Taking.{is_star}
 use Rattle.hub_text.specs.TestLaws.{agree, same, every4}
 use Rattle.std.proofs.Math.Bool.{and-false, or-false}
 use Rattle.hub_glob.specs.OneStep.{nonzero, takes_run, run_step, run_end, pieces-append}
-use Rattle.hub_glob.specs.declared.piece.Next.{Next}
+use Rattle.hub_glob.specs.declared.piece.NextCharacter.{NextCharacter}
 use Rattle.hub_automaton.specs.Spots.{spots, starts}
 use Rattle.hub_automaton.specs.Stepping.{spot_past, stepped_pieces, last_spot, stepped, ended, entered_pieces, entered}
 
@@ -69,14 +69,14 @@ last-takes passes x = record { none = λ f. refl; more = go } where
 abbrev pub front_matches : List Piece → List ℕ → Bool
 front_matches ps t = pieces ps no_more true t
 
--- A piece that is no `*`, behind others.
+-- A piece that is no `*`, after others.
 one_more : (ps : List Piece) (p : Piece) (passes : ℕ → Bool) (t : List ℕ) (x : ℕ) → piece p no_more ≡ begins passes no_more
     → front_matches (ps ++ p ∷ []) (t ++ x ∷ []) ≡ (front_matches ps t && passes x)
 one_more ps p passes t x h =
     ap (λ k. k true (t ++ x ∷ [])) (pieces-append ps (p ∷ []) no_more ∙ ap (pieces ps) h)
     ∙ (pieces-takes ps (begins passes no_more) no_more x (passes x) (last-takes passes x)).more true t
 
--- A `*` behind others.
+-- A `*` after others.
 abbrev star : Texts
 star = piece Run no_more
 
@@ -157,11 +157,11 @@ star_more ps t x =
     ap (λ k. k true (t ++ x ∷ [])) (pieces-append ps (Run ∷ []) no_more) ∙ pieces-runs ps x true t
     ∙ (λ i. front_matches ps (t ++ x ∷ []) || sym (pieces-append ps (Run ∷ []) no_more) i true t && stays x (starts true t))
 
--- The character behind a text.
-abbrev pub next_of : List ℕ → ℕ → Next
+-- The character after a text.
+abbrev pub next_of : List ℕ → ℕ → NextCharacter
 next_of t x = record { character = x; first = starts true t }
 
--- The spot behind a piece.
+-- The spot after a piece.
 pub spot_law : (ps : List Piece) (p : Piece) (t : List ℕ) (x : ℕ)
     → front_matches (ps ++ p ∷ []) (t ++ x ∷ [])
     ≡ spot_past (next_of t x) p (front_matches ps t) (front_matches (ps ++ p ∷ []) t) (front_matches ps (t ++ x ∷ []))
@@ -170,7 +170,7 @@ spot_law ps Any t x = one_more ps Any (λ d. not (d == 47)) t x refl
 spot_law ps (OneOf cs) t x = one_more ps (OneOf cs) (λ d. list_any (λ c. c == d) cs) t x refl
 spot_law ps Run t x = star_more ps t x
 
--- The spot behind a piece in the empty text.
+-- The spot after a piece in the empty text.
 pub empty_law : (ps : List Piece) (p : Piece) → front_matches (ps ++ p ∷ []) [] ≡ (is_star p && front_matches ps [])
 empty_law ps (Lit c) = ap (λ k. k true []) (pieces-append ps (Lit c ∷ []) no_more) ∙ (pieces-takes ps (begins (λ d. d == c) no_more) no_more 0 (0 == c) (last-takes (λ d. d == c) 0)).none true
 empty_law ps Any = ap (λ k. k true []) (pieces-append ps (Any ∷ []) no_more) ∙ (pieces-takes ps (begins (λ d. not (d == 47)) no_more) no_more 0 true (last-takes (λ d. not (d == 47)) 0)).none true

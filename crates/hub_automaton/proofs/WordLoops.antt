@@ -51,13 +51,13 @@ pub row_step : (stays : Bool) (es ss ts old ws : List ℕ) (i here before o w : 
     → InPlace stays es ss ts old (slice_set ws i w) (i + 1) (o / 2 ^ 63) (w / 2 ^ 63)
 row_step stays es ss ts old ws i here before o w h l m r e =
     let os = take (length ss) old in
-    let behind : i < i + 1 = omega arith in
+    let after : i < i + 1 = omega arith in
     let within : i < length os = omega (arith, h.long, length-take (length ss) old) in
     let same : o ≡ slice_index_or os i 0 =
     get_or_read ws i o m r 0 ∙ first-drop i ws ∙ ap first_word h.rest ∙ sym (first-drop i old) ∙ sym (get_or-take (length ss) old i 0 l) in
     let masks : Masks = record { entries = slice_index_or es i 0; stars = slice_index_or ss i 0; takers = slice_index_or ts i 0 } in
     record {
-      rest = drop-set-lt (i + 1) ws i w behind ∙ others-drop i ws ∙ ap other_words h.rest ∙ sym (others-drop i old);
+      rest = drop-set-lt (i + 1) ws i w after ∙ others-drop i ws ∙ ap other_words h.rest ∙ sym (others-drop i old);
       long = length-set ws i w ∙ h.long;
       moved = (λ j. take (i + 1) (slice_set ws i w) ++ moved_words stays (drop (i + 1) es) (drop (i + 1) ss) (drop (i + 1) ts) (drop (i + 1) os) (same j / 2 ^ 63) (w / 2 ^ 63))
           ∙ moved_step stays es ss ts os i here before w (take i ws) (take (i + 1) (slice_set ws i w)) (moved_words stays es ss ts os 0 0) within

@@ -1,4 +1,5 @@
--- Classes of characters: each mentioned character is a class of its own, and all others that a path may hold are one.
+-- Classes of characters: each mentioned character is a class of its own, and all others that a path
+-- may hold are one.
 use Rattle.std.specs.Prelude.{◌≡◌, ◌⊎◌, ◌<◌, ◌≤◌, ◌+◌, ℕ, suc, zero, Bool, true, not, ◌&&◌, ◌||◌, ◌==◌, nat_lt, List, [], ◌∷◌, length, find, Option, Some, None, unwrap_or, slice_index, if◌then◌else◌, IsTrue}
 use Rattle.std.specs.List.{list_any, list_all, flat_map, range_with_len, position_from}
 use Rattle.std.specs.Str.{all_scalars}
@@ -23,17 +24,20 @@ is_path_character c = all_scalars (c ∷ []) && not (is_left_out c)
 abbrev pub is_mentioned : List ℕ → ℕ → Bool
 is_mentioned ms c = list_any (λ m. m == c) ms
 
--- The class of a character: of the mentioned characters, in ascending order, the first has number 1. All others are of
--- class 0.
+-- The class of a character: of the mentioned characters, in ascending order, the first has number
+-- 1. All others are of class 0.
 abbrev pub class_of : List ℕ → ℕ → Option ℕ
-class_of ms c = if is_left_out c then None else Some (unwrap_or (position_from (λ m. m == c) 1 ms) 0)
+class_of ms c =
+    if is_left_out c then None else Some (unwrap_or (position_from (λ m. m == c) 1 ms) 0)
 
 abbrev pub class_count : List ℕ → ℕ
 class_count ms = length ms + 1
 
--- The first character from `a` on that isn't mentioned. No more numbers are tried than make sure of one.
+-- The first character from `a` on that isn't mentioned. No more numbers are tried than make sure of
+-- one.
 abbrev pub first_unmentioned : List ℕ → ℕ
-first_unmentioned ms = unwrap_or (find (λ c. not (is_mentioned ms c)) (range_with_len 97 (length ms + 1))) 97
+first_unmentioned ms =
+    unwrap_or (find (λ c. not (is_mentioned ms c)) (range_with_len 97 (length ms + 1))) 97
 
 -- A character of each class.
 abbrev pub sample : List ℕ → ℕ → ℕ
@@ -49,8 +53,8 @@ ascends (m ∷ ms) = list_all (λ n. nat_lt m n) ms && ascends ms
 abbrev pub plain : List ℕ
 plain = 46 ∷ 47 ∷ []
 
--- What holds of the mentioned characters: they ascend, `.` and `/` are among them, NUL, LF and CR aren't, all are Unicode
--- scalar values, and there are at most as many as an alphabet may have.
+-- What holds of the mentioned characters: they ascend, `.` and `/` are among them, NUL, LF and CR
+-- aren't, all are Unicode scalar values, and there are at most as many as an alphabet may have.
 pub record IsAlphabet (ms : List ℕ) : Type 0 where
   pub ascends : IsTrue (ascends ms)
   pub dot : IsTrue (is_mentioned ms 46)
@@ -74,9 +78,12 @@ with_characters ms (c ∷ cs) = with_characters (with_character ms c) cs
 
 -- Why they aren't added: they are too many, or there was no memory.
 abbrev pub Refuses : List ℕ → List ℕ → AutomatonFault → Type 0
-Refuses ms cs e = (e ≡ OutOfMemory) ⊎ ((e ≡ TooManyCharacters) × (MENTIONED_CHARACTERS < length (with_characters ms cs)))
+Refuses ms cs e =
+    (e ≡ OutOfMemory) ⊎ ((e ≡ TooManyCharacters)
+    × (MENTIONED_CHARACTERS < length (with_characters ms cs)))
 
--- The characters of a path's names, and those that a specification mentions: its literals, and the members of its sets.
+-- The characters of a path's names, and those that a specification mentions: its literals, and the
+-- members of its sets.
 abbrev pub path_characters : Path → List ℕ
 path_characters p = flat_map (λ n. n) p
 

@@ -13,7 +13,8 @@ meets [] vs = false
 meets (w ∷ ws) [] = false
 meets (w ∷ ws) (v ∷ vs) = not (bit_and w v == 0) || meets ws vs
 
--- The positions of a choice: the last one is in the mask if the choice is asked for, and no other one is.
+-- The positions of a choice: the last one is in the mask if the choice is asked for, and no other
+-- one is.
 abbrev pub end_choice : Bool → List Piece → List Bool
 end_choice on c = map (λ p. false) c ++ on ∷ []
 
@@ -24,17 +25,20 @@ end_choices on cs = flat_map (end_choice on) cs
 abbrev pub in_range : ℕ → ℕ → ℕ → Bool
 in_range from to i = not (nat_lt i from) && nat_lt i to
 
--- The positions of specifications, where the first one has the number `i`: those in the range are asked for.
+-- The positions of specifications, where the first one has the number `i`: those in the range are
+-- asked for.
 abbrev pub end_all : ℕ → ℕ → ℕ → List Alternatives → List Bool
 end_all from to i [] = []
-end_all from to i (a ∷ ls) = end_choices (in_range from to i) a.choices ++ end_all from to (i + 1) ls
+end_all from to i (a ∷ ls) =
+    end_choices (in_range from to i) a.choices ++ end_all from to (i + 1) ls
 
 -- Their flags.
 abbrev pub end_flags : ℕ → ℕ → ℕ → List Alternatives → List Bool
 end_flags from to i [] = []
 end_flags from to i (a ∷ ls) = in_range from to i ∷ end_flags from to (i + 1) ls
 
--- The mask of a range of specifications, in the words of a row: the last positions of their choices, and their flags.
+-- The mask of a range of specifications, in the words of a row: the last positions of their
+-- choices, and their flags.
 abbrev pub ends_in : List Alternatives → ℕ → ℕ → List ℕ
 ends_in ls from to = packed (end_all from to 0 ls) ++ packed (end_flags from to 0 ls)
 

@@ -9,5 +9,6 @@ pub mod Opened
 pub mod Rows
 pub mod Spots
 pub mod Stepping
+pub mod Takers
 pub mod Varied
 pub mod Words

@@ -1,5 +1,5 @@
--- A row of words moved on by a character in two rounds: each word without the spot before it, and then those words again
--- that the spot before them goes on into.
+-- A row of words moved on by a character in two rounds: each word without the spot before it, and
+-- then those words again that the spot before them goes on into.
 use Rattle.std.specs.Prelude.{◌≡◌, ◌<◌, ℕ, zero, suc, ◌*◌, ◌/◌, ◌%◌, ◌^◌, Bool, List, slice_index_or}
 use Rattle.std.specs.Int.RustNames.{bit_or}
 use lib.Bits.{bit_and}
@@ -13,7 +13,12 @@ last_before first ws (suc i) = slice_index_or ws i 0 / 2 ^ 63
 
 abbrev pub masks_at : List ℕ → List ℕ → List ℕ → ℕ → Masks
 masks_at es ss ts i =
-    record { entries = slice_index_or es i 0; stars = slice_index_or ss i 0; takers = slice_index_or ts i 0 }
+    record {
+      entries = slice_index_or es i 0;
+      stars = slice_index_or ss i 0;
+      takers =
+          slice_index_or ts i 0;
+    }
 
 -- A word of a row, from the words before the character and the spot before it.
 abbrev pub word_at : Bool → List ℕ → List ℕ → List ℕ → List ℕ → ℕ → ℕ → ℕ
@@ -21,22 +26,26 @@ word_at stays es ss ts old i before =
     moved_word stays (masks_at es ss ts i) (slice_index_or old i 0) (last_before 0 old i) before
 
 -- The words up to a place are moved on, each without the spot before it.
-abbrev pub AreApart : Bool → List ℕ → List ℕ → List ℕ → List ℕ → List ℕ → ℕ → Type 0
-AreApart stays es ss ts old ws n = (i : ℕ) → i < n → slice_index_or ws i 0 ≡ word_at stays es ss ts old i 0
+abbrev pub AreMovedApart : Bool → List ℕ → List ℕ → List ℕ → List ℕ → List ℕ → ℕ → Type 0
+AreMovedApart stays es ss ts old ws n =
+    (i : ℕ) → i < n → slice_index_or ws i 0 ≡ word_at stays es ss ts old i 0
 
 -- The words up to a place are moved on.
 abbrev pub AreMoved : Bool → List ℕ → List ℕ → List ℕ → List ℕ → List ℕ → ℕ → Type 0
-AreMoved stays es ss ts old ws n = (i : ℕ) → i < n → slice_index_or ws i 0 ≡ word_at stays es ss ts old i (last_before 0 ws i)
+AreMoved stays es ss ts old ws n =
+    (i : ℕ) → i < n → slice_index_or ws i 0 ≡ word_at stays es ss ts old i (last_before 0 ws i)
 
--- Up to a place no spot goes on into the word behind it.
+-- Up to a place no spot goes on into the word after it.
 abbrev pub NoneCarried : List ℕ → List ℕ → ℕ → Type 0
 NoneCarried ss ws n = (i : ℕ) → i < n → bit_and (slice_index_or ss i 0) (last_before 0 ws i) ≡ 0
 
--- The word of a row at a place with each spot one further. The first one is the last spot of the word before it.
+-- The word of a row at a place with each spot one further. The first one is the last spot of the
+-- word before it.
 abbrev pub shifted_at : List ℕ → ℕ → ℕ
 shifted_at row i = bit_or (slice_index_or row i 0 * 2 ^ 1 % 2 ^ 64) (last_before 0 row i)
 
 -- In the words up to a place the same spots go on by both masks of takers.
 abbrev pub AreTakenAlike : List ℕ → List ℕ → List ℕ → ℕ → Type 0
 AreTakenAlike ts us row n =
-    (i : ℕ) → i < n → bit_and (slice_index_or ts i 0) (shifted_at row i) ≡ bit_and (slice_index_or us i 0) (shifted_at row i)
+    (i : ℕ) → i < n → bit_and (slice_index_or ts i 0) (shifted_at row i)
+    ≡ bit_and (slice_index_or us i 0) (shifted_at row i)

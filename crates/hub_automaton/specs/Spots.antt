@@ -1,5 +1,5 @@
--- What is seen of a text for some specifications: which numbers of pieces of their choices match it, and which of the
--- specifications match a path above it.
+-- What is seen of a text for some specifications: which numbers of pieces of their choices match
+-- it, and which of the specifications match a path above it.
 use Rattle.std.specs.Prelude.{◌||◌, ◌≡◌, ◌⊎◌, ◌<◌, ◌≤◌, IsTrue, drop, ℕ, Bool, true, false, ◌&&◌, ◌==◌, ◌+◌, List, [], ◌∷◌, ◌++◌, map, length, take, if◌then◌else◌}
 use Rattle.std.specs.List.{list_any, list_all, flat_map, range_with_len}
 use Rattle.hub_glob.specs.declared.piece.Piece.{Piece}
@@ -33,9 +33,11 @@ looked_at kind.BelowPath t = t
 -- The prefixes of a text that end before a `/`.
 abbrev pub folders : List ℕ → List (List ℕ)
 folders [] = []
-folders (c ∷ t) = if c == 47 then [] ∷ map (λ u. c ∷ u) (folders t) else map (λ u. c ∷ u) (folders t)
+folders (c ∷ t) =
+    if c == 47 then [] ∷ map (λ u. c ∷ u) (folders t) else map (λ u. c ∷ u) (folders t)
 
--- A text ends where a component starts, where the first argument says whether it begins at such a place.
+-- A text ends where a component starts, where the first argument says whether it begins at such a
+-- place.
 abbrev pub starts : Bool → List ℕ → Bool
 starts first [] = first
 starts first (c ∷ t) = starts (c == 47) t
@@ -73,27 +75,36 @@ is_below a t = is_below_kind a.kind && list_any (fits a.choices) (folders t)
 abbrev pub is_matched : Alternatives → List ℕ → Bool
 is_matched a t = is_below a t || fits a.choices (looked_at a.kind t)
 
--- What is seen of a text for one specification: for each of its choices the spots, and whether a path above is matched.
+-- What is seen of a text for one specification: for each of its choices the spots, and whether a
+-- path above is matched.
 pub record Progress : Type 0 where
   pub sets : List (List Bool)
   pub below : Bool
 
 abbrev pub progress : List ℕ → Alternatives → Progress
-progress t a = record { sets = map (λ c. spots c (looked_at a.kind t)) a.choices; below = is_below a t }
+progress t a =
+    record { sets = map (λ c. spots c (looked_at a.kind t)) a.choices; below = is_below a t }
 
--- What is seen of a text: the spots of all choices, one specification after another, whether a path above is matched,
--- for each of them, and whether the text ends where a component starts.
+-- What is seen of a text: the spots of all choices, one specification after another, whether a path
+-- above is matched, for each of them, and whether the text ends where a component starts.
 pub record Unpacked : Type 0 where
   pub live : List Bool
   pub below : List Bool
   pub start : Bool
 
 abbrev pub unpacked : List Alternatives → List ℕ → Unpacked
-unpacked ls t = record { live = flat_map (λ a. spots_of a t) ls; below = map (λ a. is_below a t) ls; start = starts true t }
+unpacked ls t =
+    record {
+      live = flat_map (λ a. spots_of a t) ls;
+      below = map (λ a. is_below a t) ls;
+      start =
+          starts true t;
+    }
 
--- What is seen of a text, as it is kept: one row of words, and whether the text ends where a component starts. The row has
--- the spots of all choices, as words of bits, and then, in further words, for each specification whether a path above is
--- matched. The first bit of a word is the lowest.
+-- What is seen of a text, as it is kept: one row of words, and whether the text ends where a
+-- component starts. The row has the spots of all choices, as words of bits, and then, in further
+-- words, for each specification whether a path above is matched. The first bit of a word is the
+-- lowest.
 pub record Seen : Type 0 where
   pub row : List ℕ
   pub start : Bool
@@ -126,7 +137,8 @@ pub record Tracked : Type 0 where
   pub mentioned : List ℕ
   pub alternatives : List Alternatives
 
--- There is a sample of each class, no character matters that isn't mentioned, and there are few spots.
+-- There is a sample of each class, no character matters that isn't mentioned, and there are few
+-- spots.
 pub record IsTracked (characters : List ℕ) (ls : List Alternatives) (count : ℕ) : Type 0 where
   pub samples : characters ≡ first_unmentioned (drop 1 characters) ∷ drop 1 characters
   pub alphabet : IsAlphabet (drop 1 characters)

@@ -41,7 +41,7 @@ impl Ends {
         Ok(Ends { mask })
     }
 
-    /// Whether the row has one of them.
+    /// Returns whether the row has one of them.
     pub(crate) fn meet(&self, row: &[u64]) -> bool
         ensures { result ≡ ending.meets row.now self.now }
     {
@@ -49,7 +49,7 @@ impl Ends {
     }
 }
 
-/// Whether some bit is set in both rows.
+/// Returns whether some bit is set in both rows.
 pub(crate) fn rows_meet(row: &[u64], mask: &[u64]) -> bool
     ensures { result ≡ ending.meets row.now mask.now }
 {

@@ -33,6 +33,7 @@ mod mentions;
 mod rows;
 mod spec_set;
 mod step;
+mod takers;
 mod varied;
 mod words;
 

@@ -1,14 +1,17 @@
 //! Masks of spots: for each spot whether it is entered, is that of a star, or takes a character.
-ghost use Rattle.std.specs.Prelude.{◌≡◌, ◌++◌, length, IfOk, OnOk};
+ghost use Rattle.std.specs.Prelude.{◌≡◌, ◌≤◌, ◌++◌, ◌∷◌, length, IfOk, OnOk};
+ghost use Rattle.hub_automaton.specs.Alphabet.{IsAlphabet, first_unmentioned};
 ghost use Rattle.hub_automaton.specs.Masks as masking;
 ghost use Rattle.hub_automaton.specs.Masks.{AreMasksOf};
-ghost use Rattle.hub_automaton.specs.Spots.{is_name_kind};
+ghost use Rattle.hub_automaton.specs.Spots.{is_name_kind, spots_count};
 ghost use Rattle.hub_automaton.specs.Words.{packed};
 
-use crate::alternatives::Alternatives;
+use crate::alphabet::Alphabet;
+use crate::alternatives::{Alternatives, SPOTS};
 use crate::ends::below_ends;
+use crate::takers::build_takers;
 use crate::words::{Words, pack};
-use hub_glob::{Kind, Next, Piece};
+use hub_glob::{Kind, NextCharacter, Piece};
 use hub_text::Items;
 use std::alloc::{AllocError, Global};
 
@@ -21,6 +24,8 @@ pub(crate) enum Mask {
     Stars,
     /// The positions after pieces that accept that character and aren't stars.
     Takers(char),
+    /// The positions after pieces that accept any character except `/`, and aren't stars.
+    Common,
 }
 
 /// The masks of some specifications, those of takers for each class of an alphabet, and the last positions of the choices of
@@ -44,7 +49,7 @@ fn masks_start(mask: Mask, kind: Kind) -> bool
 {
     match mask {
         Mask::Entries => is_name(kind),
-        Mask::Stars | Mask::Takers(_) => false,
+        Mask::Stars | Mask::Takers(_) | Mask::Common => false,
     }
 }
 
@@ -55,12 +60,13 @@ fn masks_piece(mask: Mask, kind: Kind, piece: &Piece) -> bool
         Mask::Entries => false,
         Mask::Stars => piece.is_star(),
         Mask::Takers(character) => {
-            let next = Next {
+            let next = NextCharacter {
                 character,
                 first: false,
             };
             !(is_name(kind) && character == '/') && !piece.is_star() && piece.takes(next)
         }
+        Mask::Common => matches!(piece, Piece::Any),
     }
 }
 
@@ -98,7 +104,11 @@ fn mask_choices(
 }
 
 /// The spots of all specifications, in words.
-fn masked(alloc: Global, mask: Mask, alternatives: &[Alternatives]) -> Result<Words, AllocError>
+pub(crate) fn masked(
+    alloc: Global,
+    mask: Mask,
+    alternatives: &[Alternatives],
+) -> Result<Words, AllocError>
     ensures { IfOk result (λ ws. ws ≡ packed (masking.mask_all mask alternatives.now)) }
 {
     let mut bits = Vec::new(alloc);
@@ -109,22 +119,22 @@ fn masked(alloc: Global, mask: Mask, alternatives: &[Alternatives]) -> Result<Wo
 }
 
 impl SpotMasks {
-    /// The masks of some specifications, with those of takers for each of these characters.
+    /// The masks of some specifications, with those of takers for each class of the alphabet, by its representatives.
     pub(crate) fn build(
         alloc: Global,
         alternatives: &[Alternatives],
-        characters: &[char],
+        alphabet: &Alphabet,
+        samples: &[char],
     ) -> Result<SpotMasks, AllocError>
-        ensures { IfOk result (AreMasksOf alternatives.now characters.now) }
+        requires few { spots_count alternatives.now ≤ SPOTS }
+        requires alphabet { IsAlphabet alphabet.now }
+        requires samples { samples.now ≡ first_unmentioned alphabet.now ∷ alphabet.now }
+        ensures { IfOk result (AreMasksOf alternatives.now samples.now) }
     {
-        let mut takers = Vec::with_capacity(alloc, characters.len())?;
-        for character in characters {
-            takers.push(masked(alloc, Mask::Takers(*character), alternatives)?)?;
-        }
         Ok(SpotMasks {
             entries: masked(alloc, Mask::Entries, alternatives)?,
             stars: masked(alloc, Mask::Stars, alternatives)?,
-            takers,
+            takers: build_takers(alloc, alternatives, alphabet, samples)?,
             below_ends: below_ends(alloc, alternatives)?,
         })
     }

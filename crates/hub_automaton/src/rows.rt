@@ -3,7 +3,7 @@
 ghost use Rattle.std.specs.Prelude.{◌≡◌, ◌<◌, ◌≤◌, [], length, drop, min, if◌then◌else◌, IsTrue};
 ghost use Rattle.hub_automaton.specs.Masks.{moved_row};
 ghost use Rattle.hub_automaton.specs.Rows as rows;
-ghost use Rattle.hub_automaton.specs.Rows.{AreApart, AreMoved, AreTakenAlike, NoneCarried};
+ghost use Rattle.hub_automaton.specs.Rows.{AreMovedApart, AreMoved, AreTakenAlike, NoneCarried};
 
 use crate::words::{Masks, WORD_BITS, moved_word};
 
@@ -25,14 +25,14 @@ pub(crate) fn move_row(
     ensures { new.new ≡ moved_row stays (if enters then entries.now else [])
         stars.now takers.now old.now }
 {
-    copy_behind(new, old, stars.len().min(old.len()));
+    copy_after(new, old, stars.len().min(old.len()));
     if move_apart(new, old, stays, enters, entries, stars, takers) != 0 {
         carry_on(new, old, stays, enters, entries, stars, takers);
     }
 }
 
 /// Copies the words from a place on. Mostly there is one, which takes no loop.
-fn copy_behind(new: &mut [u64], old: &[u64], place: usize)
+fn copy_after(new: &mut [u64], old: &[u64], place: usize)
     requires row { length new.old ≡ length old.now }
     requires place { place ≤ length old.now }
     ensures { drop place new.new ≡ drop place old.now }
@@ -46,7 +46,7 @@ fn copy_behind(new: &mut [u64], old: &[u64], place: usize)
     }
 }
 
-/// Moves each word without the position before it. The result is 0 if no position goes on into the word behind it.
+/// Moves each word without the position before it. The result is 0 if no position goes on into the word after it.
 fn move_apart(
     new: &mut [u64],
     old: &[u64],
@@ -59,9 +59,9 @@ fn move_apart(
     requires row { length new.old ≡ length old.now }
     requires entries { length entries.now ≡ length stars.now }
     requires takers { length takers.now ≡ length stars.now }
-    ensures apart { AreApart stays (if enters then entries.now else []) stars.now takers.now
+    ensures apart { AreMovedApart stays (if enters then entries.now else []) stars.now takers.now
         old.now new.new (min (length stars.now) (length old.now)) }
-    ensures behind { let n = min (length stars.now) (length old.now)
+    ensures after { let n = min (length stars.now) (length old.now)
         in drop n new.new ≡ drop n new.old }
     ensures none { result ≡ 0
         → NoneCarried stars.now new.new (min (length stars.now) (length old.now)) }
@@ -93,11 +93,11 @@ fn carry_on(
     requires row { length new.old ≡ length old.now }
     requires entries { length entries.now ≡ length stars.now }
     requires takers { length takers.now ≡ length stars.now }
-    requires apart { AreApart stays (if enters then entries.now else []) stars.now takers.now
+    requires apart { AreMovedApart stays (if enters then entries.now else []) stars.now takers.now
         old.now new.old (min (length stars.now) (length old.now)) }
     ensures moved { AreMoved stays (if enters then entries.now else []) stars.now takers.now
         old.now new.new (min (length stars.now) (length old.now)) }
-    ensures behind { let n = min (length stars.now) (length old.now)
+    ensures after { let n = min (length stars.now) (length old.now)
         in drop n new.new ≡ drop n new.old }
 {
     for i in 1..stars.len().min(old.len()) {

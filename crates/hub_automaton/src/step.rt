@@ -35,7 +35,7 @@ pub(crate) fn enter_choices(choices: &[Items<Piece>], new: &mut Vec<bool>) -> Re
     Ok(())
 }
 
-/// Whether a `*` accepts the character, where `first` says whether a component starts there, as `Piece::takes` does.
+/// Returns whether a `*` accepts the character, where `first` says whether a component starts there, as `Piece::takes` does.
 pub(crate) fn stays_at(character: char, first: bool) -> bool
     ensures { result ≡ takes (record { character = character; first = first }) Run }
 {
@@ -46,32 +46,32 @@ pub(crate) fn stays_at(character: char, first: bool) -> bool
 #[derive(Clone, Copy)]
 pub(crate) struct ChoicesEnd {
     pub(crate) matched: bool,
-    pub(crate) behind: usize,
+    pub(crate) after: usize,
 }
 
-/// Whether one of the choices whose spots begin at that place matches the text.
+/// Returns whether one of the choices whose spots begin at that place matches the text.
 pub(crate) fn find_end(choices: &[Items<Piece>], live: &[u64], place: usize) -> ChoicesEnd
     requires { place + spot_count choices.now ≤ SPOTS }
     ensures matched { result.matched ≡ masking.ended_at choices.now live.now place }
-    ensures behind { result.behind ≡ place + spot_count choices.now }
+    ensures after { result.after ≡ place + spot_count choices.now }
 {
     let mut matched = false;
-    let mut behind = place;
+    let mut after = place;
     for choice in choices {
-        matched = matched || is_set(live, behind + choice.len());
-        behind += choice.len() + 1;
+        matched = matched || is_set(live, after + choice.len());
+        after += choice.len() + 1;
     }
-    ChoicesEnd { matched, behind }
+    ChoicesEnd { matched, after }
 }
 
 /// The place after the positions of choices that begin at that place.
-pub(crate) fn place_behind(choices: &[Items<Piece>], place: usize) -> usize
+pub(crate) fn place_after(choices: &[Items<Piece>], place: usize) -> usize
     requires { place + spot_count choices.now ≤ SPOTS }
     ensures { result ≡ place + spot_count choices.now }
 {
-    let mut behind = place;
+    let mut after = place;
     for choice in choices {
-        behind += choice.len() + 1;
+        after += choice.len() + 1;
     }
-    behind
+    after
 }

@@ -208,7 +208,7 @@ fn word(bits: &[bool]) -> u64
     word
 }
 
-/// Whether the bit at that place is set; past the end none is.
+/// Returns whether the bit at that place is set; past the end none is.
 pub(crate) fn is_set(packed: &[u64], place: usize) -> bool
     ensures { result ≡ words.bit packed.now place }
 {

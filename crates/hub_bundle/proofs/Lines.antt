@@ -9,7 +9,7 @@ use Rattle.hub_text.specs.declared.line.Line.{Line}
 use Rattle.hub_text.specs.Lines.{lines_of, line_text, onto_first_line}
 use Rattle.hub_text.specs.LineLaws.{text-first_line, shorter-first_line}
 use Rattle.hub_text.specs.Takes.{of_bytes, TakesBytes}
-use Rattle.hub_bundle.specs.Bundle.{is_blank, is_heading, follows_section, bytes_before_heading, written, stray_line}
+use Rattle.hub_bundle.specs.Bundle.{is_ignorable, is_heading, follows_section, bytes_before_heading, written, stray_line}
 
 -- Bytes begin with a heading exactly when their first line is one.
 pub heading_line : (s t : List ℕ) (l : Line (List ℕ)) → lines_of s ≡ l ∷ lines_of t → is_heading l.text ≡ is_heading s
@@ -92,11 +92,11 @@ at_line : (ls : List (Line (List ℕ))) (k : ℕ) (l : Line (List ℕ)) → k < 
 at_line ls k l h e = drop_more ls k l h ∙ ap (λ x. x ∷ drop (k + 1) ls) (sym e)
 
 -- A blank line above all headings.
-pub blank_more : (ls : List (Line (List ℕ))) (k : ℕ) (l : Line (List ℕ)) → k < length ls → l ≡ get_or ls k l → is_heading l.text ≡ false → list_all is_blank l.text ≡ true
+pub blank_more : (ls : List (Line (List ℕ))) (k : ℕ) (l : Line (List ℕ)) → k < length ls → l ≡ get_or ls k l → is_heading l.text ≡ false → list_all is_ignorable l.text ≡ true
     → stray_line (k + 1) (drop k ls) ≡ stray_line (k + 1 + 1) (drop (k + 1) ls)
 blank_more ls k l h e plain blank = ap (stray_line (k + 1)) (at_line ls k l h e) ∙ rw (plain, blank) refl
 
-pub stray_found : (ls : List (Line (List ℕ))) (k : ℕ) (l : Line (List ℕ)) → k < length ls → l ≡ get_or ls k l → is_heading l.text ≡ false → list_all is_blank l.text ≡ false
+pub stray_found : (ls : List (Line (List ℕ))) (k : ℕ) (l : Line (List ℕ)) → k < length ls → l ≡ get_or ls k l → is_heading l.text ≡ false → list_all is_ignorable l.text ≡ false
     → stray_line (k + 1) (drop k ls) ≡ Some (k + 1)
 stray_found ls k l h e plain stray = ap (stray_line (k + 1)) (at_line ls k l h e) ∙ rw (plain, stray) refl
 

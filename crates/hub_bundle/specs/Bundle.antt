@@ -35,9 +35,11 @@ without_last_cr l = if ends_with nat_eq l (codes "\r") then take (length l - 1) 
 -- The bytes of these lines up to the next heading.
 abbrev pub bytes_before_heading : List (Line (List ℕ)) → List ℕ
 bytes_before_heading [] = []
-bytes_before_heading (l ∷ ls) = if is_heading l.text then [] else line_text l ++ bytes_before_heading ls
+bytes_before_heading (l ∷ ls) =
+    if is_heading l.text then [] else line_text l ++ bytes_before_heading ls
 
--- A section as it is written: the number of its heading's line, the heading, and the bytes below it.
+-- A section as it is written: the number of its heading's line, the heading, and the bytes below
+-- it.
 pub record Written : Type 0 where
   pub line : ℕ
   pub heading : List ℕ
@@ -48,18 +50,20 @@ abbrev pub written : ℕ → List (Line (List ℕ)) → List Written
 written n [] = []
 written n (l ∷ ls) =
     if is_heading l.text
-    then record { line = n; heading = without_last_cr l.text; bytes = bytes_before_heading ls } ∷ written (n + 1) ls
+    then record { line = n; heading = without_last_cr l.text; bytes = bytes_before_heading ls }
+    ∷ written (n + 1) ls
     else written (n + 1) ls
 
 -- A blank line has nothing but spaces, tabs and CR.
-abbrev pub is_blank : ℕ → Bool
-is_blank b = b == 32 || b == 9 || b == 13
+abbrev pub is_ignorable : ℕ → Bool
+is_ignorable b = b == 32 || b == 9 || b == 13
 
 -- The first line before all headings that isn't blank.
 abbrev pub stray_line : ℕ → List (Line (List ℕ)) → Option ℕ
 stray_line n [] = None
 stray_line n (l ∷ ls) =
-    if is_heading l.text then None else (if list_all is_blank l.text then stray_line (n + 1) ls else Some n)
+    if is_heading l.text then None else (if list_all is_ignorable l.text then stray_line (n + 1) ls
+    else Some n)
 
 -- A profile's heading is this word, one space, and the profile's name up to the end of the line.
 abbrev pub profile_word : List ℕ
@@ -70,7 +74,8 @@ profile_or_fault (Ok n) = Ok (Profile n)
 profile_or_fault (Err e) = Err BadName
 
 abbrev pub profile_reading : List ℕ → Result Heading BundleFault
-profile_reading bytes = if is_utf8 bytes then profile_or_fault (name_reading (chars bytes)) else Err BadName
+profile_reading bytes =
+    if is_utf8 bytes then profile_or_fault (name_reading (chars bytes)) else Err BadName
 
 -- The other kinds of sections have a heading without a name.
 abbrev pub heading_once : List ℕ → Option Heading
@@ -86,7 +91,8 @@ known_or_fault None = Err UnknownSection
 -- What a heading says by itself.
 abbrev pub heading_reading : List ℕ → Result Heading BundleFault
 heading_reading l =
-    if starts_with nat_eq l profile_word then profile_reading (drop (length profile_word) l) else known_or_fault (heading_once l)
+    if starts_with nat_eq l profile_word then profile_reading (drop (length profile_word) l)
+    else known_or_fault (heading_once l)
 
 abbrev pub is_rules : Heading → Bool
 is_rules (Profile n) = false
@@ -114,28 +120,36 @@ is_repeated above State = list_any (λ s. is_state s.heading) above
 is_repeated above Certificates = list_any (λ s. is_certificates s.heading) above
 
 -- What a heading says below these sections.
-abbrev pub heading_below : List SectionValue → Result Heading BundleFault → Result Heading BundleFault
+abbrev pub heading_below : List SectionValue → Result Heading BundleFault
+    → Result Heading BundleFault
 heading_below above (Ok h) = if is_repeated above h then Err SectionTwice else Ok h
 heading_below above (Err f) = Err f
 
 -- What follows a heading: its section and those below it, or its fault.
-abbrev pub after_heading : Written → Result Heading BundleFault → (SectionValue → Result (List SectionValue) BundleLineFault) → Result (List SectionValue) BundleLineFault
+abbrev pub after_heading : Written → Result Heading BundleFault
+    → (SectionValue → Result (List SectionValue) BundleLineFault)
+    → Result (List SectionValue) BundleLineFault
 after_heading w (Ok h) later = later (record { heading = h; bytes = w.bytes })
 after_heading w (Err f) later = Err (record { line = w.line; fault = f })
 
 -- These sections and then those that are written, or the fault of the first heading that has one.
-abbrev pub sections_reading : List SectionValue → List Written → Result (List SectionValue) BundleLineFault
+abbrev pub sections_reading : List SectionValue → List Written
+    → Result (List SectionValue) BundleLineFault
 sections_reading above [] = Ok above
 sections_reading above (w ∷ ws) =
-    after_heading w (heading_below above (heading_reading w.heading)) (λ s. sections_reading (above ++ s ∷ []) ws)
+    after_heading w (heading_below above (heading_reading w.heading))
+    (λ s. sections_reading (above ++ s ∷ []) ws)
 
-abbrev pub unless_stray : Option ℕ → Result (List SectionValue) BundleLineFault → Result (List SectionValue) BundleLineFault
+abbrev pub unless_stray : Option ℕ → Result (List SectionValue) BundleLineFault
+    → Result (List SectionValue) BundleLineFault
 unless_stray None later = later
 unless_stray (Some n) later = Err (record { line = n; fault = NoSection })
 
--- What a bundle says, or its first fault: a line above all sections, then the headings from the first.
+-- What a bundle says, or its first fault: a line above all sections, then the headings from the
+-- first.
 abbrev pub bundle_reading : List ℕ → Result (List SectionValue) BundleLineFault
-bundle_reading bytes = unless_stray (stray_line 1 (lines_of bytes)) (sections_reading [] (written 1 (lines_of bytes)))
+bundle_reading bytes =
+    unless_stray (stray_line 1 (lines_of bytes)) (sections_reading [] (written 1 (lines_of bytes)))
 
 -- Out of memory has line 0.
 abbrev pub out_of_memory : BundleLineFault

@@ -25,17 +25,22 @@ only_blanks : bundle_reading (codes " \t\r\n\n") ≡ Ok []
 only_blanks = refl
 
 -- blank lines come before the first heading; a CR ends a heading; the last line has no LF
-two_profiles : bundle_reading (codes " \t\n%profile docs\r\nroot = /srv/hub\r\n\n%profile photos\nx") ≡ Ok (profile (codes "docs") (codes "root = /srv/hub\r\n\n") ∷ profile (codes "photos") (codes "x") ∷ [])
+two_profiles : bundle_reading
+    (codes " \t\n%profile docs\r\nroot = /srv/hub\r\n\n%profile photos\nx")
+    ≡ Ok (profile (codes "docs") (codes "root = /srv/hub\r\n\n")
+    ∷ profile (codes "photos") (codes "x") ∷ [])
 unfolding computed
 two_profiles = refl
 
 -- sections may be empty, a heading may end the input, and two profiles may have one name
-empty_sections : bundle_reading (codes "%profile a b\n%profile a b\n%profile c") ≡ Ok (profile (codes "a b") [] ∷ profile (codes "a b") [] ∷ profile (codes "c") [] ∷ [])
+empty_sections : bundle_reading (codes "%profile a b\n%profile a b\n%profile c")
+    ≡ Ok (profile (codes "a b") [] ∷ profile (codes "a b") [] ∷ profile (codes "c") [] ∷ [])
 unfolding computed
 empty_sections = refl
 
 -- a `%` inside a line begins no section, and a section's text keeps its last LF
-percent_inside : bundle_reading (codes "%profile a%\n %profile b\n\n") ≡ Ok (profile (codes "a%") (codes " %profile b\n\n") ∷ [])
+percent_inside : bundle_reading (codes "%profile a%\n %profile b\n\n")
+    ≡ Ok (profile (codes "a%") (codes " %profile b\n\n") ∷ [])
 unfolding computed
 percent_inside = refl
 
@@ -44,7 +49,8 @@ one_cr_is_dropped : bundle_reading (codes "%profile a\r\r\n") ≡ at 1 fault.Bad
 unfolding computed
 one_cr_is_dropped = refl
 
-crs_in_a_section_stay : bundle_reading (codes "%profile a\n\r") ≡ Ok (profile (codes "a") (codes "\r") ∷ [])
+crs_in_a_section_stay : bundle_reading (codes "%profile a\n\r")
+    ≡ Ok (profile (codes "a") (codes "\r") ∷ [])
 unfolding computed
 crs_in_a_section_stay = refl
 
@@ -62,7 +68,8 @@ a_nul_is_no_blank : bundle_reading (0 ∷ []) ≡ at 1 fault.NoSection
 a_nul_is_no_blank = refl
 
 -- the lowest faulty heading is told, after what stands above all sections
-an_unknown_heading : bundle_reading (codes "%profile a\nx\n%rules \n%profile ..\n") ≡ at 3 fault.UnknownSection
+an_unknown_heading : bundle_reading (codes "%profile a\nx\n%rules \n%profile ..\n")
+    ≡ at 3 fault.UnknownSection
 unfolding computed
 an_unknown_heading = refl
 
@@ -74,15 +81,18 @@ a_blank_behind_the_word = refl
 
 -- the kinds without a name stand in any order, and a CR ends their heading too
 all_kinds : bundle_reading (codes "%certificates\nx\n%state\r\nend\r\n%rules\r\n%profile a\n")
-    ≡ Ok (record { heading = Certificates; bytes = codes "x\n" } ∷ record { heading = State; bytes = codes "end\r\n" }
+    ≡ Ok (record { heading = Certificates; bytes = codes "x\n" }
+    ∷ record { heading = State; bytes = codes "end\r\n" }
     ∷ record { heading = Rules; bytes = [] } ∷ profile (codes "a") [] ∷ [])
 unfolding computed
 all_kinds = refl
 
-rules_twice : bundle_reading (codes "%rules\n%certificates\n%rules\n%rules \n") ≡ at 3 fault.SectionTwice
+rules_twice : bundle_reading (codes "%rules\n%certificates\n%rules\n%rules \n")
+    ≡ at 3 fault.SectionTwice
 rules_twice = refl
 
-states_twice : bundle_reading (codes "%state\n%certificates\n%profile a\n%state") ≡ at 4 fault.SectionTwice
+states_twice : bundle_reading (codes "%state\n%certificates\n%profile a\n%state")
+    ≡ at 4 fault.SectionTwice
 unfolding computed
 states_twice = refl
 
@@ -90,7 +100,8 @@ certificates_twice : bundle_reading (codes "%certificates\n%certificates") ≡ a
 certificates_twice = refl
 
 -- a fault above comes first
-a_fault_above_a_second_section : bundle_reading (codes "%rules\n%rule\n%rules\n") ≡ at 2 fault.UnknownSection
+a_fault_above_a_second_section : bundle_reading (codes "%rules\n%rule\n%rules\n")
+    ≡ at 2 fault.UnknownSection
 a_fault_above_a_second_section = refl
 
 no_space_behind_the_word : bundle_reading (codes "%profile\n") ≡ at 1 fault.UnknownSection
@@ -100,11 +111,13 @@ no_name : bundle_reading (codes "%profile \n") ≡ at 1 fault.BadName
 unfolding computed
 no_name = refl
 
-a_name_begins_with_a_space : bundle_reading (codes "%profile  e") ≡ Ok (profile (codes " e") [] ∷ [])
+a_name_begins_with_a_space : bundle_reading (codes "%profile  e")
+    ≡ Ok (profile (codes " e") [] ∷ [])
 unfolding computed
 a_name_begins_with_a_space = refl
 
-a_bad_name_below_another_section : bundle_reading (codes "%profile a\n\n%profile ..\r\n%what") ≡ at 3 fault.BadName
+a_bad_name_below_another_section : bundle_reading (codes "%profile a\n\n%profile ..\r\n%what")
+    ≡ at 3 fault.BadName
 unfolding computed
 a_bad_name_below_another_section = refl
 
@@ -116,7 +129,8 @@ a_percent_alone : bundle_reading (codes "%") ≡ at 1 fault.UnknownSection
 a_percent_alone = refl
 
 -- a name takes at most 255 bytes
-a_long_name : bundle_reading (codes "%profile " ++ replicate 255 97) ≡ Ok (profile (replicate 255 97) [] ∷ [])
+a_long_name : bundle_reading (codes "%profile " ++ replicate 255 97)
+    ≡ Ok (profile (replicate 255 97) [] ∷ [])
 unfolding computed
 a_long_name = refl
 

@@ -35,7 +35,8 @@ abbrev pub with_profile : Contents → Name → Result Parts ProfileFault → Re
 with_profile c name (Ok P) = Ok (and_profile c P)
 with_profile c name (Err f) = Err (OfProfile name f)
 
--- There is one section of rules at most, one of a state and one of certificates: each says all of them.
+-- There is one section of rules at most, one of a state and one of certificates: each says all of
+-- them.
 abbrev pub with_rules : Contents → Result (List Rule) ProfileFault → Result Contents SectionFault
 with_rules c (Ok Rs) = Ok (record c { rules = Rs })
 with_rules c (Err f) = Err (OfRules f)
@@ -64,7 +65,8 @@ faulty_line check.OutOfMemory = 0
 abbrev pub certificates_fault : CheckFault → SectionFault
 certificates_fault e = OfCertificates (faulty_line e)
 
-abbrev pub with_certificates : Contents → Result (List Certificate) CheckFault → Result Contents SectionFault
+abbrev pub with_certificates : Contents → Result (List Certificate) CheckFault
+    → Result Contents SectionFault
 with_certificates c (Ok cs) = Ok (record c { certificates = cs })
 with_certificates c (Err e) = Err (certificates_fault e)
 
@@ -78,11 +80,13 @@ under_heading c heading.Certificates bytes = with_certificates c (certificates_i
 abbrev pub with_section : Contents → SectionValue → Result Contents SectionFault
 with_section c s = under_heading c s.heading s.bytes
 
-abbrev pub and_then : Result Contents SectionFault → (Contents → Result Contents SectionFault) → Result Contents SectionFault
+abbrev pub and_then : Result Contents SectionFault → (Contents → Result Contents SectionFault)
+    → Result Contents SectionFault
 and_then (Ok c) later = later c
 and_then (Err f) later = Err f
 
--- What is said so far, and then by these sections in order, or the first fault of the first faulty one.
+-- What is said so far, and then by these sections in order, or the first fault of the first faulty
+-- one.
 abbrev pub sections_reading : Contents → List SectionValue → Result Contents SectionFault
 sections_reading c [] = Ok c
 sections_reading c (s ∷ ss) = and_then (with_section c s) (λ d. sections_reading d ss)

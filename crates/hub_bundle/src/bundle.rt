@@ -1,6 +1,7 @@
 //! Bundles: an input cut into its sections.
 ghost use Rattle.std.specs.Prelude.{◌≡◌, ◌⊎◌, ◌+◌, ◌≤◌, ℕ, length, IsTrue, IfOk, IfErr, Ok, Err};
 ghost use Rattle.std.specs.List.{list_all, list_any};
+ghost use Rattle.hub_text.specs.Fails.{Fails};
 ghost use Rattle.hub_text.specs.Lines.{lines_of};
 ghost use Rattle.hub_bundle.specs.Bundle as bundle;
 ghost use Rattle.hub_bundle.specs.Bundle.{without_last_cr, bytes_before_heading, follows_section, written, stray_line, profile_reading, heading_reading, bundle_reading, heading_below, out_of_memory};
@@ -120,7 +121,7 @@ impl<T: Drop> From<AllocFailed<T>> for BundleLineFault {
 /// `OutOfMemory` has line 0, and may come in place of the sections or of a fault.
 pub fn read_bundle<'a>(alloc: Global, bytes: &'a [u8]) -> Result<Vec<Section<'a>>, BundleLineFault>
     ensures ok { IfOk result (λ v. bundle_reading bytes.now ≡ Ok v.items) }
-    ensures err { IfErr result (λ e. (e ≡ out_of_memory) ⊎ (bundle_reading bytes.now ≡ Err e)) }
+    ensures err { IfErr result (Fails out_of_memory (bundle_reading bytes.now)) }
 {
     if let Some(line) = stray_line_of(bytes) {
         let fault = BundleFault::NoSection;
@@ -147,7 +148,7 @@ fn stray_line_of(bytes: &[u8]) -> Option<usize>
         if is_heading(line.text) {
             return None;
         }
-        if !is_blank(line.text) {
+        if !is_ignorable(line.text) {
             return Some(i + 1);
         }
     }
@@ -164,7 +165,7 @@ fn take_section<'a>(lines: &mut Lines<'a>) -> (&'a [u8], usize)
 {
     let below = lines.rest();
     let mut count = 0;
-    while !is_over(lines.rest()) {
+    while !ends_section(lines.rest()) {
         let _line = lines.next();
         count += 1;
     }
@@ -173,7 +174,7 @@ fn take_section<'a>(lines: &mut Lines<'a>) -> (&'a [u8], usize)
 }
 
 /// Returns whether a section ends before these bytes: they are none, or begin with a heading.
-fn is_over(rest: &[u8]) -> bool
+fn ends_section(rest: &[u8]) -> bool
     ensures { result ≡ follows_section rest.now }
 {
     rest.is_empty() || is_heading(rest)
@@ -188,8 +189,8 @@ fn is_heading(line: &[u8]) -> bool
     }
 }
 
-fn is_blank(line: &[u8]) -> bool
-    ensures { result ≡ list_all bundle.is_blank line.now }
+fn is_ignorable(line: &[u8]) -> bool
+    ensures { result ≡ list_all bundle.is_ignorable line.now }
 {
     line.iter()
         .all(|byte| matches!(*byte, b' ' | b'\t' | b'\r'))

@@ -27,6 +27,7 @@ pub mod GoalLines
 pub mod Forbids
 pub mod Machined
 pub mod Opened
+pub mod Verifying
 pub mod StageLists
 pub mod TextBuffer
 pub mod Walks

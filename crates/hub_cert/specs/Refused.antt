@@ -64,7 +64,8 @@ HasManySpots S =
 -- The mentioned characters are too many, or else the spots are.
 abbrev pub IsTooMuch : Members → AutomatonFault → Type 0
 IsTooMuch S automaton.TooManyCharacters = MENTIONED_CHARACTERS < length (alphabet_of S)
-IsTooMuch S automaton.TooManySpots = (length (alphabet_of S) ≤ MENTIONED_CHARACTERS) × HasManySpots S
+IsTooMuch S automaton.TooManySpots =
+    (length (alphabet_of S) ≤ MENTIONED_CHARACTERS) × HasManySpots S
 IsTooMuch S automaton.OutOfMemory = Unit {0}
 
 abbrev pub fault_of : AutomatonFault → CheckFault
@@ -90,7 +91,9 @@ IsRefused S (fault.NotClosed g k class) = ⊥
 IsRefused S (fault.Accepting g k) = ⊥
 IsRefused S (fault.Stray i) = ⊥
 IsRefused S (fault.BadText line) = ⊥
-IsRefused S (fault.AlphabetFault automaton.TooManyCharacters) = FewNamed S × AreApart S × (MENTIONED_CHARACTERS < length (alphabet_of S))
-IsRefused S (fault.AlphabetFault automaton.TooManySpots) = FewNamed S × AreApart S × (length (alphabet_of S) ≤ MENTIONED_CHARACTERS) × HasManySpots S
+IsRefused S (fault.AlphabetFault automaton.TooManyCharacters) =
+    FewNamed S × AreApart S × (MENTIONED_CHARACTERS < length (alphabet_of S))
+IsRefused S (fault.AlphabetFault automaton.TooManySpots) =
+    FewNamed S × AreApart S × (length (alphabet_of S) ≤ MENTIONED_CHARACTERS) × HasManySpots S
 IsRefused S (fault.AlphabetFault automaton.OutOfMemory) = ⊥
 IsRefused S fault.OutOfMemory = Unit {0}

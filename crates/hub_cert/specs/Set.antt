@@ -42,17 +42,22 @@ abbrev pub roots_in : Members → List Path
 roots_in S = safe.all_roots S.profiles (map forbidden_by S.rules)
 
 abbrev pub AreApart : Members → Type 0
-AreApart S = (i j : ℕ) (r s : Path) → slice_get (roots_in S) i ≡ Some r → slice_get (roots_in S) j ≡ Some s → IsTrue (is_over r s) → r ≡ s
+AreApart S =
+    (i j : ℕ) (r s : Path) → slice_get (roots_in S) i ≡ Some r → slice_get (roots_in S) j ≡ Some s
+    → IsTrue (is_over r s) → r ≡ s
 
 -- No two profiles have one name.
 abbrev pub HaveNames : Members → Type 0
-HaveNames S = (i j : ℕ) (P Q : Parts) → slice_get S.profiles i ≡ Some P → slice_get S.profiles j ≡ Some Q → i ≢ j → P.name ≢ Q.name
+HaveNames S =
+    (i j : ℕ) (P Q : Parts) → slice_get S.profiles i ≡ Some P → slice_get S.profiles j ≡ Some Q
+    → i ≢ j → P.name ≢ Q.name
 
 -- An alphabet mentions all that they mention.
 pub record Mentioned (S : Members) (ms : List ℕ) : Type 0 where
   pub alphabet : IsAlphabet ms
   pub profiles : (i : ℕ) (P : Parts) → slice_get S.profiles i ≡ Some P → Mentions ms P
-  pub rules : (k : ℕ) (R : Rule) → slice_get S.rules k ≡ Some R → IsTrue (mentions ms (spec_characters R.spec))
+  pub rules : (k : ℕ) (R : Rule) → slice_get S.rules k ≡ Some R
+      → IsTrue (mentions ms (spec_characters R.spec))
 
 -- The spots of a rule.
 abbrev pub rule_spots : Rule → ℕ

@@ -5,6 +5,7 @@
 //!   does what a rule forbids. `ProfileSet::goals` lists the goals of a set.
 //! - [`Certificate`]: a goal and a list of texts, its [`StageTexts`]. It rules the goal out if the list is inductive.
 //! - [`verify`]: checks certificates, and returns the set as a [`Verified`], whose type says that the set is safe.
+//! - [`Verifier`]: checks the texts of one goal after another, so that a set can be verified with one goal's texts at a time.
 //! - [`read_certificates`] and [`write_certificates`]: the text of certificates, which docs/CERTIFICATES.md describes.
 //! - [`Product`]: the automaton of a goal, whose state is a [`GoalStage`]. [`walker_of`], [`rule_set_of`] and [`forbidden_to`]
 //!   make its parts.
@@ -35,6 +36,7 @@ mod stage_texts;
 mod stages;
 mod texts;
 mod verified;
+mod verifier;
 mod view;
 mod walked;
 mod writing;
@@ -49,4 +51,5 @@ pub use set::{PROFILES, ProfileSet};
 pub use stage::GoalStage;
 pub use stage_texts::StageTexts;
 pub use verified::{Verified, verify};
+pub use verifier::Verifier;
 pub use writing::write_certificates;

@@ -6,12 +6,12 @@ use Rattle.std.specs.Str.{bytes_eq}
 use Rattle.std.specs.Str.Parse.{IsNumeral, ParsesUnsigned, digits_value, without_leading_plus}
 use Rattle.clap.proofs.OnLiterals.{clap_on_literals}
 use Rattle.clap.proofs.ValueTestLemmas.{Accepts-accepts, accepts-Accepts}
-use Rattle.clap.proofs.WalkLemmas.{first_value-rows, one_text-rows, raw_values-rows}
+use Rattle.clap.proofs.WalkLemmas.{first_value-rows, raw_values-rows}
 use Rattle.clap.specs.Kinds.{HasKind, Kinds}
 use Rattle.clap.specs.Matches.{ReadsOne}
 use Rattle.clap.specs.Simple.{subcommand_rows}
 use Rattle.clap.specs.ValueTests.{accepts}
-use Rattle.clap.specs.Words.{App, HasMatchesOf, Row, Text, all_of, fault_of, first_of, first_value, found_of, is_simple, is_simple_and_free, kind_of, matched_of, one_of, one_text, raw_values, rows_of, subcommand_name_of, subcommand_of, subcommand_rows_of}
+use Rattle.clap.specs.Words.{App, HasMatchesOf, Row, Text, all_of, fault_of, first_of, first_value, found_of, is_simple, is_simple_and_free, kind_of, matched_of, raw_values, rows_of, subcommand_name_of, subcommand_of, subcommand_rows_of}
 use Rattle.clap.specs.declared.builder.value_parser.ValueParser.TheVariants.{Unsigned}
 use Rattle.clap.specs.declared.error.Error.{Error}
 use Rattle.clap.specs.declared.error.kind.ErrorKind.TheVariants.{OutOfMemory}
@@ -19,8 +19,7 @@ use Rattle.clap.specs.declared.parser.matches.Found.{Found}
 use Rattle.clap.specs.declared.parser.matches.ArgMatches.{ArgMatches}
 use Rattle.clap.specs.declared.parser.matches.ArgMatches.TheViews.{out-ArgMatches, out-SubCommand}
 use Rattle.clap.specs.declared.parser.matches.SubCommand.{SubCommand}
-use Rattle.hub_cli.specs.declared.words.Question.TheVariants.{Run}
-use Rattle.hub_cli.specs.Words.{Request, about, about_files, asked_of, byte_of, files_of, hubsync_app, names_found, names_in, operands_of, request_in, run_by, unless_fault, Names}
+use Rattle.hub_cli.specs.Words.{Request, about_files, asked_of, byte_of, files_of, hubsync_app, names_found, names_in, operands_of, request_in, unless_fault, workers_in, Names}
 
 simple : is_simple hubsync_app ≡ true
 unfolding clap_on_literals hubsync_app
@@ -81,7 +80,7 @@ module _ {Z : Type 0} where
 
 -- what a command asks for, where this says whether it is `reach`
 abbrev by_name : Text → List Row → Bool → Option Request
-by_name name rows b = cond b (operands_of (first_of (codes "profile") rows) (first_of (codes "path") rows)) (about_files (all_of (codes "files") rows) name (one_of (codes "workers") rows))
+by_name name rows b = cond b (operands_of (first_of (codes "profile") rows) (first_of (codes "path") rows)) (about_files name rows)
 
 -- the operands of `reach`, by the getters of the subcommand's matches
 pub reach_in : (m : ArgMatches) (name : Text) (o : ArgMatches) → Some name ≡ subcommand_name_of m
@@ -95,12 +94,10 @@ reach_in m name o e h is =
 -- what a command about the set asks for
 pub about_in : (m : ArgMatches) (name : Text) (o : ArgMatches) → Some name ≡ subcommand_name_of m
     → Some (rows_of (found_of o)) ≡ option_map (λ p. p.1) (subcommand_rows_of m) → bytes_eq name (codes "reach") ≡ false
-    → request_in (subcommand_rows_of m)
-    ≡ about_files (option_map raw_values (matched_of (found_of o) (codes "files"))) name (one_text (found_of o) (codes "workers"))
+    → request_in (subcommand_rows_of m) ≡ about_files name (rows_of (found_of o))
 about_in m name o e h is =
     ap request_in (parts (out-ArgMatches m).subcommand name (rows_of (found_of o)) e h)
     ∙ ap (λ (b : Bool). by_name name (rows_of (found_of o)) b) is
-    ∙ ap₂ (λ fs w. about_files fs name w) (sym (raw_values-rows (found_of o) (codes "files"))) (sym (one_text-rows (found_of o) (codes "workers")))
 
 -- the files that a command names, by the rows of the subcommand's matches
 pub names_by : (m : ArgMatches) (rows : List Row) → Some rows ≡ option_map (λ p. p.1) (subcommand_rows_of m)
@@ -146,11 +143,11 @@ byte-err text h = go (accepts false (Unsigned 0 255) text) refl
         absurd (h (p.0, omega (arith, p.3)))
 
 -- the number of workers, by the getter of the subcommand's matches
-pub run_asked : {E : Type 0} (P : Text → Result ℕ E → Type 0) → ((text : Text) (q : Result ℕ E) → P text q → ParsesUnsigned 8 10 text q)
+pub workers_are : {E : Type 0} (P : Text → Result ℕ E → Type 0) → ((text : Text) (q : Result ℕ E) → P text q → ParsesUnsigned 8 10 text q)
     → (o : Option Text) (r : Option ℕ) → (o ≡ None → r ≡ None) → ((text : Text) → o ≡ Some text → ReadsOne P text r)
-    → option_map (λ n. about (Run n)) r ≡ run_by o
-run_asked P parses None r none value = ap (option_map (λ n. about (Run n))) (none refl)
-run_asked P parses (Some text) (Some n) none value = ap (option_map (λ n. about (Run n))) (sym (byte-ok text n (parses text (Ok n) (value text refl))))
-run_asked P parses (Some text) None none value =
+    → r ≡ workers_in o
+workers_are P parses None r none value = none refl
+workers_are P parses (Some text) (Some n) none value = sym (byte-ok text n (parses text (Ok n) (value text refl)))
+workers_are P parses (Some text) None none value =
     let e = value text refl in
-    ap (option_map (λ n. about (Run n))) (sym (byte-err text (parses text (Err e.0) e.1)))
+    sym (byte-err text (parses text (Err e.0) e.1))

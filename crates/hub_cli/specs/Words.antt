@@ -1,19 +1,24 @@
 -- What the words on the command line ask for.
-use Rattle.std.specs.Prelude.{ℕ, Bool, List, [], ◌∷◌, Option, Some, None, map, option_map, unwrap_or, is_some, length, not, pos, codes, if◌then◌else◌, nat_eq, ◌==◌, ◌&&◌, true}
+use Rattle.std.specs.Prelude.{ℕ, pos, ◌==◌, nat_eq, Bool, false, true, not, ◌&&◌, if◌then◌else◌}
+use Rattle.std.specs.Prelude.{List, [], ◌∷◌, codes, length, map, Option, None, Some, option_map}
+use Rattle.std.specs.Prelude.{is_some, unwrap_or}
 use Rattle.std.specs.List.{ends_with, list_all}
 use Rattle.std.specs.Str.{bytes_eq}
 use Rattle.std.specs.Str.Parse.{digits_value, without_leading_plus}
 use Rattle.clap.specs.Kinds.{Kinds}
 use Rattle.clap.specs.Simple.{on_top}
 use Rattle.clap.specs.ValueTests.{is_unsigned_in}
-use Rattle.clap.specs.Words.{App, Row, Rule, Text, all_of, fault_of, first_of, new_app, new_rule, one_of, subcommand_of, with_rule, with_subcommand}
-use Rattle.clap.specs.declared.builder.action.ArgAction.TheVariants.{Append}
+use Rattle.clap.specs.Words.{App, Row, Rule, Text, all_of, fault_of, first_of, new_app, new_rule}
+use Rattle.clap.specs.Words.{one_of, subcommand_of, with_rule, with_subcommand}
+use Rattle.clap.specs.declared.builder.action.ArgAction.TheVariants.{Append, SetTrue}
 use Rattle.clap.specs.declared.builder.value_parser.ValueParser.TheVariants.{Signed}
 use Rattle.hub_cli.specs.declared.files.Files.{Files}
 use Rattle.hub_cli.specs.declared.words.Asked.{Asked}
 use Rattle.hub_cli.specs.declared.words.Asked.TheVariants.{About, Reach}
 use Rattle.hub_cli.specs.declared.words.Question.{Question}
-use Rattle.hub_cli.specs.declared.words.Question.TheVariants.{CheckWithState, Run, Check, Certify, Verify, Clashes, Rounds}
+use Rattle.hub_cli.specs.declared.words.Question.TheVariants.{CheckWithState, Run, RunByRounds}
+use Rattle.hub_cli.specs.declared.words.Question.TheVariants.{Check, Certify, Verify}
+use Rattle.hub_cli.specs.declared.words.Question.TheVariants.{Clashes, Graph, Rounds}
 use Rattle.hub_cli.specs.declared.words.TheConstants.{DEFAULT_WORKERS_TEXT}
 
 -- a required operand
@@ -22,9 +27,11 @@ operand id = record (new_rule id) { value_names = 1; required = true }
 
 -- `reach PROFILE PATH`
 abbrev pub reach_app : App
-reach_app = with_rule (with_rule (new_app (codes "reach")) (operand (codes "profile"))) (operand (codes "path"))
+reach_app =
+    with_rule (with_rule (new_app (codes "reach")) (operand (codes "profile")))
+    (operand (codes "path"))
 
--- the option `--workers N`: a number from 0 to 255, and `DEFAULT_WORKERS` if the words don't have it
+-- the option `--workers N`: a number from 0 to 255, and `DEFAULT_WORKERS` if it isn't given
 abbrev pub workers_option : Rule
 workers_option = record (new_rule (codes "workers")) {
   long = Some (codes "workers");
@@ -41,15 +48,27 @@ files_operand = record (new_rule (codes "files")) { value_names = 1; action = So
 abbrev pub file_option : Text → Rule
 file_option name = record (new_rule name) { long = Some name; value_names = 1 }
 
+-- a flag `--NAME`
+abbrev pub flag : Text → Rule
+flag name = record (new_rule name) { long = Some name; action = Some SetTrue }
+
+-- a command with files of profiles and of rules
+abbrev pub with_profiles : App → App
+with_profiles app = with_rule (with_rule app files_operand) (file_option (codes "rules"))
+
 -- a command about the set, which may take its profiles, rules, state and certificates from files
 abbrev pub set_app : Text → App
 set_app name =
-    with_rule (with_rule (with_rule (with_rule (new_app name) files_operand) (file_option (codes "rules"))) (file_option (codes "state")))
+    with_rule (with_rule (with_profiles (new_app name)) (file_option (codes "state")))
     (file_option (codes "certificates"))
 
--- `run`, which may also have `--workers N`
+-- `clashes`, which may also have `--dot`
+abbrev pub clashes_app : App
+clashes_app = with_rule (set_app (codes "clashes")) (flag (codes "dot"))
+
+-- `run`, which may also have `--workers N` and `--rounds`
 abbrev pub run_app : App
-run_app = with_rule (set_app (codes "run")) workers_option
+run_app = with_rule (with_rule (set_app (codes "run")) workers_option) (flag (codes "rounds"))
 
 -- `hubsync`, which has a version
 abbrev pub top_app : App
@@ -58,18 +77,21 @@ top_app = on_top (λ s. record s { has_version = true }) (new_app (codes "hubsyn
 -- `hubsync` with the commands of the checker
 abbrev pub checker_app : App
 checker_app =
-    with_subcommand (with_subcommand (with_subcommand top_app (set_app (codes "check")).top) (set_app (codes "certify")).top)
+    with_subcommand (with_subcommand (with_subcommand top_app (set_app (codes "check")).top)
+    (set_app (codes "certify")).top)
     (set_app (codes "verify")).top
 
 -- and with those that say more than a yes or a no
 abbrev pub about_app : App
-about_app = with_subcommand (with_subcommand checker_app (set_app (codes "clashes")).top) (set_app (codes "rounds")).top
+about_app =
+    with_subcommand (with_subcommand checker_app clashes_app.top) (set_app (codes "rounds")).top
 
 -- the command as clap reads it
 unfoldable pub hubsync_app : App
 hubsync_app = with_subcommand (with_subcommand about_app reach_app.top) run_app.top
 
--- what is asked for: something about the set of the profiles and rules, or whether a profile reaches a path
+-- what is asked for: something about the set of the profiles and rules, or whether a profile
+-- reaches a path
 pub data Request : Type 0 where
   about : Question → Request
   reach : Text → Text → Request
@@ -86,12 +108,36 @@ operands_of (Some profile) (Some path) = Some (reach profile path)
 
 -- the number that a text says, if it is one from 0 to 255: decimal digits, perhaps behind a plus
 abbrev pub byte_of : Text → Option ℕ
-byte_of text = if is_unsigned_in 0 255 text then Some (digits_value 10 (without_leading_plus text)) else None
+byte_of text =
+    if is_unsigned_in 0 255 text then Some (digits_value 10 (without_leading_plus text)) else None
 
--- a run by so many workers as the text says
-abbrev pub run_by : Option Text → Option Request
-run_by None = None
-run_by (Some text) = option_map (λ n. about (Run n)) (byte_of text)
+-- the value of a flag, where this is its text
+abbrev pub is_true : Option Text → Bool
+is_true None = false
+is_true (Some text) = bytes_eq text (codes "true")
+
+-- the flag is on the command line, where these are the rows of operands and options
+abbrev pub is_set : Text → List Row → Bool
+is_set name rows = is_true (first_of name rows)
+
+-- the number of workers, where this is the text of `--workers`
+abbrev pub workers_in : Option Text → Option ℕ
+workers_in None = None
+workers_in (Some text) = byte_of text
+
+-- a run by so many workers, by rounds or not
+abbrev pub run_with : Bool → ℕ → Request
+run_with by_rounds n = if by_rounds then about (RunByRounds n) else about (Run n)
+
+-- a run by so many workers as the option says
+abbrev pub run_by : List Row → Option Request
+run_by rows =
+    option_map (run_with (is_set (codes "rounds") rows))
+    (workers_in (one_of (codes "workers") rows))
+
+-- all that clashes, drawn as a graph or not
+abbrev pub clashes : Bool → Request
+clashes as_graph = if as_graph then about Graph else about Clashes
 
 -- the file of a profile
 abbrev pub is_profile_file : Text → Bool
@@ -102,36 +148,39 @@ abbrev pub are_profile_files : Option (List Text) → Bool
 are_profile_files None = true
 are_profile_files (Some files) = list_all is_profile_file files
 
--- what a command about the set asks for, where this is the text of the option `--workers`
-abbrev pub about_named : Text → Option Text → Option Request
-about_named name workers =
+-- what a command about the set asks for, by its name and the rows of its operands and options
+abbrev pub about_named : Text → List Row → Option Request
+about_named name rows =
     if bytes_eq name (codes "check") then Some (about Check)
     else (if bytes_eq name (codes "certify") then Some (about Certify)
     else (if bytes_eq name (codes "verify") then Some (about Verify)
-    else (if bytes_eq name (codes "clashes") then Some (about Clashes)
+    else (if bytes_eq name (codes "clashes") then Some (clashes (is_set (codes "dot") rows))
     else (if bytes_eq name (codes "rounds") then Some (about Rounds)
-    else (if bytes_eq name (codes "run") then run_by workers else None)))))
+    else (if bytes_eq name (codes "run") then run_by rows else None)))))
 
--- the same, where these are its operands: nothing if one of them isn't the file of a profile
-abbrev pub about_files : Option (List Text) → Text → Option Text → Option Request
-about_files files name workers = if are_profile_files files then about_named name workers else None
+-- the same, and nothing if an operand isn't the file of a profile
+abbrev pub about_files : Text → List Row → Option Request
+about_files name rows =
+    if are_profile_files (all_of (codes "files") rows) then about_named name rows else None
 
 -- what the command that was used asks for, by its name and the rows of its operands and options
 abbrev pub request_in : Option (Text × List Row) → Option Request
 request_in None = Some (about CheckWithState)
 request_in (Some p) =
-    if bytes_eq p.0 (codes "reach") then operands_of (first_of (codes "profile") p.1) (first_of (codes "path") p.1)
-    else about_files (all_of (codes "files") p.1) p.0 (one_of (codes "workers") p.1)
+    if bytes_eq p.0 (codes "reach")
+    then operands_of (first_of (codes "profile") p.1) (first_of (codes "path") p.1)
+    else about_files p.0 p.1
 
 -- nothing is asked for if there is a fault
 abbrev pub unless_fault : Kinds → Option Request → Option Request
 unless_fault [] request = request
 unless_fault (kind ∷ kinds) request = None
 
--- what the words ask for, of which the first is the program's name; nothing if clap finds a fault in them or a request
--- for help or the version
+-- what the words ask for, of which the first is the program's name; nothing if clap finds a fault
+-- in them or a request for help or the version
 unfoldable pub asked_of : List Text → Option Request
-asked_of words = unless_fault (fault_of hubsync_app words) (request_in (subcommand_of hubsync_app words))
+asked_of words =
+    unless_fault (fault_of hubsync_app words) (request_in (subcommand_of hubsync_app words))
 
 -- the files that words name
 pub record Names : Type 0 where
@@ -169,7 +218,8 @@ names_in (Some p) = names_found p.1
 -- there is no file among them
 abbrev pub are_none : Names → Bool
 are_none names =
-    length names.profiles == 0 && (not (is_some names.rules) && (not (is_some names.state) && not (is_some names.certificates)))
+    length names.profiles == 0 && (not (is_some names.rules)
+    && (not (is_some names.state) && not (is_some names.certificates)))
 
 -- the files that the words name, of which the first is the program's name
 unfoldable pub files_of : List Text → Names

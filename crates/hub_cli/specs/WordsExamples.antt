@@ -2,8 +2,11 @@
 use Rattle.std.specs.Prelude.{⊤, ◌≡◌, List, [], ◌∷◌, Option, Some, None, codes, refl}
 use Rattle.clap.proofs.OnLiterals.{clap_on_literals}
 use Rattle.clap.specs.Words.{Text}
-use Rattle.hub_cli.specs.Words.{Names, Request, about, asked_of, files_of, hubsync_app, no_names, reach}
-use Rattle.hub_cli.specs.declared.words.Question.TheVariants.{CheckWithState, Run, Check, Certify, Verify, Clashes, Rounds}
+use Rattle.hub_cli.specs.Words.{Names, Request, about, asked_of, files_of, hubsync_app, no_names}
+use Rattle.hub_cli.specs.Words.{reach}
+use Rattle.hub_cli.specs.declared.words.Question.TheVariants.{CheckWithState, Run, RunByRounds}
+use Rattle.hub_cli.specs.declared.words.Question.TheVariants.{Check, Certify, Verify}
+use Rattle.hub_cli.specs.declared.words.Question.TheVariants.{Clashes, Graph, Rounds}
 use Rattle.hub_cli.specs.declared.words.TheConstants.{DEFAULT_WORKERS}
 
 -- What these examples compute.
@@ -21,7 +24,8 @@ no_words : asked [] ≡ Some (about CheckWithState)
 unfolding computed
 no_words = refl
 
-the_reach_of_a_path : asked (codes "reach" ∷ codes "p" ∷ codes "a" ∷ []) ≡ Some (reach (codes "p") (codes "a"))
+the_reach_of_a_path :
+    asked (codes "reach" ∷ codes "p" ∷ codes "a" ∷ []) ≡ Some (reach (codes "p") (codes "a"))
 unfolding computed
 the_reach_of_a_path = refl
 
@@ -29,11 +33,14 @@ an_empty_operand : asked (codes "reach" ∷ codes "p" ∷ [] ∷ []) ≡ Some (r
 unfolding computed
 an_empty_operand = refl
 
-a_hyphen_alone_is_an_operand : asked (codes "reach" ∷ codes "-" ∷ codes "a" ∷ []) ≡ Some (reach (codes "-") (codes "a"))
+a_hyphen_alone_is_an_operand :
+    asked (codes "reach" ∷ codes "-" ∷ codes "a" ∷ []) ≡ Some (reach (codes "-") (codes "a"))
 unfolding computed
 a_hyphen_alone_is_an_operand = refl
 
-a_hyphen_after_two_hyphens : asked (codes "reach" ∷ codes "--" ∷ codes "-p" ∷ codes "a" ∷ []) ≡ Some (reach (codes "-p") (codes "a"))
+a_hyphen_after_two_hyphens :
+    asked (codes "reach" ∷ codes "--" ∷ codes "-p" ∷ codes "a" ∷ [])
+    ≡ Some (reach (codes "-p") (codes "a"))
 unfolding computed
 a_hyphen_after_two_hyphens = refl
 
@@ -45,7 +52,8 @@ two_hyphens_are_no_command : asked (codes "--" ∷ []) ≡ Some (about CheckWith
 unfolding computed
 two_hyphens_are_no_command = refl
 
-no_command_follows_two_hyphens : asked (codes "--" ∷ codes "reach" ∷ codes "p" ∷ codes "a" ∷ []) ≡ None
+no_command_follows_two_hyphens :
+    asked (codes "--" ∷ codes "reach" ∷ codes "p" ∷ codes "a" ∷ []) ≡ None
 unfolding computed
 no_command_follows_two_hyphens = refl
 
@@ -73,6 +81,31 @@ all_clashes : asked (codes "clashes" ∷ []) ≡ Some (about Clashes)
 unfolding computed
 all_clashes = refl
 
+a_graph_of_the_clashes : asked (codes "clashes" ∷ codes "--dot" ∷ []) ≡ Some (about Graph)
+unfolding computed
+a_graph_of_the_clashes = refl
+
+a_graph_of_files :
+    asked (codes "clashes" ∷ codes "a.prf" ∷ codes "--dot" ∷ []) ≡ Some (about Graph)
+unfolding computed
+a_graph_of_files = refl
+
+a_flag_has_no_value : asked (codes "clashes" ∷ codes "--dot=true" ∷ []) ≡ None
+unfolding computed
+a_flag_has_no_value = refl
+
+a_flag_twice : asked (codes "clashes" ∷ codes "--dot" ∷ codes "--dot" ∷ []) ≡ None
+unfolding computed
+a_flag_twice = refl
+
+a_graph_of_rounds : asked (codes "rounds" ∷ codes "--dot" ∷ []) ≡ None
+unfolding computed
+a_graph_of_rounds = refl
+
+clashes_by_rounds : asked (codes "clashes" ∷ codes "--rounds" ∷ []) ≡ None
+unfolding computed
+clashes_by_rounds = refl
+
 rounds_of_the_profiles : asked (codes "rounds" ∷ []) ≡ Some (about Rounds)
 unfolding computed
 rounds_of_the_profiles = refl
@@ -81,7 +114,8 @@ rounds_have_no_other_operands : asked (codes "rounds" ∷ codes "2" ∷ []) ≡ 
 unfolding computed
 rounds_have_no_other_operands = refl
 
-an_operand_is_the_file_of_a_profile : asked (codes "check" ∷ codes "a.prf" ∷ codes "b/c.prf" ∷ []) ≡ Some (about Check)
+an_operand_is_the_file_of_a_profile :
+    asked (codes "check" ∷ codes "a.prf" ∷ codes "b/c.prf" ∷ []) ≡ Some (about Check)
 unfolding computed
 an_operand_is_the_file_of_a_profile = refl
 
@@ -89,7 +123,8 @@ a_bundle_is_no_operand : asked (codes "check" ∷ codes "a.prf" ∷ codes "b.bun
 unfolding computed
 a_bundle_is_no_operand = refl
 
-reach_names_no_files : asked (codes "reach" ∷ codes "p" ∷ codes "a" ∷ codes "--rules" ∷ codes "r" ∷ []) ≡ None
+reach_names_no_files :
+    asked (codes "reach" ∷ codes "p" ∷ codes "a" ∷ codes "--rules" ∷ codes "r" ∷ []) ≡ None
 unfolding computed
 reach_names_no_files = refl
 
@@ -97,8 +132,14 @@ no_command_names_no_files : named [] ≡ no_names
 unfolding computed
 no_command_names_no_files = refl
 
-operands_in_their_order : named (codes "check" ∷ codes "b.prf" ∷ codes "--rules" ∷ codes "r" ∷ codes "a.prf" ∷ [])
-    ≡ record { profiles = codes "b.prf" ∷ codes "a.prf" ∷ []; rules = Some (codes "r"); state = None; certificates = None }
+operands_in_their_order :
+    named (codes "check" ∷ codes "b.prf" ∷ codes "--rules" ∷ codes "r" ∷ codes "a.prf" ∷ [])
+    ≡ record {
+      profiles = codes "b.prf" ∷ codes "a.prf" ∷ [];
+      rules = Some (codes "r");
+      state = None;
+      certificates = None;
+    }
 unfolding computed
 operands_in_their_order = refl
 
@@ -118,11 +159,13 @@ a_run_by_the_most : asked (codes "run" ∷ codes "--workers=255" ∷ []) ≡ Som
 unfolding computed
 a_run_by_the_most = refl
 
-a_number_may_begin_with_zeros : asked (codes "run" ∷ codes "--workers" ∷ codes "017" ∷ []) ≡ Some (about (Run 17))
+a_number_may_begin_with_zeros :
+    asked (codes "run" ∷ codes "--workers" ∷ codes "017" ∷ []) ≡ Some (about (Run 17))
 unfolding computed
 a_number_may_begin_with_zeros = refl
 
-a_number_may_have_a_plus : asked (codes "run" ∷ codes "--workers" ∷ codes "+3" ∷ []) ≡ Some (about (Run 3))
+a_number_may_have_a_plus :
+    asked (codes "run" ∷ codes "--workers" ∷ codes "+3" ∷ []) ≡ Some (about (Run 3))
 unfolding computed
 a_number_may_have_a_plus = refl
 
@@ -161,6 +204,26 @@ two_numbers = refl
 workers_without_a_run : asked (codes "--workers" ∷ codes "2" ∷ []) ≡ None
 unfolding computed
 workers_without_a_run = refl
+
+a_run_by_rounds :
+    asked (codes "run" ∷ codes "--rounds" ∷ []) ≡ Some (about (RunByRounds DEFAULT_WORKERS))
+unfolding computed
+a_run_by_rounds = refl
+
+a_run_by_rounds_and_workers :
+    asked (codes "run" ∷ codes "--rounds" ∷ codes "--workers" ∷ codes "3" ∷ [])
+    ≡ Some (about (RunByRounds 3))
+unfolding computed
+a_run_by_rounds_and_workers = refl
+
+workers_and_then_rounds :
+    asked (codes "run" ∷ codes "--workers=0" ∷ codes "--rounds" ∷ []) ≡ Some (about (RunByRounds 0))
+unfolding computed
+workers_and_then_rounds = refl
+
+rounds_have_no_number : asked (codes "run" ∷ codes "--rounds=1" ∷ []) ≡ None
+unfolding computed
+rounds_have_no_number = refl
 
 an_unknown_command : asked (codes "go" ∷ []) ≡ None
 unfolding computed

@@ -4,7 +4,7 @@ ghost use Rattle.std.specs.Prelude.{◌≡◌, IfOk, codes, false};
 ghost use Rattle.clap.specs.Words.{app_of, new_app, rule_of, with_subcommand};
 ghost use Rattle.clap.specs.declared.builder.command.Command.TheViews.{out-Command as fields_of};
 ghost use Rattle.hub_cli.specs.Words as words;
-ghost use Rattle.hub_cli.specs.Words.{about_app, checker_app, hubsync_app, reach_app, run_app, set_app, top_app};
+ghost use Rattle.hub_cli.specs.Words.{about_app, checker_app, clashes_app, hubsync_app, reach_app, run_app, set_app, top_app};
 
 use crate::help::{CERTIFY, CHECK, CLASHES, HUBSYNC, Help, LONG, REACH, ROUNDS, RUN, VERIFY};
 use crate::words::DEFAULT_WORKERS_TEXT;
@@ -47,6 +47,17 @@ fn file_option<'a>(alloc: Global, name: &'a str, help: &'a str) -> Arg<'a>
         .help(help)
 }
 
+/// A flag.
+fn flag<'a>(alloc: Global, name: &'a str, help: &'a str) -> Arg<'a>
+    ensures rule { rule_of result ≡ words.flag name.now }
+    ensures local { result.global ≡ false }
+{
+    Arg::new(alloc, name)
+        .long(name)
+        .action(ArgAction::SetTrue)
+        .help(help)
+}
+
 /// A command about the set, which may take files.
 fn set_command<'a>(alloc: Global, name: &'a str, help: Help) -> Result<Command<'a>, AllocError>
     ensures app { IfOk result (λ c. app_of c ≡ set_app name.now) }
@@ -71,7 +82,21 @@ fn run_command<'a>(alloc: Global) -> Result<Command<'a>, AllocError>
         .help("How many workers run the jobs, from 1 to 16")
         .value_parser(value_parser!(u8))
         .default_value(DEFAULT_WORKERS_TEXT);
-    set_command(alloc, "run", RUN)?.arg(workers)
+    let rounds = flag(
+        alloc,
+        "rounds",
+        "Run the rounds of the set one after another",
+    );
+    set_command(alloc, "run", RUN)?.arg(workers)?.arg(rounds)
+}
+
+/// The command `clashes`.
+fn clashes_command<'a>(alloc: Global) -> Result<Command<'a>, AllocError>
+    ensures app { IfOk result (λ c. app_of c ≡ clashes_app) }
+    ensures local { IfOk result (λ c. (fields_of c).has_globals ≡ false) }
+{
+    let dot = flag(alloc, "dot", "Draw what clashes as a graph for Graphviz");
+    set_command(alloc, "clashes", CLASHES)?.arg(dot)
 }
 
 /// A required operand, with its text of help.
@@ -141,7 +166,7 @@ fn about_command<'a>(alloc: Global) -> Result<Command<'a>, AllocError>
     ensures { IfOk result (λ c. app_of c ≡ about_app) }
 {
     let top = checker_command(alloc)?;
-    let top = with_set(alloc, top, "clashes", CLASHES)?;
+    let top = top.subcommand(clashes_command(alloc)?)?;
     with_set(alloc, top, "rounds", ROUNDS)
 }
 

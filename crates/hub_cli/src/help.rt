@@ -42,8 +42,9 @@ pub(crate) const VERIFY: Help = Help {
 /// That of `clashes`.
 pub(crate) const CLASHES: Help = Help {
     about: "Lists all overlaps of profiles, and all rules that are broken",
-    usage: "hubsync clashes < BUNDLE\n       hubsync clashes [OPTIONS] FILE.prf..",
-    example: "Example: hubsync clashes docs.prf photos.prf --rules rules",
+    usage: "hubsync clashes [--dot] < BUNDLE\n       hubsync clashes [OPTIONS] FILE.prf..",
+    example: "Examples: hubsync clashes docs.prf photos.prf --rules rules\n          \
+        hubsync clashes --dot docs.prf photos.prf | dot -Tsvg > clashes.svg",
 };
 
 /// That of `rounds`.
@@ -63,8 +64,9 @@ pub(crate) const REACH: Help = Help {
 /// That of `run`.
 pub(crate) const RUN: Help = Help {
     about: "Runs the jobs of profiles that may on the state of the input",
-    usage: "hubsync run [--workers N] < BUNDLE\n       hubsync run [OPTIONS] FILE.prf..",
-    example: "Example: hubsync run docs.prf photos.prf --state state",
+    usage: "hubsync run [--workers N] [--rounds] < BUNDLE\n       hubsync run [OPTIONS] FILE.prf..",
+    example: "Examples: hubsync run docs.prf photos.prf --state state\n          \
+        hubsync run --rounds docs.prf photos.prf --state state",
 };
 
 /// What follows the options in `hubsync --help`: a small bundle, the files, the lines of the answer, and the statuses.
@@ -111,6 +113,14 @@ If they aren't run, 'run fault: MissingReplica ..' stands below 'safe'
 if the state has no replica of a root, or 'NoWorkers' for 0 workers,
 'TooManyWorkers' for more than 16, or 'ThreadRefused' if a thread can't be
 started. The answer to 'run' without a state is 'fault: no state'.
+
+'run --rounds' runs the rounds of any set one after another, as 'rounds' cuts
+it. 'rounds N' stands in the place of 'safe', and 'run fault: ..' below the
+lines of the rounds that were run. The state that they left always follows.
+
+'clashes --dot' draws the profiles, their roots and what clashes as a graph for
+Graphviz. Profiles that clash are joined by a red line, and a profile that may
+break a rule is a red box. What is too large to decide is dashed.
 
 Exit status:
   0  safe and no job stopped, verified, certificates, reached or not reached

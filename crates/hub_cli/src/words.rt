@@ -2,9 +2,9 @@
 //!
 //! `specs/Words.antt` defines the command in `clap`'s terms, and with that what each list of words asks for.
 
-ghost use Rattle.std.specs.Prelude.{◌≡◌, ◌⊎◌, IfErr, IfOk, None, Some, codes, false, map, option_map};
+ghost use Rattle.std.specs.Prelude.{◌≡◌, ◌⊎◌, IfErr, IfOk, None, Some, codes, map, option_map};
 ghost use Rattle.std.specs.List.{list_all};
-ghost use Rattle.clap.specs.Words.{app_of, found_of, kind_of, matched_of, one_text, raw_values, subcommand_rows_of};
+ghost use Rattle.clap.specs.Words.{all_of, app_of, found_of, kind_of, one_of, rows_of, subcommand_rows_of};
 ghost use Rattle.clap.specs.declared.error.kind.ErrorKind.TheVariants.{OutOfMemory};
 ghost use Rattle.hub_cli.specs.Words as words;
 ghost use Rattle.hub_cli.specs.Words.{asked_of, files_of, hubsync_app, names_in, request_in, request_of};
@@ -28,6 +28,8 @@ pub enum Question {
     CheckWithState,
     /// What the jobs of the set do and leave on the bundle's state, if it is safe: with that many workers.
     Run(u8),
+    /// What they do and leave if the rounds of the set run one after another: with that many workers.
+    RunByRounds(u8),
     /// Whether the set is safe.
     Check,
     /// Certificates for its goals.
@@ -36,6 +38,8 @@ pub enum Question {
     Verify,
     /// Every overlap and every breach.
     Clashes,
+    /// The same, drawn as a graph.
+    Graph,
     /// Rounds of profiles that may run at the same time.
     Rounds,
 }
@@ -57,8 +61,10 @@ pub enum Asked<'a> {
 /// Reads the words, of which the first is the program's name.
 ///
 /// `check`, `certify`, `verify`, `clashes` and `rounds` ask about the set. Without a command the words ask for the check, and
-/// for a run of the jobs if the bundle has a state. `run` asks for a run; `--workers N` gives the number of workers, from 0 to
-/// 255, and without it there are [`DEFAULT_WORKERS`]. Each of these commands may name files (`read_files`).
+/// for a run of the jobs if the bundle has a state. With `--dot`, `clashes` asks for a graph.
+/// `run` asks for a run, and with `--rounds` for one by rounds. `--workers N` gives the number of workers, from 0 to 255, and
+/// without it there are [`DEFAULT_WORKERS`]. Each of these commands may name files (`read_files`).
+///
 /// `reach PROFILE PATH` takes any two operands, also the empty word and `-`. An operand that begins with `-` and is longer
 /// needs `--` before it.
 ///
@@ -143,8 +149,7 @@ pub(crate) fn asked_in<'a>(matches: &ArgMatches<'a>) -> Option<Asked<'a>>
 /// What a command about the set asks for, if all of its operands are files of profiles.
 fn about_files<'a>(name: &str, found: &ArgMatches<'_>) -> Option<Asked<'a>>
     ensures { option_map request_of result
-        ≡ words.about_files (option_map raw_values (matched_of (found_of found.now) (codes "files")))
-        name.now (one_text (found_of found.now) (codes "workers")) }
+        ≡ words.about_files name.now (rows_of (found_of found.now)) }
 {
     if are_profile_files(found) {
         about(name, found)
@@ -155,8 +160,8 @@ fn about_files<'a>(name: &str, found: &ArgMatches<'_>) -> Option<Asked<'a>>
 
 /// Returns whether all operands are files of profiles.
 fn are_profile_files(found: &ArgMatches<'_>) -> bool
-    ensures { result ≡ words.are_profile_files
-        (option_map raw_values (matched_of (found_of found.now) (codes "files"))) }
+    ensures { result
+        ≡ words.are_profile_files (all_of (codes "files") (rows_of (found_of found.now))) }
 {
     match found.get_raw("files") {
         Some(files) => are_all_profile_files(files),
@@ -178,10 +183,10 @@ fn is_profile_file(file: &str) -> bool
     file.as_bytes().ends_with(b".prf")
 }
 
-/// What a command about the set asks for, by its name and what was found of its option.
+/// What a command about the set asks for, by its name and what was found of its options.
 fn about<'a>(name: &str, found: &ArgMatches<'_>) -> Option<Asked<'a>>
     ensures { option_map request_of result
-        ≡ words.about_named name.now (one_text (found_of found.now) (codes "workers")) }
+        ≡ words.about_named name.now (rows_of (found_of found.now)) }
 {
     if name == "check" {
         return Some(Asked::About(Question::Check));
@@ -193,7 +198,7 @@ fn about<'a>(name: &str, found: &ArgMatches<'_>) -> Option<Asked<'a>>
         return Some(Asked::About(Question::Verify));
     }
     if name == "clashes" {
-        return Some(Asked::About(Question::Clashes));
+        return Some(clashes(is_set(found, "dot")));
     }
     if name == "rounds" {
         return Some(Asked::About(Question::Rounds));
@@ -204,11 +209,50 @@ fn about<'a>(name: &str, found: &ArgMatches<'_>) -> Option<Asked<'a>>
     None
 }
 
+/// All that clashes, drawn as a graph or not.
+fn clashes<'a>(as_graph: bool) -> Asked<'a>
+    ensures { request_of result ≡ words.clashes as_graph }
+{
+    if as_graph {
+        Asked::About(Question::Graph)
+    } else {
+        Asked::About(Question::Clashes)
+    }
+}
+
 /// A run by as many workers as the option says.
 fn run_by<'a>(found: &ArgMatches<'_>) -> Option<Asked<'a>>
-    ensures { option_map request_of result
-        ≡ words.run_by (one_text (found_of found.now) (codes "workers")) }
+    ensures { option_map request_of result ≡ words.run_by (rows_of (found_of found.now)) }
 {
-    let workers = found.get_one::<u8>("workers")?;
-    Some(Asked::About(Question::Run(workers)))
+    let workers = workers_in(found)?;
+    Some(run_with(is_set(found, "rounds"), workers))
+}
+
+/// A run by that many workers, by rounds or not.
+fn run_with<'a>(by_rounds: bool, workers: u8) -> Asked<'a>
+    ensures { request_of result ≡ words.run_with by_rounds workers }
+{
+    if by_rounds {
+        Asked::About(Question::RunByRounds(workers))
+    } else {
+        Asked::About(Question::Run(workers))
+    }
+}
+
+/// The number of workers.
+fn workers_in(found: &ArgMatches<'_>) -> Option<u8>
+    ensures { result
+        ≡ words.workers_in (one_of (codes "workers") (rows_of (found_of found.now))) }
+{
+    found.get_one("workers")
+}
+
+/// Returns whether a flag is on the command line.
+fn is_set(found: &ArgMatches<'_>, name: &str) -> bool
+    ensures { result ≡ words.is_set name.now (rows_of (found_of found.now)) }
+{
+    match found.get_str(name) {
+        Some(text) => text == "true",
+        None => false,
+    }
 }

@@ -3,8 +3,8 @@ use Rattle.std.specs.Prelude.{ℕ, ◌+◌, ◌-◌, ◌==◌, ◌&&◌, ◌||�
 use Rattle.std.specs.List.{ends_with, flat_map, list_any, position}
 use Rattle.hub_text.specs.declared.line.Line.{Line}
 use Rattle.hub_text.specs.Lines.{lines_of}
-use Rattle.hub_files.specs.declared.bundle.BundleFault.{BundleFault}
-use Rattle.hub_files.specs.declared.bundle.BundleFault.TheVariants.{File, OutOfMemory}
+use Rattle.hub_files.specs.declared.bundle.FilesFault.{FilesFault}
+use Rattle.hub_files.specs.declared.bundle.FilesFault.TheVariants.{File, OutOfMemory}
 use Rattle.hub_files.specs.declared.part.Kind.{Kind}
 use Rattle.hub_files.specs.declared.part.Kind.TheVariants.{Profile, Rules, State, Certificates}
 use Rattle.hub_files.specs.declared.part.Part.{Part}
@@ -87,6 +87,6 @@ abbrev pub first_faulty : List Part → Option ℕ
 first_faulty parts = position is_faulty parts
 
 -- The file of a fault.
-abbrev pub faulty_of : BundleFault → Option ℕ
+abbrev pub faulty_of : FilesFault → Option ℕ
 faulty_of (File n) = Some n
 faulty_of OutOfMemory = None

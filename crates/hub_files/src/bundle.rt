@@ -1,28 +1,28 @@
 //! A bundle of files.
 ghost use Rattle.std.specs.Prelude.{◌≡◌, ◌++◌, ◌⊎◌, IfErr, IfOk, None, OnOk};
 ghost use Rattle.hub_files.specs.Files as files;
-ghost use Rattle.hub_files.specs.declared.bundle.BundleFault.TheVariants.{OutOfMemory};
+ghost use Rattle.hub_files.specs.declared.bundle.FilesFault.TheVariants.{OutOfMemory};
 
 use crate::part::{Part, heading_name, heading_word, part_fault};
 use std::alloc::{AllocError, Global};
 
 /// Why no bundle is made of some files.
 #[derive(Clone, Copy, Debug, PartialEq, Eq)]
-pub enum BundleFault {
+pub enum FilesFault {
     /// The file of this number, from 0 on, can't be a section: `part_fault` says why.
     File(usize),
     /// Out of memory.
     OutOfMemory,
 }
 
-impl From<AllocError> for BundleFault {
-    ghost use Rattle.hub_files.specs.declared.bundle.BundleFault.TheVariants.{OutOfMemory};
+impl From<AllocError> for FilesFault {
+    ghost use Rattle.hub_files.specs.declared.bundle.FilesFault.TheVariants.{OutOfMemory};
     ghost use Rattle.std.specs.Prelude.{◌≡◌};
 
     ghost from_gives = { λ _ e. e ≡ OutOfMemory };
 
     fn from(_: AllocError) -> Self {
-        BundleFault::OutOfMemory
+        FilesFault::OutOfMemory
     }
 }
 
@@ -30,14 +30,14 @@ impl From<AllocError> for BundleFault {
 ///
 /// The fault is that of the first file that can't be a section: its profile's name has an LF or a CR, or else a line begins with
 /// `%`. Any call may instead report `OutOfMemory`.
-pub fn bundle_of(alloc: Global, parts: &[Part<'_>]) -> Result<Vec<u8>, BundleFault>
+pub fn bundle_of(alloc: Global, parts: &[Part<'_>]) -> Result<Vec<u8>, FilesFault>
     ensures bytes { IfOk result (λ b. b.items ≡ files.bundle_of parts.now) }
     ensures ok { IfOk result (λ _. files.first_faulty parts.now ≡ None) }
     ensures err { IfErr result (λ e. (e ≡ OutOfMemory)
         ⊎ (files.first_faulty parts.now ≡ files.faulty_of e)) }
 {
     if let Some(file) = first_faulty(parts) {
-        return Err(BundleFault::File(file));
+        return Err(FilesFault::File(file));
     }
     let mut bundle = Vec::new(alloc);
     for part in parts {

@@ -19,5 +19,5 @@ mod bundle;
 mod name;
 mod part;
 
-pub use bundle::{BundleFault, bundle_of};
+pub use bundle::{FilesFault, bundle_of};
 pub use part::{Kind, Part, PartFault, part_fault};

@@ -10,7 +10,7 @@ use Rattle.hub_glob.specs.declared.piece.Piece.{Piece}
 use Rattle.hub_glob.specs.declared.piece.Piece.TheVariants.{Lit, Any, Run, OneOf}
 use Rattle.hub_glob.specs.declared.piece.Part.{Part}
 use Rattle.hub_glob.specs.declared.piece.Part.TheVariants.{One, Brace}
-use Rattle.hub_glob.specs.declared.piece.Next.{Next}
+use Rattle.hub_glob.specs.declared.piece.NextCharacter.{NextCharacter}
 use Rattle.hub_glob.specs.declared.sweep.Carry.{Carry}
 use Rattle.hub_glob.specs.Specification.{choices_size}
 use Rattle.hub_glob.specs.Glob.{Texts, piece, pieces, glob, no_more}
@@ -45,10 +45,10 @@ record Made : Type 0 where
   bits : List Bool
   carry : Carry
 
-abbrev made_place : Next → Piece → Bool → Carry → Bool
+abbrev made_place : NextCharacter → Piece → Bool → Carry → Bool
 made_place x p here c = c.after || is_star p && (here && takes x p)
 
-abbrev carry_past : Next → Piece → Bool → Carry
+abbrev carry_past : NextCharacter → Piece → Bool → Carry
 carry_past x p here = record { before = is_star p && here; after = not (is_star p) && (here && takes x p) }
 
 abbrev put_front : Bool → Made → Made
@@ -57,7 +57,7 @@ put_front b m = record { bits = b ∷ m.bits; carry = m.carry }
 abbrev put_all : List Bool → Made → Made
 put_all bs m = record { bits = bs ++ m.bits; carry = m.carry }
 
-abbrev made_pieces : Next → List Piece → List Bool → Carry → Made
+abbrev made_pieces : NextCharacter → List Piece → List Bool → Carry → Made
 made_pieces x [] old c = record { bits = []; carry = c }
 made_pieces x (p ∷ ps) old c =
     put_front (made_place x p (c.before || head old) c) (made_pieces x ps (tail old) (carry_past x p (c.before || head old)))
@@ -65,13 +65,13 @@ made_pieces x (p ∷ ps) old c =
 abbrev both : Carry → Carry → Carry
 both c d = record { before = c.before || d.before; after = c.after || d.after }
 
-abbrev made_choices : Next → Carry → List (List Piece) → List Bool → Carry → Made
+abbrev made_choices : NextCharacter → Carry → List (List Piece) → List Bool → Carry → Made
 made_choices x entry [] old c = record { bits = []; carry = c }
 made_choices x entry (q ∷ qs) old c =
     put_all (made_pieces x q old entry).bits
     (made_choices x entry qs (drop (length q) old) (both c (made_pieces x q old entry).carry))
 
-abbrev made_parts : Next → List Part → List Bool → Carry → Made
+abbrev made_parts : NextCharacter → List Part → List Bool → Carry → Made
 made_parts x [] old c = record { bits = []; carry = c }
 made_parts x (One p ∷ ps) old c =
     put_front (made_place x p (c.before || head old) c) (made_parts x ps (tail old) (carry_past x p (c.before || head old)))
@@ -93,13 +93,13 @@ alive_parts (One p ∷ ps) bits first t = head bits && piece p (glob ps) first t
 alive_parts (Brace cs ∷ ps) bits first t = alive_choices cs (glob ps) bits first t || alive_parts ps (drop (choices_size cs) bits) first t
 
 -- What a match that stands before or after the character can go on with.
-abbrev onward : Next → Carry → Texts → List ℕ → Bool
+abbrev onward : NextCharacter → Carry → Texts → List ℕ → Bool
 onward x c k r = c.before && k x.first (x.character ∷ r) || c.after && k (x.character == 47) r
 
-abbrev now : Next → List ℕ → (Bool → List ℕ → Bool) → Bool
+abbrev now : NextCharacter → List ℕ → (Bool → List ℕ → Bool) → Bool
 now x r k = k x.first (x.character ∷ r)
 
-abbrev next : Next → List ℕ → (Bool → List ℕ → Bool) → Bool
+abbrev next : NextCharacter → List ℕ → (Bool → List ℕ → Bool) → Bool
 next x r k = k (x.character == 47) r
 
 one_law : (b a l T P Q R O N : Bool) → ((b || l) && T && P || R) ≡ (O || N)
@@ -110,7 +110,7 @@ star_law : (b a l T F Q R O N : Bool) → (((b || l) && F || false) || R) ≡ (O
     → ((b && (F || T && Q) || a && Q) || (l && (F || T && Q) || R)) ≡ (O || ((a || (b || l) && T) && Q || N))
 star_law b a l T F Q R O N h = past_star b a l T F Q R ∙ ap (λ z. (a || (b || l) && T) && Q || z) h ∙ swap_or ((a || (b || l) && T) && Q) O N
 
-pieces_law : (x : Next) (ps : List Piece) (k : Texts) (old : List Bool) (c : Carry) (r : List ℕ)
+pieces_law : (x : NextCharacter) (ps : List Piece) (k : Texts) (old : List Bool) (c : Carry) (r : List ℕ)
     → (onward x c (pieces ps k) r || now x r (alive_pieces ps k old))
     ≡ (onward x (made_pieces x ps old c).carry k r || next x r (alive_pieces ps k (made_pieces x ps old c).bits))
 pieces_law x [] k old c r = refl
@@ -133,11 +133,11 @@ pieces_law x (Run ∷ ps) k old c r =
     (onward x m.carry k r) (next x r (alive_pieces ps k m.bits)) (pieces_law x ps k (tail old) (carry_past x Run (c.before || head old)) r)
 
 -- Lists of places one behind the other.
-length-made_pieces : (x : Next) (ps : List Piece) (old : List Bool) (c : Carry) → length (made_pieces x ps old c).bits ≡ length ps
+length-made_pieces : (x : NextCharacter) (ps : List Piece) (old : List Bool) (c : Carry) → length (made_pieces x ps old c).bits ≡ length ps
 length-made_pieces x [] old c = refl
 length-made_pieces x (p ∷ ps) old c = ap suc (length-made_pieces x ps (tail old) (carry_past x p (c.before || head old)))
 
-length-made_choices : (x : Next) (entry : Carry) (qs : List (List Piece)) (old : List Bool) (c : Carry) → length (made_choices x entry qs old c).bits ≡ choices_size qs
+length-made_choices : (x : NextCharacter) (entry : Carry) (qs : List (List Piece)) (old : List Bool) (c : Carry) → length (made_choices x entry qs old c).bits ≡ choices_size qs
 length-made_choices x entry [] old c = refl
 length-made_choices x entry (q ∷ qs) old c =
     let m = made_pieces x q old entry in
@@ -159,10 +159,10 @@ alive_choices-more (q ∷ qs) k bits more first t h =
     ∙ ap (λ b. alive_pieces q k bits first t || b) (alive_choices-more qs k (drop (length q) bits) more first t (omega (arith, length-drop (length q) bits)))
 
 -- What a brace's choices stand for as the brace is entered.
-abbrev entering : Next → Carry → List (List Piece) → Texts → List ℕ → Bool
+abbrev entering : NextCharacter → Carry → List (List Piece) → Texts → List ℕ → Bool
 entering x entry qs k r = list_any (λ q. onward x entry (pieces q k) r) qs
 
-onward-both : (x : Next) (c d : Carry) (k : Texts) (r : List ℕ) → (onward x c k r || onward x d k r) ≡ onward x (both c d) k r
+onward-both : (x : NextCharacter) (c d : Carry) (k : Texts) (r : List ℕ) → (onward x c k r || onward x d k r) ≡ onward x (both c d) k r
 onward-both x c d k r = regroup c.before c.after d.before d.after (now x r k) (next x r k) where
   regroup : (a b e f N X : Bool) → ((a && N || b && X) || (e && N || f && X)) ≡ ((a || e) && N || (b || f) && X)
   regroup a b e f N X = grind (arith, nat_tests)
@@ -175,7 +175,7 @@ mix o e E p A P O' A' h = first_part o e E p A ∙ ap (λ z. o || (z || (E || A)
   last_part : (o O' P E A : Bool) → (o || ((O' || P) || (E || A))) ≡ (((o || O') || (E || A)) || P)
   last_part o O' P E A = grind (arith, nat_tests)
 
-choices_law : (x : Next) (entry : Carry) (qs : List (List Piece)) (k : Texts) (old : List Bool) (c : Carry) (r : List ℕ)
+choices_law : (x : NextCharacter) (entry : Carry) (qs : List (List Piece)) (k : Texts) (old : List Bool) (c : Carry) (r : List ℕ)
     → (onward x c k r || (entering x entry qs k r || now x r (alive_choices qs k old)))
     ≡ (onward x (made_choices x entry qs old c).carry k r || next x r (alive_choices qs k (made_choices x entry qs old c).bits))
 choices_law x entry [] k old c r = refl
@@ -192,7 +192,7 @@ choices_law x entry (q ∷ qs) k old c r =
     || (sym (alive_pieces-more q k m.bits n.bits (x.character == 47) r (omega (arith, length-made_pieces x q old entry))) i
     || alive_choices qs k (sym (drop_at m.bits n.bits (length q) (length-made_pieces x q old entry)) i) (x.character == 47) r))
 
-parts_law : (x : Next) (ps : List Part) (old : List Bool) (c : Carry) (r : List ℕ)
+parts_law : (x : NextCharacter) (ps : List Part) (old : List Bool) (c : Carry) (r : List ℕ)
     → (onward x c (glob ps) r || now x r (alive_parts ps old))
     ≡ (onward x (made_parts x ps old c).carry no_more r || next x r (alive_parts ps (made_parts x ps old c).bits))
 parts_law x [] old c r = refl
@@ -237,7 +237,7 @@ parts_law x (Brace cs ∷ ps) old c r =
     turn a b d = grind (arith, nat_tests)
 
 -- At the end of the text.
-pieces_end : (x : Next) (ps : List Piece) (k : Texts) (old : List Bool) (c : Carry) (f : Bool)
+pieces_end : (x : NextCharacter) (ps : List Piece) (k : Texts) (old : List Bool) (c : Carry) (f : Bool)
     → (c.before && pieces ps k f [] || alive_pieces ps k old f []) ≡ ((made_pieces x ps old c).carry.before && k f [])
 pieces_end x [] k old c f = or-false _
 pieces_end x (Lit d ∷ ps) k old c f = none_left c.before (head old) (alive_pieces ps k (tail old) f []) ∙ pieces_end x ps k (tail old) (carry_past x (Lit d) (c.before || head old)) f
@@ -251,7 +251,7 @@ pieces_end x (Run ∷ ps) k old c f =
     some_left : (b l G R : Bool) → (b && G || (l && G || R)) ≡ ((b || l) && G || R)
     some_left b l G R = grind (arith, nat_tests)
 
-choices_end : (x : Next) (entry : Carry) (qs : List (List Piece)) (k : Texts) (old : List Bool) (c : Carry) (f : Bool)
+choices_end : (x : NextCharacter) (entry : Carry) (qs : List (List Piece)) (k : Texts) (old : List Bool) (c : Carry) (f : Bool)
     → (c.before && k f [] || (list_any (λ q. entry.before && pieces q k f []) qs || alive_choices qs k old f []))
     ≡ ((made_choices x entry qs old c).carry.before && k f [])
 choices_end x entry [] k old c f = or-false _
@@ -271,7 +271,7 @@ choices_end x entry (q ∷ qs) k old c f =
     gather : (o e E A R P : Bool) → (e || A) ≡ P → (o || ((e || E) || (A || R))) ≡ ((o || P) || (E || R))
     gather o e E A R P h = bring o e E A R ∙ ap (λ z. (o || z) || (E || R)) h
 
-parts_end : (x : Next) (ps : List Part) (old : List Bool) (c : Carry) (f : Bool)
+parts_end : (x : NextCharacter) (ps : List Part) (old : List Bool) (c : Carry) (f : Bool)
     → (c.before && glob ps f [] || alive_parts ps old f []) ≡ (made_parts x ps old c).carry.before
 parts_end x [] old c f = or-false _ ∙ and-true c.before
 parts_end x (One p ∷ ps) old c f =
@@ -307,7 +307,7 @@ drop-tail (suc n) (b ∷ bs) = drop-tail n bs
 drop-pushed : (l : List Bool) (b : Bool) (bs : List Bool) → drop (length (l ++ b ∷ [])) bs ≡ tail (drop (length l) bs)
 drop-pushed l b bs = ap (λ n. drop n bs) (length_push l b ∙ add-one (length l)) ∙ drop-tail (length l) bs
 
-swept_pieces_made : (x : Next) (ps : List Piece) (old : List Bool) (s : Swept)
+swept_pieces_made : (x : NextCharacter) (ps : List Piece) (old : List Bool) (s : Swept)
     → swept_pieces x old ps s ≡ after_made s.live (made_pieces x ps (drop (length s.live) old) s.carry)
 swept_pieces_made x [] old s = ap (λ l. let r : Swept = record { live = l; carry = s.carry } in r) (sym (append-nil s.live))
 swept_pieces_made x (p ∷ ps) old s =
@@ -324,7 +324,7 @@ swept_pieces_made x (p ∷ ps) old s =
 drop-appended : (l bits : List Bool) (n : ℕ) (bs : List Bool) → length bits ≡ n → drop (length (l ++ bits)) bs ≡ drop n (drop (length l) bs)
 drop-appended l bits n bs h = ap (λ k. drop k bs) (length-append l bits ∙ ap (λ k. length l + k) h) ∙ sym (drop-drop n (length l) bs)
 
-swept_choices_made : (x : Next) (entry : Carry) (qs : List (List Piece)) (old : List Bool) (s : Swept)
+swept_choices_made : (x : NextCharacter) (entry : Carry) (qs : List (List Piece)) (old : List Bool) (s : Swept)
     → swept_choices x old entry qs s ≡ after_made s.live (made_choices x entry qs (drop (length s.live) old) s.carry)
 swept_choices_made x entry [] old s = ap (λ l. let r : Swept = record { live = l; carry = s.carry } in r) (sym (append-nil s.live))
 swept_choices_made x entry (q ∷ qs) old s =
@@ -336,7 +336,7 @@ swept_choices_made x entry (q ∷ qs) old s =
     (made_choices x entry qs (drop-appended s.live m.bits (length q) old (length-made_pieces x q (drop (length s.live) old) entry) i) (both s.carry m.carry)))
     ∙ ap (λ l. let r : Swept = record { live = l; carry = n.carry } in r) (append_assoc s.live m.bits n.bits)
 
-swept_parts_made : (x : Next) (ps : List Part) (old : List Bool) (s : Swept)
+swept_parts_made : (x : NextCharacter) (ps : List Part) (old : List Bool) (s : Swept)
     → swept_parts x old ps s ≡ after_made s.live (made_parts x ps (drop (length s.live) old) s.carry)
 swept_parts_made x [] old s = ap (λ l. let r : Swept = record { live = l; carry = s.carry } in r) (sym (append-nil s.live))
 swept_parts_made x (One p ∷ ps) old s =
@@ -418,7 +418,7 @@ stuck_meaning ps w t h =
     unfresh true e = cc
     unfresh false e = refl
 
-abbrev next_of : Standing → ℕ → Next
+abbrev next_of : Standing → ℕ → NextCharacter
 next_of w c = record { character = c; first = w.first }
 
 abbrev entry_of : Standing → Carry

@@ -15,16 +15,18 @@ abbrev pub splits : List ℕ → List (List ℕ × List ℕ)
 splits [] = ([], []) ∷ []
 splits (c ∷ t) = ([], c ∷ t) ∷ map (λ s. (c ∷ s.0, s.1)) (splits t)
 
--- Which texts are matched, where the first argument says whether the text begins at the start of a component.
+-- Which texts are matched, where the first argument says whether the text begins at the start of a
+-- component.
 abbrev pub Texts : Type 0
 Texts = Bool → List ℕ → Bool
 
--- The texts that begin with a character which passes, and go on as `rest` says. Only `/` starts a component.
+-- The texts that begin with a character which passes, and go on as `rest` says. Only `/` starts a
+-- component.
 abbrev pub begins : (ℕ → Bool) → Texts → Texts
 begins passes rest first [] = false
 begins passes rest first (c ∷ t) = passes c && rest (c == 47) t
 
--- What `*` takes: no `/`, and no `.` in front at the start of a component.
+-- What `*` takes: no `/`, and no `.` at the start of a component.
 abbrev pub is_run : Bool → List ℕ → Bool
 is_run first u = list_all (λ c. not (c == 47)) u && not (first && slice_index u 0 == 46)
 
@@ -33,7 +35,8 @@ abbrev pub piece : Piece → Texts → Texts
 piece (Lit c) rest = begins (λ d. d == c) rest
 piece Any rest = begins (λ d. not (d == 47)) rest
 piece (OneOf cs) rest = begins (λ d. list_any (λ c. c == d) cs) rest
-piece Run rest = λ first t. list_any (λ s. is_run first s.0 && rest (first && length s.0 == 0) s.1) (splits t)
+piece Run rest =
+    λ first t. list_any (λ s. is_run first s.0 && rest (first && length s.0 == 0) s.1) (splits t)
 
 abbrev pub pieces : List Piece → Texts → Texts
 pieces [] rest = rest
@@ -49,7 +52,8 @@ glob [] = no_more
 glob (One p ∷ ps) = piece p (glob ps)
 glob (Brace choices ∷ ps) = λ first t. list_any (λ c. pieces c (glob ps) first t) choices
 
--- The lists of pieces that a pattern stands for: one choice of each brace, the leftmost brace varying slowest.
+-- The lists of pieces that a pattern stands for: one choice of each brace, the leftmost brace
+-- varying slowest.
 abbrev pub choices : List Part → List (List Piece)
 choices [] = [] ∷ []
 choices (One p ∷ ps) = map (λ c. p ∷ c) (choices ps)
@@ -60,7 +64,7 @@ by_kind kind.Name pattern p = glob pattern true (last_name p)
 by_kind kind.Path pattern p = glob pattern true (text_of p)
 by_kind kind.BelowPath pattern p = list_any (λ q. glob pattern true (text_of q)) (prefixes p)
 
--- A specification matches a path by its last name, by its whole text, or by the text of some path over it.
--- Nothing matches the empty path.
+-- A specification matches a path by its last name, by its whole text, or by the text of some path
+-- over it. Nothing matches the empty path.
 unfoldable pub matches : Specification → Path → Bool
 matches s p = not (length p == 0) && by_kind s.kind s.pattern p

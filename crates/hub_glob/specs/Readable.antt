@@ -1,4 +1,5 @@
--- What holds of every specification that is read: it can be written, and what is written is read as it again.
+-- What holds of every specification that is read: it can be written, and what is written is read as
+-- it again.
 use Rattle.std.specs.Prelude.{◌≡◌, ◌≤◌, ℕ, Bool, true, false, not, ◌&&◌, ◌||◌, ◌==◌, nat_lt, List, [], ◌∷◌}
 use Rattle.std.specs.List.{AllByRecursion}
 use lib.Utf8.{scalar}
@@ -10,7 +11,8 @@ use Rattle.hub_glob.specs.declared.piece.TheConstants.{PATTERN_CHARACTERS, PATTE
 use Rattle.hub_glob.specs.Specification.{Specification, pattern_size, choice_count, is_name_kind}
 use Rattle.hub_text.specs.Blanks.{is_blank}
 
--- A member that is followed by a `-` and a further member is ASCII, since it is written as a range (`members_text`).
+-- A member that is followed by a `-` and a further member is ASCII, since it is written as a range
+-- (`members_text`).
 abbrev pub IsAsciiBeforeDash : ℕ → List ℕ → Type 0
 IsAsciiBeforeDash c [] = Unit {0}
 IsAsciiBeforeDash c (d ∷ []) = Unit {0}
@@ -19,7 +21,8 @@ IsAsciiBeforeDash c (d ∷ e ∷ cs) = (d == 45) ≡ true → nat_lt 127 c ≡ f
 -- The members of a set are characters (Unicode scalar values), and none is `/`.
 abbrev pub AreReadableMembers : List ℕ → Type 0
 AreReadableMembers [] = Unit {0}
-AreReadableMembers (c ∷ cs) = ((c == 47) ≡ false) × (scalar c ≡ true) × IsAsciiBeforeDash c cs × AreReadableMembers cs
+AreReadableMembers (c ∷ cs) =
+    ((c == 47) ≡ false) × (scalar c ≡ true) × IsAsciiBeforeDash c cs × AreReadableMembers cs
 
 -- A set has a member, and the first one is neither `^` nor `!`.
 abbrev pub IsReadableSet : List ℕ → Type 0
@@ -37,7 +40,8 @@ IsReadablePiece in_name (OneOf cs) = IsReadableSet cs
 abbrev pub IsReadablePart : Bool → Part → Type 0
 IsReadablePart in_name (One p) = IsReadablePiece in_name p
 IsReadablePart in_name (Brace []) = ⊥
-IsReadablePart in_name (Brace (c ∷ cs)) = AllByRecursion (AllByRecursion (IsReadablePiece in_name)) (c ∷ cs)
+IsReadablePart in_name (Brace (c ∷ cs)) =
+    AllByRecursion (AllByRecursion (IsReadablePiece in_name)) (c ∷ cs)
 
 -- A pattern is not empty, and does not begin with a literal that passes the test.
 abbrev pub PieceAvoids : (ℕ → Bool) → Piece → Type 0

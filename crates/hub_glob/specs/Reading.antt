@@ -19,7 +19,8 @@ use Rattle.hub_glob.specs.declared.fault.GlobFault.{GlobFault}
 use Rattle.hub_glob.specs.declared.fault.GlobFault.TheVariants as fault
 
 infixl 10 ◌>>=◌
-abbrev pub ◌>>=◌ : {A B : Type 0} → Result A GlobFault → (A → Result B GlobFault) → Result B GlobFault
+abbrev pub ◌>>=◌ : {A B : Type 0} → Result A GlobFault → (A → Result B GlobFault)
+    → Result B GlobFault
 (Ok x) >>= f = f x
 (Err e) >>= f = Err e
 
@@ -27,8 +28,8 @@ abbrev pub ◌>>=◌ : {A B : Type 0} → Result A GlobFault → (A → Result B
 abbrev pub is_special : ℕ → Bool
 is_special c = list_any (λ d. d == c) (codes "*?[]{},\\")
 
--- A pattern's characters as they are meant, where the first argument says whether a `\` stands before them. Behind a
--- `\` that makes nothing literal nothing is read.
+-- A pattern's characters as they are meant, where the first argument says whether a `\` stands
+-- before them. After a `\` that makes nothing literal nothing is read.
 abbrev pub tokens : Bool → List ℕ → List Token
 tokens false [] = []
 tokens true [] = Stray ∷ []
@@ -49,7 +50,8 @@ token_character Stray = Err fault.BadEscape
 abbrev pub range_characters : ℕ → ℕ → Result (List ℕ) GlobFault
 range_characters low high =
     if nat_lt 127 low || nat_lt 127 high || nat_lt high low then Err fault.BadRange
-    else (if nat_le low 47 && nat_le 47 high then Err fault.SlashInSet else Ok (range_with_len low (high + 1 - low)))
+    else (if nat_le low 47 && nat_le 47 high then Err fault.SlashInSet
+    else Ok (range_with_len low (high + 1 - low)))
 
 abbrev pub one_character : ℕ → Result (List ℕ) GlobFault
 one_character c = if c == 47 then Err fault.SlashInSet else Ok (c ∷ [])
@@ -58,17 +60,21 @@ abbrev pub member : Token → Result (List ℕ) GlobFault
 member t = token_character t >>= one_character
 
 abbrev pub range_member : Token → Token → Result (List ℕ) GlobFault
-range_member low high = token_character low >>= λ a. token_character high >>= λ b. range_characters a b
+range_member low high =
+    token_character low >>= λ a. token_character high >>= λ b. range_characters a b
 
-abbrev pub then_members : Result (List ℕ) GlobFault → Result (List ℕ) GlobFault → Result (List ℕ) GlobFault
+abbrev pub then_members : Result (List ℕ) GlobFault → Result (List ℕ) GlobFault
+    → Result (List ℕ) GlobFault
 then_members first rest = first >>= λ xs. rest >>= λ ys. Ok (xs ++ ys)
 
--- A `-` with a token before and behind it makes a range of the two.
+-- A `-` with a token before and after it makes a range of the two.
 abbrev pub members : List Token → Result (List ℕ) GlobFault
 members [] = Ok []
 members (a ∷ []) = then_members (member a) (members [])
 members (a ∷ b ∷ []) = then_members (member a) (members (b ∷ []))
-members (a ∷ b ∷ c ∷ ts) = if is_plain 45 b then then_members (range_member a c) (members ts) else then_members (member a) (members (b ∷ c ∷ ts))
+members (a ∷ b ∷ c ∷ ts) =
+    if is_plain 45 b then then_members (range_member a c) (members ts)
+    else then_members (member a) (members (b ∷ c ∷ ts))
 
 abbrev pub is_negated : List Token → Bool
 is_negated [] = false
@@ -76,7 +82,9 @@ is_negated (t ∷ ts) = is_plain 94 t || is_plain 33 t
 
 -- A set, by what stands between its `[` and the next `]`, or the end of the pattern.
 abbrev pub set_of : Bool → List ℕ → Result Piece GlobFault
-set_of closed cs = if not closed then Err fault.OpenBracket else (if length cs == 0 then Err fault.BadRange else Ok (OneOf cs))
+set_of closed cs =
+    if not closed then Err fault.OpenBracket
+    else (if length cs == 0 then Err fault.BadRange else Ok (OneOf cs))
 
 abbrev pub set_piece : List Token → Bool → Result Piece GlobFault
 set_piece ts closed = if is_negated ts then Err fault.NegatedSet else members ts >>= set_of closed
@@ -98,8 +106,8 @@ character_sign c =
     else (if c == 125 then Close
     else (if c == 44 then Comma else Means (Lit c)))))
 
--- The signs of a pattern: each a piece, or a `{`, `,` or `}`, or a fault; a `/` outside brackets is one in a `Name`
--- pattern. Inside brackets, with the tokens since the `[`.
+-- The signs of a pattern: each a piece, or a `{`, `,` or `}`, or a fault; a `/` outside brackets is
+-- one in a `Name` pattern. Inside brackets, with the tokens since the `[`.
 abbrev pub signs : Bool → Option (List Token) → List Token → List (Result Sign GlobFault)
 signs in_name None [] = []
 signs in_name (Some set) [] = set_sign set false ∷ []
@@ -107,8 +115,11 @@ signs in_name None (Stray ∷ ts) = Err fault.BadEscape ∷ []
 signs in_name None (Escaped c ∷ ts) = Ok (Means (Lit c)) ∷ signs in_name None ts
 signs in_name None (Plain c ∷ ts) =
     if c == 91 then signs in_name (Some []) ts
-    else (if c == 47 && in_name then Err fault.SlashInName ∷ [] else Ok (character_sign c) ∷ signs in_name None ts)
-signs in_name (Some set) (t ∷ ts) = if is_plain 93 t then set_sign set true ∷ signs in_name None ts else signs in_name (Some (set ++ t ∷ [])) ts
+    else (if c == 47 && in_name then Err fault.SlashInName ∷ []
+    else Ok (character_sign c) ∷ signs in_name None ts)
+signs in_name (Some set) (t ∷ ts) =
+    if is_plain 93 t then set_sign set true ∷ signs in_name None ts
+    else signs in_name (Some (set ++ t ∷ [])) ts
 
 -- The first sign is that fault.
 abbrev pub Faults : GlobFault → List (Result Sign GlobFault) → Type 0
@@ -120,9 +131,10 @@ then_part p rest = rest >>= λ ps. Ok (p ∷ ps)
 abbrev pub brace : List (List Piece) → Part
 brace cs = Brace cs
 
--- The parts of a pattern; inside a brace, with the choices that are done and the one that is read. A `,` or a `}` that
--- separates or closes nothing is literal.
-abbrev pub parts : Option (List (List Piece) × List Piece) → List (Result Sign GlobFault) → Result (List Part) GlobFault
+-- The parts of a pattern; inside a brace, with the choices that are done and the one that is read.
+-- A `,` or a `}` that separates or closes nothing is literal.
+abbrev pub parts : Option (List (List Piece) × List Piece) → List (Result Sign GlobFault)
+    → Result (List Part) GlobFault
 parts None [] = Ok []
 parts (Some b) [] = Err fault.OpenBrace
 parts o (Err f ∷ ss) = Err f
@@ -133,16 +145,18 @@ parts None (Ok Close ∷ ss) = then_part (One (Lit 125)) (parts None ss)
 parts (Some (done, current)) (Ok (Means p) ∷ ss) = parts (Some (done, current ++ p ∷ [])) ss
 parts (Some (done, current)) (Ok Open ∷ ss) = Err fault.NestedBraces
 parts (Some (done, current)) (Ok Comma ∷ ss) = parts (Some (done ++ current ∷ [], [])) ss
-parts (Some (done, current)) (Ok Close ∷ ss) = then_part (Brace (done ++ current ∷ [])) (parts None ss)
+parts (Some (done, current)) (Ok Close ∷ ss) =
+    then_part (Brace (done ++ current ∷ [])) (parts None ss)
 
 abbrev pub few_choices : List Part → Result (List Part) GlobFault
-few_choices ps = if nat_lt PATTERN_CHOICES (choice_count ps) then Err fault.TooManyChoices else Ok ps
+few_choices ps =
+    if nat_lt PATTERN_CHOICES (choice_count ps) then Err fault.TooManyChoices else Ok ps
 
 abbrev pub parts_of : Bool → List ℕ → Result (List Part) GlobFault
 parts_of in_name cs = parts None (signs in_name None (tokens false cs))
 
--- A pattern isn't empty, isn't too long and doesn't stand for too many choices. One for a path or for all below it
--- doesn't begin with `/`.
+-- A pattern isn't empty, isn't too long and doesn't stand for too many choices. One for a path or
+-- for all below it doesn't begin with `/`.
 abbrev pub pattern_reading : Kind → List ℕ → Result (List Part) GlobFault
 pattern_reading k cs =
     if length cs == 0 then Err fault.EmptyPattern
@@ -160,5 +174,6 @@ kind_reading w =
 -- A specification is a kind, blanks, and a pattern.
 abbrev pub spec_reading : List ℕ → Result Specification GlobFault
 spec_reading cs =
-    kind_reading (before_first is_blank cs) >>= λ k. pattern_reading k (skip_blanks (after_first is_blank cs))
+    kind_reading (before_first is_blank cs) >>= λ k. pattern_reading k
+    (skip_blanks (after_first is_blank cs))
     >>= λ ps. Ok (record { kind = k; pattern = ps })

@@ -10,7 +10,8 @@ pub record Specification : Type 0 where
   pub kind : Kind
   pub pattern : List Part
 
--- How many pieces the choices of a brace have together, and how many a pattern has, its choices all counted.
+-- How many pieces the choices of a brace have together, and how many a pattern has, its choices all
+-- counted.
 abbrev pub choices_size : List (List Piece) → ℕ
 choices_size [] = 0
 choices_size (c ∷ cs) = length c + choices_size cs

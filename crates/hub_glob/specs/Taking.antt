@@ -1,12 +1,12 @@
 -- Which pieces take a character next.
 use Rattle.std.specs.Prelude.{Bool, true, false, not, ◌&&◌, ◌==◌}
 use Rattle.std.specs.List.{list_any}
-use Rattle.hub_glob.specs.declared.piece.Next.{Next}
+use Rattle.hub_glob.specs.declared.piece.NextCharacter.{NextCharacter}
 use Rattle.hub_glob.specs.declared.piece.Piece.{Piece}
 use Rattle.hub_glob.specs.declared.piece.Piece.TheVariants.{Lit, Any, Run, OneOf}
 
 -- Whether a piece takes that character next: a `*` no `/`, and no `.` at the start of a component.
-abbrev pub takes : Next → Piece → Bool
+abbrev pub takes : NextCharacter → Piece → Bool
 takes x (Lit c) = x.character == c
 takes x Any = not (x.character == 47)
 takes x Run = not (x.character == 47) && not (x.first && x.character == 46)

@@ -13,7 +13,8 @@ use Rattle.hub_glob.specs.Reading.{is_special}
 abbrev pub literal : ℕ → List ℕ
 literal c = if is_special c then 92 ∷ c ∷ [] else c ∷ []
 
--- Where a `-` and a further member follow, a member is written as the range of itself alone: so the `-` makes no range.
+-- Where a `-` and a further member follow, a member is written as the range of itself alone: so the
+-- `-` makes no range.
 abbrev pub member_text : ℕ → ℕ → List ℕ
 member_text c d = if d == 45 then literal c ++ 45 ∷ literal c else literal c
 

@@ -3,7 +3,7 @@
 //! - [`PathSpec`] is a kind and a pattern. It is read from a text (`PathSpec::read`), written as a text (`text`), and
 //!   asked whether it matches a path (`matches`) or a prefix of a path (`matches_front`).
 //! - [`Part`] and [`Piece`] are what a pattern is made of, and `choices` lists the patterns without braces that it
-//!   stands for. `Piece::takes` says whether a piece takes a character ([`Next`]).
+//!   stands for. `Piece::takes` says whether a piece takes a character ([`NextCharacter`]).
 //! - [`GlobFault`] says why a text is not a specification.
 //! - [`laws`]: a pattern matches what one of its choices matches, and a specification is read from its own text.
 //!
@@ -27,4 +27,4 @@ mod writing;
 
 pub use fault::GlobFault;
 pub use path_spec::{Kind, PathSpec};
-pub use piece::{Next, PATTERN_CHARACTERS, PATTERN_CHOICES, Part, Piece};
+pub use piece::{NextCharacter, PATTERN_CHARACTERS, PATTERN_CHOICES, Part, Piece};

@@ -118,7 +118,7 @@ impl PathSpec {
         choices_of(*self.pattern.allocator(), self.pattern.as_slice())
     }
 
-    /// Whether the specification matches a path. No specification matches the path without names.
+    /// Returns whether the specification matches a path. No specification matches the path without names.
     ///
     /// The pattern is matched character by character (`Walk`). The time is at most the number of its pieces times the
     /// number of characters, and the characters after which no match is possible cost no look at the pattern.
@@ -128,7 +128,7 @@ impl PathSpec {
         self.matches_front(path, path.len())
     }
 
-    /// Whether the specification matches the path of the first `len` names.
+    /// Returns whether the specification matches the path of the first `len` names.
     pub fn matches_front(&self, path: &RelPath, len: usize) -> bool
         requires { len ≤ length path.now }
         ensures { result ≡ glob.matches self.now (take len path.now) }
@@ -189,7 +189,7 @@ impl Exact for PathSpec {
     ghost exact = { specification_exact kind.exact-law part.exact-law };
 }
 
-/// Whether a pattern matches the last of the first `len` names.
+/// Returns whether a pattern matches the last of the first `len` names.
 fn matches_name(parts: &[Part], path: &RelPath, len: usize) -> bool
     requires small { pattern_size parts.now ≤ PATTERN_CHARACTERS }
     requires some { 0 < len }
@@ -199,7 +199,7 @@ fn matches_name(parts: &[Part], path: &RelPath, len: usize) -> bool
     Walk::new().push_name(parts, path.name(len - 1).text())
 }
 
-/// Whether a pattern matches the text of the first `len` names.
+/// Returns whether a pattern matches the text of the first `len` names.
 fn matches_text(parts: &[Part], path: &RelPath, len: usize) -> bool
     requires small { pattern_size parts.now ≤ PATTERN_CHARACTERS }
     requires some { 0 < len }
@@ -214,7 +214,7 @@ fn matches_text(parts: &[Part], path: &RelPath, len: usize) -> bool
     matched
 }
 
-/// Whether a pattern matches the text of the first names, up to `len` of them.
+/// Returns whether a pattern matches the text of the first names, up to `len` of them.
 fn matches_above(parts: &[Part], path: &RelPath, len: usize) -> bool
     requires small { pattern_size parts.now ≤ PATTERN_CHARACTERS }
     requires within { len ≤ length path.now }

@@ -24,7 +24,7 @@ pub enum Piece {
 
 /// A character of a text, and where it stands.
 #[derive(Clone, Copy, Debug)]
-pub struct Next {
+pub struct NextCharacter {
     /// The character.
     pub character: char,
     /// Whether it stands at the start of a component: at the start of the text, or after a `/`.
@@ -32,8 +32,8 @@ pub struct Next {
 }
 
 impl Piece {
-    /// Whether the piece takes this character next.
-    pub fn takes(&self, next: Next) -> bool
+    /// Returns whether the piece takes this character next.
+    pub fn takes(&self, next: NextCharacter) -> bool
         ensures { result ≡ taking.takes next self.now }
     {
         match self {
@@ -44,7 +44,7 @@ impl Piece {
         }
     }
 
-    /// Whether the piece is a `*`, which may take any number of characters, or none.
+    /// Returns whether the piece is a `*`, which may take any number of characters, or none.
     pub fn is_star(&self) -> bool
         ensures { result ≡ taking.is_star self.now }
     {

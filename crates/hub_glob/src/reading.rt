@@ -1,6 +1,7 @@
 //! Reading path specifications.
 ghost use Rattle.std.specs.Prelude.{◌≡◌, ◌==◌, ◌⊎◌, ◌+◌, ◌-◌, ◌<◌, ◌≤◌, ◌∷◌, ◌++◌, [], length, nat_lt, nat_le, Bool, true, false, List, Option, Some, None, Result, Ok, Err, IfOk, IfErr, IfSome, IsSome, MatchOption, chars};
 ghost use Rattle.std.specs.List.{before_first, after_first, range_with_len};
+ghost use Rattle.hub_text.specs.Fails.{Fails};
 ghost use Rattle.hub_glob.specs.declared.fault.GlobFault.{GlobFault};
 ghost use Rattle.hub_glob.specs.declared.reading.Sign.{Sign as SignValue};
 ghost use Rattle.hub_glob.specs.Specification as specification;
@@ -61,7 +62,7 @@ pub(crate) fn read_kind(word: &str) -> Result<Kind, GlobFault>
     }
 }
 
-/// Whether a `\` makes a character literal.
+/// Returns whether a `\` makes a character literal.
 pub(crate) fn is_special(c: char) -> bool
     ensures { result ≡ reading.is_special c }
 {
@@ -365,7 +366,7 @@ fn character(token: Token) -> Result<char, GlobFault>
 fn push_one(set: &mut Vec<char>, token: Token) -> Result<(), GlobFault>
     ensures ok { IfOk result (λ _.
         reading.Adds (reading.member token) set.old.items set.new.items) }
-    ensures err { IfErr result (λ e. (e ≡ GlobFault.OutOfMemory) ⊎ (reading.member token ≡ Err e)) }
+    ensures err { IfErr result (Fails GlobFault.OutOfMemory (reading.member token)) }
 {
     let c = character(token)?;
     if c == '/' {
@@ -407,7 +408,7 @@ fn push_codes(set: &mut Vec<char>, low: u8, high: u8) -> Result<(), AllocError>
     Ok(())
 }
 
-/// Whether a pattern stands for more choices than it may.
+/// Returns whether a pattern stands for more choices than it may.
 pub(crate) fn has_many_choices(parts: &[Part]) -> bool
     ensures { result ≡ nat_lt PATTERN_CHOICES (specification.choice_count parts.now) }
 {

@@ -5,7 +5,7 @@ ghost use Rattle.hub_glob.specs.Specification.{choices_size, pattern_size};
 ghost use Rattle.hub_glob.specs.Sweep as sweep;
 ghost use Rattle.arrayvec.specs.ArrayVec.{array_vec_len};
 
-use crate::piece::{Next, PATTERN_CHARACTERS, Part, Piece};
+use crate::piece::{NextCharacter, PATTERN_CHARACTERS, Part, Piece};
 use arrayvec::ArrayVec;
 use hub_text::Items;
 use std::marker::Model;
@@ -21,7 +21,13 @@ pub(crate) struct Carry {
 type Places = ArrayVec<bool, PATTERN_CHARACTERS>;
 
 /// Sweeps one piece: adds its place to those of the text with the character.
-fn sweep_piece(next: Next, piece: &Piece, old: &[bool], new: &mut Places, carry: Carry) -> Carry
+fn sweep_piece(
+    next: NextCharacter,
+    piece: &Piece,
+    old: &[bool],
+    new: &mut Places,
+    carry: Carry,
+) -> Carry
     requires { array_vec_len new.old < PATTERN_CHARACTERS }
     ensures len { array_vec_len new.new ≡ array_vec_len new.old + 1 }
     ensures swept { sweep.swept_piece next old.now piece.now
@@ -40,7 +46,7 @@ fn sweep_piece(next: Next, piece: &Piece, old: &[bool], new: &mut Places, carry:
 
 /// Sweeps the pieces one after another.
 fn sweep_pieces(
-    next: Next,
+    next: NextCharacter,
     pieces: &[Piece],
     old: &[bool],
     new: &mut Places,
@@ -60,7 +66,7 @@ fn sweep_pieces(
 
 /// Sweeps the choices of a brace, each entered as the brace is.
 fn sweep_choices(
-    next: Next,
+    next: NextCharacter,
     choices: &[Items<Piece>],
     old: &[bool],
     new: &mut Places,
@@ -88,7 +94,7 @@ fn sweep_choices(
 
 /// Sweeps the parts of a pattern.
 fn sweep_parts(
-    next: Next,
+    next: NextCharacter,
     parts: &[Part],
     old: &[bool],
     new: &mut Places,
@@ -157,7 +163,7 @@ impl Walk {
         }
     }
 
-    /// Whether no place is active, so that no further text is matched.
+    /// Returns whether no place is active, so that no further text is matched.
     fn is_stuck(&self) -> bool
         ensures { result ≡ sweep.is_stuck self.now }
     {
@@ -199,7 +205,7 @@ impl Walk {
         ensures pushed { self.new
             ≡ sweep.pushed_by (sweep.swept parts.now self.old character) character }
     {
-        let next = Next {
+        let next = NextCharacter {
             character,
             first: self.first,
         };

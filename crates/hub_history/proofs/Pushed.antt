@@ -13,16 +13,16 @@ use Rattle.hub_job.specs.declared.answer.Answer.TheVariants.{Seen, Bytes, Done, 
 use Rattle.hub_job.specs.declared.log.Entry.{Entry}
 use Rattle.hub_job.specs.declared.op.Op.{Op}
 use Rattle.hub_job.specs.declared.op.Op.TheVariants.{Look, Fetch, Set}
-use Rattle.hub_job.specs.Machine.{answer, after, takes_memory, Fits}
+use Rattle.hub_job.specs.Machine.{answer, after, is_shared, Fits}
 use Rattle.hub_job.specs.History.{IsAnswerOf}
 use Rattle.hub_history.specs.Book.{BookValue, IsBook, has_job, entry_of}
 
--- what takes memory to copy was read, and changed nothing
-pub nothing_changed : (m : Replica) (op : Op) (a : Answer) → Fits op a → IsTrue (takes_memory a) → after m op ≡ m
+-- what copies share was read, and changed nothing
+pub nothing_changed : (m : Replica) (op : Op) (a : Answer) → Fits op a → IsTrue (is_shared a) → after m op ≡ m
 unfolding after
 nothing_changed m (Look d) a fits t = refl
 nothing_changed m (Fetch p) a fits t = refl
-nothing_changed m (Set p c) (Seen mk ns o) fits t = absurd fits
+nothing_changed m (Set p c) (Seen s) fits t = absurd fits
 nothing_changed m (Set p c) (Bytes b) fits t = absurd fits
 nothing_changed m (Set p c) Done fits t = absurd (false≢true t)
 nothing_changed m (Set p c) (Refused f) fits t = absurd (false≢true t)

@@ -11,12 +11,12 @@ use Rattle.hub_tree.specs.declared.contents.Contents.TheVariants as contents
 use Rattle.hub_tree.specs.declared.contents.Mark.TheVariants as mark
 use Rattle.hub_job.specs.declared.op.Op.TheVariants.{Look, Set}
 use Rattle.hub_job.specs.declared.answer.OpFault.TheVariants.{NoParent}
-use Rattle.hub_job.specs.declared.answer.Answer.TheVariants.{Seen, Done, Refused}
+use Rattle.hub_job.specs.declared.answer.Answer.TheVariants.{Done, Refused}
 use Rattle.hub_job.specs.declared.log.Entry.{Entry}
 use Rattle.hub_glob.specs.Glob.{matches}
 use Rattle.hub_reach.specs.Reach.{reach}
 use Rattle.hub_reconcile.specs.Sight.{sight}
-use Rattle.hub_job.specs.Machine.{answer, after}
+use Rattle.hub_job.specs.Machine.{answer, after, sees}
 use Rattle.hub_history.specs.Book.{BookValue, IsBook, entry_of, has_job, new_book, with_entry}
 
 -- What these examples compute.
@@ -71,7 +71,7 @@ a_new_book_is_a_book = record { legal = tt; replays = refl }
 
 -- On an empty replica nothing is seen, and what has no parent is refused.
 abbrev seen : Entry
-seen = entry_of 0 (Look (path_of (codes "docs"))) (Seen mark.Absent [] false)
+seen = entry_of 0 (Look (path_of (codes "docs"))) (sees mark.Absent [] false)
 
 abbrev refused : Entry
 refused = entry_of 1 (Set (path_of (codes "photos/x")) contents.Directory) (Refused NoParent)

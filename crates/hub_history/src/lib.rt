@@ -4,7 +4,7 @@
 //!   the history is legal, and leads from the opening to the replica.
 //! - [`Desk`]: a book behind a lock, at which threads [`Desk::step`] one operation at a time.
 //! - [`Seat`]: the right to step at a desk. It counts the steps made with it.
-//! - [`Gate`]: what a caller does around each step.
+//! - [`Gate`]: what a caller does around each step, and when a job has ended.
 //!
 //! ```text
 //! let (desk, seats) = Desk::new(alloc, Book::new(alloc, &set, root, tree)?, 2)?;

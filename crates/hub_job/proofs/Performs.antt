@@ -18,10 +18,10 @@ use Rattle.hub_tree.specs.declared.contents.Mark.{Mark}
 use Rattle.hub_tree.specs.declared.contents.Mark.TheVariants as mark
 use Rattle.hub_tree.specs.declared.fault.SetFault.{SetFault}
 use Rattle.hub_tree.specs.declared.fault.SetFault.TheVariants as set
-use Rattle.hub_reconcile.specs.Sight.{Sight, is_kept, is_kept_parent, reached_names, directory_or_absent, sight}
-use Rattle.hub_job.specs.declared.answer.Answer.TheVariants.{Seen, Bytes, Refused}
+use Rattle.hub_reconcile.specs.Sight.{Sight, is_kept_value, is_kept_parent, reached_names, directory_or_absent, sight}
+use Rattle.hub_job.specs.declared.answer.Answer.TheVariants.{Bytes, Refused}
 use Rattle.hub_job.specs.declared.answer.OpFault.TheVariants.{NoFile}
-use Rattle.hub_job.specs.Machine.{fetched, seen}
+use Rattle.hub_job.specs.Machine.{fetched}
 
 -- A Fetch.
 pub gives_bytes : (c : Contents) (bytes : List ℕ) → Some bytes ≡ bytes_of c → Bytes bytes ≡ fetched c
@@ -121,39 +121,42 @@ seen_at_top P m = record { mark = mark.Directory; names = reached_names P m []; 
 abbrev seen_elsewhere : Parts → Replica → Path → Sight
 seen_elsewhere P m d = record { mark = directory_or_absent (is_kept_parent P d && is_directory (contents_at m d)); names = []; others = false }
 
-sight_by : (P : Parts) (r : Path) (m : Replica) (d : Path) (b c : Bool) → reach P d ≡ b → (length d == 0 && is_kept P []) ≡ c
+sight_by : (P : Parts) (r : Path) (m : Replica) (d : Path) (b c : Bool) → reach P d ≡ b → (length d == 0 && is_kept_value P []) ≡ c
     → sight P r m d ≡ cond b (seen_there P r m d b) (cond c (seen_at_top P m) (seen_elsewhere P m d))
 unfolding sight
 sight_by P r m d b c h k =
-    ap (λ b. cond b (seen_there P r m d b) (cond (length d == 0 && is_kept P []) (seen_at_top P m) (seen_elsewhere P m d))) h
+    ap (λ b. cond b (seen_there P r m d b) (cond (length d == 0 && is_kept_value P []) (seen_at_top P m) (seen_elsewhere P m d))) h
     ∙ ap (λ c. cond b (seen_there P r m d b) (cond c (seen_at_top P m) (seen_elsewhere P m d))) k
 
-same_seen : (a b : Mark) (ns ms : List Name) (o q : Bool) → a ≡ b → ns ≡ ms → o ≡ q → Seen a ns o ≡ Seen b ms q
-same_seen a b ns ms o q e f g = cc
+abbrev sight_with : Mark → List Name → Bool → Sight
+sight_with m ns o = record { mark = m; names = ns; others = o }
+
+same_seen : (a b : Mark) (ns ms : List Name) (o q : Bool) → a ≡ b → ns ≡ ms → o ≡ q → sight_with a ns o ≡ sight_with b ms q
+same_seen a b ns ms o q e f g i = sight_with (e i) (f i) (g i)
 
 pub sees_reached : (P : Parts) (r : Path) (m : Replica) (d : Path) (mk : Mark) (ns : List Name) (o : Bool) → reach P d ≡ true → mk ≡ mark_at m d
     → ns ≡ filter (λ n. reach P (d ++ n ∷ [])) (names_at m d) → o ≡ (writes_at P r d && list_any (λ n. not (reach P (d ++ n ∷ []))) (names_at m d))
-    → Seen mk ns o ≡ seen (sight P r m d)
+    → sight_with mk ns o ≡ sight P r m d
 sees_reached P r m d mk ns o h em en eo =
     same_seen mk (mark_at m d) ns (reached_names P m d) o (writes_at P r d && true && list_any (λ q. not (reach P q)) (children m d)) em (en ∙ names_reached P m d)
     (eo ∙ (ap (λ b. writes_at P r d && b) (names_not_reached P m d) ∙ ap (λ b. b && list_any (λ q. not (reach P q)) (children m d)) (sym (and-true (writes_at P r d)))))
-    ∙ ap seen (sym (sight_by P r m d true (length d == 0 && is_kept P []) h refl))
+    ∙ sym (sight_by P r m d true (length d == 0 && is_kept_value P []) h refl)
 
 pub sees_top : (P : Parts) (r : Path) (m : Replica) (d : Path) (ns : List Name) → reach P d ≡ false → (length d == 0 && list_any (path_eq d) P.paths) ≡ true
-    → ns ≡ filter (λ n. reach P (d ++ n ∷ [])) (names_at m d) → Seen mark.Directory ns false ≡ seen (sight P r m d)
+    → ns ≡ filter (λ n. reach P (d ++ n ∷ [])) (names_at m d) → sight_with mark.Directory ns false ≡ sight P r m d
 sees_top P r m [] ns h k en =
     same_seen mark.Directory mark.Directory ns (reached_names P m []) false false refl (en ∙ names_reached P m []) refl
-    ∙ ap seen (sym (sight_by P r m [] false true h (and-true (list_any (path_eq []) P.paths) ∙ k)))
+    ∙ sym (sight_by P r m [] false true h (and-true (list_any (path_eq []) P.paths) ∙ k))
 sees_top P r m (n ∷ d) ns h k en = absurd (false≢true (sym (ap (λ b. b && list_any (path_eq (n ∷ d)) P.paths) (one_item n d)) ∙ k))
 
 pub sees_elsewhere : (P : Parts) (r : Path) (m : Replica) (d : Path) (mk : Mark) → reach P d ≡ false → (length d == 0 && list_any (path_eq d) P.paths) ≡ false
-    → mk ≡ directory_or_absent (is_kept_parent P d && is_directory (contents_at m d)) → Seen mk [] false ≡ seen (sight P r m d)
+    → mk ≡ directory_or_absent (is_kept_parent P d && is_directory (contents_at m d)) → sight_with mk [] false ≡ sight P r m d
 sees_elsewhere P r m [] mk h k em =
     same_seen mk (directory_or_absent (is_kept_parent P [] && is_directory (contents_at m []))) [] [] false false em refl refl
-    ∙ ap seen (sym (sight_by P r m [] false false h (and-true (list_any (path_eq []) P.paths) ∙ k)))
+    ∙ sym (sight_by P r m [] false false h (and-true (list_any (path_eq []) P.paths) ∙ k))
 sees_elsewhere P r m (n ∷ d) mk h k em =
     same_seen mk (directory_or_absent (is_kept_parent P (n ∷ d) && is_directory (contents_at m (n ∷ d)))) [] [] false false em refl refl
-    ∙ ap seen (sym (sight_by P r m (n ∷ d) false false h (ap (λ b. b && is_kept P []) (one_item n d))))
+    ∙ sym (sight_by P r m (n ∷ d) false false h (ap (λ b. b && is_kept_value P []) (one_item n d)))
 
 -- A loop over kept values.
 pub past_all : {X : Type 0} (n : ℕ) (xs : List X) → length xs ≤ n → drop n xs ≡ []

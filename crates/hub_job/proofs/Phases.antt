@@ -149,7 +149,7 @@ no_refusal P O log side op h =
     elim (list_any (λ (e : Logged). is_refused e.step.answer) log) as (λ b. cond b Stopped (look_or Left (look_or Right (step_or_end P O log) (missing P log Right)) (missing P log Left)) ≡ Ask side op → b ≡ false) [ true ↦ λ g. cc | false ↦ λ g. refl ] h
 
 look_fits : (op : Op) (a : Answer) → is_look op ≡ true → Fits op a → (is_look op && not (is_refused a)) ≡ true
-look_fits (Look d) (Seen m ns o) h f = refl
+look_fits (Look d) (Seen s) h f = refl
 look_fits (Look d) (Bytes b) h f = absurd f
 look_fits (Look d) Done h f = absurd f
 look_fits (Look d) (Refused e) h f = absurd f

@@ -61,8 +61,8 @@ waiting_more P ss s qs w =
 
 told_look : (P : Parts) (log : List Logged) (e : Logged) (k : Side) (d : Path) (qs : List Path) (a : Answer) → sights (log ++ e ∷ []) k ≡ sights log k ++ told (Look d) a → Fits (Look d) a
     → IsWaiting P log k (d ∷ qs) → IsWaiting P (log ++ e ∷ []) k (told_to (d ∷ qs) (Look d) a)
-told_look P log e k d qs (Seen m ns o) s fits w =
-    subst (λ ss. needed P ss ≡ seen_paths ss ++ put_all qs (listed d ns)) (sym s) (waiting_more P (sights log k) (d, record { mark = m; names = ns; others = o }) qs w)
+told_look P log e k d qs (Seen v) s fits w =
+    subst (λ ss. needed P ss ≡ seen_paths ss ++ put_all qs (listed d v.names)) (sym s) (waiting_more P (sights log k) (d, v) qs w)
 told_look P log e k d qs (Bytes b) s fits w = absurd fits
 told_look P log e k d qs Done s fits w = absurd fits
 told_look P log e k d qs (Refused f) s fits w = absurd fits

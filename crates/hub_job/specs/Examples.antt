@@ -18,13 +18,13 @@ use Rattle.hub_tree.specs.declared.contents.Mark.TheVariants as mark
 use Rattle.hub_job.specs.declared.op.Op.TheVariants.{Look, Fetch, Set}
 use Rattle.hub_job.specs.declared.op.Next.TheVariants.{Ask, Finished, Stopped}
 use Rattle.hub_job.specs.declared.answer.OpFault.TheVariants.{NoParent}
-use Rattle.hub_job.specs.declared.answer.Answer.TheVariants.{Seen, Bytes, Done, Refused}
+use Rattle.hub_job.specs.declared.answer.Answer.TheVariants.{Bytes, Done, Refused}
 use Rattle.hub_job.specs.declared.log.Logged.{Logged}
 use Rattle.hub_glob.specs.Glob.{matches}
 use Rattle.hub_reach.specs.Reach.{reach}
 use Rattle.hub_reconcile.specs.Sight.{sight}
 use Rattle.hub_reconcile.specs.Items.{items, plan}
-use Rattle.hub_job.specs.Machine.{answer, after, takes_memory}
+use Rattle.hub_job.specs.Machine.{answer, after, is_shared, sees}
 use Rattle.hub_job.specs.Job.{next}
 use Rattle.hub_job.specs.World.{Jobs, opening, turn, run, first_turns}
 
@@ -63,7 +63,7 @@ none = []
 
 an_empty_directory_is_seen :
     answer one (kept (codes "docs")) hub (Look (path_of (codes "docs")))
-    ≡ Seen mark.Directory [] false
+    ≡ sees mark.Directory [] false
 unfolding computed
 an_empty_directory_is_seen =
     let h : T (is_sorted path_cmp entries) = tt in simp (get-from_sorted, entries-from_sorted)
@@ -78,19 +78,19 @@ a_file_without_a_parent_is_refused =
 -- The whole replica is the parent of a kept value of one name: it is a directory, and no more is
 -- told.
 the_parent_of_a_kept_value_is_told_as_a_directory :
-    answer one (kept (codes "docs")) hub (Look []) ≡ Seen mark.Directory [] false
+    answer one (kept (codes "docs")) hub (Look []) ≡ sees mark.Directory [] false
 unfolding computed
 the_parent_of_a_kept_value_is_told_as_a_directory = refl
 
 what_is_not_reached_is_told_as_nothing :
-    answer one (kept (codes "docs/x")) hub (Look []) ≡ Seen mark.Absent [] false
+    answer one (kept (codes "docs/x")) hub (Look []) ≡ sees mark.Absent [] false
 unfolding computed
 what_is_not_reached_is_told_as_nothing = refl
 
-names_and_bytes_take_memory :
-    map takes_memory (Seen mark.Directory [] false ∷ Bytes [] ∷ Done ∷ Refused NoParent ∷ []) ≡ true
+sights_and_bytes_are_shared :
+    map is_shared (sees mark.Directory [] false ∷ Bytes [] ∷ Done ∷ Refused NoParent ∷ []) ≡ true
     ∷ true ∷ false ∷ false ∷ []
-names_and_bytes_take_memory = refl
+sights_and_bytes_are_shared = refl
 
 -- `path = d`, `ignore = Name y`: d has a child y, which isn't reached. Others are told of d where
 -- some change of it is allowed.
@@ -110,7 +110,7 @@ abbrev holding_y : Replica
 holding_y = from_sorted {R = path_cmp} entries_of_d
 
 others_are_told_where_it_writes :
-    answer holding_y without_y hub (Look d) ≡ Seen mark.Directory [] true
+    answer holding_y without_y hub (Look d) ≡ sees mark.Directory [] true
 unfolding computed
 others_are_told_where_it_writes =
     let h : T (is_sorted path_cmp entries_of_d) = tt in simp (get-from_sorted, entries-from_sorted)
@@ -138,25 +138,25 @@ no_changes_at side t = record without_y {
 }
 
 others_are_not_told_where_nothing_is_written :
-    answer holding_y (no_changes_at Left (codes "d")) hub (Look d) ≡ Seen mark.Directory [] false
+    answer holding_y (no_changes_at Left (codes "d")) hub (Look d) ≡ sees mark.Directory [] false
 unfolding computed
 others_are_not_told_where_nothing_is_written =
     let h : T (is_sorted path_cmp entries_of_d) = tt in simp (get-from_sorted, entries-from_sorted)
 
 others_are_told_where_something_may_be_created :
-    answer holding_y (no_updates_at Left (codes "d")) hub (Look d) ≡ Seen mark.Directory [] true
+    answer holding_y (no_updates_at Left (codes "d")) hub (Look d) ≡ sees mark.Directory [] true
 unfolding computed
 others_are_told_where_something_may_be_created =
     let h : T (is_sorted path_cmp entries_of_d) = tt in simp (get-from_sorted, entries-from_sorted)
 
 bars_on_another_path_hide_nothing_here :
-    answer holding_y (no_changes_at Left (codes "y")) hub (Look d) ≡ Seen mark.Directory [] true
+    answer holding_y (no_changes_at Left (codes "y")) hub (Look d) ≡ sees mark.Directory [] true
 unfolding computed
 bars_on_another_path_hide_nothing_here =
     let h : T (is_sorted path_cmp entries_of_d) = tt in simp (get-from_sorted, entries-from_sorted)
 
 bars_on_the_other_root_hide_nothing_here :
-    answer holding_y (no_changes_at Right (codes "d")) hub (Look d) ≡ Seen mark.Directory [] true
+    answer holding_y (no_changes_at Right (codes "d")) hub (Look d) ≡ sees mark.Directory [] true
 unfolding computed
 bars_on_the_other_root_hide_nothing_here =
     let h : T (is_sorted path_cmp entries_of_d) = tt in simp (get-from_sorted, entries-from_sorted)
@@ -174,7 +174,7 @@ a = path_of (codes "a")
 abbrev looked : Side → Mark → Logged
 looked side m = record {
   side = side;
-  step = record { job = 0; op = Look a; answer = Seen m [] false };
+  step = record { job = 0; op = Look a; answer = sees m [] false };
 }
 
 abbrev two_looks : List Logged

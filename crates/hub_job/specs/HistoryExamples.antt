@@ -17,13 +17,13 @@ use Rattle.hub_tree.specs.declared.contents.Mark.TheVariants as mark
 use Rattle.hub_tree.specs.declared.fault.SetFault.TheVariants as set
 use Rattle.hub_job.specs.declared.op.Op.TheVariants.{Look, Set}
 use Rattle.hub_job.specs.declared.answer.OpFault.TheVariants.{NoParent}
-use Rattle.hub_job.specs.declared.answer.Answer.TheVariants.{Seen, Done, Refused}
+use Rattle.hub_job.specs.declared.answer.Answer.TheVariants.{Done, Refused}
 use Rattle.hub_job.specs.declared.log.Entry.{Entry}
 use Rattle.hub_job.specs.declared.log.Logged.{Logged}
 use Rattle.hub_glob.specs.Glob.{matches}
 use Rattle.hub_reach.specs.Reach.{reach}
 use Rattle.hub_reconcile.specs.Sight.{sight}
-use Rattle.hub_job.specs.Machine.{answer, after, changed_unless}
+use Rattle.hub_job.specs.Machine.{answer, after, changed_unless, sees}
 use Rattle.hub_job.specs.History.{replay, IsLegal, entries_of, entries_at}
 
 -- What these examples compute.
@@ -85,7 +85,7 @@ abbrev made : Entry
 made = record { job = 0; op = Set docs contents.Directory; answer = Done }
 
 abbrev seen : Entry
-seen = record { job = 0; op = Look docs; answer = Seen mark.Directory [] false }
+seen = record { job = 0; op = Look docs; answer = sees mark.Directory [] false }
 
 abbrev refused : Entry
 refused = record {
@@ -156,7 +156,7 @@ by_job = refl
 abbrev looked : Side → Logged
 looked side = record {
   side = side;
-  step = record { job = 0; op = Look docs; answer = Seen mark.Absent [] false };
+  step = record { job = 0; op = Look docs; answer = sees mark.Absent [] false };
 }
 
 abbrev log : List Logged

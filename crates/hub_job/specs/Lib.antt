@@ -1,3 +1,4 @@
+pub mod Seen
 pub mod Machine
 pub mod Job
 pub mod World

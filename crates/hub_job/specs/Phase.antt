@@ -32,7 +32,7 @@ IsWaiting P log side ps = needed P (sights log side) ≡ seen_paths (sights log 
 
 -- The names that an answer lists.
 abbrev pub named : Answer → List Name
-named (Seen m ns o) = ns
+named (Seen s) = s.names
 named (Bytes b) = []
 named Done = []
 named (Refused f) = []

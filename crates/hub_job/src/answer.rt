@@ -1,11 +1,10 @@
 ghost use Rattle.std.specs.Prelude.{◌≡◌, ◌↔◌, IfOk, IsTrue, OnErr};
-ghost use Rattle.hub_job.specs.Machine.{Fits, takes_memory};
+ghost use Rattle.hub_job.specs.Machine.{Fits, is_shared};
 
 use crate::op::Op;
-use hub_path::Name;
-use hub_text::Items;
-use hub_tree::{Blob, Mark};
-use std::alloc::{AllocError, Global};
+use crate::sight::Sight;
+use hub_tree::Blob;
+use std::alloc::AllocError;
 use thiserror::Error;
 
 /// Why an operation is refused: the first of these that applies. A `Fetch` knows `NoFile` alone, and a `Set` the others. It is
@@ -32,15 +31,9 @@ pub enum OpFault {
 /// What a replica answers to an operation.
 #[derive(Debug, Drop, PartialEq, Eq)]
 pub enum Answer {
-    /// To a `Look`.
-    Seen {
-        /// The mark of the path.
-        mark: Mark,
-        /// The names of the children that the profile reaches, ascending.
-        names: Items<Name>,
-        /// Whether there is a child that the profile doesn't reach. It is told only where the profile writes the path.
-        others: bool,
-    },
+    /// To a `Look`: the mark of the path, the names of the children that the profile reaches, ascending, and whether there is a
+    /// child that it doesn't reach. That is told only where the profile writes the path.
+    Seen(Sight),
     /// To a `Fetch`: the file. Contracts see its bytes.
     Bytes(Blob),
     /// To a `Set`: it was made.
@@ -50,21 +43,13 @@ pub enum Answer {
 }
 
 impl Answer {
-    /// Copies the answer. Only names and bytes allocate.
+    /// Copies the answer. It allocates nothing, and fails only where a sight or a file has more copies than can be counted.
     pub fn copy(&self) -> Result<Answer, AllocError>
         ensures ok { IfOk result (λ a. a ≡ self.now) }
-        ensures err { OnErr result (IsTrue (takes_memory self.now)) }
+        ensures err { OnErr result (IsTrue (is_shared self.now)) }
     {
         match self {
-            Answer::Seen {
-                mark,
-                names,
-                others,
-            } => Ok(Answer::Seen {
-                mark: *mark,
-                names: copies(names.alloc(), names.as_slice())?,
-                others: *others,
-            }),
+            Answer::Seen(sight) => Ok(Answer::Seen(sight.copy()?)),
             Answer::Bytes(file) => Ok(Answer::Bytes(file.copy()?)),
             Answer::Done => Ok(Answer::Done),
             Answer::Refused(fault) => Ok(Answer::Refused(*fault)),
@@ -77,20 +62,9 @@ impl Answer {
         ensures { IsTrue result ↔ Fits op.now self.now }
     {
         match op {
-            Op::Look(_) => matches!(self, Answer::Seen { .. }),
+            Op::Look(_) => matches!(self, Answer::Seen(_)),
             Op::Fetch(_) => matches!(self, Answer::Bytes(_) | Answer::Refused(_)),
             Op::Set(_, _) => matches!(self, Answer::Done | Answer::Refused(_)),
         }
     }
-}
-
-/// Copies names.
-fn copies(alloc: Global, names: &[Name]) -> Result<Items<Name>, AllocError>
-    ensures { IfOk result (λ ns. ns ≡ names.now) }
-{
-    let mut copies = Vec::with_capacity(alloc, names.len())?;
-    for name in names {
-        copies.push(name.copy()?)?;
-    }
-    Ok(Items::from_vec(copies))
 }

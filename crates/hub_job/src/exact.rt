@@ -12,14 +12,13 @@ impl Exact for OpFault {
 }
 
 impl Exact for Answer {
-    ghost use Rattle.hub_text.specs.Exact.{variants_exact, no_field, last_field, next_field, items_exact, nat_exact, bool_exact};
+    ghost use Rattle.hub_text.specs.Exact.{variants_exact, no_field, last_field, items_exact, nat_exact};
     ghost use Rattle.hub_job.specs.contracts.answer.Answer.{enum};
     ghost use Rattle.hub_job.specs.contracts.exact.OpFaultExact.TheImpl.Laws as fault;
-    ghost use Rattle.hub_tree.specs.contracts.contents.MarkExact.TheImpl.Laws as mark;
+    ghost use Rattle.hub_job.specs.contracts.sight.SightExact.TheImpl.Laws as sight;
 
     ghost exact = { variants_exact enum _ (
-      next_field mark.exact-law
-          (next_field (items_exact (items_exact nat_exact)) (last_field bool_exact)),
+      last_field sight.exact-law,
       (last_field (items_exact nat_exact), (no_field, (last_field fault.exact-law, tt))),
     ) };
 }

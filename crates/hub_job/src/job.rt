@@ -14,6 +14,7 @@ ghost use Rattle.hub_job.specs.Job as spec;
 use crate::answer::Answer;
 use crate::asked::Asked;
 use crate::job_end::{End, JobEnd};
+use crate::known::Known;
 use crate::log::{Entry, Logged};
 use crate::looks::Looks;
 use crate::op::Next;
@@ -41,6 +42,7 @@ pub struct Job<'a> {
     log: Vec<Logged>,
     asked: Option<Asked>,
     phase: Phase,
+    known: Known<'a>,
 }
 
 impl<'a> Model for Job<'a> {
@@ -82,6 +84,7 @@ impl<'a> Job<'a> {
             log: Vec::new(alloc),
             asked: None,
             phase: Phase::Looking(looks),
+            known: Known::new(archive),
         })
     }
 
@@ -108,6 +111,7 @@ impl<'a> Job<'a> {
             self.archive,
             &mut self.log,
             &mut self.phase,
+            &mut self.known,
         ) {
             Ok((next, asked)) => {
                 self.asked = asked;
@@ -162,6 +166,7 @@ impl<'a> Job<'a> {
             log,
             asked: _,
             mut phase,
+            known: _,
         } = self;
         match next_of(alloc, profile, archive, log.as_slice(), &mut phase)? {
             Next::Finished => finished_job(alloc, profile, archive, log),
@@ -221,6 +226,7 @@ fn ask(
     archive: &Archive,
     log: &mut Vec<Logged>,
     phase: &mut Phase,
+    known: &mut Known<'_>,
 ) -> Result<(Next, Option<Asked>), AllocError>
     requires follows { Follows profile.now archive.now log.old.items phase.old }
     requires run { (j : ℕ) × Runs profile.now archive.now j [] log.old.items }
@@ -236,6 +242,7 @@ fn ask(
         → IsOk result }
 {
     let next = next_of(alloc, profile, archive, log.as_slice(), phase)?;
+    let next = known.sharing(next);
     let asked = asked_of(&next)?;
     make_room(log, &asked)?;
     Ok((next, asked))

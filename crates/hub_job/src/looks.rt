@@ -101,7 +101,7 @@ fn tell_names(waiting: &mut Waiting, path: &RelPath, answer: &Answer) -> Result<
     ensures { OnOk result (waiting.new ≡ put_all waiting.old (listed path.now (named answer.now))) }
 {
     match answer {
-        Answer::Seen { names, .. } => waiting.add_children(path, names.as_slice()),
+        Answer::Seen(sight) => waiting.add_children(path, sight.names()),
         Answer::Bytes(_) => Ok(()),
         Answer::Done => Ok(()),
         Answer::Refused(_) => Ok(()),

@@ -1,5 +1,5 @@
 //! Operations on a replica.
-ghost use Rattle.std.specs.Prelude.{◌≡◌, false, ◌&&◌, ◌||◌, ◌==◌, [], ◌∷◌, ◌++◌, not, length, filter, IfOk, IsTrue, OnOk, OnErr};
+ghost use Rattle.std.specs.Prelude.{◌≡◌, ◌&&◌, ◌||◌, ◌==◌, [], ◌∷◌, ◌++◌, not, length, filter, IfOk, IsTrue, OnOk, OnErr};
 ghost use Rattle.std.specs.List.{list_all, list_any};
 ghost use Rattle.hub_path.specs.Path.{is_over, is_path, parent, path_eq};
 ghost use Rattle.hub_reach.specs.Reach as of_reach;
@@ -10,6 +10,7 @@ ghost use Rattle.hub_job.specs.Machine as machine;
 
 use crate::answer::{Answer, OpFault};
 use crate::op::Op;
+use crate::sight::Sight;
 use hub_path::{Name, RelPath, Root};
 use hub_profile::Profile;
 use hub_reach::{reaches, writes_at};
@@ -58,23 +59,53 @@ fn look(
         (λ a. a ≡ machine.seen (of_sight.sight profile.now root.now tree.now path.now)) }
     ensures fits { IfOk result (machine.Fits (Op.Look path.now)) }
 {
+    Ok(Answer::Seen(sight_at(alloc, profile, root, tree, path)?))
+}
+
+/// Returns what the profile sees at the path.
+fn sight_at(
+    alloc: Global,
+    profile: &Profile,
+    root: &Root,
+    tree: &Tree,
+    path: &RelPath,
+) -> Result<Sight, AllocError>
+    ensures { IfOk result (λ s. s ≡ of_sight.sight profile.now root.now tree.now path.now) }
+{
     if reaches(profile, path) {
         let (mark, all) = tree.mark_and_names_at(path)?;
         let (names, others) = seen_names(alloc, profile, path, all)?;
         let others = are_told(profile, root, path, others);
-        return Ok(Answer::Seen {
-            mark,
-            names,
-            others,
-        });
+        return sight_with(alloc, tree, path, mark, names, others);
     }
     if is_kept_top(profile, path) {
         let (_, every) = tree.mark_and_names_at(path)?;
         let (reached, _) = seen_names(alloc, profile, path, every)?;
-        return Ok(directory_with(reached));
+        return Sight::new(alloc, Mark::Directory, reached, false);
     }
     let is_parent = is_kept_parent(profile, path)?;
-    Ok(mark_alone(alloc, parent_mark(is_parent, tree, path)))
+    let mark = parent_mark(is_parent, tree, path);
+    Sight::new(alloc, mark, Items::new(alloc), false)
+}
+
+/// Returns the sight of the mark that a path has, of these names, and of others. A file alone is shared.
+fn sight_with(
+    alloc: Global,
+    tree: &Tree,
+    path: &RelPath,
+    mark: Mark,
+    names: Items<Name>,
+    others: bool,
+) -> Result<Sight, AllocError>
+    requires { mark ≡ of_tree.mark_at tree.now path.now }
+    ensures { IfOk result (λ s. s ≡ record { mark = mark; names = names; others = others }) }
+{
+    if names.is_empty() && !others {
+        if let Some(file) = tree.blob_at(path) {
+            return Ok(Sight::of_file(file.copy()?));
+        }
+    }
+    Sight::new(alloc, mark, names, others)
 }
 
 /// Returns whether others are told: where the profile writes at that path of the root.
@@ -88,30 +119,7 @@ fn are_told(profile: &Profile, root: &Root, path: &RelPath, others: bool) -> boo
 fn is_kept_top(profile: &Profile, path: &RelPath) -> bool
     ensures { result ≡ (length path.now == 0 && list_any (path_eq path.now) profile.now.paths) }
 {
-    path.len() == 0 && is_kept(profile, path)
-}
-
-/// Tells a directory with these names, and no others.
-fn directory_with(names: Items<Name>) -> Answer
-    ensures { result
-        ≡ machine.seen (record { mark = Mark.Directory; names = names; others = false }) }
-{
-    Answer::Seen {
-        mark: Mark::Directory,
-        names,
-        others: false,
-    }
-}
-
-/// Tells a mark, and no names and no others.
-fn mark_alone(alloc: Global, mark: Mark) -> Answer
-    ensures { result ≡ machine.seen (record { mark = mark; names = []; others = false }) }
-{
-    Answer::Seen {
-        mark,
-        names: Items::new(alloc),
-        others: false,
-    }
+    path.len() == 0 && is_kept_value(profile, path)
 }
 
 /// Splits the names of the children of a path at or below a kept value into those that the profile reaches, and whether there
@@ -160,7 +168,7 @@ fn split_names(
 }
 
 /// Returns whether the whole replica is a kept value.
-fn is_kept(profile: &Profile, path: &RelPath) -> bool
+fn is_kept_value(profile: &Profile, path: &RelPath) -> bool
     ensures { result ≡ list_any (path_eq path.now) profile.now.paths }
 {
     profile.paths().iter().any(|kept| path == kept)

@@ -106,15 +106,11 @@ fn push_seen<'a>(
         ≡ told_by looks.old.items ++ told (Op.Look path.now) answer.now) }
 {
     match answer {
-        Answer::Seen {
-            mark,
-            names,
-            others,
-        } => looks.push(Look {
+        Answer::Seen(sight) => looks.push(Look {
             path,
-            mark: *mark,
-            names: names.as_slice(),
-            others: *others,
+            mark: sight.mark(),
+            names: sight.names(),
+            others: sight.others(),
         })?,
         Answer::Bytes(_) | Answer::Done | Answer::Refused(_) => {}
     }

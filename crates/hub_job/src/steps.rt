@@ -55,7 +55,7 @@ fn is_refused(answer: &Answer) -> bool
 {
     match answer {
         Answer::Refused(_) => true,
-        Answer::Seen { .. } | Answer::Bytes(_) | Answer::Done => false,
+        Answer::Seen(_) | Answer::Bytes(_) | Answer::Done => false,
     }
 }
 

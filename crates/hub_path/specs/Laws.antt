@@ -205,7 +205,7 @@ text_of-place_of (c ∷ cs) =
     let some : (length (c ∷ cs) == 0) ≡ false = grind (arith, nat_tests) in
     rw some (text_of-path_of (c ∷ cs))
 
--- What is read of a root's text has that text, less the slash in front and one slash behind.
+-- What is read of a root's text has that text, less the slash before it and one slash after it.
 pub text_of-root_read : (cs : List ℕ) (r : Path) → root_reading cs ≡ Ok r → text_of r ≡ without_last_slash (drop 1 cs)
 text_of-root_read cs r h = ap text_of (sym (or_fault-Ok (root_fault cs) (root_names cs) r h)) ∙ text_of-place_of (without_last_slash (drop 1 cs))
 

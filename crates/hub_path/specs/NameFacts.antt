@@ -33,16 +33,20 @@ pub name_chars : (n bs : List ℕ) → bs ≡ encode_utf8_all n → IsTrue (is_n
 name_chars n bs e h = ap chars e ∙ chars-encodes n (name_parts n h).scalars
 
 -- A chain of tests that gives no fault has passed each test.
-pub none_of_four : (a b c d : Bool) (e f g h : PathFault) → cond a (Some e) (cond b (Some f) (cond c (Some g) (cond d (Some h) None))) ≡ None → (a ≡ false) × (b ≡ false) × (c ≡ false)
+pub none_of_four : (a b c d : Bool) (e f g h : PathFault)
+    → cond a (Some e) (cond b (Some f) (cond c (Some g) (cond d (Some h) None))) ≡ None
+    → (a ≡ false) × (b ≡ false) × (c ≡ false)
 none_of_four true b c d e f g h p = cc
 none_of_four false true c d e f g h p = cc
 none_of_four false false true d e f g h p = cc
 none_of_four false false false d e f g h p = (refl, refl, refl)
 
 -- Characters that have no fault are a name.
-pub is_name-no_fault : (n : List ℕ) → all_scalars n ≡ true → name_fault n ≡ None → IsTrue (is_name n)
+pub is_name-no_fault : (n : List ℕ) → all_scalars n ≡ true → name_fault n ≡ None
+    → IsTrue (is_name n)
 is_name-no_fault n s h =
-    let passed = none_of_four (length n == 0) (is_dots n) (list_any is_forbidden n) (nat_lt NAME_BYTES (sum_by len_utf8 n)) EmptyName DotName BadCharacter NameTooLong h in
+    let passed = none_of_four (length n == 0) (is_dots n) (list_any is_forbidden n)
+    (nat_lt NAME_BYTES (sum_by len_utf8 n)) EmptyName DotName BadCharacter NameTooLong h in
     rw (passed.0, s, list_all-not is_forbidden n, passed.2, passed.1) refl
 
 -- The three tests of a text that may have any length.
@@ -53,5 +57,8 @@ reorder true false true = refl
 reorder true true false = refl
 reorder true true true = refl
 
-pub is_name-tests : (n : List ℕ) → all_scalars n ≡ true → (not (length n == 0) && not (is_dots n) && not (list_any is_forbidden n)) ≡ is_name n
-is_name-tests n s = rw (s, list_all-not is_forbidden n) (reorder (not (length n == 0)) (not (is_dots n)) (not (list_any is_forbidden n)))
+pub is_name-tests : (n : List ℕ) → all_scalars n ≡ true
+    → (not (length n == 0) && not (is_dots n) && not (list_any is_forbidden n)) ≡ is_name n
+is_name-tests n s =
+    rw (s, list_all-not is_forbidden n) (reorder (not (length n == 0)) (not (is_dots n))
+    (not (list_any is_forbidden n)))

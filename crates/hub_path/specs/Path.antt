@@ -37,7 +37,9 @@ is_dots n = name_eq n (codes ".") || name_eq n (codes "..")
 
 -- A name is a nonempty list of characters, none of them forbidden, and is neither `.` nor `..`.
 abbrev pub is_name : Name → Bool
-is_name n = not (length n == 0) && all_scalars n && list_all (λ c. not (is_forbidden c)) n && not (is_dots n)
+is_name n =
+    not (length n == 0) && all_scalars n && list_all (λ c. not (is_forbidden c)) n
+    && not (is_dots n)
 
 -- The text of a path joins its names by `/`.
 abbrev pub text_of : Path → List ℕ

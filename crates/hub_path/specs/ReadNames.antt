@@ -17,49 +17,62 @@ pub record ReadSoFar (all names : Path) (count : ℕ) : Type 0 where
   pub fault : names_fault 0 all ≡ names_fault count (drop count all)
   pub valid : IsTrue (is_place names)
 
-pub or_fault-Ok : {T : Type 0} (f : Option PathFault) (x y : T) → or_fault f x ≡ Ok y → (f ≡ None) × (x ≡ y)
+pub or_fault-Ok : {T : Type 0} (f : Option PathFault) (x y : T) → or_fault f x ≡ Ok y
+    → (f ≡ None) × (x ≡ y)
 or_fault-Ok None x y h = (refl, cc)
 or_fault-Ok (Some e) x y h = cc
 
-pub or_fault-Err : {T : Type 0} (f : Option PathFault) (x : T) (e : PathFault) → or_fault f x ≡ Err e → f ≡ Some e
+pub or_fault-Err : {T : Type 0} (f : Option PathFault) (x : T) (e : PathFault)
+    → or_fault f x ≡ Err e → f ≡ Some e
 or_fault-Err None x e h = cc
 or_fault-Err (Some d) x e h = cc
 
 -- The fault of the names from one on, by that name.
 fault-at : (all : Path) (i : ℕ) (n : Name) → i < length all → n ≡ get_or all i n
-    → names_fault i (drop i all) ≡ cond (i == PATH_NAMES) (Some TooDeep) (first_fault (name_fault n) (names_fault (i + 1) (drop (i + 1) all)))
+    → names_fault i (drop i all) ≡ cond (i == PATH_NAMES) (Some TooDeep)
+    (first_fault (name_fault n) (names_fault (i + 1) (drop (i + 1) all)))
 fault-at all i n l e = rw (drop-cons all i n l, ← e, add-one) refl
 
 -- A name after as many as a path may have.
-pub fault-deep : (all names : Path) (i : ℕ) (n : Name) → ReadSoFar all names i → i < length all → n ≡ get_or all i n → (i == PATH_NAMES) ≡ true → names_reading all ≡ Err TooDeep
+pub fault-deep : (all names : Path) (i : ℕ) (n : Name) → ReadSoFar all names i → i < length all
+    → n ≡ get_or all i n → (i == PATH_NAMES) ≡ true → names_reading all ≡ Err TooDeep
 fault-deep all names i n so_far l e deep =
     let reading : Option PathFault → Result Path PathFault = λ f. or_fault f all in
-    ap reading {x = names_fault 0 all} {y = Some TooDeep} (so_far.fault ∙ (fault-at all i n l e ∙ rw deep refl))
+    ap reading {x = names_fault 0 all} {y = Some TooDeep}
+    (so_far.fault ∙ (fault-at all i n l e ∙ rw deep refl))
 
 -- A name with a fault.
-pub fault-name : (all names : Path) (i : ℕ) (n : Name) (f : PathFault) → ReadSoFar all names i → i < length all → n ≡ get_or all i n → (i == PATH_NAMES) ≡ false → name_reading n ≡ Err f
+pub fault-name : (all names : Path) (i : ℕ) (n : Name) (f : PathFault) → ReadSoFar all names i
+    → i < length all → n ≡ get_or all i n → (i == PATH_NAMES) ≡ false → name_reading n ≡ Err f
     → names_reading all ≡ Err f
 fault-name all names i n f so_far l e deep bad =
     let reading : Option PathFault → Result Path PathFault = λ g. or_fault g all in
-    ap reading {x = names_fault 0 all} {y = Some f} (so_far.fault ∙ (fault-at all i n l e ∙ rw (deep, or_fault-Err (name_fault n) n f bad) refl))
+    ap reading {x = names_fault 0 all} {y = Some f}
+    (so_far.fault ∙ (fault-at all i n l e
+    ∙ rw (deep, or_fault-Err (name_fault n) n f bad) refl))
 
 -- One more name.
-pub read-more : (all names : Path) (i : ℕ) (n m : Name) → ReadSoFar all names i → i < length all → n ≡ get_or all i n → (i == PATH_NAMES) ≡ false → name_reading n ≡ Ok m → IsTrue (is_name m)
+pub read-more : (all names : Path) (i : ℕ) (n m : Name) → ReadSoFar all names i → i < length all
+    → n ≡ get_or all i n → (i == PATH_NAMES) ≡ false → name_reading n ≡ Ok m → IsTrue (is_name m)
     → ReadSoFar all (names ++ m ∷ []) (i + 1)
 read-more all names i n m so_far l e deep good valid =
     let same = or_fault-Ok (name_fault n) n m good in
     record {
       count_is = length-append names (m ∷ []) ∙ ap (λ k. k + 1) so_far.count_is;
-      front = ap (λ ns. ns ++ m ∷ []) so_far.front ∙ (ap (λ k. take i all ++ k ∷ []) (sym same.1 ∙ e) ∙ sym (take_more all i n l));
+      front =
+          ap (λ ns. ns ++ m ∷ []) so_far.front
+          ∙ (ap (λ k. take i all ++ k ∷ []) (sym same.1 ∙ e) ∙ sym (take_more all i n l));
       fault = so_far.fault ∙ (fault-at all i n l e ∙ rw (deep, same.0) refl);
       valid = list_all-append is_name names (m ∷ []) ∙ rw (so_far.valid, valid) refl;
     }
 
 -- All names.
-pub read-all : (all names : Path) (i : ℕ) → ReadSoFar all names i → i ≡ length all → names_reading all ≡ Ok names
+pub read-all : (all names : Path) (i : ℕ) → ReadSoFar all names i → i ≡ length all
+    → names_reading all ≡ Ok names
 read-all all names i so_far e =
     let whole : names ≡ all = so_far.front ∙ (take_all i all (omega arith)) in
-    let none : names_fault 0 all ≡ None = so_far.fault ∙ ap (names_fault i) (drop_all i all (omega arith)) in
+    let none : names_fault 0 all ≡ None =
+    so_far.fault ∙ ap (names_fault i) (drop_all i all (omega arith)) in
     let reading : Option PathFault → Result Path PathFault = λ f. or_fault f all in
     let to_ok : Path → Result Path PathFault = λ ns. Ok ns in
     ap reading {x = names_fault 0 all} {y = None} none ∙ ap to_ok (sym whole)

@@ -2,6 +2,7 @@
 use Rattle.std.specs.Prelude.{◌≡◌, ◌⊎◌, ℕ, ◌+◌, Bool, false, not, ◌&&◌, ◌||◌, ◌==◌, nat_lt, nat_le, nat_eq, drop, sum_by, codes, List, [], ◌∷◌, length, Option, Some, None, Result, Ok, Err, if◌then◌else◌}
 use Rattle.std.specs.List.{list_all, list_any, starts_with}
 use Rattle.std.specs.Char.{len_utf8}
+use Rattle.hub_text.specs.Fails.{Fails}
 use Rattle.hub_text.specs.Lines.{without_last}
 use Rattle.hub_path.specs.Path.{Name, Path, path_of, is_forbidden, is_dots}
 use Rattle.hub_path.specs.declared.name.TheConstants.{NAME_BYTES}
@@ -9,7 +10,8 @@ use Rattle.hub_path.specs.declared.rel_path.TheConstants.{PATH_NAMES}
 use Rattle.hub_path.specs.declared.fault.PathFault.{PathFault}
 use Rattle.hub_path.specs.declared.fault.PathFault.TheVariants.{Empty, EmptyName, DotName, BadCharacter, NameTooLong, TooDeep, LeadingSlash, NotAbsolute, RemoteRoot, OutOfMemory}
 
--- What is wrong with a name: the first of these. A name that is read takes at most NAME_BYTES bytes.
+-- What is wrong with a name: the first of these. A name that is read takes at most NAME_BYTES
+-- bytes.
 abbrev pub name_fault : Name → Option PathFault
 name_fault n =
     if length n == 0 then Some EmptyName
@@ -31,7 +33,7 @@ is_short_path p = nat_le (length p) PATH_NAMES && list_all is_short_name p
 
 -- The fault of a reading, or out of memory.
 abbrev pub FailsAs : {T : Type 0} → Result T PathFault → PathFault → Type 0
-FailsAs reading e = (e ≡ OutOfMemory) ⊎ (reading ≡ Err e)
+FailsAs reading e = Fails OutOfMemory reading e
 
 -- A text is a name, or has a fault.
 abbrev pub name_reading : List ℕ → Result Name PathFault
@@ -42,11 +44,13 @@ abbrev pub first_fault : Option PathFault → Option PathFault → Option PathFa
 first_fault None later = later
 first_fault (Some e) later = Some e
 
--- The first fault of the names from the left. A name after PATH_NAMES others is too deep, and isn't looked at.
+-- The first fault of the names from the left. A name after PATH_NAMES others is too deep, and isn't
+-- looked at.
 abbrev pub names_fault : ℕ → List Name → Option PathFault
 names_fault depth [] = None
 names_fault depth (n ∷ ns) =
-    if depth == PATH_NAMES then Some TooDeep else first_fault (name_fault n) (names_fault (depth + 1) ns)
+    if depth == PATH_NAMES then Some TooDeep
+    else first_fault (name_fault n) (names_fault (depth + 1) ns)
 
 -- The names of a path, or their first fault.
 abbrev pub names_reading : List Name → Result (List Name) PathFault

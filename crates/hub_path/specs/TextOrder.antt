@@ -49,7 +49,8 @@ less a b h = grind (arith, nat_tests)
 more : (a b : ℕ) → b < a → nat_cmp a b ≡ Greater
 more a b h = grind (arith, nat_tests)
 
-then-then : (a b c : Ordering) → ordering_then a (ordering_then b c) ≡ ordering_then (ordering_then a b) c
+then-then : (a b c : Ordering) → ordering_then a (ordering_then b c)
+    ≡ ordering_then (ordering_then a b) c
 then-then Less b c = refl
 then-then Equal b c = refl
 then-then Greater b c = refl
@@ -60,7 +61,8 @@ data Tail (s : List ℕ) : Type 0 where
   more_names : (t : List ℕ) → s ≡ 47 ∷ t → Tail s
 
 -- Names decide, and then what follows them.
-name-first : (n m s t : List ℕ) → list_all is_inner n ≡ true → list_all is_inner m ≡ true → Tail s → Tail t
+name-first : (n m s t : List ℕ) → list_all is_inner n ≡ true → list_all is_inner m ≡ true → Tail s
+    → Tail t
     → text_cmp (n ++ s) (m ++ t) ≡ ordering_then (name_cmp n m) (text_cmp s t)
 name-first [] [] s t h k a b = refl
 name-first [] (d ∷ m) s t h k (none e) b = rw e refl
@@ -91,19 +93,23 @@ text-tail : (n : Name) (p : Path) → text_of (n ∷ p) ≡ n ++ tail p
 text-tail n [] = sym (append-nil n)
 text-tail n (m ∷ p) = refl
 
-nothing-first : (n s : List ℕ) → not (length n == 0) ≡ true → (text_cmp [] (n ++ s) ≡ Less) × (text_cmp (n ++ s) [] ≡ Greater)
+nothing-first : (n s : List ℕ) → not (length n == 0) ≡ true
+    → (text_cmp [] (n ++ s) ≡ Less) × (text_cmp (n ++ s) [] ≡ Greater)
 nothing-first [] s h = cc
 nothing-first (c ∷ n) s h = (refl, refl)
 
 -- The first names decide, and then the texts of the others.
 both-first : (n m : Name) (p q : Path) → IsTrue (is_name n) → IsTrue (is_name m)
-    → text_cmp (text_of (n ∷ p)) (text_of (m ∷ q)) ≡ ordering_then (name_cmp n m) (text_cmp (tail p) (tail q))
+    → text_cmp (text_of (n ∷ p)) (text_of (m ∷ q))
+    ≡ ordering_then (name_cmp n m) (text_cmp (tail p) (tail q))
 both-first n m p q h k =
     ap (λ t. text_cmp t (text_of (m ∷ q))) (text-tail n p)
     ∙ (ap (text_cmp (n ++ tail p)) (text-tail m q)
-    ∙ name-first n m (tail p) (tail q) (name_parts n h).allowed (name_parts m k).allowed (tail-is p) (tail-is q))
+    ∙ name-first n m (tail p) (tail q) (name_parts n h).allowed (name_parts m k).allowed
+    (tail-is p) (tail-is q))
 
-tails-cmp : (p q : Path) → IsTrue (is_place p) → IsTrue (is_place q) → text_cmp (tail p) (tail q) ≡ path_cmp p q
+tails-cmp : (p q : Path) → IsTrue (is_place p) → IsTrue (is_place q)
+    → text_cmp (tail p) (tail q) ≡ path_cmp p q
 tails-cmp [] [] h k = refl
 tails-cmp [] (m ∷ q) h k = refl
 tails-cmp (n ∷ p) [] h k = refl
@@ -113,7 +119,8 @@ tails-cmp (n ∷ p) (m ∷ q) h k =
     both-first n m p q one.0 two.0 ∙ ap (ordering_then (name_cmp n m)) (tails-cmp p q one.1 two.1)
 
 -- The characters of texts are compared as paths are.
-pub chars-cmp : (p q : Path) → IsTrue (is_place p) → IsTrue (is_place q) → text_cmp (text_of p) (text_of q) ≡ path_cmp p q
+pub chars-cmp : (p q : Path) → IsTrue (is_place p) → IsTrue (is_place q)
+    → text_cmp (text_of p) (text_of q) ≡ path_cmp p q
 chars-cmp [] [] h k = refl
 chars-cmp [] (m ∷ q) h k =
     let two = and_parts (is_name m) (is_place q) k in
@@ -141,10 +148,12 @@ ranks-encodes : (cs : List ℕ) → ranks (encode_utf8_all cs) ≡ encode_utf8_a
 ranks-encodes [] = refl
 ranks-encodes (c ∷ cs) =
     map-append rank (encode_utf8 c) (encode_utf8_all cs)
-    ∙ (ap (λ t. t ++ ranks (encode_utf8_all cs)) (rank-encode c (c == 47) refl) ∙ ap (λ t. encode_utf8 (rank c) ++ t) (ranks-encodes cs))
+    ∙ (ap (λ t. t ++ ranks (encode_utf8_all cs)) (rank-encode c (c == 47) refl)
+    ∙ ap (λ t. encode_utf8 (rank c) ++ t) (ranks-encodes cs))
 
 -- The bytes of texts are compared as paths are.
-pub bytes-cmp : (p q : Path) → IsTrue (is_place p) → IsTrue (is_place q) → text_cmp (encode_utf8_all (text_of p)) (encode_utf8_all (text_of q)) ≡ path_cmp p q
+pub bytes-cmp : (p q : Path) → IsTrue (is_place p) → IsTrue (is_place q)
+    → text_cmp (encode_utf8_all (text_of p)) (encode_utf8_all (text_of q)) ≡ path_cmp p q
 bytes-cmp p q h k =
     ap (λ t. slice_cmp nat_cmp t (ranks (encode_utf8_all (text_of q)))) (ranks-encodes (text_of p))
     ∙ (ap (slice_cmp nat_cmp (encode_utf8_all (ranks (text_of p)))) (ranks-encodes (text_of q))

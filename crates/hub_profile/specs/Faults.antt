@@ -1,5 +1,6 @@
 -- Faults of a line, and of a whole reading.
 use Rattle.std.specs.Prelude.{◌≡◌, ◌⊎◌, Option, Some, Result, Err}
+use Rattle.hub_text.specs.Fails.{Fails}
 use Rattle.hub_path.specs.declared.fault.PathFault.{PathFault}
 use Rattle.hub_path.specs.declared.fault.PathFault.TheVariants as path
 use Rattle.hub_glob.specs.declared.fault.GlobFault.{GlobFault}
@@ -41,7 +42,7 @@ of_pattern glob.OutOfMemory = OutOfMemory
 
 -- The fault of a reading, or out of memory.
 abbrev pub FailsAs : {T : Type 0} → Result T Fault → Fault → Type 0
-FailsAs reading e = (e ≡ OutOfMemory) ⊎ (reading ≡ Err e)
+FailsAs reading e = Fails OutOfMemory reading e
 
 -- The fault that there is, with its line, or out of memory.
 abbrev pub FailsWith : Option ProfileFault → ProfileFault → Type 0

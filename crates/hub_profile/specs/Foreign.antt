@@ -8,8 +8,8 @@ use Rattle.hub_profile.specs.declared.partial_line.PartialLine.{PartialLine}
 use Rattle.hub_profile.specs.declared.fault.Fault.TheVariants.{NotARoot}
 use Rattle.hub_profile.specs.declared.fault.ProfileFault.{ProfileFault}
 
--- The number of the first line that protects a root which is not among these. Lines stand in the order of the text, so
--- it is the lowest one.
+-- The number of the first line that protects a root which is not among these. Lines stand in the
+-- order of the text, so it is the lowest one.
 abbrev pub foreign_protection : List Path → List ProtectionLine → Option ℕ
 foreign_protection roots [] = None
 foreign_protection roots (line ∷ lines) =

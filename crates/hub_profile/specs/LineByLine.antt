@@ -1,4 +1,5 @@
--- A text that is read line by line: what its lines say, or the fault of the lowest line that has one.
+-- A text that is read line by line: what its lines say, or the fault of the lowest line that has
+-- one.
 use Rattle.std.specs.Prelude.{ℕ, bytes_eq, List, [], ◌∷◌, Option, Some, None, Result, Ok, Err, if◌then◌else◌}
 use Rattle.std.specs.List.{enumerate_from, fold}
 use Rattle.std.specs.Str.{is_utf8, chars}
@@ -9,8 +10,8 @@ use Rattle.hub_profile.specs.Lines.{line_text, is_setting, setting}
 use Rattle.hub_text.specs.declared.line.Line.{Line}
 use Rattle.hub_text.specs.Lines.{lines_of}
 
--- What a setting on the line of that number, with that name and value, adds to what the lines before it say, or its
--- fault.
+-- What a setting on the line of that number, with that name and value, adds to what the lines
+-- before it say, or its fault.
 abbrev pub Table : Type 0 → Type 0
 Table S = S → (line : ℕ) → (name value : List ℕ) → Result S Fault
 

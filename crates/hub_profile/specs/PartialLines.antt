@@ -1,4 +1,5 @@
--- Lines that bar changes on some paths of a root, and what they mean for the two roots of a profile.
+-- Lines that bar changes on some paths of a root, and what they mean for the two roots of a
+-- profile.
 use Rattle.std.specs.Prelude.{ℕ, List, [], ◌∷◌, map, if◌then◌else◌}
 use Rattle.hub_path.specs.Path.{Path, path_eq}
 use Rattle.hub_path.specs.declared.side.Side.{Side}

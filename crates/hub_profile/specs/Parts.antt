@@ -9,10 +9,11 @@ use Rattle.hub_profile.specs.declared.bars.Bars.{Bars}
 use Rattle.hub_profile.specs.declared.partial.Partial.{Partial}
 use Rattle.hub_profile.specs.Facts.{are_roots, are_kept}
 
--- A profile's name, its roots in the order Left, Right, its kept values, and what its `ignore` and its `ignorenot`
--- lines specify, each in the order of their lines. Then the side whose root all differences (`force`), or conflicts
--- alone (`prefer`), are resolved in favour of, the changes that are not made at the left and at the right root, and
--- those that are not made on the paths that a specification matches, in the order of their lines.
+-- A profile's name, its roots in the order Left, Right, its kept values, and what its `ignore` and
+-- its `ignorenot` lines specify, each in the order of their lines. Then the side whose root all
+-- differences (`force`), or conflicts alone (`prefer`), are resolved in favour of, the changes that
+-- are not made at the left and at the right root, and those that are not made on the paths that a
+-- specification matches, in the order of their lines.
 pub record Parts : Type 0 where
   pub name : Name
   pub roots : List Path

@@ -27,8 +27,8 @@ use Rattle.hub_profile.specs.declared.fault.Fault.TheVariants as fault
 use Rattle.hub_profile.specs.declared.fault.ProfileFault.{ProfileFault}
 use Rattle.hub_profile.specs.declared.draft.TheConstants.{PATH_LINES, PATTERN_LINES, PARTIAL_LINES}
 
--- What `nodeletion`, `noupdate` and `nocreation` forbid at their root: `noupdate` forbids deletions too. The preferences
--- whose names end in `partial` forbid the same on some paths.
+-- What `nodeletion`, `noupdate` and `nocreation` forbid at their root: `noupdate` forbids deletions
+-- too. The preferences whose names end in `partial` forbid the same on some paths.
 abbrev pub no_deletion : Bars
 no_deletion = record { create = false; update = false; delete = true }
 
@@ -70,8 +70,8 @@ keys =
     ∷ (codes "times", key.NoEffect)
     ∷ []
 
--- The value of a `path` line: an empty one means the whole replica. A slash in front is reported first; then one slash
--- at the end is dropped.
+-- The value of a `path` line: an empty one means the whole replica. A slash at its start is
+-- reported first; then one slash at the end is dropped.
 abbrev pub kept_reading : List ℕ → Result Path PathFault
 kept_reading cs =
     if length cs == 0 then Ok []
@@ -108,7 +108,8 @@ with_protected p said n (Ok root) =
     Ok (record said { protections = said.protections ++ protection_line n p root ∷ [] })
 with_protected p said n (Err e) = Err (fault.BadPath e)
 
--- A line that protects a root: that it repeats another is reported first, then a value that is left out.
+-- A line that protects a root: that it repeats another is reported first, then a value that is left
+-- out.
 abbrev pub protection_added : Protection → Said → ℕ → List ℕ → Result Said Fault
 protection_added p said n v =
     if repeats p said.protections then Err fault.Repeated
@@ -131,12 +132,13 @@ abbrev pub with_spec_and_root : Bars → Said → ℕ → List ℕ × List ℕ �
 with_spec_and_root bars said n pair =
     with_partial bars said n (spec_reading pair.0) (root_reading pair.1)
 
--- A line that bars changes on some paths of a root: that there are enough of them is reported first, then that the value
--- has no arrow.
+-- A line that bars changes on some paths of a root: that there are enough of them is reported
+-- first, then that the value has no arrow.
 abbrev pub partial_added : Bars → Said → ℕ → List ℕ → Result Said Fault
 partial_added bars said n v =
     if has_all_partials said then Err fault.TooMany
-    else (if has_arrow v then with_spec_and_root bars said n (spec_and_root v) else Err fault.NoArrow)
+    else (if has_arrow v then with_spec_and_root bars said n (spec_and_root v)
+    else Err fault.NoArrow)
 
 abbrev pub root_added : Said → List ℕ → Result Said Fault
 root_added said v = with_root said (root_reading v)
@@ -190,7 +192,8 @@ roots_fault (r ∷ s ∷ t ∷ rs) = Some fault.RootCount
 abbrev pub is_properly_below : Path → Path → Bool
 is_properly_below s t = is_over t s && not (path_eq t s)
 
--- A value adds something to the profile: it is neither equal to an earlier one nor properly below any.
+-- A value adds something to the profile: it is neither equal to an earlier one nor properly below
+-- any.
 abbrev pub adds : List Path → List Path → Path → Bool
 adds all earlier s = not (list_any (path_eq s) earlier) && not (list_any (is_properly_below s) all)
 
@@ -228,7 +231,8 @@ abbrev pub or_later : Option Fault → Option ProfileFault → Option ProfileFau
 or_later None later = later
 or_later (Some f) later = Some (record { line = 0; fault = f })
 
--- What is wrong with what all lines say: with the roots first, then the lowest line that names another root.
+-- What is wrong with what all lines say: with the roots first, then the lowest line that names
+-- another root.
 abbrev pub whole_fault : Said → Option ProfileFault
 whole_fault said =
     or_later (roots_fault said.roots) (foreign_fault said.roots said.protections said.partials)

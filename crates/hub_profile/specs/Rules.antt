@@ -78,7 +78,8 @@ abbrev pub rules_of : Result RulesSaid ProfileFault → Result (List Rule) Profi
 rules_of (Ok said) = Ok said.rules
 rules_of (Err f) = Err f
 
--- The rules of a text in the order of their lines, or its first fault. A rule's number is its place, from 0 on.
+-- The rules of a text in the order of their lines, or its first fault. A rule's number is its
+-- place, from 0 on.
 abbrev pub rules_reading : List ℕ → Result (List Rule) ProfileFault
 rules_reading cs = rules_of (lines_reading with_rule nothing cs)
 

@@ -193,7 +193,7 @@ impl Draft {
         Ok(())
     }
 
-    /// Whether there are as many `ignore` and `ignorenot` lines as there may be.
+    /// Returns whether there are as many `ignore` and `ignorenot` lines as there may be.
     fn has_all_patterns(&self) -> bool
         ensures { result ≡ reading.has_all_patterns self.now }
     {

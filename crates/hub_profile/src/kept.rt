@@ -55,7 +55,7 @@ fn marked(alloc: Global, values: Vec<RelPath>, marks: Vec<bool>) -> Result<Vec<R
         .collect(alloc)
 }
 
-/// Whether a value is neither equal to an earlier one nor properly below any.
+/// Returns whether a value is neither equal to an earlier one nor properly below any.
 fn adds(all: &[RelPath], earlier: &[RelPath], value: &RelPath) -> bool
     ensures { result ≡ reading.adds all.now earlier.now value.now }
 {

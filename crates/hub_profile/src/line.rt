@@ -12,7 +12,7 @@ pub(crate) fn line_text(line: &str) -> &str
     trimmed(without_last(line, '\r'))
 }
 
-/// Whether a line sets something: it is neither blank nor a comment, which begins with `#`.
+/// Returns whether a line sets something: it is neither blank nor a comment, which begins with `#`.
 pub(crate) fn is_setting(line: &str) -> bool
     ensures { result ≡ lines.is_setting (chars line.now) }
 {
@@ -33,7 +33,7 @@ pub(crate) fn setting(line: &str) -> Result<(&str, &str), Fault>
     }
 }
 
-/// Whether a line includes another file: its first word says so, and it sets nothing.
+/// Returns whether a line includes another file: its first word says so, and it sets nothing.
 fn is_include(line: &str) -> bool
     ensures { result ≡ lines.is_include (chars line.now) }
 {
@@ -50,7 +50,7 @@ fn name_and_value(line: &str) -> Option<(&str, &str)>
     Some((trimmed(name), trimmed(value)))
 }
 
-/// Whether this word includes another file.
+/// Returns whether this word includes another file.
 fn includes(word: &str) -> bool
     ensures { result ≡ lines.is_one_of lines.include_words (chars word.now) }
 {

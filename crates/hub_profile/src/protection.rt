@@ -106,7 +106,7 @@ impl Protected {
     }
 }
 
-/// Whether one of the lines gives the preference already, and it may be given only once.
+/// Returns whether one of the lines gives the preference already, and it may be given only once.
 pub(crate) fn repeats(kind: Protection, lines: &[ProtectionLine]) -> bool
     ensures { result ≡ protection.repeats kind lines.now }
 {
@@ -129,7 +129,7 @@ fn has_prefer(lines: &[ProtectionLine]) -> bool
     lines.iter().any(|line| line.protection.is_prefer())
 }
 
-/// Whether the preference has this value in Unison, and this project leaves it out.
+/// Returns whether the preference has this value in Unison, and this project leaves it out.
 pub(crate) fn is_left_out(kind: Protection, value: &str) -> bool
     ensures { result ≡ protection.is_left_out kind (chars value.now) }
 {

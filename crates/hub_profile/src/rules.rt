@@ -55,7 +55,7 @@ impl Rules {
         self.rules.alloc()
     }
 
-    /// Whether there are as many rules as there may be.
+    /// Returns whether there are as many rules as there may be.
     pub(crate) fn is_full(&self) -> bool
         ensures { result ≡ nat_le RULES (length self.now) }
     {

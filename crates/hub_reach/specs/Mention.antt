@@ -15,14 +15,15 @@ pub record Mentions (ms : List ℕ) (P : Parts) : Type 0 where
   pub ignorenot : IsTrue (list_all (λ s. mentions ms (spec_characters s)) P.ignorenot)
   pub partial : IsTrue (list_all (λ b. mentions ms (partial_characters b)) P.partial)
 
--- All characters that a profile mentions: those of its kept values, and those of its patterns. The patterns of partial bars
--- come last.
+-- All characters that a profile mentions: those of its kept values, and those of its patterns. The
+-- patterns of partial bars come last.
 abbrev pub mentioned_by : Parts → List ℕ
 mentioned_by P =
     flat_map path_characters P.paths
-    ++ (flat_map spec_characters P.ignore ++ (flat_map spec_characters P.ignorenot ++ flat_map partial_characters P.partial))
+    ++ (flat_map spec_characters P.ignore
+    ++ (flat_map spec_characters P.ignorenot ++ flat_map partial_characters P.partial))
 
--- Of some characters those in front have been added to an alphabet, and the others haven't.
+-- Of some characters the first ones have been added to an alphabet, and the others haven't.
 pub record IsPartly (old cs new : List ℕ) : Type 0 where
   pub added : List ℕ
   pub left : List ℕ

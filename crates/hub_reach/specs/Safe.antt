@@ -29,15 +29,22 @@ Clash P Q =
     ((r : Path) × IsTrue (has_root P r) × IsTrue (has_root Q r) × ClashesAt P Q r)
     ⊎ (IsTrue (share_archive P Q) × ClashesInArchive P Q)
 
--- P may do what the rule forbids, at the rule's root and at a path that it reaches and the rule matches.
+-- P may do what the rule forbids, at the rule's root and at a path that it reaches and the rule
+-- matches.
 abbrev pub Breach : Parts → Rule → Type 0
-Breach P R = (p : Path) × IsTrue (has_root P R.root) × IsTrue (reach P p) × IsTrue (may_at P R.root p R.verb) × IsTrue (R.matches p)
+Breach P R =
+    (p : Path) × IsTrue (has_root P R.root) × IsTrue (reach P p)
+    × IsTrue (may_at P R.root p R.verb) × IsTrue (R.matches p)
 
 abbrev pub all_roots : List Parts → List Rule → List Path
 all_roots Ps Rs = flat_map (λ P. P.roots) Ps ++ map (λ R. R.root) Rs
 
--- Of all roots, no two different ones are nested; no two different profiles clash; no profile breaches a rule.
+-- Of all roots, no two different ones are nested; no two different profiles clash; no profile
+-- breaches a rule.
 pub record IsSafe (profiles : List Parts) (rules : List Rule) : Type 0 where
-  pub apart : (i j : ℕ) (r s : Path) → slice_get (all_roots profiles rules) i ≡ Some r → slice_get (all_roots profiles rules) j ≡ Some s → IsTrue (is_over r s) → r ≡ s
-  pub no_clash : (i j : ℕ) (P Q : Parts) → slice_get profiles i ≡ Some P → slice_get profiles j ≡ Some Q → i ≢ j → ¬ (Clash P Q)
-  pub no_breach : (i k : ℕ) (P : Parts) (R : Rule) → slice_get profiles i ≡ Some P → slice_get rules k ≡ Some R → ¬ (Breach P R)
+  pub apart : (i j : ℕ) (r s : Path) → slice_get (all_roots profiles rules) i ≡ Some r
+      → slice_get (all_roots profiles rules) j ≡ Some s → IsTrue (is_over r s) → r ≡ s
+  pub no_clash : (i j : ℕ) (P Q : Parts) → slice_get profiles i ≡ Some P
+      → slice_get profiles j ≡ Some Q → i ≢ j → ¬ (Clash P Q)
+  pub no_breach : (i k : ℕ) (P : Parts) (R : Rule) → slice_get profiles i ≡ Some P
+      → slice_get rules k ≡ Some R → ¬ (Breach P R)

@@ -1,4 +1,5 @@
--- Reach as it is seen by who goes down a path name by name: what has been seen above a path decides with the path itself.
+-- Reach as it is seen by who goes down a path name by name: what has been seen above a path decides
+-- with the path itself.
 use Rattle.std.specs.Prelude.{Bool, not, ◌&&◌, ◌||◌, ◌==◌, length, List}
 use Rattle.std.specs.List.{list_any}
 use Rattle.hub_path.specs.Path.{Path, path_eq, is_over, parent, prefixes}
@@ -21,6 +22,9 @@ is_kept P p = list_any (λ s. is_over s p) P.paths
 abbrev pub is_cut : Parts → Path → Bool
 is_cut P p = list_any (λ q. is_ignored P q && is_kept P q) (above p)
 
--- A path is reached where nothing above it is cut off, it isn't ignored itself, and it is a kept value or stands below one.
+-- A path is reached where nothing above it is cut off, it isn't ignored itself, and it is a kept
+-- value or stands below one.
 abbrev pub is_walked : Parts → Path → Bool
-is_walked P p = not (is_cut P p) && (not (is_ignored P p) && (is_inside P p || list_any (λ s. path_eq s p) P.paths))
+is_walked P p =
+    not (is_cut P p) && (not (is_ignored P p)
+    && (is_inside P p || list_any (λ s. path_eq s p) P.paths))

@@ -18,7 +18,7 @@ pub struct PlacedBar {
 }
 
 impl PlacedBar {
-    /// Whether it forbids the change at the root of that side, on the paths that its choices match.
+    /// Returns whether it forbids the change at the root of that side, on the paths that its choices match.
     pub(crate) fn forbids(&self, side: Side, verb: Verb) -> bool
         ensures { result ≡ (spec.is_same_side self.now.side side
             && reach.covers verb self.now.bars) }

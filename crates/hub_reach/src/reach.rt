@@ -22,7 +22,7 @@ pub fn reaches(profile: &Profile, path: &RelPath) -> bool
     path.len() > 0 && is_kept(profile, path)
 }
 
-/// Whether a path lies at or below a kept value, and nothing between them is ignored.
+/// Returns whether a path lies at or below a kept value, and nothing between them is ignored.
 fn is_kept(profile: &Profile, path: &RelPath) -> bool
     ensures { result ≡ list_any (λ s. is_over s path.now
         && is_open profile.now s path.now) profile.now.paths }
@@ -39,7 +39,7 @@ fn is_kept_by(profile: &Profile, kept: &RelPath, path: &RelPath) -> bool
     path.starts_with(kept) && is_open(profile, kept, path)
 }
 
-/// Whether nothing from a kept value down to the path is ignored.
+/// Returns whether nothing from a kept value down to the path is ignored.
 fn is_open(profile: &Profile, kept: &RelPath, path: &RelPath) -> bool
     requires { IsTrue (is_over kept.now path.now) }
     ensures { result ≡ is_open profile.now kept.now path.now }
@@ -53,7 +53,7 @@ fn is_open(profile: &Profile, kept: &RelPath, path: &RelPath) -> bool
     true
 }
 
-/// Whether the path of the first `len` names is ignored. A `BelowPath` that matches it matches the whole path too: so
+/// Returns whether the path of the first `len` names is ignored. A `BelowPath` that matches it matches the whole path too: so
 /// `below` may be false where none in `ignore` matches the path, and then none is tried.
 fn is_ignored(profile: &Profile, path: &RelPath, len: usize, below: bool) -> bool
     requires within { len ≤ length path.now }
@@ -65,7 +65,7 @@ fn is_ignored(profile: &Profile, path: &RelPath, len: usize, below: bool) -> boo
         && !is_matched(profile.ignorenot(), path, len, true)
 }
 
-/// Whether one of these is a `BelowPath` that matches the path.
+/// Returns whether one of these is a `BelowPath` that matches the path.
 fn is_below(specs: &[PathSpec], path: &RelPath) -> bool
     ensures { result ≡ list_any (λ s. is_below_kind s.kind && matches s path.now) specs.now }
 {
@@ -81,7 +81,7 @@ fn is_matched_below(spec: &PathSpec, path: &RelPath) -> bool
     }
 }
 
-/// Whether one of these matches the path of the first `len` names. Each `BelowPath` is tried only if `below` says so.
+/// Returns whether one of these matches the path of the first `len` names. Each `BelowPath` is tried only if `below` says so.
 fn is_matched(specs: &[PathSpec], path: &RelPath, len: usize, below: bool) -> bool
     requires within { len ≤ length path.now }
     requires below { below ≡ false → list_any

@@ -19,14 +19,14 @@ pub enum Shape {
 }
 
 impl Shape {
-    /// Whether the text is that of a path.
+    /// Returns whether the text is that of a path.
     pub(crate) fn is_named(self) -> bool
         ensures { result ≡ shape.is_named self }
     {
         matches!(self, Shape::Named)
     }
 
-    /// Whether no path's text begins so.
+    /// Returns whether no path's text begins so.
     pub(crate) fn is_broken(self) -> bool
         ensures { result ≡ shape.is_broken_shape self }
     {

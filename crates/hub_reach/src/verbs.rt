@@ -45,7 +45,7 @@ pub fn writes_at(profile: &Profile, root: &Root, path: &RelPath) -> bool
     profile.has_root(root) && may_change_at(profile, root, path)
 }
 
-/// Whether some change is allowed at the root.
+/// Returns whether some change is allowed at the root.
 fn may_change(profile: &Profile, root: &Root) -> bool
     ensures { result ≡ (reach.may profile.now root.now Create
         || reach.may profile.now root.now Update
@@ -56,7 +56,7 @@ fn may_change(profile: &Profile, root: &Root) -> bool
         || may(profile, root, Verb::Delete)
 }
 
-/// Whether some change is allowed at the path of the root.
+/// Returns whether some change is allowed at the path of the root.
 fn may_change_at(profile: &Profile, root: &Root, path: &RelPath) -> bool
     ensures { result ≡ (reach.may_at profile.now root.now path.now Create
         || reach.may_at profile.now root.now path.now Update
@@ -67,7 +67,7 @@ fn may_change_at(profile: &Profile, root: &Root, path: &RelPath) -> bool
         || may_at(profile, root, path, Verb::Delete)
 }
 
-/// Whether partial bars on the root forbid the change at the path.
+/// Returns whether partial bars on the root forbid the change at the path.
 fn is_partly_barred(profile: &Profile, root: &Root, path: &RelPath, verb: Verb) -> bool
     ensures { result ≡ reach.is_partly_barred profile.now root.now path.now verb }
 {
@@ -77,7 +77,7 @@ fn is_partly_barred(profile: &Profile, root: &Root, path: &RelPath, verb: Verb) 
         .any(|bar| is_partly_barred_by(profile, root, verb, path, bar))
 }
 
-/// Whether a partial bar is on the root, forbids the change and matches the path.
+/// Returns whether a partial bar is on the root, forbids the change and matches the path.
 fn is_partly_barred_by(
     profile: &Profile,
     root: &Root,
@@ -103,7 +103,7 @@ pub(crate) fn root_bars(profile: &Profile, side: Side) -> Bars
     }
 }
 
-/// Whether all differences are resolved in favour of the root.
+/// Returns whether all differences are resolved in favour of the root.
 fn is_forced_root(profile: &Profile, root: &Root) -> bool
     ensures { result ≡ reach.is_forced_root profile.now root.now }
 {
@@ -113,28 +113,28 @@ fn is_forced_root(profile: &Profile, root: &Root) -> bool
     }
 }
 
-/// Whether bars on the root forbid the change.
+/// Returns whether bars on the root forbid the change.
 fn is_barred(profile: &Profile, root: &Root, verb: Verb) -> bool
     ensures { result ≡ reach.is_barred profile.now root.now verb }
 {
     is_barred_at(profile, root, verb, Side::Left) || is_barred_at(profile, root, verb, Side::Right)
 }
 
-/// Whether this is the root of that side, and the bars on it forbid the change.
+/// Returns whether this is the root of that side, and the bars on it forbid the change.
 fn is_barred_at(profile: &Profile, root: &Root, verb: Verb, side: Side) -> bool
     ensures { result ≡ reach.is_barred_at profile.now root.now verb side }
 {
     is_root_at(profile, root, side) && is_covered_at(profile, verb, side)
 }
 
-/// Whether this is the profile's root of that side.
+/// Returns whether this is the profile's root of that side.
 fn is_root_at(profile: &Profile, root: &Root, side: Side) -> bool
     ensures { result ≡ is_root_at profile.now root.now side }
 {
     root == profile.root(side)
 }
 
-/// Whether the bars of that side forbid the change.
+/// Returns whether the bars of that side forbid the change.
 fn is_covered_at(profile: &Profile, verb: Verb, side: Side) -> bool
     ensures { result ≡ some_passes (reach.covers verb) (at_side profile.now.bars side) }
 {
@@ -154,7 +154,7 @@ fn bars_at(profile: &Profile, side: Side) -> Option<Bars>
     }
 }
 
-/// Whether bars forbid a change of that kind.
+/// Returns whether bars forbid a change of that kind.
 pub(crate) fn covers(verb: Verb, bars: Bars) -> bool
     ensures { result ≡ reach.covers verb bars }
 {

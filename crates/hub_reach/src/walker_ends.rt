@@ -40,7 +40,7 @@ impl WalkerEnds {
         })
     }
 
-    /// Whether a pattern of `ignore` matches the text of the state, and none of `ignorenot` does.
+    /// Returns whether a pattern of `ignore` matches the text of the state, and none of `ignorenot` does.
     pub(crate) fn ignore(&self, spots: &Spots) -> bool
         ensures { (ls : List Alternatives) (t : List ℕ) (i n k : ℕ) (bs : List PlacedBar)
             → AreEndsOf ls i n k bs self.now
@@ -50,7 +50,7 @@ impl WalkerEnds {
         spots.meets(&self.ignore) && !spots.meets(&self.ignorenot)
     }
 
-    /// Whether the text of the state is that of a kept value.
+    /// Returns whether the text of the state is that of a kept value.
     pub(crate) fn keep(&self, spots: &Spots) -> bool
         ensures { (ls : List Alternatives) (t : List ℕ) (i n k : ℕ) (bs : List PlacedBar)
             → AreEndsOf ls i n k bs self.now
@@ -59,7 +59,7 @@ impl WalkerEnds {
         spots.meets(&self.kept)
     }
 
-    /// Whether a choice of the partial bar with that number matches the text of the state.
+    /// Returns whether a choice of the partial bar with that number matches the text of the state.
     pub(crate) fn bar(&self, number: usize, spots: &Spots) -> bool
         requires { number < length self.now.barred.items }
         ensures { (ls : List Alternatives) (t : List ℕ) → spots.now ≡ seen ls t

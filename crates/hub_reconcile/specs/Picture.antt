@@ -10,7 +10,7 @@ use Rattle.hub_path.specs.declared.side.Side.TheVariants.{Left, Right}
 use Rattle.hub_profile.specs.Parts.{Parts}
 use Rattle.hub_tree.specs.Tree.{Archive, old_mark_at}
 use Rattle.hub_tree.specs.declared.contents.Mark.TheVariants as mark
-use Rattle.hub_reconcile.specs.Sight.{Sight, is_kept}
+use Rattle.hub_reconcile.specs.Sight.{Sight, is_kept_value}
 use Rattle.hub_reconcile.specs.View.{View, view}
 use Rattle.hub_reconcile.specs.declared.look.Look as look
 
@@ -32,7 +32,7 @@ view_by P O seen =
 abbrev pub first_looks : Parts → List Path
 first_looks P =
     flat_map (λ s. if nat_lt 1 (length s) then parent s ∷ s ∷ [] else s ∷ [])
-    (filter (is_kept P) P.paths)
+    (filter (is_kept_value P) P.paths)
 
 -- The Looks that a side needs: those, and one for each name that a Look on that side listed.
 abbrev pub needed : Parts → List (Path × Sight) → List Path

@@ -19,7 +19,7 @@ unfolding encode
 computed = tt
 
 -- A profile of that name, with roots of these texts, which are read from behind the first slash.
-abbrev profile_of : List ℕ → List ℕ → List ℕ → Parts
+abbrev pub profile_of : List ℕ → List ℕ → List ℕ → Parts
 profile_of name left right = record {
   name = name;
   roots = path_of left ∷ path_of right ∷ [];

@@ -4,8 +4,11 @@ pub mod Run
 pub mod Jobs
 pub mod Rounds
 pub mod Undecided
+pub mod RoundsRun
+pub mod Graph
 pub mod JobsExamples
 pub mod Faults
 pub mod Report
+pub mod GraphExamples
 pub mod ReportExamples
 pub mod Starts

@@ -47,7 +47,8 @@ text_of_root (Some r) = root_text r
 abbrev pub place_of : Parts → Place → List ℕ
 place_of W (Replica side) = text_of_root (at_side W.roots side)
 place_of W Archive =
-    joined (codes "archive of " ∷ text_of_root (at_side W.roots Left) ∷ codes " and " ∷ text_of_root (at_side W.roots Right) ∷ [])
+    joined (codes "archive of " ∷ text_of_root (at_side W.roots Left) ∷ codes " and "
+    ∷ text_of_root (at_side W.roots Right) ∷ [])
 
 abbrev pub place_text : Option Parts → Place → List ℕ
 place_text None place = []
@@ -85,30 +86,37 @@ number_of (h ∷ gs) g = if is_same_goal h g then 0 else number_of gs g + 1
 -- The line of an overlap: who writes what and where, and who reaches which path at or below it.
 abbrev pub overlap_line : List Parts → ℕ → ℕ → Place → Path → Path → List ℕ
 overlap_line Ps writer other place held path =
-    joined (codes "overlap: " ∷ name_at Ps writer ∷ codes " writes " ∷ path_text held ∷ codes " at " ∷ place_text (slice_get Ps writer) place
+    joined (codes "overlap: " ∷ name_at Ps writer ∷ codes " writes " ∷ path_text held
+    ∷ codes " at " ∷ place_text (slice_get Ps writer) place
     ∷ codes ", " ∷ name_at Ps other ∷ codes " reaches " ∷ path_text path ∷ codes "\n" ∷ [])
 
 -- The line of a breach: who may do what a rule forbids, and where.
 abbrev pub breach_text : List ℕ → Option Rule → ℕ → Path → List ℕ
 breach_text name None number path = []
 breach_text name (Some R) number path =
-    joined (codes "breach: " ∷ name ∷ codes " may " ∷ verb_text R.verb ∷ codes " " ∷ path_text path ∷ codes " at " ∷ root_text R.root
+    joined (codes "breach: " ∷ name ∷ codes " may " ∷ verb_text R.verb ∷ codes " " ∷ path_text path
+    ∷ codes " at " ∷ root_text R.root
     ∷ codes ", rule " ∷ decimal number ∷ codes "\n" ∷ [])
 
 abbrev pub breach_line : Members → ℕ → ℕ → Path → List ℕ
-breach_line S profile rule path = breach_text (name_at S.profiles profile) (slice_get S.rules rule) rule path
+breach_line S profile rule path =
+    breach_text (name_at S.profiles profile) (slice_get S.rules rule) rule path
 
 -- The line of a goal of that number that has more stages than are searched.
 abbrev pub too_large_line : ℕ → ℕ → List ℕ
 too_large_line goal stages =
-    joined (codes "too large: goal " ∷ decimal goal ∷ codes " has more than " ∷ decimal stages ∷ codes " stages\n" ∷ [])
+    joined (codes "too large: goal " ∷ decimal goal ∷ codes " has more than " ∷ decimal stages
+    ∷ codes " stages\n" ∷ [])
 
 -- The line of a goal of that number whose certificate is missing or wrong.
 abbrev pub goal_line : ℕ → List ℕ → List ℕ
-goal_line number wrong = joined (codes "refused: goal " ∷ decimal number ∷ codes " " ∷ wrong ∷ codes "\n" ∷ [])
+goal_line number wrong =
+    joined (codes "refused: goal " ∷ decimal number ∷ codes " " ∷ wrong ∷ codes "\n" ∷ [])
 
 abbrev pub not_closed : ℕ → ℕ → List ℕ
-not_closed stage class = joined (codes "stage " ∷ decimal stage ∷ codes " class " ∷ decimal class ∷ codes " NotClosed" ∷ [])
+not_closed stage class =
+    joined (codes "stage " ∷ decimal stage ∷ codes " class " ∷ decimal class ∷ codes " NotClosed"
+    ∷ [])
 
 abbrev pub accepting : ℕ → List ℕ
 accepting stage = joined (codes "stage " ∷ decimal stage ∷ codes " Accepting" ∷ [])
@@ -121,8 +129,11 @@ alphabet_line automaton.OutOfMemory = codes "fault: out of memory\n"
 -- The line of a fault, by what its numbers stand for: profiles, rules and goals.
 abbrev pub fault_line : Members → List Goal → CheckFault → List ℕ
 fault_line S gs fault.TooManyProfiles = codes "refused: TooManyProfiles\n"
-fault_line S gs (fault.SameName name) = joined (codes "refused: SameName " ∷ encode_utf8_all name ∷ codes "\n" ∷ [])
-fault_line S gs (fault.NestedRoots r s) = joined (codes "refused: NestedRoots " ∷ root_text r ∷ codes " and " ∷ root_text s ∷ codes "\n" ∷ [])
+fault_line S gs (fault.SameName name) =
+    joined (codes "refused: SameName " ∷ encode_utf8_all name ∷ codes "\n" ∷ [])
+fault_line S gs (fault.NestedRoots r s) =
+    joined (codes "refused: NestedRoots " ∷ root_text r ∷ codes " and " ∷ root_text s ∷ codes "\n"
+    ∷ [])
 fault_line S gs (fault.Overlap w o place held path) = overlap_line S.profiles w o place held path
 fault_line S gs (fault.Breach p r path) = breach_line S p r path
 fault_line S gs (fault.TooLarge g) = too_large_line (number_of gs g) STAGES
@@ -130,8 +141,10 @@ fault_line S gs (fault.Missing g) = goal_line (number_of gs g) (codes "Missing")
 fault_line S gs (fault.NoStart g) = goal_line (number_of gs g) (codes "NoStart")
 fault_line S gs (fault.NotClosed g k class) = goal_line (number_of gs g) (not_closed k class)
 fault_line S gs (fault.Accepting g k) = goal_line (number_of gs g) (accepting k)
-fault_line S gs (fault.Stray i) = joined (codes "refused: certificate " ∷ decimal i ∷ codes " Stray\n" ∷ [])
-fault_line S gs (fault.BadText line) = joined (codes "fault: certificates line " ∷ decimal line ∷ codes ": BadText\n" ∷ [])
+fault_line S gs (fault.Stray i) =
+    joined (codes "refused: certificate " ∷ decimal i ∷ codes " Stray\n" ∷ [])
+fault_line S gs (fault.BadText line) =
+    joined (codes "fault: certificates line " ∷ decimal line ∷ codes ": BadText\n" ∷ [])
 fault_line S gs (fault.AlphabetFault e) = alphabet_line e
 fault_line S gs fault.OutOfMemory = codes "fault: out of memory\n"
 

@@ -25,7 +25,8 @@ line_in number P =
 -- The lines of these rounds, of which the first has this number.
 abbrev pub lines_of_rounds : ℕ → List (List Parts) → List ℕ
 lines_of_rounds k [] = []
-lines_of_rounds k (Ps ∷ rounds) = flat_map (line_in (decimal k)) Ps ++ lines_of_rounds (k + 1) rounds
+lines_of_rounds k (Ps ∷ rounds) =
+    flat_map (line_in (decimal k)) Ps ++ lines_of_rounds (k + 1) rounds
 
 -- The line of a profile that is in no round: why, the number of the rule, and its name.
 abbrev pub rule_line : List ℕ → ℕ → List ℕ → List ℕ

@@ -19,6 +19,7 @@ pub data Start : Type 0 where
   BreachStart : Start
   TooLargeStart : Start
   RoundsStart : Start
+  GraphStart : Start
   ReachedStart : Start
   NotReachedStart : Start
   OtherStart : Start
@@ -39,8 +40,13 @@ r_start c = if c == 97 then ReachedStart else (if c == 117 then RoundsStart else
 
 abbrev pub start_of : ℕ → ℕ → Start
 start_of a c =
-    if a == 115 then SafeStart else (if a == 118 then VerifiedStart else (if a == 111 then OverlapStart else (if a == 98 then BreachStart
-    else (if a == 110 then NotReachedStart else (if a == 116 then TooLargeStart else (if a == 114 then r_start c else OtherStart))))))
+    if a == 115 then SafeStart
+    else (if a == 118 then VerifiedStart
+    else (if a == 111 then OverlapStart
+    else (if a == 98 then BreachStart
+    else (if a == 110 then NotReachedStart
+    else (if a == 116 then TooLargeStart
+    else (if a == 103 then GraphStart else (if a == 114 then r_start c else OtherStart)))))))
 
 abbrev pub start : List ℕ → Start
 start t = start_of (first t) (third t)

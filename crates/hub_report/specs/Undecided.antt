@@ -1,4 +1,5 @@
--- The lines for standard error: which two profiles count as clashing, since their goal was too large.
+-- The lines for standard error: which two profiles count as clashing, since their goal was too
+-- large.
 use Rattle.std.specs.Prelude.{◌==◌, ◌&&◌, ℕ, Bool, false, List, [], ◌∷◌, ◌++◌, Option, None, Some, if◌then◌else◌, codes}
 use Rattle.hub_profile.specs.Parts.{Parts}
 use Rattle.hub_cert.specs.declared.goal.Goal.{Goal}
@@ -56,7 +57,7 @@ lines_below Ps last [] = []
 lines_below Ps last (e ∷ es) =
     new_line Ps last (undecided_in e) ++ lines_below Ps (last_of last (undecided_in e)) es
 
--- A line for the two profiles of each clash that is too large, in the order of the faults, but none if the line before has the
--- same two in the same order.
+-- A line for the two profiles of each clash that is too large, in the order of the faults, but none
+-- if the line before has the same two in the same order.
 abbrev pub undecided_lines : List Parts → List CheckFault → List ℕ
 undecided_lines Ps es = lines_below Ps None es

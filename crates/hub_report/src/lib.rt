@@ -2,8 +2,10 @@
 //!
 //! - [`Report`] is an answer to an input.
 //! - [`Run`] is what the jobs of a safe set did and left; [`RunError`] is why they weren't run.
+//! - [`RoundsRun`] is what the jobs of a set did and left that were run by rounds.
 //! - [`lines_of_jobs`] are the lines that say what jobs did.
 //! - [`lines_of_clashes`] are the lines of all that clashes in a set, and [`text_of_rounds`] is the text of its rounds.
+//! - [`graph_of_clashes`] is the text of a [`Graph`] of what clashes, for Graphviz.
 //! - [`undecided_pairs`] are the lines for standard error: which two profiles were too large to decide.
 //! - [`Blocks`] is the text of an answer, in blocks.
 //!
@@ -14,27 +16,32 @@
 //! ```
 //!
 //! The contracts use the words of `specs/Report` (the text and the status of each answer), `specs/Blocks` (the bytes of a
-//! text in blocks), `specs/Jobs` (the lines of jobs), `specs/Rounds` (those of clashes and rounds), `specs/Undecided` (those for
-//! standard error), `specs/Run` (the line of why jobs weren't run), `specs/Refusal` (the lines of refusals) and `specs/Faults`
-//! (the names of faults). When an answer is right is said in `hub_serve`.
+//! text in blocks), `specs/Jobs` (the lines of jobs), `specs/Rounds` (those of clashes and rounds), `specs/RoundsRun` (the text of
+//! a run by rounds), `specs/Graph` (that of a graph), `specs/Undecided` (the lines for standard error), `specs/Run` (the line of why
+//! jobs weren't run), `specs/Refusal` (the lines of refusals) and `specs/Faults` (the names of faults). When an answer is right is said in `hub_serve`.
 //!
 //! Only functions that return a `Result` or a `Report` allocate.
 #![tactic(auto)]
 
 mod blocks;
+mod edges;
 mod faults;
+mod graph;
 mod jobs;
 mod parts;
 mod refusal;
 mod report;
 mod rounds;
+mod rounds_run;
 mod run;
 mod undecided;
 
 pub use blocks::Blocks;
+pub use graph::{Graph, graph_of_clashes};
 pub use jobs::lines_of_jobs;
 pub use refusal::lines_of_clashes;
 pub use report::{OUT_OF_MEMORY, Report};
 pub use rounds::{Cut, text_of_rounds};
+pub use rounds_run::RoundsRun;
 pub use run::{Run, RunError};
 pub use undecided::undecided_pairs;

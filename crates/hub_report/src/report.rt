@@ -9,8 +9,10 @@ use crate::blocks::{Blocks, block_of};
 use crate::faults::{
     bundle_fault_name, input_fault_name, path_fault_name, profile_fault_name, state_fault_name,
 };
+use crate::graph::Graph;
 use crate::parts::joined;
 use crate::rounds::Cut;
+use crate::rounds_run::{RoundsRun, text_of_rounds_run};
 use crate::run::{Run, RunError, text_of_error, text_of_run};
 use hub_bundle::{BundleLineFault, InputFault, SectionFault};
 use hub_path::{Name, PathFault};
@@ -28,6 +30,8 @@ pub enum Report<'a> {
     Safe,
     /// The profiles may run at the same time, and their jobs were run on the bundle's state.
     Ran(Run),
+    /// The rounds of the set were run one after another on the bundle's state.
+    RanByRounds(RoundsRun),
     /// The profiles may run at the same time. Their jobs weren't run.
     NotRun(RunError),
     /// A run was asked for, and the bundle has no state.
@@ -40,6 +44,8 @@ pub enum Report<'a> {
     Refused(String),
     /// The lines of all that clashes in the set, and of all that breaks a rule.
     Clashes(String),
+    /// The same, as a graph.
+    Graph(Graph),
     /// The rounds of the set.
     Cut(Cut),
     /// The check didn't verify a round. Tests show none.
@@ -64,7 +70,7 @@ pub enum Report<'a> {
 
 impl Report<'_> {
     /// The exit status: 0 if the set is safe, if all of it is in rounds, and for both answers to `reach`; 1 for a refusal, for
-    /// what clashes, and for rounds that leave a profile out or rest on a goal that was too large; 2 for a fault; 3 if the jobs
+    /// what clashes, and for rounds that leave a profile out or rest on a goal that was too large; 2 for a fault; 3 if jobs
     /// weren't run or a job was stopped.
     pub fn status(&self) -> u8
         ensures { result ≡ report.status_of self.now }
@@ -76,8 +82,10 @@ impl Report<'_> {
             | Report::Reached
             | Report::NotReached => 0,
             Report::Ran(run) => { if run.finished { 0 } else { 3 } }
+            Report::RanByRounds(run) => { if run.finished { 0 } else { 3 } }
             Report::NotRun(_) => 3,
             Report::Refused(_) | Report::Clashes(_) => 1,
+            Report::Graph(graph) => { if graph.safe { 0 } else { 1 } }
             Report::Cut(cut) => { if cut.decided { 0 } else { 1 } }
             Report::NoProfile(_)
             | Report::BadPath(_)
@@ -100,20 +108,22 @@ impl Report<'_> {
         }
     }
 
-    /// The text that says the answer: its line, the lines of clashes or of rounds, the certificates' text, or `safe` and below
-    /// it what the jobs did and the text of the state that they left. It ends with LF.
+    /// The text that says the answer: its line, the lines of clashes or of rounds, the graph, the certificates' text, or `safe`
+    /// or the number of rounds and below it what the jobs did and the text of the state that they left. It ends with LF.
     pub fn into_text(self, alloc: Global) -> Result<Blocks, AllocError>
         ensures { IfOk result (λ t. bytes_in t ≡ report.text_of self.entry) }
     {
         match self {
             Report::Safe => block_of(alloc, "safe\n"),
             Report::Ran(run) => text_of_run(alloc, run),
+            Report::RanByRounds(run) => text_of_rounds_run(alloc, run),
             Report::NotRun(error) => text_of_error(alloc, &error),
             Report::NoState => block_of(alloc, "fault: no state\n"),
             Report::Verified => block_of(alloc, "verified\n"),
             Report::Certified(text) | Report::Refused(text) | Report::Clashes(text) => {
                 Blocks::new(alloc, text.into_bytes())
             }
+            Report::Graph(graph) => Blocks::new(alloc, graph.text.into_bytes()),
             Report::Cut(cut) => Blocks::new(alloc, cut.text.into_bytes()),
             Report::NotVerified => block_of(alloc, "fault: a round was not verified\n"),
             Report::Reached => block_of(alloc, "reached\n"),

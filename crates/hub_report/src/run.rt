@@ -4,7 +4,7 @@ ghost use Rattle.hub_state.specs.Writing.{state_text};
 ghost use Rattle.hub_report.specs.Blocks.{bytes_in};
 ghost use Rattle.hub_report.specs.Run as runs;
 
-use crate::blocks::{Blocks, block_of};
+use crate::blocks::Blocks;
 use crate::parts::joined;
 use hub_path::Root;
 use hub_state::{State, write_state};
@@ -73,21 +73,27 @@ fn below_safe(lines: String) -> Result<Vec<u8>, AllocError>
 pub fn text_of_error(alloc: Global, error: &RunError) -> Result<Blocks, AllocError>
     ensures { IfOk result (λ t. bytes_in t ≡ codes "safe\n" ++ runs.error_line error.now) }
 {
+    let line = error_line(alloc, error)?;
+    Blocks::new(alloc, below_safe(line)?)
+}
+
+/// The line that says why jobs weren't run.
+pub(crate) fn error_line(alloc: Global, error: &RunError) -> Result<String, AllocError>
+    ensures { IfOk result (λ t. string_bytes t ≡ runs.error_line error.now) }
+{
     match error {
-        RunError::NoWorkers => block_of(alloc, "safe\nrun fault: NoWorkers\n"),
-        RunError::TooManyWorkers => block_of(alloc, "safe\nrun fault: TooManyWorkers\n"),
+        RunError::NoWorkers => String::from_str(alloc, "run fault: NoWorkers\n"),
+        RunError::TooManyWorkers => String::from_str(alloc, "run fault: TooManyWorkers\n"),
         RunError::MissingReplica(root) => missing_line(alloc, root),
-        RunError::ThreadRefused => block_of(alloc, "safe\nrun fault: ThreadRefused\n"),
-        RunError::Stranger => block_of(alloc, "safe\nrun fault: Stranger\n"),
-        RunError::Mismatch => block_of(alloc, "safe\nrun fault: Mismatch\n"),
+        RunError::ThreadRefused => String::from_str(alloc, "run fault: ThreadRefused\n"),
+        RunError::Stranger => String::from_str(alloc, "run fault: Stranger\n"),
+        RunError::Mismatch => String::from_str(alloc, "run fault: Mismatch\n"),
     }
 }
 
-/// `safe`, and below it the line that a root's replica is missing.
-fn missing_line(alloc: Global, root: &Root) -> Result<Blocks, AllocError>
-    ensures { IfOk result (λ t. bytes_in t ≡ codes "safe\n" ++ runs.missing_line root.now) }
+/// The line that a root's replica is missing.
+fn missing_line(alloc: Global, root: &Root) -> Result<String, AllocError>
+    ensures { IfOk result (λ t. string_bytes t ≡ runs.missing_line root.now) }
 {
-    let parts = ["safe\n", "run fault: MissingReplica ", root.as_str(), "\n"];
-    let line = joined(alloc, &parts)?;
-    Blocks::new(alloc, line.into_bytes())
+    joined(alloc, &["run fault: MissingReplica ", root.as_str(), "\n"])
 }

@@ -12,8 +12,8 @@ use std::alloc::{AllocError, Global};
 /// Two profiles, by their numbers.
 #[derive(Clone, Copy)]
 pub(crate) struct Pair {
-    writer: usize,
-    other: usize,
+    pub(crate) writer: usize,
+    pub(crate) other: usize,
 }
 
 /// Lines for standard error: the two profiles of each clash that was too large to be searched, who writes and who reaches, in
@@ -39,7 +39,7 @@ pub fn undecided_pairs(
 }
 
 /// The two profiles of a fault, if it is that their clash is too large.
-fn undecided_in(fault: &CheckFault) -> Option<Pair>
+pub(crate) fn undecided_in(fault: &CheckFault) -> Option<Pair>
     ensures { result ≡ lines.undecided_in fault.now }
 {
     match fault {

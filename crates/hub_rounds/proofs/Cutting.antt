@@ -115,8 +115,8 @@ used-members k (q ∷ ps) (suc i) p at is e = go (is_in k q.placing) (used-membe
 -- What is known of the profiles and of the rounds makes the answer.
 pub are-rounds : (S : Members) (es : List CheckFault) (r : Rounds) (ps : List Placed) (count : ℕ) → map (λ p. p.profile) ps ≡ S.profiles → ArePlaced es count ps → AreUsed count ps
     → r.rounds ≡ map (λ k. members k ps) (range_with_len 0 count) → r.left ≡ filter (λ p. is_outside count p.placing) ps
-    → ((k : ℕ) → k < count → IsSafeSet (record { profiles = members k ps; rules = S.rules })) → AreRivals es ps r.rivals → AreRounds S es r
-are-rounds S es r ps count all told used rounds left safe rivals =
+    → ((k : ℕ) → k < count → IsSafeSet (record { profiles = members k ps; rules = S.rules })) → AreRivals es ps r.rivals → r.rules ≡ S.rules → AreRounds S es r
+are-rounds S es r ps count all told used rounds left safe rivals rules =
     let many : length r.rounds ≡ count = ap length rounds ∙ length-map-range_with_len (λ k. members k ps) 0 count in
     record {
       placed = ps;
@@ -132,4 +132,5 @@ are-rounds S es r ps count all told used rounds left safe rivals =
           let w = round-at count r.rounds (λ n. members n ps) k Ps rounds at in
           subst (λ (Qs : List Parts). IsSafeSet (record { profiles = Qs; rules = S.rules })) (sym w.1) (safe k w.0);
       rivals = rivals;
+      rules = rules;
     }

@@ -9,7 +9,8 @@ use Rattle.hub_rounds.specs.declared.placing.Reason.TheVariants.{Breach, TooLarg
 use Rattle.hub_rounds.specs.declared.subject.Subject.{Subject}
 use Rattle.hub_rounds.specs.declared.subject.Subject.TheVariants.{Pair, Alone, Nothing}
 
--- A goal that is too large: both profiles of a clash count as clashing, and the profile of a breach as breaking the rule.
+-- A goal that is too large: both profiles of a clash count as clashing, and the profile of a breach
+-- as breaking the rule.
 abbrev pub subject_of_goal : Goal → Subject
 subject_of_goal (goal.Clash w o place) = Pair w o
 subject_of_goal (goal.Breach p r) = Alone p (TooLarge r)

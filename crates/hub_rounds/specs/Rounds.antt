@@ -34,7 +34,8 @@ IsPlaced es count i (Left why) = HasOwnLine es i why
 
 -- Each of them does.
 abbrev pub ArePlaced : List CheckFault → ℕ → List Placed → Type 0
-ArePlaced es count ps = (i : ℕ) (p : Placed) → slice_get ps i ≡ Some p → IsPlaced es count i p.placing
+ArePlaced es count ps =
+    (i : ℕ) (p : Placed) → slice_get ps i ≡ Some p → IsPlaced es count i p.placing
 
 -- Rounds from one count up to another are opened by this profile.
 abbrev pub Opens : ℕ → ℕ → Placing → Type 0
@@ -42,7 +43,9 @@ Opens before after q = (k : ℕ) → k < after → (k < before) ⊎ (is_in k q �
 
 -- Of so many rounds each has a profile.
 abbrev pub AreUsed : ℕ → List Placed → Type 0
-AreUsed count ps = (k : ℕ) → k < count → (i : ℕ) × (p : Placed) × (slice_get ps i ≡ Some p) × (is_in k p.placing ≡ true)
+AreUsed count ps =
+    (k : ℕ) → k < count → (i : ℕ) × (p : Placed) × (slice_get ps i ≡ Some p)
+    × (is_in k p.placing ≡ true)
 
 -- The profile of that number stands in a round.
 abbrev pub IsInRound : List Placed → ℕ → Type 0
@@ -56,10 +59,12 @@ pub record MayJoin (es : List CheckFault) (ps : List Placed) (ns : List ℕ) (i 
 -- Profiles of rounds, of which each two clash. So each is in a round of its own.
 pub record AreRivals (es : List CheckFault) (ps : List Placed) (ns : List ℕ) : Type 0 where
   pub placed : (m i : ℕ) → slice_get ns m ≡ Some i → IsInRound ps i
-  pub clash : (m n i j : ℕ) → m < n → slice_get ns m ≡ Some i → slice_get ns n ≡ Some j → HasPair es i j
+  pub clash : (m n i j : ℕ) → m < n → slice_get ns m ≡ Some i → slice_get ns n ≡ Some j
+      → HasPair es i j
 
--- The profiles of a set are cut into rounds by these lines. Each stands in exactly one place: in a round, or left out for a
--- reason that a line gives. No round is empty, and each is a safe set together with the rules.
+-- The profiles of a set are cut into rounds by these lines. Each stands in exactly one place: in a
+-- round, or left out for a reason that a line gives. No round is empty, and each is a safe set
+-- together with the rules. The rules are those of the set.
 pub record AreRounds (S : Members) (es : List CheckFault) (r : Rounds) : Type 0 where
   pub placed : List Placed
   pub all : map (λ p. p.profile) placed ≡ S.profiles
@@ -67,5 +72,7 @@ pub record AreRounds (S : Members) (es : List CheckFault) (r : Rounds) : Type 0 
   pub rounds : r.rounds ≡ map (λ k. members k placed) (range_with_len 0 (length r.rounds))
   pub left : r.left ≡ filter (λ p. not (is_in_some p.placing)) placed
   pub used : (k : ℕ) (Ps : List Parts) → slice_get r.rounds k ≡ Some Ps → Ps ≢ []
-  pub safe : (k : ℕ) (Ps : List Parts) → slice_get r.rounds k ≡ Some Ps → IsSafeSet (record { profiles = Ps; rules = S.rules })
+  pub safe : (k : ℕ) (Ps : List Parts) → slice_get r.rounds k ≡ Some Ps
+      → IsSafeSet (record { profiles = Ps; rules = S.rules })
   pub rivals : AreRivals es placed r.rivals
+  pub rules : r.rules ≡ S.rules

@@ -34,7 +34,8 @@ named t = record {
 abbrev overlap : ℕ → ℕ → CheckFault
 overlap w o = fault.Overlap w o (Replica Left) (path_of (codes "a")) (path_of (codes "a/b"))
 
--- an overlap is about two profiles, a breach about one; a goal that is too large is about those that it names
+-- an overlap is about two profiles, a breach about one; a goal that is too large is about those
+-- that it names
 what_lines_are_about :
     map subject_of
     (overlap 0 2
@@ -47,7 +48,9 @@ what_lines_are_about :
 what_lines_are_about = refl
 
 -- a pair is named either way round, and nobody is a pair with himself
-a_pair_either_way_round : names_pair (Pair 0 2) 0 2 ∷ names_pair (Pair 0 2) 2 0 ∷ names_pair (Pair 0 2) 0 1 ∷ names_pair (Pair 0 2) 0 0 ∷ names_pair (Alone 0 (Breach 2)) 0 2 ∷ [] ≡ true ∷ true ∷ false ∷ false ∷ false ∷ []
+a_pair_either_way_round : names_pair (Pair 0 2) 0 2 ∷ names_pair (Pair 0 2) 2 0
+    ∷ names_pair (Pair 0 2) 0 1 ∷ names_pair (Pair 0 2) 0 0 ∷ names_pair (Alone 0 (Breach 2)) 0 2
+    ∷ [] ≡ true ∷ true ∷ false ∷ false ∷ false ∷ []
 a_pair_either_way_round = refl
 
 -- docs and photos in the first round, office in the second one, and lists in none
@@ -62,13 +65,17 @@ office =
     ∷ standing (codes "photos") (placing.Round 0)
     ∷ []
 
-rounds_by_their_numbers : map (λ k. members k office) (0 ∷ 1 ∷ 2 ∷ []) ≡ (named (codes "docs") ∷ named (codes "photos") ∷ []) ∷ (named (codes "office") ∷ []) ∷ [] ∷ []
+rounds_by_their_numbers : map (λ k. members k office) (0 ∷ 1 ∷ 2 ∷ [])
+    ≡ (named (codes "docs") ∷ named (codes "photos") ∷ []) ∷ (named (codes "office") ∷ []) ∷ [] ∷ []
 rounds_by_their_numbers = refl
 
-who_is_left : filter (λ p. not (is_in_some p.placing)) office ≡ standing (codes "lists") (placing.Left (Breach 0)) ∷ []
+who_is_left : filter (λ p. not (is_in_some p.placing)) office
+    ≡ standing (codes "lists") (placing.Left (Breach 0)) ∷ []
 who_is_left = refl
 
-who_is_outside_of_the_first_round : map (λ p. p.profile) (filter (λ p. is_outside 1 p.placing) office) ≡ named (codes "office") ∷ named (codes "lists") ∷ []
+who_is_outside_of_the_first_round : map (λ p. p.profile)
+    (filter (λ p. is_outside 1 p.placing) office)
+    ≡ named (codes "office") ∷ named (codes "lists") ∷ []
 who_is_outside_of_the_first_round = refl
 
 -- docs and office are rivals by a line of the office over docs

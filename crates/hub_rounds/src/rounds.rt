@@ -25,6 +25,8 @@ pub struct Rounds {
     pub left: Items<Placed>,
     /// The numbers of profiles of which each two clash. So at least as many rounds are needed.
     pub rivals: Items<usize>,
+    /// The rules of the set.
+    pub rules: Rules,
 }
 
 /// Cuts a set into rounds, by what clashes in it. The profiles and rules of a round are a safe set, which the check has verified.
@@ -45,25 +47,27 @@ pub fn rounds_of(alloc: Global, set: ProfileSet, clashes: &Clashes) -> Result<Ro
     let profiles = profiles.into_vec();
     let (placed, count) = place_each(alloc, lines, &named, colours.as_slice(), profiles)?;
     let rivals = rivals_of(alloc, lines, &named, placed.as_slice())?;
-    let (rounds, left) = cut(alloc, placed, count, rules)?;
+    let (rounds, left, rules) = cut(alloc, placed, count, rules)?;
     Ok(Rounds {
         rounds,
         left,
         rivals,
+        rules,
     })
 }
 
-/// Cuts the profiles into so many rounds, each of which is checked. Returns the rounds, and who is in none of them.
+/// Cuts the profiles into so many rounds, each of which is checked. Returns the rounds, who is in none of them, and the rules.
 fn cut(
     alloc: Global,
     placed: Vec<Placed>,
     count: usize,
     rules: Rules,
-) -> Result<(Items<Items<Profile>>, Items<Placed>), RoundsFault>
+) -> Result<(Items<Items<Profile>>, Items<Placed>, Rules), RoundsFault>
     ensures rounds { IfOk result
         (λ r. r.0 ≡ map (λ k. members k placed.items) (range_with_len 0 count)) }
     ensures left { IfOk result
         (λ r. r.1 ≡ filter (λ p. is_outside count p.placing) placed.items) }
+    ensures rules { IfOk result (λ r. r.2 ≡ rules) }
     ensures safe { IfOk result (λ r. (k : ℕ) → k < count → IsSafeSet
         (record { profiles = members k placed.items; rules = rules })) }
 {
@@ -77,7 +81,7 @@ fn cut(
         rest = others;
         rules = kept;
     }
-    Ok((Items::from_vec(rounds), Items::from_vec(rest)))
+    Ok((Items::from_vec(rounds), Items::from_vec(rest), rules))
 }
 
 /// Takes the profiles of a round, and returns them and the others, both in their order.

@@ -39,7 +39,8 @@ AreConsistent S Ps jobs =
     × ((j : ℕ) → j < length Ps → count_by (λ J. J.number == j) jobs ≡ 1)
 
 abbrev pub IsLowestInconsistent : State → List Parts → List JobValue → ℕ → Type 0
-IsLowestInconsistent S Ps jobs j = IsInconsistent S Ps jobs j × ((i : ℕ) → i < j → ¬ (IsInconsistent S Ps jobs i))
+IsLowestInconsistent S Ps jobs j =
+    IsInconsistent S Ps jobs j × ((i : ℕ) → i < j → ¬ (IsInconsistent S Ps jobs i))
 
 -- The book was made for the profiles of the set, and opens with the state's replica of its root.
 abbrev pub OpensAs : State → List Parts → BookValue → Type 0
@@ -75,7 +76,8 @@ Agrees S Ps books jobs (r, Some j) =
 
 -- With none the root doesn't have exactly one book, or that wasn't made for the set and the state.
 -- With a job: it has the root, and the entries differ.
-abbrev pub Disagrees : State → List Parts → List BookValue → List JobValue → Path × Option ℕ → Type 0
+abbrev pub Disagrees : State → List Parts → List BookValue → List JobValue → Path × Option ℕ
+    → Type 0
 Disagrees S Ps books jobs (r, None) =
     (length (books_at books r) ≢ 1)
     ⊎ ((B : BookValue) × (books_at books r ≡ B ∷ []) × ¬ (OpensAs S Ps B))
@@ -102,7 +104,8 @@ places Ps = flat_map (places_at (length Ps)) (roots_of Ps)
 abbrev pub IsFirstMismatch : State → List Parts → List BookValue → List JobValue
     → List (Path × Option ℕ) → Path × Option ℕ → Type 0
 IsFirstMismatch S Ps books jobs all at =
-    (front rest : List (Path × Option ℕ)) × (all ≡ front ++ at ∷ rest) × Disagrees S Ps books jobs at
+    (front rest : List (Path × Option ℕ)) × (all ≡ front ++ at ∷ rest)
+    × Disagrees S Ps books jobs at
     × All (Agrees S Ps books jobs) front
 
 -- The entries that a mismatch shows: of the job in the root's history, and of its log there.
@@ -125,7 +128,8 @@ IsUnsettled S Ps books jobs fault.NoWorkers = ⊥
 IsUnsettled S Ps books jobs fault.TooManyWorkers = ⊥
 IsUnsettled S Ps books jobs (fault.MissingReplica r) = first_missing S Ps ≡ Some r
 IsUnsettled S Ps books jobs (fault.Mismatch r j history log) =
-    (first_missing S Ps ≡ None) × AreConsistent S Ps jobs × IsFirstMismatch S Ps books jobs (places Ps) (r, j)
+    (first_missing S Ps ≡ None) × AreConsistent S Ps jobs
+    × IsFirstMismatch S Ps books jobs (places Ps) (r, j)
     × (history ≡ history_shown books r j) × (log ≡ log_shown Ps jobs r j)
 IsUnsettled S Ps books jobs (fault.BadTurn t) = ⊥
 IsUnsettled S Ps books jobs fault.ThreadRefused = ⊥

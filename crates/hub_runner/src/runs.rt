@@ -28,8 +28,8 @@ pub const WORKERS: usize = 16;
 ///
 /// Each job does what it does alone, and each has ended: it is finished, or it was stopped because it found no memory.
 ///
-/// It calls the gate's `before` and `after` around each step, and its `within` under the lock. The number of threads is only
-/// tested.
+/// It calls the gate's `before` and `after` around each step, its `within` under the lock, and its `ended` once for each job. The
+/// number of threads is only tested.
 ///
 /// The fault is the first of these that applies:
 /// - `NoWorkers` for no workers, and `TooManyWorkers` for more than [`WORKERS`];

@@ -93,7 +93,7 @@ pub(crate) fn work<'a, G: Gate, R: Wait>(
     unreachable!()
 }
 
-/// Makes some steps of a job, and sends it on, or back if it has ended. A job that can't be sent on is stepped further.
+/// Makes some steps of a job, and sends it on, or back if it has ended: then the gate is told so. A job that can't be sent on is stepped further.
 fn step_and_send<'a, G: Gate, R: Wait>(
     rt: &R,
     gate: &G,
@@ -105,7 +105,10 @@ fn step_and_send<'a, G: Gate, R: Wait>(
     let mut queued = queued;
     for _ in rt.forever() {
         match some_steps(rt, gate, desks, seats, queued) {
-            Stepped::Over(ended) => return send_back(rt, &channels.to_caller, ended),
+            Stepped::Over(ended) => {
+                gate.ended(ended.job.number());
+                return send_back(rt, &channels.to_caller, ended);
+            }
             Stepped::Going(going) => match send_on(rt, &channels.to_workers, going) {
                 None => return,
                 Some(unsent) => queued = unsent,

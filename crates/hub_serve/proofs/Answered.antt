@@ -9,14 +9,19 @@ use Rattle.std.proofs.lemmas.Bool.{false≢true, true≢false}
 use Rattle.hub_cli.specs.declared.words.Question.TheVariants as ask
 use Rattle.hub_cli.specs.Words.{Request, about, asked_of}
 use Rattle.hub_report.specs.declared.report.Report.{Report}
-use Rattle.hub_report.specs.declared.report.Report.TheVariants.{Safe, Ran, NotRun, NoState, Verified, Certified, Refused, Clashes, Cut, NotVerified, Reached, NotReached, NoProfile, BadPath, Unread, BadBundle, BadSection, OutOfMemory}
+use Rattle.hub_report.specs.declared.report.Report.TheVariants.{Safe, Ran, RanByRounds, NotRun, NoState, Verified}
+use Rattle.hub_report.specs.declared.report.Report.TheVariants.{Certified, Refused, Clashes, Graph, Cut, NotVerified}
+use Rattle.hub_report.specs.declared.report.Report.TheVariants.{Reached, NotReached, NoProfile, BadPath}
+use Rattle.hub_report.specs.declared.report.Report.TheVariants.{Unread, BadBundle, BadSection, OutOfMemory}
 use Rattle.hub_report.specs.Report.{status_of}
 use Rattle.hub_report.specs.Starts.{begins, first}
 use Rattle.hub_bundle.specs.declared.input.InputFault.TheVariants.{TurnsSpent}
 use Rattle.hub_serve.specs.Reads.{Reads}
 use Rattle.hub_serve.specs.Rounds.{BeginsAsClash}
-use Rattle.hub_serve.specs.Report.{Holds, SpellsClashes, SpellsReach, SpellsRounds, SpellsSafe, SpellsUnsafe, SpellsVerified, Serves, Answers, AnswersNothing, WritesText}
-use Rattle.hub_serve.proofs.FirstLines.{only_safe, only_clashes, only_rounds, only_verified, only_overlaps, only_breaches, only_reached, only_not_reached, OverlapsShown, BreachesShown}
+use Rattle.hub_serve.specs.Report.{Holds, SpellsClashes, SpellsGraph, SpellsReach, SpellsRounds, SpellsRoundsRun}
+use Rattle.hub_serve.specs.Report.{SpellsSafe, SpellsUnsafe, SpellsVerified, Serves, Answers, AnswersNothing, WritesText}
+use Rattle.hub_serve.proofs.FirstLines.{only_safe, only_clashes, only_graph, only_rounds, only_verified, only_overlaps, only_breaches, only_reached, only_not_reached}
+use Rattle.hub_serve.proofs.Refused.{OverlapsShown, BreachesShown}
 
 -- What follows the bytes that were there is what was appended.
 appended : (old new : Option (List ℕ)) (before more text : List ℕ) → Appends old new more → old ≡ Some before → new ≡ Some (before ++ text) → more ≡ text
@@ -48,9 +53,18 @@ module _ (request : Request) (remaining old new : Option (List ℕ)) (reads : Re
   breach-written shown text a e f g = only_breaches shown request bytes a.report a.text a.writes.written _ a.is_text (appended old new before _ _ a.writes.appends f g) (held a e)
 
   rounds-written : (text : List ℕ) → Answers request remaining old new reads write_failed status → remaining ≡ Some bytes → old ≡ Some before
-      → new ≡ Some (before ++ (codes "rounds " ++ text)) → SpellsRounds (Some request) bytes (codes "rounds " ++ text) write_failed status
+      → new ≡ Some (before ++ (codes "rounds " ++ text))
+      → SpellsRounds (Some request) bytes (codes "rounds " ++ text) write_failed status
+      ⊎ SpellsRoundsRun (Some request) bytes (codes "rounds " ++ text) write_failed status
   rounds-written text a e f g =
       only_rounds request bytes a.report a.text a.writes.written text write_failed status a.is_text (appended old new before _ _ a.writes.appends f g) a.writes.whole a.writes.status_is
+      (held a e)
+
+  graph-written : (text : List ℕ) → Answers request remaining old new reads write_failed status → remaining ≡ Some bytes → old ≡ Some before
+      → new ≡ Some (before ++ (codes "graph clashes {" ++ text))
+      → SpellsGraph (Some request) bytes (codes "graph clashes {" ++ text) write_failed status
+  graph-written text a e f g =
+      only_graph request bytes a.report a.text a.writes.written text write_failed status a.is_text (appended old new before _ _ a.writes.appends f g) a.writes.whole a.writes.status_is
       (held a e)
 
   clashes-written : (text : List ℕ) → Answers request remaining old new reads write_failed status → Some request ≡ Some (about ask.Clashes) → remaining ≡ Some bytes → old ≡ Some before
@@ -97,12 +111,14 @@ decided-le false = omega arith
 status-le : (r : Report) → status_of r ≤ 3
 status-le Safe = omega arith
 status-le (Ran r) = ends-le r.finished
+status-le (RanByRounds r) = ends-le r.finished
 status-le (NotRun f) = omega arith
 status-le NoState = omega arith
 status-le Verified = omega arith
 status-le (Certified t) = omega arith
 status-le (Refused t) = omega arith
 status-le (Clashes t) = omega arith
+status-le (Graph g) = decided-le g.safe
 status-le (Cut c) = decided-le c.decided
 status-le NotVerified = omega arith
 status-le Reached = omega arith
@@ -130,6 +146,7 @@ serves-answer overlaps breaches request remaining old new reads write_failed sta
   overlap = λ bytes before text e f g. overlap-written request remaining old new reads write_failed status bytes before overlaps text a e f g;
   breach = λ bytes before text e f g. breach-written request remaining old new reads write_failed status bytes before breaches text a e f g;
   rounds = λ bytes before text e f g. rounds-written request remaining old new reads write_failed status bytes before text a e f g;
+  graph = λ bytes before text e f g. graph-written request remaining old new reads write_failed status bytes before text a e f g;
   clashes = λ bytes before text is e f g b. clashes-written request remaining old new reads write_failed status bytes before text a is e f g b;
   reached = λ bytes before text e f g. reached-written request remaining old new reads write_failed status bytes before text a e f g;
   not_reached = λ bytes before text e f g. not_reached-written request remaining old new reads write_failed status bytes before text a e f g;
@@ -147,6 +164,7 @@ serves-nothing remaining old new reads write_failed status a = record {
   overlap = λ bytes before text e f g. absurd (nothing-written old new status before _ 111 a refl f g);
   breach = λ bytes before text e f g. absurd (nothing-written old new status before _ 98 a refl f g);
   rounds = λ bytes before text e f g. absurd (nothing-written old new status before _ 114 a refl f g);
+  graph = λ bytes before text e f g. absurd (nothing-written old new status before _ 103 a refl f g);
   clashes = λ bytes before text is e f g b. absurd (none-some (about ask.Clashes) is);
   reached = λ bytes before text e f g. absurd (nothing-written old new status before _ 114 a refl f g);
   not_reached = λ bytes before text e f g. absurd (nothing-written old new status before _ 110 a refl f g);

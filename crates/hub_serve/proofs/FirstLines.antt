@@ -9,41 +9,54 @@ use Rattle.hub_cert.specs.Set.{Members, IsSafeSet}
 use Rattle.hub_cert.specs.declared.goal.Place.{Place}
 use Rattle.hub_cert.specs.declared.fault.CheckFault.{CheckFault}
 use Rattle.hub_cert.specs.declared.fault.CheckFault.TheVariants as fault
-use Rattle.hub_search.specs.Search.{Disproves, IsFirstFault}
+use Rattle.hub_search.specs.Search.{Disproves}
 use Rattle.hub_state.specs.State.{State}
 use Rattle.hub_state.specs.Writing.{state_text}
 use Rattle.hub_bundle.specs.declared.sections.Contents.{Contents}
 use Rattle.hub_bundle.specs.Sections.{Spells, members}
 use Rattle.hub_report.specs.declared.report.Report.{Report}
-use Rattle.hub_report.specs.declared.report.Report.TheVariants.{Safe, Ran, NotRun, NoState, Verified, Certified, Refused, Clashes, Cut, NotVerified, Reached, NotReached, NoProfile, BadPath, Unread, BadBundle, BadSection, OutOfMemory}
+use Rattle.hub_report.specs.declared.report.Report.TheVariants.{Safe, Ran, RanByRounds, NotRun, NoState, Verified}
+use Rattle.hub_report.specs.declared.report.Report.TheVariants.{Certified, Refused, Clashes, Graph, Cut, NotVerified}
+use Rattle.hub_report.specs.declared.report.Report.TheVariants.{Reached, NotReached, NoProfile, BadPath}
+use Rattle.hub_report.specs.declared.report.Report.TheVariants.{Unread, BadBundle, BadSection, OutOfMemory}
 use Rattle.hub_report.specs.declared.run.Run as run
 use Rattle.hub_report.specs.declared.run.RunError.{RunError}
 use Rattle.hub_report.specs.Report.{status_of, text_of}
 use Rattle.hub_report.specs.Refusal.{refusal_line}
 use Rattle.hub_report.specs.Jobs.{lines_of_jobs}
 use Rattle.hub_report.specs.Run.{error_line}
-use Rattle.hub_report.specs.Starts.{HoldsOfStarts, Start, SafeStart, VerifiedStart, OverlapStart, BreachStart, TooLargeStart, RoundsStart, ReachedStart, NotReachedStart, OtherStart, start, begins, lines-start, refusal-start}
+use Rattle.hub_report.specs.Starts.{HoldsOfStarts, Start, SafeStart, VerifiedStart, OverlapStart, BreachStart, TooLargeStart}
+use Rattle.hub_report.specs.Starts.{RoundsStart, GraphStart, ReachedStart, NotReachedStart, OtherStart, start, begins}
+use Rattle.hub_report.specs.Starts.{lines-start, refusal-start}
+use Rattle.hub_report.specs.RoundsRun.{rounds_run_text}
+use Rattle.hub_report.specs.declared.rounds_run.RoundsRun.{RoundsRun}
 use Rattle.hub_cli.specs.declared.words.Question.{Question}
 use Rattle.hub_cli.specs.declared.words.Question.TheVariants as ask
-use Rattle.hub_cli.specs.declared.words.Question.TheVariants.{CheckWithState, Run, Check, Certify, Verify}
+use Rattle.hub_cli.specs.declared.words.Question.TheVariants.{CheckWithState, Run, RunByRounds, Check, Certify, Verify}
 use Rattle.hub_cli.specs.Words.{Request, about}
 use Rattle.hub_serve.specs.declared.task.Task.{Task}
 use Rattle.hub_serve.specs.declared.task.Task.TheVariants as task
-use Rattle.hub_serve.specs.Report.{FaultOf, IsRefusedFor, IsTold, IsTrueOf, Holds, SpellsClashes, SpellsRounds, SpellsSafe, SpellsUnsafe, SpellsVerified}
-use Rattle.hub_serve.specs.Rounds.{BeginsAsClash, ListsClashes, WritesRounds}
+use Rattle.hub_serve.specs.ByRounds.{HasRunByRounds}
+use Rattle.hub_serve.specs.Report.{FaultOf, IsRefusedFor, IsTold, IsTrueOf, Holds, SpellsClashes, SpellsGraph}
+use Rattle.hub_serve.specs.Report.{SpellsRounds, SpellsRoundsRun, SpellsSafe, SpellsUnsafe, SpellsVerified}
+use Rattle.hub_serve.specs.Rounds.{BeginsAsClash, DrawsClashes, ListsClashes, WritesRounds}
 use Rattle.hub_serve.specs.Runs.{HasRunAs, IsBelow, IsPrevented, IsRunOn}
-use Rattle.hub_serve.specs.Task.{AsksFor, task_of}
+use Rattle.hub_serve.specs.Task.{AsksFor}
+use Rattle.hub_serve.proofs.Asking.{asks-graph, asks-rounds, asks-rounds-run, asks-verify, unrefused}
+use Rattle.hub_serve.proofs.Refused.{BreachesShown, OverlapsShown, breach-refused, overlap-refused}
 
 -- What holds of what an input says holds of the input.
 pub told-holds : (request : Request) (bytes : List ℕ) (c : Contents) (r : Report) → Spells bytes c → IsTold request c r → Holds request bytes r
 told-holds request bytes c Safe s h = record { contents = c; spelled = s; told = h }
 told-holds request bytes c (Ran r) s h = record { contents = c; spelled = s; told = h }
+told-holds request bytes c (RanByRounds r) s h = record { contents = c; spelled = s; told = h }
 told-holds request bytes c (NotRun f) s h = record { contents = c; spelled = s; told = h }
 told-holds request bytes c NoState s h = record { contents = c; spelled = s; told = h }
 told-holds request bytes c Verified s h = record { contents = c; spelled = s; told = h }
 told-holds request bytes c (Certified t) s h = record { contents = c; spelled = s; told = h }
 told-holds request bytes c (Refused t) s h = record { contents = c; spelled = s; told = h }
 told-holds request bytes c (Clashes t) s h = record { contents = c; spelled = s; told = h }
+told-holds request bytes c (Graph g) s h = record { contents = c; spelled = s; told = h }
 told-holds request bytes c (Cut t) s h = record { contents = c; spelled = s; told = h }
 told-holds request bytes c NotVerified s h = record { contents = c; spelled = s; told = h }
 told-holds request bytes c Reached s h = record { contents = c; spelled = s; told = h }
@@ -54,38 +67,6 @@ told-holds request bytes c (Unread f) s h = absurd h
 told-holds request bytes c (BadBundle f) s h = absurd h
 told-holds request bytes c (BadSection f) s h = absurd h
 told-holds request bytes c OutOfMemory s h = tt
-
--- What is shown of a set that isn't safe.
-abbrev pub OverlapsShown : Type 0
-OverlapsShown = (S : Members) (w o : ℕ) (place : Place) (held path : Path) → IsFirstFault S (fault.Overlap w o place held path) → IsSafeSet S → ⊥
-
-abbrev pub BreachesShown : Type 0
-BreachesShown = (S : Members) (p k : ℕ) (path : Path) → IsFirstFault S (fault.Breach p k path) → IsSafeSet S → ⊥
-
--- An overlap or a breach is told only as the first fault.
-overlap-first : (t : Task) (c : Contents) (w o : ℕ) (place : Place) (held path : Path) → IsRefusedFor t c (fault.Overlap w o place held path) → IsFirstFault (members c) (fault.Overlap w o place held path)
-overlap-first t c w o place held path (inl h) = absurd h
-overlap-first task.Check c w o place held path (inr (inl h)) = cc
-overlap-first task.Check c w o place held path (inr (inr h)) = h
-overlap-first (task.RunJobs n S) c w o place held path (inr (inl h)) = cc
-overlap-first (task.RunJobs n S) c w o place held path (inr (inr h)) = h
-overlap-first task.Certify c w o place held path (inr (inl h)) = cc
-overlap-first task.Certify c w o place held path (inr (inr h)) = h
-overlap-first task.Verify c w o place held path (inr h) = absurd h
-overlap-first task.Clashes c w o place held path (inr h) = absurd h
-overlap-first task.Rounds c w o place held path (inr h) = absurd h
-
-breach-first : (t : Task) (c : Contents) (p k : ℕ) (path : Path) → IsRefusedFor t c (fault.Breach p k path) → IsFirstFault (members c) (fault.Breach p k path)
-breach-first t c p k path (inl h) = absurd h
-breach-first task.Check c p k path (inr (inl h)) = cc
-breach-first task.Check c p k path (inr (inr h)) = h
-breach-first (task.RunJobs n S) c p k path (inr (inl h)) = cc
-breach-first (task.RunJobs n S) c p k path (inr (inr h)) = h
-breach-first task.Certify c p k path (inr (inl h)) = cc
-breach-first task.Certify c p k path (inr (inr h)) = h
-breach-first task.Verify c p k path (inr h) = absurd h
-breach-first task.Clashes c p k path (inr h) = absurd h
-breach-first task.Rounds c p k path (inr h) = absurd h
 
 -- Where no jobs are to be run, nothing is below `safe`.
 check-below : (t : Task) (M : Members) → (t ≡ task.Check) ⊎ (t ≡ task.Clashes) → IsBelow t M 0 []
@@ -112,7 +93,7 @@ ran-below t M r h =
       h.may,
       record {
         outcome = h.run.outcome;
-        run = subst (λ S. IsRunOn M S h.run.outcome) (sym (same_Some h.state h.run.opening h.run.state_is)) h.run.run;
+        run = h.run.run;
         text = ap (λ ls. ls ++ state_text r.state) h.run.lines ∙ ap (λ S. lines_of_jobs M.profiles h.run.outcome.jobs ++ state_text S) h.run.left;
         finished = (λ z. h.run.finished.0 (zero-finished r.finished z), λ f. ap run_status (h.run.finished.1 f));
         others = other-is-3 r.finished;
@@ -123,53 +104,6 @@ ran-below t M r h =
 error-below : (t : Task) (M : Members) (f : RunError) → IsPrevented t M f → IsBelow t M 3 (error_line f)
 error-below t M f h =
     subst (λ u. IsBelow u M 3 (error_line f)) (sym h.task_is) (inr (record { error = f; reason = h.reason; text = refl; status_is = refl }))
-
--- Each of these is asked for by one question.
-asks-verify : (request : Request) (state : Option State) → AsksFor request state task.Verify → request ≡ about Verify
-asks-verify request state a = a.asked ∙ ap about (go a.of_set state a.task_is)
-  where
-    go : (q : Question) (o : Option State) → task_of q o ≡ Some task.Verify → q ≡ Verify
-    go CheckWithState None is = cc
-    go CheckWithState (Some S) is = cc
-    go (Run n) None is = cc
-    go (Run n) (Some S) is = cc
-    go Check o is = cc
-    go Certify o is = cc
-    go Verify o is = refl
-    go ask.Clashes o is = cc
-    go ask.Rounds o is = cc
-
-asks-rounds : (request : Request) (state : Option State) → AsksFor request state task.Rounds → request ≡ about ask.Rounds
-asks-rounds request state a = a.asked ∙ ap about (go a.of_set state a.task_is)
-  where
-    go : (q : Question) (o : Option State) → task_of q o ≡ Some task.Rounds → q ≡ ask.Rounds
-    go CheckWithState None is = cc
-    go CheckWithState (Some S) is = cc
-    go (Run n) None is = cc
-    go (Run n) (Some S) is = cc
-    go Check o is = cc
-    go Certify o is = cc
-    go Verify o is = cc
-    go ask.Clashes o is = cc
-    go ask.Rounds o is = refl
-
--- The question what clashes asks for nothing else.
-asked-clashes : (request : Request) (state : Option State) (t : Task) → AsksFor request state t → request ≡ about ask.Clashes → t ≡ task.Clashes
-asked-clashes request state t a is = go a.of_set (sym a.asked ∙ is) a.task_is
-  where
-    go : (q : Question) → about q ≡ about ask.Clashes → task_of q state ≡ Some t → t ≡ task.Clashes
-    go CheckWithState e h = cc
-    go (Run n) e h = cc
-    go Check e h = cc
-    go Certify e h = cc
-    go Verify e h = cc
-    go ask.Clashes e h = sym (same_Some task.Clashes t h)
-    go ask.Rounds e h = cc
-
--- So no set is refused for a goal then.
-unrefused : (request : Request) (c : Contents) (t : Task) (e : CheckFault) → AsksFor request c.state t → request ≡ about ask.Clashes → IsRefusedFor t c e → IsRefused (members c) e
-unrefused request c t e a is (inl h) = h
-unrefused request c t e a is (inr h) = absurd (subst (λ u. FaultOf u (members c) c.certificates e) (asked-clashes request c.state t a is) h)
 
 -- A text that says of the input that its set is safe: below `safe` is what is to follow it.
 record SaysSafe (request : Request) (bytes line : List ℕ) (status : ℕ) : Type 0 where
@@ -188,6 +122,28 @@ record SaysClashes (bytes line : List ℕ) (status : ℕ) : Type 0 where
   pub spelled : Spells bytes contents
   pub listed : ListsClashes (members contents) line
   pub status_is : status ≡ 1
+
+-- a text that draws it,
+record SaysGraph (request : Request) (bytes line : List ℕ) (status : ℕ) : Type 0 where
+  pub asked : request ≡ about ask.Graph
+  pub contents : Contents
+  pub spelled : Spells bytes contents
+  pub safe : Bool
+  pub drawn : DrawsClashes (members contents) line safe
+  pub status_is : status ≡ cond safe 0 1
+
+-- a text of a run by its rounds,
+record SaysRoundsRun (request : Request) (bytes line : List ℕ) (status : ℕ) : Type 0 where
+  pub workers : ℕ
+  pub asked : request ≡ about (RunByRounds workers)
+  pub contents : Contents
+  pub spelled : Spells bytes contents
+  pub state : State
+  pub state_is : contents.state ≡ Some state
+  pub run : RoundsRun
+  pub was_run : HasRunByRounds (members contents) workers state run
+  pub line_is : line ≡ rounds_run_text run
+  pub status_is : status ≡ run_status run.finished
 
 -- and a text of its rounds.
 record SaysRounds (request : Request) (bytes line : List ℕ) (status : ℕ) : Type 0 where
@@ -209,7 +165,8 @@ Means request bytes line status VerifiedStart = SpellsVerified (Some request) by
 Means request bytes line status OverlapStart = (OverlapsShown → SpellsUnsafe bytes) × AreClashes request bytes line status
 Means request bytes line status BreachStart = (BreachesShown → SpellsUnsafe bytes) × AreClashes request bytes line status
 Means request bytes line status TooLargeStart = AreClashes request bytes line status
-Means request bytes line status RoundsStart = SaysRounds request bytes line status
+Means request bytes line status RoundsStart = SaysRounds request bytes line status ⊎ SaysRoundsRun request bytes line status
+Means request bytes line status GraphStart = SaysGraph request bytes line status
 Means request bytes line status ReachedStart = IsTrueOf request bytes Reached
 Means request bytes line status NotReachedStart = IsTrueOf request bytes NotReached
 Means request bytes line status OtherStart = ⊤
@@ -224,7 +181,7 @@ refusal-means request bytes line status c t e spelled asked refused =
         λ shown. record {
           contents = c;
           spelled = spelled;
-          unsafe = shown (members c) w o place held path (overlap-first t c w o place held path (subst (IsRefusedFor t c) is refused));
+          unsafe = overlap-refused shown t c w o place held path (subst (IsRefusedFor t c) is refused);
         },
         λ asks. absurd (subst (IsRefused (members c)) is (unrefused request c t e asked asks refused)),
       );
@@ -232,7 +189,7 @@ refusal-means request bytes line status c t e spelled asked refused =
         λ shown. record {
           contents = c;
           spelled = spelled;
-          unsafe = shown (members c) p k path (breach-first t c p k path (subst (IsRefusedFor t c) is refused));
+          unsafe = breach-refused shown t c p k path (subst (IsRefusedFor t c) is refused);
         },
         λ asks. absurd (subst (IsRefused (members c)) is (unrefused request c t e asked asks refused)),
       );
@@ -282,6 +239,21 @@ text-means request bytes (Ran r) line l h =
       below_is = ran-below h.told.to_do (members h.contents) r h.told.told;
       line_is = l;
     })
+text-means request bytes (RanByRounds r) line l h =
+    let t = h.told.told in
+    let asked = asks-rounds-run request h.contents.state t.workers t.state (subst (AsksFor request h.contents.state) t.task_is h.told.asked) in
+    subst (λ ls. Means request bytes line (run_status r.finished) (start ls)) (sym l) (inr (record {
+      workers = t.workers;
+      asked = asked.0;
+      contents = h.contents;
+      spelled = h.spelled;
+      state = t.state;
+      state_is = asked.1;
+      run = r;
+      was_run = t.run;
+      line_is = l;
+      status_is = refl;
+    }))
 text-means request bytes (NotRun f) line l h =
     subst (λ t. Means request bytes line 3 (start t)) (sym l) (record {
       contents = h.contents;
@@ -310,16 +282,26 @@ text-means request bytes (Refused text) line l h =
     (refusal-means request bytes line 1 h.contents h.told.to_do h.told.reason h.spelled h.told.asked h.told.refused)
 text-means request bytes (Clashes text) line l h =
     clashes-mean request bytes line h.contents h.spelled (subst (ListsClashes (members h.contents)) (sym l) h.told.told.1)
+text-means request bytes (Graph g) line l h =
+    let drawn = subst (λ t. DrawsClashes (members h.contents) t g.safe) (sym l) h.told.told.1 in
+    subst (λ t. Means request bytes line (cond g.safe 0 1) (start t)) (sym drawn.text_is) (record {
+      asked = asks-graph request h.contents.state (subst (AsksFor request h.contents.state) h.told.told.0 h.told.asked);
+      contents = h.contents;
+      spelled = h.spelled;
+      safe = g.safe;
+      drawn = drawn;
+      status_is = refl;
+    })
 text-means request bytes (Cut c) line l h =
     let cut = subst (λ t. WritesRounds (members h.contents) t c.decided) (sym l) h.told.told.1 in
-    subst (λ t. Means request bytes line (cond c.decided 0 1) (start t)) (sym cut.text_is) (record {
+    subst (λ t. Means request bytes line (cond c.decided 0 1) (start t)) (sym cut.text_is) (inl (record {
       asked = asks-rounds request h.contents.state (subst (AsksFor request h.contents.state) h.told.told.0 h.told.asked);
       contents = h.contents;
       spelled = h.spelled;
       decided = c.decided;
       cut = cut;
       status_is = refl;
-    })
+    }))
 text-means request bytes NotVerified line l h = subst (λ t. Means request bytes line 2 (start t)) (sym l) tt
 text-means request bytes Reached line l h = subst (λ t. Means request bytes line 0 (start t)) (sym l) h
 text-means request bytes NotReached line l h = subst (λ t. Means request bytes line 0 (start t)) (sym l) h
@@ -359,20 +341,69 @@ only_safe request bytes r line w s failed status l e whole z h =
       status_is = z;
     }
 
--- only that of rounds with `rou`,
+-- only that of rounds and of a run by rounds with `rou`,
+rounds-spelled : (request : Request) (bytes line : List ℕ) (w : ℕ) (text : List ℕ) (failed : Bool) (full status : ℕ) → take w line ≡ text
+    → (failed ≡ false → take w line ≡ line) → status ≡ cond failed 2 full → SaysRounds request bytes line full
+    → SpellsRounds (Some request) bytes text failed status
+rounds-spelled request bytes line w text failed full status e whole z says = record {
+  is_asked = ap Some says.asked;
+  contents = says.contents;
+  spelled = says.spelled;
+  full = line;
+  decided = says.decided;
+  cut = says.cut;
+  written = w;
+  text_is = sym e;
+  whole = λ f. sym e ∙ whole f;
+  status_is = z ∙ ap (cond failed 2) says.status_is;
+}
+
+run-spelled : (request : Request) (bytes line : List ℕ) (w : ℕ) (text : List ℕ) (failed : Bool) (full status : ℕ) → take w line ≡ text
+    → (failed ≡ false → take w line ≡ line) → status ≡ cond failed 2 full → SaysRoundsRun request bytes line full
+    → SpellsRoundsRun (Some request) bytes text failed status
+run-spelled request bytes line w text failed full status e whole z says = record {
+  workers = says.workers;
+  is_asked = ap Some says.asked;
+  contents = says.contents;
+  spelled = says.spelled;
+  state = says.state;
+  state_is = says.state_is;
+  run = says.run;
+  was_run = says.was_run;
+  written = w;
+  text_is = sym e ∙ ap (take w) says.line_is;
+  whole = λ f. sym e ∙ (whole f ∙ says.line_is);
+  status_is = z ∙ ap (cond failed 2) says.status_is;
+}
+
 pub only_rounds : (request : Request) (bytes : List ℕ) (r : Report) (line : List ℕ) (w : ℕ) (s : List ℕ) (failed : Bool) (status : ℕ) → line ≡ text_of r
     → take w line ≡ codes "rounds " ++ s → (failed ≡ false → take w line ≡ line) → status ≡ cond failed 2 (status_of r) → Holds request bytes r
-    → SpellsRounds (Some request) bytes (codes "rounds " ++ s) failed status
+    → SpellsRounds (Some request) bytes (codes "rounds " ++ s) failed status ⊎ SpellsRoundsRun (Some request) bytes (codes "rounds " ++ s) failed status
 only_rounds request bytes r line w s failed status l e whole z h =
-    let front = begins (codes "rounds ") line s w e in
-    let says : SaysRounds request bytes line (status_of r) = means request bytes r line RoundsStart l (ap start front.whole) h in
+    go (means request bytes r line RoundsStart l (ap start (begins (codes "rounds ") line s w e).whole) h)
+  where
+    text : List ℕ
+    text = codes "rounds " ++ s
+
+    go : SaysRounds request bytes line (status_of r) ⊎ SaysRoundsRun request bytes line (status_of r)
+        → SpellsRounds (Some request) bytes text failed status ⊎ SpellsRoundsRun (Some request) bytes text failed status
+    go (inl says) = inl (rounds-spelled request bytes line w text failed (status_of r) status e whole z says)
+    go (inr says) = inr (run-spelled request bytes line w text failed (status_of r) status e whole z says)
+
+-- only that of a graph with a g,
+pub only_graph : (request : Request) (bytes : List ℕ) (r : Report) (line : List ℕ) (w : ℕ) (s : List ℕ) (failed : Bool) (status : ℕ) → line ≡ text_of r
+    → take w line ≡ codes "graph clashes {" ++ s → (failed ≡ false → take w line ≡ line) → status ≡ cond failed 2 (status_of r) → Holds request bytes r
+    → SpellsGraph (Some request) bytes (codes "graph clashes {" ++ s) failed status
+only_graph request bytes r line w s failed status l e whole z h =
+    let front = begins (codes "graph clashes {") line s w e in
+    let says : SaysGraph request bytes line (status_of r) = means request bytes r line GraphStart l (ap start front.whole) h in
     record {
       is_asked = ap Some says.asked;
       contents = says.contents;
       spelled = says.spelled;
       full = line;
-      decided = says.decided;
-      cut = says.cut;
+      safe = says.safe;
+      drawn = says.drawn;
       written = w;
       text_is = sym e;
       whole = λ f. sym e ∙ whole f;

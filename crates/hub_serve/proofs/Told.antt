@@ -1,8 +1,22 @@
 -- What a refusal and a text that is no path are answered with.
-use Rattle.std.proofs.Common.{◌≡◌, ◌⊎◌, inl, inr, ℕ, List, IfSome, None, Option, Some, refl, sym, subst}
+use Rattle.std.proofs.Common.{◌≡◌, ◌⊎◌, ◌==◌, ◌∙◌, ◌∷◌, inl, inr, ℕ, Bool, false, true, arith, List, [], length, IfSome, None, Option, Some, refl, sym, ap, subst}
+use Rattle.std.specs.Prelude.{Contains, IsTrue}
+use Rattle.std.proofs.lemmas.Bool.{false≢true}
+use Rattle.std.proofs.lemmas.Bool.Decides.{nat_tests}
+use Rattle.std.proofs.lemmas.Option.{none-some}
 use Rattle.hub_path.specs.declared.fault.PathFault.{PathFault}
 use Rattle.hub_path.specs.declared.fault.PathFault.TheVariants as path
-use Rattle.hub_cert.specs.Set.{Members}
+use Rattle.hub_cert.specs.Goals.{is_goal}
+use Rattle.hub_cert.specs.Set.{IsSafeSet, Members}
+use Rattle.hub_cert.specs.declared.goal.Goal.{Goal}
+use Rattle.hub_search.specs.Faults.{AreFaults, HasLine, IsRuledOut}
+use Rattle.hub_search.specs.Search.{Disproves}
+use Rattle.hub_state.specs.State.{State}
+use Rattle.hub_report.specs.Graph.{graph_text}
+use Rattle.hub_serve.specs.declared.task.Task.TheVariants as task
+use Rattle.hub_cli.specs.declared.words.Question.TheVariants as ask
+use Rattle.hub_cli.specs.declared.words.Question.TheVariants.{CheckWithState, Run, RunByRounds, Check}
+use Rattle.hub_cli.specs.declared.words.Question.TheVariants.{Certify, Verify, Rounds}
 use Rattle.hub_cert.specs.Refused.{IsRefused}
 use Rattle.hub_cert.specs.declared.certificate.Certificate.{Certificate}
 use Rattle.hub_cert.specs.declared.fault.CheckFault.{CheckFault}
@@ -11,11 +25,15 @@ use Rattle.hub_bundle.specs.Sections.{members}
 use Rattle.hub_cli.specs.declared.words.Question.{Question}
 use Rattle.hub_cli.specs.Words.{Request, about}
 use Rattle.hub_report.specs.declared.report.Report.{Report}
-use Rattle.hub_report.specs.declared.report.Report.TheVariants.{Safe, Ran, NotRun, NoState, Verified, Certified, Refused, Clashes, Cut, NotVerified, Reached, NotReached, NoProfile, BadPath, Unread, BadBundle, BadSection, OutOfMemory}
+use Rattle.hub_report.specs.declared.report.Report.TheVariants.{Safe, Ran, RanByRounds, NotRun, NoState, Verified}
+use Rattle.hub_report.specs.declared.report.Report.TheVariants.{Certified, Refused, Clashes, Graph, Cut, NotVerified}
+use Rattle.hub_report.specs.declared.report.Report.TheVariants.{Reached, NotReached, NoProfile, BadPath}
+use Rattle.hub_report.specs.declared.report.Report.TheVariants.{Unread, BadBundle, BadSection, OutOfMemory}
 use Rattle.hub_serve.specs.declared.task.Task.{Task}
 use Rattle.hub_report.specs.Report.{IsRefusal}
 use Rattle.hub_serve.specs.Report.{FaultOf, HasBadPath, IsTold, IsToldOfSet}
-use Rattle.hub_serve.specs.Task.{AsksFor, task_of}
+use Rattle.hub_serve.specs.Rounds.{DrawsClashes}
+use Rattle.hub_serve.specs.Task.{AsksFor, LacksState, task_of}
 
 -- It was asked to do this.
 asks-for : (q : Question) (c : Contents) (to_do : Task) → task_of q c.state ≡ Some to_do → AsksFor (about q) c.state to_do
@@ -26,12 +44,14 @@ pub refusal-told : (q : Question) (c : Contents) (to_do : Task) → task_of q c.
     → IsRefusal (members c) e r → IsTold (about q) c r
 refusal-told q c to_do is e Safe i h = absurd h
 refusal-told q c to_do is e (Ran r) i h = absurd h
+refusal-told q c to_do is e (RanByRounds r) i h = absurd h
 refusal-told q c to_do is e (NotRun f) i h = absurd h
 refusal-told q c to_do is e NoState i h = absurd h
 refusal-told q c to_do is e Verified i h = absurd h
 refusal-told q c to_do is e (Certified t) i h = absurd h
 refusal-told q c to_do is e (Refused t) i h = record { to_do = to_do; asked = asks-for q c to_do is; reason = e; refused = inl i; told = h }
 refusal-told q c to_do is e (Clashes t) i h = absurd h
+refusal-told q c to_do is e (Graph g) i h = absurd h
 refusal-told q c to_do is e (Cut t) i h = absurd h
 refusal-told q c to_do is e NotVerified i h = absurd h
 refusal-told q c to_do is e Reached i h = absurd h
@@ -48,12 +68,14 @@ pub set-told : (q : Question) (c : Contents) (to_do : Task) → task_of q c.stat
     → IsTold (about q) c r
 set-told q c to_do is Safe h = record { to_do = to_do; asked = asks-for q c to_do is; told = h }
 set-told q c to_do is (Ran r) h = record { to_do = to_do; asked = asks-for q c to_do is; told = h }
+set-told q c to_do is (RanByRounds r) h = record { to_do = to_do; asked = asks-for q c to_do is; told = h }
 set-told q c to_do is (NotRun f) h = record { to_do = to_do; asked = asks-for q c to_do is; told = h }
 set-told q c to_do is NoState h = absurd h
 set-told q c to_do is Verified h = record { to_do = to_do; asked = asks-for q c to_do is; told = h }
 set-told q c to_do is (Certified t) h = record { to_do = to_do; asked = asks-for q c to_do is; told = h }
 set-told q c to_do is (Refused t) h = record { to_do = to_do; asked = asks-for q c to_do is; reason = h.0; refused = inr h.1; told = h.2 }
 set-told q c to_do is (Clashes t) h = record { to_do = to_do; asked = asks-for q c to_do is; told = h }
+set-told q c to_do is (Graph g) h = record { to_do = to_do; asked = asks-for q c to_do is; told = h }
 set-told q c to_do is (Cut t) h = record { to_do = to_do; asked = asks-for q c to_do is; told = h }
 set-told q c to_do is NotVerified h = record { to_do = to_do; asked = asks-for q c to_do is; told = h }
 set-told q c to_do is Reached h = absurd h
@@ -69,12 +91,14 @@ set-told q c to_do is OutOfMemory h = tt
 pub refused-told : (t : Task) (S : Members) (cs : List Certificate) (e : CheckFault) (r : Report) → FaultOf t S cs e → IsRefusal S e r → IsToldOfSet t S cs r
 refused-told t S cs e Safe f h = absurd h
 refused-told t S cs e (Ran r) f h = absurd h
+refused-told t S cs e (RanByRounds r) f h = absurd h
 refused-told t S cs e (NotRun x) f h = absurd h
 refused-told t S cs e NoState f h = absurd h
 refused-told t S cs e Verified f h = absurd h
 refused-told t S cs e (Certified x) f h = absurd h
 refused-told t S cs e (Refused x) f h = (e, f, h)
 refused-told t S cs e (Clashes x) f h = absurd h
+refused-told t S cs e (Graph g) f h = absurd h
 refused-told t S cs e (Cut x) f h = absurd h
 refused-told t S cs e NotVerified f h = absurd h
 refused-told t S cs e Reached f h = absurd h
@@ -101,3 +125,41 @@ bytes-hold (Some bytes) read P is h = subst P is h
 -- What is true where one thing was to be done is true of what was to be done.
 pub done-told : (t u : Task) (S : Members) (cs : List Certificate) (r : Report) → t ≡ u → IsToldOfSet u S cs r → IsToldOfSet t S cs r
 done-told t u S cs r is h = subst (λ v. IsToldOfSet v S cs r) (sym is) h
+
+-- Without something to do, there is no state to run on.
+pub lacks-state : (q : Question) (o : Option State) → task_of q o ≡ None → LacksState (about q) o
+lacks-state CheckWithState None is = absurd (none-some task.Check (sym is))
+lacks-state CheckWithState (Some S) is = cc
+lacks-state (Run n) None is = record { workers = n; asked = inl refl; missing = refl }
+lacks-state (Run n) (Some S) is = cc
+lacks-state (RunByRounds n) None is = record { workers = n; asked = inr refl; missing = refl }
+lacks-state (RunByRounds n) (Some S) is = cc
+lacks-state Check o is = cc
+lacks-state Certify o is = cc
+lacks-state Verify o is = cc
+lacks-state ask.Clashes o is = cc
+lacks-state ask.Graph o is = cc
+lacks-state Rounds o is = cc
+
+-- A list with an item isn't empty.
+some-items : {X : Type 0} (x : X) (xs : List X) → (length (x ∷ xs) == 0) ≡ false
+some-items x xs = grind (arith, nat_tests)
+
+-- A graph of a set and of its lines draws what clashes in it.
+pub drawn : (S : Members) (es : List CheckFault) (text : List ℕ) (safe : Bool) → AreFaults S es
+    → ((e : CheckFault) → Contains es e → Disproves S e)
+    → ((g : Goal) → IsTrue (is_goal S g) → IsRuledOut S g ⊎ HasLine S es g) → (es ≡ [] → IsSafeSet S)
+    → text ≡ graph_text S es → safe ≡ (length es == 0) → DrawsClashes S text safe
+drawn S es text safe all disproved rest sure text_is safe_is = record {
+  lines = es;
+  all = all;
+  disproved = disproved;
+  rest = rest;
+  text_is = text_is;
+  safe_is = (λ t. none es (sym safe_is ∙ t), λ e. safe_is ∙ ap (λ (xs : List CheckFault). length xs == 0) e);
+  sure = λ t. sure (none es (sym safe_is ∙ t));
+}
+  where
+    none : (xs : List CheckFault) → (length xs == 0) ≡ true → xs ≡ []
+    none [] t = refl
+    none (x ∷ xs) t = absurd (false≢true (sym (some-items x xs) ∙ t))

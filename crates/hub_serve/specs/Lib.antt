@@ -3,4 +3,5 @@ pub mod Task
 pub mod Runs
 pub mod Rounds
 pub mod Reached
+pub mod ByRounds
 pub mod Report

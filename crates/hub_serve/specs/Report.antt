@@ -28,13 +28,20 @@ use Rattle.hub_cli.specs.declared.words.Question.TheVariants.{Verify}
 use Rattle.hub_cli.specs.Words.{Request}
 use Rattle.hub_cli.specs.Words as question
 use Rattle.hub_report.specs.declared.report.Report.{Report}
-use Rattle.hub_report.specs.declared.report.Report.TheVariants.{Safe, Ran, NotRun, NoState, Verified, Certified, Refused, Clashes, Cut, NotVerified, Reached, NotReached, NoProfile, BadPath, Unread, BadBundle, BadSection, OutOfMemory}
+use Rattle.hub_report.specs.declared.report.Report.TheVariants.{Safe, Ran, RanByRounds, NotRun, NoState, Verified}
+use Rattle.hub_report.specs.declared.report.Report.TheVariants.{Certified, Refused, Clashes, Graph, Cut, NotVerified}
+use Rattle.hub_report.specs.declared.report.Report.TheVariants.{Reached, NotReached, NoProfile, BadPath}
+use Rattle.hub_report.specs.declared.report.Report.TheVariants.{Unread, BadBundle, BadSection, OutOfMemory}
 use Rattle.hub_serve.specs.declared.task.Task.{Task}
 use Rattle.hub_serve.specs.declared.task.Task.TheVariants as task
 use Rattle.hub_serve.specs.Reached.{named}
+use Rattle.hub_report.specs.RoundsRun.{rounds_run_text}
+use Rattle.hub_report.specs.declared.rounds_run.RoundsRun.{RoundsRun}
+use Rattle.hub_state.specs.State.{State}
 use Rattle.hub_report.specs.Report.{IsRefusal, says_read_failed, status_of, text_of, unread_by}
 use Rattle.hub_serve.specs.Reads.{AreSpent, Reads}
-use Rattle.hub_serve.specs.Rounds.{BeginsAsClash, ListsClashes, WritesRounds}
+use Rattle.hub_serve.specs.ByRounds.{HasRunByRounds, HasRunByRoundsAs, IsFirstAlone, RunsByRounds}
+use Rattle.hub_serve.specs.Rounds.{BeginsAsClash, DrawsClashes, ListsClashes, WritesRounds}
 use Rattle.hub_serve.specs.Runs.{HasRunAs, IsBelow, IsPrevented}
 use Rattle.hub_serve.specs.Task.{AsksFor, LacksState, task_of}
 
@@ -96,6 +103,37 @@ pub record SpellsRounds (asked : Option Request) (bytes text : List ℕ) (failed
   pub whole : failed ≡ false → text ≡ full
   pub status_is : status ≡ (if failed then 2 else (if decided then 0 else 1))
 
+-- The words ask for a run by rounds, and the bytes are a bundle whose state the rounds of its set were
+-- run on, and this text is to say what they did and left: all of it, unless a call of the output
+-- failed. The status is 0 if each round was run and each job is finished, else 3.
+pub record SpellsRoundsRun (asked : Option Request) (bytes text : List ℕ) (failed : Bool) (status : ℕ) : Type 0 where
+  pub workers : ℕ
+  pub is_asked : asked ≡ Some (question.about (ask.RunByRounds workers))
+  pub contents : Contents
+  pub spelled : Spells bytes contents
+  pub state : State
+  pub state_is : contents.state ≡ Some state
+  pub run : RoundsRun
+  pub was_run : HasRunByRounds (members contents) workers state run
+  pub written : ℕ
+  pub text_is : text ≡ take written (rounds_run_text run)
+  pub whole : failed ≡ false → text ≡ rounds_run_text run
+  pub status_is : status ≡ (if failed then 2 else (if run.finished then 0 else 3))
+
+-- The words ask for a graph of what clashes, and the bytes are a bundle whose set is drawn so. The
+-- status is 0 if it is safe, else 1.
+pub record SpellsGraph (asked : Option Request) (bytes text : List ℕ) (failed : Bool) (status : ℕ) : Type 0 where
+  pub is_asked : asked ≡ Some (question.about ask.Graph)
+  pub contents : Contents
+  pub spelled : Spells bytes contents
+  pub full : List ℕ
+  pub safe : Bool
+  pub drawn : DrawsClashes (members contents) full safe
+  pub written : ℕ
+  pub text_is : text ≡ take written full
+  pub whole : failed ≡ false → text ≡ full
+  pub status_is : status ≡ (if failed then 2 else (if safe then 0 else 1))
+
 -- It was asked whether a profile reaches a path, and this is the answer of the first profile of that name.
 pub record ReachIs (request : Request) (Ps : List Parts) (answer : Bool) : Type 0 where
   pub profile : List ℕ
@@ -126,9 +164,11 @@ pub record HasBadPath (request : Request) (Ps : List Parts) (f : PathFault) : Ty
 abbrev pub FaultOf : Task → Members → List Certificate → CheckFault → Type 0
 FaultOf task.Check S cs e = (e ≡ fault.OutOfMemory) ⊎ IsFirstFault S e
 FaultOf (task.RunJobs n state) S cs e = (e ≡ fault.OutOfMemory) ⊎ IsFirstFault S e
+FaultOf (task.RunByRounds n state) S cs e = IsFirstAlone S e
 FaultOf task.Certify S cs e = (e ≡ fault.OutOfMemory) ⊎ IsFirstFault S e
 FaultOf task.Verify S cs e = Refuses S cs e
 FaultOf task.Clashes S cs e = ⊥
+FaultOf task.Graph S cs e = ⊥
 FaultOf task.Rounds S cs e = ⊥
 
 -- The text is that of certificates of a set, one for each goal and in the order of the goals, and it is read as these.
@@ -143,14 +183,16 @@ pub record WritesCertificates (S : Members) (text : List ℕ) : Type 0 where
 abbrev pub IsToldOfSet : Task → Members → List Certificate → Report → Type 0
 IsToldOfSet t S cs Safe = ((t ≡ task.Check) ⊎ (t ≡ task.Clashes)) × IsSafeSet S
 IsToldOfSet t S cs (Ran r) = HasRunAs t S r
+IsToldOfSet t S cs (RanByRounds r) = HasRunByRoundsAs t S r
 IsToldOfSet t S cs (NotRun e) = IsPrevented t S e
 IsToldOfSet t S cs NoState = ⊥
 IsToldOfSet t S cs Verified = (t ≡ task.Verify) × AreCertificates S cs × IsSafeSet S
 IsToldOfSet t S cs (Certified text) = (t ≡ task.Certify) × WritesCertificates S (string_bytes text)
 IsToldOfSet t S cs (Refused text) = (e : CheckFault) × FaultOf t S cs e × IsRefusal S e (Refused text)
 IsToldOfSet t S cs (Clashes text) = (t ≡ task.Clashes) × ListsClashes S (string_bytes text)
+IsToldOfSet t S cs (Graph g) = (t ≡ task.Graph) × DrawsClashes S (string_bytes g.text) g.safe
 IsToldOfSet t S cs (Cut c) = (t ≡ task.Rounds) × WritesRounds S (string_bytes c.text) c.decided
-IsToldOfSet t S cs NotVerified = t ≡ task.Rounds
+IsToldOfSet t S cs NotVerified = (t ≡ task.Rounds) ⊎ RunsByRounds t
 IsToldOfSet t S cs Reached = ⊥
 IsToldOfSet t S cs NotReached = ⊥
 IsToldOfSet t S cs (NoProfile name) = ⊥
@@ -182,12 +224,14 @@ pub record IsToldAbout (request : Request) (c : Contents) (r : Report) : Type 0 
 abbrev pub IsTold : Request → Contents → Report → Type 0
 IsTold request c Safe = IsToldAbout request c Safe
 IsTold request c (Ran r) = IsToldAbout request c (Ran r)
+IsTold request c (RanByRounds r) = IsToldAbout request c (RanByRounds r)
 IsTold request c (NotRun e) = IsToldAbout request c (NotRun e)
 IsTold request c NoState = LacksState request c.state
 IsTold request c Verified = IsToldAbout request c Verified
 IsTold request c (Certified t) = IsToldAbout request c (Certified t)
 IsTold request c (Refused t) = IsToldRefused request c (Refused t)
 IsTold request c (Clashes t) = IsToldAbout request c (Clashes t)
+IsTold request c (Graph g) = IsToldAbout request c (Graph g)
 IsTold request c (Cut t) = IsToldAbout request c (Cut t)
 IsTold request c NotVerified = IsToldAbout request c NotVerified
 IsTold request c Reached = ReachIs request c.profiles true
@@ -215,12 +259,14 @@ IsUnread bytes input.OutOfMemory = ⊤
 abbrev pub Holds : Request → List ℕ → Report → Type 0
 Holds request bytes Safe = IsTrueOf request bytes Safe
 Holds request bytes (Ran r) = IsTrueOf request bytes (Ran r)
+Holds request bytes (RanByRounds r) = IsTrueOf request bytes (RanByRounds r)
 Holds request bytes (NotRun e) = IsTrueOf request bytes (NotRun e)
 Holds request bytes NoState = IsTrueOf request bytes NoState
 Holds request bytes Verified = IsTrueOf request bytes Verified
 Holds request bytes (Certified t) = IsTrueOf request bytes (Certified t)
 Holds request bytes (Refused t) = IsTrueOf request bytes (Refused t)
 Holds request bytes (Clashes t) = IsTrueOf request bytes (Clashes t)
+Holds request bytes (Graph g) = IsTrueOf request bytes (Graph g)
 Holds request bytes (Cut c) = IsTrueOf request bytes (Cut c)
 Holds request bytes NotVerified = IsTrueOf request bytes NotVerified
 Holds request bytes Reached = IsTrueOf request bytes Reached
@@ -285,10 +331,17 @@ pub record Serves (asked : Option Request) (remaining old new : Option (List ℕ
       → new ≡ Some (before ++ (codes "overlap: " ++ text)) → SpellsUnsafe bytes
   pub breach : (bytes before text : List ℕ) → remaining ≡ Some bytes → old ≡ Some before
       → new ≡ Some (before ++ (codes "breach: " ++ text)) → SpellsUnsafe bytes
-  -- `rounds` only if the words ask for rounds, and the input spells a set that is cut so. For words that ask for what clashes,
-  -- a first line of that kind is the first of all such lines,
+  -- `rounds` only if the words ask for rounds, and the input spells a set that is cut so; or if they ask for a run by rounds,
+  -- and the rounds of the set that it spells were run on its state, one after another. `graph clashes {` only if they ask for
+  -- the graph of what clashes in that set. For words that ask for what clashes, a first line of that kind is the first of all
+  -- such lines,
   pub rounds : (bytes before text : List ℕ) → remaining ≡ Some bytes → old ≡ Some before
-      → new ≡ Some (before ++ (codes "rounds " ++ text)) → SpellsRounds asked bytes (codes "rounds " ++ text) write_failed status
+      → new ≡ Some (before ++ (codes "rounds " ++ text))
+      → SpellsRounds asked bytes (codes "rounds " ++ text) write_failed status
+      ⊎ SpellsRoundsRun asked bytes (codes "rounds " ++ text) write_failed status
+  pub graph : (bytes before text : List ℕ) → remaining ≡ Some bytes → old ≡ Some before
+      → new ≡ Some (before ++ (codes "graph clashes {" ++ text))
+      → SpellsGraph asked bytes (codes "graph clashes {" ++ text) write_failed status
   pub clashes : (bytes before text : List ℕ) → asked ≡ Some (question.about ask.Clashes) → remaining ≡ Some bytes
       → old ≡ Some before → new ≡ Some (before ++ text) → BeginsAsClash text → SpellsClashes bytes text write_failed status
   -- and `reached` and `not reached` only if the words ask for `reach` and that is the answer.

@@ -1,8 +1,8 @@
 -- What is written of what clashes in a set, and of its rounds.
-use Rattle.std.specs.Prelude.{◌≡◌, ◌≢◌, ◌⊎◌, ◌==◌, ◌&&◌, ◌∷◌, ◌++◌, ℕ, Bool, true, false, not, List, [], length, Contains, IsTrue, codes}
+use Rattle.std.specs.Prelude.{◌≡◌, ◌≢◌, ◌⊎◌, ◌↔◌, ◌==◌, ◌&&◌, ◌∷◌, ◌++◌, ℕ, Bool, true, false, not, List, [], length, Contains, IsTrue, codes}
 use Rattle.std.specs.List.{list_any}
 use Rattle.hub_cert.specs.Goals.{is_goal}
-use Rattle.hub_cert.specs.Set.{Members}
+use Rattle.hub_cert.specs.Set.{IsSafeSet, Members}
 use Rattle.hub_cert.specs.declared.fault.CheckFault.{CheckFault}
 use Rattle.hub_cert.specs.declared.fault.CheckFault.TheVariants as fault
 use Rattle.hub_cert.specs.declared.goal.Goal.{Goal}
@@ -10,6 +10,7 @@ use Rattle.hub_search.specs.Faults.{AreFaults, HasLine, IsRuledOut}
 use Rattle.hub_search.specs.Search.{Disproves, IsFirstFault}
 use Rattle.hub_rounds.specs.Rounds.{AreRounds}
 use Rattle.hub_rounds.specs.declared.rounds.Rounds.{Rounds}
+use Rattle.hub_report.specs.Graph.{graph_text}
 use Rattle.hub_report.specs.Rounds.{clash_lines, rounds_text}
 
 -- A text has a line for each goal of a set that isn't ruled out, in the order of the goals, and there is one. Each line shows
@@ -22,6 +23,18 @@ pub record ListsClashes (S : Members) (text : List ℕ) : Type 0 where
   pub rest : (g : Goal) → IsTrue (is_goal S g) → IsRuledOut S g ⊎ HasLine S lines g
   pub first : (e : CheckFault) (others : List CheckFault) → lines ≡ e ∷ others → IsFirstFault S e
   pub text_is : text ≡ clash_lines S lines
+
+-- A text draws a set and all that clashes in it: a line for each goal that isn't ruled out. Each line
+-- shows that the set isn't safe, unless it says that its goal is too large. The set is called safe
+-- exactly if there is no line, and then it is.
+pub record DrawsClashes (S : Members) (text : List ℕ) (safe : Bool) : Type 0 where
+  pub lines : List CheckFault
+  pub all : AreFaults S lines
+  pub disproved : (e : CheckFault) → Contains lines e → Disproves S e
+  pub rest : (g : Goal) → IsTrue (is_goal S g) → IsRuledOut S g ⊎ HasLine S lines g
+  pub text_is : text ≡ graph_text S lines
+  pub safe_is : safe ≡ true ↔ (lines ≡ [])
+  pub sure : safe ≡ true → IsSafeSet S
 
 -- A fault says that a goal is too large.
 abbrev pub is_too_large : CheckFault → Bool

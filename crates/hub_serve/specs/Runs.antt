@@ -1,5 +1,5 @@
 -- What is written below `safe` if jobs are to be run.
-use Rattle.std.specs.Prelude.{◌≡◌, ◌≢◌, ◌⊎◌, ◌↔◌, ◌<◌, ◌++◌, ℕ, true, List, [], map, Option, Some, string_bytes}
+use Rattle.std.specs.Prelude.{◌≡◌, ◌≢◌, ◌⊎◌, ◌↔◌, ◌<◌, ◌++◌, ℕ, true, List, [], map, Some, string_bytes}
 use Rattle.hub_profile.specs.Parts.{Parts}
 use Rattle.hub_cert.specs.Set.{Members, IsSafeSet, forbidden_by}
 use Rattle.hub_state.specs.State.{State}
@@ -14,6 +14,8 @@ use Rattle.hub_report.specs.declared.run.RunError.{RunError}
 use Rattle.hub_report.specs.declared.run.RunError.TheVariants as fault
 use Rattle.hub_report.specs.Jobs.{lines_of_jobs}
 use Rattle.hub_report.specs.Run.{error_line}
+use Rattle.hub_serve.specs.declared.run.Attempt.{Attempt}
+use Rattle.hub_serve.specs.declared.run.Attempt.TheVariants.{Ran, NotRun}
 use Rattle.hub_serve.specs.declared.task.Task.{Task}
 use Rattle.hub_serve.specs.declared.task.Task.TheVariants as task
 
@@ -22,12 +24,10 @@ pub record IsRunOn (M : Members) (S : State) (o : Outcome) : Type 0 where
   pub promised : IsPromised S M.profiles (map forbidden_by M.rules) o
   pub ended : HaveEnded o.jobs
 
--- They were run on this state, if there is one: that is what is said of them, and the state that they left.
-pub record HasRun (M : Members) (state : Option State) (r : Run) : Type 0 where
-  pub opening : State
-  pub state_is : state ≡ Some opening
+-- They were run on this state: that is what is said of them, and the state that they left.
+pub record HasRun (M : Members) (S : State) (r : Run) : Type 0 where
   pub outcome : Outcome
-  pub run : IsRunOn M opening outcome
+  pub run : IsRunOn M S outcome
   pub lines : string_bytes r.lines ≡ lines_of_jobs M.profiles outcome.jobs
   pub left : r.state ≡ outcome.state
   pub finished : r.finished ≡ true ↔ AreFinished outcome.jobs
@@ -42,6 +42,11 @@ PreventsRun S Ps n fault.ThreadRefused = MayRun S Ps n
 PreventsRun S Ps n fault.Stranger = MayRun S Ps n
 PreventsRun S Ps n fault.Mismatch = MayRun S Ps n
 
+-- What comes of an attempt to run the jobs of a set on a state by n workers.
+abbrev pub ComesOf : Members → State → ℕ → Attempt → Type 0
+ComesOf M S n (Ran r) = MayRun S M.profiles n × HasRun M S r
+ComesOf M S n (NotRun e) = PreventsRun S M.profiles n e
+
 -- The jobs of a safe set were to be run, and were run: they left this,
 pub record HasRunAs (t : Task) (M : Members) (r : Run) : Type 0 where
   pub workers : ℕ
@@ -49,7 +54,7 @@ pub record HasRunAs (t : Task) (M : Members) (r : Run) : Type 0 where
   pub task_is : t ≡ task.RunJobs workers state
   pub safe : IsSafeSet M
   pub may : MayRun state M.profiles workers
-  pub run : HasRun M (Some state) r
+  pub run : HasRun M state r
 
 -- or weren't, for this reason.
 pub record IsPrevented (t : Task) (M : Members) (e : RunError) : Type 0 where
@@ -80,7 +85,9 @@ abbrev pub IsBelow : Task → Members → ℕ → List ℕ → Type 0
 IsBelow task.Check M status below = (status ≡ 0) × (below ≡ [])
 IsBelow (task.RunJobs n S) M status below =
     (MayRun S M.profiles n × WritesRun M S status below) ⊎ WritesError M S n status below
+IsBelow (task.RunByRounds n S) M status below = ⊥
 IsBelow task.Certify M status below = ⊥
 IsBelow task.Verify M status below = ⊥
 IsBelow task.Clashes M status below = (status ≡ 0) × (below ≡ [])
+IsBelow task.Graph M status below = ⊥
 IsBelow task.Rounds M status below = ⊥

@@ -1,8 +1,9 @@
 -- What is to be done about a set.
-use Rattle.std.specs.Prelude.{◌≡◌, ℕ, Option, Some, None}
+use Rattle.std.specs.Prelude.{◌≡◌, ◌⊎◌, ℕ, Option, Some, None}
 use Rattle.hub_state.specs.State.{State}
 use Rattle.hub_cli.specs.declared.words.Question.{Question}
-use Rattle.hub_cli.specs.declared.words.Question.TheVariants.{CheckWithState, Run, Check, Certify, Verify, Clashes, Rounds}
+use Rattle.hub_cli.specs.declared.words.Question.TheVariants.{CheckWithState, Run, RunByRounds, Check}
+use Rattle.hub_cli.specs.declared.words.Question.TheVariants.{Certify, Verify, Clashes, Graph, Rounds}
 use Rattle.hub_cli.specs.Words.{Request, about}
 use Rattle.hub_cli.specs.declared.words.TheConstants.{DEFAULT_WORKERS}
 use Rattle.hub_serve.specs.declared.task.Task.{Task}
@@ -15,10 +16,13 @@ task_of CheckWithState None = Some task.Check
 task_of CheckWithState (Some S) = Some (task.RunJobs DEFAULT_WORKERS S)
 task_of (Run n) None = None
 task_of (Run n) (Some S) = Some (task.RunJobs n S)
+task_of (RunByRounds n) None = None
+task_of (RunByRounds n) (Some S) = Some (task.RunByRounds n S)
 task_of Check state = Some task.Check
 task_of Certify state = Some task.Certify
 task_of Verify state = Some task.Verify
 task_of Clashes state = Some task.Clashes
+task_of Graph state = Some task.Graph
 task_of Rounds state = Some task.Rounds
 
 -- It was asked to do this of a bundle that has this state, or none.
@@ -27,8 +31,8 @@ pub record AsksFor (request : Request) (state : Option State) (t : Task) : Type 
   pub asked : request ≡ about of_set
   pub task_is : task_of of_set state ≡ Some t
 
--- It was asked for a run by so many workers, of a bundle that has no state.
+-- It was asked for a run by so many workers, by rounds or not, of a bundle that has no state.
 pub record LacksState (request : Request) (state : Option State) : Type 0 where
   pub workers : ℕ
-  pub asked : request ≡ about (Run workers)
+  pub asked : (request ≡ about (Run workers)) ⊎ (request ≡ about (RunByRounds workers))
   pub missing : state ≡ None

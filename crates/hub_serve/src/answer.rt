@@ -7,6 +7,7 @@ ghost use Rattle.hub_report.specs.Report.{says_read_failed, unread_by};
 ghost use Rattle.hub_serve.specs.Reads.{AreSpent, reads_between};
 ghost use Rattle.hub_serve.specs.Report as report;
 
+use crate::progress::Progress;
 use crate::reach::report_on_reach;
 use crate::verdict::report_on_set;
 use hub_bundle::{
@@ -24,11 +25,12 @@ use std::thread::Threads;
 /// The answer to what was asked of an input. It says that a read failed exactly when one did, and that the reads were spent
 /// only after `READ_TURNS` reads without an end. Each other answer, but that memory is out, is given only if a read met the
 /// end.
-pub fn report_on<'a, T: Threads + Wait + Sync, R: Read>(
+pub fn report_on<'a, T: Threads + Wait + Sync, R: Read, P: Progress + Sync>(
     rt: &T,
     alloc: Global,
     asked: Asked<'a>,
     input: &mut Watched<R>,
+    progress: &P,
 ) -> Report<'a>
     requires { input.old.failed ≡ false }
     ensures holds { IfSome (R.remaining input.old.device) (λ bytes.
@@ -40,24 +42,25 @@ pub fn report_on<'a, T: Threads + Wait + Sync, R: Read>(
         → (input.new.at_end ≡ true) ⊎ (result ≡ Report.OutOfMemory) }
 {
     match read_input(alloc, input) {
-        Ok(bytes) => report_on_bytes(rt, alloc, asked, bytes),
+        Ok(bytes) => report_on_bytes(rt, alloc, asked, bytes, progress),
         Err(InputFault::OutOfMemory) => Report::OutOfMemory,
         Err(fault) => Report::Unread(fault),
     }
 }
 
 /// The answer to what was asked of an input's bytes. They are dropped as soon as they are read, before anything is done.
-fn report_on_bytes<'a, T: Threads + Wait + Sync>(
+fn report_on_bytes<'a, T: Threads + Wait + Sync, P: Progress + Sync>(
     rt: &T,
     alloc: Global,
     asked: Asked<'a>,
     bytes: Vec<u8>,
+    progress: &P,
 ) -> Report<'a>
     ensures holds { report.Holds (request_of asked.entry) bytes.items result }
     ensures read { unread_by result ≡ None }
 {
     match contents_in(alloc, bytes) {
-        Ok(contents) => report_on_contents(rt, alloc, asked, contents),
+        Ok(contents) => report_on_contents(rt, alloc, asked, contents, progress),
         Err(report) => report,
     }
 }
@@ -80,17 +83,18 @@ fn contents_in<'a>(alloc: Global, bytes: Vec<u8>) -> Result<Contents, Report<'a>
 }
 
 /// The answer to what was asked of what a bundle says.
-fn report_on_contents<'a, T: Threads + Wait + Sync>(
+fn report_on_contents<'a, T: Threads + Wait + Sync, P: Progress + Sync>(
     rt: &T,
     alloc: Global,
     asked: Asked<'a>,
     contents: Contents,
+    progress: &P,
 ) -> Report<'a>
     ensures told { report.IsTold (request_of asked.entry) contents result }
     ensures read { unread_by result ≡ None }
 {
     match asked {
-        Asked::About(question) => report_on_set(rt, alloc, question, contents),
+        Asked::About(question) => report_on_set(rt, alloc, question, contents, progress),
         Asked::Reach { profile, path } => report_on_reach(alloc, &contents, profile, path),
     }
 }

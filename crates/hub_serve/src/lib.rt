@@ -5,27 +5,29 @@
 //! ```text
 //! let mut input = Watched::new(reader);
 //! let mut output = Watched::new(writer);
-//! let status = serve(&rt, &["hubsync", "run"], &mut input, &mut output);
+//! let status = serve(&rt, &["hubsync", "run"], &mut input, &mut output, &NoProgress);
 //! ```
 //!
 //! - The words are read by `hub_cli`. The input is read by `hub_bundle`, with all of its sections (`answer`).
 //! - The set of the profiles and rules is made, and is checked or its certificates are verified (`task`, `verdict`); or one
 //!   profile is asked whether it reaches a path (`reach`).
-//! - Or all that clashes in the set is listed, or it is cut into rounds (`rounds`).
-//! - The jobs of a safe set are run on the bundle's state (`run`).
+//! - Or all that clashes in the set is listed or drawn, or it is cut into rounds (`rounds`).
+//! - The jobs of a safe set are run on the bundle's state (`run`), or the rounds of a set are run one after another (`by_rounds`).
 //! - The answer is a `Report` of `hub_report`. It is written as one line, as the certificates' text, or as `safe` and below it
 //!   what the jobs did and the state that they left (`program`).
 //!
 //! The contracts use the words of `specs/Report` (which answer is right, and what the program does as a whole), `specs/Reads`
-//! (the reads of the input), `specs/Task` (what is to be done), `specs/Runs` (what is written of a run) and `specs/Rounds` (what is written of clashes
-//! and rounds).
+//! (the reads of the input), `specs/Task` (what is to be done), `specs/Runs` (what is written of a run), `specs/ByRounds` (what a run by
+//! rounds does and leaves) and `specs/Rounds` (what is written of clashes and rounds).
 //!
 //! Only functions that return a `Result` or a `Report`, or write an answer, allocate.
 #![tactic(auto)]
 
 mod answer;
+mod by_rounds;
 pub mod laws;
 mod program;
+mod progress;
 mod reach;
 mod rounds;
 mod run;
@@ -33,3 +35,4 @@ mod task;
 mod verdict;
 
 pub use program::{serve, serve_process};
+pub use progress::{NoProgress, Progress};

@@ -11,6 +11,7 @@ ghost use Rattle.hub_serve.specs.Report.{Answers, AnswersNothing, Serves, Writes
 
 use crate::answer::report_on;
 use crate::laws::what_is_shown_is_not_safe;
+use crate::progress::Progress;
 use hub_cli::{Asked, Error, ErrorKind, read_words};
 use hub_report::{Blocks, OUT_OF_MEMORY};
 use hub_text::Watched;
@@ -25,11 +26,17 @@ use std::thread::Threads;
 ///
 /// If the words can't be read, as when one is not UTF-8, nothing is written to the output but that memory is out, and the
 /// status is 2. Otherwise this is `serve`.
-pub fn serve_process<T: AllocGlobal + Eprint + Threads + Wait + Sync, R: Read, W: Write>(
+pub fn serve_process<
+    T: AllocGlobal + Eprint + Threads + Wait + Sync,
+    R: Read,
+    W: Write,
+    P: Progress + Sync,
+>(
     rt: &T,
     words: io::Result<Vec<String>>,
     input: &mut Watched<R>,
     output: &mut Watched<W>,
+    progress: &P,
 ) -> u8
     requires input { input.old.failed ≡ false }
     requires output { output.old.failed ≡ false }
@@ -40,7 +47,7 @@ pub fn serve_process<T: AllocGlobal + Eprint + Threads + Wait + Sync, R: Read, W
         (W.contents output.old.device) (W.contents output.new.device) result) }
 {
     match words {
-        Ok(words) => serve(rt, words.as_slice(), input, output),
+        Ok(words) => serve(rt, words.as_slice(), input, output, progress),
         Err(error) => refuse_unread(rt, &error, output),
     }
 }
@@ -62,12 +69,14 @@ pub fn serve_process<T: AllocGlobal + Eprint + Threads + Wait + Sync, R: Read, W
 /// read met the end.
 ///
 /// `Serves` says what is written. What it says of bytes holds for readers and writers whose bytes a contract can name.
-pub fn serve<'a, S: AsStr, T: AllocGlobal + Eprint + Threads + Wait + Sync, R: Read, W: Write>(
-    rt: &T,
-    words: &'a [S],
-    input: &mut Watched<R>,
-    output: &mut Watched<W>,
-) -> u8
+pub fn serve<
+    'a,
+    S: AsStr,
+    T: AllocGlobal + Eprint + Threads + Wait + Sync,
+    R: Read,
+    W: Write,
+    P: Progress + Sync,
+>(rt: &T, words: &'a [S], input: &mut Watched<R>, output: &mut Watched<W>, progress: &P) -> u8
     requires input { input.old.failed ≡ false }
     requires output { output.old.failed ≡ false }
     ensures { Serves (asked_of (map S.text words.entry.now)) (R.remaining input.old.device)
@@ -77,7 +86,7 @@ pub fn serve<'a, S: AsStr, T: AllocGlobal + Eprint + Threads + Wait + Sync, R: R
     what_is_shown_is_not_safe();
     let alloc = rt.alloc();
     match read_words(alloc, words) {
-        Ok(asked) => answer(rt, alloc, asked, input, output),
+        Ok(asked) => answer(rt, alloc, asked, input, output, progress),
         Err(error) => refuse(rt, &error, output),
     }
 }
@@ -117,12 +126,13 @@ pub fn refuse_unread<T: Eprint, W: Write>(rt: &T, error: &io::Error, output: &mu
 }
 
 /// Reads all of an input, and writes the answer to what was asked of it.
-fn answer<T: Eprint + Threads + Wait + Sync, R: Read, W: Write>(
+fn answer<T: Eprint + Threads + Wait + Sync, R: Read, W: Write, P: Progress + Sync>(
     rt: &T,
     alloc: Global,
     asked: Asked<'_>,
     input: &mut Watched<R>,
     output: &mut Watched<W>,
+    progress: &P,
 ) -> u8
     requires input { input.old.failed ≡ false }
     requires output { output.old.failed ≡ false }
@@ -130,7 +140,8 @@ fn answer<T: Eprint + Threads + Wait + Sync, R: Read, W: Write>(
         (W.contents output.old.device) (W.contents output.new.device)
         (reads_between input.old input.new) output.new.failed result }
 {
-    let report = report_on(rt, alloc, asked, input);
+    let report = report_on(rt, alloc, asked, input, progress);
+    progress.over();
     let status = report.status();
     name_undecided(rt, report.undecided());
     match report.into_text(alloc) {

@@ -5,11 +5,13 @@ ghost use Rattle.hub_cert.specs.declared.certificate.Certificate.{Certificate};
 ghost use Rattle.hub_report.specs.Report.{unread_by};
 ghost use Rattle.hub_serve.specs.Report as report;
 ghost use Rattle.hub_serve.specs.Rounds as rounds;
-ghost use Rattle.hub_serve.specs.Rounds.{WritesRounds};
+ghost use Rattle.hub_serve.specs.Rounds.{DrawsClashes, WritesRounds};
 ghost use Rattle.hub_serve.specs.declared.task.Task.TheVariants as task;
 
 use hub_cert::{CheckFault, ProfileSet};
-use hub_report::{Cut, Report, lines_of_clashes, text_of_rounds, undecided_pairs};
+use hub_report::{
+    Cut, Graph, Report, graph_of_clashes, lines_of_clashes, text_of_rounds, undecided_pairs,
+};
 use hub_rounds::{Rounds, RoundsFault, clashes_of, rounds_of};
 use std::alloc::{AllocError, Global};
 
@@ -28,6 +30,27 @@ pub fn report_on_clashes<'a>(alloc: Global, set: &ProfileSet) -> Report<'a>
         Ok(lines) => Report::Clashes(lines),
         Err(AllocError) => Report::OutOfMemory,
     }
+}
+
+/// The answer with a graph of a set and of all that clashes in it.
+pub fn report_on_graph<'a>(alloc: Global, set: &ProfileSet) -> Report<'a>
+    ensures told { (cs : List Certificate) → report.IsToldOfSet task.Graph set.now cs result }
+    ensures read { unread_by result ≡ None }
+{
+    match graph_of(alloc, set) {
+        Ok(graph) => Report::Graph(graph),
+        Err(AllocError) => Report::OutOfMemory,
+    }
+}
+
+/// Draws a set and all that clashes in it.
+fn graph_of(alloc: Global, set: &ProfileSet) -> Result<Graph, AllocError>
+    ensures { IfOk result (λ g. DrawsClashes set.now (string_bytes g.text) g.safe) }
+{
+    let clashes = clashes_of(alloc, set)?;
+    let text = graph_of_clashes(alloc, set, &clashes)?;
+    let safe = clashes.lines().is_empty();
+    Ok(Graph { text, safe })
 }
 
 /// The answer with the rounds of a set.

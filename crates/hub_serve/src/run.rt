@@ -1,89 +1,144 @@
 //! Runs of the jobs of a safe set.
-ghost use Rattle.std.specs.Prelude.{◌≡◌, ◌↔◌, ℕ, List, true, None};
-ghost use Rattle.hub_cert.specs.Set.{IsSafeSet, Members};
+ghost use Rattle.std.specs.Prelude.{◌≡◌, ◌↔◌, ℕ, List, map, true, IfErr, IfOk, IfSome, None};
+ghost use Rattle.hub_profile.specs.Parts.{Parts};
+ghost use Rattle.hub_cert.specs.Set.{IsSafeSet, Members, forbidden_by};
 ghost use Rattle.hub_cert.specs.declared.certificate.Certificate.{Certificate};
 ghost use Rattle.hub_state.specs.State.{State};
-ghost use Rattle.hub_schedule.specs.Simulated.{AreFinished};
+ghost use Rattle.hub_schedule.specs.Simulated.{AreFinished, HaveEnded, IsPromised};
 ghost use Rattle.hub_runner.specs.Working.{IsNotRun, MayRun};
 ghost use Rattle.hub_report.specs.Report.{unread_by};
 ghost use Rattle.hub_serve.specs.Report as report;
-ghost use Rattle.hub_serve.specs.Runs.{IsRunOn};
+ghost use Rattle.hub_serve.specs.Runs.{ComesOf, HasRun, IsRunOn, PreventsRun};
 ghost use Rattle.hub_serve.specs.declared.task.Task.TheVariants as task;
 
+use crate::progress::{Jobs, Progress};
 use hub_cert::Verified;
-use hub_history::Gate;
 use hub_job::{End, JobEnd, Outcome, RunFault};
 use hub_profile::Profile;
 use hub_report::{Report, Run, RunError, lines_of_jobs};
 use hub_runner::run;
 use hub_state::State;
-use std::alloc::Global;
+use std::alloc::{AllocError, Global};
 use std::sync::Wait;
 use std::thread::Threads;
 
-/// A gate that does nothing.
-struct NoGate;
-
-impl Gate for NoGate {
-    fn before(&self, _job: usize, _step: usize) {}
-
-    fn within(&self, _job: usize) {}
-
-    fn after(&self, _job: usize, _step: usize) {}
+/// What came of an attempt to run the jobs of a safe set.
+#[derive(Drop)]
+pub enum Attempt {
+    /// They were run.
+    Ran(Run),
+    /// They weren't, for this reason.
+    NotRun(RunError),
 }
 
-/// Runs the jobs of a safe set on a state, by that many workers.
-pub fn run_set<'a, T: Threads + Wait + Sync>(
+/// Runs the jobs of a safe set on a state, by that many workers, and returns the answer.
+pub fn run_set<'a, T: Threads + Wait + Sync, P: Progress + Sync>(
     rt: &T,
     alloc: Global,
     verified: &Verified<'_>,
     state: &State,
     workers: u8,
+    progress: &P,
 ) -> Report<'a>
     ensures told { (cs : List Certificate) → report.IsToldOfSet (task.RunJobs workers state.now)
         verified.now cs result }
     ensures read { unread_by result ≡ None }
 {
-    let profiles = verified.set().profiles();
-    match run(rt, alloc, verified, state, usize::from(workers), &NoGate) {
-        Ok(outcome) => report_on_outcome(alloc, profiles, outcome),
-        Err(fault) => report_on_fault(fault),
+    match run_jobs(rt, alloc, verified, state, workers, progress) {
+        Ok(attempt) => report_on_attempt(attempt),
+        Err(AllocError) => Report::OutOfMemory,
     }
 }
 
-/// The answer if the jobs weren't run. `run` returns no `BadTurn`, which is of schedules alone.
-fn report_on_fault<'a>(fault: RunFault) -> Report<'a>
-    ensures told { (M : Members) (S : State) (n : ℕ) → IsSafeSet M → IsNotRun S M.profiles n fault
+/// The answer with what came of the attempt to run the jobs.
+fn report_on_attempt<'a>(attempt: Attempt) -> Report<'a>
+    ensures told { (M : Members) (S : State) (n : ℕ) → IsSafeSet M → ComesOf M S n attempt
         → (cs : List Certificate) → report.IsToldOfSet (task.RunJobs n S) M cs result }
     ensures read { unread_by result ≡ None }
+{
+    match attempt {
+        Attempt::Ran(run) => Report::Ran(run),
+        Attempt::NotRun(error) => Report::NotRun(error),
+    }
+}
+
+/// Runs the jobs of a safe set on a state, by that many workers.
+pub(crate) fn run_jobs<T: Threads + Wait + Sync, P: Progress + Sync>(
+    rt: &T,
+    alloc: Global,
+    verified: &Verified<'_>,
+    state: &State,
+    workers: u8,
+    progress: &P,
+) -> Result<Attempt, AllocError>
+    ensures safe { IsSafeSet verified.now }
+    ensures came { IfOk result (ComesOf verified.now state.now workers) }
+{
+    let profiles = verified.set().profiles();
+    match run_watched(rt, alloc, verified, state, usize::from(workers), progress) {
+        Ok(outcome) => Ok(Attempt::Ran(run_of(alloc, profiles, outcome)?)),
+        Err(fault) => not_run(fault),
+    }
+}
+
+/// Runs the jobs as `run` does, and tells the progress of each that has ended.
+fn run_watched<T: Threads + Wait + Sync, P: Progress + Sync>(
+    rt: &T,
+    alloc: Global,
+    verified: &Verified<'_>,
+    state: &State,
+    workers: usize,
+    progress: &P,
+) -> Result<Outcome, RunFault>
+    ensures promise { IfOk result (IsPromised state.now verified.now.profiles
+        (map forbidden_by verified.now.rules)) }
+    ensures ended { IfOk result (λ o. HaveEnded o.jobs) }
+    ensures run { IfOk result (λ o. MayRun state.now verified.now.profiles workers) }
+    ensures refused { IfErr result (IsNotRun state.now verified.now.profiles workers) }
+{
+    let jobs = Jobs::new(progress, verified.set().profiles().len());
+    run(rt, alloc, verified, state, workers, &jobs)
+}
+
+/// Why the jobs weren't run, or that memory is out.
+fn not_run(fault: RunFault) -> Result<Attempt, AllocError>
+    ensures { (M : Members) (S : State) (n : ℕ) → IsNotRun S M.profiles n fault
+        → IfOk result (ComesOf M S n) }
+{
+    match run_error(fault) {
+        Some(error) => Ok(Attempt::NotRun(error)),
+        None => Err(AllocError),
+    }
+}
+
+/// Why the jobs weren't run. A `None` is that memory is out: `run` returns no `BadTurn`, which is of schedules alone.
+fn run_error(fault: RunFault) -> Option<RunError>
+    ensures { (S : State) (Ps : List Parts) (n : ℕ) → IsNotRun S Ps n fault
+        → IfSome result (PreventsRun S Ps n) }
 {
     match fault {
-        RunFault::NoWorkers => Report::NotRun(RunError::NoWorkers),
-        RunFault::TooManyWorkers => Report::NotRun(RunError::TooManyWorkers),
-        RunFault::MissingReplica { root } => Report::NotRun(RunError::MissingReplica(root)),
-        RunFault::ThreadRefused => Report::NotRun(RunError::ThreadRefused),
-        RunFault::Stranger { .. } => Report::NotRun(RunError::Stranger),
-        RunFault::Mismatch { .. } => Report::NotRun(RunError::Mismatch),
-        RunFault::BadTurn { .. } | RunFault::OutOfMemory => Report::OutOfMemory,
+        RunFault::NoWorkers => Some(RunError::NoWorkers),
+        RunFault::TooManyWorkers => Some(RunError::TooManyWorkers),
+        RunFault::MissingReplica { root } => Some(RunError::MissingReplica(root)),
+        RunFault::ThreadRefused => Some(RunError::ThreadRefused),
+        RunFault::Stranger { .. } => Some(RunError::Stranger),
+        RunFault::Mismatch { .. } => Some(RunError::Mismatch),
+        RunFault::BadTurn { .. } | RunFault::OutOfMemory => None,
     }
 }
 
-/// The answer with the outcome of the profiles' jobs.
-fn report_on_outcome<'a>(alloc: Global, profiles: &[Profile], outcome: Outcome) -> Report<'a>
-    ensures told { (M : Members) (S : State) (n : ℕ) → profiles.now ≡ M.profiles → IsSafeSet M
-        → MayRun S M.profiles n → IsRunOn M S outcome
-        → (cs : List Certificate) → report.IsToldOfSet (task.RunJobs n S) M cs result }
-    ensures read { unread_by result ≡ None }
+/// What the profiles' jobs did, and the state that they left.
+fn run_of(alloc: Global, profiles: &[Profile], outcome: Outcome) -> Result<Run, AllocError>
+    ensures { (M : Members) (S : State) → profiles.now ≡ M.profiles → IsRunOn M S outcome
+        → IfOk result (HasRun M S) }
 {
     let finished = are_finished(outcome.jobs.as_slice());
-    match lines_of_jobs(alloc, profiles, outcome.jobs.as_slice()) {
-        Ok(lines) => Report::Ran(Run {
-            lines,
-            state: outcome.state,
-            finished,
-        }),
-        Err(_) => Report::OutOfMemory,
-    }
+    let lines = lines_of_jobs(alloc, profiles, outcome.jobs.as_slice())?;
+    Ok(Run {
+        lines,
+        state: outcome.state,
+        finished,
+    })
 }
 
 /// Returns whether all jobs are finished.

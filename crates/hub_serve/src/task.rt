@@ -17,12 +17,21 @@ pub enum Task {
         /// The state.
         state: State,
     },
+    /// To run its rounds one after another on this state.
+    RunByRounds {
+        /// The number of workers.
+        workers: u8,
+        /// The state.
+        state: State,
+    },
     /// To write certificates for its goals.
     Certify,
     /// To say whether the bundle's certificates show that it is safe.
     Verify,
     /// To say all that clashes in it, and all that breaks a rule.
     Clashes,
+    /// To draw it and all that clashes in it.
+    Graph,
     /// To cut it into rounds.
     Rounds,
 }
@@ -44,10 +53,15 @@ impl Task {
                 Some(state) => Some(Task::RunJobs { workers, state }),
                 None => None,
             },
+            Question::RunByRounds(workers) => match state {
+                Some(state) => Some(Task::RunByRounds { workers, state }),
+                None => None,
+            },
             Question::Check => Some(Task::Check),
             Question::Certify => Some(Task::Certify),
             Question::Verify => Some(Task::Verify),
             Question::Clashes => Some(Task::Clashes),
+            Question::Graph => Some(Task::Graph),
             Question::Rounds => Some(Task::Rounds),
         }
     }

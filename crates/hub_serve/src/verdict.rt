@@ -7,14 +7,16 @@ ghost use Rattle.hub_serve.specs.Report as report;
 ghost use Rattle.hub_serve.specs.declared.task.Task.{Task};
 ghost use Rattle.hub_serve.specs.declared.task.Task.TheVariants as task;
 
-use crate::rounds::{report_on_clashes, report_on_rounds};
+use crate::by_rounds::report_on_run_by_rounds;
+use crate::progress::{Goals, Progress};
+use crate::rounds::{report_on_clashes, report_on_graph, report_on_rounds};
 use crate::run::run_set;
 use crate::task::Task;
 use hub_bundle::Contents;
 use hub_cert::{Certificate, CheckFault, ProfileSet, verify, write_certificates};
 use hub_cli::Question;
 use hub_report::Report;
-use hub_search::{certificates, check};
+use hub_search::{certificates, check_with_progress};
 use hub_state::State;
 use std::alloc::Global;
 use std::sync::Wait;
@@ -22,11 +24,12 @@ use std::thread::Threads;
 
 /// The answer to a question about the set. A run without a state is a fault, whatever the profiles and rules are. If these
 /// are no set, they are refused, whatever the question is.
-pub fn report_on_set<'a, T: Threads + Wait + Sync>(
+pub fn report_on_set<'a, T: Threads + Wait + Sync, P: Progress + Sync>(
     rt: &T,
     alloc: Global,
     question: Question,
     contents: Contents,
+    progress: &P,
 ) -> Report<'a>
     ensures told { report.IsTold (about question) contents result }
     ensures read { unread_by result ≡ None }
@@ -41,34 +44,39 @@ pub fn report_on_set<'a, T: Threads + Wait + Sync>(
         return Report::NoState;
     };
     match ProfileSet::new(alloc, profiles, rules) {
-        Ok(set) => report_on_made(rt, alloc, task, set, certificates.as_slice()),
+        Ok(set) => report_on_made(rt, alloc, task, set, certificates.as_slice(), progress),
         Err(fault) => Report::refusal_without_set(alloc, &fault),
     }
 }
 
 /// The answer about a set that was made.
-fn report_on_made<'a, T: Threads + Wait + Sync>(
+fn report_on_made<'a, T: Threads + Wait + Sync, P: Progress + Sync>(
     rt: &T,
     alloc: Global,
     task: Task,
     set: ProfileSet,
     own: &[Certificate],
+    progress: &P,
 ) -> Report<'a>
     ensures told { report.IsToldOfSet task set own.now result }
     ensures read { unread_by result ≡ None }
 {
     match task {
-        Task::Check => or_refusal(alloc, &set, report_on_safety(alloc, &set)),
+        Task::Check => or_refusal(alloc, &set, report_on_safety(alloc, &set, progress)),
         Task::RunJobs { workers, state } => {
             or_refusal(
                 alloc,
                 &set,
-                report_on_jobs(rt, alloc, &set, &state, workers),
+                report_on_jobs(rt, alloc, &set, &state, workers, progress),
             )
+        }
+        Task::RunByRounds { workers, state } => {
+            report_on_run_by_rounds(rt, alloc, set, state, workers, progress)
         }
         Task::Certify => or_refusal(alloc, &set, report_with_certificates(alloc, &set)),
         Task::Verify => or_refusal(alloc, &set, report_on_certificates(alloc, &set, own)),
         Task::Clashes => report_on_clashes(alloc, &set),
+        Task::Graph => report_on_graph(alloc, &set),
         Task::Rounds => report_on_rounds(alloc, set),
     }
 }
@@ -91,25 +99,30 @@ fn or_refusal<'a>(
 }
 
 /// The answer whether the set is safe, or the fault by which it is refused.
-fn report_on_safety<'a>(alloc: Global, set: &ProfileSet) -> Result<Report<'a>, CheckFault>
+fn report_on_safety<'a, P: Progress>(
+    alloc: Global,
+    set: &ProfileSet,
+    progress: &P,
+) -> Result<Report<'a>, CheckFault>
     ensures told { (cs : List Certificate) → IfOk result
         (report.IsToldOfSet task.Check set.now cs) }
     ensures refused { (cs : List Certificate) → IfErr result
         (report.FaultOf task.Check set.now cs) }
     ensures read { IfOk result (λ r. unread_by r ≡ None) }
 {
-    // The type of what `check` returns says that the set is safe.
-    let _ = check(alloc, set)?.set();
+    // The type of what the check returns says that the set is safe.
+    let _ = check_with_progress(alloc, set, &Goals { progress })?.set();
     Ok(Report::Safe)
 }
 
 /// The answer what its jobs did and left, if it is safe.
-fn report_on_jobs<'a, T: Threads + Wait + Sync>(
+fn report_on_jobs<'a, T: Threads + Wait + Sync, P: Progress + Sync>(
     rt: &T,
     alloc: Global,
     set: &ProfileSet,
     state: &State,
     workers: u8,
+    progress: &P,
 ) -> Result<Report<'a>, CheckFault>
     ensures told { (cs : List Certificate) → IfOk result
         (report.IsToldOfSet (task.RunJobs workers state.now) set.now cs) }
@@ -117,8 +130,8 @@ fn report_on_jobs<'a, T: Threads + Wait + Sync>(
         (report.FaultOf (task.RunJobs workers state.now) set.now cs) }
     ensures read { IfOk result (λ r. unread_by r ≡ None) }
 {
-    let verified = check(alloc, set)?;
-    Ok(run_set(rt, alloc, &verified, state, workers))
+    let verified = check_with_progress(alloc, set, &Goals { progress })?;
+    Ok(run_set(rt, alloc, &verified, state, workers, progress))
 }
 
 /// The answer with certificates for its goals.

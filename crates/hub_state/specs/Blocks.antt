@@ -1,4 +1,5 @@
--- A text that comes in blocks: what the lines that were taken say, and the bytes from the next line on.
+-- A text that comes in blocks: what the lines that were taken say, and the bytes from the next line
+-- on.
 use Rattle.std.specs.Prelude.{◌≡◌, ◌⊎◌, ℕ, ◌+◌, ◌≤◌, List, [], ◌∷◌, ◌++◌, length, Option, Some, None, Result, Ok, Err}
 use Rattle.hub_text.specs.declared.line.Line.{Line as TextLine}
 use Rattle.hub_text.specs.Lines.{lines_of, line_text}
@@ -10,7 +11,8 @@ use Rattle.hub_state.specs.State.{State}
 use Rattle.hub_state.specs.Reading.{fault_at, state_reading}
 use Rattle.hub_state.specs.Taking.{IsApart, numbered_taken, last_taken}
 
-abbrev pub then_taken : Result Draft StateFault → (Draft → Result State StateFault) → Result State StateFault
+abbrev pub then_taken : Result Draft StateFault → (Draft → Result State StateFault)
+    → Result State StateFault
 then_taken (Ok a) f = f a
 then_taken (Err e) f = Err e
 
@@ -18,7 +20,8 @@ then_taken (Err e) f = Err e
 abbrev pub lines_taken : ℕ → Draft → List (TextLine (List ℕ)) → Result State StateFault
 lines_taken n a [] = Err (record { line = 1; fault = Truncated })
 lines_taken n a (l ∷ []) = fault_at n (last_taken n a l.is_ended l.text)
-lines_taken n a (l ∷ k ∷ ls) = then_taken (fault_at n (numbered_taken n a l.text)) (λ b. lines_taken (n + 1) b (k ∷ ls))
+lines_taken n a (l ∷ k ∷ ls) =
+    then_taken (fault_at n (numbered_taken n a l.text)) (λ b. lines_taken (n + 1) b (k ∷ ls))
 
 abbrev pub bytes_taken : ℕ → Draft → List ℕ → Result State StateFault
 bytes_taken n a bytes = lines_taken n a (lines_of bytes)
@@ -31,8 +34,10 @@ text_of (Some l) = line_text l
 abbrev pub out_of_memory : StateFault
 out_of_memory = record { line = 0; fault = OutOfMemory }
 
--- The lines of these bytes were taken but the last. Whatever follows, the text is read on from the last line.
-pub record LeavesLine (n : ℕ) (a : Draft) (bytes : List ℕ) (m : ℕ) (b : Draft) (l : TextLine (List ℕ)) : Type 0 where
+-- The lines of these bytes were taken but the last. Whatever follows, the text is read on from the
+-- last line.
+pub record LeavesLine (n : ℕ) (a : Draft) (bytes : List ℕ) (m : ℕ) (b : Draft)
+    (l : TextLine (List ℕ)) : Type 0 where
   pub one : lines_of (line_text l) ≡ l ∷ []
   pub same : (t : List ℕ) → bytes_taken n a (bytes ++ t) ≡ bytes_taken m b (line_text l ++ t)
   pub room : m + length (line_text l) ≤ n + length bytes
@@ -47,7 +52,8 @@ Stops n a bytes e = (e ≡ out_of_memory) ⊎ ((t : List ℕ) → bytes_taken n 
 
 -- Whatever follows these bytes, the text is read on from the prefix.
 pub record Continues (bytes : List ℕ) (p : Prefix) : Type 0 where
-  pub same : (t : List ℕ) → state_reading (bytes ++ t) ≡ bytes_taken p.number p.draft (p.rest.items ++ t)
+  pub same : (t : List ℕ) → state_reading (bytes ++ t)
+      ≡ bytes_taken p.number p.draft (p.rest.items ++ t)
 
 -- What is known of a text that begins with these bytes.
 abbrev pub Stands : List ℕ → Result Prefix StateFault → Type 0

@@ -5,10 +5,11 @@ use Rattle.hub_state.specs.declared.fault.Fault.{Fault}
 use Rattle.hub_state.specs.declared.fault.Fault.TheVariants.{ReadFailed, WriteFailed, TurnsSpent, OutOfMemory}
 use Rattle.hub_state.specs.declared.fault.StateFault.{StateFault}
 
--- These bytes come after what the writer holds and the buffer before. The writer then holds some of them, and the buffer
--- has the others.
+-- These bytes come after what the writer holds and the buffer before. The writer then holds some of
+-- them, and the buffer has the others.
 abbrev pub Passes : Option (List ℕ) → Option (List ℕ) → List ℕ → List ℕ → List ℕ → Type 0
-Passes old new before after bytes = (passed : List ℕ) × Appends old new passed × (passed ++ after ≡ before ++ bytes)
+Passes old new before after bytes =
+    (passed : List ℕ) × Appends old new passed × (passed ++ after ≡ before ++ bytes)
 
 abbrev pub is_write_failed : Fault → Bool
 is_write_failed WriteFailed = true

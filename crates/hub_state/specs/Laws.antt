@@ -10,14 +10,22 @@ use Rattle.hub_state.specs.State.{State, Text, root_text}
 
 -- How many entries a state has.
 abbrev pub entries_of : State → ℕ
-entries_of S = sum_by (λ m. fin.len m) (fin.values S.replicas) + sum_by (λ a. fin.len a) (fin.values S.archives)
+entries_of S =
+    sum_by (λ m. fin.len m) (fin.values S.replicas) + sum_by (λ a. fin.len a)
+    (fin.values S.archives)
 
--- A state within the limits of the reader: its roots and paths have few and short names, there are few entries, and
--- files are short.
+-- A state within the limits of the reader: its roots and paths have few and short names, there are
+-- few entries, and files are short.
 pub record IsReadable (S : State) : Type 0 where
-  pub roots : (r : Path) (m : Replica) → fin.get S.replicas (root_text r) ≡ Some m → names_fault 0 r ≡ None
-  pub pairs : (r s : Path) (a : Archive) → fin.get S.archives (root_text r ∷ root_text s ∷ []) ≡ Some a → (names_fault 0 r ≡ None) × (names_fault 0 s ≡ None)
-  pub paths : (t : Text) (m : Replica) (p : Path) → fin.get S.replicas t ≡ Some m → is_some (fin.get m p) ≡ true → names_fault 0 p ≡ None
-  pub old_paths : (k : List Text) (a : Archive) (p : Path) → fin.get S.archives k ≡ Some a → is_some (fin.get a p) ≡ true → names_fault 0 p ≡ None
-  pub files : (t : Text) (m : Replica) (p : Path) (bytes : List ℕ) → fin.get S.replicas t ≡ Some m → fin.get m p ≡ Some (contents.File bytes) → length bytes ≤ FILE_BYTES
+  pub roots : (r : Path) (m : Replica) → fin.get S.replicas (root_text r) ≡ Some m
+      → names_fault 0 r ≡ None
+  pub pairs : (r s : Path) (a : Archive)
+      → fin.get S.archives (root_text r ∷ root_text s ∷ []) ≡ Some a
+      → (names_fault 0 r ≡ None) × (names_fault 0 s ≡ None)
+  pub paths : (t : Text) (m : Replica) (p : Path) → fin.get S.replicas t ≡ Some m
+      → is_some (fin.get m p) ≡ true → names_fault 0 p ≡ None
+  pub old_paths : (k : List Text) (a : Archive) (p : Path) → fin.get S.archives k ≡ Some a
+      → is_some (fin.get a p) ≡ true → names_fault 0 p ≡ None
+  pub files : (t : Text) (m : Replica) (p : Path) (bytes : List ℕ) → fin.get S.replicas t ≡ Some m
+      → fin.get m p ≡ Some (contents.File bytes) → length bytes ≤ FILE_BYTES
   pub entries : entries_of S ≤ ENTRIES

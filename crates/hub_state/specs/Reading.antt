@@ -30,8 +30,9 @@ use Rattle.hub_state.specs.Writing.{header, end_line}
 abbrev pub Blobs : Type 0
 Blobs = List (List ℕ × List ℕ)
 
--- What the lines above say: the blobs, if the text is of version 2; the replicas and the archives, with their entries, the
--- last one first; to which the next entry belongs; how many entries there are; and whether there was an `end`.
+-- What the lines above say: the blobs, if the text is of version 2; the replicas and the archives,
+-- with their entries, the last one first; to which the next entry belongs; how many entries there
+-- are; and whether there was an `end`.
 pub record Above : Type 0 where
   pub blobs : Option Blobs
   pub replicas : List (Text × List (Path × Contents))
@@ -41,7 +42,16 @@ pub record Above : Type 0 where
   pub ended : Bool
 
 abbrev pub nothing_above : Above
-nothing_above = record { blobs = None; replicas = []; archives = []; section = section.Nothing; entries = 0; ended = false }
+nothing_above =
+    record {
+      blobs = None;
+      replicas = [];
+      archives = [];
+      section = section.Nothing;
+      entries =
+          0;
+      ended = false;
+    }
 
 -- The state that these lines say.
 abbrev pub state_of : Above → State
@@ -50,12 +60,16 @@ state_of d = record {
   archives = fin.from_entries (map (λ e. (e.0, fin.from_entries e.1)) d.archives);
 }
 
--- The words that begin lines, each with the space after it: those of lines within a section, and all.
+-- The words that begin lines, each with the space after it: those of lines within a section, and
+-- all.
 abbrev pub inner_words : List (List ℕ × Form)
-inner_words = (codes "with ", form.With) ∷ (codes "dir ", form.Dir) ∷ (codes "file ", form.File) ∷ []
+inner_words =
+    (codes "with ", form.With) ∷ (codes "dir ", form.Dir) ∷ (codes "file ", form.File) ∷ []
 
 abbrev pub words : List (List ℕ × Form)
-words = (codes "blob ", form.Blob) ∷ (codes "replica ", form.Replica) ∷ (codes "archive ", form.Archive) ∷ inner_words
+words =
+    (codes "blob ", form.Blob) ∷ (codes "replica ", form.Replica)
+    ∷ (codes "archive ", form.Archive) ∷ inner_words
 
 pub record Line : Type 0 where
   pub form : Form
@@ -63,11 +77,14 @@ pub record Line : Type 0 where
 
 abbrev pub line_among : List (List ℕ × Form) → List ℕ → Option Line
 line_among [] l = None
-line_among (w ∷ ws) l = if starts_with nat_eq l w.0 then Some (record { form = w.1; rest = drop (length w.0) l }) else line_among ws l
+line_among (w ∷ ws) l =
+    if starts_with nat_eq l w.0 then Some (record { form = w.1; rest = drop (length w.0) l })
+    else line_among ws l
 
 -- The form of a line, and what follows its word.
 abbrev pub line_of : List ℕ → Option Line
-line_of l = if bytes_eq l end_line then Some (record { form = form.End; rest = [] }) else line_among words l
+line_of l =
+    if bytes_eq l end_line then Some (record { form = form.End; rest = [] }) else line_among words l
 
 abbrev pub is_half : Section → Bool
 is_half section.Nothing = false
@@ -87,7 +104,8 @@ is_start section.Replica = false
 is_start (section.HalfArchive r) = false
 is_start section.Archive = false
 
--- Where a line may stand: `blob` above all sections, `with` right below `archive` and nowhere else, and entries in a section.
+-- Where a line may stand: `blob` above all sections, `with` right below `archive` and nowhere else,
+-- and entries in a section.
 abbrev pub may_stand : Section → Form → Bool
 may_stand s form.Blob = is_start s
 may_stand s form.Replica = not (is_half s)
@@ -118,7 +136,9 @@ path_field t = or_else BadPath (path_reading (chars t))
 
 -- `-` stands for no bytes. An empty field is refused.
 abbrev pub bytes_field : List ℕ → Result (List ℕ) Fault
-bytes_field t = if bytes_eq t (codes "-") then Ok [] else unless (length t == 0) BadHex (or_else BadHex (decode_of t))
+bytes_field t =
+    if bytes_eq t (codes "-") then Ok []
+    else unless (length t == 0) BadHex (or_else BadHex (decode_of t))
 
 -- A digest has 64 digits.
 abbrev pub digest_field : List ℕ → Result (List ℕ) Fault
@@ -154,29 +174,34 @@ abbrev pub has_directory : List (Path × Contents) → Path → Bool
 has_directory es p = length p == 0 || is_directory_among (fin.find path_cmp p es)
 
 -- An entry of the replica that began last, at a path that it doesn't have yet.
-abbrev pub with_new_contents : Above → Path → Contents → Text × List (Path × Contents) → List (Text × List (Path × Contents)) → Result Above Fault
+abbrev pub with_new_contents : Above → Path → Contents → Text × List (Path × Contents)
+    → List (Text × List (Path × Contents)) → Result Above Fault
 with_new_contents d p c e es =
     unless (not (has_directory e.1 (parent p))) NoParent
     (Ok (record d { replicas = (e.0, (p, c) ∷ e.1) ∷ es; entries = d.entries + 1 }))
 
 -- An entry of the replica that began last.
-abbrev pub with_contents_put : Above → Path → Contents → List (Text × List (Path × Contents)) → Result Above Fault
+abbrev pub with_contents_put : Above → Path → Contents → List (Text × List (Path × Contents))
+    → Result Above Fault
 with_contents_put d p c [] = Err BadLine
-with_contents_put d p c (e ∷ es) = unless (is_some (fin.find path_cmp p e.1)) Repeated (with_new_contents d p c e es)
+with_contents_put d p c (e ∷ es) =
+    unless (is_some (fin.find path_cmp p e.1)) Repeated (with_new_contents d p c e es)
 
 -- A file of the replica that began last, whose bytes are those of a blob.
 abbrev pub blob_found : Option (List ℕ) → Result (List ℕ) Fault
 blob_found None = Err UnknownBlob
 blob_found (Some bytes) = Ok bytes
 
-abbrev pub with_blob_named : Above → Path → Option (List ℕ) → List (Text × List (Path × Contents)) → Result Above Fault
+abbrev pub with_blob_named : Above → Path → Option (List ℕ) → List (Text × List (Path × Contents))
+    → Result Above Fault
 with_blob_named d p blob [] = Err BadLine
 with_blob_named d p blob (e ∷ es) =
     unless (is_some (fin.find path_cmp p e.1)) Repeated
     (and_then (blob_found blob) (λ bytes. with_new_contents d p (contents.File bytes) e es))
 
 -- An entry of the archive that began last; nothing is asked of parents.
-abbrev pub with_mark_put : Above → Path → Mark → List (List Text × List (Path × Mark)) → Result Above Fault
+abbrev pub with_mark_put : Above → Path → Mark → List (List Text × List (Path × Mark))
+    → Result Above Fault
 with_mark_put d p m [] = Err BadLine
 with_mark_put d p m (e ∷ es) =
     unless (is_some (fin.find path_cmp p e.1)) Repeated
@@ -188,15 +213,19 @@ is_full d = nat_le ENTRIES d.entries
 -- `dir PATH`
 abbrev pub with_dir : Above → Section → Path → Result Above Fault
 with_dir d section.Nothing p = Err BadLine
-with_dir d section.Replica p = unless (is_full d) TooLarge (with_contents_put d p contents.Directory d.replicas)
+with_dir d section.Replica p =
+    unless (is_full d) TooLarge (with_contents_put d p contents.Directory d.replicas)
 with_dir d (section.HalfArchive r) p = Err BadLine
-with_dir d section.Archive p = unless (is_full d) TooLarge (with_mark_put d p mark.Directory d.archives)
+with_dir d section.Archive p =
+    unless (is_full d) TooLarge (with_mark_put d p mark.Directory d.archives)
 
--- `file HEX PATH` in a replica, or `file DIGEST PATH` if the text is of version 2; and `file DIGEST PATH` in an archive.
+-- `file HEX PATH` in a replica, or `file DIGEST PATH` if the text is of version 2; and `file DIGEST
+-- PATH` in an archive.
 abbrev pub with_file : Above → Option Blobs → List ℕ → List ℕ → Result Above Fault
 with_file d None field t =
     and_then (bytes_field field) (λ bytes. and_then (path_field t) (λ p.
-    unless (is_full d || nat_lt FILE_BYTES (length bytes)) TooLarge (with_contents_put d p (contents.File bytes) d.replicas)))
+    unless (is_full d || nat_lt FILE_BYTES (length bytes)) TooLarge
+    (with_contents_put d p (contents.File bytes) d.replicas)))
 with_file d (Some bs) field t =
     and_then (digest_field field) (λ digest. and_then (path_field t) (λ p.
     unless (is_full d) TooLarge (with_blob_named d p (fin.find name_cmp digest bs) d.replicas)))
@@ -221,27 +250,33 @@ with_blob_put d bs digest bytes =
     (Ok (record d { blobs = Some ((digest, bytes) ∷ bs) }))))
 
 abbrev pub with_blob_fields : Above → Blobs → List ℕ → List ℕ → Result Above Fault
-with_blob_fields d bs field t = and_then (digest_field field) (λ digest. and_then (bytes_field t) (λ bytes. with_blob_put d bs digest bytes))
+with_blob_fields d bs field t =
+    and_then (digest_field field) (λ digest. and_then (bytes_field t)
+    (λ bytes. with_blob_put d bs digest bytes))
 
 abbrev pub with_blob : Above → Option Blobs → List ℕ → Result Above Fault
 with_blob d None t = Err BadLine
 with_blob d (Some bs) t =
-    unless (not (list_any is_space t)) BadLine (with_blob_fields d bs (before_first is_space t) (after_first is_space t))
+    unless (not (list_any is_space t)) BadLine
+    (with_blob_fields d bs (before_first is_space t) (after_first is_space t))
 
 -- What a line adds that may stand there.
 abbrev pub with_line : Above → Form → List ℕ → Result Above Fault
 with_line d form.Blob t = with_blob d d.blobs t
 with_line d form.Replica t = and_then (root_field t) (with_replica_begun d)
-with_line d form.Archive t = and_then (root_field t) (λ r. Ok (record d { section = section.HalfArchive r }))
+with_line d form.Archive t =
+    and_then (root_field t) (λ r. Ok (record d { section = section.HalfArchive r }))
 with_line d form.With t = and_then (root_field t) (with_other_root d d.section)
 with_line d form.Dir t = and_then (path_field t) (with_dir d d.section)
 with_line d form.File t =
-    unless (not (list_any is_space t)) BadLine (with_fields d d.section (before_first is_space t) (after_first is_space t))
+    unless (not (list_any is_space t)) BadLine
+    (with_fields d d.section (before_first is_space t) (after_first is_space t))
 with_line d form.End t = Ok (record d { ended = true })
 
 abbrev pub with_line_of : Above → Option Line → Result Above Fault
 with_line_of d None = Err BadLine
-with_line_of d (Some l) = unless (d.ended || not (may_stand d.section l.form)) BadLine (with_line d l.form l.rest)
+with_line_of d (Some l) =
+    unless (d.ended || not (may_stand d.section l.form)) BadLine (with_line d l.form l.rest)
 
 -- A line below the header. A line that isn't UTF-8 has no form.
 abbrev pub line_reading : Above → List ℕ → Result Above Fault
@@ -257,7 +292,8 @@ header_reading d l =
 abbrev pub numbered_reading : ℕ → Above → List ℕ → Result Above Fault
 numbered_reading n d l = if n == 1 then header_reading d l else line_reading d l
 
--- A text is whole if its last line is `end`, or if there is an `end` above and the last line ends with LF.
+-- A text is whole if its last line is `end`, or if there is an `end` above and the last line ends
+-- with LF.
 abbrev pub is_truncated : Bool → Above → List ℕ → Bool
 is_truncated whole d l = not (bytes_eq l end_line) && not (whole && d.ended)
 
@@ -265,15 +301,19 @@ abbrev pub fault_at : {T : Type 0} → ℕ → Result T Fault → Result T State
 fault_at n (Ok x) = Ok x
 fault_at n (Err f) = Err (record { line = n; fault = f })
 
-abbrev pub then_lines : Result Above StateFault → (Above → Result Above StateFault) → Result Above StateFault
+abbrev pub then_lines : Result Above StateFault → (Above → Result Above StateFault)
+    → Result Above StateFault
 then_lines (Ok d) f = f d
 then_lines (Err e) f = Err e
 
--- The lines from the n-th on. A text that is cut off is reported at its last line, whatever that line is.
+-- The lines from the n-th on. A text that is cut off is reported at its last line, whatever that
+-- line is.
 abbrev pub lines_reading : ℕ → Above → List (TextLine (List ℕ)) → Result Above StateFault
 lines_reading n d [] = Err (record { line = 1; fault = Truncated })
-lines_reading n d (l ∷ []) = fault_at n (unless (is_truncated l.is_ended d l.text) Truncated (numbered_reading n d l.text))
-lines_reading n d (l ∷ k ∷ ls) = then_lines (fault_at n (numbered_reading n d l.text)) (λ e. lines_reading (n + 1) e (k ∷ ls))
+lines_reading n d (l ∷ []) =
+    fault_at n (unless (is_truncated l.is_ended d l.text) Truncated (numbered_reading n d l.text))
+lines_reading n d (l ∷ k ∷ ls) =
+    then_lines (fault_at n (numbered_reading n d l.text)) (λ e. lines_reading (n + 1) e (k ∷ ls))
 
 abbrev pub above_end : List ℕ → Result Above StateFault
 above_end bytes = lines_reading 1 nothing_above (lines_of bytes)

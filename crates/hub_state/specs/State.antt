@@ -1,4 +1,5 @@
--- States: replicas by root and archives by unordered pair of roots, in the order of the roots' texts.
+-- States: replicas by root and archives by unordered pair of roots, in the order of the roots'
+-- texts.
 use Rattle.std.specs.Prelude.{◌≡◌, ℕ, Bool, true, false, ◌&&◌, ◌||◌, List, [], ◌∷◌, Option, Some, IsTrue, if◌then◌else◌}
 use Rattle.std.specs.FinMap as fin
 use Rattle.std.specs.Str.{encode_utf8_all}
@@ -56,11 +57,16 @@ with_replica S r m = record S { replicas = fin.insert S.replicas (root_text r) m
 abbrev pub with_archive : State → Path → Path → Archive → State
 with_archive S r s a = record S { archives = fin.insert S.archives (pair_of r s) a }
 
--- What holds of each state: its keys are texts of roots, of two different ones for an archive; its values are replicas
--- and archives.
+-- What holds of each state: its keys are texts of roots, of two different ones for an archive; its
+-- values are replicas and archives.
 pub record IsState (S : State) : Type 0 where
-  pub roots : (t : Text) (m : Replica) → fin.get S.replicas t ≡ Some m → (r : Path) × IsTrue (is_place r) × (t ≡ root_text r)
-  pub trees : (t : Text) (m : Replica) → fin.get S.replicas t ≡ Some m → IsTree m × HasPaths m × HasBytes m
+  pub roots : (t : Text) (m : Replica) → fin.get S.replicas t ≡ Some m
+      → (r : Path) × IsTrue (is_place r) × (t ≡ root_text r)
+  pub trees : (t : Text) (m : Replica) → fin.get S.replicas t ≡ Some m
+      → IsTree m × HasPaths m × HasBytes m
   pub pairs : (k : List Text) (a : Archive) → fin.get S.archives k ≡ Some a
-      → (r s : Path) × IsTrue (is_place r) × IsTrue (is_place s) × (k ≡ root_text r ∷ root_text s ∷ []) × IsTrue (is_before (name_cmp (root_text r) (root_text s)))
-  pub marks : (k : List Text) (a : Archive) → fin.get S.archives k ≡ Some a → IsArchive a × HasPaths a × HasDigests a
+      → (r s : Path) × IsTrue (is_place r) × IsTrue (is_place s)
+      × (k ≡ root_text r ∷ root_text s ∷ [])
+      × IsTrue (is_before (name_cmp (root_text r) (root_text s)))
+  pub marks : (k : List Text) (a : Archive) → fin.get S.archives k ≡ Some a
+      → IsArchive a × HasPaths a × HasDigests a

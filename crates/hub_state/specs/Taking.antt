@@ -1,4 +1,5 @@
--- What a line adds to a draft, whose entries stand in maps. `Reading` says the same of lists of entries.
+-- What a line adds to a draft, whose entries stand in maps. `Reading` says the same of lists of
+-- entries.
 use Rattle.std.specs.Prelude.{◌≡◌, ◌≢◌, ◌⊎◌, ℕ, ◌+◌, Bool, true, false, not, ◌&&◌, ◌||◌, ◌==◌, bytes_eq, nat_le, nat_lt, List, length, Option, Some, None, Result, Ok, Err, is_some, if◌then◌else◌}
 use Rattle.std.specs.List.{list_any, before_first, after_first}
 use Rattle.std.specs.Str.{is_utf8}
@@ -48,7 +49,16 @@ closed S (opened.HalfArchive r) = S
 closed S (opened.Archive r s a) = with_archive S r s a
 
 abbrev pub nothing_taken : State → Draft
-nothing_taken S = record { blobs = None; state = S; current = opened.Nothing; entries = 0; ended = false; near = tt }
+nothing_taken S =
+    record {
+      blobs = None;
+      state = S;
+      current = opened.Nothing;
+      entries = 0;
+      ended = false;
+      near =
+          tt;
+    }
 
 abbrev pub shut : Draft → Draft
 shut a = record a { state = closed a.state a.current; current = opened.Nothing }
@@ -59,12 +69,14 @@ replica_begun a r =
     (Ok (record a { state = closed a.state a.current; current = opened.Replica r fin.empty }))
 
 abbrev pub archive_begun : Draft → Path → Result Draft Fault
-archive_begun a r = Ok (record a { state = closed a.state a.current; current = opened.HalfArchive r })
+archive_begun a r =
+    Ok (record a { state = closed a.state a.current; current = opened.HalfArchive r })
 
 abbrev pub pair_begun : Draft → Path → Path → Result Draft Fault
 pair_begun a r s =
     unless (path_eq r s) BadLine
-    (unless (is_some (archive_at a.state r s)) Repeated (Ok (record a { current = opened.Archive r s fin.empty })))
+    (unless (is_some (archive_at a.state r s)) Repeated
+    (Ok (record a { current = opened.Archive r s fin.empty })))
 
 abbrev pub other_taken : Draft → Open → Path → Result Draft Fault
 other_taken a opened.Nothing s = Err BadLine
@@ -83,18 +95,23 @@ blob_put m digest bytes =
     (unless (is_some (fin.get m digest)) Repeated (Ok (fin.insert m digest bytes))))
 
 abbrev pub blob_fields_put : BlobMap → List ℕ → List ℕ → Result BlobMap Fault
-blob_fields_put m field text = and_then (digest_field field) (λ digest. and_then (bytes_field text) (λ bytes. blob_put m digest bytes))
+blob_fields_put m field text =
+    and_then (digest_field field) (λ digest. and_then (bytes_field text)
+    (λ bytes. blob_put m digest bytes))
 
--- An entry of a replica, at a path that it doesn't have yet and at any path; a file of a blob; and an entry of an archive.
+-- An entry of a replica, at a path that it doesn't have yet and at any path; a file of a blob; and
+-- an entry of an archive.
 abbrev pub new_contents_put : Replica → Path → Contents → Result Replica Fault
-new_contents_put m p c = unless (not (is_directory (contents_at m (parent p)))) NoParent (Ok (fin.insert m p c))
+new_contents_put m p c =
+    unless (not (is_directory (contents_at m (parent p)))) NoParent (Ok (fin.insert m p c))
 
 abbrev pub contents_put : Replica → Path → Contents → Result Replica Fault
 contents_put m p c = unless (is_some (fin.get m p)) Repeated (new_contents_put m p c)
 
 abbrev pub blob_named_put : Replica → Path → Option (List ℕ) → Result Replica Fault
 blob_named_put m p blob =
-    unless (is_some (fin.get m p)) Repeated (and_then (blob_found blob) (λ bytes. new_contents_put m p (contents.File bytes)))
+    unless (is_some (fin.get m p)) Repeated
+    (and_then (blob_found blob) (λ bytes. new_contents_put m p (contents.File bytes)))
 
 abbrev pub mark_put : Archive → Path → Mark → Result Archive Fault
 mark_put a p m = unless (is_some (fin.get a p)) Repeated (Ok (fin.insert a p m))
@@ -108,7 +125,8 @@ old_dir_put n m p = unless (nat_le ENTRIES n) TooLarge (mark_put m p mark.Direct
 abbrev pub bytes_put : ℕ → Replica → List ℕ → List ℕ → Result Replica Fault
 bytes_put n t field text =
     and_then (bytes_field field) (λ bytes. and_then (path_field text) (λ p.
-    unless (nat_le ENTRIES n || nat_lt FILE_BYTES (length bytes)) TooLarge (contents_put t p (contents.File bytes))))
+    unless (nat_le ENTRIES n || nat_lt FILE_BYTES (length bytes)) TooLarge
+    (contents_put t p (contents.File bytes))))
 
 abbrev pub digest_put : BlobMap → ℕ → Replica → List ℕ → List ℕ → Result Replica Fault
 digest_put m n t field text =
@@ -121,7 +139,8 @@ file_put (Some m) n t field text = digest_put m n t field text
 
 abbrev pub old_file_put : ℕ → Archive → List ℕ → List ℕ → Result Archive Fault
 old_file_put n m field text =
-    and_then (digest_field field) (λ digest. and_then (path_field text) (λ p. unless (nat_le ENTRIES n) TooLarge (mark_put m p (mark.File digest))))
+    and_then (digest_field field) (λ digest. and_then (path_field text)
+    (λ p. unless (nat_le ENTRIES n) TooLarge (mark_put m p (mark.File digest))))
 
 -- The draft with other blobs.
 abbrev pub with_blobs : Draft → Result BlobMap Fault → Result Draft Fault
@@ -130,14 +149,17 @@ with_blobs a x = and_then x (λ m. Ok (record a { blobs = Some m }))
 abbrev pub blob_taken : Draft → Option BlobMap → List ℕ → Result Draft Fault
 blob_taken a None t = Err BadLine
 blob_taken a (Some m) t =
-    unless (not (list_any is_space t)) BadLine (with_blobs a (blob_fields_put m (before_first is_space t) (after_first is_space t)))
+    unless (not (list_any is_space t)) BadLine
+    (with_blobs a (blob_fields_put m (before_first is_space t) (after_first is_space t)))
 
 -- The draft with one more entry.
 abbrev pub with_tree : Draft → Path → Result Replica Fault → Result Draft Fault
-with_tree a r x = and_then x (λ t. Ok (record a { current = opened.Replica r t; entries = a.entries + 1 }))
+with_tree a r x =
+    and_then x (λ t. Ok (record a { current = opened.Replica r t; entries = a.entries + 1 }))
 
 abbrev pub with_marks : Draft → Path → Path → Result Archive Fault → Result Draft Fault
-with_marks a r s x = and_then x (λ m. Ok (record a { current = opened.Archive r s m; entries = a.entries + 1 }))
+with_marks a r s x =
+    and_then x (λ m. Ok (record a { current = opened.Archive r s m; entries = a.entries + 1 }))
 
 abbrev pub dir_taken : Draft → Open → Path → Result Draft Fault
 dir_taken a opened.Nothing p = Err BadLine
@@ -147,13 +169,16 @@ dir_taken a (opened.Archive r s m) p = with_marks a r s (old_dir_put a.entries m
 
 abbrev pub fields_taken : Draft → Open → List ℕ → List ℕ → Result Draft Fault
 fields_taken a opened.Nothing field text = Err BadLine
-fields_taken a (opened.Replica r t) field text = with_tree a r (file_put a.blobs a.entries t field text)
+fields_taken a (opened.Replica r t) field text =
+    with_tree a r (file_put a.blobs a.entries t field text)
 fields_taken a (opened.HalfArchive r) field text = Err BadLine
-fields_taken a (opened.Archive r s m) field text = with_marks a r s (old_file_put a.entries m field text)
+fields_taken a (opened.Archive r s m) field text =
+    with_marks a r s (old_file_put a.entries m field text)
 
 abbrev pub file_taken : Draft → List ℕ → Result Draft Fault
 file_taken a t =
-    unless (not (list_any is_space t)) BadLine (fields_taken a a.current (before_first is_space t) (after_first is_space t))
+    unless (not (list_any is_space t)) BadLine
+    (fields_taken a a.current (before_first is_space t) (after_first is_space t))
 
 abbrev pub form_taken : Draft → Form → List ℕ → Result Draft Fault
 form_taken a form.Blob t = blob_taken a a.blobs t
@@ -166,7 +191,9 @@ form_taken a form.End t = Ok (record a { ended = true })
 
 abbrev pub line_form_taken : Draft → Option Line → Result Draft Fault
 line_form_taken a None = Err BadLine
-line_form_taken a (Some l) = unless (a.ended || not (may_stand (section_of a.current) l.form)) BadLine (form_taken a l.form l.rest)
+line_form_taken a (Some l) =
+    unless (a.ended || not (may_stand (section_of a.current) l.form)) BadLine
+    (form_taken a l.form l.rest)
 
 abbrev pub line_taken : Draft → List ℕ → Result Draft Fault
 line_taken a l = if is_utf8 l then line_form_taken a (line_of l) else Err BadLine
@@ -183,7 +210,8 @@ numbered_taken n a l = if n == 1 then header_taken a l else line_taken a l
 -- The last line, and the state then.
 abbrev pub last_taken : ℕ → Draft → Bool → List ℕ → Result State Fault
 last_taken n a whole l =
-    and_then (unless (not (bytes_eq l end_line) && not (whole && a.ended)) Truncated (numbered_taken n a l)) (λ b. Ok (closed b.state b.current))
+    and_then (unless (not (bytes_eq l end_line) && not (whole && a.ended)) Truncated
+    (numbered_taken n a l)) (λ b. Ok (closed b.state b.current))
 
 abbrev pub is_memory : Fault → Bool
 is_memory OutOfMemory = true

@@ -13,7 +13,8 @@ keyed f es = map (λ e. (string_bytes e.0, f e.1)) es
 abbrev pub by_text : {Z X : Type 0} → List (String Z × X) → List (Text × X)
 by_text es = keyed (λ x. x) es
 
-abbrev pub by_two : {Z X : Type 0} → List (String Z × BTreeMap (String Z) X) → List (Text × List (Text × X))
+abbrev pub by_two : {Z X : Type 0} → List (String Z × BTreeMap (String Z) X)
+    → List (Text × List (Text × X))
 by_two es = keyed (λ m. by_text m.entries) es
 
 -- The entries below one text, and those below each text in order, by two texts.
@@ -27,8 +28,10 @@ pairs (e ∷ es) = below e.0 e.1 ++ pairs es
 abbrev pub map_in : {Z X : Type 0} → List (String Z × X) → fin.FinMap name_cmp X
 map_in es = fin.from_entries (by_text es)
 
-abbrev pub pairs_in : {Z X : Type 0} → List (String Z × BTreeMap (String Z) X) → fin.FinMap path_cmp X
+abbrev pub pairs_in : {Z X : Type 0} → List (String Z × BTreeMap (String Z) X)
+    → fin.FinMap path_cmp X
 pairs_in es = fin.from_entries (pairs (by_two es))
 
-abbrev pub state_in : {Z : Type 0} → List (String Z × Replica) → List (String Z × BTreeMap (String Z) Archive) → State
+abbrev pub state_in : {Z : Type 0} → List (String Z × Replica)
+    → List (String Z × BTreeMap (String Z) Archive) → State
 state_in rs ks = record { replicas = map_in rs; archives = pairs_in ks }

@@ -1,4 +1,5 @@
--- The text of a state, by its bytes: version 2, or version 1 if two files of one digest have different bytes.
+-- The text of a state, by its bytes: version 2, or version 1 if two files of one digest have
+-- different bytes.
 use Rattle.std.specs.Prelude.{ℕ, Bool, not, ◌||◌, ◌==◌, List, [], ◌∷◌, ◌++◌, map, length, codes, bytes_eq, if◌then◌else◌}
 use Rattle.std.specs.List.{flat_map, list_all}
 use Rattle.std.specs.FinMap as fin
@@ -92,14 +93,15 @@ blob_lines Two fs = map blob_line (fin.entries (blobs_of fs))
 
 -- Whether all of these files with one digest have the same bytes.
 abbrev pub tell_apart : List (List ℕ) → Bool
-tell_apart fs = list_all (λ a. list_all (λ b. not (bytes_eq (sha256 a) (sha256 b)) || bytes_eq a b) fs) fs
+tell_apart fs =
+    list_all (λ a. list_all (λ b. not (bytes_eq (sha256 a) (sha256 b)) || bytes_eq a b) fs) fs
 
 -- The version that is written.
 abbrev pub version_of : List (List ℕ) → Version
 version_of fs = if tell_apart fs then Two else One
 
--- The header; the blobs that the files name, in the order of their digests; replicas and then archives in the order of
--- their roots' texts, the entries of each in the order of paths.
+-- The header; the blobs that the files name, in the order of their digests; replicas and then
+-- archives in the order of their roots' texts, the entries of each in the order of paths.
 abbrev pub version_lines : Version → State → List (List ℕ)
 version_lines v S =
     header v ∷ blob_lines v (state_files S) ++ flat_map (replica_lines v) (fin.entries S.replicas)

@@ -1,5 +1,6 @@
 ghost use Rattle.std.specs.Prelude.{◌≡◌, ◌⊎◌, ◌<◌, false, Some, Ok, Err, is_some, IfErr, IsTrue, OnOk};
 ghost use Rattle.std.specs.FinMap as fin;
+ghost use Rattle.hub_text.specs.Fails.{Fails};
 ghost use Rattle.hub_path.specs.Path.{is_path};
 ghost use Rattle.hub_tree.specs.Tree.{is_absent, kept};
 ghost use Rattle.hub_state.specs.Reading.{and_then, may_stand, path_field, root_field};
@@ -87,7 +88,7 @@ impl Draft {
         requires { IsApart self.old.current }
         ensures ok { OnOk result (taking.line_taken self.old line.now ≡ Ok self.new) }
         ensures err { IfErr result
-            (λ f. (f ≡ Fault.OutOfMemory) ⊎ (taking.line_taken self.old line.now ≡ Err f)) }
+            (Fails Fault.OutOfMemory (taking.line_taken self.old line.now)) }
         ensures apart { OnOk result (IsApart self.new.current) }
     {
         let Ok(line) = from_utf8(line) else {
@@ -110,7 +111,7 @@ impl Draft {
         requires { IsApart self.old.current }
         ensures ok { OnOk result (taking.form_taken self.old form rest.now ≡ Ok self.new) }
         ensures err { IfErr result
-            (λ f. (f ≡ Fault.OutOfMemory) ⊎ (taking.form_taken self.old form rest.now ≡ Err f)) }
+            (Fails Fault.OutOfMemory (taking.form_taken self.old form rest.now)) }
         ensures apart { OnOk result (IsApart self.new.current) }
     {
         match form {
@@ -249,7 +250,7 @@ impl Draft {
         requires { IsApart self.old.current }
         ensures ok { OnOk result (taking.file_taken self.old fields.now ≡ Ok self.new) }
         ensures err { IfErr result
-            (λ f. (f ≡ Fault.OutOfMemory) ⊎ (taking.file_taken self.old fields.now ≡ Err f)) }
+            (Fails Fault.OutOfMemory (taking.file_taken self.old fields.now)) }
         ensures apart { OnOk result (IsApart self.new.current) }
     {
         let Some((field, text)) = fields_of(fields) else {
@@ -310,7 +311,7 @@ fn put_dir(tree: &mut Tree, entries: usize, path: &RelPath) -> Result<(), Fault>
     requires { IsTrue (is_path path.now) }
     ensures ok { OnOk result (taking.dir_put entries tree.old path.now ≡ Ok tree.new) }
     ensures err { IfErr result
-        (λ f. (f ≡ Fault.OutOfMemory) ⊎ (taking.dir_put entries tree.old path.now ≡ Err f)) }
+        (Fails Fault.OutOfMemory (taking.dir_put entries tree.old path.now)) }
     ensures room { OnOk result (entries < ENTRIES) }
 {
     if entries >= ENTRIES {

@@ -1,5 +1,6 @@
-ghost use Rattle.std.specs.Prelude.{◌≡◌, ◌⊎◌, true, false, Ok, Err, Some, None, IfOk, IfErr, IsTrue, MatchOption};
+ghost use Rattle.std.specs.Prelude.{◌≡◌, true, false, Ok, Err, Some, None, IfOk, IfErr, IsTrue, MatchOption};
 ghost use Rattle.std.specs.List.{list_any, before_first, after_first};
+ghost use Rattle.hub_text.specs.Fails.{Fails};
 ghost use Rattle.hub_path.specs.Path.{is_path};
 ghost use Rattle.hub_path.specs.Reading.{names_fault};
 ghost use Rattle.hub_state.specs.Reading.{line_of, line_among, words, inner_words, is_space};
@@ -61,7 +62,7 @@ pub fn path_in(alloc: Global, field: &str) -> Result<RelPath, Fault>
     ensures ok { IfOk result (λ p. path_field field.now ≡ Ok p) }
     ensures valid { IfOk result (λ p. IsTrue (is_path p)) }
     ensures names { IfOk result (λ p. names_fault 0 p ≡ None) }
-    ensures err { IfErr result (λ e. (e ≡ Fault.OutOfMemory) ⊎ (path_field field.now ≡ Err e)) }
+    ensures err { IfErr result (Fails Fault.OutOfMemory (path_field field.now)) }
 {
     match RelPath::read(alloc, field) {
         Ok(path) => Ok(path),
@@ -73,7 +74,7 @@ pub fn path_in(alloc: Global, field: &str) -> Result<RelPath, Fault>
 /// The root in a field.
 pub fn root_in(alloc: Global, field: &str) -> Result<Root, Fault>
     ensures ok { IfOk result (λ r. root_field field.now ≡ Ok r) }
-    ensures err { IfErr result (λ e. (e ≡ Fault.OutOfMemory) ⊎ (root_field field.now ≡ Err e)) }
+    ensures err { IfErr result (Fails Fault.OutOfMemory (root_field field.now)) }
 {
     match Root::read(alloc, field) {
         Ok(root) => Ok(root),
@@ -85,7 +86,7 @@ pub fn root_in(alloc: Global, field: &str) -> Result<Root, Fault>
 /// The bytes in a field of hexadecimal digits; `-` stands for none.
 pub fn bytes_in(alloc: Global, field: &str) -> Result<Vec<u8>, Fault>
     ensures ok { IfOk result (λ v. bytes_field field.now ≡ Ok v.items) }
-    ensures err { IfErr result (λ e. (e ≡ Fault.OutOfMemory) ⊎ (bytes_field field.now ≡ Err e)) }
+    ensures err { IfErr result (Fails Fault.OutOfMemory (bytes_field field.now)) }
 {
     if field == "-" {
         return Ok(Vec::new(alloc));

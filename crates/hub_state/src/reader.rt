@@ -2,6 +2,7 @@ ghost use Rattle.std.specs.Prelude.{◌≡◌, ◌⊎◌, ◌+◌, ◌*◌, ◌^
 ghost use Rattle.std.specs.Prelude.{IfOk, IfErr, IfSome, IsErrOf, OnOk, vec_len};
 ghost use Rattle.std.specs.Result.{ForOk};
 ghost use Rattle.std.specs.Option.{option_map};
+ghost use Rattle.hub_text.specs.Fails.{Fails};
 ghost use Rattle.hub_text.specs.Lines.{line_text};
 ghost use Rattle.hub_text.specs.Takes.{of_bytes};
 ghost use Rattle.hub_state.specs.Blocks.{bytes_taken, text_of, Leaves, Stops, Continues, Stands};
@@ -207,7 +208,7 @@ fn finish(alloc: Global, prefix: Result<Prefix, StateFault>) -> Result<State, St
     ensures ok { (bytes : List ℕ) → Stands bytes prefix
         → IfOk result (λ s. state_reading bytes ≡ Ok s) }
     ensures err { (bytes : List ℕ) → Stands bytes prefix
-        → IfErr result (λ e. (e ≡ out_of_memory) ⊎ (state_reading bytes ≡ Err e)) }
+        → IfErr result (Fails out_of_memory (state_reading bytes)) }
 {
     match prefix {
         Ok(prefix) => {
@@ -224,7 +225,7 @@ fn read_rest(alloc: Global, draft: Draft, number: usize, bytes: &[u8]) -> Result
     requires room { number + length bytes.now < 2 ^ 64 }
     ensures ok { IfOk result (λ s. bytes_taken number draft bytes.now ≡ Ok s) }
     ensures err { IfErr result
-        (λ e. (e ≡ out_of_memory) ⊎ (bytes_taken number draft bytes.now ≡ Err e)) }
+        (Fails out_of_memory (bytes_taken number draft bytes.now)) }
 {
     let mut draft = draft;
     let mut number = number;

@@ -5,7 +5,7 @@ use Rattle.std.specs.List.{list_any}
 abbrev pub is_blank : ℕ → Bool
 is_blank c = list_any (λ d. d == c) (codes " \t")
 
--- A text without the blanks in front.
+-- A text without the blanks at its start.
 abbrev pub skip_blanks : List ℕ → List ℕ
 skip_blanks [] = []
 skip_blanks (c ∷ cs) = if is_blank c then skip_blanks cs else c ∷ cs

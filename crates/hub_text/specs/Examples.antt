@@ -6,10 +6,12 @@ use Rattle.hub_text.specs.Lines.{lines_of, text_of_lines, ended, unended, withou
 no_text_has_no_lines : lines_of [] ≡ []
 no_text_has_no_lines = refl
 
-an_lf_at_the_end_begins_no_line : lines_of (codes "a\nb\n") ≡ ended (codes "a") ∷ ended (codes "b") ∷ []
+an_lf_at_the_end_begins_no_line : lines_of (codes "a\nb\n")
+    ≡ ended (codes "a") ∷ ended (codes "b") ∷ []
 an_lf_at_the_end_begins_no_line = refl
 
-the_last_line_may_lack_its_lf : lines_of (codes "a\n\nb") ≡ ended (codes "a") ∷ ended [] ∷ unended (codes "b") ∷ []
+the_last_line_may_lack_its_lf : lines_of (codes "a\n\nb")
+    ≡ ended (codes "a") ∷ ended [] ∷ unended (codes "b") ∷ []
 the_last_line_may_lack_its_lf = refl
 
 an_lf_alone_is_an_empty_line : lines_of (codes "\n") ≡ ended [] ∷ []

@@ -4,6 +4,7 @@ pub mod Blanks
 pub mod Devices
 pub mod Exact
 pub mod Examples
+pub mod Fails
 pub mod LineLaws
 pub mod Lines
 pub mod Takes

@@ -12,12 +12,13 @@ ended l = record { text = l; is_ended = true }
 abbrev pub unended : List ℕ → Line (List ℕ)
 unended l = record { text = l; is_ended = false }
 
--- A character in front of the first line.
+-- A character before the first line.
 abbrev pub onto_first_line : ℕ → List (Line (List ℕ)) → List (Line (List ℕ))
 onto_first_line c [] = unended (c ∷ []) ∷ []
 onto_first_line c (l ∷ ls) = record { text = c ∷ l.text; is_ended = l.is_ended } ∷ ls
 
--- The lines of a text. There is none after an LF at its end, so only the last line may lack its LF, and it isn't empty then.
+-- The lines of a text. There is none after an LF at its end, so only the last line may lack its LF,
+-- and it isn't empty then.
 abbrev pub lines_of : List ℕ → List (Line (List ℕ))
 lines_of [] = []
 lines_of (c ∷ cs) = if is_lf c then ended [] ∷ lines_of cs else onto_first_line c (lines_of cs)

@@ -18,7 +18,8 @@ of_bytes l = record { text = l.text.now; is_ended = l.is_ended }
 abbrev pub of_text : Line (Bor (List ℕ)) → Line (List ℕ)
 of_text l = record { text = chars l.text.now; is_ended = l.is_ended }
 
--- A step at the bytes s gives the first of their lines and leaves t, which has the others; at no bytes it gives nothing.
+-- A step at the bytes s gives the first of their lines and leaves t, which has the others; at no
+-- bytes it gives nothing.
 abbrev pub TakesBytes : List ℕ → Option (Line (Bor (List ℕ))) → List ℕ → Type 0
 TakesBytes s r t = MatchOption r (s ≡ []) (λ l. lines_of s ≡ of_bytes l ∷ lines_of t)
 
@@ -28,27 +29,43 @@ TakesText s r t = MatchOption r (s ≡ []) (λ l. lines_of s ≡ of_text l ∷ l
 
 -- The steps from the bytes, or the text, s on give its lines.
 pub YieldsList-bytes : (s : List ℕ) → YieldsList TakesBytes of_bytes s (lines_of s)
-YieldsList-bytes s = YieldsList-from_shown TakesBytes of_bytes lines_of (λ u t p. ap (λ cs. length (lines_of cs)) p) (λ u x t p. p) s
+YieldsList-bytes s =
+    YieldsList-from_shown TakesBytes of_bytes lines_of (λ u t p. ap (λ cs. length (lines_of cs)) p)
+    (λ u x t p. p) s
 
 pub YieldsList-text : (s : List ℕ) → YieldsList TakesText of_text s (lines_of s)
-YieldsList-text s = YieldsList-from_shown TakesText of_text lines_of (λ u t p. ap (λ cs. length (lines_of cs)) p) (λ u x t p. p) s
+YieldsList-text s =
+    YieldsList-from_shown TakesText of_text lines_of (λ u t p. ap (λ cs. length (lines_of cs)) p)
+    (λ u x t p. p) s
 
 -- The steps of a loop over lines with their numbers, which begin at 0.
-pub numbered_bytes : {s : Enumerate (List ℕ)} (bytes : List ℕ) → enumerate_source s ≡ bytes → enumerate_count s ≡ 0
-    → YieldsList {B = ℕ × Line (List ℕ)} (enumerate_steps TakesBytes) (λ p. (p.0, of_bytes p.1)) s (enumerate_from 0 (lines_of bytes))
-numbered_bytes {s} bytes e c = YieldsList-from_enumerate (subst (λ t. YieldsList TakesBytes of_bytes (enumerate_source s) (lines_of t)) e (YieldsList-bytes (enumerate_source s))) c
+pub numbered_bytes : {s : Enumerate (List ℕ)} (bytes : List ℕ) → enumerate_source s ≡ bytes
+    → enumerate_count s ≡ 0
+    → YieldsList {B = ℕ × Line (List ℕ)} (enumerate_steps TakesBytes) (λ p. (p.0, of_bytes p.1)) s
+    (enumerate_from 0 (lines_of bytes))
+numbered_bytes {s} bytes e c =
+    YieldsList-from_enumerate (subst (λ t. YieldsList TakesBytes of_bytes (enumerate_source s)
+    (lines_of t)) e (YieldsList-bytes (enumerate_source s))) c
 
-pub numbered_text : {s : Enumerate (List ℕ)} (text : List ℕ) → enumerate_source s ≡ text → enumerate_count s ≡ 0
-    → YieldsList {B = ℕ × Line (List ℕ)} (enumerate_steps TakesText) (λ p. (p.0, of_text p.1)) s (enumerate_from 0 (lines_of text))
-numbered_text {s} text e c = YieldsList-from_enumerate (subst (λ t. YieldsList TakesText of_text (enumerate_source s) (lines_of t)) e (YieldsList-text (enumerate_source s))) c
+pub numbered_text : {s : Enumerate (List ℕ)} (text : List ℕ) → enumerate_source s ≡ text
+    → enumerate_count s ≡ 0
+    → YieldsList {B = ℕ × Line (List ℕ)} (enumerate_steps TakesText) (λ p. (p.0, of_text p.1)) s
+    (enumerate_from 0 (lines_of text))
+numbered_text {s} text e c =
+    YieldsList-from_enumerate (subst (λ t. YieldsList TakesText of_text (enumerate_source s)
+    (lines_of t)) e (YieldsList-text (enumerate_source s))) c
 
 -- The item of a turn, and its number.
-pub numbered_turn : {X : Type 0} (xs : List X) (k i : ℕ) (x : X) → (k < length (enumerate_from 0 xs)) × ((i, x) ≡ get_or (enumerate_from 0 xs) k (i, x)) → (i ≡ k) × (k < length xs) × (x ≡ get_or xs k x)
+pub numbered_turn : {X : Type 0} (xs : List X) (k i : ℕ) (x : X)
+    → (k < length (enumerate_from 0 xs)) × ((i, x) ≡ get_or (enumerate_from 0 xs) k (i, x))
+    → (i ≡ k) × (k < length xs) × (x ≡ get_or xs k x)
 numbered_turn xs k i x turn =
     let inside : k < length xs = omega (arith, turn.0, length-enumerate_from 0 xs) in
-    let at : (i, x) ≡ (0 + k, get_or xs k x) = turn.1 ∙ get_or-enumerate_from 0 xs k (i, x) inside in
+    let at : (i, x) ≡ (0 + k, get_or xs k x) =
+    turn.1 ∙ get_or-enumerate_from 0 xs k (i, x) inside in
     (ap (λ p. p.0) at ∙ omega arith, inside, ap (λ p. p.1) at)
 
 -- After the last turn.
-pub numbered_end : {X : Type 0} (xs : List X) (k : ℕ) → k ≡ length (enumerate_from 0 xs) → length xs ≤ k
+pub numbered_end : {X : Type 0} (xs : List X) (k : ℕ) → k ≡ length (enumerate_from 0 xs)
+    → length xs ≤ k
 numbered_end xs k e = omega (arith, e, length-enumerate_from 0 xs)

@@ -15,7 +15,8 @@ abbrev pub tail : List Bool → List Bool
 tail [] = []
 tail (b ∷ bs) = bs
 
--- Equations of tests by trying all values: `same _ _ (every4 (λ a b c d. agree LEFT RIGHT) refl a b c d)`.
+-- Equations of tests by trying all values: `same _ _ (every4 (λ a b c d. agree LEFT RIGHT) refl a b
+-- c d)`.
 abbrev pub every : (Bool → Bool) → Bool
 every f = f true && f false
 
@@ -39,19 +40,26 @@ same true b h = sym h
 same false false h = refl
 same false true h = h
 
-pub every4 : (f : Bool → Bool → Bool → Bool → Bool) → every (λ a. every (λ b. every (λ c. every (λ d. f a b c d)))) ≡ true → (a b c d : Bool) → f a b c d ≡ true
+pub every4 : (f : Bool → Bool → Bool → Bool → Bool)
+    → every (λ a. every (λ b. every (λ c. every (λ d. f a b c d)))) ≡ true → (a b c d : Bool)
+    → f a b c d ≡ true
 every4 f h a b c d =
     every_is (f a b c)
-    (every_is (λ b'. every (λ d'. f a b b' d')) (every_is (λ b'. every (λ c'. every (λ d'. f a b' c' d'))) (every_is (λ a'. every (λ b'. every (λ c'. every (λ d'. f a' b' c' d')))) h a) b) c) d
+    (every_is (λ b'. every (λ d'. f a b b' d'))
+    (every_is (λ b'. every (λ c'. every (λ d'. f a b' c' d')))
+    (every_is (λ a'. every (λ b'. every (λ c'. every (λ d'. f a' b' c' d')))) h a) b) c) d
 
 pub every7 : (f : Bool → Bool → Bool → Bool → Bool → Bool → Bool → Bool)
-    → every (λ a. every (λ b. every (λ c. every (λ d. every (λ e. every (λ g. every (λ k. f a b c d e g k))))))) ≡ true
+    → every (λ a. every (λ b. every (λ c. every
+    (λ d. every (λ e. every (λ g. every (λ k. f a b c d e g k))))))) ≡ true
     → (a b c d e g k : Bool) → f a b c d e g k ≡ true
 every7 f h a b c d e g k =
     every4 (f a b c)
     (every_is (λ c'. every (λ d. every (λ e. every (λ g. every (λ k. f a b c' d e g k)))))
-    (every_is (λ b'. every (λ c. every (λ d. every (λ e. every (λ g. every (λ k. f a b' c d e g k))))))
-    (every_is (λ a'. every (λ b. every (λ c. every (λ d. every (λ e. every (λ g. every (λ k. f a' b c d e g k))))))) h a) b) c)
+    (every_is (λ b'. every (λ c. every (λ d. every
+    (λ e. every (λ g. every (λ k. f a b' c d e g k))))))
+    (every_is (λ a'. every (λ b. every (λ c. every
+    (λ d. every (λ e. every (λ g. every (λ k. f a' b c d e g k))))))) h a) b) c)
     d e g k
 
 pub or-assoc : (a b c : Bool) → (a || (b || c)) ≡ ((a || b) || c)
@@ -63,31 +71,41 @@ pub any-false : {X : Type 0} (xs : List X) → false ≡ list_any (λ x. false) 
 any-false [] = refl
 any-false (x ∷ xs) = any-false xs
 
-pub any-and : {X : Type 0} (b : Bool) (f : X → Bool) (xs : List X) → (b && list_any f xs) ≡ list_any (λ x. b && f x) xs
+pub any-and : {X : Type 0} (b : Bool) (f : X → Bool) (xs : List X)
+    → (b && list_any f xs) ≡ list_any (λ x. b && f x) xs
 any-and true f xs = refl
 any-and false f xs = any-false xs
 
-pub any-or : {X : Type 0} (f g : X → Bool) (xs : List X) → (list_any f xs || list_any g xs) ≡ list_any (λ x. f x || g x) xs
+pub any-or : {X : Type 0} (f g : X → Bool) (xs : List X)
+    → (list_any f xs || list_any g xs) ≡ list_any (λ x. f x || g x) xs
 any-or f g [] = refl
-any-or f g (x ∷ xs) = regroup (f x) (list_any f xs) (g x) (list_any g xs) ∙ ap (λ b. (f x || g x) || b) (any-or f g xs) where
-  regroup : (a b c d : Bool) → ((a || b) || (c || d)) ≡ ((a || c) || (b || d))
-  regroup true b c d = refl
-  regroup false true true d = refl
-  regroup false true false d = refl
-  regroup false false c d = refl
+any-or f g (x ∷ xs) =
+    regroup (f x) (list_any f xs) (g x) (list_any g xs)
+    ∙ ap (λ b. (f x || g x) || b) (any-or f g xs) where
+      regroup : (a b c d : Bool) → ((a || b) || (c || d)) ≡ ((a || c) || (b || d))
+      regroup true b c d = refl
+      regroup false true true d = refl
+      regroup false true false d = refl
+      regroup false false c d = refl
 
-pub any-map : {X Y : Type 0} (f : Y → Bool) (h : X → Y) (xs : List X) → list_any (λ x. f (h x)) xs ≡ list_any f (map h xs)
+pub any-map : {X Y : Type 0} (f : Y → Bool) (h : X → Y) (xs : List X)
+    → list_any (λ x. f (h x)) xs ≡ list_any f (map h xs)
 any-map f h [] = refl
 any-map f h (x ∷ xs) = ap (λ b. f (h x) || b) (any-map f h xs)
 
-pub any-append : {X : Type 0} (f : X → Bool) (xs ys : List X) → (list_any f xs || list_any f ys) ≡ list_any f (xs ++ ys)
+pub any-append : {X : Type 0} (f : X → Bool) (xs ys : List X)
+    → (list_any f xs || list_any f ys) ≡ list_any f (xs ++ ys)
 any-append f [] ys = refl
-any-append f (x ∷ xs) ys = sym (or-assoc (f x) (list_any f xs) (list_any f ys)) ∙ ap (λ b. f x || b) (any-append f xs ys)
+any-append f (x ∷ xs) ys =
+    sym (or-assoc (f x) (list_any f xs) (list_any f ys)) ∙ ap (λ b. f x || b) (any-append f xs ys)
 
 -- No item passes a test exactly when each fails it.
-pub list_all-not : {X : Type 0} (p : X → Bool) (xs : List X) → list_all (λ x. not (p x)) xs ≡ not (list_any p xs)
+pub list_all-not : {X : Type 0} (p : X → Bool) (xs : List X)
+    → list_all (λ x. not (p x)) xs ≡ not (list_any p xs)
 list_all-not p [] = refl
-list_all-not p (x ∷ xs) = elim (p x) as (λ b. (not b && list_all (λ y. not (p y)) xs) ≡ not (b || list_any p xs)) [ true ↦ refl | false ↦ list_all-not p xs ]
+list_all-not p (x ∷ xs) =
+    elim (p x) as (λ b. (not b && list_all (λ y. not (p y)) xs)
+    ≡ not (b || list_any p xs)) [ true ↦ refl | false ↦ list_all-not p xs ]
 
 -- Facts of tests.
 pub T-first : (a b : Bool) → T (a && b) → T a

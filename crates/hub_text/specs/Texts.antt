@@ -11,7 +11,9 @@ use Rattle.std.proofs.lemmas.Slice.Eq.{bytes_eq-Decides}
 pub bytes_eq-chars : (bs t : List ℕ) → IsUtf8 bs → IsAscii t → bytes_eq bs t ≡ bytes_eq (chars bs) t
 bytes_eq-chars bs t u a =
     same_from_decides _ _ (bytes_eq-Decides bs t)
-    (Decides-like (bytes_eq (chars bs) t) (λ e. sym (encodes-chars bs u) ∙ (ap encode_utf8_all e ∙ encodes-IsAscii t a)) (λ e. ap chars e ∙ chars-IsAscii t a) (bytes_eq-Decides (chars bs) t))
+    (Decides-like (bytes_eq (chars bs) t)
+    (λ e. sym (encodes-chars bs u) ∙ (ap encode_utf8_all e ∙ encodes-IsAscii t a))
+    (λ e. ap chars e ∙ chars-IsAscii t a) (bytes_eq-Decides (chars bs) t))
 
 pub nil_ascii : IsAscii []
 nil_ascii i = lit< tt
@@ -33,10 +35,14 @@ is_nil (x ∷ xs) = grind (arith, nat_tests)
 pub same_texts : (a b : List ℕ) → IsUtf8 a → IsUtf8 b → bytes_eq a b ≡ bytes_eq (chars a) (chars b)
 same_texts a b u v =
     same_from_decides _ _ (bytes_eq-Decides a b)
-    (Decides-like (bytes_eq (chars a) (chars b)) (λ e. sym (encodes-chars a u) ∙ (ap encode_utf8_all e ∙ encodes-chars b v)) (λ e. ap chars e) (bytes_eq-Decides (chars a) (chars b)))
+    (Decides-like (bytes_eq (chars a) (chars b))
+    (λ e. sym (encodes-chars a u) ∙ (ap encode_utf8_all e ∙ encodes-chars b v))
+    (λ e. ap chars e) (bytes_eq-Decides (chars a) (chars b)))
 
 -- How many bytes characters take.
 pub length-encodes : (cs : List ℕ) → length (encode_utf8_all cs) ≡ sum_by len_utf8 cs
 length-encodes [] = refl
 length-encodes (c ∷ cs) =
-    length-append (encode_utf8 c) (encode_utf8_all cs) ∙ (ap (λ n. n + length (encode_utf8_all cs)) (length-encode c) ∙ (ap (λ n. len_utf8 c + n) (length-encodes cs) ∙ sym (sum_by-cons len_utf8 c cs)))
+    length-append (encode_utf8 c) (encode_utf8_all cs)
+    ∙ (ap (λ n. n + length (encode_utf8_all cs)) (length-encode c)
+    ∙ (ap (λ n. len_utf8 c + n) (length-encodes cs) ∙ sym (sum_by-cons len_utf8 c cs)))

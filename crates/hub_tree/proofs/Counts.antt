@@ -33,8 +33,8 @@ len_of-cons : (e : Path × Contents) (es : Entries) → len_of (e ∷ es) ≡ co
 len_of-cons e es = fin.len-insert path_total (fin.from_entries es) e.0 e.1 ∙ ap (λ o. cond (is_some o) (len_of es) (len_of es + 1)) (fin.get-from_entries path_total es e.0)
 
 -- one after the other
-abbrev AreApart : Entries → Entries → Type 0
-AreApart xs ys = (q : Path) → is_some (find path_cmp q xs) ≡ true → find path_cmp q ys ≡ None
+abbrev ShareNoPath : Entries → Entries → Type 0
+ShareNoPath xs ys = (q : Path) → is_some (find path_cmp q xs) ≡ true → find path_cmp q ys ≡ None
 
 found_more : (b : Bool) (x : Contents) (o : Option Contents) → is_some o ≡ true → is_some (cond b (Some x) o) ≡ true
 found_more true x o e = refl
@@ -51,7 +51,7 @@ or_else-none (Some x) p e = refl
 found_here : (x : Path × Contents) (xs : Entries) → is_some (find path_cmp x.0 (x ∷ xs)) ≡ true
 found_here x xs = ap (λ b. is_some (cond b (Some x.1) (find path_cmp x.0 xs))) (path_itself x.0)
 
-len_of-append : (xs ys : Entries) → AreApart xs ys → len_of (xs ++ ys) ≡ len_of xs + len_of ys
+len_of-append : (xs ys : Entries) → ShareNoPath xs ys → len_of (xs ++ ys) ≡ len_of xs + len_of ys
 len_of-append [] ys h = let e = len_of-nothing in omega arith
 len_of-append (x ∷ xs) ys h =
     len_of-cons x (xs ++ ys)
@@ -87,7 +87,7 @@ under : (n k : Name) (p : Path) (es : Entries) (b : Bool) → eq_by_cmp name_cmp
 under n k p es true e h = e
 under n k p es false e h = cc
 
-apart_below : (n : Name) (es : Entries) (cs : List (Name × Entries)) → AreApart (below n es) (where_key path_cmp (λ p. not (begins_with n p)) (joined cs))
+apart_below : (n : Name) (es : Entries) (cs : List (Name × Entries)) → ShareNoPath (below n es) (where_key path_cmp (λ p. not (begins_with n p)) (joined cs))
 apart_below n es cs [] h = without n [] (joined cs) ∙ find_top-joined cs
 apart_below n es cs (k ∷ p) h =
     without n (k ∷ p) (joined cs)

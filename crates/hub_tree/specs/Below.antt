@@ -5,7 +5,7 @@ use Rattle.std.specs.FinMap as fin
 use Rattle.hub_path.specs.Path.{Path, path_eq, is_over}
 use Rattle.hub_tree.specs.Tree.{Replica, contents_at, is_absent}
 
--- p is d with one name or more behind it.
+-- p is d with one name or more after it.
 abbrev pub is_below : Path → Path → Bool
 is_below d p = is_over d p && not (path_eq d p)
 

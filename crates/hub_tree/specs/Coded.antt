@@ -26,7 +26,10 @@ contents_from-stored_contents contents.Directory = refl
 contents_from-stored_contents contents.Absent = refl
 
 abbrev pub coded_contents : Coded Contents
-coded_contents = code_by Stored (coded⊎ (coded_list coded_ℕ) coded_bool) stored_contents contents_from contents_from-stored_contents
+coded_contents =
+    code_by Stored
+    (coded⊎
+    (coded_list coded_ℕ) coded_bool) stored_contents contents_from contents_from-stored_contents
 
 abbrev pub stored_mark : Mark → Stored
 stored_mark (mark.File digest) = inl digest
@@ -44,4 +47,6 @@ mark_from-stored_mark mark.Directory = refl
 mark_from-stored_mark mark.Absent = refl
 
 abbrev pub coded_mark : Coded Mark
-coded_mark = code_by Stored (coded⊎ (coded_list coded_ℕ) coded_bool) stored_mark mark_from mark_from-stored_mark
+coded_mark =
+    code_by Stored
+    (coded⊎ (coded_list coded_ℕ) coded_bool) stored_mark mark_from mark_from-stored_mark

@@ -24,44 +24,56 @@ the_whole_replica_can_not_be_set : set_fault small [] Directory ≡ Some RootPat
 the_whole_replica_can_not_be_set = refl
 
 a_missing_parent_is_not_made : set_fault small (path (codes "x/y")) (File []) ≡ Some NoParent
-a_missing_parent_is_not_made = let h : T (is_sorted path_cmp entries) = tt in simp (get-from_sorted, entries-from_sorted)
+a_missing_parent_is_not_made =
+    let h : T (is_sorted path_cmp entries) = tt in simp (get-from_sorted, entries-from_sorted)
 
 nothing_stands_below_a_file : set_fault small (path (codes "a/b/c")) (File []) ≡ Some NoParent
-nothing_stands_below_a_file = let h : T (is_sorted path_cmp entries) = tt in simp (get-from_sorted, entries-from_sorted)
+nothing_stands_below_a_file =
+    let h : T (is_sorted path_cmp entries) = tt in simp (get-from_sorted, entries-from_sorted)
 
 nothing_goes_where_no_parent_is : set_fault small (path (codes "x/y")) Absent ≡ Some NoParent
-nothing_goes_where_no_parent_is = let h : T (is_sorted path_cmp entries) = tt in simp (get-from_sorted, entries-from_sorted)
+nothing_goes_where_no_parent_is =
+    let h : T (is_sorted path_cmp entries) = tt in simp (get-from_sorted, entries-from_sorted)
 
 a_full_directory_does_not_go : set_fault small (path (codes "a")) Absent ≡ Some NotEmpty
-a_full_directory_does_not_go = let h : T (is_sorted path_cmp entries) = tt in simp (get-from_sorted, entries-from_sorted)
+a_full_directory_does_not_go =
+    let h : T (is_sorted path_cmp entries) = tt in simp (get-from_sorted, entries-from_sorted)
 
 a_full_directory_becomes_no_file : set_fault small (path (codes "a")) (File []) ≡ Some NotEmpty
-a_full_directory_becomes_no_file = let h : T (is_sorted path_cmp entries) = tt in simp (get-from_sorted, entries-from_sorted)
+a_full_directory_becomes_no_file =
+    let h : T (is_sorted path_cmp entries) = tt in simp (get-from_sorted, entries-from_sorted)
 
 nothing_is_not_removed : set_fault small (path (codes "z")) Absent ≡ Some NothingThere
-nothing_is_not_removed = let h : T (is_sorted path_cmp entries) = tt in simp (get-from_sorted, entries-from_sorted)
+nothing_is_not_removed =
+    let h : T (is_sorted path_cmp entries) = tt in simp (get-from_sorted, entries-from_sorted)
 
 a_directory_may_be_made_again : set_fault small (path (codes "a")) Directory ≡ None
-a_directory_may_be_made_again = let h : T (is_sorted path_cmp entries) = tt in simp (get-from_sorted, entries-from_sorted)
+a_directory_may_be_made_again =
+    let h : T (is_sorted path_cmp entries) = tt in simp (get-from_sorted, entries-from_sorted)
 
 the_names_of_a_directory : names_at small (path (codes "a")) ≡ codes "b" ∷ []
-the_names_of_a_directory = let h : T (is_sorted path_cmp entries) = tt in simp (get-from_sorted, entries-from_sorted)
+the_names_of_a_directory =
+    let h : T (is_sorted path_cmp entries) = tt in simp (get-from_sorted, entries-from_sorted)
 
 the_top_lists_no_grandchildren : names_at small [] ≡ codes "a" ∷ []
-the_top_lists_no_grandchildren = let h : T (is_sorted path_cmp entries) = tt in simp (get-from_sorted, entries-from_sorted)
+the_top_lists_no_grandchildren =
+    let h : T (is_sorted path_cmp entries) = tt in simp (get-from_sorted, entries-from_sorted)
 
 the_bytes_of_a_file : bytes_at small (path (codes "a/b")) ≡ Some (codes "x")
 the_bytes_of_a_file = let h : T (is_sorted path_cmp entries) = tt in simp (get-from_sorted)
 
 -- An entry that says that nothing is there is no child, and with it the map is no tree.
 abbrev odd_entries : List (Path × Contents)
-odd_entries = (path (codes "a"), Directory) ∷ (path (codes "a/b"), Absent) ∷ (path (codes "a/c"), File []) ∷ []
+odd_entries =
+    (path (codes "a"), Directory) ∷ (path (codes "a/b"), Absent) ∷ (path (codes "a/c"), File [])
+    ∷ []
 
 abbrev odd : Replica
 odd = from_sorted {R = path_cmp} odd_entries
 
 no_child : children odd (path (codes "a")) ≡ path (codes "a/c") ∷ []
-no_child = let h : T (is_sorted path_cmp odd_entries) = tt in simp (get-from_sorted, entries-from_sorted)
+no_child =
+    let h : T (is_sorted path_cmp odd_entries) = tt in simp (get-from_sorted, entries-from_sorted)
 
 stored : get odd (path (codes "a/b")) ≡ Some Absent
 stored = let h : T (is_sorted path_cmp odd_entries) = tt in simp (get-from_sorted)
@@ -80,20 +92,26 @@ not_below_a_name_that_begins_alike : is_below (path (codes "a")) (path (codes "a
 not_below_a_name_that_begins_alike = refl
 
 what_is_under_the_top : under small [] ≡ path (codes "a") ∷ path (codes "a/b") ∷ []
-what_is_under_the_top = let h : T (is_sorted path_cmp entries) = tt in simp (get-from_sorted, entries-from_sorted)
+what_is_under_the_top =
+    let h : T (is_sorted path_cmp entries) = tt in simp (get-from_sorted, entries-from_sorted)
 
 what_is_under_a_directory : under small (path (codes "a")) ≡ path (codes "a/b") ∷ []
-what_is_under_a_directory = let h : T (is_sorted path_cmp entries) = tt in simp (get-from_sorted, entries-from_sorted)
+what_is_under_a_directory =
+    let h : T (is_sorted path_cmp entries) = tt in simp (get-from_sorted, entries-from_sorted)
 
 -- A directory is set before what it holds, and goes after it.
-up : sets empty ((path (codes "a"), Directory) ∷ (path (codes "a/b"), File []) ∷ []) ≡ Some (insert (insert empty (path (codes "a")) Directory) (path (codes "a/b")) (File []))
+up : sets empty ((path (codes "a"), Directory) ∷ (path (codes "a/b"), File []) ∷ [])
+    ≡ Some (insert (insert empty (path (codes "a")) Directory) (path (codes "a/b")) (File []))
 up = simp (get-empty, get-insert {X = Contents} path_cmp-total)
 
-not_before_its_parent : sets empty ((path (codes "a/b"), File []) ∷ (path (codes "a"), Directory) ∷ []) ≡ None
+not_before_its_parent : sets empty ((path (codes "a/b"), File []) ∷ (path (codes "a"), Directory)
+    ∷ []) ≡ None
 not_before_its_parent = simp (get-empty)
 
 down : sets small ((path (codes "a/b"), Absent) ∷ []) ≡ Some (remove small (path (codes "a/b")))
 down = let h : T (is_sorted path_cmp entries) = tt in simp (get-from_sorted, entries-from_sorted)
 
-not_before_what_it_holds : sets small ((path (codes "a"), Absent) ∷ (path (codes "a/b"), Absent) ∷ []) ≡ None
-not_before_what_it_holds = let h : T (is_sorted path_cmp entries) = tt in simp (get-from_sorted, entries-from_sorted)
+not_before_what_it_holds : sets small ((path (codes "a"), Absent) ∷ (path (codes "a/b"), Absent)
+    ∷ []) ≡ None
+not_before_what_it_holds =
+    let h : T (is_sorted path_cmp entries) = tt in simp (get-from_sorted, entries-from_sorted)

@@ -1,4 +1,5 @@
--- What holds of replicas and archives: the order of their paths, what is at a path and below it, and what Sets leave.
+-- What holds of replicas and archives: the order of their paths, what is at a path and below it,
+-- and what Sets leave.
 pub mod Order
 pub mod Ascending
 pub mod Children

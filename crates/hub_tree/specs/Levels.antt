@@ -1,4 +1,5 @@
--- What is left of a walk through a tree: directories with the children that are left, each before the one that it holds.
+-- What is left of a walk through a tree: directories with the children that are left, each before
+-- the one that it holds.
 use Rattle.std.specs.Prelude.{Bool, true, ◌&&◌, List, [], ◌∷◌, ◌++◌, map}
 use Rattle.std.specs.FinMap as fin
 use Rattle.std.specs.FinMap.Entries.{is_sorted}

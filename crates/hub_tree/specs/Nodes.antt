@@ -79,7 +79,8 @@ contents_or_absent (Some x) = contents_of x
 
 -- Why contents can't be set at a path below a node.
 abbrev pub fault_below : Node → Path → Contents → Option SetFault
-fault_below x p c = if is_directory (contents_of x) then set_fault (replica_of (kids_of x)) p c else Some NoParent
+fault_below x p c =
+    if is_directory (contents_of x) then set_fault (replica_of (kids_of x)) p c else Some NoParent
 
 -- How many entries a node is, with what is below it.
 abbrev pub size_of : Node → ℕ

@@ -67,10 +67,11 @@ children m d = filter (λ p. is_child d p && not (is_absent (contents_at m p))) 
 abbrev pub names_at : Replica → Path → List Name
 names_at m d = map last_name (children m d)
 
--- The parent of each path with contents is a directory. No entry says that nothing is there, and none is for the
--- whole replica, so that replicas with the same contents at each path are equal.
+-- The parent of each path with contents is a directory. No entry says that nothing is there, and
+-- none is for the whole replica, so that replicas with the same contents at each path are equal.
 pub record IsTree (m : Replica) : Type 0 where
-  pub parents : (p : Path) → is_absent (contents_at m p) ≡ false → is_directory (contents_at m (parent p)) ≡ true
+  pub parents : (p : Path) → is_absent (contents_at m p) ≡ false
+      → is_directory (contents_at m (parent p)) ≡ true
   pub present : (p : Path) → fin.get m p ≢ Some contents.Absent
   pub no_top : fin.get m [] ≡ None
 
@@ -92,7 +93,8 @@ HasBytes m = (p : Path) (bytes : List ℕ) → fin.get m p ≡ Some (contents.Fi
 
 -- The mark of a file has a digest.
 abbrev pub HasDigests : Archive → Type 0
-HasDigests a = (p : Path) (digest : List ℕ) → fin.get a p ≡ Some (mark.File digest) → IsDigest digest
+HasDigests a =
+    (p : Path) (digest : List ℕ) → fin.get a p ≡ Some (mark.File digest) → IsDigest digest
 
 -- The same as for a tree, for an archive; nothing is asked of parents.
 pub record IsArchive (a : Archive) : Type 0 where
@@ -124,11 +126,14 @@ abbrev pub set_fault : Replica → Path → Contents → Option SetFault
 set_fault m p c =
     if length p == 0 then Some RootPath
     else (if not (is_directory (contents_at m (parent p))) then Some NoParent
-    else (if is_directory (contents_at m p) && not (is_directory c) && not (length (children m p) == 0) then Some NotEmpty
+    else (if is_directory (contents_at m p) && not (is_directory c)
+    && not (length (children m p) == 0) then Some NotEmpty
     else (if is_absent (contents_at m p) && is_absent c then Some NothingThere else None)))
 
 abbrev pub set_contents : Replica → Path → Contents → Result Replica SetFault
-set_contents m p c = if is_some (set_fault m p c) then Err (unwrap_or (set_fault m p c) RootPath) else Ok (with_contents m p c)
+set_contents m p c =
+    if is_some (set_fault m p c) then Err (unwrap_or (set_fault m p c) RootPath)
+    else Ok (with_contents m p c)
 
 -- The fault of a refusal: that of the rule, and want of memory where the rule has none.
 abbrev pub IsRefusal : Option SetFault → SetFault → Type 0

@@ -66,7 +66,7 @@ impl Archive {
         })
     }
 
-    /// Whether both archives have the same mark at each path.
+    /// Returns whether both archives have the same mark at each path.
     pub fn same(&self, other: &Archive) -> bool
         ensures { IsTrue result ↔ (self.now ≡ other.now) }
     {
@@ -182,7 +182,7 @@ fn copy_of_marks(
     map_of(alloc, copies)
 }
 
-/// Whether both have the same marks at the same paths.
+/// Returns whether both have the same marks at the same paths.
 fn have_same_marks(marks: &BTreeMap<RelPath, Mark>, others: &BTreeMap<RelPath, Mark>) -> bool
     ensures same { IsTrue result ↔ (marks.now.entries ≡ others.now.entries) }
     ensures ordered { IsOrdered path_cmp marks.now }

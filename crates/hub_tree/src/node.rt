@@ -368,7 +368,7 @@ fn remove(children: &mut BTreeMap<Name, Node>, name: &Name) -> Result<(), SetFau
     }
 }
 
-/// Whether the node at the name is a directory that holds something.
+/// Returns whether the node at the name is a directory that holds something.
 fn is_occupied(children: &BTreeMap<Name, Node>, name: &Name) -> bool
     ensures { result ≡ occupied (get name_cmp children.now name.now) }
 {
@@ -379,7 +379,7 @@ fn is_occupied(children: &BTreeMap<Name, Node>, name: &Name) -> bool
     }
 }
 
-/// Whether the node at the name is a directory.
+/// Returns whether the node at the name is a directory.
 fn holds_directory(children: &BTreeMap<Name, Node>, name: &Name) -> bool
     ensures { result ≡ is_directory (contents_or_absent (get name_cmp children.now name.now)) }
 {

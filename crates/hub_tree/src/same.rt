@@ -5,7 +5,7 @@ use crate::node::Node;
 use hub_path::Name;
 use std::collections::BTreeMap;
 
-/// Whether these nodes are the same as the others, with all that they hold.
+/// Returns whether these nodes are the same as the others, with all that they hold.
 #[cycle(same)]
 pub fn are_same(children: &BTreeMap<Name, Node>, others: &BTreeMap<Name, Node>) -> bool
     ensures { IsTrue result ↔ (replica_of children.now.entries ≡ replica_of others.now.entries) }
@@ -25,7 +25,7 @@ pub fn are_same(children: &BTreeMap<Name, Node>, others: &BTreeMap<Name, Node>) 
     rest.next().is_none()
 }
 
-/// Whether a node is the same as another, with all that it holds.
+/// Returns whether a node is the same as another, with all that it holds.
 #[cycle(same)]
 fn is_same(node: &Node, other: &Node) -> bool
     ensures { IsTrue result ↔ AreSame node.now other.now }

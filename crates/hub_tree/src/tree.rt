@@ -97,7 +97,7 @@ impl Tree {
         }
     }
 
-    /// Whether both replicas have the same contents at each path.
+    /// Returns whether both replicas have the same contents at each path.
     pub fn same(&self, other: &Tree) -> bool
         ensures { IsTrue result ↔ (self.now ≡ other.now) }
     {

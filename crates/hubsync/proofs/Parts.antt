@@ -2,7 +2,7 @@
 use Rattle.std.proofs.Common.{◌≡◌, ◌∙◌, ◌⊎◌, inl, inr, ℕ, Bool, List, Option, Some, None, unwrap_or, sym, ap, subst}
 use Rattle.hub_cli.specs.Words.{Request}
 use Rattle.hub_files.specs.Files.{bundle_of, faulty_of, first_faulty}
-use Rattle.hub_files.specs.declared.bundle.BundleFault.TheVariants.{File, OutOfMemory}
+use Rattle.hub_files.specs.declared.bundle.FilesFault.TheVariants.{File, OutOfMemory}
 use Rattle.hub_files.specs.declared.part.Part.{Part}
 use Rattle.hub_serve.specs.Reads.{Reads}
 use Rattle.hub_serve.specs.Report.{Serves, WritesText}

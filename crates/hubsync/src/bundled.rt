@@ -7,16 +7,17 @@ ghost use Rattle.hubsync.specs.Bundled.{ServesBundle, ServesParts, WritesFault, 
 
 use crate::kept::Kept;
 use crate::served::{Seen, serve_with_remarks};
-use hub_files::{BundleFault, Part, PartFault, bundle_of, part_fault};
+use hub_files::{FilesFault, Part, PartFault, bundle_of, part_fault};
 use hub_text::Watched;
 use std::alloc::{AllocError, Global};
 use std::io::{Eprint, Write};
 use std::sync::Wait;
 use std::thread::Threads;
+use std::time::Clock;
 
 /// Does what `serve_with_remarks` does over the bundle that is made of these parts, whose files these are. If none can be made of
 /// them, a fault says why: the first file that can't be a section, or that memory is out. Then the status is 2.
-pub fn serve_parts<T: AllocGlobal + Eprint + Threads + Wait + Sync, W: Write>(
+pub fn serve_parts<T: AllocGlobal + Clock + Eprint + Threads + Wait + Sync, W: Write>(
     rt: &T,
     words: &[String],
     files: &[&str],
@@ -35,8 +36,8 @@ pub fn serve_parts<T: AllocGlobal + Eprint + Threads + Wait + Sync, W: Write>(
             let mut input = Watched::new(Kept::new(bundle.as_slice(), &seen.input));
             serve_with_remarks(rt, words, files, &mut input, output, seen)
         }
-        Err(BundleFault::File(i)) => write_part_fault(rt, parts, i, output),
-        Err(BundleFault::OutOfMemory) => write_memory(output),
+        Err(FilesFault::File(i)) => write_part_fault(rt, parts, i, output),
+        Err(FilesFault::OutOfMemory) => write_memory(output),
     }
 }
 

@@ -15,6 +15,7 @@ use std::alloc::{AllocError, Global};
 use std::io::{Eprint, Write};
 use std::sync::Wait;
 use std::thread::Threads;
+use std::time::Clock;
 use std::{fs, io};
 
 /// A file, and the section that it is for.
@@ -43,7 +44,7 @@ impl<'a> From<AllocError> for Unread<'a> {
 ///
 /// What a file has, no contract can say: only that the answer is given over some bytes for each of these files, as `serve_parts`
 /// says.
-pub fn serve_files<T: AllocGlobal + Eprint + fs::Files + Threads + Wait + Sync, W: Write>(
+pub fn serve_files<T: AllocGlobal + Clock + Eprint + fs::Files + Threads + Wait + Sync, W: Write>(
     rt: &T,
     words: &[String],
     files: &Files<'_>,
@@ -63,7 +64,7 @@ pub fn serve_files<T: AllocGlobal + Eprint + fs::Files + Threads + Wait + Sync, 
 }
 
 /// Reads the files that the words name, and answers over them.
-fn serve_named<'a, T: AllocGlobal + Eprint + fs::Files + Threads + Wait + Sync, W: Write>(
+fn serve_named<'a, T: AllocGlobal + Clock + Eprint + fs::Files + Threads + Wait + Sync, W: Write>(
     rt: &T,
     words: &[String],
     files: &Files<'a>,

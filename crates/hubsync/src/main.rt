@@ -12,6 +12,7 @@ mod bundled;
 mod files;
 mod kept;
 mod served;
+mod terminal;
 
 ghost use Rattle.std.specs.Prelude.{◌≡◌, ◌⊎◌, None, false, map, string_bytes, true};
 ghost use Rattle.hub_cli.specs.Words.{are_none, asked_of, files_of};
@@ -23,7 +24,7 @@ use crate::files::serve_files;
 use crate::kept::Kept;
 use crate::served::{Seen, serve_with_remarks};
 use hub_cli::{ErrorKind, read_files};
-use hub_serve::serve_process;
+use hub_serve::{NoProgress, serve_process};
 use hub_text::Watched;
 use std::fs::Files;
 use std::io::{Eprint, IsTerminal, Read, Write};
@@ -31,10 +32,11 @@ use std::process::ExitCode;
 use std::rt::Env;
 use std::sync::Wait;
 use std::thread::Threads;
+use std::time::Clock;
 use std::{env, io};
 
 fn main(rt: HostRuntime) -> ExitCode {
-    let seen = Seen::new(rt.alloc());
+    let seen = Seen::new(rt.alloc(), rt.stderr().is_terminal());
     let mut input = Watched::new(Kept::new(rt.reader(), &seen.input));
     let mut output = Watched::new(Kept::new(io::writer(&rt), &seen.output));
     let is_terminal = rt.stdin().is_terminal();
@@ -47,7 +49,7 @@ fn main(rt: HostRuntime) -> ExitCode {
             &mut output,
             &seen,
         ),
-        Err(error) => serve_process(&rt, Err(error), &mut input, &mut output),
+        Err(error) => serve_process(&rt, Err(error), &mut input, &mut output, &NoProgress),
     };
     ExitCode::from(status)
 }
@@ -58,7 +60,7 @@ fn arguments<R: AllocGlobal + Env>(rt: &R) -> io::Result<Vec<String>> {
 }
 
 /// Answers over the files that the words name, or over standard input if they name none.
-fn answer<T: AllocGlobal + Eprint + Files + Threads + Wait + Sync, R: Read, W: Write>(
+fn answer<T: AllocGlobal + Clock + Eprint + Files + Threads + Wait + Sync, R: Read, W: Write>(
     rt: &T,
     words: &[String],
     is_terminal: bool,

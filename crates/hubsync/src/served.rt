@@ -5,6 +5,7 @@ ghost use Rattle.hub_serve.specs.Reads.{reads_between};
 ghost use Rattle.hub_serve.specs.Report.{Serves};
 
 use crate::kept::{Kept, Passed};
+use crate::terminal::Terminal;
 use hub_remarks::remark;
 use hub_serve::serve;
 use hub_text::Watched;
@@ -14,6 +15,7 @@ use std::io;
 use std::io::{Eprint, Read, Write};
 use std::sync::Wait;
 use std::thread::Threads;
+use std::time::Clock;
 
 /// How many bytes of the input are kept for remarks.
 const INPUT_BYTES: usize = 1_048_576;
@@ -21,30 +23,37 @@ const INPUT_BYTES: usize = 1_048_576;
 /// How many bytes of the answer are kept for remarks.
 const OUTPUT_BYTES: usize = 65_536;
 
-/// What is kept of the input and of the output.
+/// What is kept of the input and of the output, and who reads standard error.
 #[derive(Drop)]
 pub struct Seen {
     /// Of the input.
     pub input: RefCell<Passed>,
     /// Of the output.
     pub output: RefCell<Passed>,
+    /// Whether standard error is a terminal.
+    pub by_terminal: bool,
 }
 
 impl Seen {
     /// Nothing was read and nothing was written. It doesn't allocate.
-    pub fn new(alloc: Global) -> Seen {
+    pub fn new(alloc: Global, by_terminal: bool) -> Seen {
         Seen {
             input: RefCell::new(Passed::new(alloc, INPUT_BYTES)),
             output: RefCell::new(Passed::new(alloc, OUTPUT_BYTES)),
+            by_terminal,
         }
     }
 }
 
-/// Does what `serve` does, and then says on standard error what belongs to the answer.
+/// Does what `serve` does, and then says on standard error what belongs to the answer. On a terminal it says how far it is, too.
 ///
 /// The remarks change neither the output nor the status, also if they can't be made or written. They are made of what is kept in
 /// `seen`. If the sections of the input were made of files, these are the files in their order.
-pub fn serve_with_remarks<T: AllocGlobal + Eprint + Threads + Wait + Sync, R: Read, W: Write>(
+pub fn serve_with_remarks<
+    T: AllocGlobal + Clock + Eprint + Threads + Wait + Sync,
+    R: Read,
+    W: Write,
+>(
     rt: &T,
     words: &[String],
     files: &[&str],
@@ -59,7 +68,8 @@ pub fn serve_with_remarks<T: AllocGlobal + Eprint + Threads + Wait + Sync, R: Re
         (W.contents output.new.device.device)
         (reads_between input.old input.new) output.new.failed result }
 {
-    let status = serve(rt, words, input, output);
+    let progress = Terminal::new(rt, seen.by_terminal);
+    let status = serve(rt, words, input, output, &progress);
     say_remarks(rt, words, files, seen, output.failed());
     status
 }

@@ -20,7 +20,7 @@ fn goals_text(alloc: Global, set: &ProfileSet) -> Result<String> {
     list_text(alloc, texts.as_slice())
 }
 
-/// Whether a set has a goal.
+/// Returns whether a set has a goal.
 pub(crate) fn has_answer(alloc: Global, fields: &str) -> Result<String> {
     let (goal, fields) = first(fields)?;
     let goal = goal_of(goal)?;

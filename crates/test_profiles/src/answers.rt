@@ -11,7 +11,7 @@ pub(crate) fn both(alloc: Global, holds: bool, other: bool) -> Result<String> {
     Ok(format!(in alloc; "{first}, {second}")?)
 }
 
-/// Whether two values are hashed alike.
+/// Returns whether two values are hashed alike.
 pub(crate) fn hash_alike<T: Hash, U: Hash>(value: &T, other: &U) -> bool {
     hash_of(value) == hash_of(other)
 }

@@ -64,7 +64,7 @@ fn taken(text: &str) -> Result<Option<usize>> {
     Ok(Some(text.parse::<usize>()?))
 }
 
-/// Whether a device has failed after a call.
+/// Returns whether a device has failed after a call.
 fn has_failed(call: &str, device: Device, bytes: &[u8]) -> Result<bool> {
     let mut device = Watched::new(device);
     make_call(call, &mut device, bytes)?;

@@ -2,7 +2,7 @@
 use crate::paths::path_of;
 use crate::texts::character_of;
 use anyhow::{Result, bail, ensure};
-use hub_glob::{Next, PathSpec, Piece};
+use hub_glob::{NextCharacter, PathSpec, Piece};
 use hub_path::RelPath;
 use std::alloc::{AllocError, Global};
 use test_kit::{quoted, shown, yes_or_no};
@@ -119,14 +119,14 @@ fn letter_of(piece: &Piece) -> char {
 }
 
 /// A character at a place.
-fn next_of(character: &str, place: &str) -> Result<Next> {
-    Ok(Next {
+fn next_of(character: &str, place: &str) -> Result<NextCharacter> {
+    Ok(NextCharacter {
         character: character_of(character)?,
         first: place == "first",
     })
 }
 
-fn takes(alloc: Global, spec: &PathSpec, next: Next) -> Result<String> {
+fn takes(alloc: Global, spec: &PathSpec, next: NextCharacter) -> Result<String> {
     let mut taken = Vec::new(alloc);
     for choice in spec.choices()?.as_slice() {
         push_taken(&mut taken, choice.as_slice(), next)?;
@@ -135,7 +135,11 @@ fn takes(alloc: Global, spec: &PathSpec, next: Next) -> Result<String> {
 }
 
 /// Appends whether each of the pieces takes a character.
-fn push_taken(taken: &mut Vec<bool>, pieces: &[Piece], next: Next) -> Result<(), AllocError> {
+fn push_taken(
+    taken: &mut Vec<bool>,
+    pieces: &[Piece],
+    next: NextCharacter,
+) -> Result<(), AllocError> {
     for piece in pieces {
         taken.push(piece.takes(next))?;
     }

@@ -47,7 +47,7 @@ fn word_and_rest(alloc: Global, text: &str) -> Result<String> {
     Ok(format!(in alloc; "{:?}", first_word(text))?)
 }
 
-/// Whether a text begins with an ASCII character.
+/// Returns whether a text begins with an ASCII character.
 fn begins(alloc: Global, text: &str, character: char) -> Result<String> {
     ensure!(
         character.is_ascii() && character != '\0',

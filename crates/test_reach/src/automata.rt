@@ -5,7 +5,7 @@ use hub_automaton::{Class, SpecSet, Spots};
 use std::alloc::{AllocError, Global};
 use test_kit::{digit, shown, three, two};
 
-/// Whether one of the specifications matches what has been read of a text, after each of its characters.
+/// Returns whether one of the specifications matches what has been read of a text, after each of its characters.
 pub(crate) fn walk(alloc: Global, fields: &str) -> Result<String> {
     let (specs, text) = two(fields)?;
     let automaton = Automaton::of_specs(alloc, specs)?;
@@ -26,7 +26,7 @@ fn state_of(alloc: Global, specs: &str, text: &str) -> Result<Spots> {
     Ok(automaton.state_after(text)?)
 }
 
-/// Whether two texts lead to the same state.
+/// Returns whether two texts lead to the same state.
 pub(crate) fn kept(alloc: Global, fields: &str) -> Result<String> {
     let (specs, first, second) = three(fields)?;
     let automaton = Automaton::of_specs(alloc, specs)?;
@@ -63,7 +63,7 @@ fn start_text(alloc: Global, set: &SpecSet) -> Result<String, AllocError> {
     format!(in alloc; "{} {}", start.len(), set.matched(&start))
 }
 
-/// Whether one of the specifications matches a text, from that number on and up to that one.
+/// Returns whether one of the specifications matches a text, from that number on and up to that one.
 pub(crate) fn range(alloc: Global, fields: &str) -> Result<String> {
     let (specs, text, numbers) = three(fields)?;
     let (from, to) = numbers_of(numbers)?;

@@ -57,7 +57,7 @@ impl Automaton {
         Ok(state)
     }
 
-    /// Whether one of the specifications matches what has been read of a text, after each of its characters, as `0` and `1`.
+    /// Returns whether one of the specifications matches what has been read of a text, after each of its characters, as `0` and `1`.
     pub(crate) fn walk(&self, alloc: Global, text: &str) -> Result<String, AllocError> {
         let mut state = self.set.start()?;
         let mut matched = String::new(alloc);

@@ -8,7 +8,7 @@ use hub_reach::reaches as is_reached;
 use std::alloc::Global;
 use test_kit::{shown, two};
 
-/// Whether the profile reaches the path: by its names, and by a walker along its text.
+/// Returns whether the profile reaches the path: by its names, and by a walker along its text.
 pub(crate) fn reaches(alloc: Global, fields: &str) -> Result<String> {
     let (lines, path) = two(fields)?;
     let profile = profile_of(alloc, lines)?;
@@ -21,7 +21,7 @@ fn reaches_path(alloc: Global, profile: &Profile, path: &str) -> Result<String> 
     Ok(format!(in alloc; "{by_names} {by_text}")?)
 }
 
-/// Whether the profile reaches the path of the whole replica.
+/// Returns whether the profile reaches the path of the whole replica.
 pub(crate) fn reaches_top(alloc: Global, lines: &str) -> Result<String> {
     let profile = profile_of(alloc, lines)?;
     let reached = is_reached(&profile, &RelPath::top(alloc));

@@ -47,7 +47,7 @@ pub(crate) fn verbs_text(
     allowed.as_slice().join(alloc, " ")
 }
 
-/// Whether the profile writes at a root.
+/// Returns whether the profile writes at a root.
 pub(crate) fn is_written(alloc: Global, fields: &str) -> Result<String> {
     let (lines, root) = two(fields)?;
     let root = Root::read(alloc, root)?;
@@ -79,7 +79,7 @@ fn allowed_at_text(
     )
 }
 
-/// Whether the profile writes at a path of a root.
+/// Returns whether the profile writes at a path of a root.
 pub(crate) fn is_written_at(alloc: Global, fields: &str) -> Result<String> {
     let (lines, root, path) = three(fields)?;
     let root = Root::read(alloc, root)?;

@@ -23,7 +23,7 @@ impl<'t> Changes<'t> {
         Changes { text }
     }
 
-    /// Whether there is this change to the root or the job.
+    /// Returns whether there is this change to the root or the job.
     pub(crate) fn has(&self, word: &str, to: &str) -> bool {
         self.field(word, to).is_some()
     }

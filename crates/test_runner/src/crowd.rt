@@ -66,4 +66,6 @@ impl Gate for Crowd {
     fn after(&self, _job: usize, _step: usize) {
         self.inside.fetch_sub(1, Ordering::SeqCst);
     }
+
+    fn ended(&self, _job: usize) {}
 }

@@ -32,6 +32,8 @@ impl Gate for Counting {
     fn after(&self, _job: usize, _step: usize) {
         self.calls.fetch_add(1_000, Ordering::SeqCst);
     }
+
+    fn ended(&self, _job: usize) {}
 }
 
 /// What the steps are answered, how often the gate is called, and what the desk is closed with. The fields are a root and the

@@ -103,4 +103,6 @@ impl Gate for Meeting {
             self.meet(job);
         }
     }
+
+    fn ended(&self, _job: usize) {}
 }

@@ -44,4 +44,6 @@ impl Gate for Row {
             self.most.store(count, Ordering::SeqCst);
         }
     }
+
+    fn ended(&self, _job: usize) {}
 }

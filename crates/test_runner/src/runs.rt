@@ -73,6 +73,8 @@ impl Gate for Open {
     fn within(&self, _job: usize) {}
 
     fn after(&self, _job: usize, _step: usize) {}
+
+    fn ended(&self, _job: usize) {}
 }
 
 /// The answer to a question about what was given.

@@ -90,11 +90,7 @@ fn fault_text(alloc: Global, fault: &RunFault) -> Result<String> {
 /// there are others.
 pub(crate) fn push_answer(text: &mut String, answer: &Answer) -> Result<()> {
     match answer {
-        Answer::Seen {
-            mark,
-            names,
-            others,
-        } => push_seen(text, *mark, names.as_slice(), *others)?,
+        Answer::Seen(sight) => push_seen(text, sight.mark(), sight.names(), sight.others())?,
         Answer::Bytes(file) => write!(text, "{} bytes", file.bytes().len())?,
         Answer::Done => text.push_str("done")?,
         Answer::Refused(fault) => write!(text, "{fault:?}")?,

@@ -72,4 +72,6 @@ impl<'r, R: Wait> Gate for Watch<'r, R> {
     fn after(&self, job: usize, step: usize) {
         self.note(job, 'a', Some(step));
     }
+
+    fn ended(&self, _job: usize) {}
 }

@@ -29,7 +29,7 @@ impl Dice {
     }
 }
 
-/// Whether so many random schedules leave what the jobs leave one after the other. If one does not, what it leaves. The fields
+/// Returns whether so many random schedules leave what the jobs leave one after the other. If one does not, what it leaves. The fields
 /// are their number and the seed of the numbers.
 pub(crate) fn answer(
     alloc: Global,

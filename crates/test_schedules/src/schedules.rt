@@ -64,7 +64,7 @@ fn left_by_overlapping(
     left_text(alloc, &left)
 }
 
-/// Whether profiles of the set overlap.
+/// Returns whether profiles of the set overlap.
 fn is_overlapping(alloc: Global, set: &ProfileSet) -> bool {
     matches!(check(alloc, set), Err(CheckFault::Overlap { .. }))
 }

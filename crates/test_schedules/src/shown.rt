@@ -11,11 +11,7 @@ use test_kit::list_text;
 /// The answer of a replica.
 pub(crate) fn answer_text(alloc: Global, answer: &Answer) -> Result<String> {
     match answer {
-        Answer::Seen {
-            mark,
-            names,
-            others,
-        } => seen_text(alloc, *mark, names.as_slice(), *others),
+        Answer::Seen(sight) => seen_text(alloc, sight.mark(), sight.names(), sight.others()),
         Answer::Bytes(file) => Ok(format!(in alloc; "{} bytes", file.bytes().len())?),
         Answer::Done => Ok(String::from_str(alloc, "done")?),
         Answer::Refused(fault) => Ok(format!(in alloc; "{fault:?}")?),

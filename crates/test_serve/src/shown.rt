@@ -1,7 +1,7 @@
 //! How answers are shown, and how they come about.
 
 use anyhow::Result;
-use hub_serve::serve;
+use hub_serve::{NoProgress, serve};
 use hub_text::Watched;
 use std::alloc::Global;
 use std::io::{Eprint, Read, Write};
@@ -22,7 +22,7 @@ pub(crate) fn served<T: AllocGlobal + Eprint + Threads + Wait + Sync, R: Read, W
     let words: Vec<&str> = words.split(' ').collect(rt.alloc())?;
     let mut input = Watched::new(input);
     let mut output = Watched::new(output);
-    Ok(serve(rt, words.as_slice(), &mut input, &mut output))
+    Ok(serve(rt, words.as_slice(), &mut input, &mut output, &NoProgress))
 }
 
 /// Shows an answer: its status and its first lines.

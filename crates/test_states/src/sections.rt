@@ -92,13 +92,13 @@ fn with_directory(alloc: Global, path: &RelPath) -> Result<Archive, AllocError> 
     Ok(archive)
 }
 
-/// Whether the state has the replica of a root.
+/// Returns whether the state has the replica of a root.
 fn has_replica(alloc: Global, state: &State, root: &str) -> Result<String> {
     let root = Root::read(alloc, root)?;
     yes_or_no(alloc, state.replica(&root).is_some())
 }
 
-/// Whether the state has the archive of two roots.
+/// Returns whether the state has the archive of two roots.
 fn has_archive(alloc: Global, state: &State, first: &str, second: &str) -> Result<String> {
     let first = Root::read(alloc, first)?;
     let second = Root::read(alloc, second)?;

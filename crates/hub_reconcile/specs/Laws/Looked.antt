@@ -26,7 +26,7 @@ use Rattle.hub_tree.specs.Laws.Children.{any_children-push, one_item}
 use Rattle.hub_tree.specs.Laws.Contented.{shown_contents, child_names, absent_childless}
 use Rattle.hub_tree.specs.Laws.Beneath.{below_from}
 use Rattle.hub_tree.specs.Laws.Between.{among, among_filter}
-use Rattle.hub_reconcile.specs.Sight.{Sight, sight, is_kept, is_kept_parent, directory_or_absent, reached_names}
+use Rattle.hub_reconcile.specs.Sight.{Sight, sight, is_kept_value, is_kept_parent, directory_or_absent, reached_names}
 use Rattle.hub_reconcile.specs.View.{View, counts, mark_seen, is_present}
 use Rattle.hub_reconcile.specs.Picture.{sight_in, view_by, first_looks, needed, was_seen}
 use Rattle.hub_reconcile.specs.Sync.{of_side, root_or_top, view_of, sights_of}
@@ -97,7 +97,7 @@ counts_by P facts p (n ∷ s) h o member =
 
 -- A kept value that counts stands over each reached path.
 pub kept_over : (P : Parts) → IsProfile P → (p : Path) → reach P p ≡ true → (s : Path)
-    × (is_kept P s ≡ true) × (is_over s p ≡ true) × (among s P.paths ≡ true)
+    × (is_kept_value P s ≡ true) × (is_over s p ≡ true) × (among s P.paths ≡ true)
 kept_over P facts p h =
     let w = any_witness (λ s. is_over s p) P.paths (reach-below P p h) in
     (w.0, and_from _ _ (any_equal w.0 P.paths ∙ w.1) (counts_by P facts p w.0 h w.2 w.1), w.2, w.1)
@@ -118,16 +118,17 @@ module _ (P : Parts) (facts : IsProfile P) (A B : Replica) (O : Archive) (left :
   unfolding sight
   names_reached k x h = names_if (reach P x) _ _ h
 
-  pub names_top : (k : Side) → is_kept P [] ≡ true → (S k []).names ≡ reached_names P (R k) []
+  pub names_top : (k : Side) → is_kept_value P [] ≡ true → (S k []).names ≡ reached_names P (R k) []
   unfolding sight
-  names_top k h = names_unless (reach P []) _ _ (not_reached_top P) ∙ names_if (is_kept P []) _ _ h
+  names_top k h =
+      names_unless (reach P []) _ _ (not_reached_top P) ∙ names_if (is_kept_value P []) _ _ h
 
-  names_over : (k : Side) (s x : Path) → is_kept P s ≡ true → among s P.paths ≡ true
+  names_over : (k : Side) (s x : Path) → is_kept_value P s ≡ true → among s P.paths ≡ true
       → is_over s x ≡ true → (length x == 0 || reach P x) ≡ true
       → (S k x).names ≡ reached_names P (R k) x
   names_over k s [] kept member o h =
       let is : s ≡ [] = no_names s o in
-      names_top k (subst (λ t. is_kept P t ≡ true) is kept)
+      names_top k (subst (λ t. is_kept_value P t ≡ true) is kept)
   names_over k s (n ∷ x) kept member o h =
       names_reached k (n ∷ x) (ap (λ b. b || reach P (n ∷ x)) (sym (one_item n x)) ∙ h)
 
@@ -148,7 +149,7 @@ module _ (P : Parts) (facts : IsProfile P) (A B : Replica) (O : Archive) (left :
           (flat_map listed (sights_of P A B k ps))
           ∙ or_right (among q (first_looks P)) _ (among_listed q d (S k) ps e h)))
 
-      walk : (s : Path) → is_kept P s ≡ true → among s P.paths ≡ true → (r x : Path)
+      walk : (s : Path) → is_kept_value P s ≡ true → among s P.paths ≡ true → (r x : Path)
           → is_over s x ≡ true → (length x == 0 || reach P x) ≡ true → among x ps ≡ true
           → reach P (x ++ r) ≡ true
           → is_absent (contents_at (R k) (x ++ r)) ≡ false → among (x ++ r) ps ≡ true
@@ -200,8 +201,8 @@ module _ (P : Parts) (facts : IsProfile P) (A B : Replica) (O : Archive) (left :
       no_kept_parent : (n : Name) (p : Path) → among (n ∷ p) ps ≡ false
           → is_kept_parent P (n ∷ p) ≡ false
       no_kept_parent n p e = false_from_ne_true _ (λ h.
-          let w = any_witness (λ s. is_kept P s && path_eq (parent s) (n ∷ p)) P.paths h in
-          let two = and_parts (is_kept P w.0) (path_eq (parent w.0) (n ∷ p)) w.2 in
+          let w = any_witness (λ s. is_kept_value P s && path_eq (parent s) (n ∷ p)) P.paths h in
+          let two = and_parts (is_kept_value P w.0) (path_eq (parent w.0) (n ∷ p)) w.2 in
           let is : parent w.0 ≡ n ∷ p = same_paths (parent w.0) (n ∷ p) two.1 in
           false≢true (sym e
           ∙ (ap (λ q. among q ps) (sym is)
@@ -216,8 +217,8 @@ module _ (P : Parts) (facts : IsProfile P) (A B : Replica) (O : Archive) (left :
           ∙ ap mark_of (absent_of _ (unseen_absent (n ∷ p) e h)))
       mark_unseen n p false h e =
           sym (mark_unless (reach P (n ∷ p)) _ _ h
-          ∙ (mark_unless (length (n ∷ p) == 0 && is_kept P []) _ _
-          (ap (λ b. b && is_kept P []) (one_item n p))
+          ∙ (mark_unless (length (n ∷ p) == 0 && is_kept_value P []) _ _
+          (ap (λ b. b && is_kept_value P []) (one_item n p))
           ∙ ap (λ b. directory_or_absent (b && is_directory (contents_at (R k) (n ∷ p))))
           (no_kept_parent n p e)))
 
@@ -250,7 +251,7 @@ module _ (P : Parts) (facts : IsProfile P) (A B : Replica) (O : Archive) (left :
           ∙ and-false (write P (root k) p)))
       others_unseen p false h e =
           sym (others_unless (reach P p) _ _ h
-          ∙ others_either (length p == 0 && is_kept P []) _ _ refl refl)
+          ∙ others_either (length p == 0 && is_kept_value P []) _ _ refl refl)
 
       others_by : (p : Path) (b : Bool) → among p ps ≡ b
           → (sight_in (sights_of P A B k ps) p).others ≡ (S k p).others

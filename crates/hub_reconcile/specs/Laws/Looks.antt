@@ -12,7 +12,7 @@ use Rattle.hub_reach.specs.Reach.{reach}
 use Rattle.hub_tree.specs.Laws.Order.{same_path, path_itself}
 use Rattle.hub_tree.specs.Laws.Children.{path_eq-cmp}
 use Rattle.hub_tree.specs.Laws.Between.{among, among_filter}
-use Rattle.hub_reconcile.specs.Sight.{Sight, is_kept}
+use Rattle.hub_reconcile.specs.Sight.{Sight, is_kept_value}
 use Rattle.hub_reconcile.specs.Picture.{nothing, sight_in, first_looks}
 use Rattle.hub_reconcile.specs.Laws.Steps.{eq_symmetric}
 
@@ -109,27 +109,28 @@ first_of : (s : Path) (b : Bool) → among s (cond b (parent s ∷ s ∷ []) (s 
 first_of s true = or_right (eq_by_cmp path_cmp s (parent s)) _ (or_left _ false (path_itself s))
 first_of s false = or_left _ false (path_itself s)
 
-kept_among : (P : Parts) (s : Path) → is_kept P s ≡ true
-    → among s (filter (is_kept P) P.paths) ≡ true
+kept_among : (P : Parts) (s : Path) → is_kept_value P s ≡ true
+    → among s (filter (is_kept_value P) P.paths) ≡ true
 kept_among P s k =
-    among_filter s (is_kept P) P.paths
-    ∙ and_from (is_kept P s) _ k (sym (any_equal s P.paths)
+    among_filter s (is_kept_value P) P.paths
+    ∙ and_from (is_kept_value P s) _ k (sym (any_equal s P.paths)
     ∙ (and_parts (list_any (path_eq s) P.paths) (length s == 0 || reach P s) k).0)
 
-pub first_kept : (P : Parts) (s : Path) → is_kept P s ≡ true → among s (first_looks P) ≡ true
+pub first_kept : (P : Parts) (s : Path) → is_kept_value P s ≡ true → among s (first_looks P) ≡ true
 first_kept P s k =
     among_flat s s (λ s. if nat_lt 1 (length s) then parent s ∷ s ∷ [] else s ∷ [])
-    (filter (is_kept P) P.paths) (kept_among P s k) (first_of s (nat_lt 1 (length s)))
+    (filter (is_kept_value P) P.paths) (kept_among P s k) (first_of s (nat_lt 1 (length s)))
 
 more_names : (s : Path) (n : Name) (p : Path) → parent s ≡ n ∷ p → nat_lt 1 (length s) ≡ true
 more_names [] n p e = cc
 more_names (a ∷ []) n p e = cc
 more_names (a ∷ b ∷ c) n p e = grind (arith, nat_tests)
 
-pub first_parent : (P : Parts) (s : Path) (n : Name) (p : Path) → is_kept P s ≡ true → parent s ≡ n ∷ p
+pub first_parent : (P : Parts) (s : Path) (n : Name) (p : Path) → is_kept_value P s ≡ true
+    → parent s ≡ n ∷ p
     → among (parent s) (first_looks P) ≡ true
 first_parent P s n p k e =
     among_flat (parent s) s (λ s. if nat_lt 1 (length s) then parent s ∷ s ∷ [] else s ∷ [])
-    (filter (is_kept P) P.paths) (kept_among P s k)
+    (filter (is_kept_value P) P.paths) (kept_among P s k)
     (ap (λ b. among (parent s) (cond b (parent s ∷ s ∷ []) (s ∷ []))) (more_names s n p e)
     ∙ or_left _ _ (path_itself (parent s)))

@@ -14,7 +14,7 @@ use Rattle.hub_tree.specs.Tree.{Replica, contents_at, is_absent, is_child, child
 use Rattle.hub_tree.specs.Laws.Order.{same_path, path_itself}
 use Rattle.hub_tree.specs.Laws.Children.{child_of, one_item}
 use Rattle.hub_tree.specs.Laws.Between.{among, among_filter}
-use Rattle.hub_reconcile.specs.Sight.{Sight, sight, is_kept, reached_names}
+use Rattle.hub_reconcile.specs.Sight.{Sight, sight, is_kept_value, reached_names}
 use Rattle.hub_reconcile.specs.Picture.{first_looks, needed}
 use Rattle.hub_reconcile.specs.Sync.{of_side, root_or_top, sights_of}
 use Rattle.hub_reconcile.specs.Laws.Ascend.{among_ascending}
@@ -58,22 +58,24 @@ top_only (n ∷ d) b e =
     absurd (false≢true (sym (one_item n d) ∙ (and_parts (length (n ∷ d) == 0) b e).0))
 
 listed_by : (P : Parts) (r : Path) (m : Replica) (d x : Path) (b c : Bool) → reach P d ≡ b
-    → (length d == 0 && is_kept P []) ≡ c → among x (listed (d, sight P r m d)) ≡ true
+    → (length d == 0 && is_kept_value P []) ≡ c → among x (listed (d, sight P r m d)) ≡ true
     → among x (fin.keys m) ≡ true
 unfolding sight
 listed_by P r m d x true c h g e =
     listed_keys P m d x
     (ap (λ ns. among x (map (λ n. d ++ n ∷ []) ns)) (sym (names_if (reach P d) _ _ h)) ∙ e)
 listed_by P r m d x false true h g e =
-    let top : d ≡ [] = top_only d (is_kept P []) g in
+    let top : d ≡ [] = top_only d (is_kept_value P []) g in
     listed_keys P m [] x
     (ap (λ y. among x (map (λ n. y ++ n ∷ []) (reached_names P m []))) (sym top)
     ∙ (ap (λ ns. among x (map (λ n. d ++ n ∷ []) ns))
-    (sym (names_unless (reach P d) _ _ h ∙ names_if (length d == 0 && is_kept P []) _ _ g)) ∙ e))
+    (sym (names_unless (reach P d) _ _ h ∙ names_if (length d == 0 && is_kept_value P []) _ _ g))
+    ∙ e))
 listed_by P r m d x false false h g e =
     absurd (false≢true
     (ap (λ ns. among x (map (λ n. d ++ n ∷ []) ns))
-    (sym (names_unless (reach P d) _ _ h ∙ names_unless (length d == 0 && is_kept P []) _ _ g))
+    (sym (names_unless (reach P d) _ _ h
+    ∙ names_unless (length d == 0 && is_kept_value P []) _ _ g))
     ∙ e))
 
 of_listed : (f : Path → Sight) (x : Path) (ps ks : List Path)
@@ -108,7 +110,7 @@ needed_known P A B k ps q e =
     let m = of_side A B k in
     needed_by q (first_looks P) (flat_map listed (sights_of P A B k ps)) (fin.keys m)
     (of_listed (sight P r m) q ps (fin.keys m)
-    (λ d h. listed_by P r m d q (reach P d) (length d == 0 && is_kept P []) refl refl h))
+    (λ d h. listed_by P r m d q (reach P d) (length d == 0 && is_kept_value P []) refl refl h))
     (sym (list_any-append (eq_by_cmp path_cmp q) (first_looks P)
     (flat_map listed (sights_of P A B k ps)))
     ∙ (sym (among_ascending q (first_looks P ++ flat_map listed (sights_of P A B k ps))) ∙ e))
@@ -155,9 +157,9 @@ known_length P m =
       arith,
       length-append (first_looks P) (fin.keys m),
       keys_length m,
-      filter_less (is_kept P) P.paths,
+      filter_less (is_kept_value P) P.paths,
       two_each (λ s. if nat_lt 1 (length s) then parent s ∷ s ∷ [] else s ∷ [])
-          (filter (is_kept P) P.paths) (λ s. first_two s (nat_lt 1 (length s))),
+          (filter (is_kept_value P) P.paths) (λ s. first_two s (nat_lt 1 (length s))),
     )
 
 -- The paths of a list that aren't in another one.

@@ -25,7 +25,7 @@ use Rattle.hub_tree.specs.declared.contents.Mark.TheVariants as mark
 use Rattle.hub_tree.specs.Laws.Order.{same_path, path_itself}
 use Rattle.hub_tree.specs.Laws.Children.{path_eq-cmp, one_item}
 use Rattle.hub_tree.specs.Laws.Between.{among, among_filter, not_both}
-use Rattle.hub_reconcile.specs.Sight.{Sight, sight, is_kept, is_kept_parent, directory_or_absent}
+use Rattle.hub_reconcile.specs.Sight.{Sight, sight, is_kept_value, is_kept_parent, directory_or_absent}
 use Rattle.hub_reconcile.specs.View.{View, counts, allowed_at, is_present, is_folder}
 use Rattle.hub_reconcile.specs.Sync.{of_side, root_or_top, view_of}
 use Rattle.hub_reconcile.specs.Laws.Ascend.{ascending_sorted, among_ascending}
@@ -153,24 +153,24 @@ module _ (P : Parts) (A B : Replica) (O : Archive) where
 
   -- A folder that is seen is a directory.
   folder_sight : (k : Side) (p : Path) (b d : Bool) → reach P p ≡ b
-      → (length p == 0 && is_kept P []) ≡ d → (length p == 0) ≡ false
+      → (length p == 0 && is_kept_value P []) ≡ d → (length p == 0) ≡ false
       → is_folder (sight P (root k) (R k) p).mark ≡ true → is_directory (contents_at (R k) p) ≡ true
   unfolding sight
   folder_sight k p true d e f l h = sym (folder-mark (contents_at (R k) p))
       ∙ (ap is_folder (sym (mark_if (reach P p) _ _ e)) ∙ h)
   folder_sight k p false true e f l h =
-      absurd (false≢true (ap (λ b. b && is_kept P []) (sym l) ∙ f))
+      absurd (false≢true (ap (λ b. b && is_kept_value P []) (sym l) ∙ f))
   folder_sight k p false false e f l h =
       (and_parts (is_kept_parent P p) (is_directory (contents_at (R k) p))
       (folder_if (is_kept_parent P p && is_directory (contents_at (R k) p))
-      (ap is_folder (sym (mark_unless (length p == 0 && is_kept P []) _ _ f)
+      (ap is_folder (sym (mark_unless (length p == 0 && is_kept_value P []) _ _ f)
       ∙ sym (mark_unless (reach P p) _ _ e)) ∙ h))).1
 
   pub folder_seen : (k : Side) (p : Path) → is_folder (V.mark k p) ≡ true
       → is_directory (contents_at (R k) p) ≡ true
   folder_seen k [] h = refl
   folder_seen k (n ∷ p) h =
-      folder_sight k (n ∷ p) (reach P (n ∷ p)) (length (n ∷ p) == 0 && is_kept P []) refl refl
+      folder_sight k (n ∷ p) (reach P (n ∷ p)) (length (n ∷ p) == 0 && is_kept_value P []) refl refl
       (one_item n p)
       (ap (λ b. is_folder (cond b mark.Absent (sight P (root k) (R k) (n ∷ p)).mark))
       (sym (one_item n p)) ∙ h)

@@ -15,14 +15,20 @@ use Rattle.hub_tree.specs.Laws.Order.{path_total, path_antisymmetric, same_path}
 use Rattle.hub_tree.specs.Laws.Ascending.{get_changed}
 use Rattle.hub_tree.specs.Laws.Children.{path_eq-cmp}
 
-pub get-with_kept : (a : Archive) (p : Path) (w : Option Mark) (q : Path) → fin.get (with_kept a p w) q ≡ cond (eq_by_cmp path_cmp q p) w (fin.get a q)
+pub get-with_kept : (a : Archive) (p : Path) (w : Option Mark) (q : Path)
+    → fin.get (with_kept a p w) q ≡ cond (eq_by_cmp path_cmp q p) w (fin.get a q)
 get-with_kept a p (Some m) q = fin.get-insert path_total a p m q
 get-with_kept a p None q = fin.get-remove path_total a p q
 
 -- entries that were changed at one path
-pub changed_marks : (es fs : List (Path × Mark)) (a : Archive) (p : Path) (w : Option Mark) → fin.from_entries es ≡ a → ((q : Path) → find path_cmp q fs ≡ cond (eq_by_cmp path_cmp p q) w (find path_cmp q es)) → fin.from_entries fs ≡ with_kept a p w
+pub changed_marks : (es fs : List (Path × Mark)) (a : Archive) (p : Path) (w : Option Mark)
+    → fin.from_entries es ≡ a → ((q : Path)
+    → find path_cmp q fs ≡ cond (eq_by_cmp path_cmp p q) w (find path_cmp q es))
+    → fin.from_entries fs ≡ with_kept a p w
 changed_marks es fs a p w v h =
-    fin.same_map path_total path_antisymmetric _ _ (λ q. get_changed path_total es fs p w h q ∙ ap (λ a. cond (eq_by_cmp path_cmp q p) w (fin.get a q)) v ∙ sym (get-with_kept a p w q))
+    fin.same_map path_total path_antisymmetric _ _
+    (λ q. get_changed path_total es fs p w h q
+    ∙ ap (λ a. cond (eq_by_cmp path_cmp q p) w (fin.get a q)) v ∙ sym (get-with_kept a p w q))
 
 kept_present : (m : Mark) → kept m ≡ Some mark.Absent → ⊥
 kept_present (mark.File digest) e = cc
@@ -30,7 +36,9 @@ kept_present mark.Directory e = cc
 kept_present mark.Absent e = cc
 
 -- A map with a path at each key keeps it where a path is set.
-pub path_here : {X : Type 0} (a : fin.FinMap path_cmp X) (p q : Path) (w : Option X) (b : Bool) → is_path p ≡ true → HasPaths a → eq_by_cmp path_cmp q p ≡ b → is_some (cond b w (fin.get a q)) ≡ true → is_path q ≡ true
+pub path_here : {X : Type 0} (a : fin.FinMap path_cmp X) (p q : Path) (w : Option X) (b : Bool)
+    → is_path p ≡ true → HasPaths a → eq_by_cmp path_cmp q p ≡ b
+    → is_some (cond b w (fin.get a q)) ≡ true → is_path q ≡ true
 path_here a p q w true here paths e s = ap is_path (same_path q p e) ∙ here
 path_here a p q w false here paths e s = paths q s
 
@@ -42,12 +50,17 @@ none_from (Some m) f = absurd (false≢true (f refl))
 no_top : (a : Archive) → HasPaths a → fin.get a [] ≡ None
 no_top a h = none_from (fin.get a []) (λ e. h [] e)
 
-pub HasPaths-set : (a : Archive) (p : Path) (m : Mark) → HasPaths a → is_path p ≡ true → HasPaths (with_mark a p m)
-HasPaths-set a p m h here = λ q e. path_here a p q (kept m) (eq_by_cmp path_cmp q p) here h refl (sym (ap is_some (get-with_kept a p (kept m) q)) ∙ e)
+pub HasPaths-set : (a : Archive) (p : Path) (m : Mark) → HasPaths a → is_path p ≡ true
+    → HasPaths (with_mark a p m)
+HasPaths-set a p m h here =
+    λ q e. path_here a p q (kept m) (eq_by_cmp path_cmp q p) here h refl
+    (sym (ap is_some (get-with_kept a p (kept m) q)) ∙ e)
 
-present-set : (a : Archive) (p : Path) (m : Mark) → IsArchive a → (q : Path) → fin.get (with_mark a p m) q ≡ Some mark.Absent → ⊥
+present-set : (a : Archive) (p : Path) (m : Mark) → IsArchive a → (q : Path)
+    → fin.get (with_mark a p m) q ≡ Some mark.Absent → ⊥
 present-set a p m h = λ q e.
-    cond_both (eq_by_cmp path_cmp q p) (kept m) (fin.get a q) (λ r. r ≡ Some mark.Absent → ⊥) (λ b. kept_present m) (λ b. h.present q) (sym (get-with_kept a p (kept m) q) ∙ e)
+    cond_both (eq_by_cmp path_cmp q p) (kept m) (fin.get a q) (λ r. r ≡ Some mark.Absent → ⊥)
+    (λ b. kept_present m) (λ b. h.present q) (sym (get-with_kept a p (kept m) q) ∙ e)
 
 -- Digests of files.
 kept_file : (m : Mark) (d : List ℕ) → kept m ≡ Some (mark.File d) → m ≡ mark.File d
@@ -58,10 +71,12 @@ kept_file mark.Absent d e = cc
 HasDigests-set : (a : Archive) (p : Path) (m : Mark) → HasDigests a
     → ((d : List ℕ) → m ≡ mark.File d → IsDigest d) → HasDigests (with_mark a p m)
 HasDigests-set a p m h here = λ q d e.
-    cond_both (eq_by_cmp path_cmp q p) (kept m) (fin.get a q) (λ r. r ≡ Some (mark.File d) → IsDigest d) (λ b k. here d (kept_file m d k)) (λ b. h q d)
+    cond_both (eq_by_cmp path_cmp q p) (kept m) (fin.get a q)
+    (λ r. r ≡ Some (mark.File d) → IsDigest d) (λ b k. here d (kept_file m d k)) (λ b. h q d)
     (sym (get-with_kept a p (kept m) q) ∙ e)
 
-pub IsArchive-set : (a : Archive) (p : Path) (m : Mark) → IsArchive a × HasPaths a × HasDigests a → is_path p ≡ true
+pub IsArchive-set : (a : Archive) (p : Path) (m : Mark) → IsArchive a × HasPaths a × HasDigests a
+    → is_path p ≡ true
     → ((d : List ℕ) → m ≡ mark.File d → IsDigest d)
     → IsArchive (with_mark a p m) × HasPaths (with_mark a p m) × HasDigests (with_mark a p m)
 IsArchive-set a p m h here digest =
@@ -72,25 +87,31 @@ IsArchive-set a p m h here digest =
     )
 
 -- As laws.
-top_stays : (a : Archive) (p : Path) (w : Option Mark) → 0 < length p → fin.get a [] ≡ None → fin.get (with_kept a p w) [] ≡ None
+top_stays : (a : Archive) (p : Path) (w : Option Mark) → 0 < length p → fin.get a [] ≡ None
+    → fin.get (with_kept a p w) [] ≡ None
 top_stays a [] w l e = absurd (omega arith)
 top_stays a (n ∷ p) w l e = get-with_kept a (n ∷ p) w [] ∙ e
 
-pub IsArchive-after : (a : Archive) (p : Path) (m : Mark) → 0 < length p → IsArchive a → IsArchive (with_mark a p m)
-IsArchive-after a p m l h = record { present = present-set a p m h; no_top = top_stays a p (kept m) l h.no_top }
+pub IsArchive-after : (a : Archive) (p : Path) (m : Mark) → 0 < length p → IsArchive a
+    → IsArchive (with_mark a p m)
+IsArchive-after a p m l h =
+    record { present = present-set a p m h; no_top = top_stays a p (kept m) l h.no_top }
 
 kept_or : (m : Mark) → unwrap_or (kept m) mark.Absent ≡ m
 kept_or (mark.File d) = refl
 kept_or mark.Directory = refl
 kept_or mark.Absent = refl
 
-mark_or : (b : Bool) (m : Mark) (o : Option Mark) → unwrap_or (cond b (kept m) o) mark.Absent ≡ cond b m (unwrap_or o mark.Absent)
+mark_or : (b : Bool) (m : Mark) (o : Option Mark)
+    → unwrap_or (cond b (kept m) o) mark.Absent ≡ cond b m (unwrap_or o mark.Absent)
 mark_or true m o = kept_or m
 mark_or false m o = refl
 
-pub old_mark-after : (a : Archive) (p q : Path) (m : Mark) → old_mark_at (with_mark a p m) q ≡ cond (path_eq q p) m (old_mark_at a q)
+pub old_mark-after : (a : Archive) (p q : Path) (m : Mark)
+    → old_mark_at (with_mark a p m) q ≡ cond (path_eq q p) m (old_mark_at a q)
 old_mark-after a p q m =
-    ap (λ o. unwrap_or o mark.Absent) (get-with_kept a p (kept m) q) ∙ mark_or (eq_by_cmp path_cmp q p) m (fin.get a q)
+    ap (λ o. unwrap_or o mark.Absent) (get-with_kept a p (kept m) q)
+    ∙ mark_or (eq_by_cmp path_cmp q p) m (fin.get a q)
     ∙ ap (λ b. cond b m (old_mark_at a q)) (sym (path_eq-cmp q p))
 
 pub IsArchive-empty : IsArchive fin.empty × HasPaths {T = Mark} fin.empty × HasDigests fin.empty

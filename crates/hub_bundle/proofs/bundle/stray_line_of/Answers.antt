@@ -16,8 +16,8 @@ returns-then-is_heading c =
     let at = numbered_turn (lines_of bytes) k c.in-Some.i l turn in
     sym (c.loop-i.invariant ∙ no_stray (lines_of bytes) k l at.1 at.2 (sym c.is_heading.ensures ∙ c.if-is_heading.true))
 
-pub returns-then-not-is_blank : goal.returns-then-not-is_blank
-returns-then-not-is_blank c =
+pub returns-then-not-is_ignorable : goal.returns-then-not-is_ignorable
+returns-then-not-is_ignorable c =
     let bytes = c.args.bytes.now in
     let road = numbered_bytes {s = c.into_iter-i-iterator.result} bytes (cc) (cc) in
     let turn = YieldsList-turn road c.loop-i.yielded _ c.loop-i.yielded_by c.next.result c.next.new.self (c.in-Some.i, c.in-Some.line) c.in-Some.is c.next.ensures.steps in
@@ -25,7 +25,7 @@ returns-then-not-is_blank c =
     let l = of_bytes c.in-Some.line in
     let at = numbered_turn (lines_of bytes) k c.in-Some.i l turn in
     let some : ℕ → Option ℕ = λ n. Some (n + 1) in
-    ap some at.0 ∙ sym (c.loop-i.invariant ∙ stray_found (lines_of bytes) k l at.1 at.2 (sym c.is_heading.ensures ∙ c.if-is_heading.false) (sym c.is_blank.ensures ∙ c.if-not-is_blank.true))
+    ap some at.0 ∙ sym (c.loop-i.invariant ∙ stray_found (lines_of bytes) k l at.1 at.2 (sym c.is_heading.ensures ∙ c.if-is_heading.false) (sym c.is_ignorable.ensures ∙ c.if-not-is_ignorable.true))
 
 pub loop-i-preserved : goal.loop-i-preserved
 loop-i-preserved c =
@@ -36,7 +36,7 @@ loop-i-preserved c =
     let l = of_bytes c.in-Some.line in
     let at = numbered_turn (lines_of bytes) k c.in-Some.i l turn in
     rw (length_push c.loop-i.yielded (c.in-Some.i, c.in-Some.line))
-    (c.loop-i.invariant ∙ blank_more (lines_of bytes) k l at.1 at.2 (sym c.is_heading.ensures ∙ c.if-is_heading.false) (sym c.is_blank.ensures ∙ c.if-not-is_blank.false))
+    (c.loop-i.invariant ∙ blank_more (lines_of bytes) k l at.1 at.2 (sym c.is_heading.ensures ∙ c.if-is_heading.false) (sym c.is_ignorable.ensures ∙ c.if-not-is_ignorable.false))
 
 pub returns : goal.returns
 returns c =

@@ -1,8 +1,9 @@
-use Rattle.std.proofs.Common.{◌≡◌, ◌<◌, false, List, sym, ◌∙◌, subst}
+use Rattle.std.proofs.Common.{◌≡◌, ◌<◌, false, List, ap, sym, ◌∙◌, subst}
 use Rattle.std.proofs.lemmas.Bool.{false≢true}
 use Rattle.hub_job.specs.Job.{is_ask, next, steps_made}
 use Rattle.hub_job.specs.Phase.{IsNext}
 use Rattle.hub_job.specs.declared.log.Logged.{Logged}
+use Rattle.hub_job.specs.declared.op.Next.{Next}
 use Rattle.hub_job.proofs.Phases.{does_not_ask, none_asked}
 use Rattle.hub_job.proofs.job.ask.Goals as goal
 
@@ -14,8 +15,9 @@ next_of-requires-clause-run c = rw (c.as_slice.ensures.value) c.requires.run
 
 pub returns-clause-next : goal.returns-clause-next
 returns-clause-next c =
-    subst (λ (es : List Logged). IsNext c.args.profile.now c.args.archive.now es c.next_of.new.phase c.in_ok-next.next)
-    c.as_slice.ensures.value c.in_ok-next.ensures.next
+    subst (λ (n : Next). IsNext c.args.profile.now c.args.archive.now c.args.log.now.items c.next_of.new.phase n) (sym c.sharing-next.ensures)
+    (subst (λ (es : List Logged). IsNext c.args.profile.now c.args.archive.now es c.next_of.new.phase c.in_ok-next.next)
+    c.as_slice.ensures.value c.in_ok-next.ensures.next)
 
 pub returns-in_err-next-clause-memory : goal.returns-in_err-next-clause-memory
 returns-in_err-next-clause-memory c = λ made asks.
@@ -29,7 +31,8 @@ returns-in_err-asked-clause-memory c = λ made asks.
     absurd
     (false≢true
     (c.in_err-asked.ensures.memory
-    (does_not_ask _ _ _ _ _ c.in_ok-next.ensures.next (subst (λ (es : List Logged). is_ask (next c.args.profile.now c.args.archive.now es) ≡ false) (sym c.as_slice.ensures.value) asks))))
+    (ap is_ask c.sharing-next.ensures
+    ∙ does_not_ask _ _ _ _ _ c.in_ok-next.ensures.next (subst (λ (es : List Logged). is_ask (next c.args.profile.now c.args.archive.now es) ≡ false) (sym c.as_slice.ensures.value) asks))))
 
 pub returns-in_err-make_room-clause-memory : goal.returns-in_err-make_room-clause-memory
 returns-in_err-make_room-clause-memory c = λ made asks.
@@ -38,4 +41,5 @@ returns-in_err-make_room-clause-memory c = λ made asks.
     (c.in_err-make_room.ensures.memory
     (c.in_ok-asked.ensures.value
     ∙ none_asked _
-    (does_not_ask _ _ _ _ _ c.in_ok-next.ensures.next (subst (λ (es : List Logged). is_ask (next c.args.profile.now c.args.archive.now es) ≡ false) (sym c.as_slice.ensures.value) asks)))))
+    (ap is_ask c.sharing-next.ensures
+    ∙ does_not_ask _ _ _ _ _ c.in_ok-next.ensures.next (subst (λ (es : List Logged). is_ask (next c.args.profile.now c.args.archive.now es) ≡ false) (sym c.as_slice.ensures.value) asks)))))

@@ -22,7 +22,7 @@ at_last log i e h =
     ∙ fetched_last-push [] (take (length log - 1 - i) log) (get_or log (length log - 1 - i) e))
 
 no_bytes : (bytes : List ℕ) (a : Answer) → ((b : List ℕ) → a ≡ Bytes b → ⊥) → bytes_or bytes a ≡ bytes
-no_bytes bytes (Seen m ns o) h = refl
+no_bytes bytes (Seen s) h = refl
 no_bytes bytes (Bytes b) h = absurd (h b refl)
 no_bytes bytes Done h = refl
 no_bytes bytes (Refused f) h = refl

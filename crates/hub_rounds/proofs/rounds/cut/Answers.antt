@@ -36,7 +36,7 @@ loop-round-preserved c =
           (less-or-same k j l);
     }
 
--- After the last round. (The three goals are the clauses of what is returned.)
+-- After the last round. (The four goals are the clauses of what is returned.)
 pub returns-clause-rounds : goal.returns-clause-rounds
 returns-clause-rounds c =
     let all : c.loop-round.round ≡ c.args.count = omega (arith, c.loop-round-test.false, c.loop-round.auto.round-end) in
@@ -46,6 +46,9 @@ pub returns-clause-left : goal.returns-clause-left
 returns-clause-left c =
     let all : c.loop-round.round ≡ c.args.count = omega (arith, c.loop-round-test.false, c.loop-round.auto.round-end) in
     c.from_vec-2.ensures ∙ (c.loop-round.invariant.rest ∙ ap (λ n. filter (λ p. is_outside n p.placing) c.args.placed.items) all)
+
+pub returns-clause-rules : goal.returns-clause-rules
+returns-clause-rules c = c.loop-round.invariant.rules
 
 pub returns-clause-safe : goal.returns-clause-safe
 returns-clause-safe c =

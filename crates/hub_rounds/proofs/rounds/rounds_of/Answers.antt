@@ -22,3 +22,4 @@ returns c =
     e.left
     (λ k l. subst (λ (Rs : List Rule). IsSafeSet (record { profiles = members k ps; rules = Rs })) c.into_members-profiles.ensures.rules (e.safe k l))
     (subst (λ (es : List CheckFault). AreRivals es ps rivals) lines (subst (λ (qs : List Placed). AreRivals c.lines-lines.result.now qs rivals) c.as_slice-2.ensures.value c.in_ok-rivals.ensures.rivals))
+    (e.rules ∙ c.into_members-profiles.ensures.rules)

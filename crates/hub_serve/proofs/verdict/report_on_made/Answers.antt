@@ -15,6 +15,12 @@ returns-in-RunJobs-clause-told g c =
     done-told c.args.task to_do c.args.set own c.or_refusal-in-RunJobs.result c.in-RunJobs.is
     (c.or_refusal-in-RunJobs.ensures.told to_do own (c.report_on_jobs.ensures.told own) (c.report_on_jobs.ensures.refused own))
 
+pub returns-in-RunByRounds-clause-told : goal.returns-in-RunByRounds-clause-told
+returns-in-RunByRounds-clause-told g c =
+    let own = c.args.own.now in
+    let to_do = task.RunByRounds c.in-RunByRounds.workers c.in-RunByRounds.state in
+    done-told c.args.task to_do c.args.set own c.report_on_run_by_rounds.result c.in-RunByRounds.is (c.report_on_run_by_rounds.ensures.told own)
+
 pub returns-in-Certify-clause-told : goal.returns-in-Certify-clause-told
 returns-in-Certify-clause-told g c =
     let own = c.args.own.now in
@@ -31,6 +37,11 @@ pub returns-in-Clashes-clause-told : goal.returns-in-Clashes-clause-told
 returns-in-Clashes-clause-told g c =
     let own = c.args.own.now in
     done-told c.args.task task.Clashes c.args.set own c.report_on_clashes.result c.in-Clashes.is (c.report_on_clashes.ensures.told own)
+
+pub returns-in-Graph-clause-told : goal.returns-in-Graph-clause-told
+returns-in-Graph-clause-told g c =
+    let own = c.args.own.now in
+    done-told c.args.task task.Graph c.args.set own c.report_on_graph.result c.in-Graph.is (c.report_on_graph.ensures.told own)
 
 pub returns-clause-told : goal.returns-clause-told
 returns-clause-told g c =

@@ -10,5 +10,5 @@ returns-clause-has c = λ k.
     let new = c.loop-i.self-inside.words.items in
     let long : length other ≡ length old = ap length c.other.view_is ∙ c.requires ∙ ap length (sym c.self.view_is) in
     let h = c.loop-i.invariant in
-    let all : Joined old other new (length old) = record { long = h.long; before = λ j l. h.before j (omega arith); behind = λ j l. h.behind j (omega arith) } in
+    let all : Joined old other new (length old) = record { long = h.long; before = λ j l. h.before j (omega arith); after = λ j l. h.after j (omega arith) } in
     joined_law old other new all long k ∙ (λ i. has (c.self.view_is i) k || has (c.other.view_is i) k)

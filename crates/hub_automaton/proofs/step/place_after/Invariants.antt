@@ -1,0 +1,6 @@
+use Rattle.std.proofs.Common.{◌≡◌, ◌+◌, drop}
+use Rattle.hub_automaton.specs.Spots.{spot_count}
+use Rattle.hub_automaton.proofs.step.place_after.Given as goal
+
+abbrev pub invariant-loop-choice : goal.invariant-loop-choice
+invariant-loop-choice l = l.after + spot_count (drop l.choice-index l.choices) ≡ l.place + spot_count l.choices

@@ -1,0 +1,168 @@
+//! The masks of takers of all classes, in one pass over the positions.
+ghost use Rattle.std.specs.Prelude.{◌≡◌, ◌<◌, ◌≤◌, ◌+◌, ℕ, Bool, ◌||◌, [], ◌∷◌, length, map, IfOk};
+ghost use Rattle.hub_glob.specs.declared.path_spec.Kind.{Kind};
+ghost use Rattle.hub_automaton.specs.Alphabet.{IsAlphabet, class_count, first_unmentioned};
+ghost use Rattle.hub_automaton.specs.Masks as masking;
+ghost use Rattle.hub_automaton.specs.Spots.{spot_count, spots_count};
+ghost use Rattle.hub_automaton.specs.Takers.{AreTaken, begun, is_among};
+ghost use Rattle.hub_automaton.specs.Words.{packed};
+ghost use Rattle.hub_automaton.specs.declared.masks.Mask.TheVariants.{Takers, Common};
+
+use crate::alphabet::Alphabet;
+use crate::alternatives::{Alternatives, SPOTS};
+use crate::masks::{Mask, masked};
+use crate::words::Words;
+use hub_glob::Piece;
+use hub_text::Items;
+use std::alloc::{AllocError, Global};
+
+/// The masks of takers of some specifications, one for each class of the alphabet, by its representatives.
+///
+/// Each mask begins with the positions that all classes share. Then each position is looked at once, and put into the masks
+/// of the characters that the piece before it names.
+pub(crate) fn build_takers(
+    alloc: Global,
+    alternatives: &[Alternatives],
+    alphabet: &Alphabet,
+    samples: &[char],
+) -> Result<Vec<Words>, AllocError>
+    requires few { spots_count alternatives.now ≤ SPOTS }
+    requires alphabet { IsAlphabet alphabet.now }
+    requires samples { samples.now ≡ first_unmentioned alphabet.now ∷ alphabet.now }
+    ensures { IfOk result (λ v. v.items
+        ≡ map (λ c. packed (masking.mask_all (Takers c) alternatives.now)) samples.now) }
+{
+    let mut takers = begin_takers(alloc, alternatives, samples)?;
+    take_all(alternatives, alphabet, takers.as_mut_slice());
+    Ok(takers)
+}
+
+/// What the masks of these characters begin with.
+fn begin_takers(
+    alloc: Global,
+    alternatives: &[Alternatives],
+    samples: &[char],
+) -> Result<Vec<Words>, AllocError>
+    ensures { IfOk result (λ v. v.items
+        ≡ map (λ c. packed (masking.mask_all (begun c) alternatives.now)) samples.now) }
+{
+    let common = masked(alloc, Mask::Common, alternatives)?;
+    let mut takers = Vec::with_capacity(alloc, samples.len())?;
+    for character in samples {
+        takers.push(begin_taker(alloc, alternatives, &common, *character)?)?;
+    }
+    Ok(takers)
+}
+
+/// What the mask of a character begins with: the positions that all characters except `/` share, or the whole mask of `/`.
+fn begin_taker(
+    alloc: Global,
+    alternatives: &[Alternatives],
+    common: &Words,
+    character: char,
+) -> Result<Words, AllocError>
+    requires { common.now ≡ packed (masking.mask_all Common alternatives.now) }
+    ensures { IfOk result (λ ws. ws ≡ packed (masking.mask_all (begun character) alternatives.now)) }
+{
+    if character == '/' {
+        masked(alloc, Mask::Takers(character), alternatives)
+    } else {
+        common.copy()
+    }
+}
+
+/// Puts the positions of some specifications into the masks.
+fn take_all(alternatives: &[Alternatives], alphabet: &Alphabet, takers: &mut [Words])
+    requires few { spots_count alternatives.now ≤ SPOTS }
+    requires alphabet { IsAlphabet alphabet.now }
+    requires many { length takers.old ≡ class_count alphabet.now }
+    ensures { AreTaken alphabet.now takers.old takers.new 0
+        (λ c. masking.mask_all (begun c) alternatives.now)
+        (λ c. masking.mask_all (Takers c) alternatives.now) }
+{
+    let mut place = 0;
+    for one in alternatives {
+        place = take_choices(one.choices.as_slice(), place, alphabet, takers);
+    }
+}
+
+/// Puts the positions of some choices, which begin at that place, into the masks. Returns the place after them.
+fn take_choices(
+    choices: &[Items<Piece>],
+    place: usize,
+    alphabet: &Alphabet,
+    takers: &mut [Words],
+) -> usize
+    requires few { place + spot_count choices.now ≤ SPOTS }
+    requires alphabet { IsAlphabet alphabet.now }
+    requires many { length takers.old ≡ class_count alphabet.now }
+    ensures after { result ≡ place + spot_count choices.now }
+    ensures taken { (kind : Kind) → AreTaken alphabet.now takers.old takers.new place
+        (λ c. masking.mask_choices (begun c) kind choices.now)
+        (λ c. masking.mask_choices (Takers c) kind choices.now) }
+{
+    let mut after = place;
+    for choice in choices {
+        take_choice(choice.as_slice(), after, alphabet, takers);
+        after += choice.len() + 1;
+    }
+    after
+}
+
+/// Puts the positions of a choice, which begin at that place, into the masks.
+fn take_choice(choice: &[Piece], place: usize, alphabet: &Alphabet, takers: &mut [Words])
+    requires few { place + length choice.now < SPOTS }
+    requires alphabet { IsAlphabet alphabet.now }
+    requires many { length takers.old ≡ class_count alphabet.now }
+    ensures { (kind : Kind) → AreTaken alphabet.now takers.old takers.new place
+        (λ c. masking.mask_choice (begun c) kind choice.now)
+        (λ c. masking.mask_choice (Takers c) kind choice.now) }
+{
+    for (i, piece) in choice.iter().enumerate() {
+        take_piece(piece, place + 1 + i, alphabet, takers);
+    }
+}
+
+/// Puts the position after a piece into the masks of the characters that the piece names.
+fn take_piece(piece: &Piece, place: usize, alphabet: &Alphabet, takers: &mut [Words])
+    requires alphabet { IsAlphabet alphabet.now }
+    requires many { length takers.old ≡ class_count alphabet.now }
+    ensures { (kind : Kind) → AreTaken alphabet.now takers.old takers.new place
+        (λ c. masking.masks_piece (begun c) kind piece.now ∷ [])
+        (λ c. masking.masks_piece (Takers c) kind piece.now ∷ []) }
+{
+    match piece {
+        Piece::Lit(character) => take_character(*character, place, alphabet, takers),
+        Piece::OneOf(set) => take_set(set.as_slice(), place, alphabet, takers),
+        Piece::Any | Piece::Run => {}
+    }
+}
+
+/// Puts a position into the masks of some characters.
+fn take_set(set: &[char], place: usize, alphabet: &Alphabet, takers: &mut [Words])
+    requires alphabet { IsAlphabet alphabet.now }
+    requires many { length takers.old ≡ class_count alphabet.now }
+    ensures { (flag : ℕ → Bool) → AreTaken alphabet.now takers.old takers.new place
+        (λ c. flag c ∷ []) (λ c. (flag c || is_among set.now c) ∷ []) }
+{
+    for character in set {
+        take_character(*character, place, alphabet, takers);
+    }
+}
+
+/// Puts a position into the mask of a character, unless that is `/` or has no class of its own.
+fn take_character(character: char, place: usize, alphabet: &Alphabet, takers: &mut [Words])
+    requires alphabet { IsAlphabet alphabet.now }
+    requires many { length takers.old ≡ class_count alphabet.now }
+    ensures { (flag : ℕ → Bool) → AreTaken alphabet.now takers.old takers.new place
+        (λ c. flag c ∷ []) (λ c. (flag c || is_among (character ∷ []) c) ∷ []) }
+{
+    if character == '/' {
+        return;
+    }
+    if let Some(class) = alphabet.class_of(character) {
+        if alphabet.sample(class) == character {
+            takers[class.number()].set_bit(0, place);
+        }
+    }
+}

@@ -1,0 +1,203 @@
+-- The graph of a set for Graphviz: its profiles, their roots, and what clashes.
+use Rattle.std.specs.Prelude.{ℕ, ◌+◌, ◌==◌, Bool, false, not, ◌&&◌, ◌||◌, if◌then◌else◌}
+use Rattle.std.specs.Prelude.{List, [], ◌∷◌, ◌++◌, Option, None, Some}
+use Rattle.std.specs.Prelude.{codes, chars, encode_utf8, encode_utf8_all}
+use Rattle.std.specs.BTreeSet.{insert_key}
+use Rattle.std.specs.Cmp.Lexicographic.{slice_cmp}
+use Rattle.std.specs.List.{flat_map, list_any}
+use Rattle.std.specs.Ordering.{nat_cmp}
+use Rattle.hub_path.specs.Path.{Path}
+use Rattle.hub_path.specs.declared.side.Side.{Side}
+use Rattle.hub_path.specs.declared.side.Side.TheVariants.{Left, Right}
+use Rattle.hub_profile.specs.Parts.{Parts, at_side}
+use Rattle.hub_cert.specs.Set.{Members}
+use Rattle.hub_cert.specs.declared.fault.CheckFault.{CheckFault}
+use Rattle.hub_cert.specs.declared.fault.CheckFault.TheVariants as fault
+use Rattle.hub_rounds.specs.Lines.{subject_of}
+use Rattle.hub_rounds.specs.declared.placing.Reason.TheVariants.{Breach, TooLarge}
+use Rattle.hub_rounds.specs.declared.subject.Subject.{Subject}
+use Rattle.hub_rounds.specs.declared.subject.Subject.TheVariants as subject
+use Rattle.hub_report.specs.Refusal.{joined, name_at, path_text, text_of_root}
+use Rattle.hub_report.specs.Undecided.{undecided_in}
+use Rattle.hub_report.specs.declared.undecided.Pair.{Pair}
+
+-- A backslash or a quote.
+abbrev pub is_special : ℕ → Bool
+is_special c = c == 92 || c == 34
+
+-- A character between quotes: a backslash comes before a backslash and before a quote.
+abbrev pub in_quotes : ℕ → List ℕ
+in_quotes c = if is_special c then codes "\\" ++ encode_utf8 c else encode_utf8 c
+
+-- A text between quotes.
+unfoldable pub escaped : List ℕ → List ℕ
+escaped t = flat_map in_quotes (chars t)
+
+-- The lines before those of profiles.
+abbrev pub head_text : List ℕ
+head_text =
+    joined (codes "graph clashes {\n" ∷ codes "    graph [rankdir = LR];\n"
+    ∷ codes "    node [fontname = \"sans-serif\"];\n"
+    ∷ codes "    edge [fontname = \"sans-serif\"];\n" ∷ [])
+
+-- The box of a profile of that name; and the line from it to a root.
+unfoldable pub box_line : List ℕ → List ℕ → List ℕ
+box_line style name =
+    joined (codes "    \"profile " ∷ name ∷ codes "\" [shape = box, label = \"" ∷ name ∷ codes "\""
+    ∷ style ∷ codes "];\n" ∷ [])
+
+unfoldable pub root_edge : List ℕ → List ℕ → List ℕ
+root_edge name root =
+    joined (codes "    \"profile " ∷ name ∷ codes "\" -- \"root " ∷ root
+    ∷ codes "\" [color = gray50];\n" ∷ [])
+
+-- The root of a profile on that side.
+abbrev pub root_at : Parts → Side → List ℕ
+root_at P side = text_of_root (at_side P.roots side)
+
+-- The box of a profile, and the lines to its two roots.
+abbrev pub lines_of_profile : List ℕ → Parts → List ℕ
+lines_of_profile style P =
+    let name = escaped (encode_utf8_all P.name) in
+    box_line style name
+    ++ (root_edge name (escaped (root_at P Left)) ++ root_edge name (escaped (root_at P Right)))
+
+-- The profile of that number may break a rule.
+abbrev pub is_breach : ℕ → Subject → Bool
+is_breach i (subject.Pair w o) = false
+is_breach i (subject.Alone p (Breach r)) = p == i
+is_breach i (subject.Alone p (TooLarge r)) = false
+is_breach i subject.Nothing = false
+
+abbrev pub has_breach : List CheckFault → ℕ → Bool
+has_breach es i = list_any (λ e. is_breach i (subject_of e)) es
+
+-- Whether it may is too large to decide.
+abbrev pub is_large_breach : ℕ → Subject → Bool
+is_large_breach i (subject.Pair w o) = false
+is_large_breach i (subject.Alone p (Breach r)) = false
+is_large_breach i (subject.Alone p (TooLarge r)) = p == i
+is_large_breach i subject.Nothing = false
+
+abbrev pub has_large_breach : List CheckFault → ℕ → Bool
+has_large_breach es i = list_any (λ e. is_large_breach i (subject_of e)) es
+
+-- The style of the box of the profile of that number.
+abbrev pub box_style : List CheckFault → ℕ → List ℕ
+box_style es i =
+    if has_breach es i then codes ", color = red"
+    else (if has_large_breach es i then codes ", color = red, style = dashed" else [])
+
+-- The lines of profiles, of which the first has this number.
+abbrev pub profile_lines : List CheckFault → ℕ → List Parts → List ℕ
+profile_lines es i [] = []
+profile_lines es i (P ∷ Ps) =
+    lines_of_profile (box_style es i) P ++ profile_lines es (i + 1) Ps
+
+-- These texts, which are in the order of their bytes, with one more if it isn't there.
+abbrev pub with_text : List (List ℕ) → List ℕ → List (List ℕ)
+with_text = insert_key (slice_cmp nat_cmp)
+
+-- These texts, with those of the roots of a profile.
+abbrev pub with_roots : List (List ℕ) → Parts → List (List ℕ)
+with_roots ts P = with_text (with_text ts (root_at P Left)) (root_at P Right)
+
+-- These texts, with those of the roots of these profiles.
+abbrev pub roots_of : List (List ℕ) → List Parts → List (List ℕ)
+roots_of ts [] = ts
+roots_of ts (P ∷ Ps) = roots_of (with_roots ts P) Ps
+
+-- The line of a root.
+unfoldable pub folder_line : List ℕ → List ℕ
+folder_line root =
+    joined (codes "    \"root " ∷ root ∷ codes "\" [shape = folder, label = \"" ∷ root
+    ∷ codes "\"];\n" ∷ [])
+
+abbrev pub folder : List ℕ → List ℕ
+folder root = folder_line (escaped root)
+
+-- The red line that joins two profiles of these names, with a path; and the dashed one.
+unfoldable pub red_edge : List ℕ → List ℕ → List ℕ → List ℕ
+red_edge writer other path =
+    joined (codes "    \"profile " ∷ writer ∷ codes "\" -- \"profile " ∷ other
+    ∷ codes "\" [color = red, fontcolor = red, label = \"" ∷ path ∷ codes "\"];\n" ∷ [])
+
+unfoldable pub dashed_edge : List ℕ → List ℕ → List ℕ
+dashed_edge writer other =
+    joined (codes "    \"profile " ∷ writer ∷ codes "\" -- \"profile " ∷ other
+    ∷ codes "\" [color = red, style = dashed];\n" ∷ [])
+
+-- The name of the profile of that number.
+abbrev pub name_shown : List Parts → ℕ → List ℕ
+name_shown Ps i = escaped (name_at Ps i)
+
+-- The red line of two profiles that clash, with a path that shows it.
+abbrev pub overlap_line : List Parts → Pair → Path → List ℕ
+overlap_line Ps p path =
+    red_edge (name_shown Ps p.writer) (name_shown Ps p.other) (escaped (path_text path))
+
+-- The dashed line of two profiles of which it is too large to decide whether they clash.
+abbrev pub undecided_line : List Parts → Pair → List ℕ
+undecided_line Ps p = dashed_edge (name_shown Ps p.writer) (name_shown Ps p.other)
+
+-- They are the same two profiles, in either order.
+abbrev pub is_same : Pair → Pair → Bool
+is_same q p =
+    (q.writer == p.writer && q.other == p.other) || (q.writer == p.other && q.other == p.writer)
+
+-- Two profiles are joined, if these are.
+abbrev pub are_joined : List Pair → Pair → Bool
+are_joined ps p = list_any (λ q. is_same q p) ps
+
+-- Which are joined after a line for two profiles: two that are joined get no second line.
+abbrev pub joined_after : List Pair → Option Pair → List Pair
+joined_after ps None = ps
+joined_after ps (Some p) = if are_joined ps p then ps else ps ++ p ∷ []
+
+abbrev pub unless_joined : List Pair → Pair → List ℕ → List ℕ
+unless_joined ps p line = if are_joined ps p then [] else line
+
+-- The two profiles of an overlap.
+abbrev pub overlap_in : CheckFault → Option Pair
+overlap_in (fault.Overlap w o place held path) = Some (record { writer = w; other = o })
+overlap_in _ = None
+
+-- The red line of a fault, if these are joined before.
+abbrev pub red_line : List Parts → List Pair → CheckFault → List ℕ
+red_line Ps ps (fault.Overlap w o place held path) =
+    let p : Pair = record { writer = w; other = o } in
+    unless_joined ps p (overlap_line Ps p path)
+red_line Ps ps _ = []
+
+-- The red lines of these faults in their order; and which profiles are joined after them.
+abbrev pub red_lines : List Parts → List Pair → List CheckFault → List ℕ
+red_lines Ps ps [] = []
+red_lines Ps ps (e ∷ es) = red_line Ps ps e ++ red_lines Ps (joined_after ps (overlap_in e)) es
+
+abbrev pub joined_by_red : List Pair → List CheckFault → List Pair
+joined_by_red ps [] = ps
+joined_by_red ps (e ∷ es) = joined_by_red (joined_after ps (overlap_in e)) es
+
+-- The dashed line of two profiles, if these are joined before.
+abbrev pub dashed_line : List Parts → List Pair → Option Pair → List ℕ
+dashed_line Ps ps None = []
+dashed_line Ps ps (Some p) = unless_joined ps p (undecided_line Ps p)
+
+-- The dashed lines of these faults in their order.
+abbrev pub dashed_lines : List Parts → List Pair → List CheckFault → List ℕ
+dashed_lines Ps ps [] = []
+dashed_lines Ps ps (e ∷ es) =
+    dashed_line Ps ps (undecided_in e) ++ dashed_lines Ps (joined_after ps (undecided_in e)) es
+
+-- A red line for each two profiles that clash, and then a dashed one for each other two of which
+-- it is too large to decide whether they do.
+abbrev pub joining_lines : List Parts → List CheckFault → List ℕ
+joining_lines Ps es = red_lines Ps [] es ++ dashed_lines Ps (joined_by_red [] es) es
+
+-- The graph of a set with these faults.
+abbrev pub graph_text : Members → List CheckFault → List ℕ
+graph_text S es =
+    head_text
+    ++ (profile_lines es 0 S.profiles
+    ++ (flat_map folder (roots_of [] S.profiles)
+    ++ (joining_lines S.profiles es ++ codes "}\n")))

@@ -1,0 +1,231 @@
+//! The lines of a graph that join profiles.
+ghost use Rattle.std.specs.Prelude.{◌≡◌, ◌++◌, not, string_bytes, IfOk, OnOk, Some};
+ghost use Rattle.hub_report.specs.Graph as graph;
+
+use crate::graph::escaped;
+use crate::parts::push_all;
+use crate::refusal::name_at;
+use crate::undecided::{Pair, undecided_in};
+use hub_cert::CheckFault;
+use hub_path::RelPath;
+use hub_profile::Profile;
+use std::alloc::{AllocError, Global};
+
+/// Adds a red line for each two profiles that clash, and then a dashed one for each other two of which it was too large to
+/// decide whether they do.
+pub(crate) fn push_clashes(
+    alloc: Global,
+    text: &mut String,
+    faults: &[CheckFault],
+    profiles: &[Profile],
+) -> Result<(), AllocError>
+    ensures { OnOk result (string_bytes text.new
+        ≡ string_bytes text.old ++ graph.joining_lines profiles.now faults.now) }
+{
+    let mut joined = Vec::new(alloc);
+    push_red_lines(alloc, text, &mut joined, faults, profiles)?;
+    push_dashed_lines(alloc, text, &mut joined, faults, profiles)
+}
+
+/// Adds a red line for each two profiles that clash and aren't joined, and joins them.
+fn push_red_lines(
+    alloc: Global,
+    text: &mut String,
+    joined: &mut Vec<Pair>,
+    faults: &[CheckFault],
+    profiles: &[Profile],
+) -> Result<(), AllocError>
+    ensures text { OnOk result (string_bytes text.new
+        ≡ string_bytes text.old ++ graph.red_lines profiles.now joined.old.items faults.now) }
+    ensures joined { OnOk result (joined.new.items
+        ≡ graph.joined_by_red joined.old.items faults.now) }
+{
+    for fault in faults {
+        push_red_line(alloc, text, joined, profiles, fault)?;
+    }
+    Ok(())
+}
+
+/// Adds a red line if the fault is an overlap of two profiles that aren't joined, and joins them.
+fn push_red_line(
+    alloc: Global,
+    text: &mut String,
+    joined: &mut Vec<Pair>,
+    profiles: &[Profile],
+    fault: &CheckFault,
+) -> Result<(), AllocError>
+    ensures text { OnOk result (string_bytes text.new
+        ≡ string_bytes text.old ++ graph.red_line profiles.now joined.old.items fault.now) }
+    ensures joined { OnOk result (joined.new.items
+        ≡ graph.joined_after joined.old.items (graph.overlap_in fault.now)) }
+{
+    match fault {
+        CheckFault::Overlap {
+            writer,
+            other,
+            path,
+            ..
+        } => {
+            let pair = Pair {
+                writer: *writer,
+                other: *other,
+            };
+            if join(joined, pair)? {
+                push_overlap(alloc, text, profiles, pair, path)?;
+            }
+            Ok(())
+        }
+        _ => Ok(()),
+    }
+}
+
+/// Adds a dashed line for each two profiles of which it was too large to decide whether they clash, if they aren't joined.
+fn push_dashed_lines(
+    alloc: Global,
+    text: &mut String,
+    joined: &mut Vec<Pair>,
+    faults: &[CheckFault],
+    profiles: &[Profile],
+) -> Result<(), AllocError>
+    ensures { OnOk result (string_bytes text.new
+        ≡ string_bytes text.old ++ graph.dashed_lines profiles.now joined.old.items faults.now) }
+{
+    for fault in faults {
+        push_dashed_line(alloc, text, joined, profiles, undecided_in(fault))?;
+    }
+    Ok(())
+}
+
+/// Adds a dashed line if there are two profiles that aren't joined, and joins them.
+fn push_dashed_line(
+    alloc: Global,
+    text: &mut String,
+    joined: &mut Vec<Pair>,
+    profiles: &[Profile],
+    pair: Option<Pair>,
+) -> Result<(), AllocError>
+    ensures text { OnOk result (string_bytes text.new
+        ≡ string_bytes text.old ++ graph.dashed_line profiles.now joined.old.items pair) }
+    ensures joined { OnOk result (joined.new.items ≡ graph.joined_after joined.old.items pair) }
+{
+    match pair {
+        Some(pair) => {
+            if join(joined, pair)? {
+                push_undecided(alloc, text, profiles, pair)?;
+            }
+            Ok(())
+        }
+        None => Ok(()),
+    }
+}
+
+/// Joins two profiles. Returns whether they weren't joined before.
+fn join(joined: &mut Vec<Pair>, pair: Pair) -> Result<bool, AllocError>
+    ensures new { IfOk result (λ b. b ≡ not (graph.are_joined joined.old.items pair)) }
+    ensures joined { OnOk result (joined.new.items
+        ≡ graph.joined_after joined.old.items (Some pair)) }
+{
+    if are_joined(joined.as_slice(), pair) {
+        Ok(false)
+    } else {
+        joined.push(pair)?;
+        Ok(true)
+    }
+}
+
+/// Returns whether two profiles are joined.
+fn are_joined(joined: &[Pair], pair: Pair) -> bool
+    ensures { result ≡ graph.are_joined joined.now pair }
+{
+    for own in joined {
+        if is_same(*own, pair) {
+            return true;
+        }
+    }
+    false
+}
+
+/// Returns whether these are the same two profiles, in either order.
+fn is_same(own: Pair, pair: Pair) -> bool
+    ensures { result ≡ graph.is_same own pair }
+{
+    (own.writer == pair.writer && own.other == pair.other)
+        || (own.writer == pair.other && own.other == pair.writer)
+}
+
+/// Adds the red line of two profiles that clash, with a path that shows it.
+fn push_overlap(
+    alloc: Global,
+    text: &mut String,
+    profiles: &[Profile],
+    pair: Pair,
+    path: &RelPath,
+) -> Result<(), AllocError>
+    ensures { OnOk result (string_bytes text.new
+        ≡ string_bytes text.old ++ graph.overlap_line profiles.now pair path.now) }
+{
+    let writer = name_shown(alloc, profiles, pair.writer)?;
+    let other = name_shown(alloc, profiles, pair.other)?;
+    let path = escaped(alloc, path.as_str())?;
+    push_red_edge(text, writer.as_str(), other.as_str(), path.as_str())
+}
+
+/// Adds the dashed line of two profiles of which it was too large to decide whether they clash.
+fn push_undecided(
+    alloc: Global,
+    text: &mut String,
+    profiles: &[Profile],
+    pair: Pair,
+) -> Result<(), AllocError>
+    ensures { OnOk result (string_bytes text.new
+        ≡ string_bytes text.old ++ graph.undecided_line profiles.now pair) }
+{
+    let writer = name_shown(alloc, profiles, pair.writer)?;
+    let other = name_shown(alloc, profiles, pair.other)?;
+    push_dashed_edge(text, writer.as_str(), other.as_str())
+}
+
+/// The name of the profile of that number, as it stands between quotes.
+fn name_shown(alloc: Global, profiles: &[Profile], number: usize) -> Result<String, AllocError>
+    ensures { IfOk result (λ t. string_bytes t ≡ graph.name_shown profiles.now number) }
+{
+    escaped(alloc, name_at(profiles, number))
+}
+
+/// Adds the red line that joins two profiles of these names, with a path.
+#[tactic(auto, unfolding(crate::specs::Graph::red_edge))]
+fn push_red_edge(text: &mut String, writer: &str, other: &str, path: &str) -> Result<(), AllocError>
+    ensures { OnOk result (string_bytes text.new
+        ≡ string_bytes text.old ++ graph.red_edge writer.now other.now path.now) }
+{
+    push_all(
+        text,
+        &[
+            "    \"profile ",
+            writer,
+            "\" -- \"profile ",
+            other,
+            "\" [color = red, fontcolor = red, label = \"",
+            path,
+            "\"];\n",
+        ],
+    )
+}
+
+/// Adds the dashed line that joins two profiles of these names.
+#[tactic(auto, unfolding(crate::specs::Graph::dashed_edge))]
+fn push_dashed_edge(text: &mut String, writer: &str, other: &str) -> Result<(), AllocError>
+    ensures { OnOk result (string_bytes text.new
+        ≡ string_bytes text.old ++ graph.dashed_edge writer.now other.now) }
+{
+    push_all(
+        text,
+        &[
+            "    \"profile ",
+            writer,
+            "\" -- \"profile ",
+            other,
+            "\" [color = red, style = dashed];\n",
+        ],
+    )
+}

@@ -1,0 +1,205 @@
+//! Runs of the rounds of a set, one after another and in one state.
+ghost use Rattle.std.specs.Prelude.{◌≡◌, ℕ, List, length, option_map, None, IfOk, OnOk};
+ghost use Rattle.std.specs.List.{find};
+ghost use Rattle.hub_cert.specs.Set.{Members};
+ghost use Rattle.hub_cert.specs.declared.certificate.Certificate.{Certificate};
+ghost use Rattle.hub_search.specs.Faults.{AreFaults};
+ghost use Rattle.hub_state.specs.State.{State as StateValue};
+ghost use Rattle.hub_report.specs.Report.{unread_by};
+ghost use Rattle.hub_serve.specs.ByRounds as spec;
+ghost use Rattle.hub_serve.specs.ByRounds.{HasRunByRounds, HaveRun, IsAdded, IsBegun, IsStep};
+ghost use Rattle.hub_serve.specs.Report.{IsToldOfSet};
+ghost use Rattle.hub_serve.specs.declared.task.Task.TheVariants as task;
+
+use crate::progress::{Goals, Progress};
+use crate::run::{Attempt, run_jobs};
+use hub_cert::{CheckFault, ProfileSet};
+use hub_profile::{Profile, Rules};
+use hub_report::{Report, RoundsRun};
+use hub_rounds::{Clashes, Rounds, RoundsFault, Subject, clashes_of, rounds_of, subject_of};
+use hub_search::check_with_progress;
+use hub_state::State;
+use hub_text::Items;
+use std::alloc::{AllocError, Global};
+use std::sync::Wait;
+use std::thread::Threads;
+
+/// The answer what the rounds of a set did and left on a state. If a profile breaks a rule by itself, or whether it does is too
+/// large to decide, nothing is run: the set is refused by the first line that says so, as `check` would refuse it if no two
+/// profiles clashed.
+pub fn report_on_run_by_rounds<'a, T: Threads + Wait + Sync, P: Progress + Sync>(
+    rt: &T,
+    alloc: Global,
+    set: ProfileSet,
+    state: State,
+    workers: u8,
+    progress: &P,
+) -> Report<'a>
+    ensures told { (cs : List Certificate) → IsToldOfSet (task.RunByRounds workers state) set cs
+        result }
+    ensures read { unread_by result ≡ None }
+{
+    let Ok(clashes) = clashes_of(alloc, &set) else {
+        return Report::OutOfMemory;
+    };
+    match first_alone(clashes.lines()) {
+        Some(line) => Report::refusal(alloc, &set, line),
+        None => report_on_all(rt, alloc, set, &clashes, state, workers, progress),
+    }
+}
+
+/// The first line that says why a profile is in no round.
+fn first_alone(lines: &[CheckFault]) -> Option<&CheckFault>
+    ensures { option_map (λ e. e.now) result ≡ find spec.leaves_out lines.now }
+{
+    lines.iter().find(|line| leaves_out(line))
+}
+
+/// Whether a line says why a profile is in no round.
+fn leaves_out(line: &CheckFault) -> bool
+    ensures { result ≡ spec.leaves_out line.now }
+{
+    matches!(subject_of(line), Subject::Alone { .. })
+}
+
+/// The answer what the rounds of a set did and left, of which no line says that a profile is in no round.
+fn report_on_all<'a, T: Threads + Wait + Sync, P: Progress + Sync>(
+    rt: &T,
+    alloc: Global,
+    set: ProfileSet,
+    clashes: &Clashes,
+    state: State,
+    workers: u8,
+    progress: &P,
+) -> Report<'a>
+    ensures told { AreFaults set clashes.now → find spec.leaves_out clashes.now ≡ None
+        → (cs : List Certificate) → IsToldOfSet (task.RunByRounds workers state) set cs result }
+    ensures read { unread_by result ≡ None }
+{
+    match rounds_of(alloc, set, clashes) {
+        Ok(rounds) => report_on_run(run_rounds(rt, alloc, rounds, state, workers, progress)),
+        Err(RoundsFault::NotVerified { .. }) => Report::NotVerified,
+        Err(RoundsFault::OutOfMemory) => Report::OutOfMemory,
+    }
+}
+
+/// The answer with a run by rounds, or that a round wasn't verified. Tests show none but for lack of memory.
+fn report_on_run<'a>(run: Result<RoundsRun, CheckFault>) -> Report<'a>
+    ensures told { (M : Members) (n : ℕ) (S : StateValue) → IfOk run (HasRunByRounds M n S)
+        → (cs : List Certificate) → IsToldOfSet (task.RunByRounds n S) M cs result }
+    ensures read { unread_by result ≡ None }
+{
+    match run {
+        Ok(run) => Report::RanByRounds(run),
+        Err(CheckFault::OutOfMemory) => Report::OutOfMemory,
+        Err(_) => Report::NotVerified,
+    }
+}
+
+/// Runs rounds one after another, until a job isn't finished or a round isn't run.
+fn run_rounds<T: Threads + Wait + Sync, P: Progress + Sync>(
+    rt: &T,
+    alloc: Global,
+    rounds: Rounds,
+    state: State,
+    workers: u8,
+    progress: &P,
+) -> Result<RoundsRun, CheckFault>
+    ensures { IfOk result (HaveRun rounds.rules workers state rounds.rounds) }
+{
+    let Rounds { rounds, rules, .. } = rounds;
+    let mut run = RoundsRun {
+        rounds: rounds.len(),
+        lines: String::new(alloc),
+        state,
+        finished: true,
+        error: None,
+    };
+    run_each(
+        rt,
+        alloc,
+        rounds.into_vec(),
+        rules,
+        workers,
+        progress,
+        &mut run,
+    )?;
+    Ok(run)
+}
+
+/// Runs these rounds one after another, and adds what they did. None was run yet.
+fn run_each<T: Threads + Wait + Sync, P: Progress + Sync>(
+    rt: &T,
+    alloc: Global,
+    rounds: Vec<Items<Profile>>,
+    rules: Rules,
+    workers: u8,
+    progress: &P,
+    run: &mut RoundsRun,
+) -> Result<(), CheckFault>
+    requires { IsBegun (length rounds.items) run.old }
+    ensures { OnOk result (HaveRun rules workers run.old.state rounds.items run.new) }
+{
+    let mut rules = rules;
+    for profiles in rounds {
+        rules = run_round(rt, alloc, profiles, rules, workers, progress, run)?;
+        if !run.finished {
+            return Ok(());
+        }
+    }
+    Ok(())
+}
+
+/// Runs a round on the state that those before it left, adds what it did, and returns the rules.
+fn run_round<T: Threads + Wait + Sync, P: Progress + Sync>(
+    rt: &T,
+    alloc: Global,
+    profiles: Items<Profile>,
+    rules: Rules,
+    workers: u8,
+    progress: &P,
+    run: &mut RoundsRun,
+) -> Result<Rules, CheckFault>
+    ensures rules { IfOk result (λ r. r ≡ rules) }
+    ensures step { OnOk result (IsStep rules profiles workers run.old run.new) }
+{
+    let set = ProfileSet::new(alloc, profiles, rules)?;
+    run_made(rt, alloc, &set, workers, progress, run)?;
+    let (_, rules) = set.into_members();
+    Ok(rules)
+}
+
+/// Runs the jobs of the set of a round, and adds what they did. They are run only if the check has verified the set.
+fn run_made<T: Threads + Wait + Sync, P: Progress + Sync>(
+    rt: &T,
+    alloc: Global,
+    set: &ProfileSet,
+    workers: u8,
+    progress: &P,
+    run: &mut RoundsRun,
+) -> Result<(), CheckFault>
+    ensures { OnOk result (IsStep set.now.rules set.now.profiles workers run.old run.new) }
+{
+    let verified = check_with_progress(alloc, set, &Goals { progress })?;
+    let attempt = run_jobs(rt, alloc, &verified, &run.state, workers, progress)?;
+    add(run, attempt)?;
+    Ok(())
+}
+
+/// Adds what came of a round.
+fn add(run: &mut RoundsRun, attempt: Attempt) -> Result<(), AllocError>
+    ensures { OnOk result (IsAdded attempt run.old run.new) }
+{
+    match attempt {
+        Attempt::Ran(round) => {
+            run.lines.push_str(round.lines.as_str())?;
+            run.state = round.state;
+            run.finished = round.finished;
+        }
+        Attempt::NotRun(error) => {
+            run.finished = false;
+            run.error = Some(error);
+        }
+    }
+    Ok(())
+}

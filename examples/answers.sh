@@ -267,7 +267,7 @@ ask_files() {
 # and five bytes more.
 long_state() {
     local digest
-    seq 2000 | head -c 6056 >"$room/bytes"
+    head -c 6056 <(seq 2000) >"$room/bytes"
     digest=$(sha256sum <"$room/bytes" | cut -c 1-64)
     printf '%s\n' %state 'hubsync state 2' "blob $digest $(od -An -v -tx1 <"$room/bytes" | tr -d ' \n')"
     printf '%s\n' 'replica /' "file $digest ab" end

@@ -13,8 +13,8 @@ use Rattle.clap.specs.Words.{one_of, subcommand_of, with_rule, with_subcommand}
 use Rattle.clap.specs.declared.builder.action.ArgAction.TheVariants.{Append, SetTrue}
 use Rattle.clap.specs.declared.builder.value_parser.ValueParser.TheVariants.{Signed}
 use Rattle.hub_cli.specs.declared.files.Files.{Files}
-use Rattle.hub_cli.specs.declared.words.Asked.{Asked}
-use Rattle.hub_cli.specs.declared.words.Asked.TheVariants.{About, Reach}
+use Rattle.hub_cli.specs.declared.words.Query.{Query}
+use Rattle.hub_cli.specs.declared.words.Query.TheVariants.{About, Reach}
 use Rattle.hub_cli.specs.declared.words.Question.{Question}
 use Rattle.hub_cli.specs.declared.words.Question.TheVariants.{CheckWithState, Run, RunByRounds}
 use Rattle.hub_cli.specs.declared.words.Question.TheVariants.{Check, Certify, Verify}
@@ -96,7 +96,7 @@ pub data Request : Type 0 where
   about : Question → Request
   reach : Text → Text → Request
 
-abbrev pub request_of : Asked → Request
+abbrev pub request_of : Query → Request
 request_of (About question) = about question
 request_of (Reach profile path) = reach profile.now path.now
 

@@ -1,14 +1,14 @@
 //! The words on the command line, and what they ask for.
 //!
 //! - [`read_words`] reads the words with `clap`, and returns what they ask for or `clap`'s [`Error`].
-//! - [`Asked`]: what words ask for, a [`Question`] about the set of a bundle's profiles and rules, or whether a profile
+//! - [`Query`]: what words ask for, a [`Question`] about the set of a bundle's profiles and rules, or whether a profile
 //!   reaches a path.
 //! - [`read_files`] reads which [`Files`] the words name.
 //!
 //! ```text
 //! match read_words(alloc, words) {
-//!     Ok(Asked::About(question)) => ..,
-//!     Ok(Asked::Reach { profile, path }) => ..,
+//!     Ok(Query::About(question)) => ..,
+//!     Ok(Query::Reach { profile, path }) => ..,
 //!     Err(error) => rt.eprint(&error),
 //! }
 //! ```
@@ -27,4 +27,4 @@ mod words;
 pub use clap::Error;
 pub use clap::error::ErrorKind;
 pub use files::{Files, read_files};
-pub use words::{Asked, DEFAULT_WORKERS, Question, read_words};
+pub use words::{DEFAULT_WORKERS, Query, Question, read_words};

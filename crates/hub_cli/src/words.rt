@@ -46,7 +46,7 @@ pub enum Question {
 
 /// What the words on the command line ask for.
 #[derive(Clone, Copy, Debug, PartialEq, Eq)]
-pub enum Asked<'a> {
+pub enum Query<'a> {
     /// Something about the set of the profiles and rules.
     About(Question),
     /// Whether a profile reaches a path.
@@ -70,7 +70,7 @@ pub enum Asked<'a> {
 ///
 /// An `Err` is `clap`'s: a mistake in the words, a request for help or for the version, or out of memory. Its `Display` is
 /// the text for the user.
-pub fn read_words<'a, S: AsStr>(alloc: Global, words: &'a [S]) -> Result<Asked<'a>, Error>
+pub fn read_words<'a, S: AsStr>(alloc: Global, words: &'a [S]) -> Result<Query<'a>, Error>
     ensures ok { IfOk result (λ a. asked_of (map S.text words.entry.now) ≡ Some (request_of a)) }
     ensures err { IfErr result (λ e. (kind_of e ≡ OutOfMemory)
         ⊎ (asked_of (map S.text words.entry.now) ≡ None)) }
@@ -132,22 +132,22 @@ fn stray_operand<'a>(matches: &ArgMatches<'a>) -> Option<&'a str> {
 
 /// What was asked for, by the matches. A `None` is an unknown command, one without its operands, or one with an operand
 /// that isn't the file of a profile.
-pub(crate) fn asked_in<'a>(matches: &ArgMatches<'a>) -> Option<Asked<'a>>
+pub(crate) fn asked_in<'a>(matches: &ArgMatches<'a>) -> Option<Query<'a>>
     ensures { option_map request_of result ≡ request_in (subcommand_rows_of matches.now) }
 {
     let Some((name, operands)) = matches.subcommand() else {
-        return Some(Asked::About(Question::CheckWithState));
+        return Some(Query::About(Question::CheckWithState));
     };
     if name != "reach" {
         return about_files(name, operands);
     }
     let profile = operands.get_str("profile")?;
     let path = operands.get_str("path")?;
-    Some(Asked::Reach { profile, path })
+    Some(Query::Reach { profile, path })
 }
 
 /// What a command about the set asks for, if all of its operands are files of profiles.
-fn about_files<'a>(name: &str, found: &ArgMatches<'_>) -> Option<Asked<'a>>
+fn about_files<'a>(name: &str, found: &ArgMatches<'_>) -> Option<Query<'a>>
     ensures { option_map request_of result
         ≡ words.about_files name.now (rows_of (found_of found.now)) }
 {
@@ -184,24 +184,24 @@ fn is_profile_file(file: &str) -> bool
 }
 
 /// What a command about the set asks for, by its name and what was found of its options.
-fn about<'a>(name: &str, found: &ArgMatches<'_>) -> Option<Asked<'a>>
+fn about<'a>(name: &str, found: &ArgMatches<'_>) -> Option<Query<'a>>
     ensures { option_map request_of result
         ≡ words.about_named name.now (rows_of (found_of found.now)) }
 {
     if name == "check" {
-        return Some(Asked::About(Question::Check));
+        return Some(Query::About(Question::Check));
     }
     if name == "certify" {
-        return Some(Asked::About(Question::Certify));
+        return Some(Query::About(Question::Certify));
     }
     if name == "verify" {
-        return Some(Asked::About(Question::Verify));
+        return Some(Query::About(Question::Verify));
     }
     if name == "clashes" {
         return Some(clashes(is_set(found, "dot")));
     }
     if name == "rounds" {
-        return Some(Asked::About(Question::Rounds));
+        return Some(Query::About(Question::Rounds));
     }
     if name == "run" {
         return run_by(found);
@@ -210,18 +210,18 @@ fn about<'a>(name: &str, found: &ArgMatches<'_>) -> Option<Asked<'a>>
 }
 
 /// All that clashes, drawn as a graph or not.
-fn clashes<'a>(as_graph: bool) -> Asked<'a>
+fn clashes<'a>(as_graph: bool) -> Query<'a>
     ensures { request_of result ≡ words.clashes as_graph }
 {
     if as_graph {
-        Asked::About(Question::Graph)
+        Query::About(Question::Graph)
     } else {
-        Asked::About(Question::Clashes)
+        Query::About(Question::Clashes)
     }
 }
 
 /// A run by as many workers as the option says.
-fn run_by<'a>(found: &ArgMatches<'_>) -> Option<Asked<'a>>
+fn run_by<'a>(found: &ArgMatches<'_>) -> Option<Query<'a>>
     ensures { option_map request_of result ≡ words.run_by (rows_of (found_of found.now)) }
 {
     let workers = workers_in(found)?;
@@ -229,13 +229,13 @@ fn run_by<'a>(found: &ArgMatches<'_>) -> Option<Asked<'a>>
 }
 
 /// A run by that many workers, by rounds or not.
-fn run_with<'a>(by_rounds: bool, workers: u8) -> Asked<'a>
+fn run_with<'a>(by_rounds: bool, workers: u8) -> Query<'a>
     ensures { request_of result ≡ words.run_with by_rounds workers }
 {
     if by_rounds {
-        Asked::About(Question::RunByRounds(workers))
+        Query::About(Question::RunByRounds(workers))
     } else {
-        Asked::About(Question::Run(workers))
+        Query::About(Question::Run(workers))
     }
 }
 

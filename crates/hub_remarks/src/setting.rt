@@ -2,7 +2,9 @@
 
 use crate::pattern::say_bad_pattern;
 use crate::value::{say_bad_path, say_too_many};
-use hub_source::{Place, Said, Source, SourceLine, nearest, odd_encoding, say, say_line, trimmed};
+use hub_source::{
+    FaultPlace, Said, Source, SourceLine, nearest, odd_encoding, say, say_line, trimmed,
+};
 use hub_text::first_word;
 use std::alloc::Global;
 
@@ -53,7 +55,7 @@ const WITHOUT_EFFECT: &str = "\
 pub(crate) fn say_setting_fault(
     out: &mut String,
     source: &Source<'_>,
-    place: Place<'_>,
+    place: FaultPlace<'_>,
     is_of_rules: bool,
 ) -> Said {
     if place.number == 0 {
@@ -70,7 +72,7 @@ pub(crate) fn say_setting_fault(
 }
 
 /// Says what to do about a fault that is of no line.
-fn say_whole_fault(out: &mut String, source: &Source<'_>, place: Place<'_>) -> Said {
+fn say_whole_fault(out: &mut String, source: &Source<'_>, place: FaultPlace<'_>) -> Said {
     if !source.is_whole() {
         return Ok(());
     }

@@ -1,6 +1,6 @@
 //! Remarks on faults of a state and of certificates.
 
-use hub_source::{Place, Said, Source, SourceLine, say, say_line};
+use hub_source::{FaultPlace, Said, Source, SourceLine, say, say_line};
 
 /// What `certify` writes of a set that isn't safe.
 const REFUSALS: [&str; 5] = [
@@ -12,7 +12,11 @@ const REFUSALS: [&str; 5] = [
 ];
 
 /// Says what to do about a fault of the state.
-pub(crate) fn say_state_fault(out: &mut String, source: &Source<'_>, place: Place<'_>) -> Said {
+pub(crate) fn say_state_fault(
+    out: &mut String,
+    source: &Source<'_>,
+    place: FaultPlace<'_>,
+) -> Said {
     let Some(line) = source.line(place.section, place.number) else {
         return say(out, state_remedy(place.fault));
     };
@@ -63,7 +67,7 @@ fn state_remedy(fault: &str) -> &'static str {
 pub(crate) fn say_certificates_fault(
     out: &mut String,
     source: &Source<'_>,
-    place: Place<'_>,
+    place: FaultPlace<'_>,
 ) -> Said {
     let Some(line) = source.line(place.section, place.number) else {
         return say(out, "certificates are as hubsync certify wrote them");

@@ -18,7 +18,7 @@ use Rattle.hub_job.specs.Outcome.{archive_of, jobs_of, replicas_of, IsOutcomeWit
 use Rattle.hub_job.specs.Run.{Runs, root_at}
 use Rattle.hub_job.specs.Laws.Untouched.{path_itself}
 use Rattle.hub_history.specs.Book.{BookValue, IsBook}
-use Rattle.hub_schedule.specs.declared.seat.WorkingTree.{WorkingTree}
+use Rattle.hub_schedule.specs.declared.slot.WorkingTree.{WorkingTree}
 use Rattle.hub_schedule.specs.Ended.{AreEnded, IsEnded, ended_value}
 use Rattle.hub_job.specs.History.{replay, entries_at, IsLegal, Agree}
 use Rattle.hub_schedule.specs.Promise.{HasReplicas, Settles, log_or_none, logs_in}

@@ -5,7 +5,7 @@ use Rattle.std.proofs.lemmas.List.{append-nil, map_push}
 use Rattle.std.proofs.lemmas.List.Elements.{All-nil, All-push, filter-append}
 use Rattle.hub_profile.specs.Parts.{Parts}
 use Rattle.hub_history.specs.Book.{BookValue, IsBook}
-use Rattle.hub_schedule.specs.declared.seat.WorkingTree.{WorkingTree}
+use Rattle.hub_schedule.specs.declared.slot.WorkingTree.{WorkingTree}
 use Rattle.hub_runner.specs.Ordered.{AreTreesOf, is_due, of_book, of_tree}
 
 pub no_trees : (Ps : List Parts) → AreTreesOf Ps [] []

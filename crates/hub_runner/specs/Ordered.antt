@@ -8,7 +8,7 @@ use Rattle.hub_tree.specs.Tree.{Replica}
 use Rattle.hub_job.specs.JobValue.{JobValue}
 use Rattle.hub_job.specs.Run.{Runs}
 use Rattle.hub_history.specs.Book.{BookValue, IsBook}
-use Rattle.hub_schedule.specs.declared.seat.WorkingTree.{WorkingTree}
+use Rattle.hub_schedule.specs.declared.slot.WorkingTree.{WorkingTree}
 
 -- A root and its replica.
 abbrev pub of_tree : WorkingTree → Path × Replica

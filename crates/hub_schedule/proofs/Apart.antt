@@ -11,7 +11,7 @@ use Rattle.hub_job.specs.declared.log.Entry.{Entry}
 use Rattle.hub_job.specs.declared.log.Logged.{Logged}
 use Rattle.hub_job.specs.Alike.{May}
 use Rattle.hub_job.specs.Machine.{after}
-use Rattle.hub_job.specs.Same.{AsksMay, AreApart}
+use Rattle.hub_job.specs.Same.{AsksMay, NoneClash}
 use Rattle.hub_job.specs.World.{Jobs}
 use Rattle.hub_job.specs.History.{replay, IsAnswerOf, IsLegal}
 use Rattle.hub_schedule.specs.Owned.{NobodyWrites}
@@ -23,7 +23,7 @@ use Rattle.hub_schedule.proofs.Threads.{OthersAlike, MayAll, its_profile, may_al
 -- What the laws of histories say, as lemmas take it.
 abbrev pub AreAlone : Type 0
 AreAlone = (J : Jobs) (replicas : Path → Replica) (histories : Path → List Entry) (logs : ℕ → List Logged) (j : ℕ) (P : Parts)
-    → AreApart J.profiles → AreProfiles J.profiles → slice_get J.profiles j ≡ Some P → IsSettled J replicas histories logs
+    → NoneClash J.profiles → AreProfiles J.profiles → slice_get J.profiles j ≡ Some P → IsSettled J replicas histories logs
     → IsAsAlone J replicas histories logs j P
 
 abbrev pub UnwrittenStays : Type 0
@@ -32,11 +32,11 @@ UnwrittenStays = (J : Jobs) (replicas : Path → Replica) (histories : Path → 
     → contents_at (replay (replicas r) (histories r)) p ≡ contents_at (replicas r) p
 
 pub logs_alone : AreAlone → (J : Jobs) (replicas : Path → Replica) (histories : Path → List Entry) (logs : ℕ → List Logged)
-    → AreApart J.profiles → AreProfiles J.profiles → IsSettled J replicas histories logs → LogsAreAlone J replicas logs
+    → NoneClash J.profiles → AreProfiles J.profiles → IsSettled J replicas histories logs → LogsAreAlone J replicas logs
 logs_alone alone J replicas histories logs apart valid settled = λ j P is. (alone J replicas histories logs j P apart valid is settled).log
 
 pub own_alone : AreAlone → (J : Jobs) (replicas : Path → Replica) (histories : Path → List Entry) (logs : ℕ → List Logged)
-    → AreApart J.profiles → AreProfiles J.profiles → IsSettled J replicas histories logs → OwnPathsAreAlone J replicas (left_at replicas histories) logs
+    → NoneClash J.profiles → AreProfiles J.profiles → IsSettled J replicas histories logs → OwnPathsAreAlone J replicas (left_at replicas histories) logs
 own_alone alone J replicas histories logs apart valid settled = λ j P r q is has h.
     (alone J replicas histories logs j P apart valid is settled).alike r has q (inl (passes-itself P q h))
 
@@ -50,7 +50,7 @@ may_at_entry Ps r [] rest e may = may.0
 may_at_entry Ps r (x ∷ front) rest e may = may_at_entry Ps r front rest e may.1
 
 pub others_alone : AsksMay → OthersAlike → (J : Jobs) (replicas : Path → Replica) (histories : Path → List Entry) (logs : ℕ → List Logged)
-    → AreApart J.profiles → IsSettled J replicas histories logs → OthersAreLeftAlone J replicas histories
+    → NoneClash J.profiles → IsSettled J replicas histories logs → OthersAreLeftAlone J replicas histories
 others_alone asks others J replicas histories logs apart settled = λ j P r q front rest e is has cut off passes.
     let Ps = J.profiles in
     let legal = legal_at Ps r (replicas r) front rest e (subst (IsLegal Ps r (replicas r)) cut (settled.legal j P r is has)) in

@@ -14,12 +14,12 @@ use Rattle.hub_job.specs.JobValue.{JobValue}
 use Rattle.hub_job.specs.Outcome.{archive_of, jobs_of, IsOutcomeWith}
 use Rattle.hub_job.specs.Run.{root_at}
 use Rattle.hub_job.specs.World.{World, log_of}
-use Rattle.hub_schedule.specs.declared.seat.Seat.{Seat}
-use Rattle.hub_schedule.specs.declared.seat.WorkingTree.{WorkingTree}
-use Rattle.hub_schedule.specs.Ended.{ended_value, IsEnded, HasPlaces, AreEnded, IsSeatOf, AreSeatsOf}
+use Rattle.hub_schedule.specs.declared.slot.Slot.{Slot}
+use Rattle.hub_schedule.specs.declared.slot.WorkingTree.{WorkingTree}
+use Rattle.hub_schedule.specs.Ended.{ended_value, IsEnded, HasPlaces, AreEnded, IsSlotOf, AreSlotsOf}
 use Rattle.hub_schedule.specs.Left.{end_value}
 use Rattle.hub_schedule.specs.Promise.{HasReplicas, log_or_none, logs_in}
-use Rattle.hub_schedule.specs.Table.{place_on, IsOutcomeAfter, IsPlaced, IsSeat, IsTable}
+use Rattle.hub_schedule.specs.Table.{place_on, IsOutcomeAfter, IsPlaced, IsSlot, IsTable}
 use Rattle.hub_schedule.specs.Laws.Lists.{get_front, get_last}
 use Rattle.hub_schedule.proofs.Opened.{get_push}
 use Rattle.hub_schedule.specs.Laws.Lists.{one_value}
@@ -49,9 +49,9 @@ pub have_places : (S : State) (Ps : List Parts) (replica : Path → Replica) (jo
     → (j : ℕ) (e : JobValue) → slice_get jobs j ≡ Some e → HasPlaces trees e.profile
 have_places S Ps replica jobs trees ended j e at = ended.places j e.profile (ended.each j e at).is
 
-seat_is : (S : State) (Ps : List Parts) (replica : Path → Replica) (jobs : List JobValue) (trees : List WorkingTree) (j : ℕ) (e : JobValue) (s : Seat)
-    → slice_get jobs j ≡ Some e → IsEnded S Ps j e → IsSeatOf trees e s → IsSeat (jobs_of S Ps) (world_of replica jobs) trees j s
-seat_is S Ps replica jobs trees j e s at ended is =
+slot_is : (S : State) (Ps : List Parts) (replica : Path → Replica) (jobs : List JobValue) (trees : List WorkingTree) (j : ℕ) (e : JobValue) (s : Slot)
+    → slice_get jobs j ≡ Some e → IsEnded S Ps j e → IsSlotOf trees e s → IsSlot (jobs_of S Ps) (world_of replica jobs) trees j s
+slot_is S Ps replica jobs trees j e s at ended is =
     let profile : s.job.profile ≡ e.profile = ap (λ (J : JobValue). J.profile) is.job in
     let there : slice_get Ps j ≡ Some s.job.profile = ended.is ∙ ap (λ (P : Parts). Some P) (sym profile) in
     record {
@@ -64,10 +64,10 @@ seat_is S Ps replica jobs trees j e s at ended is =
       places = is.places;
     }
 
-pub stands_for : (S : State) (Ps : List Parts) (replica : Path → Replica) (jobs : List JobValue) (trees : List WorkingTree) (seats : List Seat) → AreEnded S Ps replica jobs trees → AreSeatsOf trees jobs seats
-    → IsTable (jobs_of S Ps) (world_of replica jobs) seats trees
-stands_for S Ps replica jobs trees seats ended are = record {
-  each = λ j s at. let of = are.each j s at in seat_is S Ps replica jobs trees j of.0 s of.1 (ended.each j of.0 of.1) of.2;
+pub stands_for : (S : State) (Ps : List Parts) (replica : Path → Replica) (jobs : List JobValue) (trees : List WorkingTree) (slots : List Slot) → AreEnded S Ps replica jobs trees → AreSlotsOf trees jobs slots
+    → IsTable (jobs_of S Ps) (world_of replica jobs) slots trees
+stands_for S Ps replica jobs trees slots ended are = record {
+  each = λ j s at. let of = are.each j s at in slot_is S Ps replica jobs trees j of.0 s of.1 (ended.each j of.0 of.1) of.2;
   count = are.count ∙ ended.count;
   logs = length-map jobs job_log ∙ ended.count;
   replicas = ended.replicas;
@@ -75,48 +75,48 @@ stands_for S Ps replica jobs trees seats ended are = record {
 }
 
 -- The jobs end in the same way.
-pub same_ends : (jobs : List JobValue) (seats : List Seat) → length seats ≡ length jobs → ((j : ℕ) (s : Seat) → slice_get seats j ≡ Some s → (e : JobValue) × (slice_get jobs j ≡ Some e) × (s.job ≡ e))
-    → map end_value seats ≡ map ended_value jobs
+pub same_ends : (jobs : List JobValue) (slots : List Slot) → length slots ≡ length jobs → ((j : ℕ) (s : Slot) → slice_get slots j ≡ Some s → (e : JobValue) × (slice_get jobs j ≡ Some e) × (s.job ≡ e))
+    → map end_value slots ≡ map ended_value jobs
 same_ends [] [] e each = refl
-same_ends [] (s ∷ seats) e each = absurd (omega (arith, e))
+same_ends [] (s ∷ slots) e each = absurd (omega (arith, e))
 same_ends (d ∷ jobs) [] e each = absurd (omega (arith, e))
-same_ends (d ∷ jobs) (s ∷ seats) e each =
+same_ends (d ∷ jobs) (s ∷ slots) e each =
     let first = each 0 s refl in
     let same : s.job ≡ d = first.2 ∙ sym (one_value d first.0 first.1) in
-    ap (λ x. x ∷ map end_value seats) (ap ended_value same)
-    ∙ ap (λ xs. ended_value d ∷ xs) (same_ends jobs seats (omega (arith, e)) (λ j t at. each (suc j) t at))
+    ap (λ x. x ∷ map end_value slots) (ap ended_value same)
+    ∙ ap (λ xs. ended_value d ∷ xs) (same_ends jobs slots (omega (arith, e)) (λ j t at. each (suc j) t at))
 
--- What the seats leave is what the jobs leave.
-pub outcome_is : (S : State) (jobs : List JobValue) (trees : List WorkingTree) (seats : List Seat) (o : Outcome) → AreSeatsOf trees jobs seats → IsOutcomeAfter S seats trees o → o.jobs ≡ map ended_value jobs
+-- What the slots leave is what the jobs leave.
+pub outcome_is : (S : State) (jobs : List JobValue) (trees : List WorkingTree) (slots : List Slot) (o : Outcome) → AreSlotsOf trees jobs slots → IsOutcomeAfter S slots trees o → o.jobs ≡ map ended_value jobs
     → (Ps : List Parts) (replica : Path → Replica) → HasReplicas S Ps → AreEnded S Ps replica jobs trees → IsOutcomeWith S Ps (logs_in o) replica o
-outcome_is S jobs trees seats o are after ends Ps replica there ended =
+outcome_is S jobs trees slots o are after ends Ps replica there ended =
     subst (λ log. IsOutcomeWith S Ps log replica o) (logs_are replica jobs o ends)
-    (after.0 Ps (world_of replica jobs) there (stands_for S Ps replica jobs trees seats ended are))
+    (after.0 Ps (world_of replica jobs) there (stands_for S Ps replica jobs trees slots ended are))
 
 -- What is told of an outcome that there may be.
-module _ (E : Type 0) (S : State) (jobs : List JobValue) (trees : List WorkingTree) (seats : List Seat) (are : AreSeatsOf trees jobs seats) where
-  same_jobs : map end_value seats ≡ map ended_value jobs
-  same_jobs = same_ends jobs seats are.count (λ j s at. let w = are.each j s at in (w.0, w.1, w.2.job))
+module _ (E : Type 0) (S : State) (jobs : List JobValue) (trees : List WorkingTree) (slots : List Slot) (are : AreSlotsOf trees jobs slots) where
+  same_jobs : map end_value slots ≡ map ended_value jobs
+  same_jobs = same_ends jobs slots are.count (λ j s at. let w = are.each j s at in (w.0, w.1, w.2.job))
 
-  pub outcome_for : (r : Result Outcome E) → IfOk r (IsOutcomeAfter S seats trees) → IfOk r (λ o. o.jobs ≡ map end_value seats)
+  pub outcome_for : (r : Result Outcome E) → IfOk r (IsOutcomeAfter S slots trees) → IfOk r (λ o. o.jobs ≡ map end_value slots)
       → IfOk r (λ o. (Ps : List Parts) (replica : Path → Replica) → HasReplicas S Ps → AreEnded S Ps replica jobs trees → IsOutcomeWith S Ps (logs_in o) replica o)
-  outcome_for (Ok o) after ends = outcome_is S jobs trees seats o are after (ends ∙ same_jobs)
+  outcome_for (Ok o) after ends = outcome_is S jobs trees slots o are after (ends ∙ same_jobs)
   outcome_for (Err e) after ends = tt
 
-  pub ends_for : (r : Result Outcome E) → IfOk r (λ o. o.jobs ≡ map end_value seats) → IfOk r (λ o. o.jobs ≡ map ended_value jobs)
+  pub ends_for : (r : Result Outcome E) → IfOk r (λ o. o.jobs ≡ map end_value slots) → IfOk r (λ o. o.jobs ≡ map ended_value jobs)
   ends_for (Ok o) ends = ends ∙ same_jobs
   ends_for (Err e) ends = tt
 
--- One more job, and its seat.
-pub seats_more : (trees : List WorkingTree) (jobs : List JobValue) (seats : List Seat) (e : JobValue) (s : Seat) → AreSeatsOf trees jobs seats → IsSeatOf trees e s → AreSeatsOf trees (jobs ++ e ∷ []) (seats ++ s ∷ [])
-seats_more trees jobs seats e s are of = record {
-  each = get_push (λ j t. (d : JobValue) × (slice_get (jobs ++ e ∷ []) j ≡ Some d) × IsSeatOf trees d t) seats s
+-- One more job, and its slot.
+pub slots_more : (trees : List WorkingTree) (jobs : List JobValue) (slots : List Slot) (e : JobValue) (s : Slot) → AreSlotsOf trees jobs slots → IsSlotOf trees e s → AreSlotsOf trees (jobs ++ e ∷ []) (slots ++ s ∷ [])
+slots_more trees jobs slots e s are of = record {
+  each = get_push (λ j t. (d : JobValue) × (slice_get (jobs ++ e ∷ []) j ≡ Some d) × IsSlotOf trees d t) slots s
       (λ j t at. let w = are.each j t at in (w.0, get_front jobs (e ∷ []) j w.0 w.1, w.2))
       (e, ap (slice_get (jobs ++ e ∷ [])) are.count ∙ get_last jobs e, of);
-  count = length-append seats (s ∷ []) ∙ (ap (λ n. n + 1) are.count ∙ sym (length-append jobs (e ∷ [])));
+  count = length-append slots (s ∷ []) ∙ (ap (λ n. n + 1) are.count ∙ sym (length-append jobs (e ∷ [])));
 }
 
 -- Both replicas of a job.
-pub on_both_sides : (trees : List WorkingTree) (P : Parts) (s : Seat) → IsPlaced trees (root_at P Left) s.left → IsPlaced trees (root_at P Right) s.right → (k : Side) → IsPlaced trees (root_at P k) (place_on s k)
+pub on_both_sides : (trees : List WorkingTree) (P : Parts) (s : Slot) → IsPlaced trees (root_at P Left) s.left → IsPlaced trees (root_at P Right) s.right → (k : Side) → IsPlaced trees (root_at P k) (place_on s k)
 on_both_sides trees P s left right Left = left
 on_both_sides trees P s left right Right = right

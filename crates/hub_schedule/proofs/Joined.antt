@@ -25,8 +25,8 @@ use Rattle.hub_job.specs.declared.job_end.End.{End}
 use Rattle.hub_job.specs.declared.job_end.End.TheVariants as end
 use Rattle.hub_job.specs.declared.job_end.JobEnd.{JobEnd}
 use Rattle.hub_job.specs.declared.outcome.Outcome.{Outcome}
-use Rattle.hub_schedule.specs.declared.seat.Seat.{Seat}
-use Rattle.hub_schedule.specs.declared.seat.WorkingTree.{WorkingTree}
+use Rattle.hub_schedule.specs.declared.slot.Slot.{Slot}
+use Rattle.hub_schedule.specs.declared.slot.WorkingTree.{WorkingTree}
 use Rattle.hub_job.specs.Ends.{end_by, is_finished, end_of}
 use Rattle.hub_job.specs.Job.{is_ask, next, steps_made, view_in}
 use Rattle.hub_schedule.specs.Left.{end_value, next_value, put_tree, mark_in, mark_from, one_is_left, HasArchives, HasMarks}
@@ -104,14 +104,14 @@ how_ended : (b : Bool) (x y : End) → x ≡ (if b then end.Stopped else y) → 
 how_ended true x y e = inl e
 how_ended false x y e = inr e
 
-seat_of : (seats : List Seat) (o : Outcome) → o.jobs ≡ map end_value seats → (j : ℕ) (e : JobEnd) → slice_get o.jobs j ≡ Some e → (s : Seat) × (slice_get seats j ≡ Some s) × (e ≡ end_value s)
-seat_of seats o jobs j e at = map_get end_value seats j e (sym (ap (λ (es : List JobEnd). slice_get es j) jobs) ∙ at)
+slot_of : (slots : List Slot) (o : Outcome) → o.jobs ≡ map end_value slots → (j : ℕ) (e : JobEnd) → slice_get o.jobs j ≡ Some e → (s : Slot) × (slice_get slots j ≡ Some s) × (e ≡ end_value s)
+slot_of slots o jobs j e at = map_get end_value slots j e (sym (ap (λ (es : List JobEnd). slice_get es j) jobs) ∙ at)
 
 -- A stopped job ends as stopped.
-pub went_on : (seats : List Seat) (o : Outcome) → o.jobs ≡ map end_value seats → (j : ℕ) (e : JobEnd) → slice_get o.jobs j ≡ Some e → e.end ≢ end.Stopped → stopped_at seats j ≡ false
-went_on seats o jobs j e at going =
-    let s = seat_of seats o jobs j e at in
-    ap (some_passes (λ (s : Seat). s.job.stopped)) s.1
+pub went_on : (slots : List Slot) (o : Outcome) → o.jobs ≡ map end_value slots → (j : ℕ) (e : JobEnd) → slice_get o.jobs j ≡ Some e → e.end ≢ end.Stopped → stopped_at slots j ≡ false
+went_on slots o jobs j e at going =
+    let s = slot_of slots o jobs j e at in
+    ap (some_passes (λ (s : Slot). s.job.stopped)) s.1
     ∙ false_from_ne_true s.0.job.stopped (λ h. going (ap (λ (e : JobEnd). e.end) s.2 ∙ ap (λ b. if b then end.Stopped else end_by (next s.0.job.profile s.0.job.archive s.0.job.log)) h))
 
 stops_next : (n : Next) → end_by n ≡ end.Stopped → n ≡ Stopped
@@ -124,12 +124,12 @@ stopped_by true n e off = refl
 stopped_by false n e off = absurd (off (stops_next n e))
 
 -- A job that ends as stopped, though no answer in its log stops it, was stopped.
-pub was_stopped : (S : State) (seats : List Seat) (trees : List WorkingTree) (o : Outcome) → o.jobs ≡ map end_value seats
-    → (Ps : List Parts) (w : World) (j : ℕ) (P : Parts) (e : JobEnd) → IsTable (jobs_of S Ps) w seats trees → slice_get Ps j ≡ Some P → slice_get o.jobs j ≡ Some e → e.end ≡ end.Stopped
+pub was_stopped : (S : State) (slots : List Slot) (trees : List WorkingTree) (o : Outcome) → o.jobs ≡ map end_value slots
+    → (Ps : List Parts) (w : World) (j : ℕ) (P : Parts) (e : JobEnd) → IsTable (jobs_of S Ps) w slots trees → slice_get Ps j ≡ Some P → slice_get o.jobs j ≡ Some e → e.end ≡ end.Stopped
     → next P (outcome.archive_of S (Some P)) e.log ≢ Stopped
-    → (stopped_at seats j ≡ true) × (AllWouldAsk seats → 0 < steps_made e.log → next P (outcome.archive_of S (Some P)) e.log ≢ Finished)
-was_stopped S seats trees o jobs Ps w j P e table is at ended off =
-    let s = seat_of seats o jobs j e at in
+    → (stopped_at slots j ≡ true) × (AllWouldAsk slots → 0 < steps_made e.log → next P (outcome.archive_of S (Some P)) e.log ≢ Finished)
+was_stopped S slots trees o jobs Ps w j P e table is at ended off =
+    let s = slot_of slots o jobs j e at in
     let a = table.each j s.0 s.1 in
     let profile : s.0.job.profile ≡ P = one_value s.0.job.profile P (sym a.is ∙ is) in
     let archive : s.0.job.archive ≡ outcome.archive_of S (Some P) =
@@ -138,30 +138,30 @@ was_stopped S seats trees o jobs Ps w j P e table is at ended off =
     let own_next : next s.0.job.profile s.0.job.archive s.0.job.log ≡ next P (outcome.archive_of S (Some P)) e.log = λ i. next (profile i) (archive i) (log i) in
     let stopped : s.0.job.stopped ≡ true =
     stopped_by s.0.job.stopped (next s.0.job.profile s.0.job.archive s.0.job.log) (sym (ap (λ (e : JobEnd). e.end) s.2) ∙ ended) (λ h. off (sym own_next ∙ h)) in (
-      ap (some_passes (λ (s : Seat). s.job.stopped)) s.1 ∙ stopped,
+      ap (some_passes (λ (s : Slot). s.job.stopped)) s.1 ∙ stopped,
       λ all made done. false≢true (sym (ap is_ask (own_next ∙ done)) ∙ all j s.0 s.1 stopped (subst (λ l. 0 < steps_made l) (sym log) made)),
     )
 
-module _ (S : State) (Ps : List Parts) (has : HasReplicas S Ps) (w : World) (seats : List Seat) (trees : List WorkingTree) (table : IsTable (jobs_of S Ps) w seats trees) (o : Outcome)
-    (jobs : o.jobs ≡ map end_value seats) (same : o.state.replicas ≡ (fold put_tree S trees).replicas)
-    (there : HasArchives (one_is_left (map next_value seats)) (fold put_tree S trees) o.state) (marks : HasMarks (mark_from (map next_value seats)) (fold put_tree S trees) o.state) where
+module _ (S : State) (Ps : List Parts) (has : HasReplicas S Ps) (w : World) (slots : List Slot) (trees : List WorkingTree) (table : IsTable (jobs_of S Ps) w slots trees) (o : Outcome)
+    (jobs : o.jobs ≡ map end_value slots) (same : o.state.replicas ≡ (fold put_tree S trees).replicas)
+    (there : HasArchives (one_is_left (map next_value slots)) (fold put_tree S trees) o.state) (marks : HasMarks (mark_from (map next_value slots)) (fold put_tree S trees) o.state) where
   -- Jobs.
-  job_at : (j : ℕ) (e : JobEnd) → slice_get o.jobs j ≡ Some e → (s : Seat) × (slice_get seats j ≡ Some s) × (e ≡ end_value s)
-  job_at = seat_of seats o jobs
+  job_at : (j : ℕ) (e : JobEnd) → slice_get o.jobs j ≡ Some e → (s : Slot) × (slice_get slots j ≡ Some s) × (e ≡ end_value s)
+  job_at = slot_of slots o jobs
 
-  seat_profile : (j : ℕ) (s : Seat) (P : Parts) → slice_get seats j ≡ Some s → slice_get Ps j ≡ Some P → s.job.profile ≡ P
-  seat_profile j s P at is = one_value s.job.profile P (sym (table.each j s at).is ∙ is)
+  slot_profile : (j : ℕ) (s : Slot) (P : Parts) → slice_get slots j ≡ Some s → slice_get Ps j ≡ Some P → s.job.profile ≡ P
+  slot_profile j s P at is = one_value s.job.profile P (sym (table.each j s at).is ∙ is)
 
   facts : AreProfiles Ps
-  facts j P is = let s = as_long seats Ps j P table.count is in subst IsProfile (seat_profile j s.0 P s.1 is) (table.each j s.0 s.1).valid
+  facts j P is = let s = as_long slots Ps j P table.count is in subst IsProfile (slot_profile j s.0 P s.1 is) (table.each j s.0 s.1).valid
 
-  archive_is : (j : ℕ) (s : Seat) → slice_get seats j ≡ Some s → s.job.archive ≡ outcome.archive_of S (Some s.job.profile)
+  archive_is : (j : ℕ) (s : Slot) → slice_get slots j ≡ Some s → s.job.archive ≡ outcome.archive_of S (Some s.job.profile)
   archive_is j s at = let a = table.each j s at in a.archive ∙ ap (outcome.archive_of S) a.is
 
-  end_at : (j : ℕ) (s : Seat) (P : Parts) → slice_get seats j ≡ Some s → slice_get Ps j ≡ Some P → outcome.IsEndOf S P (end_value s)
+  end_at : (j : ℕ) (s : Slot) (P : Parts) → slice_get slots j ≡ Some s → slice_get Ps j ≡ Some P → outcome.IsEndOf S P (end_value s)
   end_at j s P at is =
-      let profile : s.job.profile ≡ P = seat_profile j s P at is in
-      let archive : s.job.archive ≡ outcome.archive_of S (Some P) = archive_is j s at ∙ ap (λ Q. outcome.archive_of S (Some Q)) (seat_profile j s P at is) in
+      let profile : s.job.profile ≡ P = slot_profile j s P at is in
+      let archive : s.job.archive ≡ outcome.archive_of S (Some P) = archive_is j s at ∙ ap (λ Q. outcome.archive_of S (Some Q)) (slot_profile j s P at is) in
       record {
         how = how_ended s.job.stopped (end_of s.job) (end_by (next P (outcome.archive_of S (Some P)) s.job.log)) (λ i. if s.job.stopped then end.Stopped else end_by (next (profile i) (archive i) s.job.log));
         items = λ i. if is_finished (end_of s.job) then items (view_in (profile i) (archive i) s.job.log) else [];
@@ -182,9 +182,9 @@ module _ (S : State) (Ps : List Parts) (has : HasReplicas S Ps) (w : World) (sea
 
   root_there : (r : Path) (P : (j : ℕ) × (P : Parts) × (slice_get Ps j ≡ Some P) × (has_root P r ≡ true)) → list_any (is_there r) trees ≡ true
   root_there r P =
-      let s = as_long seats Ps P.0 P.1 table.count P.2 in
+      let s = as_long slots Ps P.0 P.1 table.count P.2 in
       let a = table.each P.0 s.0 s.1 in
-      let is : s.0.job.profile ≡ P.1 = seat_profile P.0 s.0 P.1 s.1 P.2 in
+      let is : s.0.job.profile ≡ P.1 = slot_profile P.0 s.0 P.1 s.1 P.2 in
       let side = root_side s.0.job.profile r a.valid (ap (λ Q. has_root Q r) is ∙ P.3) in
       listed_tree r (place_on s.0 side.0) (subst (λ q. IsPlaced trees q (place_on s.0 side.0)) side.1 (a.places side.0))
 
@@ -209,24 +209,24 @@ module _ (S : State) (Ps : List Parts) (has : HasReplicas S Ps) (w : World) (sea
       (λ h. let P = one_with (λ P. has_root P r) Ps h in let m = has P.0 P.1 r P.2 P.3 in no_value m.0 (sym none ∙ m.1))
 
   -- Archives.
-  next_by : (k : ℕ) (s : Seat) → slice_get seats k ≡ Some s → IsNextOf S Ps (log_of w) o k (next_value s)
+  next_by : (k : ℕ) (s : Slot) → slice_get slots k ≡ Some s → IsNextOf S Ps (log_of w) o k (next_value s)
   next_by k s at =
       let a = table.each k s at in
       record {
         is = a.is;
-        done = ap (some_passes (λ (e : JobEnd). is_finished e.end)) (ap (λ (es : List JobEnd). slice_get es k) jobs ∙ map_at end_value seats k s at)
+        done = ap (some_passes (λ (e : JobEnd). is_finished e.end)) (ap (λ (es : List JobEnd). slice_get es k) jobs ∙ map_at end_value slots k s at)
             ∙ sym (finished_next (end_of s.job) (next_archive (view_in s.job.profile s.job.archive s.job.log) s.job.archive));
         next = λ b e. next_of (end_of s.job) (next_archive (view_in s.job.profile s.job.archive s.job.log) s.job.archive) b e
             ∙ (λ i. next_archive (view_in s.job.profile (archive_is k s at i) (a.log i)) (archive_is k s at i));
       }
 
-  next_at : (k : ℕ) (n : NextValue) → slice_get (map next_value seats) k ≡ Some n → IsNextOf S Ps (log_of w) o k n
-  next_at k n at = let s = map_get next_value seats k n at in subst (IsNextOf S Ps (log_of w) o k) (sym s.2) (next_by k s.0 s.1)
+  next_at : (k : ℕ) (n : NextValue) → slice_get (map next_value slots) k ≡ Some n → IsNextOf S Ps (log_of w) o k n
+  next_at k n at = let s = map_get next_value slots k n at in subst (IsNextOf S Ps (log_of w) o k) (sym s.2) (next_by k s.0 s.1)
 
-  many : length (map next_value seats) ≡ length Ps
-  many = length-map seats next_value ∙ table.count
+  many : length (map next_value slots) ≡ length Ps
+  many = length-map slots next_value ∙ table.count
 
-  all_next : (k : ℕ) (n : NextValue) → slice_get (map next_value seats) k ≡ Some n → IsNextOf S Ps (log_of w) o (0 + k) n
+  all_next : (k : ℕ) (n : NextValue) → slice_get (map next_value slots) k ≡ Some n → IsNextOf S Ps (log_of w) o (0 + k) n
   all_next k n e = subst (λ i. IsNextOf S Ps (log_of w) o i n) (sym (none_more k)) (next_at k n e)
 
   archives_there : outcome.ArchivesAreThere S Ps o
@@ -234,21 +234,21 @@ module _ (S : State) (Ps : List Parts) (has : HasReplicas S Ps) (w : World) (sea
       let leave : ℕ → Bool = outcome.leaves_archive o Ps r s in
       let before : Bool = is_some (fin.get S.archives (pair_of r s)) in
       there r s one other off
-      ∙ (ap (λ a. one_is_left (map next_value seats) r s || is_some (fin.get a (pair_of r s))) (put_archives trees S)
-      ∙ (ap (λ b. b || before) (some_leaves S Ps (log_of w) o r s (map next_value seats) 0 all_next ∙ ap (λ n. list_any leave (range_with_len 0 n)) many)
+      ∙ (ap (λ a. one_is_left (map next_value slots) r s || is_some (fin.get a (pair_of r s))) (put_archives trees S)
+      ∙ (ap (λ b. b || before) (some_leaves S Ps (log_of w) o r s (map next_value slots) 0 all_next ∙ ap (λ n. list_any leave (range_with_len 0 n)) many)
       ∙ either_way (list_any leave (range_with_len 0 (length Ps))) before))
 
   marks_are : (r s p : Path) → IsTrue (is_place r) → IsTrue (is_place s) → r ≢ s
       → mark_in o.state r s p ≡ outcome.mark_by S Ps (log_of w) p (mark_in S r s p) (find (outcome.takes o Ps r s p) (range_with_len 0 (length Ps)))
   marks_are r s p one other off =
       marks r s p one other off
-      ∙ (ap (mark_from (map next_value seats) r s p) (ap (λ a. old_mark_at (unwrap_or (fin.get a (pair_of r s)) fin.empty) p) (put_archives trees S))
-      ∙ (find_marks S Ps (log_of w) o r s p (mark_in S r s p) (map next_value seats) 0 all_next
+      ∙ (ap (mark_from (map next_value slots) r s p) (ap (λ a. old_mark_at (unwrap_or (fin.get a (pair_of r s)) fin.empty) p) (put_archives trees S))
+      ∙ (find_marks S Ps (log_of w) o r s p (mark_in S r s p) (map next_value slots) 0 all_next
       ∙ ap (λ n. outcome.mark_by S Ps (log_of w) p (mark_in S r s p) (find (outcome.takes o Ps r s p) (range_with_len 0 n))) many))
 
   pub joined : outcome.IsOutcomeWith S Ps (log_of w) w.replica o
   joined = record {
-    all = ap length jobs ∙ (length-map seats end_value ∙ table.count);
+    all = ap length jobs ∙ (length-map slots end_value ∙ table.count);
     logs = logs_are;
     ends = ends_are;
     replicas = λ r m place e. replica_is r place ∙ replica_by r m (list_any (λ P. has_root P r) Ps) e;
@@ -258,16 +258,16 @@ module _ (S : State) (Ps : List Parts) (has : HasReplicas S Ps) (w : World) (sea
   }
 
 -- Where no job is stopped.
-pub none_stopped : (seats : List Seat) → ((j : ℕ) → stopped_at seats j ≡ false) → AllWouldAsk seats
-none_stopped seats going = λ j s at stopped made. absurd (false≢true (sym (going j) ∙ (ap (some_passes (λ (s : Seat). s.job.stopped)) at ∙ stopped)))
+pub none_stopped : (slots : List Slot) → ((j : ℕ) → stopped_at slots j ≡ false) → AllWouldAsk slots
+none_stopped slots going = λ j s at stopped made. absurd (false≢true (sym (going j) ∙ (ap (some_passes (λ (s : Slot). s.job.stopped)) at ∙ stopped)))
 
 -- The outcome of the schedule that was run.
-pub after_turns : {E : Type 0} (S : State) (Ps : List Parts) (w : World) (schedule : List ℕ) (before : ℕ → Bool) (seats : List Seat) (trees : List WorkingTree) (r : Result Outcome E) → ((j : ℕ) → before j ≡ false) → AllWouldAsk seats → HasReplicas S Ps → IsTable (jobs_of S Ps) w seats trees
-    → IsThinned (jobs_of S Ps) (opening (jobs_of S Ps) (outcome.replicas_of S)) w schedule before (stopped_at seats) → IfOk r (IsOutcomeAfter S seats trees) → IfOk r (outcome.IsSimulated S Ps schedule)
-after_turns S Ps w schedule before seats trees (Ok o) going more there table thinned h = (
+pub after_turns : {E : Type 0} (S : State) (Ps : List Parts) (w : World) (schedule : List ℕ) (before : ℕ → Bool) (slots : List Slot) (trees : List WorkingTree) (r : Result Outcome E) → ((j : ℕ) → before j ≡ false) → AllWouldAsk slots → HasReplicas S Ps → IsTable (jobs_of S Ps) w slots trees
+    → IsThinned (jobs_of S Ps) (opening (jobs_of S Ps) (outcome.replicas_of S)) w schedule before (stopped_at slots) → IfOk r (IsOutcomeAfter S slots trees) → IfOk r (outcome.IsSimulated S Ps schedule)
+after_turns S Ps w schedule before slots trees (Ok o) going more there table thinned h = (
   thinned.limit,
   subst (λ (x : World). outcome.IsOutcomeWith S Ps (log_of x) x.replica o) thinned.world (h.0 Ps w there table),
   λ j e at on. thinned.all j (h.1 j e at on),
   λ j P e is at ended off. let x = h.2 Ps w j P e table is at ended off in (thinned.lost j (going j) x.0, x.1 more),
 )
-after_turns S Ps w schedule before seats trees (Err e) going more there table thinned h = h
+after_turns S Ps w schedule before slots trees (Err e) going more there table thinned h = h

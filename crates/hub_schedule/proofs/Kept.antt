@@ -10,7 +10,7 @@ use Rattle.hub_state.specs.State.{State, IsState}
 use Rattle.hub_job.specs.declared.outcome.Outcome.{Outcome}
 use Rattle.hub_job.specs.declared.log.Entry.{Entry}
 use Rattle.hub_job.specs.declared.log.Logged.{Logged}
-use Rattle.hub_job.specs.Same.{AreApart}
+use Rattle.hub_job.specs.Same.{NoneClash}
 use Rattle.hub_job.specs.World.{Jobs}
 use Rattle.hub_schedule.specs.Settled.{AreProfiles, IsSettled}
 use Rattle.hub_schedule.specs.Together.{left_at, LogsAreAlone, OthersAreLeftAlone, OwnPathsAreAlone, ElsewhereIsAsBefore, SetsAreAllowed}
@@ -23,15 +23,15 @@ use Rattle.hub_schedule.proofs.Promised.{state_trees, own, elsewhere, synchroniz
 -- What the laws on histories and logs say, as lemmas take it.
 abbrev pub LogsLaw : Type 0
 LogsLaw = (J : Jobs) (replicas : Path → Replica) (histories : Path → List Entry) (logs : ℕ → List Logged)
-    → AreApart J.profiles → AreProfiles J.profiles → IsSettled J replicas histories logs → LogsAreAlone J replicas logs
+    → NoneClash J.profiles → AreProfiles J.profiles → IsSettled J replicas histories logs → LogsAreAlone J replicas logs
 
 abbrev pub OthersLaw : Type 0
 OthersLaw = (J : Jobs) (replicas : Path → Replica) (histories : Path → List Entry) (logs : ℕ → List Logged)
-    → AreApart J.profiles → IsSettled J replicas histories logs → OthersAreLeftAlone J replicas histories
+    → NoneClash J.profiles → IsSettled J replicas histories logs → OthersAreLeftAlone J replicas histories
 
 abbrev pub OwnLaw : Type 0
 OwnLaw = (J : Jobs) (replicas : Path → Replica) (histories : Path → List Entry) (logs : ℕ → List Logged)
-    → AreApart J.profiles → AreProfiles J.profiles → IsSettled J replicas histories logs → OwnPathsAreAlone J replicas (left_at replicas histories) logs
+    → NoneClash J.profiles → AreProfiles J.profiles → IsSettled J replicas histories logs → OwnPathsAreAlone J replicas (left_at replicas histories) logs
 
 abbrev pub ElsewhereLaw : Type 0
 ElsewhereLaw = (J : Jobs) (replicas : Path → Replica) (histories : Path → List Entry) (logs : ℕ → List Logged) (j : ℕ) (P : Parts) (r : Path)

@@ -10,24 +10,24 @@ use Rattle.hub_profile.specs.Parts.{Parts, IsProfile, some_passes}
 use Rattle.hub_reach.specs.Reach.{has_root}
 use Rattle.hub_tree.specs.Tree.{Replica}
 use Rattle.hub_state.specs.State.{State}
-use Rattle.hub_schedule.specs.declared.seat.Seat.{Seat}
-use Rattle.hub_schedule.specs.declared.seat.WorkingTree.{WorkingTree}
+use Rattle.hub_schedule.specs.declared.slot.Slot.{Slot}
+use Rattle.hub_schedule.specs.declared.slot.WorkingTree.{WorkingTree}
 use Rattle.hub_job.specs.JobValue.{JobValue}
 use Rattle.hub_job.specs.Outcome.{archive_of, jobs_of, replicas_of}
 use Rattle.hub_job.specs.Run.{root_at}
-use Rattle.hub_schedule.specs.Table.{place_on, stopped_at, IsPlaced, AreTrees, IsNew, Extends, IsSeat, IsTable}
+use Rattle.hub_schedule.specs.Table.{place_on, stopped_at, IsPlaced, AreTrees, IsNew, Extends, IsSlot, IsTable}
 use Rattle.hub_job.specs.World.{opening}
 use Rattle.hub_job.specs.Laws.Logs.{no_log, open_log}
 use Rattle.hub_schedule.specs.Laws.Lists.{listed, one_value}
 
 -- A new job, with its replicas in place.
-pub record IsOpened (S : State) (trees : List WorkingTree) (j : ℕ) (P : Parts) (s : Seat) : Type 0 where
+pub record IsOpened (S : State) (trees : List WorkingTree) (j : ℕ) (P : Parts) (s : Slot) : Type 0 where
   pub new : IsNew j P (archive_of S (Some P)) s
   pub places : (k : Side) → IsPlaced trees (root_at P k) (place_on s k)
 
 -- The first jobs of profiles, and their replicas.
-pub record AreOpened (S : State) (Ps : List Parts) (seats : List Seat) (trees : List WorkingTree) : Type 0 where
-  pub each : (j : ℕ) (s : Seat) → slice_get seats j ≡ Some s → (P : Parts) × (slice_get Ps j ≡ Some P) × IsOpened S trees j P s
+pub record AreOpened (S : State) (Ps : List Parts) (slots : List Slot) (trees : List WorkingTree) : Type 0 where
+  pub each : (j : ℕ) (s : Slot) → slice_get slots j ≡ Some s → (P : Parts) × (slice_get Ps j ≡ Some P) × IsOpened S trees j P s
   pub replicas : AreTrees (replicas_of S) trees
   pub roots : (k : ℕ) (t : WorkingTree) → slice_get trees k ≡ Some t → list_any (λ P. has_root P t.root.now) Ps ≡ true
 
@@ -49,7 +49,7 @@ get_push Q (z ∷ xs) x each last zero y e = each 0 y e
 get_push Q (z ∷ xs) x each last (suc j) y e = get_push (λ i. Q (suc i)) xs x (λ i w h. each (suc i) w h) last j y e
 
 -- A new job and its two places.
-pub open_at : (S : State) (trees : List WorkingTree) (i j : ℕ) (P : Parts) (s : Seat) → i ≡ j → IsNew i P (archive_of S (Some P)) s → IsPlaced trees (root_at P Left) s.left → IsPlaced trees (root_at P Right) s.right
+pub open_at : (S : State) (trees : List WorkingTree) (i j : ℕ) (P : Parts) (s : Slot) → i ≡ j → IsNew i P (archive_of S (Some P)) s → IsPlaced trees (root_at P Left) s.left → IsPlaced trees (root_at P Right) s.right
     → IsOpened S trees j P s
 open_at S trees i j P s e new l r = record { new = subst (λ k. IsNew k P (archive_of S (Some P)) s) e new; places = go }
   where
@@ -57,7 +57,7 @@ open_at S trees i j P s e new l r = record { new = subst (λ k. IsNew k P (archi
     go Left = l
     go Right = r
 
-earlier : (S : State) (Ps : List Parts) (old new : List WorkingTree) (P : Parts) → Extends P old new → (j : ℕ) (t : Seat)
+earlier : (S : State) (Ps : List Parts) (old new : List WorkingTree) (P : Parts) → Extends P old new → (j : ℕ) (t : Slot)
     → (Q : Parts) × (slice_get Ps j ≡ Some Q) × IsOpened S old j Q t → (Q : Parts) × (slice_get Ps j ≡ Some Q) × IsOpened S new j Q t
 earlier S Ps old new P more j t w = (
   w.0,
@@ -65,21 +65,21 @@ earlier S Ps old new P more j t w = (
   record { new = w.2.new; places = λ k. let p = w.2.places k in (p.0, more.kept (place_on t k) p.0 p.1, p.2) },
 )
 
-pub opened_more : (S : State) (Ps : List Parts) (seats : List Seat) (old new : List WorkingTree) (P : Parts) (s : Seat) → AreOpened S Ps seats old → slice_get Ps (length seats) ≡ Some P
-    → IsOpened S new (length seats) P s → AreTrees (replicas_of S) new → Extends P old new → AreOpened S Ps (seats ++ s ∷ []) new
-opened_more S Ps seats old new P s opened is one trees more = record {
-  each = get_push (λ j s. (P : Parts) × (slice_get Ps j ≡ Some P) × IsOpened S new j P s) seats s (λ j t e. earlier S Ps old new P more j t (opened.each j t e)) (P, is, one);
+pub opened_more : (S : State) (Ps : List Parts) (slots : List Slot) (old new : List WorkingTree) (P : Parts) (s : Slot) → AreOpened S Ps slots old → slice_get Ps (length slots) ≡ Some P
+    → IsOpened S new (length slots) P s → AreTrees (replicas_of S) new → Extends P old new → AreOpened S Ps (slots ++ s ∷ []) new
+opened_more S Ps slots old new P s opened is one trees more = record {
+  each = get_push (λ j s. (P : Parts) × (slice_get Ps j ≡ Some P) × IsOpened S new j P s) slots s (λ j t e. earlier S Ps old new P more j t (opened.each j t e)) (P, is, one);
   replicas = trees;
   roots = λ k t e. elim (more.rest k t e) [
     | inl h ↦ opened.roots k t h
-    | inr h ↦ listed (λ P. has_root P t.root.now) Ps (length seats) P is h
+    | inr h ↦ listed (λ P. has_root P t.root.now) Ps (length slots) P is h
   ];
 }
 
 -- All of them are those of the opening.
-module _ (S : State) (Ps : List Parts) (seats : List Seat) (trees : List WorkingTree) (opened : AreOpened S Ps seats trees) (all : length seats ≡ length Ps) where
-  seat_is : (j : ℕ) (s : Seat) (P : Parts) → slice_get Ps j ≡ Some P → IsOpened S trees j P s → IsSeat (jobs_of S Ps) (opening (jobs_of S Ps) (replicas_of S)) trees j s
-  seat_is j s P at o =
+module _ (S : State) (Ps : List Parts) (slots : List Slot) (trees : List WorkingTree) (opened : AreOpened S Ps slots trees) (all : length slots ≡ length Ps) where
+  slot_is : (j : ℕ) (s : Slot) (P : Parts) → slice_get Ps j ≡ Some P → IsOpened S trees j P s → IsSlot (jobs_of S Ps) (opening (jobs_of S Ps) (replicas_of S)) trees j s
+  slot_is j s P at o =
       let new = o.new in
       let own : s.job.profile ≡ P = ap (λ (v : JobValue). v.profile) new.job in
       let archive : s.job.archive ≡ archive_of S (Some P) = ap (λ (v : JobValue). v.archive) new.job in
@@ -92,21 +92,21 @@ module _ (S : State) (Ps : List Parts) (seats : List Seat) (trees : List Working
         places = λ k. subst (λ Q. IsPlaced trees (root_at Q k) (place_on s k)) (sym own) (o.places k);
       }
 
-  pub opened_table : IsTable (jobs_of S Ps) (opening (jobs_of S Ps) (replicas_of S)) seats trees
+  pub opened_table : IsTable (jobs_of S Ps) (opening (jobs_of S Ps) (replicas_of S)) slots trees
   opened_table = record {
-    each = λ j s e. let P = opened.each j s e in seat_is j s P.0 P.1 P.2;
+    each = λ j s e. let P = opened.each j s e in slot_is j s P.0 P.1 P.2;
     count = all;
     logs = length-map Ps (λ (P : Parts). no_log);
     replicas = opened.replicas;
     roots = opened.roots;
   }
 
-  going_by : (j : ℕ) (x : Option Seat) → slice_get seats j ≡ x → some_passes (λ (s : Seat). s.job.stopped) x ≡ false
+  going_by : (j : ℕ) (x : Option Slot) → slice_get slots j ≡ x → some_passes (λ (s : Slot). s.job.stopped) x ≡ false
   going_by j None e = refl
   going_by j (Some s) e = ap (λ (v : JobValue). v.stopped) (opened.each j s e).2.new.job
 
-  pub none_stopped : (j : ℕ) → stopped_at seats j ≡ false
-  none_stopped j = going_by j (slice_get seats j) refl
+  pub none_stopped : (j : ℕ) → stopped_at slots j ≡ false
+  none_stopped j = going_by j (slice_get slots j) refl
 
 pub trees_push : (replica : Path → Replica) (trees : List WorkingTree) (t : WorkingTree) → AreTrees replica trees → t.tree ≡ replica t.root.now
     → ((k : ℕ) (u : WorkingTree) → slice_get trees k ≡ Some u → u.root.now ≢ t.root.now) → AreTrees replica (trees ++ t ∷ [])

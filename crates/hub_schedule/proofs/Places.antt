@@ -6,7 +6,7 @@ use Rattle.hub_profile.specs.Parts.{Parts, IsProfile, at_side}
 use Rattle.hub_reconcile.specs.Sync.{root_or_top}
 use Rattle.hub_job.specs.Run.{root_at}
 use Rattle.hub_job.specs.Laws.Roots.{two_roots, has_own}
-use Rattle.hub_schedule.specs.declared.seat.WorkingTree.{WorkingTree}
+use Rattle.hub_schedule.specs.declared.slot.WorkingTree.{WorkingTree}
 use Rattle.hub_schedule.specs.Table.{IsPlaced, Extends}
 use Rattle.hub_schedule.specs.Laws.Lists.{get_last}
 

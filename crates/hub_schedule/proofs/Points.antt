@@ -22,7 +22,7 @@ use Rattle.hub_job.specs.Alike.{May}
 use Rattle.hub_job.specs.Job.{next}
 use Rattle.hub_job.specs.Machine.{after}
 use Rattle.hub_job.specs.Run.{Runs, root_at, pair_of, pair_run}
-use Rattle.hub_job.specs.Same.{AsksMay, AreApart}
+use Rattle.hub_job.specs.Same.{AsksMay, NoneClash}
 use Rattle.hub_job.specs.World.{Jobs, log_of, run, opening}
 use Rattle.hub_job.specs.History.{replay, IsLegal, entries_of, entries_at}
 use Rattle.hub_schedule.specs.Settled.{AreProfiles, IsSettled}
@@ -133,7 +133,7 @@ own_entries : (j : ℕ) (xs : List Entry) (e : Entry) (ys : List Entry) → e.jo
 own_entries j xs e ys is =
     filter-append (λ (e : Entry). e.job == j) xs (e ∷ ys) ∙ ap (λ b. entries_of j xs ++ cond b (e ∷ entries_of j ys) (entries_of j ys)) (eq-eqb e.job j is)
 
-module _ (asks : AsksMay) (answers : AnswersAlike) (own : OwnAlike) (others : OthersAlike) (J : Jobs) (replicas : Path → Replica) (histories : Path → List Entry) (logs : ℕ → List Logged) (apart : AreApart J.profiles) (valid : AreProfiles J.profiles) (trees : (r : Path) → IsTree (replicas r)) (settled : IsSettled J replicas histories logs) where
+module _ (asks : AsksMay) (answers : AnswersAlike) (own : OwnAlike) (others : OthersAlike) (J : Jobs) (replicas : Path → Replica) (histories : Path → List Entry) (logs : ℕ → List Logged) (apart : NoneClash J.profiles) (valid : AreProfiles J.profiles) (trees : (r : Path) → IsTree (replicas r)) (settled : IsSettled J replicas histories logs) where
   may_every : (r : Path) → MayAll J.profiles r (histories r)
   may_every r = may_all asks J replicas histories logs settled r
 
@@ -198,7 +198,7 @@ module _ (asks : AsksMay) (answers : AnswersAlike) (own : OwnAlike) (others : Ot
             ∙ allowed_alone j Q r p c place.front place.here place.rest is place.whole (ap (λ x. x.op) place.is ∙ op) (item_by r (at_side Q.roots place.here.side) place.at) has,
       )
 
-pub safe_apart : (Ps : List Parts) (Rs : List Rule) → IsSafe Ps Rs → AreApart Ps
+pub safe_apart : (Ps : List Parts) (Rs : List Rule) → IsSafe Ps Rs → NoneClash Ps
 safe_apart Ps Rs safe i j P Q r off p q a b clash = safe.no_clash i j P Q p q off (inl (r, a, b, clash))
 
 -- No rule forbids what a profile of a safe set may do.

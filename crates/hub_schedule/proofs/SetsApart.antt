@@ -11,7 +11,7 @@ use Rattle.hub_job.specs.declared.log.Logged.{Logged}
 use Rattle.hub_job.specs.declared.op.Op.TheVariants.{Set}
 use Rattle.hub_job.specs.Machine.{after}
 use Rattle.hub_job.specs.Alike.{May}
-use Rattle.hub_job.specs.Same.{AsksMay, AreApart}
+use Rattle.hub_job.specs.Same.{AsksMay, NoneClash}
 use Rattle.hub_job.specs.World.{Jobs}
 use Rattle.hub_job.specs.Laws.Untouched.{untouched}
 use Rattle.hub_job.specs.History.{IsLegal}
@@ -27,7 +27,7 @@ some_entry : {x e : Entry} → Some x ≡ Some e → x ≡ e
 unfolding entry_or
 some_entry {x} h = ap (entry_or x) h
 
-its_own : (Ps : List Parts) (r : Path) (m : Replica) (h : List Entry) (k : ℕ) (e : Entry) (p : Path) (c : Contents) → AreApart Ps → IsLegal Ps r m h → MayAll Ps r h → slice_get h k ≡ Some e → e.op ≡ Set p c → IsItsOwn Ps r e p
+its_own : (Ps : List Parts) (r : Path) (m : Replica) (h : List Entry) (k : ℕ) (e : Entry) (p : Path) (c : Contents) → NoneClash Ps → IsLegal Ps r m h → MayAll Ps r h → slice_get h k ≡ Some e → e.op ≡ Set p c → IsItsOwn Ps r e p
 its_own Ps r m [] k e p c apart legal may at op = cc at
 its_own Ps r m (x ∷ h) zero e p c apart legal may at op =
     let same : x ≡ e = some_entry at in
@@ -39,6 +39,6 @@ its_own Ps r m (x ∷ h) zero e p c apart legal may at op =
 its_own Ps r m (x ∷ h) (suc k) e p c apart legal may at op = its_own Ps r (after m x.op) h k e p c apart legal.1 may.1 at op
 
 pub sets_apart : AsksMay → (J : Jobs) (replicas : Path → Replica) (histories : Path → List Entry) (logs : ℕ → List Logged) (i : ℕ) (P : Parts) (r : Path) (k : ℕ) (e : Entry) (p : Path) (c : Contents)
-    → AreApart J.profiles → IsSettled J replicas histories logs → slice_get J.profiles i ≡ Some P → IsTrue (has_root P r) → slice_get (histories r) k ≡ Some e → e.op ≡ Set p c → IsItsOwn J.profiles r e p
+    → NoneClash J.profiles → IsSettled J replicas histories logs → slice_get J.profiles i ≡ Some P → IsTrue (has_root P r) → slice_get (histories r) k ≡ Some e → e.op ≡ Set p c → IsItsOwn J.profiles r e p
 sets_apart asks J replicas histories logs i P r k e p c apart settled is has at op =
     its_own J.profiles r (replicas r) (histories r) k e p c apart (settled.legal i P r is has) (may_all asks J replicas histories logs settled r) at op

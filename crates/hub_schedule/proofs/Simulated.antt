@@ -19,7 +19,7 @@ use Rattle.hub_job.specs.declared.log.Logged.{Logged}
 use Rattle.hub_job.specs.declared.op.Next.TheVariants.{Finished}
 use Rattle.hub_job.specs.Job.{next}
 use Rattle.hub_job.specs.Run.{Pair, root_at, pair_of, on_side, IsSynced}
-use Rattle.hub_job.specs.Same.{AreApart, own_turns}
+use Rattle.hub_job.specs.Same.{NoneClash, own_turns}
 use Rattle.hub_job.specs.World.{World, Jobs, log_of, run, opening, alone, first_turns}
 use Rattle.hub_job.specs.History.{replay}
 use Rattle.hub_schedule.specs.Settled.{AreProfiles, IsSettled, IsSettledWorld}
@@ -68,10 +68,10 @@ module _ (S : State) (Ps : List Parts) (turns : List ℕ) (o : Outcome) (is : Is
 
 -- The turns that a job had.
 abbrev pub LogsAlone : Type 0
-LogsAlone = (J : Jobs) (P : Parts) (j : ℕ) (js : List ℕ) (replicas : Path → Replica) → AreApart J.profiles → slice_get J.profiles j ≡ Some P
+LogsAlone = (J : Jobs) (P : Parts) (j : ℕ) (js : List ℕ) (replicas : Path → Replica) → NoneClash J.profiles → slice_get J.profiles j ≡ Some P
     → log_of (run J js (opening J replicas)) j ≡ alone J replicas j (length (own_turns j js))
 
-pub logs_of_turns : LogsAlone → (S : State) (Ps : List Parts) (limit : ℕ → ℕ) (schedule : List ℕ) (o : Outcome) → AreApart Ps → IsOutcomeOf S Ps (first_turns limit schedule) o → KeepsTurns limit schedule o
+pub logs_of_turns : LogsAlone → (S : State) (Ps : List Parts) (limit : ℕ → ℕ) (schedule : List ℕ) (o : Outcome) → NoneClash Ps → IsOutcomeOf S Ps (first_turns limit schedule) o → KeepsTurns limit schedule o
     → LogsAreOfTurns S Ps schedule o
 logs_of_turns law S Ps limit schedule o apart is keep = λ j P e at ended.
     let turns = first_turns limit schedule in

@@ -14,7 +14,7 @@ use Rattle.hub_job.specs.declared.op.Op.{Op}
 use Rattle.hub_job.specs.declared.outcome.Outcome.{Outcome}
 use Rattle.hub_job.specs.Job.{next}
 use Rattle.hub_job.specs.Outcome.{archive_of, jobs_of, replicas_of, IsOutcomeOf, LosesTurns}
-use Rattle.hub_job.specs.Same.{AreApart, own_turns}
+use Rattle.hub_job.specs.Same.{NoneClash, own_turns}
 use Rattle.hub_job.specs.World.{World, Jobs, log_of, entry, event, act, turn_of, turn, run, opening, alone, first_turns}
 use Rattle.hub_schedule.specs.Simulated.{turns_of, turns_enough, StoppedLostTurns, TurnsSuffice}
 use Rattle.hub_schedule.proofs.Finished.{alone_stopped}
@@ -86,7 +86,7 @@ module _ (S : State) (Ps : List Parts) (suffice : TurnsSuffice S Ps) where
   less_by : (a n m l c : ℕ) → a ≤ n → n ≡ m → m ≤ l → l < c → a < c
   less_by a n m l c h e g k = omega (arith, h, e, g, k)
 
-  pub stopped_lost : LogsAlone → (limit : ℕ → ℕ) (schedule : List ℕ) (o : Outcome) → AreApart Ps → IsOutcomeOf S Ps (first_turns limit schedule) o → LosesTurns S Ps limit schedule o
+  pub stopped_lost : LogsAlone → (limit : ℕ → ℕ) (schedule : List ℕ) (o : Outcome) → NoneClash Ps → IsOutcomeOf S Ps (first_turns limit schedule) o → LosesTurns S Ps limit schedule o
       → StoppedLostTurns S Ps schedule o
   stopped_lost law limit schedule o apart is lose = λ j P e there at ended.
       let J : Jobs = jobs_of S Ps in

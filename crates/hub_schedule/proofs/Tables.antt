@@ -13,12 +13,12 @@ use Rattle.hub_reach.specs.Reach.{has_root}
 use Rattle.hub_tree.specs.Tree.{Replica}
 use Rattle.hub_job.specs.declared.op.Op.{Op}
 use Rattle.hub_job.specs.declared.op.Next.TheVariants.{Ask}
-use Rattle.hub_schedule.specs.declared.seat.Seat.{Seat}
-use Rattle.hub_schedule.specs.declared.seat.WorkingTree.{WorkingTree}
+use Rattle.hub_schedule.specs.declared.slot.Slot.{Slot}
+use Rattle.hub_schedule.specs.declared.slot.WorkingTree.{WorkingTree}
 use Rattle.hub_job.specs.Job.{next}
 use Rattle.hub_job.specs.Machine.{answer, after}
 use Rattle.hub_job.specs.Run.{root_at}
-use Rattle.hub_schedule.specs.Table.{place_on, with_tree, IsPlaced, AreTrees, IsSeat, IsTable}
+use Rattle.hub_schedule.specs.Table.{place_on, with_tree, IsPlaced, AreTrees, IsSlot, IsTable}
 use Rattle.hub_job.specs.World.{World, Jobs, log_of, entry, event, act, turn_of, turn}
 use Rattle.hub_job.specs.Laws.Untouched.{path_itself}
 use Rattle.hub_job.specs.Laws.Roots.{side_root}
@@ -57,15 +57,15 @@ once_again old new same once i k t u e f h =
     once i k a.0 b.0 a.1 b.1 (a.2 ∙ (h ∙ sym b.2))
 
 -- A job that has the same profile, archive, number and places.
-pub record SameSeat (s t : Seat) : Type 0 where
+pub record SameSlot (s t : Slot) : Type 0 where
   pub profile : t.job.profile ≡ s.job.profile
   pub archive : t.job.archive ≡ s.job.archive
   pub number : t.job.number ≡ s.job.number
   pub places : (k : Side) → place_on t k ≡ place_on s k
 
-module _ (J : Jobs) (w v : World) (seats : List Seat) (old new : List WorkingTree) (table : IsTable J w seats old) (same : SameRoots old new) (j : ℕ) (s t : Seat) (is : slice_get seats j ≡ Some s) (alike : SameSeat s t)
+module _ (J : Jobs) (w v : World) (slots : List Slot) (old new : List WorkingTree) (table : IsTable J w slots old) (same : SameRoots old new) (j : ℕ) (s t : Slot) (is : slice_get slots j ≡ Some s) (alike : SameSlot s t)
     (log : t.job.log ≡ log_of v j) (others : (i : ℕ) → i ≢ j → log_of w i ≡ log_of v i) (count : length v.logs ≡ length w.logs) (trees : AreTrees v.replica new) where
-  here : IsSeat J v new j t
+  here : IsSlot J v new j t
   here =
       let a = table.each j s is in
       record {
@@ -78,7 +78,7 @@ module _ (J : Jobs) (w v : World) (seats : List Seat) (old new : List WorkingTre
             (subst (IsPlaced new (root_at s.job.profile k)) (sym (alike.places k)) (placed old new same (root_at s.job.profile k) (place_on s k) (a.places k)));
       }
 
-  there : (i : ℕ) (u : Seat) → i ≢ j → slice_get seats i ≡ Some u → IsSeat J v new i u
+  there : (i : ℕ) (u : Slot) → i ≢ j → slice_get slots i ≡ Some u → IsSlot J v new i u
   there i u off e =
       let a = table.each i u e in
       record {
@@ -90,31 +90,31 @@ module _ (J : Jobs) (w v : World) (seats : List Seat) (old new : List WorkingTre
         places = λ k. placed old new same (root_at u.job.profile k) (place_on u k) (a.places k);
       }
 
-  pub table_set : IsTable J v (slice_set seats j t) new
+  pub table_set : IsTable J v (slice_set slots j t) new
   table_set = record {
-    each = each_set (IsSeat J v new) seats j s t is here there;
-    count = length-set seats j t ∙ table.count;
+    each = each_set (IsSlot J v new) slots j s t is here there;
+    count = length-set slots j t ∙ table.count;
     logs = count ∙ table.logs;
     replicas = trees;
     roots = λ k u e. let b = same.back k u e in ap (λ r. list_any (λ P. has_root P r) J.profiles) (sym b.2) ∙ table.roots k b.0 b.1;
   }
 
 -- A turn by what the job does next.
-pub turn_is : (J : Jobs) (w : World) (trees : List WorkingTree) (j : ℕ) (s : Seat) → IsSeat J w trees j s → turn J j w ≡ act s.job.profile j w (next s.job.profile s.job.archive s.job.log)
+pub turn_is : (J : Jobs) (w : World) (trees : List WorkingTree) (j : ℕ) (s : Slot) → IsSlot J w trees j s → turn J j w ≡ act s.job.profile j w (next s.job.profile s.job.archive s.job.log)
 unfolding turn
 turn_is J w trees j s a = ap (turn_of J j w) a.is ∙ (λ i. act s.job.profile j w (next s.job.profile (sym a.archive i) (sym a.log i)))
 
 -- The job and the replicas are the same as before.
-pub table_same : (J : Jobs) (w v : World) (seats : List Seat) (trees : List WorkingTree) (j : ℕ) (s t : Seat) → IsTable J w seats trees → slice_get seats j ≡ Some s → SameSeat s t → t.job.log ≡ s.job.log → w ≡ v
-    → IsTable J v (slice_set seats j t) trees
-table_same J w v seats trees j s t table is alike log e =
-    subst (λ (v : World). IsTable J v (slice_set seats j t) trees) e
-    (table_set J w w seats trees trees table (same_roots trees) j s t is alike (log ∙ (table.each j s is).log) (λ i off. refl) refl table.replicas)
+pub table_same : (J : Jobs) (w v : World) (slots : List Slot) (trees : List WorkingTree) (j : ℕ) (s t : Slot) → IsTable J w slots trees → slice_get slots j ≡ Some s → SameSlot s t → t.job.log ≡ s.job.log → w ≡ v
+    → IsTable J v (slice_set slots j t) trees
+table_same J w v slots trees j s t table is alike log e =
+    subst (λ (v : World). IsTable J v (slice_set slots j t) trees) e
+    (table_set J w w slots trees trees table (same_roots trees) j s t is alike (log ∙ (table.each j s is).log) (λ i off. refl) refl table.replicas)
 
-module _ (J : Jobs) (w : World) (seats : List Seat) (trees : List WorkingTree) (table : IsTable J w seats trees) (j : ℕ) (s t : Seat) (is : slice_get seats j ≡ Some s) (alike : SameSeat s t) (side : Side) (op : Op)
+module _ (J : Jobs) (w : World) (slots : List Slot) (trees : List WorkingTree) (table : IsTable J w slots trees) (j : ℕ) (s t : Slot) (is : slice_get slots j ≡ Some s) (alike : SameSlot s t) (side : Side) (op : Op)
     (asks : next s.job.profile s.job.archive s.job.log ≡ Ask side op) (u : WorkingTree) (at : slice_get trees (place_on s side) ≡ Some u)
     (log : t.job.log ≡ s.job.log ++ record { side = side; step = record { job = s.job.number; op = op; answer = answer u.tree s.job.profile u.root.now op } } ∷ []) where
-  a : IsSeat J w trees j s
+  a : IsSlot J w trees j s
   a = table.each j s is
 
   abbrev P : Parts
@@ -162,8 +162,8 @@ module _ (J : Jobs) (w : World) (seats : List Seat) (trees : List WorkingTree) (
       λ i. a.log i ++ record { side = side; step = record { job = a.number i; op = op; answer = answer (tree_is i) P (root_is i) op } } ∷ [] in
       log ∙ (one ∙ sym (get_or-set_same w.logs j (log_of w j ++ record { side = side; step = entry P j r (w.replica r) op } ∷ []) [] (subst (λ n. j < n) (sym table.logs) (slice_get_within J.profiles j P a.is))))
 
-  pub table_turn : IsTable J (turn J j w) (slice_set seats j t) new
+  pub table_turn : IsTable J (turn J j w) (slice_set slots j t) new
   table_turn =
-      subst (λ (x : World). IsTable J x (slice_set seats j t) new) (sym turned)
-      (table_set J w v seats trees new table (tree_set trees k u (after u.tree op) at) j s t is alike log_is
+      subst (λ (x : World). IsTable J x (slice_set slots j t) new) (sym turned)
+      (table_set J w v slots trees new table (tree_set trees k u (after u.tree op) at) j s t is alike log_is
       (λ i off. sym (get_or-set_other w.logs j i (log_of w j ++ record { side = side; step = entry P j r (w.replica r) op } ∷ []) [] off)) (length-set w.logs j _) new_trees)

@@ -5,8 +5,8 @@ use Rattle.std.specs.List.{range_with_len}
 use Rattle.std.proofs.lemmas.Bool.{cases_eq, false≢true, false_from_ne_true, eqb-true, ne_eqb}
 use Rattle.std.proofs.lemmas.Option.{slice_get_within}
 use Rattle.hub_profile.specs.Parts.{some_passes}
-use Rattle.hub_schedule.specs.declared.seat.Seat.{Seat}
-use Rattle.hub_schedule.specs.declared.seat.WorkingTree.{WorkingTree}
+use Rattle.hub_schedule.specs.declared.slot.Slot.{Slot}
+use Rattle.hub_schedule.specs.declared.slot.WorkingTree.{WorkingTree}
 use Rattle.hub_schedule.specs.Table.{IsIdle, IsTable, IsThinned, StayIdle, StayStopped, Taken, stopped_at, whole_rounds}
 use Rattle.hub_job.specs.World.{World, Jobs, turn, run, first_turns}
 use Rattle.hub_schedule.proofs.InRounds.{whole_counts}
@@ -125,48 +125,48 @@ thinned_made J w v i js before now after stays one going t = record {
   stays = λ j h. t.stays j (stays j h);
 }
 
-pub taken_none : (seats : List Seat) (trees : List WorkingTree) (js : List ℕ) → Taken seats trees js seats trees js
-taken_none seats trees js = λ J w table. (w, table, λ u after h. h)
+pub taken_none : (slots : List Slot) (trees : List WorkingTree) (js : List ℕ) → Taken slots trees js slots trees js
+taken_none slots trees js = λ J w table. (w, table, λ u after h. h)
 
-module _ (seats seats_now seats_next : List Seat) (trees trees_now trees_next : List WorkingTree) (schedule rest : List ℕ) (j : ℕ) (taken : Taken seats trees schedule seats_now trees_now (j ∷ rest))
-    (turns : (J : Jobs) (w : World) → IsTable J w seats_now trees_now → IsTable J (if stopped_at seats_next j then w else turn J j w) seats_next trees_next) (stays : StayStopped (stopped_at seats_now) (stopped_at seats_next)) (one : OneStops j (stopped_at seats_now) (stopped_at seats_next)) where
-  by : (J : Jobs) (w v : World) → (b : Bool) → stopped_at seats_next j ≡ b → IsTable J (if b then v else turn J j v) seats_next trees_next
-      → ((u : World) (after : ℕ → Bool) → IsThinned J v u (j ∷ rest) (stopped_at seats_now) after → IsThinned J w u schedule (stopped_at seats) after)
-      → (x : World) × IsTable J x seats_next trees_next × ((u : World) (after : ℕ → Bool) → IsThinned J x u rest (stopped_at seats_next) after → IsThinned J w u schedule (stopped_at seats) after)
-  by J w v true e table more = (v, table, λ u after h. more u after (thinned_lost J v u j rest (stopped_at seats_now) (stopped_at seats_next) after stays one e h))
-  by J w v false e table more = (turn J j v, table, λ u after h. more u after (thinned_made J v u j rest (stopped_at seats_now) (stopped_at seats_next) after stays one e h))
+module _ (slots slots_now slots_next : List Slot) (trees trees_now trees_next : List WorkingTree) (schedule rest : List ℕ) (j : ℕ) (taken : Taken slots trees schedule slots_now trees_now (j ∷ rest))
+    (turns : (J : Jobs) (w : World) → IsTable J w slots_now trees_now → IsTable J (if stopped_at slots_next j then w else turn J j w) slots_next trees_next) (stays : StayStopped (stopped_at slots_now) (stopped_at slots_next)) (one : OneStops j (stopped_at slots_now) (stopped_at slots_next)) where
+  by : (J : Jobs) (w v : World) → (b : Bool) → stopped_at slots_next j ≡ b → IsTable J (if b then v else turn J j v) slots_next trees_next
+      → ((u : World) (after : ℕ → Bool) → IsThinned J v u (j ∷ rest) (stopped_at slots_now) after → IsThinned J w u schedule (stopped_at slots) after)
+      → (x : World) × IsTable J x slots_next trees_next × ((u : World) (after : ℕ → Bool) → IsThinned J x u rest (stopped_at slots_next) after → IsThinned J w u schedule (stopped_at slots) after)
+  by J w v true e table more = (v, table, λ u after h. more u after (thinned_lost J v u j rest (stopped_at slots_now) (stopped_at slots_next) after stays one e h))
+  by J w v false e table more = (turn J j v, table, λ u after h. more u after (thinned_made J v u j rest (stopped_at slots_now) (stopped_at slots_next) after stays one e h))
 
-  pub taken_more : Taken seats trees schedule seats_next trees_next rest
-  taken_more = λ J w table. let x = taken J w table in by J w x.0 (stopped_at seats_next j) refl (turns J x.0 x.1) x.2
+  pub taken_more : Taken slots trees schedule slots_next trees_next rest
+  taken_more = λ J w table. let x = taken J w table in by J w x.0 (stopped_at slots_next j) refl (turns J x.0 x.1) x.2
 
-pub taken_all : (seats now : List Seat) (trees trees_now : List WorkingTree) (schedule : List ℕ) → Taken seats trees schedule now trees_now []
-    → (J : Jobs) (w : World) → IsTable J w seats trees → (v : World) × IsTable J v now trees_now × IsThinned J w v schedule (stopped_at seats) (stopped_at now)
-taken_all seats now trees trees_now schedule taken = λ J w table. let x = taken J w table in (x.0, x.1, x.2 x.0 (stopped_at now) (thinned_none J x.0 (stopped_at now)))
+pub taken_all : (slots now : List Slot) (trees trees_now : List WorkingTree) (schedule : List ℕ) → Taken slots trees schedule now trees_now []
+    → (J : Jobs) (w : World) → IsTable J w slots trees → (v : World) × IsTable J v now trees_now × IsThinned J w v schedule (stopped_at slots) (stopped_at now)
+taken_all slots now trees trees_now schedule taken = λ J w table. let x = taken J w table in (x.0, x.1, x.2 x.0 (stopped_at now) (thinned_none J x.0 (stopped_at now)))
 
-pub taken_through : (s0 s1 s2 : List Seat) (t0 t1 t2 : List WorkingTree) (js ks ls : List ℕ) → Taken s0 t0 js s1 t1 ks → Taken s1 t1 ks s2 t2 ls → Taken s0 t0 js s2 t2 ls
+pub taken_through : (s0 s1 s2 : List Slot) (t0 t1 t2 : List WorkingTree) (js ks ls : List ℕ) → Taken s0 t0 js s1 t1 ks → Taken s1 t1 ks s2 t2 ls → Taken s0 t0 js s2 t2 ls
 taken_through s0 s1 s2 t0 t1 t2 js ks ls first second = λ J w table. let x = first J w table in let y = second J x.0 x.1 in (y.0, y.1, λ u after h. x.2 u after (y.2 u after h))
 
 none_stops : (i : ℕ) (stopped : ℕ → Bool) → OneStops i stopped stopped
 none_stops i stopped = λ j a b. absurd (false≢true (sym b ∙ a))
 
 -- Turns that change nothing.
-idle_first : (J : Jobs) (w : World) (seats : List Seat) (j : ℕ) (js : List ℕ) (b : Bool) → stopped_at seats j ≡ b → IsIdle J w seats j → IsThinned J w w js (stopped_at seats) (stopped_at seats)
-    → IsThinned J w w (j ∷ js) (stopped_at seats) (stopped_at seats)
-idle_first J w seats j js true e idle t = thinned_lost J w w j js (stopped_at seats) (stopped_at seats) (stopped_at seats) (λ i h. h) (none_stops j (stopped_at seats)) e t
-idle_first J w seats j js false e (inl h) t = absurd (false≢true (sym e ∙ h))
-idle_first J w seats j js false e (inr still) t =
-    thinned_made J w w j js (stopped_at seats) (stopped_at seats) (stopped_at seats) (λ i h. h) (none_stops j (stopped_at seats)) e
-    (subst (λ v. IsThinned J v w js (stopped_at seats) (stopped_at seats)) (sym still) t)
+idle_first : (J : Jobs) (w : World) (slots : List Slot) (j : ℕ) (js : List ℕ) (b : Bool) → stopped_at slots j ≡ b → IsIdle J w slots j → IsThinned J w w js (stopped_at slots) (stopped_at slots)
+    → IsThinned J w w (j ∷ js) (stopped_at slots) (stopped_at slots)
+idle_first J w slots j js true e idle t = thinned_lost J w w j js (stopped_at slots) (stopped_at slots) (stopped_at slots) (λ i h. h) (none_stops j (stopped_at slots)) e t
+idle_first J w slots j js false e (inl h) t = absurd (false≢true (sym e ∙ h))
+idle_first J w slots j js false e (inr still) t =
+    thinned_made J w w j js (stopped_at slots) (stopped_at slots) (stopped_at slots) (λ i h. h) (none_stops j (stopped_at slots)) e
+    (subst (λ v. IsThinned J v w js (stopped_at slots) (stopped_at slots)) (sym still) t)
 
-idle_from : (J : Jobs) (w : World) (seats : List Seat) (n a k : ℕ) (js : List ℕ) → a + k ≤ n → ((j : ℕ) → j < n → IsIdle J w seats j) → IsThinned J w w js (stopped_at seats) (stopped_at seats)
-    → IsThinned J w w (range_with_len a k ++ js) (stopped_at seats) (stopped_at seats)
-idle_from J w seats n a zero js h idle t = t
-idle_from J w seats n a (suc k) js h idle t =
-    idle_first J w seats a (range_with_len (a + 1) k ++ js) (stopped_at seats a) refl (idle a (omega (arith, h))) (idle_from J w seats n (a + 1) k js (omega (arith, h)) idle t)
+idle_from : (J : Jobs) (w : World) (slots : List Slot) (n a k : ℕ) (js : List ℕ) → a + k ≤ n → ((j : ℕ) → j < n → IsIdle J w slots j) → IsThinned J w w js (stopped_at slots) (stopped_at slots)
+    → IsThinned J w w (range_with_len a k ++ js) (stopped_at slots) (stopped_at slots)
+idle_from J w slots n a zero js h idle t = t
+idle_from J w slots n a (suc k) js h idle t =
+    idle_first J w slots a (range_with_len (a + 1) k ++ js) (stopped_at slots a) refl (idle a (omega (arith, h))) (idle_from J w slots n (a + 1) k js (omega (arith, h)) idle t)
 
-idle_rounds : (J : Jobs) (w : World) (seats : List Seat) (n rounds : ℕ) → ((j : ℕ) → j < n → IsIdle J w seats j) → IsThinned J w w (whole_rounds n rounds) (stopped_at seats) (stopped_at seats)
-idle_rounds J w seats n zero idle = thinned_none J w (stopped_at seats)
-idle_rounds J w seats n (suc rounds) idle = idle_from J w seats n 0 n (whole_rounds n rounds) (omega arith) idle (idle_rounds J w seats n rounds idle)
+idle_rounds : (J : Jobs) (w : World) (slots : List Slot) (n rounds : ℕ) → ((j : ℕ) → j < n → IsIdle J w slots j) → IsThinned J w w (whole_rounds n rounds) (stopped_at slots) (stopped_at slots)
+idle_rounds J w slots n zero idle = thinned_none J w (stopped_at slots)
+idle_rounds J w slots n (suc rounds) idle = idle_from J w slots n 0 n (whole_rounds n rounds) (omega arith) idle (idle_rounds J w slots n rounds idle)
 
 none_less : (l x : ℕ) → l ≡ 0 → 0 < x → l < x
 none_less l x e h = omega (arith, e, h)
@@ -186,9 +186,9 @@ thinned_before J w v js before now after stays has t = record {
   stays = λ j h. t.stays j (stays j h);
 }
 
-stopped_some : (seats : List Seat) (j : ℕ) (o : Option Seat) → slice_get seats j ≡ o → some_passes (λ (s : Seat). s.job.stopped) o ≡ true → j < length seats
-stopped_some seats j None at h = absurd (false≢true h)
-stopped_some seats j (Some s) at h = slice_get_within seats j s at
+stopped_some : (slots : List Slot) (j : ℕ) (o : Option Slot) → slice_get slots j ≡ o → some_passes (λ (s : Slot). s.job.stopped) o ≡ true → j < length slots
+stopped_some slots j None at h = absurd (false≢true h)
+stopped_some slots j (Some s) at h = slice_get_within slots j s at
 
 as_many : (j a b : ℕ) → j < a → a ≡ b → j < b
 as_many j a b h e = omega (arith, h, e)
@@ -196,12 +196,12 @@ as_many j a b h e = omega (arith, h, e)
 some_turns : (x rounds : ℕ) → x ≡ rounds → 0 < rounds → 0 < x
 some_turns x rounds e h = omega (arith, e, h)
 
-has_turns : (seats : List Seat) (n rounds j : ℕ) → length seats ≡ n → 0 < rounds → stopped_at seats j ≡ true → 0 < count j (whole_rounds n rounds)
-has_turns seats n rounds j long some h =
-    some_turns (count j (whole_rounds n rounds)) rounds (whole_counts n rounds j (as_many j (length seats) n (stopped_some seats j (slice_get seats j) refl h) long)) some
+has_turns : (slots : List Slot) (n rounds j : ℕ) → length slots ≡ n → 0 < rounds → stopped_at slots j ≡ true → 0 < count j (whole_rounds n rounds)
+has_turns slots n rounds j long some h =
+    some_turns (count j (whole_rounds n rounds)) rounds (whole_counts n rounds j (as_many j (length slots) n (stopped_some slots j (slice_get slots j) refl h) long)) some
 
 -- After a round in which no job asks, all rounds that are left change nothing.
-pub taken_idle : (s0 s1 s2 : List Seat) (t0 t1 t2 : List WorkingTree) (js : List ℕ) (n rounds : ℕ) → length s2 ≡ n → 0 < rounds → Taken s0 t0 js s1 t1 (whole_rounds n rounds) → StayStopped (stopped_at s1) (stopped_at s2) → StayIdle n s1 t1 s2 t2
+pub taken_idle : (s0 s1 s2 : List Slot) (t0 t1 t2 : List WorkingTree) (js : List ℕ) (n rounds : ℕ) → length s2 ≡ n → 0 < rounds → Taken s0 t0 js s1 t1 (whole_rounds n rounds) → StayStopped (stopped_at s1) (stopped_at s2) → StayIdle n s1 t1 s2 t2
     → (J : Jobs) (w : World) → IsTable J w s0 t0 → (v : World) × IsTable J v s2 t2 × IsThinned J w v js (stopped_at s0) (stopped_at s2)
 taken_idle s0 s1 s2 t0 t1 t2 js n rounds long some taken stays idle = λ J w table.
     let x = taken J w table in
@@ -230,11 +230,11 @@ same_if true w t h = refl
 same_if false w t (inl h) = absurd (false≢true h)
 same_if false w t (inr e) = e
 
-still_idle : (J : Jobs) (w : World) (s1 s2 : List Seat) (j : ℕ) → StayStopped (stopped_at s1) (stopped_at s2) → IsIdle J w s1 j → IsIdle J w s2 j
+still_idle : (J : Jobs) (w : World) (s1 s2 : List Slot) (j : ℕ) → StayStopped (stopped_at s1) (stopped_at s2) → IsIdle J w s1 j → IsIdle J w s2 j
 still_idle J w s1 s2 j stays (inl h) = inl (stays j h)
 still_idle J w s1 s2 j stays (inr e) = inr e
 
-pub idle_more : (n : ℕ) (s0 s1 s2 : List Seat) (t0 t1 t2 : List WorkingTree) → StayIdle n s0 t0 s1 t1 → StayStopped (stopped_at s1) (stopped_at s2)
+pub idle_more : (n : ℕ) (s0 s1 s2 : List Slot) (t0 t1 t2 : List WorkingTree) → StayIdle n s0 t0 s1 t1 → StayStopped (stopped_at s1) (stopped_at s2)
     → ((J : Jobs) (w : World) → IsTable J w s1 t1 → IsTable J (if stopped_at s2 n then w else turn J n w) s2 t2) → ((J : Jobs) (w : World) → IsTable J w s1 t1 → IsIdle J w s2 n) → StayIdle (n + 1) s0 t0 s2 t2
 idle_more n s0 s1 s2 t0 t1 t2 idle stays turns is = λ J w table.
     let x = idle J w table in
@@ -246,7 +246,7 @@ idle_more n s0 s1 s2 t0 t1 t2 idle stays turns is = λ J w table.
       ],
     )
 
-pub taken_same : (s : List Seat) (t : List WorkingTree) (js ks : List ℕ) → js ≡ ks → Taken s t js s t ks
+pub taken_same : (s : List Slot) (t : List WorkingTree) (js ks : List ℕ) → js ≡ ks → Taken s t js s t ks
 taken_same s t js ks e = subst (λ ls. Taken s t js s t ls) e (taken_none s t js)
 
 all_left : (n m : ℕ) → n - 0 ≡ m → n ≡ m
@@ -258,5 +258,5 @@ all_turns_left n more = ap (λ k. range_with_len 0 k ++ more) (all_left n (n - 0
 pub all_rounds_left : (n R : ℕ) → whole_rounds n R ≡ whole_rounds n (R - 0)
 all_rounds_left n R = ap (whole_rounds n) (all_left R (R - 0) refl)
 
-pub none_idle : (s : List Seat) (t : List WorkingTree) → StayIdle 0 s t s t
+pub none_idle : (s : List Slot) (t : List WorkingTree) → StayIdle 0 s t s t
 none_idle s t = λ J w table. (table, λ j h. absurd (omega (arith, h)))

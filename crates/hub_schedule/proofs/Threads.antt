@@ -23,7 +23,7 @@ use Rattle.hub_job.specs.Job.{next}
 use Rattle.hub_job.specs.Run.{Runs}
 use Rattle.hub_job.specs.World.{World, Jobs, log_of, event, act, turn_of, turn, run, opening}
 use Rattle.hub_job.specs.Alike.{May, Alike}
-use Rattle.hub_job.specs.Same.{AsksMay, AreApart}
+use Rattle.hub_job.specs.Same.{AsksMay, NoneClash}
 use Rattle.hub_job.specs.Laws.Untouched.{path_itself}
 use Rattle.hub_job.specs.Laws.Roots.{has_its_root}
 use Rattle.hub_job.specs.Laws.Logs.{no_log, a_log_each}
@@ -95,7 +95,7 @@ abbrev pub Projects : ℕ → Parts → Path → Replica → Replica → List En
 Projects j P r m k h own = Answers P r k own × Alike P r (replay m h) (replay k own)
 
 project_by : AnswersAlike → OwnAlike → OthersAlike → (Ps : List Parts) (r : Path) (j : ℕ) (P : Parts) (e : Entry) (es : List Entry) (m k : Replica) (b : Bool) → (e.job == j) ≡ b
-    → AreApart Ps → slice_get Ps j ≡ Some P → IsTrue (has_root P r) → IsAnswerOf r m e (slice_get Ps e.job) → ((Q : Parts) → slice_get Ps e.job ≡ Some Q → IsTrue (has_root Q r) → May Q r e.op)
+    → NoneClash Ps → slice_get Ps j ≡ Some P → IsTrue (has_root P r) → IsAnswerOf r m e (slice_get Ps e.job) → ((Q : Parts) → slice_get Ps e.job ≡ Some Q → IsTrue (has_root Q r) → May Q r e.op)
     → ((k : Replica) → Alike P r (after m e.op) k → Projects j P r (after m e.op) k es (entries_of j es)) → Alike P r m k
     → Projects j P r m k (e ∷ es) (cond b (e ∷ entries_of j es) (entries_of j es))
 project_by answers own others Ps r j P e es m k true eq apart is has legal may more a =
@@ -111,7 +111,7 @@ project_by answers own others Ps r j P e es m k false eq apart is has legal may 
     more k (λ p d. moved p d ∙ a p d)
 
 pub project : AnswersAlike → OwnAlike → OthersAlike → (Ps : List Parts) (r : Path) (j : ℕ) (P : Parts) (h : List Entry) (m k : Replica)
-    → AreApart Ps → slice_get Ps j ≡ Some P → IsTrue (has_root P r) → IsLegal Ps r m h → MayAll Ps r h → Alike P r m k → Projects j P r m k h (entries_of j h)
+    → NoneClash Ps → slice_get Ps j ≡ Some P → IsTrue (has_root P r) → IsLegal Ps r m h → MayAll Ps r h → Alike P r m k → Projects j P r m k h (entries_of j h)
 project answers own others Ps r j P [] m k apart is has legal may a = (tt, a)
 project answers own others Ps r j P (e ∷ es) m k apart is has legal may a =
     project_by answers own others Ps r j P e es m k (e.job == j) refl apart is has legal.0 may.0
@@ -185,7 +185,7 @@ no_log_yet (Q ∷ Ps) zero P e = refl
 no_log_yet (Q ∷ Ps) (suc j) P e = no_log_yet Ps j P e
 
 pub as_alone : AsksMay → AnswersAlike → OwnAlike → OthersAlike → (J : Jobs) (replicas : Path → Replica) (histories : Path → List Entry) (logs : ℕ → List Logged) (j : ℕ) (P : Parts)
-    → AreApart J.profiles → AreProfiles J.profiles → slice_get J.profiles j ≡ Some P → IsSettled J replicas histories logs → IsAsAlone J replicas histories logs j P
+    → NoneClash J.profiles → AreProfiles J.profiles → slice_get J.profiles j ≡ Some P → IsSettled J replicas histories logs → IsAsAlone J replicas histories logs j P
 as_alone asks answers own others J replicas histories logs j P apart valid is settled =
     let mine : (r : Path) → IsTrue (has_root P r) → Projects j P r (replicas r) (replicas r) (histories r) (entries_at P r (logs j)) = λ r has.
     subst (Projects j P r (replicas r) (replicas r) (histories r)) (settled.agree j P r is has)

@@ -14,26 +14,26 @@ use Rattle.hub_job.specs.JobValue.{JobValue, after_turn, with_answer, stopped_jo
 use Rattle.hub_job.specs.Machine.{answer, after}
 use Rattle.hub_job.specs.Phase.{asked_by}
 use Rattle.hub_job.specs.World.{World, Jobs, act, turn}
-use Rattle.hub_schedule.specs.declared.seat.Seat.{Seat}
-use Rattle.hub_schedule.specs.declared.seat.WorkingTree.{WorkingTree}
+use Rattle.hub_schedule.specs.declared.slot.Slot.{Slot}
+use Rattle.hub_schedule.specs.declared.slot.WorkingTree.{WorkingTree}
 use Rattle.hub_schedule.specs.Table.{place_on, with_job, with_tree, stopped_at, AllWouldAsk, IsIdle, IsTable, ArePlaced, StayStopped, WouldAsk}
 use Rattle.hub_schedule.specs.Laws.Lists.{set_here, set_there, each_set, one_value}
-use Rattle.hub_schedule.proofs.Tables.{SameSeat, table_same, table_turn, turn_is}
+use Rattle.hub_schedule.proofs.Tables.{SameSlot, table_same, table_turn, turn_is}
 
 -- A job keeps its profile, archive, number and places.
-places_by : (s t : Seat) → t.left ≡ s.left → t.right ≡ s.right → (k : Side) → place_on t k ≡ place_on s k
+places_by : (s t : Slot) → t.left ≡ s.left → t.right ≡ s.right → (k : Side) → place_on t k ≡ place_on s k
 places_by s t l r Left = l
 places_by s t l r Right = r
 
-same_with : (s t : Seat) (v : JobValue) → t ≡ with_job s v → v.profile ≡ s.job.profile → v.archive ≡ s.job.archive → v.number ≡ s.job.number → SameSeat s t
+same_with : (s t : Slot) (v : JobValue) → t ≡ with_job s v → v.profile ≡ s.job.profile → v.archive ≡ s.job.archive → v.number ≡ s.job.number → SameSlot s t
 same_with s t v e own archive number = record {
-  profile = ap (λ (x : Seat). x.job.profile) e ∙ own;
-  archive = ap (λ (x : Seat). x.job.archive) e ∙ archive;
-  number = ap (λ (x : Seat). x.job.number) e ∙ number;
-  places = places_by s t (ap (λ (x : Seat). x.left) e) (ap (λ (x : Seat). x.right) e);
+  profile = ap (λ (x : Slot). x.job.profile) e ∙ own;
+  archive = ap (λ (x : Slot). x.job.archive) e ∙ archive;
+  number = ap (λ (x : Slot). x.job.number) e ∙ number;
+  places = places_by s t (ap (λ (x : Slot). x.left) e) (ap (λ (x : Slot). x.right) e);
 }
 
-same_again : (s t u : Seat) → SameSeat s t → SameSeat t u → SameSeat s u
+same_again : (s t u : Slot) → SameSlot s t → SameSlot t u → SameSlot s u
 same_again s t u f g = record {
   profile = g.profile ∙ f.profile;
   archive = g.archive ∙ f.archive;
@@ -46,13 +46,13 @@ set_same [] k x e = refl
 set_same (y ∷ xs) zero x e = ap (λ z. z ∷ xs) (sym (one_value y x e))
 set_same (y ∷ xs) (suc k) x e = ap (λ zs. y ∷ zs) (set_same xs k x e)
 
-pub stopped_is : (seats : List Seat) (j : ℕ) (s t : Seat) → slice_get seats j ≡ Some s → stopped_at (slice_set seats j t) j ≡ t.job.stopped
-stopped_is seats j s t is = ap (some_passes (λ (v : Seat). v.job.stopped)) (set_here seats j s t is)
+pub stopped_is : (slots : List Slot) (j : ℕ) (s t : Slot) → slice_get slots j ≡ Some s → stopped_at (slice_set slots j t) j ≡ t.job.stopped
+stopped_is slots j s t is = ap (some_passes (λ (v : Slot). v.job.stopped)) (set_here slots j s t is)
 
-module _ (J : Jobs) (w : World) (seats : List Seat) (trees : List WorkingTree) (table : IsTable J w seats trees) (j : ℕ) (s t : Seat) (n : Next) (is : slice_get seats j ≡ Some s)
-    (seat : t ≡ with_job s (after_turn s.job t.job.stopped n)) (next_is : t.job.stopped ≡ false → n ≡ next s.job.profile s.job.archive s.job.log) where
-  turned : SameSeat s t
-  turned = same_with s t (after_turn s.job t.job.stopped n) seat refl refl refl
+module _ (J : Jobs) (w : World) (slots : List Slot) (trees : List WorkingTree) (table : IsTable J w slots trees) (j : ℕ) (s t : Slot) (n : Next) (is : slice_get slots j ≡ Some s)
+    (slot : t ≡ with_job s (after_turn s.job t.job.stopped n)) (next_is : t.job.stopped ≡ false → n ≡ next s.job.profile s.job.archive s.job.log) where
+  turned : SameSlot s t
+  turned = same_with s t (after_turn s.job t.job.stopped n) slot refl refl refl
 
   -- A turn in which the job asks nothing.
   still : (n : Next) → asked_by n ≡ None → act s.job.profile j w n ≡ w
@@ -64,60 +64,60 @@ module _ (J : Jobs) (w : World) (seats : List Seat) (trees : List WorkingTree) (
   same_world none true e = refl
   same_world none false e = sym (turn_is J w trees j s (table.each j s is) ∙ (ap (act s.job.profile j w) (sym (next_is e)) ∙ still n none))
 
-  pub idle : asked_by n ≡ None → IsTable J (if stopped_at (slice_set seats j t) j then w else turn J j w) (slice_set seats j t) trees
+  pub idle : asked_by n ≡ None → IsTable J (if stopped_at (slice_set slots j t) j then w else turn J j w) (slice_set slots j t) trees
   idle none =
-      table_same J w (cond (stopped_at (slice_set seats j t) j) w (turn J j w)) seats trees j s t table is turned (ap (λ (v : Seat). v.job.log) seat)
-      (same_world none t.job.stopped refl ∙ ap (λ b. cond b w (turn J j w)) (sym (stopped_is seats j s t is)))
+      table_same J w (cond (stopped_at (slice_set slots j t) j) w (turn J j w)) slots trees j s t table is turned (ap (λ (v : Slot). v.job.log) slot)
+      (same_world none t.job.stopped refl ∙ ap (λ b. cond b w (turn J j w)) (sym (stopped_is slots j s t is)))
 
-  rests_by : asked_by n ≡ None → (b : Bool) → t.job.stopped ≡ b → IsIdle J w (slice_set seats j t) j
-  rests_by none true e = inl (stopped_is seats j s t is ∙ e)
+  rests_by : asked_by n ≡ None → (b : Bool) → t.job.stopped ≡ b → IsIdle J w (slice_set slots j t) j
+  rests_by none true e = inl (stopped_is slots j s t is ∙ e)
   rests_by none false e = inr (sym (same_world none false e))
 
-  pub rests : asked_by n ≡ None → IsIdle J w (slice_set seats j t) j
+  pub rests : asked_by n ≡ None → IsIdle J w (slice_set slots j t) j
   rests none = rests_by none t.job.stopped refl
 
   -- A turn in which it is answered, or finds no memory.
-  module _ (side : Side) (op : Op) (asks : n ≡ Ask side op) (going : t.job.stopped ≡ false) (t2 : Seat) (k : ℕ) (u u2 : WorkingTree) (place : k ≡ place_on s side) (at : slice_get trees k ≡ Some u)
+  module _ (side : Side) (op : Op) (asks : n ≡ Ask side op) (going : t.job.stopped ≡ false) (t2 : Slot) (k : ℕ) (u u2 : WorkingTree) (place : k ≡ place_on s side) (at : slice_get trees k ≡ Some u)
       (lost : t2.job.stopped ≡ true → (t2 ≡ with_job t (stopped_job t.job)) × (u2 ≡ u))
       (made : t2.job.stopped ≡ false → (t2 ≡ with_job t (with_answer t.job (record { side = side; op = op }) (answer u.tree t.job.profile u.root.now op))) × (u2 ≡ with_tree u (after u.tree op))) where
-    stopped : (b : Bool) → t2.job.stopped ≡ b → IsTable J (cond b w (turn J j w)) (slice_set seats j t2) (slice_set trees k u2)
+    stopped : (b : Bool) → t2.job.stopped ≡ b → IsTable J (cond b w (turn J j w)) (slice_set slots j t2) (slice_set trees k u2)
     stopped true e =
         let l = lost e in
-        subst (IsTable J w (slice_set seats j t2)) (sym (ap (slice_set trees k) l.1 ∙ set_same trees k u at))
-        (table_same J w w seats trees j s t2 table is (same_again s t t2 turned (same_with t t2 (stopped_job t.job) l.0 refl refl refl))
-        (ap (λ (v : Seat). v.job.log) l.0 ∙ ap (λ (v : Seat). v.job.log) seat) refl)
+        subst (IsTable J w (slice_set slots j t2)) (sym (ap (slice_set trees k) l.1 ∙ set_same trees k u at))
+        (table_same J w w slots trees j s t2 table is (same_again s t t2 turned (same_with t t2 (stopped_job t.job) l.0 refl refl refl))
+        (ap (λ (v : Slot). v.job.log) l.0 ∙ ap (λ (v : Slot). v.job.log) slot) refl)
     stopped false e =
         let m = made e in
         let a : Asked = record { side = side; op = op } in
-        subst (λ (v : WorkingTree). IsTable J (turn J j w) (slice_set seats j t2) (slice_set trees k v)) (sym m.1)
-        (subst (λ (i : ℕ). IsTable J (turn J j w) (slice_set seats j t2) (slice_set trees i (with_tree u (after u.tree op)))) (sym place)
-        (table_turn J w seats trees table j s t2 is (same_again s t t2 turned (same_with t t2 (with_answer t.job a (answer u.tree t.job.profile u.root.now op)) m.0 refl refl refl)) side op
+        subst (λ (v : WorkingTree). IsTable J (turn J j w) (slice_set slots j t2) (slice_set trees k v)) (sym m.1)
+        (subst (λ (i : ℕ). IsTable J (turn J j w) (slice_set slots j t2) (slice_set trees i (with_tree u (after u.tree op)))) (sym place)
+        (table_turn J w slots trees table j s t2 is (same_again s t t2 turned (same_with t t2 (with_answer t.job a (answer u.tree t.job.profile u.root.now op)) m.0 refl refl refl)) side op
         (sym (next_is going) ∙ asks) u (ap (slice_get trees) (sym place) ∙ at)
-        (ap (λ (v : Seat). v.job.log) m.0
-        ∙ (λ i. (seat i).job.log ++ record { side = side; step = record { job = (seat i).job.number; op = op; answer = answer u.tree (seat i).job.profile u.root.now op } } ∷ []))))
+        (ap (λ (v : Slot). v.job.log) m.0
+        ∙ (λ i. (slot i).job.log ++ record { side = side; step = record { job = (slot i).job.number; op = op; answer = answer u.tree (slot i).job.profile u.root.now op } } ∷ []))))
 
-    pub busy : IsTable J (if stopped_at (slice_set seats j t2) j then w else turn J j w) (slice_set seats j t2) (slice_set trees k u2)
-    busy = subst (λ b. IsTable J (cond b w (turn J j w)) (slice_set seats j t2) (slice_set trees k u2)) (sym (stopped_is seats j s t2 is)) (stopped t2.job.stopped refl)
+    pub busy : IsTable J (if stopped_at (slice_set slots j t2) j then w else turn J j w) (slice_set slots j t2) (slice_set trees k u2)
+    busy = subst (λ b. IsTable J (cond b w (turn J j w)) (slice_set slots j t2) (slice_set trees k u2)) (sym (stopped_is slots j s t2 is)) (stopped t2.job.stopped refl)
 
 -- A job that is stopped stays stopped, and no other job is stopped.
-pub stay_stopped : (seats : List Seat) (j : ℕ) (s t : Seat) → slice_get seats j ≡ Some s → (s.job.stopped ≡ true → t.job.stopped ≡ true) → StayStopped (stopped_at seats) (stopped_at (slice_set seats j t))
-stay_stopped seats j s t is stays = λ i h.
+pub stay_stopped : (slots : List Slot) (j : ℕ) (s t : Slot) → slice_get slots j ≡ Some s → (s.job.stopped ≡ true → t.job.stopped ≡ true) → StayStopped (stopped_at slots) (stopped_at (slice_set slots j t))
+stay_stopped slots j s t is stays = λ i h.
     elim (cases_eq i j) [
-      | inl same ↦ ap (stopped_at (slice_set seats j t)) same
-          ∙ (stopped_is seats j s t is ∙ stays (sym (ap (some_passes (λ (v : Seat). v.job.stopped)) is) ∙ (ap (stopped_at seats) (sym same) ∙ h)))
-      | inr off ↦ ap (some_passes (λ (v : Seat). v.job.stopped)) (set_there seats i j t off) ∙ h
+      | inl same ↦ ap (stopped_at (slice_set slots j t)) same
+          ∙ (stopped_is slots j s t is ∙ stays (sym (ap (some_passes (λ (v : Slot). v.job.stopped)) is) ∙ (ap (stopped_at slots) (sym same) ∙ h)))
+      | inr off ↦ ap (some_passes (λ (v : Slot). v.job.stopped)) (set_there slots i j t off) ∙ h
     ]
 
-pub no_other_stopped : (seats : List Seat) (j : ℕ) (t : Seat) (i : ℕ) → stopped_at (slice_set seats j t) i ≡ true → stopped_at seats i ≡ false → i ≡ j
-no_other_stopped seats j t i h e =
+pub no_other_stopped : (slots : List Slot) (j : ℕ) (t : Slot) (i : ℕ) → stopped_at (slice_set slots j t) i ≡ true → stopped_at slots i ≡ false → i ≡ j
+no_other_stopped slots j t i h e =
     elim (cases_eq i j) [
       | inl same ↦ same
-      | inr off ↦ absurd (false≢true (sym e ∙ (sym (ap (some_passes (λ (v : Seat). v.job.stopped)) (set_there seats i j t off)) ∙ h)))
+      | inr off ↦ absurd (false≢true (sym e ∙ (sym (ap (some_passes (λ (v : Slot). v.job.stopped)) (set_there slots i j t off)) ∙ h)))
     ]
 
 -- A job that is stopped after a step would have asked.
-pub would_ask : (seats : List Seat) (j : ℕ) (s t : Seat) → slice_get seats j ≡ Some s → (WouldAsk s.job → WouldAsk t.job) → AllWouldAsk seats → AllWouldAsk (slice_set seats j t)
-would_ask seats j s t is more all = λ i x e. each_set (λ (i : ℕ) (x : Seat). WouldAsk x.job) seats j s t is (more (all j s is)) (λ k z off h. all k z h) i x e
+pub would_ask : (slots : List Slot) (j : ℕ) (s t : Slot) → slice_get slots j ≡ Some s → (WouldAsk s.job → WouldAsk t.job) → AllWouldAsk slots → AllWouldAsk (slice_set slots j t)
+would_ask slots j s t is more all = λ i x e. each_set (λ (i : ℕ) (x : Slot). WouldAsk x.job) slots j s t is (more (all j s is)) (λ k z off h. all k z h) i x e
 
 may_ask : (a b c : Bool) → (a ≡ false → b ≡ false → c ≡ false) → (a ≡ true → b ≡ true) → c ≡ true → b ≡ true
 may_ask true b c h old e = old refl
@@ -141,21 +141,21 @@ answer_asks J K L n side op is does asks going lost = λ stopped made.
     lost_asks K L side op (lost stopped) (ap (λ (x : JobValue). next x.profile x.archive x.log) is ∙ (sym (does going) ∙ asks))
 
 -- The numbers of replicas stay numbers of replicas.
-pub still_placed : (seats : List Seat) (trees : List WorkingTree) (j : ℕ) (s t : Seat) → slice_get seats j ≡ Some s → ((k : Side) → place_on t k ≡ place_on s k) → ArePlaced seats trees → ArePlaced (slice_set seats j t) trees
-still_placed seats trees j s t is places placed = λ i x k e.
-    each_set (λ (i : ℕ) (x : Seat). place_on x k < length trees) seats j s t is (subst (λ (m : ℕ). m < length trees) (sym (places k)) (placed j s k is)) (λ i z off h. placed i z k h) i x e
+pub still_placed : (slots : List Slot) (trees : List WorkingTree) (j : ℕ) (s t : Slot) → slice_get slots j ≡ Some s → ((k : Side) → place_on t k ≡ place_on s k) → ArePlaced slots trees → ArePlaced (slice_set slots j t) trees
+still_placed slots trees j s t is places placed = λ i x k e.
+    each_set (λ (i : ℕ) (x : Slot). place_on x k < length trees) slots j s t is (subst (λ (m : ℕ). m < length trees) (sym (places k)) (placed j s k is)) (λ i z off h. placed i z k h) i x e
 
 -- Another state of the job leaves its places.
-pub place_same : (s : Seat) (v : JobValue) (k : Side) → place_on (with_job s v) k ≡ place_on s k
+pub place_same : (s : Slot) (v : JobValue) (k : Side) → place_on (with_job s v) k ≡ place_on s k
 place_same s v Left = refl
 place_same s v Right = refl
 
-pub same_places : (t t2 : Seat) (a b : JobValue) (X Y : Type 0) → (t2.job.stopped ≡ true → (t2 ≡ with_job t a) × X) → (t2.job.stopped ≡ false → (t2 ≡ with_job t b) × Y) → (k : Side) → place_on t2 k ≡ place_on t k
+pub same_places : (t t2 : Slot) (a b : JobValue) (X Y : Type 0) → (t2.job.stopped ≡ true → (t2 ≡ with_job t a) × X) → (t2.job.stopped ≡ false → (t2 ≡ with_job t b) × Y) → (k : Side) → place_on t2 k ≡ place_on t k
 same_places t t2 a b X Y lost made k = go t2.job.stopped refl
   where
     go : (c : Bool) → t2.job.stopped ≡ c → place_on t2 k ≡ place_on t k
-    go true e = ap (λ (x : Seat). place_on x k) (lost e).0 ∙ place_same t a k
-    go false e = ap (λ (x : Seat). place_on x k) (made e).0 ∙ place_same t b k
+    go true e = ap (λ (x : Slot). place_on x k) (lost e).0 ∙ place_same t a k
+    go false e = ap (λ (x : Slot). place_on x k) (made e).0 ∙ place_same t b k
 
 pub not_asked : (n : Next) → ((side : Side) (op : Op) → n ≡ Ask side op → ⊥) → asked_by n ≡ None
 not_asked (Ask side op) h = absurd (h side op refl)

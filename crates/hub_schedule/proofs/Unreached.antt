@@ -11,12 +11,12 @@ use Rattle.hub_tree.specs.Laws.MarkMaps.{old_mark-after}
 use Rattle.hub_reconcile.specs.View.{View}
 use Rattle.hub_reconcile.specs.Sync.{fate_over, mark_under, synced_mark, next_archive}
 use Rattle.hub_job.specs.declared.log.Logged.{Logged}
-use Rattle.hub_schedule.specs.declared.seat.Seat.{Seat}
-use Rattle.hub_schedule.specs.declared.seat.WorkingTree.{WorkingTree}
+use Rattle.hub_schedule.specs.declared.slot.Slot.{Slot}
+use Rattle.hub_schedule.specs.declared.slot.WorkingTree.{WorkingTree}
 use Rattle.hub_job.specs.Ends.{is_finished, end_of}
 use Rattle.hub_job.specs.Job.{view_in}
 use Rattle.hub_schedule.specs.Left.{next_value, KeptIn, KeepsUnreached, AreKept}
-use Rattle.hub_schedule.specs.Table.{IsSeat, IsTable}
+use Rattle.hub_schedule.specs.Table.{IsSlot, IsTable}
 use Rattle.hub_job.specs.World.{World, Jobs}
 use Rattle.hub_schedule.specs.Laws.Lists.{map_get}
 
@@ -39,8 +39,8 @@ if_finished : (P : Parts) (O : Archive) (log : List Logged) (b : Bool) → KeptI
 if_finished P O log true = keeps P O log
 if_finished P O log false = tt
 
-of_seat : (J : Jobs) (w : World) (trees : List WorkingTree) (j : ℕ) (s : Seat) → IsSeat J w trees j s → KeepsUnreached (next_value s)
-of_seat J w trees j s a = if_finished s.job.profile s.job.archive s.job.log (is_finished (end_of s.job))
+of_slot : (J : Jobs) (w : World) (trees : List WorkingTree) (j : ℕ) (s : Slot) → IsSlot J w trees j s → KeepsUnreached (next_value s)
+of_slot J w trees j s a = if_finished s.job.profile s.job.archive s.job.log (is_finished (end_of s.job))
 
-pub all_kept : (J : Jobs) (w : World) (seats : List Seat) (trees : List WorkingTree) → IsTable J w seats trees → AreKept (map next_value seats)
-all_kept J w seats trees table = λ k n e. let s = map_get next_value seats k n e in subst KeepsUnreached (sym s.2) (of_seat J w trees k s.0 (table.each k s.0 s.1))
+pub all_kept : (J : Jobs) (w : World) (slots : List Slot) (trees : List WorkingTree) → IsTable J w slots trees → AreKept (map next_value slots)
+all_kept J w slots trees table = λ k n e. let s = map_get next_value slots k n e in subst KeepsUnreached (sym s.2) (of_slot J w trees k s.0 (table.each k s.0 s.1))

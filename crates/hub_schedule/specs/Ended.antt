@@ -12,8 +12,8 @@ use Rattle.hub_job.specs.Ends.{end_of, items_of}
 use Rattle.hub_job.specs.Outcome.{archive_of}
 use Rattle.hub_job.specs.Run.{root_at}
 use Rattle.hub_job.specs.JobValue.{JobValue}
-use Rattle.hub_schedule.specs.declared.seat.Seat.{Seat}
-use Rattle.hub_schedule.specs.declared.seat.WorkingTree.{WorkingTree}
+use Rattle.hub_schedule.specs.declared.slot.Slot.{Slot}
+use Rattle.hub_schedule.specs.declared.slot.WorkingTree.{WorkingTree}
 use Rattle.hub_schedule.specs.Table.{place_on, AreTrees, IsPlaced}
 
 -- How the job ends.
@@ -42,14 +42,14 @@ pub record AreEnded (S : State) (Ps : List Parts) (replica : Path → Replica) (
       → list_any (λ P. has_root P t.root.now) Ps ≡ true
 
 -- A job with the numbers of its replicas.
-pub record IsSeatOf (trees : List WorkingTree) (J : JobValue) (s : Seat) : Type 0 where
+pub record IsSlotOf (trees : List WorkingTree) (J : JobValue) (s : Slot) : Type 0 where
   pub valid : IsProfile s.job.profile
   pub job : s.job ≡ J
   pub places : (k : Side) → IsPlaced trees (root_at s.job.profile k) (place_on s k)
 
 -- The jobs, in their order, with the numbers of their replicas.
-pub record AreSeatsOf (trees : List WorkingTree) (jobs : List JobValue) (seats : List Seat) :
+pub record AreSlotsOf (trees : List WorkingTree) (jobs : List JobValue) (slots : List Slot) :
     Type 0 where
-  pub each : (j : ℕ) (s : Seat) → slice_get seats j ≡ Some s → (J : JobValue)
-      × (slice_get jobs j ≡ Some J) × IsSeatOf trees J s
-  pub count : length seats ≡ length jobs
+  pub each : (j : ℕ) (s : Slot) → slice_get slots j ≡ Some s → (J : JobValue)
+      × (slice_get jobs j ≡ Some J) × IsSlotOf trees J s
+  pub count : length slots ≡ length jobs

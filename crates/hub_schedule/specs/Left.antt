@@ -9,15 +9,15 @@ use Rattle.hub_tree.specs.Tree.{Archive, old_mark_at}
 use Rattle.hub_tree.specs.declared.contents.Mark.{Mark}
 use Rattle.hub_state.specs.State.{State, archive_at, with_replica}
 use Rattle.hub_job.specs.declared.job_end.JobEnd.{JobEnd}
-use Rattle.hub_schedule.specs.declared.seat.Seat.{Seat}
-use Rattle.hub_schedule.specs.declared.seat.WorkingTree.{WorkingTree}
+use Rattle.hub_schedule.specs.declared.slot.Slot.{Slot}
+use Rattle.hub_schedule.specs.declared.slot.WorkingTree.{WorkingTree}
 use Rattle.hub_schedule.specs.Next.{NextValue}
 use Rattle.hub_job.specs.Ends.{end_of, items_of, archive_of}
 
-abbrev pub end_value : Seat → JobEnd
+abbrev pub end_value : Slot → JobEnd
 end_value s = record { end = end_of s.job; log = s.job.log; items = items_of s.job }
 
-abbrev pub next_value : Seat → NextValue
+abbrev pub next_value : Slot → NextValue
 next_value s = record { profile = s.job.profile; opening = s.job.archive; next = archive_of s.job }
 
 abbrev pub put_tree : State → WorkingTree → State

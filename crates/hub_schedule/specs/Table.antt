@@ -15,25 +15,25 @@ use Rattle.hub_job.specs.Outcome.{archive_of, jobs_of, IsOutcomeWith, IsSimulate
 use Rattle.hub_schedule.specs.Promise.{HasReplicas}
 use Rattle.hub_reach.specs.Reach.{has_root}
 use Rattle.hub_tree.specs.Tree.{Replica, Archive}
-use Rattle.hub_schedule.specs.declared.seat.Seat.{Seat}
-use Rattle.hub_schedule.specs.declared.seat.WorkingTree.{WorkingTree}
+use Rattle.hub_schedule.specs.declared.slot.Slot.{Slot}
+use Rattle.hub_schedule.specs.declared.slot.WorkingTree.{WorkingTree}
 use Rattle.hub_job.specs.JobValue.{JobValue, new_job}
 use Rattle.hub_job.specs.Run.{root_at}
 use Rattle.hub_job.specs.World.{World, Jobs, log_of, run, turn, first_turns}
 
-abbrev pub place_on : Seat → Side → ℕ
+abbrev pub place_on : Slot → Side → ℕ
 place_on s Left = s.left
 place_on s Right = s.right
 
-abbrev pub with_job : Seat → JobValue → Seat
+abbrev pub with_job : Slot → JobValue → Slot
 with_job s job = record s { job = job }
 
 abbrev pub with_tree : WorkingTree → Replica → WorkingTree
 with_tree t m = record t { tree = m }
 
 -- Whether there is a job of this number, and it was stopped.
-abbrev pub stopped_at : List Seat → ℕ → Bool
-stopped_at seats j = some_passes (λ s. s.job.stopped) (slice_get seats j)
+abbrev pub stopped_at : List Slot → ℕ → Bool
+stopped_at slots j = some_passes (λ s. s.job.stopped) (slice_get slots j)
 
 -- The replica of a root has this number.
 abbrev pub IsPlaced : List WorkingTree → Path → ℕ → Type 0
@@ -50,7 +50,7 @@ pub record AreTrees (replica : Path → Replica) (trees : List WorkingTree) : Ty
       → t.root.now ≡ u.root.now → i ≡ k
 
 -- A job of this number, profile and archive, that has asked nothing.
-pub record IsNew (j : ℕ) (P : Parts) (O : Archive) (s : Seat) : Type 0 where
+pub record IsNew (j : ℕ) (P : Parts) (O : Archive) (s : Slot) : Type 0 where
   pub valid : IsProfile P
   pub job : s.job ≡ new_job j P O
 
@@ -61,12 +61,12 @@ pub record Extends (P : Parts) (old new : List WorkingTree) : Type 0 where
       ⊎ (has_root P t.root.now ≡ true)
 
 -- The numbers of a job's replicas are numbers of replicas.
-abbrev pub ArePlaced : List Seat → List WorkingTree → Type 0
-ArePlaced seats trees =
-    (j : ℕ) (s : Seat) (k : Side) → slice_get seats j ≡ Some s → place_on s k < length trees
+abbrev pub ArePlaced : List Slot → List WorkingTree → Type 0
+ArePlaced slots trees =
+    (j : ℕ) (s : Slot) (k : Side) → slice_get slots j ≡ Some s → place_on s k < length trees
 
 -- A job of a world: its profile, archive, number and log, and the numbers of its replicas.
-pub record IsSeat (J : Jobs) (w : World) (trees : List WorkingTree) (j : ℕ) (s : Seat) :
+pub record IsSlot (J : Jobs) (w : World) (trees : List WorkingTree) (j : ℕ) (s : Slot) :
     Type 0 where
   pub is : slice_get J.profiles j ≡ Some s.job.profile
   pub valid : IsProfile s.job.profile
@@ -76,10 +76,10 @@ pub record IsSeat (J : Jobs) (w : World) (trees : List WorkingTree) (j : ℕ) (s
   pub places : (k : Side) → IsPlaced trees (root_at s.job.profile k) (place_on s k)
 
 -- These jobs and replicas are those of a world.
-pub record IsTable (J : Jobs) (w : World) (seats : List Seat) (trees : List WorkingTree) :
+pub record IsTable (J : Jobs) (w : World) (slots : List Slot) (trees : List WorkingTree) :
     Type 0 where
-  pub each : (j : ℕ) (s : Seat) → slice_get seats j ≡ Some s → IsSeat J w trees j s
-  pub count : length seats ≡ length J.profiles
+  pub each : (j : ℕ) (s : Slot) → slice_get slots j ≡ Some s → IsSlot J w trees j s
+  pub count : length slots ≡ length J.profiles
   pub logs : length w.logs ≡ length J.profiles
   pub replicas : AreTrees w.replica trees
   pub roots : (k : ℕ) (t : WorkingTree) → slice_get trees k ≡ Some t
@@ -90,8 +90,8 @@ abbrev pub WouldAsk : JobValue → Type 0
 WouldAsk J =
     J.stopped ≡ true → 0 < steps_made J.log → is_ask (next J.profile J.archive J.log) ≡ true
 
-abbrev pub AllWouldAsk : List Seat → Type 0
-AllWouldAsk seats = (j : ℕ) (s : Seat) → slice_get seats j ≡ Some s → WouldAsk s.job
+abbrev pub AllWouldAsk : List Slot → Type 0
+AllWouldAsk slots = (j : ℕ) (s : Slot) → slice_get slots j ≡ Some s → WouldAsk s.job
 
 abbrev pub StayStopped : (ℕ → Bool) → (ℕ → Bool) → Type 0
 StayStopped before after = (j : ℕ) → before j ≡ true → after j ≡ true
@@ -109,13 +109,13 @@ pub record IsThinned (J : Jobs) (w v : World) (schedule : List ℕ) (before afte
   pub stays : StayStopped before after
 
 -- From these jobs and replicas, a schedule has come as far as others, and the rest of it is left.
-abbrev pub Taken : List Seat → List WorkingTree → List ℕ → List Seat → List WorkingTree → List ℕ
+abbrev pub Taken : List Slot → List WorkingTree → List ℕ → List Slot → List WorkingTree → List ℕ
     → Type 0
-Taken seats trees schedule seats_now trees_now rest =
-    (J : Jobs) (w : World) → IsTable J w seats trees
-    → (v : World) × IsTable J v seats_now trees_now
-    × ((u : World) (after : ℕ → Bool) → IsThinned J v u rest (stopped_at seats_now) after
-    → IsThinned J w u schedule (stopped_at seats) after)
+Taken slots trees schedule slots_now trees_now rest =
+    (J : Jobs) (w : World) → IsTable J w slots trees
+    → (v : World) × IsTable J v slots_now trees_now
+    × ((u : World) (after : ℕ → Bool) → IsThinned J v u rest (stopped_at slots_now) after
+    → IsThinned J w u schedule (stopped_at slots) after)
 
 -- So many rounds, in each of which each job has one turn.
 abbrev pub whole_rounds : ℕ → ℕ → List ℕ
@@ -123,31 +123,31 @@ whole_rounds jobs zero = []
 whole_rounds jobs (suc rounds) = range_with_len 0 jobs ++ whole_rounds jobs rounds
 
 -- A turn of the job changes nothing: it is stopped, or finished.
-abbrev pub IsIdle : Jobs → World → List Seat → ℕ → Type 0
-IsIdle J w seats j = (stopped_at seats j ≡ true) ⊎ (turn J j w ≡ w)
+abbrev pub IsIdle : Jobs → World → List Slot → ℕ → Type 0
+IsIdle J w slots j = (stopped_at slots j ≡ true) ⊎ (turn J j w ≡ w)
 
 -- The jobs and replicas stand for the same world as before, and a turn of any of the first jobs
 -- changes nothing in it.
-abbrev pub StayIdle : ℕ → List Seat → List WorkingTree → List Seat → List WorkingTree → Type 0
-StayIdle n seats trees seats_now trees_now =
-    (J : Jobs) (w : World) → IsTable J w seats trees → IsTable J w seats_now trees_now
-    × ((j : ℕ) → j < n → IsIdle J w seats_now j)
+abbrev pub StayIdle : ℕ → List Slot → List WorkingTree → List Slot → List WorkingTree → Type 0
+StayIdle n slots trees slots_now trees_now =
+    (J : Jobs) (w : World) → IsTable J w slots trees → IsTable J w slots_now trees_now
+    × ((j : ℕ) → j < n → IsIdle J w slots_now j)
 
 -- The outcome of each world that these jobs and replicas stand for; and a job ends as stopped if it
 -- was stopped, or if an answer in its log stops it. A job that was stopped would have asked for
 -- another step, if that is so of all of these.
-abbrev pub IsOutcomeAfter : State → List Seat → List WorkingTree → Outcome → Type 0
-IsOutcomeAfter S seats trees o =
-    ((Ps : List Parts) (w : World) → HasReplicas S Ps → IsTable (jobs_of S Ps) w seats trees
+abbrev pub IsOutcomeAfter : State → List Slot → List WorkingTree → Outcome → Type 0
+IsOutcomeAfter S slots trees o =
+    ((Ps : List Parts) (w : World) → HasReplicas S Ps → IsTable (jobs_of S Ps) w slots trees
     → IsOutcomeWith S Ps (log_of w) w.replica o)
     × ((j : ℕ) (e : JobEnd) → slice_get o.jobs j ≡ Some e → e.end ≢ end.Stopped
-    → stopped_at seats j ≡ false)
+    → stopped_at slots j ≡ false)
     × ((Ps : List Parts) (w : World) (j : ℕ) (P : Parts) (e : JobEnd)
-    → IsTable (jobs_of S Ps) w seats trees
+    → IsTable (jobs_of S Ps) w slots trees
     → slice_get Ps j ≡ Some P → slice_get o.jobs j ≡ Some e → e.end ≡ end.Stopped
     → next P (archive_of S (Some P)) e.log ≢ Stopped
-    → (stopped_at seats j ≡ true)
-    × (AllWouldAsk seats → 0 < steps_made e.log → next P (archive_of S (Some P)) e.log ≢ Finished))
+    → (stopped_at slots j ≡ true)
+    × (AllWouldAsk slots → 0 < steps_made e.log → next P (archive_of S (Some P)) e.log ≢ Finished))
 
 -- The outcome is that of some number of whole rounds.
 abbrev pub IsInRounds : State → List Parts → Outcome → Type 0

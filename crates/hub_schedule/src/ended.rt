@@ -5,13 +5,13 @@ ghost use Rattle.hub_profile.specs.Parts.{Parts};
 ghost use Rattle.hub_tree.specs.Tree.{Replica};
 ghost use Rattle.hub_job.specs.Outcome.{IsOutcomeWith};
 ghost use Rattle.hub_job.specs.JobValue.{JobValue};
-ghost use Rattle.hub_schedule.specs.Ended.{AreEnded, AreSeatsOf, HasPlaces, IsSeatOf, ended_value};
+ghost use Rattle.hub_schedule.specs.Ended.{AreEnded, AreSlotsOf, HasPlaces, IsSlotOf, ended_value};
 ghost use Rattle.hub_schedule.specs.Promise.{HasReplicas, logs_in};
 ghost use Rattle.hub_schedule.specs.Table.{IsPlaced};
 
 use crate::schedule::outcome_of;
-use crate::seat::{Seat, WorkingTree};
-use crate::seats::find_tree;
+use crate::slot::{Slot, WorkingTree};
+use crate::slots::find_tree;
 use hub_job::{Job, Outcome};
 use hub_path::Root;
 use hub_state::State;
@@ -33,36 +33,36 @@ pub fn outcome_of_jobs<'a>(
         → IsOutcomeWith state.now Ps (logs_in o) replica o) }
     ensures ends { IfOk result (λ o. o.jobs ≡ map ended_value jobs.entry.items) }
 {
-    let seats = seats_of(alloc, jobs, trees.as_slice())?;
-    outcome_of(alloc, state, seats, trees)
+    let slots = slots_of(alloc, jobs, trees.as_slice())?;
+    outcome_of(alloc, state, slots, trees)
 }
 
 /// Finds the replicas of each job.
-fn seats_of<'a>(
+fn slots_of<'a>(
     alloc: Global,
     jobs: Vec<Job<'a>>,
     trees: &[WorkingTree<'_>],
-) -> Result<Vec<Seat<'a>>, AllocError>
+) -> Result<Vec<Slot<'a>>, AllocError>
     requires { (j : ℕ) (J : JobValue) → slice_get jobs.items j ≡ Some J
         → HasPlaces trees.now J.profile }
-    ensures { IfOk result (λ v. AreSeatsOf trees.now jobs.entry.items v.items) }
+    ensures { IfOk result (λ v. AreSlotsOf trees.now jobs.entry.items v.items) }
 {
-    let mut seats = Vec::new(alloc);
+    let mut slots = Vec::new(alloc);
     for job in jobs {
-        seats.push(seat_of(job, trees))?;
+        slots.push(slot_of(job, trees))?;
     }
-    Ok(seats)
+    Ok(slots)
 }
 
 /// Finds the replicas of a job.
-fn seat_of<'a>(job: Job<'a>, trees: &[WorkingTree<'_>]) -> Seat<'a>
+fn slot_of<'a>(job: Job<'a>, trees: &[WorkingTree<'_>]) -> Slot<'a>
     requires { HasPlaces trees.now job.profile }
-    ensures { IsSeatOf trees.now job.entry result }
+    ensures { IsSlotOf trees.now job.entry result }
 {
     let roots = job.profile().roots();
     let left = place_of(trees, &roots[0]);
     let right = place_of(trees, &roots[1]);
-    Seat { job, left, right }
+    Slot { job, left, right }
 }
 
 /// Returns the number of a root's replica, which is there.

@@ -5,7 +5,7 @@ ghost use Rattle.hub_reach.specs.Reach.{reach};
 ghost use Rattle.hub_tree.specs.Tree as of_tree;
 ghost use Rattle.hub_schedule.specs.Left as spec;
 
-use crate::seat::{Seat, WorkingTree};
+use crate::slot::{Slot, WorkingTree};
 use hub_job::JobEnd;
 use hub_profile::Profile;
 use hub_reach::reaches;
@@ -45,15 +45,15 @@ impl<'a> Model for NextArchive<'a> {
 /// Ends the jobs, in their order.
 pub(crate) fn end_jobs<'a>(
     alloc: Global,
-    seats: Vec<Seat<'a>>,
+    slots: Vec<Slot<'a>>,
 ) -> Result<(Items<JobEnd>, Vec<NextArchive<'a>>), AllocError>
-    ensures ends { IfOk result (λ r. r.0 ≡ map spec.end_value seats.entry.items) }
-    ensures nexts { IfOk result (λ r. r.1.items ≡ map spec.next_value seats.entry.items) }
+    ensures ends { IfOk result (λ r. r.0 ≡ map spec.end_value slots.entry.items) }
+    ensures nexts { IfOk result (λ r. r.1.items ≡ map spec.next_value slots.entry.items) }
 {
     let mut ends = Vec::new(alloc);
     let mut nexts = Vec::new(alloc);
-    for seat in seats {
-        let Seat { job, .. } = seat;
+    for slot in slots {
+        let Slot { job, .. } = slot;
         let profile = job.profile();
         let opening = job.archive();
         let (end, next) = job.end()?;

@@ -11,8 +11,8 @@ mod refusals;
 mod rounds;
 mod safe;
 mod schedule;
-mod seat;
-mod seats;
+mod slot;
+mod slots;
 pub mod together;
 mod turn;
 
@@ -21,4 +21,4 @@ pub use refusals::find_missing;
 pub use rounds::{rounds_for, run_rounds};
 pub use safe::simulate;
 pub use schedule::simulate_jobs;
-pub use seat::WorkingTree;
+pub use slot::WorkingTree;

@@ -10,8 +10,8 @@ ghost use Rattle.hub_schedule.specs.Refusals.{IsRunnable, IsUnrun};
 
 use crate::ends::{end_jobs, put_archives, put_trees};
 use crate::refusals::{find_bad_turn, find_missing};
-use crate::seat::{Seat, WorkingTree};
-use crate::seats::seats_for;
+use crate::slot::{Slot, WorkingTree};
+use crate::slots::slots_for;
 use crate::turn::{take_rounds, take_turns};
 use hub_job::{Outcome, RunFault};
 use hub_profile::Profile;
@@ -71,9 +71,9 @@ fn run_schedule(
     requires numbers { All (λ j. j < length profiles.now) schedule.now }
     ensures { IfOk result (IsSimulated state.now profiles.now schedule.now) }
 {
-    let (mut seats, mut trees) = seats_for(alloc, profiles, state)?;
-    take_turns(alloc, &mut seats, &mut trees, schedule);
-    outcome_of(alloc, state, seats, trees)
+    let (mut slots, mut trees) = slots_for(alloc, profiles, state)?;
+    take_turns(alloc, &mut slots, &mut trees, schedule);
+    outcome_of(alloc, state, slots, trees)
 }
 
 /// Runs the jobs of profiles in rounds.
@@ -87,24 +87,24 @@ fn run_in_rounds(
     ensures { IfOk result
         (IsSimulated state.now profiles.now (whole_rounds (length profiles.now) rounds)) }
 {
-    let (mut seats, mut trees) = seats_for(alloc, profiles, state)?;
-    take_rounds(alloc, &mut seats, &mut trees, rounds);
-    outcome_of(alloc, state, seats, trees)
+    let (mut slots, mut trees) = slots_for(alloc, profiles, state)?;
+    take_rounds(alloc, &mut slots, &mut trees, rounds);
+    outcome_of(alloc, state, slots, trees)
 }
 
 /// Ends the jobs, and puts what they leave into a copy of the state.
 pub(crate) fn outcome_of(
     alloc: Global,
     state: &State,
-    seats: Vec<Seat<'_>>,
+    slots: Vec<Slot<'_>>,
     trees: Vec<WorkingTree<'_>>,
 ) -> Result<Outcome, AllocError>
-    requires { (J : Jobs) × (w : World) × IsTable J w seats.items trees.items }
+    requires { (J : Jobs) × (w : World) × IsTable J w slots.items trees.items }
     ensures outcome { IfOk result
-        (IsOutcomeAfter state.now seats.entry.items trees.entry.items) }
-    ensures ends { IfOk result (λ o. o.jobs ≡ map end_value seats.entry.items) }
+        (IsOutcomeAfter state.now slots.entry.items trees.entry.items) }
+    ensures ends { IfOk result (λ o. o.jobs ≡ map end_value slots.entry.items) }
 {
-    let (jobs, nexts) = end_jobs(alloc, seats)?;
+    let (jobs, nexts) = end_jobs(alloc, slots)?;
     let mut after = state.copy()?;
     put_trees(&mut after, trees)?;
     put_archives(&mut after, nexts)?;

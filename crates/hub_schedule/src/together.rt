@@ -13,7 +13,7 @@ ghost use Rattle.hub_job.specs.declared.log.Logged.{Logged};
 ghost use Rattle.hub_job.specs.declared.op.Op.TheVariants.{Set};
 ghost use Rattle.hub_job.specs.History.{replay};
 ghost use Rattle.hub_schedule.specs.Owned.{IsItsOwn, NobodyWrites};
-ghost use Rattle.hub_job.specs.Same.{AreApart};
+ghost use Rattle.hub_job.specs.Same.{NoneClash};
 ghost use Rattle.hub_schedule.specs.Settled.{AreProfiles, IsSettled, IsAsAlone, IsSettledWorld};
 ghost use Rattle.hub_schedule.specs.Together.{left_at, LogsAreAlone, OthersAreLeftAlone, OwnPathsAreAlone, ElsewhereIsAsBefore, SetsAreAllowed};
 ghost use Rattle.hub_job.specs.World.{Jobs, log_of, run, opening};
@@ -34,7 +34,7 @@ pub fn a_run_settles()
 /// alone. No order between the histories of two replicas is used.
 pub fn agreeing_histories_are_as_alone()
     ensures { (J : Jobs) (replicas : Path → Replica) (histories : Path → List Entry)
-        (logs : ℕ → List Logged) (j : ℕ) (P : Parts) → AreApart J.profiles
+        (logs : ℕ → List Logged) (j : ℕ) (P : Parts) → NoneClash J.profiles
         → AreProfiles J.profiles → slice_get J.profiles j ≡ Some P
         → IsSettled J replicas histories logs → IsAsAlone J replicas histories logs j P }
 {
@@ -48,7 +48,7 @@ pub fn agreeing_histories_are_as_alone()
 pub fn each_set_is_its_own()
     ensures { (J : Jobs) (replicas : Path → Replica) (histories : Path → List Entry)
         (logs : ℕ → List Logged) (i : ℕ) (P : Parts) (r : Path) (k : ℕ) (e : Entry) (p : Path)
-        (c : Contents) → AreApart J.profiles → IsSettled J replicas histories logs
+        (c : Contents) → NoneClash J.profiles → IsSettled J replicas histories logs
         → slice_get J.profiles i ≡ Some P → IsTrue (has_root P r)
         → slice_get (histories r) k ≡ Some e → e.op ≡ Set p c → IsItsOwn J.profiles r e p }
 {
@@ -72,13 +72,13 @@ pub fn what_nobody_writes_stays()
 /// it was.
 pub fn jobs_leave_each_other_alone()
     ensures logs { (J : Jobs) (replicas : Path → Replica) (histories : Path → List Entry)
-        (logs : ℕ → List Logged) → AreApart J.profiles → AreProfiles J.profiles
+        (logs : ℕ → List Logged) → NoneClash J.profiles → AreProfiles J.profiles
         → IsSettled J replicas histories logs → LogsAreAlone J replicas logs }
     ensures others { (J : Jobs) (replicas : Path → Replica) (histories : Path → List Entry)
-        (logs : ℕ → List Logged) → AreApart J.profiles → IsSettled J replicas histories logs
+        (logs : ℕ → List Logged) → NoneClash J.profiles → IsSettled J replicas histories logs
         → OthersAreLeftAlone J replicas histories }
     ensures own { (J : Jobs) (replicas : Path → Replica) (histories : Path → List Entry)
-        (logs : ℕ → List Logged) → AreApart J.profiles → AreProfiles J.profiles
+        (logs : ℕ → List Logged) → NoneClash J.profiles → AreProfiles J.profiles
         → IsSettled J replicas histories logs
         → OwnPathsAreAlone J replicas (left_at replicas histories) logs }
     ensures elsewhere { (J : Jobs) (replicas : Path → Replica) (histories : Path → List Entry)
@@ -95,9 +95,9 @@ pub fn jobs_leave_each_other_alone()
 
 /// The same of the world after a schedule of turns. A replica of no profile is never changed.
 pub fn a_run_leaves_others_alone()
-    ensures others { (J : Jobs) (replicas : Path → Replica) (js : List ℕ) → AreApart J.profiles
+    ensures others { (J : Jobs) (replicas : Path → Replica) (js : List ℕ) → NoneClash J.profiles
         → OthersAreLeftAlone J replicas (run J js (opening J replicas)).history }
-    ensures own { (J : Jobs) (replicas : Path → Replica) (js : List ℕ) → AreApart J.profiles
+    ensures own { (J : Jobs) (replicas : Path → Replica) (js : List ℕ) → NoneClash J.profiles
         → AreProfiles J.profiles
         → OwnPathsAreAlone J replicas (run J js (opening J replicas)).replica
         (log_of (run J js (opening J replicas))) }

@@ -6,7 +6,7 @@ ghost use Rattle.hub_job.specs.Machine as machine;
 ghost use Rattle.hub_schedule.specs.Table.{AllWouldAsk, ArePlaced, IsIdle, IsTable, IsThinned, StayIdle, StayStopped, Taken, stopped_at, whole_rounds, with_job, with_tree};
 ghost use Rattle.hub_job.specs.World.{Jobs, World, turn};
 
-use crate::seat::{Seat, WorkingTree};
+use crate::slot::{Slot, WorkingTree};
 use hub_job::{Next, Op, perform};
 use hub_path::Side;
 use std::alloc::{AllocError, Global};
@@ -14,19 +14,19 @@ use std::alloc::{AllocError, Global};
 /// Lets the jobs take the turns of a schedule. A job that finds no memory is stopped, and loses the rest of its turns.
 pub(crate) fn take_turns(
     alloc: Global,
-    seats: &mut Vec<Seat<'_>>,
+    slots: &mut Vec<Slot<'_>>,
     trees: &mut Vec<WorkingTree<'_>>,
     schedule: &[usize],
 )
-    requires placed { ArePlaced seats.old.items trees.old.items }
-    requires numbers { All (λ j. j < length seats.old.items) schedule.now }
-    ensures turns { (J : Jobs) (w : World) → IsTable J w seats.old.items trees.old.items
-        → (v : World) × IsTable J v seats.new.items trees.new.items
-        × IsThinned J w v schedule.now (stopped_at seats.old.items) (stopped_at seats.new.items) }
-    ensures more { AllWouldAsk seats.old.items → AllWouldAsk seats.new.items }
+    requires placed { ArePlaced slots.old.items trees.old.items }
+    requires numbers { All (λ j. j < length slots.old.items) schedule.now }
+    ensures turns { (J : Jobs) (w : World) → IsTable J w slots.old.items trees.old.items
+        → (v : World) × IsTable J v slots.new.items trees.new.items
+        × IsThinned J w v schedule.now (stopped_at slots.old.items) (stopped_at slots.new.items) }
+    ensures more { AllWouldAsk slots.old.items → AllWouldAsk slots.new.items }
 {
     for number in schedule {
-        take_turn(alloc, seats, trees, *number);
+        take_turn(alloc, slots, trees, *number);
     }
 }
 
@@ -34,39 +34,39 @@ pub(crate) fn take_turns(
 /// It ends after a round in which no job asks, since none would ask later.
 pub(crate) fn take_rounds(
     alloc: Global,
-    seats: &mut Vec<Seat<'_>>,
+    slots: &mut Vec<Slot<'_>>,
     trees: &mut Vec<WorkingTree<'_>>,
     rounds: u64,
 )
-    requires { ArePlaced seats.old.items trees.old.items }
-    ensures turns { (J : Jobs) (w : World) → IsTable J w seats.old.items trees.old.items
-        → (v : World) × IsTable J v seats.new.items trees.new.items
-        × IsThinned J w v (whole_rounds (length seats.old.items) rounds)
-        (stopped_at seats.old.items) (stopped_at seats.new.items) }
-    ensures more { AllWouldAsk seats.old.items → AllWouldAsk seats.new.items }
+    requires { ArePlaced slots.old.items trees.old.items }
+    ensures turns { (J : Jobs) (w : World) → IsTable J w slots.old.items trees.old.items
+        → (v : World) × IsTable J v slots.new.items trees.new.items
+        × IsThinned J w v (whole_rounds (length slots.old.items) rounds)
+        (stopped_at slots.old.items) (stopped_at slots.new.items) }
+    ensures more { AllWouldAsk slots.old.items → AllWouldAsk slots.new.items }
 {
     for _ in 0..rounds {
-        if !take_round(alloc, seats, trees) {
+        if !take_round(alloc, slots, trees) {
             return;
         }
     }
 }
 
 /// Lets each job take a turn, in the order of their numbers. It returns whether one of them asked.
-fn take_round(alloc: Global, seats: &mut Vec<Seat<'_>>, trees: &mut Vec<WorkingTree<'_>>) -> bool
-    requires { ArePlaced seats.old.items trees.old.items }
-    ensures taken { (more : List ℕ) → Taken seats.old.items trees.old.items
-        (range_with_len 0 (length seats.old.items) ++ more) seats.new.items trees.new.items more }
-    ensures idle { result ≡ false → StayIdle (length seats.old.items)
-        seats.old.items trees.old.items seats.new.items trees.new.items }
-    ensures stays { StayStopped (stopped_at seats.old.items) (stopped_at seats.new.items) }
-    ensures placed { ArePlaced seats.new.items trees.new.items }
-    ensures count { length seats.new.items ≡ length seats.old.items }
-    ensures more { AllWouldAsk seats.old.items → AllWouldAsk seats.new.items }
+fn take_round(alloc: Global, slots: &mut Vec<Slot<'_>>, trees: &mut Vec<WorkingTree<'_>>) -> bool
+    requires { ArePlaced slots.old.items trees.old.items }
+    ensures taken { (more : List ℕ) → Taken slots.old.items trees.old.items
+        (range_with_len 0 (length slots.old.items) ++ more) slots.new.items trees.new.items more }
+    ensures idle { result ≡ false → StayIdle (length slots.old.items)
+        slots.old.items trees.old.items slots.new.items trees.new.items }
+    ensures stays { StayStopped (stopped_at slots.old.items) (stopped_at slots.new.items) }
+    ensures placed { ArePlaced slots.new.items trees.new.items }
+    ensures count { length slots.new.items ≡ length slots.old.items }
+    ensures more { AllWouldAsk slots.old.items → AllWouldAsk slots.new.items }
 {
     let mut asked = false;
-    for number in 0..seats.len() {
-        if take_turn(alloc, seats, trees, number) {
+    for number in 0..slots.len() {
+        if take_turn(alloc, slots, trees, number) {
             asked = true;
         }
     }
@@ -77,55 +77,55 @@ fn take_round(alloc: Global, seats: &mut Vec<Seat<'_>>, trees: &mut Vec<WorkingT
 /// finished job that has made a step isn't stopped.
 fn take_turn(
     alloc: Global,
-    seats: &mut Vec<Seat<'_>>,
+    slots: &mut Vec<Slot<'_>>,
     trees: &mut Vec<WorkingTree<'_>>,
     number: usize,
 ) -> bool
-    requires placed { ArePlaced seats.old.items trees.old.items }
-    requires number { number < length seats.old.items }
-    ensures turn { (J : Jobs) (w : World) → IsTable J w seats.old.items trees.old.items
-        → IsTable J (if stopped_at seats.new.items number then w else turn J number w)
-        seats.new.items trees.new.items }
-    ensures stays { StayStopped (stopped_at seats.old.items) (stopped_at seats.new.items) }
-    ensures others { (j : ℕ) → stopped_at seats.new.items j ≡ true
-        → stopped_at seats.old.items j ≡ false → j ≡ number }
+    requires placed { ArePlaced slots.old.items trees.old.items }
+    requires number { number < length slots.old.items }
+    ensures turn { (J : Jobs) (w : World) → IsTable J w slots.old.items trees.old.items
+        → IsTable J (if stopped_at slots.new.items number then w else turn J number w)
+        slots.new.items trees.new.items }
+    ensures stays { StayStopped (stopped_at slots.old.items) (stopped_at slots.new.items) }
+    ensures others { (j : ℕ) → stopped_at slots.new.items j ≡ true
+        → stopped_at slots.old.items j ≡ false → j ≡ number }
     ensures idle { result ≡ false → (J : Jobs) (w : World)
-        → IsTable J w seats.old.items trees.old.items
-        → IsIdle J w seats.new.items number }
-    ensures placed { ArePlaced seats.new.items trees.new.items }
-    ensures count { length seats.new.items ≡ length seats.old.items }
-    ensures more { AllWouldAsk seats.old.items → AllWouldAsk seats.new.items }
+        → IsTable J w slots.old.items trees.old.items
+        → IsIdle J w slots.new.items number }
+    ensures placed { ArePlaced slots.new.items trees.new.items }
+    ensures count { length slots.new.items ≡ length slots.old.items }
+    ensures more { AllWouldAsk slots.old.items → AllWouldAsk slots.new.items }
 {
-    let seat = &mut seats[number];
-    if let Next::Ask(side, op) = seat.job.turn() {
-        let place = seat.place(side);
-        answer(alloc, seat, &mut trees[place], side, &op);
+    let slot = &mut slots[number];
+    if let Next::Ask(side, op) = slot.job.turn() {
+        let place = slot.place(side);
+        answer(alloc, slot, &mut trees[place], side, &op);
         return true;
     }
     false
 }
 
 /// Gives a job the answer of a replica. If there is no memory, the job is stopped, and the replica is as it was.
-fn answer(alloc: Global, seat: &mut Seat<'_>, replica: &mut WorkingTree<'_>, side: Side, op: &Op)
-    requires going { seat.old.job.stopped ≡ false }
-    requires asks { seat.old.job.asked ≡ Some (record { side = side; op = op.now }) }
-    ensures lost { seat.new.job.stopped ≡ true
-        → (seat.new ≡ with_job seat.old (value.stopped_job seat.old.job))
+fn answer(alloc: Global, slot: &mut Slot<'_>, replica: &mut WorkingTree<'_>, side: Side, op: &Op)
+    requires going { slot.old.job.stopped ≡ false }
+    requires asks { slot.old.job.asked ≡ Some (record { side = side; op = op.now }) }
+    ensures lost { slot.new.job.stopped ≡ true
+        → (slot.new ≡ with_job slot.old (value.stopped_job slot.old.job))
         × (replica.new ≡ replica.old) }
-    ensures made { seat.new.job.stopped ≡ false
-        → (seat.new ≡ with_job seat.old (value.with_answer seat.old.job
+    ensures made { slot.new.job.stopped ≡ false
+        → (slot.new ≡ with_job slot.old (value.with_answer slot.old.job
         (record { side = side; op = op.now })
-        (machine.answer replica.old.tree seat.old.job.profile replica.old.root.now op.now)))
+        (machine.answer replica.old.tree slot.old.job.profile replica.old.root.now op.now)))
         × (replica.new ≡ with_tree replica.old (machine.after replica.old.tree op.now)) }
 {
     match perform(
         alloc,
-        seat.job.profile(),
+        slot.job.profile(),
         replica.root,
         &mut replica.tree,
         op,
     ) {
-        Ok(answer) => seat.job.take(answer),
-        Err(AllocError) => seat.job.stop(),
+        Ok(answer) => slot.job.take(answer),
+        Err(AllocError) => slot.job.stop(),
     }
 }

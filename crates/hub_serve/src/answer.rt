@@ -14,7 +14,7 @@ use hub_bundle::{
     BundleFault, BundleLineFault, Contents, InputFault, ReadError, read_bundle, read_input,
     read_sections,
 };
-use hub_cli::Asked;
+use hub_cli::Query;
 use hub_report::Report;
 use hub_text::Watched;
 use std::alloc::Global;
@@ -28,7 +28,7 @@ use std::thread::Threads;
 pub fn report_on<'a, T: Threads + Wait + Sync, R: Read, P: Progress + Sync>(
     rt: &T,
     alloc: Global,
-    asked: Asked<'a>,
+    asked: Query<'a>,
     input: &mut Watched<R>,
     progress: &P,
 ) -> Report<'a>
@@ -52,7 +52,7 @@ pub fn report_on<'a, T: Threads + Wait + Sync, R: Read, P: Progress + Sync>(
 fn report_on_bytes<'a, T: Threads + Wait + Sync, P: Progress + Sync>(
     rt: &T,
     alloc: Global,
-    asked: Asked<'a>,
+    asked: Query<'a>,
     bytes: Vec<u8>,
     progress: &P,
 ) -> Report<'a>
@@ -86,7 +86,7 @@ fn contents_in<'a>(alloc: Global, bytes: Vec<u8>) -> Result<Contents, Report<'a>
 fn report_on_contents<'a, T: Threads + Wait + Sync, P: Progress + Sync>(
     rt: &T,
     alloc: Global,
-    asked: Asked<'a>,
+    asked: Query<'a>,
     contents: Contents,
     progress: &P,
 ) -> Report<'a>
@@ -94,8 +94,8 @@ fn report_on_contents<'a, T: Threads + Wait + Sync, P: Progress + Sync>(
     ensures read { unread_by result ≡ None }
 {
     match asked {
-        Asked::About(question) => report_on_set(rt, alloc, question, contents, progress),
-        Asked::Reach { profile, path } => report_on_reach(alloc, &contents, profile, path),
+        Query::About(question) => report_on_set(rt, alloc, question, contents, progress),
+        Query::Reach { profile, path } => report_on_reach(alloc, &contents, profile, path),
     }
 }
 

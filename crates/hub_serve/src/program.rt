@@ -12,7 +12,7 @@ ghost use Rattle.hub_serve.specs.Report.{Answers, AnswersNothing, Serves, Writes
 use crate::answer::report_on;
 use crate::laws::what_is_shown_is_not_safe;
 use crate::progress::Progress;
-use hub_cli::{Asked, Error, ErrorKind, read_words};
+use hub_cli::{Error, ErrorKind, Query, read_words};
 use hub_report::{Blocks, OUT_OF_MEMORY};
 use hub_text::Watched;
 use std::alloc::Global;
@@ -129,7 +129,7 @@ pub fn refuse_unread<T: Eprint, W: Write>(rt: &T, error: &io::Error, output: &mu
 fn answer<T: Eprint + Threads + Wait + Sync, R: Read, W: Write, P: Progress + Sync>(
     rt: &T,
     alloc: Global,
-    asked: Asked<'_>,
+    asked: Query<'_>,
     input: &mut Watched<R>,
     output: &mut Watched<W>,
     progress: &P,

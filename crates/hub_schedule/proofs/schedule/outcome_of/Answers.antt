@@ -10,29 +10,29 @@ use Rattle.hub_schedule.proofs.schedule.outcome_of.Goals as goal
 pub put_archives-requires : goal.put_archives-requires
 put_archives-requires c =
     let t = c.requires in
-    subst AreKept (sym c.in_ok-jobs.ensures.nexts) (all_kept t.0 t.1 c.args.seats.items c.args.trees.items t.2)
+    subst AreKept (sym c.in_ok-jobs.ensures.nexts) (all_kept t.0 t.1 c.args.slots.items c.args.trees.items t.2)
 
 pub returns : goal.returns
 returns c =
     let S = c.args.state.now in
-    let seats = c.args.seats.items in
+    let slots = c.args.slots.items in
     let trees = c.args.trees.items in
     let after = c.put_archives.new.state in
     let o : Outcome = record { state = after; jobs = c.in_ok-jobs.jobs } in
     let put : c.put_trees.new.state ≡ fold put_tree S trees = c.in_ok-put_trees.ensures ∙ ap (λ (s : State). fold put_tree s trees) c.in_ok-after.ensures in
-    let there : HasArchives (one_is_left (map next_value seats)) (fold put_tree S trees) after =
-    subst (λ (s : State). HasArchives (one_is_left (map next_value seats)) s after) put
+    let there : HasArchives (one_is_left (map next_value slots)) (fold put_tree S trees) after =
+    subst (λ (s : State). HasArchives (one_is_left (map next_value slots)) s after) put
     (subst (λ ns. HasArchives (one_is_left ns) c.put_trees.new.state after) c.in_ok-jobs.ensures.nexts c.in_ok-put_archives.ensures.archives) in
-    let marks : HasMarks (mark_from (map next_value seats)) (fold put_tree S trees) after =
-    subst (λ (s : State). HasMarks (mark_from (map next_value seats)) s after) put
+    let marks : HasMarks (mark_from (map next_value slots)) (fold put_tree S trees) after =
+    subst (λ (s : State). HasMarks (mark_from (map next_value slots)) s after) put
     (subst (λ ns. HasMarks (mark_from ns) c.put_trees.new.state after) c.in_ok-jobs.ensures.nexts c.in_ok-put_archives.ensures.marks) in
     record {
       outcome = (
         λ Ps w has table.
-            joined S Ps has w seats trees table o c.in_ok-jobs.ensures.ends
+            joined S Ps has w slots trees table o c.in_ok-jobs.ensures.ends
             (c.in_ok-put_archives.ensures.replicas ∙ ap (λ (s : State). s.replicas) put) there marks,
-        went_on seats o c.in_ok-jobs.ensures.ends,
-        was_stopped S seats trees o c.in_ok-jobs.ensures.ends,
+        went_on slots o c.in_ok-jobs.ensures.ends,
+        was_stopped S slots trees o c.in_ok-jobs.ensures.ends,
       );
       ends = c.in_ok-jobs.ensures.ends;
     }

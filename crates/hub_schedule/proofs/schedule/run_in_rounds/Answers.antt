@@ -8,12 +8,12 @@ use Rattle.hub_schedule.proofs.schedule.run_in_rounds.Goals as goal
 
 pub take_rounds-requires : goal.take_rounds-requires
 take_rounds-requires c = λ j s k e.
-    let p = (c.in_ok-seats.ensures.table.each j s e).places k in slice_get_within c.in_ok-seats.trees.items (place_on s k) p.0 p.1
+    let p = (c.in_ok-slots.ensures.table.each j s e).places k in slice_get_within c.in_ok-slots.trees.items (place_on s k) p.0 p.1
 
 pub outcome_of-requires : goal.outcome_of-requires
 outcome_of-requires c =
     let J = jobs_of c.args.state.now c.args.profiles.now in
-    let t = c.take_rounds.ensures.turns J (opening J (replicas_of c.args.state.now)) c.in_ok-seats.ensures.table in
+    let t = c.take_rounds.ensures.turns J (opening J (replicas_of c.args.state.now)) c.in_ok-slots.ensures.table in
     (J, t.0, t.1)
 
 pub returns : goal.returns
@@ -21,8 +21,8 @@ returns c =
     let S = c.args.state.now in
     let Ps = c.args.profiles.now in
     let J = jobs_of S Ps in
-    let t = c.take_rounds.ensures.turns J (opening J (replicas_of S)) c.in_ok-seats.ensures.table in
-    after_turns S Ps t.0 (whole_rounds (length Ps) c.args.rounds) (stopped_at c.in_ok-seats.seats.items) c.take_rounds.new.seats.items c.take_rounds.new.trees.items c.outcome_of.result c.in_ok-seats.ensures.going
-    (c.take_rounds.ensures.more (none_stopped c.in_ok-seats.seats.items c.in_ok-seats.ensures.going)) c.requires t.1
-    (subst (λ n. IsThinned J (opening J (replicas_of S)) t.0 (whole_rounds n c.args.rounds) (stopped_at c.in_ok-seats.seats.items) (stopped_at c.take_rounds.new.seats.items)) c.in_ok-seats.ensures.table.count t.2)
+    let t = c.take_rounds.ensures.turns J (opening J (replicas_of S)) c.in_ok-slots.ensures.table in
+    after_turns S Ps t.0 (whole_rounds (length Ps) c.args.rounds) (stopped_at c.in_ok-slots.slots.items) c.take_rounds.new.slots.items c.take_rounds.new.trees.items c.outcome_of.result c.in_ok-slots.ensures.going
+    (c.take_rounds.ensures.more (none_stopped c.in_ok-slots.slots.items c.in_ok-slots.ensures.going)) c.requires t.1
+    (subst (λ n. IsThinned J (opening J (replicas_of S)) t.0 (whole_rounds n c.args.rounds) (stopped_at c.in_ok-slots.slots.items) (stopped_at c.take_rounds.new.slots.items)) c.in_ok-slots.ensures.table.count t.2)
     c.outcome_of.ensures.outcome

@@ -8,7 +8,7 @@ use Rattle.hub_schedule.proofs.turn.take_round.Goals.{then-take_turn, else-take_
 
 pub loop-number-init : goal.loop-number-init
 loop-number-init c =
-    let s0 = c.args.seats.now.items in
+    let s0 = c.args.slots.now.items in
     let t0 = c.args.trees.now.items in
     let n = length s0 in
     record {
@@ -22,16 +22,16 @@ loop-number-init c =
 
 pub loop-number-preserved : goal.loop-number-preserved
 loop-number-preserved c =
-    let s0 = c.args.seats.now.items in
+    let s0 = c.args.slots.now.items in
     let t0 = c.args.trees.now.items in
-    let s1 = c.loop-number.seats.items in
+    let s1 = c.loop-number.slots.items in
     let t1 = c.loop-number.trees.items in
-    let s2 = c.take_turn.new.seats.items in
+    let s2 = c.take_turn.new.slots.items in
     let t2 = c.take_turn.new.trees.items in
     let n = length s0 in
     let j = c.loop-number.number in
     let inv = c.loop-number.invariant in
-    let below : j < n = omega (arith, c.loop-number-test.true, c.len-number-end.ensures, c.args.seats.now.ok.0) in
+    let below : j < n = omega (arith, c.loop-number-test.true, c.len-number-end.ensures, c.args.slots.now.ok.0) in
     record {
       taken = λ more.
           taken_more s0 s1 s2 t0 t1 t2 (range_with_len 0 n ++ more) (range_with_len (j + 1) (n - (j + 1)) ++ more) j
@@ -49,14 +49,14 @@ loop-number-preserved c =
 
 pub returns : goal.returns
 returns c =
-    let s0 = c.args.seats.now.items in
+    let s0 = c.args.slots.now.items in
     let t0 = c.args.trees.now.items in
-    let s1 = c.loop-number.seats.items in
+    let s1 = c.loop-number.slots.items in
     let t1 = c.loop-number.trees.items in
     let n = length s0 in
     let j = c.loop-number.number in
     let inv = c.loop-number.invariant in
-    let over : n ≤ j = omega (arith, c.loop-number-test.false, c.len-number-end.ensures, c.args.seats.now.ok.0) in
+    let over : n ≤ j = omega (arith, c.loop-number-test.false, c.len-number-end.ensures, c.args.slots.now.ok.0) in
     record {
       taken = λ more. subst (λ ks. Taken s0 t0 (range_with_len 0 n ++ more) s1 t1 ks) (no_turns_left n j more over) (inv.taken more);
       idle = λ e J w table. let x = inv.idle e J w table in (x.0, λ i h. x.1 i (omega (arith, h, over)));

@@ -6,7 +6,7 @@ use Rattle.hub_schedule.proofs.turn.take_rounds.Goals as goal
 
 pub loop-init : goal.loop-init
 loop-init c =
-    let s0 = c.args.seats.now.items in
+    let s0 = c.args.slots.now.items in
     let n = length s0 in
     record {
       taken = taken_same s0 c.args.trees.now.items (whole_rounds n c.args.rounds) (whole_rounds n (c.args.rounds - 0)) (all_rounds_left n c.args.rounds);
@@ -17,11 +17,11 @@ loop-init c =
 
 pub loop-preserved : goal.loop-preserved
 loop-preserved c =
-    let s0 = c.args.seats.now.items in
+    let s0 = c.args.slots.now.items in
     let t0 = c.args.trees.now.items in
-    let s1 = c.loop.seats.items in
+    let s1 = c.loop.slots.items in
     let t1 = c.loop.trees.items in
-    let s2 = c.take_round.new.seats.items in
+    let s2 = c.take_round.new.slots.items in
     let t2 = c.take_round.new.trees.items in
     let n = length s0 in
     let all = whole_rounds n c.args.rounds in
@@ -39,9 +39,9 @@ loop-preserved c =
 
 pub returns-clause-turns : goal.returns-clause-turns
 returns-clause-turns c =
-    let s0 = c.args.seats.now.items in
+    let s0 = c.args.slots.now.items in
     let t0 = c.args.trees.now.items in
-    let s1 = c.loop.seats.items in
+    let s1 = c.loop.slots.items in
     let t1 = c.loop.trees.items in
     let n = length s0 in
     let all = whole_rounds n c.args.rounds in
@@ -52,11 +52,11 @@ returns-then-not-take_round-clause-more c = λ h. c.take_round.ensures.more (c.l
 
 pub returns-then-not-take_round-clause-turns : goal.returns-then-not-take_round-clause-turns
 returns-then-not-take_round-clause-turns c =
-    let s0 = c.args.seats.now.items in
+    let s0 = c.args.slots.now.items in
     let t0 = c.args.trees.now.items in
-    let s1 = c.loop.seats.items in
+    let s1 = c.loop.slots.items in
     let t1 = c.loop.trees.items in
-    let s2 = c.take_round.new.seats.items in
+    let s2 = c.take_round.new.slots.items in
     let t2 = c.take_round.new.trees.items in
     let n = length s0 in
     let some : 0 < c.args.rounds - c.loop.counter = omega (arith, c.loop-test.true) in

@@ -9,7 +9,7 @@ use Rattle.hub_schedule.proofs.turn.take_turns.Goals as goal
 
 pub loop-number-preserved : goal.loop-number-preserved
 loop-number-preserved c =
-    let seats = c.args.seats.now.items in
+    let slots = c.args.slots.now.items in
     let trees = c.args.trees.now.items in
     let js = c.args.schedule.now in
     let n = c.loop-number.number-index in
@@ -17,8 +17,8 @@ loop-number-preserved c =
     let j : ℕ = slice_index_or js n 0 in
     let at = slice_get-get_or js n 0 c.loop-number-test.true in
     record {
-      taken = taken_more seats c.loop-number.seats.items c.take_turn.new.seats.items trees c.loop-number.trees.items c.take_turn.new.trees.items js (drop (n + 1) js) j
-          (subst (λ ks. Taken seats trees js c.loop-number.seats.items c.loop-number.trees.items ks) (drop_at js n j at) inv.taken)
+      taken = taken_more slots c.loop-number.slots.items c.take_turn.new.slots.items trees c.loop-number.trees.items c.take_turn.new.trees.items js (drop (n + 1) js) j
+          (subst (λ ks. Taken slots trees js c.loop-number.slots.items c.loop-number.trees.items ks) (drop_at js n j at) inv.taken)
           c.take_turn.ensures.turn c.take_turn.ensures.stays c.take_turn.ensures.others;
       placed = c.take_turn.ensures.placed;
       count = c.take_turn.ensures.count ∙ inv.count;
@@ -27,10 +27,10 @@ loop-number-preserved c =
 
 pub returns-clause-turns : goal.returns-clause-turns
 returns-clause-turns c =
-    let seats = c.args.seats.now.items in
+    let slots = c.args.slots.now.items in
     let trees = c.args.trees.now.items in
     let js = c.args.schedule.now in
     let n = c.loop-number.number-index in
     let over : length js ≤ n = c.loop-number-test.false in
-    taken_all seats c.loop-number.seats.items trees c.loop-number.trees.items js
-    (subst (λ ks. Taken seats trees js c.loop-number.seats.items c.loop-number.trees.items ks) (drop_all n js over) c.loop-number.invariant.taken)
+    taken_all slots c.loop-number.slots.items trees c.loop-number.trees.items js
+    (subst (λ ks. Taken slots trees js c.loop-number.slots.items c.loop-number.trees.items ks) (drop_all n js over) c.loop-number.invariant.taken)

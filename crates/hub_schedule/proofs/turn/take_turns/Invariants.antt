@@ -4,8 +4,8 @@ use Rattle.hub_schedule.proofs.turn.take_turns.Given as goal
 
 abbrev pub invariant-loop-number : goal.invariant-loop-number
 invariant-loop-number l = record {
-  taken : Taken l.initial.seats.items l.initial.trees.items l.schedule l.seats.items l.trees.items (drop l.number-index l.schedule);
-  placed : ArePlaced l.seats.items l.trees.items;
-  count : length l.seats.items ≡ length l.initial.seats.items;
-  more : AllWouldAsk l.initial.seats.items → AllWouldAsk l.seats.items;
+  taken : Taken l.initial.slots.items l.initial.trees.items l.schedule l.slots.items l.trees.items (drop l.number-index l.schedule);
+  placed : ArePlaced l.slots.items l.trees.items;
+  count : length l.slots.items ≡ length l.initial.slots.items;
+  more : AllWouldAsk l.initial.slots.items → AllWouldAsk l.slots.items;
 }

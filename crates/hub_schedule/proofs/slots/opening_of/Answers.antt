@@ -3,7 +3,7 @@ use Rattle.std.specs.Prelude.{unwrap_or}
 use Rattle.std.specs.FinMap as fin
 use Rattle.hub_reconcile.specs.Sync.{root_or_top}
 use Rattle.hub_state.specs.State.{archive_at}
-use Rattle.hub_schedule.proofs.seats.opening_of.Goals as goal
+use Rattle.hub_schedule.proofs.slots.opening_of.Goals as goal
 
 pub returns : goal.returns
 returns c =

@@ -1,6 +1,6 @@
 use Rattle.std.proofs.Common.{◌∙◌}
 use Rattle.hub_schedule.proofs.Places.{both_put, left_is, right_is}
-use Rattle.hub_schedule.proofs.seats.seat_for.Goals as goal
+use Rattle.hub_schedule.proofs.slots.slot_for.Goals as goal
 
 pub returns-clause-left : goal.returns-clause-left
 returns-clause-left c =

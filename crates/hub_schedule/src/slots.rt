@@ -1,13 +1,13 @@
 //! The jobs of profiles, and the replicas that they change.
 ghost use Rattle.std.specs.Prelude.{◌≡◌, ◌⊎◌, ℕ, false, Some, MatchOption, length, slice_get, IfOk, OnOk};
 ghost use Rattle.hub_path.specs.declared.side.Side.TheVariants as of_side;
-ghost use Rattle.hub_schedule.specs.declared.seat.WorkingTree.{WorkingTree};
+ghost use Rattle.hub_schedule.specs.declared.slot.WorkingTree.{WorkingTree};
 ghost use Rattle.hub_job.specs.Outcome.{archive_of, jobs_of, replicas_of};
 ghost use Rattle.hub_job.specs.Run.{root_at};
 ghost use Rattle.hub_schedule.specs.Table.{AreTrees, Extends, IsNew, IsNotIn, IsPlaced, IsTable, stopped_at};
 ghost use Rattle.hub_job.specs.World.{opening};
 
-use crate::seat::{Seat, WorkingTree};
+use crate::slot::{Slot, WorkingTree};
 use hub_job::Job;
 use hub_path::{Root, Side};
 use hub_profile::Profile;
@@ -17,34 +17,34 @@ use std::alloc::{AllocError, Global};
 
 /// Makes the jobs of the profiles, by number, and a working copy of each replica that they have. A replica that the state
 /// lacks is empty, and so is an archive.
-pub(crate) fn seats_for<'a>(
+pub(crate) fn slots_for<'a>(
     alloc: Global,
     profiles: &'a [Profile],
     state: &'a State,
-) -> Result<(Vec<Seat<'a>>, Vec<WorkingTree<'a>>), AllocError>
+) -> Result<(Vec<Slot<'a>>, Vec<WorkingTree<'a>>), AllocError>
     ensures table { IfOk result (λ r. IsTable (jobs_of state.now profiles.now)
         (opening (jobs_of state.now profiles.now) (replicas_of state.now)) r.0.items r.1.items) }
     ensures going { IfOk result (λ r. (j : ℕ) → stopped_at r.0.items j ≡ false) }
 {
-    let mut seats = Vec::new(alloc);
+    let mut slots = Vec::new(alloc);
     let mut trees = Vec::new(alloc);
     for profile in profiles {
-        let seat = seat_for(alloc, seats.len(), profile, state, &mut trees)?;
-        seats.push(seat)?;
+        let slot = slot_for(alloc, slots.len(), profile, state, &mut trees)?;
+        slots.push(slot)?;
     }
-    Ok((seats, trees))
+    Ok((slots, trees))
 }
 
 /// Makes a job, and a working copy of each of its replicas, unless it is there.
-fn seat_for<'a>(
+fn slot_for<'a>(
     alloc: Global,
     number: usize,
     profile: &'a Profile,
     state: &'a State,
     trees: &mut Vec<WorkingTree<'a>>,
-) -> Result<Seat<'a>, AllocError>
+) -> Result<Slot<'a>, AllocError>
     requires { AreTrees (replicas_of state.now) trees.old.items }
-    ensures seat { IfOk result (λ s.
+    ensures slot { IfOk result (λ s.
         IsNew number profile.now (archive_of state.now (Some profile.now)) s) }
     ensures left { IfOk result
         (λ s. IsPlaced trees.new.items (root_at profile.now of_side.Left) s.left) }
@@ -57,7 +57,7 @@ fn seat_for<'a>(
     let left = place_for(alloc, state, &roots[0], trees)?;
     let right = place_for(alloc, state, &roots[1], trees)?;
     let job = Job::new(alloc, number, profile, opening_of(profile, state))?;
-    Ok(Seat { job, left, right })
+    Ok(Slot { job, left, right })
 }
 
 /// Returns the number of a root's replica, and makes a working copy of it first, unless it is there.

@@ -2,11 +2,11 @@ use Rattle.std.proofs.Common.{refl, ap, sym, ◌∙◌, subst}
 use Rattle.hub_path.specs.declared.side.Side.TheVariants.{Left, Right}
 use Rattle.hub_profile.specs.Parts.{Parts, IsProfile}
 use Rattle.hub_job.specs.Run.{root_at}
-use Rattle.hub_schedule.specs.declared.seat.Seat.{Seat}
+use Rattle.hub_schedule.specs.declared.slot.Slot.{Slot}
 use Rattle.hub_schedule.specs.Table.{IsPlaced}
 use Rattle.hub_schedule.proofs.EndedJobs.{on_both_sides}
 use Rattle.hub_schedule.proofs.Places.{left_is, right_is}
-use Rattle.hub_schedule.proofs.ended.seat_of.Goals as goal
+use Rattle.hub_schedule.proofs.ended.slot_of.Goals as goal
 
 pub place_of-left-requires : goal.place_of-left-requires
 place_of-left-requires c =
@@ -40,7 +40,7 @@ returns c =
     let rs = c.roots-roots.result.now in
     let facts = c.roots-roots.ensures.valid in
     let is = c.roots-roots.ensures.value in
-    let s : Seat = record { job = c.args.job; left = c.place_of-left.result; right = c.place_of-right.result } in
+    let s : Slot = record { job = c.args.job; left = c.place_of-left.result; right = c.place_of-right.result } in
     let left = left_is P facts rs is c.index-roots-0.result ∙ ap (λ (Q : Parts). root_at Q Left) c.profile.ensures in
     let right = right_is P facts rs is c.index-roots-1.result ∙ ap (λ (Q : Parts). root_at Q Right) c.profile.ensures in
     record {

@@ -16,7 +16,7 @@ pub struct WorkingTree<'a> {
 
 /// A job among others.
 #[derive(Drop)]
-pub(crate) struct Seat<'a> {
+pub(crate) struct Slot<'a> {
     /// The job.
     pub(crate) job: Job<'a>,
     /// The number of its left replica in the list of replicas.
@@ -25,7 +25,7 @@ pub(crate) struct Seat<'a> {
     pub(crate) right: usize,
 }
 
-impl<'a> Seat<'a> {
+impl<'a> Slot<'a> {
     /// Returns the number of the job's replica on that side.
     pub(crate) fn place(&self, side: Side) -> usize
         ensures { result ≡ place_on self.now side }

@@ -3,9 +3,9 @@ use Rattle.std.proofs.lemmas.Bool.{false≢true}
 use Rattle.std.proofs.lemmas.Option.{slice_get_read}
 use Rattle.hub_reconcile.specs.Laws.Views.{same_paths}
 use Rattle.hub_job.specs.Laws.Untouched.{path_itself}
-use Rattle.hub_schedule.specs.declared.seat.WorkingTree.{WorkingTree}
+use Rattle.hub_schedule.specs.declared.slot.WorkingTree.{WorkingTree}
 use Rattle.hub_schedule.specs.Laws.Lists.{also_here}
-use Rattle.hub_schedule.proofs.seats.find_tree.Goals as goal
+use Rattle.hub_schedule.proofs.slots.find_tree.Goals as goal
 
 pub returns-then-eq : goal.returns-then-eq
 returns-then-eq c =

@@ -1,5 +1,5 @@
 -- The graph of a set for Graphviz: its profiles, their roots, and what clashes.
-use Rattle.std.specs.Prelude.{ℕ, ◌+◌, ◌==◌, Bool, false, not, ◌&&◌, ◌||◌, if◌then◌else◌}
+use Rattle.std.specs.Prelude.{ℕ, ◌+◌, ◌==◌, Bool, false, ◌&&◌, ◌||◌, if◌then◌else◌}
 use Rattle.std.specs.Prelude.{List, [], ◌∷◌, ◌++◌, Option, None, Some}
 use Rattle.std.specs.Prelude.{codes, chars, encode_utf8, encode_utf8_all}
 use Rattle.std.specs.BTreeSet.{insert_key}
@@ -40,16 +40,20 @@ head_text =
     ∷ codes "    node [fontname = \"sans-serif\"];\n"
     ∷ codes "    edge [fontname = \"sans-serif\"];\n" ∷ [])
 
--- The box of a profile of that name; and the line from it to a root.
+-- The box of a profile of that name.
 unfoldable pub box_line : List ℕ → List ℕ → List ℕ
 box_line style name =
     joined (codes "    \"profile " ∷ name ∷ codes "\" [shape = box, label = \"" ∷ name ∷ codes "\""
     ∷ style ∷ codes "];\n" ∷ [])
 
+-- The line that joins a profile to a node of that kind and name, in that style; and to a root.
+unfoldable pub edge : List ℕ → List ℕ → List ℕ → List ℕ → List ℕ
+edge name kind node style =
+    joined (codes "    \"profile " ∷ name ∷ codes "\" -- \"" ∷ kind ∷ codes " " ∷ node
+    ∷ codes "\" [" ∷ style ∷ codes "];\n" ∷ [])
+
 unfoldable pub root_edge : List ℕ → List ℕ → List ℕ
-root_edge name root =
-    joined (codes "    \"profile " ∷ name ∷ codes "\" -- \"root " ∷ root
-    ∷ codes "\" [color = gray50];\n" ∷ [])
+root_edge name root = edge name (codes "root") root (codes "color = gray50")
 
 -- The root of a profile on that side.
 abbrev pub root_at : Parts → Side → List ℕ
@@ -122,10 +126,8 @@ red_edge writer other path =
     joined (codes "    \"profile " ∷ writer ∷ codes "\" -- \"profile " ∷ other
     ∷ codes "\" [color = red, fontcolor = red, label = \"" ∷ path ∷ codes "\"];\n" ∷ [])
 
-unfoldable pub dashed_edge : List ℕ → List ℕ → List ℕ
-dashed_edge writer other =
-    joined (codes "    \"profile " ∷ writer ∷ codes "\" -- \"profile " ∷ other
-    ∷ codes "\" [color = red, style = dashed];\n" ∷ [])
+abbrev pub dashed_edge : List ℕ → List ℕ → List ℕ
+dashed_edge writer other = edge writer (codes "profile") other (codes "color = red, style = dashed")
 
 -- The name of the profile of that number.
 abbrev pub name_shown : List Parts → ℕ → List ℕ

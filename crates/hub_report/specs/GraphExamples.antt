@@ -8,14 +8,14 @@ use Rattle.hub_cert.specs.declared.fault.CheckFault.{CheckFault}
 use Rattle.hub_cert.specs.declared.fault.CheckFault.TheVariants as fault
 use Rattle.hub_cert.specs.declared.goal.Goal.TheVariants as goal
 use Rattle.hub_cert.specs.declared.goal.Place.TheVariants.{Replica}
-use Rattle.hub_report.specs.Graph.{box_line, box_style, dashed_edge, escaped, folder_line}
+use Rattle.hub_report.specs.Graph.{box_line, box_style, edge, escaped, folder_line}
 use Rattle.hub_report.specs.Graph.{graph_text, joining_lines, red_edge, root_edge, roots_of}
 use Rattle.hub_report.specs.JobsExamples.{profile_of}
 use lib.Utf8.{encode}
 
 -- What these examples compute.
 computed : ⊤
-unfolding chars encode escaped box_line root_edge folder_line red_edge dashed_edge
+unfolding chars encode escaped box_line edge root_edge folder_line red_edge
 computed = tt
 
 abbrev docs : Parts

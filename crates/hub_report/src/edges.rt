@@ -2,7 +2,7 @@
 ghost use Rattle.std.specs.Prelude.{◌≡◌, ◌++◌, not, string_bytes, IfOk, OnOk, Some};
 ghost use Rattle.hub_report.specs.Graph as graph;
 
-use crate::graph::escaped;
+use crate::graph::{escaped, push_edge};
 use crate::parts::push_all;
 use crate::refusal::name_at;
 use crate::undecided::{Pair, undecided_in};
@@ -182,7 +182,13 @@ fn push_undecided(
 {
     let writer = name_shown(alloc, profiles, pair.writer)?;
     let other = name_shown(alloc, profiles, pair.other)?;
-    push_dashed_edge(text, writer.as_str(), other.as_str())
+    push_edge(
+        text,
+        writer.as_str(),
+        "profile",
+        other.as_str(),
+        "color = red, style = dashed",
+    )
 }
 
 /// The name of the profile of that number, as it stands between quotes.
@@ -208,24 +214,6 @@ fn push_red_edge(text: &mut String, writer: &str, other: &str, path: &str) -> Re
             "\" [color = red, fontcolor = red, label = \"",
             path,
             "\"];\n",
-        ],
-    )
-}
-
-/// Adds the dashed line that joins two profiles of these names.
-#[tactic(auto, unfolding(crate::specs::Graph::dashed_edge))]
-fn push_dashed_edge(text: &mut String, writer: &str, other: &str) -> Result<(), AllocError>
-    ensures { OnOk result (string_bytes text.new
-        ≡ string_bytes text.old ++ graph.dashed_edge writer.now other.now) }
-{
-    push_all(
-        text,
-        &[
-            "    \"profile ",
-            writer,
-            "\" -- \"profile ",
-            other,
-            "\" [color = red, style = dashed];\n",
         ],
     )
 }

@@ -124,14 +124,33 @@ fn push_root_edge(text: &mut String, name: &str, root: &str) -> Result<(), Alloc
     ensures { OnOk result (string_bytes text.new
         ≡ string_bytes text.old ++ graph.root_edge name.now root.now) }
 {
+    push_edge(text, name, "root", root, "color = gray50")
+}
+
+/// Adds the line that joins a profile to a node of that kind and name, in that style.
+#[tactic(auto, unfolding(crate::specs::Graph::edge))]
+pub(crate) fn push_edge(
+    text: &mut String,
+    name: &str,
+    kind: &str,
+    node: &str,
+    style: &str,
+) -> Result<(), AllocError>
+    ensures { OnOk result (string_bytes text.new
+        ≡ string_bytes text.old ++ graph.edge name.now kind.now node.now style.now) }
+{
     push_all(
         text,
         &[
             "    \"profile ",
             name,
-            "\" -- \"root ",
-            root,
-            "\" [color = gray50];\n",
+            "\" -- \"",
+            kind,
+            " ",
+            node,
+            "\" [",
+            style,
+            "];\n",
         ],
     )
 }

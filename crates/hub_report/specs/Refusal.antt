@@ -126,6 +126,21 @@ alphabet_line automaton.TooManyCharacters = codes "refused: TooManyCharacters\n"
 alphabet_line automaton.TooManySpots = codes "refused: TooManySpots\n"
 alphabet_line automaton.OutOfMemory = codes "fault: out of memory\n"
 
+-- The line of a fault that shows a path, or nothing for another fault.
+abbrev pub shown_line : Members → CheckFault → List ℕ
+shown_line S (fault.Overlap w o place held path) = overlap_line S.profiles w o place held path
+shown_line S (fault.Breach p r path) = breach_line S p r path
+shown_line S _ = []
+
+-- The line of a fault of a goal, or nothing for another fault.
+abbrev pub line_of_goal : List Goal → CheckFault → List ℕ
+line_of_goal gs (fault.TooLarge g) = too_large_line (number_of gs g) STAGES
+line_of_goal gs (fault.Missing g) = goal_line (number_of gs g) (codes "Missing")
+line_of_goal gs (fault.NoStart g) = goal_line (number_of gs g) (codes "NoStart")
+line_of_goal gs (fault.NotClosed g k class) = goal_line (number_of gs g) (not_closed k class)
+line_of_goal gs (fault.Accepting g k) = goal_line (number_of gs g) (accepting k)
+line_of_goal gs _ = []
+
 -- The line of a fault, by what its numbers stand for: profiles, rules and goals.
 abbrev pub fault_line : Members → List Goal → CheckFault → List ℕ
 fault_line S gs fault.TooManyProfiles = codes "refused: TooManyProfiles\n"
@@ -134,19 +149,16 @@ fault_line S gs (fault.SameName name) =
 fault_line S gs (fault.NestedRoots r s) =
     joined (codes "refused: NestedRoots " ∷ root_text r ∷ codes " and " ∷ root_text s ∷ codes "\n"
     ∷ [])
-fault_line S gs (fault.Overlap w o place held path) = overlap_line S.profiles w o place held path
-fault_line S gs (fault.Breach p r path) = breach_line S p r path
-fault_line S gs (fault.TooLarge g) = too_large_line (number_of gs g) STAGES
-fault_line S gs (fault.Missing g) = goal_line (number_of gs g) (codes "Missing")
-fault_line S gs (fault.NoStart g) = goal_line (number_of gs g) (codes "NoStart")
-fault_line S gs (fault.NotClosed g k class) = goal_line (number_of gs g) (not_closed k class)
-fault_line S gs (fault.Accepting g k) = goal_line (number_of gs g) (accepting k)
+fault_line S gs (fault.Overlap w o place held path) =
+    shown_line S (fault.Overlap w o place held path)
+fault_line S gs (fault.Breach p r path) = shown_line S (fault.Breach p r path)
 fault_line S gs (fault.Stray i) =
     joined (codes "refused: certificate " ∷ decimal i ∷ codes " Stray\n" ∷ [])
 fault_line S gs (fault.BadText line) =
     joined (codes "fault: certificates line " ∷ decimal line ∷ codes ": BadText\n" ∷ [])
 fault_line S gs (fault.AlphabetFault e) = alphabet_line e
 fault_line S gs fault.OutOfMemory = codes "fault: out of memory\n"
+fault_line S gs e = line_of_goal gs e
 
 -- The line of a fault of a set.
 abbrev pub refusal_line : Members → CheckFault → List ℕ

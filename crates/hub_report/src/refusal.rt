@@ -85,10 +85,30 @@ fn fault_line(
 {
     match fault {
         CheckFault::TooManyProfiles => String::from_str(alloc, "refused: TooManyProfiles\n"),
-        CheckFault::SameName { name } => {
-            joined(alloc, &["refused: SameName ", name.text(), "\n"])
-        }
+        CheckFault::SameName { name } => joined(alloc, &["refused: SameName ", name.text(), "\n"]),
         CheckFault::NestedRoots { first, second } => nested_line(alloc, first, second),
+        CheckFault::Overlap { .. } | CheckFault::Breach { .. } => {
+            shown_line(alloc, profiles, rules, fault)
+        }
+        CheckFault::Stray { certificate } => stray_line(alloc, *certificate),
+        CheckFault::BadText { line } => bad_text_line(alloc, *line),
+        CheckFault::AlphabetFault(fault) => alphabet_line(alloc, *fault),
+        CheckFault::OutOfMemory => String::from_str(alloc, OUT_OF_MEMORY),
+        _ => line_of_goal(alloc, goals, fault),
+    }
+}
+
+/// The line of a fault that shows a path, or nothing for another fault.
+fn shown_line(
+    alloc: Global,
+    profiles: &[Profile],
+    rules: &[Rule],
+    fault: &CheckFault,
+) -> Result<String, AllocError>
+    ensures { IfOk result (λ t. string_bytes t ≡ lines.shown_line
+        (record { profiles = profiles.now; rules = rules.now }) fault.now) }
+{
+    match fault {
         CheckFault::Overlap {
             writer,
             other,
@@ -101,6 +121,15 @@ fn fault_line(
             rule,
             path,
         } => breach_line(alloc, name_at(profiles, *profile), rules, *rule, path),
+        _ => Ok(String::new(alloc)),
+    }
+}
+
+/// The line of a fault of a goal, or nothing for another fault.
+fn line_of_goal(alloc: Global, goals: &[Goal], fault: &CheckFault) -> Result<String, AllocError>
+    ensures { IfOk result (λ t. string_bytes t ≡ lines.line_of_goal goals.now fault.now) }
+{
+    match fault {
         CheckFault::TooLarge { goal } => too_large_line(alloc, number_of(goals, *goal), STAGES),
         CheckFault::Missing { goal } => goal_line(alloc, number_of(goals, *goal), "Missing"),
         CheckFault::NoStart { goal } => goal_line(alloc, number_of(goals, *goal), "NoStart"),
@@ -110,10 +139,7 @@ fn fault_line(
         CheckFault::Accepting { goal, stage } => {
             accepting_line(alloc, number_of(goals, *goal), *stage)
         }
-        CheckFault::Stray { certificate } => stray_line(alloc, *certificate),
-        CheckFault::BadText { line } => bad_text_line(alloc, *line),
-        CheckFault::AlphabetFault(fault) => alphabet_line(alloc, *fault),
-        CheckFault::OutOfMemory => String::from_str(alloc, OUT_OF_MEMORY),
+        _ => Ok(String::new(alloc)),
     }
 }
 

@@ -1,5 +1,5 @@
--- What faults are called in their lines.
-use Rattle.std.specs.Prelude.{ℕ, List, ◌++◌, codes, encode_utf8_all}
+-- What faults are called in their lines, and the line of a fault.
+use Rattle.std.specs.Prelude.{ℕ, List, [], ◌∷◌, ◌++◌, codes, encode_utf8_all}
 use Rattle.hub_path.specs.declared.fault.PathFault.{PathFault}
 use Rattle.hub_path.specs.declared.fault.PathFault.TheVariants as path
 use Rattle.hub_glob.specs.declared.fault.GlobFault.{GlobFault}
@@ -14,6 +14,7 @@ use Rattle.hub_bundle.specs.declared.input.InputFault.{InputFault}
 use Rattle.hub_bundle.specs.declared.input.InputFault.TheVariants as input
 use Rattle.hub_bundle.specs.declared.sections.SectionFault.{SectionFault}
 use Rattle.hub_bundle.specs.declared.sections.SectionFault.TheVariants.{OfProfile, OfRules, OfState, OfCertificates}
+use Rattle.hub_report.specs.Refusal.{joined}
 
 abbrev pub path_fault_name : PathFault → List ℕ
 path_fault_name path.Empty = codes "Empty"
@@ -96,3 +97,7 @@ section_fault_name (OfProfile name f) = profile_fault_name f.fault
 section_fault_name (OfRules f) = profile_fault_name f.fault
 section_fault_name (OfState f) = state_fault_name f.fault
 section_fault_name (OfCertificates line) = codes "BadText"
+
+-- The line of a fault: the place that has it, and what it is called.
+abbrev pub fault_line : List ℕ → List ℕ → List ℕ
+fault_line place name = joined (codes "fault: " ∷ place ∷ codes ": " ∷ name ∷ codes "\n" ∷ [])

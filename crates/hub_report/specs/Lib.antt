@@ -8,6 +8,11 @@ pub mod RoundsRun
 pub mod Graph
 pub mod JobsExamples
 pub mod Faults
+pub mod FaultyInput
+pub mod ReachAnswer
+pub mod Verdict
+pub mod ClashesAnswer
+pub mod RunAnswer
 pub mod Report
 pub mod GraphExamples
 pub mod ReportExamples

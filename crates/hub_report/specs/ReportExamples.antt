@@ -5,12 +5,13 @@ use Rattle.hub_glob.specs.declared.fault.GlobFault.TheVariants.{BadRange}
 use Rattle.hub_profile.specs.declared.fault.Fault.TheVariants.{BadPattern, UnknownPreference}
 use Rattle.hub_profile.specs.declared.fault.Fault.TheVariants as profile
 use Rattle.hub_state.specs.declared.fault.Fault.TheVariants.{NoParent}
-use Rattle.hub_report.specs.declared.report.Report.TheVariants.{BadPath}
-use Rattle.hub_report.specs.Faults.{profile_fault_name, state_fault_name}
-use Rattle.hub_report.specs.Report.{fault_line, text_of}
+use Rattle.hub_report.specs.declared.reach_answer.ReachAnswer.TheVariants.{BadPath}
+use Rattle.hub_report.specs.declared.report.Report.TheVariants.{Reach}
+use Rattle.hub_report.specs.Faults.{fault_line, profile_fault_name, state_fault_name}
+use Rattle.hub_report.specs.Report.{text_of}
 use lib.Utf8.{encode}
 
-a_path_that_is_none : text_of (BadPath LeadingSlash) ≡ codes "fault: path: LeadingSlash\n"
+a_path_that_is_none : text_of (Reach (BadPath LeadingSlash)) ≡ codes "fault: path: LeadingSlash\n"
 a_path_that_is_none = refl
 
 a_preference_is_named_as_it_was_written :

@@ -1,7 +1,9 @@
-//! What faults are called in their lines.
+//! What faults are called in their lines, and the line of a fault.
 ghost use Rattle.std.specs.Prelude.{◌≡◌, ◌++◌, IfOk, string_bytes};
+ghost use Rattle.hub_report.specs.Blocks.{bytes_in};
 ghost use Rattle.hub_report.specs.Faults as names;
 
+use crate::blocks::Blocks;
 use crate::parts::joined;
 use hub_bundle::{BundleFault, InputFault};
 use hub_glob::GlobFault;
@@ -124,4 +126,12 @@ pub fn input_fault_name<'a>(fault: InputFault) -> &'a str
         InputFault::TurnsSpent => "TurnsSpent",
         InputFault::OutOfMemory => "OutOfMemory",
     }
+}
+
+/// The line of the fault at a place that has this name.
+pub fn fault_line(alloc: Global, place: &str, name: &str) -> Result<Blocks, AllocError>
+    ensures { IfOk result (λ t. bytes_in t ≡ names.fault_line place.now name.now) }
+{
+    let line = joined(alloc, &["fault: ", place, ": ", name, "\n"])?;
+    Blocks::new(alloc, line.into_bytes())
 }

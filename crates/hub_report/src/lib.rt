@@ -1,6 +1,7 @@
 //! The answers of hubsync: the status and the text of each.
 //!
-//! - [`Report`] is an answer to an input.
+//! - [`Report`] is an answer to an input. It has one case for each part of the program that answers: [`FaultyInput`],
+//!   [`ReachAnswer`], [`Verdict`], [`ClashesAnswer`] and [`RunAnswer`].
 //! - [`Run`] is what the jobs of a safe set did and left; [`RunError`] is why they weren't run.
 //! - [`RoundsRun`] is what the jobs of a set did and left that were run by rounds.
 //! - [`lines_of_jobs`] are the lines that say what jobs did.
@@ -15,33 +16,44 @@
 //! let text = report.into_text(alloc)?;
 //! ```
 //!
-//! The contracts use the words of `specs/Report` (the text and the status of each answer), `specs/Blocks` (the bytes of a
+//! The contracts use the words of `specs/Report` (the text and the status of each answer; `specs/FaultyInput`, `ReachAnswer`,
+//! `Verdict`, `ClashesAnswer` and `RunAnswer` have those of its cases), `specs/Blocks` (the bytes of a
 //! text in blocks), `specs/Jobs` (the lines of jobs), `specs/Rounds` (those of clashes and rounds), `specs/RoundsRun` (the text of
 //! a run by rounds), `specs/Graph` (that of a graph), `specs/Undecided` (the lines for standard error), `specs/Run` (the line of why
-//! jobs weren't run), `specs/Refusal` (the lines of refusals) and `specs/Faults` (the names of faults). When an answer is right is said in `hub_serve`.
+//! jobs weren't run), `specs/Refusal` (the lines of refusals) and `specs/Faults` (the names of faults and their lines). When an answer is right is said in `hub_serve`.
 //!
 //! Only functions that return a `Result` or a `Report` allocate.
 #![tactic(auto)]
 
 mod blocks;
+mod clashes_answer;
 mod edges;
 mod faults;
+mod faulty_input;
 mod graph;
 mod jobs;
 mod parts;
+mod reach_answer;
 mod refusal;
 mod report;
 mod rounds;
 mod rounds_run;
 mod run;
+mod run_answer;
 mod undecided;
+mod verdict;
 
 pub use blocks::Blocks;
+pub use clashes_answer::ClashesAnswer;
+pub use faulty_input::FaultyInput;
 pub use graph::{Graph, graph_of_clashes};
 pub use jobs::lines_of_jobs;
+pub use reach_answer::ReachAnswer;
 pub use refusal::lines_of_clashes;
 pub use report::{OUT_OF_MEMORY, Report};
 pub use rounds::{Cut, text_of_rounds};
 pub use rounds_run::RoundsRun;
 pub use run::{Run, RunError};
+pub use run_answer::RunAnswer;
 pub use undecided::undecided_pairs;
+pub use verdict::Verdict;

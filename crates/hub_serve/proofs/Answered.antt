@@ -9,10 +9,16 @@ use Rattle.std.proofs.lemmas.Bool.{false≢true, true≢false}
 use Rattle.hub_cli.specs.declared.words.Question.TheVariants as ask
 use Rattle.hub_cli.specs.Words.{Request, about, asked_of}
 use Rattle.hub_report.specs.declared.report.Report.{Report}
-use Rattle.hub_report.specs.declared.report.Report.TheVariants.{Safe, Ran, RanByRounds, NotRun, NoState, Verified}
-use Rattle.hub_report.specs.declared.report.Report.TheVariants.{Certified, Refused, Clashes, Graph, Cut, NotVerified}
-use Rattle.hub_report.specs.declared.report.Report.TheVariants.{Reached, NotReached, NoProfile, BadPath}
-use Rattle.hub_report.specs.declared.report.Report.TheVariants.{Unread, BadBundle, BadSection, OutOfMemory}
+use Rattle.hub_report.specs.declared.clashes_answer.ClashesAnswer.{ClashesAnswer}
+use Rattle.hub_report.specs.declared.clashes_answer.ClashesAnswer.TheVariants.{Lines, Graph, Cut}
+use Rattle.hub_report.specs.declared.reach_answer.ReachAnswer.{ReachAnswer}
+use Rattle.hub_report.specs.declared.reach_answer.ReachAnswer.TheVariants.{Reached, NotReached, NoProfile, BadPath}
+use Rattle.hub_report.specs.declared.report.Report.TheVariants.{Reach, Clashes, Run, OutOfMemory}
+use Rattle.hub_report.specs.declared.run_answer.RunAnswer.{RunAnswer}
+use Rattle.hub_report.specs.declared.run_answer.RunAnswer.TheVariants.{Ran, RanByRounds, NotRun}
+use Rattle.hub_report.specs.ClashesAnswer as clashes
+use Rattle.hub_report.specs.ReachAnswer as reach
+use Rattle.hub_report.specs.RunAnswer as run
 use Rattle.hub_report.specs.Report.{status_of}
 use Rattle.hub_report.specs.Starts.{begins, first}
 use Rattle.hub_bundle.specs.declared.input.InputFault.TheVariants.{TurnsSpent}
@@ -108,27 +114,27 @@ decided-le : (decided : Bool) → cond decided 0 1 ≤ 3
 decided-le true = omega arith
 decided-le false = omega arith
 
+reach-le : (a : ReachAnswer) → reach.status_of a ≤ 3
+reach-le Reached = omega arith
+reach-le NotReached = omega arith
+reach-le (NoProfile name) = omega arith
+reach-le (BadPath f) = omega arith
+
+clashes-le : (a : ClashesAnswer) → clashes.status_of a ≤ 3
+clashes-le (Lines lines) = omega arith
+clashes-le (Graph g) = decided-le g.safe
+clashes-le (Cut c) = decided-le c.decided
+
+run-le : (a : RunAnswer) → run.status_of a ≤ 3
+run-le (Ran r) = ends-le r.finished
+run-le (RanByRounds r) = ends-le r.finished
+run-le (NotRun e) = omega arith
+
 status-le : (r : Report) → status_of r ≤ 3
-status-le Safe = omega arith
-status-le (Ran r) = ends-le r.finished
-status-le (RanByRounds r) = ends-le r.finished
-status-le (NotRun f) = omega arith
-status-le NoState = omega arith
-status-le Verified = omega arith
-status-le (Certified t) = omega arith
-status-le (Refused t) = omega arith
-status-le (Clashes t) = omega arith
-status-le (Graph g) = decided-le g.safe
-status-le (Cut c) = decided-le c.decided
-status-le NotVerified = omega arith
-status-le Reached = omega arith
-status-le NotReached = omega arith
-status-le (NoProfile name) = omega arith
-status-le (BadPath f) = omega arith
-status-le (Unread f) = omega arith
-status-le (BadBundle f) = omega arith
-status-le (BadSection f) = omega arith
-status-le OutOfMemory = omega arith
+status-le (Reach a) = reach-le a
+status-le (Clashes a) = clashes-le a
+status-le (Run a) = run-le a
+status-le _ = omega arith
 
 written-le : (failed : Bool) (status result : ℕ) → status ≤ 3 → result ≡ cond failed 2 status → result ≤ 3
 written-le true status result l e = omega (arith, e)

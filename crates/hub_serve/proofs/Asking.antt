@@ -1,5 +1,6 @@
 -- Which question asks for what.
 use Rattle.std.proofs.Common.{◌≡◌, ◌∙◌, inl, inr, ℕ, List, Option, Some, None, refl, sym, ap, subst}
+use Rattle.std.specs.Prelude.{⊤, IfSome}
 use Rattle.std.proofs.lemmas.Option.{same_Some}
 use Rattle.hub_cert.specs.Refused.{IsRefused}
 use Rattle.hub_cert.specs.declared.fault.CheckFault.{CheckFault}
@@ -15,93 +16,42 @@ use Rattle.hub_serve.specs.declared.task.Task.TheVariants as task
 use Rattle.hub_serve.specs.Report.{FaultOf, IsRefusedFor}
 use Rattle.hub_serve.specs.Task.{AsksFor, task_of}
 
+-- The request by which alone this is asked for, of a bundle that has this state or none. A check, a run and certificates
+-- aren't in question here.
+abbrev pub AsksAlone : Task → Request → Option State → Type 0
+AsksAlone task.Verify request state = request ≡ about Verify
+AsksAlone task.Clashes request state = request ≡ about ask.Clashes
+AsksAlone task.Graph request state = request ≡ about ask.Graph
+AsksAlone task.Rounds request state = request ≡ about ask.Rounds
+AsksAlone (task.RunByRounds n S) request state = (request ≡ about (RunByRounds n)) × (state ≡ Some S)
+AsksAlone _ request state = ⊤
+
 -- Each of these is asked for by one question.
-pub asks-verify : (request : Request) (state : Option State) → AsksFor request state task.Verify → request ≡ about Verify
-asks-verify request state a = a.asked ∙ ap about (go a.of_set state a.task_is)
-  where
-    go : (q : Question) (o : Option State) → task_of q o ≡ Some task.Verify → q ≡ Verify
-    go CheckWithState None is = cc
-    go CheckWithState (Some S) is = cc
-    go (Run n) None is = cc
-    go (Run n) (Some S) is = cc
-    go (RunByRounds n) None is = cc
-    go (RunByRounds n) (Some S) is = cc
-    go Check o is = cc
-    go Certify o is = cc
-    go Verify o is = refl
-    go ask.Clashes o is = cc
-    go ask.Graph o is = cc
-    go ask.Rounds o is = cc
+asks-by : (q : Question) (state : Option State) → IfSome (task_of q state) (λ t. AsksAlone t (about q) state)
+asks-by CheckWithState None = tt
+asks-by CheckWithState (Some S) = tt
+asks-by (Run n) None = tt
+asks-by (Run n) (Some S) = tt
+asks-by (RunByRounds n) None = tt
+asks-by (RunByRounds n) (Some S) = (refl, refl)
+asks-by Check state = tt
+asks-by Certify state = tt
+asks-by Verify state = refl
+asks-by ask.Clashes state = refl
+asks-by ask.Graph state = refl
+asks-by ask.Rounds state = refl
 
-pub asks-rounds : (request : Request) (state : Option State) → AsksFor request state task.Rounds → request ≡ about ask.Rounds
-asks-rounds request state a = a.asked ∙ ap about (go a.of_set state a.task_is)
-  where
-    go : (q : Question) (o : Option State) → task_of q o ≡ Some task.Rounds → q ≡ ask.Rounds
-    go CheckWithState None is = cc
-    go CheckWithState (Some S) is = cc
-    go (Run n) None is = cc
-    go (Run n) (Some S) is = cc
-    go (RunByRounds n) None is = cc
-    go (RunByRounds n) (Some S) is = cc
-    go Check o is = cc
-    go Certify o is = cc
-    go Verify o is = cc
-    go ask.Clashes o is = cc
-    go ask.Graph o is = cc
-    go ask.Rounds o is = refl
-
-pub asks-graph : (request : Request) (state : Option State) → AsksFor request state task.Graph → request ≡ about ask.Graph
-asks-graph request state a = a.asked ∙ ap about (go a.of_set state a.task_is)
-  where
-    go : (q : Question) (o : Option State) → task_of q o ≡ Some task.Graph → q ≡ ask.Graph
-    go CheckWithState None is = cc
-    go CheckWithState (Some S) is = cc
-    go (Run n) None is = cc
-    go (Run n) (Some S) is = cc
-    go (RunByRounds n) None is = cc
-    go (RunByRounds n) (Some S) is = cc
-    go Check o is = cc
-    go Certify o is = cc
-    go Verify o is = cc
-    go ask.Clashes o is = cc
-    go ask.Graph o is = refl
-    go ask.Rounds o is = cc
-
--- A run by rounds is asked for by one, of a bundle with a state.
-pub asks-rounds-run : (request : Request) (state : Option State) (n : ℕ) (S : State) → AsksFor request state (task.RunByRounds n S)
-    → (request ≡ about (RunByRounds n)) × (state ≡ Some S)
-asks-rounds-run request state n S a =
-    let is = go a.of_set state a.task_is in
-    (a.asked ∙ ap about is.0, is.1)
-  where
-    go : (q : Question) (o : Option State) → task_of q o ≡ Some (task.RunByRounds n S) → (q ≡ RunByRounds n) × (o ≡ Some S)
-    go CheckWithState None is = absurd (cc)
-    go CheckWithState (Some T) is = absurd (cc)
-    go (Run m) None is = absurd (cc)
-    go (Run m) (Some T) is = absurd (cc)
-    go (RunByRounds m) None is = absurd (cc)
-    go (RunByRounds m) (Some T) is = (cc, cc)
-    go Check o is = absurd (cc)
-    go Certify o is = absurd (cc)
-    go Verify o is = absurd (cc)
-    go ask.Clashes o is = absurd (cc)
-    go ask.Graph o is = absurd (cc)
-    go ask.Rounds o is = absurd (cc)
+pub asks : (request : Request) (state : Option State) (t : Task) → AsksFor request state t → AsksAlone t request state
+asks request state t a =
+    subst (λ r. AsksAlone t r state) (sym a.asked)
+    (subst (λ o. IfSome o (λ u. AsksAlone u (about a.of_set) state)) a.task_is (asks-by a.of_set state))
 
 -- The question what clashes asks for nothing else.
 pub asked-clashes : (request : Request) (state : Option State) (t : Task) → AsksFor request state t → request ≡ about ask.Clashes → t ≡ task.Clashes
-asked-clashes request state t a is = go a.of_set (sym a.asked ∙ is) a.task_is
-  where
-    go : (q : Question) → about q ≡ about ask.Clashes → task_of q state ≡ Some t → t ≡ task.Clashes
-    go CheckWithState e h = cc
-    go (Run n) e h = cc
-    go (RunByRounds n) e h = cc
-    go Check e h = cc
-    go Certify e h = cc
-    go Verify e h = cc
-    go ask.Clashes e h = sym (same_Some task.Clashes t h)
-    go ask.Graph e h = cc
-    go ask.Rounds e h = cc
+asked-clashes request state t a is =
+    let about_is : about a.of_set ≡ about ask.Clashes = sym a.asked ∙ is in
+    let q_is : a.of_set ≡ ask.Clashes = cc in
+    sym (same_Some task.Clashes t (subst (λ q. task_of q state ≡ Some t) q_is a.task_is))
 
 -- So no set is refused for a goal then.
 pub unrefused : (request : Request) (c : Contents) (t : Task) (e : CheckFault) → AsksFor request c.state t → request ≡ about ask.Clashes → IsRefusedFor t c e → IsRefused (members c) e

@@ -15,13 +15,22 @@ use Rattle.hub_state.specs.Writing.{state_text}
 use Rattle.hub_bundle.specs.declared.sections.Contents.{Contents}
 use Rattle.hub_bundle.specs.Sections.{Spells, members}
 use Rattle.hub_report.specs.declared.report.Report.{Report}
-use Rattle.hub_report.specs.declared.report.Report.TheVariants.{Safe, Ran, RanByRounds, NotRun, NoState, Verified}
-use Rattle.hub_report.specs.declared.report.Report.TheVariants.{Certified, Refused, Clashes, Graph, Cut, NotVerified}
-use Rattle.hub_report.specs.declared.report.Report.TheVariants.{Reached, NotReached, NoProfile, BadPath}
-use Rattle.hub_report.specs.declared.report.Report.TheVariants.{Unread, BadBundle, BadSection, OutOfMemory}
+use Rattle.hub_report.specs.declared.report.Report.TheVariants as answer
+use Rattle.hub_report.specs.declared.clashes_answer.ClashesAnswer.{ClashesAnswer}
+use Rattle.hub_report.specs.declared.clashes_answer.ClashesAnswer.TheVariants.{Lines, Graph, Cut}
+use Rattle.hub_report.specs.declared.reach_answer.ReachAnswer.{ReachAnswer}
+use Rattle.hub_report.specs.declared.reach_answer.ReachAnswer.TheVariants.{Reached, NotReached, NoProfile, BadPath}
+use Rattle.hub_report.specs.declared.run_answer.RunAnswer.{RunAnswer}
+use Rattle.hub_report.specs.declared.run_answer.RunAnswer.TheVariants.{Ran, RanByRounds, NotRun}
+use Rattle.hub_report.specs.declared.verdict.Verdict.{Verdict}
+use Rattle.hub_report.specs.declared.verdict.Verdict.TheVariants.{Safe, Verified, Certified}
 use Rattle.hub_report.specs.declared.run.Run as run
 use Rattle.hub_report.specs.declared.run.RunError.{RunError}
 use Rattle.hub_report.specs.Report.{status_of, text_of}
+use Rattle.hub_report.specs.ClashesAnswer as clashes
+use Rattle.hub_report.specs.ReachAnswer as reach
+use Rattle.hub_report.specs.RunAnswer as runs
+use Rattle.hub_report.specs.Verdict as verdict
 use Rattle.hub_report.specs.Refusal.{refusal_line}
 use Rattle.hub_report.specs.Jobs.{lines_of_jobs}
 use Rattle.hub_report.specs.Run.{error_line}
@@ -42,31 +51,14 @@ use Rattle.hub_serve.specs.Report.{SpellsRounds, SpellsRoundsRun, SpellsSafe, Sp
 use Rattle.hub_serve.specs.Rounds.{BeginsAsClash, DrawsClashes, ListsClashes, WritesRounds}
 use Rattle.hub_serve.specs.Runs.{HasRunAs, IsBelow, IsPrevented, IsRunOn}
 use Rattle.hub_serve.specs.Task.{AsksFor}
-use Rattle.hub_serve.proofs.Asking.{asks-graph, asks-rounds, asks-rounds-run, asks-verify, unrefused}
+use Rattle.hub_serve.proofs.Asking.{asks, unrefused}
 use Rattle.hub_serve.proofs.Refused.{BreachesShown, OverlapsShown, breach-refused, overlap-refused}
 
 -- What holds of what an input says holds of the input.
 pub told-holds : (request : Request) (bytes : List ℕ) (c : Contents) (r : Report) → Spells bytes c → IsTold request c r → Holds request bytes r
-told-holds request bytes c Safe s h = record { contents = c; spelled = s; told = h }
-told-holds request bytes c (Ran r) s h = record { contents = c; spelled = s; told = h }
-told-holds request bytes c (RanByRounds r) s h = record { contents = c; spelled = s; told = h }
-told-holds request bytes c (NotRun f) s h = record { contents = c; spelled = s; told = h }
-told-holds request bytes c NoState s h = record { contents = c; spelled = s; told = h }
-told-holds request bytes c Verified s h = record { contents = c; spelled = s; told = h }
-told-holds request bytes c (Certified t) s h = record { contents = c; spelled = s; told = h }
-told-holds request bytes c (Refused t) s h = record { contents = c; spelled = s; told = h }
-told-holds request bytes c (Clashes t) s h = record { contents = c; spelled = s; told = h }
-told-holds request bytes c (Graph g) s h = record { contents = c; spelled = s; told = h }
-told-holds request bytes c (Cut t) s h = record { contents = c; spelled = s; told = h }
-told-holds request bytes c NotVerified s h = record { contents = c; spelled = s; told = h }
-told-holds request bytes c Reached s h = record { contents = c; spelled = s; told = h }
-told-holds request bytes c NotReached s h = record { contents = c; spelled = s; told = h }
-told-holds request bytes c (NoProfile name) s h = record { contents = c; spelled = s; told = h }
-told-holds request bytes c (BadPath f) s h = record { contents = c; spelled = s; told = h }
-told-holds request bytes c (Unread f) s h = absurd h
-told-holds request bytes c (BadBundle f) s h = absurd h
-told-holds request bytes c (BadSection f) s h = absurd h
-told-holds request bytes c OutOfMemory s h = tt
+told-holds request bytes c (answer.Faulty f) s h = absurd h
+told-holds request bytes c answer.OutOfMemory s h = tt
+told-holds request bytes c _ s h = record { contents = c; spelled = s; told = h }
 
 -- Where no jobs are to be run, nothing is below `safe`.
 check-below : (t : Task) (M : Members) → (t ≡ task.Check) ⊎ (t ≡ task.Clashes) → IsBelow t M 0 []
@@ -167,8 +159,8 @@ Means request bytes line status BreachStart = (BreachesShown → SpellsUnsafe by
 Means request bytes line status TooLargeStart = AreClashes request bytes line status
 Means request bytes line status RoundsStart = SaysRounds request bytes line status ⊎ SaysRoundsRun request bytes line status
 Means request bytes line status GraphStart = SaysGraph request bytes line status
-Means request bytes line status ReachedStart = IsTrueOf request bytes Reached
-Means request bytes line status NotReachedStart = IsTrueOf request bytes NotReached
+Means request bytes line status ReachedStart = IsTrueOf request bytes (answer.Reach Reached)
+Means request bytes line status NotReachedStart = IsTrueOf request bytes (answer.Reach NotReached)
 Means request bytes line status OtherStart = ⊤
 
 -- It is true of the start of the line of a refusal,
@@ -214,10 +206,18 @@ clashes-mean request bytes line c spelled h =
       too_large = λ g is. says;
     }
 
--- and of the start of the text of every answer.
-text-means : (request : Request) (bytes : List ℕ) (r : Report) (line : List ℕ) → line ≡ text_of r → Holds request bytes r
-    → Means request bytes line (status_of r) (start line)
-text-means request bytes Safe line l h =
+-- of that of the answer whether a path is reached,
+reach-means : (request : Request) (bytes : List ℕ) (a : ReachAnswer) (line : List ℕ) → line ≡ reach.text_of a → IsTrueOf request bytes (answer.Reach a)
+    → Means request bytes line (reach.status_of a) (start line)
+reach-means request bytes Reached line l h = subst (λ t. Means request bytes line 0 (start t)) (sym l) h
+reach-means request bytes NotReached line l h = subst (λ t. Means request bytes line 0 (start t)) (sym l) h
+reach-means request bytes (NoProfile n) line l h = subst (λ t. Means request bytes line 2 (start t)) (sym l) tt
+reach-means request bytes (BadPath f) line l h = subst (λ t. Means request bytes line 2 (start t)) (sym l) tt
+
+-- of a verdict,
+verdict-means : (request : Request) (bytes : List ℕ) (v : Verdict) (line : List ℕ) → line ≡ verdict.text_of v → IsTrueOf request bytes (answer.Verdict v)
+    → Means request bytes line 0 (start line)
+verdict-means request bytes Safe line l h =
     subst (λ t. Means request bytes line 0 (start t)) (sym l) (record {
       contents = h.contents;
       spelled = h.spelled;
@@ -228,7 +228,48 @@ text-means request bytes Safe line l h =
       below_is = check-below h.told.to_do (members h.contents) h.told.told.0;
       line_is = l;
     })
-text-means request bytes (Ran r) line l h =
+verdict-means request bytes Verified line l h =
+    let asked = subst (AsksFor request h.contents.state) h.told.told.0 h.told.asked in
+    subst (λ t. Means request bytes line 0 (start t)) (sym l) (record {
+      is_asked = ap Some (asks request h.contents.state task.Verify asked);
+      contents = h.contents;
+      spelled = h.spelled;
+      inductive = h.told.told.1;
+      safe = h.told.told.2;
+    })
+verdict-means request bytes (Certified text) line l h =
+    subst (λ t. Means request bytes line 0 (start t)) (sym (l ∙ h.told.told.1.text_is)) tt
+
+-- of what clashes in the set,
+clashes-answer-means : (request : Request) (bytes : List ℕ) (a : ClashesAnswer) (line : List ℕ) → line ≡ clashes.text_of a
+    → IsTrueOf request bytes (answer.Clashes a) → Means request bytes line (clashes.status_of a) (start line)
+clashes-answer-means request bytes (Lines text) line l h =
+    clashes-mean request bytes line h.contents h.spelled (subst (ListsClashes (members h.contents)) (sym l) h.told.told.1)
+clashes-answer-means request bytes (Graph g) line l h =
+    let drawn = subst (λ t. DrawsClashes (members h.contents) t g.safe) (sym l) h.told.told.1 in
+    subst (λ t. Means request bytes line (cond g.safe 0 1) (start t)) (sym drawn.text_is) (record {
+      asked = asks request h.contents.state task.Graph (subst (AsksFor request h.contents.state) h.told.told.0 h.told.asked);
+      contents = h.contents;
+      spelled = h.spelled;
+      safe = g.safe;
+      drawn = drawn;
+      status_is = refl;
+    })
+clashes-answer-means request bytes (Cut c) line l h =
+    let cut = subst (λ t. WritesRounds (members h.contents) t c.decided) (sym l) h.told.told.1 in
+    subst (λ t. Means request bytes line (cond c.decided 0 1) (start t)) (sym cut.text_is) (inl (record {
+      asked = asks request h.contents.state task.Rounds (subst (AsksFor request h.contents.state) h.told.told.0 h.told.asked);
+      contents = h.contents;
+      spelled = h.spelled;
+      decided = c.decided;
+      cut = cut;
+      status_is = refl;
+    }))
+
+-- of a run,
+run-means : (request : Request) (bytes : List ℕ) (a : RunAnswer) (line : List ℕ) → line ≡ runs.text_of a → IsTrueOf request bytes (answer.Run a)
+    → Means request bytes line (runs.status_of a) (start line)
+run-means request bytes (Ran r) line l h =
     subst (λ t. Means request bytes line (run_status r.finished) (start t)) (sym l) (record {
       contents = h.contents;
       spelled = h.spelled;
@@ -239,9 +280,9 @@ text-means request bytes (Ran r) line l h =
       below_is = ran-below h.told.to_do (members h.contents) r h.told.told;
       line_is = l;
     })
-text-means request bytes (RanByRounds r) line l h =
+run-means request bytes (RanByRounds r) line l h =
     let t = h.told.told in
-    let asked = asks-rounds-run request h.contents.state t.workers t.state (subst (AsksFor request h.contents.state) t.task_is h.told.asked) in
+    let asked = asks request h.contents.state (task.RunByRounds t.workers t.state) (subst (AsksFor request h.contents.state) t.task_is h.told.asked) in
     subst (λ ls. Means request bytes line (run_status r.finished) (start ls)) (sym l) (inr (record {
       workers = t.workers;
       asked = asked.0;
@@ -254,7 +295,7 @@ text-means request bytes (RanByRounds r) line l h =
       line_is = l;
       status_is = refl;
     }))
-text-means request bytes (NotRun f) line l h =
+run-means request bytes (NotRun f) line l h =
     subst (λ t. Means request bytes line 3 (start t)) (sym l) (record {
       contents = h.contents;
       spelled = h.spelled;
@@ -265,52 +306,18 @@ text-means request bytes (NotRun f) line l h =
       below_is = error-below h.told.to_do (members h.contents) f h.told.told;
       line_is = l;
     })
-text-means request bytes NoState line l h = subst (λ t. Means request bytes line 2 (start t)) (sym l) tt
-text-means request bytes Verified line l h =
-    let asked = subst (AsksFor request h.contents.state) h.told.told.0 h.told.asked in
-    subst (λ t. Means request bytes line 0 (start t)) (sym l) (record {
-      is_asked = ap Some (asks-verify request h.contents.state asked);
-      contents = h.contents;
-      spelled = h.spelled;
-      inductive = h.told.told.1;
-      safe = h.told.told.2;
-    })
-text-means request bytes (Certified text) line l h =
-    subst (λ t. Means request bytes line 0 (start t)) (sym (l ∙ h.told.told.1.text_is)) tt
-text-means request bytes (Refused text) line l h =
+
+-- and of the start of the text of every answer.
+text-means : (request : Request) (bytes : List ℕ) (r : Report) (line : List ℕ) → line ≡ text_of r → Holds request bytes r
+    → Means request bytes line (status_of r) (start line)
+text-means request bytes (answer.Reach a) line l h = reach-means request bytes a line l h
+text-means request bytes (answer.Verdict v) line l h = verdict-means request bytes v line l h
+text-means request bytes (answer.Clashes a) line l h = clashes-answer-means request bytes a line l h
+text-means request bytes (answer.Run a) line l h = run-means request bytes a line l h
+text-means request bytes (answer.Refused text) line l h =
     subst (λ t. Means request bytes line 1 (start t)) (sym (l ∙ h.told.told.1))
     (refusal-means request bytes line 1 h.contents h.told.to_do h.told.reason h.spelled h.told.asked h.told.refused)
-text-means request bytes (Clashes text) line l h =
-    clashes-mean request bytes line h.contents h.spelled (subst (ListsClashes (members h.contents)) (sym l) h.told.told.1)
-text-means request bytes (Graph g) line l h =
-    let drawn = subst (λ t. DrawsClashes (members h.contents) t g.safe) (sym l) h.told.told.1 in
-    subst (λ t. Means request bytes line (cond g.safe 0 1) (start t)) (sym drawn.text_is) (record {
-      asked = asks-graph request h.contents.state (subst (AsksFor request h.contents.state) h.told.told.0 h.told.asked);
-      contents = h.contents;
-      spelled = h.spelled;
-      safe = g.safe;
-      drawn = drawn;
-      status_is = refl;
-    })
-text-means request bytes (Cut c) line l h =
-    let cut = subst (λ t. WritesRounds (members h.contents) t c.decided) (sym l) h.told.told.1 in
-    subst (λ t. Means request bytes line (cond c.decided 0 1) (start t)) (sym cut.text_is) (inl (record {
-      asked = asks-rounds request h.contents.state (subst (AsksFor request h.contents.state) h.told.told.0 h.told.asked);
-      contents = h.contents;
-      spelled = h.spelled;
-      decided = c.decided;
-      cut = cut;
-      status_is = refl;
-    }))
-text-means request bytes NotVerified line l h = subst (λ t. Means request bytes line 2 (start t)) (sym l) tt
-text-means request bytes Reached line l h = subst (λ t. Means request bytes line 0 (start t)) (sym l) h
-text-means request bytes NotReached line l h = subst (λ t. Means request bytes line 0 (start t)) (sym l) h
-text-means request bytes (NoProfile n) line l h = subst (λ t. Means request bytes line 2 (start t)) (sym l) tt
-text-means request bytes (BadPath f) line l h = subst (λ t. Means request bytes line 2 (start t)) (sym l) tt
-text-means request bytes (Unread f) line l h = subst (λ t. Means request bytes line 2 (start t)) (sym l) tt
-text-means request bytes (BadBundle f) line l h = subst (λ t. Means request bytes line 2 (start t)) (sym l) tt
-text-means request bytes (BadSection f) line l h = subst (λ t. Means request bytes line 2 (start t)) (sym l) tt
-text-means request bytes OutOfMemory line l h = subst (λ t. Means request bytes line 2 (start t)) (sym l) tt
+text-means request bytes _ line l h = subst (λ t. Means request bytes line 2 (start t)) (sym l) tt
 
 -- Of a text whose start is known.
 means : (request : Request) (bytes : List ℕ) (r : Report) (line : List ℕ) (x : Start) → line ≡ text_of r → start line ≡ x → Holds request bytes r
@@ -444,12 +451,12 @@ only_verified request bytes r line w s l e h =
     means request bytes r line VerifiedStart l (ap start (begins (118 ∷ []) line s w e).whole) h
 
 -- only that of a reached path with `rea`,
-pub only_reached : (request : Request) (bytes : List ℕ) (r : Report) (line : List ℕ) (w : ℕ) (s : List ℕ) → line ≡ text_of r → take w line ≡ 114 ∷ 101 ∷ 97 ∷ s → Holds request bytes r → IsTrueOf request bytes Reached
+pub only_reached : (request : Request) (bytes : List ℕ) (r : Report) (line : List ℕ) (w : ℕ) (s : List ℕ) → line ≡ text_of r → take w line ≡ 114 ∷ 101 ∷ 97 ∷ s → Holds request bytes r → IsTrueOf request bytes (answer.Reach Reached)
 only_reached request bytes r line w s l e h =
     means request bytes r line ReachedStart l (ap start (begins (114 ∷ 101 ∷ 97 ∷ []) line s w e).whole) h
 
 -- only that of a path that isn't with an n,
-pub only_not_reached : (request : Request) (bytes : List ℕ) (r : Report) (line : List ℕ) (w : ℕ) (s : List ℕ) → line ≡ text_of r → take w line ≡ 110 ∷ s → Holds request bytes r → IsTrueOf request bytes NotReached
+pub only_not_reached : (request : Request) (bytes : List ℕ) (r : Report) (line : List ℕ) (w : ℕ) (s : List ℕ) → line ≡ text_of r → take w line ≡ 110 ∷ s → Holds request bytes r → IsTrueOf request bytes (answer.Reach NotReached)
 only_not_reached request bytes r line w s l e h =
     means request bytes r line NotReachedStart l (ap start (begins (110 ∷ []) line s w e).whole) h
 

@@ -25,10 +25,8 @@ use Rattle.hub_bundle.specs.Sections.{members}
 use Rattle.hub_cli.specs.declared.words.Question.{Question}
 use Rattle.hub_cli.specs.Words.{Request, about}
 use Rattle.hub_report.specs.declared.report.Report.{Report}
-use Rattle.hub_report.specs.declared.report.Report.TheVariants.{Safe, Ran, RanByRounds, NotRun, NoState, Verified}
-use Rattle.hub_report.specs.declared.report.Report.TheVariants.{Certified, Refused, Clashes, Graph, Cut, NotVerified}
-use Rattle.hub_report.specs.declared.report.Report.TheVariants.{Reached, NotReached, NoProfile, BadPath}
-use Rattle.hub_report.specs.declared.report.Report.TheVariants.{Unread, BadBundle, BadSection, OutOfMemory}
+use Rattle.hub_report.specs.declared.reach_answer.ReachAnswer.TheVariants.{BadPath}
+use Rattle.hub_report.specs.declared.report.Report.TheVariants.{Faulty, Reach, NoState, Refused, OutOfMemory}
 use Rattle.hub_serve.specs.declared.task.Task.{Task}
 use Rattle.hub_report.specs.Report.{IsRefusal}
 use Rattle.hub_serve.specs.Report.{FaultOf, HasBadPath, IsTold, IsToldOfSet}
@@ -42,77 +40,29 @@ asks-for q c to_do is = record { of_set = q; asked = refl; task_is = is }
 -- Profiles that are no set are refused, whatever is to be done.
 pub refusal-told : (q : Question) (c : Contents) (to_do : Task) → task_of q c.state ≡ Some to_do → (e : CheckFault) (r : Report) → IsRefused (members c) e
     → IsRefusal (members c) e r → IsTold (about q) c r
-refusal-told q c to_do is e Safe i h = absurd h
-refusal-told q c to_do is e (Ran r) i h = absurd h
-refusal-told q c to_do is e (RanByRounds r) i h = absurd h
-refusal-told q c to_do is e (NotRun f) i h = absurd h
-refusal-told q c to_do is e NoState i h = absurd h
-refusal-told q c to_do is e Verified i h = absurd h
-refusal-told q c to_do is e (Certified t) i h = absurd h
 refusal-told q c to_do is e (Refused t) i h = record { to_do = to_do; asked = asks-for q c to_do is; reason = e; refused = inl i; told = h }
-refusal-told q c to_do is e (Clashes t) i h = absurd h
-refusal-told q c to_do is e (Graph g) i h = absurd h
-refusal-told q c to_do is e (Cut t) i h = absurd h
-refusal-told q c to_do is e NotVerified i h = absurd h
-refusal-told q c to_do is e Reached i h = absurd h
-refusal-told q c to_do is e NotReached i h = absurd h
-refusal-told q c to_do is e (NoProfile name) i h = absurd h
-refusal-told q c to_do is e (BadPath f) i h = absurd h
-refusal-told q c to_do is e (Unread f) i h = absurd h
-refusal-told q c to_do is e (BadBundle f) i h = absurd h
-refusal-told q c to_do is e (BadSection f) i h = absurd h
 refusal-told q c to_do is e OutOfMemory i h = tt
+refusal-told q c to_do is e _ i h = absurd h
 
 -- What is true of a set is true of the bundle that has it.
 pub set-told : (q : Question) (c : Contents) (to_do : Task) → task_of q c.state ≡ Some to_do → (r : Report) → IsToldOfSet to_do (members c) c.certificates r
     → IsTold (about q) c r
-set-told q c to_do is Safe h = record { to_do = to_do; asked = asks-for q c to_do is; told = h }
-set-told q c to_do is (Ran r) h = record { to_do = to_do; asked = asks-for q c to_do is; told = h }
-set-told q c to_do is (RanByRounds r) h = record { to_do = to_do; asked = asks-for q c to_do is; told = h }
-set-told q c to_do is (NotRun f) h = record { to_do = to_do; asked = asks-for q c to_do is; told = h }
+set-told q c to_do is (Faulty f) h = absurd h
+set-told q c to_do is (Reach a) h = absurd h
 set-told q c to_do is NoState h = absurd h
-set-told q c to_do is Verified h = record { to_do = to_do; asked = asks-for q c to_do is; told = h }
-set-told q c to_do is (Certified t) h = record { to_do = to_do; asked = asks-for q c to_do is; told = h }
 set-told q c to_do is (Refused t) h = record { to_do = to_do; asked = asks-for q c to_do is; reason = h.0; refused = inr h.1; told = h.2 }
-set-told q c to_do is (Clashes t) h = record { to_do = to_do; asked = asks-for q c to_do is; told = h }
-set-told q c to_do is (Graph g) h = record { to_do = to_do; asked = asks-for q c to_do is; told = h }
-set-told q c to_do is (Cut t) h = record { to_do = to_do; asked = asks-for q c to_do is; told = h }
-set-told q c to_do is NotVerified h = record { to_do = to_do; asked = asks-for q c to_do is; told = h }
-set-told q c to_do is Reached h = absurd h
-set-told q c to_do is NotReached h = absurd h
-set-told q c to_do is (NoProfile name) h = absurd h
-set-told q c to_do is (BadPath f) h = absurd h
-set-told q c to_do is (Unread f) h = absurd h
-set-told q c to_do is (BadBundle f) h = absurd h
-set-told q c to_do is (BadSection f) h = absurd h
 set-told q c to_do is OutOfMemory h = tt
+set-told q c to_do is _ h = record { to_do = to_do; asked = asks-for q c to_do is; told = h }
 
 -- A set that is refused for a fault of it was to be told so.
 pub refused-told : (t : Task) (S : Members) (cs : List Certificate) (e : CheckFault) (r : Report) → FaultOf t S cs e → IsRefusal S e r → IsToldOfSet t S cs r
-refused-told t S cs e Safe f h = absurd h
-refused-told t S cs e (Ran r) f h = absurd h
-refused-told t S cs e (RanByRounds r) f h = absurd h
-refused-told t S cs e (NotRun x) f h = absurd h
-refused-told t S cs e NoState f h = absurd h
-refused-told t S cs e Verified f h = absurd h
-refused-told t S cs e (Certified x) f h = absurd h
 refused-told t S cs e (Refused x) f h = (e, f, h)
-refused-told t S cs e (Clashes x) f h = absurd h
-refused-told t S cs e (Graph g) f h = absurd h
-refused-told t S cs e (Cut x) f h = absurd h
-refused-told t S cs e NotVerified f h = absurd h
-refused-told t S cs e Reached f h = absurd h
-refused-told t S cs e NotReached f h = absurd h
-refused-told t S cs e (NoProfile name) f h = absurd h
-refused-told t S cs e (BadPath x) f h = absurd h
-refused-told t S cs e (Unread x) f h = absurd h
-refused-told t S cs e (BadBundle x) f h = absurd h
-refused-told t S cs e (BadSection x) f h = absurd h
 refused-told t S cs e OutOfMemory f h = tt
+refused-told t S cs e _ f h = absurd h
 
 -- A text is no path, or memory ran out.
 pub path-told : (request : Request) (c : Contents) (f : PathFault) (r : Report) → (f ≡ path.OutOfMemory → r ≡ OutOfMemory)
-    → (r ≡ OutOfMemory) ⊎ (r ≡ BadPath f) → (f ≡ path.OutOfMemory) ⊎ HasBadPath request c.profiles f → IsTold request c r
+    → (r ≡ OutOfMemory) ⊎ (r ≡ Reach (BadPath f)) → (f ≡ path.OutOfMemory) ⊎ HasBadPath request c.profiles f → IsTold request c r
 path-told request c f r memory (inl e) h = subst (IsTold request c) (sym e) tt
 path-told request c f r memory (inr e) (inl o) = subst (IsTold request c) (sym (memory o)) tt
 path-told request c f r memory (inr e) (inr h) = subst (IsTold request c) (sym e) h

@@ -24,14 +24,20 @@ use Rattle.hub_bundle.specs.Bundle.{bundle_reading}
 use Rattle.hub_bundle.specs.Sections.{Spells, HasFault, members}
 use Rattle.hub_cli.specs.declared.words.Question.{Question}
 use Rattle.hub_cli.specs.declared.words.Question.TheVariants as ask
-use Rattle.hub_cli.specs.declared.words.Question.TheVariants.{Verify}
 use Rattle.hub_cli.specs.Words.{Request}
 use Rattle.hub_cli.specs.Words as question
 use Rattle.hub_report.specs.declared.report.Report.{Report}
-use Rattle.hub_report.specs.declared.report.Report.TheVariants.{Safe, Ran, RanByRounds, NotRun, NoState, Verified}
-use Rattle.hub_report.specs.declared.report.Report.TheVariants.{Certified, Refused, Clashes, Graph, Cut, NotVerified}
-use Rattle.hub_report.specs.declared.report.Report.TheVariants.{Reached, NotReached, NoProfile, BadPath}
-use Rattle.hub_report.specs.declared.report.Report.TheVariants.{Unread, BadBundle, BadSection, OutOfMemory}
+use Rattle.hub_report.specs.declared.report.Report.TheVariants as answer
+use Rattle.hub_report.specs.declared.clashes_answer.ClashesAnswer.{ClashesAnswer}
+use Rattle.hub_report.specs.declared.clashes_answer.ClashesAnswer.TheVariants.{Lines, Graph, Cut}
+use Rattle.hub_report.specs.declared.faulty_input.FaultyInput.{FaultyInput}
+use Rattle.hub_report.specs.declared.faulty_input.FaultyInput.TheVariants.{Unread, BadBundle, BadSection}
+use Rattle.hub_report.specs.declared.reach_answer.ReachAnswer.{ReachAnswer}
+use Rattle.hub_report.specs.declared.reach_answer.ReachAnswer.TheVariants.{Reached, NotReached, NoProfile, BadPath}
+use Rattle.hub_report.specs.declared.run_answer.RunAnswer.{RunAnswer}
+use Rattle.hub_report.specs.declared.run_answer.RunAnswer.TheVariants.{Ran, RanByRounds, NotRun}
+use Rattle.hub_report.specs.declared.verdict.Verdict.{Verdict}
+use Rattle.hub_report.specs.declared.verdict.Verdict.TheVariants.{Safe, Verified, Certified}
 use Rattle.hub_serve.specs.declared.task.Task.{Task}
 use Rattle.hub_serve.specs.declared.task.Task.TheVariants as task
 use Rattle.hub_serve.specs.Reached.{named}
@@ -71,7 +77,7 @@ pub record SpellsUnsafe (bytes : List ℕ) : Type 0 where
 
 -- The words ask to verify the bundle's certificates, and these make its set safe.
 pub record SpellsVerified (asked : Option Request) (bytes : List ℕ) : Type 0 where
-  pub is_asked : asked ≡ Some (question.about Verify)
+  pub is_asked : asked ≡ Some (question.about ask.Verify)
   pub contents : Contents
   pub spelled : Spells bytes contents
   pub inductive : AreCertificates (members contents) contents.certificates
@@ -179,28 +185,33 @@ pub record WritesCertificates (S : Members) (text : List ℕ) : Type 0 where
   pub text_is : text ≡ certificates_text own
   pub read_back : certificates_in text ≡ Ok own
 
--- What holds of a set that was made, and of the bundle's certificates, where this was to be done and that is the answer.
+-- What holds of a set that was made, and of the bundle's certificates, where this was to be done and that is the verdict,
+abbrev pub IsVerdictOn : Task → Members → List Certificate → Verdict → Type 0
+IsVerdictOn t S cs Safe = ((t ≡ task.Check) ⊎ (t ≡ task.Clashes)) × IsSafeSet S
+IsVerdictOn t S cs Verified = (t ≡ task.Verify) × AreCertificates S cs × IsSafeSet S
+IsVerdictOn t S cs (Certified text) = (t ≡ task.Certify) × WritesCertificates S (string_bytes text)
+
+-- or that is the answer with what clashes in it,
+abbrev pub AreClashesOf : Task → Members → ClashesAnswer → Type 0
+AreClashesOf t S (Lines text) = (t ≡ task.Clashes) × ListsClashes S (string_bytes text)
+AreClashesOf t S (Graph g) = (t ≡ task.Graph) × DrawsClashes S (string_bytes g.text) g.safe
+AreClashesOf t S (Cut c) = (t ≡ task.Rounds) × WritesRounds S (string_bytes c.text) c.decided
+
+-- with what came of a run,
+abbrev pub CameOfRun : Task → Members → RunAnswer → Type 0
+CameOfRun t S (Ran r) = HasRunAs t S r
+CameOfRun t S (RanByRounds r) = HasRunByRoundsAs t S r
+CameOfRun t S (NotRun e) = IsPrevented t S e
+
+-- or any answer. Without a set that was made, none of the others is given.
 abbrev pub IsToldOfSet : Task → Members → List Certificate → Report → Type 0
-IsToldOfSet t S cs Safe = ((t ≡ task.Check) ⊎ (t ≡ task.Clashes)) × IsSafeSet S
-IsToldOfSet t S cs (Ran r) = HasRunAs t S r
-IsToldOfSet t S cs (RanByRounds r) = HasRunByRoundsAs t S r
-IsToldOfSet t S cs (NotRun e) = IsPrevented t S e
-IsToldOfSet t S cs NoState = ⊥
-IsToldOfSet t S cs Verified = (t ≡ task.Verify) × AreCertificates S cs × IsSafeSet S
-IsToldOfSet t S cs (Certified text) = (t ≡ task.Certify) × WritesCertificates S (string_bytes text)
-IsToldOfSet t S cs (Refused text) = (e : CheckFault) × FaultOf t S cs e × IsRefusal S e (Refused text)
-IsToldOfSet t S cs (Clashes text) = (t ≡ task.Clashes) × ListsClashes S (string_bytes text)
-IsToldOfSet t S cs (Graph g) = (t ≡ task.Graph) × DrawsClashes S (string_bytes g.text) g.safe
-IsToldOfSet t S cs (Cut c) = (t ≡ task.Rounds) × WritesRounds S (string_bytes c.text) c.decided
-IsToldOfSet t S cs NotVerified = (t ≡ task.Rounds) ⊎ RunsByRounds t
-IsToldOfSet t S cs Reached = ⊥
-IsToldOfSet t S cs NotReached = ⊥
-IsToldOfSet t S cs (NoProfile name) = ⊥
-IsToldOfSet t S cs (BadPath f) = ⊥
-IsToldOfSet t S cs (Unread f) = ⊥
-IsToldOfSet t S cs (BadBundle f) = ⊥
-IsToldOfSet t S cs (BadSection f) = ⊥
-IsToldOfSet t S cs OutOfMemory = ⊤
+IsToldOfSet t S cs (answer.Verdict v) = IsVerdictOn t S cs v
+IsToldOfSet t S cs (answer.Clashes a) = AreClashesOf t S a
+IsToldOfSet t S cs (answer.Run a) = CameOfRun t S a
+IsToldOfSet t S cs (answer.Refused text) = (e : CheckFault) × FaultOf t S cs e × IsRefusal S e (answer.Refused text)
+IsToldOfSet t S cs answer.NotVerified = (t ≡ task.Rounds) ⊎ RunsByRounds t
+IsToldOfSet t S cs answer.OutOfMemory = ⊤
+IsToldOfSet t S cs _ = ⊥
 
 -- The profiles and rules are no set, or the set is refused.
 abbrev pub IsRefusedFor : Task → Contents → CheckFault → Type 0
@@ -220,28 +231,21 @@ pub record IsToldAbout (request : Request) (c : Contents) (r : Report) : Type 0 
   pub asked : AsksFor request c.state to_do
   pub told : IsToldOfSet to_do (members c) c.certificates r
 
+-- What holds of the question and of the bundle's profiles where the program answers so whether one reaches a path.
+abbrev pub IsToldOfReach : Request → List Parts → ReachAnswer → Type 0
+IsToldOfReach request Ps Reached = ReachIs request Ps true
+IsToldOfReach request Ps NotReached = ReachIs request Ps false
+IsToldOfReach request Ps (NoProfile name) = LacksProfile request Ps name.now
+IsToldOfReach request Ps (BadPath f) = HasBadPath request Ps f
+
 -- What holds of the question and of what the bundle says where the program answers so to a bundle that was read.
 abbrev pub IsTold : Request → Contents → Report → Type 0
-IsTold request c Safe = IsToldAbout request c Safe
-IsTold request c (Ran r) = IsToldAbout request c (Ran r)
-IsTold request c (RanByRounds r) = IsToldAbout request c (RanByRounds r)
-IsTold request c (NotRun e) = IsToldAbout request c (NotRun e)
-IsTold request c NoState = LacksState request c.state
-IsTold request c Verified = IsToldAbout request c Verified
-IsTold request c (Certified t) = IsToldAbout request c (Certified t)
-IsTold request c (Refused t) = IsToldRefused request c (Refused t)
-IsTold request c (Clashes t) = IsToldAbout request c (Clashes t)
-IsTold request c (Graph g) = IsToldAbout request c (Graph g)
-IsTold request c (Cut t) = IsToldAbout request c (Cut t)
-IsTold request c NotVerified = IsToldAbout request c NotVerified
-IsTold request c Reached = ReachIs request c.profiles true
-IsTold request c NotReached = ReachIs request c.profiles false
-IsTold request c (NoProfile name) = LacksProfile request c.profiles name.now
-IsTold request c (BadPath f) = HasBadPath request c.profiles f
-IsTold request c (Unread f) = ⊥
-IsTold request c (BadBundle f) = ⊥
-IsTold request c (BadSection f) = ⊥
-IsTold request c OutOfMemory = ⊤
+IsTold request c (answer.Faulty f) = ⊥
+IsTold request c (answer.Reach a) = IsToldOfReach request c.profiles a
+IsTold request c answer.NoState = LacksState request c.state
+IsTold request c (answer.Refused t) = IsToldRefused request c (answer.Refused t)
+IsTold request c answer.OutOfMemory = ⊤
+IsTold request c r = IsToldAbout request c r
 
 -- The bytes are a bundle of which that is true.
 pub record IsTrueOf (request : Request) (bytes : List ℕ) (r : Report) : Type 0 where
@@ -255,28 +259,17 @@ IsUnread bytes input.ReadFailed = ⊤
 IsUnread bytes input.TurnsSpent = READ_TURNS ≤ length bytes
 IsUnread bytes input.OutOfMemory = ⊤
 
+-- What holds of an input that isn't a bundle.
+abbrev pub IsFaulty : List ℕ → FaultyInput → Type 0
+IsFaulty bytes (Unread f) = IsUnread bytes f
+IsFaulty bytes (BadBundle f) = bundle_reading bytes ≡ Err f
+IsFaulty bytes (BadSection f) = HasFault bytes f
+
 -- What holds of the question and the input where the program answers so.
 abbrev pub Holds : Request → List ℕ → Report → Type 0
-Holds request bytes Safe = IsTrueOf request bytes Safe
-Holds request bytes (Ran r) = IsTrueOf request bytes (Ran r)
-Holds request bytes (RanByRounds r) = IsTrueOf request bytes (RanByRounds r)
-Holds request bytes (NotRun e) = IsTrueOf request bytes (NotRun e)
-Holds request bytes NoState = IsTrueOf request bytes NoState
-Holds request bytes Verified = IsTrueOf request bytes Verified
-Holds request bytes (Certified t) = IsTrueOf request bytes (Certified t)
-Holds request bytes (Refused t) = IsTrueOf request bytes (Refused t)
-Holds request bytes (Clashes t) = IsTrueOf request bytes (Clashes t)
-Holds request bytes (Graph g) = IsTrueOf request bytes (Graph g)
-Holds request bytes (Cut c) = IsTrueOf request bytes (Cut c)
-Holds request bytes NotVerified = IsTrueOf request bytes NotVerified
-Holds request bytes Reached = IsTrueOf request bytes Reached
-Holds request bytes NotReached = IsTrueOf request bytes NotReached
-Holds request bytes (NoProfile name) = IsTrueOf request bytes (NoProfile name)
-Holds request bytes (BadPath f) = IsTrueOf request bytes (BadPath f)
-Holds request bytes (Unread f) = IsUnread bytes f
-Holds request bytes (BadBundle f) = bundle_reading bytes ≡ Err f
-Holds request bytes (BadSection f) = HasFault bytes f
-Holds request bytes OutOfMemory = ⊤
+Holds request bytes (answer.Faulty f) = IsFaulty bytes f
+Holds request bytes answer.OutOfMemory = ⊤
+Holds request bytes r = IsTrueOf request bytes r
 
 -- The words ask whether a profile reaches a path, and this is what a profile that the bytes spell answers.
 pub record SpellsReach (asked : Option Request) (bytes : List ℕ) (answer : Bool) : Type 0 where
@@ -306,9 +299,9 @@ pub record Answers (request : Request) (remaining old new : Option (List ℕ)) (
   pub report : Report
   pub holds : IfSome remaining (λ bytes. Holds request bytes report)
   pub only_failed : says_read_failed report ≡ true → reads.failed ≡ true
-  pub all_failed : reads.failed ≡ true → (says_read_failed report ≡ true) ⊎ (report ≡ OutOfMemory)
+  pub all_failed : reads.failed ≡ true → (says_read_failed report ≡ true) ⊎ (report ≡ answer.OutOfMemory)
   pub spent : unread_by report ≡ Some input.TurnsSpent → AreSpent reads
-  pub whole : unread_by report ≡ None → (reads.at_end ≡ true) ⊎ (report ≡ OutOfMemory)
+  pub whole : unread_by report ≡ None → (reads.at_end ≡ true) ⊎ (report ≡ answer.OutOfMemory)
   pub text : List ℕ
   pub is_text : text ≡ text_of report
   pub writes : WritesText old new text (status_of report) write_failed status

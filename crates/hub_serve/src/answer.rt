@@ -15,7 +15,7 @@ use hub_bundle::{
     read_sections,
 };
 use hub_cli::Query;
-use hub_report::Report;
+use hub_report::{FaultyInput, Report};
 use hub_text::Watched;
 use std::alloc::Global;
 use std::io::Read;
@@ -44,7 +44,7 @@ pub fn report_on<'a, T: Threads + Wait + Sync, R: Read, P: Progress + Sync>(
     match read_input(alloc, input) {
         Ok(bytes) => report_on_bytes(rt, alloc, asked, bytes, progress),
         Err(InputFault::OutOfMemory) => Report::OutOfMemory,
-        Err(fault) => Report::Unread(fault),
+        Err(fault) => Report::Faulty(FaultyInput::Unread(fault)),
     }
 }
 
@@ -77,7 +77,7 @@ fn contents_in<'a>(alloc: Global, bytes: Vec<u8>) -> Result<Contents, Report<'a>
     };
     match read_sections(alloc, sections.as_slice()) {
         Ok(contents) => Ok(contents),
-        Err(ReadError::Faulty(fault)) => Err(Report::BadSection(fault)),
+        Err(ReadError::Faulty(fault)) => { Err(Report::Faulty(FaultyInput::BadSection(fault))) }
         Err(ReadError::OutOfMemory) => Err(Report::OutOfMemory),
     }
 }
@@ -102,11 +102,12 @@ fn report_on_contents<'a, T: Threads + Wait + Sync, P: Progress + Sync>(
 /// The answer if the bundle is read with that fault.
 fn bad_bundle<'a>(fault: BundleLineFault) -> Report<'a>
     ensures memory { fault ≡ bundle.out_of_memory → result ≡ Report.OutOfMemory }
-    ensures fault { (result ≡ Report.OutOfMemory) ⊎ (result ≡ Report.BadBundle fault) }
+    ensures fault { (result ≡ Report.OutOfMemory)
+        ⊎ (result ≡ Report.Faulty (FaultyInput.BadBundle fault)) }
     ensures read { unread_by result ≡ None }
 {
     match fault.fault {
         BundleFault::OutOfMemory => Report::OutOfMemory,
-        _ => Report::BadBundle(fault),
+        _ => Report::Faulty(FaultyInput::BadBundle(fault)),
     }
 }

@@ -15,7 +15,7 @@ use crate::progress::{Goals, Progress};
 use crate::run::{Attempt, run_jobs};
 use hub_cert::{CheckFault, ProfileSet};
 use hub_profile::{Profile, Rules};
-use hub_report::{Report, RoundsRun};
+use hub_report::{Report, RoundsRun, RunAnswer};
 use hub_rounds::{Clashes, Rounds, RoundsFault, Subject, clashes_of, rounds_of, subject_of};
 use hub_search::check_with_progress;
 use hub_state::State;
@@ -90,7 +90,7 @@ fn report_on_run<'a>(run: Result<RoundsRun, CheckFault>) -> Report<'a>
     ensures read { unread_by result ≡ None }
 {
     match run {
-        Ok(run) => Report::RanByRounds(run),
+        Ok(run) => Report::Run(RunAnswer::RanByRounds(run)),
         Err(CheckFault::OutOfMemory) => Report::OutOfMemory,
         Err(_) => Report::NotVerified,
     }

@@ -9,7 +9,7 @@ use hub_bundle::Contents;
 use hub_path::{PathFault, RelPath};
 use hub_profile::Profile;
 use hub_reach::reaches;
-use hub_report::Report;
+use hub_report::{ReachAnswer, Report};
 use std::alloc::Global;
 
 /// The answer to whether the bundle's first profile with that name reaches the path of that text.
@@ -26,11 +26,11 @@ pub fn report_on_reach<'a>(
     ensures read { unread_by result ≡ None }
 {
     let Some(found) = profile_named(contents.profiles.as_slice(), profile) else {
-        return Report::NoProfile(profile);
+        return Report::Reach(ReachAnswer::NoProfile(profile));
     };
     match RelPath::read(alloc, path) {
-        Ok(path) if reaches(found, &path) => Report::Reached,
-        Ok(_) => Report::NotReached,
+        Ok(path) if reaches(found, &path) => Report::Reach(ReachAnswer::Reached),
+        Ok(_) => Report::Reach(ReachAnswer::NotReached),
         Err(fault) => bad_path(fault),
     }
 }
@@ -38,12 +38,13 @@ pub fn report_on_reach<'a>(
 /// The answer if the text of a path is read with that fault.
 fn bad_path<'a>(fault: PathFault) -> Report<'a>
     ensures memory { fault ≡ PathFault.OutOfMemory → result ≡ Report.OutOfMemory }
-    ensures fault { (result ≡ Report.OutOfMemory) ⊎ (result ≡ Report.BadPath fault) }
+    ensures fault { (result ≡ Report.OutOfMemory)
+        ⊎ (result ≡ Report.Reach (ReachAnswer.BadPath fault)) }
     ensures read { unread_by result ≡ None }
 {
     match fault {
         PathFault::OutOfMemory => Report::OutOfMemory,
-        _ => Report::BadPath(fault),
+        _ => Report::Reach(ReachAnswer::BadPath(fault)),
     }
 }
 

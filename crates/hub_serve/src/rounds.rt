@@ -10,7 +10,8 @@ ghost use Rattle.hub_serve.specs.declared.task.Task.TheVariants as task;
 
 use hub_cert::{CheckFault, ProfileSet};
 use hub_report::{
-    Cut, Graph, Report, graph_of_clashes, lines_of_clashes, text_of_rounds, undecided_pairs,
+    ClashesAnswer, Cut, Graph, Report, Verdict, graph_of_clashes, lines_of_clashes, text_of_rounds,
+    undecided_pairs,
 };
 use hub_rounds::{Rounds, RoundsFault, clashes_of, rounds_of};
 use std::alloc::{AllocError, Global};
@@ -24,10 +25,10 @@ pub fn report_on_clashes<'a>(alloc: Global, set: &ProfileSet) -> Report<'a>
         return Report::OutOfMemory;
     };
     if clashes.lines().is_empty() {
-        return Report::Safe;
+        return Report::Verdict(Verdict::Safe);
     }
     match lines_of_clashes(alloc, set, &clashes) {
-        Ok(lines) => Report::Clashes(lines),
+        Ok(lines) => Report::Clashes(ClashesAnswer::Lines(lines)),
         Err(AllocError) => Report::OutOfMemory,
     }
 }
@@ -38,7 +39,7 @@ pub fn report_on_graph<'a>(alloc: Global, set: &ProfileSet) -> Report<'a>
     ensures read { unread_by result ≡ None }
 {
     match graph_of(alloc, set) {
-        Ok(graph) => Report::Graph(graph),
+        Ok(graph) => Report::Clashes(ClashesAnswer::Graph(graph)),
         Err(AllocError) => Report::OutOfMemory,
     }
 }
@@ -59,7 +60,7 @@ pub fn report_on_rounds<'a>(alloc: Global, set: ProfileSet) -> Report<'a>
     ensures read { unread_by result ≡ None }
 {
     match cut(alloc, set) {
-        Ok(cut) => Report::Cut(cut),
+        Ok(cut) => Report::Clashes(ClashesAnswer::Cut(cut)),
         Err(RoundsFault::NotVerified { .. }) => Report::NotVerified,
         Err(RoundsFault::OutOfMemory) => Report::OutOfMemory,
     }

@@ -15,7 +15,7 @@ use crate::progress::{Jobs, Progress};
 use hub_cert::Verified;
 use hub_job::{End, JobEnd, Outcome, RunFault};
 use hub_profile::Profile;
-use hub_report::{Report, Run, RunError, lines_of_jobs};
+use hub_report::{Report, Run, RunAnswer, RunError, lines_of_jobs};
 use hub_runner::run;
 use hub_state::State;
 use std::alloc::{AllocError, Global};
@@ -57,8 +57,8 @@ fn report_on_attempt<'a>(attempt: Attempt) -> Report<'a>
     ensures read { unread_by result ≡ None }
 {
     match attempt {
-        Attempt::Ran(run) => Report::Ran(run),
-        Attempt::NotRun(error) => Report::NotRun(error),
+        Attempt::Ran(run) => Report::Run(RunAnswer::Ran(run)),
+        Attempt::NotRun(error) => Report::Run(RunAnswer::NotRun(error)),
     }
 }
 

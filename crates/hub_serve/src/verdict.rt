@@ -15,7 +15,7 @@ use crate::task::Task;
 use hub_bundle::Contents;
 use hub_cert::{Certificate, CheckFault, ProfileSet, verify, write_certificates};
 use hub_cli::Question;
-use hub_report::Report;
+use hub_report::{Report, Verdict};
 use hub_search::{certificates, check_with_progress};
 use hub_state::State;
 use std::alloc::Global;
@@ -112,7 +112,7 @@ fn report_on_safety<'a, P: Progress>(
 {
     // The type of what the check returns says that the set is safe.
     let _ = check_with_progress(alloc, set, &Goals { progress })?.set();
-    Ok(Report::Safe)
+    Ok(Report::Verdict(Verdict::Safe))
 }
 
 /// The answer what its jobs did and left, if it is safe.
@@ -144,7 +144,7 @@ fn report_with_certificates<'a>(alloc: Global, set: &ProfileSet) -> Result<Repor
 {
     let certificates = certificates(alloc, set)?;
     let text = write_certificates(alloc, certificates.as_slice())?;
-    Ok(Report::Certified(text))
+    Ok(Report::Verdict(Verdict::Certified(text)))
 }
 
 /// The answer whether these certificates show that the set is safe.
@@ -158,5 +158,5 @@ fn report_on_certificates<'a>(
     ensures read { IfOk result (λ r. unread_by r ≡ None) }
 {
     let _ = verify(alloc, set, own)?.set();
-    Ok(Report::Verified)
+    Ok(Report::Verdict(Verdict::Verified))
 }

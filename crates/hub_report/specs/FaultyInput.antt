@@ -1,0 +1,60 @@
+-- The text of the answer to an input that can't be read or isn't a bundle.
+use Rattle.std.specs.Prelude.{ℕ, List, ◌++◌, Option, None, codes, encode_utf8_all}
+use Rattle.std.specs.Fmt.{decimal}
+use Rattle.hub_path.specs.Path.{Name}
+use Rattle.hub_bundle.specs.Input.{unread_fault}
+use Rattle.hub_bundle.specs.declared.input.InputFault.{InputFault}
+use Rattle.hub_bundle.specs.declared.sections.SectionFault.{SectionFault}
+use Rattle.hub_bundle.specs.declared.sections.SectionFault.TheVariants.{OfProfile, OfRules}
+use Rattle.hub_bundle.specs.declared.sections.SectionFault.TheVariants.{OfState, OfCertificates}
+use Rattle.hub_report.specs.declared.faulty_input.FaultyInput.{FaultyInput}
+use Rattle.hub_report.specs.declared.faulty_input.FaultyInput.TheVariants.{Unread, BadBundle}
+use Rattle.hub_report.specs.declared.faulty_input.FaultyInput.TheVariants.{BadSection}
+use Rattle.hub_report.specs.Faults.{bundle_fault_name, fault_line, input_fault_name}
+use Rattle.hub_report.specs.Faults.{section_fault_name}
+
+-- The places: a line of the bundle, and a line of a section, counted from the one below its
+-- heading.
+abbrev pub bundle_place : ℕ → List ℕ
+bundle_place line = codes "bundle line " ++ decimal line
+
+abbrev pub profile_place : Name → ℕ → List ℕ
+profile_place name line =
+    codes "profile " ++ (encode_utf8_all name ++ (codes " line " ++ decimal line))
+
+abbrev pub rules_place : ℕ → List ℕ
+rules_place line = codes "rules line " ++ decimal line
+
+abbrev pub state_place : ℕ → List ℕ
+state_place line = codes "state line " ++ decimal line
+
+abbrev pub certificates_place : ℕ → List ℕ
+certificates_place line = codes "certificates line " ++ decimal line
+
+abbrev pub section_place : SectionFault → List ℕ
+section_place (OfProfile name f) = profile_place name f.line
+section_place (OfRules f) = rules_place f.line
+section_place (OfState f) = state_place f.line
+section_place (OfCertificates line) = certificates_place line
+
+-- The place of the fault of an input, and what the fault is called.
+abbrev pub place_in : FaultyInput → List ℕ
+place_in (Unread f) = codes "bundle line 0"
+place_in (BadBundle f) = bundle_place f.line
+place_in (BadSection f) = section_place f
+
+abbrev pub name_in : FaultyInput → List ℕ
+name_in (Unread f) = input_fault_name f
+name_in (BadBundle f) = bundle_fault_name f.fault
+name_in (BadSection f) = section_fault_name f
+
+-- The text is the line of the fault.
+abbrev pub text_of : FaultyInput → List ℕ
+text_of a = fault_line (place_in a) (name_in a)
+
+-- Why the input wasn't read to its end, if that is the fault: a read failed, or there were too
+-- many.
+abbrev pub unread_in : FaultyInput → Option InputFault
+unread_in (Unread f) = unread_fault f
+unread_in (BadBundle f) = None
+unread_in (BadSection f) = None

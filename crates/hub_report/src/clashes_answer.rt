@@ -1,0 +1,54 @@
+//! The answer with what clashes in a set, or with its rounds.
+ghost use Rattle.std.specs.Prelude.{◌≡◌, IfOk};
+ghost use Rattle.hub_report.specs.Blocks.{bytes_in};
+ghost use Rattle.hub_report.specs.ClashesAnswer as spec;
+
+use crate::blocks::Blocks;
+use crate::graph::Graph;
+use crate::rounds::Cut;
+use std::alloc::{AllocError, Global};
+
+/// What clashes in a set, or its rounds.
+#[derive(Drop)]
+pub enum ClashesAnswer {
+    /// The lines of all that clashes in the set, and of all that breaks a rule. There is at least one.
+    Lines(String),
+    /// The same, as a graph.
+    Graph(Graph),
+    /// The rounds of the set.
+    Cut(Cut),
+}
+
+impl ClashesAnswer {
+    /// The exit status: 0 if the set is safe or all of it is in rounds, and 1 otherwise.
+    pub(crate) fn status(&self) -> u8
+        ensures { result ≡ spec.status_of self.now }
+    {
+        match self {
+            ClashesAnswer::Lines(_) => 1,
+            ClashesAnswer::Graph(graph) => { if graph.safe { 0 } else { 1 } }
+            ClashesAnswer::Cut(cut) => { if cut.decided { 0 } else { 1 } }
+        }
+    }
+
+    /// The lines that belong on standard error: which two profiles count as clashing, since their goal was too large.
+    pub(crate) fn undecided(&self) -> &str
+        ensures { result.now ≡ spec.undecided_of self.now }
+    {
+        match self {
+            ClashesAnswer::Cut(cut) => cut.undecided.as_str(),
+            ClashesAnswer::Lines(_) | ClashesAnswer::Graph(_) => "",
+        }
+    }
+
+    /// The lines, the graph, or the text of the rounds.
+    pub(crate) fn into_text(self, alloc: Global) -> Result<Blocks, AllocError>
+        ensures { IfOk result (λ t. bytes_in t ≡ spec.text_of self) }
+    {
+        match self {
+            ClashesAnswer::Lines(lines) => Blocks::new(alloc, lines.into_bytes()),
+            ClashesAnswer::Graph(graph) => Blocks::new(alloc, graph.text.into_bytes()),
+            ClashesAnswer::Cut(cut) => Blocks::new(alloc, cut.text.into_bytes()),
+        }
+    }
+}

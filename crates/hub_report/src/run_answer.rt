@@ -1,0 +1,45 @@
+//! The answer with what came of a run.
+ghost use Rattle.std.specs.Prelude.{◌≡◌, IfOk};
+ghost use Rattle.hub_report.specs.Blocks.{bytes_in};
+ghost use Rattle.hub_report.specs.RunAnswer as spec;
+
+use crate::blocks::Blocks;
+use crate::rounds_run::{RoundsRun, text_of_rounds_run};
+use crate::run::{Run, RunError, text_of_error, text_of_run};
+use std::alloc::{AllocError, Global};
+
+/// What came of a run.
+#[derive(Drop)]
+pub enum RunAnswer {
+    /// The profiles may run at the same time, and their jobs were run on the bundle's state.
+    Ran(Run),
+    /// The rounds of the set were run one after another on the bundle's state.
+    RanByRounds(RoundsRun),
+    /// The profiles may run at the same time. Their jobs weren't run.
+    NotRun(RunError),
+}
+
+impl RunAnswer {
+    /// The exit status: 0 if each job is finished, and 3 if one was stopped or jobs weren't run.
+    pub(crate) fn status(&self) -> u8
+        ensures { result ≡ spec.status_of self.now }
+    {
+        match self {
+            RunAnswer::Ran(run) => { if run.finished { 0 } else { 3 } }
+            RunAnswer::RanByRounds(run) => { if run.finished { 0 } else { 3 } }
+            RunAnswer::NotRun(_) => 3,
+        }
+    }
+
+    /// `safe` or the number of rounds, and below it what the jobs did and the text of the state that they left, or why they
+    /// weren't run.
+    pub(crate) fn into_text(self, alloc: Global) -> Result<Blocks, AllocError>
+        ensures { IfOk result (λ t. bytes_in t ≡ spec.text_of self) }
+    {
+        match self {
+            RunAnswer::Ran(run) => text_of_run(alloc, run),
+            RunAnswer::RanByRounds(run) => text_of_rounds_run(alloc, run),
+            RunAnswer::NotRun(error) => text_of_error(alloc, &error),
+        }
+    }
+}

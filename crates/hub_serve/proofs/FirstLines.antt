@@ -1,14 +1,11 @@
 -- What is true of the input if what is written begins with these letters.
-use Rattle.std.proofs.Common.{◌≡◌, ◌≢◌, ◌∙◌, ◌⊎◌, inl, inr, ℕ, Bool, true, false, cond, List, [], ◌∷◌, ◌++◌, take, Option, Some, None, codes, refl, sym, ap, subst, arith}
+use Rattle.std.proofs.Common.{◌≡◌, ◌≢◌, ◌∙◌, ◌⊎◌, inl, inr, ℕ, Bool, true, false, cond, List, [], ◌∷◌, ◌++◌, take, Some, codes, refl, sym, ap, subst, arith}
 use Rattle.std.specs.Prelude.{⊤, string_bytes}
 use Rattle.std.proofs.lemmas.List.{append_cancel_left}
-use Rattle.std.proofs.lemmas.Option.{get_or_from_slice_get, same_Some, slice_get_within}
-use Rattle.hub_path.specs.Path.{Path}
+use Rattle.std.proofs.lemmas.Option.{get_or_from_slice_get, slice_get_within}
 use Rattle.hub_cert.specs.Refused.{IsRefused}
 use Rattle.hub_cert.specs.Set.{Members, IsSafeSet}
-use Rattle.hub_cert.specs.declared.goal.Place.{Place}
 use Rattle.hub_cert.specs.declared.fault.CheckFault.{CheckFault}
-use Rattle.hub_cert.specs.declared.fault.CheckFault.TheVariants as fault
 use Rattle.hub_search.specs.Search.{Disproves}
 use Rattle.hub_state.specs.State.{State}
 use Rattle.hub_state.specs.Writing.{state_text}
@@ -39,17 +36,16 @@ use Rattle.hub_report.specs.Starts.{RoundsStart, GraphStart, ReachedStart, NotRe
 use Rattle.hub_report.specs.Starts.{lines-start, refusal-start}
 use Rattle.hub_report.specs.RoundsRun.{rounds_run_text}
 use Rattle.hub_report.specs.declared.rounds_run.RoundsRun.{RoundsRun}
-use Rattle.hub_cli.specs.declared.words.Question.{Question}
 use Rattle.hub_cli.specs.declared.words.Question.TheVariants as ask
 use Rattle.hub_cli.specs.declared.words.Question.TheVariants.{CheckWithState, Run, RunByRounds, Check, Certify, Verify}
 use Rattle.hub_cli.specs.Words.{Request, about}
 use Rattle.hub_serve.specs.declared.task.Task.{Task}
 use Rattle.hub_serve.specs.declared.task.Task.TheVariants as task
 use Rattle.hub_serve.specs.ByRounds.{HasRunByRounds}
-use Rattle.hub_serve.specs.Report.{FaultOf, IsRefusedFor, IsTold, IsTrueOf, Holds, SpellsClashes, SpellsGraph}
+use Rattle.hub_serve.specs.Report.{IsRefusedFor, IsTold, IsTrueOf, Holds, SpellsClashes, SpellsGraph}
 use Rattle.hub_serve.specs.Report.{SpellsRounds, SpellsRoundsRun, SpellsSafe, SpellsUnsafe, SpellsVerified}
 use Rattle.hub_serve.specs.Rounds.{BeginsAsClash, DrawsClashes, ListsClashes, WritesRounds}
-use Rattle.hub_serve.specs.Runs.{HasRunAs, IsBelow, IsPrevented, IsRunOn}
+use Rattle.hub_serve.specs.Runs.{HasRunAs, IsBelow, IsPrevented}
 use Rattle.hub_serve.specs.Task.{AsksFor}
 use Rattle.hub_serve.proofs.Asking.{asks, unrefused}
 use Rattle.hub_serve.proofs.Refused.{BreachesShown, OverlapsShown, breach-refused, overlap-refused}

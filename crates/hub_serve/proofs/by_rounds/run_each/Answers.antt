@@ -1,13 +1,12 @@
-use Rattle.std.proofs.Common.{◌≡◌, ◌∙◌, ◌∷◌, ◌++◌, ℕ, suc, false, List, [], length, Some, refl, sym, ap, subst}
+use Rattle.std.proofs.Common.{◌∙◌, List, length, refl, sym, ap, subst}
 use Rattle.std.proofs.lemmas.List.{length_push}
-use Rattle.std.specs.Prelude.{slice_get}
 use Rattle.std.proofs.lemmas.Iterator.Adapters.{YieldsList-from_vec}
 use Rattle.std.proofs.lemmas.Iterator.Consumers.{YieldsList-end, YieldsList-turn}
 use Rattle.std.proofs.lemmas.List.{map-id}
 use Rattle.std.proofs.lemmas.Option.{slice_get_read}
 use Rattle.hub_profile.specs.Parts.{Parts}
 use Rattle.hub_profile.specs.declared.rule.Rule.{Rule}
-use Rattle.hub_serve.specs.ByRounds.{HaveRun, IsStep}
+use Rattle.hub_serve.specs.ByRounds.{IsStep}
 use Rattle.hub_serve.proofs.ByRounds.{IsSoFar, begun, ended, stopped, went-on}
 use Rattle.hub_serve.proofs.by_rounds.run_each.Goals as goal
 

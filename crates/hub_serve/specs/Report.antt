@@ -31,9 +31,11 @@ use Rattle.hub_report.specs.declared.report.Report.TheVariants as answer
 use Rattle.hub_report.specs.declared.clashes_answer.ClashesAnswer.{ClashesAnswer}
 use Rattle.hub_report.specs.declared.clashes_answer.ClashesAnswer.TheVariants.{Lines, Graph, Cut}
 use Rattle.hub_report.specs.declared.faulty_input.FaultyInput.{FaultyInput}
-use Rattle.hub_report.specs.declared.faulty_input.FaultyInput.TheVariants.{Unread, BadBundle, BadSection}
+use Rattle.hub_report.specs.declared.faulty_input.FaultyInput.TheVariants.{Unread, BadBundle}
+use Rattle.hub_report.specs.declared.faulty_input.FaultyInput.TheVariants.{BadSection}
 use Rattle.hub_report.specs.declared.reach_answer.ReachAnswer.{ReachAnswer}
-use Rattle.hub_report.specs.declared.reach_answer.ReachAnswer.TheVariants.{Reached, NotReached, NoProfile, BadPath}
+use Rattle.hub_report.specs.declared.reach_answer.ReachAnswer.TheVariants.{Reached, NotReached}
+use Rattle.hub_report.specs.declared.reach_answer.ReachAnswer.TheVariants.{NoProfile, BadPath}
 use Rattle.hub_report.specs.declared.run_answer.RunAnswer.{RunAnswer}
 use Rattle.hub_report.specs.declared.run_answer.RunAnswer.TheVariants.{Ran, RanByRounds, NotRun}
 use Rattle.hub_report.specs.declared.verdict.Verdict.{Verdict}
@@ -185,7 +187,8 @@ pub record WritesCertificates (S : Members) (text : List ℕ) : Type 0 where
   pub text_is : text ≡ certificates_text own
   pub read_back : certificates_in text ≡ Ok own
 
--- What holds of a set that was made, and of the bundle's certificates, where this was to be done and that is the verdict,
+-- What holds of a set that was made, and of the bundle's certificates, where this was to be done
+-- and that is the verdict,
 abbrev pub IsVerdictOn : Task → Members → List Certificate → Verdict → Type 0
 IsVerdictOn t S cs Safe = ((t ≡ task.Check) ⊎ (t ≡ task.Clashes)) × IsSafeSet S
 IsVerdictOn t S cs Verified = (t ≡ task.Verify) × AreCertificates S cs × IsSafeSet S
@@ -203,12 +206,13 @@ CameOfRun t S (Ran r) = HasRunAs t S r
 CameOfRun t S (RanByRounds r) = HasRunByRoundsAs t S r
 CameOfRun t S (NotRun e) = IsPrevented t S e
 
--- or any answer. Without a set that was made, none of the others is given.
+-- or any answer. The others are not answers about a set that was made.
 abbrev pub IsToldOfSet : Task → Members → List Certificate → Report → Type 0
 IsToldOfSet t S cs (answer.Verdict v) = IsVerdictOn t S cs v
 IsToldOfSet t S cs (answer.Clashes a) = AreClashesOf t S a
 IsToldOfSet t S cs (answer.Run a) = CameOfRun t S a
-IsToldOfSet t S cs (answer.Refused text) = (e : CheckFault) × FaultOf t S cs e × IsRefusal S e (answer.Refused text)
+IsToldOfSet t S cs (answer.Refused text) =
+    (e : CheckFault) × FaultOf t S cs e × IsRefusal S e (answer.Refused text)
 IsToldOfSet t S cs answer.NotVerified = (t ≡ task.Rounds) ⊎ RunsByRounds t
 IsToldOfSet t S cs answer.OutOfMemory = ⊤
 IsToldOfSet t S cs _ = ⊥
@@ -231,7 +235,8 @@ pub record IsToldAbout (request : Request) (c : Contents) (r : Report) : Type 0 
   pub asked : AsksFor request c.state to_do
   pub told : IsToldOfSet to_do (members c) c.certificates r
 
--- What holds of the question and of the bundle's profiles where the program answers so whether one reaches a path.
+-- What holds of the question and of the bundle's profiles where the program answers so whether one
+-- reaches a path.
 abbrev pub IsToldOfReach : Request → List Parts → ReachAnswer → Type 0
 IsToldOfReach request Ps Reached = ReachIs request Ps true
 IsToldOfReach request Ps NotReached = ReachIs request Ps false
@@ -299,7 +304,8 @@ pub record Answers (request : Request) (remaining old new : Option (List ℕ)) (
   pub report : Report
   pub holds : IfSome remaining (λ bytes. Holds request bytes report)
   pub only_failed : says_read_failed report ≡ true → reads.failed ≡ true
-  pub all_failed : reads.failed ≡ true → (says_read_failed report ≡ true) ⊎ (report ≡ answer.OutOfMemory)
+  pub all_failed : reads.failed ≡ true
+      → (says_read_failed report ≡ true) ⊎ (report ≡ answer.OutOfMemory)
   pub spent : unread_by report ≡ Some input.TurnsSpent → AreSpent reads
   pub whole : unread_by report ≡ None → (reads.at_end ≡ true) ⊎ (report ≡ answer.OutOfMemory)
   pub text : List ℕ

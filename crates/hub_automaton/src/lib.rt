@@ -17,6 +17,16 @@
 //! defines a step position by position, `specs/Masks` and `specs/Words` for 64 positions at once, and `specs/Rows` for many
 //! words at once. `specs/Alike` says which classes are treated alike, `specs/Varied` at which positions a class is told from
 //! class 0, `specs/Opened` what a class that isn't open leads to, and `specs/Ends` the masks of last positions.
+//!
+//! ```rust
+//! for number in 0..alphabet.count() {
+//!     let sample = alphabet.sample(Class::new(number));
+//!     samples.push(sample)?;
+//!     classes.push_str(class_text(alloc, alphabet.class_of(sample))?.as_str())?;
+//! }
+//! ```
+//!
+//! From `test_reach/src/alphabets.rt`.
 #![tactic(auto)]
 
 mod alike;

@@ -15,6 +15,15 @@
 //! `specs/Inductive`, `specs/Verdict` (what `verify` answers) and `specs/Reading`.
 //!
 //! Only functions that return a `Result` allocate.
+//!
+//! ```rust
+//! match ProfileSet::new(alloc, profiles, rules) {
+//!     Ok(set) => Ok(Box::new(alloc, set)?),
+//!     Err(fault) => bail!("no set: {fault:?}"),
+//! }
+//! ```
+//!
+//! From `test_checker/src/sets.rt`.
 #![tactic(auto)]
 
 mod certificate;

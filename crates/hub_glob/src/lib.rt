@@ -14,6 +14,12 @@
 //! The contracts are in the words of `specs/Glob` (what is matched), `specs/Taking` (what one piece takes),
 //! `specs/Reading` (what is read), `specs/Readable` (what holds of each specification that is read) and `specs/Writing`.
 //! `specs/OneStep` and `specs/ChoiceLaws` have lemmas for the proofs of the crates above.
+//!
+//! ```rust
+//! yes_or_no(alloc, spec.matches(&path_of(alloc, path)?))
+//! ```
+//!
+//! From `test_profiles/src/patterns.rt`.
 #![tactic(auto)]
 
 mod choosing;

@@ -9,6 +9,14 @@
 //! `specs/JobValue` (a job as contracts see it), `specs/Ends` (how it ends) and `specs/Run` (runs of one job).
 //!
 //! Only functions that return a `Result` and [`Job::turn`] allocate.
+//!
+//! ```rust
+//! let mut job = Job::new(alloc, number, profile, archive)?;
+//! let answers = answers_of(alloc, &mut job, profile, state, steps)?;
+//! end_text(alloc, job, answers.as_str())
+//! ```
+//!
+//! From `test_schedules/src/jobs.rt`.
 #![tactic(auto)]
 
 mod answer;

@@ -15,6 +15,15 @@
 //! `specs/Laws`, `specs/TextLaws` and `specs/ReadBack` prove what follows, for the proofs of the crates above.
 //!
 //! Only functions that return a `Result` allocate.
+//!
+//! ```rust
+//! if text.is_empty() {
+//!     return Ok(RelPath::top(alloc));
+//! }
+//! Ok(RelPath::read(alloc, text)?)
+//! ```
+//!
+//! From `test_profiles/src/paths.rt`.
 #![tactic(auto)]
 
 mod fault;

@@ -11,6 +11,13 @@
 //!
 //! Only functions that return a `Result` allocate. The contracts use the words of `specs/Reach`, `specs/Bars`,
 //! `specs/Stage`, `specs/Shape`, `specs/Table` and `specs/Numbering`.
+//!
+//! ```rust
+//! let walker = Walker::new(alloc, profile, alphabet)?;
+//! Ok(Box::new(alloc, Table::new(alloc, walker))?)
+//! ```
+//!
+//! From `test_reach/src/stages.rt`.
 #![tactic(auto)]
 
 mod known;

@@ -13,6 +13,17 @@
 //!
 //! Each of these calls goes once through the Looks of both sides and the marks of the archive, in the order of paths, and
 //! copies no contents. Only functions that return a `Result` allocate.
+//!
+//! ```rust
+//! looks.push(Look {
+//!     path: &seen.path,
+//!     mark: seen.mark,
+//!     names: &[],
+//!     others: seen.others,
+//! })?;
+//! ```
+//!
+//! From `test_states/src/reconciliation.rt`.
 #![tactic(auto)]
 
 mod block;

@@ -7,6 +7,13 @@
 //! The contracts use the words of `specs/Settling`, of hub_history's `specs/Book` and of hub_job's `specs/History`.
 //!
 //! Only functions that return a `Result` allocate.
+//!
+//! ```rust
+//! let left = run(rt, alloc, verified, state, workers, gate);
+//! left_text(alloc, &left)
+//! ```
+//!
+//! From `test_runner/src/runs.rt`.
 #![tactic(auto)]
 
 mod books;

@@ -2,6 +2,12 @@
 //!
 //! [`simulate`] runs them. Its contract is the promise of a safe set: in whatever order the jobs take turns, each of them does
 //! what it does alone. The laws of [`promise`] and [`together`] say so of every history of the replicas.
+//!
+//! ```rust
+//! let left = simulate_jobs(alloc, set.profiles(), state, schedule.as_slice());
+//! ```
+//!
+//! From `test_schedules/src/schedules.rt`.
 #![tactic(auto)]
 
 mod ended;

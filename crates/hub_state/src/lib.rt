@@ -20,6 +20,12 @@
 //! `proofs/Drafts` that it adds the same to the lists of entries of `specs/Reading`.
 //!
 //! Only functions that return a `Result` allocate.
+//!
+//! ```rust
+//! write_state(alloc, &mut Watched::new(&mut bytes), state)?;
+//! ```
+//!
+//! From `test_runner/src/shown.rt`.
 #![tactic(auto)]
 
 mod blobs;

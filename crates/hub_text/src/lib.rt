@@ -16,6 +16,12 @@
 //! characters.
 //!
 //! Only functions that return a `Result` allocate.
+//!
+//! ```rust
+//! Ok(format!(in alloc; "{:?}", first_word(text))?)
+//! ```
+//!
+//! From `test_profiles/src/texts.rt`.
 #![tactic(auto)]
 
 mod blank;

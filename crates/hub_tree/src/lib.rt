@@ -10,6 +10,16 @@
 //! write are copied, and no others.
 //!
 //! Only functions that return a `Result` allocate, and `Blob::new` takes over the memory of its bytes.
+//!
+//! ```rust
+//! /// Makes the second replica a copy of the first.
+//! fn copy(&mut self) -> Result<(), AllocError> {
+//!     self.other = self.tree.copy()?;
+//!     Ok(())
+//! }
+//! ```
+//!
+//! From `test_states/src/trees.rt`.
 #![tactic(auto)]
 
 mod archive;

@@ -41,28 +41,23 @@ impl Task {
     pub fn for_question(question: Question, state: Option<State>) -> Option<Task>
         ensures { result ≡ spec.task_of question state }
     {
-        match question {
-            Question::CheckWithState => match state {
-                Some(state) => Some(Task::RunJobs {
-                    workers: DEFAULT_WORKERS,
-                    state,
-                }),
-                None => Some(Task::Check),
-            },
-            Question::Run(workers) => match state {
-                Some(state) => Some(Task::RunJobs { workers, state }),
-                None => None,
-            },
-            Question::RunByRounds(workers) => match state {
-                Some(state) => Some(Task::RunByRounds { workers, state }),
-                None => None,
-            },
-            Question::Check => Some(Task::Check),
-            Question::Certify => Some(Task::Certify),
-            Question::Verify => Some(Task::Verify),
-            Question::Clashes => Some(Task::Clashes),
-            Question::Graph => Some(Task::Graph),
-            Question::Rounds => Some(Task::Rounds),
+        match (question, state) {
+            (Question::CheckWithState, Some(state)) => Some(Task::RunJobs {
+                workers: DEFAULT_WORKERS,
+                state,
+            }),
+            (Question::CheckWithState, None) | (Question::Check, _) => Some(Task::Check),
+            (Question::Run(workers), Some(state)) => Some(Task::RunJobs { workers, state }),
+            (Question::RunByRounds(workers), Some(state)) => Some(Task::RunByRounds {
+                workers,
+                state,
+            }),
+            (Question::Run(_) | Question::RunByRounds(_), None) => None,
+            (Question::Certify, _) => Some(Task::Certify),
+            (Question::Verify, _) => Some(Task::Verify),
+            (Question::Clashes, _) => Some(Task::Clashes),
+            (Question::Graph, _) => Some(Task::Graph),
+            (Question::Rounds, _) => Some(Task::Rounds),
         }
     }
 }

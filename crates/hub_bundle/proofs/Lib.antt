@@ -1,3 +1,2 @@
-pub mod InputFacts
 pub mod Lines
 pub mod Headings

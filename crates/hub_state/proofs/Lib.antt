@@ -5,7 +5,6 @@ pub mod Drafts
 pub mod Fields
 pub mod Files
 pub mod Folders
-pub mod Inputs
 pub mod Kept
 pub mod Lines
 pub mod Maps

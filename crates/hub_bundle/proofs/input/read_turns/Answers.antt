@@ -1,5 +1,5 @@
 use Rattle.std.proofs.Common.{◌<◌, arith, length, rules}
-use Rattle.hub_bundle.proofs.InputFacts.{read-whole, taken-length}
+use Rattle.hub_text.specs.Reads.{read-whole, taken-length}
 use Rattle.hub_bundle.proofs.input.read_turns.Goals as goal
 
 pub returns-then-count-eq0-clause-whole : goal.returns-then-count-eq0-clause-whole

@@ -6,7 +6,7 @@ use Rattle.hub_state.specs.declared.draft.Draft.{Draft}
 use Rattle.hub_state.specs.declared.reader.Prefix.{Prefix}
 use Rattle.hub_state.specs.Taking.{IsApart}
 use Rattle.hub_state.proofs.Blocks.{stands-begun, stands-same, within-begun, within-block}
-use Rattle.hub_state.proofs.Inputs.{taken-length}
+use Rattle.hub_text.specs.Reads.{taken-length}
 use Rattle.hub_state.proofs.reader.read_blocks.Goals as goal
 
 pub loop-init : goal.loop-init

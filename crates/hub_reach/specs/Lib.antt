@@ -8,6 +8,7 @@ pub mod Safe
 pub mod Walk
 pub mod Shape
 pub mod Stage
+pub mod Places
 pub mod Walker
 pub mod WalkerEnds
 pub mod Examples

@@ -24,6 +24,7 @@ mod known;
 pub mod laws;
 mod mentions;
 mod placed_bar;
+mod places;
 mod reach;
 mod row;
 mod shape;

@@ -4,8 +4,10 @@ ghost use Rattle.hub_automaton.specs.declared.alternatives.Alternatives.{Alterna
 ghost use Rattle.hub_automaton.specs.Spots.{seen};
 ghost use Rattle.hub_reach.specs.WalkerEnds.{AreEndsOf, bar_ends, some_match};
 ghost use Rattle.hub_reach.specs.declared.placed_bar.PlacedBar.{PlacedBar};
+ghost use Rattle.hub_reach.specs.declared.places.Places.{Places};
 
 use crate::placed_bar::PlacedBar;
+use crate::places::Places;
 use hub_automaton::{Ends, SpecSet, Spots};
 use std::alloc::{AllocError, Global};
 
@@ -19,42 +21,36 @@ pub(crate) struct WalkerEnds {
 }
 
 impl WalkerEnds {
-    /// The masks of the choices up to these numbers, first those of `ignore`, then those of `ignorenot`, then the kept values;
-    /// and of those of these bars.
+    /// Returns the masks of the choices of a set at these places.
     pub(crate) fn build(
         alloc: Global,
         set: &SpecSet,
-        ignore_end: usize,
-        ignorenot_end: usize,
-        kept_end: usize,
-        bars: &[PlacedBar],
+        places: &Places,
     ) -> Result<WalkerEnds, AllocError>
-        ensures { IfOk result
-            (AreEndsOf set.now.alternatives ignore_end ignorenot_end kept_end bars.now) }
+        ensures { IfOk result (AreEndsOf set.now.alternatives places.now) }
     {
         Ok(WalkerEnds {
-            ignore: set.ends_in(0, ignore_end)?,
-            ignorenot: set.ends_in(ignore_end, ignorenot_end)?,
-            kept: set.ends_in(ignorenot_end, kept_end)?,
-            barred: ends_of(alloc, set, bars)?,
+            ignore: set.ends_in(0, places.ignore_end)?,
+            ignorenot: set.ends_in(places.ignore_end, places.ignorenot_end)?,
+            kept: set.ends_in(places.ignorenot_end, places.kept_end)?,
+            barred: ends_of(alloc, set, places.partial.as_slice())?,
         })
     }
 
     /// Returns whether a pattern of `ignore` matches the text of the state, and none of `ignorenot` does.
     pub(crate) fn ignore(&self, spots: &Spots) -> bool
-        ensures { (ls : List Alternatives) (t : List ℕ) (i n k : ℕ) (bs : List PlacedBar)
-            → AreEndsOf ls i n k bs self.now
+        ensures { (ls : List Alternatives) (a : Places) (t : List ℕ) → AreEndsOf ls a self.now
             → spots.now ≡ seen ls t
-            → result ≡ (some_match ls t 0 i && not (some_match ls t i n)) }
+            → result ≡ (some_match ls t 0 a.ignore_end
+            && not (some_match ls t a.ignore_end a.ignorenot_end)) }
     {
         spots.meets(&self.ignore) && !spots.meets(&self.ignorenot)
     }
 
     /// Returns whether the text of the state is that of a kept value.
     pub(crate) fn keep(&self, spots: &Spots) -> bool
-        ensures { (ls : List Alternatives) (t : List ℕ) (i n k : ℕ) (bs : List PlacedBar)
-            → AreEndsOf ls i n k bs self.now
-            → spots.now ≡ seen ls t → result ≡ some_match ls t n k }
+        ensures { (ls : List Alternatives) (a : Places) (t : List ℕ) → AreEndsOf ls a self.now
+            → spots.now ≡ seen ls t → result ≡ some_match ls t a.ignorenot_end a.kept_end }
     {
         spots.meets(&self.kept)
     }

@@ -1,4 +1,4 @@
-use Rattle.std.proofs.Common.{◌≡◌, ◌∙◌, ◌++◌, List, length, map, ⊎_elim, inl, inr, sym, ap}
+use Rattle.std.proofs.Common.{◌≡◌, ◌∙◌, ◌++◌, length, map, ⊎_elim, inl, inr, sym, ap}
 use Rattle.std.proofs.lemmas.List.{length-map}
 use Rattle.std.proofs.lemmas.Result.{err_from_is_err_and}
 use Rattle.hub_automaton.specs.declared.alternatives.TheConstants.{SPOTS}

@@ -1,4 +1,4 @@
-ghost use Rattle.std.specs.Prelude.{◌≡◌, ◌⊎◌, ◌<◌, false, Some, Ok, Err, is_some, IfErr, IsTrue, OnOk};
+ghost use Rattle.std.specs.Prelude.{◌≡◌, ◌⊎◌, ◌<◌, false, None, Some, Ok, Err, is_some, IfErr, IsTrue, OnOk};
 ghost use Rattle.std.specs.FinMap as fin;
 ghost use Rattle.hub_text.specs.Fails.{Fails};
 ghost use Rattle.hub_path.specs.Path.{is_path};
@@ -362,13 +362,21 @@ fn put_named(
     if entries >= ENTRIES {
         return Err(Fault::TooLarge);
     }
-    if has_entry(tree, &path) {
-        return Err(Fault::Repeated);
-    }
     let Some(blob) = blobs.get(&digest) else {
-        return Err(Fault::UnknownBlob);
+        return Err(fault_without_blob(tree, &path));
     };
-    put_new(tree, &path, Contents::File(blob.copy()?))
+    put_contents(tree, &path, Contents::File(blob.copy()?))
+}
+
+/// Why a file can't be put that names a blob which the text doesn't have.
+fn fault_without_blob(tree: &Tree, path: &RelPath) -> Fault
+    requires { IsTrue (is_path path.now) }
+    ensures { taking.blob_named_put tree.now path.now None ≡ Err result }
+{
+    if has_entry(tree, path) {
+        return Fault::Repeated;
+    }
+    Fault::UnknownBlob
 }
 
 /// Puts a file with these bytes into a replica after this many entries.
@@ -401,10 +409,12 @@ fn put_contents(tree: &mut Tree, path: &RelPath, contents: Contents) -> Result<(
     ensures err { IfErr result (λ f. (f ≡ Fault.OutOfMemory)
         ⊎ (taking.contents_put tree.old path.now contents ≡ Err f)) }
 {
-    if has_entry(tree, path) {
-        return Err(Fault::Repeated);
+    match tree.put_new(path, contents) {
+        Ok(false) => Ok(()),
+        Ok(true) => Err(Fault::Repeated),
+        Err(SetFault::OutOfMemory) => Err(Fault::OutOfMemory),
+        Err(_) => Err(Fault::NoParent),
     }
-    put_new(tree, path, contents)
 }
 
 /// Returns whether a replica has an entry at the path.
@@ -416,23 +426,6 @@ fn has_entry(tree: &Tree, path: &RelPath) -> bool
         Mark::Absent => false,
         Mark::File(_) => true,
         Mark::Directory => true,
-    }
-}
-
-/// Puts contents, which are not `Absent`, into a replica that has no entry at the path.
-fn put_new(tree: &mut Tree, path: &RelPath, contents: Contents) -> Result<(), Fault>
-    requires path { IsTrue (is_path path.now) }
-    requires some { is_absent contents ≡ false }
-    requires new { is_some (fin.get tree.old path.now) ≡ false }
-    ensures ok { OnOk result
-        (taking.new_contents_put tree.old path.now contents ≡ Ok tree.new) }
-    ensures err { IfErr result (λ f. (f ≡ Fault.OutOfMemory)
-        ⊎ (taking.new_contents_put tree.old path.now contents ≡ Err f)) }
-{
-    match tree.set(path, contents) {
-        Ok(()) => Ok(()),
-        Err(SetFault::OutOfMemory) => Err(Fault::OutOfMemory),
-        Err(_) => Err(Fault::NoParent),
     }
 }
 

@@ -141,7 +141,7 @@ last_rest p d n e l = sym (drop_at p d n e ∙ ap (λ q. n ∷ q) (ap (λ k. dro
 pub rest_left : (p : Path) (d : ℕ) → d < length p → 0 < length (drop d p)
 rest_left p d l = omega (arith, length-drop d p)
 
-below_kids : (r : Path) (x : Node) → 0 < length r → node_get r x ≡ fin.get (replica_of (kids_of x)) r
+pub below_kids : (r : Path) (x : Node) → 0 < length r → node_get r x ≡ fin.get (replica_of (kids_of x)) r
 below_kids [] x l = absurd (omega arith)
 below_kids (m ∷ r) x l = refl
 

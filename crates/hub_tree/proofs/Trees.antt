@@ -1,6 +1,6 @@
 -- What holds of every tree.
 use Rattle.std.proofs.Common.{◌≡◌, ℕ, Bool, true, false, List, [], ◌∷◌, Option, Some, None, refl, ap, sym, ◌∙◌, subst}
-use Rattle.std.specs.Prelude.{Result, Ok, Err, OnOk, OnErr, ⊤}
+use Rattle.std.specs.Prelude.{Result, Ok, Err, OnOk, OnErr, if◌then◌else◌}
 use Rattle.std.specs.FinMap as fin
 use Rattle.std.specs.FinMap.Entries.{find}
 use Rattle.std.specs.Option.{option_and_then, unwrap_or, is_some}
@@ -23,9 +23,10 @@ use Rattle.hub_tree.specs.Laws.Contented.{held, get-with_contents}
 pub HasPaths-set : (m : Replica) (p : Path) (c : Contents) → HasPaths m → is_path p ≡ true → HasPaths (with_contents m p c)
 HasPaths-set m p c h here = λ q e. path_here m p q (held c) (eq_by_cmp path_cmp q p) here h refl (sym (ap is_some (get-with_contents m p c q)) ∙ e)
 
-pub HasPaths-after : (old new : Replica) (p : Path) (c : Contents) (r : Result ⊤ SetFault) → OnOk r (new ≡ with_contents old p c) → OnErr r (new ≡ old) → HasPaths old → is_path p ≡ true → HasPaths new
-HasPaths-after old new p c (Ok u) ok err h here = λ q e. HasPaths-set old p c h here q (sym (ap (λ m. is_some (fin.get m q)) ok) ∙ e)
-HasPaths-after old new p c (Err f) ok err h here = λ q e. h q (sym (ap (λ m. is_some (fin.get m q)) err) ∙ e)
+pub HasPaths-after : (left : Bool) (old new : Replica) (p : Path) (c : Contents) (r : Result Bool SetFault) → OnOk r (new ≡ (if left then old else with_contents old p c)) → OnErr r (new ≡ old) → HasPaths old → is_path p ≡ true → HasPaths new
+HasPaths-after true old new p c (Ok u) ok err h here = λ q e. h q (sym (ap (λ m. is_some (fin.get m q)) ok) ∙ e)
+HasPaths-after false old new p c (Ok u) ok err h here = λ q e. HasPaths-set old p c h here q (sym (ap (λ m. is_some (fin.get m q)) ok) ∙ e)
+HasPaths-after left old new p c (Err f) ok err h here = λ q e. h q (sym (ap (λ m. is_some (fin.get m q)) err) ∙ e)
 
 -- files have bytes
 held_file : (c : Contents) (b : List ℕ) → held c ≡ Some (contents.File b) → c ≡ contents.File b
@@ -37,9 +38,10 @@ HasBytes-set : (m : Replica) (p : Path) (c : Contents) → HasBytes m → ((b : 
 HasBytes-set m p c h here = λ q b e.
     cond_both (eq_by_cmp path_cmp q p) (held c) (fin.get m q) (λ r. r ≡ Some (contents.File b) → IsBytes b) (λ t k. here b (held_file c b k)) (λ t. h q b) (sym (get-with_contents m p c q) ∙ e)
 
-pub HasBytes-after : (old new : Replica) (p : Path) (c : Contents) (r : Result ⊤ SetFault) → OnOk r (new ≡ with_contents old p c) → OnErr r (new ≡ old) → HasBytes old → ((b : List ℕ) → c ≡ contents.File b → IsBytes b) → HasBytes new
-HasBytes-after old new p c (Ok u) ok err h here = λ q b e. HasBytes-set old p c h here q b (sym (ap (λ m. fin.get m q) ok) ∙ e)
-HasBytes-after old new p c (Err f) ok err h here = λ q b e. h q b (sym (ap (λ m. fin.get m q) err) ∙ e)
+pub HasBytes-after : (left : Bool) (old new : Replica) (p : Path) (c : Contents) (r : Result Bool SetFault) → OnOk r (new ≡ (if left then old else with_contents old p c)) → OnErr r (new ≡ old) → HasBytes old → ((b : List ℕ) → c ≡ contents.File b → IsBytes b) → HasBytes new
+HasBytes-after true old new p c (Ok u) ok err h here = λ q b e. h q b (sym (ap (λ m. fin.get m q) ok) ∙ e)
+HasBytes-after false old new p c (Ok u) ok err h here = λ q b e. HasBytes-set old p c h here q b (sym (ap (λ m. fin.get m q) ok) ∙ e)
+HasBytes-after left old new p c (Err f) ok err h here = λ q b e. h q b (sym (ap (λ m. fin.get m q) err) ∙ e)
 
 -- the parent of what is there is a directory
 shown_by : (cs : List (Name × Node)) (n : Name) (q : Path) → contents_at (replica_of cs) (n ∷ q) ≡ unwrap_or (option_and_then (node_get q) (find name_cmp n cs)) contents.Absent

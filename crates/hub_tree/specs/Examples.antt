@@ -9,7 +9,7 @@ use Rattle.hub_tree.specs.declared.fault.SetFault.TheVariants.{RootPath, NoParen
 use Rattle.hub_path.specs.Laws.{path_cmp-total}
 use Rattle.hub_tree.specs.Below.{is_below, under}
 use Rattle.hub_tree.specs.Sets.{sets}
-use Rattle.hub_tree.specs.Tree.{Replica, set_fault, children, names_at, bytes_at, IsTree}
+use Rattle.hub_tree.specs.Tree.{Replica, set_fault, new_fault, with_new_contents, children, names_at, bytes_at, IsTree}
 
 abbrev path : List ℕ → Path
 path t = slice_split (λ c. c == 47) t
@@ -49,6 +49,22 @@ nothing_is_not_removed =
 
 a_directory_may_be_made_again : set_fault small (path (codes "a")) Directory ≡ None
 a_directory_may_be_made_again =
+    let h : T (is_sorted path_cmp entries) = tt in simp (get-from_sorted, entries-from_sorted)
+
+-- If only new contents are set, what is there is left, and no fault is reported of it.
+a_full_directory_is_left : new_fault small (path (codes "a")) (File []) ≡ None
+a_full_directory_is_left =
+    let h : T (is_sorted path_cmp entries) = tt in simp (get-from_sorted, entries-from_sorted)
+
+a_file_is_left : with_new_contents small (path (codes "a/b")) Directory ≡ small
+a_file_is_left = let h : T (is_sorted path_cmp entries) = tt in simp (get-from_sorted)
+
+a_new_file_is_set : with_new_contents small (path (codes "z")) (File [])
+    ≡ insert small (path (codes "z")) (File [])
+a_new_file_is_set = let h : T (is_sorted path_cmp entries) = tt in simp (get-from_sorted)
+
+a_new_file_wants_a_parent : new_fault small (path (codes "x/y")) (File []) ≡ Some NoParent
+a_new_file_wants_a_parent =
     let h : T (is_sorted path_cmp entries) = tt in simp (get-from_sorted, entries-from_sorted)
 
 the_names_of_a_directory : names_at small (path (codes "a")) ≡ codes "b" ∷ []

@@ -1,11 +1,11 @@
 -- The entries of a tree that is kept as names and what stands under each.
-use Rattle.std.specs.Prelude.{◌≡◌, ℕ, ◌+◌, Bool, false, not, List, [], ◌∷◌, ◌++◌, map, length, ◌==◌, Option, Some, None, if◌then◌else◌}
+use Rattle.std.specs.Prelude.{◌≡◌, ℕ, ◌+◌, Bool, false, not, ◌&&◌, is_some, List, [], ◌∷◌, ◌++◌, map, length, ◌==◌, Option, Some, None, if◌then◌else◌}
 use Rattle.std.specs.Arc.{arc_value}
 use Rattle.std.specs.FinMap as fin
 use Rattle.std.specs.FinMap.Entries.{where_key}
 use Rattle.std.specs.Ordering.{eq_by_cmp}
 use Rattle.hub_path.specs.Path.{Name, Path, path_cmp, name_cmp}
-use Rattle.hub_tree.specs.Tree.{Replica, is_directory, set_fault}
+use Rattle.hub_tree.specs.Tree.{Replica, is_directory, set_fault, with_contents}
 use Rattle.hub_tree.specs.declared.fault.SetFault.{SetFault}
 use Rattle.hub_tree.specs.declared.fault.SetFault.TheVariants.{NoParent}
 use Rattle.hub_tree.specs.declared.contents.Contents.{Contents}
@@ -81,6 +81,22 @@ contents_or_absent (Some x) = contents_of x
 abbrev pub fault_below : Node → Path → Contents → Option SetFault
 fault_below x p c =
     if is_directory (contents_of x) then set_fault (replica_of (kids_of x)) p c else Some NoParent
+
+-- Whether a path is left as it is: only new contents are set, and it has some.
+abbrev pub is_left : Bool → Replica → Path → Bool
+is_left only_new m p = only_new && is_some (fin.get m p)
+
+-- Why contents can't be put at a path, and the replica after that.
+abbrev pub put_fault : Bool → Replica → Path → Contents → Option SetFault
+put_fault only_new m p c = if is_left only_new m p then None else set_fault m p c
+
+abbrev pub with_put : Bool → Replica → Path → Contents → Replica
+with_put only_new m p c = if is_left only_new m p then m else with_contents m p c
+
+-- Why contents can't be put at a path below a node.
+abbrev pub put_fault_below : Bool → Node → Path → Contents → Option SetFault
+put_fault_below only_new x p c =
+    if is_left only_new (replica_of (kids_of x)) p then None else fault_below x p c
 
 -- How many entries a node is, with what is below it.
 abbrev pub size_of : Node → ℕ

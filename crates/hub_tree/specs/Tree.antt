@@ -130,6 +130,14 @@ set_fault m p c =
     && not (length (children m p) == 0) then Some NotEmpty
     else (if is_absent (contents_at m p) && is_absent c then Some NothingThere else None)))
 
+-- Why contents can't be set at a path that has none yet. One that has some is left as it is.
+abbrev pub new_fault : Replica → Path → Contents → Option SetFault
+new_fault m p c = if is_some (fin.get m p) then None else set_fault m p c
+
+-- The replica with these contents at a path, if it had none there.
+abbrev pub with_new_contents : Replica → Path → Contents → Replica
+with_new_contents m p c = if is_some (fin.get m p) then m else with_contents m p c
+
 abbrev pub set_contents : Replica → Path → Contents → Result Replica SetFault
 set_contents m p c =
     if is_some (set_fault m p c) then Err (unwrap_or (set_fault m p c) RootPath)

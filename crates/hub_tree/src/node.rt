@@ -4,7 +4,7 @@ ghost use Rattle.std.specs.Option.{option_and_then, option_copied};
 ghost use Rattle.std.specs.FinMap as fin;
 ghost use Rattle.std.specs.BTreeMap.{get, insert_entry, keys, IsOrdered};
 ghost use Rattle.hub_path.specs.Path.{Path, name_cmp};
-ghost use Rattle.hub_tree.specs.Nodes.{replica_of, entries_of, entries_at, size_of, node_get, occupied, kids_of, contents_of, contents_or_absent, fault_below};
+ghost use Rattle.hub_tree.specs.Nodes.{replica_of, entries_of, entries_at, size_of, node_get, occupied, kids_of, contents_of, contents_or_absent, fault_below, is_left, put_fault, put_fault_below, with_put};
 ghost use Rattle.hub_tree.specs.Tree.{set_fault, with_contents, is_directory, IsRefusal};
 
 use crate::blob::Blob;
@@ -204,88 +204,146 @@ fn fault_of_child(
     }
 }
 
-/// Sets contents at the names of the path from `depth` on, below these. If they have other owners, they are copied first.
+/// Puts contents at the names of the path from `depth` on, below these. If they have other owners, they are copied first.
+/// If only new contents are put, those that are there are left as they are, and it returns `true`.
 #[cycle(set)]
-pub fn set_shared(
+pub fn put_shared(
     alloc: Global,
     shared: &mut Arc<BTreeMap<Name, Node>>,
     path: &RelPath,
     depth: usize,
     contents: Contents,
-) -> Result<(), SetFault>
+    only_new: bool,
+) -> Result<bool, SetFault>
     requires { depth < length path.now }
-    ensures allowed { OnOk result
-        (set_fault (replica_of (arc_value shared.old).entries) (drop depth path.now) contents ≡ None) }
-    ensures ok { OnOk result (replica_of (arc_value shared.new).entries
-        ≡ with_contents (replica_of (arc_value shared.old).entries) (drop depth path.now) contents) }
-    ensures fault { IfErr result (IsRefusal
-        (set_fault (replica_of (arc_value shared.old).entries) (drop depth path.now) contents)) }
+    ensures left { IfOk result (λ b. b
+        ≡ is_left only_new (replica_of (arc_value shared.old).entries) (drop depth path.now)) }
+    ensures allowed { OnOk result (put_fault only_new
+        (replica_of (arc_value shared.old).entries) (drop depth path.now) contents ≡ None) }
+    ensures ok { OnOk result (replica_of (arc_value shared.new).entries ≡ with_put only_new
+        (replica_of (arc_value shared.old).entries) (drop depth path.now) contents) }
+    ensures fault { IfErr result (IsRefusal (put_fault only_new
+        (replica_of (arc_value shared.old).entries) (drop depth path.now) contents)) }
     ensures err { OnErr result (replica_of (arc_value shared.new).entries
         ≡ replica_of (arc_value shared.old).entries) }
 {
     if let Some(children) = Arc::get_mut(shared) {
-        return set_at(alloc, children, path, depth, contents);
+        return put_at(alloc, children, path, depth, contents, only_new);
+    }
+    if leaves(shared, path, depth, only_new) {
+        return Ok(true);
     }
     let fault = fault_at(shared, path, depth, &contents);
     if let Some(fault) = fault {
         return Err(fault);
     }
     let mut children = copies_of(alloc, shared)?;
-    set_at(alloc, &mut children, path, depth, contents)?;
+    let left = put_at(alloc, &mut children, path, depth, contents, only_new)?;
     *shared = Arc::new(alloc, children)?;
-    Ok(())
+    Ok(left)
 }
 
-/// Sets contents at the names of the path from `depth` on, below these.
+/// Puts contents at the names of the path from `depth` on, below these. See [`put_shared`].
 #[cycle(set)]
-pub fn set_at(
+pub fn put_at(
     alloc: Global,
     children: &mut BTreeMap<Name, Node>,
     path: &RelPath,
     depth: usize,
     contents: Contents,
-) -> Result<(), SetFault>
+    only_new: bool,
+) -> Result<bool, SetFault>
     requires { depth < length path.now }
-    ensures allowed { OnOk result
-        (set_fault (replica_of children.old.entries) (drop depth path.now) contents ≡ None) }
+    ensures left { IfOk result
+        (λ b. b ≡ is_left only_new (replica_of children.old.entries) (drop depth path.now)) }
+    ensures allowed { OnOk result (put_fault only_new
+        (replica_of children.old.entries) (drop depth path.now) contents ≡ None) }
     ensures ok { OnOk result (replica_of children.new.entries
-        ≡ with_contents (replica_of children.old.entries) (drop depth path.now) contents) }
-    ensures fault { IfErr result
-        (IsRefusal (set_fault (replica_of children.old.entries) (drop depth path.now) contents)) }
+        ≡ with_put only_new (replica_of children.old.entries) (drop depth path.now) contents) }
+    ensures fault { IfErr result (IsRefusal (put_fault only_new
+        (replica_of children.old.entries) (drop depth path.now) contents)) }
     ensures err { OnErr result (replica_of children.new.entries ≡ replica_of children.old.entries) }
 {
     let len = path.len();
     let name = path.name(depth);
     if depth + 1 == len {
-        return set_child(alloc, children, name, contents);
+        return put_child(alloc, children, name, contents, only_new);
     }
     match children.get_mut(name) {
-        Some(node) => set_below(alloc, node, path, depth + 1, contents),
+        Some(node) => put_below(alloc, node, path, depth + 1, contents, only_new),
         None => Err(SetFault::NoParent),
     }
 }
 
-/// Sets contents at the names of the path from `depth` on, below a node.
+/// Puts contents at the names of the path from `depth` on, below a node. See [`put_shared`].
 #[cycle(set)]
-fn set_below(
+fn put_below(
     alloc: Global,
     node: &mut Node,
     path: &RelPath,
     depth: usize,
     contents: Contents,
-) -> Result<(), SetFault>
+    only_new: bool,
+) -> Result<bool, SetFault>
     requires { depth < length path.now }
-    ensures allowed { OnOk result (fault_below node.old (drop depth path.now) contents ≡ None) }
+    ensures left { IfOk result
+        (λ b. b ≡ is_left only_new (replica_of (kids_of node.old)) (drop depth path.now)) }
+    ensures allowed { OnOk result
+        (put_fault_below only_new node.old (drop depth path.now) contents ≡ None) }
     ensures ok { OnOk result (replica_of (kids_of node.new)
-        ≡ with_contents (replica_of (kids_of node.old)) (drop depth path.now) contents) }
-    ensures fault { IfErr result (IsRefusal (fault_below node.old (drop depth path.now) contents)) }
+        ≡ with_put only_new (replica_of (kids_of node.old)) (drop depth path.now) contents) }
+    ensures fault { IfErr result
+        (IsRefusal (put_fault_below only_new node.old (drop depth path.now) contents)) }
     ensures err { OnErr result (replica_of (kids_of node.new) ≡ replica_of (kids_of node.old)) }
     ensures kind { contents_of node.new ≡ contents_of node.old }
 {
     match node {
-        Node::Directory(children) => set_shared(alloc, children, path, depth, contents),
+        Node::Directory(children) => put_shared(alloc, children, path, depth, contents, only_new),
         Node::File(_) => Err(SetFault::NoParent),
     }
+}
+
+/// Returns whether only new contents are put, and there are some at the names of the path from `depth` on, below these.
+fn leaves(children: &BTreeMap<Name, Node>, path: &RelPath, depth: usize, only_new: bool) -> bool
+    requires { depth < length path.now }
+    ensures { result
+        ≡ is_left only_new (replica_of children.now.entries) (drop depth path.now) }
+{
+    only_new && node_at(children, path, depth).is_some()
+}
+
+/// Puts contents at a name. If only new contents are put, those that are there are left as they are, and it returns `true`.
+fn put_child(
+    alloc: Global,
+    children: &mut BTreeMap<Name, Node>,
+    name: &Name,
+    contents: Contents,
+    only_new: bool,
+) -> Result<bool, SetFault>
+    ensures left { IfOk result
+        (λ b. b ≡ is_left only_new (replica_of children.old.entries) (name.now ∷ [])) }
+    ensures allowed { OnOk result (put_fault only_new
+        (replica_of children.old.entries) (name.now ∷ []) contents ≡ None) }
+    ensures ok { OnOk result (replica_of children.new.entries
+        ≡ with_put only_new (replica_of children.old.entries) (name.now ∷ []) contents) }
+    ensures fault { IfErr result (IsRefusal (put_fault only_new
+        (replica_of children.old.entries) (name.now ∷ []) contents)) }
+    ensures err { OnErr result (replica_of children.new.entries ≡ replica_of children.old.entries) }
+{
+    if leaves_child(children, name, only_new) {
+        return Ok(true);
+    }
+    match set_child(alloc, children, name, contents) {
+        Ok(()) => Ok(false),
+        Err(fault) => Err(fault),
+    }
+}
+
+/// Returns whether only new contents are put, and there are some at a name.
+fn leaves_child(children: &BTreeMap<Name, Node>, name: &Name, only_new: bool) -> bool
+    ensures { result ≡ is_left only_new (replica_of children.now.entries) (name.now ∷ []) }
+{
+    only_new && children.contains_key(name)
 }
 
 /// Sets contents at a name.

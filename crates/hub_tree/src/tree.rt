@@ -1,7 +1,7 @@
-ghost use Rattle.std.specs.Prelude.{◌≡◌, ◌<◌, ◌↔◌, length, min, None, IsTrue, IfOk, IfErr, OnOk, OnErr};
+ghost use Rattle.std.specs.Prelude.{◌≡◌, ◌<◌, ◌↔◌, length, min, None, is_some, IsTrue, IfOk, IfErr, OnOk, OnErr};
 ghost use Rattle.std.specs.Option.{option_map};
 ghost use Rattle.std.specs.FinMap as fin;
-ghost use Rattle.hub_tree.specs.Nodes.{replica_of};
+ghost use Rattle.hub_tree.specs.Nodes.{replica_of, is_left, put_fault, with_put};
 ghost use Rattle.hub_tree.specs.Shared.{shared_entries};
 ghost use Rattle.hub_tree.specs.Tree as tree;
 
@@ -9,7 +9,7 @@ use crate::blob::Blob;
 use crate::contents::{Contents, Mark};
 use crate::entries::Entries;
 use crate::fault::SetFault;
-use crate::node::{Node, count_of, names_of, node_at, push_paths, set_at, set_shared};
+use crate::node::{Node, count_of, names_of, node_at, push_paths, put_at, put_shared};
 use crate::same::are_same;
 use hub_path::{Name, RelPath};
 use hub_text::Items;
@@ -215,36 +215,72 @@ impl Tree {
         ensures fault { IfErr result (tree.IsRefusal (tree.set_fault self.old path.now contents)) }
         ensures err { OnErr result (self.new ≡ self.old) }
     {
+        match self.put(path, contents, false) {
+            Ok(_left) => Ok(()),
+            Err(fault) => Err(fault),
+        }
+    }
+
+    /// Sets contents at a path that has none, and returns whether the path has some already.
+    ///
+    /// If it returns `true`, the replica is unchanged. If it returns `false`, it has set the contents, as [`Tree::set`] does.
+    /// A fault is one that `set` reports at a path that has no contents, or `OutOfMemory`, and leaves the replica unchanged.
+    /// Contents that are not set are dropped.
+    ///
+    /// It walks along the path once, unless the replica shares a directory on the path with a copy.
+    pub fn put_new(&mut self, path: &RelPath, contents: Contents) -> Result<bool, SetFault>
+        ensures there { IfOk result (λ b. b ≡ is_some (fin.get self.old path.now)) }
+        ensures allowed { OnOk result (tree.new_fault self.old path.now contents ≡ None) }
+        ensures ok { OnOk result (self.new ≡ tree.with_new_contents self.old path.now contents) }
+        ensures fault { IfErr result (tree.IsRefusal (tree.new_fault self.old path.now contents)) }
+        ensures err { OnErr result (self.new ≡ self.old) }
+    {
+        self.put(path, contents, true)
+    }
+
+    /// Puts contents at the path. If only new contents are put, those that are there are left, and it returns `true`.
+    fn put(&mut self, path: &RelPath, contents: Contents, only_new: bool) -> Result<bool, SetFault>
+        ensures left { IfOk result (λ b. b ≡ is_left only_new self.old path.now) }
+        ensures allowed { OnOk result (put_fault only_new self.old path.now contents ≡ None) }
+        ensures ok { OnOk result (self.new ≡ with_put only_new self.old path.now contents) }
+        ensures fault { IfErr result
+            (tree.IsRefusal (put_fault only_new self.old path.now contents)) }
+        ensures err { OnErr result (self.new ≡ self.old) }
+    {
+        let alloc = self.alloc;
         if path.len() == 0 {
             return Err(SetFault::RootPath);
         }
         contents.has_bytes();
-        set_top(self.alloc, &mut self.top, path, contents)
+        put_top(alloc, &mut self.top, path, contents, only_new)
     }
 }
 
-/// Sets contents at the path, which is not the whole replica.
-fn set_top(
+/// Puts contents at the path, which is not the whole replica. See [`Tree::put`].
+fn put_top(
     alloc: Global,
     top: &mut Option<Arc<BTreeMap<Name, Node>>>,
     path: &RelPath,
     contents: Contents,
-) -> Result<(), SetFault>
+    only_new: bool,
+) -> Result<bool, SetFault>
     requires { 0 < length path.now }
+    ensures left { IfOk result
+        (λ b. b ≡ is_left only_new (replica_of (shared_entries top.old)) path.now) }
     ensures allowed { OnOk result
-        (tree.set_fault (replica_of (shared_entries top.old)) path.now contents ≡ None) }
+        (put_fault only_new (replica_of (shared_entries top.old)) path.now contents ≡ None) }
     ensures ok { OnOk result (replica_of (shared_entries top.new)
-        ≡ tree.with_contents (replica_of (shared_entries top.old)) path.now contents) }
+        ≡ with_put only_new (replica_of (shared_entries top.old)) path.now contents) }
     ensures fault { IfErr result (tree.IsRefusal
-        (tree.set_fault (replica_of (shared_entries top.old)) path.now contents)) }
+        (put_fault only_new (replica_of (shared_entries top.old)) path.now contents)) }
     ensures err { OnErr result
         (replica_of (shared_entries top.new) ≡ replica_of (shared_entries top.old)) }
 {
     if let Some(shared) = top {
-        return set_shared(alloc, shared, path, 0, contents);
+        return put_shared(alloc, shared, path, 0, contents, only_new);
     }
     let mut children = BTreeMap::new(alloc);
-    set_at(alloc, &mut children, path, 0, contents)?;
+    let left = put_at(alloc, &mut children, path, 0, contents, only_new)?;
     *top = Some(Arc::new(alloc, children)?);
-    Ok(())
+    Ok(left)
 }

@@ -1,0 +1,97 @@
+-- What is put at a path, where only new contents may be.
+use Rattle.std.proofs.Common.{◌≡◌, ℕ, ◌+◌, ◌<◌, Bool, true, false, ◌&&◌, List, [], ◌∷◌, ◌++◌, append-nil, length, drop, Option, Some, None, Bor, refl, ap, sym, ◌∙◌, arith}
+use Rattle.std.specs.Prelude.{if◌then◌else◌}
+use Rattle.std.specs.List.{slice_get}
+use Rattle.std.specs.Option.{option_and_then, option_copied, is_some}
+use Rattle.std.specs.FinMap as fin
+use Rattle.std.specs.FinMap.Entries.{find}
+use Rattle.hub_path.specs.Path.{Name, Path, name_cmp}
+use Rattle.hub_tree.specs.Tree.{Replica, set_fault, with_contents}
+use Rattle.hub_tree.specs.Nodes.{replica_of, node_get, contents_of, kids_of, fault_below, is_left, put_fault, put_fault_below, with_put}
+use Rattle.hub_tree.specs.declared.contents.Contents.{Contents}
+use Rattle.hub_tree.specs.declared.contents.Contents.TheVariants as contents
+use Rattle.hub_tree.specs.declared.fault.SetFault.TheVariants.{RootPath, NoParent}
+use Rattle.hub_tree.specs.declared.node.Node.{Node}
+use Rattle.hub_tree.proofs.LookUp.{look_up, get_nothing, drop_at, rest_left, below_kids}
+use Rattle.hub_tree.proofs.Setting.{Changes, changed_through, same_through, fault_through, fault_nowhere, fault_below-file}
+
+-- a path that is left, and one that is set
+pub put_fault-left : (new : Bool) (m : Replica) (p : Path) (c : Contents) → is_left new m p ≡ true → put_fault new m p c ≡ None
+put_fault-left new m p c e = ap (λ b. if b then None else set_fault m p c) e
+
+pub with_put-left : (new : Bool) (m : Replica) (p : Path) (c : Contents) → is_left new m p ≡ true → with_put new m p c ≡ m
+with_put-left new m p c e = ap (λ b. if b then m else with_contents m p c) e
+
+pub put_fault-set : (new : Bool) (m : Replica) (p : Path) (c : Contents) → is_left new m p ≡ false → put_fault new m p c ≡ set_fault m p c
+put_fault-set new m p c e = ap (λ b. if b then None else set_fault m p c) e
+
+pub with_put-set : (new : Bool) (m : Replica) (p : Path) (c : Contents) → is_left new m p ≡ false → with_put new m p c ≡ with_contents m p c
+with_put-set new m p c e = ap (λ b. if b then m else with_contents m p c) e
+
+-- whether a path has contents
+there : (o : Option Node) → is_some (option_and_then (node_get []) o) ≡ is_some o
+there None = refl
+there (Some x) = refl
+
+pub there_at_name : (cs : List (Name × Node)) (n : Name) → is_some (fin.get (replica_of cs) (n ∷ [])) ≡ is_some (find name_cmp n cs)
+there_at_name cs n = ap is_some (look_up cs n []) ∙ there (find name_cmp n cs)
+
+there_behind : (o : Option (Bor Node)) → is_some (option_and_then (node_get []) (option_copied o)) ≡ is_some o
+there_behind None = refl
+there_behind (Some x) = refl
+
+pub there_at_node : (cs : List (Name × Node)) (p : Path) (o : Option (Bor Node)) → ((q : Path) → fin.get (replica_of cs) (p ++ q) ≡ option_and_then (node_get q) (option_copied o)) → is_some (fin.get (replica_of cs) p) ≡ is_some o
+there_at_node cs p o h = ap (λ q. is_some (fin.get (replica_of cs) q)) (sym (append-nil p)) ∙ ap is_some (h []) ∙ there_behind o
+
+get_below : (cs : List (Name × Node)) (p : Path) (d : ℕ) (n : Name) (x : Node) → slice_get p d ≡ Some n → d + 1 < length p → find name_cmp n cs ≡ Some x → fin.get (replica_of cs) (drop d p) ≡ fin.get (replica_of (kids_of x)) (drop (d + 1) p)
+get_below cs p d n x e l f =
+    ap (fin.get (replica_of cs)) (drop_at p d n e) ∙ look_up cs n (drop (d + 1) p)
+    ∙ ap (option_and_then (node_get (drop (d + 1) p))) f ∙ below_kids (drop (d + 1) p) x (rest_left p (d + 1) l)
+
+get_nowhere : (cs : List (Name × Node)) (p : Path) (d : ℕ) (n : Name) → slice_get p d ≡ Some n → find name_cmp n cs ≡ None → fin.get (replica_of cs) (drop d p) ≡ None
+get_nowhere cs p d n e f = ap (fin.get (replica_of cs)) (drop_at p d n e) ∙ look_up cs n (drop (d + 1) p) ∙ ap (option_and_then (node_get (drop (d + 1) p))) f
+
+never_left : (new : Bool) (o : Option Contents) → o ≡ None → (new && is_some o) ≡ false
+never_left true o e = ap is_some e
+never_left false o e = refl
+
+-- through a node
+pub left_through : (new : Bool) (cs : List (Name × Node)) (p : Path) (d : ℕ) (n : Name) (x : Node) → slice_get p d ≡ Some n → d + 1 < length p → find name_cmp n cs ≡ Some x → is_left new (replica_of cs) (drop d p) ≡ is_left new (replica_of (kids_of x)) (drop (d + 1) p)
+left_through new cs p d n x e l f = ap (λ o. new && is_some o) (get_below cs p d n x e l f)
+
+pub put_fault_through : (new : Bool) (cs : List (Name × Node)) (p : Path) (d : ℕ) (n : Name) (x : Node) (c : Contents) → slice_get p d ≡ Some n → d + 1 < length p → find name_cmp n cs ≡ Some x
+    → put_fault new (replica_of cs) (drop d p) c ≡ put_fault_below new x (drop (d + 1) p) c
+put_fault_through new cs p d n x c e l f =
+    ap (λ b. if b then None else set_fault (replica_of cs) (drop d p) c) (left_through new cs p d n x e l f)
+    ∙ ap (λ o. if is_left new (replica_of (kids_of x)) (drop (d + 1) p) then None else o)
+    (ap (λ q. set_fault (replica_of cs) q c) (drop_at p d n e) ∙ fault_through cs n (drop (d + 1) p) x c (rest_left p (d + 1) l) f)
+
+put_by : (b : Bool) (cs fs : List (Name × Node)) (p : Path) (d : ℕ) (n : Name) (x y : Node) (c : Contents) → slice_get p d ≡ Some n → d + 1 < length p → Changes cs fs n (Some y) → find name_cmp n cs ≡ Some x → contents_of y ≡ contents_of x
+    → replica_of (kids_of y) ≡ (if b then replica_of (kids_of x) else with_contents (replica_of (kids_of x)) (drop (d + 1) p) c) → replica_of fs ≡ (if b then replica_of cs else with_contents (replica_of cs) (drop d p) c)
+put_by true cs fs p d n x y c e l change f kind below = same_through cs fs n x y change f kind below
+put_by false cs fs p d n x y c e l change f kind below =
+    changed_through cs fs n (drop (d + 1) p) x y c (rest_left p (d + 1) l) change f kind below
+    ∙ ap (λ q. with_contents (replica_of cs) q c) (sym (drop_at p d n e))
+
+pub with_put_through : (new : Bool) (cs fs : List (Name × Node)) (p : Path) (d : ℕ) (n : Name) (x y : Node) (c : Contents) → slice_get p d ≡ Some n → d + 1 < length p → Changes cs fs n (Some y) → find name_cmp n cs ≡ Some x → contents_of y ≡ contents_of x
+    → replica_of (kids_of y) ≡ with_put new (replica_of (kids_of x)) (drop (d + 1) p) c → replica_of fs ≡ with_put new (replica_of cs) (drop d p) c
+with_put_through new cs fs p d n x y c e l change f kind below =
+    put_by (is_left new (replica_of (kids_of x)) (drop (d + 1) p)) cs fs p d n x y c e l change f kind below
+    ∙ ap (λ b. if b then replica_of cs else with_contents (replica_of cs) (drop d p) c) (sym (left_through new cs p d n x e l f))
+
+-- a name that stands for nothing
+pub put_fault_nowhere : (new : Bool) (cs : List (Name × Node)) (p : Path) (d : ℕ) (n : Name) (c : Contents) → slice_get p d ≡ Some n → d + 1 < length p → find name_cmp n cs ≡ None → put_fault new (replica_of cs) (drop d p) c ≡ Some NoParent
+put_fault_nowhere new cs p d n c e l f =
+    put_fault-set new (replica_of cs) (drop d p) c (never_left new (fin.get (replica_of cs) (drop d p)) (get_nowhere cs p d n e f))
+    ∙ ap (λ q. set_fault (replica_of cs) q c) (drop_at p d n e) ∙ fault_nowhere cs n (drop (d + 1) p) c (rest_left p (d + 1) l) f
+
+-- below a file
+pub put_fault_below-file : (new : Bool) (x : Node) (b : List ℕ) (p : Path) (c : Contents) → contents_of x ≡ contents.File b → kids_of x ≡ [] → put_fault_below new x p c ≡ Some NoParent
+put_fault_below-file new x b p c d k =
+    ap (λ l. if l then None else fault_below x p c) (never_left new (fin.get (replica_of (kids_of x)) p) (ap (λ ks. fin.get (replica_of ks) p) k ∙ get_nothing p))
+    ∙ fault_below-file x b p c d
+
+-- the whole replica
+pub put_fault_top : (new : Bool) (m : Replica) (p : Path) (c : Contents) → length p ≡ 0 → fin.get m [] ≡ None → put_fault new m p c ≡ Some RootPath
+put_fault_top new m [] c l g = put_fault-set new m [] c (never_left new (fin.get m []) g)
+put_fault_top new m (n ∷ p) c l g = absurd (omega arith)

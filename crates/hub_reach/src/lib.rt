@@ -10,7 +10,7 @@
 //! - [`laws`]: what the crates above may conclude of stages and of reach.
 //!
 //! Only functions that return a `Result` allocate. The contracts use the words of `specs/Reach`, `specs/Bars`,
-//! `specs/Stage`, `specs/Shape`, `specs/Table` and `specs/Numbering`.
+//! `specs/Stage`, `specs/Shape`, `specs/Places`, `specs/Table` and `specs/Numbering`.
 //!
 //! ```rust
 //! let walker = Walker::new(alloc, profile, alphabet)?;

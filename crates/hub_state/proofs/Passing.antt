@@ -1,5 +1,5 @@
 -- Lines that are written one after the other.
-use Rattle.std.proofs.Common.{◌≡◌, ℕ, map, List, [], ◌∷◌, ◌++◌, Option, Some, None, BTreeMap, String, string_bytes, refl, sym, ap, ◌∙◌, subst, append-nil, append_assoc}
+use Rattle.std.proofs.Common.{◌≡◌, ℕ, Bool, false, map, List, [], ◌∷◌, ◌++◌, Option, Some, None, BTreeMap, String, string_bytes, refl, sym, ap, ◌∙◌, subst, append-nil, append_assoc}
 use Rattle.std.specs.FinMap as fin
 use Rattle.std.specs.List.{flat_map}
 use Rattle.std.specs.Prelude.{Result, Ok}
@@ -29,6 +29,10 @@ joined_one f xs x =
     ap joined_lines (flat_map-append f xs (x ∷ []) ∙ ap (λ ls. flat_map f xs ++ ls) (append-nil (f x)))
     ∙ joined-append (flat_map f xs) (f x)
 
+-- The text of one more item, before a block of it is passed on.
+pub block_more : {X : Type 0} (f : X → List (List ℕ)) (x : X) (xs : List X) → joined_lines (flat_map f (xs ++ x ∷ [])) ≡ joined_lines (flat_map f xs) ++ (joined_lines (f x) ++ [])
+block_more f x xs = joined_one f xs x ∙ ap (λ u. joined_lines (flat_map f xs) ++ u) (sym (append-nil (joined_lines (f x))))
+
 -- One more entry of a map.
 keyed-push : {Z X Y : Type 0} (f : X → Y) (es : List (String Z × X)) (x : String Z × X) → keyed f (es ++ x ∷ []) ≡ keyed f es ++ (string_bytes x.0, f x.1) ∷ []
 keyed-push f [] x = refl
@@ -57,6 +61,26 @@ passes-step a b c x y w z done s t all one push two is = (
   append_assoc one.0 two.0 z ∙ ap (λ u. one.0 ++ u) (two.2 ∙ ap (λ u. u ++ t) push ∙ append_assoc y s t) ∙ sym (append_assoc one.0 y (s ++ t))
       ∙ ap (λ u. u ++ (s ++ t)) one.2 ∙ append_assoc x done (s ++ t) ∙ ap (λ u. x ++ u) (sym is),
 )
+
+-- What a loop that writes has done: it has taken some items, and has passed on what is written of them.
+abbrev pub Wrote : {X : Type 0} → (List X → List ℕ) → Option (List ℕ) → Option (List ℕ) → List ℕ → List ℕ → List X → List X → Bool → Type 0
+Wrote {X} text a b x y rest all failed = (done : List X) × (done ++ rest ≡ all) × Passes a b x y (text done) × (failed ≡ false)
+
+pub wrote-nothing : {X : Type 0} (text : List X → List ℕ) (a : Option (List ℕ)) (x : List ℕ) (rest all : List X) (failed : Bool) → text [] ≡ [] → rest ≡ all → failed ≡ false → Wrote text a a x x rest all failed
+wrote-nothing text a x rest all failed none left works = ([], left, subst (λ (u : List ℕ). Passes a a x x u) (sym none) (passes-start a x), works)
+
+pub wrote-more : {X : Type 0} (text : List X → List ℕ) (a b c : Option (List ℕ)) (x y w z s t : List ℕ) (left rest all : List X) (item : X) (before after : Bool)
+    → Wrote text a b x y left all before → left ≡ item ∷ rest → w ≡ y ++ s → Passes b c w z t → ((done : List X) → text (done ++ item ∷ []) ≡ text done ++ (s ++ t)) → after ≡ false → Wrote text a c x z rest all after
+wrote-more text a b c x y w z s t left rest all item before after wrote step push passes more works = (
+  wrote.0 ++ item ∷ [],
+  append_assoc wrote.0 (item ∷ []) rest ∙ ap (λ r. wrote.0 ++ r) (sym step) ∙ wrote.1,
+  passes-step a b c x y w z (text wrote.0) s t (text (wrote.0 ++ item ∷ [])) wrote.2 push passes (more wrote.0),
+  works,
+)
+
+pub wrote-all : {X : Type 0} (text : List X → List ℕ) (a b : Option (List ℕ)) (x y : List ℕ) (rest all : List X) (failed : Bool) → Wrote text a b x y rest all failed → rest ≡ [] → Passes a b x y (text all)
+wrote-all text a b x y rest all failed wrote ends =
+    subst (λ es. Passes a b x y (text es)) (sym (append-nil wrote.0) ∙ ap (λ r. wrote.0 ++ r) (sym ends) ∙ wrote.1) wrote.2
 
 pub passes-all : (a b c : Option (List ℕ)) (x y done : List ℕ) → Passes a b x y done → Appends b c y → Appends a c (x ++ done)
 passes-all a b c x y done one two = subst_bytes (Appends-trans a b c one.0 y one.1 two) one.2

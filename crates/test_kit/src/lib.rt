@@ -1,7 +1,7 @@
 //! What the programs `test_*` share: how a table of questions is read and answered, in one dialect.
 //!
-//! - [`answer_table`] reads the table on standard input, and writes `QUESTION => ANSWER` for each question. A program is an
-//!   [`Answers`].
+//! - [`answer_each`] reads the table on standard input, and writes `QUESTION => ANSWER` for each question. A program whose lines
+//!   give something to the questions below them is an [`Answers`], and calls [`answer_table`].
 //! - [`cut`], [`first`], [`two`] and [`three`] split a question; [`bytes_of`], [`text_of`], [`character_of`] and
 //!   [`path_of`] read a field.
 //! - [`answers_to_steps`] answers steps, one after another. What takes them is a [`Subject`].
@@ -34,4 +34,4 @@ pub use answers::{digit, in_one_line, list_text, outcome_text, quoted, shown, wo
 pub use escapes::{bytes_of, text_of};
 pub use fields::{character_of, cut, first, path_of, three, two};
 pub use steps::{Subject, answers_to_steps};
-pub use table::{Answers, answer_table};
+pub use table::{Answers, answer_each, answer_table};

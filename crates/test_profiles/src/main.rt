@@ -27,29 +27,15 @@ mod texts;
 
 use anyhow::{Result, bail};
 use std::alloc::Global;
-use test_kit::{Answers, answer_table, cut, text_of};
+use test_kit::{answer_each, cut, text_of};
 
 fn main(rt: HostRuntime) -> Result<()> {
-    answer_table(&rt, &mut Program {})
+    answer_each(&rt, answer)
 }
 
-/// What answers the questions. It keeps nothing from one to the next.
-#[derive(Drop)]
-struct Program {}
-
-impl Answers for Program {
-    fn takes(&mut self, _line: &str) -> Result<bool> {
-        Ok(false)
-    }
-
-    fn answer(&mut self, alloc: Global, word: &str, fields: &str) -> Result<String> {
-        let (question, fields) = cut(fields);
-        answer(alloc, word, question, fields)
-    }
-}
-
-/// Answers a question about a subject.
-fn answer(alloc: Global, subject: &str, question: &str, fields: &str) -> Result<String> {
+/// Answers a question about a subject. The fields begin with what is asked about it.
+fn answer(alloc: Global, subject: &str, fields: &str) -> Result<String> {
+    let (question, fields) = cut(fields);
     match subject {
         "profile" => profiles::answer(alloc, "", question, fields),
         "lines" => profiles::answer(alloc, profiles::ROOTS, question, fields),

@@ -19,24 +19,10 @@ mod walkers;
 
 use anyhow::{Result, bail};
 use std::alloc::Global;
-use test_kit::{Answers, answer_table};
+use test_kit::answer_each;
 
 fn main(rt: HostRuntime) -> Result<()> {
-    answer_table(&rt, &mut Program {})
-}
-
-/// What answers the questions. It keeps nothing from one to the next.
-#[derive(Drop)]
-struct Program {}
-
-impl Answers for Program {
-    fn takes(&mut self, _line: &str) -> Result<bool> {
-        Ok(false)
-    }
-
-    fn answer(&mut self, alloc: Global, word: &str, fields: &str) -> Result<String> {
-        answer(alloc, word, fields)
-    }
+    answer_each(&rt, answer)
 }
 
 /// Answers a question about alphabets or automata, or about a profile.

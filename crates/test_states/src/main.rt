@@ -29,34 +29,25 @@ mod trees;
 
 use anyhow::{Result, bail};
 use std::alloc::Global;
-use test_kit::{Answers, answer_table};
-
-/// Answers each question by itself.
-#[derive(Drop)]
-struct Program;
-
-impl Answers for Program {
-    fn takes(&mut self, _line: &str) -> Result<bool> {
-        Ok(false)
-    }
-
-    fn answer(&mut self, alloc: Global, word: &str, fields: &str) -> Result<String> {
-        match word {
-            "line" => states::line_answer(alloc, fields),
-            "text" => states::text_answer(alloc, fields),
-            "failing_reader" => states::failing_reader_answer(alloc, fields),
-            "failing_writer" => states::failing_writer_answer(alloc, fields),
-            "state" => sections::answers(alloc, fields),
-            "blob" => trees::blob_answer(alloc, fields),
-            "tree" => trees::answers(alloc, fields),
-            "levels" => levels::answer(alloc, fields),
-            "archive" => archives::answers(alloc, fields),
-            "reconcile" => reconciliation::answer(alloc, fields),
-            _ => bail!("no question: {word}"),
-        }
-    }
-}
+use test_kit::answer_each;
 
 fn main(rt: HostRuntime) -> Result<()> {
-    answer_table(&rt, &mut Program)
+    answer_each(&rt, answer)
+}
+
+/// Answers a question.
+fn answer(alloc: Global, word: &str, fields: &str) -> Result<String> {
+    match word {
+        "line" => states::line_answer(alloc, fields),
+        "text" => states::text_answer(alloc, fields),
+        "failing_reader" => states::failing_reader_answer(alloc, fields),
+        "failing_writer" => states::failing_writer_answer(alloc, fields),
+        "state" => sections::answers(alloc, fields),
+        "blob" => trees::blob_answer(alloc, fields),
+        "tree" => trees::answers(alloc, fields),
+        "levels" => levels::answer(alloc, fields),
+        "archive" => archives::answers(alloc, fields),
+        "reconcile" => reconciliation::answer(alloc, fields),
+        _ => bail!("no question: {word}"),
+    }
 }

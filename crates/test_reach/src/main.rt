@@ -10,6 +10,7 @@ mod alphabets;
 mod automata;
 mod automaton;
 mod given;
+mod numbers;
 mod paths;
 mod reached;
 mod stages;

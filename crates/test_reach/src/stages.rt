@@ -2,8 +2,9 @@
 ghost use Rattle.hub_reach.specs.Mention.{Mentions};
 
 use crate::given::{alphabet_of, alphabet_with, profile_of};
+use crate::numbers::numbers_text;
 use anyhow::Result;
-use hub_automaton::{Alphabet, Class, ClassSet};
+use hub_automaton::{Alphabet, ClassSet};
 use hub_profile::Profile;
 use hub_reach::{Table, Walker};
 use std::alloc::{AllocError, Global};
@@ -20,31 +21,7 @@ pub(crate) fn stages(alloc: Global, fields: &str) -> Result<String> {
 fn stages_of(alloc: Global, profile: &Profile, texts: &str) -> Result<String> {
     let alphabet = alphabet_of(alloc, profile)?;
     let mut table = table_of(alloc, profile, &alphabet)?;
-    Ok(stages_text(alloc, &alphabet, &mut table, texts)?)
-}
-
-fn stages_text(
-    alloc: Global,
-    alphabet: &Alphabet,
-    table: &mut Table,
-    texts: &str,
-) -> Result<String, AllocError> {
-    let numbers = numbers_text(alloc, alphabet, table, texts)?;
-    format!(in alloc; "{numbers} of {}", table.len())
-}
-
-fn numbers_text(
-    alloc: Global,
-    alphabet: &Alphabet,
-    table: &mut Table,
-    texts: &str,
-) -> Result<String, AllocError> {
-    let mut numbers = Vec::new(alloc);
-    for text in texts.split("; ") {
-        let number = number_after(alphabet, table, text)?;
-        numbers.push(number_text(alloc, table, number)?)?;
-    }
-    numbers.as_slice().join(alloc, ", ")
+    Ok(numbers_text(alloc, &alphabet, &mut *table, texts)?)
 }
 
 /// Makes the table of a profile's walker.
@@ -53,50 +30,6 @@ pub(crate) fn table_of(alloc: Global, profile: &Profile, alphabet: &Alphabet) ->
 {
     let walker = Walker::new(alloc, profile, alphabet)?;
     Ok(Box::new(alloc, Table::new(alloc, walker))?)
-}
-
-/// The number of a text's stage.
-pub(crate) fn number_after(
-    alphabet: &Alphabet,
-    table: &mut Table,
-    text: &str,
-) -> Result<usize, AllocError> {
-    let mut number = table.start()?;
-    for character in text.chars() {
-        if let Some(class) = alphabet.class_of(character) {
-            number = next_number(table, number, class)?;
-        }
-    }
-    Ok(number)
-}
-
-/// The next number. A class that the table doesn't have changes nothing.
-fn next_number(table: &mut Table, number: usize, class: Class) -> Result<usize, AllocError> {
-    if number < table.len() && class.number() < table.walker().class_count() {
-        return table.next(number, class);
-    }
-    Ok(number)
-}
-
-/// The number, whether the path of its stage is reached, and whether its texts are broken.
-fn number_text(alloc: Global, table: &Table, number: usize) -> Result<String, AllocError> {
-    let reached = reached_word(table, number);
-    let broken = broken_word(table, number);
-    format!(in alloc; "{number}{reached}{broken}")
-}
-
-fn reached_word(table: &Table, number: usize) -> &'static str {
-    if number < table.len() && table.reached(number) {
-        return " reached";
-    }
-    ""
-}
-
-fn broken_word(table: &Table, number: usize) -> &'static str {
-    if number < table.len() && table.stage(number).is_broken() {
-        return " broken";
-    }
-    ""
 }
 
 /// For each of these characters whether its class may lead from the start elsewhere than class 0 does, as `0` and `1`.

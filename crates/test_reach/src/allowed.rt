@@ -6,7 +6,7 @@ use crate::verbs::verbs_text;
 use crate::walkers::{Walking, stage_after};
 use anyhow::{Result, bail};
 use hub_path::Side;
-use hub_profile::{Profile, Verb};
+use hub_profile::Profile;
 use hub_reach::{Stage, Table, Walker};
 use std::alloc::{AllocError, Global};
 use test_kit::three;
@@ -42,12 +42,7 @@ fn stage_text(
     stage: &Stage,
     side: Side,
 ) -> Result<String, AllocError> {
-    let verbs = verbs_text(
-        alloc,
-        walker.allowed(stage, side, Verb::Create),
-        walker.allowed(stage, side, Verb::Update),
-        walker.allowed(stage, side, Verb::Delete),
-    )?;
+    let verbs = verbs_text(alloc, |verb| walker.allowed(stage, side, verb))?;
     let written = walker.writes_at(stage, side);
     format!(in alloc; "{verbs} {written}")
 }
@@ -68,12 +63,7 @@ fn number_text(
     if number >= table.len() {
         return String::from_str(alloc, "no stage");
     }
-    let verbs = verbs_text(
-        alloc,
-        table.allowed(number, side, Verb::Create),
-        table.allowed(number, side, Verb::Update),
-        table.allowed(number, side, Verb::Delete),
-    )?;
+    let verbs = verbs_text(alloc, |verb| table.allowed(number, side, verb))?;
     let written = table.writes_at(number, side);
     format!(in alloc; "{verbs} {written}")
 }

@@ -16,35 +16,33 @@ pub(crate) fn may_change(alloc: Global, fields: &str) -> Result<String> {
 }
 
 fn allowed_text(alloc: Global, profile: &Profile, root: &Root) -> Result<String, AllocError> {
-    verbs_text(
-        alloc,
-        may(profile, root, Verb::Create),
-        may(profile, root, Verb::Update),
-        may(profile, root, Verb::Delete),
-    )
+    verbs_text(alloc, |verb| may(profile, root, verb))
 }
 
+/// The kinds of change, and their names.
+const VERBS: [(Verb, &str); 3] = [
+    (Verb::Create, "create"),
+    (Verb::Update, "update"),
+    (Verb::Delete, "delete"),
+];
+
 /// The kinds of change that are allowed, by name.
-pub(crate) fn verbs_text(
+pub(crate) fn verbs_text<F: Fn(Verb) -> bool>(
     alloc: Global,
-    create: bool,
-    update: bool,
-    delete: bool,
-) -> Result<String, AllocError> {
-    let mut allowed = Vec::new(alloc);
-    if create {
-        allowed.push("create")?;
+    allows: F,
+) -> Result<String, AllocError>
+    requires { F.IsAlwaysCallable allows }
+{
+    let mut words = Vec::new(alloc);
+    for (verb, word) in VERBS {
+        if allows(verb) {
+            words.push(word)?;
+        }
     }
-    if update {
-        allowed.push("update")?;
+    if words.is_empty() {
+        words.push("nothing")?;
     }
-    if delete {
-        allowed.push("delete")?;
-    }
-    if allowed.is_empty() {
-        allowed.push("nothing")?;
-    }
-    allowed.as_slice().join(alloc, " ")
+    words.as_slice().join(alloc, " ")
 }
 
 /// Returns whether the profile writes at a root.
@@ -71,12 +69,7 @@ fn allowed_at_text(
     root: &Root,
     path: &RelPath,
 ) -> Result<String, AllocError> {
-    verbs_text(
-        alloc,
-        may_at(profile, root, path, Verb::Create),
-        may_at(profile, root, path, Verb::Update),
-        may_at(profile, root, path, Verb::Delete),
-    )
+    verbs_text(alloc, |verb| may_at(profile, root, path, verb))
 }
 
 /// Returns whether the profile writes at a path of a root.

@@ -1,7 +1,5 @@
 //! Steps at a desk over an empty replica, and what the desk can be closed with.
 
-use crate::given::Case;
-use crate::shown::push_answer;
 use anyhow::{Context, Result, bail};
 use hub_cert::ProfileSet;
 use hub_history::{Book, Desk, Gate, Seat, StepFault};
@@ -12,6 +10,7 @@ use hub_tree::{Blob, Contents, Tree};
 use std::alloc::Global;
 use std::sync::Wait;
 use std::sync::atomic::{AtomicU64, Ordering};
+use test_cases::{Case, answer_text};
 use test_kit::{cut, path_of};
 
 /// A gate that counts its calls: 1 for each `within`, 1,000 for each other one.
@@ -40,13 +39,13 @@ impl Gate for Counting {
 /// steps, which are separated by `; `. A step is the number of a job and an operation.
 pub(crate) fn answer<R: Wait>(rt: &R, case: &Case, fields: &str) -> Result<String> {
     let (root, steps) = cut(fields);
-    let root = Root::read(case.alloc, root)?;
+    let root = Root::read(case.alloc(), root)?;
     answer_at(rt, case, &root, steps)
 }
 
 fn answer_at<R: Wait>(rt: &R, case: &Case, root: &Root, steps: &str) -> Result<String> {
     let set = case.set()?;
-    answer_of_set(rt, case.alloc, &set, root, steps)
+    answer_of_set(rt, case.alloc(), &set, root, steps)
 }
 
 fn answer_of_set<R: Wait>(
@@ -133,7 +132,7 @@ fn push_step<R: Wait>(
     let job = job.parse::<usize>()?;
     let op = op_of(alloc, fields)?;
     let answer = desk.step(rt, seat, job, op, gate);
-    push_told(text, &answer)
+    push_told(alloc, text, &answer)
 }
 
 /// The operation of a word, a path, and the text of a file to write.
@@ -156,9 +155,9 @@ fn file_of(alloc: Global, text: &str) -> Result<Contents> {
 }
 
 /// Adds what the desk answers to a step.
-fn push_told(text: &mut String, answer: &Result<Answer, StepFault>) -> Result<()> {
+fn push_told(alloc: Global, text: &mut String, answer: &Result<Answer, StepFault>) -> Result<()> {
     match answer {
-        Ok(answer) => push_answer(text, answer)?,
+        Ok(answer) => text.push_str(answer_text(alloc, answer)?.as_str())?,
         Err(fault) => write!(text, "{fault:?}")?,
     }
     text.push_str("; ")?;

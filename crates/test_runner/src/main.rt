@@ -4,7 +4,7 @@
 //! The questions are written as `test_kit` says, but without abbreviations. A line of the input gives something to the questions
 //! below it, or it is a question. What answers needs threads, so the table is read here: `test_kit::Answers` has no place for that.
 //!
-//! These lines give something (`given`):
+//! These lines give something (`test_cases`):
 //!
 //! - `case` takes all away that was given.
 //! - `profile NAME LEFT RIGHT LINES` gives one more profile, with these two roots. Its further lines are separated by `; `.
@@ -27,20 +27,18 @@
 mod changes;
 mod crowd;
 mod desks;
-mod given;
 mod meeting;
 mod row;
 mod runs;
 mod settling;
-mod shown;
 mod watch;
 
 use anyhow::{Context, Result};
-use given::Case;
 use runs::Run;
 use std::io::{BufRead, BufReader};
 use std::sync::Wait;
 use std::thread::Threads;
+use test_cases::Case;
 use test_kit::cut;
 
 fn main(rt: HostRuntime) -> Result<()> {
@@ -55,12 +53,28 @@ fn main(rt: HostRuntime) -> Result<()> {
 
 /// Takes a line of the input, and writes the answer if it is a question.
 fn take_line<R: Print + Threads + Wait + Sync>(rt: &R, case: &mut Case, line: &str) -> Result<()> {
-    if line.is_empty() || line.starts_with('#') || case.takes(line)? {
+    if line.is_empty() || line.starts_with('#') || takes(case, line)? {
         return Ok(());
     }
     let answer = answer(rt, case, line)?;
     println!(rt; "{line} => {answer}")?;
     Ok(())
+}
+
+/// Takes a line if it gives something, and returns whether it does.
+fn takes(case: &mut Case, line: &str) -> Result<bool> {
+    match cut(line) {
+        ("profile", fields) => take_profile(case, fields),
+        _ => case.takes(line),
+    }
+}
+
+/// Takes a profile: its name, its two roots, and its further lines.
+fn take_profile(case: &mut Case, fields: &str) -> Result<bool> {
+    let (name, fields) = cut(fields);
+    let (left, fields) = cut(fields);
+    case.add_profile(name, left, fields)?;
+    Ok(true)
 }
 
 /// The answer to a question.

@@ -1,10 +1,8 @@
 //! Jobs that run at the same time.
 
 use crate::crowd::Crowd;
-use crate::given::{Case, verified_of};
 use crate::meeting::{Meeting, Point};
 use crate::row::Row;
-use crate::shown::{left_text, outcome_text};
 use crate::watch::Watch;
 use anyhow::{Result, bail};
 use hub_cert::{ProfileSet, Verified};
@@ -15,6 +13,7 @@ use hub_state::State;
 use std::alloc::Global;
 use std::sync::Wait;
 use std::thread::Threads;
+use test_cases::{Case, left_text, outcome_text, verified_of};
 use test_kit::cut;
 
 /// What is asked of jobs that run at the same time.
@@ -90,7 +89,7 @@ fn answer_of_set<R: Threads + Wait + Sync>(
     asked: Run,
 ) -> Result<String> {
     let state = case.state()?;
-    answer_of_state(rt, case.alloc, set, &state, asked)
+    answer_of_state(rt, case.alloc(), set, &state, asked)
 }
 
 fn answer_of_state<R: Threads + Wait + Sync>(

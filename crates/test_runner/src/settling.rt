@@ -1,8 +1,6 @@
 //! Books and jobs that are stepped one after the other, and then settled.
 
 use crate::changes::Changes;
-use crate::given::{Case, verified_of};
-use crate::shown::left_text;
 use anyhow::{Result, bail};
 use hub_cert::{ProfileSet, Verified};
 use hub_history::Book;
@@ -13,6 +11,7 @@ use hub_runner::settle;
 use hub_state::State;
 use hub_tree::{Archive, Blob, Contents, Mark, Tree};
 use std::alloc::Global;
+use test_cases::{Case, left_text, verified_of};
 use test_kit::cut;
 
 /// What books and tasks are made from.
@@ -77,7 +76,7 @@ fn answer_of_sets(
     changes: Changes<'_>,
 ) -> Result<String> {
     let state = case.state()?;
-    answer_of_state(case.alloc, set, first, &state, changes)
+    answer_of_state(case.alloc(), set, first, &state, changes)
 }
 
 fn answer_of_state(

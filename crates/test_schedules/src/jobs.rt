@@ -8,11 +8,11 @@
 //! - `number`: its number.
 //!
 //! What it asks is shown as a side, `look` or `fetch`, and a path. A Set is shown by what it makes: `file`, `directory` or
-//! `absent`. Behind the answers to the steps stands how the job ended, with its log (`shown::job_text`), its items, and the paths
+//! `absent`. Behind the answers to the steps stands how the job ended, with its log (`test_cases::job_text`), its items, and the paths
 //! of the next archive. These are separated by ` | `.
 
-use crate::given::{Case, first_of};
-use crate::shown::{archive_text, items_text, job_text, next_text};
+use crate::given::first_of;
+use crate::shown::{archive_text, items_text, next_text};
 use anyhow::{Context, Result, bail};
 use hub_cert::ProfileSet;
 use hub_job::{Answer, Job, JobEnd, Next, Op, OpFault, perform};
@@ -21,6 +21,7 @@ use hub_profile::Profile;
 use hub_state::State;
 use hub_tree::{Archive, Tree};
 use std::alloc::Global;
+use test_cases::{Case, job_text};
 use test_kit::{cut, shown};
 
 /// The two replicas of a job.
@@ -39,7 +40,7 @@ pub(crate) fn answer(case: &Case, fields: &str) -> Result<String> {
 fn answer_of_set(case: &Case, set: &ProfileSet, fields: &str) -> Result<String> {
     let profile = first_of(set)?;
     let state = case.state()?;
-    answer_in(case.alloc, profile, &state, fields)
+    answer_in(case.alloc(), profile, &state, fields)
 }
 
 /// A pair of roots that the state has no archive for gets the empty one.

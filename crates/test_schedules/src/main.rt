@@ -29,16 +29,16 @@ mod schedules;
 mod shown;
 
 use anyhow::Result;
-use given::Case;
+use given::Given;
 use std::alloc::Global;
 use test_kit::{Answers, answer_table};
 
 fn main(rt: HostRuntime) -> Result<()> {
-    let mut case = Case::new(rt.alloc())?;
-    answer_table(&rt, &mut case)
+    let mut given = Given::new(rt.alloc())?;
+    answer_table(&rt, &mut given)
 }
 
-impl Answers for Case {
+impl Answers for Given {
     fn takes(&mut self, line: &str) -> Result<bool> {
         self.take_line(line)
     }
@@ -46,8 +46,8 @@ impl Answers for Case {
     fn answer(&mut self, _alloc: Global, word: &str, fields: &str) -> Result<String> {
         match word {
             "look" | "fetch" | "set" => operations::answer(self, word, fields),
-            "job" => jobs::answer(self, fields),
-            _ => schedules::answer(self, word, fields),
+            "job" => jobs::answer(&self.case, fields),
+            _ => schedules::answer(&self.case, word, fields),
         }
     }
 }

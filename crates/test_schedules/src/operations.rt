@@ -8,30 +8,30 @@
 //!
 //! Contents are `d` for a directory, `-` for nothing, and `f:` and a text for a file with the bytes of that text.
 
-use crate::given::{Case, first_of};
-use crate::shown::answer_text;
+use crate::given::{Given, first_of};
 use anyhow::{Result, bail, ensure};
 use hub_cert::ProfileSet;
 use hub_job::{Op, perform};
 use hub_tree::{Blob, Contents};
 use std::alloc::Global;
+use test_cases::answer_text;
 use test_kit::{cut, path_of};
 
 /// What the replica answers to an operation.
-pub(crate) fn answer(case: &mut Case, word: &str, fields: &str) -> Result<String> {
-    let set = case.set()?;
-    answer_in(case, &set, word, fields)
+pub(crate) fn answer(given: &mut Given, word: &str, fields: &str) -> Result<String> {
+    let set = given.case.set()?;
+    answer_in(given, &set, word, fields)
 }
 
-fn answer_in(case: &mut Case, set: &ProfileSet, word: &str, fields: &str) -> Result<String> {
-    let op = op_of(case.alloc, word, fields)?;
-    answer_to(case, set, &op)
+fn answer_in(given: &mut Given, set: &ProfileSet, word: &str, fields: &str) -> Result<String> {
+    let op = op_of(given.case.alloc(), word, fields)?;
+    answer_to(given, set, &op)
 }
 
-fn answer_to(case: &mut Case, set: &ProfileSet, op: &Op) -> Result<String> {
-    let alloc = case.alloc;
+fn answer_to(given: &mut Given, set: &ProfileSet, op: &Op) -> Result<String> {
+    let alloc = given.case.alloc();
     let profile = first_of(set)?;
-    let answer = perform(alloc, profile, &case.root, &mut case.replica, op);
+    let answer = perform(alloc, profile, &given.root, &mut given.replica, op);
     match &answer {
         Ok(answer) => {
             ensure!(answer.fits(op), "an answer that doesn't fit");

@@ -1,12 +1,13 @@
 //! Random schedules: whatever the order of the turns, the jobs leave what they leave one after the other.
 
-use crate::schedules::{one_after_the_other, state_text};
+use crate::schedules::one_after_the_other;
 use anyhow::{Result, bail};
 use hub_cert::Verified;
 use hub_job::Outcome;
 use hub_schedule::{rounds_for, simulate};
 use hub_state::State;
 use std::alloc::{AllocError, Global};
+use test_cases::state_text;
 use test_kit::cut;
 
 /// How many turns are random. Those of the schedule of rounds follow, so that each job has enough.

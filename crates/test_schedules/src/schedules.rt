@@ -1,22 +1,17 @@
-//! What the jobs of the profiles leave by a schedule: how each of them ended, with its log (`shown::job_text`), and on further
+//! What the jobs of the profiles leave by a schedule: how each of them ended, with its log (`test_cases::job_text`), and on further
 //! lines the text of the state. Or it is shown why the jobs aren't run.
 //!
 //! The profiles are a safe set, but for the question `overlapping`: there some overlap.
 
-use crate::given::{Case, verified_of};
 use crate::random;
-use crate::shown::job_text;
 use anyhow::{Result, bail};
 use hub_cert::{CheckFault, ProfileSet, Verified};
-use hub_job::{JobEnd, Outcome, RunFault};
 use hub_profile::Profile;
 use hub_schedule::{rounds_for, simulate, simulate_jobs};
 use hub_search::check;
-use hub_state::{State, write_state};
-use hub_text::Watched;
+use hub_state::State;
 use std::alloc::{AllocError, Global};
-use std::str::from_utf8;
-use test_kit::list_text;
+use test_cases::{Case, left_text, verified_of};
 
 /// The answer to a question about the jobs of the profiles.
 pub(crate) fn answer(case: &Case, word: &str, fields: &str) -> Result<String> {
@@ -27,9 +22,9 @@ pub(crate) fn answer(case: &Case, word: &str, fields: &str) -> Result<String> {
 fn answer_of_set(case: &Case, set: &ProfileSet, word: &str, fields: &str) -> Result<String> {
     let state = case.state()?;
     if word == "overlapping" {
-        return left_by_overlapping(case.alloc, set, &state, fields);
+        return left_by_overlapping(case.alloc(), set, &state, fields);
     }
-    answer_of_state(case.alloc, set, &state, word, fields)
+    answer_of_state(case.alloc(), set, &state, word, fields)
 }
 
 fn answer_of_state(
@@ -133,42 +128,4 @@ fn left_by(
 ) -> Result<String> {
     let left = simulate(alloc, verified, state, schedule);
     left_text(alloc, &left)
-}
-
-/// What is left, or why the jobs aren't run.
-fn left_text(alloc: Global, left: &Result<Outcome, RunFault>) -> Result<String> {
-    match left {
-        Ok(outcome) => outcome_text(alloc, outcome),
-        Err(fault) => fault_text(alloc, fault),
-    }
-}
-
-fn outcome_text(alloc: Global, outcome: &Outcome) -> Result<String> {
-    let jobs = jobs_text(alloc, outcome.jobs.as_slice())?;
-    let state = state_text(alloc, &outcome.state)?;
-    Ok(format!(in alloc; "{jobs}\n{state}")?)
-}
-
-fn jobs_text(alloc: Global, ends: &[JobEnd]) -> Result<String> {
-    let mut jobs = Vec::new(alloc);
-    for end in ends {
-        jobs.push(job_text(alloc, end)?)?;
-    }
-    list_text(alloc, jobs.as_slice())
-}
-
-/// The text of a state.
-pub(crate) fn state_text(alloc: Global, state: &State) -> Result<String> {
-    let mut bytes = Vec::new(alloc);
-    write_state(alloc, &mut Watched::new(&mut bytes), state)?;
-    Ok(String::from_str(alloc, from_utf8(bytes.as_slice())?)?)
-}
-
-/// Why the jobs aren't run.
-fn fault_text(alloc: Global, fault: &RunFault) -> Result<String> {
-    match fault {
-        RunFault::MissingReplica { root } => Ok(format!(in alloc; "missing {}", root.as_str())?),
-        RunFault::BadTurn { turn } => Ok(format!(in alloc; "bad turn {turn}")?),
-        _ => Ok(format!(in alloc; "{fault:?}")?),
-    }
 }

@@ -1,43 +1,13 @@
 //! How answers show values.
 
 use anyhow::Result;
-use hub_job::{Answer, End, JobEnd, Next, Op};
-use hub_path::{Name, RelPath, Side};
+use hub_job::{Next, Op};
+use hub_path::{RelPath, Side};
 use hub_reconcile::{Fate, Item};
-use hub_tree::{Archive, Mark};
+use hub_tree::Archive;
 use std::alloc::Global;
+use test_cases::kind_of;
 use test_kit::list_text;
-
-/// The answer of a replica.
-pub(crate) fn answer_text(alloc: Global, answer: &Answer) -> Result<String> {
-    match answer {
-        Answer::Seen(sight) => seen_text(alloc, sight.mark(), sight.names(), sight.others()),
-        Answer::Bytes(file) => Ok(format!(in alloc; "{} bytes", file.bytes().len())?),
-        Answer::Done => Ok(String::from_str(alloc, "done")?),
-        Answer::Refused(fault) => Ok(format!(in alloc; "{fault:?}")?),
-    }
-}
-
-/// What is seen at a path.
-fn seen_text(alloc: Global, mark: Mark, names: &[Name], others: bool) -> Result<String> {
-    let mut text = String::from_str(alloc, kind_of(mark))?;
-    for name in names {
-        text.push(' ')?;
-        text.push_str(name.text())?;
-    }
-    if others {
-        text.push_str(" and others")?;
-    }
-    Ok(text)
-}
-
-fn kind_of(mark: Mark) -> &'static str {
-    match mark {
-        Mark::File(_) => "file",
-        Mark::Directory => "directory",
-        Mark::Absent => "absent",
-    }
-}
 
 /// What a job does next.
 pub(crate) fn next_text(alloc: Global, next: &Next) -> Result<String> {
@@ -67,34 +37,6 @@ fn path_text(alloc: Global, path: &RelPath) -> Result<String> {
         return Ok(String::from_str(alloc, ".")?);
     }
     Ok(path.text()?)
-}
-
-/// How a job ended, and its log. An entry is shown by its operation, as `l` for a Look, `f` for a Fetch and `s` for a Set, and
-/// its job's number.
-pub(crate) fn job_text(alloc: Global, job: &JobEnd) -> Result<String> {
-    let mut text = String::from_str(alloc, end_word(job.end))?;
-    for entry in job.log.as_slice() {
-        let letter = letter_of(&entry.step.op);
-        let number = entry.step.job;
-        write!(text, " {letter}{number}")?;
-    }
-    Ok(text)
-}
-
-fn end_word(end: End) -> &'static str {
-    match end {
-        End::Finished => "finished",
-        End::Stopped => "stopped",
-        End::Unfinished => "unfinished",
-    }
-}
-
-fn letter_of(op: &Op) -> char {
-    match op {
-        Op::Look(_) => 'l',
-        Op::Fetch(_) => 'f',
-        Op::Set(_, _) => 's',
-    }
 }
 
 /// The items of a job.

@@ -17,10 +17,10 @@ struct Given {
     text: String,
 }
 
-/// What was given since the last line `case`.
+/// What was given since the last line `case`: profiles, and a state text.
 #[derive(Drop)]
-pub(crate) struct Case {
-    pub(crate) alloc: Global,
+pub struct Case {
+    alloc: Global,
     /// The profiles.
     profiles: Vec<Given>,
     /// The state text.
@@ -29,7 +29,7 @@ pub(crate) struct Case {
 
 impl Case {
     /// Nothing is given yet.
-    pub(crate) fn new(alloc: Global) -> Case {
+    pub fn new(alloc: Global) -> Case {
         Case {
             alloc,
             profiles: Vec::new(alloc),
@@ -37,18 +37,18 @@ impl Case {
         }
     }
 
-    /// Takes all away that was given.
-    fn clear(&mut self) {
-        self.profiles = Vec::new(self.alloc);
-        self.text = String::new(self.alloc);
+    /// The allocator of all that is made of what was given.
+    pub fn alloc(&self) -> Global {
+        self.alloc
     }
 
-    /// Takes a line if it gives something, and returns whether it does.
-    pub(crate) fn takes(&mut self, line: &str) -> Result<bool> {
-        let (word, fields) = cut(line);
+    /// Takes a line if it is `case` or belongs to a state text, and returns whether it does.
+    ///
+    /// `case` takes all away that was given. `hubsync state 1` begins a state text, in place of the one before.
+    pub fn takes(&mut self, line: &str) -> Result<bool> {
+        let (word, _) = cut(line);
         match word {
             "case" => self.clear(),
-            "profile" => self.add_profile(fields)?,
             "hubsync" => self.begin_text(line)?,
             "replica" | "archive" | "with" | "dir" | "file" | "end" => self.add_line(line)?,
             _ => return Ok(false),
@@ -56,33 +56,35 @@ impl Case {
         Ok(true)
     }
 
-    /// The set of the profiles.
-    pub(crate) fn set(&self) -> Result<ProfileSet> {
+    /// Adds a profile: its name, its left root, and then its right root and its further lines, which are separated by `; `.
+    pub fn add_profile(&mut self, name: &str, left: &str, fields: &str) -> Result<()> {
+        let (right, lines) = cut(fields);
+        let name = String::from_str(self.alloc, name)?;
+        let lines = lines.replace(self.alloc, "; ", "\n")?;
+        let text = format!(in self.alloc; "root = {left}\nroot = {right}\n{lines}\n")?;
+        self.profiles.push(Given { name, text })?;
+        Ok(())
+    }
+
+    /// The set of the profiles, without rules.
+    pub fn set(&self) -> Result<ProfileSet> {
         set_of(self.alloc, self.profiles.as_slice())
     }
 
     /// The set of the first profile alone, if there is one.
-    pub(crate) fn first_alone(&self) -> Result<ProfileSet> {
+    pub fn first_alone(&self) -> Result<ProfileSet> {
         set_of(self.alloc, self.profiles.get(..1).unwrap_or(&[]))
     }
 
     /// The state that the state text says.
-    pub(crate) fn state(&self) -> Result<State> {
+    pub fn state(&self) -> Result<State> {
         Ok(read_bytes(self.alloc, self.text.as_bytes())?)
     }
 
-    /// Adds a profile: its name, its two roots, and its further lines.
-    fn add_profile(&mut self, fields: &str) -> Result<()> {
-        let (name, fields) = cut(fields);
-        let (left, fields) = cut(fields);
-        let (right, lines) = cut(fields);
-        let mut text = format!(in self.alloc; "root = {left}\nroot = {right}\n")?;
-        for line in lines.split("; ") {
-            write!(text, "{line}\n")?;
-        }
-        let name = String::from_str(self.alloc, name)?;
-        self.profiles.push(Given { name, text })?;
-        Ok(())
+    /// Takes all away that was given.
+    fn clear(&mut self) {
+        self.profiles = Vec::new(self.alloc);
+        self.text = String::new(self.alloc);
     }
 
     /// Begins a state text with this line.
@@ -99,7 +101,7 @@ impl Case {
     }
 }
 
-/// The set of these profiles.
+/// The set of these profiles, without rules.
 fn set_of(alloc: Global, given: &[Given]) -> Result<ProfileSet> {
     let profiles = profiles_of(alloc, given)?;
     let rules = read_rules(alloc, &[])?;
@@ -123,7 +125,7 @@ fn profile_of(alloc: Global, given: &Given) -> Result<Profile> {
 }
 
 /// The set, which is safe.
-pub(crate) fn verified_of(alloc: Global, set: &ProfileSet) -> Result<Verified<'_>> {
+pub fn verified_of(alloc: Global, set: &ProfileSet) -> Result<Verified<'_>> {
     match check(alloc, set) {
         Ok(verified) => Ok(verified),
         Err(_) => bail!("the set isn't safe"),

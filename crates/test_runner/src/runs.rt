@@ -16,48 +16,56 @@ use std::thread::Threads;
 use test_cases::{Case, left_text, outcome_text, verified_of};
 use test_kit::cut;
 
-/// What is asked of jobs that run at the same time.
+/// A question about jobs that run at the same time.
 #[derive(Clone, Copy)]
-pub(crate) enum Run {
-    /// What they leave, run by so many workers, or why they aren't run.
-    Once { workers: usize },
+pub(crate) struct Run {
+    asked: Asked,
+    /// How many workers run the jobs.
+    workers: usize,
+}
+
+/// What is asked.
+#[derive(Clone, Copy)]
+enum Asked {
+    /// What the jobs leave, or why they aren't run.
+    Once,
     /// Whether so many runs leave what the jobs leave in rounds. If one doesn't, what it leaves.
-    Often { count: usize, workers: usize },
-    /// How many of two jobs come to their first steps, run by so many workers, how many of them wait for the other one in vain,
-    /// and what they leave.
-    Meeting { point: Point, workers: usize },
-    /// How many jobs make a step at the same time at most, run by so many workers, and what the jobs leave.
-    Crowd { workers: usize },
-    /// How many steps a job makes in a row at most, run by so many workers, and what the jobs leave.
-    InARow { workers: usize },
-    /// How a gate is called by so many workers, and what the jobs leave.
-    Watched { workers: usize },
+    Often { count: usize },
+    /// How many of two jobs come to their first steps, how many of them wait for the other one in vain, and what they leave.
+    Meeting { point: Point },
+    /// How many jobs make a step at the same time at most, and what the jobs leave.
+    Crowd,
+    /// How many steps a job makes in a row at most, and what the jobs leave.
+    InARow,
+    /// How a gate is called, and what the jobs leave.
+    Watched,
 }
 
 impl Run {
+    /// Reads a question. Its last field is how many workers there are.
     pub(crate) fn read(word: &str, fields: &str) -> Result<Run> {
         let (first, second) = cut(fields);
+        let workers = if second.is_empty() { first } else { second };
+        Ok(Run {
+            asked: Asked::read(word, first)?,
+            workers: workers.parse::<usize>()?,
+        })
+    }
+}
+
+impl Asked {
+    fn read(word: &str, field: &str) -> Result<Asked> {
         match word {
-            "run" => Ok(Run::Once {
-                workers: first.parse::<usize>()?,
+            "run" => Ok(Asked::Once),
+            "runs" => Ok(Asked::Often {
+                count: field.parse::<usize>()?,
             }),
-            "runs" => Ok(Run::Often {
-                count: first.parse::<usize>()?,
-                workers: second.parse::<usize>()?,
+            "meet" => Ok(Asked::Meeting {
+                point: Point::read(field)?,
             }),
-            "meet" => Ok(Run::Meeting {
-                point: Point::read(first)?,
-                workers: second.parse::<usize>()?,
-            }),
-            "crowd" => Ok(Run::Crowd {
-                workers: first.parse::<usize>()?,
-            }),
-            "row" => Ok(Run::InARow {
-                workers: first.parse::<usize>()?,
-            }),
-            "watch" => Ok(Run::Watched {
-                workers: first.parse::<usize>()?,
-            }),
+            "crowd" => Ok(Asked::Crowd),
+            "row" => Ok(Asked::InARow),
+            "watch" => Ok(Asked::Watched),
             _ => bail!("no question: {word}"),
         }
     }
@@ -97,107 +105,103 @@ fn answer_of_state<R: Threads + Wait + Sync>(
     alloc: Global,
     set: &ProfileSet,
     state: &State,
-    asked: Run,
+    Run { asked, workers }: Run,
 ) -> Result<String> {
     let verified = verified_of(alloc, set)?;
-    match asked {
-        Run::Once { workers } => run_text(rt, alloc, &verified, state, workers, &Open),
-        Run::Often { count, workers } => runs_text(rt, alloc, &verified, state, count, workers),
-        Run::Meeting { point, workers } => {
-            meeting_text(rt, alloc, &verified, state, point, workers)
-        }
-        Run::Crowd { workers } => crowd_text(rt, alloc, &verified, state, workers),
-        Run::InARow { workers } => row_text(rt, alloc, &verified, state, workers),
-        Run::Watched { workers } => watched_text(rt, alloc, &verified, state, workers),
-    }
+    let jobs = Jobs {
+        rt,
+        alloc,
+        verified: &verified,
+        state,
+        workers,
+    };
+    jobs.answer(asked)
 }
 
-/// What the jobs leave, or why they aren't run.
-fn run_text<R: Threads + Wait + Sync, G: Gate + Sync>(
-    rt: &R,
+/// The jobs of a safe set, and what runs them.
+#[derive(Drop)]
+struct Jobs<'a, 's, R> {
+    rt: &'a R,
     alloc: Global,
-    verified: &Verified<'_>,
-    state: &State,
+    verified: &'a Verified<'s>,
+    state: &'a State,
     workers: usize,
-    gate: &G,
-) -> Result<String> {
-    let left = run(rt, alloc, verified, state, workers, gate);
-    left_text(alloc, &left)
 }
 
-fn runs_text<R: Threads + Wait + Sync>(
-    rt: &R,
-    alloc: Global,
-    verified: &Verified<'_>,
-    state: &State,
-    count: usize,
-    workers: usize,
-) -> Result<String> {
-    let want = rounds_text(alloc, verified, state)?;
-    for number in 0..count {
-        let text = run_text(rt, alloc, verified, state, workers, &Open)?;
-        if text != want {
-            return Ok(format!(in alloc; "run {number} leaves\n{text}")?);
+impl<'a, 's, R: Threads + Wait + Sync> Jobs<'a, 's, R> {
+    fn answer(&self, asked: Asked) -> Result<String> {
+        match asked {
+            Asked::Once => self.run_text(&Open),
+            Asked::Often { count } => self.runs_text(count),
+            Asked::Meeting { point } => self.meeting_text(point),
+            Asked::Crowd => self.crowd_text(),
+            Asked::InARow => self.row_text(),
+            Asked::Watched => self.watched_text(),
         }
     }
-    Ok(format!(in alloc; "{count} leave what rounds leave")?)
-}
 
-/// What the jobs leave in rounds.
-fn rounds_text(alloc: Global, verified: &Verified<'_>, state: &State) -> Result<String> {
-    let left = run_rounds(alloc, verified, state);
-    match &left {
-        Ok(outcome) => outcome_text(alloc, outcome),
-        Err(_) => bail!("the rounds aren't run"),
+    /// What the jobs leave, or why they aren't run.
+    fn run_text<G: Gate + Sync>(&self, gate: &G) -> Result<String> {
+        let left = run(
+            self.rt,
+            self.alloc,
+            self.verified,
+            self.state,
+            self.workers,
+            gate,
+        );
+        left_text(self.alloc, &left)
+    }
+
+    fn runs_text(&self, count: usize) -> Result<String> {
+        let want = self.rounds_text()?;
+        for number in 0..count {
+            let text = self.run_text(&Open)?;
+            if text != want {
+                return Ok(format!(in self.alloc; "run {number} leaves\n{text}")?);
+            }
+        }
+        Ok(format!(in self.alloc; "{count} leave what rounds leave")?)
+    }
+
+    fn meeting_text(&self, point: Point) -> Result<String> {
+        let gate = Meeting::new(point, self.workers);
+        let text = self.run_text(&gate)?;
+        Ok(format!(in self.alloc; "{} came, {} late, {text}", gate.came(), gate.late())?)
+    }
+
+    fn crowd_text(&self) -> Result<String> {
+        let gate = Crowd::new(self.count(), self.workers);
+        let text = self.run_text(&gate)?;
+        Ok(format!(in self.alloc; "{} at a time, {text}", gate.most())?)
+    }
+
+    fn row_text(&self) -> Result<String> {
+        let gate = Row::new();
+        let text = self.run_text(&gate)?;
+        Ok(format!(in self.alloc; "at most {} in a row, {text}", gate.most())?)
+    }
+
+    fn watched_text(&self) -> Result<String> {
+        let gate = Watch::new(self.rt, self.alloc, self.count())?;
+        let text = self.run_text(&gate)?;
+        let calls = gate.text(self.alloc)?;
+        Ok(format!(in self.alloc; "calls{calls}; {text}")?)
     }
 }
 
-fn meeting_text<R: Threads + Wait + Sync>(
-    rt: &R,
-    alloc: Global,
-    verified: &Verified<'_>,
-    state: &State,
-    point: Point,
-    workers: usize,
-) -> Result<String> {
-    let gate = Meeting::new(point, workers);
-    let text = run_text(rt, alloc, verified, state, workers, &gate)?;
-    Ok(format!(in alloc; "{} came, {} late, {text}", gate.came(), gate.late())?)
-}
+impl<'a, 's, R> Jobs<'a, 's, R> {
+    /// What the jobs leave in rounds.
+    fn rounds_text(&self) -> Result<String> {
+        let left = run_rounds(self.alloc, self.verified, self.state);
+        match &left {
+            Ok(outcome) => outcome_text(self.alloc, outcome),
+            Err(_) => bail!("the rounds aren't run"),
+        }
+    }
 
-fn crowd_text<R: Threads + Wait + Sync>(
-    rt: &R,
-    alloc: Global,
-    verified: &Verified<'_>,
-    state: &State,
-    workers: usize,
-) -> Result<String> {
-    let gate = Crowd::new(verified.set().profiles().len(), workers);
-    let text = run_text(rt, alloc, verified, state, workers, &gate)?;
-    Ok(format!(in alloc; "{} at a time, {text}", gate.most())?)
-}
-
-fn row_text<R: Threads + Wait + Sync>(
-    rt: &R,
-    alloc: Global,
-    verified: &Verified<'_>,
-    state: &State,
-    workers: usize,
-) -> Result<String> {
-    let gate = Row::new();
-    let text = run_text(rt, alloc, verified, state, workers, &gate)?;
-    Ok(format!(in alloc; "at most {} in a row, {text}", gate.most())?)
-}
-
-fn watched_text<R: Threads + Wait + Sync>(
-    rt: &R,
-    alloc: Global,
-    verified: &Verified<'_>,
-    state: &State,
-    workers: usize,
-) -> Result<String> {
-    let gate = Watch::new(rt, alloc, verified.set().profiles().len())?;
-    let text = run_text(rt, alloc, verified, state, workers, &gate)?;
-    let calls = gate.text(alloc)?;
-    Ok(format!(in alloc; "calls{calls}; {text}")?)
+    /// How many jobs there are.
+    fn count(&self) -> usize {
+        self.verified.set().profiles().len()
+    }
 }

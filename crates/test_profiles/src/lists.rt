@@ -12,14 +12,12 @@ use test_kit::{shown, word_of, yes_or_no};
 /// - `clone`: whether it is equal to its clone, and hashed alike.
 /// - `compare`: how it compares with that of the second field, whether it is less, and whether it is equal.
 pub(crate) fn answer(alloc: Global, question: &str, texts: &[String]) -> Result<String> {
-    match texts {
-        [list] => answer_on(question, &read(alloc, list.as_str())?),
-        [list, other] => compare(
-            question,
-            &read(alloc, list.as_str())?,
-            &read(alloc, other.as_str())?,
-        ),
-        _ => bail!("not one or two fields"),
+    match (question, texts) {
+        ("compare", [list, other]) => {
+            compare(&read(alloc, list.as_str())?, &read(alloc, other.as_str())?)
+        }
+        (_, [list]) => answer_on(question, &read(alloc, list.as_str())?),
+        _ => bail!("an unknown question"),
     }
 }
 
@@ -52,10 +50,7 @@ fn compare_with_clone(list: &Items<u8>) -> Result<String> {
     both(list.alloc(), clone == *list, hash_alike(&clone, list))
 }
 
-fn compare(question: &str, list: &Items<u8>, other: &Items<u8>) -> Result<String> {
-    if question != "compare" {
-        bail!("an unknown question");
-    }
+fn compare(list: &Items<u8>, other: &Items<u8>) -> Result<String> {
     let order = list.cmp(other);
     let is_less = word_of(list < other);
     let is_equal = word_of(list == other);

@@ -12,10 +12,10 @@ use test_kit::{quoted, shown, word_of, yes_or_no};
 /// - `hash`: whether the name and its text are hashed alike.
 /// - `compare`: how the name compares with that of the second field.
 pub(crate) fn answer(alloc: Global, question: &str, texts: &[String]) -> Result<String> {
-    match texts {
-        [text] => answer_on_one(alloc, question, text.as_str()),
-        [text, other] => compare(alloc, question, text.as_str(), other.as_str()),
-        _ => bail!("not one or two fields"),
+    match (question, texts) {
+        ("compare", [text, other]) => compare(alloc, text.as_str(), other.as_str()),
+        (_, [text]) => answer_on_one(alloc, question, text.as_str()),
+        _ => bail!("an unknown question"),
     }
 }
 
@@ -55,10 +55,7 @@ fn hash(alloc: Global, text: &str) -> Result<String> {
     yes_or_no(alloc, hash_alike(&name, &text))
 }
 
-fn compare(alloc: Global, question: &str, text: &str, other: &str) -> Result<String> {
-    if question != "compare" {
-        bail!("an unknown question");
-    }
+fn compare(alloc: Global, text: &str, other: &str) -> Result<String> {
     let name = Name::read(alloc, text)?;
     let other = Name::read(alloc, other)?;
     Ok(format!(in alloc; "{:?}", name.cmp(&other))?)

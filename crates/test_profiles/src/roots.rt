@@ -15,10 +15,10 @@ use test_kit::{quoted, shown, yes_or_no};
 /// - `copy`: whether it is equal to its copy, and hashed alike. `hash`: whether it is hashed as its path.
 /// - `compare`: whether it is within that of the second field, and whether it is equal.
 pub(crate) fn answer(alloc: Global, question: &str, texts: &[String]) -> Result<String> {
-    match texts {
-        [text] => answer_on_one(alloc, question, text.as_str()),
-        [text, other] => compare(alloc, question, text.as_str(), other.as_str()),
-        _ => bail!("not one or two fields"),
+    match (question, texts) {
+        ("compare", [text, other]) => compare(alloc, text.as_str(), other.as_str()),
+        (_, [text]) => answer_on_one(alloc, question, text.as_str()),
+        _ => bail!("an unknown question"),
     }
 }
 
@@ -52,10 +52,7 @@ fn copy(alloc: Global, root: &Root) -> Result<String> {
     both(alloc, copy == *root, hash_alike(&copy, root))
 }
 
-fn compare(alloc: Global, question: &str, text: &str, other: &str) -> Result<String> {
-    if question != "compare" {
-        bail!("an unknown question");
-    }
+fn compare(alloc: Global, text: &str, other: &str) -> Result<String> {
     let root = Root::read(alloc, text)?;
     let other = Root::read(alloc, other)?;
     both(alloc, root.is_within(&other), root == other)

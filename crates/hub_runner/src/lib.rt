@@ -9,8 +9,14 @@
 //! Only functions that return a `Result` allocate.
 //!
 //! ```rust
-//! let left = run(rt, alloc, verified, state, workers, gate);
-//! left_text(alloc, &left)
+//! let left = run(
+//!     self.rt,
+//!     self.alloc,
+//!     self.verified,
+//!     self.state,
+//!     self.workers,
+//!     gate,
+//! );
 //! ```
 //!
 //! From `test_runner/src/runs.rt`.

@@ -25,7 +25,7 @@
 //! write_state(alloc, &mut Watched::new(&mut bytes), state)?;
 //! ```
 //!
-//! From `test_runner/src/shown.rt`.
+//! From `test_cases/src/left.rt`.
 #![tactic(auto)]
 
 mod blobs;

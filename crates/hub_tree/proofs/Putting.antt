@@ -4,16 +4,17 @@ use Rattle.std.specs.Prelude.{if◌then◌else◌}
 use Rattle.std.specs.List.{slice_get}
 use Rattle.std.specs.Option.{option_and_then, option_copied, is_some}
 use Rattle.std.specs.FinMap as fin
+use Rattle.std.proofs.lemmas.Bool.{false≢true}
 use Rattle.std.specs.FinMap.Entries.{find}
 use Rattle.hub_path.specs.Path.{Name, Path, name_cmp}
 use Rattle.hub_tree.specs.Tree.{Replica, set_fault, with_contents}
 use Rattle.hub_tree.specs.Nodes.{replica_of, node_get, contents_of, kids_of, fault_below, is_left, put_fault, put_fault_below, with_put}
 use Rattle.hub_tree.specs.declared.contents.Contents.{Contents}
 use Rattle.hub_tree.specs.declared.contents.Contents.TheVariants as contents
-use Rattle.hub_tree.specs.declared.fault.SetFault.TheVariants.{RootPath, NoParent}
+use Rattle.hub_tree.specs.declared.fault.SetFault.TheVariants.{RootPath, NoParent, NothingThere}
 use Rattle.hub_tree.specs.declared.node.Node.{Node}
 use Rattle.hub_tree.proofs.LookUp.{look_up, get_nothing, drop_at, rest_left, below_kids}
-use Rattle.hub_tree.proofs.Setting.{Changes, changed_through, same_through, fault_through, fault_nowhere, fault_below-file}
+use Rattle.hub_tree.proofs.Setting.{Changes, changed_through, same_through, fault_through, fault_nowhere, fault_below-file, nothing_fault}
 
 -- a path that is left, and one that is set
 pub put_fault-left : (new : Bool) (m : Replica) (p : Path) (c : Contents) → is_left new m p ≡ true → put_fault new m p c ≡ None
@@ -42,6 +43,13 @@ there_behind (Some x) = refl
 
 pub there_at_node : (cs : List (Name × Node)) (p : Path) (o : Option (Bor Node)) → ((q : Path) → fin.get (replica_of cs) (p ++ q) ≡ option_and_then (node_get q) (option_copied o)) → is_some (fin.get (replica_of cs) p) ≡ is_some o
 there_at_node cs p o h = ap (λ q. is_some (fin.get (replica_of cs) q)) (sym (append-nil p)) ∙ ap is_some (h []) ∙ there_behind o
+
+nothing_from : {X : Type 0} (o : Option X) → is_some o ≡ false → o ≡ None
+nothing_from None e = refl
+nothing_from (Some x) e = absurd (false≢true (sym e))
+
+pub nothing_to_remove : (cs : List (Name × Node)) (n : Name) → is_some (find name_cmp n cs) ≡ false → set_fault (replica_of cs) (n ∷ []) contents.Absent ≡ Some NothingThere
+nothing_to_remove cs n e = nothing_fault cs n (nothing_from (find name_cmp n cs) e)
 
 get_below : (cs : List (Name × Node)) (p : Path) (d : ℕ) (n : Name) (x : Node) → slice_get p d ≡ Some n → d + 1 < length p → find name_cmp n cs ≡ Some x → fin.get (replica_of cs) (drop d p) ≡ fin.get (replica_of (kids_of x)) (drop (d + 1) p)
 get_below cs p d n x e l f =

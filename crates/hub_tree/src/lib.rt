@@ -24,6 +24,7 @@
 
 mod archive;
 mod blob;
+mod child;
 mod contents;
 mod entries;
 mod fault;

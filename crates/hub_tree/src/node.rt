@@ -2,12 +2,13 @@ ghost use Rattle.std.specs.Prelude.{◌≡◌, ◌<◌, min, ◌++◌, [], ◌�
 ghost use Rattle.std.specs.Arc.{arc_value};
 ghost use Rattle.std.specs.Option.{option_and_then, option_copied};
 ghost use Rattle.std.specs.FinMap as fin;
-ghost use Rattle.std.specs.BTreeMap.{get, insert_entry, keys, IsOrdered};
+ghost use Rattle.std.specs.BTreeMap.{insert_entry, keys, IsOrdered};
 ghost use Rattle.hub_path.specs.Path.{Path, name_cmp};
-ghost use Rattle.hub_tree.specs.Nodes.{replica_of, entries_of, entries_at, size_of, node_get, occupied, kids_of, contents_of, contents_or_absent, fault_below, is_left, put_fault, put_fault_below, with_put};
-ghost use Rattle.hub_tree.specs.Tree.{set_fault, with_contents, is_directory, IsRefusal};
+ghost use Rattle.hub_tree.specs.Nodes.{replica_of, entries_of, entries_at, size_of, node_get, kids_of, contents_of, is_left, put_fault, put_fault_below, with_put};
+ghost use Rattle.hub_tree.specs.Tree.{set_fault, IsRefusal};
 
 use crate::blob::Blob;
+use crate::child::{fault_of_child, put_child};
 use crate::contents::Contents;
 use crate::fault::SetFault;
 use hub_path::{Name, RelPath};
@@ -175,35 +176,6 @@ fn fault_at(
     }
 }
 
-/// Why contents can't be set at a name.
-fn fault_of_child(
-    children: &BTreeMap<Name, Node>,
-    name: &Name,
-    contents: &Contents,
-) -> Option<SetFault>
-    ensures { result
-        ≡ set_fault (replica_of children.now.entries) (name.now ∷ []) contents.now }
-{
-    match contents {
-        Contents::Directory => None,
-        Contents::File(_) => {
-            if is_occupied(children, name) {
-                return Some(SetFault::NotEmpty);
-            }
-            None
-        }
-        Contents::Absent => {
-            if is_occupied(children, name) {
-                return Some(SetFault::NotEmpty);
-            }
-            match children.get(name) {
-                Some(_) => None,
-                None => Some(SetFault::NothingThere),
-            }
-        }
-    }
-}
-
 /// Puts contents at the names of the path from `depth` on, below these. If they have other owners, they are copied first.
 /// If only new contents are put, those that are there are left as they are, and it returns `true`.
 #[cycle(set)]
@@ -310,140 +282,4 @@ fn leaves(children: &BTreeMap<Name, Node>, path: &RelPath, depth: usize, only_ne
         ≡ is_left only_new (replica_of children.now.entries) (drop depth path.now) }
 {
     only_new && node_at(children, path, depth).is_some()
-}
-
-/// Puts contents at a name. If only new contents are put, those that are there are left as they are, and it returns `true`.
-fn put_child(
-    alloc: Global,
-    children: &mut BTreeMap<Name, Node>,
-    name: &Name,
-    contents: Contents,
-    only_new: bool,
-) -> Result<bool, SetFault>
-    ensures left { IfOk result
-        (λ b. b ≡ is_left only_new (replica_of children.old.entries) (name.now ∷ [])) }
-    ensures allowed { OnOk result (put_fault only_new
-        (replica_of children.old.entries) (name.now ∷ []) contents ≡ None) }
-    ensures ok { OnOk result (replica_of children.new.entries
-        ≡ with_put only_new (replica_of children.old.entries) (name.now ∷ []) contents) }
-    ensures fault { IfErr result (IsRefusal (put_fault only_new
-        (replica_of children.old.entries) (name.now ∷ []) contents)) }
-    ensures err { OnErr result (replica_of children.new.entries ≡ replica_of children.old.entries) }
-{
-    if leaves_child(children, name, only_new) {
-        return Ok(true);
-    }
-    match set_child(alloc, children, name, contents) {
-        Ok(()) => Ok(false),
-        Err(fault) => Err(fault),
-    }
-}
-
-/// Returns whether only new contents are put, and there are some at a name.
-fn leaves_child(children: &BTreeMap<Name, Node>, name: &Name, only_new: bool) -> bool
-    ensures { result ≡ is_left only_new (replica_of children.now.entries) (name.now ∷ []) }
-{
-    only_new && children.contains_key(name)
-}
-
-/// Sets contents at a name.
-fn set_child(
-    alloc: Global,
-    children: &mut BTreeMap<Name, Node>,
-    name: &Name,
-    contents: Contents,
-) -> Result<(), SetFault>
-    ensures allowed { OnOk result
-        (set_fault (replica_of children.old.entries) (name.now ∷ []) contents ≡ None) }
-    ensures ok { OnOk result (replica_of children.new.entries
-        ≡ with_contents (replica_of children.old.entries) (name.now ∷ []) contents) }
-    ensures fault { IfErr result
-        (IsRefusal (set_fault (replica_of children.old.entries) (name.now ∷ []) contents)) }
-    ensures err { OnErr result (replica_of children.new.entries ≡ replica_of children.old.entries) }
-{
-    match contents {
-        Contents::File(blob) => set_file(children, name, blob),
-        Contents::Directory => set_directory(alloc, children, name),
-        Contents::Absent => remove(children, name),
-    }
-}
-
-/// Puts a file at a name.
-fn set_file(children: &mut BTreeMap<Name, Node>, name: &Name, blob: Blob) -> Result<(), SetFault>
-    ensures allowed { OnOk result
-        (set_fault (replica_of children.old.entries) (name.now ∷ []) (Contents.File blob) ≡ None) }
-    ensures ok { OnOk result (replica_of children.new.entries
-        ≡ with_contents (replica_of children.old.entries) (name.now ∷ []) (Contents.File blob)) }
-    ensures fault { IfErr result (IsRefusal
-        (set_fault (replica_of children.old.entries) (name.now ∷ []) (Contents.File blob))) }
-    ensures err { OnErr result (replica_of children.new.entries ≡ replica_of children.old.entries) }
-{
-    if is_occupied(children, name) {
-        return Err(SetFault::NotEmpty);
-    }
-    let _old = children.insert(name.copy()?, Node::File(blob))?;
-    Ok(())
-}
-
-/// Puts a directory at a name, or leaves the one that is there.
-fn set_directory(
-    alloc: Global,
-    children: &mut BTreeMap<Name, Node>,
-    name: &Name,
-) -> Result<(), SetFault>
-    ensures allowed { OnOk result
-        (set_fault (replica_of children.old.entries) (name.now ∷ []) Contents.Directory ≡ None) }
-    ensures ok { OnOk result (replica_of children.new.entries
-        ≡ with_contents (replica_of children.old.entries) (name.now ∷ []) Contents.Directory) }
-    ensures fault { IfErr result (IsRefusal
-        (set_fault (replica_of children.old.entries) (name.now ∷ []) Contents.Directory)) }
-    ensures err { OnErr result (replica_of children.new.entries ≡ replica_of children.old.entries) }
-{
-    if holds_directory(children, name) {
-        return Ok(());
-    }
-    let inner = Arc::new(alloc, BTreeMap::new(alloc))?;
-    let _old = children.insert(name.copy()?, Node::Directory(inner))?;
-    Ok(())
-}
-
-/// Removes the node at a name.
-fn remove(children: &mut BTreeMap<Name, Node>, name: &Name) -> Result<(), SetFault>
-    ensures allowed { OnOk result
-        (set_fault (replica_of children.old.entries) (name.now ∷ []) Contents.Absent ≡ None) }
-    ensures ok { OnOk result (replica_of children.new.entries
-        ≡ with_contents (replica_of children.old.entries) (name.now ∷ []) Contents.Absent) }
-    ensures fault { IfErr result
-        (IsRefusal (set_fault (replica_of children.old.entries) (name.now ∷ []) Contents.Absent)) }
-    ensures err { OnErr result (replica_of children.new.entries ≡ replica_of children.old.entries) }
-{
-    if is_occupied(children, name) {
-        return Err(SetFault::NotEmpty);
-    }
-    match children.remove(name) {
-        Some(_old) => Ok(()),
-        None => Err(SetFault::NothingThere),
-    }
-}
-
-/// Returns whether the node at the name is a directory that holds something.
-fn is_occupied(children: &BTreeMap<Name, Node>, name: &Name) -> bool
-    ensures { result ≡ occupied (get name_cmp children.now name.now) }
-{
-    match children.get(name) {
-        Some(Node::Directory(inner)) => !inner.is_empty(),
-        Some(Node::File(_)) => false,
-        None => false,
-    }
-}
-
-/// Returns whether the node at the name is a directory.
-fn holds_directory(children: &BTreeMap<Name, Node>, name: &Name) -> bool
-    ensures { result ≡ is_directory (contents_or_absent (get name_cmp children.now name.now)) }
-{
-    match children.get(name) {
-        Some(Node::Directory(_)) => true,
-        Some(Node::File(_)) => false,
-        None => false,
-    }
 }

@@ -1,7 +1,7 @@
 use Rattle.std.proofs.Common.{refl, sym, ◌∙◌}
 use Rattle.hub_tree.specs.declared.contents.Contents.TheVariants.{Absent}
 use Rattle.hub_tree.proofs.Setting.{changed_child, bare_vacant, bare_nothing, occupied_fault, removal_fault, nothing_fault, refusal}
-use Rattle.hub_tree.proofs.node.remove.Goals as goal
+use Rattle.hub_tree.proofs.child.remove.Goals as goal
 
 pub returns-then-is_occupied-clause-fault : goal.returns-then-is_occupied-clause-fault
 returns-then-is_occupied-clause-fault c = refusal _ _ (occupied_fault c.args.children.now.entries c.args.name.now Absent refl (sym c.is_occupied.ensures ∙ c.if-is_occupied.true))

@@ -2,7 +2,7 @@ use Rattle.std.proofs.Common.{◌∷◌, [], sym, ap, ◌∙◌}
 use Rattle.hub_tree.specs.Nodes.{replica_of}
 use Rattle.hub_tree.specs.Tree.{set_fault, is_directory, is_absent}
 use Rattle.hub_tree.proofs.Setting.{occupied_fault, vacant_fault, removal_fault, nothing_fault}
-use Rattle.hub_tree.proofs.node.fault_of_child.Goals as goal
+use Rattle.hub_tree.proofs.child.fault_of_child.Goals as goal
 
 pub returns-then-is_occupied : goal.returns-then-is_occupied
 returns-then-is_occupied c = sym (occupied_fault c.args.children.now.entries c.args.name.now c.args.contents.now (ap is_directory c.in-File.is) (sym c.is_occupied.ensures ∙ c.if-is_occupied.true))

@@ -1,0 +1,261 @@
+ghost use Rattle.std.specs.Prelude.{◌≡◌, [], ◌∷◌, true, false, None, is_some, IfOk, IfErr, OnOk, OnErr};
+ghost use Rattle.std.specs.BTreeMap.{get};
+ghost use Rattle.hub_path.specs.Path.{name_cmp};
+ghost use Rattle.hub_tree.specs.Nodes.{replica_of, occupied, contents_or_absent, is_left, put_fault, with_put};
+ghost use Rattle.hub_tree.specs.Tree.{set_fault, with_contents, is_directory, IsRefusal};
+
+use crate::blob::Blob;
+use crate::contents::Contents;
+use crate::fault::SetFault;
+use crate::node::Node;
+use hub_path::Name;
+use std::alloc::Global;
+use std::collections::BTreeMap;
+use std::sync::Arc;
+
+/// Why contents can't be set at a name.
+pub fn fault_of_child(
+    children: &BTreeMap<Name, Node>,
+    name: &Name,
+    contents: &Contents,
+) -> Option<SetFault>
+    ensures { result
+        ≡ set_fault (replica_of children.now.entries) (name.now ∷ []) contents.now }
+{
+    match contents {
+        Contents::Directory => None,
+        Contents::File(_) => {
+            if is_occupied(children, name) {
+                return Some(SetFault::NotEmpty);
+            }
+            None
+        }
+        Contents::Absent => {
+            if is_occupied(children, name) {
+                return Some(SetFault::NotEmpty);
+            }
+            match children.get(name) {
+                Some(_) => None,
+                None => Some(SetFault::NothingThere),
+            }
+        }
+    }
+}
+
+/// Puts contents at a name. If only new contents are put, those that are there are left as they are, and it returns `true`.
+pub fn put_child(
+    alloc: Global,
+    children: &mut BTreeMap<Name, Node>,
+    name: &Name,
+    contents: Contents,
+    only_new: bool,
+) -> Result<bool, SetFault>
+    ensures left { IfOk result
+        (λ b. b ≡ is_left only_new (replica_of children.old.entries) (name.now ∷ [])) }
+    ensures allowed { OnOk result (put_fault only_new
+        (replica_of children.old.entries) (name.now ∷ []) contents ≡ None) }
+    ensures ok { OnOk result (replica_of children.new.entries
+        ≡ with_put only_new (replica_of children.old.entries) (name.now ∷ []) contents) }
+    ensures fault { IfErr result (IsRefusal (put_fault only_new
+        (replica_of children.old.entries) (name.now ∷ []) contents)) }
+    ensures err { OnErr result (replica_of children.new.entries ≡ replica_of children.old.entries) }
+{
+    if only_new {
+        return put_new_child(alloc, children, name, contents);
+    }
+    match set_child(alloc, children, name, contents) {
+        Ok(()) => Ok(false),
+        Err(fault) => Err(fault),
+    }
+}
+
+/// Sets contents at a name that has none, and returns whether it has some already.
+fn put_new_child(
+    alloc: Global,
+    children: &mut BTreeMap<Name, Node>,
+    name: &Name,
+    contents: Contents,
+) -> Result<bool, SetFault>
+    ensures left { IfOk result
+        (λ b. b ≡ is_left true (replica_of children.old.entries) (name.now ∷ [])) }
+    ensures allowed { OnOk result (put_fault true
+        (replica_of children.old.entries) (name.now ∷ []) contents ≡ None) }
+    ensures ok { OnOk result (replica_of children.new.entries
+        ≡ with_put true (replica_of children.old.entries) (name.now ∷ []) contents) }
+    ensures fault { IfErr result (IsRefusal (put_fault true
+        (replica_of children.old.entries) (name.now ∷ []) contents)) }
+    ensures err { OnErr result (replica_of children.new.entries ≡ replica_of children.old.entries) }
+{
+    if has_child(children, name) {
+        return Ok(true);
+    }
+    match add_child(alloc, children, name, contents) {
+        Ok(()) => Ok(false),
+        Err(fault) => Err(fault),
+    }
+}
+
+/// Returns whether there are contents at a name.
+fn has_child(children: &BTreeMap<Name, Node>, name: &Name) -> bool
+    ensures found { result ≡ is_some (get name_cmp children.now name.now) }
+    ensures left { result ≡ is_left true (replica_of children.now.entries) (name.now ∷ []) }
+{
+    children.contains_key(name)
+}
+
+/// Sets contents at a name that has none.
+fn add_child(
+    alloc: Global,
+    children: &mut BTreeMap<Name, Node>,
+    name: &Name,
+    contents: Contents,
+) -> Result<(), SetFault>
+    requires { is_some (get name_cmp children.old name.now) ≡ false }
+    ensures allowed { OnOk result
+        (set_fault (replica_of children.old.entries) (name.now ∷ []) contents ≡ None) }
+    ensures ok { OnOk result (replica_of children.new.entries
+        ≡ with_contents (replica_of children.old.entries) (name.now ∷ []) contents) }
+    ensures fault { IfErr result
+        (IsRefusal (set_fault (replica_of children.old.entries) (name.now ∷ []) contents)) }
+    ensures err { OnErr result (replica_of children.new.entries ≡ replica_of children.old.entries) }
+{
+    match contents {
+        Contents::File(blob) => insert_file(children, name, blob),
+        Contents::Directory => insert_directory(alloc, children, name),
+        Contents::Absent => Err(SetFault::NothingThere),
+    }
+}
+
+/// Sets contents at a name.
+fn set_child(
+    alloc: Global,
+    children: &mut BTreeMap<Name, Node>,
+    name: &Name,
+    contents: Contents,
+) -> Result<(), SetFault>
+    ensures allowed { OnOk result
+        (set_fault (replica_of children.old.entries) (name.now ∷ []) contents ≡ None) }
+    ensures ok { OnOk result (replica_of children.new.entries
+        ≡ with_contents (replica_of children.old.entries) (name.now ∷ []) contents) }
+    ensures fault { IfErr result
+        (IsRefusal (set_fault (replica_of children.old.entries) (name.now ∷ []) contents)) }
+    ensures err { OnErr result (replica_of children.new.entries ≡ replica_of children.old.entries) }
+{
+    match contents {
+        Contents::File(blob) => set_file(children, name, blob),
+        Contents::Directory => set_directory(alloc, children, name),
+        Contents::Absent => remove(children, name),
+    }
+}
+
+/// Puts a file at a name.
+fn set_file(children: &mut BTreeMap<Name, Node>, name: &Name, blob: Blob) -> Result<(), SetFault>
+    ensures allowed { OnOk result
+        (set_fault (replica_of children.old.entries) (name.now ∷ []) (Contents.File blob) ≡ None) }
+    ensures ok { OnOk result (replica_of children.new.entries
+        ≡ with_contents (replica_of children.old.entries) (name.now ∷ []) (Contents.File blob)) }
+    ensures fault { IfErr result (IsRefusal
+        (set_fault (replica_of children.old.entries) (name.now ∷ []) (Contents.File blob))) }
+    ensures err { OnErr result (replica_of children.new.entries ≡ replica_of children.old.entries) }
+{
+    if is_occupied(children, name) {
+        return Err(SetFault::NotEmpty);
+    }
+    insert_file(children, name, blob)
+}
+
+/// Puts a file at a name where there is no directory that holds something.
+fn insert_file(children: &mut BTreeMap<Name, Node>, name: &Name, blob: Blob) -> Result<(), SetFault>
+    requires { occupied (get name_cmp children.old name.now) ≡ false }
+    ensures allowed { OnOk result
+        (set_fault (replica_of children.old.entries) (name.now ∷ []) (Contents.File blob) ≡ None) }
+    ensures ok { OnOk result (replica_of children.new.entries
+        ≡ with_contents (replica_of children.old.entries) (name.now ∷ []) (Contents.File blob)) }
+    ensures fault { IfErr result (IsRefusal
+        (set_fault (replica_of children.old.entries) (name.now ∷ []) (Contents.File blob))) }
+    ensures err { OnErr result (replica_of children.new.entries ≡ replica_of children.old.entries) }
+{
+    let _old = children.insert(name.copy()?, Node::File(blob))?;
+    Ok(())
+}
+
+/// Puts a directory at a name, or leaves the one that is there.
+fn set_directory(
+    alloc: Global,
+    children: &mut BTreeMap<Name, Node>,
+    name: &Name,
+) -> Result<(), SetFault>
+    ensures allowed { OnOk result
+        (set_fault (replica_of children.old.entries) (name.now ∷ []) Contents.Directory ≡ None) }
+    ensures ok { OnOk result (replica_of children.new.entries
+        ≡ with_contents (replica_of children.old.entries) (name.now ∷ []) Contents.Directory) }
+    ensures fault { IfErr result (IsRefusal
+        (set_fault (replica_of children.old.entries) (name.now ∷ []) Contents.Directory)) }
+    ensures err { OnErr result (replica_of children.new.entries ≡ replica_of children.old.entries) }
+{
+    if holds_directory(children, name) {
+        return Ok(());
+    }
+    insert_directory(alloc, children, name)
+}
+
+/// Puts a directory at a name where there is none.
+fn insert_directory(
+    alloc: Global,
+    children: &mut BTreeMap<Name, Node>,
+    name: &Name,
+) -> Result<(), SetFault>
+    requires { is_directory (contents_or_absent (get name_cmp children.old name.now)) ≡ false }
+    ensures allowed { OnOk result
+        (set_fault (replica_of children.old.entries) (name.now ∷ []) Contents.Directory ≡ None) }
+    ensures ok { OnOk result (replica_of children.new.entries
+        ≡ with_contents (replica_of children.old.entries) (name.now ∷ []) Contents.Directory) }
+    ensures fault { IfErr result (IsRefusal
+        (set_fault (replica_of children.old.entries) (name.now ∷ []) Contents.Directory)) }
+    ensures err { OnErr result (replica_of children.new.entries ≡ replica_of children.old.entries) }
+{
+    let inner = Arc::new(alloc, BTreeMap::new(alloc))?;
+    let _old = children.insert(name.copy()?, Node::Directory(inner))?;
+    Ok(())
+}
+
+/// Removes the node at a name.
+fn remove(children: &mut BTreeMap<Name, Node>, name: &Name) -> Result<(), SetFault>
+    ensures allowed { OnOk result
+        (set_fault (replica_of children.old.entries) (name.now ∷ []) Contents.Absent ≡ None) }
+    ensures ok { OnOk result (replica_of children.new.entries
+        ≡ with_contents (replica_of children.old.entries) (name.now ∷ []) Contents.Absent) }
+    ensures fault { IfErr result
+        (IsRefusal (set_fault (replica_of children.old.entries) (name.now ∷ []) Contents.Absent)) }
+    ensures err { OnErr result (replica_of children.new.entries ≡ replica_of children.old.entries) }
+{
+    if is_occupied(children, name) {
+        return Err(SetFault::NotEmpty);
+    }
+    match children.remove(name) {
+        Some(_old) => Ok(()),
+        None => Err(SetFault::NothingThere),
+    }
+}
+
+/// Returns whether the node at the name is a directory that holds something.
+fn is_occupied(children: &BTreeMap<Name, Node>, name: &Name) -> bool
+    ensures { result ≡ occupied (get name_cmp children.now name.now) }
+{
+    match children.get(name) {
+        Some(Node::Directory(inner)) => !inner.is_empty(),
+        Some(Node::File(_)) => false,
+        None => false,
+    }
+}
+
+/// Returns whether the node at the name is a directory.
+fn holds_directory(children: &BTreeMap<Name, Node>, name: &Name) -> bool
+    ensures { result ≡ is_directory (contents_or_absent (get name_cmp children.now name.now)) }
+{
+    match children.get(name) {
+        Some(Node::Directory(_)) => true,
+        Some(Node::File(_)) => false,
+        None => false,
+    }
+}

@@ -174,28 +174,29 @@ impl ProfileSet {
             ≡ goals.old.items
             ++ filter (of_goals.is_goal self.now) (map (Clash writer other) of_goals.places)) }
     {
+        self.push_clash(goals, writer, other, Place::Replica(Side::Left))?;
+        self.push_clash(goals, writer, other, Place::Replica(Side::Right))?;
+        self.push_clash(goals, writer, other, Place::Archive)
+    }
+
+    /// Appends the clash at that place, if it is a goal of the set.
+    fn push_clash(
+        &self,
+        goals: &mut Vec<Goal>,
+        writer: usize,
+        other: usize,
+        place: Place,
+    ) -> Result<(), AllocError>
+        ensures { OnOk result (goals.new.items
+            ≡ goals.old.items
+            ++ filter (of_goals.is_goal self.now) (Clash writer other place ∷ [])) }
+    {
         self.push_goal(
             goals,
             Goal::Clash {
                 writer,
                 other,
-                place: Place::Replica(Side::Left),
-            },
-        )?;
-        self.push_goal(
-            goals,
-            Goal::Clash {
-                writer,
-                other,
-                place: Place::Replica(Side::Right),
-            },
-        )?;
-        self.push_goal(
-            goals,
-            Goal::Clash {
-                writer,
-                other,
-                place: Place::Archive,
+                place,
             },
         )
     }

@@ -21,7 +21,7 @@ use Rattle.hub_cert.specs.declared.set.TheConstants.{PROFILES}
 use Rattle.hub_automaton.specs.declared.fault.AutomatonFault.{AutomatonFault}
 use Rattle.hub_automaton.specs.declared.fault.AutomatonFault.TheVariants as automaton
 use Rattle.hub_profile.specs.declared.rule.Rule.{Rule}
-use Rattle.hub_cert.proofs.ClassSteps.{less-or-same}
+use Rattle.hub_cert.specs.Matched.{less-or-same}
 
 pub path_eq-decides : (p q : Path) → Decides (path_eq p q) (p ≡ q)
 path_eq-decides p q = slice_eq-Decides name_eq-decides p q (path_eq p q) refl

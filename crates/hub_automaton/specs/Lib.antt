@@ -1,4 +1,5 @@
 pub mod Adding
+pub mod AddedInTurn
 pub mod Alike
 pub mod Alphabet
 pub mod ClassSets

@@ -10,7 +10,6 @@ pub mod GoalList
 pub mod Once
 pub mod InductiveTexts
 pub mod CertificateFacts
-pub mod Adding
 pub mod SetFacts
 pub mod Numbers
 pub mod Writable

@@ -14,7 +14,8 @@ use Rattle.hub_path.specs.Path.{Path, path_eq, is_over}
 use Rattle.hub_automaton.specs.Alphabet.{IsAlphabet, mentions, spec_characters}
 use Rattle.hub_profile.specs.Parts.{Parts}
 use Rattle.hub_reach.specs.Mention.{mentioned_by}
-use Rattle.hub_cert.proofs.Adding.{parts-mentioned, says-all}
+use Rattle.hub_automaton.specs.AddedInTurn.{parts-mentioned}
+use Rattle.hub_reach.specs.MentionLaws.{says-all}
 use Rattle.hub_cert.specs.Set.{AreApart, HaveNames, Members, Mentioned, forbidden_by, mentioned_in, roots_in}
 use Rattle.hub_cert.specs.Refused.{AreFirstNested, AreNested, AreShownNested, FewNamed, HaveSameName, IsRefused, IsTooMuch, fault_of, is_nested}
 use Rattle.hub_cert.specs.declared.set.TheConstants.{PROFILES}

@@ -1,92 +1,27 @@
--- An alphabet to which the characters of one thing after another are added.
-use Rattle.std.proofs.Common.{◌≡◌, ◌∙◌, ℕ, ◌+◌, ◌<◌, ◌≤◌, true, ◌&&◌, ◌||◌, List, [], ◌∷◌, ◌++◌, length, take, drop, get_or, refl, sym, ap, append_assoc, append-nil}
-use Rattle.std.specs.List.{list_all, flat_map}
-use Rattle.std.proofs.lemmas.List.{take_more, take_all, take-append-drop}
-use Rattle.std.proofs.lemmas.List.Folds.{list_all-append}
-use Rattle.hub_automaton.specs.declared.fault.AutomatonFault.{AutomatonFault}
-use Rattle.hub_automaton.specs.Alphabet.{mentions, path_characters, spec_characters, is_left_out, is_mentioned, with_characters, Refuses}
-use Rattle.hub_automaton.specs.Adding.{with-append, mention_refused, flat_drop}
-use Rattle.hub_profile.specs.Parts.{Parts}
-use Rattle.hub_reach.specs.Mention.{Mentions, mentioned_by, partial_characters, IsPartly}
-use Rattle.hub_reach.specs.WalkLaws.{both}
-
-parts-mentioned : (ms cs ds : List ℕ) → mentions ms (cs ++ ds) ≡ true → (mentions ms cs ≡ true) × (mentions ms ds ≡ true)
-parts-mentioned ms cs ds h = both (mentions ms cs) (mentions ms ds) (sym (list_all-append (λ c. is_left_out c || is_mentioned ms c) cs ds) ∙ h)
-
-pub added-behind : (ms now more cs ds : List ℕ) → now ≡ with_characters ms cs → more ≡ with_characters now ds → more ≡ with_characters ms (cs ++ ds)
-added-behind ms now more cs ds is h = h ∙ (ap (λ (ns : List ℕ). with_characters ns ds) is ∙ sym (with-append ms cs ds))
-
--- What is refused to a part is refused to the whole.
-pub refused-front : (ms cs ds : List ℕ) (e : AutomatonFault) → Refuses ms cs e → Refuses ms (cs ++ ds) e
-refused-front ms cs ds e r = mention_refused cs (cs ++ ds) ds ms ms (cs ++ ds) e refl refl r
-
-pub refused-behind : (ms now cs ds : List ℕ) (e : AutomatonFault) → now ≡ with_characters ms cs → Refuses now ds e → Refuses ms (cs ++ ds) e
-refused-behind ms now cs ds e is r =
-    mention_refused ds ds [] now ms (cs ++ ds) e (sym (append-nil ds)) (ap (λ (ns : List ℕ). with_characters ns ds) is ∙ sym (with-append ms cs ds)) r
+-- What has been added to an alphabet when the characters of one thing after another are added.
+use Rattle.std.proofs.Common.{◌≡◌, ◌∙◌, ℕ, List, ◌++◌, take, drop, sym, ap, append_assoc}
+use Rattle.std.specs.List.{flat_map}
+use Rattle.hub_automaton.specs.Alphabet.{with_characters}
+use Rattle.hub_automaton.specs.Adding.{with-append}
+use Rattle.hub_automaton.specs.AddedInTurn.{flat-parts}
+use Rattle.hub_reach.specs.Mention.{IsPartly}
 
 -- What has been added of a part has been added of the whole.
-pub partly-front : (ms cs ds new : List ℕ) → IsPartly ms cs new → IsPartly ms (cs ++ ds) new
-partly-front ms cs ds new p = record {
+pub partly-before : (ms cs ds new : List ℕ) → IsPartly ms cs new → IsPartly ms (cs ++ ds) new
+partly-before ms cs ds new p = record {
   added = p.added;
   left = p.left ++ ds;
   all = sym (append_assoc p.added p.left ds) ∙ ap (λ es. es ++ ds) p.all;
   mentioned = p.mentioned;
 }
 
-pub partly-behind : (ms now cs ds new : List ℕ) → now ≡ with_characters ms cs → IsPartly now ds new → IsPartly ms (cs ++ ds) new
-partly-behind ms now cs ds new is p = record {
+pub partly-after : (ms now cs ds new : List ℕ) → now ≡ with_characters ms cs → IsPartly now ds new → IsPartly ms (cs ++ ds) new
+partly-after ms now cs ds new is p = record {
   added = cs ++ p.added;
   left = p.left;
   all = append_assoc cs p.added p.left ∙ ap (λ es. cs ++ es) p.all;
   mentioned = p.mentioned ∙ (ap (λ (ns : List ℕ). with_characters ns p.added) is ∙ sym (with-append ms cs p.added));
 }
 
-module _ {X : Type 0} (f : X → List ℕ) where
-  flat-append : (xs ys : List X) → flat_map f (xs ++ ys) ≡ flat_map f xs ++ flat_map f ys
-  flat-append [] ys = refl
-  flat-append (x ∷ xs) ys = ap (λ cs. f x ++ cs) (flat-append xs ys) ∙ sym (append_assoc (f x) (flat_map f xs) (flat_map f ys))
-
-  flat-parts : (xs : List X) (i : ℕ) → flat_map f (take i xs) ++ flat_map f (drop i xs) ≡ flat_map f xs
-  flat-parts xs i = sym (flat-append (take i xs) (drop i xs)) ∙ ap (flat_map f) (take-append-drop i xs)
-
-  each-mentioned : (ms : List ℕ) (xs : List X) → mentions ms (flat_map f xs) ≡ true → list_all (λ x. mentions ms (f x)) xs ≡ true
-  each-mentioned ms [] h = refl
-  each-mentioned ms (x ∷ xs) h = let w = parts-mentioned ms (f x) (flat_map f xs) h in (λ i. w.0 i && each-mentioned ms xs w.1 i)
-
-  -- The characters of the first i of them have been added.
-  pub added-more : (start now more : List ℕ) (xs : List X) (i : ℕ) (x : X) → i < length xs → x ≡ get_or xs i x → more ≡ with_characters now (f x)
-      → now ≡ with_characters start (flat_map f (take i xs)) → more ≡ with_characters start (flat_map f (take (i + 1) xs))
-  added-more start now more xs i x l e m h =
-      m ∙ (ap (λ (ns : List ℕ). with_characters ns (f x)) h
-      ∙ (sym (with-append start (flat_map f (take i xs)) (f x))
-      ∙ ap (with_characters start)
-      (ap (λ cs. flat_map f (take i xs) ++ cs) (sym (append-nil (f x)))
-      ∙ (sym (flat-append (take i xs) (x ∷ [])) ∙ ap (flat_map f) (sym (take_more xs i x l ∙ ap (λ r. take i xs ++ r ∷ []) (sym e)))))))
-
-  pub added-all : (start now : List ℕ) (xs : List X) (i : ℕ) → length xs ≤ i → now ≡ with_characters start (flat_map f (take i xs)) → now ≡ with_characters start (flat_map f xs)
-  added-all start now xs i l h = h ∙ ap (λ ys. with_characters start (flat_map f ys)) (take_all i xs l)
-
-  pub refused-one : (start now : List ℕ) (xs : List X) (i : ℕ) (x : X) (e : AutomatonFault) → i < length xs → x ≡ get_or xs i x
-      → now ≡ with_characters start (flat_map f (take i xs)) → Refuses now (f x) e → Refuses start (flat_map f xs) e
-  refused-one start now xs i x e l is h r =
-      mention_refused (f x) (flat_map f (drop i xs)) (flat_map f (drop (i + 1) xs)) now start (flat_map f xs) e (flat_drop f xs i x l is)
-      (ap (λ (ns : List ℕ). with_characters ns (flat_map f (drop i xs))) h
-      ∙ (sym (with-append start (flat_map f (take i xs)) (flat_map f (drop i xs))) ∙ ap (with_characters start) (flat-parts xs i))) r
-
-  pub partly-some : (start now : List ℕ) (xs : List X) (i : ℕ) → now ≡ with_characters start (flat_map f (take i xs)) → IsPartly start (flat_map f xs) now
-  partly-some start now xs i h = record { added = flat_map f (take i xs); left = flat_map f (drop i xs); all = flat-parts xs i; mentioned = h }
-
--- An alphabet that mentions all that a profile mentions.
-pub says-all : (P : Parts) (ms : List ℕ) → mentions ms (mentioned_by P) ≡ true → Mentions ms P
-says-all P ms h =
-    let bars = flat_map partial_characters P.partial in
-    let exceptions = flat_map spec_characters P.ignorenot in
-    let w = parts-mentioned ms (flat_map path_characters P.paths) (flat_map spec_characters P.ignore ++ (exceptions ++ bars)) h in
-    let v = parts-mentioned ms (flat_map spec_characters P.ignore) (exceptions ++ bars) w.1 in
-    let u = parts-mentioned ms exceptions bars v.1 in
-    record {
-      paths = each-mentioned path_characters ms P.paths w.0;
-      ignore = each-mentioned spec_characters ms P.ignore v.0;
-      ignorenot = each-mentioned spec_characters ms P.ignorenot u.0;
-      partial = each-mentioned partial_characters ms P.partial u.1;
-    }
+pub partly-some : {X : Type 0} (f : X → List ℕ) (start now : List ℕ) (xs : List X) (i : ℕ) → now ≡ with_characters start (flat_map f (take i xs)) → IsPartly start (flat_map f xs) now
+partly-some f start now xs i h = record { added = flat_map f (take i xs); left = flat_map f (drop i xs); all = flat-parts f xs i; mentioned = h }

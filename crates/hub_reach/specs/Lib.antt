@@ -13,6 +13,7 @@ pub mod Walker
 pub mod WalkerEnds
 pub mod Examples
 pub mod Mention
+pub mod MentionLaws
 pub mod WalkLaws
 pub mod PrefixLaws
 pub mod Between

@@ -1,7 +1,7 @@
 use Rattle.std.proofs.Common.{arith}
 use Rattle.std.proofs.lemmas.Result.{err_from_is_err_and}
 use Rattle.hub_reach.specs.Mention.{mentioned_by}
-use Rattle.hub_cert.proofs.Adding.{added-more, added-all, refused-one}
+use Rattle.hub_automaton.specs.AddedInTurn.{added-more, added-all, refused-one}
 use Rattle.hub_cert.proofs.refusals.mention_profiles.Goals as goal
 
 pub loop-profile-preserved : goal.loop-profile-preserved

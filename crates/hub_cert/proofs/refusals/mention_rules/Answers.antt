@@ -2,7 +2,7 @@ use Rattle.std.proofs.Common.{arith}
 use Rattle.std.proofs.lemmas.Result.{err_from_is_err_and}
 use Rattle.hub_automaton.specs.Alphabet.{spec_characters}
 use Rattle.hub_profile.specs.declared.rule.Rule.{Rule}
-use Rattle.hub_cert.proofs.Adding.{added-more, added-all, refused-one}
+use Rattle.hub_automaton.specs.AddedInTurn.{added-more, added-all, refused-one}
 use Rattle.hub_cert.proofs.refusals.mention_rules.Goals as goal
 
 pub loop-rule-preserved : goal.loop-rule-preserved

@@ -7,7 +7,9 @@ use Rattle.hub_automaton.specs.Alphabet.{path_characters, spec_characters, with_
 use Rattle.hub_profile.specs.Parts.{Parts}
 use Rattle.hub_profile.specs.declared.partial.Partial.{Partial}
 use Rattle.hub_reach.specs.Mention.{mentioned_by, partial_characters, IsPartly}
-use Rattle.hub_reach.proofs.Grows.{added-behind, says-all, refused-front, refused-behind, partly-front, partly-behind}
+use Rattle.hub_automaton.specs.AddedInTurn.{added-after, refused-before, refused-after}
+use Rattle.hub_reach.specs.MentionLaws.{says-all}
+use Rattle.hub_reach.proofs.Grows.{partly-before, partly-after}
 use Rattle.hub_reach.proofs.mentions.mention.Goals as goal
 
 -- The characters of each part.
@@ -30,7 +32,7 @@ returns-in_err-mention_paths-clause-err c =
     let p = err_from_is_err_and c.from_residual.result c.from_residual.ensures.1 in
     let e = c.in_err-mention_paths.field-0.0 in
     rw (p.1, p.2)
-    (refused-front old (kept P) (ignored P ++ (exceptions P ++ barred P)) e
+    (refused-before old (kept P) (ignored P ++ (exceptions P ++ barred P)) e
     (subst (λ (ps : List Path). Refuses old (flat_map path_characters ps) e) c.paths.ensures.value c.in_err-mention_paths.ensures.err))
 
 pub returns-in_err-mention_paths-clause-partly : goal.returns-in_err-mention_paths-clause-partly
@@ -39,7 +41,7 @@ returns-in_err-mention_paths-clause-partly c =
     let old = c.args.alphabet.now in
     let p = err_from_is_err_and c.from_residual.result c.from_residual.ensures.1 in
     rw p.1
-    (partly-front old (kept P) (ignored P ++ (exceptions P ++ barred P)) c.mention_paths.new.alphabet
+    (partly-before old (kept P) (ignored P ++ (exceptions P ++ barred P)) c.mention_paths.new.alphabet
     (subst (λ (ps : List Path). IsPartly old (flat_map path_characters ps) c.mention_paths.new.alphabet) c.paths.ensures.value c.in_err-mention_paths.ensures.partly))
 
 pub returns-in_err-mention_specs-clause-err : goal.returns-in_err-mention_specs-clause-err
@@ -52,8 +54,8 @@ returns-in_err-mention_specs-clause-err c =
     let first : a ≡ with_characters old (kept P) =
     c.in_ok-mention_paths.ensures.ok ∙ ap (λ (ps : List Path). with_characters old (flat_map path_characters ps)) c.paths.ensures.value in
     rw (p.1, p.2)
-    (refused-behind old a (kept P) (ignored P ++ (exceptions P ++ barred P)) e first
-    (refused-front a (ignored P) (exceptions P ++ barred P) e
+    (refused-after old a (kept P) (ignored P ++ (exceptions P ++ barred P)) e first
+    (refused-before a (ignored P) (exceptions P ++ barred P) e
     (subst (λ (ss : List Specification). Refuses a (flat_map spec_characters ss) e) c.ignore.ensures c.in_err-mention_specs.ensures.err)))
 
 pub returns-in_err-mention_specs-clause-partly : goal.returns-in_err-mention_specs-clause-partly
@@ -66,8 +68,8 @@ returns-in_err-mention_specs-clause-partly c =
     let first : a ≡ with_characters old (kept P) =
     c.in_ok-mention_paths.ensures.ok ∙ ap (λ (ps : List Path). with_characters old (flat_map path_characters ps)) c.paths.ensures.value in
     rw p.1
-    (partly-behind old a (kept P) (ignored P ++ (exceptions P ++ barred P)) b first
-    (partly-front a (ignored P) (exceptions P ++ barred P) b
+    (partly-after old a (kept P) (ignored P ++ (exceptions P ++ barred P)) b first
+    (partly-before a (ignored P) (exceptions P ++ barred P) b
     (subst (λ (ss : List Specification). IsPartly a (flat_map spec_characters ss) b) c.ignore.ensures c.in_err-mention_specs.ensures.partly)))
 
 pub returns-in_err-mention_specs-2-clause-err : goal.returns-in_err-mention_specs-2-clause-err
@@ -83,9 +85,9 @@ returns-in_err-mention_specs-2-clause-err c =
     let second : b ≡ with_characters a (ignored P) =
     c.in_ok-mention_specs.ensures.ok ∙ ap (λ (ss : List Specification). with_characters a (flat_map spec_characters ss)) c.ignore.ensures in
     rw (p.1, p.2)
-    (refused-behind old a (kept P) (ignored P ++ (exceptions P ++ barred P)) e first
-    (refused-behind a b (ignored P) (exceptions P ++ barred P) e second
-    (refused-front b (exceptions P) (barred P) e
+    (refused-after old a (kept P) (ignored P ++ (exceptions P ++ barred P)) e first
+    (refused-after a b (ignored P) (exceptions P ++ barred P) e second
+    (refused-before b (exceptions P) (barred P) e
     (subst (λ (ss : List Specification). Refuses b (flat_map spec_characters ss) e) c.ignorenot.ensures c.in_err-mention_specs-2.ensures.err))))
 
 pub returns-in_err-mention_specs-2-clause-partly : goal.returns-in_err-mention_specs-2-clause-partly
@@ -101,9 +103,9 @@ returns-in_err-mention_specs-2-clause-partly c =
     let second : b ≡ with_characters a (ignored P) =
     c.in_ok-mention_specs.ensures.ok ∙ ap (λ (ss : List Specification). with_characters a (flat_map spec_characters ss)) c.ignore.ensures in
     rw p.1
-    (partly-behind old a (kept P) (ignored P ++ (exceptions P ++ barred P)) d first
-    (partly-behind a b (ignored P) (exceptions P ++ barred P) d second
-    (partly-front b (exceptions P) (barred P) d
+    (partly-after old a (kept P) (ignored P ++ (exceptions P ++ barred P)) d first
+    (partly-after a b (ignored P) (exceptions P ++ barred P) d second
+    (partly-before b (exceptions P) (barred P) d
     (subst (λ (ss : List Specification). IsPartly b (flat_map spec_characters ss) d) c.ignorenot.ensures c.in_err-mention_specs-2.ensures.partly))))
 
 pub returns-in_err-mention_bars-clause-err : goal.returns-in_err-mention_bars-clause-err
@@ -122,9 +124,9 @@ returns-in_err-mention_bars-clause-err c =
     let third : d ≡ with_characters b (exceptions P) =
     c.in_ok-mention_specs-2.ensures.ok ∙ ap (λ (ss : List Specification). with_characters b (flat_map spec_characters ss)) c.ignorenot.ensures in
     rw (p.1, p.2)
-    (refused-behind old a (kept P) (ignored P ++ (exceptions P ++ barred P)) e first
-    (refused-behind a b (ignored P) (exceptions P ++ barred P) e second
-    (refused-behind b d (exceptions P) (barred P) e third
+    (refused-after old a (kept P) (ignored P ++ (exceptions P ++ barred P)) e first
+    (refused-after a b (ignored P) (exceptions P ++ barred P) e second
+    (refused-after b d (exceptions P) (barred P) e third
     (subst (λ (bs : List Partial). Refuses d (flat_map partial_characters bs) e) c.partial.ensures c.in_err-mention_bars.ensures.err))))
 
 pub returns-in_err-mention_bars-clause-partly : goal.returns-in_err-mention_bars-clause-partly
@@ -143,9 +145,9 @@ returns-in_err-mention_bars-clause-partly c =
     let third : d ≡ with_characters b (exceptions P) =
     c.in_ok-mention_specs-2.ensures.ok ∙ ap (λ (ss : List Specification). with_characters b (flat_map spec_characters ss)) c.ignorenot.ensures in
     rw p.1
-    (partly-behind old a (kept P) (ignored P ++ (exceptions P ++ barred P)) f first
-    (partly-behind a b (ignored P) (exceptions P ++ barred P) f second
-    (partly-behind b d (exceptions P) (barred P) f third
+    (partly-after old a (kept P) (ignored P ++ (exceptions P ++ barred P)) f first
+    (partly-after a b (ignored P) (exceptions P ++ barred P) f second
+    (partly-after b d (exceptions P) (barred P) f third
     (subst (λ (bs : List Partial). IsPartly d (flat_map partial_characters bs) f) c.partial.ensures c.in_err-mention_bars.ensures.partly))))
 
 pub returns-clause-ok : goal.returns-clause-ok
@@ -164,8 +166,8 @@ returns-clause-ok c =
     c.in_ok-mention_specs-2.ensures.ok ∙ ap (λ (ss : List Specification). with_characters b (flat_map spec_characters ss)) c.ignorenot.ensures in
     let fourth : f ≡ with_characters d (barred P) =
     c.in_ok-mention_bars.ensures.ok ∙ ap (λ (bs : List Partial). with_characters d (flat_map partial_characters bs)) c.partial.ensures in
-    added-behind old a f (kept P) (ignored P ++ (exceptions P ++ barred P)) first
-    (added-behind a b f (ignored P) (exceptions P ++ barred P) second (added-behind b d f (exceptions P) (barred P) third fourth))
+    added-after old a f (kept P) (ignored P ++ (exceptions P ++ barred P)) first
+    (added-after a b f (ignored P) (exceptions P ++ barred P) second (added-after b d f (exceptions P) (barred P) third fourth))
 
 pub returns-clause-kept : goal.returns-clause-kept
 returns-clause-kept c = λ cs h.

@@ -1,7 +1,8 @@
 use Rattle.std.proofs.Common.{◌∙◌, arith}
 use Rattle.std.proofs.lemmas.Result.{err_from_is_err_and}
 use Rattle.hub_automaton.specs.Alphabet.{path_characters}
-use Rattle.hub_reach.proofs.Grows.{added-more, added-all, refused-one, partly-some}
+use Rattle.hub_automaton.specs.AddedInTurn.{added-more, added-all, refused-one}
+use Rattle.hub_reach.proofs.Grows.{partly-some}
 use Rattle.hub_reach.proofs.mentions.mention_paths.Goals as goal
 
 pub loop-path-preserved : goal.loop-path-preserved

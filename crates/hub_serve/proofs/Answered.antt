@@ -1,11 +1,10 @@
 -- From what was written to what is true of the input.
-use Rattle.std.proofs.Common.{[], ◌≡◌, ◌∙◌, ◌==◌, ◌≤◌, ◌⊎◌, inl, inr, ℕ, Bool, true, false, ◌||◌, cond, Result, Ok, Err, List, ◌∷◌, ◌++◌, length, take, Option, Some, None, codes, refl, sym, ap, subst, arith, length-append, eq-eqb}
-use Rattle.std.specs.Prelude.{IfOk, IfSome, OnOk, is_err, ⊤}
+use Rattle.std.proofs.Common.{[], ◌≡◌, ◌∙◌, ◌==◌, ◌≤◌, ◌⊎◌, inl, inr, ℕ, Bool, true, false, cond, Result, Ok, List, ◌∷◌, ◌++◌, length, take, Option, Some, None, codes, refl, sym, ap, subst, arith, length-append, eq-eqb}
+use Rattle.std.specs.Prelude.{IfOk, IfSome, ⊤}
 use Rattle.std.specs.Io.KnownBytes.{Appends, Keeps}
-use Rattle.std.proofs.KnownBytes.{Appends-kept}
-use Rattle.std.proofs.lemmas.List.{append_cancel_left, take_all}
+use Rattle.std.proofs.lemmas.List.{append_cancel_left}
 use Rattle.std.proofs.lemmas.Option.{none-some, same_Some}
-use Rattle.std.proofs.lemmas.Bool.{false≢true, true≢false}
+use Rattle.std.proofs.lemmas.Bool.{false≢true}
 use Rattle.hub_cli.specs.declared.words.Question.TheVariants as ask
 use Rattle.hub_cli.specs.Words.{Request, about, asked_of}
 use Rattle.hub_report.specs.declared.report.Report.{Report}
@@ -230,42 +229,6 @@ pub serves-same : (words same : List (List ℕ)) (remaining old new : Option (Li
     → words ≡ same → Serves (asked_of words) remaining old new reads write_failed status → Serves (asked_of same) remaining old new reads write_failed status
 serves-same words same remaining old new reads write_failed status e h =
     subst (λ ws. Serves (asked_of ws) remaining old new reads write_failed status) e h
-
--- All of a line was written, and no call failed.
-pub text-written : (old mid new : Option (List ℕ)) (line : List ℕ) (status : ℕ) (failed : Bool) → Appends old mid line → Keeps mid new → failed ≡ false
-    → WritesText old new line status failed status
-text-written old mid new line status failed all kept is =
-    let whole : take (length line) line ≡ line = take_all (length line) line (omega arith) in
-    record {
-      written = length line;
-      appends = Appends-kept old mid new (take (length line) line) (subst (Appends old mid) (sym whole) all) kept;
-      whole = λ e. whole;
-      status_is = sym (ap (λ f. cond f 2 status) is);
-    }
-
--- A prefix of a line was written, and a call failed.
-pub text-cut : (old new : Option (List ℕ)) (line : List ℕ) (n status : ℕ) (failed : Bool) → Appends old new (take n line) → failed ≡ true
-    → WritesText old new line status failed 2
-text-cut old new line n status failed some is = record {
-  written = n;
-  appends = some;
-  whole = λ e. absurd (true≢false (sym is ∙ e));
-  status_is = sym (ap (λ f. cond f 2 status) is);
-}
-
--- All of a line was written, and then the flush failed.
-pub text-unflushed : (old mid new : Option (List ℕ)) (line : List ℕ) (status : ℕ) (failed : Bool) → Appends old mid line → Keeps mid new → failed ≡ true
-    → WritesText old new line status failed 2
-text-unflushed old mid new line status failed all kept is =
-    text-cut old new line (length line) status failed (Appends-kept old mid new (take (length line) line) (subst (Appends old mid) (sym (take_all (length line) line (omega arith))) all) kept) is
-
--- A call that returned no error has not failed.
-pub unfailed : (failed err now : Bool) → failed ≡ false → false ≡ err → now ≡ (failed || err) → now ≡ false
-unfailed failed err now h k e = e ∙ rw (h, ← k) refl
-
-pub given-ok : {T E : Type 0} (r : Result T E) (P : Type 0) → false ≡ is_err r → OnOk r P → P
-given-ok (Ok x) P e h = h
-given-ok (Err x) P e h = cc
 
 pub ok-holds : {T E : Type 0} (r : Result T E) (v : T) (P : T → Type 0) → r ≡ Ok v → P v → IfOk r P
 ok-holds r v P e h = subst (λ x. IfOk x P) (sym e) h

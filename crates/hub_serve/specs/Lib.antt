@@ -5,3 +5,4 @@ pub mod Rounds
 pub mod Reached
 pub mod ByRounds
 pub mod Report
+pub mod Writing

@@ -99,7 +99,7 @@ fn range_ends(
 }
 
 /// The flags of a range of specifications.
-fn range_flags(
+pub(crate) fn range_flags(
     alloc: Global,
     alternatives: &[Alternatives],
     from: usize,

@@ -1,16 +1,18 @@
 //! Positions of the empty text, which characters stars accept, and whether choices match by the positions of a text.
 ghost use Rattle.std.specs.Prelude.{◌≡◌, ◌+◌, ◌≤◌, ◌++◌, IfOk, OnOk};
+ghost use Rattle.std.specs.List.{flat_map};
 ghost use Rattle.hub_glob.specs.Taking.{takes};
 ghost use Rattle.hub_glob.specs.declared.piece.Piece.TheVariants.{Run};
 ghost use Rattle.hub_automaton.specs.Masks as masking;
 ghost use Rattle.hub_automaton.specs.Spots.{spot_count};
 ghost use Rattle.hub_automaton.specs.Stepping as stepping;
+ghost use Rattle.hub_automaton.specs.Words.{packed};
 
-use crate::alternatives::SPOTS;
-use crate::words::is_set;
+use crate::alternatives::{Alternatives, SPOTS};
+use crate::words::{Words, is_set, pack};
 use hub_glob::Piece;
 use hub_text::Items;
-use std::alloc::AllocError;
+use std::alloc::{AllocError, Global};
 
 /// Adds the spots of a choice in the empty text.
 fn enter_choice(choice: &[Piece], new: &mut Vec<bool>) -> Result<(), AllocError>
@@ -26,13 +28,28 @@ fn enter_choice(choice: &[Piece], new: &mut Vec<bool>) -> Result<(), AllocError>
 }
 
 /// Adds the spots of some choices in the empty text.
-pub(crate) fn enter_choices(choices: &[Items<Piece>], new: &mut Vec<bool>) -> Result<(), AllocError>
+fn enter_choices(choices: &[Items<Piece>], new: &mut Vec<bool>) -> Result<(), AllocError>
     ensures { OnOk result (new.new.items ≡ new.old.items ++ stepping.entered_choices choices.now) }
 {
     for choice in choices {
         enter_choice(choice.as_slice(), new)?;
     }
     Ok(())
+}
+
+/// The spots of all specifications in the empty text, in words.
+pub(crate) fn entered_spots(
+    alloc: Global,
+    alternatives: &[Alternatives],
+) -> Result<Words, AllocError>
+    ensures { IfOk result (λ ws. ws
+        ≡ packed (flat_map (λ a. stepping.entered_choices a.choices) alternatives.now)) }
+{
+    let mut spots = Vec::new(alloc);
+    for one in alternatives {
+        enter_choices(one.choices.as_slice(), &mut spots)?;
+    }
+    pack(alloc, spots.as_slice())
 }
 
 /// Returns whether a `*` accepts the character, where `first` says whether a component starts there, as `Piece::takes` does.

@@ -47,9 +47,23 @@ fn begin_takers(
         ≡ map (λ c. packed (masking.mask_all (begun c) alternatives.now)) samples.now) }
 {
     let common = masked(alloc, Mask::Common, alternatives)?;
+    begin_each(alloc, alternatives, &common, samples)
+}
+
+/// What the masks of these characters begin with, by the positions that all characters except `/` share.
+fn begin_each(
+    alloc: Global,
+    alternatives: &[Alternatives],
+    common: &Words,
+    samples: &[char],
+) -> Result<Vec<Words>, AllocError>
+    requires { common.now ≡ packed (masking.mask_all Common alternatives.now) }
+    ensures { IfOk result (λ v. v.items
+        ≡ map (λ c. packed (masking.mask_all (begun c) alternatives.now)) samples.now) }
+{
     let mut takers = Vec::with_capacity(alloc, samples.len())?;
     for character in samples {
-        takers.push(begin_taker(alloc, alternatives, &common, *character)?)?;
+        takers.push(begin_taker(alloc, alternatives, common, *character)?)?;
     }
     Ok(takers)
 }

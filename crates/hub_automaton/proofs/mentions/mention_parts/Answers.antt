@@ -4,6 +4,7 @@ use Rattle.std.proofs.lemmas.Result.{err_from_is_err_and}
 use Rattle.hub_automaton.specs.Alphabet as alphabet
 use Rattle.hub_automaton.specs.Adding.{flat_drop, mention_step, mention_refused}
 use Rattle.hub_automaton.proofs.mentions.mention_parts.Goals.{in-One+in_ok-mention_piece-in-One, in-Brace+in_ok-mention_choices-in-Brace}
+use Rattle.hub_automaton.proofs.Alphabets.{flat_end, mention_end}
 use Rattle.hub_automaton.proofs.mentions.mention_parts.Goals as goal
 
 pub returns-in_err-mention_piece-in-One-clause-err : goal.returns-in_err-mention_piece-in-One-clause-err
@@ -52,3 +53,9 @@ loop-part-preserved c =
         subst (λ v. alphabet.IsAlphabet v.items) (sym w.mentioned-is) w.in_ok-mention_choices-in-Brace.ensures.alphabet,
       )
     ]
+
+pub returns-clause-ok : goal.returns-clause-ok
+returns-clause-ok c =
+    let xs = c.args.parts.now in
+    let i = c.loop-part.part-index in
+    mention_end (flat_map alphabet.part_characters (drop i xs)) c.loop-part.mentioned.items (alphabet.with_characters c.args.mentioned.now.items (flat_map alphabet.part_characters xs)) (flat_end alphabet.part_characters xs i c.loop-part-test.false) c.loop-part.invariant.0

@@ -3,6 +3,7 @@ use Rattle.std.specs.List.{flat_map}
 use Rattle.std.proofs.lemmas.Result.{err_from_is_err_and}
 use Rattle.hub_automaton.specs.Alphabet as alphabet
 use Rattle.hub_automaton.specs.Adding.{flat_drop, mention_step, mention_refused}
+use Rattle.hub_automaton.proofs.Alphabets.{flat_end, mention_end}
 use Rattle.hub_automaton.proofs.mentions.mention_pieces.Goals as goal
 
 pub returns-in_err-mention_piece-clause-err : goal.returns-in_err-mention_piece-clause-err
@@ -23,3 +24,9 @@ loop-piece-preserved c =
           c.in_ok-mention_piece.ensures.ok c.loop-piece.invariant.0,
       c.in_ok-mention_piece.ensures.alphabet,
     )
+
+pub returns-clause-ok : goal.returns-clause-ok
+returns-clause-ok c =
+    let xs = c.args.pieces.now in
+    let i = c.loop-piece.piece-index in
+    mention_end (flat_map alphabet.piece_characters (drop i xs)) c.loop-piece.mentioned.items (alphabet.with_characters c.args.mentioned.now.items (flat_map alphabet.piece_characters xs)) (flat_end alphabet.piece_characters xs i c.loop-piece-test.false) c.loop-piece.invariant.0

@@ -2,7 +2,7 @@ use Rattle.std.proofs.Common.{◌≡◌, ◌++◌, drop, map}
 use Rattle.hub_automaton.specs.Masks as masking
 use Rattle.hub_automaton.specs.Takers.{begun}
 use Rattle.hub_automaton.specs.Words.{packed}
-use Rattle.hub_automaton.proofs.takers.begin_takers.Given as goal
+use Rattle.hub_automaton.proofs.takers.begin_each.Given as goal
 
 abbrev pub invariant-loop-character : goal.invariant-loop-character
 invariant-loop-character l =

@@ -1,4 +1,4 @@
-use Rattle.std.proofs.Common.{◌≡◌, ◌++◌, [], ◌∷◌, Bool, List, false, map, refl, ap, ◌∙◌, append_assoc}
+use Rattle.std.proofs.Common.{◌++◌, [], ◌∷◌, Bool, List, false, map, refl, ap, ◌∙◌, append_assoc}
 use Rattle.hub_glob.specs.declared.piece.Piece.{Piece}
 use Rattle.hub_automaton.proofs.Loops.{next_drop, map_step, map_end}
 use Rattle.hub_automaton.proofs.ends.add_end.Goals as goal

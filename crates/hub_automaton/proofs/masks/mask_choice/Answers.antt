@@ -1,4 +1,4 @@
-use Rattle.std.proofs.Common.{◌≡◌, ◌++◌, [], ◌∷◌, Bool, List, map, ap, ◌∙◌, append_assoc}
+use Rattle.std.proofs.Common.{◌++◌, [], ◌∷◌, Bool, List, map, ap, ◌∙◌, append_assoc}
 use Rattle.hub_automaton.specs.Masks.{mask_choice, masks_piece}
 use Rattle.hub_automaton.proofs.Loops.{next_drop, map_step, map_end}
 use Rattle.hub_automaton.proofs.masks.mask_choice.Goals as goal

@@ -1,8 +1,8 @@
-use Rattle.std.proofs.Common.{◌≡◌, ◌++◌, ℕ, List, map}
+use Rattle.std.proofs.Common.{ℕ, List, map}
 use Rattle.hub_automaton.specs.Masks.{mask_all}
 use Rattle.hub_automaton.specs.Takers.{begun}
 use Rattle.hub_automaton.specs.Words.{packed}
-use Rattle.hub_automaton.proofs.Loops.{next_drop, map_step, map_end}
+use Rattle.hub_automaton.proofs.Loops.{next_drop, map_step}
 use Rattle.hub_automaton.proofs.takers.begin_each.Goals as goal
 
 pub loop-character-preserved : goal.loop-character-preserved

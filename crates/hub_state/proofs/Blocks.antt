@@ -1,7 +1,6 @@
 -- A text that comes in blocks is read as the whole text.
 use Rattle.std.proofs.Common.{◌≡◌, ◌⊎◌, inl, inr, ⊎_elim, ℕ, ◌+◌, ◌<◌, ◌≤◌, Bool, true, false, cond, List, [], ◌∷◌, ◌++◌, length, refl, sym, ap, ◌∙◌, subst, arith, append-nil, append_assoc, length-append}
-use Rattle.std.specs.Prelude.{Option, Some, None, Result, Ok, Err, IfOk, IfErr, IfSome}
-use Rattle.std.specs.Result.{ForOk}
+use Rattle.std.specs.Prelude.{Option, Some, None, Result, Ok, Err, IfOk, IfErr, IfSome, OnOk}
 use Rattle.hub_text.specs.declared.line.Line.{Line}
 use Rattle.hub_text.specs.Lines.{is_lf, lines_of, line_text, onto_first_line, ended, text_of_lines}
 use Rattle.hub_text.specs.LineLaws.{text_of_lines-lines_of, text-first_line, shorter-first_line}
@@ -182,17 +181,18 @@ continues-lines bytes p q (Some l) c left rest = record {
   same = λ t. c.same t ∙ left.same t ∙ ap (λ s. bytes_taken q.number q.draft (s ++ t)) (sym rest);
 }
 
-pub stands-stopped : (bytes : List ℕ) (p : Prefix) (e : StateFault) → Continues bytes p → Stops p.number p.draft p.rest.items e → Stands bytes (Err e)
+pub stands-stopped : (bytes : List ℕ) (p : Prefix) (e : StateFault) → Continues bytes p → Stops p.number p.draft p.rest.items e → (e ≡ out_of_memory) ⊎ ((t : List ℕ) → state_reading (bytes ++ t) ≡ Err e)
 stands-stopped bytes p e c h = ⊎_elim inl (λ f. inr (λ t. c.same t ∙ f t)) h
 
-pub stands-longer : (bytes block : List ℕ) (e : StateFault) → Stands bytes (Err e) → Stands (bytes ++ block) (Err e)
+pub stands-longer : (bytes block : List ℕ) (e : StateFault) → (e ≡ out_of_memory) ⊎ ((t : List ℕ) → state_reading (bytes ++ t) ≡ Err e)
+    → (e ≡ out_of_memory) ⊎ ((t : List ℕ) → state_reading ((bytes ++ block) ++ t) ≡ Err e)
 stands-longer bytes block e h = ⊎_elim inl (λ f. inr (λ t. ap state_reading (append_assoc bytes block t) ∙ f (block ++ t))) h
 
-pub stands-same : (bytes block other : List ℕ) (r : Result Prefix StateFault) → Stands (bytes ++ block) r → block ≡ other → Stands (bytes ++ other) r
-stands-same bytes block other r h is = subst (λ (b : List ℕ). Stands (bytes ++ b) r) is h
+pub stands-same : {T : Type 0} (bytes block other : List ℕ) (p : Prefix) (r : Result T StateFault) → Stands (bytes ++ block) p r → block ≡ other → Stands (bytes ++ other) p r
+stands-same bytes block other p r h is = subst (λ (b : List ℕ). Stands (bytes ++ b) p r) is h
 
-pub stands-begun : (p : Prefix) → p.number ≡ 1 → p.draft ≡ nothing_taken nothing → p.rest.items ≡ [] → Stands [] (Ok p)
-stands-begun p number draft rest = record {
+pub continues-begun : (p : Prefix) → p.number ≡ 1 → p.draft ≡ nothing_taken nothing → p.rest.items ≡ [] → Continues [] p
+continues-begun p number draft rest = record {
   same = λ t. reading-taken p.draft t draft ∙ sym (ap (λ n. bytes_taken n p.draft (p.rest.items ++ t)) number ∙ ap (λ s. bytes_taken 1 p.draft (s ++ t)) rest);
 }
 
@@ -209,7 +209,7 @@ pub stands-Err : (bytes : List ℕ) (p : Prefix) (r : Result State StateFault) �
 stands-Err bytes p (Ok s) c h = tt
 stands-Err bytes p (Err e) c h = ⊎_elim inl (λ f. inr (whole_read bytes p c ∙ f)) h
 
-pub stands-fault : (bytes : List ℕ) (e : StateFault) → Stands bytes (Err e) → (e ≡ out_of_memory) ⊎ (state_reading bytes ≡ Err e)
+pub stands-fault : (bytes : List ℕ) (e : StateFault) → (e ≡ out_of_memory) ⊎ ((t : List ℕ) → state_reading (bytes ++ t) ≡ Err e) → (e ≡ out_of_memory) ⊎ (state_reading bytes ≡ Err e)
 stands-fault bytes e h = ⊎_elim inl (λ f. inr (ap state_reading (sym (append-nil bytes)) ∙ f [])) h
 
 -- What the bytes are of which a text is read.
@@ -218,13 +218,19 @@ known None read r h e = tt
 known (Some bytes) read r h e = sym (ap state_reading h) ∙ e
 
 -- How many lines and bytes there may be.
-pub within-more : (r : Result Prefix StateFault) (n m : ℕ) → ForOk r (λ p. IsWithin p n) → n ≤ m → ForOk r (λ p. IsWithin p m)
-within-more r n m h le = λ p e. record { apart = (h p e).apart; room = omega (arith, (h p e).room) }
+pub within-begun : (p : Prefix) → p.number ≡ 1 → p.draft ≡ nothing_taken nothing → p.rest.items ≡ [] → IsWithin p 1
+within-begun p number draft rest = record {
+  apart = subst (λ (a : Draft). IsApart a.current) (sym draft) tt;
+  room = omega (arith, number, ap length rest);
+}
 
-pub within-begun : (p : Prefix) (m : ℕ) → IsApart p.draft.current → p.number + length p.rest.items ≤ m → ForOk {E = StateFault} (Ok p) (λ q. IsWithin q m)
-within-begun p m apart room = λ q e. let same : p ≡ q = cc in subst (λ (x : Prefix). IsWithin x m) same (record { apart = apart; room = room })
+pub within-more : {T : Type 0} (r : Result T StateFault) (p : Prefix) (n m : ℕ) → OnOk r (IsWithin p n) → n ≤ m → OnOk r (IsWithin p m)
+within-more (Ok u) p n m h le = record { apart = h.apart; room = omega (arith, h.room, le) }
+within-more (Err e) p n m h le = tt
 
-pub within-block : (s r : Result Prefix StateFault) (k m : ℕ) (block other : List ℕ) → ForOk s (λ p. IsWithin p k) → ForOk r (λ q. IfOk s (λ p. IsWithin q (p.number + length p.rest.items + length block)))
-    → IfErr s (λ e. r ≡ Err e) → block ≡ other → k + length other ≤ m → ForOk r (λ q. IsWithin q m)
-within-block (Ok p) r k m block other h g x is le = λ q e. record { apart = (g q e).apart; room = omega (arith, (g q e).room, (h p refl).room, ap length is, le) }
-within-block (Err f) r k m block other h g x is le = λ q e. let w : Err f ≡ Ok q = sym x ∙ e in cc
+pub within-block : {T : Type 0} (s r : Result T StateFault) (p q : Prefix) (k m : ℕ) (block other : List ℕ) → OnOk s (IsWithin p k) → OnOk r (OnOk s (IsWithin q (p.number + length p.rest.items + length block)))
+    → IfErr s (λ e. r ≡ Err e) → block ≡ other → k + length other ≤ m → OnOk r (IsWithin q m)
+within-block (Ok u) (Ok v) p q k m block other h g x is le = record { apart = g.apart; room = omega (arith, g.room, h.room, ap length is, le) }
+within-block (Ok u) (Err e) p q k m block other h g x is le = tt
+within-block (Err f) (Ok v) p q k m block other h g x is le = let w : Err f ≡ Ok v = sym x in cc
+within-block (Err f) (Err e) p q k m block other h g x is le = tt

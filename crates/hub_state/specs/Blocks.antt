@@ -55,10 +55,11 @@ pub record Continues (bytes : List ℕ) (p : Prefix) : Type 0 where
   pub same : (t : List ℕ) → state_reading (bytes ++ t)
       ≡ bytes_taken p.number p.draft (p.rest.items ++ t)
 
--- What is known of a text that begins with these bytes.
-abbrev pub Stands : List ℕ → Result Prefix StateFault → Type 0
-Stands bytes (Ok p) = Continues bytes p
-Stands bytes (Err e) = (e ≡ out_of_memory) ⊎ ((t : List ℕ) → state_reading (bytes ++ t) ≡ Err e)
+-- What is known of a text that begins with these bytes: a prefix was taken, or there is a fault.
+abbrev pub Stands : {T : Type 0} → List ℕ → Prefix → Result T StateFault → Type 0
+Stands bytes p (Ok u) = Continues bytes p
+Stands bytes p (Err e) =
+    (e ≡ out_of_memory) ⊎ ((t : List ℕ) → state_reading (bytes ++ t) ≡ Err e)
 
 -- The next line's number and the bytes that are left are together at most so many.
 pub record IsWithin (p : Prefix) (most : ℕ) : Type 0 where

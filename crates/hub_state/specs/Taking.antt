@@ -72,11 +72,13 @@ abbrev pub archive_begun : Draft → Path → Result Draft Fault
 archive_begun a r =
     Ok (record a { state = closed a.state a.current; current = opened.HalfArchive r })
 
+abbrev pub with_pair_open : Draft → Path → Path → Draft
+with_pair_open a r s = record a { current = opened.Archive r s fin.empty }
+
 abbrev pub pair_begun : Draft → Path → Path → Result Draft Fault
 pair_begun a r s =
     unless (path_eq r s) BadLine
-    (unless (is_some (archive_at a.state r s)) Repeated
-    (Ok (record a { current = opened.Archive r s fin.empty })))
+    (unless (is_some (archive_at a.state r s)) Repeated (Ok (with_pair_open a r s)))
 
 abbrev pub other_taken : Draft → Open → Path → Result Draft Fault
 other_taken a opened.Nothing s = Err BadLine
@@ -128,10 +130,13 @@ bytes_put n t field text =
     unless (nat_le ENTRIES n || nat_lt FILE_BYTES (length bytes)) TooLarge
     (contents_put t p (contents.File bytes))))
 
+abbrev pub shared_put : ℕ → Replica → Path → Option (List ℕ) → Result Replica Fault
+shared_put n t p blob = unless (nat_le ENTRIES n) TooLarge (blob_named_put t p blob)
+
 abbrev pub digest_put : BlobMap → ℕ → Replica → List ℕ → List ℕ → Result Replica Fault
 digest_put m n t field text =
-    and_then (digest_field field) (λ digest. and_then (path_field text) (λ p.
-    unless (nat_le ENTRIES n) TooLarge (blob_named_put t p (fin.get m digest))))
+    and_then (digest_field field)
+    (λ digest. and_then (path_field text) (λ p. shared_put n t p (fin.get m digest)))
 
 abbrev pub file_put : Option BlobMap → ℕ → Replica → List ℕ → List ℕ → Result Replica Fault
 file_put None n t field text = bytes_put n t field text

@@ -1,22 +1,21 @@
-ghost use Rattle.std.specs.Prelude.{◌≡◌, ◌⊎◌, ◌<◌, false, None, Some, Ok, Err, is_some, IfErr, IsTrue, OnOk};
-ghost use Rattle.std.specs.FinMap as fin;
+ghost use Rattle.std.specs.Prelude.{◌≡◌, ◌≢◌, ◌⊎◌, Ok, Err, IfOk, IfErr, IsTrue, OnOk};
 ghost use Rattle.hub_text.specs.Fails.{Fails};
 ghost use Rattle.hub_path.specs.Path.{is_path};
-ghost use Rattle.hub_tree.specs.Tree.{is_absent, kept};
 ghost use Rattle.hub_state.specs.Reading.{and_then, may_stand, path_field, root_field};
 ghost use Rattle.hub_state.specs.State as spec;
 ghost use Rattle.hub_state.specs.Taking as taking;
 ghost use Rattle.hub_state.specs.Taking.{IsApart};
 
 use crate::blobs::Blobs;
+use crate::entry::{put_dir, put_file, put_old_dir, put_old_file};
 use crate::fault::Fault;
 use crate::form::Form;
 use crate::line::{bytes_in, digest_in, fields_of, form_of, root_in};
 use crate::near::Near;
 use crate::state::State;
-use crate::{BLOBS, ENTRIES, FILE_BYTES};
+use crate::{BLOBS, FILE_BYTES};
 use hub_path::{RelPath, Root};
-use hub_tree::{Archive, Blob, Contents, Mark, SetFault, Tree};
+use hub_tree::{Archive, Blob, Tree};
 use std::alloc::{AllocError, Global};
 use std::mem::replace;
 use std::str::from_utf8;
@@ -206,20 +205,29 @@ impl Draft {
         ensures apart { OnOk result (IsApart self.new.current) }
     {
         let second = root_in(alloc, field)?;
-        let first = match &self.current {
-            Open::HalfArchive(root) => root.copy()?,
-            Open::Nothing => return Err(Fault::BadLine),
-            Open::Replica(_, _) => return Err(Fault::BadLine),
-            Open::Archive(_, _, _) => return Err(Fault::BadLine),
-        };
-        if first == second {
-            return Err(Fault::BadLine);
-        }
-        if self.state.archive(&first, &second).is_some() {
-            return Err(Fault::Repeated);
-        }
+        let first = self.first_root(&second)?;
         self.current = Open::Archive(first, second, Archive::new(alloc));
         Ok(())
+    }
+
+    /// Returns the root that the archive has already, if this may be its other root.
+    fn first_root(&self, second: &Root) -> Result<Root, Fault>
+        ensures ok { IfOk result (λ first. taking.other_taken self.now self.now.current second.now
+            ≡ Ok (taking.with_pair_open self.now first second.now)) }
+        ensures err { IfErr result (Fails Fault.OutOfMemory
+            (taking.other_taken self.now self.now.current second.now)) }
+        ensures apart { IfOk result (λ first. first ≢ second.now) }
+    {
+        let Open::HalfArchive(first) = &self.current else {
+            return Err(Fault::BadLine);
+        };
+        if *first == *second {
+            return Err(Fault::BadLine);
+        }
+        if self.state.archive(first, second).is_some() {
+            return Err(Fault::Repeated);
+        }
+        Ok(first.copy()?)
     }
 
     /// Takes the directory at the path in a field.
@@ -304,178 +312,4 @@ fn put_blob(alloc: Global, blobs: &mut Blobs, field: &str, text: &str) -> Result
     }
     blobs.insert(blob)?;
     Ok(())
-}
-
-/// Puts a directory into a replica after this many entries.
-fn put_dir(tree: &mut Tree, entries: usize, path: &RelPath) -> Result<(), Fault>
-    requires { IsTrue (is_path path.now) }
-    ensures ok { OnOk result (taking.dir_put entries tree.old path.now ≡ Ok tree.new) }
-    ensures err { IfErr result
-        (Fails Fault.OutOfMemory (taking.dir_put entries tree.old path.now)) }
-    ensures room { OnOk result (entries < ENTRIES) }
-{
-    if entries >= ENTRIES {
-        return Err(Fault::TooLarge);
-    }
-    put_contents(tree, path, Contents::Directory)
-}
-
-/// Puts a file into a replica after this many entries. In a text of version 2 it names a blob.
-fn put_file(
-    alloc: Global,
-    near: &mut Near,
-    tree: &mut Tree,
-    blobs: &Option<Blobs>,
-    entries: usize,
-    field: &str,
-    text: &str,
-) -> Result<(), Fault>
-    ensures ok { OnOk result
-        (taking.file_put blobs.now entries tree.old field.now text.now ≡ Ok tree.new) }
-    ensures err { IfErr result (λ f. (f ≡ Fault.OutOfMemory)
-        ⊎ (taking.file_put blobs.now entries tree.old field.now text.now ≡ Err f)) }
-    ensures room { OnOk result (entries < ENTRIES) }
-{
-    match blobs {
-        None => put_bytes(alloc, near, tree, entries, field, text),
-        Some(blobs) => put_named(near, tree, blobs, entries, field, text),
-    }
-}
-
-/// Puts a file that names a blob into a replica after this many entries. It shares the bytes of the blob.
-fn put_named(
-    near: &mut Near,
-    tree: &mut Tree,
-    blobs: &Blobs,
-    entries: usize,
-    field: &str,
-    text: &str,
-) -> Result<(), Fault>
-    ensures ok { OnOk result
-        (taking.digest_put blobs.now entries tree.old field.now text.now ≡ Ok tree.new) }
-    ensures err { IfErr result (λ f. (f ≡ Fault.OutOfMemory)
-        ⊎ (taking.digest_put blobs.now entries tree.old field.now text.now ≡ Err f)) }
-    ensures room { OnOk result (entries < ENTRIES) }
-{
-    let digest = digest_in(field)?;
-    let path = near.read(text)?;
-    if entries >= ENTRIES {
-        return Err(Fault::TooLarge);
-    }
-    let Some(blob) = blobs.get(&digest) else {
-        return Err(fault_without_blob(tree, &path));
-    };
-    put_contents(tree, &path, Contents::File(blob.copy()?))
-}
-
-/// Why a file can't be put that names a blob which the text doesn't have.
-fn fault_without_blob(tree: &Tree, path: &RelPath) -> Fault
-    requires { IsTrue (is_path path.now) }
-    ensures { taking.blob_named_put tree.now path.now None ≡ Err result }
-{
-    if has_entry(tree, path) {
-        return Fault::Repeated;
-    }
-    Fault::UnknownBlob
-}
-
-/// Puts a file with these bytes into a replica after this many entries.
-fn put_bytes(
-    alloc: Global,
-    near: &mut Near,
-    tree: &mut Tree,
-    entries: usize,
-    field: &str,
-    text: &str,
-) -> Result<(), Fault>
-    ensures ok { OnOk result (taking.bytes_put entries tree.old field.now text.now ≡ Ok tree.new) }
-    ensures err { IfErr result (λ f. (f ≡ Fault.OutOfMemory)
-        ⊎ (taking.bytes_put entries tree.old field.now text.now ≡ Err f)) }
-    ensures room { OnOk result (entries < ENTRIES) }
-{
-    let bytes = bytes_in(alloc, field)?;
-    let path = near.read(text)?;
-    if entries >= ENTRIES || bytes.len() > FILE_BYTES {
-        return Err(Fault::TooLarge);
-    }
-    put_contents(tree, &path, Contents::File(Blob::new(bytes)?))
-}
-
-/// Puts contents into a replica, which are not `Absent`.
-fn put_contents(tree: &mut Tree, path: &RelPath, contents: Contents) -> Result<(), Fault>
-    requires path { IsTrue (is_path path.now) }
-    requires some { is_absent contents ≡ false }
-    ensures ok { OnOk result (taking.contents_put tree.old path.now contents ≡ Ok tree.new) }
-    ensures err { IfErr result (λ f. (f ≡ Fault.OutOfMemory)
-        ⊎ (taking.contents_put tree.old path.now contents ≡ Err f)) }
-{
-    match tree.put_new(path, contents) {
-        Ok(false) => Ok(()),
-        Ok(true) => Err(Fault::Repeated),
-        Err(SetFault::OutOfMemory) => Err(Fault::OutOfMemory),
-        Err(_) => Err(Fault::NoParent),
-    }
-}
-
-/// Returns whether a replica has an entry at the path.
-fn has_entry(tree: &Tree, path: &RelPath) -> bool
-    requires { IsTrue (is_path path.now) }
-    ensures { result ≡ is_some (fin.get tree.now path.now) }
-{
-    match tree.mark_at(path) {
-        Mark::Absent => false,
-        Mark::File(_) => true,
-        Mark::Directory => true,
-    }
-}
-
-/// Puts a directory into an archive after this many entries.
-fn put_old_dir(archive: &mut Archive, entries: usize, path: &RelPath) -> Result<(), Fault>
-    requires { IsTrue (is_path path.now) }
-    ensures ok { OnOk result (taking.old_dir_put entries archive.old path.now ≡ Ok archive.new) }
-    ensures err { IfErr result (λ f. (f ≡ Fault.OutOfMemory)
-        ⊎ (taking.old_dir_put entries archive.old path.now ≡ Err f)) }
-    ensures room { OnOk result (entries < ENTRIES) }
-{
-    if entries >= ENTRIES {
-        return Err(Fault::TooLarge);
-    }
-    put_mark(archive, path, Mark::Directory)
-}
-
-/// Puts the digest of a file into an archive after this many entries.
-fn put_old_file(
-    near: &mut Near,
-    archive: &mut Archive,
-    entries: usize,
-    field: &str,
-    text: &str,
-) -> Result<(), Fault>
-    ensures ok { OnOk result
-        (taking.old_file_put entries archive.old field.now text.now ≡ Ok archive.new) }
-    ensures err { IfErr result (λ f. (f ≡ Fault.OutOfMemory)
-        ⊎ (taking.old_file_put entries archive.old field.now text.now ≡ Err f)) }
-    ensures room { OnOk result (entries < ENTRIES) }
-{
-    let digest = digest_in(field)?;
-    let path = near.read(text)?;
-    if entries >= ENTRIES {
-        return Err(Fault::TooLarge);
-    }
-    put_mark(archive, &path, Mark::File(digest))
-}
-
-/// Puts a mark into an archive, which is not `Absent`.
-fn put_mark(archive: &mut Archive, path: &RelPath, mark: Mark) -> Result<(), Fault>
-    requires path { IsTrue (is_path path.now) }
-    requires some { kept mark ≡ Some mark }
-    ensures ok { OnOk result (taking.mark_put archive.old path.now mark ≡ Ok archive.new) }
-    ensures err { IfErr result (λ f. (f ≡ Fault.OutOfMemory)
-        ⊎ (taking.mark_put archive.old path.now mark ≡ Err f)) }
-{
-    match archive.replace(path, mark)? {
-        Mark::Absent => Ok(()),
-        Mark::File(_) => Err(Fault::Repeated),
-        Mark::Directory => Err(Fault::Repeated),
-    }
 }

@@ -30,6 +30,7 @@
 
 mod blobs;
 mod draft;
+mod entry;
 mod fault;
 mod form;
 pub mod laws;

@@ -1,4 +1,4 @@
-ghost use Rattle.std.specs.Prelude.{◌≡◌, ◌⊎◌, ◌+◌, ◌*◌, ◌^◌, ◌<◌, ◌≤◌, ◌++◌, length, false, true, Ok, Err, List, ℕ};
+ghost use Rattle.std.specs.Prelude.{◌≡◌, ◌⊎◌, ◌+◌, ◌*◌, ◌^◌, ◌<◌, ◌≤◌, ◌++◌, [], length, false, true, Ok, Err, List, ℕ};
 ghost use Rattle.std.specs.Prelude.{IfOk, IfErr, IfSome, IsErrOf, OnOk, vec_len};
 ghost use Rattle.std.specs.Result.{ForOk};
 ghost use Rattle.std.specs.Option.{option_map};
@@ -18,6 +18,7 @@ use crate::state::State;
 use hub_text::{Line, Lines, Watched};
 use std::alloc::{AllocError, Global};
 use std::io::Read;
+use std::mem::replace;
 
 /// How many reads one input may take. The read that meets its end counts too.
 pub const READ_TURNS: usize = 1_000_000;
@@ -48,8 +49,34 @@ pub fn read_state<R: Read>(alloc: Global, input: &mut Watched<R>) -> Result<Stat
         → input.new.reads ≡ input.old.reads + READ_TURNS }
     ensures no_end { reports is_turns_spent result ≡ true → input.new.at_end ≡ input.old.at_end }
 {
-    match read_blocks(alloc, input, READ_TURNS) {
-        Ok(prefix) => finish(alloc, prefix),
+    let mut prefix = Prefix::new(alloc);
+    read_after(alloc, input, &mut prefix)
+}
+
+/// Reads the input like [`read_state`], into a prefix that has no bytes yet.
+fn read_after<R: Read>(
+    alloc: Global,
+    input: &mut Watched<R>,
+    prefix: &mut Prefix,
+) -> Result<State, StateFault>
+    requires unfailed { input.old.failed ≡ false }
+    requires continues { Continues [] prefix.old }
+    requires within { IsWithin prefix.old 1 }
+    ensures ok { IfOk result
+        (λ s. IfSome (R.remaining input.old.device) (λ bytes. state_reading bytes ≡ Ok s)) }
+    ensures err { IfErr result (λ e. (e ≡ record { line = 0; fault = Fault.OutOfMemory })
+        ⊎ (e ≡ record { line = 0; fault = Fault.ReadFailed })
+        ⊎ ((e ≡ record { line = 0; fault = Fault.TurnsSpent })
+        × IfSome (R.remaining input.old.device) (λ bytes. READ_TURNS ≤ length bytes))
+        ⊎ IfSome (R.remaining input.old.device) (λ bytes. state_reading bytes ≡ Err e)) }
+    ensures failed { input.new.failed ≡ reports is_read_failed result }
+    ensures whole { reports is_not_of_text result ≡ false → input.new.at_end ≡ true }
+    ensures turns_spent { reports is_turns_spent result ≡ true
+        → input.new.reads ≡ input.old.reads + READ_TURNS }
+    ensures no_end { reports is_turns_spent result ≡ true → input.new.at_end ≡ input.old.at_end }
+{
+    match read_blocks(alloc, input, prefix, READ_TURNS) {
+        Ok(taken) => finish(alloc, prefix, taken),
         Err(fault) => Err(StateFault { line: 0, fault }),
     }
 }
@@ -64,8 +91,8 @@ pub fn read_bytes(alloc: Global, bytes: &[u8]) -> Result<State, StateFault>
     ensures no_read { reports is_read_failed result ≡ false }
 {
     let _len = bytes.len();
-    let draft = Draft::new(alloc);
-    read_rest(alloc, draft, 1, bytes)
+    let mut draft = Draft::new(alloc);
+    read_rest(alloc, &mut draft, 1, bytes)
 }
 
 /// What is kept of the bytes of a text that have come.
@@ -79,17 +106,36 @@ struct Prefix {
     rest: Vec<u8>,
 }
 
+impl Prefix {
+    /// Returns the prefix before the first byte.
+    fn new(alloc: Global) -> Prefix
+        ensures continues { Continues [] result }
+        ensures within { IsWithin result 1 }
+    {
+        Prefix {
+            draft: Draft::new(alloc),
+            number: 1,
+            rest: Vec::new(alloc),
+        }
+    }
+}
+
 /// Reads blocks of the input up to its end, in at most this many reads, and takes their lines up to the first fault.
+///
+/// The inner result has the fault, if a line has one.
 fn read_blocks<R: Read>(
     alloc: Global,
     input: &mut Watched<R>,
+    prefix: &mut Prefix,
     turns: usize,
-) -> Result<Result<Prefix, StateFault>, Fault>
+) -> Result<Result<(), StateFault>, Fault>
     requires unfailed { input.old.failed ≡ false }
     requires turns { turns ≤ READ_TURNS }
-    ensures whole { IfOk result (λ prefix. (read : List ℕ) × Stands read prefix
+    requires continues { Continues [] prefix.old }
+    requires within { IsWithin prefix.old 1 }
+    ensures whole { IfOk result (λ taken. (read : List ℕ) × Stands read prefix.new taken
         × IfSome (R.remaining input.old.device) (λ bytes. read ≡ bytes)) }
-    ensures within { IfOk result (λ prefix. ForOk prefix (λ p. IsWithin p (2 ^ 62))) }
+    ensures within { IfOk result (λ taken. OnOk taken (IsWithin prefix.new (2 ^ 62))) }
     ensures faults { IfErr result (λ e. (e ≡ Fault.ReadFailed) ⊎ ((e ≡ Fault.TurnsSpent)
         × IfSome (R.remaining input.old.device) (λ bytes. turns ≤ length bytes))) }
     ensures failed { input.new.failed ≡ says is_read_failed result }
@@ -98,58 +144,53 @@ fn read_blocks<R: Read>(
         → input.new.reads ≡ input.old.reads + turns }
     ensures no_end { IsErrOf result Fault.TurnsSpent → input.new.at_end ≡ input.old.at_end }
 {
-    let draft = Draft::new(alloc);
-    let rest = Vec::new(alloc);
-    let mut prefix = Ok(Prefix {
-        draft,
-        number: 1,
-        rest,
-    });
+    let mut taken = Ok(());
     let mut buffer = [0; READ_BYTES];
     for _ in 0..turns {
         let Ok(count) = input.read(&mut buffer) else {
             return Err(Fault::ReadFailed);
         };
         if count == 0 {
-            return Ok(prefix);
+            return Ok(taken);
         }
-        prefix = with_block(alloc, prefix, &buffer[..count]);
+        taken = take_block(alloc, prefix, taken, &buffer[..count]);
     }
     Err(Fault::TurnsSpent)
 }
 
 /// Takes one more block, if the bytes before have no fault.
-fn with_block(
+fn take_block(
     alloc: Global,
-    prefix: Result<Prefix, StateFault>,
+    prefix: &mut Prefix,
+    taken: Result<(), StateFault>,
     block: &[u8],
-) -> Result<Prefix, StateFault>
-    requires { ForOk prefix (λ p. IsWithin p (2 ^ 62)) }
-    ensures stands { (bytes : List ℕ) → Stands bytes prefix → Stands (bytes ++ block.now) result }
-    ensures within { ForOk result (λ q. IfOk prefix
-        (λ p. IsWithin q (p.number + length p.rest.items + length block.now))) }
-    ensures stopped { IfErr prefix (λ e. result ≡ Err e) }
+) -> Result<(), StateFault>
+    requires { OnOk taken (IsWithin prefix.old (2 ^ 62)) }
+    ensures stands { (bytes : List ℕ) → Stands bytes prefix.old taken
+        → Stands (bytes ++ block.now) prefix.new result }
+    ensures within { OnOk result (OnOk taken (IsWithin prefix.new
+        (prefix.old.number + length prefix.old.rest.items + length block.now))) }
+    ensures stopped { IfErr taken (λ e. result ≡ Err e) }
 {
-    match prefix {
-        Ok(prefix) => with_bytes(alloc, prefix, block),
+    match taken {
+        Ok(()) => take_bytes(alloc, prefix, block),
         Err(fault) => Err(fault),
     }
 }
 
 /// Takes more bytes.
-fn with_bytes(alloc: Global, prefix: Prefix, bytes: &[u8]) -> Result<Prefix, StateFault>
-    requires { IsWithin prefix (2 ^ 62) }
-    ensures stands { (before : List ℕ) → Continues before prefix
-        → Stands (before ++ bytes.now) result }
-    ensures within { ForOk result
-        (λ q. IsWithin q (prefix.number + vec_len prefix.rest + length bytes.now)) }
+fn take_bytes(alloc: Global, prefix: &mut Prefix, bytes: &[u8]) -> Result<(), StateFault>
+    requires { IsWithin prefix.old (2 ^ 62) }
+    ensures stands { (before : List ℕ) → Continues before prefix.old
+        → Stands (before ++ bytes.now) prefix.new result }
+    ensures within { OnOk result (IsWithin prefix.new
+        (prefix.old.number + vec_len prefix.old.rest + length bytes.now)) }
 {
-    let mut prefix = prefix;
     prefix.rest.extend_from_slice(bytes)?;
     if !has_line_end(bytes) {
-        return Ok(prefix);
+        return Ok(());
     }
-    with_lines_taken(alloc, prefix)
+    take_whole_lines(alloc, prefix)
 }
 
 /// Returns whether a line ends in these bytes.
@@ -161,22 +202,23 @@ fn has_line_end(bytes: &[u8]) -> bool {
 }
 
 /// Takes all lines but the last, which what follows may be a part of.
-fn with_lines_taken(alloc: Global, prefix: Prefix) -> Result<Prefix, StateFault>
-    requires apart { IsApart prefix.draft.current }
-    requires room { prefix.number + vec_len prefix.rest < 2 ^ 64 }
-    ensures stands { (bytes : List ℕ) → Stands bytes (Ok prefix) → Stands bytes result }
-    ensures within { ForOk result (λ q. IsWithin q (prefix.number + vec_len prefix.rest)) }
+fn take_whole_lines(alloc: Global, prefix: &mut Prefix) -> Result<(), StateFault>
+    requires apart { IsApart prefix.old.draft.current }
+    requires room { prefix.old.number + vec_len prefix.old.rest < 2 ^ 64 }
+    ensures stands { (bytes : List ℕ) → Continues bytes prefix.old
+        → Stands bytes prefix.new result }
+    ensures within { OnOk result
+        (IsWithin prefix.new (prefix.old.number + vec_len prefix.old.rest)) }
 {
-    let bytes = prefix.rest;
-    let mut draft = prefix.draft;
-    let mut number = prefix.number;
-    let last = take_lines(alloc, &mut draft, &mut number, bytes.as_slice())?;
-    let rest = bytes_of(alloc, last)?;
-    Ok(Prefix {
+    let Prefix {
         draft,
         number,
         rest,
-    })
+    } = prefix;
+    let last = take_lines(alloc, draft, number, rest.as_slice())?;
+    let left = bytes_of(alloc, last)?;
+    *rest = left;
+    Ok(())
 }
 
 /// Copies the bytes of a line, if there is one.
@@ -203,33 +245,41 @@ fn push_line(bytes: &mut Vec<u8>, line: Line<&[u8]>) -> Result<(), AllocError>
 }
 
 /// Reads the state of the whole text, whose bytes have all come.
-fn finish(alloc: Global, prefix: Result<Prefix, StateFault>) -> Result<State, StateFault>
-    requires { ForOk prefix (λ p. IsWithin p (2 ^ 62)) }
-    ensures ok { (bytes : List ℕ) → Stands bytes prefix
+fn finish(
+    alloc: Global,
+    prefix: &mut Prefix,
+    taken: Result<(), StateFault>,
+) -> Result<State, StateFault>
+    requires { OnOk taken (IsWithin prefix.old (2 ^ 62)) }
+    ensures ok { (bytes : List ℕ) → Stands bytes prefix.old taken
         → IfOk result (λ s. state_reading bytes ≡ Ok s) }
-    ensures err { (bytes : List ℕ) → Stands bytes prefix
+    ensures err { (bytes : List ℕ) → Stands bytes prefix.old taken
         → IfErr result (Fails out_of_memory (state_reading bytes)) }
 {
-    match prefix {
-        Ok(prefix) => {
-            let rest = prefix.rest;
-            read_rest(alloc, prefix.draft, prefix.number, rest.as_slice())
+    match taken {
+        Ok(()) => {
+            let number = prefix.number;
+            read_rest(alloc, &mut prefix.draft, number, prefix.rest.as_slice())
         }
         Err(fault) => Err(fault),
     }
 }
 
 /// Takes the lines of these bytes, which begin with the line of that number, and returns the state.
-fn read_rest(alloc: Global, draft: Draft, number: usize, bytes: &[u8]) -> Result<State, StateFault>
-    requires apart { IsApart draft.current }
+fn read_rest(
+    alloc: Global,
+    draft: &mut Draft,
+    number: usize,
+    bytes: &[u8],
+) -> Result<State, StateFault>
+    requires apart { IsApart draft.old.current }
     requires room { number + length bytes.now < 2 ^ 64 }
-    ensures ok { IfOk result (λ s. bytes_taken number draft bytes.now ≡ Ok s) }
+    ensures ok { IfOk result (λ s. bytes_taken number draft.old bytes.now ≡ Ok s) }
     ensures err { IfErr result
-        (Fails out_of_memory (bytes_taken number draft bytes.now)) }
+        (Fails out_of_memory (bytes_taken number draft.old bytes.now)) }
 {
-    let mut draft = draft;
     let mut number = number;
-    let last = take_lines(alloc, &mut draft, &mut number, bytes)?;
+    let last = take_lines(alloc, draft, &mut number, bytes)?;
     match last {
         Some(line) => take_last_at(alloc, draft, number, line),
         None => Err(StateFault {
@@ -301,15 +351,15 @@ fn take_line_at(
 /// Takes the last line, and returns the state or reports the fault with the line's number.
 fn take_last_at(
     alloc: Global,
-    draft: Draft,
+    draft: &mut Draft,
     number: usize,
     line: Line<&[u8]>,
 ) -> Result<State, StateFault>
-    requires { IsApart draft.current }
-    ensures ok { IfOk result (λ s. taking.last_taken number draft line.entry.is_ended
+    requires { IsApart draft.old.current }
+    ensures ok { IfOk result (λ s. taking.last_taken number draft.old line.entry.is_ended
         line.entry.text.now ≡ Ok s) }
     ensures err { IfErr result (λ e. taking.Tells number
-        (taking.last_taken number draft line.entry.is_ended line.entry.text.now) e) }
+        (taking.last_taken number draft.old line.entry.is_ended line.entry.text.now) e) }
 {
     match take_last(alloc, draft, number, line) {
         Ok(state) => Ok(state),
@@ -335,31 +385,27 @@ fn take_line(alloc: Global, draft: &mut Draft, number: usize, line: &[u8]) -> Re
 }
 
 /// Takes the last line, and returns the state.
-fn take_last(alloc: Global, draft: Draft, number: usize, line: Line<&[u8]>) -> Result<State, Fault>
-    requires { IsApart draft.current }
-    ensures ok { IfOk result (λ s. taking.last_taken number draft line.entry.is_ended
+fn take_last(
+    alloc: Global,
+    draft: &mut Draft,
+    number: usize,
+    line: Line<&[u8]>,
+) -> Result<State, Fault>
+    requires { IsApart draft.old.current }
+    ensures ok { IfOk result (λ s. taking.last_taken number draft.old line.entry.is_ended
         line.entry.text.now ≡ Ok s) }
     ensures err { IfErr result (λ f. (f ≡ Fault.OutOfMemory)
-        ⊎ (taking.last_taken number draft line.entry.is_ended line.entry.text.now ≡ Err f)) }
+        ⊎ (taking.last_taken number draft.old line.entry.is_ended line.entry.text.now ≡ Err f)) }
 {
-    let mut draft = draft;
-    take_end(alloc, &mut draft, number, line)?;
-    Ok(state_of(draft))
+    take_end(alloc, draft, number, line)?;
+    Ok(take_state(alloc, draft))
 }
 
-/// The state of a draft.
-fn state_of(draft: Draft) -> State
-    ensures { result ≡ draft.state }
+/// Takes the state out of a draft.
+fn take_state(alloc: Global, draft: &mut Draft) -> State
+    ensures { result ≡ draft.old.state }
 {
-    let Draft {
-        blobs: _blobs,
-        state,
-        current: _current,
-        entries: _entries,
-        ended: _ended,
-        near: _near,
-    } = draft;
-    state
+    replace(&mut draft.state, State::new(alloc))
 }
 
 /// Takes the last line. A text that is cut off is reported first.

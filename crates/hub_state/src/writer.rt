@@ -11,10 +11,10 @@ ghost use Rattle.hub_state.specs.Devices.{Passes, is_write_failed, says, reports
 ghost use Rattle.hub_state.specs.View.{by_text, below, pairs_in};
 ghost use Rattle.hub_state.specs.Writing.{dir_line, file_line, hex_field, file_field, pair_lines};
 ghost use Rattle.hub_state.specs.Writing.{contents_lines, mark_lines, replica_lines};
-ghost use Rattle.hub_state.specs.Writing.{header, blob_line};
+ghost use Rattle.hub_state.specs.Writing.{header, blob_line, blob_lines, state_files, version_of};
 ghost use Rattle.hub_state.specs.Writing.{archive_lines, joined_lines, state_text};
 
-use crate::blobs::{Blobs, head_of};
+use crate::blobs::{Blobs, Head, head_of};
 use crate::fault::{Fault, StateFault};
 use crate::form::Version;
 use crate::state::State;
@@ -61,14 +61,33 @@ fn write_parts<W: Write>(alloc: Global, output: &mut Watched<W>, state: &State) 
     ensures faults { IfErr result (λ e. (e ≡ Fault.OutOfMemory) ⊎ (e ≡ Fault.WriteFailed)) }
     ensures failed { output.new.failed ≡ says is_write_failed result }
 {
-    let mut text = Vec::new(alloc);
     let head = head_of(alloc, state.replicas())?;
-    push_header(&mut text, head.version)?;
-    write_blobs(output, &mut text, &head.blobs)?;
-    write_replicas(output, &mut text, head.version, state.replicas())?;
-    write_archives(output, &mut text, state.archives())?;
-    push(&mut text, "end\n")?;
-    pass_on(output, &mut text)
+    let mut text = Vec::new(alloc);
+    write_sections(output, &mut text, &head, state)
+}
+
+/// Writes the text of a state. The head says how its files are written.
+fn write_sections<W: Write>(
+    output: &mut Watched<W>,
+    text: &mut Vec<u8>,
+    head: &Head,
+    state: &State,
+) -> Result<(), Fault>
+    requires works { output.old.failed ≡ false }
+    requires version { head.now.version ≡ version_of (state_files state.now) }
+    requires blobs { map blob_line (fin.entries head.now.blobs)
+        ≡ blob_lines head.now.version (state_files state.now) }
+    ensures whole { OnOk result (Appends (W.contents output.old.device)
+        (W.contents output.new.device) (text.old.items ++ state_text state.now)) }
+    ensures faults { IfErr result (λ e. (e ≡ Fault.OutOfMemory) ⊎ (e ≡ Fault.WriteFailed)) }
+    ensures failed { output.new.failed ≡ says is_write_failed result }
+{
+    push_header(text, head.version)?;
+    write_blobs(output, text, &head.blobs)?;
+    write_replicas(output, text, head.version, state.replicas())?;
+    write_archives(output, text, state.archives())?;
+    push(text, "end\n")?;
+    pass_on(output, text)
 }
 
 /// Writes the lines of blobs.
@@ -169,10 +188,28 @@ fn write_tree<W: Write>(
 {
     for entry in tree.entries()? {
         let (path, stored) = entry?;
-        push_entry(text, version, &path, stored)?;
-        pass_block(output, text)?;
+        write_entry(output, text, version, &path, stored)?;
     }
     Ok(())
+}
+
+/// Writes the line of what a replica has at a path.
+fn write_entry<W: Write>(
+    output: &mut Watched<W>,
+    text: &mut Vec<u8>,
+    version: Version,
+    path: &RelPath,
+    stored: Stored<'_>,
+) -> Result<(), Fault>
+    requires { output.old.failed ≡ false }
+    ensures ok { OnOk result (Passes (W.contents output.old.device)
+        (W.contents output.new.device) text.old.items text.new.items
+        (joined_lines (contents_lines version (path.now, stored_contents stored.entry)))) }
+    ensures faults { IfErr result (λ e. (e ≡ Fault.OutOfMemory) ⊎ (e ≡ Fault.WriteFailed)) }
+    ensures failed { output.new.failed ≡ says is_write_failed result }
+{
+    push_entry(text, version, path, stored)?;
+    pass_block(output, text)
 }
 
 /// Writes the lines of an archive's marks.

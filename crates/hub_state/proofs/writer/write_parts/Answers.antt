@@ -1,50 +1,22 @@
-use Rattle.std.proofs.Common.{◌≡◌, List, ℕ, map, [], ◌∷◌, ◌++◌, refl, sym, ap, ◌∙◌, subst, append-nil}
-use Rattle.std.specs.FinMap as fin
-use Rattle.std.specs.Io.KnownBytes.{Appends}
+use Rattle.std.proofs.Common.{List, ℕ, ◌++◌, sym, ap, ◌∙◌, subst}
 use Rattle.std.specs.List.{flat_map}
-use Rattle.std.proofs.lemmas.Result.{on_ok_weaker}
-use Rattle.hub_path.specs.Path.{path_cmp}
-use Rattle.hub_tree.specs.Tree.{Replica, Archive}
-use Rattle.hub_state.specs.declared.form.Version.{Version}
-use Rattle.hub_state.specs.Devices.{Passes}
-use Rattle.hub_state.specs.State.{State, Text}
-use Rattle.hub_state.specs.View.{by_text, pairs_in}
-use Rattle.hub_state.specs.Writing.{header, end_line, blob_line, blob_lines, replica_lines, replica_files, archive_lines, version_of, joined_lines, state_text}
-use Rattle.hub_state.proofs.Passing.{passes-start, passes-step, passes-all, text_parts}
+use Rattle.std.specs.Prelude.{OnOk}
+use Rattle.std.specs.Io.KnownBytes.{Appends}
+use Rattle.hub_tree.specs.Tree.{Replica}
+use Rattle.hub_state.specs.State.{Text}
+use Rattle.hub_state.specs.Writing.{blob_lines, replica_files, version_of, state_text}
 use Rattle.hub_state.proofs.writer.write_parts.Goals as goal
+
+pub write_sections-requires-clause-version : goal.write_sections-requires-clause-version
+write_sections-requires-clause-version g c =
+    c.in_ok-head.ensures.version ∙ ap (λ (es : List (Text × Replica)). version_of (flat_map replica_files es)) (sym c.replicas.ensures)
+
+pub write_sections-requires-clause-blobs : goal.write_sections-requires-clause-blobs
+write_sections-requires-clause-blobs g c =
+    c.in_ok-head.ensures.blobs ∙ ap (λ (es : List (Text × Replica)). blob_lines c.in_ok-head.head.version (flat_map replica_files es)) (sym c.replicas.ensures)
 
 pub returns-clause-whole : goal.returns-clause-whole
 returns-clause-whole g c =
-    let S : State = c.args.state.now in
-    let v : Version = c.in_ok-head.head.version in
     let a = g.W.Write.contents c.args.output.now.device in
-    let b = g.W.Write.contents c.write_blobs.new.output.device in
-    let d = g.W.Write.contents c.write_replicas.new.output.device in
-    let e = g.W.Write.contents c.write_archives.new.output.device in
-    let f = g.W.Write.contents c.pass_on.new.output.device in
-    let x : List ℕ = c.new-text.result.items in
-    let y : List ℕ = c.write_blobs.new.text.items in
-    let z : List ℕ = c.write_replicas.new.text.items in
-    let w : List ℕ = c.write_archives.new.text.items in
-    let u : List ℕ = c.push.new.text.items in
-    let p : List ℕ = c.push_header.new.text.items in
-    let last : List ℕ = end_line ++ 10 ∷ [] in
-    let first : List ℕ = header v ++ 10 ∷ [] in
-    let bs : List ℕ = joined_lines (map blob_line (fin.entries c.in_ok-head.head.blobs)) in
-    let head : List ℕ = first ++ bs in
-    let one : Passes a b x y head = passes-step a a b x x p y [] first bs head (passes-start a x) c.in_ok-push_header.ensures c.in_ok-write_blobs.ensures.ok refl in
-    let rs : List ℕ = joined_lines (flat_map (replica_lines v) (by_text c.replicas-2.result.now.entries)) in
-    let ks : List ℕ = joined_lines (flat_map archive_lines (fin.entries (pairs_in c.archives.result.now.entries))) in
-    let two : Passes a d x z (head ++ rs) = passes-step a b d x y y z head [] rs (head ++ rs) one (sym (append-nil y)) c.in_ok-write_replicas.ensures.ok refl in
-    let three : Passes a e x w (head ++ rs ++ ks) = passes-step a d e x z z w (head ++ rs) [] ks (head ++ rs ++ ks) two (sym (append-nil z)) c.in_ok-write_archives.ensures.ok refl in
-    let all : List ℕ = head ++ rs ++ ks ++ (last ++ []) in
-    let four : Passes a e x u all = passes-step a e e x w u u (head ++ rs ++ ks) last [] all three c.in_ok-push.ensures (passes-start e u) refl in
-    let same : x ++ all ≡ state_text S =
-    ap (λ (t : List ℕ). t ++ all) c.new-text.ensures.items
-    ∙ ap (λ (ls : List (List ℕ)). first ++ joined_lines ls ++ rs ++ ks ++ (last ++ [])) c.in_ok-head.ensures.blobs
-    ∙ ap (λ (es : List (Text × Replica)). joined_lines (header v ∷ blob_lines v (flat_map replica_files es)) ++ rs ++ ks ++ (last ++ [])) (sym c.replicas.ensures)
-    ∙ ap (λ (es : List (Text × Replica)). joined_lines (header v ∷ blob_lines v (flat_map replica_files (fin.entries S.replicas))) ++ joined_lines (flat_map (replica_lines v) es) ++ ks ++ (last ++ [])) (sym c.replicas-2.ensures)
-    ∙ ap (λ (m : fin.FinMap path_cmp Archive). joined_lines (header v ∷ blob_lines v (flat_map replica_files (fin.entries S.replicas))) ++ joined_lines (flat_map (replica_lines v) (fin.entries S.replicas)) ++ joined_lines (flat_map archive_lines (fin.entries m)) ++ (last ++ [])) c.archives.ensures
-    ∙ text_parts S v (c.in_ok-head.ensures.version ∙ ap (λ (es : List (Text × Replica)). version_of (flat_map replica_files es)) (sym c.replicas.ensures))
-    in
-    on_ok_weaker c.pass_on.result (λ h. subst (λ (t : List ℕ). Appends a f t) same (passes-all a e f x u all four h)) c.pass_on.ensures.ok
+    let b = g.W.Write.contents c.write_sections.new.output.device in
+    subst (λ (t : List ℕ). OnOk c.write_sections.result (Appends a b (t ++ state_text c.args.state.now))) c.new-text.ensures.items c.write_sections.ensures.whole

@@ -1,11 +1,11 @@
-use Rattle.std.proofs.Common.{List, [], refl, ◌∙◌}
+use Rattle.std.proofs.Common.{List, ℕ, [], refl, sym, ◌∙◌, append-nil}
 use Rattle.std.specs.FinMap as fin
 use Rattle.std.specs.List.{flat_map}
 use Rattle.hub_path.specs.Path.{Path}
 use Rattle.hub_tree.specs.Stored.{stored_contents}
 use Rattle.hub_tree.specs.declared.contents.Contents.{Contents}
 use Rattle.hub_state.specs.Writing.{contents_lines, joined_lines}
-use Rattle.hub_state.proofs.Passing.{block_more, next_entry, wrote-nothing, wrote-more, wrote-all}
+use Rattle.hub_state.proofs.Passing.{joined_one, next_entry, wrote-nothing, wrote-more, wrote-all}
 use Rattle.hub_state.proofs.writer.write_tree.Goals as goal
 
 pub loop-entry-init : goal.loop-entry-init
@@ -15,20 +15,22 @@ loop-entry-init g c =
 pub loop-entry-preserved : goal.loop-entry-preserved
 loop-entry-preserved g c =
     let x : Path × Contents = (c.in_ok-path.path, stored_contents c.in_ok-path.stored) in
+    let line : List ℕ = joined_lines (contents_lines c.args.version x) in
     wrote-more (λ (es : List (Path × Contents)). joined_lines (flat_map (contents_lines c.args.version) es))
-    (g.W.Write.contents c.args.output.now.device) (g.W.Write.contents c.loop-entry.output.device) (g.W.Write.contents c.pass_block.new.output.device)
-    c.args.text.now.items c.loop-entry.text.items c.push_entry.new.text.items c.pass_block.new.text.items (joined_lines (contents_lines c.args.version x)) []
-    c.loop-entry.entry-iterator c.next.new.self (fin.entries c.args.tree.now) x c.loop-entry.output.failed c.pass_block.new.output.failed
-    c.loop-entry.invariant (next_entry c.loop-entry.entry-iterator c.next.new.self c.in-Some.entry (c.in_ok-path.path, c.in_ok-path.stored) c.in-Some.ensures.steps c.in_ok-path.was) (c.in_ok-push_entry.ensures) c.in_ok-pass_block.ensures.ok (block_more (contents_lines c.args.version) x) c.in_ok-pass_block.ensures.failed
+    (g.W.Write.contents c.args.output.now.device) (g.W.Write.contents c.loop-entry.output.device) (g.W.Write.contents c.write_entry.new.output.device)
+    c.args.text.now.items c.loop-entry.text.items c.loop-entry.text.items c.write_entry.new.text.items [] line
+    c.loop-entry.entry-iterator c.next.new.self (fin.entries c.args.tree.now) x c.loop-entry.output.failed c.write_entry.new.output.failed
+    c.loop-entry.invariant (next_entry c.loop-entry.entry-iterator c.next.new.self c.in-Some.entry (c.in_ok-path.path, c.in_ok-path.stored) c.in-Some.ensures.steps c.in_ok-path.was) (sym (append-nil c.loop-entry.text.items)) c.in_ok-write_entry.ensures.ok (λ done. joined_one (contents_lines c.args.version) done x) c.in_ok-write_entry.ensures.failed
 
-pub loop-entry-preserved-in_ok-pass_block : goal.loop-entry-preserved-in_ok-pass_block
-loop-entry-preserved-in_ok-pass_block g c =
+pub loop-entry-preserved-in_ok-write_entry : goal.loop-entry-preserved-in_ok-write_entry
+loop-entry-preserved-in_ok-write_entry g c =
     let x : Path × Contents = (c.in_ok-path.path, stored_contents c.in_ok-path.stored) in
+    let line : List ℕ = joined_lines (contents_lines c.args.version x) in
     wrote-more (λ (es : List (Path × Contents)). joined_lines (flat_map (contents_lines c.args.version) es))
-    (g.W.Write.contents c.args.output.now.device) (g.W.Write.contents c.loop-entry.output.device) (g.W.Write.contents c.pass_block.new.output.device)
-    c.args.text.now.items c.loop-entry.text.items c.push_entry.new.text.items c.pass_block.new.text.items (joined_lines (contents_lines c.args.version x)) []
-    c.loop-entry.entry-iterator c.next.new.self (fin.entries c.args.tree.now) x c.loop-entry.output.failed c.pass_block.new.output.failed
-    c.loop-entry.invariant (next_entry c.loop-entry.entry-iterator c.next.new.self c.in-Some.entry (c.in_ok-path.path, c.in_ok-path.stored) c.in-Some.ensures.steps c.in_ok-path.was) (c.in_ok-push_entry.ensures) c.in_ok-pass_block.ensures.ok (block_more (contents_lines c.args.version) x) c.in_ok-pass_block.ensures.failed
+    (g.W.Write.contents c.args.output.now.device) (g.W.Write.contents c.loop-entry.output.device) (g.W.Write.contents c.write_entry.new.output.device)
+    c.args.text.now.items c.loop-entry.text.items c.loop-entry.text.items c.write_entry.new.text.items [] line
+    c.loop-entry.entry-iterator c.next.new.self (fin.entries c.args.tree.now) x c.loop-entry.output.failed c.write_entry.new.output.failed
+    c.loop-entry.invariant (next_entry c.loop-entry.entry-iterator c.next.new.self c.in-Some.entry (c.in_ok-path.path, c.in_ok-path.stored) c.in-Some.ensures.steps c.in_ok-path.was) (sym (append-nil c.loop-entry.text.items)) c.in_ok-write_entry.ensures.ok (λ done. joined_one (contents_lines c.args.version) done x) c.in_ok-write_entry.ensures.failed
 
 pub returns-clause-ok : goal.returns-clause-ok
 returns-clause-ok g c =

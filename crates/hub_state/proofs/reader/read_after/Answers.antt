@@ -5,7 +5,7 @@ use Rattle.hub_state.specs.Devices.{is_read_failed, is_turns_spent, reports}
 use Rattle.hub_state.proofs.Blocks.{known}
 use Rattle.hub_state.proofs.Quiet.{fault-quiet, fault-unspent}
 use Rattle.hub_state.proofs.Taken.{Ok-then, Err-then, quiet-then}
-use Rattle.hub_state.proofs.reader.read_state.Goals as goal
+use Rattle.hub_state.proofs.reader.read_after.Goals as goal
 
 pub returns-in-Ok-clause-ok : goal.returns-in-Ok-clause-ok
 returns-in-Ok-clause-ok g c =

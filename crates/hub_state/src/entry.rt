@@ -1,0 +1,208 @@
+//! Entries that are put into replicas and archives.
+ghost use Rattle.std.specs.Prelude.{◌≡◌, ◌⊎◌, ◌<◌, None, Some, Ok, Err, false, is_some, IfErr, IsTrue, OnOk};
+ghost use Rattle.std.specs.FinMap as fin;
+ghost use Rattle.std.specs.Option.{option_map};
+ghost use Rattle.hub_text.specs.Fails.{Fails};
+ghost use Rattle.hub_path.specs.Path.{is_path};
+ghost use Rattle.hub_tree.specs.Tree.{is_absent, kept};
+ghost use Rattle.hub_state.specs.Taking as taking;
+
+use crate::blobs::Blobs;
+use crate::fault::Fault;
+use crate::line::{bytes_in, digest_in};
+use crate::near::Near;
+use crate::{ENTRIES, FILE_BYTES};
+use hub_path::RelPath;
+use hub_tree::{Archive, Blob, Contents, Mark, SetFault, Tree};
+use std::alloc::Global;
+
+/// Puts a directory into a replica after this many entries.
+pub fn put_dir(tree: &mut Tree, entries: usize, path: &RelPath) -> Result<(), Fault>
+    requires { IsTrue (is_path path.now) }
+    ensures ok { OnOk result (taking.dir_put entries tree.old path.now ≡ Ok tree.new) }
+    ensures err { IfErr result
+        (Fails Fault.OutOfMemory (taking.dir_put entries tree.old path.now)) }
+    ensures room { OnOk result (entries < ENTRIES) }
+{
+    if entries >= ENTRIES {
+        return Err(Fault::TooLarge);
+    }
+    put_contents(tree, path, Contents::Directory)
+}
+
+/// Puts a file into a replica after this many entries. In a text of version 2 it names a blob.
+pub fn put_file(
+    alloc: Global,
+    near: &mut Near,
+    tree: &mut Tree,
+    blobs: &Option<Blobs>,
+    entries: usize,
+    field: &str,
+    text: &str,
+) -> Result<(), Fault>
+    ensures ok { OnOk result
+        (taking.file_put blobs.now entries tree.old field.now text.now ≡ Ok tree.new) }
+    ensures err { IfErr result (λ f. (f ≡ Fault.OutOfMemory)
+        ⊎ (taking.file_put blobs.now entries tree.old field.now text.now ≡ Err f)) }
+    ensures room { OnOk result (entries < ENTRIES) }
+{
+    match blobs {
+        None => put_bytes(alloc, near, tree, entries, field, text),
+        Some(blobs) => put_named(near, tree, blobs, entries, field, text),
+    }
+}
+
+/// Puts a file that names a blob into a replica after this many entries.
+fn put_named(
+    near: &mut Near,
+    tree: &mut Tree,
+    blobs: &Blobs,
+    entries: usize,
+    field: &str,
+    text: &str,
+) -> Result<(), Fault>
+    ensures ok { OnOk result
+        (taking.digest_put blobs.now entries tree.old field.now text.now ≡ Ok tree.new) }
+    ensures err { IfErr result (λ f. (f ≡ Fault.OutOfMemory)
+        ⊎ (taking.digest_put blobs.now entries tree.old field.now text.now ≡ Err f)) }
+    ensures room { OnOk result (entries < ENTRIES) }
+{
+    let digest = digest_in(field)?;
+    let path = near.read(text)?;
+    put_shared(tree, blobs.get(&digest), entries, &path)
+}
+
+/// Puts a file into a replica after this many entries. It shares the bytes of a blob, if there is one.
+fn put_shared(
+    tree: &mut Tree,
+    blob: Option<&Blob>,
+    entries: usize,
+    path: &RelPath,
+) -> Result<(), Fault>
+    requires { IsTrue (is_path path.now) }
+    ensures ok { OnOk result (taking.shared_put entries tree.old path.now
+        (option_map (λ b. b.now) blob.entry) ≡ Ok tree.new) }
+    ensures err { IfErr result (Fails Fault.OutOfMemory (taking.shared_put entries tree.old path.now
+        (option_map (λ b. b.now) blob.entry))) }
+    ensures room { OnOk result (entries < ENTRIES) }
+{
+    if entries >= ENTRIES {
+        return Err(Fault::TooLarge);
+    }
+    let Some(blob) = blob else {
+        return Err(fault_without_blob(tree, path));
+    };
+    put_contents(tree, path, Contents::File(blob.copy()?))
+}
+
+/// Why a file can't be put that names a blob which the text doesn't have.
+fn fault_without_blob(tree: &Tree, path: &RelPath) -> Fault
+    requires { IsTrue (is_path path.now) }
+    ensures { taking.blob_named_put tree.now path.now None ≡ Err result }
+{
+    if has_entry(tree, path) {
+        return Fault::Repeated;
+    }
+    Fault::UnknownBlob
+}
+
+/// Puts a file with these bytes into a replica after this many entries.
+fn put_bytes(
+    alloc: Global,
+    near: &mut Near,
+    tree: &mut Tree,
+    entries: usize,
+    field: &str,
+    text: &str,
+) -> Result<(), Fault>
+    ensures ok { OnOk result (taking.bytes_put entries tree.old field.now text.now ≡ Ok tree.new) }
+    ensures err { IfErr result (λ f. (f ≡ Fault.OutOfMemory)
+        ⊎ (taking.bytes_put entries tree.old field.now text.now ≡ Err f)) }
+    ensures room { OnOk result (entries < ENTRIES) }
+{
+    let bytes = bytes_in(alloc, field)?;
+    let path = near.read(text)?;
+    if entries >= ENTRIES || bytes.len() > FILE_BYTES {
+        return Err(Fault::TooLarge);
+    }
+    put_contents(tree, &path, Contents::File(Blob::new(bytes)?))
+}
+
+/// Puts contents into a replica, which are not `Absent`.
+fn put_contents(tree: &mut Tree, path: &RelPath, contents: Contents) -> Result<(), Fault>
+    requires path { IsTrue (is_path path.now) }
+    requires some { is_absent contents ≡ false }
+    ensures ok { OnOk result (taking.contents_put tree.old path.now contents ≡ Ok tree.new) }
+    ensures err { IfErr result (λ f. (f ≡ Fault.OutOfMemory)
+        ⊎ (taking.contents_put tree.old path.now contents ≡ Err f)) }
+{
+    match tree.put_new(path, contents) {
+        Ok(false) => Ok(()),
+        Ok(true) => Err(Fault::Repeated),
+        Err(SetFault::OutOfMemory) => Err(Fault::OutOfMemory),
+        Err(_) => Err(Fault::NoParent),
+    }
+}
+
+/// Returns whether a replica has an entry at the path.
+fn has_entry(tree: &Tree, path: &RelPath) -> bool
+    requires { IsTrue (is_path path.now) }
+    ensures { result ≡ is_some (fin.get tree.now path.now) }
+{
+    match tree.mark_at(path) {
+        Mark::Absent => false,
+        Mark::File(_) => true,
+        Mark::Directory => true,
+    }
+}
+
+/// Puts a directory into an archive after this many entries.
+pub fn put_old_dir(archive: &mut Archive, entries: usize, path: &RelPath) -> Result<(), Fault>
+    requires { IsTrue (is_path path.now) }
+    ensures ok { OnOk result (taking.old_dir_put entries archive.old path.now ≡ Ok archive.new) }
+    ensures err { IfErr result (λ f. (f ≡ Fault.OutOfMemory)
+        ⊎ (taking.old_dir_put entries archive.old path.now ≡ Err f)) }
+    ensures room { OnOk result (entries < ENTRIES) }
+{
+    if entries >= ENTRIES {
+        return Err(Fault::TooLarge);
+    }
+    put_mark(archive, path, Mark::Directory)
+}
+
+/// Puts the digest of a file into an archive after this many entries.
+pub fn put_old_file(
+    near: &mut Near,
+    archive: &mut Archive,
+    entries: usize,
+    field: &str,
+    text: &str,
+) -> Result<(), Fault>
+    ensures ok { OnOk result
+        (taking.old_file_put entries archive.old field.now text.now ≡ Ok archive.new) }
+    ensures err { IfErr result (λ f. (f ≡ Fault.OutOfMemory)
+        ⊎ (taking.old_file_put entries archive.old field.now text.now ≡ Err f)) }
+    ensures room { OnOk result (entries < ENTRIES) }
+{
+    let digest = digest_in(field)?;
+    let path = near.read(text)?;
+    if entries >= ENTRIES {
+        return Err(Fault::TooLarge);
+    }
+    put_mark(archive, &path, Mark::File(digest))
+}
+
+/// Puts a mark into an archive, which is not `Absent`.
+fn put_mark(archive: &mut Archive, path: &RelPath, mark: Mark) -> Result<(), Fault>
+    requires path { IsTrue (is_path path.now) }
+    requires some { kept mark ≡ Some mark }
+    ensures ok { OnOk result (taking.mark_put archive.old path.now mark ≡ Ok archive.new) }
+    ensures err { IfErr result (λ f. (f ≡ Fault.OutOfMemory)
+        ⊎ (taking.mark_put archive.old path.now mark ≡ Err f)) }
+{
+    match archive.replace(path, mark)? {
+        Mark::Absent => Ok(()),
+        Mark::File(_) => Err(Fault::Repeated),
+        Mark::Directory => Err(Fault::Repeated),
+    }
+}

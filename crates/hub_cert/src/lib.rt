@@ -34,6 +34,7 @@ mod forbidden;
 mod goal;
 pub mod laws;
 mod machines;
+mod next_stage;
 mod product;
 mod reading;
 mod refusals;

@@ -36,6 +36,21 @@ pub(crate) fn alphabet_for(
     ensures err { (S : of_set.Members) → S.profiles ≡ profiles.now → S.rules ≡ rules.now
         → IfErr result (refused.IsRefused S) }
 {
+    check_names(profiles)?;
+    check_roots(alloc, profiles, rules)?;
+    match alphabet_within_limits(alloc, profiles, rules) {
+        Ok(alphabet) => Ok(alphabet),
+        Err(fault) => Err(fault_of(fault)),
+    }
+}
+
+/// Returns why profiles are too many, or have no different names.
+fn check_names(profiles: &[Profile]) -> Result<(), CheckFault>
+    ensures ok { (S : of_set.Members) → S.profiles ≡ profiles.now
+        → OnOk result (refused.FewNamed S) }
+    ensures err { (S : of_set.Members) → S.profiles ≡ profiles.now
+        → IfErr result (refused.IsRefused S) }
+{
     if profiles.len() > PROFILES {
         return Err(CheckFault::TooManyProfiles);
     }
@@ -44,6 +59,18 @@ pub(crate) fn alphabet_for(
             name: profiles[later].name().copy()?,
         });
     }
+    Ok(())
+}
+
+/// Returns the fault of the first two nested roots.
+fn check_roots(alloc: Global, profiles: &[Profile], rules: &[Rule]) -> Result<(), CheckFault>
+    ensures apart { (S : of_set.Members) → S.profiles ≡ profiles.now → S.rules ≡ rules.now
+        → OnOk result (of_set.AreApart S) }
+    ensures valid { OnOk result ((i : ℕ) (P : Parts) → slice_get profiles.now i ≡ Some P
+        → IsProfile P) }
+    ensures err { (S : of_set.Members) → S.profiles ≡ profiles.now → S.rules ≡ rules.now
+        → refused.FewNamed S → IfErr result (refused.IsRefused S) }
+{
     let roots = roots_of(alloc, profiles, rules)?;
     let all = roots.as_slice();
     if let Some((first, second)) = nested_roots(all) {
@@ -52,10 +79,7 @@ pub(crate) fn alphabet_for(
             second: all[second].copy()?,
         });
     }
-    match alphabet_within_limits(alloc, profiles, rules) {
-        Ok(alphabet) => Ok(alphabet),
-        Err(fault) => Err(fault_of(fault)),
-    }
+    Ok(())
 }
 
 /// Returns the fault of a set whose alphabet or spots are too many.
@@ -244,7 +268,8 @@ pub(crate) fn count_profile_spots(
         × (SPOTS < spots_of P)))) }
 {
     for profile in profiles {
-        Walker::new(alloc, profile, alphabet)?;
+        // A call of `drop` is cheaper to prove than the drop of a value that is thrown away.
+        drop(Walker::new(alloc, profile, alphabet)?);
     }
     Ok(())
 }
@@ -264,7 +289,7 @@ pub(crate) fn count_rule_spots(
         × (SPOTS < of_set.rule_spots R)))) }
 {
     for rule in rules {
-        SpecSet::build(alloc, alphabet, from_ref(&rule.spec))?;
+        drop(SpecSet::build(alloc, alphabet, from_ref(&rule.spec))?);
     }
     Ok(())
 }

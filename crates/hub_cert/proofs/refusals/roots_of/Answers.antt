@@ -1,10 +1,11 @@
-use Rattle.std.proofs.Common.{◌∙◌, ◌++◌, List, map, refl, ap, arith}
+use Rattle.std.proofs.Common.{◌∙◌, ◌++◌, ◌∷◌, [], List, map, refl, ap, sym, append-nil, arith}
 use Rattle.std.specs.List.{flat_map}
 use Rattle.std.proofs.lemmas.List.{take_all}
 use Rattle.std.proofs.lemmas.Option.{slice_get_read, slice_get_within}
+use Rattle.hub_path.specs.Path.{Path}
 use Rattle.hub_profile.specs.Parts.{Parts, IsProfile}
 use Rattle.hub_profile.specs.declared.rule.Rule.{Rule}
-use Rattle.hub_cert.proofs.SetFacts.{below-more, flat-taken, roots-are}
+use Rattle.hub_cert.proofs.SetFacts.{below-more, flat-taken, roots-are, rules-taken}
 use Rattle.hub_cert.proofs.refusals.roots_of.Goals as goal
 
 pub loop-profile-preserved : goal.loop-profile-preserved
@@ -14,6 +15,17 @@ loop-profile-preserved c =
           c.loop-profile.invariant.0 c.in_ok-push_roots.ensures.roots,
       below-more IsProfile c.args.profiles.now c.loop-profile.profile-index c.profile-item.result at c.push_roots.ensures.valid c.loop-profile.invariant.1,
     )
+
+pub loop-rule-init : goal.loop-rule-init
+loop-rule-init c =
+    c.loop-profile.invariant.0
+    ∙ (ap (flat_map (λ (P : Parts). P.roots)) (take_all c.loop-profile.profile-index c.args.profiles.now (omega (arith, c.loop-profile-test.false)))
+    ∙ sym (append-nil (flat_map (λ (P : Parts). P.roots) c.args.profiles.now)))
+
+pub loop-rule-preserved : goal.loop-rule-preserved
+loop-rule-preserved c =
+    rules-taken c.args.rules.now c.loop-rule.rule-index c.rule-item.result (flat_map (λ (P : Parts). P.roots) c.args.profiles.now) c.loop-rule.roots.items c.push.new.self.items c.loop-rule-test.true c.rule-item.is
+    c.loop-rule.invariant (c.in_ok-push.ensures.items ∙ ap (λ (r : Path). c.loop-rule.roots.items ++ r ∷ []) c.in_ok-copy.ensures)
 
 pub returns-clause-roots : goal.returns-clause-roots
 returns-clause-roots c = λ S ps rs.

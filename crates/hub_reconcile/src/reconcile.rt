@@ -1,5 +1,5 @@
 //! The items of a picture, their changes, and the new archive.
-ghost use Rattle.std.specs.Prelude.{◌≡◌, ◌++◌, IfOk, OnOk, filter};
+ghost use Rattle.std.specs.Prelude.{◌≡◌, ◌++◌, ◌∷◌, [], IfOk, OnOk, filter};
 ghost use Rattle.std.specs.FinMap as fin;
 ghost use Rattle.std.specs.List.{flat_map};
 ghost use Rattle.hub_reach.specs.Reach.{reach};
@@ -131,7 +131,7 @@ fn push_item(
         ≡ changes.old.items ++ parts.row_changes from item.now below.now) }
 {
     push_going(changes, below, from)?;
-    changes.push(change_to(item, from, item.mark(from))?)?;
+    push_change(changes, item, from, item.mark(from))?;
     push_coming(changes, below, from)
 }
 
@@ -145,7 +145,7 @@ fn push_going(changes: &mut Vec<Change>, below: &[Row], from: Side) -> Result<()
         left -= 1;
         let row = &below[left];
         if row.goes(from) {
-            changes.push(change_to(row, from, Mark::Absent)?)?;
+            push_change(changes, row, from, Mark::Absent)?;
         }
     }
     Ok(())
@@ -159,23 +159,30 @@ fn push_coming(changes: &mut Vec<Change>, below: &[Row], from: Side) -> Result<(
     let mut rest = below;
     while let [row, after @ ..] = rest {
         if row.comes(from) {
-            changes.push(change_to(row, from, row.mark(from))?)?;
+            push_change(changes, row, from, row.mark(from))?;
         }
         rest = after;
     }
     Ok(())
 }
 
-/// The change that gives a path this mark, on the side that isn't the source.
-fn change_to(row: &Row, from: Side, mark: Mark) -> Result<Change, AllocError>
-    ensures { IfOk result (λ c. c ≡ spec.change (spec.other from) row.now.path.now mark) }
+/// Adds the change that gives a path this mark, on the side that isn't the source.
+fn push_change(
+    changes: &mut Vec<Change>,
+    row: &Row,
+    from: Side,
+    mark: Mark,
+) -> Result<(), AllocError>
+    ensures { OnOk result (changes.new.items ≡ changes.old.items
+        ++ spec.change (spec.other from) row.now.path.now mark ∷ []) }
 {
     let path = row.path.copy()?;
-    Ok(Change {
+    changes.push(Change {
         side: from.other(),
         path,
         mark,
-    })
+    })?;
+    Ok(())
 }
 
 /// The archive afterwards: the old marks at the paths that aren't reached, and the new ones at the blocks' paths.

@@ -6,3 +6,4 @@ pub mod ProfileFacts
 pub mod Runs
 pub mod Places
 pub mod Whole
+pub mod PartialReadings

@@ -11,5 +11,4 @@ pub mod PartialLines
 pub mod Foreign
 pub mod Reading
 pub mod Rules
-pub mod Marks
 pub mod Examples

@@ -8,7 +8,6 @@ ghost use Rattle.hub_profile.specs.Faults.{FailsAs, FailsAt, FailsWith};
 ghost use Rattle.hub_profile.specs.Reading as reading;
 ghost use Rattle.hub_profile.specs.Said as said;
 
-use crate::arrow::spec_and_root;
 use crate::bars::Bars;
 use crate::fault::{Fault, ProfileFault};
 use crate::kept::kept_or_whole;
@@ -179,17 +178,8 @@ impl Draft {
         if self.partials.len() >= PARTIAL_LINES {
             return Err(Fault::TooMany);
         }
-        let Some((spec, root)) = spec_and_root(value) else {
-            return Err(Fault::NoArrow);
-        };
-        let spec = PathSpec::read(*self.partials.allocator(), spec)?;
-        let root = Root::read(*self.roots.allocator(), root)?;
-        self.partials.push(PartialLine {
-            line: number,
-            bars,
-            spec,
-            root,
-        })?;
+        let line = PartialLine::read(*self.partials.allocator(), bars, number, value)?;
+        self.partials.push(line)?;
         Ok(())
     }
 
@@ -265,13 +255,23 @@ fn two_roots(mut roots: Vec<Root>) -> Result<(Root, Root), Fault>
     let (Some(right), Some(left)) = (roots.pop(), roots.pop()) else {
         return Err(Fault::RootCount);
     };
+    match fault_of_two(&left, &right) {
+        Some(fault) => Err(fault),
+        None => Ok((left, right)),
+    }
+}
+
+/// What is wrong with two roots.
+fn fault_of_two(left: &Root, right: &Root) -> Option<Fault>
+    ensures { result ≡ reading.roots_fault (left.now ∷ right.now ∷ []) }
+{
     if left == right {
-        return Err(Fault::SameRoots);
+        return Some(Fault::SameRoots);
     }
-    if left.is_within(&right) || right.is_within(&left) {
-        return Err(Fault::RootsNested);
+    if left.is_within(right) || right.is_within(left) {
+        return Some(Fault::RootsNested);
     }
-    Ok((left, right))
+    None
 }
 
 /// Reads the value of a `path` line.

@@ -1,7 +1,6 @@
 ghost use Rattle.std.specs.Prelude.{◌≡◌, [], ◌&&◌, not, IfOk};
 ghost use Rattle.std.specs.List.{list_any};
 ghost use Rattle.hub_path.specs.Path.{path_eq, is_over};
-ghost use Rattle.hub_profile.specs.Marks as mark;
 ghost use Rattle.hub_profile.specs.Reading as reading;
 
 use hub_path::RelPath;
@@ -15,44 +14,26 @@ pub(crate) fn kept_or_whole(
 ) -> Result<Items<RelPath>, AllocError>
     ensures { IfOk result (λ ps. ps ≡ reading.or_whole (reading.kept values.items)) }
 {
-    let mut paths = kept(alloc, values)?;
+    let mut paths = kept(alloc, values.as_slice())?;
     if paths.is_empty() {
         paths.push(RelPath::top(alloc))?;
     }
     Ok(Items::from_vec(paths))
 }
 
-/// The values that add something, in their order.
+/// Copies the values that add something, in their order.
 ///
 /// Each value is compared with each other: a profile has at most `PATH_LINES` of them.
-fn kept(alloc: Global, values: Vec<RelPath>) -> Result<Vec<RelPath>, AllocError>
-    ensures { IfOk result (λ v. v.items ≡ reading.kept values.items) }
+fn kept(alloc: Global, values: &[RelPath]) -> Result<Vec<RelPath>, AllocError>
+    ensures { IfOk result (λ v. v.items ≡ reading.kept values.now) }
 {
-    let marks = marks(alloc, values.as_slice())?;
-    marked(alloc, values, marks)
-}
-
-/// For each of the values whether it adds something.
-fn marks(alloc: Global, values: &[RelPath]) -> Result<Vec<bool>, AllocError>
-    ensures { IfOk result (λ v. v.items ≡ mark.marks values.now [] values.now) }
-{
-    let mut marks = Vec::with_capacity(alloc, values.len())?;
+    let mut kept = Vec::new(alloc);
     for (i, value) in values.iter().enumerate() {
-        marks.push(adds(values, &values[..i], value))?;
+        if adds(values, &values[..i], value) {
+            kept.push(value.copy()?)?;
+        }
     }
-    Ok(marks)
-}
-
-/// Those of the values whose mark says so.
-fn marked(alloc: Global, values: Vec<RelPath>, marks: Vec<bool>) -> Result<Vec<RelPath>, AllocError>
-    ensures { IfOk result (λ v. v.items ≡ mark.marked values.items marks.items) }
-{
-    values
-        .into_iter()
-        .zip(marks)
-        .filter(|(_, mark)| *mark)
-        .map(|(value, _)| value)
-        .collect(alloc)
+    Ok(kept)
 }
 
 /// Returns whether a value is neither equal to an earlier one nor properly below any.

@@ -1,8 +1,11 @@
 //! Lines that bar changes on some paths of a root: `nodeletionpartial`, `noupdatepartial` and `nocreationpartial`.
-ghost use Rattle.std.specs.Prelude.{◌≡◌, IfOk, map};
+ghost use Rattle.std.specs.Prelude.{◌≡◌, Ok, IfOk, IfErr, chars, map};
+ghost use Rattle.hub_profile.specs.Faults.{FailsAs};
 ghost use Rattle.hub_profile.specs.PartialLines as lines;
 
+use crate::arrow::spec_and_root;
 use crate::bars::Bars;
+use crate::fault::Fault;
 use crate::partial::Partial;
 use hub_glob::PathSpec;
 use hub_path::{Root, Side};
@@ -16,6 +19,32 @@ pub(crate) struct PartialLine {
     pub(crate) bars: Bars,
     pub(crate) spec: PathSpec,
     pub(crate) root: Root,
+}
+
+impl PartialLine {
+    /// Reads the value of the line of that number.
+    #[tactic(auto, using(crate::proofs::PartialReadings::read_line, crate::proofs::PartialReadings::spec_refused, crate::proofs::PartialReadings::root_refused))]
+    pub(crate) fn read(
+        alloc: Global,
+        bars: Bars,
+        number: usize,
+        value: &str,
+    ) -> Result<PartialLine, Fault>
+        ensures ok { IfOk result (λ l. lines.line_reading bars number (chars value.now) ≡ Ok l) }
+        ensures err { IfErr result (FailsAs (lines.line_reading bars number (chars value.now))) }
+    {
+        let Some((spec, root)) = spec_and_root(value) else {
+            return Err(Fault::NoArrow);
+        };
+        let spec = PathSpec::read(alloc, spec)?;
+        let root = Root::read(alloc, root)?;
+        Ok(PartialLine {
+            line: number,
+            bars,
+            spec,
+            root,
+        })
+    }
 }
 
 /// The bars of the lines in their order, where each line names one of the two roots.

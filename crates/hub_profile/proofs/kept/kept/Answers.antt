@@ -1,10 +1,9 @@
-use Rattle.std.proofs.Common.{◌∙◌, [], ap}
-use Rattle.std.proofs.lemmas.Result.{IfOk-weaker}
-use Rattle.hub_profile.specs.Marks.{marks, marked}
-use Rattle.hub_profile.proofs.KeptValues.{marked-marks}
+use Rattle.std.proofs.Common.{arith}
+use Rattle.std.proofs.lemmas.Grind.{common_steps}
+use Rattle.hub_profile.proofs.KeptValues.{kept-more}
 use Rattle.hub_profile.proofs.kept.kept.Goals as goal
 
-pub returns : goal.returns
-returns c =
-    IfOk-weaker c.marked.result _ _
-    (λ v h. h ∙ (ap (marked c.args.values.items) (c.in_ok-marks.ensures ∙ ap (λ vs. marks vs [] vs) c.as_slice.ensures.value) ∙ marked-marks c.args.values.items [] c.args.values.items)) c.marked.ensures
+pub loop-i-preserved : goal.loop-i-preserved
+loop-i-preserved c =
+    let more = kept-more c.args.values.now c.loop-i.i c.index-values-i.result c.loop-i-test.true c.index-values-i.is in
+    grind (arith, common_steps, more)

@@ -21,7 +21,7 @@ use Rattle.hub_job.specs.declared.phase.Phase.TheVariants as phase
 use Rattle.hub_job.specs.Ends.{end_by}
 use Rattle.hub_job.specs.Machine.{Fits}
 use Rattle.hub_job.specs.Job.{next}
-use Rattle.hub_job.specs.JobValue.{JobValue, IsAsked, IsWhole, value_of, after_turn, log_with, with_answer}
+use Rattle.hub_job.specs.JobValue.{JobValue, IsAsked, IsRoomy, IsWhole, value_of, after_turn, log_with, stopped_job, with_answer}
 use Rattle.hub_job.specs.Run.{Runs}
 use Rattle.hub_job.specs.Phase.{IsWaiting, AreLooks, AreLooksOf, IsAskedIn, asked_by, IsNextIn, IsNext, is_stopped}
 use Rattle.hub_job.proofs.Phases.{followed}
@@ -79,6 +79,17 @@ stopped_whole P O j log new r e =
     subst (λ log. IsWhole (value_of j P O log None phase.Stopped) phase.Stopped) (sym e)
     (record { job = record { run = r; asked = tt }; follows = tt; asked = tt })
 
+pub stopped_now : (P : Parts) (O : Archive) (j : ℕ) (log new : List Logged) (asked : Option Asked) (p : Phase) (len capacity : ℕ)
+    → Runs P O j [] log → new ≡ log → p ≡ phase.Stopped → asked ≡ None → IsWhole (value_of j P O new asked p) p × IsRoomy asked len capacity
+stopped_now P O j log new asked p len capacity r e s a =
+    subst (λ asked. IsWhole (value_of j P O new asked p) p × IsRoomy asked len capacity) (sym a)
+    (subst (λ p. IsWhole (value_of j P O new None p) p) (sym s) (stopped_whole P O j log new r e), tt)
+
+pub stopped_value : (J : JobValue) (P : Parts) (O : Archive) (j : ℕ) (log : List Logged) (old asked : Option Asked) (q p : Phase)
+    → value_of j P O log old q ≡ J → p ≡ phase.Stopped → asked ≡ None → value_of j P O log asked p ≡ stopped_job J
+stopped_value J P O j log old asked q p v s a =
+    ap (λ p. value_of j P O log asked p) s ∙ (ap (λ asked. value_of j P O log asked phase.Stopped) a ∙ ap (λ J. stopped_job J) v)
+
 -- An answer.
 abbrev entry_of : ℕ → Asked → Answer → Logged
 entry_of j a answer = record { side = a.side; step = record { job = j; op = a.op; answer = answer } }
@@ -133,3 +144,8 @@ pub ends_as : (P : Parts) (O : Archive) (log : List Logged) (p : Phase) (n : Nex
 ends_as P O log (phase.Looking l) n e = ap end_by (sym e)
 ends_as P O log (phase.Making s) n e = ap end_by (sym e)
 ends_as P O log phase.Stopped n e = ap end_by (sym e)
+
+pub finished_by : (n : Next) → end_by n ≡ end.Finished → n ≡ Finished
+finished_by (Ask side op) e = cc
+finished_by Finished e = refl
+finished_by Stopped e = cc

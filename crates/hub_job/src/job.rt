@@ -4,24 +4,20 @@ ghost use Rattle.std.specs.Vec.{vec_len, vec_capacity};
 ghost use Rattle.hub_job.specs.Ends as ends;
 ghost use Rattle.hub_job.specs.JobValue as value;
 ghost use Rattle.hub_job.specs.Machine.{Fits};
-ghost use Rattle.hub_path.specs.declared.side.Side.TheVariants as of_side;
-ghost use Rattle.hub_reconcile.specs.Items.{items};
-ghost use Rattle.hub_reconcile.specs.Sync.{next_archive};
-ghost use Rattle.hub_job.specs.Phase.{Follows, IsNext, IsWaiting, asked_by, is_stopped};
+ghost use Rattle.hub_job.specs.Phase.{Follows, IsNext, asked_by, is_stopped};
 ghost use Rattle.hub_job.specs.Run.{Runs};
 ghost use Rattle.hub_job.specs.Job as spec;
 
 use crate::answer::Answer;
 use crate::asked::Asked;
-use crate::job_end::{End, JobEnd};
+use crate::job_end::{JobEnd, ended_job};
 use crate::known::Known;
 use crate::log::{Entry, Logged};
 use crate::looks::Looks;
 use crate::op::Next;
 use crate::phase::{Phase, next_of};
-use crate::planned::ending;
 use hub_profile::Profile;
-use hub_text::{Items, is_equal};
+use hub_text::is_equal;
 use hub_tree::Archive;
 use std::alloc::{AllocError, Global};
 use std::marker::Model;
@@ -112,14 +108,11 @@ impl<'a> Job<'a> {
             &mut self.log,
             &mut self.phase,
             &mut self.known,
+            &mut self.asked,
         ) {
-            Ok((next, asked)) => {
-                self.asked = asked;
-                next
-            }
+            Ok(next) => next,
             Err(AllocError) => {
-                self.phase = Phase::Stopped;
-                self.asked = None;
+                stop(&mut self.phase, &mut self.asked);
                 Next::Stopped
             }
         }
@@ -139,8 +132,7 @@ impl<'a> Job<'a> {
     pub fn stop(&mut self)
         ensures { self.new ≡ value.stopped_job self.old }
     {
-        self.phase = Phase::Stopped;
-        self.asked = None;
+        stop(&mut self.phase, &mut self.asked);
     }
 
     /// Borrows what the job asked, and the answers, in their order.
@@ -160,19 +152,13 @@ impl<'a> Job<'a> {
     {
         let Job {
             alloc,
-            number: _,
             profile,
             archive,
             log,
-            asked: _,
-            mut phase,
-            known: _,
+            phase,
+            ..
         } = self;
-        match next_of(alloc, profile, archive, log.as_slice(), &mut phase)? {
-            Next::Finished => finished_job(alloc, profile, archive, log),
-            Next::Ask(_, _) => Ok((other_job(alloc, End::Unfinished, log), None)),
-            Next::Stopped => Ok((other_job(alloc, End::Stopped, log), None)),
-        }
+        ended_job(alloc, profile, archive, log, phase)
     }
 
     /// Borrows the profile that the job was made for.
@@ -218,7 +204,16 @@ fn push_answer(log: &mut Vec<Logged>, job: usize, asked: Option<Asked>, answer: 
     }
 }
 
-/// Returns what a job does next, and what it then has asked, and makes room in the log for the answer. Out of memory may
+/// Stops a job: it has asked nothing.
+fn stop(phase: &mut Phase, asked: &mut Option<Asked>)
+    ensures phase { phase.new ≡ Phase.Stopped }
+    ensures asked { asked.new ≡ None }
+{
+    *phase = Phase::Stopped;
+    *asked = None;
+}
+
+/// Returns what a job does next, notes what it then has asked, and makes room in the log for the answer. Out of memory may
 /// leave any phase.
 fn ask(
     alloc: Global,
@@ -227,25 +222,37 @@ fn ask(
     log: &mut Vec<Logged>,
     phase: &mut Phase,
     known: &mut Known<'_>,
-) -> Result<(Next, Option<Asked>), AllocError>
+    asked: &mut Option<Asked>,
+) -> Result<Next, AllocError>
     requires follows { Follows profile.now archive.now log.old.items phase.old }
     requires run { (j : ℕ) × Runs profile.now archive.now j [] log.old.items }
-    ensures next { IfOk result
-        (λ r. IsNext profile.now archive.now log.old.items phase.new r.0) }
-    ensures asked { IfOk result (λ r. r.1 ≡ asked_by r.0) }
+    ensures next { IfOk result (IsNext profile.now archive.now log.old.items phase.new) }
+    ensures asked { IfOk result (λ n. asked.new ≡ asked_by n) }
     ensures stopped { OnOk result (is_stopped phase.new ≡ is_stopped phase.old) }
     ensures log { log.new.items ≡ log.old.items }
-    ensures room { IfOk result
-        (λ r. value.IsRoomy r.1 (vec_len log.new) (vec_capacity log.new)) }
+    ensures room { OnOk result
+        (value.IsRoomy asked.new (vec_len log.new) (vec_capacity log.new)) }
     ensures memory { 0 < spec.steps_made log.old.items
         → spec.is_ask (spec.next profile.now archive.now log.old.items) ≡ false
         → IsOk result }
 {
     let next = next_of(alloc, profile, archive, log.as_slice(), phase)?;
     let next = known.sharing(next);
-    let asked = asked_of(&next)?;
-    make_room(log, &asked)?;
-    Ok((next, asked))
+    note(log, asked, &next)?;
+    Ok(next)
+}
+
+/// Notes what is asked, if a job does this next, and makes room in the log for the answer.
+#[tactic(auto, using(crate::proofs::Phases::none_asked))]
+fn note(log: &mut Vec<Logged>, asked: &mut Option<Asked>, next: &Next) -> Result<(), AllocError>
+    ensures asked { OnOk result (asked.new ≡ asked_by next.now) }
+    ensures log { log.new.items ≡ log.old.items }
+    ensures room { OnOk result
+        (value.IsRoomy asked.new (vec_len log.new) (vec_capacity log.new)) }
+    ensures memory { spec.is_ask next.now ≡ false → IsOk result }
+{
+    *asked = asked_of(next)?;
+    make_room(log, asked)
 }
 
 /// Makes room in a log for the answer to what is asked, if something is.
@@ -273,41 +280,5 @@ fn asked_of(next: &Next) -> Result<Option<Asked>, AllocError>
         })),
         Next::Finished => Ok(None),
         Next::Stopped => Ok(None),
-    }
-}
-
-/// Ends a job that has done all.
-fn finished_job(
-    alloc: Global,
-    profile: &Profile,
-    archive: &Archive,
-    log: Vec<Logged>,
-) -> Result<(JobEnd, Option<Archive>), AllocError>
-    requires left { IsWaiting profile.now log.items of_side.Left [] }
-    requires right { IsWaiting profile.now log.items of_side.Right [] }
-    ensures end { IfOk result (λ e. e.0.end ≡ End.Finished) }
-    ensures log { IfOk result (λ e. e.0.log ≡ log.items) }
-    ensures items { IfOk result (λ e. e.0.items
-        ≡ items (spec.view_in profile.now archive.now log.items)) }
-    ensures archive { IfOk result (λ e. e.1
-        ≡ Some (next_archive (spec.view_in profile.now archive.now log.items) archive.now)) }
-{
-    let (items, next) = ending(alloc, profile, archive, log.as_slice())?;
-    let end = JobEnd {
-        end: End::Finished,
-        log: Items::from_vec(log),
-        items,
-    };
-    Ok((end, Some(next)))
-}
-
-/// Ends a job that hasn't done all.
-fn other_job(alloc: Global, end: End, log: Vec<Logged>) -> JobEnd
-    ensures { result ≡ record { end = end; log = log.items; items = [] } }
-{
-    JobEnd {
-        end,
-        log: Items::from_vec(log),
-        items: Items::new(alloc),
     }
 }

@@ -1,6 +1,21 @@
+ghost use Rattle.std.specs.Prelude.{◌≡◌, ℕ, [], IfOk, if◌then◌else◌};
+ghost use Rattle.hub_path.specs.declared.side.Side.TheVariants as of_side;
+ghost use Rattle.hub_reconcile.specs.Items.{items};
+ghost use Rattle.hub_reconcile.specs.Sync.{next_archive};
+ghost use Rattle.hub_job.specs.Ends.{end_by, is_finished};
+ghost use Rattle.hub_job.specs.Job.{next, view_in};
+ghost use Rattle.hub_job.specs.Phase.{Follows, IsWaiting, is_stopped};
+ghost use Rattle.hub_job.specs.Run.{Runs};
+
 use crate::log::Logged;
+use crate::op::Next;
+use crate::phase::{Phase, next_of};
+use crate::planned::ending;
+use hub_profile::Profile;
 use hub_reconcile::Item;
 use hub_text::Items;
+use hub_tree::Archive;
+use std::alloc::{AllocError, Global};
 
 /// How a job ended.
 #[derive(Clone, Copy, Debug, PartialEq, Eq)]
@@ -22,4 +37,90 @@ pub struct JobEnd {
     pub log: Items<Logged>,
     /// What its two replicas differed in, in ascending order, if it is finished; else nothing.
     pub items: Items<Item>,
+}
+
+/// Ends a job with this log, in this phase.
+pub(crate) fn ended_job(
+    alloc: Global,
+    profile: &Profile,
+    archive: &Archive,
+    log: Vec<Logged>,
+    phase: Phase,
+) -> Result<(JobEnd, Option<Archive>), AllocError>
+    requires follows { Follows profile.now archive.now log.items phase }
+    requires run { (j : ℕ) × Runs profile.now archive.now j [] log.items }
+    ensures end { IfOk result (λ e. e.0.end ≡ (if is_stopped phase then End.Stopped
+        else end_by (next profile.now archive.now log.items))) }
+    ensures log { IfOk result (λ e. e.0.log ≡ log.items) }
+    ensures items { let end = if is_stopped phase then End.Stopped
+        else end_by (next profile.now archive.now log.items) in
+        IfOk result (λ e. e.0.items ≡ (if is_finished end
+        then items (view_in profile.now archive.now log.items) else [])) }
+    ensures archive { let end = if is_stopped phase then End.Stopped
+        else end_by (next profile.now archive.now log.items) in
+        IfOk result (λ e. e.1 ≡ (if is_finished end then Some
+        (next_archive (view_in profile.now archive.now log.items) archive.now) else None)) }
+{
+    let entries = log.as_slice();
+    let end = end_in(alloc, profile, archive, entries, phase)?;
+    let (items, next) = left_by(alloc, profile, archive, entries, end)?;
+    let log = Items::from_vec(log);
+    Ok((JobEnd { end, log, items }, next))
+}
+
+/// Returns how a job with this log ends in this phase.
+fn end_in(
+    alloc: Global,
+    profile: &Profile,
+    archive: &Archive,
+    log: &[Logged],
+    phase: Phase,
+) -> Result<End, AllocError>
+    requires follows { Follows profile.now archive.now log.now phase }
+    requires run { (j : ℕ) × Runs profile.now archive.now j [] log.now }
+    ensures end { IfOk result (λ e. e ≡ (if is_stopped phase then End.Stopped
+        else end_by (next profile.now archive.now log.now))) }
+    ensures finished { IfOk result (λ e. e ≡ End.Finished
+        → IsWaiting profile.now log.now of_side.Left []
+        × IsWaiting profile.now log.now of_side.Right []) }
+{
+    let mut phase = phase;
+    let next = next_of(alloc, profile, archive, log, &mut phase)?;
+    Ok(end_before(&next))
+}
+
+/// Returns how a job ends that does this next.
+fn end_before(next: &Next) -> End
+    ensures { result ≡ end_by next.now }
+{
+    match next {
+        Next::Ask(_, _) => End::Unfinished,
+        Next::Finished => End::Finished,
+        Next::Stopped => End::Stopped,
+    }
+}
+
+/// Returns the items and the next archive of a job that ends so. Only a finished job has them.
+fn left_by(
+    alloc: Global,
+    profile: &Profile,
+    archive: &Archive,
+    log: &[Logged],
+    end: End,
+) -> Result<(Items<Item>, Option<Archive>), AllocError>
+    requires { end ≡ End.Finished → IsWaiting profile.now log.now of_side.Left []
+        × IsWaiting profile.now log.now of_side.Right [] }
+    ensures items { IfOk result (λ l. l.0 ≡ (if is_finished end
+        then items (view_in profile.now archive.now log.now) else [])) }
+    ensures archive { IfOk result (λ l. l.1 ≡ (if is_finished end then Some
+        (next_archive (view_in profile.now archive.now log.now) archive.now) else None)) }
+{
+    match end {
+        End::Finished => {
+            let (items, next) = ending(alloc, profile, archive, log)?;
+            Ok((items, Some(next)))
+        }
+        End::Stopped => Ok((Items::new(alloc), None)),
+        End::Unfinished => Ok((Items::new(alloc), None)),
+    }
 }

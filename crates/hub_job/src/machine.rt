@@ -158,13 +158,21 @@ fn split_names(
     let mut reached = Vec::new(alloc);
     let mut others = false;
     for name in names.into_vec() {
-        if reaches(profile, &path.child(name.copy()?)?) {
+        if is_reached(profile, path, &name)? {
             reached.push(name)?;
         } else {
             others = true;
         }
     }
     Ok((Items::from_vec(reached), others))
+}
+
+/// Returns whether the profile reaches the child of a path that has this name.
+fn is_reached(profile: &Profile, path: &RelPath, name: &Name) -> Result<bool, AllocError>
+    ensures { IfOk result (λ b. b ≡ reach profile.now (path.now ++ name.now ∷ [])) }
+{
+    let child = path.child(name.copy()?)?;
+    Ok(reaches(profile, &child))
 }
 
 /// Returns whether the whole replica is a kept value.

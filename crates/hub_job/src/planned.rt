@@ -64,14 +64,18 @@ pub(crate) fn steps_after(
 fn looks_at<'a>(alloc: Global, log: &'a [Logged], side: Side) -> Result<Vec<Look<'a>>, AllocError>
     ensures { IfOk result (λ v. told_by v.items ≡ sights log.now side) }
 {
-    let here = log.iter().filter(|entry| is_side(entry.side, side)).count();
-    let mut looks = Vec::with_capacity(alloc, here)?;
+    let mut looks = Vec::with_capacity(alloc, count_of(log, side))?;
     for entry in log {
         if is_side(entry.side, side) {
             push_look(&mut looks, &entry.step)?;
         }
     }
     Ok(looks)
+}
+
+/// Returns how many entries of the log are of a side.
+fn count_of(log: &[Logged], side: Side) -> usize {
+    log.iter().filter(|entry| is_side(entry.side, side)).count()
 }
 
 /// Returns whether these are the same side.

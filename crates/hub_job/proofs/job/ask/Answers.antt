@@ -4,7 +4,7 @@ use Rattle.hub_job.specs.Job.{is_ask, next, steps_made}
 use Rattle.hub_job.specs.Phase.{IsNext}
 use Rattle.hub_job.specs.declared.log.Logged.{Logged}
 use Rattle.hub_job.specs.declared.op.Next.{Next}
-use Rattle.hub_job.proofs.Phases.{does_not_ask, none_asked}
+use Rattle.hub_job.proofs.Phases.{does_not_ask}
 use Rattle.hub_job.proofs.job.ask.Goals as goal
 
 pub next_of-requires-clause-follows : goal.next_of-requires-clause-follows
@@ -26,20 +26,10 @@ returns-in_err-next-clause-memory c = λ made asks.
     (c.in_err-next.ensures.memory (subst (λ (es : List Logged). 0 < steps_made es) (sym c.as_slice.ensures.value) made)
     (subst (λ (es : List Logged). is_ask (next c.args.profile.now c.args.archive.now es) ≡ false) (sym c.as_slice.ensures.value) asks)))
 
-pub returns-in_err-asked-clause-memory : goal.returns-in_err-asked-clause-memory
-returns-in_err-asked-clause-memory c = λ made asks.
+pub returns-in_err-note-clause-memory : goal.returns-in_err-note-clause-memory
+returns-in_err-note-clause-memory c = λ made asks.
     absurd
     (false≢true
-    (c.in_err-asked.ensures.memory
+    (c.in_err-note.ensures.memory
     (ap is_ask c.sharing-next.ensures
     ∙ does_not_ask _ _ _ _ _ c.in_ok-next.ensures.next (subst (λ (es : List Logged). is_ask (next c.args.profile.now c.args.archive.now es) ≡ false) (sym c.as_slice.ensures.value) asks))))
-
-pub returns-in_err-make_room-clause-memory : goal.returns-in_err-make_room-clause-memory
-returns-in_err-make_room-clause-memory c = λ made asks.
-    absurd
-    (false≢true
-    (c.in_err-make_room.ensures.memory
-    (c.in_ok-asked.ensures.value
-    ∙ none_asked _
-    (ap is_ask c.sharing-next.ensures
-    ∙ does_not_ask _ _ _ _ _ c.in_ok-next.ensures.next (subst (λ (es : List Logged). is_ask (next c.args.profile.now c.args.archive.now es) ≡ false) (sym c.as_slice.ensures.value) asks)))))

@@ -1,10 +1,10 @@
-use Rattle.std.proofs.Common.{◌≡◌, ◌<◌, false, None, refl, ap, sym, ◌∙◌, subst}
+use Rattle.std.proofs.Common.{◌≡◌, ◌<◌, false, ap, sym, ◌∙◌, subst}
 use Rattle.std.proofs.lemmas.Bool.{false≢true}
 use Rattle.hub_job.specs.declared.op.Next.TheVariants.{Stopped}
-use Rattle.hub_job.specs.declared.phase.Phase.TheVariants as phase
 use Rattle.hub_job.specs.JobValue.{JobValue}
 use Rattle.hub_job.specs.Job.{is_ask, next, steps_made}
-use Rattle.hub_job.proofs.Jobs.{stopped_whole, turned, turned_value}
+use Rattle.hub_job.specs.Phase.{is_stopped}
+use Rattle.hub_job.proofs.Jobs.{stopped_now, turned, turned_value}
 use Rattle.hub_job.proofs.Phases.{does_next, does_nothing}
 use Rattle.hub_job.proofs.job.Job.turn.Goals as goal
 
@@ -22,7 +22,7 @@ invariant_of-self c =
 pub invariant_of-self-in-Err : goal.invariant_of-self-in-Err
 invariant_of-self-in-Err c =
     let s = c.self.inside in
-    (stopped_whole s.profile.now s.archive.now s.number _ _ c.self.invariant.0.job.run c.in-Err.ensures.log, tt)
+    stopped_now s.profile.now s.archive.now s.number _ _ _ _ _ _ c.self.invariant.0.job.run c.in-Err.ensures.log c.stop.ensures.phase c.stop.ensures.asked
 
 pub returns-in-Ok-clause-next : goal.returns-in-Ok-clause-next
 returns-in-Ok-clause-next c = λ s.
@@ -43,10 +43,16 @@ returns-in-Ok-clause-stays c = λ s. c.in-Ok.ensures.stopped ∙ (ap (λ (J : Jo
 pub returns-in-Ok-clause-memory : goal.returns-in-Ok-clause-memory
 returns-in-Ok-clause-memory c = λ s made asks. c.in-Ok.ensures.stopped ∙ (ap (λ (J : JobValue). J.stopped) c.self.view_is ∙ s)
 
+pub returns-in-Err-clause-next : goal.returns-in-Err-clause-next
+returns-in-Err-clause-next c = λ s. absurd (false≢true (sym s ∙ ap is_stopped c.stop.ensures.phase))
+
 pub returns-in-Err-clause-after : goal.returns-in-Err-clause-after
 returns-in-Err-clause-after c =
     let s = c.self.inside in
-    turned_value c.args.self.now s.profile.now s.archive.now s.number s.log.items _ s.asked None s.phase phase.Stopped Stopped c.self.view_is c.in-Err.ensures.log refl
+    turned_value c.args.self.now s.profile.now s.archive.now s.number s.log.items _ s.asked _ s.phase _ Stopped c.self.view_is c.in-Err.ensures.log c.stop.ensures.asked
+
+pub returns-in-Err-clause-stays : goal.returns-in-Err-clause-stays
+returns-in-Err-clause-stays c = λ s. ap is_stopped c.stop.ensures.phase
 
 pub returns-in-Err-clause-memory : goal.returns-in-Err-clause-memory
 returns-in-Err-clause-memory c = λ s made asks.

@@ -155,10 +155,10 @@ impl<'a> Job<'a> {
             profile,
             archive,
             log,
-            phase,
+            mut phase,
             ..
         } = self;
-        ended_job(alloc, profile, archive, log, phase)
+        ended_job(alloc, profile, archive, log, &mut phase)
     }
 
     /// Borrows the profile that the job was made for.

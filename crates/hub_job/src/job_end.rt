@@ -45,18 +45,18 @@ pub(crate) fn ended_job(
     profile: &Profile,
     archive: &Archive,
     log: Vec<Logged>,
-    phase: Phase,
+    phase: &mut Phase,
 ) -> Result<(JobEnd, Option<Archive>), AllocError>
-    requires follows { Follows profile.now archive.now log.items phase }
+    requires follows { Follows profile.now archive.now log.items phase.old }
     requires run { (j : ℕ) × Runs profile.now archive.now j [] log.items }
-    ensures end { IfOk result (λ e. e.0.end ≡ (if is_stopped phase then End.Stopped
+    ensures end { IfOk result (λ e. e.0.end ≡ (if is_stopped phase.old then End.Stopped
         else end_by (next profile.now archive.now log.items))) }
     ensures log { IfOk result (λ e. e.0.log ≡ log.items) }
-    ensures items { let end = if is_stopped phase then End.Stopped
+    ensures items { let end = if is_stopped phase.old then End.Stopped
         else end_by (next profile.now archive.now log.items) in
         IfOk result (λ e. e.0.items ≡ (if is_finished end
         then items (view_in profile.now archive.now log.items) else [])) }
-    ensures archive { let end = if is_stopped phase then End.Stopped
+    ensures archive { let end = if is_stopped phase.old then End.Stopped
         else end_by (next profile.now archive.now log.items) in
         IfOk result (λ e. e.1 ≡ (if is_finished end then Some
         (next_archive (view_in profile.now archive.now log.items) archive.now) else None)) }
@@ -74,18 +74,17 @@ fn end_in(
     profile: &Profile,
     archive: &Archive,
     log: &[Logged],
-    phase: Phase,
+    phase: &mut Phase,
 ) -> Result<End, AllocError>
-    requires follows { Follows profile.now archive.now log.now phase }
+    requires follows { Follows profile.now archive.now log.now phase.old }
     requires run { (j : ℕ) × Runs profile.now archive.now j [] log.now }
-    ensures end { IfOk result (λ e. e ≡ (if is_stopped phase then End.Stopped
+    ensures end { IfOk result (λ e. e ≡ (if is_stopped phase.old then End.Stopped
         else end_by (next profile.now archive.now log.now))) }
     ensures finished { IfOk result (λ e. e ≡ End.Finished
         → IsWaiting profile.now log.now of_side.Left []
         × IsWaiting profile.now log.now of_side.Right []) }
 {
-    let mut phase = phase;
-    let next = next_of(alloc, profile, archive, log, &mut phase)?;
+    let next = next_of(alloc, profile, archive, log, phase)?;
     Ok(end_before(&next))
 }
 

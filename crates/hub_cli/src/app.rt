@@ -1,7 +1,9 @@
 //! The command line in `clap`'s terms, with its texts of help.
+//!
+//! A `Command` is large, so it is passed on in a `Box`.
 
-ghost use Rattle.std.specs.Prelude.{◌≡◌, IfOk, codes, false};
-ghost use Rattle.clap.specs.Words.{app_of, new_app, rule_of, with_subcommand};
+ghost use Rattle.std.specs.Prelude.{◌≡◌, IfOk, Ok, codes, false};
+ghost use Rattle.clap.specs.Words.{app_of, new_app, rule_of, with_rule, with_subcommand};
 ghost use Rattle.clap.specs.declared.builder.command.Command.TheViews.{out-Command as fields_of};
 ghost use Rattle.hub_cli.specs.Words as words;
 ghost use Rattle.hub_cli.specs.Words.{about_app, checker_app, clashes_app, hubsync_app, reach_app, run_app, set_app, top_app};
@@ -14,15 +16,65 @@ use std::alloc::{AllocError, Global};
 /// The version that `--version` shows.
 const VERSION: &str = "0.1.0";
 
-/// A command without operands and options, with its texts of help.
-fn plain_command<'a>(alloc: Global, name: &'a str, help: Help) -> Command<'a>
-    ensures app { app_of result ≡ new_app name.now }
-    ensures local { (fields_of result).has_globals ≡ false }
+/// Boxes a command, if it was made.
+fn boxed<'a>(
+    alloc: Global,
+    command: Result<Command<'a>, AllocError>,
+) -> Result<Box<Command<'a>>, AllocError>
+    ensures { IfOk result (λ c. command.entry ≡ Ok c.value) }
 {
-    Command::new(alloc, name)
-        .about(help.about)
-        .override_usage(help.usage)
-        .after_help(help.example)
+    Ok(Box::new(alloc, command?)?)
+}
+
+/// A command without operands and options, with its texts of help.
+fn plain_command<'a>(
+    alloc: Global,
+    name: &'a str,
+    help: Help,
+) -> Result<Box<Command<'a>>, AllocError>
+    ensures app { IfOk result (λ c. app_of c.value ≡ new_app name.now) }
+    ensures local { IfOk result (λ c. (fields_of c.value).has_globals ≡ false) }
+{
+    boxed(
+        alloc,
+        Ok(
+            Command::new(alloc, name)
+                .about(help.about)
+                .override_usage(help.usage)
+                .after_help(help.example),
+        ),
+    )
+}
+
+/// A command with one more operand or option.
+fn with_argument<'a>(
+    alloc: Global,
+    command: Box<Command<'a>>,
+    arg: Arg<'a>,
+) -> Result<Box<Command<'a>>, AllocError>
+    requires local { (fields_of command.value).has_globals ≡ false }
+    requires arg_local { arg.global ≡ false }
+    ensures app { IfOk result
+        (λ c. app_of c.value ≡ with_rule (app_of command.entry.value) (rule_of arg.entry)) }
+    ensures local { IfOk result (λ c. (fields_of c.value).has_globals ≡ false) }
+{
+    boxed(alloc, Box::into_inner(command).arg(arg))
+}
+
+/// A command with one more command.
+fn with_command<'a>(
+    alloc: Global,
+    top: Box<Command<'a>>,
+    command: Box<Command<'a>>,
+) -> Result<Box<Command<'a>>, AllocError>
+    requires { (fields_of command.value).has_globals ≡ false }
+    ensures { IfOk result (λ c. app_of c.value
+        ≡ with_subcommand (app_of top.entry.value) (app_of command.entry.value).top) }
+{
+    boxed(
+        alloc,
+        Box::into_inner(top).subcommand(Box::into_inner(command)),
+    )
 }
 
 /// The operands of a command about the set.
@@ -58,45 +110,70 @@ fn flag<'a>(alloc: Global, name: &'a str, help: &'a str) -> Arg<'a>
         .help(help)
 }
 
-/// A command about the set, which may take files.
-fn set_command<'a>(alloc: Global, name: &'a str, help: Help) -> Result<Command<'a>, AllocError>
-    ensures app { IfOk result (λ c. app_of c ≡ set_app name.now) }
-    ensures local { IfOk result (λ c. (fields_of c).has_globals ≡ false) }
+/// A command with one more option that names a file.
+fn with_file_option<'a>(
+    alloc: Global,
+    command: Box<Command<'a>>,
+    name: &'a str,
+    help: &'a str,
+) -> Result<Box<Command<'a>>, AllocError>
+    requires { (fields_of command.value).has_globals ≡ false }
+    ensures app { IfOk result (λ c. app_of c.value
+        ≡ with_rule (app_of command.entry.value) (words.file_option name.now)) }
+    ensures local { IfOk result (λ c. (fields_of c.value).has_globals ≡ false) }
 {
-    let rules = file_option(alloc, "rules", "The file of the rules");
-    let state = file_option(alloc, "state", "The file of the state");
-    let certificates = file_option(alloc, "certificates", "The file of the certificates");
-    let command = plain_command(alloc, name, help).arg(files_operand(alloc))?;
-    let command = command.arg(rules)?.arg(state)?;
-    command.arg(certificates)
+    with_argument(alloc, command, file_option(alloc, name, help))
 }
 
-/// The command `run`.
-fn run_command<'a>(alloc: Global) -> Result<Command<'a>, AllocError>
-    ensures app { IfOk result (λ c. app_of c ≡ run_app) }
-    ensures local { IfOk result (λ c. (fields_of c).has_globals ≡ false) }
+/// A command about the set, which may take files.
+fn set_command<'a>(alloc: Global, name: &'a str, help: Help) -> Result<Box<Command<'a>>, AllocError>
+    ensures app { IfOk result (λ c. app_of c.value ≡ set_app name.now) }
+    ensures local { IfOk result (λ c. (fields_of c.value).has_globals ≡ false) }
 {
-    let workers = Arg::new(alloc, "workers")
+    let command = plain_command(alloc, name, help)?;
+    let command = with_argument(alloc, command, files_operand(alloc))?;
+    let command = with_file_option(alloc, command, "rules", "The file of the rules")?;
+    let command = with_file_option(alloc, command, "state", "The file of the state")?;
+    with_file_option(
+        alloc,
+        command,
+        "certificates",
+        "The file of the certificates",
+    )
+}
+
+/// The option `--workers N`.
+fn workers_option<'a>(alloc: Global) -> Arg<'a>
+    ensures rule { rule_of result ≡ words.workers_option }
+    ensures local { result.global ≡ false }
+{
+    Arg::new(alloc, "workers")
         .long("workers")
         .value_name("N")
         .help("How many workers run the jobs, from 1 to 16")
         .value_parser(value_parser!(u8))
-        .default_value(DEFAULT_WORKERS_TEXT);
-    let rounds = flag(
-        alloc,
-        "rounds",
-        "Run the rounds of the set one after another",
-    );
-    set_command(alloc, "run", RUN)?.arg(workers)?.arg(rounds)
+        .default_value(DEFAULT_WORKERS_TEXT)
+}
+
+/// The command `run`.
+fn run_command<'a>(alloc: Global) -> Result<Box<Command<'a>>, AllocError>
+    ensures app { IfOk result (λ c. app_of c.value ≡ run_app) }
+    ensures local { IfOk result (λ c. (fields_of c.value).has_globals ≡ false) }
+{
+    let command = set_command(alloc, "run", RUN)?;
+    let command = with_argument(alloc, command, workers_option(alloc))?;
+    let rounds = "Run the rounds of the set one after another";
+    with_argument(alloc, command, flag(alloc, "rounds", rounds))
 }
 
 /// The command `clashes`.
-fn clashes_command<'a>(alloc: Global) -> Result<Command<'a>, AllocError>
-    ensures app { IfOk result (λ c. app_of c ≡ clashes_app) }
-    ensures local { IfOk result (λ c. (fields_of c).has_globals ≡ false) }
+fn clashes_command<'a>(alloc: Global) -> Result<Box<Command<'a>>, AllocError>
+    ensures app { IfOk result (λ c. app_of c.value ≡ clashes_app) }
+    ensures local { IfOk result (λ c. (fields_of c.value).has_globals ≡ false) }
 {
-    let dot = flag(alloc, "dot", "Draw what clashes as a graph for Graphviz");
-    set_command(alloc, "clashes", CLASHES)?.arg(dot)
+    let command = set_command(alloc, "clashes", CLASHES)?;
+    let dot = "Draw what clashes as a graph for Graphviz";
+    with_argument(alloc, command, flag(alloc, "dot", dot))
 }
 
 /// A required operand, with its text of help.
@@ -111,70 +188,68 @@ fn operand<'a>(alloc: Global, id: &'a str, value_name: &'a str, help: &'a str) -
 }
 
 /// The command `reach`.
-fn reach_command<'a>(alloc: Global) -> Result<Command<'a>, AllocError>
-    ensures app { IfOk result (λ c. app_of c ≡ reach_app) }
-    ensures local { IfOk result (λ c. (fields_of c).has_globals ≡ false) }
+fn reach_command<'a>(alloc: Global) -> Result<Box<Command<'a>>, AllocError>
+    ensures app { IfOk result (λ c. app_of c.value ≡ reach_app) }
+    ensures local { IfOk result (λ c. (fields_of c.value).has_globals ≡ false) }
 {
-    let profile = operand(
+    let profile = "The name of a profile in the input";
+    let path = "A path below the roots; put -- before a word that begins with -";
+    let command = plain_command(alloc, "reach", REACH)?;
+    let command = with_argument(
         alloc,
-        "profile",
-        "PROFILE",
-        "The name of a profile in the input",
-    );
-    let path = operand(
-        alloc,
-        "path",
-        "PATH",
-        "A path below the roots; put -- before a word that begins with -",
-    );
-    plain_command(alloc, "reach", REACH).arg(profile)?.arg(path)
+        command,
+        operand(alloc, "profile", "PROFILE", profile),
+    )?;
+    with_argument(alloc, command, operand(alloc, "path", "PATH", path))
 }
 
 /// A command with one more command, which is about the set.
 fn with_set<'a>(
     alloc: Global,
-    top: Command<'a>,
+    top: Box<Command<'a>>,
     name: &'a str,
     help: Help,
-) -> Result<Command<'a>, AllocError>
-    ensures { IfOk result
-        (λ c. app_of c ≡ with_subcommand (app_of top.entry) (set_app name.now).top) }
+) -> Result<Box<Command<'a>>, AllocError>
+    ensures { IfOk result (λ c. app_of c.value
+        ≡ with_subcommand (app_of top.entry.value) (set_app name.now).top) }
 {
-    top.subcommand(set_command(alloc, name, help)?)
+    with_command(alloc, top, set_command(alloc, name, help)?)
 }
 
 /// The program's command before it has commands.
-fn top_command<'a>(alloc: Global) -> Command<'a>
-    ensures { app_of result ≡ top_app }
+fn top_command<'a>(alloc: Global) -> Result<Box<Command<'a>>, AllocError>
+    ensures { IfOk result (λ c. app_of c.value ≡ top_app) }
 {
-    plain_command(alloc, "hubsync", HUBSYNC)
-        .version(VERSION)
-        .after_long_help(LONG)
+    let top = plain_command(alloc, "hubsync", HUBSYNC)?;
+    boxed(
+        alloc,
+        Ok(Box::into_inner(top).version(VERSION).after_long_help(LONG)),
+    )
 }
 
 /// The program's command with the commands of the checker.
-fn checker_command<'a>(alloc: Global) -> Result<Command<'a>, AllocError>
-    ensures { IfOk result (λ c. app_of c ≡ checker_app) }
+fn checker_command<'a>(alloc: Global) -> Result<Box<Command<'a>>, AllocError>
+    ensures { IfOk result (λ c. app_of c.value ≡ checker_app) }
 {
-    let top = with_set(alloc, top_command(alloc), "check", CHECK)?;
+    let top = with_set(alloc, top_command(alloc)?, "check", CHECK)?;
     let top = with_set(alloc, top, "certify", CERTIFY)?;
     with_set(alloc, top, "verify", VERIFY)
 }
 
 /// The program's command with all commands about the set but `run`.
-fn about_command<'a>(alloc: Global) -> Result<Command<'a>, AllocError>
-    ensures { IfOk result (λ c. app_of c ≡ about_app) }
+fn about_command<'a>(alloc: Global) -> Result<Box<Command<'a>>, AllocError>
+    ensures { IfOk result (λ c. app_of c.value ≡ about_app) }
 {
     let top = checker_command(alloc)?;
-    let top = top.subcommand(clashes_command(alloc)?)?;
+    let top = with_command(alloc, top, clashes_command(alloc)?)?;
     with_set(alloc, top, "rounds", ROUNDS)
 }
 
 /// The program's command, with its texts of help.
-pub(crate) fn command<'a>(alloc: Global) -> Result<Command<'a>, AllocError>
-    ensures { IfOk result (λ c. app_of c ≡ hubsync_app) }
+pub(crate) fn command<'a>(alloc: Global) -> Result<Box<Command<'a>>, AllocError>
+    ensures { IfOk result (λ c. app_of c.value ≡ hubsync_app) }
 {
     let top = about_command(alloc)?;
-    let top = top.subcommand(reach_command(alloc)?)?;
-    top.subcommand(run_command(alloc)?)
+    let top = with_command(alloc, top, reach_command(alloc)?)?;
+    with_command(alloc, top, run_command(alloc)?)
 }

@@ -6,8 +6,7 @@ ghost use Rattle.clap.specs.declared.error.kind.ErrorKind.TheVariants.{OutOfMemo
 ghost use Rattle.hub_cli.specs.Words as words;
 ghost use Rattle.hub_cli.specs.Words.{are_none, asked_of, files_of, names_in, names_of};
 
-use crate::app::command;
-use crate::words::{asked_in, parse, refusal};
+use crate::words::read_matches;
 use clap::{ArgMatches, Error};
 use std::alloc::{AllocError, Global};
 use std::convert::AsStr;
@@ -49,12 +48,8 @@ pub fn read_files<'a, S: AsStr>(alloc: Global, words: &'a [S]) -> Result<Files<'
     ensures err { IfErr result (λ e. (kind_of e ≡ OutOfMemory)
         ⊎ (asked_of (map S.text words.entry.now) ≡ None)) }
 {
-    let mut hubsync = command(alloc)?;
-    let matches = parse(&mut hubsync, words)?;
-    match asked_in(&matches) {
-        Some(_) => Ok(files_in(alloc, &matches)?),
-        None => Err(refusal(alloc, &mut hubsync, &matches)?),
-    }
+    let (_, matches) = read_matches(alloc, words)?;
+    Ok(files_in(alloc, &matches)?)
 }
 
 /// The files that the command that was used names, by the matches.

@@ -75,19 +75,32 @@ pub fn read_words<'a, S: AsStr>(alloc: Global, words: &'a [S]) -> Result<Query<'
     ensures err { IfErr result (λ e. (kind_of e ≡ OutOfMemory)
         ⊎ (asked_of (map S.text words.entry.now) ≡ None)) }
 {
+    let (asked, _) = read_matches(alloc, words)?;
+    Ok(asked)
+}
+
+/// Reads the words by the program's command: what they ask for, and what is found of operands and options.
+pub(crate) fn read_matches<'a, S: AsStr>(
+    alloc: Global,
+    words: &'a [S],
+) -> Result<(Query<'a>, ArgMatches<'a>), Error>
+    ensures asked { IfOk result (λ r. asked_of (map S.text words.entry.now)
+        ≡ Some (request_of r.0)) }
+    ensures files { IfOk result (λ r. files_of (map S.text words.entry.now)
+        ≡ names_in (subcommand_rows_of r.1)) }
+    ensures err { IfErr result (λ e. (kind_of e ≡ OutOfMemory)
+        ⊎ (asked_of (map S.text words.entry.now) ≡ None)) }
+{
     let mut hubsync = command(alloc)?;
     let matches = parse(&mut hubsync, words)?;
     match asked_in(&matches) {
-        Some(asked) => Ok(asked),
+        Some(asked) => Ok((asked, matches)),
         None => Err(refusal(alloc, &mut hubsync, &matches)?),
     }
 }
 
-/// Reads the words by the program's command.
-pub(crate) fn parse<'a, S: AsStr>(
-    hubsync: &mut Command<'a>,
-    words: &'a [S],
-) -> Result<ArgMatches<'a>, Error>
+/// Lets `clap` read the words by the program's command.
+fn parse<'a, S: AsStr>(hubsync: &mut Command<'a>, words: &'a [S]) -> Result<ArgMatches<'a>, Error>
     requires { app_of hubsync.old ≡ hubsync_app }
     ensures asked { IfOk result (λ m. asked_of (map S.text words.entry.now)
         ≡ request_in (subcommand_rows_of m)) }
@@ -102,7 +115,7 @@ pub(crate) fn parse<'a, S: AsStr>(
 
 /// The error for words that `clap` takes and that ask for nothing: an operand that isn't the file of a profile, or else one
 /// that is missing.
-pub(crate) fn refusal<'a>(
+fn refusal<'a>(
     alloc: Global,
     hubsync: &mut Command<'a>,
     matches: &ArgMatches<'a>,
@@ -132,7 +145,7 @@ fn stray_operand<'a>(matches: &ArgMatches<'a>) -> Option<&'a str> {
 
 /// What was asked for, by the matches. A `None` is an unknown command, one without its operands, or one with an operand
 /// that isn't the file of a profile.
-pub(crate) fn asked_in<'a>(matches: &ArgMatches<'a>) -> Option<Query<'a>>
+fn asked_in<'a>(matches: &ArgMatches<'a>) -> Option<Query<'a>>
     ensures { option_map request_of result ≡ request_in (subcommand_rows_of matches.now) }
 {
     let Some((name, operands)) = matches.subcommand() else {

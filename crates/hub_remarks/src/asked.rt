@@ -1,10 +1,10 @@
 //! Remarks on what the words on the command line ask for.
 
 use crate::ignored::ignoring_line;
-use crate::refusal::say_kept;
-use crate::value::path_remedy;
+use crate::refusal::{has_no_path, line_above, say_kept};
+use crate::value::{path_remedy, say_below};
 use hub_source::{Said, Source, covers, name_of, nearest, say, say_placed};
-use std::alloc::AllocError;
+use std::alloc::{AllocError, Global};
 
 /// The commands.
 const COMMANDS: [&str; 8] = [
@@ -91,46 +91,74 @@ fn operands(words: &[String]) -> (&str, &str) {
 
 /// Says how to write a path that begins with `/`: below the profile's root, if it lies there.
 fn say_below_root(out: &mut String, source: &Source<'_>, name: &str, path: &str) -> Said {
+    let profile = section_named(source, name).unwrap_or(0);
+    say_below(out, below_root(source, profile, path))
+}
+
+/// What of a path is below the last root of a profile that covers it. It is the path itself if none does.
+fn below_root<'p>(source: &Source<'_>, profile: usize, path: &'p str) -> &'p str {
     let mut below = path;
-    let profile = section_named(source, name)?.unwrap_or(0);
-    let roots = source.settings(profile, "root")?;
-    for line in roots.as_slice() {
-        let root = line.value_of("root").unwrap_or("");
-        if covers(root, path) {
-            below = path.strip_prefix(root).unwrap_or(path);
+    for line in source.section_lines(profile) {
+        if let Some(root) = line.value_of("root") {
+            if covers(root, path) {
+                below = path.strip_prefix(root).unwrap_or(path);
+            }
         }
     }
-    let below = below.trim_start_matches('/');
-    writeln!(out, "hubsync: a path is below the roots: write {below}")
+    below
 }
 
 /// The section of the first profile of that name.
-fn section_named(source: &Source<'_>, name: &str) -> Result<Option<usize>, AllocError> {
-    let profiles = source.profiles()?;
-    for profile in profiles.as_slice() {
-        if profile.profile() == Some(name) {
-            return Ok(Some(profile.section));
+fn section_named(source: &Source<'_>, name: &str) -> Option<usize> {
+    for line in source.lines() {
+        if line.profile() == Some(name) {
+            return Some(line.section);
         }
     }
-    Ok(None)
+    None
 }
 
 /// Says which profiles there are.
 pub(crate) fn say_profiles(out: &mut String, source: &Source<'_>, asked: &str) -> Said {
-    let profiles = source.profiles()?;
-    if profiles.is_empty() || !source.is_whole() {
+    let names = profile_names(source)?;
+    if names.is_empty() || !source.is_whole() {
         return say(out, "a profile follows a line %profile NAME");
     }
-    write!(out, "hubsync: the profiles are")?;
-    for (i, profile) in profiles.iter().enumerate().take(LISTED) {
-        push_name(out, i, profile.profile().unwrap_or(""))?;
+    say_names(out, source.alloc(), names.as_slice(), asked)
+}
+
+/// The names of the profiles.
+fn profile_names<'a>(source: &Source<'a>) -> Result<Vec<&'a str>, AllocError> {
+    let mut names = Vec::new(source.alloc());
+    for line in source.lines() {
+        if let Some(name) = line.profile() {
+            names.push(name)?;
+        }
     }
-    out.push_str(if profiles.len() > LISTED {
-        ", ..\n"
-    } else {
-        "\n"
-    })?;
-    say_meant(out, source, asked)
+    Ok(names)
+}
+
+/// Says which names there are, and which of those that are listed is near to a word.
+fn say_names(out: &mut String, alloc: Global, names: &[&str], asked: &str) -> Said {
+    out.push_str("hubsync: the profiles are")?;
+    match names.get(..LISTED) {
+        Some(listed) if listed.len() < names.len() => {
+            push_names(out, listed, ", ..\n")?;
+            say_meant(out, alloc, listed, asked)
+        }
+        _ => {
+            push_names(out, names, "\n")?;
+            say_meant(out, alloc, names, asked)
+        }
+    }
+}
+
+/// Adds a list of names, and what follows it.
+fn push_names(out: &mut String, names: &[&str], end: &str) -> Said {
+    for (i, name) in names.iter().enumerate() {
+        push_name(out, i, *name)?;
+    }
+    out.push_str(end)
 }
 
 /// Adds a name to a list in which so many stand before it.
@@ -139,14 +167,9 @@ fn push_name(out: &mut String, before: usize, name: &str) -> Said {
     out.push_str(name)
 }
 
-/// Says which profile's name is near to a word.
-fn say_meant(out: &mut String, source: &Source<'_>, asked: &str) -> Said {
-    let mut names = Vec::new(source.alloc());
-    let profiles = source.profiles()?;
-    for profile in profiles.iter().take(LISTED) {
-        names.push(profile.profile().unwrap_or(""))?;
-    }
-    match nearest(source.alloc(), asked, names.as_slice())? {
+/// Says which of these names is near to a word.
+fn say_meant(out: &mut String, alloc: Global, names: &[&str], asked: &str) -> Said {
+    match nearest(alloc, asked, names)? {
         Some(name) => writeln!(out, "hubsync: did you mean {name}?"),
         None => Ok(()),
     }
@@ -155,17 +178,22 @@ fn say_meant(out: &mut String, source: &Source<'_>, asked: &str) -> Said {
 /// Says why a profile doesn't reach a path.
 pub(crate) fn say_not_reached(out: &mut String, source: &Source<'_>, words: &[String]) -> Said {
     let (name, path) = operands(words);
-    let Some(section) = section_named(source, name)? else {
+    let Some(section) = section_named(source, name) else {
         return Ok(());
     };
-    if !is_kept(source, section, path)? {
-        let name = name_of(source, section);
-        return writeln!(
-            out,
-            "hubsync: no line path = .. of {name} is this path or above it"
-        );
+    if is_kept(source, section, path) {
+        say_kept(out, source, section, path)?;
+        return say_ignored(out, source, section, path);
     }
-    say_kept(out, source, section, path)?;
+    let name = name_of(source, section);
+    writeln!(
+        out,
+        "hubsync: no line path = .. of {name} is this path or above it"
+    )
+}
+
+/// Says which line ignores a path that a profile has a line `path` for.
+fn say_ignored(out: &mut String, source: &Source<'_>, section: usize, path: &str) -> Said {
     match ignoring_line(source, section, path)? {
         Some(line) => say_placed(out, source, &line),
         None => say(
@@ -176,12 +204,8 @@ pub(crate) fn say_not_reached(out: &mut String, source: &Source<'_>, words: &[St
 }
 
 /// Returns whether a profile has a path at this one or above it.
-fn is_kept(source: &Source<'_>, section: usize, path: &str) -> Result<bool, AllocError> {
-    let lines = source.settings(section, "path")?;
-    let kept = lines
-        .iter()
-        .any(|line| covers(line.value_of("path").unwrap_or(path), path));
-    Ok(kept || lines.is_empty())
+fn is_kept(source: &Source<'_>, section: usize, path: &str) -> bool {
+    line_above(source, section, path).is_some() || has_no_path(source, section)
 }
 
 /// Says why the jobs weren't run.

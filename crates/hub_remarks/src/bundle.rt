@@ -6,7 +6,7 @@ use hub_source::{
 use std::alloc::Global;
 
 /// How the headings of sections begin.
-const HEADINGS: [&str; 4] = ["%profile", "%rules", "%state", "%certificates"];
+const HEADINGS: &[&str] = &["%profile", "%rules", "%state", "%certificates"];
 
 /// Says what to do about `NUMBER: FAULT` of a bundle.
 pub(crate) fn say_bundle_fault(out: &mut String, source: &Source<'_>, text: &str) -> Said {
@@ -50,18 +50,27 @@ fn say_heading_fault(
 /// Says which section a heading may mean.
 fn say_unknown_section(out: &mut String, alloc: Global, heading: &str) -> Said {
     let (word, _) = heading.split_once(' ').unwrap_or((heading, ""));
-    match nearest(alloc, word, &HEADINGS)? {
-        Some("%profile") => say(
-            out,
-            "a profile's heading is %profile, one space and its name",
-        ),
-        Some(near) if near == word => writeln!(out, "hubsync: nothing may follow {near}"),
-        Some(near) => writeln!(out, "hubsync: did you mean {near}?"),
+    match nearest(alloc, word, HEADINGS)? {
+        Some(near) => say_near_heading(out, near, word),
         None => say(
             out,
             "the headings are %profile NAME, %rules, %state and %certificates",
         ),
     }
+}
+
+/// Says how the heading is written that a word is near to.
+fn say_near_heading(out: &mut String, near: &str, word: &str) -> Said {
+    if near == "%profile" {
+        return say(
+            out,
+            "a profile's heading is %profile, one space and its name",
+        );
+    }
+    if near == word {
+        return writeln!(out, "hubsync: nothing may follow {near}");
+    }
+    writeln!(out, "hubsync: did you mean {near}?")
 }
 
 /// What to do about the name in a profile's heading.

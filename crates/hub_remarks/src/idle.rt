@@ -1,24 +1,45 @@
 //! Rules for paths that no profile reaches.
 
+use crate::note::say_below_note;
 use crate::refusal::is_same_root;
 use crate::start::{Start, start_of};
-use hub_source::{Said, Source, SourceLine, say, say_placed};
+use hub_source::{Said, Source, SourceLine};
 
 /// Says which rule is for paths that no profile reaches. Of a pattern only what stands before its first wildcard is looked at, and
 /// ignored paths count as reached.
-pub(crate) fn say_idle_rule(out: &mut String, source: &Source<'_>, section: usize) -> Said {
-    let profiles = source.profiles()?;
+pub(crate) fn say_idle_rule(
+    out: &mut String,
+    source: &Source<'_>,
+    profiles: &[SourceLine<'_>],
+    section: usize,
+) -> Said {
+    match idle_rule(source, profiles, section) {
+        Some(line) => say_below_note(
+            out,
+            source,
+            line,
+            "note: no profile reaches what this rule is for:",
+        ),
+        None => Ok(()),
+    }
+}
+
+/// The first rule of a section that is for paths that none of these profiles reaches.
+fn idle_rule<'s, 'a>(
+    source: &'s Source<'a>,
+    profiles: &[SourceLine<'_>],
+    section: usize,
+) -> Option<&'s SourceLine<'a>> {
     let mut root = "";
     for line in source.section_lines(section) {
         root = line.value_of("root").unwrap_or(root);
         if let Some(start) = start_of(line) {
-            if is_idle(source, profiles.as_slice(), root, start) {
-                say(out, "note: no profile reaches what this rule is for:")?;
-                return say_placed(out, source, line);
+            if is_idle(source, profiles, root, start) {
+                return Some(line);
             }
         }
     }
-    Ok(())
+    None
 }
 
 /// Returns whether some profiles have a root, but none of them reaches there a path that begins so.

@@ -1,9 +1,10 @@
 //! Which line of a profile ignores a path.
 ghost use Rattle.std.specs.Prelude.{◌≤◌, length};
 
+use crate::refusal::line_above;
 use hub_glob::PathSpec;
 use hub_path::RelPath;
-use hub_source::{Source, SourceLine, covers};
+use hub_source::{Source, SourceLine};
 use std::alloc::{AllocError, Global};
 
 /// The first line `ignore` of a profile that matches a path, or a folder between it and the first line `path` that is above it,
@@ -13,16 +14,22 @@ pub(crate) fn ignoring_line<'a>(
     section: usize,
     path: &str,
 ) -> Result<Option<SourceLine<'a>>, AllocError> {
-    let alloc = source.alloc();
-    let Some(path) = RelPath::from_text(alloc, path)? else {
-        return Ok(None);
-    };
-    let ignored = source.settings(section, "ignore")?;
-    let excepted = source.settings(section, "ignorenot")?;
-    let kept = kept_len(source, section, &path)?;
+    match RelPath::from_text(source.alloc(), path)? {
+        Some(path) => line_ignoring(source, section, &path),
+        None => Ok(None),
+    }
+}
+
+/// The same for a path that was read.
+fn line_ignoring<'a>(
+    source: &Source<'a>,
+    section: usize,
+    path: &RelPath,
+) -> Result<Option<SourceLine<'a>>, AllocError> {
+    let kept = kept_len(source, section, path)?;
     for i in 0..path.len() {
-        if kept <= i + 1 && matching_line(alloc, excepted.as_slice(), &path, i + 1).is_none() {
-            if let Some(line) = matching_line(alloc, ignored.as_slice(), &path, i + 1) {
+        if kept <= i + 1 && matching_line(source, section, "ignorenot", path, i + 1).is_none() {
+            if let Some(line) = matching_line(source, section, "ignore", path, i + 1) {
                 return Ok(Some(line));
             }
         }
@@ -32,31 +39,39 @@ pub(crate) fn ignoring_line<'a>(
 
 /// How many names the first line `path` has that is above a path, or 0 if there is none.
 fn kept_len(source: &Source<'_>, section: usize, path: &RelPath) -> Result<usize, AllocError> {
-    let lines = source.settings(section, "path")?;
-    for line in lines.as_slice() {
-        if covers(line.value(), path.as_str()) {
-            let kept = RelPath::from_text(source.alloc(), line.value().trim_end_matches('/'))?;
-            return Ok(kept.map_or(0, |kept| kept.len()));
-        }
-    }
-    Ok(0)
+    let Some(line) = line_above(source, section, path.as_str()) else {
+        return Ok(0);
+    };
+    let kept = RelPath::from_text(source.alloc(), line.value().trim_end_matches('/'))?;
+    Ok(kept.map_or(0, |kept| kept.len()))
 }
 
-/// The first of these lines whose pattern matches the first names of a path.
+/// The first line that sets `ignore` or `ignorenot` to a pattern that matches the first names of a path.
 fn matching_line<'a>(
-    alloc: Global,
-    lines: &[SourceLine<'a>],
+    source: &Source<'a>,
+    section: usize,
+    name: &str,
     path: &RelPath,
     len: usize,
 ) -> Option<SourceLine<'a>>
     requires { len ≤ length path.now }
 {
-    for line in lines {
-        if let Ok(spec) = PathSpec::read(alloc, line.value()) {
-            if spec.matches_front(path, len) {
+    for line in source.section_lines(section) {
+        if let Some(pattern) = line.value_of(name) {
+            if is_match(source.alloc(), pattern, path, len) {
                 return Some(*line);
             }
         }
     }
     None
+}
+
+/// Returns whether a text is a pattern that matches the first names of a path.
+fn is_match(alloc: Global, pattern: &str, path: &RelPath, len: usize) -> bool
+    requires { len ≤ length path.now }
+{
+    match PathSpec::read(alloc, pattern) {
+        Ok(spec) => spec.matches_front(path, len),
+        Err(_) => false,
+    }
 }

@@ -16,15 +16,20 @@ struct Pair<'a> {
 /// Says what the profiles and rules of a set that is safe may not have been meant to say.
 pub(crate) fn say_notes(out: &mut String, source: &Source<'_>) -> Said {
     let profiles = source.profiles()?;
+    say_notes_on(out, source, profiles.as_slice())
+}
+
+/// Says what these profiles and the rules may not have been meant to say.
+fn say_notes_on(out: &mut String, source: &Source<'_>, profiles: &[SourceLine<'_>]) -> Said {
     if profiles.is_empty() {
         return say(
             out,
             "note: the input has no profile, so nothing was checked",
         );
     }
-    say_blank_names(out, profiles.as_slice())?;
-    say_strange_rule(out, source)?;
-    say_same_pair(out, source, profiles.as_slice())
+    say_blank_names(out, profiles)?;
+    say_strange_rule(out, source, profiles)?;
+    say_same_pair(out, source, profiles)
 }
 
 /// Says which names have a blank at an end.
@@ -40,22 +45,46 @@ fn say_blank_names(out: &mut String, profiles: &[SourceLine<'_>]) -> Said {
 }
 
 /// Says which root of the rules no profile has, or else which rule is for a path that no profile reaches.
-fn say_strange_rule(out: &mut String, source: &Source<'_>) -> Said {
+fn say_strange_rule(out: &mut String, source: &Source<'_>, profiles: &[SourceLine<'_>]) -> Said {
     let Some(section) = source.section("%rules") else {
         return Ok(());
     };
     let roots = roots_beside(source, section)?;
-    let lines = source.settings(section, "root")?;
-    for line in lines.as_slice() {
-        if !is_among(roots.as_slice(), line) {
-            say(
-                out,
-                "note: no profile has this root, so no rule below it protects anything:",
-            )?;
-            return say_placed(out, source, line);
+    match strange_root(source.section_lines(section), roots.as_slice()) {
+        Some(line) => say_below_note(
+            out,
+            source,
+            line,
+            "note: no profile has this root, so no rule below it protects anything:",
+        ),
+        None => say_idle_rule(out, source, profiles, section),
+    }
+}
+
+/// The first of these lines that sets a root that is not among the roots.
+fn strange_root<'s, 'a>(
+    lines: &'s [SourceLine<'a>],
+    roots: &[SourceLine<'_>],
+) -> Option<&'s SourceLine<'a>> {
+    for line in lines {
+        if let Some(root) = line.value_of("root") {
+            if !is_among(roots, root) {
+                return Some(line);
+            }
         }
     }
-    say_idle_rule(out, source, section)
+    None
+}
+
+/// Says a line of the rules below a note on it.
+pub(crate) fn say_below_note(
+    out: &mut String,
+    source: &Source<'_>,
+    line: &SourceLine<'_>,
+    note: &str,
+) -> Said {
+    say(out, note)?;
+    say_placed(out, source, line)
 }
 
 /// The root lines of all other sections.
@@ -72,9 +101,8 @@ fn roots_beside<'a>(
     Ok(roots)
 }
 
-/// Returns whether one of these lines has the root of a line.
-fn is_among(roots: &[SourceLine<'_>], line: &SourceLine<'_>) -> bool {
-    let root = line.value_of("root").unwrap_or("");
+/// Returns whether one of these lines has a root.
+fn is_among(roots: &[SourceLine<'_>], root: &str) -> bool {
     roots.iter().any(|own| is_same_root(own.value_of("root").unwrap_or(""), root))
 }
 
@@ -82,7 +110,7 @@ fn is_among(roots: &[SourceLine<'_>], line: &SourceLine<'_>) -> bool {
 fn say_same_pair(out: &mut String, source: &Source<'_>, profiles: &[SourceLine<'_>]) -> Said {
     let mut pairs = Vec::new(source.alloc());
     for profile in profiles {
-        if let Some(pair) = pair_of(source, profile.section)? {
+        if let Some(pair) = pair_of(source, profile.section) {
             if let Some(same) = same_pair(pairs.as_slice(), pair) {
                 return say_pair(
                     out,
@@ -109,18 +137,27 @@ fn say_pair(out: &mut String, one: &str, other: &str) -> Said {
 }
 
 /// The two roots of a profile.
-fn pair_of<'a>(source: &Source<'a>, section: usize) -> Result<Option<Pair<'a>>, AllocError> {
-    let lines = source.settings(section, "root")?;
-    let (Some(one), Some(other)) = (lines.first(), lines.last()) else {
-        return Ok(None);
+fn pair_of<'a>(source: &Source<'a>, section: usize) -> Option<Pair<'a>> {
+    let mut pair = None;
+    for line in source.section_lines(section) {
+        if let Some(root) = line.value_of("root") {
+            pair = Some(with_root(pair, section, root));
+        }
+    }
+    pair
+}
+
+/// The first root of these, if there is one, and this root.
+fn with_root<'a>(pair: Option<Pair<'a>>, section: usize, root: &'a str) -> Pair<'a> {
+    let one = match pair {
+        Some(pair) => pair.one,
+        None => root,
     };
-    let one = one.value_of("root").unwrap_or("");
-    let other = other.value_of("root").unwrap_or("");
-    Ok(Some(Pair {
+    Pair {
         section,
         one,
-        other,
-    }))
+        other: root,
+    }
 }
 
 /// The first of these pairs with the same two roots.

@@ -1,11 +1,12 @@
 //! Remarks on patterns.
 
-use hub_source::{Said, nearest, say, trimmed};
+use crate::value::say_nearest;
+use hub_source::{Said, say, trimmed};
 use hub_text::first_word;
 use std::alloc::Global;
 
 /// The kinds of patterns.
-const KINDS: [&str; 3] = ["Name", "Path", "BelowPath"];
+const KINDS: &[&str] = &["Name", "Path", "BelowPath"];
 
 /// Says what is wrong with the pattern of a line.
 pub(crate) fn say_bad_pattern(out: &mut String, alloc: Global, line: &str, fault: &str) -> Said {
@@ -20,18 +21,18 @@ pub(crate) fn say_bad_pattern(out: &mut String, alloc: Global, line: &str, fault
 
 /// Says which kind of pattern a word may mean.
 fn say_no_kind(out: &mut String, alloc: Global, word: &str) -> Said {
-    for kind in KINDS.iter() {
+    for kind in KINDS {
         if word.eq_ignore_ascii_case(*kind) {
             return writeln!(out, "hubsync: {word} is written with capitals: {kind}");
         }
     }
-    match nearest(alloc, word, &KINDS)? {
-        Some(kind) => writeln!(out, "hubsync: did you mean {kind}?"),
-        None => say(
-            out,
-            "a pattern begins with Name, Path or BelowPath, as in Name *.tmp",
-        ),
-    }
+    say_nearest(
+        out,
+        alloc,
+        word,
+        KINDS,
+        "a pattern begins with Name, Path or BelowPath, as in Name *.tmp",
+    )
 }
 
 /// Says where the last such character is, which is never closed.

@@ -7,10 +7,9 @@ pub(crate) fn say_overlap(out: &mut String, source: &Source<'_>, text: &str) -> 
     let Some((before, path)) = text.rsplit_once(" reaches ") else {
         return Ok(());
     };
-    let profiles = source.profiles()?;
-    for profile in profiles.as_slice() {
-        if is_overlapping(profile, before) {
-            say_kept(out, source, profile.section, path)?;
+    for line in source.lines() {
+        if is_overlapping(line, before) {
+            say_kept(out, source, line.section, path)?;
         }
     }
     say(
@@ -19,9 +18,9 @@ pub(crate) fn say_overlap(out: &mut String, source: &Source<'_>, text: &str) -> 
     )
 }
 
-/// Returns whether a profile is one of the two in `WRITER writes PATH at PLACE, OTHER`.
-fn is_overlapping(profile: &SourceLine<'_>, text: &str) -> bool {
-    let Some(name) = profile.profile() else {
+/// Returns whether a line is the heading of one of the two profiles in `WRITER writes PATH at PLACE, OTHER`.
+fn is_overlapping(line: &SourceLine<'_>, text: &str) -> bool {
+    let Some(name) = line.profile() else {
         return false;
     };
     let writes = text
@@ -35,23 +34,43 @@ fn is_overlapping(profile: &SourceLine<'_>, text: &str) -> bool {
 
 /// Says which line gives a profile a path.
 pub(crate) fn say_kept(out: &mut String, source: &Source<'_>, section: usize, path: &str) -> Said {
-    let lines = source.settings(section, "path")?;
-    if lines.is_empty() {
+    if has_no_path(source, section) {
         let name = name_of(source, section);
         return writeln!(
             out,
             "hubsync: {name} has no line path, so it has all of its roots"
         );
     }
-    for line in lines.as_slice() {
-        if line
-            .value_of("path")
-            .is_some_and(|value| covers(value, path))
-        {
-            return say_placed(out, source, line);
+    match line_above(source, section, path) {
+        Some(line) => say_placed(out, source, line),
+        None => Ok(()),
+    }
+}
+
+/// Returns whether a profile has no line `path`: then it has all of its roots.
+pub(crate) fn has_no_path(source: &Source<'_>, section: usize) -> bool {
+    for line in source.section_lines(section) {
+        if line.value_of("path").is_some() {
+            return false;
         }
     }
-    Ok(())
+    true
+}
+
+/// The first line `path` of a profile whose value is this path or one above it.
+pub(crate) fn line_above<'s, 'a>(
+    source: &'s Source<'a>,
+    section: usize,
+    path: &str,
+) -> Option<&'s SourceLine<'a>> {
+    for line in source.section_lines(section) {
+        if let Some(value) = line.value_of("path") {
+            if covers(value, path) {
+                return Some(line);
+            }
+        }
+    }
+    None
 }
 
 /// Says which rule a profile may break: `PROFILE may VERB PATH at ROOT, rule NUMBER`.
@@ -60,14 +79,20 @@ pub(crate) fn say_breach(out: &mut String, source: &Source<'_>, text: &str) -> S
         return Ok(());
     };
     say_rule(out, source, number)?;
-    let Some((before, root)) = before.rsplit_once(" at ") else {
-        return Ok(());
-    };
-    let profiles = source.profiles()?;
-    for profile in profiles.as_slice() {
-        if let Some((verb, path)) = verb_and_path(profile.profile().unwrap_or(""), before) {
-            say_kept(out, source, profile.section, path)?;
-            return say_bar(out, verb, root);
+    match before.rsplit_once(" at ") {
+        Some((change, root)) => say_change(out, source, change, root),
+        None => Ok(()),
+    }
+}
+
+/// Says which lines lead to a change at a root, and which bar forbids it: `PROFILE may VERB PATH`.
+fn say_change(out: &mut String, source: &Source<'_>, change: &str, root: &str) -> Said {
+    for line in source.lines() {
+        if let Some(name) = line.profile() {
+            if let Some((verb, path)) = verb_and_path(name, change) {
+                say_kept(out, source, line.section, path)?;
+                return say_bar(out, verb, root);
+            }
         }
     }
     Ok(())
@@ -148,16 +173,13 @@ pub(crate) fn say_refused(out: &mut String, source: &Source<'_>, text: &str) -> 
 
 /// Says which headings, or which files, have the same name.
 fn say_same_name(out: &mut String, source: &Source<'_>, name: &str) -> Said {
-    let profiles = source.profiles()?;
     out.push_str("hubsync: give each profile a name of its own:")?;
-    out.push_str(if source.has_files() {
-        ""
-    } else {
-        " bundle lines"
-    })?;
-    for profile in profiles.as_slice() {
-        if profile.profile() == Some(name) {
-            push_heading(out, profile)?;
+    if !source.has_files() {
+        out.push_str(" bundle lines")?;
+    }
+    for line in source.lines() {
+        if line.profile() == Some(name) {
+            push_heading(out, line)?;
         }
     }
     out.push_str("\n")

@@ -1,15 +1,15 @@
 //! Remarks on faults of profiles and rules.
 
 use crate::pattern::say_bad_pattern;
-use crate::value::{say_bad_path, say_too_many};
+use crate::value::{say_bad_path, say_nearest, say_too_many};
 use hub_source::{
-    FaultPlace, Said, Source, SourceLine, nearest, odd_encoding, say, say_line, trimmed,
+    FaultPlace, LinePlace, Said, Source, SourceLine, odd_encoding, say, say_line, trimmed,
 };
 use hub_text::first_word;
 use std::alloc::Global;
 
 /// The preferences of a profile that hubsync reads.
-const PREFERENCES: [&str; 27] = [
+const PREFERENCES: &[&str] = &[
     "root",
     "path",
     "ignore",
@@ -40,7 +40,7 @@ const PREFERENCES: [&str; 27] = [
 ];
 
 /// The preferences of rules.
-const RULES: [&str; 4] = ["root", "nolose", "nochange", "nonew"];
+const RULES: &[&str] = &["root", "nolose", "nochange", "nonew"];
 
 /// Preferences that hubsync refuses, and that change nothing that is synchronized.
 const WITHOUT_EFFECT: &str = "\
@@ -193,13 +193,13 @@ fn say_unknown_rule(out: &mut String, alloc: Global, name: &str) -> Said {
             "hubsync: {name} is for profiles: the rules are nolose, nochange, nonew"
         );
     }
-    match nearest(alloc, name, &RULES)? {
-        Some(near) => writeln!(out, "hubsync: did you mean {near}?"),
-        None => say(
-            out,
-            "rules are nolose, nochange and nonew, each below a line root = ..",
-        ),
-    }
+    say_nearest(
+        out,
+        alloc,
+        name,
+        RULES,
+        "rules are nolose, nochange and nonew, each below a line root = ..",
+    )
 }
 
 /// Says what an unknown preference of a profile may mean.
@@ -210,42 +210,44 @@ fn say_unknown_preference(out: &mut String, alloc: Global, name: &str) -> Said {
             "hubsync: {name} is a rule: a line %rules is missing above it"
         );
     }
-    match nearest(alloc, name, &PREFERENCES)? {
-        Some(near) => writeln!(out, "hubsync: did you mean {near}?"),
-        None => say(out, "docs/USE.md lists the preferences that hubsync reads"),
-    }
+    say_nearest(
+        out,
+        alloc,
+        name,
+        PREFERENCES,
+        "docs/USE.md lists the preferences that hubsync reads",
+    )
 }
 
 /// Says where a preference was given before.
 fn say_repeated(out: &mut String, source: &Source<'_>, section: usize, name: &str) -> Said {
-    let lines = source.settings(section, name)?;
-    let Some(first) = lines.first() else {
-        return Ok(());
-    };
-    let place = first.place();
-    writeln!(
-        out,
-        "hubsync: {name} is given on {place} already: keep one of the two"
-    )
+    for line in source.section_lines(section) {
+        if line.value_of(name).is_some() {
+            let place = line.place();
+            return writeln!(
+                out,
+                "hubsync: {name} is given on {place} already: keep one of the two"
+            );
+        }
+    }
+    Ok(())
 }
 
 /// Says which roots a section has, after these words.
 fn say_roots(out: &mut String, source: &Source<'_>, section: usize, words: &str) -> Said {
-    let lines = source.settings(section, "root")?;
+    let mut count = 0usize;
     write!(out, "hubsync: {words}")?;
-    if lines.is_empty() {
-        out.push_str(" none")?;
+    for line in source.section_lines(section) {
+        if let Some(root) = line.value_of("root") {
+            push_root(out, count, root, line.place())?;
+            count = count.saturating_add(1);
+        }
     }
-    for (i, line) in lines.iter().enumerate() {
-        push_root(out, i, line)?;
-    }
-    out.push_str("\n")
+    out.push_str(if count == 0 { " none\n" } else { "\n" })
 }
 
-/// Adds the root of a line to a list in which so many stand before it.
-fn push_root(out: &mut String, before: usize, line: &SourceLine<'_>) -> Said {
-    let place = line.place();
-    let root = line.value_of("root").unwrap_or("");
+/// Adds a root and its place to a list in which so many stand before it.
+fn push_root(out: &mut String, before: usize, root: &str, place: LinePlace<'_>) -> Said {
     out.push_str(if before == 0 { " " } else { ", " })?;
     write!(out, "{root} ({place})")
 }

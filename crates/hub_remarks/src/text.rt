@@ -3,7 +3,7 @@
 use hub_source::{FaultPlace, Said, Source, SourceLine, say, say_line};
 
 /// What `certify` writes of a set that isn't safe.
-const REFUSALS: [&str; 5] = [
+const REFUSALS: &[&str] = &[
     "overlap: ",
     "breach: ",
     "refused: ",
@@ -21,19 +21,18 @@ pub(crate) fn say_state_fault(
         return say(out, state_remedy(place.fault));
     };
     say_line(out, source.alloc(), &line)?;
+    say(out, line_remedy(source, &line, place.fault))
+}
+
+/// What to do about a line of a state that has a fault.
+fn line_remedy(source: &Source<'_>, line: &SourceLine<'_>, fault: &str) -> &'static str {
     if line.bytes.ends_with(b"\r") {
-        return say(
-            out,
-            "lines of a state end with LF alone, and this one with CR and LF",
-        );
+        return "lines of a state end with LF alone, and this one with CR and LF";
     }
-    if is_below_end(source, &line) {
-        return say(
-            out,
-            "nothing may follow the line end of a state, not even a blank line",
-        );
+    if is_below_end(source, line) {
+        return "nothing may follow the line end of a state, not even a blank line";
     }
-    say(out, state_remedy(place.fault))
+    state_remedy(fault)
 }
 
 /// Returns whether the line `end` of its section stands above a line.
@@ -73,19 +72,18 @@ pub(crate) fn say_certificates_fault(
         return say(out, "certificates are as hubsync certify wrote them");
     };
     say_line(out, source.alloc(), &line)?;
+    say(out, certificates_remedy(&line))
+}
+
+/// What to do about a faulty line of the certificates.
+fn certificates_remedy(line: &SourceLine<'_>) -> &'static str {
     if is_refusal(line.text()) {
-        return say(out, "hubsync certify wrote this answer and no certificates");
+        return "hubsync certify wrote this answer and no certificates";
     }
     if line.bytes.ends_with(b"\r") {
-        return say(
-            out,
-            "lines of certificates end with LF alone, and this one with CR and LF",
-        );
+        return "lines of certificates end with LF alone, and this one with CR and LF";
     }
-    say(
-        out,
-        "certificates are as hubsync certify wrote them: make them anew",
-    )
+    "certificates are as hubsync certify wrote them: make them anew"
 }
 
 /// Returns whether a line is an answer that refuses a set.

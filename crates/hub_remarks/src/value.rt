@@ -1,6 +1,7 @@
 //! Remarks on values that are no paths, and on lines too many.
 
-use hub_source::{Said, say};
+use hub_source::{Said, nearest, say};
+use std::alloc::Global;
 
 /// Says what is wrong with the text of a path or a root.
 pub(crate) fn say_bad_path(out: &mut String, value: &str, fault: &str) -> Said {
@@ -27,14 +28,33 @@ pub(crate) fn path_remedy(fault: &str) -> &'static str {
 
 /// Says how to write a path that begins with `/`.
 fn say_leading_slash(out: &mut String, value: &str) -> Said {
-    let below = value.trim_start_matches('/');
-    if below.is_empty() {
+    if value.trim_start_matches('/').is_empty() {
         return say(
             out,
             "a path is below the roots: an empty value is all of them",
         );
     }
+    say_below(out, value)
+}
+
+/// Says that a path is written without `/` at its start.
+pub(crate) fn say_below(out: &mut String, path: &str) -> Said {
+    let below = path.trim_start_matches('/');
     writeln!(out, "hubsync: a path is below the roots: write {below}")
+}
+
+/// Says which of the known words was meant, or else these words.
+pub(crate) fn say_nearest(
+    out: &mut String,
+    alloc: Global,
+    word: &str,
+    known: &[&str],
+    otherwise: &str,
+) -> Said {
+    match nearest(alloc, word, known)? {
+        Some(near) => writeln!(out, "hubsync: did you mean {near}?"),
+        None => say(out, otherwise),
+    }
 }
 
 /// Says how to write a root on another machine.

@@ -264,17 +264,6 @@ impl<'a> Source<'a> {
         }
         Ok(found)
     }
-
-    /// The lines of a section that set this preference.
-    pub fn settings(&self, section: usize, name: &str) -> Result<Vec<SourceLine<'a>>, AllocError> {
-        let mut found = Vec::new(self.alloc);
-        for line in self.section_lines(section) {
-            if line.value_of(name).is_some() {
-                found.push(*line)?;
-            }
-        }
-        Ok(found)
-    }
 }
 
 /// The file that a section was made of, if it was made of one.

@@ -30,6 +30,7 @@ mod ignored;
 mod note;
 mod pattern;
 mod refusal;
+mod remedy;
 mod setting;
 mod start;
 mod text;

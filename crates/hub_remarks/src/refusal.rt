@@ -146,10 +146,8 @@ fn rule_line<'a>(source: &Source<'a>, number: usize) -> Option<SourceLine<'a>> {
 
 /// Returns whether a line of the rules is a rule.
 pub(crate) fn is_rule(line: &SourceLine<'_>) -> bool {
-    match line.setting() {
-        Some((name, _)) => name == "nolose" || name == "nochange" || name == "nonew",
-        None => false,
-    }
+    let name = line.name();
+    name == "nolose" || name == "nochange" || name == "nonew"
 }
 
 /// Says what to do about a set that is refused.

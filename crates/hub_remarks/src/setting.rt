@@ -1,7 +1,8 @@
 //! Remarks on faults of profiles and rules.
 
 use crate::pattern::say_bad_pattern;
-use crate::value::{say_bad_path, say_nearest, say_too_many};
+use crate::remedy::{remedy_of, say_nearest};
+use crate::value::{say_bad_path, say_too_many};
 use hub_source::{
     FaultPlace, LinePlace, Said, Source, SourceLine, odd_encoding, say, say_line, trimmed,
 };
@@ -50,6 +51,23 @@ const WITHOUT_EFFECT: &str = "\
     dontchmod dumbtty halfduplex height ignoreinodenumbers killserver maxbackups \
     maxthreads numericids repeat retry rsync servercmd showarchive sortbysize sortfirst \
     sortlast sortnewfirst sshargs sshcmd stream watch xferbycopying";
+
+/// What to do about the faults of lines that have their own.
+const REMEDIES: &[(&str, &str)] = &[
+    (
+        "IncludeLeftOut",
+        "write that file's lines in its place, as examples/from-prf.sh does",
+    ),
+    (
+        "LeftOutValue",
+        "newer and older depend on times: name one of the two roots",
+    ),
+    (
+        "RuleBeforeRoot",
+        "a rule is for the root line above it: write root = .. before it",
+    ),
+    ("NoArrow", "write PATTERN -> ROOT"),
+];
 
 /// Says what to do about a fault of a profile, or of the rules.
 pub(crate) fn say_setting_fault(
@@ -121,13 +139,11 @@ fn say_line_fault(
 
 /// What to do about a fault, whatever the line says.
 fn remedy(fault: &str) -> &'static str {
-    match fault {
-        "IncludeLeftOut" => "write that file's lines in its place, as examples/from-prf.sh does",
-        "LeftOutValue" => "newer and older depend on times: name one of the two roots",
-        "RuleBeforeRoot" => "a rule is for the root line above it: write root = .. before it",
-        "NoArrow" => "write PATTERN -> ROOT",
-        _ => "docs/UNISON.md says how hubsync reads a line",
-    }
+    remedy_of(
+        REMEDIES,
+        fault,
+        "docs/UNISON.md says how hubsync reads a line",
+    )
 }
 
 /// Says which line is not UTF-8.

@@ -1,5 +1,6 @@
 //! Remarks on faults of a state and of certificates.
 
+use crate::remedy::remedy_of;
 use hub_source::{FaultPlace, Said, Source, SourceLine, say, say_line};
 
 /// What `certify` writes of a set that isn't safe.
@@ -9,6 +10,50 @@ const REFUSALS: &[&str] = &[
     "refused: ",
     "too large: ",
     "fault: ",
+];
+
+/// What to do about the faults of a state's lines.
+const STATE_REMEDIES: &[(&str, &str)] = &[
+    (
+        "BadHeader",
+        "the first line below %state is hubsync state 1 or hubsync state 2",
+    ),
+    (
+        "BadLine",
+        "a state has no blank lines and no comments: docs/USE.md shows its lines",
+    ),
+    (
+        "BadPath",
+        "a path of a state is below its root, without a / at an end, . and ..",
+    ),
+    (
+        "BadHex",
+        "file, one space, hexadecimal digits or -, one space, the path",
+    ),
+    (
+        "NoParent",
+        "a line dir for the folder of this path is missing above it",
+    ),
+    (
+        "Repeated",
+        "it is in the state already: keep one of the two lines",
+    ),
+    (
+        "TooLarge",
+        "a file has at most 1,048,576 bytes, and a state at most 100,000 entries",
+    ),
+    (
+        "Truncated",
+        "the last line of a state is end, and a line end follows it",
+    ),
+    (
+        "UnknownBlob",
+        "a line blob with this SHA-256 is missing above it",
+    ),
+    (
+        "WrongDigest",
+        "the bytes of the blob have another SHA-256: they were changed",
+    ),
 ];
 
 /// Says what to do about a fault of the state.
@@ -47,19 +92,11 @@ fn is_below_end(source: &Source<'_>, line: &SourceLine<'_>) -> bool {
 
 /// What to do about a fault of a state's line.
 fn state_remedy(fault: &str) -> &'static str {
-    match fault {
-        "BadHeader" => "the first line below %state is hubsync state 1 or hubsync state 2",
-        "BadLine" => "a state has no blank lines and no comments: docs/USE.md shows its lines",
-        "BadPath" => "a path of a state is below its root, without a / at an end, . and ..",
-        "BadHex" => "file, one space, hexadecimal digits or -, one space, the path",
-        "NoParent" => "a line dir for the folder of this path is missing above it",
-        "Repeated" => "it is in the state already: keep one of the two lines",
-        "TooLarge" => "a file has at most 1,048,576 bytes, and a state at most 100,000 entries",
-        "Truncated" => "the last line of a state is end, and a line end follows it",
-        "UnknownBlob" => "a line blob with this SHA-256 is missing above it",
-        "WrongDigest" => "the bytes of the blob have another SHA-256: they were changed",
-        _ => "docs/USE.md shows the lines of a state",
-    }
+    remedy_of(
+        STATE_REMEDIES,
+        fault,
+        "docs/USE.md shows the lines of a state",
+    )
 }
 
 /// Says what to do about a faulty line of the certificates.

@@ -1,7 +1,21 @@
 //! Remarks on values that are no paths, and on lines too many.
 
-use hub_source::{Said, nearest, say};
-use std::alloc::Global;
+use crate::remedy::remedy_of;
+use hub_source::{Said, say};
+
+/// What to do about the faults of a path.
+const PATH_REMEDIES: &[(&str, &str)] = &[
+    ("Empty", "a folder's path is missing"),
+    (
+        "EmptyName",
+        "a / is there twice, or once too often at the end",
+    ),
+    ("DotName", "write the path without . and .."),
+    ("BadCharacter", "a path has no CR and no NUL"),
+    ("NameTooLong", "a name between two / has at most 255 bytes"),
+    ("TooDeep", "a path has at most 64 names"),
+    ("NotAbsolute", "a root begins with /"),
+];
 
 /// Says what is wrong with the text of a path or a root.
 pub(crate) fn say_bad_path(out: &mut String, value: &str, fault: &str) -> Said {
@@ -14,16 +28,7 @@ pub(crate) fn say_bad_path(out: &mut String, value: &str, fault: &str) -> Said {
 
 /// What to do about a fault of a path, whatever the path is.
 pub(crate) fn path_remedy(fault: &str) -> &'static str {
-    match fault {
-        "Empty" => "a folder's path is missing",
-        "EmptyName" => "a / is there twice, or once too often at the end",
-        "DotName" => "write the path without . and ..",
-        "BadCharacter" => "a path has no CR and no NUL",
-        "NameTooLong" => "a name between two / has at most 255 bytes",
-        "TooDeep" => "a path has at most 64 names",
-        "NotAbsolute" => "a root begins with /",
-        _ => "docs/USE.md says what a path is",
-    }
+    remedy_of(PATH_REMEDIES, fault, "docs/USE.md says what a path is")
 }
 
 /// Says how to write a path that begins with `/`.
@@ -41,20 +46,6 @@ fn say_leading_slash(out: &mut String, value: &str) -> Said {
 pub(crate) fn say_below(out: &mut String, path: &str) -> Said {
     let below = path.trim_start_matches('/');
     writeln!(out, "hubsync: a path is below the roots: write {below}")
-}
-
-/// Says which of the known words was meant, or else these words.
-pub(crate) fn say_nearest(
-    out: &mut String,
-    alloc: Global,
-    word: &str,
-    known: &[&str],
-    otherwise: &str,
-) -> Said {
-    match nearest(alloc, word, known)? {
-        Some(near) => writeln!(out, "hubsync: did you mean {near}?"),
-        None => say(out, otherwise),
-    }
 }
 
 /// Says how to write a root on another machine.

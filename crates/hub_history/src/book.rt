@@ -1,5 +1,6 @@
-ghost use Rattle.std.specs.Prelude.{◌≡◌, ◌↔◌, IfOk, OnErr, IfErr, IsTrue, slice_get};
-ghost use Rattle.hub_job.specs.Machine.{Fits};
+ghost use Rattle.std.specs.Prelude.{◌≡◌, ◌↔◌, ◌<◌, [], ◌∷◌, ◌++◌, IfOk, OnOk, OnErr, IfErr, IsTrue, slice_get};
+ghost use Rattle.std.specs.Vec.{vec_len, vec_capacity};
+ghost use Rattle.hub_job.specs.Machine.{Fits, is_shared};
 ghost use Rattle.hub_job.specs.History.{IsAnswerOf};
 ghost use Rattle.hub_history.specs.Book.{IsBook, entry_of, has_job, new_book, with_entry};
 
@@ -91,15 +92,7 @@ impl<'a> Book<'a> {
         self.history.reserve(1)?;
         let profile = &self.profiles[job];
         let answer = perform(self.alloc, profile, &self.root, &mut self.tree, &op)?;
-        let kept = answer.copy()?;
-        let Ok(()) = self.history.push(Entry {
-            job,
-            op,
-            answer: kept,
-        })
-        else {
-            unreachable!()
-        };
+        note(&mut self.history, job, op, &answer)?;
         Ok(answer)
     }
 
@@ -159,4 +152,24 @@ impl<'a> Book<'a> {
         let Book { tree, .. } = self;
         tree
     }
+}
+
+/// Appends an operation with a copy of its answer to a history that has room for it. An answer that can't be copied leaves
+/// the history as it was.
+fn note(history: &mut Vec<Entry>, job: usize, op: Op, answer: &Answer) -> Result<(), AllocError>
+    requires { vec_len history.old < vec_capacity history.old }
+    ensures ok { OnOk result
+        (history.new.items ≡ history.old.items ++ entry_of job op answer.now ∷ []) }
+    ensures shared { OnErr result (IsTrue (is_shared answer.now)) }
+    ensures err { OnErr result (history.new.items ≡ history.old.items) }
+{
+    let kept = answer.copy()?;
+    let Ok(()) = history.push(Entry {
+        job,
+        op,
+        answer: kept,
+    }) else {
+        unreachable!()
+    };
+    Ok(())
 }

@@ -1,5 +1,5 @@
 //! Questions about alphabets.
-use crate::given::class_text;
+use crate::given::{push_class, push_separator};
 use anyhow::Result;
 use hub_automaton::{Alphabet, Class};
 use hub_glob::PathSpec;
@@ -48,12 +48,21 @@ pub(crate) fn samples(alloc: Global, items: &str) -> Result<String> {
 fn samples_text(alloc: Global, alphabet: &Alphabet) -> Result<String, AllocError> {
     let mut samples = String::new(alloc);
     let mut classes = String::new(alloc);
+    push_samples(&mut samples, &mut classes, alphabet)?;
+    format!(in alloc; "{samples} {classes}")
+}
+
+fn push_samples(
+    samples: &mut String,
+    classes: &mut String,
+    alphabet: &Alphabet,
+) -> Result<(), AllocError> {
     for number in 0..alphabet.count() {
         let sample = alphabet.sample(Class::new(number));
         samples.push(sample)?;
-        classes.push_str(class_text(alloc, alphabet.class_of(sample))?.as_str())?;
+        push_class(classes, alphabet.class_of(sample))?;
     }
-    format!(in alloc; "{samples} {classes}")
+    Ok(())
 }
 
 /// The class of a character.
@@ -62,6 +71,12 @@ pub(crate) fn class(alloc: Global, fields: &str) -> Result<String> {
     let character = character_of(alloc, character)?;
     let alphabet = alphabet_of(alloc, items)?;
     Ok(class_text(alloc, alphabet.class_of(character))?)
+}
+
+fn class_text(alloc: Global, class: Option<Class>) -> Result<String, AllocError> {
+    let mut text = String::new(alloc);
+    push_class(&mut text, class)?;
+    Ok(text)
 }
 
 /// For each of the items the fault of adding it, if there is one, and then how many classes there are, and the class of a
@@ -79,38 +94,30 @@ fn mentions_text(
     items: &str,
     character: char,
 ) -> Result<String> {
-    let mut answers = Vec::new(alloc);
+    let mut text = String::new(alloc);
     for item in items.split("; ") {
-        answers.push(mention_text(alloc, alphabet, item, character)?)?;
+        push_mention(alloc, &mut text, alphabet, item, character)?;
     }
-    Ok(answers.as_slice().join(alloc, ", ")?)
+    Ok(text)
 }
 
-fn mention_text(
+fn push_mention(
     alloc: Global,
+    text: &mut String,
     alphabet: &mut Alphabet,
     item: &str,
     character: char,
-) -> Result<String> {
-    let fault = fault_text(alloc, add(alloc, alphabet, item))?;
-    Ok(classes_text(alloc, alphabet, character, fault.as_str())?)
+) -> Result<(), AllocError> {
+    push_separator(text, ", ")?;
+    push_fault(text, &add(alloc, alphabet, item))?;
+    write!(text, "{} ", alphabet.count())?;
+    push_class(text, alphabet.class_of(character))
 }
 
-/// The fault with a space after it, or nothing.
-fn fault_text(alloc: Global, added: Result<()>) -> Result<String, AllocError> {
+/// Appends the fault with a space after it, or nothing.
+fn push_fault(text: &mut String, added: &Result<()>) -> Result<(), AllocError> {
     match added {
-        Ok(()) => Ok(String::new(alloc)),
-        Err(fault) => format!(in alloc; "{fault} "),
+        Ok(()) => Ok(()),
+        Err(fault) => write!(text, "{fault} "),
     }
-}
-
-/// The fault, how many classes there are, and the class of a character.
-fn classes_text(
-    alloc: Global,
-    alphabet: &Alphabet,
-    character: char,
-    fault: &str,
-) -> Result<String, AllocError> {
-    let class = class_text(alloc, alphabet.class_of(character))?;
-    format!(in alloc; "{fault}{} {class}", alphabet.count())
 }

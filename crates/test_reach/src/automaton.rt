@@ -49,33 +49,47 @@ impl Automaton {
     /// The state after a text.
     pub(crate) fn state_after(&self, text: &str) -> Result<Spots, AllocError> {
         let mut state = self.set.start()?;
+        self.go_along(&mut state, text)?;
+        Ok(state)
+    }
+
+    fn go_along(&self, state: &mut Spots, text: &str) -> Result<(), AllocError> {
         for character in text.chars() {
             if let Some(class) = self.alphabet.class_of(character) {
-                state = self.advance(state, class)?;
+                self.advance(state, class)?;
             }
         }
-        Ok(state)
+        Ok(())
     }
 
     /// Returns whether one of the specifications matches what has been read of a text, after each of its characters, as `0` and `1`.
     pub(crate) fn walk(&self, alloc: Global, text: &str) -> Result<String, AllocError> {
-        let mut state = self.set.start()?;
         let mut matched = String::new(alloc);
-        for character in text.chars() {
-            if let Some(class) = self.alphabet.class_of(character) {
-                state = self.advance(state, class)?;
-                matched.push(digit(self.set.matched(&state)))?;
-            }
-        }
+        self.push_matched(&mut matched, &mut self.set.start()?, text)?;
         Ok(matched)
     }
 
-    /// The next state. A class that the automaton doesn't have changes nothing.
-    fn advance(&self, state: Spots, class: Class) -> Result<Spots, AllocError> {
-        if class.number() < self.set.class_count() {
-            return self.set.advance(&state, class);
+    fn push_matched(
+        &self,
+        matched: &mut String,
+        state: &mut Spots,
+        text: &str,
+    ) -> Result<(), AllocError> {
+        for character in text.chars() {
+            if let Some(class) = self.alphabet.class_of(character) {
+                self.advance(state, class)?;
+                matched.push(digit(self.set.matched(state)))?;
+            }
         }
-        Ok(state)
+        Ok(())
+    }
+
+    /// Goes on to the next state. A class that the automaton doesn't have changes nothing.
+    fn advance(&self, state: &mut Spots, class: Class) -> Result<(), AllocError> {
+        if class.number() < self.set.class_count() {
+            *state = self.set.advance(state, class)?;
+        }
+        Ok(())
     }
 
     /// The same as `walk`, by states that are written over `next`.
@@ -85,15 +99,25 @@ impl Automaton {
         text: &str,
         next: &mut Spots,
     ) -> Result<String, AllocError> {
-        let mut state = self.set.start()?;
         let mut matched = String::new(alloc);
+        self.push_matched_in_place(&mut matched, &mut self.set.start()?, text, next)?;
+        Ok(matched)
+    }
+
+    fn push_matched_in_place(
+        &self,
+        matched: &mut String,
+        state: &mut Spots,
+        text: &str,
+        next: &mut Spots,
+    ) -> Result<(), AllocError> {
         for character in text.chars() {
             if let Some(class) = self.alphabet.class_of(character) {
-                self.advance_in_place(&mut state, class, next)?;
+                self.advance_in_place(state, class, next)?;
                 matched.push(digit(self.set.matched(next)))?;
             }
         }
-        Ok(matched)
+        Ok(())
     }
 
     /// Writes the next state over `next`, and a copy of it over `state`. A class that the automaton doesn't have changes

@@ -1,4 +1,5 @@
 //! Tables that number what texts lead to.
+use crate::given::push_separator;
 use hub_automaton::{Alphabet, Class};
 use hub_reach::{SpecTable, Table};
 use std::alloc::{AllocError, Global};
@@ -11,8 +12,8 @@ pub(crate) trait Numbers {
     /// The next number. A class that the table doesn't have changes nothing.
     fn next_number(&mut self, number: usize, class: Class) -> Result<usize, AllocError>;
 
-    /// The number, and what the table says of its texts.
-    fn number_text(&self, alloc: Global, number: usize) -> Result<String, AllocError>;
+    /// Appends the number, and what the table says of its texts.
+    fn push_number(&self, text: &mut String, number: usize) -> Result<(), AllocError>;
 
     /// How many numbers there are.
     fn count(&self) -> usize;
@@ -25,13 +26,24 @@ pub(crate) fn numbers_text<N: Numbers>(
     table: &mut N,
     texts: &str,
 ) -> Result<String, AllocError> {
-    let mut numbers = Vec::new(alloc);
+    let mut numbers = String::new(alloc);
+    push_numbers(&mut numbers, alphabet, table, texts)?;
+    write!(numbers, " of {}", table.count())?;
+    Ok(numbers)
+}
+
+fn push_numbers<N: Numbers>(
+    numbers: &mut String,
+    alphabet: &Alphabet,
+    table: &mut N,
+    texts: &str,
+) -> Result<(), AllocError> {
     for text in texts.split("; ") {
         let number = number_after(alphabet, table, text)?;
-        numbers.push(table.number_text(alloc, number)?)?;
+        push_separator(numbers, ", ")?;
+        table.push_number(numbers, number)?;
     }
-    let numbers = numbers.as_slice().join(alloc, ", ")?;
-    format!(in alloc; "{numbers} of {}", table.count())
+    Ok(())
 }
 
 /// The number of a text.
@@ -61,10 +73,10 @@ impl Numbers for Table {
         Ok(number)
     }
 
-    /// The number, whether the path of its stage is reached, and whether its texts are broken.
-    fn number_text(&self, alloc: Global, number: usize) -> Result<String, AllocError> {
+    /// Appends the number, whether the path of its stage is reached, and whether its texts are broken.
+    fn push_number(&self, text: &mut String, number: usize) -> Result<(), AllocError> {
         if number >= self.len() {
-            return format!(in alloc; "{number}");
+            return write!(text, "{number}");
         }
         let reached = if self.reached(number) { " reached" } else { "" };
         let broken = if self.stage(number).is_broken() {
@@ -72,7 +84,7 @@ impl Numbers for Table {
         } else {
             ""
         };
-        format!(in alloc; "{number}{reached}{broken}")
+        write!(text, "{number}{reached}{broken}")
     }
 
     fn count(&self) -> usize {
@@ -92,12 +104,12 @@ impl Numbers for SpecTable {
         Ok(number)
     }
 
-    /// The number, and whether its texts are matched.
-    fn number_text(&self, alloc: Global, number: usize) -> Result<String, AllocError> {
+    /// Appends the number, and whether its texts are matched.
+    fn push_number(&self, text: &mut String, number: usize) -> Result<(), AllocError> {
         if number < self.len() && self.matched(number) {
-            return format!(in alloc; "{number} matched");
+            return write!(text, "{number} matched");
         }
-        format!(in alloc; "{number}")
+        write!(text, "{number}")
     }
 
     fn count(&self) -> usize {

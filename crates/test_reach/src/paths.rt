@@ -4,6 +4,7 @@ ghost use Rattle.hub_path.specs.Path.{text_of};
 ghost use Rattle.hub_automaton.specs.Spots.{is_covered, path_alternatives};
 
 use crate::automaton::Automaton;
+use crate::given::push_separator;
 use anyhow::Result;
 use hub_automaton::laws::{
     paths_mention_their_characters, texts_mention_what_their_names_do, what_is_added_is_mentioned,
@@ -67,25 +68,21 @@ pub(crate) fn paths(alloc: Global, paths: &str) -> Result<String> {
 }
 
 fn added(alloc: Global, builder: &mut SpecSetBuilder, paths: &str) -> Result<String> {
-    let mut answers = Vec::new(alloc);
+    let mut text = String::new(alloc);
     for path in paths.split("; ") {
-        answers.push(add(alloc, builder, path)?)?;
+        push_separator(&mut text, ", ")?;
+        push_added(&mut text, builder, &RelPath::read(alloc, path)?)?;
     }
-    Ok(answers.as_slice().join(alloc, ", ")?)
+    Ok(text)
 }
 
-fn add(alloc: Global, builder: &mut SpecSetBuilder, path: &str) -> Result<String> {
-    let path = RelPath::read(alloc, path)?;
-    Ok(add_path(alloc, builder, &path)?)
-}
-
-fn add_path(
-    alloc: Global,
+fn push_added(
+    text: &mut String,
     builder: &mut SpecSetBuilder,
     path: &RelPath,
-) -> Result<String, AllocError> {
+) -> Result<(), AllocError> {
     match builder.add_path(path) {
-        Ok(()) => format!(in alloc; "{}", builder.len()),
-        Err(fault) => format!(in alloc; "{fault} {}", builder.len()),
+        Ok(()) => write!(text, "{}", builder.len()),
+        Err(fault) => write!(text, "{fault} {}", builder.len()),
     }
 }

@@ -5,6 +5,7 @@ ghost use Rattle.hub_reach.specs.Reach as of_reach;
 ghost use Rattle.hub_runner.specs.Ordered.{AreInOrder, AreNumbered, AreTreesOf};
 ghost use Rattle.hub_runner.specs.Slots as spec;
 
+use crate::append::push;
 use hub_history::Book;
 use hub_job::Job;
 use hub_path::{Root, Side};
@@ -24,7 +25,7 @@ pub(crate) fn trees_of<'a>(
     for book in books {
         if let Some(root) = find_root(profiles, book.root()) {
             let tree = book.into_tree();
-            trees.push(WorkingTree { root, tree })?;
+            push(&mut trees, WorkingTree { root, tree })?;
         }
     }
     Ok(trees)
@@ -85,7 +86,7 @@ fn empty_slots<'a>(alloc: Global, n: usize) -> Result<Vec<Option<Job<'a>>>, Allo
 {
     let mut slots = Vec::new(alloc);
     for _ in 0..n {
-        slots.push(None)?;
+        push(&mut slots, None)?;
     }
     Ok(slots)
 }
@@ -106,7 +107,7 @@ fn full_slots<'a>(alloc: Global, slots: Vec<Option<Job<'a>>>) -> Result<Vec<Job<
     let mut jobs = Vec::new(alloc);
     for slot in slots {
         let Some(job) = slot else { unreachable!() };
-        jobs.push(job)?;
+        push(&mut jobs, job)?;
     }
     Ok(jobs)
 }

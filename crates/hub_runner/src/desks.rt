@@ -1,6 +1,7 @@
 //! Desks of roots, and seats at them.
 ghost use Rattle.std.specs.Prelude.{◌<◌};
 
+use crate::append::push;
 use crate::borrowed::Borrowed;
 use crate::worker::{DeskNumbers, QueuedJob};
 use hub_cert::ProfileSet;
@@ -34,11 +35,27 @@ pub(crate) fn open_desks<'a>(
     let mut desks = Vec::new(alloc);
     let mut seats = empty_lists(alloc, workers)?;
     for root in roots {
-        let (desk, own) = open_desk(alloc, set, state, root.item(), workers)?;
-        desks.push(desk)?;
-        deal(&mut seats, own)?;
+        let book = book_of(alloc, set, state, root.item())?;
+        add_desk(alloc, book, workers, &mut desks, &mut seats)?;
     }
     Ok((Desks { desks }, seats))
+}
+
+/// Opens a desk over a book, with so many seats, and appends it. Each list gets one of the seats.
+fn add_desk<'a>(
+    alloc: Global,
+    book: Book<'a>,
+    workers: usize,
+    desks: &mut Vec<Desk<'a>>,
+    lists: &mut Vec<Vec<Seat>>,
+) -> Result<(), AllocError>
+    requires { 0 < workers }
+{
+    let Ok((desk, seats)) = Desk::new(alloc, book, workers) else {
+        return Err(AllocError);
+    };
+    push(desks, desk)?;
+    deal(lists, seats)
 }
 
 /// Makes so many lists of seats, each empty.
@@ -60,25 +77,20 @@ fn deal(lists: &mut Vec<Vec<Seat>>, seats: Items<Seat>) -> Result<(), AllocError
     Ok(())
 }
 
-/// Opens the desk of a root. A replica that the state lacks is empty.
-fn open_desk<'a>(
+/// Makes the book of a root, over a copy of the state's replica. A replica that the state lacks is empty.
+fn book_of<'a>(
     alloc: Global,
     set: &'a ProfileSet,
     state: &State,
     root: &Root,
-    seats: usize,
-) -> Result<(Desk<'a>, Items<Seat>), AllocError>
-    requires { 0 < seats }
-{
+) -> Result<Book<'a>, AllocError> {
     let tree = match state.replica(root) {
         Some(tree) => tree.copy()?,
         None => Tree::new(alloc),
     };
-    let Ok(book) = Book::new(alloc, set, root.copy()?, tree) else {
-        return Err(AllocError);
-    };
-    match Desk::new(alloc, book, seats) {
-        Ok(opened) => Ok(opened),
+    let root = root.copy()?;
+    match Book::new(alloc, set, root, tree) {
+        Ok(book) => Ok(book),
         Err(_) => Err(AllocError),
     }
 }
@@ -98,7 +110,7 @@ pub(crate) fn jobs_for<'a>(
                 profile.root(Side::Right),
             );
             let job = Job::new(alloc, number, profile, archive)?;
-            jobs.push(QueuedJob { job, desks })?;
+            push(&mut jobs, QueuedJob { job, desks })?;
         }
     }
     Ok(jobs)
@@ -127,11 +139,21 @@ pub(crate) fn close_desks<'a>(
     let by_desk = by_desk(alloc, desks.len(), seats)?;
     let mut books = Vec::new(alloc);
     for (desk, own) in desks.into_iter().zip(by_desk) {
-        if let Ok(book) = desk.close(Items::from_vec(own)) {
-            books.push(book)?;
-        }
+        close_desk(desk, own, &mut books)?;
     }
     Ok(books)
+}
+
+/// Closes a desk with the seats that the workers had at it, and appends its book, unless it can't be closed.
+fn close_desk<'a>(
+    desk: Desk<'a>,
+    seats: Vec<Seat>,
+    books: &mut Vec<Book<'a>>,
+) -> Result<(), AllocError> {
+    if let Ok(book) = desk.close(Items::from_vec(seats)) {
+        push(books, book)?;
+    }
+    Ok(())
 }
 
 /// Returns a list for each desk, with the seats that the workers had at it.

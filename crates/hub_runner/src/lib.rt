@@ -22,6 +22,7 @@
 //! From `test_runner/src/runs.rt`.
 #![tactic(auto)]
 
+mod append;
 mod books;
 mod borrowed;
 mod by_number;

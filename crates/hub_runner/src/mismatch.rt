@@ -3,6 +3,7 @@ ghost use Rattle.std.specs.Prelude.{◌≡◌, Some, IfOk};
 ghost use Rattle.hub_job.specs.declared.run_fault.RunFault.TheVariants.{Mismatch};
 ghost use Rattle.hub_runner.specs.Settling as spec;
 
+use crate::append::push;
 use crate::books::history_at;
 use crate::borrowed::Borrowed;
 use crate::comparison::log_of;
@@ -79,7 +80,7 @@ fn copies(alloc: Global, entries: &[Borrowed<'_, Entry>]) -> Result<Items<Entry>
 {
     let mut all = Vec::new(alloc);
     for entry in entries {
-        all.push(entry.item().copy()?)?;
+        push(&mut all, entry.item().copy()?)?;
     }
     Ok(Items::from_vec(all))
 }

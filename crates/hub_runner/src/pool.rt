@@ -2,8 +2,9 @@
 ghost use Rattle.std.specs.Prelude.{◌≡◌, ◌⊎◌, IfErr};
 ghost use Rattle.hub_job.specs.declared.run_fault.RunFault.TheVariants as fault;
 
+use crate::append::push;
 use crate::desks::Desks;
-use crate::worker::{Channels, Ended, Message, QueuedJob, work};
+use crate::worker::{Channels, Ended, Message, QueuedJob, unsent, work};
 use hub_history::{Gate, Seat};
 use hub_job::RunFault;
 use std::alloc::{AllocError, Global};
@@ -89,7 +90,7 @@ fn send_all<'a, R: Wait>(
     jobs: Vec<QueuedJob<'a>>,
 ) -> Result<(), AllocError> {
     for job in jobs {
-        if channels.to_workers.send(rt, Message::Step(job)).is_err() {
+        if unsent(rt, &channels.to_workers, Message::Step(job)).is_some() {
             return Err(AllocError);
         }
     }
@@ -109,7 +110,7 @@ fn run_workers<'a, G: Gate + Sync, R: Threads + Wait + Sync>(
     room: Room<'a>,
 ) -> Option<PoolEnd<'a>> {
     thread::scope(thread::scope_env(), rt, |scope| -> Option<PoolEnd> {
-        let Room { mut handles, end } = room;
+        let mut room = room;
         let mut started: usize = 0;
         let mut refused = false;
         for own in seats {
@@ -118,13 +119,13 @@ fn run_workers<'a, G: Gate + Sync, R: Threads + Wait + Sync>(
                 break;
             };
             started = started.saturating_add(1);
-            if handles.push(handle).is_err() {
+            if room.handles.push(handle).is_err() {
                 refused = true;
                 break;
             }
         }
         let count = if refused { 0 } else { count };
-        let end = finish(rt, channels, count, started, handles, end);
+        let end = finish(rt, channels, count, started, room);
         if refused { None } else { Some(end) }
     })
 }
@@ -135,9 +136,9 @@ fn finish<'a, R: Threads + Wait>(
     channels: &Channels<'a>,
     count: usize,
     started: usize,
-    handles: Vec<JoinHandle<Vec<Seat>>>,
-    end: PoolEnd<'a>,
+    room: Room<'a>,
 ) -> PoolEnd<'a> {
+    let Room { handles, end } = room;
     let PoolEnd { ended, seats } = end;
     let ended = receive_all(rt, channels, count, ended);
     stop_all(rt, channels, started);
@@ -157,7 +158,7 @@ fn receive_all<'a, R: Wait>(
         let Ok(ended) = channels.ended.recv(rt) else {
             break;
         };
-        if all.push(ended).is_err() {
+        if push(&mut all, ended).is_err() {
             break;
         }
     }
@@ -174,7 +175,7 @@ fn stop_all<R: Wait>(rt: &R, channels: &Channels<'_>, workers: usize) {
 /// Tells a worker to end, again until it is told.
 fn stop_one<R: Wait>(rt: &R, channels: &Channels<'_>) {
     for _ in rt.forever() {
-        if channels.to_workers.send(rt, Message::Stop).is_ok() {
+        if unsent(rt, &channels.to_workers, Message::Stop).is_none() {
             return;
         }
     }

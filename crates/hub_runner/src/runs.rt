@@ -5,13 +5,14 @@ ghost use Rattle.hub_schedule.specs.Simulated.{HaveEnded, IsPromised};
 ghost use Rattle.hub_job.specs.declared.run_fault.RunFault.TheVariants as fault;
 ghost use Rattle.hub_runner.specs.Working.{AreEnded, IsNotRun, MayRun, is_ended};
 
+use crate::append::push;
 use crate::comparison::roots_of;
-use crate::desks::{close_desks, jobs_for, open_desks};
+use crate::desks::{Desks, close_desks, jobs_for, open_desks};
 use crate::pool::{PoolEnd, step_all};
 use crate::settling::settle;
-use crate::worker::Ended;
+use crate::worker::{Ended, QueuedJob};
 use hub_cert::{ProfileSet, Verified};
-use hub_history::{Book, Gate};
+use hub_history::{Book, Gate, Seat};
 use hub_job::{Job, Outcome, RunFault};
 use hub_schedule::find_missing;
 use hub_state::State;
@@ -103,11 +104,44 @@ fn step_set<'a, G: Gate + Sync, R: Threads + Wait + Sync>(
     ensures over { IfOk result (λ d. AreEnded d.jobs.items) }
     ensures refused { IfErr result (λ f. (f ≡ fault.ThreadRefused) ⊎ (f ≡ fault.OutOfMemory)) }
 {
+    let Opened { desks, seats, jobs } = open_set(alloc, set, state, workers)?;
+    let PoolEnd { ended, seats } = step_all(rt, alloc, gate, &desks, seats, jobs)?;
+    Ok(close_set(alloc, desks, seats, ended)?)
+}
+
+/// What the jobs of a set step with: the desks of its roots, the seats of each worker, and the jobs.
+#[derive(Drop)]
+struct Opened<'a> {
+    desks: Desks<'a>,
+    seats: Vec<Vec<Seat>>,
+    jobs: Vec<QueuedJob<'a>>,
+}
+
+/// Opens the desks of a set and makes its jobs, for so many workers, or for as many as there are jobs if these are fewer.
+fn open_set<'a>(
+    alloc: Global,
+    set: &'a ProfileSet,
+    state: &'a State,
+    workers: usize,
+) -> Result<Opened<'a>, AllocError>
+    requires { 0 < workers }
+{
     let roots = roots_of(alloc, set.profiles())?;
     let jobs = jobs_for(alloc, set.profiles(), state, roots.as_slice())?;
     let workers = workers.min(jobs.len().max(1));
     let (desks, seats) = open_desks(alloc, set, state, roots.as_slice(), workers)?;
-    let PoolEnd { ended, seats } = step_all(rt, alloc, gate, &desks, seats, jobs)?;
+    Ok(Opened { desks, seats, jobs })
+}
+
+/// Closes the desks of a set whose jobs have ended.
+fn close_set<'a>(
+    alloc: Global,
+    desks: Desks<'a>,
+    seats: Vec<Vec<Seat>>,
+    ended: Vec<Ended<'a>>,
+) -> Result<Done<'a>, AllocError>
+    ensures { IfOk result (λ d. AreEnded d.jobs.items) }
+{
     let jobs = jobs_of(alloc, ended)?;
     let books = close_desks(alloc, desks, seats)?;
     Ok(Done { books, jobs })
@@ -119,7 +153,7 @@ fn jobs_of<'a>(alloc: Global, ended: Vec<Ended<'a>>) -> Result<Vec<Job<'a>>, All
 {
     let mut jobs = Vec::new(alloc);
     for one in ended {
-        jobs.push(job_of(one))?;
+        push(&mut jobs, job_of(one))?;
     }
     Ok(jobs)
 }

@@ -75,7 +75,10 @@ fn settle_jobs<'a>(
     ensures profiles { AreProfiles set.now.profiles }
 {
     compare(alloc, set, state, books.as_slice(), jobs.as_slice())?;
-    Ok(settle_all(alloc, set, state, books, jobs)?)
+    match settle_all(alloc, set, state, books, jobs) {
+        Ok(outcome) => Ok(outcome),
+        Err(AllocError) => Err(RunFault::OutOfMemory),
+    }
 }
 
 /// Compares books and jobs with each other, with the set and with the state.

@@ -1,5 +1,5 @@
 //! Workers, which step the jobs at the desks.
-ghost use Rattle.std.specs.Prelude.{◌≡◌, true};
+ghost use Rattle.std.specs.Prelude.{◌≡◌, true, IfSome, IsTrue};
 ghost use Rattle.hub_runner.specs.Working.{AsksFor, is_ended};
 
 use crate::desks::Desks;
@@ -45,15 +45,6 @@ pub(crate) enum Message<'a> {
     Step(QueuedJob<'a>),
     /// To end.
     Stop,
-}
-
-/// A job after some steps.
-#[derive(Drop)]
-enum Stepped<'a> {
-    /// It has more to do.
-    Going(QueuedJob<'a>),
-    /// It has ended.
-    Over(Ended<'a>),
 }
 
 /// The ends of two channels: one for messages to the workers, and one on which jobs that have ended come back.
@@ -104,18 +95,23 @@ fn step_and_send<'a, G: Gate, R: Wait>(
 ) {
     let mut queued = queued;
     for _ in rt.forever() {
-        match some_steps(rt, gate, desks, seats, queued) {
-            Stepped::Over(ended) => {
-                gate.ended(ended.job.number());
-                return send_back(rt, &channels.to_caller, ended);
-            }
-            Stepped::Going(going) => match send_on(rt, &channels.to_workers, going) {
-                None => return,
-                Some(unsent) => queued = unsent,
-            },
+        if some_steps(rt, gate, desks, seats, &mut queued) {
+            return end_job(rt, gate, &channels.to_caller, queued.job);
+        }
+        match send_on(rt, &channels.to_workers, queued) {
+            None => return,
+            Some(unsent) => queued = unsent,
         }
     }
     unreachable!()
+}
+
+/// Tells the gate that a job has ended, and sends it back.
+fn end_job<'a, G: Gate, R: Wait>(rt: &R, gate: &G, to_caller: &Sender<Ended<'a>>, job: Job<'a>)
+    requires { is_ended job ≡ true }
+{
+    gate.ended(job.number());
+    send_back(rt, to_caller, Ended { job });
 }
 
 /// Sends a job to the workers. It returns a job that can't be sent.
@@ -124,48 +120,71 @@ fn send_on<'a, R: Wait>(
     to_workers: &Sender<Message<'a>>,
     queued: QueuedJob<'a>,
 ) -> Option<QueuedJob<'a>> {
-    let Err(error) = to_workers.send(rt, Message::Step(queued)) else {
-        return None;
-    };
-    match error.into_inner() {
-        Message::Step(unsent) => Some(unsent),
+    match unsent(rt, to_workers, Message::Step(queued))? {
+        Message::Step(queued) => Some(queued),
         Message::Stop => unreachable!(),
     }
 }
 
-/// Sends a job that has ended back, again until it is sent.
-fn send_back<'a, R: Wait>(rt: &R, to_caller: &Sender<Ended<'a>>, ended: Ended<'a>) {
-    let mut ended = ended;
+/// Sends an item, again until it is sent.
+fn send_back<T: Drop, R: Wait>(rt: &R, to: &Sender<T>, item: T) {
+    let mut item = item;
     for _ in rt.forever() {
-        match to_caller.send(rt, ended) {
-            Ok(()) => return,
-            Err(error) => ended = error.into_inner(),
+        match unsent(rt, to, item) {
+            None => return,
+            Some(back) => item = back,
         }
     }
     unreachable!()
 }
 
-/// Makes at most [`STEPS`] steps of a job.
-fn some_steps<'a, G: Gate, R: Wait>(
+/// Sends an item. It returns an item that can't be sent.
+pub(crate) fn unsent<T: Drop, R: Wait>(rt: &R, to: &Sender<T>, item: T) -> Option<T>
+    ensures { IfSome result (λ back. back ≡ item) }
+{
+    match to.send(rt, item) {
+        Ok(()) => None,
+        Err(error) => Some(error.into_inner()),
+    }
+}
+
+/// Makes at most [`STEPS`] steps of a job. It returns whether the job has ended.
+fn some_steps<G: Gate, R: Wait>(
     rt: &R,
     gate: &G,
     desks: &Desks<'_>,
     seats: &mut Vec<Seat>,
-    queued: QueuedJob<'a>,
-) -> Stepped<'a> {
-    let QueuedJob {
-        mut job,
-        desks: own,
-    } = queued;
+    queued: &mut QueuedJob<'_>,
+) -> bool
+    ensures { IsTrue result → is_ended queued.new.job ≡ true }
+{
     for _ in 0..STEPS {
-        match job.turn() {
-            Next::Ask(Side::Left, op) => step(rt, gate, desks, seats, own.left, &mut job, op),
-            Next::Ask(Side::Right, op) => step(rt, gate, desks, seats, own.right, &mut job, op),
-            Next::Finished => return Stepped::Over(as_ended(job)),
-            Next::Stopped => return Stepped::Over(as_ended(job)),
+        if has_ended(rt, gate, desks, seats, queued) {
+            return true;
         }
     }
-    Stepped::Going(QueuedJob { job, desks: own })
+    false
+}
+
+/// Lets a job take a turn, and makes the operation that it asks for. It returns whether the job has ended.
+fn has_ended<G: Gate, R: Wait>(
+    rt: &R,
+    gate: &G,
+    desks: &Desks<'_>,
+    seats: &mut Vec<Seat>,
+    queued: &mut QueuedJob<'_>,
+) -> bool
+    ensures { IsTrue result → is_ended queued.new.job ≡ true }
+{
+    let DeskNumbers { left, right } = queued.desks;
+    let job = &mut queued.job;
+    match job.turn() {
+        Next::Ask(Side::Left, op) => step(rt, gate, desks, seats, left, job, op),
+        Next::Ask(Side::Right, op) => step(rt, gate, desks, seats, right, job, op),
+        Next::Finished => return true,
+        Next::Stopped => return true,
+    }
+    false
 }
 
 /// Makes the operation that the job asks for at the desk of this number. A job whose desk isn't there is stopped.
@@ -206,11 +225,4 @@ fn step_at<G: Gate, R: Wait>(
         Ok(answer) => job.take(answer),
         Err(_) => job.stop(),
     }
-}
-
-/// Returns a job that has ended.
-fn as_ended<'a>(job: Job<'a>) -> Ended<'a>
-    requires { is_ended job ≡ true }
-{
-    Ended { job }
 }

@@ -1,23 +1,25 @@
 //! Questions about what walkers and tables allow at the path of a text.
-use crate::given::alphabet_of;
+use crate::given::{alphabet_of, profile_of};
 use crate::numbers::number_after;
 use crate::stages::table_of;
 use crate::verbs::verbs_text;
-use crate::walkers::Walking;
+use crate::walkers::{Walking, stage_after};
 use anyhow::{Result, bail};
 use hub_path::Side;
 use hub_profile::Profile;
 use hub_reach::{Stage, Table, Walker};
 use std::alloc::{AllocError, Global};
-use test_kit::shown;
+use test_kit::three;
 
 /// What a profile may do at the root of a side, at the path of a text: by its walker, and by its table. Whether it may do
 /// anything there, by both.
-pub(crate) fn allowed(alloc: Global, profile: &Profile, side: &str, text: &str) -> Result<String> {
+pub(crate) fn allowed(alloc: Global, fields: &str) -> Result<String> {
+    let (lines, side, text) = three(fields)?;
     let side = side_of(side)?;
-    let walked = walked_text(alloc, profile, side, text)?;
-    let numbered = numbered_text(alloc, profile, side, text)?;
-    shown(alloc, &format_args!("{walked}, {numbered}"))
+    let profile = profile_of(alloc, lines)?;
+    let walked = walked_text(alloc, &profile, side, text)?;
+    let numbered = numbered_text(alloc, &profile, side, text)?;
+    Ok(format!(in alloc; "{walked}, {numbered}")?)
 }
 
 fn side_of(field: &str) -> Result<Side> {
@@ -30,7 +32,7 @@ fn side_of(field: &str) -> Result<Side> {
 
 fn walked_text(alloc: Global, profile: &Profile, side: Side, text: &str) -> Result<String> {
     let walking = Walking::of_profile(alloc, profile)?;
-    let stage = walking.stage_after(text)?;
+    let stage = stage_after(&walking.walker, &walking.alphabet, text)?;
     Ok(stage_text(alloc, &walking.walker, &stage, side)?)
 }
 

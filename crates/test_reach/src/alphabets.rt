@@ -1,5 +1,5 @@
 //! Questions about alphabets.
-use crate::given::{push_class, push_separator};
+use crate::given::class_text;
 use anyhow::Result;
 use hub_automaton::{Alphabet, Class};
 use hub_glob::PathSpec;
@@ -48,21 +48,12 @@ pub(crate) fn samples(alloc: Global, items: &str) -> Result<String> {
 fn samples_text(alloc: Global, alphabet: &Alphabet) -> Result<String, AllocError> {
     let mut samples = String::new(alloc);
     let mut classes = String::new(alloc);
-    push_samples(&mut samples, &mut classes, alphabet)?;
-    format!(in alloc; "{samples} {classes}")
-}
-
-fn push_samples(
-    samples: &mut String,
-    classes: &mut String,
-    alphabet: &Alphabet,
-) -> Result<(), AllocError> {
     for number in 0..alphabet.count() {
         let sample = alphabet.sample(Class::new(number));
         samples.push(sample)?;
-        push_class(classes, alphabet.class_of(sample))?;
+        classes.push_str(class_text(alloc, alphabet.class_of(sample))?.as_str())?;
     }
-    Ok(())
+    format!(in alloc; "{samples} {classes}")
 }
 
 /// The class of a character.
@@ -71,12 +62,6 @@ pub(crate) fn class(alloc: Global, fields: &str) -> Result<String> {
     let character = character_of(alloc, character)?;
     let alphabet = alphabet_of(alloc, items)?;
     Ok(class_text(alloc, alphabet.class_of(character))?)
-}
-
-fn class_text(alloc: Global, class: Option<Class>) -> Result<String, AllocError> {
-    let mut text = String::new(alloc);
-    push_class(&mut text, class)?;
-    Ok(text)
 }
 
 /// For each of the items the fault of adding it, if there is one, and then how many classes there are, and the class of a
@@ -94,30 +79,38 @@ fn mentions_text(
     items: &str,
     character: char,
 ) -> Result<String> {
-    let mut text = String::new(alloc);
+    let mut answers = Vec::new(alloc);
     for item in items.split("; ") {
-        push_mention(alloc, &mut text, alphabet, item, character)?;
+        answers.push(mention_text(alloc, alphabet, item, character)?)?;
     }
-    Ok(text)
+    Ok(answers.as_slice().join(alloc, ", ")?)
 }
 
-fn push_mention(
+fn mention_text(
     alloc: Global,
-    text: &mut String,
     alphabet: &mut Alphabet,
     item: &str,
     character: char,
-) -> Result<(), AllocError> {
-    push_separator(text, ", ")?;
-    push_fault(text, &add(alloc, alphabet, item))?;
-    write!(text, "{} ", alphabet.count())?;
-    push_class(text, alphabet.class_of(character))
+) -> Result<String> {
+    let fault = fault_text(alloc, add(alloc, alphabet, item))?;
+    Ok(classes_text(alloc, alphabet, character, fault.as_str())?)
 }
 
-/// Appends the fault with a space after it, or nothing.
-fn push_fault(text: &mut String, added: &Result<()>) -> Result<(), AllocError> {
+/// The fault with a space after it, or nothing.
+fn fault_text(alloc: Global, added: Result<()>) -> Result<String, AllocError> {
     match added {
-        Ok(()) => Ok(()),
-        Err(fault) => write!(text, "{fault} "),
+        Ok(()) => Ok(String::new(alloc)),
+        Err(fault) => format!(in alloc; "{fault} "),
     }
+}
+
+/// The fault, how many classes there are, and the class of a character.
+fn classes_text(
+    alloc: Global,
+    alphabet: &Alphabet,
+    character: char,
+    fault: &str,
+) -> Result<String, AllocError> {
+    let class = class_text(alloc, alphabet.class_of(character))?;
+    format!(in alloc; "{fault}{} {class}", alphabet.count())
 }

@@ -1,41 +1,22 @@
 //! Questions about automata of specifications.
 use crate::automaton::Automaton;
-use crate::given::fields_of;
 use anyhow::{Context, Result};
 use hub_automaton::{Class, SpecSet, Spots};
 use std::alloc::{AllocError, Global};
-use test_kit::{digit, shown};
+use test_kit::{digit, shown, three, two};
 
-/// Answers a question about the automaton of specifications and texts:
-///
-/// - `walk`: whether one of the specifications matches what has been read of a text, after each of its characters.
-/// - `walk-in-place`: the same, by states that are written over others.
-/// - `kept`: whether two texts lead to the same state.
-/// - `range`: whether one of the specifications matches a text, from that number on and up to that one.
-pub(crate) fn answer(alloc: Global, question: &str, fields: &str) -> Result<String> {
-    let (specs, text, other) = fields_of(question, fields)?;
+/// Returns whether one of the specifications matches what has been read of a text, after each of its characters.
+pub(crate) fn walk(alloc: Global, fields: &str) -> Result<String> {
+    let (specs, text) = two(fields)?;
     let automaton = Automaton::of_specs(alloc, specs)?;
-    answer_on(alloc, question, &automaton, text, other)
+    Ok(automaton.walk(alloc, text)?)
 }
 
-fn answer_on(
-    alloc: Global,
-    question: &str,
-    automaton: &Automaton,
-    text: &str,
-    other: &str,
-) -> Result<String> {
-    match question {
-        "walk" => Ok(automaton.walk(alloc, text)?),
-        "walk-in-place" => walk_in_place(alloc, automaton, text),
-        "kept" => shown(alloc, &compared(automaton, text, other)?),
-        _ => range(alloc, automaton, text, other),
-    }
-}
-
-/// The first state that is written over is one of another automaton.
-fn walk_in_place(alloc: Global, automaton: &Automaton, text: &str) -> Result<String> {
+/// The same as `walk`, by states that are written over others. The first of those is a state of another automaton.
+pub(crate) fn walk_in_place(alloc: Global, fields: &str) -> Result<String> {
+    let (specs, text) = two(fields)?;
     let mut next = state_of(alloc, "Path a/*; BelowPath [a-c]?{x,y}", "a/b")?;
+    let automaton = Automaton::of_specs(alloc, specs)?;
     Ok(automaton.walk_in_place(alloc, text, &mut next)?)
 }
 
@@ -43,6 +24,14 @@ fn walk_in_place(alloc: Global, automaton: &Automaton, text: &str) -> Result<Str
 fn state_of(alloc: Global, specs: &str, text: &str) -> Result<Spots> {
     let automaton = Automaton::of_specs(alloc, specs)?;
     Ok(automaton.state_after(text)?)
+}
+
+/// Returns whether two texts lead to the same state.
+pub(crate) fn kept(alloc: Global, fields: &str) -> Result<String> {
+    let (specs, first, second) = three(fields)?;
+    let automaton = Automaton::of_specs(alloc, specs)?;
+    let said = compared(&automaton, first, second)?;
+    shown(alloc, &said)
 }
 
 fn compared(automaton: &Automaton, first: &str, second: &str) -> Result<&'static str, AllocError> {
@@ -74,9 +63,13 @@ fn start_text(alloc: Global, set: &SpecSet) -> Result<String, AllocError> {
     format!(in alloc; "{} {}", start.len(), set.matched(&start))
 }
 
-fn range(alloc: Global, automaton: &Automaton, text: &str, numbers: &str) -> Result<String> {
+/// Returns whether one of the specifications matches a text, from that number on and up to that one.
+pub(crate) fn range(alloc: Global, fields: &str) -> Result<String> {
+    let (specs, text, numbers) = three(fields)?;
     let (from, to) = numbers_of(numbers)?;
-    shown(alloc, &is_matched_in(automaton, text, from, to)?)
+    let automaton = Automaton::of_specs(alloc, specs)?;
+    let matched = is_matched_in(&automaton, text, from, to)?;
+    shown(alloc, &matched)
 }
 
 fn is_matched_in(
@@ -95,17 +88,11 @@ fn numbers_of(field: &str) -> Result<(usize, usize)> {
     Ok((from.parse::<usize>()?, to.parse::<usize>()?))
 }
 
-/// Answers a question about the classes of the automaton of specifications and a path:
-///
-/// - `likes`: for each class the one that is treated like it, as a digit.
-/// - `leads`: for each class whether it leads alike with class 0 from the state of a text, as `0` and `1`.
-pub(crate) fn answer_on_classes(alloc: Global, question: &str, fields: &str) -> Result<String> {
-    let (specs, path, text) = fields_of(question, fields)?;
+/// For each class the one that is treated like it, as a digit.
+pub(crate) fn likes(alloc: Global, fields: &str) -> Result<String> {
+    let (specs, path) = two(fields)?;
     let automaton = Automaton::with_path(alloc, path, specs)?;
-    match question {
-        "likes" => Ok(likes_text(alloc, &automaton.set)?),
-        _ => Ok(leads_after(alloc, &automaton, text)?),
-    }
+    Ok(likes_text(alloc, &automaton.set)?)
 }
 
 fn likes_text(alloc: Global, set: &SpecSet) -> Result<String, AllocError> {
@@ -114,6 +101,13 @@ fn likes_text(alloc: Global, set: &SpecSet) -> Result<String, AllocError> {
         write!(likes, "{}", set.like(Class::new(number)).number())?;
     }
     Ok(likes)
+}
+
+/// For each class whether it leads alike with class 0 from the state of a text, as `0` and `1`.
+pub(crate) fn leads(alloc: Global, fields: &str) -> Result<String> {
+    let (specs, path, text) = three(fields)?;
+    let automaton = Automaton::with_path(alloc, path, specs)?;
+    Ok(leads_after(alloc, &automaton, text)?)
 }
 
 fn leads_after(alloc: Global, automaton: &Automaton, text: &str) -> Result<String, AllocError> {

@@ -49,47 +49,33 @@ impl Automaton {
     /// The state after a text.
     pub(crate) fn state_after(&self, text: &str) -> Result<Spots, AllocError> {
         let mut state = self.set.start()?;
-        self.go_along(&mut state, text)?;
-        Ok(state)
-    }
-
-    fn go_along(&self, state: &mut Spots, text: &str) -> Result<(), AllocError> {
         for character in text.chars() {
             if let Some(class) = self.alphabet.class_of(character) {
-                self.advance(state, class)?;
+                state = self.advance(state, class)?;
             }
         }
-        Ok(())
+        Ok(state)
     }
 
     /// Returns whether one of the specifications matches what has been read of a text, after each of its characters, as `0` and `1`.
     pub(crate) fn walk(&self, alloc: Global, text: &str) -> Result<String, AllocError> {
+        let mut state = self.set.start()?;
         let mut matched = String::new(alloc);
-        self.push_matched(&mut matched, &mut self.set.start()?, text)?;
+        for character in text.chars() {
+            if let Some(class) = self.alphabet.class_of(character) {
+                state = self.advance(state, class)?;
+                matched.push(digit(self.set.matched(&state)))?;
+            }
+        }
         Ok(matched)
     }
 
-    fn push_matched(
-        &self,
-        matched: &mut String,
-        state: &mut Spots,
-        text: &str,
-    ) -> Result<(), AllocError> {
-        for character in text.chars() {
-            if let Some(class) = self.alphabet.class_of(character) {
-                self.advance(state, class)?;
-                matched.push(digit(self.set.matched(state)))?;
-            }
-        }
-        Ok(())
-    }
-
-    /// Goes on to the next state. A class that the automaton doesn't have changes nothing.
-    fn advance(&self, state: &mut Spots, class: Class) -> Result<(), AllocError> {
+    /// The next state. A class that the automaton doesn't have changes nothing.
+    fn advance(&self, state: Spots, class: Class) -> Result<Spots, AllocError> {
         if class.number() < self.set.class_count() {
-            *state = self.set.advance(state, class)?;
+            return self.set.advance(&state, class);
         }
-        Ok(())
+        Ok(state)
     }
 
     /// The same as `walk`, by states that are written over `next`.
@@ -99,25 +85,15 @@ impl Automaton {
         text: &str,
         next: &mut Spots,
     ) -> Result<String, AllocError> {
+        let mut state = self.set.start()?;
         let mut matched = String::new(alloc);
-        self.push_matched_in_place(&mut matched, &mut self.set.start()?, text, next)?;
-        Ok(matched)
-    }
-
-    fn push_matched_in_place(
-        &self,
-        matched: &mut String,
-        state: &mut Spots,
-        text: &str,
-        next: &mut Spots,
-    ) -> Result<(), AllocError> {
         for character in text.chars() {
             if let Some(class) = self.alphabet.class_of(character) {
-                self.advance_in_place(state, class, next)?;
+                self.advance_in_place(&mut state, class, next)?;
                 matched.push(digit(self.set.matched(next)))?;
             }
         }
-        Ok(())
+        Ok(matched)
     }
 
     /// Writes the next state over `next`, and a copy of it over `state`. A class that the automaton doesn't have changes

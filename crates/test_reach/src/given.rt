@@ -8,20 +8,6 @@ use hub_path::{Name, RelPath};
 use hub_profile::{Profile, read_profile};
 use hub_reach::mention;
 use std::alloc::{AllocError, Global};
-use test_kit::{three, two};
-
-/// The three fields of a question. One that the question doesn't have is empty.
-pub(crate) fn fields_of<'a>(word: &str, fields: &'a str) -> Result<(&'a str, &'a str, &'a str)> {
-    match word {
-        "reaches-top" | "walker" => Ok((fields, "", "")),
-        "kept" | "range" | "leads" => three(fields),
-        "may-at" | "writes-at" | "allowed" | "like" | "open" => three(fields),
-        _ => {
-            let (first, second) = two(fields)?;
-            Ok((first, second, ""))
-        }
-    }
-}
 
 /// Reads the profile over the roots `/srv/hub` and `/srv/s1` of these lines, with `; ` between them.
 pub(crate) fn profile_of(alloc: Global, lines: &str) -> Result<Box<Profile>> {
@@ -36,17 +22,12 @@ pub(crate) fn profile_ignoring(alloc: Global, specs: &str) -> Result<Box<Profile
 /// The text of the profile with these lines, each with this before it.
 fn profile_text(alloc: Global, before: &str, lines: &str) -> Result<String, AllocError> {
     let mut text = String::from_str(alloc, "root = /srv/hub\nroot = /srv/s1\n")?;
-    push_lines(&mut text, before, lines)?;
-    Ok(text)
-}
-
-fn push_lines(text: &mut String, before: &str, lines: &str) -> Result<(), AllocError> {
     for line in lines.split("; ") {
         if !line.is_empty() {
             write!(text, "{before}{line}\n")?;
         }
     }
-    Ok(())
+    Ok(text)
 }
 
 /// Reads the profile of a text. A fault becomes an error here, once for all questions.
@@ -76,18 +57,10 @@ pub(crate) fn alphabet_with(alloc: Global, path: &str, profile: &Profile) -> Res
     Ok(alphabet)
 }
 
-/// Appends a separator to a text that isn't empty.
-pub(crate) fn push_separator(text: &mut String, separator: &str) -> Result<(), AllocError> {
-    if text.is_empty() {
-        return Ok(());
-    }
-    text.push_str(separator)
-}
-
-/// Appends the number of a class, or `none`.
-pub(crate) fn push_class(text: &mut String, class: Option<Class>) -> Result<(), AllocError> {
+/// The number of a class, or `none`.
+pub(crate) fn class_text(alloc: Global, class: Option<Class>) -> Result<String, AllocError> {
     match class {
-        Some(class) => write!(text, "{}", class.number()),
-        None => text.push_str("none"),
+        Some(class) => format!(in alloc; "{}", class.number()),
+        None => String::from_str(alloc, "none"),
     }
 }

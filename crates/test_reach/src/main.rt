@@ -19,8 +19,6 @@ mod verbs;
 mod walkers;
 
 use anyhow::{Result, bail};
-use given::{fields_of, profile_of};
-use hub_profile::Profile;
 use std::alloc::Global;
 use test_kit::answer_each;
 
@@ -34,44 +32,36 @@ fn answer(alloc: Global, word: &str, fields: &str) -> Result<String> {
         "samples" => alphabets::samples(alloc, fields),
         "class" => alphabets::class(alloc, fields),
         "mentioned" => alphabets::mentioned(alloc, fields),
-        "walk" | "walk-in-place" | "kept" | "range" => automata::answer(alloc, word, fields),
+        "walk" => automata::walk(alloc, fields),
+        "walk-in-place" => automata::walk_in_place(alloc, fields),
+        "kept" => automata::kept(alloc, fields),
         "start" => automata::start(alloc, fields),
-        "likes" | "leads" => automata::answer_on_classes(alloc, word, fields),
+        "range" => automata::range(alloc, fields),
+        "likes" => automata::likes(alloc, fields),
+        "leads" => automata::leads(alloc, fields),
         "path" => paths::path(alloc, fields),
         "paths" => paths::paths(alloc, fields),
         "states" => states::states(alloc, fields),
-        _ => answer_on_lines(alloc, word, fields),
+        _ => answer_on_profile(alloc, word, fields),
     }
 }
 
-/// Answers a question about the profile whose lines are the first field.
-fn answer_on_lines(alloc: Global, word: &str, fields: &str) -> Result<String> {
-    let (lines, one, other) = fields_of(word, fields)?;
-    let profile = profile_of(alloc, lines)?;
-    answer_on_profile(alloc, word, &profile, one, other)
-}
-
-/// Answers a question about a profile, with the two fields after its lines.
-fn answer_on_profile(
-    alloc: Global,
-    word: &str,
-    profile: &Profile,
-    one: &str,
-    other: &str,
-) -> Result<String> {
+/// Answers a question about a profile.
+fn answer_on_profile(alloc: Global, word: &str, fields: &str) -> Result<String> {
     match word {
-        "reaches" => reached::reaches(alloc, profile, one),
-        "reaches-top" => reached::reaches_top(alloc, profile),
-        "may" | "writes" | "may-at" | "writes-at" => {
-            verbs::answer(alloc, word, profile, one, other)
-        }
-        "allowed" => allowed::allowed(alloc, profile, one, other),
-        "fronts" => walkers::walk(alloc, profile, one),
-        "fronts-in-place" => walkers::walk_in_place(alloc, profile, one),
-        "like" => walkers::like(alloc, profile, one, other),
-        "walker" => walkers::walker(alloc, profile),
-        "stages" => stages::stages(alloc, profile, one),
-        "open" => stages::open_classes(alloc, profile, one, other),
+        "reaches" => reached::reaches(alloc, fields),
+        "reaches-top" => reached::reaches_top(alloc, fields),
+        "may" => verbs::may_change(alloc, fields),
+        "writes" => verbs::is_written(alloc, fields),
+        "may-at" => verbs::may_change_at(alloc, fields),
+        "writes-at" => verbs::is_written_at(alloc, fields),
+        "allowed" => allowed::allowed(alloc, fields),
+        "fronts" => walkers::fronts(alloc, fields),
+        "fronts-in-place" => walkers::fronts_in_place(alloc, fields),
+        "like" => walkers::like(alloc, fields),
+        "walker" => walkers::walker(alloc, fields),
+        "stages" => stages::stages(alloc, fields),
+        "open" => stages::open_classes(alloc, fields),
         _ => bail!("no question has this word"),
     }
 }

@@ -1,5 +1,4 @@
 //! Tables that number what texts lead to.
-use crate::given::push_separator;
 use hub_automaton::{Alphabet, Class};
 use hub_reach::{SpecTable, Table};
 use std::alloc::{AllocError, Global};
@@ -12,8 +11,8 @@ pub(crate) trait Numbers {
     /// The next number. A class that the table doesn't have changes nothing.
     fn next_number(&mut self, number: usize, class: Class) -> Result<usize, AllocError>;
 
-    /// Appends the number, and what the table says of its texts.
-    fn push_number(&self, text: &mut String, number: usize) -> Result<(), AllocError>;
+    /// The number, and what the table says of its texts.
+    fn number_text(&self, alloc: Global, number: usize) -> Result<String, AllocError>;
 
     /// How many numbers there are.
     fn count(&self) -> usize;
@@ -26,24 +25,13 @@ pub(crate) fn numbers_text<N: Numbers>(
     table: &mut N,
     texts: &str,
 ) -> Result<String, AllocError> {
-    let mut numbers = String::new(alloc);
-    push_numbers(&mut numbers, alphabet, table, texts)?;
-    write!(numbers, " of {}", table.count())?;
-    Ok(numbers)
-}
-
-fn push_numbers<N: Numbers>(
-    numbers: &mut String,
-    alphabet: &Alphabet,
-    table: &mut N,
-    texts: &str,
-) -> Result<(), AllocError> {
+    let mut numbers = Vec::new(alloc);
     for text in texts.split("; ") {
         let number = number_after(alphabet, table, text)?;
-        push_separator(numbers, ", ")?;
-        table.push_number(numbers, number)?;
+        numbers.push(table.number_text(alloc, number)?)?;
     }
-    Ok(())
+    let numbers = numbers.as_slice().join(alloc, ", ")?;
+    format!(in alloc; "{numbers} of {}", table.count())
 }
 
 /// The number of a text.
@@ -73,10 +61,10 @@ impl Numbers for Table {
         Ok(number)
     }
 
-    /// Appends the number, whether the path of its stage is reached, and whether its texts are broken.
-    fn push_number(&self, text: &mut String, number: usize) -> Result<(), AllocError> {
+    /// The number, whether the path of its stage is reached, and whether its texts are broken.
+    fn number_text(&self, alloc: Global, number: usize) -> Result<String, AllocError> {
         if number >= self.len() {
-            return write!(text, "{number}");
+            return format!(in alloc; "{number}");
         }
         let reached = if self.reached(number) { " reached" } else { "" };
         let broken = if self.stage(number).is_broken() {
@@ -84,7 +72,7 @@ impl Numbers for Table {
         } else {
             ""
         };
-        write!(text, "{number}{reached}{broken}")
+        format!(in alloc; "{number}{reached}{broken}")
     }
 
     fn count(&self) -> usize {
@@ -104,12 +92,12 @@ impl Numbers for SpecTable {
         Ok(number)
     }
 
-    /// Appends the number, and whether its texts are matched.
-    fn push_number(&self, text: &mut String, number: usize) -> Result<(), AllocError> {
+    /// The number, and whether its texts are matched.
+    fn number_text(&self, alloc: Global, number: usize) -> Result<String, AllocError> {
         if number < self.len() && self.matched(number) {
-            return write!(text, "{number} matched");
+            return format!(in alloc; "{number} matched");
         }
-        write!(text, "{number}")
+        format!(in alloc; "{number}")
     }
 
     fn count(&self) -> usize {

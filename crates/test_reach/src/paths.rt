@@ -4,7 +4,6 @@ ghost use Rattle.hub_path.specs.Path.{text_of};
 ghost use Rattle.hub_automaton.specs.Spots.{is_covered, path_alternatives};
 
 use crate::automaton::Automaton;
-use crate::given::push_separator;
 use anyhow::Result;
 use hub_automaton::laws::{
     paths_mention_their_characters, texts_mention_what_their_names_do, what_is_added_is_mentioned,
@@ -68,21 +67,25 @@ pub(crate) fn paths(alloc: Global, paths: &str) -> Result<String> {
 }
 
 fn added(alloc: Global, builder: &mut SpecSetBuilder, paths: &str) -> Result<String> {
-    let mut text = String::new(alloc);
+    let mut answers = Vec::new(alloc);
     for path in paths.split("; ") {
-        push_separator(&mut text, ", ")?;
-        push_added(&mut text, builder, &RelPath::read(alloc, path)?)?;
+        answers.push(add(alloc, builder, path)?)?;
     }
-    Ok(text)
+    Ok(answers.as_slice().join(alloc, ", ")?)
 }
 
-fn push_added(
-    text: &mut String,
+fn add(alloc: Global, builder: &mut SpecSetBuilder, path: &str) -> Result<String> {
+    let path = RelPath::read(alloc, path)?;
+    Ok(add_path(alloc, builder, &path)?)
+}
+
+fn add_path(
+    alloc: Global,
     builder: &mut SpecSetBuilder,
     path: &RelPath,
-) -> Result<(), AllocError> {
+) -> Result<String, AllocError> {
     match builder.add_path(path) {
-        Ok(()) => write!(text, "{}", builder.len()),
-        Err(fault) => write!(text, "{fault} {}", builder.len()),
+        Ok(()) => format!(in alloc; "{}", builder.len()),
+        Err(fault) => format!(in alloc; "{fault} {}", builder.len()),
     }
 }

@@ -1,18 +1,24 @@
 //! Questions about the numbers of stages.
 ghost use Rattle.hub_reach.specs.Mention.{Mentions};
 
-use crate::given::{alphabet_of, alphabet_with};
+use crate::given::{alphabet_of, alphabet_with, profile_of};
 use crate::numbers::numbers_text;
 use anyhow::Result;
 use hub_automaton::{Alphabet, ClassSet};
 use hub_profile::Profile;
 use hub_reach::{Table, Walker};
 use std::alloc::{AllocError, Global};
-use test_kit::digit;
+use test_kit::{digit, three, two};
 
 /// For each of these texts in turn the number of its stage and what the table says of it, and then how many stages were
 /// found.
-pub(crate) fn stages(alloc: Global, profile: &Profile, texts: &str) -> Result<String> {
+pub(crate) fn stages(alloc: Global, fields: &str) -> Result<String> {
+    let (lines, texts) = two(fields)?;
+    let profile = profile_of(alloc, lines)?;
+    stages_of(alloc, &profile, texts)
+}
+
+fn stages_of(alloc: Global, profile: &Profile, texts: &str) -> Result<String> {
     let alphabet = alphabet_of(alloc, profile)?;
     let mut table = table_of(alloc, profile, &alphabet)?;
     Ok(numbers_text(alloc, &alphabet, &mut *table, texts)?)
@@ -27,14 +33,11 @@ pub(crate) fn table_of(alloc: Global, profile: &Profile, alphabet: &Alphabet) ->
 }
 
 /// For each of these characters whether its class may lead from the start elsewhere than class 0 does, as `0` and `1`.
-pub(crate) fn open_classes(
-    alloc: Global,
-    profile: &Profile,
-    path: &str,
-    characters: &str,
-) -> Result<String> {
-    let alphabet = alphabet_with(alloc, path, profile)?;
-    let mut table = table_of(alloc, profile, &alphabet)?;
+pub(crate) fn open_classes(alloc: Global, fields: &str) -> Result<String> {
+    let (lines, path, characters) = three(fields)?;
+    let profile = profile_of(alloc, lines)?;
+    let alphabet = alphabet_with(alloc, path, &profile)?;
+    let mut table = table_of(alloc, &profile, &alphabet)?;
     Ok(open_text(alloc, &alphabet, &mut table, characters)?)
 }
 

@@ -1,43 +1,18 @@
 //! Questions about what profiles may do.
-use crate::given::push_separator;
+use crate::given::profile_of;
 use anyhow::Result;
 use hub_path::{RelPath, Root};
 use hub_profile::{Profile, Verb};
 use hub_reach::{may, may_at, writes, writes_at};
 use std::alloc::{AllocError, Global};
-use test_kit::{path_of, shown};
+use test_kit::{path_of, shown, three, two};
 
-/// Answers a question about a profile and a root:
-///
-/// - `may`: what the profile may do there. `writes`: whether it writes there.
-/// - `may-at`, `writes-at`: the same at a path of the root.
-pub(crate) fn answer(
-    alloc: Global,
-    question: &str,
-    profile: &Profile,
-    root: &str,
-    path: &str,
-) -> Result<String> {
+/// What the profile may do at a root.
+pub(crate) fn may_change(alloc: Global, fields: &str) -> Result<String> {
+    let (lines, root) = two(fields)?;
     let root = Root::read(alloc, root)?;
-    match question {
-        "may" => Ok(allowed_text(alloc, profile, &root)?),
-        "writes" => shown(alloc, &writes(profile, &root)),
-        _ => answer_at(alloc, question, profile, &root, path),
-    }
-}
-
-fn answer_at(
-    alloc: Global,
-    question: &str,
-    profile: &Profile,
-    root: &Root,
-    path: &str,
-) -> Result<String> {
-    let path = path_of(alloc, path)?;
-    match question {
-        "may-at" => Ok(allowed_at_text(alloc, profile, root, &path)?),
-        _ => shown(alloc, &writes_at(profile, root, &path)),
-    }
+    let profile = profile_of(alloc, lines)?;
+    Ok(allowed_text(alloc, &profile, &root)?)
 }
 
 fn allowed_text(alloc: Global, profile: &Profile, root: &Root) -> Result<String, AllocError> {
@@ -58,22 +33,34 @@ pub(crate) fn verbs_text<F: Fn(Verb) -> bool>(
 ) -> Result<String, AllocError>
     requires { F.IsAlwaysCallable allows }
 {
-    let mut words = String::new(alloc);
+    let mut words = Vec::new(alloc);
     for (verb, word) in VERBS {
         if allows(verb) {
-            push_word(&mut words, word)?;
+            words.push(word)?;
         }
     }
     if words.is_empty() {
-        words.push_str("nothing")?;
+        words.push("nothing")?;
     }
-    Ok(words)
+    words.as_slice().join(alloc, " ")
 }
 
-/// Appends a word, after a space if it isn't the first.
-fn push_word(words: &mut String, word: &str) -> Result<(), AllocError> {
-    push_separator(words, " ")?;
-    words.push_str(word)
+/// Returns whether the profile writes at a root.
+pub(crate) fn is_written(alloc: Global, fields: &str) -> Result<String> {
+    let (lines, root) = two(fields)?;
+    let root = Root::read(alloc, root)?;
+    let profile = profile_of(alloc, lines)?;
+    let written = writes(&profile, &root);
+    shown(alloc, &written)
+}
+
+/// What the profile may do at a path of a root.
+pub(crate) fn may_change_at(alloc: Global, fields: &str) -> Result<String> {
+    let (lines, root, path) = three(fields)?;
+    let root = Root::read(alloc, root)?;
+    let path = path_of(alloc, path)?;
+    let profile = profile_of(alloc, lines)?;
+    Ok(allowed_at_text(alloc, &profile, &root, &path)?)
 }
 
 fn allowed_at_text(
@@ -83,4 +70,14 @@ fn allowed_at_text(
     path: &RelPath,
 ) -> Result<String, AllocError> {
     verbs_text(alloc, |verb| may_at(profile, root, path, verb))
+}
+
+/// Returns whether the profile writes at a path of a root.
+pub(crate) fn is_written_at(alloc: Global, fields: &str) -> Result<String> {
+    let (lines, root, path) = three(fields)?;
+    let root = Root::read(alloc, root)?;
+    let path = path_of(alloc, path)?;
+    let profile = profile_of(alloc, lines)?;
+    let written = writes_at(&profile, &root, &path);
+    shown(alloc, &written)
 }

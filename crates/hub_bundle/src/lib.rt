@@ -4,11 +4,16 @@
 //! - [`read_bundle`] cuts bytes into [`Section`]s, each below its [`Heading`], or returns the first [`BundleLineFault`].
 //! - [`read_sections`] reads the sections, and returns their [`Contents`] or the first [`SectionFault`].
 //!
-//! ```text
-//! let bytes = read_input(alloc, &mut input)?;
-//! let sections = read_bundle(alloc, bytes.as_slice())?;
-//! let contents = read_sections(alloc, sections.as_slice())?;
+//! ```rust
+//! let sections = match read_bundle(alloc, bytes.as_slice()) {
+//!     Ok(sections) => sections,
+//!     Err(fault) => return Err(bad_bundle(fault)),
+//! };
+//! match read_sections(alloc, sections.as_slice()) {
+//!     Ok(contents) => Ok(contents),
 //! ```
+//!
+//! From `hub_serve/src/answer.rt`.
 //!
 //! The contracts use the words of `specs/Input`, of `specs/Bundle` (which bytes are a bundle, what its sections are, and
 //! which fault comes first) and of `specs/Sections` (what sections say).

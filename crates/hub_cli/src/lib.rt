@@ -5,13 +5,14 @@
 //!   reaches a path.
 //! - [`read_files`] reads which [`Files`] the words name.
 //!
-//! ```text
+//! ```rust
 //! match read_words(alloc, words) {
-//!     Ok(Query::About(question)) => ..,
-//!     Ok(Query::Reach { profile, path }) => ..,
-//!     Err(error) => rt.eprint(&error),
+//!     Ok(asked) => answer(rt, alloc, asked, input, output, progress),
+//!     Err(error) => refuse(rt, &error, output),
 //! }
 //! ```
+//!
+//! From `hub_serve/src/program.rt`.
 //!
 //! The contracts use the words of `specs/Words`, which defines the command in `clap`'s terms, and with that what each list of
 //! words asks for. No other crate uses `clap`: what a caller needs of it is exported here.

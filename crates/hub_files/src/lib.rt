@@ -4,13 +4,12 @@
 //! - [`bundle_of`] puts parts together: the heading of each section, and below it the lines of its file.
 //! - [`part_fault`] says why a file can't be a section ([`PartFault`]).
 //!
-//! ```text
-//! let docs = Part { kind: Kind::Profile, file: "unison/docs.prf", bytes: b"root = /a\nroot = /b" };
-//! let bundle = bundle_of(alloc, &[docs])?;
-//! // %profile docs
-//! // root = /a
-//! // root = /b
+//! ```rust
+//! match bundle_of(alloc, parts) {
+//!     Ok(bundle) => {
 //! ```
+//!
+//! From `hubsync/src/bundled.rt`.
 //!
 //! The contracts use the words of `specs/Files`. Only functions that return a `Result` allocate.
 #![tactic(auto)]

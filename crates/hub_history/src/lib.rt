@@ -6,11 +6,12 @@
 //! - [`Seat`]: the right to step at a desk. It counts the steps made with it.
 //! - [`Gate`]: what a caller does around each step, and when a job has ended.
 //!
-//! ```text
-//! let (desk, seats) = Desk::new(alloc, Book::new(alloc, &set, root, tree)?, 2)?;
-//! let answer = desk.step(&rt, &mut seat, job, op, &gate)?;
-//! let book = desk.close(seats)?;
+//! ```rust
+//! let answer = desk.step(rt, seat, job, op, gate);
+//! push_told(alloc, text, &answer)
 //! ```
+//!
+//! From `test_runner/src/desks.rt`.
 //!
 //! No clause can name what lies under a lock. So the contract of [`Desk::step`] speaks of the seat and of the kind of the
 //! answer alone; what a step does to the book is the contract of [`Book::apply`] and of `step_in`, which `step` calls while it

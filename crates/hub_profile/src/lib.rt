@@ -4,11 +4,12 @@
 //! apart and that no kept value is over another; or a [`ProfileFault`], the first [`Fault`] with its line.
 //! [`read_rules`] reads [`Rules`] likewise.
 //!
-//! ```text
-//! root = /srv/hub
-//! root = /srv/s1
-//! path = docs
+//! ```rust
+//! let name = Name::read(alloc, name)?;
+//! Ok(read_profile(alloc, name, text.as_bytes())?)
 //! ```
+//!
+//! From `bench/src/profiles.rt`.
 //!
 //! Both texts are read line by line, each line over what the lines before it say (specs/LineByLine). A preference is
 //! one row of `keys` and one case of `with_value` (specs/Reading). A name of a rules text is one row of `rule_keys` and

@@ -2,20 +2,19 @@
 //!
 //! [`remark`] says, for the first bytes of an input and of the answer to it, what belongs on standard error.
 //!
-//! ```text
-//! let input = Front { bytes: b"%profile p\npath docs\n", is_whole: true };
-//! let output = Front { bytes: b"fault: profile p line 1: NoEquals\n", is_whole: true };
-//! let text = remark(alloc, words, input, output)?;
-//! // hubsync: bundle line 2: path docs
-//! // hubsync: there is no = in it: write path = docs
+//! ```rust
+//! if let Ok(text) = remark(rt.alloc(), words, files, input.front(), output.front()) {
+//!     let _ = eprint!(rt; "{text}");
 //! ```
 //!
+//! From `hubsync/src/served.rt`.
+//!
 //! The answer is read as it was written: what it names (a profile, a section, a line, a root, a rule) is looked up in the input
-//! (`source`, `place`). So this crate uses none of those that read profiles, states and certificates, and takes part in no answer.
+//! (`hub_source`). So this crate uses none of those that read profiles, states and certificates, and takes part in no answer.
 //!
 //! - Faults: `bundle` of the headings, `setting`, `value` and `pattern` of profiles and rules, `text` of states and certificates.
 //! - Refusals and the lines that make them so: `refusal`. What `reach`, `run` and the command line were asked: `asked`.
-//! - A yes that may mislead: `note`.
+//! - A yes that may mislead: `note`, `idle`, `ignored`.
 //!
 //! The text is free, and is only tested (`examples/remarks.txt`). What is proved is that each function is safe and ends.
 //!

@@ -10,11 +10,18 @@
 //! - [`undecided_pairs`] are the lines for standard error: which two profiles were too large to decide.
 //! - [`Blocks`] is the text of an answer, in blocks.
 //!
-//! ```text
-//! let report = Report::refusal(alloc, &set, &fault);
+//! ```rust
+//! let report = report_on(rt, alloc, asked, input, progress);
+//! progress.over();
 //! let status = report.status();
-//! let text = report.into_text(alloc)?;
+//! name_undecided(rt, report.undecided());
+//! match report.into_text(alloc) {
+//!     Ok(text) => write_text(&text, status, output),
+//!     Err(_) => write_out_of_memory(output),
+//! }
 //! ```
+//!
+//! From `hub_serve/src/program.rt`.
 //!
 //! The contracts use the words of `specs/Report` (the text and the status of each answer; `specs/FaultyInput`, `ReachAnswer`,
 //! `Verdict`, `ClashesAnswer` and `RunAnswer` have those of its cases), `specs/Blocks` (the bytes of a

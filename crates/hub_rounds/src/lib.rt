@@ -4,10 +4,12 @@
 //! - [`rounds_of`] cuts the set into [`Rounds`]. The profiles of a round are a safe set, which `hub_search::check` has verified.
 //!   A profile that breaks a rule by itself is in no round.
 //!
-//! ```text
+//! ```rust
 //! let clashes = clashes_of(alloc, &set)?;
-//! let rounds = rounds_of(alloc, set, &clashes)?;
+//! match rounds_of(alloc, Box::into_inner(set), &clashes) {
 //! ```
+//!
+//! From `test_checker/src/rounds.rt`.
 //!
 //! Three profiles keep the folders `a`, `a/b` and `c` of one hub. The first two clash, so there are two rounds: the first and
 //! the third profile, and then the second one. At least two are needed.

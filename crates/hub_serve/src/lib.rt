@@ -2,11 +2,14 @@
 //!
 //! - [`serve_process`] is all of it, from the words as the process got them. [`serve`] begins with words that were read.
 //!
-//! ```text
-//! let mut input = Watched::new(reader);
-//! let mut output = Watched::new(writer);
-//! let status = serve(&rt, &["hubsync", "run"], &mut input, &mut output, &NoProgress);
+//! ```rust
+//! let words: Vec<&str> = words.split(' ').collect(rt.alloc())?;
+//! let mut input = Watched::new(input);
+//! let mut output = Watched::new(output);
+//! Ok(serve(rt, words.as_slice(), &mut input, &mut output, &NoProgress))
 //! ```
+//!
+//! From `test_serve/src/shown.rt`.
 //!
 //! - The words are read by `hub_cli`. The input is read by `hub_bundle`, with all of its sections (`answer`).
 //! - The set of the profiles and rules is made, and is checked or its certificates are verified (`task`, `verdict`); or one

@@ -5,11 +5,11 @@
 //! - [`FaultPlace`]: where a fault is, as the line of an answer says it.
 //! - [`say`], [`say_line`] and [`say_placed`] add a line to a remark. [`nearest`] is the known word that was meant.
 //!
-//! ```text
-//! let source = Source::read(alloc, b"%profile p\npath docs\n", true, &[])?;
-//! let place = place_in_profile(&source, "p line 1: NoEquals")?;
-//! // place.section == 1, place.number == 1, place.fault == "NoEquals"
+//! ```rust
+//! let source = Source::read(alloc, input.bytes, input.is_whole, files)?;
 //! ```
+//!
+//! From `hub_remarks/src/answer.rt`.
 //!
 //! What an answer names is looked up in the text of the input, so this crate uses none of those that read profiles, states and
 //! certificates. What is proved is that each function is safe and ends, and of some what they give: the text of a line and what is odd

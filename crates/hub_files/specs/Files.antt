@@ -1,6 +1,7 @@
 -- The bundle that is made of files.
-use Rattle.std.specs.Prelude.{ℕ, ◌+◌, ◌-◌, ◌==◌, ◌&&◌, ◌||◌, not, Bool, true, false, nat_eq, List, [], ◌∷◌, ◌++◌, take, length, Option, Some, None, is_some, codes, if◌then◌else◌}
+use Rattle.std.specs.Prelude.{ℕ, ◌+◌, ◌-◌, ◌==◌, ◌&&◌, ◌||◌, not, Bool, false, nat_eq, List, [], ◌∷◌, ◌++◌, take, length, Option, Some, None, is_some, codes, if◌then◌else◌}
 use Rattle.std.specs.List.{ends_with, flat_map, list_any, position}
+use Rattle.std.specs.Option.{option_map}
 use Rattle.hub_text.specs.declared.line.Line.{Line}
 use Rattle.hub_text.specs.Lines.{lines_of}
 use Rattle.hub_files.specs.declared.bundle.FilesFault.{FilesFault}
@@ -57,14 +58,14 @@ part_text p = heading_word p.kind ++ heading_name p.kind p.file.now ++ 10 ∷ p.
 abbrev pub bundle_of : List Part → List ℕ
 bundle_of parts = flat_map part_text parts
 
--- The number of the first of these lines that begins with `%`, where the first one has the number n.
+-- A line that begins with `%` is a heading.
 abbrev pub is_heading : List ℕ → Bool
 is_heading [] = false
 is_heading (b ∷ bs) = b == 37
 
-abbrev pub heading_line : ℕ → List (Line (List ℕ)) → Option ℕ
-heading_line n [] = None
-heading_line n (l ∷ ls) = if is_heading l.text then Some n else heading_line (n + 1) ls
+-- The number of the first heading among these lines, from 1 on.
+abbrev pub heading_line : List (Line (List ℕ)) → Option ℕ
+heading_line ls = option_map (λ i. i + 1) (position (λ l. is_heading l.text) ls)
 
 -- A name that can't stand in a heading has an LF or a CR.
 abbrev pub has_break : List ℕ → Bool
@@ -77,7 +78,7 @@ heading_fault (Some n) = Some (HasHeading n)
 -- Why a file can't be a section: its name, or a line that would begin another section.
 abbrev pub part_fault : Part → Option PartFault
 part_fault p =
-    if has_break (heading_name p.kind p.file.now) then Some BadName else heading_fault (heading_line 1 (lines_of p.bytes.now))
+    if has_break (heading_name p.kind p.file.now) then Some BadName else heading_fault (heading_line (lines_of p.bytes.now))
 
 -- The number of the first of these files that can't be a section, from 0 on.
 abbrev pub is_faulty : Part → Bool

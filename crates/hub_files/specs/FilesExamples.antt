@@ -1,7 +1,7 @@
 -- Worked values of the bundle that is made of files.
 use Rattle.std.specs.Prelude.{◌≡◌, codes, refl, Some, None}
 use Rattle.hub_text.specs.Lines.{lines_of}
-use Rattle.hub_files.specs.Files.{has_break, heading_line, line_end, profile_name}
+use Rattle.hub_files.specs.Files.{heading_line, line_end, profile_name}
 
 a_profile_is_named_by_its_file : profile_name (codes "/home/anna/.unison/docs.prf") ≡ codes "docs"
 a_profile_is_named_by_its_file = refl
@@ -24,8 +24,8 @@ a_line_end_is_not_added_twice = refl
 an_empty_file_has_no_line : line_end (codes "") ≡ codes ""
 an_empty_file_has_no_line = refl
 
-a_heading_on_the_second_line : heading_line 1 (lines_of (codes "a\n%b\nc")) ≡ Some 2
+a_heading_on_the_second_line : heading_line (lines_of (codes "a\n%b\nc")) ≡ Some 2
 a_heading_on_the_second_line = refl
 
-a_percent_within_a_line : heading_line 1 (lines_of (codes "a%\n b%")) ≡ None
+a_percent_within_a_line : heading_line (lines_of (codes "a%\n b%")) ≡ None
 a_percent_within_a_line = refl

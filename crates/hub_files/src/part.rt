@@ -83,14 +83,10 @@ fn has_break(name: &[u8]) -> bool
 
 /// The number of the first line that begins with `%`.
 fn heading_line(bytes: &[u8]) -> Option<usize>
-    ensures { result ≡ files.heading_line 1 (lines_of bytes.now) }
+    ensures { result ≡ files.heading_line (lines_of bytes.now) }
 {
-    for (i, line) in Lines::new(bytes).enumerate() {
-        if is_heading(line.text) {
-            return Some(i + 1);
-        }
-    }
-    None
+    let index = Lines::new(bytes).position(|line| is_heading(line.text))?;
+    Some(index + 1)
 }
 
 /// Returns whether a line begins with `%`.

@@ -1,36 +1,24 @@
-use Rattle.std.proofs.Common.{◌∙◌, ◌+◌, ℕ, Option, Some, sym, ap, length}
-use Rattle.std.proofs.lemmas.List.{length_push}
-use Rattle.std.proofs.lemmas.Iterator.Consumers.{YieldsList-turn, YieldsList-end}
+use Rattle.std.proofs.Common.{◌≡◌, ◌+◌, ◌∙◌, ℕ, List, Option, sym, ap, rules, tests}
+use Rattle.std.specs.List.{position}
+use Rattle.std.specs.Option.{option_map}
+use Rattle.std.proofs.lemmas.Iterator.Search.{position_from_yields_List}
+use Rattle.hub_text.specs.declared.line.Line.{Line}
 use Rattle.hub_text.specs.Lines.{lines_of}
-use Rattle.hub_text.specs.Takes.{of_bytes, numbered_bytes, numbered_turn, numbered_end}
-use Rattle.hub_files.proofs.Lines.{plain_more, heading_found, none_left}
+use Rattle.hub_text.specs.Takes.{YieldsList-bytes}
+use Rattle.hub_files.specs.Files.{heading_line, is_heading}
 use Rattle.hub_files.proofs.part.heading_line.Goals as goal
 
-pub returns-then-is_heading : goal.returns-then-is_heading
-returns-then-is_heading c =
-    let bytes = c.args.bytes.now in
-    let road = numbered_bytes {s = c.into_iter-i-iterator.result} bytes (cc) (cc) in
-    let turn = YieldsList-turn road c.loop-i.yielded _ c.loop-i.yielded_by c.next.result c.next.new.self (c.in-Some.i, c.in-Some.line) c.in-Some.is c.next.ensures.steps in
-    let k = length c.loop-i.yielded in
-    let l = of_bytes c.in-Some.line in
-    let at = numbered_turn (lines_of bytes) k c.in-Some.i l turn in
-    let some : ℕ → Option ℕ = λ n. Some (n + 1) in
-    ap some at.0 ∙ sym (c.loop-i.invariant ∙ heading_found (lines_of bytes) k l at.1 at.2 (sym c.is_heading.ensures ∙ c.if-is_heading.true))
+abbrev number_of : Option ℕ → Option ℕ
+number_of index = option_map (λ i. i + 1) index
 
-pub loop-i-preserved : goal.loop-i-preserved
-loop-i-preserved c =
-    let bytes = c.args.bytes.now in
-    let road = numbered_bytes {s = c.into_iter-i-iterator.result} bytes (cc) (cc) in
-    let turn = YieldsList-turn road c.loop-i.yielded _ c.loop-i.yielded_by c.next.result c.next.new.self (c.in-Some.i, c.in-Some.line) c.in-Some.is c.next.ensures.steps in
-    let k = length c.loop-i.yielded in
-    let l = of_bytes c.in-Some.line in
-    let at = numbered_turn (lines_of bytes) k c.in-Some.i l turn in
-    rw (length_push c.loop-i.yielded (c.in-Some.i, c.in-Some.line))
-    (c.loop-i.invariant ∙ plain_more (lines_of bytes) k l at.1 at.2 (sym c.is_heading.ensures ∙ c.if-is_heading.false))
+pub returns-in_err-index : goal.returns-in_err-index
+returns-in_err-index c =
+    let found : c.position.result ≡ position (λ (l : Line (List ℕ)). is_heading l.text) (lines_of c.new.result) =
+    position_from_yields_List (λ (l : Line (List ℕ)). is_heading l.text) c.position.new.self _ c.position.result c.position.ensures.ran (YieldsList-bytes c.new.result) (λ x b q k. search (rules, tests)) in
+    c.from_residual.ensures ∙ (ap number_of (sym c.in_err-index.was ∙ found) ∙ ap (λ s. heading_line (lines_of s)) c.new.ensures)
 
 pub returns : goal.returns
 returns c =
-    let bytes = c.args.bytes.now in
-    let road = numbered_bytes {s = c.into_iter-i-iterator.result} bytes (cc) (cc) in
-    let end = YieldsList-end road c.loop-i.yielded _ c.loop-i.yielded_by c.next.result c.next.new.self c.in-None.is c.next.ensures.steps in
-    sym (c.loop-i.invariant ∙ none_left (lines_of bytes) (length c.loop-i.yielded) (numbered_end (lines_of bytes) (length c.loop-i.yielded) end.1))
+    let found : c.position.result ≡ position (λ (l : Line (List ℕ)). is_heading l.text) (lines_of c.new.result) =
+    position_from_yields_List (λ (l : Line (List ℕ)). is_heading l.text) c.position.new.self _ c.position.result c.position.ensures.ran (YieldsList-bytes c.new.result) (λ x b q k. search (rules, tests)) in
+    ap number_of (sym c.in_ok-index.was ∙ found) ∙ ap (λ s. heading_line (lines_of s)) c.new.ensures

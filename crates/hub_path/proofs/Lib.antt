@@ -1,2 +1,3 @@
+pub mod Loops
 pub mod PathFacts
 pub mod PathTexts

@@ -49,6 +49,10 @@ joined-later ns i n l e later =
     ∙ (ap (λ t. encode_utf8_all (text_of (take i ns)) ++ (t ++ encode_utf8_all n)) (encode_ascii 47 (lit< tt))
     ∙ sym (append_assoc (encode_utf8_all (text_of (take i ns))) (47 ∷ []) (encode_utf8_all n)))))
 
+-- A path with one more name.
+pub place-push : (p : Path) (n : Name) → IsTrue (is_place p) → IsTrue (is_name n) → IsTrue (is_place (p ++ n ∷ []))
+place-push p n h k = list_all-append is_name p (n ∷ []) ∙ rw (h, k) refl
+
 -- The names that were made of the first parts of a text.
 pub record NamesSoFar (all names : Path) (count : ℕ) : Type 0 where
   pub count_is : length names ≡ count
@@ -74,7 +78,7 @@ names-more all names i n m so_far l e good =
     record {
       count_is = length-append names (m ∷ []) ∙ ap (λ k. k + 1) so_far.count_is;
       front = ap (λ ns. ns ++ m ∷ []) so_far.front ∙ (ap (λ k. take i all ++ k ∷ []) (picked (is_name n) n m good ∙ e) ∙ sym (take_more all i n l));
-      valid = list_all-append is_name names (m ∷ []) ∙ rw (so_far.valid, valid) refl;
+      valid = place-push names m so_far.valid valid;
     }
 
 list_all-fails : (ns : Path) (i : ℕ) (n : Name) → i < length ns → n ≡ get_or ns i n → is_name n ≡ false → is_place ns ≡ false

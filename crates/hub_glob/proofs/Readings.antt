@@ -1,9 +1,9 @@
 -- The steps of reading a specification.
-use Rattle.std.proofs.Common.{◌≡◌, ℕ, suc, zero, ◌+◌, ◌-◌, ◌*◌, ◌<◌, ◌≤◌, min, Bool, true, false, ◌&&◌, ◌==◌, List, [], ◌∷◌, ◌++◌, length, drop, get_or, Option, Some, None, Result, Ok, Err, refl, sym, ap, ◌∙◌, arith, add-one, append_assoc, append-nil, ⊎_elim}
+use Rattle.std.proofs.Common.{◌≡◌, ℕ, suc, zero, ◌+◌, ◌-◌, ◌*◌, ◌<◌, ◌≤◌, min, Bool, true, false, ◌&&◌, ◌==◌, List, [], ◌∷◌, ◌++◌, length, take, drop, get_or, Option, Some, None, Result, Ok, Err, refl, sym, ap, ◌∙◌, arith, add-one, append_assoc, append-nil, ⊎_elim}
 use Rattle.std.specs.Prelude.{codes, if◌then◌else◌}
 use Rattle.std.specs.List.{range_with_len}
 use Rattle.std.specs.Str.{IsUtf8, chars}
-use Rattle.std.proofs.lemmas.List.{drop_more, length_push, length-drop}
+use Rattle.std.proofs.lemmas.List.{drop_more, drop_all, take_all, length_push, length-drop}
 use Rattle.std.proofs.lemmas.Bool.{cases_lt}
 use Rattle.std.proofs.Math.Nat.{mul_assoc, mul-le-mul_left}
 use Rattle.hub_text.specs.AsciiWords.{is_word}
@@ -118,6 +118,10 @@ pub set_closed : (in_name : Bool) (set : List Token) (t : Token) (ts old : List 
 set_closed in_name set t ts old h e =
     ap (signs in_name (Some set)) e ∙ (λ i. if (h i) then set_sign set true ∷ signs in_name None ts else signs in_name (Some (set ++ t ∷ [])) ts)
 
+-- What follows an item, as a range to the end.
+pub rest_all : {X : Type 0} (k : ℕ) (xs : List X) → take (length xs - k) (drop k xs) ≡ drop k xs
+rest_all k xs = take_all (length xs - k) (drop k xs) (omega (arith, length-drop k xs))
+
 -- Ranges.
 pub range-push : (low k : ℕ) → range_with_len low (k + 1) ≡ range_with_len low k ++ (low + k) ∷ []
 range-push low k = ap (range_with_len low) (add-one k) ∙ go low k where
@@ -189,9 +193,26 @@ pub one_failed : (set : List Token) (i : ℕ) (old : List ℕ) (d : Token) (f : 
 one_failed set i old d f l h m e =
     add_failed (member (get_or set i d)) (members (drop (i + 1) set)) (members set) old f m (e ∙ ap (then_members (Ok old)) (one_behind set i d l h))
 
+pub range_failed : (set : List Token) (i : ℕ) (old : List ℕ) (d : Token) (f : GlobFault) → i + 2 < length set → is_plain 45 (get_or set (i + 1) d) ≡ true
+    → range_member (get_or set i d) (get_or set (i + 2) d) ≡ Err f → members set ≡ then_members (Ok old) (members (drop i set)) → members set ≡ Err f
+range_failed set i old d f l h m e =
+    add_failed (range_member (get_or set i d) (get_or set (i + 2) d)) (members (drop (i + 3) set)) (members set) old f m
+    (e ∙ ap (then_members (Ok old)) (members_range (drop i set) (get_or set i d) (get_or set (i + 1) d) (get_or set (i + 2) d) (drop (i + 3) set) (three_behind set i d l) h))
+
+pub none_read : (r : Result (List ℕ) GlobFault) (xs : List ℕ) → xs ≡ [] → r ≡ then_members (Ok xs) r
+none_read (Ok ys) xs e = ap (λ zs. then_members (Ok zs) (Ok ys)) (sym e)
+none_read (Err f) xs e = refl
+
+pub all_read : (set : List Token) (i : ℕ) (old : List ℕ) → length set ≤ i → members set ≡ then_members (Ok old) (members (drop i set)) → members set ≡ Ok old
+all_read set i old l e = e ∙ ap (λ ts. then_members (Ok old) (members ts)) (drop_all i set l) ∙ ap Ok (append-nil old)
+
 -- Parts in turn.
 abbrev pub then_parts : List Part → Result (List Part) GlobFault → Result (List Part) GlobFault
 then_parts ps rest = rest >>= λ qs. Ok (ps ++ qs)
+
+pub no_parts : (r : Result (List Part) GlobFault) (ps : List Part) → ps ≡ [] → r ≡ then_parts ps r
+no_parts (Ok qs) ps e = ap (λ rs. then_parts rs (Ok qs)) (sym e)
+no_parts (Err f) ps e = refl
 
 pub part_added : (whole now rest : Result (List Part) GlobFault) (ps more : List Part) (p : Part) → whole ≡ then_parts ps now → now ≡ then_part p rest
     → more ≡ ps ++ p ∷ [] → whole ≡ then_parts more rest

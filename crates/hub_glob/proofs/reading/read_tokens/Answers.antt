@@ -1,4 +1,5 @@
 use Rattle.std.proofs.Common.{◌≡◌, ◌==◌, [], ◌∷◌, ◌++◌, length, drop, true, false, chars, sym, ap, ◌∙◌, arith, eq-eqb}
+use Rattle.std.specs.Str.Iter.{chars_rest}
 use Rattle.std.proofs.lemmas.Iterator.{YieldsList-from_chars}
 use Rattle.std.proofs.lemmas.Iterator.Consumers.{YieldsList-turn, YieldsList-end}
 use Rattle.std.proofs.lemmas.List.{drop_all}
@@ -11,7 +12,7 @@ use Rattle.hub_glob.proofs.reading.read_tokens.Goals as goal
 
 pub returns-then-not-is_special : goal.returns-then-not-is_special
 returns-then-not-is_special c =
-    let t = YieldsList-turn (YieldsList-from_chars c.args.pattern.now c.utf8.pattern cc) c.loop-c.yielded _ c.loop-c.yielded_by _ _ c.in-Some.c c.in-Some.is c.next.ensures.steps in
+    let t = YieldsList-turn (YieldsList-from_chars c.args.pattern.now c.utf8.pattern (ap chars_rest c.into_iter-c-iterator.ensures.into_iter_gives ∙ c.chars-c-items.ensures.rest)) c.loop-c.yielded _ c.loop-c.yielded_by _ _ c.in-Some.c c.in-Some.is c.next.ensures.steps in
     let e = next_character (chars c.args.pattern.now) c.loop-c.yielded c.in-Some.c t in
     let cs = chars c.args.pattern.now in
     let ts = c.loop-c.tokens.items in
@@ -22,7 +23,7 @@ returns-then-not-is_special c =
 
 pub loop-c-preserved-then-escaped : goal.loop-c-preserved-then-escaped
 loop-c-preserved-then-escaped c =
-    let t = YieldsList-turn (YieldsList-from_chars c.args.pattern.now c.utf8.pattern cc) c.loop-c.yielded _ c.loop-c.yielded_by _ _ c.in-Some.c c.in-Some.is c.next.ensures.steps in
+    let t = YieldsList-turn (YieldsList-from_chars c.args.pattern.now c.utf8.pattern (ap chars_rest c.into_iter-c-iterator.ensures.into_iter_gives ∙ c.chars-c-items.ensures.rest)) c.loop-c.yielded _ c.loop-c.yielded_by _ _ c.in-Some.c c.in-Some.is c.next.ensures.steps in
     let e = next_character (chars c.args.pattern.now) c.loop-c.yielded c.in-Some.c t in
     let cs = chars c.args.pattern.now in
     let ts = c.loop-c.tokens.items in
@@ -33,7 +34,7 @@ loop-c-preserved-then-escaped c =
 
 pub loop-c-preserved-then-c-eq92 : goal.loop-c-preserved-then-c-eq92
 loop-c-preserved-then-c-eq92 c =
-    let t = YieldsList-turn (YieldsList-from_chars c.args.pattern.now c.utf8.pattern cc) c.loop-c.yielded _ c.loop-c.yielded_by _ _ c.in-Some.c c.in-Some.is c.next.ensures.steps in
+    let t = YieldsList-turn (YieldsList-from_chars c.args.pattern.now c.utf8.pattern (ap chars_rest c.into_iter-c-iterator.ensures.into_iter_gives ∙ c.chars-c-items.ensures.rest)) c.loop-c.yielded _ c.loop-c.yielded_by _ _ c.in-Some.c c.in-Some.is c.next.ensures.steps in
     let e = next_character (chars c.args.pattern.now) c.loop-c.yielded c.in-Some.c t in
     let cs = chars c.args.pattern.now in
     let ts = c.loop-c.tokens.items in
@@ -44,7 +45,7 @@ loop-c-preserved-then-c-eq92 c =
 
 pub loop-c-preserved : goal.loop-c-preserved
 loop-c-preserved c =
-    let t = YieldsList-turn (YieldsList-from_chars c.args.pattern.now c.utf8.pattern cc) c.loop-c.yielded _ c.loop-c.yielded_by _ _ c.in-Some.c c.in-Some.is c.next.ensures.steps in
+    let t = YieldsList-turn (YieldsList-from_chars c.args.pattern.now c.utf8.pattern (ap chars_rest c.into_iter-c-iterator.ensures.into_iter_gives ∙ c.chars-c-items.ensures.rest)) c.loop-c.yielded _ c.loop-c.yielded_by _ _ c.in-Some.c c.in-Some.is c.next.ensures.steps in
     let e = next_character (chars c.args.pattern.now) c.loop-c.yielded c.in-Some.c t in
     let cs = chars c.args.pattern.now in
     let ts = c.loop-c.tokens.items in
@@ -55,7 +56,7 @@ loop-c-preserved c =
 
 pub returns : goal.returns
 returns c =
-    let t = YieldsList-end (YieldsList-from_chars c.args.pattern.now c.utf8.pattern cc) c.loop-c.yielded _ c.loop-c.yielded_by _ _ c.in-None.is c.next.ensures.steps in
+    let t = YieldsList-end (YieldsList-from_chars c.args.pattern.now c.utf8.pattern (ap chars_rest c.into_iter-c-iterator.ensures.into_iter_gives ∙ c.chars-c-items.ensures.rest)) c.loop-c.yielded _ c.loop-c.yielded_by _ _ c.in-None.is c.next.ensures.steps in
     let cs = chars c.args.pattern.now in
     let rest = drop (length c.loop-c.yielded) cs in
     let none : rest ≡ [] = drop_all (length c.loop-c.yielded) cs (omega (arith, t.1)) in

@@ -1,8 +1,8 @@
-use Rattle.std.proofs.Common.{◌≡◌, ◌∷◌, ◌++◌, ◌∙◌, sym, ap, Ok, None, Some, []}
+use Rattle.std.proofs.Common.{◌≡◌, ◌∷◌, ◌++◌, ◌∙◌, refl, sym, ap, Ok, None, Some, []}
 use Rattle.hub_glob.specs.declared.piece.Piece.TheVariants.{Lit}
 use Rattle.hub_glob.specs.declared.piece.Part.TheVariants.{One, Brace}
 use Rattle.hub_glob.specs.Reading as reading
-use Rattle.hub_glob.proofs.Readings.{sign_part, then_parts}
+use Rattle.hub_glob.proofs.Readings.{no_parts, sign_part, then_parts}
 use Rattle.hub_glob.proofs.reading.Parser.parts.Goals.{in-Means, in-Open+in_ok-choices-in-Open, in-Comma, in-Close}
 use Rattle.hub_glob.proofs.reading.Parser.parts.Goals as goal
 
@@ -56,3 +56,6 @@ signs-preserved c =
                 ∙ ap (λ v. then_parts c.push.new.self (reading.parts None (reading.signs n None v.tokens.now))) (sym w.self-is),
           )
     ]
+
+pub signs-init : goal.signs-init
+signs-init c = (refl, no_parts (reading.parts None (reading.signs c.args.self.now.in_name None c.args.self.now.tokens.now)) c.new-parts.result c.new-parts.ensures)

@@ -7,7 +7,7 @@ use Rattle.std.proofs.lemmas.List.Sorted.{searched}
 use Rattle.std.specs.List.{list_all, flat_map, range_with_len, position_from}
 use Rattle.std.specs.Str.{all_scalars}
 use lib.Utf8.{scalar}
-use Rattle.std.proofs.lemmas.List.{drop_more, drop_all}
+use Rattle.std.proofs.lemmas.List.{drop_all}
 use Rattle.std.proofs.lemmas.Bool.Decides.{nat_tests}
 use Rattle.hub_automaton.specs.declared.alphabet.TheConstants.{MENTIONED_CHARACTERS}
 use Rattle.hub_automaton.specs.Alphabet.{is_left_out, is_mentioned, class_of, class_count, first_unmentioned, sample, ascends, IsAlphabet, placed, with_character, with_characters, mentions}
@@ -185,9 +185,6 @@ pub still_mentioned-all : (ms cs : List ℕ) (x : ℕ) → is_mentioned ms x ≡
 still_mentioned-all ms [] x h = h
 still_mentioned-all ms (c ∷ cs) x h = still_mentioned-all (with_character ms c) cs x (still_mentioned ms c x h)
 
-pub rest_drop : (xs : List ℕ) (i c : ℕ) → i < length xs → c ≡ get_or xs i c → drop i xs ≡ (c ∷ []) ++ drop (i + 1) xs
-rest_drop xs i c l e = drop_more xs i c l ∙ ap (λ y. y ∷ drop (i + 1) xs) (sym e)
-
 names_drop-suc : (p : List (List ℕ)) (i : ℕ) (n : List ℕ) → slice_get p i ≡ Some n → flat_map (λ m. m) (drop i p) ≡ n ++ flat_map (λ m. m) (drop (suc i) p)
 names_drop-suc [] i n h = cc
 names_drop-suc (m ∷ p) zero n h = let e : m ≡ n = cc in ap (λ k. k ++ flat_map (λ m. m) p) e
@@ -195,9 +192,6 @@ names_drop-suc (m ∷ p) (suc i) n h = names_drop-suc p i n h
 
 pub names_drop : (p : List (List ℕ)) (i : ℕ) (n : List ℕ) → slice_get p i ≡ Some n → flat_map (λ m. m) (drop i p) ≡ n ++ flat_map (λ m. m) (drop (i + 1) p)
 names_drop p i n h = names_drop-suc p i n h ∙ ap (λ k. n ++ flat_map (λ m. m) (drop k p)) (sym (add-one i))
-
-pub flat_end : {X : Type 0} (f : X → List ℕ) (xs : List X) (i : ℕ) → length xs ≤ i → flat_map f (drop i xs) ≡ []
-flat_end f xs i l = ap (flat_map f) (drop_all i xs l)
 
 pub mention_end : (rest ms whole : List ℕ) → rest ≡ [] → with_characters ms rest ≡ whole → ms ≡ whole
 mention_end rest ms whole e h = ap (with_characters ms) (sym e) ∙ h

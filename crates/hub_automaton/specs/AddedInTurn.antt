@@ -66,7 +66,8 @@ module _ {X : Type 0} (f : X → List ℕ) where
 
   pub refused-one : (start now : List ℕ) (xs : List X) (i : ℕ) (x : X) (e : AutomatonFault)
       → i < length xs → x ≡ get_or xs i x
-      → now ≡ with_characters start (flat_map f (take i xs)) → Refuses now (f x) e → Refuses start (flat_map f xs) e
+      → now ≡ with_characters start (flat_map f (take i xs)) → Refuses now (f x) e
+      → Refuses start (flat_map f xs) e
   refused-one start now xs i x e l is h r =
       mention_refused (f x) (flat_map f (drop i xs)) (flat_map f (drop (i + 1) xs)) now start
       (flat_map f xs) e (flat_drop f xs i x l is)

@@ -3,7 +3,7 @@ ghost use Rattle.hub_automaton.specs.Alphabet as alphabet;
 
 use crate::class::Class;
 use crate::fault::AutomatonFault;
-use crate::mentions::{is_left_out, mention_parts, mention_path};
+use crate::mentions::{Mentioning, is_left_out};
 use hub_glob::PathSpec;
 use hub_path::RelPath;
 use std::alloc::{AllocError, Global};
@@ -54,13 +54,7 @@ impl Alphabet {
         ensures err { IfErr result (alphabet.Refuses self.old (alphabet.path_characters path.now)) }
         ensures kept { OnErr result (self.new ≡ self.old) }
     {
-        let mut mentioned = Vec::from_slice(
-            *self.mentioned.allocator(),
-            self.mentioned.as_slice(),
-        )?;
-        mention_path(&mut mentioned, path)?;
-        self.mentioned = mentioned;
-        Ok(())
+        self.add(path)
     }
 
     /// Mentions the characters of a specification: its literals, and the members of its sets. NUL, CR and LF, which
@@ -75,11 +69,22 @@ impl Alphabet {
         ensures err { IfErr result (alphabet.Refuses self.old (alphabet.spec_characters spec.now)) }
         ensures kept { OnErr result (self.new ≡ self.old) }
     {
+        self.add(spec)
+    }
+
+    /// Mentions the characters of a value.
+    fn add<T: Mentioning>(&mut self, value: &T) -> Result<(), AutomatonFault>
+        ensures ok { OnOk result (self.new
+            ≡ alphabet.with_characters self.old (T.characters value.now)) }
+        ensures few { OnOk result (length self.new ≤ MENTIONED_CHARACTERS) }
+        ensures err { IfErr result (alphabet.Refuses self.old (T.characters value.now)) }
+        ensures kept { OnErr result (self.new ≡ self.old) }
+    {
         let mut mentioned = Vec::from_slice(
             *self.mentioned.allocator(),
             self.mentioned.as_slice(),
         )?;
-        mention_parts(&mut mentioned, spec.pattern())?;
+        value.put_in(&mut mentioned)?;
         self.mentioned = mentioned;
         Ok(())
     }

@@ -1,19 +1,112 @@
 //! The characters that paths and specifications mention, added to a list in ascending order.
-ghost use Rattle.std.specs.Prelude.{◌≡◌, [], ◌∷◌, chars, IfErr, OnOk};
+ghost use Rattle.std.specs.Prelude.{◌≡◌, [], ◌∷◌, IfErr, OnOk};
 ghost use Rattle.std.specs.List.{flat_map};
 ghost use Rattle.hub_automaton.specs.Alphabet as alphabet;
 
 use crate::alphabet::MENTIONED_CHARACTERS;
 use crate::fault::AutomatonFault;
-use hub_glob::{Part, Piece};
-use hub_path::RelPath;
+use hub_glob::{Part, PathSpec, Piece};
+use hub_path::{Name, RelPath};
 use hub_text::Items;
 
-/// A character that stands in no path.
-pub(crate) fn is_left_out(character: char) -> bool
-    ensures { result ≡ alphabet.is_left_out character }
+/// Values that mention characters.
+pub(crate) trait Mentioning {
+    ghost use Rattle.std.specs.Prelude.{List, ℕ};
+
+    /// The characters that a value mentions.
+    ghost characters: { Self → List ℕ };
+
+    /// Puts the characters that a value mentions in their places.
+    fn put_in(&self, mentioned: &mut Vec<char>) -> Result<(), AutomatonFault>
+        requires { alphabet.IsAlphabet mentioned.old.items }
+        ensures ok { OnOk result (mentioned.new.items
+            ≡ alphabet.with_characters mentioned.old.items (characters self.now)) }
+        ensures err { IfErr result (alphabet.Refuses mentioned.old.items (characters self.now)) }
+        ensures alphabet { OnOk result (alphabet.IsAlphabet mentioned.new.items) };
+}
+
+/// Puts the characters of some values in their places.
+fn put_each<T: Mentioning>(mentioned: &mut Vec<char>, values: &[T]) -> Result<(), AutomatonFault>
+    requires { alphabet.IsAlphabet mentioned.old.items }
+    ensures ok { OnOk result (mentioned.new.items
+        ≡ alphabet.with_characters mentioned.old.items (flat_map T.characters values.now)) }
+    ensures err { IfErr result (alphabet.Refuses mentioned.old.items
+        (flat_map T.characters values.now)) }
+    ensures alphabet { OnOk result (alphabet.IsAlphabet mentioned.new.items) }
 {
-    matches!(character, '\0' | '\n' | '\r')
+    for value in values {
+        value.put_in(mentioned)?;
+    }
+    Ok(())
+}
+
+impl Mentioning for PathSpec {
+    ghost characters = { alphabet.spec_characters };
+
+    fn put_in(&self, mentioned: &mut Vec<char>) -> Result<(), AutomatonFault> {
+        put_each(mentioned, self.pattern())
+    }
+}
+
+impl Mentioning for Part {
+    ghost characters = { alphabet.part_characters };
+
+    fn put_in(&self, mentioned: &mut Vec<char>) -> Result<(), AutomatonFault> {
+        match self {
+            Part::One(piece) => piece.put_in(mentioned),
+            Part::Brace(choices) => choices.put_in(mentioned),
+        }
+    }
+}
+
+impl<T: Mentioning> Mentioning for Items<T> {
+    ghost characters = { flat_map T.characters };
+
+    fn put_in(&self, mentioned: &mut Vec<char>) -> Result<(), AutomatonFault> {
+        put_each(mentioned, self.as_slice())
+    }
+}
+
+impl Mentioning for Piece {
+    ghost characters = { alphabet.piece_characters };
+
+    fn put_in(&self, mentioned: &mut Vec<char>) -> Result<(), AutomatonFault> {
+        match self {
+            Piece::Lit(character) => character.put_in(mentioned),
+            Piece::Any | Piece::Run => Ok(()),
+            Piece::OneOf(set) => set.put_in(mentioned),
+        }
+    }
+}
+
+impl Mentioning for RelPath {
+    ghost characters = { alphabet.path_characters };
+
+    fn put_in(&self, mentioned: &mut Vec<char>) -> Result<(), AutomatonFault> {
+        for i in 0..self.len() {
+            self.name(i).put_in(mentioned)?;
+        }
+        Ok(())
+    }
+}
+
+impl Mentioning for Name {
+    ghost characters = { λ n. n };
+
+    fn put_in(&self, mentioned: &mut Vec<char>) -> Result<(), AutomatonFault> {
+        for character in self.text().chars() {
+            character.put_in(mentioned)?;
+        }
+        Ok(())
+    }
+}
+
+impl Mentioning for char {
+    ghost characters = { λ c. c ∷ [] };
+
+    fn put_in(&self, mentioned: &mut Vec<char>) -> Result<(), AutomatonFault> {
+        mention(mentioned, *self)
+    }
 }
 
 /// Puts a character in its place, unless it is there already or is left out.
@@ -39,114 +132,9 @@ fn mention(mentioned: &mut Vec<char>, character: char) -> Result<(), AutomatonFa
     }
 }
 
-/// Puts the members of a set in their places.
-fn mention_set(mentioned: &mut Vec<char>, set: &[char]) -> Result<(), AutomatonFault>
-    requires { alphabet.IsAlphabet mentioned.old.items }
-    ensures ok { OnOk result (mentioned.new.items
-        ≡ alphabet.with_characters mentioned.old.items set.now) }
-    ensures err { IfErr result (alphabet.Refuses mentioned.old.items set.now) }
-    ensures alphabet { OnOk result (alphabet.IsAlphabet mentioned.new.items) }
+/// A character that stands in no path.
+pub(crate) fn is_left_out(character: char) -> bool
+    ensures { result ≡ alphabet.is_left_out character }
 {
-    for character in set {
-        mention(mentioned, *character)?;
-    }
-    Ok(())
-}
-
-/// Puts the characters of a text in their places.
-fn mention_text(mentioned: &mut Vec<char>, text: &str) -> Result<(), AutomatonFault>
-    requires { alphabet.IsAlphabet mentioned.old.items }
-    ensures ok { OnOk result (mentioned.new.items
-        ≡ alphabet.with_characters mentioned.old.items (chars text.now)) }
-    ensures err { IfErr result (alphabet.Refuses mentioned.old.items (chars text.now)) }
-    ensures alphabet { OnOk result (alphabet.IsAlphabet mentioned.new.items) }
-{
-    for character in text.chars() {
-        mention(mentioned, character)?;
-    }
-    Ok(())
-}
-
-/// Puts the characters of a path in their places.
-pub(crate) fn mention_path(mentioned: &mut Vec<char>, path: &RelPath) -> Result<(), AutomatonFault>
-    requires { alphabet.IsAlphabet mentioned.old.items }
-    ensures ok { OnOk result (mentioned.new.items
-        ≡ alphabet.with_characters mentioned.old.items (alphabet.path_characters path.now)) }
-    ensures err { IfErr result (alphabet.Refuses mentioned.old.items
-        (alphabet.path_characters path.now)) }
-    ensures alphabet { OnOk result (alphabet.IsAlphabet mentioned.new.items) }
-{
-    for i in 0..path.len() {
-        mention_text(mentioned, path.name(i).text())?;
-    }
-    Ok(())
-}
-
-/// Puts the characters of a piece in their places.
-fn mention_piece(mentioned: &mut Vec<char>, piece: &Piece) -> Result<(), AutomatonFault>
-    requires { alphabet.IsAlphabet mentioned.old.items }
-    ensures ok { OnOk result (mentioned.new.items
-        ≡ alphabet.with_characters mentioned.old.items (alphabet.piece_characters piece.now)) }
-    ensures err { IfErr result (alphabet.Refuses mentioned.old.items
-        (alphabet.piece_characters piece.now)) }
-    ensures alphabet { OnOk result (alphabet.IsAlphabet mentioned.new.items) }
-{
-    match piece {
-        Piece::Lit(character) => mention(mentioned, *character),
-        Piece::Any | Piece::Run => Ok(()),
-        Piece::OneOf(set) => mention_set(mentioned, set.as_slice()),
-    }
-}
-
-/// Puts the characters of some pieces in their places.
-fn mention_pieces(mentioned: &mut Vec<char>, pieces: &[Piece]) -> Result<(), AutomatonFault>
-    requires { alphabet.IsAlphabet mentioned.old.items }
-    ensures ok { OnOk result (mentioned.new.items
-        ≡ alphabet.with_characters mentioned.old.items (alphabet.pieces_characters pieces.now)) }
-    ensures err { IfErr result (alphabet.Refuses mentioned.old.items
-        (alphabet.pieces_characters pieces.now)) }
-    ensures alphabet { OnOk result (alphabet.IsAlphabet mentioned.new.items) }
-{
-    for piece in pieces {
-        mention_piece(mentioned, piece)?;
-    }
-    Ok(())
-}
-
-/// Puts the characters of the choices of a brace in their places.
-fn mention_choices(
-    mentioned: &mut Vec<char>,
-    choices: &[Items<Piece>],
-) -> Result<(), AutomatonFault>
-    requires { alphabet.IsAlphabet mentioned.old.items }
-    ensures ok { OnOk result (mentioned.new.items
-        ≡ alphabet.with_characters mentioned.old.items
-        (flat_map alphabet.pieces_characters choices.now)) }
-    ensures err { IfErr result (alphabet.Refuses mentioned.old.items
-        (flat_map alphabet.pieces_characters choices.now)) }
-    ensures alphabet { OnOk result (alphabet.IsAlphabet mentioned.new.items) }
-{
-    for choice in choices {
-        mention_pieces(mentioned, choice.as_slice())?;
-    }
-    Ok(())
-}
-
-/// Puts the characters of the parts of a pattern in their places.
-pub(crate) fn mention_parts(mentioned: &mut Vec<char>, parts: &[Part]) -> Result<(), AutomatonFault>
-    requires { alphabet.IsAlphabet mentioned.old.items }
-    ensures ok { OnOk result (mentioned.new.items
-        ≡ alphabet.with_characters mentioned.old.items
-        (flat_map alphabet.part_characters parts.now)) }
-    ensures err { IfErr result (alphabet.Refuses mentioned.old.items
-        (flat_map alphabet.part_characters parts.now)) }
-    ensures alphabet { OnOk result (alphabet.IsAlphabet mentioned.new.items) }
-{
-    for part in parts {
-        match part {
-            Part::One(piece) => mention_piece(mentioned, piece)?,
-            Part::Brace(choices) => mention_choices(mentioned, choices.as_slice())?,
-        }
-    }
-    Ok(())
+    matches!(character, '\0' | '\n' | '\r')
 }

@@ -76,7 +76,8 @@ fn begin_taker(
     character: char,
 ) -> Result<Words, AllocError>
     requires { common.now ≡ packed (masking.mask_all Common alternatives.now) }
-    ensures { IfOk result (λ ws. ws ≡ packed (masking.mask_all (begun character) alternatives.now)) }
+    ensures { IfOk result (λ ws. ws
+        ≡ packed (masking.mask_all (begun character) alternatives.now)) }
 {
     if character == '/' {
         masked(alloc, Mask::Takers(character), alternatives)

@@ -1,3 +1,4 @@
+pub mod Additions
 pub mod Cuts
 pub mod ArrowCuts
 pub mod Words

@@ -39,7 +39,7 @@ pattern_fault glob.TooLong = inr refl
 pattern_fault glob.TooManyChoices = inr refl
 pattern_fault glob.OutOfMemory = inl refl
 
-path_fault : (e : PathFault) → (of_path e ≡ OutOfMemory) ⊎ (of_path e ≡ BadPath e)
+pub path_fault : (e : PathFault) → (of_path e ≡ OutOfMemory) ⊎ (of_path e ≡ BadPath e)
 path_fault path.Empty = inr refl
 path_fault path.EmptyName = inr refl
 path_fault path.DotName = inr refl
@@ -109,17 +109,17 @@ with_lines said ls = Ok (record said { partials = ls })
 not_all : (n : ℕ) → n < PARTIAL_LINES → nat_le PARTIAL_LINES n ≡ false
 not_all n h = grind (arith, nat_tests)
 
-pub few_partials : (said : Said) → length said.partials < PARTIAL_LINES → has_all_partials said ≡ false
+few_partials : (said : Said) → length said.partials < PARTIAL_LINES → has_all_partials said ≡ false
 few_partials said h = not_all (length said.partials) h
 
-pub line_added : (bars : Bars) (now said : Said) (n : ℕ) (v : List ℕ) (l : PartialLine) (ls : List PartialLine) → now ≡ said → has_all_partials said ≡ false
+pub line_added : (bars : Bars) (now said : Said) (n : ℕ) (v : List ℕ) (l : PartialLine) (ls : List PartialLine) → now ≡ said → length said.partials < PARTIAL_LINES
     → line_reading bars n v ≡ Ok l → ls ≡ said.partials ++ l ∷ [] → partial_added bars now n v ≡ Ok (record said { partials = ls })
 line_added bars now said n v l ls is few e f =
-    ap (λ (s : Said). partial_added bars s n v) is ∙ reading_added bars said n v few ∙ ap (with_line said) e
+    ap (λ (s : Said). partial_added bars s n v) is ∙ reading_added bars said n v (few_partials said few) ∙ ap (with_line said) e
     ∙ ap (with_lines said) (sym f)
 
-pub line_refused : (bars : Bars) (now said : Said) (n : ℕ) (v : List ℕ) (e : Fault) → now ≡ said → has_all_partials said ≡ false → FailsAs (line_reading bars n v) e
+pub line_refused : (bars : Bars) (now said : Said) (n : ℕ) (v : List ℕ) (e : Fault) → now ≡ said → length said.partials < PARTIAL_LINES → FailsAs (line_reading bars n v) e
     → FailsAs (partial_added bars now n v) e
 line_refused bars now said n v e is few h =
     ⊎_elim (λ (memory : e ≡ OutOfMemory). inl memory)
-    (λ (bad : line_reading bars n v ≡ Err e). inr (ap (λ (s : Said). partial_added bars s n v) is ∙ reading_added bars said n v few ∙ ap (with_line said) bad)) h
+    (λ (bad : line_reading bars n v ≡ Err e). inr (ap (λ (s : Said). partial_added bars s n v) is ∙ reading_added bars said n v (few_partials said few) ∙ ap (with_line said) bad)) h

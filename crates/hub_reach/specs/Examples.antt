@@ -1,5 +1,5 @@
 -- Worked values of reach, of what is written where, and of safety.
-use Rattle.std.specs.Prelude.{⊤, ◌≡◌, Bool, true, false, List, ℕ, [], ◌∷◌, ◌++◌, map, Some, None, Result, Ok, Err, refl, codes}
+use Rattle.std.specs.Prelude.{⊤, ◌≡◌, Bool, true, false, List, ℕ, [], ◌∷◌, ◌++◌, map, Some, Result, Ok, Err, refl, codes}
 use Rattle.std.proofs.Common.{inl}
 use Rattle.std.proofs.lemmas.Option.{none-some}
 use Rattle.hub_path.specs.Path.{Path, path_of}
@@ -12,6 +12,7 @@ use Rattle.hub_glob.specs.declared.piece.Piece.TheVariants.{Lit, Run}
 use Rattle.hub_path.specs.declared.side.Side.{Side}
 use Rattle.hub_path.specs.declared.side.Side.TheVariants.{Left, Right}
 use Rattle.hub_profile.specs.Parts.{Parts}
+use Rattle.hub_profile.specs.ExampleProfiles.{hub, s1, s2, kept}
 use Rattle.hub_profile.specs.Protection.{no_bars}
 use Rattle.hub_profile.specs.Reading.{profile_reading}
 use Rattle.hub_profile.specs.declared.fault.ProfileFault.{ProfileFault}
@@ -28,31 +29,6 @@ use Rattle.hub_reach.specs.Safe.{Rule, Clash, ClashesAt, ClashesInArchive, Breac
 computed : ⊤
 unfolding reach matches
 computed = tt
-
-abbrev hub : Path
-hub = path_of (codes "srv/hub")
-
-abbrev s1 : Path
-s1 = path_of (codes "srv/s1")
-
-abbrev s2 : Path
-s2 = path_of (codes "srv/s2")
-
--- A profile of this kept value, over the hub and s1.
-abbrev kept : List ℕ → Parts
-kept t =
-    record {
-      name = t;
-      roots = hub ∷ s1 ∷ [];
-      paths = path_of t ∷ [];
-      ignore = [];
-      ignorenot =
-          [];
-      force = None;
-      prefer = None;
-      bars = no_bars ∷ no_bars ∷ [];
-      partial = [];
-    }
 
 -- One of the whole replica, and one of no path at all.
 abbrev whole : Parts

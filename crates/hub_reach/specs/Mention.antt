@@ -4,10 +4,15 @@ use Rattle.std.specs.List.{list_all, flat_map}
 use Rattle.hub_profile.specs.Parts.{Parts}
 use Rattle.hub_automaton.specs.Alphabet.{mentions, path_characters, spec_characters, with_characters}
 use Rattle.hub_profile.specs.declared.partial.Partial.{Partial}
+use Rattle.hub_profile.specs.declared.rule.Rule.{Rule}
 
 -- The characters that a partial bar mentions.
 abbrev pub partial_characters : Partial → List ℕ
 partial_characters b = spec_characters b.spec
+
+-- The characters that a rule mentions.
+abbrev pub rule_characters : Rule → List ℕ
+rule_characters R = spec_characters R.spec
 
 pub record Mentions (ms : List ℕ) (P : Parts) : Type 0 where
   pub paths : IsTrue (list_all (λ p. mentions ms (path_characters p)) P.paths)

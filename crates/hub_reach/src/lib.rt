@@ -4,7 +4,7 @@
 //!   and [`writes_at`] what it may change at a path of one.
 //! - [`Walker`] decides reach, and what may be changed at a path, text by text: its state is a [`Stage`], and it reads the
 //!   [`Class`](hub_automaton::Class)es of an alphabet's characters. [`mention`] adds a profile's characters to such an
-//!   alphabet.
+//!   alphabet, and [`mention_each`] those of paths, specifications, profiles or rules.
 //! - [`Table`] numbers the stages of a walker as they are found, and remembers the steps between them. [`SpecTable`] does
 //!   the same for the states of some specifications.
 //! - [`laws`]: what the crates above may conclude of stages and of reach.
@@ -22,6 +22,7 @@
 
 mod known;
 pub mod laws;
+mod mentioning;
 mod mentions;
 mod placed_bar;
 mod places;
@@ -35,6 +36,7 @@ mod verbs;
 mod walker;
 mod walker_ends;
 
+pub use mentioning::{Mentioning, mention_each};
 pub use mentions::mention;
 pub use reach::reaches;
 pub use shape::Shape;

@@ -1,11 +1,9 @@
 use Rattle.std.proofs.Common.{◌≡◌, ◌∙◌, ◌++◌, ℕ, List, ap, subst}
 use Rattle.std.specs.List.{flat_map}
 use Rattle.std.proofs.lemmas.Result.{err_from_is_err_and}
-use Rattle.hub_path.specs.Path.{Path}
-use Rattle.hub_glob.specs.Specification.{Specification}
+use Rattle.hub_automaton.specs.declared.fault.AutomatonFault.{AutomatonFault}
 use Rattle.hub_automaton.specs.Alphabet.{path_characters, spec_characters, with_characters, Refuses, mentions}
 use Rattle.hub_profile.specs.Parts.{Parts}
-use Rattle.hub_profile.specs.declared.partial.Partial.{Partial}
 use Rattle.hub_reach.specs.Mention.{mentioned_by, partial_characters, IsPartly}
 use Rattle.hub_automaton.specs.AddedInTurn.{added-after, refused-before, refused-after}
 use Rattle.hub_reach.specs.MentionLaws.{says-all}
@@ -25,157 +23,120 @@ exceptions P = flat_map spec_characters P.ignorenot
 abbrev barred : Parts → List ℕ
 barred P = flat_map partial_characters P.partial
 
-pub returns-in_err-mention_paths-clause-err : goal.returns-in_err-mention_paths-clause-err
-returns-in_err-mention_paths-clause-err c =
+-- The characters of a getter's values are those of the profile's.
+added_of : {X : Type 0} (f : X → List ℕ) (old new : List ℕ) (xs ys : List X) → xs ≡ ys → new ≡ with_characters old (flat_map f xs) → new ≡ with_characters old (flat_map f ys)
+added_of f old new xs ys e h = h ∙ ap (λ zs. with_characters old (flat_map f zs)) e
+
+-- Why some characters aren't added, and what has been added of them.
+abbrev Fails : List ℕ → List ℕ → AutomatonFault → List ℕ → Type 0
+Fails ms cs e new = Refuses ms cs e × IsPartly ms cs new
+
+fails_of : {X : Type 0} (f : X → List ℕ) (old : List ℕ) (xs ys : List X) (e : AutomatonFault) (new : List ℕ) → xs ≡ ys → Fails old (flat_map f xs) e new → Fails old (flat_map f ys) e new
+fails_of f old xs ys e new is h = subst (λ zs. Fails old (flat_map f zs) e new) is h
+
+fails_before : (ms cs ds : List ℕ) (e : AutomatonFault) (new : List ℕ) → Fails ms cs e new → Fails ms (cs ++ ds) e new
+fails_before ms cs ds e new h = (refused-before ms cs ds e h.0, partly-before ms cs ds new h.1)
+
+fails_after : (ms now cs ds : List ℕ) (e : AutomatonFault) (new : List ℕ) → now ≡ with_characters ms cs → Fails now ds e new → Fails ms (cs ++ ds) e new
+fails_after ms now cs ds e new is h = (refused-after ms now cs ds e is h.0, partly-after ms now cs ds new is h.1)
+
+fails_in_kept : (P : Parts) (old : List ℕ) (e : AutomatonFault) (new : List ℕ) → Fails old (kept P) e new → Fails old (mentioned_by P) e new
+fails_in_kept P old e new h = fails_before old (kept P) (ignored P ++ (exceptions P ++ barred P)) e new h
+
+fails_in_ignored : (P : Parts) (old a : List ℕ) (e : AutomatonFault) (new : List ℕ) → a ≡ with_characters old (kept P) → Fails a (ignored P) e new → Fails old (mentioned_by P) e new
+fails_in_ignored P old a e new first h =
+    fails_after old a (kept P) (ignored P ++ (exceptions P ++ barred P)) e new first (fails_before a (ignored P) (exceptions P ++ barred P) e new h)
+
+fails_in_exceptions : (P : Parts) (old a b : List ℕ) (e : AutomatonFault) (new : List ℕ) → a ≡ with_characters old (kept P) → b ≡ with_characters a (ignored P) → Fails b (exceptions P) e new
+    → Fails old (mentioned_by P) e new
+fails_in_exceptions P old a b e new first second h =
+    fails_after old a (kept P) (ignored P ++ (exceptions P ++ barred P)) e new first
+    (fails_after a b (ignored P) (exceptions P ++ barred P) e new second (fails_before b (exceptions P) (barred P) e new h))
+
+fails_in_barred : (P : Parts) (old a b d : List ℕ) (e : AutomatonFault) (new : List ℕ) → a ≡ with_characters old (kept P) → b ≡ with_characters a (ignored P) → d ≡ with_characters b (exceptions P)
+    → Fails d (barred P) e new → Fails old (mentioned_by P) e new
+fails_in_barred P old a b d e new first second third h =
+    fails_after old a (kept P) (ignored P ++ (exceptions P ++ barred P)) e new first
+    (fails_after a b (ignored P) (exceptions P ++ barred P) e new second (fails_after b d (exceptions P) (barred P) e new third h))
+
+pub returns-in_err-mention_each : goal.returns-in_err-mention_each
+returns-in_err-mention_each c =
     let P = c.args.profile.now in
     let old = c.args.alphabet.now in
+    let new = c.mention_each.new.alphabet in
+    let e = c.in_err-mention_each.field-0.0 in
+    let here = fails_of path_characters old c.paths.result.now P.paths e new c.paths.ensures.value (c.in_err-mention_each.ensures.err, c.in_err-mention_each.ensures.partly) in
+    let whole = fails_in_kept P old e new here in
     let p = err_from_is_err_and c.from_residual.result c.from_residual.ensures.1 in
-    let e = c.in_err-mention_paths.field-0.0 in
-    rw (p.1, p.2)
-    (refused-before old (kept P) (ignored P ++ (exceptions P ++ barred P)) e
-    (subst (λ (ps : List Path). Refuses old (flat_map path_characters ps) e) c.paths.ensures.value c.in_err-mention_paths.ensures.err))
+    rw (p.1, p.2) (record { ok = tt; mentioned = tt; kept = tt; err = whole.0; partly = whole.1 })
 
-pub returns-in_err-mention_paths-clause-partly : goal.returns-in_err-mention_paths-clause-partly
-returns-in_err-mention_paths-clause-partly c =
+pub returns-in_err-mention_each-2 : goal.returns-in_err-mention_each-2
+returns-in_err-mention_each-2 c =
     let P = c.args.profile.now in
     let old = c.args.alphabet.now in
-    let p = err_from_is_err_and c.from_residual.result c.from_residual.ensures.1 in
-    rw p.1
-    (partly-before old (kept P) (ignored P ++ (exceptions P ++ barred P)) c.mention_paths.new.alphabet
-    (subst (λ (ps : List Path). IsPartly old (flat_map path_characters ps) c.mention_paths.new.alphabet) c.paths.ensures.value c.in_err-mention_paths.ensures.partly))
+    let a = c.mention_each.new.alphabet in
+    let new = c.mention_each-2.new.alphabet in
+    let e = c.in_err-mention_each-2.field-0.0 in
+    let first = added_of path_characters old a c.paths.result.now P.paths c.paths.ensures.value c.in_ok-mention_each.ensures.ok in
+    let here = fails_of spec_characters a c.ignore.result.now P.ignore e new c.ignore.ensures (c.in_err-mention_each-2.ensures.err, c.in_err-mention_each-2.ensures.partly) in
+    let whole = fails_in_ignored P old a e new first here in
+    let p = err_from_is_err_and c.from_residual-in_err-mention_each-2.result c.from_residual-in_err-mention_each-2.ensures.1 in
+    rw (p.1, p.2) (record { ok = tt; mentioned = tt; kept = tt; err = whole.0; partly = whole.1 })
 
-pub returns-in_err-mention_specs-clause-err : goal.returns-in_err-mention_specs-clause-err
-returns-in_err-mention_specs-clause-err c =
+pub returns-in_err-mention_each-3 : goal.returns-in_err-mention_each-3
+returns-in_err-mention_each-3 c =
     let P = c.args.profile.now in
     let old = c.args.alphabet.now in
-    let a = c.mention_paths.new.alphabet in
-    let p = err_from_is_err_and c.from_residual-in_err-mention_specs.result c.from_residual-in_err-mention_specs.ensures.1 in
-    let e = c.in_err-mention_specs.field-0.0 in
-    let first : a ≡ with_characters old (kept P) =
-    c.in_ok-mention_paths.ensures.ok ∙ ap (λ (ps : List Path). with_characters old (flat_map path_characters ps)) c.paths.ensures.value in
-    rw (p.1, p.2)
-    (refused-after old a (kept P) (ignored P ++ (exceptions P ++ barred P)) e first
-    (refused-before a (ignored P) (exceptions P ++ barred P) e
-    (subst (λ (ss : List Specification). Refuses a (flat_map spec_characters ss) e) c.ignore.ensures c.in_err-mention_specs.ensures.err)))
+    let a = c.mention_each.new.alphabet in
+    let b = c.mention_each-2.new.alphabet in
+    let new = c.mention_each-3.new.alphabet in
+    let e = c.in_err-mention_each-3.field-0.0 in
+    let first = added_of path_characters old a c.paths.result.now P.paths c.paths.ensures.value c.in_ok-mention_each.ensures.ok in
+    let second = added_of spec_characters a b c.ignore.result.now P.ignore c.ignore.ensures c.in_ok-mention_each-2.ensures.ok in
+    let here = fails_of spec_characters b c.ignorenot.result.now P.ignorenot e new c.ignorenot.ensures (c.in_err-mention_each-3.ensures.err, c.in_err-mention_each-3.ensures.partly) in
+    let whole = fails_in_exceptions P old a b e new first second here in
+    let p = err_from_is_err_and c.from_residual-in_err-mention_each-3.result c.from_residual-in_err-mention_each-3.ensures.1 in
+    rw (p.1, p.2) (record { ok = tt; mentioned = tt; kept = tt; err = whole.0; partly = whole.1 })
 
-pub returns-in_err-mention_specs-clause-partly : goal.returns-in_err-mention_specs-clause-partly
-returns-in_err-mention_specs-clause-partly c =
+pub returns-in_err-mention_each-4 : goal.returns-in_err-mention_each-4
+returns-in_err-mention_each-4 c =
     let P = c.args.profile.now in
     let old = c.args.alphabet.now in
-    let a = c.mention_paths.new.alphabet in
-    let b = c.mention_specs.new.alphabet in
-    let p = err_from_is_err_and c.from_residual-in_err-mention_specs.result c.from_residual-in_err-mention_specs.ensures.1 in
-    let first : a ≡ with_characters old (kept P) =
-    c.in_ok-mention_paths.ensures.ok ∙ ap (λ (ps : List Path). with_characters old (flat_map path_characters ps)) c.paths.ensures.value in
-    rw p.1
-    (partly-after old a (kept P) (ignored P ++ (exceptions P ++ barred P)) b first
-    (partly-before a (ignored P) (exceptions P ++ barred P) b
-    (subst (λ (ss : List Specification). IsPartly a (flat_map spec_characters ss) b) c.ignore.ensures c.in_err-mention_specs.ensures.partly)))
-
-pub returns-in_err-mention_specs-2-clause-err : goal.returns-in_err-mention_specs-2-clause-err
-returns-in_err-mention_specs-2-clause-err c =
-    let P = c.args.profile.now in
-    let old = c.args.alphabet.now in
-    let a = c.mention_paths.new.alphabet in
-    let b = c.mention_specs.new.alphabet in
-    let p = err_from_is_err_and c.from_residual-in_err-mention_specs-2.result c.from_residual-in_err-mention_specs-2.ensures.1 in
-    let e = c.in_err-mention_specs-2.field-0.0 in
-    let first : a ≡ with_characters old (kept P) =
-    c.in_ok-mention_paths.ensures.ok ∙ ap (λ (ps : List Path). with_characters old (flat_map path_characters ps)) c.paths.ensures.value in
-    let second : b ≡ with_characters a (ignored P) =
-    c.in_ok-mention_specs.ensures.ok ∙ ap (λ (ss : List Specification). with_characters a (flat_map spec_characters ss)) c.ignore.ensures in
-    rw (p.1, p.2)
-    (refused-after old a (kept P) (ignored P ++ (exceptions P ++ barred P)) e first
-    (refused-after a b (ignored P) (exceptions P ++ barred P) e second
-    (refused-before b (exceptions P) (barred P) e
-    (subst (λ (ss : List Specification). Refuses b (flat_map spec_characters ss) e) c.ignorenot.ensures c.in_err-mention_specs-2.ensures.err))))
-
-pub returns-in_err-mention_specs-2-clause-partly : goal.returns-in_err-mention_specs-2-clause-partly
-returns-in_err-mention_specs-2-clause-partly c =
-    let P = c.args.profile.now in
-    let old = c.args.alphabet.now in
-    let a = c.mention_paths.new.alphabet in
-    let b = c.mention_specs.new.alphabet in
-    let d = c.mention_specs-2.new.alphabet in
-    let p = err_from_is_err_and c.from_residual-in_err-mention_specs-2.result c.from_residual-in_err-mention_specs-2.ensures.1 in
-    let first : a ≡ with_characters old (kept P) =
-    c.in_ok-mention_paths.ensures.ok ∙ ap (λ (ps : List Path). with_characters old (flat_map path_characters ps)) c.paths.ensures.value in
-    let second : b ≡ with_characters a (ignored P) =
-    c.in_ok-mention_specs.ensures.ok ∙ ap (λ (ss : List Specification). with_characters a (flat_map spec_characters ss)) c.ignore.ensures in
-    rw p.1
-    (partly-after old a (kept P) (ignored P ++ (exceptions P ++ barred P)) d first
-    (partly-after a b (ignored P) (exceptions P ++ barred P) d second
-    (partly-before b (exceptions P) (barred P) d
-    (subst (λ (ss : List Specification). IsPartly b (flat_map spec_characters ss) d) c.ignorenot.ensures c.in_err-mention_specs-2.ensures.partly))))
-
-pub returns-in_err-mention_bars-clause-err : goal.returns-in_err-mention_bars-clause-err
-returns-in_err-mention_bars-clause-err c =
-    let P = c.args.profile.now in
-    let old = c.args.alphabet.now in
-    let a = c.mention_paths.new.alphabet in
-    let b = c.mention_specs.new.alphabet in
-    let d = c.mention_specs-2.new.alphabet in
-    let p = err_from_is_err_and c.from_residual-in_err-mention_bars.result c.from_residual-in_err-mention_bars.ensures.1 in
-    let e = c.in_err-mention_bars.field-0.0 in
-    let first : a ≡ with_characters old (kept P) =
-    c.in_ok-mention_paths.ensures.ok ∙ ap (λ (ps : List Path). with_characters old (flat_map path_characters ps)) c.paths.ensures.value in
-    let second : b ≡ with_characters a (ignored P) =
-    c.in_ok-mention_specs.ensures.ok ∙ ap (λ (ss : List Specification). with_characters a (flat_map spec_characters ss)) c.ignore.ensures in
-    let third : d ≡ with_characters b (exceptions P) =
-    c.in_ok-mention_specs-2.ensures.ok ∙ ap (λ (ss : List Specification). with_characters b (flat_map spec_characters ss)) c.ignorenot.ensures in
-    rw (p.1, p.2)
-    (refused-after old a (kept P) (ignored P ++ (exceptions P ++ barred P)) e first
-    (refused-after a b (ignored P) (exceptions P ++ barred P) e second
-    (refused-after b d (exceptions P) (barred P) e third
-    (subst (λ (bs : List Partial). Refuses d (flat_map partial_characters bs) e) c.partial.ensures c.in_err-mention_bars.ensures.err))))
-
-pub returns-in_err-mention_bars-clause-partly : goal.returns-in_err-mention_bars-clause-partly
-returns-in_err-mention_bars-clause-partly c =
-    let P = c.args.profile.now in
-    let old = c.args.alphabet.now in
-    let a = c.mention_paths.new.alphabet in
-    let b = c.mention_specs.new.alphabet in
-    let d = c.mention_specs-2.new.alphabet in
-    let f = c.mention_bars.new.alphabet in
-    let p = err_from_is_err_and c.from_residual-in_err-mention_bars.result c.from_residual-in_err-mention_bars.ensures.1 in
-    let first : a ≡ with_characters old (kept P) =
-    c.in_ok-mention_paths.ensures.ok ∙ ap (λ (ps : List Path). with_characters old (flat_map path_characters ps)) c.paths.ensures.value in
-    let second : b ≡ with_characters a (ignored P) =
-    c.in_ok-mention_specs.ensures.ok ∙ ap (λ (ss : List Specification). with_characters a (flat_map spec_characters ss)) c.ignore.ensures in
-    let third : d ≡ with_characters b (exceptions P) =
-    c.in_ok-mention_specs-2.ensures.ok ∙ ap (λ (ss : List Specification). with_characters b (flat_map spec_characters ss)) c.ignorenot.ensures in
-    rw p.1
-    (partly-after old a (kept P) (ignored P ++ (exceptions P ++ barred P)) f first
-    (partly-after a b (ignored P) (exceptions P ++ barred P) f second
-    (partly-after b d (exceptions P) (barred P) f third
-    (subst (λ (bs : List Partial). IsPartly d (flat_map partial_characters bs) f) c.partial.ensures c.in_err-mention_bars.ensures.partly))))
+    let a = c.mention_each.new.alphabet in
+    let b = c.mention_each-2.new.alphabet in
+    let d = c.mention_each-3.new.alphabet in
+    let new = c.mention_each-4.new.alphabet in
+    let e = c.in_err-mention_each-4.field-0.0 in
+    let first = added_of path_characters old a c.paths.result.now P.paths c.paths.ensures.value c.in_ok-mention_each.ensures.ok in
+    let second = added_of spec_characters a b c.ignore.result.now P.ignore c.ignore.ensures c.in_ok-mention_each-2.ensures.ok in
+    let third = added_of spec_characters b d c.ignorenot.result.now P.ignorenot c.ignorenot.ensures c.in_ok-mention_each-3.ensures.ok in
+    let here = fails_of partial_characters d c.partial.result.now P.partial e new c.partial.ensures (c.in_err-mention_each-4.ensures.err, c.in_err-mention_each-4.ensures.partly) in
+    let whole = fails_in_barred P old a b d e new first second third here in
+    let p = err_from_is_err_and c.from_residual-in_err-mention_each-4.result c.from_residual-in_err-mention_each-4.ensures.1 in
+    rw (p.1, p.2) (record { ok = tt; mentioned = tt; kept = tt; err = whole.0; partly = whole.1 })
 
 pub returns-clause-ok : goal.returns-clause-ok
 returns-clause-ok c =
     let P = c.args.profile.now in
     let old = c.args.alphabet.now in
-    let a = c.mention_paths.new.alphabet in
-    let b = c.mention_specs.new.alphabet in
-    let d = c.mention_specs-2.new.alphabet in
-    let f = c.mention_bars.new.alphabet in
-    let first : a ≡ with_characters old (kept P) =
-    c.in_ok-mention_paths.ensures.ok ∙ ap (λ (ps : List Path). with_characters old (flat_map path_characters ps)) c.paths.ensures.value in
-    let second : b ≡ with_characters a (ignored P) =
-    c.in_ok-mention_specs.ensures.ok ∙ ap (λ (ss : List Specification). with_characters a (flat_map spec_characters ss)) c.ignore.ensures in
-    let third : d ≡ with_characters b (exceptions P) =
-    c.in_ok-mention_specs-2.ensures.ok ∙ ap (λ (ss : List Specification). with_characters b (flat_map spec_characters ss)) c.ignorenot.ensures in
-    let fourth : f ≡ with_characters d (barred P) =
-    c.in_ok-mention_bars.ensures.ok ∙ ap (λ (bs : List Partial). with_characters d (flat_map partial_characters bs)) c.partial.ensures in
-    added-after old a f (kept P) (ignored P ++ (exceptions P ++ barred P)) first
-    (added-after a b f (ignored P) (exceptions P ++ barred P) second (added-after b d f (exceptions P) (barred P) third fourth))
+    let a = c.mention_each.new.alphabet in
+    let b = c.mention_each-2.new.alphabet in
+    let d = c.mention_each-3.new.alphabet in
+    let new = c.mention_each-4.new.alphabet in
+    let first = added_of path_characters old a c.paths.result.now P.paths c.paths.ensures.value c.in_ok-mention_each.ensures.ok in
+    let second = added_of spec_characters a b c.ignore.result.now P.ignore c.ignore.ensures c.in_ok-mention_each-2.ensures.ok in
+    let third = added_of spec_characters b d c.ignorenot.result.now P.ignorenot c.ignorenot.ensures c.in_ok-mention_each-3.ensures.ok in
+    let fourth = added_of partial_characters d new c.partial.result.now P.partial c.partial.ensures c.in_ok-mention_each-4.ensures.ok in
+    added-after old a new (kept P) (ignored P ++ (exceptions P ++ barred P)) first
+    (added-after a b new (ignored P) (exceptions P ++ barred P) second (added-after b d new (exceptions P) (barred P) third fourth))
 
 pub returns-clause-kept : goal.returns-clause-kept
 returns-clause-kept c = λ cs h.
-    let is : c.mention_bars.new.alphabet ≡ with_characters c.args.alphabet.now (mentioned_by c.args.profile.now) = returns-clause-ok c in
+    let is : c.mention_each-4.new.alphabet ≡ with_characters c.args.alphabet.now (mentioned_by c.args.profile.now) = returns-clause-ok c in
     ap (λ (ms : List ℕ). mentions ms cs) is ∙ c.what_is_added_is_mentioned.ensures.kept c.args.alphabet.now (mentioned_by c.args.profile.now) cs h
 
 pub returns-clause-mentioned : goal.returns-clause-mentioned
 returns-clause-mentioned c =
     let P = c.args.profile.now in
-    let is : c.mention_bars.new.alphabet ≡ with_characters c.args.alphabet.now (mentioned_by P) = returns-clause-ok c in
-    says-all P c.mention_bars.new.alphabet (ap (λ (ms : List ℕ). mentions ms (mentioned_by P)) is ∙ c.what_is_added_is_mentioned.ensures.added c.args.alphabet.now (mentioned_by P))
+    let is : c.mention_each-4.new.alphabet ≡ with_characters c.args.alphabet.now (mentioned_by P) = returns-clause-ok c in
+    says-all P c.mention_each-4.new.alphabet (ap (λ (ms : List ℕ). mentions ms (mentioned_by P)) is ∙ c.what_is_added_is_mentioned.ensures.added c.args.alphabet.now (mentioned_by P))

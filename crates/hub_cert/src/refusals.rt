@@ -1,14 +1,11 @@
 //! Why profiles and rules make no set.
-ghost use Rattle.std.specs.Prelude.{◌≡◌, ◌⊎◌, ◌<◌, ◌≤◌, ◌++◌, ℕ, true, map, length, slice_get, Some, IfOk, IfErr, IfSome, OnOk, MatchOption, IsTrue};
-ghost use Rattle.std.specs.List.{flat_map, list_all};
-ghost use Rattle.hub_path.specs.Path.{Name, Path};
-ghost use Rattle.hub_automaton.specs.Alphabet.{mentions, plain, spec_characters, with_characters, Refuses};
-ghost use Rattle.hub_automaton.specs.declared.alphabet.TheConstants.{MENTIONED_CHARACTERS};
+ghost use Rattle.std.specs.Prelude.{◌≡◌, ◌⊎◌, ◌<◌, ◌≤◌, ◌++◌, ℕ, length, slice_get, Some, IfOk, IfErr, OnOk, MatchOption, IsTrue};
+ghost use Rattle.hub_automaton.specs.Alphabet.{mentions, plain, spec_characters, Refuses};
 ghost use Rattle.hub_automaton.specs.declared.alternatives.TheConstants.{SPOTS};
 ghost use Rattle.hub_automaton.specs.declared.fault.AutomatonFault.TheVariants.{TooManyCharacters, TooManySpots};
 ghost use Rattle.hub_profile.specs.Parts.{Parts, IsProfile};
 ghost use Rattle.hub_profile.specs.declared.rules.TheConstants.{RULES};
-ghost use Rattle.hub_reach.specs.Mention.{Mentions, mentioned_by};
+ghost use Rattle.hub_reach.specs.Mention.{Mentions};
 ghost use Rattle.hub_reach.specs.Stage.{spots_of};
 ghost use Rattle.hub_cert.specs.Set as of_set;
 ghost use Rattle.hub_cert.specs.Refused as refused;
@@ -20,7 +17,7 @@ use hub_automaton::laws::what_is_added_is_mentioned;
 use hub_automaton::{Alphabet, AutomatonFault, SpecSet};
 use hub_path::Root;
 use hub_profile::{Profile, Rule};
-use hub_reach::{Walker, mention};
+use hub_reach::{Walker, mention_each};
 use std::alloc::{AllocError, Global};
 use std::slice::from_ref;
 
@@ -224,34 +221,11 @@ pub(crate) fn alphabet_with(
 {
     what_is_added_is_mentioned();
     let mut alphabet = Alphabet::new(alloc)?;
-    mention_profiles(&mut alphabet, profiles)?;
-    mention_rules(&mut alphabet, rules)?;
+    mention_each(&mut alphabet, profiles)?;
+    mention_each(&mut alphabet, rules)?;
     // Its contract says that this is an alphabet.
     let _ = alphabet.count();
     Ok(alphabet)
-}
-
-fn mention_profiles(alphabet: &mut Alphabet, profiles: &[Profile]) -> Result<(), AutomatonFault>
-    ensures ok { OnOk result (alphabet.new
-        ≡ with_characters alphabet.old (flat_map mentioned_by profiles.now)) }
-    ensures err { IfErr result (Refuses alphabet.old (flat_map mentioned_by profiles.now)) }
-{
-    for profile in profiles {
-        mention(alphabet, profile)?;
-    }
-    Ok(())
-}
-
-fn mention_rules(alphabet: &mut Alphabet, rules: &[Rule]) -> Result<(), AutomatonFault>
-    ensures ok { OnOk result (alphabet.new
-        ≡ with_characters alphabet.old (flat_map (λ R. spec_characters R.spec) rules.now)) }
-    ensures err { IfErr result (Refuses alphabet.old (flat_map
-        (λ R. spec_characters R.spec) rules.now)) }
-{
-    for rule in rules {
-        alphabet.add_spec(&rule.spec)?;
-    }
-    Ok(())
 }
 
 /// Returns `TooManySpots` if a profile has too many spots for a walker.

@@ -1,4 +1,4 @@
-use Rattle.std.proofs.Common.{◌∙◌, refl}
+use Rattle.std.proofs.Common.{◌∙◌, refl, arith}
 use Rattle.std.proofs.lemmas.Option.{slice_get_read, slice_get_within}
 use Rattle.hub_cert.specs.Set.{roots_in}
 use Rattle.hub_cert.proofs.SetFacts.{are-apart, shown-nested}
@@ -16,3 +16,21 @@ returns-in-Some-clause-err c = λ S ps rs named.
 
 pub returns-clause-apart : goal.returns-clause-apart
 returns-clause-apart c = λ S ps rs. are-apart S c.as_slice-all.result.now (c.as_slice-all.ensures.value ∙ c.in_ok-roots.ensures.roots S ps rs) c.in_default.ensures
+
+pub bounds-all-first : goal.bounds-all-first
+bounds-all-first c = let are = c.in-Some.ensures in slice_get_within c.as_slice-all.result.now c.in-Some.first are.nested.first are.nested.at_first
+
+pub offset_bounds-all-first : goal.offset_bounds-all-first
+offset_bounds-all-first c =
+    let are = c.in-Some.ensures in
+    let within = slice_get_within c.as_slice-all.result.now c.in-Some.first are.nested.first are.nested.at_first in
+    omega (arith, within)
+
+pub bounds-all-second : goal.bounds-all-second
+bounds-all-second c = let are = c.in-Some.ensures in slice_get_within c.as_slice-all.result.now c.in-Some.second are.nested.second are.nested.at_second
+
+pub offset_bounds-all-second : goal.offset_bounds-all-second
+offset_bounds-all-second c =
+    let are = c.in-Some.ensures in
+    let within = slice_get_within c.as_slice-all.result.now c.in-Some.second are.nested.second are.nested.at_second in
+    omega (arith, within)

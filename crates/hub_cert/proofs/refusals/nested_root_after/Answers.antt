@@ -1,7 +1,20 @@
 use Rattle.std.proofs.Common.{◌∙◌, refl, sym, arith}
 use Rattle.std.proofs.lemmas.Option.{slice_get_read}
+use Rattle.hub_cert.specs.Refused.{AreNested}
 use Rattle.hub_cert.proofs.SetFacts.{all-after, none-after-more, not-nested}
 use Rattle.hub_cert.proofs.refusals.nested_root_after.Goals as goal
+
+pub returns-then-is_nested : goal.returns-then-is_nested
+returns-then-is_nested c =
+    let rs = c.args.roots.now in
+    let are : AreNested rs c.args.first c.loop-second.second = record {
+      first = c.index-roots-first.result;
+      second = c.index-roots-second.result;
+      at_first = slice_get_read rs _ c.args.first c.index-roots-first.result refl c.requires c.index-roots-first.is;
+      at_second = slice_get_read rs _ c.loop-second.second c.index-roots-second.result refl c.loop-second-test.true c.index-roots-second.is;
+      nested = sym c.is_nested.ensures ∙ c.if-is_nested.true;
+    } in
+    (omega arith, are, c.loop-second.invariant)
 
 pub loop-second-preserved : goal.loop-second-preserved
 loop-second-preserved c =

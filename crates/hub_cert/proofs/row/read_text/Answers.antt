@@ -1,4 +1,5 @@
 use Rattle.std.proofs.Common.{◌≡◌, ◌∙◌, ◌==◌, Some, bytes_eq, chars, string_bytes, sym, ap, subst, IsUtf8}
+use Rattle.std.proofs.lemmas.Bool.{false≢true}
 use Rattle.std.proofs.lemmas.Str.{IsUtf8-string_bytes, chars-nil}
 use Rattle.hub_cert.proofs.Digits.{read-empty, read-none, read-some}
 use Rattle.hub_cert.proofs.row.read_text.Goals as goal
@@ -17,4 +18,4 @@ returns-in-Ok-from_utf8 c =
 
 pub returns-in-Ok : goal.returns-in-Ok
 returns-in-Ok c =
-    sym (read-none c.args.digits.now c.in-Ok.bytes.items (ap (λ x. bytes_eq c.args.digits.now x) (sym c.as_slice.ensures) ∙ (sym c.eq.ensures ∙ c.if-eq.false)) c.in-Ok.ensures.ok (λ u. cc (c.in-Err-from_utf8.ensures.succeeds u)))
+    sym (read-none c.args.digits.now c.in-Ok.bytes.items (ap (λ x. bytes_eq c.args.digits.now x) (sym c.as_slice.ensures) ∙ (sym c.eq.ensures ∙ c.if-eq.false)) c.in-Ok.ensures.ok (λ u. false≢true (c.in-Err-from_utf8.ensures.succeeds u)))

@@ -1,8 +1,9 @@
 -- Profiles that are taken out round by round.
-use Rattle.std.proofs.Common.{◌≡◌, ◌∙◌, ◌&&◌, ◌==◌, ◌<◌, ◌+◌, ℕ, zero, suc, Bool, true, false, not, cond, List, [], ◌∷◌, filter, get_or, length, map, Some, refl, sym, ap, ap₂, subst, arith}
+use Rattle.std.proofs.Common.{◌≡◌, ◌∙◌, ◌&&◌, ◌==◌, ◌<◌, ◌+◌, ℕ, zero, suc, Bool, true, false, not, cond, List, [], ◌∷◌, ◌++◌, append-nil, filter, get_or, length, map, Some, refl, sym, ap, ap₂, subst, arith}
 use Rattle.std.specs.List.{range_with_len}
 use Rattle.std.specs.Prelude.{nat_lt, slice_get}
 use Rattle.std.proofs.lemmas.Bool.Decides.{nat_tests}
+use Rattle.std.proofs.lemmas.List.Elements.{filter-append}
 use Rattle.std.proofs.lemmas.List.FromFn.{get_or-map-range_with_len, length-map-range_with_len}
 use Rattle.std.proofs.lemmas.Option.{get_or_from_slice_get, same_Some, slice_get_within}
 use Rattle.hub_profile.specs.Parts.{Parts}
@@ -76,6 +77,17 @@ pub others-outside : (j : ℕ) (ps : List Placed) → filter (λ p. not (is_in j
 others-outside j ps =
     filter-both (λ (p : Placed). not (is_in j p.placing)) (λ (p : Placed). is_outside j p.placing) ps
     ∙ filter-alike (λ (p : Placed). is_outside j p.placing && not (is_in j p.placing)) (λ (p : Placed). is_outside (j + 1) p.placing) ps (λ n p at. outside-next j p.placing)
+
+-- One more profile, which isn't in the round.
+pub members-past : (k : ℕ) (ps : List Placed) (p : Placed) → is_in k p.placing ≡ false → members k (ps ++ p ∷ []) ≡ members k ps
+members-past k ps p out =
+    let own = filter (λ (q : Placed). is_in k q.placing) ps in
+    ap (map (λ (q : Placed). q.profile)) (filter-append (λ (q : Placed). is_in k q.placing) ps (p ∷ []) ∙ (ap (λ b. own ++ cond b (p ∷ []) []) out ∙ append-nil own))
+
+pub others-past : (k : ℕ) (ps : List Placed) (p : Placed) → is_in k p.placing ≡ false → filter (λ q. not (is_in k q.placing)) (ps ++ p ∷ []) ≡ filter (λ q. not (is_in k q.placing)) ps ++ p ∷ []
+others-past k ps p out =
+    let others = filter (λ (q : Placed). not (is_in k q.placing)) ps in
+    filter-append (λ (q : Placed). not (is_in k q.placing)) ps (p ∷ []) ∙ ap (λ b. others ++ cond (not b) (p ∷ []) []) out
 
 -- Whoever is in none of all rounds was left out.
 outside-left : (es : List CheckFault) (count i : ℕ) (q : Placing) → IsPlaced es count i q → is_outside count q ≡ not (is_in_some q)

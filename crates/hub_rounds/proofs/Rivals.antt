@@ -1,8 +1,8 @@
 -- Lists to which items are added.
-use Rattle.std.proofs.Common.{◌≡◌, ◌⊎◌, inl, inr, ⊎_elim, ◌<◌, ◌≤◌, ◌+◌, ℕ, zero, suc, List, [], ◌∷◌, ◌++◌, length, Option, None, Some, refl, ap, subst, sym, arith}
-use Rattle.std.specs.Prelude.{IfSome, slice_get}
-use Rattle.std.proofs.lemmas.Bool.{cases_lt}
+use Rattle.std.proofs.Common.{◌≡◌, ◌⊎◌, inl, inr, ⊎_elim, ◌≤◌, ℕ, zero, suc, List, [], ◌∷◌, ◌++◌, length, Some, refl, ap, subst, sym, arith}
+use Rattle.std.specs.Prelude.{slice_get}
 use Rattle.std.proofs.lemmas.Option.{same_Some, slice_get_within}
+use Rattle.hub_cert.specs.Matched.{snoc-new, snoc-old}
 use Rattle.hub_cert.specs.declared.fault.CheckFault.{CheckFault}
 use Rattle.hub_rounds.specs.Lines.{HasPair}
 use Rattle.hub_rounds.specs.Rounds.{ArePlaced, AreRivals, AreUsed, IsInRound, IsPlaced, MayJoin, Opens}
@@ -10,26 +10,12 @@ use Rattle.hub_rounds.specs.declared.placing.Placed.{Placed}
 use Rattle.hub_rounds.specs.declared.placing.Placing.{Placing}
 use Rattle.hub_rounds.specs.declared.placing.Placing.TheVariants.{Left, Round}
 
--- (also in hub_search/proofs/Growing; they belong into hub_path's lists)
+-- An item of a list with one more.
 pub snoc-cases : {X : Type 0} (xs : List X) (x y : X) (j : ℕ) → slice_get (xs ++ x ∷ []) j ≡ Some y → (slice_get xs j ≡ Some y) ⊎ ((j ≡ length xs) × (x ≡ y))
 snoc-cases [] x y zero e = inr (refl, same_Some x y e)
 snoc-cases [] x y (suc j) e = cc
 snoc-cases (z ∷ zs) x y zero e = inl e
 snoc-cases (z ∷ zs) x y (suc j) e = ⊎_elim (λ h. inl h) (λ h. inr (ap suc h.0, h.1)) (snoc-cases zs x y j e)
-
-snoc-old : {X : Type 0} (xs : List X) (x y : X) (j : ℕ) → slice_get xs j ≡ Some y → slice_get (xs ++ x ∷ []) j ≡ Some y
-snoc-old [] x y j e = cc
-snoc-old (z ∷ zs) x y zero e = e
-snoc-old (z ∷ zs) x y (suc j) e = snoc-old zs x y j e
-
-snoc-new : {X : Type 0} (xs : List X) (x : X) → slice_get (xs ++ x ∷ []) (length xs) ≡ Some x
-snoc-new [] x = refl
-snoc-new (z ∷ zs) x = snoc-new zs x
-
--- What holds of the value that may be there, and what follows from it.
-pub some-weaker : {X : Type 0} (r : Option X) (P Q : X → Type 0) → ((x : X) → P x → Q x) → IfSome r P → IfSome r Q
-some-weaker None P Q f h = tt
-some-weaker (Some x) P Q f h = f x h
 
 -- No rivals, and one more.
 pub no-rivals : (es : List CheckFault) (ps : List Placed) → AreRivals es ps []
@@ -66,9 +52,6 @@ one-placed-more es n m ps p l is are = λ i q at. ⊎_elim
     (λ old. placed-still es n m i q.placing l (are i q old))
     (λ new. subst (λ (r : Placed). IsPlaced es m i r.placing) new.1 (subst (λ (x : ℕ). IsPlaced es m x p.placing) (sym new.0) is))
     (snoc-cases ps p q i at)
-
-pub less-or-same : (k n : ℕ) → k < n + 1 → (k < n) ⊎ (k ≡ n)
-less-or-same k n l = ⊎_elim (λ h. inl h) (λ h. inr (omega (arith, h, l))) (cases_lt k n)
 
 -- Rounds that have a profile when there is one more profile, which opens the rounds that are new.
 pub none-used : (ps : List Placed) → AreUsed 0 ps

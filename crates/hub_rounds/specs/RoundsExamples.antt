@@ -1,10 +1,10 @@
 -- Worked values: what lines say of which profiles, and where profiles stand.
-use Rattle.std.specs.Prelude.{◌≡◌, ℕ, true, false, List, [], ◌∷◌, map, filter, not, None, codes, refl}
+use Rattle.std.specs.Prelude.{◌≡◌, ℕ, true, false, List, [], ◌∷◌, map, filter, not, codes, refl}
 use Rattle.std.proofs.Common.{arith}
 use Rattle.hub_path.specs.Path.{path_of}
 use Rattle.hub_path.specs.declared.side.Side.TheVariants.{Left}
 use Rattle.hub_profile.specs.Parts.{Parts}
-use Rattle.hub_profile.specs.Protection.{no_bars}
+use Rattle.hub_profile.specs.ExampleProfiles.{hub, s1, between}
 use Rattle.hub_cert.specs.declared.fault.CheckFault.{CheckFault}
 use Rattle.hub_cert.specs.declared.fault.CheckFault.TheVariants as fault
 use Rattle.hub_cert.specs.declared.goal.Goal.TheVariants as goal
@@ -19,17 +19,7 @@ use Rattle.hub_rounds.specs.declared.subject.Subject.TheVariants.{Pair, Alone, N
 
 -- A profile of that name.
 abbrev named : List ℕ → Parts
-named t = record {
-  name = t;
-  roots = path_of (codes "srv/hub") ∷ path_of (codes "srv/s1") ∷ [];
-  paths = [] ∷ [];
-  ignore = [];
-  ignorenot = [];
-  force = None;
-  prefer = None;
-  bars = no_bars ∷ no_bars ∷ [];
-  partial = [];
-}
+named t = between t hub s1 []
 
 abbrev overlap : ℕ → ℕ → CheckFault
 overlap w o = fault.Overlap w o (Replica Left) (path_of (codes "a")) (path_of (codes "a/b"))

@@ -16,6 +16,17 @@ pub(crate) struct Turn {
     pub(crate) profile: usize,
 }
 
+impl Turn {
+    /// Makes the turn of a profile: the greatest weights come first.
+    fn new(weight: usize, colour: usize, profile: usize) -> Turn {
+        Turn {
+            rank: usize::MAX - weight,
+            colour,
+            profile,
+        }
+    }
+}
+
 /// Colours the profiles that have no line of their own, and returns the colour of each.
 ///
 /// Those with the most clashes come first. Then the profiles are coloured again `PASSES` times, and if this takes fewer colours,
@@ -62,13 +73,7 @@ pub(crate) fn turns_by_clashes(alloc: Global, named: &Named) -> Result<Vec<Turn>
     let mut turns = Vec::new(alloc);
     for profile in 0..named.len() {
         if named.own_line(profile).is_none() {
-            let rank = usize::MAX - named.degree(profile);
-            let colour = 0;
-            turns.push(Turn {
-                rank,
-                colour,
-                profile,
-            })?;
+            turns.push(Turn::new(named.degree(profile), 0, profile))?;
         }
     }
     turns.sort()?;
@@ -89,12 +94,7 @@ fn turns_by_colours(
             } else {
                 count_of(colours, colour)
             };
-            let rank = usize::MAX - weight;
-            turns.push(Turn {
-                rank,
-                colour,
-                profile,
-            })?;
+            turns.push(Turn::new(weight, colour, profile))?;
         }
     }
     turns.sort()?;

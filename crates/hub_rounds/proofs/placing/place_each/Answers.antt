@@ -1,5 +1,7 @@
 use Rattle.std.proofs.Common.{◌∙◌, ◌++◌, ◌∷◌, [], ℕ, List, map, sym, ap, subst, length}
-use Rattle.std.proofs.lemmas.List.{map-append}
+use Rattle.std.proofs.lemmas.Iterator.Adapters.{YieldsList-from_vec}
+use Rattle.std.proofs.lemmas.Iterator.Consumers.{YieldsList-end}
+use Rattle.std.proofs.lemmas.List.{map-append, map-id}
 use Rattle.hub_profile.specs.Parts.{Parts}
 use Rattle.hub_rounds.specs.Rounds.{ArePlaced, AreUsed, IsPlaced}
 use Rattle.hub_rounds.specs.declared.placing.Placed.{Placed}
@@ -29,3 +31,9 @@ loop-profile-preserved c =
       told = subst (λ (qs : List Placed). ArePlaced es (length c.placing_of.new.seen.items) qs) (sym c.in_ok-push.ensures.items) (one-placed-more es (length c.loop-profile.seen.items) (length c.placing_of.new.seen.items) ps p e.grows told i.told);
       used = subst (λ (qs : List Placed). AreUsed (length c.placing_of.new.seen.items) qs) (sym c.in_ok-push.ensures.items) (one-used-more (length c.loop-profile.seen.items) (length c.placing_of.new.seen.items) ps p e.opened i.used);
     }
+
+pub returns-clause-all : goal.returns-clause-all
+returns-clause-all c =
+    let from = c.into_iter-profile-iterator in
+    let all = YieldsList-end (YieldsList-from_vec {s = from.result} c.args.profiles.items from.ensures.into_iter_gives.0 (from.ensures.into_iter_gives.1 ∙ c.args.profiles.ok.0)) c.loop-profile.yielded c.loop-profile.profile-iterator c.loop-profile.yielded_by c.next.result c.next.new.self c.in-None.is c.next.ensures.steps in
+    c.loop-profile.invariant.all ∙ (sym (map-id c.loop-profile.yielded) ∙ all.0)

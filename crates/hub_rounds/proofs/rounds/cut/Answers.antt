@@ -3,11 +3,11 @@ use Rattle.std.specs.List.{range_with_len}
 use Rattle.std.proofs.lemmas.List.FromFn.{map-range_with_len_more}
 use Rattle.hub_profile.specs.Parts.{Parts}
 use Rattle.hub_profile.specs.declared.rule.Rule.{Rule}
+use Rattle.hub_cert.specs.Matched.{less-or-same}
 use Rattle.hub_cert.specs.Set.{IsSafeSet}
 use Rattle.hub_rounds.specs.Rounds.{is_in, is_outside, members}
 use Rattle.hub_rounds.specs.declared.placing.Placed.{Placed}
 use Rattle.hub_rounds.proofs.Cutting.{all-outside, members-outside, others-outside}
-use Rattle.hub_rounds.proofs.Rivals.{less-or-same}
 use Rattle.hub_rounds.proofs.rounds.cut.Goals as goal
 
 pub loop-round-init : goal.loop-round-init

@@ -1,6 +1,9 @@
 -- Two lists of children are the same replica exactly where they have the same names, and the same nodes at them.
-use Rattle.std.proofs.Common.{◌≡◌, Bool, true, false, cond, List, [], ◌∷◌, Option, Some, None, refl, ap, sym, ◌∙◌, subst}
+use Rattle.std.proofs.Common.{◌≡◌, ℕ, Bool, true, false, cond, List, [], ◌∷◌, Option, Some, None, refl, ap, sym, ◌∙◌, subst}
 use Rattle.std.specs.FinMap as fin
+use Rattle.std.specs.Prelude.{IsTrue, ◌↔◌}
+use Rattle.std.specs.Str.{bytes_eq}
+use Rattle.std.proofs.lemmas.Slice.Eq.{bytes_eq-Decides}
 use Rattle.std.specs.FinMap.Entries.{find}
 use Rattle.std.specs.List.{AllByRecursion}
 use Rattle.std.specs.List.Sorted.{IsStrictlySortedBy}
@@ -12,7 +15,7 @@ use Rattle.std.proofs.lemmas.Bool.{false≢true}
 use Rattle.std.proofs.lemmas.Map.Keys.{sorted_head, sorted_tail}
 use Rattle.hub_path.specs.Path.{Name, Path, name_cmp}
 use Rattle.hub_tree.specs.Nodes.{replica_of, kids_of, node_get, contents_of, AreSame}
-use Rattle.hub_tree.specs.Tree.{Replica}
+use Rattle.hub_tree.specs.Tree.{Replica, bytes_of}
 use Rattle.hub_tree.specs.declared.contents.Contents.{Contents}
 use Rattle.hub_tree.specs.declared.contents.Contents.TheVariants as contents
 use Rattle.hub_tree.specs.declared.node.Node.{Node}
@@ -176,3 +179,23 @@ too_many all others left rest ds m y so e f g = none_left m y ds (sym (ap replic
 
 pub all_same : (all others left rest : List (Name × Node)) → IsSoFar all others left rest → left ≡ [] → rest ≡ [] → replica_of all ≡ replica_of others
 all_same all others left rest so e f = so.back (ap replica_of e ∙ sym (ap replica_of f))
+
+-- Two nodes of which it is known what they are.
+file_bytes : (a b : List ℕ) → contents.File a ≡ contents.File b → a ≡ b
+file_bytes a b e = ap (λ (c : Contents). unwrap_or (bytes_of c) []) e
+
+pub files_alike : (x y : Node) (a b : List ℕ) (r : Bool) → contents_of x ≡ contents.File a → contents_of y ≡ contents.File b → kids_of x ≡ [] → kids_of y ≡ [] → r ≡ bytes_eq a b → IsTrue r ↔ AreSame x y
+files_alike x y a b r e f k l h = (
+  λ t. (e ∙ ap contents.File ((bytes_eq-Decides a b).0 (sym h ∙ t)) ∙ sym f, ap replica_of (k ∙ sym l)),
+  λ s. h ∙ (bytes_eq-Decides a b).1 (file_bytes a b (sym e ∙ s.0 ∙ f)),
+)
+
+pub directories_alike : (x y : Node) (cs ds : List (Name × Node)) (r : Bool) → contents_of x ≡ contents.Directory → contents_of y ≡ contents.Directory → kids_of x ≡ cs → kids_of y ≡ ds
+    → IsTrue r ↔ (replica_of cs ≡ replica_of ds) → IsTrue r ↔ AreSame x y
+directories_alike x y cs ds r e f k l h = (
+  λ t. (e ∙ sym f, ap replica_of k ∙ h.0 t ∙ sym (ap replica_of l)),
+  λ s. h.1 (sym (ap replica_of k) ∙ s.1 ∙ ap replica_of l),
+)
+
+pub file_or_directory : (x y : Node) (a : List ℕ) → contents_of x ≡ contents.File a → contents_of y ≡ contents.Directory → contents_of x ≡ contents_of y → ⊥
+file_or_directory x y a e f s = let w : contents.File a ≡ contents.Directory = sym e ∙ s ∙ f in cc

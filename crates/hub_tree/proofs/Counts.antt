@@ -146,3 +146,14 @@ pub counted : (count len total : ℕ) (left : List Node) → left ≡ [] → min
 counted count len total left e h same fits =
     let none : min (count + 0) 18446744073709551615 ≡ min total 18446744073709551615 = sym (ap (λ xs. min (count + sum_by size_of xs) 18446744073709551615) e) ∙ h in
     omega arith
+
+counted_step : (count one more size rest total : ℕ) → more ≡ min (count + one) 18446744073709551615 → one ≡ min size 18446744073709551615 → min (count + (size + rest)) 18446744073709551615 ≡ total
+    → (min (more + rest) 18446744073709551615 ≡ total) × (more ≤ 18446744073709551615)
+counted_step count one more size rest total m o h = (omega arith, omega arith)
+
+-- one more node is counted
+pub counted_more : (count one more total : ℕ) (x : Node) (left rest : List Node) → more ≡ min (count + one) 18446744073709551615 → one ≡ min (size_of x) 18446744073709551615 → left ≡ x ∷ rest
+    → min (count + sum_by size_of left) 18446744073709551615 ≡ total → (min (more + sum_by size_of rest) 18446744073709551615 ≡ total) × (more ≤ 18446744073709551615)
+counted_more count one more total x left rest m o step h =
+    counted_step count one more (size_of x) (sum_by size_of rest) total m o
+    (sym (ap (λ n. min (count + n) 18446744073709551615) (ap (λ xs. sum_by size_of xs) step ∙ sum_by-cons size_of x rest)) ∙ h)

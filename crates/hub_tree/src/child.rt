@@ -60,39 +60,15 @@ pub fn put_child(
         (replica_of children.old.entries) (name.now ∷ []) contents)) }
     ensures err { OnErr result (replica_of children.new.entries ≡ replica_of children.old.entries) }
 {
-    if only_new {
-        return put_new_child(alloc, children, name, contents);
+    if !only_new {
+        set_child(alloc, children, name, contents)?;
+        return Ok(false);
     }
-    match set_child(alloc, children, name, contents) {
-        Ok(()) => Ok(false),
-        Err(fault) => Err(fault),
-    }
-}
-
-/// Sets contents at a name that has none, and returns whether it has some already.
-fn put_new_child(
-    alloc: Global,
-    children: &mut BTreeMap<Name, Node>,
-    name: &Name,
-    contents: Contents,
-) -> Result<bool, SetFault>
-    ensures left { IfOk result
-        (λ b. b ≡ is_left true (replica_of children.old.entries) (name.now ∷ [])) }
-    ensures allowed { OnOk result (put_fault true
-        (replica_of children.old.entries) (name.now ∷ []) contents ≡ None) }
-    ensures ok { OnOk result (replica_of children.new.entries
-        ≡ with_put true (replica_of children.old.entries) (name.now ∷ []) contents) }
-    ensures fault { IfErr result (IsRefusal (put_fault true
-        (replica_of children.old.entries) (name.now ∷ []) contents)) }
-    ensures err { OnErr result (replica_of children.new.entries ≡ replica_of children.old.entries) }
-{
     if has_child(children, name) {
         return Ok(true);
     }
-    match add_child(alloc, children, name, contents) {
-        Ok(()) => Ok(false),
-        Err(fault) => Err(fault),
-    }
+    add_child(alloc, children, name, contents)?;
+    Ok(false)
 }
 
 /// Returns whether there are contents at a name.

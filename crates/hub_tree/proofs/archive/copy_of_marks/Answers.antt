@@ -1,17 +1,15 @@
-use Rattle.std.proofs.Common.{List, [], ◌∷◌, ◌++◌, ap, sym, ◌∙◌, append_assoc, append-nil}
+use Rattle.std.proofs.Common.{List, ◌++◌, ap, sym, ◌∙◌, append-nil}
 use Rattle.std.proofs.lemmas.Result.{IfOk-weaker}
 use Rattle.hub_path.specs.Path.{Path}
 use Rattle.hub_tree.specs.declared.contents.Mark.{Mark}
 use Rattle.hub_tree.proofs.Inserted.{collected_in_order}
+use Rattle.hub_tree.proofs.Pushed.{one_pushed}
 use Rattle.hub_tree.proofs.archive.copy_of_marks.Goals as goal
 
 pub loop-path-preserved : goal.loop-path-preserved
 loop-path-preserved c =
-    let done : List (Path × Mark) = c.loop-path.copies.items in
-    ap (λ (es : List (Path × Mark)). es ++ c.next.new.self)
-    (c.in_ok-push.ensures.items ∙ ap (λ (p : Path). done ++ (p, c.in-Some.mark.now) ∷ []) c.in_ok-copy.ensures)
-    ∙ append_assoc done ((c.in-Some.path.now, c.in-Some.mark.now) ∷ []) c.next.new.self
-    ∙ ap (λ (es : List (Path × Mark)). done ++ es) (sym c.in-Some.ensures.steps) ∙ c.loop-path.invariant
+    one_pushed {X = Path × Mark} c.loop-path.copies.items c.push.new.self.items c.loop-path.path-iterator c.next.new.self c.args.marks.now.entries (c.in-Some.path.now, c.in-Some.mark.now) _
+    c.in_ok-push.ensures.items (ap (λ (p : Path). (p, c.in-Some.mark.now)) c.in_ok-copy.ensures) c.in-Some.ensures.steps c.loop-path.invariant
 
 pub returns : goal.returns
 returns c =

@@ -1,9 +1,12 @@
-use Rattle.std.proofs.Common.{◌≡◌, sym, ◌∙◌}
+use Rattle.std.proofs.Common.{◌≡◌, ℕ, List, sym, ap, ◌∙◌}
 use Rattle.std.proofs.lemmas.Bool.{false≢true}
 use Rattle.std.specs.Map.Iter.{deref_pair}
+use Rattle.std.specs.Str.{bytes_eq}
 use Rattle.hub_path.specs.Laws.{name_eq-decides}
 use Rattle.hub_path.specs.Path.{Name, name_eq}
-use Rattle.hub_tree.proofs.Comparing.{one_less, other_names, other_nodes, too_few, too_many, all_same}
+use Rattle.hub_tree.specs.Nodes.{contents_of, kids_of}
+use Rattle.hub_tree.proofs.LookUp.{contents-file, contents-directory, kids-file, kids-directory}
+use Rattle.hub_tree.proofs.Comparing.{one_less, other_names, other_nodes, too_few, too_many, all_same, files_alike, directories_alike, file_or_directory}
 use Rattle.hub_tree.proofs.Matching.{refuted, unequal, equal, by_none, step_none, step_some}
 use Rattle.hub_tree.proofs.same.+same.Goals as goal
 
@@ -43,3 +46,29 @@ are_same-returns t c =
     (λ e. all_same all others c.loop-name.name-iterator c.loop-name.rest c.loop-name.invariant c.in-None.ensures.steps.0 (step_none deref_pair c.loop-name.rest c.next-2.new.self c.next-2.result c.next-2.ensures.steps e))
     (λ x e. too_many all others c.loop-name.name-iterator c.loop-name.rest c.next-2.new.self x.0.now x.1.now c.loop-name.invariant c.in-None.ensures.steps.0
     (step_some deref_pair c.loop-name.rest c.next-2.new.self c.next-2.result x c.next-2.ensures.steps e))
+
+pub is_same-returns-in-File-other : goal.is_same-returns-in-File-other
+is_same-returns-in-File-other t c =
+    let a : List ℕ = c.in-File.blob in
+    let b : List ℕ = c.in-File-other.other in
+    files_alike c.args.node.now c.args.other.now a b c.eq.result (ap contents_of c.in-File.is ∙ contents-file a) (ap contents_of c.in-File-other.is ∙ contents-file b)
+    (ap kids_of c.in-File.is ∙ kids-file a) (ap kids_of c.in-File-other.is ∙ kids-file b) (c.eq.ensures ∙ (λ i. bytes_eq (c.bytes.ensures i) (c.bytes-in-File-other.ensures i)))
+
+pub is_same-returns-in-Directory-other : goal.is_same-returns-in-Directory-other
+is_same-returns-in-Directory-other t c =
+    refuted _ (λ s. file_or_directory c.args.node.now c.args.other.now c.in-File.blob (ap contents_of c.in-File.is ∙ contents-file c.in-File.blob)
+    (ap contents_of c.in-Directory-other.is ∙ contents-directory c.in-Directory-other.field-0) s.0)
+
+pub is_same-returns-in-Directory-other-2 : goal.is_same-returns-in-Directory-other-2
+is_same-returns-in-Directory-other-2 t c =
+    let m = c.in-Directory.children in
+    let n = c.in-Directory-other-2.others in
+    directories_alike c.args.node.now c.args.other.now c.deref.result.now.entries c.deref-in-Directory-other-2.result.now.entries c.are_same.result
+    (ap contents_of c.in-Directory.is ∙ contents-directory m) (ap contents_of c.in-Directory-other-2.is ∙ contents-directory n)
+    (ap kids_of c.in-Directory.is ∙ kids-directory m ∙ ap (λ m. m.entries) (sym c.deref.ensures)) (ap kids_of c.in-Directory-other-2.is ∙ kids-directory n ∙ ap (λ m. m.entries) (sym c.deref-in-Directory-other-2.ensures))
+    c.are_same.ensures
+
+pub is_same-returns-in-File-other-2 : goal.is_same-returns-in-File-other-2
+is_same-returns-in-File-other-2 t c =
+    refuted _ (λ s. file_or_directory c.args.other.now c.args.node.now c.in-File-other-2.field-0 (ap contents_of c.in-File-other-2.is ∙ contents-file c.in-File-other-2.field-0)
+    (ap contents_of c.in-Directory.is ∙ contents-directory c.in-Directory.children) (sym s.0))

@@ -1,12 +1,14 @@
-use Rattle.std.proofs.Common.{sym, ap, subst, refl, Some, ◌∙◌}
+use Rattle.std.proofs.Common.{List, sym, ap, subst, refl, Some, ◌∙◌}
 use Rattle.std.specs.FinMap.{from_entries, get-from_entries}
 use Rattle.std.specs.FinMap.Entries.{find}
 use Rattle.std.specs.Option.{unwrap_or}
 use Rattle.hub_path.specs.Path.{Path, path_cmp}
 use Rattle.hub_tree.specs.Tree.{Archive, old_mark_at, with_kept, IsArchive, HasPaths, HasDigests}
+use Rattle.hub_tree.specs.declared.contents.Mark.{Mark}
 use Rattle.hub_tree.specs.declared.contents.Mark.TheVariants.{Absent}
 use Rattle.hub_tree.specs.Laws.MarkMaps.{changed_marks, IsArchive-set, is_path-names}
 use Rattle.hub_tree.specs.Laws.Order.{path_total}
+use Rattle.hub_tree.proofs.Inserted.{IsGood}
 use Rattle.hub_tree.proofs.archive.Archive.replace.Goals as goal
 
 pub returns-in-None-clause-ok : goal.returns-in-None-clause-ok
@@ -50,3 +52,6 @@ returns-in_ok-old-in-Some-clause-old c =
     (c.in_ok-old-in-Some.ensures.old ∙ ap (λ (q : Path). find path_cmp q c.self.inside.marks.entries) c.in_ok-copy-in-Some.ensures
     ∙ sym (get-from_entries path_total c.self.inside.marks.entries p))
     ∙ ap (λ (a : Archive). old_mark_at a p) c.self.view_is
+
+pub invariant_of-self-in_err-old-in-Some : goal.invariant_of-self-in_err-old-in-Some
+invariant_of-self-in_err-old-in-Some c = subst (λ (es : List (Path × Mark)). IsGood (from_entries {R = path_cmp} es)) (sym c.in_err-old-in-Some.ensures.err) c.self.invariant

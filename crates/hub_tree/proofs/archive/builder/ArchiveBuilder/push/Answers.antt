@@ -13,3 +13,6 @@ invariant_of-self-in_ok-push c =
     subst (λ (es : List (Path × Mark)). IsGood (with_entries fin.empty es))
     (sym (c.in_ok-push.ensures.items ∙ ap (λ (p : Path). done ++ (p, c.in-Some.mark) ∷ []) c.in_ok-copy.ensures))
     (good_more done c.args.path.now c.args.mark c.in-Some.mark c.self.invariant (is_path-names _ c.requires c.len-names.ensures.valid) c.has_digest.ensures (sym c.in-Some.ensures))
+
+pub invariant_of-self-in_err-push : goal.invariant_of-self-in_err-push
+invariant_of-self-in_err-push c = subst (λ (es : List (Path × Mark)). IsGood (with_entries fin.empty es)) (sym c.in_err-push.ensures.items) c.self.invariant

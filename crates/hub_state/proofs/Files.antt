@@ -290,13 +290,13 @@ changed_blobs es fs m d b v h =
     ∙ sym (fin.get-insert name_cmp-total m d b q))
 
 -- The files of one more entry.
-pub files_more : {X : Type 0} (f : X → List (List ℕ)) (m k : BlobMap) (es : List X) (x : X) (o : Option BlobMap) → Some k ≡ files_added (Some m) (flat_map f es) → o ≡ files_added (Some k) (f x)
+files_more : {X : Type 0} (f : X → List (List ℕ)) (m k : BlobMap) (es : List X) (x : X) (o : Option BlobMap) → Some k ≡ files_added (Some m) (flat_map f es) → o ≡ files_added (Some k) (f x)
     → o ≡ files_added (Some m) (flat_map f (es ++ x ∷ []))
 files_more f m k es x o before one =
     one ∙ ap (λ (r : Option BlobMap). files_added r (f x)) before ∙ sym (files_added-append (Some m) (flat_map f es) (f x))
     ∙ ap (files_added (Some m)) (sym (flat_map-append f es (x ∷ []) ∙ ap (λ gs. flat_map f es ++ gs) (append-nil (f x))))
 
-pub files_stop : {X : Type 0} (f : X → List (List ℕ)) (m k : BlobMap) (es : List X) (x : X) (rest all : List X) → Some k ≡ files_added (Some m) (flat_map f es) → None ≡ files_added (Some k) (f x) → es ++ x ∷ rest ≡ all
+files_stop : {X : Type 0} (f : X → List (List ℕ)) (m k : BlobMap) (es : List X) (x : X) (rest all : List X) → Some k ≡ files_added (Some m) (flat_map f es) → None ≡ files_added (Some k) (f x) → es ++ x ∷ rest ≡ all
     → None ≡ files_added (Some m) (flat_map f all)
 files_stop f m k es x rest all before one is =
     sym (files_added-none (flat_map f rest)) ∙ ap (λ (r : Option BlobMap). files_added r (flat_map f rest)) (files_more f m k es x None before one)
@@ -333,3 +333,20 @@ no_items (x ∷ xs) e = absurd (omega arith)
 
 pub no_entries : (m : BlobMap) → m ≡ fin.empty → fin.entries m ≡ []
 no_entries m e = no_items (fin.entries m) (sym (fin.len-entries m) ∙ ap (λ (x : BlobMap). fin.len x) e ∙ fin.len-empty name_cmp (List ℕ))
+
+-- What a loop that collects has done: it has taken some items, and has the blobs of their files.
+abbrev pub Collected : {X : Type 0} → (X → List (List ℕ)) → BlobMap → BlobMap → List X → List X → Type 0
+Collected {X} f m k rest all = (done : List X) × (done ++ rest ≡ all) × (Some k ≡ files_added (Some m) (flat_map f done))
+
+pub collected_more : {X : Type 0} (f : X → List (List ℕ)) (m k n : BlobMap) (left rest all : List X) (x : X) (added : Bool)
+    → Collected f m k left all → left ≡ x ∷ rest → added ≡ true → cond added (Some n) None ≡ files_added (Some k) (f x) → Collected f m n rest all
+collected_more f m k n left rest all x added so step was one = (
+  so.0 ++ x ∷ [],
+  append_assoc so.0 (x ∷ []) rest ∙ ap (λ r. so.0 ++ r) (sym step) ∙ so.1,
+  files_more f m k so.0 x (Some n) so.2 (sym (ap (λ b. cond b (Some n) None) was) ∙ one),
+)
+
+pub collected_stop : {X : Type 0} (f : X → List (List ℕ)) (m k n : BlobMap) (left rest all : List X) (x : X) (added : Bool)
+    → Collected f m k left all → left ≡ x ∷ rest → added ≡ false → cond added (Some n) None ≡ files_added (Some k) (f x) → None ≡ files_added (Some m) (flat_map f all)
+collected_stop f m k n left rest all x added so step was one =
+    files_stop f m k so.0 x rest all so.2 (sym (ap (λ b. cond b (Some n) None) was) ∙ one) (ap (λ r. so.0 ++ r) (sym step) ∙ so.1)

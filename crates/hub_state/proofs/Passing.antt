@@ -15,7 +15,7 @@ use Rattle.hub_state.specs.State.{State, Text}
 use Rattle.hub_state.specs.Devices.{Passes}
 use Rattle.hub_state.specs.View.{by_text, by_two, below, pairs, keyed}
 use Rattle.hub_state.specs.declared.form.Version.{Version}
-use Rattle.hub_state.specs.Writing.{header, end_line, replica_lines, archive_lines, blob_lines, state_files, version_of, version_lines, joined_lines, state_text}
+use Rattle.hub_state.specs.Writing.{contents_lines, header, end_line, replica_lines, archive_lines, blob_lines, state_files, version_of, version_lines, joined_lines, state_text}
 use Rattle.hub_state.proofs.Maps.{by_two-push, pairs-push}
 
 pub one_line : (l : List ℕ) → joined_lines (l ∷ []) ≡ l ++ 10 ∷ []
@@ -24,7 +24,7 @@ one_line l = append-nil (l ++ 10 ∷ [])
 pub joined-append : (ls ks : List (List ℕ)) → joined_lines (ls ++ ks) ≡ joined_lines ls ++ joined_lines ks
 joined-append ls ks = flat_map-append (λ (l : List ℕ). l ++ 10 ∷ []) ls ks
 
-pub joined_one : {X : Type 0} (f : X → List (List ℕ)) (xs : List X) (x : X) → joined_lines (flat_map f (xs ++ x ∷ [])) ≡ joined_lines (flat_map f xs) ++ joined_lines (f x)
+joined_one : {X : Type 0} (f : X → List (List ℕ)) (xs : List X) (x : X) → joined_lines (flat_map f (xs ++ x ∷ [])) ≡ joined_lines (flat_map f xs) ++ joined_lines (f x)
 joined_one f xs x =
     ap joined_lines (flat_map-append f xs (x ∷ []) ∙ ap (λ ls. flat_map f xs ++ ls) (append-nil (f x)))
     ∙ joined-append (flat_map f xs) (f x)
@@ -81,6 +81,19 @@ wrote-more text a b c x y w z s t left rest all item before after wrote step pus
 pub wrote-all : {X : Type 0} (text : List X → List ℕ) (a b : Option (List ℕ)) (x y : List ℕ) (rest all : List X) (failed : Bool) → Wrote text a b x y rest all failed → rest ≡ [] → Passes a b x y (text all)
 wrote-all text a b x y rest all failed wrote ends =
     subst (λ es. Passes a b x y (text es)) (sym (append-nil wrote.0) ∙ ap (λ r. wrote.0 ++ r) (sym ends) ∙ wrote.1) wrote.2
+
+-- What is written of a replica's entries.
+abbrev pub entries_text : Version → List (Path × Contents) → List ℕ
+entries_text version es = joined_lines (flat_map (contents_lines version) es)
+
+-- One more entry of a replica is written.
+pub wrote-entry : (version : Version) (a b c : Option (List ℕ)) (x y z : List ℕ) (left rest all : List (Path × Contents)) (r : Result (Path × Stored) AllocError) (e : Path × Stored) (before after : Bool)
+    → Wrote (entries_text version) a b x y left all before → TakesEntry left (Some r) rest → r ≡ Ok e → Passes b c y z (joined_lines (contents_lines version (e.0, stored_contents e.1))) → after ≡ false
+    → Wrote (entries_text version) a c x z rest all after
+wrote-entry version a b c x y z left rest all r e before after wrote step is passes works =
+    let entry : Path × Contents = (e.0, stored_contents e.1) in
+    wrote-more (entries_text version) a b c x y y z [] (joined_lines (contents_lines version entry)) left rest all entry before after
+    wrote (next_entry left rest r e step is) (sym (append-nil y)) passes (λ done. joined_one (contents_lines version) done entry) works
 
 pub passes-all : (a b c : Option (List ℕ)) (x y done : List ℕ) → Passes a b x y done → Appends b c y → Appends a c (x ++ done)
 passes-all a b c x y done one two = subst_bytes (Appends-trans a b c one.0 y one.1 two) one.2

@@ -1,8 +1,8 @@
 -- The lines that are written, read one after the other.
-use Rattle.std.proofs.Common.{◌≡◌, ℕ, ◌+◌, ◌<◌, ◌≤◌, true, false, ◌==◌, List, [], ◌∷◌, ◌++◌, length, refl, sym, ap, ◌∙◌, arith, subst}
-use Rattle.std.specs.Prelude.{codes, Option, Some, None, Result, Ok, Err, bytes_eq, nat_le, nat_lt}
+use Rattle.std.proofs.Common.{◌≡◌, ℕ, ◌+◌, ◌<◌, ◌≤◌, true, false, not, ◌==◌, List, [], ◌∷◌, ◌++◌, length, refl, sym, ap, ◌∙◌, arith, subst}
+use Rattle.std.specs.Prelude.{codes, if◌then◌else◌, Option, Some, None, Result, Ok, Err, bytes_eq, nat_le, nat_lt}
 use Rattle.std.specs.FinMap.Entries.{find}
-use Rattle.std.specs.List.{list_all}
+use Rattle.std.specs.List.{list_all, before_first, after_first}
 use Rattle.std.specs.Str.{is_utf8, chars, IsUtf8}
 use Rattle.std.proofs.lemmas.Str.{IsUtf8-from_is_utf8, is_utf8-from_IsUtf8, IsUtf8-append}
 use Rattle.std.proofs.lemmas.List.Folds.{list_all-append}
@@ -18,15 +18,16 @@ use Rattle.hub_tree.specs.declared.contents.Mark.{Mark}
 use Rattle.hub_tree.specs.declared.contents.Mark.TheVariants as mark
 use Rattle.hub_state.specs.declared.TheConstants.{ENTRIES, BLOBS, FILE_BYTES}
 use Rattle.hub_state.specs.declared.fault.Fault.{Fault}
+use Rattle.hub_state.specs.declared.fault.Fault.TheVariants.{BadLine}
 use Rattle.hub_state.specs.declared.fault.StateFault.{StateFault}
 use Rattle.hub_state.specs.declared.form.Form.TheVariants as form
 use Rattle.hub_state.specs.declared.form.Section.{Section}
 use Rattle.hub_state.specs.declared.form.Section.TheVariants as section
 use Rattle.hub_state.specs.State.{Text}
 use Rattle.hub_state.specs.Writing.{end_line, dir_line, file_line, blob_line, path_bytes, hex_field}
-use Rattle.hub_state.specs.Reading.{Above, Blobs, and_then, line_reading, numbered_reading, lines_reading, then_lines, fault_at, may_stand, has_directory}
+use Rattle.hub_state.specs.Reading.{Above, Blobs, and_then, unless, is_space, line_of, with_line, with_line_of, with_fields, line_reading, numbered_reading, lines_reading, then_lines, fault_at, may_stand, has_directory}
 use Rattle.std.proofs.lemmas.Bool.{and_from}
-use Rattle.hub_state.proofs.Lines.{in_line, all_ended, field_before, field_after, field_ends}
+use Rattle.hub_state.proofs.Lines.{in_line, in_field, all_ended, field_before, field_after, field_ends}
 use Rattle.hub_state.proofs.Fields.{IsUtf8-path, path_field-written, bytes_field-written, digest_field-written, IsUtf8-digits, IsUtf8-hex, hex-in_line, hex-in_field}
 use Rattle.hub_path.specs.ReadBack.{path-place}
 use Rattle.hub_state.proofs.Lines.{digits-in_line, digits-in_field}
@@ -132,6 +133,17 @@ fields_utf8 f t u v = IsUtf8-append f (32 ∷ t) u (IsUtf8-append (32 ∷ []) t 
 pub fields_in_line : (f t : List ℕ) → list_all in_line f ≡ true → list_all in_line t ≡ true → list_all in_line (codes "file " ++ f ++ 32 ∷ t) ≡ true
 fields_in_line f t h k = word_in_line (codes "file ") (f ++ 32 ∷ t) refl (word_in_line f (32 ∷ t) h k)
 
+-- The fields of a file's line are taken in its section.
+file_fields : (bs : Option Blobs) (rs : List (Text × List (Path × Contents))) (ks : List (List Text × List (Path × Mark))) (s : Section) (n : ℕ) (f t : List ℕ)
+    → may_stand s form.File ≡ true → list_all in_field f ≡ true → IsUtf8 f → IsUtf8 t → line_reading (above bs rs ks s n) (codes "file " ++ f ++ 32 ∷ t) ≡ with_fields (above bs rs ks s n) s f t
+file_fields bs rs ks s n f t place whole u v =
+    let d : Above = above bs rs ks s n in
+    let both : List ℕ = f ++ 32 ∷ t in
+    ap (λ b. if b then with_line_of d (line_of (codes "file " ++ both)) else Err BadLine) (file_utf8 both (fields_utf8 f t u v))
+    ∙ ap (λ b. unless (not b) BadLine (with_line d form.File both)) place
+    ∙ ap (λ b. unless (not b) BadLine (with_fields d s (before_first is_space both) (after_first is_space both))) (field_ends f t)
+    ∙ (λ i. with_fields d s (field_before f t whole i) (field_after f t whole i))
+
 not_full : (n : ℕ) → n < ENTRIES → nat_le ENTRIES n ≡ false
 not_full n h = grind (arith, nat_tests)
 
@@ -149,35 +161,15 @@ pub file_reads : (rs : List (Text × List (Path × Contents))) (ks : List (List 
     → is_path p ≡ true → names_fault 0 p ≡ None → IsBytes bytes → length bytes ≤ FILE_BYTES → n < ENTRIES → find path_cmp p acc ≡ None → has_directory acc (parent p) ≡ true
     → line_reading (above None ((t, acc) ∷ rs) ks section.Replica n) (file_line (hex_field bytes) p) ≡ Ok (above None ((t, (p, contents.File bytes) ∷ acc) ∷ rs) ks section.Replica (n + 1))
 file_reads rs ks n t acc p bytes path ok fit short room new parents =
-    rw (
-      file_utf8 (hex_field bytes ++ 32 ∷ path_bytes p) (fields_utf8 (hex_field bytes) (path_bytes p) (IsUtf8-hex bytes) (IsUtf8-path p (path-place p path))),
-      field_ends (hex_field bytes) (path_bytes p),
-      field_before (hex_field bytes) (path_bytes p) (hex-in_field bytes),
-      field_after (hex_field bytes) (path_bytes p) (hex-in_field bytes),
-      bytes_field-written bytes fit,
-      path_field-written p path ok,
-      not_full n room,
-      not_long (length bytes) short,
-      new,
-      parents,
-    ) refl
+    file_fields None ((t, acc) ∷ rs) ks section.Replica n (hex_field bytes) (path_bytes p) refl (hex-in_field bytes) (IsUtf8-hex bytes) (IsUtf8-path p (path-place p path))
+    ∙ rw (bytes_field-written bytes fit, path_field-written p path ok, not_full n room, not_long (length bytes) short, new, parents) refl
 
 pub named_reads : (xs : Blobs) (rs : List (Text × List (Path × Contents))) (ks : List (List Text × List (Path × Mark))) (n : ℕ) (t : Text) (acc : List (Path × Contents)) (p : Path) (digest bytes : List ℕ)
     → is_path p ≡ true → names_fault 0 p ≡ None → length digest ≡ 32 → IsBytes digest → find name_cmp digest xs ≡ Some bytes → n < ENTRIES → find path_cmp p acc ≡ None → has_directory acc (parent p) ≡ true
     → line_reading (above (Some xs) ((t, acc) ∷ rs) ks section.Replica n) (file_line (encode_lower digest) p) ≡ Ok (above (Some xs) ((t, (p, contents.File bytes) ∷ acc) ∷ rs) ks section.Replica (n + 1))
 named_reads xs rs ks n t acc p digest bytes path ok long fit found room new parents =
-    rw (
-      file_utf8 (encode_lower digest ++ 32 ∷ path_bytes p) (fields_utf8 (encode_lower digest) (path_bytes p) (IsUtf8-digits digest) (IsUtf8-path p (path-place p path))),
-      field_ends (encode_lower digest) (path_bytes p),
-      field_before (encode_lower digest) (path_bytes p) (digits-in_field digest),
-      field_after (encode_lower digest) (path_bytes p) (digits-in_field digest),
-      digest_field-written digest long fit,
-      path_field-written p path ok,
-      not_full n room,
-      new,
-      found,
-      parents,
-    ) refl
+    file_fields (Some xs) ((t, acc) ∷ rs) ks section.Replica n (encode_lower digest) (path_bytes p) refl (digits-in_field digest) (IsUtf8-digits digest) (IsUtf8-path p (path-place p path))
+    ∙ rw (digest_field-written digest long fit, path_field-written p path ok, not_full n room, new, found, parents) refl
 
 -- A blob.
 blob_word : is_utf8 (codes "blob ") ≡ true
@@ -217,13 +209,5 @@ pub old_file_reads : (bs : Option Blobs) (rs : List (Text × List (Path × Conte
     → is_path p ≡ true → names_fault 0 p ≡ None → length digest ≡ 32 → IsBytes digest → n < ENTRIES → find path_cmp p acc ≡ None
     → line_reading (above bs rs ((k, acc) ∷ ks) section.Archive n) (file_line (encode_lower digest) p) ≡ Ok (above bs rs ((k, (p, mark.File digest) ∷ acc) ∷ ks) section.Archive (n + 1))
 old_file_reads bs rs ks n k acc p digest path ok long fit room new =
-    rw (
-      file_utf8 (encode_lower digest ++ 32 ∷ path_bytes p) (fields_utf8 (encode_lower digest) (path_bytes p) (IsUtf8-digits digest) (IsUtf8-path p (path-place p path))),
-      field_ends (encode_lower digest) (path_bytes p),
-      field_before (encode_lower digest) (path_bytes p) (digits-in_field digest),
-      field_after (encode_lower digest) (path_bytes p) (digits-in_field digest),
-      digest_field-written digest long fit,
-      path_field-written p path ok,
-      not_full n room,
-      new,
-    ) refl
+    file_fields bs rs ((k, acc) ∷ ks) section.Archive n (encode_lower digest) (path_bytes p) refl (digits-in_field digest) (IsUtf8-digits digest) (IsUtf8-path p (path-place p path))
+    ∙ rw (digest_field-written digest long fit, path_field-written p path ok, not_full n room, new) refl

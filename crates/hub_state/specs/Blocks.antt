@@ -1,12 +1,13 @@
 -- A text that comes in blocks: what the lines that were taken say, and the bytes from the next line
 -- on.
-use Rattle.std.specs.Prelude.{◌≡◌, ◌⊎◌, ℕ, ◌+◌, ◌≤◌, List, [], ◌∷◌, ◌++◌, length, Option, Some, None, Result, Ok, Err}
+use Rattle.std.specs.Prelude.{◌≡◌, ◌⊎◌, ℕ, ◌+◌, ◌≤◌, List, [], ◌∷◌, ◌++◌, length, Option, Some, None, Result, Ok, Err, IfSome}
 use Rattle.hub_text.specs.declared.line.Line.{Line as TextLine}
 use Rattle.hub_text.specs.Lines.{lines_of, line_text}
-use Rattle.hub_state.specs.declared.fault.Fault.TheVariants.{Truncated, OutOfMemory}
+use Rattle.hub_state.specs.declared.fault.Fault.TheVariants.{Truncated, OutOfMemory, ReadFailed, TurnsSpent}
 use Rattle.hub_state.specs.declared.fault.StateFault.{StateFault}
 use Rattle.hub_state.specs.declared.draft.Draft.{Draft}
 use Rattle.hub_state.specs.declared.reader.Prefix.{Prefix}
+use Rattle.hub_state.specs.declared.reader.TheConstants.{READ_TURNS}
 use Rattle.hub_state.specs.State.{State}
 use Rattle.hub_state.specs.Reading.{fault_at, state_reading}
 use Rattle.hub_state.specs.Taking.{IsApart, numbered_taken, last_taken}
@@ -65,3 +66,15 @@ Stands bytes p (Err e) =
 pub record IsWithin (p : Prefix) (most : ℕ) : Type 0 where
   pub apart : IsApart p.draft.current
   pub room : p.number + length p.rest.items ≤ most
+
+-- The state of a whole input, and why there is none, where its bytes are known: a fault of its text,
+-- or one that says nothing about it.
+abbrev pub IsReading : Option (List ℕ) → State → Type 0
+IsReading input s = IfSome input (λ bytes. state_reading bytes ≡ Ok s)
+
+abbrev pub EndsReading : Option (List ℕ) → StateFault → Type 0
+EndsReading input e =
+    (e ≡ out_of_memory) ⊎ (e ≡ record { line = 0; fault = ReadFailed })
+    ⊎ ((e ≡ record { line = 0; fault = TurnsSpent })
+    × IfSome input (λ bytes. READ_TURNS ≤ length bytes))
+    ⊎ IfSome input (λ bytes. state_reading bytes ≡ Err e)

@@ -1,5 +1,5 @@
 -- What is passed on to a writer, and faults of devices.
-use Rattle.std.specs.Prelude.{◌≡◌, ℕ, Bool, true, false, ◌||◌, List, ◌++◌, Option, Result, Ok, Err}
+use Rattle.std.specs.Prelude.{◌≡◌, ◌⊎◌, ℕ, Bool, true, false, ◌||◌, List, ◌++◌, Option, Result, Ok, Err}
 use Rattle.std.specs.Io.KnownBytes.{Appends}
 use Rattle.hub_state.specs.declared.fault.Fault.{Fault}
 use Rattle.hub_state.specs.declared.fault.Fault.TheVariants.{ReadFailed, WriteFailed, TurnsSpent, OutOfMemory}
@@ -10,6 +10,10 @@ use Rattle.hub_state.specs.declared.fault.StateFault.{StateFault}
 abbrev pub Passes : Option (List ℕ) → Option (List ℕ) → List ℕ → List ℕ → List ℕ → Type 0
 Passes old new before after bytes =
     (passed : List ℕ) × Appends old new passed × (passed ++ after ≡ before ++ bytes)
+
+-- Why a writing stops: memory is out, or a write failed.
+abbrev pub StopsWriting : Fault → Type 0
+StopsWriting f = (f ≡ OutOfMemory) ⊎ (f ≡ WriteFailed)
 
 abbrev pub is_write_failed : Fault → Bool
 is_write_failed WriteFailed = true

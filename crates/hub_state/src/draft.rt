@@ -1,7 +1,7 @@
-ghost use Rattle.std.specs.Prelude.{◌≡◌, ◌≢◌, ◌⊎◌, Ok, Err, IfOk, IfErr, IsTrue, OnOk};
+ghost use Rattle.std.specs.Prelude.{◌≡◌, ◌≢◌, Ok, Err, IfOk, IfErr, IsTrue, OnOk};
 ghost use Rattle.hub_text.specs.Fails.{Fails};
 ghost use Rattle.hub_path.specs.Path.{is_path};
-ghost use Rattle.hub_state.specs.Reading.{and_then, may_stand, path_field, root_field};
+ghost use Rattle.hub_state.specs.Reading.{may_stand};
 ghost use Rattle.hub_state.specs.State as spec;
 ghost use Rattle.hub_state.specs.Taking as taking;
 ghost use Rattle.hub_state.specs.Taking.{IsApart};
@@ -147,9 +147,9 @@ impl Draft {
     fn take_blob(&mut self, alloc: Global, fields: &str) -> Result<(), Fault>
         requires { IsApart self.old.current }
         ensures ok { OnOk result
-            (taking.blob_taken self.old self.old.blobs fields.now ≡ Ok self.new) }
-        ensures err { IfErr result (λ f. (f ≡ Fault.OutOfMemory)
-            ⊎ (taking.blob_taken self.old self.old.blobs fields.now ≡ Err f)) }
+            (taking.form_taken self.old Form.Blob fields.now ≡ Ok self.new) }
+        ensures err { IfErr result
+            (Fails Fault.OutOfMemory (taking.form_taken self.old Form.Blob fields.now)) }
         ensures apart { OnOk result (IsApart self.new.current) }
     {
         let Some(blobs) = &mut self.blobs else {
@@ -165,9 +165,9 @@ impl Draft {
     fn begin_replica(&mut self, alloc: Global, field: &str) -> Result<(), Fault>
         requires { IsApart self.old.current }
         ensures ok { OnOk result
-            (and_then (root_field field.now) (taking.replica_begun self.old) ≡ Ok self.new) }
-        ensures err { IfErr result (λ f. (f ≡ Fault.OutOfMemory)
-            ⊎ (and_then (root_field field.now) (taking.replica_begun self.old) ≡ Err f)) }
+            (taking.form_taken self.old Form.Replica field.now ≡ Ok self.new) }
+        ensures err { IfErr result
+            (Fails Fault.OutOfMemory (taking.form_taken self.old Form.Replica field.now)) }
         ensures apart { OnOk result (IsApart self.new.current) }
     {
         let root = root_in(alloc, field)?;
@@ -183,9 +183,9 @@ impl Draft {
     fn begin_archive(&mut self, alloc: Global, field: &str) -> Result<(), Fault>
         requires { IsApart self.old.current }
         ensures ok { OnOk result
-            (and_then (root_field field.now) (taking.archive_begun self.old) ≡ Ok self.new) }
-        ensures err { IfErr result (λ f. (f ≡ Fault.OutOfMemory)
-            ⊎ (and_then (root_field field.now) (taking.archive_begun self.old) ≡ Err f)) }
+            (taking.form_taken self.old Form.Archive field.now ≡ Ok self.new) }
+        ensures err { IfErr result
+            (Fails Fault.OutOfMemory (taking.form_taken self.old Form.Archive field.now)) }
         ensures apart { OnOk result (IsApart self.new.current) }
     {
         let root = root_in(alloc, field)?;
@@ -197,11 +197,10 @@ impl Draft {
     /// Takes the other root of an archive, which is in a field.
     fn begin_pair(&mut self, alloc: Global, field: &str) -> Result<(), Fault>
         ensures ok { OnOk result
-            (and_then (root_field field.now) (taking.other_taken self.old self.old.current)
+            (taking.form_taken self.old Form.With field.now
             ≡ Ok self.new) }
-        ensures err { IfErr result (λ f. (f ≡ Fault.OutOfMemory)
-            ⊎ (and_then (root_field field.now) (taking.other_taken self.old self.old.current)
-            ≡ Err f)) }
+        ensures err { IfErr result
+            (Fails Fault.OutOfMemory (taking.form_taken self.old Form.With field.now)) }
         ensures apart { OnOk result (IsApart self.new.current) }
     {
         let second = root_in(alloc, field)?;
@@ -234,11 +233,10 @@ impl Draft {
     fn take_dir(&mut self, field: &str) -> Result<(), Fault>
         requires { IsApart self.old.current }
         ensures ok { OnOk result
-            (and_then (path_field field.now) (taking.dir_taken self.old self.old.current)
+            (taking.form_taken self.old Form.Dir field.now
             ≡ Ok self.new) }
-        ensures err { IfErr result (λ f. (f ≡ Fault.OutOfMemory)
-            ⊎ (and_then (path_field field.now) (taking.dir_taken self.old self.old.current)
-            ≡ Err f)) }
+        ensures err { IfErr result
+            (Fails Fault.OutOfMemory (taking.form_taken self.old Form.Dir field.now)) }
         ensures apart { OnOk result (IsApart self.new.current) }
     {
         let path = self.near.read(field)?;
@@ -256,9 +254,9 @@ impl Draft {
     /// Takes the file in two fields.
     fn take_file(&mut self, alloc: Global, fields: &str) -> Result<(), Fault>
         requires { IsApart self.old.current }
-        ensures ok { OnOk result (taking.file_taken self.old fields.now ≡ Ok self.new) }
+        ensures ok { OnOk result (taking.form_taken self.old Form.File fields.now ≡ Ok self.new) }
         ensures err { IfErr result
-            (Fails Fault.OutOfMemory (taking.file_taken self.old fields.now)) }
+            (Fails Fault.OutOfMemory (taking.form_taken self.old Form.File fields.now)) }
         ensures apart { OnOk result (IsApart self.new.current) }
     {
         let Some((field, text)) = fields_of(fields) else {
@@ -295,8 +293,8 @@ impl Open {
 /// Puts the blob in two fields to the others.
 fn put_blob(alloc: Global, blobs: &mut Blobs, field: &str, text: &str) -> Result<(), Fault>
     ensures ok { OnOk result (taking.blob_fields_put blobs.old field.now text.now ≡ Ok blobs.new) }
-    ensures err { IfErr result (λ f. (f ≡ Fault.OutOfMemory)
-        ⊎ (taking.blob_fields_put blobs.old field.now text.now ≡ Err f)) }
+    ensures err { IfErr result
+        (Fails Fault.OutOfMemory (taking.blob_fields_put blobs.old field.now text.now)) }
 {
     let digest = digest_in(field)?;
     let bytes = bytes_in(alloc, text)?;

@@ -1,5 +1,5 @@
 //! Entries that are put into replicas and archives.
-ghost use Rattle.std.specs.Prelude.{◌≡◌, ◌⊎◌, ◌<◌, None, Some, Ok, Err, false, is_some, IfErr, IsTrue, OnOk};
+ghost use Rattle.std.specs.Prelude.{◌≡◌, ◌<◌, None, Some, Ok, Err, false, is_some, IfErr, IsTrue, OnOk};
 ghost use Rattle.std.specs.FinMap as fin;
 ghost use Rattle.std.specs.Option.{option_map};
 ghost use Rattle.hub_text.specs.Fails.{Fails};
@@ -42,8 +42,8 @@ pub fn put_file(
 ) -> Result<(), Fault>
     ensures ok { OnOk result
         (taking.file_put blobs.now entries tree.old field.now text.now ≡ Ok tree.new) }
-    ensures err { IfErr result (λ f. (f ≡ Fault.OutOfMemory)
-        ⊎ (taking.file_put blobs.now entries tree.old field.now text.now ≡ Err f)) }
+    ensures err { IfErr result
+        (Fails Fault.OutOfMemory (taking.file_put blobs.now entries tree.old field.now text.now)) }
     ensures room { OnOk result (entries < ENTRIES) }
 {
     match blobs {
@@ -63,8 +63,8 @@ fn put_named(
 ) -> Result<(), Fault>
     ensures ok { OnOk result
         (taking.digest_put blobs.now entries tree.old field.now text.now ≡ Ok tree.new) }
-    ensures err { IfErr result (λ f. (f ≡ Fault.OutOfMemory)
-        ⊎ (taking.digest_put blobs.now entries tree.old field.now text.now ≡ Err f)) }
+    ensures err { IfErr result (Fails Fault.OutOfMemory
+        (taking.digest_put blobs.now entries tree.old field.now text.now)) }
     ensures room { OnOk result (entries < ENTRIES) }
 {
     let digest = digest_in(field)?;
@@ -116,8 +116,8 @@ fn put_bytes(
     text: &str,
 ) -> Result<(), Fault>
     ensures ok { OnOk result (taking.bytes_put entries tree.old field.now text.now ≡ Ok tree.new) }
-    ensures err { IfErr result (λ f. (f ≡ Fault.OutOfMemory)
-        ⊎ (taking.bytes_put entries tree.old field.now text.now ≡ Err f)) }
+    ensures err { IfErr result
+        (Fails Fault.OutOfMemory (taking.bytes_put entries tree.old field.now text.now)) }
     ensures room { OnOk result (entries < ENTRIES) }
 {
     let bytes = bytes_in(alloc, field)?;
@@ -133,8 +133,8 @@ fn put_contents(tree: &mut Tree, path: &RelPath, contents: Contents) -> Result<(
     requires path { IsTrue (is_path path.now) }
     requires some { is_absent contents ≡ false }
     ensures ok { OnOk result (taking.contents_put tree.old path.now contents ≡ Ok tree.new) }
-    ensures err { IfErr result (λ f. (f ≡ Fault.OutOfMemory)
-        ⊎ (taking.contents_put tree.old path.now contents ≡ Err f)) }
+    ensures err { IfErr result
+        (Fails Fault.OutOfMemory (taking.contents_put tree.old path.now contents)) }
 {
     match tree.put_new(path, contents) {
         Ok(false) => Ok(()),
@@ -160,8 +160,8 @@ fn has_entry(tree: &Tree, path: &RelPath) -> bool
 pub fn put_old_dir(archive: &mut Archive, entries: usize, path: &RelPath) -> Result<(), Fault>
     requires { IsTrue (is_path path.now) }
     ensures ok { OnOk result (taking.old_dir_put entries archive.old path.now ≡ Ok archive.new) }
-    ensures err { IfErr result (λ f. (f ≡ Fault.OutOfMemory)
-        ⊎ (taking.old_dir_put entries archive.old path.now ≡ Err f)) }
+    ensures err { IfErr result
+        (Fails Fault.OutOfMemory (taking.old_dir_put entries archive.old path.now)) }
     ensures room { OnOk result (entries < ENTRIES) }
 {
     if entries >= ENTRIES {
@@ -180,8 +180,8 @@ pub fn put_old_file(
 ) -> Result<(), Fault>
     ensures ok { OnOk result
         (taking.old_file_put entries archive.old field.now text.now ≡ Ok archive.new) }
-    ensures err { IfErr result (λ f. (f ≡ Fault.OutOfMemory)
-        ⊎ (taking.old_file_put entries archive.old field.now text.now ≡ Err f)) }
+    ensures err { IfErr result
+        (Fails Fault.OutOfMemory (taking.old_file_put entries archive.old field.now text.now)) }
     ensures room { OnOk result (entries < ENTRIES) }
 {
     let digest = digest_in(field)?;
@@ -197,8 +197,8 @@ fn put_mark(archive: &mut Archive, path: &RelPath, mark: Mark) -> Result<(), Fau
     requires path { IsTrue (is_path path.now) }
     requires some { kept mark ≡ Some mark }
     ensures ok { OnOk result (taking.mark_put archive.old path.now mark ≡ Ok archive.new) }
-    ensures err { IfErr result (λ f. (f ≡ Fault.OutOfMemory)
-        ⊎ (taking.mark_put archive.old path.now mark ≡ Err f)) }
+    ensures err { IfErr result
+        (Fails Fault.OutOfMemory (taking.mark_put archive.old path.now mark)) }
 {
     match archive.replace(path, mark)? {
         Mark::Absent => Ok(()),

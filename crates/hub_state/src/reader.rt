@@ -6,7 +6,7 @@ ghost use Rattle.hub_text.specs.Fails.{Fails};
 ghost use Rattle.hub_text.specs.Lines.{line_text};
 ghost use Rattle.hub_text.specs.Takes.{of_bytes};
 ghost use Rattle.hub_state.specs.Blocks.{bytes_taken, text_of, Leaves, Stops, Continues, Stands};
-ghost use Rattle.hub_state.specs.Blocks.{IsWithin, out_of_memory};
+ghost use Rattle.hub_state.specs.Blocks.{IsWithin, IsReading, EndsReading, out_of_memory};
 ghost use Rattle.hub_state.specs.Devices.{is_not_of_text, is_read_failed, is_turns_spent, says, reports};
 ghost use Rattle.hub_state.specs.Reading.{state_reading};
 ghost use Rattle.hub_state.specs.Taking as taking;
@@ -36,13 +36,8 @@ const READ_BYTES: usize = 4_096;
 /// The text is read in blocks. In memory are one block and the line that is not complete, and not the whole text.
 pub fn read_state<R: Read>(alloc: Global, input: &mut Watched<R>) -> Result<State, StateFault>
     requires { input.old.failed ≡ false }
-    ensures ok { IfOk result
-        (λ s. IfSome (R.remaining input.old.device) (λ bytes. state_reading bytes ≡ Ok s)) }
-    ensures err { IfErr result (λ e. (e ≡ record { line = 0; fault = Fault.OutOfMemory })
-        ⊎ (e ≡ record { line = 0; fault = Fault.ReadFailed })
-        ⊎ ((e ≡ record { line = 0; fault = Fault.TurnsSpent })
-        × IfSome (R.remaining input.old.device) (λ bytes. READ_TURNS ≤ length bytes))
-        ⊎ IfSome (R.remaining input.old.device) (λ bytes. state_reading bytes ≡ Err e)) }
+    ensures ok { IfOk result (IsReading (R.remaining input.old.device)) }
+    ensures err { IfErr result (EndsReading (R.remaining input.old.device)) }
     ensures failed { input.new.failed ≡ reports is_read_failed result }
     ensures whole { reports is_not_of_text result ≡ false → input.new.at_end ≡ true }
     ensures turns_spent { reports is_turns_spent result ≡ true
@@ -62,13 +57,8 @@ fn read_after<R: Read>(
     requires unfailed { input.old.failed ≡ false }
     requires continues { Continues [] prefix.old }
     requires within { IsWithin prefix.old 1 }
-    ensures ok { IfOk result
-        (λ s. IfSome (R.remaining input.old.device) (λ bytes. state_reading bytes ≡ Ok s)) }
-    ensures err { IfErr result (λ e. (e ≡ record { line = 0; fault = Fault.OutOfMemory })
-        ⊎ (e ≡ record { line = 0; fault = Fault.ReadFailed })
-        ⊎ ((e ≡ record { line = 0; fault = Fault.TurnsSpent })
-        × IfSome (R.remaining input.old.device) (λ bytes. READ_TURNS ≤ length bytes))
-        ⊎ IfSome (R.remaining input.old.device) (λ bytes. state_reading bytes ≡ Err e)) }
+    ensures ok { IfOk result (IsReading (R.remaining input.old.device)) }
+    ensures err { IfErr result (EndsReading (R.remaining input.old.device)) }
     ensures failed { input.new.failed ≡ reports is_read_failed result }
     ensures whole { reports is_not_of_text result ≡ false → input.new.at_end ≡ true }
     ensures turns_spent { reports is_turns_spent result ≡ true
@@ -374,8 +364,8 @@ fn take_last_at(
 fn take_line(alloc: Global, draft: &mut Draft, number: usize, line: &[u8]) -> Result<(), Fault>
     requires { IsApart draft.old.current }
     ensures ok { OnOk result (taking.numbered_taken number draft.old line.now ≡ Ok draft.new) }
-    ensures err { IfErr result (λ f. (f ≡ Fault.OutOfMemory)
-        ⊎ (taking.numbered_taken number draft.old line.now ≡ Err f)) }
+    ensures err { IfErr result
+        (Fails Fault.OutOfMemory (taking.numbered_taken number draft.old line.now)) }
     ensures apart { OnOk result (IsApart draft.new.current) }
 {
     if number == 1 {
@@ -394,8 +384,8 @@ fn take_last(
     requires { IsApart draft.old.current }
     ensures ok { IfOk result (λ s. taking.last_taken number draft.old line.entry.is_ended
         line.entry.text.now ≡ Ok s) }
-    ensures err { IfErr result (λ f. (f ≡ Fault.OutOfMemory)
-        ⊎ (taking.last_taken number draft.old line.entry.is_ended line.entry.text.now ≡ Err f)) }
+    ensures err { IfErr result (Fails Fault.OutOfMemory
+        (taking.last_taken number draft.old line.entry.is_ended line.entry.text.now)) }
 {
     take_end(alloc, draft, number, line)?;
     Ok(take_state(alloc, draft))
@@ -413,8 +403,8 @@ fn take_end(alloc: Global, draft: &mut Draft, number: usize, line: Line<&[u8]>) 
     requires { IsApart draft.old.current }
     ensures ok { OnOk result (taking.last_taken number draft.old line.entry.is_ended
         line.entry.text.now ≡ Ok draft.new.state) }
-    ensures err { IfErr result (λ f. (f ≡ Fault.OutOfMemory)
-        ⊎ (taking.last_taken number draft.old line.entry.is_ended line.entry.text.now ≡ Err f)) }
+    ensures err { IfErr result (Fails Fault.OutOfMemory
+        (taking.last_taken number draft.old line.entry.is_ended line.entry.text.now)) }
 {
     let is_end = line.text == b"end".as_slice();
     if !is_end && !(line.is_ended && draft.ended) {

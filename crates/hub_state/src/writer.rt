@@ -7,7 +7,7 @@ ghost use Rattle.std.specs.BTreeMap.{IsOrdered};
 ghost use Rattle.std.specs.String.{string_cmp};
 ghost use Rattle.hex.specs.Hex.{encode_lower};
 ghost use Rattle.hub_tree.specs.Stored.{stored_contents};
-ghost use Rattle.hub_state.specs.Devices.{Passes, is_write_failed, says, reports};
+ghost use Rattle.hub_state.specs.Devices.{Passes, StopsWriting, is_write_failed, says, reports};
 ghost use Rattle.hub_state.specs.View.{by_text, below, pairs_in};
 ghost use Rattle.hub_state.specs.Writing.{dir_line, file_line, hex_field, file_field, pair_lines};
 ghost use Rattle.hub_state.specs.Writing.{contents_lines, mark_lines, replica_lines};
@@ -58,7 +58,7 @@ fn write_parts<W: Write>(alloc: Global, output: &mut Watched<W>, state: &State) 
     requires { output.old.failed ≡ false }
     ensures whole { OnOk result (Appends (W.contents output.old.device)
         (W.contents output.new.device) (state_text state.now)) }
-    ensures faults { IfErr result (λ e. (e ≡ Fault.OutOfMemory) ⊎ (e ≡ Fault.WriteFailed)) }
+    ensures faults { IfErr result StopsWriting }
     ensures failed { output.new.failed ≡ says is_write_failed result }
 {
     let head = head_of(alloc, state.replicas())?;
@@ -79,7 +79,7 @@ fn write_sections<W: Write>(
         ≡ blob_lines head.now.version (state_files state.now) }
     ensures whole { OnOk result (Appends (W.contents output.old.device)
         (W.contents output.new.device) (text.old.items ++ state_text state.now)) }
-    ensures faults { IfErr result (λ e. (e ≡ Fault.OutOfMemory) ⊎ (e ≡ Fault.WriteFailed)) }
+    ensures faults { IfErr result StopsWriting }
     ensures failed { output.new.failed ≡ says is_write_failed result }
 {
     push_header(text, head.version)?;
@@ -100,7 +100,7 @@ fn write_blobs<W: Write>(
     ensures ok { OnOk result (Passes (W.contents output.old.device)
         (W.contents output.new.device) text.old.items text.new.items
         (joined_lines (map blob_line (fin.entries blobs.now)))) }
-    ensures faults { IfErr result (λ e. (e ≡ Fault.OutOfMemory) ⊎ (e ≡ Fault.WriteFailed)) }
+    ensures faults { IfErr result StopsWriting }
     ensures failed { output.new.failed ≡ says is_write_failed result }
 {
     for (digest, blob) in blobs.iter() {
@@ -121,7 +121,7 @@ fn write_replicas<W: Write>(
     ensures ok { OnOk result (Passes (W.contents output.old.device)
         (W.contents output.new.device) text.old.items text.new.items
         (joined_lines (flat_map (replica_lines version) (by_text replicas.now.entries)))) }
-    ensures faults { IfErr result (λ e. (e ≡ Fault.OutOfMemory) ⊎ (e ≡ Fault.WriteFailed)) }
+    ensures faults { IfErr result StopsWriting }
     ensures failed { output.new.failed ≡ says is_write_failed result }
 {
     for (root, tree) in replicas.iter() {
@@ -141,7 +141,7 @@ fn write_archives<W: Write>(
     ensures ok { OnOk result (Passes (W.contents output.old.device)
         (W.contents output.new.device) text.old.items text.new.items
         (joined_lines (flat_map archive_lines (fin.entries (pairs_in archives.now.entries))))) }
-    ensures faults { IfErr result (λ e. (e ≡ Fault.OutOfMemory) ⊎ (e ≡ Fault.WriteFailed)) }
+    ensures faults { IfErr result StopsWriting }
     ensures failed { output.new.failed ≡ says is_write_failed result }
 {
     for (first, others) in archives.iter() {
@@ -161,7 +161,7 @@ fn write_pairs<W: Write>(
     ensures ok { OnOk result (Passes (W.contents output.old.device)
         (W.contents output.new.device) text.old.items text.new.items
         (joined_lines (flat_map archive_lines (below first.now (by_text others.now.entries))))) }
-    ensures faults { IfErr result (λ e. (e ≡ Fault.OutOfMemory) ⊎ (e ≡ Fault.WriteFailed)) }
+    ensures faults { IfErr result StopsWriting }
     ensures failed { output.new.failed ≡ says is_write_failed result }
     ensures ordered { IsOrdered string_cmp others.now }
 {
@@ -183,7 +183,7 @@ fn write_tree<W: Write>(
     ensures ok { OnOk result (Passes (W.contents output.old.device)
         (W.contents output.new.device) text.old.items text.new.items
         (joined_lines (flat_map (contents_lines version) (fin.entries tree.now)))) }
-    ensures faults { IfErr result (λ e. (e ≡ Fault.OutOfMemory) ⊎ (e ≡ Fault.WriteFailed)) }
+    ensures faults { IfErr result StopsWriting }
     ensures failed { output.new.failed ≡ says is_write_failed result }
 {
     for entry in tree.entries()? {
@@ -205,7 +205,7 @@ fn write_entry<W: Write>(
     ensures ok { OnOk result (Passes (W.contents output.old.device)
         (W.contents output.new.device) text.old.items text.new.items
         (joined_lines (contents_lines version (path.now, stored_contents stored.entry)))) }
-    ensures faults { IfErr result (λ e. (e ≡ Fault.OutOfMemory) ⊎ (e ≡ Fault.WriteFailed)) }
+    ensures faults { IfErr result StopsWriting }
     ensures failed { output.new.failed ≡ says is_write_failed result }
 {
     push_entry(text, version, path, stored)?;
@@ -222,7 +222,7 @@ fn write_marks<W: Write>(
     ensures ok { OnOk result (Passes (W.contents output.old.device)
         (W.contents output.new.device) text.old.items text.new.items
         (joined_lines (flat_map mark_lines (fin.entries archive.now)))) }
-    ensures faults { IfErr result (λ e. (e ≡ Fault.OutOfMemory) ⊎ (e ≡ Fault.WriteFailed)) }
+    ensures faults { IfErr result StopsWriting }
     ensures failed { output.new.failed ≡ says is_write_failed result }
 {
     for (path, mark) in archive.iter() {

@@ -1,9 +1,9 @@
-use Rattle.std.proofs.Common.{List, [], ◌∷◌, ◌++◌, cond, Some, None, String, Global, sym, ap, ◌∙◌, append-nil, append_assoc}
+use Rattle.std.proofs.Common.{List, [], ◌++◌, Some, String, Global, sym, ap, ◌∙◌, append-nil}
 use Rattle.std.specs.FinMap as fin
 use Rattle.std.specs.List.{flat_map}
 use Rattle.hub_tree.specs.Tree.{Replica}
 use Rattle.hub_state.specs.Adding.{files_added}
-use Rattle.hub_state.proofs.Files.{files_more, files_stop, tree_files, files-by_text}
+use Rattle.hub_state.proofs.Files.{collected_more, collected_stop, tree_files, files-by_text}
 use Rattle.hub_state.proofs.blobs.blobs_in.Goals as goal
 
 pub loop-root-init : goal.loop-root-init
@@ -11,23 +11,13 @@ loop-root-init c = ([], c.into_iter-root-iterator.ensures.into_iter_gives ∙ c.
 
 pub loop-root-preserved : goal.loop-root-preserved
 loop-root-preserved c =
-    let inv = c.loop-root.invariant in
-    let es = inv.0 in
-    let x : String Global × Replica = (c.in-Some._root.now, c.in-Some.tree.now) in (
-      es ++ x ∷ [],
-      append_assoc es (x ∷ []) c.next.new.self ∙ ap (λ (r : List (String Global × Replica)). es ++ r) (sym c.in-Some.ensures.steps) ∙ inv.1,
-      files_more tree_files fin.empty c.loop-root.blobs es x (Some c.add_files.new.self) inv.2
-          (sym (ap (λ b. cond b (Some c.add_files.new.self) None) c.if-not-added.false) ∙ c.in_ok-added.ensures),
-    )
+    collected_more tree_files fin.empty c.loop-root.blobs c.add_files.new.self c.loop-root._root-iterator c.next.new.self c.args.replicas.now.entries
+    (c.in-Some._root.now, c.in-Some.tree.now) c.in_ok-added.added c.loop-root.invariant c.in-Some.ensures.steps c.if-not-added.false c.in_ok-added.ensures
 
 pub returns-then-not-added : goal.returns-then-not-added
 returns-then-not-added c =
-    let inv = c.loop-root.invariant in
-    let es = inv.0 in
-    let x : String Global × Replica = (c.in-Some._root.now, c.in-Some.tree.now) in
-    files_stop tree_files fin.empty c.loop-root.blobs es x c.next.new.self c.args.replicas.now.entries inv.2
-    (sym (ap (λ b. cond b (Some c.add_files.new.self) None) c.if-not-added.true) ∙ c.in_ok-added.ensures)
-    (ap (λ (r : List (String Global × Replica)). es ++ r) (sym c.in-Some.ensures.steps) ∙ inv.1)
+    collected_stop tree_files fin.empty c.loop-root.blobs c.add_files.new.self c.loop-root._root-iterator c.next.new.self c.args.replicas.now.entries
+    (c.in-Some._root.now, c.in-Some.tree.now) c.in_ok-added.added c.loop-root.invariant c.in-Some.ensures.steps c.if-not-added.true c.in_ok-added.ensures
     ∙ sym (ap (files_added (Some fin.empty)) (files-by_text c.args.replicas.now.entries))
 
 pub returns : goal.returns

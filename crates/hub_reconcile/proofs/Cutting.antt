@@ -1,26 +1,20 @@
 -- One step of the cutting into blocks, as the loop over rows makes it.
-use Rattle.std.proofs.Common.{◌≡◌, ◌-◌, ◌<◌, ℕ, List, [], ◌∷◌, ◌++◌, take, drop, length, ap, sym, ◌∙◌, subst, arith, append-nil, append_assoc}
+use Rattle.std.proofs.Common.{◌≡◌, ◌-◌, ◌<◌, ◌≤◌, ℕ, Bool, true, false, if◌then◌else◌, List, [], ◌∷◌, ◌++◌, take, drop, length, ap, sym, ◌∙◌, subst, arith, append-nil, append_assoc, length-take}
 use Rattle.std.specs.Prelude.{slice_index_or}
-use Rattle.std.specs.List.{flat_map}
+use Rattle.std.specs.List.{flat_map, prefix_len, take_while}
 use Rattle.std.proofs.lemmas.List.{length-drop}
 use Rattle.std.proofs.Math.Seq.{take-length}
-use Rattle.hub_path.specs.Path.{Path}
-use Rattle.hub_reconcile.specs.Blocks.{IsCut, IsBlock, AreBlocks, block_paths, rows_below}
-use Rattle.hub_reconcile.specs.Rows.{IsTable, paths_of}
+use Rattle.hub_path.specs.Path.{Path, is_over}
+use Rattle.hub_reconcile.specs.Blocks.{IsCut, IsBlock, IsPartition, AreBlocks, block_paths, rows_below}
+use Rattle.hub_reconcile.specs.Rows.{IsTable, is_different, paths_of}
 use Rattle.hub_reconcile.specs.Shown.{shown}
 use Rattle.hub_reconcile.specs.View.{View}
 use Rattle.hub_reconcile.specs.declared.block.Block.{Block}
 use Rattle.hub_reconcile.specs.declared.picture.Picture.{Picture}
 use Rattle.hub_reconcile.specs.declared.row.Row.{Row}
 use Rattle.hub_reconcile.proofs.Cuts.{cut_start}
+use Rattle.hub_reconcile.proofs.Loops.{head_rest}
 use Rattle.hub_reconcile.proofs.Pictured.{next_cut}
-
-head_rest : (xs : List Row) (x : Row) → 0 < length xs → x ≡ slice_index_or xs 0 x → xs ≡ x ∷ take (length xs - 1) (drop 1 xs)
-head_rest [] x l e = absurd (omega arith)
-head_rest (y ∷ ys) x l e =
-    let many : length (y ∷ ys) - 1 ≡ length ys = omega arith in
-    let all : take (length (y ∷ ys) - 1) ys ≡ ys = ap (λ n. take n ys) many ∙ take-length ys in
-    λ i. sym e i ∷ sym all i
 
 whole_rest : (n : ℕ) (rs : List Row) → take (length rs - n) (drop n rs) ≡ drop n rs
 whole_rest n rs = ap (λ k. take k (drop n rs)) (sym (length-drop n rs)) ∙ take-length (drop n rs)
@@ -32,6 +26,12 @@ are_more V (x ∷ bs) b a is = (a.0, are_more V bs b a.1 is)
 more_paths : (bs : List Block) (b : Block) → flat_map block_paths (bs ++ b ∷ []) ≡ flat_map block_paths bs ++ block_paths b
 more_paths [] b = append-nil (block_paths b)
 more_paths (x ∷ bs) b = ap (λ ps. block_paths x ++ ps) (more_paths bs b) ∙ sym (append_assoc (block_paths x) (flat_map block_paths bs) (block_paths b))
+
+pub rows_fit : (r : Row) (rs : List Row) → length (rows_below r rs) ≤ length rs
+rows_fit r rs = by_case (is_different r) where
+  by_case : (b : Bool) → length (if b then take_while (λ (x : Row). is_over r.path.now x.path.now) rs else []) ≤ length rs
+  by_case true = omega (arith, length-take (prefix_len (λ (x : Row). is_over r.path.now x.path.now) rs) rs)
+  by_case false = omega arith
 
 module _ (picture : Picture) where
   abbrev V : View
@@ -62,3 +62,7 @@ module _ (picture : Picture) where
             (subst (λ (x : List Row). IsCut V (flat_map block_paths bs ++ r.path.now ∷ paths_of (rows_below r rs)) x) back
             (next_cut picture (flat_map block_paths bs) r rs cut)),
       )
+
+  pub all_cut : (bs : List Block) (rest : List Row) → IsCutSoFar bs rest → length rest < 1 → IsPartition V bs
+  all_cut bs [] so l = record { paths = sym (append-nil (flat_map block_paths bs)) ∙ so.1.paths; blocks = so.0 }
+  all_cut bs (r ∷ rs) so l = absurd (omega arith)

@@ -11,7 +11,7 @@ use Rattle.hub_glob.specs.declared.path_spec.Kind.TheVariants as kind
 use Rattle.hub_glob.specs.declared.piece.Part.TheVariants.{One}
 use Rattle.hub_glob.specs.declared.piece.Piece.TheVariants.{Lit, Run}
 use Rattle.hub_profile.specs.Parts.{Parts}
-use Rattle.hub_profile.specs.Protection.{no_bars}
+use Rattle.hub_profile.specs.ExampleProfiles.{hub, s1, between}
 use Rattle.hub_profile.specs.declared.bars.Bars.{Bars}
 use Rattle.hub_profile.specs.declared.verb.Verb.{Verb}
 use Rattle.hub_profile.specs.declared.verb.Verb.TheVariants.{Create, Update, Delete}
@@ -189,19 +189,11 @@ a_path_that_is_nowhere_does_not_count = refl
 -- The same from profiles. `ignore = Name *.tmp`; the right side has d with d/x and, unreached,
 -- d/y.tmp; the archive has d and d/x.
 abbrev no_tmp : Parts
-no_tmp = record {
-  name = codes "p";
-  roots = path_of (codes "srv/hub") ∷ path_of (codes "srv/s1") ∷ [];
-  paths = [] ∷ [];
+no_tmp = record (between (codes "p") hub s1 []) {
   ignore = record {
     kind = kind.Name;
     pattern = One Run ∷ map (λ c. One (Lit c)) (codes ".tmp");
   } ∷ [];
-  ignorenot = [];
-  force = None;
-  prefer = None;
-  bars = no_bars ∷ no_bars ∷ [];
-  partial = [];
 }
 
 abbrev seen_by : Parts → Marks → Marks → Marks → List (List ℕ) → View

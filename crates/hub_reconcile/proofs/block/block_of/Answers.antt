@@ -1,4 +1,6 @@
-use Rattle.std.proofs.Common.{◌≡◌, ℕ, true, ◌∷◌, take, Some, ap, sym, ◌∙◌, subst}
+use Rattle.std.proofs.Common.{◌≡◌, ◌≤◌, ℕ, true, ◌∷◌, take, length, Some, ap, sym, ◌∙◌, subst}
+use Rattle.std.proofs.lemmas.List.{length-take-le}
+use Rattle.std.proofs.lemmas.List.Sums.{prefix_len-le-length}
 use Rattle.hub_reconcile.specs.Blocks.{IsFated}
 use Rattle.hub_reconcile.specs.Rows.{AreRows, is_different, paths_of}
 use Rattle.hub_reconcile.specs.Shown.{shown}
@@ -39,3 +41,7 @@ returns-clause-block c =
       fated = subst (λ (n : ℕ). IsFated (shown V) r.path.now (paths_of (take n rs)) (Some c.in_ok-fate_of.field-0)) (sym c.count_below.ensures)
           (item_fated V c.requires.0 r rs c.requires.1 c.in_ok-fate_of.field-0 d (sym c.in_ok-fate_of.ensures));
     }
+
+pub slice_bounds-below-end-2 : goal.slice_bounds-below-end-2
+slice_bounds-below-end-2 c =
+    sym (length-take-le c.count_below.result c.args.after.now (subst (λ n. n ≤ length c.args.after.now) (sym c.count_below.ensures) (prefix_len-le-length _ c.args.after.now)))

@@ -1,0 +1,15 @@
+use Rattle.std.proofs.Common.{◌-◌, take, drop, length, arith}
+use Rattle.std.specs.List.{flat_map}
+use Rattle.hub_reconcile.specs.Blocks.{block_items}
+use Rattle.hub_reconcile.proofs.Loops.{head_rest, flat_next, flat_done}
+use Rattle.hub_reconcile.proofs.reconcile.items_of.Goals as goal
+
+pub loop-rest-preserved : goal.loop-rest-preserved
+loop-rest-preserved c =
+    let rest = c.loop-rest.rest.now in
+    let b = c.block-item.result in
+    flat_next block_items rest (take (length rest - 1) (drop 1 rest)) b c.loop-rest.items.items c.push_block.new.items.items (flat_map block_items c.args.blocks.now)
+    (head_rest rest b (omega (arith, c.in-len1-up.len_at_least)) c.block-item.is) c.in_ok-push_block.ensures c.loop-rest.invariant
+
+pub returns : goal.returns
+returns c = flat_done block_items c.loop-rest.rest.now c.loop-rest.items.items (flat_map block_items c.args.blocks.now) (omega (arith, c.in_default.len_below)) c.loop-rest.invariant

@@ -1,5 +1,5 @@
 -- Worked examples.
-use Rattle.std.specs.Prelude.{⊤, ◌≡◌, ℕ, true, false, T, List, [], ◌∷◌, ◌++◌, length, map, refl, codes, None}
+use Rattle.std.specs.Prelude.{⊤, ◌≡◌, ℕ, true, false, T, List, [], ◌∷◌, ◌++◌, length, map, refl, codes}
 use Rattle.std.specs.FinMap.{get-from_sorted, entries-from_sorted, is_sorted, from_sorted}
 use Rattle.hub_path.specs.Path.{Path, path_of, path_cmp}
 use Rattle.hub_path.specs.declared.side.Side.{Side}
@@ -9,7 +9,8 @@ use Rattle.hub_glob.specs.declared.path_spec.Kind.TheVariants as kind
 use Rattle.hub_glob.specs.declared.piece.Part.TheVariants.{One}
 use Rattle.hub_glob.specs.declared.piece.Piece.TheVariants.{Lit}
 use Rattle.hub_profile.specs.Parts.{Parts}
-use Rattle.hub_profile.specs.declared.bars.Bars.{Bars}
+use Rattle.hub_profile.specs.ExampleProfiles.{hub, kept}
+use Rattle.hub_profile.specs.Protection.{no_bars}
 use Rattle.hub_tree.specs.Tree.{Replica}
 use Rattle.hub_tree.specs.declared.contents.Contents.{Contents}
 use Rattle.hub_tree.specs.declared.contents.Contents.TheVariants as contents
@@ -32,25 +33,6 @@ use Rattle.hub_job.specs.World.{Jobs, opening, turn, run, first_turns}
 computed : ⊤
 unfolding answer after next turn run sight items plan reach matches
 computed = tt
-
-abbrev no_bars : Bars
-no_bars = record { create = false; update = false; delete = false }
-
-abbrev kept : List ℕ → Parts
-kept t = record {
-  name = t;
-  roots = path_of (codes "srv/hub") ∷ path_of (codes "srv/s1") ∷ [];
-  paths = path_of t ∷ [];
-  ignore = [];
-  ignorenot = [];
-  force = None;
-  prefer = None;
-  bars = no_bars ∷ no_bars ∷ [];
-  partial = [];
-}
-
-abbrev hub : Path
-hub = path_of (codes "srv/hub")
 
 abbrev entries : List (Path × Contents)
 entries = (path_of (codes "docs"), contents.Directory) ∷ []

@@ -1,5 +1,5 @@
 -- Worked examples of histories.
-use Rattle.std.specs.Prelude.{⊤, ◌≡◌, ◌≢◌, ℕ, false, cond, T, List, [], ◌∷◌, length, map, None, Some, refl, codes}
+use Rattle.std.specs.Prelude.{⊤, ◌≡◌, ◌≢◌, false, cond, T, List, [], ◌∷◌, length, map, None, Some, refl, codes}
 use Rattle.std.proofs.Common.{ap, sym, ◌∙◌, subst}
 use Rattle.std.specs.FinMap.{insert, put, get-insert, same_map, get-from_sorted, entries-from_sorted, is_sorted, from_sorted}
 use Rattle.std.specs.FinMap.Entries.{find-put}
@@ -9,7 +9,7 @@ use Rattle.hub_path.specs.Path.{Path, path_of, path_cmp}
 use Rattle.hub_path.specs.declared.side.Side.{Side}
 use Rattle.hub_path.specs.declared.side.Side.TheVariants.{Left, Right}
 use Rattle.hub_profile.specs.Parts.{Parts}
-use Rattle.hub_profile.specs.declared.bars.Bars.{Bars}
+use Rattle.hub_profile.specs.ExampleProfiles.{hub, kept}
 use Rattle.hub_tree.specs.Tree.{Replica, set_fault}
 use Rattle.hub_tree.specs.declared.contents.Contents.{Contents}
 use Rattle.hub_tree.specs.declared.contents.Contents.TheVariants as contents
@@ -43,25 +43,6 @@ inserted es p x h k =
     ∙ (ap (cond (eq_by_cmp path_cmp q p) (Some x)) (get-from_sorted path_cmp es q h)
     ∙ sym (get-from_sorted path_cmp (put path_cmp p x es) q k
     ∙ find-put path_cmp path_cmp-total q p x es)))
-
-abbrev no_bars : Bars
-no_bars = record { create = false; update = false; delete = false }
-
-abbrev kept : List ℕ → Parts
-kept t = record {
-  name = t;
-  roots = path_of (codes "srv/hub") ∷ path_of (codes "srv/s1") ∷ [];
-  paths = path_of t ∷ [];
-  ignore = [];
-  ignorenot = [];
-  force = None;
-  prefer = None;
-  bars = no_bars ∷ no_bars ∷ [];
-  partial = [];
-}
-
-abbrev hub : Path
-hub = path_of (codes "srv/hub")
 
 abbrev profiles : List Parts
 profiles = kept (codes "docs") ∷ kept (codes "photos") ∷ []

@@ -1,10 +1,10 @@
 -- Worked examples of books.
-use Rattle.std.specs.Prelude.{⊤, ◌≡◌, ℕ, Bool, true, false, T, List, [], ◌∷◌, map, None, refl, codes}
+use Rattle.std.specs.Prelude.{⊤, ◌≡◌, Bool, true, false, T, List, [], ◌∷◌, map, refl, codes}
 use Rattle.std.specs.FinMap.{get-from_sorted, entries-from_sorted, is_sorted, from_sorted}
 use Rattle.std.proofs.Common.{sym, ◌∙◌}
 use Rattle.hub_path.specs.Path.{Path, path_of, path_cmp}
 use Rattle.hub_profile.specs.Parts.{Parts}
-use Rattle.hub_profile.specs.declared.bars.Bars.{Bars}
+use Rattle.hub_profile.specs.ExampleProfiles.{hub, s2, between, kept}
 use Rattle.hub_tree.specs.Tree.{Replica}
 use Rattle.hub_tree.specs.declared.contents.Contents.{Contents}
 use Rattle.hub_tree.specs.declared.contents.Contents.TheVariants as contents
@@ -24,25 +24,11 @@ computed : ⊤
 unfolding answer after sight reach matches
 computed = tt
 
-abbrev no_bars : Bars
-no_bars = record { create = false; update = false; delete = false }
-
--- The profile of a path, between `/srv/hub` and another root.
-abbrev kept : List ℕ → List ℕ → Parts
-kept other t = record {
-  name = t;
-  roots = path_of (codes "srv/hub") ∷ path_of other ∷ [];
-  paths = path_of t ∷ [];
-  ignore = [];
-  ignorenot = [];
-  force = None;
-  prefer = None;
-  bars = no_bars ∷ no_bars ∷ [];
-  partial = [];
-}
+abbrev photos : Parts
+photos = between (codes "photos") hub s2 (path_of (codes "photos"))
 
 abbrev profiles : List Parts
-profiles = kept (codes "srv/s1") (codes "docs") ∷ kept (codes "srv/s2") (codes "photos") ∷ []
+profiles = kept (codes "docs") ∷ photos ∷ []
 
 abbrev jobs_at : Path → List Bool
 jobs_at r = map (has_job profiles r) (0 ∷ 1 ∷ 2 ∷ [])
@@ -79,14 +65,14 @@ refused = entry_of 1 (Set (path_of (codes "photos/x")) contents.Directory) (Refu
 abbrev two_entries : BookValue
 two_entries = with_entry (with_entry opened seen) refused
 
-nothing_is_seen : seen.answer ≡ answer nobody (kept (codes "srv/s1") (codes "docs")) opened.root
+nothing_is_seen : seen.answer ≡ answer nobody (kept (codes "docs")) opened.root
     seen.op
 unfolding computed
 nothing_is_seen =
     let h : T (is_sorted path_cmp none) = tt in simp (get-from_sorted, entries-from_sorted)
 
 a_parent_is_missing :
-    refused.answer ≡ answer nobody (kept (codes "srv/s2") (codes "photos")) opened.root refused.op
+    refused.answer ≡ answer nobody photos opened.root refused.op
 unfolding computed
 a_parent_is_missing =
     let h : T (is_sorted path_cmp none) = tt in simp (get-from_sorted, entries-from_sorted)

@@ -1,29 +1,16 @@
 -- Worked examples of places.
-use Rattle.std.specs.Prelude.{◌≡◌, ℕ, false, List, [], ◌∷◌, ◌++◌, length, None, Some, refl, codes}
+use Rattle.std.specs.Prelude.{◌≡◌, ℕ, List, [], ◌∷◌, ◌++◌, length, None, Some, refl, codes}
 use Rattle.hub_path.specs.Path.{Path, path_of}
 use Rattle.hub_profile.specs.Parts.{Parts}
-use Rattle.hub_profile.specs.declared.bars.Bars.{Bars}
+use Rattle.hub_profile.specs.ExampleProfiles.{between}
 use Rattle.hub_runner.specs.Settling.{places, roots_of}
-
-abbrev no_bars : Bars
-no_bars = record { create = false; update = false; delete = false }
 
 abbrev root : List ℕ → Path
 root t = path_of t
 
 -- A profile between `/hub` and another root.
 abbrev spoke : List ℕ → Parts
-spoke t = record {
-  name = t;
-  roots = root (codes "hub") ∷ root t ∷ [];
-  paths = [] ∷ [];
-  ignore = [];
-  ignorenot = [];
-  force = None;
-  prefer = None;
-  bars = no_bars ∷ no_bars ∷ [];
-  partial = [];
-}
+spoke t = between t (root (codes "hub")) (root t) []
 
 abbrev star : List Parts
 star = spoke (codes "s1") ∷ spoke (codes "s2") ∷ []

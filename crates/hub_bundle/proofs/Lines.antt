@@ -1,9 +1,9 @@
 -- The lines of bytes, one at a time: what is left below the next one, and what a section has of it.
-use Rattle.std.proofs.Common.{◌≡◌, Bool, true, false, ℕ, ◌+◌, ◌<◌, ◌≤◌, List, [], ◌∷◌, ◌++◌, length, get_or, drop, take, Option, Some, None, refl, sym, ap, subst, ◌∙◌, arith, append_assoc, append-nil, length-append, ◌-◌}
-use Rattle.std.specs.Prelude.{if◌then◌else◌}
-use Rattle.std.specs.List.{list_all}
+use Rattle.std.proofs.Common.{◌≡◌, Bool, true, false, ℕ, ◌+◌, ◌<◌, ◌≤◌, List, [], ◌∷◌, ◌++◌, length, take, Option, Some, None, refl, sym, ap, subst, ◌∙◌, arith, append_assoc, append-nil, length-append, ◌-◌, ◌||◌}
+use Rattle.std.specs.Prelude.{if◌then◌else◌, not}
+use Rattle.std.specs.List.{list_all, find, enumerate_from}
 use Rattle.std.proofs.lemmas.Bool.{eqb-true, false≢true}
-use Rattle.std.proofs.lemmas.List.{drop_all, drop_more, take_at}
+use Rattle.std.proofs.lemmas.List.{take_at}
 use denote.Ref.{Bor}
 use Rattle.hub_text.specs.declared.line.Line.{Line}
 use Rattle.hub_text.specs.Lines.{lines_of, line_text, onto_first_line}
@@ -88,20 +88,22 @@ section_bytes t u e =
     let len : length t - length u ≡ length (bytes_before_heading (lines_of t)) = omega (arith, ap length e, length-append (bytes_before_heading (lines_of t)) u) in
     ap (take (length t - length u)) e ∙ take_at (bytes_before_heading (lines_of t)) u (length t - length u) (sym len)
 
-at_line : (ls : List (Line (List ℕ))) (k : ℕ) (l : Line (List ℕ)) → k < length ls → l ≡ get_or ls k l → drop k ls ≡ l ∷ drop (k + 1) ls
-at_line ls k l h e = drop_more ls k l h ∙ ap (λ x. x ∷ drop (k + 1) ls) (sym e)
+-- Whether a line ends the blank ones at the start.
+abbrev pub ends_blank : ℕ × Line (List ℕ) → Bool
+ends_blank p = is_heading p.1.text || not (list_all is_ignorable p.1.text)
 
--- A blank line above all headings.
-pub blank_more : (ls : List (Line (List ℕ))) (k : ℕ) (l : Line (List ℕ)) → k < length ls → l ≡ get_or ls k l → is_heading l.text ≡ false → list_all is_ignorable l.text ≡ true
-    → stray_line (k + 1) (drop k ls) ≡ stray_line (k + 1 + 1) (drop (k + 1) ls)
-blank_more ls k l h e plain blank = ap (stray_line (k + 1)) (at_line ls k l h e) ∙ rw (plain, blank) refl
+-- The number of the line that ends them, from 1 on, unless it is a heading.
+abbrev pub unless_heading : Option (ℕ × Line (List ℕ)) → Option ℕ
+unless_heading None = None
+unless_heading (Some p) = if is_heading p.1.text then None else Some (p.0 + 1)
 
-pub stray_found : (ls : List (Line (List ℕ))) (k : ℕ) (l : Line (List ℕ)) → k < length ls → l ≡ get_or ls k l → is_heading l.text ≡ false → list_all is_ignorable l.text ≡ false
-    → stray_line (k + 1) (drop k ls) ≡ Some (k + 1)
-stray_found ls k l h e plain stray = ap (stray_line (k + 1)) (at_line ls k l h e) ∙ rw (plain, stray) refl
-
-pub no_stray : (ls : List (Line (List ℕ))) (k : ℕ) (l : Line (List ℕ)) → k < length ls → l ≡ get_or ls k l → is_heading l.text ≡ true → stray_line (k + 1) (drop k ls) ≡ None
-no_stray ls k l h e heading = ap (stray_line (k + 1)) (at_line ls k l h e) ∙ rw heading refl
-
-pub none_left : (ls : List (Line (List ℕ))) (k : ℕ) → length ls ≤ k → stray_line (k + 1) (drop k ls) ≡ None
-none_left ls k e = ap (stray_line (k + 1)) (drop_all k ls (omega (arith, e)))
+pub stray_line-find : (n : ℕ) (ls : List (Line (List ℕ))) → unless_heading (find ends_blank (enumerate_from n ls)) ≡ stray_line (n + 1) ls
+stray_line-find n [] = refl
+stray_line-find n (l ∷ ls) = by (is_heading l.text) refl (list_all is_ignorable l.text) refl (stray_line-find (n + 1) ls)
+  where
+    by : (heading : Bool) → is_heading l.text ≡ heading → (blank : Bool) → list_all is_ignorable l.text ≡ blank
+        → unless_heading (find ends_blank (enumerate_from (n + 1) ls)) ≡ stray_line (n + 1 + 1) ls
+        → unless_heading (find ends_blank (enumerate_from n (l ∷ ls))) ≡ stray_line (n + 1) (l ∷ ls)
+    by true h b e later = rw h (rw h refl)
+    by false h true e later = rw (h, e) later
+    by false h false e later = rw (h, e) (rw h refl)

@@ -144,15 +144,12 @@ pub fn read_bundle<'a>(alloc: Global, bytes: &'a [u8]) -> Result<Vec<Section<'a>
 fn stray_line_of(bytes: &[u8]) -> Option<usize>
     ensures { result ≡ stray_line 1 (lines_of bytes.now) }
 {
-    for (i, line) in Lines::new(bytes).enumerate() {
-        if is_heading(line.text) {
-            return None;
-        }
-        if !is_ignorable(line.text) {
-            return Some(i + 1);
-        }
+    let (index, line) = Lines::new(bytes).enumerate().find(|(_, line)| is_heading(line.text)
+        || !is_ignorable(line.text))?;
+    if is_heading(line.text) {
+        return None;
     }
-    None
+    Some(index + 1)
 }
 
 /// Takes the lines before the next heading. Returns their bytes, and how many lines they are.

@@ -13,8 +13,9 @@
 //! (`hub_source`). So this crate uses none of those that read profiles, states and certificates, and takes part in no answer.
 //!
 //! - Faults: `bundle` of the headings, `setting`, `value` and `pattern` of profiles and rules, `text` of states and certificates.
-//! - Refusals and the lines that make them so: `refusal`. What `reach`, `run` and the command line were asked: `asked`.
-//! - A yes that may mislead: `note`, `idle`, `ignored`.
+//! - Refusals and the lines that make them so: `refusal`. What `reach`, `run` and the command line were asked: `asked`; the
+//!   line that ignores a path: `ignored`.
+//! - A yes that may mislead: `note`, `idle`.
 //!
 //! The text is free, and is only tested (`examples/remarks.txt`). What is proved is that each function is safe and ends.
 //!

@@ -1,6 +1,6 @@
 -- Tests of two values that hold exactly when the values are the same: of numbers, lists, structs
 -- and enums.
-use Rattle.std.specs.Prelude.{◌≡◌, ◌&&◌, ◌⊎◌, Bool, true, false, List, [], ◌∷◌, Option, Some, None, is_some, Decides, nat_eq, ⊤}
+use Rattle.std.specs.Prelude.{◌≡◌, ◌&&◌, ◌⊎◌, Bool, true, false, List, [], ◌∷◌, Some, None, is_some, Decides, nat_eq, ⊤}
 use Rattle.std.specs.Bool.{beq}
 use Rattle.std.specs.Cmp.{unsigned_Decides, booleans_Decides}
 use Rattle.std.specs.Cmp.Derive.{of_values}

@@ -1,6 +1,13 @@
 -- How a reading fails.
-use Rattle.std.specs.Prelude.{◌≡◌, ◌⊎◌, Result, Err}
+use Rattle.std.specs.Prelude.{◌≡◌, ◌⊎◌, Result, Err, IfErr, IsErrAnd}
+use Rattle.std.proofs.Common.{Ok, subst, sym}
 
 -- The fault is the one that says that memory is out, or the fault of the reading.
 abbrev pub Fails : {T E : Type 0} → E → Result T E → E → Type 0
 Fails memory reading e = (e ≡ memory) ⊎ (reading ≡ Err e)
+
+-- What holds of an error holds of the same error that is passed up.
+pub passed-up : {T E : Type 0} (r : Result T E) (e : E) (P : E → Type 0)
+    → IsErrAnd r (λ y. y ≡ e) → P e → IfErr r P
+passed-up (Ok x) e P h p = absurd h
+passed-up (Err y) e P h p = subst P (sym h) p

@@ -7,6 +7,7 @@ pub mod Examples
 pub mod Fails
 pub mod LineLaws
 pub mod Lines
+pub mod ListLaws
 pub mod Reads
 pub mod Takes
 pub mod TestLaws

@@ -1,7 +1,7 @@
 -- Laws of tests, and of the tests whether some or all items of a list pass.
 use Rattle.std.proofs.Common.{◌≡◌, Bool, true, false, not, ◌&&◌, ◌||◌, T, List, [], ◌∷◌, ◌++◌, map, refl, sym, ap, ◌∙◌}
 use Rattle.std.specs.List.{list_all, list_any}
-use Rattle.std.specs.Ordering.{bool_cmp, eq_by_cmp, is_lt}
+use Rattle.std.specs.Ordering.{bool_cmp, eq_by_cmp, is_eq, is_lt}
 use Rattle.std.specs.declared.cmp.Ordering.{Ordering}
 use Rattle.std.specs.declared.cmp.Ordering.TheVariants.{Less, Equal, Greater}
 use mathlib.Core.Bool.{beq}
@@ -66,6 +66,29 @@ pub or-assoc : (a b c : Bool) → (a || (b || c)) ≡ ((a || b) || c)
 or-assoc true b c = refl
 or-assoc false b c = refl
 
+pub and-assoc : (a b c : Bool) → (a && (b && c)) ≡ ((a && b) && c)
+and-assoc true b c = refl
+and-assoc false b c = refl
+
+pub or-swap : (a b c : Bool) → (a || (b || c)) ≡ (b || (a || c))
+or-swap true true c = refl
+or-swap true false c = refl
+or-swap false b c = refl
+
+pub or-mixed : (a b c d : Bool) → ((a || b) || (c || d)) ≡ ((a || c) || (b || d))
+or-mixed true b c d = refl
+or-mixed false true true d = refl
+or-mixed false true false d = refl
+or-mixed false false c d = refl
+
+pub or-then : (a b c : Bool) → (a || b) ≡ true → (b ≡ true → c ≡ true) → (a || c) ≡ true
+or-then true b c h then = refl
+or-then false b c h then = then h
+
+pub not-not : (b : Bool) → not (not b) ≡ b
+not-not true = refl
+not-not false = refl
+
 -- Whether some item of a list passes.
 pub any-false : {X : Type 0} (xs : List X) → false ≡ list_any (λ x. false) xs
 any-false [] = refl
@@ -80,13 +103,8 @@ pub any-or : {X : Type 0} (f g : X → Bool) (xs : List X)
     → (list_any f xs || list_any g xs) ≡ list_any (λ x. f x || g x) xs
 any-or f g [] = refl
 any-or f g (x ∷ xs) =
-    regroup (f x) (list_any f xs) (g x) (list_any g xs)
-    ∙ ap (λ b. (f x || g x) || b) (any-or f g xs) where
-      regroup : (a b c d : Bool) → ((a || b) || (c || d)) ≡ ((a || c) || (b || d))
-      regroup true b c d = refl
-      regroup false true true d = refl
-      regroup false true false d = refl
-      regroup false false c d = refl
+    or-mixed (f x) (list_any f xs) (g x) (list_any g xs)
+    ∙ ap (λ b. (f x || g x) || b) (any-or f g xs)
 
 pub any-map : {X Y : Type 0} (f : Y → Bool) (h : X → Y) (xs : List X)
     → list_any (λ x. f (h x)) xs ≡ list_any f (map h xs)
@@ -120,6 +138,11 @@ pub T-less : (o : Ordering) → T (is_lt o) → o ≡ Less
 T-less Less p = refl
 T-less Equal p = absurd p
 T-less Greater p = absurd p
+
+pub is_eq-equal : (o : Ordering) → is_eq o ≡ true → o ≡ Equal
+is_eq-equal Less h = cc
+is_eq-equal Equal h = refl
+is_eq-equal Greater h = cc
 
 -- Tests that compare as equal are equal.
 pub bits_ties : (x y : Bool) → beq x y ≡ eq_by_cmp bool_cmp x y

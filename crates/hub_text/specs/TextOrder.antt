@@ -14,10 +14,10 @@ use lib.Utf8.{encode, next}
 abbrev bytes_cmp : List ℕ → List ℕ → Ordering
 bytes_cmp = slice_cmp nat_cmp
 
-less : (a b : ℕ) → a < b → nat_cmp a b ≡ Less
+pub less : (a b : ℕ) → a < b → nat_cmp a b ≡ Less
 less a b h = grind (arith, nat_tests)
 
-more : (a b : ℕ) → b < a → nat_cmp a b ≡ Greater
+pub more : (a b : ℕ) → b < a → nat_cmp a b ≡ Greater
 more a b h = grind (arith, nat_tests)
 
 tied : (a : ℕ) → nat_cmp a a ≡ Equal

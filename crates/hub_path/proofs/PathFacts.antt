@@ -3,7 +3,6 @@ use Rattle.std.proofs.Common.{◌≡◌, ◌==◌, ℕ, suc, zero, ◌+◌, ◌-
 use Rattle.std.specs.Prelude.{IsTrue}
 use Rattle.std.proofs.lemmas.Bool.{and_parts, and_from}
 use Rattle.std.proofs.lemmas.Bool.Decides.{nat_tests}
-use Rattle.std.proofs.lemmas.List.Folds.{list_all-append}
 use Rattle.std.proofs.lemmas.List.Splits.{length-slice_split}
 use Rattle.std.proofs.Math.Bool.{and-false}
 use Rattle.std.specs.List.{list_all}
@@ -11,6 +10,7 @@ use Rattle.std.specs.Str.{encode_utf8_all}
 use Rattle.std.proofs.lemmas.Str.{encodes-append, encode_ascii}
 use Rattle.std.proofs.lemmas.List.{take_more, take_all}
 use Rattle.hub_path.specs.Path.{Name, Path, is_name, is_path, is_place, name_in, path_in, path_of, text_of, parent}
+use Rattle.hub_path.specs.Laws.{is_place-push}
 
 -- What each item passes, each item of the front passes.
 pub list_all-take : {X : Type 0} (p : X → Bool) (n : ℕ) (xs : List X) → list_all p xs ≡ true → list_all p (take n xs) ≡ true
@@ -49,10 +49,6 @@ joined-later ns i n l e later =
     ∙ (ap (λ t. encode_utf8_all (text_of (take i ns)) ++ (t ++ encode_utf8_all n)) (encode_ascii 47 (lit< tt))
     ∙ sym (append_assoc (encode_utf8_all (text_of (take i ns))) (47 ∷ []) (encode_utf8_all n)))))
 
--- A path with one more name.
-pub place-push : (p : Path) (n : Name) → IsTrue (is_place p) → IsTrue (is_name n) → IsTrue (is_place (p ++ n ∷ []))
-place-push p n h k = list_all-append is_name p (n ∷ []) ∙ rw (h, k) refl
-
 -- The names that were made of the first parts of a text.
 pub record NamesSoFar (all names : Path) (count : ℕ) : Type 0 where
   pub count_is : length names ≡ count
@@ -78,7 +74,7 @@ names-more all names i n m so_far l e good =
     record {
       count_is = length-append names (m ∷ []) ∙ ap (λ k. k + 1) so_far.count_is;
       front = ap (λ ns. ns ++ m ∷ []) so_far.front ∙ (ap (λ k. take i all ++ k ∷ []) (picked (is_name n) n m good ∙ e) ∙ sym (take_more all i n l));
-      valid = place-push names m so_far.valid valid;
+      valid = is_place-push names m so_far.valid valid;
     }
 
 list_all-fails : (ns : Path) (i : ℕ) (n : Name) → i < length ns → n ≡ get_or ns i n → is_name n ≡ false → is_place ns ≡ false

@@ -8,6 +8,7 @@ use Rattle.std.proofs.lemmas.Bool.{and_parts, and_from}
 use Rattle.std.proofs.lemmas.Bool.Decides.{nat_tests}
 use Rattle.hub_path.specs.Path.{Name, Path, is_name, is_place, is_path, is_forbidden, is_dots, text_of, path_of}
 use Rattle.hub_path.specs.Reading.{name_fault, name_reading, names_fault, path_reading, path_fault, root_reading, root_fault, root_names, place_of, without_last_slash, or_fault, is_short_name, is_short_path}
+use Rattle.hub_text.specs.ListLaws.{some-item}
 use Rattle.hub_path.specs.Laws.{path_of-text_of, name-apart, is_apart}
 use Rattle.hub_text.specs.TestLaws.{list_all-not}
 use Rattle.hub_path.specs.declared.fault.PathFault.{PathFault}
@@ -94,16 +95,13 @@ text-begins n (m ∷ p) h =
     longer-begins n (47 ∷ text_of (m ∷ p))
     (name-begins n (and_parts (is_name n) (is_place (m ∷ p)) h).0)
 
-some_first : (c : ℕ) (cs : List ℕ) → (length (c ∷ cs) == 0) ≡ false
-some_first c cs = grind (arith, nat_tests)
-
 apart-slash : (c : ℕ) → is_apart c ≡ true → nat_eq 47 c ≡ false
 apart-slash c h = grind (arith, nat_tests)
 
 no_fault : (t : List ℕ) → Begins t → path_fault t ≡ names_fault 0 (path_of t)
 no_fault t b =
     ap path_fault b.are
-    ∙ rw (some_first b.first b.rest, apart-slash b.first b.apart)
+    ∙ rw (some-item b.first b.rest, apart-slash b.first b.apart)
     (ap (λ u. names_fault 0 (path_of u)) (sym b.are))
 
 -- A path whose names have no fault is read from its text.
@@ -159,14 +157,14 @@ root_names-text (n ∷ p) h =
     let b = text-begins n p h in
     let some : not (length (n ∷ p) == 0) ≡ true = grind (arith, nat_tests) in
     ap place_of (text-whole (n ∷ p) h)
-    ∙ (ap place_of b.are ∙ rw (some_first b.first b.rest) (ap path_of (sym b.are)))
+    ∙ (ap place_of b.are ∙ rw (some-item b.first b.rest) (ap path_of (sym b.are)))
     ∙ path_of-text_of (n ∷ p) (and_from _ _ some h)
 
 root_fault-begun : (t : List ℕ) → Begins t
     → root_fault (47 ∷ t) ≡ names_fault 0 (root_names (47 ∷ t))
 root_fault-begun t b =
     ap (λ u. root_fault (47 ∷ u)) b.are
-    ∙ rw (some_first 47 (b.first ∷ b.rest), apart-slash b.first b.apart)
+    ∙ rw (some-item 47 (b.first ∷ b.rest), apart-slash b.first b.apart)
     (ap (λ u. names_fault 0 (root_names (47 ∷ u))) (sym b.are))
 
 root_fault-text : (r : Path) → IsTrue (is_place r)

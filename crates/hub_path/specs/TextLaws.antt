@@ -1,6 +1,8 @@
 -- What one more character makes of the names of a text, and which prefixes a path has.
 use Rattle.std.proofs.Common.{◌≡◌, ◌==◌, cond, ℕ, Bool, true, false, ◌&&◌, List, [], ◌∷◌, ◌++◌, map, refl, sym, ap, ◌∙◌}
-use Rattle.std.specs.List.{list_all, onto_first}
+use Rattle.std.specs.List.{list_all, list_any, onto_first}
+use Rattle.std.proofs.lemmas.Bool.{and_from}
+use Rattle.hub_text.specs.TestLaws.{any-map, or-then}
 use Rattle.hub_path.specs.Path.{Name, Path, name_eq, is_over, parent, last_name, prefixes, path_of}
 use Rattle.hub_path.specs.Laws.{parent-last_name, parent-push, is_over-append, name_eq-decides}
 
@@ -101,9 +103,16 @@ pub prefixes-over : (p : Path) → list_all (λ q. is_over q p) (prefixes p) ≡
 prefixes-over [] = refl
 prefixes-over (n ∷ p) =
     let same : name_eq n n ≡ true = (name_eq-decides n n).1 refl in
-    all_cons (is_over-append (n ∷ []) p)
+    and_from _ _ (is_over-append (n ∷ []) p)
     (all_map (λ q. is_over q (n ∷ p)) (λ q. n ∷ q) (prefixes p)
     ∙ (ap (λ b. list_all (λ q. b && is_over q p) (prefixes p)) same ∙ prefixes-over p))
-  where
-    all_cons : {a b : Bool} → a ≡ true → b ≡ true → (a && b) ≡ true
-    all_cons {a} {b} e f = rw e f
+
+-- What some prefix of a path passes, some prefix of a longer one does.
+pub any-prefixes : (f : Path → Bool) (p q : Path) → list_any f (prefixes p) ≡ true
+    → list_any f (prefixes (p ++ q)) ≡ true
+any-prefixes f [] q h = cc
+any-prefixes f (n ∷ p) q h =
+    or-then (f (n ∷ [])) (list_any f (map (λ r. n ∷ r) (prefixes p)))
+    (list_any f (map (λ r. n ∷ r) (prefixes (p ++ q)))) h
+    (λ e. sym (any-map f (λ r. n ∷ r) (prefixes (p ++ q)))
+    ∙ any-prefixes (λ r. f (n ∷ r)) p q (any-map f (λ r. n ∷ r) (prefixes p) ∙ e))

@@ -13,7 +13,7 @@ use Rattle.std.proofs.lemmas.Bool.Decides.{nat_tests}
 use Rattle.std.proofs.lemmas.Str.{encode_ascii}
 use Rattle.std.proofs.lemmas.List.{append-nil, map-append}
 use borrow.Author.Tests.{eqb-true}
-use Rattle.hub_text.specs.TextOrder.{cmp-encodes}
+use Rattle.hub_text.specs.TextOrder.{cmp-encodes, less, more}
 use Rattle.hub_text.specs.TextParts.{encode-apart, is_apart}
 use Rattle.hub_path.specs.Path.{Name, Path, is_name, is_place, is_forbidden, text_of, name_cmp, path_cmp}
 use Rattle.hub_path.specs.NameFacts.{name_parts}
@@ -42,12 +42,6 @@ inner c h = record { apart = grind (arith, nat_tests); some = grind (arith, nat_
 
 rank-inner : (c : ℕ) → is_inner c ≡ true → rank c ≡ c
 rank-inner c h = rw (inner c h).apart refl
-
-less : (a b : ℕ) → a < b → nat_cmp a b ≡ Less
-less a b h = grind (arith, nat_tests)
-
-more : (a b : ℕ) → b < a → nat_cmp a b ≡ Greater
-more a b h = grind (arith, nat_tests)
 
 then-then : (a b c : Ordering) → ordering_then a (ordering_then b c)
     ≡ ordering_then (ordering_then a b) c

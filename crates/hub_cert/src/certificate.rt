@@ -46,7 +46,7 @@ impl StageText {
 
 /// A goal and texts, which rule it out if they are inductive for it: one of them has the stage of the empty text; for each
 /// of them and every character that may stand in a path's text, one of them has the stage of the text followed by that
-/// character; and none of them accepts the goal.
+/// character; and the goal accepts none of them.
 #[derive(Debug, Drop)]
 pub struct Certificate {
     /// The goal.

@@ -80,7 +80,7 @@ pub enum CheckFault {
         /// The class's number.
         class: usize,
     },
-    /// The text of that number in the goal's certificate accepts the goal.
+    /// The goal accepts the text of that number in its certificate.
     #[error("Accepting")]
     Accepting {
         /// The goal.

@@ -18,14 +18,17 @@ const COPIES: u32 = 16;
 /// Lines of the large profile, each a pattern of 64 spots.
 const LINES: [&str; 4] = [
     "ignore = Name *abcdefghijklmnopqrstuvwxyzabcdefghijklmnopqrstuvwxyzabcdefghi*\n",
-    "ignore = Path */*/step??-report.d/notes-[0-9][0-9]-*-of-the-*/day-[1-7]-*.t?[mn]xxxxxxxxxxx*\n",
+    "ignore = Path \
+     */*/step??-report.d/notes-[0-9][0-9]-*-of-the-*/day-[1-7]-*.t?[mn]xxxxxxxxxxx*\n",
     "ignore = BelowPath *-report.d/*/old-[a-f]*-*-????-copy-of-*/*.b?k-*/*/*-[0-9]xxxxxxxxxxxx*\n",
     "ignore = Name *?*?*?*?*?*?*?*?*?*?*?*?*?*?*?*?*?*?*?*?*?*?*?*?*?*?*?*?*?*?~x*\n",
 ];
 
 /// Lines of the small profile.
 const SMALL_LINES: &str =
-    "path = work\npath = photos/2024\npath = mail/inbox\nignore = Name *.tmp\nignore = Name .~*\nignore = Name *.{o,bak}\nignore = Path */build\nignore = BelowPath work/old\nignorenot = Name keep[0-9].tmp\n";
+    "path = work\npath = photos/2024\npath = mail/inbox\nignore = Name *.tmp\n\
+     ignore = Name .~*\nignore = Name *.{o,bak}\nignore = Path */build\n\
+     ignore = BelowPath work/old\nignorenot = Name keep[0-9].tmp\n";
 
 /// What is walked, again and again: at each round below where it was before.
 const TEXT: &str = "work/step-report.d/notes.tmp/";

@@ -22,7 +22,8 @@ base_of path = base_after path path
 
 -- A base without the ending of a profile's file.
 abbrev pub without_ending : List ℕ → List ℕ
-without_ending base = if ends_with nat_eq base (codes ".prf") then take (length base - 4) base else base
+without_ending base =
+    if ends_with nat_eq base (codes ".prf") then take (length base - 4) base else base
 
 -- The name of the profile in a file.
 abbrev pub profile_name : List ℕ → List ℕ
@@ -52,7 +53,8 @@ line_end bytes = if lacks_end bytes then 10 ∷ [] else []
 
 -- A section: its heading's line, and the lines of the file.
 abbrev pub part_text : Part → List ℕ
-part_text p = heading_word p.kind ++ heading_name p.kind p.file.now ++ 10 ∷ p.bytes.now ++ line_end p.bytes.now
+part_text p = heading_word p.kind ++ heading_name p.kind p.file.now ++ 10 ∷ p.bytes.now
+    ++ line_end p.bytes.now
 
 -- The bundle: the sections in the order of the files.
 abbrev pub bundle_of : List Part → List ℕ
@@ -78,7 +80,8 @@ heading_fault (Some n) = Some (HasHeading n)
 -- Why a file can't be a section: its name, or a line that would begin another section.
 abbrev pub part_fault : Part → Option PartFault
 part_fault p =
-    if has_break (heading_name p.kind p.file.now) then Some BadName else heading_fault (heading_line (lines_of p.bytes.now))
+    if has_break (heading_name p.kind p.file.now) then Some BadName
+    else heading_fault (heading_line (lines_of p.bytes.now))
 
 -- The number of the first of these files that can't be a section, from 0 on.
 abbrev pub is_faulty : Part → Bool

@@ -74,6 +74,8 @@ impl Exact for Part {
     ghost use Rattle.hub_glob.specs.contracts.piece.Part.{enum};
     ghost use Rattle.hub_glob.specs.contracts.piece.PieceExact.TheImpl.Laws as piece;
 
-    ghost exact = { variants_exact enum _
-        (last_field piece.exact-law, (last_field (items_exact (items_exact piece.exact-law)), tt)) };
+    ghost exact = { variants_exact enum _ (
+      last_field piece.exact-law,
+      (last_field (items_exact (items_exact piece.exact-law)), tt),
+    ) };
 }

@@ -331,7 +331,8 @@ partial_values_are_faulty = refl
 
 abbrev partial_lines : List ℕ
 partial_lines =
-    codes "nodeletionpartial=Name a->/srv/s1\nnoupdatepartial=Name a->/srv/s1\nnocreationpartial=Name a->/srv/s1\nnoupdatepartial=Name a->/srv/hub\n"
+    codes "nodeletionpartial=Name a->/srv/s1\nnoupdatepartial=Name a->/srv/s1\n"
+    ++ codes "nocreationpartial=Name a->/srv/s1\nnoupdatepartial=Name a->/srv/hub\n"
 
 -- 64 lines of the three kinds together may be there
 many_partials_are_read : third (eight_times (partial_lines ++ partial_lines)) ≡ None
@@ -374,8 +375,10 @@ partial_bar side b = record { side = side; bars = b; spec = below_a }
 -- bars on a root.
 partials_are_read :
     (with_roots
-    (codes
-    "nocreationpartial = BelowPath a -> /srv/s1/\nnodeletionpartial = BelowPath a -> /srv/hub\nnoupdatepartial = BelowPath a->/srv/s1\nnodeletionpartial = BelowPath a -> /srv/hub")).partial
+    (codes "nocreationpartial = BelowPath a -> /srv/s1/\n"
+    ++ codes "nodeletionpartial = BelowPath a -> /srv/hub\n"
+    ++ codes "noupdatepartial = BelowPath a->/srv/s1\n"
+    ++ codes "nodeletionpartial = BelowPath a -> /srv/hub")).partial
     ≡ partial_bar Right (bars true false false) ∷ partial_bar Left (bars false false true)
     ∷ partial_bar Right (bars false true true) ∷ partial_bar Left (bars false false true) ∷ []
 partials_are_read = refl
@@ -442,8 +445,8 @@ rule root verb spec = record { root = path_of root; verb = verb; spec = spec }
 -- A rule is for the last root above it, and has one kind of change; rules stand in the order of
 -- their lines.
 rules_are_numbered : rules_reading
-    (codes
-    "root = /srv/hub\nnolose = BelowPath a\n\nnochange=BelowPath a\nroot = /srv/s1/\n# root = /x\nnonew = BelowPath a\nnolose = BelowPath a")
+    (codes "root = /srv/hub\nnolose = BelowPath a\n\nnochange=BelowPath a\n"
+    ++ codes "root = /srv/s1/\n# root = /x\nnonew = BelowPath a\nnolose = BelowPath a")
     ≡ Ok (rule (codes "srv/hub") Delete below_a ∷ rule (codes "srv/hub") Update below_a
     ∷ rule (codes "srv/s1") Create below_a ∷ rule (codes "srv/s1") Delete below_a ∷ [])
 rules_are_numbered = refl

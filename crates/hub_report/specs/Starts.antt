@@ -68,7 +68,8 @@ begins (b ∷ p) (a ∷ t) s (suc w) e =
     record { rest = more.rest; whole = cc; written = more.written; front = more.front }
 
 -- The line of a breach begins with a b, if there is a rule. If there is none, the line is empty.
-breach-start : (P : Start → Type 0) (name : List ℕ) (R : Option Rule) (n : ℕ) (path : Path) (more : List ℕ) → P (start more) → P BreachStart
+breach-start : (P : Start → Type 0) (name : List ℕ) (R : Option Rule) (n : ℕ) (path : Path)
+    (more : List ℕ) → P (start more) → P BreachStart
     → P (start (breach_text name R n path ++ more))
 breach-start P name None n path more other breach = other
 breach-start P name (Some R) n path more other breach = breach
@@ -77,18 +78,21 @@ breach-start P name (Some R) n path more other breach = breach
 -- holds of the start of a refusal's line, whatever follows it.
 pub record HoldsOfStarts (P : Start → Type 0) (e : CheckFault) : Type 0 where
   pub other : P OtherStart
-  pub overlap : (w o : ℕ) (place : Place) (held path : Path) → e ≡ fault.Overlap w o place held path → P OverlapStart
+  pub overlap : (w o : ℕ) (place : Place) (held path : Path)
+      → e ≡ fault.Overlap w o place held path → P OverlapStart
   pub breach : (p k : ℕ) (path : Path) → e ≡ fault.Breach p k path → P BreachStart
   pub too_large : (g : Goal) → e ≡ fault.TooLarge g → P TooLargeStart
 
-line-start : (P : Start → Type 0) (S : Members) (e : CheckFault) (more : List ℕ) → P (start more) → HoldsOfStarts P e
+line-start : (P : Start → Type 0) (S : Members) (e : CheckFault) (more : List ℕ) → P (start more)
+    → HoldsOfStarts P e
     → P (start (refusal_line S e ++ more))
 line-start P S fault.TooManyProfiles more rest h = h.other
 line-start P S (fault.SameName n) more rest h = h.other
 line-start P S (fault.NestedRoots a z) more rest h = h.other
 line-start P S (fault.Overlap w o place held path) more rest h = h.overlap w o place held path refl
 line-start P S (fault.Breach p k path) more rest h =
-    breach-start P (name_at S.profiles p) (slice_get S.rules k) k path more rest (h.breach p k path refl)
+    breach-start P (name_at S.profiles p) (slice_get S.rules k) k path more rest
+    (h.breach p k path refl)
 line-start P S (fault.TooLarge g) more rest h = h.too_large g refl
 line-start P S (fault.Missing g) more rest h = h.other
 line-start P S (fault.NoStart g) more rest h = h.other
@@ -101,13 +105,16 @@ line-start P S (fault.AlphabetFault automaton.TooManySpots) more rest h = h.othe
 line-start P S (fault.AlphabetFault automaton.OutOfMemory) more rest h = h.other
 line-start P S fault.OutOfMemory more rest h = h.other
 
-pub refusal-start : (P : Start → Type 0) (S : Members) (e : CheckFault) → HoldsOfStarts P e → P (start (refusal_line S e))
+pub refusal-start : (P : Start → Type 0) (S : Members) (e : CheckFault) → HoldsOfStarts P e
+    → P (start (refusal_line S e))
 refusal-start P S e h =
     subst (λ t. P (start t)) (append-nil (refusal_line S e)) (line-start P S e [] h.other h)
 
 -- And of the start of the lines of many.
 pub lines-start : (P : Start → Type 0) (S : Members) (es : List CheckFault) → P OtherStart
-    → ((n : ℕ) (e : CheckFault) → slice_get es n ≡ Some e → HoldsOfStarts P e) → P (start (clash_lines S es))
+    → ((n : ℕ) (e : CheckFault) → slice_get es n ≡ Some e → HoldsOfStarts P e)
+    → P (start (clash_lines S es))
 lines-start P S [] other h = other
 lines-start P S (e ∷ es) other h =
-    line-start P S e (clash_lines S es) (lines-start P S es other (λ n f at. h (suc n) f at)) (h 0 e refl)
+    line-start P S e (clash_lines S es) (lines-start P S es other (λ n f at. h (suc n) f at))
+    (h 0 e refl)

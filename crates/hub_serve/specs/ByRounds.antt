@@ -32,7 +32,8 @@ round_set Rs Ps = record { profiles = Ps; rules = Rs }
 
 -- A round was run by n workers on a state, and this is the outcome. What is promised of it is what
 -- is promised of each run of a safe set.
-pub record IsRoundRun (Rs : List Rule) (Ps : List Parts) (n : ℕ) (S : State) (o : Outcome) : Type 0 where
+pub record IsRoundRun (Rs : List Rule) (Ps : List Parts) (n : ℕ) (S : State)
+    (o : Outcome) : Type 0 where
   pub safe : IsSafeSet (round_set Rs Ps)
   pub may : MayRun S Ps n
   pub run : IsRunOn (round_set Rs Ps) S o
@@ -62,7 +63,8 @@ not_run rounds os = drop (length os) rounds
 
 -- An error is why the next round, which there is, wasn't run on the state that the last one left.
 -- All jobs before it are finished.
-pub record IsPreventedAfter (Rs : List Rule) (n : ℕ) (S : State) (rounds : List (List Parts)) (os : List Outcome) (e : RunError) : Type 0 where
+pub record IsPreventedAfter (Rs : List Rule) (n : ℕ) (S : State) (rounds : List (List Parts))
+    (os : List Outcome) (e : RunError) : Type 0 where
   pub finished : AllFinished os
   pub next : List Parts
   pub later : List (List Parts)
@@ -72,7 +74,8 @@ pub record IsPreventedAfter (Rs : List Rule) (n : ℕ) (S : State) (rounds : Lis
 
 -- Why no more rounds were run. Without an error all were run, or a job of the last one that was run
 -- isn't finished.
-abbrev pub Ends : List Rule → ℕ → State → List (List Parts) → List Outcome → Option RunError → Type 0
+abbrev pub Ends : List Rule → ℕ → State → List (List Parts) → List Outcome → Option RunError
+    → Type 0
 Ends Rs n S rounds os None = (not_run rounds os ≡ []) ⊎ (AllFinished os → ⊥)
 Ends Rs n S rounds os (Some e) = IsPreventedAfter Rs n S rounds os e
 
@@ -85,7 +88,8 @@ lines_of_rounds (Ps ∷ rounds) (o ∷ os) = lines_of_jobs Ps o.jobs ++ lines_of
 -- These rounds were run one after another on a state, by n workers: all of them, or until a job of
 -- one isn't finished or one isn't run. It is all finished only if each round was run and each job
 -- is finished.
-pub record HaveRun (Rs : List Rule) (n : ℕ) (S : State) (rounds : List (List Parts)) (r : RoundsRun) : Type 0 where
+pub record HaveRun (Rs : List Rule) (n : ℕ) (S : State) (rounds : List (List Parts))
+    (r : RoundsRun) : Type 0 where
   pub outcomes : List Outcome
   pub run : AreRunFrom Rs n S rounds outcomes
   pub ends : Ends Rs n S rounds outcomes r.error
@@ -141,7 +145,8 @@ pub record IsBegun (count : ℕ) (r : RoundsRun) : Type 0 where
 -- What came of a round is added to what those before it did and left.
 abbrev pub IsAdded : Attempt → RoundsRun → RoundsRun → Type 0
 IsAdded (Ran r) old new =
-    (string_bytes new.lines ≡ string_bytes old.lines ++ string_bytes r.lines) × (new.state ≡ r.state)
+    (string_bytes new.lines ≡ string_bytes old.lines ++ string_bytes r.lines)
+    × (new.state ≡ r.state)
     × (new.finished ≡ r.finished) × (new.error ≡ old.error) × (new.rounds ≡ old.rounds)
 IsAdded (NotRun e) old new =
     (string_bytes new.lines ≡ string_bytes old.lines) × (new.state ≡ old.state)

@@ -55,7 +55,8 @@ use Rattle.hub_serve.specs.Task.{AsksFor, LacksState, task_of}
 
 -- The bytes are a bundle whose profiles and rules are a safe set, and this text is what is to follow `safe`: all of it, with
 -- the status of the whole, unless a call of the output failed; then it is a prefix, and the status is 2.
-pub record SpellsSafe (asked : Option Request) (bytes text : List ℕ) (failed : Bool) (status : ℕ) : Type 0 where
+pub record SpellsSafe (asked : Option Request) (bytes text : List ℕ) (failed : Bool)
+    (status : ℕ) : Type 0 where
   pub of_set : Question
   pub is_asked : asked ≡ Some (question.about of_set)
   pub contents : Contents
@@ -99,7 +100,8 @@ pub record SpellsClashes (bytes text : List ℕ) (failed : Bool) (status : ℕ) 
 
 -- The words ask for rounds, and the bytes are a bundle whose set is cut so. The status is 0 if each profile is in a round and no
 -- goal was too large, else 1.
-pub record SpellsRounds (asked : Option Request) (bytes text : List ℕ) (failed : Bool) (status : ℕ) : Type 0 where
+pub record SpellsRounds (asked : Option Request) (bytes text : List ℕ) (failed : Bool)
+    (status : ℕ) : Type 0 where
   pub is_asked : asked ≡ Some (question.about ask.Rounds)
   pub contents : Contents
   pub spelled : Spells bytes contents
@@ -114,7 +116,8 @@ pub record SpellsRounds (asked : Option Request) (bytes text : List ℕ) (failed
 -- The words ask for a run by rounds, and the bytes are a bundle whose state the rounds of its set were
 -- run on, and this text is to say what they did and left: all of it, unless a call of the output
 -- failed. The status is 0 if each round was run and each job is finished, else 3.
-pub record SpellsRoundsRun (asked : Option Request) (bytes text : List ℕ) (failed : Bool) (status : ℕ) : Type 0 where
+pub record SpellsRoundsRun (asked : Option Request) (bytes text : List ℕ) (failed : Bool)
+    (status : ℕ) : Type 0 where
   pub workers : ℕ
   pub is_asked : asked ≡ Some (question.about (ask.RunByRounds workers))
   pub contents : Contents
@@ -130,7 +133,8 @@ pub record SpellsRoundsRun (asked : Option Request) (bytes text : List ℕ) (fai
 
 -- The words ask for a graph of what clashes, and the bytes are a bundle whose set is drawn so. The
 -- status is 0 if it is safe, else 1.
-pub record SpellsGraph (asked : Option Request) (bytes text : List ℕ) (failed : Bool) (status : ℕ) : Type 0 where
+pub record SpellsGraph (asked : Option Request) (bytes text : List ℕ) (failed : Bool)
+    (status : ℕ) : Type 0 where
   pub is_asked : asked ≡ Some (question.about ask.Graph)
   pub contents : Contents
   pub spelled : Spells bytes contents
@@ -285,7 +289,8 @@ pub record SpellsReach (asked : Option Request) (bytes : List ℕ) (answer : Boo
   pub answered : ReachIs request contents.profiles answer
 
 -- A text was written to an output, whole unless a call of the output failed: then a prefix of it, and the status is 2.
-pub record WritesText (old new : Option (List ℕ)) (text : List ℕ) (status : ℕ) (failed : Bool) (result : ℕ) : Type 0 where
+pub record WritesText (old new : Option (List ℕ)) (text : List ℕ) (status : ℕ) (failed : Bool)
+    (result : ℕ) : Type 0 where
   pub written : ℕ
   pub appends : Appends old new (take written text)
   pub whole : failed ≡ false → take written text ≡ text
@@ -294,13 +299,15 @@ pub record WritesText (old new : Option (List ℕ)) (text : List ℕ) (status : 
 -- Nothing was written, or a prefix of the line that says `out of memory`. The status is that of a fault.
 pub record AnswersNothing (old new : Option (List ℕ)) (status : ℕ) : Type 0 where
   pub status_is : status ≡ 2
-  pub writes : Keeps old new ⊎ ((written : ℕ) × Appends old new (take written (codes "fault: out of memory\n")))
+  pub writes : Keeps old new ⊎ ((written : ℕ)
+      × Appends old new (take written (codes "fault: out of memory\n")))
 
 -- The text of one answer was written, and the answer is true of the question and of the input, whose remaining bytes are
 -- these if they are known. It says that a read failed only if one did. If one did, it says so, or `out of memory`. It says
 -- that the reads were spent only if they were, none of them having met the end. Each other answer but `out of memory` is
 -- given only if a read met the end.
-pub record Answers (request : Request) (remaining old new : Option (List ℕ)) (reads : Reads) (write_failed : Bool) (status : ℕ) : Type 0 where
+pub record Answers (request : Request) (remaining old new : Option (List ℕ)) (reads : Reads)
+    (write_failed : Bool) (status : ℕ) : Type 0 where
   pub report : Report
   pub holds : IfSome remaining (λ bytes. Holds request bytes report)
   pub only_failed : says_read_failed report ≡ true → reads.failed ≡ true
@@ -314,14 +321,17 @@ pub record Answers (request : Request) (remaining old new : Option (List ℕ)) (
 
 -- What the program does for the words that ask for this, or for nothing: an input's bytes, an output before and after, the
 -- reads of the input, whether a call of the output failed, and the status.
-pub record Serves (asked : Option Request) (remaining old new : Option (List ℕ)) (reads : Reads) (write_failed : Bool) (status : ℕ) : Type 0 where
+pub record Serves (asked : Option Request) (remaining old new : Option (List ℕ)) (reads : Reads)
+    (write_failed : Bool) (status : ℕ) : Type 0 where
   pub few : status ≤ 3
   pub nothing : asked ≡ None → AnswersNothing old new status
-  pub answer : (request : Request) → asked ≡ Some request → Answers request remaining old new reads write_failed status
+  pub answer : (request : Request) → asked ≡ Some request
+      → Answers request remaining old new reads write_failed status
   -- `safe` is written only if the words ask for a check, for what clashes or for a run, and the input spells a safe set. What follows it is what
   -- its jobs did and left of the input's state, or why they weren't run,
   pub safe : (bytes before text : List ℕ) → remaining ≡ Some bytes → old ≡ Some before
-      → new ≡ Some (before ++ (codes "safe\n" ++ text)) → SpellsSafe asked bytes text write_failed status
+      → new ≡ Some (before ++ (codes "safe\n" ++ text))
+      → SpellsSafe asked bytes text write_failed status
   -- `verified` only if the words ask for `verify`, and the input's certificates show that the set that it spells is safe,
   pub verified : (bytes before text : List ℕ) → remaining ≡ Some bytes → old ≡ Some before
       → new ≡ Some (before ++ (codes "verified\n" ++ text)) → SpellsVerified asked bytes
@@ -341,8 +351,9 @@ pub record Serves (asked : Option Request) (remaining old new : Option (List ℕ
   pub graph : (bytes before text : List ℕ) → remaining ≡ Some bytes → old ≡ Some before
       → new ≡ Some (before ++ (codes "graph clashes {" ++ text))
       → SpellsGraph asked bytes (codes "graph clashes {" ++ text) write_failed status
-  pub clashes : (bytes before text : List ℕ) → asked ≡ Some (question.about ask.Clashes) → remaining ≡ Some bytes
-      → old ≡ Some before → new ≡ Some (before ++ text) → BeginsAsClash text → SpellsClashes bytes text write_failed status
+  pub clashes : (bytes before text : List ℕ) → asked ≡ Some (question.about ask.Clashes)
+      → remaining ≡ Some bytes → old ≡ Some before → new ≡ Some (before ++ text)
+      → BeginsAsClash text → SpellsClashes bytes text write_failed status
   -- and `reached` and `not reached` only if the words ask for `reach` and that is the answer.
   pub reached : (bytes before text : List ℕ) → remaining ≡ Some bytes → old ≡ Some before
       → new ≡ Some (before ++ (codes "reached\n" ++ text)) → SpellsReach asked bytes true

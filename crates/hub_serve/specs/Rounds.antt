@@ -70,4 +70,5 @@ pub record WritesRounds (S : Members) (text : List ℕ) (decided : Bool) : Type 
 abbrev pub BeginsAsClash : List ℕ → Type 0
 BeginsAsClash text =
     (rest : List ℕ)
-    × ((text ≡ codes "overlap: " ++ rest) ⊎ (text ≡ codes "breach: " ++ rest) ⊎ (text ≡ codes "too large: " ++ rest))
+    × ((text ≡ codes "overlap: " ++ rest) ⊎ (text ≡ codes "breach: " ++ rest)
+    ⊎ (text ≡ codes "too large: " ++ rest))

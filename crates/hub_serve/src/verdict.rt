@@ -89,7 +89,8 @@ fn or_refusal<'a>(
 ) -> Report<'a>
     ensures told { (t : Task) (cs : List Certificate)
         → IfOk answer.entry (report.IsToldOfSet t set.now cs)
-        → IfErr answer.entry (report.FaultOf t set.now cs) → report.IsToldOfSet t set.now cs result }
+        → IfErr answer.entry (report.FaultOf t set.now cs)
+        → report.IsToldOfSet t set.now cs result }
     ensures read { IfOk answer.entry (λ r. unread_by r ≡ None) → unread_by result ≡ None }
 {
     match answer {

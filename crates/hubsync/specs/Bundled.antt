@@ -48,7 +48,8 @@ file_at parts n = file_of (slice_get parts n)
 pub record ServesParts (asked : Option Request) (parts : List Part) (old new : Option (List ℕ))
     (failed : Bool) (status : ℕ) : Type 0 where
   pub bundled : first_faulty parts ≡ None
-      → ServesBundle asked parts old new failed status ⊎ WritesText old new memory_line 2 failed status
+      → ServesBundle asked parts old new failed status
+      ⊎ WritesText old new memory_line 2 failed status
   pub refused : (n : ℕ) → first_faulty parts ≡ Some n
       → WritesFault (file_at parts n) old new failed status
 

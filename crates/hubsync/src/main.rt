@@ -76,7 +76,8 @@ fn answer<T: AllocGlobal + Clock + Eprint + Files + Threads + Wait + Sync, R: Re
         (W.contents output.new.device.device)
         (reads_between input.old input.new) output.new.failed result }
     ensures files { are_none (files_of (map string_bytes words.now)) ≡ false
-        → ServesFiles (asked_of (map string_bytes words.now)) (files_of (map string_bytes words.now))
+        → ServesFiles (asked_of (map string_bytes words.now))
+        (files_of (map string_bytes words.now))
         (W.contents output.old.device.device) (W.contents output.new.device.device)
         output.new.failed result
         ⊎ (asked_of (map string_bytes words.now) ≡ None) }

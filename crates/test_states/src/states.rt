@@ -20,7 +20,8 @@ const PLACES: [&str; 5] = [
     "",
     "replica /a\ndir d\nfile 61 f\n",
     "archive /a\n",
-    "archive /a\nwith /b\ndir d\nfile 00112233445566778899aabbccddeeffFFEEDDCCBBAA99887766554433221100 f\n",
+    "archive /a\nwith /b\ndir d\n\
+     file 00112233445566778899aabbccddeeffFFEEDDCCBBAA99887766554433221100 f\n",
     "end\n",
 ];
 

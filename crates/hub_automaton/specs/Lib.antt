@@ -2,6 +2,7 @@ pub mod Adding
 pub mod AddedInTurn
 pub mod Alike
 pub mod Alphabet
+pub mod ClassSetLaws
 pub mod ClassSets
 pub mod Ends
 pub mod Examples

@@ -1,6 +1,6 @@
 //! Sets of classes.
 ghost use Rattle.std.specs.Prelude.{◌≡◌, ◌<◌, ◌≤◌, ◌||◌, ◌==◌, ◌+◌, ◌*◌, ◌/◌, ℕ, true, false, length, IfOk, MatchOption};
-ghost use Rattle.hub_automaton.specs.ClassSets.{AllBelow, Grown, HasNone, IsListed, IsLowest, IsNext, has, room};
+ghost use Rattle.hub_automaton.specs.ClassSets.{AllBelow, Grown, HasNone, IsListed, IsLowest, IsNext, IsNextBelow, has, room};
 
 use crate::class::Class;
 use crate::words::{WORD_BITS, is_set};
@@ -97,6 +97,22 @@ impl ClassSet {
             return Some(Class::new(class.number() + lowest(rest)));
         }
         self.next_in_words(first + 1)
+    }
+
+    /// Returns the number of the least class in the set from the number `from` on, if it is below `classes`.
+    pub fn next_below(&self, from: usize, classes: usize) -> Option<usize>
+        requires { classes ≤ room self.now }
+        ensures { MatchOption result (HasNone self.now from classes)
+            (IsNextBelow self.now from classes) }
+    {
+        let Some(class) = self.next_from(Class::new(from)) else {
+            return None;
+        };
+        let number = class.number();
+        if number >= classes {
+            return None;
+        }
+        Some(number)
     }
 
     /// The least class in the set whose bit is in a word from that one on.

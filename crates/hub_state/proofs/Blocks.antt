@@ -10,16 +10,16 @@ use Rattle.hub_state.specs.declared.fault.StateFault.{StateFault}
 use Rattle.hub_state.specs.declared.draft.Draft.{Draft}
 use Rattle.hub_state.specs.declared.reader.Prefix.{Prefix}
 use Rattle.hub_state.specs.State.{State, nothing}
-use Rattle.hub_state.specs.Reading.{Above, nothing_above, state_reading, above_end, and_then, lines_reading, then_lines, fault_at, state_or_fault}
+use Rattle.hub_state.specs.Reading.{Above, nothing_above, state_reading, above_end, and_then, lines_reading, fault_at, state_or_fault}
 use Rattle.hub_state.specs.Taking.{IsApart, nothing_taken, closed, placed, is_memory, Tells, numbered_taken, last_taken}
-use Rattle.hub_state.specs.Blocks.{then_taken, lines_taken, bytes_taken, text_of, out_of_memory, LeavesLine, Leaves, Stops, Continues, Stands, IsWithin}
+use Rattle.hub_state.specs.Blocks.{lines_taken, bytes_taken, text_of, out_of_memory, LeavesLine, Leaves, Stops, Continues, Stands, IsWithin}
 use Rattle.hub_state.proofs.Drafts.{Holds, Same, closed_is}
 use Rattle.hub_state.proofs.Taken.{numbered_same, last_same, memory_or, placed_fault}
 
 -- Lines that a draft takes say what they say of lists of entries.
 step_same : (n : ℕ) (k : Line (List ℕ)) (ls : List (Line (List ℕ))) (x : Result Above Fault) (y : Result Draft Fault) → Same x y
     → ((e : Above) (b : Draft) → Holds e b → state_or_fault (lines_reading (n + 1) e (k ∷ ls)) ≡ lines_taken (n + 1) b (k ∷ ls))
-    → state_or_fault (then_lines (fault_at n x) (λ e. lines_reading (n + 1) e (k ∷ ls))) ≡ then_taken (fault_at n y) (λ b. lines_taken (n + 1) b (k ∷ ls))
+    → state_or_fault (and_then (fault_at n x) (λ e. lines_reading (n + 1) e (k ∷ ls))) ≡ and_then (fault_at n y) (λ b. lines_taken (n + 1) b (k ∷ ls))
 step_same n k ls (Ok e) (Ok b) s more = more e b s.same
 step_same n k ls (Ok e) (Err g) s more = absurd s.same
 step_same n k ls (Err f) (Ok b) s more = absurd s.same
@@ -100,11 +100,11 @@ at-first n a bytes l below e =
 
 -- What is read of a line with others below.
 taken_on : (m : ℕ) (b : Draft) (l : Line (List ℕ)) (below t : List ℕ) → lines_of (line_text l ++ below) ≡ l ∷ lines_of below → 0 < length below
-    → bytes_taken m b ((line_text l ++ below) ++ t) ≡ then_taken (fault_at m (numbered_taken m b l.text)) (λ c. bytes_taken (m + 1) c (below ++ t))
+    → bytes_taken m b ((line_text l ++ below) ++ t) ≡ and_then (fault_at m (numbered_taken m b l.text)) (λ c. bytes_taken (m + 1) c (below ++ t))
 taken_on m b l below t cut some =
     let w = first_of (below ++ t) (omega (arith, length-append below t)) in
     ap (lines_taken m b) (first-stays (line_text l ++ below) below t l cut some ∙ ap (λ ks. l ∷ ks) w.2)
-    ∙ sym (ap (λ ks. then_taken (fault_at m (numbered_taken m b l.text)) (λ c. lines_taken (m + 1) c ks)) w.2)
+    ∙ sym (ap (λ ks. and_then (fault_at m (numbered_taken m b l.text)) (λ c. lines_taken (m + 1) c ks)) w.2)
 
 some_below : (below rest : List ℕ) (k : Line (List ℕ)) → lines_of below ≡ k ∷ lines_of rest → 0 < length below
 some_below below rest k e = omega (arith, shorter-first_line below rest k e)
@@ -118,7 +118,7 @@ at-next n a bytes m b c l k below rest at e taken =
     record {
       cut = sym (ap lines_of is) ∙ e;
       same = λ t. at.same t ∙ taken_on m b l below t at.cut some
-          ∙ ap (λ (r : Result Draft Fault). then_taken (fault_at m r) (λ d. bytes_taken (m + 1) d (below ++ t))) taken
+          ∙ ap (λ (r : Result Draft Fault). and_then (fault_at m r) (λ d. bytes_taken (m + 1) d (below ++ t))) taken
           ∙ ap (λ s. bytes_taken (m + 1) c (s ++ t)) is;
       room = omega (arith, at.room, longer, ap length is);
     }
@@ -141,7 +141,7 @@ at-fault n a bytes m b l k below rest e at more tells = by (memory_or tells.0) t
     by (inr o) (inl h) = inl (tells.1 ∙ ap (placed m) h)
     by (inr o) (inr h) =
         inr (λ t. at.same t ∙ taken_on m b l below t at.cut (some_below below rest k more)
-        ∙ ap (λ (r : Result Draft Fault). then_taken (fault_at m r) (λ d. bytes_taken (m + 1) d (below ++ t))) h
+        ∙ ap (λ (r : Result Draft Fault). and_then (fault_at m r) (λ d. bytes_taken (m + 1) d (below ++ t))) h
         ∙ ap Err (sym (tells.1 ∙ ap (λ w. record { line = cond w 0 m; fault = tells.0 }) o)))
 
 -- The last line.

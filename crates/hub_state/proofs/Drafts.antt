@@ -10,8 +10,7 @@ use Rattle.std.proofs.lemmas.Str.{IsUtf8-from_is_utf8, is_utf8-from_IsUtf8}
 use Rattle.std.proofs.lemmas.Bool.Decides.{nat_tests}
 use denote.Ref.{Bor}
 use Rattle.hub_path.specs.Path.{Path, path_cmp, name_cmp, path_eq, parent}
-use Rattle.std.specs.Cmp.{eq_by_cmp_equiv}
-use Rattle.hub_path.specs.Laws.{path_cmp-total, name_cmp-total}
+use Rattle.hub_path.specs.Laws.{path_cmp-total, name_cmp-total, path_eq-turned}
 use Rattle.hub_tree.specs.Tree.{Replica, Archive, contents_at, is_directory}
 use Rattle.hub_tree.specs.declared.contents.Contents.{Contents}
 use Rattle.hub_tree.specs.declared.contents.Contents.TheVariants as contents
@@ -141,10 +140,7 @@ archives_have : (k : List Text) (ks : OldRows) → list_any (λ e. path_eq e.0 k
 archives_have k [] = refl
 archives_have k (r ∷ ks) =
     ap (λ b. path_eq r.0 k || b) (archives_have k ks)
-    ∙ sym (some_or (path_eq r.0 k) (eq_by_cmp path_cmp k r.0) (fin.from_entries {R = path_cmp} r.1) _ (path_eq-turned r.0 k))
-  where
-    path_eq-turned : (p q : Path) → path_eq p q ≡ eq_by_cmp path_cmp q p
-    path_eq-turned p q = path_eq-cmp p q ∙ (eq_by_cmp_equiv path_cmp-total).symm p q
+    ∙ sym (some_or (path_eq r.0 k) (eq_by_cmp path_cmp k r.0) (fin.from_entries {R = path_cmp} r.1) _ (path_eq-turned r.0 k ∙ path_eq-cmp k r.0))
 
 replica_same : (bs : Option Blobs) (bm : Option BlobMap) → AreBlobs bs bm → (rs : Rows) (ks : OldRows) (s : Section) (n : ℕ) (e : Bool) (S : State) (o : Open) → closed S o ≡ kept_state rs ks → (r : Path)
     → Same (with_replica_begun (lists bs rs ks s n e) r) (replica_begun (draft bm S o n e) r)

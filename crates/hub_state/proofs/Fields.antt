@@ -8,6 +8,7 @@ use Rattle.std.proofs.lemmas.Bool.Decides.{nat_tests}
 use Rattle.hex.specs.Hex.{IsBytes, encode_with, encode_lower, lower_digits, decode_of}
 use Rattle.hex.proofs.HexLemmas.{decode_of-encode_lower, IsAscii-encode_with, length-encode_with}
 use lib.Utf8.{encode}
+use Rattle.hub_text.specs.ListLaws.{some-item}
 use Rattle.hub_path.specs.Path.{Name, Path, is_place, is_path, is_forbidden, text_of}
 use Rattle.hub_path.specs.Reading.{names_fault, path_reading, root_reading}
 use Rattle.hub_path.specs.NameFacts.{name_parts}
@@ -68,11 +69,8 @@ some_digits : (b : ℕ) (bytes : List ℕ) → (length (encode_lower (b ∷ byte
 unfolding encode_with
 some_digits b bytes = grind (arith, nat_tests)
 
-some_first : (b : ℕ) (bytes : List ℕ) → (length (b ∷ bytes) == 0) ≡ false
-some_first b bytes = grind (arith, nat_tests)
-
 some_bytes : (b : ℕ) (bytes : List ℕ) → hex_field (b ∷ bytes) ≡ encode_lower (b ∷ bytes)
-some_bytes b bytes = rw (some_first b bytes) refl
+some_bytes b bytes = rw (some-item b bytes) refl
 
 digits_read : (b : ℕ) (bytes : List ℕ) → IsBytes (b ∷ bytes) → bytes_field (encode_lower (b ∷ bytes)) ≡ Ok (b ∷ bytes)
 digits_read b bytes h =

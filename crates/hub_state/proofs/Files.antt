@@ -11,6 +11,7 @@ use Rattle.std.proofs.lemmas.Bool.{and_parts, and_from, false≢true}
 use Rattle.std.proofs.lemmas.List.Concat.{flat_map-append}
 use Rattle.std.proofs.lemmas.Slice.Eq.{bytes_eq-Decides}
 use Rattle.sha2.specs.Sha256.{sha256}
+use Rattle.hub_text.specs.ListLaws.{no-items}
 use Rattle.hub_path.specs.Path.{Path, name_cmp}
 use Rattle.hub_path.specs.Laws.{name_cmp-total, name_cmp-exact}
 use Rattle.hub_tree.specs.Tree.{Replica}
@@ -327,12 +328,8 @@ told_some fs B e = by (tell_apart fs) (e ∙ files_added-all fs)
     by true k = (refl, (cc))
     by false k = cc
 
-no_items : {X : Type 0} (xs : List X) → length xs ≡ 0 → xs ≡ []
-no_items [] e = refl
-no_items (x ∷ xs) e = absurd (omega arith)
-
 pub no_entries : (m : BlobMap) → m ≡ fin.empty → fin.entries m ≡ []
-no_entries m e = no_items (fin.entries m) (sym (fin.len-entries m) ∙ ap (λ (x : BlobMap). fin.len x) e ∙ fin.len-empty name_cmp (List ℕ))
+no_entries m e = no-items (fin.entries m) (sym (fin.len-entries m) ∙ ap (λ (x : BlobMap). fin.len x) e ∙ fin.len-empty name_cmp (List ℕ))
 
 -- What a loop that collects has done: it has taken some items, and has the blobs of their files.
 abbrev pub Collected : {X : Type 0} → (X → List (List ℕ)) → BlobMap → BlobMap → List X → List X → Type 0

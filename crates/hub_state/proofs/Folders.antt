@@ -2,7 +2,7 @@
 use Rattle.std.proofs.Common.{◌≡◌, ◌==◌, ℕ, ◌+◌, ◌<◌, Bool, true, false, cond, List, [], ◌∷◌, ◌++◌, length, refl, sym, ap, ◌∙◌, subst, arith}
 use Rattle.std.specs.Prelude.{Option, Some, None, Ok}
 use Rattle.std.specs.Prelude.{not, bytes_eq, encode_utf8_all}
-use Rattle.std.proofs.lemmas.Bool.{and_from}
+use Rattle.std.proofs.lemmas.Bool.{and_from, ne_eqb}
 use Rattle.std.proofs.lemmas.Bool.Decides.{nat_tests}
 use Rattle.std.proofs.lemmas.Slice.Eq.{bytes_eq-Decides}
 use Rattle.hub_path.specs.Path.{Name, Path, parent, path_of, is_path, is_place, text_of}
@@ -37,11 +37,8 @@ fine depth n p h =
     let b = no_first (name_fault n) (names_fault (depth + 1) p) a.1 in
     record { room = a.0; first = b.0; rest = b.1 }
 
-not_equal : (a b : ℕ) → a < b → (a == b) ≡ false
-not_equal a b l = grind (arith, nat_tests)
-
 fine-below : (depth : ℕ) (p : Path) (n : Name) → names_fault depth p ≡ None → depth + length p < PATH_NAMES → name_fault n ≡ None → names_fault depth (p ++ n ∷ []) ≡ None
-fine-below depth [] n h l one = rw (not_equal depth PATH_NAMES (omega (arith, l)), one) refl
+fine-below depth [] n h l one = rw (ne_eqb depth PATH_NAMES (λ e. omega (arith, l, e)), one) refl
 fine-below depth (m ∷ p) n h l one =
     let f = fine depth m p h in
     rw (f.room, f.first) (fine-below (depth + 1) p n f.rest (omega (arith, l)) one)

@@ -7,10 +7,10 @@ use Rattle.std.specs.List.{list_any}
 use Rattle.std.specs.Option.{is_some}
 use Rattle.std.specs.Ordering.{eq_by_cmp, is_eq}
 use Rattle.std.specs.declared.cmp.Ordering.{Ordering}
-use Rattle.std.specs.declared.cmp.Ordering.TheVariants.{Less, Equal, Greater}
+use Rattle.std.specs.declared.cmp.Ordering.TheVariants.{Less}
 use Rattle.std.proofs.lemmas.Cmp.{tied_itself}
 use Rattle.std.proofs.lemmas.Bool.{false≢true}
-use Rattle.hub_text.specs.TestLaws.{T-first, T-second, T-less}
+use Rattle.hub_text.specs.TestLaws.{T-first, T-second, T-less, is_eq-equal}
 
 -- All entries, from those that were taken, the last one first, and those that follow; and all of them taken.
 abbrev pub back : {E : Type 0} → List E → List E → List E
@@ -34,11 +34,6 @@ pub first_of-None : {X : Type 0} (a : Option X) → first_of a None ≡ a
 first_of-None None = refl
 first_of-None (Some x) = refl
 
-equal : (r : Ordering) → is_eq r ≡ true → r ≡ Equal
-equal Less p = absurd (false≢true p)
-equal Equal p = refl
-equal Greater p = absurd (false≢true p)
-
 not_both : {X : Type 0} (o : Option X) → (is_some o ≡ true → ⊥) → o ≡ None
 not_both None f = refl
 not_both (Some x) f = absurd (f refl)
@@ -48,7 +43,7 @@ module _ {K X : Type 0} {R : K → K → Ordering} (o : IsTotalOrder R) where
   pub find-tied_below : (q k : K) (es : List (K × X)) → eq_by_cmp R q k ≡ true → T (below_all R k es) → find R q es ≡ None
   find-tied_below q k [] t h = refl
   find-tied_below q k (e ∷ es) t h =
-      ap (λ r. cond (is_eq r) (Some e.1) (find R q es)) (o.congr q k e.0 (equal (R q k) t) ∙ T-less _ (T-first _ _ h))
+      ap (λ r. cond (is_eq r) (Some e.1) (find R q es)) (o.congr q k e.0 (is_eq-equal (R q k) t) ∙ T-less _ (T-first _ _ h))
       ∙ find-tied_below q k es t (T-second _ _ h)
 
   find-less_below : (q k : K) (es : List (K × X)) → R q k ≡ Less → T (below_all R k es) → find R q es ≡ None

@@ -18,7 +18,7 @@ use Rattle.std.proofs.lemmas.Map.Text.{is_eq-slice_cmp}
 use Rattle.std.proofs.lemmas.Slice.Eq.{bytes_eq-Decides}
 use Rattle.hub_path.specs.Path.{name_cmp, path_cmp}
 use Rattle.hub_path.specs.Laws.{name_cmp-total, name_cmp-exact, path_cmp-total, path_cmp-exact}
-use Rattle.hub_tree.specs.Laws.Ascending.{is_sorted-from, entries-ascending, copy_more}
+use Rattle.hub_tree.specs.Laws.Ascending.{both, is_sorted-from, entries-ascending, copy_more}
 use Rattle.hub_state.specs.State.{Text}
 use Rattle.hub_state.specs.View.{keyed, by_text, by_two, below, pairs, map_in, pairs_in}
 use Rattle.hub_text.specs.TestLaws.{T-first, T-second, T-less}
@@ -262,10 +262,6 @@ copy_text_more f done iterator rest all x k y i s same e h =
     ∙ copy_more name_cmp-total (keyed f done) (keyed f iterator) (keyed f rest) (keyed f all) (string_bytes x.0, f x.1) (string_bytes k) i (ap (keyed f) s) same (texts_ascend f all h)
 
 -- The keys of a map of maps ascend.
-both : (a b : Bool) → T a → T b → T (a && b)
-both true b p q = q
-both false b p q = p
-
 is_lt-last : (r : Ordering) → is_lt (ordering_then r Equal) ≡ is_lt r
 is_lt-last Less = refl
 is_lt-last Equal = refl

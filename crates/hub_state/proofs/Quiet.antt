@@ -20,7 +20,7 @@ use Rattle.hub_state.specs.declared.form.Section.{Section}
 use Rattle.hub_state.specs.declared.form.Section.TheVariants as section
 use Rattle.hub_state.specs.Devices.{is_read_failed, is_turns_spent, is_unread, says, reports}
 use Rattle.hub_state.specs.State.{Text}
-use Rattle.hub_state.specs.Reading.{Above, Blobs, with_new_contents, with_blob_named, blob_found, with_file, with_blob_put, with_blob, Line, line_of, or_else, and_then, unless, root_field, path_field, bytes_field, digest_field, is_space, with_other_root, with_contents_put, with_mark_put, with_dir, with_fields, with_line, with_line_of, numbered_reading, lines_reading, then_lines, fault_at, nothing_above, above_end, state_or_fault, state_reading}
+use Rattle.hub_state.specs.Reading.{Above, Blobs, with_new_contents, with_blob_named, blob_found, with_file, with_blob_put, with_blob, Line, line_of, or_else, and_then, unless, root_field, path_field, bytes_field, digest_field, is_space, with_other_root, with_contents_put, with_mark_put, with_dir, with_fields, with_line, with_line_of, numbered_reading, lines_reading, fault_at, nothing_above, above_end, state_or_fault, state_reading}
 
 record Quiet {T : Type 0} (r : Result T Fault) : Type 0 where
   quiet : says is_unread r ≡ false
@@ -135,7 +135,7 @@ at-quiet : {T : Type 0} (n : ℕ) (r : Result T Fault) → Quiet r → reports i
 at-quiet n (Ok x) h = refl
 at-quiet n (Err f) h = h.quiet
 
-lines_then-quiet : (r : Result Above StateFault) (f : Above → Result Above StateFault) → reports is_unread r ≡ false → ((d : Above) → reports is_unread (f d) ≡ false) → reports is_unread (then_lines r f) ≡ false
+lines_then-quiet : (r : Result Above StateFault) (f : Above → Result Above StateFault) → reports is_unread r ≡ false → ((d : Above) → reports is_unread (f d) ≡ false) → reports is_unread (and_then r f) ≡ false
 lines_then-quiet (Ok d) f h k = k d
 lines_then-quiet (Err e) f h k = h
 

@@ -25,7 +25,7 @@ use Rattle.hub_state.specs.declared.form.Section.{Section}
 use Rattle.hub_state.specs.declared.form.Section.TheVariants as section
 use Rattle.hub_state.specs.State.{Text}
 use Rattle.hub_state.specs.Writing.{end_line, dir_line, file_line, blob_line, path_bytes, hex_field}
-use Rattle.hub_state.specs.Reading.{Above, Blobs, and_then, unless, is_space, line_of, with_line, with_line_of, with_fields, line_reading, numbered_reading, lines_reading, then_lines, fault_at, may_stand, has_directory}
+use Rattle.hub_state.specs.Reading.{Above, Blobs, and_then, unless, is_space, line_of, with_line, with_line_of, with_fields, line_reading, numbered_reading, lines_reading, fault_at, may_stand, has_directory}
 use Rattle.std.proofs.lemmas.Bool.{and_from}
 use Rattle.hub_state.proofs.Lines.{in_line, in_field, all_ended, field_before, field_after, field_ends}
 use Rattle.hub_state.proofs.Fields.{IsUtf8-path, path_field-written, bytes_field-written, digest_field-written, IsUtf8-digits, IsUtf8-hex, hex-in_line, hex-in_field}
@@ -80,10 +80,10 @@ end_reads : (n : ℕ) (d : Above) → 2 ≤ n → d.ended ≡ false → may_stan
 end_reads n d h going place = rw (not_first n h, end_utf8, going, place) refl
 
 step : (n : ℕ) (d : Above) (y : Above) (e : Above) (l : List ℕ) (f : Above → Result Above Fault) (g : Above → Result Above StateFault) → 2 ≤ n
-    → and_then (line_reading d l) f ≡ Ok e → ((x : Above) → f x ≡ Ok e → g x ≡ Ok y) → then_lines (fault_at n (numbered_reading n d l)) g ≡ Ok y
+    → and_then (line_reading d l) f ≡ Ok e → ((x : Above) → f x ≡ Ok e → g x ≡ Ok y) → and_then (fault_at n (numbered_reading n d l)) g ≡ Ok y
 step n d y e l f g h says more =
     rw (not_first n h)
-    (elim (line_reading d l) as (λ r. and_then r f ≡ Ok e → then_lines (fault_at n r) g ≡ Ok y) [
+    (elim (line_reading d l) as (λ r. and_then r f ≡ Ok e → and_then (fault_at n r) g ≡ Ok y) [
       | Ok x ↦ λ k. more x k
       | Err w ↦ λ k. cc
     ] says)

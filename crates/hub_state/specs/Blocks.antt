@@ -9,20 +9,15 @@ use Rattle.hub_state.specs.declared.draft.Draft.{Draft}
 use Rattle.hub_state.specs.declared.reader.Prefix.{Prefix}
 use Rattle.hub_state.specs.declared.reader.TheConstants.{READ_TURNS}
 use Rattle.hub_state.specs.State.{State}
-use Rattle.hub_state.specs.Reading.{fault_at, state_reading}
+use Rattle.hub_state.specs.Reading.{and_then, fault_at, state_reading}
 use Rattle.hub_state.specs.Taking.{IsApart, numbered_taken, last_taken}
-
-abbrev pub then_taken : Result Draft StateFault → (Draft → Result State StateFault)
-    → Result State StateFault
-then_taken (Ok a) f = f a
-then_taken (Err e) f = Err e
 
 -- What the lines from the n-th on say, after what a draft has.
 abbrev pub lines_taken : ℕ → Draft → List (TextLine (List ℕ)) → Result State StateFault
 lines_taken n a [] = Err (record { line = 1; fault = Truncated })
 lines_taken n a (l ∷ []) = fault_at n (last_taken n a l.is_ended l.text)
 lines_taken n a (l ∷ k ∷ ls) =
-    then_taken (fault_at n (numbered_taken n a l.text)) (λ b. lines_taken (n + 1) b (k ∷ ls))
+    and_then (fault_at n (numbered_taken n a l.text)) (λ b. lines_taken (n + 1) b (k ∷ ls))
 
 abbrev pub bytes_taken : ℕ → Draft → List ℕ → Result State StateFault
 bytes_taken n a bytes = lines_taken n a (lines_of bytes)

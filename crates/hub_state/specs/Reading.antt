@@ -120,7 +120,8 @@ abbrev pub or_else : {T E : Type 0} → Fault → Result T E → Result T Fault
 or_else f (Ok x) = Ok x
 or_else f (Err e) = Err f
 
-abbrev pub and_then : {T U : Type 0} → Result T Fault → (T → Result U Fault) → Result U Fault
+-- What is read next, or the fault of what was read first.
+abbrev pub and_then : {T U E : Type 0} → Result T E → (T → Result U E) → Result U E
 and_then (Ok x) f = f x
 and_then (Err e) f = Err e
 
@@ -301,11 +302,6 @@ abbrev pub fault_at : {T : Type 0} → ℕ → Result T Fault → Result T State
 fault_at n (Ok x) = Ok x
 fault_at n (Err f) = Err (record { line = n; fault = f })
 
-abbrev pub then_lines : Result Above StateFault → (Above → Result Above StateFault)
-    → Result Above StateFault
-then_lines (Ok d) f = f d
-then_lines (Err e) f = Err e
-
 -- The lines from the n-th on. A text that is cut off is reported at its last line, whatever that
 -- line is.
 abbrev pub lines_reading : ℕ → Above → List (TextLine (List ℕ)) → Result Above StateFault
@@ -313,7 +309,7 @@ lines_reading n d [] = Err (record { line = 1; fault = Truncated })
 lines_reading n d (l ∷ []) =
     fault_at n (unless (is_truncated l.is_ended d l.text) Truncated (numbered_reading n d l.text))
 lines_reading n d (l ∷ k ∷ ls) =
-    then_lines (fault_at n (numbered_reading n d l.text)) (λ e. lines_reading (n + 1) e (k ∷ ls))
+    and_then (fault_at n (numbered_reading n d l.text)) (λ e. lines_reading (n + 1) e (k ∷ ls))
 
 abbrev pub above_end : List ℕ → Result Above StateFault
 above_end bytes = lines_reading 1 nothing_above (lines_of bytes)

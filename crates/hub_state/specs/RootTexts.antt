@@ -8,7 +8,7 @@ use Rattle.std.proofs.lemmas.List.Folds.{list_all-append}
 use lib.Utf8.{scalar}
 use Rattle.hub_path.specs.Path.{Name, Path, is_name, is_place, text_of, name_cmp, path_cmp, path_eq, path_of}
 use Rattle.hub_path.specs.NameFacts.{name_parts}
-use Rattle.std.proofs.lemmas.Bool.{and_parts, and_from, false≢true}
+use Rattle.std.proofs.lemmas.Bool.{and_parts, and_from, or_left, or_right, false≢true}
 use Rattle.hub_state.specs.State.{root_chars, root_text, State, Text, is_before, pair_of, with_replica, with_archive, in_order, is_pair, replica_at, archive_at}
 use Rattle.std.specs.FinMap as fin
 use Rattle.std.specs.Ordering.{eq_by_cmp, ordering_reverse, is_eq, ordering_then}
@@ -97,14 +97,6 @@ same_tests true b f g = sym (f refl)
 same_tests false true f g = g refl
 same_tests false false f g = refl
 
-or_first : (a b : Bool) → a ≡ true → (a || b) ≡ true
-or_first true b h = refl
-or_first false b h = cc
-
-or_second : (a b : Bool) → b ≡ true → (a || b) ≡ true
-or_second true b h = refl
-or_second false b h = h
-
 either : {P : Type 0} (a b : Bool) → (a || b) ≡ true → (a ≡ true → P) → (b ≡ true → P) → P
 either true b h f g = f refl
 either false b h f g = g h
@@ -161,12 +153,12 @@ turn_and a b h = let w = and_parts a b h in and_from b a w.1 w.0
 pair_parts : (t u a b : Text) (x y : Bool)
     → eq_by_cmp path_cmp (cond x (t ∷ u ∷ []) (u ∷ t ∷ [])) (cond y (a ∷ b ∷ []) (b ∷ a ∷ []))
     ≡ true → are_texts a b t u ≡ true
-pair_parts t u a b true true e = or_first _ _ (sym (is_eq-pair t u a b) ∙ e)
-pair_parts t u a b true false e = or_second _ _ (sym (is_eq-pair t u b a) ∙ e)
+pair_parts t u a b true true e = or_left _ _ (sym (is_eq-pair t u a b) ∙ e)
+pair_parts t u a b true false e = or_right _ _ (sym (is_eq-pair t u b a) ∙ e)
 pair_parts t u a b false true e =
-    or_second _ _ (turn_and (eq_texts u a) (eq_texts t b) (sym (is_eq-pair u t a b) ∙ e))
+    or_right _ _ (turn_and (eq_texts u a) (eq_texts t b) (sym (is_eq-pair u t a b) ∙ e))
 pair_parts t u a b false false e =
-    or_first _ _ (turn_and (eq_texts u b) (eq_texts t a) (sym (is_eq-pair u t b a) ∙ e))
+    or_left _ _ (turn_and (eq_texts u b) (eq_texts t a) (sym (is_eq-pair u t b a) ∙ e))
 
 same_two : (t u a b : Text) → (eq_texts t a && eq_texts u b) ≡ true → in_order t u ≡ in_order a b
 same_two t u a b h =

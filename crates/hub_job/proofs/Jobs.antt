@@ -144,8 +144,3 @@ pub ends_as : (P : Parts) (O : Archive) (log : List Logged) (p : Phase) (n : Nex
 ends_as P O log (phase.Looking l) n e = ap end_by (sym e)
 ends_as P O log (phase.Making s) n e = ap end_by (sym e)
 ends_as P O log phase.Stopped n e = ap end_by (sym e)
-
-pub finished_by : (n : Next) → end_by n ≡ end.Finished → n ≡ Finished
-finished_by (Ask side op) e = cc
-finished_by Finished e = refl
-finished_by Stopped e = cc

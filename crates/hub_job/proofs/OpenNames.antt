@@ -1,11 +1,10 @@
 -- The names of a path's children where a profile ignores nothing: it reaches them all.
 use Rattle.std.proofs.Common.{◌≡◌, Bool, true, false, cond, not, ◌&&◌, ◌||◌, List, [], ◌∷◌, ◌++◌, map, Option, Some, None, refl, ap, sym, ◌∙◌}
-use Rattle.std.specs.Prelude.{filter, unwrap_or, is_some, ◌==◌, length}
+use Rattle.std.specs.Prelude.{filter, unwrap_or, is_some}
 use Rattle.std.specs.List.{list_all, list_any}
 use Rattle.std.specs.FinMap as fin
 use Rattle.std.proofs.lemmas.Bool.{false≢true, and_parts}
 use Rattle.std.proofs.Math.Bool.{or-true}
-use Rattle.hub_tree.specs.Laws.Children.{one_item}
 use Rattle.hub_path.specs.Path.{Name, Path, is_over, is_path, last_name}
 use Rattle.hub_path.specs.Laws.{is_over-append, is_over-transitive}
 use Rattle.hub_profile.specs.Parts.{Parts}
@@ -15,10 +14,6 @@ use Rattle.hub_tree.specs.Tree.{Replica, HasPaths, contents_at, is_absent, is_ch
 use Rattle.hub_tree.specs.declared.contents.Contents.{Contents}
 use Rattle.hub_tree.specs.declared.contents.Contents.TheVariants as contents
 use Rattle.hub_job.proofs.Performs.{child_where, some_path}
-
-pub no_items : {A : Type 0} (xs : List A) → (length xs == 0) ≡ true → xs ≡ []
-no_items [] h = refl
-no_items (x ∷ xs) h = absurd (false≢true (sym (one_item x xs) ∙ h))
 
 -- The children of a path are paths.
 present : (o : Option Contents) → not (is_absent (unwrap_or o contents.Absent)) ≡ true → is_some o ≡ true

@@ -1,12 +1,12 @@
 -- The plan of a log is that of the picture which its Looks give.
-use Rattle.std.proofs.Common.{◌≡◌, Bool, true, false, not, ◌&&◌, ◌||◌, List, [], ◌∷◌, length, refl, ap, sym, ◌∙◌, subst, arith, append-nil}
+use Rattle.std.proofs.Common.{◌≡◌, true, false, not, ◌&&◌, List, [], ◌∷◌, length, refl, ap, sym, ◌∙◌, subst, arith, append-nil}
 use Rattle.std.specs.Prelude.{ℕ, zero, suc, ◌-◌, slice_get, IsTrue}
 use Rattle.std.specs.List.{list_any, AllByRecursion}
 use Rattle.std.specs.List.Sorted.{IsStrictlySortedBy}
 use Rattle.std.specs.FinMap.Entries.{is_sorted, below_all}
 use Rattle.std.specs.Ordering.{is_lt}
 use Rattle.std.specs.declared.cmp.Ordering.TheVariants.{Less}
-use Rattle.std.proofs.lemmas.Bool.{and_parts}
+use Rattle.std.proofs.lemmas.Bool.{and_parts, or_parts}
 use Rattle.std.proofs.lemmas.List.Sums.{sum_by-cons}
 use Rattle.hub_job.specs.Laws.Making.{weight}
 use Rattle.hub_path.specs.Path.{Path, path_cmp}
@@ -45,10 +45,6 @@ sides_same log Right = refl
 pub shown_is : (P : Parts) (O : Archive) (log : List Logged) → view_by P O (of_side (sights log Left) (sights log Right)) ≡ view_in P O log
 shown_is P O log = ap (view_by P O) (λ i k. sides_same log k i)
 
-either_false : (a b : Bool) → (a || b) ≡ false → (a ≡ false) × (b ≡ false)
-either_false true b h = cc
-either_false false b h = (refl, h)
-
 pub no_steps : (log : List Logged) → are_looks log ≡ true → steps_made log ≡ 0
 no_steps [] h = refl
 no_steps (e ∷ log) h =
@@ -59,8 +55,8 @@ no_steps (e ∷ log) h =
 
 refused_at : (log : List Logged) (i : ℕ) → list_any (λ e. is_refused e.step.answer) log ≡ false → some_passes (λ e. is_refused e.step.answer) (slice_get log i) ≡ false
 refused_at [] i h = refl
-refused_at (e ∷ log) zero h = (either_false (is_refused e.step.answer) _ h).0
-refused_at (e ∷ log) (suc i) h = refused_at log i (either_false (is_refused e.step.answer) _ h).1
+refused_at (e ∷ log) zero h = (or_parts (is_refused e.step.answer) _ h).0
+refused_at (e ∷ log) (suc i) h = refused_at log i (or_parts (is_refused e.step.answer) _ h).1
 
 pub steps_follow : (P : Parts) (O : Archive) (log : List Logged) (ss : List Step) → are_looks log ≡ true → IsWaiting P log Left [] → IsWaiting P log Right []
     → ss ≡ steps (view_in P O log) → AreSteps P O log (record { steps = ss; looks = length log })

@@ -1,7 +1,9 @@
 -- What one more entry adds to a log, and what the logs are before the first turns.
-use Rattle.std.proofs.Common.{◌≡◌, true, false, cond, List, [], ◌∷◌, ◌++◌, length, map, Some, refl, ap, sym, ◌∙◌, append-nil, append_assoc, arith, ◌<◌}
+use Rattle.std.proofs.Common.{◌≡◌, Bool, true, false, cond, List, [], ◌∷◌, ◌++◌, length, map, Some, refl, ap, sym, ◌∙◌, append-nil, append_assoc, arith, ◌<◌}
 use Rattle.std.specs.Prelude.{ℕ, zero, suc, slice_get, filter, slice_index_or}
 use Rattle.std.specs.List.{flat_map}
+use Rattle.std.proofs.lemmas.Grind.{flat_map-append}
+use Rattle.std.proofs.lemmas.List.Elements.{filter-append}
 use Rattle.hub_path.specs.declared.side.Side.{Side}
 use Rattle.hub_profile.specs.Parts.{Parts}
 use Rattle.hub_tree.specs.Tree.{Archive}
@@ -12,41 +14,34 @@ use Rattle.hub_job.specs.Machine.{Fits}
 use Rattle.hub_job.specs.Job.{told, sights, next}
 use Rattle.hub_job.specs.Run.{Runs}
 
--- What one more entry adds to what a side has seen.
+-- What one more entry adds to what a side has seen: what it tells, if it is of that side.
+sights_more : (log : List Logged) (e : Logged) (k : Side)
+    → sights (log ++ e ∷ []) k ≡ sights log k ++ sights (e ∷ []) k
+sights_more log e k =
+    ap (flat_map (λ (e : Logged). told e.step.op e.step.answer))
+    (filter-append (λ (e : Logged). side_eq e.side k) log (e ∷ []))
+    ∙ flat_map-append (λ (e : Logged). told e.step.op e.step.answer)
+    (filter (λ (e : Logged). side_eq e.side k) log)
+    (filter (λ (e : Logged). side_eq e.side k) (e ∷ []))
+
+sights_one : (e : Logged) (k : Side) (b : Bool) → side_eq e.side k ≡ b
+    → sights (e ∷ []) k ≡ flat_map (λ (e : Logged). told e.step.op e.step.answer)
+    (cond b (e ∷ []) [])
+sights_one e k b h =
+    ap (λ b. flat_map (λ (e : Logged). told e.step.op e.step.answer) (cond b (e ∷ []) [])) h
+
 pub sights_own : (log : List Logged) (e : Logged) (k : Side) → side_eq e.side k ≡ true
     → sights (log ++ e ∷ []) k ≡ sights log k ++ told e.step.op e.step.answer
-sights_own [] e k h =
-    ap (λ b. flat_map (λ (e : Logged). told e.step.op e.step.answer) (cond b (e ∷ []) [])) h
-    ∙ append-nil (told e.step.op e.step.answer)
-sights_own (d ∷ log) e k h =
-    elim (side_eq d.side k) as
-    (λ b. flat_map (λ (e : Logged). told e.step.op e.step.answer)
-    (cond b (d ∷ filter (λ (e : Logged). side_eq e.side k) (log ++ e ∷ []))
-    (filter (λ (e : Logged). side_eq e.side k) (log ++ e ∷ [])))
-    ≡ flat_map (λ (e : Logged). told e.step.op e.step.answer)
-    (cond b (d ∷ filter (λ (e : Logged). side_eq e.side k) log)
-    (filter (λ (e : Logged). side_eq e.side k) log)) ++ told e.step.op e.step.answer) [
-      | true ↦ ap (λ ss. told d.step.op d.step.answer ++ ss) (sights_own log e k h)
-          ∙ sym (append_assoc (told d.step.op d.step.answer) (sights log k)
-          (told e.step.op e.step.answer))
-      | false ↦ sights_own log e k h
-    ]
+sights_own log e k h =
+    sights_more log e k
+    ∙ ap (λ ss. sights log k ++ ss)
+    (sights_one e k true h ∙ append-nil (told e.step.op e.step.answer))
 
 pub sights_other : (log : List Logged) (e : Logged) (k : Side) → side_eq e.side k ≡ false
     → sights (log ++ e ∷ []) k ≡ sights log k
-sights_other [] e k h =
-    ap (λ b. flat_map (λ (e : Logged). told e.step.op e.step.answer) (cond b (e ∷ []) [])) h
-sights_other (d ∷ log) e k h =
-    elim (side_eq d.side k) as
-    (λ b. flat_map (λ (e : Logged). told e.step.op e.step.answer)
-    (cond b (d ∷ filter (λ (e : Logged). side_eq e.side k) (log ++ e ∷ []))
-    (filter (λ (e : Logged). side_eq e.side k) (log ++ e ∷ [])))
-    ≡ flat_map (λ (e : Logged). told e.step.op e.step.answer)
-    (cond b (d ∷ filter (λ (e : Logged). side_eq e.side k) log)
-    (filter (λ (e : Logged). side_eq e.side k) log))) [
-      | true ↦ ap (λ ss. told d.step.op d.step.answer ++ ss) (sights_other log e k h)
-      | false ↦ sights_other log e k h
-    ]
+sights_other log e k h =
+    sights_more log e k
+    ∙ (ap (λ ss. sights log k ++ ss) (sights_one e k false h) ∙ append-nil (sights log k))
 
 -- An entry that isn't of a Look tells nothing.
 pub sights-push : (log : List Logged) (e : Logged) (k : Side) → told e.step.op e.step.answer ≡ []

@@ -29,7 +29,8 @@ use Rattle.hub_job.specs.Laws.Making.{Ready, turn_is, none_more}
 no_none : {x : Path} → Some x ≡ None → ⊥
 no_none e = cc
 
-one_less : (a b : ℕ) → suc a ≡ suc b → a ≡ b
+-- Of two equal numbers of turns, one less.
+pub one_less : (a b : ℕ) → suc a ≡ suc b → a ≡ b
 one_less a b e = omega (arith, e)
 
 -- What is found passes, and is there; where nothing is found, nothing passes.

@@ -7,7 +7,7 @@ use Rattle.std.proofs.lemmas.Bool.{false≢true}
 use Rattle.std.proofs.lemmas.List.Folds.{list_any-append}
 use Rattle.std.proofs.lemmas.List.Sums.{sum_by_push}
 use Rattle.std.proofs.lemmas.Grind.{flat_map-append}
-use Rattle.std.proofs.lemmas.Option.{slice_get_past}
+use Rattle.std.proofs.lemmas.Option.{same_Some, slice_get_past}
 use Rattle.hub_path.specs.Path.{Path, path_eq}
 use Rattle.hub_path.specs.declared.side.Side.{Side}
 use Rattle.hub_path.specs.declared.side.Side.TheVariants.{Left, Right}
@@ -38,7 +38,7 @@ use Rattle.hub_job.specs.declared.op.Next.TheVariants.{Ask, Finished, Stopped}
 use Rattle.hub_job.specs.declared.answer.Answer.TheVariants.{Bytes}
 use Rattle.hub_job.specs.declared.log.Logged.{Logged}
 use Rattle.hub_job.specs.Machine.{answer, after, fetched, done_unless, changed_unless}
-use Rattle.hub_job.specs.Job.{told, sights, view_in, missing, is_refused, is_look, bytes_or, fetched_last, Step, steps_of, steps, op_of, steps_made, ask, step_or_end, look_or, next}
+use Rattle.hub_job.specs.Job.{told, sights, view_in, missing, is_refused, is_look, bytes_or, fetched_last, Step, set_step, steps_of, steps, contents_with, op_of, steps_made, ask, step_or_end, look_or, next}
 use Rattle.hub_job.specs.Laws.Logs.{sights-push}
 use Rattle.hub_job.specs.Run.{Pair, on_side, logged, act_on, pair_run}
 
@@ -131,14 +131,6 @@ nothing_of contents.Directory e = cc
 nothing_of contents.Absent e = refl
 
 -- Sets.
-replica_or : Replica → Option Replica → Replica
-replica_or m None = m
-replica_or m (Some k) = k
-
-pub some_replica : (m k : Replica) → Some m ≡ Some k → m ≡ k
-unfolding replica_or
-some_replica m k e = ap (replica_or m) e
-
 by_fault : (o : Option SetFault) (x : Option Replica) (k : Replica)
     → (if is_some o then None else x) ≡ Some k → o ≡ None
 by_fault None x k e = refl
@@ -215,7 +207,7 @@ module _ (P : Parts) (facts : IsProfile P) (A B : Replica) (O : Archive) (left :
       ap (each (s k)) list ∙ each-append (s k) (paths_on k done) (c.path ∷ paths_on k todo) in
       let v = sets_begin (R k) w.0 (each (s k) (paths_on k done))
       ((c.path, s k c.path) ∷ each (s k) (paths_on k todo)) (ap (sets (R k)) (sym cut) ∙ w.1) in
-      let same : v.0 ≡ m = some_replica v.0 m (sym v.1 ∙ e) in
+      let same : v.0 ≡ m = same_Some v.0 m (sym v.1 ∙ e) in
       ap (λ x. set_fault x c.path (s k c.path)) (sym same)
       ∙ by_fault (set_fault v.0 c.path (s k c.path))
       (sets (with_contents v.0 c.path (s k c.path)) (each (s k) (paths_on k todo))) w.0 v.2
@@ -337,17 +329,20 @@ module _ (P : Parts) (facts : IsProfile P) (A B : Replica) (O : Archive) (left :
         × ((n : ℕ) → pair_run P O j (m + n) w ≡ pair_run P O j n v)
         × (m ≡ length (steps_of c.side c.path c.mark)) × Made (done ++ c ∷ []) v
 
-    plain : (done todo : List Change) (c : Change) (w : Pair) (x : Step) (m : Mark) → c.mark ≡ m
-        → plan V ≡ done ++ c ∷ todo → Made done w → steps_of c.side c.path m ≡ x ∷ []
-        → Ask x.side (op_of (fetched_last [] w.log) x) ≡ Ask c.side (Set c.path (s c.side c.path))
-        → Goes_on done c w
-    plain done todo c w x m e whole made one asks =
+    -- A change to something that is no file: a Set.
+    plain : (done todo : List Change) (c : Change) (w : Pair) (m : Mark) → c.mark ≡ m
+        → plan V ≡ done ++ c ∷ todo → Made done w
+        → steps_of c.side c.path m ≡ set_step c.side c.path m ∷ []
+        → contents_with (fetched_last [] w.log) m ≡ s c.side c.path → Goes_on done c w
+    plain done todo c w m e whole made one sets =
+        let x = set_step c.side c.path m in
         let fault = free done todo c (on_side w c.side) whole (made.1 c.side) in
         let v = act_on P j w (Ask c.side (Set c.path (s c.side c.path))) in
         let rest : steps V ≡ flat_steps done ++ x ∷ flat_steps todo =
         steps_all done todo c m e whole
         ∙ ap (λ xs. flat_steps done ++ (xs ++ flat_steps todo)) one in
-        let n = next_ask (flat_steps done) x (flat_steps todo) w.log rest made.0 ∙ asks in (
+        let n = next_ask (flat_steps done) x (flat_steps todo) w.log rest made.0
+        ∙ ap (λ x. Ask c.side (Set c.path x)) sets in (
           1,
           v,
           λ k. ap (λ i. pair_run P O j i w) (one_more k) ∙ turn_is P O j k w _ n,
@@ -373,12 +368,7 @@ module _ (P : Parts) (facts : IsProfile P) (A B : Replica) (O : Archive) (left :
           fetches = true;
           mark = mark.File d;
         } in
-        let second : Step = record {
-          side = k;
-          path = c.path;
-          fetches = false;
-          mark = mark.File d;
-        } in
+        let second = set_step k c.path (mark.File d) in
         let all : steps V ≡ flat_steps done ++ first ∷ second ∷ flat_steps todo =
         steps_all done todo c (mark.File d) e whole in
         let n = next_ask (flat_steps done) first (second ∷ flat_steps todo) w.log all made.0 in
@@ -419,23 +409,11 @@ module _ (P : Parts) (facts : IsProfile P) (A B : Replica) (O : Archive) (left :
         let file = file_of (s c.side c.path) d (sym e ∙ marked done todo c whole) in
         filed done todo c w d file.0 e whole made file.1
     by_mark done todo c w mark.Directory e whole made =
-        plain done todo c w (record {
-          side = c.side;
-          path = c.path;
-          fetches = false;
-          mark = mark.Directory;
-        }) mark.Directory e whole made refl
-        (ap (λ x. Ask c.side (Set c.path x))
-        (directory_of (s c.side c.path) (sym e ∙ marked done todo c whole)))
+        plain done todo c w mark.Directory e whole made refl
+        (directory_of (s c.side c.path) (sym e ∙ marked done todo c whole))
     by_mark done todo c w mark.Absent e whole made =
-        plain done todo c w (record {
-          side = c.side;
-          path = c.path;
-          fetches = false;
-          mark = mark.Absent;
-        }) mark.Absent e whole made refl
-        (ap (λ x. Ask c.side (Set c.path x))
-        (nothing_of (s c.side c.path) (sym e ∙ marked done todo c whole)))
+        plain done todo c w mark.Absent e whole made refl
+        (nothing_of (s c.side c.path) (sym e ∙ marked done todo c whole))
 
     -- All changes that are left.
     pub makes : (todo done : List Change) (w : Pair) → plan V ≡ done ++ todo → Made done w

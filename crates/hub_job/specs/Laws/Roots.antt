@@ -2,7 +2,7 @@
 use Rattle.std.proofs.Common.{◌≡◌, Bool, true, false, ◌||◌, List, [], ◌∷◌, length, Some, refl, ap, sym, ◌∙◌, subst, not, ◌&&◌, arith}
 use Rattle.std.specs.Prelude.{◌==◌, ℕ, IsTrue, slice_get}
 use Rattle.std.specs.List.{list_any, list_all}
-use Rattle.std.proofs.lemmas.Bool.{false≢true, and_parts, not-true, false_from_ne_true, or_parts}
+use Rattle.std.proofs.lemmas.Bool.{false≢true, and_parts, not-true, false_from_ne_true, or_parts, or_right}
 use Rattle.hub_reconcile.specs.Laws.Views.{same_paths}
 use Rattle.hub_path.specs.Path.{Path, path_eq, is_over, is_place, none_over}
 use Rattle.hub_path.specs.declared.side.Side.{Side}
@@ -11,7 +11,7 @@ use Rattle.hub_profile.specs.Parts.{Parts, at_side, IsProfile}
 use Rattle.hub_reach.specs.Reach.{has_root}
 use Rattle.hub_job.specs.Laws.Untouched.{path_itself}
 use Rattle.std.proofs.lemmas.Bool.Decides.{nat_tests}
-use Rattle.hub_path.specs.Laws.{is_over-reflexive}
+use Rattle.hub_path.specs.Laws.{is_over-reflexive, path_eq-turned}
 use Rattle.hub_profile.specs.Facts.{are_roots}
 use Rattle.hub_reconcile.specs.Sync.{root_or_top}
 use Rattle.hub_job.specs.Run.{root_at}
@@ -50,14 +50,10 @@ root_first : (roots : List Path) (r : Path) → slice_get roots 0 ≡ Some r
 root_first [] r e = cc
 root_first (a ∷ rs) r e = ap (λ b. b || list_any (λ own. path_eq own r) rs) (path_itself a r e)
 
-or_true : (b : Bool) {c : Bool} → c ≡ true → (b || c) ≡ true
-or_true true e = refl
-or_true false e = e
-
 root_second : (roots : List Path) (r : Path) → slice_get roots 1 ≡ Some r
     → list_any (λ own. path_eq own r) roots ≡ true
 root_second [] r e = cc
-root_second (a ∷ rs) r e = or_true (path_eq a r) (root_first rs r e)
+root_second (a ∷ rs) r e = or_right (path_eq a r) _ (root_first rs r e)
 
 pub has_its_root : (P : Parts) (side : Side) (r : Path) → at_side P.roots side ≡ Some r
     → IsTrue (has_root P r)
@@ -87,11 +83,7 @@ module _ (P : Parts) (facts : IsProfile P) (j : ℕ) where
       (same_paths (root_at P Left) (root_at P Right) e) (is_over-reflexive (root_at P Left))))
 
   pub right_not_left : path_eq (root_at P Right) (root_at P Left) ≡ false
-  right_not_left =
-      false_from_ne_true _
-      (λ e. false≢true (sym roots_over
-      ∙ subst (λ r. is_over r (root_at P Right) ≡ true)
-      (same_paths (root_at P Right) (root_at P Left) e) (is_over-reflexive (root_at P Right))))
+  right_not_left = path_eq-turned (root_at P Right) (root_at P Left) ∙ left_not_right
 
 -- A profile has its roots.
 pub has_own : (P : Parts) → IsProfile P → (side : Side) (r : Path) → r ≡ root_at P side

@@ -1,11 +1,9 @@
 -- What one job of a safe set writes, the others depend on nowhere.
-use Rattle.std.proofs.Common.{◌≡◌, ◌<◌, inl, inr, true, false, cond, not, ◌&&◌, ◌||◌, length, Option, Some, None, refl, ap, sym, ◌∙◌}
+use Rattle.std.proofs.Common.{◌≡◌, ◌<◌, inl, inr, true, false, cond, not, ◌&&◌, ◌||◌, length, Option, Some, None, refl, ap, ◌∙◌}
 use Rattle.std.specs.Prelude.{◌==◌, if◌then◌else◌, IsTrue}
-use Rattle.std.specs.Cmp.{tied_itself}
-use Rattle.std.specs.Ordering.{is_eq}
 use Rattle.std.proofs.lemmas.Bool.{and_parts}
-use Rattle.hub_tree.specs.Laws.Children.{path_eq-cmp}
-use Rattle.hub_path.specs.Laws.{is_over-reflexive, is_over-parent, path_cmp-total}
+use Rattle.std.proofs.lemmas.Option.{same_Some}
+use Rattle.hub_path.specs.Laws.{is_over-reflexive, is_over-parent, path_eq-decides}
 use Rattle.hub_path.specs.Path.{Path, path_eq, is_over, parent}
 use Rattle.hub_profile.specs.Parts.{Parts}
 use Rattle.hub_reach.specs.Reach.{reach, may_at, write, has_root, PassesThrough}
@@ -23,19 +21,8 @@ SetsOne =
     (m : Replica) (p q : Path) (c : Contents) → 0 < length p
     → contents_at (with_contents m p c) q ≡ (if path_eq q p then c else contents_at m q)
 
--- paths that compare as equal are equal
-inner_or : Path → Option Path → Path
-inner_or p None = p
-inner_or p (Some q) = q
-
-some_inner : {p q : Path} → Some p ≡ Some q → p ≡ q
-unfolding inner_or
-some_inner {p} e = ap (inner_or p) e
-
 pub path_itself : (p q : Path) → Some p ≡ Some q → path_eq p q ≡ true
-path_itself p q e =
-    ap (path_eq p) (sym (some_inner {p = p} {q = q} e))
-    ∙ (path_eq-cmp p p ∙ ap is_eq (tied_itself path_cmp-total p))
+path_itself p q e = (path_eq-decides p q).1 (same_Some p q e)
 
 -- reach and write
 pub write-reaches : (P : Parts) (r p : Path) → IsTrue (write P r p) → IsTrue (reach P p)

@@ -1,8 +1,10 @@
 -- The texts of the front of a path, as they are read name by name, each name with a `/` behind it.
-use Rattle.std.proofs.Common.{◌≡◌, ℕ, suc, zero, ◌+◌, ◌<◌, ◌≤◌, Bool, true, false, ◌||◌, List, [], ◌∷◌, ◌++◌, length, take, drop, map, Some, refl, sym, ap, ◌∙◌, arith, add-one, append_assoc}
+use Rattle.std.proofs.Common.{◌≡◌, ℕ, suc, zero, ◌+◌, ◌<◌, ◌≤◌, Bool, true, false, ◌||◌, List, [], ◌∷◌, ◌++◌, length, take, drop, Some, refl, sym, ap, ◌∙◌, arith, add-one, append_assoc}
 use Rattle.std.specs.Prelude.{slice_get, IsTrue, not, ◌&&◌, ◌==◌, chars, encode_utf8_all}
 use Rattle.std.specs.List.{list_any}
 use Rattle.hub_path.specs.Path.{Name, Path, text_of, last_name, prefixes, is_name}
+use Rattle.hub_path.specs.Laws.{last_name-push}
+use Rattle.hub_path.specs.TextLaws.{prefixes-push, any-prefixes}
 use Rattle.hub_glob.specs.declared.piece.Part.{Part}
 use Rattle.std.proofs.lemmas.List.{take-take, take-append-drop, length-take}
 use Rattle.std.proofs.lemmas.Bool.Decides.{nat_tests}
@@ -10,7 +12,7 @@ use Rattle.hub_glob.specs.declared.path_spec.Kind.{Kind}
 use Rattle.hub_glob.specs.Specification.{Specification}
 use Rattle.hub_glob.specs.Glob.{glob, matches, by_kind}
 use Rattle.hub_glob.specs.Sweep.{Standing, at_start, pushed, pushed_all, is_matched}
-use Rattle.hub_text.specs.TestLaws.{any-append, any-map}
+use Rattle.hub_text.specs.TestLaws.{any-append}
 use Rattle.std.proofs.Math.Bool.{or-false}
 use Rattle.hub_path.specs.NameFacts.{name_chars}
 use Rattle.hub_glob.proofs.Sweeps.{is_matched_text}
@@ -27,20 +29,6 @@ text_of-push : (p : Path) (n : Name) → text_of (p ++ n ∷ []) ≡ slashed p +
 text_of-push [] n = refl
 text_of-push (m ∷ []) n = sym (append_assoc m (47 ∷ []) n)
 text_of-push (m ∷ k ∷ p) n = ap (λ t. m ++ 47 ∷ t) (text_of-push (k ∷ p) n) ∙ sym (append_assoc m (47 ∷ slashed (k ∷ p)) n)
-
-prefixes-push : (p : Path) (n : Name) → prefixes (p ++ n ∷ []) ≡ prefixes p ++ (p ++ n ∷ []) ∷ []
-prefixes-push [] n = refl
-prefixes-push (m ∷ p) n =
-    ap (λ qs. (m ∷ []) ∷ map (λ q. m ∷ q) qs) (prefixes-push p n) ∙ ap (λ qs. (m ∷ []) ∷ qs) (map_append (prefixes p) (p ++ n ∷ []))
-  where
-    map_append : (qs : List Path) (q : Path) → map (λ r. m ∷ r) (qs ++ q ∷ []) ≡ map (λ r. m ∷ r) qs ++ (m ∷ q) ∷ []
-    map_append [] q = refl
-    map_append (r ∷ qs) q = ap (λ rs. (m ∷ r) ∷ rs) (map_append qs q)
-
-last_name-push : (p : Path) (n : Name) → last_name (p ++ n ∷ []) ≡ n
-last_name-push [] n = refl
-last_name-push (m ∷ []) n = refl
-last_name-push (m ∷ k ∷ p) n = last_name-push (k ∷ p) n
 
 take-suc : (p : Path) (i : ℕ) (n : Name) → slice_get p i ≡ Some n → take (suc i) p ≡ take i p ++ n ∷ []
 take-suc [] i n h = cc
@@ -120,16 +108,6 @@ pub above_after : (ps : List Part) (p : Path) (i : ℕ) (n : Name) (b : Bool) �
     → b ≡ glob ps true (text_of (take (i + 1) p)) → any_above ps (take (i + 1) p) ≡ b
 above_after ps p i n b h none matched =
     above_more ps p i n h ∙ ap (λ a. a || glob ps true (text_of (take (i + 1) p))) none ∙ sym matched
-
-any-prefixes : (f : Path → Bool) (p q : Path) → list_any f (prefixes p) ≡ true → list_any f (prefixes (p ++ q)) ≡ true
-any-prefixes f [] q h = cc
-any-prefixes f (n ∷ p) q h =
-    first_or (f (n ∷ [])) (list_any f (map (λ r. n ∷ r) (prefixes p))) (list_any f (map (λ r. n ∷ r) (prefixes (p ++ q)))) h
-    (λ e. sym (any-map f (λ r. n ∷ r) (prefixes (p ++ q))) ∙ any-prefixes (λ r. f (n ∷ r)) p q (any-map f (λ r. n ∷ r) (prefixes p) ∙ e))
-  where
-    first_or : (a b c : Bool) → (a || b) ≡ true → (b ≡ true → c ≡ true) → (a || c) ≡ true
-    first_or true b c e go = refl
-    first_or false b c e go = go e
 
 pub above_within : (ps : List Part) (p : Path) (k len : ℕ) → k ≤ len → any_above ps (take k p) ≡ true → any_above ps (take len p) ≡ true
 above_within ps p k len l h =

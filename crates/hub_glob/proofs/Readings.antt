@@ -1,7 +1,6 @@
 -- The steps of reading a specification.
-use Rattle.std.proofs.Common.{◌≡◌, ℕ, suc, zero, ◌+◌, ◌-◌, ◌*◌, ◌<◌, ◌≤◌, min, Bool, true, false, ◌&&◌, ◌==◌, List, [], ◌∷◌, ◌++◌, length, take, drop, get_or, Option, Some, None, Result, Ok, Err, refl, sym, ap, ◌∙◌, arith, add-one, append_assoc, append-nil, ⊎_elim}
+use Rattle.std.proofs.Common.{◌≡◌, ℕ, suc, zero, ◌+◌, ◌-◌, ◌*◌, ◌<◌, ◌≤◌, min, Bool, true, false, ◌&&◌, ◌==◌, List, [], ◌∷◌, ◌++◌, length, take, drop, get_or, Option, Some, None, Result, Ok, Err, refl, sym, ap, ◌∙◌, arith, append_assoc, append-nil, ⊎_elim}
 use Rattle.std.specs.Prelude.{codes, if◌then◌else◌}
-use Rattle.std.specs.List.{range_with_len}
 use Rattle.std.specs.Str.{IsUtf8, chars}
 use Rattle.std.proofs.lemmas.List.{drop_more, drop_all, take_all, length_push, length-drop}
 use Rattle.std.proofs.lemmas.Bool.{cases_lt}
@@ -73,10 +72,7 @@ one_counted ps i p a count more T e is m h t = (
       ∙ ap (λ q. min (count * choice_count (q ∷ drop (i + 1) ps)) 65) (sym is) ∙ ap (λ qs. min (count * choice_count qs) 65) (sym e) ∙ t,
 )
 
--- An item of a list in turn.
-pub next_item : {X : Type 0} (xs : List X) (i : ℕ) (x : X) → i < length xs → x ≡ get_or xs i x → drop i xs ≡ x ∷ drop (i + 1) xs
-next_item xs i x l e = drop_more xs i x l ∙ ap (λ y. y ∷ drop (i + 1) xs) (sym e)
-
+-- Tokens in turn.
 pub token_escaped : (ts : List Token) (c : ℕ) (old more whole : List ℕ) → is_special c ≡ true → old ≡ c ∷ more
     → ts ++ tokens true old ≡ tokens false whole → (ts ++ Escaped c ∷ []) ++ tokens false more ≡ tokens false whole
 token_escaped ts c old more whole s e h =
@@ -121,13 +117,6 @@ set_closed in_name set t ts old h e =
 -- What follows an item, as a range to the end.
 pub rest_all : {X : Type 0} (k : ℕ) (xs : List X) → take (length xs - k) (drop k xs) ≡ drop k xs
 rest_all k xs = take_all (length xs - k) (drop k xs) (omega (arith, length-drop k xs))
-
--- Ranges.
-pub range-push : (low k : ℕ) → range_with_len low (k + 1) ≡ range_with_len low k ++ (low + k) ∷ []
-range-push low k = ap (range_with_len low) (add-one k) ∙ go low k where
-  go : (a n : ℕ) → range_with_len a (suc n) ≡ range_with_len a n ++ (a + n) ∷ []
-  go a zero = ap (λ x. x ∷ []) (omega arith)
-  go a (suc n) = ap (λ xs. a ∷ xs) (go (a + 1) n ∙ ap (λ x. range_with_len (a + 1) n ++ x ∷ []) (omega arith))
 
 -- Members of a set.
 pub added : (r rest whole : Result (List ℕ) GlobFault) (old new : List ℕ) → Adds r old new → whole ≡ then_members (Ok old) (then_members r rest)

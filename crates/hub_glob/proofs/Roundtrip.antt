@@ -1,12 +1,11 @@
 -- A specification that a text gives is readable, and a readable one is read from its own text.
-use Rattle.std.proofs.Common.{◌≡◌, ℕ, suc, zero, ◌+◌, ◌≤◌, drop, Bool, true, false, not, ◌&&◌, ◌||◌, ◌==◌, List, [], ◌∷◌, ◌++◌, length, Result, Ok, Err, refl, sym, ap, ◌∙◌, arith, subst}
+use Rattle.std.proofs.Common.{◌≡◌, ℕ, ◌+◌, ◌≤◌, Bool, true, false, not, ◌&&◌, ◌||◌, ◌==◌, List, [], ◌∷◌, ◌++◌, length, Result, Ok, Err, refl, sym, ap, ◌∙◌, arith, subst}
 use Rattle.std.specs.Prelude.{nat_lt, if◌then◌else◌, IfOk}
 use Rattle.std.specs.List.{before_first, after_first, position_or_len}
 use Rattle.std.specs.Str.{all_scalars, chars, encode_utf8_all}
-use Rattle.std.proofs.lemmas.Bool.{and_parts, or_parts}
+use Rattle.std.proofs.lemmas.Bool.{or_parts}
 use Rattle.std.proofs.lemmas.Bool.Decides.{nat_tests}
 use Rattle.std.proofs.lemmas.Str.{chars-encodes}
-use lib.Utf8.{scalar}
 use Rattle.hub_glob.specs.declared.fault.GlobFault.TheVariants as fault
 use Rattle.hub_glob.specs.declared.path_spec.Kind.{Kind}
 use Rattle.hub_glob.specs.declared.path_spec.Kind.TheVariants as kind
@@ -15,12 +14,14 @@ use Rattle.hub_glob.specs.declared.piece.TheConstants.{PATTERN_CHARACTERS, PATTE
 use Rattle.hub_glob.specs.Specification.{Specification, choice_count, is_name_kind}
 use Rattle.hub_glob.specs.Readable.{IsReadable, is_barred_start}
 use Rattle.hub_text.specs.Blanks.{is_blank, skip_blanks}
+use Rattle.hub_text.specs.ListLaws.{some-item}
 use Rattle.hub_path.specs.Reading.{begins_with_slash}
 use Rattle.hub_glob.specs.Reading.{few_choices, parts_of, pattern_reading, kind_reading, spec_reading, ◌>>=◌}
 use Rattle.hub_glob.specs.Writing.{pattern_text, kind_word, spec_text}
+use Rattle.hub_glob.specs.Scalars.{skip-scalars, drop-scalars}
 use Rattle.hub_glob.proofs.Readings.{size_read}
 use Rattle.hub_glob.proofs.RoundtripFits.{special-not, not-special, either_ok, ok_then, reading_fits}
-use Rattle.hub_glob.proofs.RoundtripReads.{length-some, pattern_read}
+use Rattle.hub_glob.proofs.RoundtripReads.{pattern_read}
 use Rattle.hub_glob.proofs.RoundtripStarts.{IsOfOthers, reading_starts, text_starts}
 use Rattle.hub_glob.proofs.WrittenText.{spec_text-scalars}
 
@@ -42,20 +43,6 @@ skip_unblank (c ∷ cs) = go (is_blank c) refl (skip_unblank cs) where
   go : (b : Bool) → is_blank c ≡ b → IsUnblank (skip_blanks cs) → IsUnblank (if b then skip_blanks cs else c ∷ cs)
   go true h u = u
   go false h u = h
-
-either_scalars : (b : Bool) (xs ys : List ℕ) → all_scalars xs ≡ true → all_scalars ys ≡ true → all_scalars (if b then xs else ys) ≡ true
-either_scalars true xs ys h k = h
-either_scalars false xs ys h k = k
-
-skip-scalars : (cs : List ℕ) → all_scalars cs ≡ true → all_scalars (skip_blanks cs) ≡ true
-skip-scalars [] h = h
-skip-scalars (c ∷ cs) h =
-    either_scalars (is_blank c) (skip_blanks cs) (c ∷ cs) (skip-scalars cs (and_parts (scalar c) (all_scalars cs) h).1) h
-
-drop-scalars : (n : ℕ) (cs : List ℕ) → all_scalars cs ≡ true → all_scalars (drop n cs) ≡ true
-drop-scalars zero cs h = h
-drop-scalars (suc n) [] h = refl
-drop-scalars (suc n) (c ∷ cs) h = drop-scalars n cs (and_parts (scalar c) (all_scalars cs) h).1
 
 after-scalars : (cs : List ℕ) → all_scalars cs ≡ true → all_scalars (after_first is_blank cs) ≡ true
 after-scalars cs h = drop-scalars (position_or_len is_blank cs + 1) cs h
@@ -113,7 +100,7 @@ pattern_back k ps f l =
     let few : nat_lt PATTERN_CHOICES (choice_count ps) ≡ false = let m = f.few_choices in grind (arith, nat_tests) in
     ap (λ t. pattern_reading k (skip_blanks t)) e
     ∙ (λ i. pattern_reading k (if (no.0 i) then skip_blanks more else c ∷ more))
-    ∙ (λ i. if (length-some c more i) then Err fault.EmptyPattern
+    ∙ (λ i. if (some-item c more i) then Err fault.EmptyPattern
     else (if (short i) then Err fault.TooLong
     else (if (bare i) then Err fault.LeadingSlash else parts_of n (c ∷ more) >>= few_choices)))
     ∙ ap (λ t. parts_of n t >>= few_choices) (sym e)

@@ -4,7 +4,7 @@ use Rattle.std.specs.Prelude.{nat_lt, nat_le, if◌then◌else◌, IfOk}
 use Rattle.std.specs.List.{range_with_len, AllByRecursion}
 use Rattle.std.specs.Str.{all_scalars}
 use lib.Utf8.{scalar, low_scalar}
-use Rattle.std.proofs.lemmas.Bool.{eqb-true, and_parts, or_parts}
+use Rattle.std.proofs.lemmas.Bool.{eqb-true, and_parts, or_parts, false_from_ne_true}
 use Rattle.std.proofs.lemmas.Bool.Decides.{nat_tests}
 use Rattle.hub_glob.specs.declared.fault.GlobFault.{GlobFault}
 use Rattle.hub_glob.specs.declared.fault.GlobFault.TheVariants as fault
@@ -19,16 +19,12 @@ use Rattle.hub_glob.specs.declared.reading.Sign.TheVariants.{Means, Open, Comma,
 use Rattle.hub_glob.specs.Readable.{IsAsciiBeforeDash, AreReadableMembers, IsReadableSet, IsReadablePiece, IsReadablePart}
 use Rattle.hub_glob.specs.Reading.{is_special, tokens, is_plain, token_character, range_characters, member, range_member, then_members, members, is_negated, set_of, set_piece, set_sign, character_sign, signs, then_part, parts, parts_of, ◌>>=◌}
 
-pub no-true : (b : Bool) → (b ≡ true → ⊥) → b ≡ false
-no-true true f = absurd (f refl)
-no-true false f = refl
-
 -- Of two characters one alone is special.
 pub special-not : (c d : ℕ) → is_special c ≡ true → is_special d ≡ false → (c == d) ≡ false
-special-not c d h k = no-true (c == d) (λ e. let m : is_special c ≡ is_special d = ap is_special (eqb-true c d e) in cc)
+special-not c d h k = false_from_ne_true (c == d) (λ e. let m : is_special c ≡ is_special d = ap is_special (eqb-true c d e) in cc)
 
 pub not-special : (c d : ℕ) → is_special c ≡ false → is_special d ≡ true → (c == d) ≡ false
-not-special c d h k = no-true (c == d) (λ e. let m : is_special c ≡ is_special d = ap is_special (eqb-true c d e) in cc)
+not-special c d h k = false_from_ne_true (c == d) (λ e. let m : is_special c ≡ is_special d = ap is_special (eqb-true c d e) in cc)
 
 pub each_push : {X : Type 0} (P : X → Type 0) (xs : List X) (x : X) → AllByRecursion P xs → P x → AllByRecursion P (xs ++ x ∷ [])
 each_push P [] x h p = (p, tt)
@@ -127,7 +123,7 @@ next_other c d (e ∷ cs) h = λ k. cc
 range_fits : (k low high : ℕ) (ys : List ℕ) → low + k ≤ high + 1 → high ≤ 127 → (low ≤ 47 → high < 47) → AreReadableMembers ys → AreReadableMembers (range_with_len low k ++ ys)
 range_fits zero low high ys l m s f = f
 range_fits (suc k) low high ys l m s f = (
-  no-true (low == 47) (λ e. let same : low ≡ 47 = eqb-true low 47 e in omega arith),
+  false_from_ne_true (low == 47) (λ e. let same : low ≡ 47 = eqb-true low 47 e in omega arith),
   low_scalar low (omega arith),
   next_small low (range_with_len (low + 1) k ++ ys) (omega arith),
   range_fits k (low + 1) high ys (omega arith) m (λ h. s (omega arith)) f,

@@ -1,8 +1,9 @@
 -- A written pattern is read as what it was written from.
-use Rattle.std.proofs.Common.{◌≡◌, ℕ, ◌+◌, ◌-◌, Bool, true, false, ◌&&◌, ◌||◌, ◌==◌, List, [], ◌∷◌, ◌++◌, length, Some, None, Result, Ok, Err, refl, sym, ap, ◌∙◌, arith, append_assoc, append-nil}
+use Rattle.std.proofs.Common.{◌≡◌, ℕ, ◌+◌, ◌-◌, Bool, true, false, ◌&&◌, ◌||◌, ◌==◌, List, [], ◌∷◌, ◌++◌, Some, None, Result, Ok, Err, refl, sym, ap, ◌∙◌, arith, append_assoc, append-nil}
 use Rattle.std.specs.Prelude.{nat_lt, nat_le, if◌then◌else◌}
 use Rattle.std.specs.List.{range_with_len, AllByRecursion}
 use Rattle.std.proofs.lemmas.Bool.Decides.{nat_tests}
+use Rattle.hub_text.specs.ListLaws.{some-item}
 use Rattle.hub_glob.specs.declared.fault.GlobFault.{GlobFault}
 use Rattle.hub_glob.specs.declared.fault.GlobFault.TheVariants as fault
 use Rattle.hub_glob.specs.declared.piece.Piece.{Piece}
@@ -127,16 +128,13 @@ members_back (c ∷ d ∷ e ∷ cs) f = go (d == 45) refl (members_back (d ∷ e
       ap (is_plain 45) same ∙ token_is d 45 h)
       ∙ (λ i. then_members (one_back c f.0 i) (m i))
 
-pub length-some : {X : Type 0} (x : X) (xs : List X) → (length (x ∷ xs) == 0) ≡ false
-length-some x xs = grind (arith, nat_tests)
-
 set_back : (cs : List ℕ) → IsReadableSet cs → set_piece (member_tokens cs) true ≡ Ok (OneOf cs)
 set_back [] f = absurd f
 set_back (c ∷ cs) f =
     let first = first_token c cs in
     let plain : is_negated (member_tokens (c ∷ cs)) ≡ false = ap is_negated first.1 ∙ (λ i. token_is c 94 f.0 i || token_is c 33 f.1 i) in
     (λ i. if (plain i) then Err fault.NegatedSet else members_back (c ∷ cs) f.2 i >>= set_of true)
-    ∙ (λ i. if (length-some c cs i) then Err fault.BadRange else Ok (OneOf (c ∷ cs)))
+    ∙ (λ i. if (some-item c cs i) then Err fault.BadRange else Ok (OneOf (c ∷ cs)))
 
 -- Signs and parts of what is written.
 abbrev pub reads : Bool → List ℕ → List (Result Sign GlobFault)

@@ -3,7 +3,7 @@
 use Rattle.std.proofs.Common.{◌≡◌, ℕ, suc, zero, ◌+◌, ◌≤◌, ◌==◌, Bool, true, false, not, ◌&&◌, ◌||◌, List, [], ◌∷◌, ◌++◌, length, drop, refl, sym, ap, ◌∙◌, arith, add-one}
 use Rattle.std.specs.Prelude.{slice_index_or, if◌then◌else◌}
 use Rattle.std.specs.List.{list_any}
-use Rattle.std.proofs.lemmas.Bool.{and_parts, or_parts}
+use Rattle.std.proofs.lemmas.Bool.{and_parts, eqb-true, not-true, or_parts}
 use Rattle.std.proofs.lemmas.Bool.Decides.{nat_tests}
 use Rattle.std.proofs.lemmas.List.{append-nil, append_assoc, length_push, length-append, length-drop, drop_at, drop-append-le, drop-drop}
 use Rattle.hub_glob.specs.declared.piece.Piece.{Piece}
@@ -16,7 +16,8 @@ use Rattle.hub_glob.specs.Specification.{choices_size}
 use Rattle.hub_glob.specs.Glob.{Texts, piece, pieces, glob, no_more}
 use Rattle.hub_glob.specs.Sweep.{Swept, past, swept_pieces, nowhere, joined, swept_choices, swept_parts, Standing, at_start, swept, is_stuck, pruned, stuck_after, pushed_by, pushed, is_matched, pushed_all}
 use Rattle.hub_glob.specs.Taking.{takes, is_star}
-use Rattle.hub_text.specs.TestLaws.{head, tail, or-assoc, any-and, any-or}
+use Rattle.hub_text.specs.TestLaws.{head, tail, or-assoc, or-swap, any-and, any-or}
+use Rattle.hub_text.specs.ListLaws.{no-items, head-drop, drop-tail}
 use Rattle.std.proofs.Math.Bool.{and-false, and-true, or-false}
 use Rattle.hub_glob.specs.OneStep.{nonzero, run_step, run_end}
 
@@ -28,17 +29,14 @@ past_one b a l T P Q R = grind (arith, nat_tests)
 past_star : (b a l T F Q R : Bool) → ((b && (F || T && Q) || a && Q) || (l && (F || T && Q) || R)) ≡ ((a || (b || l) && T) && Q || (((b || l) && F || false) || R))
 past_star b a l T F Q R = grind (arith, nat_tests)
 
-swap_or : (a b c : Bool) → (a || (b || c)) ≡ (b || (a || c))
-swap_or a b c = grind (arith, nat_tests)
-
 swap_last : (a b c : Bool) → ((a || b) || c) ≡ (a || (c || b))
 swap_last a b c = grind (arith, nat_tests)
 
 none_left : (b l R : Bool) → (b && false || (l && false || R)) ≡ R
 none_left b l R = grind (arith, nat_tests)
 
-shift_or : (a b c d : Bool) → ((a || b) || (c || d)) ≡ ((b || c) || (a || d))
-shift_or a b c d = grind (arith, nat_tests)
+first_two : (a b c : Bool) → (a || (b || c)) ≡ ((a || (b || false)) || c)
+first_two a b c = grind (arith, nat_tests)
 
 -- The same sweep as a list that is made from the front, beside the places of the text before.
 record Made : Type 0 where
@@ -104,11 +102,11 @@ next x r k = k (x.character == 47) r
 
 one_law : (b a l T P Q R O N : Bool) → ((b || l) && T && P || R) ≡ (O || N)
     → ((b && (T && P) || a && Q) || (l && (T && P) || R)) ≡ (O || ((a || false) && Q || N))
-one_law b a l T P Q R O N h = past_one b a l T P Q R ∙ ap (λ z. (a || false) && Q || z) h ∙ swap_or ((a || false) && Q) O N
+one_law b a l T P Q R O N h = past_one b a l T P Q R ∙ ap (λ z. (a || false) && Q || z) h ∙ or-swap ((a || false) && Q) O N
 
 star_law : (b a l T F Q R O N : Bool) → (((b || l) && F || false) || R) ≡ (O || N)
     → ((b && (F || T && Q) || a && Q) || (l && (F || T && Q) || R)) ≡ (O || ((a || (b || l) && T) && Q || N))
-star_law b a l T F Q R O N h = past_star b a l T F Q R ∙ ap (λ z. (a || (b || l) && T) && Q || z) h ∙ swap_or ((a || (b || l) && T) && Q) O N
+star_law b a l T F Q R O N h = past_star b a l T F Q R ∙ ap (λ z. (a || (b || l) && T) && Q || z) h ∙ or-swap ((a || (b || l) && T) && Q) O N
 
 pieces_law : (x : NextCharacter) (ps : List Piece) (k : Texts) (old : List Bool) (c : Carry) (r : List ℕ)
     → (onward x c (pieces ps k) r || now x r (alive_pieces ps k old))
@@ -203,13 +201,10 @@ parts_law x (One p ∷ ps) old c r =
     one_more (onward x c (piece p (glob ps)) r) (head old && now x r (piece p (glob ps))) (now x r (alive_parts ps (tail old)))
     (onward x d (glob ps) r) here (pieces_law x (p ∷ []) (glob ps) old c r)
     ∙ ap (λ b. here || b) (parts_law x ps (tail old) d r)
-    ∙ swap_or here (onward x m.carry no_more r) (next x r (alive_parts ps m.bits))
+    ∙ or-swap here (onward x m.carry no_more r) (next x r (alive_parts ps m.bits))
   where
     one_more : (O H R O' here : Bool) → (O || (H || false)) ≡ (O' || (here || false)) → (O || (H || R)) ≡ (here || (O' || R))
-    one_more O H R O' here h = before_it O H R ∙ ap (λ z. z || R) h ∙ after_it O' here R where
-      before_it : (O H R : Bool) → (O || (H || R)) ≡ ((O || (H || false)) || R)
-      before_it O H R = grind (arith, nat_tests)
-
+    one_more O H R O' here h = first_two O H R ∙ ap (λ z. z || R) h ∙ after_it O' here R where
       after_it : (O here R : Bool) → ((O || (here || false)) || R) ≡ (here || (O || R))
       after_it O here R = grind (arith, nat_tests)
 parts_law x (Brace cs ∷ ps) old c r =
@@ -217,11 +212,11 @@ parts_law x (Brace cs ∷ ps) old c r =
     let m = made_parts x ps (drop (choices_size cs) old) s.carry in
     let here = next x r (alive_choices cs (glob ps) s.bits) in
     (λ i. brace_onward i || (now x r (alive_choices cs (glob ps) old) || now x r (alive_parts ps (drop (choices_size cs) old))))
-    ∙ regroup (entering x c cs (glob ps) r) (now x r (alive_choices cs (glob ps) old)) (now x r (alive_parts ps (drop (choices_size cs) old)))
+    ∙ or-assoc (entering x c cs (glob ps) r) (now x r (alive_choices cs (glob ps) old)) (now x r (alive_parts ps (drop (choices_size cs) old)))
     ∙ ap (λ b. b || now x r (alive_parts ps (drop (choices_size cs) old))) (choices_law x c cs (glob ps) old nowhere r)
     ∙ turn (onward x s.carry (glob ps) r) here (now x r (alive_parts ps (drop (choices_size cs) old)))
     ∙ ap (λ b. here || b) (parts_law x ps (drop (choices_size cs) old) s.carry r)
-    ∙ swap_or here (onward x m.carry no_more r) (next x r (alive_parts ps m.bits))
+    ∙ or-swap here (onward x m.carry no_more r) (next x r (alive_parts ps m.bits))
     ∙ (λ i. onward x m.carry no_more r
     || (sym (alive_choices-more cs (glob ps) s.bits m.bits (x.character == 47) r (omega (arith, length-made_choices x c cs old nowhere))) i
     || alive_parts ps (sym (drop_at s.bits m.bits (choices_size cs) (length-made_choices x c cs old nowhere)) i) (x.character == 47) r))
@@ -229,9 +224,6 @@ parts_law x (Brace cs ∷ ps) old c r =
     brace_onward : onward x c (glob (Brace cs ∷ ps)) r ≡ entering x c cs (glob ps) r
     brace_onward = (λ i. any-and c.before (λ q. now x r (pieces q (glob ps))) cs i || any-and c.after (λ q. next x r (pieces q (glob ps))) cs i)
         ∙ any-or (λ q. c.before && now x r (pieces q (glob ps))) (λ q. c.after && next x r (pieces q (glob ps))) cs
-
-    regroup : (a b d : Bool) → (a || (b || d)) ≡ ((a || b) || d)
-    regroup a b d = or-assoc a b d
 
     turn : (a b d : Bool) → ((a || b) || d) ≡ (b || (a || d))
     turn a b d = grind (arith, nat_tests)
@@ -275,12 +267,9 @@ parts_end : (x : NextCharacter) (ps : List Part) (old : List Bool) (c : Carry) (
     → (c.before && glob ps f [] || alive_parts ps old f []) ≡ (made_parts x ps old c).carry.before
 parts_end x [] old c f = or-false _ ∙ and-true c.before
 parts_end x (One p ∷ ps) old c f =
-    regroup (c.before && piece p (glob ps) f []) (head old && piece p (glob ps) f []) (alive_parts ps (tail old) f [])
+    first_two (c.before && piece p (glob ps) f []) (head old && piece p (glob ps) f []) (alive_parts ps (tail old) f [])
     ∙ ap (λ b. b || alive_parts ps (tail old) f []) (pieces_end x (p ∷ []) (glob ps) old c f)
     ∙ parts_end x ps (tail old) (carry_past x p (c.before || head old)) f
-  where
-    regroup : (a b d : Bool) → (a || (b || d)) ≡ ((a || (b || false)) || d)
-    regroup a b d = grind (arith, nat_tests)
 parts_end x (Brace cs ∷ ps) old c f =
     let s = made_choices x c cs old nowhere in
     (λ i. any-and c.before (λ q. pieces q (glob ps) f []) cs i || (alive_choices cs (glob ps) old f [] || alive_parts ps (drop (choices_size cs) old) f []))
@@ -291,18 +280,6 @@ parts_end x (Brace cs ∷ ps) old c f =
 -- The sweep gives what is made.
 abbrev after_made : List Bool → Made → Swept
 after_made l m = record { live = l ++ m.bits; carry = m.carry }
-
-head-drop : (n : ℕ) (bs : List Bool) → slice_index_or bs n false ≡ head (drop n bs)
-head-drop zero [] = refl
-head-drop zero (b ∷ bs) = refl
-head-drop (suc n) [] = refl
-head-drop (suc n) (b ∷ bs) = head-drop n bs
-
-drop-tail : (n : ℕ) (bs : List Bool) → drop (suc n) bs ≡ tail (drop n bs)
-drop-tail zero [] = refl
-drop-tail zero (b ∷ bs) = refl
-drop-tail (suc n) [] = refl
-drop-tail (suc n) (b ∷ bs) = drop-tail n bs
 
 drop-pushed : (l : List Bool) (b : Bool) (bs : List Bool) → drop (length (l ++ b ∷ [])) bs ≡ tail (drop (length l) bs)
 drop-pushed l b bs = ap (λ n. drop n bs) (length_push l b ∙ add-one (length l)) ∙ drop-tail (length l) bs
@@ -403,20 +380,13 @@ pruned_parts ps bits f t = go (is_any bits) refl where
   go true h = refl
   go false h = none_parts ps [] f t refl ∙ sym (none_parts ps bits f t h)
 
-nil_is : {X : Type 0} (xs : List X) → (length xs == 0) ≡ true → xs ≡ []
-nil_is [] h = refl
-nil_is (x ∷ xs) h = let n : (length (x ∷ xs) == 0) ≡ false = nonzero (length xs) in cc
-
 -- What a walk means that is stuck: whether it has ended.
 stuck_meaning : (ps : List Part) (w : Standing) (t : List ℕ) → is_stuck w ≡ true → meaning ps w t ≡ (w.ended && no_more w.first t)
 stuck_meaning ps w t h =
     let (old, none) = and_parts (not w.fresh) (length w.live == 0) h in
-    (λ i. (unfresh w.fresh old i && glob ps w.first t || alive_parts ps (nil_is w.live none i) w.first t) || w.ended && no_more w.first t)
+    let nowhere_live = no-items w.live (eqb-true (length w.live) 0 none) in
+    (λ i. (not-true w.fresh old i && glob ps w.first t || alive_parts ps (nowhere_live i) w.first t) || w.ended && no_more w.first t)
     ∙ ap (λ b. b || w.ended && no_more w.first t) (none_parts ps [] w.first t refl)
-  where
-    unfresh : (b : Bool) → not b ≡ true → b ≡ false
-    unfresh true e = cc
-    unfresh false e = refl
 
 abbrev next_of : Standing → ℕ → NextCharacter
 next_of w c = record { character = c; first = w.first }

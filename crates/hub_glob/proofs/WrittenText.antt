@@ -1,6 +1,5 @@
 -- The text of a readable specification is made of characters (Unicode scalar values).
-use Rattle.std.proofs.Common.{◌≡◌, ℕ, Bool, true, false, ◌&&◌, ◌==◌, List, [], ◌∷◌, ◌++◌, refl, ap, ◌∙◌}
-use Rattle.std.specs.Prelude.{if◌then◌else◌}
+use Rattle.std.proofs.Common.{◌≡◌, ℕ, Bool, true, ◌&&◌, ◌==◌, List, [], ◌∷◌, ◌++◌, refl, ap, ◌∙◌}
 use Rattle.std.specs.List.{AllByRecursion}
 use Rattle.std.specs.Str.{all_scalars}
 use Rattle.std.proofs.lemmas.Bool.{and_parts}
@@ -14,6 +13,7 @@ use Rattle.hub_glob.specs.declared.path_spec.Kind.TheVariants as kind
 use Rattle.hub_glob.specs.Specification.{Specification, is_name_kind}
 use Rattle.hub_glob.specs.Readable.{AreReadableMembers, IsReadablePiece, IsReadablePart, IsReadable}
 use Rattle.hub_glob.specs.Reading.{is_special}
+use Rattle.hub_glob.specs.Scalars.{either-scalars}
 use Rattle.hub_glob.specs.Writing.{literal, member_text, members_text, piece_text, pieces_text, choices_text, part_text, pattern_text, kind_word, spec_text}
 
 abbrev IsText : List ℕ → Type 0
@@ -24,16 +24,12 @@ append-scalars [] ys h k = k
 append-scalars (x ∷ xs) ys h k =
     let (one, more) = and_parts (scalar x) (all_scalars xs) h in ap (λ b. b && all_scalars (xs ++ ys)) one ∙ append-scalars xs ys more k
 
-either_text : (b : Bool) (xs ys : List ℕ) → IsText xs → IsText ys → IsText (if b then xs else ys)
-either_text true xs ys h k = h
-either_text false xs ys h k = k
-
 literal-scalars : (c : ℕ) → scalar c ≡ true → IsText (literal c)
-literal-scalars c h = either_text (is_special c) (92 ∷ c ∷ []) (c ∷ []) (ap (λ b. b && true) h) (ap (λ b. b && true) h)
+literal-scalars c h = either-scalars (is_special c) (92 ∷ c ∷ []) (c ∷ []) (ap (λ b. b && true) h) (ap (λ b. b && true) h)
 
 member-scalars : (c d : ℕ) → scalar c ≡ true → IsText (member_text c d)
 member-scalars c d h =
-    let one = literal-scalars c h in either_text (d == 45) (literal c ++ 45 ∷ literal c) (literal c) (append-scalars (literal c) (45 ∷ literal c) one one) one
+    let one = literal-scalars c h in either-scalars (d == 45) (literal c ++ 45 ∷ literal c) (literal c) (append-scalars (literal c) (45 ∷ literal c) one one) one
 
 members-scalars : (cs : List ℕ) → AreReadableMembers cs → IsText (members_text cs)
 members-scalars [] f = refl

@@ -5,6 +5,7 @@ pub mod Glob
 pub mod OneStep
 pub mod Readable
 pub mod Reading
+pub mod Scalars
 pub mod Specification
 pub mod Sweep
 pub mod Taking

@@ -1,12 +1,13 @@
 use Rattle.std.proofs.Common.{◌≡◌, ◌*◌, ◌-◌, ◌^◌, min, length, ap, ◌∙◌, arith}
-use Rattle.hub_glob.proofs.Readings.{next_item, brace_counted, one_counted}
+use Rattle.hub_text.specs.ListLaws.{next-drop}
+use Rattle.hub_glob.proofs.Readings.{brace_counted, one_counted}
 use Rattle.hub_glob.proofs.reading.has_many_choices.Goals.{in-Brace, in_default}
 use Rattle.hub_glob.proofs.reading.has_many_choices.Goals as goal
 
 pub loop-part-preserved : goal.loop-part-preserved
 loop-part-preserved c =
     let ps = c.args.parts.now in
-    let e = next_item ps c.loop-part.part-index c.part-item.result (omega arith) c.part-item.is in
+    let e = next-drop ps c.loop-part.part-index c.part-item.result (omega arith) c.part-item.is in
     elim c.match-part.branch [
       | in-Brace w ↦
           let m : c.match-part.count ≡ min (min (c.loop-part.count * length w.in-Brace.choices) (2 ^ 64 - 1)) 65 =

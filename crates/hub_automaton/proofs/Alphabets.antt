@@ -8,54 +8,41 @@ use Rattle.std.specs.List.{list_all, flat_map, range_with_len, position_from}
 use Rattle.std.specs.Str.{all_scalars}
 use lib.Utf8.{scalar}
 use Rattle.std.proofs.lemmas.List.{drop_all}
+use Rattle.std.proofs.lemmas.Bool.{and_from, and_parts, cases_Bool, cases_lt, not-true, or_parts, or_right}
 use Rattle.std.proofs.lemmas.Bool.Decides.{nat_tests}
+use Rattle.hub_text.specs.TestLaws.{or-swap, or-then}
 use Rattle.hub_automaton.specs.declared.alphabet.TheConstants.{MENTIONED_CHARACTERS}
 use Rattle.hub_automaton.specs.Alphabet.{is_left_out, is_mentioned, class_of, class_count, first_unmentioned, sample, ascends, IsAlphabet, placed, with_character, with_characters, mentions}
 use Rattle.hub_automaton.specs.Adding.{length-placed}
-
-pub both : (a b : Bool) → (a && b) ≡ true → (a ≡ true) × (b ≡ true)
-both true b h = (refl, h)
-both false b h = cc
-
-pub and : (a b : Bool) → a ≡ true → b ≡ true → (a && b) ≡ true
-and a b h k = rw (h, k) refl
 
 -- Tests of all elements.
 all_below : (m n : ℕ) (ms : List ℕ) → m ≤ n → list_all (λ k. nat_lt n k) ms ≡ true → list_all (λ k. nat_lt m k) ms ≡ true
 all_below m n [] l h = refl
 all_below m n (k ∷ ms) l h =
-    let w = both (nat_lt n k) (list_all (λ k. nat_lt n k) ms) h in
+    let w = and_parts (nat_lt n k) (list_all (λ k. nat_lt n k) ms) h in
     let first : nat_lt m k ≡ true = grind (arith, nat_tests, w.0) in
-    and (nat_lt m k) (list_all (λ k. nat_lt m k) ms) first (all_below m n ms l w.1)
+    and_from (nat_lt m k) (list_all (λ k. nat_lt m k) ms) first (all_below m n ms l w.1)
 
 all_at : (m : ℕ) (ms : List ℕ) (i : ℕ) → list_all (λ k. nat_lt m k) ms ≡ true → i < length ms → m < get_or ms i 0
 all_at m [] i h l = absurd (omega arith)
-all_at m (k ∷ ms) zero h l = let w = both (nat_lt m k) (list_all (λ k. nat_lt m k) ms) h in grind (arith, nat_tests, w.0)
-all_at m (k ∷ ms) (suc i) h l = all_at m ms i (both (nat_lt m k) (list_all (λ k. nat_lt m k) ms) h).1 (omega arith)
+all_at m (k ∷ ms) zero h l = let w = and_parts (nat_lt m k) (list_all (λ k. nat_lt m k) ms) h in grind (arith, nat_tests, w.0)
+all_at m (k ∷ ms) (suc i) h l = all_at m ms i (and_parts (nat_lt m k) (list_all (λ k. nat_lt m k) ms) h).1 (omega arith)
 
 pub ascends_at : (ms : List ℕ) (i j : ℕ) → ascends ms ≡ true → i < j → j < length ms → get_or ms i 0 < get_or ms j 0
 ascends_at [] i j h l k = absurd (omega arith)
 ascends_at (m ∷ ms) zero zero h l k = absurd (omega arith)
-ascends_at (m ∷ ms) zero (suc j) h l k = all_at m ms j (both (list_all (λ n. nat_lt m n) ms) (ascends ms) h).0 (omega arith)
+ascends_at (m ∷ ms) zero (suc j) h l k = all_at m ms j (and_parts (list_all (λ n. nat_lt m n) ms) (ascends ms) h).0 (omega arith)
 ascends_at (m ∷ ms) (suc i) zero h l k = absurd (omega arith)
-ascends_at (m ∷ ms) (suc i) (suc j) h l k = ascends_at ms i j (both (list_all (λ n. nat_lt m n) ms) (ascends ms) h).1 (omega arith) (omega arith)
+ascends_at (m ∷ ms) (suc i) (suc j) h l k = ascends_at ms i j (and_parts (list_all (λ n. nat_lt m n) ms) (ascends ms) h).1 (omega arith) (omega arith)
 
 pub does_not_fall : (ms : List ℕ) → ascends ms ≡ true → (i j : ℕ) → i ≤ j → j < length ms → get_or ms i 0 ≤ get_or ms j 0
-does_not_fall ms h i j l k = ⊎_elim (λ s. omega (arith, ascends_at ms i j h s k)) (λ s. let e : i ≡ j = omega (arith, l, s) in let same : get_or ms i 0 ≡ get_or ms j 0 = ap (λ k. get_or ms k 0) e in omega (arith, same)) (apart i j) where
-  apart : (a b : ℕ) → (a < b) ⊎ (b ≤ a)
-  apart zero zero = inr (omega arith)
-  apart zero (suc b) = inl (omega arith)
-  apart (suc a) zero = inr (omega arith)
-  apart (suc a) (suc b) = ⊎_elim (λ s. inl (omega arith)) (λ s. inr (omega arith)) (apart a b)
+does_not_fall ms h i j l k = ⊎_elim (λ s. omega (arith, ascends_at ms i j h s k)) (λ s. let e : i ≡ j = omega (arith, l, s) in let same : get_or ms i 0 ≡ get_or ms j 0 = ap (λ k. get_or ms k 0) e in omega (arith, same)) (cases_lt i j)
 
 -- To be mentioned, by places.
 pub mentioned_at : (ms : List ℕ) (i c : ℕ) → i < length ms → get_or ms i 0 ≡ c → is_mentioned ms c ≡ true
 mentioned_at [] i c l h = absurd (omega arith)
 mentioned_at (m ∷ ms) zero c l h = let e : (m == c) ≡ true = grind (arith, nat_tests, h) in ap (λ b. b || is_mentioned ms c) e
-mentioned_at (m ∷ ms) (suc i) c l h = or_true (m == c) (is_mentioned ms c) (mentioned_at ms i c (omega arith) h) where
-  or_true : (a b : Bool) → b ≡ true → (a || b) ≡ true
-  or_true true b h = refl
-  or_true false b h = h
+mentioned_at (m ∷ ms) (suc i) c l h = or_right (m == c) (is_mentioned ms c) (mentioned_at ms i c (omega arith) h)
 
 pub not_mentioned : (ms : List ℕ) (i c : ℕ) → ((k : ℕ) → k < i → get_or ms k 0 < c) → ((k : ℕ) → i ≤ k → k < length ms → c < get_or ms k 0)
     → is_mentioned ms c ≡ false
@@ -84,11 +71,6 @@ placed_at (m ∷ ms) (suc i) c l below above =
     ∙ ap (λ b. cond b (c ∷ m ∷ ms) (m ∷ placed ms c)) (sym e)
 
 -- A character put in its place: who is mentioned then, and what holds of all.
-swap_or : (a b c : Bool) → (a || (b || c)) ≡ (b || (a || c))
-swap_or true true c = refl
-swap_or true false c = refl
-swap_or false b c = refl
-
 swap_and : (a b c : Bool) → (a && (b && c)) ≡ (b && (a && c))
 swap_and true b c = refl
 swap_and false true c = refl
@@ -100,7 +82,7 @@ mentioned-placed (m ∷ ms) c x = by_test (nat_lt c m) (mentioned-placed ms c x)
   by_test : (b : Bool) → is_mentioned (placed ms c) x ≡ ((c == x) || is_mentioned ms x)
       → is_mentioned (cond b (c ∷ m ∷ ms) (m ∷ placed ms c)) x ≡ ((c == x) || ((m == x) || is_mentioned ms x))
   by_test true h = refl
-  by_test false h = ap (λ b. (m == x) || b) h ∙ swap_or (m == x) (c == x) (is_mentioned ms x)
+  by_test false h = ap (λ b. (m == x) || b) h ∙ or-swap (m == x) (c == x) (is_mentioned ms x)
 
 all-placed : (p : ℕ → Bool) (ms : List ℕ) (c : ℕ) → list_all p (placed ms c) ≡ (p c && list_all p ms)
 all-placed p [] c = refl
@@ -110,44 +92,36 @@ all-placed p (m ∷ ms) c = by_test (nat_lt c m) (all-placed p ms c) where
   by_test true h = refl
   by_test false h = ap (λ b. p m && b) h ∙ swap_and (p m) (p c) (list_all p ms)
 
-or_false : (a b : Bool) → (a || b) ≡ false → (a ≡ false) × (b ≡ false)
-or_false true b h = cc
-or_false false b h = (refl, h)
-
 ascends-placed : (ms : List ℕ) (c : ℕ) → ascends ms ≡ true → is_mentioned ms c ≡ false → ascends (placed ms c) ≡ true
 ascends-placed [] c h k = refl
 ascends-placed (m ∷ ms) c h k = by_test (nat_lt c m) refl (λ a b. ascends-placed ms c a b) where
   by_test : (b : Bool) → nat_lt c m ≡ b → (ascends ms ≡ true → is_mentioned ms c ≡ false → ascends (placed ms c) ≡ true) → ascends (cond b (c ∷ m ∷ ms) (m ∷ placed ms c)) ≡ true
   by_test true e go =
-      let w = both (list_all (λ n. nat_lt m n) ms) (ascends ms) h in
+      let w = and_parts (list_all (λ n. nat_lt m n) ms) (ascends ms) h in
       let l : c ≤ m = grind (arith, nat_tests, e) in
-      and (nat_lt c m && list_all (λ n. nat_lt c n) ms) (list_all (λ n. nat_lt m n) ms && ascends ms)
-      (and (nat_lt c m) (list_all (λ n. nat_lt c n) ms) e (all_below c m ms l w.0)) h
+      and_from (nat_lt c m && list_all (λ n. nat_lt c n) ms) (list_all (λ n. nat_lt m n) ms && ascends ms)
+      (and_from (nat_lt c m) (list_all (λ n. nat_lt c n) ms) e (all_below c m ms l w.0)) h
   by_test false e go =
-      let w = both (list_all (λ n. nat_lt m n) ms) (ascends ms) h in
-      let n = or_false (m == c) (is_mentioned ms c) k in
+      let w = and_parts (list_all (λ n. nat_lt m n) ms) (ascends ms) h in
+      let n = or_parts (m == c) (is_mentioned ms c) k in
       let l : nat_lt m c ≡ true = grind (arith, nat_tests, e, n.0) in
-      and (list_all (λ n. nat_lt m n) (placed ms c)) (ascends (placed ms c))
-      (all-placed (λ n. nat_lt m n) ms c ∙ and (nat_lt m c) (list_all (λ n. nat_lt m n) ms) l w.0)
+      and_from (list_all (λ n. nat_lt m n) (placed ms c)) (ascends (placed ms c))
+      (all-placed (λ n. nat_lt m n) ms c ∙ and_from (nat_lt m c) (list_all (λ n. nat_lt m n) ms) l w.0)
       (go w.1 n.1)
 
 -- One more character.
-right_or : (a b : Bool) → b ≡ true → (a || b) ≡ true
-right_or true b h = refl
-right_or false b h = h
-
 pub still_mentioned : (ms : List ℕ) (c x : ℕ) → is_mentioned ms x ≡ true → is_mentioned (with_character ms c) x ≡ true
 still_mentioned ms c x h = by_test (is_left_out c || is_mentioned ms c) where
   by_test : (b : Bool) → is_mentioned (cond b ms (placed ms c)) x ≡ true
   by_test true = h
-  by_test false = mentioned-placed ms c x ∙ right_or (c == x) (is_mentioned ms x) h
+  by_test false = mentioned-placed ms c x ∙ or_right (c == x) (is_mentioned ms x) h
 
 scalars-placed : (ms : List ℕ) (c : ℕ) → scalar c ≡ true → all_scalars ms ≡ true → all_scalars (placed ms c) ≡ true
-scalars-placed [] c s h = and (scalar c) true s refl
+scalars-placed [] c s h = and_from (scalar c) true s refl
 scalars-placed (m ∷ ms) c s h = by_test (nat_lt c m) (scalars-placed ms c s) where
   by_test : (b : Bool) → (all_scalars ms ≡ true → all_scalars (placed ms c) ≡ true) → all_scalars (cond b (c ∷ m ∷ ms) (m ∷ placed ms c)) ≡ true
-  by_test true go = and (scalar c) (all_scalars (m ∷ ms)) s h
-  by_test false go = let w = both (scalar m) (all_scalars ms) h in and (scalar m) (all_scalars (placed ms c)) w.0 (go w.1)
+  by_test true go = and_from (scalar c) (all_scalars (m ∷ ms)) s h
+  by_test false go = let w = and_parts (scalar m) (all_scalars ms) h in and_from (scalar m) (all_scalars (placed ms c)) w.0 (go w.1)
 
 pub alphabet-with : (ms : List ℕ) (c : ℕ) → scalar c ≡ true → IsAlphabet ms → length (with_character ms c) ≤ MENTIONED_CHARACTERS → IsAlphabet (with_character ms c)
 alphabet-with ms c s a few = record {
@@ -164,16 +138,16 @@ alphabet-with ms c s a few = record {
 
   by_ascent : (b : Bool) → (is_left_out c || is_mentioned ms c) ≡ b → ascends (cond b ms (placed ms c)) ≡ true
   by_ascent true e = a.ascends
-  by_ascent false e = ascends-placed ms c a.ascends (or_false (is_left_out c) (is_mentioned ms c) e).1
+  by_ascent false e = ascends-placed ms c a.ascends (or_parts (is_left_out c) (is_mentioned ms c) e).1
 
   by_allowed : (b : Bool) → (is_left_out c || is_mentioned ms c) ≡ b → list_all (λ m. not (is_left_out m)) (cond b ms (placed ms c)) ≡ true
   by_allowed true e = a.allowed
   by_allowed false e =
-      let n = or_false (is_left_out c) (is_mentioned ms c) e in
-      all-placed (λ m. not (is_left_out m)) ms c ∙ and (not (is_left_out c)) (list_all (λ m. not (is_left_out m)) ms) (ap not n.0) a.allowed
+      let n = or_parts (is_left_out c) (is_mentioned ms c) e in
+      all-placed (λ m. not (is_left_out m)) ms c ∙ and_from (not (is_left_out c)) (list_all (λ m. not (is_left_out m)) ms) (ap not n.0) a.allowed
 
 pub with_there : (ms : List ℕ) (c : ℕ) → is_mentioned ms c ≡ true → ms ≡ with_character ms c
-with_there ms c h = ap (λ b. cond b ms (placed ms c)) (sym (right_or (is_left_out c) (is_mentioned ms c) h))
+with_there ms c h = ap (λ b. cond b ms (placed ms c)) (sym (or_right (is_left_out c) (is_mentioned ms c) h))
 
 pub with_new : (ms : List ℕ) (c : ℕ) → is_left_out c ≡ false → is_mentioned ms c ≡ false → placed ms c ≡ with_character ms c
 with_new ms c h k = λ i. cond (sym h i || sym k i) ms (placed ms c)
@@ -204,23 +178,19 @@ with_is_mentioned ms c = by_tests (is_left_out c) (is_mentioned ms c) refl where
   by_tests false true e = e
   by_tests false false e = mentioned-placed ms c c ∙ (let t : (c == c) ≡ true = grind (arith, nat_tests) in ap (λ b. b || is_mentioned ms c) t)
 
-left_or : (a b c : Bool) → (a || b) ≡ true → (b ≡ true → c ≡ true) → (a || c) ≡ true
-left_or true b c h f = refl
-left_or false b c h f = f h
-
 pub mentions_kept : (ms cs ds : List ℕ) → mentions ms ds ≡ true → mentions (with_characters ms cs) ds ≡ true
 mentions_kept ms cs [] h = refl
 mentions_kept ms cs (d ∷ ds) h =
-    let w = both (is_left_out d || is_mentioned ms d) (mentions ms ds) h in
-    and (is_left_out d || is_mentioned (with_characters ms cs) d) (mentions (with_characters ms cs) ds)
-    (left_or (is_left_out d) (is_mentioned ms d) (is_mentioned (with_characters ms cs) d) w.0 (still_mentioned-all ms cs d))
+    let w = and_parts (is_left_out d || is_mentioned ms d) (mentions ms ds) h in
+    and_from (is_left_out d || is_mentioned (with_characters ms cs) d) (mentions (with_characters ms cs) ds)
+    (or-then (is_left_out d) (is_mentioned ms d) (is_mentioned (with_characters ms cs) d) w.0 (still_mentioned-all ms cs d))
     (mentions_kept ms cs ds w.1)
 
 pub mentions_added : (ms cs : List ℕ) → mentions (with_characters ms cs) cs ≡ true
 mentions_added ms [] = refl
 mentions_added ms (c ∷ cs) =
-    and (is_left_out c || is_mentioned (with_characters (with_character ms c) cs) c) (mentions (with_characters (with_character ms c) cs) cs)
-    (left_or (is_left_out c) (is_mentioned (with_character ms c) c) (is_mentioned (with_characters (with_character ms c) cs) c) (with_is_mentioned ms c)
+    and_from (is_left_out c || is_mentioned (with_characters (with_character ms c) cs) c) (mentions (with_characters (with_character ms c) cs) cs)
+    (or-then (is_left_out c) (is_mentioned (with_character ms c) c) (is_mentioned (with_characters (with_character ms c) cs) c) (with_is_mentioned ms c)
     (still_mentioned-all (with_character ms c) cs c))
     (mentions_added (with_character ms c) cs)
 
@@ -230,7 +200,7 @@ position_at [] n i c h l e = absurd (omega arith)
 position_at (m ∷ ms) n zero c h l e = let t : (m == c) ≡ true = grind (arith, nat_tests, e) in
     ap (λ b. cond b (Some n) (position_from (λ m. m == c) (n + 1) ms)) t ∙ ap Some (let k : n ≡ 0 + n = omega arith in k)
 position_at (m ∷ ms) n (suc i) c h l e =
-    let w = both (list_all (λ k. nat_lt m k) ms) (ascends ms) h in
+    let w = and_parts (list_all (λ k. nat_lt m k) ms) (ascends ms) h in
     let s : m < get_or ms i 0 = all_at m ms i w.0 (omega arith) in
     let t : (m == c) ≡ false = grind (arith, nat_tests, e, s) in
     ap (λ b. cond b (Some n) (position_from (λ m. m == c) (n + 1) ms)) t ∙ position_at ms (n + 1) i c w.1 (omega arith) e
@@ -239,7 +209,7 @@ position_at (m ∷ ms) n (suc i) c h l e =
 position_none : (ms : List ℕ) (n c : ℕ) → is_mentioned ms c ≡ false → position_from (λ m. m == c) n ms ≡ None
 position_none [] n c h = refl
 position_none (m ∷ ms) n c h =
-    let w = or_false (m == c) (is_mentioned ms c) h in
+    let w = or_parts (m == c) (is_mentioned ms c) h in
     ap (λ b. cond b (Some n) (position_from (λ m. m == c) (n + 1) ms)) w.0 ∙ position_none ms (n + 1) c w.1
 
 pub class_at : (ms : List ℕ) (i c : ℕ) → ascends ms ≡ true → is_left_out c ≡ false → i < length ms → get_or ms i 0 ≡ c → class_of ms c ≡ Some (i + 1)
@@ -265,10 +235,6 @@ abbrev pub free_from : ℕ → List ℕ → ℕ
 free_from c [] = c
 free_from c (m ∷ ms) = free_from (cond (m == c) (c + 1) c) ms
 
-either : (b : Bool) → (b ≡ true) ⊎ (b ≡ false)
-either true = inl refl
-either false = inr refl
-
 pub free-same : (c m : ℕ) (ms : List ℕ) → (m == c) ≡ true → free_from c (m ∷ ms) ≡ free_from (c + 1) ms
 free-same c m ms e = ap (λ b. free_from (cond b (c + 1) c) ms) e
 
@@ -277,23 +243,23 @@ free-other c m ms e = ap (λ b. free_from (cond b (c + 1) c) ms) e
 
 pub free-low : (c : ℕ) (ms : List ℕ) → c ≤ free_from c ms
 free-low c [] = omega arith
-free-low c (m ∷ ms) = ⊎_elim (λ e. omega (arith, free-same c m ms e, free-low (c + 1) ms)) (λ e. omega (arith, free-other c m ms e, free-low c ms)) (either (m == c))
+free-low c (m ∷ ms) = ⊎_elim (λ e. omega (arith, free-same c m ms e, free-low (c + 1) ms)) (λ e. omega (arith, free-other c m ms e, free-low c ms)) (cases_Bool (m == c))
 
 pub free-high : (c : ℕ) (ms : List ℕ) → free_from c ms ≤ c + length ms
 free-high c [] = omega arith
-free-high c (m ∷ ms) = ⊎_elim (λ e. omega (arith, free-same c m ms e, free-high (c + 1) ms)) (λ e. omega (arith, free-other c m ms e, free-high c ms)) (either (m == c))
+free-high c (m ∷ ms) = ⊎_elim (λ e. omega (arith, free-same c m ms e, free-high (c + 1) ms)) (λ e. omega (arith, free-other c m ms e, free-high c ms)) (cases_Bool (m == c))
 
 free-above : (c : ℕ) (ms : List ℕ) → list_all (λ k. nat_lt c k) ms ≡ true → free_from c ms ≡ c
 free-above c [] h = refl
 free-above c (m ∷ ms) h =
-    let w = both (nat_lt c m) (list_all (λ k. nat_lt c k) ms) h in
+    let w = and_parts (nat_lt c m) (list_all (λ k. nat_lt c k) ms) h in
     let e : (m == c) ≡ false = grind (arith, nat_tests, w.0) in
     free-other c m ms e ∙ free-above c ms w.1
 
 free-not : (c : ℕ) (ms : List ℕ) → ascends ms ≡ true → is_mentioned ms (free_from c ms) ≡ false
 free-not c [] h = refl
 free-not c (m ∷ ms) h =
-    let w = both (list_all (λ k. nat_lt m k) ms) (ascends ms) h in
+    let w = and_parts (list_all (λ k. nat_lt m k) ms) (ascends ms) h in
     ⊎_elim
     (λ e.
     let d : free_from c (m ∷ ms) ≡ free_from (c + 1) ms = free-same c m ms e in
@@ -304,7 +270,7 @@ free-not c (m ∷ ms) h =
     let d : free_from c (m ∷ ms) ≡ free_from c ms = free-other c m ms e in
     let n : (m == free_from c ms) ≡ false = other (nat_lt c m) refl e (free-low c ms) w.0 in
     ap (is_mentioned (m ∷ ms)) d ∙ (λ i. n i || is_mentioned ms (free_from c ms)) ∙ free-not c ms w.1)
-    (either (m == c))
+    (cases_Bool (m == c))
   where
     other : (b : Bool) → nat_lt c m ≡ b → (m == c) ≡ false → c ≤ free_from c ms → list_all (λ k. nat_lt m k) ms ≡ true → (m == free_from c ms) ≡ false
     other true e n l a =
@@ -318,10 +284,10 @@ free-all c (m ∷ ms) x l h =
     ⊎_elim
     (λ e. ⊎_elim
     (λ s. let t : (m == x) ≡ true = grind (arith, nat_tests, e, s) in ap (λ b. b || is_mentioned ms x) t)
-    (λ n. right_or (m == x) (is_mentioned ms x) (free-all (c + 1) ms x (let k : c + 1 ≤ x = grind (arith, nat_tests, n, l) in k) (let k : x < free_from (c + 1) ms = omega (arith, h, free-same c m ms e) in k)))
+    (λ n. or_right (m == x) (is_mentioned ms x) (free-all (c + 1) ms x (let k : c + 1 ≤ x = grind (arith, nat_tests, n, l) in k) (let k : x < free_from (c + 1) ms = omega (arith, h, free-same c m ms e) in k)))
     (either_is (x == c) refl))
-    (λ e. right_or (m == x) (is_mentioned ms x) (free-all c ms x l (let k : x < free_from c ms = omega (arith, h, free-other c m ms e) in k)))
-    (either (m == c))
+    (λ e. or_right (m == x) (is_mentioned ms x) (free-all c ms x l (let k : x < free_from c ms = omega (arith, h, free-other c m ms e) in k)))
+    (cases_Bool (m == c))
   where
     either_is : (b : Bool) → (x == c) ≡ b → (x ≡ c) ⊎ ((x == c) ≡ false)
     either_is true e = inl (let k : x ≡ c = grind (arith, nat_tests, e) in k)
@@ -333,13 +299,7 @@ find_first p d c (suc n) l h t none =
     ⊎_elim
     (λ s. ap (λ b. cond b (Some c) (find p (range_with_len (c + 1) n))) (none c (let k : c ≤ c = omega arith in k) s) ∙ find_first p d (c + 1) n (omega (arith, s)) (omega (arith, h)) t (λ x a b. none x (omega (arith, a)) b))
     (λ s. let e : d ≡ c = omega (arith, l, s) in ap (λ b. cond b (Some c) (find p (range_with_len (c + 1) n))) (ap p (sym e) ∙ t) ∙ ap Some (sym e))
-    (apart c d)
-  where
-    apart : (a b : ℕ) → (a < b) ⊎ (b ≤ a)
-    apart zero zero = inr (omega arith)
-    apart zero (suc b) = inl (omega arith)
-    apart (suc a) zero = inr (omega arith)
-    apart (suc a) (suc b) = ⊎_elim (λ s. inl (omega (arith, s))) (λ s. inr (omega (arith, s))) (apart a b)
+    (cases_lt c d)
 
 pub first_is_free : (ms : List ℕ) → ascends ms ≡ true → free_from 97 ms ≡ first_unmentioned ms
 first_is_free ms h =
@@ -354,11 +314,8 @@ free_end ms i c whole l h = ap (free_from c) (sym (drop_all i ms l)) ∙ h
 -- The sample of a class is of that class.
 all_allowed : (ms : List ℕ) (i : ℕ) → list_all (λ m. not (is_left_out m)) ms ≡ true → i < length ms → is_left_out (get_or ms i 0) ≡ false
 all_allowed [] i h l = absurd (omega arith)
-all_allowed (m ∷ ms) zero h l = not-true (is_left_out m) (both (not (is_left_out m)) (list_all (λ k. not (is_left_out k)) ms) h).0 where
-  not-true : (b : Bool) → not b ≡ true → b ≡ false
-  not-true true e = sym e
-  not-true false e = refl
-all_allowed (m ∷ ms) (suc i) h l = all_allowed ms i (both (not (is_left_out m)) (list_all (λ k. not (is_left_out k)) ms) h).1 (omega arith)
+all_allowed (m ∷ ms) zero h l = not-true (is_left_out m) (and_parts (not (is_left_out m)) (list_all (λ k. not (is_left_out k)) ms) h).0
+all_allowed (m ∷ ms) (suc i) h l = all_allowed ms i (and_parts (not (is_left_out m)) (list_all (λ k. not (is_left_out k)) ms) h).1 (omega arith)
 
 pub sample_class : (ms : List ℕ) (k : ℕ) → IsAlphabet ms → k < class_count ms → class_of ms (sample ms k) ≡ Some k
 sample_class ms zero a l =

@@ -4,10 +4,11 @@ use Rattle.std.specs.Prelude.{Option, Some, None, unwrap_or}
 use Rattle.std.specs.List.{list_all, position_from}
 use Rattle.std.specs.Str.{all_scalars}
 use Rattle.std.proofs.Math.Utf8.{low_scalar}
+use Rattle.std.proofs.lemmas.Bool.{and_from, and_parts}
 use Rattle.std.proofs.lemmas.Bool.Decides.{nat_tests}
 use lib.Utf8.{scalar}
 use Rattle.hub_automaton.specs.Alphabet.{is_left_out, is_mentioned, is_path_character, class_of, class_count, sample, IsAlphabet, placed, with_character, with_characters}
-use Rattle.hub_automaton.proofs.Alphabets.{both, and, mentioned_at, mentioned-placed, free_from, free-low, free-high, first_is_free}
+use Rattle.hub_automaton.proofs.Alphabets.{mentioned_at, mentioned-placed, free_from, free-low, free-high, first_is_free}
 
 place_low : (ms : List ℕ) (n x k : ℕ) → position_from (λ m. m == x) n ms ≡ Some k → k < n + length ms
 place_low [] n x k h = cc
@@ -43,16 +44,16 @@ mentioned_allowed : (ms : List ℕ) (x : ℕ) → list_all (λ m. not (is_left_o
 mentioned_allowed [] x a s h = cc
 mentioned_allowed (m ∷ ms) x a s h = by_test (m == x) refl h v w (mentioned_allowed ms x v.1 w.1) where
   v : (not (is_left_out m) ≡ true) × (list_all (λ n. not (is_left_out n)) ms ≡ true)
-  v = both (not (is_left_out m)) (list_all (λ n. not (is_left_out n)) ms) a
+  v = and_parts (not (is_left_out m)) (list_all (λ n. not (is_left_out n)) ms) a
 
   w : (scalar m ≡ true) × (all_scalars ms ≡ true)
-  w = both (scalar m) (all_scalars ms) s
+  w = and_parts (scalar m) (all_scalars ms) s
 
   by_test : (b : Bool) → (m == x) ≡ b → (b || is_mentioned ms x) ≡ true → (not (is_left_out m) ≡ true) × (list_all (λ n. not (is_left_out n)) ms ≡ true)
       → (scalar m ≡ true) × (all_scalars ms ≡ true) → (is_mentioned ms x ≡ true → is_path_character x ≡ true) → is_path_character x ≡ true
   by_test true e h v w go =
       let same : m ≡ x = grind (arith, nat_tests, e) in
-      ap is_path_character (sym same) ∙ and (all_scalars (m ∷ [])) (not (is_left_out m)) (and (scalar m) true w.0 refl) v.0
+      ap is_path_character (sym same) ∙ and_from (all_scalars (m ∷ [])) (not (is_left_out m)) (and_from (scalar m) true w.0 refl) v.0
   by_test false e h v w go = go h
 
 pub mentioned_in_paths : (ms : List ℕ) (x : ℕ) → IsAlphabet ms → is_mentioned ms x ≡ true → is_path_character x ≡ true
@@ -67,7 +68,7 @@ sample_in_paths ms zero a l =
     let n1 : (c == 10) ≡ false = grind (arith, nat_tests, low) in
     let n2 : (c == 13) ≡ false = grind (arith, nat_tests, low) in
     ap is_path_character (sym (first_is_free ms a.ascends))
-    ∙ and (all_scalars (c ∷ [])) (not (is_left_out c)) (and (scalar c) true (low_scalar c high) refl) (λ i. not ((n0 i || n1 i) || n2 i))
+    ∙ and_from (all_scalars (c ∷ [])) (not (is_left_out c)) (and_from (scalar c) true (low_scalar c high) refl) (λ i. not ((n0 i || n1 i) || n2 i))
 sample_in_paths ms (suc i) a l = mentioned_in_paths ms (get_or ms i 0) a (mentioned_at ms i (get_or ms i 0) (omega arith) refl)
 
 -- Exactly what is added is mentioned besides.

@@ -5,12 +5,13 @@ use Rattle.std.specs.List.{list_any}
 use Rattle.std.proofs.lemmas.List.{drop-drop, drop_more, drop_all, take-map, length-map, length-drop, get_or-append-add}
 use Rattle.std.proofs.lemmas.Nat.{and_block}
 use Rattle.std.specs.Int.Bits.{and_zero_l, and_zero_r}
+use Rattle.std.proofs.lemmas.Bool.{false_from_ne_true, or_parts}
 use Rattle.std.proofs.lemmas.Bool.Decides.{nat_tests}
-use Rattle.std.proofs.Math.Bool.{and-true, and-false}
+use Rattle.std.proofs.Math.Bool.{and_comm, and-true, and-false}
 use lib.Bits.{bit_and}
 use mir.Val.{bool_byte}
 use Rattle.hub_glob.specs.declared.piece.Piece.{Piece}
-use Rattle.hub_text.specs.TestLaws.{any-map}
+use Rattle.hub_text.specs.TestLaws.{any-map, not-not, or-assoc}
 use Rattle.hub_automaton.specs.declared.alternatives.Alternatives.{Alternatives}
 use Rattle.hub_automaton.specs.Ends.{meets, end_choice, end_choices, in_range, end_all, end_flags, ends_in, end_below, below_ends}
 use Rattle.hub_automaton.specs.Spots.{is_below, is_below_kind, is_matched, spot_count, spots_count, unpacked, seen}
@@ -22,7 +23,7 @@ use Rattle.hub_automaton.proofs.Loops.{ended_is}
 use Rattle.hub_automaton.proofs.Progresses.{length-live}
 use Rattle.hub_automaton.proofs.Spotted.{each_law}
 use Rattle.hub_automaton.proofs.WordBits.{number_few, test, test-and, test-zero}
-use Rattle.hub_automaton.proofs.WordMoves.{drop-none, length-packed, packed_bit}
+use Rattle.hub_automaton.proofs.WordMoves.{bit_is, drop-none, length-packed, packed_bit}
 
 -- Rows gone through from the front.
 meets-none : (ws : List ℕ) → meets ws [] ≡ false
@@ -84,20 +85,12 @@ word_overlap (x ∷ xs) (u ∷ us) =
     ∙ ap (λ n. n == 0) (and_block 1 (word xs) (word us) (bool_byte x) (bool_byte u) (number_few x) (number_few u))
     ∙ bit_overlap x u (overlaps xs us) (bit_and (word xs) (word us)) (word_overlap xs us)
 
-not-not : (b : Bool) → not (not b) ≡ b
-not-not true = refl
-not-not false = refl
-
-or_assoc : (a b c : Bool) → ((a || b) || c) ≡ (a || (b || c))
-or_assoc true b c = refl
-or_assoc false b c = refl
-
 overlaps-split : (n : ℕ) (xs us : List Bool) → (overlaps (take n xs) (take n us) || overlaps (drop n xs) (drop n us)) ≡ overlaps xs us
 overlaps-split zero xs us = refl
 overlaps-split (suc n) [] us = refl
 overlaps-split (suc n) (x ∷ xs) [] = overlaps-none (drop n xs)
 overlaps-split (suc n) (x ∷ xs) (u ∷ us) =
-    or_assoc (x && u) (overlaps (take n xs) (take n us)) (overlaps (drop n xs) (drop n us)) ∙ ap (λ b. (x && u) || b) (overlaps-split n xs us)
+    sym (or-assoc (x && u) (overlaps (take n xs) (take n us)) (overlaps (drop n xs) (drop n us))) ∙ ap (λ b. (x && u) || b) (overlaps-split n xs us)
 
 shorter : (n : ℕ) (xs : List Bool) → length xs ≤ 64 * suc n → length (drop 64 xs) ≤ 64 * n
 shorter n xs l = omega (arith, length-drop 64 xs, l)
@@ -118,7 +111,7 @@ meets-append [] [] xs ys e = refl
 meets-append [] (v ∷ vs) xs ys e = absurd (omega (arith, e))
 meets-append (w ∷ ws) [] xs ys e = absurd (omega (arith, e))
 meets-append (w ∷ ws) (v ∷ vs) xs ys e =
-    ap (λ b. not (bit_and w v == 0) || b) (meets-append ws vs xs ys (omega (arith, e))) ∙ sym (or_assoc (not (bit_and w v == 0)) (meets ws vs) (meets xs ys))
+    ap (λ b. not (bit_and w v == 0) || b) (meets-append ws vs xs ys (omega (arith, e))) ∙ or-assoc (not (bit_and w v == 0)) (meets ws vs) (meets xs ys)
 
 -- The last positions of choices.
 length-end : (on : Bool) (c : List Piece) → length (end_choice on c) ≡ length c + 1
@@ -152,12 +145,6 @@ flags_step from to i ls b new more whole l e m h =
     let rest = end_flags from to (i + 1) (drop (i + 1) ls) in
     ap (λ bs. bs ++ rest) m ∙ append_assoc new (b ∷ []) rest ∙ ap (λ c. new ++ c ∷ rest) e ∙ ap (λ bs. new ++ bs) (sym (flags-drop from to i i ls l)) ∙ h
 
-and-comm : (a b : Bool) → (a && b) ≡ (b && a)
-and-comm true true = refl
-and-comm true false = refl
-and-comm false true = refl
-and-comm false false = refl
-
 none_active : (on : Bool) → false ≡ ((on && false) || false)
 none_active true = refl
 none_active false = refl
@@ -165,7 +152,7 @@ none_active false = refl
 choice_meets : (on : Bool) (c : List Piece) (old rest : List Bool)
     → overlaps old (end_choice on c ++ rest) ≡ ((on && slice_index_or old (length c) false) || overlaps (drop (length c + 1) old) rest)
 choice_meets on [] [] rest = none_active on
-choice_meets on [] (o ∷ old) rest = ap (λ b. b || overlaps old rest) (and-comm o on)
+choice_meets on [] (o ∷ old) rest = ap (λ b. b || overlaps old rest) (and_comm o on)
 choice_meets on (p ∷ ps) [] rest = none_active on ∙ ap (λ bs. (on && false) || overlaps bs rest) (sym (drop-none (suc (length ps) + 1)))
 choice_meets on (p ∷ ps) (o ∷ old) rest =
     let one : suc (length ps + 1) ≡ suc (length ps) + 1 = omega arith in
@@ -173,7 +160,7 @@ choice_meets on (p ∷ ps) (o ∷ old) rest =
     ∙ ap (λ n. (on && slice_index_or old (length ps) false) || overlaps (drop n (o ∷ old)) rest) one
 
 or_within : (on a b c : Bool) → ((on && a) || ((on && b) || c)) ≡ ((on && (a || b)) || c)
-or_within true a b c = sym (or_assoc a b c)
+or_within true a b c = or-assoc a b c
 or_within false a b c = refl
 
 choices_meet : (on : Bool) (cs : List (List Piece)) (old rest : List Bool)
@@ -257,22 +244,6 @@ ends_law ls t from to =
     ∙ ap (list_any g) (range_is from to ls)
 
 -- Where no last position of a `BelowPath` specification is active, none is flagged.
-or_left : (a b : Bool) → (a || b) ≡ false → a ≡ false
-or_left true b h = h
-or_left false b h = refl
-
-or_right : (a b : Bool) → (a || b) ≡ false → b ≡ false
-or_right true b h = cc
-or_right false b h = h
-
-false_unless : (b : Bool) → (b ≡ true → ⊥) → b ≡ false
-false_unless true h = absurd (h refl)
-false_unless false h = refl
-
-bit_test : (ws : List ℕ) (p : ℕ) → bit ws p ≡ test (slice_index_or ws (p / 64) 0) (p % 64)
-unfolding test
-bit_test ws p = refl
-
 zero_by : (n : ℕ) (b : Bool) → (n == 0) ≡ b → not b ≡ false → n ≡ 0
 zero_by n true e h = grind (arith, nat_tests, e)
 zero_by n false e h = cc
@@ -282,8 +253,8 @@ words_apart [] vs zero h = and_zero_l (slice_index_or vs 0 0)
 words_apart [] vs (suc k) h = and_zero_l (slice_index_or vs (suc k) 0)
 words_apart (w ∷ ws) [] zero h = and_zero_r w
 words_apart (w ∷ ws) [] (suc k) h = and_zero_r (slice_index_or ws k 0)
-words_apart (w ∷ ws) (v ∷ vs) zero h = zero_by (bit_and w v) (bit_and w v == 0) refl (or_left (not (bit_and w v == 0)) (meets ws vs) h)
-words_apart (w ∷ ws) (v ∷ vs) (suc k) h = words_apart ws vs k (or_right (not (bit_and w v == 0)) (meets ws vs) h)
+words_apart (w ∷ ws) (v ∷ vs) zero h = zero_by (bit_and w v) (bit_and w v == 0) refl (or_parts (not (bit_and w v == 0)) (meets ws vs) h).0
+words_apart (w ∷ ws) (v ∷ vs) (suc k) h = words_apart ws vs k (or_parts (not (bit_and w v == 0)) (meets ws vs) h).1
 
 bits_apart : (ws vs : List ℕ) (p : ℕ) → meets ws vs ≡ false → bit ws p ≡ true → bit vs p ≡ true → ⊥
 bits_apart ws vs p h a b =
@@ -292,7 +263,7 @@ bits_apart ws vs p h a b =
     let w = slice_index_or ws k 0 in
     let v = slice_index_or vs k 0 in
     let none : (test w i && test v i) ≡ false = sym (test-and w v i) ∙ ap (λ n. test n i) (words_apart ws vs k h) ∙ test-zero i in
-    let both : true ≡ false = (λ j. (sym a ∙ bit_test ws p) j && (sym b ∙ bit_test vs p) j) ∙ none in
+    let both : true ≡ false = (λ j. (sym a ∙ bit_is ws p) j && (sym b ∙ bit_is vs p) j) ∙ none in
     cc
 
 -- No position is active and in a mask, from a place on.
@@ -313,7 +284,7 @@ none_ended live n [] rest h = refl
 none_ended live n (c ∷ cs) rest h =
     let all = append_assoc (end_choice true c) (end_choices true cs) rest in
     let here : Apart live n (end_choice true c ++ (end_choices true cs ++ rest)) = λ p a b. h p a (ap (λ bs. slice_index_or bs p false) all ∙ b) in
-    let first : bit live (n + length c) ≡ false = false_unless (bit live (n + length c)) (λ a. here (length c) a (end_there c (end_choices true cs ++ rest))) in
+    let first : bit live (n + length c) ≡ false = false_from_ne_true (bit live (n + length c)) (λ a. here (length c) a (end_there c (end_choices true cs ++ rest))) in
     (λ i. first i || ended_at cs live (n + (length c + 1)))
     ∙ none_ended live (n + (length c + 1)) cs rest (apart_more live n (length c + 1) (end_choice true c) (end_choices true cs ++ rest) (length-end true c) here)
 

@@ -8,8 +8,9 @@ use Rattle.hub_glob.specs.declared.piece.Piece.{Piece}
 use Rattle.hub_glob.specs.declared.piece.Piece.TheVariants.{Run}
 use Rattle.hub_glob.specs.declared.path_spec.Kind.{Kind}
 use Rattle.hub_glob.specs.Taking.{takes}
+use Rattle.hub_text.specs.ListLaws.{drop-tail, head-drop}
 use Rattle.hub_text.specs.TestLaws.{head, tail, any-map}
-use Rattle.std.proofs.Math.Bool.{and-true, and-false, or-false}
+use Rattle.std.proofs.Math.Bool.{and-true, and-false, or-false, or-true}
 use Rattle.hub_automaton.specs.declared.alternatives.Alternatives.{Alternatives}
 use Rattle.hub_automaton.specs.declared.masks.Mask.{Mask}
 use Rattle.hub_automaton.specs.declared.masks.Mask.TheVariants as mask
@@ -147,20 +148,6 @@ ended_is_at (c ∷ cs) old n =
     λ i. (bit_is old (n + length c) ∙ sym (ended_place c old n (slice_index_or old (n + length c) false) refl)) i
     || (ended_is_at cs old (n + (length c + 1)) ∙ ap (ended_choices cs) (sym (drop-drop (length c + 1) n old))) i
 
-head-drop : (i : ℕ) (bs : List Bool) → slice_index_or bs i false ≡ head (drop i bs)
-head-drop zero [] = refl
-head-drop zero (b ∷ bs) = refl
-head-drop (suc i) [] = refl
-head-drop (suc i) (b ∷ bs) = head-drop i bs
-
-tail-drop : (i : ℕ) (bs : List Bool) → drop (i + 1) bs ≡ tail (drop i bs)
-tail-drop i bs = ap (λ n. drop n bs) (add-one i) ∙ by i bs where
-  by : (i : ℕ) (bs : List Bool) → drop (suc i) bs ≡ tail (drop i bs)
-  by zero [] = refl
-  by zero (b ∷ bs) = refl
-  by (suc i) [] = refl
-  by (suc i) (b ∷ bs) = by i bs
-
 -- Whether some test is passed from a place on, where the first of them has this number.
 abbrev pub any_from : ℕ → ℕ → List Bool → Bool
 any_from from i [] = false
@@ -187,7 +174,7 @@ matched_is_at [] from flags old n i = refl
 matched_is_at (a ∷ ls) from flags old n i =
     λ j. (not (nat_lt i from) && ((bit_is flags i ∙ head-drop i flags) j || ended_is_at a.choices old n j))
     || (matched_is_at ls from flags old (n + spot_count a.choices) (i + 1)
-    ∙ (λ k. any_from from (i + 1) (matched_each ls (tail-drop i flags k) (sym (drop-drop (spot_count a.choices) n old) k)))) j
+    ∙ (λ k. any_from from (i + 1) (matched_each ls ((ap (λ m. drop m flags) (add-one i) ∙ drop-tail i flags) k) (sym (drop-drop (spot_count a.choices) n old) k)))) j
 
 each-take : (n : ℕ) (ls : List Alternatives) (flags old : List Bool) → matched_each (take n ls) flags old ≡ take n (matched_each ls flags old)
 each-take zero ls flags old = refl
@@ -236,17 +223,13 @@ below_is : (x : NextCharacter) (a : Alternatives) (old : List Bool) (n : ℕ) �
     → (is_below_kind a.kind && ended_at a.choices (packed old) n) ≡ goes_below x a (drop n old)
 below_is x a old n e = λ i. sym (ap (λ b. is_below_kind a.kind && b) e ∙ and-true (is_below_kind a.kind)) i && ended_is_at a.choices old n i
 
-or-true : (a : Bool) → true ≡ (a || true)
-or-true true = refl
-or-true false = refl
-
 pub flag_set : (front : List ℕ) (before flags : List Bool) (f b : Bool)
     → cond b (with_bit (length front) (length before) (front ++ packed (before ++ f ∷ flags))) (front ++ packed (before ++ f ∷ flags))
     ≡ front ++ packed (before ++ (f || b) ∷ flags)
 flag_set front before flags f false = ap (λ g. front ++ packed (before ++ g ∷ flags)) (sym (or-false f))
 flag_set front before flags f true =
     set_packed front (length before) (before ++ f ∷ flags) (omega (arith, length-append before (f ∷ flags)))
-    ∙ ap (λ bs. front ++ packed bs) (set_at before f flags true (length before) refl) ∙ ap (λ g. front ++ packed (before ++ g ∷ flags)) (or-true f)
+    ∙ ap (λ bs. front ++ packed bs) (set_at before f flags true (length before) refl) ∙ ap (λ g. front ++ packed (before ++ g ∷ flags)) (sym (or-true f))
 
 marks : (x : NextCharacter) (ls : List Alternatives) (flags old : List Bool) (front : List ℕ) (n : ℕ) (before : List Bool) → (x.character == 47) ≡ true → length flags ≡ length ls
     → marked ls (packed old) n (length front) (length before) (front ++ packed (before ++ flags)) ≡ front ++ packed (before ++ below_all x ls flags (drop n old))

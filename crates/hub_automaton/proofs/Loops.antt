@@ -1,13 +1,17 @@
 -- Lists gone through from the front: what is done already, and what is left to do, make the whole.
-use Rattle.std.proofs.Common.{◌≡◌, ℕ, suc, zero, ◌+◌, ◌<◌, ◌≤◌, Bool, false, List, [], ◌∷◌, ◌++◌, map, length, drop, get_or, refl, sym, ap, ◌∙◌, append-nil, append_assoc}
+use Rattle.std.proofs.Common.{◌≡◌, ℕ, suc, zero, ◌+◌, ◌≤◌, Bool, false, List, [], ◌∷◌, ◌++◌, map, length, drop, refl, sym, ap, ◌∙◌, append-nil, append_assoc}
 use Rattle.std.specs.Prelude.{slice_index_or}
 use Rattle.std.specs.List.{flat_map}
-use Rattle.std.proofs.lemmas.List.{drop_more, drop_all, get_or-drop}
+use Rattle.std.proofs.lemmas.List.{drop_all, get_or-drop}
 use Rattle.hub_glob.specs.declared.piece.Piece.{Piece}
+use Rattle.hub_text.specs.TestLaws.{tail}
 use Rattle.hub_automaton.specs.Stepping.{last_spot, ended}
 
-pub next_drop : {X : Type 0} (xs : List X) (i : ℕ) (x : X) → i < length xs → x ≡ get_or xs i x → drop i xs ≡ x ∷ drop (i + 1) xs
-next_drop xs i x l e = drop_more xs i x l ∙ ap (λ y. y ∷ drop (i + 1) xs) (sym e)
+-- The tests behind the first one, from a place on.
+pub drop-of_tail : (n : ℕ) (bs : List Bool) → drop n (tail bs) ≡ drop (suc n) bs
+drop-of_tail zero [] = refl
+drop-of_tail (suc n) [] = refl
+drop-of_tail n (b ∷ bs) = refl
 
 -- A list made part by part.
 pub flat_step : {X : Type 0} (f : X → List Bool) (xs : List X) (i : ℕ) (x : X) (new more whole : List Bool) → drop i xs ≡ x ∷ drop (i + 1) xs

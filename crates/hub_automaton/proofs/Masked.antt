@@ -1,6 +1,7 @@
 -- Spots that move by masks, and what that is for the pieces of choices.
-use Rattle.std.proofs.Common.{◌≡◌, ℕ, suc, zero, ◌+◌, Bool, true, false, not, ◌&&◌, ◌||◌, ◌==◌, cond, List, [], ◌∷◌, ◌++◌, map, length, drop, refl, sym, ap, ◌∙◌, append_assoc, add-one}
+use Rattle.std.proofs.Common.{◌≡◌, ◌+◌, Bool, true, false, not, ◌&&◌, ◌||◌, ◌==◌, cond, List, [], ◌∷◌, ◌++◌, map, length, drop, refl, sym, ap, ◌∙◌, append_assoc, add-one}
 use Rattle.std.specs.List.{flat_map}
+use Rattle.std.proofs.lemmas.Bool.{and_parts}
 use Rattle.std.proofs.lemmas.List.{drop-drop}
 use Rattle.hub_glob.specs.declared.piece.Piece.{Piece}
 use Rattle.hub_glob.specs.declared.piece.Piece.TheVariants.{Lit, Any, Run, OneOf}
@@ -14,11 +15,7 @@ use Rattle.hub_automaton.specs.Masks.{mask_choice, mask_choices, mask_all}
 use Rattle.hub_automaton.specs.Spots.{is_name_kind, spot_count}
 use Rattle.hub_automaton.specs.Stepping.{spot_past, stepped_pieces, stepped, entered_pieces, entered, stepped_choices, entered_choices, stepped_one, stepped_all}
 use Rattle.hub_automaton.specs.Words.{moved}
-
-drop-tail : (n : ℕ) (bs : List Bool) → drop n (tail bs) ≡ drop (suc n) bs
-drop-tail zero [] = refl
-drop-tail (suc n) [] = refl
-drop-tail n (b ∷ bs) = refl
+use Rattle.hub_automaton.proofs.Loops.{drop-of_tail}
 
 -- Bits that begin with some, and go on with others, whatever they go on from.
 record Begins (whole front : List Bool) (rest : Bool → Bool → List Bool) : Type 0 where
@@ -74,7 +71,7 @@ pieces_move x (p ∷ ps) es ss ts old here before =
       is = (λ i. let b = spot_is x p here (head old) before i in
           b ∷ moved (takes x Run) (map (λ q. false) ps ++ es) (map is_star ps ++ ss) (map (taker true x) ps ++ ts) (tail old) (head old) b)
           ∙ ap (λ bs. spot ∷ bs) more.is
-          ∙ ap (λ bs. spot ∷ (stepped_pieces x (head old) spot ps (tail old) ++ moved (takes x Run) es ss ts bs more.here more.before)) (drop-tail (length ps) old);
+          ∙ ap (λ bs. spot ∷ (stepped_pieces x (head old) spot ps (tail old) ++ moved (takes x Run) es ss ts bs more.here more.before)) (drop-of_tail (length ps) old);
     }
 
 -- The same where they are entered.
@@ -90,7 +87,7 @@ pieces_enter x (p ∷ ps) es ss ts old here before =
       here = more.here;
       before = more.before;
       is = ap (λ bs. spot ∷ bs) more.is
-          ∙ ap (λ bs. spot ∷ (entered_pieces spot ps ++ moved false es ss ts bs more.here more.before)) (drop-tail (length ps) old);
+          ∙ ap (λ bs. spot ∷ (entered_pieces spot ps ++ moved false es ss ts bs more.here more.before)) (drop-of_tail (length ps) old);
     }
 
 -- A choice, with the spot that is entered.
@@ -108,16 +105,12 @@ first_spot true stays there here before = refl
 first_spot false true there here before = refl
 first_spot false false there here before = refl
 
-right_true : (a b : Bool) → (a && b) ≡ true → b ≡ true
-right_true true b h = h
-right_true false b h = cc
-
 choice_moves : (x : NextCharacter) (k : Kind) (c : List Piece) (es ss ts old : List Bool) (here before : Bool)
     → Begins (moved (takes x Run) (entry x k c ++ es) (mask_choice mask.Stars k c ++ ss) (mask_choice (mask.Takers x.character) k c ++ ts) old here before)
     (cond (is_name_kind k && x.character == 47) (entered c) (stepped x c old)) (moved (takes x Run) es ss ts (drop (length c + 1) old))
 choice_moves x k c es ss ts old here before = by_test (is_name_kind k && x.character == 47) refl where
   after : drop (length c) (tail old) ≡ drop (length c + 1) old
-  after = drop-tail (length c) old ∙ ap (λ n. drop n old) (sym (add-one (length c)))
+  after = drop-of_tail (length c) old ∙ ap (λ n. drop n old) (sym (add-one (length c)))
 
   by_test : (b : Bool) → (is_name_kind k && x.character == 47) ≡ b
       → Begins (moved (takes x Run) ((b ∷ map (λ p. false) c) ++ es) ((false ∷ map is_star c) ++ ss) ((false ∷ map (taker (not b) x) c) ++ ts) old here before)
@@ -133,7 +126,7 @@ choice_moves x k c es ss ts old here before = by_test (is_name_kind k && x.chara
             ∙ ap (λ bs. false ∷ (stepped_pieces x (head old) false c (tail old) ++ moved (takes x Run) es ss ts bs more.here more.before)) after;
       }
   by_test true e =
-      let none : takes x Run ≡ false = ap (λ b. not b && not (x.first && x.character == 46)) (right_true (is_name_kind k) (x.character == 47) e) in
+      let none : takes x Run ≡ false = ap (λ b. not b && not (x.first && x.character == 46)) (and_parts (is_name_kind k) (x.character == 47) e).1 in
       let more = pieces_enter x c es ss ts (tail old) (head old) true in
       record {
         here = more.here;

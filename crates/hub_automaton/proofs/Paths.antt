@@ -1,15 +1,16 @@
 -- Paths as choices.
-use Rattle.std.proofs.Common.{◌≡◌, inl, inr, ⊎_elim, ◌<◌, ℕ, ◌+◌, Bool, true, false, not, ◌&&◌, ◌==◌, List, [], ◌∷◌, ◌++◌, map, length, refl, sym, ap, ◌∙◌, arith}
+use Rattle.std.proofs.Common.{◌≡◌, inl, inr, ⊎_elim, ◌<◌, ℕ, ◌+◌, Bool, true, ◌&&◌, ◌==◌, List, [], ◌∷◌, ◌++◌, map, length, refl, sym, ap, ◌∙◌, arith}
 use Rattle.std.specs.Prelude.{nat_eq, chars, encode_utf8_all}
-use Rattle.std.specs.List.{list_all, flat_map}
+use Rattle.std.specs.List.{flat_map}
 use Rattle.std.specs.Str.{all_scalars}
 use Rattle.std.proofs.lemmas.Str.{chars-encodes}
 use lib.Utf8.{scalar}
 use Rattle.std.proofs.lemmas.List.{length-map}
+use Rattle.std.proofs.lemmas.Bool.{and_from, and_parts}
 use Rattle.std.proofs.lemmas.Bool.Decides.{nat_tests, Decides-like, same_from_decides}
-use Rattle.std.proofs.lemmas.Slice.Eq.{slice_eq-Decides}
-use Rattle.hub_path.specs.Path.{Path, name_eq, path_eq, is_name, is_place, is_path, is_forbidden, is_dots, text_of, path_of}
-use Rattle.hub_path.specs.Laws.{name_eq-decides, path_of-text_of, text_of-path_of}
+use Rattle.hub_path.specs.Path.{Path, name_eq, path_eq, is_name, is_place, is_path, text_of, path_of}
+use Rattle.hub_path.specs.NameFacts.{name_parts}
+use Rattle.hub_path.specs.Laws.{name_eq-decides, path_eq-decides, path_of-text_of, text_of-path_of}
 use Rattle.std.proofs.Math.Bool.{and-true, or-false}
 use Rattle.hub_glob.specs.declared.piece.Piece.TheVariants.{Lit}
 use Rattle.hub_glob.specs.Glob.{pieces, no_more}
@@ -19,8 +20,8 @@ use Rattle.hub_automaton.specs.declared.alternatives.TheConstants.{SPOTS}
 use Rattle.hub_automaton.specs.declared.fault.AutomatonFault.{AutomatonFault}
 use Rattle.hub_automaton.specs.Alphabet.{IsAlphabet, is_mentioned, mentions, piece_characters, path_characters}
 use Rattle.hub_automaton.specs.Spots.{path_alternatives, is_matched, is_covered, spots_count, RefusesSpots}
-use Rattle.hub_automaton.proofs.Alphabets.{both, and}
-use Rattle.hub_automaton.proofs.Covered.{mentions-join, mentions-parts}
+use Rattle.hub_automaton.specs.AddedInTurn.{parts-mentioned}
+use Rattle.hub_automaton.proofs.Covered.{mentions-join}
 
 flip : (x c : ℕ) → (x == c) ≡ nat_eq c x
 flip x c = grind (arith, nat_tests)
@@ -36,7 +37,7 @@ same_text : (s : Path) (t : List ℕ) → is_path s ≡ true → name_eq (text_o
 same_text s t h =
     same_from_decides (name_eq (text_of s) t) (path_eq s (path_of t))
     (Decides-like (name_eq (text_of s) t) (λ e. sym (path_of-text_of s h) ∙ ap path_of e) (λ e. ap text_of e ∙ text_of-path_of t) (name_eq-decides (text_of s) t))
-    (slice_eq-Decides name_eq-decides s (path_of t) (path_eq s (path_of t)) refl)
+    (path_eq-decides s (path_of t))
 
 pub text_law : (s t : List ℕ) → is_matched (path_alternatives s) t ≡ name_eq s t
 text_law s t = or-false (pieces (map Lit s) no_more true t) ∙ literals_match s true t
@@ -53,31 +54,26 @@ path_covered ms s h = and-true (mentions ms (flat_map piece_characters (map Lit 
 
 pub text_mentioned : (ms : List ℕ) (p : Path) → IsAlphabet ms → mentions ms (path_characters p) ≡ true → mentions ms (text_of p) ≡ true
 text_mentioned ms [] a h = refl
-text_mentioned ms (n ∷ []) a h = (mentions-parts ms n [] h).0
+text_mentioned ms (n ∷ []) a h = (parts-mentioned ms n [] h).0
 text_mentioned ms (n ∷ m ∷ p) a h =
-    let w = mentions-parts ms n (path_characters (m ∷ p)) h in
-    mentions-join ms n (47 ∷ text_of (m ∷ p)) w.0 (and (is_mentioned ms 47) (mentions ms (text_of (m ∷ p))) a.slash (text_mentioned ms (m ∷ p) a w.1))
+    let w = parts-mentioned ms n (path_characters (m ∷ p)) h in
+    mentions-join ms n (47 ∷ text_of (m ∷ p)) w.0 (and_from (is_mentioned ms 47) (mentions ms (text_of (m ∷ p))) a.slash (text_mentioned ms (m ∷ p) a w.1))
 
 pub path_spots : (s : List ℕ) → spots_count (path_alternatives s ∷ []) ≡ length s + 1
 path_spots s = omega (arith, length-map s Lit)
 
 -- The characters of a path's text are Unicode scalar values.
-second : (a b c d : Bool) → (a && b && c && d) ≡ true → b ≡ true
-second true true c d h = refl
-second true false c d h = h
-second false b c d h = cc
-
 scalars-append : (s t : List ℕ) → all_scalars s ≡ true → all_scalars t ≡ true → all_scalars (s ++ t) ≡ true
 scalars-append [] t h k = k
 scalars-append (c ∷ s) t h k =
-    let w = both (scalar c) (all_scalars s) h in and (scalar c) (all_scalars (s ++ t)) w.0 (scalars-append s t w.1 k)
+    let w = and_parts (scalar c) (all_scalars s) h in and_from (scalar c) (all_scalars (s ++ t)) w.0 (scalars-append s t w.1 k)
 
 scalars-text : (p : Path) → is_place p ≡ true → all_scalars (text_of p) ≡ true
 scalars-text [] h = refl
-scalars-text (n ∷ []) h = second (not (length n == 0)) (all_scalars n) (list_all (λ c. not (is_forbidden c)) n) (not (is_dots n)) (both (is_name n) true h).0
+scalars-text (n ∷ []) h = (name_parts n (and_parts (is_name n) true h).0).scalars
 scalars-text (n ∷ m ∷ p) h =
-    let w = both (is_name n) (is_place (m ∷ p)) h in
-    scalars-append n (47 ∷ text_of (m ∷ p)) (second (not (length n == 0)) (all_scalars n) (list_all (λ c. not (is_forbidden c)) n) (not (is_dots n)) w.0)
+    let w = and_parts (is_name n) (is_place (m ∷ p)) h in
+    scalars-append n (47 ∷ text_of (m ∷ p)) (name_parts n w.0).scalars
     (scalars-append (47 ∷ []) (text_of (m ∷ p)) refl (scalars-text (m ∷ p) w.1))
 
 pub text_chars : (p : Path) (bs : List ℕ) → is_place p ≡ true → bs ≡ encode_utf8_all (text_of p) → chars bs ≡ text_of p

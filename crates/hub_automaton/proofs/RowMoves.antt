@@ -18,6 +18,7 @@ use Rattle.hub_automaton.specs.Masks.{ended_at, marked, moved_row, moved_seen}
 use Rattle.hub_automaton.specs.Rows.{AreMovedApart, AreMoved, AreTakenAlike, NoneCarried, last_before, masks_at, shifted_at, word_at}
 use Rattle.hub_automaton.specs.Spots.{Seen, is_below_kind, spot_count}
 use Rattle.hub_automaton.specs.Words.{first_word, other_words, spread, moved_word, moved_words, with_bit}
+use Rattle.hub_automaton.proofs.WordLoops.{first-drop}
 
 abbrev get : List ℕ → ℕ → ℕ
 get ws i = slice_index_or ws i 0
@@ -159,10 +160,6 @@ carry_step stays es ss ts old first ws n i here before o w m h l r eb eh em eo e
         ∙ ap (word_at stays es ss ts old j) (sym (before-set ws i j w (omega arith)))
 
 -- A list of words that are moved one by one.
-first-at : (ws : List ℕ) → slice_index_or ws 0 0 ≡ first_word ws
-first-at [] = refl
-first-at (w ∷ ws) = refl
-
 others-at : (ws : List ℕ) (j : ℕ) → slice_index_or ws (suc j) 0 ≡ slice_index_or (other_words ws) j 0
 others-at [] zero = refl
 others-at [] (suc j) = refl
@@ -180,7 +177,7 @@ all_moved stays es ss ts [] (w ∷ ws) here before l h = absurd (omega (arith, l
 all_moved stays es ss ts (o ∷ os) [] here before l h = absurd (omega (arith, l))
 all_moved stays es ss ts (o ∷ os) (w ∷ ws) here before l h =
     let first : w ≡ moved_word stays (record { entries = first_word es; stars = first_word ss; takers = first_word ts }) o here before =
-    h zero (omega arith) ∙ (λ k. let m : Masks = record { entries = first-at es k; stars = first-at ss k; takers = first-at ts k } in moved_word stays m o here before) in
+    h zero (omega arith) ∙ (λ k. let m : Masks = record { entries = first-drop 0 es k; stars = first-drop 0 ss k; takers = first-drop 0 ts k } in moved_word stays m o here before) in
     let rest : ws ≡ moved_words stays (other_words es) (other_words ss) (other_words ts) os (o / 2 ^ 63) (w / 2 ^ 63) =
     all_moved stays (other_words es) (other_words ss) (other_words ts) os ws (o / 2 ^ 63) (w / 2 ^ 63) (omega (arith, l))
     (λ j q. h (suc j) (omega arith)
@@ -223,7 +220,7 @@ words_alike stays es ss ts us [] here before h = refl
 words_alike stays es ss ts us (o ∷ os) here before h =
     let shifted : ℕ = bit_or (o * 2 ^ 1 % 2 ^ 64) here in
     let taken : bit_and (first_word ts) shifted ≡ bit_and (first_word us) shifted =
-    ap (λ w. bit_and w shifted) (sym (first-at ts)) ∙ h zero (omega arith) ∙ ap (λ w. bit_and w shifted) (first-at us) in
+    ap (λ w. bit_and w shifted) (sym (first-drop 0 ts)) ∙ h zero (omega arith) ∙ ap (λ w. bit_and w shifted) (first-drop 0 us) in
     let word : ℕ → ℕ = λ z. spread (first_word ss) (bit_or (first_word es) (bit_or (cond stays (bit_and (first_word ss) o) 0) (bit_or z (bit_and (first_word ss) before)))) in
     let w : ℕ = word (bit_and (first_word us) shifted) in
     let rest : moved_words stays (other_words es) (other_words ss) (other_words ts) os (o / 2 ^ 63) (w / 2 ^ 63) ≡ moved_words stays (other_words es) (other_words ss) (other_words us) os (o / 2 ^ 63) (w / 2 ^ 63) =

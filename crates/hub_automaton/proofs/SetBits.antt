@@ -7,10 +7,10 @@ use Rattle.std.proofs.lemmas.Nat.{or_lt}
 use Rattle.std.proofs.lemmas.Nat.Bits.{bit_at-pow_same, bit_at-pow_other}
 use Rattle.std.proofs.lemmas.Bool.Decides.{nat_tests}
 use Rattle.std.proofs.Math.Nat.{pow-le-pow_right}
-use Rattle.std.proofs.Math.Bool.{or-false}
+use Rattle.std.proofs.Math.Bool.{or-false, or-true}
 use Rattle.hub_automaton.specs.Words.{word, words_for, packed_by, packed, with_bit}
-use Rattle.hub_automaton.proofs.WordBits.{test, test-or, test-word, word_few, same_tests}
-use Rattle.hub_automaton.proofs.WordMoves.{length-take_le}
+use Rattle.hub_automaton.proofs.WordBits.{test, test-or, test-word, same_tests}
+use Rattle.hub_automaton.proofs.WordMoves.{length-take_le, word_low}
 
 pub power_low : (k : ℕ) → k < 64 → 2 ^ k < 2 ^ 64
 power_low k l = omega (arith, pow-le-pow_right {n = 2} (omega arith) (let m : k ≤ 63 = omega arith in m))
@@ -25,10 +25,6 @@ test-power_same k = ap (λ n. n == 1) (bit_at-pow_same k)
 pub test-power_other : (k i : ℕ) → i ≢ k → test (2 ^ k) i ≡ false
 unfolding test
 test-power_other k i h = ap (λ n. n == 1) (bit_at-pow_other k i h)
-
-or-true : (a : Bool) → (a || true) ≡ true
-or-true true = refl
-or-true false = refl
 
 -- One word.
 set_test : (bs : List Bool) (r i : ℕ) → r < length bs → test (bit_or (word bs) (2 ^ r)) i ≡ slice_index_or (slice_set bs r true) i false
@@ -54,13 +50,10 @@ length-take_more (suc n) r [] l m = absurd (omega arith)
 length-take_more (suc n) zero (b ∷ bs) l m = omega arith
 length-take_more (suc n) (suc r) (b ∷ bs) l m = omega (arith, length-take_more n r bs (omega arith) (omega arith))
 
-few_bits : (bs : List Bool) → length bs ≤ 64 → word bs < 2 ^ 64
-few_bits bs l = omega (arith, word_few bs, pow-le-pow_right {n = 2} (omega arith) l)
-
 set_word : (bs : List Bool) (r : ℕ) → r < 64 → r < length bs → length bs ≤ 64 → bit_or (word bs) (2 ^ r) ≡ word (slice_set bs r true)
 set_word bs r k l m =
     let fits : length (slice_set bs r true) ≤ 64 = omega (arith, length-set bs r true) in
-    same_tests (bit_or (word bs) (2 ^ r)) (word (slice_set bs r true)) (or_lt 64 (word bs) (2 ^ r) (few_bits bs m) (power_low r k)) (few_bits (slice_set bs r true) fits)
+    same_tests (bit_or (word bs) (2 ^ r)) (word (slice_set bs r true)) (or_lt 64 (word bs) (2 ^ r) (word_low bs m) (power_low r k)) (word_low (slice_set bs r true) fits)
     (λ i n. set_test bs r i l ∙ sym (test-word (slice_set bs r true) i))
 
 -- All words.

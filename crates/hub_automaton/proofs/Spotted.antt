@@ -2,10 +2,12 @@
 use Rattle.std.proofs.Common.{◌≡◌, ◌⊎◌, inl, inr, ⊎_elim, ℕ, suc, zero, ◌+◌, ◌<◌, Bool, true, false, not, ◌&&◌, ◌||◌, ◌==◌, cond, List, [], ◌∷◌, ◌++◌, map, length, drop, get_or, refl, sym, ap, ◌∙◌, arith, append-nil, append_assoc}
 use Rattle.std.specs.Prelude.{Option, Some, None, unwrap_or}
 use Rattle.std.specs.List.{list_any, list_all, flat_map, position_from}
-use Rattle.std.specs.Str.{all_scalars}
 use Rattle.std.proofs.lemmas.List.{drop_at, length-append}
+use Rattle.std.proofs.lemmas.List.Folds.{list_all-append}
+use Rattle.std.proofs.lemmas.Bool.{and_parts, not-true, or_right}
 use Rattle.std.proofs.lemmas.Bool.Decides.{nat_tests}
-use Rattle.hub_path.specs.Path.{Name, Path, is_name, is_place, is_path, is_forbidden, is_dots, text_of, last_name, prefixes}
+use Rattle.hub_path.specs.Path.{Name, Path, is_name, is_place, is_path, text_of, last_name, prefixes}
+use Rattle.hub_path.specs.Laws.{is_apart, name-apart}
 use Rattle.hub_glob.specs.declared.piece.Piece.{Piece}
 use Rattle.hub_glob.specs.declared.piece.Piece.TheVariants.{Lit, Any, Run, OneOf}
 use Rattle.hub_glob.specs.declared.piece.Part.{Part}
@@ -22,7 +24,7 @@ use Rattle.hub_automaton.specs.declared.alternatives.Alternatives.{Alternatives}
 use Rattle.hub_glob.specs.declared.piece.NextCharacter.{NextCharacter}
 use Rattle.hub_automaton.specs.Spots.{spots, since_slash, looked_at, folders, starts, fits, is_name_kind, is_below_kind, alternatives_of, spots_of, is_below, is_matched, Unpacked, unpacked, spot_count, is_covered}
 use Rattle.hub_automaton.specs.Stepping.{stepped_pieces, stepped, ended, stepped_choices, ended_choices, entered_choices, stepped_all, below_all, matched_each, pushed}
-use Rattle.hub_automaton.proofs.Alphabets.{both, and, sample_class}
+use Rattle.hub_automaton.proofs.Alphabets.{sample_class}
 use Rattle.hub_automaton.proofs.Steps.{next_of, choice_law, ended_law, empty_spots, length-spots, front_matches}
 
 -- The part of a text that is looked at, with one more character.
@@ -234,36 +236,25 @@ flip x c = grind (arith, nat_tests)
 any_told : (ms : List ℕ) (x y : ℕ) (cs : List ℕ) → Alike ms x y → mentions ms cs ≡ true → list_any (λ c. c == x) cs ≡ list_any (λ c. c == y) cs
 any_told ms x y [] a h = refl
 any_told ms x y (c ∷ cs) a h =
-    let w = both (is_left_out c || is_mentioned ms c) (mentions ms cs) h in
+    let w = and_parts (is_left_out c || is_mentioned ms c) (mentions ms cs) h in
     λ i. (flip x c ∙ told ms x y c a w.0 ∙ sym (flip y c)) i || any_told ms x y cs a w.1 i
 
 abbrev at_character : Bool → ℕ → NextCharacter
 at_character f x = record { character = x; first = f }
 
-right_or : (a b : Bool) → b ≡ true → (a || b) ≡ true
-right_or true b h = refl
-right_or false b h = h
-
 takes_alike : (ms : List ℕ) (x y : ℕ) (f : Bool) (p : Piece) → IsAlphabet ms → Alike ms x y → mentions ms (piece_characters p) ≡ true
     → takes (at_character f x) p ≡ takes (at_character f y) p
-takes_alike ms x y f (Lit c) l a h = told ms x y c a (both (is_left_out c || is_mentioned ms c) true h).0
-takes_alike ms x y f Any l a h = ap not (told ms x y 47 a (right_or (is_left_out 47) (is_mentioned ms 47) l.slash))
+takes_alike ms x y f (Lit c) l a h = told ms x y c a (and_parts (is_left_out c || is_mentioned ms c) true h).0
+takes_alike ms x y f Any l a h = ap not (told ms x y 47 a (or_right (is_left_out 47) (is_mentioned ms 47) l.slash))
 takes_alike ms x y f Run l a h =
-    λ i. not (told ms x y 47 a (right_or (is_left_out 47) (is_mentioned ms 47) l.slash) i) && not (f && told ms x y 46 a (right_or (is_left_out 46) (is_mentioned ms 46) l.dot) i)
+    λ i. not (told ms x y 47 a (or_right (is_left_out 47) (is_mentioned ms 47) l.slash) i) && not (f && told ms x y 46 a (or_right (is_left_out 46) (is_mentioned ms 46) l.dot) i)
 takes_alike ms x y f (OneOf cs) l a h = any_told ms x y cs a h
-
-pub all-append : (p : ℕ → Bool) (xs ys : List ℕ) → list_all p (xs ++ ys) ≡ (list_all p xs && list_all p ys)
-all-append p [] ys = refl
-all-append p (x ∷ xs) ys = ap (λ b. p x && b) (all-append p xs ys) ∙ assoc (p x) (list_all p xs) (list_all p ys) where
-  assoc : (a b c : Bool) → (a && (b && c)) ≡ ((a && b) && c)
-  assoc true b c = refl
-  assoc false b c = refl
 
 stepped_alike : (ms : List ℕ) (x y : ℕ) (f here before : Bool) (ps : List Piece) (old : List Bool) → IsAlphabet ms → Alike ms x y
     → mentions ms (pieces_characters ps) ≡ true → stepped_pieces (at_character f x) here before ps old ≡ stepped_pieces (at_character f y) here before ps old
 stepped_alike ms x y f here before [] old l a h = refl
 stepped_alike ms x y f here before (p ∷ ps) old l a h =
-    let w = both (mentions ms (piece_characters p)) (mentions ms (pieces_characters ps)) (sym (all-append (λ c. is_left_out c || is_mentioned ms c) (piece_characters p) (pieces_characters ps)) ∙ h) in
+    let w = and_parts (mentions ms (piece_characters p)) (mentions ms (pieces_characters ps)) (sym (list_all-append (λ c. is_left_out c || is_mentioned ms c) (piece_characters p) (pieces_characters ps)) ∙ h) in
     let t = takes_alike ms x y f p l a w.0 in
     let spot : Bool → Bool = λ b. cond (is_star p) (before || head old && b) (here && b) in
     (λ i. spot (t i) ∷ stepped_pieces (at_character f x) (head old) (spot (t i)) ps (tail old))
@@ -273,17 +264,17 @@ choices_alike : (ms : List ℕ) (x y : ℕ) (f : Bool) (cs : List (List Piece)) 
     → list_all (λ c. mentions ms (pieces_characters c)) cs ≡ true → stepped_choices (at_character f x) cs old ≡ stepped_choices (at_character f y) cs old
 choices_alike ms x y f [] old l a h = refl
 choices_alike ms x y f (c ∷ cs) old l a h =
-    let w = both (mentions ms (pieces_characters c)) (list_all (λ d. mentions ms (pieces_characters d)) cs) h in
+    let w = and_parts (mentions ms (pieces_characters c)) (list_all (λ d. mentions ms (pieces_characters d)) cs) h in
     λ i. (false ∷ stepped_alike ms x y f (head old) false c (tail old) l a w.0 i) ++ choices_alike ms x y f cs (drop (length c + 1) old) l a w.1 i
 
 slash_alike : (ms : List ℕ) (x y : ℕ) → IsAlphabet ms → Alike ms x y → (x == 47) ≡ (y == 47)
-slash_alike ms x y l a = told ms x y 47 a (right_or (is_left_out 47) (is_mentioned ms 47) l.slash)
+slash_alike ms x y l a = told ms x y 47 a (or_right (is_left_out 47) (is_mentioned ms 47) l.slash)
 
 all_alike : (ms : List ℕ) (x y : ℕ) (f : Bool) (ls : List Alternatives) (old : List Bool) → IsAlphabet ms → Alike ms x y
     → list_all (is_covered ms) ls ≡ true → stepped_all (at_character f x) ls old ≡ stepped_all (at_character f y) ls old
 all_alike ms x y f [] old l a h = refl
 all_alike ms x y f (b ∷ ls) old l a h =
-    let w = both (is_covered ms b) (list_all (is_covered ms) ls) h in
+    let w = and_parts (is_covered ms b) (list_all (is_covered ms) ls) h in
     λ i. cond (is_name_kind b.kind && slash_alike ms x y l a i) (entered_choices b.choices) (choices_alike ms x y f b.choices old l a w.0 i)
     ++ all_alike ms x y f ls (drop (spot_count b.choices) old) l a w.1 i
 
@@ -311,57 +302,29 @@ each_law (a ∷ ls) t =
     ∙ ap (λ bs. is_matched a t ∷ bs) (each_law ls t)
 
 -- Names have no `/`.
-abbrev is_apart : ℕ → Bool
-is_apart c = not (c == 47)
-
-last_of_four : (a b c d : Bool) → not (((a || b) || c) || d) ≡ true → not d ≡ true
-last_of_four true b c d h = cc
-last_of_four false true c d h = cc
-last_of_four false false true d h = cc
-last_of_four false false false d h = h
-
-third_of_four : (a b c d : Bool) → (a && b && c && d) ≡ true → c ≡ true
-third_of_four true true true d h = refl
-third_of_four true true false d h = h
-third_of_four true false c d h = cc
-third_of_four false b c d h = cc
-
-all_apart : (n : Name) → list_all (λ c. not (is_forbidden c)) n ≡ true → list_all is_apart n ≡ true
-all_apart [] h = refl
-all_apart (c ∷ n) h =
-    let w = both (not (is_forbidden c)) (list_all (λ d. not (is_forbidden d)) n) h in
-    and (is_apart c) (list_all is_apart n) (last_of_four (c == 0) (c == 10) (c == 13) (c == 47) w.0) (all_apart n w.1)
-
-name-apart : (n : Name) → is_name n ≡ true → list_all is_apart n ≡ true
-name-apart n h = all_apart n (third_of_four (not (length n == 0)) (all_scalars n) (list_all (λ c. not (is_forbidden c)) n) (not (is_dots n)) h)
-
-not_true : (b : Bool) → not b ≡ true → b ≡ false
-not_true true h = cc
-not_true false h = refl
-
 since_name : (name n : List ℕ) → list_all is_apart n ≡ true → since_slash name n ≡ name ++ n
 since_name name [] h = sym (append-nil name)
 since_name name (c ∷ n) h =
-    let w = both (is_apart c) (list_all is_apart n) h in
-    ap (λ b. cond b (since_slash [] n) (since_slash (name ++ c ∷ []) n)) (not_true (c == 47) w.0) ∙ since_name (name ++ c ∷ []) n w.1 ∙ append_assoc name (c ∷ []) n
+    let w = and_parts (is_apart c) (list_all is_apart n) h in
+    ap (λ b. cond b (since_slash [] n) (since_slash (name ++ c ∷ []) n)) (not-true (c == 47) w.0) ∙ since_name (name ++ c ∷ []) n w.1 ∙ append_assoc name (c ∷ []) n
 
 since_front : (name n t : List ℕ) → list_all is_apart n ≡ true → since_slash name (n ++ 47 ∷ t) ≡ since_slash [] t
 since_front name [] t h = refl
 since_front name (c ∷ n) t h =
-    let w = both (is_apart c) (list_all is_apart n) h in
-    ap (λ b. cond b (since_slash [] (n ++ 47 ∷ t)) (since_slash (name ++ c ∷ []) (n ++ 47 ∷ t))) (not_true (c == 47) w.0) ∙ since_front (name ++ c ∷ []) n t w.1
+    let w = and_parts (is_apart c) (list_all is_apart n) h in
+    ap (λ b. cond b (since_slash [] (n ++ 47 ∷ t)) (since_slash (name ++ c ∷ []) (n ++ 47 ∷ t))) (not-true (c == 47) w.0) ∙ since_front (name ++ c ∷ []) n t w.1
 
 last_text : (n : Name) (p : Path) → is_place (n ∷ p) ≡ true → since_slash [] (text_of (n ∷ p)) ≡ last_name (n ∷ p)
-last_text n [] h = since_name [] n (name-apart n (both (is_name n) true h).0)
+last_text n [] h = since_name [] n (name-apart n (and_parts (is_name n) true h).0)
 last_text n (m ∷ p) h =
-    let w = both (is_name n) (is_place (m ∷ p)) h in
+    let w = and_parts (is_name n) (is_place (m ∷ p)) h in
     since_front [] n (text_of (m ∷ p)) (name-apart n w.0) ∙ last_text m p w.1
 
 folders_name : (n : List ℕ) → list_all is_apart n ≡ true → folders n ≡ []
 folders_name [] h = refl
 folders_name (c ∷ n) h =
-    let w = both (is_apart c) (list_all is_apart n) h in
-    ap (λ b. cond b ([] ∷ map (λ u. c ∷ u) (folders n)) (map (λ u. c ∷ u) (folders n))) (not_true (c == 47) w.0) ∙ ap (map (λ u. c ∷ u)) (folders_name n w.1)
+    let w = and_parts (is_apart c) (list_all is_apart n) h in
+    ap (λ b. cond b ([] ∷ map (λ u. c ∷ u) (folders n)) (map (λ u. c ∷ u) (folders n))) (not-true (c == 47) w.0) ∙ ap (map (λ u. c ∷ u)) (folders_name n w.1)
 
 map-map : (f g : List ℕ → List ℕ) (us : List (List ℕ)) → map f (map g us) ≡ map (λ u. f (g u)) us
 map-map f g [] = refl
@@ -370,9 +333,9 @@ map-map f g (u ∷ us) = ap (λ vs. f (g u) ∷ vs) (map-map f g us)
 folders_front : (n t : List ℕ) → list_all is_apart n ≡ true → folders (n ++ 47 ∷ t) ≡ n ∷ map (λ u. n ++ 47 ∷ u) (folders t)
 folders_front [] t h = refl
 folders_front (c ∷ n) t h =
-    let w = both (is_apart c) (list_all is_apart n) h in
+    let w = and_parts (is_apart c) (list_all is_apart n) h in
     let us = folders (n ++ 47 ∷ t) in
-    ap (λ b. cond b ([] ∷ map (λ u. c ∷ u) us) (map (λ u. c ∷ u) us)) (not_true (c == 47) w.0)
+    ap (λ b. cond b ([] ∷ map (λ u. c ∷ u) us) (map (λ u. c ∷ u) us)) (not-true (c == 47) w.0)
     ∙ ap (map (λ u. c ∷ u)) (folders_front n t w.1) ∙ ap (λ vs. (c ∷ n) ∷ vs) (map-map (λ u. c ∷ u) (λ u. n ++ 47 ∷ u) (folders t))
 
 abbrev texts : List Path → List (List ℕ)
@@ -387,9 +350,9 @@ map-push f [] u = refl
 map-push f (v ∷ us) u = ap (λ vs. f v ∷ vs) (map-push f us u)
 
 prefix_texts : (n : Name) (p : Path) → is_place (n ∷ p) ≡ true → texts (prefixes (n ∷ p)) ≡ folders (text_of (n ∷ p)) ++ text_of (n ∷ p) ∷ []
-prefix_texts n [] h = ap (λ us. us ++ n ∷ []) (sym (folders_name n (name-apart n (both (is_name n) true h).0)))
+prefix_texts n [] h = ap (λ us. us ++ n ∷ []) (sym (folders_name n (name-apart n (and_parts (is_name n) true h).0)))
 prefix_texts n (m ∷ p) h =
-    let w = both (is_name n) (is_place (m ∷ p)) h in
+    let w = and_parts (is_name n) (is_place (m ∷ p)) h in
     let t = text_of (m ∷ p) in
     ap (λ us. n ∷ (n ++ 47 ∷ m) ∷ us) (texts_onto n m (prefixes p))
     ∙ ap (λ us. n ∷ map (λ u. n ++ 47 ∷ u) us) (prefix_texts m p w.1)
@@ -426,7 +389,7 @@ unfolding matches
 spec_law s [] h = cc
 spec_law s (n ∷ p) h =
     let some_names : (suc (length p) == 0) ≡ false = grind (arith, nat_tests) in
-    kind_law s.kind s.pattern n p (both (not (length (n ∷ p) == 0)) (is_place (n ∷ p)) h).1 ∙ (λ i. not (sym some_names i) && by_kind s.kind s.pattern (n ∷ p))
+    kind_law s.kind s.pattern n p (and_parts (not (length (n ∷ p) == 0)) (is_place (n ∷ p)) h).1 ∙ (λ i. not (sym some_names i) && by_kind s.kind s.pattern (n ∷ p))
 
 pub specs_law : (ls : List Alternatives) (specs : List Specification) (p : Path) → ls ≡ map alternatives_of specs → is_path p ≡ true
     → list_any (λ a. is_matched a (text_of p)) ls ≡ list_any (λ r. matches r p) specs

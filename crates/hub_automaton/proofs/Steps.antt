@@ -5,8 +5,8 @@ use Rattle.hub_glob.specs.declared.piece.Piece.{Piece}
 use Rattle.hub_glob.specs.declared.piece.Piece.TheVariants.{Lit, Any, Run, OneOf}
 use Rattle.hub_glob.specs.Glob.{Texts, begins, piece, pieces, no_more}
 use Rattle.hub_glob.specs.Taking.{is_star}
-use Rattle.hub_text.specs.TestLaws.{agree, same, every4}
-use Rattle.std.proofs.Math.Bool.{and-false, or-false}
+use Rattle.hub_text.specs.TestLaws.{agree, and-assoc, same, every4}
+use Rattle.std.proofs.Math.Bool.{and-true, and-false, or-false}
 use Rattle.hub_glob.specs.OneStep.{nonzero, takes_run, run_step, run_end, pieces-append}
 use Rattle.hub_glob.specs.declared.piece.NextCharacter.{NextCharacter}
 use Rattle.hub_automaton.specs.Spots.{spots, starts}
@@ -23,13 +23,9 @@ record Takes (K L : Texts) (x : ℕ) (b : Bool) : Type 0 where
 
 begins-takes : (passes : ℕ → Bool) (K L : Texts) (x : ℕ) (b : Bool) → Takes K L x b → Takes (begins passes K) (begins passes L) x b
 begins-takes passes K L x b h = record { none = λ f. refl; more = go } where
-  and_assoc : (a c d : Bool) → (a && (c && d)) ≡ ((a && c) && d)
-  and_assoc true c d = refl
-  and_assoc false c d = refl
-
   go : (f : Bool) (t : List ℕ) → begins passes K f (t ++ x ∷ []) ≡ (begins passes L f t && b)
   go f [] = ap (λ a. passes x && a) (h.none (x == 47)) ∙ and-false (passes x)
-  go f (c ∷ t) = ap (λ a. passes c && a) (h.more (c == 47) t) ∙ and_assoc (passes c) (L (c == 47) t) b
+  go f (c ∷ t) = ap (λ a. passes c && a) (h.more (c == 47) t) ∙ and-assoc (passes c) (L (c == 47) t) b
 
 run-takes-more : (K L : Texts) (x : ℕ) (b : Bool) → Takes K L x b → (f : Bool) (t : List ℕ) → piece Run K f (t ++ x ∷ []) ≡ (piece Run L f t && b)
 run-takes-more K L x b h f [] =
@@ -57,12 +53,8 @@ pieces-takes (p ∷ ps) K L x b h = piece-takes p (pieces ps K) (pieces ps L) x 
 
 last-takes : (passes : ℕ → Bool) (x : ℕ) → Takes (begins passes no_more) no_more x (passes x)
 last-takes passes x = record { none = λ f. refl; more = go } where
-  and_true : (a : Bool) → (a && true) ≡ a
-  and_true true = refl
-  and_true false = refl
-
   go : (f : Bool) (t : List ℕ) → begins passes no_more f (t ++ x ∷ []) ≡ (no_more f t && passes x)
-  go f [] = and_true (passes x)
+  go f [] = and-true (passes x)
   go f (c ∷ t) = (λ i. passes c && not_empty t x i) ∙ and-false (passes c) ∙ (λ i. sym (nonzero (length t)) i && passes x)
 
 -- The first pieces match a text.
@@ -128,21 +120,13 @@ run-runs K N e h x f (c ∷ t) =
 
 star-runs : Runs star no_more
 star-runs x f [] =
-    run_step f x no_more [] ∙ (λ i. nonzero 0 i || stays x f && run_end (x == 47) no_more i) ∙ tidy (stays x f)
+    run_step f x no_more [] ∙ (λ i. nonzero 0 i || stays x f && run_end (x == 47) no_more i) ∙ and-true (stays x f)
     ∙ (λ i. sym (nonzero 0) i || sym (run_end f no_more) i && stays x f)
-  where
-    tidy : (a : Bool) → (a && true) ≡ a
-    tidy true = refl
-    tidy false = refl
 star-runs x f (c ∷ t) =
     run_step f c no_more (t ++ x ∷ []) ∙ (λ i. nonzero (length (t ++ x ∷ [])) i || takes_run f c && (star-runs x (c == 47) t ∙ (λ j. not_empty t x j || star (c == 47) t && stays x (starts (c == 47) t))) i)
-    ∙ tidy (takes_run f c) (star (c == 47) t) (stays x (starts (c == 47) t))
+    ∙ and-assoc (takes_run f c) (star (c == 47) t) (stays x (starts (c == 47) t))
     ∙ (λ i. sym (nonzero (length (t ++ x ∷ []))) i || (sym (nonzero (length t)) i || takes_run f c && star (c == 47) t) && stays x (starts (c == 47) t))
     ∙ (λ i. no_more f (c ∷ t ++ x ∷ []) || sym (run_step f c no_more t) i && stays x (starts (c == 47) t))
-  where
-    tidy : (a b c : Bool) → (a && (b && c)) ≡ ((a && b) && c)
-    tidy true b c = refl
-    tidy false b c = refl
 
 pieces-runs : (ps : List Piece) → Runs (pieces ps star) (pieces ps no_more)
 pieces-runs [] = star-runs

@@ -9,7 +9,7 @@ use Rattle.hub_automaton.specs.Masks.{moved_row}
 use Rattle.hub_automaton.specs.Words.{first_word, other_words, word, words_for, packed_by, packed, moved_word, moved_words}
 use Rattle.hub_automaton.proofs.WordBits.{word_few}
 
-first-drop : (n : ℕ) (ws : List ℕ) → slice_index_or ws n 0 ≡ first_word (drop n ws)
+pub first-drop : (n : ℕ) (ws : List ℕ) → slice_index_or ws n 0 ≡ first_word (drop n ws)
 first-drop zero [] = refl
 first-drop zero (w ∷ ws) = refl
 first-drop (suc n) [] = refl

@@ -11,6 +11,7 @@ use Rattle.hub_text.specs.TestLaws.{head, tail}
 use Rattle.std.proofs.Math.Bool.{and-false, or-false}
 use Rattle.hub_automaton.specs.declared.words.Masks.{Masks}
 use Rattle.hub_automaton.specs.Words.{bit, first_word, other_words, word, packed_by, moved, spread, seeds, moved_word, moved_words}
+use Rattle.hub_automaton.proofs.Loops.{drop-of_tail}
 use Rattle.hub_automaton.proofs.WordBits.{test, differ, test-and, test-or, test-xor, test-zero, test-low, test-up, test-up_first, test-number, test-number_above, test-word, word_few, same_tests, test-last, carry, carry-next, carry-first, test-add}
 
 abbrev pub masks : ℕ → ℕ → ℕ → Masks
@@ -223,22 +224,17 @@ moved-take (suc n) stays es (s ∷ ss) ts os here before =
     b ∷ moved stays (tail-take n es j) (take n ss) (tail-take n ts j) (tail-take n os j) (head-take n os j) b)
     ∙ ap (λ bs. spot ∷ bs) (moved-take n stays (tail es) ss (tail ts) (tail os) (head os) spot)
 
-drop-tail : (n : ℕ) (bs : List Bool) → drop n (tail bs) ≡ drop (suc n) bs
-drop-tail zero [] = refl
-drop-tail (suc n) [] = refl
-drop-tail n (b ∷ bs) = refl
-
 moved-drop : (n : ℕ) (stays : Bool) (es ss ts os : List Bool) (here before : Bool)
     → moved stays (drop (suc n) es) (drop (suc n) ss) (drop (suc n) ts) (drop (suc n) os) (get os n) (get (moved stays es ss ts os here before) n)
     ≡ drop (suc n) (moved stays es ss ts os here before)
 moved-drop n stays es [] ts os here before = refl
 moved-drop zero stays es (s ∷ ss) ts os here before =
     let spot = cell stays (head es) s (head ts) (head os) here before in
-    λ j. moved stays (sym (drop-tail zero es) j) ss (sym (drop-tail zero ts) j) (sym (drop-tail zero os) j) (sym (head-get os) j) spot
+    λ j. moved stays (sym (drop-of_tail zero es) j) ss (sym (drop-of_tail zero ts) j) (sym (drop-of_tail zero os) j) (sym (head-get os) j) spot
 moved-drop (suc n) stays es (s ∷ ss) ts os here before =
     let spot = cell stays (head es) s (head ts) (head os) here before in
     let more = moved stays (tail es) ss (tail ts) (tail os) (head os) spot in
-    (λ j. moved stays (sym (drop-tail (suc n) es) j) (drop (suc n) ss) (sym (drop-tail (suc n) ts) j) (sym (drop-tail (suc n) os) j) (sym (tail-get os n) j) (get more n))
+    (λ j. moved stays (sym (drop-of_tail (suc n) es) j) (drop (suc n) ss) (sym (drop-of_tail (suc n) ts) j) (sym (drop-of_tail (suc n) os) j) (sym (tail-get os n) j) (get more n))
     ∙ moved-drop n stays (tail es) ss (tail ts) (tail os) (head os) spot
 
 -- Words that are those of a list of bits, as many as are asked for.
@@ -317,7 +313,7 @@ packed_word (suc n) (suc k) bs l =
     let e : 64 + 64 * k ≡ 64 * suc k = omega arith in
     packed_word n k (drop 64 bs) shorter ∙ ap (λ cs. word (take 64 cs)) (drop-drop (64 * k) 64 bs ∙ ap (λ m. drop m bs) e)
 
-bit_is : (ws : List ℕ) (i : ℕ) → bit ws i ≡ test (slice_index_or ws (i / 64) 0) (i % 64)
+pub bit_is : (ws : List ℕ) (i : ℕ) → bit ws i ≡ test (slice_index_or ws (i / 64) 0) (i % 64)
 unfolding test
 bit_is ws i = refl
 

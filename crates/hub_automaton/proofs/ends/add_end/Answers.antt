@@ -1,6 +1,7 @@
 use Rattle.std.proofs.Common.{◌++◌, [], ◌∷◌, Bool, List, false, map, refl, ap, ◌∙◌, append_assoc}
+use Rattle.hub_text.specs.ListLaws.{next-drop}
 use Rattle.hub_glob.specs.declared.piece.Piece.{Piece}
-use Rattle.hub_automaton.proofs.Loops.{next_drop, map_step, map_end}
+use Rattle.hub_automaton.proofs.Loops.{map_step, map_end}
 use Rattle.hub_automaton.proofs.ends.add_end.Goals as goal
 
 pub loop-piece-preserved : goal.loop-piece-preserved
@@ -9,7 +10,7 @@ loop-piece-preserved c =
     let i = c.loop-piece._piece-index in
     let p = c._piece-item.result in
     map_step (λ (q : Piece). false) ps i p false c.loop-piece.bits.items c.push.new.self.items (c.args.bits.now.items ++ map (λ q. false) ps)
-    (next_drop ps i p c.loop-piece-test.true c._piece-item.is) refl c.in_ok-push.ensures.items c.loop-piece.invariant
+    (next-drop ps i p c.loop-piece-test.true c._piece-item.is) refl c.in_ok-push.ensures.items c.loop-piece.invariant
 
 pub returns : goal.returns
 returns c =

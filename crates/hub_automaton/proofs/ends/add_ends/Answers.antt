@@ -1,6 +1,7 @@
 use Rattle.std.proofs.Common.{◌++◌, ap, ◌∙◌}
+use Rattle.hub_text.specs.ListLaws.{next-drop}
 use Rattle.hub_automaton.specs.Ends.{end_choice, end_choices}
-use Rattle.hub_automaton.proofs.Loops.{next_drop, flat_step, flat_end}
+use Rattle.hub_automaton.proofs.Loops.{flat_step, flat_end}
 use Rattle.hub_automaton.proofs.ends.add_ends.Goals as goal
 
 pub loop-choice-preserved : goal.loop-choice-preserved
@@ -11,7 +12,7 @@ loop-choice-preserved c =
     let x = c.choice-item.result in
     let old = c.loop-choice.bits.items in
     flat_step (end_choice on) cs i x old c.add_end.new.bits.items (c.args.bits.now.items ++ end_choices on cs)
-    (next_drop cs i x c.loop-choice-test.true c.choice-item.is) (c.in_ok-add_end.ensures ∙ ap (λ ps. old ++ end_choice on ps) c.as_slice.ensures)
+    (next-drop cs i x c.loop-choice-test.true c.choice-item.is) (c.in_ok-add_end.ensures ∙ ap (λ ps. old ++ end_choice on ps) c.as_slice.ensures)
     c.loop-choice.invariant
 
 pub returns : goal.returns

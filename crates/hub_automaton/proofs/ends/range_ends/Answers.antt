@@ -1,9 +1,9 @@
 use Rattle.std.proofs.Common.{◌≡◌, ◌+◌, ◌++◌, sym, ap, ◌∙◌, drop, append-nil, append_assoc, Bool, List, subst}
 use Rattle.std.specs.Prelude.{IfOk}
 use Rattle.std.proofs.lemmas.List.{drop_all}
+use Rattle.hub_text.specs.ListLaws.{next-drop}
 use Rattle.hub_automaton.specs.Ends.{end_all, end_choices, in_range}
 use Rattle.hub_automaton.specs.Words.{packed}
-use Rattle.hub_automaton.proofs.Loops.{next_drop}
 use Rattle.hub_automaton.proofs.ends.range_ends.Goals as goal
 
 pub loop-i-preserved : goal.loop-i-preserved
@@ -17,7 +17,7 @@ loop-i-preserved c =
     let rest = end_all from to (i + 1) (drop (i + 1) ls) in
     let more = c.in_ok-add_ends.ensures ∙ (λ j. old ++ end_choices (c.is_in_range.ensures j) (c.as_slice.ensures j)) in
     ap (λ bs. bs ++ rest) more ∙ append_assoc old (end_choices (in_range from to i) a.choices) rest
-    ∙ ap (λ ks. old ++ end_all from to i ks) (sym (next_drop ls i a c.loop-i-test.true c.index-alternatives-i.is)) ∙ c.loop-i.invariant
+    ∙ ap (λ ks. old ++ end_all from to i ks) (sym (next-drop ls i a c.loop-i-test.true c.index-alternatives-i.is)) ∙ c.loop-i.invariant
 
 pub returns : goal.returns
 returns c =

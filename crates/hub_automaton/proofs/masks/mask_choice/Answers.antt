@@ -1,6 +1,7 @@
 use Rattle.std.proofs.Common.{◌++◌, [], ◌∷◌, Bool, List, map, ap, ◌∙◌, append_assoc}
+use Rattle.hub_text.specs.ListLaws.{next-drop}
 use Rattle.hub_automaton.specs.Masks.{mask_choice, masks_piece}
-use Rattle.hub_automaton.proofs.Loops.{next_drop, map_step, map_end}
+use Rattle.hub_automaton.proofs.Loops.{map_step, map_end}
 use Rattle.hub_automaton.proofs.masks.mask_choice.Goals as goal
 
 pub loop-piece-init : goal.loop-piece-init
@@ -16,7 +17,7 @@ loop-piece-preserved c =
     let i = c.loop-piece.piece-index in
     let p = c.piece-item.result in
     map_step f ps i p c.masks_piece.result c.loop-piece.bits.items c.push-in-loop-piece.new.self.items (c.args.bits.now.items ++ mask_choice c.args.mask c.args.kind ps)
-    (next_drop ps i p c.loop-piece-test.true c.piece-item.is) c.masks_piece.ensures c.in_ok-push-2.ensures.items c.loop-piece.invariant
+    (next-drop ps i p c.loop-piece-test.true c.piece-item.is) c.masks_piece.ensures c.in_ok-push-2.ensures.items c.loop-piece.invariant
 
 pub returns : goal.returns
 returns c =

@@ -1,6 +1,7 @@
 use Rattle.std.proofs.Common.{◌++◌, ap, ◌∙◌}
+use Rattle.hub_text.specs.ListLaws.{next-drop}
 use Rattle.hub_automaton.specs.Masks.{mask_choice, mask_choices}
-use Rattle.hub_automaton.proofs.Loops.{next_drop, flat_step, flat_end}
+use Rattle.hub_automaton.proofs.Loops.{flat_step, flat_end}
 use Rattle.hub_automaton.proofs.masks.mask_choices.Goals as goal
 
 pub loop-choice-preserved : goal.loop-choice-preserved
@@ -12,7 +13,7 @@ loop-choice-preserved c =
     let x = c.choice-item.result in
     let old = c.loop-choice.bits.items in
     flat_step (mask_choice m k) cs i x old c.mask_choice.new.bits.items (c.args.bits.now.items ++ mask_choices m k cs)
-    (next_drop cs i x c.loop-choice-test.true c.choice-item.is) (c.in_ok-mask_choice.ensures ∙ ap (λ ps. old ++ mask_choice m k ps) c.as_slice.ensures)
+    (next-drop cs i x c.loop-choice-test.true c.choice-item.is) (c.in_ok-mask_choice.ensures ∙ ap (λ ps. old ++ mask_choice m k ps) c.as_slice.ensures)
     c.loop-choice.invariant
 
 pub returns : goal.returns

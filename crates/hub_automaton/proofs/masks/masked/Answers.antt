@@ -1,9 +1,10 @@
 use Rattle.std.proofs.Common.{◌≡◌, ◌++◌, ap, ◌∙◌, Bool, List, subst}
 use Rattle.std.specs.Prelude.{IfOk}
+use Rattle.hub_text.specs.ListLaws.{next-drop}
 use Rattle.hub_automaton.specs.declared.alternatives.Alternatives.{Alternatives}
 use Rattle.hub_automaton.specs.Masks.{mask_all, mask_choices}
 use Rattle.hub_automaton.specs.Words.{packed}
-use Rattle.hub_automaton.proofs.Loops.{next_drop, flat_step, flat_end}
+use Rattle.hub_automaton.proofs.Loops.{flat_step, flat_end}
 use Rattle.hub_automaton.proofs.masks.masked.Goals as goal
 
 pub loop-one-preserved : goal.loop-one-preserved
@@ -14,7 +15,7 @@ loop-one-preserved c =
     let a = c.one-item.result in
     let old = c.loop-one.bits.items in
     flat_step (λ (b : Alternatives). mask_choices m b.kind b.choices) ls i a old c.mask_choices.new.bits.items (mask_all m ls)
-    (next_drop ls i a c.loop-one-test.true c.one-item.is) (c.in_ok-mask_choices.ensures ∙ ap (λ cs. old ++ mask_choices m a.kind cs) c.as_slice.ensures)
+    (next-drop ls i a c.loop-one-test.true c.one-item.is) (c.in_ok-mask_choices.ensures ∙ ap (λ cs. old ++ mask_choices m a.kind cs) c.as_slice.ensures)
     c.loop-one.invariant
 
 pub returns : goal.returns

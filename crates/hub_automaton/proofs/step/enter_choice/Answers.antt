@@ -1,9 +1,9 @@
 use Rattle.std.proofs.Common.{◌≡◌, ◌+◌, ◌++◌, [], ◌∷◌, ◌&&◌, Bool, List, drop, sym, ap, ◌∙◌, append-nil, append_assoc}
 use Rattle.std.proofs.lemmas.List.{drop_all}
+use Rattle.hub_text.specs.ListLaws.{next-drop}
 use Rattle.hub_glob.specs.declared.piece.Piece.{Piece}
 use Rattle.hub_glob.specs.Taking.{is_star}
 use Rattle.hub_automaton.specs.Stepping.{entered, entered_pieces}
-use Rattle.hub_automaton.proofs.Loops.{next_drop}
 use Rattle.hub_automaton.proofs.step.enter_choice.Goals.{then-is_star, else-is_star}
 use Rattle.hub_automaton.proofs.step.enter_choice.Goals as goal
 
@@ -25,7 +25,7 @@ loop-piece-preserved c =
       | else-is_star w ↦ w.before-is ∙ w.if-is_star.false ∙ ap (λ b. b && old) (sym w.if-is_star.false ∙ c.is_star.ensures)
     ] in
     entered_step old c.if-is_star.before (drop i ps) (drop (i + 1) ps) p c.loop-piece.new.items c.push-in-loop-piece.new.self.items (c.args.new.now.items ++ entered ps)
-    (next_drop ps i p c.loop-piece-test.true c.piece-item.is) star c.in_ok-push-2.ensures.items c.loop-piece.invariant
+    (next-drop ps i p c.loop-piece-test.true c.piece-item.is) star c.in_ok-push-2.ensures.items c.loop-piece.invariant
 
 pub returns : goal.returns
 returns c =

@@ -1,6 +1,7 @@
 use Rattle.std.proofs.Common.{◌++◌, ap, ◌∙◌}
+use Rattle.hub_text.specs.ListLaws.{next-drop}
 use Rattle.hub_automaton.specs.Stepping.{entered, entered_choices}
-use Rattle.hub_automaton.proofs.Loops.{next_drop, flat_step, flat_end}
+use Rattle.hub_automaton.proofs.Loops.{flat_step, flat_end}
 use Rattle.hub_automaton.proofs.step.enter_choices.Goals as goal
 
 pub loop-choice-preserved : goal.loop-choice-preserved
@@ -10,7 +11,7 @@ loop-choice-preserved c =
     let x = c.choice-item.result in
     let old = c.loop-choice.new.items in
     flat_step entered cs i x old c.enter_choice.new.new.items (c.args.new.now.items ++ entered_choices cs)
-    (next_drop cs i x c.loop-choice-test.true c.choice-item.is) (c.in_ok-enter_choice.ensures ∙ ap (λ ps. old ++ entered ps) c.as_slice.ensures)
+    (next-drop cs i x c.loop-choice-test.true c.choice-item.is) (c.in_ok-enter_choice.ensures ∙ ap (λ ps. old ++ entered ps) c.as_slice.ensures)
     c.loop-choice.invariant
 
 pub returns : goal.returns

@@ -1,15 +1,15 @@
 use Rattle.std.proofs.Common.{◌≡◌, ◌+◌, ◌∙◌, drop, ap, subst, sym, arith}
 use Rattle.std.proofs.lemmas.List.{drop_all}
+use Rattle.hub_text.specs.ListLaws.{next-drop}
 use Rattle.hub_glob.specs.declared.path_spec.Kind.TheVariants as kinds
 use Rattle.hub_automaton.specs.Spots.{spot_count, spots_count}
-use Rattle.hub_automaton.proofs.Loops.{next_drop}
 use Rattle.hub_automaton.proofs.Takings.{AllTaken, ChoicesTaken, all_next, nothing_taken}
 use Rattle.hub_automaton.proofs.takers.take_all.Goals as goal
 
 pub take_choices-place-requires-clause-few : goal.take_choices-place-requires-clause-few
 take_choices-place-requires-clause-few c =
     let ls = c.args.alternatives.now in
-    let at = next_drop ls c.loop-one.one-index c.one-item.result c.loop-one-test.true c.one-item.is in
+    let at = next-drop ls c.loop-one.one-index c.one-item.result c.loop-one-test.true c.one-item.is in
     omega (arith, ap spots_count at, ap spot_count c.as_slice.ensures, c.loop-one.invariant.0, c.requires.few)
 
 pub loop-one-preserved : goal.loop-one-preserved
@@ -24,7 +24,7 @@ loop-one-preserved c =
     let mid = c.take_choices-place.new.takers in
     let one = c.take_choices-place.ensures.taken kinds.Path in
     let read : spot_count c.as_slice.result.now ≡ spot_count a.choices = ap spot_count c.as_slice.ensures in
-    let at = next_drop ls i a c.loop-one-test.true c.one-item.is in (
+    let at = next-drop ls i a c.loop-one-test.true c.one-item.is in (
       omega (arith, ap spots_count at, c.take_choices-place.ensures.after, read, c.loop-one.invariant.0),
       one.many ∙ c.loop-one.invariant.1,
       λ new h. c.loop-one.invariant.2 new

@@ -1,7 +1,7 @@
 use Rattle.std.proofs.Common.{◌+◌, ◌∙◌, drop, subst, sym, arith}
 use Rattle.std.proofs.lemmas.List.{drop_all}
+use Rattle.hub_text.specs.ListLaws.{next-drop}
 use Rattle.hub_glob.specs.declared.path_spec.Kind.TheVariants as kinds
-use Rattle.hub_automaton.proofs.Loops.{next_drop}
 use Rattle.hub_automaton.proofs.Takings.{PiecesTaken, choice_begins, nothing_taken, pieces_next}
 use Rattle.hub_automaton.proofs.takers.take_choice.Goals as goal
 
@@ -22,7 +22,7 @@ loop-i-preserved c =
     let cur = c.loop-i.takers in
     let mid = c.take_piece.new.takers in
     let one = c.take_piece.ensures kinds.Path in
-    let at = next_drop choice i p c.loop-i-test.true c.index-choice-i.is in (
+    let at = next-drop choice i p c.loop-i-test.true c.index-choice-i.is in (
       one.many ∙ c.loop-i.invariant.0,
       λ kind new h. c.loop-i.invariant.1 kind new
           (subst (λ ps. PiecesTaken ms cur new here kind ps) (sym at)

@@ -1,15 +1,15 @@
 use Rattle.std.proofs.Common.{◌+◌, ◌∙◌, drop, length, ap, subst, sym, arith}
 use Rattle.std.proofs.lemmas.List.{drop_all}
+use Rattle.hub_text.specs.ListLaws.{next-drop}
 use Rattle.hub_glob.specs.declared.path_spec.Kind.TheVariants as kinds
 use Rattle.hub_automaton.specs.Spots.{spot_count}
-use Rattle.hub_automaton.proofs.Loops.{next_drop}
 use Rattle.hub_automaton.proofs.Takings.{ChoiceTaken, ChoicesTaken, choices_next, nothing_taken}
 use Rattle.hub_automaton.proofs.takers.take_choices.Goals as goal
 
 pub take_choice-requires-clause-few : goal.take_choice-requires-clause-few
 take_choice-requires-clause-few c =
     let cs = c.args.choices.now in
-    let at = next_drop cs c.loop-choice.choice-index c.choice-item.result c.loop-choice-test.true c.choice-item.is in
+    let at = next-drop cs c.loop-choice.choice-index c.choice-item.result c.loop-choice-test.true c.choice-item.is in
     omega (arith, ap spot_count at, ap length c.as_slice.ensures, c.loop-choice.invariant.0, c.requires.few)
 
 pub loop-choice-preserved : goal.loop-choice-preserved
@@ -23,7 +23,7 @@ loop-choice-preserved c =
     let cur = c.loop-choice.takers in
     let mid = c.take_choice.new.takers in
     let one = c.take_choice.ensures kinds.Path in
-    let at = next_drop cs i choice c.loop-choice-test.true c.choice-item.is in (
+    let at = next-drop cs i choice c.loop-choice-test.true c.choice-item.is in (
       omega (arith, ap spot_count at, c.len.ensures, c.loop-choice.invariant.0),
       one.many ∙ c.loop-choice.invariant.1,
       λ kind new h. c.loop-choice.invariant.2 kind new

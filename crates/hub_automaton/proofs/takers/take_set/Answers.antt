@@ -1,6 +1,6 @@
 use Rattle.std.proofs.Common.{◌+◌, ◌∙◌, drop, false, subst, sym}
 use Rattle.std.proofs.lemmas.List.{drop_all}
-use Rattle.hub_automaton.proofs.Loops.{next_drop}
+use Rattle.hub_text.specs.ListLaws.{next-drop}
 use Rattle.hub_automaton.proofs.Takings.{TakenFor, set_next, set_end}
 use Rattle.hub_automaton.proofs.takers.take_set.Goals as goal
 
@@ -14,7 +14,7 @@ loop-character-preserved c =
     let cur = c.loop-character.takers in
     let mid = c.take_character.new.takers in
     let one = c.take_character.ensures (λ x. false) in
-    let at = next_drop set i d c.loop-character-test.true c.character-item.is in (
+    let at = next-drop set i d c.loop-character-test.true c.character-item.is in (
       one.many ∙ c.loop-character.invariant.0,
       λ new h. c.loop-character.invariant.1 new
           (subst (λ ds. TakenFor ms cur new place ds) (sym at) (set_next ms cur mid new place d (drop (i + 1) set) c.take_character.ensures h)),

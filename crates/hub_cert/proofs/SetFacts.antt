@@ -7,9 +7,8 @@ use Rattle.std.proofs.lemmas.Bool.Decides.{nat_tests}
 use Rattle.std.proofs.lemmas.List.{take_more}
 use Rattle.std.proofs.lemmas.List.Concat.{flat_map-append}
 use Rattle.std.proofs.lemmas.Option.{same_Some, slice_get_within}
-use Rattle.std.proofs.lemmas.Slice.Eq.{slice_eq-Decides}
-use Rattle.std.specs.Bool.{Decides}
-use Rattle.hub_path.specs.Laws.{name_eq-decides}
+use Rattle.hub_text.specs.ListLaws.{less-or-same}
+use Rattle.hub_path.specs.Laws.{path_eq-decides}
 use Rattle.hub_path.specs.Path.{Path, path_eq, is_over}
 use Rattle.hub_automaton.specs.Alphabet.{IsAlphabet, mentions, spec_characters}
 use Rattle.hub_profile.specs.Parts.{Parts}
@@ -22,10 +21,6 @@ use Rattle.hub_cert.specs.declared.set.TheConstants.{PROFILES}
 use Rattle.hub_automaton.specs.declared.fault.AutomatonFault.{AutomatonFault}
 use Rattle.hub_automaton.specs.declared.fault.AutomatonFault.TheVariants as automaton
 use Rattle.hub_profile.specs.declared.rule.Rule.{Rule}
-use Rattle.hub_cert.specs.Matched.{less-or-same}
-
-pub path_eq-decides : (p q : Path) → Decides (path_eq p q) (p ≡ q)
-path_eq-decides p q = slice_eq-Decides name_eq-decides p q (path_eq p q) refl
 
 -- Names.
 pub not-one-name : (Ps : List Parts) (i j : ℕ) (P Q : Parts) → slice_get Ps i ≡ Some P → slice_get Ps j ≡ Some Q → (P.name ≡ Q.name → ⊥) → HaveSameName Ps i j → ⊥
@@ -164,15 +159,6 @@ all-mentioned S ms valid h =
       profiles = λ i P at. says-all P ms (each-mentioned mentioned_by ms S.profiles i P at w.0);
       rules = λ k R at. each-mentioned (λ (Q : Rule). spec_characters Q.spec) ms S.rules k R at w.1;
     }
-
--- What holds of the first ones and of one more.
-pub below-more : {X : Type 0} (Q : X → Type 0) (xs : List X) (n : ℕ) (x : X) → slice_get xs n ≡ Some x → Q x → ((i : ℕ) (y : X) → i < n → slice_get xs i ≡ Some y → Q y)
-    → (i : ℕ) (y : X) → i < n + 1 → slice_get xs i ≡ Some y → Q y
-below-more Q xs n x at here before i y l e =
-    ⊎_elim
-    (λ less. before i y less e)
-    (λ same. subst Q (same_Some x y (sym at ∙ (ap (slice_get xs) (sym same) ∙ e))) here)
-    (less-or-same i n l)
 
 -- What comes before the characters and the spots.
 pub few-named : (S : Members) (Ps : List Parts) → S.profiles ≡ Ps → length Ps ≤ PROFILES → ((i j : ℕ) → i < j → HaveSameName Ps i j → ⊥) → FewNamed S

@@ -1,16 +1,16 @@
 use Rattle.std.proofs.Common.{◌≡◌, ◌≤◌, ℕ, List, Some, length, sym, subst}
 use Rattle.std.specs.Prelude.{slice_get}
+use Rattle.hub_text.specs.Fails.{passed-up}
 use Rattle.hub_profile.specs.Parts.{Parts, IsProfile}
 use Rattle.hub_cert.specs.Refused.{IsRefused}
 use Rattle.hub_profile.specs.declared.rule.Rule.{Rule}
 use Rattle.hub_profile.specs.declared.rules.TheConstants.{RULES}
-use Rattle.hub_cert.proofs.CertificateFacts.{passed_up}
 use Rattle.hub_cert.proofs.SetFacts.{too-much}
 use Rattle.hub_cert.proofs.refusals.alphabet_for.Goals as goal
 
 pub returns-in_err-check_names-clause-err : goal.returns-in_err-check_names-clause-err
 returns-in_err-check_names-clause-err c = λ S ps rs.
-    passed_up c.from_residual.result c.in_err-check_names.field-0.0 (IsRefused S) c.from_residual.ensures.1 (c.in_err-check_names.ensures.err S ps)
+    passed-up c.from_residual.result c.in_err-check_names.field-0.0 (IsRefused S) c.from_residual.ensures.1 (c.in_err-check_names.ensures.err S ps)
 
 pub returns-in-Ok-clause-ok : goal.returns-in-Ok-clause-ok
 returns-in-Ok-clause-ok c = λ S ps rs.

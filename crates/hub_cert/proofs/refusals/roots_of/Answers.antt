@@ -2,10 +2,11 @@ use Rattle.std.proofs.Common.{◌∙◌, ◌++◌, ◌∷◌, [], List, map, ref
 use Rattle.std.specs.List.{flat_map}
 use Rattle.std.proofs.lemmas.List.{take_all}
 use Rattle.std.proofs.lemmas.Option.{slice_get_read, slice_get_within}
+use Rattle.hub_text.specs.ListLaws.{also-here}
 use Rattle.hub_path.specs.Path.{Path}
 use Rattle.hub_profile.specs.Parts.{Parts, IsProfile}
 use Rattle.hub_profile.specs.declared.rule.Rule.{Rule}
-use Rattle.hub_cert.proofs.SetFacts.{below-more, flat-taken, roots-are, rules-taken}
+use Rattle.hub_cert.proofs.SetFacts.{flat-taken, roots-are, rules-taken}
 use Rattle.hub_cert.proofs.refusals.roots_of.Goals as goal
 
 pub loop-profile-preserved : goal.loop-profile-preserved
@@ -13,7 +14,7 @@ loop-profile-preserved c =
     let at = slice_get_read c.args.profiles.now _ c.loop-profile.profile-index c.profile-item.result refl c.loop-profile-test.true c.profile-item.is in (
       flat-taken (λ (P : Parts). P.roots) c.args.profiles.now c.loop-profile.profile-index c.profile-item.result c.loop-profile.roots.items c.push_roots.new.roots.items c.loop-profile-test.true c.profile-item.is
           c.loop-profile.invariant.0 c.in_ok-push_roots.ensures.roots,
-      below-more IsProfile c.args.profiles.now c.loop-profile.profile-index c.profile-item.result at c.push_roots.ensures.valid c.loop-profile.invariant.1,
+      also-here IsProfile c.args.profiles.now c.loop-profile.profile-index c.profile-item.result at c.push_roots.ensures.valid c.loop-profile.invariant.1,
     )
 
 pub loop-rule-init : goal.loop-rule-init

@@ -12,6 +12,7 @@ use Rattle.std.specs.Option.{option_and_then, unwrap_or}
 use Rattle.std.specs.Ordering.{eq_by_cmp, ordering_reverse}
 use Rattle.std.specs.declared.cmp.Ordering.TheVariants.{Less, Greater}
 use Rattle.std.proofs.lemmas.Bool.{false≢true}
+use Rattle.std.proofs.lemmas.Option.{same_Some}
 use Rattle.std.proofs.lemmas.Map.Keys.{sorted_head, sorted_tail}
 use Rattle.hub_path.specs.Path.{Name, Path, name_cmp}
 use Rattle.hub_tree.specs.Nodes.{replica_of, kids_of, node_get, contents_of, AreSame}
@@ -51,14 +52,11 @@ node_same : (x y : Node) → AreSame x y → (p : Path) → node_get p x ≡ nod
 node_same x y h [] = ap (λ (c : Contents). Some c) h.0
 node_same x y h (m ∷ p) = ap (λ (r : Replica). fin.get r (m ∷ p)) h.1
 
-some_same : (c d : Contents) → Some c ≡ Some d → c ≡ d
-some_same c d e = ap (λ (o : Option Contents). unwrap_or o contents.Absent) e
-
 -- One child less on both sides.
 module _ (n : Name) (x y : Node) (cs ds : List (Name × Node)) (h : IsAscending ((n, x) ∷ cs)) (k : IsAscending ((n, y) ∷ ds)) where
   pub same_heads : replica_of ((n, x) ∷ cs) ≡ replica_of ((n, y) ∷ ds) → AreSame x y
   same_heads e = (
-    some_same (contents_of x) (contents_of y) (at []),
+    same_Some (contents_of x) (contents_of y) (at []),
     fin.same_map path_total path_antisymmetric (replica_of (kids_of x)) (replica_of (kids_of y)) below,
   )
     where

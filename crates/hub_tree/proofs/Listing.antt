@@ -1,5 +1,5 @@
 -- What stands right below a path, told by contents.
-use Rattle.std.proofs.Common.{◌≡◌, Bool, true, false, not, ◌&&◌, List, [], ◌∷◌, ◌++◌, Option, Some, None, refl, ap, sym, ◌∙◌, subst}
+use Rattle.std.proofs.Common.{◌≡◌, Bool, true, false, not, ◌&&◌, [], ◌∷◌, ◌++◌, Option, Some, None, refl, ap, sym, ◌∙◌, subst}
 use Rattle.std.specs.FinMap as fin
 use Rattle.std.specs.List.{filter, list_any}
 use Rattle.std.specs.List.Sorted.{IsStrictlySortedBy}
@@ -13,9 +13,9 @@ use Rattle.hub_tree.specs.declared.contents.Contents.{Contents}
 use Rattle.hub_tree.specs.declared.contents.Contents.TheVariants as contents
 use Rattle.hub_tree.specs.Laws.Beneath.{below_from}
 use Rattle.hub_tree.specs.Laws.Order.{path_total, path_antisymmetric}
-use Rattle.hub_tree.specs.Laws.Children.{same_sorted, sorted_keys, child_of, any_children-push, path_eq-cmp}
-use Rattle.hub_tree.specs.Laws.Between.{among, among_filter, under_sorted}
-use Rattle.hub_tree.specs.Laws.Contented.{shown_contents, child_names}
+use Rattle.hub_tree.specs.Laws.Children.{same_sorted, sorted_keys, child_of, any_children-push, child_names}
+use Rattle.hub_tree.specs.Laws.Between.{among, any_equal, among_filter, under_sorted}
+use Rattle.hub_tree.specs.Laws.Contented.{shown_contents}
 
 abbrev stands_below : Replica → Path → Path → Bool
 stands_below m d q = is_child d q && not (is_absent (contents_at m q))
@@ -45,10 +45,6 @@ children_alike m k d f same =
     (λ q. among_filter q f (children m d) ∙ ap (λ b. f q && b) (among_children_by m d q (is_child d q) refl)
     ∙ alike_at (f q) (is_child d q) _ _ (λ e g. ap (λ c. not (is_absent c)) (same q e g))
     ∙ sym (among_filter q f (children k d) ∙ ap (λ b. f q && b) (among_children_by k d q (is_child d q) refl)))
-
-any_equal : (q : Path) (ps : List Path) → list_any (path_eq q) ps ≡ among q ps
-any_equal q [] = refl
-any_equal q (p ∷ ps) = rw (path_eq-cmp q p, any_equal q ps) refl
 
 pub children_members : (m : Replica) (d q : Path) → list_any (path_eq q) (children m d) ≡ (is_child d q && not (is_absent (contents_at m q)))
 children_members m d q = any_equal q (children m d) ∙ among_children_by m d q (is_child d q) refl

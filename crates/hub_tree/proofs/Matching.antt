@@ -66,10 +66,6 @@ pub unequal : (b : Bool) (P : Type 0) → (P → b ≡ true) → not b ≡ true 
 unequal true P f h p = cc
 unequal false P f h p = let w : false ≡ true = f p in cc
 
-pub equal : (b : Bool) → not b ≡ false → b ≡ true
-equal true h = refl
-equal false h = cc
-
 pub by_none : {X : Type 0} (P : Type 0) (o : Option X) (b : Bool) → is_some o ≡ not b → (o ≡ None → P) → ((x : X) → o ≡ Some x → P → ⊥) → IsTrue b ↔ P
 by_none P None true e f g = shown P (f refl)
 by_none P None false e f g = cc

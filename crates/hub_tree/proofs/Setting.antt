@@ -1,6 +1,6 @@
 -- What a change of one path leaves, and when it is refused.
-use Rattle.std.proofs.Common.{◌≡◌, ℕ, ◌<◌, Bool, true, false, cond, ◌&&◌, not, List, [], ◌∷◌, ◌++◌, length, Option, Some, None, refl, ap, sym, ◌∙◌, arith}
-use Rattle.std.specs.Prelude.{◌==◌, if◌then◌else◌, Result, IfErr, ⊤}
+use Rattle.std.proofs.Common.{◌≡◌, ℕ, ◌<◌, Bool, true, false, cond, ◌&&◌, not, List, [], ◌∷◌, ◌++◌, length, Option, Some, None, refl, ap, sym, ◌∙◌, arith, subst}
+use Rattle.std.specs.Prelude.{◌==◌, if◌then◌else◌, Result, Ok, Err, IsErrAnd, ⊤}
 use Rattle.std.specs.Arc.{arc_value}
 use Rattle.std.specs.FinMap as fin
 use Rattle.std.specs.FinMap.Entries.{find}
@@ -8,9 +8,10 @@ use Rattle.std.specs.Option.{option_and_then, unwrap_or}
 use Rattle.std.specs.Cmp.{eq_by_cmp_equiv}
 use Rattle.std.specs.Ordering.{eq_by_cmp}
 use Rattle.std.proofs.lemmas.Bool.{false≢true, false_from_ne_true}
+use Rattle.std.proofs.lemmas.Option.{same_Some}
 use Rattle.hub_path.specs.Path.{Name, Path, path_cmp, name_cmp, parent}
 use Rattle.hub_tree.specs.Tree.{Replica, contents_at, is_absent, is_directory, children, set_fault, with_contents, IsRefusal}
-use Rattle.hub_tree.specs.Nodes.{replica_of, node_get, contents_of, kids_of, layer_contents, layer_kids, occupied, contents_or_absent, fault_below}
+use Rattle.hub_tree.specs.Nodes.{replica_of, node_get, contents_of, kids_of, layer_contents, layer_kids, occupied, contents_or_absent, fault_below, SetsOrRefuses}
 use Rattle.hub_tree.specs.declared.contents.Contents.{Contents}
 use Rattle.hub_tree.specs.declared.contents.Contents.TheVariants as contents
 use Rattle.hub_tree.specs.declared.fault.SetFault.{SetFault}
@@ -188,15 +189,12 @@ contents_below : (cs : List (Name × Node)) (n : Name) (x : Node) (q : Path) →
 contents_below cs n x [] e d = contents_of_child cs n (Some x) e ∙ d
 contents_below cs n x (s ∷ t) e d = ap (λ o. unwrap_or o contents.Absent) (look_up cs n (s ∷ t) ∙ ap (option_and_then (node_get (s ∷ t))) e)
 
-some_names : (n : Name) (p : Path) → (length (n ∷ p) == 0) ≡ false
-some_names n p = one_item n p
-
 full_fault : Replica → Path → Contents → Option SetFault
 full_fault m p c = if not (is_directory (contents_at m (parent p))) then Some NoParent else later_fault (contents_at m p) (length (children m p) == 0) c
 
 set_fault-names : (m : Replica) (n : Name) (p : Path) (c : Contents) → set_fault m (n ∷ p) c ≡ full_fault m (n ∷ p) c
 unfolding full_fault
-set_fault-names m n p c = rw (some_names n p) refl
+set_fault-names m n p c = rw (one_item n p) refl
 
 same_full : (m k : Replica) (p q : Path) (c : Contents) → contents_at m (parent p) ≡ contents_at k (parent q) → contents_at m p ≡ contents_at k q → (length (children m p) == 0) ≡ (length (children k q) == 0) → full_fault m p c ≡ full_fault k q c
 unfolding full_fault
@@ -280,13 +278,17 @@ pub directory_found : (cs : List (Name × Node)) (n : Name) (o : Option Node) �
 directory_found cs n None e d = absurd (false≢true d)
 directory_found cs n (Some x) e d = directory_again cs n x e (is_a_directory (contents_of x) d)
 
-some_fault : (f e : SetFault) → Some f ≡ Some e → f ≡ e
-some_fault f e h = cc
-
 pub refusal : (o : Option SetFault) (e : SetFault) → o ≡ Some e → IsRefusal o e
 refusal None e h = cc
-refusal (Some f) e h = sym (some_fault f e h)
+refusal (Some f) e h = sym (same_Some f e h)
 
-pub want_of_memory : (o : Option SetFault) (r : Result ⊤ SetFault) → o ≡ None → IfErr r (λ e. e ≡ OutOfMemory) → IfErr r (IsRefusal o)
-want_of_memory None r h e = e
-want_of_memory (Some f) r h e = cc
+-- Contents are set, or aren't: for a fault, or because memory runs out.
+pub is_set : {c : Contents} {p : Path} {old new : Replica} → set_fault old p c ≡ None → new ≡ with_contents old p c → SetsOrRefuses c p old new (Ok tt)
+is_set free new = record { allowed = free; ok = new; fault = tt; err = tt }
+
+pub is_refused : {c : Contents} {p : Path} {old new : Replica} {e : SetFault} → set_fault old p c ≡ Some e → new ≡ old → SetsOrRefuses c p old new (Err e)
+is_refused h same = record { allowed = tt; ok = tt; fault = refusal _ _ h; err = same }
+
+pub out_of_memory : {c : Contents} {p : Path} {old new : Replica} (r : Result ⊤ SetFault) → set_fault old p c ≡ None → new ≡ old → IsErrAnd r (λ e. e ≡ OutOfMemory) → SetsOrRefuses c p old new r
+out_of_memory (Ok x) free same h = absurd h
+out_of_memory (Err e) free same h = record { allowed = tt; ok = tt; fault = subst (λ o. IsRefusal o e) (sym free) h; err = same }

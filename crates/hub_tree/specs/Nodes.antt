@@ -1,11 +1,11 @@
 -- The entries of a tree that is kept as names and what stands under each.
-use Rattle.std.specs.Prelude.{◌≡◌, ℕ, ◌+◌, Bool, false, not, ◌&&◌, is_some, List, [], ◌∷◌, ◌++◌, map, length, ◌==◌, Option, Some, None, if◌then◌else◌}
+use Rattle.std.specs.Prelude.{◌≡◌, ℕ, ◌+◌, Bool, false, not, ◌&&◌, is_some, List, [], ◌∷◌, ◌++◌, map, length, ◌==◌, Option, Some, None, if◌then◌else◌, Result, ⊤, IfErr, OnOk, OnErr}
 use Rattle.std.specs.Arc.{arc_value}
 use Rattle.std.specs.FinMap as fin
 use Rattle.std.specs.FinMap.Entries.{where_key}
 use Rattle.std.specs.Ordering.{eq_by_cmp}
 use Rattle.hub_path.specs.Path.{Name, Path, path_cmp, name_cmp}
-use Rattle.hub_tree.specs.Tree.{Replica, is_directory, set_fault, with_contents}
+use Rattle.hub_tree.specs.Tree.{Replica, is_directory, set_fault, with_contents, IsRefusal}
 use Rattle.hub_tree.specs.declared.fault.SetFault.{SetFault}
 use Rattle.hub_tree.specs.declared.fault.SetFault.TheVariants.{NoParent}
 use Rattle.hub_tree.specs.declared.contents.Contents.{Contents}
@@ -92,6 +92,15 @@ put_fault only_new m p c = if is_left only_new m p then None else set_fault m p 
 
 abbrev pub with_put : Bool → Replica → Path → Contents → Replica
 with_put only_new m p c = if is_left only_new m p then m else with_contents m p c
+
+-- What is so after contents were to be set at a path. Where that went well, they might be set, and
+-- the replica has them. Else the fault is one of a refusal, and the replica is as before.
+pub record SetsOrRefuses (c : Contents) (p : Path) (old new : Replica)
+    (result : Result ⊤ SetFault) : Type 0 where
+  pub allowed : OnOk result (set_fault old p c ≡ None)
+  pub ok : OnOk result (new ≡ with_contents old p c)
+  pub fault : IfErr result (IsRefusal (set_fault old p c))
+  pub err : OnErr result (new ≡ old)
 
 -- Why contents can't be put at a path below a node.
 abbrev pub put_fault_below : Bool → Node → Path → Contents → Option SetFault

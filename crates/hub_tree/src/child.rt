@@ -1,8 +1,8 @@
 ghost use Rattle.std.specs.Prelude.{◌≡◌, [], ◌∷◌, true, false, None, is_some, IfOk, IfErr, OnOk, OnErr};
 ghost use Rattle.std.specs.BTreeMap.{get};
 ghost use Rattle.hub_path.specs.Path.{name_cmp};
-ghost use Rattle.hub_tree.specs.Nodes.{replica_of, occupied, contents_or_absent, is_left, put_fault, with_put};
-ghost use Rattle.hub_tree.specs.Tree.{set_fault, with_contents, is_directory, IsRefusal};
+ghost use Rattle.hub_tree.specs.Nodes.{replica_of, occupied, contents_or_absent, is_left, put_fault, with_put, SetsOrRefuses};
+ghost use Rattle.hub_tree.specs.Tree.{set_fault, is_directory, IsRefusal};
 
 use crate::blob::Blob;
 use crate::contents::Contents;
@@ -87,13 +87,8 @@ fn add_child(
     contents: Contents,
 ) -> Result<(), SetFault>
     requires { is_some (get name_cmp children.old name.now) ≡ false }
-    ensures allowed { OnOk result
-        (set_fault (replica_of children.old.entries) (name.now ∷ []) contents ≡ None) }
-    ensures ok { OnOk result (replica_of children.new.entries
-        ≡ with_contents (replica_of children.old.entries) (name.now ∷ []) contents) }
-    ensures fault { IfErr result
-        (IsRefusal (set_fault (replica_of children.old.entries) (name.now ∷ []) contents)) }
-    ensures err { OnErr result (replica_of children.new.entries ≡ replica_of children.old.entries) }
+    ensures { SetsOrRefuses contents (name.now ∷ [])
+        (replica_of children.old.entries) (replica_of children.new.entries) result }
 {
     match contents {
         Contents::File(blob) => insert_file(children, name, blob),
@@ -109,13 +104,8 @@ fn set_child(
     name: &Name,
     contents: Contents,
 ) -> Result<(), SetFault>
-    ensures allowed { OnOk result
-        (set_fault (replica_of children.old.entries) (name.now ∷ []) contents ≡ None) }
-    ensures ok { OnOk result (replica_of children.new.entries
-        ≡ with_contents (replica_of children.old.entries) (name.now ∷ []) contents) }
-    ensures fault { IfErr result
-        (IsRefusal (set_fault (replica_of children.old.entries) (name.now ∷ []) contents)) }
-    ensures err { OnErr result (replica_of children.new.entries ≡ replica_of children.old.entries) }
+    ensures { SetsOrRefuses contents (name.now ∷ [])
+        (replica_of children.old.entries) (replica_of children.new.entries) result }
 {
     match contents {
         Contents::File(blob) => set_file(children, name, blob),
@@ -126,13 +116,8 @@ fn set_child(
 
 /// Puts a file at a name.
 fn set_file(children: &mut BTreeMap<Name, Node>, name: &Name, blob: Blob) -> Result<(), SetFault>
-    ensures allowed { OnOk result
-        (set_fault (replica_of children.old.entries) (name.now ∷ []) (Contents.File blob) ≡ None) }
-    ensures ok { OnOk result (replica_of children.new.entries
-        ≡ with_contents (replica_of children.old.entries) (name.now ∷ []) (Contents.File blob)) }
-    ensures fault { IfErr result (IsRefusal
-        (set_fault (replica_of children.old.entries) (name.now ∷ []) (Contents.File blob))) }
-    ensures err { OnErr result (replica_of children.new.entries ≡ replica_of children.old.entries) }
+    ensures { SetsOrRefuses (Contents.File blob) (name.now ∷ [])
+        (replica_of children.old.entries) (replica_of children.new.entries) result }
 {
     if is_occupied(children, name) {
         return Err(SetFault::NotEmpty);
@@ -143,13 +128,8 @@ fn set_file(children: &mut BTreeMap<Name, Node>, name: &Name, blob: Blob) -> Res
 /// Puts a file at a name where there is no directory that holds something.
 fn insert_file(children: &mut BTreeMap<Name, Node>, name: &Name, blob: Blob) -> Result<(), SetFault>
     requires { occupied (get name_cmp children.old name.now) ≡ false }
-    ensures allowed { OnOk result
-        (set_fault (replica_of children.old.entries) (name.now ∷ []) (Contents.File blob) ≡ None) }
-    ensures ok { OnOk result (replica_of children.new.entries
-        ≡ with_contents (replica_of children.old.entries) (name.now ∷ []) (Contents.File blob)) }
-    ensures fault { IfErr result (IsRefusal
-        (set_fault (replica_of children.old.entries) (name.now ∷ []) (Contents.File blob))) }
-    ensures err { OnErr result (replica_of children.new.entries ≡ replica_of children.old.entries) }
+    ensures { SetsOrRefuses (Contents.File blob) (name.now ∷ [])
+        (replica_of children.old.entries) (replica_of children.new.entries) result }
 {
     let _old = children.insert(name.copy()?, Node::File(blob))?;
     Ok(())
@@ -161,13 +141,8 @@ fn set_directory(
     children: &mut BTreeMap<Name, Node>,
     name: &Name,
 ) -> Result<(), SetFault>
-    ensures allowed { OnOk result
-        (set_fault (replica_of children.old.entries) (name.now ∷ []) Contents.Directory ≡ None) }
-    ensures ok { OnOk result (replica_of children.new.entries
-        ≡ with_contents (replica_of children.old.entries) (name.now ∷ []) Contents.Directory) }
-    ensures fault { IfErr result (IsRefusal
-        (set_fault (replica_of children.old.entries) (name.now ∷ []) Contents.Directory)) }
-    ensures err { OnErr result (replica_of children.new.entries ≡ replica_of children.old.entries) }
+    ensures { SetsOrRefuses Contents.Directory (name.now ∷ [])
+        (replica_of children.old.entries) (replica_of children.new.entries) result }
 {
     if holds_directory(children, name) {
         return Ok(());
@@ -182,13 +157,8 @@ fn insert_directory(
     name: &Name,
 ) -> Result<(), SetFault>
     requires { is_directory (contents_or_absent (get name_cmp children.old name.now)) ≡ false }
-    ensures allowed { OnOk result
-        (set_fault (replica_of children.old.entries) (name.now ∷ []) Contents.Directory ≡ None) }
-    ensures ok { OnOk result (replica_of children.new.entries
-        ≡ with_contents (replica_of children.old.entries) (name.now ∷ []) Contents.Directory) }
-    ensures fault { IfErr result (IsRefusal
-        (set_fault (replica_of children.old.entries) (name.now ∷ []) Contents.Directory)) }
-    ensures err { OnErr result (replica_of children.new.entries ≡ replica_of children.old.entries) }
+    ensures { SetsOrRefuses Contents.Directory (name.now ∷ [])
+        (replica_of children.old.entries) (replica_of children.new.entries) result }
 {
     let inner = Arc::new(alloc, BTreeMap::new(alloc))?;
     let _old = children.insert(name.copy()?, Node::Directory(inner))?;
@@ -197,13 +167,8 @@ fn insert_directory(
 
 /// Removes the node at a name.
 fn remove(children: &mut BTreeMap<Name, Node>, name: &Name) -> Result<(), SetFault>
-    ensures allowed { OnOk result
-        (set_fault (replica_of children.old.entries) (name.now ∷ []) Contents.Absent ≡ None) }
-    ensures ok { OnOk result (replica_of children.new.entries
-        ≡ with_contents (replica_of children.old.entries) (name.now ∷ []) Contents.Absent) }
-    ensures fault { IfErr result
-        (IsRefusal (set_fault (replica_of children.old.entries) (name.now ∷ []) Contents.Absent)) }
-    ensures err { OnErr result (replica_of children.new.entries ≡ replica_of children.old.entries) }
+    ensures { SetsOrRefuses Contents.Absent (name.now ∷ [])
+        (replica_of children.old.entries) (replica_of children.new.entries) result }
 {
     if is_occupied(children, name) {
         return Err(SetFault::NotEmpty);

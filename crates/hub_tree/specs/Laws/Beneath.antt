@@ -35,6 +35,9 @@ some_rest p q [] e h =
     ∙ path_itself p)) ∙ h))
 some_rest p q (n ∷ s) e h = (n, s, e)
 
+pub below_over : (p q : Path) → is_below p q ≡ true → is_over p q ≡ true
+below_over p q h = (and_parts (is_over p q) (not (path_eq p q)) h).0
+
 pub below_rest : (p q : Path) → is_below p q ≡ true → (n : Name) × (s : Path) × (q ≡ p ++ n ∷ s)
 below_rest p q h =
     let two = and_parts (is_over p q) (not (path_eq p q)) h in

@@ -17,18 +17,22 @@ use Rattle.std.proofs.lemmas.Map.Keys.{sorted_head, sorted_tail}
 use Rattle.std.proofs.lemmas.Map.Views.{any-filter_same}
 use Rattle.std.proofs.Math.Bool.{or-true}
 use Rattle.hub_path.specs.Laws.{parent-last_name, parent-push}
-use Rattle.hub_path.specs.Path.{Name, Path, path_cmp, parent, last_name}
+use Rattle.hub_path.specs.Path.{Name, Path, path_cmp, path_eq, parent, last_name}
 use Rattle.hub_tree.specs.Below.{is_below, under}
 use Rattle.hub_tree.specs.Tree.{Replica, contents_at, is_absent}
 use Rattle.hub_tree.specs.declared.contents.Contents.{Contents}
 use Rattle.hub_tree.specs.declared.contents.Contents.TheVariants as contents
 use Rattle.hub_tree.specs.Laws.Order.{path_total, same_path, path_itself}
-use Rattle.hub_tree.specs.Laws.Children.{sorted_keys}
+use Rattle.hub_tree.specs.Laws.Children.{sorted_keys, path_eq-cmp}
 use Rattle.hub_tree.specs.Laws.Beneath.{below_from, below_rest, below_order}
 
 -- whether a path is in a list
 abbrev pub among : Path → List Path → Bool
 among p ps = list_any (eq_by_cmp path_cmp p) ps
+
+pub any_equal : (q : Path) (ps : List Path) → list_any (path_eq q) ps ≡ among q ps
+any_equal q [] = refl
+any_equal q (p ∷ ps) = rw (path_eq-cmp q p, any_equal q ps) refl
 
 pub among_middle : (q : Path) (front rest : List Path) → among q (front ++ q ∷ rest) ≡ true
 among_middle q front rest =
@@ -126,7 +130,7 @@ some_there : (o : Option Contents) → is_absent (unwrap_or o contents.Absent) �
 some_there None h = absurd (false≢true (sym h))
 some_there (Some c) h = refl
 
-among_keys : (m : Replica) (q : Path) → is_absent (contents_at m q) ≡ false → 0 < length q
+pub among_keys : (m : Replica) (q : Path) → is_absent (contents_at m q) ≡ false → 0 < length q
     → among q (fin.keys m) ≡ true
 among_keys m [] h l = absurd (omega arith)
 among_keys m (n ∷ q) h l = sym (fin.contains_key-keys m (n ∷ q)) ∙ some_there (fin.get m (n ∷ q)) h
@@ -146,14 +150,14 @@ of_under m p q e =
     let one = and_parts (is_below p q) (not (is_absent (contents_at m q))) two.0 in
     (one.0, not-true (is_absent (contents_at m q)) one.1)
 
-absent : (c : Contents) → is_absent c ≡ true → c ≡ contents.Absent
-absent (contents.File bytes) e = absurd (false≢true e)
-absent contents.Directory e = absurd (false≢true e)
-absent contents.Absent e = refl
+pub absent_of : (c : Contents) → is_absent c ≡ true → c ≡ contents.Absent
+absent_of (contents.File bytes) e = absurd (false≢true e)
+absent_of contents.Directory e = absurd (false≢true e)
+absent_of contents.Absent e = refl
 
 by_absence : (c : Contents) (b h : Bool) → (is_absent c ≡ false → h ≡ true) → h ≡ false
     → is_absent c ≡ b → c ≡ contents.Absent
-by_absence c true h f e g = absent c g
+by_absence c true h f e g = absent_of c g
 by_absence c false h f e g = absurd (false≢true (sym e ∙ f g))
 
 -- Nothing is at a path below that isn't among them.
@@ -196,7 +200,7 @@ parent_order q l =
     ap (path_cmp (parent q)) (sym (last_of q l)) ∙ below_order (parent q) (last_name q) []
 
 -- a path below which nothing is
-no_members : (ps : List Path) → ((q : Path) → among q ps ≡ true → ⊥) → ps ≡ []
+pub no_members : (ps : List Path) → ((q : Path) → among q ps ≡ true → ⊥) → ps ≡ []
 no_members [] f = refl
 no_members (p ∷ ps) f = absurd (f p (among_middle p [] ps))
 

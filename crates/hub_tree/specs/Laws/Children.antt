@@ -18,6 +18,7 @@ use Rattle.std.proofs.lemmas.List.Kept.{IsStrictlySortedBy-filter}
 use Rattle.std.proofs.lemmas.Map.Views.{any-filter_same}
 use Rattle.std.proofs.Math.Bool.{and-true, and-false, and_assoc, and-or_distrib_left}
 use Rattle.hub_text.specs.TestLaws.{T-first, T-second, T-less}
+pub use Rattle.hub_text.specs.ListLaws.{some-item as one_item}
 use Rattle.hub_path.specs.Laws.{parent-last_name, parent-push, last_name-push}
 use Rattle.hub_path.specs.Path.{Name, Path, path_cmp, name_cmp, path_eq, parent, last_name}
 use Rattle.hub_tree.specs.Tree.{Replica, contents_at, is_absent, is_child, children}
@@ -96,13 +97,13 @@ some_length p l = grind (arith, nat_tests)
 pub path_eq-cmp : (p q : Path) → path_eq p q ≡ eq_by_cmp path_cmp p q
 path_eq-cmp p q = lists_ties (slice_cmp nat_cmp) texts_ties p q
 
-some_names : (d : Path) (n : Name) → 0 < length (d ++ n ∷ [])
-some_names d n = omega (arith, length-append d (n ∷ []))
+pub child_names : (d : Path) (n : Name) → 0 < length (d ++ n ∷ [])
+child_names d n = omega (arith, length-append d (n ∷ []))
 
 pub is_child-push : (d : Path) (n : Name) → is_child d (d ++ n ∷ []) ≡ true
 is_child-push d n =
     rw (
-      some_length (d ++ n ∷ []) (some_names d n),
+      some_length (d ++ n ∷ []) (child_names d n),
       parent-push d n,
       path_eq-cmp d d,
       path_itself d,
@@ -150,13 +151,10 @@ any_children-push m d n =
     any-children m d (d ++ n ∷ [])
     ∙ ap (λ b. b && (not (is_absent (contents_at m (d ++ n ∷ [])))
     && is_some (fin.get m (d ++ n ∷ [])))) (is_child-push d n)
-    ∙ names_shown m (d ++ n ∷ []) (some_names d n)
+    ∙ names_shown m (d ++ n ∷ []) (child_names d n)
 
 -- a path without children
-pub one_item : {X : Type 0} (x : X) (xs : List X) → (length (x ∷ xs) == 0) ≡ false
-one_item x xs = grind (arith, nat_tests)
-
-no_items : {X : Type 0} (xs : List X) → (length xs == 0) ≡ true → xs ≡ []
+pub no_items : {X : Type 0} (xs : List X) → (length xs == 0) ≡ true → xs ≡ []
 no_items [] h = refl
 no_items (x ∷ xs) h = absurd (false≢true (sym (one_item x xs) ∙ h))
 
@@ -178,7 +176,7 @@ is_childless m d (q ∷ ps) h none =
     (sym (h q) ∙ found) in
     let is : q ≡ d ++ last_name q ∷ [] = child_of d q two.0 in
     let there : shown (fin.get m (d ++ last_name q ∷ [])) ≡ true =
-    sym (names_shown m (d ++ last_name q ∷ []) (some_names d (last_name q)))
+    sym (names_shown m (d ++ last_name q ∷ []) (child_names d (last_name q)))
     ∙ ap (λ p. not (is_absent (contents_at m p)) && is_some (fin.get m p)) (sym is) ∙ two.1 in
     absurd (false≢true (sym (none (last_name q)) ∙ there))
 
@@ -251,7 +249,7 @@ where_child m d q ns h false e = refl
 where_child m d q ns h true e =
     let is : q ≡ d ++ last_name q ∷ [] = child_of d q e in
     ap (λ p. not (is_absent (contents_at m p)) && is_some (fin.get m p)) is
-    ∙ names_shown m (d ++ last_name q ∷ []) (some_names d (last_name q)) ∙ h (last_name q)
+    ∙ names_shown m (d ++ last_name q ∷ []) (child_names d (last_name q)) ∙ h (last_name q)
 
 -- where these names in order are those of the children
 pub children-pushed : (m : Replica) (d : Path) (ns : List Name) → IsStrictlySortedBy name_cmp ns

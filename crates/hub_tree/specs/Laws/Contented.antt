@@ -14,7 +14,7 @@ use Rattle.hub_tree.specs.declared.contents.Mark.TheVariants as mark
 use Rattle.hub_tree.specs.declared.fault.SetFault.{SetFault}
 use Rattle.hub_tree.specs.declared.fault.SetFault.TheVariants.{RootPath, NoParent, NotEmpty, NothingThere}
 use Rattle.hub_tree.specs.Laws.Order.{path_total, path_antisymmetric, same_path}
-use Rattle.hub_tree.specs.Laws.Children.{shown, path_eq-cmp, childless_none, none_childless}
+use Rattle.hub_tree.specs.Laws.Children.{shown, path_eq-cmp, child_names, childless_none, none_childless}
 
 -- the map after a change
 abbrev pub held : Contents → Option Contents
@@ -84,9 +84,6 @@ pub shown_contents : (m : Replica) (q : Path) → 0 < length q
     → shown (fin.get m q) ≡ not (is_absent (contents_at m q))
 shown_contents m [] l = absurd (omega arith)
 shown_contents m (n ∷ q) l = shown_or (fin.get m (n ∷ q))
-
-pub child_names : (d : Path) (n : Name) → 0 < length (d ++ n ∷ [])
-child_names d n = omega (arith, length-append d (n ∷ []))
 
 pub childless_absent : (m : Replica) (d : Path) (n : Name) → (length (children m d) == 0) ≡ true
     → is_absent (contents_at m (d ++ n ∷ [])) ≡ true

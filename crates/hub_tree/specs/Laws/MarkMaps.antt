@@ -3,9 +3,8 @@ use Rattle.std.proofs.Common.{◌≡◌, ℕ, ◌<◌, Bool, true, false, cond, 
 use Rattle.std.specs.FinMap as fin
 use Rattle.std.specs.FinMap.Entries.{find}
 use Rattle.std.specs.Option.{is_some, unwrap_or}
-use Rattle.std.specs.Prelude.{length, ◌==◌}
+use Rattle.std.specs.Prelude.{length}
 use Rattle.std.specs.Ordering.{eq_by_cmp}
-use Rattle.std.proofs.lemmas.Bool.Decides.{nat_tests}
 use Rattle.std.proofs.lemmas.Bool.{false≢true, cond_both}
 use Rattle.hub_path.specs.Path.{Path, path_cmp, path_eq, is_path, is_place}
 use Rattle.hub_tree.specs.Tree.{Archive, IsArchive, HasPaths, HasDigests, IsDigest, old_mark_at, kept, with_kept, with_mark}
@@ -13,7 +12,7 @@ use Rattle.hub_tree.specs.declared.contents.Mark.{Mark}
 use Rattle.hub_tree.specs.declared.contents.Mark.TheVariants as mark
 use Rattle.hub_tree.specs.Laws.Order.{path_total, path_antisymmetric, same_path}
 use Rattle.hub_tree.specs.Laws.Ascending.{get_changed}
-use Rattle.hub_tree.specs.Laws.Children.{path_eq-cmp}
+use Rattle.hub_tree.specs.Laws.Children.{path_eq-cmp, one_item}
 
 pub get-with_kept : (a : Archive) (p : Path) (w : Option Mark) (q : Path)
     → fin.get (with_kept a p w) q ≡ cond (eq_by_cmp path_cmp q p) w (fin.get a q)
@@ -124,9 +123,6 @@ IsArchive-empty = (
   λ p d e. let n : None ≡ Some (mark.File d) = sym (fin.get-empty path_cmp p) ∙ e in cc,
 )
 
-some_names : (p : Path) → 0 < length p → (length p == 0) ≡ false
-some_names p l = grind (arith, nat_tests)
-
 pub is_path-names : (p : Path) → 0 < length p → is_place p ≡ true → is_path p ≡ true
 is_path-names [] l h = absurd (omega arith)
-is_path-names (n ∷ p) l h = rw (some_names (n ∷ p) l) h
+is_path-names (n ∷ p) l h = rw (one_item n p) h

@@ -6,6 +6,7 @@ use Rattle.std.specs.FinMap.{IsAntisymmetric, nat_cmp-IsAntisymmetric, slice_cmp
 use Rattle.std.specs.Ordering.{eq_by_cmp, is_eq, ordering_then}
 use Rattle.std.specs.declared.cmp.Ordering.{Ordering}
 use Rattle.std.specs.declared.cmp.Ordering.TheVariants.{Less, Equal, Greater}
+use Rattle.hub_text.specs.TestLaws.{is_eq-equal}
 use Rattle.hub_path.specs.Path.{Name, Path, path_cmp, name_cmp}
 
 pub name_total : IsTotalOrder name_cmp
@@ -20,16 +21,11 @@ name_antisymmetric = slice_cmp-IsAntisymmetric nat_cmp-IsAntisymmetric
 pub path_antisymmetric : IsAntisymmetric path_cmp
 path_antisymmetric = slice_cmp-IsAntisymmetric name_antisymmetric
 
-equal_from_is_eq : (r : Ordering) → is_eq r ≡ true → r ≡ Equal
-equal_from_is_eq Less e = cc
-equal_from_is_eq Equal e = refl
-equal_from_is_eq Greater e = cc
-
 pub same_name : (m n : Name) → eq_by_cmp name_cmp m n ≡ true → m ≡ n
-same_name m n e = name_antisymmetric m n (equal_from_is_eq _ e)
+same_name m n e = name_antisymmetric m n (is_eq-equal _ e)
 
 pub same_path : (p q : Path) → eq_by_cmp path_cmp p q ≡ true → p ≡ q
-same_path p q e = path_antisymmetric p q (equal_from_is_eq _ e)
+same_path p q e = path_antisymmetric p q (is_eq-equal _ e)
 
 pub name_itself : (n : Name) → eq_by_cmp name_cmp n n ≡ true
 name_itself n = ap is_eq (tied_itself name_total n)

@@ -7,6 +7,7 @@ use Rattle.std.specs.List.{filter, list_any}
 use Rattle.std.specs.declared.cmp.Ordering.TheVariants.{Less}
 use Rattle.std.proofs.lemmas.Bool.{false≢true, or_parts, false_from_ne_true}
 use Rattle.std.proofs.Math.Bool.{and-false}
+use Rattle.hub_path.specs.Laws.{path_eq-decides}
 use Rattle.hub_path.specs.Path.{Path, path_cmp, path_eq, parent}
 use Rattle.hub_tree.specs.Below.{is_below, under}
 use Rattle.hub_tree.specs.Sets.{sets, each}
@@ -14,15 +15,12 @@ use Rattle.hub_tree.specs.Tree.{Replica, IsTree, contents_at, is_absent, is_dire
 use Rattle.hub_tree.specs.declared.contents.Contents.{Contents}
 use Rattle.hub_tree.specs.declared.contents.Contents.TheVariants as contents
 use Rattle.hub_tree.specs.declared.fault.SetFault.{SetFault}
-use Rattle.hub_tree.specs.Laws.Order.{path_itself, same_path}
+use Rattle.hub_tree.specs.Laws.Order.{path_itself}
 use Rattle.hub_tree.specs.Laws.Children.{path_eq-cmp, some_length}
 use Rattle.hub_tree.specs.Laws.Beneath.{below_from, below_rest, below_order, above_directory}
 use Rattle.hub_tree.specs.Laws.Between.{not_both, not_below_itself, parent_order, nothing_under}
 use Rattle.hub_tree.specs.Laws.Contented.{MayBeSet, no_fault, no_fault-from, some_names, contents_by_eq-after, absent_childless, IsTree-after}
 use Rattle.hub_tree.specs.Laws.Runs.{all_down, all_up, sets-append, IsClosed}
-
-same_from : (q p : Path) → path_eq q p ≡ true → q ≡ p
-same_from q p e = same_path q p (sym (path_eq-cmp q p) ∙ e)
 
 -- What an optional replica is, and what it has.
 abbrev IsTreeOf : Option Replica → Type 0
@@ -41,7 +39,7 @@ pub parent_not_below : (p : Path) → 0 < length p → is_below p (parent p) ≡
 parent_not_below p l =
     false_from_ne_true _ (λ b. not_both p (parent p) (after_it p (parent p) b) (parent_order p l))
 
-itself_not_below : (p : Path) → is_below p p ≡ false
+pub itself_not_below : (p : Path) → is_below p p ≡ false
 itself_not_below p = false_from_ne_true _ (λ b. not_below_itself p b)
 
 -- A Set isn't refused: said by the contents of the parent, of the path and of the paths right below
@@ -100,7 +98,7 @@ absent_or m p q a contents.Absent t none b e f = e
 not_equal : (p q : Path) → is_below p q ≡ true → path_eq q p ≡ false
 not_equal p q b =
     false_from_ne_true _ (λ e. not_below_itself p
-    (subst (λ x. is_below p x ≡ true) (same_from q p e) b))
+    (subst (λ x. is_below p x ≡ true) ((path_eq-decides q p).0 e) b))
 
 pub item_comes : (m s : Replica) (p : Path) (f : Path → Bool) → IsTree m → IsTree s → 0 < length p
     → is_directory (contents_at m (parent p)) ≡ true → is_directory (contents_at m p) ≡ false

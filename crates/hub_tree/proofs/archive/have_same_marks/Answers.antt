@@ -1,11 +1,10 @@
-use Rattle.std.proofs.Common.{◌≡◌, refl, sym, ap, ◌∙◌}
-use Rattle.std.proofs.lemmas.Bool.{false≢true}
-use Rattle.std.proofs.lemmas.Slice.Eq.{slice_eq-Decides}
+use Rattle.std.proofs.Common.{◌≡◌, sym, ap, ◌∙◌}
+use Rattle.std.proofs.lemmas.Bool.{false≢true, not-false}
 use Rattle.std.specs.Map.Iter.{deref_pair}
-use Rattle.hub_path.specs.Laws.{name_eq-decides}
+use Rattle.hub_path.specs.Laws.{path_eq-decides}
 use Rattle.hub_path.specs.Path.{Path, path_eq}
 use Rattle.hub_tree.specs.declared.contents.Mark.{Mark}
-use Rattle.hub_tree.proofs.Matching.{one_less, other_items, too_few, too_many, all_same, refuted, unequal, equal, by_none, step_none, step_some}
+use Rattle.hub_tree.proofs.Matching.{one_less, other_items, too_few, too_many, all_same, refuted, unequal, by_none, step_none, step_some}
 use Rattle.hub_tree.proofs.archive.have_same_marks.Goals as goal
 
 pub returns-in_default-clause-same : goal.returns-in_default-clause-same
@@ -19,7 +18,7 @@ returns-then-ne-clause-same c =
     let q : Path = c.in-Some-next.other_path.now in
     refuted _ (other_items c.args.marks.now.entries c.args.others.now.entries c.loop-path.path-iterator c.loop-path.rest c.next.new.self c.next-in-loop-path.new.self
     (p, c.in-Some.mark.now) (q, c.in-Some-next.other.now) c.loop-path.invariant c.in-Some.ensures.steps c.in-Some-next.ensures.steps
-    (λ e. unequal (path_eq p q) (p ≡ q) (slice_eq-Decides name_eq-decides p q (path_eq p q) refl).1 (sym c.ne.ensures ∙ c.if-ne.true) (ap (λ (x : Path × Mark). x.0) e)))
+    (λ e. unequal (path_eq p q) (p ≡ q) (path_eq-decides p q).1 (sym c.ne.ensures ∙ c.if-ne.true) (ap (λ (x : Path × Mark). x.0) e)))
 
 pub returns-then-not-is_equal-clause-same : goal.returns-then-not-is_equal-clause-same
 returns-then-not-is_equal-clause-same c =
@@ -32,7 +31,7 @@ loop-path-preserved c =
     let p : Path = c.in-Some.path.now in
     let q : Path = c.in-Some-next.other_path.now in
     let m : Mark = c.in-Some.mark.now in
-    let same : p ≡ q = (slice_eq-Decides name_eq-decides p q (path_eq p q) refl).0 (equal (path_eq p q) (sym c.ne.ensures ∙ c.if-ne.false)) in
+    let same : p ≡ q = (path_eq-decides p q).0 (not-false (path_eq p q) (sym c.ne.ensures ∙ c.if-ne.false)) in
     one_less c.args.marks.now.entries c.args.others.now.entries c.loop-path.path-iterator c.loop-path.rest c.next.new.self c.next-in-loop-path.new.self
     (p, m) (q, c.in-Some-next.other.now) c.loop-path.invariant c.in-Some.ensures.steps c.in-Some-next.ensures.steps
     (ap (λ (x : Path). (x, m)) same ∙ ap (λ (x : Mark). (q, x)) (c.is_equal.ensures.0 c.if-not-is_equal.false))

@@ -1,5 +1,5 @@
 use Rattle.std.proofs.Common.{◌≡◌, ℕ, List, sym, ap, ◌∙◌}
-use Rattle.std.proofs.lemmas.Bool.{false≢true}
+use Rattle.std.proofs.lemmas.Bool.{false≢true, not-false}
 use Rattle.std.specs.Map.Iter.{deref_pair}
 use Rattle.std.specs.Str.{bytes_eq}
 use Rattle.hub_path.specs.Laws.{name_eq-decides}
@@ -7,7 +7,7 @@ use Rattle.hub_path.specs.Path.{Name, name_eq}
 use Rattle.hub_tree.specs.Nodes.{contents_of, kids_of}
 use Rattle.hub_tree.proofs.LookUp.{contents-file, contents-directory, kids-file, kids-directory}
 use Rattle.hub_tree.proofs.Comparing.{one_less, other_names, other_nodes, too_few, too_many, all_same, files_alike, directories_alike, file_or_directory}
-use Rattle.hub_tree.proofs.Matching.{refuted, unequal, equal, by_none, step_none, step_some}
+use Rattle.hub_tree.proofs.Matching.{refuted, unequal, by_none, step_none, step_some}
 use Rattle.hub_tree.proofs.same.+same.Goals as goal
 
 pub are_same-returns-in_default : goal.are_same-returns-in_default
@@ -27,7 +27,7 @@ are_same-returns-then-not-is_same t c =
     let n : Name = c.in-Some.name.now in
     let m : Name = c.in-Some-next.other_name.now in
     refuted _ (other_nodes c.args.children.now.entries c.args.others.now.entries c.loop-name.name-iterator c.loop-name.rest c.next.new.self c.next-in-loop-name.new.self n m c.in-Some.node.now c.in-Some-next.other.now
-    c.loop-name.invariant c.in-Some.ensures.steps c.in-Some-next.ensures.steps ((name_eq-decides n m).0 (equal (name_eq n m) (sym c.ne.ensures ∙ c.if-ne.false)))
+    c.loop-name.invariant c.in-Some.ensures.steps c.in-Some-next.ensures.steps ((name_eq-decides n m).0 (not-false (name_eq n m) (sym c.ne.ensures ∙ c.if-ne.false)))
     (λ s. false≢true (sym c.if-not-is_same.true ∙ c.is_same.ensures.1 s)))
 
 pub are_same-loop-name-preserved : goal.are_same-loop-name-preserved
@@ -35,7 +35,7 @@ are_same-loop-name-preserved t c =
     let n : Name = c.in-Some.name.now in
     let m : Name = c.in-Some-next.other_name.now in
     one_less c.args.children.now.entries c.args.others.now.entries c.loop-name.name-iterator c.loop-name.rest c.next.new.self c.next-in-loop-name.new.self n m c.in-Some.node.now c.in-Some-next.other.now
-    c.loop-name.invariant c.in-Some.ensures.steps c.in-Some-next.ensures.steps ((name_eq-decides n m).0 (equal (name_eq n m) (sym c.ne.ensures ∙ c.if-ne.false)))
+    c.loop-name.invariant c.in-Some.ensures.steps c.in-Some-next.ensures.steps ((name_eq-decides n m).0 (not-false (name_eq n m) (sym c.ne.ensures ∙ c.if-ne.false)))
     (c.is_same.ensures.0 c.if-not-is_same.false)
 
 pub are_same-returns : goal.are_same-returns

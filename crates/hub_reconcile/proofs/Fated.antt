@@ -4,6 +4,7 @@ use Rattle.std.specs.Prelude.{filter, reverse, is_some}
 use Rattle.std.specs.List.{list_any}
 use Rattle.std.proofs.lemmas.List.Folds.{list_any-append}
 use Rattle.std.proofs.lemmas.List.Sorted.{list_any-IsPermutation, IsPermutation-reverse}
+use Rattle.hub_text.specs.TestLaws.{any-map, any-or}
 use Rattle.hub_path.specs.Path.{Path}
 use Rattle.hub_path.specs.declared.side.Side.{Side}
 use Rattle.hub_path.specs.declared.side.Side.TheVariants.{Left, Right}
@@ -21,6 +22,7 @@ use Rattle.hub_reconcile.specs.declared.change.Change.{Change}
 use Rattle.hub_reconcile.specs.declared.item.Fate.TheVariants.{To, Skip}
 use Rattle.hub_reconcile.specs.declared.item.Reason.TheVariants as reason
 use Rattle.hub_reconcile.specs.declared.row.Row.{Row}
+use Rattle.hub_reconcile.proofs.Partitions.{mark_row}
 
 -- Some of the rows pass a test, if some of their paths do.
 pub any_rows : (V : View) (f : Row → Bool) (g : Path → Bool) → ((r : Row) → IsRow V r → f r ≡ g r.path.now) → (rs : List Row) → AreRows V rs → list_any f rs ≡ list_any g (paths_of rs)
@@ -28,10 +30,6 @@ any_rows V f g same [] a = refl
 any_rows V f g same (r ∷ rs) a = λ i. same r a.0 i || any_rows V f g same rs a.1 i
 
 -- Tests of lists of changes.
-any_map : {X Y : Type 0} (t : Y → Bool) (h : X → Y) (xs : List X) → list_any t (map h xs) ≡ list_any (λ x. t (h x)) xs
-any_map t h [] = refl
-any_map t h (x ∷ xs) = ap (λ b. t (h x) || b) (any_map t h xs)
-
 any_reverse : {X : Type 0} (t : X → Bool) (xs : List X) → list_any t (reverse xs) ≡ list_any t xs
 any_reverse t xs = sym (list_any-IsPermutation t xs (reverse xs) (IsPermutation-reverse xs))
 
@@ -42,17 +40,6 @@ any_filter t g (x ∷ xs) =
       | true ↦ ap (λ b. t x || b) (any_filter t g xs)
       | false ↦ any_filter t g xs
     ]
-
-mixed : (a b c d : Bool) → ((a || b) || (c || d)) ≡ ((a || c) || (b || d))
-mixed true b c d = refl
-mixed false true true d = refl
-mixed false true false d = refl
-mixed false false true d = refl
-mixed false false false d = refl
-
-any_either : {X : Type 0} (t u : X → Bool) (xs : List X) → list_any (λ x. t x || u x) xs ≡ (list_any t xs || list_any u xs)
-any_either t u [] = refl
-any_either t u (x ∷ xs) = ap (λ b. (t x || u x) || b) (any_either t u xs) ∙ mixed (t x) (u x) (list_any t xs) (list_any u xs)
 
 later : (a b t : Bool) → (a || (t || b)) ≡ ((a || b) || t)
 later true b t = refl
@@ -65,25 +52,21 @@ module _ (P : Parts) (O : Archive) (seen : Side → List (Path × Sight)) where
   abbrev V : View
   V = view_by P O seen
 
-  mark_row : (k : Side) (r : Row) → IsRow V r → mark_on k r ≡ V.mark k r.path.now
-  mark_row Left r row = row.left
-  mark_row Right r row = row.right
-
   others_row : (k : Side) (r : Row) → IsRow V r → (seen_on k r).others ≡ V.others k r.path.now
   others_row Left r row = row.left_others
   others_row Right r row = row.right_others
 
   changed_row : (k : Side) (r : Row) → IsRow V r → is_changed k r ≡ is_updated V k r.path.now
-  changed_row k r row = λ i. not (mark_eq (mark_row k r row i) (row.old i))
+  changed_row k r row = λ i. not (mark_eq (mark_row V k r row i) (row.old i))
 
   abbrev Tests : (Row → Mark → Bool) → (Change → Bool) → Side → Type 0
   Tests test t from = (r : Row) (m : Mark) → IsRow V r → test r m ≡ t (change (other from) r.path.now m)
 
   barred_row : (from : Side) → Tests (rows.bars P from) (λ c. not (is_allowed V c)) from
-  barred_row from r m row = ap (λ old. not (allowed_at P (other from) r.path.now (verb_of old m))) (mark_row (other from) r row)
+  barred_row from r m row = ap (λ old. not (allowed_at P (other from) r.path.now (verb_of old m))) (mark_row V (other from) r row)
 
   blocked_row : (from : Side) → Tests (rows.blocks from) (blocks V) from
-  blocked_row from r m row = λ i. is_folder (mark_row (other from) r row i) && not (is_folder m) && others_row (other from) r row i
+  blocked_row from r m row = λ i. is_folder (mark_row V (other from) r row i) && not (is_folder m) && others_row (other from) r row i
 
   abbrev Goes : Side → Path → Bool
   Goes from q = is_present (V.mark (other from) q) && not (is_present (V.mark from q))
@@ -100,9 +83,9 @@ module _ (P : Parts) (O : Archive) (seen : Side → List (Path × Sight)) where
   change_row : (test : Row → Mark → Bool) (t : Change → Bool) (from : Side) → Tests test t from → (r : Row) → IsRow V r
       → rows.changes_with test from r ≡ ((Goes from r.path.now && gone t from r.path.now) || (Comes from r.path.now && come t from r.path.now))
   change_row test t from same r row =
-      let coming_same : test r (mark_on from r) ≡ come t from r.path.now = same r (mark_on from r) row ∙ ap (λ m. t (change (other from) r.path.now m)) (mark_row from r row) in
+      let coming_same : test r (mark_on from r) ≡ come t from r.path.now = same r (mark_on from r) row ∙ ap (λ m. t (change (other from) r.path.now m)) (mark_row V from r row) in
       let going_same : test r mark.Absent ≡ gone t from r.path.now = same r mark.Absent row in
-      λ i. ((is_present (mark_row (other from) r row i) && not (is_present (mark_row from r row i))) && going_same i) || (is_present (mark_row from r row i) && coming_same i)
+      λ i. ((is_present (mark_row V (other from) r row i) && not (is_present (mark_row V from r row i))) && going_same i) || (is_present (mark_row V from r row i) && coming_same i)
 
   module _ (r : Row) (rs : List Row) (a : AreRows V (r ∷ rs)) (low : paths_of rs ≡ below V r.path.now) (all : paths_of (r ∷ rs) ≡ at_and_below V r.path.now) where
     abbrev p : Path
@@ -110,12 +93,12 @@ module _ (P : Parts) (O : Archive) (seen : Side → List (Path × Sight)) where
 
     going_any : (t : Change → Bool) (from : Side) → list_any t (map (λ q. change (other from) q mark.Absent) (reverse (going V from p))) ≡ list_any (λ q. Goes from q && gone t from q) (below V p)
     going_any t from =
-        any_map t (λ q. change (other from) q mark.Absent) (reverse (going V from p))
+        sym (any-map t (λ q. change (other from) q mark.Absent) (reverse (going V from p)))
         ∙ (any_reverse (gone t from) (going V from p) ∙ any_filter (gone t from) (Goes from) (below V p))
 
     coming_any : (t : Change → Bool) (from : Side) → list_any t (map (λ q. change (other from) q (V.mark from q)) (coming V from p)) ≡ list_any (λ q. Comes from q && come t from q) (below V p)
     coming_any t from =
-        any_map t (λ q. change (other from) q (V.mark from q)) (coming V from p)
+        sym (any-map t (λ q. change (other from) q (V.mark from q)) (coming V from p))
         ∙ any_filter (come t from) (Comes from) (below V p)
 
     low_any : (test : Row → Mark → Bool) (t : Change → Bool) (from : Side) → Tests test t from
@@ -123,10 +106,10 @@ module _ (P : Parts) (O : Archive) (seen : Side → List (Path × Sight)) where
     low_any test t from same =
         any_rows V (rows.changes_with test from) (λ q. (Goes from q && gone t from q) || (Comes from q && come t from q)) (change_row test t from same) rs a.1
         ∙ (ap (list_any (λ q. (Goes from q && gone t from q) || (Comes from q && come t from q))) low
-        ∙ any_either (λ q. Goes from q && gone t from q) (λ q. Comes from q && come t from q) (below V p))
+        ∙ sym (any-or (λ q. Goes from q && gone t from q) (λ q. Comes from q && come t from q) (below V p)))
 
     own_test : (test : Row → Mark → Bool) (t : Change → Bool) (from : Side) → Tests test t from → test r (mark_on from r) ≡ come t from p
-    own_test test t from same = same r (mark_on from r) a.0 ∙ ap (λ m. t (change (other from) p m)) (mark_row from r a.0)
+    own_test test t from same = same r (mark_on from r) a.0 ∙ ap (λ m. t (change (other from) p m)) (mark_row V from r a.0)
 
     -- Some change of the item passes a test, if the rows say so.
     changes_any : (test : Row → Mark → Bool) (t : Change → Bool) (from : Side) → Tests test t from

@@ -14,7 +14,7 @@ use Rattle.hub_tree.specs.Laws.Order.{path_itself, same_path}
 use Rattle.hub_tree.specs.Laws.Between.{among, behind, not_both}
 use Rattle.hub_reconcile.specs.Merge.{first_of, lesser, least_first, past}
 use Rattle.hub_reconcile.specs.Laws.Ascend.{ascending_sorted, among_ascending, same_list}
-use Rattle.hub_reconcile.specs.Laws.Over.{some_inner}
+use Rattle.std.proofs.lemmas.Option.{same_Some}
 use Rattle.hub_reconcile.specs.Laws.Views.{same_paths, paths_same}
 
 -- The path is no later than this one, if there is one.
@@ -35,16 +35,16 @@ pub record IsLesser (a b : Option Path) (p : Path) : Type 0 where
 
 lesser_by : (x y p : Path) (b : Bool) → is_lt (path_cmp y x) ≡ b → cond b (Some y) (Some x) ≡ Some p → IsLesser (Some x) (Some y) p
 lesser_by x y p true e h =
-    subst (λ (z : Path). IsLesser (Some x) (Some y) z) (some_inner y p h)
+    subst (λ (z : Path). IsLesser (Some x) (Some y) z) (same_Some y p h)
     (record { first = inr (lt_less (path_cmp y x) e); second = inl refl; one = inr refl })
 lesser_by x y p false e h =
-    subst (λ (z : Path). IsLesser (Some x) (Some y) z) (some_inner x p h)
+    subst (λ (z : Path). IsLesser (Some x) (Some y) z) (same_Some x p h)
     (record { first = inl refl; second = low_by x y (path_cmp y x) refl e; one = inl refl })
 
 is_lesser : (a b : Option Path) (p : Path) → lesser a b ≡ Some p → IsLesser a b p
 is_lesser None None p e = cc
-is_lesser None (Some y) p e = record { first = tt; second = inl (some_inner y p e); one = inr e }
-is_lesser (Some x) None p e = record { first = inl (some_inner x p e); second = tt; one = inl e }
+is_lesser None (Some y) p e = record { first = tt; second = inl (same_Some y p e); one = inr e }
+is_lesser (Some x) None p e = record { first = inl (same_Some x p e); second = tt; one = inl e }
 is_lesser (Some x) (Some y) p e = lesser_by x y p (is_lt (path_cmp y x)) refl e
 
 no_lesser : (a b : Option Path) → lesser a b ≡ None → (a ≡ None) × (b ≡ None)
@@ -73,7 +73,7 @@ pub record IsLeastFirst (ls rs os : List Path) (p : Path) : Type 0 where
 
 first_among : (ps : List Path) (p : Path) → first_of ps ≡ Some p → among p ps ≡ true
 first_among [] p e = cc
-first_among (x ∷ xs) p e = or_left _ (among p xs) (ap (eq_by_cmp path_cmp p) (some_inner x p e) ∙ path_itself p)
+first_among (x ∷ xs) p e = or_left _ (among p xs) (ap (eq_by_cmp path_cmp p) (same_Some x p e) ∙ path_itself p)
 
 pub least_firsts : (ls rs os : List Path) (p : Path) → least_first ls rs os ≡ Some p → IsLeastFirst ls rs os p
 least_firsts ls rs os p e =

@@ -1,5 +1,5 @@
 -- The rows of a picture: what the merge has made of the Looks and the archive's paths that it has passed.
-use Rattle.std.proofs.Common.{◌≡◌, ◌<◌, ⊎_elim, Bool, true, false, T, cond, ◌&&◌, ◌||◌, List, [], ◌∷◌, ◌++◌, length, Some, None, refl, ap, sym, ◌∙◌, subst, append_assoc, append-nil}
+use Rattle.std.proofs.Common.{◌≡◌, ◌<◌, ⊎_elim, Bool, true, false, T, cond, ◌&&◌, ◌||◌, List, [], ◌∷◌, ◌++◌, length, Some, None, refl, ap, sym, ◌∙◌, subst, append_assoc, append-nil, arith}
 use Rattle.std.specs.Prelude.{◌==◌, filter, IsTrue}
 use Rattle.std.specs.Option.{unwrap_or}
 use Rattle.std.specs.List.Sorted.{IsStrictlySortedBy}
@@ -11,7 +11,6 @@ use Rattle.std.proofs.lemmas.Bool.{false≢true, and_parts, or_left, or_right, f
 use Rattle.std.proofs.lemmas.List.Elements.{filter-append}
 use Rattle.std.specs.Cmp.{both_ways}
 use Rattle.std.proofs.Math.Bool.{and-false, and-true}
-use Rattle.hub_reconcile.specs.Laws.Counts.{no_names}
 use Rattle.hub_reconcile.proofs.Partitions.{paths-push}
 use Rattle.hub_path.specs.Laws.{path_cmp-total}
 use Rattle.hub_path.specs.Path.{Path, path_cmp, path_eq, ascending}
@@ -193,7 +192,7 @@ module _ (P : Parts) (O : Archive) (L R : List (Path × Sight)) where
     right_mark = seen_right.mark ∙ ap (λ s. s.mark) right_sight
 
     mark_named : (q : Path) (a : Mark) → 0 < length q → a ≡ cond (length q == 0) mark.Absent a
-    mark_named [] a n = absurd (no_names n)
+    mark_named [] a n = absurd (omega (arith, n))
     mark_named (x ∷ q) a n = ap (λ b. cond b mark.Absent a) (sym (one_item x q))
 
     pub row_is : reach P p ≡ true → IsRow V row

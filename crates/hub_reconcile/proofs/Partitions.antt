@@ -76,7 +76,7 @@ abbrev made : Path → Fate → Item
 made p f = record { path = p; fate = f }
 
 module _ (V : View) where
-  mark_row : (k : Side) (r : Row) → IsRow V r → mark_on k r ≡ V.mark k r.path.now
+  pub mark_row : (k : Side) (r : Row) → IsRow V r → mark_on k r ≡ V.mark k r.path.now
   mark_row Left r row = row.left
   mark_row Right r row = row.right
 

@@ -17,7 +17,7 @@ use Rattle.hub_reconcile.specs.Sight.{Sight}
 use Rattle.hub_reconcile.specs.declared.look.Look.{Look}
 use Rattle.hub_reconcile.specs.declared.row.Row.{Row}
 use Rattle.hub_reconcile.proofs.Merging.{IsMerged, merge_start, merge_kept, merge_skipped, past_seen}
-use Rattle.hub_reconcile.specs.Laws.Over.{some_inner}
+use Rattle.std.proofs.lemmas.Option.{same_Some}
 use Rattle.hub_reconcile.specs.Laws.Views.{paths_same}
 
 -- The lesser of two paths is one of them.
@@ -38,7 +38,7 @@ past_no_longer p (x ∷ xs) =
 past_shorter : (p : Path) (ps : List Path) → first_of ps ≡ Some p → length (past p ps) < length ps
 past_shorter p [] e = cc
 past_shorter p (x ∷ xs) e =
-    let same : path_eq x p ≡ true = ap (path_eq x) (sym (some_inner x p e)) ∙ paths_same x in
+    let same : path_eq x p ≡ true = ap (path_eq x) (sym (same_Some x p e)) ∙ paths_same x in
     let step : length (past p (x ∷ xs)) ≡ length xs = ap (λ b. length (cond b xs (x ∷ xs))) same in
     omega (arith, step)
 

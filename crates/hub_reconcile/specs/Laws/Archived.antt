@@ -142,10 +142,9 @@ old_last O ps q e =
 shown_there : (P : Parts) (A B : Replica) (O : Archive) (k : Side) (q : Path) → reach P q ≡ true
     → is_present ((view_of P A B O).mark k q) ≡ true
     → among q (fin.keys A ++ fin.keys B ++ fin.keys O) ≡ true
-shown_there P A B O k [] h e = absurd (false≢true (reach-is_path P [] h))
-shown_there P A B O k (n ∷ q) h e =
-    among_candidates P A B O k n q (not-true (is_absent (contents_at (of_side A B k) (n ∷ q)))
-    (sym (present_here P A B O k (n ∷ q) h) ∙ e))
+shown_there P A B O k q h e =
+    among_candidates P A B O k q h (not-true (is_absent (contents_at (of_side A B k) q))
+    (sym (present_here P A B O k q h) ∙ e))
 
 pub archived : (P : Parts) (A B : Replica) (O : Archive) (q : Path)
     → old_mark_at (next_archive (view_of P A B O) O) q ≡ synced_mark (view_of P A B O) q

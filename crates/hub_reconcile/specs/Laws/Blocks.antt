@@ -7,6 +7,7 @@ use Rattle.std.specs.Ordering.{eq_by_cmp}
 use Rattle.std.proofs.lemmas.Bool.{false≢true, and_parts, and_from, or_left, or_right, not-true, not-false, false_from_ne_true, or_parts}
 use Rattle.std.proofs.lemmas.List.Folds.{list_any-append}
 use Rattle.std.proofs.lemmas.List.Kept.{IsStrictlySortedBy-filter}
+use Rattle.hub_text.specs.TestLaws.{any-map}
 use Rattle.hub_path.specs.Laws.{is_over-rest, is_over-append, is_over-transitive, is_over-reflexive}
 use Rattle.hub_path.specs.Path.{Name, Path, path_cmp, path_eq, is_over}
 use Rattle.hub_path.specs.declared.side.Side.{Side}
@@ -17,11 +18,11 @@ use Rattle.hub_tree.specs.Below.{is_below, under}
 use Rattle.hub_tree.specs.Tree.{Replica, Archive, IsTree, contents_at, is_absent, is_directory, children}
 use Rattle.hub_tree.specs.declared.contents.Mark.{Mark}
 use Rattle.hub_tree.specs.declared.contents.Mark.TheVariants as mark
-use Rattle.hub_tree.specs.Laws.Order.{same_path, path_itself}
-use Rattle.hub_tree.specs.Laws.Children.{any_children-push}
-use Rattle.hub_tree.specs.Laws.Contented.{shown_contents, child_names}
-use Rattle.hub_tree.specs.Laws.Beneath.{below_from, above_directory, is_a_directory}
-use Rattle.hub_tree.specs.Laws.Between.{among, among_filter, among_reverse, under_sorted, in_under, of_under}
+use Rattle.hub_tree.specs.Laws.Order.{path_itself}
+use Rattle.hub_tree.specs.Laws.Children.{any_children-push, child_names}
+use Rattle.hub_tree.specs.Laws.Contented.{shown_contents}
+use Rattle.hub_tree.specs.Laws.Beneath.{below_from, below_over, above_directory, is_a_directory}
+use Rattle.hub_tree.specs.Laws.Between.{among, among_filter, among_reverse, under_sorted, in_under, of_under, no_members}
 use Rattle.hub_reconcile.specs.View.{View, is_present, is_folder}
 use Rattle.hub_reconcile.specs.Items.{other, changes, change, going, coming, below, is_allowed, blocks, has_parent, verb_of, fate_from, fate, source}
 use Rattle.hub_reconcile.specs.Sync.{of_side, view_of, root_or_top, loses_children, LosesChildren}
@@ -31,55 +32,37 @@ use Rattle.hub_reconcile.specs.declared.item.Fate.{Fate}
 use Rattle.hub_reconcile.specs.declared.item.Fate.TheVariants.{To, Skip}
 use Rattle.hub_reconcile.specs.declared.change.Change.{Change}
 use Rattle.hub_reconcile.specs.Laws.Ascend.{same_list}
+use Rattle.hub_reconcile.specs.Laws.Each.{none_at}
 use Rattle.hub_reconcile.specs.Laws.Views.{same_paths, allowed-writes, present_here, folder_here, others_here, paths_sorted, of_paths, in_paths}
 
--- What no item of a list passes.
-none_at : (f : Path → Bool) (xs : List Path) (q : Path) → list_any f xs ≡ false → among q xs ≡ true
-    → f q ≡ false
-none_at f [] q e h = absurd (false≢true h)
-none_at f (x ∷ xs) q e h =
-    let two = or_parts (f x) (list_any f xs) e in
-    elim (eq_by_cmp path_cmp q x) as (λ b. eq_by_cmp path_cmp q x ≡ b → (b || among q xs) ≡ true
-    → f q ≡ false) [
-      | true ↦ λ g i. ap f (same_path q x g) ∙ two.0
-      | false ↦ λ g i. none_at f xs q two.1 i
-    ] refl h
-
-any_mapped : (f : Change → Bool) (g : Path → Change) (xs : List Path)
-    → list_any f (map g xs) ≡ list_any (λ x. f (g x)) xs
-any_mapped f g [] = refl
-any_mapped f g (x ∷ xs) = ap (λ b. f (g x) || b) (any_mapped f g xs)
+-- What no change of an item passes.
+item_from : (V : View) (from : Side) (p : Path) (f : Change → Bool)
+    → list_any f (changes V from p) ≡ false → f (change (other from) p (V.mark from p)) ≡ false
+item_from V from p f e =
+    (or_parts (f (change (other from) p (V.mark from p))) _
+    (or_parts _ _ (sym (list_any-append f
+    (map (λ q. change (other from) q mark.Absent) (reverse (going V from p))) _) ∙ e)).1).0
 
 at_item : (V : View) (k : Side) (p : Path) (f : Change → Bool)
     → list_any f (changes V (other k) p) ≡ false → f (change k p (V.mark (other k) p)) ≡ false
-at_item V Left p f e =
-    (or_parts (f (change Left p (V.mark Right p))) _
-    (or_parts _ _
-    (sym (list_any-append f (map (λ q. change Left q mark.Absent) (reverse (going V Right p))) _)
-    ∙ e)).1).0
-at_item V Right p f e =
-    (or_parts (f (change Right p (V.mark Left p))) _
-    (or_parts _ _
-    (sym (list_any-append f (map (λ q. change Right q mark.Absent) (reverse (going V Left p))) _)
-    ∙ e)).1).0
+at_item V Left p f e = item_from V Right p f e
+at_item V Right p f e = item_from V Left p f e
+
+going_from : (V : View) (from : Side) (p q : Path) (f : Change → Bool)
+    → list_any f (changes V from p) ≡ false → among q (going V from p) ≡ true
+    → f (change (other from) q mark.Absent) ≡ false
+going_from V from p q f e h =
+    none_at (λ x. f (change (other from) x mark.Absent)) (reverse (going V from p)) q
+    (any-map f (λ x. change (other from) x mark.Absent) (reverse (going V from p))
+    ∙ (or_parts _ _ (sym (list_any-append f
+    (map (λ q. change (other from) q mark.Absent) (reverse (going V from p))) _) ∙ e)).0)
+    (among_reverse q (going V from p) ∙ h)
 
 at_going : (V : View) (k : Side) (p q : Path) (f : Change → Bool)
     → list_any f (changes V (other k) p) ≡ false → among q (going V (other k) p) ≡ true
     → f (change k q mark.Absent) ≡ false
-at_going V Left p q f e h =
-    none_at (λ x. f (change Left x mark.Absent)) (reverse (going V Right p)) q
-    (sym (any_mapped f (λ x. change Left x mark.Absent) (reverse (going V Right p)))
-    ∙ (or_parts _ _
-    (sym (list_any-append f (map (λ q. change Left q mark.Absent) (reverse (going V Right p))) _)
-    ∙ e)).0)
-    (among_reverse q (going V Right p) ∙ h)
-at_going V Right p q f e h =
-    none_at (λ x. f (change Right x mark.Absent)) (reverse (going V Left p)) q
-    (sym (any_mapped f (λ x. change Right x mark.Absent) (reverse (going V Left p)))
-    ∙ (or_parts _ _
-    (sym (list_any-append f (map (λ q. change Right q mark.Absent) (reverse (going V Left p))) _)
-    ∙ e)).0)
-    (among_reverse q (going V Left p) ∙ h)
+at_going V Left p q f e h = going_from V Right p q f e h
+at_going V Right p q f e h = going_from V Left p q f e h
 
 -- What holds of an item that goes to a side.
 pub record Goes (V : View) (p : Path) (k : Side) : Type 0 where
@@ -184,10 +167,6 @@ third false b c e f h = absurd (false≢true e)
 second : (a c : Bool) → a ≡ true → (a && c) ≡ false → c ≡ false
 second true c e h = h
 second false c e h = absurd (false≢true e)
-
-no_members : (ps : List Path) → ((q : Path) → among q ps ≡ true → ⊥) → ps ≡ []
-no_members [] f = refl
-no_members (p ∷ ps) f = absurd (f p (ap (λ b. b || among p ps) (path_itself p)))
 
 module _ (P : Parts) (A B : Replica) (O : Archive) (left : IsTree A) (right : IsTree B) where
   abbrev R : Side → Replica
@@ -328,11 +307,11 @@ module _ (P : Parts) (A B : Replica) (O : Archive) (left : IsTree A) (right : Is
       let gone : Path → Change = λ q. change (other from) q mark.Absent in
       let made : Path → Change = λ q. change (other from) q (V.mark from q) in
       let there : list_any out (map made (coming V from p)) ≡ false =
-      any_mapped out made (coming V from p)
+      sym (any-map out made (coming V from p))
       ∙ none_if (λ q. not (reach P q)) (coming V from p) (λ q e. ap not (coming_reached from p q e))
       in
       let away : list_any out (map gone (reverse (going V from p))) ≡ false =
-      any_mapped out gone (reverse (going V from p))
+      sym (any-map out gone (reverse (going V from p)))
       ∙ none_if (λ q. not (reach P q)) (reverse (going V from p))
       (λ q e. ap not (going_reached from p q (sym (among_reverse q (going V from p)) ∙ e))) in
       list_any-append out (map gone (reverse (going V from p)))
@@ -398,7 +377,7 @@ module _ (P : Parts) (A B : Replica) (O : Archive) (left : IsTree A) (right : Is
       pub all_reached : (q : Path) → is_below p q ≡ true → is_absent (contents_at (R k) q) ≡ false
           → reach P q ≡ true
       all_reached q b there =
-          let o : is_over p q ≡ true = (and_parts (is_over p q) (not (path_eq p q)) b).0 in
+          let o : is_over p q ≡ true = below_over p q b in
           let whole : q ≡ p ++ drop (length p) q = is_over-rest p q o in
           ap (reach P) whole
           ∙ walk (drop (length p) q) p (is_over-reflexive p) h

@@ -1,5 +1,5 @@
 -- A plan has at most as many changes as the two replicas have entries.
-use Rattle.std.proofs.Common.{◌≡◌, ◌<◌, ◌≤◌, ◌+◌, Bool, true, false, cond, not, ◌&&◌, List, [], ◌∷◌, length, map, refl, ap, sym, ◌∙◌, subst, arith, length-append}
+use Rattle.std.proofs.Common.{◌≡◌, ◌≤◌, ◌+◌, Bool, true, false, cond, not, ◌&&◌, List, [], ◌∷◌, length, map, refl, ap, sym, ◌∙◌, subst, arith, length-append}
 use Rattle.std.specs.Prelude.{ℕ, filter, reverse}
 use Rattle.std.specs.List.{flat_map}
 use Rattle.std.specs.FinMap as fin
@@ -8,9 +8,8 @@ use Rattle.std.proofs.lemmas.Bool.{false≢true, and_parts, or_left, or_right, f
 use Rattle.std.proofs.lemmas.List.Filters.{length-filter_both}
 use Rattle.std.proofs.lemmas.List.{reverse-append}
 use Rattle.std.proofs.lemmas.List.Kept.{IsStrictlySortedBy-filter}
-use Rattle.std.proofs.Math.Bool.{and-false}
 use Rattle.hub_path.specs.Laws.{is_over-reflexive}
-use Rattle.hub_path.specs.Path.{Path, path_cmp, path_eq, is_over}
+use Rattle.hub_path.specs.Path.{Path, path_cmp, is_over}
 use Rattle.hub_path.specs.declared.side.Side.{Side}
 use Rattle.hub_path.specs.declared.side.Side.TheVariants.{Left, Right}
 use Rattle.hub_profile.specs.Parts.{Parts, IsProfile}
@@ -18,7 +17,9 @@ use Rattle.hub_reach.specs.Reach.{reach}
 use Rattle.hub_tree.specs.Below.{is_below, under}
 use Rattle.hub_tree.specs.Tree.{Replica, Archive, IsTree, contents_at, is_absent, is_directory}
 use Rattle.hub_tree.specs.declared.contents.Mark.TheVariants as mark
+use Rattle.hub_tree.specs.Laws.Beneath.{below_over}
 use Rattle.hub_tree.specs.Laws.Order.{path_itself}
+use Rattle.hub_tree.specs.Laws.Replacing.{itself_not_below}
 use Rattle.hub_tree.specs.Laws.Between.{among}
 use Rattle.hub_reconcile.specs.View.{View}
 use Rattle.hub_reconcile.specs.Items.{other, differs, is_item, changes, change, changes_by, going, coming, fate, items, plan}
@@ -26,14 +27,11 @@ use Rattle.hub_reconcile.specs.Sync.{of_side, view_of}
 use Rattle.hub_reconcile.specs.declared.change.Change.{Change}
 use Rattle.hub_reconcile.specs.declared.item.Fate.{Fate}
 use Rattle.hub_reconcile.specs.declared.item.Fate.TheVariants.{To, Skip}
-use Rattle.hub_reconcile.specs.Laws.Views.{paths_same, paths_sorted, among_keys, reached_names}
+use Rattle.hub_reconcile.specs.Laws.Views.{paths_sorted, key_of}
 use Rattle.hub_reconcile.specs.Laws.Blocks.{Goes, goes, going_all, none_going, coming_is}
 use Rattle.hub_reconcile.specs.Laws.Steps.{differ, one_present, one_directory}
 use Rattle.hub_reconcile.specs.Laws.Synced.{Apart, items_apart, all_items, of_items, item_differs, flat_items}
 use Rattle.hub_reconcile.specs.Laws.Needed.{fewer, one_fewer, keys_length, filter_less}
-
-pub no_names : 0 < 0 → ⊥
-no_names l = absurd (omega (arith, l))
 
 length-mapped : (f : Path → Change) (xs : List Path) → length (map f xs) ≡ length xs
 length-mapped f [] = refl
@@ -115,18 +113,13 @@ total_within us (p ∷ ps) apart =
 under_count : (m : Replica) (p : Path) → length (under m p) ≤ count (fin.keys m) p
 under_count m p =
     fewer (is_over p) (λ q. is_below p q && not (is_absent (contents_at m q))) (fin.keys m)
-    (λ u e. (and_parts (is_over p u) (not (path_eq p u))
-    (and_parts (is_below p u) (not (is_absent (contents_at m u))) e).0).0)
-
-itself_not_below : (p : Path) → is_below p p ≡ false
-itself_not_below p = ap (λ b. is_over p p && not b) (paths_same p) ∙ and-false (is_over p p)
+    (λ u e. below_over p u (and_parts (is_below p u) (not (is_absent (contents_at m u))) e).0)
 
 under_more : (m : Replica) (p : Path) → among p (fin.keys m) ≡ true
     → length (under m p) + 1 ≤ count (fin.keys m) p
 under_more m p e =
     one_fewer (is_over p) (λ q. is_below p q && not (is_absent (contents_at m q))) (fin.keys m) p
-    (λ u e. (and_parts (is_over p u) (not (path_eq p u))
-    (and_parts (is_below p u) (not (is_absent (contents_at m u))) e).0).0)
+    (λ u e. below_over p u (and_parts (is_below p u) (not (is_absent (contents_at m u))) e).0)
     (is_over-reflexive p) (ap (λ b. b && not (is_absent (contents_at m p))) (itself_not_below p)) e
 
 module _ (P : Parts) (facts : IsProfile P) (A B : Replica) (O : Archive) (left : IsTree A)
@@ -139,11 +132,6 @@ module _ (P : Parts) (facts : IsProfile P) (A B : Replica) (O : Archive) (left :
 
   abbrev both : Path → ℕ
   both p = count (fin.keys A) p + count (fin.keys B) p
-
-  key_of : (k : Side) (p : Path) → reach P p ≡ true → is_absent (contents_at (R k) p) ≡ false
-      → among p (fin.keys (R k)) ≡ true
-  key_of k [] h there = absurd (no_names (reached_names P [] h))
-  key_of k (n ∷ p) h there = among_keys (R k) n p there
 
   going_within : (k : Side) (p : Path) (b : Bool) → reach P p ≡ true → Goes V p k
       → differs V p ≡ true → is_directory (contents_at (R (other k)) p) ≡ b
@@ -168,7 +156,7 @@ module _ (P : Parts) (facts : IsProfile P) (A B : Replica) (O : Archive) (left :
   block_within k p true is g e =
       let d = item_differs V p is in
       let h = (differ P facts A B O left right p d).0 in
-      let there = key_of (other k) p h
+      let there = key_of P A B O (other k) p h
       (sym (ap (λ b. b && is_absent (contents_at (R (other k)) p)) e)
       ∙ one_present P facts A B O left right k p d) in
       omega (
@@ -188,7 +176,7 @@ module _ (P : Parts) (facts : IsProfile P) (A B : Replica) (O : Archive) (left :
         changes_length V (other k) p,
         going_within k p (is_directory (contents_at (R (other k)) p)) h g d refl,
         coming_within (other k) p,
-        under_more (R k) p (key_of k p h e),
+        under_more (R k) p (key_of P A B O k p h e),
         under_count (R (other k)) p,
         sum_by_side k p,
       )

@@ -6,7 +6,6 @@ use Rattle.std.specs.Option.{is_some, unwrap_or}
 use Rattle.std.specs.FinMap as fin
 use Rattle.std.specs.Ordering.{eq_by_cmp}
 use Rattle.std.proofs.lemmas.Bool.{false≢true, and_parts, and_from, or_left, or_right, not-true, not-false, false_from_ne_true}
-use Rattle.std.proofs.lemmas.Bool.Decides.{nat_tests}
 use Rattle.std.proofs.lemmas.List.Folds.{list_any-append}
 use Rattle.std.proofs.lemmas.List.Kept.{IsStrictlySortedBy-filter}
 use Rattle.std.proofs.Math.Bool.{and-false}
@@ -21,45 +20,26 @@ use Rattle.hub_reach.specs.Between.{reach-between}
 use Rattle.hub_tree.specs.Tree.{Replica, Archive, IsTree, contents_at, mark_of, is_absent, is_directory, children}
 use Rattle.hub_tree.specs.declared.contents.Mark.{Mark}
 use Rattle.hub_tree.specs.declared.contents.Mark.TheVariants as mark
-use Rattle.hub_tree.specs.Laws.Order.{same_path}
-use Rattle.hub_tree.specs.Laws.Children.{any_children-push, one_item}
-use Rattle.hub_tree.specs.Laws.Contented.{shown_contents, child_names, absent_childless}
+use Rattle.hub_tree.specs.Laws.Children.{any_children-push, one_item, no_items, child_names}
+use Rattle.hub_tree.specs.Laws.Contented.{shown_contents, absent_childless}
 use Rattle.hub_tree.specs.Laws.Beneath.{below_from}
-use Rattle.hub_tree.specs.Laws.Between.{among, among_filter}
+use Rattle.hub_tree.specs.Laws.Between.{among, any_equal, among_filter, absent_of}
 use Rattle.hub_reconcile.specs.Sight.{Sight, sight, is_kept_value, is_kept_parent, directory_or_absent, reached_names}
 use Rattle.hub_reconcile.specs.View.{View, counts, mark_seen, is_present}
 use Rattle.hub_reconcile.specs.Picture.{sight_in, view_by, first_looks, needed, was_seen}
 use Rattle.hub_reconcile.specs.Sync.{of_side, root_or_top, view_of, sights_of}
 use Rattle.hub_reconcile.specs.Laws.Ascend.{ascending_sorted, among_ascending, same_list}
-use Rattle.hub_reconcile.specs.Laws.Views.{same_paths, mark_if, mark_unless, others_if, among_keys, present_here, absent_of}
+use Rattle.hub_reconcile.specs.Laws.Views.{same_paths, sight_if, sight_unless, key_of, present_here}
 use Rattle.hub_reconcile.specs.Laws.Blocks.{nothing_below, present_front}
 use Rattle.hub_reconcile.specs.Laws.Synced.{any_witness, any_from}
-use Rattle.hub_reconcile.specs.Laws.Looks.{seen_told, told_at, untold_at, told_paths, any_equal, listed, among_listed, among_names, first_kept, first_parent}
+use Rattle.hub_reconcile.specs.Laws.Each.{all_at}
+use Rattle.hub_reconcile.specs.Laws.Looks.{seen_told, told_at, untold_at, told_paths, listed, among_listed, among_names, first_kept, first_parent}
 
 -- Sights.
-pub names_if : (b : Bool) (s t : Sight) → b ≡ true → (cond b s t).names ≡ s.names
-names_if true s t e = refl
-names_if false s t e = absurd (false≢true e)
-
-pub names_unless : (b : Bool) (s t : Sight) → b ≡ false → (cond b s t).names ≡ t.names
-names_unless true s t e = absurd (false≢true (sym e))
-names_unless false s t e = refl
-
-others_unless : (b : Bool) (s t : Sight) → b ≡ false → (cond b s t).others ≡ t.others
-others_unless true s t e = absurd (false≢true (sym e))
-others_unless false s t e = refl
-
 others_either : (b : Bool) (s t : Sight) → s.others ≡ false → t.others ≡ false
     → (cond b s t).others ≡ false
 others_either true s t e f = e
 others_either false s t e f = f
-
-one_path : (x : Path) (xs : List Path) → (length (x ∷ xs) == 0) ≡ false
-one_path x xs = grind (arith, nat_tests)
-
-no_items : (xs : List Path) → (length xs == 0) ≡ true → xs ≡ []
-no_items [] e = refl
-no_items (x ∷ xs) e = absurd (false≢true (sym (one_path x xs) ∙ e))
 
 pub not_reached_top : (P : Parts) → reach P [] ≡ false
 not_reached_top P = false_from_ne_true _ (λ h. false≢true (reach-is_path P [] h))
@@ -116,12 +96,13 @@ module _ (P : Parts) (facts : IsProfile P) (A B : Replica) (O : Archive) (left :
   pub names_reached : (k : Side) (x : Path) → reach P x ≡ true
       → (S k x).names ≡ reached_names P (R k) x
   unfolding sight
-  names_reached k x h = names_if (reach P x) _ _ h
+  names_reached k x h = sight_if (λ s. s.names) (reach P x) _ _ h
 
   pub names_top : (k : Side) → is_kept_value P [] ≡ true → (S k []).names ≡ reached_names P (R k) []
   unfolding sight
   names_top k h =
-      names_unless (reach P []) _ _ (not_reached_top P) ∙ names_if (is_kept_value P []) _ _ h
+      sight_unless (λ s. s.names) (reach P []) _ _ (not_reached_top P)
+      ∙ sight_if (λ s. s.names) (is_kept_value P []) _ _ h
 
   names_over : (k : Side) (s x : Path) → is_kept_value P s ≡ true → among s P.paths ≡ true
       → is_over s x ≡ true → (length x == 0 || reach P x) ≡ true
@@ -213,11 +194,11 @@ module _ (P : Parts) (facts : IsProfile P) (A B : Replica) (O : Archive) (left :
           → mark.Absent ≡ (S k (n ∷ p)).mark
       unfolding sight
       mark_unseen n p true h e =
-          sym (mark_if (reach P (n ∷ p)) _ _ h
+          sym (sight_if (λ s. s.mark) (reach P (n ∷ p)) _ _ h
           ∙ ap mark_of (absent_of _ (unseen_absent (n ∷ p) e h)))
       mark_unseen n p false h e =
-          sym (mark_unless (reach P (n ∷ p)) _ _ h
-          ∙ (mark_unless (length (n ∷ p) == 0 && is_kept_value P []) _ _
+          sym (sight_unless (λ s. s.mark) (reach P (n ∷ p)) _ _ h
+          ∙ (sight_unless (λ s. s.mark) (length (n ∷ p) == 0 && is_kept_value P []) _ _
           (ap (λ b. b && is_kept_value P []) (one_item n p))
           ∙ ap (λ b. directory_or_absent (b && is_directory (contents_at (R k) (n ∷ p))))
           (no_kept_parent n p e)))
@@ -246,11 +227,11 @@ module _ (P : Parts) (facts : IsProfile P) (A B : Replica) (O : Archive) (left :
           let bare : children (R k) p ≡ [] = no_items (children (R k) p)
           (absent_childless (R k) p (λ n. nothing_below P A B O left right k p (p ++ n ∷ []) none
           (below_from p n []))) in
-          sym (others_if (reach P p) _ _ h
+          sym (sight_if (λ s. s.others) (reach P p) _ _ h
           ∙ (ap (λ cs. write P (root k) p && list_any (λ q. not (reach P q)) cs) bare
           ∙ and-false (write P (root k) p)))
       others_unseen p false h e =
-          sym (others_unless (reach P p) _ _ h
+          sym (sight_unless (λ s. s.others) (reach P p) _ _ h
           ∙ others_either (length p == 0 && is_kept_value P []) _ _ refl refl)
 
       others_by : (p : Path) (b : Bool) → among p ps ≡ b
@@ -298,11 +279,6 @@ module _ (P : Parts) (facts : IsProfile P) (A B : Replica) (O : Archive) (left :
         → is_absent (contents_at (R k) q) ≡ false
     present_there k q h e = not-true _ (sym (present_here P A B O k q h) ∙ e)
 
-    key_there : (k : Side) (q : Path) → reach P q ≡ true → is_absent (contents_at (R k) q) ≡ false
-        → among q (fin.keys (R k)) ≡ true
-    key_there k [] h there = absurd (false≢true (reach-is_path P [] h))
-    key_there k (n ∷ q) h there = among_keys (R k) n q there
-
     counted_candidate : (q : Path) → does_count q ≡ true → among q candidates ≡ true
     counted_candidate q e =
         let two = and_parts (reach P q) (is_present (V.mark Left q) || is_present (V.mark Right q)
@@ -310,8 +286,8 @@ module _ (P : Parts) (facts : IsProfile P) (A B : Replica) (O : Archive) (left :
         in_three q (fin.keys A) (fin.keys B) (fin.keys O)
         (in_either (is_present (V.mark Left q)) (is_present (V.mark Right q)) (is_present (V.old q))
         (among q (fin.keys A)) (among q (fin.keys B)) (among q (fin.keys O))
-        (λ h. key_there Left q two.0 (present_there Left q two.0 h))
-        (λ h. key_there Right q two.0 (present_there Right q two.0 h))
+        (λ h. key_of P A B O Left q two.0 (present_there Left q two.0 h))
+        (λ h. key_of P A B O Right q two.0 (present_there Right q two.0 h))
         (λ h. old_among O q (fin.get O q) refl h) two.1)
 
     counted_found : (q : Path) → does_count q ≡ true → among q found ≡ true
@@ -366,17 +342,6 @@ module _ (P : Parts) (facts : IsProfile P) (A B : Replica) (O : Archive) (left :
           paths = e i;
         }
 
-none_missing : (f : Path → Bool) (xs : List Path) (q : Path) → list_all f xs ≡ true
-    → among q xs ≡ true → f q ≡ true
-none_missing f [] q e h = absurd (false≢true h)
-none_missing f (x ∷ xs) q e h =
-    let two = and_parts (f x) (list_all f xs) e in
-    elim (eq_by_cmp path_cmp q x) as (λ b. eq_by_cmp path_cmp q x ≡ b → (b || among q xs) ≡ true
-    → f q ≡ true) [
-      | true ↦ λ g i. ap f (same_path q x g) ∙ two.0
-      | false ↦ λ g i. none_missing f xs q two.1 i
-    ] refl h
-
 pub looks_tell : (P : Parts) (A B : Replica) (O : Archive) (looks : Side → List Path) → IsProfile P
     → IsTree A → IsTree B
     → ((k : Side)
@@ -387,5 +352,5 @@ looks_tell P A B O looks facts left right all =
     told_view P facts A B O left right looks
     (λ k q e. sym (seen_told (λ d. sight P (root_or_top (at_side P.roots k)) (of_side A B k) d)
     (looks k) q)
-    ∙ none_missing (was_seen (sights_of P A B k (looks k))) (needed P (sights_of P A B k (looks k)))
+    ∙ all_at (was_seen (sights_of P A B k (looks k))) (needed P (sights_of P A B k (looks k)))
     q (all k) e)

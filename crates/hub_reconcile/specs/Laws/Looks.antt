@@ -6,26 +6,26 @@ use Rattle.std.specs.Ordering.{eq_by_cmp}
 use Rattle.std.proofs.lemmas.Bool.{false≢true, and_parts, and_from, or_left, or_right}
 use Rattle.std.proofs.lemmas.Bool.Decides.{nat_tests}
 use Rattle.std.proofs.lemmas.List.Folds.{list_any-append}
+use Rattle.hub_path.specs.Laws.{path_eq-turned}
 use Rattle.hub_path.specs.Path.{Name, Path, path_cmp, path_eq, parent, last_name}
 use Rattle.hub_profile.specs.Parts.{Parts}
 use Rattle.hub_reach.specs.Reach.{reach}
 use Rattle.hub_tree.specs.Laws.Order.{same_path, path_itself}
 use Rattle.hub_tree.specs.Laws.Children.{path_eq-cmp}
-use Rattle.hub_tree.specs.Laws.Between.{among, among_filter}
+use Rattle.hub_tree.specs.Laws.Between.{among, any_equal, among_filter}
 use Rattle.hub_reconcile.specs.Sight.{Sight, is_kept_value}
 use Rattle.hub_reconcile.specs.Picture.{nothing, sight_in, first_looks}
-use Rattle.hub_reconcile.specs.Laws.Steps.{eq_symmetric}
 
 -- Looks by their paths.
+eq_cmp : (d p : Path) → path_eq d p ≡ eq_by_cmp path_cmp p d
+eq_cmp d p = path_eq-turned d p ∙ path_eq-cmp p d
+
 pub seen_told : (f : Path → Sight) (ps : List Path) (p : Path)
     → list_any (λ (s : Path × Sight). path_eq s.0 p) (map (λ d. (d, f d)) ps) ≡ among p ps
 seen_told f [] p = refl
 seen_told f (d ∷ ps) p =
     ap (λ b. b || list_any (λ (s : Path × Sight). path_eq s.0 p) (map (λ d. (d, f d)) ps))
-    (eq_symmetric d p ∙ path_eq-cmp p d) ∙ ap (λ b. eq_by_cmp path_cmp p d || b) (seen_told f ps p)
-
-eq_cmp : (d p : Path) → path_eq d p ≡ eq_by_cmp path_cmp p d
-eq_cmp d p = eq_symmetric d p ∙ path_eq-cmp p d
+    (eq_cmp d p) ∙ ap (λ b. eq_by_cmp path_cmp p d || b) (seen_told f ps p)
 
 pub told_at : (f : Path → Sight) (ps : List Path) (p : Path) → among p ps ≡ true
     → sight_in (map (λ d. (d, f d)) ps) p ≡ f p
@@ -56,12 +56,6 @@ told_paths f [] = refl
 told_paths f (d ∷ ps) = ap (λ qs. d ∷ qs) (told_paths f ps)
 
 -- Members of lists.
-pub any_equal : (q : Path) (ps : List Path) → list_any (path_eq q) ps ≡ among q ps
-any_equal q [] = refl
-any_equal q (p ∷ ps) =
-    ap (λ b. b || list_any (path_eq q) ps) (path_eq-cmp q p)
-    ∙ ap (λ b. eq_by_cmp path_cmp q p || b) (any_equal q ps)
-
 among_flat : (x y : Path) (f : Path → List Path) (ys : List Path) → among y ys ≡ true
     → among x (f y) ≡ true → among x (flat_map f ys) ≡ true
 among_flat x y f [] e h = absurd (false≢true e)

@@ -19,7 +19,8 @@ use Rattle.hub_reconcile.specs.Picture.{first_looks, needed}
 use Rattle.hub_reconcile.specs.Sync.{of_side, root_or_top, sights_of}
 use Rattle.hub_reconcile.specs.Laws.Ascend.{among_ascending}
 use Rattle.hub_reconcile.specs.Laws.Looks.{first_kept, listed}
-use Rattle.hub_reconcile.specs.Laws.Looked.{kept_over, names_if, names_unless}
+use Rattle.hub_reconcile.specs.Laws.Views.{sight_if, sight_unless}
+use Rattle.hub_reconcile.specs.Laws.Looked.{kept_over}
 
 -- Listed children.
 of_names : (d x : Path) (cs ks : List Path)
@@ -63,19 +64,21 @@ listed_by : (P : Parts) (r : Path) (m : Replica) (d x : Path) (b c : Bool) → r
 unfolding sight
 listed_by P r m d x true c h g e =
     listed_keys P m d x
-    (ap (λ ns. among x (map (λ n. d ++ n ∷ []) ns)) (sym (names_if (reach P d) _ _ h)) ∙ e)
+    (ap (λ ns. among x (map (λ n. d ++ n ∷ []) ns))
+    (sym (sight_if (λ s. s.names) (reach P d) _ _ h)) ∙ e)
 listed_by P r m d x false true h g e =
     let top : d ≡ [] = top_only d (is_kept_value P []) g in
     listed_keys P m [] x
     (ap (λ y. among x (map (λ n. y ++ n ∷ []) (reached_names P m []))) (sym top)
     ∙ (ap (λ ns. among x (map (λ n. d ++ n ∷ []) ns))
-    (sym (names_unless (reach P d) _ _ h ∙ names_if (length d == 0 && is_kept_value P []) _ _ g))
+    (sym (sight_unless (λ s. s.names) (reach P d) _ _ h
+    ∙ sight_if (λ s. s.names) (length d == 0 && is_kept_value P []) _ _ g))
     ∙ e))
 listed_by P r m d x false false h g e =
     absurd (false≢true
     (ap (λ ns. among x (map (λ n. d ++ n ∷ []) ns))
-    (sym (names_unless (reach P d) _ _ h
-    ∙ names_unless (length d == 0 && is_kept_value P []) _ _ g))
+    (sym (sight_unless (λ s. s.names) (reach P d) _ _ h
+    ∙ sight_unless (λ s. s.names) (length d == 0 && is_kept_value P []) _ _ g))
     ∙ e))
 
 of_listed : (f : Path → Sight) (x : Path) (ps ks : List Path)

@@ -2,7 +2,7 @@
 use Rattle.std.proofs.Common.{◌≡◌, ◌<◌, Bool, true, false, cond, not, ◌&&◌, ◌||◌, List, [], ◌∷◌, ◌++◌, length, Some, refl, ap, sym, ◌∙◌, subst, arith}
 use Rattle.std.specs.Prelude.{◌==◌, filter, reverse}
 use Rattle.std.proofs.lemmas.Bool.{false≢true, and_parts, and_from, or_left, or_right, not-true, not-false, false_from_ne_true}
-use Rattle.hub_path.specs.Laws.{is_over-reflexive, is_over-transitive, is_over-length, is_place-over}
+use Rattle.hub_path.specs.Laws.{path_eq-turned, is_over-reflexive, is_over-transitive, is_over-length, is_place-over}
 use Rattle.hub_path.specs.Path.{Path, path_cmp, path_eq, is_over, is_path, is_place, parent}
 use Rattle.hub_path.specs.declared.side.Side.{Side}
 use Rattle.hub_path.specs.declared.side.Side.TheVariants.{Left, Right}
@@ -16,18 +16,17 @@ use Rattle.hub_tree.specs.Sets.{sets, each}
 use Rattle.hub_tree.specs.Tree.{Replica, Archive, IsTree, contents_at, mark_of, is_absent, is_directory}
 use Rattle.hub_tree.specs.declared.contents.Contents.{Contents}
 use Rattle.hub_tree.specs.declared.contents.Contents.TheVariants as contents
-use Rattle.hub_tree.specs.Laws.Between.{among, among_reverse, under_sorted, in_under, of_under}
+use Rattle.hub_tree.specs.Laws.Between.{among, among_reverse, under_sorted, in_under, of_under, absent_of}
 use Rattle.hub_tree.specs.Laws.Order.{path_itself}
-use Rattle.hub_tree.specs.Laws.Beneath.{is_a_directory}
+use Rattle.hub_tree.specs.Laws.Beneath.{below_over, is_a_directory}
 use Rattle.hub_tree.specs.Laws.Children.{one_item}
 use Rattle.hub_tree.specs.Laws.Replacing.{item_goes, item_comes}
 use Rattle.std.specs.Ordering.{eq_by_cmp}
-use Rattle.std.specs.Cmp.{both_ways}
 use Rattle.hub_reconcile.specs.View.{View, mark_eq, is_folder}
 use Rattle.hub_reconcile.specs.Items.{other, differs, going, coming, has_parent}
 use Rattle.hub_reconcile.specs.Sync.{of_side, view_of}
 use Rattle.hub_reconcile.specs.Laws.Ascend.{same_list}
-use Rattle.hub_reconcile.specs.Laws.Views.{same_paths, paths_same, mark_here, folder_seen, reached_names}
+use Rattle.hub_reconcile.specs.Laws.Views.{same_paths, mark_here, folder_seen, reached_names}
 use Rattle.hub_reconcile.specs.Laws.Blocks.{Goes, trees, nothing_below, all_reached, going_all, coming_is, none_under, none_going}
 
 -- Contents whose marks differ.
@@ -60,12 +59,6 @@ apart_right (contents.File bytes) contents.Directory e h = absurd (false≢true 
 apart_right contents.Directory contents.Directory e h = absurd (false≢true (sym e))
 apart_right contents.Absent contents.Directory e h = absurd (false≢true h)
 apart_right c contents.Absent e h = refl
-
-pub eq_symmetric : (p q : Path) → path_eq p q ≡ path_eq q p
-eq_symmetric p q =
-    both_ways (path_eq p q) (path_eq q p)
-    (λ e. subst (λ x. path_eq x p ≡ true) (same_paths p q e) (paths_same p))
-    (λ e. subst (λ x. path_eq x q ≡ true) (same_paths q p e) (paths_same q))
 
 -- What is where, after an item went or came.
 after_going : (o e r : Bool) (sp sq mq : Contents)
@@ -107,7 +100,7 @@ each_alike f g (x ∷ xs) same =
 
 -- A path is over another one: it is it, or the other one is below it.
 below_or : (p q : Path) → is_below p q ≡ (is_over p q && not (path_eq q p))
-below_or p q = ap (λ b. is_over p q && not b) (eq_symmetric p q)
+below_or p q = ap (λ b. is_over p q && not b) (path_eq-turned p q)
 
 over_below : (p q : Path) → is_over p q ≡ true → path_eq q p ≡ false → is_below p q ≡ true
 over_below p q o e = below_or p q ∙ and_from (is_over p q) _ o (ap not e)
@@ -167,8 +160,8 @@ module _ (P : Parts) (facts : IsProfile P) (A B : Replica) (O : Archive) (left :
       → is_below x y ≡ true → is_absent (contents_at (R k) y) ≡ false → reach P y ≡ true
       → reach P x ≡ true
   closed k p h x y b c there g =
-      let o = (and_parts (is_over x y) (not (path_eq x y)) c).0 in
-      let over = (and_parts (is_over p x) (not (path_eq p x)) b).0 in
+      let o = below_over x y c in
+      let over = below_over p x b in
       reach-between P x y facts g o (kept_over P.paths p x (reach-below P p h) over)
       (path_over P p x y h over o g)
 
@@ -202,16 +195,13 @@ module _ (P : Parts) (facts : IsProfile P) (A B : Replica) (O : Archive) (left :
     here : contents_at M p ≡ contents_at (R k) p
     here = same p (is_over-reflexive p)
 
-    over_of : (q : Path) → is_below p q ≡ true → is_over p q ≡ true
-    over_of q b = (and_parts (is_over p q) (not (path_eq p q)) b).0
-
     under_alike : under M p ≡ under (R k) p
     under_alike =
         same_list (under M p) (under (R k) p) (under_sorted M p) (under_sorted (R k) p)
         (λ q e. let w = of_under M p q e in
-        in_under (R k) p q w.0 (ap is_absent (sym (same q (over_of q w.0))) ∙ w.1))
+        in_under (R k) p q w.0 (ap is_absent (sym (same q (below_over p q w.0))) ∙ w.1))
         (λ q e. let w = of_under (R k) p q e in
-        in_under M p q w.0 (ap is_absent (same q (over_of q w.0)) ∙ w.1))
+        in_under M p q w.0 (ap is_absent (same q (below_over p q w.0)) ∙ w.1))
 
     abbrev Left_by : Replica → Type 0
     Left_by K = (sets M (each (s k) (block k p)) ≡ Some K) × IsTree K
@@ -225,11 +215,6 @@ module _ (P : Parts) (facts : IsProfile P) (A B : Replica) (O : Archive) (left :
           subst (λ x. reach P x ≡ true) is reached,
           ap (s k) is,
         )
-
-    absent_of : (c : Contents) → is_absent c ≡ true → c ≡ contents.Absent
-    absent_of (contents.File bytes) e = absurd (false≢true e)
-    absent_of contents.Directory e = absurd (false≢true e)
-    absent_of contents.Absent e = refl
 
     goes_step : is_directory (contents_at (R (other k)) p) ≡ false → (K : Replica) × Left_by K
     goes_step none =

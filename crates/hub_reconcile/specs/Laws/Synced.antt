@@ -6,7 +6,8 @@ use Rattle.std.specs.Option.{option_and_then}
 use Rattle.std.specs.List.Sorted.{IsStrictlySortedBy}
 use Rattle.std.specs.Ordering.{eq_by_cmp}
 use Rattle.std.specs.declared.cmp.Ordering.TheVariants.{Less}
-use Rattle.std.proofs.lemmas.Bool.{false≢true, and_parts, and_from, or_left, or_right, false_from_ne_true}
+use Rattle.std.proofs.lemmas.Bool.{false≢true, and_parts, and_from, or_left, or_right, false_from_ne_true, true_from_ne_false}
+use Rattle.std.proofs.lemmas.Option.{same_Some}
 use Rattle.std.proofs.lemmas.Map.Keys.{sorted_tail}
 use Rattle.std.proofs.lemmas.List.Kept.{IsStrictlySortedBy-filter}
 use Rattle.std.specs.Cmp.{both_ways}
@@ -22,7 +23,7 @@ use Rattle.hub_tree.specs.declared.contents.Contents.{Contents}
 use Rattle.hub_tree.specs.declared.contents.Mark.{Mark}
 use Rattle.hub_tree.specs.declared.contents.Mark.TheVariants as mark
 use Rattle.hub_tree.specs.Laws.Between.{among, among_filter, behind, not_both}
-use Rattle.hub_tree.specs.Laws.Order.{same_path, path_itself}
+use Rattle.hub_tree.specs.Laws.Order.{path_itself}
 use Rattle.hub_tree.specs.Laws.Runs.{sets-append}
 use Rattle.hub_reconcile.specs.View.{View}
 use Rattle.hub_reconcile.specs.Items.{other, differs, item_over, is_item, changes, change, changes_by, going, coming, fate, items, plan}
@@ -32,7 +33,8 @@ use Rattle.hub_reconcile.specs.declared.change.Change.{Change}
 use Rattle.hub_reconcile.specs.declared.item.Fate.{Fate}
 use Rattle.hub_reconcile.specs.declared.item.Fate.TheVariants.{To, Skip}
 use Rattle.hub_reconcile.specs.declared.item.Item.{Item}
-use Rattle.hub_reconcile.specs.Laws.Over.{some_inner, longer, least}
+use Rattle.hub_reconcile.specs.Laws.Each.{none_at}
+use Rattle.hub_reconcile.specs.Laws.Over.{longer, least}
 use Rattle.hub_reconcile.specs.Laws.Views.{same_paths, paths_same, paths_sorted, in_paths}
 use Rattle.hub_reconcile.specs.Laws.Blocks.{Goes, goes, trees}
 use Rattle.hub_reconcile.specs.Laws.Steps.{step, each-append, one_present, differ}
@@ -53,50 +55,30 @@ paths_on-append k (c ∷ xs) ys =
       | false ↦ paths_on-append k xs ys
     ]
 
-own_paths : (side k : Side) (m : Path → Mark) (xs : List Path) → side_eq side k ≡ true
-    → paths_on k (map (λ q. change side q (m q)) xs) ≡ xs
-own_paths side k m [] e = refl
-own_paths side k m (x ∷ xs) e =
-    ap (λ b. map (λ c. c.path)
-    (cond b (change side x (m x) ∷ filter (λ c. side_eq c.side k)
-    (map (λ q. change side q (m q)) xs))
-    (filter (λ c. side_eq c.side k) (map (λ q. change side q (m q)) xs)))) e
-    ∙ ap (λ ps. x ∷ ps) (own_paths side k m xs e)
+side_paths : (side k : Side) (m : Path → Mark) (xs : List Path)
+    → paths_on k (map (λ q. change side q (m q)) xs) ≡ cond (side_eq side k) xs []
+side_paths Left Left m [] = refl
+side_paths Left Left m (x ∷ xs) = ap (λ ps. x ∷ ps) (side_paths Left Left m xs)
+side_paths Left Right m [] = refl
+side_paths Left Right m (x ∷ xs) = side_paths Left Right m xs
+side_paths Right Left m [] = refl
+side_paths Right Left m (x ∷ xs) = side_paths Right Left m xs
+side_paths Right Right m [] = refl
+side_paths Right Right m (x ∷ xs) = ap (λ ps. x ∷ ps) (side_paths Right Right m xs)
 
-no_paths : (side k : Side) (m : Path → Mark) (xs : List Path) → side_eq side k ≡ false
-    → paths_on k (map (λ q. change side q (m q)) xs) ≡ []
-no_paths side k m [] e = refl
-no_paths side k m (x ∷ xs) e =
-    ap (λ b. map (λ c. c.path)
-    (cond b (change side x (m x) ∷ filter (λ c. side_eq c.side k)
-    (map (λ q. change side q (m q)) xs))
-    (filter (λ c. side_eq c.side k) (map (λ q. change side q (m q)) xs)))) e
-    ∙ no_paths side k m xs e
+both_or_none : (b : Bool) (xs ys : List Path) → cond b xs [] ++ cond b ys [] ≡ cond b (xs ++ ys) []
+both_or_none true xs ys = refl
+both_or_none false xs ys = refl
 
-block_on : (V : View) (from k : Side) (p : Path) → side_eq (other from) k ≡ true
-    → paths_on k (changes V from p) ≡ reverse (going V from p) ++ p ∷ coming V from p
-block_on V from k p e =
+block_paths : (V : View) (from k : Side) (p : Path)
+    → paths_on k (changes V from p)
+    ≡ cond (side_eq (other from) k) (reverse (going V from p) ++ p ∷ coming V from p) []
+block_paths V from k p =
     paths_on-append k (map (λ q. change (other from) q mark.Absent) (reverse (going V from p)))
-    (change (other from) p (V.mark from p) ∷ map (λ q. change (other from) q (V.mark from q))
-    (coming V from p))
-    ∙ (ap (λ ps. ps
-    ++ paths_on k
-    (change (other from) p (V.mark from p) ∷ map (λ q. change (other from) q (V.mark from q))
-    (coming V from p))) (own_paths (other from) k (λ _. mark.Absent) (reverse (going V from p)) e)
-    ∙ ap (λ ps. reverse (going V from p) ++ ps)
-    (own_paths (other from) k (V.mark from) (p ∷ coming V from p) e))
-
-no_block : (V : View) (from k : Side) (p : Path) → side_eq (other from) k ≡ false
-    → paths_on k (changes V from p) ≡ []
-no_block V from k p e =
-    paths_on-append k (map (λ q. change (other from) q mark.Absent) (reverse (going V from p)))
-    (change (other from) p (V.mark from p) ∷ map (λ q. change (other from) q (V.mark from q))
-    (coming V from p))
-    ∙ (ap (λ ps. ps
-    ++ paths_on k
-    (change (other from) p (V.mark from p) ∷ map (λ q. change (other from) q (V.mark from q))
-    (coming V from p))) (no_paths (other from) k (λ _. mark.Absent) (reverse (going V from p)) e)
-    ∙ no_paths (other from) k (V.mark from) (p ∷ coming V from p) e)
+    (map (λ q. change (other from) q (V.mark from q)) (p ∷ coming V from p))
+    ∙ ((λ i. side_paths (other from) k (λ _. mark.Absent) (reverse (going V from p)) i
+    ++ side_paths (other from) k (V.mark from) (p ∷ coming V from p) i)
+    ∙ both_or_none (side_eq (other from) k) (reverse (going V from p)) (p ∷ coming V from p))
 
 abbrev is_to : Side → Fate → Bool
 is_to k (To side) = side_eq side k
@@ -153,13 +135,8 @@ any_witness f (p ∷ ps) e =
 
 pub any_from : (f : Path → Bool) (ps : List Path) (x : Path) → among x ps ≡ true → f x ≡ true
     → list_any f ps ≡ true
-any_from f [] x e h = e
-any_from f (p ∷ ps) x e h =
-    elim (eq_by_cmp path_cmp x p) as (λ b. eq_by_cmp path_cmp x p ≡ b → (b || among x ps) ≡ true
-    → list_any f (p ∷ ps) ≡ true) [
-      | true ↦ λ g i. or_left (f p) _ (ap f (sym (same_path x p g)) ∙ h)
-      | false ↦ λ g i. or_right (f p) _ (any_from f ps x i h)
-    ] refl e
+any_from f ps x e h =
+    true_from_ne_false _ (λ none. false≢true (sym (none_at f ps x none e) ∙ h))
 
 -- No path is below two of them.
 abbrev pub Apart : List Path → Type 0
@@ -180,7 +157,7 @@ item_differs V p e = (least (differs V) p p (over_itself V p e)).passes
 pub same_item : (V : View) (x y q : Path) → is_item V x ≡ true → is_item V y ≡ true
     → is_over x q ≡ true → is_over y q ≡ true → x ≡ y
 same_item V x y q i j o u =
-    some_inner x y (sym (longer (differs V) x q x o (over_itself V x i))
+    same_Some x y (sym (longer (differs V) x q x o (over_itself V x i))
     ∙ longer (differs V) y q y u (over_itself V y j))
 
 pub items_apart : (V : View) (ps : List Path) → IsStrictlySortedBy path_cmp ps
@@ -249,13 +226,13 @@ module _ (P : Parts) (facts : IsProfile P) (A B : Replica) (O : Archive) (left :
       → (K : Replica) × Leaves k M (paths_on k (changes_by V p f)) (λ q. is_over p q && is_to k f) K
   one_item k p M (Skip why) e d t same above = (M, nothing_set k p M [] t refl)
   one_item Left p M (To Left) e d t same above =
-      all_set Left p M _ d (goes V p Left e) t same above (block_on V Right Left p refl)
+      all_set Left p M _ d (goes V p Left e) t same above (block_paths V Right Left p)
   one_item Right p M (To Right) e d t same above =
-      all_set Right p M _ d (goes V p Right e) t same above (block_on V Left Right p refl)
+      all_set Right p M _ d (goes V p Right e) t same above (block_paths V Left Right p)
   one_item Left p M (To Right) e d t same above =
-      (M, nothing_set Left p M _ t (no_block V Left Left p refl))
+      (M, nothing_set Left p M _ t (block_paths V Left Left p))
   one_item Right p M (To Left) e d t same above =
-      (M, nothing_set Right p M _ t (no_block V Right Right p refl))
+      (M, nothing_set Right p M _ t (block_paths V Right Right p))
 
   abbrev all_changes : List Path → List Change
   all_changes ps = flat_map (λ x. changes_by V x (fate V x)) ps

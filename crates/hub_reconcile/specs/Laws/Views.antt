@@ -3,14 +3,14 @@ use Rattle.std.proofs.Common.{◌≡◌, ◌<◌, Bool, true, false, cond, not, 
 use Rattle.std.specs.Prelude.{◌==◌}
 use Rattle.std.specs.List.{list_any}
 use Rattle.std.specs.List.Sorted.{IsStrictlySortedBy}
-use Rattle.std.specs.Option.{is_some, unwrap_or}
+use Rattle.std.specs.Option.{unwrap_or}
 use Rattle.std.specs.FinMap as fin
 use Rattle.std.specs.Ordering.{eq_by_cmp}
-use Rattle.std.proofs.lemmas.Bool.{false≢true, and_parts, and_from, or_left, or_right, false_from_ne_true}
+use Rattle.std.proofs.lemmas.Bool.{false≢true, and_parts, and_from, or_left, or_right, false_from_ne_true, cond-true, cond-false}
 use Rattle.std.proofs.lemmas.List.Folds.{list_any-append}
 use Rattle.std.proofs.lemmas.List.Kept.{IsStrictlySortedBy-filter}
 use Rattle.std.specs.declared.cmp.Ordering.TheVariants.{Less}
-use Rattle.hub_path.specs.Path.{Name, Path, path_cmp, path_eq, ascending}
+use Rattle.hub_path.specs.Path.{Path, path_cmp, path_eq, ascending}
 use Rattle.hub_path.specs.declared.side.Side.{Side}
 use Rattle.hub_path.specs.declared.side.Side.TheVariants.{Left, Right}
 use Rattle.hub_profile.specs.Parts.{Parts, at_side, some_passes}
@@ -24,7 +24,7 @@ use Rattle.hub_tree.specs.declared.contents.Contents.TheVariants as contents
 use Rattle.hub_tree.specs.declared.contents.Mark.TheVariants as mark
 use Rattle.hub_tree.specs.Laws.Order.{same_path, path_itself}
 use Rattle.hub_tree.specs.Laws.Children.{path_eq-cmp, one_item}
-use Rattle.hub_tree.specs.Laws.Between.{among, among_filter, not_both}
+use Rattle.hub_tree.specs.Laws.Between.{among, among_filter, among_keys, not_both}
 use Rattle.hub_reconcile.specs.Sight.{Sight, sight, is_kept_value, is_kept_parent, directory_or_absent}
 use Rattle.hub_reconcile.specs.View.{View, counts, allowed_at, is_present, is_folder}
 use Rattle.hub_reconcile.specs.Sync.{of_side, root_or_top, view_of}
@@ -48,11 +48,6 @@ present-mark (contents.File bytes) = refl
 present-mark contents.Directory = refl
 present-mark contents.Absent = refl
 
-pub absent_of : (c : Contents) → is_absent c ≡ true → c ≡ contents.Absent
-absent_of (contents.File bytes) e = absurd (false≢true e)
-absent_of contents.Directory e = absurd (false≢true e)
-absent_of contents.Absent e = refl
-
 pub folder-mark : (c : Contents) → is_folder (mark_of c) ≡ is_directory c
 folder-mark (contents.File bytes) = refl
 folder-mark contents.Directory = refl
@@ -62,26 +57,14 @@ pub folder_if : (b : Bool) → is_folder (directory_or_absent b) ≡ true → b 
 folder_if true e = refl
 folder_if false e = absurd (false≢true e)
 
-pub mark_if : (b : Bool) (s t : Sight) → b ≡ true → (cond b s t).mark ≡ s.mark
-mark_if true s t e = refl
-mark_if false s t e = absurd (false≢true e)
+-- What one of two sights says.
+pub sight_if : {X : Type 0} (g : Sight → X) (b : Bool) (s t : Sight) → b ≡ true
+    → g (cond b s t) ≡ g s
+sight_if g b s t e = ap g (cond-true b s t e)
 
-pub mark_unless : (b : Bool) (s t : Sight) → b ≡ false → (cond b s t).mark ≡ t.mark
-mark_unless true s t e = absurd (false≢true (sym e))
-mark_unless false s t e = refl
-
-pub others_if : (b : Bool) (s t : Sight) → b ≡ true → (cond b s t).others ≡ s.others
-others_if true s t e = refl
-others_if false s t e = absurd (false≢true e)
-
-some_there : (o : Option Contents) → is_absent (unwrap_or o contents.Absent) ≡ false
-    → is_some o ≡ true
-some_there None h = absurd (false≢true (sym h))
-some_there (Some c) h = refl
-
-pub among_keys : (m : Replica) (n : Name) (q : Path) → is_absent (contents_at m (n ∷ q)) ≡ false
-    → among (n ∷ q) (fin.keys m) ≡ true
-among_keys m n q h = sym (fin.contains_key-keys m (n ∷ q)) ∙ some_there (fin.get m (n ∷ q)) h
+pub sight_unless : {X : Type 0} (g : Sight → X) (b : Bool) (s t : Sight) → b ≡ false
+    → g (cond b s t) ≡ g t
+sight_unless g b s t e = ap g (cond-false b s t e)
 
 pub some_verb : (P : Parts) (r q : Path) (verb : Verb) → may_at P r q verb ≡ true
     → (may_at P r q Create || may_at P r q Update || may_at P r q Delete) ≡ true
@@ -136,12 +119,12 @@ module _ (P : Parts) (A B : Replica) (O : Archive) where
   unfolding sight
   mark_here k [] h = absurd (false≢true (reach-is_path P [] h))
   mark_here k (n ∷ p) h = ap (λ b. cond b mark.Absent (sight P (root k) (R k) (n ∷ p)).mark)
-      (one_item n p) ∙ mark_if (reach P (n ∷ p)) _ _ h
+      (one_item n p) ∙ sight_if (λ s. s.mark) (reach P (n ∷ p)) _ _ h
 
   pub others_here : (k : Side) (p : Path) → reach P p ≡ true
       → V.others k p ≡ (write P (root k) p && list_any (λ q. not (reach P q)) (children (R k) p))
   unfolding sight
-  others_here k p h = others_if (reach P p) _ _ h
+  others_here k p h = sight_if (λ s. s.others) (reach P p) _ _ h
 
   pub present_here : (k : Side) (p : Path) → reach P p ≡ true
       → is_present (V.mark k p) ≡ not (is_absent (contents_at (R k) p))
@@ -157,14 +140,14 @@ module _ (P : Parts) (A B : Replica) (O : Archive) where
       → is_folder (sight P (root k) (R k) p).mark ≡ true → is_directory (contents_at (R k) p) ≡ true
   unfolding sight
   folder_sight k p true d e f l h = sym (folder-mark (contents_at (R k) p))
-      ∙ (ap is_folder (sym (mark_if (reach P p) _ _ e)) ∙ h)
+      ∙ (ap is_folder (sym (sight_if (λ s. s.mark) (reach P p) _ _ e)) ∙ h)
   folder_sight k p false true e f l h =
       absurd (false≢true (ap (λ b. b && is_kept_value P []) (sym l) ∙ f))
   folder_sight k p false false e f l h =
       (and_parts (is_kept_parent P p) (is_directory (contents_at (R k) p))
       (folder_if (is_kept_parent P p && is_directory (contents_at (R k) p))
-      (ap is_folder (sym (mark_unless (length p == 0 && is_kept_value P []) _ _ f)
-      ∙ sym (mark_unless (reach P p) _ _ e)) ∙ h))).1
+      (ap is_folder (sym (sight_unless (λ s. s.mark) (length p == 0 && is_kept_value P []) _ _ f)
+      ∙ sym (sight_unless (λ s. s.mark) (reach P p) _ _ e)) ∙ h))).1
 
   pub folder_seen : (k : Side) (p : Path) → is_folder (V.mark k p) ≡ true
       → is_directory (contents_at (R k) p) ≡ true
@@ -192,16 +175,20 @@ module _ (P : Parts) (A B : Replica) (O : Archive) where
       (and_parts (does_count q) (among q (ascending candidates))
       (sym (among_filter q does_count (ascending candidates)) ∙ e)).0).0
 
-  pub among_candidates : (k : Side) (n : Name) (q : Path)
-      → is_absent (contents_at (R k) (n ∷ q)) ≡ false → among (n ∷ q) candidates ≡ true
-  among_candidates Left n q h =
-      list_any-append (eq_by_cmp path_cmp (n ∷ q)) (fin.keys A ++ fin.keys B) (fin.keys O)
-      ∙ or_left _ _ (list_any-append (eq_by_cmp path_cmp (n ∷ q)) (fin.keys A) (fin.keys B)
-      ∙ or_left _ _ (among_keys A n q h))
-  among_candidates Right n q h =
-      list_any-append (eq_by_cmp path_cmp (n ∷ q)) (fin.keys A ++ fin.keys B) (fin.keys O)
-      ∙ or_left _ _ (list_any-append (eq_by_cmp path_cmp (n ∷ q)) (fin.keys A) (fin.keys B)
-      ∙ or_right (among (n ∷ q) (fin.keys A)) _ (among_keys B n q h))
+  pub key_of : (k : Side) (q : Path) → reach P q ≡ true → is_absent (contents_at (R k) q) ≡ false
+      → among q (fin.keys (R k)) ≡ true
+  key_of k q h there = among_keys (R k) q there (reached_names P q h)
+
+  pub among_candidates : (k : Side) (q : Path) → reach P q ≡ true
+      → is_absent (contents_at (R k) q) ≡ false → among q candidates ≡ true
+  among_candidates Left q h there =
+      list_any-append (eq_by_cmp path_cmp q) (fin.keys A ++ fin.keys B) (fin.keys O)
+      ∙ or_left _ _ (list_any-append (eq_by_cmp path_cmp q) (fin.keys A) (fin.keys B)
+      ∙ or_left _ _ (key_of Left q h there))
+  among_candidates Right q h there =
+      list_any-append (eq_by_cmp path_cmp q) (fin.keys A ++ fin.keys B) (fin.keys O)
+      ∙ or_left _ _ (list_any-append (eq_by_cmp path_cmp q) (fin.keys A) (fin.keys B)
+      ∙ or_right (among q (fin.keys A)) _ (key_of Right q h there))
 
   counted : (k : Side) (q : Path) → reach P q ≡ true → is_present (V.mark k q) ≡ true
       → does_count q ≡ true
@@ -211,8 +198,7 @@ module _ (P : Parts) (A B : Replica) (O : Archive) where
 
   pub in_paths : (k : Side) (q : Path) → reach P q ≡ true → is_absent (contents_at (R k) q) ≡ false
       → among q V.paths ≡ true
-  in_paths k [] h there = absurd (false≢true (reach-is_path P [] h))
-  in_paths k (n ∷ q) h there =
-      among_filter (n ∷ q) does_count (ascending candidates)
-      ∙ and_from _ _ (counted k (n ∷ q) h (present_here k (n ∷ q) h ∙ ap not there))
-      (among_ascending (n ∷ q) candidates ∙ among_candidates k n q there)
+  in_paths k q h there =
+      among_filter q does_count (ascending candidates)
+      ∙ and_from _ _ (counted k q h (present_here k q h ∙ ap not there))
+      (among_ascending q candidates ∙ among_candidates k q h there)

@@ -1,5 +1,5 @@
 -- What is read of a text is made of names.
-use Rattle.std.proofs.Common.{◌≡◌, ◌==◌, ℕ, zero, suc, ◌+◌, Bool, true, false, cond, ◌&&◌, not, List, [], ◌∷◌, ◌++◌, Option, Some, None, Ok, Err, Result, IsTrue, length, take, drop, reverse, refl, subst, ◌∙◌}
+use Rattle.std.proofs.Common.{◌≡◌, ◌==◌, ℕ, ◌+◌, Bool, true, false, cond, ◌&&◌, not, List, [], ◌∷◌, ◌++◌, Option, Some, None, Ok, Err, Result, IsTrue, length, drop, reverse, refl, subst, ◌∙◌}
 use Rattle.std.specs.List.{list_all, slice_split, onto_first, enumerate_from, after_first, position_or_len, fold}
 use Rattle.std.specs.Str.{all_scalars}
 use Rattle.std.proofs.lemmas.Bool.{and_parts, and_from}
@@ -16,9 +16,10 @@ use Rattle.hub_path.specs.declared.fault.PathFault.TheVariants.{Empty, LeadingSl
 use Rattle.hub_path.specs.declared.rel_path.TheConstants.{PATH_NAMES}
 use Rattle.hub_path.specs.NameFacts.{is_name-no_fault}
 use Rattle.hub_path.specs.ReadNames.{or_fault-Ok}
-use Rattle.hub_text.specs.Blanks.{is_blank, skip_blanks}
+use Rattle.hub_text.specs.Blanks.{skip_blanks}
 use Rattle.hub_glob.specs.Specification.{Specification}
 use Rattle.hub_glob.specs.Reading.{spec_reading}
+use Rattle.hub_glob.specs.Scalars.{either-scalars, skip-scalars, drop-scalars}
 use Rattle.hub_glob.specs.declared.fault.GlobFault.{GlobFault}
 use Rattle.hub_profile.specs.declared.fault.Fault.{Fault}
 use Rattle.hub_profile.specs.declared.fault.Fault.TheVariants.{IncludeLeftOut, NoEquals, NoArrow}
@@ -35,14 +36,6 @@ use Rattle.hub_profile.specs.Said.{Said, nothing}
 use Rattle.hub_profile.specs.Reading.{kept_reading, keys, with_root, with_path, with_ignore, with_ignorenot, with_protected, with_partial, with_spec_and_root, has_all_paths, has_all_patterns, has_all_partials, with_value, with_key, with_preference}
 
 -- Cuts of characters are characters.
-cut_either : (b : Bool) (xs ys : List ℕ) → all_scalars xs ≡ true → all_scalars ys ≡ true → all_scalars (cond b xs ys) ≡ true
-cut_either true xs ys h k = h
-cut_either false xs ys h k = k
-
-cut_blanks : (cs : List ℕ) → all_scalars cs ≡ true → all_scalars (skip_blanks cs) ≡ true
-cut_blanks [] h = refl
-cut_blanks (c ∷ cs) h = cut_either (is_blank c) (skip_blanks cs) (c ∷ cs) (cut_blanks cs (and_parts (scalar c) (all_scalars cs) h).1) h
-
 turn_onto : (cs ds : List ℕ) → all_scalars cs ≡ true → all_scalars ds ≡ true → all_scalars (reverse_aux cs ds) ≡ true
 turn_onto [] ds h k = k
 turn_onto (c ∷ cs) ds h k = let parts = and_parts (scalar c) (all_scalars cs) h in turn_onto cs (c ∷ ds) parts.1 (and_from (scalar c) (all_scalars ds) parts.0 k)
@@ -51,22 +44,12 @@ turn : (cs : List ℕ) → all_scalars cs ≡ true → all_scalars (reverse cs) 
 turn cs h = turn_onto cs [] h refl
 
 cut_around : (cs : List ℕ) → all_scalars cs ≡ true → all_scalars (trimmed cs) ≡ true
-cut_around cs h = turn (skip_blanks (reverse (skip_blanks cs))) (cut_blanks (reverse (skip_blanks cs)) (turn (skip_blanks cs) (cut_blanks cs h)))
+cut_around cs h = turn (skip_blanks (reverse (skip_blanks cs))) (skip-scalars (reverse (skip_blanks cs)) (turn (skip_blanks cs) (skip-scalars cs h)))
 
 cut_last : (c : ℕ) (cs : List ℕ) → all_scalars cs ≡ true → all_scalars (without_last c cs) ≡ true
 cut_last c [] h = refl
-cut_last c (d ∷ []) h = cut_either (d == c) [] (d ∷ []) refl h
+cut_last c (d ∷ []) h = either-scalars (d == c) [] (d ∷ []) refl h
 cut_last c (d ∷ e ∷ cs) h = let parts = and_parts (scalar d) (all_scalars (e ∷ cs)) h in and_from (scalar d) _ parts.0 (cut_last c (e ∷ cs) parts.1)
-
-cut_front : (n : ℕ) (cs : List ℕ) → all_scalars cs ≡ true → all_scalars (take n cs) ≡ true
-cut_front zero cs h = refl
-cut_front (suc n) [] h = refl
-cut_front (suc n) (c ∷ cs) h = let parts = and_parts (scalar c) (all_scalars cs) h in and_from (scalar c) _ parts.0 (cut_front n cs parts.1)
-
-cut_back : (n : ℕ) (cs : List ℕ) → all_scalars cs ≡ true → all_scalars (drop n cs) ≡ true
-cut_back zero cs h = h
-cut_back (suc n) [] h = refl
-cut_back (suc n) (c ∷ cs) h = cut_back n cs (and_parts (scalar c) (all_scalars cs) h).1
 
 cut_parts : (c : ℕ) (b : Bool) (ps : List (List ℕ)) → scalar c ≡ true → list_all all_scalars ps ≡ true → list_all all_scalars (cond b ([] ∷ ps) (onto_first c ps)) ≡ true
 cut_parts c true ps s h = h
@@ -82,15 +65,15 @@ no_first : (f g : Option PathFault) → first_fault f g ≡ None → (f ≡ None
 no_first None g h = (refl, h)
 no_first (Some e) g h = cc
 
-not_deep : (b : Bool) (o : Option PathFault) → cond b (Some TooDeep) o ≡ None → o ≡ None
-not_deep true o h = cc
-not_deep false o h = h
+not_this : (b : Bool) (e : PathFault) (o : Option PathFault) → cond b (Some e) o ≡ None → o ≡ None
+not_this true e o h = cc
+not_this false e o h = h
 
 names_fine : (depth : ℕ) (ns : Path) → list_all all_scalars ns ≡ true → names_fault depth ns ≡ None → is_place ns ≡ true
 names_fine depth [] s h = refl
 names_fine depth (n ∷ ns) s h =
     let parts = and_parts (all_scalars n) (list_all all_scalars ns) s in
-    let fine = no_first (name_fault n) (names_fault (depth + 1) ns) (not_deep (depth == PATH_NAMES) _ h) in
+    let fine = no_first (name_fault n) (names_fault (depth + 1) ns) (not_this (depth == PATH_NAMES) TooDeep _ h) in
     and_from (is_name n) (is_place ns) (is_name-no_fault n parts.0 fine.0) (names_fine (depth + 1) ns parts.1 fine.1)
 
 last_of_three : (a b : Bool) (e f : PathFault) (o : Option PathFault) → cond a (Some e) (cond b (Some f) o) ≡ None → o ≡ None
@@ -107,16 +90,12 @@ either_place : (b : Bool) (ps : Path) → list_all all_scalars ps ≡ true → l
 either_place true ps h = refl
 either_place false ps h = h
 
-not_fourth : (a : Bool) (e : PathFault) (o : Option PathFault) → cond a (Some e) o ≡ None → o ≡ None
-not_fourth true e o h = cc
-not_fourth false e o h = h
-
 root_is_place : (cs : List ℕ) (p : Path) → all_scalars cs ≡ true → root_reading cs ≡ Ok p → is_place p ≡ true
 root_is_place cs p s h =
     let read = or_fault-Ok (root_fault cs) (root_names cs) p h in
     let rest = without_last_slash (drop 1 cs) in
-    let characters : all_scalars rest ≡ true = cut_last 47 (drop 1 cs) (cut_back 1 cs s) in
-    subst (λ q. is_place q ≡ true) read.1 (names_fine 0 (root_names cs) (either_place (length rest == 0) (path_of rest) (cut_all (λ c. c == 47) rest characters)) (not_fourth _ NotAbsolute _ (last_of_three (length cs == 0) (is_remote cs) Empty RemoteRoot _ read.0)))
+    let characters : all_scalars rest ≡ true = cut_last 47 (drop 1 cs) (drop-scalars 1 cs s) in
+    subst (λ q. is_place q ≡ true) read.1 (names_fine 0 (root_names cs) (either_place (length rest == 0) (path_of rest) (cut_all (λ c. c == 47) rest characters)) (not_this _ NotAbsolute _ (last_of_three (length cs == 0) (is_remote cs) Empty RemoteRoot _ read.0)))
 
 kept_is_place : (cs : List ℕ) (p : Path) → all_scalars cs ≡ true → kept_reading cs ≡ Ok p → is_place p ≡ true
 kept_is_place cs p s h = by_case (length cs == 0) (begins_with_slash cs) h
@@ -195,7 +174,7 @@ pair_said said n false true name v h s = key_said (look_up name keys) said n nam
 
 setting_said : (said : Said) (n : ℕ) (l : List ℕ) → ArePlaces said → all_scalars l ≡ true → IfSaid (with_pair with_preference said n (setting l))
 setting_said said n l h s =
-    pair_said said n (is_include l) (has_equals l) _ (trimmed (after_first (λ c. c == 61) l)) h (cut_around (after_first (λ c. c == 61) l) (cut_back (position_or_len (λ c. c == 61) l + 1) l s))
+    pair_said said n (is_include l) (has_equals l) _ (trimmed (after_first (λ c. c == 61) l)) h (cut_around (after_first (λ c. c == 61) l) (drop-scalars (position_or_len (λ c. c == 61) l + 1) l s))
 
 line_said : (said : Said) (n : ℕ) (l : List ℕ) → ArePlaces said → all_scalars l ≡ true → IfSaid (with_line with_preference said n l)
 line_said said n l h s = by_case (is_setting (line_text l)) (setting_said said n (line_text l) h (cut_around (without_last 13 l) (cut_last 13 l s)))

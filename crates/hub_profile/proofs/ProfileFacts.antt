@@ -2,19 +2,14 @@
 use Rattle.std.proofs.Common.{◌≡◌, ◌==◌, Bool, true, false, not, ◌||◌, ◌&&◌, cond, List, [], ◌∷◌, ◌++◌, Some, None, length, IsTrue, arith, refl, sym, ◌∙◌}
 use Rattle.std.specs.List.{list_any, list_all}
 use Rattle.std.proofs.lemmas.Bool.{and_from, and_parts, or_parts, not-true, not_from_false, ne_eqb}
-use Rattle.std.proofs.lemmas.Bool.Decides.{same_from_decides, Decides-like}
-use Rattle.std.proofs.lemmas.Slice.Eq.{slice_eq-Decides, bytes_eq-Decides}
 use Rattle.std.proofs.lemmas.List.Folds.{list_any-append}
 use Rattle.hub_path.specs.Path.{Name, Path, path_eq, is_over, is_place, none_over}
+use Rattle.hub_path.specs.Laws.{path_eq-turned}
 use Rattle.hub_profile.specs.declared.fault.Fault.TheVariants as fault
 use Rattle.hub_profile.specs.Facts.{are_roots, are_kept}
 use Rattle.hub_profile.specs.Parts.{IsProfile}
 use Rattle.hub_profile.specs.Said.{Said}
 use Rattle.hub_profile.specs.Reading.{adds, kept_after, kept, or_whole, roots_fault, profile}
-
-path_eq-turned : (p q : Path) → path_eq p q ≡ path_eq q p
-path_eq-turned p q =
-    same_from_decides (path_eq p q) (path_eq q p) (slice_eq-Decides bytes_eq-Decides p q (path_eq p q) refl) (Decides-like (path_eq q p) sym sym (slice_eq-Decides bytes_eq-Decides q p (path_eq q p) refl))
 
 -- Of a value that adds something nothing is properly over.
 nothing_over : (all earlier : List Path) (s : Path) → adds all earlier s ≡ true → (list_any (path_eq s) earlier ≡ false) × (list_any (λ t. is_over t s && not (path_eq t s)) all ≡ false)

@@ -1,19 +1,12 @@
 -- A table by names, and the search for a name in it.
-use Rattle.std.proofs.Common.{◌≡◌, ℕ, Bool, true, false, List, [], ◌∷◌, nat_lt, refl, ap, ◌∙◌, bytes_eq, Some, cond, map}
+use Rattle.std.proofs.Common.{◌≡◌, ℕ, Bool, true, false, List, [], ◌∷◌, nat_lt, refl, ap, ◌∙◌, bytes_eq, Some, cond}
 use Rattle.std.specs.List.{list_all, find}
 use Rattle.std.specs.Option.{option_map}
 use denote.Ref.{Bor}
 use Rattle.std.specs.Str.{IsUtf8, chars}
 use Rattle.std.proofs.lemmas.Bool.{and_parts}
 use Rattle.hub_text.specs.AsciiWords.{word_is}
-use Rattle.hub_profile.specs.LineByLine.{look_up}
-
--- The rows of a table in code, by what their names point to.
-abbrev pub rows_of : {K : Type 0} → List (Bor (List ℕ) × K) → List (List ℕ × K)
-rows_of {K = K} rows = map (λ (row : Bor (List ℕ) × K). (row.0.now, row.1)) rows
-
-abbrev pub are_words : {K : Type 0} → List (List ℕ × K) → Bool
-are_words {K = K} rows = list_all (λ (row : List ℕ × K). list_all (λ c. nat_lt c 128) row.0) rows
+use Rattle.hub_profile.specs.LineByLine.{look_up, rows_of, are_words}
 
 -- What a search for a name finds.
 find_row : {K : Type 0} (bs : List ℕ) (rows : List (Bor (List ℕ) × K)) → IsUtf8 bs → are_words (rows_of rows) ≡ true

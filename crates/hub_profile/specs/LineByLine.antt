@@ -1,7 +1,8 @@
 -- A text that is read line by line: what its lines say, or the fault of the lowest line that has
 -- one.
-use Rattle.std.specs.Prelude.{ℕ, bytes_eq, List, [], ◌∷◌, Option, Some, None, Result, Ok, Err, if◌then◌else◌}
-use Rattle.std.specs.List.{enumerate_from, fold}
+use Rattle.std.specs.Prelude.{ℕ, nat_lt, bytes_eq, Bool, List, [], ◌∷◌, map, Option, Some, None, Result, Ok, Err, if◌then◌else◌}
+use Rattle.std.specs.List.{enumerate_from, fold, list_all}
+use denote.Ref.{Bor}
 use Rattle.std.specs.Str.{is_utf8, chars}
 use Rattle.hub_profile.specs.declared.fault.Fault.{Fault}
 use Rattle.hub_profile.specs.declared.fault.Fault.TheVariants.{NotUtf8}
@@ -57,3 +58,10 @@ if_text reading bytes = if is_utf8 bytes then reading (chars bytes) else Err not
 abbrev pub look_up : {K : Type 0} → List ℕ → List (List ℕ × K) → Option K
 look_up name [] = None
 look_up name (row ∷ rows) = if bytes_eq name row.0 then Some row.1 else look_up name rows
+
+-- The rows of a table in code, by what their names point to, and whether the names are ASCII.
+abbrev pub rows_of : {K : Type 0} → List (Bor (List ℕ) × K) → List (List ℕ × K)
+rows_of {K = K} rows = map (λ (row : Bor (List ℕ) × K). (row.0.now, row.1)) rows
+
+abbrev pub are_words : {K : Type 0} → List (List ℕ × K) → Bool
+are_words {K = K} rows = list_all (λ (row : List ℕ × K). list_all (λ c. nat_lt c 128) row.0) rows

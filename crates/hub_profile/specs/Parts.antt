@@ -7,6 +7,7 @@ use Rattle.hub_path.specs.declared.side.Side.TheVariants.{Left, Right}
 use Rattle.hub_glob.specs.Specification.{Specification}
 use Rattle.hub_profile.specs.declared.bars.Bars.{Bars}
 use Rattle.hub_profile.specs.declared.partial.Partial.{Partial}
+use Rattle.hub_profile.specs.declared.protection.Protected.{Protected}
 use Rattle.hub_profile.specs.Facts.{are_roots, are_kept}
 
 -- A profile's name, its roots in the order Left, Right, its kept values, and what its `ignore` and
@@ -24,6 +25,20 @@ pub record Parts : Type 0 where
   pub prefer : Option Side
   pub bars : List Bars
   pub partial : List Partial
+
+abbrev pub parts_of :
+    Name → List Path → List Path → List Specification → List Specification → Protected → Parts
+parts_of name roots paths ignore ignorenot protected = record {
+  name = name;
+  roots = roots;
+  paths = paths;
+  ignore = ignore;
+  ignorenot = ignorenot;
+  force = protected.force;
+  prefer = protected.prefer;
+  bars = protected.bars;
+  partial = protected.partial;
+}
 
 -- What holds of each profile that is read.
 pub record IsProfile (P : Parts) : Type 0 where

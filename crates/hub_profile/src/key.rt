@@ -4,6 +4,7 @@ ghost use Rattle.hub_profile.specs.LineByLine.{look_up};
 ghost use Rattle.hub_profile.specs.Reading.{keys};
 
 use crate::bars::Bars;
+use crate::line_by_line::named;
 use crate::protection::Protection;
 
 /// A preference of a profile.
@@ -75,6 +76,5 @@ const KEYS: [(&str, Key); 27] = [
 pub(crate) fn key_named(name: &str) -> Option<Key>
     ensures { result ≡ look_up (chars name.now) keys }
 {
-    let (_, key) = KEYS.iter().find(|(word, _)| *word == name)?;
-    Some(*key)
+    named(&KEYS, name)
 }

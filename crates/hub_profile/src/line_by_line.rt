@@ -1,5 +1,5 @@
 //! A text that is read line by line.
-ghost use Rattle.std.specs.Prelude.{◌≡◌, ◌⊎◌, false, Ok, Err, IfOk, IfErr, OnOk, IsTrue, chars};
+ghost use Rattle.std.specs.Prelude.{◌≡◌, ◌⊎◌, true, false, Ok, Err, IfOk, IfErr, OnOk, IsTrue, chars};
 ghost use Rattle.std.specs.Str.{is_utf8};
 ghost use Rattle.hub_profile.specs.LineByLine as by_line;
 ghost use Rattle.hub_profile.specs.Faults.{FailsAs, FailsAt};
@@ -70,6 +70,15 @@ fn take_line<D: FromLines>(said: &mut D, number: usize, line: &str) -> Result<()
     }
     let (name, value) = setting(line)?;
     said.take(number, name, value)
+}
+
+/// What is beside that name in a table of ASCII words, if the name is there.
+pub(crate) fn named<K: Copy>(rows: &[(&str, K)], name: &str) -> Option<K>
+    ensures { by_line.are_words (by_line.rows_of rows.now) ≡ true
+        → result ≡ by_line.look_up (chars name.now) (by_line.rows_of rows.now) }
+{
+    let (_, key) = rows.iter().find(|(word, _)| *word == name)?;
+    Some(*key)
 }
 
 /// The fault of a name that is no preference's, or out of memory.

@@ -23,33 +23,14 @@ pub struct Profile {
 }
 
 impl Model for Profile {
-    ghost use Rattle.hub_profile.specs.Parts.{Parts, IsProfile};
+    ghost use Rattle.hub_profile.specs.Parts.{Parts, IsProfile, parts_of};
 
     ghost Value = { Parts };
 
-    ghost view = { λ a. record {
-      name = a.name;
-      roots = a.roots;
-      paths = a.paths;
-      ignore = a.ignore;
-      ignorenot = a.ignorenot;
-      force = a.protected.force;
-      prefer = a.protected.prefer;
-      bars = a.protected.bars;
-      partial = a.protected.partial;
-    } };
+    ghost view = { λ a. parts_of a.name a.roots a.paths a.ignore a.ignorenot a.protected };
 
-    ghost invariant = { λ a. IsProfile (record {
-      name = a.name;
-      roots = a.roots;
-      paths = a.paths;
-      ignore = a.ignore;
-      ignorenot = a.ignorenot;
-      force = a.protected.force;
-      prefer = a.protected.prefer;
-      bars = a.protected.bars;
-      partial = a.protected.partial;
-    }) };
+    ghost invariant = { λ a.
+        IsProfile (parts_of a.name a.roots a.paths a.ignore a.ignorenot a.protected) };
 }
 
 impl Profile {

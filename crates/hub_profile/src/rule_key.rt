@@ -3,6 +3,7 @@ ghost use Rattle.std.specs.Prelude.{◌≡◌, chars};
 ghost use Rattle.hub_profile.specs.LineByLine.{look_up};
 ghost use Rattle.hub_profile.specs.Rules.{rule_keys};
 
+use crate::line_by_line::named;
 use crate::verb::Verb;
 
 /// What a line of a rules text is for.
@@ -26,6 +27,5 @@ const RULE_KEYS: [(&str, RuleKey); 4] = [
 pub(crate) fn rule_key_named(name: &str) -> Option<RuleKey>
     ensures { result ≡ look_up (chars name.now) rule_keys }
 {
-    let (_, key) = RULE_KEYS.iter().find(|(word, _)| *word == name)?;
-    Some(*key)
+    named(&RULE_KEYS, name)
 }

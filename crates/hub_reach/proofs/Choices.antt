@@ -2,8 +2,10 @@
 use Rattle.std.proofs.Common.{◌≡◌, ◌==◌, ◌∙◌, cond, ℕ, ◌+◌, ◌-◌, ◌<◌, ◌≤◌, Bool, true, false, not, ◌&&◌, ◌||◌, List, [], ◌∷◌, ◌++◌, length, map, take, drop, get_or, refl, sym, ap, arith, append_assoc, length-append}
 use Rattle.std.specs.Prelude.{IsTrue, filter}
 use Rattle.std.specs.List.{list_any, list_all}
-use Rattle.std.proofs.lemmas.List.{take_at, take_more, drop_at, drop_more, take-append-drop, length-map}
+use Rattle.std.proofs.lemmas.Bool.{and_parts}
+use Rattle.std.proofs.lemmas.List.{take_at, take_more, drop_at, take-append-drop, length-map}
 use Rattle.std.proofs.lemmas.List.Folds.{list_all-append, list_all-map}
+use Rattle.hub_text.specs.ListLaws.{next-drop}
 use Rattle.hub_text.specs.TestLaws.{any-map}
 use Rattle.hub_path.specs.Path.{Name, Path, is_path, is_place, none_over, parent, path_eq, path_of, text_of}
 use Rattle.hub_path.specs.Laws.{text_of-path_of}
@@ -23,7 +25,7 @@ use Rattle.hub_reach.specs.Walk.{is_inside, is_kept}
 use Rattle.hub_reach.specs.Walker.{WalkerParts}
 use Rattle.hub_reach.specs.declared.placed_bar.PlacedBar.{PlacedBar}
 use Rattle.hub_reach.specs.Stage.{IsWalkerOf, texts_of, profile_alternatives, text_spots, spots_of}
-use Rattle.hub_reach.specs.WalkLaws.{both, kept-over-path}
+use Rattle.hub_reach.specs.WalkLaws.{kept-over-path}
 
 -- The parts of a list.
 module _ {X : Type 0} where
@@ -130,14 +132,14 @@ paths-matched : MatchesText → (ps : List Path) (t : List ℕ) → list_all is_
 paths-matched law [] t places = refl
 paths-matched law ([] ∷ ps) t places = paths-matched law ps t places ∙ ap (λ b. b || list_any (λ s. path_eq s (path_of t)) ps) (sym (empty-kept t))
 paths-matched law ((n ∷ s) ∷ ps) t places =
-    let parts = both (is_place (n ∷ s)) (list_all is_place ps) places in
+    let parts = and_parts (is_place (n ∷ s)) (list_all is_place ps) places in
     let path : is_path (n ∷ s) ≡ true = (λ i. not (nonzero (length s) i) && parts.0 i) in
     let more = filter (λ r. not (length r == 0)) ps in
     (λ i. list_any (λ a. is_matched a t) (map path_alternatives (map text_of (cond (not (nonzero (length s) i)) ((n ∷ s) ∷ more) more))))
     ∙ (λ i. law (n ∷ s) t path i || paths-matched law ps t parts.1 i)
 
 places-of : (P : Parts) → IsProfile P → list_all is_place P.paths ≡ true
-places-of P facts = (both (not (length P.paths == 0)) (list_all is_place P.paths) (both (not (length P.paths == 0) && list_all is_place P.paths) (none_over P.paths) facts.paths).0).1
+places-of P facts = (and_parts (not (length P.paths == 0)) (list_all is_place P.paths) (and_parts (not (length P.paths == 0) && list_all is_place P.paths) (none_over P.paths) facts.paths).0).1
 
 pub kept-is : MatchesText → (P : Parts) (t : List ℕ) → IsProfile P → IsTrue (is_path (path_of t))
     → (is_inside P (path_of t) || list_any (λ a. is_matched a t) (map path_alternatives (texts_of P.paths))) ≡ is_kept P (path_of t)
@@ -311,7 +313,7 @@ refused-path k old now ps i p l e some is many =
     let before = map path_alternatives (texts_of (take i ps)) in
     let after = map path_alternatives (texts_of (drop (i + 1) ps)) in
     let one = path_alternatives (text_of p) in
-    let rest : drop i ps ≡ p ∷ drop (i + 1) ps = drop_more ps i p l ∙ ap (λ q. q ∷ drop (i + 1) ps) (sym e) in
+    let rest : drop i ps ≡ p ∷ drop (i + 1) ps = next-drop ps i p l e in
     let texts : texts_of ps ≡ texts_of (take i ps) ++ text_of p ∷ texts_of (drop (i + 1) ps) =
     ap texts_of (sym (take-append-drop i ps))
     ∙ (texts-append (take i ps) (drop i ps) ∙ ap (λ ts. texts_of (take i ps) ++ ts) (ap texts_of rest ∙ texts-some p (drop (i + 1) ps) some)) in
@@ -333,7 +335,7 @@ covers-paths : (ms : List ℕ) → CoversPaths ms → (ps : List Path) → list_
     → list_all (is_covered ms) (map path_alternatives (texts_of ps)) ≡ true
 covers-paths ms law [] h = refl
 covers-paths ms law (p ∷ ps) h =
-    let parts = both (mentions ms (path_characters p)) (list_all (λ q. mentions ms (path_characters q)) ps) h in
+    let parts = and_parts (mentions ms (path_characters p)) (list_all (λ q. mentions ms (path_characters q)) ps) h in
     go (not (length p == 0)) (law p parts.0) (covers-paths ms law ps parts.1)
   where
     more : List Path

@@ -2,15 +2,15 @@
 use Rattle.std.proofs.Common.{◌≡◌, Bool, true, false, not, ◌&&◌, ◌||◌, List, [], ◌∷◌, ◌++◌, drop, length, refl, ap, sym, ◌∙◌, subst, append-nil}
 use Rattle.std.specs.Prelude.{IsTrue}
 use Rattle.std.specs.List.{list_any}
-use Rattle.std.proofs.lemmas.Bool.{false≢true, and_parts}
+use Rattle.std.proofs.lemmas.Bool.{false≢true, false_from_ne_true, and_from, and_parts, not-true, or_right}
 use Rattle.hub_path.specs.Laws.{is_over-rest}
 use Rattle.hub_path.specs.Path.{Name, Path, path_eq, is_over, is_path, parent, last_name, prefixes}
 use Rattle.hub_path.specs.Laws as path
+use Rattle.hub_path.specs.TextLaws.{any-prefixes, prefixes-push}
 use Rattle.hub_profile.specs.Parts.{Parts, IsProfile}
 use Rattle.hub_reach.specs.Reach.{reach, is_ignored}
 use Rattle.hub_reach.specs.Laws.{reach-is_path}
 use Rattle.hub_reach.specs.Walk.{is_inside, is_cut, is_walked}
-use Rattle.hub_reach.specs.PrefixLaws.{any-prefixes, prefixes-push}
 use Rattle.hub_reach.specs.WalkLaws.{walks, kept-over-path}
 
 parent-append : (x : Path) (k : Name) (z : Path) → parent (x ++ k ∷ z) ≡ x ++ parent (k ∷ z)
@@ -18,18 +18,10 @@ parent-append [] k z = refl
 parent-append (a ∷ []) k z = refl
 parent-append (a ∷ b ∷ x) k z = ap (λ q. a ∷ q) (parent-append (b ∷ x) k z)
 
-both_hold : (a : Bool) {b : Bool} → a ≡ true → b ≡ true → (a && b) ≡ true
-both_hold true e f = f
-both_hold false e f = absurd (false≢true e)
-
-or_left : (a : Bool) {b : Bool} → b ≡ true → (a || b) ≡ true
-or_left true e = refl
-or_left false e = e
-
 any-last : (f : Path → Bool) (ps : List Path) (q : Path) → f q ≡ true
     → list_any f (ps ++ q ∷ []) ≡ true
 any-last f [] q e = ap (λ c. c || false) e
-any-last f (p ∷ ps) q e = or_left (f p) (any-last f ps q e)
+any-last f (p ∷ ps) q e = or_right (f p) (list_any f (ps ++ q ∷ [])) (any-last f ps q e)
 
 -- The last prefix of a path is the path.
 any-itself : (f : Path → Bool) (n : Name) (p : Path) → f (n ∷ p) ≡ true
@@ -47,18 +39,10 @@ any-parent f n p e =
     subst (λ q. list_any f (prefixes q) ≡ true) (path.parent-last_name n p)
     (any-prefixes f (parent (n ∷ p)) (last_name (n ∷ p) ∷ []) e)
 
-not_true : (b : Bool) → (b ≡ true → ⊥) → b ≡ false
-not_true true f = absurd (f refl)
-not_true false f = refl
-
 all_three : (a b c : Bool) → a ≡ false → b ≡ false → c ≡ true → (not a && (not b && c)) ≡ true
 all_three true b c e f g = absurd (false≢true (sym e))
 all_three false true c e f g = absurd (false≢true (sym f))
 all_three false false c e f g = g
-
-unnot : (b : Bool) → not b ≡ true → b ≡ false
-unnot true e = absurd (false≢true e)
-unnot false e = refl
 
 -- Above y nothing is cut off, and x with all that is above it is above y.
 between : (P : Parts) (n : Name) (x : Path) (k : Name) (z : Path) → IsProfile P
@@ -68,16 +52,17 @@ between P n x k z facts h kept good =
     let y = (n ∷ x) ++ k ∷ z in
     let g : Path → Bool = λ q. is_ignored P q && list_any (λ s. is_over s q) P.paths in
     let w : IsTrue (is_walked P y) = sym (walks P y facts (reach-is_path P y h)) ∙ h in
-    let uncut : list_any g (prefixes (parent y)) ≡ false = unnot (is_cut P y)
+    let uncut : list_any g (prefixes (parent y)) ≡ false = not-true (is_cut P y)
     (and_parts (not (is_cut P y))
     (not (is_ignored P y) && (is_inside P y || list_any (λ s. path_eq s y) P.paths)) w).0 in
     let up : list_any g (prefixes (n ∷ x)) ≡ true
     → ⊥ =
     λ e. false≢true (sym uncut ∙ (ap (λ q. list_any g (prefixes q)) (parent-append (n ∷ x) k z)
     ∙ any-prefixes g (n ∷ x) (parent (k ∷ z)) e)) in
-    let plain : is_ignored P (n ∷ x) ≡ false = not_true (is_ignored P (n ∷ x))
-    (λ e. up (any-itself g n x (both_hold (is_ignored P (n ∷ x)) e kept))) in
-    let clear : is_cut P (n ∷ x) ≡ false = not_true (is_cut P (n ∷ x))
+    let plain : is_ignored P (n ∷ x) ≡ false = false_from_ne_true (is_ignored P (n ∷ x))
+    (λ e. up (any-itself g n x (and_from (is_ignored P (n ∷ x))
+    (list_any (λ s. is_over s (n ∷ x)) P.paths) e kept))) in
+    let clear : is_cut P (n ∷ x) ≡ false = false_from_ne_true (is_cut P (n ∷ x))
     (λ e. up (any-parent g n x e)) in
     walks P (n ∷ x) facts good
     ∙ all_three (is_cut P (n ∷ x)) (is_ignored P (n ∷ x))

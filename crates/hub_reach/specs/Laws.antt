@@ -1,6 +1,6 @@
 -- What follows from reach.
 use Rattle.std.proofs.Common.{◌≡◌, ◌∙◌, Bool, true, false, not, ◌&&◌, ◌||◌, List, [], ◌∷◌, refl, ap}
-use Rattle.std.proofs.lemmas.Bool.{and_parts, and_right}
+use Rattle.std.proofs.lemmas.Bool.{and_parts, and_right, or_right}
 use Rattle.std.specs.Prelude.{IsTrue}
 use Rattle.std.specs.List.{list_any}
 use Rattle.hub_path.specs.Path.{Path, is_over, is_path, prefixes}
@@ -14,20 +14,16 @@ none-and : {X : Type 0} (f : X → Bool) (xs : List X) → list_any (λ x. f x &
 none-and f [] = refl
 none-and f (x ∷ xs) = rw (and_right (f x) false refl) (none-and f xs)
 
-any-alike : {X : Type 0} (f g : X → Bool) (xs : List X) → ((x : X) → f x ≡ g x)
+pub any-alike : {X : Type 0} (f g : X → Bool) (xs : List X) → ((x : X) → f x ≡ g x)
     → list_any f xs ≡ list_any g xs
 any-alike f g [] same = refl
 any-alike f g (x ∷ xs) same = rw (same x) (ap (λ b. g x || b) (any-alike f g xs same))
-
-or-right : (a : Bool) {b : Bool} → b ≡ true → (a || b) ≡ true
-or-right true h = refl
-or-right false h = h
 
 any-cons : {X : Type 0} (f g : X → Bool) (x : X) (xs : List X) → (f x ≡ true → g x ≡ true)
     → (list_any f xs ≡ true → list_any g xs ≡ true) → (b : Bool) → f x ≡ b
     → (b || list_any f xs) ≡ true → list_any g (x ∷ xs) ≡ true
 any-cons f g x xs here there true e h = rw (here e) refl
-any-cons f g x xs here there false e h = or-right (g x) (there h)
+any-cons f g x xs here there false e h = or_right (g x) (list_any g xs) (there h)
 
 any-weaker : {X : Type 0} (f g : X → Bool) (xs : List X) → ((x : X) → f x ≡ true → g x ≡ true)
     → list_any f xs ≡ true → list_any g xs ≡ true

@@ -1,25 +1,14 @@
 -- The paths over a path, by how many of its names they have.
-use Rattle.std.proofs.Common.{◌≡◌, ℕ, suc, zero, ◌+◌, ◌<◌, ◌≤◌, Bool, true, false, ◌&&◌, ◌||◌, List, [], ◌∷◌, ◌++◌, length, take, drop, map, get_or, refl, sym, ap, ◌∙◌, arith}
+use Rattle.std.proofs.Common.{◌≡◌, ℕ, suc, zero, ◌+◌, ◌<◌, ◌≤◌, Bool, true, false, ◌&&◌, ◌||◌, [], ◌∷◌, ◌++◌, length, take, drop, get_or, refl, sym, ap, ◌∙◌, arith}
 use Rattle.std.specs.Prelude.{IsTrue, nat_le}
 use Rattle.std.specs.List.{list_any}
 use Rattle.std.proofs.lemmas.List.{take_more, take-append-drop}
 use Rattle.std.proofs.lemmas.List.Folds.{list_any-append}
+use Rattle.std.proofs.lemmas.Bool.{and_parts}
 use Rattle.std.proofs.lemmas.Bool.Decides.{nat_tests}
-use Rattle.hub_path.specs.Path.{Name, Path, name_eq, is_over, prefixes}
-use Rattle.std.proofs.Math.Bool.{or-false, and-false}
-use Rattle.hub_reach.specs.WalkLaws.{both}
-
-pub prefixes-push : (p : Path) (n : Name) → prefixes (p ++ n ∷ []) ≡ prefixes p ++ (p ++ n ∷ [])
-    ∷ []
-prefixes-push [] n = refl
-prefixes-push (m ∷ p) n =
-    ap (λ qs. (m ∷ []) ∷ map (λ q. m ∷ q) qs) (prefixes-push p n)
-    ∙ ap (λ qs. (m ∷ []) ∷ qs) (map_append (prefixes p) (p ++ n ∷ []))
-  where
-    map_append : (qs : List Path) (q : Path) → map (λ r. m ∷ r) (qs ++ q ∷ []) ≡ map (λ r. m ∷ r) qs
-        ++ (m ∷ q) ∷ []
-    map_append [] q = refl
-    map_append (r ∷ qs) q = ap (λ rs. (m ∷ r) ∷ rs) (map_append qs q)
+use Rattle.hub_path.specs.Path.{Path, name_eq, is_over, prefixes}
+use Rattle.hub_path.specs.TextLaws.{any-prefixes, prefixes-push}
+use Rattle.std.proofs.Math.Bool.{or-false, or-true, and-false}
 
 -- One name more.
 pub any-more : (f : Path → Bool) (p : Path) (i : ℕ) → i < length p
@@ -34,37 +23,20 @@ any-more f p i l =
     (or-false (f (take i p ++ get_or p i [] ∷ [])))
     ∙ ap (λ q. list_any f (prefixes (take i p)) || f q) (sym more))))
 
-or-first : (a b c : Bool) → (a || b) ≡ true → (b ≡ true → c ≡ true) → (a || c) ≡ true
-or-first true b c e go = refl
-or-first false b c e go = go e
-
-any-map : (f : Path → Bool) (n : Name) (qs : List Path)
-    → list_any f (map (λ q. n ∷ q) qs) ≡ list_any (λ q. f (n ∷ q)) qs
-any-map f n [] = refl
-any-map f n (q ∷ qs) = ap (λ b. f (n ∷ q) || b) (any-map f n qs)
-
-pub any-prefixes : (f : Path → Bool) (p q : Path) → list_any f (prefixes p) ≡ true
-    → list_any f (prefixes (p ++ q)) ≡ true
-any-prefixes f [] q h = cc
-any-prefixes f (n ∷ p) q h =
-    or-first (f (n ∷ [])) (list_any f (map (λ r. n ∷ r) (prefixes p)))
-    (list_any f (map (λ r. n ∷ r) (prefixes (p ++ q)))) h
-    (λ e. any-map f n (prefixes (p ++ q))
-    ∙ any-prefixes (λ r. f (n ∷ r)) p q (sym (any-map f n (prefixes p)) ∙ e))
+-- What some prefix of a front passes, some prefix of the path does.
+pub any-front : (f : Path → Bool) (p : Path) (i : ℕ) → list_any f (prefixes (take i p)) ≡ true
+    → list_any f (prefixes p) ≡ true
+any-front f p i h =
+    ap (λ q. list_any f (prefixes q)) (sym (take-append-drop i p))
+    ∙ any-prefixes f (take i p) (drop i p) h
 
 -- A front that passes is a prefix that passes.
 pub any-at-front : (f : Path → Bool) (p : Path) (i : ℕ) → i < length p → f (take (i + 1) p) ≡ true
     → list_any f (prefixes p) ≡ true
 any-at-front f p i l h =
-    let front : list_any f (prefixes (take (i + 1) p)) ≡ true = any-more f p i l
+    any-front f p (i + 1) (any-more f p i l
     ∙ (ap (λ b. list_any f (prefixes (take i p)) || b) h
-    ∙ or-true (list_any f (prefixes (take i p)))) in
-    ap (λ q. list_any f (prefixes q)) (sym (take-append-drop (i + 1) p))
-    ∙ any-prefixes f (take (i + 1) p) (drop (i + 1) p) front
-  where
-    or-true : (b : Bool) → (b || true) ≡ true
-    or-true true = refl
-    or-true false = refl
+    ∙ or-true (list_any f (prefixes (take i p)))))
 
 -- A path over another one is over its fronts that are as long.
 pub over-front : (s p : Path) (k : ℕ) → IsTrue (is_over s p)
@@ -73,7 +45,7 @@ over-front [] p k h = grind (arith, nat_tests)
 over-front (n ∷ s) [] k h = cc
 over-front (n ∷ s) (m ∷ p) zero h = grind (arith, nat_tests)
 over-front (n ∷ s) (m ∷ p) (suc k) h =
-    let parts = both (name_eq n m) (is_over s p) h in
+    let parts = and_parts (name_eq n m) (is_over s p) h in
     rw parts.0 (over-front s p k parts.1 ∙ less (length s) k)
   where
     less : (a b : ℕ) → nat_le a b ≡ nat_le (suc a) (suc b)

@@ -1,71 +1,34 @@
 -- A path is reached exactly where it is walked down to.
-use Rattle.std.proofs.Common.{◌≡◌, ◌==◌, ◌⊎◌, inl, inr, Bool, true, false, not, ◌&&◌, ◌||◌, List, [], ◌∷◌, length, map, refl, sym, ap, ◌∙◌}
+use Rattle.std.proofs.Common.{◌≡◌, ◌==◌, ◌⊎◌, inl, inr, Bool, true, false, not, ◌&&◌, ◌||◌, List, [], ◌∷◌, length, refl, sym, ap, ◌∙◌}
 use Rattle.std.specs.Prelude.{IsTrue}
 use Rattle.std.specs.List.{list_any, list_all}
+use Rattle.std.proofs.lemmas.Bool.{and_parts, or_parts}
 use Rattle.std.proofs.lemmas.List.Folds.{list_any-append, list_all-append}
 use Rattle.hub_path.specs.Path.{Name, Path, name_eq, path_eq, is_over, is_path, is_place, none_over, prefixes}
 use Rattle.hub_path.specs.Laws.{is_over-reflexive, is_over-transitive, is_over-comparable}
 use Rattle.hub_path.specs.TextLaws.{prefixes-parent, prefixes-over}
 use Rattle.hub_profile.specs.Parts.{Parts, IsProfile}
-use Rattle.std.proofs.Math.Bool.{and-true, and-false, or-false}
-use Rattle.hub_text.specs.TestLaws.{or-assoc}
+use Rattle.std.proofs.Math.Bool.{and-true, and-false, and-or_distrib_left, or-false}
+use Rattle.hub_text.specs.TestLaws.{any-and, any-map, any-or, or-assoc}
 use Rattle.hub_glob.specs.OneStep.{nonzero}
 use Rattle.hub_reach.specs.Reach.{reach, is_open, is_ignored}
+use Rattle.hub_reach.specs.Laws.{any-alike}
 use Rattle.hub_reach.specs.Walk.{above, is_inside, is_cut, is_walked}
 
-pub both : (a b : Bool) → (a && b) ≡ true → (a ≡ true) × (b ≡ true)
-both true b h = (refl, h)
-both false b h = cc
-
 module _ {X : Type 0} where
-  any-none : (xs : List X) → list_any (λ x. false) xs ≡ false
-  any-none [] = refl
-  any-none (x ∷ xs) = any-none xs
-
-  any-and : (a : Bool) (f : X → Bool) (xs : List X)
-      → list_any (λ x. a && f x) xs ≡ (a && list_any f xs)
-  any-and true f xs = refl
-  any-and false f xs = any-none xs
-
-  pub any-or : (f g : X → Bool) (xs : List X)
-      → list_any (λ x. f x || g x) xs ≡ (list_any f xs || list_any g xs)
-  any-or f g [] = refl
-  any-or f g (x ∷ xs) = ap (λ b. (f x || g x) || b) (any-or f g xs)
-      ∙ mixed (f x) (g x) (list_any f xs) (list_any g xs)
-    where
-      mixed : (a b c d : Bool) → ((a || b) || (c || d)) ≡ ((a || c) || (b || d))
-      mixed true b c d = refl
-      mixed false true true d = refl
-      mixed false true false d = refl
-      mixed false false c d = refl
-
-  pub any-alike : (f g : X → Bool) (xs : List X) → ((x : X) → f x ≡ g x)
-      → list_any f xs ≡ list_any g xs
-  any-alike f g [] same = refl
-  any-alike f g (x ∷ xs) same = rw (same x) (ap (λ b. g x || b) (any-alike f g xs same))
-
   any-alike-where : (h f g : X → Bool) (xs : List X) → list_all h xs ≡ true
       → ((x : X) → h x ≡ true → f x ≡ g x) → list_any f xs ≡ list_any g xs
   any-alike-where h f g [] all same = refl
   any-alike-where h f g (x ∷ xs) all same =
-      let parts = both (h x) (list_all h xs) all in
+      let parts = and_parts (h x) (list_all h xs) all in
       (λ i. same x parts.0 i || any-alike-where h f g xs parts.1 same i)
 
   any-none-and : (f g : X → Bool) (xs : List X) → list_any f xs ≡ false
       → list_any (λ x. f x && g x) xs ≡ false
   any-none-and f g [] none = refl
   any-none-and f g (x ∷ xs) none =
-      let parts = neither (f x) (list_any f xs) none in
+      let parts = or_parts (f x) (list_any f xs) none in
       (λ i. (parts.0 i && g x) || any-none-and f g xs parts.1 i)
-    where
-      neither : (a b : Bool) → (a || b) ≡ false → (a ≡ false) × (b ≡ false)
-      neither true b e = cc
-      neither false b e = (refl, e)
-
-any-map : (f : Path → Bool) (n : Name) (qs : List Path)
-    → list_any f (map (λ q. n ∷ q) qs) ≡ list_any (λ q. f (n ∷ q)) qs
-any-map f n [] = refl
-any-map f n (q ∷ qs) = ap (λ b. f (n ∷ q) || b) (any-map f n qs)
 
 -- To be over a path is to be empty or one of its prefixes.
 empty-eq : (s : Path) → path_eq s [] ≡ (length s == 0)
@@ -79,14 +42,10 @@ over-prefixes (m ∷ s) (n ∷ q) =
     let same = name_eq m n in
     ap (λ b. same && b) (over-prefixes s q)
     ∙ (ap (λ b. same && (b || list_any (path_eq s) (prefixes q))) (sym (empty-eq s))
-    ∙ (spread same (path_eq s []) (list_any (path_eq s) (prefixes q))
-    ∙ (ap (λ b. same && path_eq s [] || b) (sym (any-and same (path_eq s) (prefixes q))
-    ∙ sym (any-map (path_eq (m ∷ s)) n (prefixes q)))
+    ∙ (and-or_distrib_left same (path_eq s []) (list_any (path_eq s) (prefixes q))
+    ∙ (ap (λ b. same && path_eq s [] || b) (any-and same (path_eq s) (prefixes q)
+    ∙ any-map (path_eq (m ∷ s)) (λ r. n ∷ r) (prefixes q))
     ∙ ap (λ b. b || list_any (path_eq (m ∷ s)) (prefixes (n ∷ q))) (sym (nonzero (length s))))))
-  where
-    spread : (a b c : Bool) → (a && (b || c)) ≡ (a && b || a && c)
-    spread true b c = refl
-    spread false b c = refl
 
 module _ (P : Parts) (n : Name) (rest : Path) where
   abbrev p : Path
@@ -106,11 +65,13 @@ module _ (P : Parts) (n : Name) (rest : Path) where
   kept-over =
       any-alike (λ s. is_over s p) (λ s. (length s == 0 || list_any (path_eq s) (above p))
       || path_eq s p) P.paths over-parts
-      ∙ any-or (λ s. length s == 0 || list_any (path_eq s) (above p)) (λ s. path_eq s p) P.paths
+      ∙ sym (any-or (λ s. length s == 0 || list_any (path_eq s) (above p))
+      (λ s. path_eq s p) P.paths)
 
   -- What stands above a path is over it.
   above-over : list_all (λ q. is_over q p) (above p) ≡ true
-  above-over = (both (list_all (λ q. is_over q p) (above p)) (list_all (λ q. is_over q p) (p ∷ []))
+  above-over = (and_parts (list_all (λ q. is_over q p) (above p))
+      (list_all (λ q. is_over q p) (p ∷ []))
       (sym (list_all-append (λ q. is_over q p) (above p) (p ∷ []))
       ∙ (ap (list_all (λ q. is_over q p)) (sym (prefixes-parent n rest)) ∙ prefixes-over p))).0
 
@@ -139,7 +100,7 @@ module _ (P : Parts) (n : Name) (rest : Path) where
       → (q : Path) → is_over q p ≡ true → list_any (λ t. is_over t q) ss ≡ false
   others s [] over apart q h = refl
   others s (t ∷ ss) over apart q h =
-      let parts = both (not (is_over s t || is_over t s))
+      let parts = and_parts (not (is_over s t || is_over t s))
       (list_all (λ t. not (is_over s t || is_over t s)) ss) apart in
       (λ i. away (is_over t q) refl parts.0 i || others s ss over parts.1 q h i)
     where
@@ -194,7 +155,8 @@ module _ (P : Parts) (n : Name) (rest : Path) where
   walked [] h = sym (ap (λ b. not (is_cut_by []) && b) (and-false (not (is_ignored P p)))
       ∙ and-false (not (is_cut_by [])))
   walked (s ∷ ss) h =
-      let parts = both (list_all (λ t. not (is_over s t || is_over t s)) ss) (none_over ss) h in
+      let parts = and_parts (list_all (λ t. not (is_over s t || is_over t s)) ss)
+      (none_over ss) h in
       go (is_over s p) refl parts.0 (walked ss parts.1)
     where
       go : (b : Bool) → is_over s p ≡ b → list_all (λ t. not (is_over s t || is_over t s)) ss ≡ true
@@ -220,7 +182,7 @@ module _ (P : Parts) (n : Name) (rest : Path) where
   unfolding reach
   walk facts path =
       let apart : none_over P.paths ≡ true =
-      (both (not (length P.paths == 0) && list_all is_place P.paths)
+      (and_parts (not (length P.paths == 0) && list_all is_place P.paths)
       (none_over P.paths) facts.paths).1 in
       (λ i. path i && walked P.paths apart i)
       ∙ ap (λ b. not (is_cut P p) && (not (is_ignored P p) && b)) kept-over

@@ -9,8 +9,8 @@ use hub_job::{Job, Next, Op};
 use hub_path::Side;
 use std::sync::Wait;
 
-/// How many steps of a job a worker makes before it passes the job on.
-const STEPS: usize = 8;
+/// How many turns a worker gives a job before it passes the job on.
+const TURNS: usize = 8;
 
 /// The numbers of a job's two desks.
 #[derive(Clone, Copy, Debug)]
@@ -95,7 +95,7 @@ fn step_and_send<'a, G: Gate, R: Wait>(
 ) {
     let mut queued = queued;
     for _ in rt.forever() {
-        if some_steps(rt, gate, desks, seats, &mut queued) {
+        if some_turns(rt, gate, desks, seats, &mut queued) {
             return end_job(rt, gate, &channels.to_caller, queued.job);
         }
         match send_on(rt, &channels.to_workers, queued) {
@@ -148,8 +148,8 @@ pub(crate) fn unsent<T: Drop, R: Wait>(rt: &R, to: &Sender<T>, item: T) -> Optio
     }
 }
 
-/// Makes at most [`STEPS`] steps of a job. It returns whether the job has ended.
-fn some_steps<G: Gate, R: Wait>(
+/// Gives a job at most [`TURNS`] turns. It returns whether the job has ended.
+fn some_turns<G: Gate, R: Wait>(
     rt: &R,
     gate: &G,
     desks: &Desks<'_>,
@@ -158,7 +158,7 @@ fn some_steps<G: Gate, R: Wait>(
 ) -> bool
     ensures { IsTrue result → is_ended queued.new.job ≡ true }
 {
-    for _ in 0..STEPS {
+    for _ in 0..TURNS {
         if has_ended(rt, gate, desks, seats, queued) {
             return true;
         }

@@ -2,6 +2,8 @@
 use Rattle.std.proofs.Common.{◌≡◌, ◌+◌, List, [], ◌∷◌, ◌++◌, length, map, Some, Result, Ok, Err, IfOk, refl, ap, sym, ◌∙◌, subst, length-append, arith}
 use Rattle.std.specs.Prelude.{ℕ, zero, suc, slice_get, slice_index_or}
 use Rattle.std.proofs.lemmas.List.{length-map}
+use Rattle.std.proofs.lemmas.Option.{same_Some}
+use Rattle.hub_text.specs.ListLaws.{snoc-new, snoc-old}
 use Rattle.hub_path.specs.Path.{Path}
 use Rattle.hub_path.specs.declared.side.Side.{Side}
 use Rattle.hub_path.specs.declared.side.Side.TheVariants.{Left, Right}
@@ -20,9 +22,7 @@ use Rattle.hub_schedule.specs.Ended.{ended_value, IsEnded, HasPlaces, AreEnded, 
 use Rattle.hub_schedule.specs.Left.{end_value}
 use Rattle.hub_schedule.specs.Promise.{HasReplicas, log_or_none, logs_in}
 use Rattle.hub_schedule.specs.Table.{place_on, IsOutcomeAfter, IsPlaced, IsSlot, IsTable}
-use Rattle.hub_schedule.specs.Laws.Lists.{get_front, get_last}
 use Rattle.hub_schedule.proofs.Opened.{get_push}
-use Rattle.hub_schedule.specs.Laws.Lists.{one_value}
 
 abbrev job_log : JobValue → List Logged
 job_log e = e.log
@@ -33,7 +33,7 @@ world_of replica jobs = record { replica = replica; history = λ r. []; logs = m
 
 log_there : (jobs : List JobValue) (j : ℕ) (e : JobValue) → slice_get jobs j ≡ Some e → slice_index_or (map job_log jobs) j [] ≡ e.log
 log_there [] j e at = cc
-log_there (d ∷ jobs) zero e at = ap job_log (one_value d e at)
+log_there (d ∷ jobs) zero e at = ap job_log (same_Some d e at)
 log_there (d ∷ jobs) (suc j) e at = log_there jobs j e at
 
 log_ended : (jobs : List JobValue) (j : ℕ) → slice_index_or (map job_log jobs) j [] ≡ log_or_none (slice_get (map ended_value jobs) j)
@@ -82,7 +82,7 @@ same_ends [] (s ∷ slots) e each = absurd (omega (arith, e))
 same_ends (d ∷ jobs) [] e each = absurd (omega (arith, e))
 same_ends (d ∷ jobs) (s ∷ slots) e each =
     let first = each 0 s refl in
-    let same : s.job ≡ d = first.2 ∙ sym (one_value d first.0 first.1) in
+    let same : s.job ≡ d = first.2 ∙ sym (same_Some d first.0 first.1) in
     ap (λ x. x ∷ map end_value slots) (ap ended_value same)
     ∙ ap (λ xs. ended_value d ∷ xs) (same_ends jobs slots (omega (arith, e)) (λ j t at. each (suc j) t at))
 
@@ -111,8 +111,8 @@ module _ (E : Type 0) (S : State) (jobs : List JobValue) (trees : List WorkingTr
 pub slots_more : (trees : List WorkingTree) (jobs : List JobValue) (slots : List Slot) (e : JobValue) (s : Slot) → AreSlotsOf trees jobs slots → IsSlotOf trees e s → AreSlotsOf trees (jobs ++ e ∷ []) (slots ++ s ∷ [])
 slots_more trees jobs slots e s are of = record {
   each = get_push (λ j t. (d : JobValue) × (slice_get (jobs ++ e ∷ []) j ≡ Some d) × IsSlotOf trees d t) slots s
-      (λ j t at. let w = are.each j t at in (w.0, get_front jobs (e ∷ []) j w.0 w.1, w.2))
-      (e, ap (slice_get (jobs ++ e ∷ [])) are.count ∙ get_last jobs e, of);
+      (λ j t at. let w = are.each j t at in (w.0, snoc-old jobs e w.0 j w.1, w.2))
+      (e, ap (slice_get (jobs ++ e ∷ [])) are.count ∙ snoc-new jobs e, of);
   count = length-append slots (s ∷ []) ∙ (ap (λ n. n + 1) are.count ∙ sym (length-append jobs (e ∷ [])));
 }
 

@@ -5,6 +5,7 @@ use Rattle.std.specs.Prelude.{Option, Some, None, unwrap_or, slice_get}
 use Rattle.std.specs.FinMap as fin
 use Rattle.std.specs.List.{range_with_len}
 use Rattle.std.proofs.lemmas.Option.{slice_get_within}
+use Rattle.hub_text.specs.ListLaws.{range-more}
 use Rattle.hub_path.specs.Path.{Path, path_cmp}
 use Rattle.hub_profile.specs.Parts.{Parts}
 use Rattle.hub_tree.specs.Tree.{Replica}
@@ -13,18 +14,15 @@ use Rattle.hub_state.specs.State.{State, replica_at}
 use Rattle.hub_job.specs.Outcome.{replicas_of}
 use Rattle.hub_schedule.specs.Table.{whole_rounds}
 use Rattle.hub_schedule.specs.Simulated.{AllHaveEnough, turns_enough, turns_of}
-use Rattle.std.proofs.lemmas.List.{map-id, append_assoc}
-use Rattle.std.proofs.lemmas.List.FromFn.{map-range_with_len_more, length-range_with_len, get_or-range_with_len}
+use Rattle.std.proofs.lemmas.List.{append_assoc}
+use Rattle.std.proofs.lemmas.List.FromFn.{length-range_with_len, get_or-range_with_len}
 use Rattle.std.proofs.lemmas.Bool.{ne_eqb, eqb-false}
 use borrow.Author.Tests.{eqb-true}
 use Rattle.std.proofs.lemmas.List.Elements.{All-append}
 use Rattle.std.proofs.lemmas.List.Sums.{sum_by-append}
 
-pub range_more : (n : ℕ) → range_with_len 0 (n + 1) ≡ range_with_len 0 n ++ n ∷ []
-range_more n = sym (map-id (range_with_len 0 (n + 1))) ∙ map-range_with_len_more (λ x. x) 0 n n (omega arith) ∙ ap (λ r. r ++ n ∷ []) (map-id (range_with_len 0 n))
-
 pub round_more : (old now : List ℕ) (n : ℕ) → now ≡ old ++ range_with_len 0 n → now ++ n ∷ [] ≡ old ++ range_with_len 0 (n + 1)
-round_more old now n e = ap (λ r. r ++ n ∷ []) e ∙ append_assoc old (range_with_len 0 n) (n ∷ []) ∙ ap (λ r. old ++ r) (sym (range_more n))
+round_more old now n e = ap (λ r. r ++ n ∷ []) e ∙ append_assoc old (range_with_len 0 n) (n ∷ []) ∙ ap (λ r. old ++ r) (sym (range-more n))
 
 -- Each number of a round is below the number of jobs.
 pub all_round : (k : ℕ) → All (λ j. j < k) (range_with_len 0 k)

@@ -6,6 +6,7 @@ use Rattle.std.specs.FinMap as fin
 use Rattle.std.proofs.lemmas.List.{length-map}
 use Rattle.std.proofs.lemmas.Bool.{false≢true, or_cases, false_from_ne_true}
 use Rattle.std.specs.Cmp.{both_ways}
+use Rattle.std.proofs.lemmas.Option.{none-some, same_Some}
 use Rattle.hub_job.specs.Laws.Making.{none_more}
 use Rattle.hub_reconcile.specs.Laws.Views.{same_paths}
 use Rattle.hub_path.specs.Path.{Path, path_eq, is_place}
@@ -41,7 +42,7 @@ use Rattle.hub_job.specs.Laws.Untouched.{path_itself}
 use Rattle.hub_job.specs.Laws.Roots.{two_roots}
 use Rattle.hub_schedule.proofs.NextMarks.{IsNextOf, find_marks, some_leaves}
 use Rattle.hub_schedule.proofs.Promised.{root_place}
-use Rattle.hub_schedule.specs.Laws.Lists.{listed, one_with, one_value, map_get, map_at, as_long}
+use Rattle.hub_schedule.specs.Laws.Lists.{listed, one_with, map_get, map_at, as_long}
 
 -- A root of a profile is that of a side.
 root_side : (P : Parts) (r : Path) → IsProfile P → has_root P r ≡ true → (k : Side) × (root_at P k ≡ r)
@@ -86,9 +87,6 @@ put_archives : (trees : List WorkingTree) (S : State) → (fold put_tree S trees
 put_archives [] S = refl
 put_archives (t ∷ trees) S = put_archives trees (with_replica S t.root.now t.tree)
 
-no_value : {X : Type 0} (x : X) → None ≡ Some x → ⊥
-no_value x e = cc
-
 -- How a job ends.
 finished_next : (x : End) (a : Archive) → is_some (if is_finished x then Some a else None) ≡ is_finished x
 finished_next end.Finished a = refl
@@ -96,7 +94,7 @@ finished_next end.Stopped a = refl
 finished_next end.Unfinished a = refl
 
 next_of : (x : End) (a b : Archive) → (if is_finished x then Some a else None) ≡ Some b → b ≡ a
-next_of end.Finished a b e = sym (one_value a b e)
+next_of end.Finished a b e = sym (same_Some a b e)
 next_of end.Stopped a b e = cc
 next_of end.Unfinished a b e = cc
 
@@ -131,7 +129,7 @@ pub was_stopped : (S : State) (slots : List Slot) (trees : List WorkingTree) (o 
 was_stopped S slots trees o jobs Ps w j P e table is at ended off =
     let s = slot_of slots o jobs j e at in
     let a = table.each j s.0 s.1 in
-    let profile : s.0.job.profile ≡ P = one_value s.0.job.profile P (sym a.is ∙ is) in
+    let profile : s.0.job.profile ≡ P = same_Some s.0.job.profile P (sym a.is ∙ is) in
     let archive : s.0.job.archive ≡ outcome.archive_of S (Some P) =
     a.archive ∙ (ap (outcome.archive_of S) a.is ∙ ap (λ Q. outcome.archive_of S (Some Q)) profile) in
     let log : s.0.job.log ≡ e.log = sym (ap (λ (e : JobEnd). e.log) s.2) in
@@ -150,7 +148,7 @@ module _ (S : State) (Ps : List Parts) (has : HasReplicas S Ps) (w : World) (slo
   job_at = slot_of slots o jobs
 
   slot_profile : (j : ℕ) (s : Slot) (P : Parts) → slice_get slots j ≡ Some s → slice_get Ps j ≡ Some P → s.job.profile ≡ P
-  slot_profile j s P at is = one_value s.job.profile P (sym (table.each j s at).is ∙ is)
+  slot_profile j s P at is = same_Some s.job.profile P (sym (table.each j s at).is ∙ is)
 
   facts : AreProfiles Ps
   facts j P is = let s = as_long slots Ps j P table.count is in subst IsProfile (slot_profile j s.0 P s.1 is) (table.each j s.0 s.1).valid
@@ -206,7 +204,7 @@ module _ (S : State) (Ps : List Parts) (has : HasReplicas S Ps) (w : World) (slo
   no_root : (r : Path) → replica_at S r ≡ None → list_any (λ P. has_root P r) Ps ≡ false
   no_root r none =
       false_from_ne_true (list_any (λ P. has_root P r) Ps)
-      (λ h. let P = one_with (λ P. has_root P r) Ps h in let m = has P.0 P.1 r P.2 P.3 in no_value m.0 (sym none ∙ m.1))
+      (λ h. let P = one_with (λ P. has_root P r) Ps h in let m = has P.0 P.1 r P.2 P.3 in none-some m.0 (sym none ∙ m.1))
 
   -- Archives.
   next_by : (k : ℕ) (s : Slot) → slice_get slots k ≡ Some s → IsNextOf S Ps (log_of w) o k (next_value s)

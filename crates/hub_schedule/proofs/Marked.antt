@@ -1,31 +1,27 @@
 -- What a job leaves to the archive of its pair, and what all of them do, from the last one on.
-use Rattle.std.proofs.Common.{◌≡◌, ◌≢◌, Bool, true, false, cond, ◌||◌, Result, Ok, Err, List, [], ◌∷◌, ◌++◌, length, Some, slice_get, slice_index_or, refl, ap, sym, ◌∙◌, subst}
+use Rattle.std.proofs.Common.{◌≡◌, ◌≢◌, Bool, false, cond, ◌||◌, Result, Ok, Err, List, [], ◌∷◌, ◌++◌, length, slice_get, slice_index_or, ap, sym, ◌∙◌, subst}
 use Rattle.std.specs.Prelude.{IsTrue, OnOk, is_some, unwrap_or}
 use Rattle.std.specs.FinMap as fin
-use Rattle.std.proofs.lemmas.Bool.{false≢true}
 use Rattle.std.proofs.lemmas.List.Folds.{list_any-append}
+use Rattle.hub_text.specs.TestLaws.{or-assoc}
+use Rattle.hub_text.specs.ListLaws.{snoc-new, snoc-old}
 use Rattle.hub_path.specs.Path.{Path, is_place}
-use Rattle.hub_path.specs.declared.side.Side.TheVariants.{Left, Right}
 use Rattle.hub_profile.specs.Parts.{Parts, IsProfile}
 use Rattle.hub_reach.specs.Reach.{reach}
 use Rattle.hub_tree.specs.Tree.{Archive, old_mark_at}
 use Rattle.hub_state.specs.State.{State, archive_at, with_archive}
-use Rattle.hub_job.specs.Run.{root_at}
-use Rattle.hub_job.specs.Laws.Untouched.{path_itself}
-use Rattle.hub_job.specs.Laws.Roots.{two_roots, left_not_right}
+use Rattle.hub_job.specs.Laws.Roots.{two_roots}
 use Rattle.hub_schedule.specs.Next.{NextValue}
 use Rattle.hub_schedule.specs.Left.{mark_in, mark_given, mark_from, mark_of_next, has_pair, is_left, one_is_left, HasArchives, HasMarks, KeepsUnreached, AreKept}
 use Rattle.hub_schedule.proofs.NextMarks.{mark_from-append}
-use Rattle.hub_schedule.specs.Laws.Lists.{get_front, get_last}
 use Rattle.hub_schedule.proofs.PairMarks.{put_given, put_there}
 use Rattle.hub_schedule.proofs.Places.{left_is, right_is}
+use Rattle.hub_schedule.proofs.Promised.{roots_apart}
 
 module _ (P : Parts) (facts : IsProfile P) (rs : List Path) (is : rs ≡ P.roots) where
   -- The two roots are different.
   pub roots_differ : (d e : Path) → slice_index_or rs 0 d ≢ slice_index_or rs 1 e
-  roots_differ d e h =
-      let same : root_at P Left ≡ root_at P Right = sym (left_is P facts rs is d) ∙ h ∙ right_is P facts rs is e in
-      false≢true (sym (left_not_right P facts 0) ∙ path_itself (root_at P Left) (root_at P Right) (ap (λ r. Some r) same))
+  roots_differ d e h = roots_apart P facts (sym (left_is P facts rs is d) ∙ h ∙ right_is P facts rs is e)
 
   pub there_at_roots : (f g : Path) (S : State) (merged : Archive) (T : State) → T ≡ with_archive S (slice_index_or rs 0 f) (slice_index_or rs 1 g) merged → HasArchives (has_pair P) S T
   there_at_roots f g S merged T t =
@@ -53,10 +49,10 @@ on_ok (Err e) A B f h = h
 
 -- The last one goes.
 pub kept_last : (all rest : List NextValue) (n : NextValue) → all ≡ rest ++ n ∷ [] → AreKept all → KeepsUnreached n
-kept_last all rest n e kept = kept (length rest) n (ap (λ (ns : List NextValue). slice_get ns (length rest)) e ∙ get_last rest n)
+kept_last all rest n e kept = kept (length rest) n (ap (λ (ns : List NextValue). slice_get ns (length rest)) e ∙ snoc-new rest n)
 
 pub kept_rest : (all rest : List NextValue) (n : NextValue) → all ≡ rest ++ n ∷ [] → AreKept all → AreKept rest
-kept_rest all rest n e kept = λ k m h. kept k m (ap (λ (ns : List NextValue). slice_get ns k) e ∙ get_front rest (n ∷ []) k m h)
+kept_rest all rest n e kept = λ k m h. kept k m (ap (λ (ns : List NextValue). slice_get ns k) e ∙ snoc-old rest n m k h)
 
 pub marks_rest : (all rest : List NextValue) (n : NextValue) (S T : State) → all ≡ rest ++ n ∷ [] → HasMarks (mark_of_next n.profile n.next) S T
     → (r s p : Path) → IsTrue (is_place r) → IsTrue (is_place s) → r ≢ s → mark_from rest r s p (mark_in T r s p) ≡ mark_from all r s p (mark_in S r s p)
@@ -64,16 +60,11 @@ marks_rest all rest n S T e h r s p one other off =
     ap (mark_from rest r s p) (h r s p one other off)
     ∙ (sym (mark_from-append rest n r s p (mark_in S r s p)) ∙ ap (λ (ns : List NextValue). mark_from ns r s p (mark_in S r s p)) (sym e))
 
-one_more : (x n b : Bool) → (x || (n || b)) ≡ ((x || (n || false)) || b)
-one_more true n b = refl
-one_more false true b = refl
-one_more false false b = refl
-
 pub there_rest : (all rest : List NextValue) (n : NextValue) (S T : State) → all ≡ rest ++ n ∷ [] → HasArchives (is_left n.profile n.next) S T
     → (r s : Path) → IsTrue (is_place r) → IsTrue (is_place s) → r ≢ s → (one_is_left rest r s || is_some (archive_at T r s)) ≡ (one_is_left all r s || is_some (archive_at S r s))
 there_rest all rest n S T e h r s one other off =
     let before : Bool = is_some (archive_at S r s) in
-    ap (λ x. one_is_left rest r s || x) (h r s one other off)
-    ∙ (one_more (one_is_left rest r s) (is_left n.profile n.next r s) before
+    ap (λ x. one_is_left rest r s || x) (h r s one other off ∙ or-assoc (is_left n.profile n.next r s) false before)
+    ∙ (or-assoc (one_is_left rest r s) (is_left n.profile n.next r s || false) before
     ∙ ap (λ x. x || before)
     (sym (list_any-append (λ (m : NextValue). is_left m.profile m.next r s) rest (n ∷ [])) ∙ ap (λ (ns : List NextValue). one_is_left ns r s) (sym e)))

@@ -1,8 +1,10 @@
 -- The jobs of profiles before their first turns.
-use Rattle.std.proofs.Common.{◌≡◌, ◌≢◌, ◌⊎◌, inl, inr, true, false, List, [], ◌∷◌, ◌++◌, length, Option, Some, None, refl, ap, sym, ◌∙◌, subst}
-use Rattle.std.specs.Prelude.{ℕ, zero, suc, slice_get}
+use Rattle.std.proofs.Common.{◌≡◌, ◌≢◌, ◌⊎◌, inl, inr, ⊎_elim, true, false, List, [], ◌∷◌, ◌++◌, length, Option, Some, None, refl, ap, sym, ◌∙◌, subst}
+use Rattle.std.specs.Prelude.{ℕ, slice_get}
 use Rattle.std.specs.List.{list_any}
 use Rattle.std.proofs.lemmas.List.{length-map}
+use Rattle.std.proofs.lemmas.Option.{none-some}
+use Rattle.hub_text.specs.ListLaws.{snoc-cases}
 use Rattle.hub_path.specs.Path.{Path}
 use Rattle.hub_path.specs.declared.side.Side.{Side}
 use Rattle.hub_path.specs.declared.side.Side.TheVariants.{Left, Right}
@@ -18,7 +20,7 @@ use Rattle.hub_job.specs.Run.{root_at}
 use Rattle.hub_schedule.specs.Table.{place_on, stopped_at, IsPlaced, AreTrees, IsNew, Extends, IsSlot, IsTable}
 use Rattle.hub_job.specs.World.{opening}
 use Rattle.hub_job.specs.Laws.Logs.{no_log, open_log}
-use Rattle.hub_schedule.specs.Laws.Lists.{listed, one_value}
+use Rattle.hub_schedule.specs.Laws.Lists.{listed}
 
 -- A new job, with its replicas in place.
 pub record IsOpened (S : State) (trees : List WorkingTree) (j : ℕ) (P : Parts) (s : Slot) : Type 0 where
@@ -31,22 +33,17 @@ pub record AreOpened (S : State) (Ps : List Parts) (slots : List Slot) (trees : 
   pub replicas : AreTrees (replicas_of S) trees
   pub roots : (k : ℕ) (t : WorkingTree) → slice_get trees k ≡ Some t → list_any (λ P. has_root P t.root.now) Ps ≡ true
 
-no_tree : {X : Type 0} (k : ℕ) (x : X) → slice_get [] k ≡ Some x → ⊥
-no_tree k x e = cc
-
 pub opened_none : (S : State) (Ps : List Parts) → AreOpened S Ps [] []
 opened_none S Ps = record {
-  each = λ j s e. absurd (no_tree j s e);
-  replicas = record { each = λ k t e. absurd (no_tree k t e); once = λ i k t u e f h. absurd (no_tree i t e) };
-  roots = λ k t e. absurd (no_tree k t e);
+  each = λ j s e. absurd (none-some s e);
+  replicas = record { each = λ k t e. absurd (none-some t e); once = λ i k t u e f h. absurd (none-some t e) };
+  roots = λ k t e. absurd (none-some t e);
 }
 
 -- One more at the end.
 pub get_push : {X : Type 0} (Q : ℕ → X → Type 0) (xs : List X) (x : X) → ((j : ℕ) (y : X) → slice_get xs j ≡ Some y → Q j y) → Q (length xs) x → (j : ℕ) (y : X) → slice_get (xs ++ x ∷ []) j ≡ Some y → Q j y
-get_push Q [] x each last zero y e = subst (Q 0) (one_value x y e) last
-get_push Q [] x each last (suc j) y e = cc
-get_push Q (z ∷ xs) x each last zero y e = each 0 y e
-get_push Q (z ∷ xs) x each last (suc j) y e = get_push (λ i. Q (suc i)) xs x (λ i w h. each (suc i) w h) last j y e
+get_push Q xs x each last j y e =
+    ⊎_elim (λ old. each j y old) (λ new. subst (Q j) new.1 (subst (λ i. Q i x) (sym new.0) last)) (snoc-cases xs x y j e)
 
 -- A new job and its two places.
 pub open_at : (S : State) (trees : List WorkingTree) (i j : ℕ) (P : Parts) (s : Slot) → i ≡ j → IsNew i P (archive_of S (Some P)) s → IsPlaced trees (root_at P Left) s.left → IsPlaced trees (root_at P Right) s.right

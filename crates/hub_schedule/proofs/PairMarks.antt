@@ -6,6 +6,7 @@ use Rattle.std.specs.FinMap as fin
 use Rattle.std.proofs.lemmas.Bool.{false≢true, or_cases, or_left, or_right, and_parts, and_from}
 use Rattle.std.specs.Cmp.{both_ways}
 use Rattle.hub_reconcile.specs.Laws.Views.{same_paths}
+use Rattle.hub_path.specs.Laws.{path_eq-decides}
 use Rattle.hub_path.specs.Path.{Path, path_eq}
 use Rattle.hub_profile.specs.Parts.{Parts, IsProfile}
 use Rattle.hub_reach.specs.Reach.{reach, has_root}
@@ -13,7 +14,6 @@ use Rattle.hub_tree.specs.Tree.{Archive, old_mark_at}
 use Rattle.hub_state.specs.State.{State, is_pair, archive_at, with_archive}
 use Rattle.hub_state.specs.RootTexts.{archive_put, pair_turned}
 use Rattle.hub_schedule.specs.Left.{mark_in, mark_given, has_pair, HasArchives, HasMarks}
-use Rattle.hub_job.specs.Laws.Untouched.{path_itself}
 use Rattle.hub_schedule.proofs.Promised.{root_place}
 
 there_if : (x : Bool) (a : Archive) (o : Option Archive) → is_some (cond x (Some a) o) ≡ (x || is_some o)
@@ -24,14 +24,11 @@ module _ (P : Parts) (facts : IsProfile P) (a b : Path) (are : P.roots ≡ a ∷
   has_is : (r : Path) → has_root P r ≡ (path_eq a r || (path_eq b r || false))
   has_is r = ap (list_any (λ own. path_eq own r)) are
 
-  equal : (p q : Path) → p ≡ q → path_eq p q ≡ true
-  equal p q e = path_itself p q (ap (λ r. Some r) e)
-
   has_first : (r : Path) → r ≡ a → has_root P r ≡ true
-  has_first r e = has_is r ∙ or_left (path_eq a r) (path_eq b r || false) (equal a r (sym e))
+  has_first r e = has_is r ∙ or_left (path_eq a r) (path_eq b r || false) ((path_eq-decides a r).1 (sym e))
 
   has_second : (r : Path) → r ≡ b → has_root P r ≡ true
-  has_second r e = has_is r ∙ or_right (path_eq a r) (path_eq b r || false) (or_left (path_eq b r) false (equal b r (sym e)))
+  has_second r e = has_is r ∙ or_right (path_eq a r) (path_eq b r || false) (or_left (path_eq b r) false ((path_eq-decides b r).1 (sym e)))
 
   which : (r : Path) → has_root P r ≡ true → (r ≡ a) ⊎ (r ≡ b)
   which r h =
@@ -55,8 +52,8 @@ module _ (P : Parts) (facts : IsProfile P) (a b : Path) (are : P.roots ≡ a ∷
       ]
 
   both_pair : (r s : Path) → AreBoth r s → is_pair a b r s ≡ true
-  both_pair r s (inl w) = or_left (path_eq r a && path_eq s b) (path_eq r b && path_eq s a) (and_from (path_eq r a) (path_eq s b) (equal r a w.0) (equal s b w.1))
-  both_pair r s (inr w) = or_right (path_eq r a && path_eq s b) (path_eq r b && path_eq s a) (and_from (path_eq r b) (path_eq s a) (equal r b w.0) (equal s a w.1))
+  both_pair r s (inl w) = or_left (path_eq r a && path_eq s b) (path_eq r b && path_eq s a) (and_from (path_eq r a) (path_eq s b) ((path_eq-decides r a).1 w.0) ((path_eq-decides s b).1 w.1))
+  both_pair r s (inr w) = or_right (path_eq r a && path_eq s b) (path_eq r b && path_eq s a) (and_from (path_eq r b) (path_eq s a) ((path_eq-decides r b).1 w.0) ((path_eq-decides s a).1 w.1))
 
   both_has : (r s : Path) → AreBoth r s → (has_root P r && has_root P s) ≡ true
   both_has r s (inl w) = and_from (has_root P r) (has_root P s) (has_first r w.0) (has_second s w.1)

@@ -1,5 +1,6 @@
 -- Where the replicas of a profile's roots stand.
 use Rattle.std.proofs.Common.{◌≡◌, ◌⊎◌, ◌-◌, inl, inr, ℕ, List, [], ◌∷◌, ◌++◌, length, Some, slice_get, slice_index_or, refl, ap, sym, ◌∙◌, length-append, arith}
+use Rattle.hub_text.specs.ListLaws.{snoc-new}
 use Rattle.hub_path.specs.Path.{Path}
 use Rattle.hub_path.specs.declared.side.Side.TheVariants.{Left, Right}
 use Rattle.hub_profile.specs.Parts.{Parts, IsProfile, at_side}
@@ -8,13 +9,12 @@ use Rattle.hub_job.specs.Run.{root_at}
 use Rattle.hub_job.specs.Laws.Roots.{two_roots, has_own}
 use Rattle.hub_schedule.specs.declared.slot.WorkingTree.{WorkingTree}
 use Rattle.hub_schedule.specs.Table.{IsPlaced, Extends}
-use Rattle.hub_schedule.specs.Laws.Lists.{get_last}
 
 -- The replica that was put last.
 pub placed_last : (old new : List WorkingTree) (t : WorkingTree) (n : ℕ) → new ≡ old ++ t ∷ [] → n ≡ length new → IsPlaced new t.root.now (n - 1)
 placed_last old new t n e count =
     let last : n - 1 ≡ length old = omega (arith, count, ap length e, length-append old (t ∷ [])) in
-    (t, ap (slice_get new) last ∙ (ap (λ ts. slice_get ts (length old)) e ∙ get_last old t), refl)
+    (t, ap (slice_get new) last ∙ (ap (λ ts. slice_get ts (length old)) e ∙ snoc-new old t), refl)
 
 module _ (P : Parts) (facts : IsProfile P) (rs : List Path) (is : rs ≡ P.roots) (d : Path) where
   pub left_is : slice_index_or rs 0 d ≡ root_at P Left

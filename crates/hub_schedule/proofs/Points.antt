@@ -67,6 +67,17 @@ no_entries (x ∷ xs) e ys h = cc
 abbrev by_test : Bool → Logged → List Logged → List Entry
 by_test b l log = map (λ e. e.step) (cond b (l ∷ log) log)
 
+place_after : (P : Parts) (r : Path) (l : Logged) (log : List Logged) (e : Entry) (zs xs : List Entry) (p : Place P r zs e log) → entries_at P r (l ∷ p.front) ≡ xs → Place P r xs e (l ∷ log)
+place_after P r l log e zs xs p before = record {
+  front = l ∷ p.front;
+  here = p.here;
+  rest = p.rest;
+  whole = ap (λ ls. l ∷ ls) p.whole;
+  is = p.is;
+  at = p.at;
+  before = before;
+}
+
 place_in : (P : Parts) (r : Path) (l : Logged) (log : List Logged) (e : Entry) (ys : List Entry) (xs : List Entry) (b : Bool) → is_root_at P r l.side ≡ b
     → xs ++ e ∷ ys ≡ by_test b l (filter (λ e. is_root_at P r e.side) log) → ((zs : List Entry) → zs ++ e ∷ ys ≡ entries_at P r log → Place P r zs e log) → Place P r xs e (l ∷ log)
 place_in P r l log e ys [] true t h more = record {
@@ -80,26 +91,11 @@ place_in P r l log e ys [] true t h more = record {
 }
 place_in P r l log e ys (x ∷ xs) true t h more =
     let p = more xs (same_rest x l.step (xs ++ e ∷ ys) (entries_at P r log) h) in
-    record {
-      front = l ∷ p.front;
-      here = p.here;
-      rest = p.rest;
-      whole = ap (λ ls. l ∷ ls) p.whole;
-      is = p.is;
-      at = p.at;
-      before = ap (λ b. by_test b l (filter (λ e. is_root_at P r e.side) p.front)) t ∙ (ap (λ es. l.step ∷ es) p.before ∙ ap (λ y. y ∷ xs) (sym (same_head x l.step (xs ++ e ∷ ys) (entries_at P r log) h)));
-    }
+    place_after P r l log e xs (x ∷ xs) p
+    (ap (λ b. by_test b l (filter (λ e. is_root_at P r e.side) p.front)) t ∙ (ap (λ es. l.step ∷ es) p.before ∙ ap (λ y. y ∷ xs) (sym (same_head x l.step (xs ++ e ∷ ys) (entries_at P r log) h))))
 place_in P r l log e ys xs false t h more =
     let p = more xs h in
-    record {
-      front = l ∷ p.front;
-      here = p.here;
-      rest = p.rest;
-      whole = ap (λ ls. l ∷ ls) p.whole;
-      is = p.is;
-      at = p.at;
-      before = ap (λ b. by_test b l (filter (λ e. is_root_at P r e.side) p.front)) t ∙ p.before;
-    }
+    place_after P r l log e xs xs p (ap (λ b. by_test b l (filter (λ e. is_root_at P r e.side) p.front)) t ∙ p.before)
 
 place_of : (P : Parts) (r : Path) (log : List Logged) (xs : List Entry) (e : Entry) (ys : List Entry) → xs ++ e ∷ ys ≡ entries_at P r log → Place P r xs e log
 place_of P r [] xs e ys h = absurd (no_entries xs e ys h)

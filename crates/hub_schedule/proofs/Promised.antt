@@ -4,7 +4,7 @@ use Rattle.std.specs.Prelude.{◌==◌, ℕ, zero, suc, IsTrue, slice_get, find,
 use Rattle.std.specs.List.{list_any, list_all, range_with_len}
 use Rattle.std.specs.FinMap as fin
 use Rattle.std.proofs.lemmas.Bool.{false≢true, and_parts, and_from, or_cases, cases_eq}
-use Rattle.std.proofs.lemmas.Option.{slice_get_within}
+use Rattle.std.proofs.lemmas.Option.{none-some, same_Some, slice_get_within}
 use Rattle.hub_schedule.specs.Laws.Unchanged.{Takes, takes_is, foreign}
 use Rattle.hub_reconcile.specs.Laws.Views.{same_paths}
 use Rattle.hub_path.specs.Laws.{is_over-reflexive}
@@ -44,23 +44,12 @@ use Rattle.hub_job.specs.Laws.LoneJobs.{by_side}
 use Rattle.hub_schedule.proofs.Finished.{alone_enough, finished_synced}
 use Rattle.hub_schedule.specs.Laws.Lists.{listed, one_with}
 
-number_or : ℕ → Option ℕ → ℕ
-number_or i None = i
-number_or i (Some j) = j
-
-some_number : (i j : ℕ) → Some i ≡ Some j → i ≡ j
-unfolding number_or
-some_number i j e = ap (number_or i) e
-
-no_number : {i : ℕ} → None ≡ Some i → ⊥
-no_number e = cc
-
 -- The least number that passes, if it is the only one, or if there is none.
 found_passes : (t : ℕ → Bool) (xs : List ℕ) (i : ℕ) → find t xs ≡ Some i → t i ≡ true
 found_passes t [] i e = cc
 found_passes t (x ∷ xs) i e =
     elim (t x) as (λ b. t x ≡ b → cond b (Some x) (find t xs) ≡ Some i → t i ≡ true) [
-      | true ↦ λ g h. ap t (sym (some_number x i h)) ∙ g
+      | true ↦ λ g h. ap t (sym (same_Some x i h)) ∙ g
       | false ↦ λ g h. found_passes t xs i h
     ] refl e
 
@@ -68,7 +57,7 @@ not_none : (t : ℕ → Bool) (j a n : ℕ) → a ≤ j → j < a + n → t j �
 not_none t j a zero l h passes none = absurd (omega (arith, l, h))
 not_none t j a (suc n) l h passes none =
     elim (t a) as (λ b. t a ≡ b → cond b (Some a) (find t (range_with_len (a + 1) n)) ≡ None → ⊥) [
-      | true ↦ λ e g. no_number (sym g)
+      | true ↦ λ e g. none-some a (sym g)
       | false ↦ λ e g.
           let other : a ≢ j = λ same. false≢true (sym e ∙ (ap t same ∙ passes)) in
           not_none t j (a + 1) n (omega (arith, l, other)) (omega (arith, h)) passes g

@@ -1,6 +1,7 @@
 -- What an entry of a settled history may, and whom it leaves alone.
-use Rattle.std.proofs.Common.{◌≡◌, List, [], ◌∷◌, Option, Some, None, ap, sym, ◌∙◌, subst}
+use Rattle.std.proofs.Common.{◌≡◌, List, [], ◌∷◌, Some, ap, sym, ◌∙◌, subst}
 use Rattle.std.specs.Prelude.{ℕ, zero, suc, slice_get, IsTrue}
+use Rattle.std.proofs.lemmas.Option.{same_Some}
 use Rattle.hub_path.specs.Path.{Path}
 use Rattle.hub_profile.specs.Parts.{Parts}
 use Rattle.hub_reach.specs.Reach.{has_root, write}
@@ -19,18 +20,10 @@ use Rattle.hub_schedule.specs.Settled.{IsSettled}
 use Rattle.hub_schedule.specs.Owned.{IsItsOwn}
 use Rattle.hub_schedule.proofs.Threads.{MayAll, its_profile, may_all}
 
-entry_or : Entry → Option Entry → Entry
-entry_or x None = x
-entry_or x (Some e) = e
-
-some_entry : {x e : Entry} → Some x ≡ Some e → x ≡ e
-unfolding entry_or
-some_entry {x} h = ap (entry_or x) h
-
 its_own : (Ps : List Parts) (r : Path) (m : Replica) (h : List Entry) (k : ℕ) (e : Entry) (p : Path) (c : Contents) → NoneClash Ps → IsLegal Ps r m h → MayAll Ps r h → slice_get h k ≡ Some e → e.op ≡ Set p c → IsItsOwn Ps r e p
 its_own Ps r m [] k e p c apart legal may at op = cc at
 its_own Ps r m (x ∷ h) zero e p c apart legal may at op =
-    let same : x ≡ e = some_entry at in
+    let same : x ≡ e = same_Some x e at in
     let theirs = its_profile r m x (slice_get Ps x.job) legal.0 in
     let Q = theirs.0 in
     let is : slice_get Ps e.job ≡ Some Q = ap (λ y. slice_get Ps y.job) (sym same) ∙ theirs.1 in

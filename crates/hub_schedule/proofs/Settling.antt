@@ -4,7 +4,7 @@ use Rattle.std.specs.Prelude.{◌==◌, ℕ, zero, suc, slice_get, slice_index_o
 use Rattle.std.proofs.lemmas.List.{append-nil, map-append, get_or-set_same, get_or-set_other}
 use Rattle.std.proofs.lemmas.List.Elements.{filter-append}
 use Rattle.std.proofs.lemmas.Bool.{false≢true}
-use Rattle.std.proofs.lemmas.Option.{slice_get_within}
+use Rattle.std.proofs.lemmas.Option.{same_Some, slice_get_within}
 use Rattle.hub_job.specs.Laws.Histories.{replay-push, legal-push}
 use Rattle.hub_job.specs.Laws.Logs.{runs-push, no_log}
 use Rattle.hub_reconcile.specs.Laws.Views.{same_paths}
@@ -59,14 +59,6 @@ answer-fits m P r (Look d) = tt
 answer-fits m P r (Fetch p) = fetched-fits p (contents_at m p)
 answer-fits m P r (Set p c) = done-fits p c (set_fault m p c)
 
-parts_or : Parts → Option Parts → Parts
-parts_or P None = P
-parts_or P (Some Q) = Q
-
-some_parts : {P Q : Parts} → Some P ≡ Some Q → P ≡ Q
-unfolding parts_or
-some_parts {P} e = ap (parts_or P) e
-
 off : (i j : ℕ) → (i == j) ≡ false → j ≢ i
 off i j e h = false≢true (sym e ∙ eq-eqb i j (sym h))
 
@@ -90,7 +82,7 @@ module _ (J : Jobs) (replicas : Path → Replica) (i : ℕ) (Q : Parts) (is : sl
   runs_by : (j : ℕ) (P : Parts) (b : Bool) → (i == j) ≡ b → slice_get J.profiles j ≡ Some P → Runs P (J.archive j) j [] (log_of v j)
   runs_by j P true e its =
       let same : i ≡ j = eqb-true i j e in
-      let mine : Q ≡ P = some_parts (sym is ∙ (ap (slice_get J.profiles) same ∙ its)) in
+      let mine : Q ≡ P = same_Some Q P (sym is ∙ (ap (slice_get J.profiles) same ∙ its)) in
       let here : Runs Q (J.archive i) i [] (log_of v i) =
       subst (Runs Q (J.archive i) i []) (sym own_log) (runs-push Q (J.archive i) i [] (log_of w i) logged (settled.fits.runs i Q is) asks (answer-fits (w.replica r) Q r op) refl) in
       subst (λ k. Runs P (J.archive k) k [] (log_of v k)) same (subst (λ P. Runs P (J.archive i) i [] (log_of v i)) mine here)
@@ -112,7 +104,7 @@ module _ (J : Jobs) (replicas : Path → Replica) (i : ℕ) (Q : Parts) (is : sl
       → entries_of j (cond b (w.history r ++ step ∷ []) (w.history s)) ≡ entries_at P s (log_of v j)
   agree_by j P s true true e f its old =
       let same : i ≡ j = eqb-true i j e in
-      let mine : Q ≡ P = some_parts (sym is ∙ (ap (slice_get J.profiles) same ∙ its)) in
+      let mine : Q ≡ P = same_Some Q P (sym is ∙ (ap (slice_get J.profiles) same ∙ its)) in
       ap (λ t. entries_of j (w.history t ++ step ∷ [])) (same_paths r s f)
       ∙ (entries_of-push j (w.history s) step true e
       ∙ (ap (λ es. es ++ step ∷ []) (old ∙ ap (λ k. entries_at P s (log_of w k)) (sym same))
@@ -123,7 +115,7 @@ module _ (J : Jobs) (replicas : Path → Replica) (i : ℕ) (Q : Parts) (is : sl
       ∙ (entries_of-push j (w.history s) step false e ∙ (append-nil (entries_of j (w.history s)) ∙ (old ∙ ap (entries_at P s) (sym (other_log j e)))))
   agree_by j P s true false e f its old =
       let same : i ≡ j = eqb-true i j e in
-      let mine : Q ≡ P = some_parts (sym is ∙ (ap (slice_get J.profiles) same ∙ its)) in
+      let mine : Q ≡ P = same_Some Q P (sym is ∙ (ap (slice_get J.profiles) same ∙ its)) in
       old ∙ (ap (λ k. entries_at P s (log_of w k)) (sym same)
       ∙ (sym (append-nil (entries_at P s (log_of w i)))
       ∙ (sym (entries_at-push P s (log_of w i) logged false (ap (λ P. is_root_at P s side) (sym mine) ∙ (root_is Q r s side at ∙ f)))

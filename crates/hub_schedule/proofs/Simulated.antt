@@ -3,6 +3,7 @@ use Rattle.std.proofs.Common.{◌≡◌, ◌≢◌, ◌≤◌, ◌+◌, inl, inr
 use Rattle.std.specs.Prelude.{◌==◌, ℕ, zero, suc, IsTrue, slice_get, slice_index_or, replicate}
 use Rattle.std.proofs.lemmas.Bool.{cases_eq, ne_eqb}
 use Rattle.std.proofs.lemmas.List.Sums.{length-filter}
+use Rattle.std.proofs.lemmas.Option.{same_Some}
 use Rattle.hub_path.specs.Path.{Path, is_place}
 use Rattle.hub_path.specs.declared.side.Side.{Side}
 use Rattle.hub_path.specs.declared.side.Side.TheVariants.{Left, Right}
@@ -33,7 +34,6 @@ use Rattle.hub_schedule.proofs.Finished.{alone_enough}
 use Rattle.hub_schedule.specs.Laws.Unchanged.{marks_stay}
 use Rattle.hub_schedule.proofs.Promised.{end_next, left_in, next_end, root_place, roots_apart}
 use Rattle.hub_schedule.proofs.Settling.{empty_log}
-use Rattle.hub_schedule.specs.Laws.Lists.{one_value}
 use Rattle.hub_schedule.proofs.Turns.{keeps, fewer, count_alone, count_first, all_turns, weight}
 
 no_log_there : (logs : List (List Logged)) (jobs : List JobEnd) (j : ℕ) → length logs ≡ length jobs → slice_get jobs j ≡ None → slice_index_or logs j [] ≡ []
@@ -135,7 +135,7 @@ module _ (law : NothingLaw) (S : State) (Ps : List Parts) (valid : AreProfiles P
   none_reaches : (r s q : Path) → reach P q ≡ false → NoneFinishedReaches Ps o r s q
   none_reaches r s q never = λ i Q f its ended done a b.
       elim (cases_eq i j) [
-        | inl same ↦ ap (λ R. reach R q) (one_value Q P (sym its ∙ (ap (slice_get Ps) same ∙ at))) ∙ never
+        | inl same ↦ ap (λ R. reach R q) (same_Some Q P (sym its ∙ (ap (slice_get Ps) same ∙ at))) ∙ never
         | inr off ↦ other_idle i Q f q off its ended done
       ]
 

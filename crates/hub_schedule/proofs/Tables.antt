@@ -4,7 +4,8 @@ use Rattle.std.specs.Prelude.{ℕ, slice_get, slice_set}
 use Rattle.std.specs.List.{list_any}
 use Rattle.std.proofs.lemmas.List.{get_or-set_same, get_or-set_other}
 use Rattle.std.proofs.lemmas.Bool.{cases_eq, false_from_ne_true}
-use Rattle.std.proofs.lemmas.Option.{slice_get_within}
+use Rattle.std.proofs.lemmas.Option.{same_Some, slice_get_within}
+use Rattle.hub_text.specs.ListLaws.{put-here}
 use Rattle.hub_reconcile.specs.Laws.Views.{same_paths}
 use Rattle.hub_path.specs.Path.{Path, path_eq}
 use Rattle.hub_path.specs.declared.side.Side.{Side}
@@ -22,7 +23,7 @@ use Rattle.hub_schedule.specs.Table.{place_on, with_tree, IsPlaced, AreTrees, Is
 use Rattle.hub_job.specs.World.{World, Jobs, log_of, entry, event, act, turn_of, turn}
 use Rattle.hub_job.specs.Laws.Untouched.{path_itself}
 use Rattle.hub_job.specs.Laws.Roots.{side_root}
-use Rattle.hub_schedule.specs.Laws.Lists.{set_here, set_there, one_value, each_set}
+use Rattle.hub_schedule.specs.Laws.Lists.{set_there, each_set}
 
 -- Replicas whose roots stay.
 pub record SameRoots (old new : List WorkingTree) : Type 0 where
@@ -38,8 +39,8 @@ tree_set trees k t m is = record {
   forth = λ i u e. elim (cases_eq i k) [
     | inl same ↦ (
       with_tree t m,
-      ap (slice_get (slice_set trees k (with_tree t m))) same ∙ set_here trees k t (with_tree t m) is,
-      ap (λ (v : WorkingTree). v.root.now) (one_value t u (sym is ∙ (ap (slice_get trees) (sym same) ∙ e))),
+      ap (slice_get (slice_set trees k (with_tree t m))) same ∙ put-here trees k (with_tree t m) (slice_get_within trees k t is),
+      ap (λ (v : WorkingTree). v.root.now) (same_Some t u (sym is ∙ (ap (slice_get trees) (sym same) ∙ e))),
     )
     | inr off ↦ (u, set_there trees i k (with_tree t m) off ∙ e, refl)
   ];
@@ -128,7 +129,7 @@ module _ (J : Jobs) (w : World) (slots : List Slot) (trees : List WorkingTree) (
 
   -- The replica is that of the side's root.
   root_is : u.root.now ≡ r
-  root_is = let p = a.places side in ap (λ (v : WorkingTree). v.root.now) (one_value u p.0 (sym at ∙ p.1)) ∙ p.2
+  root_is = let p = a.places side in ap (λ (v : WorkingTree). v.root.now) (same_Some u p.0 (sym at ∙ p.1)) ∙ p.2
 
   tree_is : u.tree ≡ w.replica r
   tree_is = table.replicas.each k u at ∙ ap w.replica root_is

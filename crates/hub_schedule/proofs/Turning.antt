@@ -2,6 +2,8 @@
 use Rattle.std.proofs.Common.{◌≡◌, ◌<◌, inl, inr, Bool, true, false, cond, List, [], ◌∷◌, ◌++◌, length, Some, None, refl, ap, sym, ◌∙◌, subst}
 use Rattle.std.specs.Prelude.{ℕ, zero, suc, slice_get, slice_set, if◌then◌else◌}
 use Rattle.std.proofs.lemmas.Bool.{false≢true, cases_eq}
+use Rattle.std.proofs.lemmas.Option.{same_Some, slice_get_within}
+use Rattle.hub_text.specs.ListLaws.{put-here}
 use Rattle.hub_path.specs.declared.side.Side.{Side}
 use Rattle.hub_path.specs.declared.side.Side.TheVariants.{Left, Right}
 use Rattle.hub_profile.specs.Parts.{some_passes}
@@ -17,7 +19,7 @@ use Rattle.hub_job.specs.World.{World, Jobs, act, turn}
 use Rattle.hub_schedule.specs.declared.slot.Slot.{Slot}
 use Rattle.hub_schedule.specs.declared.slot.WorkingTree.{WorkingTree}
 use Rattle.hub_schedule.specs.Table.{place_on, with_job, with_tree, stopped_at, AllWouldAsk, IsIdle, IsTable, ArePlaced, StayStopped, WouldAsk}
-use Rattle.hub_schedule.specs.Laws.Lists.{set_here, set_there, each_set, one_value}
+use Rattle.hub_schedule.specs.Laws.Lists.{set_there, each_set}
 use Rattle.hub_schedule.proofs.Tables.{SameSlot, table_same, table_turn, turn_is}
 
 -- A job keeps its profile, archive, number and places.
@@ -43,11 +45,11 @@ same_again s t u f g = record {
 
 set_same : {X : Type 0} (xs : List X) (k : ℕ) (x : X) → slice_get xs k ≡ Some x → slice_set xs k x ≡ xs
 set_same [] k x e = refl
-set_same (y ∷ xs) zero x e = ap (λ z. z ∷ xs) (sym (one_value y x e))
+set_same (y ∷ xs) zero x e = ap (λ z. z ∷ xs) (sym (same_Some y x e))
 set_same (y ∷ xs) (suc k) x e = ap (λ zs. y ∷ zs) (set_same xs k x e)
 
 pub stopped_is : (slots : List Slot) (j : ℕ) (s t : Slot) → slice_get slots j ≡ Some s → stopped_at (slice_set slots j t) j ≡ t.job.stopped
-stopped_is slots j s t is = ap (some_passes (λ (v : Slot). v.job.stopped)) (set_here slots j s t is)
+stopped_is slots j s t is = ap (some_passes (λ (v : Slot). v.job.stopped)) (put-here slots j t (slice_get_within slots j s is))
 
 module _ (J : Jobs) (w : World) (slots : List Slot) (trees : List WorkingTree) (table : IsTable J w slots trees) (j : ℕ) (s t : Slot) (n : Next) (is : slice_get slots j ≡ Some s)
     (slot : t ≡ with_job s (after_turn s.job t.job.stopped n)) (next_is : t.job.stopped ≡ false → n ≡ next s.job.profile s.job.archive s.job.log) where

@@ -1,6 +1,6 @@
 -- Each Set that a job alone asks for is allowed by the contents that it finds.
 use Rattle.std.proofs.Common.{◌≡◌, ◌<◌, ◌-◌, inl, inr, true, false, List, [], ◌∷◌, ◌++◌, length, Option, Some, None, refl, ap, sym, ◌∙◌, subst, arith, append_assoc, append-nil}
-use Rattle.std.specs.Prelude.{ℕ, zero, suc}
+use Rattle.std.specs.Prelude.{ℕ, zero, suc, pred}
 use Rattle.std.proofs.lemmas.Bool.{cases_lt}
 use Rattle.hub_path.specs.Path.{Path}
 use Rattle.hub_path.specs.declared.side.Side.{Side}
@@ -177,13 +177,10 @@ module _ (P : Parts) (facts : IsProfile P) (A B : Replica) (O : Archive) (left :
       let asks = next_is P facts A B O left right j ds ∙ (ap (λ o. look_or Left (look_or Right (step_or_end P O (log_of_looks ds)) (missing P (log_of_looks ds) Right)) o) e ∙ ap (λ o. look_or Right (step_or_end P O (log_of_looks ds)) o) f) in
       subst (λ (v : Pair). Good v) (sym (turn_is P O j n (looks ds) (Ask Right (Look p)) asks ∙ ap (pair_run P O j n) (act_look P facts A B O left right j ds Right p))) (more n (ds ++ (Right, p) ∷ []) refl)
 
-  one_less : (a b : ℕ) → suc a ≡ suc b → a ≡ b
-  one_less a b e = omega (arith, e)
-
   looks_all : (n : ℕ) (ds : List (Side × Path)) → Good (pair_run P O j n (looks ds))
   looks_all zero ds = looks_good zero ds (missing P (log_of_looks ds) Left) (missing P (log_of_looks ds) Right) refl refl (λ m es e. absurd (omega (arith, e)))
   looks_all (suc n) ds =
-      looks_good (suc n) ds (missing P (log_of_looks ds) Left) (missing P (log_of_looks ds) Right) refl refl (λ m es e. subst (λ i. Good (pair_run P O j i (looks es))) (one_less n m e) (looks_all n es))
+      looks_good (suc n) ds (missing P (log_of_looks ds) Left) (missing P (log_of_looks ds) Right) refl refl (λ m es e. subst (λ i. Good (pair_run P O j i (looks es))) (ap pred e) (looks_all n es))
 
   -- After any number of turns.
   pub alone_allowed : (n : ℕ) → Good (pair_run P O j n (pair_opening A B))

@@ -1,9 +1,9 @@
-use Rattle.std.proofs.Common.{◌≡◌, List, [], ◌∷◌, length, Some, slice_get, refl, sym, subst, arith}
+use Rattle.std.proofs.Common.{◌≡◌, List, length, Some, slice_get, refl, sym, subst, arith}
 use Rattle.std.proofs.lemmas.Option.{slice_get_within}
+use Rattle.hub_text.specs.ListLaws.{snoc-old}
 use Rattle.hub_job.specs.Outcome.{replicas_of}
 use Rattle.hub_schedule.specs.declared.slot.WorkingTree.{WorkingTree}
 use Rattle.hub_schedule.specs.Table.{AreTrees, IsNotIn, IsPlaced}
-use Rattle.hub_schedule.specs.Laws.Lists.{get_front}
 use Rattle.hub_schedule.proofs.Opened.{rest_push, trees_push}
 use Rattle.hub_schedule.proofs.Places.{placed_last}
 use Rattle.hub_schedule.proofs.slots.place_for.Goals as goal
@@ -27,7 +27,7 @@ returns-clause-trees c =
 pub returns-clause-more : goal.returns-clause-more
 returns-clause-more c = λ k t e.
     subst (λ (ts : List WorkingTree). slice_get ts k ≡ Some t) (sym c.in_ok-push.ensures.items)
-    (get_front c.args.trees.now.items (record { root = c.args.root; tree = c.in_ok-tree.tree } ∷ []) k t e)
+    (snoc-old c.args.trees.now.items (record { root = c.args.root; tree = c.in_ok-tree.tree }) t k e)
 
 pub returns-clause-rest : goal.returns-clause-rest
 returns-clause-rest c = λ k t e.

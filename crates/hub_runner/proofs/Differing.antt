@@ -2,8 +2,7 @@
 use Rattle.std.proofs.Common.{◌≡◌, ◌≢◌, ◌<◌, ◌≤◌, ◌+◌, Bool, true, false, List, [], ◌∷◌, length, get_or, None, Some, refl, ap, sym, ◌∙◌, subst}
 use Rattle.std.specs.Prelude.{ℕ, All, IsTrue, MatchBool, slice_get}
 use Rattle.std.proofs.lemmas.Bool.{MatchBool-at_true, MatchBool-at_false}
-use Rattle.std.proofs.lemmas.Option.{slice_get_read}
-use Rattle.hub_schedule.specs.Laws.Lists.{one_value}
+use Rattle.std.proofs.lemmas.Option.{same_Some, slice_get_read}
 use Rattle.hub_path.specs.Path.{Path}
 use Rattle.hub_profile.specs.Parts.{Parts}
 use Rattle.hub_reach.specs.Reach.{has_root}
@@ -54,7 +53,7 @@ module _ (S : State) (Ps : List Parts) (books : List BookValue) (jobs : List Job
       right_if : Match P r done logged → Right (r, Some j)
       right_if match = λ Q there has.
           subst (λ (R : Parts). IsTrue (has_root R r) → entries_of j (history_at books r) ≡ entries_at R r (log_at jobs j))
-          (one_value P Q (sym at ∙ there)) (λ own. in_history ∙ match own) has
+          (same_Some P Q (sym at ∙ there)) (λ own. in_history ∙ match own) has
 
     -- The job j, as the program reads its profile and its entries.
     module _ {items : List Parts} (value : items ≡ Ps) {history : List Entry} (own : history ≡ B.history) {lists : List (List Entry)} (split : lists ≡ by_job (length items) history) where

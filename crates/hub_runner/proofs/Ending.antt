@@ -1,11 +1,11 @@
 -- Jobs that are over, and how they end.
-use Rattle.std.proofs.Common.{◌≡◌, ◌≢◌, Bool, true, false, cond, ◌||◌, List, [], ◌∷◌, ◌++◌, length, Some, refl, ap, sym, ◌∙◌, subst, arith}
-use Rattle.std.specs.Prelude.{◌==◌, ℕ, zero, suc, slice_get, count_by, Result, Ok, Err, IfOk}
+use Rattle.std.proofs.Common.{◌≡◌, ◌≢◌, ⊎_elim, Bool, true, false, cond, ◌||◌, List, [], ◌∷◌, ◌++◌, length, Some, refl, ap, sym, ◌∙◌, subst, arith}
+use Rattle.std.specs.Prelude.{◌==◌, ℕ, slice_get, count_by, Result, Ok, Err, IfOk}
 use Rattle.std.proofs.lemmas.Bool.{false≢true}
 use Rattle.std.proofs.lemmas.Bool.Decides.{nat_tests}
 use Rattle.std.proofs.lemmas.List.Sums.{length-filter}
-use Rattle.std.proofs.lemmas.Option.{slice_get_within}
-use Rattle.hub_schedule.specs.Laws.Lists.{one_value}
+use Rattle.std.proofs.lemmas.Option.{same_Some, slice_get_within}
+use Rattle.hub_text.specs.ListLaws.{snoc-cases}
 use Rattle.hub_path.specs.Path.{Path}
 use Rattle.hub_path.specs.declared.side.Side.{Side}
 use Rattle.hub_profile.specs.Parts.{Parts}
@@ -34,10 +34,7 @@ asks_after J K side op after = (record { side = side; op = op }, ap (λ (L : Job
 
 -- One job more.
 pub over_push : (jobs : List JobValue) (J : JobValue) → AreEnded jobs → is_ended J ≡ true → (k : ℕ) (K : JobValue) → slice_get (jobs ++ J ∷ []) k ≡ Some K → is_ended K ≡ true
-over_push [] J all over zero K at = ap is_ended (sym (one_value J K at)) ∙ over
-over_push [] J all over (suc k) K at = cc
-over_push (L ∷ jobs) J all over zero K at = all 0 K at
-over_push (L ∷ jobs) J all over (suc k) K at = over_push jobs J (λ i M e. all (suc i) M e) over k K at
+over_push jobs J all over k K at = ⊎_elim (λ old. all k K old) (λ new. ap is_ended (sym new.1) ∙ over) (snoc-cases jobs J K k at)
 
 -- How a job ends that is over.
 ends_by : (n : Next) → asks_nothing n ≡ true → end_by n ≢ end.Unfinished
@@ -73,7 +70,7 @@ have_ended S Ps jobs o long due ends over = λ j e at.
     let w = due_job jobs j (due.1 j (omega (arith, inside, long))) in
     let J = w.1 in
     let there : slice_get o.jobs j ≡ Some (end_value J) = subst (λ i. slice_get o.jobs i ≡ Some (end_value J)) w.3 (ends w.0 J w.2) in
-    let same : end_value J ≡ e = one_value (end_value J) e (sym there ∙ at) in
+    let same : end_value J ≡ e = same_Some (end_value J) e (sym there ∙ at) in
     subst (λ (d : JobEnd). d.end ≢ end.Unfinished) same (has_ended J (over w.0 J w.2))
 
 -- What is settled of jobs that are over has ended.

@@ -1,26 +1,15 @@
 -- Slots that jobs are put into, by their numbers.
-use Rattle.std.proofs.Common.{◌≡◌, ◌<◌, ◌⊎◌, inl, inr, List, [], ◌∷◌, ◌++◌, length, Option, Some, refl, ap, sym, ◌∙◌, subst, length-set, arith}
+use Rattle.std.proofs.Common.{◌≡◌, ◌<◌, inl, inr, List, [], ◌∷◌, ◌++◌, length, Option, Some, ap, sym, ◌∙◌, subst, length-set, arith}
 use Rattle.std.specs.Prelude.{ℕ, zero, suc, slice_get, slice_set}
 use Rattle.std.proofs.lemmas.Bool.{cases_eq}
 use Rattle.std.proofs.lemmas.List.{length-map}
-use Rattle.std.proofs.lemmas.Option.{slice_get_within}
+use Rattle.std.proofs.lemmas.Option.{none-some, same_Some, slice_get_within}
+use Rattle.hub_text.specs.ListLaws.{put-here, snoc-cases, snoc-new, snoc-old}
 use Rattle.hub_job.specs.JobValue.{JobValue}
 use Rattle.hub_job.specs.Run.{Runs}
-use Rattle.hub_schedule.specs.Laws.Lists.{get_front, get_last, one_value, map_at, set_there}
+use Rattle.hub_schedule.specs.Laws.Lists.{map_at, set_there}
 use Rattle.hub_runner.specs.Ordered.{AreInOrder, AreNumbered, IsJobOf}
 use Rattle.hub_runner.specs.Slots.{AreFull, empty, filled}
-
--- Lists.
-put_here : {X : Type 0} (xs : List X) (j : ℕ) (y : X) → j < length xs → slice_get (slice_set xs j y) j ≡ Some y
-put_here [] j y h = absurd (omega (arith, h))
-put_here (x ∷ xs) zero y h = refl
-put_here (x ∷ xs) (suc j) y h = put_here xs j y (omega (arith, h))
-
-push_cases : {X : Type 0} (xs : List X) (x : X) (k : ℕ) (y : X) → slice_get (xs ++ x ∷ []) k ≡ Some y → (slice_get xs k ≡ Some y) ⊎ (x ≡ y)
-push_cases [] x zero y e = inr (one_value x y e)
-push_cases [] x (suc k) y e = cc
-push_cases (z ∷ xs) x zero y e = inl e
-push_cases (z ∷ xs) x (suc k) y e = push_cases xs x k y e
 
 empty_slot : (n j : ℕ) (e : JobValue) → slice_get (empty n) j ≡ Some (Some e) → ⊥
 empty_slot zero j e h = cc
@@ -33,22 +22,19 @@ pub record IsFilling (n : ℕ) (front : List JobValue) (slots : List (Option Job
   pub each : (j : ℕ) (e : JobValue) → slice_get slots j ≡ Some (Some e) → IsJobOf front e × (e.number ≡ j)
   pub full : (k : ℕ) (J : JobValue) → slice_get front k ≡ Some J → (e : JobValue) × (slice_get slots J.number ≡ Some (Some e))
 
-no_job : (k : ℕ) (J : JobValue) → slice_get [] k ≡ Some J → ⊥
-no_job k J e = cc
-
 pub none_filled : (n : ℕ) (slots : List (Option JobValue)) → slots ≡ empty n → length slots ≡ n → IsFilling n [] slots
 none_filled n slots e count = record {
   count = count;
   each = λ j x h. absurd (empty_slot n j x (sym (ap (λ ss. slice_get ss j) e) ∙ h));
-  full = λ k J h. absurd (no_job k J h);
+  full = λ k J h. absurd (none-some J h);
 }
 
 -- One job more.
 later : (front : List JobValue) (J e : JobValue) → IsJobOf front e → IsJobOf (front ++ J ∷ []) e
-later front J e of = record { place = of.place; there = get_front front (J ∷ []) of.place e of.there; run = of.run }
+later front J e of = record { place = of.place; there = snoc-old front J e of.place of.there; run = of.run }
 
 pub job_last : (front : List JobValue) (J : JobValue) → Runs J.profile J.archive J.number [] J.log → IsJobOf (front ++ J ∷ []) J
-job_last front J run = record { place = length front; there = get_last front J; run = run }
+job_last front J run = record { place = length front; there = snoc-new front J; run = run }
 
 module _ (n : ℕ) (front : List JobValue) (slots : List (Option JobValue)) (filling : IsFilling n front slots) (J : JobValue) (of : IsJobOf (front ++ J ∷ []) J) (within : J.number < n) where
   abbrev more : List (Option JobValue)
@@ -61,8 +47,8 @@ module _ (n : ℕ) (front : List JobValue) (slots : List (Option JobValue)) (fil
   each_more j x h =
       elim (cases_eq j J.number) [
         | inl same ↦
-            let there = sym (put_here slots J.number (Some J) inside) ∙ (ap (slice_get more) (sym same) ∙ h) in
-            let one : J ≡ x = one_value J x (one_value (Some J) (Some x) there) in
+            let there = sym (put-here slots J.number (Some J) inside) ∙ (ap (slice_get more) (sym same) ∙ h) in
+            let one : J ≡ x = same_Some J x (same_Some (Some J) (Some x) there) in
             subst (λ (y : JobValue). IsJobOf (front ++ J ∷ []) y × (y.number ≡ j)) one (of, sym same)
         | inr other ↦ let w = filling.each j x (sym (set_there slots j J.number (Some J) other) ∙ h) in (later front J x w.0, w.1)
       ]
@@ -70,15 +56,15 @@ module _ (n : ℕ) (front : List JobValue) (slots : List (Option JobValue)) (fil
   still_full : (K : JobValue) → (x : JobValue) × (slice_get slots K.number ≡ Some (Some x)) → (x : JobValue) × (slice_get more K.number ≡ Some (Some x))
   still_full K w =
       elim (cases_eq K.number J.number) [
-        | inl same ↦ (J, ap (slice_get more) same ∙ put_here slots J.number (Some J) inside)
+        | inl same ↦ (J, ap (slice_get more) same ∙ put-here slots J.number (Some J) inside)
         | inr other ↦ (w.0, set_there slots K.number J.number (Some J) other ∙ w.1)
       ]
 
   full_more : (k : ℕ) (K : JobValue) → slice_get (front ++ J ∷ []) k ≡ Some K → (x : JobValue) × (slice_get more K.number ≡ Some (Some x))
   full_more k K h =
-      elim (push_cases front J k K h) [
+      elim (snoc-cases front J K k h) [
         | inl old ↦ still_full K (filling.full k K old)
-        | inr new ↦ (J, ap (λ (L : JobValue). slice_get more L.number) (sym new) ∙ put_here slots J.number (Some J) inside)
+        | inr new ↦ (J, ap (λ (L : JobValue). slice_get more L.number) (sym new.1) ∙ put-here slots J.number (Some J) inside)
       ]
 
   pub filled_more : IsFilling n (front ++ J ∷ []) more
@@ -91,7 +77,7 @@ all_full n jobs slots numbered filling = λ j o at.
     let h = slice_get_within slots j o at in
     let has = numbered.all j (omega (arith, h, count)) in
     let there = filling.full has.0 has.1 has.2 in
-    (there.0, one_value o (Some there.0) (sym at ∙ (ap (slice_get slots) (sym has.3) ∙ there.1)))
+    (there.0, same_Some o (Some there.0) (sym at ∙ (ap (slice_get slots) (sym has.3) ∙ there.1)))
 
 pub in_order : (n : ℕ) (jobs : List JobValue) (slots : List (Option JobValue)) (ended : List JobValue) → IsFilling n jobs slots → slots ≡ filled ended → AreInOrder n jobs ended
 in_order n jobs slots ended filling e = record {

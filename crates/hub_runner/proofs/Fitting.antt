@@ -5,7 +5,7 @@ use Rattle.std.specs.List.{list_any}
 use Rattle.std.specs.FinMap as fin
 use Rattle.std.proofs.lemmas.Bool.Decides.{nat_tests}
 use Rattle.std.proofs.lemmas.List.Sums.{length-filter}
-use Rattle.std.proofs.lemmas.Option.{slice_get_within}
+use Rattle.std.proofs.lemmas.Option.{same_Some, slice_get_within}
 use Rattle.hub_reconcile.specs.Laws.Views.{same_paths}
 use Rattle.hub_path.specs.Path.{Path, path_eq}
 use Rattle.hub_profile.specs.Parts.{Parts}
@@ -25,12 +25,12 @@ use Rattle.hub_schedule.specs.Promise.{HasReplicas, Settles, log_or_none, logs_i
 use Rattle.hub_schedule.specs.Refusals.{first_missing}
 use Rattle.hub_schedule.specs.Settled.{AreProfiles, IsSettled}
 use Rattle.hub_schedule.specs.Table.{AreTrees, IsPlaced}
-use Rattle.hub_schedule.specs.Laws.Lists.{as_long, listed, one_with, one_value, map_at}
+use Rattle.hub_schedule.specs.Laws.Lists.{as_long, listed, one_with, map_at, map_get}
 use Rattle.hub_job.specs.Laws.Roots.{has_own}
 use Rattle.hub_schedule.specs.Laws.Missing.{have_replicas}
 use Rattle.hub_runner.specs.Ordered.{AreInOrder, AreNumbered, AreTreesOf, is_due, of_book, of_tree}
 use Rattle.hub_runner.specs.Settling.{AreCompared, AreConsistent, EndAsTheyAre, Agrees, OpensAs, books_at, end_value, history_at, history_or_none, log_at, log_or_nothing, places}
-use Rattle.hub_runner.proofs.Lists.{all_at, count_filter, count_map, found_first, is_only, mapped, only, passed, passes, same_place}
+use Rattle.hub_runner.proofs.Lists.{all_at, count_filter, count_map, found_first, is_only, only, passed, passes, same_place}
 use Rattle.hub_runner.proofs.Roots.{at_book, at_job}
 
 abbrev has_number : ℕ → JobValue → Bool
@@ -105,7 +105,7 @@ module _ (S : State) (Ps : List Parts) (jobs : List JobValue) (due : AreConsiste
           let e = one.0 in
           let w = order.each j e one.1 in
           let is = is_ended j e one.1 in
-          let own : e.profile ≡ P = one_value e.profile P (sym is.is ∙ at) in
+          let own : e.profile ≡ P = same_Some e.profile P (sym is.is ∙ at) in
           let archive : e.archive ≡ archive_of S (slice_get Ps j) = is.archive ∙ ap (archive_of S) (sym is.is) in
           subst (λ log. Runs P (archive_of S (slice_get Ps j)) j [] log) (sym (log_in j e one.1))
           (subst (λ n. Runs P (archive_of S (slice_get Ps j)) n [] e.log) w.1
@@ -165,16 +165,16 @@ module _ (S : State) (Ps : List Parts) (books : List BookValue) (jobs : List Job
     has_book : (k : ℕ) (t : WorkingTree) → slice_get trees k ≡ Some t → HasBook t
     has_book k t at =
         let at_root = sym (ap (λ zs. slice_get zs k) are.values) ∙ map_at of_tree trees k t at in
-        let w = mapped of_book dues k (of_tree t) at_root in
+        let w = map_get of_book dues k (of_tree t) at_root in
         let B = w.0 in
         let from = passed (is_due Ps) books k B w.1 in
-        let root : B.root ≡ t.root.now = ap (λ z. z.0) w.2 in
+        let root : B.root ≡ t.root.now = ap (λ z. z.0) (sym w.2) in
         let any = one_with (λ P. has_root P B.root) Ps from.1 in
         let own = book_of any.0 any.1 B.root any.2 any.3 in
         let same : own.0 ≡ B = is_only (λ C. path_eq C.root B.root) books own.0 from.0.0 B own.1.alone from.0.1 (path_itself B.root B.root refl) in
         record {
           book = B;
-          same = w.2;
+          same = sym w.2;
           is = subst (λ q. IsBookOf q B) root (subst (λ C. IsBookOf B.root C) same own.1);
           legal = all_at IsBook dues k B are.legal w.1;
           due = subst (λ q. list_any (λ P. has_root P q) Ps ≡ true) root from.1;
@@ -205,8 +205,8 @@ module _ (S : State) (Ps : List Parts) (books : List BookValue) (jobs : List Job
     placed j P r at has =
         let b = book_of j P r at has in
         let at_root = ap (λ zs. slice_get zs b.1.place) are.values ∙ map_at of_book dues b.1.place b.0 b.1.there in
-        let w = mapped of_tree trees b.1.place (of_book b.0) at_root in
-        (b.1.place, (w.0, w.1, ap (λ z. z.0) w.2 ∙ b.1.root))
+        let w = map_get of_tree trees b.1.place (of_book b.0) at_root in
+        (b.1.place, (w.0, w.1, ap (λ z. z.0) (sym w.2) ∙ b.1.root))
 
     legal_at : (j : ℕ) (P : Parts) (r : Path) → slice_get Ps j ≡ Some P → has_root P r ≡ true → IsLegal Ps r (replicas_of S r) (history_at books r)
     legal_at j P r at has =

@@ -4,7 +4,7 @@ use Rattle.std.specs.Prelude.{ℕ, slice_get, nat_lt, MatchOption}
 use Rattle.std.proofs.lemmas.Bool.{cases_lt}
 use Rattle.std.proofs.lemmas.Bool.Decides.{nat_tests}
 use Rattle.std.proofs.lemmas.Option.{slice_get_within}
-use Rattle.hub_schedule.specs.Laws.Lists.{also_here}
+use Rattle.hub_text.specs.ListLaws.{also-here}
 use Rattle.hub_job.specs.JobValue.{JobValue}
 use Rattle.hub_runner.specs.Inconsistent.{AllAreBelow, IsLeastFrom, lower, lower_of}
 
@@ -16,21 +16,21 @@ LeastUpTo jobs i n (Some j) =
     × ((k : ℕ) (J : JobValue) → k < i → slice_get jobs k ≡ Some J → n ≤ J.number → j ≤ J.number)
 
 below_more : (jobs : List JobValue) (i n : ℕ) (J : JobValue) (o : Option ℕ) → slice_get jobs i ≡ Some J → J.number < n → LeastUpTo jobs i n o → LeastUpTo jobs (i + 1) n o
-below_more jobs i n J None at below least = also_here (λ (K : JobValue). K.number < n) jobs i J at below least
+below_more jobs i n J None at below least = also-here (λ (K : JobValue). K.number < n) jobs i J at below least
 below_more jobs i n J (Some j) at below least =
-    (least.0, least.1, also_here (λ (K : JobValue). n ≤ K.number → j ≤ K.number) jobs i J at (λ h. absurd (omega (arith, h, below))) least.2)
+    (least.0, least.1, also-here (λ (K : JobValue). n ≤ K.number → j ≤ K.number) jobs i J at (λ h. absurd (omega (arith, h, below))) least.2)
 
 within_more : (jobs : List JobValue) (i n : ℕ) (J : JobValue) (o : Option ℕ) → slice_get jobs i ≡ Some J → n ≤ J.number → LeastUpTo jobs i n o → LeastUpTo jobs (i + 1) n (lower_of o J.number)
 within_more jobs i n J None at within least =
-    (within, (i, J, at, refl), also_here (λ (K : JobValue). n ≤ K.number → J.number ≤ K.number) jobs i J at (λ h. omega arith) (λ k K h e m. absurd (let b = least k K h e in omega (arith, b, m))))
+    (within, (i, J, at, refl), also-here (λ (K : JobValue). n ≤ K.number → J.number ≤ K.number) jobs i J at (λ h. omega arith) (λ k K h e m. absurd (let b = least k K h e in omega (arith, b, m))))
 within_more jobs i n J (Some j) at within least =
     elim (cases_lt J.number j) [
       | inl less ↦ let is : min j J.number ≡ J.number = omega arith in
           subst (λ m. LeastUpTo jobs (i + 1) n (Some m)) (sym is)
-          (within, (i, J, at, refl), also_here (λ (K : JobValue). n ≤ K.number → J.number ≤ K.number) jobs i J at (λ h. omega arith) (λ k K h e m. let b = least.2 k K h e m in omega (arith, b, less)))
+          (within, (i, J, at, refl), also-here (λ (K : JobValue). n ≤ K.number → J.number ≤ K.number) jobs i J at (λ h. omega arith) (λ k K h e m. let b = least.2 k K h e m in omega (arith, b, less)))
       | inr more ↦ let is : min j J.number ≡ j = omega arith in
           subst (λ m. LeastUpTo jobs (i + 1) n (Some m)) (sym is)
-          (least.0, least.1, also_here (λ (K : JobValue). n ≤ K.number → j ≤ K.number) jobs i J at (λ h. more) least.2)
+          (least.0, least.1, also-here (λ (K : JobValue). n ≤ K.number → j ≤ K.number) jobs i J at (λ h. more) least.2)
     ]
 
 by_test : (jobs : List JobValue) (i n : ℕ) (J : JobValue) (o : Option ℕ) (b : Bool) → nat_lt J.number n ≡ b → slice_get jobs i ≡ Some J → LeastUpTo jobs i n o → LeastUpTo jobs (i + 1) n (cond b o (lower_of o J.number))

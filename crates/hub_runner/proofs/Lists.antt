@@ -2,14 +2,13 @@
 use Rattle.std.proofs.Common.{◌≡◌, ◌<◌, ◌≤◌, ◌+◌, Bool, true, false, cond, ◌||◌, List, [], ◌∷◌, ◌++◌, length, map, filter, Some, None, refl, ap, sym, ◌∙◌, subst, arith}
 use Rattle.std.specs.Prelude.{ℕ, zero, suc, All, slice_get, find}
 use Rattle.std.specs.List.{flat_map, list_any, range_with_len}
-use Rattle.std.proofs.lemmas.Option.{slice_get_within}
+use Rattle.std.proofs.lemmas.Option.{same_Some, slice_get_within}
 use Rattle.std.proofs.lemmas.List.Elements.{All-nil, All-cons, All-head, All-tail}
-use Rattle.hub_schedule.specs.Laws.Lists.{one_value}
 
 -- Each element.
 pub all_at : {X : Type 0} (Q : X → Type 0) (xs : List X) (k : ℕ) (x : X) → All Q xs → slice_get xs k ≡ Some x → Q x
 all_at Q [] k x all e = cc
-all_at Q (y ∷ xs) zero x all e = subst Q (one_value y x e) (All-head Q y xs all)
+all_at Q (y ∷ xs) zero x all e = subst Q (same_Some y x e) (All-head Q y xs all)
 all_at Q (y ∷ xs) (suc k) x all e = all_at Q xs k x (All-tail Q y xs all) e
 
 pub all_front : {X : Type 0} (Q : X → Type 0) (xs ys : List X) → All Q (xs ++ ys) → All Q xs
@@ -22,7 +21,7 @@ all_rest Q (x ∷ xs) ys all = all_rest Q xs ys (All-tail Q x (xs ++ ys) all)
 
 pub all_flat : {A X : Type 0} (Q : X → Type 0) (f : A → List X) (items : List A) (k : ℕ) (a : A) → All Q (flat_map f items) → slice_get items k ≡ Some a → All Q (f a)
 all_flat Q f [] k a all e = cc
-all_flat Q f (b ∷ items) zero a all e = subst (λ c. All Q (f c)) (one_value b a e) (all_front Q (f b) (flat_map f items) all)
+all_flat Q f (b ∷ items) zero a all e = subst (λ c. All Q (f c)) (same_Some b a e) (all_front Q (f b) (flat_map f items) all)
 all_flat Q f (b ∷ items) (suc k) a all e = all_flat Q f items k a (all_rest Q (f b) (flat_map f items) all) e
 
 pub all_range : {X : Type 0} (Q : X → Type 0) (f : ℕ → X) (a n j : ℕ) → All Q (map f (range_with_len a n)) → j < n → Q (f (a + j))
@@ -41,7 +40,7 @@ module _ {X : Type 0} (p : X → Bool) where
   one_later y xs x w = ((suc w.0.0, w.0.1), w.1)
 
   here_or_later : (y : X) (xs : List X) (k : ℕ) (x : X) → p y ≡ true → slice_get (y ∷ filter p xs) k ≡ Some x → ((i : ℕ) → slice_get (filter p xs) i ≡ Some x → IsPassed xs x) → IsPassed (y ∷ xs) x
-  here_or_later y xs zero x is h later = ((0, h), subst (λ z. p z ≡ true) (one_value y x h) is)
+  here_or_later y xs zero x is h later = ((0, h), subst (λ z. p z ≡ true) (same_Some y x h) is)
   here_or_later y xs (suc k) x is h later = one_later y xs x (later k h)
 
   pub passed : (xs : List X) (k : ℕ) (x : X) → slice_get (filter p xs) k ≡ Some x → ((i : ℕ) × (slice_get xs i ≡ Some x)) × (p x ≡ true)
@@ -55,7 +54,7 @@ module _ {X : Type 0} (p : X → Bool) where
   pub passes : (xs : List X) (k : ℕ) (x : X) → slice_get xs k ≡ Some x → p x ≡ true → (i : ℕ) × (slice_get (filter p xs) i ≡ Some x)
   passes [] k x e is = cc
   passes (y ∷ xs) zero x e is =
-      let here : p y ≡ true = subst (λ z. p z ≡ true) (sym (one_value y x e)) is in
+      let here : p y ≡ true = subst (λ z. p z ≡ true) (sym (same_Some y x e)) is in
       (0, ap (λ b. slice_get (cond b (y ∷ filter p xs) (filter p xs)) 0) here ∙ e)
   passes (y ∷ xs) (suc k) x e is =
       let w = passes xs k x e is in
@@ -82,7 +81,7 @@ module _ {X : Type 0} (p : X → Bool) where
   only xs e = single (filter p xs) e
 
   in_single : (ys : List X) (y x : X) (i : ℕ) → ys ≡ y ∷ [] → slice_get ys i ≡ Some x → y ≡ x
-  in_single ys y x zero e h = one_value y x (sym (ap (λ zs. slice_get zs 0) e) ∙ h)
+  in_single ys y x zero e h = same_Some y x (sym (ap (λ zs. slice_get zs 0) e) ∙ h)
   in_single ys y x (suc i) e h = let no : None ≡ Some x = sym (ap (λ zs. slice_get zs (suc i)) e) ∙ h in cc
 
   pub is_only : (xs : List X) (y : X) (k : ℕ) (x : X) → filter p xs ≡ y ∷ [] → slice_get xs k ≡ Some x → p x ≡ true → y ≡ x
@@ -111,10 +110,10 @@ module _ {X : Type 0} (p : X → Bool) where
   same_place [] i k x y few e is f too = cc
   same_place (z ∷ xs) zero zero x y few e is f too = refl
   same_place (z ∷ xs) zero (suc k) x y few e is f too =
-      let here : p z ≡ true = subst (λ w. p w ≡ true) (sym (one_value z x e)) is in
+      let here : p z ≡ true = subst (λ w. p w ≡ true) (sym (same_Some z x e)) is in
       absurd (none_passes xs k y (none_else z xs here few) f too)
   same_place (z ∷ xs) (suc i) zero x y few e is f too =
-      let here : p z ≡ true = subst (λ w. p w ≡ true) (sym (one_value z y f)) too in
+      let here : p z ≡ true = subst (λ w. p w ≡ true) (sym (same_Some z y f)) too in
       absurd (none_passes xs i x (none_else z xs here few) e is)
   same_place (z ∷ xs) (suc i) (suc k) x y few e is f too = ap suc (same_place xs i k x y (less z xs few) e is f too)
 
@@ -142,12 +141,6 @@ count_map p f (x ∷ xs) =
       | true ↦ omega (arith, rest)
       | false ↦ rest
     ]
-
--- Elements of a list that is mapped.
-pub mapped : {X Y : Type 0} (f : X → Y) (xs : List X) (k : ℕ) (y : Y) → slice_get (map f xs) k ≡ Some y → (x : X) × (slice_get xs k ≡ Some x) × (f x ≡ y)
-mapped f [] k y e = cc
-mapped f (x ∷ xs) zero y e = (x, refl, one_value (f x) y e)
-mapped f (x ∷ xs) (suc k) y e = mapped f xs k y e
 
 -- No element passes.
 pub none_any : {X : Type 0} (t : X → Bool) (xs : List X) → ((k : ℕ) (x : X) → slice_get xs k ≡ Some x → t x ≡ false) → list_any t xs ≡ false

@@ -4,7 +4,7 @@ use Rattle.std.specs.Prelude.{ℕ, zero, suc, All, slice_get, fold}
 use Rattle.std.specs.List.{list_any, range_with_len}
 use Rattle.std.proofs.lemmas.Bool.{false≢true, or_cases}
 use Rattle.std.proofs.lemmas.List.Elements.{All-head, All-tail}
-use Rattle.hub_schedule.specs.Laws.Lists.{one_value}
+use Rattle.std.proofs.lemmas.Option.{same_Some}
 use Rattle.hub_reconcile.specs.Laws.Views.{same_paths}
 use Rattle.hub_path.specs.Path.{Path, path_eq}
 use Rattle.hub_path.specs.declared.side.Side.TheVariants.{Left, Right}
@@ -85,7 +85,7 @@ all_stay r (P ∷ Ps) rs e = all_stay r Ps (with_all rs P) (stays r P.roots rs e
 
 all_come : (r : Path) (Ps : List Parts) (rs : List Path) (j : ℕ) (P : Parts) → slice_get Ps j ≡ Some P → has_root P r ≡ true → is_in r (fold with_all rs Ps) ≡ true
 all_come r [] rs j P at has = cc
-all_come r (Q ∷ Ps) rs zero P at has = all_stay r Ps (with_all rs Q) (comes r Q.roots rs (subst (λ (p : Parts). has_root p r ≡ true) (sym (one_value Q P at)) has))
+all_come r (Q ∷ Ps) rs zero P at has = all_stay r Ps (with_all rs Q) (comes r Q.roots rs (subst (λ (p : Parts). has_root p r ≡ true) (sym (same_Some Q P at)) has))
 all_come r (Q ∷ Ps) rs (suc j) P at has = all_come r Ps (with_all rs Q) j P at has
 
 -- Each root of a profile is among the roots.

@@ -1,8 +1,9 @@
 use Rattle.std.proofs.Common.{◌≡◌, false, refl, arith}
 use Rattle.std.proofs.lemmas.Option.{slice_get_read, slice_get_within}
+use Rattle.hub_text.specs.ListLaws.{also-here}
 use Rattle.hub_profile.specs.Parts.{Parts}
 use Rattle.hub_reach.specs.Reach.{has_root}
-use Rattle.hub_schedule.specs.Laws.Lists.{listed, also_here}
+use Rattle.hub_schedule.specs.Laws.Lists.{listed}
 use Rattle.hub_runner.proofs.Lists.{none_any}
 use Rattle.hub_runner.proofs.by_number.find_root.Goals as goal
 
@@ -22,7 +23,7 @@ loop-profile-preserved c =
     let Ps = c.args.profiles.now in
     let i = c.loop-profile.profile-index in
     let P = c.profile-item.result in
-    also_here (λ (Q : Parts). has_root Q c.args.root.now ≡ false) Ps i P (slice_get_read Ps _ i P refl c.loop-profile-test.true c.profile-item.is) c.in_default.ensures c.loop-profile.invariant
+    also-here (λ (Q : Parts). has_root Q c.args.root.now ≡ false) Ps i P (slice_get_read Ps _ i P refl c.loop-profile-test.true c.profile-item.is) c.in_default.ensures c.loop-profile.invariant
 
 pub returns : goal.returns
 returns c =

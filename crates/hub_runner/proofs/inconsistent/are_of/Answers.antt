@@ -1,7 +1,7 @@
 use Rattle.std.proofs.Common.{◌≡◌, refl, sym, ◌∙◌, arith}
 use Rattle.std.proofs.lemmas.Bool.{iff_false}
 use Rattle.std.proofs.lemmas.Option.{slice_get_read, slice_get_within}
-use Rattle.hub_schedule.specs.Laws.Lists.{also_here}
+use Rattle.hub_text.specs.ListLaws.{also-here}
 use Rattle.hub_job.specs.JobValue.{JobValue}
 use Rattle.hub_runner.specs.Inconsistent.{IsOf}
 use Rattle.hub_runner.proofs.inconsistent.are_of.Goals as goal
@@ -29,7 +29,7 @@ loop-job-preserved c =
       | else-number-via-then-number+else-not-made_for w ↦ λ is. w.made_for.ensures.0 w.if-not-made_for.false
       | else-number-via-else-number w ↦ λ is. absurd (w.if-number.false (c.number.ensures.value ∙ is))
     ] in
-    also_here (λ (K : JobValue). K.number ≡ c.args.number → IsOf c.args.profile.now c.args.archive.now K) jobs i J
+    also-here (λ (K : JobValue). K.number ≡ c.args.number → IsOf c.args.profile.now c.args.archive.now K) jobs i J
     (slice_get_read jobs _ i J refl c.loop-job-test.true c.job-item.is) here (λ k K h at is. c.loop-job.invariant k K h at is)
 
 pub returns : goal.returns

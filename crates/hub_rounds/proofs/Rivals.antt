@@ -1,8 +1,7 @@
 -- Lists to which items are added.
-use Rattle.std.proofs.Common.{◌≡◌, ◌⊎◌, inl, inr, ⊎_elim, ◌≤◌, ℕ, zero, suc, List, [], ◌∷◌, ◌++◌, length, Some, refl, ap, subst, sym, arith}
-use Rattle.std.specs.Prelude.{slice_get}
-use Rattle.std.proofs.lemmas.Option.{same_Some, slice_get_within}
-use Rattle.hub_cert.specs.Matched.{snoc-new, snoc-old}
+use Rattle.std.proofs.Common.{⊎_elim, ◌≤◌, ℕ, List, [], ◌∷◌, ◌++◌, length, subst, sym, arith}
+use Rattle.std.proofs.lemmas.Option.{none-some, slice_get_within}
+use Rattle.hub_text.specs.ListLaws.{snoc-cases, snoc-new, snoc-old}
 use Rattle.hub_cert.specs.declared.fault.CheckFault.{CheckFault}
 use Rattle.hub_rounds.specs.Lines.{HasPair}
 use Rattle.hub_rounds.specs.Rounds.{ArePlaced, AreRivals, AreUsed, IsInRound, IsPlaced, MayJoin, Opens}
@@ -10,19 +9,9 @@ use Rattle.hub_rounds.specs.declared.placing.Placed.{Placed}
 use Rattle.hub_rounds.specs.declared.placing.Placing.{Placing}
 use Rattle.hub_rounds.specs.declared.placing.Placing.TheVariants.{Left, Round}
 
--- An item of a list with one more.
-pub snoc-cases : {X : Type 0} (xs : List X) (x y : X) (j : ℕ) → slice_get (xs ++ x ∷ []) j ≡ Some y → (slice_get xs j ≡ Some y) ⊎ ((j ≡ length xs) × (x ≡ y))
-snoc-cases [] x y zero e = inr (refl, same_Some x y e)
-snoc-cases [] x y (suc j) e = cc
-snoc-cases (z ∷ zs) x y zero e = inl e
-snoc-cases (z ∷ zs) x y (suc j) e = ⊎_elim (λ h. inl h) (λ h. inr (ap suc h.0, h.1)) (snoc-cases zs x y j e)
-
 -- No rivals, and one more.
 pub no-rivals : (es : List CheckFault) (ps : List Placed) → AreRivals es ps []
-no-rivals es ps = record { placed = λ m i at. absurd (gone m i at); clash = λ m n i j l at_i at_j. absurd (gone m i at_i) }
-  where
-    gone : (n x : ℕ) → slice_get [] n ≡ Some x → ⊥
-    gone n x e = cc
+no-rivals es ps = record { placed = λ m i at. absurd (none-some i at); clash = λ m n i j l at_i at_j. absurd (none-some i at_i) }
 
 pub one-rival-more : (es : List CheckFault) (ps : List Placed) (ns : List ℕ) (k : ℕ) → AreRivals es ps ns → MayJoin es ps ns k → AreRivals es ps (ns ++ k ∷ [])
 one-rival-more es ps ns k are may = record {
@@ -42,10 +31,7 @@ placed-still es n m i (Round k) l h = omega (arith, l, h)
 placed-still es n m i (Left why) l h = h
 
 pub none-placed : (es : List CheckFault) (n : ℕ) → ArePlaced es n []
-none-placed es n = λ i p at. absurd (gone i p at)
-  where
-    gone : (i : ℕ) (p : Placed) → slice_get [] i ≡ Some p → ⊥
-    gone i p e = cc
+none-placed es n = λ i p at. absurd (none-some p at)
 
 pub one-placed-more : (es : List CheckFault) (n m : ℕ) (ps : List Placed) (p : Placed) → n ≤ m → IsPlaced es m (length ps) p.placing → ArePlaced es n ps → ArePlaced es m (ps ++ p ∷ [])
 one-placed-more es n m ps p l is are = λ i q at. ⊎_elim

@@ -1,7 +1,7 @@
 use Rattle.std.proofs.Common.{◌∙◌, ⊎_elim, ℕ, get_or, sym, ap, subst, arith}
 use Rattle.std.proofs.lemmas.Option.{get_or_from_slice_get, slice_get_within}
+use Rattle.hub_text.specs.ListLaws.{less-or-same}
 use Rattle.hub_rounds.specs.Lines.{HasPair}
-use Rattle.hub_cert.specs.Matched.{less-or-same}
 use Rattle.hub_rounds.proofs.clique.may_join.Goals as goal
 
 pub loop-rival-init : goal.loop-rival-init

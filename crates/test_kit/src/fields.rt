@@ -2,6 +2,7 @@
 use crate::escapes::text_of;
 use anyhow::{Context, Result, bail, ensure};
 use hub_path::RelPath;
+use hub_tree::{Blob, Contents};
 use std::alloc::Global;
 
 /// Cuts a text at its first space. What isn't there is empty.
@@ -44,4 +45,17 @@ pub fn path_of(alloc: Global, field: &str) -> Result<RelPath> {
         return Ok(RelPath::top(alloc));
     }
     Ok(RelPath::read(alloc, field)?)
+}
+
+/// The contents that a field is: `d` is a directory, `-` is nothing, and `f:` and a text is a file with the bytes of that text.
+pub fn contents_of(alloc: Global, field: &str) -> Result<Contents> {
+    if let Some(text) = field.strip_prefix("f:") {
+        let bytes = text.as_bytes().to_vec(alloc)?;
+        return Ok(Contents::File(Blob::new(bytes)?));
+    }
+    match field {
+        "d" => Ok(Contents::Directory),
+        "-" => Ok(Contents::Absent),
+        _ => bail!("no contents: {field}"),
+    }
 }

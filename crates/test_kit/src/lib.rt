@@ -2,8 +2,8 @@
 //!
 //! - [`answer_each`] reads the table on standard input, and writes `QUESTION => ANSWER` for each question. A program whose lines
 //!   give something to the questions below them is an [`Answers`], and calls [`answer_table`].
-//! - [`cut`], [`first`], [`two`] and [`three`] split a question; [`bytes_of`], [`text_of`], [`character_of`] and
-//!   [`path_of`] read a field.
+//! - [`cut`], [`first`], [`two`] and [`three`] split a question; [`bytes_of`], [`text_of`], [`character_of`], [`path_of`] and
+//!   [`contents_of`] read a field.
 //! - [`answers_to_steps`] answers steps, one after another. What takes them is a [`Subject`].
 //! - [`yes_or_no`], [`shown`], [`quoted`], [`in_one_line`], [`list_text`], [`outcome_text`] and [`digit`] write answers.
 //!
@@ -32,6 +32,6 @@ mod table;
 
 pub use answers::{digit, in_one_line, list_text, outcome_text, quoted, shown, word_of, yes_or_no};
 pub use escapes::{bytes_of, text_of};
-pub use fields::{character_of, cut, first, path_of, three, two};
+pub use fields::{character_of, contents_of, cut, first, path_of, three, two};
 pub use steps::{Subject, answers_to_steps};
 pub use table::{Answers, answer_each, answer_table};

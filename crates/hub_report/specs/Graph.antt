@@ -68,20 +68,16 @@ lines_of_profile style P =
 
 -- The profile of that number may break a rule.
 abbrev pub is_breach : ℕ → Subject → Bool
-is_breach i (subject.Pair w o) = false
 is_breach i (subject.Alone p (Breach r)) = p == i
-is_breach i (subject.Alone p (TooLarge r)) = false
-is_breach i subject.Nothing = false
+is_breach i _ = false
 
 abbrev pub has_breach : List CheckFault → ℕ → Bool
 has_breach es i = list_any (λ e. is_breach i (subject_of e)) es
 
 -- Whether it may is too large to decide.
 abbrev pub is_large_breach : ℕ → Subject → Bool
-is_large_breach i (subject.Pair w o) = false
-is_large_breach i (subject.Alone p (Breach r)) = false
 is_large_breach i (subject.Alone p (TooLarge r)) = p == i
-is_large_breach i subject.Nothing = false
+is_large_breach i _ = false
 
 abbrev pub has_large_breach : List CheckFault → ℕ → Bool
 has_large_breach es i = list_any (λ e. is_large_breach i (subject_of e)) es

@@ -172,24 +172,18 @@ fn box_style<'a>(faults: &[CheckFault], number: usize) -> &'a str
 fn has_breach(faults: &[CheckFault], number: usize) -> bool
     ensures { result ≡ graph.has_breach faults.now number }
 {
-    for fault in faults {
-        if is_breach(subject_of(fault), number) {
-            return true;
-        }
-    }
-    false
+    faults
+        .iter()
+        .any(|fault| is_breach(subject_of(fault), number))
 }
 
 /// Returns whether one of the faults is that whether this profile may break a rule is too large to decide.
 fn has_large_breach(faults: &[CheckFault], number: usize) -> bool
     ensures { result ≡ graph.has_large_breach faults.now number }
 {
-    for fault in faults {
-        if is_large_breach(subject_of(fault), number) {
-            return true;
-        }
-    }
-    false
+    faults
+        .iter()
+        .any(|fault| is_large_breach(subject_of(fault), number))
 }
 
 /// Returns whether this profile may break a rule.

@@ -302,8 +302,7 @@ fn too_large_line(alloc: Global, goal: usize, stages: usize) -> Result<String, A
 fn goal_line(alloc: Global, goal: usize, wrong: &str) -> Result<String, AllocError>
     ensures { IfOk result (λ t. string_bytes t ≡ lines.goal_line goal wrong.now) }
 {
-    let goal = format!(in alloc; "{goal}")?;
-    joined(alloc, &["refused: goal ", goal.as_str(), " ", wrong, "\n"])
+    format!(in alloc; "refused: goal {goal} {wrong}\n")
 }
 
 fn not_closed_line(
@@ -322,23 +321,13 @@ fn not_closed_line(
 fn not_closed_text(alloc: Global, stage: usize, class: usize) -> Result<String, AllocError>
     ensures { IfOk result (λ t. string_bytes t ≡ lines.not_closed stage class) }
 {
-    let stage = format!(in alloc; "{stage}")?;
-    let class = format!(in alloc; "{class}")?;
-    let parts = [
-        "stage ",
-        stage.as_str(),
-        " class ",
-        class.as_str(),
-        " NotClosed",
-    ];
-    joined(alloc, &parts)
+    format!(in alloc; "stage {stage} class {class} NotClosed")
 }
 
 fn accepting_line(alloc: Global, goal: usize, stage: usize) -> Result<String, AllocError>
     ensures { IfOk result (λ t. string_bytes t ≡ lines.goal_line goal (lines.accepting stage)) }
 {
-    let stage = format!(in alloc; "{stage}")?;
-    let wrong = joined(alloc, &["stage ", stage.as_str(), " Accepting"])?;
+    let wrong = format!(in alloc; "stage {stage} Accepting")?;
     goal_line(alloc, goal, wrong.as_str())
 }
 
@@ -346,22 +335,14 @@ fn stray_line(alloc: Global, certificate: usize) -> Result<String, AllocError>
     ensures { IfOk result (λ t. string_bytes t ≡ lines.joined
         (codes "refused: certificate " ∷ decimal certificate ∷ codes " Stray\n" ∷ [])) }
 {
-    let certificate = format!(in alloc; "{certificate}")?;
-    joined(
-        alloc,
-        &["refused: certificate ", certificate.as_str(), " Stray\n"],
-    )
+    format!(in alloc; "refused: certificate {certificate} Stray\n")
 }
 
 fn bad_text_line(alloc: Global, line: usize) -> Result<String, AllocError>
     ensures { IfOk result (λ t. string_bytes t ≡ lines.joined
         (codes "fault: certificates line " ∷ decimal line ∷ codes ": BadText\n" ∷ [])) }
 {
-    let line = format!(in alloc; "{line}")?;
-    joined(
-        alloc,
-        &["fault: certificates line ", line.as_str(), ": BadText\n"],
-    )
+    format!(in alloc; "fault: certificates line {line}: BadText\n")
 }
 
 fn alphabet_line(alloc: Global, fault: AutomatonFault) -> Result<String, AllocError>

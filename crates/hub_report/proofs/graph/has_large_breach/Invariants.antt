@@ -1,6 +1,0 @@
-use Rattle.std.proofs.Common.{◌≡◌, drop}
-use Rattle.hub_report.specs.Graph.{has_large_breach}
-use Rattle.hub_report.proofs.graph.has_large_breach.Given as goal
-
-abbrev pub invariant-loop-fault : goal.invariant-loop-fault
-invariant-loop-fault l = has_large_breach l.faults l.number ≡ has_large_breach (drop l.fault-index l.faults) l.number

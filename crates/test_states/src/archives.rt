@@ -4,13 +4,15 @@
 //! - `mark PATH`, `paths` and `marks`: what is there. `marks` has the number of marks, too.
 //! - `copy` makes the second archive a copy of the first, `swap` swaps both, and `same` asks whether they are the same.
 
-use crate::fields::{contents_of, mark_text, paths_text};
+use crate::shown::{mark_text, paths_text};
 use anyhow::{Result, bail, ensure};
 use hub_path::RelPath;
 use hub_tree::{Archive, Mark};
 use std::alloc::Global;
 use std::mem;
-use test_kit::{Subject, answers_to_steps, list_text, outcome_text, path_of, yes_or_no};
+use test_kit::{
+    Subject, answers_to_steps, contents_of, list_text, outcome_text, path_of, yes_or_no,
+};
 
 /// The answers to the steps of two archives.
 pub(crate) fn answers(alloc: Global, steps: &str) -> Result<String> {

@@ -1,6 +1,6 @@
 //! A replica that gets a directory below the last one, again and again.
 
-use crate::fields::mark_text;
+use crate::shown::mark_text;
 use anyhow::Result;
 use hub_path::{Name, RelPath};
 use hub_tree::{Contents, Tree};

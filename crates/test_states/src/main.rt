@@ -20,10 +20,10 @@
 
 mod archives;
 mod devices;
-mod fields;
 mod levels;
 mod reconciliation;
 mod sections;
+mod shown;
 mod states;
 mod trees;
 

@@ -5,13 +5,15 @@
 //! - `count`, `paths` and `entries`: all that is there. An entry of a file has the number of its bytes.
 //! - `copy` makes the second replica a copy of the first, `swap` swaps both, and `same` asks whether they are the same.
 
-use crate::fields::{contents_of, mark_text, paths_text};
+use crate::shown::{mark_text, paths_text};
 use anyhow::{Result, bail};
 use hub_path::{Name, RelPath};
 use hub_tree::{Blob, Stored, Tree};
 use std::alloc::{AllocError, Global};
 use std::mem;
-use test_kit::{Subject, answers_to_steps, bytes_of, list_text, outcome_text, path_of, yes_or_no};
+use test_kit::{
+    Subject, answers_to_steps, bytes_of, contents_of, list_text, outcome_text, path_of, yes_or_no,
+};
 
 /// The digest of a file's bytes, that of its copy, and the bytes.
 pub(crate) fn blob_answer(alloc: Global, field: &str) -> Result<String> {

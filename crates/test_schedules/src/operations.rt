@@ -6,16 +6,15 @@
 //! - the name of a refusal;
 //! - `out of memory`. The replica should then be as it was.
 //!
-//! Contents are `d` for a directory, `-` for nothing, and `f:` and a text for a file with the bytes of that text.
+//! Contents are written as `test_kit::contents_of` says.
 
 use crate::given::{Given, first_of};
 use anyhow::{Result, bail, ensure};
 use hub_cert::ProfileSet;
 use hub_job::{Op, perform};
-use hub_tree::{Blob, Contents};
 use std::alloc::Global;
 use test_cases::answer_text;
-use test_kit::{cut, path_of};
+use test_kit::{contents_of, cut, path_of};
 
 /// What the replica answers to an operation.
 pub(crate) fn answer(given: &mut Given, word: &str, fields: &str) -> Result<String> {
@@ -50,18 +49,5 @@ fn op_of(alloc: Global, word: &str, fields: &str) -> Result<Op> {
         "fetch" => Ok(Op::Fetch(path)),
         "set" => Ok(Op::Set(path, contents_of(alloc, contents)?)),
         _ => bail!("no operation: {word}"),
-    }
-}
-
-/// The contents of a field.
-fn contents_of(alloc: Global, field: &str) -> Result<Contents> {
-    if let Some(text) = field.strip_prefix("f:") {
-        let bytes = text.as_bytes().to_vec(alloc)?;
-        return Ok(Contents::File(Blob::new(bytes)?));
-    }
-    match field {
-        "d" => Ok(Contents::Directory),
-        "-" => Ok(Contents::Absent),
-        _ => bail!("no contents: {field}"),
     }
 }

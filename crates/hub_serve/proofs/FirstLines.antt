@@ -42,7 +42,7 @@ use Rattle.hub_cli.specs.Words.{Request, about}
 use Rattle.hub_serve.specs.declared.task.Task.{Task}
 use Rattle.hub_serve.specs.declared.task.Task.TheVariants as task
 use Rattle.hub_serve.specs.ByRounds.{HasRunByRounds}
-use Rattle.hub_serve.specs.Report.{IsRefusedFor, IsTold, IsTrueOf, Holds, SpellsClashes, SpellsGraph}
+use Rattle.hub_serve.specs.Report.{IsWholeUnlessFailed, IsRefusedFor, IsTold, IsTrueOf, Holds, SpellsClashes, SpellsGraph}
 use Rattle.hub_serve.specs.Report.{SpellsRounds, SpellsRoundsRun, SpellsSafe, SpellsUnsafe, SpellsVerified}
 use Rattle.hub_serve.specs.Rounds.{BeginsAsClash, DrawsClashes, ListsClashes, WritesRounds}
 use Rattle.hub_serve.specs.Runs.{HasRunAs, IsBelow, IsPrevented}
@@ -320,6 +320,16 @@ means : (request : Request) (bytes : List ℕ) (r : Report) (line : List ℕ) (x
     → Means request bytes line (status_of r) x
 means request bytes r line x l e h = subst (Means request bytes line (status_of r)) e (text-means request bytes r line l h)
 
+-- A line is written whole, with its status, unless a call of the output failed.
+told-as : (w : ℕ) {line full text : List ℕ} {failed : Bool} {s code status : ℕ} → take w line ≡ text → (failed ≡ false → take w line ≡ line)
+    → line ≡ full → status ≡ cond failed 2 s → s ≡ code → IsWholeUnlessFailed full code failed text status
+told-as w {failed = failed} e whole l z c = record {
+  written = w;
+  text_is = sym e ∙ ap (take w) l;
+  whole = λ f. sym e ∙ (whole f ∙ l);
+  status_is = z ∙ ap (cond failed 2) c;
+}
+
 -- Only the text of a safe set begins with `safe`,
 pub only_safe : (request : Request) (bytes : List ℕ) (r : Report) (line : List ℕ) (w : ℕ) (s : List ℕ) (failed : Bool) (status : ℕ) → line ≡ text_of r → take w line ≡ codes "safe\n" ++ s
     → (failed ≡ false → take w line ≡ line) → status ≡ cond failed 2 (status_of r) → Holds request bytes r → SpellsSafe (Some request) bytes s failed status
@@ -327,6 +337,8 @@ only_safe request bytes r line w s failed status l e whole z h =
     let front = begins (codes "safe\n") line s w e in
     let says : SaysSafe request bytes line (status_of r) = means request bytes r line SafeStart l (ap start front.whole) h in
     let rest : front.rest ≡ says.below = append_cancel_left (codes "safe\n") front.rest says.below (sym front.whole ∙ says.line_is) in
+    let all : failed ≡ false → take front.written front.rest ≡ front.rest =
+        λ f. front.front ∙ append_cancel_left (codes "safe\n") s front.rest (sym e ∙ (whole f ∙ front.whole)) in
     record {
       of_set = says.asked.of_set;
       is_asked = ap Some says.asked.asked;
@@ -338,10 +350,7 @@ only_safe request bytes r line w s failed status l e whole z h =
       below = says.below;
       full = status_of r;
       below_is = says.below_is;
-      written = front.written;
-      text_is = sym front.front ∙ ap (take front.written) rest;
-      whole = λ f. append_cancel_left (codes "safe\n") s says.below (sym e ∙ (whole f ∙ says.line_is));
-      status_is = z;
+      told = told-as front.written front.front all rest z refl;
     }
 
 -- only that of rounds and of a run by rounds with `rou`,
@@ -355,10 +364,7 @@ rounds-spelled request bytes line w text failed full status e whole z says = rec
   full = line;
   decided = says.decided;
   cut = says.cut;
-  written = w;
-  text_is = sym e;
-  whole = λ f. sym e ∙ whole f;
-  status_is = z ∙ ap (cond failed 2) says.status_is;
+  told = told-as w e whole refl z says.status_is;
 }
 
 run-spelled : (request : Request) (bytes line : List ℕ) (w : ℕ) (text : List ℕ) (failed : Bool) (full status : ℕ) → take w line ≡ text
@@ -373,10 +379,7 @@ run-spelled request bytes line w text failed full status e whole z says = record
   state_is = says.state_is;
   run = says.run;
   was_run = says.was_run;
-  written = w;
-  text_is = sym e ∙ ap (take w) says.line_is;
-  whole = λ f. sym e ∙ (whole f ∙ says.line_is);
-  status_is = z ∙ ap (cond failed 2) says.status_is;
+  told = told-as w e whole says.line_is z says.status_is;
 }
 
 pub only_rounds : (request : Request) (bytes : List ℕ) (r : Report) (line : List ℕ) (w : ℕ) (s : List ℕ) (failed : Bool) (status : ℕ) → line ≡ text_of r
@@ -407,10 +410,7 @@ only_graph request bytes r line w s failed status l e whole z h =
       full = line;
       safe = says.safe;
       drawn = says.drawn;
-      written = w;
-      text_is = sym e;
-      whole = λ f. sym e ∙ whole f;
-      status_is = z ∙ ap (cond failed 2) says.status_is;
+      told = told-as w e whole refl z says.status_is;
     }
 
 -- that of what clashes as a line of it, if the words ask for it,
@@ -421,10 +421,7 @@ clashes-spelled bytes line w text failed full status e whole z says = record {
   spelled = says.spelled;
   full = line;
   listed = says.listed;
-  written = w;
-  text_is = sym e;
-  whole = λ f. sym e ∙ whole f;
-  status_is = z ∙ ap (cond failed 2) says.status_is;
+  told = told-as w e whole refl z says.status_is;
 }
 
 pub only_clashes : (request : Request) (bytes : List ℕ) (r : Report) (line : List ℕ) (w : ℕ) (text : List ℕ) (failed : Bool) (status : ℕ)

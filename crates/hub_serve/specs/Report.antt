@@ -53,8 +53,16 @@ use Rattle.hub_serve.specs.Rounds.{BeginsAsClash, DrawsClashes, ListsClashes, Wr
 use Rattle.hub_serve.specs.Runs.{HasRunAs, IsBelow, IsPrevented}
 use Rattle.hub_serve.specs.Task.{AsksFor, LacksState, task_of}
 
--- The bytes are a bundle whose profiles and rules are a safe set, and this text is what is to follow `safe`: all of it, with
--- the status of the whole, unless a call of the output failed; then it is a prefix, and the status is 2.
+-- A text is the whole of what is to be told, with the status of that, unless a call of the output failed: then it is a prefix,
+-- and the status is 2.
+pub record IsWholeUnlessFailed (full : List ℕ) (full_status : ℕ) (failed : Bool)
+    (text : List ℕ) (status : ℕ) : Type 0 where
+  pub written : ℕ
+  pub text_is : text ≡ take written full
+  pub whole : failed ≡ false → text ≡ full
+  pub status_is : status ≡ (if failed then 2 else full_status)
+
+-- The bytes are a bundle whose profiles and rules are a safe set, and this text is what is to follow `safe`.
 pub record SpellsSafe (asked : Option Request) (bytes text : List ℕ) (failed : Bool)
     (status : ℕ) : Type 0 where
   pub of_set : Question
@@ -67,10 +75,7 @@ pub record SpellsSafe (asked : Option Request) (bytes text : List ℕ) (failed :
   pub below : List ℕ
   pub full : ℕ
   pub below_is : IsBelow to_do (members contents) full below
-  pub written : ℕ
-  pub text_is : text ≡ take written below
-  pub whole : failed ≡ false → text ≡ below
-  pub status_is : status ≡ (if failed then 2 else full)
+  pub told : IsWholeUnlessFailed below full failed text status
 
 -- The bytes are a bundle whose profiles and rules aren't.
 pub record SpellsUnsafe (bytes : List ℕ) : Type 0 where
@@ -86,17 +91,13 @@ pub record SpellsVerified (asked : Option Request) (bytes : List ℕ) : Type 0 w
   pub inductive : AreCertificates (members contents) contents.certificates
   pub safe : IsSafeSet (members contents)
 
--- The words ask for what clashes, and the bytes are a bundle of whose set this text is to say it: all of it, with status 1,
--- unless a call of the output failed; then it is a prefix, and the status is 2.
+-- The words ask for what clashes, and the bytes are a bundle of whose set this text is to say it, with status 1.
 pub record SpellsClashes (bytes text : List ℕ) (failed : Bool) (status : ℕ) : Type 0 where
   pub contents : Contents
   pub spelled : Spells bytes contents
   pub full : List ℕ
   pub listed : ListsClashes (members contents) full
-  pub written : ℕ
-  pub text_is : text ≡ take written full
-  pub whole : failed ≡ false → text ≡ full
-  pub status_is : status ≡ (if failed then 2 else 1)
+  pub told : IsWholeUnlessFailed full 1 failed text status
 
 -- The words ask for rounds, and the bytes are a bundle whose set is cut so. The status is 0 if each profile is in a round and no
 -- goal was too large, else 1.
@@ -108,14 +109,11 @@ pub record SpellsRounds (asked : Option Request) (bytes text : List ℕ) (failed
   pub full : List ℕ
   pub decided : Bool
   pub cut : WritesRounds (members contents) full decided
-  pub written : ℕ
-  pub text_is : text ≡ take written full
-  pub whole : failed ≡ false → text ≡ full
-  pub status_is : status ≡ (if failed then 2 else (if decided then 0 else 1))
+  pub told : IsWholeUnlessFailed full (if decided then 0 else 1) failed text status
 
 -- The words ask for a run by rounds, and the bytes are a bundle whose state the rounds of its set were
--- run on, and this text is to say what they did and left: all of it, unless a call of the output
--- failed. The status is 0 if each round was run and each job is finished, else 3.
+-- run on, and this text is to say what they did and left. The status is 0 if each round was run and
+-- each job is finished, else 3.
 pub record SpellsRoundsRun (asked : Option Request) (bytes text : List ℕ) (failed : Bool)
     (status : ℕ) : Type 0 where
   pub workers : ℕ
@@ -126,10 +124,8 @@ pub record SpellsRoundsRun (asked : Option Request) (bytes text : List ℕ) (fai
   pub state_is : contents.state ≡ Some state
   pub run : RoundsRun
   pub was_run : HasRunByRounds (members contents) workers state run
-  pub written : ℕ
-  pub text_is : text ≡ take written (rounds_run_text run)
-  pub whole : failed ≡ false → text ≡ rounds_run_text run
-  pub status_is : status ≡ (if failed then 2 else (if run.finished then 0 else 3))
+  pub told : IsWholeUnlessFailed (rounds_run_text run) (if run.finished then 0 else 3)
+      failed text status
 
 -- The words ask for a graph of what clashes, and the bytes are a bundle whose set is drawn so. The
 -- status is 0 if it is safe, else 1.
@@ -141,10 +137,7 @@ pub record SpellsGraph (asked : Option Request) (bytes text : List ℕ) (failed 
   pub full : List ℕ
   pub safe : Bool
   pub drawn : DrawsClashes (members contents) full safe
-  pub written : ℕ
-  pub text_is : text ≡ take written full
-  pub whole : failed ≡ false → text ≡ full
-  pub status_is : status ≡ (if failed then 2 else (if safe then 0 else 1))
+  pub told : IsWholeUnlessFailed full (if safe then 0 else 1) failed text status
 
 -- It was asked whether a profile reaches a path, and this is the answer of the first profile of that name.
 pub record ReachIs (request : Request) (Ps : List Parts) (answer : Bool) : Type 0 where

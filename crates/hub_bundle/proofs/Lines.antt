@@ -8,7 +8,7 @@ use denote.Ref.{Bor}
 use Rattle.hub_text.specs.declared.line.Line.{Line}
 use Rattle.hub_text.specs.Lines.{lines_of, line_text, onto_first_line}
 use Rattle.hub_text.specs.LineLaws.{text-first_line, shorter-first_line}
-use Rattle.hub_text.specs.Takes.{of_bytes, TakesBytes}
+use Rattle.hub_text.specs.Takes.{Takes, of_bytes}
 use Rattle.hub_bundle.specs.Bundle.{is_ignorable, is_heading, follows_section, bytes_before_heading, written, stray_line}
 
 -- Bytes begin with a heading exactly when their first line is one.
@@ -68,11 +68,11 @@ skip_line all s t count l so_far e going =
     }
 
 -- One more line.
-pub skip_more : (all s t : List ℕ) (count : ℕ) (r : Option (Line (Bor (List ℕ)))) → SkippedSoFar all s count → TakesBytes s r t → follows_section s ≡ false → SkippedSoFar all t (count + 1)
+pub skip_more : (all s t : List ℕ) (count : ℕ) (r : Option (Line (Bor (List ℕ)))) → SkippedSoFar all s count → Takes of_bytes s r t → follows_section s ≡ false → SkippedSoFar all t (count + 1)
 skip_more all s t count None so_far none going = absurd (false≢true (sym going ∙ ap follows_section none))
 skip_more all s t count (Some l) so_far e going = skip_line all s t count (of_bytes l) so_far e going
 
-pub skip_less : (s t : List ℕ) (r : Option (Line (Bor (List ℕ)))) → TakesBytes s r t → follows_section s ≡ false → length t < length s
+pub skip_less : (s t : List ℕ) (r : Option (Line (Bor (List ℕ)))) → Takes of_bytes s r t → follows_section s ≡ false → length t < length s
 skip_less s t None none going = absurd (false≢true (sym going ∙ ap follows_section none))
 skip_less s t (Some l) e going = shorter-first_line s t (of_bytes l) e
 

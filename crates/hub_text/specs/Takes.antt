@@ -18,42 +18,27 @@ of_bytes l = record { text = l.text.now; is_ended = l.is_ended }
 abbrev pub of_text : Line (Bor (List ℕ)) → Line (List ℕ)
 of_text l = record { text = chars l.text.now; is_ended = l.is_ended }
 
--- A step at the bytes s gives the first of their lines and leaves t, which has the others; at no
--- bytes it gives nothing.
-abbrev pub TakesBytes : List ℕ → Option (Line (Bor (List ℕ))) → List ℕ → Type 0
-TakesBytes s r t = MatchOption r (s ≡ []) (λ l. lines_of s ≡ of_bytes l ∷ lines_of t)
+-- A step at a list s of bytes, or of characters, gives the first of its lines and leaves t, which
+-- has the others; at no bytes it gives nothing.
+abbrev pub Takes : (Line (Bor (List ℕ)) → Line (List ℕ)) → List ℕ
+    → Option (Line (Bor (List ℕ))) → List ℕ → Type 0
+Takes of s r t = MatchOption r (s ≡ []) (λ l. lines_of s ≡ of l ∷ lines_of t)
 
--- The same of a text, by its characters.
-abbrev pub TakesText : List ℕ → Option (Line (Bor (List ℕ))) → List ℕ → Type 0
-TakesText s r t = MatchOption r (s ≡ []) (λ l. lines_of s ≡ of_text l ∷ lines_of t)
-
--- The steps from the bytes, or the text, s on give its lines.
-pub YieldsList-bytes : (s : List ℕ) → YieldsList TakesBytes of_bytes s (lines_of s)
-YieldsList-bytes s =
-    YieldsList-from_shown TakesBytes of_bytes lines_of (λ u t p. ap (λ cs. length (lines_of cs)) p)
-    (λ u x t p. p) s
-
-pub YieldsList-text : (s : List ℕ) → YieldsList TakesText of_text s (lines_of s)
-YieldsList-text s =
-    YieldsList-from_shown TakesText of_text lines_of (λ u t p. ap (λ cs. length (lines_of cs)) p)
+-- The steps from s on give its lines.
+pub YieldsList-lines : (of : Line (Bor (List ℕ)) → Line (List ℕ)) (s : List ℕ)
+    → YieldsList (Takes of) of s (lines_of s)
+YieldsList-lines of s =
+    YieldsList-from_shown (Takes of) of lines_of (λ u t p. ap (λ cs. length (lines_of cs)) p)
     (λ u x t p. p) s
 
 -- The steps of a loop over lines with their numbers, which begin at 0.
-pub numbered_bytes : {s : Enumerate (List ℕ)} (bytes : List ℕ) → enumerate_source s ≡ bytes
-    → enumerate_count s ≡ 0
-    → YieldsList {B = ℕ × Line (List ℕ)} (enumerate_steps TakesBytes) (λ p. (p.0, of_bytes p.1)) s
-    (enumerate_from 0 (lines_of bytes))
-numbered_bytes {s} bytes e c =
-    YieldsList-from_enumerate (subst (λ t. YieldsList TakesBytes of_bytes (enumerate_source s)
-    (lines_of t)) e (YieldsList-bytes (enumerate_source s))) c
-
-pub numbered_text : {s : Enumerate (List ℕ)} (text : List ℕ) → enumerate_source s ≡ text
-    → enumerate_count s ≡ 0
-    → YieldsList {B = ℕ × Line (List ℕ)} (enumerate_steps TakesText) (λ p. (p.0, of_text p.1)) s
-    (enumerate_from 0 (lines_of text))
-numbered_text {s} text e c =
-    YieldsList-from_enumerate (subst (λ t. YieldsList TakesText of_text (enumerate_source s)
-    (lines_of t)) e (YieldsList-text (enumerate_source s))) c
+pub numbered_lines : (of : Line (Bor (List ℕ)) → Line (List ℕ)) {s : Enumerate (List ℕ)}
+    (all : List ℕ) → enumerate_source s ≡ all → enumerate_count s ≡ 0
+    → YieldsList {B = ℕ × Line (List ℕ)} (enumerate_steps (Takes of)) (λ p. (p.0, of p.1)) s
+    (enumerate_from 0 (lines_of all))
+numbered_lines of {s} all e c =
+    YieldsList-from_enumerate (subst (λ t. YieldsList (Takes of) of (enumerate_source s)
+    (lines_of t)) e (YieldsList-lines of (enumerate_source s))) c
 
 -- The item of a turn, and its number.
 pub numbered_turn : {X : Type 0} (xs : List X) (k i : ℕ) (x : X)

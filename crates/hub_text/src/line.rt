@@ -51,9 +51,9 @@ impl<'a> Iterator for Lines<'a> {
 
     ghost use Rattle.std.specs.Prelude.{length};
     ghost use Rattle.std.specs.Iterator.{at_most};
-    ghost use Rattle.hub_text.specs.Takes.{TakesBytes};
+    ghost use Rattle.hub_text.specs.Takes.{Takes, of_bytes};
 
-    ghost next_gives = { TakesBytes };
+    ghost next_gives = { Takes of_bytes };
 
     ghost remaining = { λ s. at_most (length s) };
 
@@ -119,9 +119,9 @@ impl<'a> Iterator for TextLines<'a> {
 
     ghost use Rattle.std.specs.Prelude.{length};
     ghost use Rattle.std.specs.Iterator.{at_most};
-    ghost use Rattle.hub_text.specs.Takes.{TakesText};
+    ghost use Rattle.hub_text.specs.Takes.{Takes, of_text};
 
-    ghost next_gives = { TakesText };
+    ghost next_gives = { Takes of_text };
 
     ghost remaining = { λ s. at_most (length s) };
 

@@ -4,12 +4,13 @@ use Rattle.std.specs.FinMap as fin
 use Rattle.std.specs.FinMap.Entries.{find, is_sorted, below_all}
 use Rattle.std.specs.Cmp.{IsTotalOrder}
 use Rattle.std.specs.List.{list_any}
-use Rattle.std.specs.Option.{is_some}
+use Rattle.std.specs.Option.{is_some, option_or}
 use Rattle.std.specs.Ordering.{eq_by_cmp, is_eq}
 use Rattle.std.specs.declared.cmp.Ordering.{Ordering}
 use Rattle.std.specs.declared.cmp.Ordering.TheVariants.{Less}
 use Rattle.std.proofs.lemmas.Cmp.{tied_itself}
 use Rattle.std.proofs.lemmas.Bool.{false≢true}
+use Rattle.hub_text.specs.ListLaws.{option_or-none}
 use Rattle.hub_text.specs.TestLaws.{T-first, T-second, T-less, is_eq-equal}
 
 -- All entries, from those that were taken, the last one first, and those that follow; and all of them taken.
@@ -24,15 +25,6 @@ onto acc (e ∷ es) = onto (e ∷ acc) es
 pub back-onto : {E : Type 0} (acc es : List E) → back (onto acc es) [] ≡ back acc es
 back-onto acc [] = refl
 back-onto acc (e ∷ es) = back-onto (e ∷ acc) es
-
--- The first one that is there.
-abbrev pub first_of : {X : Type 0} → Option X → Option X → Option X
-first_of None b = b
-first_of (Some x) b = Some x
-
-pub first_of-None : {X : Type 0} (a : Option X) → first_of a None ≡ a
-first_of-None None = refl
-first_of-None (Some x) = refl
 
 not_both : {X : Type 0} (o : Option X) → (is_some o ≡ true → ⊥) → o ≡ None
 not_both None f = refl
@@ -71,12 +63,12 @@ module _ {K X : Type 0} {R : K → K → Ordering} (o : IsTotalOrder R) where
       let n : Some e.1 ≡ None = sym (ap (λ r. cond (is_eq r) (Some e.1) (find R e.0 es)) (tied_itself o e.0)) ∙ taken acc (e ∷ es) e.0 h s in cc)
 
   -- What is found was taken or follows.
-  find-one : (b : Bool) (v : X) (x y : Option X) → (is_some x ≡ true → cond b (Some v) y ≡ None) → first_of x (cond b (Some v) y) ≡ first_of (cond b (Some v) x) y
+  find-one : (b : Bool) (v : X) (x y : Option X) → (is_some x ≡ true → cond b (Some v) y ≡ None) → option_or x (cond b (Some v) y) ≡ option_or (cond b (Some v) x) y
   find-one true v None y f = refl
   find-one true v (Some w) y f = let n : Some v ≡ None = f refl in cc
   find-one false v x y f = refl
 
-  pub find-back : (acc es : List (K × X)) (q : K) → T (is_sorted R (back acc es)) → find R q (back acc es) ≡ first_of (find R q acc) (find R q es)
+  pub find-back : (acc es : List (K × X)) (q : K) → T (is_sorted R (back acc es)) → find R q (back acc es) ≡ option_or (find R q acc) (find R q es)
   find-back [] es q h = refl
   find-back (a ∷ acc) es q h = find-back acc (a ∷ es) q h ∙ find-one (eq_by_cmp R q a.0) a.1 (find R q acc) (find R q es) (taken acc (a ∷ es) q h)
 
@@ -84,15 +76,15 @@ module _ {K X : Type 0} {R : K → K → Ordering} (o : IsTotalOrder R) where
   pub find-before : (acc : List (K × X)) (e : K × X) (es : List (K × X)) (q : K) → T (is_sorted R (back acc (e ∷ es))) → R q e.0 ≡ Less → find R q (back acc (e ∷ es)) ≡ find R q acc
   find-before acc e es q h l =
       find-back acc (e ∷ es) q h
-      ∙ ap (first_of (find R q acc)) (ap (λ r. cond (is_eq r) (Some e.1) (find R q es)) l ∙ find-less_below q e.0 es l (T-first _ _ (sorted-rest acc (e ∷ es) h)))
-      ∙ first_of-None (find R q acc)
+      ∙ ap (option_or (find R q acc)) (ap (λ r. cond (is_eq r) (Some e.1) (find R q es)) l ∙ find-less_below q e.0 es l (T-first _ _ (sorted-rest acc (e ∷ es) h)))
+      ∙ option_or-none (find R q acc)
 
   -- All that were taken make the map.
   pub all_taken : fin.IsAntisymmetric R → (m : fin.FinMap R X) (acc : List (K × X)) → back acc [] ≡ fin.entries m → fin.from_entries {R = R} acc ≡ m
   all_taken same m acc e =
       let sorted : T (is_sorted R (back acc [])) = subst (λ es. T (is_sorted R es)) (sym e) (fin.entries_sorted m) in
       fin.same_map o same (fin.from_entries acc) m (λ q.
-      fin.get-from_entries o acc q ∙ sym (first_of-None (find R q acc)) ∙ sym (find-back acc [] q sorted) ∙ ap (find R q) e ∙ sym (fin.get-entries m q))
+      fin.get-from_entries o acc q ∙ sym (option_or-none (find R q acc)) ∙ sym (find-back acc [] q sorted) ∙ ap (find R q) e ∙ sym (fin.get-entries m q))
 
   pub all_onto : fin.IsAntisymmetric R → (m : fin.FinMap R X) → fin.from_entries {R = R} (onto [] (fin.entries m)) ≡ m
   all_onto same m = all_taken same m (onto [] (fin.entries m)) (back-onto [] (fin.entries m))
@@ -120,5 +112,5 @@ module _ {K X : Type 0} {R : K → K → Ordering} (o : IsTotalOrder R) where
   -- The next entry is among all of them.
   pub next_is_there : (acc : List (K × X)) (e : K × X) (es : List (K × X)) → T (is_sorted R (back acc (e ∷ es))) → find R e.0 (back acc (e ∷ es)) ≡ Some e.1
   next_is_there acc e es h =
-      find-back acc (e ∷ es) e.0 h ∙ ap (λ x. first_of x (find R e.0 (e ∷ es))) (next_is_new acc e es h)
+      find-back acc (e ∷ es) e.0 h ∙ ap (λ x. option_or x (find R e.0 (e ∷ es))) (next_is_new acc e es h)
       ∙ ap (λ r. cond (is_eq r) (Some e.1) (find R e.0 es)) (tied_itself o e.0)

@@ -8,7 +8,7 @@ use Rattle.std.specs.Cmp.Lexicographic.{slice_cmp}
 use Rattle.std.specs.List.{AllByRecursion}
 use Rattle.std.specs.List.Sorted.{IsStrictlySortedBy}
 use Rattle.std.specs.Map.{lookup, keys_of}
-use Rattle.std.specs.Option.{option_map, option_and_then}
+use Rattle.std.specs.Option.{option_map, option_and_then, option_or}
 use Rattle.std.specs.Ordering.{nat_cmp, is_eq, is_lt, eq_by_cmp, match_ordering, ordering_then}
 use Rattle.std.specs.Str.{bytes_eq}
 use Rattle.std.specs.String.{string_cmp}
@@ -22,7 +22,8 @@ use Rattle.hub_tree.specs.Laws.Ascending.{both, is_sorted-from, entries-ascendin
 use Rattle.hub_state.specs.State.{Text}
 use Rattle.hub_state.specs.View.{keyed, by_text, by_two, below, pairs, map_in, pairs_in}
 use Rattle.hub_text.specs.TestLaws.{T-first, T-second, T-less}
-use Rattle.hub_state.proofs.Kept.{first_of, first_of-None, find-tied_below}
+use Rattle.hub_text.specs.ListLaws.{find-append, option_or-none}
+use Rattle.hub_state.proofs.Kept.{find-tied_below}
 use Rattle.hub_state.specs.RootTexts.{is_eq-pair}
 
 -- What is found at a text.
@@ -89,28 +90,19 @@ find-below t u a (f ∷ fs) =
     ∙ ap (cond (eq_by_cmp name_cmp t a && eq_by_cmp name_cmp u f.0) (Some f.1)) (find-below t u a fs)
     ∙ in_row (eq_by_cmp name_cmp t a) (eq_by_cmp name_cmp u f.0) (Some f.1) (find name_cmp u fs)
 
-one_first : {X : Type 0} (b : Bool) (v : X) (o p : Option X) → cond b (Some v) (first_of o p) ≡ first_of (cond b (Some v) o) p
-one_first true v o p = refl
-one_first false v o p = refl
-
-find_both : {K X : Type 0} (R : K → K → Ordering) (q : K) (xs ys : List (K × X)) → find R q (xs ++ ys) ≡ first_of (find R q xs) (find R q ys)
-find_both R q [] ys = refl
-find_both R q (x ∷ xs) ys =
-    ap (cond (eq_by_cmp R q x.0) (Some x.1)) (find_both R q xs ys) ∙ one_first (eq_by_cmp R q x.0) x.1 (find R q xs) (find R q ys)
-
 find-pairs : {X : Type 0} (t u : Text) (ps : List (Text × List (Text × X))) → T (is_sorted name_cmp ps) → find path_cmp (t ∷ u ∷ []) (pairs ps) ≡ option_and_then (find name_cmp u) (find name_cmp t ps)
 find-pairs t u [] h = refl
 find-pairs {X} t u (p ∷ ps) h =
-    find_both path_cmp (t ∷ u ∷ []) (below p.0 p.1) (pairs ps)
-    ∙ ap (λ o. first_of o (find path_cmp (t ∷ u ∷ []) (pairs ps))) (find-below t u p.0 p.1)
-    ∙ ap (first_of (cond (eq_by_cmp name_cmp t p.0) (find name_cmp u p.1) None)) (find-pairs t u ps (T-second _ _ h))
+    find-append path_cmp (t ∷ u ∷ []) (below p.0 p.1) (pairs ps)
+    ∙ ap (λ o. option_or o (find path_cmp (t ∷ u ∷ []) (pairs ps))) (find-below t u p.0 p.1)
+    ∙ ap (option_or (cond (eq_by_cmp name_cmp t p.0) (find name_cmp u p.1) None)) (find-pairs t u ps (T-second _ _ h))
     ∙ by (eq_by_cmp name_cmp t p.0) refl
   where
     by : (b : Bool) → eq_by_cmp name_cmp t p.0 ≡ b
-        → first_of (cond b (find name_cmp u p.1) None) (option_and_then (find name_cmp u) (find name_cmp t ps)) ≡ option_and_then (find name_cmp u) (cond b (Some p.1) (find name_cmp t ps))
+        → option_or (cond b (find name_cmp u p.1) None) (option_and_then (find name_cmp u) (find name_cmp t ps)) ≡ option_and_then (find name_cmp u) (cond b (Some p.1) (find name_cmp t ps))
     by true e =
-        ap (λ o. first_of (find name_cmp u p.1) (option_and_then (find name_cmp u) o)) (find-tied_below name_cmp-total t p.0 ps e (T-first _ _ h))
-        ∙ first_of-None (find name_cmp u p.1)
+        ap (λ o. option_or (find name_cmp u p.1) (option_and_then (find name_cmp u) o)) (find-tied_below name_cmp-total t p.0 ps e (T-first _ _ h))
+        ∙ option_or-none (find name_cmp u p.1)
     by false e = refl
 
 -- Only lists of two texts are keys.
@@ -124,8 +116,8 @@ none_below q h a (f ∷ fs) = ap (λ b. cond b (Some f.1) (find path_cmp q (belo
 none_unlike : {X : Type 0} (q : List Text) → IsUnlike q → (ps : List (Text × List (Text × X))) → find path_cmp q (pairs ps) ≡ None
 none_unlike q h [] = refl
 none_unlike q h (p ∷ ps) =
-    find_both path_cmp q (below p.0 p.1) (pairs ps)
-    ∙ ap (λ o. first_of o (find path_cmp q (pairs ps))) (none_below q h p.0 p.1) ∙ none_unlike q h ps
+    find-append path_cmp q (below p.0 p.1) (pairs ps)
+    ∙ ap (λ o. option_or o (find path_cmp q (pairs ps))) (none_below q h p.0 p.1) ∙ none_unlike q h ps
 
 unlike_short : (r : Ordering) → is_eq (ordering_then r Less) ≡ false
 unlike_short Less = refl

@@ -7,7 +7,7 @@ use Rattle.std.specs.FinMap.Entries.{find, where_key}
 use Rattle.std.specs.List.{AllByRecursion}
 use Rattle.std.specs.List.Sorted.{IsStrictlySortedBy}
 use Rattle.std.specs.Map.{keys_of, values_of}
-use Rattle.std.specs.Option.{option_and_then, is_some}
+use Rattle.std.specs.Option.{option_and_then, option_or, is_some}
 use Rattle.std.specs.Ordering.{eq_by_cmp, is_eq}
 use Rattle.std.specs.declared.cmp.Ordering.TheVariants.{Less}
 use Rattle.std.proofs.lemmas.List.Sums.{sum_by-cons}
@@ -21,7 +21,8 @@ use Rattle.hub_tree.specs.declared.node.Node.TheFolds.{fold-Node, fold_out-Node,
 use Rattle.hub_tree.specs.declared.node.Node.TheViews.{out-Node}
 use Rattle.hub_tree.specs.declared.node.Node.TheOpen.{Node-F, File, Directory}
 use Rattle.hub_tree.specs.Laws.Order.{path_total, path_antisymmetric, same_name, name_itself, path_itself}
-use Rattle.hub_tree.proofs.LookUp.{or_else, find-append, find-below, find-joined, find_top-joined, without}
+use Rattle.hub_text.specs.ListLaws.{find-append, option_or-none}
+use Rattle.hub_tree.proofs.LookUp.{find-below, find-joined, find_top-joined, without}
 
 abbrev len_of : Entries → ℕ
 len_of es = fin.len (fin.from_entries {R = path_cmp} es)
@@ -44,10 +45,6 @@ stepped : (b : Bool) (m n s : ℕ) → s ≡ m + n → cond b s (s + 1) ≡ cond
 stepped true m n s e = e
 stepped false m n s e = omega arith
 
-or_else-none : (o p : Option Contents) → p ≡ None → or_else o p ≡ o
-or_else-none None p e = e
-or_else-none (Some x) p e = refl
-
 found_here : (x : Path × Contents) (xs : Entries) → is_some (find path_cmp x.0 (x ∷ xs)) ≡ true
 found_here x xs = ap (λ b. is_some (cond b (Some x.1) (find path_cmp x.0 xs))) (path_itself x.0)
 
@@ -55,7 +52,7 @@ len_of-append : (xs ys : Entries) → ShareNoPath xs ys → len_of (xs ++ ys) �
 len_of-append [] ys h = let e = len_of-nothing in omega arith
 len_of-append (x ∷ xs) ys h =
     len_of-cons x (xs ++ ys)
-    ∙ ap (λ o. cond (is_some o) (len_of (xs ++ ys)) (len_of (xs ++ ys) + 1)) (find-append path_cmp x.0 xs ys ∙ or_else-none (find path_cmp x.0 xs) (find path_cmp x.0 ys) (h x.0 (found_here x xs)))
+    ∙ ap (λ o. cond (is_some o) (len_of (xs ++ ys)) (len_of (xs ++ ys) + 1)) (find-append path_cmp x.0 xs ys ∙ (ap (option_or (find path_cmp x.0 xs)) (h x.0 (found_here x xs)) ∙ option_or-none (find path_cmp x.0 xs)))
     ∙ stepped (is_some (find path_cmp x.0 xs)) (len_of xs) (len_of ys) (len_of (xs ++ ys)) (len_of-append xs ys (λ q e. h q (found_more (eq_by_cmp path_cmp q x.0) x.1 (find path_cmp q xs) e)))
     ∙ ap (λ n. n + len_of ys) (sym (len_of-cons x xs))
 

@@ -3,12 +3,13 @@ use Rattle.std.proofs.Common.{◌≡◌, ℕ, ◌+◌, ◌<◌, append-nil, Bool
 use Rattle.std.proofs.Math.Seq.{drop-cons, drop-length}
 use Rattle.std.proofs.lemmas.Option.{slice_get_within, get_or_from_slice_get}
 use Rattle.std.specs.List.{slice_get}
-use Rattle.std.specs.Option.{option_and_then, option_map, unwrap_or}
+use Rattle.std.specs.Option.{option_and_then, option_map, option_or, unwrap_or}
 use Rattle.std.specs.FinMap as fin
 use Rattle.std.specs.FinMap.Entries.{where_key, find, find-where_key}
 use Rattle.std.specs.Ordering.{eq_by_cmp, is_eq, ordering_then}
 use Rattle.std.specs.declared.cmp.Ordering.{Ordering}
 use Rattle.std.specs.declared.cmp.Ordering.TheVariants.{Less, Equal, Greater}
+use Rattle.hub_text.specs.ListLaws.{find-append, option_or-none}
 use Rattle.hub_path.specs.Path.{Name, Path, path_cmp, name_cmp}
 use Rattle.hub_tree.specs.Nodes.{Entries, below, begins_with, joined, node_entries, entries_at, entries_of, replica_of, contents_of, kids_of, layer_contents, layer_kids, node_get}
 use Rattle.hub_tree.specs.declared.contents.Contents.{Contents}
@@ -26,18 +27,6 @@ use Rattle.std.specs.Global.{Global}
 use Rattle.std.specs.BTreeMap.{BTreeMap}
 use Rattle.hub_tree.specs.declared.node.Node.TheOpen.{Node-F, File, Directory}
 use Rattle.hub_tree.specs.Laws.Order.{path_total, path_antisymmetric}
-
-abbrev pub or_else : {A : Type 0} → Option A → Option A → Option A
-or_else None o = o
-or_else (Some x) o = Some x
-
-pub or_else-none : {A : Type 0} (o : Option A) → or_else o None ≡ o
-or_else-none None = refl
-or_else-none (Some x) = refl
-
-pub find-append : {K X : Type 0} (R : K → K → Ordering) (q : K) (xs ys : List (K × X)) → find R q (xs ++ ys) ≡ or_else (find R q xs) (find R q ys)
-find-append R q [] ys = refl
-find-append R q (x ∷ xs) ys = elim (eq_by_cmp R q x.0) as (λ b. cond b (Some x.1) (find R q (xs ++ ys)) ≡ or_else (cond b (Some x.1) (find R q xs)) (find R q ys)) [ true ↦ refl | false ↦ find-append R q xs ys ]
 
 -- below a name
 one_below : {X : Type 0} (r s : Ordering) (x : X) (o rest : Option X) → rest ≡ cond (is_eq r) o None → cond (is_eq (ordering_then r s)) (Some x) rest ≡ cond (is_eq r) (cond (is_eq s) (Some x) o) None
@@ -61,8 +50,8 @@ find_top-below k (e ∷ es) = find_top-below k es
 pub without : (k : Name) (q : Path) (es : Entries) → find path_cmp q (where_key path_cmp (λ p. not (begins_with k p)) es) ≡ cond (not (begins_with k q)) (find path_cmp q es) None
 without k q es = find-where_key path_cmp (λ p. not (begins_with k p)) q (λ x t. ap (λ p. not (begins_with k p)) (sym (path_antisymmetric q x t))) es
 
-first_or_rest : {X : Type 0} (b : Bool) (o rest found : Option X) → rest ≡ found → or_else (cond b o None) (cond (not b) rest None) ≡ cond b o found
-first_or_rest true o rest found e = or_else-none o
+first_or_rest : {X : Type 0} (b : Bool) (o rest found : Option X) → rest ≡ found → option_or (cond b o None) (cond (not b) rest None) ≡ cond b o found
+first_or_rest true o rest found e = option_or-none o
 first_or_rest false o rest found e = e
 
 chosen : {X Y : Type 0} (f : X → Option Y) (b : Bool) (x : X) (o : Option X) → cond b (f x) (option_and_then f o) ≡ option_and_then f (cond b (Some x) o)
@@ -73,14 +62,14 @@ pub find-joined : (n : Name) (p : Path) (cs : List (Name × Entries)) → find p
 find-joined n p [] = refl
 find-joined n p (c ∷ cs) =
     find-append path_cmp (n ∷ p) (below c.0 c.1) _
-    ∙ ap (λ o. or_else o (find path_cmp (n ∷ p) (where_key path_cmp (λ q. not (begins_with c.0 q)) (joined cs)))) (find-below n c.0 p c.1)
-    ∙ ap (or_else (cond (eq_by_cmp name_cmp n c.0) (find path_cmp p c.1) None)) (without c.0 (n ∷ p) (joined cs))
+    ∙ ap (λ o. option_or o (find path_cmp (n ∷ p) (where_key path_cmp (λ q. not (begins_with c.0 q)) (joined cs)))) (find-below n c.0 p c.1)
+    ∙ ap (option_or (cond (eq_by_cmp name_cmp n c.0) (find path_cmp p c.1) None)) (without c.0 (n ∷ p) (joined cs))
     ∙ first_or_rest (eq_by_cmp name_cmp n c.0) _ _ _ (find-joined n p cs)
     ∙ chosen (λ es. find path_cmp p es) (eq_by_cmp name_cmp n c.0) c.1 (find name_cmp n cs)
 
 pub find_top-joined : (cs : List (Name × Entries)) → find path_cmp [] (joined cs) ≡ None
 find_top-joined [] = refl
-find_top-joined (c ∷ cs) = find-append path_cmp [] (below c.0 c.1) _ ∙ ap (λ o. or_else o (find path_cmp [] (where_key path_cmp (λ p. not (begins_with c.0 p)) (joined cs)))) (find_top-below c.0 c.1) ∙ without c.0 [] (joined cs) ∙ find_top-joined cs
+find_top-joined (c ∷ cs) = find-append path_cmp [] (below c.0 c.1) _ ∙ ap (λ o. option_or o (find path_cmp [] (where_key path_cmp (λ p. not (begins_with c.0 p)) (joined cs)))) (find_top-below c.0 c.1) ∙ without c.0 [] (joined cs) ∙ find_top-joined cs
 
 pub find-entries : (n : Name) (cs : List (Name × Node)) → find name_cmp n (map (λ c. (c.0, entries_at c.1)) cs) ≡ option_map entries_at (find name_cmp n cs)
 find-entries n [] = refl

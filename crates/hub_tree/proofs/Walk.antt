@@ -5,7 +5,7 @@ use Rattle.std.specs.FinMap.Entries.{find, is_sorted}
 use Rattle.std.specs.List.{flat_map}
 use Rattle.std.specs.List.Sorted.{IsStrictlySortedBy}
 use Rattle.std.specs.Map.{keys_of}
-use Rattle.std.specs.Option.{option_and_then}
+use Rattle.std.specs.Option.{option_and_then, option_or}
 use Rattle.std.specs.Ordering.{eq_by_cmp}
 use Rattle.std.proofs.lemmas.List.{map-append}
 use Rattle.std.proofs.lemmas.Map.Keys.{sorted_head, sorted_tail}
@@ -18,7 +18,8 @@ use Rattle.hub_tree.specs.declared.entries.Level.{Level}
 use Rattle.hub_tree.specs.declared.node.Node.{Node}
 use Rattle.hub_tree.specs.Laws.Ascending.{both, entries-ascending}
 use Rattle.hub_tree.specs.Laws.Children.{sorted_keys}
-use Rattle.hub_tree.proofs.LookUp.{or_else, or_else-none, find-append, find-below, find_top-below, look_up, get_top}
+use Rattle.hub_text.specs.ListLaws.{find-append, option_or-none}
+use Rattle.hub_tree.proofs.LookUp.{find-below, find_top-below, look_up, get_top}
 use Rattle.hub_tree.specs.Laws.Order.{path_total, path_antisymmetric, same_name}
 use Rattle.hub_tree.proofs.Paths.{named, node_paths, all_paths, above_none, all_ascend as paths_ascend}
 
@@ -50,8 +51,8 @@ find_node [] x = refl
 find_node (m ∷ p) x = sym (fin.get-entries (replica_of (kids_of x)) (m ∷ p))
 
 one_of_two : (b : Bool) (r : Path) (x : Node) (o : Option Node) → (b ≡ true → o ≡ None)
-    → or_else (cond b (node_get r x) None) (option_and_then (node_get r) o) ≡ option_and_then (node_get r) (cond b (Some x) o)
-one_of_two true r x o none = ap (λ u. or_else (node_get r x) (option_and_then (node_get r) u)) (none refl) ∙ or_else-none (node_get r x)
+    → option_or (cond b (node_get r x) None) (option_and_then (node_get r) o) ≡ option_and_then (node_get r) (cond b (Some x) o)
+one_of_two true r x o none = ap (λ u. option_or (node_get r x) (option_and_then (node_get r) u)) (none refl) ∙ option_or-none (node_get r x)
 one_of_two false r x o none = refl
 
 find-all : (k : Name) (r : Path) (cs : List (Name × Node)) → IsStrictlySortedBy name_cmp (keys_of cs)
@@ -59,9 +60,9 @@ find-all : (k : Name) (r : Path) (cs : List (Name × Node)) → IsStrictlySorted
 find-all k r [] h = refl
 find-all k r (c ∷ cs) h =
     find-append path_cmp (k ∷ r) (below c.0 (node_all c.1)) (all_entries cs)
-    ∙ ap (λ o. or_else o (find path_cmp (k ∷ r) (all_entries cs))) (find-below k c.0 r (node_all c.1))
-    ∙ ap (λ o. or_else (cond (eq_by_cmp name_cmp k c.0) o None) (find path_cmp (k ∷ r) (all_entries cs))) (find_node r c.1)
-    ∙ ap (or_else (cond (eq_by_cmp name_cmp k c.0) (node_get r c.1) None)) (find-all k r cs (sorted_tail name_cmp c.0 (keys_of cs) h))
+    ∙ ap (λ o. option_or o (find path_cmp (k ∷ r) (all_entries cs))) (find-below k c.0 r (node_all c.1))
+    ∙ ap (λ o. option_or (cond (eq_by_cmp name_cmp k c.0) o None) (find path_cmp (k ∷ r) (all_entries cs))) (find_node r c.1)
+    ∙ ap (option_or (cond (eq_by_cmp name_cmp k c.0) (node_get r c.1) None)) (find-all k r cs (sorted_tail name_cmp c.0 (keys_of cs) h))
     ∙ one_of_two (eq_by_cmp name_cmp k c.0) r c.1 (find name_cmp k cs)
     (λ e. ap (λ n. find name_cmp n cs) (same_name k c.0 e) ∙ above_none c.0 cs (sorted_head name_cmp c.0 (keys_of cs) h))
 
@@ -69,7 +70,7 @@ top_not_all : (cs : List (Name × Node)) → find path_cmp [] (all_entries cs) �
 top_not_all [] = refl
 top_not_all (c ∷ cs) =
     find-append path_cmp [] (below c.0 (node_all c.1)) (all_entries cs)
-    ∙ ap (λ o. or_else o (find path_cmp [] (all_entries cs))) (find_top-below c.0 (node_all c.1)) ∙ top_not_all cs
+    ∙ ap (λ o. option_or o (find path_cmp [] (all_entries cs))) (find_top-below c.0 (node_all c.1)) ∙ top_not_all cs
 
 -- So they are the entries of the map.
 pub entries-replica_of : (cs : List (Name × Node)) → IsStrictlySortedBy name_cmp (keys_of cs) → fin.entries (replica_of cs) ≡ all_entries cs

@@ -1,4 +1,5 @@
-use Rattle.std.proofs.Common.{refl, ap, sym, ◌∙◌, subst}
+use Rattle.std.proofs.Common.{ℕ, refl, ap, sym, ◌∙◌, subst}
+use Rattle.hub_path.specs.Path.{Path}
 use Rattle.hub_path.specs.declared.side.Side.TheVariants.{Left, Right}
 use Rattle.hub_profile.specs.Parts.{Parts, IsProfile}
 use Rattle.hub_job.specs.Run.{root_at}
@@ -10,29 +11,13 @@ use Rattle.hub_schedule.proofs.ended.slot_of.Goals as goal
 
 pub place_of-left-requires : goal.place_of-left-requires
 place_of-left-requires c =
-    let p = c.requires Left in
-    let P = c.profile.result.now in (
-      p.0,
-      (
-        p.1.0,
-        p.1.1,
-        p.1.2 ∙ (ap (λ (Q : Parts). root_at Q Left) (sym c.profile.ensures)
-            ∙ sym (left_is P c.roots-roots.ensures.valid c.roots-roots.result.now c.roots-roots.ensures.value c.index-roots-0.result)),
-      ),
-    )
+    let root = left_is c.profile.result.now c.roots-roots.ensures.valid c.roots-roots.result.now c.roots-roots.ensures.value c.index-roots-0.result ∙ ap (λ (Q : Parts). root_at Q Left) c.profile.ensures in
+    subst (λ (r : Path). (n : ℕ) × IsPlaced c.args.trees.now r n) (sym root) (c.requires Left)
 
 pub place_of-right-requires : goal.place_of-right-requires
 place_of-right-requires c =
-    let p = c.requires Right in
-    let P = c.profile.result.now in (
-      p.0,
-      (
-        p.1.0,
-        p.1.1,
-        p.1.2 ∙ (ap (λ (Q : Parts). root_at Q Right) (sym c.profile.ensures)
-            ∙ sym (right_is P c.roots-roots.ensures.valid c.roots-roots.result.now c.roots-roots.ensures.value c.index-roots-1.result)),
-      ),
-    )
+    let root = right_is c.profile.result.now c.roots-roots.ensures.valid c.roots-roots.result.now c.roots-roots.ensures.value c.index-roots-1.result ∙ ap (λ (Q : Parts). root_at Q Right) c.profile.ensures in
+    subst (λ (r : Path). (n : ℕ) × IsPlaced c.args.trees.now r n) (sym root) (c.requires Right)
 
 pub returns : goal.returns
 returns c =

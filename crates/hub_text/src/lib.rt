@@ -11,9 +11,9 @@
 //!
 //! Contracts see a text as the list of its characters, which are numbers (Unicode scalar values). The definitions are in
 //! `specs/Blanks`, `specs/Lines` and `specs/Exact`. The other files of `specs/` prove general facts for the proofs of the crates above:
-//! `TestLaws` of tests, `LineLaws` and `Takes` of lines, `TextCuts`, `TextParts`, `TextChars`, `Texts`, `Ascii` and
-//! `AsciiWords` of bytes and the characters that they encode, `Reads` of bounded reads of known bytes, and `TextOrder` that the
-//! order of UTF-8 bytes is the order of characters.
+//! `TestLaws` of tests, `ListLaws` of lists, `Fails` of faults, `LineLaws` and `Takes` of lines, `TextCuts`, `TextParts`,
+//! `TextChars`, `Texts`, `Ascii` and `AsciiWords` of bytes and the characters that they encode, `Reads` of bounded reads of known
+//! bytes, and `TextOrder` that the order of UTF-8 bytes is the order of characters.
 //!
 //! Only functions that return a `Result` allocate.
 //!

@@ -23,7 +23,7 @@ use Rattle.hub_report.specs.Starts.{begins, first}
 use Rattle.hub_bundle.specs.declared.input.InputFault.TheVariants.{TurnsSpent}
 use Rattle.hub_serve.specs.Reads.{Reads}
 use Rattle.hub_serve.specs.Rounds.{BeginsAsClash}
-use Rattle.hub_serve.specs.Report.{Holds, SpellsClashes, SpellsGraph, SpellsReach, SpellsRounds, SpellsRoundsRun}
+use Rattle.hub_serve.specs.Report.{Holds, IsWholeUnlessFailed, SpellsClashes, SpellsGraph, SpellsReach, SpellsRounds, SpellsRoundsRun}
 use Rattle.hub_serve.specs.Report.{SpellsSafe, SpellsUnsafe, SpellsVerified, Serves, Answers, AnswersNothing, WritesText}
 use Rattle.hub_serve.proofs.FirstLines.{only_safe, only_clashes, only_graph, only_rounds, only_verified, only_overlaps, only_breaches, only_reached, only_not_reached}
 use Rattle.hub_serve.proofs.Refused.{OverlapsShown, BreachesShown}
@@ -39,11 +39,17 @@ module _ (request : Request) (remaining old new : Option (List ℕ)) (reads : Re
   held : (a : Answers request remaining old new reads write_failed status) → remaining ≡ Some bytes → Holds request bytes a.report
   held a e = subst (λ r. IfSome r (λ bs. Holds request bs a.report)) e a.holds
 
+  -- What was written is the whole text of the answer, unless a call of the output failed.
+  answer-written : (text : List ℕ) (a : Answers request remaining old new reads write_failed status) → old ≡ Some before → new ≡ Some (before ++ text)
+      → IsWholeUnlessFailed a.text (status_of a.report) write_failed text status
+  answer-written text a f g =
+      let is : take a.writes.written a.text ≡ text = appended old new before _ _ a.writes.appends f g in
+      record { written = a.writes.written; text_is = sym is; whole = λ o. sym is ∙ a.writes.whole o; status_is = a.writes.status_is }
+
   safe-written : (text : List ℕ) → Answers request remaining old new reads write_failed status → remaining ≡ Some bytes → old ≡ Some before
       → new ≡ Some (before ++ (codes "safe\n" ++ text)) → SpellsSafe (Some request) bytes text write_failed status
   safe-written text a e f g =
-      only_safe request bytes a.report a.text a.writes.written text write_failed status a.is_text (appended old new before _ _ a.writes.appends f g) a.writes.whole a.writes.status_is
-      (held a e)
+      only_safe request bytes a.report a.text text write_failed status a.is_text (answer-written (codes "safe\n" ++ text) a f g) (held a e)
 
   verified-written : (text : List ℕ) → Answers request remaining old new reads write_failed status → remaining ≡ Some bytes → old ≡ Some before
       → new ≡ Some (before ++ (codes "verified\n" ++ text)) → SpellsVerified (Some request) bytes
@@ -62,21 +68,18 @@ module _ (request : Request) (remaining old new : Option (List ℕ)) (reads : Re
       → SpellsRounds (Some request) bytes (codes "rounds " ++ text) write_failed status
       ⊎ SpellsRoundsRun (Some request) bytes (codes "rounds " ++ text) write_failed status
   rounds-written text a e f g =
-      only_rounds request bytes a.report a.text a.writes.written text write_failed status a.is_text (appended old new before _ _ a.writes.appends f g) a.writes.whole a.writes.status_is
-      (held a e)
+      only_rounds request bytes a.report a.text text write_failed status a.is_text (answer-written (codes "rounds " ++ text) a f g) (held a e)
 
   graph-written : (text : List ℕ) → Answers request remaining old new reads write_failed status → remaining ≡ Some bytes → old ≡ Some before
       → new ≡ Some (before ++ (codes "graph clashes {" ++ text))
       → SpellsGraph (Some request) bytes (codes "graph clashes {" ++ text) write_failed status
   graph-written text a e f g =
-      only_graph request bytes a.report a.text a.writes.written text write_failed status a.is_text (appended old new before _ _ a.writes.appends f g) a.writes.whole a.writes.status_is
-      (held a e)
+      only_graph request bytes a.report a.text text write_failed status a.is_text (answer-written (codes "graph clashes {" ++ text) a f g) (held a e)
 
   clashes-written : (text : List ℕ) → Answers request remaining old new reads write_failed status → Some request ≡ Some (about ask.Clashes) → remaining ≡ Some bytes → old ≡ Some before
       → new ≡ Some (before ++ text) → BeginsAsClash text → SpellsClashes bytes text write_failed status
   clashes-written text a is e f g b =
-      only_clashes request bytes a.report a.text a.writes.written text write_failed status (same_Some request (about ask.Clashes) is) a.is_text
-      (appended old new before _ _ a.writes.appends f g) a.writes.whole a.writes.status_is (held a e) b
+      only_clashes request bytes a.report a.text text write_failed status (same_Some request (about ask.Clashes) is) a.is_text (answer-written text a f g) (held a e) b
 
   reached-written : (text : List ℕ) → Answers request remaining old new reads write_failed status → remaining ≡ Some bytes → old ≡ Some before
       → new ≡ Some (before ++ (codes "reached\n" ++ text)) → SpellsReach (Some request) bytes true

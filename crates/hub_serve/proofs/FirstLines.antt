@@ -1,13 +1,12 @@
 -- What is true of the input if what is written begins with these letters.
-use Rattle.std.proofs.Common.{◌≡◌, ◌≢◌, ◌∙◌, ◌⊎◌, inl, inr, ℕ, Bool, true, false, cond, List, [], ◌∷◌, ◌++◌, take, Some, codes, refl, sym, ap, subst, arith}
+use Rattle.std.proofs.Common.{◌≡◌, ◌≢◌, ◌∙◌, ◌⊎◌, inl, inr, ℕ, Bool, true, false, cond, List, [], ◌∷◌, ◌++◌, length, take, Some, codes, refl, sym, ap, subst, arith}
 use Rattle.std.specs.Prelude.{⊤, string_bytes}
-use Rattle.std.proofs.lemmas.List.{append_cancel_left}
+use Rattle.std.proofs.lemmas.List.{append_cancel_left, take_all}
 use Rattle.std.proofs.lemmas.Option.{get_or_from_slice_get, slice_get_within}
 use Rattle.hub_cert.specs.Refused.{IsRefused}
 use Rattle.hub_cert.specs.Set.{Members, IsSafeSet}
 use Rattle.hub_cert.specs.declared.fault.CheckFault.{CheckFault}
 use Rattle.hub_search.specs.Search.{Disproves}
-use Rattle.hub_state.specs.State.{State}
 use Rattle.hub_state.specs.Writing.{state_text}
 use Rattle.hub_bundle.specs.declared.sections.Contents.{Contents}
 use Rattle.hub_bundle.specs.Sections.{Spells, members}
@@ -34,14 +33,10 @@ use Rattle.hub_report.specs.Run.{error_line}
 use Rattle.hub_report.specs.Starts.{HoldsOfStarts, Start, SafeStart, VerifiedStart, OverlapStart, BreachStart, TooLargeStart}
 use Rattle.hub_report.specs.Starts.{RoundsStart, GraphStart, ReachedStart, NotReachedStart, OtherStart, start, begins}
 use Rattle.hub_report.specs.Starts.{lines-start, refusal-start}
-use Rattle.hub_report.specs.RoundsRun.{rounds_run_text}
-use Rattle.hub_report.specs.declared.rounds_run.RoundsRun.{RoundsRun}
 use Rattle.hub_cli.specs.declared.words.Question.TheVariants as ask
-use Rattle.hub_cli.specs.declared.words.Question.TheVariants.{CheckWithState, Run, RunByRounds, Check, Certify, Verify}
 use Rattle.hub_cli.specs.Words.{Request, about}
 use Rattle.hub_serve.specs.declared.task.Task.{Task}
 use Rattle.hub_serve.specs.declared.task.Task.TheVariants as task
-use Rattle.hub_serve.specs.ByRounds.{HasRunByRounds}
 use Rattle.hub_serve.specs.Report.{IsWholeUnlessFailed, IsRefusedFor, IsTold, IsTrueOf, Holds, SpellsClashes, SpellsGraph}
 use Rattle.hub_serve.specs.Report.{SpellsRounds, SpellsRoundsRun, SpellsSafe, SpellsUnsafe, SpellsVerified}
 use Rattle.hub_serve.specs.Rounds.{BeginsAsClash, DrawsClashes, ListsClashes, WritesRounds}
@@ -93,68 +88,33 @@ error-below : (t : Task) (M : Members) (f : RunError) → IsPrevented t M f → 
 error-below t M f h =
     subst (λ u. IsBelow u M 3 (error_line f)) (sym h.task_is) (inr (record { error = f; reason = h.reason; text = refl; status_is = refl }))
 
--- A text that says of the input that its set is safe: below `safe` is what is to follow it.
-record SaysSafe (request : Request) (bytes line : List ℕ) (status : ℕ) : Type 0 where
-  pub contents : Contents
-  pub spelled : Spells bytes contents
-  pub to_do : Task
-  pub asked : AsksFor request contents.state to_do
-  pub safe : IsSafeSet (members contents)
-  pub below : List ℕ
-  pub below_is : IsBelow to_do (members contents) status below
-  pub line_is : line ≡ codes "safe\n" ++ below
+-- A line that is written whole tells all of what it is, with its status.
+told-line : {line full : List ℕ} {status : ℕ} → line ≡ full → IsWholeUnlessFailed full status false line status
+told-line {full = full} e = record { written = length full; text_is = e ∙ sym (take_all (length full) full (omega arith)); whole = λ f. e; status_is = refl }
 
--- A text that lists what clashes in the set of the input,
-record SaysClashes (bytes line : List ℕ) (status : ℕ) : Type 0 where
-  pub contents : Contents
-  pub spelled : Spells bytes contents
-  pub listed : ListsClashes (members contents) line
-  pub status_is : status ≡ 1
-
--- a text that draws it,
-record SaysGraph (request : Request) (bytes line : List ℕ) (status : ℕ) : Type 0 where
-  pub asked : request ≡ about ask.Graph
-  pub contents : Contents
-  pub spelled : Spells bytes contents
-  pub safe : Bool
-  pub drawn : DrawsClashes (members contents) line safe
-  pub status_is : status ≡ cond safe 0 1
-
--- a text of a run by its rounds,
-record SaysRoundsRun (request : Request) (bytes line : List ℕ) (status : ℕ) : Type 0 where
-  pub workers : ℕ
-  pub asked : request ≡ about (RunByRounds workers)
-  pub contents : Contents
-  pub spelled : Spells bytes contents
-  pub state : State
-  pub state_is : contents.state ≡ Some state
-  pub run : RoundsRun
-  pub was_run : HasRunByRounds (members contents) workers state run
-  pub line_is : line ≡ rounds_run_text run
-  pub status_is : status ≡ run_status run.finished
-
--- and a text of its rounds.
-record SaysRounds (request : Request) (bytes line : List ℕ) (status : ℕ) : Type 0 where
-  pub asked : request ≡ about ask.Rounds
-  pub contents : Contents
-  pub spelled : Spells bytes contents
-  pub decided : Bool
-  pub cut : WritesRounds (members contents) line decided
-  pub status_is : status ≡ cond decided 0 1
+-- What a line tells if it is written whole is told by what is written of it.
+told-whole : {line full text : List ℕ} {failed : Bool} {line_status full_status status : ℕ} → IsWholeUnlessFailed full full_status false line line_status
+    → IsWholeUnlessFailed line line_status failed text status → IsWholeUnlessFailed full full_status failed text status
+told-whole {failed = failed} told wrote = record {
+  written = wrote.written;
+  text_is = wrote.text_is ∙ ap (take wrote.written) (told.whole refl);
+  whole = λ f. wrote.whole f ∙ told.whole refl;
+  status_is = wrote.status_is ∙ ap (cond failed 2) told.status_is;
+}
 
 -- The words ask what clashes: then the text says it.
 abbrev AreClashes : Request → List ℕ → List ℕ → ℕ → Type 0
-AreClashes request bytes line status = request ≡ about ask.Clashes → SaysClashes bytes line status
+AreClashes request bytes line status = request ≡ about ask.Clashes → SpellsClashes bytes line false status
 
 -- What is true of the question and of the input if the text of the answer starts so.
 abbrev Means : Request → List ℕ → List ℕ → ℕ → Start → Type 0
-Means request bytes line status SafeStart = SaysSafe request bytes line status
+Means request bytes line status SafeStart = (below : List ℕ) × (line ≡ codes "safe\n" ++ below) × SpellsSafe (Some request) bytes below false status
 Means request bytes line status VerifiedStart = SpellsVerified (Some request) bytes
 Means request bytes line status OverlapStart = (OverlapsShown → SpellsUnsafe bytes) × AreClashes request bytes line status
 Means request bytes line status BreachStart = (BreachesShown → SpellsUnsafe bytes) × AreClashes request bytes line status
 Means request bytes line status TooLargeStart = AreClashes request bytes line status
-Means request bytes line status RoundsStart = SaysRounds request bytes line status ⊎ SaysRoundsRun request bytes line status
-Means request bytes line status GraphStart = SaysGraph request bytes line status
+Means request bytes line status RoundsStart = SpellsRounds (Some request) bytes line false status ⊎ SpellsRoundsRun (Some request) bytes line false status
+Means request bytes line status GraphStart = SpellsGraph (Some request) bytes line false status
 Means request bytes line status ReachedStart = IsTrueOf request bytes (answer.Reach Reached)
 Means request bytes line status NotReachedStart = IsTrueOf request bytes (answer.Reach NotReached)
 Means request bytes line status OtherStart = ⊤
@@ -192,7 +152,7 @@ clashes-mean request bytes line c spelled h =
     (lines-start (Means request bytes line 1) (members c) h.lines tt (λ n e at. each e (h.disproved e (n, slice_get_within h.lines n e at, get_or_from_slice_get h.lines n e e at))))
   where
     says : AreClashes request bytes line 1
-    says asks = record { contents = c; spelled = spelled; listed = h; status_is = refl }
+    says asks = record { contents = c; spelled = spelled; full = line; listed = h; told = told-line refl }
 
     each : (e : CheckFault) → Disproves (members c) e → HoldsOfStarts (Means request bytes line 1) e
     each e d = record {
@@ -210,20 +170,33 @@ reach-means request bytes NotReached line l h = subst (λ t. Means request bytes
 reach-means request bytes (NoProfile n) line l h = subst (λ t. Means request bytes line 2 (start t)) (sym l) tt
 reach-means request bytes (BadPath f) line l h = subst (λ t. Means request bytes line 2 (start t)) (sym l) tt
 
+-- of that of `safe` with what is to follow it,
+safe-means : (request : Request) (bytes line : List ℕ) (status : ℕ) (c : Contents) (t : Task) (below : List ℕ) → line ≡ codes "safe\n" ++ below → Spells bytes c → AsksFor request c.state t
+    → IsSafeSet (members c) → IsBelow t (members c) status below → Means request bytes line status (start line)
+safe-means request bytes line status c t below l spelled asked safe below_is =
+    subst (λ text. Means request bytes line status (start text)) (sym l) (
+      below,
+      l,
+      record {
+        of_set = asked.of_set;
+        is_asked = ap Some asked.asked;
+        contents = c;
+        spelled = spelled;
+        to_do = t;
+        to_do_is = asked.task_is;
+        safe = safe;
+        below = below;
+        full = status;
+        below_is = below_is;
+        told = told-line refl;
+      },
+    )
+
 -- of a verdict,
 verdict-means : (request : Request) (bytes : List ℕ) (v : Verdict) (line : List ℕ) → line ≡ verdict.text_of v → IsTrueOf request bytes (answer.Verdict v)
     → Means request bytes line 0 (start line)
 verdict-means request bytes Safe line l h =
-    subst (λ t. Means request bytes line 0 (start t)) (sym l) (record {
-      contents = h.contents;
-      spelled = h.spelled;
-      to_do = h.told.to_do;
-      asked = h.told.asked;
-      safe = h.told.told.1;
-      below = [];
-      below_is = check-below h.told.to_do (members h.contents) h.told.told.0;
-      line_is = l;
-    })
+    safe-means request bytes line 0 h.contents h.told.to_do [] l h.spelled h.told.asked h.told.told.1 (check-below h.told.to_do (members h.contents) h.told.told.0)
 verdict-means request bytes Verified line l h =
     let asked = subst (AsksFor request h.contents.state) h.told.told.0 h.told.asked in
     subst (λ t. Means request bytes line 0 (start t)) (sym l) (record {
@@ -244,64 +217,48 @@ clashes-answer-means request bytes (Lines text) line l h =
 clashes-answer-means request bytes (Graph g) line l h =
     let drawn = subst (λ t. DrawsClashes (members h.contents) t g.safe) (sym l) h.told.told.1 in
     subst (λ t. Means request bytes line (cond g.safe 0 1) (start t)) (sym drawn.text_is) (record {
-      asked = asks request h.contents.state task.Graph (subst (AsksFor request h.contents.state) h.told.told.0 h.told.asked);
+      is_asked = ap Some (asks request h.contents.state task.Graph (subst (AsksFor request h.contents.state) h.told.told.0 h.told.asked));
       contents = h.contents;
       spelled = h.spelled;
+      full = line;
       safe = g.safe;
       drawn = drawn;
-      status_is = refl;
+      told = told-line refl;
     })
 clashes-answer-means request bytes (Cut c) line l h =
     let cut = subst (λ t. WritesRounds (members h.contents) t c.decided) (sym l) h.told.told.1 in
     subst (λ t. Means request bytes line (cond c.decided 0 1) (start t)) (sym cut.text_is) (inl (record {
-      asked = asks request h.contents.state task.Rounds (subst (AsksFor request h.contents.state) h.told.told.0 h.told.asked);
+      is_asked = ap Some (asks request h.contents.state task.Rounds (subst (AsksFor request h.contents.state) h.told.told.0 h.told.asked));
       contents = h.contents;
       spelled = h.spelled;
+      full = line;
       decided = c.decided;
       cut = cut;
-      status_is = refl;
+      told = told-line refl;
     }))
 
 -- of a run,
 run-means : (request : Request) (bytes : List ℕ) (a : RunAnswer) (line : List ℕ) → line ≡ runs.text_of a → IsTrueOf request bytes (answer.Run a)
     → Means request bytes line (runs.status_of a) (start line)
 run-means request bytes (Ran r) line l h =
-    subst (λ t. Means request bytes line (run_status r.finished) (start t)) (sym l) (record {
-      contents = h.contents;
-      spelled = h.spelled;
-      to_do = h.told.to_do;
-      asked = h.told.asked;
-      safe = h.told.told.safe;
-      below = string_bytes r.lines ++ state_text r.state;
-      below_is = ran-below h.told.to_do (members h.contents) r h.told.told;
-      line_is = l;
-    })
+    safe-means request bytes line (run_status r.finished) h.contents h.told.to_do (string_bytes r.lines ++ state_text r.state) l h.spelled h.told.asked h.told.told.safe
+    (ran-below h.told.to_do (members h.contents) r h.told.told)
 run-means request bytes (RanByRounds r) line l h =
     let t = h.told.told in
     let asked = asks request h.contents.state (task.RunByRounds t.workers t.state) (subst (AsksFor request h.contents.state) t.task_is h.told.asked) in
     subst (λ ls. Means request bytes line (run_status r.finished) (start ls)) (sym l) (inr (record {
       workers = t.workers;
-      asked = asked.0;
+      is_asked = ap Some asked.0;
       contents = h.contents;
       spelled = h.spelled;
       state = t.state;
       state_is = asked.1;
       run = r;
       was_run = t.run;
-      line_is = l;
-      status_is = refl;
+      told = told-line l;
     }))
 run-means request bytes (NotRun f) line l h =
-    subst (λ t. Means request bytes line 3 (start t)) (sym l) (record {
-      contents = h.contents;
-      spelled = h.spelled;
-      to_do = h.told.to_do;
-      asked = h.told.asked;
-      safe = h.told.told.safe;
-      below = error_line f;
-      below_is = error-below h.told.to_do (members h.contents) f h.told.told;
-      line_is = l;
-    })
+    safe-means request bytes line 3 h.contents h.told.to_do (error_line f) l h.spelled h.told.asked h.told.told.safe (error-below h.told.to_do (members h.contents) f h.told.told)
 
 -- and of the start of the text of every answer.
 text-means : (request : Request) (bytes : List ℕ) (r : Report) (line : List ℕ) → line ≡ text_of r → Holds request bytes r
@@ -320,123 +277,102 @@ means : (request : Request) (bytes : List ℕ) (r : Report) (line : List ℕ) (x
     → Means request bytes line (status_of r) x
 means request bytes r line x l e h = subst (Means request bytes line (status_of r)) e (text-means request bytes r line l h)
 
--- A line is written whole, with its status, unless a call of the output failed.
-told-as : (w : ℕ) {line full text : List ℕ} {failed : Bool} {s code status : ℕ} → take w line ≡ text → (failed ≡ false → take w line ≡ line)
-    → line ≡ full → status ≡ cond failed 2 s → s ≡ code → IsWholeUnlessFailed full code failed text status
-told-as w {failed = failed} e whole l z c = record {
-  written = w;
-  text_is = sym e ∙ ap (take w) l;
-  whole = λ f. sym e ∙ (whole f ∙ l);
-  status_is = z ∙ ap (cond failed 2) c;
-}
-
 -- Only the text of a safe set begins with `safe`,
-pub only_safe : (request : Request) (bytes : List ℕ) (r : Report) (line : List ℕ) (w : ℕ) (s : List ℕ) (failed : Bool) (status : ℕ) → line ≡ text_of r → take w line ≡ codes "safe\n" ++ s
-    → (failed ≡ false → take w line ≡ line) → status ≡ cond failed 2 (status_of r) → Holds request bytes r → SpellsSafe (Some request) bytes s failed status
-only_safe request bytes r line w s failed status l e whole z h =
-    let front = begins (codes "safe\n") line s w e in
-    let says : SaysSafe request bytes line (status_of r) = means request bytes r line SafeStart l (ap start front.whole) h in
-    let rest : front.rest ≡ says.below = append_cancel_left (codes "safe\n") front.rest says.below (sym front.whole ∙ says.line_is) in
-    let all : failed ≡ false → take front.written front.rest ≡ front.rest =
-        λ f. front.front ∙ append_cancel_left (codes "safe\n") s front.rest (sym e ∙ (whole f ∙ front.whole)) in
+pub only_safe : (request : Request) (bytes : List ℕ) (r : Report) (line s : List ℕ) (failed : Bool) (status : ℕ) → line ≡ text_of r
+    → IsWholeUnlessFailed line (status_of r) failed (codes "safe\n" ++ s) status → Holds request bytes r → SpellsSafe (Some request) bytes s failed status
+only_safe request bytes r line s failed status l wrote h =
+    let front = begins (codes "safe\n") line s wrote.written (sym wrote.text_is) in
+    let means_safe : Means request bytes line (status_of r) SafeStart = means request bytes r line SafeStart l (ap start front.whole) h in
+    let below : List ℕ = means_safe.0 in
+    let says : SpellsSafe (Some request) bytes below false (status_of r) = means_safe.2 in
+    let rest : front.rest ≡ below = append_cancel_left (codes "safe\n") front.rest below (sym front.whole ∙ means_safe.1) in
+    let wrote_below : IsWholeUnlessFailed below (status_of r) failed s status = record {
+      written = front.written;
+      text_is = sym front.front ∙ ap (take front.written) rest;
+      whole = λ f. append_cancel_left (codes "safe\n") s below (wrote.whole f ∙ means_safe.1);
+      status_is = wrote.status_is;
+    } in
     record {
-      of_set = says.asked.of_set;
-      is_asked = ap Some says.asked.asked;
+      of_set = says.of_set;
+      is_asked = says.is_asked;
       contents = says.contents;
       spelled = says.spelled;
       to_do = says.to_do;
-      to_do_is = says.asked.task_is;
+      to_do_is = says.to_do_is;
       safe = says.safe;
       below = says.below;
-      full = status_of r;
+      full = says.full;
       below_is = says.below_is;
-      told = told-as front.written front.front all rest z refl;
+      told = told-whole says.told wrote_below;
     }
 
 -- only that of rounds and of a run by rounds with `rou`,
-rounds-spelled : (request : Request) (bytes line : List ℕ) (w : ℕ) (text : List ℕ) (failed : Bool) (full status : ℕ) → take w line ≡ text
-    → (failed ≡ false → take w line ≡ line) → status ≡ cond failed 2 full → SaysRounds request bytes line full
-    → SpellsRounds (Some request) bytes text failed status
-rounds-spelled request bytes line w text failed full status e whole z says = record {
-  is_asked = ap Some says.asked;
-  contents = says.contents;
-  spelled = says.spelled;
-  full = line;
-  decided = says.decided;
-  cut = says.cut;
-  told = told-as w e whole refl z says.status_is;
-}
-
-run-spelled : (request : Request) (bytes line : List ℕ) (w : ℕ) (text : List ℕ) (failed : Bool) (full status : ℕ) → take w line ≡ text
-    → (failed ≡ false → take w line ≡ line) → status ≡ cond failed 2 full → SaysRoundsRun request bytes line full
-    → SpellsRoundsRun (Some request) bytes text failed status
-run-spelled request bytes line w text failed full status e whole z says = record {
-  workers = says.workers;
-  is_asked = ap Some says.asked;
-  contents = says.contents;
-  spelled = says.spelled;
-  state = says.state;
-  state_is = says.state_is;
-  run = says.run;
-  was_run = says.was_run;
-  told = told-as w e whole says.line_is z says.status_is;
-}
-
-pub only_rounds : (request : Request) (bytes : List ℕ) (r : Report) (line : List ℕ) (w : ℕ) (s : List ℕ) (failed : Bool) (status : ℕ) → line ≡ text_of r
-    → take w line ≡ codes "rounds " ++ s → (failed ≡ false → take w line ≡ line) → status ≡ cond failed 2 (status_of r) → Holds request bytes r
+pub only_rounds : (request : Request) (bytes : List ℕ) (r : Report) (line s : List ℕ) (failed : Bool) (status : ℕ) → line ≡ text_of r
+    → IsWholeUnlessFailed line (status_of r) failed (codes "rounds " ++ s) status → Holds request bytes r
     → SpellsRounds (Some request) bytes (codes "rounds " ++ s) failed status ⊎ SpellsRoundsRun (Some request) bytes (codes "rounds " ++ s) failed status
-only_rounds request bytes r line w s failed status l e whole z h =
-    go (means request bytes r line RoundsStart l (ap start (begins (codes "rounds ") line s w e).whole) h)
+only_rounds request bytes r line s failed status l wrote h =
+    go (means request bytes r line RoundsStart l (ap start (begins (codes "rounds ") line s wrote.written (sym wrote.text_is)).whole) h)
   where
-    text : List ℕ
-    text = codes "rounds " ++ s
-
-    go : SaysRounds request bytes line (status_of r) ⊎ SaysRoundsRun request bytes line (status_of r)
-        → SpellsRounds (Some request) bytes text failed status ⊎ SpellsRoundsRun (Some request) bytes text failed status
-    go (inl says) = inl (rounds-spelled request bytes line w text failed (status_of r) status e whole z says)
-    go (inr says) = inr (run-spelled request bytes line w text failed (status_of r) status e whole z says)
-
--- only that of a graph with a g,
-pub only_graph : (request : Request) (bytes : List ℕ) (r : Report) (line : List ℕ) (w : ℕ) (s : List ℕ) (failed : Bool) (status : ℕ) → line ≡ text_of r
-    → take w line ≡ codes "graph clashes {" ++ s → (failed ≡ false → take w line ≡ line) → status ≡ cond failed 2 (status_of r) → Holds request bytes r
-    → SpellsGraph (Some request) bytes (codes "graph clashes {" ++ s) failed status
-only_graph request bytes r line w s failed status l e whole z h =
-    let front = begins (codes "graph clashes {") line s w e in
-    let says : SaysGraph request bytes line (status_of r) = means request bytes r line GraphStart l (ap start front.whole) h in
-    record {
-      is_asked = ap Some says.asked;
+    go : SpellsRounds (Some request) bytes line false (status_of r) ⊎ SpellsRoundsRun (Some request) bytes line false (status_of r)
+        → SpellsRounds (Some request) bytes (codes "rounds " ++ s) failed status ⊎ SpellsRoundsRun (Some request) bytes (codes "rounds " ++ s) failed status
+    go (inl says) = inl (record {
+      is_asked = says.is_asked;
       contents = says.contents;
       spelled = says.spelled;
-      full = line;
+      full = says.full;
+      decided = says.decided;
+      cut = says.cut;
+      told = told-whole says.told wrote;
+    })
+    go (inr says) = inr (record {
+      workers = says.workers;
+      is_asked = says.is_asked;
+      contents = says.contents;
+      spelled = says.spelled;
+      state = says.state;
+      state_is = says.state_is;
+      run = says.run;
+      was_run = says.was_run;
+      told = told-whole says.told wrote;
+    })
+
+-- only that of a graph with a g,
+pub only_graph : (request : Request) (bytes : List ℕ) (r : Report) (line s : List ℕ) (failed : Bool) (status : ℕ) → line ≡ text_of r
+    → IsWholeUnlessFailed line (status_of r) failed (codes "graph clashes {" ++ s) status → Holds request bytes r
+    → SpellsGraph (Some request) bytes (codes "graph clashes {" ++ s) failed status
+only_graph request bytes r line s failed status l wrote h =
+    let front = begins (codes "graph clashes {") line s wrote.written (sym wrote.text_is) in
+    let says : SpellsGraph (Some request) bytes line false (status_of r) = means request bytes r line GraphStart l (ap start front.whole) h in
+    record {
+      is_asked = says.is_asked;
+      contents = says.contents;
+      spelled = says.spelled;
+      full = says.full;
       safe = says.safe;
       drawn = says.drawn;
-      told = told-as w e whole refl z says.status_is;
+      told = told-whole says.told wrote;
     }
 
 -- that of what clashes as a line of it, if the words ask for it,
-clashes-spelled : (bytes line : List ℕ) (w : ℕ) (text : List ℕ) (failed : Bool) (full status : ℕ) → take w line ≡ text
-    → (failed ≡ false → take w line ≡ line) → status ≡ cond failed 2 full → SaysClashes bytes line full → SpellsClashes bytes text failed status
-clashes-spelled bytes line w text failed full status e whole z says = record {
-  contents = says.contents;
-  spelled = says.spelled;
-  full = line;
-  listed = says.listed;
-  told = told-as w e whole refl z says.status_is;
-}
-
-pub only_clashes : (request : Request) (bytes : List ℕ) (r : Report) (line : List ℕ) (w : ℕ) (text : List ℕ) (failed : Bool) (status : ℕ)
-    → request ≡ about ask.Clashes → line ≡ text_of r → take w line ≡ text → (failed ≡ false → take w line ≡ line)
-    → status ≡ cond failed 2 (status_of r) → Holds request bytes r → BeginsAsClash text → SpellsClashes bytes text failed status
-only_clashes request bytes r line w text failed status is l e whole z h b =
-    clashes-spelled bytes line w text failed (status_of r) status e whole z (go b.1)
+pub only_clashes : (request : Request) (bytes : List ℕ) (r : Report) (line text : List ℕ) (failed : Bool) (status : ℕ) → request ≡ about ask.Clashes → line ≡ text_of r
+    → IsWholeUnlessFailed line (status_of r) failed text status → Holds request bytes r → BeginsAsClash text → SpellsClashes bytes text failed status
+only_clashes request bytes r line text failed status is l wrote h b =
+    let says : SpellsClashes bytes line false (status_of r) = go b.1 in
+    record {
+      contents = says.contents;
+      spelled = says.spelled;
+      full = says.full;
+      listed = says.listed;
+      told = told-whole says.told wrote;
+    }
   where
     rest : List ℕ
     rest = b.0
 
-    go : (text ≡ codes "overlap: " ++ rest) ⊎ (text ≡ codes "breach: " ++ rest) ⊎ (text ≡ codes "too large: " ++ rest) → SaysClashes bytes line (status_of r)
-    go (inl o) = (means request bytes r line OverlapStart l (ap start (begins (codes "overlap: ") line rest w (e ∙ o)).whole) h).1 is
-    go (inr (inl o)) = (means request bytes r line BreachStart l (ap start (begins (codes "breach: ") line rest w (e ∙ o)).whole) h).1 is
-    go (inr (inr o)) = means request bytes r line TooLargeStart l (ap start (begins (codes "too large: ") line rest w (e ∙ o)).whole) h is
+    go : (text ≡ codes "overlap: " ++ rest) ⊎ (text ≡ codes "breach: " ++ rest) ⊎ (text ≡ codes "too large: " ++ rest) → SpellsClashes bytes line false (status_of r)
+    go (inl o) = (means request bytes r line OverlapStart l (ap start (begins (codes "overlap: ") line rest wrote.written (sym wrote.text_is ∙ o)).whole) h).1 is
+    go (inr (inl o)) = (means request bytes r line BreachStart l (ap start (begins (codes "breach: ") line rest wrote.written (sym wrote.text_is ∙ o)).whole) h).1 is
+    go (inr (inr o)) = means request bytes r line TooLargeStart l (ap start (begins (codes "too large: ") line rest wrote.written (sym wrote.text_is ∙ o)).whole) h is
 
 -- only that of a verified one with a v,
 pub only_verified : (request : Request) (bytes : List ℕ) (r : Report) (line : List ℕ) (w : ℕ) (s : List ℕ) → line ≡ text_of r → take w line ≡ 118 ∷ s → Holds request bytes r → SpellsVerified (Some request) bytes

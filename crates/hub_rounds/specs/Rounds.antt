@@ -56,7 +56,8 @@ pub record MayJoin (es : List CheckFault) (ps : List Placed) (ns : List ℕ) (i 
   pub placed : IsInRound ps i
   pub clashes : (m j : ℕ) → slice_get ns m ≡ Some j → HasPair es j i
 
--- Profiles of rounds, of which each two clash. So each is in a round of its own.
+-- Profiles of rounds, of which each two clash, or are too large to decide. So each is in a round
+-- of its own.
 pub record AreRivals (es : List CheckFault) (ps : List Placed) (ns : List ℕ) : Type 0 where
   pub placed : (m i : ℕ) → slice_get ns m ≡ Some i → IsInRound ps i
   pub clash : (m n i j : ℕ) → m < n → slice_get ns m ≡ Some i → slice_get ns n ≡ Some j

@@ -23,7 +23,7 @@ pub struct Rounds {
     pub rounds: Items<Items<Profile>>,
     /// The profiles that are in no round, in their order.
     pub left: Items<Placed>,
-    /// The numbers of profiles of which each two clash. So at least as many rounds are needed.
+    /// The numbers of profiles of which each two clash, or were too large to decide. If none was, fewer rounds won't do.
     pub rivals: Items<usize>,
     /// The rules of the set.
     pub rules: Rules,

@@ -18,6 +18,7 @@ mod states;
 mod verbs;
 mod walkers;
 
+use crate::walkers::Way;
 use anyhow::{Result, bail};
 use std::alloc::Global;
 use test_kit::answer_each;
@@ -56,8 +57,8 @@ fn answer_on_profile(alloc: Global, word: &str, fields: &str) -> Result<String> 
         "may-at" => verbs::may_change_at(alloc, fields),
         "writes-at" => verbs::is_written_at(alloc, fields),
         "allowed" => allowed::allowed(alloc, fields),
-        "fronts" => walkers::fronts(alloc, fields),
-        "fronts-in-place" => walkers::fronts_in_place(alloc, fields),
+        "fronts" => walkers::fronts(alloc, fields, Way::Anew),
+        "fronts-in-place" => walkers::fronts(alloc, fields, Way::InPlace),
         "like" => walkers::like(alloc, fields),
         "walker" => walkers::walker(alloc, fields),
         "stages" => stages::stages(alloc, fields),

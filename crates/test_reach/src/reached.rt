@@ -1,6 +1,6 @@
 //! Questions about what profiles reach.
 use crate::given::profile_of;
-use crate::walkers::walk;
+use crate::walkers::{Way, walk};
 use anyhow::Result;
 use hub_path::RelPath;
 use hub_profile::Profile;
@@ -16,7 +16,9 @@ pub(crate) fn reaches(alloc: Global, fields: &str) -> Result<String> {
 }
 
 fn reaches_path(alloc: Global, profile: &Profile, path: &str) -> Result<String> {
-    let by_text = walk(alloc, profile, path)?.as_str().ends_with('1');
+    let by_text = walk(alloc, profile, path, Way::Anew)?
+        .as_str()
+        .ends_with('1');
     let by_names = is_reached(profile, &RelPath::read(alloc, path)?);
     Ok(format!(in alloc; "{by_names} {by_text}")?)
 }

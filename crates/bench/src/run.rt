@@ -1,4 +1,4 @@
-//! Runs the jobs of a star over the state text on standard input: in rounds, which take turns in one thread, then by one worker,
+//! Runs the jobs of a star over the state text on standard input: in cycles, which take turns in one thread, then by one worker,
 //! and then by several. Standard error has the times of each run, and standard output has the text of the state that the last run
 //! leaves.
 //!
@@ -13,7 +13,7 @@ use hub_cert::{ProfileSet, Verified};
 use hub_job::Outcome;
 use hub_profile::{Profile, Rules};
 use hub_runner::run;
-use hub_schedule::run_rounds;
+use hub_schedule::run_cycles;
 use hub_search::check;
 use hub_state::State;
 use hub_text::Items;
@@ -73,22 +73,22 @@ fn run_jobs<R: AllocGlobal + Clock + Eprint + Input + Print + Sync + Threads + W
     workers: usize,
 ) -> Result<()> {
     let opening = state::read(rt)?;
-    run_in_rounds(rt, verified, &opening)?;
+    run_in_cycles(rt, verified, &opening)?;
     drop(run_by(rt, verified, &opening, 1)?);
     let outcome = run_by(rt, verified, &opening, workers)?;
     state::write(rt, &outcome.state)
 }
 
-fn run_in_rounds<R: AllocGlobal + Clock + Eprint>(
+fn run_in_cycles<R: AllocGlobal + Clock + Eprint>(
     rt: &R,
     verified: &Verified<'_>,
     opening: &State,
 ) -> Result<()> {
     let start = Instant::now(rt)?;
-    if run_rounds(rt.alloc(), verified, opening).is_err() {
+    if run_cycles(rt.alloc(), verified, opening).is_err() {
         bail!("the jobs weren't run");
     }
-    report(rt, "rounds", start)
+    report(rt, "cycles", start)
 }
 
 /// Runs the jobs by so many workers, and prints how long that took.

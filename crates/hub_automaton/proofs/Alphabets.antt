@@ -12,7 +12,7 @@ use Rattle.std.proofs.lemmas.Bool.{and_from, and_parts, cases_Bool, cases_lt, no
 use Rattle.std.proofs.lemmas.Bool.Decides.{nat_tests}
 use Rattle.hub_text.specs.TestLaws.{or-swap, or-then}
 use Rattle.hub_automaton.specs.declared.alphabet.TheConstants.{MENTIONED_CHARACTERS}
-use Rattle.hub_automaton.specs.Alphabet.{is_left_out, is_mentioned, class_of, class_count, first_unmentioned, sample, ascends, IsAlphabet, placed, with_character, with_characters, mentions}
+use Rattle.hub_automaton.specs.Alphabet.{is_never_mentioned, is_mentioned, class_of, class_count, first_unmentioned, sample, ascends, IsAlphabet, inserted, with_character, with_characters, mentions}
 use Rattle.hub_automaton.specs.Adding.{length-placed}
 
 -- Tests of all elements.
@@ -57,18 +57,18 @@ not_mentioned (m ∷ ms) (suc i) c below above =
     (λ j. e j || is_mentioned ms c) ∙ not_mentioned ms i c (λ k s. below (suc k) (omega arith)) (λ k s t. above (suc k) (omega arith) (omega arith))
 
 pub placed_at : (ms : List ℕ) (i c : ℕ) → i ≤ length ms → ((k : ℕ) → k < i → get_or ms k 0 < c) → ((k : ℕ) → i ≤ k → k < length ms → c < get_or ms k 0)
-    → insert ms i c ≡ placed ms c
+    → insert ms i c ≡ inserted ms c
 placed_at [] zero c l below above = refl
 placed_at [] (suc i) c l below above = absurd (omega arith)
 placed_at (m ∷ ms) zero c l below above =
     let s : c < m = above 0 (omega arith) (omega arith) in
     let e : nat_lt c m ≡ true = grind (arith, nat_tests, s) in
-    ap (λ b. cond b (c ∷ m ∷ ms) (m ∷ placed ms c)) (sym e)
+    ap (λ b. cond b (c ∷ m ∷ ms) (m ∷ inserted ms c)) (sym e)
 placed_at (m ∷ ms) (suc i) c l below above =
     let s : m < c = below 0 (omega arith) in
     let e : nat_lt c m ≡ false = grind (arith, nat_tests, s) in
     ap (λ ns. m ∷ ns) (placed_at ms i c (omega arith) (λ k s. below (suc k) (omega arith)) (λ k s t. above (suc k) (omega arith) (omega arith)))
-    ∙ ap (λ b. cond b (c ∷ m ∷ ms) (m ∷ placed ms c)) (sym e)
+    ∙ ap (λ b. cond b (c ∷ m ∷ ms) (m ∷ inserted ms c)) (sym e)
 
 -- A character put in its place: who is mentioned then, and what holds of all.
 swap_and : (a b c : Bool) → (a && (b && c)) ≡ (b && (a && c))
@@ -76,26 +76,26 @@ swap_and true b c = refl
 swap_and false true c = refl
 swap_and false false c = refl
 
-pub mentioned-placed : (ms : List ℕ) (c x : ℕ) → is_mentioned (placed ms c) x ≡ ((c == x) || is_mentioned ms x)
+pub mentioned-placed : (ms : List ℕ) (c x : ℕ) → is_mentioned (inserted ms c) x ≡ ((c == x) || is_mentioned ms x)
 mentioned-placed [] c x = refl
 mentioned-placed (m ∷ ms) c x = by_test (nat_lt c m) (mentioned-placed ms c x) where
-  by_test : (b : Bool) → is_mentioned (placed ms c) x ≡ ((c == x) || is_mentioned ms x)
-      → is_mentioned (cond b (c ∷ m ∷ ms) (m ∷ placed ms c)) x ≡ ((c == x) || ((m == x) || is_mentioned ms x))
+  by_test : (b : Bool) → is_mentioned (inserted ms c) x ≡ ((c == x) || is_mentioned ms x)
+      → is_mentioned (cond b (c ∷ m ∷ ms) (m ∷ inserted ms c)) x ≡ ((c == x) || ((m == x) || is_mentioned ms x))
   by_test true h = refl
   by_test false h = ap (λ b. (m == x) || b) h ∙ or-swap (m == x) (c == x) (is_mentioned ms x)
 
-all-placed : (p : ℕ → Bool) (ms : List ℕ) (c : ℕ) → list_all p (placed ms c) ≡ (p c && list_all p ms)
+all-placed : (p : ℕ → Bool) (ms : List ℕ) (c : ℕ) → list_all p (inserted ms c) ≡ (p c && list_all p ms)
 all-placed p [] c = refl
 all-placed p (m ∷ ms) c = by_test (nat_lt c m) (all-placed p ms c) where
-  by_test : (b : Bool) → list_all p (placed ms c) ≡ (p c && list_all p ms)
-      → list_all p (cond b (c ∷ m ∷ ms) (m ∷ placed ms c)) ≡ (p c && (p m && list_all p ms))
+  by_test : (b : Bool) → list_all p (inserted ms c) ≡ (p c && list_all p ms)
+      → list_all p (cond b (c ∷ m ∷ ms) (m ∷ inserted ms c)) ≡ (p c && (p m && list_all p ms))
   by_test true h = refl
   by_test false h = ap (λ b. p m && b) h ∙ swap_and (p m) (p c) (list_all p ms)
 
-ascends-placed : (ms : List ℕ) (c : ℕ) → ascends ms ≡ true → is_mentioned ms c ≡ false → ascends (placed ms c) ≡ true
+ascends-placed : (ms : List ℕ) (c : ℕ) → ascends ms ≡ true → is_mentioned ms c ≡ false → ascends (inserted ms c) ≡ true
 ascends-placed [] c h k = refl
 ascends-placed (m ∷ ms) c h k = by_test (nat_lt c m) refl (λ a b. ascends-placed ms c a b) where
-  by_test : (b : Bool) → nat_lt c m ≡ b → (ascends ms ≡ true → is_mentioned ms c ≡ false → ascends (placed ms c) ≡ true) → ascends (cond b (c ∷ m ∷ ms) (m ∷ placed ms c)) ≡ true
+  by_test : (b : Bool) → nat_lt c m ≡ b → (ascends ms ≡ true → is_mentioned ms c ≡ false → ascends (inserted ms c) ≡ true) → ascends (cond b (c ∷ m ∷ ms) (m ∷ inserted ms c)) ≡ true
   by_test true e go =
       let w = and_parts (list_all (λ n. nat_lt m n) ms) (ascends ms) h in
       let l : c ≤ m = grind (arith, nat_tests, e) in
@@ -105,54 +105,54 @@ ascends-placed (m ∷ ms) c h k = by_test (nat_lt c m) refl (λ a b. ascends-pla
       let w = and_parts (list_all (λ n. nat_lt m n) ms) (ascends ms) h in
       let n = or_parts (m == c) (is_mentioned ms c) k in
       let l : nat_lt m c ≡ true = grind (arith, nat_tests, e, n.0) in
-      and_from (list_all (λ n. nat_lt m n) (placed ms c)) (ascends (placed ms c))
+      and_from (list_all (λ n. nat_lt m n) (inserted ms c)) (ascends (inserted ms c))
       (all-placed (λ n. nat_lt m n) ms c ∙ and_from (nat_lt m c) (list_all (λ n. nat_lt m n) ms) l w.0)
       (go w.1 n.1)
 
 -- One more character.
 pub still_mentioned : (ms : List ℕ) (c x : ℕ) → is_mentioned ms x ≡ true → is_mentioned (with_character ms c) x ≡ true
-still_mentioned ms c x h = by_test (is_left_out c || is_mentioned ms c) where
-  by_test : (b : Bool) → is_mentioned (cond b ms (placed ms c)) x ≡ true
+still_mentioned ms c x h = by_test (is_never_mentioned c || is_mentioned ms c) where
+  by_test : (b : Bool) → is_mentioned (cond b ms (inserted ms c)) x ≡ true
   by_test true = h
   by_test false = mentioned-placed ms c x ∙ or_right (c == x) (is_mentioned ms x) h
 
-scalars-placed : (ms : List ℕ) (c : ℕ) → scalar c ≡ true → all_scalars ms ≡ true → all_scalars (placed ms c) ≡ true
+scalars-placed : (ms : List ℕ) (c : ℕ) → scalar c ≡ true → all_scalars ms ≡ true → all_scalars (inserted ms c) ≡ true
 scalars-placed [] c s h = and_from (scalar c) true s refl
 scalars-placed (m ∷ ms) c s h = by_test (nat_lt c m) (scalars-placed ms c s) where
-  by_test : (b : Bool) → (all_scalars ms ≡ true → all_scalars (placed ms c) ≡ true) → all_scalars (cond b (c ∷ m ∷ ms) (m ∷ placed ms c)) ≡ true
+  by_test : (b : Bool) → (all_scalars ms ≡ true → all_scalars (inserted ms c) ≡ true) → all_scalars (cond b (c ∷ m ∷ ms) (m ∷ inserted ms c)) ≡ true
   by_test true go = and_from (scalar c) (all_scalars (m ∷ ms)) s h
-  by_test false go = let w = and_parts (scalar m) (all_scalars ms) h in and_from (scalar m) (all_scalars (placed ms c)) w.0 (go w.1)
+  by_test false go = let w = and_parts (scalar m) (all_scalars ms) h in and_from (scalar m) (all_scalars (inserted ms c)) w.0 (go w.1)
 
 pub alphabet-with : (ms : List ℕ) (c : ℕ) → scalar c ≡ true → IsAlphabet ms → length (with_character ms c) ≤ MENTIONED_CHARACTERS → IsAlphabet (with_character ms c)
 alphabet-with ms c s a few = record {
-  ascends = by_ascent (is_left_out c || is_mentioned ms c) refl;
+  ascends = by_ascent (is_never_mentioned c || is_mentioned ms c) refl;
   dot = still_mentioned ms c 46 a.dot;
   slash = still_mentioned ms c 47 a.slash;
-  allowed = by_allowed (is_left_out c || is_mentioned ms c) refl;
-  scalars = by_scalars (is_left_out c || is_mentioned ms c);
+  allowed = by_allowed (is_never_mentioned c || is_mentioned ms c) refl;
+  scalars = by_scalars (is_never_mentioned c || is_mentioned ms c);
   few = few;
 } where
-  by_scalars : (b : Bool) → all_scalars (cond b ms (placed ms c)) ≡ true
+  by_scalars : (b : Bool) → all_scalars (cond b ms (inserted ms c)) ≡ true
   by_scalars true = a.scalars
   by_scalars false = scalars-placed ms c s a.scalars
 
-  by_ascent : (b : Bool) → (is_left_out c || is_mentioned ms c) ≡ b → ascends (cond b ms (placed ms c)) ≡ true
+  by_ascent : (b : Bool) → (is_never_mentioned c || is_mentioned ms c) ≡ b → ascends (cond b ms (inserted ms c)) ≡ true
   by_ascent true e = a.ascends
-  by_ascent false e = ascends-placed ms c a.ascends (or_parts (is_left_out c) (is_mentioned ms c) e).1
+  by_ascent false e = ascends-placed ms c a.ascends (or_parts (is_never_mentioned c) (is_mentioned ms c) e).1
 
-  by_allowed : (b : Bool) → (is_left_out c || is_mentioned ms c) ≡ b → list_all (λ m. not (is_left_out m)) (cond b ms (placed ms c)) ≡ true
+  by_allowed : (b : Bool) → (is_never_mentioned c || is_mentioned ms c) ≡ b → list_all (λ m. not (is_never_mentioned m)) (cond b ms (inserted ms c)) ≡ true
   by_allowed true e = a.allowed
   by_allowed false e =
-      let n = or_parts (is_left_out c) (is_mentioned ms c) e in
-      all-placed (λ m. not (is_left_out m)) ms c ∙ and_from (not (is_left_out c)) (list_all (λ m. not (is_left_out m)) ms) (ap not n.0) a.allowed
+      let n = or_parts (is_never_mentioned c) (is_mentioned ms c) e in
+      all-placed (λ m. not (is_never_mentioned m)) ms c ∙ and_from (not (is_never_mentioned c)) (list_all (λ m. not (is_never_mentioned m)) ms) (ap not n.0) a.allowed
 
 pub with_there : (ms : List ℕ) (c : ℕ) → is_mentioned ms c ≡ true → ms ≡ with_character ms c
-with_there ms c h = ap (λ b. cond b ms (placed ms c)) (sym (or_right (is_left_out c) (is_mentioned ms c) h))
+with_there ms c h = ap (λ b. cond b ms (inserted ms c)) (sym (or_right (is_never_mentioned c) (is_mentioned ms c) h))
 
-pub with_new : (ms : List ℕ) (c : ℕ) → is_left_out c ≡ false → is_mentioned ms c ≡ false → placed ms c ≡ with_character ms c
-with_new ms c h k = λ i. cond (sym h i || sym k i) ms (placed ms c)
+pub with_new : (ms : List ℕ) (c : ℕ) → is_never_mentioned c ≡ false → is_mentioned ms c ≡ false → inserted ms c ≡ with_character ms c
+with_new ms c h k = λ i. cond (sym h i || sym k i) ms (inserted ms c)
 
-pub length-with_new : (ms : List ℕ) (c : ℕ) → is_left_out c ≡ false → is_mentioned ms c ≡ false → length (with_character ms c) ≡ length ms + 1
+pub length-with_new : (ms : List ℕ) (c : ℕ) → is_never_mentioned c ≡ false → is_mentioned ms c ≡ false → length (with_character ms c) ≡ length ms + 1
 length-with_new ms c h k = ap length (sym (with_new ms c h k)) ∙ length-placed ms c
 
 pub still_mentioned-all : (ms cs : List ℕ) (x : ℕ) → is_mentioned ms x ≡ true → is_mentioned (with_characters ms cs) x ≡ true
@@ -171,9 +171,9 @@ pub mention_end : (rest ms whole : List ℕ) → rest ≡ [] → with_characters
 mention_end rest ms whole e h = ap (with_characters ms) (sym e) ∙ h
 
 -- What is added is mentioned.
-with_is_mentioned : (ms : List ℕ) (c : ℕ) → (is_left_out c || is_mentioned (with_character ms c) c) ≡ true
-with_is_mentioned ms c = by_tests (is_left_out c) (is_mentioned ms c) refl where
-  by_tests : (a b : Bool) → is_mentioned ms c ≡ b → (a || is_mentioned (cond (a || b) ms (placed ms c)) c) ≡ true
+with_is_mentioned : (ms : List ℕ) (c : ℕ) → (is_never_mentioned c || is_mentioned (with_character ms c) c) ≡ true
+with_is_mentioned ms c = by_tests (is_never_mentioned c) (is_mentioned ms c) refl where
+  by_tests : (a b : Bool) → is_mentioned ms c ≡ b → (a || is_mentioned (cond (a || b) ms (inserted ms c)) c) ≡ true
   by_tests true b e = refl
   by_tests false true e = e
   by_tests false false e = mentioned-placed ms c c ∙ (let t : (c == c) ≡ true = grind (arith, nat_tests) in ap (λ b. b || is_mentioned ms c) t)
@@ -181,16 +181,16 @@ with_is_mentioned ms c = by_tests (is_left_out c) (is_mentioned ms c) refl where
 pub mentions_kept : (ms cs ds : List ℕ) → mentions ms ds ≡ true → mentions (with_characters ms cs) ds ≡ true
 mentions_kept ms cs [] h = refl
 mentions_kept ms cs (d ∷ ds) h =
-    let w = and_parts (is_left_out d || is_mentioned ms d) (mentions ms ds) h in
-    and_from (is_left_out d || is_mentioned (with_characters ms cs) d) (mentions (with_characters ms cs) ds)
-    (or-then (is_left_out d) (is_mentioned ms d) (is_mentioned (with_characters ms cs) d) w.0 (still_mentioned-all ms cs d))
+    let w = and_parts (is_never_mentioned d || is_mentioned ms d) (mentions ms ds) h in
+    and_from (is_never_mentioned d || is_mentioned (with_characters ms cs) d) (mentions (with_characters ms cs) ds)
+    (or-then (is_never_mentioned d) (is_mentioned ms d) (is_mentioned (with_characters ms cs) d) w.0 (still_mentioned-all ms cs d))
     (mentions_kept ms cs ds w.1)
 
 pub mentions_added : (ms cs : List ℕ) → mentions (with_characters ms cs) cs ≡ true
 mentions_added ms [] = refl
 mentions_added ms (c ∷ cs) =
-    and_from (is_left_out c || is_mentioned (with_characters (with_character ms c) cs) c) (mentions (with_characters (with_character ms c) cs) cs)
-    (or-then (is_left_out c) (is_mentioned (with_character ms c) c) (is_mentioned (with_characters (with_character ms c) cs) c) (with_is_mentioned ms c)
+    and_from (is_never_mentioned c || is_mentioned (with_characters (with_character ms c) cs) c) (mentions (with_characters (with_character ms c) cs) cs)
+    (or-then (is_never_mentioned c) (is_mentioned (with_character ms c) c) (is_mentioned (with_characters (with_character ms c) cs) c) (with_is_mentioned ms c)
     (still_mentioned-all (with_character ms c) cs c))
     (mentions_added (with_character ms c) cs)
 
@@ -212,10 +212,10 @@ position_none (m ∷ ms) n c h =
     let w = or_parts (m == c) (is_mentioned ms c) h in
     ap (λ b. cond b (Some n) (position_from (λ m. m == c) (n + 1) ms)) w.0 ∙ position_none ms (n + 1) c w.1
 
-pub class_at : (ms : List ℕ) (i c : ℕ) → ascends ms ≡ true → is_left_out c ≡ false → i < length ms → get_or ms i 0 ≡ c → class_of ms c ≡ Some (i + 1)
+pub class_at : (ms : List ℕ) (i c : ℕ) → ascends ms ≡ true → is_never_mentioned c ≡ false → i < length ms → get_or ms i 0 ≡ c → class_of ms c ≡ Some (i + 1)
 class_at ms i c h a l e = λ j. cond (a j) None (Some (unwrap_or (position_at ms 1 i c h l e j) 0))
 
-pub class_other : (ms : List ℕ) (c : ℕ) → is_left_out c ≡ false → is_mentioned ms c ≡ false → class_of ms c ≡ Some 0
+pub class_other : (ms : List ℕ) (c : ℕ) → is_never_mentioned c ≡ false → is_mentioned ms c ≡ false → class_of ms c ≡ Some 0
 class_other ms c a h = λ j. cond (a j) None (Some (unwrap_or (position_none ms 1 c h j) 0))
 
 -- What a binary search for a character says.
@@ -224,7 +224,7 @@ found ms xs c i e a h =
     let s = searched xs c (Ok i) h (subst (λ ns. (k j : ℕ) → k ≤ j → j < length ns → get_or ns k 0 ≤ get_or ns j 0) (sym e) (does_not_fall ms a)) in
     subst (λ ns. (i < length ns) × (get_or ns i 0 ≡ c)) e s
 
-pub missing : (ms xs : List ℕ) (c i : ℕ) → xs ≡ ms → ascends ms ≡ true → IsBinarySearchResult (λ y. nat_cmp y c) xs (Err i) → (is_mentioned ms c ≡ false) × (insert ms i c ≡ placed ms c)
+pub missing : (ms xs : List ℕ) (c i : ℕ) → xs ≡ ms → ascends ms ≡ true → IsBinarySearchResult (λ y. nat_cmp y c) xs (Err i) → (is_mentioned ms c ≡ false) × (insert ms i c ≡ inserted ms c)
 missing ms xs c i e a h =
     let s = searched xs c (Err i) h (subst (λ ns. (k j : ℕ) → k ≤ j → j < length ns → get_or ns k 0 ≤ get_or ns j 0) (sym e) (does_not_fall ms a)) in
     let P : List ℕ → Type 0 = λ ns. (i ≤ length ns) × ((k : ℕ) → k < i → get_or ns k 0 < c) × ((k : ℕ) → i ≤ k → k < length ns → c < get_or ns k 0) in
@@ -312,10 +312,10 @@ pub free_end : (ms : List ℕ) (i c whole : ℕ) → length ms ≤ i → free_fr
 free_end ms i c whole l h = ap (free_from c) (sym (drop_all i ms l)) ∙ h
 
 -- The sample of a class is of that class.
-all_allowed : (ms : List ℕ) (i : ℕ) → list_all (λ m. not (is_left_out m)) ms ≡ true → i < length ms → is_left_out (get_or ms i 0) ≡ false
+all_allowed : (ms : List ℕ) (i : ℕ) → list_all (λ m. not (is_never_mentioned m)) ms ≡ true → i < length ms → is_never_mentioned (get_or ms i 0) ≡ false
 all_allowed [] i h l = absurd (omega arith)
-all_allowed (m ∷ ms) zero h l = not-true (is_left_out m) (and_parts (not (is_left_out m)) (list_all (λ k. not (is_left_out k)) ms) h).0
-all_allowed (m ∷ ms) (suc i) h l = all_allowed ms i (and_parts (not (is_left_out m)) (list_all (λ k. not (is_left_out k)) ms) h).1 (omega arith)
+all_allowed (m ∷ ms) zero h l = not-true (is_never_mentioned m) (and_parts (not (is_never_mentioned m)) (list_all (λ k. not (is_never_mentioned k)) ms) h).0
+all_allowed (m ∷ ms) (suc i) h l = all_allowed ms i (and_parts (not (is_never_mentioned m)) (list_all (λ k. not (is_never_mentioned k)) ms) h).1 (omega arith)
 
 pub sample_class : (ms : List ℕ) (k : ℕ) → IsAlphabet ms → k < class_count ms → class_of ms (sample ms k) ≡ Some k
 sample_class ms zero a l =

@@ -8,7 +8,7 @@ use Rattle.hub_glob.specs.declared.piece.Part.{Part}
 use Rattle.hub_glob.specs.declared.piece.Part.TheVariants.{One, Brace}
 use Rattle.hub_glob.specs.Specification.{Specification}
 use Rattle.hub_glob.specs.Glob.{choices}
-use Rattle.hub_automaton.specs.Alphabet.{is_left_out, is_mentioned, mentions, piece_characters, pieces_characters, part_characters, spec_characters}
+use Rattle.hub_automaton.specs.Alphabet.{is_never_mentioned, is_mentioned, mentions, piece_characters, pieces_characters, part_characters, spec_characters}
 use Rattle.hub_automaton.specs.Spots.{alternatives_of, is_covered}
 use Rattle.hub_automaton.specs.AddedInTurn.{parts-mentioned}
 
@@ -20,7 +20,7 @@ all-join : (p : List Piece → Bool) (xs ys : List (List Piece)) → list_all p 
 all-join p xs ys h k = list_all-append p xs ys ∙ and_from (list_all p xs) (list_all p ys) h k
 
 pub mentions-join : (ms cs ds : List ℕ) → mentions ms cs ≡ true → mentions ms ds ≡ true → mentions ms (cs ++ ds) ≡ true
-mentions-join ms cs ds h k = list_all-append (λ c. is_left_out c || is_mentioned ms c) cs ds ∙ and_from (mentions ms cs) (mentions ms ds) h k
+mentions-join ms cs ds h k = list_all-append (λ c. is_never_mentioned c || is_mentioned ms c) cs ds ∙ and_from (mentions ms cs) (mentions ms ds) h k
 
 covers-append : (ms : List ℕ) (c d : List Piece) → covers ms c ≡ true → covers ms d ≡ true → covers ms (c ++ d) ≡ true
 covers-append ms [] d h k = k

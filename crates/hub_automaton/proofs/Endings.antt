@@ -14,13 +14,13 @@ use Rattle.hub_glob.specs.declared.piece.Piece.{Piece}
 use Rattle.hub_text.specs.TestLaws.{any-map, not-not, or-assoc}
 use Rattle.hub_automaton.specs.declared.alternatives.Alternatives.{Alternatives}
 use Rattle.hub_automaton.specs.Ends.{meets, end_choice, end_choices, in_range, end_all, end_flags, ends_in, end_below, below_ends}
-use Rattle.hub_automaton.specs.Spots.{is_below, is_below_kind, is_matched, spot_count, spots_count, unpacked, seen}
-use Rattle.hub_automaton.specs.Stepping.{ended, ended_choices, matched_each}
+use Rattle.hub_automaton.specs.Spots.{is_matched_above, is_below_kind, is_matched, spot_count, spots_count, unpacked, seen}
+use Rattle.hub_automaton.specs.Stepping.{ended_matches, ended_choices, matched_each}
 use Rattle.hub_automaton.specs.Words.{word, words_for, packed_by, packed, bit, with_bit}
 use Rattle.hub_automaton.specs.Masks.{ended_at, marked}
 use Rattle.hub_automaton.proofs.Kept.{any_from, any_from-drop, drop-map, range_is}
 use Rattle.hub_automaton.proofs.Loops.{ended_is}
-use Rattle.hub_automaton.proofs.Progresses.{length-live}
+use Rattle.hub_automaton.proofs.SpotsSeen.{length-live}
 use Rattle.hub_automaton.proofs.Spotted.{each_law}
 use Rattle.hub_automaton.proofs.WordBits.{number_few, test, test-and, test-zero}
 use Rattle.hub_automaton.proofs.WordMoves.{bit_is, drop-none, length-packed, packed_bit}
@@ -172,8 +172,8 @@ choices_meet on (c ∷ cs) old rest =
     ap (overlaps old) (append_assoc (end_choice on c) (end_choices on cs) rest)
     ∙ choice_meets on c old (end_choices on cs ++ rest)
     ∙ (λ i. (on && sym (ended_is c old) i) || choices_meet on cs next rest i)
-    ∙ or_within on (ended c old) (ended_choices cs next) (overlaps (drop (spot_count cs) next) rest)
-    ∙ ap (λ bs. (on && (ended c old || ended_choices cs next)) || overlaps bs rest) (drop-drop (spot_count cs) (length c + 1) old)
+    ∙ or_within on (ended_matches c old) (ended_choices cs next) (overlaps (drop (spot_count cs) next) rest)
+    ∙ ap (λ bs. (on && (ended_matches c old || ended_choices cs next)) || overlaps bs rest) (drop-drop (spot_count cs) (length c + 1) old)
 
 -- Those of a range are passed on.
 abbrev any_in : ℕ → ℕ → ℕ → List Bool → Bool
@@ -227,7 +227,7 @@ ends_law ls t from to =
     let g : Alternatives → Bool = λ a. is_matched a t in
     let es = end_all from to 0 ls in
     let fs = end_flags from to 0 ls in
-    let flags : length u.below ≡ length ls = length-map ls (λ a. is_below a t) in
+    let flags : length u.below ≡ length ls = length-map ls (λ a. is_matched_above a t) in
     let same : length es ≡ length u.live = length-end_all from to 0 ls ∙ sym (length-live ls t) in
     let words : length (packed es) ≡ length (packed u.live) =
     length-packed (words_for (length es)) es ∙ ap words_for same ∙ sym (length-packed (words_for (length u.live)) u.live) in

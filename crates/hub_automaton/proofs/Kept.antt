@@ -16,16 +16,17 @@ use Rattle.hub_automaton.specs.declared.masks.Mask.{Mask}
 use Rattle.hub_automaton.specs.declared.masks.Mask.TheVariants as mask
 use Rattle.hub_glob.specs.declared.piece.NextCharacter.{NextCharacter}
 use Rattle.hub_automaton.specs.Masks.{masks_piece, mask_choice, mask_choices, mask_all, ended_at, matched_at, marked, moved_row, moved_seen}
-use Rattle.hub_automaton.specs.Spots.{is_name_kind, is_below_kind, is_below, is_matched, spot_count, spots_count, unpacked, kept, Unpacked, Seen, seen}
+use Rattle.hub_automaton.specs.Spots.{is_below_kind, is_matched_above, is_matched, spot_count, spots_count, unpacked, packed_seen, Unpacked, Seen, seen}
 use Rattle.hub_automaton.specs.Stepping.{stepped_all, ended_choices, goes_below, below_one, below_all, matched_each, pushed}
 use Rattle.hub_automaton.specs.Words.{word, words_for, packed_by, packed, bit, with_bit, moved_words}
 use Rattle.hub_automaton.proofs.Loops.{ended_place}
 use Rattle.hub_automaton.proofs.Masked.{entry, entry_choices, entries, all_move}
-use Rattle.hub_automaton.proofs.Progresses.{length-live}
+use Rattle.hub_automaton.proofs.SpotsSeen.{length-live}
 use Rattle.hub_automaton.proofs.SetBits.{set_packed}
 use Rattle.hub_automaton.proofs.Spotted.{push_law, each_law}
 use Rattle.hub_automaton.proofs.Steps.{next_of}
 use Rattle.hub_automaton.proofs.WordMoves.{Packs, packs_by, words_move, packed_bit, length-packed, drop-none}
+use Rattle.hub_glob.specs.Specification.{is_name_kind}
 
 -- How long masks are.
 pub length-mask_choice : (m : Mask) (k : Kind) (c : List Piece) → length (mask_choice m k c) ≡ length c + 1
@@ -133,7 +134,7 @@ pub same_row_length : (ls : List Alternatives) (t u : List ℕ) → length (seen
 same_row_length ls t u =
     let a = unpacked ls t in
     let b = unpacked ls u in
-    let flags : length a.below ≡ length b.below = length-map ls (λ c. is_below c t) ∙ sym (length-map ls (λ c. is_below c u)) in
+    let flags : length a.below ≡ length b.below = length-map ls (λ c. is_matched_above c t) ∙ sym (length-map ls (λ c. is_matched_above c u)) in
     let words : length (packed a.below) ≡ length (packed b.below) =
     length-packed (words_for (length a.below)) a.below ∙ ap words_for flags ∙ sym (length-packed (words_for (length b.below)) b.below) in
     length-append (packed a.live) (packed a.below) ∙ (λ i. (live_words ls t ∙ sym (live_words ls u)) i + words i) ∙ sym (length-append (packed b.live) (packed b.below))
@@ -267,7 +268,7 @@ row_marked ls t c n e = by_test (c == 47) refl where
   u = unpacked ls t
 
   flags : length u.below ≡ length ls
-  flags = length-map ls (λ a. is_below a t)
+  flags = length-map ls (λ a. is_matched_above a t)
 
   by_test : (b : Bool) → (c == 47) ≡ b
       → cond b (marked ls (take n (seen ls t).row) 0 n 0 (seen ls t).row) (seen ls t).row ≡ packed u.live ++ packed (below_all (next_of t c) ls u.below u.live)
@@ -278,7 +279,7 @@ row_marked ls t c n e = by_test (c == 47) refl where
 
 pub kept_moves : (ls : List Alternatives) (t : List ℕ) (c : ℕ) (ews sws tws : List ℕ)
     → ews ≡ packed (mask_all mask.Entries ls) → sws ≡ packed (mask_all mask.Stars ls) → tws ≡ packed (mask_all (mask.Takers c) ls)
-    → moved_seen (next_of t c) ls ews sws tws (seen ls t) ≡ kept (pushed ls (unpacked ls t) c)
+    → moved_seen (next_of t c) ls ews sws tws (seen ls t) ≡ packed_seen (pushed ls (unpacked ls t) c)
 kept_moves ls t c ews sws tws e s k =
     let x = next_of t c in
     let u = unpacked ls t in

@@ -5,7 +5,7 @@ use Rattle.std.specs.List.{flat_map}
 use Rattle.std.proofs.lemmas.List.{drop_all, get_or-drop}
 use Rattle.hub_glob.specs.declared.piece.Piece.{Piece}
 use Rattle.hub_text.specs.TestLaws.{tail}
-use Rattle.hub_automaton.specs.Stepping.{last_spot, ended}
+use Rattle.hub_automaton.specs.Stepping.{last_spot, ended_matches}
 
 -- The tests behind the first one, from a place on.
 pub drop-of_tail : (n : ℕ) (bs : List Bool) → drop n (tail bs) ≡ drop (suc n) bs
@@ -40,12 +40,12 @@ last_is here (p ∷ ps) [] = last_is false ps [] ∙ past (length ps) where
   past (suc n) = refl
 last_is here (p ∷ ps) (b ∷ old) = last_is b ps old
 
-pub ended_is : (c : List Piece) (old : List Bool) → ended c old ≡ slice_index_or old (length c) false
+pub ended_is : (c : List Piece) (old : List Bool) → ended_matches c old ≡ slice_index_or old (length c) false
 ended_is c [] = last_is false c [] ∙ past (length c) where
   past : (n : ℕ) → slice_index_or (false ∷ []) n false ≡ false
   past zero = refl
   past (suc n) = refl
 ended_is c (b ∷ old) = last_is b c old
 
-pub ended_place : (c : List Piece) (live : List Bool) (place : ℕ) (b : Bool) → b ≡ slice_index_or live (place + length c) false → ended c (drop place live) ≡ b
+pub ended_place : (c : List Piece) (live : List Bool) (place : ℕ) (b : Bool) → b ≡ slice_index_or live (place + length c) false → ended_matches c (drop place live) ≡ b
 ended_place c live place b e = ended_is c (drop place live) ∙ get_or-drop place live (length c) false ∙ sym e

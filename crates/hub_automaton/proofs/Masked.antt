@@ -12,10 +12,11 @@ use Rattle.hub_automaton.specs.declared.alternatives.Alternatives.{Alternatives}
 use Rattle.hub_automaton.specs.declared.masks.Mask.TheVariants as mask
 use Rattle.hub_glob.specs.declared.piece.NextCharacter.{NextCharacter}
 use Rattle.hub_automaton.specs.Masks.{mask_choice, mask_choices, mask_all}
-use Rattle.hub_automaton.specs.Spots.{is_name_kind, spot_count}
+use Rattle.hub_automaton.specs.Spots.{spot_count}
 use Rattle.hub_automaton.specs.Stepping.{spot_past, stepped_pieces, stepped, entered_pieces, entered, stepped_choices, entered_choices, stepped_one, stepped_all}
 use Rattle.hub_automaton.specs.Words.{moved}
 use Rattle.hub_automaton.proofs.Loops.{drop-of_tail}
+use Rattle.hub_glob.specs.Specification.{is_name_kind}
 
 -- Bits that begin with some, and go on with others, whatever they go on from.
 record Begins (whole front : List Bool) (rest : Bool → Bool → List Bool) : Type 0 where

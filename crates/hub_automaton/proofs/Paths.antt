@@ -2,15 +2,13 @@
 use Rattle.std.proofs.Common.{◌≡◌, inl, inr, ⊎_elim, ◌<◌, ℕ, ◌+◌, Bool, true, ◌&&◌, ◌==◌, List, [], ◌∷◌, ◌++◌, map, length, refl, sym, ap, ◌∙◌, arith}
 use Rattle.std.specs.Prelude.{nat_eq, chars, encode_utf8_all}
 use Rattle.std.specs.List.{flat_map}
-use Rattle.std.specs.Str.{all_scalars}
 use Rattle.std.proofs.lemmas.Str.{chars-encodes}
-use lib.Utf8.{scalar}
 use Rattle.std.proofs.lemmas.List.{length-map}
-use Rattle.std.proofs.lemmas.Bool.{and_from, and_parts}
+use Rattle.std.proofs.lemmas.Bool.{and_from}
 use Rattle.std.proofs.lemmas.Bool.Decides.{nat_tests, Decides-like, same_from_decides}
-use Rattle.hub_path.specs.Path.{Path, name_eq, path_eq, is_name, is_place, is_path, text_of, path_of}
-use Rattle.hub_path.specs.NameFacts.{name_parts}
+use Rattle.hub_path.specs.Path.{Path, name_eq, path_eq, is_place, is_path, text_of, path_of}
 use Rattle.hub_path.specs.Laws.{name_eq-decides, path_eq-decides, path_of-text_of, text_of-path_of}
+use Rattle.hub_path.specs.TextLaws.{scalars-text}
 use Rattle.std.proofs.Math.Bool.{and-true, or-false}
 use Rattle.hub_glob.specs.declared.piece.Piece.TheVariants.{Lit}
 use Rattle.hub_glob.specs.Glob.{pieces, no_more}
@@ -20,7 +18,7 @@ use Rattle.hub_automaton.specs.declared.alternatives.TheConstants.{SPOTS}
 use Rattle.hub_automaton.specs.declared.fault.AutomatonFault.{AutomatonFault}
 use Rattle.hub_automaton.specs.Alphabet.{IsAlphabet, is_mentioned, mentions, piece_characters, path_characters}
 use Rattle.hub_automaton.specs.Spots.{path_alternatives, is_matched, is_covered, spots_count, RefusesSpots}
-use Rattle.hub_automaton.specs.AddedInTurn.{parts-mentioned}
+use Rattle.hub_automaton.specs.AddedInTurn.{parts-mentioned, spots-append}
 use Rattle.hub_automaton.proofs.Covered.{mentions-join}
 
 flip : (x c : ℕ) → (x == c) ≡ nat_eq c x
@@ -62,26 +60,9 @@ text_mentioned ms (n ∷ m ∷ p) a h =
 pub path_spots : (s : List ℕ) → spots_count (path_alternatives s ∷ []) ≡ length s + 1
 path_spots s = omega (arith, length-map s Lit)
 
--- The characters of a path's text are Unicode scalar values.
-scalars-append : (s t : List ℕ) → all_scalars s ≡ true → all_scalars t ≡ true → all_scalars (s ++ t) ≡ true
-scalars-append [] t h k = k
-scalars-append (c ∷ s) t h k =
-    let w = and_parts (scalar c) (all_scalars s) h in and_from (scalar c) (all_scalars (s ++ t)) w.0 (scalars-append s t w.1 k)
-
-scalars-text : (p : Path) → is_place p ≡ true → all_scalars (text_of p) ≡ true
-scalars-text [] h = refl
-scalars-text (n ∷ []) h = (name_parts n (and_parts (is_name n) true h).0).scalars
-scalars-text (n ∷ m ∷ p) h =
-    let w = and_parts (is_name n) (is_place (m ∷ p)) h in
-    scalars-append n (47 ∷ text_of (m ∷ p)) (name_parts n w.0).scalars
-    (scalars-append (47 ∷ []) (text_of (m ∷ p)) refl (scalars-text (m ∷ p) w.1))
-
+-- The bytes of a path's text are its characters.
 pub text_chars : (p : Path) (bs : List ℕ) → is_place p ≡ true → bs ≡ encode_utf8_all (text_of p) → chars bs ≡ text_of p
 text_chars p bs h e = ap chars e ∙ chars-encodes (text_of p) (scalars-text p h)
-
-pub counts-append : (ls ks : List Alternatives) → spots_count (ls ++ ks) ≡ spots_count ls + spots_count ks
-counts-append [] ks = omega arith
-counts-append (a ∷ ls) ks = omega (arith, counts-append ls ks)
 
 -- Choices that are refused after some are refused before further ones.
 pub refused_more : (ls rest whole : List Alternatives) (a : Alternatives) (e : AutomatonFault) → ls ++ a ∷ rest ≡ whole → RefusesSpots (ls ++ a ∷ []) e → RefusesSpots whole e
@@ -89,5 +70,5 @@ refused_more ls rest whole a e h r =
     ⊎_elim (λ none. inl none)
     (λ many.
     let over : SPOTS < spots_count (ls ++ a ∷ []) = many.1 in
-    let all : SPOTS < spots_count whole = omega (arith, over, counts-append ls (a ∷ []), counts-append ls (a ∷ rest), ap spots_count h) in
+    let all : SPOTS < spots_count whole = omega (arith, over, spots-append ls (a ∷ []), spots-append ls (a ∷ rest), ap spots_count h) in
     inr (many.0, all)) r

@@ -7,23 +7,23 @@ use Rattle.std.proofs.lemmas.List.Folds.{list_all-append}
 use Rattle.std.proofs.lemmas.Bool.{and_parts, not-true, or_right}
 use Rattle.std.proofs.lemmas.Bool.Decides.{nat_tests}
 use Rattle.hub_path.specs.Path.{Name, Path, is_name, is_place, is_path, text_of, last_name, prefixes}
-use Rattle.hub_path.specs.Laws.{is_apart, name-apart}
+use Rattle.hub_path.specs.Laws.{is_no_slash, name-apart}
 use Rattle.hub_glob.specs.declared.piece.Piece.{Piece}
 use Rattle.hub_glob.specs.declared.piece.Piece.TheVariants.{Lit, Any, Run, OneOf}
 use Rattle.hub_glob.specs.declared.piece.Part.{Part}
 use Rattle.hub_glob.specs.declared.path_spec.Kind.{Kind}
 use Rattle.hub_glob.specs.declared.path_spec.Kind.TheVariants as kind
-use Rattle.hub_glob.specs.Specification.{Specification}
+use Rattle.hub_glob.specs.Specification.{Specification, is_name_kind}
 use Rattle.hub_glob.specs.Glob.{glob, choices, matches, by_kind}
 use Rattle.hub_glob.specs.Taking.{takes, is_star}
-use Rattle.hub_text.specs.TestLaws.{head, tail, any-append, any-map}
+use Rattle.hub_text.specs.TestLaws.{head, tail, any-append, any-map, any-alike}
 use Rattle.std.proofs.Math.Bool.{or-false}
 use Rattle.hub_glob.specs.ChoiceLaws.{glob_choices}
-use Rattle.hub_automaton.specs.Alphabet.{is_left_out, is_mentioned, class_of, mentions, piece_characters, pieces_characters, class_count, first_unmentioned, sample, IsAlphabet}
+use Rattle.hub_automaton.specs.Alphabet.{is_never_mentioned, is_mentioned, class_of, mentions, piece_characters, pieces_characters, class_count, first_unmentioned, sample, IsAlphabet}
 use Rattle.hub_automaton.specs.declared.alternatives.Alternatives.{Alternatives}
 use Rattle.hub_glob.specs.declared.piece.NextCharacter.{NextCharacter}
-use Rattle.hub_automaton.specs.Spots.{spots, since_slash, looked_at, folders, starts, fits, is_name_kind, is_below_kind, alternatives_of, spots_of, is_below, is_matched, Unpacked, unpacked, spot_count, is_covered}
-use Rattle.hub_automaton.specs.Stepping.{stepped_pieces, stepped, ended, stepped_choices, ended_choices, entered_choices, stepped_all, below_all, matched_each, pushed}
+use Rattle.hub_automaton.specs.Spots.{spots, since_slash, looked_at, folders, starts, fits, is_below_kind, alternatives_of, spots_of, is_matched_above, is_matched, Unpacked, unpacked, spot_count, is_covered}
+use Rattle.hub_automaton.specs.Stepping.{stepped_pieces, stepped, ended_matches, stepped_choices, ended_choices, entered_choices, stepped_all, below_all, matched_each, pushed}
 use Rattle.hub_automaton.proofs.Alphabets.{sample_class}
 use Rattle.hub_automaton.proofs.Steps.{next_of, choice_law, ended_law, empty_spots, length-spots, front_matches}
 
@@ -85,7 +85,7 @@ ended_choices_law : (cs : List (List Piece)) (t : List ℕ) (rest : List Bool) �
 ended_choices_law [] t rest = refl
 ended_choices_law (c ∷ cs) t rest =
     let more = flat_map (λ d. spots d t) cs ++ rest in
-    ap (λ old. ended c old || ended_choices cs (drop (length c + 1) old)) (append_assoc (spots c t) (flat_map (λ d. spots d t) cs) rest)
+    ap (λ old. ended_matches c old || ended_choices cs (drop (length c + 1) old)) (append_assoc (spots c t) (flat_map (λ d. spots d t) cs) rest)
     ∙ (λ i. ended_law c t more i || ended_choices cs (drop_at (spots c t) more (length c + 1) (length-spots c t) i))
     ∙ ap (λ b. front_matches c t || b) (ended_choices_law cs t rest)
 
@@ -135,13 +135,13 @@ below_law kind.BelowPath cs t x rest =
     by_test false = refl
 
 flags_law : (ls : List Alternatives) (t : List ℕ) (x : ℕ)
-    → below_all (next_of t x) ls (map (λ a. is_below a t) ls) (flat_map (λ a. spots_of a t) ls) ≡ map (λ a. is_below a (t ++ x ∷ [])) ls
+    → below_all (next_of t x) ls (map (λ a. is_matched_above a t) ls) (flat_map (λ a. spots_of a t) ls) ≡ map (λ a. is_matched_above a (t ++ x ∷ [])) ls
 flags_law [] t x = refl
 flags_law (a ∷ ls) t x =
     let more = flat_map (λ b. spots_of b t) ls in
     (λ i. below_law a.kind a.choices t x more i
-    ∷ below_all (next_of t x) ls (map (λ b. is_below b t) ls) (drop_at (spots_of a t) more (spot_count a.choices) (length-spots_all a.choices (looked_at a.kind t)) i))
-    ∙ ap (λ old. is_below a (t ++ x ∷ []) ∷ old) (flags_law ls t x)
+    ∷ below_all (next_of t x) ls (map (λ b. is_matched_above b t) ls) (drop_at (spots_of a t) more (spot_count a.choices) (length-spots_all a.choices (looked_at a.kind t)) i))
+    ∙ ap (λ old. is_matched_above a (t ++ x ∷ []) ∷ old) (flags_law ls t x)
 
 pub push_law : (ls : List Alternatives) (t : List ℕ) (x : ℕ) → pushed ls (unpacked ls t) x ≡ unpacked ls (t ++ x ∷ [])
 push_law ls t x = λ i. let s : Unpacked = record { live = live_law ls t x i; below = flags_law ls t x i; start = sym (starts-push true t x) i } in s
@@ -156,7 +156,7 @@ start_law ls = λ i. let s : Unpacked = record { live = live ls i; below = none 
     by_kind kind.Path = refl
     by_kind kind.BelowPath = refl
 
-  none : (ks : List Alternatives) → map (λ a. false) ks ≡ map (λ a. is_below a []) ks
+  none : (ks : List Alternatives) → map (λ a. false) ks ≡ map (λ a. is_matched_above a []) ks
   none [] = refl
   none (a ∷ ks) = λ i. nothing (is_below_kind a.kind) i ∷ none ks i where
     nothing : (b : Bool) → false ≡ (b && false)
@@ -186,8 +186,8 @@ data Classed (ms : List ℕ) (x k : ℕ) : Type 0 where
   mentioned : (j : ℕ) → k ≡ 1 + j → get_or ms j 0 ≡ x → Classed ms x k
   other : k ≡ 0 → is_mentioned ms x ≡ false → Classed ms x k
 
-classed : (ms : List ℕ) (x k : ℕ) → class_of ms x ≡ Some k → (is_left_out x ≡ false) × Classed ms x k
-classed ms x k h = by_test (is_left_out x) h where
+classed : (ms : List ℕ) (x k : ℕ) → class_of ms x ≡ Some k → (is_never_mentioned x ≡ false) × Classed ms x k
+classed ms x k h = by_test (is_never_mentioned x) h where
   by_place : (o : Option ℕ) → position_from (λ m. m == x) 1 ms ≡ o → Some (unwrap_or o 0) ≡ Some k → Classed ms x k
   by_place None e h = other (let l : k ≡ 0 = cc in l) (none_there ms 1 x e)
   by_place (Some j) e h = let w = found_at ms 1 x j e in mentioned w.0 (let l : j ≡ k = cc in sym l ∙ w.1) w.2
@@ -197,8 +197,8 @@ classed ms x k h = by_test (is_left_out x) h where
   by_test false h = (refl, by_place (position_from (λ m. m == x) 1 ms) refl h)
 
 pub record Alike (ms : List ℕ) (x y : ℕ) : Type 0 where
-  pub first_allowed : is_left_out x ≡ false
-  pub second_allowed : is_left_out y ≡ false
+  pub first_allowed : is_never_mentioned x ≡ false
+  pub second_allowed : is_never_mentioned y ≡ false
   pub same : (x ≡ y) ⊎ ((is_mentioned ms x ≡ false) × (is_mentioned ms y ≡ false))
 
 pub alike : (ms : List ℕ) (x y k : ℕ) → class_of ms x ≡ Some k → class_of ms y ≡ Some k → Alike ms x y
@@ -214,20 +214,20 @@ alike ms x y k h l =
     join (other e f) (other g q) = inr (f, q)
 
 -- A character that is mentioned, or never is, is equal to both or to neither.
-not_it : (ms : List ℕ) (x c : ℕ) → (is_left_out c || is_mentioned ms c) ≡ true → is_left_out x ≡ false → is_mentioned ms x ≡ false → (x == c) ≡ false
+not_it : (ms : List ℕ) (x c : ℕ) → (is_never_mentioned c || is_mentioned ms c) ≡ true → is_never_mentioned x ≡ false → is_mentioned ms x ≡ false → (x == c) ≡ false
 not_it ms x c h a m = by_test (x == c) refl where
   by_test : (b : Bool) → (x == c) ≡ b → b ≡ false
   by_test false e = refl
   by_test true e =
       let s : x ≡ c = grind (arith, nat_tests, e) in
-      let l : (is_left_out x || is_mentioned ms x) ≡ true = ap (λ n. is_left_out n || is_mentioned ms n) s ∙ h in
+      let l : (is_never_mentioned x || is_mentioned ms x) ≡ true = ap (λ n. is_never_mentioned n || is_mentioned ms n) s ∙ h in
       sym l ∙ (λ i. a i || m i)
 
-told : (ms : List ℕ) (x y c : ℕ) → Alike ms x y → (is_left_out c || is_mentioned ms c) ≡ true → (x == c) ≡ (y == c)
+told : (ms : List ℕ) (x y c : ℕ) → Alike ms x y → (is_never_mentioned c || is_mentioned ms c) ≡ true → (x == c) ≡ (y == c)
 told ms x y c a h =
     ⊎_elim (λ s. ap (λ n. n == c) s) (λ n. not_it ms x c h a.first_allowed n.0 ∙ sym (not_it ms y c h a.second_allowed n.1)) a.same
 
-pub told_by_class : (ms : List ℕ) (x y k c : ℕ) → class_of ms x ≡ Some k → class_of ms y ≡ Some k → (is_left_out c || is_mentioned ms c) ≡ true → (x == c) ≡ (y == c)
+pub told_by_class : (ms : List ℕ) (x y k c : ℕ) → class_of ms x ≡ Some k → class_of ms y ≡ Some k → (is_never_mentioned c || is_mentioned ms c) ≡ true → (x == c) ≡ (y == c)
 told_by_class ms x y k c h l m = told ms x y c (alike ms x y k h l) m
 
 flip : (x c : ℕ) → (c == x) ≡ (x == c)
@@ -236,7 +236,7 @@ flip x c = grind (arith, nat_tests)
 any_told : (ms : List ℕ) (x y : ℕ) (cs : List ℕ) → Alike ms x y → mentions ms cs ≡ true → list_any (λ c. c == x) cs ≡ list_any (λ c. c == y) cs
 any_told ms x y [] a h = refl
 any_told ms x y (c ∷ cs) a h =
-    let w = and_parts (is_left_out c || is_mentioned ms c) (mentions ms cs) h in
+    let w = and_parts (is_never_mentioned c || is_mentioned ms c) (mentions ms cs) h in
     λ i. (flip x c ∙ told ms x y c a w.0 ∙ sym (flip y c)) i || any_told ms x y cs a w.1 i
 
 abbrev at_character : Bool → ℕ → NextCharacter
@@ -244,17 +244,17 @@ at_character f x = record { character = x; first = f }
 
 takes_alike : (ms : List ℕ) (x y : ℕ) (f : Bool) (p : Piece) → IsAlphabet ms → Alike ms x y → mentions ms (piece_characters p) ≡ true
     → takes (at_character f x) p ≡ takes (at_character f y) p
-takes_alike ms x y f (Lit c) l a h = told ms x y c a (and_parts (is_left_out c || is_mentioned ms c) true h).0
-takes_alike ms x y f Any l a h = ap not (told ms x y 47 a (or_right (is_left_out 47) (is_mentioned ms 47) l.slash))
+takes_alike ms x y f (Lit c) l a h = told ms x y c a (and_parts (is_never_mentioned c || is_mentioned ms c) true h).0
+takes_alike ms x y f Any l a h = ap not (told ms x y 47 a (or_right (is_never_mentioned 47) (is_mentioned ms 47) l.slash))
 takes_alike ms x y f Run l a h =
-    λ i. not (told ms x y 47 a (or_right (is_left_out 47) (is_mentioned ms 47) l.slash) i) && not (f && told ms x y 46 a (or_right (is_left_out 46) (is_mentioned ms 46) l.dot) i)
+    λ i. not (told ms x y 47 a (or_right (is_never_mentioned 47) (is_mentioned ms 47) l.slash) i) && not (f && told ms x y 46 a (or_right (is_never_mentioned 46) (is_mentioned ms 46) l.dot) i)
 takes_alike ms x y f (OneOf cs) l a h = any_told ms x y cs a h
 
 stepped_alike : (ms : List ℕ) (x y : ℕ) (f here before : Bool) (ps : List Piece) (old : List Bool) → IsAlphabet ms → Alike ms x y
     → mentions ms (pieces_characters ps) ≡ true → stepped_pieces (at_character f x) here before ps old ≡ stepped_pieces (at_character f y) here before ps old
 stepped_alike ms x y f here before [] old l a h = refl
 stepped_alike ms x y f here before (p ∷ ps) old l a h =
-    let w = and_parts (mentions ms (piece_characters p)) (mentions ms (pieces_characters ps)) (sym (list_all-append (λ c. is_left_out c || is_mentioned ms c) (piece_characters p) (pieces_characters ps)) ∙ h) in
+    let w = and_parts (mentions ms (piece_characters p)) (mentions ms (pieces_characters ps)) (sym (list_all-append (λ c. is_never_mentioned c || is_mentioned ms c) (piece_characters p) (pieces_characters ps)) ∙ h) in
     let t = takes_alike ms x y f p l a w.0 in
     let spot : Bool → Bool = λ b. cond (is_star p) (before || head old && b) (here && b) in
     (λ i. spot (t i) ∷ stepped_pieces (at_character f x) (head old) (spot (t i)) ps (tail old))
@@ -268,7 +268,7 @@ choices_alike ms x y f (c ∷ cs) old l a h =
     λ i. (false ∷ stepped_alike ms x y f (head old) false c (tail old) l a w.0 i) ++ choices_alike ms x y f cs (drop (length c + 1) old) l a w.1 i
 
 slash_alike : (ms : List ℕ) (x y : ℕ) → IsAlphabet ms → Alike ms x y → (x == 47) ≡ (y == 47)
-slash_alike ms x y l a = told ms x y 47 a (or_right (is_left_out 47) (is_mentioned ms 47) l.slash)
+slash_alike ms x y l a = told ms x y 47 a (or_right (is_never_mentioned 47) (is_mentioned ms 47) l.slash)
 
 all_alike : (ms : List ℕ) (x y : ℕ) (f : Bool) (ls : List Alternatives) (old : List Bool) → IsAlphabet ms → Alike ms x y
     → list_all (is_covered ms) ls ≡ true → stepped_all (at_character f x) ls old ≡ stepped_all (at_character f y) ls old
@@ -297,21 +297,21 @@ pub each_law : (ls : List Alternatives) (t : List ℕ) → matched_each ls (unpa
 each_law [] t = refl
 each_law (a ∷ ls) t =
     let more = flat_map (λ b. spots_of b t) ls in
-    (λ i. (is_below a t || ended_choices_law a.choices (looked_at a.kind t) more i)
-    ∷ matched_each ls (map (λ b. is_below b t) ls) (drop_at (spots_of a t) more (spot_count a.choices) (length-spots_all a.choices (looked_at a.kind t)) i))
+    (λ i. (is_matched_above a t || ended_choices_law a.choices (looked_at a.kind t) more i)
+    ∷ matched_each ls (map (λ b. is_matched_above b t) ls) (drop_at (spots_of a t) more (spot_count a.choices) (length-spots_all a.choices (looked_at a.kind t)) i))
     ∙ ap (λ bs. is_matched a t ∷ bs) (each_law ls t)
 
 -- Names have no `/`.
-since_name : (name n : List ℕ) → list_all is_apart n ≡ true → since_slash name n ≡ name ++ n
+since_name : (name n : List ℕ) → list_all is_no_slash n ≡ true → since_slash name n ≡ name ++ n
 since_name name [] h = sym (append-nil name)
 since_name name (c ∷ n) h =
-    let w = and_parts (is_apart c) (list_all is_apart n) h in
+    let w = and_parts (is_no_slash c) (list_all is_no_slash n) h in
     ap (λ b. cond b (since_slash [] n) (since_slash (name ++ c ∷ []) n)) (not-true (c == 47) w.0) ∙ since_name (name ++ c ∷ []) n w.1 ∙ append_assoc name (c ∷ []) n
 
-since_front : (name n t : List ℕ) → list_all is_apart n ≡ true → since_slash name (n ++ 47 ∷ t) ≡ since_slash [] t
+since_front : (name n t : List ℕ) → list_all is_no_slash n ≡ true → since_slash name (n ++ 47 ∷ t) ≡ since_slash [] t
 since_front name [] t h = refl
 since_front name (c ∷ n) t h =
-    let w = and_parts (is_apart c) (list_all is_apart n) h in
+    let w = and_parts (is_no_slash c) (list_all is_no_slash n) h in
     ap (λ b. cond b (since_slash [] (n ++ 47 ∷ t)) (since_slash (name ++ c ∷ []) (n ++ 47 ∷ t))) (not-true (c == 47) w.0) ∙ since_front (name ++ c ∷ []) n t w.1
 
 last_text : (n : Name) (p : Path) → is_place (n ∷ p) ≡ true → since_slash [] (text_of (n ∷ p)) ≡ last_name (n ∷ p)
@@ -320,20 +320,20 @@ last_text n (m ∷ p) h =
     let w = and_parts (is_name n) (is_place (m ∷ p)) h in
     since_front [] n (text_of (m ∷ p)) (name-apart n w.0) ∙ last_text m p w.1
 
-folders_name : (n : List ℕ) → list_all is_apart n ≡ true → folders n ≡ []
+folders_name : (n : List ℕ) → list_all is_no_slash n ≡ true → folders n ≡ []
 folders_name [] h = refl
 folders_name (c ∷ n) h =
-    let w = and_parts (is_apart c) (list_all is_apart n) h in
+    let w = and_parts (is_no_slash c) (list_all is_no_slash n) h in
     ap (λ b. cond b ([] ∷ map (λ u. c ∷ u) (folders n)) (map (λ u. c ∷ u) (folders n))) (not-true (c == 47) w.0) ∙ ap (map (λ u. c ∷ u)) (folders_name n w.1)
 
 map-map : (f g : List ℕ → List ℕ) (us : List (List ℕ)) → map f (map g us) ≡ map (λ u. f (g u)) us
 map-map f g [] = refl
 map-map f g (u ∷ us) = ap (λ vs. f (g u) ∷ vs) (map-map f g us)
 
-folders_front : (n t : List ℕ) → list_all is_apart n ≡ true → folders (n ++ 47 ∷ t) ≡ n ∷ map (λ u. n ++ 47 ∷ u) (folders t)
+folders_front : (n t : List ℕ) → list_all is_no_slash n ≡ true → folders (n ++ 47 ∷ t) ≡ n ∷ map (λ u. n ++ 47 ∷ u) (folders t)
 folders_front [] t h = refl
 folders_front (c ∷ n) t h =
-    let w = and_parts (is_apart c) (list_all is_apart n) h in
+    let w = and_parts (is_no_slash c) (list_all is_no_slash n) h in
     let us = folders (n ++ 47 ∷ t) in
     ap (λ b. cond b ([] ∷ map (λ u. c ∷ u) us) (map (λ u. c ∷ u) us)) (not-true (c == 47) w.0)
     ∙ ap (map (λ u. c ∷ u)) (folders_front n t w.1) ∙ ap (λ vs. (c ∷ n) ∷ vs) (map-map (λ u. c ∷ u) (λ u. n ++ 47 ∷ u) (folders t))
@@ -359,10 +359,6 @@ prefix_texts n (m ∷ p) h =
     ∙ ap (λ us. n ∷ us) (map-push (λ u. n ++ 47 ∷ u) (folders t) t)
     ∙ ap (λ us. us ++ (n ++ 47 ∷ t) ∷ []) (sym (folders_front n t (name-apart n w.0)))
 
-any-ext : {X : Type 0} (f g : X → Bool) (xs : List X) → ((x : X) → f x ≡ g x) → list_any f xs ≡ list_any g xs
-any-ext f g [] h = refl
-any-ext f g (x ∷ xs) h = λ i. h x i || any-ext f g xs h i
-
 any-texts : (f : List ℕ → Bool) (ps : List Path) → list_any f (texts ps) ≡ list_any (λ q. f (text_of q)) ps
 any-texts f [] = refl
 any-texts f (p ∷ ps) = ap (λ b. f (text_of p) || b) (any-texts f ps)
@@ -382,7 +378,7 @@ kind_law kind.Path ps n p h = sym (glob_choices ps true (text_of (n ∷ p)))
 kind_law kind.BelowPath ps n p h =
     let f = fits (choices ps) in
     above_law f n p h
-    ∙ any-ext (λ q. f (text_of q)) (λ q. glob ps true (text_of q)) (prefixes (n ∷ p)) (λ q. sym (glob_choices ps true (text_of q)))
+    ∙ any-alike (λ q. f (text_of q)) (λ q. glob ps true (text_of q)) (prefixes (n ∷ p)) (λ q. sym (glob_choices ps true (text_of q)))
 
 pub spec_law : (s : Specification) (p : Path) → is_path p ≡ true → is_matched (alternatives_of s) (text_of p) ≡ matches s p
 unfolding matches
@@ -396,7 +392,7 @@ pub specs_law : (ls : List Alternatives) (specs : List Specification) (p : Path)
 specs_law ls specs p e h =
     ap (list_any (λ a. is_matched a (text_of p))) e
     ∙ sym (any-map (λ a. is_matched a (text_of p)) alternatives_of specs)
-    ∙ any-ext (λ r. is_matched (alternatives_of r) (text_of p)) (λ r. matches r p) specs (λ r. spec_law r p h)
+    ∙ any-alike (λ r. is_matched (alternatives_of r) (text_of p)) (λ r. matches r p) specs (λ r. spec_law r p h)
 
 -- The sample of a class, in the list of all samples.
 sample_at-other : (ms : List ℕ) (i d : ℕ) → i < length ms → get_or ms i d ≡ get_or ms i 0
@@ -413,8 +409,8 @@ class_of_sample ms samples k ch e a l h =
     ap (class_of ms) (h ∙ ap (λ xs. get_or xs k ch) e ∙ sample_at ms k ch l) ∙ sample_class ms k a l
 
 -- A character of class 0 isn't mentioned.
-pub class_zero : (ms : List ℕ) (x c : ℕ) → class_of ms x ≡ Some 0 → (is_left_out c || is_mentioned ms c) ≡ true → (x == c) ≡ false
+pub class_zero : (ms : List ℕ) (x c : ℕ) → class_of ms x ≡ Some 0 → (is_never_mentioned c || is_mentioned ms c) ≡ true → (x == c) ≡ false
 class_zero ms x c h m = let w = classed ms x 0 h in by w.0 w.1 where
-  by : is_left_out x ≡ false → Classed ms x 0 → (x == c) ≡ false
+  by : is_never_mentioned x ≡ false → Classed ms x 0 → (x == c) ≡ false
   by a (mentioned j e f) = absurd (omega (arith, e))
   by a (other e f) = not_it ms x c m a f

@@ -10,7 +10,7 @@ use Rattle.std.proofs.Math.Bool.{and-true, and-false, or-false}
 use Rattle.hub_glob.specs.OneStep.{nonzero, takes_run, run_step, run_end, pieces-append}
 use Rattle.hub_glob.specs.declared.piece.NextCharacter.{NextCharacter}
 use Rattle.hub_automaton.specs.Spots.{spots, starts}
-use Rattle.hub_automaton.specs.Stepping.{spot_past, stepped_pieces, last_spot, stepped, ended, entered_pieces, entered}
+use Rattle.hub_automaton.specs.Stepping.{spot_past, stepped_pieces, last_spot, stepped, ended_matches, entered_pieces, entered}
 
 not_empty : (t : List ℕ) (x : ℕ) → (length (t ++ x ∷ []) == 0) ≡ false
 not_empty [] x = nonzero 0
@@ -204,8 +204,8 @@ last_law front [] t rest = ap (λ c. front_matches c t) (sym (append-nil front))
 last_law front (p ∷ ps) t rest = last_law (front ++ p ∷ []) ps t rest ∙ ap (λ c. front_matches c t) (append_assoc front (p ∷ []) ps)
 
 -- The last spot of a choice says whether the choice matches.
-pub ended_law : (c : List Piece) (t : List ℕ) (rest : List Bool) → ended c (spots c t ++ rest) ≡ front_matches c t
-ended_law c t rest = ap (λ xs. ended c (xs ++ rest)) (spots_are c t) ∙ last_law [] c t rest
+pub ended_law : (c : List Piece) (t : List ℕ) (rest : List Bool) → ended_matches c (spots c t ++ rest) ≡ front_matches c t
+ended_law c t rest = ap (λ xs. ended_matches c (xs ++ rest)) (spots_are c t) ∙ last_law [] c t rest
 
 entered_law : (front ps : List Piece) → entered_pieces (front_matches front []) ps ≡ spots_after front ps []
 entered_law front [] = refl

@@ -11,13 +11,14 @@ use Rattle.hub_glob.specs.declared.piece.Piece.TheVariants.{Lit, Any, Run, OneOf
 use Rattle.hub_glob.specs.declared.path_spec.Kind.{Kind}
 use Rattle.hub_automaton.specs.Alphabet.{IsAlphabet, class_of, class_count, sample, first_unmentioned}
 use Rattle.hub_automaton.specs.Masks.{masks_start, masks_piece, mask_choice, mask_choices, mask_all}
-use Rattle.hub_automaton.specs.Spots.{is_name_kind, spot_count}
+use Rattle.hub_automaton.specs.Spots.{spot_count}
 use Rattle.hub_automaton.specs.Takers.{AreTaken, begun, is_among}
 use Rattle.hub_automaton.specs.Words.{packed, with_bit}
 use Rattle.hub_automaton.specs.declared.alternatives.Alternatives.{Alternatives}
 use Rattle.hub_automaton.specs.declared.masks.Mask.TheVariants as mask
 use Rattle.hub_automaton.proofs.Alphabets.{sample_class}
 use Rattle.hub_automaton.proofs.Kept.{flag_set, length-mask_choice, length-mask_choices}
+use Rattle.hub_glob.specs.Specification.{is_name_kind}
 
 -- Bits that are the same, or become others in several steps.
 pub taken_none : (ms : List ℕ) (takers : List (List ℕ)) (place : ℕ) (f g : ℕ → List Bool) → ((k : ℕ) → k < class_count ms → f (sample ms k) ≡ g (sample ms k))

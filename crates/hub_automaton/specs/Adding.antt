@@ -5,19 +5,19 @@ use Rattle.std.specs.List.{flat_map}
 use Rattle.std.proofs.lemmas.List.{drop_more}
 use Rattle.hub_automaton.specs.declared.fault.AutomatonFault.{AutomatonFault}
 use Rattle.hub_automaton.specs.declared.alphabet.TheConstants.{MENTIONED_CHARACTERS}
-use Rattle.hub_automaton.specs.Alphabet.{is_left_out, is_mentioned, placed, with_character, with_characters, Refuses}
+use Rattle.hub_automaton.specs.Alphabet.{is_never_mentioned, is_mentioned, inserted, with_character, with_characters, RefusesCharacters}
 
-pub length-placed : (ms : List ℕ) (c : ℕ) → length (placed ms c) ≡ length ms + 1
+pub length-placed : (ms : List ℕ) (c : ℕ) → length (inserted ms c) ≡ length ms + 1
 length-placed [] c = refl
 length-placed (m ∷ ms) c = by_test (nat_lt c m) (length-placed ms c) where
-  by_test : (b : Bool) → length (placed ms c) ≡ length ms + 1
-      → length (cond b (c ∷ m ∷ ms) (m ∷ placed ms c)) ≡ length (m ∷ ms) + 1
+  by_test : (b : Bool) → length (inserted ms c) ≡ length ms + 1
+      → length (cond b (c ∷ m ∷ ms) (m ∷ inserted ms c)) ≡ length (m ∷ ms) + 1
   by_test true h = omega arith
   by_test false h = omega (arith, h)
 
 pub length-with : (ms : List ℕ) (c : ℕ) → length ms ≤ length (with_character ms c)
-length-with ms c = by_test (is_left_out c || is_mentioned ms c) where
-  by_test : (b : Bool) → length ms ≤ length (cond b ms (placed ms c))
+length-with ms c = by_test (is_never_mentioned c || is_mentioned ms c) where
+  by_test : (b : Bool) → length ms ≤ length (cond b ms (inserted ms c))
   by_test true = omega arith
   by_test false = omega (arith, length-placed ms c)
 
@@ -41,7 +41,8 @@ mention_step cs old rest ms more whole e m h =
     ∙ ap (with_characters ms) (sym e) ∙ h
 
 pub mention_refused : (cs old rest ms start all : List ℕ) (e : AutomatonFault) → old ≡ cs ++ rest
-    → with_characters ms old ≡ with_characters start all → Refuses ms cs e → Refuses start all e
+    → with_characters ms old ≡ with_characters start all → RefusesCharacters ms cs e
+    → RefusesCharacters start all e
 mention_refused cs old rest ms start all e at h r =
     ⊎_elim (λ none. inl none)
     (λ many.

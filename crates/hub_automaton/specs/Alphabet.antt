@@ -14,12 +14,12 @@ use Rattle.hub_automaton.specs.declared.fault.AutomatonFault.{AutomatonFault}
 use Rattle.hub_automaton.specs.declared.fault.AutomatonFault.TheVariants.{TooManyCharacters, OutOfMemory}
 
 -- NUL, LF and CR: no path has them, and they are never mentioned.
-abbrev pub is_left_out : ℕ → Bool
-is_left_out c = c == 0 || c == 10 || c == 13
+abbrev pub is_never_mentioned : ℕ → Bool
+is_never_mentioned c = c == 0 || c == 10 || c == 13
 
 -- A character that may stand in a path: a Unicode scalar value, and none of those.
 abbrev pub is_path_character : ℕ → Bool
-is_path_character c = all_scalars (c ∷ []) && not (is_left_out c)
+is_path_character c = all_scalars (c ∷ []) && not (is_never_mentioned c)
 
 abbrev pub is_mentioned : List ℕ → ℕ → Bool
 is_mentioned ms c = list_any (λ m. m == c) ms
@@ -28,7 +28,7 @@ is_mentioned ms c = list_any (λ m. m == c) ms
 -- 1. All others are of class 0.
 abbrev pub class_of : List ℕ → ℕ → Option ℕ
 class_of ms c =
-    if is_left_out c then None else Some (unwrap_or (position_from (λ m. m == c) 1 ms) 0)
+    if is_never_mentioned c then None else Some (unwrap_or (position_from (λ m. m == c) 1 ms) 0)
 
 abbrev pub class_count : List ℕ → ℕ
 class_count ms = length ms + 1
@@ -59,26 +59,26 @@ pub record IsAlphabet (ms : List ℕ) : Type 0 where
   pub ascends : IsTrue (ascends ms)
   pub dot : IsTrue (is_mentioned ms 46)
   pub slash : IsTrue (is_mentioned ms 47)
-  pub allowed : IsTrue (list_all (λ m. not (is_left_out m)) ms)
+  pub allowed : IsTrue (list_all (λ m. not (is_never_mentioned m)) ms)
   pub scalars : IsTrue (all_scalars ms)
   pub few : length ms ≤ MENTIONED_CHARACTERS
 
 -- A number put in its place among others that ascend.
-abbrev pub placed : List ℕ → ℕ → List ℕ
-placed [] c = c ∷ []
-placed (m ∷ ms) c = if nat_lt c m then c ∷ m ∷ ms else m ∷ placed ms c
+abbrev pub inserted : List ℕ → ℕ → List ℕ
+inserted [] c = c ∷ []
+inserted (m ∷ ms) c = if nat_lt c m then c ∷ m ∷ ms else m ∷ inserted ms c
 
 -- The mentioned characters and one more, and with all of these.
 abbrev pub with_character : List ℕ → ℕ → List ℕ
-with_character ms c = if is_left_out c || is_mentioned ms c then ms else placed ms c
+with_character ms c = if is_never_mentioned c || is_mentioned ms c then ms else inserted ms c
 
 abbrev pub with_characters : List ℕ → List ℕ → List ℕ
 with_characters ms [] = ms
 with_characters ms (c ∷ cs) = with_characters (with_character ms c) cs
 
 -- Why they aren't added: they are too many, or there was no memory.
-abbrev pub Refuses : List ℕ → List ℕ → AutomatonFault → Type 0
-Refuses ms cs e =
+abbrev pub RefusesCharacters : List ℕ → List ℕ → AutomatonFault → Type 0
+RefusesCharacters ms cs e =
     (e ≡ OutOfMemory) ⊎ ((e ≡ TooManyCharacters)
     × (MENTIONED_CHARACTERS < length (with_characters ms cs)))
 
@@ -105,4 +105,4 @@ spec_characters s = flat_map part_characters s.pattern
 
 -- All these characters are mentioned, but for those that never are.
 abbrev pub mentions : List ℕ → List ℕ → Bool
-mentions ms cs = list_all (λ c. is_left_out c || is_mentioned ms c) cs
+mentions ms cs = list_all (λ c. is_never_mentioned c || is_mentioned ms c) cs

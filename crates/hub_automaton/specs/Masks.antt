@@ -12,8 +12,9 @@ use Rattle.hub_automaton.specs.declared.masks.SpotMasks.{SpotMasks}
 use Rattle.hub_glob.specs.declared.piece.NextCharacter.{NextCharacter}
 use Rattle.hub_automaton.specs.Alike.{is_exchangeable}
 use Rattle.hub_automaton.specs.Ends.{below_ends}
-use Rattle.hub_automaton.specs.Spots.{Seen, is_name_kind, is_below_kind, spot_count}
+use Rattle.hub_automaton.specs.Spots.{Seen, is_below_kind, spot_count}
 use Rattle.hub_automaton.specs.Words.{packed, bit, with_bit, moved_words}
+use Rattle.hub_glob.specs.Specification.{is_name_kind}
 
 -- Whether the first spot of a choice is in a mask: those of `Name` specifications are entered
 -- after a `/`.

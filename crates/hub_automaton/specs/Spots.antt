@@ -46,11 +46,6 @@ starts first (c ∷ t) = starts (c == 47) t
 abbrev pub fits : List (List Piece) → List ℕ → Bool
 fits cs t = list_any (λ c. pieces c no_more true t) cs
 
-abbrev pub is_name_kind : Kind → Bool
-is_name_kind kind.Name = true
-is_name_kind kind.Path = false
-is_name_kind kind.BelowPath = false
-
 abbrev pub is_below_kind : Kind → Bool
 is_below_kind kind.Name = false
 is_below_kind kind.Path = false
@@ -68,22 +63,25 @@ abbrev pub spots_of : Alternatives → List ℕ → List Bool
 spots_of a t = flat_map (λ c. spots c (looked_at a.kind t)) a.choices
 
 -- For `BelowPath`, whether a prefix that ends before a `/` is matched.
-abbrev pub is_below : Alternatives → List ℕ → Bool
-is_below a t = is_below_kind a.kind && list_any (fits a.choices) (folders t)
+abbrev pub is_matched_above : Alternatives → List ℕ → Bool
+is_matched_above a t = is_below_kind a.kind && list_any (fits a.choices) (folders t)
 
 -- One of its choices matches the text, or a path above it.
 abbrev pub is_matched : Alternatives → List ℕ → Bool
-is_matched a t = is_below a t || fits a.choices (looked_at a.kind t)
+is_matched a t = is_matched_above a t || fits a.choices (looked_at a.kind t)
 
 -- What is seen of a text for one specification: for each of its choices the spots, and whether a
 -- path above is matched.
-pub record Progress : Type 0 where
+pub record SpotsSeen : Type 0 where
   pub sets : List (List Bool)
   pub below : Bool
 
-abbrev pub progress : List ℕ → Alternatives → Progress
-progress t a =
-    record { sets = map (λ c. spots c (looked_at a.kind t)) a.choices; below = is_below a t }
+abbrev pub spots_seen : List ℕ → Alternatives → SpotsSeen
+spots_seen t a =
+    record {
+      sets = map (λ c. spots c (looked_at a.kind t)) a.choices;
+      below = is_matched_above a t;
+    }
 
 -- What is seen of a text: the spots of all choices, one specification after another, whether a path
 -- above is matched, for each of them, and whether the text ends where a component starts.
@@ -96,7 +94,7 @@ abbrev pub unpacked : List Alternatives → List ℕ → Unpacked
 unpacked ls t =
     record {
       live = flat_map (λ a. spots_of a t) ls;
-      below = map (λ a. is_below a t) ls;
+      below = map (λ a. is_matched_above a t) ls;
       start =
           starts true t;
     }
@@ -109,11 +107,11 @@ pub record Seen : Type 0 where
   pub row : List ℕ
   pub start : Bool
 
-abbrev pub kept : Unpacked → Seen
-kept u = record { row = packed u.live ++ packed u.below; start = u.start }
+abbrev pub packed_seen : Unpacked → Seen
+packed_seen u = record { row = packed u.live ++ packed u.below; start = u.start }
 
 abbrev pub seen : List Alternatives → List ℕ → Seen
-seen ls t = kept (unpacked ls t)
+seen ls t = packed_seen (unpacked ls t)
 
 -- How many spots the choices have.
 abbrev pub spot_count : List (List Piece) → ℕ

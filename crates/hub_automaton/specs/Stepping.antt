@@ -7,7 +7,8 @@ use Rattle.hub_glob.specs.Taking.{takes, is_star}
 use Rattle.hub_text.specs.TestLaws.{head, tail}
 use Rattle.hub_automaton.specs.declared.alternatives.Alternatives.{Alternatives}
 use Rattle.hub_glob.specs.declared.piece.NextCharacter.{NextCharacter}
-use Rattle.hub_automaton.specs.Spots.{Unpacked, is_name_kind, is_below_kind, spot_count}
+use Rattle.hub_automaton.specs.Spots.{Unpacked, is_below_kind, spot_count}
+use Rattle.hub_glob.specs.Specification.{is_name_kind}
 
 -- The spot after a piece: what was matched up to it and after it before the character, and what
 -- is matched up to it with the character. A `*` takes the character and stays, or takes nothing.
@@ -29,8 +30,8 @@ last_spot here (p ∷ ps) old = last_spot (head old) ps (tail old)
 abbrev pub stepped : NextCharacter → List Piece → List Bool → List Bool
 stepped x c old = false ∷ stepped_pieces x (head old) false c (tail old)
 
-abbrev pub ended : List Piece → List Bool → Bool
-ended c old = last_spot (head old) c (tail old)
+abbrev pub ended_matches : List Piece → List Bool → Bool
+ended_matches c old = last_spot (head old) c (tail old)
 
 -- The spots of the empty text.
 abbrev pub entered_pieces : Bool → List Piece → List Bool
@@ -47,7 +48,7 @@ stepped_choices x (c ∷ cs) old = stepped x c old ++ stepped_choices x cs (drop
 
 abbrev pub ended_choices : List (List Piece) → List Bool → Bool
 ended_choices [] old = false
-ended_choices (c ∷ cs) old = ended c old || ended_choices cs (drop (length c + 1) old)
+ended_choices (c ∷ cs) old = ended_matches c old || ended_choices cs (drop (length c + 1) old)
 
 abbrev pub entered_choices : List (List Piece) → List Bool
 entered_choices cs = flat_map entered cs

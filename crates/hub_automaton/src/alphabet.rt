@@ -51,7 +51,7 @@ impl Alphabet {
         ensures ok { OnOk result (self.new
             ≡ alphabet.with_characters self.old (alphabet.path_characters path.now)) }
         ensures few { OnOk result (length self.new ≤ MENTIONED_CHARACTERS) }
-        ensures err { IfErr result (alphabet.Refuses self.old (alphabet.path_characters path.now)) }
+        ensures err { IfErr result (alphabet.RefusesCharacters self.old (alphabet.path_characters path.now)) }
         ensures kept { OnErr result (self.new ≡ self.old) }
     {
         self.add(path)
@@ -66,7 +66,7 @@ impl Alphabet {
         ensures ok { OnOk result (self.new
             ≡ alphabet.with_characters self.old (alphabet.spec_characters spec.now)) }
         ensures few { OnOk result (length self.new ≤ MENTIONED_CHARACTERS) }
-        ensures err { IfErr result (alphabet.Refuses self.old (alphabet.spec_characters spec.now)) }
+        ensures err { IfErr result (alphabet.RefusesCharacters self.old (alphabet.spec_characters spec.now)) }
         ensures kept { OnErr result (self.new ≡ self.old) }
     {
         self.add(spec)
@@ -77,7 +77,7 @@ impl Alphabet {
         ensures ok { OnOk result (self.new
             ≡ alphabet.with_characters self.old (T.characters value.now)) }
         ensures few { OnOk result (length self.new ≤ MENTIONED_CHARACTERS) }
-        ensures err { IfErr result (alphabet.Refuses self.old (T.characters value.now)) }
+        ensures err { IfErr result (alphabet.RefusesCharacters self.old (T.characters value.now)) }
         ensures kept { OnErr result (self.new ≡ self.old) }
     {
         let mut mentioned = Vec::from_slice(
@@ -101,7 +101,7 @@ impl Alphabet {
     pub fn class_of(&self, character: char) -> Option<Class>
         ensures class { result ≡ alphabet.class_of self.now character }
         ensures below { IfSome result (λ k. k < alphabet.class_count self.now) }
-        ensures none { (result ≡ None) ↔ (alphabet.is_left_out character ≡ true) }
+        ensures none { (result ≡ None) ↔ (alphabet.is_never_mentioned character ≡ true) }
     {
         if is_left_out(character) {
             return None;

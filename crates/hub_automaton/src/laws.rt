@@ -5,9 +5,9 @@ ghost use Rattle.std.specs.declared.cmp.Ordering.TheVariants.{Equal};
 ghost use Rattle.hub_path.specs.Path.{Path, text_of, path_of, name_eq, path_eq, is_path};
 ghost use Rattle.hub_glob.specs.Glob.{matches};
 ghost use Rattle.hub_glob.specs.Specification.{Specification};
-ghost use Rattle.hub_automaton.specs.Spots.{Seen, seen, alternatives_of, path_alternatives, is_covered, is_matched, progress, spots_count, starts};
+ghost use Rattle.hub_automaton.specs.Spots.{Seen, seen, alternatives_of, path_alternatives, is_covered, is_matched, spots_seen, spots_count, starts};
 ghost use Rattle.hub_automaton.specs.declared.alternatives.Alternatives.{Alternatives};
-ghost use Rattle.hub_automaton.specs.Alphabet.{IsAlphabet, class_of, class_count, sample, with_characters, mentions, path_characters, spec_characters, is_left_out, is_mentioned, is_path_character};
+ghost use Rattle.hub_automaton.specs.Alphabet.{IsAlphabet, class_of, class_count, sample, with_characters, mentions, path_characters, spec_characters, is_never_mentioned, is_mentioned, is_path_character};
 
 use crate::spec_set::Spots;
 use std::hash::Hash;
@@ -19,9 +19,9 @@ pub fn classes_are_below_their_count()
 
 /// Every character but NUL, LF and CR has a class, and they have none.
 pub fn all_characters_of_paths_have_classes()
-    ensures some { (ms : List ℕ) (x : ℕ) → is_left_out x ≡ false → (k : ℕ)
+    ensures some { (ms : List ℕ) (x : ℕ) → is_never_mentioned x ≡ false → (k : ℕ)
         × (class_of ms x ≡ Some k) }
-    ensures none { (ms : List ℕ) (x k : ℕ) → class_of ms x ≡ Some k → is_left_out x ≡ false }
+    ensures none { (ms : List ℕ) (x k : ℕ) → class_of ms x ≡ Some k → is_never_mentioned x ≡ false }
 {}
 
 /// Mentioned characters and samples are characters that may stand in a path.
@@ -42,7 +42,7 @@ pub fn samples_are_of_their_class()
 /// distinguishes them.
 pub fn classes_are_alike()
     ensures { (ms : List ℕ) (x y k c : ℕ) → class_of ms x ≡ Some k → class_of ms y ≡ Some k
-        → (is_left_out c || is_mentioned ms c) ≡ true → (x == c) ≡ (y == c) }
+        → (is_never_mentioned c || is_mentioned ms c) ≡ true → (x == c) ≡ (y == c) }
 {}
 
 /// What is added is mentioned, and what was mentioned stays so.
@@ -55,7 +55,7 @@ pub fn what_is_added_is_mentioned()
 /// Exactly those characters are mentioned that were mentioned or are added, but for NUL, LF and CR.
 pub fn nothing_else_is_mentioned()
     ensures { (ms cs : List ℕ) (x : ℕ) → is_mentioned (with_characters ms cs) x
-        ≡ (is_mentioned ms x || (not (is_left_out x) && is_mentioned cs x)) }
+        ≡ (is_mentioned ms x || (not (is_never_mentioned x) && is_mentioned cs x)) }
 {}
 
 /// `Spots` are equal exactly when their values are, and tie in the order exactly then. Equal ones hash alike.
@@ -81,7 +81,7 @@ pub fn what_is_kept_goes_on_alike()
 /// choice match, and whether a path above matches; and whether the text ends where a component starts.
 pub fn the_same_is_kept_of_each_specification()
     ensures { (ls : List Alternatives) (t u : List ℕ) → (seen ls t ≡ seen ls u)
-        ↔ ((map (progress t) ls ≡ map (progress u) ls) × (starts true t ≡ starts true u)) }
+        ↔ ((map (spots_seen t) ls ≡ map (spots_seen u) ls) × (starts true t ≡ starts true u)) }
 {}
 
 /// If two paths lead to the same state, the same specifications match them.

@@ -3,8 +3,9 @@ ghost use Rattle.std.specs.Prelude.{◌≡◌, ◌≤◌, ◌++◌, ◌∷◌, l
 ghost use Rattle.hub_automaton.specs.Alphabet.{IsAlphabet, first_unmentioned};
 ghost use Rattle.hub_automaton.specs.Masks as masking;
 ghost use Rattle.hub_automaton.specs.Masks.{AreMasksOf};
-ghost use Rattle.hub_automaton.specs.Spots.{is_name_kind, spots_count};
+ghost use Rattle.hub_automaton.specs.Spots.{spots_count};
 ghost use Rattle.hub_automaton.specs.Words.{packed};
+ghost use Rattle.hub_glob.specs.Specification.{is_name_kind};
 
 use crate::alphabet::Alphabet;
 use crate::alternatives::{Alternatives, SPOTS};

@@ -21,7 +21,7 @@ pub(crate) trait Mentioning {
         requires { alphabet.IsAlphabet mentioned.old.items }
         ensures ok { OnOk result (mentioned.new.items
             ≡ alphabet.with_characters mentioned.old.items (characters self.now)) }
-        ensures err { IfErr result (alphabet.Refuses mentioned.old.items (characters self.now)) }
+        ensures err { IfErr result (alphabet.RefusesCharacters mentioned.old.items (characters self.now)) }
         ensures alphabet { OnOk result (alphabet.IsAlphabet mentioned.new.items) };
 }
 
@@ -30,7 +30,7 @@ fn put_each<T: Mentioning>(mentioned: &mut Vec<char>, values: &[T]) -> Result<()
     requires { alphabet.IsAlphabet mentioned.old.items }
     ensures ok { OnOk result (mentioned.new.items
         ≡ alphabet.with_characters mentioned.old.items (flat_map T.characters values.now)) }
-    ensures err { IfErr result (alphabet.Refuses mentioned.old.items
+    ensures err { IfErr result (alphabet.RefusesCharacters mentioned.old.items
         (flat_map T.characters values.now)) }
     ensures alphabet { OnOk result (alphabet.IsAlphabet mentioned.new.items) }
 {
@@ -114,7 +114,7 @@ fn mention(mentioned: &mut Vec<char>, character: char) -> Result<(), AutomatonFa
     requires { alphabet.IsAlphabet mentioned.old.items }
     ensures ok { OnOk result (mentioned.new.items
         ≡ alphabet.with_characters mentioned.old.items (character ∷ [])) }
-    ensures err { IfErr result (alphabet.Refuses mentioned.old.items (character ∷ [])) }
+    ensures err { IfErr result (alphabet.RefusesCharacters mentioned.old.items (character ∷ [])) }
     ensures alphabet { OnOk result (alphabet.IsAlphabet mentioned.new.items) }
 {
     if is_left_out(character) {
@@ -134,7 +134,7 @@ fn mention(mentioned: &mut Vec<char>, character: char) -> Result<(), AutomatonFa
 
 /// A character that stands in no path.
 pub(crate) fn is_left_out(character: char) -> bool
-    ensures { result ≡ alphabet.is_left_out character }
+    ensures { result ≡ alphabet.is_never_mentioned character }
 {
     matches!(character, '\0' | '\n' | '\r')
 }

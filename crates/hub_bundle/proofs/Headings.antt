@@ -1,12 +1,13 @@
 -- The sections of a bundle, one more at a time.
 use Rattle.std.proofs.Common.{◌≡◌, true, ℕ, ◌+◌, List, [], ◌∷◌, ◌++◌, Result, Ok, Err, refl, sym, ap, ◌∙◌}
 use Rattle.hub_text.specs.declared.line.Line.{Line}
-use Rattle.hub_text.specs.Lines.{lines_of}
+use Rattle.hub_text.specs.Lines.{lines_of, without_last_cr}
 use Rattle.hub_bundle.specs.declared.bundle.Heading.{Heading}
 use Rattle.hub_bundle.specs.declared.bundle.BundleFault.{BundleFault}
 use Rattle.hub_bundle.specs.declared.bundle.BundleLineFault.{BundleLineFault}
-use Rattle.hub_bundle.specs.Bundle.{SectionValue, Written, is_heading, follows_section, without_last_cr, bytes_before_heading, written, heading_reading, heading_below, after_heading, sections_reading}
+use Rattle.hub_bundle.specs.Bundle.{SectionValue, Written, follows_section, bytes_before_heading, written, heading_reading, heading_below, after_heading, sections_reading}
 use Rattle.hub_bundle.proofs.Lines.{heading_line}
+use Rattle.hub_files.specs.Files.{is_heading}
 
 -- A line that is left after a section is a heading.
 next_heading : (s t : List ℕ) (l : Line (List ℕ)) → lines_of s ≡ l ∷ lines_of t → follows_section s ≡ true → is_heading l.text ≡ true

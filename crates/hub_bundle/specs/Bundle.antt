@@ -1,9 +1,9 @@
 -- Which bytes are bundles, what their sections are, and the first fault of all others.
-use Rattle.std.specs.Prelude.{ℕ, ◌+◌, Bool, true, false, ◌||◌, ◌==◌, nat_eq, List, [], ◌∷◌, ◌++◌, ◌-◌, take, drop, length, Option, Some, None, Result, Ok, Err, if◌then◌else◌, codes, bytes_eq}
-use Rattle.std.specs.List.{list_any, list_all, starts_with, ends_with}
+use Rattle.std.specs.Prelude.{ℕ, ◌+◌, Bool, true, false, ◌||◌, ◌==◌, nat_eq, List, [], ◌∷◌, ◌++◌, ◌-◌, drop, length, Option, Some, None, Result, Ok, Err, if◌then◌else◌, codes, bytes_eq}
+use Rattle.std.specs.List.{list_any, list_all, starts_with}
 use Rattle.std.specs.Str.{is_utf8, chars}
 use Rattle.hub_text.specs.declared.line.Line.{Line}
-use Rattle.hub_text.specs.Lines.{lines_of, line_text}
+use Rattle.hub_text.specs.Lines.{lines_of, line_text, without_last_cr}
 use Rattle.hub_path.specs.Path.{Name}
 use Rattle.hub_path.specs.Reading.{name_reading}
 use Rattle.hub_path.specs.declared.fault.PathFault.{PathFault}
@@ -12,25 +12,17 @@ use Rattle.hub_bundle.specs.declared.bundle.Heading.TheVariants.{Profile, Rules,
 use Rattle.hub_bundle.specs.declared.bundle.BundleFault.{BundleFault}
 use Rattle.hub_bundle.specs.declared.bundle.BundleFault.TheVariants.{NoSection, UnknownSection, BadName, SectionTwice, OutOfMemory}
 use Rattle.hub_bundle.specs.declared.bundle.BundleLineFault.{BundleLineFault}
+use Rattle.hub_files.specs.Files.{is_heading}
 
 -- A section as contracts see it: what its heading says, and the bytes below it.
 pub record SectionValue : Type 0 where
   pub heading : Heading
   pub bytes : List ℕ
 
--- A heading is a line that begins with `%`.
-abbrev pub is_heading : List ℕ → Bool
-is_heading [] = false
-is_heading (b ∷ bs) = b == 37
-
 -- What follows a section: nothing, or a heading.
 abbrev pub follows_section : List ℕ → Bool
 follows_section [] = true
 follows_section (b ∷ bs) = b == 37
-
--- One CR at the end of a heading doesn't belong to it.
-abbrev pub without_last_cr : List ℕ → List ℕ
-without_last_cr l = if ends_with nat_eq l (codes "\r") then take (length l - 1) l else l
 
 -- The bytes of these lines up to the next heading.
 abbrev pub bytes_before_heading : List (Line (List ℕ)) → List ℕ
@@ -73,8 +65,8 @@ abbrev pub profile_or_fault : Result Name PathFault → Result Heading BundleFau
 profile_or_fault (Ok n) = Ok (Profile n)
 profile_or_fault (Err e) = Err BadName
 
-abbrev pub profile_reading : List ℕ → Result Heading BundleFault
-profile_reading bytes =
+abbrev pub profile_heading_reading : List ℕ → Result Heading BundleFault
+profile_heading_reading bytes =
     if is_utf8 bytes then profile_or_fault (name_reading (chars bytes)) else Err BadName
 
 -- The other kinds of sections have a heading without a name.
@@ -91,7 +83,7 @@ known_or_fault None = Err UnknownSection
 -- What a heading says by itself.
 abbrev pub heading_reading : List ℕ → Result Heading BundleFault
 heading_reading l =
-    if starts_with nat_eq l profile_word then profile_reading (drop (length profile_word) l)
+    if starts_with nat_eq l profile_word then profile_heading_reading (drop (length profile_word) l)
     else known_or_fault (heading_once l)
 
 abbrev pub is_rules : Heading → Bool

@@ -4,10 +4,11 @@ ghost use Rattle.std.specs.List.{list_all, list_any};
 ghost use Rattle.hub_text.specs.Fails.{Fails};
 ghost use Rattle.hub_text.specs.Lines.{lines_of};
 ghost use Rattle.hub_bundle.specs.Bundle as bundle;
-ghost use Rattle.hub_bundle.specs.Bundle.{without_last_cr, bytes_before_heading, follows_section, written, stray_line, profile_reading, heading_reading, bundle_reading, heading_below, out_of_memory};
+ghost use Rattle.hub_bundle.specs.Bundle.{bytes_before_heading, follows_section, written, stray_line, profile_heading_reading, heading_reading, bundle_reading, heading_below, out_of_memory};
 
+use hub_files::is_heading;
 use hub_path::{Name, PathFault};
-use hub_text::Lines;
+use hub_text::{Lines, without_last_cr};
 use std::alloc::{AllocError, AllocFailed, Global};
 use std::marker::Model;
 use thiserror::Error;
@@ -131,7 +132,7 @@ pub fn read_bundle<'a>(alloc: Global, bytes: &'a [u8]) -> Result<Vec<Section<'a>
     let (_blank, mut above) = take_section(&mut lines);
     let mut sections = Vec::new(alloc);
     while let Some(line) = lines.next() {
-        let text = without_cr(line.text);
+        let text = without_last_cr(line.text);
         let heading = read_heading_below(alloc, sections.as_slice(), above + 1, text)?;
         let (bytes, count) = take_section(&mut lines);
         sections.push(Section { heading, bytes })?;
@@ -177,27 +178,11 @@ fn ends_section(rest: &[u8]) -> bool
     rest.is_empty() || is_heading(rest)
 }
 
-fn is_heading(line: &[u8]) -> bool
-    ensures { result ≡ bundle.is_heading line.now }
-{
-    match line {
-        [first, ..] => *first == b'%',
-        [] => false,
-    }
-}
-
 fn is_ignorable(line: &[u8]) -> bool
     ensures { result ≡ list_all bundle.is_ignorable line.now }
 {
     line.iter()
         .all(|byte| matches!(*byte, b' ' | b'\t' | b'\r'))
-}
-
-/// The line without a CR at its end.
-fn without_cr(line: &[u8]) -> &[u8]
-    ensures { result.now ≡ without_last_cr line.now }
-{
-    line.strip_suffix(b"\r").unwrap_or(line)
 }
 
 /// What a heading says that comes after these sections. A fault is that of its line.
@@ -315,9 +300,9 @@ fn heading_once(text: &[u8]) -> Option<Heading>
 
 /// The heading of a profile with this name.
 fn read_profile_name(alloc: Global, line: usize, bytes: &[u8]) -> Result<Heading, BundleLineFault>
-    ensures ok { IfOk result (λ h. profile_reading bytes.now ≡ Ok h) }
+    ensures ok { IfOk result (λ h. profile_heading_reading bytes.now ≡ Ok h) }
     ensures err { IfErr result (λ e. (e ≡ out_of_memory)
-        ⊎ ((e.line ≡ line) × (profile_reading bytes.now ≡ Err e.fault))) }
+        ⊎ ((e.line ≡ line) × (profile_heading_reading bytes.now ≡ Err e.fault))) }
 {
     let fault = BundleFault::BadName;
     let Ok(text) = str::from_utf8(bytes) else {

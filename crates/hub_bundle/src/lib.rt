@@ -2,7 +2,7 @@
 //!
 //! - [`read_input`] reads all bytes of an input, in bounded reads.
 //! - [`read_bundle`] cuts bytes into [`Section`]s, each below its [`Heading`], or returns the first [`BundleLineFault`].
-//! - [`read_sections`] reads the sections, and returns their [`Contents`] or the first [`SectionFault`].
+//! - [`read_sections`] reads the sections, and returns their [`BundleContents`] or the first [`SectionFault`].
 //!
 //! ```rust
 //! let sections = match read_bundle(alloc, bytes.as_slice()) {
@@ -27,4 +27,4 @@ mod sections;
 
 pub use bundle::{BundleFault, BundleLineFault, Heading, Section, read_bundle};
 pub use input::{InputFault, READ_BYTES, READ_TURNS, read_input};
-pub use sections::{Contents, ReadError, SectionFault, read_sections};
+pub use sections::{BundleContents, ReadError, SectionFault, read_sections};

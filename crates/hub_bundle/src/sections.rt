@@ -18,7 +18,7 @@ use thiserror::Error;
 
 /// What the sections of a bundle say.
 #[derive(Drop)]
-pub struct Contents {
+pub struct BundleContents {
     /// The profiles, in order.
     pub profiles: Items<Profile>,
     /// The rules, or none if there is no such section.
@@ -91,11 +91,11 @@ impl<T: Drop> From<AllocFailed<T>> for ReadError {
 ///
 /// Returns the first fault of the first faulty section, if there is one. `OutOfMemory` may come in place of the contents or
 /// of a fault.
-pub fn read_sections(alloc: Global, sections: &[Section<'_>]) -> Result<Contents, ReadError>
-    ensures ok { IfOk result (λ c. said.sections_reading said.nothing sections.now ≡ Ok c) }
-    ensures err { IfErr result (said.FailsAs (said.sections_reading said.nothing sections.now)) }
+pub fn read_sections(alloc: Global, sections: &[Section<'_>]) -> Result<BundleContents, ReadError>
+    ensures ok { IfOk result (λ c. said.contents_reading said.no_contents sections.now ≡ Ok c) }
+    ensures err { IfErr result (said.FailsAs (said.contents_reading said.no_contents sections.now)) }
 {
-    let mut contents = Contents {
+    let mut contents = BundleContents {
         profiles: Items::new(alloc),
         rules: Rules::new(alloc),
         state: None,
@@ -110,9 +110,9 @@ pub fn read_sections(alloc: Global, sections: &[Section<'_>]) -> Result<Contents
 /// Adds what a section says.
 fn with_section(
     alloc: Global,
-    contents: Contents,
+    contents: BundleContents,
     section: &Section<'_>,
-) -> Result<Contents, ReadError>
+) -> Result<BundleContents, ReadError>
     ensures ok { IfOk result (λ c. said.with_section contents section.now ≡ Ok c) }
     ensures err { IfErr result (said.FailsAs (said.with_section contents section.now)) }
 {
@@ -128,10 +128,10 @@ fn with_section(
 /// Adds the profile of that name.
 fn with_profile(
     alloc: Global,
-    contents: Contents,
+    contents: BundleContents,
     name: &Name,
     bytes: &[u8],
-) -> Result<Contents, ReadError>
+) -> Result<BundleContents, ReadError>
     ensures ok { IfOk result (λ c.
         said.with_profile contents name.now (profile_in name.now bytes.now) ≡ Ok c) }
     ensures err { IfErr result (said.FailsAs
@@ -143,10 +143,10 @@ fn with_profile(
     }
 }
 
-fn and_profile(contents: Contents, profile: Profile) -> Result<Contents, AllocError>
+fn and_profile(contents: BundleContents, profile: Profile) -> Result<BundleContents, AllocError>
     ensures { IfOk result (λ c. c ≡ said.and_profile contents profile) }
 {
-    let Contents {
+    let BundleContents {
         mut profiles,
         rules,
         state,
@@ -155,7 +155,7 @@ fn and_profile(contents: Contents, profile: Profile) -> Result<Contents, AllocEr
     if profiles.push(profile).is_err() {
         return Err(AllocError);
     }
-    Ok(Contents {
+    Ok(BundleContents {
         profiles,
         rules,
         state,
@@ -176,18 +176,22 @@ fn faulty_profile(profile: Name, fault: ProfileFault) -> ReadError
 }
 
 /// Adds the rules.
-fn with_rules(alloc: Global, contents: Contents, bytes: &[u8]) -> Result<Contents, ReadError>
+fn with_rules(
+    alloc: Global,
+    contents: BundleContents,
+    bytes: &[u8],
+) -> Result<BundleContents, ReadError>
     ensures ok { IfOk result (λ c. said.with_rules contents (rules_in bytes.now) ≡ Ok c) }
     ensures err { IfErr result (said.FailsAs (said.with_rules contents (rules_in bytes.now))) }
 {
-    let Contents {
+    let BundleContents {
         profiles,
         rules: _,
         state,
         certificates,
     } = contents;
     match read_rules(alloc, bytes) {
-        Ok(rules) => Ok(Contents {
+        Ok(rules) => Ok(BundleContents {
             profiles,
             rules,
             state,
@@ -210,18 +214,22 @@ fn faulty_rules(fault: ProfileFault) -> ReadError
 }
 
 /// Adds the state.
-fn with_state(alloc: Global, contents: Contents, bytes: &[u8]) -> Result<Contents, ReadError>
+fn with_state(
+    alloc: Global,
+    contents: BundleContents,
+    bytes: &[u8],
+) -> Result<BundleContents, ReadError>
     ensures ok { IfOk result (λ c. said.with_state contents (state_reading bytes.now) ≡ Ok c) }
     ensures err { IfErr result (said.FailsAs (said.with_state contents (state_reading bytes.now))) }
 {
-    let Contents {
+    let BundleContents {
         profiles,
         rules,
         state: _,
         certificates,
     } = contents;
     match read_bytes(alloc, bytes) {
-        Ok(state) => Ok(Contents {
+        Ok(state) => Ok(BundleContents {
             profiles,
             rules,
             state: Some(state),
@@ -244,20 +252,24 @@ fn faulty_state(fault: StateFault) -> ReadError
 }
 
 /// Adds the certificates.
-fn with_certificates(alloc: Global, contents: Contents, bytes: &[u8]) -> Result<Contents, ReadError>
+fn with_certificates(
+    alloc: Global,
+    contents: BundleContents,
+    bytes: &[u8],
+) -> Result<BundleContents, ReadError>
     ensures ok { IfOk result (λ c.
         said.with_certificates contents (certificates_in bytes.now) ≡ Ok c) }
     ensures err { IfErr result (said.FailsAs
         (said.with_certificates contents (certificates_in bytes.now))) }
 {
-    let Contents {
+    let BundleContents {
         profiles,
         rules,
         state,
         certificates: _,
     } = contents;
     match read_certificates(alloc, bytes) {
-        Ok(certificates) => Ok(Contents {
+        Ok(certificates) => Ok(BundleContents {
             profiles,
             rules,
             state,

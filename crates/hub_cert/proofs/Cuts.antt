@@ -7,7 +7,8 @@ use Rattle.std.proofs.lemmas.Bool.Decides.{nat_tests}
 use Rattle.std.proofs.lemmas.List.{take_more}
 use Rattle.std.proofs.lemmas.List.Sums.{fold-append, position_or_len_is}
 use Rattle.memchr.specs.Find.{IsFirstByte, is_byte}
-use Rattle.hub_cert.specs.Reading.{is_digit, is_space, value_of}
+use Rattle.hub_cert.specs.Reading.{is_digit, decimal_value}
+use Rattle.hub_text.specs.Blanks.{is_space}
 
 -- The place of the first space, or the length.
 pub space-place : (s : List ℕ) (r : Option ℕ) → IsFirstByte (is_byte 32) s r → position_or_len is_space s ≡ unwrap_or r (length s)
@@ -26,7 +27,7 @@ digit-at (b ∷ ds) zero d h l e = digit-bounds d (ap is_digit e ∙ (and_parts 
 digit-at (b ∷ ds) (suc i) d h l e = digit-at ds i d (and_parts (is_digit b) (list_all is_digit ds) h).1 (omega (arith, l)) e
 
 -- The value of three digits at most.
-pub small : (ds : List ℕ) (i : ℕ) → list_all is_digit ds ≡ true → i ≤ 3 → value_of (take i ds) ≤ 999
+pub small : (ds : List ℕ) (i : ℕ) → list_all is_digit ds ≡ true → i ≤ 3 → decimal_value (take i ds) ≤ 999
 small ds zero h l = omega arith
 small [] (suc i) h l = omega arith
 small (a ∷ ds) (suc zero) h l = let x = digit-bounds a (and_parts (is_digit a) (list_all is_digit ds) h).0 in omega (arith, x.0, x.1)
@@ -51,6 +52,6 @@ small (a ∷ b ∷ c ∷ ds) (suc (suc (suc zero))) h l =
 small (a ∷ b ∷ c ∷ ds) (suc (suc (suc (suc i)))) h l = absurd (omega (arith, l))
 
 -- One digit more.
-pub value-more : (ds : List ℕ) (i d : ℕ) → i < length ds → d ≡ get_or ds i d → value_of (take (i + 1) ds) ≡ value_of (take i ds) * 10 + (d - 48)
+pub value-more : (ds : List ℕ) (i d : ℕ) → i < length ds → d ≡ get_or ds i d → decimal_value (take (i + 1) ds) ≡ decimal_value (take i ds) * 10 + (d - 48)
 value-more ds i d l e =
-    ap value_of (take_more ds i d l) ∙ (fold-append (λ n b. n * 10 + (b - 48)) 0 (take i ds) (get_or ds i d ∷ []) ∙ ap (λ b. value_of (take i ds) * 10 + (b - 48)) (sym e))
+    ap decimal_value (take_more ds i d l) ∙ (fold-append (λ n b. n * 10 + (b - 48)) 0 (take i ds) (get_or ds i d ∷ []) ∙ ap (λ b. decimal_value (take i ds) * 10 + (b - 48)) (sym e))

@@ -6,7 +6,7 @@ use Rattle.hub_cert.specs.declared.certificate.Certificate.{Certificate}
 use Rattle.hub_cert.specs.declared.draft.Draft.{Draft}
 use Rattle.hub_cert.specs.declared.fault.CheckFault.{CheckFault}
 use Rattle.hub_cert.specs.declared.fault.CheckFault.TheVariants.{BadText, OutOfMemory}
-use Rattle.hub_cert.specs.Reading.{and_then, certificates_in, finished, lines_reading, with_line}
+use Rattle.hub_cert.specs.Reading.{or_bad_text, certificates_in, finished_list, lines_reading, with_line}
 
 -- Bytes have at most as many lines as there are bytes.
 length-onto : (c : ℕ) (ls : List (Line (List ℕ))) → length (onto_first_line c ls) ≤ length ls + 1
@@ -35,15 +35,15 @@ module _ (bytes : List ℕ) (d : Draft) (number : ℕ) (rest after : List ℕ) (
 
   pub line-taken : (e : Draft) → with_line d l ≡ Some e → IsAt bytes e (number + 1) after
   line-taken e h = record {
-    says = sym (ap (λ o. and_then (number + 1) o (λ f. lines_reading f (number + 1 + 1) (lines_of after))) h) ∙ one-line;
+    says = sym (ap (λ o. or_bad_text (number + 1) o (λ f. lines_reading f (number + 1 + 1) (lines_of after))) h) ∙ one-line;
     few = next-fits;
   }
 
   pub line-faulty : with_line d l ≡ None → certificates_in bytes ≡ Err (BadText (number + 1))
-  line-faulty h = sym one-line ∙ ap (λ o. and_then (number + 1) o (λ f. lines_reading f (number + 1 + 1) (lines_of after))) h
+  line-faulty h = sym one-line ∙ ap (λ o. or_bad_text (number + 1) o (λ f. lines_reading f (number + 1 + 1) (lines_of after))) h
 
 -- After the last line.
-pub all-read : (bytes : List ℕ) (d : Draft) (number : ℕ) (rest : List ℕ) → IsAt bytes d number rest → rest ≡ [] → certificates_in bytes ≡ finished d.part d.certificates (number + 1)
+pub all-read : (bytes : List ℕ) (d : Draft) (number : ℕ) (rest : List ℕ) → IsAt bytes d number rest → rest ≡ [] → certificates_in bytes ≡ finished_list d.part d.certificates (number + 1)
 all-read bytes d number rest at none = sym at.says ∙ ap (λ s. lines_reading d (number + 1) (lines_of s)) none
 
 -- A result, as its two cases.

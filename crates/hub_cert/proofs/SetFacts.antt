@@ -15,7 +15,7 @@ use Rattle.hub_profile.specs.Parts.{Parts}
 use Rattle.hub_reach.specs.Mention.{mentioned_by}
 use Rattle.hub_automaton.specs.AddedInTurn.{parts-mentioned}
 use Rattle.hub_reach.specs.MentionLaws.{says-all}
-use Rattle.hub_cert.specs.Set.{AreApart, HaveNames, Members, Mentioned, forbidden_by, mentioned_in, roots_in}
+use Rattle.hub_cert.specs.Set.{AreApart, HaveOwnNames, Members, Mentioned, forbidden_by, mentioned_in, roots_in}
 use Rattle.hub_cert.specs.Refused.{AreFirstNested, AreNested, AreShownNested, FewNamed, HaveSameName, IsRefused, IsTooMuch, fault_of, is_nested}
 use Rattle.hub_cert.specs.declared.set.TheConstants.{PROFILES}
 use Rattle.hub_automaton.specs.declared.fault.AutomatonFault.{AutomatonFault}
@@ -48,7 +48,7 @@ none-repeated-more Ps n here before i j l m h =
 pub all-names : (Ps : List Parts) (n : ℕ) → length Ps ≤ n → NoneRepeated Ps n → (i j : ℕ) → i < j → HaveSameName Ps i j → ⊥
 all-names Ps n long none i j l h = let m = slice_get_within Ps j h.second h.at_second in none i j l (omega (arith, m, long)) h
 
-pub have-names : (S : Members) → ((i j : ℕ) → i < j → HaveSameName S.profiles i j → ⊥) → HaveNames S
+pub have-names : (S : Members) → ((i j : ℕ) → i < j → HaveSameName S.profiles i j → ⊥) → HaveOwnNames S
 have-names S none i j P Q at_i at_j differ same = go (nat_lt i j) (nat_lt j i) refl refl
   where
     go : (a b : Bool) → nat_lt i j ≡ a → nat_lt j i ≡ b → ⊥

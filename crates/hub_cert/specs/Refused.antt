@@ -6,8 +6,8 @@ use Rattle.hub_automaton.specs.declared.alternatives.TheConstants.{SPOTS}
 use Rattle.hub_automaton.specs.declared.fault.AutomatonFault.{AutomatonFault}
 use Rattle.hub_automaton.specs.declared.fault.AutomatonFault.TheVariants as automaton
 use Rattle.hub_profile.specs.Parts.{Parts}
-use Rattle.hub_reach.specs.Stage.{spots_of}
-use Rattle.hub_cert.specs.Set.{Members, AreApart, HaveNames, alphabet_of, roots_in, rule_spots}
+use Rattle.hub_reach.specs.Stage.{spot_count_of}
+use Rattle.hub_cert.specs.Set.{Members, AreApart, HaveOwnNames, alphabet_of, roots_in, rule_spots}
 use Rattle.hub_profile.specs.declared.rule.Rule.{Rule}
 use Rattle.hub_cert.specs.declared.fault.CheckFault.{CheckFault}
 use Rattle.hub_cert.specs.declared.fault.CheckFault.TheVariants as fault
@@ -58,7 +58,7 @@ pub record AreShownNested (rs : List Path) (r s : Path) : Type 0 where
 -- A profile or a rule with too many spots.
 abbrev pub HasManySpots : Members → Type 0
 HasManySpots S =
-    ((i : ℕ) × (P : Parts) × (slice_get S.profiles i ≡ Some P) × (SPOTS < spots_of P))
+    ((i : ℕ) × (P : Parts) × (slice_get S.profiles i ≡ Some P) × (SPOTS < spot_count_of P))
     ⊎ ((k : ℕ) × (R : Rule) × (slice_get S.rules k ≡ Some R) × (SPOTS < rule_spots R))
 
 -- The mentioned characters are too many, or else the spots are.
@@ -75,7 +75,7 @@ fault_of automaton.OutOfMemory = fault.OutOfMemory
 
 -- What is tested before roots are, and before characters and spots are.
 abbrev pub FewNamed : Members → Type 0
-FewNamed S = (length S.profiles ≤ PROFILES) × HaveNames S
+FewNamed S = (length S.profiles ≤ PROFILES) × HaveOwnNames S
 
 -- Each fault comes when all that is tested before it holds.
 abbrev pub IsRefused : Members → CheckFault → Type 0

@@ -8,7 +8,7 @@ use Rattle.hub_automaton.specs.Spots.{alternatives_of, spots_count}
 use Rattle.hub_automaton.specs.declared.alternatives.TheConstants.{SPOTS}
 use Rattle.hub_profile.specs.Parts.{Parts, IsProfile}
 use Rattle.hub_reach.specs.Mention.{Mentions, mentioned_by}
-use Rattle.hub_reach.specs.Stage.{spots_of}
+use Rattle.hub_reach.specs.Stage.{spot_count_of}
 use Rattle.hub_reach.specs.Safe as safe
 use Rattle.hub_profile.specs.declared.rule.Rule.{Rule}
 use Rattle.hub_profile.specs.declared.rules.TheConstants.{RULES}
@@ -34,8 +34,8 @@ abbrev pub alphabet_of : Members → List ℕ
 alphabet_of S = with_characters plain (mentioned_in S)
 
 -- All profiles are valid.
-abbrev pub AreProfiles : Members → Type 0
-AreProfiles S = (i : ℕ) (P : Parts) → slice_get S.profiles i ≡ Some P → IsProfile P
+abbrev pub HasValidProfiles : Members → Type 0
+HasValidProfiles S = (i : ℕ) (P : Parts) → slice_get S.profiles i ≡ Some P → IsProfile P
 
 -- The roots of profiles, and then of rules; no two different ones are nested.
 abbrev pub roots_in : Members → List Path
@@ -47,8 +47,8 @@ AreApart S =
     → IsTrue (is_over r s) → r ≡ s
 
 -- No two profiles have one name.
-abbrev pub HaveNames : Members → Type 0
-HaveNames S =
+abbrev pub HaveOwnNames : Members → Type 0
+HaveOwnNames S =
     (i j : ℕ) (P Q : Parts) → slice_get S.profiles i ≡ Some P → slice_get S.profiles j ≡ Some Q
     → i ≢ j → P.name ≢ Q.name
 
@@ -64,16 +64,16 @@ abbrev pub rule_spots : Rule → ℕ
 rule_spots R = spots_count (alternatives_of R.spec ∷ [])
 
 pub record HasFewSpots (S : Members) : Type 0 where
-  pub profiles : (i : ℕ) (P : Parts) → slice_get S.profiles i ≡ Some P → spots_of P ≤ SPOTS
+  pub profiles : (i : ℕ) (P : Parts) → slice_get S.profiles i ≡ Some P → spot_count_of P ≤ SPOTS
   pub rules : (k : ℕ) (R : Rule) → slice_get S.rules k ≡ Some R → rule_spots R ≤ SPOTS
 
 -- What holds of each set, and of its alphabet.
 pub record IsSet (S : Members) (ms : List ℕ) : Type 0 where
   pub few : length S.profiles ≤ PROFILES
   pub few_rules : length S.rules ≤ RULES
-  pub names : HaveNames S
+  pub names : HaveOwnNames S
   pub apart : AreApart S
-  pub profiles : AreProfiles S
+  pub profiles : HasValidProfiles S
   pub alphabet : ms ≡ alphabet_of S
   pub mentioned : Mentioned S ms
   pub spots : HasFewSpots S

@@ -59,7 +59,7 @@ impl Draft {
 
     /// Returns the certificates after the last line. `line` is the number of the line after it.
     pub(crate) fn finish(self, line: usize) -> Result<Items<Certificate>, CheckFault>
-        ensures { result ≡ reading.finished self.part self.certificates line }
+        ensures { result ≡ reading.finished_list self.part self.certificates line }
     {
         match self.part {
             Part::Header | Part::Certificates => Err(CheckFault::BadText { line }),
@@ -122,7 +122,7 @@ impl Draft {
 
     /// Adds a stage line's text to the last certificate.
     fn with_stage(self, alloc: Global, line: &[u8]) -> Result<Option<Draft>, AllocError>
-        ensures { IfOk result (λ o. o ≡ reading.with_stage self (reading.stage_in line.now)) }
+        ensures { IfOk result (λ o. o ≡ reading.with_stage self (reading.stage_text_in line.now)) }
     {
         let Draft {
             part,
@@ -141,7 +141,7 @@ impl Draft {
 
     /// Returns all certificates, with the last one.
     fn closed(self) -> Result<Items<Certificate>, AllocError>
-        ensures { IfOk result (λ cs. cs ≡ reading.closed self) }
+        ensures { IfOk result (λ cs. cs ≡ reading.all_certificates self) }
     {
         let Draft {
             part: _,
@@ -162,7 +162,7 @@ fn with_text(
     last: Option<Certificate>,
     line: &[u8],
 ) -> Result<Option<Certificate>, AllocError>
-    ensures { IfOk result (λ o. o ≡ reading.with_text last (reading.stage_in line.now)) }
+    ensures { IfOk result (λ o. o ≡ reading.with_stage_text last (reading.stage_text_in line.now)) }
 {
     let Some(certificate) = last else {
         return Ok(None);

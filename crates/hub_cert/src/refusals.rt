@@ -1,12 +1,12 @@
 //! Why profiles and rules make no set.
 ghost use Rattle.std.specs.Prelude.{◌≡◌, ◌⊎◌, ◌<◌, ◌≤◌, ◌++◌, ℕ, length, slice_get, Some, IfOk, IfErr, OnOk, MatchOption, IsTrue};
-ghost use Rattle.hub_automaton.specs.Alphabet.{mentions, plain, spec_characters, Refuses};
+ghost use Rattle.hub_automaton.specs.Alphabet.{mentions, plain, spec_characters, RefusesCharacters};
 ghost use Rattle.hub_automaton.specs.declared.alternatives.TheConstants.{SPOTS};
 ghost use Rattle.hub_automaton.specs.declared.fault.AutomatonFault.TheVariants.{TooManyCharacters, TooManySpots};
 ghost use Rattle.hub_profile.specs.Parts.{Parts, IsProfile};
 ghost use Rattle.hub_profile.specs.declared.rules.TheConstants.{RULES};
 ghost use Rattle.hub_reach.specs.Mention.{Mentions};
-ghost use Rattle.hub_reach.specs.Stage.{spots_of};
+ghost use Rattle.hub_reach.specs.Stage.{spot_count_of};
 ghost use Rattle.hub_cert.specs.Set as of_set;
 ghost use Rattle.hub_cert.specs.Refused as refused;
 ghost use Rattle.hub_profile.specs.declared.rule.Rule.{Rule};
@@ -217,7 +217,7 @@ pub(crate) fn alphabet_with(
     ensures mentioned { (S : of_set.Members) → S.profiles ≡ profiles.now → S.rules ≡ rules.now
         → IfOk result (λ a. of_set.Mentioned S a) }
     ensures err { (S : of_set.Members) → S.profiles ≡ profiles.now → S.rules ≡ rules.now
-        → IfErr result (Refuses plain (of_set.mentioned_in S)) }
+        → IfErr result (RefusesCharacters plain (of_set.mentioned_in S)) }
 {
     what_is_added_is_mentioned();
     let mut alphabet = Alphabet::new(alloc)?;
@@ -236,10 +236,10 @@ pub(crate) fn count_profile_spots(
 ) -> Result<(), AutomatonFault>
     requires { (i : ℕ) (P : Parts) → slice_get profiles.now i ≡ Some P → Mentions alphabet.now P }
     ensures few { OnOk result ((i : ℕ) (P : Parts) → slice_get profiles.now i ≡ Some P
-        → spots_of P ≤ SPOTS) }
+        → spot_count_of P ≤ SPOTS) }
     ensures err { IfErr result (λ e. (e ≡ AutomatonFault.OutOfMemory)
         ⊎ ((e ≡ TooManySpots) × ((i : ℕ) × (P : Parts) × (slice_get profiles.now i ≡ Some P)
-        × (SPOTS < spots_of P)))) }
+        × (SPOTS < spot_count_of P)))) }
 {
     for profile in profiles {
         // A call of `drop` is cheaper to prove than the drop of a value that is thrown away.

@@ -2,6 +2,7 @@
 ghost use Rattle.std.specs.Prelude.{◌≡◌, ◌≤◌, true, length, IfOk, IsTrue};
 ghost use Rattle.std.specs.List.{before_first, after_first, list_all};
 ghost use Rattle.std.specs.Option.{option_copied};
+ghost use Rattle.hub_text.specs.Blanks.{is_space};
 ghost use Rattle.hub_cert.specs.Reading as reading;
 
 use crate::certificate::StageText;
@@ -26,7 +27,7 @@ pub(crate) fn read_goal(line: &[u8]) -> Option<Goal>
 
 /// Reads a stage line.
 pub(crate) fn read_stage(alloc: Global, line: &[u8]) -> Result<Option<StageText>, AllocError>
-    ensures { IfOk result (λ o. o ≡ reading.stage_in line.now) }
+    ensures { IfOk result (λ o. o ≡ reading.stage_text_in line.now) }
 {
     match after_word(line, b"stage ".as_slice()) {
         Some(digits) => read_text(alloc, digits),
@@ -43,8 +44,8 @@ fn after_word<'a>(line: &'a [u8], word: &[u8]) -> Option<&'a [u8]>
 
 /// Cuts bytes at their first space, which is dropped. Without a space the second part is empty.
 fn cut_at_space(bytes: &[u8]) -> (&[u8], &[u8])
-    ensures before { result.0.now ≡ before_first reading.is_space bytes.now }
-    ensures after { result.1.now ≡ after_first reading.is_space bytes.now }
+    ensures before { result.0.now ≡ before_first is_space bytes.now }
+    ensures after { result.1.now ≡ after_first is_space bytes.now }
 {
     match memchr(b' ', bytes) {
         Some(len) => (&bytes[..len], &bytes[len + 1..]),
@@ -130,7 +131,7 @@ fn is_digit(byte: &u8) -> bool
 fn value_of(digits: &[u8]) -> usize
     requires few { length digits.now ≤ 4 }
     requires digits { IsTrue (list_all reading.is_digit digits.now) }
-    ensures { result ≡ reading.value_of digits.now }
+    ensures { result ≡ reading.decimal_value digits.now }
 {
     let mut value: usize = 0;
     for digit in digits {

@@ -77,7 +77,7 @@ impl ProfileSet {
     /// Borrows the profiles. A profile's number is its place, from 0 on.
     pub fn profiles(&self) -> &[Profile]
         ensures value { result.now ≡ self.now.profiles }
-        ensures valid { of_set.AreProfiles self.now }
+        ensures valid { of_set.HasValidProfiles self.now }
         ensures apart { of_set.AreApart self.now }
     {
         self.profiles.as_slice()

@@ -19,7 +19,7 @@ use Rattle.clap.specs.declared.parser.matches.Found.{Found}
 use Rattle.clap.specs.declared.parser.matches.ArgMatches.{ArgMatches}
 use Rattle.clap.specs.declared.parser.matches.ArgMatches.TheViews.{out-ArgMatches, out-SubCommand}
 use Rattle.clap.specs.declared.parser.matches.SubCommand.{SubCommand}
-use Rattle.hub_cli.specs.Words.{Request, about_files, asked_of, byte_of, files_of, hubsync_app, names_found, names_in, operands_of, request_in, unless_fault, workers_in, Names}
+use Rattle.hub_cli.specs.Words.{Request, about_files, asked_of, byte_of, files_of, hubsync_app, names_found, names_in, operands_of, request_in, asked_unless, workers_in, Names}
 
 simple : is_simple hubsync_app ≡ true
 unfolding clap_on_literals hubsync_app
@@ -41,7 +41,7 @@ pub asked_is : (a : App) (words : List Text) (m : ArgMatches) → a ≡ hubsync_
 unfolding asked_of
 asked_is a words m is faultless matches =
     let none : fault_of hubsync_app words ≡ [] = subst (λ (b : App). fault_of b words ≡ []) is (faultless (ap is_simple_and_free is ∙ simple_and_free)) in
-    ap₂ unless_fault none (sym (ap request_in (used_is a words m is matches)))
+    ap₂ asked_unless none (sym (ap request_in (used_is a words m is matches)))
 
 -- and which files the words name
 pub files_are : (a : App) (words : List Text) (m : ArgMatches) → a ≡ hubsync_app → HasMatchesOf a words m
@@ -57,7 +57,7 @@ refused a words e is faults =
     go (fault_of hubsync_app words) (request_in (subcommand_of hubsync_app words))
     (subst (λ (b : App). HasKind (fault_of b words) e) is (faults (ap is_simple_and_free is ∙ simple_and_free)))
   where
-    go : (kinds : Kinds) (request : Option Request) → HasKind kinds e → (kind_of e ≡ OutOfMemory) ⊎ (unless_fault kinds request ≡ None)
+    go : (kinds : Kinds) (request : Option Request) → HasKind kinds e → (kind_of e ≡ OutOfMemory) ⊎ (asked_unless kinds request ≡ None)
     go [] request (inl h) = inl h
     go [] request (inr h) = absurd h
     go (k ∷ ks) request h = inr refl

@@ -136,8 +136,8 @@ run_by rows =
     (workers_in (one_of (codes "workers") rows))
 
 -- all that clashes, drawn as a graph or not
-abbrev pub clashes : Bool → Request
-clashes as_graph = if as_graph then about Graph else about Clashes
+abbrev pub clashes_request : Bool → Request
+clashes_request as_graph = if as_graph then about Graph else about Clashes
 
 -- the file of a profile
 abbrev pub is_profile_file : Text → Bool
@@ -154,7 +154,7 @@ about_named name rows =
     if bytes_eq name (codes "check") then Some (about Check)
     else (if bytes_eq name (codes "certify") then Some (about Certify)
     else (if bytes_eq name (codes "verify") then Some (about Verify)
-    else (if bytes_eq name (codes "clashes") then Some (clashes (is_set (codes "dot") rows))
+    else (if bytes_eq name (codes "clashes") then Some (clashes_request (is_set (codes "dot") rows))
     else (if bytes_eq name (codes "rounds") then Some (about Rounds)
     else (if bytes_eq name (codes "run") then run_by rows else None)))))
 
@@ -172,15 +172,15 @@ request_in (Some p) =
     else about_files p.0 p.1
 
 -- nothing is asked for if there is a fault
-abbrev pub unless_fault : Kinds → Option Request → Option Request
-unless_fault [] request = request
-unless_fault (kind ∷ kinds) request = None
+abbrev pub asked_unless : Kinds → Option Request → Option Request
+asked_unless [] request = request
+asked_unless (kind ∷ kinds) request = None
 
 -- what the words ask for, of which the first is the program's name; nothing if clap finds a fault
 -- in them or a request for help or the version
 unfoldable pub asked_of : List Text → Option Request
 asked_of words =
-    unless_fault (fault_of hubsync_app words) (request_in (subcommand_of hubsync_app words))
+    asked_unless (fault_of hubsync_app words) (request_in (subcommand_of hubsync_app words))
 
 -- the files that words name
 pub record Names : Type 0 where

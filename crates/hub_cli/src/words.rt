@@ -224,7 +224,7 @@ fn about<'a>(name: &str, found: &ArgMatches<'_>) -> Option<Query<'a>>
 
 /// All that clashes, drawn as a graph or not.
 fn clashes<'a>(as_graph: bool) -> Query<'a>
-    ensures { request_of result ≡ words.clashes as_graph }
+    ensures { request_of result ≡ words.clashes_request as_graph }
 {
     if as_graph {
         Query::About(Question::Graph)

@@ -2,7 +2,7 @@
 //!
 //! - [`Part`]: a file of a section, and the bytes that it has.
 //! - [`bundle_of`] puts parts together: the heading of each section, and below it the lines of its file.
-//! - [`part_fault`] says why a file can't be a section ([`PartFault`]).
+//! - [`part_fault`] says why a file can't be a section ([`PartFault`]), and [`is_heading`] which lines are headings.
 //!
 //! ```rust
 //! match bundle_of(alloc, parts) {
@@ -19,4 +19,4 @@ mod name;
 mod part;
 
 pub use bundle::{FilesFault, bundle_of};
-pub use part::{Kind, Part, PartFault, part_fault};
+pub use part::{Kind, Part, PartFault, is_heading, part_fault};

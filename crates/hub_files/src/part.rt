@@ -89,8 +89,8 @@ fn heading_line(bytes: &[u8]) -> Option<usize>
     Some(index + 1)
 }
 
-/// Returns whether a line begins with `%`.
-fn is_heading(line: &[u8]) -> bool
+/// Returns whether a line begins with `%`: then it is the heading of a section.
+pub fn is_heading(line: &[u8]) -> bool
     ensures { result ≡ files.is_heading line.now }
 {
     match line {

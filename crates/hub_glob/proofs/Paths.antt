@@ -11,7 +11,7 @@ use Rattle.std.proofs.lemmas.Bool.Decides.{nat_tests}
 use Rattle.hub_glob.specs.declared.path_spec.Kind.{Kind}
 use Rattle.hub_glob.specs.Specification.{Specification}
 use Rattle.hub_glob.specs.Glob.{glob, matches, by_kind}
-use Rattle.hub_glob.specs.Sweep.{Standing, at_start, pushed, pushed_all, is_matched}
+use Rattle.hub_glob.specs.Sweep.{Standing, at_start, pushed, pushed_all, is_matched_so_far}
 use Rattle.hub_text.specs.TestLaws.{any-append}
 use Rattle.std.proofs.Math.Bool.{or-false}
 use Rattle.hub_path.specs.NameFacts.{name_chars}
@@ -49,9 +49,9 @@ pub push_more : (ps : List Part) (start w v : Standing) (t : List ℕ) (c : ℕ)
     → v ≡ pushed_all ps start (t ++ c ∷ [])
 push_more ps start w v t c h e = h ∙ ap (λ u. pushed ps u c) e ∙ sym (pushed_all-push ps start t c)
 
-pub push_matched : (ps : List Part) (start w : Standing) (t : List ℕ) (c : ℕ) (b : Bool) → b ≡ is_matched ps w c → w ≡ pushed_all ps start t
-    → b ≡ is_matched ps (pushed_all ps start t) c
-push_matched ps start w t c b h e = h ∙ ap (λ u. is_matched ps u c) e
+pub push_matched : (ps : List Part) (start w : Standing) (t : List ℕ) (c : ℕ) (b : Bool) → b ≡ is_matched_so_far ps w c → w ≡ pushed_all ps start t
+    → b ≡ is_matched_so_far ps (pushed_all ps start t) c
+push_matched ps start w t c b h e = h ∙ ap (λ u. is_matched_so_far ps u c) e
 
 -- One more name: the text up to it, and what has been read behind it.
 pub read_name : (ps : List Part) (w : Standing) (p : Path) (i : ℕ) (n : Name) → slice_get p i ≡ Some n
@@ -63,14 +63,14 @@ read_name ps w p i n h e =
 
 pub matched_text : (ps : List Part) (w : Standing) (p : Path) (i : ℕ) (n : Name) → slice_get p i ≡ Some n
     → w ≡ pushed_all ps at_start (slashed (take i p))
-    → is_matched ps (pushed_all ps w n) 47 ≡ glob ps true (text_of (take (i + 1) p))
+    → is_matched_so_far ps (pushed_all ps w n) 47 ≡ glob ps true (text_of (take (i + 1) p))
 matched_text ps w p i n h e =
-    ap (λ v. is_matched ps (pushed_all ps v n) 47) e ∙ ap (λ v. is_matched ps v 47) (sym (pushed_all-append ps at_start (slashed (take i p)) n))
+    ap (λ v. is_matched_so_far ps (pushed_all ps v n) 47) e ∙ ap (λ v. is_matched_so_far ps v 47) (sym (pushed_all-append ps at_start (slashed (take i p)) n))
     ∙ is_matched_text ps (slashed (take i p) ++ n) 47
     ∙ ap (glob ps true) (sym (text_of-push (take i p) n)) ∙ ap (λ q. glob ps true (text_of q)) (sym (take-one p i n h))
 
 pub matched_name : (ps : List Part) (p : Path) (i : ℕ) (n : Name) → slice_get p i ≡ Some n
-    → is_matched ps (pushed_all ps at_start n) 47 ≡ glob ps true (last_name (take (i + 1) p))
+    → is_matched_so_far ps (pushed_all ps at_start n) 47 ≡ glob ps true (last_name (take (i + 1) p))
 matched_name ps p i n h =
     is_matched_text ps n 47 ∙ ap (glob ps true) (sym (last_name-push (take i p) n)) ∙ ap (λ q. glob ps true (last_name q)) (sym (take-one p i n h))
 
@@ -93,16 +93,16 @@ next_name ps w v p i n t h e valid start read =
     read ∙ ap (λ m. pushed_all ps w (m ++ 47 ∷ [])) (name_chars n t e valid) ∙ read_name ps w p i n h start
 
 pub next_matched : (ps : List Part) (w : Standing) (p : Path) (i : ℕ) (n t : List ℕ) (b : Bool) → slice_get p i ≡ Some n → t ≡ encode_utf8_all n → IsTrue (is_name n)
-    → w ≡ pushed_all ps at_start (slashed (take i p)) → b ≡ is_matched ps (pushed_all ps w (chars t)) 47
+    → w ≡ pushed_all ps at_start (slashed (take i p)) → b ≡ is_matched_so_far ps (pushed_all ps w (chars t)) 47
     → b ≡ glob ps true (text_of (take (i + 1) p))
 next_matched ps w p i n t b h e valid start matched =
-    matched ∙ ap (λ m. is_matched ps (pushed_all ps w m) 47) (name_chars n t e valid) ∙ matched_text ps w p i n h start
+    matched ∙ ap (λ m. is_matched_so_far ps (pushed_all ps w m) 47) (name_chars n t e valid) ∙ matched_text ps w p i n h start
 
 pub last_matched : (ps : List Part) (w : Standing) (p : Path) (i len : ℕ) (n t : List ℕ) (b : Bool) → slice_get p i ≡ Some n → t ≡ encode_utf8_all n → IsTrue (is_name n)
-    → w ≡ at_start → i + 1 ≡ len → b ≡ is_matched ps (pushed_all ps w (chars t)) 47
+    → w ≡ at_start → i + 1 ≡ len → b ≡ is_matched_so_far ps (pushed_all ps w (chars t)) 47
     → b ≡ glob ps true (last_name (take len p))
 last_matched ps w p i len n t b h e valid start last matched =
-    matched ∙ (λ j. is_matched ps (pushed_all ps (start j) (name_chars n t e valid j)) 47) ∙ matched_name ps p i n h ∙ ap (λ k. glob ps true (last_name (take k p))) last
+    matched ∙ (λ j. is_matched_so_far ps (pushed_all ps (start j) (name_chars n t e valid j)) 47) ∙ matched_name ps p i n h ∙ ap (λ k. glob ps true (last_name (take k p))) last
 
 pub above_after : (ps : List Part) (p : Path) (i : ℕ) (n : Name) (b : Bool) → slice_get p i ≡ Some n → any_above ps (take i p) ≡ false
     → b ≡ glob ps true (text_of (take (i + 1) p)) → any_above ps (take (i + 1) p) ≡ b

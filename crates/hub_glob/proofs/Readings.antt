@@ -19,7 +19,7 @@ use Rattle.hub_glob.specs.declared.reading.Sign.{Sign}
 use Rattle.hub_glob.specs.declared.reading.Sign.TheVariants.{Means, Open, Comma, Close}
 use Rattle.hub_glob.specs.declared.piece.Piece.TheVariants.{Lit}
 use Rattle.hub_glob.specs.Specification.{choices_size, pattern_size, choice_count}
-use Rattle.hub_glob.specs.Reading.{character_sign, tokens, is_special, is_plain, kind_reading, signs, set_sign, members, member, range_member, then_members, Adds, ◌>>=◌, then_part, set_piece, Faults, parts, parts_of}
+use Rattle.hub_glob.specs.Reading.{character_sign, tokens, is_special, is_plain, kind_reading, signs, set_sign, set_members, member, range_member, then_members, Adds, ◌>>=◌, then_part, set_piece, BeginsWithFault, parts, pattern_parts}
 
 abbrev kind_by : Bool → Bool → Bool → Bool → Result Kind GlobFault
 kind_by a b c d =
@@ -130,17 +130,17 @@ pub add_failed : (r rest whole : Result (List ℕ) GlobFault) (old : List ℕ) (
 add_failed r rest whole old e is h = h ∙ ap (λ q. then_members (Ok old) (then_members q rest)) is
 
 pub members_range : (ts : List Token) (a b c : Token) (more : List Token) → ts ≡ a ∷ b ∷ c ∷ more → is_plain 45 b ≡ true
-    → members ts ≡ then_members (range_member a c) (members more)
+    → set_members ts ≡ then_members (range_member a c) (set_members more)
 members_range ts a b c more e h =
-    ap members e ∙ (λ i. if (h i) then then_members (range_member a c) (members more) else then_members (member a) (members (b ∷ c ∷ more)))
+    ap set_members e ∙ (λ i. if (h i) then then_members (range_member a c) (set_members more) else then_members (member a) (set_members (b ∷ c ∷ more)))
 
 pub members_one : (ts : List Token) (a : Token) (more : List Token) → ts ≡ a ∷ more
     → ((b c : Token) (rest : List Token) → more ≡ b ∷ c ∷ rest → is_plain 45 b ≡ false)
-    → members ts ≡ then_members (member a) (members more)
-members_one ts a [] e h = ap members e
-members_one ts a (b ∷ []) e h = ap members e
+    → set_members ts ≡ then_members (member a) (set_members more)
+members_one ts a [] e h = ap set_members e
+members_one ts a (b ∷ []) e h = ap set_members e
 members_one ts a (b ∷ c ∷ rest) e h =
-    ap members e ∙ (λ i. if (h b c rest refl i) then then_members (range_member a c) (members rest) else then_members (member a) (members (b ∷ c ∷ rest)))
+    ap set_members e ∙ (λ i. if (h b c rest refl i) then then_members (range_member a c) (set_members rest) else then_members (member a) (set_members (b ∷ c ∷ rest)))
 
 three_behind : (set : List Token) (i : ℕ) (d : Token) → i + 2 < length set
     → drop i set ≡ get_or set i d ∷ get_or set (i + 1) d ∷ get_or set (i + 2) d ∷ drop (i + 3) set
@@ -154,13 +154,13 @@ three_behind set i d l =
 
 pub range_step : (set : List Token) (i : ℕ) (old new : List ℕ) (d : Token) → i + 2 < length set → is_plain 45 (get_or set (i + 1) d) ≡ true
     → Adds (range_member (get_or set i d) (get_or set (i + 2) d)) old new
-    → members set ≡ then_members (Ok old) (members (drop i set)) → members set ≡ then_members (Ok new) (members (drop (i + 3) set))
+    → set_members set ≡ then_members (Ok old) (set_members (drop i set)) → set_members set ≡ then_members (Ok new) (set_members (drop (i + 3) set))
 range_step set i old new d l h a e =
-    added (range_member (get_or set i d) (get_or set (i + 2) d)) (members (drop (i + 3) set)) (members set) old new a
+    added (range_member (get_or set i d) (get_or set (i + 2) d)) (set_members (drop (i + 3) set)) (set_members set) old new a
     (e ∙ ap (then_members (Ok old)) (members_range (drop i set) (get_or set i d) (get_or set (i + 1) d) (get_or set (i + 2) d) (drop (i + 3) set) (three_behind set i d l) h))
 
 one_behind : (set : List Token) (i : ℕ) (d : Token) → i < length set → (i + 2 < length set → is_plain 45 (get_or set (i + 1) d) ≡ false)
-    → members (drop i set) ≡ then_members (member (get_or set i d)) (members (drop (i + 1) set))
+    → set_members (drop i set) ≡ then_members (member (get_or set i d)) (set_members (drop (i + 1) set))
 one_behind set i d l h =
     members_one (drop i set) (get_or set i d) (drop (i + 1) set) (drop_more set i d l)
     (λ b c rest e.
@@ -173,27 +173,27 @@ one_behind set i d l h =
 
 pub one_step : (set : List Token) (i : ℕ) (old new : List ℕ) (d : Token) → i < length set → (i + 2 < length set → is_plain 45 (get_or set (i + 1) d) ≡ false)
     → Adds (member (get_or set i d)) old new
-    → members set ≡ then_members (Ok old) (members (drop i set)) → members set ≡ then_members (Ok new) (members (drop (i + 1) set))
+    → set_members set ≡ then_members (Ok old) (set_members (drop i set)) → set_members set ≡ then_members (Ok new) (set_members (drop (i + 1) set))
 one_step set i old new d l h a e =
-    added (member (get_or set i d)) (members (drop (i + 1) set)) (members set) old new a (e ∙ ap (then_members (Ok old)) (one_behind set i d l h))
+    added (member (get_or set i d)) (set_members (drop (i + 1) set)) (set_members set) old new a (e ∙ ap (then_members (Ok old)) (one_behind set i d l h))
 
 pub one_failed : (set : List Token) (i : ℕ) (old : List ℕ) (d : Token) (f : GlobFault) → i < length set → (i + 2 < length set → is_plain 45 (get_or set (i + 1) d) ≡ false)
-    → member (get_or set i d) ≡ Err f → members set ≡ then_members (Ok old) (members (drop i set)) → members set ≡ Err f
+    → member (get_or set i d) ≡ Err f → set_members set ≡ then_members (Ok old) (set_members (drop i set)) → set_members set ≡ Err f
 one_failed set i old d f l h m e =
-    add_failed (member (get_or set i d)) (members (drop (i + 1) set)) (members set) old f m (e ∙ ap (then_members (Ok old)) (one_behind set i d l h))
+    add_failed (member (get_or set i d)) (set_members (drop (i + 1) set)) (set_members set) old f m (e ∙ ap (then_members (Ok old)) (one_behind set i d l h))
 
 pub range_failed : (set : List Token) (i : ℕ) (old : List ℕ) (d : Token) (f : GlobFault) → i + 2 < length set → is_plain 45 (get_or set (i + 1) d) ≡ true
-    → range_member (get_or set i d) (get_or set (i + 2) d) ≡ Err f → members set ≡ then_members (Ok old) (members (drop i set)) → members set ≡ Err f
+    → range_member (get_or set i d) (get_or set (i + 2) d) ≡ Err f → set_members set ≡ then_members (Ok old) (set_members (drop i set)) → set_members set ≡ Err f
 range_failed set i old d f l h m e =
-    add_failed (range_member (get_or set i d) (get_or set (i + 2) d)) (members (drop (i + 3) set)) (members set) old f m
+    add_failed (range_member (get_or set i d) (get_or set (i + 2) d)) (set_members (drop (i + 3) set)) (set_members set) old f m
     (e ∙ ap (then_members (Ok old)) (members_range (drop i set) (get_or set i d) (get_or set (i + 1) d) (get_or set (i + 2) d) (drop (i + 3) set) (three_behind set i d l) h))
 
 pub none_read : (r : Result (List ℕ) GlobFault) (xs : List ℕ) → xs ≡ [] → r ≡ then_members (Ok xs) r
 none_read (Ok ys) xs e = ap (λ zs. then_members (Ok zs) (Ok ys)) (sym e)
 none_read (Err f) xs e = refl
 
-pub all_read : (set : List Token) (i : ℕ) (old : List ℕ) → length set ≤ i → members set ≡ then_members (Ok old) (members (drop i set)) → members set ≡ Ok old
-all_read set i old l e = e ∙ ap (λ ts. then_members (Ok old) (members ts)) (drop_all i set l) ∙ ap Ok (append-nil old)
+pub all_read : (set : List Token) (i : ℕ) (old : List ℕ) → length set ≤ i → set_members set ≡ then_members (Ok old) (set_members (drop i set)) → set_members set ≡ Ok old
+all_read set i old l e = e ∙ ap (λ ts. then_members (Ok old) (set_members ts)) (drop_all i set l) ∙ ap Ok (append-nil old)
 
 -- Parts in turn.
 abbrev pub then_parts : List Part → Result (List Part) GlobFault → Result (List Part) GlobFault
@@ -212,7 +212,7 @@ part_added whole now rest ps more p h e m =
       one_more (Err e) = refl
 
 pub set_fault : (ss rest : List (Result Sign GlobFault)) (set : List Token) (closed : Bool) (e : GlobFault) → ss ≡ set_sign set closed ∷ rest
-    → set_piece set closed ≡ Err e → Faults e ss
+    → set_piece set closed ≡ Err e → BeginsWithFault e ss
 set_fault ss rest set closed e h f = (rest, h ∙ ap (λ r. (r >>= λ p. Ok (Means p)) ∷ rest) f)
 
 pub short_list : {X : Type 0} (xs : List X) (x y : X) (rest : List X) → length xs ≤ 1 → xs ≡ x ∷ y ∷ rest → ⊥
@@ -293,6 +293,6 @@ parts_size (Some (done, current)) (Ok Comma ∷ ss) ps h = omega (arith, parts_s
 parts_size (Some (done, current)) (Ok Close ∷ ss) ps h =
     sized (Brace (done ++ current ∷ [])) (parts None ss) ps (length ss + 0) _ h (parts_size None ss) (omega (arith, choices_size-push done current))
 
-pub size_read : (in_name : Bool) (cs : List ℕ) (ps : List Part) → parts_of in_name cs ≡ Ok ps → pattern_size ps ≤ length cs
+pub size_read : (in_name : Bool) (cs : List ℕ) (ps : List Part) → pattern_parts in_name cs ≡ Ok ps → pattern_size ps ≤ length cs
 size_read in_name cs ps h =
     omega (arith, parts_size None (signs in_name None (tokens false cs)) ps h, signs_length in_name None (tokens false cs), tokens_length false cs)

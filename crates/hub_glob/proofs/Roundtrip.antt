@@ -16,7 +16,7 @@ use Rattle.hub_glob.specs.Readable.{IsReadable, is_barred_start}
 use Rattle.hub_text.specs.Blanks.{is_blank, skip_blanks}
 use Rattle.hub_text.specs.ListLaws.{some-item}
 use Rattle.hub_path.specs.Reading.{begins_with_slash}
-use Rattle.hub_glob.specs.Reading.{few_choices, parts_of, pattern_reading, kind_reading, spec_reading, ◌>>=◌}
+use Rattle.hub_glob.specs.Reading.{few_choices, pattern_parts, pattern_reading, kind_reading, spec_reading, ◌>>=◌}
 use Rattle.hub_glob.specs.Writing.{pattern_text, kind_word, spec_text}
 use Rattle.hub_glob.specs.Scalars.{skip-scalars, drop-scalars}
 use Rattle.hub_glob.proofs.Readings.{size_read}
@@ -64,7 +64,7 @@ pattern_readable : (k : Kind) (cs : List ℕ) → all_scalars cs ≡ true → Is
 pattern_readable k [] s u = tt
 pattern_readable k (c ∷ cs) s u =
     let n = is_name_kind k in
-    let read = parts_of n (c ∷ cs) in
+    let read = pattern_parts n (c ∷ cs) in
     either_ok (length (c ∷ cs) == 0) (Readable k) (Err fault.EmptyPattern) _ (λ h. tt)
     (λ h. either_ok (nat_lt PATTERN_CHARACTERS (length (c ∷ cs))) (Readable k) (Err fault.TooLong) _ (λ l. tt)
     (λ l. either_ok (not n && begins_with_slash (c ∷ cs)) (Readable k) (Err fault.LeadingSlash) _ (λ b. tt)
@@ -102,8 +102,8 @@ pattern_back k ps f l =
     ∙ (λ i. pattern_reading k (if (no.0 i) then skip_blanks more else c ∷ more))
     ∙ (λ i. if (some-item c more i) then Err fault.EmptyPattern
     else (if (short i) then Err fault.TooLong
-    else (if (bare i) then Err fault.LeadingSlash else parts_of n (c ∷ more) >>= few_choices)))
-    ∙ ap (λ t. parts_of n t >>= few_choices) (sym e)
+    else (if (bare i) then Err fault.LeadingSlash else pattern_parts n (c ∷ more) >>= few_choices)))
+    ∙ ap (λ t. pattern_parts n t >>= few_choices) (sym e)
     ∙ ap (λ r. r >>= few_choices) (pattern_read n ps f.parts)
     ∙ (λ i. if (few i) then Err fault.TooManyChoices else Ok ps)
 

@@ -17,7 +17,7 @@ use Rattle.hub_glob.specs.declared.reading.Token.TheVariants.{Plain, Escaped, St
 use Rattle.hub_glob.specs.declared.reading.Sign.{Sign}
 use Rattle.hub_glob.specs.declared.reading.Sign.TheVariants.{Means, Open, Comma, Close}
 use Rattle.hub_glob.specs.Readable.{IsAsciiBeforeDash, AreReadableMembers, IsReadableSet, IsReadablePiece, IsReadablePart}
-use Rattle.hub_glob.specs.Reading.{is_special, tokens, is_plain, token_character, range_characters, member, range_member, then_members, members, is_negated, set_of, set_piece, set_sign, character_sign, signs, then_part, parts, parts_of, ◌>>=◌}
+use Rattle.hub_glob.specs.Reading.{is_special, tokens, is_plain, token_character, range_characters, member, range_member, then_members, set_members, is_negated, set_of, set_piece, set_sign, character_sign, signs, then_part, parts, pattern_parts, ◌>>=◌}
 
 -- Of two characters one alone is special.
 pub special-not : (c d : ℕ) → is_special c ≡ true → is_special d ≡ false → (c == d) ≡ false
@@ -150,19 +150,19 @@ two t u xs ys (c, is, e, n, sc) (d, js, g, m, sd) =
     let whole : xs ++ ys ≡ c ∷ d ∷ [] = λ i. is i ++ js i in
     (subst AreReadableMembers (sym whole) (n, sc, tt, (m, sd, tt, tt)), (c, d ∷ [], whole, e))
 
-alone : (t : Token) → IsProper t → IfOk (members (t ∷ [])) (Single t)
+alone : (t : Token) → IsProper t → IfOk (set_members (t ∷ [])) (Single t)
 alone t p = then_ok (member t) (Ok []) (Single t) (λ ys. ys ≡ []) (Single t) (single t p) refl (λ xs ys s e. (s.0, (λ i. s.1 i ++ e i), s.2, s.3, s.4))
 
-members_fit : (ts : List Token) → AllByRecursion IsProper ts → IfOk (members ts) (Read ts)
+members_fit : (ts : List Token) → AllByRecursion IsProper ts → IfOk (set_members ts) (Read ts)
 members_fit [] p = (tt, refl)
 members_fit (a ∷ []) p =
     then_ok (member a) (Ok []) (Single a) (λ ys. ys ≡ []) (Read (a ∷ [])) (single a p.0) refl
     (λ xs ys s e. let whole : xs ++ ys ≡ s.0 ∷ [] = λ i. s.1 i ++ e i in (subst AreReadableMembers (sym whole) (s.3, s.4, tt, tt), (s.0, [], whole, s.2)))
-members_fit (a ∷ b ∷ []) p = then_ok (member a) (members (b ∷ [])) (Single a) (Single b) (Read (a ∷ b ∷ [])) (single a p.0) (alone b p.1.0) (two a b)
+members_fit (a ∷ b ∷ []) p = then_ok (member a) (set_members (b ∷ [])) (Single a) (Single b) (Read (a ∷ b ∷ [])) (single a p.0) (alone b p.1.0) (two a b)
 members_fit (a ∷ b ∷ c ∷ ts) p =
-    either_ok (is_plain 45 b) (Read (a ∷ b ∷ c ∷ ts)) (then_members (range_member a c) (members ts)) (then_members (member a) (members (b ∷ c ∷ ts)))
-    (λ h. then_ok (range_member a c) (members ts) (Ranged a) (Read ts) (Read (a ∷ b ∷ c ∷ ts)) (ranged a c) (members_fit ts p.1.1.1) (λ xs ys r f. range_then a (b ∷ c ∷ ts) xs ys r f.0))
-    (λ h. then_ok (member a) (members (b ∷ c ∷ ts)) (Single a) (Read (b ∷ c ∷ ts)) (Read (a ∷ b ∷ c ∷ ts)) (single a p.0) (members_fit (b ∷ c ∷ ts) p.1) (λ xs ys s r. one_then a b (c ∷ ts) xs ys p.1.0 h s r))
+    either_ok (is_plain 45 b) (Read (a ∷ b ∷ c ∷ ts)) (then_members (range_member a c) (set_members ts)) (then_members (member a) (set_members (b ∷ c ∷ ts)))
+    (λ h. then_ok (range_member a c) (set_members ts) (Ranged a) (Read ts) (Read (a ∷ b ∷ c ∷ ts)) (ranged a c) (members_fit ts p.1.1.1) (λ xs ys r f. range_then a (b ∷ c ∷ ts) xs ys r f.0))
+    (λ h. then_ok (member a) (set_members (b ∷ c ∷ ts)) (Single a) (Read (b ∷ c ∷ ts)) (Read (a ∷ b ∷ c ∷ ts)) (single a p.0) (members_fit (b ∷ c ∷ ts) p.1) (λ xs ys s r. one_then a b (c ∷ ts) xs ys p.1.0 h s r))
 
 set_fits : (ts : List Token) (cs : List ℕ) → AllByRecursion IsProper ts → is_negated ts ≡ false → (length cs == 0) ≡ false → Read ts cs → IsReadableSet cs
 set_fits ts [] p n z r = cc
@@ -177,8 +177,8 @@ set_fits (t ∷ ts) (c ∷ cs) p n z (f, (d, more, is, e)) =
 
 set_piece_fits : (n : Bool) (ts : List Token) (closed : Bool) → AllByRecursion IsProper ts → IfOk (set_piece ts closed) (IsReadablePiece n)
 set_piece_fits n ts closed p =
-    either_ok (is_negated ts) (IsReadablePiece n) (Err fault.NegatedSet) (members ts >>= set_of closed) (λ h. tt)
-    (λ h. ok_then (members ts) (set_of closed) (Read ts) (IsReadablePiece n) (members_fit ts p)
+    either_ok (is_negated ts) (IsReadablePiece n) (Err fault.NegatedSet) (set_members ts >>= set_of closed) (λ h. tt)
+    (λ h. ok_then (set_members ts) (set_of closed) (Read ts) (IsReadablePiece n) (members_fit ts p)
     (λ cs r. either_ok (not closed) (IsReadablePiece n) (Err fault.OpenBracket) (if length cs == 0 then Err fault.BadRange else Ok (OneOf cs)) (λ k. tt)
     (λ k. either_ok (length cs == 0) (IsReadablePiece n) (Err fault.BadRange) (Ok (OneOf cs)) (λ z. tt) (λ z. set_fits ts cs p h z r))))
 
@@ -256,5 +256,5 @@ parts_fit n (Some (done, current)) (Ok Comma ∷ ss) q p = parts_fit n (Some (do
 parts_fit n (Some (done, current)) (Ok Close ∷ ss) q p =
     then_part_fits n (Brace (done ++ current ∷ [])) (parts None ss) (brace_fits n done current q.0 q.1) (parts_fit n None ss tt p.1)
 
-pub reading_fits : (n : Bool) (cs : List ℕ) → all_scalars cs ≡ true → IfOk (parts_of n cs) (AllByRecursion (IsReadablePart n))
+pub reading_fits : (n : Bool) (cs : List ℕ) → all_scalars cs ≡ true → IfOk (pattern_parts n cs) (AllByRecursion (IsReadablePart n))
 reading_fits n cs h = parts_fit n None (signs n None (tokens false cs)) tt (signs_fit n None (tokens false cs) tt (tokens_proper false cs h))

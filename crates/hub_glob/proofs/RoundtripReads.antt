@@ -14,8 +14,8 @@ use Rattle.hub_glob.specs.declared.reading.Token.{Token}
 use Rattle.hub_glob.specs.declared.reading.Token.TheVariants.{Plain, Escaped, Stray}
 use Rattle.hub_glob.specs.declared.reading.Sign.{Sign}
 use Rattle.hub_glob.specs.declared.reading.Sign.TheVariants.{Means, Open, Comma, Close}
-use Rattle.hub_glob.specs.Reading.{is_special, tokens, is_plain, member, range_member, range_characters, then_members, members, is_negated, set_of, set_piece, set_sign, character_sign, signs, then_part, parts, ◌>>=◌}
-use Rattle.hub_glob.specs.Writing.{literal, members_text, piece_text, pieces_text, choices_text, part_text, pattern_text}
+use Rattle.hub_glob.specs.Reading.{is_special, tokens, is_plain, member, range_member, range_characters, then_members, set_members, is_negated, set_of, set_piece, set_sign, character_sign, signs, then_part, parts, ◌>>=◌}
+use Rattle.hub_glob.specs.Writing.{literal, members_text, piece_text, pieces_text, choices_text, pattern_part_text, pattern_text}
 use Rattle.hub_glob.proofs.Readings.{members_one}
 use Rattle.hub_glob.specs.Readable.{AreReadableMembers, IsReadableSet, IsReadablePiece, IsReadablePart}
 use Rattle.hub_glob.proofs.RoundtripFits.{not-special}
@@ -112,13 +112,13 @@ token_is c k h = go (is_special c) where
   go true = refl
   go false = h
 
-members_back : (cs : List ℕ) → AreReadableMembers cs → members (member_tokens cs) ≡ Ok cs
+members_back : (cs : List ℕ) → AreReadableMembers cs → set_members (member_tokens cs) ≡ Ok cs
 members_back [] f = refl
 members_back (c ∷ []) f = ap (λ r. then_members r (Ok [])) (one_back c f.0)
 members_back (c ∷ d ∷ []) f = λ i. then_members (one_back c f.0 i) (members_back (d ∷ []) f.3 i)
 members_back (c ∷ d ∷ e ∷ cs) f = go (d == 45) refl (members_back (d ∷ e ∷ cs) f.3) where
-  go : (b : Bool) → (d == 45) ≡ b → members (member_tokens (d ∷ e ∷ cs)) ≡ Ok (d ∷ e ∷ cs)
-      → members ((if b then token_of c ∷ Plain 45 ∷ token_of c ∷ [] else token_of c ∷ []) ++ member_tokens (d ∷ e ∷ cs)) ≡ Ok (c ∷ d ∷ e ∷ cs)
+  go : (b : Bool) → (d == 45) ≡ b → set_members (member_tokens (d ∷ e ∷ cs)) ≡ Ok (d ∷ e ∷ cs)
+      → set_members ((if b then token_of c ∷ Plain 45 ∷ token_of c ∷ [] else token_of c ∷ []) ++ member_tokens (d ∷ e ∷ cs)) ≡ Ok (c ∷ d ∷ e ∷ cs)
   go true h m = λ i. then_members (range_back c f.0 (f.2 h) i) (m i)
   go false h m =
       members_one (token_of c ∷ member_tokens (d ∷ e ∷ cs)) (token_of c) (member_tokens (d ∷ e ∷ cs)) refl
@@ -184,7 +184,7 @@ choices_read n done c (d ∷ ds) r f =
     ∙ choices_read n (done ++ c ∷ []) d ds r f.1
     ∙ ap (λ b. then_part (Brace b) (parts None (reads n r))) (append_assoc done (c ∷ []) (d ∷ ds))
 
-part_read : (n : Bool) (p : Part) (r : List ℕ) → IsReadablePart n p → parts None (reads n (part_text p ++ r)) ≡ then_part p (parts None (reads n r))
+part_read : (n : Bool) (p : Part) (r : List ℕ) → IsReadablePart n p → parts None (reads n (pattern_part_text p ++ r)) ≡ then_part p (parts None (reads n r))
 part_read n (One p) r f = ap (parts None) (piece_read n p r f)
 part_read n (Brace []) r f = absurd f
 part_read n (Brace (c ∷ cs)) r f =

@@ -12,7 +12,7 @@ use Rattle.hub_glob.specs.declared.reading.Token.TheVariants.{Plain, Escaped, St
 use Rattle.hub_glob.specs.declared.reading.Sign.{Sign}
 use Rattle.hub_glob.specs.declared.reading.Sign.TheVariants.{Means, Open, Comma, Close}
 use Rattle.hub_glob.specs.Readable.{PieceAvoids, StartAvoids}
-use Rattle.hub_glob.specs.Reading.{is_special, tokens, is_plain, members, is_negated, set_of, set_sign, character_sign, signs, then_part, parts, parts_of, ◌>>=◌}
+use Rattle.hub_glob.specs.Reading.{is_special, tokens, is_plain, set_members, is_negated, set_of, set_sign, character_sign, signs, then_part, parts, pattern_parts, ◌>>=◌}
 use Rattle.hub_glob.specs.Writing.{pattern_text}
 use Rattle.hub_glob.proofs.RoundtripFits.{character_sign_has}
 
@@ -37,7 +37,7 @@ either_start t true xs ys f g = f refl
 either_start t false xs ys f g = g refl
 
 piece_of_set : (t : ℕ → Bool) (ts : List Token) (closed : Bool) → SignStarts t (set_sign ts closed)
-piece_of_set t ts closed = go (is_negated ts) (members ts) where
+piece_of_set t ts closed = go (is_negated ts) (set_members ts) where
   ended : (b c : Bool) (cs : List ℕ) → SignStarts t ((if b then Err fault.OpenBracket else (if c then Err fault.BadRange else Ok (OneOf cs))) >>= λ p. Ok (Means p))
   ended true c cs = tt
   ended false true cs = tt
@@ -93,7 +93,7 @@ parts_start t (Ok Open ∷ ss) o h = brace_starts t ([], []) ss
 parts_start t (Ok Comma ∷ ss) o h = then_part_starts t (One (Lit 44)) (parts None ss) (o 44 refl)
 parts_start t (Ok Close ∷ ss) o h = then_part_starts t (One (Lit 125)) (parts None ss) (o 125 refl)
 
-pub reading_starts : (t : ℕ → Bool) (n : Bool) (c : ℕ) (cs : List ℕ) → IsOfOthers t → t c ≡ false → IfOk (parts_of n (c ∷ cs)) (StartAvoids t)
+pub reading_starts : (t : ℕ → Bool) (n : Bool) (c : ℕ) (cs : List ℕ) → IsOfOthers t → t c ≡ false → IfOk (pattern_parts n (c ∷ cs)) (StartAvoids t)
 reading_starts t n c cs o h = parts_start t (signs n None (tokens false (c ∷ cs))) o (signs_start t n c cs o h)
 
 -- So the text of that pattern has a first character, and it doesn't pass.

@@ -14,7 +14,7 @@ use Rattle.hub_glob.specs.declared.piece.NextCharacter.{NextCharacter}
 use Rattle.hub_glob.specs.declared.sweep.Carry.{Carry}
 use Rattle.hub_glob.specs.Specification.{choices_size}
 use Rattle.hub_glob.specs.Glob.{Texts, piece, pieces, glob, no_more}
-use Rattle.hub_glob.specs.Sweep.{Swept, past, swept_pieces, nowhere, joined, swept_choices, swept_parts, Standing, at_start, swept, is_stuck, pruned, stuck_after, pushed_by, pushed, is_matched, pushed_all}
+use Rattle.hub_glob.specs.Sweep.{Swept, past_piece, swept_pieces, nowhere, with_carry, swept_choices, swept_parts, Standing, at_start, swept, is_stuck, pruned, stuck_after, pushed_by, pushed, is_matched_so_far, pushed_all}
 use Rattle.hub_glob.specs.Taking.{takes, is_star}
 use Rattle.hub_text.specs.TestLaws.{head, tail, or-assoc, or-swap, any-and, any-or}
 use Rattle.hub_text.specs.ListLaws.{no-items, head-drop, drop-tail}
@@ -290,7 +290,7 @@ swept_pieces_made x [] old s = ap (λ l. let r : Swept = record { live = l; carr
 swept_pieces_made x (p ∷ ps) old s =
     let here = s.carry.before || slice_index_or old (length s.live) false in
     let bit = made_place x p here s.carry in
-    swept_pieces_made x ps old (past x p here s)
+    swept_pieces_made x ps old (past_piece x p here s)
     ∙ (λ i. after_made (s.live ++ bit ∷ []) (made_pieces x ps (drop-pushed s.live bit old i) (carry_past x p here)))
     ∙ (λ i. let h = s.carry.before || head-drop (length s.live) old i in
     after_made (s.live ++ made_place x p h s.carry ∷ []) (made_pieces x ps (tail (drop (length s.live) old)) (carry_past x p h)))
@@ -307,7 +307,7 @@ swept_choices_made x entry [] old s = ap (λ l. let r : Swept = record { live = 
 swept_choices_made x entry (q ∷ qs) old s =
     let m = made_pieces x q (drop (length s.live) old) entry in
     let n = made_choices x entry qs (drop (length q) (drop (length s.live) old)) (both s.carry m.carry) in
-    ap (λ (u : Swept). swept_choices x old entry qs (joined s.carry u)) (swept_pieces_made x q old (record { live = s.live; carry = entry }))
+    ap (λ (u : Swept). swept_choices x old entry qs (with_carry s.carry u)) (swept_pieces_made x q old (record { live = s.live; carry = entry }))
     ∙ swept_choices_made x entry qs old (record { live = s.live ++ m.bits; carry = both s.carry m.carry })
     ∙ (λ i. after_made (s.live ++ m.bits)
     (made_choices x entry qs (drop-appended s.live m.bits (length q) old (length-made_pieces x q (drop (length s.live) old) entry) i) (both s.carry m.carry)))
@@ -319,7 +319,7 @@ swept_parts_made x [] old s = ap (λ l. let r : Swept = record { live = l; carry
 swept_parts_made x (One p ∷ ps) old s =
     let here = s.carry.before || slice_index_or old (length s.live) false in
     let bit = made_place x p here s.carry in
-    swept_parts_made x ps old (past x p here s)
+    swept_parts_made x ps old (past_piece x p here s)
     ∙ (λ i. after_made (s.live ++ bit ∷ []) (made_parts x ps (drop-pushed s.live bit old i) (carry_past x p here)))
     ∙ (λ i. let h = s.carry.before || head-drop (length s.live) old i in
     after_made (s.live ++ made_place x p h s.carry ∷ []) (made_parts x ps (tail (drop (length s.live) old)) (carry_past x p h)))
@@ -429,7 +429,7 @@ sweep_end ps w c =
     ∙ ap (λ b. b || w.ended) (parts_end (next_of w c) ps w.live (entry_of w) w.first)
     ∙ (λ i. (sym (swept_is ps w c) i).carry.before || w.ended)
 
-end_law : (ps : List Part) (w : Standing) (c : ℕ) → meaning ps w [] ≡ is_matched ps w c
+end_law : (ps : List Part) (w : Standing) (c : ℕ) → meaning ps w [] ≡ is_matched_so_far ps w c
 end_law ps w c = go (is_stuck w) refl where
   go : (b : Bool) → is_stuck w ≡ b → meaning ps w [] ≡ (if b then w.ended else (swept ps w c).carry.before || w.ended)
   go true h = stuck_meaning ps w [] h ∙ and-true w.ended
@@ -443,7 +443,7 @@ start_law : (ps : List Part) (t : List ℕ) → meaning ps at_start t ≡ glob p
 start_law ps t = or-false _ ∙ ap (λ b. glob ps true t || b) (none_parts ps [] true t refl) ∙ or-false _
 
 -- After all characters of a text it is known whether the pattern matches the text.
-pub is_matched_text : (ps : List Part) (t : List ℕ) (c : ℕ) → is_matched ps (pushed_all ps at_start t) c ≡ glob ps true t
+pub is_matched_text : (ps : List Part) (t : List ℕ) (c : ℕ) → is_matched_so_far ps (pushed_all ps at_start t) c ≡ glob ps true t
 is_matched_text ps t c =
     sym (end_law ps (pushed_all ps at_start t) c) ∙ sym (push_all_law ps at_start t [])
     ∙ ap (meaning ps at_start) (append-nil t) ∙ start_law ps t

@@ -14,7 +14,7 @@ use Rattle.hub_glob.specs.Specification.{Specification, is_name_kind}
 use Rattle.hub_glob.specs.Readable.{AreReadableMembers, IsReadablePiece, IsReadablePart, IsReadable}
 use Rattle.hub_glob.specs.Reading.{is_special}
 use Rattle.hub_glob.specs.Scalars.{either-scalars}
-use Rattle.hub_glob.specs.Writing.{literal, member_text, members_text, piece_text, pieces_text, choices_text, part_text, pattern_text, kind_word, spec_text}
+use Rattle.hub_glob.specs.Writing.{literal, member_text, members_text, piece_text, pieces_text, choices_text, pattern_part_text, pattern_text, kind_word, spec_text}
 
 abbrev IsText : List ℕ → Type 0
 IsText cs = all_scalars cs ≡ true
@@ -55,14 +55,14 @@ choices-scalars n (c ∷ []) f = pieces-scalars n c f.0
 choices-scalars n (c ∷ d ∷ cs) f =
     append-scalars (pieces_text c) (44 ∷ choices_text (d ∷ cs)) (pieces-scalars n c f.0) (choices-scalars n (d ∷ cs) f.1)
 
-part-scalars : (n : Bool) (p : Part) → IsReadablePart n p → IsText (part_text p)
+part-scalars : (n : Bool) (p : Part) → IsReadablePart n p → IsText (pattern_part_text p)
 part-scalars n (One p) f = piece-scalars n p f
 part-scalars n (Brace []) f = absurd f
 part-scalars n (Brace (c ∷ cs)) f = append-scalars (choices_text (c ∷ cs)) (125 ∷ []) (choices-scalars n (c ∷ cs) f) refl
 
 pattern-scalars : (n : Bool) (ps : List Part) → AllByRecursion (IsReadablePart n) ps → IsText (pattern_text ps)
 pattern-scalars n [] f = refl
-pattern-scalars n (p ∷ ps) f = append-scalars (part_text p) (pattern_text ps) (part-scalars n p f.0) (pattern-scalars n ps f.1)
+pattern-scalars n (p ∷ ps) f = append-scalars (pattern_part_text p) (pattern_text ps) (part-scalars n p f.0) (pattern-scalars n ps f.1)
 
 kind_word-scalars : (k : Kind) → IsText (kind_word k)
 kind_word-scalars kind.Name = refl

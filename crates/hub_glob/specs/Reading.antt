@@ -68,13 +68,13 @@ abbrev pub then_members : Result (List ℕ) GlobFault → Result (List ℕ) Glob
 then_members first rest = first >>= λ xs. rest >>= λ ys. Ok (xs ++ ys)
 
 -- A `-` with a token before and after it makes a range of the two.
-abbrev pub members : List Token → Result (List ℕ) GlobFault
-members [] = Ok []
-members (a ∷ []) = then_members (member a) (members [])
-members (a ∷ b ∷ []) = then_members (member a) (members (b ∷ []))
-members (a ∷ b ∷ c ∷ ts) =
-    if is_plain 45 b then then_members (range_member a c) (members ts)
-    else then_members (member a) (members (b ∷ c ∷ ts))
+abbrev pub set_members : List Token → Result (List ℕ) GlobFault
+set_members [] = Ok []
+set_members (a ∷ []) = then_members (member a) (set_members [])
+set_members (a ∷ b ∷ []) = then_members (member a) (set_members (b ∷ []))
+set_members (a ∷ b ∷ c ∷ ts) =
+    if is_plain 45 b then then_members (range_member a c) (set_members ts)
+    else then_members (member a) (set_members (b ∷ c ∷ ts))
 
 abbrev pub is_negated : List Token → Bool
 is_negated [] = false
@@ -87,7 +87,8 @@ set_of closed cs =
     else (if length cs == 0 then Err fault.BadRange else Ok (OneOf cs))
 
 abbrev pub set_piece : List Token → Bool → Result Piece GlobFault
-set_piece ts closed = if is_negated ts then Err fault.NegatedSet else members ts >>= set_of closed
+set_piece ts closed =
+    if is_negated ts then Err fault.NegatedSet else set_members ts >>= set_of closed
 
 abbrev pub set_sign : List Token → Bool → Result Sign GlobFault
 set_sign ts closed = set_piece ts closed >>= λ p. Ok (Means p)
@@ -122,8 +123,8 @@ signs in_name (Some set) (t ∷ ts) =
     else signs in_name (Some (set ++ t ∷ [])) ts
 
 -- The first sign is that fault.
-abbrev pub Faults : GlobFault → List (Result Sign GlobFault) → Type 0
-Faults e ss = (rest : List (Result Sign GlobFault)) × (ss ≡ Err e ∷ rest)
+abbrev pub BeginsWithFault : GlobFault → List (Result Sign GlobFault) → Type 0
+BeginsWithFault e ss = (rest : List (Result Sign GlobFault)) × (ss ≡ Err e ∷ rest)
 
 abbrev pub then_part : Part → Result (List Part) GlobFault → Result (List Part) GlobFault
 then_part p rest = rest >>= λ ps. Ok (p ∷ ps)
@@ -152,8 +153,8 @@ abbrev pub few_choices : List Part → Result (List Part) GlobFault
 few_choices ps =
     if nat_lt PATTERN_CHOICES (choice_count ps) then Err fault.TooManyChoices else Ok ps
 
-abbrev pub parts_of : Bool → List ℕ → Result (List Part) GlobFault
-parts_of in_name cs = parts None (signs in_name None (tokens false cs))
+abbrev pub pattern_parts : Bool → List ℕ → Result (List Part) GlobFault
+pattern_parts in_name cs = parts None (signs in_name None (tokens false cs))
 
 -- A pattern isn't empty, isn't too long and doesn't stand for too many choices. One for a path or
 -- for all below it doesn't begin with `/`.
@@ -162,7 +163,7 @@ pattern_reading k cs =
     if length cs == 0 then Err fault.EmptyPattern
     else (if nat_lt PATTERN_CHARACTERS (length cs) then Err fault.TooLong
     else (if not (is_name_kind k) && begins_with_slash cs then Err fault.LeadingSlash
-    else parts_of (is_name_kind k) cs >>= few_choices))
+    else pattern_parts (is_name_kind k) cs >>= few_choices))
 
 abbrev pub kind_reading : List ℕ → Result Kind GlobFault
 kind_reading w =

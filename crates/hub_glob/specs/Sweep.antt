@@ -17,14 +17,15 @@ pub record Swept : Type 0 where
 
 -- Past one piece, where `here` says whether a match of the text before the character may stand
 -- before it. A `*` that takes the character stays where it is.
-abbrev pub past : NextCharacter → Piece → Bool → Swept → Swept
-past x p here s = record {
+abbrev pub past_piece : NextCharacter → Piece → Bool → Swept → Swept
+past_piece x p here s = record {
   live = s.live ++ (s.carry.after || is_star p && (here && takes x p)) ∷ [];
   carry = record { before = is_star p && here; after = not (is_star p) && (here && takes x p) };
 }
 
 abbrev pub swept_piece : NextCharacter → List Bool → Piece → Swept → Swept
-swept_piece x old p s = past x p (s.carry.before || slice_index_or old (length s.live) false) s
+swept_piece x old p s =
+    past_piece x p (s.carry.before || slice_index_or old (length s.live) false) s
 
 abbrev pub swept_pieces : NextCharacter → List Bool → List Piece → Swept → Swept
 swept_pieces x old [] s = s
@@ -33,8 +34,8 @@ swept_pieces x old (p ∷ ps) s = swept_pieces x old ps (swept_piece x old p s)
 abbrev pub nowhere : Carry
 nowhere = record { before = false; after = false }
 
-abbrev pub joined : Carry → Swept → Swept
-joined c s =
+abbrev pub with_carry : Carry → Swept → Swept
+with_carry c s =
     record {
       live = s.live;
       carry = record {
@@ -49,7 +50,7 @@ joined c s =
 abbrev pub swept_choices : NextCharacter → List Bool → Carry → List (List Piece) → Swept → Swept
 swept_choices x old entry [] s = s
 swept_choices x old entry (c ∷ cs) s =
-    swept_choices x old entry cs (joined s.carry
+    swept_choices x old entry cs (with_carry s.carry
     (swept_pieces x old c (record { live = s.live; carry = entry })))
 
 abbrev pub swept_part : NextCharacter → List Bool → Part → Swept → Swept
@@ -96,8 +97,8 @@ pushed_by s c =
 abbrev pub pushed : List Part → Standing → ℕ → Standing
 pushed ps w c = if is_stuck w then stuck_after c else pushed_by (swept ps w c) c
 
-abbrev pub is_matched : List Part → Standing → ℕ → Bool
-is_matched ps w c = if is_stuck w then w.ended else (swept ps w c).carry.before || w.ended
+abbrev pub is_matched_so_far : List Part → Standing → ℕ → Bool
+is_matched_so_far ps w c = if is_stuck w then w.ended else (swept ps w c).carry.before || w.ended
 
 -- With all characters of a text.
 abbrev pub pushed_all : List Part → Standing → List ℕ → Standing

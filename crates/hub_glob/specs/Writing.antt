@@ -36,12 +36,12 @@ pieces_text ps = flat_map piece_text ps
 abbrev pub choices_text : List (List Piece) → List ℕ
 choices_text cs = join_with_byte 44 (map pieces_text cs)
 
-abbrev pub part_text : Part → List ℕ
-part_text (One p) = piece_text p
-part_text (Brace cs) = 123 ∷ choices_text cs ++ 125 ∷ []
+abbrev pub pattern_part_text : Part → List ℕ
+pattern_part_text (One p) = piece_text p
+pattern_part_text (Brace cs) = 123 ∷ choices_text cs ++ 125 ∷ []
 
 abbrev pub pattern_text : List Part → List ℕ
-pattern_text ps = flat_map part_text ps
+pattern_text ps = flat_map pattern_part_text ps
 
 abbrev pub kind_word : Kind → List ℕ
 kind_word kind.Name = codes "Name"

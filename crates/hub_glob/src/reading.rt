@@ -116,9 +116,9 @@ fn is_name_kind(kind: Kind) -> bool
 
 /// The parts of a pattern.
 fn read_parts(alloc: Global, in_name: bool, pattern: &str) -> Result<Items<Part>, GlobFault>
-    ensures ok { IfOk result (λ ps. reading.parts_of in_name (chars pattern.now) ≡ Ok ps) }
+    ensures ok { IfOk result (λ ps. reading.pattern_parts in_name (chars pattern.now) ≡ Ok ps) }
     ensures err { IfErr result (λ e. (e ≡ GlobFault.OutOfMemory)
-        ⊎ (reading.parts_of in_name (chars pattern.now) ≡ Err e)) }
+        ⊎ (reading.pattern_parts in_name (chars pattern.now) ≡ Err e)) }
 {
     let tokens = read_tokens(alloc, pattern)?;
     let mut parser = Parser {
@@ -219,7 +219,7 @@ impl Parser<'_> {
             (λ s. reading.signs self.old.in_name None self.old.tokens.now
             ≡ Ok s ∷ reading.signs self.new.in_name None self.new.tokens.now)) }
         ensures err { IfErr result (λ e. (e ≡ GlobFault.OutOfMemory)
-            ⊎ reading.Faults e (reading.signs self.old.in_name None self.old.tokens.now)) }
+            ⊎ reading.BeginsWithFault e (reading.signs self.old.in_name None self.old.tokens.now)) }
         ensures in_name { self.new.in_name ≡ self.old.in_name }
         ensures shorter { IfOk result (λ o. IsSome o
             → length self.new.tokens.now < length self.old.tokens.now) }
@@ -250,7 +250,7 @@ impl Parser<'_> {
         ensures ok { IfOk result (λ p. reading.signs self.old.in_name (Some []) self.old.tokens.now
             ≡ Ok (SignValue.Means p) ∷ reading.signs self.new.in_name None self.new.tokens.now) }
         ensures err { IfErr result (λ e. (e ≡ GlobFault.OutOfMemory)
-            ⊎ reading.Faults e (reading.signs self.old.in_name (Some []) self.old.tokens.now)) }
+            ⊎ reading.BeginsWithFault e (reading.signs self.old.in_name (Some []) self.old.tokens.now)) }
         ensures in_name { self.new.in_name ≡ self.old.in_name }
         ensures shorter { length self.new.tokens.now ≤ length self.old.tokens.now }
     {
@@ -334,9 +334,9 @@ fn is_negated(set: &[Token]) -> bool
 
 /// The characters of a set.
 fn read_members(alloc: Global, set: &[Token]) -> Result<Vec<char>, GlobFault>
-    ensures ok { IfOk result (λ v. reading.members set.now ≡ Ok v.items) }
+    ensures ok { IfOk result (λ v. reading.set_members set.now ≡ Ok v.items) }
     ensures err { IfErr result (λ e. (e ≡ GlobFault.OutOfMemory)
-        ⊎ (reading.members set.now ≡ Err e)) }
+        ⊎ (reading.set_members set.now ≡ Err e)) }
 {
     let mut members = Vec::new(alloc);
     let mut i = 0;

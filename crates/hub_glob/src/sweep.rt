@@ -173,7 +173,7 @@ impl Walk {
     /// Reads one more character; returns whether the pattern matches the text before it.
     fn push(&mut self, parts: &[Part], character: char) -> bool
         requires { pattern_size parts.now ≤ PATTERN_CHARACTERS }
-        ensures matched { result ≡ sweep.is_matched parts.now self.old character }
+        ensures matched { result ≡ sweep.is_matched_so_far parts.now self.old character }
         ensures pushed { self.new ≡ sweep.pushed parts.now self.old character }
     {
         if self.is_stuck() {
@@ -229,7 +229,8 @@ impl Walk {
     pub(crate) fn push_name(&mut self, parts: &[Part], name: &str) -> bool
         requires { pattern_size parts.now ≤ PATTERN_CHARACTERS }
         ensures matched { result
-            ≡ sweep.is_matched parts.now (sweep.pushed_all parts.now self.old (chars name.now)) 47 }
+            ≡ sweep.is_matched_so_far parts.now
+            (sweep.pushed_all parts.now self.old (chars name.now)) 47 }
         ensures pushed { self.new
             ≡ sweep.pushed_all parts.now self.old (chars name.now ++ 47 ∷ []) }
     {

@@ -41,7 +41,7 @@ fn push_parts(text: &mut String, parts: &[Part]) -> Result<(), AllocError>
 
 fn push_part(text: &mut String, part: &Part) -> Result<(), AllocError>
     ensures { IfOk result (λ _. string_bytes text.new
-        ≡ string_bytes text.old ++ encode_utf8_all (writing.part_text part.now)) }
+        ≡ string_bytes text.old ++ encode_utf8_all (writing.pattern_part_text part.now)) }
 {
     match part {
         Part::One(piece) => push_piece(text, piece),

@@ -4,7 +4,7 @@ use Rattle.std.specs.FinMap.{get-from_sorted, entries-from_sorted, is_sorted, fr
 use Rattle.std.proofs.Common.{sym, ◌∙◌}
 use Rattle.hub_path.specs.Path.{Path, path_of, path_cmp}
 use Rattle.hub_profile.specs.Parts.{Parts}
-use Rattle.hub_profile.specs.ExampleProfiles.{hub, s2, between, kept}
+use Rattle.hub_profile.specs.ExampleProfiles.{hub, s2, between, of_kept}
 use Rattle.hub_tree.specs.Tree.{Replica}
 use Rattle.hub_tree.specs.declared.contents.Contents.{Contents}
 use Rattle.hub_tree.specs.declared.contents.Contents.TheVariants as contents
@@ -28,7 +28,7 @@ abbrev photos : Parts
 photos = between (codes "photos") hub s2 (path_of (codes "photos"))
 
 abbrev profiles : List Parts
-profiles = kept (codes "docs") ∷ photos ∷ []
+profiles = of_kept (codes "docs") ∷ photos ∷ []
 
 abbrev jobs_at : Path → List Bool
 jobs_at r = map (has_job profiles r) (0 ∷ 1 ∷ 2 ∷ [])
@@ -65,7 +65,7 @@ refused = entry_of 1 (Set (path_of (codes "photos/x")) contents.Directory) (Refu
 abbrev two_entries : BookValue
 two_entries = with_entry (with_entry opened seen) refused
 
-nothing_is_seen : seen.answer ≡ answer nobody (kept (codes "docs")) opened.root
+nothing_is_seen : seen.answer ≡ answer nobody (of_kept (codes "docs")) opened.root
     seen.op
 unfolding computed
 nothing_is_seen =

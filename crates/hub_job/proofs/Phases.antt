@@ -28,10 +28,11 @@ use Rattle.hub_job.specs.declared.phase.Phase.TheVariants as phase
 use Rattle.hub_job.specs.Machine.{Fits}
 use Rattle.hub_job.specs.Job.{told, sights, missing, is_refused, is_look, is_ask, fetched_last, Step, steps, steps_made, ask, step_or_end, look_or, next}
 use Rattle.hub_job.specs.Run.{Runs}
-use Rattle.hub_job.specs.Phase.{seen_paths, IsWaiting, told_more, look_at, first_look, are_looks, AreLooks, AreLooksOf, AreSteps, last_refused, Follows, IsAskedIn, asked_by, IsNextIn, IsNext, is_stopped, next_step}
+use Rattle.hub_job.specs.Phase.{IsWaiting, told_more, look_at, first_look, are_looks, AreLooks, AreLooksOf, AreSteps, last_refused, Follows, IsAskedIn, asked_by, IsNextIn, IsNext, is_stopped, next_step}
 use Rattle.hub_job.proofs.Plans.{no_steps}
 use Rattle.hub_job.specs.Laws.Logs.{sights-push}
 use Rattle.hub_job.proofs.Told.{AllTold, told_all, take_all, next_looks, missing_is, step_is_no_look}
+use Rattle.hub_reconcile.specs.Merge.{seen_paths}
 
 stops_not : Stopped ≡ Finished → ⊥
 stops_not h = cc

@@ -22,8 +22,9 @@ use Rattle.hub_reconcile.specs.declared.picture.Picture.{Picture}
 use Rattle.hub_reconcile.specs.Sync.{of_side}
 use Rattle.hub_job.specs.declared.log.Logged.{Logged}
 use Rattle.hub_job.specs.Job.{sights, view_in, is_refused, is_look, Step, steps, steps_made}
-use Rattle.hub_job.specs.Phase.{seen_paths, IsWaiting, are_looks, AreSteps}
+use Rattle.hub_job.specs.Phase.{IsWaiting, are_looks, AreSteps}
 use Rattle.hub_job.proofs.Told.{sorted_needed, none_refused}
+use Rattle.hub_reconcile.specs.Merge.{seen_paths}
 
 all_below : (p : Path) (ss : List (Path × Sight)) → AllByRecursion (λ q. path_cmp p q ≡ Less) (seen_paths ss) → below_all path_cmp p ss ≡ true
 all_below p [] a = refl

@@ -5,9 +5,9 @@ use Rattle.std.specs.BTreeSet.{insert_key}
 use Rattle.std.specs.Ordering.{match_ordering}
 use Rattle.std.specs.declared.cmp.Ordering.TheVariants.{Less, Equal, Greater}
 use Rattle.std.proofs.lemmas.List.{reverse-append, take-append-drop, take_more}
-use Rattle.hub_path.specs.Path.{Name, Path, path_cmp}
+use Rattle.hub_path.specs.Path.{Name, Path, path_cmp, children_named}
 use Rattle.hub_path.specs.Laws.{path_cmp-total, path_cmp-exact}
-use Rattle.hub_job.specs.Waiting.{listed, put_all}
+use Rattle.hub_job.specs.Waiting.{put_all}
 use Rattle.hub_job.proofs.Waits.{put_all-append, turned, turned_back}
 
 reverse-push : (xs : List Path) (x : Path) → reverse (xs ++ x ∷ []) ≡ x ∷ reverse xs
@@ -79,14 +79,14 @@ put_all-insert : (ps qs : List Path) (p : Path) → put_all (insert_key path_cmp
 put_all-insert [] qs p = refl
 put_all-insert (q ∷ ps) qs p = ap (λ ys. put_all ys ps) (insert-insert p q qs) ∙ put_all-insert ps (insert_key path_cmp qs q) p
 
-listed-push : (d : Path) (ns : List Name) (n : Name) → listed d (ns ++ n ∷ []) ≡ listed d ns ++ (d ++ n ∷ []) ∷ []
+listed-push : (d : Path) (ns : List Name) (n : Name) → children_named d (ns ++ n ∷ []) ≡ children_named d ns ++ (d ++ n ∷ []) ∷ []
 listed-push d [] n = refl
 listed-push d (m ∷ ns) n = ap (λ ps. (d ++ m ∷ []) ∷ ps) (listed-push d ns n)
 
 -- The last of some children is put in first.
 pub last_child : (qs : List Path) (d : Path) (ns : List Name) (k : ℕ) (n : Name) → k < length ns → n ≡ get_or ns k n
-    → put_all (insert_key path_cmp qs (d ++ n ∷ [])) (listed d (take k ns)) ≡ put_all qs (listed d (take (k + 1) ns))
+    → put_all (insert_key path_cmp qs (d ++ n ∷ [])) (children_named d (take k ns)) ≡ put_all qs (children_named d (take (k + 1) ns))
 last_child qs d ns k n h is =
-    put_all-insert (listed d (take k ns)) qs (d ++ n ∷ [])
-    ∙ (sym (put_all-append (listed d (take k ns)) ((d ++ n ∷ []) ∷ []) qs)
-    ∙ ap (λ ps. put_all qs ps) (sym (listed-push d (take k ns) n) ∙ ap (listed d) (sym (take_more ns k n h ∙ ap (λ m. take k ns ++ m ∷ []) (sym is)))))
+    put_all-insert (children_named d (take k ns)) qs (d ++ n ∷ [])
+    ∙ (sym (put_all-append (children_named d (take k ns)) ((d ++ n ∷ []) ∷ []) qs)
+    ∙ ap (λ ps. put_all qs ps) (sym (listed-push d (take k ns) n) ∙ ap (children_named d) (sym (take_more ns k n h ∙ ap (λ m. take k ns ++ m ∷ []) (sym is)))))

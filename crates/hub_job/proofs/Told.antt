@@ -9,7 +9,7 @@ use Rattle.std.proofs.lemmas.Option.{slice_get_past}
 use Rattle.std.proofs.Math.Bool.{or-true}
 use Rattle.hub_reconcile.specs.Laws.Ascend.{ascending_sorted}
 use Rattle.hub_reconcile.specs.Laws.Views.{apart_from, paths_same}
-use Rattle.hub_path.specs.Path.{Path, path_cmp, path_eq, ascending}
+use Rattle.hub_path.specs.Path.{Path, path_cmp, path_eq, ascending, children_named}
 use Rattle.hub_path.specs.declared.side.Side.{Side}
 use Rattle.hub_path.specs.declared.side.Side.TheVariants.{Left, Right}
 use Rattle.hub_profile.specs.Parts.{Parts}
@@ -28,17 +28,18 @@ use Rattle.hub_job.specs.declared.looks.Looks.{Looks}
 use Rattle.hub_job.specs.Machine.{Fits}
 use Rattle.hub_job.specs.Job.{told, sights, missing, is_refused, is_look, Step, contents_with, op_of, ask, step_or_end, look_or, next}
 use Rattle.hub_job.specs.Run.{Runs}
-use Rattle.hub_job.specs.Waiting.{listed, put_all, looks_for, put_kept}
-use Rattle.hub_job.specs.Phase.{seen_paths, IsWaiting, told_to, told_on, told_more, look_at, first_look, are_looks, AreLooks, AreLooksOf}
+use Rattle.hub_job.specs.Waiting.{put_all, looks_for, put_kept}
+use Rattle.hub_job.specs.Phase.{IsWaiting, told_to, told_on, told_more, look_at, first_look, are_looks, AreLooks, AreLooksOf}
 use Rattle.hub_job.proofs.Waits.{AllBefore, ascending-append, ascending_is, put_all-append, all_before, children_wait, find_behind}
 use Rattle.hub_job.proofs.Performs.{any_middle, past_all}
 use Rattle.hub_job.specs.Laws.Logs.{sights_own, sights_other}
+use Rattle.hub_reconcile.specs.Merge.{seen_paths}
 
 -- One more Look.
 abbrev kids : Path × Sight → List Path
 kids s = map (λ n. s.0 ++ n ∷ []) s.1.names
 
-needed_more : (P : Parts) (ss : List (Path × Sight)) (s : Path × Sight) → needed P (ss ++ s ∷ []) ≡ put_all (needed P ss) (listed s.0 s.1.names)
+needed_more : (P : Parts) (ss : List (Path × Sight)) (s : Path × Sight) → needed P (ss ++ s ∷ []) ≡ put_all (needed P ss) (children_named s.0 s.1.names)
 needed_more P ss s =
     ap (λ ps. ascending (first_looks P ++ ps)) (flat_map-append kids ss (s ∷ []) ∙ ap (λ ps. flat_map kids ss ++ ps) (append-nil (kids s)))
     ∙ (ap ascending (sym (append_assoc (first_looks P) (flat_map kids ss) (kids s)))
@@ -52,17 +53,17 @@ pub sorted_needed : (P : Parts) (ss : List (Path × Sight)) (qs : List Path) →
 sorted_needed P ss qs w = subst (λ ps. IsStrictlySortedBy path_cmp ps) w (ascending_sorted (first_looks P ++ flat_map kids ss))
 
 waiting_more : (P : Parts) (ss : List (Path × Sight)) (s : Path × Sight) (qs : List Path) → needed P ss ≡ seen_paths ss ++ s.0 ∷ qs
-    → needed P (ss ++ s ∷ []) ≡ seen_paths (ss ++ s ∷ []) ++ put_all qs (listed s.0 s.1.names)
+    → needed P (ss ++ s ∷ []) ≡ seen_paths (ss ++ s ∷ []) ++ put_all qs (children_named s.0 s.1.names)
 waiting_more P ss s qs w =
     needed_more P ss s
-    ∙ (ap (λ ps. put_all ps (listed s.0 s.1.names)) w
+    ∙ (ap (λ ps. put_all ps (children_named s.0 s.1.names)) w
     ∙ (children_wait (seen_paths ss) qs s.0 s.1.names (sorted_needed P ss (s.0 ∷ qs) w)
-    ∙ ap (λ ps. ps ++ put_all qs (listed s.0 s.1.names)) (sym (seen-push ss s))))
+    ∙ ap (λ ps. ps ++ put_all qs (children_named s.0 s.1.names)) (sym (seen-push ss s))))
 
 told_look : (P : Parts) (log : List Logged) (e : Logged) (k : Side) (d : Path) (qs : List Path) (a : Answer) → sights (log ++ e ∷ []) k ≡ sights log k ++ told (Look d) a → Fits (Look d) a
     → IsWaiting P log k (d ∷ qs) → IsWaiting P (log ++ e ∷ []) k (told_to (d ∷ qs) (Look d) a)
 told_look P log e k d qs (Seen v) s fits w =
-    subst (λ ss. needed P ss ≡ seen_paths ss ++ put_all qs (listed d v.names)) (sym s) (waiting_more P (sights log k) (d, v) qs w)
+    subst (λ ss. needed P ss ≡ seen_paths ss ++ put_all qs (children_named d v.names)) (sym s) (waiting_more P (sights log k) (d, v) qs w)
 told_look P log e k d qs (Bytes b) s fits w = absurd fits
 told_look P log e k d qs Done s fits w = absurd fits
 told_look P log e k d qs (Refused f) s fits w = absurd fits

@@ -8,9 +8,9 @@ use Rattle.std.specs.FinMap.Entries.{put, by_order}
 use Rattle.std.specs.Ordering.{match_ordering, ordering_reverse}
 use Rattle.std.specs.declared.cmp.Ordering.{Ordering}
 use Rattle.std.specs.declared.cmp.Ordering.TheVariants.{Less, Equal, Greater}
-use Rattle.hub_path.specs.Path.{Name, Path, path_cmp, ascending}
+use Rattle.hub_path.specs.Path.{Name, Path, path_cmp, ascending, children_named}
 use Rattle.hub_path.specs.Laws.{path_cmp-total, path_cmp-over, is_over-append}
-use Rattle.hub_job.specs.Waiting.{listed, put_all}
+use Rattle.hub_job.specs.Waiting.{put_all}
 
 abbrev keys : List (Path × Bool) → List Path
 keys es = map (λ e. e.0) es
@@ -86,16 +86,16 @@ child_after d n = path_cmp-over d (d ++ n ∷ []) (is_over-append d (n ∷ [])) 
 
 -- The children of a path are put behind it and all that is less.
 children_behind : (front rest : List Path) (d : Path) (ns : List Name) → AllBefore front d
-    → put_all ((front ++ d ∷ []) ++ rest) (listed d ns) ≡ (front ++ d ∷ []) ++ put_all rest (listed d ns)
+    → put_all ((front ++ d ∷ []) ++ rest) (children_named d ns) ≡ (front ++ d ∷ []) ++ put_all rest (children_named d ns)
 children_behind front rest d [] a = refl
 children_behind front rest d (n ∷ ns) a =
-    ap (λ qs. put_all qs (listed d ns)) (insert_behind (front ++ d ∷ []) rest (d ++ n ∷ []) (before_push front d (d ++ n ∷ []) (before_more front d (d ++ n ∷ []) a (child_after d n)) (child_after d n)))
+    ap (λ qs. put_all qs (children_named d ns)) (insert_behind (front ++ d ∷ []) rest (d ++ n ∷ []) (before_push front d (d ++ n ∷ []) (before_more front d (d ++ n ∷ []) a (child_after d n)) (child_after d n)))
     ∙ children_behind front (insert_key path_cmp rest (d ++ n ∷ [])) d ns a
 
 pub children_wait : (front rest : List Path) (d : Path) (ns : List Name) → IsStrictlySortedBy path_cmp (front ++ d ∷ rest)
-    → put_all (front ++ d ∷ rest) (listed d ns) ≡ (front ++ d ∷ []) ++ put_all rest (listed d ns)
+    → put_all (front ++ d ∷ rest) (children_named d ns) ≡ (front ++ d ∷ []) ++ put_all rest (children_named d ns)
 children_wait front rest d ns s =
-    ap (λ qs. put_all qs (listed d ns)) (sym (append_assoc front (d ∷ []) rest))
+    ap (λ qs. put_all qs (children_named d ns)) (sym (append_assoc front (d ∷ []) rest))
     ∙ children_behind front rest d ns (all_before front rest d s)
 
 -- A search that nothing in front passes.

@@ -29,7 +29,7 @@ end_of J = if J.stopped then end.Stopped else end_by (job.next J.profile J.archi
 abbrev pub items_of : JobValue → List Item
 items_of J = if is_finished (end_of J) then items (job.view_in J.profile J.archive J.log) else []
 
-abbrev pub archive_of : JobValue → Option Archive
-archive_of J =
+abbrev pub archive_left : JobValue → Option Archive
+archive_left J =
     if is_finished (end_of J) then Some
     (next_archive (job.view_in J.profile J.archive J.log) J.archive) else None

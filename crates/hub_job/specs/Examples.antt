@@ -9,7 +9,7 @@ use Rattle.hub_glob.specs.declared.path_spec.Kind.TheVariants as kind
 use Rattle.hub_glob.specs.declared.piece.Part.TheVariants.{One}
 use Rattle.hub_glob.specs.declared.piece.Piece.TheVariants.{Lit}
 use Rattle.hub_profile.specs.Parts.{Parts}
-use Rattle.hub_profile.specs.ExampleProfiles.{hub, kept}
+use Rattle.hub_profile.specs.ExampleProfiles.{hub, of_kept}
 use Rattle.hub_profile.specs.Protection.{no_bars}
 use Rattle.hub_tree.specs.Tree.{Replica}
 use Rattle.hub_tree.specs.declared.contents.Contents.{Contents}
@@ -44,14 +44,14 @@ abbrev none : List (Path × Mark)
 none = []
 
 an_empty_directory_is_seen :
-    answer one (kept (codes "docs")) hub (Look (path_of (codes "docs")))
+    answer one (of_kept (codes "docs")) hub (Look (path_of (codes "docs")))
     ≡ sees mark.Directory [] false
 unfolding computed
 an_empty_directory_is_seen =
     let h : T (is_sorted path_cmp entries) = tt in simp (get-from_sorted, entries-from_sorted)
 
 a_file_without_a_parent_is_refused :
-    answer one (kept (codes "docs")) hub (Set (path_of (codes "docs/x/y")) (contents.File []))
+    answer one (of_kept (codes "docs")) hub (Set (path_of (codes "docs/x/y")) (contents.File []))
     ≡ Refused NoParent
 unfolding computed
 a_file_without_a_parent_is_refused =
@@ -60,12 +60,12 @@ a_file_without_a_parent_is_refused =
 -- The whole replica is the parent of a kept value of one name: it is a directory, and no more is
 -- told.
 the_parent_of_a_kept_value_is_told_as_a_directory :
-    answer one (kept (codes "docs")) hub (Look []) ≡ sees mark.Directory [] false
+    answer one (of_kept (codes "docs")) hub (Look []) ≡ sees mark.Directory [] false
 unfolding computed
 the_parent_of_a_kept_value_is_told_as_a_directory = refl
 
 what_is_not_reached_is_told_as_nothing :
-    answer one (kept (codes "docs/x")) hub (Look []) ≡ sees mark.Absent [] false
+    answer one (of_kept (codes "docs/x")) hub (Look []) ≡ sees mark.Absent [] false
 unfolding computed
 what_is_not_reached_is_told_as_nothing = refl
 
@@ -80,7 +80,7 @@ abbrev named : List ℕ → Specification
 named t = record { kind = kind.Name; pattern = map (λ c. One (Lit c)) t }
 
 abbrev without_y : Parts
-without_y = record (kept (codes "d")) { ignore = named (codes "y") ∷ [] }
+without_y = record (of_kept (codes "d")) { ignore = named (codes "y") ∷ [] }
 
 abbrev d : Path
 d = path_of (codes "d")
@@ -145,7 +145,7 @@ bars_on_the_other_root_hide_nothing_here =
 
 -- `path = p/q`: the first Look is at its parent, on the left.
 the_first_look_is_at_the_parent :
-    next (kept (codes "p/q")) (from_sorted {R = path_cmp} none) [] ≡ Ask Left
+    next (of_kept (codes "p/q")) (from_sorted {R = path_cmp} none) [] ≡ Ask Left
     (Look (path_of (codes "p")))
 unfolding computed
 the_first_look_is_at_the_parent = refl
@@ -165,14 +165,14 @@ two_looks = looked Left mark.Directory ∷ looked Right mark.Absent ∷ []
 -- `path = a`, and a is a directory on the left alone: after both Looks it is made on the right, and
 -- then the job is finished.
 a_directory_is_made :
-    next (kept (codes "a")) (from_sorted {R = path_cmp} none) two_looks ≡ Ask Right
+    next (of_kept (codes "a")) (from_sorted {R = path_cmp} none) two_looks ≡ Ask Right
     (Set a contents.Directory)
 unfolding computed
 a_directory_is_made =
     let h : T (is_sorted path_cmp none) = tt in simp (get-from_sorted, entries-from_sorted)
 
 the_job_is_finished_with_its_last_answer :
-    next (kept (codes "a")) (from_sorted {R = path_cmp} none) (two_looks ++ record {
+    next (of_kept (codes "a")) (from_sorted {R = path_cmp} none) (two_looks ++ record {
       side = Right;
       step = record { job = 0; op = Set a contents.Directory; answer = Done };
     } ∷ []) ≡ Finished
@@ -184,14 +184,14 @@ the_job_is_finished_with_its_last_answer =
 abbrev file_looks : List Logged
 file_looks = looked Left (mark.File (1 ∷ [])) ∷ looked Right mark.Absent ∷ []
 
-a_file_is_fetched : next (kept (codes "a")) (from_sorted {R = path_cmp} none) file_looks ≡ Ask Left
+a_file_is_fetched : next (of_kept (codes "a")) (from_sorted {R = path_cmp} none) file_looks ≡ Ask Left
     (Fetch a)
 unfolding computed
 a_file_is_fetched =
     let h : T (is_sorted path_cmp none) = tt in simp (get-from_sorted, entries-from_sorted)
 
 a_file_is_set_with_the_bytes_that_came :
-    next (kept (codes "a")) (from_sorted {R = path_cmp} none) (file_looks ++ record {
+    next (of_kept (codes "a")) (from_sorted {R = path_cmp} none) (file_looks ++ record {
       side = Left;
       step = record { job = 0; op = Fetch a; answer = Bytes (codes "x") };
     } ∷ []) ≡ Ask Right (Set a (contents.File (codes "x")))
@@ -200,7 +200,7 @@ a_file_is_set_with_the_bytes_that_came =
     let h : T (is_sorted path_cmp none) = tt in simp (get-from_sorted, entries-from_sorted)
 
 a_refusal_stops_the_job :
-    next (kept (codes "a")) (from_sorted {R = path_cmp} none) (two_looks ++ record {
+    next (of_kept (codes "a")) (from_sorted {R = path_cmp} none) (two_looks ++ record {
       side = Right;
       step = record { job = 0; op = Set a contents.Directory; answer = Refused NoParent };
     } ∷ []) ≡ Stopped
@@ -210,7 +210,7 @@ a_refusal_stops_the_job = refl
 -- Two turns of two jobs in a world of empty replicas: one Look in each log.
 abbrev jobs : Jobs
 jobs = record {
-  profiles = kept (codes "a") ∷ kept (codes "b") ∷ [];
+  profiles = of_kept (codes "a") ∷ of_kept (codes "b") ∷ [];
   archive = λ j. from_sorted {R = path_cmp} none;
 }
 

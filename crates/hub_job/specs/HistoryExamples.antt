@@ -9,7 +9,7 @@ use Rattle.hub_path.specs.Path.{Path, path_of, path_cmp}
 use Rattle.hub_path.specs.declared.side.Side.{Side}
 use Rattle.hub_path.specs.declared.side.Side.TheVariants.{Left, Right}
 use Rattle.hub_profile.specs.Parts.{Parts}
-use Rattle.hub_profile.specs.ExampleProfiles.{hub, kept}
+use Rattle.hub_profile.specs.ExampleProfiles.{hub, of_kept}
 use Rattle.hub_tree.specs.Tree.{Replica, set_fault}
 use Rattle.hub_tree.specs.declared.contents.Contents.{Contents}
 use Rattle.hub_tree.specs.declared.contents.Contents.TheVariants as contents
@@ -45,7 +45,7 @@ inserted es p x h k =
     ∙ find-put path_cmp path_cmp-total q p x es)))
 
 abbrev profiles : List Parts
-profiles = kept (codes "docs") ∷ kept (codes "photos") ∷ []
+profiles = of_kept (codes "docs") ∷ of_kept (codes "photos") ∷ []
 
 abbrev none : List (Path × Contents)
 none = []
@@ -85,16 +85,16 @@ after_the_first =
     ap (λ o. changed_unless o nobody (insert nobody docs contents.Directory)) nothing_hinders
     ∙ inserted none docs contents.Directory tt tt
 
-it_is_made : made.answer ≡ answer nobody (kept (codes "docs")) hub made.op
+it_is_made : made.answer ≡ answer nobody (of_kept (codes "docs")) hub made.op
 unfolding computed
 it_is_made = let h : T (is_sorted path_cmp none) = tt in simp (get-from_sorted, entries-from_sorted)
 
-it_is_seen : seen.answer ≡ answer one (kept (codes "docs")) hub seen.op
+it_is_seen : seen.answer ≡ answer one (of_kept (codes "docs")) hub seen.op
 unfolding computed
 it_is_seen =
     let h : T (is_sorted path_cmp with_docs) = tt in simp (get-from_sorted, entries-from_sorted)
 
-it_is_refused : refused.answer ≡ answer one (kept (codes "docs")) hub refused.op
+it_is_refused : refused.answer ≡ answer one (of_kept (codes "docs")) hub refused.op
 unfolding computed
 it_is_refused =
     let h : T (is_sorted path_cmp with_docs) = tt in simp (get-from_sorted, entries-from_sorted)
@@ -143,7 +143,7 @@ looked side = record {
 abbrev log : List Logged
 log = looked Left ∷ looked Right ∷ []
 
-by_root : map (λ r. length (entries_at (kept (codes "docs")) r log))
+by_root : map (λ r. length (entries_at (of_kept (codes "docs")) r log))
     (hub ∷ path_of (codes "srv/s1") ∷ path_of (codes "srv/s2") ∷ []) ≡ 1 ∷ 1 ∷ 0 ∷ []
 by_root = refl
 
@@ -151,9 +151,9 @@ by_root = refl
 abbrev one_more : List Entry
 one_more = (looked Left).step ∷ (looked Left).step ∷ []
 
-they_differ : entries_of 0 one_more ≢ entries_at (kept (codes "docs")) hub log
+they_differ : entries_of 0 one_more ≢ entries_at (of_kept (codes "docs")) hub log
 they_differ e = cc (ap length e)
 
 -- With no more, they agree.
-they_agree : entries_of 0 ((looked Left).step ∷ []) ≡ entries_at (kept (codes "docs")) hub log
+they_agree : entries_of 0 ((looked Left).step ∷ []) ≡ entries_at (of_kept (codes "docs")) hub log
 they_agree = refl

@@ -1,12 +1,11 @@
 -- How far a job is, against its log.
-use Rattle.std.specs.Prelude.{◌≡◌, ◌≤◌, ◌+◌, ◌-◌, Bool, true, false, not, ◌&&◌, List, [], ◌++◌, map, drop, take, length, slice_get, Option, Some, None, if◌then◌else◌}
+use Rattle.std.specs.Prelude.{◌≡◌, ◌≤◌, ◌+◌, ◌-◌, Bool, true, false, not, ◌&&◌, List, [], ◌++◌, drop, take, length, slice_get, Option, Some, None, if◌then◌else◌}
 use Rattle.std.specs.List.{list_any, list_all}
-use Rattle.hub_path.specs.Path.{Name, Path}
+use Rattle.hub_path.specs.Path.{Name, Path, children_named}
 use Rattle.hub_path.specs.declared.side.Side.{Side}
 use Rattle.hub_path.specs.declared.side.Side.TheVariants.{Left, Right}
 use Rattle.hub_profile.specs.Parts.{Parts, some_passes}
 use Rattle.hub_tree.specs.Tree.{Archive}
-use Rattle.hub_reconcile.specs.Sight.{Sight}
 use Rattle.hub_reconcile.specs.Picture.{needed}
 use Rattle.hub_job.specs.declared.op.Op.{Op}
 use Rattle.hub_job.specs.declared.op.Op.TheVariants.{Look, Fetch, Set}
@@ -21,25 +20,23 @@ use Rattle.hub_job.specs.declared.steps.Steps.{Steps}
 use Rattle.hub_job.specs.declared.phase.Phase.{Phase}
 use Rattle.hub_job.specs.declared.phase.Phase.TheVariants as phase
 use Rattle.hub_job.specs.Job.{sights, view_in, is_refused, is_look, fetched_last, steps, steps_made, ask, next}
-use Rattle.hub_job.specs.Waiting.{listed, put_all}
-
-abbrev pub seen_paths : List (Path × Sight) → List Path
-seen_paths ss = map (λ s. s.0) ss
+use Rattle.hub_job.specs.Waiting.{put_all}
+use Rattle.hub_reconcile.specs.Merge.{seen_paths}
 
 -- Of the Looks that a side needs, all but these have been made.
 abbrev pub IsWaiting : Parts → List Logged → Side → List Path → Type 0
 IsWaiting P log side ps = needed P (sights log side) ≡ seen_paths (sights log side) ++ ps
 
 -- The names that an answer lists.
-abbrev pub named : Answer → List Name
-named (Seen s) = s.names
-named (Bytes b) = []
-named Done = []
-named (Refused f) = []
+abbrev pub names_listed : Answer → List Name
+names_listed (Seen s) = s.names
+names_listed (Bytes b) = []
+names_listed Done = []
+names_listed (Refused f) = []
 
 -- The Looks that an answer makes needed.
 abbrev pub listed_by : Op → Answer → List Path
-listed_by (Look d) a = listed d (named a)
+listed_by (Look d) a = children_named d (names_listed a)
 listed_by (Fetch p) a = []
 listed_by (Set p c) a = []
 

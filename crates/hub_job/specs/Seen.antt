@@ -16,12 +16,12 @@ use Rattle.hub_job.specs.declared.sight.Told.TheVariants as told
 abbrev pub sight_of_file : List ℕ → Sight
 sight_of_file bytes = record { mark = mark_of (contents.File bytes); names = []; others = false }
 
-abbrev pub sight_in : Listing → Sight
-sight_in l = record { mark = l.mark; names = l.names; others = l.others }
+abbrev pub sight_of_listing : Listing → Sight
+sight_of_listing l = record { mark = l.mark; names = l.names; others = l.others }
 
 abbrev pub sight_of : Told → Sight
 sight_of (told.File bytes) = sight_of_file bytes
-sight_of (told.Listed listing) = sight_in (arc_value listing)
+sight_of (told.Listed listing) = sight_of_listing (arc_value listing)
 
 pub sight_exact : {E : Mark → Mark → Bool} → IsExact E
     → IsExact (λ (s t : Sight). E s.mark t.mark && pointwise (pointwise nat_eq) s.names t.names

@@ -1,13 +1,9 @@
 -- The Looks that a side waits for: paths in ascending order.
-use Rattle.std.specs.Prelude.{List, [], ◌∷◌, ◌++◌, ◌||◌, ◌==◌, map, fold, length, nat_lt, if◌then◌else◌}
+use Rattle.std.specs.Prelude.{List, [], ◌∷◌, ◌++◌, ◌||◌, ◌==◌, fold, length, nat_lt, if◌then◌else◌}
 use Rattle.std.specs.BTreeSet.{insert_key}
-use Rattle.hub_path.specs.Path.{Name, Path, path_cmp, parent}
+use Rattle.hub_path.specs.Path.{Path, path_cmp, parent}
 use Rattle.hub_profile.specs.Parts.{Parts}
 use Rattle.hub_reach.specs.Reach.{reach}
-
--- The children of a path that have these names.
-abbrev pub listed : Path → List Name → List Path
-listed d ns = map (λ n. d ++ n ∷ []) ns
 
 -- An ascending list of paths with these put in.
 abbrev pub put_all : List Path → List Path → List Path

@@ -148,7 +148,7 @@ impl<'a> Job<'a> {
         ensures end { IfOk result (λ e. e.0.end ≡ ends.end_of self.entry) }
         ensures log { IfOk result (λ e. e.0.log ≡ self.entry.log) }
         ensures items { IfOk result (λ e. e.0.items ≡ ends.items_of self.entry) }
-        ensures archive { IfOk result (λ e. e.1 ≡ ends.archive_of self.entry) }
+        ensures archive { IfOk result (λ e. e.1 ≡ ends.archive_left self.entry) }
     {
         let Job {
             alloc,

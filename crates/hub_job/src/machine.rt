@@ -56,7 +56,7 @@ fn look(
     path: &RelPath,
 ) -> Result<Answer, AllocError>
     ensures value { IfOk result
-        (λ a. a ≡ machine.seen (of_sight.sight profile.now root.now tree.now path.now)) }
+        (λ a. a ≡ machine.seen_answer (of_sight.sight profile.now root.now tree.now path.now)) }
     ensures fits { IfOk result (machine.Fits (Op.Look path.now)) }
 {
     Ok(Answer::Seen(sight_at(alloc, profile, root, tree, path)?))

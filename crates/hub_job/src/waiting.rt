@@ -1,8 +1,8 @@
 ghost use Rattle.std.specs.Prelude.{◌≡◌, ◌≤◌, [], ◌∷◌, drop, length, reverse, slice_get, insert, IfNone, IfSome, OnOk};
 ghost use Rattle.std.specs.Option.{option_map};
 ghost use Rattle.std.specs.BTreeSet.{insert_key};
-ghost use Rattle.hub_path.specs.Path.{path_cmp};
-ghost use Rattle.hub_job.specs.Waiting.{listed, put_all};
+ghost use Rattle.hub_path.specs.Path.{path_cmp, children_named};
+ghost use Rattle.hub_job.specs.Waiting.{put_all};
 
 use hub_path::{Name, RelPath};
 use std::alloc::{AllocError, Global};
@@ -64,7 +64,7 @@ impl Waiting {
     /// Puts in the children of a path that have these names, the last one first: where the names ascend, each child comes
     /// before those that are there. Out of memory may leave some of them there.
     pub(crate) fn add_children(&mut self, path: &RelPath, names: &[Name]) -> Result<(), AllocError>
-        ensures { OnOk result (self.new ≡ put_all self.old (listed path.now names.now)) }
+        ensures { OnOk result (self.new ≡ put_all self.old (children_named path.now names.now)) }
     {
         for i in 0..names.len() {
             let name = &names[names.len() - 1 - i];

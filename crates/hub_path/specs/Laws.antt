@@ -168,8 +168,8 @@ path_cmp-over (n ∷ p) (m ∷ q) h other =
 pub text_of-path_of : (cs : List ℕ) → text_of (path_of cs) ≡ cs
 text_of-path_of cs = join_with_byte-slice_split 47 cs
 
-abbrev pub is_apart : ℕ → Bool
-is_apart c = not (c == 47)
+abbrev pub is_no_slash : ℕ → Bool
+is_no_slash c = not (c == 47)
 
 last_of_four : (a b c d : Bool) → not (a || b || c || d) ≡ true → not d ≡ true
 last_of_four a b c true h =
@@ -183,14 +183,15 @@ last_of_four a b c true h =
     ] h
 last_of_four a b c false h = refl
 
-all_apart : (n : Name) → list_all (λ c. not (is_forbidden c)) n ≡ true → list_all is_apart n ≡ true
+all_apart : (n : Name) → list_all (λ c. not (is_forbidden c)) n ≡ true
+    → list_all is_no_slash n ≡ true
 all_apart [] h = refl
 all_apart (c ∷ n) h =
     let passed = and_parts (not (is_forbidden c)) (list_all (λ d. not (is_forbidden d)) n) h in
     rw (last_of_four (c == 0) (c == 10) (c == 13) (c == 47) passed.0, all_apart n passed.1) refl
 
 -- A name has no slash.
-pub name-apart : (n : Name) → IsTrue (is_name n) → list_all is_apart n ≡ true
+pub name-apart : (n : Name) → IsTrue (is_name n) → list_all is_no_slash n ≡ true
 name-apart n h = all_apart n (name_parts n h).allowed
 
 not_cut : (t : Bool) (c : ℕ) (ps qs : List (List ℕ)) → not t ≡ true
@@ -198,17 +199,17 @@ not_cut : (t : Bool) (c : ℕ) (ps qs : List (List ℕ)) → not t ≡ true
 not_cut true c ps qs h = cc
 not_cut false c ps qs h = refl
 
-path_of-name : (n : Name) → list_all is_apart n ≡ true → path_of n ≡ n ∷ []
+path_of-name : (n : Name) → list_all is_no_slash n ≡ true → path_of n ≡ n ∷ []
 path_of-name [] h = refl
 path_of-name (c ∷ n) h =
-    let passed = and_parts (is_apart c) (list_all is_apart n) h in
+    let passed = and_parts (is_no_slash c) (list_all is_no_slash n) h in
     not_cut (c == 47) c _ _ passed.0 ∙ ap (onto_first c) (path_of-name n passed.1)
 
-path_of-front : (n : Name) (cs : List ℕ) → list_all is_apart n ≡ true
+path_of-front : (n : Name) (cs : List ℕ) → list_all is_no_slash n ≡ true
     → path_of (n ++ 47 ∷ cs) ≡ n ∷ path_of cs
 path_of-front [] cs h = refl
 path_of-front (c ∷ n) cs h =
-    let passed = and_parts (is_apart c) (list_all is_apart n) h in
+    let passed = and_parts (is_no_slash c) (list_all is_no_slash n) h in
     not_cut (c == 47) c _ _ passed.0 ∙ ap (onto_first c) (path_of-front n cs passed.1)
 
 path_of-text_of-cons : (n : Name) (p : Path) → IsTrue (is_place (n ∷ p))

@@ -79,6 +79,10 @@ abbrev pub none_over : List Path → Bool
 none_over [] = true
 none_over (p ∷ ps) = list_all (λ q. not (is_over p q || is_over q p)) ps && none_over ps
 
+-- The paths of the children that have these names, below a path or the whole replica.
+abbrev pub children_named : Path → List Name → List Path
+children_named p ns = map (λ n. p ++ n ∷ []) ns
+
 -- The names in a text, cut at `/`.
 abbrev pub path_of : List ℕ → Path
 path_of t = slice_split (λ c. c == 47) t

@@ -9,7 +9,7 @@ use Rattle.std.proofs.lemmas.Bool.Decides.{nat_tests}
 use Rattle.hub_path.specs.Path.{Name, Path, is_name, is_place, is_path, is_forbidden, is_dots, text_of, path_of}
 use Rattle.hub_path.specs.Reading.{name_fault, name_reading, names_fault, path_reading, path_fault, root_reading, root_fault, root_names, place_of, without_last_slash, or_fault, is_short_name, is_short_path}
 use Rattle.hub_text.specs.ListLaws.{some-item}
-use Rattle.hub_path.specs.Laws.{path_of-text_of, name-apart, is_apart}
+use Rattle.hub_path.specs.Laws.{path_of-text_of, name-apart, is_no_slash}
 use Rattle.hub_text.specs.TestLaws.{list_all-not}
 use Rattle.hub_path.specs.declared.fault.PathFault.{PathFault}
 use Rattle.hub_path.specs.declared.fault.PathFault.TheVariants.{EmptyName, DotName, BadCharacter, NameTooLong}
@@ -72,7 +72,7 @@ record Begins (t : List ℕ) : Type 0 where
   first : ℕ
   rest : List ℕ
   are : t ≡ first ∷ rest
-  apart : is_apart first ≡ true
+  apart : is_no_slash first ≡ true
 
 name-begins : (n : Name) → IsTrue (is_name n) → Begins n
 name-begins [] h = cc
@@ -82,7 +82,7 @@ name-begins (c ∷ n) h =
       rest = n;
       are = refl;
       apart =
-          (and_parts (is_apart c) (list_all is_apart n) (name-apart (c ∷ n) h)).0;
+          (and_parts (is_no_slash c) (list_all is_no_slash n) (name-apart (c ∷ n) h)).0;
     }
 
 longer-begins : (n t : List ℕ) → Begins n → Begins (n ++ t)
@@ -95,7 +95,7 @@ text-begins n (m ∷ p) h =
     longer-begins n (47 ∷ text_of (m ∷ p))
     (name-begins n (and_parts (is_name n) (is_place (m ∷ p)) h).0)
 
-apart-slash : (c : ℕ) → is_apart c ≡ true → nat_eq 47 c ≡ false
+apart-slash : (c : ℕ) → is_no_slash c ≡ true → nat_eq 47 c ≡ false
 apart-slash c h = grind (arith, nat_tests)
 
 no_fault : (t : List ℕ) → Begins t → path_fault t ≡ names_fault 0 (path_of t)
@@ -126,16 +126,16 @@ without_last-more [] c ys = refl
 without_last-more (x ∷ []) c ys = refl
 without_last-more (x ∷ y ∷ xs) c ys = ap (λ t. x ∷ t) (without_last-more (y ∷ xs) c ys)
 
-without_last-name : (n : List ℕ) → list_all is_apart n ≡ true → without_last 47 n ≡ n
+without_last-name : (n : List ℕ) → list_all is_no_slash n ≡ true → without_last 47 n ≡ n
 without_last-name [] h = refl
-without_last-name (c ∷ []) h = stays (c == 47) (and_parts (is_apart c) true h).0
+without_last-name (c ∷ []) h = stays (c == 47) (and_parts (is_no_slash c) true h).0
   where
     stays : (t : Bool) → not t ≡ true → cond t [] (c ∷ []) ≡ c ∷ []
     stays true h = cc
     stays false h = refl
 without_last-name (c ∷ d ∷ n) h =
     ap (λ t. c ∷ t) (without_last-name (d ∷ n)
-    (and_parts (is_apart c) (list_all is_apart (d ∷ n)) h).1)
+    (and_parts (is_no_slash c) (list_all is_no_slash (d ∷ n)) h).1)
 
 without_last-begun : (t : List ℕ) → Begins t → (n : Name)
     → without_last 47 (n ++ 47 ∷ t) ≡ n ++ 47 ∷ without_last 47 t

@@ -1,5 +1,5 @@
 -- How the names of a path are read, from the left.
-use Rattle.std.proofs.Common.{◌≡◌, ◌==◌, add-one, length-append, ℕ, ◌+◌, ◌<◌, true, false, cond, [], ◌∷◌, ◌++◌, length, take, drop, get_or, Option, Some, None, Result, Ok, Err, refl, sym, ap, ◌∙◌, arith}
+use Rattle.std.proofs.Common.{◌≡◌, ◌==◌, add-one, length-append, ℕ, ◌+◌, ◌<◌, Bool, true, false, cond, [], ◌∷◌, ◌++◌, length, take, drop, get_or, Option, Some, None, Result, Ok, Err, refl, sym, ap, ◌∙◌, arith}
 use Rattle.std.specs.Prelude.{IsTrue}
 use Rattle.std.proofs.Math.Seq.{drop-cons}
 use Rattle.std.proofs.lemmas.List.{take_more, take_all, drop_all}
@@ -26,6 +26,16 @@ pub or_fault-Err : {T : Type 0} (f : Option PathFault) (x : T) (e : PathFault)
     → or_fault f x ≡ Err e → f ≡ Some e
 or_fault-Err None x e h = cc
 or_fault-Err (Some d) x e h = cc
+
+-- Where two tests find no fault, neither does.
+pub first_fault-None : (f g : Option PathFault) → first_fault f g ≡ None → (f ≡ None) × (g ≡ None)
+first_fault-None None g h = (refl, h)
+first_fault-None (Some e) g h = cc
+
+pub tested-None : (b : Bool) (e : PathFault) (f : Option PathFault) → cond b (Some e) f ≡ None
+    → (b ≡ false) × (f ≡ None)
+tested-None true e f h = cc
+tested-None false e f h = (refl, h)
 
 -- The fault of the names from one on, by that name.
 fault-at : (all : Path) (i : ℕ) (n : Name) → i < length all → n ≡ get_or all i n

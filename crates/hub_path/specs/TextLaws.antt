@@ -1,9 +1,14 @@
--- What one more character makes of the names of a text, and which prefixes a path has.
+-- What one more character makes of the names of a text, which prefixes a path has, and what holds of
+-- all characters of a text.
 use Rattle.std.proofs.Common.{◌≡◌, ◌==◌, cond, ℕ, Bool, true, false, ◌&&◌, List, [], ◌∷◌, ◌++◌, map, refl, sym, ap, ◌∙◌}
 use Rattle.std.specs.List.{list_all, list_any, onto_first}
-use Rattle.std.proofs.lemmas.Bool.{and_from}
+use Rattle.std.specs.Str.{all_scalars}
+use Rattle.std.proofs.lemmas.Bool.{and_from, and_parts}
+use Rattle.std.proofs.lemmas.List.Folds.{list_all-append}
+use lib.Utf8.{scalar}
 use Rattle.hub_text.specs.TestLaws.{any-map, or-then}
-use Rattle.hub_path.specs.Path.{Name, Path, name_eq, is_over, parent, last_name, prefixes, path_of}
+use Rattle.hub_path.specs.Path.{Name, Path, name_eq, is_name, is_place, is_over, parent, last_name, prefixes, path_of, text_of}
+use Rattle.hub_path.specs.NameFacts.{name_parts}
 use Rattle.hub_path.specs.Laws.{parent-last_name, parent-push, is_over-append, name_eq-decides}
 
 abbrev cut : Bool → ℕ → List Name → List Name
@@ -116,3 +121,26 @@ any-prefixes f (n ∷ p) q h =
     (list_any f (map (λ r. n ∷ r) (prefixes (p ++ q)))) h
     (λ e. sym (any-map f (λ r. n ∷ r) (prefixes (p ++ q)))
     ∙ any-prefixes (λ r. f (n ∷ r)) p q (any-map f (λ r. n ∷ r) (prefixes p) ∙ e))
+
+-- A test on all characters of a text by those of its names.
+pub joined-pass : (f : ℕ → Bool) → f 47 ≡ true
+    → ((n : Name) → is_name n ≡ true → list_all f n ≡ true) → (p : Path) → is_place p ≡ true
+    → list_all f (text_of p) ≡ true
+joined-pass f slash names [] h = refl
+joined-pass f slash names (n ∷ []) h = names n (and_parts (is_name n) true h).0
+joined-pass f slash names (n ∷ m ∷ p) h =
+    let parts = and_parts (is_name n) (is_place (m ∷ p)) h in
+    list_all-append f n (47 ∷ text_of (m ∷ p))
+    ∙ and_from (list_all f n) (list_all f (47 ∷ text_of (m ∷ p))) (names n parts.0)
+    (and_from (f 47) (list_all f (text_of (m ∷ p))) slash
+    (joined-pass f slash names (m ∷ p) parts.1))
+
+-- The characters of a path's text are Unicode scalar values.
+scalars-all : (cs : List ℕ) → all_scalars cs ≡ list_all scalar cs
+scalars-all [] = refl
+scalars-all (c ∷ cs) = ap (λ b. scalar c && b) (scalars-all cs)
+
+pub scalars-text : (p : Path) → is_place p ≡ true → all_scalars (text_of p) ≡ true
+scalars-text p h =
+    scalars-all (text_of p)
+    ∙ joined-pass scalar refl (λ n k. sym (scalars-all n) ∙ (name_parts n k).scalars) p h

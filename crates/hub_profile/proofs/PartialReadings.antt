@@ -12,7 +12,7 @@ use Rattle.hub_glob.specs.declared.fault.GlobFault.TheVariants as glob
 use Rattle.hub_profile.specs.Arrow as arrow
 use Rattle.hub_profile.specs.Arrow.{CutsAtArrow, has_arrow}
 use Rattle.hub_profile.specs.Faults.{FailsAs, of_path, of_pattern}
-use Rattle.hub_profile.specs.PartialLines.{partial_line, line_of, line_reading}
+use Rattle.hub_profile.specs.PartialLines.{partial_line, partial_line_of, partial_line_reading}
 use Rattle.hub_profile.specs.Reading.{has_all_partials, partial_added, with_partial}
 use Rattle.hub_profile.specs.Said.{Said}
 use Rattle.hub_profile.specs.declared.bars.Bars.{Bars}
@@ -53,40 +53,40 @@ path_fault path.OutOfMemory = inl refl
 
 -- A value that is cut at its arrow.
 cut_line : (bars : Bars) (n : ℕ) (v : List ℕ) (pair : List ℕ × List ℕ) → CutsAtArrow v pair
-    → line_reading bars n v ≡ line_of n bars (spec_reading pair.0) (path_reading.root_reading pair.1)
+    → partial_line_reading bars n v ≡ partial_line_of n bars (spec_reading pair.0) (path_reading.root_reading pair.1)
 cut_line bars n v pair cut =
-    ap (λ (b : Bool). if b then line_of n bars (spec_reading (arrow.spec_and_root v).0) (path_reading.root_reading (arrow.spec_and_root v).1) else Err NoArrow) cut.0
-    ∙ ap (λ (s : List ℕ). line_of n bars (spec_reading s) (path_reading.root_reading (arrow.spec_and_root v).1)) (sym cut.1)
-    ∙ ap (λ (r : List ℕ). line_of n bars (spec_reading pair.0) (path_reading.root_reading r)) (sym cut.2)
+    ap (λ (b : Bool). if b then partial_line_of n bars (spec_reading (arrow.spec_and_root v).0) (path_reading.root_reading (arrow.spec_and_root v).1) else Err NoArrow) cut.0
+    ∙ ap (λ (s : List ℕ). partial_line_of n bars (spec_reading s) (path_reading.root_reading (arrow.spec_and_root v).1)) (sym cut.1)
+    ∙ ap (λ (r : List ℕ). partial_line_of n bars (spec_reading pair.0) (path_reading.root_reading r)) (sym cut.2)
 
 pub read_line : (bars : Bars) (n : ℕ) (v : List ℕ) (pair : List ℕ × List ℕ) (spec : Specification) (root : Path) → CutsAtArrow v pair
-    → spec_reading pair.0 ≡ Ok spec → path_reading.root_reading pair.1 ≡ Ok root → line_reading bars n v ≡ Ok (partial_line n bars spec root)
+    → spec_reading pair.0 ≡ Ok spec → path_reading.root_reading pair.1 ≡ Ok root → partial_line_reading bars n v ≡ Ok (partial_line n bars spec root)
 read_line bars n v pair spec root cut e f =
     cut_line bars n v pair cut
-    ∙ ap (λ (s : Result Specification GlobFault). line_of n bars s (path_reading.root_reading pair.1)) e
-    ∙ ap (λ (r : Result Path PathFault). line_of n bars (Ok spec) r) f
+    ∙ ap (λ (s : Result Specification GlobFault). partial_line_of n bars s (path_reading.root_reading pair.1)) e
+    ∙ ap (λ (r : Result Path PathFault). partial_line_of n bars (Ok spec) r) f
 
 pub spec_refused : (bars : Bars) (n : ℕ) (v : List ℕ) (pair : List ℕ × List ℕ) (e : GlobFault) (f : Fault) → f ≡ of_pattern e → CutsAtArrow v pair
-    → (e ≡ glob.OutOfMemory) ⊎ (spec_reading pair.0 ≡ Err e) → FailsAs (line_reading bars n v) f
+    → (e ≡ glob.OutOfMemory) ⊎ (spec_reading pair.0 ≡ Err e) → FailsAs (partial_line_reading bars n v) f
 spec_refused bars n v pair e f from cut h =
     ⊎_elim (λ (memory : e ≡ glob.OutOfMemory). inl (from ∙ ap of_pattern memory))
     (λ (bad : spec_reading pair.0 ≡ Err e). ⊎_elim (λ (memory : of_pattern e ≡ OutOfMemory). inl (from ∙ memory))
-    (λ (is : of_pattern e ≡ BadPattern e). inr (cut_line bars n v pair cut ∙ ap (λ (s : Result Specification GlobFault). line_of n bars s (path_reading.root_reading pair.1)) bad ∙ ap (λ (x : Fault). Err x) (sym (from ∙ is)))) (pattern_fault e)) h
+    (λ (is : of_pattern e ≡ BadPattern e). inr (cut_line bars n v pair cut ∙ ap (λ (s : Result Specification GlobFault). partial_line_of n bars s (path_reading.root_reading pair.1)) bad ∙ ap (λ (x : Fault). Err x) (sym (from ∙ is)))) (pattern_fault e)) h
 
 pub root_refused : (bars : Bars) (n : ℕ) (v : List ℕ) (pair : List ℕ × List ℕ) (spec : Specification) (e : PathFault) (f : Fault) → f ≡ of_path e → CutsAtArrow v pair
-    → spec_reading pair.0 ≡ Ok spec → path_reading.FailsAs (path_reading.root_reading pair.1) e → FailsAs (line_reading bars n v) f
+    → spec_reading pair.0 ≡ Ok spec → path_reading.FailsAs (path_reading.root_reading pair.1) e → FailsAs (partial_line_reading bars n v) f
 root_refused bars n v pair spec e f from cut read h =
     ⊎_elim (λ (memory : e ≡ path.OutOfMemory). inl (from ∙ ap of_path memory))
     (λ (bad : path_reading.root_reading pair.1 ≡ Err e). ⊎_elim (λ (memory : of_path e ≡ OutOfMemory). inl (from ∙ memory))
-    (λ (is : of_path e ≡ BadPath e). inr (cut_line bars n v pair cut ∙ ap (λ (s : Result Specification GlobFault). line_of n bars s (path_reading.root_reading pair.1)) read
-    ∙ ap (λ (r : Result Path PathFault). line_of n bars (Ok spec) r) bad ∙ ap (λ (x : Fault). Err x) (sym (from ∙ is)))) (path_fault e)) h
+    (λ (is : of_path e ≡ BadPath e). inr (cut_line bars n v pair cut ∙ ap (λ (s : Result Specification GlobFault). partial_line_of n bars s (path_reading.root_reading pair.1)) read
+    ∙ ap (λ (r : Result Path PathFault). partial_line_of n bars (Ok spec) r) bad ∙ ap (λ (x : Fault). Err x) (sym (from ∙ is)))) (path_fault e)) h
 
 -- A line that is added to those that there are.
 abbrev with_line : Said → Result PartialLine Fault → Result Said Fault
 with_line said (Ok l) = Ok (record said { partials = said.partials ++ l ∷ [] })
 with_line said (Err e) = Err e
 
-both_added : (bars : Bars) (said : Said) (n : ℕ) (s : Result Specification GlobFault) (r : Result Path PathFault) → with_partial bars said n s r ≡ with_line said (line_of n bars s r)
+both_added : (bars : Bars) (said : Said) (n : ℕ) (s : Result Specification GlobFault) (r : Result Path PathFault) → with_partial bars said n s r ≡ with_line said (partial_line_of n bars s r)
 both_added bars said n (Ok spec) (Ok root) = refl
 both_added bars said n (Ok spec) (Err e) = refl
 both_added bars said n (Err e) root = refl
@@ -96,12 +96,12 @@ if_arrow : (said : Said) (b : Bool) (x : Result Said Fault) (y : Result PartialL
 if_arrow said true x y e = e
 if_arrow said false x y e = refl
 
-reading_added : (bars : Bars) (said : Said) (n : ℕ) (v : List ℕ) → has_all_partials said ≡ false → partial_added bars said n v ≡ with_line said (line_reading bars n v)
+reading_added : (bars : Bars) (said : Said) (n : ℕ) (v : List ℕ) → has_all_partials said ≡ false → partial_added bars said n v ≡ with_line said (partial_line_reading bars n v)
 reading_added bars said n v few =
     let s = spec_reading (arrow.spec_and_root v).0 in
     let r = path_reading.root_reading (arrow.spec_and_root v).1 in
     ap (λ (b : Bool). if b then Err TooMany else (if has_arrow v then with_partial bars said n s r else Err NoArrow)) few
-    ∙ if_arrow said (has_arrow v) (with_partial bars said n s r) (line_of n bars s r) (both_added bars said n s r)
+    ∙ if_arrow said (has_arrow v) (with_partial bars said n s r) (partial_line_of n bars s r) (both_added bars said n s r)
 
 abbrev with_lines : Said → List PartialLine → Result Said Fault
 with_lines said ls = Ok (record said { partials = ls })
@@ -113,13 +113,13 @@ few_partials : (said : Said) → length said.partials < PARTIAL_LINES → has_al
 few_partials said h = not_all (length said.partials) h
 
 pub line_added : (bars : Bars) (now said : Said) (n : ℕ) (v : List ℕ) (l : PartialLine) (ls : List PartialLine) → now ≡ said → length said.partials < PARTIAL_LINES
-    → line_reading bars n v ≡ Ok l → ls ≡ said.partials ++ l ∷ [] → partial_added bars now n v ≡ Ok (record said { partials = ls })
+    → partial_line_reading bars n v ≡ Ok l → ls ≡ said.partials ++ l ∷ [] → partial_added bars now n v ≡ Ok (record said { partials = ls })
 line_added bars now said n v l ls is few e f =
     ap (λ (s : Said). partial_added bars s n v) is ∙ reading_added bars said n v (few_partials said few) ∙ ap (with_line said) e
     ∙ ap (with_lines said) (sym f)
 
-pub line_refused : (bars : Bars) (now said : Said) (n : ℕ) (v : List ℕ) (e : Fault) → now ≡ said → length said.partials < PARTIAL_LINES → FailsAs (line_reading bars n v) e
+pub line_refused : (bars : Bars) (now said : Said) (n : ℕ) (v : List ℕ) (e : Fault) → now ≡ said → length said.partials < PARTIAL_LINES → FailsAs (partial_line_reading bars n v) e
     → FailsAs (partial_added bars now n v) e
 line_refused bars now said n v e is few h =
     ⊎_elim (λ (memory : e ≡ OutOfMemory). inl memory)
-    (λ (bad : line_reading bars n v ≡ Err e). inr (ap (λ (s : Said). partial_added bars s n v) is ∙ reading_added bars said n v (few_partials said few) ∙ ap (with_line said) bad)) h
+    (λ (bad : partial_line_reading bars n v ≡ Err e). inr (ap (λ (s : Said). partial_added bars s n v) is ∙ reading_added bars said n v (few_partials said few) ∙ ap (with_line said) bad)) h

@@ -7,7 +7,7 @@ use Rattle.std.proofs.lemmas.List.Folds.{list_all-append}
 use lib.Utf8.{scalar}
 use mathlib.Core.List.{reverse_aux}
 use Rattle.hub_path.specs.Path.{Path, is_name, is_place, path_of}
-use Rattle.hub_path.specs.Reading.{name_fault, names_fault, first_fault, path_fault, root_fault, path_reading, root_reading, root_names, without_last_slash, is_remote, begins_with_slash}
+use Rattle.hub_path.specs.Reading.{name_fault, names_fault, path_fault, root_fault, path_reading, root_reading, root_names, without_last_slash, is_remote, begins_with_slash}
 use Rattle.hub_text.specs.declared.line.Line.{Line}
 use Rattle.hub_text.specs.Lines.{lines_of, without_last}
 use Rattle.hub_text.specs.LineLaws.{are_scalars, scalars-lines_of}
@@ -15,7 +15,7 @@ use Rattle.hub_path.specs.declared.fault.PathFault.{PathFault}
 use Rattle.hub_path.specs.declared.fault.PathFault.TheVariants.{Empty, LeadingSlash, RemoteRoot, NotAbsolute, TooDeep}
 use Rattle.hub_path.specs.declared.rel_path.TheConstants.{PATH_NAMES}
 use Rattle.hub_path.specs.NameFacts.{is_name-no_fault}
-use Rattle.hub_path.specs.ReadNames.{or_fault-Ok}
+use Rattle.hub_path.specs.ReadNames.{or_fault-Ok, first_fault-None, tested-None}
 use Rattle.hub_text.specs.Blanks.{skip_blanks}
 use Rattle.hub_glob.specs.Specification.{Specification}
 use Rattle.hub_glob.specs.Reading.{spec_reading}
@@ -30,9 +30,9 @@ use Rattle.hub_profile.specs.declared.protection.Protection.{Protection}
 use Rattle.hub_profile.specs.declared.bars.Bars.{Bars}
 use Rattle.hub_profile.specs.Protection.{repeats, is_left_out}
 use Rattle.hub_profile.specs.Arrow.{has_arrow, spec_and_root}
-use Rattle.hub_profile.specs.Lines.{setting, is_setting, is_include, has_equals, line_text, trimmed}
+use Rattle.hub_profile.specs.Lines.{setting, is_setting, is_include, has_equals, trimmed_line, trimmed}
 use Rattle.hub_profile.specs.LineByLine.{with_pair, with_line, at_line, and_line, lines_reading, look_up}
-use Rattle.hub_profile.specs.Said.{Said, nothing}
+use Rattle.hub_profile.specs.Said.{Said, nothing_said}
 use Rattle.hub_profile.specs.Reading.{kept_reading, keys, with_root, with_path, with_ignore, with_ignorenot, with_protected, with_partial, with_spec_and_root, has_all_paths, has_all_patterns, has_all_partials, with_value, with_key, with_preference}
 
 -- Cuts of characters are characters.
@@ -61,19 +61,11 @@ cut_all p [] h = refl
 cut_all p (c ∷ cs) h = let parts = and_parts (scalar c) (all_scalars cs) h in cut_parts c (p c) (slice_split p cs) parts.0 (cut_all p cs parts.1)
 
 -- Names without a fault.
-no_first : (f g : Option PathFault) → first_fault f g ≡ None → (f ≡ None) × (g ≡ None)
-no_first None g h = (refl, h)
-no_first (Some e) g h = cc
-
-not_this : (b : Bool) (e : PathFault) (o : Option PathFault) → cond b (Some e) o ≡ None → o ≡ None
-not_this true e o h = cc
-not_this false e o h = h
-
 names_fine : (depth : ℕ) (ns : Path) → list_all all_scalars ns ≡ true → names_fault depth ns ≡ None → is_place ns ≡ true
 names_fine depth [] s h = refl
 names_fine depth (n ∷ ns) s h =
     let parts = and_parts (all_scalars n) (list_all all_scalars ns) s in
-    let fine = no_first (name_fault n) (names_fault (depth + 1) ns) (not_this (depth == PATH_NAMES) TooDeep _ h) in
+    let fine = first_fault-None (name_fault n) (names_fault (depth + 1) ns) (tested-None (depth == PATH_NAMES) TooDeep _ h).1 in
     and_from (is_name n) (is_place ns) (is_name-no_fault n parts.0 fine.0) (names_fine (depth + 1) ns parts.1 fine.1)
 
 last_of_three : (a b : Bool) (e f : PathFault) (o : Option PathFault) → cond a (Some e) (cond b (Some f) o) ≡ None → o ≡ None
@@ -95,7 +87,7 @@ root_is_place cs p s h =
     let read = or_fault-Ok (root_fault cs) (root_names cs) p h in
     let rest = without_last_slash (drop 1 cs) in
     let characters : all_scalars rest ≡ true = cut_last 47 (drop 1 cs) (drop-scalars 1 cs s) in
-    subst (λ q. is_place q ≡ true) read.1 (names_fine 0 (root_names cs) (either_place (length rest == 0) (path_of rest) (cut_all (λ c. c == 47) rest characters)) (not_this _ NotAbsolute _ (last_of_three (length cs == 0) (is_remote cs) Empty RemoteRoot _ read.0)))
+    subst (λ q. is_place q ≡ true) read.1 (names_fine 0 (root_names cs) (either_place (length rest == 0) (path_of rest) (cut_all (λ c. c == 47) rest characters)) (tested-None _ NotAbsolute _ (last_of_three (length cs == 0) (is_remote cs) Empty RemoteRoot _ read.0)).1)
 
 kept_is_place : (cs : List ℕ) (p : Path) → all_scalars cs ≡ true → kept_reading cs ≡ Ok p → is_place p ≡ true
 kept_is_place cs p s h = by_case (length cs == 0) (begins_with_slash cs) h
@@ -177,9 +169,9 @@ setting_said said n l h s =
     pair_said said n (is_include l) (has_equals l) _ (trimmed (after_first (λ c. c == 61) l)) h (cut_around (after_first (λ c. c == 61) l) (drop-scalars (position_or_len (λ c. c == 61) l + 1) l s))
 
 line_said : (said : Said) (n : ℕ) (l : List ℕ) → ArePlaces said → all_scalars l ≡ true → IfSaid (with_line with_preference said n l)
-line_said said n l h s = by_case (is_setting (line_text l)) (setting_said said n (line_text l) h (cut_around (without_last 13 l) (cut_last 13 l s)))
+line_said said n l h s = by_case (is_setting (trimmed_line l)) (setting_said said n (trimmed_line l) h (cut_around (without_last 13 l) (cut_last 13 l s)))
   where
-    by_case : (b : Bool) → IfSaid (with_pair with_preference said n (setting (line_text l))) → IfSaid (cond b (with_pair with_preference said n (setting (line_text l))) (Ok said))
+    by_case : (b : Bool) → IfSaid (with_pair with_preference said n (setting (trimmed_line l))) → IfSaid (cond b (with_pair with_preference said n (setting (trimmed_line l))) (Ok said))
     by_case true k = k
     by_case false k = h
 
@@ -197,5 +189,5 @@ lines_said n (l ∷ ls) r s h =
     let parts = and_parts (all_scalars l.text) (are_scalars ls) s in
     lines_said (n + 1) ls (and_line with_preference r (n, l)) parts.1 (and_line_said r n l h parts.0)
 
-pub said_are_places : (cs : List ℕ) (said : Said) → all_scalars cs ≡ true → lines_reading with_preference nothing cs ≡ Ok said → ArePlaces said
-said_are_places cs said s h = subst IfSaid h (lines_said 1 (lines_of cs) (Ok nothing) (scalars-lines_of cs s) (refl, refl))
+pub said_are_places : (cs : List ℕ) (said : Said) → all_scalars cs ≡ true → lines_reading with_preference nothing_said cs ≡ Ok said → ArePlaces said
+said_are_places cs said s h = subst IfSaid h (lines_said 1 (lines_of cs) (Ok nothing_said) (scalars-lines_of cs s) (refl, refl))

@@ -9,7 +9,7 @@ use Rattle.hub_text.specs.declared.line.Line.{Line}
 use Rattle.hub_text.specs.Lines.{lines_of}
 use Rattle.hub_profile.specs.declared.fault.Fault.{Fault}
 use Rattle.hub_profile.specs.declared.fault.ProfileFault.{ProfileFault}
-use Rattle.hub_profile.specs.Lines.{line_text, is_setting, setting}
+use Rattle.hub_profile.specs.Lines.{trimmed_line, is_setting, setting}
 use Rattle.hub_profile.specs.LineByLine.{Table, with_pair, with_line, at_line, and_line, numbered_lines, lines_reading}
 
 -- What the first k lines say.
@@ -53,12 +53,12 @@ all_taken table nothing cs k h = ap (fold (and_line table) (Ok nothing)) (take_a
 abbrev line_if : {S : Type 0} → Table S → S → ℕ → Result (List ℕ × List ℕ) Fault → Bool → Result S Fault
 line_if table said n s b = if b then with_pair table said n s else Ok said
 
-pub line_skipped : {S : Type 0} (table : Table S) (said : S) (n : ℕ) (l t : List ℕ) (b : Bool) → t ≡ line_text l → b ≡ is_setting t → b ≡ false
+pub line_skipped : {S : Type 0} (table : Table S) (said : S) (n : ℕ) (l t : List ℕ) (b : Bool) → t ≡ trimmed_line l → b ≡ is_setting t → b ≡ false
     → with_line table said n l ≡ Ok said
-line_skipped table said n l t b e f g = ap (line_if table said n (setting (line_text l))) (ap is_setting (sym e) ∙ sym f ∙ g)
+line_skipped table said n l t b e f g = ap (line_if table said n (setting (trimmed_line l))) (ap is_setting (sym e) ∙ sym f ∙ g)
 
-pub line_set : {S : Type 0} (table : Table S) (said : S) (n : ℕ) (l t : List ℕ) (b : Bool) (pair : List ℕ × List ℕ) → t ≡ line_text l → b ≡ is_setting t → b ≡ true
+pub line_set : {S : Type 0} (table : Table S) (said : S) (n : ℕ) (l t : List ℕ) (b : Bool) (pair : List ℕ × List ℕ) → t ≡ trimmed_line l → b ≡ is_setting t → b ≡ true
     → setting t ≡ Ok pair → with_line table said n l ≡ table said n pair.0 pair.1
 line_set table said n l t b pair e f g h =
-    ap (line_if table said n (setting (line_text l))) (ap is_setting (sym e) ∙ sym f ∙ g)
+    ap (line_if table said n (setting (trimmed_line l))) (ap is_setting (sym e) ∙ sym f ∙ g)
     ∙ ap (λ u. with_pair table said n (setting u)) (sym e) ∙ ap (with_pair table said n) h

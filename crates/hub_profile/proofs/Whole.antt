@@ -8,7 +8,7 @@ use Rattle.hub_profile.specs.declared.fault.Fault.{Fault}
 use Rattle.hub_profile.specs.declared.fault.Fault.TheVariants.{NotUtf8}
 use Rattle.hub_profile.specs.declared.fault.ProfileFault.{ProfileFault}
 use Rattle.hub_profile.specs.Parts.{Parts, IsProfile}
-use Rattle.hub_profile.specs.Said.{Said, nothing}
+use Rattle.hub_profile.specs.Said.{Said, nothing_said}
 use Rattle.hub_profile.specs.Foreign.{foreign_fault}
 use Rattle.hub_profile.specs.LineByLine.{lines_reading, if_text}
 use Rattle.hub_profile.specs.Reading.{with_preference, roots_fault, profile, or_later, unless_fault, if_said, profile_reading, profile_in}
@@ -22,7 +22,7 @@ text_read reading bytes text same u = cond-true (is_utf8 bytes) (reading (chars 
 pub no_text_read : {T : Type 0} (reading : List ℕ → Result T ProfileFault) (bytes : List ℕ) → is_utf8 bytes ≡ false → if_text reading bytes ≡ Err (record { line = 0; fault = NotUtf8 })
 no_text_read reading bytes u = cond-false (is_utf8 bytes) (reading (chars bytes)) _ u
 
-pub places_of_text : (bytes text : List ℕ) (said : Said) → text ≡ bytes → is_utf8 bytes ≡ true → lines_reading with_preference nothing (chars text) ≡ Ok said → ArePlaces said
+pub places_of_text : (bytes text : List ℕ) (said : Said) → text ≡ bytes → is_utf8 bytes ≡ true → lines_reading with_preference nothing_said (chars text) ≡ Ok said → ArePlaces said
 places_of_text bytes text said same u h = said_are_places (chars text) said (scalars-chars text (IsUtf8-from_is_utf8 text (ap is_utf8 same ∙ u))) h
 
 -- What is read of bytes is a profile.
@@ -36,10 +36,10 @@ is_profile_read name bytes P h = by_text (is_utf8 bytes) refl h
     by_roots said None (Some f) places r e = cc
     by_roots said (Some f) later places r e = cc
 
-    by_lines : (r : Result Said ProfileFault) → is_utf8 bytes ≡ true → lines_reading with_preference nothing (chars bytes) ≡ r → if_said name r ≡ Ok P → IsProfile P
+    by_lines : (r : Result Said ProfileFault) → is_utf8 bytes ≡ true → lines_reading with_preference nothing_said (chars bytes) ≡ r → if_said name r ≡ Ok P → IsProfile P
     by_lines (Ok said) u e k = by_roots said (roots_fault said.roots) (foreign_fault said.roots said.protections said.partials) (places_of_text bytes bytes said refl u e) refl k
     by_lines (Err f) u e k = cc
 
     by_text : (b : Bool) → is_utf8 bytes ≡ b → cond b (profile_reading name (chars bytes)) (Err (record { line = 0; fault = NotUtf8 })) ≡ Ok P → IsProfile P
-    by_text true u k = by_lines (lines_reading with_preference nothing (chars bytes)) u refl k
+    by_text true u k = by_lines (lines_reading with_preference nothing_said (chars bytes)) u refl k
     by_text false u k = cc

@@ -29,5 +29,5 @@ between name left right path =
     }
 
 -- The profile of a kept value between the hub and s1, with the kept value as its name.
-abbrev pub kept : List ℕ → Parts
-kept t = between t hub s1 (path_of t)
+abbrev pub of_kept : List ℕ → Parts
+of_kept t = between t hub s1 (path_of t)

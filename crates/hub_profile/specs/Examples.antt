@@ -10,9 +10,9 @@ use Rattle.hub_glob.specs.declared.fault.GlobFault.{GlobFault}
 use Rattle.hub_glob.specs.declared.fault.GlobFault.TheVariants as glob
 use Rattle.hub_profile.specs.Facts.{are_roots, are_kept}
 use Rattle.hub_profile.specs.Parts.{Parts, IsProfile}
-use Rattle.hub_profile.specs.Lines.{line_text}
+use Rattle.hub_profile.specs.Lines.{trimmed_line}
 use Rattle.hub_profile.specs.LineByLine.{lines_reading}
-use Rattle.hub_profile.specs.Said.{Said, nothing}
+use Rattle.hub_profile.specs.Said.{Said, nothing_said}
 use Rattle.hub_profile.specs.Protection.{no_bars}
 use Rattle.hub_profile.specs.declared.bars.Bars.{Bars}
 use Rattle.hub_profile.specs.Arrow.{has_arrow, spec_and_root}
@@ -44,10 +44,10 @@ third t = faulty (codes "root = /srv/hub\nroot = /srv/s1\n" ++ t)
 -- What the lines of a text say, whose roots may be missing.
 abbrev said_or : Result Said ProfileFault → Said
 said_or (Ok said) = said
-said_or (Err f) = nothing
+said_or (Err f) = nothing_said
 
 abbrev said_in : List ℕ → Said
-said_in t = said_or (lines_reading with_preference nothing t)
+said_in t = said_or (lines_reading with_preference nothing_said t)
 
 -- The kept values of a profile.
 abbrev kept_in : List ℕ → List Path
@@ -124,7 +124,7 @@ no_root_is_within_the_other : faulty (codes "root = /srv/hub\nroot = /srv") ≡ 
 no_root_is_within_the_other = refl
 
 -- LF, then one CR at the very end, then spaces and tabs
-a_cr_goes_before_the_blanks : map line_text
+a_cr_goes_before_the_blanks : map trimmed_line
     (codes "x \r" ∷ codes "x\r " ∷ codes "x\r\r" ∷ codes " \r " ∷ [])
     ≡ codes "x" ∷ codes "x\r" ∷ codes "x\r" ∷ codes "\r" ∷ []
 a_cr_goes_before_the_blanks = refl

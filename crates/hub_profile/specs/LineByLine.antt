@@ -7,7 +7,7 @@ use Rattle.std.specs.Str.{is_utf8, chars}
 use Rattle.hub_profile.specs.declared.fault.Fault.{Fault}
 use Rattle.hub_profile.specs.declared.fault.Fault.TheVariants.{NotUtf8}
 use Rattle.hub_profile.specs.declared.fault.ProfileFault.{ProfileFault}
-use Rattle.hub_profile.specs.Lines.{line_text, is_setting, setting}
+use Rattle.hub_profile.specs.Lines.{trimmed_line, is_setting, setting}
 use Rattle.hub_text.specs.declared.line.Line.{Line}
 use Rattle.hub_text.specs.Lines.{lines_of}
 
@@ -24,7 +24,8 @@ with_pair table said n (Err f) = Err f
 -- What a line adds: nothing if it is blank or a comment.
 abbrev pub with_line : {S : Type 0} → Table S → S → ℕ → List ℕ → Result S Fault
 with_line table said n l =
-    if is_setting (line_text l) then with_pair table said n (setting (line_text l)) else Ok said
+    if is_setting (trimmed_line l) then with_pair table said n (setting (trimmed_line l))
+    else Ok said
 
 -- A fault is reported with its line.
 abbrev pub at_line : {S : Type 0} → ℕ → Result S Fault → Result S ProfileFault

@@ -12,8 +12,8 @@ abbrev pub trimmed : List ℕ → List ℕ
 trimmed cs = reverse (skip_blanks (reverse (skip_blanks cs)))
 
 -- What a line says: a CR at its end is dropped, then the blanks around it.
-abbrev pub line_text : List ℕ → List ℕ
-line_text cs = trimmed (without_last 13 cs)
+abbrev pub trimmed_line : List ℕ → List ℕ
+trimmed_line cs = trimmed (without_last 13 cs)
 
 -- A blank line and one that begins with `#` say nothing; each other line is a setting.
 abbrev pub is_setting : List ℕ → Bool

@@ -20,17 +20,18 @@ abbrev pub partial_line : ℕ → Bars → Specification → Path → PartialLin
 partial_line n bars spec root = record { line = n; bars = bars; spec = spec; root = root }
 
 -- The fault of the specification is reported before that of the root.
-abbrev pub line_of : ℕ → Bars → Result Specification GlobFault → Result Path PathFault
+abbrev pub partial_line_of : ℕ → Bars → Result Specification GlobFault → Result Path PathFault
     → Result PartialLine Fault
-line_of n bars (Ok spec) (Ok root) = Ok (partial_line n bars spec root)
-line_of n bars (Ok spec) (Err e) = Err (fault.BadPath e)
-line_of n bars (Err e) root = Err (fault.BadPattern e)
+partial_line_of n bars (Ok spec) (Ok root) = Ok (partial_line n bars spec root)
+partial_line_of n bars (Ok spec) (Err e) = Err (fault.BadPath e)
+partial_line_of n bars (Err e) root = Err (fault.BadPattern e)
 
 -- What the value of a line says.
-abbrev pub line_reading : Bars → ℕ → List ℕ → Result PartialLine Fault
-line_reading bars n v =
+abbrev pub partial_line_reading : Bars → ℕ → List ℕ → Result PartialLine Fault
+partial_line_reading bars n v =
     if has_arrow v
-    then line_of n bars (spec_reading (spec_and_root v).0) (root_reading (spec_and_root v).1)
+    then partial_line_of n bars (spec_reading (spec_and_root v).0)
+    (root_reading (spec_and_root v).1)
     else Err fault.NoArrow
 
 -- The side of a root that is one of the two.

@@ -10,7 +10,7 @@ use Rattle.hub_glob.specs.Reading.{spec_reading}
 use Rattle.hub_glob.specs.declared.fault.GlobFault.{GlobFault}
 use Rattle.hub_profile.specs.Faults.{FailsAs}
 use Rattle.hub_profile.specs.Parts.{Parts}
-use Rattle.hub_profile.specs.Said.{Said, nothing}
+use Rattle.hub_profile.specs.Said.{Said, nothing_said}
 use Rattle.hub_profile.specs.Protection.{repeats, is_left_out, is_forced, is_preferred, side_where, bars_at}
 use Rattle.hub_profile.specs.Arrow.{has_arrow, spec_and_root}
 use Rattle.hub_profile.specs.PartialLines.{partial_line, partials_of}
@@ -166,11 +166,11 @@ with_value (key.Partial bars) said n v = partial_added bars said n v
 with_value key.NoEffect said n v = Ok said
 
 -- What is said once a value of that preference was added, and the fault of a value that is not.
-abbrev pub Adds : Key → Said → ℕ → List ℕ → Said → Type 0
-Adds key said n v more = with_value key said n v ≡ Ok more
+abbrev pub AddsValue : Key → Said → ℕ → List ℕ → Said → Type 0
+AddsValue key said n v more = with_value key said n v ≡ Ok more
 
-abbrev pub Refuses : Key → Said → ℕ → List ℕ → Fault → Type 0
-Refuses key said n v = FailsAs (with_value key said n v)
+abbrev pub RefusesValue : Key → Said → ℕ → List ℕ → Fault → Type 0
+RefusesValue key said n v = FailsAs (with_value key said n v)
 
 abbrev pub with_key : Option Key → Table Said
 with_key (Some k) said n name v = with_value k said n v
@@ -250,7 +250,7 @@ if_said name (Err f) = Err f
 
 -- What a text says, or its first fault.
 abbrev pub profile_reading : Name → List ℕ → Result Parts ProfileFault
-profile_reading name cs = if_said name (lines_reading with_preference nothing cs)
+profile_reading name cs = if_said name (lines_reading with_preference nothing_said cs)
 
 abbrev pub profile_in : Name → List ℕ → Result Parts ProfileFault
 profile_in name bytes = if_text (profile_reading name) bytes

@@ -22,8 +22,8 @@ pub record RulesSaid : Type 0 where
   pub root : Option Path
   pub rules : List Rule
 
-abbrev pub nothing : RulesSaid
-nothing = record { root = None; rules = [] }
+abbrev pub no_rules_said : RulesSaid
+no_rules_said = record { root = None; rules = [] }
 
 -- The names of a rules text: `nolose` forbids deletions, `nochange` updates, and `nonew` creations.
 abbrev pub rule_keys : List (List ℕ × RuleKey)
@@ -81,7 +81,7 @@ rules_of (Err f) = Err f
 -- The rules of a text in the order of their lines, or its first fault. A rule's number is its
 -- place, from 0 on.
 abbrev pub rules_reading : List ℕ → Result (List Rule) ProfileFault
-rules_reading cs = rules_of (lines_reading with_rule nothing cs)
+rules_reading cs = rules_of (lines_reading with_rule no_rules_said cs)
 
 abbrev pub rules_in : List ℕ → Result (List Rule) ProfileFault
 rules_in bytes = if_text rules_reading bytes

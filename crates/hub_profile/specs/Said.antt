@@ -15,8 +15,8 @@ pub record Said : Type 0 where
   pub protections : List ProtectionLine
   pub partials : List PartialLine
 
-abbrev pub nothing : Said
-nothing = record {
+abbrev pub nothing_said : Said
+nothing_said = record {
   roots = [];
   paths = [];
   ignore = [];

@@ -74,7 +74,7 @@ impl FromLines for Draft {
 impl Draft {
     /// Nothing has been said.
     pub(crate) fn new(alloc: Global) -> Draft
-        ensures { result ≡ said.nothing }
+        ensures { result ≡ said.nothing_said }
     {
         Draft {
             roots: Vec::new(alloc),
@@ -88,8 +88,8 @@ impl Draft {
 
     /// Takes a value of that preference, on the line of that number.
     fn set(&mut self, key: Key, number: usize, value: &str) -> Result<(), Fault>
-        ensures ok { OnOk result (reading.Adds key self.old number (chars value.now) self.new) }
-        ensures err { IfErr result (reading.Refuses key self.old number (chars value.now)) }
+        ensures ok { OnOk result (reading.AddsValue key self.old number (chars value.now) self.new) }
+        ensures err { IfErr result (reading.RefusesValue key self.old number (chars value.now)) }
     {
         match key {
             Key::Root => self.add_root(value),

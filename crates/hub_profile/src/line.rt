@@ -7,7 +7,7 @@ use hub_text::{BLANKS, begins_with, first_word, is_empty, skip_blanks, without_l
 
 /// What a line says: its text without a CR at its end, and then without the blanks around it.
 pub(crate) fn line_text(line: &str) -> &str
-    ensures { chars result.now ≡ lines.line_text (chars line.now) }
+    ensures { chars result.now ≡ lines.trimmed_line (chars line.now) }
 {
     trimmed(without_last(line, '\r'))
 }

@@ -30,8 +30,9 @@ impl PartialLine {
         number: usize,
         value: &str,
     ) -> Result<PartialLine, Fault>
-        ensures ok { IfOk result (λ l. lines.line_reading bars number (chars value.now) ≡ Ok l) }
-        ensures err { IfErr result (FailsAs (lines.line_reading bars number (chars value.now))) }
+        ensures ok { IfOk result
+            (λ l. lines.partial_line_reading bars number (chars value.now) ≡ Ok l) }
+        ensures err { IfErr result (FailsAs (lines.partial_line_reading bars number (chars value.now))) }
     {
         let Some((spec, root)) = spec_and_root(value) else {
             return Err(Fault::NoArrow);

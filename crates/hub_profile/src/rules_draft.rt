@@ -49,7 +49,7 @@ impl FromLines for RulesDraft {
 impl RulesDraft {
     /// Nothing has been said.
     pub(crate) fn new(alloc: Global) -> RulesDraft
-        ensures { result ≡ text.nothing }
+        ensures { result ≡ text.no_rules_said }
     {
         RulesDraft {
             root: None,

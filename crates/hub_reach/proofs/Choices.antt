@@ -24,8 +24,9 @@ use Rattle.hub_reach.specs.Reach.{is_ignored}
 use Rattle.hub_reach.specs.Walk.{is_inside, is_kept}
 use Rattle.hub_reach.specs.Walker.{WalkerParts}
 use Rattle.hub_reach.specs.declared.placed_bar.PlacedBar.{PlacedBar}
-use Rattle.hub_reach.specs.Stage.{IsWalkerOf, texts_of, profile_alternatives, text_spots, spots_of}
+use Rattle.hub_reach.specs.Stage.{IsWalkerOf, texts_of, profile_alternatives, text_spots, spot_count_of}
 use Rattle.hub_reach.specs.WalkLaws.{kept-over-path}
+use Rattle.hub_automaton.specs.AddedInTurn.{spots-append}
 
 -- The parts of a list.
 module _ {X : Type 0} where
@@ -185,22 +186,18 @@ bars-alike tells P t u h =
 abbrev pub HaveSpots : Type 0
 HaveSpots = (s : List ℕ) → spots_count (path_alternatives s ∷ []) ≡ length s + 1
 
-pub spots-append : (ls ms : List Alternatives) → spots_count (ls ++ ms) ≡ spots_count ls + spots_count ms
-spots-append [] ms = omega arith
-spots-append (a ∷ ls) ms = omega (arith, spots-append ls ms)
-
 spots-paths : HaveSpots → (ss : List (List ℕ)) → spots_count (map path_alternatives ss) ≡ text_spots ss
 spots-paths law [] = refl
 spots-paths law (s ∷ ss) = omega (arith, law s, spots-paths law ss)
 
-pub spots-profile : HaveSpots → (P : Parts) → spots_count (profile_alternatives P) ≡ spots_of P
+pub spots-profile : HaveSpots → (P : Parts) → spots_count (profile_alternatives P) ≡ spot_count_of P
 spots-profile law P =
     let ls = map alternatives_of P.ignore in
     let ms = map alternatives_of P.ignorenot in
     let ns = kept_choices P in
     omega (arith, spots-append ls (ms ++ (ns ++ bar_choices P)), spots-append ms (ns ++ bar_choices P), spots-append ns (bar_choices P), spots-paths law (texts_of P.paths))
 
-pub few-spots : HaveSpots → (k : ℕ) (P : Parts) (ls : List Alternatives) → ls ≡ profile_alternatives P → spots_count ls ≤ k → spots_of P ≤ k
+pub few-spots : HaveSpots → (k : ℕ) (P : Parts) (ls : List Alternatives) → ls ≡ profile_alternatives P → spots_count ls ≤ k → spot_count_of P ≤ k
 few-spots law k P ls all few = omega (arith, ap spots_count all, spots-profile law P, few)
 
 -- The choices, collected one part after another.
@@ -220,14 +217,14 @@ with-bars P three four bs before by_bars e = by_bars ∙ ((λ i. before i ++ map
 
 -- If some of a profile's choices are too many, all are.
 pub refused-specs : (k : ℕ) (P : Parts) (ls : List Alternatives) (specs : List Specification) → ls ≡ map alternatives_of P.ignore → specs ≡ P.ignorenot
-    → k < spots_count (ls ++ map alternatives_of specs) → k < spots_of P
+    → k < spots_count (ls ++ map alternatives_of specs) → k < spot_count_of P
 refused-specs k P ls specs first second many =
     let counted : spots_count (ls ++ map alternatives_of specs) ≡ spots_count (map alternatives_of P.ignore) + spots_count (map alternatives_of P.ignorenot) =
     spots-append ls (map alternatives_of specs) ∙ (λ i. spots_count (first i) + spots_count (map alternatives_of (second i))) in
     omega (arith, counted, many)
 
 pub refused-paths : HaveSpots → (k : ℕ) (P : Parts) (ls : List Alternatives) (ps : List Path) → ls ≡ map alternatives_of P.ignore ++ map alternatives_of P.ignorenot → ps ≡ P.paths
-    → k < spots_count (ls ++ map path_alternatives (texts_of ps)) → k < spots_of P
+    → k < spots_count (ls ++ map path_alternatives (texts_of ps)) → k < spot_count_of P
 refused-paths law k P ls ps first second many =
     let specs = map alternatives_of P.ignore ++ map alternatives_of P.ignorenot in
     let counted : spots_count (ls ++ map path_alternatives (texts_of ps)) ≡ spots_count specs + text_spots (texts_of P.paths) =
@@ -235,7 +232,7 @@ refused-paths law k P ls ps first second many =
     omega (arith, counted, many, spots-append (map alternatives_of P.ignore) (map alternatives_of P.ignorenot))
 
 pub refused-bars : HaveSpots → (k : ℕ) (P : Parts) (ls : List Alternatives) (bs : List Partial) → ls ≡ before_bars P → bs ≡ P.partial
-    → k < spots_count (ls ++ map alternatives_of (specs_of bs)) → k < spots_of P
+    → k < spots_count (ls ++ map alternatives_of (specs_of bs)) → k < spot_count_of P
 refused-bars law k P ls bs before e many =
     let all : ls ++ map alternatives_of (specs_of bs) ≡ profile_alternatives P = with-bars P ls (ls ++ map alternatives_of (specs_of bs)) bs before refl e in
     omega (arith, ap spots_count all, spots-profile law P, many)

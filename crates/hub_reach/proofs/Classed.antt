@@ -6,7 +6,7 @@ use Rattle.std.specs.Str.{all_scalars}
 use Rattle.std.proofs.lemmas.Bool.{or_cases}
 use lib.Utf8.{scalar}
 use borrow.Author.Tests.{eqb-true}
-use Rattle.hub_automaton.specs.Alphabet.{class_of, is_left_out, is_path_character}
+use Rattle.hub_automaton.specs.Alphabet.{class_of, is_never_mentioned, is_path_character}
 use Rattle.hub_reach.specs.Shape.{is_text_character}
 
 some-bits : (b : Bool) (n k : ℕ) → cond b None (Some n) ≡ Some k → b ≡ false
@@ -24,9 +24,9 @@ text-bits true slash true e f = cc
 text-bits false slash l e f = cc
 
 pub classed-text : (ms : List ℕ) (x k : ℕ) → IsTrue (all_scalars (x ∷ [])) → class_of ms x ≡ Some k → IsTrue (is_text_character x)
-classed-text ms x k s h = text-bits (scalar x) (x == 47) (is_left_out x) s (some-bits (is_left_out x) (unwrap_or (position_from (λ m. m == x) 1 ms) 0) k h)
+classed-text ms x k s h = text-bits (scalar x) (x == 47) (is_never_mentioned x) s (some-bits (is_never_mentioned x) (unwrap_or (position_from (λ m. m == x) 1 ms) 0) k h)
 
-not-slash : (x : ℕ) → is_left_out x ≡ true → (x == 47) ≡ false
+not-slash : (x : ℕ) → is_never_mentioned x ≡ true → (x == 47) ≡ false
 not-slash x h =
     ⊎_elim
     (λ e. ⊎_elim (λ f. ap (λ y. y == 47) (eqb-true x 0 f)) (λ f. ap (λ y. y == 47) (eqb-true x 10 f)) (or_cases (x == 0) (x == 10) e))
@@ -41,8 +41,8 @@ bad-bits a false slash e f = cc
 
 pub unclassed-text : (ms : List ℕ) (x : ℕ) → class_of ms x ≡ None → is_text_character x ≡ false
 unclassed-text ms x h =
-    let l = none-bits (is_left_out x) (unwrap_or (position_from (λ m. m == x) 1 ms) 0) h in
-    bad-bits (all_scalars (x ∷ [])) (is_left_out x) (x == 47) l (not-slash x l)
+    let l = none-bits (is_never_mentioned x) (unwrap_or (position_from (λ m. m == x) 1 ms) 0) h in
+    bad-bits (all_scalars (x ∷ [])) (is_never_mentioned x) (x == 47) l (not-slash x l)
 
 same-bits : (s l : Bool) → (s && not ((l || false) && true)) ≡ (s && not l)
 same-bits s true = refl
@@ -53,4 +53,4 @@ text-path x = go (x == 47) refl
   where
     go : (b : Bool) → (x == 47) ≡ b → is_text_character x ≡ is_path_character x
     go true e = subst (λ y. is_text_character y ≡ is_path_character y) (sym (eqb-true x 47 e)) refl
-    go false e = (λ i. all_scalars (x ∷ []) && not ((is_left_out x || e i) && not (e i))) ∙ same-bits (all_scalars (x ∷ [])) (is_left_out x)
+    go false e = (λ i. all_scalars (x ∷ []) && not ((is_never_mentioned x || e i) && not (e i))) ∙ same-bits (all_scalars (x ∷ [])) (is_never_mentioned x)

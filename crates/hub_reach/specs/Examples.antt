@@ -12,7 +12,7 @@ use Rattle.hub_glob.specs.declared.piece.Piece.TheVariants.{Lit, Run}
 use Rattle.hub_path.specs.declared.side.Side.{Side}
 use Rattle.hub_path.specs.declared.side.Side.TheVariants.{Left, Right}
 use Rattle.hub_profile.specs.Parts.{Parts}
-use Rattle.hub_profile.specs.ExampleProfiles.{hub, s1, s2, kept}
+use Rattle.hub_profile.specs.ExampleProfiles.{hub, s1, s2, of_kept}
 use Rattle.hub_profile.specs.Protection.{no_bars}
 use Rattle.hub_profile.specs.Reading.{profile_reading}
 use Rattle.hub_profile.specs.declared.fault.ProfileFault.{ProfileFault}
@@ -22,7 +22,7 @@ use Rattle.hub_profile.specs.declared.verb.Verb.TheVariants.{Create, Update, Del
 use Rattle.hub_reach.specs.Reach.{reach, may, may_at, writes, writes_at, write}
 use Rattle.hub_reach.specs.Bars.{may_at_side, writes_at_side}
 use Rattle.hub_reach.specs.Mention.{mentioned_by}
-use Rattle.hub_reach.specs.Stage.{spots_of, stage_of}
+use Rattle.hub_reach.specs.Stage.{spot_count_of, stage_of}
 use Rattle.hub_reach.specs.Safe.{Rule, Clash, ClashesAt, ClashesInArchive, Breach, IsSafe, share_archive}
 
 -- What these examples compute.
@@ -32,19 +32,19 @@ computed = tt
 
 -- One of the whole replica, and one of no path at all.
 abbrev whole : Parts
-whole = record (kept []) { paths = [] ∷ [] }
+whole = record (of_kept []) { paths = [] ∷ [] }
 
 abbrev reached : Parts → List (List ℕ) → List Bool
 reached P ts = map (λ t. reach P (path_of t)) ts
 
 -- what is kept is reached with all below it, by names and not by text; what is above it isn't
-at_and_below : reached (kept (codes "docs"))
+at_and_below : reached (of_kept (codes "docs"))
     (codes "docs" ∷ codes "docs/x/y" ∷ codes "docs2" ∷ codes "doc" ∷ codes "photos" ∷ [])
     ≡ true ∷ true ∷ false ∷ false ∷ false ∷ []
 unfolding computed
 at_and_below = refl
 
-above : reached (kept (codes "docs/x")) (codes "docs" ∷ codes "docs/x" ∷ codes "docs/y" ∷ [])
+above : reached (of_kept (codes "docs/x")) (codes "docs" ∷ codes "docs/x" ∷ codes "docs/y" ∷ [])
     ≡ false ∷ true ∷ false ∷ []
 unfolding computed
 above = refl
@@ -56,7 +56,7 @@ every_path : reached whole (codes "a" ∷ codes "a/b" ∷ codes "a/../b" ∷ cod
 unfolding computed
 every_path = refl
 
-the_whole_replica : map (λ P. reach P []) (whole ∷ kept (codes "docs") ∷ []) ≡ false ∷ false ∷ []
+the_whole_replica : map (λ P. reach P []) (whole ∷ of_kept (codes "docs") ∷ []) ≡ false ∷ false ∷ []
 unfolding computed
 the_whole_replica = refl
 
@@ -99,13 +99,13 @@ exceptions = refl
 
 -- a kept value is tested, what is above it isn't
 kept_values_are_tested : reached (record
-    (kept (codes "docs/x")) { ignore = path_is (literals (codes "docs/x")) ∷ [] })
+    (of_kept (codes "docs/x")) { ignore = path_is (literals (codes "docs/x")) ∷ [] })
     (codes "docs/x" ∷ codes "docs/x/y" ∷ []) ≡ false ∷ false ∷ []
 unfolding computed
 kept_values_are_tested = refl
 
 parents_are_not_tested : reached (record
-    (kept (codes "docs/x")) {
+    (of_kept (codes "docs/x")) {
       ignore = path_is (literals (codes "docs"))
           ∷ below_is (literals (codes "x")) ∷ [];
     }) (codes "docs/x" ∷ codes "docs/x/y" ∷ [])
@@ -214,16 +214,16 @@ where_it_writes : map writes_there (record whole { force = Some Left }
 where_it_writes = refl
 
 -- it writes the paths there that it reaches
-written_paths : map (λ r. write (kept (codes "docs")) r (path_of (codes "docs/x"))) (hub ∷ s2 ∷ [])
+written_paths : map (λ r. write (of_kept (codes "docs")) r (path_of (codes "docs/x"))) (hub ∷ s2 ∷ [])
     ≡ true ∷ false ∷ []
 unfolding computed
 written_paths = refl
 
-not_reached_not_written : write (kept (codes "docs")) hub (path_of (codes "photos")) ≡ false
+not_reached_not_written : write (of_kept (codes "docs")) hub (path_of (codes "photos")) ≡ false
 unfolding computed
 not_reached_not_written = refl
 
-forced_not_written : map (λ r. write (record (kept (codes "docs")) { force = Some Left }) r
+forced_not_written : map (λ r. write (record (of_kept (codes "docs")) { force = Some Left }) r
     (path_of (codes "docs/x"))) (hub ∷ s1 ∷ []) ≡ false ∷ true ∷ []
 unfolding computed
 forced_not_written = refl
@@ -322,7 +322,7 @@ paths_of_other_roots = refl
 
 -- and it writes of these the paths that it reaches
 barred_not_written : map (λ t. write (record
-    (kept (codes "docs")) {
+    (of_kept (codes "docs")) {
       partial = bar Left all_bars (path_is (literals (codes "docs/x")))
           ∷ [];
     }) hub (path_of t)) (codes "docs" ∷ codes "docs/x" ∷ codes "docs/x/y" ∷ codes "photos"
@@ -345,7 +345,7 @@ written_sides = refl
 
 -- the pattern of a partial bar has spots, its characters are mentioned, and a stage has its
 -- positions and its flag
-the_spots_of_bars : map spots_of (whole ∷ partly Left all_bars (path_is (literals (codes "ab")))
+the_spots_of_bars : map spot_count_of (whole ∷ partly Left all_bars (path_is (literals (codes "ab")))
     ∷ record (partly Left all_bars (path_is (literals (codes "ab")))) {
       ignore =
           name_is star ∷ [];
@@ -353,7 +353,7 @@ the_spots_of_bars : map spots_of (whole ∷ partly Left all_bars (path_is (liter
 the_spots_of_bars = refl
 
 what_bars_mention : mentioned_by (record
-    (kept (codes "d/e")) {
+    (of_kept (codes "d/e")) {
       ignore = name_is (literals (codes "i")) ∷ [];
       ignorenot =
           name_is (literals (codes "n")) ∷ [];
@@ -374,42 +374,42 @@ unfolding computed
 stages_without_bars = refl
 
 -- `path = a` and `path = a/b` clash at the hub, each way round, and in the archive
-one_over_the_other : ClashesAt (kept (codes "a")) (kept (codes "a/b")) hub
+one_over_the_other : ClashesAt (of_kept (codes "a")) (of_kept (codes "a/b")) hub
 unfolding computed
 one_over_the_other = (path_of (codes "a"), path_of (codes "a/b"), refl, refl, refl)
 
-the_other_way_round : ClashesAt (kept (codes "a/b")) (kept (codes "a")) hub
+the_other_way_round : ClashesAt (of_kept (codes "a/b")) (of_kept (codes "a")) hub
 unfolding computed
 the_other_way_round = (path_of (codes "a/b"), path_of (codes "a/b"), refl, refl, refl)
 
-in_their_archive : ClashesInArchive (kept (codes "a")) (kept (codes "a/b"))
+in_their_archive : ClashesInArchive (of_kept (codes "a")) (of_kept (codes "a/b"))
 unfolding computed
 in_their_archive = (path_of (codes "a"), path_of (codes "a/b"), refl, refl, refl)
 
 -- nobody clashes where the writer has no root
-a_foreign_root : ¬ (ClashesAt (kept (codes "a")) (kept (codes "a/b")) s2)
+a_foreign_root : ¬ (ClashesAt (of_kept (codes "a")) (of_kept (codes "a/b")) s2)
 unfolding computed
 a_foreign_root h = let written : false ≡ true = h.3 in cc
 
 -- nor where the writer may change nothing; the other profile's `force` is no help
-nothing_written_there : ¬ (ClashesAt (record (kept (codes "a")) { force = Some Left })
-    (kept (codes "a/b")) hub)
+nothing_written_there : ¬ (ClashesAt (record (of_kept (codes "a")) { force = Some Left })
+    (of_kept (codes "a/b")) hub)
 unfolding computed
 nothing_written_there h = let written : false ≡ true = h.3 in cc
 
-read_where_it_may_not_write : ClashesAt (kept (codes "a"))
-    (record (kept (codes "a/b")) { force = Some Left }) hub
+read_where_it_may_not_write : ClashesAt (of_kept (codes "a"))
+    (record (of_kept (codes "a/b")) { force = Some Left }) hub
 unfolding computed
 read_where_it_may_not_write = (path_of (codes "a"), path_of (codes "a/b"), refl, refl, refl)
 
 -- one archive takes both roots, in either order
-archives : map (share_archive whole) (kept (codes "a") ∷ record whole { roots = s1 ∷ hub ∷ [] }
+archives : map (share_archive whole) (of_kept (codes "a") ∷ record whole { roots = s1 ∷ hub ∷ [] }
     ∷ record whole { roots = hub ∷ s2 ∷ [] } ∷ []) ≡ true ∷ true ∷ false ∷ []
 archives = refl
 
 -- who reaches what a rule guards, and may do what it forbids, breaches it
 abbrev guards : Path → Rule
-guards r = record { root = r; verb = Delete; matches = reach (kept (codes "books")) }
+guards r = record { root = r; verb = Delete; matches = reach (of_kept (codes "books")) }
 
 a_breach : Breach whole (guards hub)
 unfolding computed
@@ -441,11 +441,11 @@ still_a_breach = (
 )
 
 -- these two profiles are not safe
-overlapping : ¬ (IsSafe (kept (codes "a") ∷ kept (codes "a/b") ∷ []) [])
+overlapping : ¬ (IsSafe (of_kept (codes "a") ∷ of_kept (codes "a/b") ∷ []) [])
 overlapping safe =
-    let clash : Clash (kept (codes "a")) (kept (codes "a/b")) =
+    let clash : Clash (of_kept (codes "a")) (of_kept (codes "a/b")) =
     inl (hub, refl, refl, one_over_the_other) in
-    safe.no_clash 0 1 (kept (codes "a")) (kept (codes "a/b")) refl refl (λ h. cc) clash
+    safe.no_clash 0 1 (of_kept (codes "a")) (of_kept (codes "a/b")) refl refl (λ h. cc) clash
 
 -- nor is a single one whose root lies in a rule's root
 nested : ¬ (IsSafe (whole ∷ []) (guards (path_of (codes "srv")) ∷ []))

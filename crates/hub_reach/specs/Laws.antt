@@ -1,23 +1,25 @@
 -- What follows from reach.
 use Rattle.std.proofs.Common.{◌≡◌, ◌∙◌, Bool, true, false, not, ◌&&◌, ◌||◌, List, [], ◌∷◌, refl, ap}
 use Rattle.std.proofs.lemmas.Bool.{and_parts, and_right, or_right}
-use Rattle.std.specs.Prelude.{IsTrue}
+use Rattle.std.specs.Prelude.{IsTrue, Option, Some, None}
 use Rattle.std.specs.List.{list_any}
 use Rattle.hub_path.specs.Path.{Path, is_over, is_path, prefixes}
 use Rattle.hub_glob.specs.Glob.{matches}
 use Rattle.hub_glob.specs.Specification.{Specification}
-use Rattle.hub_profile.specs.Parts.{Parts}
+use Rattle.hub_profile.specs.Parts.{Parts, some_passes}
 use Rattle.std.proofs.Math.Bool.{and-true}
 use Rattle.hub_reach.specs.Reach.{reach, is_open, is_ignored}
+use Rattle.hub_text.specs.TestLaws.{any-alike}
+
+-- What passes, if something does.
+pub passing : {X : Type 0} (f : X → Bool) (o : Option X) → some_passes f o ≡ true
+    → (x : X) × (o ≡ Some x) × (f x ≡ true)
+passing f None h = cc
+passing f (Some x) h = (x, refl, h)
 
 none-and : {X : Type 0} (f : X → Bool) (xs : List X) → list_any (λ x. f x && false) xs ≡ false
 none-and f [] = refl
 none-and f (x ∷ xs) = rw (and_right (f x) false refl) (none-and f xs)
-
-pub any-alike : {X : Type 0} (f g : X → Bool) (xs : List X) → ((x : X) → f x ≡ g x)
-    → list_any f xs ≡ list_any g xs
-any-alike f g [] same = refl
-any-alike f g (x ∷ xs) same = rw (same x) (ap (λ b. g x || b) (any-alike f g xs same))
 
 any-cons : {X : Type 0} (f g : X → Bool) (x : X) (xs : List X) → (f x ≡ true → g x ≡ true)
     → (list_any f xs ≡ true → list_any g xs ≡ true) → (b : Bool) → f x ≡ b

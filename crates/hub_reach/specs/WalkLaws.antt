@@ -9,10 +9,9 @@ use Rattle.hub_path.specs.Laws.{is_over-reflexive, is_over-transitive, is_over-c
 use Rattle.hub_path.specs.TextLaws.{prefixes-parent, prefixes-over}
 use Rattle.hub_profile.specs.Parts.{Parts, IsProfile}
 use Rattle.std.proofs.Math.Bool.{and-true, and-false, and-or_distrib_left, or-false}
-use Rattle.hub_text.specs.TestLaws.{any-and, any-map, any-or, or-assoc}
+use Rattle.hub_text.specs.TestLaws.{any-and, any-map, any-or, or-assoc, any-alike}
 use Rattle.hub_glob.specs.OneStep.{nonzero}
 use Rattle.hub_reach.specs.Reach.{reach, is_open, is_ignored}
-use Rattle.hub_reach.specs.Laws.{any-alike}
 use Rattle.hub_reach.specs.Walk.{above, is_inside, is_cut, is_walked}
 
 module _ {X : Type 0} where

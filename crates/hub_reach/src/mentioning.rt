@@ -1,7 +1,7 @@
 //! Values that mention characters.
 ghost use Rattle.std.specs.Prelude.{◌≡◌, IfErr, OnOk, OnErr};
 ghost use Rattle.std.specs.List.{flat_map};
-ghost use Rattle.hub_automaton.specs.Alphabet.{path_characters, spec_characters, with_characters, Refuses};
+ghost use Rattle.hub_automaton.specs.Alphabet.{path_characters, spec_characters, with_characters, RefusesCharacters};
 ghost use Rattle.hub_reach.specs.Mention.{mentioned_by, partial_characters, rule_characters, IsPartly};
 
 use crate::mentions::mention;
@@ -24,7 +24,7 @@ pub trait Mentioning {
     fn add_characters(&self, alphabet: &mut Alphabet) -> Result<(), AutomatonFault>
         ensures ok { OnOk result (alphabet.new
             ≡ with_characters alphabet.old (characters self.now)) }
-        ensures err { IfErr result (Refuses alphabet.old (characters self.now)) }
+        ensures err { IfErr result (RefusesCharacters alphabet.old (characters self.now)) }
         ensures partly { OnErr result (IsPartly alphabet.old
             (characters self.now) alphabet.new) };
 }
@@ -39,7 +39,7 @@ pub fn mention_each<T: Mentioning>(
 ) -> Result<(), AutomatonFault>
     ensures ok { OnOk result (alphabet.new
         ≡ with_characters alphabet.old (flat_map T.characters values.now)) }
-    ensures err { IfErr result (Refuses alphabet.old (flat_map T.characters values.now)) }
+    ensures err { IfErr result (RefusesCharacters alphabet.old (flat_map T.characters values.now)) }
     ensures partly { OnErr result (IsPartly alphabet.old
         (flat_map T.characters values.now) alphabet.new) }
 {

@@ -1,6 +1,6 @@
 //! The characters that profiles mention.
 ghost use Rattle.std.specs.Prelude.{◌≡◌, ℕ, List, IsTrue, IfErr, OnOk, OnErr};
-ghost use Rattle.hub_automaton.specs.Alphabet.{mentions, with_characters, Refuses};
+ghost use Rattle.hub_automaton.specs.Alphabet.{mentions, with_characters, RefusesCharacters};
 ghost use Rattle.hub_reach.specs.Mention.{Mentions, mentioned_by, IsPartly};
 
 use crate::mentioning::mention_each;
@@ -19,7 +19,7 @@ pub fn mention(alphabet: &mut Alphabet, profile: &Profile) -> Result<(), Automat
     ensures mentioned { OnOk result (Mentions alphabet.new profile.now) }
     ensures kept { OnOk result ((cs : List ℕ) → IsTrue (mentions alphabet.old cs)
         → IsTrue (mentions alphabet.new cs)) }
-    ensures err { IfErr result (Refuses alphabet.old (mentioned_by profile.now)) }
+    ensures err { IfErr result (RefusesCharacters alphabet.old (mentioned_by profile.now)) }
     ensures partly { OnErr result (IsPartly alphabet.old (mentioned_by profile.now) alphabet.new) }
 {
     what_is_added_is_mentioned();

@@ -1,5 +1,6 @@
 //! Partial bars, as a walker has them.
 ghost use Rattle.std.specs.Prelude.{◌≡◌, ◌&&◌};
+ghost use Rattle.hub_path.specs.Sides as sides;
 ghost use Rattle.hub_reach.specs.Bars as spec;
 ghost use Rattle.hub_reach.specs.Reach as reach;
 
@@ -20,7 +21,7 @@ pub struct PlacedBar {
 impl PlacedBar {
     /// Returns whether it forbids the change at the root of that side, on the paths that its choices match.
     pub(crate) fn forbids(&self, side: Side, verb: Verb) -> bool
-        ensures { result ≡ (spec.is_same_side self.now.side side
+        ensures { result ≡ (sides.is_same_side self.now.side side
             && reach.covers verb self.now.bars) }
     {
         is_same_side(self.side, side) && covers(verb, self.bars)
@@ -28,7 +29,7 @@ impl PlacedBar {
 }
 
 fn is_same_side(side: Side, other: Side) -> bool
-    ensures { result ≡ spec.is_same_side side other }
+    ensures { result ≡ sides.is_same_side side other }
 {
     match (side, other) {
         (Side::Left, Side::Left) | (Side::Right, Side::Right) => true,

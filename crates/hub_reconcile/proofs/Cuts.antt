@@ -17,10 +17,10 @@ use Rattle.hub_path.specs.declared.side.Side.TheVariants.{Left, Right}
 use Rattle.hub_profile.specs.Parts.{some_passes}
 use Rattle.hub_tree.specs.Below.{is_below}
 use Rattle.hub_tree.specs.Laws.Order.{path_itself}
-use Rattle.hub_tree.specs.Laws.Between.{among, among_filter, before, behind, nowhere, not_both}
+use Rattle.hub_tree.specs.Laws.Between.{among, among_filter, before, behind, among-none, not_both}
 use Rattle.hub_reconcile.specs.Blocks.{IsCut, rows_below}
 use Rattle.hub_reconcile.specs.Items.{differs, item_over, is_item, below, at_and_below}
-use Rattle.hub_reconcile.specs.Rows.{IsRow, AreRows, IsTable, is_different, paths_of}
+use Rattle.hub_reconcile.specs.Rows.{IsRow, AreRows, AreRowsOf, is_different, paths_of}
 use Rattle.hub_reconcile.specs.View.{View, mark_eq}
 use Rattle.hub_reconcile.specs.declared.row.Row.{Row}
 use Rattle.hub_reconcile.specs.Laws.Over.{find_first, least}
@@ -150,7 +150,7 @@ rest_clear p (r ∷ rs) s z e =
           (ap (λ n. among z (paths_of (drop n (r ∷ rs)))) (sym (one_plus (prefix_len (is_under p) rs))) ∙ m)
       | false ↦ λ o m.
           false_from_ne_true (is_over p z) (λ u.
-          nowhere z x [] (paths_of rs) (λ k. false≢true k) (λ k. false≢true (sym o ∙ (ap (is_over p) (sym k) ∙ u)))
+          among-none z x [] (paths_of rs) (λ k. false≢true k) (λ k. false≢true (sym o ∙ (ap (is_over p) (sym k) ∙ u)))
           (λ k. false≢true (sym (none_later p x (paths_of rs) (first_after p x (paths_of rs) s) o (sorted_tail path_cmp p (x ∷ paths_of rs) s) z k) ∙ u)) m)
     ] refl e
 
@@ -194,7 +194,7 @@ module _ (V : View) (sorted : IsStrictlySortedBy path_cmp V.paths) (holds : (y :
         elim (path_eq y p) as (λ b. path_eq y p ≡ b → y ≡ p) [
           | true ↦ λ h. same_paths y p h
           | false ↦ λ h.
-              absurd (nowhere y p front (paths_of rs)
+              absurd (among-none y p front (paths_of rs)
               (λ m. false≢true (sym (c.clear y p m (item_itself y w.itself) here) ∙ w.over))
               (λ is. false≢true (sym h ∙ (ap (λ z. path_eq z p) is ∙ paths_same p)))
               (λ m. over_not_behind p y (behind front (paths_of rs) p y whole m) w.over)
@@ -261,7 +261,7 @@ module _ (V : View) (sorted : IsStrictlySortedBy path_cmp V.paths) (holds : (y :
       rows = drop_rows V (length tops) rs c.rows.1;
       clear = λ y x m is e.
           false_from_ne_true (is_over y x) (λ o.
-          nowhere y p front (paths_of tops)
+          among-none y p front (paths_of tops)
           (λ k. false≢true (sym (c.clear y x k is (in_rest x (length tops) e)) ∙ o))
           (λ k. false≢true (sym (rest_clear p rs tail x (ap (λ n. among x (paths_of (drop n rs))) (sym (length-prefix_len f rs)) ∙ e)) ∙ (ap (λ z. is_over z x) (sym k) ∙ o)))
           (λ k. no_item_in d y k is) m);
@@ -273,7 +273,7 @@ module _ (V : View) (sorted : IsStrictlySortedBy path_cmp V.paths) (holds : (y :
       rows = c.rows.1;
       clear = λ y x m is e.
           false_from_ne_true (is_over y x) (λ o.
-          nowhere y p front []
+          among-none y p front []
           (λ k. false≢true (sym (c.clear y x k is (or_right (eq_by_cmp path_cmp x p) _ e)) ∙ o))
           (λ k. false≢true (sym (ap (some_passes (path_eq p)) (no_item d)) ∙ (ap (is_item V) (sym k) ∙ is)))
           (λ k. false≢true k) m);
@@ -286,5 +286,5 @@ module _ (V : View) (sorted : IsStrictlySortedBy path_cmp V.paths) (holds : (y :
           | false ↦ λ d. next_path d
         ] refl
 
-pub cut_start : (V : View) (rs : List Row) → IsTable V rs → IsCut V [] rs
+pub cut_start : (V : View) (rs : List Row) → AreRowsOf V rs → IsCut V [] rs
 cut_start V rs t = record { paths = t.paths; rows = t.rows; clear = λ y x m is e. absurd (false≢true m) }

@@ -6,7 +6,7 @@ use Rattle.std.proofs.lemmas.List.{length-drop}
 use Rattle.std.proofs.Math.Seq.{take-length}
 use Rattle.hub_path.specs.Path.{Path, is_over}
 use Rattle.hub_reconcile.specs.Blocks.{IsCut, IsBlock, IsPartition, AreBlocks, block_paths, rows_below}
-use Rattle.hub_reconcile.specs.Rows.{IsTable, is_different, paths_of}
+use Rattle.hub_reconcile.specs.Rows.{AreRowsOf, is_different, paths_of}
 use Rattle.hub_reconcile.specs.Shown.{shown}
 use Rattle.hub_reconcile.specs.View.{View}
 use Rattle.hub_reconcile.specs.declared.block.Block.{Block}
@@ -41,7 +41,7 @@ module _ (picture : Picture) where
   abbrev pub IsCutSoFar : List Block → List Row → Type 0
   IsCutSoFar bs rest = AreBlocks V bs × IsCut V (flat_map block_paths bs) rest
 
-  pub at_start : (bs : List Block) (rs : List Row) → bs ≡ [] → IsTable V rs → IsCutSoFar bs rs
+  pub at_start : (bs : List Block) (rs : List Row) → bs ≡ [] → AreRowsOf V rs → IsCutSoFar bs rs
   at_start bs rs e table = subst (λ (x : List Block). IsCutSoFar x rs) (sym e) (tt, cut_start V rs table)
 
   pub first_cut : (bs : List Block) (rest : List Row) (r : Row) → IsCutSoFar bs rest → 0 < length rest → r ≡ slice_index_or rest 0 r

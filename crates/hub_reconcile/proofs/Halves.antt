@@ -9,7 +9,7 @@ use Rattle.std.proofs.lemmas.List.{take-append-drop}
 use Rattle.std.proofs.Math.Seq.{take-length}
 use Rattle.hub_path.specs.Path.{Path, path_cmp}
 use Rattle.hub_reconcile.specs.Merge.{seen_paths}
-use Rattle.hub_reconcile.specs.Picture.{are_rising, is_before, sight_in, told_by}
+use Rattle.hub_reconcile.specs.Picture.{are_rising, is_before_looks, sight_in, told_by}
 use Rattle.hub_reconcile.specs.Sight.{Sight}
 use Rattle.hub_reconcile.specs.declared.look.Look.{Look}
 use Rattle.hub_reconcile.proofs.Found.{told-append, in_front, from_back}
@@ -21,14 +21,14 @@ told l = (l.path.now, record { mark = l.mark; names = l.names.now; others = l.ot
 
 -- Looks rise if the first one stands before the second, and the others rise.
 pub rising_step : (xs : List Look) (x : Look) → 0 < length xs → x ≡ slice_index_or xs 0 x → (b : Bool)
-    → b ≡ is_before x.path.now (told_by (take (length xs - 1) (drop 1 xs))) → b ≡ true
+    → b ≡ is_before_looks x.path.now (told_by (take (length xs - 1) (drop 1 xs))) → b ≡ true
     → are_rising (told_by (take (length xs - 1) (drop 1 xs))) ≡ are_rising (told_by xs)
 rising_step [] x l e b is holds = absurd (omega arith)
 rising_step (y ∷ ys) x l e b is holds =
     let many : length (y ∷ ys) - 1 ≡ length ys = omega arith in
     let all : take (length (y ∷ ys) - 1) ys ≡ ys = ap (λ n. take n ys) many ∙ take-length ys in
-    let first : is_before y.path.now (told_by ys) ≡ true =
-    ap (λ (z : Look). is_before z.path.now (told_by ys)) (sym e) ∙ (ap (λ zs. is_before x.path.now (told_by zs)) (sym all) ∙ (sym is ∙ holds)) in
+    let first : is_before_looks y.path.now (told_by ys) ≡ true =
+    ap (λ (z : Look). is_before_looks z.path.now (told_by ys)) (sym e) ∙ (ap (λ zs. is_before_looks x.path.now (told_by zs)) (sym all) ∙ (sym is ∙ holds)) in
     ap (λ zs. are_rising (told_by zs)) all
     ∙ sym (rising_front (told y) (told_by ys) ∙ ap (λ b. b && are_rising (told_by ys)) first)
 

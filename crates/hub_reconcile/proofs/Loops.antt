@@ -5,9 +5,9 @@ use Rattle.std.specs.List.{flat_map}
 use Rattle.std.proofs.Math.Seq.{take-length}
 use Rattle.std.proofs.lemmas.Grind.{flat_map-append}
 use Rattle.hub_path.specs.Path.{Path}
-use Rattle.hub_tree.specs.Marked.{entries_of}
+use Rattle.hub_tree.specs.Marked.{marked_entries}
 use Rattle.hub_tree.specs.declared.contents.Mark.{Mark}
-use Rattle.hub_reconcile.specs.Blocks.{pushed}
+use Rattle.hub_reconcile.specs.Blocks.{kept_marks}
 
 pub head_rest : {X : Type 0} (xs : List X) (x : X) → 0 < length xs → x ≡ slice_index_or xs 0 x → xs ≡ x ∷ take (length xs - 1) (drop 1 xs)
 head_rest [] x l e = absurd (omega arith)
@@ -31,7 +31,7 @@ flat_done f [] old whole l h = sym (append-nil old) ∙ h
 flat_done f (x ∷ xs) old whole l h = absurd (omega arith)
 
 -- What an archive keeps of the next marks.
-pub marks_next : (all ds rest old new whole : List (Path × Mark)) → all ≡ ds ++ rest → new ≡ old ++ pushed ds → old ++ pushed all ≡ whole → new ++ pushed rest ≡ whole
+pub marks_next : (all ds rest old new whole : List (Path × Mark)) → all ≡ ds ++ rest → new ≡ old ++ kept_marks ds → old ++ kept_marks all ≡ whole → new ++ kept_marks rest ≡ whole
 marks_next all ds rest old new whole e m h =
-    ap (λ es. es ++ pushed rest) m ∙ append_assoc old (pushed ds) (pushed rest)
-    ∙ ap (λ es. old ++ es) (sym (flat_map-append (λ (x : Path × Mark). entries_of x.0 x.1) ds rest) ∙ ap pushed (sym e)) ∙ h
+    ap (λ es. es ++ kept_marks rest) m ∙ append_assoc old (kept_marks ds) (kept_marks rest)
+    ∙ ap (λ es. old ++ es) (sym (flat_map-append (λ (x : Path × Mark). marked_entries x.0 x.1) ds rest) ∙ ap kept_marks (sym e)) ∙ h

@@ -12,7 +12,7 @@ use Rattle.hub_path.specs.Laws.{path_cmp-total, path_cmp-exact}
 use Rattle.hub_path.specs.Path.{Path, path_cmp, path_eq, ascending}
 use Rattle.hub_tree.specs.Laws.Order.{path_itself, same_path}
 use Rattle.hub_tree.specs.Laws.Between.{among, behind, not_both}
-use Rattle.hub_reconcile.specs.Merge.{first_of, lesser, least_first, past}
+use Rattle.hub_reconcile.specs.Merge.{first_of, lesser, least_first, without_first}
 use Rattle.hub_reconcile.specs.Laws.Ascend.{ascending_sorted, among_ascending, same_list}
 use Rattle.std.proofs.lemmas.Option.{same_Some}
 use Rattle.hub_reconcile.specs.Laws.Views.{same_paths, paths_same}
@@ -121,10 +121,10 @@ head_or_behind x xs q s e =
 never_less : (p : Path) → path_cmp p p ≡ Less → ⊥
 never_less p l = not_both p p l l
 
-past_same : (x p : Path) (xs : List Path) (b : Bool) → path_eq x p ≡ b → past p (x ∷ xs) ≡ cond b xs (x ∷ xs)
+past_same : (x p : Path) (xs : List Path) (b : Bool) → path_eq x p ≡ b → without_first p (x ∷ xs) ≡ cond b xs (x ∷ xs)
 past_same x p xs b e = ap (λ b. cond b xs (x ∷ xs)) e
 
-pub past_in : (ps : List Path) (p q : Path) → IsStrictlySortedBy path_cmp ps → IsLow p (first_of ps) → among q (past p ps) ≡ true → (among q ps ≡ true) × (path_cmp p q ≡ Less)
+pub past_in : (ps : List Path) (p q : Path) → IsStrictlySortedBy path_cmp ps → IsLow p (first_of ps) → among q (without_first p ps) ≡ true → (among q ps ≡ true) × (path_cmp p q ≡ Less)
 past_in [] p q s low e = absurd (false≢true e)
 past_in (x ∷ xs) p q s low e =
     elim (path_eq x p) as (λ b. path_eq x p ≡ b → among q (cond b xs (x ∷ xs)) ≡ true → (among q (x ∷ xs) ≡ true) × (path_cmp p q ≡ Less)) [
@@ -134,7 +134,7 @@ past_in (x ∷ xs) p q s low e =
           (m, ⊎_elim (λ k. ap (path_cmp p) k ∙ l) (λ k. path_cmp-total.trans p x q l k) (head_or_behind x xs q s m))
     ] refl e
 
-pub in_past : (ps : List Path) (p q : Path) → path_cmp p q ≡ Less → among q ps ≡ true → among q (past p ps) ≡ true
+pub in_past : (ps : List Path) (p q : Path) → path_cmp p q ≡ Less → among q ps ≡ true → among q (without_first p ps) ≡ true
 in_past [] p q l e = e
 in_past (x ∷ xs) p q l e =
     elim (path_eq x p) as (λ b. path_eq x p ≡ b → among q (cond b xs (x ∷ xs)) ≡ true) [
@@ -146,7 +146,7 @@ in_past (x ∷ xs) p q l e =
       | false ↦ λ h. e
     ] refl
 
-pub past_sorted : (ps : List Path) (p : Path) → IsStrictlySortedBy path_cmp ps → IsStrictlySortedBy path_cmp (past p ps)
+pub past_sorted : (ps : List Path) (p : Path) → IsStrictlySortedBy path_cmp ps → IsStrictlySortedBy path_cmp (without_first p ps)
 past_sorted [] p s = s
 past_sorted (x ∷ xs) p s =
     elim (path_eq x p) as (λ b. IsStrictlySortedBy path_cmp (cond b xs (x ∷ xs))) [ true ↦ sorted_tail path_cmp x xs s | false ↦ s ]
@@ -174,13 +174,13 @@ more_sorted p ys h s = (all_behind p ys h, s)
 
 module _ (ls rs os : List Path) (p : Path) (sl : IsStrictlySortedBy path_cmp ls) (sr : IsStrictlySortedBy path_cmp rs) (so : IsStrictlySortedBy path_cmp os) (w : IsLeastFirst ls rs os p) where
   abbrev after : List Path
-  after = three (past p ls) (past p rs) (past p os)
+  after = three (without_first p ls) (without_first p rs) (without_first p os)
 
   -- What is in the lists without the path was in them, and is behind it.
   pub later_three : (q : Path) → among q after ≡ true → (among q (three ls rs os) ≡ true) × (path_cmp p q ≡ Less)
   later_three q e =
-      by_three (among q (past p ls)) (among q (past p rs)) (among q (past p os)) ((among q (three ls rs os) ≡ true) × (path_cmp p q ≡ Less))
-      (sym (among_three q (past p ls) (past p rs) (past p os)) ∙ e)
+      by_three (among q (without_first p ls)) (among q (without_first p rs)) (among q (without_first p os)) ((among q (three ls rs os) ≡ true) × (path_cmp p q ≡ Less))
+      (sym (among_three q (without_first p ls) (without_first p rs) (without_first p os)) ∙ e)
       (λ k. let v = past_in ls p q sl w.left k in (among_three q ls rs os ∙ or_left _ _ (or_left _ _ v.0), v.1))
       (λ k. let v = past_in rs p q sr w.right k in (among_three q ls rs os ∙ or_left _ _ (or_right (among q ls) _ v.0), v.1))
       (λ k. let v = past_in os p q so w.old k in (among_three q ls rs os ∙ or_right (among q ls || among q rs) _ v.0, v.1))
@@ -188,9 +188,9 @@ module _ (ls rs os : List Path) (p : Path) (sl : IsStrictlySortedBy path_cmp ls)
   into : (q : Path) → path_cmp p q ≡ Less → among q (three ls rs os) ≡ true → among q after ≡ true
   into q l e =
       by_three (among q ls) (among q rs) (among q os) (among q after ≡ true) (sym (among_three q ls rs os) ∙ e)
-      (λ k. among_three q (past p ls) (past p rs) (past p os) ∙ or_left _ _ (or_left _ _ (in_past ls p q l k)))
-      (λ k. among_three q (past p ls) (past p rs) (past p os) ∙ or_left _ _ (or_right (among q (past p ls)) _ (in_past rs p q l k)))
-      (λ k. among_three q (past p ls) (past p rs) (past p os) ∙ or_right (among q (past p ls) || among q (past p rs)) _ (in_past os p q l k))
+      (λ k. among_three q (without_first p ls) (without_first p rs) (without_first p os) ∙ or_left _ _ (or_left _ _ (in_past ls p q l k)))
+      (λ k. among_three q (without_first p ls) (without_first p rs) (without_first p os) ∙ or_left _ _ (or_right (among q (without_first p ls)) _ (in_past rs p q l k)))
+      (λ k. among_three q (without_first p ls) (without_first p rs) (without_first p os) ∙ or_right (among q (without_first p ls) || among q (without_first p rs)) _ (in_past os p q l k))
 
   lowest : (q : Path) → among q (three ls rs os) ≡ true → (q ≡ p) ⊎ (path_cmp p q ≡ Less)
   lowest q e =

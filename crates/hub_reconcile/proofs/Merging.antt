@@ -23,15 +23,15 @@ use Rattle.hub_tree.specs.declared.contents.Mark.TheVariants as mark
 use Rattle.hub_tree.specs.Laws.Order.{path_itself, same_path}
 use Rattle.hub_tree.specs.Laws.Children.{sorted_keys, one_item}
 use Rattle.hub_tree.specs.Laws.Between.{among, behind, not_both}
-use Rattle.hub_reconcile.specs.Merge.{seen_paths, paths_in, first_of, least_first, past, past_of, past_sight, front_of, front_sight, front_mark, IsSeen}
-use Rattle.hub_reconcile.specs.Picture.{nothing, sight_in, view_by}
-use Rattle.hub_reconcile.specs.Rows.{IsRow, AreRows, IsTable, is_anywhere, paths_of}
+use Rattle.hub_reconcile.specs.Merge.{seen_paths, paths_in, first_of, least_first, without_first, past_of, past_sight, front_of, front_sight, front_mark, IsSeen}
+use Rattle.hub_reconcile.specs.Picture.{nothing_there, sight_in, view_by}
+use Rattle.hub_reconcile.specs.Rows.{IsRow, AreRows, AreRowsOf, is_anywhere, paths_of}
 use Rattle.hub_reconcile.specs.Sight.{Sight}
 use Rattle.hub_reconcile.specs.Sync.{of_side}
 use Rattle.hub_reconcile.specs.View.{View, is_present, counts}
 use Rattle.hub_reconcile.specs.declared.row.Row.{Row}
 use Rattle.hub_reconcile.proofs.Lows.{IsLow, IsLeastFirst, least_firsts, nothing_left, three, past_sorted, later_three, is_there, least_next}
-use Rattle.hub_reconcile.specs.Laws.Views.{same_paths, paths_same, reached_names}
+use Rattle.hub_reconcile.specs.Laws.Views.{same_paths, paths_same, reach-names}
 
 -- The value of a path in a list, and else d.
 abbrev pub value_in : {T : Type 0} → T → List (Path × T) → Path → T
@@ -68,26 +68,26 @@ module _ {T : Type 0} (d : T) where
         | false ↦ λ k. refl
       ] refl
 
-pub past_in : {T : Type 0} (p : Path) (es : List (Path × T)) → paths_in (past_of p es) ≡ past p (paths_in es)
+pub past_in : {T : Type 0} (p : Path) (es : List (Path × T)) → paths_in (past_of p es) ≡ without_first p (paths_in es)
 past_in p [] = refl
 past_in p (e ∷ es) = elim (path_eq e.0 p) as (λ b. paths_in (cond b es (e ∷ es)) ≡ cond b (paths_in es) (paths_in (e ∷ es))) [ true ↦ refl | false ↦ refl ]
 
 -- Sights.
-sight_value : (ss : List (Path × Sight)) (p : Path) → sight_in ss p ≡ value_in nothing ss p
+sight_value : (ss : List (Path × Sight)) (p : Path) → sight_in ss p ≡ value_in nothing_there ss p
 sight_value [] p = refl
 sight_value (s ∷ ss) p = ap (cond (path_eq s.0 p) s.1) (sight_value ss p)
 
-pub none_seen : (p : Path) (ss : List (Path × Sight)) → ((q : Path) → among q (seen_paths ss) ≡ true → path_cmp p q ≡ Less) → sight_in ss p ≡ nothing
-none_seen p ss h = sight_value ss p ∙ none_in nothing p ss h
+pub none_seen : (p : Path) (ss : List (Path × Sight)) → ((q : Path) → among q (seen_paths ss) ≡ true → path_cmp p q ≡ Less) → sight_in ss p ≡ nothing_there
+none_seen p ss h = sight_value ss p ∙ none_in nothing_there p ss h
 
 front_is : (ss : List (Path × Sight)) (p : Path) → IsStrictlySortedBy path_cmp (seen_paths ss) → IsLow p (first_of (seen_paths ss)) → front_sight p ss ≡ sight_in ss p
-front_is ss p s low = front_in nothing ss p s low ∙ sym (sight_value ss p)
+front_is ss p s low = front_in nothing_there ss p s low ∙ sym (sight_value ss p)
 
-pub past_seen : (p : Path) (ss : List (Path × Sight)) → seen_paths (past_sight p ss) ≡ past p (seen_paths ss)
+pub past_seen : (p : Path) (ss : List (Path × Sight)) → seen_paths (past_sight p ss) ≡ without_first p (seen_paths ss)
 past_seen p ss = past_in p ss
 
 skip_sight : (p q : Path) (ss : List (Path × Sight)) → path_cmp p q ≡ Less → sight_in ss q ≡ sight_in (past_sight p ss) q
-skip_sight p q ss l = sight_value ss q ∙ (skip_in nothing p q ss l ∙ sym (sight_value (past_sight p ss) q))
+skip_sight p q ss l = sight_value ss q ∙ (skip_in nothing_there p q ss l ∙ sym (sight_value (past_sight p ss) q))
 
 -- Marks.
 eq_tied : (q x : Path) → eq_by_cmp path_cmp q x ≡ path_eq x q
@@ -156,7 +156,7 @@ module _ (P : Parts) (O : Archive) (L R : List (Path × Sight)) where
     old_rises = sorted_keys path_cmp (fin.entries O) (fin.entries_sorted O);
   }
 
-  pub merge_end : (rows : List Row) (l r : List (Path × Sight)) (o : List (Path × Mark)) → IsMerged P O L R rows l r o → least_first (seen_paths l) (seen_paths r) (paths_in o) ≡ None → IsTable V rows
+  pub merge_end : (rows : List Row) (l r : List (Path × Sight)) (o : List (Path × Mark)) → IsMerged P O L R rows l r o → least_first (seen_paths l) (seen_paths r) (paths_in o) ≡ None → AreRowsOf V rows
   merge_end rows l r o m e =
       let none = nothing_left (seen_paths l) (seen_paths r) (paths_in o) e in
       let all : m.done ≡ ascending (three (seen_paths L) (seen_paths R) (fin.keys O)) =
@@ -197,9 +197,9 @@ module _ (P : Parts) (O : Archive) (L R : List (Path × Sight)) where
 
     pub row_is : reach P p ≡ true → IsRow V row
     row_is h = record {
-      left = left_mark ∙ mark_named p (sight_in L p).mark (reached_names P p h);
+      left = left_mark ∙ mark_named p (sight_in L p).mark (reach-names P p h);
       left_others = seen_left.others ∙ ap (λ s. s.others) left_sight;
-      right = right_mark ∙ mark_named p (sight_in R p).mark (reached_names P p h);
+      right = right_mark ∙ mark_named p (sight_in R p).mark (reach-names P p h);
       right_others = seen_right.others ∙ ap (λ s. s.others) right_sight;
       old = old;
       reached = h;
@@ -219,7 +219,7 @@ module _ (P : Parts) (O : Archive) (L R : List (Path × Sight)) where
 
     -- What is left behind the path.
     abbrev rest : List Path
-    rest = three (past p (seen_paths l)) (past p (seen_paths r)) (past p (paths_in o))
+    rest = three (without_first p (seen_paths l)) (without_first p (seen_paths r)) (without_first p (paths_in o))
 
     next_paths : (m.done ++ p ∷ []) ++ ascending rest ≡ ascending (three (seen_paths L) (seen_paths R) (fin.keys O))
     next_paths =

@@ -29,7 +29,7 @@ use Rattle.hub_reconcile.specs.declared.item.Fate.{Fate}
 use Rattle.hub_reconcile.specs.declared.item.Fate.TheVariants.{To, Skip}
 use Rattle.hub_reconcile.specs.declared.item.Item.{Item}
 use Rattle.hub_reconcile.specs.declared.row.Row.{Row}
-use Rattle.hub_reconcile.specs.Laws.Over.{longer}
+use Rattle.hub_reconcile.specs.Laws.Over.{find-longer}
 use Rattle.hub_reconcile.specs.Laws.Synced.{over_itself, same_item}
 use Rattle.hub_reconcile.specs.Laws.Views.{paths_same}
 
@@ -191,7 +191,7 @@ module _ (V : View) where
       ap (option_map (fate V)) (ap (item_over V) (same_path q p (sym (or_no (eq_by_cmp path_cmp q p)) ∙ only)) ∙ h.1)
   fate_at p ps (Some f) h q e =
       let low : among q (p ∷ below V p) ≡ true = ap (λ qs. among q (p ∷ qs)) (sym h.0) ∙ e in
-      ap (option_map (fate V)) (longer (differs V) p q p (over_block p q low) (over_itself V p h.1)) ∙ ap (λ x. Some x) h.2
+      ap (option_map (fate V)) (find-longer (differs V) p q p (over_block p q low) (over_itself V p h.1)) ∙ ap (λ x. Some x) h.2
 
   -- No row is of the whole replica.
   module _ (names : (q : Path) → V.reached q ≡ true → 0 < length q) where

@@ -10,7 +10,7 @@ use Rattle.hub_profile.specs.Parts.{Parts}
 use Rattle.hub_reach.specs.Reach.{reach}
 use Rattle.hub_tree.specs.Tree.{Archive}
 use Rattle.hub_tree.specs.declared.contents.Mark.{Mark}
-use Rattle.hub_reconcile.specs.Merge.{seen_paths, paths_in, first_of, lesser, least_first, past, past_of, past_sight, front_sight, front_mark, IsSeen}
+use Rattle.hub_reconcile.specs.Merge.{seen_paths, paths_in, first_of, lesser, least_first, without_first, past_of, past_sight, front_sight, front_mark, IsSeen}
 use Rattle.hub_reconcile.specs.Picture.{told_by}
 use Rattle.hub_reconcile.specs.Rows.{is_anywhere, is_counted}
 use Rattle.hub_reconcile.specs.Sight.{Sight}
@@ -30,21 +30,21 @@ lesser_one (Some x) (Some y) p e =
       | false ↦ λ h. inl h
     ] e
 
-past_no_longer : (p : Path) (ps : List Path) → length (past p ps) ≤ length ps
+past_no_longer : (p : Path) (ps : List Path) → length (without_first p ps) ≤ length ps
 past_no_longer p [] = omega arith
 past_no_longer p (x ∷ xs) =
     elim (path_eq x p) as (λ b. length (cond b xs (x ∷ xs)) ≤ length (x ∷ xs)) [ true ↦ omega arith | false ↦ omega arith ]
 
-past_shorter : (p : Path) (ps : List Path) → first_of ps ≡ Some p → length (past p ps) < length ps
+past_shorter : (p : Path) (ps : List Path) → first_of ps ≡ Some p → length (without_first p ps) < length ps
 past_shorter p [] e = cc
 past_shorter p (x ∷ xs) e =
     let same : path_eq x p ≡ true = ap (path_eq x) (sym (same_Some x p e)) ∙ paths_same x in
-    let step : length (past p (x ∷ xs)) ≡ length xs = ap (λ b. length (cond b xs (x ∷ xs))) same in
+    let step : length (without_first p (x ∷ xs)) ≡ length xs = ap (λ b. length (cond b xs (x ∷ xs))) same in
     omega (arith, step)
 
 -- Without the least path, there are fewer paths.
 fewer_paths : (ls rs os : List Path) (p : Path) → least_first ls rs os ≡ Some p
-    → length (past p ls) + length (past p rs) + length (past p os) < length ls + length rs + length os
+    → length (without_first p ls) + length (without_first p rs) + length (without_first p os) < length ls + length rs + length os
 fewer_paths ls rs os p e =
     let l = past_no_longer p ls in
     let r = past_no_longer p rs in
@@ -64,17 +64,17 @@ seen_length ss = length-map ss (λ s. s.0)
 told_length : (ls : List Look) → length (seen_paths (told_by ls)) ≡ length ls
 told_length ls = seen_length (told_by ls) ∙ length-map ls (λ l. (l.path.now, record { mark = l.mark; names = l.names.now; others = l.others }))
 
-passed_length : (ls more : List Look) (p : Path) → told_by more ≡ past_sight p (told_by ls) → length more ≡ length (past p (seen_paths (told_by ls)))
+passed_length : (ls more : List Look) (p : Path) → told_by more ≡ past_sight p (told_by ls) → length more ≡ length (without_first p (seen_paths (told_by ls)))
 passed_length ls more p e = sym (told_length more) ∙ ap (λ ss. length (seen_paths ss)) e ∙ ap length (past_seen p (told_by ls))
 
 pub fewer : (ls rs : List Look) (os : List Path) (p : Path) → least_first (seen_paths (told_by ls)) (seen_paths (told_by rs)) os ≡ Some p
-    → (ls2 rs2 : List Look) (os2 : List Path) → told_by ls2 ≡ past_sight p (told_by ls) → told_by rs2 ≡ past_sight p (told_by rs) → os2 ≡ past p os
+    → (ls2 rs2 : List Look) (os2 : List Path) → told_by ls2 ≡ past_sight p (told_by ls) → told_by rs2 ≡ past_sight p (told_by rs) → os2 ≡ without_first p os
     → length ls2 + length rs2 + length os2 < length ls + length rs + length os
 fewer ls rs os p e ls2 rs2 os2 el er eo =
     let all = fewer_paths (seen_paths (told_by ls)) (seen_paths (told_by rs)) os p e in
     let a = passed_length ls ls2 p el in
     let b = passed_length rs rs2 p er in
-    let c : length os2 ≡ length (past p os) = ap length eo in
+    let c : length os2 ≡ length (without_first p os) = ap length eo in
     let x = told_length ls in
     let y = told_length rs in
     omega (arith, all, a, b, c, x, y)

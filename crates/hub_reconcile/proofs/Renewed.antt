@@ -19,14 +19,14 @@ use Rattle.hub_path.specs.declared.side.Side.{Side}
 use Rattle.hub_path.specs.declared.side.Side.TheVariants.{Left, Right}
 use Rattle.hub_profile.specs.Parts.{Parts}
 use Rattle.hub_reach.specs.Reach.{reach}
-use Rattle.hub_tree.specs.Marked.{kept_entries, entries_of, with_entries}
-use Rattle.hub_tree.specs.Tree.{Archive, IsArchive, kept, old_mark_at, with_mark}
+use Rattle.hub_tree.specs.Marked.{kept_entries, marked_entries, with_entries}
+use Rattle.hub_tree.specs.Tree.{Archive, IsArchive, kept_mark, old_mark_at, with_mark}
 use Rattle.hub_tree.specs.declared.contents.Mark.{Mark}
 use Rattle.hub_tree.specs.declared.contents.Mark.TheVariants as mark
 use Rattle.hub_tree.specs.Laws.Between.{among, among_filter, not_both}
 use Rattle.hub_tree.specs.Laws.Children.{sorted_keys}
 use Rattle.hub_tree.specs.Laws.Order.{path_itself, same_path}
-use Rattle.hub_reconcile.specs.Blocks.{AreBlocks, IsPartition, block_marks, block_paths, pushed, row_told, HaveMarkNames}
+use Rattle.hub_reconcile.specs.Blocks.{AreBlocks, IsPartition, block_marks, block_paths, kept_marks, row_told, HaveMarkNames}
 use Rattle.hub_reconcile.specs.Merge.{paths_in, is_other}
 use Rattle.hub_reconcile.specs.Picture.{view_by}
 use Rattle.hub_reconcile.specs.Rows.{AreRows, paths_of}
@@ -37,7 +37,7 @@ use Rattle.hub_reconcile.specs.declared.block.Block.{Block}
 use Rattle.hub_reconcile.specs.declared.item.Fate.{Fate}
 use Rattle.hub_reconcile.specs.declared.row.Row.{Row}
 use Rattle.hub_reconcile.specs.Laws.Ascend.{among_ascending}
-use Rattle.hub_reconcile.specs.Laws.Each.{Each, each-append, each-filter, each-weaker}
+use Rattle.hub_reconcile.specs.Laws.Each.{Each, Each-append, each-filter, each-weaker}
 use Rattle.hub_reconcile.specs.Laws.Looked.{old_among}
 use Rattle.hub_reconcile.proofs.Partitions.{fate_at, fold-append, map-append, row_mark}
 use Rattle.hub_reconcile.proofs.ShownFacts.{all_paths, does_count, seen_at}
@@ -49,12 +49,12 @@ either true false x y z e = refl
 either false true x y z e = sym (e refl)
 either false false x y z e = refl
 
-kept_after : (f : Path → Mark) (ps : List Path) (a : Archive) (q : Path) → fin.get (fold (λ a p. with_mark a p (f p)) a ps) q ≡ cond (among q ps) (kept (f q)) (fin.get a q)
+kept_after : (f : Path → Mark) (ps : List Path) (a : Archive) (q : Path) → fin.get (fold (λ a p. with_mark a p (f p)) a ps) q ≡ cond (among q ps) (kept_mark (f q)) (fin.get a q)
 kept_after f [] a q = refl
 kept_after f (p ∷ ps) a q =
     kept_after f ps (with_mark a p (f p)) q
-    ∙ (ap (cond (among q ps) (kept (f q))) (get-with_kept a p (kept (f p)) q)
-    ∙ either (among q ps) (eq_by_cmp path_cmp q p) (kept (f q)) (kept (f p)) (fin.get a q) (λ e. ap (λ z. kept (f z)) (same_path q p e)))
+    ∙ (ap (cond (among q ps) (kept_mark (f q))) (get-with_kept a p (kept_mark (f p)) q)
+    ∙ either (among q ps) (eq_by_cmp path_cmp q p) (kept_mark (f q)) (kept_mark (f p)) (fin.get a q) (λ e. ap (λ z. kept_mark (f z)) (same_path q p e)))
 
 -- Look-ups after marks were put in.
 entry_get : (a : Archive) (p : Path) (k : Option Mark) (q : Path) → fin.get (with_entries a (kept_entries p k)) q ≡ cond (is_some k && eq_by_cmp path_cmp q p) k (fin.get a q)
@@ -82,23 +82,23 @@ shut : (b : Bool) (k : Option Mark) → (b ≡ false → k ≡ None) → cond b 
 shut true k h = refl
 shut false k h = sym (h refl)
 
-gets : (g : Path → Option Mark) (es : List (Path × Mark)) (a : Archive) (c : Path → Bool) → ((q : Path) → fin.get a q ≡ cond (c q) (g q) None) → Each (λ (e : Path × Mark). kept e.1 ≡ g e.0) es
-    → (q : Path) → fin.get (with_entries a (pushed es)) q ≡ cond (c q || among q (paths_in es)) (g q) None
+gets : (g : Path → Option Mark) (es : List (Path × Mark)) (a : Archive) (c : Path → Bool) → ((q : Path) → fin.get a q ≡ cond (c q) (g q) None) → Each (λ (e : Path × Mark). kept_mark e.1 ≡ g e.0) es
+    → (q : Path) → fin.get (with_entries a (kept_marks es)) q ≡ cond (c q || among q (paths_in es)) (g q) None
 gets g [] a c h right q = h q ∙ ap (λ b. cond b (g q) None) (or_none (c q))
 gets g (e ∷ es) a c h right q =
-    ap (λ (b : Archive). fin.get b q) (fold-append (λ (b : Archive) (x : Path × Mark). fin.insert b x.0 x.1) a (entries_of e.0 e.1) (pushed es))
-    ∙ (gets g es (with_entries a (entries_of e.0 e.1)) (λ r. eq_by_cmp path_cmp r e.0 || c r)
-    (λ r. entry_get a e.0 (kept e.1) r
-    ∙ (ap (cond (is_some (kept e.1) && eq_by_cmp path_cmp r e.0) (kept e.1)) (h r)
-    ∙ joined (kept e.1) (g r) (eq_by_cmp path_cmp r e.0) (c r) (λ k. right.0 ∙ ap g (sym (same_path r e.0 k)))))
+    ap (λ (b : Archive). fin.get b q) (fold-append (λ (b : Archive) (x : Path × Mark). fin.insert b x.0 x.1) a (marked_entries e.0 e.1) (kept_marks es))
+    ∙ (gets g es (with_entries a (marked_entries e.0 e.1)) (λ r. eq_by_cmp path_cmp r e.0 || c r)
+    (λ r. entry_get a e.0 (kept_mark e.1) r
+    ∙ (ap (cond (is_some (kept_mark e.1) && eq_by_cmp path_cmp r e.0) (kept_mark e.1)) (h r)
+    ∙ joined (kept_mark e.1) (g r) (eq_by_cmp path_cmp r e.0) (c r) (λ k. right.0 ∙ ap g (sym (same_path r e.0 k)))))
     right.1 q
     ∙ ap (λ b. cond b (g q) None) (swap_or (c q) (eq_by_cmp path_cmp q e.0) (among q (paths_in es))))
 
 -- An archive whose marks are all pushed, and no others.
-made_of : (n : Archive) (es : List (Path × Mark)) → Each (λ (e : Path × Mark). kept e.1 ≡ fin.get n e.0) es → ((q : Path) → among q (paths_in es) ≡ false → fin.get n q ≡ None)
-    → with_entries fin.empty (pushed es) ≡ n
+made_of : (n : Archive) (es : List (Path × Mark)) → Each (λ (e : Path × Mark). kept_mark e.1 ≡ fin.get n e.0) es → ((q : Path) → among q (paths_in es) ≡ false → fin.get n q ≡ None)
+    → with_entries fin.empty (kept_marks es) ≡ n
 made_of n es right full =
-    fin.same_map path_cmp-total path_cmp-exact (with_entries fin.empty (pushed es)) n
+    fin.same_map path_cmp-total path_cmp-exact (with_entries fin.empty (kept_marks es)) n
     (λ q. gets (fin.get n) es fin.empty (λ _. false) (λ r. fin.get-empty path_cmp r) right q ∙ shut (among q (paths_in es)) (fin.get n q) (full q))
 
 -- Each entry of an archive is found at its path.
@@ -121,7 +121,7 @@ all_found (x ∷ xs) s = (
   found_later x xs xs (heads x.0 xs (sorted_head path_cmp x.0 (paths_in xs) s)) (all_found xs (sorted_tail path_cmp x.0 (paths_in xs) s)),
 )
 
-kept_present : (m : Mark) → is_present m ≡ true → kept m ≡ Some m
+kept_present : (m : Mark) → is_present m ≡ true → kept_mark m ≡ Some m
 kept_present (mark.File d) e = refl
 kept_present mark.Directory e = refl
 kept_present mark.Absent e = absurd (false≢true e)
@@ -167,12 +167,12 @@ module _ (P : Parts) (O : Archive) (seen : Side → List (Path × Sight)) (is : 
   abbrev others : List (Path × Mark)
   others = filter (is_other (reach P)) (fin.entries O)
 
-  next_get : (q : Path) → fin.get (next_archive V O) q ≡ cond (among q V.paths) (kept (synced_mark V q)) (fin.get O q)
+  next_get : (q : Path) → fin.get (next_archive V O) q ≡ cond (among q V.paths) (kept_mark (synced_mark V q)) (fin.get O q)
   unfolding next_archive
   next_get q = kept_after (synced_mark V) V.paths O q
 
   abbrev IsRight : Path × Mark → Type 0
-  IsRight e = kept e.1 ≡ fin.get (next_archive V O) e.0
+  IsRight e = kept_mark e.1 ≡ fin.get (next_archive V O) e.0
 
   not_in : (q : Path) → reach P q ≡ false → among q V.paths ≡ false
   not_in q h =
@@ -201,7 +201,7 @@ module _ (P : Parts) (O : Archive) (seen : Side → List (Path × Sight)) (is : 
   kept_right e w =
       let two = and_parts (not (reach P e.0)) (is_present e.1) w.0 in
       kept_present e.1 two.1
-      ∙ sym (next_get e.0 ∙ (ap (λ b. cond b (kept (synced_mark V e.0)) (fin.get O e.0)) (not_in e.0 (not-true (reach P e.0) two.0)) ∙ (fin.get-entries O e.0 ∙ w.1)))
+      ∙ sym (next_get e.0 ∙ (ap (λ b. cond b (kept_mark (synced_mark V e.0)) (fin.get O e.0)) (not_in e.0 (not-true (reach P e.0) two.0)) ∙ (fin.get-entries O e.0 ∙ w.1)))
 
   has_name : (p : Path) (m : Mark) → fin.get O p ≡ Some m → 0 < length p
   has_name [] m e = let w : None ≡ Some m = sym is.no_top ∙ e in cc
@@ -218,14 +218,14 @@ module _ (P : Parts) (O : Archive) (seen : Side → List (Path × Sight)) (is : 
   rows_right f (r ∷ rs) are fates into =
       let p : Path = r.path.now in
       let here : among p (p ∷ paths_of rs) ≡ true = or_left _ (among p (paths_of rs)) (path_itself p) in (
-        ap kept (row_mark V r f are.0 (fates p here)) ∙ sym (next_get p ∙ ap (λ b. cond b (kept (synced_mark V p)) (fin.get O p)) (into p here)),
+        ap kept_mark (row_mark V r f are.0 (fates p here)) ∙ sym (next_get p ∙ ap (λ b. cond b (kept_mark (synced_mark V p)) (fin.get O p)) (into p here)),
         rows_right f rs are.1 (λ q e. fates q (or_right (eq_by_cmp path_cmp q p) _ e)) (λ q e. into q (or_right (eq_by_cmp path_cmp q p) _ e)),
       )
 
   blocks_right : (bs : List Block) → AreBlocks V bs → ((q : Path) → among q (flat_map block_paths bs) ≡ true → among q V.paths ≡ true) → Each IsRight (flat_map block_marks bs)
   blocks_right [] are into = tt
   blocks_right (b ∷ bs) are into =
-      each-append IsRight (block_marks b) (flat_map block_marks bs)
+      Each-append IsRight (block_marks b) (flat_map block_marks bs)
       (rows_right b.fate (b.first.now ∷ b.below.now) are.0.rows (fate_at V b.first.now.path.now (paths_of b.below.now) b.fate are.0.fated)
       (λ q e. into q (list_any-append (eq_by_cmp path_cmp q) (block_paths b) (flat_map block_paths bs) ∙ or_left _ _ e)))
       (blocks_right bs are.1 (λ q e. into q (list_any-append (eq_by_cmp path_cmp q) (block_paths b) (flat_map block_paths bs) ∙ or_right (among q (block_paths b)) _ e)))
@@ -236,7 +236,7 @@ module _ (P : Parts) (O : Archive) (seen : Side → List (Path × Sight)) (is : 
 
     all_right : Each IsRight all_marks
     all_right =
-        each-append IsRight others (flat_map block_marks bs) (each-weaker IsKept IsRight others kept_right others_kept)
+        Each-append IsRight others (flat_map block_marks bs) (each-weaker IsKept IsRight others kept_right others_kept)
         (blocks_right bs w.blocks (λ q e. sym (ap (among q) w.paths) ∙ e))
 
     is_there : (q : Path) (m : Mark) (b : Bool) → fin.get O q ≡ Some m → reach P q ≡ b → (among q (paths_in others) ≡ true → ⊥) → (among q V.paths ≡ true → ⊥) → ⊥
@@ -257,9 +257,9 @@ module _ (P : Parts) (O : Archive) (seen : Side → List (Path × Sight)) (is : 
         (sym (ap (among q) (map-append (λ (e : Path × Mark). e.0) others (flat_map block_marks bs))
         ∙ (list_any-append (eq_by_cmp path_cmp q) (paths_in others) (paths_in (flat_map block_marks bs))
         ∙ ap (λ ps. among q (paths_in others) || among q ps) (paths_blocks bs ∙ w.paths))) ∙ e) in
-        next_get q ∙ (ap (λ b. cond b (kept (synced_mark V q)) (fin.get O q)) two.1 ∙ none_there q (fin.get O q) refl two.0 two.1)
+        next_get q ∙ (ap (λ b. cond b (kept_mark (synced_mark V q)) (fin.get O q)) two.1 ∙ none_there q (fin.get O q) refl two.0 two.1)
 
-    pub renewed : with_entries fin.empty (pushed others ++ pushed (flat_map block_marks bs)) ≡ next_archive V O
+    pub renewed : with_entries fin.empty (kept_marks others ++ kept_marks (flat_map block_marks bs)) ≡ next_archive V O
     renewed =
-        ap (with_entries fin.empty) (sym (flat_map-append (λ (e : Path × Mark). entries_of e.0 e.1) others (flat_map block_marks bs)))
+        ap (with_entries fin.empty) (sym (flat_map-append (λ (e : Path × Mark). marked_entries e.0 e.1) others (flat_map block_marks bs)))
         ∙ made_of (next_archive V O) all_marks all_right all_full

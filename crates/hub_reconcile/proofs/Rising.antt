@@ -7,7 +7,7 @@ use Rattle.std.proofs.lemmas.Bool.{and_parts, and_from}
 use Rattle.std.specs.Cmp.{both_ways}
 use Rattle.hub_path.specs.Laws.{path_cmp-total}
 use Rattle.hub_path.specs.Path.{Path, path_cmp}
-use Rattle.hub_reconcile.specs.Picture.{is_before, are_rising}
+use Rattle.hub_reconcile.specs.Picture.{is_before_looks, are_rising}
 use Rattle.hub_reconcile.specs.Sight.{Sight}
 
 pub lt_less : (r : Ordering) → is_lt r ≡ true → r ≡ Less
@@ -22,7 +22,7 @@ all_before p q (s ∷ ss) l e =
     and_from (is_lt (path_cmp p s.0)) (below_all path_cmp p ss) (ap is_lt (path_cmp-total.trans p q s.0 l (lt_less (path_cmp q s.0) two.0))) (all_before p q ss l two.1)
 
 -- One more Look in front.
-pub rising_front : (s : Path × Sight) (ss : List (Path × Sight)) → are_rising (s ∷ ss) ≡ (is_before s.0 ss && are_rising ss)
+pub rising_front : (s : Path × Sight) (ss : List (Path × Sight)) → are_rising (s ∷ ss) ≡ (is_before_looks s.0 ss && are_rising ss)
 rising_front s [] = refl
 rising_front s (t ∷ ss) =
     both_ways (are_rising (s ∷ t ∷ ss)) (is_lt (path_cmp s.0 t.0) && are_rising (t ∷ ss))

@@ -22,7 +22,7 @@ use Rattle.hub_reconcile.specs.Picture.{sight_in, view_by}
 use Rattle.hub_reconcile.specs.Sight.{Sight}
 use Rattle.hub_reconcile.specs.View.{View, mark_eq, is_present, counts}
 use Rattle.hub_reconcile.specs.Laws.Ascend.{ascending_sorted, among_ascending}
-use Rattle.hub_reconcile.specs.Laws.Views.{same_paths, reached_names}
+use Rattle.hub_reconcile.specs.Laws.Views.{same_paths, reach-names}
 
 -- A path that has a mark has a Look.
 pub sight_there : (y : Path) (ss : List (Path × Sight)) → is_present (sight_in ss y).mark ≡ true → among y (map (λ s. s.0) ss) ≡ true
@@ -84,4 +84,4 @@ module _ (P : Parts) (O : Archive) (seen : Side → List (Path × Sight)) where
       (among_ascending y all_paths ∙ either_there y (is_present (V.mark Left y)) (is_present (V.mark Right y)) refl refl there)
 
   pub shown_names : (q : Path) → V.reached q ≡ true → 0 < length q
-  shown_names q h = reached_names P q h
+  shown_names q h = reach-names P q h

@@ -14,7 +14,7 @@ use Rattle.hub_tree.specs.declared.contents.Mark.{Mark}
 use Rattle.hub_tree.specs.declared.contents.Mark.TheVariants as mark
 use Rattle.hub_reconcile.specs.Merge.{seen_paths, paths_in, first_of, lesser, least_first, past_of, past_sight, front_sight, front_mark, told_mark, told_marks, taken, is_other, IsSeen}
 use Rattle.hub_reconcile.specs.Picture.{told_by}
-use Rattle.hub_reconcile.specs.Rows.{IsTable, is_anywhere, is_counted, other_of}
+use Rattle.hub_reconcile.specs.Rows.{AreRowsOf, is_anywhere, is_counted, other_of}
 use Rattle.hub_reconcile.specs.Sight.{Sight}
 use Rattle.hub_reconcile.specs.View.{is_present}
 use Rattle.hub_reconcile.specs.declared.look.Look.{Look}
@@ -113,7 +113,7 @@ module _ (P : Parts) (O : Archive) (L R : List (Path × Sight)) where
     least_left : (o : Option Path) → least_first (seen_paths l) (seen_paths r) (paths_in (taken old)) ≡ o → least_first (seen_paths l) (seen_paths r) (paths_in w.left_marks) ≡ o
     least_left o e = ap (lesser (lesser (first_of (seen_paths l)) (first_of (seen_paths r)))) (sym (taken_first w.left_marks old ms w.next)) ∙ e
 
-    pub tabled_rows : least_first (seen_paths l) (seen_paths r) (paths_in (taken old)) ≡ None → IsTable (picture_view P O L R) t.rows.items
+    pub tabled_rows : least_first (seen_paths l) (seen_paths r) (paths_in (taken old)) ≡ None → AreRowsOf (picture_view P O L R) t.rows.items
     tabled_rows e = merge_end P O L R t.rows.items l r w.left_marks w.merged (least_left None e)
 
     pub tabled_others : least_first (seen_paths l) (seen_paths r) (paths_in (taken old)) ≡ None → told_marks t.others.items ≡ filter (other P) (fin.entries O)

@@ -1,12 +1,11 @@
 -- Blocks: the rows of a picture are cut into items, each with what is below it, and paths at which
 -- nothing differs.
-use Rattle.std.specs.Prelude.{◌≡◌, ◌<◌, true, false, List, [], ◌∷◌, ◌++◌, Bool, length, map, reverse, filter, Option, None, Some, if◌then◌else◌}
-use Rattle.std.specs.List.{flat_map, list_any, take_while}
-use Rattle.std.specs.Ordering.{eq_by_cmp}
-use Rattle.hub_path.specs.Path.{Path, path_cmp, is_over}
+use Rattle.std.specs.Prelude.{◌≡◌, ◌<◌, true, false, List, [], ◌∷◌, ◌++◌, length, map, reverse, filter, Option, None, Some, if◌then◌else◌}
+use Rattle.std.specs.List.{flat_map, take_while}
+use Rattle.hub_path.specs.Path.{Path, is_over}
 use Rattle.hub_path.specs.declared.side.Side.{Side}
 use Rattle.hub_tree.specs.declared.contents.Mark.{Mark}
-use Rattle.hub_tree.specs.Marked.{entries_of}
+use Rattle.hub_tree.specs.Marked.{marked_entries}
 use Rattle.hub_tree.specs.declared.contents.Mark.TheVariants as mark
 use Rattle.hub_reconcile.specs.Items.{other, item_over, is_item, fate, below, change}
 use Rattle.hub_reconcile.specs.Rows.{AreRows, is_different, is_going, is_coming, mark_on, paths_of}
@@ -17,18 +16,15 @@ use Rattle.hub_reconcile.specs.declared.item.Fate.{Fate}
 use Rattle.hub_reconcile.specs.declared.item.Fate.TheVariants.{To, Skip}
 use Rattle.hub_reconcile.specs.declared.item.Item.{Item}
 use Rattle.hub_reconcile.specs.declared.row.Row.{Row}
-
--- Whether a path is in a list.
-abbrev pub is_in : Path → List Path → Bool
-is_in p ps = list_any (eq_by_cmp path_cmp p) ps
+use Rattle.hub_tree.specs.Laws.Between.{among}
 
 -- The paths of the view are cut into those before a place, and the rows from there on. What is
 -- before it has no item that is over one of these rows.
 pub record IsCut (V : View) (front : List Path) (rest : List Row) : Type 0 where
   pub paths : front ++ paths_of rest ≡ V.paths
   pub rows : AreRows V rest
-  pub clear : (y x : Path) → is_in y front ≡ true → is_item V y ≡ true
-      → is_in x (paths_of rest) ≡ true → is_over y x ≡ false
+  pub clear : (y x : Path) → among y front ≡ true → is_item V y ≡ true
+      → among x (paths_of rest) ≡ true → is_over y x ≡ false
 
 -- Of the rows after one, those that stand below it, if it is an item.
 abbrev pub rows_below : Row → List Row → List Row
@@ -99,8 +95,8 @@ abbrev pub block_marks : Block → List (Path × Mark)
 block_marks b = map (row_told b.fate) (b.first.now ∷ b.below.now)
 
 -- What an archive keeps of marks.
-abbrev pub pushed : List (Path × Mark) → List (Path × Mark)
-pushed es = flat_map (λ e. entries_of e.0 e.1) es
+abbrev pub kept_marks : List (Path × Mark) → List (Path × Mark)
+kept_marks es = flat_map (λ e. marked_entries e.0 e.1) es
 
 -- No mark is of the whole replica.
 abbrev pub HaveMarkNames : List (Path × Mark) → Type 0

@@ -36,8 +36,8 @@ changes_with test from r =
 abbrev pub bars : Parts → Side → Row → Mark → Bool
 bars P from r m = not (allowed_at P (other from) r.path.now (verb_of (mark_on (other from) r) m))
 
-abbrev pub is_barred : Parts → Side → Row → List Row → Bool
-is_barred P from item below =
+abbrev pub is_barred_item : Parts → Side → Row → List Row → Bool
+is_barred_item P from item below =
     list_any (changes_with (bars P from) from) below || bars P from item (mark_on from item)
 
 abbrev pub blocks : Side → Row → Mark → Bool
@@ -50,7 +50,7 @@ is_blocked from item below =
 
 abbrev pub fate_from : Parts → View → Row → List Row → Side → Fate
 fate_from P V item below from =
-    if is_barred P from item below then Skip reason.Barred
+    if is_barred_item P from item below then Skip reason.Barred
     else (if is_blocked from item below then Skip reason.Blocked
     else (if has_parent V (other from) item.path.now then To (other from)
     else Skip reason.NoParent))

@@ -4,7 +4,7 @@ use Rattle.std.specs.Ordering.{is_lt}
 use Rattle.hub_path.specs.Path.{Path, path_cmp, path_eq}
 use Rattle.hub_tree.specs.declared.contents.Mark.{Mark}
 use Rattle.hub_tree.specs.declared.contents.Mark.TheVariants as mark
-use Rattle.hub_reconcile.specs.Picture.{nothing}
+use Rattle.hub_reconcile.specs.Picture.{nothing_there}
 use Rattle.hub_reconcile.specs.Sight.{Sight}
 use Rattle.hub_reconcile.specs.View.{is_present}
 use Rattle.hub_reconcile.specs.declared.old_mark.OldMark.{OldMark}
@@ -31,9 +31,9 @@ abbrev pub least_first : List Path → List Path → List Path → Option Path
 least_first ls rs os = lesser (lesser (first_of ls) (first_of rs)) (first_of os)
 
 -- A list without this path at its front.
-abbrev pub past : Path → List Path → List Path
-past p [] = []
-past p (q ∷ qs) = if path_eq q p then qs else q ∷ qs
+abbrev pub without_first : Path → List Path → List Path
+without_first p [] = []
+without_first p (q ∷ qs) = if path_eq q p then qs else q ∷ qs
 
 -- A list of values, each with its path, without that of this path at its front.
 abbrev pub past_of : {T : Type 0} → Path → List (Path × T) → List (Path × T)
@@ -49,7 +49,7 @@ front_of d p [] = d
 front_of d p (e ∷ es) = if path_eq e.0 p then e.1 else d
 
 abbrev pub front_sight : Path → List (Path × Sight) → Sight
-front_sight p ss = front_of nothing p ss
+front_sight p ss = front_of nothing_there p ss
 
 abbrev pub front_mark : Path → List (Path × Mark) → Mark
 front_mark p es = front_of mark.Absent p es

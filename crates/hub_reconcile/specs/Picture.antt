@@ -14,11 +14,11 @@ use Rattle.hub_reconcile.specs.Sight.{Sight, is_kept_value}
 use Rattle.hub_reconcile.specs.View.{View, view}
 use Rattle.hub_reconcile.specs.declared.look.Look as look
 
-abbrev pub nothing : Sight
-nothing = record { mark = mark.Absent; names = []; others = false }
+abbrev pub nothing_there : Sight
+nothing_there = record { mark = mark.Absent; names = []; others = false }
 
 abbrev pub sight_in : List (Path × Sight) → Path → Sight
-sight_in [] p = nothing
+sight_in [] p = nothing_there
 sight_in (s ∷ ss) p = if path_eq s.0 p then s.1 else sight_in ss p
 
 -- The view that sights of both sides give. A path without a Look is absent.
@@ -66,6 +66,6 @@ abbrev pub has_looks : Parts → List (Path × Sight) → Bool
 has_looks P ss = each_once (map (λ s. s.0) ss) && list_all (was_seen ss) (needed P ss)
 
 -- A path stands before that of the first Look.
-abbrev pub is_before : Path → List (Path × Sight) → Bool
-is_before p [] = true
-is_before p (s ∷ ss) = is_lt (path_cmp p s.0)
+abbrev pub is_before_looks : Path → List (Path × Sight) → Bool
+is_before_looks p [] = true
+is_before_looks p (s ∷ ss) = is_lt (path_cmp p s.0)

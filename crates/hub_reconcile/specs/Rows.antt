@@ -63,6 +63,6 @@ AreRows V [] = Unit {0}
 AreRows V (r ∷ rs) = IsRow V r × AreRows V rs
 
 -- The rows of a picture: one for each path of the view, in order.
-pub record IsTable (V : View) (rs : List Row) : Type 0 where
+pub record AreRowsOf (V : View) (rs : List Row) : Type 0 where
   pub paths : paths_of rs ≡ V.paths
   pub rows : AreRows V rs

@@ -3,7 +3,7 @@ ghost use Rattle.std.specs.Prelude.{◌≡◌, ◌∷◌, List, IfOk};
 ghost use Rattle.std.specs.List.{prefix_len};
 ghost use Rattle.hub_path.specs.Path.{Path, is_over};
 ghost use Rattle.hub_reconcile.specs.Blocks.{IsCut, IsBlock, IsPartition, rows_below};
-ghost use Rattle.hub_reconcile.specs.Rows.{IsTable};
+ghost use Rattle.hub_reconcile.specs.Rows.{AreRowsOf};
 ghost use Rattle.hub_reconcile.specs.Shown.{shown};
 
 use crate::fate::fate_of;
@@ -30,7 +30,7 @@ pub(crate) fn blocks<'a>(
     picture: &Picture,
     rows: &'a [Row<'a>],
 ) -> Result<Vec<Block<'a>>, AllocError>
-    requires { IsTable (shown picture.now) rows.now }
+    requires { AreRowsOf (shown picture.now) rows.now }
     ensures { IfOk result (λ bs. IsPartition (shown picture.now) bs.items) }
 {
     let mut blocks = Vec::new(alloc);

@@ -92,7 +92,7 @@ fn is_updated_below(below: &[Row], side: Side) -> bool
 
 /// Returns whether some change of the item is not allowed.
 fn is_barred(profile: &Profile, item: &Row, below: &[Row], from: Side) -> bool
-    ensures { result ≡ fates.is_barred profile.now from item.now below.now }
+    ensures { result ≡ fates.is_barred_item profile.now from item.now below.now }
 {
     is_barred_below(profile, below, from) || bars(profile, item, from, item.mark(from))
 }

@@ -33,7 +33,7 @@ pub fn are_rising(looks: &[Look]) -> bool
 
 /// Returns whether the path is before that of the first Look, if there is one.
 fn is_before(path: &RelPath, looks: &[Look]) -> bool
-    ensures { result ≡ spec.is_before path.now (spec.told_by looks.now) }
+    ensures { result ≡ spec.is_before_looks path.now (spec.told_by looks.now) }
 {
     match looks {
         [next, ..] => path.cmp(next.path).is_lt(),

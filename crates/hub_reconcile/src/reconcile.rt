@@ -210,7 +210,7 @@ fn archive_of(
 fn keep_all(marks: &mut ArchiveBuilder, others: &[OldMark]) -> Result<(), AllocError>
     requires { parts.HaveMarkNames (merge.told_marks others.now) }
     ensures { OnOk result (marks.new
-        ≡ marks.old ++ parts.pushed (merge.told_marks others.now)) }
+        ≡ marks.old ++ parts.kept_marks (merge.told_marks others.now)) }
 {
     let mut rest = others;
     while let [other, after @ ..] = rest {
@@ -224,7 +224,7 @@ fn keep_all(marks: &mut ArchiveBuilder, others: &[OldMark]) -> Result<(), AllocE
 fn update_all(marks: &mut ArchiveBuilder, blocks: &[Block]) -> Result<(), AllocError>
     requires { parts.HaveAllNames blocks.now }
     ensures { OnOk result (marks.new
-        ≡ marks.old ++ parts.pushed (flat_map parts.block_marks blocks.now)) }
+        ≡ marks.old ++ parts.kept_marks (flat_map parts.block_marks blocks.now)) }
 {
     let mut rest = blocks;
     while let [block, after @ ..] = rest {
@@ -238,7 +238,7 @@ fn update_all(marks: &mut ArchiveBuilder, blocks: &[Block]) -> Result<(), AllocE
 fn update(marks: &mut ArchiveBuilder, block: &Block) -> Result<(), AllocError>
     requires { parts.HasNames block.now }
     ensures { OnOk result (marks.new
-        ≡ marks.old ++ parts.pushed (parts.block_marks block.now)) }
+        ≡ marks.old ++ parts.kept_marks (parts.block_marks block.now)) }
 {
     marks.push(block.first.path, new_mark(block.first, block.fate))?;
     let mut rest = block.below;

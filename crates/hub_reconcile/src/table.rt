@@ -5,7 +5,7 @@ ghost use Rattle.std.specs.Option.{option_map};
 ghost use Rattle.hub_reach.specs.Reach.{reach};
 ghost use Rattle.hub_reconcile.specs.Merge as merge;
 ghost use Rattle.hub_reconcile.specs.Picture.{told_by};
-ghost use Rattle.hub_reconcile.specs.Rows.{IsTable, is_counted, other_of};
+ghost use Rattle.hub_reconcile.specs.Rows.{AreRowsOf, is_counted, other_of};
 ghost use Rattle.hub_reconcile.specs.Shown.{shown};
 
 use crate::look::Look;
@@ -30,7 +30,7 @@ pub(crate) struct Table<'a> {
 
 /// Makes the table of a picture, by one pass over the Looks of both sides and the marks of the archive.
 pub(crate) fn table_of<'a>(alloc: Global, picture: &Picture<'a>) -> Result<Table<'a>, AllocError>
-    ensures rows { IfOk result (λ t. IsTable (shown picture.now) t.rows.items) }
+    ensures rows { IfOk result (λ t. AreRowsOf (shown picture.now) t.rows.items) }
     ensures others { IfOk result (λ t. merge.told_marks t.others.items
         ≡ filter (merge.is_other (reach picture.now.profile.now))
         (fin.entries picture.now.archive.now)) }

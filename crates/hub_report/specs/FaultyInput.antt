@@ -38,19 +38,19 @@ section_place (OfState f) = state_place f.line
 section_place (OfCertificates line) = certificates_place line
 
 -- The place of the fault of an input, and what the fault is called.
-abbrev pub place_in : FaultyInput → List ℕ
-place_in (Unread f) = codes "bundle line 0"
-place_in (BadBundle f) = bundle_place f.line
-place_in (BadSection f) = section_place f
+abbrev pub fault_place_in : FaultyInput → List ℕ
+fault_place_in (Unread f) = codes "bundle line 0"
+fault_place_in (BadBundle f) = bundle_place f.line
+fault_place_in (BadSection f) = section_place f
 
-abbrev pub name_in : FaultyInput → List ℕ
-name_in (Unread f) = input_fault_name f
-name_in (BadBundle f) = bundle_fault_name f.fault
-name_in (BadSection f) = section_fault_name f
+abbrev pub fault_name_in : FaultyInput → List ℕ
+fault_name_in (Unread f) = input_fault_name f
+fault_name_in (BadBundle f) = bundle_fault_name f.fault
+fault_name_in (BadSection f) = section_fault_name f
 
 -- The text is the line of the fault.
 abbrev pub text_of : FaultyInput → List ℕ
-text_of a = fault_line (place_in a) (name_in a)
+text_of a = fault_line (fault_place_in a) (fault_name_in a)
 
 -- Why the input wasn't read to its end, if that is the fault: a read failed, or there were too
 -- many.

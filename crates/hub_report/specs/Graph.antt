@@ -14,7 +14,7 @@ use Rattle.hub_cert.specs.Set.{Members}
 use Rattle.hub_cert.specs.declared.fault.CheckFault.{CheckFault}
 use Rattle.hub_cert.specs.declared.fault.CheckFault.TheVariants as fault
 use Rattle.hub_rounds.specs.Lines.{subject_of}
-use Rattle.hub_rounds.specs.declared.placing.Reason.TheVariants.{Breach, TooLarge}
+use Rattle.hub_rounds.specs.declared.placing.Obstacle.TheVariants.{Breach, TooLarge}
 use Rattle.hub_rounds.specs.declared.subject.Subject.{Subject}
 use Rattle.hub_rounds.specs.declared.subject.Subject.TheVariants as subject
 use Rattle.hub_report.specs.Refusal.{joined, name_at, path_text, text_of_root}
@@ -22,12 +22,12 @@ use Rattle.hub_report.specs.Undecided.{undecided_in}
 use Rattle.hub_report.specs.declared.undecided.Pair.{Pair}
 
 -- A backslash or a quote.
-abbrev pub is_special : ℕ → Bool
-is_special c = c == 92 || c == 34
+abbrev pub needs_backslash : ℕ → Bool
+needs_backslash c = c == 92 || c == 34
 
 -- A character between quotes: a backslash comes before a backslash and before a quote.
 abbrev pub in_quotes : ℕ → List ℕ
-in_quotes c = if is_special c then codes "\\" ++ encode_utf8 c else encode_utf8 c
+in_quotes c = if needs_backslash c then codes "\\" ++ encode_utf8 c else encode_utf8 c
 
 -- A text between quotes.
 unfoldable pub escaped : List ℕ → List ℕ
@@ -56,15 +56,16 @@ unfoldable pub root_edge : List ℕ → List ℕ → List ℕ
 root_edge name root = edge name (codes "root") root (codes "color = gray50")
 
 -- The root of a profile on that side.
-abbrev pub root_at : Parts → Side → List ℕ
-root_at P side = text_of_root (at_side P.roots side)
+abbrev pub root_text_at : Parts → Side → List ℕ
+root_text_at P side = text_of_root (at_side P.roots side)
 
 -- The box of a profile, and the lines to its two roots.
 abbrev pub lines_of_profile : List ℕ → Parts → List ℕ
 lines_of_profile style P =
     let name = escaped (encode_utf8_all P.name) in
     box_line style name
-    ++ (root_edge name (escaped (root_at P Left)) ++ root_edge name (escaped (root_at P Right)))
+    ++ (root_edge name (escaped (root_text_at P Left))
+    ++ root_edge name (escaped (root_text_at P Right)))
 
 -- The profile of that number may break a rule.
 abbrev pub is_breach : ℕ → Subject → Bool
@@ -95,17 +96,17 @@ profile_lines es i (P ∷ Ps) =
     lines_of_profile (box_style es i) P ++ profile_lines es (i + 1) Ps
 
 -- These texts, which are in the order of their bytes, with one more if it isn't there.
-abbrev pub with_text : List (List ℕ) → List ℕ → List (List ℕ)
-with_text = insert_key (slice_cmp nat_cmp)
+abbrev pub with_new_text : List (List ℕ) → List ℕ → List (List ℕ)
+with_new_text = insert_key (slice_cmp nat_cmp)
 
 -- These texts, with those of the roots of a profile.
 abbrev pub with_roots : List (List ℕ) → Parts → List (List ℕ)
-with_roots ts P = with_text (with_text ts (root_at P Left)) (root_at P Right)
+with_roots ts P = with_new_text (with_new_text ts (root_text_at P Left)) (root_text_at P Right)
 
 -- These texts, with those of the roots of these profiles.
-abbrev pub roots_of : List (List ℕ) → List Parts → List (List ℕ)
-roots_of ts [] = ts
-roots_of ts (P ∷ Ps) = roots_of (with_roots ts P) Ps
+abbrev pub root_texts_of : List (List ℕ) → List Parts → List (List ℕ)
+root_texts_of ts [] = ts
+root_texts_of ts (P ∷ Ps) = root_texts_of (with_roots ts P) Ps
 
 -- The line of a root.
 unfoldable pub folder_line : List ℕ → List ℕ
@@ -130,8 +131,8 @@ abbrev pub name_shown : List Parts → ℕ → List ℕ
 name_shown Ps i = escaped (name_at Ps i)
 
 -- The red line of two profiles that clash, with a path that shows it.
-abbrev pub overlap_line : List Parts → Pair → Path → List ℕ
-overlap_line Ps p path =
+abbrev pub overlap_edge : List Parts → Pair → Path → List ℕ
+overlap_edge Ps p path =
     red_edge (name_shown Ps p.writer) (name_shown Ps p.other) (escaped (path_text path))
 
 -- The dashed line of two profiles of which it is too large to decide whether they clash.
@@ -164,7 +165,7 @@ overlap_in _ = None
 abbrev pub red_line : List Parts → List Pair → CheckFault → List ℕ
 red_line Ps ps (fault.Overlap w o place held path) =
     let p : Pair = record { writer = w; other = o } in
-    unless_joined ps p (overlap_line Ps p path)
+    unless_joined ps p (overlap_edge Ps p path)
 red_line Ps ps _ = []
 
 -- The red lines of these faults in their order; and which profiles are joined after them.
@@ -197,5 +198,5 @@ abbrev pub graph_text : Members → List CheckFault → List ℕ
 graph_text S es =
     head_text
     ++ (profile_lines es 0 S.profiles
-    ++ (flat_map folder (roots_of [] S.profiles)
+    ++ (flat_map folder (root_texts_of [] S.profiles)
     ++ (joining_lines S.profiles es ++ codes "}\n")))

@@ -9,7 +9,7 @@ use Rattle.hub_cert.specs.declared.fault.CheckFault.TheVariants as fault
 use Rattle.hub_cert.specs.declared.goal.Goal.TheVariants as goal
 use Rattle.hub_cert.specs.declared.goal.Place.TheVariants.{Replica}
 use Rattle.hub_report.specs.Graph.{box_line, box_style, edge, escaped, folder_line}
-use Rattle.hub_report.specs.Graph.{graph_text, joining_lines, red_edge, root_edge, roots_of}
+use Rattle.hub_report.specs.Graph.{graph_text, joining_lines, red_edge, root_edge, root_texts_of}
 use Rattle.hub_report.specs.JobsExamples.{profile_of}
 use lib.Utf8.{encode}
 
@@ -92,7 +92,7 @@ a_breach_of_another_profile : box_style (breach 0 ∷ overlap 1 0 (codes "docs")
 a_breach_of_another_profile = refl
 
 roots_are_in_the_order_of_their_texts :
-    roots_of [] (profile_of (codes "p") (codes "srv/hub") (codes "srv-x")
+    root_texts_of [] (profile_of (codes "p") (codes "srv/hub") (codes "srv-x")
     ∷ profile_of (codes "q") (codes "a") (codes "srv/hub") ∷ [])
     ≡ codes "/a" ∷ codes "/srv-x" ∷ codes "/srv/hub" ∷ []
 unfolding computed

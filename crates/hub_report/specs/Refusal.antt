@@ -2,8 +2,7 @@
 use Rattle.std.specs.Prelude.{ℕ, ◌+◌, Bool, true, false, ◌&&◌, ◌==◌, List, [], ◌∷◌, ◌++◌, slice_get, Option, Some, None, if◌then◌else◌, codes, encode_utf8_all}
 use Rattle.std.specs.List.{flat_map}
 use Rattle.std.specs.Fmt.{decimal}
-use Rattle.hub_path.specs.Path.{Path, text_of}
-use Rattle.hub_path.specs.declared.side.Side.{Side}
+use Rattle.hub_path.specs.Path.{Path, text_of, root_bytes}
 use Rattle.hub_path.specs.declared.side.Side.TheVariants.{Left, Right}
 use Rattle.hub_automaton.specs.declared.fault.AutomatonFault.{AutomatonFault}
 use Rattle.hub_automaton.specs.declared.fault.AutomatonFault.TheVariants as automaton
@@ -20,9 +19,7 @@ use Rattle.hub_cert.specs.declared.goal.Goal.TheVariants.{Clash, Breach}
 use Rattle.hub_cert.specs.declared.fault.CheckFault.{CheckFault}
 use Rattle.hub_cert.specs.declared.fault.CheckFault.TheVariants as fault
 use Rattle.hub_search.specs.declared.reached.TheConstants.{STAGES}
-
-abbrev pub root_text : Path → List ℕ
-root_text r = codes "/" ++ encode_utf8_all (text_of r)
+use Rattle.hub_path.specs.Sides.{is_same_side}
 
 abbrev pub path_text : Path → List ℕ
 path_text p = encode_utf8_all (text_of p)
@@ -41,31 +38,25 @@ name_at Ps i = name_text (slice_get Ps i)
 
 abbrev pub text_of_root : Option Path → List ℕ
 text_of_root None = []
-text_of_root (Some r) = root_text r
+text_of_root (Some r) = root_bytes r
 
 -- A place is shown by the writer's root, an archive by both roots in the writer's order.
-abbrev pub place_of : Parts → Place → List ℕ
-place_of W (Replica side) = text_of_root (at_side W.roots side)
-place_of W Archive =
+abbrev pub shown_place : Parts → Place → List ℕ
+shown_place W (Replica side) = text_of_root (at_side W.roots side)
+shown_place W Archive =
     joined (codes "archive of " ∷ text_of_root (at_side W.roots Left) ∷ codes " and "
     ∷ text_of_root (at_side W.roots Right) ∷ [])
 
-abbrev pub place_text : Option Parts → Place → List ℕ
-place_text None place = []
-place_text (Some W) place = place_of W place
+abbrev pub shown_place_of : Option Parts → Place → List ℕ
+shown_place_of None place = []
+shown_place_of (Some W) place = shown_place W place
 
 abbrev pub verb_text : Verb → List ℕ
 verb_text Create = codes "create"
 verb_text Update = codes "update"
 verb_text Delete = codes "delete"
 
--- Two sides, places and goals are the same.
-abbrev pub is_same_side : Side → Side → Bool
-is_same_side Left Left = true
-is_same_side Left Right = false
-is_same_side Right Left = false
-is_same_side Right Right = true
-
+-- Two places and goals are the same.
 abbrev pub is_same_place : Place → Place → Bool
 is_same_place (Replica s) (Replica t) = is_same_side s t
 is_same_place (Replica s) Archive = false
@@ -87,7 +78,7 @@ number_of (h ∷ gs) g = if is_same_goal h g then 0 else number_of gs g + 1
 abbrev pub overlap_line : List Parts → ℕ → ℕ → Place → Path → Path → List ℕ
 overlap_line Ps writer other place held path =
     joined (codes "overlap: " ∷ name_at Ps writer ∷ codes " writes " ∷ path_text held
-    ∷ codes " at " ∷ place_text (slice_get Ps writer) place
+    ∷ codes " at " ∷ shown_place_of (slice_get Ps writer) place
     ∷ codes ", " ∷ name_at Ps other ∷ codes " reaches " ∷ path_text path ∷ codes "\n" ∷ [])
 
 -- The line of a breach: who may do what a rule forbids, and where.
@@ -95,7 +86,7 @@ abbrev pub breach_text : List ℕ → Option Rule → ℕ → Path → List ℕ
 breach_text name None number path = []
 breach_text name (Some R) number path =
     joined (codes "breach: " ∷ name ∷ codes " may " ∷ verb_text R.verb ∷ codes " " ∷ path_text path
-    ∷ codes " at " ∷ root_text R.root
+    ∷ codes " at " ∷ root_bytes R.root
     ∷ codes ", rule " ∷ decimal number ∷ codes "\n" ∷ [])
 
 abbrev pub breach_line : Members → ℕ → ℕ → Path → List ℕ
@@ -142,24 +133,24 @@ line_of_goal gs (fault.Accepting g k) = goal_line (number_of gs g) (accepting k)
 line_of_goal gs _ = []
 
 -- The line of a fault, by what its numbers stand for: profiles, rules and goals.
-abbrev pub fault_line : Members → List Goal → CheckFault → List ℕ
-fault_line S gs fault.TooManyProfiles = codes "refused: TooManyProfiles\n"
-fault_line S gs (fault.SameName name) =
+abbrev pub check_fault_line : Members → List Goal → CheckFault → List ℕ
+check_fault_line S gs fault.TooManyProfiles = codes "refused: TooManyProfiles\n"
+check_fault_line S gs (fault.SameName name) =
     joined (codes "refused: SameName " ∷ encode_utf8_all name ∷ codes "\n" ∷ [])
-fault_line S gs (fault.NestedRoots r s) =
-    joined (codes "refused: NestedRoots " ∷ root_text r ∷ codes " and " ∷ root_text s ∷ codes "\n"
+check_fault_line S gs (fault.NestedRoots r s) =
+    joined (codes "refused: NestedRoots " ∷ root_bytes r ∷ codes " and " ∷ root_bytes s ∷ codes "\n"
     ∷ [])
-fault_line S gs (fault.Overlap w o place held path) =
+check_fault_line S gs (fault.Overlap w o place held path) =
     shown_line S (fault.Overlap w o place held path)
-fault_line S gs (fault.Breach p r path) = shown_line S (fault.Breach p r path)
-fault_line S gs (fault.Stray i) =
+check_fault_line S gs (fault.Breach p r path) = shown_line S (fault.Breach p r path)
+check_fault_line S gs (fault.Stray i) =
     joined (codes "refused: certificate " ∷ decimal i ∷ codes " Stray\n" ∷ [])
-fault_line S gs (fault.BadText line) =
+check_fault_line S gs (fault.BadText line) =
     joined (codes "fault: certificates line " ∷ decimal line ∷ codes ": BadText\n" ∷ [])
-fault_line S gs (fault.AlphabetFault e) = alphabet_line e
-fault_line S gs fault.OutOfMemory = codes "fault: out of memory\n"
-fault_line S gs e = line_of_goal gs e
+check_fault_line S gs (fault.AlphabetFault e) = alphabet_line e
+check_fault_line S gs fault.OutOfMemory = codes "fault: out of memory\n"
+check_fault_line S gs e = line_of_goal gs e
 
 -- The line of a fault of a set.
 abbrev pub refusal_line : Members → CheckFault → List ℕ
-refusal_line S e = fault_line S (goals S) e
+refusal_line S e = check_fault_line S (goals S) e

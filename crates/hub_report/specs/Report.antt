@@ -56,7 +56,7 @@ abbrev pub says_read_failed : Report → Bool
 says_read_failed r = some_failed (unread_by r)
 
 -- A set is refused for that fault, by the fault's line. Out of memory is told by itself.
-abbrev pub IsRefusal : Members → CheckFault → Report → Type 0
-IsRefusal S e (Refused line) = (e ≢ fault.OutOfMemory) × (string_bytes line ≡ refusal_line S e)
-IsRefusal S e OutOfMemory = ⊤
-IsRefusal S e _ = ⊥
+abbrev pub TellsRefusal : Members → CheckFault → Report → Type 0
+TellsRefusal S e (Refused line) = (e ≢ fault.OutOfMemory) × (string_bytes line ≡ refusal_line S e)
+TellsRefusal S e OutOfMemory = ⊤
+TellsRefusal S e _ = ⊥

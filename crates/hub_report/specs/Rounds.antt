@@ -7,9 +7,9 @@ use Rattle.hub_cert.specs.Set.{Members}
 use Rattle.hub_cert.specs.declared.fault.CheckFault.{CheckFault}
 use Rattle.hub_rounds.specs.declared.placing.Placed.{Placed}
 use Rattle.hub_rounds.specs.declared.placing.Placing.{Placing}
-use Rattle.hub_rounds.specs.declared.placing.Placing.TheVariants.{Round, Left}
-use Rattle.hub_rounds.specs.declared.placing.Reason.{Reason}
-use Rattle.hub_rounds.specs.declared.placing.Reason.TheVariants.{Breach, TooLarge}
+use Rattle.hub_rounds.specs.declared.placing.Placing.TheVariants.{Round, Unplaced}
+use Rattle.hub_rounds.specs.declared.placing.Obstacle.{Obstacle}
+use Rattle.hub_rounds.specs.declared.placing.Obstacle.TheVariants.{Breach, TooLarge}
 use Rattle.hub_rounds.specs.declared.rounds.Rounds.{Rounds}
 use Rattle.hub_report.specs.Refusal.{joined, refusal_line}
 
@@ -32,13 +32,13 @@ lines_of_rounds k (Ps ∷ rounds) =
 abbrev pub rule_line : List ℕ → ℕ → List ℕ → List ℕ
 rule_line why rule name = joined (why ∷ decimal rule ∷ codes " " ∷ name ∷ codes "\n" ∷ [])
 
-abbrev pub reason_line : Parts → Reason → List ℕ
+abbrev pub reason_line : Parts → Obstacle → List ℕ
 reason_line P (Breach rule) = rule_line (codes "breach ") rule (encode_utf8_all P.name)
 reason_line P (TooLarge rule) = rule_line (codes "too large ") rule (encode_utf8_all P.name)
 
 abbrev pub placing_line : Parts → Placing → List ℕ
 placing_line P (Round k) = []
-placing_line P (Left why) = reason_line P why
+placing_line P (Unplaced why) = reason_line P why
 
 abbrev pub left_line : Placed → List ℕ
 left_line p = placing_line p.profile p.placing

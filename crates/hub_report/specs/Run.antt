@@ -1,12 +1,12 @@
 -- The line that says why jobs weren't run.
 use Rattle.std.specs.Prelude.{◌∷◌, ℕ, List, [], codes}
-use Rattle.hub_path.specs.Path.{Path}
+use Rattle.hub_path.specs.Path.{Path, root_bytes}
 use Rattle.hub_report.specs.declared.run.RunError.{RunError}
 use Rattle.hub_report.specs.declared.run.RunError.TheVariants as fault
-use Rattle.hub_report.specs.Refusal.{joined, root_text}
+use Rattle.hub_report.specs.Refusal.{joined}
 
 abbrev pub missing_line : Path → List ℕ
-missing_line root = joined (codes "run fault: MissingReplica " ∷ root_text root ∷ codes "\n" ∷ [])
+missing_line root = joined (codes "run fault: MissingReplica " ∷ root_bytes root ∷ codes "\n" ∷ [])
 
 abbrev pub error_line : RunError → List ℕ
 error_line fault.NoWorkers = codes "run fault: NoWorkers\n"

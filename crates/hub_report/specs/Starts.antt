@@ -58,13 +58,13 @@ pub record Begins (p t s : List ℕ) : Type 0 where
   pub written : ℕ
   pub front : take written rest ≡ s
 
-pub begins : (p t s : List ℕ) (w : ℕ) → take w t ≡ p ++ s → Begins p t s
-begins [] t s w e = record { rest = t; whole = refl; written = w; front = e }
-begins (b ∷ p) t s zero e = cc
-begins (b ∷ p) [] s (suc w) e = cc
-begins (b ∷ p) (a ∷ t) s (suc w) e =
+pub begins-taken : (p t s : List ℕ) (w : ℕ) → take w t ≡ p ++ s → Begins p t s
+begins-taken [] t s w e = record { rest = t; whole = refl; written = w; front = e }
+begins-taken (b ∷ p) t s zero e = cc
+begins-taken (b ∷ p) [] s (suc w) e = cc
+begins-taken (b ∷ p) (a ∷ t) s (suc w) e =
     let same : a ≡ b = cc in
-    let more = begins p t s w cc in
+    let more = begins-taken p t s w cc in
     record { rest = more.rest; whole = cc; written = more.written; front = more.front }
 
 -- The line of a breach begins with a b, if there is a rule. If there is none, the line is empty.

@@ -10,9 +10,9 @@ use Rattle.hub_report.specs.Refusal.{joined, name_at}
 use Rattle.hub_report.specs.declared.undecided.Pair.{Pair}
 
 -- The two profiles of a clash: who writes, and who reaches.
-abbrev pub pair_of : Goal → Option Pair
-pair_of (Clash w o place) = Some (record { writer = w; other = o })
-pair_of (Breach p r) = None
+abbrev pub clashing_pair : Goal → Option Pair
+clashing_pair (Clash w o place) = Some (record { writer = w; other = o })
+clashing_pair (Breach p r) = None
 
 -- Of a fault, the two profiles whose clash is too large to be searched.
 abbrev pub undecided_in : CheckFault → Option Pair
@@ -21,7 +21,7 @@ undecided_in (fault.SameName name) = None
 undecided_in (fault.NestedRoots first second) = None
 undecided_in (fault.Overlap w o place held path) = None
 undecided_in (fault.Breach p r path) = None
-undecided_in (fault.TooLarge g) = pair_of g
+undecided_in (fault.TooLarge g) = clashing_pair g
 undecided_in (fault.Missing g) = None
 undecided_in (fault.NoStart g) = None
 undecided_in (fault.NotClosed g k class) = None
@@ -38,14 +38,14 @@ pair_line Ps p =
     ∷ name_at Ps p.writer ∷ codes " and " ∷ name_at Ps p.other ∷ codes "\n" ∷ [])
 
 -- The line before named these two, in this order.
-abbrev pub is_named : Option Pair → Pair → Bool
-is_named None p = false
-is_named (Some q) p = q.writer == p.writer && q.other == p.other
+abbrev pub was_named : Option Pair → Pair → Bool
+was_named None p = false
+was_named (Some q) p = q.writer == p.writer && q.other == p.other
 
 -- The line of these two, unless the line before named them; and which two are named last then.
 abbrev pub new_line : List Parts → Option Pair → Option Pair → List ℕ
 new_line Ps last None = []
-new_line Ps last (Some p) = if is_named last p then [] else pair_line Ps p
+new_line Ps last (Some p) = if was_named last p then [] else pair_line Ps p
 
 abbrev pub last_of : Option Pair → Option Pair → Option Pair
 last_of last None = last

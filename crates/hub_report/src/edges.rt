@@ -162,7 +162,7 @@ fn push_overlap(
     path: &RelPath,
 ) -> Result<(), AllocError>
     ensures { OnOk result (string_bytes text.new
-        ≡ string_bytes text.old ++ graph.overlap_line profiles.now pair path.now) }
+        ≡ string_bytes text.old ++ graph.overlap_edge profiles.now pair path.now) }
 {
     let writer = name_shown(alloc, profiles, pair.writer)?;
     let other = name_shown(alloc, profiles, pair.other)?;

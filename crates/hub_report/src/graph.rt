@@ -7,7 +7,7 @@ use crate::edges::push_clashes;
 use crate::parts::push_all;
 use hub_cert::{CheckFault, ProfileSet};
 use hub_profile::Profile;
-use hub_rounds::{Clashes, Reason, Subject, subject_of};
+use hub_rounds::{Clashes, Obstacle, Subject, subject_of};
 use std::alloc::{AllocError, Global};
 use std::collections::BTreeSet;
 
@@ -193,7 +193,7 @@ fn is_breach(subject: Subject, number: usize) -> bool
     match subject {
         Subject::Alone {
             profile,
-            reason: Reason::Breach(_),
+            reason: Obstacle::Breach(_),
         } => profile == number,
         _ => false,
     }
@@ -206,7 +206,7 @@ fn is_large_breach(subject: Subject, number: usize) -> bool
     match subject {
         Subject::Alone {
             profile,
-            reason: Reason::TooLarge(_),
+            reason: Obstacle::TooLarge(_),
         } => profile == number,
         _ => false,
     }
@@ -215,7 +215,7 @@ fn is_large_breach(subject: Subject, number: usize) -> bool
 /// Adds the line of each root of these profiles, in the order of their texts.
 fn push_roots(alloc: Global, text: &mut String, profiles: &[Profile]) -> Result<(), AllocError>
     ensures { OnOk result (string_bytes text.new
-        ≡ string_bytes text.old ++ flat_map graph.folder (graph.roots_of [] profiles.now)) }
+        ≡ string_bytes text.old ++ flat_map graph.folder (graph.root_texts_of [] profiles.now)) }
 {
     let roots = roots_of(alloc, profiles)?;
     for root in roots.iter() {
@@ -226,7 +226,7 @@ fn push_roots(alloc: Global, text: &mut String, profiles: &[Profile]) -> Result<
 
 /// The texts of the roots of these profiles, in their order.
 fn roots_of<'a>(alloc: Global, profiles: &'a [Profile]) -> Result<BTreeSet<&'a str>, AllocError>
-    ensures { IfOk result (λ s. map (λ r. r.now) s.keys ≡ graph.roots_of [] profiles.now) }
+    ensures { IfOk result (λ s. map (λ r. r.now) s.keys ≡ graph.root_texts_of [] profiles.now) }
 {
     let mut roots = BTreeSet::new(alloc);
     for profile in profiles {
@@ -248,7 +248,7 @@ fn insert_roots<'a>(roots: &mut BTreeSet<&'a str>, profile: &'a Profile) -> Resu
 /// Inserts a root.
 fn insert_root<'a>(roots: &mut BTreeSet<&'a str>, root: &'a str) -> Result<(), AllocError>
     ensures { OnOk result (map (λ r. r.now) roots.new.keys
-        ≡ graph.with_text (map (λ r. r.now) roots.old.keys) root.now) }
+        ≡ graph.with_new_text (map (λ r. r.now) roots.old.keys) root.now) }
 {
     roots.insert(root)?;
     Ok(())
@@ -305,7 +305,7 @@ fn push_escaped(text: &mut String, character: char) -> Result<(), AllocError>
 
 /// Returns whether a character needs a backslash before it.
 fn is_special(character: char) -> bool
-    ensures { result ≡ graph.is_special character }
+    ensures { result ≡ graph.needs_backslash character }
 {
     character == '\\' || character == '"'
 }

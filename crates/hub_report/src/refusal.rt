@@ -4,6 +4,7 @@ ghost use Rattle.std.specs.Fmt.{decimal};
 ghost use Rattle.hub_profile.specs.Parts.{Parts};
 ghost use Rattle.hub_cert.specs.Refused.{IsRefused};
 ghost use Rattle.hub_cert.specs.Set.{Members};
+ghost use Rattle.hub_path.specs.Path.{root_bytes};
 ghost use Rattle.hub_report.specs.Refusal as lines;
 ghost use Rattle.hub_report.specs.Report as report;
 ghost use Rattle.hub_report.specs.Rounds.{clash_lines};
@@ -21,7 +22,7 @@ use std::alloc::{AllocError, Global};
 impl<'a> Report<'a> {
     /// The answer that refuses a set by its fault.
     pub fn refusal(alloc: Global, set: &ProfileSet, fault: &CheckFault) -> Report<'a>
-        ensures refusal { report.IsRefusal set.now fault.now result }
+        ensures refusal { report.TellsRefusal set.now fault.now result }
         ensures read { report.unread_by result ≡ None }
     {
         let Ok(goals) = set.goals(alloc) else {
@@ -39,7 +40,7 @@ impl<'a> Report<'a> {
     /// The answer if there is no set, because of that fault. Such a fault has no numbers.
     pub fn refusal_without_set(alloc: Global, fault: &CheckFault) -> Report<'a>
         ensures refusal { (S : Members) → IsRefused S fault.now
-            → report.IsRefusal S fault.now result }
+            → report.TellsRefusal S fault.now result }
         ensures read { report.unread_by result ≡ None }
     {
         match fault {
@@ -80,7 +81,7 @@ fn fault_line(
     goals: &[Goal],
     fault: &CheckFault,
 ) -> Result<String, AllocError>
-    ensures { IfOk result (λ t. string_bytes t ≡ lines.fault_line
+    ensures { IfOk result (λ t. string_bytes t ≡ lines.check_fault_line
         (record { profiles = profiles.now; rules = rules.now }) goals.now fault.now) }
 {
     match fault {
@@ -145,8 +146,8 @@ fn line_of_goal(alloc: Global, goals: &[Goal], fault: &CheckFault) -> Result<Str
 
 fn nested_line(alloc: Global, first: &Root, second: &Root) -> Result<String, AllocError>
     ensures { IfOk result (λ t. string_bytes t ≡ lines.joined (codes "refused: NestedRoots "
-        ∷ lines.root_text first.now ∷ codes " and "
-        ∷ lines.root_text second.now ∷ codes "\n" ∷ [])) }
+        ∷ root_bytes first.now ∷ codes " and "
+        ∷ root_bytes second.now ∷ codes "\n" ∷ [])) }
 {
     let first = first.text()?;
     let second = second.text()?;
@@ -204,7 +205,7 @@ pub(crate) fn name_at(profiles: &[Profile], number: usize) -> &str
 /// The writer's root at the place, or both roots for an archive.
 fn place_text(alloc: Global, writer: Option<&Profile>, place: Place) -> Result<String, AllocError>
     ensures { (W : Option Parts) → MatchOption writer.entry (W ≡ None) (λ P. W ≡ Some P.now)
-        → IfOk result (λ t. string_bytes t ≡ lines.place_text W place) }
+        → IfOk result (λ t. string_bytes t ≡ lines.shown_place_of W place) }
 {
     let Some(writer) = writer else {
         return Ok(String::new(alloc));
@@ -219,7 +220,7 @@ fn place_text(alloc: Global, writer: Option<&Profile>, place: Place) -> Result<S
 
 fn archive_text(alloc: Global, left: &Root, right: &Root) -> Result<String, AllocError>
     ensures { IfOk result (λ t. string_bytes t ≡ lines.joined (codes "archive of "
-        ∷ lines.root_text left.now ∷ codes " and " ∷ lines.root_text right.now ∷ [])) }
+        ∷ root_bytes left.now ∷ codes " and " ∷ root_bytes right.now ∷ [])) }
 {
     let left = left.text()?;
     let right = right.text()?;

@@ -5,7 +5,7 @@ ghost use Rattle.hub_report.specs.Rounds as lines;
 
 use crate::parts::push_all;
 use hub_profile::Profile;
-use hub_rounds::{Placed, Placing, Reason, Rounds};
+use hub_rounds::{Obstacle, Placed, Placing, Rounds};
 use hub_text::Items;
 use std::alloc::{AllocError, Global};
 
@@ -85,8 +85,10 @@ fn push_placed(alloc: Global, text: &mut String, placed: &Placed) -> Result<(), 
     let name = placed.profile.name().text();
     match placed.placing {
         Placing::Round(_) => Ok(()),
-        Placing::Left(Reason::Breach(rule)) => push_reason(alloc, text, "breach ", rule, name),
-        Placing::Left(Reason::TooLarge(rule)) => {
+        Placing::Unplaced(Obstacle::Breach(rule)) => push_reason(
+            alloc, text, "breach ", rule, name,
+        ),
+        Placing::Unplaced(Obstacle::TooLarge(rule)) => {
             push_reason(alloc, text, "too large ", rule, name)
         }
     }

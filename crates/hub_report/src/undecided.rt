@@ -50,7 +50,7 @@ pub(crate) fn undecided_in(fault: &CheckFault) -> Option<Pair>
 
 /// The two profiles of a clash.
 fn pair_of(goal: Goal) -> Option<Pair>
-    ensures { result ≡ lines.pair_of goal }
+    ensures { result ≡ lines.clashing_pair goal }
 {
     match goal {
         Goal::Clash { writer, other, .. } => Some(Pair { writer, other }),
@@ -92,7 +92,7 @@ fn push_new(
 
 /// Returns whether these two are named last.
 fn is_named(last: Option<Pair>, pair: Pair) -> bool
-    ensures { result ≡ lines.is_named last pair }
+    ensures { result ≡ lines.was_named last pair }
 {
     match last {
         Some(own) => own.writer == pair.writer && own.other == pair.other,

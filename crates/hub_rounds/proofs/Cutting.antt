@@ -9,10 +9,10 @@ use Rattle.std.proofs.lemmas.Option.{get_or_from_slice_get, same_Some, slice_get
 use Rattle.hub_profile.specs.Parts.{Parts}
 use Rattle.hub_cert.specs.Set.{IsSafeSet, Members}
 use Rattle.hub_cert.specs.declared.fault.CheckFault.{CheckFault}
-use Rattle.hub_rounds.specs.Rounds.{ArePlaced, AreRivals, AreRounds, AreUsed, IsPlaced, is_in, is_in_some, is_outside, members}
+use Rattle.hub_rounds.specs.Rounds.{ArePlaced, AreRivals, AreRounds, AreUsed, IsPlaced, is_in_round, is_in_some, is_outside, profiles_in_round}
 use Rattle.hub_rounds.specs.declared.placing.Placed.{Placed}
 use Rattle.hub_rounds.specs.declared.placing.Placing.{Placing}
-use Rattle.hub_rounds.specs.declared.placing.Placing.TheVariants.{Left, Round}
+use Rattle.hub_rounds.specs.declared.placing.Placing.TheVariants.{Unplaced, Round}
 use Rattle.hub_rounds.specs.declared.rounds.Rounds.{Rounds}
 
 -- What passes one test and then another.
@@ -35,7 +35,7 @@ filter-all f [] all = refl
 filter-all f (x ∷ xs) all = ap₂ (λ b ys. cond b (x ∷ ys) ys) (all x) (filter-all f xs all)
 
 none-below-zero : (q : Placing) → is_outside 0 q ≡ true
-none-below-zero (Left why) = refl
+none-below-zero (Unplaced why) = refl
 none-below-zero (Round own) = go (nat_lt own 0) refl
   where
     go : (b : Bool) → nat_lt own 0 ≡ b → not b ≡ true
@@ -43,8 +43,8 @@ none-below-zero (Round own) = go (nat_lt own 0) refl
     go true e = let l : own < 0 = grind (arith, nat_tests, e) in absurd (omega (arith, l))
 
 -- Who is in a round isn't in one before it.
-in-outside : (j : ℕ) (q : Placing) → (is_outside j q && is_in j q) ≡ is_in j q
-in-outside j (Left why) = refl
+in-outside : (j : ℕ) (q : Placing) → (is_outside j q && is_in_round j q) ≡ is_in_round j q
+in-outside j (Unplaced why) = refl
 in-outside j (Round own) = go (nat_lt own j) refl
   where
     go : (b : Bool) → nat_lt own j ≡ b → (not b && own == j) ≡ (own == j)
@@ -52,8 +52,8 @@ in-outside j (Round own) = go (nat_lt own j) refl
     go true e = grind (arith, nat_tests, e)
 
 -- Who is in none of the rounds before, and not in this one.
-outside-next : (j : ℕ) (q : Placing) → (is_outside j q && not (is_in j q)) ≡ is_outside (j + 1) q
-outside-next j (Left why) = refl
+outside-next : (j : ℕ) (q : Placing) → (is_outside j q && not (is_in_round j q)) ≡ is_outside (j + 1) q
+outside-next j (Unplaced why) = refl
 outside-next j (Round own) = go (nat_lt own j) (own == j) (nat_lt own (j + 1)) refl refl refl
   where
     go : (b c d : Bool) → nat_lt own j ≡ b → (own == j) ≡ c → nat_lt own (j + 1) ≡ d → (not b && not c) ≡ not d
@@ -67,31 +67,31 @@ outside-next j (Round own) = go (nat_lt own j) (own == j) (nat_lt own (j + 1)) r
 pub all-outside : (ps : List Placed) → ps ≡ filter (λ p. is_outside 0 p.placing) ps
 all-outside ps = sym (filter-all (λ (p : Placed). is_outside 0 p.placing) ps (λ p. none-below-zero p.placing))
 
-pub members-outside : (j : ℕ) (ps : List Placed) → members j (filter (λ p. is_outside j p.placing) ps) ≡ members j ps
+pub members-outside : (j : ℕ) (ps : List Placed) → profiles_in_round j (filter (λ p. is_outside j p.placing) ps) ≡ profiles_in_round j ps
 members-outside j ps =
     ap (map (λ (p : Placed). p.profile))
-    (filter-both (λ (p : Placed). is_in j p.placing) (λ (p : Placed). is_outside j p.placing) ps
-    ∙ filter-alike (λ (p : Placed). is_outside j p.placing && is_in j p.placing) (λ (p : Placed). is_in j p.placing) ps (λ n p at. in-outside j p.placing))
+    (filter-both (λ (p : Placed). is_in_round j p.placing) (λ (p : Placed). is_outside j p.placing) ps
+    ∙ filter-alike (λ (p : Placed). is_outside j p.placing && is_in_round j p.placing) (λ (p : Placed). is_in_round j p.placing) ps (λ n p at. in-outside j p.placing))
 
-pub others-outside : (j : ℕ) (ps : List Placed) → filter (λ p. not (is_in j p.placing)) (filter (λ p. is_outside j p.placing) ps) ≡ filter (λ p. is_outside (j + 1) p.placing) ps
+pub others-outside : (j : ℕ) (ps : List Placed) → filter (λ p. not (is_in_round j p.placing)) (filter (λ p. is_outside j p.placing) ps) ≡ filter (λ p. is_outside (j + 1) p.placing) ps
 others-outside j ps =
-    filter-both (λ (p : Placed). not (is_in j p.placing)) (λ (p : Placed). is_outside j p.placing) ps
-    ∙ filter-alike (λ (p : Placed). is_outside j p.placing && not (is_in j p.placing)) (λ (p : Placed). is_outside (j + 1) p.placing) ps (λ n p at. outside-next j p.placing)
+    filter-both (λ (p : Placed). not (is_in_round j p.placing)) (λ (p : Placed). is_outside j p.placing) ps
+    ∙ filter-alike (λ (p : Placed). is_outside j p.placing && not (is_in_round j p.placing)) (λ (p : Placed). is_outside (j + 1) p.placing) ps (λ n p at. outside-next j p.placing)
 
 -- One more profile, which isn't in the round.
-pub members-past : (k : ℕ) (ps : List Placed) (p : Placed) → is_in k p.placing ≡ false → members k (ps ++ p ∷ []) ≡ members k ps
+pub members-past : (k : ℕ) (ps : List Placed) (p : Placed) → is_in_round k p.placing ≡ false → profiles_in_round k (ps ++ p ∷ []) ≡ profiles_in_round k ps
 members-past k ps p out =
-    let own = filter (λ (q : Placed). is_in k q.placing) ps in
-    ap (map (λ (q : Placed). q.profile)) (filter-append (λ (q : Placed). is_in k q.placing) ps (p ∷ []) ∙ (ap (λ b. own ++ cond b (p ∷ []) []) out ∙ append-nil own))
+    let own = filter (λ (q : Placed). is_in_round k q.placing) ps in
+    ap (map (λ (q : Placed). q.profile)) (filter-append (λ (q : Placed). is_in_round k q.placing) ps (p ∷ []) ∙ (ap (λ b. own ++ cond b (p ∷ []) []) out ∙ append-nil own))
 
-pub others-past : (k : ℕ) (ps : List Placed) (p : Placed) → is_in k p.placing ≡ false → filter (λ q. not (is_in k q.placing)) (ps ++ p ∷ []) ≡ filter (λ q. not (is_in k q.placing)) ps ++ p ∷ []
+pub others-past : (k : ℕ) (ps : List Placed) (p : Placed) → is_in_round k p.placing ≡ false → filter (λ q. not (is_in_round k q.placing)) (ps ++ p ∷ []) ≡ filter (λ q. not (is_in_round k q.placing)) ps ++ p ∷ []
 others-past k ps p out =
-    let others = filter (λ (q : Placed). not (is_in k q.placing)) ps in
-    filter-append (λ (q : Placed). not (is_in k q.placing)) ps (p ∷ []) ∙ ap (λ b. others ++ cond (not b) (p ∷ []) []) out
+    let others = filter (λ (q : Placed). not (is_in_round k q.placing)) ps in
+    filter-append (λ (q : Placed). not (is_in_round k q.placing)) ps (p ∷ []) ∙ ap (λ b. others ++ cond (not b) (p ∷ []) []) out
 
 -- Whoever is in none of all rounds was left out.
 outside-left : (es : List CheckFault) (count i : ℕ) (q : Placing) → IsPlaced es count i q → is_outside count q ≡ not (is_in_some q)
-outside-left es count i (Left why) h = refl
+outside-left es count i (Unplaced why) h = refl
 outside-left es count i (Round own) h = go (nat_lt own count) refl
   where
     go : (b : Bool) → nat_lt own count ≡ b → not b ≡ false
@@ -111,37 +111,37 @@ round-at count rs f k Ps is at =
     (l, sym (get_or_from_slice_get rs k Ps Ps at) ∙ (ap (λ xs. get_or xs k Ps) is ∙ get_or-map-range_with_len f 0 count k k Ps l (omega arith)))
 
 -- A round that has a profile isn't empty.
-used-members : (k : ℕ) (ps : List Placed) (i : ℕ) (p : Placed) → slice_get ps i ≡ Some p → is_in k p.placing ≡ true → members k ps ≡ [] → ⊥
+used-members : (k : ℕ) (ps : List Placed) (i : ℕ) (p : Placed) → slice_get ps i ≡ Some p → is_in_round k p.placing ≡ true → profiles_in_round k ps ≡ [] → ⊥
 used-members k [] i p at is e = cc
-used-members k (q ∷ ps) zero p at is e = go (is_in k q.placing) (ap (λ (r : Placed). is_in k r.placing) (same_Some q p at) ∙ is) e
+used-members k (q ∷ ps) zero p at is e = go (is_in_round k q.placing) (ap (λ (r : Placed). is_in_round k r.placing) (same_Some q p at) ∙ is) e
   where
-    go : (b : Bool) → b ≡ true → map (λ (r : Placed). r.profile) (cond b (q ∷ filter (λ r. is_in k r.placing) ps) (filter (λ r. is_in k r.placing) ps)) ≡ [] → ⊥
+    go : (b : Bool) → b ≡ true → map (λ (r : Placed). r.profile) (cond b (q ∷ filter (λ r. is_in_round k r.placing) ps) (filter (λ r. is_in_round k r.placing) ps)) ≡ [] → ⊥
     go true h f = cc
     go false h f = cc
-used-members k (q ∷ ps) (suc i) p at is e = go (is_in k q.placing) (used-members k ps i p at is) e
+used-members k (q ∷ ps) (suc i) p at is e = go (is_in_round k q.placing) (used-members k ps i p at is) e
   where
-    go : (b : Bool) → (members k ps ≡ [] → ⊥) → map (λ (r : Placed). r.profile) (cond b (q ∷ filter (λ r. is_in k r.placing) ps) (filter (λ r. is_in k r.placing) ps)) ≡ [] → ⊥
+    go : (b : Bool) → (profiles_in_round k ps ≡ [] → ⊥) → map (λ (r : Placed). r.profile) (cond b (q ∷ filter (λ r. is_in_round k r.placing) ps) (filter (λ r. is_in_round k r.placing) ps)) ≡ [] → ⊥
     go true rest f = cc
     go false rest f = rest f
 
 -- What is known of the profiles and of the rounds makes the answer.
 pub are-rounds : (S : Members) (es : List CheckFault) (r : Rounds) (ps : List Placed) (count : ℕ) → map (λ p. p.profile) ps ≡ S.profiles → ArePlaced es count ps → AreUsed count ps
-    → r.rounds ≡ map (λ k. members k ps) (range_with_len 0 count) → r.left ≡ filter (λ p. is_outside count p.placing) ps
-    → ((k : ℕ) → k < count → IsSafeSet (record { profiles = members k ps; rules = S.rules })) → AreRivals es ps r.rivals → r.rules ≡ S.rules → AreRounds S es r
+    → r.rounds ≡ map (λ k. profiles_in_round k ps) (range_with_len 0 count) → r.left ≡ filter (λ p. is_outside count p.placing) ps
+    → ((k : ℕ) → k < count → IsSafeSet (record { profiles = profiles_in_round k ps; rules = S.rules })) → AreRivals es ps r.rivals → r.rules ≡ S.rules → AreRounds S es r
 are-rounds S es r ps count all told used rounds left safe rivals rules =
-    let many : length r.rounds ≡ count = ap length rounds ∙ length-map-range_with_len (λ k. members k ps) 0 count in
+    let many : length r.rounds ≡ count = ap length rounds ∙ length-map-range_with_len (λ k. profiles_in_round k ps) 0 count in
     record {
       placed = ps;
       all = all;
       told = subst (λ (n : ℕ). ArePlaced es n ps) (sym many) told;
-      rounds = rounds ∙ ap (λ n. map (λ k. members k ps) (range_with_len 0 n)) (sym many);
+      rounds = rounds ∙ ap (λ n. map (λ k. profiles_in_round k ps) (range_with_len 0 n)) (sym many);
       left = left ∙ left-outside es count ps told;
       used = λ k Ps at empty.
-          let w = round-at count r.rounds (λ n. members n ps) k Ps rounds at in
+          let w = round-at count r.rounds (λ n. profiles_in_round n ps) k Ps rounds at in
           let u = used k w.0 in
           used-members k ps u.0 u.1 u.2 u.3 (sym w.1 ∙ empty);
       safe = λ k Ps at.
-          let w = round-at count r.rounds (λ n. members n ps) k Ps rounds at in
+          let w = round-at count r.rounds (λ n. profiles_in_round n ps) k Ps rounds at in
           subst (λ (Qs : List Parts). IsSafeSet (record { profiles = Qs; rules = S.rules })) (sym w.1) (safe k w.0);
       rivals = rivals;
       rules = rules;

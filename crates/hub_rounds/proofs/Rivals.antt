@@ -4,10 +4,10 @@ use Rattle.std.proofs.lemmas.Option.{none-some, slice_get_within}
 use Rattle.hub_text.specs.ListLaws.{snoc-cases, snoc-new, snoc-old}
 use Rattle.hub_cert.specs.declared.fault.CheckFault.{CheckFault}
 use Rattle.hub_rounds.specs.Lines.{HasPair}
-use Rattle.hub_rounds.specs.Rounds.{ArePlaced, AreRivals, AreUsed, IsInRound, IsPlaced, MayJoin, Opens}
+use Rattle.hub_rounds.specs.Rounds.{ArePlaced, AreRivals, AreUsed, IsInRound, IsPlaced, MayJoin, OpensRounds}
 use Rattle.hub_rounds.specs.declared.placing.Placed.{Placed}
 use Rattle.hub_rounds.specs.declared.placing.Placing.{Placing}
-use Rattle.hub_rounds.specs.declared.placing.Placing.TheVariants.{Left, Round}
+use Rattle.hub_rounds.specs.declared.placing.Placing.TheVariants.{Unplaced, Round}
 
 -- No rivals, and one more.
 pub no-rivals : (es : List CheckFault) (ps : List Placed) → AreRivals es ps []
@@ -28,7 +28,7 @@ one-rival-more es ps ns k are may = record {
 -- Where profiles stand when there may be more rounds, and one more profile.
 placed-still : (es : List CheckFault) (n m i : ℕ) (q : Placing) → n ≤ m → IsPlaced es n i q → IsPlaced es m i q
 placed-still es n m i (Round k) l h = omega (arith, l, h)
-placed-still es n m i (Left why) l h = h
+placed-still es n m i (Unplaced why) l h = h
 
 pub none-placed : (es : List CheckFault) (n : ℕ) → ArePlaced es n []
 none-placed es n = λ i p at. absurd (none-some p at)
@@ -43,7 +43,7 @@ one-placed-more es n m ps p l is are = λ i q at. ⊎_elim
 pub none-used : (ps : List Placed) → AreUsed 0 ps
 none-used ps = λ k l. absurd (omega (arith, l))
 
-pub one-used-more : (n m : ℕ) (ps : List Placed) (p : Placed) → Opens n m p.placing → AreUsed n ps → AreUsed m (ps ++ p ∷ [])
+pub one-used-more : (n m : ℕ) (ps : List Placed) (p : Placed) → OpensRounds n m p.placing → AreUsed n ps → AreUsed m (ps ++ p ∷ [])
 one-used-more n m ps p opens are = λ k l. ⊎_elim
     (λ old. let w = are k old in (w.0, w.1, snoc-old ps p w.1 w.0 w.2, w.3))
     (λ new. (length ps, p, snoc-new ps p, new))

@@ -4,8 +4,8 @@ use Rattle.hub_cert.specs.declared.fault.CheckFault.{CheckFault}
 use Rattle.hub_cert.specs.declared.fault.CheckFault.TheVariants as fault
 use Rattle.hub_cert.specs.declared.goal.Goal.{Goal}
 use Rattle.hub_cert.specs.declared.goal.Goal.TheVariants as goal
-use Rattle.hub_rounds.specs.declared.placing.Reason.{Reason}
-use Rattle.hub_rounds.specs.declared.placing.Reason.TheVariants.{Breach, TooLarge}
+use Rattle.hub_rounds.specs.declared.placing.Obstacle.{Obstacle}
+use Rattle.hub_rounds.specs.declared.placing.Obstacle.TheVariants.{Breach, TooLarge}
 use Rattle.hub_rounds.specs.declared.subject.Subject.{Subject}
 use Rattle.hub_rounds.specs.declared.subject.Subject.TheVariants.{Pair, Alone, Nothing}
 
@@ -43,5 +43,5 @@ abbrev pub HasPair : List CheckFault → ℕ → ℕ → Type 0
 HasPair es i j = (e : CheckFault) × Contains es e × (names_pair (subject_of e) i j ≡ true)
 
 -- One of the lines is about this profile alone, and says why it is in no round.
-abbrev pub HasOwnLine : List CheckFault → ℕ → Reason → Type 0
+abbrev pub HasOwnLine : List CheckFault → ℕ → Obstacle → Type 0
 HasOwnLine es i why = (e : CheckFault) × Contains es e × (subject_of e ≡ Alone i why)

@@ -7,30 +7,30 @@ use Rattle.hub_cert.specs.declared.fault.CheckFault.{CheckFault}
 use Rattle.hub_rounds.specs.Lines.{HasOwnLine, HasPair}
 use Rattle.hub_rounds.specs.declared.placing.Placed.{Placed}
 use Rattle.hub_rounds.specs.declared.placing.Placing.{Placing}
-use Rattle.hub_rounds.specs.declared.placing.Placing.TheVariants.{Round, Left}
+use Rattle.hub_rounds.specs.declared.placing.Placing.TheVariants.{Round, Unplaced}
 use Rattle.hub_rounds.specs.declared.rounds.Rounds.{Rounds}
 
 -- A profile stands in this round; in some round; and in no round below this number.
-abbrev pub is_in : ℕ → Placing → Bool
-is_in k (Round own) = own == k
-is_in k (Left why) = false
+abbrev pub is_in_round : ℕ → Placing → Bool
+is_in_round k (Round own) = own == k
+is_in_round k (Unplaced why) = false
 
 abbrev pub is_in_some : Placing → Bool
 is_in_some (Round own) = true
-is_in_some (Left why) = false
+is_in_some (Unplaced why) = false
 
 abbrev pub is_outside : ℕ → Placing → Bool
 is_outside n (Round own) = not (nat_lt own n)
-is_outside n (Left why) = true
+is_outside n (Unplaced why) = true
 
 -- The profiles of a round, in their order.
-abbrev pub members : ℕ → List Placed → List Parts
-members k ps = map (λ p. p.profile) (filter (λ p. is_in k p.placing) ps)
+abbrev pub profiles_in_round : ℕ → List Placed → List Parts
+profiles_in_round k ps = map (λ p. p.profile) (filter (λ p. is_in_round k p.placing) ps)
 
 -- A profile stands in one of so many rounds, or a line says why it is in none.
 abbrev pub IsPlaced : List CheckFault → ℕ → ℕ → Placing → Type 0
 IsPlaced es count i (Round k) = k < count
-IsPlaced es count i (Left why) = HasOwnLine es i why
+IsPlaced es count i (Unplaced why) = HasOwnLine es i why
 
 -- Each of them does.
 abbrev pub ArePlaced : List CheckFault → ℕ → List Placed → Type 0
@@ -38,14 +38,14 @@ ArePlaced es count ps =
     (i : ℕ) (p : Placed) → slice_get ps i ≡ Some p → IsPlaced es count i p.placing
 
 -- Rounds from one count up to another are opened by this profile.
-abbrev pub Opens : ℕ → ℕ → Placing → Type 0
-Opens before after q = (k : ℕ) → k < after → (k < before) ⊎ (is_in k q ≡ true)
+abbrev pub OpensRounds : ℕ → ℕ → Placing → Type 0
+OpensRounds before after q = (k : ℕ) → k < after → (k < before) ⊎ (is_in_round k q ≡ true)
 
 -- Of so many rounds each has a profile.
 abbrev pub AreUsed : ℕ → List Placed → Type 0
 AreUsed count ps =
     (k : ℕ) → k < count → (i : ℕ) × (p : Placed) × (slice_get ps i ≡ Some p)
-    × (is_in k p.placing ≡ true)
+    × (is_in_round k p.placing ≡ true)
 
 -- The profile of that number stands in a round.
 abbrev pub IsInRound : List Placed → ℕ → Type 0
@@ -70,7 +70,7 @@ pub record AreRounds (S : Members) (es : List CheckFault) (r : Rounds) : Type 0 
   pub placed : List Placed
   pub all : map (λ p. p.profile) placed ≡ S.profiles
   pub told : ArePlaced es (length r.rounds) placed
-  pub rounds : r.rounds ≡ map (λ k. members k placed) (range_with_len 0 (length r.rounds))
+  pub rounds : r.rounds ≡ map (λ k. profiles_in_round k placed) (range_with_len 0 (length r.rounds))
   pub left : r.left ≡ filter (λ p. not (is_in_some p.placing)) placed
   pub used : (k : ℕ) (Ps : List Parts) → slice_get r.rounds k ≡ Some Ps → Ps ≢ []
   pub safe : (k : ℕ) (Ps : List Parts) → slice_get r.rounds k ≡ Some Ps

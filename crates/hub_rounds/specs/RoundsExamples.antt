@@ -10,11 +10,11 @@ use Rattle.hub_cert.specs.declared.fault.CheckFault.TheVariants as fault
 use Rattle.hub_cert.specs.declared.goal.Goal.TheVariants as goal
 use Rattle.hub_cert.specs.declared.goal.Place.TheVariants.{Replica, Archive}
 use Rattle.hub_rounds.specs.Lines.{HasPair, names_pair, subject_of}
-use Rattle.hub_rounds.specs.Rounds.{is_in_some, is_outside, members}
+use Rattle.hub_rounds.specs.Rounds.{is_in_some, is_outside, profiles_in_round}
 use Rattle.hub_rounds.specs.declared.placing.Placed.{Placed}
 use Rattle.hub_rounds.specs.declared.placing.Placing.{Placing}
 use Rattle.hub_rounds.specs.declared.placing.Placing.TheVariants as placing
-use Rattle.hub_rounds.specs.declared.placing.Reason.TheVariants.{Breach, TooLarge}
+use Rattle.hub_rounds.specs.declared.placing.Obstacle.TheVariants.{Breach, TooLarge}
 use Rattle.hub_rounds.specs.declared.subject.Subject.TheVariants.{Pair, Alone, Nothing}
 
 -- A profile of that name.
@@ -51,16 +51,16 @@ abbrev office : List Placed
 office =
     standing (codes "docs") (placing.Round 0)
     ∷ standing (codes "office") (placing.Round 1)
-    ∷ standing (codes "lists") (placing.Left (Breach 0))
+    ∷ standing (codes "lists") (placing.Unplaced (Breach 0))
     ∷ standing (codes "photos") (placing.Round 0)
     ∷ []
 
-rounds_by_their_numbers : map (λ k. members k office) (0 ∷ 1 ∷ 2 ∷ [])
+rounds_by_their_numbers : map (λ k. profiles_in_round k office) (0 ∷ 1 ∷ 2 ∷ [])
     ≡ (named (codes "docs") ∷ named (codes "photos") ∷ []) ∷ (named (codes "office") ∷ []) ∷ [] ∷ []
 rounds_by_their_numbers = refl
 
 who_is_left : filter (λ p. not (is_in_some p.placing)) office
-    ≡ standing (codes "lists") (placing.Left (Breach 0)) ∷ []
+    ≡ standing (codes "lists") (placing.Unplaced (Breach 0)) ∷ []
 who_is_left = refl
 
 who_is_outside_of_the_first_round : map (λ p. p.profile)

@@ -4,7 +4,7 @@ ghost use Rattle.hub_cert.specs.Goals.{is_goal};
 ghost use Rattle.hub_cert.specs.Set.{IsSafeSet};
 ghost use Rattle.hub_cert.specs.declared.fault.CheckFault.{CheckFault};
 ghost use Rattle.hub_cert.specs.declared.goal.Goal.{Goal};
-ghost use Rattle.hub_search.specs.Faults.{AreFaults, HasLine, IsRuledOut};
+ghost use Rattle.hub_search.specs.Faults.{AreFaults, HasLine, HasInductiveTexts};
 ghost use Rattle.hub_search.specs.Search.{Disproves, IsFirstFault};
 
 use hub_cert::laws::{certificates_make_a_set_safe, goals_are_listed_once};
@@ -52,7 +52,7 @@ pub fn clashes_of(alloc: Global, set: &ProfileSet) -> Result<Clashes, AllocError
     ensures disproved { IfOk result (λ es. (e : CheckFault) → Contains es e
         → Disproves set.now e) }
     ensures rest { IfOk result (λ es. (g : Goal) → IsTrue (is_goal set.now g)
-        → IsRuledOut set.now g ⊎ HasLine set.now es g) }
+        → HasInductiveTexts set.now g ⊎ HasLine set.now es g) }
     ensures first { IfOk result (λ es. (e : CheckFault) (rest : List CheckFault)
         → es ≡ e ∷ rest → IsFirstFault set.now e) }
     ensures safe { IfOk result (λ es. es ≡ [] → IsSafeSet set.now) }

@@ -39,6 +39,6 @@ mod subject;
 
 pub use clashes::{Clashes, clashes_of};
 pub use fault::RoundsFault;
-pub use placing::{Placed, Placing, Reason};
+pub use placing::{Obstacle, Placed, Placing};
 pub use rounds::{Rounds, rounds_of};
 pub use subject::{Subject, subject_of};

@@ -2,7 +2,7 @@
 //!
 //! Nothing is stated of these numbers. Who relies on a line looks at it.
 
-use crate::placing::Reason;
+use crate::placing::Obstacle;
 use crate::subject::{Subject, subject_of};
 use hub_cert::CheckFault;
 use std::alloc::{AllocError, Global};
@@ -47,10 +47,10 @@ impl Named {
     }
 
     /// Notes that the line of that number says why a profile is in no round.
-    fn note_alone(&mut self, profile: usize, reason: Reason, line: usize) {
+    fn note_alone(&mut self, profile: usize, reason: Obstacle, line: usize) {
         match reason {
-            Reason::Breach(_) => note_at(&mut self.breaches, profile, line),
-            Reason::TooLarge(_) => note_at(&mut self.too_large, profile, line),
+            Obstacle::Breach(_) => note_at(&mut self.breaches, profile, line),
+            Obstacle::TooLarge(_) => note_at(&mut self.too_large, profile, line),
         }
     }
 

@@ -2,7 +2,7 @@
 ghost use Rattle.std.specs.Prelude.{◌≡◌, ◌<◌, ◌≤◌, length, map, IfOk, IfSome};
 ghost use Rattle.hub_rounds.specs.Lines as said;
 ghost use Rattle.hub_rounds.specs.Lines.{HasOwnLine};
-ghost use Rattle.hub_rounds.specs.Rounds.{ArePlaced, AreUsed, IsPlaced, Opens, is_in, is_in_some};
+ghost use Rattle.hub_rounds.specs.Rounds.{ArePlaced, AreUsed, IsPlaced, OpensRounds, is_in_round, is_in_some};
 ghost use Rattle.hub_rounds.specs.declared.placing.Placing.TheVariants.{Round};
 ghost use Rattle.hub_rounds.specs.declared.subject.Subject.TheVariants.{Alone};
 
@@ -18,12 +18,12 @@ pub enum Placing {
     /// In the round of this number, from 0 on.
     Round(usize),
     /// In no round.
-    Left(Reason),
+    Unplaced(Obstacle),
 }
 
 /// Why a profile is in no round. Rules are numbered from 0 on.
 #[derive(Clone, Copy, Debug, PartialEq, Eq)]
-pub enum Reason {
+pub enum Obstacle {
     /// It may break this rule.
     Breach(usize),
     /// Whether it may break this rule has too many stages to be searched.
@@ -42,11 +42,11 @@ pub struct Placed {
 impl Placing {
     /// Returns whether this is the round of that number.
     pub fn is_round(self, round: usize) -> bool
-        ensures { result ≡ is_in round self }
+        ensures { result ≡ is_in_round round self }
     {
         match self {
             Placing::Round(own) => own == round,
-            Placing::Left(_) => false,
+            Placing::Unplaced(_) => false,
         }
     }
 
@@ -56,7 +56,7 @@ impl Placing {
     {
         match self {
             Placing::Round(_) => true,
-            Placing::Left(_) => false,
+            Placing::Unplaced(_) => false,
         }
     }
 }
@@ -93,10 +93,10 @@ fn placing_of(
 ) -> Result<Placing, AllocError>
     ensures told { IfOk result (λ p. IsPlaced lines.now (length seen.new.items) number p) }
     ensures grows { length seen.old.items ≤ length seen.new.items }
-    ensures opened { IfOk result (Opens (length seen.old.items) (length seen.new.items)) }
+    ensures opened { IfOk result (OpensRounds (length seen.old.items) (length seen.new.items)) }
 {
     if let Some(reason) = own_reason(lines, named, number) {
-        return Ok(Placing::Left(reason));
+        return Ok(Placing::Unplaced(reason));
     }
     let colour = match colours.get(number) {
         Some(Some(colour)) => *colour,
@@ -106,7 +106,7 @@ fn placing_of(
 }
 
 /// Returns why the profile of that number is in no round, if there is a line about it alone.
-fn own_reason(lines: &[CheckFault], named: &Named, number: usize) -> Option<Reason>
+fn own_reason(lines: &[CheckFault], named: &Named, number: usize) -> Option<Obstacle>
     ensures { IfSome result (λ why. HasOwnLine lines.now number why) }
 {
     let line = named.own_line(number)?;
@@ -115,7 +115,7 @@ fn own_reason(lines: &[CheckFault], named: &Named, number: usize) -> Option<Reas
 }
 
 /// Returns why the profile of that number is in no round, if the line is about it alone.
-fn reason_of(line: &CheckFault, number: usize) -> Option<Reason>
+fn reason_of(line: &CheckFault, number: usize) -> Option<Obstacle>
     ensures { IfSome result (λ why. said.subject_of line.now ≡ Alone number why) }
 {
     let Subject::Alone { profile, reason } = subject_of(line) else {
@@ -132,7 +132,7 @@ fn reason_of(line: &CheckFault, number: usize) -> Option<Reason>
 fn round_of(seen: &mut Vec<usize>, colour: usize) -> Result<usize, AllocError>
     ensures below { IfOk result (λ k. k < length seen.new.items) }
     ensures grows { length seen.old.items ≤ length seen.new.items }
-    ensures opened { IfOk result (λ k. Opens (length seen.old.items) (length seen.new.items)
+    ensures opened { IfOk result (λ k. OpensRounds (length seen.old.items) (length seen.new.items)
         (Round k)) }
 {
     if let Some(round) = seen.iter().position(|own| *own == colour) {

@@ -2,7 +2,7 @@
 ghost use Rattle.std.specs.Prelude.{◌≡◌, ◌<◌, ℕ, not, filter, map, IfOk, OnOk};
 ghost use Rattle.std.specs.List.{range_with_len};
 ghost use Rattle.hub_cert.specs.Set.{IsSafeSet};
-ghost use Rattle.hub_rounds.specs.Rounds.{AreRounds, is_in, is_outside, members};
+ghost use Rattle.hub_rounds.specs.Rounds.{AreRounds, is_in_round, is_outside, profiles_in_round};
 
 use crate::clashes::Clashes;
 use crate::clique::rivals_of;
@@ -64,12 +64,12 @@ fn cut(
     rules: Rules,
 ) -> Result<(Items<Items<Profile>>, Items<Placed>, Rules), RoundsFault>
     ensures rounds { IfOk result
-        (λ r. r.0 ≡ map (λ k. members k placed.items) (range_with_len 0 count)) }
+        (λ r. r.0 ≡ map (λ k. profiles_in_round k placed.items) (range_with_len 0 count)) }
     ensures left { IfOk result
         (λ r. r.1 ≡ filter (λ p. is_outside count p.placing) placed.items) }
     ensures rules { IfOk result (λ r. r.2 ≡ rules) }
     ensures safe { IfOk result (λ r. (k : ℕ) → k < count → IsSafeSet
-        (record { profiles = members k placed.items; rules = rules })) }
+        (record { profiles = profiles_in_round k placed.items; rules = rules })) }
 {
     let mut rest = placed;
     let mut rules = rules;
@@ -90,9 +90,9 @@ fn take_round(
     placed: Vec<Placed>,
     round: usize,
 ) -> Result<(Items<Profile>, Vec<Placed>), AllocError>
-    ensures own { IfOk result (λ r. r.0 ≡ members round placed.items) }
+    ensures own { IfOk result (λ r. r.0 ≡ profiles_in_round round placed.items) }
     ensures others { IfOk result (λ r.
-        r.1.items ≡ filter (λ p. not (is_in round p.placing)) placed.items) }
+        r.1.items ≡ filter (λ p. not (is_in_round round p.placing)) placed.items) }
 {
     let mut own = Items::new(alloc);
     let mut others = Vec::new(alloc);

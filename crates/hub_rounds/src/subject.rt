@@ -2,7 +2,7 @@
 ghost use Rattle.std.specs.Prelude.{◌≡◌};
 ghost use Rattle.hub_rounds.specs.Lines as said;
 
-use crate::placing::Reason;
+use crate::placing::Obstacle;
 use hub_cert::{CheckFault, Goal};
 
 /// What a line of [`crate::Clashes`] says of which profiles, by their numbers.
@@ -20,7 +20,7 @@ pub enum Subject {
         /// The profile.
         profile: usize,
         /// Why it is in no round.
-        reason: Reason,
+        reason: Obstacle,
     },
     /// Nothing. `clashes_of` returns no such line.
     Nothing,
@@ -37,7 +37,7 @@ pub fn subject_of(line: &CheckFault) -> Subject
         },
         CheckFault::Breach { profile, rule, .. } => Subject::Alone {
             profile: *profile,
-            reason: Reason::Breach(*rule),
+            reason: Obstacle::Breach(*rule),
         },
         CheckFault::TooLarge { goal } => subject_of_goal(*goal),
         _ => Subject::Nothing,
@@ -52,7 +52,7 @@ fn subject_of_goal(goal: Goal) -> Subject
         Goal::Clash { writer, other, .. } => Subject::Pair { writer, other },
         Goal::Breach { profile, rule } => Subject::Alone {
             profile,
-            reason: Reason::TooLarge(rule),
+            reason: Obstacle::TooLarge(rule),
         },
     }
 }

@@ -24,9 +24,10 @@ use Rattle.hub_job.specs.JobValue.{JobValue, after_turn}
 use Rattle.hub_history.specs.Book.{BookValue}
 use Rattle.hub_schedule.specs.Promise.{Settles}
 use Rattle.hub_schedule.specs.Simulated.{HaveEnded}
-use Rattle.hub_runner.specs.Settling.{AreCompared, AreConsistent, EndAsTheyAre, end_value}
+use Rattle.hub_runner.specs.Settling.{AreCompared, AreConsistent, EndAsTheyAre}
 use Rattle.hub_runner.specs.Working.{AreEnded, AsksFor, asks_nothing, is_ended}
 use Rattle.hub_runner.proofs.Lists.{only, passed}
+use Rattle.hub_schedule.specs.Ended.{ended_value}
 
 -- A job that asks for an operation in its turn has asked for it.
 pub asks_after : (J K : JobValue) (side : Side) (op : Op) → K ≡ after_turn J K.stopped (Ask side op) → AsksFor K op
@@ -69,8 +70,8 @@ have_ended S Ps jobs o long due ends over = λ j e at.
     let inside = slice_get_within o.jobs j e at in
     let w = due_job jobs j (due.1 j (omega (arith, inside, long))) in
     let J = w.1 in
-    let there : slice_get o.jobs j ≡ Some (end_value J) = subst (λ i. slice_get o.jobs i ≡ Some (end_value J)) w.3 (ends w.0 J w.2) in
-    let same : end_value J ≡ e = same_Some (end_value J) e (sym there ∙ at) in
+    let there : slice_get o.jobs j ≡ Some (ended_value J) = subst (λ i. slice_get o.jobs i ≡ Some (ended_value J)) w.3 (ends w.0 J w.2) in
+    let same : ended_value J ≡ e = same_Some (ended_value J) e (sym there ∙ at) in
     subst (λ (d : JobEnd). d.end ≢ end.Unfinished) same (has_ended J (over w.0 J w.2))
 
 -- What is settled of jobs that are over has ended.

@@ -16,20 +16,20 @@ use Rattle.hub_job.specs.declared.outcome.Outcome.{Outcome}
 use Rattle.hub_job.specs.JobValue.{JobValue}
 use Rattle.hub_job.specs.Outcome.{archive_of, jobs_of, replicas_of, IsOutcomeWith}
 use Rattle.hub_job.specs.Run.{Runs, root_at}
-use Rattle.hub_job.specs.Laws.Untouched.{path_itself}
+use Rattle.hub_job.specs.Laws.Untouched.{path-of_Some}
 use Rattle.hub_history.specs.Book.{BookValue, IsBook}
 use Rattle.hub_schedule.specs.declared.slot.WorkingTree.{WorkingTree}
-use Rattle.hub_schedule.specs.Ended.{AreEnded, IsEnded, ended_value}
+use Rattle.hub_schedule.specs.Ended.{AreEndedWith, IsEnded, ended_value}
 use Rattle.hub_job.specs.History.{replay, entries_at, IsLegal, Agree}
 use Rattle.hub_schedule.specs.Promise.{HasReplicas, Settles, log_or_none, logs_in}
 use Rattle.hub_schedule.specs.Refusals.{first_missing}
 use Rattle.hub_schedule.specs.Settled.{AreProfiles, IsSettled}
-use Rattle.hub_schedule.specs.Table.{AreTrees, IsPlaced}
-use Rattle.hub_schedule.specs.Laws.Lists.{as_long, listed, one_with, map_at, map_get}
+use Rattle.hub_schedule.specs.Table.{AreTrees, IsTreeNumber}
+use Rattle.hub_schedule.specs.Laws.Lists.{as_long, any-at, one_with, map_at, map_get}
 use Rattle.hub_job.specs.Laws.Roots.{has_own}
 use Rattle.hub_schedule.specs.Laws.Missing.{have_replicas}
 use Rattle.hub_runner.specs.Ordered.{AreInOrder, AreNumbered, AreTreesOf, is_due, of_book, of_tree}
-use Rattle.hub_runner.specs.Settling.{AreCompared, AreConsistent, EndAsTheyAre, Agrees, OpensAs, books_at, end_value, history_at, history_or_none, log_at, log_or_nothing, places}
+use Rattle.hub_runner.specs.Settling.{AreCompared, AreConsistent, EndAsTheyAre, Agrees, OpensAs, books_at, history_at, history_or_none, log_at, log_or_nothing, compared_places}
 use Rattle.hub_runner.proofs.Lists.{all_at, count_filter, count_map, found_first, is_only, only, passed, passes, same_place}
 use Rattle.hub_runner.proofs.Roots.{at_book, at_job}
 
@@ -97,7 +97,7 @@ module _ (S : State) (Ps : List Parts) (jobs : List JobValue) (due : AreConsiste
           let one = ended_there J.number J.profile there.0 in
           let w = order.each J.number one.0 one.1 in
           let same : one.0 ≡ J = same_job w.0.place k one.0 J w.0.there at w.1 in
-          ap (λ es. slice_get es J.number) ends ∙ (map_at ended_value ended J.number one.0 one.1 ∙ ap (λ (K : JobValue). Some (end_value K)) same)
+          ap (λ es. slice_get es J.number) ends ∙ (map_at ended_value ended J.number one.0 one.1 ∙ ap (λ (K : JobValue). Some (ended_value K)) same)
 
       runs : (j : ℕ) (P : Parts) → slice_get Ps j ≡ Some P → Runs P (archive_of S (slice_get Ps j)) j [] (logs_in o j)
       runs j P at =
@@ -119,7 +119,7 @@ module _ (S : State) (Ps : List Parts) (jobs : List JobValue) (due : AreConsiste
           ap (log_at jobs) (sym w.1) ∙ (log_is w.0.place one.0 w.0.there ∙ sym (log_in j one.0 one.1))
 
 -- The books, each by its root.
-module _ (S : State) (Ps : List Parts) (books : List BookValue) (jobs : List JobValue) (right : All (Agrees S Ps books jobs) (places Ps)) where
+module _ (S : State) (Ps : List Parts) (books : List BookValue) (jobs : List JobValue) (right : All (Agrees S Ps books jobs) (compared_places Ps)) where
   abbrev dues : List BookValue
   dues = filter (is_due Ps) books
 
@@ -141,7 +141,7 @@ module _ (S : State) (Ps : List Parts) (books : List BookValue) (jobs : List Job
         let B = w.0 in
         let from = passed (λ C. path_eq C.root r) books 0 B (ap (λ Bs. slice_get Bs 0) w.1) in
         let root : B.root ≡ r = same_paths B.root r from.1 in
-        let due : is_due Ps B ≡ true = subst (λ q. list_any (λ Q. has_root Q q) Ps ≡ true) (sym root) (listed (λ Q. has_root Q r) Ps j P at has) in
+        let due : is_due Ps B ≡ true = subst (λ q. list_any (λ Q. has_root Q q) Ps ≡ true) (sym root) (any-at (λ Q. has_root Q r) Ps j P at has) in
         let at_root = passes (is_due Ps) books from.0.0 B from.0.1 due in (
           B,
           record { alone = w.1; opens = w.2; root = root; place = at_root.0; there = at_root.1 },
@@ -171,7 +171,7 @@ module _ (S : State) (Ps : List Parts) (books : List BookValue) (jobs : List Job
         let root : B.root ≡ t.root.now = ap (λ z. z.0) (sym w.2) in
         let any = one_with (λ P. has_root P B.root) Ps from.1 in
         let own = book_of any.0 any.1 B.root any.2 any.3 in
-        let same : own.0 ≡ B = is_only (λ C. path_eq C.root B.root) books own.0 from.0.0 B own.1.alone from.0.1 (path_itself B.root B.root refl) in
+        let same : own.0 ≡ B = is_only (λ C. path_eq C.root B.root) books own.0 from.0.0 B own.1.alone from.0.1 (path-of_Some B.root B.root refl) in
         record {
           book = B;
           same = sym w.2;
@@ -196,12 +196,12 @@ module _ (S : State) (Ps : List Parts) (books : List BookValue) (jobs : List Job
         let fewer = count_filter (λ C. path_eq C.root r) (is_due Ps) books in
         let all : length (filter q (map of_tree trees)) ≡ length (filter (λ C. path_eq C.root r) dues) = ap (λ zs. length (filter q zs)) are.values ∙ count_map q of_book dues in
         let few : length (filter q (map of_tree trees)) ≤ 1 = omega (arith, one, fewer, all) in
-        same_place q (map of_tree trees) i k (of_tree t) (of_tree u) few (map_at of_tree trees i t at) (path_itself t.root.now r (ap (λ p. Some p) same)) (map_at of_tree trees k u too) (path_itself r r refl)
+        same_place q (map of_tree trees) i k (of_tree t) (of_tree u) few (map_at of_tree trees i t at) (path-of_Some t.root.now r (ap (λ p. Some p) same)) (map_at of_tree trees k u too) (path-of_Some r r refl)
 
     are_trees : AreTrees left trees
     are_trees = record { each = tree_is; once = once }
 
-    placed : (j : ℕ) (P : Parts) (r : Path) → slice_get Ps j ≡ Some P → has_root P r ≡ true → (n : ℕ) × IsPlaced trees r n
+    placed : (j : ℕ) (P : Parts) (r : Path) → slice_get Ps j ≡ Some P → has_root P r ≡ true → (n : ℕ) × IsTreeNumber trees r n
     placed j P r at has =
         let b = book_of j P r at has in
         let at_root = ap (λ zs. slice_get zs b.1.place) are.values ∙ map_at of_book dues b.1.place b.0 b.1.there in
@@ -220,7 +220,7 @@ module _ (S : State) (Ps : List Parts) (books : List BookValue) (jobs : List Job
 
     -- They fit together with the jobs.
     module _ (due : AreConsistent S Ps jobs) (ended : List JobValue) (order : AreInOrder (length Ps) jobs ended) (facts : AreProfiles Ps) where
-      pub are_ended : AreEnded S Ps left ended trees
+      pub are_ended : AreEndedWith S Ps left ended trees
       are_ended = record {
         each = is_ended S Ps jobs due ended order;
         count = order.count;
@@ -243,7 +243,7 @@ module _ (S : State) (Ps : List Parts) (books : List BookValue) (jobs : List Job
 
     -- What is told of an outcome that there may be.
     module _ (E : Type 0) (there : first_missing S Ps ≡ None) (due : AreConsistent S Ps jobs) (ended : List JobValue) (order : AreInOrder (length Ps) jobs ended) (facts : AreProfiles Ps) where
-      pub settled_for : (r : Result Outcome E) → IfOk r (λ o. (Qs : List Parts) (replica : Path → Replica) → HasReplicas S Qs → AreEnded S Qs replica ended trees → IsOutcomeWith S Qs (logs_in o) replica o)
+      pub settled_for : (r : Result Outcome E) → IfOk r (λ o. (Qs : List Parts) (replica : Path → Replica) → HasReplicas S Qs → AreEndedWith S Qs replica ended trees → IsOutcomeWith S Qs (logs_in o) replica o)
           → IfOk r (λ o. o.jobs ≡ map ended_value ended) → IfOk r (Settles S Ps (history_at books))
       settled_for (Ok o) outcome ends = settles due ended order facts o ends (outcome Ps left (have_replicas S Ps there) (are_ended due ended order facts))
       settled_for (Err e) outcome ends = tt
@@ -260,11 +260,11 @@ module _ (S : State) {Qs Ps : List Parts} (value : Qs ≡ Ps) (books : List Book
   their_order : AreInOrder (length Ps) jobs ended
   their_order = subst (λ (n : ℕ). AreInOrder n jobs ended) (ap length value) order
 
-  pub fit_together : (Rs : List Parts) × (replica : Path → Replica) × AreEnded S Rs replica ended trees
+  pub fit_together : (Rs : List Parts) × (replica : Path → Replica) × AreEndedWith S Rs replica ended trees
   fit_together = (Ps, (λ (r : Path). replay (replicas_of S r) (history_at books r)), are_ended S Ps books jobs compared.right trees their_trees compared.due ended their_order facts)
 
   module _ {E : Type 0} (r : Result Outcome E) (ends : IfOk r (λ o. o.jobs ≡ map ended_value ended)) where
-    pub all_settle : IfOk r (λ o. (Rs : List Parts) (replica : Path → Replica) → HasReplicas S Rs → AreEnded S Rs replica ended trees → IsOutcomeWith S Rs (logs_in o) replica o) → IfOk r (Settles S Ps (history_at books))
+    pub all_settle : IfOk r (λ o. (Rs : List Parts) (replica : Path → Replica) → HasReplicas S Rs → AreEndedWith S Rs replica ended trees → IsOutcomeWith S Rs (logs_in o) replica o) → IfOk r (Settles S Ps (history_at books))
     all_settle outcome = settled_for S Ps books jobs compared.right trees their_trees E compared.there compared.due ended their_order facts r outcome ends
 
     pub all_end : IfOk r (EndAsTheyAre jobs)

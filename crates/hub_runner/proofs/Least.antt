@@ -6,7 +6,7 @@ use Rattle.std.proofs.lemmas.Bool.Decides.{nat_tests}
 use Rattle.std.proofs.lemmas.Option.{slice_get_within}
 use Rattle.hub_text.specs.ListLaws.{also-here}
 use Rattle.hub_job.specs.JobValue.{JobValue}
-use Rattle.hub_runner.specs.Inconsistent.{AllAreBelow, IsLeastFrom, lower, lower_of}
+use Rattle.hub_runner.specs.Inconsistent.{AllAreBelow, IsLeastFrom, lower_at, lower_of}
 
 -- Of the first i jobs.
 abbrev pub LeastUpTo : List JobValue → ℕ → ℕ → Option ℕ → Type 0
@@ -37,7 +37,7 @@ by_test : (jobs : List JobValue) (i n : ℕ) (J : JobValue) (o : Option ℕ) (b 
 by_test jobs i n J o true e at least = let below : J.number < n = grind (arith, nat_tests, e) in below_more jobs i n J o at below least
 by_test jobs i n J o false e at least = let within : n ≤ J.number = grind (arith, nat_tests, e) in within_more jobs i n J o at within least
 
-pub least_more : (jobs : List JobValue) (i n : ℕ) (J : JobValue) (o : Option ℕ) → slice_get jobs i ≡ Some J → LeastUpTo jobs i n o → LeastUpTo jobs (i + 1) n (lower n o J.number)
+pub least_more : (jobs : List JobValue) (i n : ℕ) (J : JobValue) (o : Option ℕ) → slice_get jobs i ≡ Some J → LeastUpTo jobs i n o → LeastUpTo jobs (i + 1) n (lower_at n o J.number)
 least_more jobs i n J o at least = by_test jobs i n J o (nat_lt J.number n) refl at least
 
 -- Of all jobs.

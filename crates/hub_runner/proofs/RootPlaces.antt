@@ -8,7 +8,7 @@ use Rattle.hub_profile.specs.Parts.{Parts}
 use Rattle.hub_state.specs.State.{State}
 use Rattle.hub_job.specs.JobValue.{JobValue}
 use Rattle.hub_history.specs.Book.{BookValue}
-use Rattle.hub_runner.specs.Settling.{Agrees, Disagrees, places, places_at, roots_of}
+use Rattle.hub_runner.specs.Settling.{Agrees, Disagrees, compared_places, places_at, roots_of}
 use Rattle.hub_runner.proofs.Firsts.{IsFirst, RightBefore, first_more, right_in_all, right_more}
 use Rattle.hub_runner.proofs.JobPlaces.{Place}
 
@@ -29,7 +29,7 @@ module _ (S : State) (Ps : List Parts) (books : List BookValue) (jobs : List Job
       at = slice_get_read rs (length rs) i own refl inside read ∙ ap (λ (q : Path). Some q) (sym borrowed)
 
       module _ {o : Option (Option ℕ)} (answer : MatchOption o (All Right (places_of r)) (λ job. IsFirst Right Wrong (places_of r) (r, job))) where
-        pub wrong_root : (job : Option ℕ) → o ≡ Some job → rs ≡ roots_of Ps → IsFirst Right Wrong (places Ps) (r, job)
+        pub wrong_root : (job : Option ℕ) → o ≡ Some job → rs ≡ roots_of Ps → IsFirst Right Wrong (compared_places Ps) (r, job)
         wrong_root job e roots =
             let first : IsFirst Right Wrong (places_of r) (r, job) =
             MatchOption-at_some (All Right (places_of r)) (λ (j : Option ℕ). IsFirst Right Wrong (places_of r) (r, j)) job e answer in
@@ -39,5 +39,5 @@ module _ (S : State) (Ps : List Parts) (books : List BookValue) (jobs : List Job
         roots_more e =
             right_more places_of Right Wrong rs i r at before (MatchOption-at_none (All Right (places_of r)) (λ (j : Option ℕ). IsFirst Right Wrong (places_of r) (r, j)) e answer)
 
-    pub roots_are_right : length rs ≤ i → rs ≡ roots_of Ps → All Right (places Ps)
+    pub roots_are_right : length rs ≤ i → rs ≡ roots_of Ps → All Right (compared_places Ps)
     roots_are_right all roots = subst (λ (qs : List Path). All Right (flat_map places_of qs)) roots (right_in_all places_of Right rs i all before)

@@ -12,9 +12,9 @@ use Rattle.hub_profile.specs.Parts.{Parts, IsProfile, at_side}
 use Rattle.hub_reach.specs.Reach.{has_root}
 use Rattle.hub_reconcile.specs.Sync.{root_or_top}
 use Rattle.hub_job.specs.Run.{root_at}
-use Rattle.hub_job.specs.Laws.Untouched.{path_itself}
+use Rattle.hub_job.specs.Laws.Untouched.{path-of_Some}
 use Rattle.hub_job.specs.Laws.Roots.{two_roots}
-use Rattle.hub_runner.specs.Settling.{with_new, roots_of, places, places_at}
+use Rattle.hub_runner.specs.Settling.{with_new, roots_of, compared_places, places_at}
 use Rattle.hub_runner.proofs.Lists.{all_flat, all_range}
 
 -- A profile has its two roots, and no other.
@@ -49,7 +49,7 @@ in_front r (s ∷ rs) ss e =
     ]
 
 in_last : (r : Path) (rs : List Path) → is_in r (rs ++ r ∷ []) ≡ true
-in_last r [] = in_first r r [] (path_itself r r refl)
+in_last r [] = in_first r r [] (path-of_Some r r refl)
 in_last r (s ∷ rs) = in_later r s (rs ++ r ∷ []) (in_last r rs)
 
 still_in : (r s : Path) (rs : List Path) → is_in r rs ≡ true → is_in r (with_new rs s) ≡ true
@@ -101,7 +101,7 @@ place_of r (s ∷ rs) e =
     ]
 
 -- What holds at all places holds at the book of each root, and at each job there.
-module _ (Q : Path × Option ℕ → Type 0) (Ps : List Parts) (all : All Q (places Ps)) (j : ℕ) (P : Parts) (r : Path) (at : slice_get Ps j ≡ Some P) (has : has_root P r ≡ true) where
+module _ (Q : Path × Option ℕ → Type 0) (Ps : List Parts) (all : All Q (compared_places Ps)) (j : ℕ) (P : Parts) (r : Path) (at : slice_get Ps j ≡ Some P) (has : has_root P r ≡ true) where
   here : All Q (places_at (length Ps) r)
   here = let w = place_of r (roots_of Ps) (root_in Ps j P r at has) in all_flat Q (places_at (length Ps)) (roots_of Ps) w.0 r all w.1
 

@@ -16,7 +16,7 @@ use Rattle.hub_schedule.specs.Refusals.{first_missing}
 use Rattle.hub_schedule.specs.Settled.{AreProfiles}
 use Rattle.hub_schedule.specs.Laws.Missing.{have_replicas}
 use Rattle.hub_schedule.specs.Laws.Unchanged.{IsStateFor, promise_none}
-use Rattle.hub_runner.specs.Settling.{AreCompared, AreConsistent, IsFirstMismatch, IsLowestInconsistent, Agrees, IsUnsettled, history_at, history_shown, log_shown, places}
+use Rattle.hub_runner.specs.Settling.{AreCompared, AreConsistent, IsFirstMismatch, IsLowestInconsistent, Agrees, IsUnsettled, history_at, history_shown, log_shown, compared_places}
 
 -- What is told of a comparison, where Qs are the profiles as the program reads them.
 module _ (S : State) {Qs Ps : List Parts} (value : Qs ≡ Ps) (books : List BookValue) (jobs : List JobValue) (none_missing : None ≡ first_missing S Qs) where
@@ -30,12 +30,12 @@ module _ (S : State) {Qs Ps : List Parts} (value : Qs ≡ Ps) (books : List Book
     due : AreConsistent S Ps jobs
     due = subst (λ (Rs : List Parts). AreConsistent S Rs jobs) value none_odd
 
-    pub mismatch_is : (f : RunFault) (r : Path) (j : Option ℕ) → IsFirstMismatch S Ps books jobs (places Ps) (r, j) → f ≡ Mismatch r j (history_shown books r j) (log_shown Qs jobs r j) → IsUnsettled S Ps books jobs f
+    pub mismatch_is : (f : RunFault) (r : Path) (j : Option ℕ) → IsFirstMismatch S Ps books jobs (compared_places Ps) (r, j) → f ≡ Mismatch r j (history_shown books r j) (log_shown Qs jobs r j) → IsUnsettled S Ps books jobs f
     mismatch_is f r j first e =
         let shown : f ≡ Mismatch r j (history_shown books r j) (log_shown Ps jobs r j) = e ∙ ap (λ (Rs : List Parts). Mismatch r j (history_shown books r j) (log_shown Rs jobs r j)) value in
         subst (IsUnsettled S Ps books jobs) (sym shown) (there, due, first, refl, refl)
 
-    pub are_compared : All (Agrees S Ps books jobs) (places Ps) → AreCompared S Ps books jobs
+    pub are_compared : All (Agrees S Ps books jobs) (compared_places Ps) → AreCompared S Ps books jobs
     are_compared right = record { there = there; due = due; right = right }
 
 abbrev pub Law : Type 0

@@ -30,5 +30,5 @@ abbrev pub lower_of : Option ℕ → ℕ → Option ℕ
 lower_of None i = Some i
 lower_of (Some j) i = Some (min j i)
 
-abbrev pub lower : ℕ → Option ℕ → ℕ → Option ℕ
-lower n o i = if nat_lt i n then o else lower_of o i
+abbrev pub lower_at : ℕ → Option ℕ → ℕ → Option ℕ
+lower_at n o i = if nat_lt i n then o else lower_of o i

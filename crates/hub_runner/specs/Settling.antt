@@ -7,16 +7,15 @@ use Rattle.hub_reach.specs.Reach.{has_root}
 use Rattle.hub_state.specs.State.{State, replica_at}
 use Rattle.hub_job.specs.declared.log.Entry.{Entry}
 use Rattle.hub_job.specs.declared.log.Logged.{Logged}
-use Rattle.hub_job.specs.declared.job_end.JobEnd.{JobEnd}
 use Rattle.hub_job.specs.declared.outcome.Outcome.{Outcome}
 use Rattle.hub_job.specs.declared.run_fault.RunFault.{RunFault}
 use Rattle.hub_job.specs.declared.run_fault.RunFault.TheVariants as fault
-use Rattle.hub_job.specs.Ends.{end_of, items_of}
 use Rattle.hub_job.specs.JobValue.{JobValue}
 use Rattle.hub_job.specs.Outcome.{archive_of}
 use Rattle.hub_history.specs.Book.{BookValue}
 use Rattle.hub_job.specs.History.{entries_of, entries_at}
 use Rattle.hub_schedule.specs.Refusals.{first_missing}
+use Rattle.hub_schedule.specs.Ended.{ended_value}
 
 -- The job has the set's profile of its number, and the archive of that profile's roots in the
 -- state.
@@ -97,8 +96,8 @@ abbrev pub places_at : ℕ → Path → List (Path × Option ℕ)
 places_at n r = (r, None) ∷ map (λ j. (r, Some j)) (range_with_len 0 n)
 
 -- The places in the order in which they are compared.
-abbrev pub places : List Parts → List (Path × Option ℕ)
-places Ps = flat_map (places_at (length Ps)) (roots_of Ps)
+abbrev pub compared_places : List Parts → List (Path × Option ℕ)
+compared_places Ps = flat_map (places_at (length Ps)) (roots_of Ps)
 
 -- The place is the first of these that is wrong: those before it are right.
 abbrev pub IsFirstMismatch : State → List Parts → List BookValue → List JobValue
@@ -129,7 +128,7 @@ IsUnsettled S Ps books jobs fault.TooManyWorkers = ⊥
 IsUnsettled S Ps books jobs (fault.MissingReplica r) = first_missing S Ps ≡ Some r
 IsUnsettled S Ps books jobs (fault.Mismatch r j history log) =
     (first_missing S Ps ≡ None) × AreConsistent S Ps jobs
-    × IsFirstMismatch S Ps books jobs (places Ps) (r, j)
+    × IsFirstMismatch S Ps books jobs (compared_places Ps) (r, j)
     × (history ≡ history_shown books r j) × (log ≡ log_shown Ps jobs r j)
 IsUnsettled S Ps books jobs (fault.BadTurn t) = ⊥
 IsUnsettled S Ps books jobs fault.ThreadRefused = ⊥
@@ -142,14 +141,10 @@ pub record AreCompared (S : State) (Ps : List Parts) (books : List BookValue)
     (jobs : List JobValue) : Type 0 where
   pub there : first_missing S Ps ≡ None
   pub due : AreConsistent S Ps jobs
-  pub right : All (Agrees S Ps books jobs) (places Ps)
-
--- How a job ends.
-abbrev pub end_value : JobValue → JobEnd
-end_value J = record { end = end_of J; log = J.log; items = items_of J }
+  pub right : All (Agrees S Ps books jobs) (compared_places Ps)
 
 -- Each job has ended by its number: as stopped, if it is, and else by its log.
 abbrev pub EndAsTheyAre : List JobValue → Outcome → Type 0
 EndAsTheyAre jobs o =
     (k : ℕ) (J : JobValue) → slice_get jobs k ≡ Some J
-    → slice_get o.jobs J.number ≡ Some (end_value J)
+    → slice_get o.jobs J.number ≡ Some (ended_value J)

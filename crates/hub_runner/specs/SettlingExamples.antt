@@ -3,7 +3,7 @@ use Rattle.std.specs.Prelude.{◌≡◌, ℕ, List, [], ◌∷◌, ◌++◌, len
 use Rattle.hub_path.specs.Path.{Path, path_of}
 use Rattle.hub_profile.specs.Parts.{Parts}
 use Rattle.hub_profile.specs.ExampleProfiles.{between}
-use Rattle.hub_runner.specs.Settling.{places, roots_of}
+use Rattle.hub_runner.specs.Settling.{compared_places, roots_of}
 
 abbrev root : List ℕ → Path
 root t = path_of t
@@ -24,9 +24,9 @@ a_root_stays_at_its_first_place : roots_of (star ++ star) ≡ roots_of star
 a_root_stays_at_its_first_place = refl
 
 -- At each root the book comes first, and then each job.
-places_go_by_roots_and_jobs : places (spoke (codes "s1") ∷ []) ≡ (root (codes "hub"), None)
+places_go_by_roots_and_jobs : compared_places (spoke (codes "s1") ∷ []) ≡ (root (codes "hub"), None)
     ∷ (root (codes "hub"), Some 0) ∷ (root (codes "s1"), None) ∷ (root (codes "s1"), Some 0) ∷ []
 places_go_by_roots_and_jobs = refl
 
-two_jobs_have_nine_places : length (places star) ≡ 9
+two_jobs_have_nine_places : length (compared_places star) ≡ 9
 two_jobs_have_nine_places = refl

@@ -33,9 +33,9 @@ pub(crate) fn find_mismatch<'a>(
 ) -> Result<Option<(&'a Root, Option<usize>)>, AllocError>
     ensures { IfOk result (λ o. MatchOption o
         (All (spec.Agrees state.now set.now.profiles books.now jobs.now)
-        (spec.places set.now.profiles))
+        (spec.compared_places set.now.profiles))
         (λ at. spec.IsFirstMismatch state.now set.now.profiles books.now jobs.now
-        (spec.places set.now.profiles) (at.0.now, at.1))) }
+        (spec.compared_places set.now.profiles) (at.0.now, at.1))) }
 {
     let roots = roots_of(alloc, set.profiles())?;
     for borrowed in roots.as_slice() {

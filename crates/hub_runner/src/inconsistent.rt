@@ -77,7 +77,7 @@ fn find_least(jobs: &[Job<'_>], from: usize) -> Option<usize>
 
 /// Returns the lower of a number that may be there and another one, unless that is below `from`.
 fn lower(least: Option<usize>, from: usize, number: usize) -> Option<usize>
-    ensures { result ≡ spec.lower from least number }
+    ensures { result ≡ spec.lower_at from least number }
 {
     if number < from {
         return least;

@@ -2,7 +2,7 @@
 use Rattle.std.proofs.Common.{◌≡◌, List, [], ◌∷◌, Some, refl, sym, ◌∙◌, subst}
 use Rattle.std.specs.Prelude.{ℕ, slice_get, IsTrue}
 use Rattle.std.proofs.lemmas.Bool.{false_from_ne_true}
-use Rattle.hub_reconcile.specs.Laws.Views.{same_paths, reached_names}
+use Rattle.hub_reconcile.specs.Laws.Views.{same_paths, reach-names}
 use Rattle.hub_path.specs.Path.{Path, path_eq}
 use Rattle.hub_profile.specs.Parts.{Parts}
 use Rattle.hub_reach.specs.Reach.{has_root, write}
@@ -26,7 +26,7 @@ unfolding after
 one_step sets Q r m (Look d) p may never = refl
 one_step sets Q r m (Fetch d) p may never = refl
 one_step sets Q r m (Set q c) p may never =
-    elsewhere sets m q p c (set_fault m q c) (reached_names Q q (write-reaches Q r q may))
+    elsewhere sets m q p c (set_fault m q c) (reach-names Q q (write-reaches Q r q may))
     (false_from_ne_true (path_eq p q) (λ e. never (subst (λ x. IsTrue (write Q r x)) (sym (same_paths p q e)) may)))
 
 stays : SetsOne → (Ps : List Parts) (r : Path) (m : Replica) (h : List Entry) (p : Path) → IsLegal Ps r m h → MayAll Ps r h → NobodyWrites Ps r p → contents_at (replay m h) p ≡ contents_at m p

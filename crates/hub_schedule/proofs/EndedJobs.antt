@@ -18,10 +18,10 @@ use Rattle.hub_job.specs.Run.{root_at}
 use Rattle.hub_job.specs.World.{World, log_of}
 use Rattle.hub_schedule.specs.declared.slot.Slot.{Slot}
 use Rattle.hub_schedule.specs.declared.slot.WorkingTree.{WorkingTree}
-use Rattle.hub_schedule.specs.Ended.{ended_value, IsEnded, HasPlaces, AreEnded, IsSlotOf, AreSlotsOf}
+use Rattle.hub_schedule.specs.Ended.{ended_value, IsEnded, HasPlaces, AreEndedWith, IsSlotOf, AreSlotsOf}
 use Rattle.hub_schedule.specs.Left.{end_value}
 use Rattle.hub_schedule.specs.Promise.{HasReplicas, log_or_none, logs_in}
-use Rattle.hub_schedule.specs.Table.{place_on, IsOutcomeAfter, IsPlaced, IsSlot, IsTable}
+use Rattle.hub_schedule.specs.Table.{place_on, IsOutcomeAfter, IsTreeNumber, IsSlot, ShowsWorld}
 use Rattle.hub_schedule.proofs.Opened.{get_push}
 
 abbrev job_log : JobValue → List Logged
@@ -45,7 +45,7 @@ pub logs_are : (replica : Path → Replica) (jobs : List JobValue) (o : Outcome)
 logs_are replica jobs o e = λ i j. (log_ended jobs j ∙ ap (λ es. log_or_none (slice_get es j)) (sym e)) i
 
 -- Each job's replicas are there.
-pub have_places : (S : State) (Ps : List Parts) (replica : Path → Replica) (jobs : List JobValue) (trees : List WorkingTree) → AreEnded S Ps replica jobs trees
+pub have_places : (S : State) (Ps : List Parts) (replica : Path → Replica) (jobs : List JobValue) (trees : List WorkingTree) → AreEndedWith S Ps replica jobs trees
     → (j : ℕ) (e : JobValue) → slice_get jobs j ≡ Some e → HasPlaces trees e.profile
 have_places S Ps replica jobs trees ended j e at = ended.places j e.profile (ended.each j e at).is
 
@@ -64,8 +64,8 @@ slot_is S Ps replica jobs trees j e s at ended is =
       places = is.places;
     }
 
-pub stands_for : (S : State) (Ps : List Parts) (replica : Path → Replica) (jobs : List JobValue) (trees : List WorkingTree) (slots : List Slot) → AreEnded S Ps replica jobs trees → AreSlotsOf trees jobs slots
-    → IsTable (jobs_of S Ps) (world_of replica jobs) slots trees
+pub stands_for : (S : State) (Ps : List Parts) (replica : Path → Replica) (jobs : List JobValue) (trees : List WorkingTree) (slots : List Slot) → AreEndedWith S Ps replica jobs trees → AreSlotsOf trees jobs slots
+    → ShowsWorld (jobs_of S Ps) (world_of replica jobs) slots trees
 stands_for S Ps replica jobs trees slots ended are = record {
   each = λ j s at. let of = are.each j s at in slot_is S Ps replica jobs trees j of.0 s of.1 (ended.each j of.0 of.1) of.2;
   count = are.count ∙ ended.count;
@@ -88,7 +88,7 @@ same_ends (d ∷ jobs) (s ∷ slots) e each =
 
 -- What the slots leave is what the jobs leave.
 pub outcome_is : (S : State) (jobs : List JobValue) (trees : List WorkingTree) (slots : List Slot) (o : Outcome) → AreSlotsOf trees jobs slots → IsOutcomeAfter S slots trees o → o.jobs ≡ map ended_value jobs
-    → (Ps : List Parts) (replica : Path → Replica) → HasReplicas S Ps → AreEnded S Ps replica jobs trees → IsOutcomeWith S Ps (logs_in o) replica o
+    → (Ps : List Parts) (replica : Path → Replica) → HasReplicas S Ps → AreEndedWith S Ps replica jobs trees → IsOutcomeWith S Ps (logs_in o) replica o
 outcome_is S jobs trees slots o are after ends Ps replica there ended =
     subst (λ log. IsOutcomeWith S Ps log replica o) (logs_are replica jobs o ends)
     (after.0 Ps (world_of replica jobs) there (stands_for S Ps replica jobs trees slots ended are))
@@ -99,7 +99,7 @@ module _ (E : Type 0) (S : State) (jobs : List JobValue) (trees : List WorkingTr
   same_jobs = same_ends jobs slots are.count (λ j s at. let w = are.each j s at in (w.0, w.1, w.2.job))
 
   pub outcome_for : (r : Result Outcome E) → IfOk r (IsOutcomeAfter S slots trees) → IfOk r (λ o. o.jobs ≡ map end_value slots)
-      → IfOk r (λ o. (Ps : List Parts) (replica : Path → Replica) → HasReplicas S Ps → AreEnded S Ps replica jobs trees → IsOutcomeWith S Ps (logs_in o) replica o)
+      → IfOk r (λ o. (Ps : List Parts) (replica : Path → Replica) → HasReplicas S Ps → AreEndedWith S Ps replica jobs trees → IsOutcomeWith S Ps (logs_in o) replica o)
   outcome_for (Ok o) after ends = outcome_is S jobs trees slots o are after (ends ∙ same_jobs)
   outcome_for (Err e) after ends = tt
 
@@ -117,6 +117,6 @@ slots_more trees jobs slots e s are of = record {
 }
 
 -- Both replicas of a job.
-pub on_both_sides : (trees : List WorkingTree) (P : Parts) (s : Slot) → IsPlaced trees (root_at P Left) s.left → IsPlaced trees (root_at P Right) s.right → (k : Side) → IsPlaced trees (root_at P k) (place_on s k)
+pub on_both_sides : (trees : List WorkingTree) (P : Parts) (s : Slot) → IsTreeNumber trees (root_at P Left) s.left → IsTreeNumber trees (root_at P Right) s.right → (k : Side) → IsTreeNumber trees (root_at P k) (place_on s k)
 on_both_sides trees P s left right Left = left
 on_both_sides trees P s left right Right = right

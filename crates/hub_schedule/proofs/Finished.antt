@@ -11,7 +11,7 @@ use Rattle.hub_tree.specs.Tree.{Replica, IsTree}
 use Rattle.hub_job.specs.declared.op.Next.{Next}
 use Rattle.hub_job.specs.declared.op.Next.TheVariants.{Finished, Stopped}
 use Rattle.hub_job.specs.Job.{next}
-use Rattle.hub_job.specs.Run.{root_at, pair_of, IsSynced}
+use Rattle.hub_job.specs.Run.{root_at, world_for, IsSynced}
 use Rattle.hub_job.specs.World.{World, Jobs, log_of, act, turn_of, turn, run, opening, alone}
 use Rattle.hub_job.specs.Laws.LoneJobs.{alone_synchronizes}
 
@@ -53,9 +53,9 @@ alone_enough J P replicas j m n is done h =
 
 pub finished_synced : (J : Jobs) (P : Parts) (replicas : Path → Replica) (j n : ℕ) → slice_get J.profiles j ≡ Some P → IsProfile P → IsTree (replicas (root_at P Left)) → IsTree (replicas (root_at P Right))
     → next P (J.archive j) (alone J replicas j n) ≡ Finished
-    → IsSynced P (replicas (root_at P Left)) (replicas (root_at P Right)) (J.archive j) (pair_of P j (run J (replicate n j) (opening J replicas)))
+    → IsSynced P (replicas (root_at P Left)) (replicas (root_at P Right)) (J.archive j) (world_for P j (run J (replicate n j) (opening J replicas)))
 finished_synced J P replicas j n is facts left right done =
     let turns = 4 * length P.paths + 3 * (fin.len (replicas (root_at P Left)) + fin.len (replicas (root_at P Right))) in
-    subst (λ w. IsSynced P (replicas (root_at P Left)) (replicas (root_at P Right)) (J.archive j) (pair_of P j w))
+    subst (λ w. IsSynced P (replicas (root_at P Left)) (replicas (root_at P Right)) (J.archive j) (world_for P j w))
     (alone_enough J P replicas j n (n + turns) is done (first_within n turns))
     (alone_synchronizes P facts j J is (n + turns) replicas left right (second_within n turns))

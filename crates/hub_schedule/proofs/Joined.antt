@@ -36,13 +36,13 @@ use Rattle.hub_job.specs.Outcome.{jobs_of}
 use Rattle.hub_schedule.specs.Promise.{HasReplicas}
 use Rattle.hub_job.specs.Run.{root_at}
 use Rattle.hub_schedule.specs.Settled.{AreProfiles}
-use Rattle.hub_schedule.specs.Table.{place_on, stopped_at, AllWouldAsk, IsOutcomeAfter, IsPlaced, IsTable, IsThinned}
+use Rattle.hub_schedule.specs.Table.{place_on, stopped_at, AllWouldAsk, IsOutcomeAfter, IsTreeNumber, ShowsWorld, IsThinned}
 use Rattle.hub_job.specs.World.{World, log_of, opening}
-use Rattle.hub_job.specs.Laws.Untouched.{path_itself}
+use Rattle.hub_job.specs.Laws.Untouched.{path-of_Some}
 use Rattle.hub_job.specs.Laws.Roots.{two_roots}
 use Rattle.hub_schedule.proofs.NextMarks.{IsNextOf, find_marks, some_leaves}
 use Rattle.hub_schedule.proofs.Promised.{root_place}
-use Rattle.hub_schedule.specs.Laws.Lists.{listed, one_with, map_get, map_at, as_long}
+use Rattle.hub_schedule.specs.Laws.Lists.{any-at, one_with, map_get, map_at, as_long}
 
 -- A root of a profile is that of a side.
 root_side : (P : Parts) (r : Path) → IsProfile P → has_root P r ≡ true → (k : Side) × (root_at P k ≡ r)
@@ -123,7 +123,7 @@ stopped_by false n e off = absurd (off (stops_next n e))
 
 -- A job that ends as stopped, though no answer in its log stops it, was stopped.
 pub was_stopped : (S : State) (slots : List Slot) (trees : List WorkingTree) (o : Outcome) → o.jobs ≡ map end_value slots
-    → (Ps : List Parts) (w : World) (j : ℕ) (P : Parts) (e : JobEnd) → IsTable (jobs_of S Ps) w slots trees → slice_get Ps j ≡ Some P → slice_get o.jobs j ≡ Some e → e.end ≡ end.Stopped
+    → (Ps : List Parts) (w : World) (j : ℕ) (P : Parts) (e : JobEnd) → ShowsWorld (jobs_of S Ps) w slots trees → slice_get Ps j ≡ Some P → slice_get o.jobs j ≡ Some e → e.end ≡ end.Stopped
     → next P (outcome.archive_of S (Some P)) e.log ≢ Stopped
     → (stopped_at slots j ≡ true) × (AllWouldAsk slots → 0 < steps_made e.log → next P (outcome.archive_of S (Some P)) e.log ≢ Finished)
 was_stopped S slots trees o jobs Ps w j P e table is at ended off =
@@ -140,7 +140,7 @@ was_stopped S slots trees o jobs Ps w j P e table is at ended off =
       λ all made done. false≢true (sym (ap is_ask (own_next ∙ done)) ∙ all j s.0 s.1 stopped (subst (λ l. 0 < steps_made l) (sym log) made)),
     )
 
-module _ (S : State) (Ps : List Parts) (has : HasReplicas S Ps) (w : World) (slots : List Slot) (trees : List WorkingTree) (table : IsTable (jobs_of S Ps) w slots trees) (o : Outcome)
+module _ (S : State) (Ps : List Parts) (has : HasReplicas S Ps) (w : World) (slots : List Slot) (trees : List WorkingTree) (table : ShowsWorld (jobs_of S Ps) w slots trees) (o : Outcome)
     (jobs : o.jobs ≡ map end_value slots) (same : o.state.replicas ≡ (fold put_tree S trees).replicas)
     (there : HasArchives (one_is_left (map next_value slots)) (fold put_tree S trees) o.state) (marks : HasMarks (mark_from (map next_value slots)) (fold put_tree S trees) o.state) where
   -- Jobs.
@@ -175,8 +175,8 @@ module _ (S : State) (Ps : List Parts) (has : HasReplicas S Ps) (w : World) (slo
   tree_place : (k : ℕ) (t : WorkingTree) → slice_get trees k ≡ Some t → is_place t.root.now ≡ true
   tree_place k t at = let P = one_with (λ P. has_root P t.root.now) Ps (table.roots k t at) in root_place P.1 t.root.now (facts P.0 P.1 P.2) P.3
 
-  listed_tree : (r : Path) (k : ℕ) → IsPlaced trees r k → list_any (is_there r) trees ≡ true
-  listed_tree r k p = listed (is_there r) trees k p.0 p.1 (path_itself r p.0.root.now (ap (λ q. Some q) (sym p.2)))
+  listed_tree : (r : Path) (k : ℕ) → IsTreeNumber trees r k → list_any (is_there r) trees ≡ true
+  listed_tree r k p = any-at (is_there r) trees k p.0 p.1 (path-of_Some r p.0.root.now (ap (λ q. Some q) (sym p.2)))
 
   root_there : (r : Path) (P : (j : ℕ) × (P : Parts) × (slice_get Ps j ≡ Some P) × (has_root P r ≡ true)) → list_any (is_there r) trees ≡ true
   root_there r P =
@@ -184,7 +184,7 @@ module _ (S : State) (Ps : List Parts) (has : HasReplicas S Ps) (w : World) (slo
       let a = table.each P.0 s.0 s.1 in
       let is : s.0.job.profile ≡ P.1 = slot_profile P.0 s.0 P.1 s.1 P.2 in
       let side = root_side s.0.job.profile r a.valid (ap (λ Q. has_root Q r) is ∙ P.3) in
-      listed_tree r (place_on s.0 side.0) (subst (λ q. IsPlaced trees q (place_on s.0 side.0)) side.1 (a.places side.0))
+      listed_tree r (place_on s.0 side.0) (subst (λ q. IsTreeNumber trees q (place_on s.0 side.0)) side.1 (a.places side.0))
 
   tree_root : (r : Path) → list_any (is_there r) trees ≡ true → list_any (λ P. has_root P r) Ps ≡ true
   tree_root r h = let t = one_with (is_there r) trees h in ap (λ q. list_any (λ P. has_root P q) Ps) (same_paths r t.1.root.now t.3) ∙ table.roots t.0 t.1 t.2
@@ -237,12 +237,12 @@ module _ (S : State) (Ps : List Parts) (has : HasReplicas S Ps) (w : World) (slo
       ∙ either_way (list_any leave (range_with_len 0 (length Ps))) before))
 
   marks_are : (r s p : Path) → IsTrue (is_place r) → IsTrue (is_place s) → r ≢ s
-      → mark_in o.state r s p ≡ outcome.mark_by S Ps (log_of w) p (mark_in S r s p) (find (outcome.takes o Ps r s p) (range_with_len 0 (length Ps)))
+      → mark_in o.state r s p ≡ outcome.mark_by S Ps (log_of w) p (mark_in S r s p) (find (outcome.takes_marks o Ps r s p) (range_with_len 0 (length Ps)))
   marks_are r s p one other off =
       marks r s p one other off
       ∙ (ap (mark_from (map next_value slots) r s p) (ap (λ a. old_mark_at (unwrap_or (fin.get a (pair_of r s)) fin.empty) p) (put_archives trees S))
       ∙ (find_marks S Ps (log_of w) o r s p (mark_in S r s p) (map next_value slots) 0 all_next
-      ∙ ap (λ n. outcome.mark_by S Ps (log_of w) p (mark_in S r s p) (find (outcome.takes o Ps r s p) (range_with_len 0 n))) many))
+      ∙ ap (λ n. outcome.mark_by S Ps (log_of w) p (mark_in S r s p) (find (outcome.takes_marks o Ps r s p) (range_with_len 0 n))) many))
 
   pub joined : outcome.IsOutcomeWith S Ps (log_of w) w.replica o
   joined = record {
@@ -260,7 +260,7 @@ pub none_stopped : (slots : List Slot) → ((j : ℕ) → stopped_at slots j ≡
 none_stopped slots going = λ j s at stopped made. absurd (false≢true (sym (going j) ∙ (ap (some_passes (λ (s : Slot). s.job.stopped)) at ∙ stopped)))
 
 -- The outcome of the schedule that was run.
-pub after_turns : {E : Type 0} (S : State) (Ps : List Parts) (w : World) (schedule : List ℕ) (before : ℕ → Bool) (slots : List Slot) (trees : List WorkingTree) (r : Result Outcome E) → ((j : ℕ) → before j ≡ false) → AllWouldAsk slots → HasReplicas S Ps → IsTable (jobs_of S Ps) w slots trees
+pub after_turns : {E : Type 0} (S : State) (Ps : List Parts) (w : World) (schedule : List ℕ) (before : ℕ → Bool) (slots : List Slot) (trees : List WorkingTree) (r : Result Outcome E) → ((j : ℕ) → before j ≡ false) → AllWouldAsk slots → HasReplicas S Ps → ShowsWorld (jobs_of S Ps) w slots trees
     → IsThinned (jobs_of S Ps) (opening (jobs_of S Ps) (outcome.replicas_of S)) w schedule before (stopped_at slots) → IfOk r (IsOutcomeAfter S slots trees) → IfOk r (outcome.IsSimulated S Ps schedule)
 after_turns S Ps w schedule before slots trees (Ok o) going more there table thinned h = (
   thinned.limit,

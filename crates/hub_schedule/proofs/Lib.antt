@@ -26,6 +26,6 @@ pub mod Simulation
 pub mod Turning
 pub mod Places
 pub mod Marked
-pub mod InRounds
-pub mod Rounded
+pub mod InCycles
+pub mod Cycled
 pub mod EndedJobs

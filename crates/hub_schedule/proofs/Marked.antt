@@ -12,7 +12,7 @@ use Rattle.hub_tree.specs.Tree.{Archive, old_mark_at}
 use Rattle.hub_state.specs.State.{State, archive_at, with_archive}
 use Rattle.hub_job.specs.Laws.Roots.{two_roots}
 use Rattle.hub_schedule.specs.Next.{NextValue}
-use Rattle.hub_schedule.specs.Left.{mark_in, mark_given, mark_from, mark_of_next, has_pair, is_left, one_is_left, HasArchives, HasMarks, KeepsUnreached, AreKept}
+use Rattle.hub_schedule.specs.Left.{mark_in, mark_given, mark_from, mark_of_next, has_pair, leaves_next_archive, one_is_left, HasArchives, HasMarks, KeepsUnreached, AreKept}
 use Rattle.hub_schedule.proofs.NextMarks.{mark_from-append}
 use Rattle.hub_schedule.proofs.PairMarks.{put_given, put_there}
 use Rattle.hub_schedule.proofs.Places.{left_is, right_is}
@@ -60,11 +60,11 @@ marks_rest all rest n S T e h r s p one other off =
     ap (mark_from rest r s p) (h r s p one other off)
     ∙ (sym (mark_from-append rest n r s p (mark_in S r s p)) ∙ ap (λ (ns : List NextValue). mark_from ns r s p (mark_in S r s p)) (sym e))
 
-pub there_rest : (all rest : List NextValue) (n : NextValue) (S T : State) → all ≡ rest ++ n ∷ [] → HasArchives (is_left n.profile n.next) S T
+pub there_rest : (all rest : List NextValue) (n : NextValue) (S T : State) → all ≡ rest ++ n ∷ [] → HasArchives (leaves_next_archive n.profile n.next) S T
     → (r s : Path) → IsTrue (is_place r) → IsTrue (is_place s) → r ≢ s → (one_is_left rest r s || is_some (archive_at T r s)) ≡ (one_is_left all r s || is_some (archive_at S r s))
 there_rest all rest n S T e h r s one other off =
     let before : Bool = is_some (archive_at S r s) in
-    ap (λ x. one_is_left rest r s || x) (h r s one other off ∙ or-assoc (is_left n.profile n.next r s) false before)
-    ∙ (or-assoc (one_is_left rest r s) (is_left n.profile n.next r s || false) before
+    ap (λ x. one_is_left rest r s || x) (h r s one other off ∙ or-assoc (leaves_next_archive n.profile n.next r s) false before)
+    ∙ (or-assoc (one_is_left rest r s) (leaves_next_archive n.profile n.next r s || false) before
     ∙ ap (λ x. x || before)
-    (sym (list_any-append (λ (m : NextValue). is_left m.profile m.next r s) rest (n ∷ [])) ∙ ap (λ (ns : List NextValue). one_is_left ns r s) (sym e)))
+    (sym (list_any-append (λ (m : NextValue). leaves_next_archive m.profile m.next r s) rest (n ∷ [])) ∙ ap (λ (ns : List NextValue). one_is_left ns r s) (sym e)))

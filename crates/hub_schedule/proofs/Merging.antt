@@ -16,7 +16,7 @@ use Rattle.hub_tree.specs.Laws.Between.{among}
 use Rattle.hub_tree.specs.Laws.Children.{path_eq-cmp}
 use Rattle.hub_tree.specs.Laws.MarkMaps.{old_mark-after}
 use Rattle.hub_tree.specs.Laws.Order.{same_path}
-use Rattle.hub_schedule.specs.Left.{is_in}
+use Rattle.hub_schedule.specs.Left.{has_mark}
 
 abbrev pub paths_of : List (Path × Mark) → List Path
 paths_of es = map (λ (e : Path × Mark). e.0) es
@@ -69,7 +69,7 @@ module _ (P : Parts) (next old now : Archive) (es : List (Path × Mark)) (x : Pa
 
 -- After all entries of an archive.
 pub taken_all : (P : Parts) (next paths old new : Archive) (es : List (Path × Mark)) → es ≡ fin.entries paths → IsTaken P next es old new
-    → (p : Path) → old_mark_at new p ≡ cond (is_in paths p && reach P p) (old_mark_at next p) (old_mark_at old p)
+    → (p : Path) → old_mark_at new p ≡ cond (has_mark paths p && reach P p) (old_mark_at next p) (old_mark_at old p)
 taken_all P next paths old new es all taken p =
     taken p
     ∙ ap (λ b. cond (b && reach P p) (old_mark_at next p) (old_mark_at old p)) (ap (λ (es : List (Path × Mark)). among p (paths_of es)) all ∙ sym (fin.contains_key-keys paths p))
@@ -90,9 +90,9 @@ two false true false x y f g = refl
 two false false true x y f g = refl
 two false false false x y f g = refl
 
-pub both_taken : (P : Parts) (next current first second : Archive) → ((p : Path) → old_mark_at first p ≡ cond (is_in current p && reach P p) (old_mark_at next p) (old_mark_at current p))
-    → ((p : Path) → old_mark_at second p ≡ cond (is_in next p && reach P p) (old_mark_at next p) (old_mark_at first p)) → (p : Path) → old_mark_at second p ≡ cond (reach P p) (old_mark_at next p) (old_mark_at current p)
+pub both_taken : (P : Parts) (next current first second : Archive) → ((p : Path) → old_mark_at first p ≡ cond (has_mark current p && reach P p) (old_mark_at next p) (old_mark_at current p))
+    → ((p : Path) → old_mark_at second p ≡ cond (has_mark next p && reach P p) (old_mark_at next p) (old_mark_at first p)) → (p : Path) → old_mark_at second p ≡ cond (reach P p) (old_mark_at next p) (old_mark_at current p)
 both_taken P next current first second f g p =
     g p
-    ∙ (ap (cond (is_in next p && reach P p) (old_mark_at next p)) (f p)
-    ∙ two (reach P p) (is_in current p) (is_in next p) (old_mark_at next p) (old_mark_at current p) (not_there next p (fin.get next p) refl) (not_there current p (fin.get current p) refl))
+    ∙ (ap (cond (has_mark next p && reach P p) (old_mark_at next p)) (f p)
+    ∙ two (reach P p) (has_mark current p) (has_mark next p) (old_mark_at next p) (old_mark_at current p) (not_there next p (fin.get next p) refl) (not_there current p (fin.get current p) refl))

@@ -15,8 +15,8 @@ use Rattle.hub_job.specs.declared.job_end.JobEnd.{JobEnd}
 use Rattle.hub_job.specs.declared.log.Logged.{Logged}
 use Rattle.hub_job.specs.Ends.{is_finished}
 use Rattle.hub_job.specs.Job.{view_in}
-use Rattle.hub_schedule.specs.Left.{mark_of_next, mark_from, is_left, one_is_left}
-use Rattle.hub_job.specs.Outcome.{archive_of, takes, leaves_archive, mark_for, mark_by}
+use Rattle.hub_schedule.specs.Left.{mark_of_next, mark_from, leaves_next_archive, one_is_left}
+use Rattle.hub_job.specs.Outcome.{archive_of, takes_marks, leaves_archive, mark_for, mark_by}
 
 pub mark_from-append : (ns : List NextValue) (n : NextValue) (r s p : Path) (old : Mark) → mark_from (ns ++ n ∷ []) r s p old ≡ mark_from ns r s p (mark_of_next n.profile n.next r s p old)
 mark_from-append [] n r s p old = refl
@@ -36,11 +36,11 @@ first a = omega arith
 
 -- Some job leaves an archive of the pair.
 module _ (S : State) (Ps : List Parts) (logs : ℕ → List Logged) (o : Outcome) (r s : Path) where
-  by_next : (P : Parts) (x : Option Archive) → (is_some x && (has_root P r && has_root P s)) ≡ is_left P x r s
+  by_next : (P : Parts) (x : Option Archive) → (is_some x && (has_root P r && has_root P s)) ≡ leaves_next_archive P x r s
   by_next P None = refl
   by_next P (Some a) = refl
 
-  leaves : (j : ℕ) (n : NextValue) → IsNextOf S Ps logs o j n → leaves_archive o Ps r s j ≡ is_left n.profile n.next r s
+  leaves : (j : ℕ) (n : NextValue) → IsNextOf S Ps logs o j n → leaves_archive o Ps r s j ≡ leaves_next_archive n.profile n.next r s
   leaves j n is =
       ap (λ b. b && some_passes (λ P. has_root P r && has_root P s) (slice_get Ps j)) is.done
       ∙ (ap (λ x. is_some n.next && some_passes (λ P. has_root P r && has_root P s) x) is.is ∙ by_next n.profile n.next)
@@ -58,7 +58,7 @@ module _ (S : State) (Ps : List Parts) (logs : ℕ → List Logged) (o : Outcome
   abbrev by : Option ℕ → Mark
   by = mark_by S Ps logs p old
 
-  taken : (j : ℕ) (n : NextValue) → IsNextOf S Ps logs o j n → takes o Ps r s p j ≡ (is_some n.next && (has_root n.profile r && has_root n.profile s && reach n.profile p))
+  taken : (j : ℕ) (n : NextValue) → IsNextOf S Ps logs o j n → takes_marks o Ps r s p j ≡ (is_some n.next && (has_root n.profile r && has_root n.profile s && reach n.profile p))
   taken j n is =
       ap (λ b. b && some_passes (λ P. has_root P r && has_root P s && reach P p) (slice_get Ps j)) is.done
       ∙ ap (λ x. is_some n.next && some_passes (λ P. has_root P r && has_root P s && reach P p) x) is.is
@@ -73,11 +73,11 @@ module _ (S : State) (Ps : List Parts) (logs : ℕ → List Logged) (o : Outcome
   one j n is (Some a) e false h rest m more = ap (λ c. cond c (old_mark_at a p) m) h ∙ more
 
   pub find_marks : (ns : List NextValue) (a : ℕ) → ((k : ℕ) (n : NextValue) → slice_get ns k ≡ Some n → IsNextOf S Ps logs o (a + k) n)
-      → mark_from ns r s p old ≡ by (find (takes o Ps r s p) (range_with_len a (length ns)))
+      → mark_from ns r s p old ≡ by (find (takes_marks o Ps r s p) (range_with_len a (length ns)))
   find_marks [] a each = refl
   find_marks (n ∷ ns) a each =
       let here : IsNextOf S Ps logs o a n = subst (λ j. IsNextOf S Ps logs o j n) (first a) (each 0 n refl) in
-      let rest = find (takes o Ps r s p) (range_with_len (a + 1) (length ns)) in
+      let rest = find (takes_marks o Ps r s p) (range_with_len (a + 1) (length ns)) in
       let more : mark_from ns r s p old ≡ by rest = find_marks ns (a + 1) (λ k m e. subst (λ j. IsNextOf S Ps logs o j m) (later a k) (each (suc k) m e)) in
       one a n here n.next refl (has_root n.profile r && has_root n.profile s && reach n.profile p) refl rest (mark_from ns r s p old) more
       ∙ ap (λ b. by (cond b (Some a) rest)) (sym (taken a n here))

@@ -17,15 +17,15 @@ use Rattle.hub_schedule.specs.declared.slot.WorkingTree.{WorkingTree}
 use Rattle.hub_job.specs.JobValue.{JobValue}
 use Rattle.hub_job.specs.Outcome.{archive_of, jobs_of, replicas_of}
 use Rattle.hub_job.specs.Run.{root_at}
-use Rattle.hub_schedule.specs.Table.{place_on, stopped_at, IsPlaced, AreTrees, IsNew, Extends, IsSlot, IsTable}
+use Rattle.hub_schedule.specs.Table.{place_on, stopped_at, IsTreeNumber, AreTrees, IsNew, AddsTrees, IsSlot, ShowsWorld}
 use Rattle.hub_job.specs.World.{opening}
 use Rattle.hub_job.specs.Laws.Logs.{no_log, open_log}
-use Rattle.hub_schedule.specs.Laws.Lists.{listed}
+use Rattle.hub_schedule.specs.Laws.Lists.{any-at}
 
 -- A new job, with its replicas in place.
 pub record IsOpened (S : State) (trees : List WorkingTree) (j : ℕ) (P : Parts) (s : Slot) : Type 0 where
   pub new : IsNew j P (archive_of S (Some P)) s
-  pub places : (k : Side) → IsPlaced trees (root_at P k) (place_on s k)
+  pub places : (k : Side) → IsTreeNumber trees (root_at P k) (place_on s k)
 
 -- The first jobs of profiles, and their replicas.
 pub record AreOpened (S : State) (Ps : List Parts) (slots : List Slot) (trees : List WorkingTree) : Type 0 where
@@ -46,15 +46,15 @@ get_push Q xs x each last j y e =
     ⊎_elim (λ old. each j y old) (λ new. subst (Q j) new.1 (subst (λ i. Q i x) (sym new.0) last)) (snoc-cases xs x y j e)
 
 -- A new job and its two places.
-pub open_at : (S : State) (trees : List WorkingTree) (i j : ℕ) (P : Parts) (s : Slot) → i ≡ j → IsNew i P (archive_of S (Some P)) s → IsPlaced trees (root_at P Left) s.left → IsPlaced trees (root_at P Right) s.right
+pub open_at : (S : State) (trees : List WorkingTree) (i j : ℕ) (P : Parts) (s : Slot) → i ≡ j → IsNew i P (archive_of S (Some P)) s → IsTreeNumber trees (root_at P Left) s.left → IsTreeNumber trees (root_at P Right) s.right
     → IsOpened S trees j P s
 open_at S trees i j P s e new l r = record { new = subst (λ k. IsNew k P (archive_of S (Some P)) s) e new; places = go }
   where
-    go : (k : Side) → IsPlaced trees (root_at P k) (place_on s k)
+    go : (k : Side) → IsTreeNumber trees (root_at P k) (place_on s k)
     go Left = l
     go Right = r
 
-earlier : (S : State) (Ps : List Parts) (old new : List WorkingTree) (P : Parts) → Extends P old new → (j : ℕ) (t : Slot)
+earlier : (S : State) (Ps : List Parts) (old new : List WorkingTree) (P : Parts) → AddsTrees P old new → (j : ℕ) (t : Slot)
     → (Q : Parts) × (slice_get Ps j ≡ Some Q) × IsOpened S old j Q t → (Q : Parts) × (slice_get Ps j ≡ Some Q) × IsOpened S new j Q t
 earlier S Ps old new P more j t w = (
   w.0,
@@ -63,13 +63,13 @@ earlier S Ps old new P more j t w = (
 )
 
 pub opened_more : (S : State) (Ps : List Parts) (slots : List Slot) (old new : List WorkingTree) (P : Parts) (s : Slot) → AreOpened S Ps slots old → slice_get Ps (length slots) ≡ Some P
-    → IsOpened S new (length slots) P s → AreTrees (replicas_of S) new → Extends P old new → AreOpened S Ps (slots ++ s ∷ []) new
+    → IsOpened S new (length slots) P s → AreTrees (replicas_of S) new → AddsTrees P old new → AreOpened S Ps (slots ++ s ∷ []) new
 opened_more S Ps slots old new P s opened is one trees more = record {
   each = get_push (λ j s. (P : Parts) × (slice_get Ps j ≡ Some P) × IsOpened S new j P s) slots s (λ j t e. earlier S Ps old new P more j t (opened.each j t e)) (P, is, one);
   replicas = trees;
   roots = λ k t e. elim (more.rest k t e) [
     | inl h ↦ opened.roots k t h
-    | inr h ↦ listed (λ P. has_root P t.root.now) Ps (length slots) P is h
+    | inr h ↦ any-at (λ P. has_root P t.root.now) Ps (length slots) P is h
   ];
 }
 
@@ -86,10 +86,10 @@ module _ (S : State) (Ps : List Parts) (slots : List Slot) (trees : List Working
         archive = archive ∙ ap (archive_of S) (sym at);
         number = ap (λ (v : JobValue). v.number) new.job;
         log = ap (λ (v : JobValue). v.log) new.job ∙ sym (open_log Ps j);
-        places = λ k. subst (λ Q. IsPlaced trees (root_at Q k) (place_on s k)) (sym own) (o.places k);
+        places = λ k. subst (λ Q. IsTreeNumber trees (root_at Q k) (place_on s k)) (sym own) (o.places k);
       }
 
-  pub opened_table : IsTable (jobs_of S Ps) (opening (jobs_of S Ps) (replicas_of S)) slots trees
+  pub opened_table : ShowsWorld (jobs_of S Ps) (opening (jobs_of S Ps) (replicas_of S)) slots trees
   opened_table = record {
     each = λ j s e. let P = opened.each j s e in slot_is j s P.0 P.1 P.2;
     count = all;

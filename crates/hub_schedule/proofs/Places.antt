@@ -8,10 +8,10 @@ use Rattle.hub_reconcile.specs.Sync.{root_or_top}
 use Rattle.hub_job.specs.Run.{root_at}
 use Rattle.hub_job.specs.Laws.Roots.{two_roots, has_own}
 use Rattle.hub_schedule.specs.declared.slot.WorkingTree.{WorkingTree}
-use Rattle.hub_schedule.specs.Table.{IsPlaced, Extends}
+use Rattle.hub_schedule.specs.Table.{IsTreeNumber, AddsTrees}
 
 -- The replica that was put last.
-pub placed_last : (old new : List WorkingTree) (t : WorkingTree) (n : ℕ) → new ≡ old ++ t ∷ [] → n ≡ length new → IsPlaced new t.root.now (n - 1)
+pub placed_last : (old new : List WorkingTree) (t : WorkingTree) (n : ℕ) → new ≡ old ++ t ∷ [] → n ≡ length new → IsTreeNumber new t.root.now (n - 1)
 placed_last old new t n e count =
     let last : n - 1 ≡ length old = omega (arith, count, ap length e, length-append old (t ∷ [])) in
     (t, ap (slice_get new) last ∙ (ap (λ ts. slice_get ts (length old)) e ∙ snoc-new old t), refl)
@@ -32,7 +32,7 @@ pub both_put : (P : Parts) → IsProfile P → (old mid new : List WorkingTree) 
     → ((k : ℕ) (t : WorkingTree) → slice_get old k ≡ Some t → slice_get mid k ≡ Some t)
     → ((k : ℕ) (t : WorkingTree) → slice_get mid k ≡ Some t → (slice_get old k ≡ Some t) ⊎ (t.root.now ≡ l))
     → ((k : ℕ) (t : WorkingTree) → slice_get mid k ≡ Some t → slice_get new k ≡ Some t)
-    → ((k : ℕ) (t : WorkingTree) → slice_get new k ≡ Some t → (slice_get mid k ≡ Some t) ⊎ (t.root.now ≡ r)) → Extends P old new
+    → ((k : ℕ) (t : WorkingTree) → slice_get new k ≡ Some t → (slice_get mid k ≡ Some t) ⊎ (t.root.now ≡ r)) → AddsTrees P old new
 both_put P facts old mid new l r l_is r_is more rest more2 rest2 = record {
   kept = λ k t e. more2 k t (more k t e);
   rest = λ k t e. elim (rest2 k t e) [

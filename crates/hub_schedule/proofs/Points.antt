@@ -4,7 +4,7 @@ use Rattle.std.specs.Prelude.{◌==◌, ℕ, IsTrue, slice_get, filter, replicat
 use Rattle.std.proofs.lemmas.Bool.{false_from_ne_true}
 use Rattle.std.proofs.lemmas.List.{map-append}
 use Rattle.std.proofs.lemmas.List.Elements.{filter-append}
-use Rattle.hub_reconcile.specs.Laws.Synced.{item_by}
+use Rattle.hub_reconcile.specs.Laws.Synced.{passes-path}
 use Rattle.hub_path.specs.Path.{Path}
 use Rattle.hub_path.specs.declared.side.Side.TheVariants.{Left, Right}
 use Rattle.hub_profile.specs.Parts.{Parts, at_side, is_root_at}
@@ -21,7 +21,7 @@ use Rattle.hub_job.specs.declared.op.Next.TheVariants.{Ask}
 use Rattle.hub_job.specs.Alike.{May}
 use Rattle.hub_job.specs.Job.{next}
 use Rattle.hub_job.specs.Machine.{after}
-use Rattle.hub_job.specs.Run.{Runs, root_at, pair_of, pair_run}
+use Rattle.hub_job.specs.Run.{Runs, root_at, world_for, pair_run}
 use Rattle.hub_job.specs.Same.{AsksMay, NoneClash}
 use Rattle.hub_job.specs.World.{Jobs, log_of, run, opening}
 use Rattle.hub_job.specs.History.{replay, IsLegal, entries_of, entries_at}
@@ -155,7 +155,7 @@ module _ (asks : AsksMay) (answers : AnswersAlike) (own : OwnAlike) (others : Ot
 
   -- After any number of turns of a job alone, what it asks next is allowed.
   world_allowed : (j : ℕ) (P : Parts) (n : ℕ) → slice_get J.profiles j ≡ Some P
-      → AllowedNext P (pair_of P j (run J (replicate n j) (opening J replicas))) (next P (J.archive j) (log_of (run J (replicate n j) (opening J replicas)) j))
+      → AllowedNext P (world_for P j (run J (replicate n j) (opening J replicas))) (next P (J.archive j) (log_of (run J (replicate n j) (opening J replicas)) j))
   world_allowed j P n is =
       subst (λ w. AllowedNext P w (next P (J.archive j) w.log))
       (sym (run_pair P (valid j P is) j J is n (opening J replicas) (a_log_each J.profiles j P is) ∙ ap (pair_run P (J.archive j) j n) (open_pair P (valid j P is) j J is replicas)))
@@ -170,8 +170,8 @@ module _ (asks : AsksMay) (answers : AnswersAlike) (own : OwnAlike) (others : Ot
   allowed_alone j P r p c front l rest is whole op at has =
       let w = run J (replicate (length front) j) (opening J replicas) in
       let alone = alone_front j P front l rest is whole in
-      let ok : AllowedOp P (pair_of P j w) l.side (Set p c) =
-      subst (AllowedNext P (pair_of P j w)) (ap (next P (J.archive j)) alone.0 ∙ (next_at j P front l rest is whole ∙ ap (Ask l.side) op)) (world_allowed j P (length front) is) in
+      let ok : AllowedOp P (world_for P j w) l.side (Set p c) =
+      subst (AllowedNext P (world_for P j w)) (ap (next P (J.archive j)) alone.0 ∙ (next_at j P front l rest is whole ∙ ap (Ask l.side) op)) (world_allowed j P (length front) is) in
       let root : root_at P l.side ≡ r = ap root_or_top at in
       ap (λ m. may_at P r p (verb_of (mark_at m p) (mark_of c))) (sym (alone.1 r has))
       ∙ (ap (λ s. may_at P s p (verb_of (mark_at (w.replica s) p) (mark_of c))) (sym root)
@@ -191,7 +191,7 @@ module _ (asks : AsksMay) (answers : AnswersAlike) (own : OwnAlike) (others : Ot
       alike p (inl (passes-itself Q p (write-reaches Q r p writes))) ∙ ap (λ es. contents_at (replay (replicas r) es) p) (sym place.before) in (
         writes,
         ap (λ x. may_at Q r p (verb_of (mark_of x) (mark_of c))) there
-            ∙ allowed_alone j Q r p c place.front place.here place.rest is place.whole (ap (λ x. x.op) place.is ∙ op) (item_by r (at_side Q.roots place.here.side) place.at) has,
+            ∙ allowed_alone j Q r p c place.front place.here place.rest is place.whole (ap (λ x. x.op) place.is ∙ op) (passes-path r (at_side Q.roots place.here.side) place.at) has,
       )
 
 pub safe_apart : (Ps : List Parts) (Rs : List Rule) → IsSafe Ps Rs → NoneClash Ps

@@ -5,7 +5,7 @@ use Rattle.std.specs.List.{list_any, list_all, range_with_len}
 use Rattle.std.specs.FinMap as fin
 use Rattle.std.proofs.lemmas.Bool.{false≢true, and_parts, and_from, or_cases, cases_eq}
 use Rattle.std.proofs.lemmas.Option.{none-some, same_Some, slice_get_within}
-use Rattle.hub_schedule.specs.Laws.Unchanged.{Takes, takes_is, foreign}
+use Rattle.hub_schedule.specs.Laws.Unchanged.{TakesMarks, takes_is, foreign}
 use Rattle.hub_reconcile.specs.Laws.Views.{same_paths}
 use Rattle.hub_path.specs.Laws.{is_over-reflexive}
 use Rattle.hub_path.specs.Path.{Name, Path, path_eq, path_cmp, parent, is_place, none_over}
@@ -26,23 +26,23 @@ use Rattle.hub_job.specs.declared.job_end.JobEnd.{JobEnd}
 use Rattle.hub_job.specs.declared.outcome.Outcome.{Outcome}
 use Rattle.hub_job.specs.declared.log.Entry.{Entry}
 use Rattle.hub_job.specs.declared.log.Logged.{Logged}
-use Rattle.hub_job.specs.declared.op.Next.{Next}
-use Rattle.hub_job.specs.declared.op.Next.TheVariants.{Ask, Finished, Stopped}
+use Rattle.hub_job.specs.declared.op.Next.TheVariants.{Finished, Stopped}
 use Rattle.hub_job.specs.Job.{next, is_refused, view_in}
-use Rattle.hub_job.specs.Run.{root_at, pair_of, IsSynced}
+use Rattle.hub_job.specs.Run.{root_at, world_for, IsSynced}
 use Rattle.hub_job.specs.World.{Jobs, log_of, run, opening, alone}
 use Rattle.hub_job.specs.History.{replay}
 use Rattle.hub_schedule.specs.Settled.{AreProfiles}
 use Rattle.hub_schedule.specs.Together.{left_at, LogsAreAlone, OwnPathsAreAlone, ElsewhereIsAsBefore}
 use Rattle.hub_job.specs.Ends.{end_by, is_finished}
-use Rattle.hub_job.specs.Outcome.{archive_of, jobs_of, replicas_of, takes, mark_for, mark_by, IsEndOf}
+use Rattle.hub_job.specs.Outcome.{archive_of, jobs_of, replicas_of, takes_marks, mark_for, mark_by, IsEndOf}
 use Rattle.hub_schedule.specs.Promise.{log_or_none, logs_in, HasReplicas, Settles, IsSynchronized}
-use Rattle.hub_job.specs.Laws.Untouched.{path_itself}
+use Rattle.hub_job.specs.Laws.Untouched.{path-of_Some}
 use Rattle.hub_job.specs.Laws.Roots.{has_its_root}
 use Rattle.hub_job.specs.Laws.Roots.{two_roots, side_root, left_not_right}
 use Rattle.hub_job.specs.Laws.LoneJobs.{by_side}
 use Rattle.hub_schedule.proofs.Finished.{alone_enough, finished_synced}
-use Rattle.hub_schedule.specs.Laws.Lists.{listed, one_with}
+use Rattle.hub_schedule.specs.Laws.Lists.{any-at, one_with}
+use Rattle.hub_job.specs.Laws.Finishing.{finished_by}
 
 -- The least number that passes, if it is the only one, or if there is none.
 found_passes : (t : ℕ → Bool) (xs : List ℕ) (i : ℕ) → find t xs ≡ Some i → t i ≡ true
@@ -68,11 +68,6 @@ only_one t j n None e l h only = absurd (not_none t j 0 n (omega arith) (omega (
 only_one t j n (Some i) e l h only = ap (λ k. Some k) (only i (found_passes t (range_with_len 0 n) i e))
 
 -- Ends.
-next_of : (n : Next) → end_by n ≡ end.Finished → n ≡ Finished
-next_of (Ask side op) e = cc
-next_of Finished e = refl
-next_of Stopped e = cc
-
 stopped_or_finished : (x : End) → x ≡ end.Stopped → x ≡ end.Finished → ⊥
 stopped_or_finished x e f = let both : end.Stopped ≡ end.Finished = sym e ∙ f in cc
 
@@ -80,7 +75,7 @@ pub end_next : (S : State) (P : Parts) (e : JobEnd) → IsEndOf S P e → e.end 
 end_next S P e is done =
     elim (is.how) [
       | inl stopped ↦ absurd (stopped_or_finished e.end stopped done)
-      | inr how ↦ next_of (next P (archive_of S (Some P)) e.log) (sym how ∙ done)
+      | inr how ↦ finished_by (next P (archive_of S (Some P)) e.log) (sym how ∙ done)
     ]
 
 pub next_end : (S : State) (P : Parts) (e : JobEnd) → IsEndOf S P e → e.end ≢ end.Stopped → next P (archive_of S (Some P)) e.log ≡ Finished → e.end ≡ end.Finished
@@ -136,7 +131,7 @@ pair_shared P Q r s facts off a b c d =
     ap (list_all (has_root Q)) two.are
     ∙ roots_two (has_root Q) two.first two.second r s off (ap (list_any (λ own. path_eq own r)) (sym two.are) ∙ a) (ap (list_any (λ own. path_eq own s)) (sym two.are) ∙ b) c d
 
-takes_one : (Ps : List Parts) (Rs : List Rule) (o : Outcome) (r s p : Path) (i j : ℕ) → IsSafe Ps Rs → AreProfiles Ps → r ≢ s → Takes Ps o r s p i → Takes Ps o r s p j → i ≡ j
+takes_one : (Ps : List Parts) (Rs : List Rule) (o : Outcome) (r s p : Path) (i j : ℕ) → IsSafe Ps Rs → AreProfiles Ps → r ≢ s → TakesMarks Ps o r s p i → TakesMarks Ps o r s p j → i ≡ j
 takes_one Ps Rs o r s p i j safe valid off a b =
     elim (cases_eq i j) [
       | inl e ↦ e
@@ -145,14 +140,14 @@ takes_one Ps Rs o r s p i j safe valid off a b =
     ]
 
 takes_from : (Ps : List Parts) (o : Outcome) (r s p : Path) (j : ℕ) (P : Parts) (e : JobEnd) → slice_get Ps j ≡ Some P → slice_get o.jobs j ≡ Some e → e.end ≡ end.Finished
-    → has_root P r ≡ true → has_root P s ≡ true → reach P p ≡ true → takes o Ps r s p j ≡ true
+    → has_root P r ≡ true → has_root P s ≡ true → reach P p ≡ true → takes_marks o Ps r s p j ≡ true
 takes_from Ps o r s p j P e is at done a b h =
     and_from (some_passes (λ e. is_finished e.end) (slice_get o.jobs j)) (some_passes (λ P. has_root P r && has_root P s && reach P p) (slice_get Ps j))
     (ap (some_passes (λ (e : JobEnd). is_finished e.end)) at ∙ ap is_finished done)
     (ap (some_passes (λ (P : Parts). has_root P r && has_root P s && reach P p)) is ∙ and_from (has_root P r && has_root P s) (reach P p) (and_from (has_root P r) (has_root P s) a b) h)
 
 pub roots_apart : (P : Parts) → IsProfile P → root_at P Left ≢ root_at P Right
-roots_apart P facts same = false≢true (sym (left_not_right P facts 0) ∙ path_itself (root_at P Left) (root_at P Right) (ap (λ r. Some r) same))
+roots_apart P facts same = false≢true (sym (left_not_right P facts 0) ∙ path-of_Some (root_at P Left) (root_at P Right) (ap (λ r. Some r) same))
 
 -- The roots of profiles are places.
 one_of : (f : Path → Bool) (r : Path) (rs : List Path) → list_all f rs ≡ true → list_any (λ own. path_eq own r) rs ≡ true → f r ≡ true
@@ -181,7 +176,7 @@ module _ (S : State) (Ps : List Parts) (histories : Path → List Entry) (o : Ou
   left_in facts there j P r is has =
       let m = there j P r is has in
       ap (λ x. unwrap_or x fin.empty)
-      (settles.outcome.replicas r m.0 (root_place P r (facts j P is) has) m.1 ∙ ap (λ b. Some (cond b (replay (before r) (histories r)) m.0)) (listed (λ P. has_root P r) Ps j P is has))
+      (settles.outcome.replicas r m.0 (root_place P r (facts j P is) has) m.1 ∙ ap (λ b. Some (cond b (replay (before r) (histories r)) m.0)) (any-at (λ P. has_root P r) Ps j P is has))
 
   pub own : AreProfiles Ps → HasReplicas S Ps → OwnPathsAreAlone J before (left_at before histories) (logs_in o) → OwnPathsAreAlone J before (replicas_of o.state) (logs_in o)
   own facts there alone = λ j P r q is has h. ap (λ m. contents_at m q) (left_in facts there j P r is has) ∙ alone j P r q is has h
@@ -200,7 +195,7 @@ module _ (S : State) (Ps : List Parts) (histories : Path → List Entry) (o : Ou
       → old_mark_at (unwrap_or (archive_at o.state r s) fin.empty) p ≡ old_mark_at (next_archive (view_in P (archive_of S (Some P)) (logs_in o j)) (archive_of S (Some P))) p
   mark_taken Rs safe valid j P e r s p is at done off a b h =
       let taken = takes_from Ps o r s p j P e is at done a b h in
-      let one = only_one (takes o Ps r s p) j (length Ps) (find (takes o Ps r s p) (range_with_len 0 (length Ps))) refl (slice_get_within Ps j P is) taken
+      let one = only_one (takes_marks o Ps r s p) j (length Ps) (find (takes_marks o Ps r s p) (range_with_len 0 (length Ps))) refl (slice_get_within Ps j P is) taken
       (λ i g. takes_one Ps Rs o r s p i j safe valid off (takes_is Ps o r s p i g) (takes_is Ps o r s p j taken)) in
       let old = old_mark_at (unwrap_or (archive_at S r s) fin.empty) p in
       settles.outcome.archives r s p (root_place P r (valid j P is) a) (root_place P s (valid j P is) b) off ∙ (ap (mark_by S Ps (logs_in o) p old) one ∙ ap (mark_for S (logs_in o) p old j) is)
@@ -232,9 +227,9 @@ module _ (S : State) (Ps : List Parts) (histories : Path → List Entry) (o : Ou
     done_alone : next P O e.log ≡ Finished → next P (J.archive j) (alone J before j (length e.log)) ≡ Finished
     done_alone done = ap (λ a. next P a (alone J before j (length e.log))) archive_is ∙ (ap (next P O) (sym log_alone) ∙ done)
 
-    synced : next P O e.log ≡ Finished → IsSynced P A B O (pair_of P j (run J (replicate (length e.log) j) (opening J before)))
+    synced : next P O e.log ≡ Finished → IsSynced P A B O (world_for P j (run J (replicate (length e.log) j) (opening J before)))
     synced done =
-        subst (λ a. IsSynced P A B a (pair_of P j (run J (replicate (length e.log) j) (opening J before)))) archive_is
+        subst (λ a. IsSynced P A B a (world_for P j (run J (replicate (length e.log) j) (opening J before)))) archive_is
         (finished_synced J P before j (length e.log) is (facts j P is) (trees (root_at P Left)) (trees (root_at P Right)) (done_alone done))
 
     view_is : next P O e.log ≡ Finished → view_in P O e.log ≡ view_of P A B O

@@ -19,7 +19,7 @@ use Rattle.hub_job.specs.declared.outcome.Outcome.{Outcome}
 use Rattle.hub_job.specs.declared.log.Logged.{Logged}
 use Rattle.hub_job.specs.declared.op.Next.TheVariants.{Finished}
 use Rattle.hub_job.specs.Job.{next}
-use Rattle.hub_job.specs.Run.{Pair, root_at, pair_of, on_side, IsSynced}
+use Rattle.hub_job.specs.Run.{Pair, root_at, world_for, on_side, IsSynced}
 use Rattle.hub_job.specs.Same.{NoneClash, own_turns}
 use Rattle.hub_job.specs.World.{World, Jobs, log_of, run, opening, alone, first_turns}
 use Rattle.hub_job.specs.History.{replay}
@@ -170,7 +170,7 @@ lone_synchronizes law S Ps limit o j n P e valid trees there replayed settles fi
       contents = λ k q.
           ap (λ m. contents_at m q) (left_in S Ps (world_after S Ps (first_turns limit (replicate n j))).history o settles valid there j P (root_at P k) at (root k) ∙ sym (replayed (root_at P k)))
           ∙ (ap (λ js. contents_at ((run J js (opening J R)).replica (root_at P k)) q) turns
-          ∙ (by_side P j k v q ∙ lone_contents P (R (root_at P Left)) (R (root_at P Right)) (J.archive j) (archive_of S (Some P)) archive (pair_of P j v) synced k q));
+          ∙ (by_side P j k v q ∙ lone_contents P (R (root_at P Left)) (R (root_at P Right)) (J.archive j) (archive_of S (Some P)) archive (world_for P j v) synced k q));
       marks = λ q.
           lone_mark law S Ps valid o j n P e at settles.outcome.ends logs (finished j P e at ended done)
           (marks_stay S Ps (world_after S Ps (first_turns limit (replicate n j))).history o settles) q (reach P q) refl;

@@ -19,9 +19,9 @@ use Rattle.hub_schedule.specs.declared.slot.WorkingTree.{WorkingTree}
 use Rattle.hub_job.specs.Job.{next}
 use Rattle.hub_job.specs.Machine.{answer, after}
 use Rattle.hub_job.specs.Run.{root_at}
-use Rattle.hub_schedule.specs.Table.{place_on, with_tree, IsPlaced, AreTrees, IsSlot, IsTable}
+use Rattle.hub_schedule.specs.Table.{place_on, with_tree_after, IsTreeNumber, AreTrees, IsSlot, ShowsWorld}
 use Rattle.hub_job.specs.World.{World, Jobs, log_of, entry, event, act, turn_of, turn}
-use Rattle.hub_job.specs.Laws.Untouched.{path_itself}
+use Rattle.hub_job.specs.Laws.Untouched.{path-of_Some}
 use Rattle.hub_job.specs.Laws.Roots.{side_root}
 use Rattle.hub_schedule.specs.Laws.Lists.{set_there, each_set}
 
@@ -33,20 +33,20 @@ pub record SameRoots (old new : List WorkingTree) : Type 0 where
 same_roots : (trees : List WorkingTree) → SameRoots trees trees
 same_roots trees = record { back = λ k t e. (t, e, refl); forth = λ k t e. (t, e, refl) }
 
-tree_set : (trees : List WorkingTree) (k : ℕ) (t : WorkingTree) (m : Replica) → slice_get trees k ≡ Some t → SameRoots trees (slice_set trees k (with_tree t m))
+tree_set : (trees : List WorkingTree) (k : ℕ) (t : WorkingTree) (m : Replica) → slice_get trees k ≡ Some t → SameRoots trees (slice_set trees k (with_tree_after t m))
 tree_set trees k t m is = record {
-  back = each_set (λ i u. (v : WorkingTree) × (slice_get trees i ≡ Some v) × (v.root.now ≡ u.root.now)) trees k t (with_tree t m) is (t, is, refl) (λ i u off e. (u, e, refl));
+  back = each_set (λ i u. (v : WorkingTree) × (slice_get trees i ≡ Some v) × (v.root.now ≡ u.root.now)) trees k t (with_tree_after t m) is (t, is, refl) (λ i u off e. (u, e, refl));
   forth = λ i u e. elim (cases_eq i k) [
     | inl same ↦ (
-      with_tree t m,
-      ap (slice_get (slice_set trees k (with_tree t m))) same ∙ put-here trees k (with_tree t m) (slice_get_within trees k t is),
+      with_tree_after t m,
+      ap (slice_get (slice_set trees k (with_tree_after t m))) same ∙ put-here trees k (with_tree_after t m) (slice_get_within trees k t is),
       ap (λ (v : WorkingTree). v.root.now) (same_Some t u (sym is ∙ (ap (slice_get trees) (sym same) ∙ e))),
     )
-    | inr off ↦ (u, set_there trees i k (with_tree t m) off ∙ e, refl)
+    | inr off ↦ (u, set_there trees i k (with_tree_after t m) off ∙ e, refl)
   ];
 }
 
-placed : (old new : List WorkingTree) → SameRoots old new → (r : Path) (k : ℕ) → IsPlaced old r k → IsPlaced new r k
+placed : (old new : List WorkingTree) → SameRoots old new → (r : Path) (k : ℕ) → IsTreeNumber old r k → IsTreeNumber new r k
 placed old new same r k p = let u = same.forth k p.0 p.1 in (u.0, u.1, u.2 ∙ p.2)
 
 once_again : (old new : List WorkingTree) → SameRoots old new
@@ -64,7 +64,7 @@ pub record SameSlot (s t : Slot) : Type 0 where
   pub number : t.job.number ≡ s.job.number
   pub places : (k : Side) → place_on t k ≡ place_on s k
 
-module _ (J : Jobs) (w v : World) (slots : List Slot) (old new : List WorkingTree) (table : IsTable J w slots old) (same : SameRoots old new) (j : ℕ) (s t : Slot) (is : slice_get slots j ≡ Some s) (alike : SameSlot s t)
+module _ (J : Jobs) (w v : World) (slots : List Slot) (old new : List WorkingTree) (table : ShowsWorld J w slots old) (same : SameRoots old new) (j : ℕ) (s t : Slot) (is : slice_get slots j ≡ Some s) (alike : SameSlot s t)
     (log : t.job.log ≡ log_of v j) (others : (i : ℕ) → i ≢ j → log_of w i ≡ log_of v i) (count : length v.logs ≡ length w.logs) (trees : AreTrees v.replica new) where
   here : IsSlot J v new j t
   here =
@@ -75,8 +75,8 @@ module _ (J : Jobs) (w v : World) (slots : List Slot) (old new : List WorkingTre
         archive = alike.archive ∙ a.archive;
         number = alike.number ∙ a.number;
         log = log;
-        places = λ k. subst (λ (P : Parts). IsPlaced new (root_at P k) (place_on t k)) (sym alike.profile)
-            (subst (IsPlaced new (root_at s.job.profile k)) (sym (alike.places k)) (placed old new same (root_at s.job.profile k) (place_on s k) (a.places k)));
+        places = λ k. subst (λ (P : Parts). IsTreeNumber new (root_at P k) (place_on t k)) (sym alike.profile)
+            (subst (IsTreeNumber new (root_at s.job.profile k)) (sym (alike.places k)) (placed old new same (root_at s.job.profile k) (place_on s k) (a.places k)));
       }
 
   there : (i : ℕ) (u : Slot) → i ≢ j → slice_get slots i ≡ Some u → IsSlot J v new i u
@@ -91,7 +91,7 @@ module _ (J : Jobs) (w v : World) (slots : List Slot) (old new : List WorkingTre
         places = λ k. placed old new same (root_at u.job.profile k) (place_on u k) (a.places k);
       }
 
-  pub table_set : IsTable J v (slice_set slots j t) new
+  pub table_set : ShowsWorld J v (slice_set slots j t) new
   table_set = record {
     each = each_set (IsSlot J v new) slots j s t is here there;
     count = length-set slots j t ∙ table.count;
@@ -106,13 +106,13 @@ unfolding turn
 turn_is J w trees j s a = ap (turn_of J j w) a.is ∙ (λ i. act s.job.profile j w (next s.job.profile (sym a.archive i) (sym a.log i)))
 
 -- The job and the replicas are the same as before.
-pub table_same : (J : Jobs) (w v : World) (slots : List Slot) (trees : List WorkingTree) (j : ℕ) (s t : Slot) → IsTable J w slots trees → slice_get slots j ≡ Some s → SameSlot s t → t.job.log ≡ s.job.log → w ≡ v
-    → IsTable J v (slice_set slots j t) trees
+pub table_same : (J : Jobs) (w v : World) (slots : List Slot) (trees : List WorkingTree) (j : ℕ) (s t : Slot) → ShowsWorld J w slots trees → slice_get slots j ≡ Some s → SameSlot s t → t.job.log ≡ s.job.log → w ≡ v
+    → ShowsWorld J v (slice_set slots j t) trees
 table_same J w v slots trees j s t table is alike log e =
-    subst (λ (v : World). IsTable J v (slice_set slots j t) trees) e
+    subst (λ (v : World). ShowsWorld J v (slice_set slots j t) trees) e
     (table_set J w w slots trees trees table (same_roots trees) j s t is alike (log ∙ (table.each j s is).log) (λ i off. refl) refl table.replicas)
 
-module _ (J : Jobs) (w : World) (slots : List Slot) (trees : List WorkingTree) (table : IsTable J w slots trees) (j : ℕ) (s t : Slot) (is : slice_get slots j ≡ Some s) (alike : SameSlot s t) (side : Side) (op : Op)
+module _ (J : Jobs) (w : World) (slots : List Slot) (trees : List WorkingTree) (table : ShowsWorld J w slots trees) (j : ℕ) (s t : Slot) (is : slice_get slots j ≡ Some s) (alike : SameSlot s t) (side : Side) (op : Op)
     (asks : next s.job.profile s.job.archive s.job.log ≡ Ask side op) (u : WorkingTree) (at : slice_get trees (place_on s side) ≡ Some u)
     (log : t.job.log ≡ s.job.log ++ record { side = side; step = record { job = s.job.number; op = op; answer = answer u.tree s.job.profile u.root.now op } } ∷ []) where
   a : IsSlot J w trees j s
@@ -141,10 +141,10 @@ module _ (J : Jobs) (w : World) (slots : List Slot) (trees : List WorkingTree) (
   turned = turn_is J w trees j s a ∙ (ap (act P j w) asks ∙ ap (event P j side op w) (side_root P a.valid j side))
 
   abbrev new : List WorkingTree
-  new = slice_set trees k (with_tree u (after u.tree op))
+  new = slice_set trees k (with_tree_after u (after u.tree op))
 
   changed : after u.tree op ≡ v.replica u.root.now
-  changed = ap (λ m. after m op) tree_is ∙ sym (ap (λ b. cond b (after (w.replica r) op) (w.replica u.root.now)) (path_itself r u.root.now (ap (λ q. Some q) (sym root_is))))
+  changed = ap (λ m. after m op) tree_is ∙ sym (ap (λ b. cond b (after (w.replica r) op) (w.replica u.root.now)) (path-of_Some r u.root.now (ap (λ q. Some q) (sym root_is))))
 
   kept : (i : ℕ) (x : WorkingTree) → i ≢ k → slice_get trees i ≡ Some x → x.tree ≡ v.replica x.root.now
   kept i x off e =
@@ -153,7 +153,7 @@ module _ (J : Jobs) (w : World) (slots : List Slot) (trees : List WorkingTree) (
 
   new_trees : AreTrees v.replica new
   new_trees = record {
-    each = each_set (λ i x. x.tree ≡ v.replica x.root.now) trees k u (with_tree u (after u.tree op)) at changed kept;
+    each = each_set (λ i x. x.tree ≡ v.replica x.root.now) trees k u (with_tree_after u (after u.tree op)) at changed kept;
     once = once_again trees new (tree_set trees k u (after u.tree op) at) table.replicas.once;
   }
 
@@ -163,8 +163,8 @@ module _ (J : Jobs) (w : World) (slots : List Slot) (trees : List WorkingTree) (
       λ i. a.log i ++ record { side = side; step = record { job = a.number i; op = op; answer = answer (tree_is i) P (root_is i) op } } ∷ [] in
       log ∙ (one ∙ sym (get_or-set_same w.logs j (log_of w j ++ record { side = side; step = entry P j r (w.replica r) op } ∷ []) [] (subst (λ n. j < n) (sym table.logs) (slice_get_within J.profiles j P a.is))))
 
-  pub table_turn : IsTable J (turn J j w) (slice_set slots j t) new
+  pub table_turn : ShowsWorld J (turn J j w) (slice_set slots j t) new
   table_turn =
-      subst (λ (x : World). IsTable J x (slice_set slots j t) new) (sym turned)
+      subst (λ (x : World). ShowsWorld J x (slice_set slots j t) new) (sym turned)
       (table_set J w v slots trees new table (tree_set trees k u (after u.tree op) at) j s t is alike log_is
       (λ i off. sym (get_or-set_other w.logs j i (log_of w j ++ record { side = side; step = entry P j r (w.replica r) op } ∷ []) [] off)) (length-set w.logs j _) new_trees)

@@ -7,9 +7,9 @@ use Rattle.std.proofs.lemmas.Option.{slice_get_within}
 use Rattle.hub_profile.specs.Parts.{some_passes}
 use Rattle.hub_schedule.specs.declared.slot.Slot.{Slot}
 use Rattle.hub_schedule.specs.declared.slot.WorkingTree.{WorkingTree}
-use Rattle.hub_schedule.specs.Table.{IsIdle, IsTable, IsThinned, StayIdle, StayStopped, Taken, stopped_at, whole_rounds}
+use Rattle.hub_schedule.specs.Table.{IsIdle, ShowsWorld, IsThinned, StayIdle, StayStopped, Taken, stopped_at, whole_cycles}
 use Rattle.hub_job.specs.World.{World, Jobs, turn, run, first_turns}
-use Rattle.hub_schedule.proofs.InRounds.{whole_counts}
+use Rattle.hub_schedule.proofs.InCycles.{whole_counts}
 use Rattle.hub_schedule.proofs.Turns.{weight, less, count, count_first}
 
 pub thinned_none : (J : Jobs) (w : World) (stopped : ℕ → Bool) → IsThinned J w w [] stopped stopped
@@ -129,10 +129,10 @@ pub taken_none : (slots : List Slot) (trees : List WorkingTree) (js : List ℕ) 
 taken_none slots trees js = λ J w table. (w, table, λ u after h. h)
 
 module _ (slots slots_now slots_next : List Slot) (trees trees_now trees_next : List WorkingTree) (schedule rest : List ℕ) (j : ℕ) (taken : Taken slots trees schedule slots_now trees_now (j ∷ rest))
-    (turns : (J : Jobs) (w : World) → IsTable J w slots_now trees_now → IsTable J (if stopped_at slots_next j then w else turn J j w) slots_next trees_next) (stays : StayStopped (stopped_at slots_now) (stopped_at slots_next)) (one : OneStops j (stopped_at slots_now) (stopped_at slots_next)) where
-  by : (J : Jobs) (w v : World) → (b : Bool) → stopped_at slots_next j ≡ b → IsTable J (if b then v else turn J j v) slots_next trees_next
+    (turns : (J : Jobs) (w : World) → ShowsWorld J w slots_now trees_now → ShowsWorld J (if stopped_at slots_next j then w else turn J j w) slots_next trees_next) (stays : StayStopped (stopped_at slots_now) (stopped_at slots_next)) (one : OneStops j (stopped_at slots_now) (stopped_at slots_next)) where
+  by : (J : Jobs) (w v : World) → (b : Bool) → stopped_at slots_next j ≡ b → ShowsWorld J (if b then v else turn J j v) slots_next trees_next
       → ((u : World) (after : ℕ → Bool) → IsThinned J v u (j ∷ rest) (stopped_at slots_now) after → IsThinned J w u schedule (stopped_at slots) after)
-      → (x : World) × IsTable J x slots_next trees_next × ((u : World) (after : ℕ → Bool) → IsThinned J x u rest (stopped_at slots_next) after → IsThinned J w u schedule (stopped_at slots) after)
+      → (x : World) × ShowsWorld J x slots_next trees_next × ((u : World) (after : ℕ → Bool) → IsThinned J x u rest (stopped_at slots_next) after → IsThinned J w u schedule (stopped_at slots) after)
   by J w v true e table more = (v, table, λ u after h. more u after (thinned_lost J v u j rest (stopped_at slots_now) (stopped_at slots_next) after stays one e h))
   by J w v false e table more = (turn J j v, table, λ u after h. more u after (thinned_made J v u j rest (stopped_at slots_now) (stopped_at slots_next) after stays one e h))
 
@@ -140,7 +140,7 @@ module _ (slots slots_now slots_next : List Slot) (trees trees_now trees_next : 
   taken_more = λ J w table. let x = taken J w table in by J w x.0 (stopped_at slots_next j) refl (turns J x.0 x.1) x.2
 
 pub taken_all : (slots now : List Slot) (trees trees_now : List WorkingTree) (schedule : List ℕ) → Taken slots trees schedule now trees_now []
-    → (J : Jobs) (w : World) → IsTable J w slots trees → (v : World) × IsTable J v now trees_now × IsThinned J w v schedule (stopped_at slots) (stopped_at now)
+    → (J : Jobs) (w : World) → ShowsWorld J w slots trees → (v : World) × ShowsWorld J v now trees_now × IsThinned J w v schedule (stopped_at slots) (stopped_at now)
 taken_all slots now trees trees_now schedule taken = λ J w table. let x = taken J w table in (x.0, x.1, x.2 x.0 (stopped_at now) (thinned_none J x.0 (stopped_at now)))
 
 pub taken_through : (s0 s1 s2 : List Slot) (t0 t1 t2 : List WorkingTree) (js ks ls : List ℕ) → Taken s0 t0 js s1 t1 ks → Taken s1 t1 ks s2 t2 ls → Taken s0 t0 js s2 t2 ls
@@ -164,9 +164,9 @@ idle_from J w slots n a zero js h idle t = t
 idle_from J w slots n a (suc k) js h idle t =
     idle_first J w slots a (range_with_len (a + 1) k ++ js) (stopped_at slots a) refl (idle a (omega (arith, h))) (idle_from J w slots n (a + 1) k js (omega (arith, h)) idle t)
 
-idle_rounds : (J : Jobs) (w : World) (slots : List Slot) (n rounds : ℕ) → ((j : ℕ) → j < n → IsIdle J w slots j) → IsThinned J w w (whole_rounds n rounds) (stopped_at slots) (stopped_at slots)
-idle_rounds J w slots n zero idle = thinned_none J w (stopped_at slots)
-idle_rounds J w slots n (suc rounds) idle = idle_from J w slots n 0 n (whole_rounds n rounds) (omega arith) idle (idle_rounds J w slots n rounds idle)
+idle_cycles : (J : Jobs) (w : World) (slots : List Slot) (n cycles : ℕ) → ((j : ℕ) → j < n → IsIdle J w slots j) → IsThinned J w w (whole_cycles n cycles) (stopped_at slots) (stopped_at slots)
+idle_cycles J w slots n zero idle = thinned_none J w (stopped_at slots)
+idle_cycles J w slots n (suc cycles) idle = idle_from J w slots n 0 n (whole_cycles n cycles) (omega arith) idle (idle_cycles J w slots n cycles idle)
 
 none_less : (l x : ℕ) → l ≡ 0 → 0 < x → l < x
 none_less l x e h = omega (arith, e, h)
@@ -193,30 +193,30 @@ stopped_some slots j (Some s) at h = slice_get_within slots j s at
 as_many : (j a b : ℕ) → j < a → a ≡ b → j < b
 as_many j a b h e = omega (arith, h, e)
 
-some_turns : (x rounds : ℕ) → x ≡ rounds → 0 < rounds → 0 < x
-some_turns x rounds e h = omega (arith, e, h)
+some_turns : (x cycles : ℕ) → x ≡ cycles → 0 < cycles → 0 < x
+some_turns x cycles e h = omega (arith, e, h)
 
-has_turns : (slots : List Slot) (n rounds j : ℕ) → length slots ≡ n → 0 < rounds → stopped_at slots j ≡ true → 0 < count j (whole_rounds n rounds)
-has_turns slots n rounds j long some h =
-    some_turns (count j (whole_rounds n rounds)) rounds (whole_counts n rounds j (as_many j (length slots) n (stopped_some slots j (slice_get slots j) refl h) long)) some
+has_turns : (slots : List Slot) (n cycles j : ℕ) → length slots ≡ n → 0 < cycles → stopped_at slots j ≡ true → 0 < count j (whole_cycles n cycles)
+has_turns slots n cycles j long some h =
+    some_turns (count j (whole_cycles n cycles)) cycles (whole_counts n cycles j (as_many j (length slots) n (stopped_some slots j (slice_get slots j) refl h) long)) some
 
--- After a round in which no job asks, all rounds that are left change nothing.
-pub taken_idle : (s0 s1 s2 : List Slot) (t0 t1 t2 : List WorkingTree) (js : List ℕ) (n rounds : ℕ) → length s2 ≡ n → 0 < rounds → Taken s0 t0 js s1 t1 (whole_rounds n rounds) → StayStopped (stopped_at s1) (stopped_at s2) → StayIdle n s1 t1 s2 t2
-    → (J : Jobs) (w : World) → IsTable J w s0 t0 → (v : World) × IsTable J v s2 t2 × IsThinned J w v js (stopped_at s0) (stopped_at s2)
-taken_idle s0 s1 s2 t0 t1 t2 js n rounds long some taken stays idle = λ J w table.
+-- After a cycle in which no job asks, all cycles that are left change nothing.
+pub taken_idle : (s0 s1 s2 : List Slot) (t0 t1 t2 : List WorkingTree) (js : List ℕ) (n cycles : ℕ) → length s2 ≡ n → 0 < cycles → Taken s0 t0 js s1 t1 (whole_cycles n cycles) → StayStopped (stopped_at s1) (stopped_at s2) → StayIdle n s1 t1 s2 t2
+    → (J : Jobs) (w : World) → ShowsWorld J w s0 t0 → (v : World) × ShowsWorld J v s2 t2 × IsThinned J w v js (stopped_at s0) (stopped_at s2)
+taken_idle s0 s1 s2 t0 t1 t2 js n cycles long some taken stays idle = λ J w table.
     let x = taken J w table in
     let y = idle J x.0 x.1 in
-    (x.0, y.0, x.2 x.0 (stopped_at s2) (thinned_before J x.0 x.0 (whole_rounds n rounds) (stopped_at s1) (stopped_at s2) (stopped_at s2) stays (λ j h. has_turns s2 n rounds j long some h) (idle_rounds J x.0 s2 n rounds y.1)))
+    (x.0, y.0, x.2 x.0 (stopped_at s2) (thinned_before J x.0 x.0 (whole_cycles n cycles) (stopped_at s1) (stopped_at s2) (stopped_at s2) stays (λ j h. has_turns s2 n cycles j long some h) (idle_cycles J x.0 s2 n cycles y.1)))
 
--- The rounds that are left, and the turns that are left in one.
+-- The cycles that are left, and the turns that are left in one.
 left_less : (R i m : ℕ) → R - i ≡ m → i < R → m ≡ suc (R - (i + 1))
 left_less R i m e h = omega (arith, e, h)
 
-pub rounds_left : (n R i : ℕ) → i < R → whole_rounds n (R - i) ≡ range_with_len 0 n ++ whole_rounds n (R - (i + 1))
-rounds_left n R i h = ap (whole_rounds n) (left_less R i (R - i) refl h)
+pub cycles_left : (n R i : ℕ) → i < R → whole_cycles n (R - i) ≡ range_with_len 0 n ++ whole_cycles n (R - (i + 1))
+cycles_left n R i h = ap (whole_cycles n) (left_less R i (R - i) refl h)
 
-pub no_rounds_left : (n R i : ℕ) → R ≤ i → whole_rounds n (R - i) ≡ []
-no_rounds_left n R i h = ap (whole_rounds n) (let z : R - i ≡ 0 = omega (arith, h) in z)
+pub no_cycles_left : (n R i : ℕ) → R ≤ i → whole_cycles n (R - i) ≡ []
+no_cycles_left n R i h = ap (whole_cycles n) (let z : R - i ≡ 0 = omega (arith, h) in z)
 
 pub turns_left : (n j : ℕ) (more : List ℕ) → j < n → range_with_len j (n - j) ++ more ≡ j ∷ (range_with_len (j + 1) (n - (j + 1)) ++ more)
 turns_left n j more h = ap (λ k. range_with_len j k ++ more) (left_less n j (n - j) refl h)
@@ -235,11 +235,11 @@ still_idle J w s1 s2 j stays (inl h) = inl (stays j h)
 still_idle J w s1 s2 j stays (inr e) = inr e
 
 pub idle_more : (n : ℕ) (s0 s1 s2 : List Slot) (t0 t1 t2 : List WorkingTree) → StayIdle n s0 t0 s1 t1 → StayStopped (stopped_at s1) (stopped_at s2)
-    → ((J : Jobs) (w : World) → IsTable J w s1 t1 → IsTable J (if stopped_at s2 n then w else turn J n w) s2 t2) → ((J : Jobs) (w : World) → IsTable J w s1 t1 → IsIdle J w s2 n) → StayIdle (n + 1) s0 t0 s2 t2
+    → ((J : Jobs) (w : World) → ShowsWorld J w s1 t1 → ShowsWorld J (if stopped_at s2 n then w else turn J n w) s2 t2) → ((J : Jobs) (w : World) → ShowsWorld J w s1 t1 → IsIdle J w s2 n) → StayIdle (n + 1) s0 t0 s2 t2
 idle_more n s0 s1 s2 t0 t1 t2 idle stays turns is = λ J w table.
     let x = idle J w table in
     let here = is J w x.0 in (
-      subst (λ v. IsTable J v s2 t2) (same_if (stopped_at s2 n) w (turn J n w) here) (turns J w x.0),
+      subst (λ v. ShowsWorld J v s2 t2) (same_if (stopped_at s2 n) w (turn J n w) here) (turns J w x.0),
       λ j h. elim (cases_eq j n) [
         | inl same ↦ subst (IsIdle J w s2) (sym same) here
         | inr other ↦ still_idle J w s1 s2 j stays (x.1 j (omega (arith, h, other)))
@@ -255,8 +255,8 @@ all_left n m e = omega (arith, e)
 pub all_turns_left : (n : ℕ) (more : List ℕ) → range_with_len 0 n ++ more ≡ range_with_len 0 (n - 0) ++ more
 all_turns_left n more = ap (λ k. range_with_len 0 k ++ more) (all_left n (n - 0) refl)
 
-pub all_rounds_left : (n R : ℕ) → whole_rounds n R ≡ whole_rounds n (R - 0)
-all_rounds_left n R = ap (whole_rounds n) (all_left R (R - 0) refl)
+pub all_cycles_left : (n R : ℕ) → whole_cycles n R ≡ whole_cycles n (R - 0)
+all_cycles_left n R = ap (whole_cycles n) (all_left R (R - 0) refl)
 
 pub none_idle : (s : List Slot) (t : List WorkingTree) → StayIdle 0 s t s t
 none_idle s t = λ J w table. (table, λ j h. absurd (omega (arith, h)))

@@ -4,7 +4,7 @@ use Rattle.std.proofs.lemmas.List.{append-nil}
 use Rattle.std.specs.Prelude.{◌==◌, ℕ, zero, suc, IsTrue, slice_get, slice_index_or, filter, replicate}
 use Rattle.std.proofs.lemmas.List.{get_or-set_same}
 use Rattle.std.proofs.lemmas.Bool.{false≢true}
-use Rattle.hub_reconcile.specs.Laws.Synced.{item_by}
+use Rattle.hub_reconcile.specs.Laws.Synced.{passes-path}
 use Rattle.hub_reconcile.specs.Laws.Views.{same_paths}
 use borrow.Author.Tests.{eqb-true}
 use Rattle.hub_path.specs.Path.{Path, path_eq}
@@ -24,7 +24,7 @@ use Rattle.hub_job.specs.Run.{Runs}
 use Rattle.hub_job.specs.World.{World, Jobs, log_of, event, act, turn_of, turn, run, opening}
 use Rattle.hub_job.specs.Alike.{May, Alike}
 use Rattle.hub_job.specs.Same.{AsksMay, NoneClash}
-use Rattle.hub_job.specs.Laws.Untouched.{path_itself}
+use Rattle.hub_job.specs.Laws.Untouched.{path-of_Some}
 use Rattle.hub_job.specs.Laws.Roots.{has_its_root}
 use Rattle.hub_job.specs.Laws.Logs.{no_log, a_log_each}
 use Rattle.hub_job.specs.History.{replay, IsAnswerOf, IsLegal, entries_of, entries_at}
@@ -63,7 +63,7 @@ runs_may : AsksMay → (Q : Parts) (O : Archive) (i : ℕ) (r : Path) (front es 
 runs_may asks Q O i r front [] runs = tt
 runs_may asks Q O i r front (e ∷ es) runs =
     each_by Q r e (filter (λ e. is_root_at Q r e.side) es) (is_root_at Q r e.side)
-    (λ h. asks Q O front e.side e.step.op r runs.0 (item_by r (at_side Q.roots e.side) h))
+    (λ h. asks Q O front e.side e.step.op r runs.0 (passes-path r (at_side Q.roots e.side) h))
     (runs_may asks Q O i r (front ++ e ∷ []) es runs.3)
 
 -- and so a history's
@@ -127,8 +127,8 @@ two_roots (a ∷ b ∷ rs) Right h = (b, refl)
 one_way : (a b : Path) (x y : Bool) → path_eq a b ≡ x → path_eq b a ≡ y → x ≡ y
 one_way a b true true e f = refl
 one_way a b false false e f = refl
-one_way a b true false e f = absurd (false≢true (sym f ∙ path_itself b a (ap Some (sym (same_paths a b e)))))
-one_way a b false true e f = absurd (false≢true (sym e ∙ path_itself a b (ap Some (sym (same_paths b a f)))))
+one_way a b true false e f = absurd (false≢true (sym f ∙ path-of_Some b a (ap Some (sym (same_paths a b e)))))
+one_way a b false true e f = absurd (false≢true (sym e ∙ path-of_Some a b (ap Some (sym (same_paths b a f)))))
 
 pub root_is : (P : Parts) (r s : Path) (side : Side) → at_side P.roots side ≡ Some r → is_root_at P s side ≡ path_eq r s
 root_is P r s side e = ap (some_passes (path_eq s)) e ∙ one_way s r (path_eq s r) (path_eq r s) refl refl
@@ -168,7 +168,7 @@ alone_from J P j front (e ∷ es) v is valid log l runs a =
     let w = event P j e.side e.step.op v (Some r) in
     let turned : turn J j v ≡ w = ap (turn_of J j v) is ∙ (ap (act P j v) (ap (next P (J.archive j)) log ∙ runs.0) ∙ ap (event P j e.side e.step.op v) at) in
     let has_r = has_its_root P e.side r at in
-    let answered = answer_here P r e (filter (λ e. is_root_at P r e.side) es) (v.replica r) (path_eq r r) (path_itself r r refl) (subst (Answers P r (v.replica r)) (entries_step P r r e es at) (a r has_r)) in
+    let answered = answer_here P r e (filter (λ e. is_root_at P r e.side) es) (v.replica r) (path_eq r r) (path-of_Some r r refl) (subst (Answers P r (v.replica r)) (entries_step P r r e es at) (a r has_r)) in
     let added : log_of w j ≡ front ++ e ∷ [] =
     get_or-set_same v.logs j _ [] l ∙ λ i. log i ++ record { side = e.side; step = record { job = sym runs.2 i; op = e.step.op; answer = sym answered i } } ∷ [] in
     let more = alone_from J P j (front ++ e ∷ []) es w is valid added (subst (λ n. j < n) (sym (length-set v.logs j _)) l) runs.3

@@ -18,7 +18,7 @@ use Rattle.hub_job.specs.Phase.{asked_by}
 use Rattle.hub_job.specs.World.{World, Jobs, act, turn}
 use Rattle.hub_schedule.specs.declared.slot.Slot.{Slot}
 use Rattle.hub_schedule.specs.declared.slot.WorkingTree.{WorkingTree}
-use Rattle.hub_schedule.specs.Table.{place_on, with_job, with_tree, stopped_at, AllWouldAsk, IsIdle, IsTable, ArePlaced, StayStopped, WouldAsk}
+use Rattle.hub_schedule.specs.Table.{place_on, with_job, with_tree_after, stopped_at, AllWouldAsk, IsIdle, ShowsWorld, AreTreeNumbers, StayStopped, WouldAsk}
 use Rattle.hub_schedule.specs.Laws.Lists.{set_there, each_set}
 use Rattle.hub_schedule.proofs.Tables.{SameSlot, table_same, table_turn, turn_is}
 
@@ -51,7 +51,7 @@ set_same (y ∷ xs) (suc k) x e = ap (λ zs. y ∷ zs) (set_same xs k x e)
 pub stopped_is : (slots : List Slot) (j : ℕ) (s t : Slot) → slice_get slots j ≡ Some s → stopped_at (slice_set slots j t) j ≡ t.job.stopped
 stopped_is slots j s t is = ap (some_passes (λ (v : Slot). v.job.stopped)) (put-here slots j t (slice_get_within slots j s is))
 
-module _ (J : Jobs) (w : World) (slots : List Slot) (trees : List WorkingTree) (table : IsTable J w slots trees) (j : ℕ) (s t : Slot) (n : Next) (is : slice_get slots j ≡ Some s)
+module _ (J : Jobs) (w : World) (slots : List Slot) (trees : List WorkingTree) (table : ShowsWorld J w slots trees) (j : ℕ) (s t : Slot) (n : Next) (is : slice_get slots j ≡ Some s)
     (slot : t ≡ with_job s (after_turn s.job t.job.stopped n)) (next_is : t.job.stopped ≡ false → n ≡ next s.job.profile s.job.archive s.job.log) where
   turned : SameSlot s t
   turned = same_with s t (after_turn s.job t.job.stopped n) slot refl refl refl
@@ -66,7 +66,7 @@ module _ (J : Jobs) (w : World) (slots : List Slot) (trees : List WorkingTree) (
   same_world none true e = refl
   same_world none false e = sym (turn_is J w trees j s (table.each j s is) ∙ (ap (act s.job.profile j w) (sym (next_is e)) ∙ still n none))
 
-  pub idle : asked_by n ≡ None → IsTable J (if stopped_at (slice_set slots j t) j then w else turn J j w) (slice_set slots j t) trees
+  pub idle : asked_by n ≡ None → ShowsWorld J (if stopped_at (slice_set slots j t) j then w else turn J j w) (slice_set slots j t) trees
   idle none =
       table_same J w (cond (stopped_at (slice_set slots j t) j) w (turn J j w)) slots trees j s t table is turned (ap (λ (v : Slot). v.job.log) slot)
       (same_world none t.job.stopped refl ∙ ap (λ b. cond b w (turn J j w)) (sym (stopped_is slots j s t is)))
@@ -81,25 +81,25 @@ module _ (J : Jobs) (w : World) (slots : List Slot) (trees : List WorkingTree) (
   -- A turn in which it is answered, or finds no memory.
   module _ (side : Side) (op : Op) (asks : n ≡ Ask side op) (going : t.job.stopped ≡ false) (t2 : Slot) (k : ℕ) (u u2 : WorkingTree) (place : k ≡ place_on s side) (at : slice_get trees k ≡ Some u)
       (lost : t2.job.stopped ≡ true → (t2 ≡ with_job t (stopped_job t.job)) × (u2 ≡ u))
-      (made : t2.job.stopped ≡ false → (t2 ≡ with_job t (with_answer t.job (record { side = side; op = op }) (answer u.tree t.job.profile u.root.now op))) × (u2 ≡ with_tree u (after u.tree op))) where
-    stopped : (b : Bool) → t2.job.stopped ≡ b → IsTable J (cond b w (turn J j w)) (slice_set slots j t2) (slice_set trees k u2)
+      (made : t2.job.stopped ≡ false → (t2 ≡ with_job t (with_answer t.job (record { side = side; op = op }) (answer u.tree t.job.profile u.root.now op))) × (u2 ≡ with_tree_after u (after u.tree op))) where
+    stopped : (b : Bool) → t2.job.stopped ≡ b → ShowsWorld J (cond b w (turn J j w)) (slice_set slots j t2) (slice_set trees k u2)
     stopped true e =
         let l = lost e in
-        subst (IsTable J w (slice_set slots j t2)) (sym (ap (slice_set trees k) l.1 ∙ set_same trees k u at))
+        subst (ShowsWorld J w (slice_set slots j t2)) (sym (ap (slice_set trees k) l.1 ∙ set_same trees k u at))
         (table_same J w w slots trees j s t2 table is (same_again s t t2 turned (same_with t t2 (stopped_job t.job) l.0 refl refl refl))
         (ap (λ (v : Slot). v.job.log) l.0 ∙ ap (λ (v : Slot). v.job.log) slot) refl)
     stopped false e =
         let m = made e in
         let a : Asked = record { side = side; op = op } in
-        subst (λ (v : WorkingTree). IsTable J (turn J j w) (slice_set slots j t2) (slice_set trees k v)) (sym m.1)
-        (subst (λ (i : ℕ). IsTable J (turn J j w) (slice_set slots j t2) (slice_set trees i (with_tree u (after u.tree op)))) (sym place)
+        subst (λ (v : WorkingTree). ShowsWorld J (turn J j w) (slice_set slots j t2) (slice_set trees k v)) (sym m.1)
+        (subst (λ (i : ℕ). ShowsWorld J (turn J j w) (slice_set slots j t2) (slice_set trees i (with_tree_after u (after u.tree op)))) (sym place)
         (table_turn J w slots trees table j s t2 is (same_again s t t2 turned (same_with t t2 (with_answer t.job a (answer u.tree t.job.profile u.root.now op)) m.0 refl refl refl)) side op
         (sym (next_is going) ∙ asks) u (ap (slice_get trees) (sym place) ∙ at)
         (ap (λ (v : Slot). v.job.log) m.0
         ∙ (λ i. (slot i).job.log ++ record { side = side; step = record { job = (slot i).job.number; op = op; answer = answer u.tree (slot i).job.profile u.root.now op } } ∷ []))))
 
-    pub busy : IsTable J (if stopped_at (slice_set slots j t2) j then w else turn J j w) (slice_set slots j t2) (slice_set trees k u2)
-    busy = subst (λ b. IsTable J (cond b w (turn J j w)) (slice_set slots j t2) (slice_set trees k u2)) (sym (stopped_is slots j s t2 is)) (stopped t2.job.stopped refl)
+    pub busy : ShowsWorld J (if stopped_at (slice_set slots j t2) j then w else turn J j w) (slice_set slots j t2) (slice_set trees k u2)
+    busy = subst (λ b. ShowsWorld J (cond b w (turn J j w)) (slice_set slots j t2) (slice_set trees k u2)) (sym (stopped_is slots j s t2 is)) (stopped t2.job.stopped refl)
 
 -- A job that is stopped stays stopped, and no other job is stopped.
 pub stay_stopped : (slots : List Slot) (j : ℕ) (s t : Slot) → slice_get slots j ≡ Some s → (s.job.stopped ≡ true → t.job.stopped ≡ true) → StayStopped (stopped_at slots) (stopped_at (slice_set slots j t))
@@ -143,7 +143,7 @@ answer_asks J K L n side op is does asks going lost = λ stopped made.
     lost_asks K L side op (lost stopped) (ap (λ (x : JobValue). next x.profile x.archive x.log) is ∙ (sym (does going) ∙ asks))
 
 -- The numbers of replicas stay numbers of replicas.
-pub still_placed : (slots : List Slot) (trees : List WorkingTree) (j : ℕ) (s t : Slot) → slice_get slots j ≡ Some s → ((k : Side) → place_on t k ≡ place_on s k) → ArePlaced slots trees → ArePlaced (slice_set slots j t) trees
+pub still_placed : (slots : List Slot) (trees : List WorkingTree) (j : ℕ) (s t : Slot) → slice_get slots j ≡ Some s → ((k : Side) → place_on t k ≡ place_on s k) → AreTreeNumbers slots trees → AreTreeNumbers (slice_set slots j t) trees
 still_placed slots trees j s t is places placed = λ i x k e.
     each_set (λ (i : ℕ) (x : Slot). place_on x k < length trees) slots j s t is (subst (λ (m : ℕ). m < length trees) (sym (places k)) (placed j s k is)) (λ i z off h. placed i z k h) i x e
 

@@ -16,7 +16,7 @@ use Rattle.hub_schedule.specs.declared.slot.WorkingTree.{WorkingTree}
 use Rattle.hub_job.specs.Ends.{is_finished, end_of}
 use Rattle.hub_job.specs.Job.{view_in}
 use Rattle.hub_schedule.specs.Left.{next_value, KeptIn, KeepsUnreached, AreKept}
-use Rattle.hub_schedule.specs.Table.{IsSlot, IsTable}
+use Rattle.hub_schedule.specs.Table.{IsSlot, ShowsWorld}
 use Rattle.hub_job.specs.World.{World, Jobs}
 use Rattle.hub_schedule.specs.Laws.Lists.{map_get}
 
@@ -42,5 +42,5 @@ if_finished P O log false = tt
 of_slot : (J : Jobs) (w : World) (trees : List WorkingTree) (j : ℕ) (s : Slot) → IsSlot J w trees j s → KeepsUnreached (next_value s)
 of_slot J w trees j s a = if_finished s.job.profile s.job.archive s.job.log (is_finished (end_of s.job))
 
-pub all_kept : (J : Jobs) (w : World) (slots : List Slot) (trees : List WorkingTree) → IsTable J w slots trees → AreKept (map next_value slots)
+pub all_kept : (J : Jobs) (w : World) (slots : List Slot) (trees : List WorkingTree) → ShowsWorld J w slots trees → AreKept (map next_value slots)
 all_kept J w slots trees table = λ k n e. let s = map_get next_value slots k n e in subst KeepsUnreached (sym s.2) (of_slot J w trees k s.0 (table.each k s.0 s.1))

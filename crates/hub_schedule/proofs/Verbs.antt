@@ -30,7 +30,7 @@ use Rattle.hub_job.specs.Machine.{answer, fetched}
 use Rattle.hub_job.specs.Job.{next, missing, view_in, is_refused, fetched_last, bytes_or, steps_of, steps, op_of, look_or, step_or_end}
 use Rattle.hub_job.specs.declared.step.Step.{Step}
 use Rattle.hub_job.specs.Run.{Pair, on_side, root_at, logged, act_on, pair_run, pair_opening}
-use Rattle.hub_job.specs.Laws.Making.{Ready, Made, flat_steps, turn_is, next_end, fetched_last-push, pushed, file_of, directory_of, nothing_of, any_each, fetch_after, unchanged, marked, next_ask, steps_all, by_mark}
+use Rattle.hub_job.specs.Laws.Making.{Ready, Made, flat_steps, turn_is, next_end, fetched_last-push, Ready-pushed, File-marked, directory_of, nothing_of, any_each, fetch_after, unchanged, marked, next_ask, steps_all, by_mark}
 use Rattle.hub_job.specs.Laws.Looking.{at, log_by, next_is, act_look, both_none, looked_view, looked_ready}
 use Rattle.hub_job.specs.Laws.Finishing.{stays_finished, rest_of}
 use Rattle.hub_job.specs.Laws.Roots.{side_root}
@@ -110,7 +110,7 @@ module _ (P : Parts) (facts : IsProfile P) (A B : Replica) (O : Archive) (left :
         let u = act_on P j w (Ask (other k) (Fetch c.path)) in
         let entry = logged P j (other k) (Fetch c.path) (on_side w (other k)) in
         let gave : fetched (contents_at (on_side w (other k)) c.path) ≡ Bytes b = ap fetched (unchanged P facts A B O left right j done todo c w whole made.1 ∙ file) in
-        let ready : Ready L (flat_steps done ++ first ∷ []) u.log = pushed L w.log (flat_steps done) first entry refl (ap is_refused gave) refl made.0 in
+        let ready : Ready L (flat_steps done ++ first ∷ []) u.log = Ready-pushed L w.log (flat_steps done) first entry refl (ap is_refused gave) refl made.0 in
         let held : fetched_last [] u.log ≡ b = fetched_last-push [] w.log entry ∙ ap (bytes_or (fetched_last [] w.log)) gave in
         let maps : Maps done u = λ i. made.1 i ∙ ap (λ m. Some m) (sym (fetch_after P j w (other k) i c.path)) in
         let more : steps V ≡ (flat_steps done ++ first ∷ []) ++ second ∷ flat_steps todo = all ∙ sym (append_assoc (flat_steps done) (first ∷ []) (second ∷ flat_steps todo)) in
@@ -123,7 +123,7 @@ module _ (P : Parts) (facts : IsProfile P) (A B : Replica) (O : Archive) (left :
     early : (done todo : List Change) (c : Change) (w : Pair) (m : Mark) (n : ℕ) → c.mark ≡ m → plan V ≡ done ++ c ∷ todo → IsMade done w → n < length (steps_of c.side c.path m) → Good (pair_run P O j n w)
     unfolding pair_run
     early done todo c w (mark.File d) n e whole made l =
-        let file = file_of (s c.side c.path) d (sym e ∙ marked P facts A B O left right j done todo c whole) in
+        let file = File-marked (s c.side c.path) d (sym e ∙ marked P facts A B O left right j done todo c whole) in
         filed_good done todo c w d file.0 n e whole made file.1 l
     early done todo c w mark.Directory zero e whole made l =
         plain_good done todo c w (record { side = c.side; path = c.path; fetches = false; mark = mark.Directory }) mark.Directory e whole made refl

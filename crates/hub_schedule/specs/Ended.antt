@@ -14,7 +14,7 @@ use Rattle.hub_job.specs.Run.{root_at}
 use Rattle.hub_job.specs.JobValue.{JobValue}
 use Rattle.hub_schedule.specs.declared.slot.Slot.{Slot}
 use Rattle.hub_schedule.specs.declared.slot.WorkingTree.{WorkingTree}
-use Rattle.hub_schedule.specs.Table.{place_on, AreTrees, IsPlaced}
+use Rattle.hub_schedule.specs.Table.{place_on, AreTrees, IsTreeNumber}
 
 -- How the job ends.
 abbrev pub ended_value : JobValue → JobEnd
@@ -29,11 +29,11 @@ pub record IsEnded (S : State) (Ps : List Parts) (j : ℕ) (J : JobValue) : Type
 
 -- Both replicas of a profile are there.
 abbrev pub HasPlaces : List WorkingTree → Parts → Type 0
-HasPlaces trees P = (k : Side) → (n : ℕ) × IsPlaced trees (root_at P k) n
+HasPlaces trees P = (k : Side) → (n : ℕ) × IsTreeNumber trees (root_at P k) n
 
 -- The jobs of profiles, by number, and the replicas of all their roots, each once.
-pub record AreEnded (S : State) (Ps : List Parts) (replica : Path → Replica) (jobs : List JobValue)
-    (trees : List WorkingTree) : Type 0 where
+pub record AreEndedWith (S : State) (Ps : List Parts) (replica : Path → Replica)
+    (jobs : List JobValue) (trees : List WorkingTree) : Type 0 where
   pub each : (j : ℕ) (K : JobValue) → slice_get jobs j ≡ Some K → IsEnded S Ps j K
   pub count : length jobs ≡ length Ps
   pub replicas : AreTrees replica trees
@@ -45,7 +45,7 @@ pub record AreEnded (S : State) (Ps : List Parts) (replica : Path → Replica) (
 pub record IsSlotOf (trees : List WorkingTree) (J : JobValue) (s : Slot) : Type 0 where
   pub valid : IsProfile s.job.profile
   pub job : s.job ≡ J
-  pub places : (k : Side) → IsPlaced trees (root_at s.job.profile k) (place_on s k)
+  pub places : (k : Side) → IsTreeNumber trees (root_at s.job.profile k) (place_on s k)
 
 -- The jobs, in their order, with the numbers of their replicas.
 pub record AreSlotsOf (trees : List WorkingTree) (jobs : List JobValue) (slots : List Slot) :

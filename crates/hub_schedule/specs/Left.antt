@@ -12,19 +12,20 @@ use Rattle.hub_job.specs.declared.job_end.JobEnd.{JobEnd}
 use Rattle.hub_schedule.specs.declared.slot.Slot.{Slot}
 use Rattle.hub_schedule.specs.declared.slot.WorkingTree.{WorkingTree}
 use Rattle.hub_schedule.specs.Next.{NextValue}
-use Rattle.hub_job.specs.Ends.{end_of, items_of, archive_of}
+use Rattle.hub_job.specs.Ends.{end_of, items_of, archive_left}
 
 abbrev pub end_value : Slot → JobEnd
 end_value s = record { end = end_of s.job; log = s.job.log; items = items_of s.job }
 
 abbrev pub next_value : Slot → NextValue
-next_value s = record { profile = s.job.profile; opening = s.job.archive; next = archive_of s.job }
+next_value s =
+    record { profile = s.job.profile; opening = s.job.archive; next = archive_left s.job }
 
 abbrev pub put_tree : State → WorkingTree → State
 put_tree S t = with_replica S t.root.now t.tree
 
-abbrev pub is_in : Archive → Path → Bool
-is_in a p = fin.contains_key a p
+abbrev pub has_mark : Archive → Path → Bool
+has_mark a p = fin.contains_key a p
 
 -- The mark of a pair's archive at a path.
 abbrev pub mark_in : State → Path → Path → Path → Mark
@@ -56,12 +57,12 @@ abbrev pub has_pair : Parts → Path → Path → Bool
 has_pair P r s = has_root P r && has_root P s
 
 -- Whether a job leaves an archive of a pair of roots: it has a next archive, and both roots.
-abbrev pub is_left : Parts → Option Archive → Path → Path → Bool
-is_left P None r s = false
-is_left P (Some next) r s = has_pair P r s
+abbrev pub leaves_next_archive : Parts → Option Archive → Path → Path → Bool
+leaves_next_archive P None r s = false
+leaves_next_archive P (Some next) r s = has_pair P r s
 
 abbrev pub one_is_left : List NextValue → Path → Path → Bool
-one_is_left ns r s = list_any (λ n. is_left n.profile n.next r s) ns
+one_is_left ns r s = list_any (λ n. leaves_next_archive n.profile n.next r s) ns
 
 -- The archive of a pair of different roots is there exactly if it is left, or was there.
 abbrev pub HasArchives : (Path → Path → Bool) → State → State → Type 0

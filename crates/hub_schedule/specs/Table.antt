@@ -28,16 +28,16 @@ place_on s Right = s.right
 abbrev pub with_job : Slot → JobValue → Slot
 with_job s job = record s { job = job }
 
-abbrev pub with_tree : WorkingTree → Replica → WorkingTree
-with_tree t m = record t { tree = m }
+abbrev pub with_tree_after : WorkingTree → Replica → WorkingTree
+with_tree_after t m = record t { tree = m }
 
 -- Whether there is a job of this number, and it was stopped.
 abbrev pub stopped_at : List Slot → ℕ → Bool
 stopped_at slots j = some_passes (λ s. s.job.stopped) (slice_get slots j)
 
 -- The replica of a root has this number.
-abbrev pub IsPlaced : List WorkingTree → Path → ℕ → Type 0
-IsPlaced trees r k = (t : WorkingTree) × (slice_get trees k ≡ Some t) × (t.root.now ≡ r)
+abbrev pub IsTreeNumber : List WorkingTree → Path → ℕ → Type 0
+IsTreeNumber trees r k = (t : WorkingTree) × (slice_get trees k ≡ Some t) × (t.root.now ≡ r)
 
 -- None of the first n replicas is that of a root.
 abbrev pub IsNotIn : List WorkingTree → ℕ → Path → Type 0
@@ -55,14 +55,14 @@ pub record IsNew (j : ℕ) (P : Parts) (O : Archive) (s : Slot) : Type 0 where
   pub job : s.job ≡ new_job j P O
 
 -- All replicas keep their numbers, and each new one has a root of the profile.
-pub record Extends (P : Parts) (old new : List WorkingTree) : Type 0 where
+pub record AddsTrees (P : Parts) (old new : List WorkingTree) : Type 0 where
   pub kept : (k : ℕ) (t : WorkingTree) → slice_get old k ≡ Some t → slice_get new k ≡ Some t
   pub rest : (k : ℕ) (t : WorkingTree) → slice_get new k ≡ Some t → (slice_get old k ≡ Some t)
       ⊎ (has_root P t.root.now ≡ true)
 
 -- The numbers of a job's replicas are numbers of replicas.
-abbrev pub ArePlaced : List Slot → List WorkingTree → Type 0
-ArePlaced slots trees =
+abbrev pub AreTreeNumbers : List Slot → List WorkingTree → Type 0
+AreTreeNumbers slots trees =
     (j : ℕ) (s : Slot) (k : Side) → slice_get slots j ≡ Some s → place_on s k < length trees
 
 -- A job of a world: its profile, archive, number and log, and the numbers of its replicas.
@@ -73,10 +73,10 @@ pub record IsSlot (J : Jobs) (w : World) (trees : List WorkingTree) (j : ℕ) (s
   pub archive : s.job.archive ≡ J.archive j
   pub number : s.job.number ≡ j
   pub log : s.job.log ≡ log_of w j
-  pub places : (k : Side) → IsPlaced trees (root_at s.job.profile k) (place_on s k)
+  pub places : (k : Side) → IsTreeNumber trees (root_at s.job.profile k) (place_on s k)
 
 -- These jobs and replicas are those of a world.
-pub record IsTable (J : Jobs) (w : World) (slots : List Slot) (trees : List WorkingTree) :
+pub record ShowsWorld (J : Jobs) (w : World) (slots : List Slot) (trees : List WorkingTree) :
     Type 0 where
   pub each : (j : ℕ) (s : Slot) → slice_get slots j ≡ Some s → IsSlot J w trees j s
   pub count : length slots ≡ length J.profiles
@@ -112,15 +112,15 @@ pub record IsThinned (J : Jobs) (w v : World) (schedule : List ℕ) (before afte
 abbrev pub Taken : List Slot → List WorkingTree → List ℕ → List Slot → List WorkingTree → List ℕ
     → Type 0
 Taken slots trees schedule slots_now trees_now rest =
-    (J : Jobs) (w : World) → IsTable J w slots trees
-    → (v : World) × IsTable J v slots_now trees_now
+    (J : Jobs) (w : World) → ShowsWorld J w slots trees
+    → (v : World) × ShowsWorld J v slots_now trees_now
     × ((u : World) (after : ℕ → Bool) → IsThinned J v u rest (stopped_at slots_now) after
     → IsThinned J w u schedule (stopped_at slots) after)
 
--- So many rounds, in each of which each job has one turn.
-abbrev pub whole_rounds : ℕ → ℕ → List ℕ
-whole_rounds jobs zero = []
-whole_rounds jobs (suc rounds) = range_with_len 0 jobs ++ whole_rounds jobs rounds
+-- So many cycles, in each of which each job has one turn.
+abbrev pub whole_cycles : ℕ → ℕ → List ℕ
+whole_cycles jobs zero = []
+whole_cycles jobs (suc cycles) = range_with_len 0 jobs ++ whole_cycles jobs cycles
 
 -- A turn of the job changes nothing: it is stopped, or finished.
 abbrev pub IsIdle : Jobs → World → List Slot → ℕ → Type 0
@@ -130,7 +130,7 @@ IsIdle J w slots j = (stopped_at slots j ≡ true) ⊎ (turn J j w ≡ w)
 -- changes nothing in it.
 abbrev pub StayIdle : ℕ → List Slot → List WorkingTree → List Slot → List WorkingTree → Type 0
 StayIdle n slots trees slots_now trees_now =
-    (J : Jobs) (w : World) → IsTable J w slots trees → IsTable J w slots_now trees_now
+    (J : Jobs) (w : World) → ShowsWorld J w slots trees → ShowsWorld J w slots_now trees_now
     × ((j : ℕ) → j < n → IsIdle J w slots_now j)
 
 -- The outcome of each world that these jobs and replicas stand for; and a job ends as stopped if it
@@ -138,17 +138,17 @@ StayIdle n slots trees slots_now trees_now =
 -- another step, if that is so of all of these.
 abbrev pub IsOutcomeAfter : State → List Slot → List WorkingTree → Outcome → Type 0
 IsOutcomeAfter S slots trees o =
-    ((Ps : List Parts) (w : World) → HasReplicas S Ps → IsTable (jobs_of S Ps) w slots trees
+    ((Ps : List Parts) (w : World) → HasReplicas S Ps → ShowsWorld (jobs_of S Ps) w slots trees
     → IsOutcomeWith S Ps (log_of w) w.replica o)
     × ((j : ℕ) (e : JobEnd) → slice_get o.jobs j ≡ Some e → e.end ≢ end.Stopped
     → stopped_at slots j ≡ false)
     × ((Ps : List Parts) (w : World) (j : ℕ) (P : Parts) (e : JobEnd)
-    → IsTable (jobs_of S Ps) w slots trees
+    → ShowsWorld (jobs_of S Ps) w slots trees
     → slice_get Ps j ≡ Some P → slice_get o.jobs j ≡ Some e → e.end ≡ end.Stopped
     → next P (archive_of S (Some P)) e.log ≢ Stopped
     → (stopped_at slots j ≡ true)
     × (AllWouldAsk slots → 0 < steps_made e.log → next P (archive_of S (Some P)) e.log ≢ Finished))
 
--- The outcome is that of some number of whole rounds.
-abbrev pub IsInRounds : State → List Parts → Outcome → Type 0
-IsInRounds S Ps o = (rounds : ℕ) × IsSimulated S Ps (whole_rounds (length Ps) rounds) o
+-- The outcome is that of some number of whole cycles.
+abbrev pub IsInCycles : State → List Parts → Outcome → Type 0
+IsInCycles S Ps o = (cycles : ℕ) × IsSimulated S Ps (whole_cycles (length Ps) cycles) o

@@ -5,9 +5,9 @@ ghost use Rattle.hub_profile.specs.Parts.{Parts};
 ghost use Rattle.hub_tree.specs.Tree.{Replica};
 ghost use Rattle.hub_job.specs.Outcome.{IsOutcomeWith};
 ghost use Rattle.hub_job.specs.JobValue.{JobValue};
-ghost use Rattle.hub_schedule.specs.Ended.{AreEnded, AreSlotsOf, HasPlaces, IsSlotOf, ended_value};
+ghost use Rattle.hub_schedule.specs.Ended.{AreEndedWith, AreSlotsOf, HasPlaces, IsSlotOf, ended_value};
 ghost use Rattle.hub_schedule.specs.Promise.{HasReplicas, logs_in};
-ghost use Rattle.hub_schedule.specs.Table.{IsPlaced};
+ghost use Rattle.hub_schedule.specs.Table.{IsTreeNumber};
 
 use crate::schedule::outcome_of;
 use crate::slot::{Slot, WorkingTree};
@@ -26,10 +26,10 @@ pub fn outcome_of_jobs<'a>(
     trees: Vec<WorkingTree<'a>>,
 ) -> Result<Outcome, AllocError>
     requires { (Ps : List Parts) × (replica : Path → Replica)
-        × AreEnded state.now Ps replica jobs.items trees.items }
+        × AreEndedWith state.now Ps replica jobs.items trees.items }
     ensures outcome { IfOk result (λ o. (Ps : List Parts) (replica : Path → Replica)
         → HasReplicas state.now Ps
-        → AreEnded state.now Ps replica jobs.entry.items trees.entry.items
+        → AreEndedWith state.now Ps replica jobs.entry.items trees.entry.items
         → IsOutcomeWith state.now Ps (logs_in o) replica o) }
     ensures ends { IfOk result (λ o. o.jobs ≡ map ended_value jobs.entry.items) }
 {
@@ -67,8 +67,8 @@ fn slot_of<'a>(job: Job<'a>, trees: &[WorkingTree<'_>]) -> Slot<'a>
 
 /// Returns the number of a root's replica, which is there.
 fn place_of(trees: &[WorkingTree<'_>], root: &Root) -> usize
-    requires { (n : ℕ) × IsPlaced trees.now root.now n }
-    ensures { IsPlaced trees.now root.now result }
+    requires { (n : ℕ) × IsTreeNumber trees.now root.now n }
+    ensures { IsTreeNumber trees.now root.now result }
 {
     let Some(place) = find_tree(trees, root) else {
         unreachable!()

@@ -102,7 +102,7 @@ fn put_next(state: &mut State, job: NextArchive<'_>) -> Result<(), AllocError>
     requires { spec.KeepsUnreached job }
     ensures replicas { OnOk result (state.new.replicas ≡ state.old.replicas) }
     ensures archives { OnOk result (spec.HasArchives
-        (spec.is_left job.entry.profile job.entry.next) state.old state.new) }
+        (spec.leaves_next_archive job.entry.profile job.entry.next) state.old state.new) }
     ensures marks { OnOk result (spec.HasMarks
         (spec.mark_of_next job.entry.profile job.entry.next) state.old state.new) }
 {
@@ -179,7 +179,7 @@ fn take_marks(
     merged: &mut Archive,
 ) -> Result<(), AllocError>
     ensures { OnOk result ((p : Path) → of_tree.old_mark_at merged.new p
-        ≡ (if spec.is_in paths.now p && reach profile.now p then of_tree.old_mark_at next.now p
+        ≡ (if spec.has_mark paths.now p && reach profile.now p then of_tree.old_mark_at next.now p
         else of_tree.old_mark_at merged.old p)) }
 {
     for (path, _) in paths.iter() {

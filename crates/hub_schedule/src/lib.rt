@@ -10,11 +10,11 @@
 //! From `test_schedules/src/schedules.rt`.
 #![tactic(auto)]
 
+mod cycles;
 mod ended;
 mod ends;
 pub mod promise;
 mod refusals;
-mod rounds;
 mod safe;
 mod schedule;
 mod slot;
@@ -22,9 +22,9 @@ mod slots;
 pub mod together;
 mod turn;
 
+pub use cycles::{cycles_for, run_cycles};
 pub use ended::outcome_of_jobs;
 pub use refusals::find_missing;
-pub use rounds::{rounds_for, run_rounds};
 pub use safe::simulate;
 pub use schedule::simulate_jobs;
 pub use slot::WorkingTree;

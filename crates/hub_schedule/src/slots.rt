@@ -4,7 +4,7 @@ ghost use Rattle.hub_path.specs.declared.side.Side.TheVariants as of_side;
 ghost use Rattle.hub_schedule.specs.declared.slot.WorkingTree.{WorkingTree};
 ghost use Rattle.hub_job.specs.Outcome.{archive_of, jobs_of, replicas_of};
 ghost use Rattle.hub_job.specs.Run.{root_at};
-ghost use Rattle.hub_schedule.specs.Table.{AreTrees, Extends, IsNew, IsNotIn, IsPlaced, IsTable, stopped_at};
+ghost use Rattle.hub_schedule.specs.Table.{AreTrees, AddsTrees, IsNew, IsNotIn, IsTreeNumber, ShowsWorld, stopped_at};
 ghost use Rattle.hub_job.specs.World.{opening};
 
 use crate::slot::{Slot, WorkingTree};
@@ -22,7 +22,7 @@ pub(crate) fn slots_for<'a>(
     profiles: &'a [Profile],
     state: &'a State,
 ) -> Result<(Vec<Slot<'a>>, Vec<WorkingTree<'a>>), AllocError>
-    ensures table { IfOk result (λ r. IsTable (jobs_of state.now profiles.now)
+    ensures table { IfOk result (λ r. ShowsWorld (jobs_of state.now profiles.now)
         (opening (jobs_of state.now profiles.now) (replicas_of state.now)) r.0.items r.1.items) }
     ensures going { IfOk result (λ r. (j : ℕ) → stopped_at r.0.items j ≡ false) }
 {
@@ -47,11 +47,11 @@ fn slot_for<'a>(
     ensures slot { IfOk result (λ s.
         IsNew number profile.now (archive_of state.now (Some profile.now)) s) }
     ensures left { IfOk result
-        (λ s. IsPlaced trees.new.items (root_at profile.now of_side.Left) s.left) }
+        (λ s. IsTreeNumber trees.new.items (root_at profile.now of_side.Left) s.left) }
     ensures right { IfOk result
-        (λ s. IsPlaced trees.new.items (root_at profile.now of_side.Right) s.right) }
+        (λ s. IsTreeNumber trees.new.items (root_at profile.now of_side.Right) s.right) }
     ensures trees { OnOk result (AreTrees (replicas_of state.now) trees.new.items) }
-    ensures more { OnOk result (Extends profile.now trees.old.items trees.new.items) }
+    ensures more { OnOk result (AddsTrees profile.now trees.old.items trees.new.items) }
 {
     let roots = profile.roots();
     let left = place_for(alloc, state, &roots[0], trees)?;
@@ -68,7 +68,7 @@ fn place_for<'a>(
     trees: &mut Vec<WorkingTree<'a>>,
 ) -> Result<usize, AllocError>
     requires { AreTrees (replicas_of state.now) trees.old.items }
-    ensures placed { IfOk result (IsPlaced trees.new.items root.now) }
+    ensures placed { IfOk result (IsTreeNumber trees.new.items root.now) }
     ensures trees { OnOk result (AreTrees (replicas_of state.now) trees.new.items) }
     ensures more { OnOk result ((k : ℕ) (t : WorkingTree) → slice_get trees.old.items k ≡ Some t
         → slice_get trees.new.items k ≡ Some t) }
@@ -103,7 +103,7 @@ fn copy_of(alloc: Global, state: &State, root: &Root) -> Result<Tree, AllocError
 /// Finds the replica of a root.
 pub(crate) fn find_tree(trees: &[WorkingTree<'_>], root: &Root) -> Option<usize>
     ensures { MatchOption result (IsNotIn trees.now (length trees.now) root.now)
-        (IsPlaced trees.now root.now) }
+        (IsTreeNumber trees.now root.now) }
 {
     for (place, tree) in trees.iter().enumerate() {
         if tree.root == root {

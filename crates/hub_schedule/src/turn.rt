@@ -3,7 +3,7 @@ ghost use Rattle.std.specs.Prelude.{◌≡◌, ◌<◌, ◌++◌, ℕ, List, tru
 ghost use Rattle.std.specs.List.{range_with_len};
 ghost use Rattle.hub_job.specs.JobValue as value;
 ghost use Rattle.hub_job.specs.Machine as machine;
-ghost use Rattle.hub_schedule.specs.Table.{AllWouldAsk, ArePlaced, IsIdle, IsTable, IsThinned, StayIdle, StayStopped, Taken, stopped_at, whole_rounds, with_job, with_tree};
+ghost use Rattle.hub_schedule.specs.Table.{AllWouldAsk, AreTreeNumbers, IsIdle, ShowsWorld, IsThinned, StayIdle, StayStopped, Taken, stopped_at, whole_cycles, with_job, with_tree_after};
 ghost use Rattle.hub_job.specs.World.{Jobs, World, turn};
 
 use crate::slot::{Slot, WorkingTree};
@@ -18,10 +18,10 @@ pub(crate) fn take_turns(
     trees: &mut Vec<WorkingTree<'_>>,
     schedule: &[usize],
 )
-    requires placed { ArePlaced slots.old.items trees.old.items }
+    requires placed { AreTreeNumbers slots.old.items trees.old.items }
     requires numbers { All (λ j. j < length slots.old.items) schedule.now }
-    ensures turns { (J : Jobs) (w : World) → IsTable J w slots.old.items trees.old.items
-        → (v : World) × IsTable J v slots.new.items trees.new.items
+    ensures turns { (J : Jobs) (w : World) → ShowsWorld J w slots.old.items trees.old.items
+        → (v : World) × ShowsWorld J v slots.new.items trees.new.items
         × IsThinned J w v schedule.now (stopped_at slots.old.items) (stopped_at slots.new.items) }
     ensures more { AllWouldAsk slots.old.items → AllWouldAsk slots.new.items }
 {
@@ -30,37 +30,37 @@ pub(crate) fn take_turns(
     }
 }
 
-/// Lets the jobs take turns in rounds, at most so many: in each round each job has one turn, in the order of their numbers.
-/// It ends after a round in which no job asks, since none would ask later.
-pub(crate) fn take_rounds(
+/// Lets the jobs take turns in cycles, at most so many: in each cycle each job has one turn, in the order of their numbers.
+/// It ends after a cycle in which no job asks, since none would ask later.
+pub(crate) fn take_cycles(
     alloc: Global,
     slots: &mut Vec<Slot<'_>>,
     trees: &mut Vec<WorkingTree<'_>>,
-    rounds: u64,
+    cycles: u64,
 )
-    requires { ArePlaced slots.old.items trees.old.items }
-    ensures turns { (J : Jobs) (w : World) → IsTable J w slots.old.items trees.old.items
-        → (v : World) × IsTable J v slots.new.items trees.new.items
-        × IsThinned J w v (whole_rounds (length slots.old.items) rounds)
+    requires { AreTreeNumbers slots.old.items trees.old.items }
+    ensures turns { (J : Jobs) (w : World) → ShowsWorld J w slots.old.items trees.old.items
+        → (v : World) × ShowsWorld J v slots.new.items trees.new.items
+        × IsThinned J w v (whole_cycles (length slots.old.items) cycles)
         (stopped_at slots.old.items) (stopped_at slots.new.items) }
     ensures more { AllWouldAsk slots.old.items → AllWouldAsk slots.new.items }
 {
-    for _ in 0..rounds {
-        if !take_round(alloc, slots, trees) {
+    for _ in 0..cycles {
+        if !take_cycle(alloc, slots, trees) {
             return;
         }
     }
 }
 
 /// Lets each job take a turn, in the order of their numbers. It returns whether one of them asked.
-fn take_round(alloc: Global, slots: &mut Vec<Slot<'_>>, trees: &mut Vec<WorkingTree<'_>>) -> bool
-    requires { ArePlaced slots.old.items trees.old.items }
+fn take_cycle(alloc: Global, slots: &mut Vec<Slot<'_>>, trees: &mut Vec<WorkingTree<'_>>) -> bool
+    requires { AreTreeNumbers slots.old.items trees.old.items }
     ensures taken { (more : List ℕ) → Taken slots.old.items trees.old.items
         (range_with_len 0 (length slots.old.items) ++ more) slots.new.items trees.new.items more }
     ensures idle { result ≡ false → StayIdle (length slots.old.items)
         slots.old.items trees.old.items slots.new.items trees.new.items }
     ensures stays { StayStopped (stopped_at slots.old.items) (stopped_at slots.new.items) }
-    ensures placed { ArePlaced slots.new.items trees.new.items }
+    ensures placed { AreTreeNumbers slots.new.items trees.new.items }
     ensures count { length slots.new.items ≡ length slots.old.items }
     ensures more { AllWouldAsk slots.old.items → AllWouldAsk slots.new.items }
 {
@@ -81,18 +81,18 @@ fn take_turn(
     trees: &mut Vec<WorkingTree<'_>>,
     number: usize,
 ) -> bool
-    requires placed { ArePlaced slots.old.items trees.old.items }
+    requires placed { AreTreeNumbers slots.old.items trees.old.items }
     requires number { number < length slots.old.items }
-    ensures turn { (J : Jobs) (w : World) → IsTable J w slots.old.items trees.old.items
-        → IsTable J (if stopped_at slots.new.items number then w else turn J number w)
+    ensures turn { (J : Jobs) (w : World) → ShowsWorld J w slots.old.items trees.old.items
+        → ShowsWorld J (if stopped_at slots.new.items number then w else turn J number w)
         slots.new.items trees.new.items }
     ensures stays { StayStopped (stopped_at slots.old.items) (stopped_at slots.new.items) }
     ensures others { (j : ℕ) → stopped_at slots.new.items j ≡ true
         → stopped_at slots.old.items j ≡ false → j ≡ number }
     ensures idle { result ≡ false → (J : Jobs) (w : World)
-        → IsTable J w slots.old.items trees.old.items
+        → ShowsWorld J w slots.old.items trees.old.items
         → IsIdle J w slots.new.items number }
-    ensures placed { ArePlaced slots.new.items trees.new.items }
+    ensures placed { AreTreeNumbers slots.new.items trees.new.items }
     ensures count { length slots.new.items ≡ length slots.old.items }
     ensures more { AllWouldAsk slots.old.items → AllWouldAsk slots.new.items }
 {
@@ -116,7 +116,7 @@ fn answer(alloc: Global, slot: &mut Slot<'_>, replica: &mut WorkingTree<'_>, sid
         → (slot.new ≡ with_job slot.old (value.with_answer slot.old.job
         (record { side = side; op = op.now })
         (machine.answer replica.old.tree slot.old.job.profile replica.old.root.now op.now)))
-        × (replica.new ≡ with_tree replica.old (machine.after replica.old.tree op.now)) }
+        × (replica.new ≡ with_tree_after replica.old (machine.after replica.old.tree op.now)) }
 {
     match perform(
         alloc,

@@ -19,7 +19,7 @@ use Rattle.hub_report.specs.ClashesAnswer as clashes
 use Rattle.hub_report.specs.ReachAnswer as reach
 use Rattle.hub_report.specs.RunAnswer as run
 use Rattle.hub_report.specs.Report.{status_of}
-use Rattle.hub_report.specs.Starts.{begins, first}
+use Rattle.hub_report.specs.Starts.{begins-taken, first}
 use Rattle.hub_bundle.specs.declared.input.InputFault.TheVariants.{TurnsSpent}
 use Rattle.hub_serve.specs.Reads.{Reads}
 use Rattle.hub_serve.specs.Rounds.{BeginsAsClash}
@@ -104,7 +104,7 @@ nothing-written old new status before text x a d f g = go a.writes
     go : Keeps old new ⊎ ((written : ℕ) × Appends old new (take written (codes "fault: out of memory\n"))) → ⊥
     go (inl k) = omega (arith, ap length (kept k), length-append before (x ∷ text))
     go (inr w) =
-        let front = begins (x ∷ []) (codes "fault: out of memory\n") text w.0 (appended old new before _ _ w.1 f g) in
+        let front = begins-taken (x ∷ []) (codes "fault: out of memory\n") text w.0 (appended old new before _ _ w.1 f g) in
         let same : 102 ≡ x = ap first front.whole in
         false≢true (sym d ∙ eq-eqb 102 x same)
 

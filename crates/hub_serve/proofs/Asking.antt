@@ -5,7 +5,7 @@ use Rattle.std.proofs.lemmas.Option.{same_Some}
 use Rattle.hub_cert.specs.Refused.{IsRefused}
 use Rattle.hub_cert.specs.declared.fault.CheckFault.{CheckFault}
 use Rattle.hub_state.specs.State.{State}
-use Rattle.hub_bundle.specs.declared.sections.Contents.{Contents}
+use Rattle.hub_bundle.specs.declared.sections.BundleContents.{BundleContents}
 use Rattle.hub_bundle.specs.Sections.{members}
 use Rattle.hub_cli.specs.declared.words.Question.{Question}
 use Rattle.hub_cli.specs.declared.words.Question.TheVariants as ask
@@ -14,7 +14,7 @@ use Rattle.hub_cli.specs.Words.{Request, about}
 use Rattle.hub_serve.specs.declared.task.Task.{Task}
 use Rattle.hub_serve.specs.declared.task.Task.TheVariants as task
 use Rattle.hub_serve.specs.Report.{FaultOf, IsRefusedFor}
-use Rattle.hub_serve.specs.Task.{AsksFor, task_of}
+use Rattle.hub_serve.specs.Task.{AsksTask, task_of}
 
 -- The request by which alone this is asked for, of a bundle that has this state or none. A check, a run and certificates
 -- aren't in question here.
@@ -41,19 +41,19 @@ asks-by ask.Clashes state = refl
 asks-by ask.Graph state = refl
 asks-by ask.Rounds state = refl
 
-pub asks : (request : Request) (state : Option State) (t : Task) → AsksFor request state t → AsksAlone t request state
+pub asks : (request : Request) (state : Option State) (t : Task) → AsksTask request state t → AsksAlone t request state
 asks request state t a =
     subst (λ r. AsksAlone t r state) (sym a.asked)
     (subst (λ o. IfSome o (λ u. AsksAlone u (about a.of_set) state)) a.task_is (asks-by a.of_set state))
 
 -- The question what clashes asks for nothing else.
-pub asked-clashes : (request : Request) (state : Option State) (t : Task) → AsksFor request state t → request ≡ about ask.Clashes → t ≡ task.Clashes
+pub asked-clashes : (request : Request) (state : Option State) (t : Task) → AsksTask request state t → request ≡ about ask.Clashes → t ≡ task.Clashes
 asked-clashes request state t a is =
     let about_is : about a.of_set ≡ about ask.Clashes = sym a.asked ∙ is in
     let q_is : a.of_set ≡ ask.Clashes = cc in
     sym (same_Some task.Clashes t (subst (λ q. task_of q state ≡ Some t) q_is a.task_is))
 
 -- So no set is refused for a goal then.
-pub unrefused : (request : Request) (c : Contents) (t : Task) (e : CheckFault) → AsksFor request c.state t → request ≡ about ask.Clashes → IsRefusedFor t c e → IsRefused (members c) e
+pub unrefused : (request : Request) (c : BundleContents) (t : Task) (e : CheckFault) → AsksTask request c.state t → request ≡ about ask.Clashes → IsRefusedFor t c e → IsRefused (members c) e
 unrefused request c t e a is (inl h) = h
 unrefused request c t e a is (inr h) = absurd (subst (λ u. FaultOf u (members c) c.certificates e) (asked-clashes request c.state t a is) h)

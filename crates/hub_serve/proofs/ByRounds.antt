@@ -16,7 +16,7 @@ use Rattle.hub_search.specs.Faults.{AreFaults}
 use Rattle.hub_search.specs.Search.{Disproves}
 use Rattle.hub_rounds.specs.Rounds.{AreRounds, IsPlaced, is_in_some}
 use Rattle.hub_rounds.specs.declared.placing.Placing.{Placing}
-use Rattle.hub_rounds.specs.declared.placing.Placing.TheVariants.{Round, Left}
+use Rattle.hub_rounds.specs.declared.placing.Placing.TheVariants.{Round, Unplaced}
 use Rattle.hub_rounds.specs.declared.rounds.Rounds.{Rounds}
 use Rattle.hub_state.specs.State.{State}
 use Rattle.hub_job.specs.declared.outcome.Outcome.{Outcome}
@@ -29,7 +29,7 @@ use Rattle.hub_serve.specs.declared.run.Attempt.TheVariants.{Ran, NotRun}
 use Rattle.hub_serve.specs.Runs.{ComesOf, IsRunOn, PreventsRun}
 use Rattle.hub_serve.specs.ByRounds.{AllFinished, AreRunFrom, Ends, HaveRun, IsAdded, IsBegun}
 use Rattle.hub_serve.specs.ByRounds.{HasRunByRounds, IsFirstAlone, is_alone, leaves_out}
-use Rattle.hub_serve.specs.ByRounds.{IsRoundRun, IsStep, lines_of_rounds, not_run, round_set, state_after}
+use Rattle.hub_serve.specs.ByRounds.{IsRoundRun, AddsRound, job_lines_of_rounds, not_run, round_set, state_after}
 
 -- The state that one more round left.
 state-more : (S : State) (os : List Outcome) (o : Outcome) → state_after S (os ++ o ∷ []) ≡ o.state
@@ -59,14 +59,14 @@ run-more Rs n S (Qs ∷ rounds) (p ∷ os) Ps o run all at h =
 
 -- Its lines follow those of the others.
 lines-more : (rounds : List (List Parts)) (os : List Outcome) (Ps : List Parts) (o : Outcome) → slice_get rounds (length os) ≡ Some Ps
-    → lines_of_rounds rounds (os ++ o ∷ []) ≡ lines_of_rounds rounds os ++ lines_of_jobs Ps o.jobs
+    → job_lines_of_rounds rounds (os ++ o ∷ []) ≡ job_lines_of_rounds rounds os ++ lines_of_jobs Ps o.jobs
 lines-more [] [] Ps o at = cc
 lines-more [] (p ∷ os) Ps o at = cc
 lines-more (Qs ∷ rounds) [] Ps o at =
     append-nil (lines_of_jobs Qs o.jobs) ∙ ap (λ (Xs : List Parts). lines_of_jobs Xs o.jobs) (same_Some Qs Ps at)
 lines-more (Qs ∷ rounds) (p ∷ os) Ps o at =
     ap (λ ls. lines_of_jobs Qs p.jobs ++ ls) (lines-more rounds os Ps o at)
-    ∙ sym (append_assoc (lines_of_jobs Qs p.jobs) (lines_of_rounds rounds os) (lines_of_jobs Ps o.jobs))
+    ∙ sym (append_assoc (lines_of_jobs Qs p.jobs) (job_lines_of_rounds rounds os) (lines_of_jobs Ps o.jobs))
 
 -- What there is from an element on.
 from-here : {X : Type 0} (xs : List X) (i : ℕ) (x : X) → slice_get xs i ≡ Some x → drop i xs ≡ x ∷ drop (suc i) xs
@@ -81,7 +81,7 @@ pub record IsSoFar (Rs : List Rule) (n : ℕ) (S : State) (rounds : List (List P
   pub run : AreRunFrom Rs n S rounds outcomes
   pub all : AllFinished outcomes
   pub found : r.rounds ≡ length rounds
-  pub lines : string_bytes r.lines ≡ lines_of_rounds rounds outcomes
+  pub lines : string_bytes r.lines ≡ job_lines_of_rounds rounds outcomes
   pub left : r.state ≡ state_after S outcomes
   pub finished : r.finished ≡ true
   pub error : r.error ≡ None
@@ -130,11 +130,11 @@ module _ (Rs : List Rule) (n : ℕ) (S : State) (rounds : List (List Parts)) (ma
   })
 
   round-lines : (o : Outcome) (ls : List ℕ) → string_bytes new.lines ≡ string_bytes old.lines ++ ls → ls ≡ lines_of_jobs Ps o.jobs
-      → string_bytes new.lines ≡ lines_of_rounds rounds (s.outcomes ++ o ∷ [])
+      → string_bytes new.lines ≡ job_lines_of_rounds rounds (s.outcomes ++ o ∷ [])
   round-lines o ls added own = added ∙ (ap₂ (λ xs ys. xs ++ ys) s.lines own ∙ sym (lines-more rounds s.outcomes Ps o here))
 
   -- All its jobs are finished: so it goes on.
-  pub went-on : IsStep Rs Ps n old new → new.finished ≡ true → IsSoFar Rs n S rounds (many + 1) new
+  pub went-on : AddsRound Rs Ps n old new → new.finished ≡ true → IsSoFar Rs n S rounds (many + 1) new
   went-on step t = go step.attempt step.safe step.came step.added
     where
       go : (a : Attempt) → IsSafeSet (round_set Rs Ps) → ComesOf (round_set Rs Ps) old.state n a → IsAdded a old new
@@ -153,7 +153,7 @@ module _ (Rs : List Rule) (n : ℕ) (S : State) (rounds : List (List Parts)) (ma
       }
 
   -- One isn't, or the round wasn't run: so it stops.
-  pub stopped : IsStep Rs Ps n old new → new.finished ≡ false → HaveRun Rs n S rounds new
+  pub stopped : AddsRound Rs Ps n old new → new.finished ≡ false → HaveRun Rs n S rounds new
   stopped step f = go step.attempt step.safe step.came step.added
     where
       go : (a : Attempt) → IsSafeSet (round_set Rs Ps) → ComesOf (round_set Rs Ps) old.state n a → IsAdded a old new
@@ -209,7 +209,7 @@ filtered-out p (y ∷ ys) h =
 in-a-round : (es : List CheckFault) (count i : ℕ) (where_it_is : Placing) → IsPlaced es count i where_it_is → find leaves_out es ≡ None
     → not (is_in_some where_it_is) ≡ false
 in-a-round es count i (Round k) h f = refl
-in-a-round es count i (Left why) h f = absurd (unfound leaves_out es h.0 h.1.0 h.1.1 h.1.2 (ap is_alone h.2) f)
+in-a-round es count i (Unplaced why) h f = absurd (unfound leaves_out es h.0 h.1.0 h.1.1 h.1.2 (ap is_alone h.2) f)
 
 none-left : (M : Members) (es : List CheckFault) (r : Rounds) → AreRounds M es r → find leaves_out es ≡ None → r.left ≡ []
 none-left M es r a f =

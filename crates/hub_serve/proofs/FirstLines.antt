@@ -8,7 +8,7 @@ use Rattle.hub_cert.specs.Set.{Members, IsSafeSet}
 use Rattle.hub_cert.specs.declared.fault.CheckFault.{CheckFault}
 use Rattle.hub_search.specs.Search.{Disproves}
 use Rattle.hub_state.specs.Writing.{state_text}
-use Rattle.hub_bundle.specs.declared.sections.Contents.{Contents}
+use Rattle.hub_bundle.specs.declared.sections.BundleContents.{BundleContents}
 use Rattle.hub_bundle.specs.Sections.{Spells, members}
 use Rattle.hub_report.specs.declared.report.Report.{Report}
 use Rattle.hub_report.specs.declared.report.Report.TheVariants as answer
@@ -31,7 +31,7 @@ use Rattle.hub_report.specs.Refusal.{refusal_line}
 use Rattle.hub_report.specs.Jobs.{lines_of_jobs}
 use Rattle.hub_report.specs.Run.{error_line}
 use Rattle.hub_report.specs.Starts.{HoldsOfStarts, Start, SafeStart, VerifiedStart, OverlapStart, BreachStart, TooLargeStart}
-use Rattle.hub_report.specs.Starts.{RoundsStart, GraphStart, ReachedStart, NotReachedStart, OtherStart, start, begins}
+use Rattle.hub_report.specs.Starts.{RoundsStart, GraphStart, ReachedStart, NotReachedStart, OtherStart, start, begins-taken}
 use Rattle.hub_report.specs.Starts.{lines-start, refusal-start}
 use Rattle.hub_cli.specs.declared.words.Question.TheVariants as ask
 use Rattle.hub_cli.specs.Words.{Request, about}
@@ -41,12 +41,12 @@ use Rattle.hub_serve.specs.Report.{IsWholeUnlessFailed, IsRefusedFor, IsTold, Is
 use Rattle.hub_serve.specs.Report.{SpellsRounds, SpellsRoundsRun, SpellsSafe, SpellsUnsafe, SpellsVerified}
 use Rattle.hub_serve.specs.Rounds.{BeginsAsClash, DrawsClashes, ListsClashes, WritesRounds}
 use Rattle.hub_serve.specs.Runs.{HasRunAs, IsBelow, IsPrevented}
-use Rattle.hub_serve.specs.Task.{AsksFor}
+use Rattle.hub_serve.specs.Task.{AsksTask}
 use Rattle.hub_serve.proofs.Asking.{asks, unrefused}
 use Rattle.hub_serve.proofs.Refused.{BreachesShown, OverlapsShown, breach-refused, overlap-refused}
 
 -- What holds of what an input says holds of the input.
-pub told-holds : (request : Request) (bytes : List ℕ) (c : Contents) (r : Report) → Spells bytes c → IsTold request c r → Holds request bytes r
+pub told-holds : (request : Request) (bytes : List ℕ) (c : BundleContents) (r : Report) → Spells bytes c → IsTold request c r → Holds request bytes r
 told-holds request bytes c (answer.Faulty f) s h = absurd h
 told-holds request bytes c answer.OutOfMemory s h = tt
 told-holds request bytes c _ s h = record { contents = c; spelled = s; told = h }
@@ -120,7 +120,7 @@ Means request bytes line status NotReachedStart = IsTrueOf request bytes (answer
 Means request bytes line status OtherStart = ⊤
 
 -- It is true of the start of the line of a refusal,
-refusal-means : (request : Request) (bytes line : List ℕ) (status : ℕ) (c : Contents) (t : Task) (e : CheckFault) → Spells bytes c → AsksFor request c.state t → IsRefusedFor t c e
+refusal-means : (request : Request) (bytes line : List ℕ) (status : ℕ) (c : BundleContents) (t : Task) (e : CheckFault) → Spells bytes c → AsksTask request c.state t → IsRefusedFor t c e
     → Means request bytes line status (start (refusal_line (members c) e))
 refusal-means request bytes line status c t e spelled asked refused =
     refusal-start (Means request bytes line status) (members c) e (record {
@@ -145,7 +145,7 @@ refusal-means request bytes line status c t e spelled asked refused =
     })
 
 -- of that of the lines of what clashes,
-clashes-mean : (request : Request) (bytes line : List ℕ) (c : Contents) → Spells bytes c → ListsClashes (members c) line
+clashes-mean : (request : Request) (bytes line : List ℕ) (c : BundleContents) → Spells bytes c → ListsClashes (members c) line
     → Means request bytes line 1 (start line)
 clashes-mean request bytes line c spelled h =
     subst (λ t. Means request bytes line 1 (start t)) (sym h.text_is)
@@ -171,7 +171,7 @@ reach-means request bytes (NoProfile n) line l h = subst (λ t. Means request by
 reach-means request bytes (BadPath f) line l h = subst (λ t. Means request bytes line 2 (start t)) (sym l) tt
 
 -- of that of `safe` with what is to follow it,
-safe-means : (request : Request) (bytes line : List ℕ) (status : ℕ) (c : Contents) (t : Task) (below : List ℕ) → line ≡ codes "safe\n" ++ below → Spells bytes c → AsksFor request c.state t
+safe-means : (request : Request) (bytes line : List ℕ) (status : ℕ) (c : BundleContents) (t : Task) (below : List ℕ) → line ≡ codes "safe\n" ++ below → Spells bytes c → AsksTask request c.state t
     → IsSafeSet (members c) → IsBelow t (members c) status below → Means request bytes line status (start line)
 safe-means request bytes line status c t below l spelled asked safe below_is =
     subst (λ text. Means request bytes line status (start text)) (sym l) (
@@ -198,7 +198,7 @@ verdict-means : (request : Request) (bytes : List ℕ) (v : Verdict) (line : Lis
 verdict-means request bytes Safe line l h =
     safe-means request bytes line 0 h.contents h.told.to_do [] l h.spelled h.told.asked h.told.told.1 (check-below h.told.to_do (members h.contents) h.told.told.0)
 verdict-means request bytes Verified line l h =
-    let asked = subst (AsksFor request h.contents.state) h.told.told.0 h.told.asked in
+    let asked = subst (AsksTask request h.contents.state) h.told.told.0 h.told.asked in
     subst (λ t. Means request bytes line 0 (start t)) (sym l) (record {
       is_asked = ap Some (asks request h.contents.state task.Verify asked);
       contents = h.contents;
@@ -217,7 +217,7 @@ clashes-answer-means request bytes (Lines text) line l h =
 clashes-answer-means request bytes (Graph g) line l h =
     let drawn = subst (λ t. DrawsClashes (members h.contents) t g.safe) (sym l) h.told.told.1 in
     subst (λ t. Means request bytes line (cond g.safe 0 1) (start t)) (sym drawn.text_is) (record {
-      is_asked = ap Some (asks request h.contents.state task.Graph (subst (AsksFor request h.contents.state) h.told.told.0 h.told.asked));
+      is_asked = ap Some (asks request h.contents.state task.Graph (subst (AsksTask request h.contents.state) h.told.told.0 h.told.asked));
       contents = h.contents;
       spelled = h.spelled;
       full = line;
@@ -228,7 +228,7 @@ clashes-answer-means request bytes (Graph g) line l h =
 clashes-answer-means request bytes (Cut c) line l h =
     let cut = subst (λ t. WritesRounds (members h.contents) t c.decided) (sym l) h.told.told.1 in
     subst (λ t. Means request bytes line (cond c.decided 0 1) (start t)) (sym cut.text_is) (inl (record {
-      is_asked = ap Some (asks request h.contents.state task.Rounds (subst (AsksFor request h.contents.state) h.told.told.0 h.told.asked));
+      is_asked = ap Some (asks request h.contents.state task.Rounds (subst (AsksTask request h.contents.state) h.told.told.0 h.told.asked));
       contents = h.contents;
       spelled = h.spelled;
       full = line;
@@ -245,7 +245,7 @@ run-means request bytes (Ran r) line l h =
     (ran-below h.told.to_do (members h.contents) r h.told.told)
 run-means request bytes (RanByRounds r) line l h =
     let t = h.told.told in
-    let asked = asks request h.contents.state (task.RunByRounds t.workers t.state) (subst (AsksFor request h.contents.state) t.task_is h.told.asked) in
+    let asked = asks request h.contents.state (task.RunByRounds t.workers t.state) (subst (AsksTask request h.contents.state) t.task_is h.told.asked) in
     subst (λ ls. Means request bytes line (run_status r.finished) (start ls)) (sym l) (inr (record {
       workers = t.workers;
       is_asked = ap Some asked.0;
@@ -281,7 +281,7 @@ means request bytes r line x l e h = subst (Means request bytes line (status_of 
 pub only_safe : (request : Request) (bytes : List ℕ) (r : Report) (line s : List ℕ) (failed : Bool) (status : ℕ) → line ≡ text_of r
     → IsWholeUnlessFailed line (status_of r) failed (codes "safe\n" ++ s) status → Holds request bytes r → SpellsSafe (Some request) bytes s failed status
 only_safe request bytes r line s failed status l wrote h =
-    let front = begins (codes "safe\n") line s wrote.written (sym wrote.text_is) in
+    let front = begins-taken (codes "safe\n") line s wrote.written (sym wrote.text_is) in
     let means_safe : Means request bytes line (status_of r) SafeStart = means request bytes r line SafeStart l (ap start front.whole) h in
     let below : List ℕ = means_safe.0 in
     let says : SpellsSafe (Some request) bytes below false (status_of r) = means_safe.2 in
@@ -311,7 +311,7 @@ pub only_rounds : (request : Request) (bytes : List ℕ) (r : Report) (line s : 
     → IsWholeUnlessFailed line (status_of r) failed (codes "rounds " ++ s) status → Holds request bytes r
     → SpellsRounds (Some request) bytes (codes "rounds " ++ s) failed status ⊎ SpellsRoundsRun (Some request) bytes (codes "rounds " ++ s) failed status
 only_rounds request bytes r line s failed status l wrote h =
-    go (means request bytes r line RoundsStart l (ap start (begins (codes "rounds ") line s wrote.written (sym wrote.text_is)).whole) h)
+    go (means request bytes r line RoundsStart l (ap start (begins-taken (codes "rounds ") line s wrote.written (sym wrote.text_is)).whole) h)
   where
     go : SpellsRounds (Some request) bytes line false (status_of r) ⊎ SpellsRoundsRun (Some request) bytes line false (status_of r)
         → SpellsRounds (Some request) bytes (codes "rounds " ++ s) failed status ⊎ SpellsRoundsRun (Some request) bytes (codes "rounds " ++ s) failed status
@@ -341,7 +341,7 @@ pub only_graph : (request : Request) (bytes : List ℕ) (r : Report) (line s : L
     → IsWholeUnlessFailed line (status_of r) failed (codes "graph clashes {" ++ s) status → Holds request bytes r
     → SpellsGraph (Some request) bytes (codes "graph clashes {" ++ s) failed status
 only_graph request bytes r line s failed status l wrote h =
-    let front = begins (codes "graph clashes {") line s wrote.written (sym wrote.text_is) in
+    let front = begins-taken (codes "graph clashes {") line s wrote.written (sym wrote.text_is) in
     let says : SpellsGraph (Some request) bytes line false (status_of r) = means request bytes r line GraphStart l (ap start front.whole) h in
     record {
       is_asked = says.is_asked;
@@ -370,31 +370,31 @@ only_clashes request bytes r line text failed status is l wrote h b =
     rest = b.0
 
     go : (text ≡ codes "overlap: " ++ rest) ⊎ (text ≡ codes "breach: " ++ rest) ⊎ (text ≡ codes "too large: " ++ rest) → SpellsClashes bytes line false (status_of r)
-    go (inl o) = (means request bytes r line OverlapStart l (ap start (begins (codes "overlap: ") line rest wrote.written (sym wrote.text_is ∙ o)).whole) h).1 is
-    go (inr (inl o)) = (means request bytes r line BreachStart l (ap start (begins (codes "breach: ") line rest wrote.written (sym wrote.text_is ∙ o)).whole) h).1 is
-    go (inr (inr o)) = means request bytes r line TooLargeStart l (ap start (begins (codes "too large: ") line rest wrote.written (sym wrote.text_is ∙ o)).whole) h is
+    go (inl o) = (means request bytes r line OverlapStart l (ap start (begins-taken (codes "overlap: ") line rest wrote.written (sym wrote.text_is ∙ o)).whole) h).1 is
+    go (inr (inl o)) = (means request bytes r line BreachStart l (ap start (begins-taken (codes "breach: ") line rest wrote.written (sym wrote.text_is ∙ o)).whole) h).1 is
+    go (inr (inr o)) = means request bytes r line TooLargeStart l (ap start (begins-taken (codes "too large: ") line rest wrote.written (sym wrote.text_is ∙ o)).whole) h is
 
 -- only that of a verified one with a v,
 pub only_verified : (request : Request) (bytes : List ℕ) (r : Report) (line : List ℕ) (w : ℕ) (s : List ℕ) → line ≡ text_of r → take w line ≡ 118 ∷ s → Holds request bytes r → SpellsVerified (Some request) bytes
 only_verified request bytes r line w s l e h =
-    means request bytes r line VerifiedStart l (ap start (begins (118 ∷ []) line s w e).whole) h
+    means request bytes r line VerifiedStart l (ap start (begins-taken (118 ∷ []) line s w e).whole) h
 
 -- only that of a reached path with `rea`,
 pub only_reached : (request : Request) (bytes : List ℕ) (r : Report) (line : List ℕ) (w : ℕ) (s : List ℕ) → line ≡ text_of r → take w line ≡ 114 ∷ 101 ∷ 97 ∷ s → Holds request bytes r → IsTrueOf request bytes (answer.Reach Reached)
 only_reached request bytes r line w s l e h =
-    means request bytes r line ReachedStart l (ap start (begins (114 ∷ 101 ∷ 97 ∷ []) line s w e).whole) h
+    means request bytes r line ReachedStart l (ap start (begins-taken (114 ∷ 101 ∷ 97 ∷ []) line s w e).whole) h
 
 -- only that of a path that isn't with an n,
 pub only_not_reached : (request : Request) (bytes : List ℕ) (r : Report) (line : List ℕ) (w : ℕ) (s : List ℕ) → line ≡ text_of r → take w line ≡ 110 ∷ s → Holds request bytes r → IsTrueOf request bytes (answer.Reach NotReached)
 only_not_reached request bytes r line w s l e h =
-    means request bytes r line NotReachedStart l (ap start (begins (110 ∷ []) line s w e).whole) h
+    means request bytes r line NotReachedStart l (ap start (begins-taken (110 ∷ []) line s w e).whole) h
 
 -- only that of an overlap with an o,
 pub only_overlaps : OverlapsShown → (request : Request) (bytes : List ℕ) (r : Report) (line : List ℕ) (w : ℕ) (s : List ℕ) → line ≡ text_of r → take w line ≡ 111 ∷ s → Holds request bytes r → SpellsUnsafe bytes
 only_overlaps shown request bytes r line w s l e h =
-    (means request bytes r line OverlapStart l (ap start (begins (111 ∷ []) line s w e).whole) h).0 shown
+    (means request bytes r line OverlapStart l (ap start (begins-taken (111 ∷ []) line s w e).whole) h).0 shown
 
 -- and only that of a breach with a b.
 pub only_breaches : BreachesShown → (request : Request) (bytes : List ℕ) (r : Report) (line : List ℕ) (w : ℕ) (s : List ℕ) → line ≡ text_of r → take w line ≡ 98 ∷ s → Holds request bytes r → SpellsUnsafe bytes
 only_breaches shown request bytes r line w s l e h =
-    (means request bytes r line BreachStart l (ap start (begins (98 ∷ []) line s w e).whole) h).0 shown
+    (means request bytes r line BreachStart l (ap start (begins-taken (98 ∷ []) line s w e).whole) h).0 shown

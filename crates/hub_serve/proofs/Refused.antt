@@ -5,7 +5,7 @@ use Rattle.hub_cert.specs.Set.{Members, IsSafeSet}
 use Rattle.hub_cert.specs.declared.goal.Place.{Place}
 use Rattle.hub_cert.specs.declared.fault.CheckFault.TheVariants as fault
 use Rattle.hub_search.specs.Search.{IsFirstFault}
-use Rattle.hub_bundle.specs.declared.sections.Contents.{Contents}
+use Rattle.hub_bundle.specs.declared.sections.BundleContents.{BundleContents}
 use Rattle.hub_bundle.specs.Sections.{members}
 use Rattle.hub_serve.specs.declared.task.Task.{Task}
 use Rattle.hub_serve.specs.declared.task.Task.TheVariants as task
@@ -19,7 +19,7 @@ abbrev pub BreachesShown : Type 0
 BreachesShown = (S : Members) (p k : ℕ) (path : Path) → IsFirstFault S (fault.Breach p k path) → IsSafeSet S → ⊥
 
 -- An overlap or a breach is told only as the first fault, or as one of all faults: so the set isn't safe.
-pub overlap-refused : OverlapsShown → (t : Task) (c : Contents) (w o : ℕ) (place : Place) (held path : Path) → IsRefusedFor t c (fault.Overlap w o place held path) → IsSafeSet (members c) → ⊥
+pub overlap-refused : OverlapsShown → (t : Task) (c : BundleContents) (w o : ℕ) (place : Place) (held path : Path) → IsRefusedFor t c (fault.Overlap w o place held path) → IsSafeSet (members c) → ⊥
 overlap-refused shown t c w o place held path (inl h) = absurd h
 overlap-refused shown task.Check c w o place held path (inr (inl h)) = cc
 overlap-refused shown task.Check c w o place held path (inr (inr h)) = shown (members c) w o place held path h
@@ -33,7 +33,7 @@ overlap-refused shown task.Clashes c w o place held path (inr h) = absurd h
 overlap-refused shown task.Graph c w o place held path (inr h) = absurd h
 overlap-refused shown task.Rounds c w o place held path (inr h) = absurd h
 
-pub breach-refused : BreachesShown → (t : Task) (c : Contents) (p k : ℕ) (path : Path) → IsRefusedFor t c (fault.Breach p k path) → IsSafeSet (members c) → ⊥
+pub breach-refused : BreachesShown → (t : Task) (c : BundleContents) (p k : ℕ) (path : Path) → IsRefusedFor t c (fault.Breach p k path) → IsSafeSet (members c) → ⊥
 breach-refused shown t c p k path (inl h) = absurd h
 breach-refused shown task.Check c p k path (inr (inl h)) = cc
 breach-refused shown task.Check c p k path (inr (inr h)) = shown (members c) p k path h

@@ -1,15 +1,14 @@
 -- What a refusal and a text that is no path are answered with.
-use Rattle.std.proofs.Common.{◌≡◌, ◌⊎◌, ◌==◌, ◌∙◌, ◌∷◌, inl, inr, ℕ, Bool, false, true, arith, List, [], length, IfSome, None, Option, Some, refl, sym, ap, subst}
+use Rattle.std.proofs.Common.{◌≡◌, ◌⊎◌, ◌==◌, ◌∙◌, ◌∷◌, inl, inr, ℕ, Bool, false, true, List, [], length, IfSome, None, Option, Some, refl, sym, ap, subst}
 use Rattle.std.specs.Prelude.{Contains, IsTrue}
 use Rattle.std.proofs.lemmas.Bool.{false≢true}
-use Rattle.std.proofs.lemmas.Bool.Decides.{nat_tests}
 use Rattle.std.proofs.lemmas.Option.{none-some}
 use Rattle.hub_path.specs.declared.fault.PathFault.{PathFault}
 use Rattle.hub_path.specs.declared.fault.PathFault.TheVariants as path
 use Rattle.hub_cert.specs.Goals.{is_goal}
 use Rattle.hub_cert.specs.Set.{IsSafeSet, Members}
 use Rattle.hub_cert.specs.declared.goal.Goal.{Goal}
-use Rattle.hub_search.specs.Faults.{AreFaults, HasLine, IsRuledOut}
+use Rattle.hub_search.specs.Faults.{AreFaults, HasLine, HasInductiveTexts}
 use Rattle.hub_search.specs.Search.{Disproves}
 use Rattle.hub_state.specs.State.{State}
 use Rattle.hub_report.specs.Graph.{graph_text}
@@ -20,7 +19,7 @@ use Rattle.hub_cli.specs.declared.words.Question.TheVariants.{Certify, Verify, R
 use Rattle.hub_cert.specs.Refused.{IsRefused}
 use Rattle.hub_cert.specs.declared.certificate.Certificate.{Certificate}
 use Rattle.hub_cert.specs.declared.fault.CheckFault.{CheckFault}
-use Rattle.hub_bundle.specs.declared.sections.Contents.{Contents}
+use Rattle.hub_bundle.specs.declared.sections.BundleContents.{BundleContents}
 use Rattle.hub_bundle.specs.Sections.{members}
 use Rattle.hub_cli.specs.declared.words.Question.{Question}
 use Rattle.hub_cli.specs.Words.{Request, about}
@@ -28,24 +27,25 @@ use Rattle.hub_report.specs.declared.report.Report.{Report}
 use Rattle.hub_report.specs.declared.reach_answer.ReachAnswer.TheVariants.{BadPath}
 use Rattle.hub_report.specs.declared.report.Report.TheVariants.{Faulty, Reach, NoState, Refused, OutOfMemory}
 use Rattle.hub_serve.specs.declared.task.Task.{Task}
-use Rattle.hub_report.specs.Report.{IsRefusal}
+use Rattle.hub_report.specs.Report.{TellsRefusal}
 use Rattle.hub_serve.specs.Report.{FaultOf, HasBadPath, IsTold, IsToldOfSet}
 use Rattle.hub_serve.specs.Rounds.{DrawsClashes}
-use Rattle.hub_serve.specs.Task.{AsksFor, LacksState, task_of}
+use Rattle.hub_serve.specs.Task.{AsksTask, LacksState, task_of}
+use Rattle.hub_text.specs.ListLaws.{some-item}
 
 -- It was asked to do this.
-asks-for : (q : Question) (c : Contents) (to_do : Task) → task_of q c.state ≡ Some to_do → AsksFor (about q) c.state to_do
+asks-for : (q : Question) (c : BundleContents) (to_do : Task) → task_of q c.state ≡ Some to_do → AsksTask (about q) c.state to_do
 asks-for q c to_do is = record { of_set = q; asked = refl; task_is = is }
 
 -- Profiles that are no set are refused, whatever is to be done.
-pub refusal-told : (q : Question) (c : Contents) (to_do : Task) → task_of q c.state ≡ Some to_do → (e : CheckFault) (r : Report) → IsRefused (members c) e
-    → IsRefusal (members c) e r → IsTold (about q) c r
+pub refusal-told : (q : Question) (c : BundleContents) (to_do : Task) → task_of q c.state ≡ Some to_do → (e : CheckFault) (r : Report) → IsRefused (members c) e
+    → TellsRefusal (members c) e r → IsTold (about q) c r
 refusal-told q c to_do is e (Refused t) i h = record { to_do = to_do; asked = asks-for q c to_do is; reason = e; refused = inl i; told = h }
 refusal-told q c to_do is e OutOfMemory i h = tt
 refusal-told q c to_do is e _ i h = absurd h
 
 -- What is true of a set is true of the bundle that has it.
-pub set-told : (q : Question) (c : Contents) (to_do : Task) → task_of q c.state ≡ Some to_do → (r : Report) → IsToldOfSet to_do (members c) c.certificates r
+pub set-told : (q : Question) (c : BundleContents) (to_do : Task) → task_of q c.state ≡ Some to_do → (r : Report) → IsToldOfSet to_do (members c) c.certificates r
     → IsTold (about q) c r
 set-told q c to_do is (Faulty f) h = absurd h
 set-told q c to_do is (Reach a) h = absurd h
@@ -55,13 +55,13 @@ set-told q c to_do is OutOfMemory h = tt
 set-told q c to_do is _ h = record { to_do = to_do; asked = asks-for q c to_do is; told = h }
 
 -- A set that is refused for a fault of it was to be told so.
-pub refused-told : (t : Task) (S : Members) (cs : List Certificate) (e : CheckFault) (r : Report) → FaultOf t S cs e → IsRefusal S e r → IsToldOfSet t S cs r
+pub refused-told : (t : Task) (S : Members) (cs : List Certificate) (e : CheckFault) (r : Report) → FaultOf t S cs e → TellsRefusal S e r → IsToldOfSet t S cs r
 refused-told t S cs e (Refused x) f h = (e, f, h)
 refused-told t S cs e OutOfMemory f h = tt
 refused-told t S cs e _ f h = absurd h
 
 -- A text is no path, or memory ran out.
-pub path-told : (request : Request) (c : Contents) (f : PathFault) (r : Report) → (f ≡ path.OutOfMemory → r ≡ OutOfMemory)
+pub path-told : (request : Request) (c : BundleContents) (f : PathFault) (r : Report) → (f ≡ path.OutOfMemory → r ≡ OutOfMemory)
     → (r ≡ OutOfMemory) ⊎ (r ≡ Reach (BadPath f)) → (f ≡ path.OutOfMemory) ⊎ HasBadPath request c.profiles f → IsTold request c r
 path-told request c f r memory (inl e) h = subst (IsTold request c) (sym e) tt
 path-told request c f r memory (inr e) (inl o) = subst (IsTold request c) (sym (memory o)) tt
@@ -91,14 +91,10 @@ lacks-state ask.Clashes o is = cc
 lacks-state ask.Graph o is = cc
 lacks-state Rounds o is = cc
 
--- A list with an item isn't empty.
-some-items : {X : Type 0} (x : X) (xs : List X) → (length (x ∷ xs) == 0) ≡ false
-some-items x xs = grind (arith, nat_tests)
-
 -- A graph of a set and of its lines draws what clashes in it.
 pub drawn : (S : Members) (es : List CheckFault) (text : List ℕ) (safe : Bool) → AreFaults S es
     → ((e : CheckFault) → Contains es e → Disproves S e)
-    → ((g : Goal) → IsTrue (is_goal S g) → IsRuledOut S g ⊎ HasLine S es g) → (es ≡ [] → IsSafeSet S)
+    → ((g : Goal) → IsTrue (is_goal S g) → HasInductiveTexts S g ⊎ HasLine S es g) → (es ≡ [] → IsSafeSet S)
     → text ≡ graph_text S es → safe ≡ (length es == 0) → DrawsClashes S text safe
 drawn S es text safe all disproved rest sure text_is safe_is = record {
   lines = es;
@@ -112,4 +108,4 @@ drawn S es text safe all disproved rest sure text_is safe_is = record {
   where
     none : (xs : List CheckFault) → (length xs == 0) ≡ true → xs ≡ []
     none [] t = refl
-    none (x ∷ xs) t = absurd (false≢true (sym (some-items x xs) ∙ t))
+    none (x ∷ xs) t = absurd (false≢true (sym (some-item x xs) ∙ t))

@@ -80,10 +80,11 @@ Ends Rs n S rounds os None = (not_run rounds os ≡ []) ⊎ (AllFinished os → 
 Ends Rs n S rounds os (Some e) = IsPreventedAfter Rs n S rounds os e
 
 -- The lines of the jobs of the rounds that were run, round by round.
-abbrev pub lines_of_rounds : List (List Parts) → List Outcome → List ℕ
-lines_of_rounds rounds [] = []
-lines_of_rounds [] (o ∷ os) = []
-lines_of_rounds (Ps ∷ rounds) (o ∷ os) = lines_of_jobs Ps o.jobs ++ lines_of_rounds rounds os
+abbrev pub job_lines_of_rounds : List (List Parts) → List Outcome → List ℕ
+job_lines_of_rounds rounds [] = []
+job_lines_of_rounds [] (o ∷ os) = []
+job_lines_of_rounds (Ps ∷ rounds) (o ∷ os) =
+    lines_of_jobs Ps o.jobs ++ job_lines_of_rounds rounds os
 
 -- These rounds were run one after another on a state, by n workers: all of them, or until a job of
 -- one isn't finished or one isn't run. It is all finished only if each round was run and each job
@@ -94,7 +95,7 @@ pub record HaveRun (Rs : List Rule) (n : ℕ) (S : State) (rounds : List (List P
   pub run : AreRunFrom Rs n S rounds outcomes
   pub ends : Ends Rs n S rounds outcomes r.error
   pub found : r.rounds ≡ length rounds
-  pub lines : string_bytes r.lines ≡ lines_of_rounds rounds outcomes
+  pub lines : string_bytes r.lines ≡ job_lines_of_rounds rounds outcomes
   pub left : r.state ≡ state_after S outcomes
   pub finished : r.finished ≡ true ↔ (AllFinished outcomes × (not_run rounds outcomes ≡ []))
 
@@ -153,7 +154,7 @@ IsAdded (NotRun e) old new =
     × (new.finished ≡ false) × (new.error ≡ Some e) × (new.rounds ≡ old.rounds)
 
 -- A round of a safe set was to be run on the state that those before it left, and that is added.
-pub record IsStep (Rs : List Rule) (Ps : List Parts) (n : ℕ) (old new : RoundsRun) : Type 0 where
+pub record AddsRound (Rs : List Rule) (Ps : List Parts) (n : ℕ) (old new : RoundsRun) : Type 0 where
   pub attempt : Attempt
   pub safe : IsSafeSet (round_set Rs Ps)
   pub came : ComesOf (round_set Rs Ps) old.state n attempt

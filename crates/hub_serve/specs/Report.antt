@@ -19,7 +19,7 @@ use Rattle.hub_search.specs.Search.{IsFirstFault}
 use Rattle.hub_bundle.specs.declared.input.TheConstants.{READ_TURNS}
 use Rattle.hub_bundle.specs.declared.input.InputFault.{InputFault}
 use Rattle.hub_bundle.specs.declared.input.InputFault.TheVariants as input
-use Rattle.hub_bundle.specs.declared.sections.Contents.{Contents}
+use Rattle.hub_bundle.specs.declared.sections.BundleContents.{BundleContents}
 use Rattle.hub_bundle.specs.Bundle.{bundle_reading}
 use Rattle.hub_bundle.specs.Sections.{Spells, HasFault, members}
 use Rattle.hub_cli.specs.declared.words.Question.{Question}
@@ -42,16 +42,16 @@ use Rattle.hub_report.specs.declared.verdict.Verdict.{Verdict}
 use Rattle.hub_report.specs.declared.verdict.Verdict.TheVariants.{Safe, Verified, Certified}
 use Rattle.hub_serve.specs.declared.task.Task.{Task}
 use Rattle.hub_serve.specs.declared.task.Task.TheVariants as task
-use Rattle.hub_serve.specs.Reached.{named}
+use Rattle.hub_serve.specs.Reached.{first_named}
 use Rattle.hub_report.specs.RoundsRun.{rounds_run_text}
 use Rattle.hub_report.specs.declared.rounds_run.RoundsRun.{RoundsRun}
 use Rattle.hub_state.specs.State.{State}
-use Rattle.hub_report.specs.Report.{IsRefusal, says_read_failed, status_of, text_of, unread_by}
+use Rattle.hub_report.specs.Report.{TellsRefusal, says_read_failed, status_of, text_of, unread_by}
 use Rattle.hub_serve.specs.Reads.{AreSpent, Reads}
 use Rattle.hub_serve.specs.ByRounds.{HasRunByRounds, HasRunByRoundsAs, IsFirstAlone, RunsByRounds}
 use Rattle.hub_serve.specs.Rounds.{BeginsAsClash, DrawsClashes, ListsClashes, WritesRounds}
 use Rattle.hub_serve.specs.Runs.{HasRunAs, IsBelow, IsPrevented}
-use Rattle.hub_serve.specs.Task.{AsksFor, LacksState, task_of}
+use Rattle.hub_serve.specs.Task.{AsksTask, LacksState, task_of}
 
 -- A text is the whole of what is to be told, with the status of that, unless a call of the output failed: then it is a prefix,
 -- and the status is 2.
@@ -67,7 +67,7 @@ pub record SpellsSafe (asked : Option Request) (bytes text : List ℕ) (failed :
     (status : ℕ) : Type 0 where
   pub of_set : Question
   pub is_asked : asked ≡ Some (question.about of_set)
-  pub contents : Contents
+  pub contents : BundleContents
   pub spelled : Spells bytes contents
   pub to_do : Task
   pub to_do_is : task_of of_set contents.state ≡ Some to_do
@@ -79,21 +79,21 @@ pub record SpellsSafe (asked : Option Request) (bytes text : List ℕ) (failed :
 
 -- The bytes are a bundle whose profiles and rules aren't.
 pub record SpellsUnsafe (bytes : List ℕ) : Type 0 where
-  pub contents : Contents
+  pub contents : BundleContents
   pub spelled : Spells bytes contents
   pub unsafe : IsSafeSet (members contents) → ⊥
 
 -- The words ask to verify the bundle's certificates, and these make its set safe.
 pub record SpellsVerified (asked : Option Request) (bytes : List ℕ) : Type 0 where
   pub is_asked : asked ≡ Some (question.about ask.Verify)
-  pub contents : Contents
+  pub contents : BundleContents
   pub spelled : Spells bytes contents
   pub inductive : AreCertificates (members contents) contents.certificates
   pub safe : IsSafeSet (members contents)
 
 -- The words ask for what clashes, and the bytes are a bundle of whose set this text is to say it, with status 1.
 pub record SpellsClashes (bytes text : List ℕ) (failed : Bool) (status : ℕ) : Type 0 where
-  pub contents : Contents
+  pub contents : BundleContents
   pub spelled : Spells bytes contents
   pub full : List ℕ
   pub listed : ListsClashes (members contents) full
@@ -104,7 +104,7 @@ pub record SpellsClashes (bytes text : List ℕ) (failed : Bool) (status : ℕ) 
 pub record SpellsRounds (asked : Option Request) (bytes text : List ℕ) (failed : Bool)
     (status : ℕ) : Type 0 where
   pub is_asked : asked ≡ Some (question.about ask.Rounds)
-  pub contents : Contents
+  pub contents : BundleContents
   pub spelled : Spells bytes contents
   pub full : List ℕ
   pub decided : Bool
@@ -118,7 +118,7 @@ pub record SpellsRoundsRun (asked : Option Request) (bytes text : List ℕ) (fai
     (status : ℕ) : Type 0 where
   pub workers : ℕ
   pub is_asked : asked ≡ Some (question.about (ask.RunByRounds workers))
-  pub contents : Contents
+  pub contents : BundleContents
   pub spelled : Spells bytes contents
   pub state : State
   pub state_is : contents.state ≡ Some state
@@ -132,7 +132,7 @@ pub record SpellsRoundsRun (asked : Option Request) (bytes text : List ℕ) (fai
 pub record SpellsGraph (asked : Option Request) (bytes text : List ℕ) (failed : Bool)
     (status : ℕ) : Type 0 where
   pub is_asked : asked ≡ Some (question.about ask.Graph)
-  pub contents : Contents
+  pub contents : BundleContents
   pub spelled : Spells bytes contents
   pub full : List ℕ
   pub safe : Bool
@@ -146,7 +146,7 @@ pub record ReachIs (request : Request) (Ps : List Parts) (answer : Bool) : Type 
   pub asked : request ≡ question.reach profile path
   pub P : Parts
   pub p : Path
-  pub profile_is : named profile Ps ≡ Some P
+  pub profile_is : first_named profile Ps ≡ Some P
   pub path_is : path_reading (chars path) ≡ Ok p
   pub answer_is : reach P p ≡ answer
 
@@ -154,7 +154,7 @@ pub record ReachIs (request : Request) (Ps : List Parts) (answer : Bool) : Type 
 pub record LacksProfile (request : Request) (Ps : List Parts) (profile : List ℕ) : Type 0 where
   pub path : List ℕ
   pub asked : request ≡ question.reach profile path
-  pub missing : named profile Ps ≡ None
+  pub missing : first_named profile Ps ≡ None
 
 -- It was asked of a text that is no path.
 pub record HasBadPath (request : Request) (Ps : List Parts) (f : PathFault) : Type 0 where
@@ -162,7 +162,7 @@ pub record HasBadPath (request : Request) (Ps : List Parts) (f : PathFault) : Ty
   pub path : List ℕ
   pub asked : request ≡ question.reach profile path
   pub P : Parts
-  pub profile_is : named profile Ps ≡ Some P
+  pub profile_is : first_named profile Ps ≡ Some P
   pub fault : path_reading (chars path) ≡ Err f
 
 -- The fault by which a set that was made is refused, where these are the bundle's certificates.
@@ -209,27 +209,27 @@ IsToldOfSet t S cs (answer.Verdict v) = IsVerdictOn t S cs v
 IsToldOfSet t S cs (answer.Clashes a) = AreClashesOf t S a
 IsToldOfSet t S cs (answer.Run a) = CameOfRun t S a
 IsToldOfSet t S cs (answer.Refused text) =
-    (e : CheckFault) × FaultOf t S cs e × IsRefusal S e (answer.Refused text)
+    (e : CheckFault) × FaultOf t S cs e × TellsRefusal S e (answer.Refused text)
 IsToldOfSet t S cs answer.NotVerified = (t ≡ task.Rounds) ⊎ RunsByRounds t
 IsToldOfSet t S cs answer.OutOfMemory = ⊤
 IsToldOfSet t S cs _ = ⊥
 
 -- The profiles and rules are no set, or the set is refused.
-abbrev pub IsRefusedFor : Task → Contents → CheckFault → Type 0
+abbrev pub IsRefusedFor : Task → BundleContents → CheckFault → Type 0
 IsRefusedFor t c e = IsRefused (members c) e ⊎ FaultOf t (members c) c.certificates e
 
 -- It was asked to do this about the set, which is refused.
-pub record IsToldRefused (request : Request) (c : Contents) (r : Report) : Type 0 where
+pub record IsToldRefused (request : Request) (c : BundleContents) (r : Report) : Type 0 where
   pub to_do : Task
-  pub asked : AsksFor request c.state to_do
+  pub asked : AsksTask request c.state to_do
   pub reason : CheckFault
   pub refused : IsRefusedFor to_do c reason
-  pub told : IsRefusal (members c) reason r
+  pub told : TellsRefusal (members c) reason r
 
 -- It was asked to do this about the set, and that is the answer.
-pub record IsToldAbout (request : Request) (c : Contents) (r : Report) : Type 0 where
+pub record IsToldAbout (request : Request) (c : BundleContents) (r : Report) : Type 0 where
   pub to_do : Task
-  pub asked : AsksFor request c.state to_do
+  pub asked : AsksTask request c.state to_do
   pub told : IsToldOfSet to_do (members c) c.certificates r
 
 -- What holds of the question and of the bundle's profiles where the program answers so whether one
@@ -241,7 +241,7 @@ IsToldOfReach request Ps (NoProfile name) = LacksProfile request Ps name.now
 IsToldOfReach request Ps (BadPath f) = HasBadPath request Ps f
 
 -- What holds of the question and of what the bundle says where the program answers so to a bundle that was read.
-abbrev pub IsTold : Request → Contents → Report → Type 0
+abbrev pub IsTold : Request → BundleContents → Report → Type 0
 IsTold request c (answer.Faulty f) = ⊥
 IsTold request c (answer.Reach a) = IsToldOfReach request c.profiles a
 IsTold request c answer.NoState = LacksState request c.state
@@ -251,7 +251,7 @@ IsTold request c r = IsToldAbout request c r
 
 -- The bytes are a bundle of which that is true.
 pub record IsTrueOf (request : Request) (bytes : List ℕ) (r : Report) : Type 0 where
-  pub contents : Contents
+  pub contents : BundleContents
   pub spelled : Spells bytes contents
   pub told : IsTold request contents r
 
@@ -277,7 +277,7 @@ Holds request bytes r = IsTrueOf request bytes r
 pub record SpellsReach (asked : Option Request) (bytes : List ℕ) (answer : Bool) : Type 0 where
   pub request : Request
   pub is_asked : asked ≡ Some request
-  pub contents : Contents
+  pub contents : BundleContents
   pub spelled : Spells bytes contents
   pub answered : ReachIs request contents.profiles answer
 

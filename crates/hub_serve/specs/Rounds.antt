@@ -6,7 +6,7 @@ use Rattle.hub_cert.specs.Set.{IsSafeSet, Members}
 use Rattle.hub_cert.specs.declared.fault.CheckFault.{CheckFault}
 use Rattle.hub_cert.specs.declared.fault.CheckFault.TheVariants as fault
 use Rattle.hub_cert.specs.declared.goal.Goal.{Goal}
-use Rattle.hub_search.specs.Faults.{AreFaults, HasLine, IsRuledOut}
+use Rattle.hub_search.specs.Faults.{AreFaults, HasLine, HasInductiveTexts}
 use Rattle.hub_search.specs.Search.{Disproves, IsFirstFault}
 use Rattle.hub_rounds.specs.Rounds.{AreRounds}
 use Rattle.hub_rounds.specs.declared.rounds.Rounds.{Rounds}
@@ -20,7 +20,7 @@ pub record ListsClashes (S : Members) (text : List ℕ) : Type 0 where
   pub some : lines ≢ []
   pub all : AreFaults S lines
   pub disproved : (e : CheckFault) → Contains lines e → Disproves S e
-  pub rest : (g : Goal) → IsTrue (is_goal S g) → IsRuledOut S g ⊎ HasLine S lines g
+  pub rest : (g : Goal) → IsTrue (is_goal S g) → HasInductiveTexts S g ⊎ HasLine S lines g
   pub first : (e : CheckFault) (others : List CheckFault) → lines ≡ e ∷ others → IsFirstFault S e
   pub text_is : text ≡ clash_lines S lines
 
@@ -31,7 +31,7 @@ pub record DrawsClashes (S : Members) (text : List ℕ) (safe : Bool) : Type 0 w
   pub lines : List CheckFault
   pub all : AreFaults S lines
   pub disproved : (e : CheckFault) → Contains lines e → Disproves S e
-  pub rest : (g : Goal) → IsTrue (is_goal S g) → IsRuledOut S g ⊎ HasLine S lines g
+  pub rest : (g : Goal) → IsTrue (is_goal S g) → HasInductiveTexts S g ⊎ HasLine S lines g
   pub text_is : text ≡ graph_text S lines
   pub safe_is : safe ≡ true ↔ (lines ≡ [])
   pub sure : safe ≡ true → IsSafeSet S

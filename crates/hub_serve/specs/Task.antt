@@ -26,7 +26,7 @@ task_of Graph state = Some task.Graph
 task_of Rounds state = Some task.Rounds
 
 -- It was asked to do this of a bundle that has this state, or none.
-pub record AsksFor (request : Request) (state : Option State) (t : Task) : Type 0 where
+pub record AsksTask (request : Request) (state : Option State) (t : Task) : Type 0 where
   pub of_set : Question
   pub asked : request ≡ about of_set
   pub task_is : task_of of_set state ≡ Some t

@@ -11,7 +11,7 @@ use crate::progress::Progress;
 use crate::reach::report_on_reach;
 use crate::verdict::report_on_set;
 use hub_bundle::{
-    BundleFault, BundleLineFault, Contents, InputFault, ReadError, read_bundle, read_input,
+    BundleContents, BundleFault, BundleLineFault, InputFault, ReadError, read_bundle, read_input,
     read_sections,
 };
 use hub_cli::Query;
@@ -66,7 +66,7 @@ fn report_on_bytes<'a, T: Threads + Wait + Sync, P: Progress + Sync>(
 }
 
 /// What a bundle says with all of its sections, or the answer if it can't be read. Its bytes are dropped.
-fn contents_in<'a>(alloc: Global, bytes: Vec<u8>) -> Result<Contents, Report<'a>>
+fn contents_in<'a>(alloc: Global, bytes: Vec<u8>) -> Result<BundleContents, Report<'a>>
     ensures spelled { IfOk result (λ c. Spells bytes.items c) }
     ensures faulty { (request : Request) → IfErr result (report.Holds request bytes.items) }
     ensures read { IfErr result (λ r. unread_by r ≡ None) }
@@ -87,7 +87,7 @@ fn report_on_contents<'a, T: Threads + Wait + Sync, P: Progress + Sync>(
     rt: &T,
     alloc: Global,
     asked: Query<'a>,
-    contents: Contents,
+    contents: BundleContents,
     progress: &P,
 ) -> Report<'a>
     ensures told { report.IsTold (request_of asked.entry) contents result }

@@ -7,7 +7,7 @@ ghost use Rattle.hub_search.specs.Faults.{AreFaults};
 ghost use Rattle.hub_state.specs.State.{State as StateValue};
 ghost use Rattle.hub_report.specs.Report.{unread_by};
 ghost use Rattle.hub_serve.specs.ByRounds as spec;
-ghost use Rattle.hub_serve.specs.ByRounds.{HasRunByRounds, HaveRun, IsAdded, IsBegun, IsStep};
+ghost use Rattle.hub_serve.specs.ByRounds.{HasRunByRounds, HaveRun, IsAdded, IsBegun, AddsRound};
 ghost use Rattle.hub_serve.specs.Report.{IsToldOfSet};
 ghost use Rattle.hub_serve.specs.declared.task.Task.TheVariants as task;
 
@@ -161,7 +161,7 @@ fn run_round<T: Threads + Wait + Sync, P: Progress + Sync>(
     run: &mut RoundsRun,
 ) -> Result<Rules, CheckFault>
     ensures rules { IfOk result (λ r. r ≡ rules) }
-    ensures step { OnOk result (IsStep rules profiles workers run.old run.new) }
+    ensures step { OnOk result (AddsRound rules profiles workers run.old run.new) }
 {
     let set = ProfileSet::new(alloc, profiles, rules)?;
     run_made(rt, alloc, &set, workers, progress, run)?;
@@ -178,7 +178,7 @@ fn run_made<T: Threads + Wait + Sync, P: Progress + Sync>(
     progress: &P,
     run: &mut RoundsRun,
 ) -> Result<(), CheckFault>
-    ensures { OnOk result (IsStep set.now.rules set.now.profiles workers run.old run.new) }
+    ensures { OnOk result (AddsRound set.now.rules set.now.profiles workers run.old run.new) }
 {
     let verified = check_with_progress(alloc, set, &Goals { progress })?;
     let attempt = run_jobs(rt, alloc, &verified, &run.state, workers, progress)?;

@@ -34,7 +34,7 @@ pub(crate) struct Goals<'a, P> {
     pub(crate) progress: &'a P,
 }
 
-impl<'a, P: Progress> hub_search::Progress for Goals<'a, P> {
+impl<'a, P: Progress> hub_search::CheckProgress for Goals<'a, P> {
     fn goal(&self, done: usize, of: usize) {
         self.progress.goals(done, of);
     }

@@ -3,9 +3,9 @@ ghost use Rattle.std.specs.Prelude.{◌≡◌, ◌⊎◌, Some, None, MatchOptio
 ghost use Rattle.hub_cli.specs.Words as words;
 ghost use Rattle.hub_report.specs.Report.{unread_by};
 ghost use Rattle.hub_serve.specs.Report as report;
-ghost use Rattle.hub_serve.specs.Reached.{named};
+ghost use Rattle.hub_serve.specs.Reached.{first_named};
 
-use hub_bundle::Contents;
+use hub_bundle::BundleContents;
 use hub_path::{PathFault, RelPath};
 use hub_profile::Profile;
 use hub_reach::reaches;
@@ -18,7 +18,7 @@ use std::alloc::Global;
 /// have the same name or overlap.
 pub fn report_on_reach<'a>(
     alloc: Global,
-    contents: &Contents,
+    contents: &BundleContents,
     profile: &'a str,
     path: &str,
 ) -> Report<'a>
@@ -50,8 +50,8 @@ fn bad_path<'a>(fault: PathFault) -> Report<'a>
 
 /// The first of these profiles with that name.
 fn profile_named<'a>(profiles: &'a [Profile], name: &str) -> Option<&'a Profile>
-    ensures { MatchOption result (named name.now profiles.now ≡ None)
-        (λ P. named name.now profiles.now ≡ Some P.now) }
+    ensures { MatchOption result (first_named name.now profiles.now ≡ None)
+        (λ P. first_named name.now profiles.now ≡ Some P.now) }
 {
     for profile in profiles {
         if profile.name().text() == name {

@@ -12,7 +12,7 @@ use crate::progress::{Goals, Progress};
 use crate::rounds::{report_on_clashes, report_on_graph, report_on_rounds};
 use crate::run::run_set;
 use crate::task::Task;
-use hub_bundle::Contents;
+use hub_bundle::BundleContents;
 use hub_cert::{Certificate, CheckFault, ProfileSet, verify, write_certificates};
 use hub_cli::Question;
 use hub_report::{Report, Verdict};
@@ -28,13 +28,13 @@ pub fn report_on_set<'a, T: Threads + Wait + Sync, P: Progress + Sync>(
     rt: &T,
     alloc: Global,
     question: Question,
-    contents: Contents,
+    contents: BundleContents,
     progress: &P,
 ) -> Report<'a>
     ensures told { report.IsTold (about question) contents result }
     ensures read { unread_by result ≡ None }
 {
-    let Contents {
+    let BundleContents {
         profiles,
         rules,
         state,

@@ -8,7 +8,7 @@ use Rattle.std.proofs.lemmas.List.{drop_at}
 use Rattle.std.proofs.lemmas.Slice.Eq.{starts_is}
 use Rattle.std.proofs.lemmas.Bool.Decides.{Decides-eqb}
 use denote.Ref.{Bor}
-use Rattle.hub_source.specs.Covering.{Follows}
+use Rattle.hub_source.specs.Covering.{IsRestAfter}
 
 -- The bytes begin so if the characters do.
 front-bytes : (n s rest : List ℕ) → IsUtf8 n → IsUtf8 s → chars s ≡ chars n ++ rest → s ≡ n ++ encode_utf8_all rest
@@ -21,7 +21,7 @@ front-chars n s rest u e = ap chars e ∙ chars-append n rest u
 
 -- What `strip_prefix` leaves of a text.
 pub follows : (n s : List ℕ) (r : Option (Bor (List ℕ))) → IsUtf8 n → IsUtf8 s
-    → MatchOption r (FindsTextPrefix n s None) (λ x. StripsPrefix (FindsTextPrefix n) s x.now) → Follows (chars n) (chars s) r
+    → MatchOption r (FindsTextPrefix n s None) (λ x. StripsPrefix (FindsTextPrefix n) s x.now) → IsRestAfter (chars n) (chars s) r
 follows n s None u v h = by (starts_with nat_eq (chars s) (chars n)) refl
   where
     by : (b : Bool) → starts_with nat_eq (chars s) (chars n) ≡ b → b ≡ false

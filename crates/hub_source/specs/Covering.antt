@@ -5,8 +5,8 @@ use denote.Ref.{Bor}
 use Rattle.hub_text.specs.Lines.{without_last}
 
 -- What follows a front in a text, if the text begins with it.
-abbrev pub Follows : List ℕ → List ℕ → Option (Bor (List ℕ)) → Type 0
-Follows front cs r =
+abbrev pub IsRestAfter : List ℕ → List ℕ → Option (Bor (List ℕ)) → Type 0
+IsRestAfter front cs r =
     MatchOption r (starts_with nat_eq cs front ≡ false)
     (λ x. (starts_with nat_eq cs front ≡ true) × (chars x.now ≡ drop (length front) cs))
 
@@ -20,5 +20,5 @@ begins_with_names above path =
     starts_with nat_eq path above && (length above == 0 || ends_name (drop (length above) path))
 
 -- A path is another one, which may end with a `/`, or below it.
-abbrev pub covers : List ℕ → List ℕ → Bool
-covers above path = begins_with_names (without_last 47 above) path
+abbrev pub is_within_path : List ℕ → List ℕ → Bool
+is_within_path above path = begins_with_names (without_last 47 above) path

@@ -1,18 +1,15 @@
 -- The text of a line, of which the bytes are known.
-use Rattle.std.specs.Prelude.{ℕ, Bool, ◌||◌, ◌==◌, ◌-◌, nat_eq, List, [], ◌∷◌, length, take, codes, if◌then◌else◌}
-use Rattle.std.specs.List.{list_any, starts_with, ends_with}
+use Rattle.std.specs.Prelude.{ℕ, Bool, ◌||◌, ◌==◌, nat_eq, List, [], ◌∷◌, if◌then◌else◌}
+use Rattle.std.specs.List.{list_any, starts_with}
 use Rattle.std.specs.Str.{is_utf8}
-
--- A CR at the end of a line is not of it.
-abbrev pub without_last_cr : List ℕ → List ℕ
-without_last_cr l = if ends_with nat_eq l (codes "\r") then take (length l - 1) l else l
+use Rattle.hub_text.specs.Lines.{without_last_cr}
 
 -- Bytes that are not UTF-8 are taken as no text.
 abbrev pub utf8_or_empty : List ℕ → List ℕ
 utf8_or_empty bytes = if is_utf8 bytes then bytes else []
 
-abbrev pub line_text : List ℕ → List ℕ
-line_text line = utf8_or_empty (without_last_cr line)
+abbrev pub text_shown : List ℕ → List ℕ
+text_shown line = utf8_or_empty (without_last_cr line)
 
 -- The line begins with a byte order mark of UTF-8.
 abbrev pub is_marked : List ℕ → Bool

@@ -4,8 +4,8 @@ use Rattle.hub_source.specs.declared.source.SourceLine.{SourceLine}
 use Rattle.hub_source.specs.declared.source.LinePlace.{LinePlace}
 
 -- The first line of a section is its heading. Those before the first heading are of no section.
-abbrev pub is_heading : SourceLine → Bool
-is_heading l = nat_lt 0 l.section && l.number == 0
+abbrev pub heads_section : SourceLine → Bool
+heads_section l = nat_lt 0 l.section && l.number == 0
 
 -- The file of its section is known.
 abbrev pub has_file : SourceLine → Bool
@@ -16,5 +16,5 @@ abbrev pub line_at : List SourceLine → ℕ → Option SourceLine
 line_at ls n = if n == 0 then None else slice_get ls (n - 1)
 
 -- A line of a file is named by its number there, and each other one by its number in the input.
-abbrev pub place_of : SourceLine → LinePlace
-place_of l = record { file = l.file; number = if has_file l then l.number else l.at }
+abbrev pub line_place : SourceLine → LinePlace
+line_place l = record { file = l.file; number = if has_file l then l.number else l.at }

@@ -4,8 +4,8 @@ ghost use Rattle.hub_source.specs.Covering as covering;
 ghost use Rattle.hub_source.specs.LineText as line_text;
 ghost use Rattle.hub_source.specs.Saying as saying;
 
-use crate::source::{Source, SourceLine, without_cr};
-use hub_text::{begins_with, is_empty, without_last};
+use crate::source::{Source, SourceLine};
+use hub_text::{begins_with, is_empty, without_last, without_last_cr};
 use std::alloc::{AllocError, Global};
 
 /// How many characters of a line are shown at most.
@@ -52,7 +52,7 @@ pub fn name_of<'a>(source: &Source<'a>, section: usize) -> &'a str {
 
 /// The start of a line as it is shown: with escapes, if a character of it can't be seen.
 pub fn shown(alloc: Global, bytes: &[u8]) -> Result<String, AllocError> {
-    let Ok(text) = str::from_utf8(without_cr(bytes)) else {
+    let Ok(text) = str::from_utf8(without_last_cr(bytes)) else {
         return String::from_str(alloc, "(not UTF-8)");
     };
     if text.is_empty() {
@@ -80,7 +80,7 @@ pub fn odd_encoding(bytes: &[u8]) -> Option<&'static str>
     if seems_utf16(bytes) {
         return Some("the input seems to be UTF-16: save it as UTF-8");
     }
-    if without_cr(bytes).contains(&b'\r') {
+    if without_last_cr(bytes).contains(&b'\r') {
         return Some("a CR stands within this line: a line ends with LF, or with CR and LF");
     }
     None
@@ -95,7 +95,7 @@ fn seems_utf16(bytes: &[u8]) -> bool
 
 /// Returns whether a path is this one or below it. This one may end with a `/`, and the empty one is above all.
 pub fn covers(above: &str, path: &str) -> bool
-    ensures { result ≡ covering.covers (chars above.now) (chars path.now) }
+    ensures { result ≡ covering.is_within_path (chars above.now) (chars path.now) }
 {
     begins_with_names(without_last(above, '/'), path)
 }
@@ -112,7 +112,7 @@ fn begins_with_names(above: &str, path: &str) -> bool
 
 /// What follows a front in a text, if the text begins with it.
 fn after_front<'t>(text: &'t str, front: &str) -> Option<&'t str>
-    ensures { covering.Follows (chars front.now) (chars text.now) result }
+    ensures { covering.IsRestAfter (chars front.now) (chars text.now) result }
 {
     text.strip_prefix(front)
 }

@@ -4,7 +4,7 @@ ghost use Rattle.std.specs.List.{list_any};
 ghost use Rattle.hub_source.specs.LineText as line_text;
 ghost use Rattle.hub_source.specs.Places as places;
 
-use hub_text::{BLANKS, Lines};
+use hub_text::{BLANKS, Lines, without_last_cr};
 use std::alloc::{AllocError, Global};
 use std::fmt;
 
@@ -47,14 +47,14 @@ impl<'a> fmt::Display for LinePlace<'a> {
 impl<'a> SourceLine<'a> {
     /// The line's text without a CR at its end. It is empty if the line is not UTF-8.
     pub fn text(&self) -> &'a str
-        ensures { result.now ≡ line_text.line_text self.now.bytes.now }
+        ensures { result.now ≡ line_text.text_shown self.now.bytes.now }
     {
-        utf8_or_empty(without_cr(self.bytes))
+        utf8_or_empty(without_last_cr(self.bytes))
     }
 
     /// Where it is: its number in its file, or in the input.
     pub fn place(&self) -> LinePlace<'a>
-        ensures { result ≡ places.place_of self.now }
+        ensures { result ≡ places.line_place self.now }
     {
         let file = self.file;
         let number = if file.is_some() { self.number } else { self.at };
@@ -63,7 +63,7 @@ impl<'a> SourceLine<'a> {
 
     /// Returns whether it is the heading of a section.
     pub fn is_heading(&self) -> bool
-        ensures { result ≡ places.is_heading self.now }
+        ensures { result ≡ places.heads_section self.now }
     {
         self.section > 0 && self.number == 0
     }
@@ -107,13 +107,6 @@ impl<'a> SourceLine<'a> {
         let (name, value) = self.setting()?;
         if name == wanted { Some(value) } else { None }
     }
-}
-
-/// A line without a CR at its end.
-pub(crate) fn without_cr(line: &[u8]) -> &[u8]
-    ensures { result.now ≡ line_text.without_last_cr line.now }
-{
-    line.strip_suffix(b"\r").unwrap_or(line)
 }
 
 /// The text of these bytes. It is empty if they are not UTF-8.

@@ -9,12 +9,13 @@ use Rattle.hub_state.specs.declared.fault.Fault.TheVariants.{OutOfMemory}
 use Rattle.hub_state.specs.declared.fault.StateFault.{StateFault}
 use Rattle.hub_state.specs.declared.draft.Draft.{Draft}
 use Rattle.hub_state.specs.declared.reader.Prefix.{Prefix}
-use Rattle.hub_state.specs.State.{State, nothing}
-use Rattle.hub_state.specs.Reading.{Above, nothing_above, state_reading, above_end, and_then, lines_reading, fault_at, state_or_fault}
-use Rattle.hub_state.specs.Taking.{IsApart, nothing_taken, closed, placed, is_memory, Tells, numbered_taken, last_taken}
-use Rattle.hub_state.specs.Blocks.{lines_taken, bytes_taken, text_of, out_of_memory, LeavesLine, Leaves, Stops, Continues, Stands, IsWithin}
+use Rattle.hub_state.specs.State.{State, empty_state}
+use Rattle.hub_state.specs.Reading.{Above, nothing_above, state_reading, above_end, lines_reading, fault_at, state_or_fault}
+use Rattle.hub_state.specs.Taking.{IsApart, nothing_taken, closed, placed, is_memory, TellsLine, numbered_taken, last_taken}
+use Rattle.hub_state.specs.Blocks.{lines_taken, bytes_taken, taken_line_text, out_of_memory, LeavesLine, Leaves, Stops, ReadsOn, Stands, IsWithin}
 use Rattle.hub_state.proofs.Drafts.{Holds, Same, closed_is}
 use Rattle.hub_state.proofs.Taken.{numbered_same, last_same, memory_or, placed_fault}
+use Rattle.hub_text.specs.Fails.{and_then}
 
 -- Lines that a draft takes say what they say of lists of entries.
 step_same : (n : ℕ) (k : Line (List ℕ)) (ls : List (Line (List ℕ))) (x : Result Above Fault) (y : Result Draft Fault) → Same x y
@@ -40,7 +41,7 @@ is_read : (bytes : List ℕ) → state_reading bytes ≡ state_or_fault (above_e
 unfolding state_reading
 is_read bytes = refl
 
-pub reading-taken : (a : Draft) (bytes : List ℕ) → a ≡ nothing_taken nothing → state_reading bytes ≡ bytes_taken 1 a bytes
+pub reading-taken : (a : Draft) (bytes : List ℕ) → a ≡ nothing_taken empty_state → state_reading bytes ≡ bytes_taken 1 a bytes
 reading-taken a bytes start =
     is_read bytes ∙ lines_same (lines_of bytes) 1 nothing_above a (subst (λ (b : Draft). Holds nothing_above b) (sym start) (([], [], refl, refl), tt))
 
@@ -133,7 +134,7 @@ at-last n a bytes m b l below at none =
     }
 
 pub at-fault : (n : ℕ) (a : Draft) (bytes : List ℕ) (m : ℕ) (b : Draft) (l k : Line (List ℕ)) (below rest : List ℕ) (e : StateFault) → IsAt n a bytes m b l below → lines_of below ≡ k ∷ lines_of rest
-    → Tells m (numbered_taken m b l.text) e → Stops n a bytes e
+    → TellsLine m (numbered_taken m b l.text) e → Stops n a bytes e
 at-fault n a bytes m b l k below rest e at more tells = by (memory_or tells.0) tells.2
   where
     by : (tells.0 ≡ OutOfMemory) ⊎ (is_memory tells.0 ≡ false) → (tells.0 ≡ OutOfMemory) ⊎ (numbered_taken m b l.text ≡ Err tells.0) → Stops n a bytes e
@@ -154,7 +155,7 @@ pub last-Ok : (n : ℕ) (a : Draft) (bytes : List ℕ) (m : ℕ) (b : Draft) (l 
 last-Ok n a bytes m b l (Ok s) left h = whole_taken n a bytes m b l left ∙ ap (fault_at m) h
 last-Ok n a bytes m b l (Err e) left h = tt
 
-pub last-Err : (n : ℕ) (a : Draft) (bytes : List ℕ) (m : ℕ) (b : Draft) (l : Line (List ℕ)) (r : Result State StateFault) → LeavesLine n a bytes m b l → IfErr r (λ e. Tells m (last_taken m b l.is_ended l.text) e)
+pub last-Err : (n : ℕ) (a : Draft) (bytes : List ℕ) (m : ℕ) (b : Draft) (l : Line (List ℕ)) (r : Result State StateFault) → LeavesLine n a bytes m b l → IfErr r (λ e. TellsLine m (last_taken m b l.is_ended l.text) e)
     → IfErr r (λ e. (e ≡ out_of_memory) ⊎ (bytes_taken n a bytes ≡ Err e))
 last-Err n a bytes m b l (Ok s) left h = tt
 last-Err n a bytes m b l (Err e) left h =
@@ -164,7 +165,7 @@ pub stops-whole : (n : ℕ) (a : Draft) (bytes : List ℕ) (e : StateFault) → 
 stops-whole n a bytes e h = ⊎_elim inl (λ f. inr (ap (bytes_taken n a) (sym (append-nil bytes)) ∙ f [])) h
 
 -- One more block.
-pub continues-block : (bytes block : List ℕ) (p q : Prefix) → Continues bytes p → q.number ≡ p.number → q.draft ≡ p.draft → q.rest.items ≡ p.rest.items ++ block → Continues (bytes ++ block) q
+pub continues-block : (bytes block : List ℕ) (p q : Prefix) → ReadsOn bytes p → q.number ≡ p.number → q.draft ≡ p.draft → q.rest.items ≡ p.rest.items ++ block → ReadsOn (bytes ++ block) q
 continues-block bytes block p q c number draft rest = record {
   same = λ t. ap state_reading (append_assoc bytes block t) ∙ c.same (block ++ t)
       ∙ ap (bytes_taken p.number p.draft) (sym (append_assoc p.rest.items block t))
@@ -172,7 +173,7 @@ continues-block bytes block p q c number draft rest = record {
 }
 
 -- The lines that have come are taken.
-pub continues-lines : (bytes : List ℕ) (p q : Prefix) (o : Option (Line (List ℕ))) → Continues bytes p → Leaves p.number p.draft p.rest.items q.number q.draft o → q.rest.items ≡ text_of o → Continues bytes q
+pub continues-lines : (bytes : List ℕ) (p q : Prefix) (o : Option (Line (List ℕ))) → ReadsOn bytes p → Leaves p.number p.draft p.rest.items q.number q.draft o → q.rest.items ≡ taken_line_text o → ReadsOn bytes q
 continues-lines bytes p q None c left rest = record {
   same = λ t. c.same t ∙ ap (λ s. bytes_taken p.number p.draft (s ++ t)) left.0
       ∙ sym (ap (λ n. bytes_taken n q.draft (q.rest.items ++ t)) left.1 ∙ ap (λ a. bytes_taken p.number a (q.rest.items ++ t)) left.2 ∙ ap (λ s. bytes_taken p.number p.draft (s ++ t)) rest);
@@ -181,7 +182,7 @@ continues-lines bytes p q (Some l) c left rest = record {
   same = λ t. c.same t ∙ left.same t ∙ ap (λ s. bytes_taken q.number q.draft (s ++ t)) (sym rest);
 }
 
-pub stands-stopped : (bytes : List ℕ) (p : Prefix) (e : StateFault) → Continues bytes p → Stops p.number p.draft p.rest.items e → (e ≡ out_of_memory) ⊎ ((t : List ℕ) → state_reading (bytes ++ t) ≡ Err e)
+pub stands-stopped : (bytes : List ℕ) (p : Prefix) (e : StateFault) → ReadsOn bytes p → Stops p.number p.draft p.rest.items e → (e ≡ out_of_memory) ⊎ ((t : List ℕ) → state_reading (bytes ++ t) ≡ Err e)
 stands-stopped bytes p e c h = ⊎_elim inl (λ f. inr (λ t. c.same t ∙ f t)) h
 
 pub stands-longer : (bytes block : List ℕ) (e : StateFault) → (e ≡ out_of_memory) ⊎ ((t : List ℕ) → state_reading (bytes ++ t) ≡ Err e)
@@ -191,20 +192,20 @@ stands-longer bytes block e h = ⊎_elim inl (λ f. inr (λ t. ap state_reading 
 pub stands-same : {T : Type 0} (bytes block other : List ℕ) (p : Prefix) (r : Result T StateFault) → Stands (bytes ++ block) p r → block ≡ other → Stands (bytes ++ other) p r
 stands-same bytes block other p r h is = subst (λ (b : List ℕ). Stands (bytes ++ b) p r) is h
 
-pub continues-begun : (p : Prefix) → p.number ≡ 1 → p.draft ≡ nothing_taken nothing → p.rest.items ≡ [] → Continues [] p
+pub continues-begun : (p : Prefix) → p.number ≡ 1 → p.draft ≡ nothing_taken empty_state → p.rest.items ≡ [] → ReadsOn [] p
 continues-begun p number draft rest = record {
   same = λ t. reading-taken p.draft t draft ∙ sym (ap (λ n. bytes_taken n p.draft (p.rest.items ++ t)) number ∙ ap (λ s. bytes_taken 1 p.draft (s ++ t)) rest);
 }
 
 -- The whole text has come.
-whole_read : (bytes : List ℕ) (p : Prefix) → Continues bytes p → state_reading bytes ≡ bytes_taken p.number p.draft p.rest.items
+whole_read : (bytes : List ℕ) (p : Prefix) → ReadsOn bytes p → state_reading bytes ≡ bytes_taken p.number p.draft p.rest.items
 whole_read bytes p c = ap state_reading (sym (append-nil bytes)) ∙ c.same [] ∙ ap (bytes_taken p.number p.draft) (append-nil p.rest.items)
 
-pub stands-Ok : (bytes : List ℕ) (p : Prefix) (r : Result State StateFault) → Continues bytes p → IfOk r (λ s. bytes_taken p.number p.draft p.rest.items ≡ Ok s) → IfOk r (λ s. state_reading bytes ≡ Ok s)
+pub stands-Ok : (bytes : List ℕ) (p : Prefix) (r : Result State StateFault) → ReadsOn bytes p → IfOk r (λ s. bytes_taken p.number p.draft p.rest.items ≡ Ok s) → IfOk r (λ s. state_reading bytes ≡ Ok s)
 stands-Ok bytes p (Ok s) c h = whole_read bytes p c ∙ h
 stands-Ok bytes p (Err e) c h = tt
 
-pub stands-Err : (bytes : List ℕ) (p : Prefix) (r : Result State StateFault) → Continues bytes p → IfErr r (λ e. (e ≡ out_of_memory) ⊎ (bytes_taken p.number p.draft p.rest.items ≡ Err e))
+pub stands-Err : (bytes : List ℕ) (p : Prefix) (r : Result State StateFault) → ReadsOn bytes p → IfErr r (λ e. (e ≡ out_of_memory) ⊎ (bytes_taken p.number p.draft p.rest.items ≡ Err e))
     → IfErr r (λ e. (e ≡ out_of_memory) ⊎ (state_reading bytes ≡ Err e))
 stands-Err bytes p (Ok s) c h = tt
 stands-Err bytes p (Err e) c h = ⊎_elim inl (λ f. inr (whole_read bytes p c ∙ f)) h
@@ -218,7 +219,7 @@ known None read r h e = tt
 known (Some bytes) read r h e = sym (ap state_reading h) ∙ e
 
 -- How many lines and bytes there may be.
-pub within-begun : (p : Prefix) → p.number ≡ 1 → p.draft ≡ nothing_taken nothing → p.rest.items ≡ [] → IsWithin p 1
+pub within-begun : (p : Prefix) → p.number ≡ 1 → p.draft ≡ nothing_taken empty_state → p.rest.items ≡ [] → IsWithin p 1
 within-begun p number draft rest = record {
   apart = subst (λ (a : Draft). IsApart a.current) (sym draft) tt;
   room = omega (arith, number, ap length rest);

@@ -28,10 +28,12 @@ use Rattle.hub_state.specs.declared.draft.Open.{Open}
 use Rattle.hub_state.specs.declared.draft.Open.TheVariants as opened
 use Rattle.hub_state.specs.State.{State, Text, root_text, pair_of, replica_at, archive_at}
 use Rattle.hub_state.specs.declared.TheConstants.{BLOBS, FILE_BYTES}
-use Rattle.hub_state.specs.Reading.{Above, Blobs, Line, line_of, line_reading, with_line_of, with_line, with_replica_begun, with_pair_begun, with_new_contents, with_contents_put, with_blob_named, with_blob_put, with_blob, blob_found, with_file, with_mark_put, has_directory, is_directory_among, may_stand, and_then, unless, root_field, path_field, bytes_field, digest_field, is_space}
+use Rattle.hub_state.specs.Reading.{Above, Blobs, Line, line_of, line_reading, with_line_of, with_line, with_replica_begun, with_pair_begun, with_new_entry, with_contents_put, with_blob_named, with_blob_put, with_blob, blob_found, with_file, with_mark_put, has_directory, is_directory_among, may_stand, unless, root_field, path_field, bytes_field, digest_field}
 use Rattle.hub_state.specs.Taking.{BlobMap, blob_put, with_blobs, blob_taken, new_contents_put, blob_named_put, file_put, section_of, closed, replica_begun, pair_begun, contents_put, mark_put, with_tree, with_marks, form_taken, line_form_taken, line_taken}
 use Rattle.std.proofs.lemmas.Bool.{or_right}
 use Rattle.hub_state.proofs.Maps.{same_test}
+use Rattle.hub_text.specs.Blanks.{is_space}
+use Rattle.hub_text.specs.Fails.{and_then}
 
 abbrev Rows : Type 0
 Rows = List (Text × List (Path × Contents))
@@ -172,7 +174,7 @@ parent_same es (n ∷ q) =
     ∙ ap (λ (o : Option Contents). is_directory (unwrap_or o contents.Absent)) (sym (fin.get-from_entries path_cmp-total es (n ∷ q)))
 
 new_same : (bs : Option Blobs) (bm : Option BlobMap) → AreBlobs bs bm → (rs : Rows) (ks : OldRows) (es : List (Path × Contents)) (n : ℕ) (e : Bool) (S : State) (r : Path) (o : Open) → S ≡ kept_state rs ks → (p : Path) (c : Contents)
-    → Same (with_new_contents (lists bs ((root_text r, es) ∷ rs) ks section.Replica n e) p c (root_text r, es) rs) (with_tree (draft bm S o n e) r (new_contents_put (fin.from_entries es) p c))
+    → Same (with_new_entry (lists bs ((root_text r, es) ∷ rs) ks section.Replica n e) p c (root_text r, es) rs) (with_tree (draft bm S o n e) r (new_contents_put (fin.from_entries es) p c))
 new_same bs bm b rs ks es n e S r o is p c =
     same-after _ _ NoParent _ _ _ (ap not (parent_same es (parent p))) (record { same = ((rs, ks, (p, c) ∷ es, refl, refl, is), b) })
 

@@ -20,7 +20,7 @@ use Rattle.hub_state.specs.Writing.{path_bytes, hex_field}
 use Rattle.hub_state.specs.Reading.{path_field, root_field, bytes_field, digest_field, or_else, unless}
 use Rattle.hub_state.specs.declared.fault.Fault.TheVariants.{BadPath, BadHex}
 use Rattle.hub_state.proofs.Lines.{in_line, in_field, encodes-in_line, digits-in_line, digits-in_field}
-use Rattle.hub_state.specs.RootTexts.{joined-pass, scalars-text}
+use Rattle.hub_path.specs.TextLaws.{joined-pass, scalars-text}
 
 second_of_four : (a b c d : Bool) → not (a || b || c || d) ≡ true → not b ≡ true
 second_of_four true b c d h = cc

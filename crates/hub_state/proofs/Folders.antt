@@ -1,29 +1,19 @@
 -- The names of a path that is read have no fault, and neither have those of its folder, nor those of a path in it.
-use Rattle.std.proofs.Common.{◌≡◌, ◌==◌, ℕ, ◌+◌, ◌<◌, Bool, true, false, cond, List, [], ◌∷◌, ◌++◌, length, refl, sym, ap, ◌∙◌, subst, arith}
-use Rattle.std.specs.Prelude.{Option, Some, None, Ok}
+use Rattle.std.proofs.Common.{◌≡◌, ◌==◌, ℕ, ◌+◌, ◌<◌, true, false, List, [], ◌∷◌, ◌++◌, length, refl, sym, ap, ◌∙◌, subst, arith}
+use Rattle.std.specs.Prelude.{None, Ok}
 use Rattle.std.specs.Prelude.{not, bytes_eq, encode_utf8_all}
 use Rattle.std.proofs.lemmas.Bool.{and_from, ne_eqb}
 use Rattle.std.proofs.lemmas.Bool.Decides.{nat_tests}
 use Rattle.std.proofs.lemmas.Slice.Eq.{bytes_eq-Decides}
 use Rattle.hub_path.specs.Path.{Name, Path, parent, path_of, is_path, is_place, text_of}
-use Rattle.hub_path.specs.Reading.{name_fault, name_reading, names_fault, path_fault, path_reading, first_fault, begins_with_slash}
-use Rattle.hub_path.specs.ReadNames.{or_fault-Ok}
-use Rattle.hub_path.specs.declared.fault.PathFault.{PathFault}
+use Rattle.hub_path.specs.Reading.{name_fault, name_reading, names_fault, path_fault, path_reading, begins_with_slash}
+use Rattle.hub_path.specs.ReadNames.{or_fault-Ok, first_fault-None, tested-None}
 use Rattle.hub_path.specs.declared.fault.PathFault.TheVariants.{TooDeep, Empty, LeadingSlash}
 use Rattle.hub_path.specs.declared.rel_path.TheConstants.{PATH_NAMES}
 use Rattle.hub_state.specs.Near.{IsReadFrom}
 use Rattle.hub_state.specs.Reading.{path_field}
 use Rattle.hub_state.specs.Writing.{path_bytes}
 use Rattle.hub_state.proofs.Fields.{path_field-written}
-
--- What a test without a fault says.
-no_test : (b : Bool) (e : PathFault) (x : Option PathFault) → cond b (Some e) x ≡ None → (b ≡ false) × (x ≡ None)
-no_test true e x h = cc
-no_test false e x h = (refl, h)
-
-no_first : (f x : Option PathFault) → first_fault f x ≡ None → (f ≡ None) × (x ≡ None)
-no_first None x h = (refl, h)
-no_first (Some e) x h = cc
 
 -- The first name, and the others.
 record Fine (depth : ℕ) (n : Name) (p : Path) : Type 0 where
@@ -33,8 +23,8 @@ record Fine (depth : ℕ) (n : Name) (p : Path) : Type 0 where
 
 fine : (depth : ℕ) (n : Name) (p : Path) → names_fault depth (n ∷ p) ≡ None → Fine depth n p
 fine depth n p h =
-    let a = no_test (depth == PATH_NAMES) TooDeep _ h in
-    let b = no_first (name_fault n) (names_fault (depth + 1) p) a.1 in
+    let a = tested-None (depth == PATH_NAMES) TooDeep _ h in
+    let b = first_fault-None (name_fault n) (names_fault (depth + 1) p) a.1 in
     record { room = a.0; first = b.0; rest = b.1 }
 
 fine-below : (depth : ℕ) (p : Path) (n : Name) → names_fault depth p ≡ None → depth + length p < PATH_NAMES → name_fault n ≡ None → names_fault depth (p ++ n ∷ []) ≡ None
@@ -63,8 +53,8 @@ parent_fine p h = fine-parent 0 p h
 pub read_fine : (t : List ℕ) (p : Path) → path_reading t ≡ Ok p → names_fault 0 p ≡ None
 read_fine t p read =
     let r = or_fault-Ok (path_fault t) (path_of t) p read in
-    let some = no_test (length t == 0) Empty _ r.0 in
-    let begun = no_test (begins_with_slash t) LeadingSlash _ some.1 in
+    let some = tested-None (length t == 0) Empty _ r.0 in
+    let begun = tested-None (begins_with_slash t) LeadingSlash _ some.1 in
     sym (ap (names_fault 0) r.1) ∙ begun.1
 
 -- A path whose text is the field.

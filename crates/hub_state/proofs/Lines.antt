@@ -15,7 +15,8 @@ use Rattle.hub_text.specs.TestLaws.{list_all-not}
 use Rattle.hex.specs.Hex.{encode_with, encode_lower, lower_digits}
 use lib.Utf8.{encode, next}
 use Rattle.hub_state.specs.Writing.{joined_lines}
-use Rattle.hub_state.specs.Reading.{above_end, lines_reading, nothing_above, is_space}
+use Rattle.hub_state.specs.Reading.{above_end, lines_reading, nothing_above}
+use Rattle.hub_text.specs.Blanks.{is_space}
 
 -- A byte that ends no line, and one that separates no fields.
 abbrev pub in_line : ℕ → Bool

@@ -20,7 +20,7 @@ use Rattle.hub_path.specs.Path.{name_cmp, path_cmp}
 use Rattle.hub_path.specs.Laws.{name_cmp-total, name_cmp-exact, path_cmp-total, path_cmp-exact}
 use Rattle.hub_tree.specs.Laws.Ascending.{both, is_sorted-from, entries-ascending, copy_more}
 use Rattle.hub_state.specs.State.{Text}
-use Rattle.hub_state.specs.View.{keyed, by_text, by_two, below, pairs, map_in, pairs_in}
+use Rattle.hub_state.specs.View.{keyed, by_text, by_two, pairs_below, pairs, map_in, pairs_in}
 use Rattle.hub_text.specs.TestLaws.{T-first, T-second, T-less}
 use Rattle.hub_text.specs.ListLaws.{find-append, option_or-none}
 use Rattle.hub_state.proofs.Kept.{find-tied_below}
@@ -83,17 +83,17 @@ in_row : {X : Type 0} (a b : Bool) (v w : Option X) → cond (a && b) v (cond a 
 in_row true b v w = refl
 in_row false b v w = refl
 
-find-below : {X : Type 0} (t u a : Text) (fs : List (Text × X)) → find path_cmp (t ∷ u ∷ []) (below a fs) ≡ cond (eq_by_cmp name_cmp t a) (find name_cmp u fs) None
+find-below : {X : Type 0} (t u a : Text) (fs : List (Text × X)) → find path_cmp (t ∷ u ∷ []) (pairs_below a fs) ≡ cond (eq_by_cmp name_cmp t a) (find name_cmp u fs) None
 find-below t u a [] = sym (nothing_there (eq_by_cmp name_cmp t a) None refl)
 find-below t u a (f ∷ fs) =
-    ap (λ b. cond b (Some f.1) (find path_cmp (t ∷ u ∷ []) (below a fs))) (is_eq-pair t u a f.0)
+    ap (λ b. cond b (Some f.1) (find path_cmp (t ∷ u ∷ []) (pairs_below a fs))) (is_eq-pair t u a f.0)
     ∙ ap (cond (eq_by_cmp name_cmp t a && eq_by_cmp name_cmp u f.0) (Some f.1)) (find-below t u a fs)
     ∙ in_row (eq_by_cmp name_cmp t a) (eq_by_cmp name_cmp u f.0) (Some f.1) (find name_cmp u fs)
 
 find-pairs : {X : Type 0} (t u : Text) (ps : List (Text × List (Text × X))) → T (is_sorted name_cmp ps) → find path_cmp (t ∷ u ∷ []) (pairs ps) ≡ option_and_then (find name_cmp u) (find name_cmp t ps)
 find-pairs t u [] h = refl
 find-pairs {X} t u (p ∷ ps) h =
-    find-append path_cmp (t ∷ u ∷ []) (below p.0 p.1) (pairs ps)
+    find-append path_cmp (t ∷ u ∷ []) (pairs_below p.0 p.1) (pairs ps)
     ∙ ap (λ o. option_or o (find path_cmp (t ∷ u ∷ []) (pairs ps))) (find-below t u p.0 p.1)
     ∙ ap (option_or (cond (eq_by_cmp name_cmp t p.0) (find name_cmp u p.1) None)) (find-pairs t u ps (T-second _ _ h))
     ∙ by (eq_by_cmp name_cmp t p.0) refl
@@ -109,14 +109,14 @@ find-pairs {X} t u (p ∷ ps) h =
 abbrev IsUnlike : List Text → Type 0
 IsUnlike q = (a b : Text) → eq_by_cmp path_cmp q (a ∷ b ∷ []) ≡ false
 
-none_below : {X : Type 0} (q : List Text) → IsUnlike q → (a : Text) (fs : List (Text × X)) → find path_cmp q (below a fs) ≡ None
+none_below : {X : Type 0} (q : List Text) → IsUnlike q → (a : Text) (fs : List (Text × X)) → find path_cmp q (pairs_below a fs) ≡ None
 none_below q h a [] = refl
-none_below q h a (f ∷ fs) = ap (λ b. cond b (Some f.1) (find path_cmp q (below a fs))) (h a f.0) ∙ none_below q h a fs
+none_below q h a (f ∷ fs) = ap (λ b. cond b (Some f.1) (find path_cmp q (pairs_below a fs))) (h a f.0) ∙ none_below q h a fs
 
 none_unlike : {X : Type 0} (q : List Text) → IsUnlike q → (ps : List (Text × List (Text × X))) → find path_cmp q (pairs ps) ≡ None
 none_unlike q h [] = refl
 none_unlike q h (p ∷ ps) =
-    find-append path_cmp q (below p.0 p.1) (pairs ps)
+    find-append path_cmp q (pairs_below p.0 p.1) (pairs ps)
     ∙ ap (λ o. option_or o (find path_cmp q (pairs ps))) (none_below q h p.0 p.1) ∙ none_unlike q h ps
 
 unlike_short : (r : Ordering) → is_eq (ordering_then r Less) ≡ false
@@ -263,17 +263,17 @@ below_all-append : {K X : Type 0} (R : K → K → Ordering) (k : K) (xs ys : Li
 below_all-append R k [] ys h i = i
 below_all-append R k (x ∷ xs) ys h i = both _ _ (T-first _ _ h) (below_all-append R k xs ys (T-second _ _ h) i)
 
-below_row : {X : Type 0} (a x : Text) (fs : List (Text × X)) → T (below_all name_cmp x fs) → T (below_all path_cmp (a ∷ x ∷ []) (below a fs))
+below_row : {X : Type 0} (a x : Text) (fs : List (Text × X)) → T (below_all name_cmp x fs) → T (below_all path_cmp (a ∷ x ∷ []) (pairs_below a fs))
 below_row a x [] h = tt
 below_row a x (f ∷ fs) h =
     both _ _ (subst T (sym (ap (λ r. is_lt (ordering_then r (ordering_then (name_cmp x f.0) Equal))) (tied_itself name_cmp-total a) ∙ is_lt-last (name_cmp x f.0))) (T-first _ _ h))
     (below_row a x fs (T-second _ _ h))
 
-row_sorted : {X : Type 0} (a : Text) (fs : List (Text × X)) → T (is_sorted name_cmp fs) → T (is_sorted path_cmp (below a fs))
+row_sorted : {X : Type 0} (a : Text) (fs : List (Text × X)) → T (is_sorted name_cmp fs) → T (is_sorted path_cmp (pairs_below a fs))
 row_sorted a [] h = tt
 row_sorted a (f ∷ fs) h = both _ _ (below_row a f.0 fs (T-first _ _ h)) (row_sorted a fs (T-second _ _ h))
 
-below_other : {X : Type 0} (a b x : Text) (gs : List (Text × X)) → name_cmp a b ≡ Less → T (below_all path_cmp (a ∷ x ∷ []) (below b gs))
+below_other : {X : Type 0} (a b x : Text) (gs : List (Text × X)) → name_cmp a b ≡ Less → T (below_all path_cmp (a ∷ x ∷ []) (pairs_below b gs))
 below_other a b x [] e = tt
 below_other a b x (g ∷ gs) e =
     both _ _ (subst T (sym (ap (λ r. is_lt (ordering_then r (ordering_then (name_cmp x g.0) Equal))) e)) tt) (below_other a b x gs e)
@@ -281,13 +281,13 @@ below_other a b x (g ∷ gs) e =
 below_pairs : {X : Type 0} (a x : Text) (ps : List (Text × List (Text × X))) → T (below_all name_cmp a ps) → T (below_all path_cmp (a ∷ x ∷ []) (pairs ps))
 below_pairs a x [] h = tt
 below_pairs a x (p ∷ ps) h =
-    below_all-append path_cmp (a ∷ x ∷ []) (below p.0 p.1) (pairs ps) (below_other a p.0 x p.1 (T-less _ (T-first _ _ h))) (below_pairs a x ps (T-second _ _ h))
+    below_all-append path_cmp (a ∷ x ∷ []) (pairs_below p.0 p.1) (pairs ps) (below_other a p.0 x p.1 (T-less _ (T-first _ _ h))) (below_pairs a x ps (T-second _ _ h))
 
-row_before : {X : Type 0} (a : Text) (fs : List (Text × X)) (qs : List (List Text × X)) → ((x : Text) → T (below_all path_cmp (a ∷ x ∷ []) qs)) → T (is_sorted path_cmp (below a fs)) → T (is_sorted path_cmp qs)
-    → T (is_sorted path_cmp (below a fs ++ qs))
+row_before : {X : Type 0} (a : Text) (fs : List (Text × X)) (qs : List (List Text × X)) → ((x : Text) → T (below_all path_cmp (a ∷ x ∷ []) qs)) → T (is_sorted path_cmp (pairs_below a fs)) → T (is_sorted path_cmp qs)
+    → T (is_sorted path_cmp (pairs_below a fs ++ qs))
 row_before a [] qs f h i = i
 row_before a (g ∷ fs) qs f h i =
-    both _ _ (below_all-append path_cmp (a ∷ g.0 ∷ []) (below a fs) qs (T-first _ _ h) (f g.0)) (row_before a fs qs f (T-second _ _ h) i)
+    both _ _ (below_all-append path_cmp (a ∷ g.0 ∷ []) (pairs_below a fs) qs (T-first _ _ h) (f g.0)) (row_before a fs qs f (T-second _ _ h) i)
 
 abbrev pub AllSorted : {X : Type 0} → List (Text × List (Text × X)) → Type 0
 AllSorted [] = Unit {0}
@@ -320,6 +320,6 @@ pub by_two-push : {Z X : Type 0} (es : List (String Z × BTreeMap (String Z) X))
 by_two-push [] x = refl
 by_two-push (e ∷ es) x = ap (λ ds. (string_bytes e.0, by_text e.1.entries) ∷ ds) (by_two-push es x)
 
-pub pairs-push : {X : Type 0} (ps : List (Text × List (Text × X))) (p : Text × List (Text × X)) → pairs (ps ++ p ∷ []) ≡ pairs ps ++ below p.0 p.1
-pairs-push [] p = append-nil (below p.0 p.1)
-pairs-push (q ∷ ps) p = ap (λ ds. below q.0 q.1 ++ ds) (pairs-push ps p) ∙ sym (append_assoc (below q.0 q.1) (pairs ps) (below p.0 p.1))
+pub pairs-push : {X : Type 0} (ps : List (Text × List (Text × X))) (p : Text × List (Text × X)) → pairs (ps ++ p ∷ []) ≡ pairs ps ++ pairs_below p.0 p.1
+pairs-push [] p = append-nil (pairs_below p.0 p.1)
+pairs-push (q ∷ ps) p = ap (λ ds. pairs_below q.0 q.1 ++ ds) (pairs-push ps p) ∙ sym (append_assoc (pairs_below q.0 q.1) (pairs ps) (pairs_below p.0 p.1))

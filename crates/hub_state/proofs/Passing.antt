@@ -13,9 +13,9 @@ use Rattle.hub_tree.specs.declared.entries.Stored.{Stored}
 use Rattle.hub_tree.specs.declared.contents.Contents.{Contents}
 use Rattle.hub_state.specs.State.{State, Text}
 use Rattle.hub_state.specs.Devices.{Passes}
-use Rattle.hub_state.specs.View.{by_text, by_two, below, pairs, keyed}
+use Rattle.hub_state.specs.View.{by_text, by_two, pairs_below, pairs, keyed}
 use Rattle.hub_state.specs.declared.form.Version.{Version}
-use Rattle.hub_state.specs.Writing.{contents_lines, header, end_line, replica_lines, archive_lines, blob_lines, state_files, version_of, version_lines, joined_lines, state_text}
+use Rattle.hub_state.specs.Writing.{contents_lines, state_header, end_line, replica_lines, archive_lines, blob_lines, state_files, version_of, version_lines, joined_lines, state_text}
 use Rattle.hub_state.proofs.Maps.{by_two-push, pairs-push}
 
 pub one_line : (l : List ℕ) → joined_lines (l ∷ []) ≡ l ++ 10 ∷ []
@@ -102,23 +102,23 @@ passes-all a b c x y done one two = subst_bytes (Appends-trans a b c one.0 y one
     subst_bytes {u} {v} h e = subst (Appends a c) e h
 
 -- One more archive below a text.
-below-push : {X : Type 0} (a : Text) (es : List (Text × X)) (x : Text × X) → below a (es ++ x ∷ []) ≡ below a es ++ (a ∷ x.0 ∷ [], x.1) ∷ []
+below-push : {X : Type 0} (a : Text) (es : List (Text × X)) (x : Text × X) → pairs_below a (es ++ x ∷ []) ≡ pairs_below a es ++ (a ∷ x.0 ∷ [], x.1) ∷ []
 below-push a [] x = refl
 below-push a (e ∷ es) x = ap (λ ds. (a ∷ e.0 ∷ [], e.1) ∷ ds) (below-push a es x)
 
 pub below_more : {Z X : Type 0} (f : List Text × X → List (List ℕ)) (a : Text) (es : List (String Z × X)) (x : String Z × X)
-    → joined_lines (flat_map f (below a (by_text (es ++ x ∷ [])))) ≡ joined_lines (flat_map f (below a (by_text es))) ++ joined_lines (f (a ∷ string_bytes x.0 ∷ [], x.1))
+    → joined_lines (flat_map f (pairs_below a (by_text (es ++ x ∷ [])))) ≡ joined_lines (flat_map f (pairs_below a (by_text es))) ++ joined_lines (f (a ∷ string_bytes x.0 ∷ [], x.1))
 below_more f a es x =
-    ap (λ ds. joined_lines (flat_map f ds)) (ap (below a) (keyed-push (λ v. v) es x) ∙ below-push a (by_text es) (string_bytes x.0, x.1))
-    ∙ joined_one f (below a (by_text es)) (a ∷ string_bytes x.0 ∷ [], x.1)
+    ap (λ ds. joined_lines (flat_map f ds)) (ap (pairs_below a) (keyed-push (λ v. v) es x) ∙ below-push a (by_text es) (string_bytes x.0, x.1))
+    ∙ joined_one f (pairs_below a (by_text es)) (a ∷ string_bytes x.0 ∷ [], x.1)
 
 -- The archives of one more first text.
 pub pairs_more : {Z X : Type 0} (f : List Text × X → List (List ℕ)) (es : List (String Z × BTreeMap (String Z) X)) (x : String Z × BTreeMap (String Z) X)
-    → joined_lines (flat_map f (pairs (by_two (es ++ x ∷ [])))) ≡ joined_lines (flat_map f (pairs (by_two es))) ++ joined_lines (flat_map f (below (string_bytes x.0) (by_text x.1.entries)))
+    → joined_lines (flat_map f (pairs (by_two (es ++ x ∷ [])))) ≡ joined_lines (flat_map f (pairs (by_two es))) ++ joined_lines (flat_map f (pairs_below (string_bytes x.0) (by_text x.1.entries)))
 pairs_more f es x =
     ap (λ ds. joined_lines (flat_map f ds)) (ap pairs (by_two-push es x) ∙ pairs-push (by_two es) (string_bytes x.0, by_text x.1.entries))
-    ∙ ap joined_lines (flat_map-append f (pairs (by_two es)) (below (string_bytes x.0) (by_text x.1.entries)))
-    ∙ joined-append (flat_map f (pairs (by_two es))) (flat_map f (below (string_bytes x.0) (by_text x.1.entries)))
+    ∙ ap joined_lines (flat_map-append f (pairs (by_two es)) (pairs_below (string_bytes x.0) (by_text x.1.entries)))
+    ∙ joined-append (flat_map f (pairs (by_two es))) (flat_map f (pairs_below (string_bytes x.0) (by_text x.1.entries)))
 
 -- One more line.
 pub joined_mapped : {X : Type 0} (f : X → List ℕ) (xs : List X) (x : X) → joined_lines (map f (xs ++ x ∷ [])) ≡ joined_lines (map f xs) ++ (f x ++ 10 ∷ [])
@@ -128,10 +128,10 @@ joined_mapped f (y ∷ xs) x =
 
 -- The parts of a state's text.
 pub text_parts : (S : State) (v : Version) → v ≡ version_of (state_files S)
-    → joined_lines (header v ∷ blob_lines v (state_files S)) ++ joined_lines (flat_map (replica_lines v) (fin.entries S.replicas)) ++ joined_lines (flat_map archive_lines (fin.entries S.archives)) ++ ((end_line ++ 10 ∷ []) ++ []) ≡ state_text S
+    → joined_lines (state_header v ∷ blob_lines v (state_files S)) ++ joined_lines (flat_map (replica_lines v) (fin.entries S.replicas)) ++ joined_lines (flat_map archive_lines (fin.entries S.archives)) ++ ((end_line ++ 10 ∷ []) ++ []) ≡ state_text S
 unfolding state_text
 text_parts S v is =
-    let h : List (List ℕ) = header v ∷ blob_lines v (state_files S) in
+    let h : List (List ℕ) = state_header v ∷ blob_lines v (state_files S) in
     let rs : List (List ℕ) = flat_map (replica_lines v) (fin.entries S.replicas) in
     let ks : List (List ℕ) = flat_map archive_lines (fin.entries S.archives) in
     let e : List (List ℕ) = end_line ∷ [] in

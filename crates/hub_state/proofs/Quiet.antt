@@ -20,7 +20,9 @@ use Rattle.hub_state.specs.declared.form.Section.{Section}
 use Rattle.hub_state.specs.declared.form.Section.TheVariants as section
 use Rattle.hub_state.specs.Devices.{is_read_failed, is_turns_spent, is_unread, says, reports}
 use Rattle.hub_state.specs.State.{Text}
-use Rattle.hub_state.specs.Reading.{Above, Blobs, with_new_contents, with_blob_named, blob_found, with_file, with_blob_put, with_blob, Line, line_of, or_else, and_then, unless, root_field, path_field, bytes_field, digest_field, is_space, with_other_root, with_contents_put, with_mark_put, with_dir, with_fields, with_line, with_line_of, numbered_reading, lines_reading, fault_at, nothing_above, above_end, state_or_fault, state_reading}
+use Rattle.hub_state.specs.Reading.{Above, Blobs, with_new_entry, with_blob_named, blob_found, with_file, with_blob_put, with_blob, Line, line_of, or_else, unless, root_field, path_field, bytes_field, digest_field, with_other_root, with_contents_put, with_mark_put, with_dir, with_fields, with_line, with_line_of, numbered_reading, lines_reading, fault_at, nothing_above, above_end, state_or_fault, state_reading}
+use Rattle.hub_text.specs.Blanks.{is_space}
+use Rattle.hub_text.specs.Fails.{and_then}
 
 record Quiet {T : Type 0} (r : Result T Fault) : Type 0 where
   quiet : says is_unread r ≡ false
@@ -65,7 +67,7 @@ other-quiet d section.Replica r = another_said BadLine refl
 other-quiet d (section.HalfArchive q) r = unless-quiet _ BadLine _ refl (unless-quiet _ Repeated _ refl (nothing_said _))
 other-quiet d section.Archive r = another_said BadLine refl
 
-new-quiet : (d : Above) (p : Path) (c : Contents) (e : Text × List (Path × Contents)) (es : List (Text × List (Path × Contents))) → Quiet (with_new_contents d p c e es)
+new-quiet : (d : Above) (p : Path) (c : Contents) (e : Text × List (Path × Contents)) (es : List (Text × List (Path × Contents))) → Quiet (with_new_entry d p c e es)
 new-quiet d p c e es = unless-quiet _ NoParent _ refl (nothing_said _)
 
 contents-quiet : (d : Above) (p : Path) (c : Contents) (rs : List (Text × List (Path × Contents))) → Quiet (with_contents_put d p c rs)

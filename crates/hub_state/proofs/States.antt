@@ -11,7 +11,7 @@ use Rattle.hub_path.specs.Path.{Path, name_cmp, path_cmp, is_place, root_bytes}
 use Rattle.hub_path.specs.Laws.{name_cmp-total, name_cmp-exact, path_cmp-total}
 use Rattle.hub_tree.specs.Tree.{Replica, Archive, IsTree, IsArchive, HasPaths, HasBytes, HasDigests}
 use Rattle.hub_tree.specs.Laws.Order.{same_path, same_name}
-use Rattle.hub_state.specs.State.{State, Text, IsState, nothing, root_text, is_before, pair_of, with_replica, with_archive}
+use Rattle.hub_state.specs.State.{State, Text, IsState, empty_state, root_text, is_before, pair_of, with_replica, with_archive}
 use Rattle.hub_state.specs.RootTexts.{same_roots}
 
 -- The text of a root by its two definitions.
@@ -23,7 +23,7 @@ either : {X P : Type 0} (b : Bool) (v x : X) (o : Option X) → cond b (Some v) 
 either true v x o e f g = f refl (ap (λ z. unwrap_or z v) e)
 either false v x o e f g = g e
 
-pub IsState-nothing : IsState nothing
+pub IsState-nothing : IsState empty_state
 IsState-nothing = record {
   roots = λ t m h. let n : None ≡ Some m = sym (fin.get-empty name_cmp t) ∙ h in cc;
   trees = λ t m h. let n : None ≡ Some m = sym (fin.get-empty name_cmp t) ∙ h in cc;

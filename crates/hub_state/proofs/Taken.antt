@@ -10,7 +10,7 @@ use Rattle.hub_state.specs.declared.fault.StateFault.{StateFault}
 use Rattle.hub_state.specs.declared.draft.Draft.{Draft}
 use Rattle.hub_state.specs.declared.form.Version.TheVariants.{One, Two}
 use Rattle.hub_state.specs.State.{State}
-use Rattle.hub_state.specs.Writing.{header, end_line}
+use Rattle.hub_state.specs.Writing.{state_header, end_line}
 use Rattle.hub_state.specs.Reading.{Above, line_reading, unless, is_truncated, header_reading, numbered_reading}
 use Rattle.hub_state.specs.Taking.{is_memory, placed, header_taken, numbered_taken, line_taken}
 use Rattle.hub_state.specs.Devices.{reports}
@@ -18,14 +18,14 @@ use Rattle.hub_state.proofs.Drafts.{Holds, Same, same-unless, holds_other_blobs,
 
 -- The header names the version for both.
 header_same : (d : Above) (a : Draft) → Holds d a → (l : List ℕ) → Same (header_reading d l) (header_taken a l)
-header_same d a h l = by (bytes_eq l (header One))
+header_same d a h l = by (bytes_eq l (state_header One))
   where
     by : (b : Bool)
-        → Same (cond b (Ok d) (unless (not (bytes_eq l (header Two))) BadHeader (Ok (record d { blobs = Some [] }))))
-        (cond b (Ok a) (unless (not (bytes_eq l (header Two))) BadHeader (Ok (record a { blobs = Some fin.empty }))))
+        → Same (cond b (Ok d) (unless (not (bytes_eq l (state_header Two))) BadHeader (Ok (record d { blobs = Some [] }))))
+        (cond b (Ok a) (unless (not (bytes_eq l (state_header Two))) BadHeader (Ok (record a { blobs = Some fin.empty }))))
     by true = record { same = h }
     by false =
-        same-unless (not (bytes_eq l (header Two))) (not (bytes_eq l (header Two))) BadHeader (Ok (record d { blobs = Some [] })) (Ok (record a { blobs = Some fin.empty })) refl
+        same-unless (not (bytes_eq l (state_header Two))) (not (bytes_eq l (state_header Two))) BadHeader (Ok (record d { blobs = Some [] })) (Ok (record a { blobs = Some fin.empty })) refl
         (record { same = (holds_other_blobs d a.state a.current a.entries a.ended (Some []) h.0, (refl, fin.len-empty name_cmp (List ℕ))) })
 
 pub numbered_same : (n : ℕ) (d : Above) (a : Draft) → Holds d a → (l : List ℕ) → Same (numbered_reading n d l) (numbered_taken n a l)

@@ -24,7 +24,7 @@ use Rattle.hub_state.specs.declared.form.Section.TheVariants as section
 use Rattle.hub_state.specs.declared.form.Version.{Version}
 use Rattle.hub_state.specs.declared.form.Version.TheVariants.{One, Two}
 use Rattle.hub_state.specs.State.{State, Text, IsState, root_text, pair_of, is_before}
-use Rattle.hub_state.specs.Writing.{header, end_line, replica_lines, archive_lines, pair_lines, contents_lines, mark_lines, blob_line, blob_lines, blobs_of, contents_files, replica_files, state_files, tell_apart, joined_lines, version_lines, state_text}
+use Rattle.hub_state.specs.Writing.{state_header, end_line, replica_lines, archive_lines, pair_lines, contents_lines, mark_lines, blob_line, blob_lines, blobs_of, contents_files, replica_files, state_files, tell_apart, joined_lines, version_lines, state_text}
 use Rattle.hub_state.specs.Taking.{BlobMap}
 use Rattle.hub_state.specs.Reading.{Above, Blobs, above_end, lines_reading, nothing_above, is_half, state_of, state_or_fault, state_reading}
 use Rattle.hub_state.specs.Laws.{IsReadable}
@@ -248,13 +248,13 @@ begun One = None
 begun Two = Some []
 
 header_reads : (v : Version) (ls : List (List ℕ))
-    → lines_reading 1 nothing_above (all_ended (header v ∷ ls ++ end_line ∷ [])) ≡ lines_reading 2 (above (begun v) [] [] section.Nothing 0) (all_ended (ls ++ end_line ∷ []))
+    → lines_reading 1 nothing_above (all_ended (state_header v ∷ ls ++ end_line ∷ [])) ≡ lines_reading 2 (above (begun v) [] [] section.Nothing 0) (all_ended (ls ++ end_line ∷ []))
 header_reads One [] = refl
 header_reads One (l ∷ ls) = refl
 header_reads Two [] = refl
 header_reads Two (l ∷ ls) = refl
 
-header_in_line : (v : Version) → list_all in_line (header v) ≡ true
+header_in_line : (v : Version) → list_all in_line (state_header v) ≡ true
 header_in_line One = refl
 header_in_line Two = refl
 
@@ -280,11 +280,11 @@ version_read S is limits bs blobs begins =
     let both = Reads-append (above bs [] [] section.Nothing 0) _ _ rs ks one.reads two.reads in
     let all = Reads-append (above (begun v) [] [] section.Nothing 0) (above bs [] [] section.Nothing 0) _ xs (rs ++ ks) begins both in
     let ls : List (List ℕ) = xs ++ (rs ++ ks) in
-    let same : version_lines v S ≡ header v ∷ ls ++ end_line ∷ [] = ap (λ (y : List (List ℕ)). header v ∷ y) (joined xs rs ks (end_line ∷ [])) in
-    let ended : list_all (list_all in_line) (header v ∷ ls ++ end_line ∷ []) ≡ true =
+    let same : version_lines v S ≡ state_header v ∷ ls ++ end_line ∷ [] = ap (λ (y : List (List ℕ)). state_header v ∷ y) (joined xs rs ks (end_line ∷ [])) in
+    let ended : list_all (list_all in_line) (state_header v ∷ ls ++ end_line ∷ []) ≡ true =
     and_from _ _ (header_in_line v) (list_all-append (list_all in_line) ls (end_line ∷ []) ∙ and_from _ true all.whole refl) in
     ap (λ (y : List (List ℕ)). state_or_fault (above_end (joined_lines y))) same
-    ∙ ap state_or_fault (above_end-joined (header v ∷ ls ++ end_line ∷ []) ended ∙ header_reads v ls
+    ∙ ap state_or_fault (above_end-joined (state_header v ∷ ls ++ end_line ∷ []) ended ∙ header_reads v ls
     ∙ lines_reading-ended ls 2 (above (begun v) [] [] section.Nothing 0) _ (omega arith) all.says refl (open_whole two.last two.whole))
     ∙ ap Ok (state_kept S bs two.last (0 + total (fin.entries S.replicas) + total (fin.entries S.archives)))
 

@@ -25,12 +25,14 @@ use Rattle.hub_state.specs.declared.form.Section.{Section}
 use Rattle.hub_state.specs.declared.form.Section.TheVariants as section
 use Rattle.hub_state.specs.State.{Text}
 use Rattle.hub_state.specs.Writing.{end_line, dir_line, file_line, blob_line, path_bytes, hex_field}
-use Rattle.hub_state.specs.Reading.{Above, Blobs, and_then, unless, is_space, line_of, with_line, with_line_of, with_fields, line_reading, numbered_reading, lines_reading, fault_at, may_stand, has_directory}
+use Rattle.hub_state.specs.Reading.{Above, Blobs, unless, line_of, with_line, with_line_of, with_fields, line_reading, numbered_reading, lines_reading, fault_at, may_stand, has_directory}
 use Rattle.std.proofs.lemmas.Bool.{and_from}
 use Rattle.hub_state.proofs.Lines.{in_line, in_field, all_ended, field_before, field_after, field_ends}
 use Rattle.hub_state.proofs.Fields.{IsUtf8-path, path_field-written, bytes_field-written, digest_field-written, IsUtf8-digits, IsUtf8-hex, hex-in_line, hex-in_field}
 use Rattle.hub_path.specs.ReadBack.{path-place}
 use Rattle.hub_state.proofs.Lines.{digits-in_line, digits-in_field}
+use Rattle.hub_text.specs.Blanks.{is_space}
+use Rattle.hub_text.specs.Fails.{and_then}
 
 -- What is read of some lines.
 abbrev pub lines_from : Above → List (List ℕ) → Result Above Fault

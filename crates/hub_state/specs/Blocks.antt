@@ -9,8 +9,9 @@ use Rattle.hub_state.specs.declared.draft.Draft.{Draft}
 use Rattle.hub_state.specs.declared.reader.Prefix.{Prefix}
 use Rattle.hub_state.specs.declared.reader.TheConstants.{READ_TURNS}
 use Rattle.hub_state.specs.State.{State}
-use Rattle.hub_state.specs.Reading.{and_then, fault_at, state_reading}
+use Rattle.hub_state.specs.Reading.{fault_at, state_reading}
 use Rattle.hub_state.specs.Taking.{IsApart, numbered_taken, last_taken}
+use Rattle.hub_text.specs.Fails.{and_then}
 
 -- What the lines from the n-th on say, after what a draft has.
 abbrev pub lines_taken : ℕ → Draft → List (TextLine (List ℕ)) → Result State StateFault
@@ -23,9 +24,9 @@ abbrev pub bytes_taken : ℕ → Draft → List ℕ → Result State StateFault
 bytes_taken n a bytes = lines_taken n a (lines_of bytes)
 
 -- The bytes of a line, if there is one.
-abbrev pub text_of : Option (TextLine (List ℕ)) → List ℕ
-text_of None = []
-text_of (Some l) = line_text l
+abbrev pub taken_line_text : Option (TextLine (List ℕ)) → List ℕ
+taken_line_text None = []
+taken_line_text (Some l) = line_text l
 
 abbrev pub out_of_memory : StateFault
 out_of_memory = record { line = 0; fault = OutOfMemory }
@@ -47,13 +48,13 @@ abbrev pub Stops : ℕ → Draft → List ℕ → StateFault → Type 0
 Stops n a bytes e = (e ≡ out_of_memory) ⊎ ((t : List ℕ) → bytes_taken n a (bytes ++ t) ≡ Err e)
 
 -- Whatever follows these bytes, the text is read on from the prefix.
-pub record Continues (bytes : List ℕ) (p : Prefix) : Type 0 where
+pub record ReadsOn (bytes : List ℕ) (p : Prefix) : Type 0 where
   pub same : (t : List ℕ) → state_reading (bytes ++ t)
       ≡ bytes_taken p.number p.draft (p.rest.items ++ t)
 
 -- What is known of a text that begins with these bytes: a prefix was taken, or there is a fault.
 abbrev pub Stands : {T : Type 0} → List ℕ → Prefix → Result T StateFault → Type 0
-Stands bytes p (Ok u) = Continues bytes p
+Stands bytes p (Ok u) = ReadsOn bytes p
 Stands bytes p (Err e) =
     (e ≡ out_of_memory) ⊎ ((t : List ℕ) → state_reading (bytes ++ t) ≡ Err e)
 

@@ -17,7 +17,7 @@ use Rattle.hub_state.specs.declared.form.Section.TheVariants as section
 use Rattle.hub_tree.specs.Tree.{Replica}
 use Rattle.hub_state.specs.State.{State, Text, root_text, pair_of}
 use Rattle.hub_state.specs.declared.form.Version.TheVariants.{One, Two}
-use Rattle.hub_state.specs.Writing.{joined_lines, version_lines, contents_lines, blob_line, mark_lines, pair_lines, dir_line, file_line, header, end_line}
+use Rattle.hub_state.specs.Writing.{joined_lines, version_lines, contents_lines, blob_line, mark_lines, pair_lines, dir_line, file_line, state_header, end_line}
 use Rattle.hub_state.specs.Reading.{Above, above_end}
 
 -- What these examples compute.
@@ -291,7 +291,7 @@ small =
     }
 
 a_state_is_written_in_the_order_of_its_paths : version_lines One small
-    ≡ header One ∷ (codes "replica " ++ hub) ∷ dir_line (path_of (codes "a"))
+    ≡ state_header One ∷ (codes "replica " ++ hub) ∷ dir_line (path_of (codes "a"))
     ∷ dir_line (path_of (codes "a/b")) ∷ file_line (codes "-") (path_of (codes "a-b")) ∷ end_line
     ∷ []
 a_state_is_written_in_the_order_of_its_paths =

@@ -9,8 +9,8 @@ use Rattle.hub_state.specs.declared.TheConstants.{ENTRIES, FILE_BYTES}
 use Rattle.hub_state.specs.State.{State, Text, root_text}
 
 -- How many entries a state has.
-abbrev pub entries_of : State → ℕ
-entries_of S =
+abbrev pub entry_count : State → ℕ
+entry_count S =
     sum_by (λ m. fin.len m) (fin.values S.replicas) + sum_by (λ a. fin.len a)
     (fin.values S.archives)
 
@@ -28,4 +28,4 @@ pub record IsReadable (S : State) : Type 0 where
       → is_some (fin.get a p) ≡ true → names_fault 0 p ≡ None
   pub files : (t : Text) (m : Replica) (p : Path) (bytes : List ℕ) → fin.get S.replicas t ≡ Some m
       → fin.get m p ≡ Some (contents.File bytes) → length bytes ≤ FILE_BYTES
-  pub entries : entries_of S ≤ ENTRIES
+  pub entries : entry_count S ≤ ENTRIES

@@ -24,7 +24,9 @@ use Rattle.hub_state.specs.declared.form.Section.{Section}
 use Rattle.hub_state.specs.declared.form.Section.TheVariants as section
 use Rattle.hub_state.specs.declared.form.Version.TheVariants.{One, Two}
 use Rattle.hub_state.specs.State.{State, Text, root_text, pair_of}
-use Rattle.hub_state.specs.Writing.{header, end_line}
+use Rattle.hub_state.specs.Writing.{state_header, end_line}
+use Rattle.hub_text.specs.Blanks.{is_space}
+use Rattle.hub_text.specs.Fails.{and_then}
 
 -- Blobs: the digest and the bytes of each, the last one first.
 abbrev pub Blobs : Type 0
@@ -120,11 +122,6 @@ abbrev pub or_else : {T E : Type 0} → Fault → Result T E → Result T Fault
 or_else f (Ok x) = Ok x
 or_else f (Err e) = Err f
 
--- What is read next, or the fault of what was read first.
-abbrev pub and_then : {T U E : Type 0} → Result T E → (T → Result U E) → Result U E
-and_then (Ok x) f = f x
-and_then (Err e) f = Err e
-
 -- A test that comes before the rest.
 abbrev pub unless : {T : Type 0} → Bool → Fault → Result T Fault → Result T Fault
 unless bad fault rest = if bad then Err fault else rest
@@ -144,9 +141,6 @@ bytes_field t =
 -- A digest has 64 digits.
 abbrev pub digest_field : List ℕ → Result (List ℕ) Fault
 digest_field t = unless (not (length t == 64)) BadHex (or_else BadHex (decode_of t))
-
-abbrev pub is_space : ℕ → Bool
-is_space b = b == 32
 
 -- A section that begins.
 abbrev pub with_replica_begun : Above → Path → Result Above Fault
@@ -175,9 +169,9 @@ abbrev pub has_directory : List (Path × Contents) → Path → Bool
 has_directory es p = length p == 0 || is_directory_among (fin.find path_cmp p es)
 
 -- An entry of the replica that began last, at a path that it doesn't have yet.
-abbrev pub with_new_contents : Above → Path → Contents → Text × List (Path × Contents)
+abbrev pub with_new_entry : Above → Path → Contents → Text × List (Path × Contents)
     → List (Text × List (Path × Contents)) → Result Above Fault
-with_new_contents d p c e es =
+with_new_entry d p c e es =
     unless (not (has_directory e.1 (parent p))) NoParent
     (Ok (record d { replicas = (e.0, (p, c) ∷ e.1) ∷ es; entries = d.entries + 1 }))
 
@@ -186,7 +180,7 @@ abbrev pub with_contents_put : Above → Path → Contents → List (Text × Lis
     → Result Above Fault
 with_contents_put d p c [] = Err BadLine
 with_contents_put d p c (e ∷ es) =
-    unless (is_some (fin.find path_cmp p e.1)) Repeated (with_new_contents d p c e es)
+    unless (is_some (fin.find path_cmp p e.1)) Repeated (with_new_entry d p c e es)
 
 -- A file of the replica that began last, whose bytes are those of a blob.
 abbrev pub blob_found : Option (List ℕ) → Result (List ℕ) Fault
@@ -198,7 +192,7 @@ abbrev pub with_blob_named : Above → Path → Option (List ℕ) → List (Text
 with_blob_named d p blob [] = Err BadLine
 with_blob_named d p blob (e ∷ es) =
     unless (is_some (fin.find path_cmp p e.1)) Repeated
-    (and_then (blob_found blob) (λ bytes. with_new_contents d p (contents.File bytes) e es))
+    (and_then (blob_found blob) (λ bytes. with_new_entry d p (contents.File bytes) e es))
 
 -- An entry of the archive that began last; nothing is asked of parents.
 abbrev pub with_mark_put : Above → Path → Mark → List (List Text × List (Path × Mark))
@@ -286,8 +280,8 @@ line_reading d l = if is_utf8 l then with_line_of d (line_of l) else Err BadLine
 -- The header has the version.
 abbrev pub header_reading : Above → List ℕ → Result Above Fault
 header_reading d l =
-    if bytes_eq l (header One) then Ok d
-    else unless (not (bytes_eq l (header Two))) BadHeader (Ok (record d { blobs = Some [] }))
+    if bytes_eq l (state_header One) then Ok d
+    else unless (not (bytes_eq l (state_header Two))) BadHeader (Ok (record d { blobs = Some [] }))
 
 -- The first line is the header.
 abbrev pub numbered_reading : ℕ → Above → List ℕ → Result Above Fault

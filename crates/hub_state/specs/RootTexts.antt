@@ -1,13 +1,9 @@
 -- Texts of roots tell roots apart: so a state is a map by root, and one by unordered pair of roots.
 use Rattle.std.proofs.Common.{◌≡◌, ℕ, ◌<◌, Bool, true, false, ◌&&◌, ◌||◌, cond, List, [], ◌∷◌, length, refl, sym, ap, ◌∙◌, arith, ◌≢◌}
 use Rattle.std.specs.Prelude.{Some}
-use Rattle.std.specs.List.{list_all}
-use Rattle.std.specs.Str.{all_scalars, chars}
+use Rattle.std.specs.Str.{chars}
 use Rattle.std.proofs.lemmas.Str.{chars-encodes}
-use Rattle.std.proofs.lemmas.List.Folds.{list_all-append}
-use lib.Utf8.{scalar}
-use Rattle.hub_path.specs.Path.{Name, Path, is_name, is_place, text_of, name_cmp, path_cmp, path_eq, path_of}
-use Rattle.hub_path.specs.NameFacts.{name_parts}
+use Rattle.hub_path.specs.Path.{Path, is_place, text_of, name_cmp, path_cmp, path_eq, path_of}
 use Rattle.std.proofs.lemmas.Bool.{and_parts, and_from, or_left, or_right, false≢true}
 use Rattle.hub_state.specs.State.{root_chars, root_text, State, Text, is_before, pair_of, with_replica, with_archive, in_order, is_pair, replica_at, archive_at}
 use Rattle.std.specs.FinMap as fin
@@ -15,32 +11,11 @@ use Rattle.std.specs.Ordering.{eq_by_cmp, ordering_reverse, is_eq, ordering_then
 use Rattle.std.specs.declared.cmp.Ordering.{Ordering}
 use Rattle.std.specs.declared.cmp.Ordering.TheVariants.{Less, Equal, Greater}
 use Rattle.hub_path.specs.Laws.{name_cmp-total, name_cmp-exact, path_cmp-total, path_of-text_of}
+use Rattle.hub_path.specs.TextLaws.{scalars-text}
 use Rattle.hub_tree.specs.Tree.{Replica, Archive}
 use Rattle.hub_tree.specs.Laws.MarkMaps.{is_path-names}
 use Rattle.hub_tree.specs.Laws.Children.{path_eq-cmp}
 use Rattle.hub_tree.specs.Laws.Order.{same_path, same_name, path_itself, is_eq-then, name_itself}
-
--- A test on all characters of a text by those of its names.
-pub joined-pass : (f : ℕ → Bool) → f 47 ≡ true
-    → ((n : Name) → is_name n ≡ true → list_all f n ≡ true) → (p : Path) → is_place p ≡ true
-    → list_all f (text_of p) ≡ true
-joined-pass f slash names [] h = refl
-joined-pass f slash names (n ∷ []) h = names n (and_parts (is_name n) true h).0
-joined-pass f slash names (n ∷ m ∷ p) h =
-    let parts = and_parts (is_name n) (is_place (m ∷ p)) h in
-    list_all-append f n (47 ∷ text_of (m ∷ p))
-    ∙ and_from (list_all f n) (list_all f (47 ∷ text_of (m ∷ p))) (names n parts.0)
-    (and_from (f 47) (list_all f (text_of (m ∷ p))) slash
-    (joined-pass f slash names (m ∷ p) parts.1))
-
-scalars-all : (cs : List ℕ) → all_scalars cs ≡ list_all scalar cs
-scalars-all [] = refl
-scalars-all (c ∷ cs) = ap (λ b. scalar c && b) (scalars-all cs)
-
-pub scalars-text : (p : Path) → is_place p ≡ true → all_scalars (text_of p) ≡ true
-scalars-text p h =
-    scalars-all (text_of p)
-    ∙ joined-pass scalar refl (λ n k. sym (scalars-all n) ∙ (name_parts n k).scalars) p h
 
 -- Different roots have different texts.
 path_from : (p : Path) → 0 < length p → is_place p ≡ true → path_of (text_of p) ≡ p

@@ -41,8 +41,8 @@ pub record State : Type 0 where
   pub replicas : fin.FinMap name_cmp Replica
   pub archives : fin.FinMap path_cmp Archive
 
-abbrev pub nothing : State
-nothing = record { replicas = fin.empty; archives = fin.empty }
+abbrev pub empty_state : State
+empty_state = record { replicas = fin.empty; archives = fin.empty }
 
 abbrev pub replica_at : State → Path → Option Replica
 replica_at S r = fin.get S.replicas (root_text r)

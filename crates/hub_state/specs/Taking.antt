@@ -24,8 +24,10 @@ use Rattle.hub_state.specs.declared.draft.Draft.{Draft}
 use Rattle.hub_state.specs.declared.draft.Open.{Open}
 use Rattle.hub_state.specs.declared.draft.Open.TheVariants as opened
 use Rattle.hub_state.specs.State.{State, replica_at, archive_at, with_replica, with_archive}
-use Rattle.hub_state.specs.Writing.{header, end_line}
-use Rattle.hub_state.specs.Reading.{Line, line_of, may_stand, and_then, unless, root_field, path_field, bytes_field, digest_field, is_space, blob_found}
+use Rattle.hub_state.specs.Writing.{state_header, end_line}
+use Rattle.hub_state.specs.Reading.{Line, line_of, may_stand, unless, root_field, path_field, bytes_field, digest_field, blob_found}
+use Rattle.hub_text.specs.Blanks.{is_space}
+use Rattle.hub_text.specs.Fails.{and_then}
 
 -- The section that is open.
 abbrev pub section_of : Open → Section
@@ -205,8 +207,9 @@ line_taken a l = if is_utf8 l then line_form_taken a (line_of l) else Err BadLin
 
 abbrev pub header_taken : Draft → List ℕ → Result Draft Fault
 header_taken a l =
-    if bytes_eq l (header One) then Ok a
-    else unless (not (bytes_eq l (header Two))) BadHeader (Ok (record a { blobs = Some fin.empty }))
+    if bytes_eq l (state_header One) then Ok a
+    else unless (not (bytes_eq l (state_header Two))) BadHeader
+    (Ok (record a { blobs = Some fin.empty }))
 
 -- The first line is the header.
 abbrev pub numbered_taken : ℕ → Draft → List ℕ → Result Draft Fault
@@ -227,5 +230,5 @@ abbrev pub placed : ℕ → Fault → StateFault
 placed n f = record { line = if is_memory f then 0 else n; fault = f }
 
 -- What is reported of the line with that number: a fault of what was taken, or want of memory.
-abbrev pub Tells : {T : Type 0} → ℕ → Result T Fault → StateFault → Type 0
-Tells n r e = (f : Fault) × (e ≡ placed n f) × ((f ≡ OutOfMemory) ⊎ (r ≡ Err f))
+abbrev pub TellsLine : {T : Type 0} → ℕ → Result T Fault → StateFault → Type 0
+TellsLine n r e = (f : Fault) × (e ≡ placed n f) × ((f ≡ OutOfMemory) ⊎ (r ≡ Err f))

@@ -18,12 +18,12 @@ abbrev pub by_two : {Z X : Type 0} → List (String Z × BTreeMap (String Z) X)
 by_two es = keyed (λ m. by_text m.entries) es
 
 -- The entries below one text, and those below each text in order, by two texts.
-abbrev pub below : {X : Type 0} → Text → List (Text × X) → List (List Text × X)
-below t es = map (λ e. (t ∷ e.0 ∷ [], e.1)) es
+abbrev pub pairs_below : {X : Type 0} → Text → List (Text × X) → List (List Text × X)
+pairs_below t es = map (λ e. (t ∷ e.0 ∷ [], e.1)) es
 
 abbrev pub pairs : {X : Type 0} → List (Text × List (Text × X)) → List (List Text × X)
 pairs [] = []
-pairs (e ∷ es) = below e.0 e.1 ++ pairs es
+pairs (e ∷ es) = pairs_below e.0 e.1 ++ pairs es
 
 abbrev pub map_in : {Z X : Type 0} → List (String Z × X) → fin.FinMap name_cmp X
 map_in es = fin.from_entries (by_text es)

@@ -16,9 +16,9 @@ use Rattle.hub_state.specs.declared.form.Version.{Version}
 use Rattle.hub_state.specs.declared.form.Version.TheVariants.{One, Two}
 use Rattle.hub_state.specs.State.{State, Text}
 
-abbrev pub header : Version → List ℕ
-header One = codes "hubsync state 1"
-header Two = codes "hubsync state 2"
+abbrev pub state_header : Version → List ℕ
+state_header One = codes "hubsync state 1"
+state_header Two = codes "hubsync state 2"
 
 abbrev pub end_line : List ℕ
 end_line = codes "end"
@@ -104,7 +104,8 @@ version_of fs = if tell_apart fs then Two else One
 -- archives in the order of their roots' texts, the entries of each in the order of paths.
 abbrev pub version_lines : Version → State → List (List ℕ)
 version_lines v S =
-    header v ∷ blob_lines v (state_files S) ++ flat_map (replica_lines v) (fin.entries S.replicas)
+    state_header v ∷ blob_lines v (state_files S)
+    ++ flat_map (replica_lines v) (fin.entries S.replicas)
     ++ flat_map archive_lines (fin.entries S.archives) ++ end_line ∷ []
 
 abbrev pub state_lines : State → List (List ℕ)

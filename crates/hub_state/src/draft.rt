@@ -53,7 +53,7 @@ pub struct Draft {
 impl Draft {
     /// The draft before the first line.
     pub fn new(alloc: Global) -> Draft
-        ensures { result ≡ taking.nothing_taken spec.nothing }
+        ensures { result ≡ taking.nothing_taken spec.empty_state }
     {
         Draft {
             blobs: None,

@@ -4,7 +4,7 @@ ghost use Rattle.std.specs.FinMap as fin;
 ghost use Rattle.std.specs.Option.{option_map};
 ghost use Rattle.hub_text.specs.Fails.{Fails};
 ghost use Rattle.hub_path.specs.Path.{is_path};
-ghost use Rattle.hub_tree.specs.Tree.{is_absent, kept};
+ghost use Rattle.hub_tree.specs.Tree.{is_absent, kept_mark};
 ghost use Rattle.hub_state.specs.Taking as taking;
 
 use crate::blobs::Blobs;
@@ -195,7 +195,7 @@ pub fn put_old_file(
 /// Puts a mark into an archive, which is not `Absent`.
 fn put_mark(archive: &mut Archive, path: &RelPath, mark: Mark) -> Result<(), Fault>
     requires path { IsTrue (is_path path.now) }
-    requires some { kept mark ≡ Some mark }
+    requires some { kept_mark mark ≡ Some mark }
     ensures ok { OnOk result (taking.mark_put archive.old path.now mark ≡ Ok archive.new) }
     ensures err { IfErr result
         (Fails Fault.OutOfMemory (taking.mark_put archive.old path.now mark)) }

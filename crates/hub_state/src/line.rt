@@ -3,8 +3,9 @@ ghost use Rattle.std.specs.List.{list_any, before_first, after_first};
 ghost use Rattle.hub_text.specs.Fails.{Fails};
 ghost use Rattle.hub_path.specs.Path.{is_path};
 ghost use Rattle.hub_path.specs.Reading.{names_fault};
-ghost use Rattle.hub_state.specs.Reading.{line_of, line_among, words, inner_words, is_space};
+ghost use Rattle.hub_state.specs.Reading.{line_of, line_among, words, inner_words};
 ghost use Rattle.hub_state.specs.Reading.{path_field, root_field, bytes_field, digest_field};
+ghost use Rattle.hub_text.specs.Blanks.{is_space};
 
 use crate::fault::Fault;
 use crate::form::Form;

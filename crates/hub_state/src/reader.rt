@@ -5,7 +5,7 @@ ghost use Rattle.std.specs.Option.{option_map};
 ghost use Rattle.hub_text.specs.Fails.{Fails};
 ghost use Rattle.hub_text.specs.Lines.{line_text};
 ghost use Rattle.hub_text.specs.Takes.{of_bytes};
-ghost use Rattle.hub_state.specs.Blocks.{bytes_taken, text_of, Leaves, Stops, Continues, Stands};
+ghost use Rattle.hub_state.specs.Blocks.{bytes_taken, taken_line_text, Leaves, Stops, ReadsOn, Stands};
 ghost use Rattle.hub_state.specs.Blocks.{IsWithin, IsReading, EndsReading, out_of_memory};
 ghost use Rattle.hub_state.specs.Devices.{is_not_of_text, is_read_failed, is_turns_spent, says, reports};
 ghost use Rattle.hub_state.specs.Reading.{state_reading};
@@ -55,7 +55,7 @@ fn read_after<R: Read>(
     prefix: &mut Prefix,
 ) -> Result<State, StateFault>
     requires unfailed { input.old.failed ≡ false }
-    requires continues { Continues [] prefix.old }
+    requires continues { ReadsOn [] prefix.old }
     requires within { IsWithin prefix.old 1 }
     ensures ok { IfOk result (IsReading (R.remaining input.old.device)) }
     ensures err { IfErr result (EndsReading (R.remaining input.old.device)) }
@@ -99,7 +99,7 @@ struct Prefix {
 impl Prefix {
     /// Returns the prefix before the first byte.
     fn new(alloc: Global) -> Prefix
-        ensures continues { Continues [] result }
+        ensures continues { ReadsOn [] result }
         ensures within { IsWithin result 1 }
     {
         Prefix {
@@ -121,7 +121,7 @@ fn read_blocks<R: Read>(
 ) -> Result<Result<(), StateFault>, Fault>
     requires unfailed { input.old.failed ≡ false }
     requires turns { turns ≤ READ_TURNS }
-    requires continues { Continues [] prefix.old }
+    requires continues { ReadsOn [] prefix.old }
     requires within { IsWithin prefix.old 1 }
     ensures whole { IfOk result (λ taken. (read : List ℕ) × Stands read prefix.new taken
         × IfSome (R.remaining input.old.device) (λ bytes. read ≡ bytes)) }
@@ -171,7 +171,7 @@ fn take_block(
 /// Takes more bytes.
 fn take_bytes(alloc: Global, prefix: &mut Prefix, bytes: &[u8]) -> Result<(), StateFault>
     requires { IsWithin prefix.old (2 ^ 62) }
-    ensures stands { (before : List ℕ) → Continues before prefix.old
+    ensures stands { (before : List ℕ) → ReadsOn before prefix.old
         → Stands (before ++ bytes.now) prefix.new result }
     ensures within { OnOk result (IsWithin prefix.new
         (prefix.old.number + vec_len prefix.old.rest + length bytes.now)) }
@@ -195,7 +195,7 @@ fn has_line_end(bytes: &[u8]) -> bool {
 fn take_whole_lines(alloc: Global, prefix: &mut Prefix) -> Result<(), StateFault>
     requires apart { IsApart prefix.old.draft.current }
     requires room { prefix.old.number + vec_len prefix.old.rest < 2 ^ 64 }
-    ensures stands { (bytes : List ℕ) → Continues bytes prefix.old
+    ensures stands { (bytes : List ℕ) → ReadsOn bytes prefix.old
         → Stands bytes prefix.new result }
     ensures within { OnOk result
         (IsWithin prefix.new (prefix.old.number + vec_len prefix.old.rest)) }
@@ -213,7 +213,7 @@ fn take_whole_lines(alloc: Global, prefix: &mut Prefix) -> Result<(), StateFault
 
 /// Copies the bytes of a line, if there is one.
 fn bytes_of(alloc: Global, line: Option<Line<&[u8]>>) -> Result<Vec<u8>, AllocError>
-    ensures { IfOk result (λ v. v.items ≡ text_of (option_map of_bytes line.entry)) }
+    ensures { IfOk result (λ v. v.items ≡ taken_line_text (option_map of_bytes line.entry)) }
 {
     let mut bytes = Vec::new(alloc);
     if let Some(line) = line {
@@ -325,7 +325,7 @@ fn take_line_at(
 ) -> Result<(), StateFault>
     requires { IsApart draft.old.current }
     ensures ok { OnOk result (taking.numbered_taken number draft.old line.now ≡ Ok draft.new) }
-    ensures err { IfErr result (λ e. taking.Tells number
+    ensures err { IfErr result (λ e. taking.TellsLine number
         (taking.numbered_taken number draft.old line.now) e) }
     ensures apart { OnOk result (IsApart draft.new.current) }
 {
@@ -348,7 +348,7 @@ fn take_last_at(
     requires { IsApart draft.old.current }
     ensures ok { IfOk result (λ s. taking.last_taken number draft.old line.entry.is_ended
         line.entry.text.now ≡ Ok s) }
-    ensures err { IfErr result (λ e. taking.Tells number
+    ensures err { IfErr result (λ e. taking.TellsLine number
         (taking.last_taken number draft.old line.entry.is_ended line.entry.text.now) e) }
 {
     match take_last(alloc, draft, number, line) {

@@ -44,7 +44,7 @@ impl Model for State {
 impl State {
     /// A state without replicas and archives. It doesn't allocate.
     pub fn new(alloc: Global) -> State
-        ensures { result ≡ spec.nothing }
+        ensures { result ≡ spec.empty_state }
     {
         State {
             alloc,

@@ -8,10 +8,10 @@ ghost use Rattle.std.specs.String.{string_cmp};
 ghost use Rattle.hex.specs.Hex.{encode_lower};
 ghost use Rattle.hub_tree.specs.Stored.{stored_contents};
 ghost use Rattle.hub_state.specs.Devices.{Passes, StopsWriting, is_write_failed, says, reports};
-ghost use Rattle.hub_state.specs.View.{by_text, below, pairs_in};
+ghost use Rattle.hub_state.specs.View.{by_text, pairs_below, pairs_in};
 ghost use Rattle.hub_state.specs.Writing.{dir_line, file_line, hex_field, file_field, pair_lines};
 ghost use Rattle.hub_state.specs.Writing.{contents_lines, mark_lines, replica_lines};
-ghost use Rattle.hub_state.specs.Writing.{header, blob_line, blob_lines, state_files, version_of};
+ghost use Rattle.hub_state.specs.Writing.{state_header, blob_line, blob_lines, state_files, version_of};
 ghost use Rattle.hub_state.specs.Writing.{archive_lines, joined_lines, state_text};
 
 use crate::blobs::{Blobs, Head, head_of};
@@ -160,7 +160,7 @@ fn write_pairs<W: Write>(
     requires { output.old.failed ≡ false }
     ensures ok { OnOk result (Passes (W.contents output.old.device)
         (W.contents output.new.device) text.old.items text.new.items
-        (joined_lines (flat_map archive_lines (below first.now (by_text others.now.entries))))) }
+        (joined_lines (flat_map archive_lines (pairs_below first.now (by_text others.now.entries))))) }
     ensures faults { IfErr result StopsWriting }
     ensures failed { output.new.failed ≡ says is_write_failed result }
     ensures ordered { IsOrdered string_cmp others.now }
@@ -274,7 +274,7 @@ fn push(text: &mut Vec<u8>, more: &str) -> Result<(), AllocError>
 /// Appends the header.
 fn push_header(text: &mut Vec<u8>, version: Version) -> Result<(), AllocError>
     ensures { OnOk result
-        (text.new.items ≡ text.old.items ++ (header version ++ 10 ∷ [])) }
+        (text.new.items ≡ text.old.items ++ (state_header version ++ 10 ∷ [])) }
 {
     match version {
         Version::One => push(text, "hubsync state 1\n"),

@@ -42,9 +42,9 @@ begins_by c over low (d ∷ ds) bs e = (
 )
 
 -- Whether a text begins with an ASCII character.
-pub begins : (c : ℕ) (bs : List ℕ) (r : Bool) → 0 < c → c < 128 → IsUtf8 bs
+pub begins-ascii : (c : ℕ) (bs : List ℕ) (r : Bool) → 0 < c → c < 128 → IsUtf8 bs
     → MatchBool r (HasPrefixMatch (FindsCharPrefix c) bs) (FindsCharPrefix c bs None)
     → r ≡ starts_with nat_eq (chars bs) (c ∷ [])
-begins c bs r over low u h =
+begins-ascii c bs r over low u h =
     same_from_decides r (starts_with nat_eq (chars bs) (c ∷ [])) (starts_char c bs r h low over)
     (begins_by c over low (chars bs) bs (encodes-chars bs u))

@@ -9,3 +9,6 @@ is_blank c = list_any (λ d. d == c) (codes " \t")
 abbrev pub skip_blanks : List ℕ → List ℕ
 skip_blanks [] = []
 skip_blanks (c ∷ cs) = if is_blank c then skip_blanks cs else c ∷ cs
+
+abbrev pub is_space : ℕ → Bool
+is_space c = c == 32

@@ -1,5 +1,6 @@
 -- The lines of a text, which is cut at each LF. Bytes and characters are cut alike.
-use Rattle.std.specs.Prelude.{ℕ, Bool, true, false, ◌==◌, List, [], ◌∷◌, ◌++◌, if◌then◌else◌}
+use Rattle.std.specs.Prelude.{ℕ, Bool, true, false, ◌==◌, ◌-◌, nat_eq, List, [], ◌∷◌, ◌++◌, length, take, codes, if◌then◌else◌}
+use Rattle.std.specs.List.{ends_with}
 use Rattle.hub_text.specs.declared.line.Line.{Line}
 
 abbrev pub is_lf : ℕ → Bool
@@ -36,3 +37,7 @@ abbrev pub without_last : ℕ → List ℕ → List ℕ
 without_last c [] = []
 without_last c (d ∷ []) = if d == c then [] else d ∷ []
 without_last c (d ∷ e ∷ cs) = d ∷ without_last c (e ∷ cs)
+
+-- A line without one CR at its end.
+abbrev pub without_last_cr : List ℕ → List ℕ
+without_last_cr l = if ends_with nat_eq l (codes "\r") then take (length l - 1) l else l

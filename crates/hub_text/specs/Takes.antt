@@ -32,11 +32,11 @@ YieldsList-lines of s =
     (λ u x t p. p) s
 
 -- The steps of a loop over lines with their numbers, which begin at 0.
-pub numbered_lines : (of : Line (Bor (List ℕ)) → Line (List ℕ)) {s : Enumerate (List ℕ)}
+pub yields-numbered_lines : (of : Line (Bor (List ℕ)) → Line (List ℕ)) {s : Enumerate (List ℕ)}
     (all : List ℕ) → enumerate_source s ≡ all → enumerate_count s ≡ 0
     → YieldsList {B = ℕ × Line (List ℕ)} (enumerate_steps (Takes of)) (λ p. (p.0, of p.1)) s
     (enumerate_from 0 (lines_of all))
-numbered_lines of {s} all e c =
+yields-numbered_lines of {s} all e c =
     YieldsList-from_enumerate (subst (λ t. YieldsList (Takes of) of (enumerate_source s)
     (lines_of t)) e (YieldsList-lines of (enumerate_source s))) c
 

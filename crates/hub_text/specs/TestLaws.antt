@@ -106,6 +106,11 @@ any-or f g (x ∷ xs) =
     or-mixed (f x) (list_any f xs) (g x) (list_any g xs)
     ∙ ap (λ b. (f x || g x) || b) (any-or f g xs)
 
+pub any-alike : {X : Type 0} (f g : X → Bool) (xs : List X) → ((x : X) → f x ≡ g x)
+    → list_any f xs ≡ list_any g xs
+any-alike f g [] same = refl
+any-alike f g (x ∷ xs) same = rw (same x) (ap (λ b. g x || b) (any-alike f g xs same))
+
 pub any-map : {X Y : Type 0} (f : Y → Bool) (h : X → Y) (xs : List X)
     → list_any (λ x. f (h x)) xs ≡ list_any f (map h xs)
 any-map f h [] = refl

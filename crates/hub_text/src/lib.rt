@@ -2,7 +2,8 @@
 //!
 //! - [`Items`]: a list, with equality, order, hash and clone.
 //! - [`Exact`]: types whose `==` tells values apart exactly, with [`is_equal`] and [`are_equal`].
-//! - [`Lines`] and [`TextLines`]: the lines of bytes and of a text, each a [`Line`] that says whether an LF ended it.
+//! - [`Lines`] and [`TextLines`]: the lines of bytes and of a text, each a [`Line`] that says whether an LF ended it;
+//!   [`without_last_cr`] drops a CR at the end of one.
 //! - [`Watched`]: a reader or a writer that remembers whether a call of it has failed, how many reads were made, and whether
 //!   one met the end.
 //! - [`BLANKS`], [`first_word`] and [`skip_blanks`]: where a text is cut between words.
@@ -34,6 +35,6 @@ mod watched;
 pub use blank::{BLANKS, first_word, skip_blanks};
 pub use exact::{Exact, are_equal, is_equal};
 pub use items::Items;
-pub use line::{Line, Lines, TextLines};
+pub use line::{Line, Lines, TextLines, without_last_cr};
 pub use text::{begins_with, compare, is_empty, without_last};
 pub use watched::Watched;

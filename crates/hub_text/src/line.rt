@@ -1,5 +1,6 @@
 //! The lines of bytes and of texts.
 ghost use Rattle.std.specs.Prelude.{◌≡◌, ◌∷◌, ◌<◌, length, chars};
+ghost use Rattle.hub_text.specs.Lines as lines;
 ghost use Rattle.hub_text.specs.Lines.{lines_of};
 ghost use Rattle.hub_text.specs.Takes.{of_bytes, of_text};
 
@@ -14,6 +15,13 @@ pub struct Line<T> {
     pub text: T,
     /// Whether an LF ends the line.
     pub is_ended: bool,
+}
+
+/// A line without one CR at its end.
+pub fn without_last_cr(line: &[u8]) -> &[u8]
+    ensures { result.now ≡ lines.without_last_cr line.now }
+{
+    line.strip_suffix(b"\r").unwrap_or(line)
 }
 
 /// The lines of bytes, cut at each LF and borrowed. An LF at the end begins no further line: no bytes have no lines.

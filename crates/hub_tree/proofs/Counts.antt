@@ -13,7 +13,7 @@ use Rattle.std.specs.declared.cmp.Ordering.TheVariants.{Less}
 use Rattle.std.proofs.lemmas.List.Sums.{sum_by-cons}
 use Rattle.std.proofs.lemmas.Map.Keys.{sorted_head, sorted_tail}
 use Rattle.hub_path.specs.Path.{Name, Path, path_cmp, name_cmp}
-use Rattle.hub_tree.specs.Nodes.{Entries, below, begins_with, joined, entries_at, entries_of, replica_of, size_of, layer_kids, node_entries}
+use Rattle.hub_tree.specs.Nodes.{Entries, entries_below, begins_with, joined_entries, entries_under, children_entries, replica_of, size_of, layer_kids, node_entries}
 use Rattle.hub_tree.specs.declared.contents.Contents.{Contents}
 use Rattle.hub_tree.specs.declared.contents.Contents.TheVariants as contents
 use Rattle.hub_tree.specs.declared.node.Node.{Node}
@@ -57,11 +57,11 @@ len_of-append (x ∷ xs) ys h =
     ∙ ap (λ n. n + len_of ys) (sym (len_of-cons x xs))
 
 -- below a name
-len_of-below : (n : Name) (es : Entries) → len_of (below n es) ≡ len_of es
+len_of-below : (n : Name) (es : Entries) → len_of (entries_below n es) ≡ len_of es
 len_of-below n [] = refl
 len_of-below n (e ∷ es) =
-    len_of-cons (n ∷ e.0, e.1) (below n es)
-    ∙ ap (λ o. cond (is_some o) (len_of (below n es)) (len_of (below n es) + 1)) (find-below n n e.0 es ∙ ap (λ b. cond b (find path_cmp e.0 es) None) (name_itself n))
+    len_of-cons (n ∷ e.0, e.1) (entries_below n es)
+    ∙ ap (λ o. cond (is_some o) (len_of (entries_below n es)) (len_of (entries_below n es) + 1)) (find-below n n e.0 es ∙ ap (λ b. cond b (find path_cmp e.0 es) None) (name_itself n))
     ∙ ap (λ k. cond (is_some (find path_cmp e.0 es)) k (k + 1)) (len_of-below n es)
     ∙ sym (len_of-cons e es)
 
@@ -70,39 +70,39 @@ apart_from_above : (n : Name) (cs : List (Name × Entries)) → AllByRecursion (
 apart_from_above n [] h = refl
 apart_from_above n (c ∷ cs) h = ap (λ r. cond (is_eq r) (Some c.1) (find name_cmp n cs)) h.0 ∙ apart_from_above n cs h.1
 
-none_at : (n : Name) (cs : List (Name × Entries)) (q : Path) (b : Bool) → find name_cmp n cs ≡ None → begins_with n q ≡ b → cond (not b) (find path_cmp q (joined cs)) None ≡ find path_cmp q (joined cs)
+none_at : (n : Name) (cs : List (Name × Entries)) (q : Path) (b : Bool) → find name_cmp n cs ≡ None → begins_with n q ≡ b → cond (not b) (find path_cmp q (joined_entries cs)) None ≡ find path_cmp q (joined_entries cs)
 none_at n cs q false h e = refl
 none_at n cs [] true h e = sym (find_top-joined cs)
 none_at n cs (k ∷ p) true h e = sym (find-joined k p cs ∙ ap (λ m. option_and_then (λ es. find path_cmp p es) (find name_cmp m cs)) (same_name k n e) ∙ ap (option_and_then (λ es. find path_cmp p es)) h)
 
-len_of-without : (n : Name) (cs : List (Name × Entries)) → find name_cmp n cs ≡ None → len_of (where_key path_cmp (λ p. not (begins_with n p)) (joined cs)) ≡ len_of (joined cs)
+len_of-without : (n : Name) (cs : List (Name × Entries)) → find name_cmp n cs ≡ None → len_of (where_key path_cmp (λ p. not (begins_with n p)) (joined_entries cs)) ≡ len_of (joined_entries cs)
 len_of-without n cs h =
-    ap (λ m. fin.len m) (fin.same_map path_total path_antisymmetric (fin.from_entries (where_key path_cmp (λ p. not (begins_with n p)) (joined cs))) (fin.from_entries (joined cs))
-    (λ q. fin.get-from_entries path_total (where_key path_cmp (λ p. not (begins_with n p)) (joined cs)) q ∙ without n q (joined cs) ∙ none_at n cs q (begins_with n q) h refl ∙ sym (fin.get-from_entries path_total (joined cs) q)))
+    ap (λ m. fin.len m) (fin.same_map path_total path_antisymmetric (fin.from_entries (where_key path_cmp (λ p. not (begins_with n p)) (joined_entries cs))) (fin.from_entries (joined_entries cs))
+    (λ q. fin.get-from_entries path_total (where_key path_cmp (λ p. not (begins_with n p)) (joined_entries cs)) q ∙ without n q (joined_entries cs) ∙ none_at n cs q (begins_with n q) h refl ∙ sym (fin.get-from_entries path_total (joined_entries cs) q)))
 
 under : (n k : Name) (p : Path) (es : Entries) (b : Bool) → eq_by_cmp name_cmp k n ≡ b → is_some (cond b (find path_cmp p es) None) ≡ true → begins_with n (k ∷ p) ≡ true
 under n k p es true e h = e
 under n k p es false e h = cc
 
-apart_below : (n : Name) (es : Entries) (cs : List (Name × Entries)) → ShareNoPath (below n es) (where_key path_cmp (λ p. not (begins_with n p)) (joined cs))
-apart_below n es cs [] h = without n [] (joined cs) ∙ find_top-joined cs
+apart_below : (n : Name) (es : Entries) (cs : List (Name × Entries)) → ShareNoPath (entries_below n es) (where_key path_cmp (λ p. not (begins_with n p)) (joined_entries cs))
+apart_below n es cs [] h = without n [] (joined_entries cs) ∙ find_top-joined cs
 apart_below n es cs (k ∷ p) h =
-    without n (k ∷ p) (joined cs)
-    ∙ ap (λ b. cond (not b) (find path_cmp (k ∷ p) (joined cs)) None) (under n k p es (eq_by_cmp name_cmp k n) refl (sym (ap is_some (find-below k n p es)) ∙ h))
+    without n (k ∷ p) (joined_entries cs)
+    ∙ ap (λ b. cond (not b) (find path_cmp (k ∷ p) (joined_entries cs)) None) (under n k p es (eq_by_cmp name_cmp k n) refl (sym (ap is_some (find-below k n p es)) ∙ h))
 
 abbrev sizes : List (Name × Entries) → ℕ
 sizes cs = sum_by (λ c. len_of c.1) cs
 
-len_of-joined : (cs : List (Name × Entries)) → IsStrictlySortedBy name_cmp (keys_of cs) → len_of (joined cs) ≡ sizes cs
+len_of-joined : (cs : List (Name × Entries)) → IsStrictlySortedBy name_cmp (keys_of cs) → len_of (joined_entries cs) ≡ sizes cs
 len_of-joined [] h = len_of-nothing
 len_of-joined (c ∷ cs) h =
-    len_of-append (below c.0 c.1) (where_key path_cmp (λ p. not (begins_with c.0 p)) (joined cs)) (apart_below c.0 c.1 cs)
-    ∙ ap (λ n. n + len_of (where_key path_cmp (λ p. not (begins_with c.0 p)) (joined cs))) (len_of-below c.0 c.1)
+    len_of-append (entries_below c.0 c.1) (where_key path_cmp (λ p. not (begins_with c.0 p)) (joined_entries cs)) (apart_below c.0 c.1 cs)
+    ∙ ap (λ n. n + len_of (where_key path_cmp (λ p. not (begins_with c.0 p)) (joined_entries cs))) (len_of-below c.0 c.1)
     ∙ ap (λ n. len_of c.1 + n) (len_of-without c.0 cs (apart_from_above c.0 cs (sorted_head name_cmp c.0 (keys_of cs) h)) ∙ len_of-joined cs (sorted_tail name_cmp c.0 (keys_of cs) h))
     ∙ sym (sum_by-cons (λ c. len_of c.1) c cs)
 
 -- nodes
-len-replica_of : (cs : List (Name × Node)) → fin.len (replica_of cs) ≡ len_of (entries_of cs)
+len-replica_of : (cs : List (Name × Node)) → fin.len (replica_of cs) ≡ len_of (children_entries cs)
 unfolding replica_of
 len-replica_of cs = refl
 
@@ -113,21 +113,21 @@ layer_size : (x : Node-F Node) → len_of (node_entries (map-Node Node Entries (
 layer_size (File blob) = let e = len-replica_of [] in let f = len_of-nothing in let g = len_of-cons ([], contents.File blob) [] in omega arith
 layer_size (Directory shared) =
     let kids = arc_value shared in
-    len_of-cons ([], contents.Directory) (entries_of kids.entries)
-    ∙ ap (λ o. cond (is_some o) (len_of (entries_of kids.entries)) (len_of (entries_of kids.entries) + 1)) (find_top-joined (map (λ c. (c.0, entries_at c.1)) kids.entries))
+    len_of-cons ([], contents.Directory) (children_entries kids.entries)
+    ∙ ap (λ o. cond (is_some o) (len_of (children_entries kids.entries)) (len_of (children_entries kids.entries) + 1)) (find_top-joined (map (λ c. (c.0, entries_under c.1)) kids.entries))
     ∙ ap (λ n. n + 1) (sym (len-replica_of kids.entries))
 
-len_of-node : (x : Node) → len_of (entries_at x) ≡ size_of x
+len_of-node : (x : Node) → len_of (entries_under x) ≡ size_of x
 len_of-node x = ap len_of (fold_out-Node Entries node_entries x) ∙ layer_size (out-Node x)
 
-keys-entries : (cs : List (Name × Node)) → keys_of (map (λ c. (c.0, entries_at c.1)) cs) ≡ keys_of cs
+keys-entries : (cs : List (Name × Node)) → keys_of (map (λ c. (c.0, entries_under c.1)) cs) ≡ keys_of cs
 keys-entries [] = refl
 keys-entries (c ∷ cs) = ap (λ ks. c.0 ∷ ks) (keys-entries cs)
 
-sizes-nodes : (cs : List (Name × Node)) → sizes (map (λ c. (c.0, entries_at c.1)) cs) ≡ sum_by size_of (values_of cs)
+sizes-nodes : (cs : List (Name × Node)) → sizes (map (λ c. (c.0, entries_under c.1)) cs) ≡ sum_by size_of (values_of cs)
 sizes-nodes [] = refl
 sizes-nodes (c ∷ cs) =
-    sum_by-cons (λ c. len_of c.1) (c.0, entries_at c.1) (map (λ c. (c.0, entries_at c.1)) cs)
+    sum_by-cons (λ c. len_of c.1) (c.0, entries_under c.1) (map (λ c. (c.0, entries_under c.1)) cs)
     ∙ (λ i. len_of-node c.1 i + sizes-nodes cs i)
     ∙ sym (sum_by-cons size_of c.1 (values_of cs))
 
@@ -135,7 +135,7 @@ sizes-nodes (c ∷ cs) =
 pub len-sizes : (cs : List (Name × Node)) → IsStrictlySortedBy name_cmp (keys_of cs) → fin.len (replica_of cs) ≡ sum_by size_of (values_of cs)
 len-sizes cs h =
     len-replica_of cs
-    ∙ len_of-joined (map (λ c. (c.0, entries_at c.1)) cs) (subst (λ (ks : List Name). IsStrictlySortedBy name_cmp ks) (sym (keys-entries cs)) h)
+    ∙ len_of-joined (map (λ c. (c.0, entries_under c.1)) cs) (subst (λ (ks : List Name). IsStrictlySortedBy name_cmp ks) (sym (keys-entries cs)) h)
     ∙ sizes-nodes cs
 
 -- a count that has come to the end

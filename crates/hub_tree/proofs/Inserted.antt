@@ -12,7 +12,7 @@ use Rattle.std.specs.declared.cmp.Ordering.TheVariants.{Less}
 use Rattle.std.proofs.lemmas.Map.Keys.{sorted_head, sorted_tail}
 use Rattle.hub_path.specs.Path.{Path, path_cmp, is_path}
 use Rattle.hub_tree.specs.Marked.{with_entries}
-use Rattle.hub_tree.specs.Tree.{Archive, IsArchive, HasPaths, HasDigests, IsDigest, kept, with_kept}
+use Rattle.hub_tree.specs.Tree.{Archive, IsArchive, HasPaths, HasDigests, IsDigest, kept_mark, with_kept}
 use Rattle.hub_tree.specs.declared.contents.Mark.{Mark}
 use Rattle.hub_tree.specs.declared.contents.Mark.TheVariants as mark
 use Rattle.hub_tree.specs.Laws.Ascending.{same_entries}
@@ -29,7 +29,7 @@ with_entries-append a (x ∷ xs) ys = with_entries-append (fin.insert a x.0 x.1)
 
 -- One more mark.
 pub good_more : (xs : List (Path × Mark)) (p : Path) (m n : Mark) → IsGood (with_entries fin.empty xs) → is_path p ≡ true
-    → ((d : List ℕ) → m ≡ mark.File d → IsDigest d) → kept m ≡ Some n → IsGood (with_entries fin.empty (xs ++ (p, n) ∷ []))
+    → ((d : List ℕ) → m ≡ mark.File d → IsDigest d) → kept_mark m ≡ Some n → IsGood (with_entries fin.empty (xs ++ (p, n) ∷ []))
 good_more xs p m n good here digest e =
     subst IsGood
     (ap (with_kept (with_entries fin.empty xs) p) e ∙ sym (with_entries-append fin.empty xs ((p, n) ∷ [])))

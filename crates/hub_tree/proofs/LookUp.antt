@@ -11,7 +11,7 @@ use Rattle.std.specs.declared.cmp.Ordering.{Ordering}
 use Rattle.std.specs.declared.cmp.Ordering.TheVariants.{Less, Equal, Greater}
 use Rattle.hub_text.specs.ListLaws.{find-append, option_or-none}
 use Rattle.hub_path.specs.Path.{Name, Path, path_cmp, name_cmp}
-use Rattle.hub_tree.specs.Nodes.{Entries, below, begins_with, joined, node_entries, entries_at, entries_of, replica_of, contents_of, kids_of, layer_contents, layer_kids, node_get}
+use Rattle.hub_tree.specs.Nodes.{Entries, entries_below, begins_with, joined_entries, node_entries, entries_under, children_entries, replica_of, contents_of, kids_of, layer_contents, layer_kids, node_get}
 use Rattle.hub_tree.specs.declared.contents.Contents.{Contents}
 use Rattle.hub_tree.specs.declared.contents.Contents.TheVariants as contents
 use Rattle.hub_tree.specs.Tree.{Replica, contents_at}
@@ -38,11 +38,11 @@ either_way : {X : Type 0} (b : Bool) (o : Option X) → o ≡ cond b o o
 either_way true o = refl
 either_way false o = refl
 
-pub find-below : (n k : Name) (p : Path) (es : Entries) → find path_cmp (n ∷ p) (below k es) ≡ cond (eq_by_cmp name_cmp n k) (find path_cmp p es) None
+pub find-below : (n k : Name) (p : Path) (es : Entries) → find path_cmp (n ∷ p) (entries_below k es) ≡ cond (eq_by_cmp name_cmp n k) (find path_cmp p es) None
 find-below n k p [] = either_way (eq_by_cmp name_cmp n k) None
 find-below n k p (e ∷ es) = one_below (name_cmp n k) (path_cmp p e.0) e.1 _ _ (find-below n k p es)
 
-pub find_top-below : (k : Name) (es : Entries) → find path_cmp [] (below k es) ≡ None
+pub find_top-below : (k : Name) (es : Entries) → find path_cmp [] (entries_below k es) ≡ None
 find_top-below k [] = refl
 find_top-below k (e ∷ es) = find_top-below k es
 
@@ -58,51 +58,51 @@ chosen : {X Y : Type 0} (f : X → Option Y) (b : Bool) (x : X) (o : Option X) �
 chosen f true x o = refl
 chosen f false x o = refl
 
-pub find-joined : (n : Name) (p : Path) (cs : List (Name × Entries)) → find path_cmp (n ∷ p) (joined cs) ≡ option_and_then (λ es. find path_cmp p es) (find name_cmp n cs)
+pub find-joined : (n : Name) (p : Path) (cs : List (Name × Entries)) → find path_cmp (n ∷ p) (joined_entries cs) ≡ option_and_then (λ es. find path_cmp p es) (find name_cmp n cs)
 find-joined n p [] = refl
 find-joined n p (c ∷ cs) =
-    find-append path_cmp (n ∷ p) (below c.0 c.1) _
-    ∙ ap (λ o. option_or o (find path_cmp (n ∷ p) (where_key path_cmp (λ q. not (begins_with c.0 q)) (joined cs)))) (find-below n c.0 p c.1)
-    ∙ ap (option_or (cond (eq_by_cmp name_cmp n c.0) (find path_cmp p c.1) None)) (without c.0 (n ∷ p) (joined cs))
+    find-append path_cmp (n ∷ p) (entries_below c.0 c.1) _
+    ∙ ap (λ o. option_or o (find path_cmp (n ∷ p) (where_key path_cmp (λ q. not (begins_with c.0 q)) (joined_entries cs)))) (find-below n c.0 p c.1)
+    ∙ ap (option_or (cond (eq_by_cmp name_cmp n c.0) (find path_cmp p c.1) None)) (without c.0 (n ∷ p) (joined_entries cs))
     ∙ first_or_rest (eq_by_cmp name_cmp n c.0) _ _ _ (find-joined n p cs)
     ∙ chosen (λ es. find path_cmp p es) (eq_by_cmp name_cmp n c.0) c.1 (find name_cmp n cs)
 
-pub find_top-joined : (cs : List (Name × Entries)) → find path_cmp [] (joined cs) ≡ None
+pub find_top-joined : (cs : List (Name × Entries)) → find path_cmp [] (joined_entries cs) ≡ None
 find_top-joined [] = refl
-find_top-joined (c ∷ cs) = find-append path_cmp [] (below c.0 c.1) _ ∙ ap (λ o. option_or o (find path_cmp [] (where_key path_cmp (λ p. not (begins_with c.0 p)) (joined cs)))) (find_top-below c.0 c.1) ∙ without c.0 [] (joined cs) ∙ find_top-joined cs
+find_top-joined (c ∷ cs) = find-append path_cmp [] (entries_below c.0 c.1) _ ∙ ap (λ o. option_or o (find path_cmp [] (where_key path_cmp (λ p. not (begins_with c.0 p)) (joined_entries cs)))) (find_top-below c.0 c.1) ∙ without c.0 [] (joined_entries cs) ∙ find_top-joined cs
 
-pub find-entries : (n : Name) (cs : List (Name × Node)) → find name_cmp n (map (λ c. (c.0, entries_at c.1)) cs) ≡ option_map entries_at (find name_cmp n cs)
+pub find-entries : (n : Name) (cs : List (Name × Node)) → find name_cmp n (map (λ c. (c.0, entries_under c.1)) cs) ≡ option_map entries_under (find name_cmp n cs)
 find-entries n [] = refl
-find-entries n (c ∷ cs) = elim (eq_by_cmp name_cmp n c.0) as (λ b. cond b (Some (entries_at c.1)) (find name_cmp n (map (λ d. (d.0, entries_at d.1)) cs)) ≡ option_map entries_at (cond b (Some c.1) (find name_cmp n cs))) [ true ↦ refl | false ↦ find-entries n cs ]
+find-entries n (c ∷ cs) = elim (eq_by_cmp name_cmp n c.0) as (λ b. cond b (Some (entries_under c.1)) (find name_cmp n (map (λ d. (d.0, entries_under d.1)) cs)) ≡ option_map entries_under (cond b (Some c.1) (find name_cmp n cs))) [ true ↦ refl | false ↦ find-entries n cs ]
 
 -- one node
 layer_top : (x : Node-F Node) → find path_cmp [] (node_entries (map-Node Node Entries (fold-Node Entries node_entries) x)) ≡ Some (layer_contents x)
 layer_top (File blob) = refl
 layer_top (Directory children) = refl
 
-layer_below : (m : Name) (p : Path) (x : Node-F Node) → find path_cmp (m ∷ p) (node_entries (map-Node Node Entries (fold-Node Entries node_entries) x)) ≡ find path_cmp (m ∷ p) (entries_of (layer_kids x))
+layer_below : (m : Name) (p : Path) (x : Node-F Node) → find path_cmp (m ∷ p) (node_entries (map-Node Node Entries (fold-Node Entries node_entries) x)) ≡ find path_cmp (m ∷ p) (children_entries (layer_kids x))
 layer_below m p (File blob) = refl
 layer_below m p (Directory children) = refl
 
-pub node_top : (x : Node) → find path_cmp [] (entries_at x) ≡ Some (contents_of x)
+pub node_top : (x : Node) → find path_cmp [] (entries_under x) ≡ Some (contents_of x)
 node_top x = ap (find path_cmp []) (fold_out-Node Entries node_entries x) ∙ layer_top (out-Node x)
 
-pub node_below : (m : Name) (p : Path) (x : Node) → find path_cmp (m ∷ p) (entries_at x) ≡ find path_cmp (m ∷ p) (entries_of (kids_of x))
+pub node_below : (m : Name) (p : Path) (x : Node) → find path_cmp (m ∷ p) (entries_under x) ≡ find path_cmp (m ∷ p) (children_entries (kids_of x))
 node_below m p x = ap (find path_cmp (m ∷ p)) (fold_out-Node Entries node_entries x) ∙ layer_below m p (out-Node x)
 
 -- the laws of a look-up
-pub get-replica_of : (cs : List (Name × Node)) (q : Path) → fin.get (replica_of cs) q ≡ find path_cmp q (entries_of cs)
+pub get-replica_of : (cs : List (Name × Node)) (q : Path) → fin.get (replica_of cs) q ≡ find path_cmp q (children_entries cs)
 unfolding replica_of
-get-replica_of cs q = fin.get-from_entries path_total (entries_of cs) q
+get-replica_of cs q = fin.get-from_entries path_total (children_entries cs) q
 
 pub get_top : (cs : List (Name × Node)) → fin.get (replica_of cs) [] ≡ None
-get_top cs = get-replica_of cs [] ∙ find_top-joined (map (λ c. (c.0, entries_at c.1)) cs)
+get_top cs = get-replica_of cs [] ∙ find_top-joined (map (λ c. (c.0, entries_under c.1)) cs)
 
-find-node : (p : Path) (x : Node) → find path_cmp p (entries_at x) ≡ node_get p x
+find-node : (p : Path) (x : Node) → find path_cmp p (entries_under x) ≡ node_get p x
 find-node [] x = node_top x
 find-node (m ∷ p) x = node_below m p x ∙ sym (get-replica_of (kids_of x) (m ∷ p))
 
-through : (p : Path) (o : Option Node) → option_and_then (λ es. find path_cmp p es) (option_map entries_at o) ≡ option_and_then (node_get p) o
+through : (p : Path) (o : Option Node) → option_and_then (λ es. find path_cmp p es) (option_map entries_under o) ≡ option_and_then (node_get p) o
 through p None = refl
 through p (Some x) = find-node p x
 
@@ -110,7 +110,7 @@ through p (Some x) = find-node p x
 pub look_up : (cs : List (Name × Node)) (n : Name) (p : Path) → fin.get (replica_of cs) (n ∷ p) ≡ option_and_then (node_get p) (find name_cmp n cs)
 look_up cs n p =
     get-replica_of cs (n ∷ p)
-    ∙ find-joined n p (map (λ c. (c.0, entries_at c.1)) cs)
+    ∙ find-joined n p (map (λ c. (c.0, entries_under c.1)) cs)
     ∙ ap (option_and_then (λ es. find path_cmp p es)) (find-entries n cs)
     ∙ through p (find name_cmp n cs)
 

@@ -21,7 +21,7 @@ use Rattle.hub_tree.specs.declared.node.Node.TheViews.{out-Node}
 use Rattle.hub_tree.specs.declared.node.Node.TheOpen.{Node-F, File, Directory}
 use Rattle.hub_tree.specs.Laws.Order.{name_total, path_total, path_antisymmetric, same_name, name_itself, is_eq-then}
 use Rattle.hub_tree.proofs.LookUp.{look_up, get_top, get_nothing}
-use Rattle.hub_tree.specs.Laws.Children.{shown, one_item, childless_none, none_childless, same_childless}
+use Rattle.hub_tree.specs.Laws.Children.{is_there, one_item, childless_none, none_childless, same_childless}
 use Rattle.hub_tree.specs.Laws.Beneath.{is_a_directory}
 use Rattle.hub_tree.specs.Laws.Contented.{held, get-with_contents}
 
@@ -107,17 +107,17 @@ layer_shown : (x : Node-F Node) → not (is_absent (layer_contents x)) ≡ true
 layer_shown (File blob) = refl
 layer_shown (Directory kids) = refl
 
-pub node_shown : (x : Node) → shown (Some (contents_of x)) ≡ true
+pub node_shown : (x : Node) → is_there (Some (contents_of x)) ≡ true
 node_shown x = layer_shown (out-Node x)
 
 find_first : (e : Name × Node) (es : List (Name × Node)) → find name_cmp e.0 (e ∷ es) ≡ Some e.1
 find_first e es = ap (λ b. cond b (Some e.1) (find name_cmp e.0 es)) (name_itself e.0)
 
 childless_top : (ks : List (Name × Node)) → (length (children (replica_of ks) []) == 0) ≡ (length ks == 0)
-childless_top [] = none_childless (replica_of []) [] (λ n. ap shown (get_nothing (n ∷ [])))
+childless_top [] = none_childless (replica_of []) [] (λ n. ap is_there (get_nothing (n ∷ [])))
 childless_top (e ∷ es) =
     false_from_ne_true _ (λ s. false≢true (sym (childless_none (replica_of (e ∷ es)) [] s e.0)
-    ∙ (ap shown (look_up (e ∷ es) e.0 [] ∙ ap (option_and_then (node_get [])) (find_first e es)) ∙ node_shown e.1)))
+    ∙ (ap is_there (look_up (e ∷ es) e.0 [] ∙ ap (option_and_then (node_get [])) (find_first e es)) ∙ node_shown e.1)))
     ∙ sym (one_item e es)
 
 childless_child : (cs : List (Name × Node)) (n : Name) (x : Node) → find name_cmp n cs ≡ Some x → (length (children (replica_of cs) (n ∷ [])) == 0) ≡ (length (kids_of x) == 0)

@@ -11,8 +11,8 @@ use Rattle.std.proofs.lemmas.List.{map-append}
 use Rattle.std.proofs.lemmas.Map.Keys.{sorted_head, sorted_tail}
 use Rattle.hub_text.specs.TestLaws.{T-first, T-second}
 use Rattle.hub_path.specs.Path.{Name, Path, path_cmp, name_cmp}
-use Rattle.hub_tree.specs.Levels.{after, level_entries, left_in, all_ascend}
-use Rattle.hub_tree.specs.Nodes.{Entries, replica_of, kids_of, node_get, contents_of, below}
+use Rattle.hub_tree.specs.Levels.{entries_after, level_entries, left_in, all_ascend}
+use Rattle.hub_tree.specs.Nodes.{Entries, replica_of, kids_of, node_get, contents_of, entries_below}
 use Rattle.hub_tree.specs.declared.contents.Contents.{Contents}
 use Rattle.hub_tree.specs.declared.entries.Level.{Level}
 use Rattle.hub_tree.specs.declared.node.Node.{Node}
@@ -27,10 +27,10 @@ abbrev pub node_all : Node → Entries
 node_all x = ([], contents_of x) ∷ fin.entries (replica_of (kids_of x))
 
 abbrev pub all_entries : List (Name × Node) → Entries
-all_entries cs = flat_map (λ c. below c.0 (node_all c.1)) cs
+all_entries cs = flat_map (λ c. entries_below c.0 (node_all c.1)) cs
 
 -- Their paths.
-keys-below : (n : Name) (es : Entries) → keys_of (below n es) ≡ named n (keys_of es)
+keys-below : (n : Name) (es : Entries) → keys_of (entries_below n es) ≡ named n (keys_of es)
 keys-below n [] = refl
 keys-below n (e ∷ es) = ap (λ ks. (n ∷ e.0) ∷ ks) (keys-below n es)
 
@@ -41,7 +41,7 @@ keys-append (e ∷ es) fs = ap (λ ks. e.0 ∷ ks) (keys-append es fs)
 keys-all : (cs : List (Name × Node)) → keys_of (all_entries cs) ≡ all_paths cs
 keys-all [] = refl
 keys-all (c ∷ cs) =
-    keys-append (below c.0 (node_all c.1)) (all_entries cs)
+    keys-append (entries_below c.0 (node_all c.1)) (all_entries cs)
     ∙ ap (λ ks. ks ++ keys_of (all_entries cs)) (keys-below c.0 (node_all c.1))
     ∙ ap (λ ks. named c.0 (node_paths c.1) ++ ks) (keys-all cs)
 
@@ -59,7 +59,7 @@ find-all : (k : Name) (r : Path) (cs : List (Name × Node)) → IsStrictlySorted
     → find path_cmp (k ∷ r) (all_entries cs) ≡ option_and_then (node_get r) (find name_cmp k cs)
 find-all k r [] h = refl
 find-all k r (c ∷ cs) h =
-    find-append path_cmp (k ∷ r) (below c.0 (node_all c.1)) (all_entries cs)
+    find-append path_cmp (k ∷ r) (entries_below c.0 (node_all c.1)) (all_entries cs)
     ∙ ap (λ o. option_or o (find path_cmp (k ∷ r) (all_entries cs))) (find-below k c.0 r (node_all c.1))
     ∙ ap (λ o. option_or (cond (eq_by_cmp name_cmp k c.0) o None) (find path_cmp (k ∷ r) (all_entries cs))) (find_node r c.1)
     ∙ ap (option_or (cond (eq_by_cmp name_cmp k c.0) (node_get r c.1) None)) (find-all k r cs (sorted_tail name_cmp c.0 (keys_of cs) h))
@@ -69,7 +69,7 @@ find-all k r (c ∷ cs) h =
 top_not_all : (cs : List (Name × Node)) → find path_cmp [] (all_entries cs) ≡ None
 top_not_all [] = refl
 top_not_all (c ∷ cs) =
-    find-append path_cmp [] (below c.0 (node_all c.1)) (all_entries cs)
+    find-append path_cmp [] (entries_below c.0 (node_all c.1)) (all_entries cs)
     ∙ ap (λ o. option_or o (find path_cmp [] (all_entries cs))) (find_top-below c.0 (node_all c.1)) ∙ top_not_all cs
 
 -- So they are the entries of the map.
@@ -84,32 +84,32 @@ entries-replica_of cs h =
     at (k ∷ r) = look_up cs k r ∙ sym (fin.get-from_entries path_total (all_entries cs) (k ∷ r) ∙ find-all k r cs h)
 
 -- The same after a prefix.
-after-append : (p : Path) (es fs : Entries) → after p (es ++ fs) ≡ after p es ++ after p fs
+after-append : (p : Path) (es fs : Entries) → entries_after p (es ++ fs) ≡ entries_after p es ++ entries_after p fs
 after-append p es fs = map-append (λ e. (p ++ e.0, e.1)) es fs
 
-after-below : (p : Path) (n : Name) (es : Entries) → after (p ++ n ∷ []) es ≡ after p (below n es)
+after-below : (p : Path) (n : Name) (es : Entries) → entries_after (p ++ n ∷ []) es ≡ entries_after p (entries_below n es)
 after-below p n [] = refl
 after-below p n (e ∷ es) = λ i. (append_assoc p (n ∷ []) e.0 i, e.1) ∷ after-below p n es i
 
-after-top : (es : Entries) → after [] es ≡ es
+after-top : (es : Entries) → entries_after [] es ≡ es
 after-top [] = refl
 after-top (e ∷ es) = ap (λ fs. e ∷ fs) (after-top es)
 
 -- The first of the children that are left.
 pub first_child : (p : Path) (n : Name) (x : Node) (rest : List (Name × Node)) → IsStrictlySortedBy name_cmp (keys_of ((n, x) ∷ rest))
-    → after p (fin.entries (replica_of ((n, x) ∷ rest)))
-    ≡ (p ++ n ∷ [], contents_of x) ∷ (after (p ++ n ∷ []) (fin.entries (replica_of (kids_of x))) ++ after p (fin.entries (replica_of rest)))
+    → entries_after p (fin.entries (replica_of ((n, x) ∷ rest)))
+    ≡ (p ++ n ∷ [], contents_of x) ∷ (entries_after (p ++ n ∷ []) (fin.entries (replica_of (kids_of x))) ++ entries_after p (fin.entries (replica_of rest)))
 first_child p n x rest h =
-    ap (after p) (entries-replica_of ((n, x) ∷ rest) h)
-    ∙ after-append p (below n (node_all x)) (all_entries rest)
-    ∙ ap (λ es. es ++ after p (all_entries rest)) (sym (after-below p n (node_all x)))
-    ∙ ap (λ q. (q, contents_of x) ∷ (after (p ++ n ∷ []) (fin.entries (replica_of (kids_of x))) ++ after p (all_entries rest))) (append-nil (p ++ n ∷ []))
-    ∙ ap (λ es. (p ++ n ∷ [], contents_of x) ∷ (after (p ++ n ∷ []) (fin.entries (replica_of (kids_of x))) ++ after p es))
+    ap (entries_after p) (entries-replica_of ((n, x) ∷ rest) h)
+    ∙ after-append p (entries_below n (node_all x)) (all_entries rest)
+    ∙ ap (λ es. es ++ entries_after p (all_entries rest)) (sym (after-below p n (node_all x)))
+    ∙ ap (λ q. (q, contents_of x) ∷ (entries_after (p ++ n ∷ []) (fin.entries (replica_of (kids_of x))) ++ entries_after p (all_entries rest))) (append-nil (p ++ n ∷ []))
+    ∙ ap (λ es. (p ++ n ∷ [], contents_of x) ∷ (entries_after (p ++ n ∷ []) (fin.entries (replica_of (kids_of x))) ++ entries_after p es))
     (sym (entries-replica_of rest (sorted_tail name_cmp n (keys_of rest) h)))
 
-pub no_child : (p : Path) → after p (fin.entries (replica_of [])) ≡ []
+pub no_child : (p : Path) → entries_after p (fin.entries (replica_of [])) ≡ []
 unfolding IsStrictlySortedBy
-no_child p = ap (after p) (entries-replica_of [] tt)
+no_child p = ap (entries_after p) (entries-replica_of [] tt)
 
 -- One more level.
 pub left-push : (ls : List Level) (l : Level) → left_in (ls ++ l ∷ []) ≡ level_entries l ++ left_in ls
@@ -130,40 +130,40 @@ ascend-last [] l h = T-first (is_sorted name_cmp l.children) true h
 ascend-last (m ∷ ls) l h = ascend-last ls l (T-second (is_sorted name_cmp m.children) (all_ascend (ls ++ l ∷ [])) h)
 
 pub one_level : (l : Level) (es : Entries) → l.path ≡ [] → fin.entries (replica_of l.children) ≡ es → left_in (l ∷ []) ≡ es
-one_level l es top e = ap (λ p. after p (fin.entries (replica_of l.children))) top ∙ after-top (fin.entries (replica_of l.children)) ∙ e
+one_level l es top e = ap (λ p. entries_after p (fin.entries (replica_of l.children))) top ∙ after-top (fin.entries (replica_of l.children)) ∙ e
 
 -- A level that is put back, and one above it for a directory.
 pub entered_file : (old new : List Level) (l : Level) (n : Name) (x : Node) → new ≡ old ++ l ∷ [] → kids_of x ≡ []
-    → left_in new ≡ after (l.path ++ n ∷ []) (fin.entries (replica_of (kids_of x))) ++ (level_entries l ++ left_in old)
+    → left_in new ≡ entries_after (l.path ++ n ∷ []) (fin.entries (replica_of (kids_of x))) ++ (level_entries l ++ left_in old)
 entered_file old new l n x e k =
     ap left_in e ∙ left-push old l
-    ∙ sym (ap (λ es. es ++ (level_entries l ++ left_in old)) (ap (λ ks. after (l.path ++ n ∷ []) (fin.entries (replica_of ks))) k ∙ no_child (l.path ++ n ∷ [])))
+    ∙ sym (ap (λ es. es ++ (level_entries l ++ left_in old)) (ap (λ ks. entries_after (l.path ++ n ∷ []) (fin.entries (replica_of ks))) k ∙ no_child (l.path ++ n ∷ [])))
 
 pub entered_directory : (old middle new : List Level) (l i : Level) (n : Name) (x : Node) (kids : List (Name × Node)) → middle ≡ old ++ l ∷ [] → new ≡ middle ++ i ∷ []
     → i.path ≡ l.path ++ n ∷ [] → i.children ≡ kids → kids_of x ≡ kids
-    → left_in new ≡ after (l.path ++ n ∷ []) (fin.entries (replica_of (kids_of x))) ++ (level_entries l ++ left_in old)
+    → left_in new ≡ entries_after (l.path ++ n ∷ []) (fin.entries (replica_of (kids_of x))) ++ (level_entries l ++ left_in old)
 entered_directory old middle new l i n x kids e f path here there =
     ap left_in f ∙ left-push middle i
     ∙ ap (λ es. level_entries i ++ es) (ap left_in e ∙ left-push old l)
-    ∙ ap (λ p. after p (fin.entries (replica_of i.children)) ++ (level_entries l ++ left_in old)) path
-    ∙ ap (λ ks. after (l.path ++ n ∷ []) (fin.entries (replica_of ks)) ++ (level_entries l ++ left_in old)) (here ∙ sym there)
+    ∙ ap (λ p. entries_after p (fin.entries (replica_of i.children)) ++ (level_entries l ++ left_in old)) path
+    ∙ ap (λ ks. entries_after (l.path ++ n ∷ []) (fin.entries (replica_of ks)) ++ (level_entries l ++ left_in old)) (here ∙ sym there)
 
 -- A level with no child left.
 pub passed_level : (old new : List Level) (l : Level) → old ≡ new ++ l ∷ [] → l.children ≡ [] → left_in old ≡ left_in new
 passed_level old new l e none =
-    ap left_in e ∙ left-push new l ∙ ap (λ es. es ++ left_in new) (ap (λ cs. after l.path (fin.entries (replica_of cs))) none ∙ no_child l.path)
+    ap left_in e ∙ left-push new l ∙ ap (λ es. es ++ left_in new) (ap (λ cs. entries_after l.path (fin.entries (replica_of cs))) none ∙ no_child l.path)
 
 -- The entry of the first child that is left of the last level.
 pub first_left : (all : Entries) (old middle : List Level) (l : Level) (n : Name) (x : Node) (rest : List (Name × Node)) → left_in old ≡ all → old ≡ middle ++ l ∷ []
     → l.children ≡ (n, x) ∷ rest → T (all_ascend old)
-    → all ≡ (l.path ++ n ∷ [], contents_of x) ∷ (after (l.path ++ n ∷ []) (fin.entries (replica_of (kids_of x))) ++ (after l.path (fin.entries (replica_of rest)) ++ left_in middle))
+    → all ≡ (l.path ++ n ∷ [], contents_of x) ∷ (entries_after (l.path ++ n ∷ []) (fin.entries (replica_of (kids_of x))) ++ (entries_after l.path (fin.entries (replica_of rest)) ++ left_in middle))
 first_left all old middle l n x rest is e f h =
     let sorted : IsStrictlySortedBy name_cmp (keys_of ((n, x) ∷ rest))
     = subst (λ (cs : List (Name × Node)). IsStrictlySortedBy name_cmp (keys_of cs)) f (sorted_keys name_cmp l.children (ascend-last middle l (subst (λ (ls : List Level). T (all_ascend ls)) e h))) in
     sym is ∙ ap left_in e ∙ left-push middle l
-    ∙ ap (λ es. es ++ left_in middle) (ap (λ cs. after l.path (fin.entries (replica_of cs))) f ∙ first_child l.path n x rest sorted)
+    ∙ ap (λ es. es ++ left_in middle) (ap (λ cs. entries_after l.path (fin.entries (replica_of cs))) f ∙ first_child l.path n x rest sorted)
     ∙ ap (λ es. (l.path ++ n ∷ [], contents_of x) ∷ es)
-    (append_assoc (after (l.path ++ n ∷ []) (fin.entries (replica_of (kids_of x)))) (after l.path (fin.entries (replica_of rest))) (left_in middle))
+    (append_assoc (entries_after (l.path ++ n ∷ []) (fin.entries (replica_of (kids_of x)))) (entries_after l.path (fin.entries (replica_of rest))) (left_in middle))
 
 pub some_left : (all es : Entries) (e : Path × Contents) → all ≡ e ∷ es → 0 < length all
 some_left all es e is = rw is (omega arith)

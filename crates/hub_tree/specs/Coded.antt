@@ -10,17 +10,17 @@ use Rattle.hub_tree.specs.declared.contents.Mark.TheVariants as mark
 abbrev pub Stored : Type 0
 Stored = List ℕ ⊎ Bool
 
-abbrev pub stored_contents : Contents → Stored
-stored_contents (contents.File bytes) = inl bytes
-stored_contents contents.Directory = inr true
-stored_contents contents.Absent = inr false
+abbrev pub coded_form : Contents → Stored
+coded_form (contents.File bytes) = inl bytes
+coded_form contents.Directory = inr true
+coded_form contents.Absent = inr false
 
 abbrev pub contents_from : Stored → Contents
 contents_from (inl bytes) = contents.File bytes
 contents_from (inr true) = contents.Directory
 contents_from (inr false) = contents.Absent
 
-pub contents_from-stored_contents : (c : Contents) → contents_from (stored_contents c) ≡ c
+pub contents_from-stored_contents : (c : Contents) → contents_from (coded_form c) ≡ c
 contents_from-stored_contents (contents.File bytes) = refl
 contents_from-stored_contents contents.Directory = refl
 contents_from-stored_contents contents.Absent = refl
@@ -29,19 +29,19 @@ abbrev pub coded_contents : Coded Contents
 coded_contents =
     code_by Stored
     (coded⊎
-    (coded_list coded_ℕ) coded_bool) stored_contents contents_from contents_from-stored_contents
+    (coded_list coded_ℕ) coded_bool) coded_form contents_from contents_from-stored_contents
 
 abbrev pub stored_mark : Mark → Stored
 stored_mark (mark.File digest) = inl digest
 stored_mark mark.Directory = inr true
 stored_mark mark.Absent = inr false
 
-abbrev pub mark_from : Stored → Mark
-mark_from (inl digest) = mark.File digest
-mark_from (inr true) = mark.Directory
-mark_from (inr false) = mark.Absent
+abbrev pub decoded_mark : Stored → Mark
+decoded_mark (inl digest) = mark.File digest
+decoded_mark (inr true) = mark.Directory
+decoded_mark (inr false) = mark.Absent
 
-pub mark_from-stored_mark : (m : Mark) → mark_from (stored_mark m) ≡ m
+pub mark_from-stored_mark : (m : Mark) → decoded_mark (stored_mark m) ≡ m
 mark_from-stored_mark (mark.File digest) = refl
 mark_from-stored_mark mark.Directory = refl
 mark_from-stored_mark mark.Absent = refl
@@ -49,4 +49,4 @@ mark_from-stored_mark mark.Absent = refl
 abbrev pub coded_mark : Coded Mark
 coded_mark =
     code_by Stored
-    (coded⊎ (coded_list coded_ℕ) coded_bool) stored_mark mark_from mark_from-stored_mark
+    (coded⊎ (coded_list coded_ℕ) coded_bool) stored_mark decoded_mark mark_from-stored_mark

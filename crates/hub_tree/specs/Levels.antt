@@ -8,12 +8,12 @@ use Rattle.hub_tree.specs.Nodes.{Entries, replica_of}
 use Rattle.hub_tree.specs.declared.entries.Level.{Level}
 
 -- The entries, each after a prefix.
-abbrev pub after : Path → Entries → Entries
-after p es = map (λ e. (p ++ e.0, e.1)) es
+abbrev pub entries_after : Path → Entries → Entries
+entries_after p es = map (λ e. (p ++ e.0, e.1)) es
 
 -- The children that are left of a directory, and what they hold.
 abbrev pub level_entries : Level → Entries
-level_entries l = after l.path (fin.entries (replica_of l.children))
+level_entries l = entries_after l.path (fin.entries (replica_of l.children))
 
 -- What a directory holds comes before what is left of the directory that it is in.
 abbrev pub left_in : List Level → Entries

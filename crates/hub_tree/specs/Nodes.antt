@@ -19,32 +19,34 @@ abbrev pub Entries : Type 0
 Entries = List (Path × Contents)
 
 -- The entries, each below this name.
-abbrev pub below : Name → Entries → Entries
-below n es = map (λ e. (n ∷ e.0, e.1)) es
+abbrev pub entries_below : Name → Entries → Entries
+entries_below n es = map (λ e. (n ∷ e.0, e.1)) es
 
 abbrev pub begins_with : Name → Path → Bool
 begins_with n [] = false
 begins_with n (m ∷ p) = eq_by_cmp name_cmp m n
 
 -- The entries below several names. Where a name stands twice, its first entries count.
-abbrev pub joined : List (Name × Entries) → Entries
-joined [] = []
-joined (c ∷ cs) = below c.0 c.1 ++ where_key path_cmp (λ p. not (begins_with c.0 p)) (joined cs)
+abbrev pub joined_entries : List (Name × Entries) → Entries
+joined_entries [] = []
+joined_entries (c ∷ cs) =
+    entries_below c.0 c.1 ++ where_key path_cmp (λ p. not (begins_with c.0 p)) (joined_entries cs)
 
 -- A node at the empty path, and what is below it.
 abbrev pub node_entries : Node-F Entries → Entries
 node_entries (File blob) = ([], contents.File blob) ∷ []
-node_entries (Directory children) = ([], contents.Directory) ∷ joined (arc_value children).entries
+node_entries (Directory children) =
+    ([], contents.Directory) ∷ joined_entries (arc_value children).entries
 
-abbrev pub entries_at : Node → Entries
-entries_at = fold-Node Entries node_entries
+abbrev pub entries_under : Node → Entries
+entries_under = fold-Node Entries node_entries
 
-abbrev pub entries_of : List (Name × Node) → Entries
-entries_of cs = joined (map (λ c. (c.0, entries_at c.1)) cs)
+abbrev pub children_entries : List (Name × Node) → Entries
+children_entries cs = joined_entries (map (λ c. (c.0, entries_under c.1)) cs)
 
 -- The replica whose top holds these.
 unfoldable pub replica_of : List (Name × Node) → Replica
-replica_of cs = fin.from_entries (entries_of cs)
+replica_of cs = fin.from_entries (children_entries cs)
 
 abbrev pub layer_contents : Node-F Node → Contents
 layer_contents (File blob) = contents.File blob

@@ -102,10 +102,10 @@ pub record IsArchive (a : Archive) : Type 0 where
   pub no_top : fin.get a [] ≡ None
 
 -- What an archive keeps of a mark: nothing of one that says that nothing is there.
-abbrev pub kept : Mark → Option Mark
-kept (mark.File digest) = Some (mark.File digest)
-kept mark.Directory = Some mark.Directory
-kept mark.Absent = None
+abbrev pub kept_mark : Mark → Option Mark
+kept_mark (mark.File digest) = Some (mark.File digest)
+kept_mark mark.Directory = Some mark.Directory
+kept_mark mark.Absent = None
 
 abbrev pub with_kept : Archive → Path → Option Mark → Archive
 with_kept a p (Some m) = fin.insert a p m
@@ -113,7 +113,7 @@ with_kept a p None = fin.remove a p
 
 -- The archive with this mark at a path, and as before elsewhere.
 abbrev pub with_mark : Archive → Path → Mark → Archive
-with_mark a p m = with_kept a p (kept m)
+with_mark a p m = with_kept a p (kept_mark m)
 
 -- The replica with these contents at a path, and as before elsewhere.
 abbrev pub with_contents : Replica → Path → Contents → Replica

@@ -144,7 +144,7 @@ impl Archive {
 
 /// What an archive stores of a mark: nothing for `Absent`.
 fn kept(mark: Mark) -> Option<Mark>
-    ensures { result ≡ tree.kept mark }
+    ensures { result ≡ tree.kept_mark mark }
 {
     match mark {
         Mark::File(_) => Some(mark),

@@ -4,7 +4,7 @@ ghost use Rattle.std.specs.Option.{option_and_then, option_copied};
 ghost use Rattle.std.specs.FinMap as fin;
 ghost use Rattle.std.specs.BTreeMap.{insert_entry, keys, IsOrdered};
 ghost use Rattle.hub_path.specs.Path.{Path, name_cmp};
-ghost use Rattle.hub_tree.specs.Nodes.{replica_of, entries_of, entries_at, size_of, node_get, kids_of, contents_of, is_left, put_fault, put_fault_below, with_put};
+ghost use Rattle.hub_tree.specs.Nodes.{replica_of, children_entries, entries_under, size_of, node_get, kids_of, contents_of, is_left, put_fault, put_fault_below, with_put};
 ghost use Rattle.hub_tree.specs.Tree.{set_fault, IsRefusal};
 
 use crate::blob::Blob;
@@ -101,7 +101,8 @@ fn copies_of(
     alloc: Global,
     children: &BTreeMap<Name, Node>,
 ) -> Result<BTreeMap<Name, Node>, AllocError>
-    ensures { IfOk result (λ m. entries_of m.entries ≡ entries_of children.now.entries) }
+    ensures { IfOk result
+        (λ m. children_entries m.entries ≡ children_entries children.now.entries) }
 {
     let mut copies = BTreeMap::new(alloc);
     for (name, node) in children.iter() {
@@ -122,7 +123,7 @@ fn put(children: &mut BTreeMap<Name, Node>, name: Name, node: Node) -> Result<()
 
 /// Copies a node. What a directory holds is shared.
 fn copy_of(node: &Node) -> Result<Node, AllocError>
-    ensures { IfOk result (λ x. entries_at x ≡ entries_at node.now) }
+    ensures { IfOk result (λ x. entries_under x ≡ entries_under node.now) }
 {
     match node {
         Node::File(blob) => Ok(Node::File(blob.copy()?)),

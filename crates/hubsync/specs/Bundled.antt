@@ -10,8 +10,8 @@ use Rattle.hub_serve.specs.Reads.{Reads}
 use Rattle.hub_serve.specs.Report.{Serves, WritesText}
 
 -- The line that says what is wrong with a file.
-abbrev pub fault_line : List ℕ → List ℕ → List ℕ
-fault_line file reason = codes "fault: " ++ file ++ codes ": " ++ reason ++ 10 ∷ []
+abbrev pub file_fault_line : List ℕ → List ℕ → List ℕ
+file_fault_line file reason = codes "fault: " ++ file ++ codes ": " ++ reason ++ 10 ∷ []
 
 abbrev pub memory_line : List ℕ
 memory_line = codes "fault: out of memory\n"
@@ -19,7 +19,7 @@ memory_line = codes "fault: out of memory\n"
 -- A fault of this file was written, whatever it is, or that memory is out.
 abbrev pub WritesFault : List ℕ → Option (List ℕ) → Option (List ℕ) → Bool → ℕ → Type 0
 WritesFault file old new failed status =
-    ((reason : List ℕ) × WritesText old new (fault_line file reason) 2 failed status)
+    ((reason : List ℕ) × WritesText old new (file_fault_line file reason) 2 failed status)
     ⊎ WritesText old new memory_line 2 failed status
 
 -- The answer is given over the bundle that the files make, with some reads of it.

@@ -3,7 +3,7 @@ ghost use Rattle.std.specs.Prelude.{◌≡◌, ◌++◌, ◌∷◌, [], IfOk, co
 ghost use Rattle.hub_cli.specs.Words.{asked_of};
 ghost use Rattle.hub_files.specs.Files.{bundle_of};
 ghost use Rattle.hub_serve.specs.Report.{WritesText};
-ghost use Rattle.hubsync.specs.Bundled.{ServesBundle, ServesParts, WritesFault, fault_line, file_at, memory_line};
+ghost use Rattle.hubsync.specs.Bundled.{ServesBundle, ServesParts, WritesFault, file_fault_line, file_at, memory_line};
 
 use crate::kept::Kept;
 use crate::served::{Seen, serve_with_remarks};
@@ -120,7 +120,7 @@ pub fn write_fault<W: Write>(
 
 /// The line that says what is wrong with a file.
 fn fault_line(alloc: Global, file: &str, reason: &str) -> Result<Vec<u8>, AllocError>
-    ensures { IfOk result (λ l. l.items ≡ fault_line file.now reason.now) }
+    ensures { IfOk result (λ l. l.items ≡ file_fault_line file.now reason.now) }
 {
     let mut line = Vec::new(alloc);
     line.extend_from_slice(b"fault: ")?;

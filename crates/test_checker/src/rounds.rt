@@ -3,7 +3,7 @@ use crate::faults::fault_text;
 use crate::sets::set_of;
 use anyhow::{Result, bail};
 use hub_profile::Profile;
-use hub_rounds::{Clashes, Placed, Placing, Reason, Rounds, clashes_of, rounds_of};
+use hub_rounds::{Clashes, Obstacle, Placed, Placing, Rounds, clashes_of, rounds_of};
 use std::alloc::{AllocError, Global};
 
 /// What the goals of a set show, each as a fault; or `nothing`.
@@ -57,8 +57,8 @@ fn names_text(alloc: Global, profiles: &[Profile]) -> Result<String, AllocError>
 fn left_text(alloc: Global, left: &Placed) -> Result<String, AllocError> {
     let name = left.profile.name().text();
     match left.placing {
-        Placing::Left(Reason::Breach(rule)) => format!(in alloc; "breach {rule} {name}"),
-        Placing::Left(Reason::TooLarge(rule)) => format!(in alloc; "too large {rule} {name}"),
+        Placing::Unplaced(Obstacle::Breach(rule)) => format!(in alloc; "breach {rule} {name}"),
+        Placing::Unplaced(Obstacle::TooLarge(rule)) => format!(in alloc; "too large {rule} {name}"),
         Placing::Round(_) => format!(in alloc; "a round {name}"),
     }
 }

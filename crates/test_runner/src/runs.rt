@@ -8,7 +8,7 @@ use anyhow::{Result, bail};
 use hub_cert::{ProfileSet, Verified};
 use hub_history::Gate;
 use hub_runner::run;
-use hub_schedule::run_rounds;
+use hub_schedule::run_cycles;
 use hub_state::State;
 use std::alloc::Global;
 use std::sync::Wait;
@@ -29,7 +29,7 @@ pub(crate) struct Run {
 enum Asked {
     /// What the jobs leave, or why they aren't run.
     Once,
-    /// Whether so many runs leave what the jobs leave in rounds. If one doesn't, what it leaves.
+    /// Whether so many runs leave what the jobs leave in cycles. If one doesn't, what it leaves.
     Often { count: usize },
     /// How many of two jobs come to their first steps, how many of them wait for the other one in vain, and what they leave.
     Meeting { point: Point },
@@ -154,14 +154,14 @@ impl<'a, 's, R: Threads + Wait + Sync> Jobs<'a, 's, R> {
     }
 
     fn runs_text(&self, count: usize) -> Result<String> {
-        let want = self.rounds_text()?;
+        let want = self.cycles_text()?;
         for number in 0..count {
             let text = self.run_text(&Open)?;
             if text != want {
                 return Ok(format!(in self.alloc; "run {number} leaves\n{text}")?);
             }
         }
-        Ok(format!(in self.alloc; "{count} leave what rounds leave")?)
+        Ok(format!(in self.alloc; "{count} leave what cycles leave")?)
     }
 
     fn meeting_text(&self, point: Point) -> Result<String> {
@@ -191,12 +191,12 @@ impl<'a, 's, R: Threads + Wait + Sync> Jobs<'a, 's, R> {
 }
 
 impl<'a, 's, R> Jobs<'a, 's, R> {
-    /// What the jobs leave in rounds.
-    fn rounds_text(&self) -> Result<String> {
-        let left = run_rounds(self.alloc, self.verified, self.state);
+    /// What the jobs leave in cycles.
+    fn cycles_text(&self) -> Result<String> {
+        let left = run_cycles(self.alloc, self.verified, self.state);
         match &left {
             Ok(outcome) => outcome_text(self.alloc, outcome),
-            Err(_) => bail!("the rounds aren't run"),
+            Err(_) => bail!("the cycles aren't run"),
         }
     }
 

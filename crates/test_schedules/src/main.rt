@@ -16,7 +16,7 @@
 //! - `look PATH`, `fetch PATH` and `set PATH CONTENTS`: what the replica answers to an operation of the first profile
 //!   (`operations`).
 //! - `job NUMBER STEPS`: what a job of the first profile does, and how it ends (`jobs`).
-//! - `turns JOBS`, `rounds` and `sequence`: what the jobs of the profiles, a safe set, leave by a schedule (`schedules`).
+//! - `turns JOBS`, `cycles` and `sequence`: what the jobs of the profiles, a safe set, leave by a schedule (`schedules`).
 //! - `schedules COUNT SEED`: whether they leave the same by random schedules (`random`).
 //! - `overlapping JOBS`: what the jobs of profiles that overlap leave by a schedule.
 #![tactic(auto)]

@@ -4,13 +4,13 @@ use crate::schedules::one_after_the_other;
 use anyhow::{Result, bail};
 use hub_cert::Verified;
 use hub_job::Outcome;
-use hub_schedule::{rounds_for, simulate};
+use hub_schedule::{cycles_for, simulate};
 use hub_state::State;
 use std::alloc::{AllocError, Global};
 use test_cases::state_text;
 use test_kit::cut;
 
-/// How many turns are random. Those of the schedule of rounds follow, so that each job has enough.
+/// How many turns are random. Those of the schedule of cycles follow, so that each job has enough.
 const RANDOM_TURNS: usize = 120;
 
 /// A linear congruential generator, with Knuth's constants for 64 bits.
@@ -84,8 +84,8 @@ fn left_by_chance(
     state: &State,
     dice: &mut Dice,
 ) -> Result<String> {
-    let rounds = rounds_for(alloc, verified.set().profiles(), state)?;
-    let schedule = random_schedule(alloc, dice, rounds.as_slice())?;
+    let cycles = cycles_for(alloc, verified.set().profiles(), state)?;
+    let schedule = random_schedule(alloc, dice, cycles.as_slice())?;
     left_by(alloc, verified, state, schedule.as_slice())
 }
 
@@ -93,13 +93,13 @@ fn left_by_chance(
 fn random_schedule(
     alloc: Global,
     dice: &mut Dice,
-    rounds: &[usize],
+    cycles: &[usize],
 ) -> Result<Vec<usize>, AllocError> {
     let mut schedule = Vec::new(alloc);
     for _ in 0..RANDOM_TURNS {
         schedule.push(dice.throw())?;
     }
-    schedule.extend_from_slice(rounds)?;
+    schedule.extend_from_slice(cycles)?;
     Ok(schedule)
 }
 

@@ -7,7 +7,7 @@ use crate::random;
 use anyhow::{Result, bail};
 use hub_cert::{CheckFault, ProfileSet, Verified};
 use hub_profile::Profile;
-use hub_schedule::{rounds_for, simulate, simulate_jobs};
+use hub_schedule::{cycles_for, simulate, simulate_jobs};
 use hub_search::check;
 use hub_state::State;
 use std::alloc::{AllocError, Global};
@@ -37,7 +37,7 @@ fn answer_of_state(
     let verified = verified_of(alloc, set)?;
     match word {
         "turns" => left_by_turns(alloc, &verified, state, fields),
-        "rounds" => left_in_rounds(alloc, &verified, state),
+        "cycles" => left_in_cycles(alloc, &verified, state),
         "sequence" => left_in_sequence(alloc, &verified, state),
         "schedules" => random::answer(alloc, &verified, state, fields),
         _ => bail!("no question: {word}"),
@@ -75,9 +75,9 @@ fn left_by_turns(
     left_by(alloc, verified, state, schedule.as_slice())
 }
 
-/// What the schedule of rounds leaves.
-fn left_in_rounds(alloc: Global, verified: &Verified<'_>, state: &State) -> Result<String> {
-    let schedule = rounds_for(alloc, verified.set().profiles(), state)?;
+/// What the schedule of cycles leaves.
+fn left_in_cycles(alloc: Global, verified: &Verified<'_>, state: &State) -> Result<String> {
+    let schedule = cycles_for(alloc, verified.set().profiles(), state)?;
     left_by(alloc, verified, state, schedule.as_slice())
 }
 
@@ -96,14 +96,14 @@ fn numbers_of(alloc: Global, fields: &str) -> Result<Vec<usize>> {
 }
 
 /// A schedule in which each job has all of its turns before the next one has its first. A job has as many as by the schedule
-/// of rounds.
+/// of cycles.
 pub(crate) fn one_after_the_other(
     alloc: Global,
     profiles: &[Profile],
     state: &State,
 ) -> Result<Vec<usize>, AllocError> {
-    let rounds = rounds_for(alloc, profiles, state)?;
-    let turns = rounds.len().checked_div(profiles.len()).unwrap_or(0);
+    let cycles = cycles_for(alloc, profiles, state)?;
+    let turns = cycles.len().checked_div(profiles.len()).unwrap_or(0);
     let mut schedule = Vec::new(alloc);
     for job in 0..profiles.len() {
         push_turns(&mut schedule, job, turns)?;

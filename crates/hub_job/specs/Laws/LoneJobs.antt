@@ -15,19 +15,19 @@ use Rattle.hub_job.specs.declared.op.Next.TheVariants.{Ask, Finished, Stopped}
 use Rattle.hub_job.specs.Machine.{after}
 use Rattle.hub_job.specs.Job.{next}
 use Rattle.hub_job.specs.World.{World, Jobs, log_of, event, act, turn_of, turn, run, opening}
-use Rattle.hub_job.specs.Run.{on_side, root_at, logged, act_on, pair_of, pair_run, pair_opening, IsSynced}
+use Rattle.hub_job.specs.Run.{on_side, root_at, logged, act_on, world_for, pair_run, pair_opening, IsSynced}
 use Rattle.hub_job.specs.Laws.Logs.{a_log_each, open_log}
 use Rattle.hub_job.specs.Laws.Finishing.{job_ends}
 use Rattle.hub_job.specs.Laws.Roots.{side_root, left_not_right, right_not_left}
 
 pub by_side : (P : Parts) (j : ℕ) (k : Side) (w : World) (q : Path)
-    → contents_at (w.replica (root_at P k)) q ≡ contents_at (on_side (pair_of P j w) k) q
+    → contents_at (w.replica (root_at P k)) q ≡ contents_at (on_side (world_for P j w) k) q
 by_side P j Left w q = refl
 by_side P j Right w q = refl
 
 module _ (P : Parts) (facts : IsProfile P) (j : ℕ) where
   event_pair : (side : Side) (op : Op) (w : World) → j < length w.logs
-      → pair_of P j (event P j side op w (Some (root_at P side))) ≡ act_on P j (pair_of P j w)
+      → world_for P j (event P j side op w (Some (root_at P side))) ≡ act_on P j (world_for P j w)
       (Ask side op)
   event_pair Left op w h =
       let own =
@@ -56,9 +56,9 @@ module _ (P : Parts) (facts : IsProfile P) (j : ℕ) where
   event_logs side op w (Some r) = length-set w.logs j _
 
   act_pair : (w : World) (n : Next) → j < length w.logs
-      → pair_of P j (act P j w n) ≡ act_on P j (pair_of P j w) n
+      → world_for P j (act P j w n) ≡ act_on P j (world_for P j w) n
   act_pair w (Ask side op) h =
-      ap (λ o. pair_of P j (event P j side op w o)) (side_root P facts j side)
+      ap (λ o. world_for P j (event P j side op w o)) (side_root P facts j side)
       ∙ event_pair side op w h
   act_pair w Finished h = refl
   act_pair w Stopped h = refl
@@ -74,17 +74,17 @@ module _ (P : Parts) (facts : IsProfile P) (j : ℕ) where
     turn_is_act w = ap (turn_of J j w) is
 
     pub run_pair : (n : ℕ) (w : World) → j < length w.logs
-        → pair_of P j (run J (replicate n j) w) ≡ pair_run P (J.archive j) j n (pair_of P j w)
+        → world_for P j (run J (replicate n j) w) ≡ pair_run P (J.archive j) j n (world_for P j w)
     unfolding run pair_run
     run_pair zero w h = refl
     run_pair (suc n) w h =
-        ap (λ v. pair_of P j (run J (replicate n j) v)) (turn_is_act w)
+        ap (λ v. world_for P j (run J (replicate n j) v)) (turn_is_act w)
         ∙ (run_pair n (act P j w (next P (J.archive j) (log_of w j)))
         (subst (λ l. j < l) (sym (act_logs w (next P (J.archive j) (log_of w j)))) h)
         ∙ ap (pair_run P (J.archive j) j n) (act_pair w (next P (J.archive j) (log_of w j)) h))
 
     pub open_pair : (replicas : Path → Replica)
-        → pair_of P j (opening J replicas) ≡ pair_opening (replicas (root_at P Left))
+        → world_for P j (opening J replicas) ≡ pair_opening (replicas (root_at P Left))
         (replicas (root_at P Right))
     open_pair replicas = ap (λ l. record {
       log = l;
@@ -97,7 +97,7 @@ module _ (P : Parts) (facts : IsProfile P) (j : ℕ) where
         → 4 * length P.paths
         + 3 * (fin.len (replicas (root_at P Left)) + fin.len (replicas (root_at P Right))) ≤ n
         → IsSynced P (replicas (root_at P Left)) (replicas (root_at P Right)) (J.archive j)
-        (pair_of P j (run J (replicate n j) (opening J replicas)))
+        (world_for P j (run J (replicate n j) (opening J replicas)))
     alone_synchronizes n replicas left right h =
         let e = run_pair n (opening J replicas) (a_log_each J.profiles j P is)
         ∙ ap (pair_run P (J.archive j) j n) (open_pair replicas) in

@@ -62,11 +62,11 @@ pub record Ready (L : List Logged) (front : List Step) (log : List Logged) : Typ
 abbrev pub weight : Bool → ℕ
 weight b = cond (not b) 1 0
 
-pub pushed : (L log : List Logged) (front : List Step) (x : Step) (e : Logged)
+pub Ready-pushed : (L log : List Logged) (front : List Step) (x : Step) (e : Logged)
     → is_look e.step.op ≡ false → is_refused e.step.answer ≡ false
     → told e.step.op e.step.answer ≡ [] → Ready L front log
     → Ready L (front ++ x ∷ []) (log ++ e ∷ [])
-pushed L log front x e step ok none r = record {
+Ready-pushed L log front x e step ok none r = record {
   count =
       let one : weight (is_look e.step.op) ≡ weight false = ap weight step in
       omega (
@@ -114,11 +114,11 @@ path_first k c cs false e =
     (filter (λ (c : Change). side_eq c.side k) cs))) e
 
 -- Marks and contents.
-pub file_of : (x : Contents) (d : List ℕ) → mark.File d ≡ mark_of x → (b : List ℕ)
+pub File-marked : (x : Contents) (d : List ℕ) → mark.File d ≡ mark_of x → (b : List ℕ)
     × (x ≡ contents.File b)
-file_of (contents.File bytes) d e = (bytes, refl)
-file_of contents.Directory d e = cc
-file_of contents.Absent d e = cc
+File-marked (contents.File bytes) d e = (bytes, refl)
+File-marked contents.Directory d e = cc
+File-marked contents.Absent d e = cc
 
 pub directory_of : (x : Contents) → mark.Directory ≡ mark_of x → contents.Directory ≡ x
 directory_of (contents.File bytes) e = cc
@@ -321,7 +321,8 @@ module _ (P : Parts) (facts : IsProfile P) (A B : Replica) (O : Archive) (left :
         → Ready L (front ++ x ∷ []) (act_on P j w (Ask c.side (Set c.path (s c.side c.path)))).log
     unfolding answer
     set_entry done c w front x maps free r =
-        pushed L w.log front x (logged P j c.side (Set c.path (s c.side c.path)) (on_side w c.side))
+        Ready-pushed L w.log front x
+        (logged P j c.side (Set c.path (s c.side c.path)) (on_side w c.side))
         refl (ap (λ o. is_refused (done_unless o)) free) refl r
 
     abbrev pub Goes_on : List Change → Change → Pair → Type 0
@@ -376,7 +377,7 @@ module _ (P : Parts) (facts : IsProfile P) (A B : Replica) (O : Archive) (left :
         let entry = logged P j (other k) (Fetch c.path) (on_side w (other k)) in
         let gave : fetched (contents_at (on_side w (other k)) c.path) ≡ Bytes b = ap fetched
         (unchanged done todo c w whole made.1 ∙ file) in
-        let ready : Ready L (flat_steps done ++ first ∷ []) u.log = pushed L w.log
+        let ready : Ready L (flat_steps done ++ first ∷ []) u.log = Ready-pushed L w.log
         (flat_steps done) first entry refl (ap is_refused gave) refl made.0 in
         let held : fetched_last [] u.log ≡ b = fetched_last-push [] w.log entry
         ∙ ap (bytes_or (fetched_last [] w.log)) gave in
@@ -406,7 +407,7 @@ module _ (P : Parts) (facts : IsProfile P) (A B : Replica) (O : Archive) (left :
     pub by_mark : (done todo : List Change) (c : Change) (w : Pair) (m : Mark) → c.mark ≡ m
         → plan V ≡ done ++ c ∷ todo → Made done w → Goes_on done c w
     by_mark done todo c w (mark.File d) e whole made =
-        let file = file_of (s c.side c.path) d (sym e ∙ marked done todo c whole) in
+        let file = File-marked (s c.side c.path) d (sym e ∙ marked done todo c whole) in
         filed done todo c w d file.0 e whole made file.1
     by_mark done todo c w mark.Directory e whole made =
         plain done todo c w mark.Directory e whole made refl

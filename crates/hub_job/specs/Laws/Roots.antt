@@ -9,7 +9,7 @@ use Rattle.hub_path.specs.declared.side.Side.{Side}
 use Rattle.hub_path.specs.declared.side.Side.TheVariants.{Left, Right}
 use Rattle.hub_profile.specs.Parts.{Parts, at_side, IsProfile}
 use Rattle.hub_reach.specs.Reach.{has_root}
-use Rattle.hub_job.specs.Laws.Untouched.{path_itself}
+use Rattle.hub_job.specs.Laws.Untouched.{path-of_Some}
 use Rattle.std.proofs.lemmas.Bool.Decides.{nat_tests}
 use Rattle.hub_path.specs.Laws.{is_over-reflexive, path_eq-turned}
 use Rattle.hub_profile.specs.Facts.{are_roots}
@@ -48,7 +48,7 @@ two_roots (a ∷ b ∷ c ∷ rs) h = absurd (not_two (length (a ∷ b ∷ c ∷ 
 root_first : (roots : List Path) (r : Path) → slice_get roots 0 ≡ Some r
     → list_any (λ own. path_eq own r) roots ≡ true
 root_first [] r e = cc
-root_first (a ∷ rs) r e = ap (λ b. b || list_any (λ own. path_eq own r) rs) (path_itself a r e)
+root_first (a ∷ rs) r e = ap (λ b. b || list_any (λ own. path_eq own r) rs) (path-of_Some a r e)
 
 root_second : (roots : List Path) (r : Path) → slice_get roots 1 ≡ Some r
     → list_any (λ own. path_eq own r) roots ≡ true

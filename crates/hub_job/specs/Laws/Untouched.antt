@@ -21,8 +21,8 @@ SetsOne =
     (m : Replica) (p q : Path) (c : Contents) → 0 < length p
     → contents_at (with_contents m p c) q ≡ (if path_eq q p then c else contents_at m q)
 
-pub path_itself : (p q : Path) → Some p ≡ Some q → path_eq p q ≡ true
-path_itself p q e = (path_eq-decides p q).1 (same_Some p q e)
+pub path-of_Some : (p q : Path) → Some p ≡ Some q → path_eq p q ≡ true
+path-of_Some p q e = (path_eq-decides p q).1 (same_Some p q e)
 
 -- reach and write
 pub write-reaches : (P : Parts) (r p : Path) → IsTrue (write P r p) → IsTrue (reach P p)

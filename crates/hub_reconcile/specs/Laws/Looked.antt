@@ -33,7 +33,7 @@ use Rattle.hub_reconcile.specs.Laws.Views.{same_paths, sight_if, sight_unless, k
 use Rattle.hub_reconcile.specs.Laws.Blocks.{nothing_below, present_front}
 use Rattle.hub_reconcile.specs.Laws.Synced.{any_witness, any_from}
 use Rattle.hub_reconcile.specs.Laws.Each.{all_at}
-use Rattle.hub_reconcile.specs.Laws.Looks.{seen_told, told_at, untold_at, told_paths, listed, among_listed, among_names, first_kept, first_parent}
+use Rattle.hub_reconcile.specs.Laws.Looks.{seen_told, told_at, untold_at, told_paths, listed_below, among_listed, among_names, first_kept, first_parent}
 
 -- Sights.
 others_either : (b : Bool) (s t : Sight) → s.others ≡ false → t.others ≡ false
@@ -118,16 +118,16 @@ module _ (P : Parts) (facts : IsProfile P) (A B : Replica) (O : Archive) (left :
     where
       first_seen : (q : Path) → among q (first_looks P) ≡ true → among q ps ≡ true
       first_seen q e =
-          seen q (among_ascending q (first_looks P ++ flat_map listed (sights_of P A B k ps))
+          seen q (among_ascending q (first_looks P ++ flat_map listed_below (sights_of P A B k ps))
           ∙ (list_any-append (eq_by_cmp path_cmp q) (first_looks P)
-          (flat_map listed (sights_of P A B k ps)) ∙ or_left _ _ e))
+          (flat_map listed_below (sights_of P A B k ps)) ∙ or_left _ _ e))
 
-      child_seen : (d q : Path) → among d ps ≡ true → among q (listed (d, S k d)) ≡ true
+      child_seen : (d q : Path) → among d ps ≡ true → among q (listed_below (d, S k d)) ≡ true
           → among q ps ≡ true
       child_seen d q e h =
-          seen q (among_ascending q (first_looks P ++ flat_map listed (sights_of P A B k ps))
+          seen q (among_ascending q (first_looks P ++ flat_map listed_below (sights_of P A B k ps))
           ∙ (list_any-append (eq_by_cmp path_cmp q) (first_looks P)
-          (flat_map listed (sights_of P A B k ps))
+          (flat_map listed_below (sights_of P A B k ps))
           ∙ or_right (among q (first_looks P)) _ (among_listed q d (S k) ps e h)))
 
       walk : (s : Path) → is_kept_value P s ≡ true → among s P.paths ≡ true → (r x : Path)
@@ -152,7 +152,7 @@ module _ (P : Parts) (facts : IsProfile P) (A B : Replica) (O : Archive) (left :
           among_filter y (reach P) (children (R k) x)
           ∙ and_from (reach P y) _ reached (any_children-push (R k) x n
           ∙ (shown_contents (R k) y (child_names x n) ∙ ap not present)) in
-          let named : among y (listed (x, S k x)) ≡ true =
+          let named : among y (listed_below (x, S k x)) ≡ true =
           ap (λ ns. among y (map (λ n. x ++ n ∷ []) ns)) (names_over k s x kept member o g)
           ∙ among_names x y (filter (reach P) (children (R k) x)) child
           (ap (λ m. x ++ m ∷ []) (last_name-push x n)) in

@@ -7,14 +7,14 @@ use Rattle.std.proofs.lemmas.Bool.{false≢true, and_parts, and_from, or_left, o
 use Rattle.std.proofs.lemmas.Bool.Decides.{nat_tests}
 use Rattle.std.proofs.lemmas.List.Folds.{list_any-append}
 use Rattle.hub_path.specs.Laws.{path_eq-turned}
-use Rattle.hub_path.specs.Path.{Name, Path, path_cmp, path_eq, parent, last_name}
+use Rattle.hub_path.specs.Path.{Name, Path, path_cmp, path_eq, parent, last_name, children_named}
 use Rattle.hub_profile.specs.Parts.{Parts}
 use Rattle.hub_reach.specs.Reach.{reach}
 use Rattle.hub_tree.specs.Laws.Order.{same_path, path_itself}
 use Rattle.hub_tree.specs.Laws.Children.{path_eq-cmp}
 use Rattle.hub_tree.specs.Laws.Between.{among, any_equal, among_filter}
 use Rattle.hub_reconcile.specs.Sight.{Sight, is_kept_value}
-use Rattle.hub_reconcile.specs.Picture.{nothing, sight_in, first_looks}
+use Rattle.hub_reconcile.specs.Picture.{nothing_there, sight_in, first_looks}
 
 -- Looks by their paths.
 eq_cmp : (d p : Path) → path_eq d p ≡ eq_by_cmp path_cmp p d
@@ -40,11 +40,11 @@ told_at f (d ∷ ps) p e =
     ] refl e
 
 pub untold_at : (f : Path → Sight) (ps : List Path) (p : Path) → among p ps ≡ false
-    → sight_in (map (λ d. (d, f d)) ps) p ≡ nothing
+    → sight_in (map (λ d. (d, f d)) ps) p ≡ nothing_there
 untold_at f [] p e = refl
 untold_at f (d ∷ ps) p e =
     elim (eq_by_cmp path_cmp p d) as (λ b. eq_by_cmp path_cmp p d ≡ b → (b || among p ps) ≡ false
-    → sight_in (map (λ d. (d, f d)) (d ∷ ps)) p ≡ nothing) [
+    → sight_in (map (λ d. (d, f d)) (d ∷ ps)) p ≡ nothing_there) [
       | true ↦ λ g h. absurd (false≢true (sym h))
       | false ↦ λ g h. ap (λ b. cond b (f d) (sight_in (map (λ d. (d, f d)) ps) p)) (eq_cmp d p ∙ g)
           ∙ untold_at f ps p h
@@ -68,21 +68,22 @@ among_flat x y f (z ∷ ys) e h =
           ∙ or_right (among x (f z)) _ (among_flat x y f ys i h)
     ] refl e
 
-abbrev pub listed : Path × Sight → List Path
-listed s = map (λ n. s.0 ++ n ∷ []) s.1.names
+abbrev pub listed_below : Path × Sight → List Path
+listed_below s = children_named s.0 s.1.names
 
 pub among_listed : (x y : Path) (f : Path → Sight) (ys : List Path) → among y ys ≡ true
-    → among x (listed (y, f y)) ≡ true → among x (flat_map listed (map (λ d. (d, f d)) ys)) ≡ true
+    → among x (listed_below (y, f y)) ≡ true
+    → among x (flat_map listed_below (map (λ d. (d, f d)) ys)) ≡ true
 among_listed x y f [] e h = absurd (false≢true e)
 among_listed x y f (z ∷ ys) e h =
     elim (eq_by_cmp path_cmp y z) as (λ b. eq_by_cmp path_cmp y z ≡ b → (b || among y ys) ≡ true
-    → among x (flat_map listed (map (λ d. (d, f d)) (z ∷ ys))) ≡ true) [
-      | true ↦ λ g i. list_any-append (eq_by_cmp path_cmp x) (listed (z, f z))
-          (flat_map listed (map (λ d. (d, f d)) ys))
-          ∙ or_left _ _ (ap (λ w. among x (listed (w, f w))) (sym (same_path y z g)) ∙ h)
-      | false ↦ λ g i. list_any-append (eq_by_cmp path_cmp x) (listed (z, f z))
-          (flat_map listed (map (λ d. (d, f d)) ys))
-          ∙ or_right (among x (listed (z, f z))) _ (among_listed x y f ys i h)
+    → among x (flat_map listed_below (map (λ d. (d, f d)) (z ∷ ys))) ≡ true) [
+      | true ↦ λ g i. list_any-append (eq_by_cmp path_cmp x) (listed_below (z, f z))
+          (flat_map listed_below (map (λ d. (d, f d)) ys))
+          ∙ or_left _ _ (ap (λ w. among x (listed_below (w, f w))) (sym (same_path y z g)) ∙ h)
+      | false ↦ λ g i. list_any-append (eq_by_cmp path_cmp x) (listed_below (z, f z))
+          (flat_map listed_below (map (λ d. (d, f d)) ys))
+          ∙ or_right (among x (listed_below (z, f z))) _ (among_listed x y f ys i h)
     ] refl e
 
 pub among_names : (d x : Path) (cs : List Path) → among x cs ≡ true → d ++ last_name x ∷ [] ≡ x

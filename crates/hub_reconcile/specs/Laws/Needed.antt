@@ -18,7 +18,7 @@ use Rattle.hub_reconcile.specs.Sight.{Sight, sight, is_kept_value, reached_names
 use Rattle.hub_reconcile.specs.Picture.{first_looks, needed}
 use Rattle.hub_reconcile.specs.Sync.{of_side, root_or_top, sights_of}
 use Rattle.hub_reconcile.specs.Laws.Ascend.{among_ascending}
-use Rattle.hub_reconcile.specs.Laws.Looks.{first_kept, listed}
+use Rattle.hub_reconcile.specs.Laws.Looks.{first_kept, listed_below}
 use Rattle.hub_reconcile.specs.Laws.Views.{sight_if, sight_unless}
 use Rattle.hub_reconcile.specs.Laws.Looked.{kept_over}
 
@@ -59,7 +59,7 @@ top_only (n ∷ d) b e =
     absurd (false≢true (sym (one_item n d) ∙ (and_parts (length (n ∷ d) == 0) b e).0))
 
 listed_by : (P : Parts) (r : Path) (m : Replica) (d x : Path) (b c : Bool) → reach P d ≡ b
-    → (length d == 0 && is_kept_value P []) ≡ c → among x (listed (d, sight P r m d)) ≡ true
+    → (length d == 0 && is_kept_value P []) ≡ c → among x (listed_below (d, sight P r m d)) ≡ true
     → among x (fin.keys m) ≡ true
 unfolding sight
 listed_by P r m d x true c h g e =
@@ -82,16 +82,16 @@ listed_by P r m d x false false h g e =
     ∙ e))
 
 of_listed : (f : Path → Sight) (x : Path) (ps ks : List Path)
-    → ((d : Path) → among x (listed (d, f d)) ≡ true → among x ks ≡ true)
-    → among x (flat_map listed (map (λ d. (d, f d)) ps)) ≡ true → among x ks ≡ true
+    → ((d : Path) → among x (listed_below (d, f d)) ≡ true → among x ks ≡ true)
+    → among x (flat_map listed_below (map (λ d. (d, f d)) ps)) ≡ true → among x ks ≡ true
 of_listed f x [] ks known e = absurd (false≢true e)
 of_listed f x (d ∷ ps) ks known e =
-    elim (among x (listed (d, f d))) as (λ b. among x (listed (d, f d)) ≡ b
-    → (b || among x (flat_map listed (map (λ d. (d, f d)) ps))) ≡ true → among x ks ≡ true) [
+    elim (among x (listed_below (d, f d))) as (λ b. among x (listed_below (d, f d)) ≡ b
+    → (b || among x (flat_map listed_below (map (λ d. (d, f d)) ps))) ≡ true → among x ks ≡ true) [
       | true ↦ λ g h. known d g
       | false ↦ λ g h. of_listed f x ps ks known h
-    ] refl (sym (list_any-append (eq_by_cmp path_cmp x) (listed (d, f d))
-    (flat_map listed (map (λ d. (d, f d)) ps))) ∙ e)
+    ] refl (sym (list_any-append (eq_by_cmp path_cmp x) (listed_below (d, f d))
+    (flat_map listed_below (map (λ d. (d, f d)) ps))) ∙ e)
 
 -- All that can be needed on a side.
 abbrev pub known : Parts → Replica → List Path
@@ -111,12 +111,12 @@ pub needed_known : (P : Parts) (A B : Replica) (k : Side) (ps : List Path) (q : 
 needed_known P A B k ps q e =
     let r = root_or_top (at_side P.roots k) in
     let m = of_side A B k in
-    needed_by q (first_looks P) (flat_map listed (sights_of P A B k ps)) (fin.keys m)
+    needed_by q (first_looks P) (flat_map listed_below (sights_of P A B k ps)) (fin.keys m)
     (of_listed (sight P r m) q ps (fin.keys m)
     (λ d h. listed_by P r m d q (reach P d) (length d == 0 && is_kept_value P []) refl refl h))
     (sym (list_any-append (eq_by_cmp path_cmp q) (first_looks P)
-    (flat_map listed (sights_of P A B k ps)))
-    ∙ (sym (among_ascending q (first_looks P ++ flat_map listed (sights_of P A B k ps))) ∙ e))
+    (flat_map listed_below (sights_of P A B k ps)))
+    ∙ (sym (among_ascending q (first_looks P ++ flat_map listed_below (sights_of P A B k ps))) ∙ e))
 
 -- A profile that reaches a path needs a Look.
 pub needs_look : (P : Parts) (seen : List (Path × Sight)) (q : Path) → IsProfile P
@@ -125,8 +125,8 @@ needs_look P seen q facts h none =
     let s = kept_over P facts q h in
     false≢true
     (ap (among s.0) (sym none)
-    ∙ (among_ascending s.0 (first_looks P ++ flat_map listed seen)
-    ∙ (list_any-append (eq_by_cmp path_cmp s.0) (first_looks P) (flat_map listed seen)
+    ∙ (among_ascending s.0 (first_looks P ++ flat_map listed_below seen)
+    ∙ (list_any-append (eq_by_cmp path_cmp s.0) (first_looks P) (flat_map listed_below seen)
     ∙ or_left _ _ (first_kept P s.0 s.1))))
 
 -- How many.

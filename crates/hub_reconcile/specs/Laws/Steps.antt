@@ -26,7 +26,7 @@ use Rattle.hub_reconcile.specs.View.{View, mark_eq, is_folder}
 use Rattle.hub_reconcile.specs.Items.{other, differs, going, coming, has_parent}
 use Rattle.hub_reconcile.specs.Sync.{of_side, view_of}
 use Rattle.hub_reconcile.specs.Laws.Ascend.{same_list}
-use Rattle.hub_reconcile.specs.Laws.Views.{same_paths, mark_here, folder_seen, reached_names}
+use Rattle.hub_reconcile.specs.Laws.Views.{same_paths, mark_here, folder_seen, reach-names}
 use Rattle.hub_reconcile.specs.Laws.Blocks.{Goes, trees, nothing_below, all_reached, going_all, coming_is, none_under, none_going}
 
 -- Contents whose marks differ.
@@ -122,7 +122,7 @@ longer_names p (n ∷ x) o l = ap not (one_item n x)
 path_over : (P : Parts) (p x y : Path) → reach P p ≡ true → is_over p x ≡ true → is_over x y ≡ true
     → reach P y ≡ true → is_path x ≡ true
 path_over P p x y h over o g =
-    and_from _ (is_place x) (longer_names p x over (reached_names P p h))
+    and_from _ (is_place x) (longer_names p x over (reach-names P p h))
     (is_place-over x y (and_parts (not (length y == 0)) (is_place y) (reach-is_path P y g)).1 o)
 
 module _ (P : Parts) (facts : IsProfile P) (A B : Replica) (O : Archive) (left : IsTree A)
@@ -218,7 +218,7 @@ module _ (P : Parts) (facts : IsProfile P) (A B : Replica) (O : Archive) (left :
 
     goes_step : is_directory (contents_at (R (other k)) p) ≡ false → (K : Replica) × Left_by K
     goes_step none =
-        let w = item_goes M p (s k p) t (reached_names P p reached) up
+        let w = item_goes M p (s k p) t (reach-names P p reached) up
         (ap (λ c. is_absent c && is_absent (s k p)) here ∙ one_present k p d) in
         let none_there : (q : Path) → is_below p q ≡ true
         → s k q ≡ contents.Absent =
@@ -261,7 +261,7 @@ module _ (P : Parts) (facts : IsProfile P) (A B : Replica) (O : Archive) (left :
         let none = one_directory k p d dir in
         let it : contents.Directory ≡ s k p = sym (is_a_directory (s k p) dir) in
         let w = item_comes M (R (other k)) p (reach P) t (trees P A B O left right (other k))
-        (reached_names P p reached) up (ap is_directory here ∙ none) (closed (other k) p reached) in
+        (reach-names P p reached) up (ap is_directory here ∙ none) (closed (other k) p reached) in
         let one : block k p ≡ p ∷ filter (reach P) (under (R (other k)) p) =
         ap (λ xs. reverse xs ++ p ∷ coming V (other k) p) (none_going P A B O left right k p none)
         ∙ ap (λ ys. p ∷ ys) (coming_is P A B O left right (other k) p) in

@@ -34,7 +34,7 @@ use Rattle.hub_reconcile.specs.declared.item.Fate.{Fate}
 use Rattle.hub_reconcile.specs.declared.item.Fate.TheVariants.{To, Skip}
 use Rattle.hub_reconcile.specs.declared.item.Item.{Item}
 use Rattle.hub_reconcile.specs.Laws.Each.{none_at}
-use Rattle.hub_reconcile.specs.Laws.Over.{longer, least}
+use Rattle.hub_reconcile.specs.Laws.Over.{find-longer, least}
 use Rattle.hub_reconcile.specs.Laws.Views.{same_paths, paths_same, paths_sorted, in_paths}
 use Rattle.hub_reconcile.specs.Laws.Blocks.{Goes, goes, trees}
 use Rattle.hub_reconcile.specs.Laws.Steps.{step, each-append, one_present, differ}
@@ -144,12 +144,12 @@ Apart [] = Unit {0}
 Apart (x ∷ xs) =
     ((y q : Path) → among y xs ≡ true → is_over x q ≡ true → is_over y q ≡ true → ⊥) × Apart xs
 
-pub item_by : (p : Path) (o : Option Path) → some_passes (path_eq p) o ≡ true → o ≡ Some p
-item_by p None e = absurd (false≢true e)
-item_by p (Some x) e = ap (λ y. Some y) (sym (same_paths p x e))
+pub passes-path : (p : Path) (o : Option Path) → some_passes (path_eq p) o ≡ true → o ≡ Some p
+passes-path p None e = absurd (false≢true e)
+passes-path p (Some x) e = ap (λ y. Some y) (sym (same_paths p x e))
 
 pub over_itself : (V : View) (p : Path) → is_item V p ≡ true → item_over V p ≡ Some p
-over_itself V p e = item_by p (item_over V p) e
+over_itself V p e = passes-path p (item_over V p) e
 
 pub item_differs : (V : View) (p : Path) → is_item V p ≡ true → differs V p ≡ true
 item_differs V p e = (least (differs V) p p (over_itself V p e)).passes
@@ -157,8 +157,8 @@ item_differs V p e = (least (differs V) p p (over_itself V p e)).passes
 pub same_item : (V : View) (x y q : Path) → is_item V x ≡ true → is_item V y ≡ true
     → is_over x q ≡ true → is_over y q ≡ true → x ≡ y
 same_item V x y q i j o u =
-    same_Some x y (sym (longer (differs V) x q x o (over_itself V x i))
-    ∙ longer (differs V) y q y u (over_itself V y j))
+    same_Some x y (sym (find-longer (differs V) x q x o (over_itself V x i))
+    ∙ find-longer (differs V) y q y u (over_itself V y j))
 
 pub items_apart : (V : View) (ps : List Path) → IsStrictlySortedBy path_cmp ps
     → ((x : Path) → among x ps ≡ true → is_item V x ≡ true) → Apart ps
@@ -325,7 +325,8 @@ module _ (P : Parts) (facts : IsProfile P) (A B : Replica) (O : Archive) (left :
       let none : touched k all_items q ≡ false = false_from_ne_true _ (λ h.
       let w = any_witness (λ x. is_over x q && is_to k (fate V x)) all_items h in
       let two = and_parts (is_over w.0 q) (is_to k (fate V w.0)) w.2 in
-      no_some (sym e ∙ longer (differs V) w.0 q w.0 two.0 (over_itself V w.0 (of_items w.0 w.1))))
+      no_some (sym e
+      ∙ find-longer (differs V) w.0 q w.0 two.0 (over_itself V w.0 (of_items w.0 w.1))))
       in
       ap (λ b. cond b (s k q) (contents_at (R k) q)) none
   touched_by k q (Some x) e =

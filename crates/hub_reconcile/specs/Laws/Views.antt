@@ -100,9 +100,9 @@ pub allowed-writes : (P : Parts) (side : Side) (q : Path) (verb : Verb)
     → write P (root_or_top (at_side P.roots side)) q ≡ true
 allowed-writes P side q verb e h = writes_by P side q verb (at_side P.roots side) refl e h
 
-pub reached_names : (P : Parts) (p : Path) → reach P p ≡ true → 0 < length p
-reached_names P [] h = absurd (false≢true (reach-is_path P [] h))
-reached_names P (n ∷ p) h = omega arith
+pub reach-names : (P : Parts) (p : Path) → reach P p ≡ true → 0 < length p
+reach-names P [] h = absurd (false≢true (reach-is_path P [] h))
+reach-names P (n ∷ p) h = omega arith
 
 module _ (P : Parts) (A B : Replica) (O : Archive) where
   abbrev pub R : Side → Replica
@@ -177,7 +177,7 @@ module _ (P : Parts) (A B : Replica) (O : Archive) where
 
   pub key_of : (k : Side) (q : Path) → reach P q ≡ true → is_absent (contents_at (R k) q) ≡ false
       → among q (fin.keys (R k)) ≡ true
-  key_of k q h there = among_keys (R k) q there (reached_names P q h)
+  key_of k q h there = among_keys (R k) q there (reach-names P q h)
 
   pub among_candidates : (k : Side) (q : Path) → reach P q ≡ true
       → is_absent (contents_at (R k) q) ≡ false → among q candidates ≡ true

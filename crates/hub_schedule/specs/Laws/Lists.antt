@@ -56,11 +56,11 @@ pub as_long : {X Y : Type 0} (xs : List X) (ys : List Y) (j : ℕ) (y : Y) → l
     → slice_get ys j ≡ Some y → (x : X) × (slice_get xs j ≡ Some x)
 as_long xs ys j y e h = has-item xs j (subst (λ n. j < n) (sym e) (slice_get_within ys j y h))
 
-pub listed : {X : Type 0} (t : X → Bool) (xs : List X) (j : ℕ) (x : X) → slice_get xs j ≡ Some x
+pub any-at : {X : Type 0} (t : X → Bool) (xs : List X) (j : ℕ) (x : X) → slice_get xs j ≡ Some x
     → t x ≡ true → list_any t xs ≡ true
-listed t [] j x is h = cc
-listed t (y ∷ xs) zero x is h = or_left (t y) (list_any t xs) (ap (some_passes t) is ∙ h)
-listed t (y ∷ xs) (suc j) x is h = or_right (t y) (list_any t xs) (listed t xs j x is h)
+any-at t [] j x is h = cc
+any-at t (y ∷ xs) zero x is h = or_left (t y) (list_any t xs) (ap (some_passes t) is ∙ h)
+any-at t (y ∷ xs) (suc j) x is h = or_right (t y) (list_any t xs) (any-at t xs j x is h)
 
 pub one_with : {X : Type 0} (t : X → Bool) (xs : List X) → list_any t xs ≡ true → (j : ℕ) × (x : X)
     × (slice_get xs j ≡ Some x) × (t x ≡ true)

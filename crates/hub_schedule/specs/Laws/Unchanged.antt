@@ -18,14 +18,9 @@ use Rattle.hub_job.specs.declared.log.Entry.{Entry}
 use Rattle.hub_job.specs.declared.op.Next.TheVariants.{Finished, Stopped}
 use Rattle.hub_job.specs.History.{replay}
 use Rattle.hub_job.specs.Ends.{is_finished}
-use Rattle.hub_job.specs.Outcome.{replicas_of, takes, mark_by}
+use Rattle.hub_job.specs.Outcome.{replicas_of, takes_marks, mark_by}
 use Rattle.hub_schedule.specs.Promise.{logs_in, Settles, ForeignAreAsBefore, OldMarksStay, IsAsPromised}
-
--- Lists and options.
-pub passing : {X : Type 0} (t : X → Bool) (o : Option X) → some_passes t o ≡ true → (x : X)
-    × (o ≡ Some x) × (t x ≡ true)
-passing t None h = absurd (false≢true h)
-passing t (Some x) h = (x, refl, h)
+use Rattle.hub_reach.specs.Laws.{passing}
 
 pub none_passes : (t : ℕ → Bool) (xs : List ℕ) → ((i : ℕ) → t i ≡ false) → find t xs ≡ None
 none_passes t [] never = refl
@@ -38,7 +33,7 @@ finished_of end.Stopped e = absurd (false≢true e)
 finished_of end.Unfinished e = absurd (false≢true e)
 
 -- What it is that a job's marks are taken.
-pub record Takes (Ps : List Parts) (o : Outcome) (r s p : Path) (j : ℕ) : Type 0 where
+pub record TakesMarks (Ps : List Parts) (o : Outcome) (r s p : Path) (j : ℕ) : Type 0 where
   pub profile : Parts
   pub ended : JobEnd
   pub is : slice_get Ps j ≡ Some profile
@@ -48,8 +43,9 @@ pub record Takes (Ps : List Parts) (o : Outcome) (r s p : Path) (j : ℕ) : Type
   pub second : has_root profile s ≡ true
   pub reaches : reach profile p ≡ true
 
-pub takes_is : (Ps : List Parts) (o : Outcome) (r s p : Path) (j : ℕ) → takes o Ps r s p j ≡ true
-    → Takes Ps o r s p j
+pub takes_is : (Ps : List Parts) (o : Outcome) (r s p : Path) (j : ℕ)
+    → takes_marks o Ps r s p j ≡ true
+    → TakesMarks Ps o r s p j
 takes_is Ps o r s p j h =
     let two = and_parts (some_passes (λ e. is_finished e.end) (slice_get o.jobs j))
     (some_passes (λ P. has_root P r && has_root P s && reach P p) (slice_get Ps j)) h in
@@ -82,8 +78,8 @@ module _ (S : State) (Ps : List Parts) (histories : Path → List Entry) (o : Ou
 
   pub marks_stay : OldMarksStay S Ps o
   marks_stay = λ r s p one other off never.
-      let none = none_passes (takes o Ps r s p) (range_with_len 0 (length Ps))
-      (λ i. false_from_ne_true (takes o Ps r s p i) (λ h. let w = takes_is Ps o r s p i h in
+      let none = none_passes (takes_marks o Ps r s p) (range_with_len 0 (length Ps))
+      (λ i. false_from_ne_true (takes_marks o Ps r s p i) (λ h. let w = takes_is Ps o r s p i h in
       false≢true (sym (never i w.profile w.ended w.is w.at w.finished w.first w.second)
       ∙ w.reaches))) in
       settles.outcome.archives r s p one other off

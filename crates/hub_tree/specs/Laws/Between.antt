@@ -55,9 +55,9 @@ none_of false true c f g h e = g refl
 none_of false false c f g h e = h e
 
 -- A path that is in a list is before this one, is this one, or is after it.
-pub nowhere : (x q : Path) (front rest : List Path) → (among x front ≡ true → ⊥) → (x ≡ q → ⊥)
+pub among-none : (x q : Path) (front rest : List Path) → (among x front ≡ true → ⊥) → (x ≡ q → ⊥)
     → (among x rest ≡ true → ⊥) → among x (front ++ q ∷ rest) ≡ true → ⊥
-nowhere x q front rest before here after e =
+among-none x q front rest before here after e =
     none_of (among x front) (eq_by_cmp path_cmp x q) (among x rest) before
     (λ e. here (same_path x q e)) after
     (sym (list_any-append (eq_by_cmp path_cmp x) front (q ∷ rest)) ∙ e)

@@ -20,7 +20,7 @@ use Rattle.std.proofs.Math.Bool.{and-true, and-false, and_assoc, and-or_distrib_
 use Rattle.hub_text.specs.TestLaws.{T-first, T-second, T-less}
 pub use Rattle.hub_text.specs.ListLaws.{some-item as one_item}
 use Rattle.hub_path.specs.Laws.{parent-last_name, parent-push, last_name-push}
-use Rattle.hub_path.specs.Path.{Name, Path, path_cmp, name_cmp, path_eq, parent, last_name}
+use Rattle.hub_path.specs.Path.{Name, Path, path_cmp, name_cmp, path_eq, parent, last_name, children_named}
 use Rattle.hub_tree.specs.Tree.{Replica, contents_at, is_absent, is_child, children}
 use Rattle.hub_tree.specs.declared.contents.Contents.{Contents}
 use Rattle.hub_tree.specs.Laws.Order.{name_total, path_total, path_antisymmetric, same_path, same_name, path_itself, name_itself}
@@ -119,12 +119,12 @@ child_of d (n ∷ p) h =
 
 -- which paths are children
 -- whether contents are there, of what a map has
-abbrev pub shown : Option Contents → Bool
-shown None = false
-shown (Some c) = not (is_absent c)
+abbrev pub is_there : Option Contents → Bool
+is_there None = false
+is_there (Some c) = not (is_absent c)
 
 shown_at : (m : Replica) (n : Name) (p : Path) (o : Option Contents) → fin.get m (n ∷ p) ≡ o
-    → (not (is_absent (contents_at m (n ∷ p))) && is_some (fin.get m (n ∷ p))) ≡ shown o
+    → (not (is_absent (contents_at m (n ∷ p))) && is_some (fin.get m (n ∷ p))) ≡ is_there o
 shown_at m n p None e = rw e refl
 shown_at m n p (Some c) e = rw e (and-true (not (is_absent c)))
 
@@ -141,12 +141,13 @@ any-children m d q =
     ∙ and_assoc (is_child d q) _ _
 
 names_shown : (m : Replica) (p : Path) → 0 < length p
-    → (not (is_absent (contents_at m p)) && is_some (fin.get m p)) ≡ shown (fin.get m p)
+    → (not (is_absent (contents_at m p)) && is_some (fin.get m p)) ≡ is_there (fin.get m p)
 names_shown m [] l = absurd (omega arith)
 names_shown m (n ∷ p) l = shown_at m n p (fin.get m (n ∷ p)) refl
 
 pub any_children-push : (m : Replica) (d : Path) (n : Name)
-    → list_any (eq_by_cmp path_cmp (d ++ n ∷ [])) (children m d) ≡ shown (fin.get m (d ++ n ∷ []))
+    → list_any (eq_by_cmp path_cmp (d ++ n ∷ [])) (children m d)
+    ≡ is_there (fin.get m (d ++ n ∷ []))
 any_children-push m d n =
     any-children m d (d ++ n ∷ [])
     ∙ ap (λ b. b && (not (is_absent (contents_at m (d ++ n ∷ [])))
@@ -159,7 +160,7 @@ no_items [] h = refl
 no_items (x ∷ xs) h = absurd (false≢true (sym (one_item x xs) ∙ h))
 
 pub childless_none : (m : Replica) (d : Path) → (length (children m d) == 0) ≡ true → (n : Name)
-    → shown (fin.get m (d ++ n ∷ [])) ≡ false
+    → is_there (fin.get m (d ++ n ∷ [])) ≡ false
 childless_none m d h =
     λ n. sym (any_children-push m d n) ∙ ap (list_any (eq_by_cmp path_cmp (d ++ n ∷ [])))
     (no_items (children m d) h)
@@ -167,7 +168,7 @@ childless_none m d h =
 is_childless : (m : Replica) (d : Path) (ps : List Path)
     → ((q : Path) → list_any (eq_by_cmp path_cmp q) ps
     ≡ (is_child d q && (not (is_absent (contents_at m q)) && is_some (fin.get m q))))
-    → ((n : Name) → shown (fin.get m (d ++ n ∷ [])) ≡ false) → (length ps == 0) ≡ true
+    → ((n : Name) → is_there (fin.get m (d ++ n ∷ [])) ≡ false) → (length ps == 0) ≡ true
 is_childless m d [] h none = refl
 is_childless m d (q ∷ ps) h none =
     let found : list_any (eq_by_cmp path_cmp q) (q ∷ ps) ≡ true =
@@ -175,13 +176,14 @@ is_childless m d (q ∷ ps) h none =
     let two = and_parts (is_child d q) (not (is_absent (contents_at m q)) && is_some (fin.get m q))
     (sym (h q) ∙ found) in
     let is : q ≡ d ++ last_name q ∷ [] = child_of d q two.0 in
-    let there : shown (fin.get m (d ++ last_name q ∷ [])) ≡ true =
+    let there : is_there (fin.get m (d ++ last_name q ∷ [])) ≡ true =
     sym (names_shown m (d ++ last_name q ∷ []) (child_names d (last_name q)))
     ∙ ap (λ p. not (is_absent (contents_at m p)) && is_some (fin.get m p)) (sym is) ∙ two.1 in
     absurd (false≢true (sym (none (last_name q)) ∙ there))
 
 pub none_childless : (m : Replica) (d : Path)
-    → ((n : Name) → shown (fin.get m (d ++ n ∷ [])) ≡ false) → (length (children m d) == 0) ≡ true
+    → ((n : Name) → is_there (fin.get m (d ++ n ∷ [])) ≡ false)
+    → (length (children m d) == 0) ≡ true
 none_childless m d none = is_childless m d (children m d) (any-children m d) none
 
 pub same_childless : (m n : Replica) (d e : Path)
@@ -189,12 +191,8 @@ pub same_childless : (m n : Replica) (d e : Path)
     → (length (children m d) == 0) ≡ (length (children n e) == 0)
 same_childless m n d e h =
     both_ways _ _
-    (λ s. none_childless n e (λ k. ap shown (sym (h k)) ∙ childless_none m d s k))
-    (λ s. none_childless m d (λ k. ap shown (h k) ∙ childless_none n e s k))
-
--- the children in order
-abbrev pub pushed : Path → List Name → List Path
-pushed d ns = map (λ n. d ++ n ∷ []) ns
+    (λ s. none_childless n e (λ k. ap is_there (sym (h k)) ∙ childless_none m d s k))
+    (λ s. none_childless m d (λ k. ap is_there (h k) ∙ childless_none n e s k))
 
 then_equal : (r : Ordering) → ordering_then r Equal ≡ r
 then_equal Less = refl
@@ -209,12 +207,12 @@ cmp-pushed (n ∷ d) a b =
 
 above_pushed : (d : Path) (n : Name) (ns : List Name)
     → AllByRecursion (λ k. name_cmp n k ≡ Less) ns
-    → AllByRecursion (λ q. path_cmp (d ++ n ∷ []) q ≡ Less) (pushed d ns)
+    → AllByRecursion (λ q. path_cmp (d ++ n ∷ []) q ≡ Less) (children_named d ns)
 above_pushed d n [] h = tt
 above_pushed d n (k ∷ ns) h = (cmp-pushed d n k ∙ h.0, above_pushed d n ns h.1)
 
 sorted_pushed : (d : Path) (ns : List Name) → IsStrictlySortedBy name_cmp ns
-    → IsStrictlySortedBy path_cmp (pushed d ns)
+    → IsStrictlySortedBy path_cmp (children_named d ns)
 unfolding IsStrictlySortedBy
 sorted_pushed d [] h = tt
 sorted_pushed d (n ∷ ns) h = (above_pushed d n ns h.0, sorted_pushed d ns h.1)
@@ -232,16 +230,16 @@ is_pushed d q k =
     ap (λ p. eq_by_cmp path_cmp p (d ++ k ∷ [])) is ∙ path_itself (d ++ k ∷ []))
 
 any-pushed : (d q : Path) (ns : List Name)
-    → list_any (eq_by_cmp path_cmp q) (pushed d ns)
+    → list_any (eq_by_cmp path_cmp q) (children_named d ns)
     ≡ (is_child d q && list_any (eq_by_cmp name_cmp (last_name q)) ns)
 any-pushed d q [] = sym (and-false (is_child d q))
 any-pushed d q (k ∷ ns) =
-    ap (λ b. b || list_any (eq_by_cmp path_cmp q) (pushed d ns)) (is_pushed d q k)
+    ap (λ b. b || list_any (eq_by_cmp path_cmp q) (children_named d ns)) (is_pushed d q k)
     ∙ ap (λ b. (is_child d q && eq_by_cmp name_cmp (last_name q) k) || b) (any-pushed d q ns)
     ∙ sym (and-or_distrib_left (is_child d q) _ _)
 
 where_child : (m : Replica) (d q : Path) (ns : List Name)
-    → ((n : Name) → shown (fin.get m (d ++ n ∷ [])) ≡ list_any (eq_by_cmp name_cmp n) ns)
+    → ((n : Name) → is_there (fin.get m (d ++ n ∷ [])) ≡ list_any (eq_by_cmp name_cmp n) ns)
     → (b : Bool) → is_child d q ≡ b
     → (b && (not (is_absent (contents_at m q)) && is_some (fin.get m q)))
     ≡ (b && list_any (eq_by_cmp name_cmp (last_name q)) ns)
@@ -253,20 +251,20 @@ where_child m d q ns h true e =
 
 -- where these names in order are those of the children
 pub children-pushed : (m : Replica) (d : Path) (ns : List Name) → IsStrictlySortedBy name_cmp ns
-    → ((n : Name) → shown (fin.get m (d ++ n ∷ [])) ≡ list_any (eq_by_cmp name_cmp n) ns)
-    → children m d ≡ pushed d ns
+    → ((n : Name) → is_there (fin.get m (d ++ n ∷ [])) ≡ list_any (eq_by_cmp name_cmp n) ns)
+    → children m d ≡ children_named d ns
 children-pushed m d ns s h =
-    same_sorted path_cmp path_total path_antisymmetric (children m d) (pushed d ns)
+    same_sorted path_cmp path_total path_antisymmetric (children m d) (children_named d ns)
     (IsStrictlySortedBy-filter path_cmp (λ p. is_child d p && not (is_absent (contents_at m p)))
     (fin.keys m) (sorted_keys path_cmp (fin.entries m) (fin.entries_sorted m)))
     (sorted_pushed d ns s)
     (λ q. any-children m d q ∙ where_child m d q ns h (is_child d q) refl ∙ sym (any-pushed d q ns))
 
-last_names-pushed : (d : Path) (ns : List Name) → map last_name (pushed d ns) ≡ ns
+last_names-pushed : (d : Path) (ns : List Name) → map last_name (children_named d ns) ≡ ns
 last_names-pushed d [] = refl
 last_names-pushed d (n ∷ ns) = λ i. last_name-push d n i ∷ last_names-pushed d ns i
 
 pub names-children : (m : Replica) (d : Path) (ns : List Name) → IsStrictlySortedBy name_cmp ns
-    → ((n : Name) → shown (fin.get m (d ++ n ∷ [])) ≡ list_any (eq_by_cmp name_cmp n) ns)
+    → ((n : Name) → is_there (fin.get m (d ++ n ∷ [])) ≡ list_any (eq_by_cmp name_cmp n) ns)
     → map last_name (children m d) ≡ ns
 names-children m d ns s h = ap (map last_name) (children-pushed m d ns s h) ∙ last_names-pushed d ns

@@ -14,7 +14,7 @@ use Rattle.hub_tree.specs.declared.contents.Mark.TheVariants as mark
 use Rattle.hub_tree.specs.declared.fault.SetFault.{SetFault}
 use Rattle.hub_tree.specs.declared.fault.SetFault.TheVariants.{RootPath, NoParent, NotEmpty, NothingThere}
 use Rattle.hub_tree.specs.Laws.Order.{path_total, path_antisymmetric, same_path}
-use Rattle.hub_tree.specs.Laws.Children.{shown, path_eq-cmp, child_names, childless_none, none_childless}
+use Rattle.hub_tree.specs.Laws.Children.{is_there, path_eq-cmp, child_names, childless_none, none_childless}
 
 -- the map after a change
 abbrev pub held : Contents → Option Contents
@@ -76,12 +76,12 @@ contents_by_eq-after m p q c l =
     contents-after m p q c l ∙ ap (λ b. cond b c (contents_at m q)) (sym (path_eq-cmp q p))
 
 -- what is at the children
-shown_or : (o : Option Contents) → shown o ≡ not (is_absent (unwrap_or o contents.Absent))
+shown_or : (o : Option Contents) → is_there o ≡ not (is_absent (unwrap_or o contents.Absent))
 shown_or None = refl
 shown_or (Some c) = refl
 
 pub shown_contents : (m : Replica) (q : Path) → 0 < length q
-    → shown (fin.get m q) ≡ not (is_absent (contents_at m q))
+    → is_there (fin.get m q) ≡ not (is_absent (contents_at m q))
 shown_contents m [] l = absurd (omega arith)
 shown_contents m (n ∷ q) l = shown_or (fin.get m (n ∷ q))
 

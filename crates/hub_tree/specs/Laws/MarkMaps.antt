@@ -7,7 +7,7 @@ use Rattle.std.specs.Prelude.{length}
 use Rattle.std.specs.Ordering.{eq_by_cmp}
 use Rattle.std.proofs.lemmas.Bool.{false≢true, cond_both}
 use Rattle.hub_path.specs.Path.{Path, path_cmp, path_eq, is_path, is_place}
-use Rattle.hub_tree.specs.Tree.{Archive, IsArchive, HasPaths, HasDigests, IsDigest, old_mark_at, kept, with_kept, with_mark}
+use Rattle.hub_tree.specs.Tree.{Archive, IsArchive, HasPaths, HasDigests, IsDigest, old_mark_at, kept_mark, with_kept, with_mark}
 use Rattle.hub_tree.specs.declared.contents.Mark.{Mark}
 use Rattle.hub_tree.specs.declared.contents.Mark.TheVariants as mark
 use Rattle.hub_tree.specs.Laws.Order.{path_total, path_antisymmetric, same_path}
@@ -29,7 +29,7 @@ changed_marks es fs a p w v h =
     (λ q. get_changed path_total es fs p w h q
     ∙ ap (λ a. cond (eq_by_cmp path_cmp q p) w (fin.get a q)) v ∙ sym (get-with_kept a p w q))
 
-kept_present : (m : Mark) → kept m ≡ Some mark.Absent → ⊥
+kept_present : (m : Mark) → kept_mark m ≡ Some mark.Absent → ⊥
 kept_present (mark.File digest) e = cc
 kept_present mark.Directory e = cc
 kept_present mark.Absent e = cc
@@ -52,17 +52,17 @@ no_top a h = none_from (fin.get a []) (λ e. h [] e)
 pub HasPaths-set : (a : Archive) (p : Path) (m : Mark) → HasPaths a → is_path p ≡ true
     → HasPaths (with_mark a p m)
 HasPaths-set a p m h here =
-    λ q e. path_here a p q (kept m) (eq_by_cmp path_cmp q p) here h refl
-    (sym (ap is_some (get-with_kept a p (kept m) q)) ∙ e)
+    λ q e. path_here a p q (kept_mark m) (eq_by_cmp path_cmp q p) here h refl
+    (sym (ap is_some (get-with_kept a p (kept_mark m) q)) ∙ e)
 
 present-set : (a : Archive) (p : Path) (m : Mark) → IsArchive a → (q : Path)
     → fin.get (with_mark a p m) q ≡ Some mark.Absent → ⊥
 present-set a p m h = λ q e.
-    cond_both (eq_by_cmp path_cmp q p) (kept m) (fin.get a q) (λ r. r ≡ Some mark.Absent → ⊥)
-    (λ b. kept_present m) (λ b. h.present q) (sym (get-with_kept a p (kept m) q) ∙ e)
+    cond_both (eq_by_cmp path_cmp q p) (kept_mark m) (fin.get a q) (λ r. r ≡ Some mark.Absent → ⊥)
+    (λ b. kept_present m) (λ b. h.present q) (sym (get-with_kept a p (kept_mark m) q) ∙ e)
 
 -- Digests of files.
-kept_file : (m : Mark) (d : List ℕ) → kept m ≡ Some (mark.File d) → m ≡ mark.File d
+kept_file : (m : Mark) (d : List ℕ) → kept_mark m ≡ Some (mark.File d) → m ≡ mark.File d
 kept_file (mark.File x) d e = ap (λ o. unwrap_or o mark.Absent) e
 kept_file mark.Directory d e = cc
 kept_file mark.Absent d e = cc
@@ -70,9 +70,9 @@ kept_file mark.Absent d e = cc
 HasDigests-set : (a : Archive) (p : Path) (m : Mark) → HasDigests a
     → ((d : List ℕ) → m ≡ mark.File d → IsDigest d) → HasDigests (with_mark a p m)
 HasDigests-set a p m h here = λ q d e.
-    cond_both (eq_by_cmp path_cmp q p) (kept m) (fin.get a q)
+    cond_both (eq_by_cmp path_cmp q p) (kept_mark m) (fin.get a q)
     (λ r. r ≡ Some (mark.File d) → IsDigest d) (λ b k. here d (kept_file m d k)) (λ b. h q d)
-    (sym (get-with_kept a p (kept m) q) ∙ e)
+    (sym (get-with_kept a p (kept_mark m) q) ∙ e)
 
 pub IsArchive-set : (a : Archive) (p : Path) (m : Mark) → IsArchive a × HasPaths a × HasDigests a
     → is_path p ≡ true
@@ -94,22 +94,22 @@ top_stays a (n ∷ p) w l e = get-with_kept a (n ∷ p) w [] ∙ e
 pub IsArchive-after : (a : Archive) (p : Path) (m : Mark) → 0 < length p → IsArchive a
     → IsArchive (with_mark a p m)
 IsArchive-after a p m l h =
-    record { present = present-set a p m h; no_top = top_stays a p (kept m) l h.no_top }
+    record { present = present-set a p m h; no_top = top_stays a p (kept_mark m) l h.no_top }
 
-kept_or : (m : Mark) → unwrap_or (kept m) mark.Absent ≡ m
+kept_or : (m : Mark) → unwrap_or (kept_mark m) mark.Absent ≡ m
 kept_or (mark.File d) = refl
 kept_or mark.Directory = refl
 kept_or mark.Absent = refl
 
 mark_or : (b : Bool) (m : Mark) (o : Option Mark)
-    → unwrap_or (cond b (kept m) o) mark.Absent ≡ cond b m (unwrap_or o mark.Absent)
+    → unwrap_or (cond b (kept_mark m) o) mark.Absent ≡ cond b m (unwrap_or o mark.Absent)
 mark_or true m o = kept_or m
 mark_or false m o = refl
 
 pub old_mark-after : (a : Archive) (p q : Path) (m : Mark)
     → old_mark_at (with_mark a p m) q ≡ cond (path_eq q p) m (old_mark_at a q)
 old_mark-after a p q m =
-    ap (λ o. unwrap_or o mark.Absent) (get-with_kept a p (kept m) q)
+    ap (λ o. unwrap_or o mark.Absent) (get-with_kept a p (kept_mark m) q)
     ∙ mark_or (eq_by_cmp path_cmp q p) m (fin.get a q)
     ∙ ap (λ b. cond b m (old_mark_at a q)) (sym (path_eq-cmp q p))
 

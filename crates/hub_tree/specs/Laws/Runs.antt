@@ -19,7 +19,7 @@ use Rattle.hub_tree.specs.declared.contents.Contents.{Contents}
 use Rattle.hub_tree.specs.declared.contents.Contents.TheVariants as contents
 use Rattle.hub_tree.specs.Laws.Order.{same_path}
 use Rattle.hub_tree.specs.Laws.Beneath.{below_order, is_a_directory}
-use Rattle.hub_tree.specs.Laws.Between.{among, among_middle, among_reverse, among_filter, nowhere, turned, not_both, before, behind, below_names, not_below_itself, below_child, under_sorted, in_under, of_under, not_under, parent_below, below_parent, parent_order}
+use Rattle.hub_tree.specs.Laws.Between.{among, among_middle, among_reverse, among_filter, among-none, turned, not_both, before, behind, below_names, not_below_itself, below_child, under_sorted, in_under, of_under, not_under, parent_below, below_parent, parent_order}
 use Rattle.hub_tree.specs.Laws.Contented.{MayBeSet, no_fault-from, some_names, contents-after, absent_childless, IsTree-after}
 
 -- f at these paths, and as before elsewhere
@@ -97,7 +97,7 @@ child_gone : (m : Replica) (p q : Path) (n : Name) (front done : List Path)
 child_gone m p q n front done whole b e =
     let s : IsStrictlySortedBy path_cmp (front ++ q ∷ reverse done) =
     subst (λ (ps : List Path). IsStrictlySortedBy path_cmp ps) (sym whole) (under_sorted m p) in
-    true_from_ne_false _ (λ h. nowhere (q ++ n ∷ []) q front (reverse done)
+    true_from_ne_false _ (λ h. among-none (q ++ n ∷ []) q front (reverse done)
     (λ g. not_both q (q ++ n ∷ []) (below_order q n [])
     (before front (reverse done) q (q ++ n ∷ []) s g))
     (λ g. let l : path_cmp q q ≡ Less = ap (path_cmp q) (sym g) ∙ below_order q n []
@@ -177,7 +177,7 @@ parent_done s p q f done rest t closed whole b h passes up =
       closed (parent q) q up (below_parent q l) h passes,
       in_under s p (parent q) up there,
     ) refl in
-    true_from_ne_false _ (λ e. nowhere (parent q) q done rest
+    true_from_ne_false _ (λ e. among-none (parent q) q done rest
     (λ g. false≢true (sym e ∙ g))
     (λ g. let o2 : path_cmp q q ≡ Less = ap (λ x. path_cmp x q) (sym g) ∙ o in not_both q q o2 o2)
     (λ g. not_both (parent q) q o (behind done rest q (parent q) sorted g))

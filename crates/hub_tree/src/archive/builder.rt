@@ -55,7 +55,7 @@ impl ArchiveBuilder {
     /// Out of memory leaves the list unchanged.
     pub fn push(&mut self, path: &RelPath, mark: Mark) -> Result<(), AllocError>
         requires { 0 < length path.now }
-        ensures ok { OnOk result (self.new ≡ self.old ++ marked.entries_of path.now mark) }
+        ensures ok { OnOk result (self.new ≡ self.old ++ marked.marked_entries path.now mark) }
         ensures err { OnErr result (self.new ≡ self.old) }
     {
         let _names = path.len();

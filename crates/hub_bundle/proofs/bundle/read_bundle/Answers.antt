@@ -13,7 +13,7 @@ returns-in_err-heading-clause-err c =
     let before = c.loop-line.invariant in
     let l = of_bytes c.in-Some-next.line in
     let fault = c.in_err-heading.field-0.0.fault in
-    let says = ap₂ (λ (ss : List SectionValue) (t : List ℕ). heading_below ss (heading_reading t)) (sym c.as_slice.ensures.value) (sym c.without_cr-text.ensures) in
+    let says = ap₂ (λ (ss : List SectionValue) (t : List ℕ). heading_below ss (heading_reading t)) (sym c.as_slice.ensures.value) (sym c.without_last_cr-text.ensures) in
     rw (p.1, p.2) (elim c.in_err-heading.ensures.err [
       | inl h ↦ inl h
       | inr h ↦ inr (before.read ∙ faulty_section c.loop-line.sections.items (c.loop-line.above + 1) c.loop-line.lines c.next.new.self l fault c.in-Some-next.ensures.steps before.next (says ∙ h.1) ∙ ap (λ n. Err (record { line = n; fault = fault })) (sym h.0))
@@ -34,7 +34,7 @@ loop-line-preserved c =
     let e : lines_of s ≡ l ∷ lines_of t = c.in-Some-next.ensures.steps in
     let above = c.loop-line.above in
     let count = c.take_section-count.result.1 in
-    let says = ap₂ (λ (ss : List SectionValue) (t : List ℕ). heading_below ss (heading_reading t)) (sym c.as_slice.ensures.value) (sym c.without_cr-text.ensures) ∙ c.in_ok-heading.ensures.ok in
+    let says = ap₂ (λ (ss : List SectionValue) (t : List ℕ). heading_below ss (heading_reading t)) (sym c.as_slice.ensures.value) (sym c.without_last_cr-text.ensures) ∙ c.in_ok-heading.ensures.ok in
     record {
       read = before.read ∙ one_section_more c.loop-line.sections.items (above + 1) (above + (count + 1) + 1) count s t u c.take_section-count.result.0.now l c.in_ok-heading.heading e before.next says c.take_section-count.ensures.bytes c.take_section-count.ensures.below (omega arith) ∙ ap (λ ss. sections_reading ss (written (above + (count + 1) + 1) (lines_of u))) (sym c.in_ok-push.ensures.items);
       next = c.take_section-count.ensures.next;

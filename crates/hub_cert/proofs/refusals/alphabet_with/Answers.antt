@@ -1,7 +1,7 @@
 use Rattle.std.proofs.Common.{◌≡◌, ◌∙◌, ℕ, List, sym, ap, subst}
 use Rattle.std.specs.List.{flat_map}
 use Rattle.std.proofs.lemmas.Result.{err_from_is_err_and}
-use Rattle.hub_automaton.specs.Alphabet.{Refuses, mentions, plain, spec_characters, with_characters}
+use Rattle.hub_automaton.specs.Alphabet.{RefusesCharacters, mentions, plain, spec_characters, with_characters}
 use Rattle.hub_profile.specs.Parts.{Parts}
 use Rattle.hub_reach.specs.Mention.{mentioned_by}
 use Rattle.hub_automaton.specs.AddedInTurn.{added-after, refused-after, refused-before}
@@ -16,8 +16,8 @@ returns-in_err-mention_each-clause-err c = λ S ps rs.
     let e = c.in_err-mention_each.field-0.0 in
     rw (p.1, p.2)
     (refused-before plain (flat_map mentioned_by S.profiles) (flat_map (λ (R : Rule). spec_characters R.spec) S.rules) e
-    (subst (λ (Ps : List Parts). Refuses plain (flat_map mentioned_by Ps) e) (sym ps)
-    (subst (λ (ms : List ℕ). Refuses ms (flat_map mentioned_by c.args.profiles.now) e) c.in_ok-alphabet.ensures.ok c.in_err-mention_each.ensures.err)))
+    (subst (λ (Ps : List Parts). RefusesCharacters plain (flat_map mentioned_by Ps) e) (sym ps)
+    (subst (λ (ms : List ℕ). RefusesCharacters ms (flat_map mentioned_by c.args.profiles.now) e) c.in_ok-alphabet.ensures.ok c.in_err-mention_each.ensures.err)))
 
 pub returns-in_err-mention_each-2-clause-err : goal.returns-in_err-mention_each-2-clause-err
 returns-in_err-mention_each-2-clause-err c = λ S ps rs.
@@ -27,7 +27,7 @@ returns-in_err-mention_each-2-clause-err c = λ S ps rs.
     let first : now ≡ with_characters plain (flat_map mentioned_by S.profiles) = c.in_ok-mention_each.ensures.ok ∙ (λ i. with_characters (c.in_ok-alphabet.ensures.ok i) (flat_map mentioned_by (sym ps i))) in
     rw (p.1, p.2)
     (refused-after plain now (flat_map mentioned_by S.profiles) (flat_map (λ (R : Rule). spec_characters R.spec) S.rules) e first
-    (subst (λ (Rs : List Rule). Refuses now (flat_map (λ (R : Rule). spec_characters R.spec) Rs) e) (sym rs) c.in_err-mention_each-2.ensures.err))
+    (subst (λ (Rs : List Rule). RefusesCharacters now (flat_map (λ (R : Rule). spec_characters R.spec) Rs) e) (sym rs) c.in_err-mention_each-2.ensures.err))
 
 pub returns-clause-value : goal.returns-clause-value
 returns-clause-value c = λ S ps rs.

@@ -4,7 +4,7 @@ use Rattle.std.proofs.lemmas.Result.{err_from_is_err_and}
 use Rattle.hub_text.specs.ListLaws.{also-here}
 use Rattle.hub_automaton.specs.declared.alternatives.TheConstants.{SPOTS}
 use Rattle.hub_profile.specs.Parts.{Parts}
-use Rattle.hub_reach.specs.Stage.{spots_of}
+use Rattle.hub_reach.specs.Stage.{spot_count_of}
 use Rattle.hub_cert.proofs.refusals.count_profile_spots.Goals as goal
 
 pub new-requires : goal.new-requires
@@ -21,7 +21,7 @@ returns-in_err-new-clause-err c =
 pub loop-profile-preserved : goal.loop-profile-preserved
 loop-profile-preserved c =
     let at = slice_get_read c.args.profiles.now _ c.loop-profile.profile-index c.profile-item.result refl c.loop-profile-test.true c.profile-item.is in
-    also-here (λ (P : Parts). spots_of P ≤ SPOTS) c.args.profiles.now c.loop-profile.profile-index c.profile-item.result at c.in_ok-new.ensures.few c.loop-profile.invariant
+    also-here (λ (P : Parts). spot_count_of P ≤ SPOTS) c.args.profiles.now c.loop-profile.profile-index c.profile-item.result at c.in_ok-new.ensures.few c.loop-profile.invariant
 
 pub returns-clause-few : goal.returns-clause-few
 returns-clause-few c = λ i P at. let l = slice_get_within c.args.profiles.now i P at in c.loop-profile.invariant i P (omega (arith, l, c.loop-profile-test.false)) at

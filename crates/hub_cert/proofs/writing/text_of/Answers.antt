@@ -3,7 +3,7 @@ use Rattle.std.specs.Prelude.{codes}
 use Rattle.std.specs.List.{flat_map, list_all}
 use Rattle.std.proofs.lemmas.List.{flat_map_more, take_all, take_more}
 use Rattle.std.proofs.lemmas.List.Folds.{list_all_more}
-use Rattle.hub_cert.specs.Reading.{header}
+use Rattle.hub_cert.specs.Reading.{certificates_header}
 use Rattle.hub_cert.specs.Writing.{certificate_text, have_characters, line}
 use Rattle.hub_cert.specs.declared.certificate.Certificate.{Certificate}
 use Rattle.hub_cert.proofs.writing.text_of.Goals as goal
@@ -20,8 +20,8 @@ loop-certificate-preserved c =
     record {
       text = c.in_ok-push_certificate.ensures.text
           ∙ (ap (λ (bs : List ℕ). bs ++ certificate_text d) before.text
-          ∙ (flat_map_more certificate_text (line header) (take n cs) d
-          ∙ ap (λ (ds : List Certificate). line header ++ flat_map certificate_text ds) (sym more)));
+          ∙ (flat_map_more certificate_text (line certificates_header) (take n cs) d
+          ∙ ap (λ (ds : List Certificate). line certificates_header ++ flat_map certificate_text ds) (sym more)));
       characters = list_all_more have_characters cs n d l ∙ (λ i. before.characters i && told i);
     }
 
@@ -31,8 +31,8 @@ returns-clause-text c =
     let whole = take_all c.loop-certificate.certificate-index cs (omega (arith, c.loop-certificate-test.false)) in
     c.in_ok-push_str-2.ensures.bytes
     ∙ (ap (λ (bs : List ℕ). bs ++ line (codes "end"))
-    (c.loop-certificate.invariant.text ∙ ap (λ (ds : List Certificate). line header ++ flat_map certificate_text ds) whole)
-    ∙ append_assoc (line header) (flat_map certificate_text cs) (line (codes "end")))
+    (c.loop-certificate.invariant.text ∙ ap (λ (ds : List Certificate). line certificates_header ++ flat_map certificate_text ds) whole)
+    ∙ append_assoc (line certificates_header) (flat_map certificate_text cs) (line (codes "end")))
 
 pub returns-clause-characters : goal.returns-clause-characters
 returns-clause-characters c =

@@ -38,7 +38,7 @@ returns-in_err-push_range-clause-err c =
     c.in_err-push_range.ensures.err)
 
 pub loop-i-init : goal.loop-i-init
-loop-i-init c = (omega arith, none_read (reading.members c.args.set.now) c.new-members.result.items c.new-members.ensures.items)
+loop-i-init c = (omega arith, none_read (reading.set_members c.args.set.now) c.new-members.result.items c.new-members.ensures.items)
 
 pub returns-clause-ok : goal.returns-clause-ok
 returns-clause-ok c = all_read c.args.set.now c.loop-i.i c.loop-i.members.items c.loop-i-test.false c.loop-i.invariant.1

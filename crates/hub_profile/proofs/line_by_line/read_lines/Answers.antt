@@ -8,14 +8,14 @@ use Rattle.std.specs.Iterator.Adapters.{enumerate_source, enumerate_count, enume
 use Rattle.std.proofs.lemmas.Iterator.{YieldsList}
 use Rattle.hub_text.specs.declared.line.Line.{Line}
 use Rattle.hub_text.specs.Lines.{lines_of}
-use Rattle.hub_text.specs.Takes.{Takes, of_text, numbered_lines, numbered_turn, numbered_end}
+use Rattle.hub_text.specs.Takes.{Takes, of_text, yields-numbered_lines, numbered_turn, numbered_end}
 use Rattle.hub_profile.proofs.Runs.{taken, at_fault, all_taken}
 use Rattle.hub_profile.proofs.line_by_line.read_lines.Goals as goal
 
 -- The lines that the loop goes over.
 numbered : {s r : Enumerate (List ℕ)} {t : List ℕ} (cs : List ℕ) → s ≡ r → enumerate_source r ≡ t → t ≡ cs → enumerate_count r ≡ 0
     → YieldsList {B = ℕ × Line (List ℕ)} (enumerate_steps (Takes of_text)) (λ p. (p.0, of_text p.1)) s (enumerate_from 0 (lines_of cs))
-numbered cs same source whole none = numbered_lines of_text cs (ap enumerate_source same ∙ source ∙ whole) (ap enumerate_count same ∙ none)
+numbered cs same source whole none = yields-numbered_lines of_text cs (ap enumerate_source same ∙ source ∙ whole) (ap enumerate_count same ∙ none)
 
 pub returns-in-Err-clause-err : goal.returns-in-Err-clause-err
 returns-in-Err-clause-err g c =

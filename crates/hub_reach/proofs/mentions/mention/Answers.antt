@@ -2,7 +2,7 @@ use Rattle.std.proofs.Common.{◌≡◌, ◌∙◌, ◌++◌, ℕ, List, ap, sub
 use Rattle.std.specs.List.{flat_map}
 use Rattle.std.proofs.lemmas.Result.{err_from_is_err_and}
 use Rattle.hub_automaton.specs.declared.fault.AutomatonFault.{AutomatonFault}
-use Rattle.hub_automaton.specs.Alphabet.{path_characters, spec_characters, with_characters, Refuses, mentions}
+use Rattle.hub_automaton.specs.Alphabet.{path_characters, spec_characters, with_characters, RefusesCharacters, mentions}
 use Rattle.hub_profile.specs.Parts.{Parts}
 use Rattle.hub_reach.specs.Mention.{mentioned_by, partial_characters, IsPartly}
 use Rattle.hub_automaton.specs.AddedInTurn.{added-after, refused-before, refused-after}
@@ -29,7 +29,7 @@ added_of f old new xs ys e h = h ∙ ap (λ zs. with_characters old (flat_map f 
 
 -- Why some characters aren't added, and what has been added of them.
 abbrev Fails : List ℕ → List ℕ → AutomatonFault → List ℕ → Type 0
-Fails ms cs e new = Refuses ms cs e × IsPartly ms cs new
+Fails ms cs e new = RefusesCharacters ms cs e × IsPartly ms cs new
 
 fails_of : {X : Type 0} (f : X → List ℕ) (old : List ℕ) (xs ys : List X) (e : AutomatonFault) (new : List ℕ) → xs ≡ ys → Fails old (flat_map f xs) e new → Fails old (flat_map f ys) e new
 fails_of f old xs ys e new is h = subst (λ zs. Fails old (flat_map f zs) e new) is h

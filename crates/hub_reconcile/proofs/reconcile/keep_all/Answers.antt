@@ -1,5 +1,5 @@
 use Rattle.std.proofs.Common.{◌-◌, ◌++◌, ◌∷◌, [], List, take, drop, length, ap, sym, ◌∙◌, subst, append-nil, arith}
-use Rattle.hub_tree.specs.Marked.{entries_of}
+use Rattle.hub_tree.specs.Marked.{marked_entries}
 use Rattle.hub_reconcile.specs.Blocks.{HaveMarkNames}
 use Rattle.hub_reconcile.specs.Merge.{told_mark, told_marks}
 use Rattle.hub_reconcile.specs.declared.old_mark.OldMark.{OldMark}
@@ -12,6 +12,6 @@ loop-rest-preserved c =
     let o = c.other-item.result in
     let head = head_rest rest o (omega (arith, c.in-len1-up.len_at_least)) c.other-item.is in (
       marks_next (told_marks rest) (told_mark o ∷ []) (told_marks (take (length rest - 1) (drop 1 rest))) c.loop-rest.marks c.push.new.self _ (ap told_marks head)
-          (c.in_ok-push.ensures.ok ∙ ap (λ es. c.loop-rest.marks ++ es) (sym (append-nil (entries_of o.path.now o.mark)))) c.loop-rest.invariant.0,
+          (c.in_ok-push.ensures.ok ∙ ap (λ es. c.loop-rest.marks ++ es) (sym (append-nil (marked_entries o.path.now o.mark)))) c.loop-rest.invariant.0,
       (subst (λ (os : List OldMark). HaveMarkNames (told_marks os)) head c.loop-rest.invariant.1).1,
     )

@@ -1,6 +1,6 @@
 use Rattle.std.proofs.Common.{◌-◌, ◌++◌, List, take, drop, length, ap, sym, ◌∙◌, subst, append-nil, arith}
 use Rattle.std.specs.List.{flat_map}
-use Rattle.hub_reconcile.specs.Blocks.{HaveAllNames, block_marks, pushed}
+use Rattle.hub_reconcile.specs.Blocks.{HaveAllNames, block_marks, kept_marks}
 use Rattle.hub_reconcile.specs.declared.block.Block.{Block}
 use Rattle.hub_reconcile.proofs.Loops.{head_rest, none_left, marks_next}
 use Rattle.hub_reconcile.proofs.reconcile.update_all.Goals as goal
@@ -22,4 +22,4 @@ loop-rest-preserved c =
 pub returns : goal.returns
 returns c =
     sym (append-nil c.loop-rest.marks)
-    ∙ ap (λ (bs : List Block). c.loop-rest.marks ++ pushed (flat_map block_marks bs)) (sym (none_left c.loop-rest.rest.now c.in_default.len_below)) ∙ c.loop-rest.invariant.0
+    ∙ ap (λ (bs : List Block). c.loop-rest.marks ++ kept_marks (flat_map block_marks bs)) (sym (none_left c.loop-rest.rest.now c.in_default.len_below)) ∙ c.loop-rest.invariant.0

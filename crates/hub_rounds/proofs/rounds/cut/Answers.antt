@@ -5,7 +5,7 @@ use Rattle.hub_text.specs.ListLaws.{less-or-same}
 use Rattle.hub_profile.specs.Parts.{Parts}
 use Rattle.hub_profile.specs.declared.rule.Rule.{Rule}
 use Rattle.hub_cert.specs.Set.{IsSafeSet}
-use Rattle.hub_rounds.specs.Rounds.{is_in, is_outside, members}
+use Rattle.hub_rounds.specs.Rounds.{is_in_round, is_outside, profiles_in_round}
 use Rattle.hub_rounds.specs.declared.placing.Placed.{Placed}
 use Rattle.hub_rounds.proofs.Cutting.{all-outside, members-outside, others-outside}
 use Rattle.hub_rounds.proofs.rounds.cut.Goals as goal
@@ -23,16 +23,16 @@ loop-round-preserved c =
     let ps = c.args.placed.items in
     let j = c.loop-round.round in
     let i = c.loop-round.invariant in
-    let own = c.in_ok-own.ensures.own ∙ (ap (λ (xs : List Placed). members j xs) i.rest ∙ members-outside j ps) in
+    let own = c.in_ok-own.ensures.own ∙ (ap (λ (xs : List Placed). profiles_in_round j xs) i.rest ∙ members-outside j ps) in
     let safe = c.in_ok-own-2.ensures.safe in
     record {
-      rest = c.in_ok-own.ensures.others ∙ (ap (λ (xs : List Placed). filter (λ p. not (is_in j p.placing)) xs) i.rest ∙ others-outside j ps);
+      rest = c.in_ok-own.ensures.others ∙ (ap (λ (xs : List Placed). filter (λ p. not (is_in_round j p.placing)) xs) i.rest ∙ others-outside j ps);
       rules = c.in_ok-own-2.ensures.rules ∙ i.rules;
-      rounds = c.in_ok-push.ensures.items ∙ (ap₂ (λ (xs : List (List Parts)) (x : List Parts). xs ++ x ∷ []) i.rounds (c.in_ok-own-2.ensures.profiles ∙ own) ∙ sym (map-range_with_len_more (λ k. members k ps) 0 j j (omega arith)));
+      rounds = c.in_ok-push.ensures.items ∙ (ap₂ (λ (xs : List (List Parts)) (x : List Parts). xs ++ x ∷ []) i.rounds (c.in_ok-own-2.ensures.profiles ∙ own) ∙ sym (map-range_with_len_more (λ k. profiles_in_round k ps) 0 j j (omega arith)));
       safe = λ k l. ⊎_elim
           (λ before. i.safe k before)
-          (λ now. subst (λ (n : ℕ). IsSafeSet (record { profiles = members n ps; rules = c.args.rules })) (sym now)
-          (subst (λ (Rs : List Rule). IsSafeSet (record { profiles = members j ps; rules = Rs })) i.rules (subst (λ (Ps : List Parts). IsSafeSet (record { profiles = Ps; rules = c.loop-round.rules })) own safe)))
+          (λ now. subst (λ (n : ℕ). IsSafeSet (record { profiles = profiles_in_round n ps; rules = c.args.rules })) (sym now)
+          (subst (λ (Rs : List Rule). IsSafeSet (record { profiles = profiles_in_round j ps; rules = Rs })) i.rules (subst (λ (Ps : List Parts). IsSafeSet (record { profiles = Ps; rules = c.loop-round.rules })) own safe)))
           (less-or-same k j l);
     }
 
@@ -40,7 +40,7 @@ loop-round-preserved c =
 pub returns-clause-rounds : goal.returns-clause-rounds
 returns-clause-rounds c =
     let all : c.loop-round.round ≡ c.args.count = omega (arith, c.loop-round-test.false, c.loop-round.auto.round-end) in
-    c.from_vec.ensures ∙ (c.loop-round.invariant.rounds ∙ ap (λ n. map (λ k. members k c.args.placed.items) (range_with_len 0 n)) all)
+    c.from_vec.ensures ∙ (c.loop-round.invariant.rounds ∙ ap (λ n. map (λ k. profiles_in_round k c.args.placed.items) (range_with_len 0 n)) all)
 
 pub returns-clause-left : goal.returns-clause-left
 returns-clause-left c =

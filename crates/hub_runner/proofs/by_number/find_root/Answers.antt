@@ -3,7 +3,7 @@ use Rattle.std.proofs.lemmas.Option.{slice_get_read, slice_get_within}
 use Rattle.hub_text.specs.ListLaws.{also-here}
 use Rattle.hub_profile.specs.Parts.{Parts}
 use Rattle.hub_reach.specs.Reach.{has_root}
-use Rattle.hub_schedule.specs.Laws.Lists.{listed}
+use Rattle.hub_schedule.specs.Laws.Lists.{any-at}
 use Rattle.hub_runner.proofs.Lists.{none_any}
 use Rattle.hub_runner.proofs.by_number.find_root.Goals as goal
 
@@ -16,7 +16,7 @@ returns-in-Some c =
     let i = c.loop-profile.profile-index in
     let P = c.profile-item.result in
     let at = slice_get_read Ps _ i P refl c.loop-profile-test.true c.profile-item.is in
-    (c.in-Some.ensures.0, listed (λ (Q : Parts). has_root Q c.args.root.now) Ps i P at c.in-Some.ensures.1)
+    (c.in-Some.ensures.0, any-at (λ (Q : Parts). has_root Q c.args.root.now) Ps i P at c.in-Some.ensures.1)
 
 pub loop-profile-preserved : goal.loop-profile-preserved
 loop-profile-preserved c =

@@ -4,7 +4,7 @@ use Rattle.hub_path.specs.declared.side.Side.TheVariants.{Left, Right}
 use Rattle.hub_profile.specs.Parts.{Parts, IsProfile}
 use Rattle.hub_job.specs.Run.{root_at}
 use Rattle.hub_schedule.specs.declared.slot.Slot.{Slot}
-use Rattle.hub_schedule.specs.Table.{IsPlaced}
+use Rattle.hub_schedule.specs.Table.{IsTreeNumber}
 use Rattle.hub_schedule.proofs.EndedJobs.{on_both_sides}
 use Rattle.hub_schedule.proofs.Places.{left_is, right_is}
 use Rattle.hub_schedule.proofs.ended.slot_of.Goals as goal
@@ -12,12 +12,12 @@ use Rattle.hub_schedule.proofs.ended.slot_of.Goals as goal
 pub place_of-left-requires : goal.place_of-left-requires
 place_of-left-requires c =
     let root = left_is c.profile.result.now c.roots-roots.ensures.valid c.roots-roots.result.now c.roots-roots.ensures.value c.index-roots-0.result ∙ ap (λ (Q : Parts). root_at Q Left) c.profile.ensures in
-    subst (λ (r : Path). (n : ℕ) × IsPlaced c.args.trees.now r n) (sym root) (c.requires Left)
+    subst (λ (r : Path). (n : ℕ) × IsTreeNumber c.args.trees.now r n) (sym root) (c.requires Left)
 
 pub place_of-right-requires : goal.place_of-right-requires
 place_of-right-requires c =
     let root = right_is c.profile.result.now c.roots-roots.ensures.valid c.roots-roots.result.now c.roots-roots.ensures.value c.index-roots-1.result ∙ ap (λ (Q : Parts). root_at Q Right) c.profile.ensures in
-    subst (λ (r : Path). (n : ℕ) × IsPlaced c.args.trees.now r n) (sym root) (c.requires Right)
+    subst (λ (r : Path). (n : ℕ) × IsTreeNumber c.args.trees.now r n) (sym root) (c.requires Right)
 
 pub returns : goal.returns
 returns c =
@@ -32,6 +32,6 @@ returns c =
       valid = subst IsProfile c.profile.ensures facts;
       job = refl;
       places = on_both_sides c.args.trees.now c.args.job.profile s
-          (subst (λ r. IsPlaced c.args.trees.now r c.place_of-left.result) left c.place_of-left.ensures)
-          (subst (λ r. IsPlaced c.args.trees.now r c.place_of-right.result) right c.place_of-right.ensures);
+          (subst (λ r. IsTreeNumber c.args.trees.now r c.place_of-left.result) left c.place_of-left.ensures)
+          (subst (λ r. IsTreeNumber c.args.trees.now r c.place_of-right.result) right c.place_of-right.ensures);
     }

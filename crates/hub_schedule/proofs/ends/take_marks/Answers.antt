@@ -1,5 +1,5 @@
 use Rattle.std.proofs.Common.{List, [], ◌∷◌, ◌++◌, sym, ap, ◌∙◌, subst, append-nil, append_assoc}
-use Rattle.hub_reconcile.specs.Laws.Views.{reached_names}
+use Rattle.hub_reconcile.specs.Laws.Views.{reach-names}
 use Rattle.hub_path.specs.Path.{Path}
 use Rattle.hub_tree.specs.Tree.{Archive, with_mark}
 use Rattle.hub_tree.specs.declared.contents.Mark.{Mark}
@@ -7,7 +7,7 @@ use Rattle.hub_schedule.proofs.Merging.{IsTaken, taken_more, taken_same, taken_a
 use Rattle.hub_schedule.proofs.ends.take_marks.Goals as goal
 
 pub set-requires : goal.set-requires
-set-requires c = reached_names c.args.profile.now c.in-Some.path.now (sym c.reaches.ensures ∙ c.if-reaches.true)
+set-requires c = reach-names c.args.profile.now c.in-Some.path.now (sym c.reaches.ensures ∙ c.if-reaches.true)
 
 pub loop-path-preserved-in-Continue-1 : goal.loop-path-preserved-in-Continue-1
 loop-path-preserved-in-Continue-1 c =

@@ -3,7 +3,7 @@ use Rattle.std.proofs.lemmas.Bool.{false≢true}
 use Rattle.std.proofs.lemmas.Option.{slice_get_read}
 use Rattle.hub_text.specs.ListLaws.{also-here}
 use Rattle.hub_reconcile.specs.Laws.Views.{same_paths}
-use Rattle.hub_job.specs.Laws.Untouched.{path_itself}
+use Rattle.hub_job.specs.Laws.Untouched.{path-of_Some}
 use Rattle.hub_schedule.specs.declared.slot.WorkingTree.{WorkingTree}
 use Rattle.hub_schedule.proofs.slots.find_tree.Goals as goal
 
@@ -21,4 +21,4 @@ loop-place-preserved c =
     let n = c.loop-place.place in
     let t = c.index-trees-place.result in
     also-here (λ (t : WorkingTree). t.root.now ≢ c.args.root.now) ts n t (slice_get_read ts _ n t refl c.loop-place-test.true c.index-trees-place.is)
-    (λ e. false≢true (sym c.if-eq.false ∙ (c.eq.ensures ∙ path_itself t.root.now c.args.root.now (ap (λ p. Some p) e)))) c.loop-place.invariant
+    (λ e. false≢true (sym c.if-eq.false ∙ (c.eq.ensures ∙ path-of_Some t.root.now c.args.root.now (ap (λ p. Some p) e)))) c.loop-place.invariant

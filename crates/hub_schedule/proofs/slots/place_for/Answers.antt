@@ -3,13 +3,13 @@ use Rattle.std.proofs.lemmas.Option.{slice_get_within}
 use Rattle.hub_text.specs.ListLaws.{snoc-old}
 use Rattle.hub_job.specs.Outcome.{replicas_of}
 use Rattle.hub_schedule.specs.declared.slot.WorkingTree.{WorkingTree}
-use Rattle.hub_schedule.specs.Table.{AreTrees, IsNotIn, IsPlaced}
+use Rattle.hub_schedule.specs.Table.{AreTrees, IsNotIn, IsTreeNumber}
 use Rattle.hub_schedule.proofs.Opened.{rest_push, trees_push}
 use Rattle.hub_schedule.proofs.Places.{placed_last}
 use Rattle.hub_schedule.proofs.slots.place_for.Goals as goal
 
 pub returns-in-Some-clause-placed : goal.returns-in-Some-clause-placed
-returns-in-Some-clause-placed c = subst (λ (ts : List WorkingTree). IsPlaced ts c.args.root.now c.in-Some.place) c.as_slice.ensures.value c.in-Some.ensures
+returns-in-Some-clause-placed c = subst (λ (ts : List WorkingTree). IsTreeNumber ts c.args.root.now c.in-Some.place) c.as_slice.ensures.value c.in-Some.ensures
 
 pub returns-clause-placed : goal.returns-clause-placed
 returns-clause-placed c =

@@ -2,7 +2,7 @@ use Rattle.std.proofs.Common.{◌∙◌, ◌≡◌, ◌⊎◌, List, ap, inl, in
 use Rattle.hub_path.specs.declared.fault.PathFault.TheVariants as path
 use Rattle.hub_profile.specs.Parts.{Parts}
 use Rattle.hub_cli.specs.Words.{reach}
-use Rattle.hub_serve.specs.Reached.{named}
+use Rattle.hub_serve.specs.Reached.{first_named}
 use Rattle.hub_serve.specs.Report.{HasBadPath}
 use Rattle.hub_serve.proofs.Told.{path-told}
 use Rattle.hub_serve.proofs.reach.report_on_reach.Goals as goal
@@ -10,7 +10,7 @@ use Rattle.hub_serve.proofs.reach.report_on_reach.Goals as goal
 pub returns : goal.returns
 returns c =
     let profile = c.args.profile.now in
-    let found = ap (λ (Ps : List Parts). named profile Ps) (sym c.as_slice.ensures) ∙ c.in-Some.ensures in
+    let found = ap (λ (Ps : List Parts). first_named profile Ps) (sym c.as_slice.ensures) ∙ c.in-Some.ensures in
     let faulty : (c.in-Err.fault ≡ path.OutOfMemory) ⊎ HasBadPath (reach profile c.args.path.now) c.args.contents.now.profiles c.in-Err.fault =
     elim c.in-Err.ensures.err [
       | inl e ↦ inl e

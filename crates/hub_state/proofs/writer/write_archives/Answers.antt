@@ -3,7 +3,7 @@ use Rattle.std.specs.List.{flat_map}
 use Rattle.hub_tree.specs.Tree.{Archive}
 use Rattle.hub_state.specs.State.{Text}
 use Rattle.hub_state.specs.Devices.{Passes}
-use Rattle.hub_state.specs.View.{by_text, by_two, below, pairs}
+use Rattle.hub_state.specs.View.{by_text, by_two, pairs_below, pairs}
 use Rattle.hub_state.specs.Writing.{archive_lines, joined_lines}
 use Rattle.hub_state.proofs.Maps.{AllSorted, AllSorted-push, by_two-push, sorted_texts, entries-pairs_in}
 use Rattle.hub_state.proofs.Passing.{pairs_more, passes-start, passes-step}
@@ -25,12 +25,12 @@ loop-first-preserved g c =
     let x : String Global × BTreeMap (String Global) Archive = (c.in-Some.first.now, c.in-Some.others.now) in
     let y : List ℕ = c.loop-first.text.items in
     let rows : List (Text × Archive) = by_text x.1.entries in
-    let t : List ℕ = joined_lines (flat_map archive_lines (below (string_bytes x.0) rows)) in
+    let t : List ℕ = joined_lines (flat_map archive_lines (pairs_below (string_bytes x.0) rows)) in
     let done : List ℕ = joined_lines (flat_map archive_lines (pairs (by_two es))) in
     let old = g.W.Write.contents c.loop-first.output.device in
     let new = g.W.Write.contents c.write_pairs.new.output.device in
     let z : List ℕ = c.write_pairs.new.text.items in
-    let two : Passes old new y z t = subst (λ (u : Text). Passes old new y z (joined_lines (flat_map archive_lines (below u rows)))) c.as_str.ensures.value c.in_ok-write_pairs.ensures.ok in (
+    let two : Passes old new y z t = subst (λ (u : Text). Passes old new y z (joined_lines (flat_map archive_lines (pairs_below u rows)))) c.as_str.ensures.value c.in_ok-write_pairs.ensures.ok in (
       es ++ x ∷ [],
       append_assoc es (x ∷ []) c.next.new.self ∙ ap (λ (r : List (String Global × BTreeMap (String Global) Archive)). es ++ r) (sym c.in-Some.ensures.steps) ∙ inv.1,
       passes-step (g.W.Write.contents c.args.output.now.device) old new c.args.text.now.items y y z

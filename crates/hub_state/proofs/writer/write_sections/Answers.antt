@@ -9,7 +9,7 @@ use Rattle.hub_state.specs.declared.form.Version.{Version}
 use Rattle.hub_state.specs.Devices.{Passes}
 use Rattle.hub_state.specs.State.{State, Text}
 use Rattle.hub_state.specs.View.{by_text, pairs_in}
-use Rattle.hub_state.specs.Writing.{header, end_line, blob_line, blob_lines, replica_lines, archive_lines, state_files, joined_lines, state_text}
+use Rattle.hub_state.specs.Writing.{state_header, end_line, blob_line, blob_lines, replica_lines, archive_lines, state_files, joined_lines, state_text}
 use Rattle.hub_state.proofs.Passing.{passes-start, passes-step, passes-all, text_parts}
 use Rattle.hub_state.proofs.writer.write_sections.Goals as goal
 
@@ -29,7 +29,7 @@ returns-clause-whole g c =
     let u : List ℕ = c.push.new.text.items in
     let p : List ℕ = c.push_header.new.text.items in
     let last : List ℕ = end_line ++ 10 ∷ [] in
-    let first : List ℕ = header v ++ 10 ∷ [] in
+    let first : List ℕ = state_header v ++ 10 ∷ [] in
     let bs : List ℕ = joined_lines (map blob_line (fin.entries c.args.head.now.blobs)) in
     let head : List ℕ = first ++ bs in
     let one : Passes a b x y head = passes-step a a b x x p y [] first bs head (passes-start a x) c.in_ok-push_header.ensures c.in_ok-write_blobs.ensures.ok refl in
@@ -42,8 +42,8 @@ returns-clause-whole g c =
     let same : x ++ all ≡ x ++ state_text S =
     ap (λ (t : List ℕ). x ++ t)
     (ap (λ (ls : List (List ℕ)). first ++ joined_lines ls ++ rs ++ ks ++ (last ++ [])) c.requires.blobs
-    ∙ ap (λ (es : List (Text × Replica)). joined_lines (header v ∷ blob_lines v (state_files S)) ++ joined_lines (flat_map (replica_lines v) es) ++ ks ++ (last ++ [])) (sym c.replicas.ensures)
-    ∙ ap (λ (m : fin.FinMap path_cmp Archive). joined_lines (header v ∷ blob_lines v (state_files S)) ++ joined_lines (flat_map (replica_lines v) (fin.entries S.replicas)) ++ joined_lines (flat_map archive_lines (fin.entries m)) ++ (last ++ [])) c.archives.ensures
+    ∙ ap (λ (es : List (Text × Replica)). joined_lines (state_header v ∷ blob_lines v (state_files S)) ++ joined_lines (flat_map (replica_lines v) es) ++ ks ++ (last ++ [])) (sym c.replicas.ensures)
+    ∙ ap (λ (m : fin.FinMap path_cmp Archive). joined_lines (state_header v ∷ blob_lines v (state_files S)) ++ joined_lines (flat_map (replica_lines v) (fin.entries S.replicas)) ++ joined_lines (flat_map archive_lines (fin.entries m)) ++ (last ++ [])) c.archives.ensures
     ∙ text_parts S v c.requires.version)
     in
     on_ok_weaker c.pass_on.result (λ h. subst (λ (t : List ℕ). Appends a f t) same (passes-all a e f x u all four h)) c.pass_on.ensures.ok

@@ -1,6 +1,6 @@
 use Rattle.std.proofs.Common.{◌≡◌, List, [], ◌∷◌, ◌++◌, sym, ap, ◌∙◌}
 use Rattle.std.specs.FinMap as fin
-use Rattle.hub_tree.specs.Levels.{after, left_in}
+use Rattle.hub_tree.specs.Levels.{entries_after, left_in}
 use Rattle.hub_tree.specs.Nodes.{Entries, contents_of, kids_of, replica_of}
 use Rattle.hub_tree.specs.Stored.{stored_contents}
 use Rattle.hub_tree.specs.declared.entries.Level.{Level}
@@ -32,7 +32,7 @@ returns-in-Ok-clause-step c =
     let first = first_left all c.loop-level.levels.items c.pop.new.self.items l c.in-Some-next.name.now c.in-Some-next.node.now c.next.new.self
     c.loop-level.invariant.0 c.in-Some.ensures.items c.in-Some-next.ensures.steps c.loop-level.invariant.1 in
     taken all (left_in c.enter.new.levels.items)
-    (after (l.path ++ c.in-Some-next.name.now ∷ []) (fin.entries (replica_of (kids_of c.in-Some-next.node.now))) ++ (after l.path (fin.entries (replica_of c.next.new.self)) ++ left_in c.pop.new.self.items))
+    (entries_after (l.path ++ c.in-Some-next.name.now ∷ []) (fin.entries (replica_of (kids_of c.in-Some-next.node.now))) ++ (entries_after l.path (fin.entries (replica_of c.next.new.self)) ++ left_in c.pop.new.self.items))
     (l.path ++ c.in-Some-next.name.now ∷ []) c.in-Ok.entry.0 (contents_of c.in-Some-next.node.now) (stored_contents c.in-Ok.entry.1)
     first c.in-Ok.ensures.path c.in-Ok.ensures.contents c.in-Ok.ensures.left
 

@@ -4,7 +4,7 @@ use Rattle.std.specs.Arc.{arc_value}
 use Rattle.std.proofs.lemmas.Result.{on_ok_weaker, on_err_weaker, err_from_is_err_and}
 use Rattle.hub_path.specs.Path.{Path}
 use Rattle.hub_tree.specs.Tree.{Replica, IsRefusal}
-use Rattle.hub_tree.specs.Nodes.{replica_of, entries_of, contents_of, kids_of, is_left, put_fault, with_put}
+use Rattle.hub_tree.specs.Nodes.{replica_of, children_entries, contents_of, kids_of, is_left, put_fault, with_put}
 use Rattle.hub_tree.specs.declared.fault.SetFault.{SetFault}
 use Rattle.hub_tree.specs.declared.node.Node.{Node}
 use Rattle.hub_tree.proofs.Copies.{same_replica}
@@ -70,14 +70,14 @@ put_at-returns-in-None-clause-fault t c =
 pub put_shared-returns-in_err-left-clause-fault : goal.put_shared-returns-in_err-left-clause-fault
 put_shared-returns-in_err-left-clause-fault t c =
     let same : replica_of c.in_ok-children.children.entries ≡ replica_of (arc_value c.args.shared.now).entries =
-    same_replica c.in_ok-children.children.entries (arc_value c.args.shared.now).entries (c.in_ok-children.ensures ∙ ap (λ m. entries_of m.entries) c.deref-3.ensures) in
+    same_replica c.in_ok-children.children.entries (arc_value c.args.shared.now).entries (c.in_ok-children.ensures ∙ ap (λ m. children_entries m.entries) c.deref-3.ensures) in
     let p = err_from_is_err_and c.from_residual-in_err-left.result c.from_residual-in_err-left.ensures.1 in
     rw (p.1, p.2) (subst (λ (m : Replica). IsRefusal (put_fault c.args.only_new m (drop c.args.depth c.args.path.now) c.args.contents) c.in_err-left.field-0.0) same c.in_err-left.ensures.fault)
 
 pub put_shared-returns-clause-ok : goal.put_shared-returns-clause-ok
 put_shared-returns-clause-ok t c =
     let same : replica_of c.in_ok-children.children.entries ≡ replica_of (arc_value c.args.shared.now).entries =
-    same_replica c.in_ok-children.children.entries (arc_value c.args.shared.now).entries (c.in_ok-children.ensures ∙ ap (λ m. entries_of m.entries) c.deref-3.ensures) in
+    same_replica c.in_ok-children.children.entries (arc_value c.args.shared.now).entries (c.in_ok-children.ensures ∙ ap (λ m. children_entries m.entries) c.deref-3.ensures) in
     ap (λ m. replica_of m.entries) c.in_ok-shared.ensures.ok
     ∙ c.in_ok-left.ensures.ok
     ∙ ap (λ m. with_put c.args.only_new m (drop c.args.depth c.args.path.now) c.args.contents) same
@@ -85,7 +85,7 @@ put_shared-returns-clause-ok t c =
 pub put_shared-returns-clause-left : goal.put_shared-returns-clause-left
 put_shared-returns-clause-left t c =
     let same : replica_of c.in_ok-children.children.entries ≡ replica_of (arc_value c.args.shared.now).entries =
-    same_replica c.in_ok-children.children.entries (arc_value c.args.shared.now).entries (c.in_ok-children.ensures ∙ ap (λ m. entries_of m.entries) c.deref-3.ensures) in
+    same_replica c.in_ok-children.children.entries (arc_value c.args.shared.now).entries (c.in_ok-children.ensures ∙ ap (λ m. children_entries m.entries) c.deref-3.ensures) in
     c.in_ok-left.ensures.left ∙ ap (λ m. is_left c.args.only_new m (drop c.args.depth c.args.path.now)) same
 
 pub put_below-returns-in-File-clause-fault : goal.put_below-returns-in-File-clause-fault

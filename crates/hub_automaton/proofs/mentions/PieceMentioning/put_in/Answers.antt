@@ -20,5 +20,5 @@ returns-in-OneOf-clause-ok c =
 
 pub returns-in-OneOf-clause-err : goal.returns-in-OneOf-clause-err
 returns-in-OneOf-clause-err c =
-    subst (λ (cs : List ℕ). IfErr c.put_in-in-OneOf.result (alphabet.Refuses c.args.mentioned.now.items cs)) (set_characters c.in-OneOf.set c.args.self.now c.in-OneOf.is)
+    subst (λ (cs : List ℕ). IfErr c.put_in-in-OneOf.result (alphabet.RefusesCharacters c.args.mentioned.now.items cs)) (set_characters c.in-OneOf.set c.args.self.now c.in-OneOf.is)
     c.put_in-in-OneOf.ensures.err

@@ -9,5 +9,5 @@ pub returns-in-Some-clause-err : goal.returns-in-Some-clause-err
 returns-in-Some-clause-err c =
     let n = c.args.self.now.in_name in
     let all = reading.signs n (Some []) c.args.self.now.tokens.now in
-    IfErr-weaker c.read_set.result (λ e. (e ≡ fault.OutOfMemory) ⊎ (reading.set_piece c.in-Some.set.now true ≡ Err e)) (λ e. (e ≡ fault.OutOfMemory) ⊎ reading.Faults e all)
+    IfErr-weaker c.read_set.result (λ e. (e ≡ fault.OutOfMemory) ⊎ (reading.set_piece c.in-Some.set.now true ≡ Err e)) (λ e. (e ≡ fault.OutOfMemory) ⊎ reading.BeginsWithFault e all)
     (λ e h. ⊎_elim (λ m. inl m) (λ f. inr (set_fault all (reading.signs n None c.in-Some.rest.now) c.in-Some.set.now true e (c.in-Some.ensures.split n) f)) h) c.read_set.ensures.err

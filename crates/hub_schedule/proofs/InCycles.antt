@@ -1,4 +1,4 @@
--- Rounds: what they hold, and how often.
+-- Cycles: what they hold, and how often.
 use Rattle.std.proofs.Common.{◌≡◌, ◌≤◌, ◌<◌, ◌+◌, ◌==◌, ◌≢◌, ℕ, zero, suc, Bool, true, false, cond, List, [], ◌∷◌, ◌++◌, length, min, refl, sym, ap, ◌∙◌, subst, arith}
 use Rattle.std.specs.Prelude.{All, count_by}
 use Rattle.std.specs.Prelude.{Option, Some, None, unwrap_or, slice_get}
@@ -12,7 +12,7 @@ use Rattle.hub_tree.specs.Tree.{Replica}
 use Rattle.hub_tree.specs.declared.contents.Contents.{Contents}
 use Rattle.hub_state.specs.State.{State, replica_at}
 use Rattle.hub_job.specs.Outcome.{replicas_of}
-use Rattle.hub_schedule.specs.Table.{whole_rounds}
+use Rattle.hub_schedule.specs.Table.{whole_cycles}
 use Rattle.hub_schedule.specs.Simulated.{AllHaveEnough, turns_enough, turns_of}
 use Rattle.std.proofs.lemmas.List.{append_assoc}
 use Rattle.std.proofs.lemmas.List.FromFn.{length-range_with_len, get_or-range_with_len}
@@ -21,12 +21,12 @@ use borrow.Author.Tests.{eqb-true}
 use Rattle.std.proofs.lemmas.List.Elements.{All-append}
 use Rattle.std.proofs.lemmas.List.Sums.{sum_by-append}
 
-pub round_more : (old now : List ℕ) (n : ℕ) → now ≡ old ++ range_with_len 0 n → now ++ n ∷ [] ≡ old ++ range_with_len 0 (n + 1)
-round_more old now n e = ap (λ r. r ++ n ∷ []) e ∙ append_assoc old (range_with_len 0 n) (n ∷ []) ∙ ap (λ r. old ++ r) (sym (range-more n))
+pub cycle_more : (old now : List ℕ) (n : ℕ) → now ≡ old ++ range_with_len 0 n → now ++ n ∷ [] ≡ old ++ range_with_len 0 (n + 1)
+cycle_more old now n e = ap (λ r. r ++ n ∷ []) e ∙ append_assoc old (range_with_len 0 n) (n ∷ []) ∙ ap (λ r. old ++ r) (sym (range-more n))
 
--- Each number of a round is below the number of jobs.
-pub all_round : (k : ℕ) → All (λ j. j < k) (range_with_len 0 k)
-all_round k i d h =
+-- Each number of a cycle is below the number of jobs.
+pub all_cycle : (k : ℕ) → All (λ j. j < k) (range_with_len 0 k)
+all_cycle k i d h =
     let below : i < k = subst (λ n. i < n) (length-range_with_len 0 k) h in
     subst (λ x. x < k) (sym (get_or-range_with_len 0 k i d below)) (omega arith)
 
@@ -52,8 +52,8 @@ count_from j a (suc n) h k =
     count_next j a (range_with_len (a + 1) n)
     ∙ count_step j a n (λ other. count_from j (a + 1) n (omega arith) (omega arith)) h (a == j) refl
 
-pub count_round : (j n : ℕ) → j < n → count_by (λ i. i == j) (range_with_len 0 n) ≡ 1
-count_round j n h = count_from j 0 n (omega arith) (omega arith)
+pub count_cycle : (j n : ℕ) → j < n → count_by (λ i. i == j) (range_with_len 0 n) ≡ 1
+count_cycle j n h = count_from j 0 n (omega arith) (omega arith)
 
 pub count_both : (j : ℕ) (xs ys : List ℕ) → count_by (λ i. i == j) (xs ++ ys) ≡ count_by (λ i. i == j) xs + count_by (λ i. i == j) ys
 count_both j xs ys = sum_by-append (λ i. cond (i == j) 1 0) xs ys
@@ -71,33 +71,33 @@ len_missing S r e = sym (fin.len-empty path_cmp Contents) ∙ ap there e
 pub counted : (n len : ℕ) → n ≡ min len 18446744073709551615 → n ≢ 18446744073709551615 → n ≡ len
 counted n len e other = omega arith
 
--- So many whole rounds.
-pub record AreRounds (jobs rounds : ℕ) (schedule : List ℕ) : Type 0 where
+-- So many whole cycles.
+pub record AreCycles (jobs cycles : ℕ) (schedule : List ℕ) : Type 0 where
   pub numbers : All (λ j. j < jobs) schedule
-  pub counts : (j : ℕ) → j < jobs → turns_of j schedule ≡ rounds
+  pub counts : (j : ℕ) → j < jobs → turns_of j schedule ≡ cycles
 
-pub no_rounds : (jobs : ℕ) → AreRounds jobs 0 []
-no_rounds jobs = record { numbers = λ i d h. absurd (omega arith); counts = λ j h. refl }
+pub no_cycles : (jobs : ℕ) → AreCycles jobs 0 []
+no_cycles jobs = record { numbers = λ i d h. absurd (omega arith); counts = λ j h. refl }
 
-pub one_more : (jobs rounds : ℕ) (old new : List ℕ) → AreRounds jobs rounds old → new ≡ old ++ range_with_len 0 jobs → AreRounds jobs (rounds + 1) new
-one_more jobs rounds old new are e = record {
-  numbers = subst (λ s. All (λ j. j < jobs) s) (sym e) (All-append (λ j. j < jobs) old (range_with_len 0 jobs) are.numbers (all_round jobs));
-  counts = λ j h. ap (λ s. turns_of j s) e ∙ count_both j old (range_with_len 0 jobs) ∙ (let a = are.counts j h in let b = count_round j jobs h in omega arith);
+pub one_more : (jobs cycles : ℕ) (old new : List ℕ) → AreCycles jobs cycles old → new ≡ old ++ range_with_len 0 jobs → AreCycles jobs (cycles + 1) new
+one_more jobs cycles old new are e = record {
+  numbers = subst (λ s. All (λ j. j < jobs) s) (sym e) (All-append (λ j. j < jobs) old (range_with_len 0 jobs) are.numbers (all_cycle jobs));
+  counts = λ j h. ap (λ s. turns_of j s) e ∙ count_both j old (range_with_len 0 jobs) ∙ (let a = are.counts j h in let b = count_cycle j jobs h in omega arith);
 }
 
-pub enough : (S : State) (Ps : List Parts) (rounds : ℕ) (schedule : List ℕ) → AreRounds (length Ps) rounds schedule
-    → ((j : ℕ) (P : Parts) → slice_get Ps j ≡ Some P → turns_enough S P ≤ rounds) → AllHaveEnough S Ps schedule
-enough S Ps rounds schedule are most j P e = subst (λ n. turns_enough S P ≤ n) (sym (are.counts j (slice_get_within Ps j P e))) (most j P e)
+pub enough : (S : State) (Ps : List Parts) (cycles : ℕ) (schedule : List ℕ) → AreCycles (length Ps) cycles schedule
+    → ((j : ℕ) (P : Parts) → slice_get Ps j ≡ Some P → turns_enough S P ≤ cycles) → AllHaveEnough S Ps schedule
+enough S Ps cycles schedule are most j P e = subst (λ n. turns_enough S P ≤ n) (sym (are.counts j (slice_get_within Ps j P e))) (most j P e)
 
--- Whole rounds.
-pub whole_below : (n rounds : ℕ) → All (λ j. j < n) (whole_rounds n rounds)
+-- Whole cycles.
+pub whole_below : (n cycles : ℕ) → All (λ j. j < n) (whole_cycles n cycles)
 whole_below n zero = λ i d h. absurd (omega arith)
-whole_below n (suc rounds) = All-append (λ j. j < n) (range_with_len 0 n) (whole_rounds n rounds) (all_round n) (whole_below n rounds)
+whole_below n (suc cycles) = All-append (λ j. j < n) (range_with_len 0 n) (whole_cycles n cycles) (all_cycle n) (whole_below n cycles)
 
-pub whole_counts : (n rounds j : ℕ) → j < n → turns_of j (whole_rounds n rounds) ≡ rounds
+pub whole_counts : (n cycles j : ℕ) → j < n → turns_of j (whole_cycles n cycles) ≡ cycles
 whole_counts n zero j h = refl
-whole_counts n (suc rounds) j h =
-    count_both j (range_with_len 0 n) (whole_rounds n rounds) ∙ (let a = count_round j n h in let b = whole_counts n rounds j h in omega arith)
+whole_counts n (suc cycles) j h =
+    count_both j (range_with_len 0 n) (whole_cycles n cycles) ∙ (let a = count_cycle j n h in let b = whole_counts n cycles j h in omega arith)
 
-pub whole_enough : (S : State) (Ps : List Parts) (rounds : ℕ) → ((j : ℕ) (P : Parts) → slice_get Ps j ≡ Some P → turns_enough S P ≤ rounds) → AllHaveEnough S Ps (whole_rounds (length Ps) rounds)
-whole_enough S Ps rounds most j P e = subst (λ n. turns_enough S P ≤ n) (sym (whole_counts (length Ps) rounds j (slice_get_within Ps j P e))) (most j P e)
+pub whole_enough : (S : State) (Ps : List Parts) (cycles : ℕ) → ((j : ℕ) (P : Parts) → slice_get Ps j ≡ Some P → turns_enough S P ≤ cycles) → AllHaveEnough S Ps (whole_cycles (length Ps) cycles)
+whole_enough S Ps cycles most j P e = subst (λ n. turns_enough S P ≤ n) (sym (whole_counts (length Ps) cycles j (slice_get_within Ps j P e))) (most j P e)

@@ -1,8 +1,8 @@
 use Rattle.std.proofs.Common.{◌∙◌}
 use Rattle.std.specs.FinMap as fin
-use Rattle.hub_schedule.proofs.InRounds.{counted, len_missing, len_there}
-use Rattle.hub_schedule.proofs.rounds.entries_at.Goals as goal
-use Rattle.hub_schedule.proofs.rounds.entries_at.Goals.{in-Some, in-None}
+use Rattle.hub_schedule.proofs.InCycles.{counted, len_missing, len_there}
+use Rattle.hub_schedule.proofs.cycles.entries_at.Goals as goal
+use Rattle.hub_schedule.proofs.cycles.entries_at.Goals.{in-Some, in-None}
 
 pub returns-else-count : goal.returns-else-count
 returns-else-count c =

@@ -5,7 +5,7 @@ use Rattle.std.specs.List.{flat_map}
 use Rattle.std.proofs.lemmas.List.{length-append, length-map}
 use Rattle.hub_glob.specs.declared.piece.Piece.{Piece}
 use Rattle.hub_automaton.specs.declared.alternatives.Alternatives.{Alternatives}
-use Rattle.hub_automaton.specs.Spots.{spots, looked_at, spots_of, is_below, is_matched, spots_count, starts, Unpacked, unpacked, Seen, seen, Progress, progress}
+use Rattle.hub_automaton.specs.Spots.{spots, looked_at, spots_of, is_matched_above, is_matched, spots_count, starts, Unpacked, unpacked, Seen, seen, SpotsSeen, spots_seen}
 use Rattle.hub_automaton.specs.Stepping.{matched_each}
 use Rattle.hub_automaton.specs.Words.{words_for, packed_by, packed}
 use Rattle.hub_automaton.proofs.Steps.{length-spots}
@@ -34,28 +34,28 @@ sets_same [] t u h = refl
 sets_same (c ∷ cs) t u h =
     let w = split (spots c t) (flat_map (λ d. spots d t) cs) (spots c u) (flat_map (λ d. spots d u) cs) (same_length c t u) h in λ i. w.0 i ∷ sets_same cs t u w.1 i
 
-all_same : (ls : List Alternatives) (t u : List ℕ) → flat_map (λ a. spots_of a t) ls ≡ flat_map (λ a. spots_of a u) ls → map (λ a. is_below a t) ls ≡ map (λ a. is_below a u) ls
-    → map (progress t) ls ≡ map (progress u) ls
+all_same : (ls : List Alternatives) (t u : List ℕ) → flat_map (λ a. spots_of a t) ls ≡ flat_map (λ a. spots_of a u) ls → map (λ a. is_matched_above a t) ls ≡ map (λ a. is_matched_above a u) ls
+    → map (spots_seen t) ls ≡ map (spots_seen u) ls
 all_same [] t u h k = refl
 all_same (a ∷ ls) t u h k =
     let w = split (spots_of a t) (flat_map (λ b. spots_of b t) ls) (spots_of a u) (flat_map (λ b. spots_of b u) ls)
     (length-flat a.choices (looked_at a.kind t) (looked_at a.kind u)) h in
-    let first : is_below a t ≡ is_below a u = cc in
-    let rest : map (λ b. is_below b t) ls ≡ map (λ b. is_below b u) ls = cc in
+    let first : is_matched_above a t ≡ is_matched_above a u = cc in
+    let rest : map (λ b. is_matched_above b t) ls ≡ map (λ b. is_matched_above b u) ls = cc in
     let sets = sets_same a.choices (looked_at a.kind t) (looked_at a.kind u) w.0 in
-    λ i. (let p : Progress = record { sets = sets i; below = first i } in p) ∷ all_same ls t u w.1 rest i
+    λ i. (let p : SpotsSeen = record { sets = sets i; below = first i } in p) ∷ all_same ls t u w.1 rest i
 
 flat-sets : (cs : List (List Piece)) (t : List ℕ) → flat_map (λ c. spots c t) cs ≡ flat_map (λ s. s) (map (λ c. spots c t) cs)
 flat-sets [] t = refl
 flat-sets (c ∷ cs) t = ap (λ s. spots c t ++ s) (flat-sets cs t)
 
-live_of : (ls : List Alternatives) (t : List ℕ) → flat_map (λ a. spots_of a t) ls ≡ flat_map (λ (p : Progress). flat_map (λ s. s) p.sets) (map (progress t) ls)
+live_of : (ls : List Alternatives) (t : List ℕ) → flat_map (λ a. spots_of a t) ls ≡ flat_map (λ (p : SpotsSeen). flat_map (λ s. s) p.sets) (map (spots_seen t) ls)
 live_of [] t = refl
 live_of (a ∷ ls) t = λ i. flat-sets a.choices (looked_at a.kind t) i ++ live_of ls t i
 
-below_of : (ls : List Alternatives) (t : List ℕ) → map (λ a. is_below a t) ls ≡ map (λ (p : Progress). p.below) (map (progress t) ls)
+below_of : (ls : List Alternatives) (t : List ℕ) → map (λ a. is_matched_above a t) ls ≡ map (λ (p : SpotsSeen). p.below) (map (spots_seen t) ls)
 below_of [] t = refl
-below_of (a ∷ ls) t = ap (λ bs. is_below a t ∷ bs) (below_of ls t)
+below_of (a ∷ ls) t = ap (λ bs. is_matched_above a t ∷ bs) (below_of ls t)
 
 -- Texts of which the same is kept.
 pub length-live : (ls : List Alternatives) (t : List ℕ) → length (unpacked ls t).live ≡ spots_count ls
@@ -72,7 +72,7 @@ same_unpacked ls t u h =
     let a = unpacked ls t in
     let b = unpacked ls u in
     let many : length a.live ≡ length b.live = length-live ls t ∙ sym (length-live ls u) in
-    let flags : length a.below ≡ length b.below = length-map ls (λ c. is_below c t) ∙ sym (length-map ls (λ c. is_below c u)) in
+    let flags : length a.below ≡ length b.below = length-map ls (λ c. is_matched_above c t) ∙ sym (length-map ls (λ c. is_matched_above c u)) in
     let words : length (packed a.live) ≡ length (packed b.live) =
     length-packed (words_for (length a.live)) a.live ∙ ap words_for many ∙ sym (length-packed (words_for (length b.live)) b.live) in
     let w = split (packed a.live) (packed a.below) (packed b.live) (packed b.below) words (ap (λ (s : Seen). s.row) h) in
@@ -80,14 +80,14 @@ same_unpacked ls t u h =
     let below = same_bits a.below b.below flags w.1 in
     λ i. let s : Unpacked = record { live = live i; below = below i; start = ap (λ (s : Seen). s.start) h i } in s
 
-pub same_progress : (ls : List Alternatives) (t u : List ℕ) → (seen ls t ≡ seen ls u) ↔ ((map (progress t) ls ≡ map (progress u) ls) × (starts true t ≡ starts true u))
+pub same_progress : (ls : List Alternatives) (t u : List ℕ) → (seen ls t ≡ seen ls u) ↔ ((map (spots_seen t) ls ≡ map (spots_seen u) ls) × (starts true t ≡ starts true u))
 same_progress ls t u = (
   λ h.
       let e = same_unpacked ls t u h in
       (all_same ls t u (ap (λ (s : Unpacked). s.live) e) (ap (λ (s : Unpacked). s.below) e), ap (λ (s : Unpacked). s.start) e),
   λ w.
-      let live = live_of ls t ∙ ap (flat_map (λ (p : Progress). flat_map (λ s. s) p.sets)) w.0 ∙ sym (live_of ls u) in
-      let below = below_of ls t ∙ ap (map (λ (p : Progress). p.below)) w.0 ∙ sym (below_of ls u) in
+      let live = live_of ls t ∙ ap (flat_map (λ (p : SpotsSeen). flat_map (λ s. s) p.sets)) w.0 ∙ sym (live_of ls u) in
+      let below = below_of ls t ∙ ap (map (λ (p : SpotsSeen). p.below)) w.0 ∙ sym (below_of ls u) in
       λ i. let s : Seen = record { row = packed (live i) ++ packed (below i); start = w.1 i } in s,
 )
 

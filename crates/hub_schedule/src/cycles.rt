@@ -1,4 +1,4 @@
-//! Schedules of rounds.
+//! Schedules of cycles.
 ghost use Rattle.std.specs.Prelude.{◌≡◌, ◌≤◌, ◌<◌, ◌⊎◌, map, IfErr, ℕ, All, Some, IfSome, length, slice_get, ◌++◌, IfOk, OnOk};
 ghost use Rattle.std.specs.List.{range_with_len};
 ghost use Rattle.std.specs.FinMap as fin;
@@ -7,10 +7,10 @@ ghost use Rattle.hub_job.specs.Outcome.{replicas_of};
 ghost use Rattle.hub_cert.specs.Set.{forbidden_by};
 ghost use Rattle.hub_schedule.specs.Refusals.{LacksReplica};
 ghost use Rattle.hub_schedule.specs.Simulated.{AllHaveEnough, HaveEnded, IsPromised, turns_enough};
-ghost use Rattle.hub_schedule.specs.Table.{IsInRounds};
+ghost use Rattle.hub_schedule.specs.Table.{IsInCycles};
 
 use crate::promise::{schedules_give_logs_alone, schedules_keep_the_promise, schedules_settle};
-use crate::schedule::simulate_rounds;
+use crate::schedule::simulate_cycles;
 use hub_cert::Verified;
 use hub_job::{Outcome, RunFault};
 use hub_path::Root;
@@ -18,11 +18,11 @@ use hub_profile::Profile;
 use hub_state::State;
 use std::alloc::{AllocError, Global};
 
-/// Runs the jobs of a set in rounds, until each of them is finished or stopped.
+/// Runs the jobs of a set in cycles, until each of them is finished or stopped.
 ///
 /// The fault is `MissingReplica` with the first root that the state has no replica for, in the order of the profiles, the
 /// left root of each first; or `OutOfMemory`, which may come at any point.
-pub fn run_rounds(
+pub fn run_cycles(
     alloc: Global,
     verified: &Verified<'_>,
     state: &State,
@@ -30,7 +30,7 @@ pub fn run_rounds(
     ensures promise { IfOk result (IsPromised state.now verified.now.profiles
         (map forbidden_by verified.now.rules)) }
     ensures ended { IfOk result (λ o. HaveEnded o.jobs) }
-    ensures rounds { IfOk result (IsInRounds state.now verified.now.profiles) }
+    ensures cycles { IfOk result (IsInCycles state.now verified.now.profiles) }
     ensures refused { IfErr result (λ e. (e ≡ RunFault.OutOfMemory) ⊎ LacksReplica state.now
         verified.now.profiles e) }
 {
@@ -38,18 +38,18 @@ pub fn run_rounds(
     schedules_keep_the_promise();
     schedules_settle();
     let profiles = verified.set().profiles();
-    let Some(rounds) = most_turns(profiles, state) else {
+    let Some(cycles) = most_turns(profiles, state) else {
         return Err(RunFault::OutOfMemory);
     };
-    simulate_rounds(alloc, profiles, state, rounds)
+    simulate_cycles(alloc, profiles, state, cycles)
 }
 
-/// A schedule of rounds: in each of them each job has one turn, in the order of the profiles. There are as many rounds as
+/// A schedule of cycles: in each of them each job has one turn, in the order of the profiles. There are as many cycles as
 /// a synchronization of any of the profiles can take: four for each kept value, and three for each entry of the
 /// profile's two replicas.
 ///
 /// Out of memory is reported for a schedule that doesn't fit.
-pub fn rounds_for(
+pub fn cycles_for(
     alloc: Global,
     profiles: &[Profile],
     state: &State,
@@ -57,18 +57,18 @@ pub fn rounds_for(
     ensures numbers { IfOk result (λ v. All (λ j. j < length profiles.now) v.items) }
     ensures enough { IfOk result (λ v. AllHaveEnough state.now profiles.now v.items) }
 {
-    let Some(rounds) = most_turns(profiles, state) else {
+    let Some(cycles) = most_turns(profiles, state) else {
         return Err(AllocError);
     };
     let mut schedule = Vec::new(alloc);
-    for _ in 0..rounds {
-        push_round(&mut schedule, profiles.len())?;
+    for _ in 0..cycles {
+        push_cycle(&mut schedule, profiles.len())?;
     }
     Ok(schedule)
 }
 
 /// Gives each job one more turn.
-fn push_round(schedule: &mut Vec<usize>, jobs: usize) -> Result<(), AllocError>
+fn push_cycle(schedule: &mut Vec<usize>, jobs: usize) -> Result<(), AllocError>
     ensures { OnOk result (schedule.new.items ≡ schedule.old.items ++ range_with_len 0 jobs) }
 {
     for job in 0..jobs {

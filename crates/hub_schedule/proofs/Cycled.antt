@@ -1,4 +1,4 @@
--- Enough rounds end all jobs, and only a missing replica or memory keeps them from being run.
+-- Enough cycles end all jobs, and only a missing replica or memory keeps them from being run.
 use Rattle.std.proofs.Common.{◌≡◌, ◌≤◌, ◌<◌, ◌⊎◌, inl, inr, List, length, Some, Result, Ok, Err, IfOk, IfErr, refl, sym, ◌∙◌, subst, arith}
 use Rattle.std.specs.Prelude.{ℕ, All, slice_get}
 use Rattle.std.proofs.lemmas.Option.{get_or_from_slice_get, slice_get_within}
@@ -10,7 +10,7 @@ use Rattle.hub_job.specs.declared.run_fault.RunFault.{RunFault}
 use Rattle.hub_job.specs.declared.run_fault.RunFault.TheVariants as fault
 use Rattle.hub_job.specs.Outcome.{IsSimulated}
 use Rattle.hub_schedule.specs.Refusals.{IsUnrun, LacksReplica}
-use Rattle.hub_schedule.specs.Table.{IsInRounds, whole_rounds}
+use Rattle.hub_schedule.specs.Table.{IsInCycles, whole_cycles}
 use Rattle.hub_schedule.specs.Simulated.{AllHaveEnough, EnoughTurnsEnd, HaveEnded, TurnsSuffice, turns_of}
 use Rattle.hub_schedule.specs.Laws.Lists.{as_long}
 use Rattle.hub_schedule.proofs.Simulation.{if_both}
@@ -56,6 +56,6 @@ pub only_lacks : (S : State) (Ps : List Parts) (js : List ℕ) (r : Result Outco
 only_lacks S Ps js (Ok o) numbers h = h
 only_lacks S Ps js (Err e) numbers h = lacks S Ps js e numbers h
 
-pub in_rounds : (S : State) (Ps : List Parts) (rounds : ℕ) (r : Result Outcome RunFault) → IfOk r (IsSimulated S Ps (whole_rounds (length Ps) rounds)) → IfOk r (IsInRounds S Ps)
-in_rounds S Ps rounds (Ok o) h = (rounds, h)
-in_rounds S Ps rounds (Err e) h = h
+pub in_cycles : (S : State) (Ps : List Parts) (cycles : ℕ) (r : Result Outcome RunFault) → IfOk r (IsSimulated S Ps (whole_cycles (length Ps) cycles)) → IfOk r (IsInCycles S Ps)
+in_cycles S Ps cycles (Ok o) h = (cycles, h)
+in_cycles S Ps cycles (Err e) h = h

@@ -2,7 +2,7 @@ use Rattle.std.proofs.Common.{◌≡◌, ◌<◌, ◌≤◌, ℕ, Some}
 use Rattle.std.specs.Prelude.{slice_get}
 use Rattle.hub_profile.specs.Parts.{Parts}
 use Rattle.hub_schedule.specs.Simulated.{turns_enough}
-use Rattle.hub_schedule.proofs.rounds.most_turns.Given as goal
+use Rattle.hub_schedule.proofs.cycles.most_turns.Given as goal
 
 abbrev pub invariant-loop-profile : goal.invariant-loop-profile
 invariant-loop-profile l =

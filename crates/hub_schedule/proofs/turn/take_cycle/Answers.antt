@@ -3,8 +3,8 @@ use Rattle.std.specs.List.{range_with_len}
 use Rattle.std.proofs.lemmas.Bool.{false≢true}
 use Rattle.hub_schedule.specs.Table.{Taken}
 use Rattle.hub_schedule.proofs.Thinned.{all_turns_left, idle_more, no_turns_left, none_idle, taken_more, taken_same, turns_left}
-use Rattle.hub_schedule.proofs.turn.take_round.Goals as goal
-use Rattle.hub_schedule.proofs.turn.take_round.Goals.{then-take_turn, else-take_turn}
+use Rattle.hub_schedule.proofs.turn.take_cycle.Goals as goal
+use Rattle.hub_schedule.proofs.turn.take_cycle.Goals.{then-take_turn, else-take_turn}
 
 pub loop-number-init : goal.loop-number-init
 loop-number-init c =

@@ -149,10 +149,10 @@ alphabet-with ms c s a few = record {
 pub with_there : (ms : List ℕ) (c : ℕ) → is_mentioned ms c ≡ true → ms ≡ with_character ms c
 with_there ms c h = ap (λ b. cond b ms (inserted ms c)) (sym (or_right (is_never_mentioned c) (is_mentioned ms c) h))
 
-pub with_new : (ms : List ℕ) (c : ℕ) → is_never_mentioned c ≡ false → is_mentioned ms c ≡ false → inserted ms c ≡ with_character ms c
+with_new : (ms : List ℕ) (c : ℕ) → is_never_mentioned c ≡ false → is_mentioned ms c ≡ false → inserted ms c ≡ with_character ms c
 with_new ms c h k = λ i. cond (sym h i || sym k i) ms (inserted ms c)
 
-pub length-with_new : (ms : List ℕ) (c : ℕ) → is_never_mentioned c ≡ false → is_mentioned ms c ≡ false → length (with_character ms c) ≡ length ms + 1
+length-with_new : (ms : List ℕ) (c : ℕ) → is_never_mentioned c ≡ false → is_mentioned ms c ≡ false → length (with_character ms c) ≡ length ms + 1
 length-with_new ms c h k = ap length (sym (with_new ms c h k)) ∙ length-placed ms c
 
 pub still_mentioned-all : (ms cs : List ℕ) (x : ℕ) → is_mentioned ms x ≡ true → is_mentioned (with_characters ms cs) x ≡ true
@@ -229,6 +229,12 @@ missing ms xs c i e a h =
     let s = searched xs c (Err i) h (subst (λ ns. (k j : ℕ) → k ≤ j → j < length ns → get_or ns k 0 ≤ get_or ns j 0) (sym e) (does_not_fall ms a)) in
     let P : List ℕ → Type 0 = λ ns. (i ≤ length ns) × ((k : ℕ) → k < i → get_or ns k 0 < c) × ((k : ℕ) → i ≤ k → k < length ns → c < get_or ns k 0) in
     let t : P ms = subst P e s in (not_mentioned ms i c t.1 t.2, placed_at ms i c t.0 t.1 t.2)
+
+-- A character that isn't found is put where it comes in the order.
+pub put_new : (ms xs : List ℕ) (c i : ℕ) → xs ≡ ms → ascends ms ≡ true → is_never_mentioned c ≡ false → IsBinarySearchResult (λ y. nat_cmp y c) xs (Err i)
+    → (insert ms i c ≡ with_character ms c) × (length (with_character ms c) ≡ length ms + 1)
+put_new ms xs c i e a kept h =
+    let m = missing ms xs c i e a h in (m.1 ∙ with_new ms c kept m.0, length-with_new ms c kept m.0)
 
 -- The first character from `a` on that isn't mentioned, found by going through those that are.
 abbrev pub free_from : ℕ → List ℕ → ℕ

@@ -1,11 +1,12 @@
 -- Lists gone through from the front: what is done already, and what is left to do, make the whole.
-use Rattle.std.proofs.Common.{◌≡◌, ℕ, suc, zero, ◌+◌, ◌≤◌, Bool, false, List, [], ◌∷◌, ◌++◌, map, length, drop, refl, sym, ap, ◌∙◌, append-nil, append_assoc}
-use Rattle.std.specs.Prelude.{slice_index_or}
-use Rattle.std.specs.List.{flat_map}
+use Rattle.std.proofs.Common.{◌≡◌, ℕ, suc, zero, ◌+◌, ◌<◌, ◌≤◌, Bool, false, List, [], ◌∷◌, ◌++◌, length, drop, get_or, refl, sym, ap, ◌∙◌, subst, append-nil, append_assoc, Result}
+use Rattle.std.specs.Prelude.{IfOk, slice_index_or}
 use Rattle.std.proofs.lemmas.List.{drop_all, get_or-drop}
 use Rattle.hub_glob.specs.declared.piece.Piece.{Piece}
+use Rattle.hub_text.specs.ListLaws.{next-drop}
 use Rattle.hub_text.specs.TestLaws.{tail}
 use Rattle.hub_automaton.specs.Stepping.{last_spot, ended_matches}
+use Rattle.hub_automaton.specs.Words.{packed}
 
 -- The tests behind the first one, from a place on.
 pub drop-of_tail : (n : ℕ) (bs : List Bool) → drop n (tail bs) ≡ drop (suc n) bs
@@ -13,23 +14,22 @@ drop-of_tail zero [] = refl
 drop-of_tail (suc n) [] = refl
 drop-of_tail n (b ∷ bs) = refl
 
--- A list made part by part.
-pub flat_step : {X : Type 0} (f : X → List Bool) (xs : List X) (i : ℕ) (x : X) (new more whole : List Bool) → drop i xs ≡ x ∷ drop (i + 1) xs
-    → more ≡ new ++ f x → new ++ flat_map f (drop i xs) ≡ whole → more ++ flat_map f (drop (i + 1) xs) ≡ whole
-flat_step f xs i x new more whole d m h =
-    ap (λ l. l ++ flat_map f (drop (i + 1) xs)) m ∙ append_assoc new (f x) (flat_map f (drop (i + 1) xs)) ∙ ap (λ ys. new ++ flat_map f ys) (sym d) ∙ h
+-- A list made part by part: what is made, and what the rest makes, are the whole.
+pub rest_step : {X Y : Type 0} (g h : List X → List Y) (xs : List X) (i : ℕ) (x : X) (part new more whole : List Y) → i < length xs → x ≡ get_or xs i x
+    → g (x ∷ drop (i + 1) xs) ≡ part ++ h (drop (i + 1) xs) → more ≡ new ++ part → new ++ g (drop i xs) ≡ whole → more ++ h (drop (i + 1) xs) ≡ whole
+rest_step g h xs i x part new more whole l is e m k =
+    let rest = h (drop (i + 1) xs) in
+    ap (λ ys. ys ++ rest) m ∙ append_assoc new part rest ∙ ap (λ ys. new ++ ys) (sym e) ∙ ap (λ ys. new ++ g ys) (sym (next-drop xs i x l is)) ∙ k
 
-pub flat_end : {X : Type 0} (f : X → List Bool) (xs : List X) (i : ℕ) (new whole : List Bool) → length xs ≤ i → new ++ flat_map f (drop i xs) ≡ whole → new ≡ whole
-flat_end f xs i new whole l h = sym (append-nil new) ∙ ap (λ ys. new ++ flat_map f ys) (sym (drop_all i xs l)) ∙ h
+pub rest_end : {X Y : Type 0} (g : List X → List Y) (xs : List X) (i : ℕ) (new whole : List Y) → g [] ≡ [] → length xs ≤ i → new ++ g (drop i xs) ≡ whole → new ≡ whole
+rest_end g xs i new whole e l k =
+    sym (append-nil new) ∙ ap (λ ys. new ++ ys) (sym e) ∙ ap (λ ys. new ++ g ys) (sym (drop_all i xs l)) ∙ k
 
-pub map_step : {X Y : Type 0} (f : X → Y) (xs : List X) (i : ℕ) (x : X) (y : Y) (new more whole : List Y) → drop i xs ≡ x ∷ drop (i + 1) xs
-    → y ≡ f x → more ≡ new ++ y ∷ [] → new ++ map f (drop i xs) ≡ whole → more ++ map f (drop (i + 1) xs) ≡ whole
-map_step f xs i x y new more whole d e m h =
-    ap (λ l. l ++ map f (drop (i + 1) xs)) m ∙ append_assoc new (y ∷ []) (map f (drop (i + 1) xs)) ∙ ap (λ z. new ++ z ∷ map f (drop (i + 1) xs)) e
-    ∙ ap (λ ys. new ++ map f ys) (sym d) ∙ h
-
-pub map_end : {X Y : Type 0} (f : X → Y) (xs : List X) (i : ℕ) (new whole : List Y) → length xs ≤ i → new ++ map f (drop i xs) ≡ whole → new ≡ whole
-map_end f xs i new whole l h = sym (append-nil new) ∙ ap (λ ys. new ++ map f ys) (sym (drop_all i xs l)) ∙ h
+-- The same where what is made is packed at the end.
+pub rest_packed : {X E : Type 0} (g : List X → List Bool) (xs : List X) (i : ℕ) (new whole bits : List Bool) (r : Result (List ℕ) E) → g [] ≡ [] → length xs ≤ i
+    → new ++ g (drop i xs) ≡ whole → bits ≡ new → IfOk r (λ ws. ws ≡ packed bits) → IfOk r (λ ws. ws ≡ packed whole)
+rest_packed g xs i new whole bits r e l k same h =
+    subst (λ (bs : List Bool). IfOk r (λ ws. ws ≡ packed bs)) (same ∙ rest_end g xs i new whole e l k) h
 
 -- Whether a choice has ended, by its last spot.
 pub last_is : (here : Bool) (c : List Piece) (old : List Bool) → last_spot here c old ≡ slice_index_or (here ∷ old) (length c) false

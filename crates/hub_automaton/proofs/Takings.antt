@@ -1,11 +1,12 @@
 -- Masks of takers that are made position by position.
-use Rattle.std.proofs.Common.{◌≡◌, ◌≢◌, ℕ, zero, suc, ◌+◌, ◌<◌, ◌==◌, inl, inr, Bool, true, false, not, ◌&&◌, ◌||◌, cond, List, [], ◌∷◌, ◌++◌, map, length, refl, sym, ap, ◌∙◌, arith, append_assoc, append-nil, length-append}
+use Rattle.std.proofs.Common.{◌≡◌, ◌≢◌, ℕ, zero, suc, ◌+◌, ◌<◌, ◌≤◌, ◌==◌, inl, inr, Bool, true, false, not, ◌&&◌, ◌||◌, cond, List, [], ◌∷◌, ◌++◌, map, length, drop, get_or, refl, sym, ap, ◌∙◌, subst, arith, append_assoc, append-nil, length-append}
 use Rattle.std.specs.Prelude.{Some, None, slice_index, slice_index_or, slice_set}
 use Rattle.std.specs.List.{list_any}
 use Rattle.std.proofs.Math.Bool.{and-false, or-false}
 use Rattle.std.proofs.lemmas.Bool.{cases_eq}
 use Rattle.std.proofs.lemmas.Bool.Decides.{nat_tests}
-use Rattle.std.proofs.lemmas.List.{length-map, length-set, get_or-set_same, get_or-set_other}
+use Rattle.std.proofs.lemmas.List.{drop_all, length-map, length-set, get_or-set_same, get_or-set_other}
+use Rattle.hub_text.specs.ListLaws.{next-drop}
 use Rattle.hub_glob.specs.declared.piece.Piece.{Piece}
 use Rattle.hub_glob.specs.declared.piece.Piece.TheVariants.{Lit, Any, Run, OneOf}
 use Rattle.hub_glob.specs.declared.path_spec.Kind.{Kind}
@@ -202,11 +203,16 @@ taken_as ms old new place kind p ds e h =
     taken_same ms old new place f f (λ c. (masks_piece (begun c) kind p || is_among ds c) ∷ []) (λ c. masks_piece (mask.Takers c) kind p ∷ []) (λ c. refl)
     (λ c. ap (λ b. b ∷ []) (e c)) (h (λ c. masks_piece (begun c) kind p))
 
-pub lit_taken : (ms : List ℕ) (old new : List (List ℕ)) (place : ℕ) (kind : Kind) (d : ℕ) → TakenFor ms old new place (d ∷ []) → PieceTaken ms old new place kind (Lit d)
-lit_taken ms old new place kind d h = taken_as ms old new place kind (Lit d) (d ∷ []) (lit_is kind d) h
+pub lit_taken : (ms : List ℕ) (old new : List (List ℕ)) (place : ℕ) (kind : Kind) (p : Piece) (d : ℕ) → p ≡ Lit d → TakenFor ms old new place (d ∷ [])
+    → PieceTaken ms old new place kind p
+lit_taken ms old new place kind p d is h =
+    subst (λ q. PieceTaken ms old new place kind q) (sym is) (taken_as ms old new place kind (Lit d) (d ∷ []) (lit_is kind d) h)
 
-pub set_taken : (ms : List ℕ) (old new : List (List ℕ)) (place : ℕ) (kind : Kind) (ds : List ℕ) → TakenFor ms old new place ds → PieceTaken ms old new place kind (OneOf ds)
-set_taken ms old new place kind ds h = taken_as ms old new place kind (OneOf ds) ds (set_is kind ds) h
+pub set_taken : (ms : List ℕ) (old new : List (List ℕ)) (place : ℕ) (kind : Kind) (p : Piece) (ds es : List ℕ) → p ≡ OneOf ds → es ≡ ds → TakenFor ms old new place es
+    → PieceTaken ms old new place kind p
+set_taken ms old new place kind p ds es is same h =
+    subst (λ q. PieceTaken ms old new place kind q) (sym is)
+    (taken_as ms old new place kind (OneOf ds) ds (set_is kind ds) (subst (λ fs. TakenFor ms old new place fs) same h))
 
 pub any_taken : (ms : List ℕ) (takers : List (List ℕ)) (place : ℕ) (kind : Kind) → PieceTaken ms takers takers place kind Any
 any_taken ms takers place kind =
@@ -217,7 +223,7 @@ run_taken ms takers place kind =
     taken_none ms takers place (λ c. masks_piece (begun c) kind Run ∷ []) (λ c. masks_piece (mask.Takers c) kind Run ∷ []) (λ k l. ap (λ b. b ∷ []) (run_is kind (sample ms k)))
 
 -- Pieces, choices and specifications, one after another.
-pub nothing_taken : (ms : List ℕ) (takers : List (List ℕ)) (place : ℕ) → AreTaken ms takers takers place (λ c. []) (λ c. [])
+nothing_taken : (ms : List ℕ) (takers : List (List ℕ)) (place : ℕ) → AreTaken ms takers takers place (λ c. []) (λ c. [])
 nothing_taken ms takers place = taken_none ms takers place (λ c. []) (λ c. []) (λ k l. refl)
 
 abbrev pub PiecesTaken : List ℕ → List (List ℕ) → List (List ℕ) → ℕ → Kind → List Piece → Type 0
@@ -232,11 +238,17 @@ ChoicesTaken ms old new place kind cs = AreTaken ms old new place (λ c. mask_ch
 abbrev pub AllTaken : List ℕ → List (List ℕ) → List (List ℕ) → ℕ → List Alternatives → Type 0
 AllTaken ms old new place ls = AreTaken ms old new place (λ c. mask_all (begun c) ls) (λ c. mask_all (mask.Takers c) ls)
 
-pub pieces_next : (ms : List ℕ) (old mid new : List (List ℕ)) (place next : ℕ) (kind : Kind) (p : Piece) (ps : List Piece) → place + 1 ≡ next
-    → PieceTaken ms old mid place kind p → PiecesTaken ms mid new next kind ps → PiecesTaken ms old new place kind (p ∷ ps)
-pieces_next ms old mid new place next kind p ps e a b =
-    taken_next ms old mid new place 1 next (λ c. masks_piece (begun c) kind p ∷ []) (λ c. masks_piece (mask.Takers c) kind p ∷ [])
-    (λ c. map (masks_piece (begun c) kind) ps) (λ c. map (masks_piece (mask.Takers c) kind) ps) e (λ c. refl) a b
+-- A list goes on with the item at a place, and ends behind the last one.
+pub pieces_next : (ms : List ℕ) (old mid new : List (List ℕ)) (place next : ℕ) (kind : Kind) (ps : List Piece) (i : ℕ) (p : Piece) → i < length ps → p ≡ get_or ps i p
+    → place + 1 ≡ next → PieceTaken ms old mid place kind p → PiecesTaken ms mid new next kind (drop (i + 1) ps) → PiecesTaken ms old new place kind (drop i ps)
+pieces_next ms old mid new place next kind ps i p l is e a b =
+    let rest = drop (i + 1) ps in
+    subst (λ qs. PiecesTaken ms old new place kind qs) (sym (next-drop ps i p l is))
+    (taken_next ms old mid new place 1 next (λ c. masks_piece (begun c) kind p ∷ []) (λ c. masks_piece (mask.Takers c) kind p ∷ [])
+    (λ c. map (masks_piece (begun c) kind) rest) (λ c. map (masks_piece (mask.Takers c) kind) rest) e (λ c. refl) a b)
+
+pub pieces_end : (ms : List ℕ) (takers : List (List ℕ)) (place : ℕ) (kind : Kind) (ps : List Piece) (i : ℕ) → length ps ≤ i → PiecesTaken ms takers takers place kind (drop i ps)
+pieces_end ms takers place kind ps i l = subst (λ qs. PiecesTaken ms takers takers place kind qs) (sym (drop_all i ps l)) (nothing_taken ms takers place)
 
 pub choice_begins : (ms : List ℕ) (old new : List (List ℕ)) (place next : ℕ) (kind : Kind) (ps : List Piece) → place + 1 ≡ next
     → PiecesTaken ms old new next kind ps → ChoiceTaken ms old new place kind ps
@@ -245,17 +257,30 @@ choice_begins ms old new place next kind ps e h =
     (λ c. map (masks_piece (begun c) kind) ps) (λ c. map (masks_piece (mask.Takers c) kind) ps) e (λ c. refl)
     (taken_none ms old place (λ c. masks_start (begun c) kind ∷ []) (λ c. false ∷ []) (λ k l. ap (λ b. b ∷ []) (start_is kind (sample ms k)))) h
 
-pub choices_next : (ms : List ℕ) (old mid new : List (List ℕ)) (place next : ℕ) (kind : Kind) (ps : List Piece) (cs : List (List Piece)) → place + (length ps + 1) ≡ next
-    → ChoiceTaken ms old mid place kind ps → ChoicesTaken ms mid new next kind cs → ChoicesTaken ms old new place kind (ps ∷ cs)
-choices_next ms old mid new place next kind ps cs e a b =
-    taken_next ms old mid new place (length ps + 1) next (λ c. mask_choice (begun c) kind ps) (λ c. mask_choice (mask.Takers c) kind ps)
-    (λ c. mask_choices (begun c) kind cs) (λ c. mask_choices (mask.Takers c) kind cs) e (λ c. length-mask_choice (mask.Takers c) kind ps) a b
+pub choices_next : (ms : List ℕ) (old mid new : List (List ℕ)) (place next : ℕ) (kind : Kind) (cs : List (List Piece)) (i : ℕ) (c ps : List Piece) → i < length cs → c ≡ get_or cs i c
+    → ps ≡ c → place + (length ps + 1) ≡ next → ChoiceTaken ms old mid place kind ps → ChoicesTaken ms mid new next kind (drop (i + 1) cs)
+    → ChoicesTaken ms old new place kind (drop i cs)
+choices_next ms old mid new place next kind cs i c ps l is same e a b =
+    let rest = drop (i + 1) cs in
+    subst (λ ds. ChoicesTaken ms old new place kind ds) (ap (λ d. d ∷ rest) same ∙ sym (next-drop cs i c l is))
+    (taken_next ms old mid new place (length ps + 1) next (λ x. mask_choice (begun x) kind ps) (λ x. mask_choice (mask.Takers x) kind ps)
+    (λ x. mask_choices (begun x) kind rest) (λ x. mask_choices (mask.Takers x) kind rest) e (λ x. length-mask_choice (mask.Takers x) kind ps) a b)
 
-pub all_next : (ms : List ℕ) (old mid new : List (List ℕ)) (place next : ℕ) (a : Alternatives) (ls : List Alternatives) → place + spot_count a.choices ≡ next
-    → ChoicesTaken ms old mid place a.kind a.choices → AllTaken ms mid new next ls → AllTaken ms old new place (a ∷ ls)
-all_next ms old mid new place next a ls e h more =
-    taken_next ms old mid new place (spot_count a.choices) next (λ c. mask_choices (begun c) a.kind a.choices) (λ c. mask_choices (mask.Takers c) a.kind a.choices)
-    (λ c. mask_all (begun c) ls) (λ c. mask_all (mask.Takers c) ls) e (λ c. length-mask_choices (mask.Takers c) a.kind a.choices) h more
+pub choices_end : (ms : List ℕ) (takers : List (List ℕ)) (place : ℕ) (kind : Kind) (cs : List (List Piece)) (i : ℕ) → length cs ≤ i → ChoicesTaken ms takers takers place kind (drop i cs)
+choices_end ms takers place kind cs i l = subst (λ ds. ChoicesTaken ms takers takers place kind ds) (sym (drop_all i cs l)) (nothing_taken ms takers place)
+
+pub all_next : (ms : List ℕ) (old mid new : List (List ℕ)) (place next : ℕ) (ls : List Alternatives) (i : ℕ) (a : Alternatives) (cs : List (List Piece)) → i < length ls → a ≡ get_or ls i a
+    → cs ≡ a.choices → place + spot_count cs ≡ next → ChoicesTaken ms old mid place a.kind cs → AllTaken ms mid new next (drop (i + 1) ls) → AllTaken ms old new place (drop i ls)
+all_next ms old mid new place next ls i a cs l is same e h more =
+    let rest = drop (i + 1) ls in
+    let own = subst (λ ds. ChoicesTaken ms old mid place a.kind ds) same h in
+    subst (λ ks. AllTaken ms old new place ks) (sym (next-drop ls i a l is))
+    (taken_next ms old mid new place (spot_count a.choices) next (λ x. mask_choices (begun x) a.kind a.choices) (λ x. mask_choices (mask.Takers x) a.kind a.choices)
+    (λ x. mask_all (begun x) rest) (λ x. mask_all (mask.Takers x) rest) (ap (λ ds. place + spot_count ds) (sym same) ∙ e)
+    (λ x. length-mask_choices (mask.Takers x) a.kind a.choices) own more)
+
+pub all_end : (ms : List ℕ) (takers : List (List ℕ)) (place : ℕ) (ls : List Alternatives) (i : ℕ) → length ls ≤ i → AllTaken ms takers takers place (drop i ls)
+all_end ms takers place ls i l = subst (λ ks. AllTaken ms takers takers place ks) (sym (drop_all i ls l)) (nothing_taken ms takers place)
 
 -- All masks.
 map_get : (f : ℕ → List ℕ) (xs : List ℕ) (k : ℕ) → k < length xs → slice_index_or (map f xs) k [] ≡ f (slice_index xs k)

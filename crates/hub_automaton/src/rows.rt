@@ -1,33 +1,31 @@
 //! Rows of words moved on by a character: first each word without the position before it, so that a processor moves several
 //! at once, and then those words again that the position before them goes on into.
-ghost use Rattle.std.specs.Prelude.{◌≡◌, ◌<◌, ◌≤◌, [], length, drop, min, if◌then◌else◌, IsTrue};
-ghost use Rattle.hub_automaton.specs.Masks.{moved_row};
+ghost use Rattle.std.specs.Prelude.{◌≡◌, ◌<◌, ◌≤◌, length, drop, min, IsTrue};
 ghost use Rattle.hub_automaton.specs.Rows as rows;
-ghost use Rattle.hub_automaton.specs.Rows.{AreMovedApart, AreMoved, AreTakenAlike, NoneCarried};
+ghost use Rattle.hub_automaton.specs.Rows.{AreTakenAlike, IsMoved, IsMovedApart, IsSized, NoneCarried};
 
 use crate::words::{Masks, WORD_BITS, moved_word};
 
+/// How the words of a row move on by a character: whether a `*` accepts it, whether positions are entered, and the masks of
+/// each word.
+#[derive(Clone, Copy)]
+pub(crate) struct RowStep<'a> {
+    pub(crate) stays: bool,
+    pub(crate) enters: bool,
+    pub(crate) entries: &'a [u64],
+    pub(crate) stars: &'a [u64],
+    pub(crate) takers: &'a [u64],
+}
+
 /// Makes `new` the row `old` with its first words moved on by a character, as many as the masks have.
-///
-/// `stays` says whether a `*` accepts the character, and `enters` whether positions are entered.
-pub(crate) fn move_row(
-    new: &mut [u64],
-    old: &[u64],
-    stays: bool,
-    enters: bool,
-    entries: &[u64],
-    stars: &[u64],
-    takers: &[u64],
-)
+pub(crate) fn move_row(step: &RowStep<'_>, new: &mut [u64], old: &[u64])
     requires row { length new.old ≡ length old.now }
-    requires entries { length entries.now ≡ length stars.now }
-    requires takers { length takers.now ≡ length stars.now }
-    ensures { new.new ≡ moved_row stays (if enters then entries.now else [])
-        stars.now takers.now old.now }
+    requires sized { IsSized step.now }
+    ensures { new.new ≡ rows.moved_by step.now old.now }
 {
-    copy_after(new, old, stars.len().min(old.len()));
-    if move_apart(new, old, stays, enters, entries, stars, takers) != 0 {
-        carry_on(new, old, stays, enters, entries, stars, takers);
+    copy_after(new, old, step.stars.len().min(old.len()));
+    if move_apart(step, new, old) != 0 {
+        carry_on(step, new, old);
     }
 }
 
@@ -47,31 +45,20 @@ fn copy_after(new: &mut [u64], old: &[u64], place: usize)
 }
 
 /// Moves each word without the position before it. The result is 0 if no position goes on into the word after it.
-fn move_apart(
-    new: &mut [u64],
-    old: &[u64],
-    stays: bool,
-    enters: bool,
-    entries: &[u64],
-    stars: &[u64],
-    takers: &[u64],
-) -> u64
+fn move_apart(step: &RowStep<'_>, new: &mut [u64], old: &[u64]) -> u64
     requires row { length new.old ≡ length old.now }
-    requires entries { length entries.now ≡ length stars.now }
-    requires takers { length takers.now ≡ length stars.now }
-    ensures apart { AreMovedApart stays (if enters then entries.now else []) stars.now takers.now
-        old.now new.new (min (length stars.now) (length old.now)) }
-    ensures after { let n = min (length stars.now) (length old.now)
-        in drop n new.new ≡ drop n new.old }
+    requires sized { IsSized step.now }
+    ensures apart { IsMovedApart step.now old.now new.new }
+    ensures after { let n = rows.moved_count step.now old.now in drop n new.new ≡ drop n new.old }
     ensures none { result ≡ 0
-        → NoneCarried stars.now new.new (min (length stars.now) (length old.now)) }
+        → NoneCarried step.now.stars.now new.new (rows.moved_count step.now old.now) }
 {
     let mut here = 0;
     let mut before = 0;
     let mut carried = 0;
-    for i in 0..stars.len().min(old.len()) {
-        let masks = masks_at(i, enters, entries, stars, takers);
-        let word = moved_word(masks, stays, old[i], here, 0);
+    for i in 0..step.stars.len().min(old.len()) {
+        let masks = masks_at(step, i);
+        let word = moved_word(masks, step.stays, old[i], here, 0);
         carried |= masks.stars & before;
         here = old[i] >> (WORD_BITS - 1);
         before = word >> (WORD_BITS - 1);
@@ -81,32 +68,32 @@ fn move_apart(
 }
 
 /// Moves those words again that the position before them goes on into.
-fn carry_on(
-    new: &mut [u64],
-    old: &[u64],
-    stays: bool,
-    enters: bool,
-    entries: &[u64],
-    stars: &[u64],
-    takers: &[u64],
-)
+fn carry_on(step: &RowStep<'_>, new: &mut [u64], old: &[u64])
     requires row { length new.old ≡ length old.now }
-    requires entries { length entries.now ≡ length stars.now }
-    requires takers { length takers.now ≡ length stars.now }
-    requires apart { AreMovedApart stays (if enters then entries.now else []) stars.now takers.now
-        old.now new.old (min (length stars.now) (length old.now)) }
-    ensures moved { AreMoved stays (if enters then entries.now else []) stars.now takers.now
-        old.now new.new (min (length stars.now) (length old.now)) }
-    ensures after { let n = min (length stars.now) (length old.now)
-        in drop n new.new ≡ drop n new.old }
+    requires sized { IsSized step.now }
+    requires apart { IsMovedApart step.now old.now new.old }
+    ensures moved { IsMoved step.now old.now new.new }
+    ensures after { let n = rows.moved_count step.now old.now in drop n new.new ≡ drop n new.old }
 {
-    for i in 1..stars.len().min(old.len()) {
+    for i in 1..step.stars.len().min(old.len()) {
         let before = new[i - 1] >> (WORD_BITS - 1);
-        if stars[i] & before != 0 {
-            let masks = masks_at(i, enters, entries, stars, takers);
+        if step.stars[i] & before != 0 {
             let here = old[i - 1] >> (WORD_BITS - 1);
-            new[i] = moved_word(masks, stays, old[i], here, before);
+            new[i] = moved_word(masks_at(step, i), step.stays, old[i], here, before);
         }
+    }
+}
+
+/// The masks of a word.
+fn masks_at(step: &RowStep<'_>, i: usize) -> Masks
+    requires place { i < length step.now.stars.now }
+    requires sized { IsSized step.now }
+    ensures { result ≡ rows.masks_of step.now i }
+{
+    Masks {
+        entries: if step.enters { step.entries[i] } else { 0 },
+        stars: step.stars[i],
+        takers: step.takers[i],
     }
 }
 
@@ -126,18 +113,4 @@ pub(crate) fn takes_alike(row: &[u64], takers: &[u64], others: &[u64]) -> bool
         here = row[i] >> (WORD_BITS - 1);
     }
     true
-}
-
-/// The masks of a word.
-fn masks_at(i: usize, enters: bool, entries: &[u64], stars: &[u64], takers: &[u64]) -> Masks
-    requires place { i < length stars.now }
-    requires entries { length entries.now ≡ length stars.now }
-    requires takers { length takers.now ≡ length stars.now }
-    ensures { result ≡ rows.masks_at (if enters then entries.now else []) stars.now takers.now i }
-{
-    Masks {
-        entries: if enters { entries[i] } else { 0 },
-        stars: stars[i],
-        takers: takers[i],
-    }
 }

@@ -1,9 +1,9 @@
 //! Bits in words, and how positions move word by word when a text gets one more character.
-ghost use Rattle.std.specs.Prelude.{◌≡◌, ◌≤◌, ◌++◌, [], length, take, drop, if◌then◌else◌, IfOk, OnOk, IsOk};
+ghost use Rattle.std.specs.Prelude.{◌≡◌, ◌≤◌, ◌++◌, length, take, drop, IfOk, OnOk, IsOk};
 ghost use Rattle.hub_automaton.specs.Words as words;
-ghost use Rattle.hub_automaton.specs.Masks.{moved_row};
+ghost use Rattle.hub_automaton.specs.Rows.{IsSized, moved_by};
 
-use crate::rows::move_row;
+use crate::rows::{RowStep, move_row};
 use std::alloc::{AllocError, Global};
 use std::cmp::Ordering;
 use std::hash::{Hash, Hasher};
@@ -87,25 +87,12 @@ impl Words {
     }
 
     /// Makes the words those of the row `old` with the first words moved on by a character, as many as the masks have.
-    ///
-    /// `stays` says whether a `*` accepts the character, and `enters` whether positions are entered.
-    pub(crate) fn move_from(
-        &mut self,
-        old: &Words,
-        stays: bool,
-        enters: bool,
-        entries: &[u64],
-        stars: &[u64],
-        takers: &[u64],
-    )
+    pub(crate) fn move_from(&mut self, old: &Words, step: &RowStep<'_>)
         requires row { length self.old ≡ length old.now }
-        requires entries { length entries.now ≡ length stars.now }
-        requires takers { length takers.now ≡ length stars.now }
-        ensures { self.new ≡ moved_row stays (if enters then entries.now else [])
-            stars.now takers.now old.now }
+        requires sized { IsSized step.now }
+        ensures { self.new ≡ moved_by step.now old.now }
     {
-        let new = self.words.as_mut_slice();
-        move_row(new, old.as_slice(), stays, enters, entries, stars, takers);
+        move_row(step, self.words.as_mut_slice(), old.as_slice());
     }
 }
 

@@ -1,9 +1,7 @@
-use Rattle.std.proofs.Common.{◌≡◌, ◌++◌, sym, ap, ◌∙◌, append-nil, Bool, List, subst}
-use Rattle.std.specs.Prelude.{IfOk}
-use Rattle.std.proofs.lemmas.List.{drop_all}
+use Rattle.std.proofs.Common.{refl}
 use Rattle.hub_automaton.specs.Ends.{end_flags}
-use Rattle.hub_automaton.specs.Words.{packed}
 use Rattle.hub_automaton.proofs.Endings.{flags_step}
+use Rattle.hub_automaton.proofs.Loops.{rest_packed}
 use Rattle.hub_automaton.proofs.ends.range_flags.Goals as goal
 
 pub loop-i-preserved : goal.loop-i-preserved
@@ -13,7 +11,5 @@ loop-i-preserved c =
 
 pub returns : goal.returns
 returns c =
-    let ls = c.args.alternatives.now in
-    let flags = c.loop-i.flags.items in
-    let all = sym (append-nil flags) ∙ ap (λ ks. flags ++ end_flags c.args.from c.args.to c.loop-i.i ks) (sym (drop_all c.loop-i.i ls c.loop-i-test.false)) ∙ c.loop-i.invariant in
-    subst (λ (bs : List Bool). IfOk c.pack.result (λ ws. ws ≡ packed bs)) (c.as_slice.ensures.value ∙ all) c.pack.ensures
+    rest_packed (end_flags c.args.from c.args.to c.loop-i.i) c.args.alternatives.now c.loop-i.i c.loop-i.flags.items _ _ c.pack.result refl c.loop-i-test.false c.loop-i.invariant
+    c.as_slice.ensures.value c.pack.ensures

@@ -1,7 +1,6 @@
-use Rattle.std.proofs.Common.{◌++◌, [], ◌∷◌, Bool, List, map, ap, ◌∙◌, append_assoc}
-use Rattle.hub_text.specs.ListLaws.{next-drop}
-use Rattle.hub_automaton.specs.Masks.{mask_choice, masks_piece}
-use Rattle.hub_automaton.proofs.Loops.{map_step, map_end}
+use Rattle.std.proofs.Common.{◌++◌, [], ◌∷◌, Bool, List, map, refl, ap, ◌∙◌, append_assoc}
+use Rattle.hub_automaton.specs.Masks.{masks_piece}
+use Rattle.hub_automaton.proofs.Loops.{rest_step, rest_end}
 use Rattle.hub_automaton.proofs.masks.mask_choice.Goals as goal
 
 pub loop-piece-init : goal.loop-piece-init
@@ -13,14 +12,11 @@ loop-piece-init c =
 pub loop-piece-preserved : goal.loop-piece-preserved
 loop-piece-preserved c =
     let f = masks_piece c.args.mask c.args.kind in
-    let ps = c.args.choice.now in
-    let i = c.loop-piece.piece-index in
     let p = c.piece-item.result in
-    map_step f ps i p c.masks_piece.result c.loop-piece.bits.items c.push-in-loop-piece.new.self.items (c.args.bits.now.items ++ mask_choice c.args.mask c.args.kind ps)
-    (next-drop ps i p c.loop-piece-test.true c.piece-item.is) c.masks_piece.ensures c.in_ok-push-2.ensures.items c.loop-piece.invariant
+    let old = c.loop-piece.bits.items in
+    rest_step (map f) (map f) c.args.choice.now c.loop-piece.piece-index p (f p ∷ []) old _ _ c.loop-piece-test.true c.piece-item.is refl
+    (c.in_ok-push-2.ensures.items ∙ ap (λ b. old ++ b ∷ []) c.masks_piece.ensures) c.loop-piece.invariant
 
 pub returns : goal.returns
 returns c =
-    let f = masks_piece c.args.mask c.args.kind in
-    let ps = c.args.choice.now in
-    map_end f ps c.loop-piece.piece-index c.loop-piece.bits.items (c.args.bits.now.items ++ mask_choice c.args.mask c.args.kind ps) c.loop-piece-test.false c.loop-piece.invariant
+    rest_end (map (masks_piece c.args.mask c.args.kind)) c.args.choice.now c.loop-piece.piece-index c.loop-piece.bits.items _ refl c.loop-piece-test.false c.loop-piece.invariant

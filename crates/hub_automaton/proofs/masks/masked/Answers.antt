@@ -1,26 +1,18 @@
-use Rattle.std.proofs.Common.{◌≡◌, ◌++◌, ap, ◌∙◌, Bool, List, subst}
-use Rattle.std.specs.Prelude.{IfOk}
-use Rattle.hub_text.specs.ListLaws.{next-drop}
-use Rattle.hub_automaton.specs.declared.alternatives.Alternatives.{Alternatives}
+use Rattle.std.proofs.Common.{◌++◌, refl, ap, ◌∙◌}
 use Rattle.hub_automaton.specs.Masks.{mask_all, mask_choices}
-use Rattle.hub_automaton.specs.Words.{packed}
-use Rattle.hub_automaton.proofs.Loops.{flat_step, flat_end}
+use Rattle.hub_automaton.proofs.Loops.{rest_step, rest_packed}
 use Rattle.hub_automaton.proofs.masks.masked.Goals as goal
 
 pub loop-one-preserved : goal.loop-one-preserved
 loop-one-preserved c =
-    let m = c.args.mask in
-    let ls = c.args.alternatives.now in
-    let i = c.loop-one.one-index in
+    let g = mask_all c.args.mask in
     let a = c.one-item.result in
+    let f = mask_choices c.args.mask a.kind in
     let old = c.loop-one.bits.items in
-    flat_step (λ (b : Alternatives). mask_choices m b.kind b.choices) ls i a old c.mask_choices.new.bits.items (mask_all m ls)
-    (next-drop ls i a c.loop-one-test.true c.one-item.is) (c.in_ok-mask_choices.ensures ∙ ap (λ cs. old ++ mask_choices m a.kind cs) c.as_slice.ensures)
-    c.loop-one.invariant
+    rest_step g g c.args.alternatives.now c.loop-one.one-index a (f a.choices) old _ _ c.loop-one-test.true c.one-item.is refl
+    (c.in_ok-mask_choices.ensures ∙ ap (λ cs. old ++ f cs) c.as_slice.ensures) c.loop-one.invariant
 
 pub returns : goal.returns
 returns c =
-    let m = c.args.mask in
-    let ls = c.args.alternatives.now in
-    let all = flat_end (λ (b : Alternatives). mask_choices m b.kind b.choices) ls c.loop-one.one-index c.loop-one.bits.items (mask_all m ls) c.loop-one-test.false c.loop-one.invariant in
-    subst (λ (bs : List Bool). IfOk c.pack.result (λ ws. ws ≡ packed bs)) (c.as_slice-2.ensures.value ∙ all) c.pack.ensures
+    rest_packed (mask_all c.args.mask) c.args.alternatives.now c.loop-one.one-index c.loop-one.bits.items _ _ c.pack.result refl c.loop-one-test.false c.loop-one.invariant
+    c.as_slice-2.ensures.value c.pack.ensures

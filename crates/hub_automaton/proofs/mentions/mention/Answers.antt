@@ -1,17 +1,16 @@
-use Rattle.std.proofs.Common.{◌≡◌, ◌<◌, ◌∙◌, sym, ap, subst, inr, refl, length, arith}
+use Rattle.std.proofs.Common.{◌<◌, ◌∙◌, sym, ap, subst, inr, refl, length, arith}
 use Rattle.hub_automaton.specs.Alphabet.{with_character, IsAlphabet}
 use Rattle.hub_automaton.specs.declared.alphabet.TheConstants.{MENTIONED_CHARACTERS}
-use Rattle.hub_automaton.proofs.Alphabets.{found, missing, mentioned_at, with_there, with_new, length-with_new, alphabet-with}
+use Rattle.hub_automaton.proofs.Alphabets.{found, put_new, mentioned_at, with_there, alphabet-with}
 use Rattle.hub_automaton.proofs.mentions.mention.Goals as goal
 
 pub returns-then-len-ge-MENTIONED_CHARACTERS-clause-err : goal.returns-then-len-ge-MENTIONED_CHARACTERS-clause-err
 returns-then-len-ge-MENTIONED_CHARACTERS-clause-err c =
     let ms = c.args.mentioned.now.items in
     let x = c.args.character in
-    let m = missing ms c.deref.result.now x c.in-Err.place c.deref.ensures.value c.requires.ascends c.in-Err.ensures.position in
-    let n = length-with_new ms x (sym c.if-is_left_out.ensures) m.0 in
-    let same = ap length c.deref.ensures.value in
-    let many : MENTIONED_CHARACTERS < length (with_character ms x) = omega (arith, n, same, c.deref.ensures.len, c.len.ensures, c.if-len-ge-MENTIONED_CHARACTERS.true) in
+    let m = put_new ms c.deref.result.now x c.in-Err.place c.deref.ensures.value c.requires.ascends (sym c.if-is_left_out.ensures) c.in-Err.ensures.position in
+    let many : MENTIONED_CHARACTERS < length (with_character ms x) =
+    omega (arith, m.1, ap length c.deref.ensures.value, c.deref.ensures.len, c.len.ensures, c.if-len-ge-MENTIONED_CHARACTERS.true) in
     inr (refl, many)
 
 pub returns-in-Ok-clause-ok : goal.returns-in-Ok-clause-ok
@@ -22,17 +21,14 @@ returns-in-Ok-clause-ok c =
 
 pub returns-in_ok-insert-in-Err-clause-ok : goal.returns-in_ok-insert-in-Err-clause-ok
 returns-in_ok-insert-in-Err-clause-ok c =
-    let ms = c.args.mentioned.now.items in
-    let m = missing ms c.deref.result.now c.args.character c.in-Err.place c.deref.ensures.value c.requires.ascends c.in-Err.ensures.position in
-    c.in_ok-insert-in-Err.ensures.items ∙ m.1 ∙ with_new ms c.args.character (sym c.if-is_left_out.ensures) m.0
+    let m = put_new c.args.mentioned.now.items c.deref.result.now c.args.character c.in-Err.place c.deref.ensures.value c.requires.ascends (sym c.if-is_left_out.ensures) c.in-Err.ensures.position in
+    c.in_ok-insert-in-Err.ensures.items ∙ m.0
 
 pub returns-in_ok-insert-in-Err-clause-alphabet : goal.returns-in_ok-insert-in-Err-clause-alphabet
 returns-in_ok-insert-in-Err-clause-alphabet c =
     let ms = c.args.mentioned.now.items in
     let x = c.args.character in
-    let m = missing ms c.deref.result.now x c.in-Err.place c.deref.ensures.value c.requires.ascends c.in-Err.ensures.position in
-    let n = length-with_new ms x (sym c.if-is_left_out.ensures) m.0 in
-    let same = ap length c.deref.ensures.value in
-    let e : c.insert.new.self.items ≡ with_character ms x = c.in_ok-insert-in-Err.ensures.items ∙ m.1 ∙ with_new ms x (sym c.if-is_left_out.ensures) m.0 in
-    subst IsAlphabet (sym e)
-    (alphabet-with ms x c.ranges.character.0 c.requires (omega (arith, n, same, c.deref.ensures.len, c.len.ensures, c.if-len-ge-MENTIONED_CHARACTERS.false)))
+    let m = put_new ms c.deref.result.now x c.in-Err.place c.deref.ensures.value c.requires.ascends (sym c.if-is_left_out.ensures) c.in-Err.ensures.position in
+    subst IsAlphabet (sym (c.in_ok-insert-in-Err.ensures.items ∙ m.0))
+    (alphabet-with ms x c.ranges.character.0 c.requires
+    (omega (arith, m.1, ap length c.deref.ensures.value, c.deref.ensures.len, c.len.ensures, c.if-len-ge-MENTIONED_CHARACTERS.false)))

@@ -1,8 +1,8 @@
-use Rattle.std.proofs.Common.{[], length, min, if◌then◌else◌}
+use Rattle.hub_automaton.specs.Rows.{entered_by, moved_count}
 use Rattle.hub_automaton.proofs.RowMoves.{Apart}
 use Rattle.hub_automaton.proofs.rows.move_apart.Given as goal
 
 abbrev pub invariant-loop-i : goal.invariant-loop-i
 invariant-loop-i l =
-    Apart l.stays (if l.enters then l.entries else []) l.stars l.takers l.old l.initial.new l.new
-    (min (length l.stars) (length l.old)) l.i l.here l.before l.carried
+    Apart l.step.stays (entered_by l.step) l.step.stars.now l.step.takers.now l.old l.initial.new l.new (moved_count l.step l.old) l.i
+    l.here l.before l.carried

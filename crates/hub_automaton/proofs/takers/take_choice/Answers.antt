@@ -1,8 +1,6 @@
-use Rattle.std.proofs.Common.{◌+◌, ◌∙◌, drop, subst, sym, arith}
-use Rattle.std.proofs.lemmas.List.{drop_all}
-use Rattle.hub_text.specs.ListLaws.{next-drop}
+use Rattle.std.proofs.Common.{◌+◌, ◌∙◌, arith}
 use Rattle.hub_glob.specs.declared.path_spec.Kind.TheVariants as kinds
-use Rattle.hub_automaton.proofs.Takings.{PiecesTaken, choice_begins, nothing_taken, pieces_next}
+use Rattle.hub_automaton.proofs.Takings.{choice_begins, pieces_end, pieces_next}
 use Rattle.hub_automaton.proofs.takers.take_choice.Goals as goal
 
 pub loop-i-init : goal.loop-i-init
@@ -13,28 +11,17 @@ loop-i-init c = (
 
 pub loop-i-preserved : goal.loop-i-preserved
 loop-i-preserved c =
-    let ms = c.args.alphabet.now in
-    let choice = c.args.choice.now in
     let i = c.loop-i.i in
     let here = c.args.place + 1 + i in
     let next = c.args.place + 1 + (i + 1) in
-    let p = c.index-choice-i.result in
-    let cur = c.loop-i.takers in
-    let mid = c.take_piece.new.takers in
-    let one = c.take_piece.ensures kinds.Path in
-    let at = next-drop choice i p c.loop-i-test.true c.index-choice-i.is in (
-      one.many ∙ c.loop-i.invariant.0,
+    let one = c.take_piece.ensures in (
+      (one kinds.Path).many ∙ c.loop-i.invariant.0,
       λ kind new h. c.loop-i.invariant.1 kind new
-          (subst (λ ps. PiecesTaken ms cur new here kind ps) (sym at)
-          (pieces_next ms cur mid new here next kind p (drop (i + 1) choice) (omega arith) (c.take_piece.ensures kind) h)),
+          (pieces_next c.args.alphabet.now c.loop-i.takers c.take_piece.new.takers new here next kind c.args.choice.now i c.index-choice-i.result c.loop-i-test.true c.index-choice-i.is (omega arith)
+          (one kind) h),
     )
 
 pub returns : goal.returns
 returns c = λ kind.
-    let ms = c.args.alphabet.now in
-    let choice = c.args.choice.now in
     let i = c.loop-i.i in
-    let here = c.args.place + 1 + i in
-    let cur = c.loop-i.takers in
-    let end = drop_all i choice c.loop-i-test.false in
-    c.loop-i.invariant.1 kind cur (subst (λ ps. PiecesTaken ms cur cur here kind ps) (sym end) (nothing_taken ms cur here))
+    c.loop-i.invariant.1 kind c.loop-i.takers (pieces_end c.args.alphabet.now c.loop-i.takers (c.args.place + 1 + i) kind c.args.choice.now i c.loop-i-test.false)

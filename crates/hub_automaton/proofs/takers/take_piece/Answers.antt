@@ -1,20 +1,9 @@
-use Rattle.std.proofs.Common.{subst, sym}
-use Rattle.hub_automaton.proofs.Takings.{PieceTaken, TakenFor, lit_taken, set_taken}
+use Rattle.hub_automaton.proofs.Takings.{lit_taken, set_taken}
 use Rattle.hub_automaton.proofs.takers.take_piece.Goals as goal
 
 pub returns-in-Lit : goal.returns-in-Lit
-returns-in-Lit c = λ kind.
-    let ms = c.args.alphabet.now in
-    let old = c.args.takers.now in
-    let new = c.take_character.new.takers in
-    let place = c.args.place in
-    subst (λ p. PieceTaken ms old new place kind p) (sym c.in-Lit.is) (lit_taken ms old new place kind c.in-Lit.character c.take_character.ensures)
+returns-in-Lit c = λ kind. lit_taken c.args.alphabet.now c.args.takers.now c.take_character.new.takers c.args.place kind c.args.piece.now c.in-Lit.character c.in-Lit.is c.take_character.ensures
 
 pub returns-in-OneOf : goal.returns-in-OneOf
 returns-in-OneOf c = λ kind.
-    let ms = c.args.alphabet.now in
-    let old = c.args.takers.now in
-    let new = c.take_set.new.takers in
-    let place = c.args.place in
-    let h = subst (λ ds. TakenFor ms old new place ds) c.as_slice.ensures c.take_set.ensures in
-    subst (λ p. PieceTaken ms old new place kind p) (sym c.in-OneOf.is) (set_taken ms old new place kind c.in-OneOf.set h)
+    set_taken c.args.alphabet.now c.args.takers.now c.take_set.new.takers c.args.place kind c.args.piece.now c.in-OneOf.set c.as_slice.result.now c.in-OneOf.is c.as_slice.ensures c.take_set.ensures

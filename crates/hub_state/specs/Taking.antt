@@ -70,9 +70,8 @@ replica_begun a r =
     unless (is_some (replica_at (closed a.state a.current) r)) Repeated
     (Ok (record a { state = closed a.state a.current; current = opened.Replica r fin.empty }))
 
-abbrev pub archive_begun : Draft → Path → Result Draft Fault
-archive_begun a r =
-    Ok (record a { state = closed a.state a.current; current = opened.HalfArchive r })
+abbrev pub with_half_open : Draft → Path → Draft
+with_half_open a r = record a { state = closed a.state a.current; current = opened.HalfArchive r }
 
 abbrev pub with_pair_open : Draft → Path → Path → Draft
 with_pair_open a r s = record a { current = opened.Archive r s fin.empty }
@@ -120,11 +119,12 @@ blob_named_put m p blob =
 abbrev pub mark_put : Archive → Path → Mark → Result Archive Fault
 mark_put a p m = unless (is_some (fin.get a p)) Repeated (Ok (fin.insert a p m))
 
-abbrev pub dir_put : ℕ → Replica → Path → Result Replica Fault
-dir_put n t p = unless (nat_le ENTRIES n) TooLarge (contents_put t p contents.Directory)
+-- An entry after so many others.
+abbrev pub contents_entered : ℕ → Replica → Path → Contents → Result Replica Fault
+contents_entered n t p c = unless (nat_le ENTRIES n) TooLarge (contents_put t p c)
 
-abbrev pub old_dir_put : ℕ → Archive → Path → Result Archive Fault
-old_dir_put n m p = unless (nat_le ENTRIES n) TooLarge (mark_put m p mark.Directory)
+abbrev pub mark_entered : ℕ → Archive → Path → Mark → Result Archive Fault
+mark_entered n a p m = unless (nat_le ENTRIES n) TooLarge (mark_put a p m)
 
 abbrev pub bytes_put : ℕ → Replica → List ℕ → List ℕ → Result Replica Fault
 bytes_put n t field text =
@@ -147,7 +147,7 @@ file_put (Some m) n t field text = digest_put m n t field text
 abbrev pub old_file_put : ℕ → Archive → List ℕ → List ℕ → Result Archive Fault
 old_file_put n m field text =
     and_then (digest_field field) (λ digest. and_then (path_field text)
-    (λ p. unless (nat_le ENTRIES n) TooLarge (mark_put m p (mark.File digest))))
+    (λ p. mark_entered n m p (mark.File digest)))
 
 -- The draft with other blobs.
 abbrev pub with_blobs : Draft → Result BlobMap Fault → Result Draft Fault
@@ -170,9 +170,11 @@ with_marks a r s x =
 
 abbrev pub dir_taken : Draft → Open → Path → Result Draft Fault
 dir_taken a opened.Nothing p = Err BadLine
-dir_taken a (opened.Replica r t) p = with_tree a r (dir_put a.entries t p)
+dir_taken a (opened.Replica r t) p =
+    with_tree a r (contents_entered a.entries t p contents.Directory)
 dir_taken a (opened.HalfArchive r) p = Err BadLine
-dir_taken a (opened.Archive r s m) p = with_marks a r s (old_dir_put a.entries m p)
+dir_taken a (opened.Archive r s m) p =
+    with_marks a r s (mark_entered a.entries m p mark.Directory)
 
 abbrev pub fields_taken : Draft → Open → List ℕ → List ℕ → Result Draft Fault
 fields_taken a opened.Nothing field text = Err BadLine
@@ -190,7 +192,7 @@ file_taken a t =
 abbrev pub form_taken : Draft → Form → List ℕ → Result Draft Fault
 form_taken a form.Blob t = blob_taken a a.blobs t
 form_taken a form.Replica t = and_then (root_field t) (replica_begun a)
-form_taken a form.Archive t = and_then (root_field t) (archive_begun a)
+form_taken a form.Archive t = and_then (root_field t) (λ r. Ok (with_half_open a r))
 form_taken a form.With t = and_then (root_field t) (other_taken a a.current)
 form_taken a form.Dir t = and_then (path_field t) (dir_taken a a.current)
 form_taken a form.File t = file_taken a t

@@ -7,7 +7,7 @@ ghost use Rattle.hub_state.specs.Taking as taking;
 ghost use Rattle.hub_state.specs.Taking.{IsApart};
 
 use crate::blobs::Blobs;
-use crate::entry::{put_dir, put_file, put_old_dir, put_old_file};
+use crate::entry::{put_contents, put_file, put_mark, put_old_file};
 use crate::fault::Fault;
 use crate::form::Form;
 use crate::line::{bytes_in, digest_in, fields_of, form_of, root_in};
@@ -15,7 +15,7 @@ use crate::near::Near;
 use crate::state::State;
 use crate::{BLOBS, FILE_BYTES};
 use hub_path::{RelPath, Root};
-use hub_tree::{Archive, Blob, Tree};
+use hub_tree::{Archive, Blob, Contents, Mark, Tree};
 use std::alloc::{AllocError, Global};
 use std::mem::replace;
 use std::str::from_utf8;
@@ -115,9 +115,9 @@ impl Draft {
     {
         match form {
             Form::Blob => self.take_blob(alloc, rest),
-            Form::Replica => self.begin_replica(alloc, rest),
-            Form::Archive => self.begin_archive(alloc, rest),
-            Form::With => self.begin_pair(alloc, rest),
+            Form::Replica => self.begin_replica(alloc, root_in(alloc, rest)?),
+            Form::Archive => Ok(self.begin_archive(root_in(alloc, rest)?)?),
+            Form::With => self.begin_pair(alloc, root_in(alloc, rest)?),
             Form::Dir => self.take_dir(rest),
             Form::File => self.take_file(alloc, rest),
             Form::End => {
@@ -161,16 +161,14 @@ impl Draft {
         put_blob(alloc, blobs, field, text)
     }
 
-    /// Begins the replica of the root in a field.
-    fn begin_replica(&mut self, alloc: Global, field: &str) -> Result<(), Fault>
+    /// Begins the replica of a root.
+    fn begin_replica(&mut self, alloc: Global, root: Root) -> Result<(), Fault>
         requires { IsApart self.old.current }
-        ensures ok { OnOk result
-            (taking.form_taken self.old Form.Replica field.now ≡ Ok self.new) }
+        ensures ok { OnOk result (taking.replica_begun self.old root ≡ Ok self.new) }
         ensures err { IfErr result
-            (Fails Fault.OutOfMemory (taking.form_taken self.old Form.Replica field.now)) }
+            (Fails Fault.OutOfMemory (taking.replica_begun self.old root)) }
         ensures apart { OnOk result (IsApart self.new.current) }
     {
-        let root = root_in(alloc, field)?;
         self.close()?;
         if self.state.replica(&root).is_some() {
             return Err(Fault::Repeated);
@@ -179,31 +177,24 @@ impl Draft {
         Ok(())
     }
 
-    /// Begins an archive of the root in a field.
-    fn begin_archive(&mut self, alloc: Global, field: &str) -> Result<(), Fault>
+    /// Begins an archive of a root.
+    fn begin_archive(&mut self, root: Root) -> Result<(), AllocError>
         requires { IsApart self.old.current }
-        ensures ok { OnOk result
-            (taking.form_taken self.old Form.Archive field.now ≡ Ok self.new) }
-        ensures err { IfErr result
-            (Fails Fault.OutOfMemory (taking.form_taken self.old Form.Archive field.now)) }
-        ensures apart { OnOk result (IsApart self.new.current) }
+        ensures { OnOk result (self.new ≡ taking.with_half_open self.old root) }
     {
-        let root = root_in(alloc, field)?;
         self.close()?;
         self.current = Open::HalfArchive(root);
         Ok(())
     }
 
-    /// Takes the other root of an archive, which is in a field.
-    fn begin_pair(&mut self, alloc: Global, field: &str) -> Result<(), Fault>
+    /// Takes the other root of an archive.
+    fn begin_pair(&mut self, alloc: Global, second: Root) -> Result<(), Fault>
         ensures ok { OnOk result
-            (taking.form_taken self.old Form.With field.now
-            ≡ Ok self.new) }
+            (taking.other_taken self.old self.old.current second ≡ Ok self.new) }
         ensures err { IfErr result
-            (Fails Fault.OutOfMemory (taking.form_taken self.old Form.With field.now)) }
+            (Fails Fault.OutOfMemory (taking.other_taken self.old self.old.current second)) }
         ensures apart { OnOk result (IsApart self.new.current) }
     {
-        let second = root_in(alloc, field)?;
         let first = self.first_root(&second)?;
         self.current = Open::Archive(first, second, Archive::new(alloc));
         Ok(())
@@ -242,8 +233,8 @@ impl Draft {
         let path = self.near.read(field)?;
         let entries = self.entries;
         match &mut self.current {
-            Open::Replica(_, tree) => put_dir(tree, entries, &path)?,
-            Open::Archive(_, _, archive) => put_old_dir(archive, entries, &path)?,
+            Open::Replica(_, tree) => put_contents(tree, entries, &path, Contents::Directory)?,
+            Open::Archive(_, _, archive) => put_mark(archive, entries, &path, Mark::Directory)?,
             Open::Nothing => return Err(Fault::BadLine),
             Open::HalfArchive(_) => return Err(Fault::BadLine),
         }

@@ -1,5 +1,5 @@
 //! Entries that are put into replicas and archives.
-ghost use Rattle.std.specs.Prelude.{◌≡◌, ◌<◌, None, Some, Ok, Err, false, is_some, IfErr, IsTrue, OnOk};
+ghost use Rattle.std.specs.Prelude.{◌≡◌, ◌<◌, None, Some, Ok, Err, false, is_some, nat_le, IfErr, IsTrue, OnOk};
 ghost use Rattle.std.specs.FinMap as fin;
 ghost use Rattle.std.specs.Option.{option_map};
 ghost use Rattle.hub_text.specs.Fails.{Fails};
@@ -15,20 +15,6 @@ use crate::{ENTRIES, FILE_BYTES};
 use hub_path::RelPath;
 use hub_tree::{Archive, Blob, Contents, Mark, SetFault, Tree};
 use std::alloc::Global;
-
-/// Puts a directory into a replica after this many entries.
-pub fn put_dir(tree: &mut Tree, entries: usize, path: &RelPath) -> Result<(), Fault>
-    requires { IsTrue (is_path path.now) }
-    ensures ok { OnOk result (taking.dir_put entries tree.old path.now ≡ Ok tree.new) }
-    ensures err { IfErr result
-        (Fails Fault.OutOfMemory (taking.dir_put entries tree.old path.now)) }
-    ensures room { OnOk result (entries < ENTRIES) }
-{
-    if entries >= ENTRIES {
-        return Err(Fault::TooLarge);
-    }
-    put_contents(tree, path, Contents::Directory)
-}
 
 /// Puts a file into a replica after this many entries. In a text of version 2 it names a blob.
 pub fn put_file(
@@ -86,20 +72,20 @@ fn put_shared(
         (option_map (λ b. b.now) blob.entry))) }
     ensures room { OnOk result (entries < ENTRIES) }
 {
-    if entries >= ENTRIES {
-        return Err(Fault::TooLarge);
-    }
     let Some(blob) = blob else {
-        return Err(fault_without_blob(tree, path));
+        return Err(fault_without_blob(tree, entries, path));
     };
-    put_contents(tree, path, Contents::File(blob.copy()?))
+    put_contents(tree, entries, path, Contents::File(blob.copy()?))
 }
 
-/// Why a file can't be put that names a blob which the text doesn't have.
-fn fault_without_blob(tree: &Tree, path: &RelPath) -> Fault
+/// Why a file can't be put after this many entries that names a blob which the text doesn't have.
+fn fault_without_blob(tree: &Tree, entries: usize, path: &RelPath) -> Fault
     requires { IsTrue (is_path path.now) }
-    ensures { taking.blob_named_put tree.now path.now None ≡ Err result }
+    ensures { taking.shared_put entries tree.now path.now None ≡ Err result }
 {
+    if is_full(entries) {
+        return Fault::TooLarge;
+    }
     if has_entry(tree, path) {
         return Fault::Repeated;
     }
@@ -122,20 +108,37 @@ fn put_bytes(
 {
     let bytes = bytes_in(alloc, field)?;
     let path = near.read(text)?;
-    if entries >= ENTRIES || bytes.len() > FILE_BYTES {
+    if bytes.len() > FILE_BYTES {
         return Err(Fault::TooLarge);
     }
-    put_contents(tree, &path, Contents::File(Blob::new(bytes)?))
+    put_contents(tree, entries, &path, Contents::File(Blob::new(bytes)?))
 }
 
-/// Puts contents into a replica, which are not `Absent`.
-fn put_contents(tree: &mut Tree, path: &RelPath, contents: Contents) -> Result<(), Fault>
+/// Returns whether no more entries are allowed after this many.
+fn is_full(entries: usize) -> bool
+    ensures { result ≡ nat_le ENTRIES entries }
+{
+    entries >= ENTRIES
+}
+
+/// Puts contents, which are not `Absent`, into a replica after this many entries.
+pub fn put_contents(
+    tree: &mut Tree,
+    entries: usize,
+    path: &RelPath,
+    contents: Contents,
+) -> Result<(), Fault>
     requires path { IsTrue (is_path path.now) }
     requires some { is_absent contents ≡ false }
-    ensures ok { OnOk result (taking.contents_put tree.old path.now contents ≡ Ok tree.new) }
+    ensures ok { OnOk result
+        (taking.contents_entered entries tree.old path.now contents ≡ Ok tree.new) }
     ensures err { IfErr result
-        (Fails Fault.OutOfMemory (taking.contents_put tree.old path.now contents)) }
+        (Fails Fault.OutOfMemory (taking.contents_entered entries tree.old path.now contents)) }
+    ensures room { OnOk result (entries < ENTRIES) }
 {
+    if is_full(entries) {
+        return Err(Fault::TooLarge);
+    }
     match tree.put_new(path, contents) {
         Ok(false) => Ok(()),
         Ok(true) => Err(Fault::Repeated),
@@ -156,20 +159,6 @@ fn has_entry(tree: &Tree, path: &RelPath) -> bool
     }
 }
 
-/// Puts a directory into an archive after this many entries.
-pub fn put_old_dir(archive: &mut Archive, entries: usize, path: &RelPath) -> Result<(), Fault>
-    requires { IsTrue (is_path path.now) }
-    ensures ok { OnOk result (taking.old_dir_put entries archive.old path.now ≡ Ok archive.new) }
-    ensures err { IfErr result
-        (Fails Fault.OutOfMemory (taking.old_dir_put entries archive.old path.now)) }
-    ensures room { OnOk result (entries < ENTRIES) }
-{
-    if entries >= ENTRIES {
-        return Err(Fault::TooLarge);
-    }
-    put_mark(archive, path, Mark::Directory)
-}
-
 /// Puts the digest of a file into an archive after this many entries.
 pub fn put_old_file(
     near: &mut Near,
@@ -186,20 +175,27 @@ pub fn put_old_file(
 {
     let digest = digest_in(field)?;
     let path = near.read(text)?;
-    if entries >= ENTRIES {
-        return Err(Fault::TooLarge);
-    }
-    put_mark(archive, &path, Mark::File(digest))
+    put_mark(archive, entries, &path, Mark::File(digest))
 }
 
-/// Puts a mark into an archive, which is not `Absent`.
-fn put_mark(archive: &mut Archive, path: &RelPath, mark: Mark) -> Result<(), Fault>
+/// Puts a mark, which is not `Absent`, into an archive after this many entries.
+pub fn put_mark(
+    archive: &mut Archive,
+    entries: usize,
+    path: &RelPath,
+    mark: Mark,
+) -> Result<(), Fault>
     requires path { IsTrue (is_path path.now) }
     requires some { kept_mark mark ≡ Some mark }
-    ensures ok { OnOk result (taking.mark_put archive.old path.now mark ≡ Ok archive.new) }
+    ensures ok { OnOk result
+        (taking.mark_entered entries archive.old path.now mark ≡ Ok archive.new) }
     ensures err { IfErr result
-        (Fails Fault.OutOfMemory (taking.mark_put archive.old path.now mark)) }
+        (Fails Fault.OutOfMemory (taking.mark_entered entries archive.old path.now mark)) }
+    ensures room { OnOk result (entries < ENTRIES) }
 {
+    if is_full(entries) {
+        return Err(Fault::TooLarge);
+    }
     match archive.replace(path, mark)? {
         Mark::Absent => Ok(()),
         Mark::File(_) => Err(Fault::Repeated),

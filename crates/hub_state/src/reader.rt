@@ -351,8 +351,8 @@ fn take_last_at(
     ensures err { IfErr result (λ e. taking.TellsLine number
         (taking.last_taken number draft.old line.entry.is_ended line.entry.text.now) e) }
 {
-    match take_last(alloc, draft, number, line) {
-        Ok(state) => Ok(state),
+    match take_end(alloc, draft, number, line) {
+        Ok(()) => Ok(take_state(alloc, draft)),
         Err(fault) => {
             let last = placed(number, fault);
             Err(last)
@@ -372,23 +372,6 @@ fn take_line(alloc: Global, draft: &mut Draft, number: usize, line: &[u8]) -> Re
         return draft.take_header(alloc, line);
     }
     draft.take(alloc, line)
-}
-
-/// Takes the last line, and returns the state.
-fn take_last(
-    alloc: Global,
-    draft: &mut Draft,
-    number: usize,
-    line: Line<&[u8]>,
-) -> Result<State, Fault>
-    requires { IsApart draft.old.current }
-    ensures ok { IfOk result (λ s. taking.last_taken number draft.old line.entry.is_ended
-        line.entry.text.now ≡ Ok s) }
-    ensures err { IfErr result (Fails Fault.OutOfMemory
-        (taking.last_taken number draft.old line.entry.is_ended line.entry.text.now)) }
-{
-    take_end(alloc, draft, number, line)?;
-    Ok(take_state(alloc, draft))
 }
 
 /// Takes the state out of a draft.

@@ -9,30 +9,25 @@ use Rattle.hub_state.specs.View.{pairs_in}
 use Rattle.hub_state.proofs.Maps.{Rows, put_below, put_first, unchanged_pairs}
 use Rattle.hub_state.proofs.state.put_pair.Goals as goal
 
-pub returns-in-Some-clause-ok : goal.returns-in-Some-clause-ok
-returns-in-Some-clause-ok c =
+pub returns-in-Some : goal.returns-in-Some
+returns-in-Some c =
     let m = c.args.archives.now in
     let a = c.args.first.now in
     let w = c.put.new.map in
     let written = c.get_mut.follows.holds w in
     let n = c.get_mut.follows.lender w in
     let updates = written.3 (subst (λ (o : Option (BTreeMap (String Global) Archive)). IsSome o) c.in-Some.ensures.value refl) in
-    on_ok_weaker c.put.result
-    (λ h. put_below m n c.in-Some.ensures.ordered written.4 a c.args.second.now (string_bytes c.in_ok-text.text) w c.in-Some.others.now c.args.archive c.in-Some.ensures.value
-    c.in_ok-text.ensures.ok (λ q. btree_map_updates_text a m n (Some w) updates q) h)
-    c.put.ensures.ok
-
-pub returns-in-Some-clause-err : goal.returns-in-Some-clause-err
-returns-in-Some-clause-err c =
-    let m = c.args.archives.now in
-    let a = c.args.first.now in
-    let w = c.put.new.map in
-    let written = c.get_mut.follows.holds w in
-    let n = c.get_mut.follows.lender w in
-    let updates = written.3 (subst (λ (o : Option (BTreeMap (String Global) Archive)). IsSome o) c.in-Some.ensures.value refl) in
-    on_err_weaker c.put.result
-    (λ h. unchanged_pairs m n c.in-Some.ensures.ordered written.4 a w c.in-Some.others.now (sym c.in-Some.ensures.value) h (λ q. btree_map_updates_text a m n (Some w) updates q))
-    c.put.ensures.err
+    record {
+      ok =
+          on_ok_weaker c.put.result
+          (λ h. put_below m n c.in-Some.ensures.ordered written.4 a c.args.second.now (string_bytes c.in_ok-text.text) w c.in-Some.others.now c.args.archive c.in-Some.ensures.value
+          c.in_ok-text.ensures.ok (λ q. btree_map_updates_text a m n (Some w) updates q) h)
+          c.put.ensures.ok;
+      err =
+          on_err_weaker c.put.result
+          (λ h. unchanged_pairs m n c.in-Some.ensures.ordered written.4 a w c.in-Some.others.now (sym c.in-Some.ensures.value) h (λ q. btree_map_updates_text a m n (Some w) updates q))
+          c.put.ensures.err;
+    }
 
 pub returns-clause-ok : goal.returns-clause-ok
 returns-clause-ok c =

@@ -1,7 +1,6 @@
 -- Loops that take the items of a list one after another.
-use Rattle.std.proofs.Common.{◌≡◌, ◌-◌, ◌<◌, ◌≤◌, List, [], ◌∷◌, ◌++◌, take, drop, length, refl, ap, sym, ◌∙◌, arith, append-nil, append_assoc}
+use Rattle.std.proofs.Common.{◌≡◌, ◌-◌, ◌<◌, List, [], ◌∷◌, ◌++◌, take, drop, length, refl, ap, sym, ◌∙◌, arith, append_assoc}
 use Rattle.std.specs.Prelude.{slice_index_or}
-use Rattle.std.specs.List.{flat_map}
 use Rattle.std.proofs.Math.Seq.{take-length}
 use Rattle.std.proofs.lemmas.Grind.{flat_map-append}
 use Rattle.hub_path.specs.Path.{Path}
@@ -19,16 +18,6 @@ head_rest (y ∷ ys) x l e =
 pub none_left : {X : Type 0} (xs : List X) → length xs < 1 → xs ≡ []
 none_left [] l = refl
 none_left (x ∷ xs) l = absurd (omega arith)
-
--- One more item, and no more.
-pub flat_next : {X Y : Type 0} (f : X → List Y) (xs rest : List X) (x : X) (old new whole : List Y) → xs ≡ x ∷ rest → new ≡ old ++ f x
-    → old ++ flat_map f xs ≡ whole → new ++ flat_map f rest ≡ whole
-flat_next f xs rest x old new whole e m h =
-    ap (λ ys. ys ++ flat_map f rest) m ∙ append_assoc old (f x) (flat_map f rest) ∙ ap (λ ks. old ++ flat_map f ks) (sym e) ∙ h
-
-pub flat_done : {X Y : Type 0} (f : X → List Y) (xs : List X) (old whole : List Y) → length xs ≤ 0 → old ++ flat_map f xs ≡ whole → old ≡ whole
-flat_done f [] old whole l h = sym (append-nil old) ∙ h
-flat_done f (x ∷ xs) old whole l h = absurd (omega arith)
 
 -- What an archive keeps of the next marks.
 pub marks_next : (all ds rest old new whole : List (Path × Mark)) → all ≡ ds ++ rest → new ≡ old ++ kept_marks ds → old ++ kept_marks all ≡ whole → new ++ kept_marks rest ≡ whole

@@ -22,6 +22,7 @@ use hub_tree::{Archive, ArchiveBuilder, Mark};
 use std::alloc::{AllocError, Global};
 
 /// Returns the items of a picture in the order of their paths, or `AllocError` when out of memory.
+#[tactic(auto, using(crate::proofs::Partitions::partition_items))]
 pub fn items(alloc: Global, picture: &Picture) -> Result<Items<Item>, AllocError>
     ensures { IfOk result (λ is. is ≡ spec.items (shown picture.now)) }
 {
@@ -34,6 +35,7 @@ pub fn items(alloc: Global, picture: &Picture) -> Result<Items<Item>, AllocError
 ///
 /// The changes of an item are: what goes below it, the last path first; then the item; then what comes below it, in
 /// ascending order.
+#[tactic(auto, using(crate::proofs::Partitions::partition_changes))]
 pub fn plan(alloc: Global, picture: &Picture) -> Result<Items<Change>, AllocError>
     ensures { IfOk result (λ cs. cs ≡ spec.plan (shown picture.now)) }
 {
@@ -57,6 +59,7 @@ pub fn next_archive(alloc: Global, picture: &Picture) -> Result<Archive, AllocEr
 
 /// Returns the items of a picture and the archive afterwards, as [`items`] and [`next_archive`] do, or `AllocError` when
 /// out of memory. The Looks and the archive are gone through once for both.
+#[tactic(auto, using(crate::proofs::Partitions::partition_items))]
 pub fn items_and_archive(
     alloc: Global,
     picture: &Picture,
@@ -77,10 +80,8 @@ fn items_of(alloc: Global, blocks: &[Block]) -> Result<Vec<Item>, AllocError>
     ensures { IfOk result (λ is. is.items ≡ flat_map parts.block_items blocks.now) }
 {
     let mut items = Vec::new(alloc);
-    let mut rest = blocks;
-    while let [block, after @ ..] = rest {
+    for block in blocks {
         push_block(&mut items, block)?;
-        rest = after;
     }
     Ok(items)
 }
@@ -101,10 +102,8 @@ fn changes_of(alloc: Global, blocks: &[Block]) -> Result<Vec<Change>, AllocError
     ensures { IfOk result (λ cs. cs.items ≡ flat_map parts.block_changes blocks.now) }
 {
     let mut changes = Vec::new(alloc);
-    let mut rest = blocks;
-    while let [block, after @ ..] = rest {
+    for block in blocks {
         push_changes(&mut changes, block)?;
-        rest = after;
     }
     Ok(changes)
 }
@@ -156,12 +155,10 @@ fn push_coming(changes: &mut Vec<Change>, below: &[Row], from: Side) -> Result<(
     ensures { OnOk result (changes.new.items
         ≡ changes.old.items ++ parts.coming_rows from below.now) }
 {
-    let mut rest = below;
-    while let [row, after @ ..] = rest {
+    for row in below {
         if row.comes(from) {
             push_change(changes, row, from, row.mark(from))?;
         }
-        rest = after;
     }
     Ok(())
 }

@@ -25,7 +25,7 @@ use Rattle.hub_tree.specs.Laws.Beneath.{below_from, below_over, above_directory,
 use Rattle.hub_tree.specs.Laws.Between.{among, among_filter, among_reverse, under_sorted, in_under, of_under, no_members}
 use Rattle.hub_reconcile.specs.View.{View, is_present, is_folder}
 use Rattle.hub_reconcile.specs.Items.{other, changes, change, going, coming, below, is_allowed, blocks, has_parent, verb_of, fate_from, fate, source}
-use Rattle.hub_reconcile.specs.Sync.{of_side, view_of, root_or_top, loses_children, LosesChildren}
+use Rattle.hub_reconcile.specs.Sync.{root_or_top, loses_children, LosesChildren}
 use Rattle.hub_reconcile.specs.declared.item.Reason.{Reason}
 use Rattle.hub_reconcile.specs.declared.item.Reason.TheVariants as reason
 use Rattle.hub_reconcile.specs.declared.item.Fate.{Fate}
@@ -33,7 +33,7 @@ use Rattle.hub_reconcile.specs.declared.item.Fate.TheVariants.{To, Skip}
 use Rattle.hub_reconcile.specs.declared.change.Change.{Change}
 use Rattle.hub_reconcile.specs.Laws.Ascend.{same_list}
 use Rattle.hub_reconcile.specs.Laws.Each.{none_at}
-use Rattle.hub_reconcile.specs.Laws.Views.{same_paths, allowed-writes, present_here, folder_here, others_here, paths_sorted, of_paths, in_paths}
+use Rattle.hub_reconcile.specs.Laws.Views.{scene, same_paths, allowed-writes, present_here, folder_here, others_here, paths_sorted, of_paths, in_paths}
 
 -- What no change of an item passes.
 item_from : (V : View) (from : Side) (p : Path) (f : Change → Bool)
@@ -169,11 +169,7 @@ second true c e h = h
 second false c e h = absurd (false≢true e)
 
 module _ (P : Parts) (A B : Replica) (O : Archive) (left : IsTree A) (right : IsTree B) where
-  abbrev R : Side → Replica
-  R k = of_side A B k
-
-  abbrev V : View
-  V = view_of P A B O
+  open scene P A B O use {replica as R, view as V}
 
   abbrev root : Side → Path
   root k = root_or_top (at_side P.roots k)

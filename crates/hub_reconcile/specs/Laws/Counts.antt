@@ -23,11 +23,10 @@ use Rattle.hub_tree.specs.Laws.Replacing.{itself_not_below}
 use Rattle.hub_tree.specs.Laws.Between.{among}
 use Rattle.hub_reconcile.specs.View.{View}
 use Rattle.hub_reconcile.specs.Items.{other, differs, is_item, changes, change, changes_by, going, coming, fate, items, plan}
-use Rattle.hub_reconcile.specs.Sync.{of_side, view_of}
 use Rattle.hub_reconcile.specs.declared.change.Change.{Change}
 use Rattle.hub_reconcile.specs.declared.item.Fate.{Fate}
 use Rattle.hub_reconcile.specs.declared.item.Fate.TheVariants.{To, Skip}
-use Rattle.hub_reconcile.specs.Laws.Views.{paths_sorted, key_of}
+use Rattle.hub_reconcile.specs.Laws.Views.{scene, paths_sorted, key_of}
 use Rattle.hub_reconcile.specs.Laws.Blocks.{Goes, goes, going_all, none_going, coming_is}
 use Rattle.hub_reconcile.specs.Laws.Steps.{differ, one_present, one_directory}
 use Rattle.hub_reconcile.specs.Laws.Synced.{Apart, items_apart, all_items, of_items, item_differs, flat_items}
@@ -124,11 +123,7 @@ under_more m p e =
 
 module _ (P : Parts) (facts : IsProfile P) (A B : Replica) (O : Archive) (left : IsTree A)
     (right : IsTree B) where
-  abbrev R : Side → Replica
-  R k = of_side A B k
-
-  abbrev V : View
-  V = view_of P A B O
+  open scene P A B O use {replica as R, view as V}
 
   abbrev both : Path → ℕ
   both p = count (fin.keys A) p + count (fin.keys B) p

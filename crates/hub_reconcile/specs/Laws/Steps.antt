@@ -22,11 +22,10 @@ use Rattle.hub_tree.specs.Laws.Beneath.{below_over, is_a_directory}
 use Rattle.hub_tree.specs.Laws.Children.{one_item}
 use Rattle.hub_tree.specs.Laws.Replacing.{item_goes, item_comes}
 use Rattle.std.specs.Ordering.{eq_by_cmp}
-use Rattle.hub_reconcile.specs.View.{View, mark_eq, is_folder}
+use Rattle.hub_reconcile.specs.View.{mark_eq, is_folder}
 use Rattle.hub_reconcile.specs.Items.{other, differs, going, coming, has_parent}
-use Rattle.hub_reconcile.specs.Sync.{of_side, view_of}
 use Rattle.hub_reconcile.specs.Laws.Ascend.{same_list}
-use Rattle.hub_reconcile.specs.Laws.Views.{same_paths, mark_here, folder_seen, reach-names}
+use Rattle.hub_reconcile.specs.Laws.Views.{scene, same_paths, mark_here, folder_seen, reach-names}
 use Rattle.hub_reconcile.specs.Laws.Blocks.{Goes, trees, nothing_below, all_reached, going_all, coming_is, none_under, none_going}
 
 -- Contents whose marks differ.
@@ -127,11 +126,7 @@ path_over P p x y h over o g =
 
 module _ (P : Parts) (facts : IsProfile P) (A B : Replica) (O : Archive) (left : IsTree A)
     (right : IsTree B) where
-  abbrev R : Side → Replica
-  R k = of_side A B k
-
-  abbrev V : View
-  V = view_of P A B O
+  open scene P A B O use {replica as R, opposite as s, view as V}
 
   pub differ : (p : Path) → differs V p ≡ true → (reach P p ≡ true)
       × (mark_eq (mark_of (contents_at A p)) (mark_of (contents_at B p)) ≡ false)
@@ -178,9 +173,6 @@ module _ (P : Parts) (facts : IsProfile P) (A B : Replica) (O : Archive) (left :
 
   abbrev block : Side → Path → List Path
   block k p = reverse (going V (other k) p) ++ p ∷ coming V (other k) p
-
-  abbrev s : Side → Path → Contents
-  s k q = contents_at (R (other k)) q
 
   module _ (k : Side) (p : Path) (d : differs V p ≡ true) (goes : Goes V p k) (M : Replica)
       (t : IsTree M)

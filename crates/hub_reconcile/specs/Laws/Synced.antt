@@ -28,14 +28,14 @@ use Rattle.hub_tree.specs.Laws.Runs.{sets-append}
 use Rattle.hub_reconcile.specs.View.{View}
 use Rattle.hub_reconcile.specs.Items.{other, differs, item_over, is_item, changes, change, changes_by, going, coming, fate, items, plan}
 use Rattle.hub_reconcile.specs.Sides.{side_eq, paths_on}
-use Rattle.hub_reconcile.specs.Sync.{of_side, view_of, fate_over, giver, synced_contents}
+use Rattle.hub_reconcile.specs.Sync.{fate_over, giver, synced_contents}
 use Rattle.hub_reconcile.specs.declared.change.Change.{Change}
 use Rattle.hub_reconcile.specs.declared.item.Fate.{Fate}
 use Rattle.hub_reconcile.specs.declared.item.Fate.TheVariants.{To, Skip}
 use Rattle.hub_reconcile.specs.declared.item.Item.{Item}
 use Rattle.hub_reconcile.specs.Laws.Each.{none_at}
 use Rattle.hub_reconcile.specs.Laws.Over.{find-longer, least}
-use Rattle.hub_reconcile.specs.Laws.Views.{same_paths, paths_same, paths_sorted, in_paths}
+use Rattle.hub_reconcile.specs.Laws.Views.{scene, same_paths, paths_same, paths_sorted, in_paths}
 use Rattle.hub_reconcile.specs.Laws.Blocks.{Goes, goes, trees}
 use Rattle.hub_reconcile.specs.Laws.Steps.{step, each-append, one_present, differ}
 
@@ -175,14 +175,7 @@ items_apart V (x ∷ xs) sorted is = (
 
 module _ (P : Parts) (facts : IsProfile P) (A B : Replica) (O : Archive) (left : IsTree A)
     (right : IsTree B) where
-  abbrev R : Side → Replica
-  R k = of_side A B k
-
-  abbrev V : View
-  V = view_of P A B O
-
-  abbrev s : Side → Path → Contents
-  s k q = contents_at (R (other k)) q
+  open scene P A B O use {replica as R, opposite as s, view as V}
 
   abbrev sets_of : Side → List Path → List (Path × Contents)
   sets_of k ps = each (s k) ps

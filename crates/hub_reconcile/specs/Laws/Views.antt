@@ -26,6 +26,7 @@ use Rattle.hub_tree.specs.Laws.Order.{same_path, path_itself}
 use Rattle.hub_tree.specs.Laws.Children.{path_eq-cmp, one_item}
 use Rattle.hub_tree.specs.Laws.Between.{among, among_filter, among_keys, not_both}
 use Rattle.hub_reconcile.specs.Sight.{Sight, sight, is_kept_value, is_kept_parent, directory_or_absent}
+use Rattle.hub_reconcile.specs.Items.{other}
 use Rattle.hub_reconcile.specs.View.{View, counts, allowed_at, is_present, is_folder}
 use Rattle.hub_reconcile.specs.Sync.{of_side, root_or_top, view_of}
 use Rattle.hub_reconcile.specs.Laws.Ascend.{ascending_sorted, among_ascending}
@@ -104,12 +105,21 @@ pub reach-names : (P : Parts) (p : Path) → reach P p ≡ true → 0 < length p
 reach-names P [] h = absurd (false≢true (reach-is_path P [] h))
 reach-names P (n ∷ p) h = omega arith
 
-module _ (P : Parts) (A B : Replica) (O : Archive) where
-  abbrev pub R : Side → Replica
-  R k = of_side A B k
+-- Two replicas by side, what is at a path on the other side, and the view of both.
+pub record Scene : Type 0 where
+  pub replica : Side → Replica
+  pub opposite : Side → Path → Contents
+  pub view : View
 
-  abbrev pub V : View
-  V = view_of P A B O
+abbrev pub scene : Parts → Replica → Replica → Archive → Scene
+scene P A B O = record {
+  replica = λ k. of_side A B k;
+  opposite = λ k q. contents_at (of_side A B (other k)) q;
+  view = view_of P A B O;
+}
+
+module _ (P : Parts) (A B : Replica) (O : Archive) where
+  open scene P A B O use {replica as R, view as V}
 
   abbrev pub root : Side → Path
   root k = root_or_top (at_side P.roots k)

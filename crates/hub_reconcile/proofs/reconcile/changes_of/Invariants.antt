@@ -1,10 +1,7 @@
-use Rattle.std.proofs.Common.{◌≡◌, ◌++◌, length}
+use Rattle.std.proofs.Common.{◌≡◌, take}
 use Rattle.std.specs.List.{flat_map}
 use Rattle.hub_reconcile.specs.Blocks.{block_changes}
 use Rattle.hub_reconcile.proofs.reconcile.changes_of.Given as goal
 
-abbrev pub invariant-loop-rest : goal.invariant-loop-rest
-invariant-loop-rest l = l.changes.items ++ flat_map block_changes l.rest ≡ flat_map block_changes l.blocks
-
-abbrev pub decreases-loop-rest : goal.decreases-loop-rest
-decreases-loop-rest l = length l.rest
+abbrev pub invariant-loop-block : goal.invariant-loop-block
+invariant-loop-block l = l.changes.items ≡ flat_map block_changes (take l.block-index l.blocks)

@@ -135,17 +135,16 @@ same_seen : (a b : Mark) (ns ms : List Name) (o q : Bool) → a ≡ b → ns ≡
 same_seen a b ns ms o q e f g i = sight_with (e i) (f i) (g i)
 
 pub sees_reached : (P : Parts) (r : Path) (m : Replica) (d : Path) (mk : Mark) (ns : List Name) (o : Bool) → reach P d ≡ true → mk ≡ mark_at m d
-    → ns ≡ filter (λ n. reach P (d ++ n ∷ [])) (names_at m d) → o ≡ (writes_at P r d && list_any (λ n. not (reach P (d ++ n ∷ []))) (names_at m d))
-    → sight_with mk ns o ≡ sight P r m d
+    → ns ≡ reached_names P m d → o ≡ (writes_at P r d && list_any (λ q. not (reach P q)) (children m d)) → sight_with mk ns o ≡ sight P r m d
 sees_reached P r m d mk ns o h em en eo =
-    same_seen mk (mark_at m d) ns (reached_names P m d) o (writes_at P r d && true && list_any (λ q. not (reach P q)) (children m d)) em (en ∙ names_reached P m d)
-    (eo ∙ (ap (λ b. writes_at P r d && b) (names_not_reached P m d) ∙ ap (λ b. b && list_any (λ q. not (reach P q)) (children m d)) (sym (and-true (writes_at P r d)))))
+    same_seen mk (mark_at m d) ns (reached_names P m d) o (writes_at P r d && true && list_any (λ q. not (reach P q)) (children m d)) em en
+    (eo ∙ ap (λ b. b && list_any (λ q. not (reach P q)) (children m d)) (sym (and-true (writes_at P r d))))
     ∙ sym (sight_by P r m d true (length d == 0 && is_kept_value P []) h refl)
 
 pub sees_top : (P : Parts) (r : Path) (m : Replica) (d : Path) (ns : List Name) → reach P d ≡ false → (length d == 0 && list_any (path_eq d) P.paths) ≡ true
-    → ns ≡ filter (λ n. reach P (d ++ n ∷ [])) (names_at m d) → sight_with mark.Directory ns false ≡ sight P r m d
+    → ns ≡ reached_names P m d → sight_with mark.Directory ns false ≡ sight P r m d
 sees_top P r m [] ns h k en =
-    same_seen mark.Directory mark.Directory ns (reached_names P m []) false false refl (en ∙ names_reached P m []) refl
+    same_seen mark.Directory mark.Directory ns (reached_names P m []) false false refl en refl
     ∙ sym (sight_by P r m [] false true h (and-true (list_any (path_eq []) P.paths) ∙ k))
 sees_top P r m (n ∷ d) ns h k en = absurd (false≢true (sym (ap (λ b. b && list_any (path_eq (n ∷ d)) P.paths) (one_item n d)) ∙ k))
 

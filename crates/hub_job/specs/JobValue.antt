@@ -79,10 +79,7 @@ log_with j log (Some a) answer = log ++ record {
 -- The job with an answer to what it asked.
 abbrev pub with_answer : JobValue → Asked → Answer → JobValue
 with_answer J a answer = record J {
-  log = J.log ++ record {
-    side = a.side;
-    step = record { job = J.number; op = a.op; answer = answer };
-  } ∷ [];
+  log = log_with J.number J.log (Some a) answer;
   asked = None;
 }
 

@@ -1,5 +1,5 @@
 -- The Looks that a side waits for: paths in ascending order.
-use Rattle.std.specs.Prelude.{List, [], ◌∷◌, ◌++◌, ◌||◌, ◌==◌, fold, length, nat_lt, if◌then◌else◌}
+use Rattle.std.specs.Prelude.{List, [], ◌∷◌, ◌||◌, ◌==◌, fold, length, nat_lt, if◌then◌else◌}
 use Rattle.std.specs.BTreeSet.{insert_key}
 use Rattle.hub_path.specs.Path.{Path, path_cmp, parent}
 use Rattle.hub_profile.specs.Parts.{Parts}

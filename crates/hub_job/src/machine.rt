@@ -73,15 +73,13 @@ fn sight_at(
     ensures { IfOk result (λ s. s ≡ of_sight.sight profile.now root.now tree.now path.now) }
 {
     if reaches(profile, path) {
-        let (mark, all) = tree.mark_and_names_at(path)?;
-        let (names, others) = seen_names(alloc, profile, path, all)?;
+        let (mark, names, others) = mark_and_seen_names(alloc, profile, tree, path)?;
         let others = are_told(profile, root, path, others);
         return sight_with(alloc, tree, path, mark, names, others);
     }
     if is_kept_top(profile, path) {
-        let (_, every) = tree.mark_and_names_at(path)?;
-        let (reached, _) = seen_names(alloc, profile, path, every)?;
-        return Sight::new(alloc, Mark::Directory, reached, false);
+        let (_, names, _) = mark_and_seen_names(alloc, profile, tree, path)?;
+        return Sight::new(alloc, Mark::Directory, names, false);
     }
     let is_parent = is_kept_parent(profile, path)?;
     let mark = parent_mark(is_parent, tree, path);
@@ -120,6 +118,26 @@ fn is_kept_top(profile: &Profile, path: &RelPath) -> bool
     ensures { result ≡ (length path.now == 0 && list_any (path_eq path.now) profile.now.paths) }
 {
     path.len() == 0 && is_kept_value(profile, path)
+}
+
+/// Returns the mark of a path at or below a kept value, the names of those children that the profile reaches, and whether
+/// there are others.
+fn mark_and_seen_names(
+    alloc: Global,
+    profile: &Profile,
+    tree: &Tree,
+    path: &RelPath,
+) -> Result<(Mark, Items<Name>, bool), AllocError>
+    requires { IsTrue (list_any (λ s. is_over s path.now) profile.now.paths) }
+    ensures mark { IfOk result (λ r. r.0 ≡ of_tree.mark_at tree.now path.now) }
+    ensures names { IfOk result
+        (λ r. r.1 ≡ of_sight.reached_names profile.now tree.now path.now) }
+    ensures others { IfOk result (λ r. r.2
+        ≡ list_any (λ q. not (reach profile.now q)) (of_tree.children tree.now path.now)) }
+{
+    let (mark, all) = tree.mark_and_names_at(path)?;
+    let (names, others) = seen_names(alloc, profile, path, all)?;
+    Ok((mark, names, others))
 }
 
 /// Splits the names of the children of a path at or below a kept value into those that the profile reaches, and whether there

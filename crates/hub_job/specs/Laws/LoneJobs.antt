@@ -1,5 +1,5 @@
 -- Where one job alone takes turns, the world is for it two replicas that nobody else changes.
-use Rattle.std.proofs.Common.{◌≡◌, ◌<◌, ◌≤◌, ◌+◌, ◌*◌, cond, [], ◌∷◌, ◌++◌, length, Option, Some, None, refl, ap, sym, ◌∙◌, subst, length-set}
+use Rattle.std.proofs.Common.{◌≡◌, ◌<◌, ◌≤◌, ◌+◌, ◌*◌, [], ◌∷◌, ◌++◌, length, Option, Some, None, refl, ap, sym, ◌∙◌, subst, length-set}
 use Rattle.std.specs.Prelude.{ℕ, zero, suc, slice_get, replicate}
 use Rattle.std.specs.FinMap as fin
 use Rattle.std.proofs.lemmas.List.{get_or-set_same}
@@ -12,43 +12,44 @@ use Rattle.hub_reconcile.specs.Laws.Views.{paths_same}
 use Rattle.hub_job.specs.declared.op.Op.{Op}
 use Rattle.hub_job.specs.declared.op.Next.{Next}
 use Rattle.hub_job.specs.declared.op.Next.TheVariants.{Ask, Finished, Stopped}
-use Rattle.hub_job.specs.Machine.{after}
 use Rattle.hub_job.specs.Job.{next}
 use Rattle.hub_job.specs.World.{World, Jobs, log_of, event, act, turn_of, turn, run, opening}
-use Rattle.hub_job.specs.Run.{on_side, root_at, logged, act_on, world_for, pair_run, pair_opening, IsSynced}
+use Rattle.hub_job.specs.Run.{changed_at, on_side, root_at, logged, act_on, world_for, pair_run, pair_opening, IsSynced}
 use Rattle.hub_job.specs.Laws.Logs.{a_log_each, open_log}
 use Rattle.hub_job.specs.Laws.Finishing.{job_ends}
 use Rattle.hub_job.specs.Laws.Roots.{side_root, left_not_right, right_not_left}
 
+replica_on : (P : Parts) (j : ℕ) (k : Side) (w : World)
+    → w.replica (root_at P k) ≡ on_side (world_for P j w) k
+replica_on P j Left w = refl
+replica_on P j Right w = refl
+
 pub by_side : (P : Parts) (j : ℕ) (k : Side) (w : World) (q : Path)
     → contents_at (w.replica (root_at P k)) q ≡ contents_at (on_side (world_for P j w) k) q
-by_side P j Left w q = refl
-by_side P j Right w q = refl
+by_side P j k w q = ap (λ m. contents_at m q) (replica_on P j k w)
 
 module _ (P : Parts) (facts : IsProfile P) (j : ℕ) where
+  -- An operation on a side changes the replica of that side's root.
+  changed_root : (side k : Side) (op : Op) (w : World)
+      → (event P j side op w (Some (root_at P side))).replica (root_at P k)
+      ≡ changed_at side op k (w.replica (root_at P k))
+  changed_root Left Left op w = rw (paths_same (root_at P Left))
+  changed_root Left Right op w = rw (left_not_right P facts j)
+  changed_root Right Left op w = rw (right_not_left P facts j)
+  changed_root Right Right op w = rw (paths_same (root_at P Right))
+
   event_pair : (side : Side) (op : Op) (w : World) → j < length w.logs
       → world_for P j (event P j side op w (Some (root_at P side))) ≡ act_on P j (world_for P j w)
       (Ask side op)
-  event_pair Left op w h =
-      let own =
-      ap (λ b. cond b (after (w.replica (root_at P Left)) op) (w.replica (root_at P Left)))
-      (paths_same (root_at P Left)) in
-      let other =
-      ap (λ b. cond b (after (w.replica (root_at P Left)) op) (w.replica (root_at P Right)))
-      (left_not_right P facts j) in
+  event_pair side op w h =
       let log = get_or-set_same w.logs j
-      (log_of w j ++ logged P j Left op (w.replica (root_at P Left)) ∷ []) [] h in
-      λ i. record { log = log i; left = own i; right = other i }
-  event_pair Right op w h =
-      let own =
-      ap (λ b. cond b (after (w.replica (root_at P Right)) op) (w.replica (root_at P Right)))
-      (paths_same (root_at P Right)) in
-      let other =
-      ap (λ b. cond b (after (w.replica (root_at P Right)) op) (w.replica (root_at P Left)))
-      (right_not_left P facts j) in
-      let log = get_or-set_same w.logs j
-      (log_of w j ++ logged P j Right op (w.replica (root_at P Right)) ∷ []) [] h in
-      λ i. record { log = log i; left = other i; right = own i }
+      (log_of w j ++ logged P j side op (w.replica (root_at P side)) ∷ []) [] h
+      ∙ ap (λ m. log_of w j ++ logged P j side op m ∷ []) (replica_on P j side w) in
+      λ i. record {
+        log = log i;
+        left = changed_root side Left op w i;
+        right = changed_root side Right op w i;
+      }
 
   event_logs : (side : Side) (op : Op) (w : World) (o : Option Path)
       → length (event P j side op w o).logs ≡ length w.logs

@@ -5,6 +5,7 @@ use Rattle.std.specs.List.{list_any}
 use Rattle.std.specs.Ordering.{eq_by_cmp}
 use Rattle.std.proofs.lemmas.Bool.{false≢true, or_left, or_right, not-true, not-false}
 use Rattle.hub_path.specs.Path.{Path, path_cmp}
+use Rattle.hub_path.specs.Sides.{other}
 use Rattle.hub_path.specs.declared.side.Side.{Side}
 use Rattle.hub_path.specs.declared.side.Side.TheVariants.{Left, Right}
 use Rattle.hub_profile.specs.Parts.{Parts, IsProfile, at_side}
@@ -79,6 +80,23 @@ on-push k (c ∷ ds) d =
       | true ↦ ap (λ ps. c.1 ∷ ps) (on-push k ds d)
       | false ↦ on-push k ds d
     ]
+
+-- A Look on a side is one more there, and none on the other side.
+on-here : (k : Side) (ds : List (Side × Path)) (p : Path)
+    → on k (ds ++ (k, p) ∷ []) ≡ on k ds ++ p ∷ []
+on-here Left ds p = on-push Left ds (Left, p)
+on-here Right ds p = on-push Right ds (Right, p)
+
+on-there : (k : Side) (ds : List (Side × Path)) (p : Path)
+    → on (other k) (ds ++ (k, p) ∷ []) ≡ on (other k) ds
+on-there Left ds p = on-push Right ds (Left, p) ∙ append-nil (on Right ds)
+on-there Right ds p = on-push Left ds (Right, p) ∙ append-nil (on Left ds)
+
+-- Less on a side, and the same on the other one, is less in all.
+less_in_all : (f g : Side → ℕ) (k : Side) → f k + 1 ≤ g k → f (other k) ≡ g (other k)
+    → (f Left + f Right) + 1 ≤ g Left + g Right
+less_in_all f g Left less same = omega arith
+less_in_all f g Right less same = omega arith
 
 sum_then : (m n : ℕ) → (1 + m) + n ≡ suc (m + n)
 sum_then m n = omega arith
@@ -177,21 +195,14 @@ module _ (P : Parts) (facts : IsProfile P) (A B : Replica) (O : Archive) (left :
   abbrev measure : List (Side × Path) → ℕ
   measure ds = left_over Left ds + left_over Right ds
 
-  fewer_left : (ds : List (Side × Path)) (p : Path) → missing P (log_by ds) Left ≡ Some p
-      → measure (ds ++ (Left, p) ∷ []) + 1 ≤ measure ds
-  fewer_left ds p e =
-      let w = missing_is ds Left p e in
-      let here = ap (unseen (known P A)) (on-push Left ds (Left, p)) in
-      let there = ap (unseen (known P B)) (on-push Right ds (Left, p) ∙ append-nil (on Right ds)) in
-      omega (arith, here, there, unseen_less (known P A) (on Left ds) p w.0 w.1)
-
-  fewer_right : (ds : List (Side × Path)) (p : Path) → missing P (log_by ds) Right ≡ Some p
-      → measure (ds ++ (Right, p) ∷ []) + 1 ≤ measure ds
-  fewer_right ds p e =
-      let w = missing_is ds Right p e in
-      let here = ap (unseen (known P B)) (on-push Right ds (Right, p)) in
-      let there = ap (unseen (known P A)) (on-push Left ds (Right, p) ∙ append-nil (on Left ds)) in
-      omega (arith, here, there, unseen_less (known P B) (on Right ds) p w.0 w.1)
+  fewer : (k : Side) (ds : List (Side × Path)) (p : Path) → missing P (log_by ds) k ≡ Some p
+      → measure (ds ++ (k, p) ∷ []) + 1 ≤ measure ds
+  fewer k ds p e =
+      let w = missing_is ds k p e in
+      less_in_all (λ i. left_over i (ds ++ (k, p) ∷ [])) (λ i. left_over i ds) k
+      (subst (λ ps. unseen (known P (R k)) ps + 1 ≤ left_over k ds) (sym (on-here k ds p))
+      (unseen_less (known P (R k)) (on k ds) p w.0 w.1))
+      (ap (unseen (known P (R (other k)))) (on-there k ds p))
 
   -- All Looks.
   abbrev AllLooked : ℕ → List (Side × Path) → Type 0
@@ -217,25 +228,33 @@ module _ (P : Parts) (facts : IsProfile P) (A B : Replica) (O : Archive) (left :
   both_none ds e f Left = e
   both_none ds e f Right = f
 
+  -- From each list with fewer left over, all Looks follow.
+  abbrev More : ℕ → List (Side × Path) → Type 0
+  More fuel ds =
+      (es : List (Side × Path)) → measure es + 1 ≤ measure ds → (f : ℕ) → fuel ≡ suc f
+      → AllLooked f es
+
+  look_first : (fuel : ℕ) (ds : List (Side × Path)) (k : Side) (p : Path)
+      → missing P (log_by ds) k ≡ Some p → next P O (log_by ds) ≡ Ask k (Look p)
+      → measure ds ≤ fuel → More fuel ds → AllLooked fuel ds
+  look_first zero ds k p e n h more = absurd (omega (arith, h, fewer k ds p e))
+  look_first (suc fuel) ds k p e n h more =
+      one_look fuel ds k p n (more (ds ++ (k, p) ∷ []) (fewer k ds p e) fuel refl)
+
   looks_by : (fuel : ℕ) (ds : List (Side × Path)) (l r : Option Path)
       → missing P (log_by ds) Left ≡ l → missing P (log_by ds) Right ≡ r → measure ds ≤ fuel
-      → ((es : List (Side × Path)) → measure es + 1 ≤ measure ds → (f : ℕ) → fuel ≡ suc f
-      → AllLooked f es) → AllLooked fuel ds
+      → More fuel ds → AllLooked fuel ds
   looks_by fuel ds None None e f h more =
       (0, ds, λ n. ap (λ i. pair_run P O j i (at ds)) (none_more n), omega arith, both_none ds e f)
-  looks_by zero ds (Some p) r e f h more = absurd (omega (arith, h, fewer_left ds p e))
-  looks_by zero ds None (Some p) e f h more = absurd (omega (arith, h, fewer_right ds p f))
-  looks_by (suc fuel) ds (Some p) r e f h more =
-      one_look fuel ds Left p (next_is ds
+  looks_by fuel ds (Some p) r e f h more =
+      look_first fuel ds Left p e (next_is ds
       ∙ ap (λ o. look_or Left
-      (look_or Right (step_or_end P O (log_by ds)) (missing P (log_by ds) Right)) o) e)
-      (more (ds ++ (Left, p) ∷ []) (fewer_left ds p e) fuel refl)
-  looks_by (suc fuel) ds None (Some p) e f h more =
-      one_look fuel ds Right p (next_is ds
+      (look_or Right (step_or_end P O (log_by ds)) (missing P (log_by ds) Right)) o) e) h more
+  looks_by fuel ds None (Some p) e f h more =
+      look_first fuel ds Right p f (next_is ds
       ∙ (ap (λ o. look_or Left
       (look_or Right (step_or_end P O (log_by ds)) (missing P (log_by ds) Right)) o) e
-      ∙ ap (λ o. look_or Right (step_or_end P O (log_by ds)) o) f))
-      (more (ds ++ (Right, p) ∷ []) (fewer_right ds p f) fuel refl)
+      ∙ ap (λ o. look_or Right (step_or_end P O (log_by ds)) o) f)) h more
 
   pub all_looks : (fuel : ℕ) (ds : List (Side × Path)) → measure ds ≤ fuel → AllLooked fuel ds
   all_looks zero ds h =

@@ -1,44 +1,32 @@
-use Rattle.std.proofs.Common.{Bool, false, ◌&&◌, not, List, [], ◌∷◌, ◌++◌, sym, ap, ◌∙◌}
-use Rattle.std.specs.Prelude.{filter}
-use Rattle.std.specs.List.{list_any}
+use Rattle.std.proofs.Common.{Bool, false, ◌&&◌, List, sym, ap, ◌∙◌}
 use Rattle.std.proofs.lemmas.Result.{IfOk-weaker}
 use Rattle.hub_path.specs.Path.{Name}
-use Rattle.hub_reach.specs.Reach.{reach, writes_at}
+use Rattle.hub_reach.specs.Reach.{writes_at}
 use Rattle.hub_reach.specs.Laws.{reach-below}
 use Rattle.hub_tree.specs.Tree.{contents_at, is_directory}
 use Rattle.hub_reconcile.specs.Sight.{Sight, directory_or_absent}
-use Rattle.hub_job.proofs.OpenNames.{all_make_paths}
 use Rattle.hub_job.proofs.Performs.{sees_reached, sees_top, sees_elsewhere}
 use Rattle.hub_job.proofs.machine.sight_at.Goals as goal
 
-pub seen_names-requires-clause-kept : goal.seen_names-requires-clause-kept
-seen_names-requires-clause-kept c = reach-below c.args.profile.now c.args.path.now (sym c.reaches.ensures ∙ c.if-reaches.true)
-
-pub seen_names-requires-clause-paths : goal.seen_names-requires-clause-paths
-seen_names-requires-clause-paths c = all_make_paths c.args.tree.now c.args.path.now c.in_ok-mark.all c.in_ok-mark.ensures.names c.in_ok-mark.ensures.paths
-
-pub seen_names-requires-then-is_kept_top-clause-paths : goal.seen_names-requires-then-is_kept_top-clause-paths
-seen_names-requires-then-is_kept_top-clause-paths c = all_make_paths c.args.tree.now c.args.path.now c.in_ok-every.every c.in_ok-every.ensures.names c.in_ok-every.ensures.paths
+pub mark_and_seen_names-requires : goal.mark_and_seen_names-requires
+mark_and_seen_names-requires c = reach-below c.args.profile.now c.args.path.now (sym c.reaches.ensures ∙ c.if-reaches.true)
 
 pub returns-then-reaches : goal.returns-then-reaches
 returns-then-reaches c =
     let P = c.args.profile.now in
+    let r = c.args.root.now in
     let d = c.args.path.now in
     IfOk-weaker c.sight_with.result _ _
     (λ s h. h
-    ∙ sees_reached P c.args.root.now c.args.tree.now d _ _ _ (sym c.reaches.ensures ∙ c.if-reaches.true) c.in_ok-mark.ensures.mark
-    (c.in_ok-names.ensures.names ∙ ap (λ (ns : List Name). filter (λ n. reach P (d ++ n ∷ [])) ns) c.in_ok-mark.ensures.names)
-    (c.are_told-others.ensures ∙ ap (λ (b : Bool). writes_at P c.args.root.now d && b) (c.in_ok-names.ensures.others ∙ ap (λ (ns : List Name). list_any (λ n. not (reach P (d ++ n ∷ []))) ns) c.in_ok-mark.ensures.names)))
+    ∙ sees_reached P r c.args.tree.now d _ _ _ (sym c.reaches.ensures ∙ c.if-reaches.true) c.in_ok-mark.ensures.mark c.in_ok-mark.ensures.names
+    (c.are_told-others.ensures ∙ ap (λ (b : Bool). writes_at P r d && b) c.in_ok-mark.ensures.others))
     c.sight_with.ensures
 
 pub returns-then-is_kept_top : goal.returns-then-is_kept_top
 returns-then-is_kept_top c =
-    let P = c.args.profile.now in
-    let d = c.args.path.now in
     IfOk-weaker c.new.result _ _
     (λ s h. h
-    ∙ sees_top P c.args.root.now c.args.tree.now d _ (sym c.reaches.ensures ∙ c.if-reaches.false) (sym c.is_kept_top.ensures ∙ c.if-is_kept_top.true)
-    (c.in_ok-reached.ensures.names ∙ ap (λ (ns : List Name). filter (λ n. reach P (d ++ n ∷ [])) ns) c.in_ok-every.ensures.names))
+    ∙ sees_top c.args.profile.now c.args.root.now c.args.tree.now c.args.path.now _ (sym c.reaches.ensures ∙ c.if-reaches.false) (sym c.is_kept_top.ensures ∙ c.if-is_kept_top.true) c.in_ok-names.ensures.names)
     c.new.ensures
 
 pub returns : goal.returns

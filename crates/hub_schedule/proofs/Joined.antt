@@ -6,7 +6,7 @@ use Rattle.std.specs.FinMap as fin
 use Rattle.std.proofs.lemmas.List.{length-map}
 use Rattle.std.proofs.lemmas.Bool.{false≢true, or_cases, false_from_ne_true}
 use Rattle.std.specs.Cmp.{both_ways}
-use Rattle.std.proofs.lemmas.Option.{none-some, same_Some}
+use Rattle.std.proofs.lemmas.Option.{none-some, same_Some, slice_get_within}
 use Rattle.hub_job.specs.Laws.Making.{none_more}
 use Rattle.hub_reconcile.specs.Laws.Views.{same_paths}
 use Rattle.hub_path.specs.Path.{Path, path_eq, is_place}
@@ -36,8 +36,8 @@ use Rattle.hub_job.specs.Outcome.{jobs_of}
 use Rattle.hub_schedule.specs.Promise.{HasReplicas}
 use Rattle.hub_job.specs.Run.{root_at}
 use Rattle.hub_schedule.specs.Settled.{AreProfiles}
-use Rattle.hub_schedule.specs.Table.{place_on, stopped_at, AllWouldAsk, IsOutcomeAfter, IsTreeNumber, ShowsWorld, IsThinned}
-use Rattle.hub_job.specs.World.{World, log_of, opening}
+use Rattle.hub_schedule.specs.Table.{place_on, stopped_at, AllWouldAsk, AreTreeNumbers, HaveTurned, IsOutcomeAfter, IsTreeNumber, ShowsWorld}
+use Rattle.hub_job.specs.World.{Jobs, World, log_of, opening}
 use Rattle.hub_job.specs.Laws.Untouched.{path-of_Some}
 use Rattle.hub_job.specs.Laws.Roots.{two_roots}
 use Rattle.hub_schedule.proofs.NextMarks.{IsNextOf, find_marks, some_leaves}
@@ -255,17 +255,26 @@ module _ (S : State) (Ps : List Parts) (has : HasReplicas S Ps) (w : World) (slo
     archives = marks_are;
   }
 
+-- Where jobs and replicas stand for a world, each job has the numbers of replicas.
+pub tree_numbers : {J : Jobs} {w : World} {slots : List Slot} {trees : List WorkingTree} → ShowsWorld J w slots trees → AreTreeNumbers slots trees
+tree_numbers {trees} table = λ j s k e. let p = (table.each j s e).places k in slice_get_within trees (place_on s k) p.0 p.1
+
 -- Where no job is stopped.
-pub none_stopped : (slots : List Slot) → ((j : ℕ) → stopped_at slots j ≡ false) → AllWouldAsk slots
+none_stopped : (slots : List Slot) → ((j : ℕ) → stopped_at slots j ≡ false) → AllWouldAsk slots
 none_stopped slots going = λ j s at stopped made. absurd (false≢true (sym (going j) ∙ (ap (some_passes (λ (s : Slot). s.job.stopped)) at ∙ stopped)))
 
--- The outcome of the schedule that was run.
-pub after_turns : {E : Type 0} (S : State) (Ps : List Parts) (w : World) (schedule : List ℕ) (before : ℕ → Bool) (slots : List Slot) (trees : List WorkingTree) (r : Result Outcome E) → ((j : ℕ) → before j ≡ false) → AllWouldAsk slots → HasReplicas S Ps → ShowsWorld (jobs_of S Ps) w slots trees
-    → IsThinned (jobs_of S Ps) (opening (jobs_of S Ps) (outcome.replicas_of S)) w schedule before (stopped_at slots) → IfOk r (IsOutcomeAfter S slots trees) → IfOk r (outcome.IsSimulated S Ps schedule)
-after_turns S Ps w schedule before slots trees (Ok o) going more there table thinned h = (
-  thinned.limit,
-  subst (λ (x : World). outcome.IsOutcomeWith S Ps (log_of x) x.replica o) thinned.world (h.0 Ps w there table),
-  λ j e at on. thinned.all j (h.1 j e at on),
-  λ j P e is at ended off. let x = h.2 Ps w j P e table is at ended off in (thinned.lost j (going j) x.0, x.1 more),
-)
-after_turns S Ps w schedule before slots trees (Err e) going more there table thinned h = h
+module _ (S : State) (Ps : List Parts) {slots now : List Slot} {trees trees_now : List WorkingTree} {schedule : List ℕ} (table : ShowsWorld (jobs_of S Ps) (opening (jobs_of S Ps) (outcome.replicas_of S)) slots trees)
+    (turned : HaveTurned slots trees schedule now trees_now) where
+  pub shown : (J : Jobs) × (w : World) × ShowsWorld J w now trees_now
+  shown = let t = turned (jobs_of S Ps) (opening (jobs_of S Ps) (outcome.replicas_of S)) table in (jobs_of S Ps, t.0, t.1)
+
+  -- The outcome is that of the schedule that was run.
+  pub after_turns : {E : Type 0} (r : Result Outcome E) → ((j : ℕ) → stopped_at slots j ≡ false) → (AllWouldAsk slots → AllWouldAsk now) → HasReplicas S Ps → IfOk r (IsOutcomeAfter S now trees_now) → IfOk r (outcome.IsSimulated S Ps schedule)
+  after_turns (Ok o) going more there h =
+      let t = turned (jobs_of S Ps) (opening (jobs_of S Ps) (outcome.replicas_of S)) table in (
+        t.2.limit,
+        subst (λ (x : World). outcome.IsOutcomeWith S Ps (log_of x) x.replica o) t.2.world (h.0 Ps t.0 there t.1),
+        λ j e at on. t.2.all j (h.1 j e at on),
+        λ j P e is at ended off. let x = h.2 Ps t.0 j P e t.1 is at ended off in (t.2.lost j (going j) x.0, x.1 (more (none_stopped slots going))),
+      )
+  after_turns (Err e) going more there h = h

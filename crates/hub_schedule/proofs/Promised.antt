@@ -26,7 +26,7 @@ use Rattle.hub_job.specs.declared.job_end.JobEnd.{JobEnd}
 use Rattle.hub_job.specs.declared.outcome.Outcome.{Outcome}
 use Rattle.hub_job.specs.declared.log.Entry.{Entry}
 use Rattle.hub_job.specs.declared.log.Logged.{Logged}
-use Rattle.hub_job.specs.declared.op.Next.TheVariants.{Finished, Stopped}
+use Rattle.hub_job.specs.declared.op.Next.TheVariants.{Finished}
 use Rattle.hub_job.specs.Job.{next, is_refused, view_in}
 use Rattle.hub_job.specs.Run.{root_at, world_for, IsSynced}
 use Rattle.hub_job.specs.World.{Jobs, log_of, run, opening, alone}

@@ -7,7 +7,7 @@ use Rattle.std.proofs.lemmas.Option.{slice_get_within}
 use Rattle.hub_profile.specs.Parts.{some_passes}
 use Rattle.hub_schedule.specs.declared.slot.Slot.{Slot}
 use Rattle.hub_schedule.specs.declared.slot.WorkingTree.{WorkingTree}
-use Rattle.hub_schedule.specs.Table.{IsIdle, ShowsWorld, IsThinned, StayIdle, StayStopped, Taken, stopped_at, whole_cycles}
+use Rattle.hub_schedule.specs.Table.{HaveTurned, IsIdle, ShowsWorld, IsThinned, StayIdle, StayStopped, Taken, stopped_at, whole_cycles}
 use Rattle.hub_job.specs.World.{World, Jobs, turn, run, first_turns}
 use Rattle.hub_schedule.proofs.InCycles.{whole_counts}
 use Rattle.hub_schedule.proofs.Turns.{weight, less, count, count_first}
@@ -125,10 +125,11 @@ thinned_made J w v i js before now after stays one going t = record {
   stays = λ j h. t.stays j (stays j h);
 }
 
-pub taken_none : (slots : List Slot) (trees : List WorkingTree) (js : List ℕ) → Taken slots trees js slots trees js
-taken_none slots trees js = λ J w table. (w, table, λ u after h. h)
+-- The turns that are left, told in another way.
+pub taken_as : {s0 s1 : List Slot} {t0 t1 : List WorkingTree} {js ks ls : List ℕ} → ks ≡ ls → Taken s0 t0 js s1 t1 ks → Taken s0 t0 js s1 t1 ls
+taken_as {s0} {s1} {t0} {t1} {js} e taken = subst (λ ks. Taken s0 t0 js s1 t1 ks) e taken
 
-module _ (slots slots_now slots_next : List Slot) (trees trees_now trees_next : List WorkingTree) (schedule rest : List ℕ) (j : ℕ) (taken : Taken slots trees schedule slots_now trees_now (j ∷ rest))
+module _ {slots slots_now slots_next : List Slot} {trees trees_now trees_next : List WorkingTree} {schedule rest : List ℕ} {j : ℕ} (taken : Taken slots trees schedule slots_now trees_now (j ∷ rest))
     (turns : (J : Jobs) (w : World) → ShowsWorld J w slots_now trees_now → ShowsWorld J (if stopped_at slots_next j then w else turn J j w) slots_next trees_next) (stays : StayStopped (stopped_at slots_now) (stopped_at slots_next)) (one : OneStops j (stopped_at slots_now) (stopped_at slots_next)) where
   by : (J : Jobs) (w v : World) → (b : Bool) → stopped_at slots_next j ≡ b → ShowsWorld J (if b then v else turn J j v) slots_next trees_next
       → ((u : World) (after : ℕ → Bool) → IsThinned J v u (j ∷ rest) (stopped_at slots_now) after → IsThinned J w u schedule (stopped_at slots) after)
@@ -139,12 +140,11 @@ module _ (slots slots_now slots_next : List Slot) (trees trees_now trees_next : 
   pub taken_more : Taken slots trees schedule slots_next trees_next rest
   taken_more = λ J w table. let x = taken J w table in by J w x.0 (stopped_at slots_next j) refl (turns J x.0 x.1) x.2
 
-pub taken_all : (slots now : List Slot) (trees trees_now : List WorkingTree) (schedule : List ℕ) → Taken slots trees schedule now trees_now []
-    → (J : Jobs) (w : World) → ShowsWorld J w slots trees → (v : World) × ShowsWorld J v now trees_now × IsThinned J w v schedule (stopped_at slots) (stopped_at now)
-taken_all slots now trees trees_now schedule taken = λ J w table. let x = taken J w table in (x.0, x.1, x.2 x.0 (stopped_at now) (thinned_none J x.0 (stopped_at now)))
+pub taken_all : {slots now : List Slot} {trees trees_now : List WorkingTree} {schedule : List ℕ} → Taken slots trees schedule now trees_now [] → HaveTurned slots trees schedule now trees_now
+taken_all {now} taken = λ J w table. let x = taken J w table in (x.0, x.1, x.2 x.0 (stopped_at now) (thinned_none J x.0 (stopped_at now)))
 
-pub taken_through : (s0 s1 s2 : List Slot) (t0 t1 t2 : List WorkingTree) (js ks ls : List ℕ) → Taken s0 t0 js s1 t1 ks → Taken s1 t1 ks s2 t2 ls → Taken s0 t0 js s2 t2 ls
-taken_through s0 s1 s2 t0 t1 t2 js ks ls first second = λ J w table. let x = first J w table in let y = second J x.0 x.1 in (y.0, y.1, λ u after h. x.2 u after (y.2 u after h))
+pub taken_through : {s0 s1 s2 : List Slot} {t0 t1 t2 : List WorkingTree} {js ks ls : List ℕ} → Taken s0 t0 js s1 t1 ks → Taken s1 t1 ks s2 t2 ls → Taken s0 t0 js s2 t2 ls
+taken_through first second = λ J w table. let x = first J w table in let y = second J x.0 x.1 in (y.0, y.1, λ u after h. x.2 u after (y.2 u after h))
 
 none_stops : (i : ℕ) (stopped : ℕ → Bool) → OneStops i stopped stopped
 none_stops i stopped = λ j a b. absurd (false≢true (sym b ∙ a))
@@ -201,12 +201,13 @@ has_turns slots n cycles j long some h =
     some_turns (count j (whole_cycles n cycles)) cycles (whole_counts n cycles j (as_many j (length slots) n (stopped_some slots j (slice_get slots j) refl h) long)) some
 
 -- After a cycle in which no job asks, all cycles that are left change nothing.
-pub taken_idle : (s0 s1 s2 : List Slot) (t0 t1 t2 : List WorkingTree) (js : List ℕ) (n cycles : ℕ) → length s2 ≡ n → 0 < cycles → Taken s0 t0 js s1 t1 (whole_cycles n cycles) → StayStopped (stopped_at s1) (stopped_at s2) → StayIdle n s1 t1 s2 t2
-    → (J : Jobs) (w : World) → ShowsWorld J w s0 t0 → (v : World) × ShowsWorld J v s2 t2 × IsThinned J w v js (stopped_at s0) (stopped_at s2)
-taken_idle s0 s1 s2 t0 t1 t2 js n cycles long some taken stays idle = λ J w table.
+pub taken_idle : {s0 s1 s2 : List Slot} {t0 t1 t2 : List WorkingTree} {js : List ℕ} (n cycles : ℕ) → length s1 ≡ n → length s2 ≡ length s1 → 0 < cycles → Taken s0 t0 js s1 t1 (whole_cycles n cycles) → StayStopped (stopped_at s1) (stopped_at s2) → StayIdle (length s1) s1 t1 s2 t2
+    → HaveTurned s0 t0 js s2 t2
+taken_idle {s1} {s2} n cycles long same some taken stays idle = λ J w table.
     let x = taken J w table in
     let y = idle J x.0 x.1 in
-    (x.0, y.0, x.2 x.0 (stopped_at s2) (thinned_before J x.0 x.0 (whole_cycles n cycles) (stopped_at s1) (stopped_at s2) (stopped_at s2) stays (λ j h. has_turns s2 n cycles j long some h) (idle_cycles J x.0 s2 n cycles y.1)))
+    let rest = idle_cycles J x.0 s2 n cycles (λ j h. y.1 j (as_many j n (length s1) h (sym long))) in
+    (x.0, y.0, x.2 x.0 (stopped_at s2) (thinned_before J x.0 x.0 (whole_cycles n cycles) (stopped_at s1) (stopped_at s2) (stopped_at s2) stays (λ j h. has_turns s2 n cycles j (same ∙ long) some h) rest))
 
 -- The cycles that are left, and the turns that are left in one.
 left_less : (R i m : ℕ) → R - i ≡ m → i < R → m ≡ suc (R - (i + 1))
@@ -234,9 +235,9 @@ still_idle : (J : Jobs) (w : World) (s1 s2 : List Slot) (j : ℕ) → StayStoppe
 still_idle J w s1 s2 j stays (inl h) = inl (stays j h)
 still_idle J w s1 s2 j stays (inr e) = inr e
 
-pub idle_more : (n : ℕ) (s0 s1 s2 : List Slot) (t0 t1 t2 : List WorkingTree) → StayIdle n s0 t0 s1 t1 → StayStopped (stopped_at s1) (stopped_at s2)
+pub idle_more : {s0 s1 s2 : List Slot} {t0 t1 t2 : List WorkingTree} (n : ℕ) → StayIdle n s0 t0 s1 t1 → StayStopped (stopped_at s1) (stopped_at s2)
     → ((J : Jobs) (w : World) → ShowsWorld J w s1 t1 → ShowsWorld J (if stopped_at s2 n then w else turn J n w) s2 t2) → ((J : Jobs) (w : World) → ShowsWorld J w s1 t1 → IsIdle J w s2 n) → StayIdle (n + 1) s0 t0 s2 t2
-idle_more n s0 s1 s2 t0 t1 t2 idle stays turns is = λ J w table.
+idle_more {s1} {s2} {t2} n idle stays turns is = λ J w table.
     let x = idle J w table in
     let here = is J w x.0 in (
       subst (λ v. ShowsWorld J v s2 t2) (same_if (stopped_at s2 n) w (turn J n w) here) (turns J w x.0),
@@ -246,8 +247,8 @@ idle_more n s0 s1 s2 t0 t1 t2 idle stays turns is = λ J w table.
       ],
     )
 
-pub taken_same : (s : List Slot) (t : List WorkingTree) (js ks : List ℕ) → js ≡ ks → Taken s t js s t ks
-taken_same s t js ks e = subst (λ ls. Taken s t js s t ls) e (taken_none s t js)
+pub taken_same : {s : List Slot} {t : List WorkingTree} {js ks : List ℕ} → js ≡ ks → Taken s t js s t ks
+taken_same e = taken_as e (λ J w table. (w, table, λ u after h. h))
 
 all_left : (n m : ℕ) → n - 0 ≡ m → n ≡ m
 all_left n m e = omega (arith, e)
@@ -258,5 +259,5 @@ all_turns_left n more = ap (λ k. range_with_len 0 k ++ more) (all_left n (n - 0
 pub all_cycles_left : (n R : ℕ) → whole_cycles n R ≡ whole_cycles n (R - 0)
 all_cycles_left n R = ap (whole_cycles n) (all_left R (R - 0) refl)
 
-pub none_idle : (s : List Slot) (t : List WorkingTree) → StayIdle 0 s t s t
-none_idle s t = λ J w table. (table, λ j h. absurd (omega (arith, h)))
+pub none_idle : {s : List Slot} {t : List WorkingTree} → StayIdle 0 s t s t
+none_idle = λ J w table. (table, λ j h. absurd (omega (arith, h)))

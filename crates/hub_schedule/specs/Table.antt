@@ -108,6 +108,14 @@ pub record IsThinned (J : Jobs) (w v : World) (schedule : List ℕ) (before afte
   pub lost : (j : ℕ) → before j ≡ false → after j ≡ true → limit j < count_by (λ i. i == j) schedule
   pub stays : StayStopped before after
 
+-- These jobs and replicas are what turns of a schedule make of the first ones.
+abbrev pub HaveTurned : List Slot → List WorkingTree → List ℕ → List Slot → List WorkingTree
+    → Type 0
+HaveTurned slots trees schedule slots_now trees_now =
+    (J : Jobs) (w : World) → ShowsWorld J w slots trees
+    → (v : World) × ShowsWorld J v slots_now trees_now
+    × IsThinned J w v schedule (stopped_at slots) (stopped_at slots_now)
+
 -- From these jobs and replicas, a schedule has come as far as others, and the rest of it is left.
 abbrev pub Taken : List Slot → List WorkingTree → List ℕ → List Slot → List WorkingTree → List ℕ
     → Type 0

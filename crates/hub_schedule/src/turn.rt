@@ -3,7 +3,7 @@ ghost use Rattle.std.specs.Prelude.{◌≡◌, ◌<◌, ◌++◌, ℕ, List, tru
 ghost use Rattle.std.specs.List.{range_with_len};
 ghost use Rattle.hub_job.specs.JobValue as value;
 ghost use Rattle.hub_job.specs.Machine as machine;
-ghost use Rattle.hub_schedule.specs.Table.{AllWouldAsk, AreTreeNumbers, IsIdle, ShowsWorld, IsThinned, StayIdle, StayStopped, Taken, stopped_at, whole_cycles, with_job, with_tree_after};
+ghost use Rattle.hub_schedule.specs.Table.{AllWouldAsk, AreTreeNumbers, HaveTurned, IsIdle, ShowsWorld, StayIdle, StayStopped, Taken, stopped_at, whole_cycles, with_job, with_tree_after};
 ghost use Rattle.hub_job.specs.World.{Jobs, World, turn};
 
 use crate::slot::{Slot, WorkingTree};
@@ -20,9 +20,8 @@ pub(crate) fn take_turns(
 )
     requires placed { AreTreeNumbers slots.old.items trees.old.items }
     requires numbers { All (λ j. j < length slots.old.items) schedule.now }
-    ensures turns { (J : Jobs) (w : World) → ShowsWorld J w slots.old.items trees.old.items
-        → (v : World) × ShowsWorld J v slots.new.items trees.new.items
-        × IsThinned J w v schedule.now (stopped_at slots.old.items) (stopped_at slots.new.items) }
+    ensures turns { HaveTurned slots.old.items trees.old.items schedule.now
+        slots.new.items trees.new.items }
     ensures more { AllWouldAsk slots.old.items → AllWouldAsk slots.new.items }
 {
     for number in schedule {
@@ -39,10 +38,8 @@ pub(crate) fn take_cycles(
     cycles: u64,
 )
     requires { AreTreeNumbers slots.old.items trees.old.items }
-    ensures turns { (J : Jobs) (w : World) → ShowsWorld J w slots.old.items trees.old.items
-        → (v : World) × ShowsWorld J v slots.new.items trees.new.items
-        × IsThinned J w v (whole_cycles (length slots.old.items) cycles)
-        (stopped_at slots.old.items) (stopped_at slots.new.items) }
+    ensures turns { HaveTurned slots.old.items trees.old.items
+        (whole_cycles (length slots.old.items) cycles) slots.new.items trees.new.items }
     ensures more { AllWouldAsk slots.old.items → AllWouldAsk slots.new.items }
 {
     for _ in 0..cycles {

@@ -15,7 +15,6 @@ use Rattle.hub_job.specs.declared.job_end.End.TheVariants as end
 use Rattle.hub_job.specs.declared.job_end.JobEnd.{JobEnd}
 use Rattle.hub_job.specs.declared.outcome.Outcome.{Outcome}
 use Rattle.hub_job.specs.declared.log.Entry.{Entry}
-use Rattle.hub_job.specs.declared.op.Next.TheVariants.{Finished, Stopped}
 use Rattle.hub_job.specs.History.{replay}
 use Rattle.hub_job.specs.Ends.{is_finished}
 use Rattle.hub_job.specs.Outcome.{replicas_of, takes_marks, mark_by}

@@ -15,56 +15,38 @@ index_mut-requires c =
     let below = c.requires.placed c.args.number s c.in-Ask.side at in
     omega (arith, place, below, c.args.trees.now.ok.0)
 
-pub returns-in-Ask-clause-turn : goal.returns-in-Ask-clause-turn
-returns-in-Ask-clause-turn c = λ J w table.
+pub returns-in-Ask : goal.returns-in-Ask
+returns-in-Ask c =
     let slots = c.args.slots.now.items in
     let trees = c.args.trees.now.items in
     let j = c.args.number in
     let s = c.index_mut-slot.result.now in
     let t : Slot = with_job s c.turn.new.self in
+    let n = c.turn.result in
     let side = c.in-Ask.side in
+    let op = c.in-Ask.op in
+    let k = c.place-place.result in
     let u = c.index_mut.result.now in
+    let v = c.answer.new.slot in
     let at : slice_get slots j ≡ Some s = slice_get_read slots _ j s refl c.requires.number c.index_mut-slot.ensures.value in
-    let place : c.place-place.result ≡ place_on s side = c.place-place.ensures ∙ place_same s c.turn.new.self side in
-    let below : c.place-place.result < length trees = subst (λ (k : ℕ). k < length trees) (sym place) (c.requires.placed j s side at) in
-    let there : slice_get trees c.place-place.result ≡ Some u = slice_get_read trees _ c.place-place.result u refl below c.index_mut.ensures.value in
-    busy J w slots trees table j s t c.turn.result at (ap (with_job s) c.turn.ensures.after) c.turn.ensures.next side c.in-Ask.op c.in-Ask.is
-    (asks_going c.turn.new.self.stopped c.turn.result side c.in-Ask.op c.in-Ask.is c.turn.ensures.stopped) c.answer.new.slot c.place-place.result u c.answer.new.replica place there
-    c.answer.ensures.lost c.answer.ensures.made
-
-pub returns-in-Ask-clause-stays : goal.returns-in-Ask-clause-stays
-returns-in-Ask-clause-stays c =
-    let slots = c.args.slots.now.items in
-    let s = c.index_mut-slot.result.now in
-    let at : slice_get slots c.args.number ≡ Some s = slice_get_read slots _ c.args.number s refl c.requires.number c.index_mut-slot.ensures.value in
-    let going = asks_going c.turn.new.self.stopped c.turn.result c.in-Ask.side c.in-Ask.op c.in-Ask.is c.turn.ensures.stopped in
-    stay_stopped slots c.args.number s c.answer.new.slot at (λ h. absurd (false≢true (sym going ∙ c.turn.ensures.stays h)))
-
-pub returns-in-Ask-clause-others : goal.returns-in-Ask-clause-others
-returns-in-Ask-clause-others c = λ i h e. no_other_stopped c.args.slots.now.items c.args.number c.answer.new.slot i h e
-
-pub returns-in-Ask-clause-more : goal.returns-in-Ask-clause-more
-returns-in-Ask-clause-more c =
-    let slots = c.args.slots.now.items in
-    let s = c.index_mut-slot.result.now in
-    let side = c.in-Ask.side in
-    let at : slice_get slots c.args.number ≡ Some s = slice_get_read slots _ c.args.number s refl c.requires.number c.index_mut-slot.ensures.value in
-    let going = asks_going c.turn.new.self.stopped c.turn.result side c.in-Ask.op c.in-Ask.is c.turn.ensures.stopped in
-    would_ask slots c.args.number s c.answer.new.slot at
-    (λ old. answer_asks s.job c.turn.new.self c.answer.new.slot.job c.turn.result side c.in-Ask.op c.turn.ensures.after c.turn.ensures.next c.in-Ask.is going
-    (λ h. ap (λ (x : Slot). x.job) (c.answer.ensures.lost h).0))
-
-pub returns-in-Ask-clause-placed : goal.returns-in-Ask-clause-placed
-returns-in-Ask-clause-placed c =
-    let slots = c.args.slots.now.items in
-    let trees = c.args.trees.now.items in
-    let j = c.args.number in
-    let s = c.index_mut-slot.result.now in
-    let t : Slot = with_job s c.turn.new.self in
-    let at : slice_get slots j ≡ Some s = slice_get_read slots _ j s refl c.requires.number c.index_mut-slot.ensures.value in
-    let kept = still_placed slots trees j s c.answer.new.slot at
-    (λ k. same_places t c.answer.new.slot _ _ _ _ c.answer.ensures.lost c.answer.ensures.made k ∙ place_same s c.turn.new.self k) c.requires.placed in
-    λ i x k e. subst (λ (m : ℕ). place_on x k < m) (sym (length-set trees c.place-place.result c.answer.new.replica)) (kept i x k e)
+    let going = asks_going c.turn.new.self.stopped n side op c.in-Ask.is c.turn.ensures.stopped in
+    let place : k ≡ place_on s side = c.place-place.ensures ∙ place_same s c.turn.new.self side in
+    let below : k < length trees = subst (λ (i : ℕ). i < length trees) (sym place) (c.requires.placed j s side at) in
+    let there : slice_get trees k ≡ Some u = slice_get_read trees _ k u refl below c.index_mut.ensures.value in
+    let kept = still_placed slots trees j s v at (λ i. same_places t v _ _ _ _ c.answer.ensures.lost c.answer.ensures.made i ∙ place_same s c.turn.new.self i) c.requires.placed in
+    record {
+      turn = λ J w table.
+          busy J w slots trees table j s t n at (ap (with_job s) c.turn.ensures.after) c.turn.ensures.next side op c.in-Ask.is going v k u c.answer.new.replica place there
+          c.answer.ensures.lost c.answer.ensures.made;
+      stays = stay_stopped slots j s v at (λ h. absurd (false≢true (sym going ∙ c.turn.ensures.stays h)));
+      others = λ i h e. no_other_stopped slots j v i h e;
+      idle = λ e. absurd (false≢true (sym e));
+      placed = λ i x b e. subst (λ (m : ℕ). place_on x b < m) (sym (length-set trees k c.answer.new.replica)) (kept i x b e);
+      count = length-set slots j v;
+      more = would_ask slots j s v at
+          (λ old. answer_asks s.job c.turn.new.self v.job n side op c.turn.ensures.after c.turn.ensures.next c.in-Ask.is going
+          (λ h. ap (λ (x : Slot). x.job) (c.answer.ensures.lost h).0));
+    }
 
 pub returns : goal.returns
 returns c =

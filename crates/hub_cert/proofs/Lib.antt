@@ -18,6 +18,7 @@ pub mod Numerals
 pub mod HexLines
 pub mod Digits
 pub mod Cuts
+pub mod LentParts
 pub mod LikeClasses
 pub mod LineByLine
 pub mod Written

@@ -6,7 +6,7 @@ use Rattle.std.proofs.lemmas.Bool.{false≢true, or_left, or_right}
 use Rattle.std.proofs.lemmas.Bool.Decides.{nat_tests}
 use Rattle.std.proofs.lemmas.List.{take_more}
 use Rattle.std.proofs.lemmas.List.Concat.{flat_map-append}
-use Rattle.std.proofs.lemmas.Option.{same_Some, slice_get_within}
+use Rattle.std.proofs.lemmas.Option.{same_Some, slice_get_read, slice_get_within}
 use Rattle.hub_text.specs.ListLaws.{less-or-same}
 use Rattle.hub_path.specs.Laws.{path_eq-decides}
 use Rattle.hub_path.specs.Path.{Path, path_eq, is_over}
@@ -169,11 +169,18 @@ too-much S automaton.TooManyCharacters named apart h = (named, apart, h)
 too-much S automaton.TooManySpots named apart h = (named, apart, h.0, h.1)
 too-much S automaton.OutOfMemory named apart h = h
 
-pub shown-nested : (rs all : List Path) (i j : ℕ) (p q r s : Path) → rs ≡ all → (are : AreFirstNested rs i j) → slice_get rs i ≡ Some p → slice_get rs j ≡ Some q → r ≡ p → s ≡ q → AreShownNested all r s
-shown-nested rs all i j p q r s same are at_i at_j is_r is_s = subst (λ (xs : List Path). AreShownNested xs r s) same (record {
-  earlier = i;
-  later = j;
-  are = are;
-  first = is_r ∙ same_Some p are.nested.first (sym at_i ∙ are.nested.at_first);
-  second = is_s ∙ same_Some q are.nested.second (sym at_j ∙ are.nested.at_second);
-})
+pub nested-within : (rs : List Path) (i j : ℕ) → AreFirstNested rs i j → (i < length rs) × (j < length rs)
+nested-within rs i j are = (slice_get_within rs i are.nested.first are.nested.at_first, slice_get_within rs j are.nested.second are.nested.at_second)
+
+pub shown-nested : (rs all : List Path) (i j : ℕ) (p q r s : Path) → rs ≡ all → AreFirstNested rs i j → p ≡ get_or rs i p → q ≡ get_or rs j q → r ≡ p → s ≡ q → AreShownNested all r s
+shown-nested rs all i j p q r s same are is_p is_q is_r is_s =
+    let l = nested-within rs i j are in
+    let at_i = slice_get_read rs _ i p refl l.0 is_p in
+    let at_j = slice_get_read rs _ j q refl l.1 is_q in
+    subst (λ (xs : List Path). AreShownNested xs r s) same (record {
+      earlier = i;
+      later = j;
+      are = are;
+      first = is_r ∙ same_Some p are.nested.first (sym at_i ∙ are.nested.at_first);
+      second = is_s ∙ same_Some q are.nested.second (sym at_j ∙ are.nested.at_second);
+    })

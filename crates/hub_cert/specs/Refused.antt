@@ -82,18 +82,9 @@ abbrev pub IsRefused : Members → CheckFault → Type 0
 IsRefused S fault.TooManyProfiles = PROFILES < length S.profiles
 IsRefused S (fault.SameName name) = (length S.profiles ≤ PROFILES) × IsFirstRepeated S.profiles name
 IsRefused S (fault.NestedRoots r s) = FewNamed S × AreShownNested (roots_in S) r s
-IsRefused S (fault.Overlap w o place held path) = ⊥
-IsRefused S (fault.Breach p r path) = ⊥
-IsRefused S (fault.TooLarge g) = ⊥
-IsRefused S (fault.Missing g) = ⊥
-IsRefused S (fault.NoStart g) = ⊥
-IsRefused S (fault.NotClosed g k class) = ⊥
-IsRefused S (fault.Accepting g k) = ⊥
-IsRefused S (fault.Stray i) = ⊥
-IsRefused S (fault.BadText line) = ⊥
 IsRefused S (fault.AlphabetFault automaton.TooManyCharacters) =
     FewNamed S × AreApart S × (MENTIONED_CHARACTERS < length (alphabet_of S))
 IsRefused S (fault.AlphabetFault automaton.TooManySpots) =
     FewNamed S × AreApart S × (length (alphabet_of S) ≤ MENTIONED_CHARACTERS) × HasManySpots S
-IsRefused S (fault.AlphabetFault automaton.OutOfMemory) = ⊥
 IsRefused S fault.OutOfMemory = Unit {0}
+IsRefused S other = ⊥

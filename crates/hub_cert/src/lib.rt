@@ -9,6 +9,7 @@
 //! - [`read_certificates`] and [`write_certificates`]: the text of certificates, which docs/CERTIFICATES.md describes.
 //! - [`Product`]: the automaton of a goal, whose state is a [`GoalStage`]. [`walker_of`], [`rule_set_of`] and [`forbidden_to`]
 //!   make its parts.
+//! - [`make_each`]: makes a list from the numbers of its places.
 //! - [`laws`]: what the crates above may conclude.
 //!
 //! The contracts use the words of `specs/Set`, `specs/Goals`, `specs/Aim` (what a goal asks, and its stages),
@@ -34,6 +35,7 @@ mod forbidden;
 mod goal;
 pub mod laws;
 mod machines;
+mod matched;
 mod next_stage;
 mod product;
 mod reading;
@@ -55,6 +57,7 @@ pub use certificate::{Certificate, StageText};
 pub use fault::CheckFault;
 pub use forbidden::{Forbidden, forbidden_to};
 pub use goal::{Goal, Place};
+pub use matched::make_each;
 pub use product::{Product, rule_set_of, slash_class, walker_of};
 pub use reading::read_certificates;
 pub use set::{PROFILES, ProfileSet};

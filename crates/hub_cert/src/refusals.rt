@@ -1,5 +1,5 @@
 //! Why profiles and rules make no set.
-ghost use Rattle.std.specs.Prelude.{◌≡◌, ◌⊎◌, ◌<◌, ◌≤◌, ◌++◌, ℕ, length, slice_get, Some, IfOk, IfErr, OnOk, MatchOption, IsTrue};
+ghost use Rattle.std.specs.Prelude.{◌≡◌, ◌⊎◌, ◌<◌, ◌≤◌, ◌++◌, ℕ, length, slice_get, Some, IfOk, IfErr, OnOk, MatchBool, MatchOption, IsTrue};
 ghost use Rattle.hub_automaton.specs.Alphabet.{mentions, plain, spec_characters, RefusesCharacters};
 ghost use Rattle.hub_automaton.specs.declared.alternatives.TheConstants.{SPOTS};
 ghost use Rattle.hub_automaton.specs.declared.fault.AutomatonFault.TheVariants.{TooManyCharacters, TooManySpots};
@@ -51,7 +51,7 @@ fn check_names(profiles: &[Profile]) -> Result<(), CheckFault>
     if profiles.len() > PROFILES {
         return Err(CheckFault::TooManyProfiles);
     }
-    if let Some((_, later)) = repeated_name(profiles) {
+    if let Some(later) = repeated_name(profiles) {
         return Err(CheckFault::SameName {
             name: profiles[later].name().copy()?,
         });
@@ -113,32 +113,32 @@ fn alphabet_within_limits(
     Ok(alphabet)
 }
 
-/// Returns the first profile that has the name of an earlier one: the earlier one's number, then its own.
-pub(crate) fn repeated_name(profiles: &[Profile]) -> Option<(usize, usize)>
+/// Returns the first profile that has the name of an earlier one.
+pub(crate) fn repeated_name(profiles: &[Profile]) -> Option<usize>
     ensures { MatchOption result ((i j : ℕ) → i < j → refused.HaveSameName profiles.now i j
-        → ⊥) (λ pair. (pair.0 < pair.1) × refused.HaveSameName profiles.now pair.0 pair.1
-        × ((i j : ℕ) → i < j → j < pair.1 → refused.HaveSameName profiles.now i j → ⊥)) }
+        → ⊥) (λ later. ((i : ℕ) × (i < later) × refused.HaveSameName profiles.now i later)
+        × ((i j : ℕ) → i < j → j < later → refused.HaveSameName profiles.now i j → ⊥)) }
 {
     for later in 0..profiles.len() {
-        if let Some(earlier) = namesake_before(profiles, later) {
-            return Some((earlier, later));
+        if has_namesake_before(profiles, later) {
+            return Some(later);
         }
     }
     None
 }
 
-/// Returns the first profile before that one that has its name.
-fn namesake_before(profiles: &[Profile], later: usize) -> Option<usize>
+/// Returns whether a profile before that one has its name.
+fn has_namesake_before(profiles: &[Profile], later: usize) -> bool
     requires { later < length profiles.now }
-    ensures { MatchOption result ((i : ℕ) → i < later → refused.HaveSameName profiles.now i later
-        → ⊥) (λ i. (i < later) × refused.HaveSameName profiles.now i later) }
+    ensures { MatchBool result ((i : ℕ) × (i < later) × refused.HaveSameName profiles.now i later)
+        ((i : ℕ) → i < later → refused.HaveSameName profiles.now i later → ⊥) }
 {
     for earlier in 0..later {
         if profiles[earlier].name() == profiles[later].name() {
-            return Some(earlier);
+            return true;
         }
     }
-    None
+    false
 }
 
 /// Returns the first pair of nested roots.

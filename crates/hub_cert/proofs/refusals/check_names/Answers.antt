@@ -10,15 +10,16 @@ pub returns-in-Some-clause-err : goal.returns-in-Some-clause-err
 returns-in-Some-clause-err c = λ S ps.
     let Ps = c.args.profiles.now in
     let e = c.in-Some.ensures in
-    let here = slice_get_read Ps _ c.in-Some.later c.index-profiles-later.result refl (slice_get_within Ps c.in-Some.later e.1.second e.1.at_second) c.index-profiles-later.is in
-    let own : c.index-profiles-later.result ≡ e.1.second = same_Some c.index-profiles-later.result e.1.second (sym here ∙ e.1.at_second) in
+    let same = e.0.2 in
+    let here = slice_get_read Ps _ c.in-Some.later c.index-profiles-later.result refl (slice_get_within Ps c.in-Some.later same.second same.at_second) c.index-profiles-later.is in
+    let own : c.index-profiles-later.result ≡ same.second = same_Some c.index-profiles-later.result same.second (sym here ∙ same.at_second) in
     let first : IsFirstRepeated Ps c.in_ok-copy.field-0 = record {
-      earlier = c.in-Some.field-0-0;
+      earlier = e.0.0;
       later = c.in-Some.later;
-      before = e.0;
-      repeated = e.1;
+      before = e.0.1;
+      repeated = same;
       shown = c.in_ok-copy.ensures ∙ (c.name.ensures ∙ ap (λ (P : Parts). P.name) own);
-      none_before = e.2;
+      none_before = e.1;
     } in
     (subst (λ (Qs : List Parts). length Qs ≤ PROFILES) (sym ps) (omega arith), subst (λ (Qs : List Parts). IsFirstRepeated Qs c.in_ok-copy.field-0) (sym ps) first)
 

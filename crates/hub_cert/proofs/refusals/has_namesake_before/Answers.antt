@@ -3,7 +3,7 @@ use Rattle.std.proofs.lemmas.Bool.{false≢true}
 use Rattle.std.proofs.lemmas.Option.{slice_get_read}
 use Rattle.hub_path.specs.Laws.{name_eq-decides}
 use Rattle.hub_cert.proofs.SetFacts.{none-named-more, not-one-name}
-use Rattle.hub_cert.proofs.refusals.namesake_before.Goals as goal
+use Rattle.hub_cert.proofs.refusals.has_namesake_before.Goals as goal
 
 pub returns-then-eq : goal.returns-then-eq
 returns-then-eq c =
@@ -11,6 +11,7 @@ returns-then-eq c =
     let p = slice_get_read Ps _ c.loop-earlier.earlier c.index-profiles-earlier.result refl (omega arith) c.index-profiles-earlier.is in
     let q = slice_get_read Ps _ c.args.later c.index-profiles-later.result refl c.requires c.index-profiles-later.is in
     let alike = (name_eq-decides c.name.result.now c.name-in-loop-earlier.result.now).0 (sym c.eq.ensures ∙ c.if-eq.true) in (
+      c.loop-earlier.earlier,
       c.loop-earlier-test.true,
       record {
         first = c.index-profiles-earlier.result;

@@ -1,19 +1,15 @@
 -- What the sections of a bundle say, and the first fault of all others.
-use Rattle.std.specs.Prelude.{◌≡◌, ⊤, ℕ, List, [], ◌∷◌, ◌++◌, Some, None, Result, Ok, Err}
-use Rattle.hub_path.specs.Path.{Name}
+use Rattle.std.specs.Prelude.{◌≡◌, ◌⊎◌, ⊤, ℕ, List, [], ◌∷◌, ◌++◌, Some, None, Result, Ok, Err}
 use Rattle.hub_profile.specs.Parts.{Parts}
 use Rattle.hub_profile.specs.Reading.{profile_in}
 use Rattle.hub_profile.specs.Rules.{rules_in}
-use Rattle.hub_profile.specs.declared.rule.Rule.{Rule}
-use Rattle.hub_profile.specs.declared.fault.ProfileFault.{ProfileFault}
+use Rattle.hub_profile.specs.declared.fault.Fault.TheVariants as of_profile
 use Rattle.hub_cert.specs.Reading.{certificates_in}
 use Rattle.hub_cert.specs.Set.{Members}
-use Rattle.hub_cert.specs.declared.certificate.Certificate.{Certificate}
 use Rattle.hub_cert.specs.declared.fault.CheckFault.{CheckFault}
 use Rattle.hub_cert.specs.declared.fault.CheckFault.TheVariants as check
-use Rattle.hub_state.specs.State.{State}
 use Rattle.hub_state.specs.Reading.{state_reading}
-use Rattle.hub_state.specs.declared.fault.StateFault.{StateFault}
+use Rattle.hub_state.specs.declared.fault.Fault.TheVariants as of_state
 use Rattle.hub_bundle.specs.declared.bundle.Heading.{Heading}
 use Rattle.hub_bundle.specs.declared.bundle.Heading.TheVariants as heading
 use Rattle.hub_bundle.specs.declared.sections.BundleContents.{BundleContents}
@@ -32,50 +28,28 @@ no_contents = record { profiles = []; rules = []; state = None; certificates = [
 abbrev pub and_profile : BundleContents → Parts → BundleContents
 and_profile c P = record c { profiles = c.profiles ++ P ∷ [] }
 
-abbrev pub with_profile : BundleContents → Name → Result Parts ProfileFault → Result BundleContents SectionFault
-with_profile c name (Ok P) = Ok (and_profile c P)
-with_profile c name (Err f) = Err (OfProfile name f)
+-- What a section's reader returns is put into the contents, and its fault is the section's.
+abbrev pub put_in : {T F : Type 0} → (T → BundleContents) → (F → SectionFault) → Result T F
+    → Result BundleContents SectionFault
+put_in put fault (Ok x) = Ok (put x)
+put_in put fault (Err f) = Err (fault f)
+
+-- The fault of a faulty text of certificates has its line. No other fault comes of a text.
+abbrev pub certificates_fault : CheckFault → SectionFault
+certificates_fault (check.BadText line) = OfCertificates line
+certificates_fault _ = OfCertificates 0
 
 -- There is one section of rules at most, one of a state and one of certificates: each says all of
 -- them.
-abbrev pub with_rules : BundleContents → Result (List Rule) ProfileFault → Result BundleContents SectionFault
-with_rules c (Ok Rs) = Ok (record c { rules = Rs })
-with_rules c (Err f) = Err (OfRules f)
-
-abbrev pub with_state : BundleContents → Result State StateFault → Result BundleContents SectionFault
-with_state c (Ok S) = Ok (record c { state = Some S })
-with_state c (Err f) = Err (OfState f)
-
--- The line of a faulty text of certificates. No other fault comes of a text.
-abbrev pub faulty_line : CheckFault → ℕ
-faulty_line check.TooManyProfiles = 0
-faulty_line (check.SameName name) = 0
-faulty_line (check.NestedRoots first second) = 0
-faulty_line (check.Overlap w o place held path) = 0
-faulty_line (check.Breach p r path) = 0
-faulty_line (check.TooLarge g) = 0
-faulty_line (check.Missing g) = 0
-faulty_line (check.NoStart g) = 0
-faulty_line (check.NotClosed g k class) = 0
-faulty_line (check.Accepting g k) = 0
-faulty_line (check.Stray i) = 0
-faulty_line (check.BadText line) = line
-faulty_line (check.AlphabetFault e) = 0
-faulty_line check.OutOfMemory = 0
-
-abbrev pub certificates_fault : CheckFault → SectionFault
-certificates_fault e = OfCertificates (faulty_line e)
-
-abbrev pub with_certificates : BundleContents → Result (List Certificate) CheckFault
-    → Result BundleContents SectionFault
-with_certificates c (Ok cs) = Ok (record c { certificates = cs })
-with_certificates c (Err e) = Err (certificates_fault e)
-
 abbrev pub under_heading : BundleContents → Heading → List ℕ → Result BundleContents SectionFault
-under_heading c (heading.Profile name) bytes = with_profile c name (profile_in name bytes)
-under_heading c heading.Rules bytes = with_rules c (rules_in bytes)
-under_heading c heading.State bytes = with_state c (state_reading bytes)
-under_heading c heading.Certificates bytes = with_certificates c (certificates_in bytes)
+under_heading c (heading.Profile name) bytes =
+    put_in (and_profile c) (OfProfile name) (profile_in name bytes)
+under_heading c heading.Rules bytes =
+    put_in (λ Rs. record c { rules = Rs }) OfRules (rules_in bytes)
+under_heading c heading.State bytes =
+    put_in (λ S. record c { state = Some S }) OfState (state_reading bytes)
+under_heading c heading.Certificates bytes =
+    put_in (λ cs. record c { certificates = cs }) certificates_fault (certificates_in bytes)
 
 -- What is said so far, and then by one more section, or that one's first fault.
 abbrev pub with_section : BundleContents → SectionValue → Result BundleContents SectionFault
@@ -86,6 +60,19 @@ with_section c s = under_heading c s.heading s.bytes
 abbrev pub contents_reading : BundleContents → List SectionValue → Result BundleContents SectionFault
 contents_reading c [] = Ok c
 contents_reading c (s ∷ ss) = and_then (with_section c s) (λ d. contents_reading d ss)
+
+-- The reader of a section had no memory.
+abbrev pub HadNoMemory : SectionFault → Type 0
+HadNoMemory (OfProfile name f) = f.fault ≡ of_profile.OutOfMemory
+HadNoMemory (OfRules f) = f.fault ≡ of_profile.OutOfMemory
+HadNoMemory (OfState f) = f.fault ≡ of_state.OutOfMemory
+HadNoMemory (OfCertificates line) = ⊥
+
+-- The error of a section's fault: the fault, or out of memory, as it is if the reader had none.
+abbrev pub IsErrorOf : SectionFault → ReadError → Type 0
+IsErrorOf f e =
+    ((e ≡ memory.OutOfMemory) ⊎ (e ≡ memory.Faulty f))
+    × (HadNoMemory f → e ≡ memory.OutOfMemory)
 
 -- An error is the fault of the reading, or out of memory.
 abbrev pub FailsAs : {T : Type 0} → Result T SectionFault → ReadError → Type 0

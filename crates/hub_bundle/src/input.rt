@@ -57,30 +57,9 @@ pub fn read_input<R: Read>(alloc: Global, input: &mut Watched<R>) -> Result<Vec<
     ensures no_end { IsErrOf result InputFault.TurnsSpent
         → input.new.at_end ≡ input.old.at_end }
 {
-    read_turns(alloc, input, READ_TURNS)
-}
-
-/// The same, in at most this many reads.
-fn read_turns<R: Read>(
-    alloc: Global,
-    input: &mut Watched<R>,
-    turns: usize,
-) -> Result<Vec<u8>, InputFault>
-    requires { input.old.failed ≡ false }
-    ensures whole { IfOk result (λ v. IfSome (R.remaining input.old.device)
-        (λ bytes. v.items ≡ bytes)) }
-    ensures turns_spent { IsErrOf result InputFault.TurnsSpent
-        → IfSome (R.remaining input.old.device) (λ bytes. turns ≤ length bytes) }
-    ensures failed { input.new.failed ≡ says_read_failed result }
-    ensures at_end { OnOk result (input.new.at_end ≡ true) }
-    ensures reads { IsErrOf result InputFault.TurnsSpent
-        → input.new.reads ≡ input.old.reads + turns }
-    ensures no_end { IsErrOf result InputFault.TurnsSpent
-        → input.new.at_end ≡ input.old.at_end }
-{
     let mut bytes = Vec::new(alloc);
     let mut buffer = [0; READ_BYTES];
-    for _ in 0..turns {
+    for _ in 0..READ_TURNS {
         let Ok(count) = input.read(&mut buffer) else {
             return Err(InputFault::ReadFailed);
         };

@@ -1,10 +1,5 @@
 //! What a bundle's sections say.
-ghost use Rattle.std.specs.Prelude.{◌≡◌, ◌⊎◌, Ok, Err, IfOk, IfErr};
-ghost use Rattle.hub_profile.specs.Reading.{profile_in};
-ghost use Rattle.hub_profile.specs.Rules.{rules_in};
-ghost use Rattle.hub_cert.specs.Reading.{certificates_in};
-ghost use Rattle.hub_state.specs.Reading.{state_reading};
-ghost use Rattle.hub_state.specs.declared.fault.Fault.TheVariants as of_state;
+ghost use Rattle.std.specs.Prelude.{◌≡◌, ◌⊎◌, Ok, Err, IfOk, IfErr, IsTrue, OnOk};
 ghost use Rattle.hub_bundle.specs.Sections as said;
 
 use crate::bundle::{Heading, Section};
@@ -87,6 +82,33 @@ impl<T: Drop> From<AllocFailed<T>> for ReadError {
     }
 }
 
+impl From<SectionFault> for ReadError {
+    ghost use Rattle.hub_bundle.specs.Sections.{IsErrorOf};
+
+    ghost from_gives = { λ f e. IsErrorOf f e };
+
+    fn from(fault: SectionFault) -> Self {
+        if had_no_memory(&fault) {
+            ReadError::OutOfMemory
+        } else {
+            ReadError::Faulty(fault)
+        }
+    }
+}
+
+/// Returns whether the fault is that the section's reader had no memory.
+fn had_no_memory(fault: &SectionFault) -> bool
+    ensures { said.HadNoMemory fault.now → IsTrue result }
+{
+    match fault {
+        SectionFault::OfProfile { fault, .. } | SectionFault::OfRules(fault) => {
+            matches!(fault.fault, Fault::OutOfMemory)
+        }
+        SectionFault::OfState(fault) => matches!(fault.fault, hub_state::Fault::OutOfMemory),
+        SectionFault::OfCertificates { .. } => false,
+    }
+}
+
 /// Reads a bundle's sections, in order, each by the reader of its kind.
 ///
 /// Returns the first fault of the first faulty section, if there is one. `OutOfMemory` may come in place of the contents or
@@ -102,193 +124,48 @@ pub fn read_sections(alloc: Global, sections: &[Section<'_>]) -> Result<BundleCo
         certificates: Items::new(alloc),
     };
     for section in sections {
-        contents = with_section(alloc, contents, section)?;
+        add_section(alloc, &mut contents, section)?;
     }
     Ok(contents)
 }
 
 /// Adds what a section says.
-fn with_section(
+fn add_section(
     alloc: Global,
-    contents: BundleContents,
+    contents: &mut BundleContents,
     section: &Section<'_>,
-) -> Result<BundleContents, ReadError>
-    ensures ok { IfOk result (λ c. said.with_section contents section.now ≡ Ok c) }
-    ensures err { IfErr result (said.FailsAs (said.with_section contents section.now)) }
+) -> Result<(), ReadError>
+    ensures ok { OnOk result (said.with_section contents.old section.now ≡ Ok contents.new) }
+    ensures err { IfErr result (said.FailsAs (said.with_section contents.old section.now)) }
 {
     let bytes = section.bytes();
     match section.heading() {
-        Heading::Profile(name) => with_profile(alloc, contents, name, bytes),
-        Heading::Rules => with_rules(alloc, contents, bytes),
-        Heading::State => with_state(alloc, contents, bytes),
-        Heading::Certificates => with_certificates(alloc, contents, bytes),
+        Heading::Profile(name) => match read_profile(alloc, name.copy()?, bytes) {
+            Ok(profile) => contents.profiles.push(profile)?,
+            Err(fault) => {
+                let profile = name.copy()?;
+                return Err(ReadError::from(SectionFault::OfProfile { profile, fault }));
+            }
+        },
+        Heading::Rules => contents.rules = read_rules(alloc, bytes).map_err(SectionFault::OfRules)?,
+        Heading::State => {
+            contents.state = Some(read_bytes(alloc, bytes).map_err(SectionFault::OfState)?);
+        }
+        Heading::Certificates => {
+            contents.certificates = read_certificates(alloc, bytes).map_err(certificates_error)?;
+        }
     }
-}
-
-/// Adds the profile of that name.
-fn with_profile(
-    alloc: Global,
-    contents: BundleContents,
-    name: &Name,
-    bytes: &[u8],
-) -> Result<BundleContents, ReadError>
-    ensures ok { IfOk result (λ c.
-        said.with_profile contents name.now (profile_in name.now bytes.now) ≡ Ok c) }
-    ensures err { IfErr result (said.FailsAs
-        (said.with_profile contents name.now (profile_in name.now bytes.now))) }
-{
-    match read_profile(alloc, name.copy()?, bytes) {
-        Ok(profile) => Ok(and_profile(contents, profile)?),
-        Err(fault) => Err(faulty_profile(name.copy()?, fault)),
-    }
-}
-
-fn and_profile(contents: BundleContents, profile: Profile) -> Result<BundleContents, AllocError>
-    ensures { IfOk result (λ c. c ≡ said.and_profile contents profile) }
-{
-    let BundleContents {
-        mut profiles,
-        rules,
-        state,
-        certificates,
-    } = contents;
-    if profiles.push(profile).is_err() {
-        return Err(AllocError);
-    }
-    Ok(BundleContents {
-        profiles,
-        rules,
-        state,
-        certificates,
-    })
-}
-
-/// The error of a profile with that fault.
-fn faulty_profile(profile: Name, fault: ProfileFault) -> ReadError
-    ensures memory { fault.fault ≡ Fault.OutOfMemory → result ≡ ReadError.OutOfMemory }
-    ensures fault { (result ≡ ReadError.OutOfMemory)
-        ⊎ (result ≡ ReadError.Faulty (SectionFault.OfProfile profile fault)) }
-{
-    match fault.fault {
-        Fault::OutOfMemory => ReadError::OutOfMemory,
-        _ => ReadError::Faulty(SectionFault::OfProfile { profile, fault }),
-    }
-}
-
-/// Adds the rules.
-fn with_rules(
-    alloc: Global,
-    contents: BundleContents,
-    bytes: &[u8],
-) -> Result<BundleContents, ReadError>
-    ensures ok { IfOk result (λ c. said.with_rules contents (rules_in bytes.now) ≡ Ok c) }
-    ensures err { IfErr result (said.FailsAs (said.with_rules contents (rules_in bytes.now))) }
-{
-    let BundleContents {
-        profiles,
-        rules: _,
-        state,
-        certificates,
-    } = contents;
-    match read_rules(alloc, bytes) {
-        Ok(rules) => Ok(BundleContents {
-            profiles,
-            rules,
-            state,
-            certificates,
-        }),
-        Err(fault) => Err(faulty_rules(fault)),
-    }
-}
-
-/// The error of rules with that fault.
-fn faulty_rules(fault: ProfileFault) -> ReadError
-    ensures memory { fault.fault ≡ Fault.OutOfMemory → result ≡ ReadError.OutOfMemory }
-    ensures fault { (result ≡ ReadError.OutOfMemory)
-        ⊎ (result ≡ ReadError.Faulty (SectionFault.OfRules fault)) }
-{
-    match fault.fault {
-        Fault::OutOfMemory => ReadError::OutOfMemory,
-        _ => ReadError::Faulty(SectionFault::OfRules(fault)),
-    }
-}
-
-/// Adds the state.
-fn with_state(
-    alloc: Global,
-    contents: BundleContents,
-    bytes: &[u8],
-) -> Result<BundleContents, ReadError>
-    ensures ok { IfOk result (λ c. said.with_state contents (state_reading bytes.now) ≡ Ok c) }
-    ensures err { IfErr result (said.FailsAs (said.with_state contents (state_reading bytes.now))) }
-{
-    let BundleContents {
-        profiles,
-        rules,
-        state: _,
-        certificates,
-    } = contents;
-    match read_bytes(alloc, bytes) {
-        Ok(state) => Ok(BundleContents {
-            profiles,
-            rules,
-            state: Some(state),
-            certificates,
-        }),
-        Err(fault) => Err(faulty_state(fault)),
-    }
-}
-
-/// The error of a state with that fault.
-fn faulty_state(fault: StateFault) -> ReadError
-    ensures memory { fault.fault ≡ of_state.OutOfMemory → result ≡ ReadError.OutOfMemory }
-    ensures fault { (result ≡ ReadError.OutOfMemory)
-        ⊎ (result ≡ ReadError.Faulty (SectionFault.OfState fault)) }
-{
-    match fault.fault {
-        hub_state::Fault::OutOfMemory => ReadError::OutOfMemory,
-        _ => ReadError::Faulty(SectionFault::OfState(fault)),
-    }
-}
-
-/// Adds the certificates.
-fn with_certificates(
-    alloc: Global,
-    contents: BundleContents,
-    bytes: &[u8],
-) -> Result<BundleContents, ReadError>
-    ensures ok { IfOk result (λ c.
-        said.with_certificates contents (certificates_in bytes.now) ≡ Ok c) }
-    ensures err { IfErr result (said.FailsAs
-        (said.with_certificates contents (certificates_in bytes.now))) }
-{
-    let BundleContents {
-        profiles,
-        rules,
-        state,
-        certificates: _,
-    } = contents;
-    match read_certificates(alloc, bytes) {
-        Ok(certificates) => Ok(BundleContents {
-            profiles,
-            rules,
-            state,
-            certificates,
-        }),
-        Err(fault) => Err(faulty_certificates(&fault)),
-    }
+    Ok(())
 }
 
 /// The error of certificates with that fault.
-fn faulty_certificates(fault: &CheckFault) -> ReadError
-    ensures memory { fault.now ≡ CheckFault.OutOfMemory → result ≡ ReadError.OutOfMemory }
+fn certificates_error(fault: CheckFault) -> ReadError
+    ensures memory { fault ≡ CheckFault.OutOfMemory → result ≡ ReadError.OutOfMemory }
     ensures fault { (result ≡ ReadError.OutOfMemory)
-        ⊎ (result ≡ ReadError.Faulty (said.certificates_fault fault.now)) }
+        ⊎ (result ≡ ReadError.Faulty (said.certificates_fault fault)) }
 {
     match fault {
-        CheckFault::BadText { line } => {
-            ReadError::Faulty(SectionFault::OfCertificates { line: *line })
-        }
+        CheckFault::BadText { line } => ReadError::Faulty(SectionFault::OfCertificates { line }),
         _ => ReadError::OutOfMemory,
     }
 }

@@ -1,6 +1,7 @@
 use Rattle.std.proofs.Common.{◌<◌, arith, length, rules}
 use Rattle.hub_text.specs.Reads.{read-whole, taken-length}
-use Rattle.hub_bundle.proofs.input.read_turns.Goals as goal
+use Rattle.hub_bundle.specs.declared.input.TheConstants.{READ_TURNS}
+use Rattle.hub_bundle.proofs.input.read_input.Goals as goal
 
 pub returns-then-count-eq0-clause-whole : goal.returns-then-count-eq0-clause-whole
 returns-then-count-eq0-clause-whole g c =
@@ -13,5 +14,5 @@ returns-then-count-eq0-clause-whole g c =
 
 pub returns-clause-turns_spent : goal.returns-clause-turns_spent
 returns-clause-turns_spent g c =
-    λ spent. taken-length (g.R.Read.remaining c.args.input.now.device) (g.R.Read.remaining c.loop.input.device) c.loop.bytes.items c.args.turns
+    λ spent. taken-length (g.R.Read.remaining c.args.input.now.device) (g.R.Read.remaining c.loop.input.device) c.loop.bytes.items READ_TURNS
     c.loop.invariant.read (omega (arith, c.loop-test.false, c.loop.invariant.none_empty))

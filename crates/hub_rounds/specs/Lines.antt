@@ -17,20 +17,10 @@ subject_of_goal (goal.Breach p r) = Alone p (TooLarge r)
 
 -- What a line says of which profiles.
 abbrev pub subject_of : CheckFault → Subject
-subject_of fault.TooManyProfiles = Nothing
-subject_of (fault.SameName name) = Nothing
-subject_of (fault.NestedRoots first second) = Nothing
 subject_of (fault.Overlap w o place held path) = Pair w o
 subject_of (fault.Breach p r path) = Alone p (Breach r)
 subject_of (fault.TooLarge g) = subject_of_goal g
-subject_of (fault.Missing g) = Nothing
-subject_of (fault.NoStart g) = Nothing
-subject_of (fault.NotClosed g k class) = Nothing
-subject_of (fault.Accepting g k) = Nothing
-subject_of (fault.Stray i) = Nothing
-subject_of (fault.BadText line) = Nothing
-subject_of (fault.AlphabetFault e) = Nothing
-subject_of fault.OutOfMemory = Nothing
+subject_of _ = Nothing
 
 -- It is about these two profiles, either way round.
 abbrev pub names_pair : Subject → ℕ → ℕ → Bool

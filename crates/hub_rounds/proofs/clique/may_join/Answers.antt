@@ -1,6 +1,6 @@
-use Rattle.std.proofs.Common.{◌∙◌, ⊎_elim, ℕ, get_or, sym, ap, subst, arith}
-use Rattle.std.proofs.lemmas.Option.{get_or_from_slice_get, slice_get_within}
-use Rattle.hub_text.specs.ListLaws.{less-or-same}
+use Rattle.std.proofs.Common.{ℕ, get_or, arith}
+use Rattle.std.proofs.lemmas.Option.{slice_get-get_or, slice_get_within}
+use Rattle.hub_text.specs.ListLaws.{also-here}
 use Rattle.hub_rounds.specs.Lines.{HasPair}
 use Rattle.hub_rounds.proofs.clique.may_join.Goals as goal
 
@@ -11,10 +11,8 @@ pub loop-rival-preserved : goal.loop-rival-preserved
 loop-rival-preserved c =
     let rivals = c.args.rivals.now in
     let i = c.loop-rival.rival-index in
-    λ m j l at. ⊎_elim
-    (λ before. c.loop-rival.invariant m j before at)
-    (λ now. subst (λ (x : ℕ). HasPair c.args.lines.now x c.args.profile) (ap (λ (n : ℕ). get_or rivals n 0) (sym now) ∙ get_or_from_slice_get rivals m j 0 at) (c.clash.ensures c.if-not-clash.false))
-    (less-or-same m i l)
+    also-here (λ (x : ℕ). HasPair c.args.lines.now x c.args.profile) rivals i (get_or rivals i 0) (slice_get-get_or rivals i 0 (omega arith)) (c.clash.ensures c.if-not-clash.false)
+    c.loop-rival.invariant
 
 pub returns : goal.returns
 returns c =

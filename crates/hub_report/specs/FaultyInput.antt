@@ -13,34 +13,23 @@ use Rattle.hub_report.specs.declared.faulty_input.FaultyInput.TheVariants.{BadSe
 use Rattle.hub_report.specs.Faults.{bundle_fault_name, fault_line, input_fault_name}
 use Rattle.hub_report.specs.Faults.{section_fault_name}
 
--- The places: a line of the bundle, and a line of a section, counted from the one below its
--- heading.
-abbrev pub bundle_place : ℕ → List ℕ
-bundle_place line = codes "bundle line " ++ decimal line
+-- A line of the bundle or of a section, counted from the one below its heading.
+abbrev pub line_place : List ℕ → ℕ → List ℕ
+line_place part line = part ++ (codes " line " ++ decimal line)
 
 abbrev pub profile_place : Name → ℕ → List ℕ
-profile_place name line =
-    codes "profile " ++ (encode_utf8_all name ++ (codes " line " ++ decimal line))
-
-abbrev pub rules_place : ℕ → List ℕ
-rules_place line = codes "rules line " ++ decimal line
-
-abbrev pub state_place : ℕ → List ℕ
-state_place line = codes "state line " ++ decimal line
-
-abbrev pub certificates_place : ℕ → List ℕ
-certificates_place line = codes "certificates line " ++ decimal line
+profile_place name line = line_place (codes "profile " ++ encode_utf8_all name) line
 
 abbrev pub section_place : SectionFault → List ℕ
 section_place (OfProfile name f) = profile_place name f.line
-section_place (OfRules f) = rules_place f.line
-section_place (OfState f) = state_place f.line
-section_place (OfCertificates line) = certificates_place line
+section_place (OfRules f) = line_place (codes "rules") f.line
+section_place (OfState f) = line_place (codes "state") f.line
+section_place (OfCertificates line) = line_place (codes "certificates") line
 
 -- The place of the fault of an input, and what the fault is called.
 abbrev pub fault_place_in : FaultyInput → List ℕ
 fault_place_in (Unread f) = codes "bundle line 0"
-fault_place_in (BadBundle f) = bundle_place f.line
+fault_place_in (BadBundle f) = line_place (codes "bundle") f.line
 fault_place_in (BadSection f) = section_place f
 
 abbrev pub fault_name_in : FaultyInput → List ℕ

@@ -16,20 +16,8 @@ clashing_pair (Breach p r) = None
 
 -- Of a fault, the two profiles whose clash is too large to be searched.
 abbrev pub undecided_in : CheckFault → Option Pair
-undecided_in fault.TooManyProfiles = None
-undecided_in (fault.SameName name) = None
-undecided_in (fault.NestedRoots first second) = None
-undecided_in (fault.Overlap w o place held path) = None
-undecided_in (fault.Breach p r path) = None
 undecided_in (fault.TooLarge g) = clashing_pair g
-undecided_in (fault.Missing g) = None
-undecided_in (fault.NoStart g) = None
-undecided_in (fault.NotClosed g k class) = None
-undecided_in (fault.Accepting g k) = None
-undecided_in (fault.Stray i) = None
-undecided_in (fault.BadText line) = None
-undecided_in (fault.AlphabetFault e) = None
-undecided_in fault.OutOfMemory = None
+undecided_in _ = None
 
 -- The line that names two profiles.
 abbrev pub pair_line : List Parts → Pair → List ℕ

@@ -1,5 +1,5 @@
 //! The answer to an input that can't be read or isn't a bundle.
-ghost use Rattle.std.specs.Prelude.{◌≡◌, codes, IfOk};
+ghost use Rattle.std.specs.Prelude.{◌≡◌, IfOk};
 ghost use Rattle.hub_report.specs.Blocks.{bytes_in};
 ghost use Rattle.hub_report.specs.Faults as names;
 ghost use Rattle.hub_report.specs.FaultyInput as spec;
@@ -11,7 +11,6 @@ use crate::faults::{
 use hub_bundle::{BundleLineFault, InputFault, SectionFault};
 use hub_path::Name;
 use hub_profile::ProfileFault;
-use hub_state::StateFault;
 use std::alloc::{AllocError, Global};
 
 /// Why an input is not a bundle.
@@ -34,20 +33,12 @@ impl FaultyInput {
             FaultyInput::Unread(fault) => {
                 fault_line(alloc, "bundle line 0", input_fault_name(fault))
             }
-            FaultyInput::BadBundle(fault) => bundle_fault_line(alloc, fault),
+            FaultyInput::BadBundle(fault) => {
+                fault_line_in(alloc, "bundle", fault.line, bundle_fault_name(fault.fault))
+            }
             FaultyInput::BadSection(fault) => section_fault_line(alloc, &fault),
         }
     }
-}
-
-/// The line of a fault of the bundle.
-fn bundle_fault_line(alloc: Global, fault: BundleLineFault) -> Result<Blocks, AllocError>
-    ensures { IfOk result (λ t. bytes_in t ≡ names.fault_line
-        (spec.bundle_place fault.line) (names.bundle_fault_name fault.fault)) }
-{
-    let line = fault.line;
-    let place = format!(in alloc; "bundle line {line}")?;
-    fault_line(alloc, place.as_str(), bundle_fault_name(fault.fault))
 }
 
 /// The line of a fault of a section.
@@ -57,9 +48,16 @@ fn section_fault_line(alloc: Global, fault: &SectionFault) -> Result<Blocks, All
 {
     match fault {
         SectionFault::OfProfile { profile, fault } => profile_fault_line(alloc, profile, fault),
-        SectionFault::OfRules(fault) => rules_fault_line(alloc, fault),
-        SectionFault::OfState(fault) => state_fault_line(alloc, *fault),
-        SectionFault::OfCertificates { line } => certificates_fault_line(alloc, *line),
+        SectionFault::OfRules(fault) => {
+            let name = profile_fault_name(alloc, &fault.fault)?;
+            fault_line_in(alloc, "rules", fault.line, name.as_str())
+        }
+        SectionFault::OfState(fault) => {
+            fault_line_in(alloc, "state", fault.line, state_fault_name(fault.fault))
+        }
+        SectionFault::OfCertificates { line } => {
+            fault_line_in(alloc, "certificates", *line, "BadText")
+        }
     }
 }
 
@@ -73,38 +71,16 @@ fn profile_fault_line(
         (spec.profile_place profile.now fault.now.line)
         (names.profile_fault_name fault.now.fault)) }
 {
-    let line = fault.line;
-    let place = format!(in alloc; "profile {profile} line {line}")?;
+    let section = format!(in alloc; "profile {profile}")?;
     let name = profile_fault_name(alloc, &fault.fault)?;
-    fault_line(alloc, place.as_str(), name.as_str())
+    fault_line_in(alloc, section.as_str(), fault.line, name.as_str())
 }
 
-/// The line of a fault of the rules.
-fn rules_fault_line(alloc: Global, fault: &ProfileFault) -> Result<Blocks, AllocError>
-    ensures { IfOk result (λ t. bytes_in t ≡ names.fault_line
-        (spec.rules_place fault.now.line) (names.profile_fault_name fault.now.fault)) }
+/// The line of a fault that is in a line of this part of the input.
+fn fault_line_in(alloc: Global, part: &str, line: usize, name: &str) -> Result<Blocks, AllocError>
+    ensures { IfOk result (λ t. bytes_in t
+        ≡ names.fault_line (spec.line_place part.now line) name.now) }
 {
-    let line = fault.line;
-    let place = format!(in alloc; "rules line {line}")?;
-    let name = profile_fault_name(alloc, &fault.fault)?;
-    fault_line(alloc, place.as_str(), name.as_str())
-}
-
-/// The line of a fault of the state.
-fn state_fault_line(alloc: Global, fault: StateFault) -> Result<Blocks, AllocError>
-    ensures { IfOk result (λ t. bytes_in t ≡ names.fault_line
-        (spec.state_place fault.line) (names.state_fault_name fault.fault)) }
-{
-    let line = fault.line;
-    let place = format!(in alloc; "state line {line}")?;
-    fault_line(alloc, place.as_str(), state_fault_name(fault.fault))
-}
-
-/// The line of a faulty line of certificates.
-fn certificates_fault_line(alloc: Global, line: usize) -> Result<Blocks, AllocError>
-    ensures { IfOk result (λ t.
-        bytes_in t ≡ names.fault_line (spec.certificates_place line) (codes "BadText")) }
-{
-    let place = format!(in alloc; "certificates line {line}")?;
-    fault_line(alloc, place.as_str(), "BadText")
+    let place = format!(in alloc; "{part} line {line}")?;
+    fault_line(alloc, place.as_str(), name)
 }

@@ -190,26 +190,20 @@ fn has_large_breach(faults: &[CheckFault], number: usize) -> bool
 fn is_breach(subject: Subject, number: usize) -> bool
     ensures { result ≡ graph.is_breach number subject }
 {
-    match subject {
-        Subject::Alone {
-            profile,
-            reason: Obstacle::Breach(_),
-        } => profile == number,
-        _ => false,
-    }
+    matches!(
+        subject,
+        Subject::Alone { profile, reason: Obstacle::Breach(_) } if profile == number
+    )
 }
 
 /// Returns whether it is too large to decide whether this profile may break a rule.
 fn is_large_breach(subject: Subject, number: usize) -> bool
     ensures { result ≡ graph.is_large_breach number subject }
 {
-    match subject {
-        Subject::Alone {
-            profile,
-            reason: Obstacle::TooLarge(_),
-        } => profile == number,
-        _ => false,
-    }
+    matches!(
+        subject,
+        Subject::Alone { profile, reason: Obstacle::TooLarge(_) } if profile == number
+    )
 }
 
 /// Adds the line of each root of these profiles, in the order of their texts.

@@ -6,9 +6,8 @@ ghost use Rattle.hub_report.specs.Refusal.{joined};
 ghost use Rattle.hub_report.specs.RoundsRun as spec;
 
 use crate::blocks::Blocks;
-use crate::run::{RunError, error_line};
-use hub_state::{State, write_state};
-use hub_text::Watched;
+use crate::run::{RunError, error_line, with_state};
+use hub_state::State;
 use std::alloc::{AllocError, Global};
 
 /// What the jobs of the rounds of a set did, and what they left.
@@ -38,13 +37,9 @@ pub fn text_of_rounds_run(alloc: Global, run: RoundsRun) -> Result<Blocks, Alloc
         ..
     } = run;
     let reason = error_text(alloc, &error)?;
-    let text = text_above(alloc, rounds, lines, reason.as_str())?;
-    let above = Blocks::new(alloc, text.into_bytes())?;
-    let mut output = Watched::new(above);
-    match write_state(alloc, &mut output, &state) {
-        Ok(()) => Ok(output.into_inner()),
-        Err(_) => Err(AllocError),
-    }
+    let above = text_above(alloc, rounds, lines, reason.as_str())?;
+    let text = with_state(alloc, above.into_bytes(), &state)?;
+    Ok(text)
 }
 
 /// The lines above the state, in the memory of those of the jobs.

@@ -52,9 +52,15 @@ pub fn text_of_run(alloc: Global, run: Run) -> Result<Blocks, AllocError>
         ≡ codes "safe\n" ++ (string_bytes run.lines ++ state_text run.state)) }
 {
     let Run { lines, state, .. } = run;
-    let above = Blocks::new(alloc, below_safe(lines)?)?;
-    let mut output = Watched::new(above);
-    match write_state(alloc, &mut output, &state) {
+    with_state(alloc, below_safe(lines)?, &state)
+}
+
+/// These bytes, and below them the text of a state.
+pub(crate) fn with_state(alloc: Global, above: Vec<u8>, state: &State) -> Result<Blocks, AllocError>
+    ensures { IfOk result (λ t. bytes_in t ≡ above.items ++ state_text state.now) }
+{
+    let mut output = Watched::new(Blocks::new(alloc, above)?);
+    match write_state(alloc, &mut output, state) {
         Ok(()) => Ok(output.into_inner()),
         Err(_) => Err(AllocError),
     }

@@ -41,6 +41,50 @@ pub fn list_text(alloc: Global, parts: &[String]) -> Result<String> {
     Ok(parts.join(alloc, ", ")?)
 }
 
+/// The texts of these, with a separator between them.
+pub fn joined<T, F: Fn(&T) -> Result<String>>(
+    alloc: Global,
+    items: &[T],
+    separator: &str,
+    text: F,
+) -> Result<String>
+    requires { F.IsAlwaysCallable text }
+{
+    let mut texts = Vec::new(alloc);
+    for item in items {
+        texts.push(text(item)?)?;
+    }
+    Ok(texts.as_slice().join(alloc, separator)?)
+}
+
+/// The list of the texts of these, as `list_text` writes it.
+pub fn list_of<T, F: Fn(&T) -> Result<String>>(
+    alloc: Global,
+    items: &[T],
+    text: F,
+) -> Result<String>
+    requires { F.IsAlwaysCallable text }
+{
+    if items.is_empty() {
+        return list_text(alloc, &[]);
+    }
+    joined(alloc, items, ", ", text)
+}
+
+/// The answer to what was read or made, or its fault.
+pub fn answer_or_fault<T, E: Display, F: FnOnce(&T) -> Result<String>>(
+    alloc: Global,
+    made: &Result<T, E>,
+    answer: F,
+) -> Result<String>
+    requires { F.IsAlwaysCallable answer }
+{
+    match made {
+        Ok(value) => answer(value),
+        Err(fault) => shown(alloc, fault),
+    }
+}
+
 /// `ok`, or the error.
 pub fn outcome_text<T: Drop, E: Display + Drop>(
     alloc: Global,

@@ -31,7 +31,11 @@ pub fn three(fields: &str) -> Result<(&str, &str, &str)> {
 
 /// The character that a field is.
 pub fn character_of(alloc: Global, field: &str) -> Result<char> {
-    let text = text_of(alloc, field)?;
+    only_character(text_of(alloc, field)?.as_str())
+}
+
+/// The character that a text is.
+pub fn only_character(text: &str) -> Result<char> {
     let mut characters = text.chars();
     match (characters.next(), characters.next()) {
         (Some(character), None) => Ok(character),

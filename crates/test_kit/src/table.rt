@@ -35,7 +35,7 @@ pub fn answer_each<R: Input + Print + AllocGlobal, F: Fn(Global, &str, &str) -> 
 }
 
 /// Takes each line of standard input, but no empty line, and none that begins with `#`.
-fn for_each_line<R: Input + AllocGlobal, F: FnMut(&str) -> Result<()>>(
+pub fn for_each_line<R: Input + AllocGlobal, F: FnMut(&str) -> Result<()>>(
     rt: &R,
     mut take: F,
 ) -> Result<()>

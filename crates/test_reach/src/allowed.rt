@@ -1,7 +1,6 @@
 //! Questions about what walkers and tables allow at the path of a text.
 use crate::given::{alphabet_of, profile_of};
-use crate::numbers::number_after;
-use crate::stages::table_of;
+use crate::numbers::{Numbers, number_after};
 use crate::verbs::verbs_text;
 use crate::walkers::{Walking, stage_after};
 use anyhow::{Result, bail};
@@ -49,7 +48,7 @@ fn stage_text(
 
 fn numbered_text(alloc: Global, profile: &Profile, side: Side, text: &str) -> Result<String> {
     let alphabet = alphabet_of(alloc, profile)?;
-    let mut table = table_of(alloc, profile, &alphabet)?;
+    let mut table = Table::of_profile(alloc, profile, &alphabet)?;
     let number = number_after(&alphabet, &mut *table, text)?;
     Ok(number_text(alloc, &table, number, side)?)
 }

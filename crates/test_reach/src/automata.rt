@@ -3,7 +3,7 @@ use crate::automaton::Automaton;
 use anyhow::{Context, Result};
 use hub_automaton::{Class, SpecSet, Spots};
 use std::alloc::{AllocError, Global};
-use test_kit::{digit, shown, three, two};
+use test_kit::{answer_or_fault, digit, shown, three, two};
 
 /// Returns whether one of the specifications matches what has been read of a text, after each of its characters.
 pub(crate) fn walk(alloc: Global, fields: &str) -> Result<String> {
@@ -52,10 +52,12 @@ fn comparison(one: &Spots, other: &Spots) -> &'static str {
 /// How many words the start state has, and whether one of the specifications matches the empty text; or why there is no
 /// automaton.
 pub(crate) fn start(alloc: Global, specs: &str) -> Result<String> {
-    match Automaton::of_specs(alloc, specs) {
-        Ok(automaton) => Ok(start_text(alloc, &automaton.set)?),
-        Err(fault) => shown(alloc, &fault),
-    }
+    let made = Automaton::of_specs(alloc, specs);
+    answer_or_fault(
+        alloc,
+        &made,
+        |automaton| Ok(start_text(alloc, &automaton.set)?),
+    )
 }
 
 fn start_text(alloc: Global, set: &SpecSet) -> Result<String, AllocError> {

@@ -14,7 +14,6 @@ mod numbers;
 mod paths;
 mod reached;
 mod stages;
-mod states;
 mod verbs;
 mod walkers;
 
@@ -42,7 +41,7 @@ fn answer(alloc: Global, word: &str, fields: &str) -> Result<String> {
         "leads" => automata::leads(alloc, fields),
         "path" => paths::path(alloc, fields),
         "paths" => paths::paths(alloc, fields),
-        "states" => states::states(alloc, fields),
+        "states" => stages::states(alloc, fields),
         _ => answer_on_profile(alloc, word, fields),
     }
 }

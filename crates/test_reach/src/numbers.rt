@@ -1,10 +1,19 @@
 //! Tables that number what texts lead to.
-use hub_automaton::{Alphabet, Class};
-use hub_reach::{SpecTable, Table};
+ghost use Rattle.hub_reach.specs.Mention.{Mentions};
+
+use crate::given::alphabet_of;
+use anyhow::Result;
+use hub_automaton::{Alphabet, Class, SpecSet};
+use hub_profile::Profile;
+use hub_reach::{SpecTable, Table, Walker};
 use std::alloc::{AllocError, Global};
 
 /// A table that numbers what texts lead to.
 pub(crate) trait Numbers {
+    /// Makes the table of a profile.
+    fn of_profile(alloc: Global, profile: &Profile, alphabet: &Alphabet) -> Result<Box<Self>>
+        requires { Mentions alphabet.now profile.now };
+
     /// The number of the empty text.
     fn first_number(&mut self) -> Result<usize, AllocError>;
 
@@ -18,8 +27,18 @@ pub(crate) trait Numbers {
     fn count(&self) -> usize;
 }
 
-/// For each of these texts in turn its number and what the table says of it, and then how many numbers there are.
-pub(crate) fn numbers_text<N: Numbers>(
+/// For each of these texts in turn its number and what the table of a profile says of it, and then how many numbers there are.
+pub(crate) fn numbers_of<N: Numbers + Drop>(
+    alloc: Global,
+    profile: &Profile,
+    texts: &str,
+) -> Result<String> {
+    let alphabet = alphabet_of(alloc, profile)?;
+    let mut table = N::of_profile(alloc, profile, &alphabet)?;
+    Ok(numbers_text(alloc, &alphabet, &mut *table, texts)?)
+}
+
+fn numbers_text<N: Numbers>(
     alloc: Global,
     alphabet: &Alphabet,
     table: &mut N,
@@ -50,6 +69,12 @@ pub(crate) fn number_after<N: Numbers>(
 }
 
 impl Numbers for Table {
+    /// Makes the table of a profile's walker.
+    fn of_profile(alloc: Global, profile: &Profile, alphabet: &Alphabet) -> Result<Box<Table>> {
+        let walker = Walker::new(alloc, profile, alphabet)?;
+        Ok(Box::new(alloc, Table::new(alloc, walker))?)
+    }
+
     fn first_number(&mut self) -> Result<usize, AllocError> {
         self.start()
     }
@@ -81,6 +106,12 @@ impl Numbers for Table {
 }
 
 impl Numbers for SpecTable {
+    /// Makes the table of what a profile ignores.
+    fn of_profile(alloc: Global, profile: &Profile, alphabet: &Alphabet) -> Result<Box<SpecTable>> {
+        let set = SpecSet::build(alloc, alphabet, profile.ignore())?;
+        Ok(Box::new(alloc, SpecTable::new(alloc, set))?)
+    }
+
     fn first_number(&mut self) -> Result<usize, AllocError> {
         self.start()
     }

@@ -1,12 +1,9 @@
-//! Questions about the numbers of stages.
-ghost use Rattle.hub_reach.specs.Mention.{Mentions};
-
-use crate::given::{alphabet_of, alphabet_with, profile_of};
-use crate::numbers::numbers_text;
+//! Questions about the numbers of stages, and about those of specifications' states.
+use crate::given::{alphabet_with, profile_ignoring, profile_of};
+use crate::numbers::{Numbers, numbers_of};
 use anyhow::Result;
 use hub_automaton::{Alphabet, ClassSet};
-use hub_profile::Profile;
-use hub_reach::{Table, Walker};
+use hub_reach::{SpecTable, Table};
 use std::alloc::{AllocError, Global};
 use test_kit::{digit, three, two};
 
@@ -15,21 +12,14 @@ use test_kit::{digit, three, two};
 pub(crate) fn stages(alloc: Global, fields: &str) -> Result<String> {
     let (lines, texts) = two(fields)?;
     let profile = profile_of(alloc, lines)?;
-    stages_of(alloc, &profile, texts)
+    numbers_of::<Table>(alloc, &profile, texts)
 }
 
-fn stages_of(alloc: Global, profile: &Profile, texts: &str) -> Result<String> {
-    let alphabet = alphabet_of(alloc, profile)?;
-    let mut table = table_of(alloc, profile, &alphabet)?;
-    Ok(numbers_text(alloc, &alphabet, &mut *table, texts)?)
-}
-
-/// Makes the table of a profile's walker.
-pub(crate) fn table_of(alloc: Global, profile: &Profile, alphabet: &Alphabet) -> Result<Box<Table>>
-    requires { Mentions alphabet.now profile.now }
-{
-    let walker = Walker::new(alloc, profile, alphabet)?;
-    Ok(Box::new(alloc, Table::new(alloc, walker))?)
+/// For each of these texts in turn the number of its state and whether it is matched, and then how many states were found.
+pub(crate) fn states(alloc: Global, fields: &str) -> Result<String> {
+    let (specs, texts) = two(fields)?;
+    let profile = profile_ignoring(alloc, specs)?;
+    numbers_of::<SpecTable>(alloc, &profile, texts)
 }
 
 /// For each of these characters whether its class may lead from the start elsewhere than class 0 does, as `0` and `1`.
@@ -37,7 +27,7 @@ pub(crate) fn open_classes(alloc: Global, fields: &str) -> Result<String> {
     let (lines, path, characters) = three(fields)?;
     let profile = profile_of(alloc, lines)?;
     let alphabet = alphabet_with(alloc, path, &profile)?;
-    let mut table = table_of(alloc, &profile, &alphabet)?;
+    let mut table = Table::of_profile(alloc, &profile, &alphabet)?;
     Ok(open_text(alloc, &alphabet, &mut table, characters)?)
 }
 

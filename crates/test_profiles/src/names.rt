@@ -3,7 +3,7 @@ use crate::answers::hash_alike;
 use anyhow::{Result, bail};
 use hub_path::Name;
 use std::alloc::Global;
-use test_kit::{quoted, shown, word_of, yes_or_no};
+use test_kit::{answer_or_fault, quoted, shown, word_of, yes_or_no};
 
 /// Answers a question about the text of a name:
 ///
@@ -21,18 +21,15 @@ pub(crate) fn answer(alloc: Global, question: &str, texts: &[String]) -> Result<
 
 fn answer_on_one(alloc: Global, question: &str, text: &str) -> Result<String> {
     match question {
-        "read" => name_or_fault(alloc, text),
+        "read" => answer_or_fault(
+            alloc,
+            &Name::read(alloc, text),
+            |name| quoted(alloc, name.text()),
+        ),
         "from-text" => name_or_none(alloc, text),
         "copy" => copy(alloc, text),
         "hash" => hash(alloc, text),
         _ => bail!("an unknown question"),
-    }
-}
-
-fn name_or_fault(alloc: Global, text: &str) -> Result<String> {
-    match Name::read(alloc, text) {
-        Ok(name) => quoted(alloc, name.text()),
-        Err(fault) => shown(alloc, &fault),
     }
 }
 

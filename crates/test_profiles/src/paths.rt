@@ -2,7 +2,7 @@
 use anyhow::{Result, bail, ensure};
 use hub_path::{Name, RelPath, without_last_slash};
 use std::alloc::Global;
-use test_kit::{quoted, shown, yes_or_no};
+use test_kit::{answer_or_fault, quoted, shown, yes_or_no};
 
 /// Answers a question about the text of a path:
 ///
@@ -28,7 +28,11 @@ pub(crate) fn answer(alloc: Global, question: &str, texts: &[String]) -> Result<
 
 fn answer_on_one(alloc: Global, question: &str, text: &str) -> Result<String> {
     match question {
-        "read" => path_or_fault(alloc, text),
+        "read" => answer_or_fault(
+            alloc,
+            &RelPath::read(alloc, text),
+            |path| path_shown(alloc, path),
+        ),
         "from-text" => path_or_none(alloc, RelPath::from_text(alloc, text)?),
         "without-last-slash" => quoted(alloc, without_last_slash(text)),
         "shown" => path_shown(alloc, &path_of(alloc, text)?),
@@ -59,13 +63,6 @@ fn path_shown(alloc: Global, path: &RelPath) -> Result<String> {
     let count = path.len();
     let text = path.text()?;
     Ok(format!(in alloc; "{count} {text:?}")?)
-}
-
-fn path_or_fault(alloc: Global, text: &str) -> Result<String> {
-    match RelPath::read(alloc, text) {
-        Ok(path) => path_shown(alloc, &path),
-        Err(fault) => shown(alloc, &fault),
-    }
 }
 
 fn path_or_none(alloc: Global, path: Option<RelPath>) -> Result<String> {

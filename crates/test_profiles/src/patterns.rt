@@ -1,11 +1,10 @@
 //! Questions about path specifications and their pieces.
 use crate::paths::path_of;
-use crate::texts::character_of;
 use anyhow::{Result, bail, ensure};
 use hub_glob::{NextCharacter, PathSpec, Piece};
 use hub_path::RelPath;
 use std::alloc::{AllocError, Global};
-use test_kit::{quoted, shown, yes_or_no};
+use test_kit::{answer_or_fault, only_character, quoted, shown, yes_or_no};
 
 /// Answers a question about the text of a specification:
 ///
@@ -83,10 +82,11 @@ fn answer_on_two(
 }
 
 fn fault_or_none(alloc: Global, text: &str) -> Result<String> {
-    match PathSpec::read(alloc, text) {
-        Ok(_) => shown(alloc, &"none"),
-        Err(fault) => shown(alloc, &fault),
-    }
+    answer_or_fault(
+        alloc,
+        &PathSpec::read(alloc, text),
+        |_| shown(alloc, &"none"),
+    )
 }
 
 fn matches_front(alloc: Global, spec: &PathSpec, path: &RelPath, count: usize) -> Result<String> {
@@ -121,7 +121,7 @@ fn letter_of(piece: &Piece) -> char {
 /// A character at a place.
 fn next_of(character: &str, place: &str) -> Result<NextCharacter> {
     Ok(NextCharacter {
-        character: character_of(character)?,
+        character: only_character(character)?,
         first: place == "first",
     })
 }

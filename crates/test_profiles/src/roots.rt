@@ -3,7 +3,7 @@ use crate::answers::{both, hash_alike};
 use anyhow::{Result, bail};
 use hub_path::{Root, Side};
 use std::alloc::Global;
-use test_kit::{quoted, shown, yes_or_no};
+use test_kit::{answer_or_fault, quoted, shown, yes_or_no};
 
 /// Answers a question about the text of a root:
 ///
@@ -24,7 +24,11 @@ pub(crate) fn answer(alloc: Global, question: &str, texts: &[String]) -> Result<
 
 fn answer_on_one(alloc: Global, question: &str, text: &str) -> Result<String> {
     match question {
-        "read" => root_or_fault(alloc, text),
+        "read" => answer_or_fault(
+            alloc,
+            &Root::read(alloc, text),
+            |root| quoted(alloc, root.as_str()),
+        ),
         _ => answer_on_root(alloc, question, &Root::read(alloc, text)?),
     }
 }
@@ -37,13 +41,6 @@ fn answer_on_root(alloc: Global, question: &str, root: &Root) -> Result<String> 
         "copy" => copy(alloc, root),
         "hash" => yes_or_no(alloc, hash_alike(root, root.path())),
         _ => bail!("an unknown question"),
-    }
-}
-
-fn root_or_fault(alloc: Global, text: &str) -> Result<String> {
-    match Root::read(alloc, text) {
-        Ok(root) => quoted(alloc, root.as_str()),
-        Err(fault) => shown(alloc, &fault),
     }
 }
 

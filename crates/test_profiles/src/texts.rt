@@ -5,7 +5,7 @@ use hub_text::{
 };
 use std::alloc::{AllocError, Global};
 use std::str;
-use test_kit::{quoted, yes_or_no};
+use test_kit::{only_character, quoted, yes_or_no};
 
 /// Answers a question about a text:
 ///
@@ -36,8 +36,8 @@ fn answer_on_one(alloc: Global, question: &str, text: &str) -> Result<String> {
 
 fn answer_on_two(alloc: Global, question: &str, text: &str, other: &str) -> Result<String> {
     match question {
-        "begins-with" => begins(alloc, text, character_of(other)?),
-        "without-last" => shortened(alloc, text, character_of(other)?),
+        "begins-with" => begins(alloc, text, only_character(other)?),
+        "without-last" => shortened(alloc, text, only_character(other)?),
         "compare" => compared(alloc, text, other),
         _ => bail!("an unknown question"),
     }
@@ -96,13 +96,4 @@ fn line_and_rest(alloc: Global, bytes: &[u8]) -> Result<String> {
     let first = str::from_utf8(line.text)?;
     let rest = str::from_utf8(lines.rest())?;
     Ok(format!(in alloc; "{:?}", (first, rest))?)
-}
-
-/// The character that a text is.
-pub(crate) fn character_of(text: &str) -> Result<char> {
-    let mut characters = text.chars();
-    match (characters.next(), characters.next()) {
-        (Some(character), None) => Ok(character),
-        _ => bail!("a field isn't one character"),
-    }
 }

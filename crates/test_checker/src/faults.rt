@@ -1,4 +1,7 @@
 //! How faults are shown.
+ghost use Rattle.std.specs.Prelude.{◌≡◌, IfOk, Ok};
+
+use anyhow::{Result, bail};
 use hub_cert::CheckFault;
 use hub_path::RelPath;
 use std::alloc::{AllocError, Global};
@@ -46,4 +49,14 @@ fn breach_text(
 ) -> Result<String, AllocError> {
     let path = path.text()?;
     format!(in alloc; "{profile} breaks rule {rule} at {path}")
+}
+
+/// What was made, in a box. It is an error if there is a fault in its place.
+pub(crate) fn boxed<T: Drop>(alloc: Global, made: Result<T, CheckFault>) -> Result<Box<T>>
+    ensures { IfOk result (λ b. made ≡ Ok b.value) }
+{
+    match made {
+        Ok(value) => Ok(Box::new(alloc, value)?),
+        Err(fault) => bail!("no set and no product: {fault:?}"),
+    }
 }

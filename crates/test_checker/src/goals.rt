@@ -4,7 +4,7 @@ use anyhow::{Context, Result, bail};
 use hub_cert::{Goal, Place, ProfileSet};
 use hub_path::Side;
 use std::alloc::{AllocError, Global};
-use test_kit::{first, list_text, yes_or_no};
+use test_kit::{first, list_of, yes_or_no};
 
 /// The goals of a set, or `none`.
 pub(crate) fn goals_answer(alloc: Global, fields: &str) -> Result<String> {
@@ -13,11 +13,11 @@ pub(crate) fn goals_answer(alloc: Global, fields: &str) -> Result<String> {
 }
 
 fn goals_text(alloc: Global, set: &ProfileSet) -> Result<String> {
-    let mut texts = Vec::new(alloc);
-    for goal in set.goals(alloc)?.as_slice() {
-        texts.push(goal_text(alloc, *goal)?)?;
-    }
-    list_text(alloc, texts.as_slice())
+    list_of(
+        alloc,
+        set.goals(alloc)?.as_slice(),
+        |goal| Ok(goal_text(alloc, *goal)?),
+    )
 }
 
 /// Returns whether a set has a goal.

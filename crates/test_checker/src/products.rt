@@ -3,13 +3,15 @@ ghost use Rattle.std.specs.Prelude.{ℕ, ◌<◌, IfOk, IsTrue};
 ghost use Rattle.hub_automaton.specs.Alphabet.{class_count};
 ghost use Rattle.hub_cert.specs.Goals.{is_goal};
 ghost use Rattle.hub_cert.specs.Product.{HasClass};
+ghost use Rattle.hub_cert.specs.Set.{alphabet_of};
 
+use crate::faults::boxed;
 use crate::goals::goal_of;
 use crate::sets::set_of;
 use crate::words::text_of;
 use anyhow::{Result, bail};
 use hub_automaton::Alphabet;
-use hub_cert::{CheckFault, Goal, GoalStage, Product, ProfileSet};
+use hub_cert::{Goal, GoalStage, Product, ProfileSet};
 use std::alloc::{AllocError, Global};
 use test_kit::{first, shown};
 
@@ -32,21 +34,17 @@ fn place_text(alloc: Global, set: &ProfileSet, goal: Goal, text: &str) -> Result
 fn walk(alloc: Global, set: &ProfileSet, goal: Goal, text: &str) -> Result<&'static str>
     requires { IsTrue (is_goal set.now goal) }
 {
-    place_in(&Product::new(alloc, set, goal), set.alphabet(), text)
+    let product = product_of(alloc, set, goal)?;
+    Ok(place_after(&product, set.alphabet(), text)?)
 }
 
-fn place_in(
-    product: &Result<Product, CheckFault>,
-    alphabet: &Alphabet,
-    text: &str,
-) -> Result<&'static str>
-    requires { IfOk product.now (λ p. (k : ℕ) → k < class_count alphabet.now
-        → HasClass p.automata k) }
+/// The product of a goal. It is boxed, since it is large.
+fn product_of(alloc: Global, set: &ProfileSet, goal: Goal) -> Result<Box<Product>>
+    requires { IsTrue (is_goal set.now goal) }
+    ensures { IfOk result (λ p. (k : ℕ) → k < class_count (alphabet_of set.now)
+        → HasClass p.value.automata k) }
 {
-    match product {
-        Ok(product) => Ok(place_after(product, alphabet, text)?),
-        Err(fault) => bail!("no product: {fault:?}"),
-    }
+    boxed(alloc, Product::new(alloc, set, goal))
 }
 
 fn place_after(

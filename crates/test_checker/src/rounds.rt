@@ -3,32 +3,39 @@ use crate::faults::fault_text;
 use crate::sets::set_of;
 use anyhow::{Result, bail};
 use hub_profile::Profile;
-use hub_rounds::{Clashes, Obstacle, Placed, Placing, Rounds, clashes_of, rounds_of};
+use hub_rounds::{Clashes, Obstacle, Placed, Placing, Rounds, RoundsFault, clashes_of, rounds_of};
 use std::alloc::{AllocError, Global};
+use test_kit::{joined, shown};
 
 /// What the goals of a set show, each as a fault; or `nothing`.
 pub(crate) fn clashes_answer(alloc: Global, fields: &str) -> Result<String> {
     let set = set_of(alloc, fields)?;
-    Ok(clashes_text(alloc, &clashes_of(alloc, &set)?)?)
+    let clashes = clashes_of(alloc, &set)?;
+    clashes_text(alloc, &clashes)
 }
 
-fn clashes_text(alloc: Global, clashes: &Clashes) -> Result<String, AllocError> {
-    let mut said = Vec::new(alloc);
-    for line in clashes.lines() {
-        said.push(fault_text(alloc, line)?)?;
+fn clashes_text(alloc: Global, clashes: &Clashes) -> Result<String> {
+    if clashes.lines().is_empty() {
+        return shown(alloc, &"nothing");
     }
-    if said.is_empty() {
-        return String::from_str(alloc, "nothing");
-    }
-    said.as_slice().join(alloc, " / ")
+    joined(
+        alloc,
+        clashes.lines(),
+        " / ",
+        |line| Ok(fault_text(alloc, line)?),
+    )
 }
 
 /// The profiles of each round, how many rounds are needed, and who is in none.
 pub(crate) fn rounds_answer(alloc: Global, fields: &str) -> Result<String> {
     let set = set_of(alloc, fields)?;
     let clashes = clashes_of(alloc, &set)?;
-    match rounds_of(alloc, Box::into_inner(set), &clashes) {
-        Ok(rounds) => Ok(rounds_text(alloc, &rounds)?),
+    made_text(alloc, &rounds_of(alloc, Box::into_inner(set), &clashes))
+}
+
+fn made_text(alloc: Global, made: &Result<Rounds, RoundsFault>) -> Result<String> {
+    match made {
+        Ok(rounds) => Ok(rounds_text(alloc, rounds)?),
         Err(fault) => bail!("no rounds: {fault:?}"),
     }
 }

@@ -12,7 +12,7 @@ use hub_path::RelPath;
 use hub_search::{Finding, certificates, check, search};
 use hub_text::Items;
 use std::alloc::{AllocError, Global};
-use test_kit::first;
+use test_kit::{first, joined};
 
 /// What a search for a goal finds.
 pub(crate) fn search_answer(alloc: Global, fields: &str) -> Result<String> {
@@ -76,11 +76,12 @@ fn compared(
 }
 
 fn comparisons(alloc: Global, set: &ProfileSet, certificates: &[Certificate]) -> Result<String> {
-    let mut said = Vec::new(alloc);
-    for certificate in certificates {
-        said.push(comparison(alloc, set, certificate)?)?;
-    }
-    Ok(said.as_slice().join(alloc, ", ")?)
+    joined(
+        alloc,
+        certificates,
+        ", ",
+        |certificate| comparison(alloc, set, certificate),
+    )
 }
 
 fn comparison(alloc: Global, set: &ProfileSet, certificate: &Certificate) -> Result<String> {

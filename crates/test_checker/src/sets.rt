@@ -4,8 +4,8 @@
 //! - `rules: LINES` are the rules.
 //!
 //! The lines have `; ` between them. Where there are none, the `: ` is left out, too.
-use crate::faults::fault_text;
-use anyhow::{Result, bail};
+use crate::faults::{boxed, fault_text};
+use anyhow::Result;
 use hub_cert::{CheckFault, ProfileSet};
 use hub_path::Name;
 use hub_profile::{Profile, Rules, read_profile, read_rules};
@@ -39,10 +39,7 @@ fn counts_text(alloc: Global, set: &ProfileSet) -> Result<String, AllocError> {
 /// Makes the set of these fields.
 pub(crate) fn set_of(alloc: Global, fields: &str) -> Result<Box<ProfileSet>> {
     let (profiles, rules) = members_of(alloc, fields)?;
-    match ProfileSet::new(alloc, profiles, rules) {
-        Ok(set) => Ok(Box::new(alloc, set)?),
-        Err(fault) => bail!("no set: {fault:?}"),
-    }
+    boxed(alloc, ProfileSet::new(alloc, profiles, rules))
 }
 
 /// Reads the profiles and the rules of these fields.
@@ -50,19 +47,35 @@ fn members_of(alloc: Global, fields: &str) -> Result<(Items<Profile>, Rules)> {
     let mut profiles = Items::new(alloc);
     let mut rules = Rules::new(alloc);
     for field in fields.split(" | ") {
-        let (head, lines) = field.split_once(": ").unwrap_or((field, ""));
-        match head {
-            "" => {}
-            "rules" => rules = rules_of(alloc, lines)?,
-            _ => profiles.push(profile_of(alloc, head, lines)?)?,
-        }
+        add_member(alloc, &mut profiles, &mut rules, field)?;
     }
     Ok((profiles, rules))
+}
+
+/// Reads a profile or the rules.
+fn add_member(
+    alloc: Global,
+    profiles: &mut Items<Profile>,
+    rules: &mut Rules,
+    field: &str,
+) -> Result<()> {
+    let (head, lines) = field.split_once(": ").unwrap_or((field, ""));
+    match head {
+        "" => {}
+        "rules" => *rules = rules_of(alloc, lines)?,
+        _ => profiles.push(profile_of(alloc, head, lines)?)?,
+    }
+    Ok(())
 }
 
 fn profile_of(alloc: Global, head: &str, lines: &str) -> Result<Profile> {
     let (name, roots) = cut(head);
     let text = profile_text(alloc, roots, lines)?;
+    read_named(alloc, name, text.as_str())
+}
+
+/// Reads the profile of that name and this text.
+fn read_named(alloc: Global, name: &str, text: &str) -> Result<Profile> {
     let name = Name::read(alloc, name)?;
     Ok(read_profile(alloc, name, text.as_bytes())?)
 }

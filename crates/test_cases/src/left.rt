@@ -7,6 +7,7 @@ use hub_state::{State, write_state};
 use hub_text::{Items, Watched};
 use std::alloc::Global;
 use std::str::from_utf8;
+use test_kit::joined;
 
 /// What jobs left, or why they weren't run.
 pub fn left_text(alloc: Global, left: &Result<Outcome, RunFault>) -> Result<String> {
@@ -24,11 +25,7 @@ pub fn outcome_text(alloc: Global, outcome: &Outcome) -> Result<String> {
 }
 
 fn jobs_text(alloc: Global, ends: &[JobEnd]) -> Result<String> {
-    let mut jobs = Vec::new(alloc);
-    for end in ends {
-        jobs.push(job_text(alloc, end)?)?;
-    }
-    Ok(jobs.as_slice().join(alloc, ", ")?)
+    joined(alloc, ends, ", ", |end| job_text(alloc, end))
 }
 
 /// How a job ended, and its log. An entry is shown by its operation, as `l` for a Look, `f` for a Fetch and `s` for a Set, and

@@ -21,6 +21,7 @@
 mod archives;
 mod devices;
 mod levels;
+mod pair;
 mod reconciliation;
 mod sections;
 mod shown;

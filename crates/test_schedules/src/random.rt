@@ -3,7 +3,7 @@
 use crate::schedules::one_after_the_other;
 use anyhow::{Result, bail};
 use hub_cert::Verified;
-use hub_job::Outcome;
+use hub_job::{Outcome, RunFault};
 use hub_schedule::{cycles_for, simulate};
 use hub_state::State;
 use std::alloc::{AllocError, Global};
@@ -74,7 +74,10 @@ fn compared(
 /// What the jobs leave one after the other.
 fn left_in_sequence(alloc: Global, verified: &Verified<'_>, state: &State) -> Result<String> {
     let sequence = one_after_the_other(alloc, verified.set().profiles(), state)?;
-    left_by(alloc, verified, state, sequence.as_slice())
+    left_text(
+        alloc,
+        &simulate(alloc, verified, state, sequence.as_slice()),
+    )
 }
 
 /// What a random schedule leaves.
@@ -86,7 +89,10 @@ fn left_by_chance(
 ) -> Result<String> {
     let cycles = cycles_for(alloc, verified.set().profiles(), state)?;
     let schedule = random_schedule(alloc, dice, cycles.as_slice())?;
-    left_by(alloc, verified, state, schedule.as_slice())
+    left_text(
+        alloc,
+        &simulate(alloc, verified, state, schedule.as_slice()),
+    )
 }
 
 /// A schedule that begins with random turns.
@@ -104,14 +110,8 @@ fn random_schedule(
 }
 
 /// All that a schedule leaves.
-fn left_by(
-    alloc: Global,
-    verified: &Verified<'_>,
-    state: &State,
-    schedule: &[usize],
-) -> Result<String> {
-    let left = simulate(alloc, verified, state, schedule);
-    match &left {
+fn left_text(alloc: Global, left: &Result<Outcome, RunFault>) -> Result<String> {
+    match left {
         Ok(outcome) => whole_text(alloc, outcome),
         Err(fault) => bail!("{fault:?}"),
     }

@@ -7,7 +7,7 @@ use hub_reconcile::{Fate, Item};
 use hub_tree::Archive;
 use std::alloc::Global;
 use test_cases::kind_of;
-use test_kit::list_text;
+use test_kit::list_of;
 
 /// What a job does next.
 pub(crate) fn next_text(alloc: Global, next: &Next) -> Result<String> {
@@ -41,11 +41,7 @@ fn path_text(alloc: Global, path: &RelPath) -> Result<String> {
 
 /// The items of a job.
 pub(crate) fn items_text(alloc: Global, items: &[Item]) -> Result<String> {
-    let mut parts = Vec::new(alloc);
-    for item in items {
-        parts.push(item_text(alloc, item)?)?;
-    }
-    list_text(alloc, parts.as_slice())
+    list_of(alloc, items, |item| item_text(alloc, item))
 }
 
 fn item_text(alloc: Global, item: &Item) -> Result<String> {
@@ -65,9 +61,5 @@ pub(crate) fn archive_text(alloc: Global, archive: &Option<Archive>) -> Result<S
 }
 
 fn paths_text(alloc: Global, paths: &[RelPath]) -> Result<String> {
-    let mut parts = Vec::new(alloc);
-    for path in paths {
-        parts.push(path_text(alloc, path)?)?;
-    }
-    list_text(alloc, parts.as_slice())
+    list_of(alloc, paths, |path| path_text(alloc, path))
 }

@@ -1,8 +1,9 @@
 //! Steps at a desk over an empty replica, and what the desk can be closed with.
 
+use crate::settling::new_book;
 use anyhow::{Context, Result, bail};
 use hub_cert::ProfileSet;
-use hub_history::{Book, Desk, Gate, Seat, StepFault};
+use hub_history::{Desk, Gate, Seat, StepFault};
 use hub_job::{Answer, Op};
 use hub_path::Root;
 use hub_text::Items;
@@ -83,17 +84,10 @@ fn push_all<R: Wait>(
 
 /// A desk over an empty replica, with one seat.
 fn desk_of<'a>(alloc: Global, set: &'a ProfileSet, root: &Root) -> Result<(Desk<'a>, Vec<Seat>)> {
-    let book = book_of(alloc, set, root)?;
+    let book = new_book(alloc, set, root, Tree::new(alloc))?;
     match Desk::new(alloc, book, 1) {
         Ok((desk, seats)) => Ok((desk, seats.into_vec())),
         Err(_) => bail!("no desk"),
-    }
-}
-
-fn book_of<'a>(alloc: Global, set: &'a ProfileSet, root: &Root) -> Result<Book<'a>> {
-    match Book::new(alloc, set, root.copy()?, Tree::new(alloc)) {
-        Ok(book) => Ok(book),
-        Err(_) => bail!("no book"),
     }
 }
 

@@ -2,7 +2,7 @@
 //! hand from the rules; so the program is a test of `hub_history` and `hub_runner`.
 //!
 //! The questions are written as `test_kit` says, but without abbreviations. A line of the input gives something to the questions
-//! below it, or it is a question. What answers needs threads, so the table is read here: `test_kit::Answers` has no place for that.
+//! below it, or it is a question. What answers needs threads, so each line is taken here: `test_kit::Answers` has no place for that.
 //!
 //! These lines give something (`test_cases`):
 //!
@@ -33,27 +33,21 @@ mod runs;
 mod settling;
 mod watch;
 
-use anyhow::{Context, Result};
+use anyhow::Result;
 use runs::Run;
-use std::io::{BufRead, BufReader};
 use std::sync::Wait;
 use std::thread::Threads;
 use test_cases::Case;
-use test_kit::cut;
+use test_kit::{cut, for_each_line};
 
 fn main(rt: HostRuntime) -> Result<()> {
-    let alloc = rt.alloc();
-    let mut case = Case::new(alloc);
-    for line in BufReader::new(alloc, rt.reader())?.lines(alloc) {
-        let line = line?;
-        take_line(&rt, &mut case, line.as_str()).context(format_args!("{line}"))?;
-    }
-    Ok(())
+    let mut case = Case::new(rt.alloc());
+    for_each_line(&rt, |line| take_line(&rt, &mut case, line))
 }
 
 /// Takes a line of the input, and writes the answer if it is a question.
 fn take_line<R: Print + Threads + Wait + Sync>(rt: &R, case: &mut Case, line: &str) -> Result<()> {
-    if line.is_empty() || line.starts_with('#') || takes(case, line)? {
+    if takes(case, line)? {
         return Ok(());
     }
     let answer = answer(rt, case, line)?;

@@ -182,7 +182,13 @@ fn tree_of(source: Source<'_>, root: &Root) -> Result<Tree> {
     }
 }
 
-fn new_book<'a>(alloc: Global, set: &'a ProfileSet, root: &Root, tree: Tree) -> Result<Book<'a>> {
+/// The book of a root that opens with this replica.
+pub(crate) fn new_book<'a>(
+    alloc: Global,
+    set: &'a ProfileSet,
+    root: &Root,
+    tree: Tree,
+) -> Result<Book<'a>> {
     match Book::new(alloc, set, root.copy()?, tree) {
         Ok(book) => Ok(book),
         Err(_) => bail!("no book"),

@@ -5,6 +5,9 @@ use std::alloc::Global;
 use std::io::{ErrorKind, Read, Write};
 use std::{cmp, io};
 
+/// How many calls of a device are made to fail, one after the other, at most.
+pub(crate) const CALLS: usize = 10_000;
+
 /// Gives a text some bytes at a time.
 #[derive(Drop)]
 pub(crate) struct Pieces<'a> {

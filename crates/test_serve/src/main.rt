@@ -2,7 +2,7 @@
 //! out by hand from the rules; so the program is a test of what `serve` does with inputs that come in pieces, don't end or fail, and
 //! with outputs that take little, nothing or fail.
 //!
-//! The questions are written as `test_kit` says, but without abbreviations. `serve` may wait for threads, so the table is read
+//! The questions are written as `test_kit` says, but without abbreviations. `serve` may wait for threads, so each line is taken
 //! here: `test_kit::Answers` has no place for that.
 //!
 //! A line `input TEXT` gives the input of the questions below it. The TEXT may have escapes. WORDS are those of the command line.
@@ -23,20 +23,15 @@ mod reading;
 mod shown;
 mod writing;
 
-use anyhow::{Context, Result, bail};
-use std::io::{BufRead, BufReader, Eprint};
+use anyhow::{Result, bail};
+use std::io::Eprint;
 use std::sync::Wait;
 use std::thread::Threads;
-use test_kit::{bytes_of, cut};
+use test_kit::{bytes_of, cut, for_each_line};
 
 fn main(rt: HostRuntime) -> Result<()> {
-    let alloc = rt.alloc();
-    let mut text = Vec::new(alloc);
-    for line in BufReader::new(alloc, rt.reader())?.lines(alloc) {
-        let line = line?;
-        take_line(&rt, &mut text, line.as_str()).context(format_args!("{line}"))?;
-    }
-    Ok(())
+    let mut text = Vec::new(rt.alloc());
+    for_each_line(&rt, |line| take_line(&rt, &mut text, line))
 }
 
 /// Takes a line: the text of the input, or a question. It writes the answer to a question.
@@ -46,9 +41,6 @@ fn take_line<R: AllocGlobal + Print + Eprint + Threads + Wait + Sync>(
     line: &str,
 ) -> Result<()> {
     let (word, fields) = cut(line);
-    if line.is_empty() || line.starts_with('#') {
-        return Ok(());
-    }
     if word == "input" {
         *text = bytes_of(rt.alloc(), fields)?;
         return Ok(());

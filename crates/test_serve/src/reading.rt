@@ -1,6 +1,6 @@
 //! Inputs that come in pieces, that fail, and that don't end.
 
-use crate::devices::{Blanks, Kept, Pieces};
+use crate::devices::{Blanks, CALLS, Kept, Pieces};
 use crate::shown::{served, shown};
 use anyhow::{Result, bail};
 use std::io::Eprint;
@@ -9,9 +9,6 @@ use std::thread::Threads;
 
 /// How many bytes of an input come at a time. `serve` asks for 4,096.
 const SIZES: [usize; 5] = [1, 2, 7, 100, 4_096];
-
-/// How many calls are made to fail, one after the other, at most.
-const CALLS: usize = 10_000;
 
 /// What is written for an input, whatever the size of its pieces is.
 pub(crate) fn answer<R: AllocGlobal + Eprint + Threads + Wait + Sync>(

@@ -1,14 +1,11 @@
 //! Outputs that take little at a time, nothing, or fail.
 
-use crate::devices::{Failure, Kept, Pieces};
+use crate::devices::{CALLS, Failure, Kept, Pieces};
 use crate::shown::served;
 use anyhow::{Context, Result, bail, ensure};
 use std::io::Eprint;
 use std::sync::Wait;
 use std::thread::Threads;
-
-/// How many calls are made to fail, one after the other, at most.
-const CALLS: usize = 10_000;
 
 /// How many calls an output gets that takes so many bytes at a time, the flush among them, and the status if any one of them fails.
 /// An error if the calls are others for another kind of failure.

@@ -57,7 +57,8 @@ with_section c s = under_heading c s.heading s.bytes
 
 -- What is said so far, and then by these sections in order, or the first fault of the first faulty
 -- one.
-abbrev pub contents_reading : BundleContents → List SectionValue → Result BundleContents SectionFault
+abbrev pub contents_reading : BundleContents → List SectionValue
+    → Result BundleContents SectionFault
 contents_reading c [] = Ok c
 contents_reading c (s ∷ ss) = and_then (with_section c s) (λ d. contents_reading d ss)
 

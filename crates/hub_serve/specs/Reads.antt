@@ -3,8 +3,8 @@ use Rattle.std.specs.Prelude.{◌≡◌, ℕ, ◌+◌, Bool}
 use Rattle.hub_text.specs.declared.watched.Watched.{Watched}
 use Rattle.hub_bundle.specs.declared.input.TheConstants.{READ_TURNS}
 
--- How many reads of an input were made before and after, whether one of them had met its end before and after, and whether
--- one has failed.
+-- How many reads of an input were made before and after, whether one of them had met its end before
+-- and after, and whether one has failed.
 pub record Reads : Type 0 where
   pub before : ℕ
   pub after : ℕ

@@ -53,8 +53,8 @@ use Rattle.hub_serve.specs.Rounds.{BeginsAsClash, DrawsClashes, ListsClashes, Wr
 use Rattle.hub_serve.specs.Runs.{HasRunAs, IsBelow, IsPrevented}
 use Rattle.hub_serve.specs.Task.{AsksTask, LacksState, task_of}
 
--- A text is the whole of what is to be told, with the status of that, unless a call of the output failed: then it is a prefix,
--- and the status is 2.
+-- A text is the whole of what is to be told, with the status of that, unless a call of the output
+-- failed: then it is a prefix, and the status is 2.
 pub record IsWholeUnlessFailed (full : List ℕ) (full_status : ℕ) (failed : Bool)
     (text : List ℕ) (status : ℕ) : Type 0 where
   pub written : ℕ
@@ -62,7 +62,8 @@ pub record IsWholeUnlessFailed (full : List ℕ) (full_status : ℕ) (failed : B
   pub whole : failed ≡ false → text ≡ full
   pub status_is : status ≡ (if failed then 2 else full_status)
 
--- The bytes are a bundle whose profiles and rules are a safe set, and this text is what is to follow `safe`.
+-- The bytes are a bundle whose profiles and rules are a safe set, and this text is what is to
+-- follow `safe`.
 pub record SpellsSafe (asked : Option Request) (bytes text : List ℕ) (failed : Bool)
     (status : ℕ) : Type 0 where
   pub of_set : Question
@@ -91,7 +92,8 @@ pub record SpellsVerified (asked : Option Request) (bytes : List ℕ) : Type 0 w
   pub inductive : AreCertificates (members contents) contents.certificates
   pub safe : IsSafeSet (members contents)
 
--- The words ask for what clashes, and the bytes are a bundle of whose set this text is to say it, with status 1.
+-- The words ask for what clashes, and the bytes are a bundle of whose set this text is to say it,
+-- with status 1.
 pub record SpellsClashes (bytes text : List ℕ) (failed : Bool) (status : ℕ) : Type 0 where
   pub contents : BundleContents
   pub spelled : Spells bytes contents
@@ -99,8 +101,8 @@ pub record SpellsClashes (bytes text : List ℕ) (failed : Bool) (status : ℕ) 
   pub listed : ListsClashes (members contents) full
   pub told : IsWholeUnlessFailed full 1 failed text status
 
--- The words ask for rounds, and the bytes are a bundle whose set is cut so. The status is 0 if each profile is in a round and no
--- goal was too large, else 1.
+-- The words ask for rounds, and the bytes are a bundle whose set is cut so. The status is 0 if each
+-- profile is in a round and no goal was too large, else 1.
 pub record SpellsRounds (asked : Option Request) (bytes text : List ℕ) (failed : Bool)
     (status : ℕ) : Type 0 where
   pub is_asked : asked ≡ Some (question.about ask.Rounds)
@@ -111,9 +113,9 @@ pub record SpellsRounds (asked : Option Request) (bytes text : List ℕ) (failed
   pub cut : WritesRounds (members contents) full decided
   pub told : IsWholeUnlessFailed full (if decided then 0 else 1) failed text status
 
--- The words ask for a run by rounds, and the bytes are a bundle whose state the rounds of its set were
--- run on, and this text is to say what they did and left. The status is 0 if each round was run and
--- each job is finished, else 3.
+-- The words ask for a run by rounds, and the bytes are a bundle whose state the rounds of its set
+-- were run on, and this text is to say what they did and left. The status is 0 if each round was
+-- run and each job is finished, else 3.
 pub record SpellsRoundsRun (asked : Option Request) (bytes text : List ℕ) (failed : Bool)
     (status : ℕ) : Type 0 where
   pub workers : ℕ
@@ -139,7 +141,8 @@ pub record SpellsGraph (asked : Option Request) (bytes text : List ℕ) (failed 
   pub drawn : DrawsClashes (members contents) full safe
   pub told : IsWholeUnlessFailed full (if safe then 0 else 1) failed text status
 
--- It was asked whether a profile reaches a path, and this is the answer of the first profile of that name.
+-- It was asked whether a profile reaches a path, and this is the answer of the first profile of
+-- that name.
 pub record ReachIs (request : Request) (Ps : List Parts) (answer : Bool) : Type 0 where
   pub profile : List ℕ
   pub path : List ℕ
@@ -176,7 +179,8 @@ FaultOf task.Clashes S cs e = ⊥
 FaultOf task.Graph S cs e = ⊥
 FaultOf task.Rounds S cs e = ⊥
 
--- The text is that of certificates of a set, one for each goal and in the order of the goals, and it is read as these.
+-- The text is that of certificates of a set, one for each goal and in the order of the goals, and
+-- it is read as these.
 pub record WritesCertificates (S : Members) (text : List ℕ) : Type 0 where
   pub own : List Certificate
   pub inductive : AreCertificates S own
@@ -240,7 +244,8 @@ IsToldOfReach request Ps NotReached = ReachIs request Ps false
 IsToldOfReach request Ps (NoProfile name) = LacksProfile request Ps name.now
 IsToldOfReach request Ps (BadPath f) = HasBadPath request Ps f
 
--- What holds of the question and of what the bundle says where the program answers so to a bundle that was read.
+-- What holds of the question and of what the bundle says where the program answers so to a bundle
+-- that was read.
 abbrev pub IsTold : Request → BundleContents → Report → Type 0
 IsTold request c (answer.Faulty f) = ⊥
 IsTold request c (answer.Reach a) = IsToldOfReach request c.profiles a
@@ -255,7 +260,8 @@ pub record IsTrueOf (request : Request) (bytes : List ℕ) (r : Report) : Type 0
   pub spelled : Spells bytes contents
   pub told : IsTold request contents r
 
--- What holds of an input that isn't read. That a read failed is no fact about its bytes: `says_read_failed` tells it.
+-- What holds of an input that isn't read. That a read failed is no fact about its bytes:
+-- `says_read_failed` tells it.
 abbrev pub IsUnread : List ℕ → InputFault → Type 0
 IsUnread bytes input.ReadFailed = ⊤
 IsUnread bytes input.TurnsSpent = READ_TURNS ≤ length bytes
@@ -273,7 +279,8 @@ Holds request bytes (answer.Faulty f) = IsFaulty bytes f
 Holds request bytes answer.OutOfMemory = ⊤
 Holds request bytes r = IsTrueOf request bytes r
 
--- The words ask whether a profile reaches a path, and this is what a profile that the bytes spell answers.
+-- The words ask whether a profile reaches a path, and this is what a profile that the bytes spell
+-- answers.
 pub record SpellsReach (asked : Option Request) (bytes : List ℕ) (answer : Bool) : Type 0 where
   pub request : Request
   pub is_asked : asked ≡ Some request
@@ -281,7 +288,8 @@ pub record SpellsReach (asked : Option Request) (bytes : List ℕ) (answer : Boo
   pub spelled : Spells bytes contents
   pub answered : ReachIs request contents.profiles answer
 
--- A text was written to an output, whole unless a call of the output failed: then a prefix of it, and the status is 2.
+-- A text was written to an output, whole unless a call of the output failed: then a prefix of it,
+-- and the status is 2.
 pub record WritesText (old new : Option (List ℕ)) (text : List ℕ) (status : ℕ) (failed : Bool)
     (result : ℕ) : Type 0 where
   pub written : ℕ
@@ -289,16 +297,18 @@ pub record WritesText (old new : Option (List ℕ)) (text : List ℕ) (status : 
   pub whole : failed ≡ false → take written text ≡ text
   pub status_is : result ≡ (if failed then 2 else status)
 
--- Nothing was written, or a prefix of the line that says `out of memory`. The status is that of a fault.
+-- Nothing was written, or a prefix of the line that says `out of memory`. The status is that of a
+-- fault.
 pub record AnswersNothing (old new : Option (List ℕ)) (status : ℕ) : Type 0 where
   pub status_is : status ≡ 2
   pub writes : Keeps old new ⊎ ((written : ℕ)
       × Appends old new (take written (codes "fault: out of memory\n")))
 
--- The text of one answer was written, and the answer is true of the question and of the input, whose remaining bytes are
--- these if they are known. It says that a read failed only if one did. If one did, it says so, or `out of memory`. It says
--- that the reads were spent only if they were, none of them having met the end. Each other answer but `out of memory` is
--- given only if a read met the end.
+-- The text of one answer was written, and the answer is true of the question and of the input,
+-- whose remaining bytes are these if they are known. It says that a read failed only if one did. If
+-- one did, it says so, or `out of memory`. It says that the reads were spent only if they were,
+-- none of them having met the end. Each other answer but `out of memory` is given only if a read
+-- met the end.
 pub record Answers (request : Request) (remaining old new : Option (List ℕ)) (reads : Reads)
     (write_failed : Bool) (status : ℕ) : Type 0 where
   pub report : Report
@@ -312,20 +322,23 @@ pub record Answers (request : Request) (remaining old new : Option (List ℕ)) (
   pub is_text : text ≡ text_of report
   pub writes : WritesText old new text (status_of report) write_failed status
 
--- What the program does for the words that ask for this, or for nothing: an input's bytes, an output before and after, the
--- reads of the input, whether a call of the output failed, and the status.
+-- What the program does for the words that ask for this, or for nothing: an input's bytes, an
+-- output before and after, the reads of the input, whether a call of the output failed, and the
+-- status.
 pub record Serves (asked : Option Request) (remaining old new : Option (List ℕ)) (reads : Reads)
     (write_failed : Bool) (status : ℕ) : Type 0 where
   pub few : status ≤ 3
   pub nothing : asked ≡ None → AnswersNothing old new status
   pub answer : (request : Request) → asked ≡ Some request
       → Answers request remaining old new reads write_failed status
-  -- `safe` is written only if the words ask for a check, for what clashes or for a run, and the input spells a safe set. What follows it is what
-  -- its jobs did and left of the input's state, or why they weren't run,
+  -- `safe` is written only if the words ask for a check, for what clashes or for a run, and the
+  -- input spells a safe set. What follows it is what its jobs did and left of the input's state, or
+  -- why they weren't run,
   pub safe : (bytes before text : List ℕ) → remaining ≡ Some bytes → old ≡ Some before
       → new ≡ Some (before ++ (codes "safe\n" ++ text))
       → SpellsSafe asked bytes text write_failed status
-  -- `verified` only if the words ask for `verify`, and the input's certificates show that the set that it spells is safe,
+  -- `verified` only if the words ask for `verify`, and the input's certificates show that the set
+  -- that it spells is safe,
   pub verified : (bytes before text : List ℕ) → remaining ≡ Some bytes → old ≡ Some before
       → new ≡ Some (before ++ (codes "verified\n" ++ text)) → SpellsVerified asked bytes
   -- `overlap:` and `breach:` only if the input spells a set that isn't safe,
@@ -333,10 +346,11 @@ pub record Serves (asked : Option Request) (remaining old new : Option (List ℕ
       → new ≡ Some (before ++ (codes "overlap: " ++ text)) → SpellsUnsafe bytes
   pub breach : (bytes before text : List ℕ) → remaining ≡ Some bytes → old ≡ Some before
       → new ≡ Some (before ++ (codes "breach: " ++ text)) → SpellsUnsafe bytes
-  -- `rounds` only if the words ask for rounds, and the input spells a set that is cut so; or if they ask for a run by rounds,
-  -- and the rounds of the set that it spells were run on its state, one after another. `graph clashes {` only if they ask for
-  -- the graph of what clashes in that set. For words that ask for what clashes, a first line of that kind is the first of all
-  -- such lines,
+  -- `rounds` only if the words ask for rounds, and the input spells a set that is cut so; or if
+  -- they ask for a run by rounds, and the rounds of the set that it spells were run on its state,
+  -- one after another. `graph clashes {` only if they ask for the graph of what clashes in that
+  -- set. For words that ask for what clashes, a first line of that kind is the first of all such
+  -- lines,
   pub rounds : (bytes before text : List ℕ) → remaining ≡ Some bytes → old ≡ Some before
       → new ≡ Some (before ++ (codes "rounds " ++ text))
       → SpellsRounds asked bytes (codes "rounds " ++ text) write_failed status

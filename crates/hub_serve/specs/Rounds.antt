@@ -13,8 +13,9 @@ use Rattle.hub_rounds.specs.declared.rounds.Rounds.{Rounds}
 use Rattle.hub_report.specs.Graph.{graph_text}
 use Rattle.hub_report.specs.Rounds.{clash_lines, rounds_text}
 
--- A text has a line for each goal of a set that isn't ruled out, in the order of the goals, and there is one. Each line shows
--- that the set isn't safe, unless it says that its goal is too large. The first is one by which the set may be refused.
+-- A text has a line for each goal of a set that isn't ruled out, in the order of the goals, and
+-- there is one. Each line shows that the set isn't safe, unless it says that its goal is too large.
+-- The first is one by which the set may be refused.
 pub record ListsClashes (S : Members) (text : List ℕ) : Type 0 where
   pub lines : List CheckFault
   pub some : lines ≢ []
@@ -24,9 +25,9 @@ pub record ListsClashes (S : Members) (text : List ℕ) : Type 0 where
   pub first : (e : CheckFault) (others : List CheckFault) → lines ≡ e ∷ others → IsFirstFault S e
   pub text_is : text ≡ clash_lines S lines
 
--- A text draws a set and all that clashes in it: a line for each goal that isn't ruled out. Each line
--- shows that the set isn't safe, unless it says that its goal is too large. The set is called safe
--- exactly if there is no line, and then it is.
+-- A text draws a set and all that clashes in it: a line for each goal that isn't ruled out. Each
+-- line shows that the set isn't safe, unless it says that its goal is too large. The set is called
+-- safe exactly if there is no line, and then it is.
 pub record DrawsClashes (S : Members) (text : List ℕ) (safe : Bool) : Type 0 where
   pub lines : List CheckFault
   pub all : AreFaults S lines
@@ -38,20 +39,8 @@ pub record DrawsClashes (S : Members) (text : List ℕ) (safe : Bool) : Type 0 w
 
 -- A fault says that a goal is too large.
 abbrev pub is_too_large : CheckFault → Bool
-is_too_large fault.TooManyProfiles = false
-is_too_large (fault.SameName name) = false
-is_too_large (fault.NestedRoots first second) = false
-is_too_large (fault.Overlap w o place held path) = false
-is_too_large (fault.Breach p r path) = false
 is_too_large (fault.TooLarge g) = true
-is_too_large (fault.Missing g) = false
-is_too_large (fault.NoStart g) = false
-is_too_large (fault.NotClosed g k class) = false
-is_too_large (fault.Accepting g k) = false
-is_too_large (fault.Stray i) = false
-is_too_large (fault.BadText line) = false
-is_too_large (fault.AlphabetFault e) = false
-is_too_large fault.OutOfMemory = false
+is_too_large other = false
 
 -- Each profile is in a round, and no goal was too large.
 abbrev pub is_decided : List CheckFault → Rounds → Bool

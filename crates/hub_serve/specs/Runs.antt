@@ -32,8 +32,9 @@ pub record HasRun (M : Members) (S : State) (r : Run) : Type 0 where
   pub left : r.state ≡ outcome.state
   pub finished : r.finished ≡ true ↔ AreFinished outcome.jobs
 
--- Why the jobs of profiles aren't run on a state by n workers. The first of these that applies: there are no workers, or too
--- many; a replica is missing; a thread is refused. A stranger and a mismatch are faults that no test shows.
+-- Why the jobs of profiles aren't run on a state by n workers. The first of these that applies:
+-- there are no workers, or too many; a replica is missing; a thread is refused. A stranger and a
+-- mismatch are faults that no test shows.
 abbrev pub PreventsRun : State → List Parts → ℕ → RunError → Type 0
 PreventsRun S Ps n fault.NoWorkers = n ≡ 0
 PreventsRun S Ps n fault.TooManyWorkers = WORKERS < n
@@ -64,8 +65,8 @@ pub record IsPrevented (t : Task) (M : Members) (e : RunError) : Type 0 where
   pub safe : IsSafeSet M
   pub reason : PreventsRun state M.profiles workers e
 
--- These are the lines of the jobs, and below them the text of the state that they left. The status is 0 exactly if each of
--- them is finished, else 3.
+-- These are the lines of the jobs, and below them the text of the state that they left. The status
+-- is 0 exactly if each of them is finished, else 3.
 pub record WritesRun (M : Members) (S : State) (status : ℕ) (below : List ℕ) : Type 0 where
   pub outcome : Outcome
   pub run : IsRunOn M S outcome
@@ -80,7 +81,8 @@ pub record WritesError (M : Members) (S : State) (n status : ℕ) (below : List 
   pub text : below ≡ error_line error
   pub status_is : status ≡ 3
 
--- What is to follow `safe`, with the status if all is written: nothing and 0, unless jobs are to be run.
+-- What is to follow `safe`, with the status if all is written: nothing and 0, unless jobs are to be
+-- run.
 abbrev pub IsBelow : Task → Members → ℕ → List ℕ → Type 0
 IsBelow task.Check M status below = (status ≡ 0) × (below ≡ [])
 IsBelow (task.RunJobs n S) M status below =

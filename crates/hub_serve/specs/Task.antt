@@ -9,8 +9,8 @@ use Rattle.hub_cli.specs.declared.words.TheConstants.{DEFAULT_WORKERS}
 use Rattle.hub_serve.specs.declared.task.Task.{Task}
 use Rattle.hub_serve.specs.declared.task.Task.TheVariants as task
 
--- What a question asks to do if the bundle has this state, or none. Without a command, the jobs are run by
--- `DEFAULT_WORKERS` workers if there is a state. A run without a state can't be done.
+-- What a question asks to do if the bundle has this state, or none. Without a command, the jobs are
+-- run by `DEFAULT_WORKERS` workers if there is a state. A run without a state can't be done.
 abbrev pub task_of : Question → Option State → Option Task
 task_of CheckWithState None = Some task.Check
 task_of CheckWithState (Some S) = Some (task.RunJobs DEFAULT_WORKERS S)

@@ -43,8 +43,8 @@ file_of (Some p) = p.file.now
 abbrev pub file_at : List Part → ℕ → List ℕ
 file_at parts n = file_of (slice_get parts n)
 
--- If each file can be a section, the answer is given over the bundle that they make. Else a fault of
--- the first that can't be one was written. In both cases it may be that memory is out instead.
+-- If each file can be a section, the answer is given over the bundle that they make. Else a fault
+-- of the first that can't be one was written. In both cases it may be that memory is out instead.
 pub record ServesParts (asked : Option Request) (parts : List Part) (old new : Option (List ℕ))
     (failed : Bool) (status : ℕ) : Type 0 where
   pub bundled : first_faulty parts ≡ None
@@ -64,16 +64,16 @@ abbrev pub label_if : Kind → Option (List ℕ) → List Label
 label_if kind None = []
 label_if kind (Some file) = (kind, file) ∷ []
 
--- The files that the words name, in the order of their sections: the profiles, the rules, the state,
--- the certificates.
+-- The files that the words name, in the order of their sections: the profiles, the rules, the
+-- state, the certificates.
 abbrev pub labels : Names → List Label
 labels names =
     map (λ file. (Profile, file)) names.profiles
     ++ (label_if Rules names.rules
     ++ (label_if State names.state ++ label_if Certificates names.certificates))
 
--- The answer is given over bytes for each of the files that are named and for no other ones, each in
--- the section that it is for. Or it was written that one can't be read, or that memory is out.
+-- The answer is given over bytes for each of the files that are named and for no other ones, each
+-- in the section that it is for. Or it was written that one can't be read, or that memory is out.
 abbrev pub ServesFiles : Option Request → Names → Option (List ℕ) → Option (List ℕ) → Bool → ℕ
     → Type 0
 ServesFiles asked names old new failed status =

@@ -1,5 +1,5 @@
 -- Lines that are written one after the other.
-use Rattle.std.proofs.Common.{◌≡◌, ℕ, Bool, false, map, List, [], ◌∷◌, ◌++◌, Option, Some, None, BTreeMap, String, string_bytes, refl, sym, ap, ◌∙◌, subst, append-nil, append_assoc}
+use Rattle.std.proofs.Common.{◌≡◌, ℕ, Bool, false, List, [], ◌∷◌, ◌++◌, Option, Some, None, BTreeMap, String, string_bytes, refl, sym, ap, ◌∙◌, subst, append-nil, append_assoc}
 use Rattle.std.specs.FinMap as fin
 use Rattle.std.specs.List.{flat_map}
 use Rattle.std.specs.Prelude.{Result, Ok}
@@ -119,12 +119,6 @@ pairs_more f es x =
     ap (λ ds. joined_lines (flat_map f ds)) (ap pairs (by_two-push es x) ∙ pairs-push (by_two es) (string_bytes x.0, by_text x.1.entries))
     ∙ ap joined_lines (flat_map-append f (pairs (by_two es)) (pairs_below (string_bytes x.0) (by_text x.1.entries)))
     ∙ joined-append (flat_map f (pairs (by_two es))) (flat_map f (pairs_below (string_bytes x.0) (by_text x.1.entries)))
-
--- One more line.
-pub joined_mapped : {X : Type 0} (f : X → List ℕ) (xs : List X) (x : X) → joined_lines (map f (xs ++ x ∷ [])) ≡ joined_lines (map f xs) ++ (f x ++ 10 ∷ [])
-joined_mapped f [] x = append-nil (f x ++ 10 ∷ [])
-joined_mapped f (y ∷ xs) x =
-    ap (λ t. (f y ++ 10 ∷ []) ++ t) (joined_mapped f xs x) ∙ sym (append_assoc (f y ++ 10 ∷ []) (joined_lines (map f xs)) (f x ++ 10 ∷ []))
 
 -- The parts of a state's text.
 pub text_parts : (S : State) (v : Version) → v ≡ version_of (state_files S)

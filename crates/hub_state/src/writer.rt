@@ -1,5 +1,5 @@
 ghost use Rattle.std.specs.Prelude.{◌≡◌, ◌⊎◌, ◌+◌, ◌*◌, ◌++◌, ◌∷◌, [], false, length, take, map};
-ghost use Rattle.std.specs.Prelude.{IfErr, IfSome, OnOk, is_err};
+ghost use Rattle.std.specs.Prelude.{ℕ, List, IfErr, IfSome, OnOk, is_err};
 ghost use Rattle.std.specs.FinMap as fin;
 ghost use Rattle.std.specs.Io.KnownBytes.{Appends};
 ghost use Rattle.std.specs.List.{flat_map};
@@ -14,7 +14,7 @@ ghost use Rattle.hub_state.specs.Writing.{contents_lines, mark_lines, replica_li
 ghost use Rattle.hub_state.specs.Writing.{state_header, blob_line, blob_lines, state_files, version_of};
 ghost use Rattle.hub_state.specs.Writing.{archive_lines, joined_lines, state_text};
 
-use crate::blobs::{Blobs, Head, head_of};
+use crate::blobs::{Head, head_of};
 use crate::fault::{Fault, StateFault};
 use crate::form::Version;
 use crate::state::State;
@@ -23,6 +23,7 @@ use hub_text::Watched;
 use hub_tree::{Archive, Blob, Mark, Stored, Tree};
 use std::alloc::{AllocError, Global};
 use std::collections::BTreeMap;
+use std::collections::btree_map::Iter;
 use std::io::Write;
 
 /// How many bytes of text are kept before they are passed on to the writer.
@@ -83,31 +84,11 @@ fn write_sections<W: Write>(
     ensures failed { output.new.failed ≡ says is_write_failed result }
 {
     push_header(text, head.version)?;
-    write_blobs(output, text, &head.blobs)?;
+    write_lines(output, text, head.blobs.iter())?;
     write_replicas(output, text, head.version, state.replicas())?;
     write_archives(output, text, state.archives())?;
     push(text, "end\n")?;
     pass_on(output, text)
-}
-
-/// Writes the lines of blobs.
-fn write_blobs<W: Write>(
-    output: &mut Watched<W>,
-    text: &mut Vec<u8>,
-    blobs: &Blobs,
-) -> Result<(), Fault>
-    requires { output.old.failed ≡ false }
-    ensures ok { OnOk result (Passes (W.contents output.old.device)
-        (W.contents output.new.device) text.old.items text.new.items
-        (joined_lines (map blob_line (fin.entries blobs.now)))) }
-    ensures faults { IfErr result StopsWriting }
-    ensures failed { output.new.failed ≡ says is_write_failed result }
-{
-    for (digest, blob) in blobs.iter() {
-        push_blob(text, digest, blob)?;
-        pass_block(output, text)?;
-    }
-    Ok(())
 }
 
 /// Writes the lines of the replicas.
@@ -167,7 +148,7 @@ fn write_pairs<W: Write>(
 {
     for (second, archive) in others.iter() {
         push_pair(text, first, second.as_str())?;
-        write_marks(output, text, archive)?;
+        write_lines(output, text, archive.iter())?;
     }
     Ok(())
 }
@@ -212,24 +193,60 @@ fn write_entry<W: Write>(
     pass_block(output, text)
 }
 
-/// Writes the lines of an archive's marks.
-fn write_marks<W: Write>(
+/// Writes the lines of each of these entries of a map.
+fn write_lines<W: Write, K, V: HasLines<K>>(
     output: &mut Watched<W>,
     text: &mut Vec<u8>,
-    archive: &Archive,
+    entries: Iter<'_, K, V>,
 ) -> Result<(), Fault>
     requires { output.old.failed ≡ false }
     ensures ok { OnOk result (Passes (W.contents output.old.device)
         (W.contents output.new.device) text.old.items text.new.items
-        (joined_lines (flat_map mark_lines (fin.entries archive.now)))) }
+        (joined_lines (flat_map V.lines entries.entry))) }
     ensures faults { IfErr result StopsWriting }
     ensures failed { output.new.failed ≡ says is_write_failed result }
 {
-    for (path, mark) in archive.iter() {
-        push_mark(text, *mark, path)?;
+    for (key, value) in entries {
+        value.push_lines(text, key)?;
         pass_block(output, text)?;
     }
     Ok(())
+}
+
+/// A value of a map that is written in the text of a state, together with its key.
+trait HasLines<K> {
+    ghost lines: { K × Self → List (List ℕ) };
+
+    /// Appends the lines of this value and its key.
+    fn push_lines(&self, text: &mut Vec<u8>, key: &K) -> Result<(), AllocError>
+        ensures { OnOk result (text.new.items
+            ≡ text.old.items ++ joined_lines (lines (key.now, self.now))) };
+}
+
+/// A blob has one line. Its key is its digest.
+impl HasLines<[u8; 32]> for Blob {
+    ghost lines = { λ entry. blob_line entry ∷ [] };
+
+    fn push_lines(&self, text: &mut Vec<u8>, digest: &[u8; 32]) -> Result<(), AllocError> {
+        push(text, "blob ")?;
+        push_digits(text, digest.as_slice())?;
+        push(text, " ")?;
+        push_hex(text, self.bytes())?;
+        push(text, "\n")
+    }
+}
+
+/// A mark of an archive has at most one line. Its key is its path.
+impl HasLines<RelPath> for Mark {
+    ghost lines = { mark_lines };
+
+    fn push_lines(&self, text: &mut Vec<u8>, path: &RelPath) -> Result<(), AllocError> {
+        match self {
+            Mark::File(digest) => push_old_file(text, digest, path),
+            Mark::Directory => push_dir(text, path),
+            Mark::Absent => Ok(()),
+        }
+    }
 }
 
 /// Passes the text on if there is a block of it.
@@ -367,18 +384,6 @@ fn push_hex(text: &mut Vec<u8>, bytes: &[u8]) -> Result<(), AllocError>
     push_digits(text, bytes)
 }
 
-/// Appends the line of a blob.
-fn push_blob(text: &mut Vec<u8>, digest: &[u8; 32], blob: &Blob) -> Result<(), AllocError>
-    ensures { OnOk result (text.new.items
-        ≡ text.old.items ++ (blob_line (digest.now, blob.now) ++ 10 ∷ [])) }
-{
-    push(text, "blob ")?;
-    push_digits(text, digest.as_slice())?;
-    push(text, " ")?;
-    push_hex(text, blob.bytes())?;
-    push(text, "\n")
-}
-
 /// Appends the field of a file of a replica.
 fn push_field(text: &mut Vec<u8>, version: Version, blob: &Blob) -> Result<(), AllocError>
     ensures { OnOk result
@@ -405,18 +410,6 @@ fn push_file(
     push(text, " ")?;
     push(text, path.as_str())?;
     push(text, "\n")
-}
-
-/// Appends the line of a mark of an archive, if there is one.
-fn push_mark(text: &mut Vec<u8>, mark: Mark, path: &RelPath) -> Result<(), AllocError>
-    ensures { OnOk result (text.new.items
-        ≡ text.old.items ++ joined_lines (mark_lines (path.now, mark))) }
-{
-    match mark {
-        Mark::File(digest) => push_old_file(text, &digest, path),
-        Mark::Directory => push_dir(text, path),
-        Mark::Absent => Ok(()),
-    }
 }
 
 /// Appends the line of a file of an archive.

@@ -1,5 +1,4 @@
-use Rattle.std.proofs.Common.{ℕ, List, [], ◌∷◌, ◌++◌, String, Global, string_bytes, refl, ap, ◌∙◌}
-use Rattle.std.specs.FinMap as fin
+use Rattle.std.proofs.Common.{ℕ, List, [], ◌∷◌, ◌++◌, String, Global, string_bytes, refl, sym, ap, ◌∙◌}
 use Rattle.std.specs.List.{flat_map}
 use Rattle.hub_tree.specs.Tree.{Archive}
 use Rattle.hub_state.specs.State.{Text}
@@ -17,12 +16,12 @@ loop-second-preserved g c =
     let a : Text = c.args.first.now in
     let x : String Global × Archive = (c.in-Some.second.now, c.in-Some.archive.now) in
     let k : List Text = a ∷ string_bytes x.0 ∷ [] in
-    let ms : List (List ℕ) = flat_map mark_lines (fin.entries x.1) in
+    let ms : List (List ℕ) = flat_map mark_lines c.iter.result in
     wrote-more (λ (es : List (String Global × Archive)). joined_lines (flat_map archive_lines (pairs_below c.args.first.now (by_text es))))
-    (g.W.Write.contents c.args.output.now.device) (g.W.Write.contents c.loop-second.output.device) (g.W.Write.contents c.write_marks.new.output.device)
-    c.args.text.now.items c.loop-second.text.items c.push_pair.new.text.items c.write_marks.new.text.items (joined_lines (pair_lines k)) (joined_lines ms)
-    c.loop-second.second-iterator c.next.new.self c.args.others.now.entries x c.loop-second.output.failed c.write_marks.new.output.failed
-    c.loop-second.invariant (c.in-Some.ensures.steps) (c.in_ok-push_pair.ensures ∙ ap (λ (u : Text). c.loop-second.text.items ++ joined_lines (pair_lines (a ∷ u ∷ []))) c.as_str.ensures.value) c.in_ok-write_marks.ensures.ok (λ es. below_more archive_lines a es x ∙ ap (λ (u : List ℕ). joined_lines (flat_map archive_lines (pairs_below a (by_text es))) ++ u) (joined-append (pair_lines k) ms)) c.in_ok-write_marks.ensures.failed
+    (g.W.Write.contents c.args.output.now.device) (g.W.Write.contents c.loop-second.output.device) (g.W.Write.contents c.write_lines.new.output.device)
+    c.args.text.now.items c.loop-second.text.items c.push_pair.new.text.items c.write_lines.new.text.items (joined_lines (pair_lines k)) (joined_lines ms)
+    c.loop-second.second-iterator c.next.new.self c.args.others.now.entries x c.loop-second.output.failed c.write_lines.new.output.failed
+    c.loop-second.invariant (c.in-Some.ensures.steps) (c.in_ok-push_pair.ensures ∙ ap (λ (u : Text). c.loop-second.text.items ++ joined_lines (pair_lines (a ∷ u ∷ []))) c.as_str.ensures.value) c.in_ok-write_lines.ensures.ok (λ es. below_more archive_lines a es x ∙ ap (λ (u : List ℕ). joined_lines (flat_map archive_lines (pairs_below a (by_text es))) ++ u) (ap (λ es. joined_lines (pair_lines k ++ flat_map mark_lines es)) (sym c.iter.ensures) ∙ joined-append (pair_lines k) ms)) c.in_ok-write_lines.ensures.failed
 
 pub returns-clause-ok : goal.returns-clause-ok
 returns-clause-ok g c =

@@ -4,35 +4,61 @@
 //! - `mark PATH`, `paths` and `marks`: what is there. `marks` has the number of marks, too.
 //! - `copy` makes the second archive a copy of the first, `swap` swaps both, and `same` asks whether they are the same.
 
-use crate::pair::Pair;
 use crate::shown::{mark_text, paths_text};
 use anyhow::{Result, bail, ensure};
 use hub_path::RelPath;
 use hub_tree::{Archive, Mark};
 use std::alloc::Global;
+use std::mem;
 use test_kit::{
     Subject, answers_to_steps, contents_of, list_text, outcome_text, path_of, yes_or_no,
 };
 
 /// The answers to the steps of two archives.
 pub(crate) fn answers(alloc: Global, steps: &str) -> Result<String> {
-    let mut archives = Pair {
-        one: Archive::new(alloc),
-        other: Archive::new(alloc),
-    };
+    let mut archives = Archives::new(alloc);
     answers_to_steps(alloc, &mut archives, steps)
 }
 
-impl Subject for Pair<Archive> {
+/// An archive, and a second one.
+#[derive(Drop)]
+struct Archives {
+    archive: Archive,
+    other: Archive,
+}
+
+impl Archives {
+    /// Two empty archives.
+    fn new(alloc: Global) -> Archives {
+        Archives {
+            archive: Archive::new(alloc),
+            other: Archive::new(alloc),
+        }
+    }
+
+    /// Makes the second archive a copy of the first.
+    fn copy(&mut self, alloc: Global) -> Result<String> {
+        self.other = self.archive.copy()?;
+        Ok(String::from_str(alloc, "ok")?)
+    }
+
+    /// Swaps both archives.
+    fn swap(&mut self, alloc: Global) -> Result<String> {
+        mem::swap(&mut self.archive, &mut self.other);
+        Ok(String::from_str(alloc, "ok")?)
+    }
+}
+
+impl Subject for Archives {
     fn step(&mut self, alloc: Global, words: &[&str]) -> Result<String> {
         match *words {
-            ["set", path, contents] => set(alloc, &mut self.one, path, contents),
-            ["copy"] => outcome_text(alloc, self.copy(|archive| archive.copy())),
+            ["set", path, contents] => set(alloc, &mut self.archive, path, contents),
+            ["copy"] => self.copy(alloc),
             ["swap"] => self.swap(alloc),
-            ["same"] => yes_or_no(alloc, self.one.same(&self.other)),
-            ["mark", path] => mark_at(alloc, &self.one, path),
-            ["paths"] => paths_text(alloc, self.one.paths()?.as_slice()),
-            ["marks"] => marks_text(alloc, &self.one),
+            ["same"] => yes_or_no(alloc, self.archive.same(&self.other)),
+            ["mark", path] => mark_at(alloc, &self.archive, path),
+            ["paths"] => paths_text(alloc, self.archive.paths()?.as_slice()),
+            ["marks"] => marks_text(alloc, &self.archive),
             _ => bail!("no step of an archive"),
         }
     }

@@ -21,7 +21,6 @@
 mod archives;
 mod devices;
 mod levels;
-mod pair;
 mod reconciliation;
 mod sections;
 mod shown;

@@ -10,7 +10,7 @@ use hub_profile::{Profile, read_profile};
 use hub_reconcile::{Change, Fate, Item, Look, Picture, are_rising, items, next_archive, plan};
 use hub_tree::{Archive, Mark};
 use std::alloc::Global;
-use test_kit::{cut, list_of};
+use test_kit::{cut, list_text};
 
 /// What is seen at a path.
 #[derive(Drop)]
@@ -164,11 +164,11 @@ fn root_of(side: Side) -> &'static str {
 }
 
 fn items_text(alloc: Global, picture: &Picture<'_>) -> Result<String> {
-    list_of(
-        alloc,
-        items(alloc, picture)?.as_slice(),
-        |item| item_text(alloc, item),
-    )
+    let mut parts = Vec::new(alloc);
+    for item in items(alloc, picture)?.as_slice() {
+        parts.push(item_text(alloc, item)?)?;
+    }
+    list_text(alloc, parts.as_slice())
 }
 
 fn item_text(alloc: Global, item: &Item) -> Result<String> {
@@ -180,11 +180,11 @@ fn item_text(alloc: Global, item: &Item) -> Result<String> {
 }
 
 fn changes_text(alloc: Global, picture: &Picture<'_>) -> Result<String> {
-    list_of(
-        alloc,
-        plan(alloc, picture)?.as_slice(),
-        |change| change_text(alloc, change),
-    )
+    let mut parts = Vec::new(alloc);
+    for change in plan(alloc, picture)?.as_slice() {
+        parts.push(change_text(alloc, change)?)?;
+    }
+    list_text(alloc, parts.as_slice())
 }
 
 fn change_text(alloc: Global, change: &Change) -> Result<String> {
@@ -199,11 +199,11 @@ fn archive_text(alloc: Global, picture: &Picture<'_>) -> Result<String> {
 }
 
 fn marks_text(alloc: Global, archive: &Archive) -> Result<String> {
-    list_of(
-        alloc,
-        archive.paths()?.as_slice(),
-        |path| entry_text(alloc, archive, path),
-    )
+    let mut parts = Vec::new(alloc);
+    for path in archive.paths()?.as_slice() {
+        parts.push(entry_text(alloc, archive, path)?)?;
+    }
+    list_text(alloc, parts.as_slice())
 }
 
 fn entry_text(alloc: Global, archive: &Archive, path: &RelPath) -> Result<String> {

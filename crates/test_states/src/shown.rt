@@ -4,7 +4,7 @@ use anyhow::Result;
 use hub_path::RelPath;
 use hub_tree::Mark;
 use std::alloc::Global;
-use test_kit::list_of;
+use test_kit::list_text;
 
 /// How a mark is shown.
 pub(crate) fn mark_text(alloc: Global, mark: Mark) -> Result<String> {
@@ -17,5 +17,9 @@ pub(crate) fn mark_text(alloc: Global, mark: Mark) -> Result<String> {
 
 /// How paths are shown.
 pub(crate) fn paths_text(alloc: Global, paths: &[RelPath]) -> Result<String> {
-    list_of(alloc, paths, |path| Ok(path.text()?))
+    let mut parts = Vec::new(alloc);
+    for path in paths {
+        parts.push(path.text()?)?;
+    }
+    list_text(alloc, parts.as_slice())
 }

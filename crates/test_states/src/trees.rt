@@ -5,15 +5,14 @@
 //! - `count`, `paths` and `entries`: all that is there. An entry of a file has the number of its bytes.
 //! - `copy` makes the second replica a copy of the first, `swap` swaps both, and `same` asks whether they are the same.
 
-use crate::pair::Pair;
 use crate::shown::{mark_text, paths_text};
 use anyhow::{Result, bail};
 use hub_path::{Name, RelPath};
 use hub_tree::{Blob, Stored, Tree};
-use std::alloc::Global;
+use std::alloc::{AllocError, Global};
+use std::mem;
 use test_kit::{
-    Subject, answers_to_steps, bytes_of, contents_of, list_of, list_text, outcome_text, path_of,
-    shown, yes_or_no,
+    Subject, answers_to_steps, bytes_of, contents_of, list_text, outcome_text, path_of, yes_or_no,
 };
 
 /// The digest of a file's bytes, that of its copy, and the bytes.
@@ -35,22 +34,48 @@ fn digest_text(alloc: Global, blob: &Blob) -> Result<String> {
 
 /// The answers to the steps of two replicas.
 pub(crate) fn answers(alloc: Global, steps: &str) -> Result<String> {
-    let mut trees = Pair {
-        one: Tree::new(alloc),
-        other: Tree::new(alloc),
-    };
+    let mut trees = Trees::new(alloc);
     answers_to_steps(alloc, &mut trees, steps)
 }
 
-impl Subject for Pair<Tree> {
+/// A replica, and a second one.
+#[derive(Drop)]
+struct Trees {
+    tree: Tree,
+    other: Tree,
+}
+
+impl Trees {
+    /// Two empty replicas.
+    fn new(alloc: Global) -> Trees {
+        Trees {
+            tree: Tree::new(alloc),
+            other: Tree::new(alloc),
+        }
+    }
+
+    /// Makes the second replica a copy of the first.
+    fn copy(&mut self) -> Result<(), AllocError> {
+        self.other = self.tree.copy()?;
+        Ok(())
+    }
+
+    /// Swaps both replicas.
+    fn swap(&mut self, alloc: Global) -> Result<String> {
+        mem::swap(&mut self.tree, &mut self.other);
+        Ok(String::from_str(alloc, "ok")?)
+    }
+}
+
+impl Subject for Trees {
     fn step(&mut self, alloc: Global, words: &[&str]) -> Result<String> {
         match *words {
-            ["set", path, contents] => set(alloc, &mut self.one, path, contents),
-            ["copy"] => outcome_text(alloc, self.copy(|tree| tree.copy())),
+            ["set", path, contents] => set(alloc, &mut self.tree, path, contents),
+            ["copy"] => outcome_text(alloc, self.copy()),
             ["swap"] => self.swap(alloc),
-            ["same"] => yes_or_no(alloc, self.one.same(&self.other)),
-            [word, path] => at_path(alloc, &self.one, word, path),
-            [word] => of_all(alloc, &self.one, word),
+            ["same"] => yes_or_no(alloc, self.tree.same(&self.other)),
+            [word, path] => at_path(alloc, &self.tree, word, path),
+            [word] => of_all(alloc, &self.tree, word),
             _ => bail!("no step of a replica"),
         }
     }
@@ -94,7 +119,11 @@ fn bytes_text(alloc: Global, bytes: Option<&[u8]>) -> Result<String> {
 
 /// How names are shown.
 fn names_text(alloc: Global, names: &[Name]) -> Result<String> {
-    list_of(alloc, names, |name| shown(alloc, name))
+    let mut parts = Vec::new(alloc);
+    for name in names {
+        parts.push(String::from_str(alloc, name.text())?)?;
+    }
+    list_text(alloc, parts.as_slice())
 }
 
 /// How the entries of a replica are shown.

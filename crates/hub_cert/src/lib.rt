@@ -18,9 +18,10 @@
 //! Only functions that return a `Result` allocate.
 //!
 //! ```rust
-//! match ProfileSet::new(alloc, profiles, rules) {
-//!     Ok(set) => Ok(Box::new(alloc, set)?),
-//!     Err(fault) => bail!("no set: {fault:?}"),
+//! /// Makes the set of these fields.
+//! pub(crate) fn set_of(alloc: Global, fields: &str) -> Result<Box<ProfileSet>> {
+//!     let (profiles, rules) = members_of(alloc, fields)?;
+//!     boxed(alloc, ProfileSet::new(alloc, profiles, rules))
 //! }
 //! ```
 //!

@@ -17,7 +17,7 @@
 //! Ok(Box::new(alloc, Table::new(alloc, walker))?)
 //! ```
 //!
-//! From `test_reach/src/stages.rt`.
+//! From `test_reach/src/numbers.rt`.
 #![tactic(auto)]
 
 mod known;

@@ -6,7 +6,7 @@
 //!
 //! ```rust
 //! let clashes = clashes_of(alloc, &set)?;
-//! match rounds_of(alloc, Box::into_inner(set), &clashes) {
+//! made_text(alloc, &rounds_of(alloc, Box::into_inner(set), &clashes))
 //! ```
 //!
 //! From `test_checker/src/rounds.rt`.

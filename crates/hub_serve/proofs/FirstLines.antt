@@ -1,7 +1,7 @@
 -- What is true of the input if what is written begins with these letters.
-use Rattle.std.proofs.Common.{◌≡◌, ◌≢◌, ◌∙◌, ◌⊎◌, inl, inr, ℕ, Bool, true, false, cond, List, [], ◌∷◌, ◌++◌, length, take, Some, codes, refl, sym, ap, subst, arith}
+use Rattle.std.proofs.Common.{◌≡◌, ◌≢◌, ◌∙◌, ◌⊎◌, inl, inr, ℕ, Bool, true, false, cond, List, [], ◌∷◌, ◌++◌, take, Some, codes, refl, sym, ap, subst, arith}
 use Rattle.std.specs.Prelude.{⊤, string_bytes}
-use Rattle.std.proofs.lemmas.List.{append_cancel_left, take_all}
+use Rattle.std.proofs.lemmas.List.{append_cancel_left}
 use Rattle.std.proofs.lemmas.Option.{get_or_from_slice_get, slice_get_within}
 use Rattle.hub_cert.specs.Refused.{IsRefused}
 use Rattle.hub_cert.specs.Set.{Members, IsSafeSet}
@@ -33,12 +33,13 @@ use Rattle.hub_report.specs.Run.{error_line}
 use Rattle.hub_report.specs.Starts.{HoldsOfStarts, Start, SafeStart, VerifiedStart, OverlapStart, BreachStart, TooLargeStart}
 use Rattle.hub_report.specs.Starts.{RoundsStart, GraphStart, ReachedStart, NotReachedStart, OtherStart, start, begins-taken}
 use Rattle.hub_report.specs.Starts.{lines-start, refusal-start}
+use Rattle.hub_cli.specs.declared.words.Question.{Question}
 use Rattle.hub_cli.specs.declared.words.Question.TheVariants as ask
 use Rattle.hub_cli.specs.Words.{Request, about}
 use Rattle.hub_serve.specs.declared.task.Task.{Task}
 use Rattle.hub_serve.specs.declared.task.Task.TheVariants as task
-use Rattle.hub_serve.specs.Report.{IsWholeUnlessFailed, IsRefusedFor, IsTold, IsTrueOf, Holds, SpellsClashes, SpellsGraph}
-use Rattle.hub_serve.specs.Report.{SpellsRounds, SpellsRoundsRun, SpellsSafe, SpellsUnsafe, SpellsVerified}
+use Rattle.hub_serve.specs.Report.{FollowsSafe, IsWholeUnlessFailed, IsRefusedFor, IsTold, IsTrueOf, Holds, ShowsClashes, ShowsGraph, ShowsRounds, ShowsRoundsRun, ShowsSet}
+use Rattle.hub_serve.specs.Report.{SpellsClashes, SpellsGraph, SpellsRounds, SpellsRoundsRun, SpellsSafe, SpellsUnsafe, SpellsVerified}
 use Rattle.hub_serve.specs.Rounds.{BeginsAsClash, DrawsClashes, ListsClashes, WritesRounds}
 use Rattle.hub_serve.specs.Runs.{HasRunAs, IsBelow, IsPrevented}
 use Rattle.hub_serve.specs.Task.{AsksTask}
@@ -88,36 +89,27 @@ error-below : (t : Task) (M : Members) (f : RunError) → IsPrevented t M f → 
 error-below t M f h =
     subst (λ u. IsBelow u M 3 (error_line f)) (sym h.task_is) (inr (record { error = f; reason = h.reason; text = refl; status_is = refl }))
 
--- A line that is written whole tells all of what it is, with its status.
-told-line : {line full : List ℕ} {status : ℕ} → line ≡ full → IsWholeUnlessFailed full status false line status
-told-line {full = full} e = record { written = length full; text_is = e ∙ sym (take_all (length full) full (omega arith)); whole = λ f. e; status_is = refl }
-
--- What a line tells if it is written whole is told by what is written of it.
-told-whole : {line full text : List ℕ} {failed : Bool} {line_status full_status status : ℕ} → IsWholeUnlessFailed full full_status false line line_status
-    → IsWholeUnlessFailed line line_status failed text status → IsWholeUnlessFailed full full_status failed text status
-told-whole {failed = failed} told wrote = record {
-  written = wrote.written;
-  text_is = wrote.text_is ∙ ap (take wrote.written) (told.whole refl);
-  whole = λ f. wrote.whole f ∙ told.whole refl;
-  status_is = wrote.status_is ∙ ap (cond failed 2) told.status_is;
-}
-
 -- The words ask what clashes: then the text says it.
 abbrev AreClashes : Request → List ℕ → List ℕ → ℕ → Type 0
-AreClashes request bytes line status = request ≡ about ask.Clashes → SpellsClashes bytes line false status
+AreClashes request bytes line status = request ≡ about ask.Clashes → ShowsClashes bytes line status
 
 -- What is true of the question and of the input if the text of the answer starts so.
 abbrev Means : Request → List ℕ → List ℕ → ℕ → Start → Type 0
-Means request bytes line status SafeStart = (below : List ℕ) × (line ≡ codes "safe\n" ++ below) × SpellsSafe (Some request) bytes below false status
+Means request bytes line status SafeStart = (below : List ℕ) × (line ≡ codes "safe\n" ++ below) × FollowsSafe (Some request) bytes below status
 Means request bytes line status VerifiedStart = SpellsVerified (Some request) bytes
 Means request bytes line status OverlapStart = (OverlapsShown → SpellsUnsafe bytes) × AreClashes request bytes line status
 Means request bytes line status BreachStart = (BreachesShown → SpellsUnsafe bytes) × AreClashes request bytes line status
 Means request bytes line status TooLargeStart = AreClashes request bytes line status
-Means request bytes line status RoundsStart = SpellsRounds (Some request) bytes line false status ⊎ SpellsRoundsRun (Some request) bytes line false status
-Means request bytes line status GraphStart = SpellsGraph (Some request) bytes line false status
+Means request bytes line status RoundsStart = ShowsRounds (Some request) bytes line status ⊎ ShowsRoundsRun (Some request) bytes line status
+Means request bytes line status GraphStart = ShowsGraph (Some request) bytes line status
 Means request bytes line status ReachedStart = IsTrueOf request bytes (answer.Reach Reached)
 Means request bytes line status NotReachedStart = IsTrueOf request bytes (answer.Reach NotReached)
 Means request bytes line status OtherStart = ⊤
+
+-- Where the text is so of the set that the words ask of, it shows it.
+shows-set : (IsSo : Members → List ℕ → Bool → Type 0) (q : Question) (request : Request) (bytes line : List ℕ) (c : BundleContents) (well : Bool)
+    → request ≡ about q → Spells bytes c → IsSo (members c) line well → ShowsSet q IsSo (Some request) bytes line (cond well 0 1)
+shows-set IsSo q request bytes line c well asked spelled is = record { is_asked = ap Some asked; contents = c; spelled = spelled; well = well; is_so = is; status_is = refl }
 
 -- It is true of the start of the line of a refusal,
 refusal-means : (request : Request) (bytes line : List ℕ) (status : ℕ) (c : BundleContents) (t : Task) (e : CheckFault) → Spells bytes c → AsksTask request c.state t → IsRefusedFor t c e
@@ -152,7 +144,7 @@ clashes-mean request bytes line c spelled h =
     (lines-start (Means request bytes line 1) (members c) h.lines tt (λ n e at. each e (h.disproved e (n, slice_get_within h.lines n e at, get_or_from_slice_get h.lines n e e at))))
   where
     says : AreClashes request bytes line 1
-    says asks = record { contents = c; spelled = spelled; full = line; listed = h; told = told-line refl }
+    says asks = record { contents = c; spelled = spelled; listed = h; status_is = refl }
 
     each : (e : CheckFault) → Disproves (members c) e → HoldsOfStarts (Means request bytes line 1) e
     each e d = record {
@@ -185,10 +177,7 @@ safe-means request bytes line status c t below l spelled asked safe below_is =
         to_do = t;
         to_do_is = asked.task_is;
         safe = safe;
-        below = below;
-        full = status;
-        below_is = below_is;
-        told = told-line refl;
+        below = below_is;
       },
     )
 
@@ -216,26 +205,12 @@ clashes-answer-means request bytes (Lines text) line l h =
     clashes-mean request bytes line h.contents h.spelled (subst (ListsClashes (members h.contents)) (sym l) h.told.told.1)
 clashes-answer-means request bytes (Graph g) line l h =
     let drawn = subst (λ t. DrawsClashes (members h.contents) t g.safe) (sym l) h.told.told.1 in
-    subst (λ t. Means request bytes line (cond g.safe 0 1) (start t)) (sym drawn.text_is) (record {
-      is_asked = ap Some (asks request h.contents.state task.Graph (subst (AsksTask request h.contents.state) h.told.told.0 h.told.asked));
-      contents = h.contents;
-      spelled = h.spelled;
-      full = line;
-      safe = g.safe;
-      drawn = drawn;
-      told = told-line refl;
-    })
+    let asked = asks request h.contents.state task.Graph (subst (AsksTask request h.contents.state) h.told.told.0 h.told.asked) in
+    subst (λ t. Means request bytes line (cond g.safe 0 1) (start t)) (sym drawn.text_is) (shows-set DrawsClashes ask.Graph request bytes line h.contents g.safe asked h.spelled drawn)
 clashes-answer-means request bytes (Cut c) line l h =
     let cut = subst (λ t. WritesRounds (members h.contents) t c.decided) (sym l) h.told.told.1 in
-    subst (λ t. Means request bytes line (cond c.decided 0 1) (start t)) (sym cut.text_is) (inl (record {
-      is_asked = ap Some (asks request h.contents.state task.Rounds (subst (AsksTask request h.contents.state) h.told.told.0 h.told.asked));
-      contents = h.contents;
-      spelled = h.spelled;
-      full = line;
-      decided = c.decided;
-      cut = cut;
-      told = told-line refl;
-    }))
+    let asked = asks request h.contents.state task.Rounds (subst (AsksTask request h.contents.state) h.told.told.0 h.told.asked) in
+    subst (λ t. Means request bytes line (cond c.decided 0 1) (start t)) (sym cut.text_is) (inl (shows-set WritesRounds ask.Rounds request bytes line h.contents c.decided asked h.spelled cut))
 
 -- of a run,
 run-means : (request : Request) (bytes : List ℕ) (a : RunAnswer) (line : List ℕ) → line ≡ runs.text_of a → IsTrueOf request bytes (answer.Run a)
@@ -255,7 +230,8 @@ run-means request bytes (RanByRounds r) line l h =
       state_is = asked.1;
       run = r;
       was_run = t.run;
-      told = told-line l;
+      text_is = l;
+      status_is = refl;
     }))
 run-means request bytes (NotRun f) line l h =
     safe-means request bytes line 3 h.contents h.told.to_do (error_line f) l h.spelled h.told.asked h.told.told.safe (error-below h.told.to_do (members h.contents) f h.told.told)
@@ -284,26 +260,17 @@ only_safe request bytes r line s failed status l wrote h =
     let front = begins-taken (codes "safe\n") line s wrote.written (sym wrote.text_is) in
     let means_safe : Means request bytes line (status_of r) SafeStart = means request bytes r line SafeStart l (ap start front.whole) h in
     let below : List ℕ = means_safe.0 in
-    let says : SpellsSafe (Some request) bytes below false (status_of r) = means_safe.2 in
     let rest : front.rest ≡ below = append_cancel_left (codes "safe\n") front.rest below (sym front.whole ∙ means_safe.1) in
-    let wrote_below : IsWholeUnlessFailed below (status_of r) failed s status = record {
-      written = front.written;
-      text_is = sym front.front ∙ ap (take front.written) rest;
-      whole = λ f. append_cancel_left (codes "safe\n") s below (wrote.whole f ∙ means_safe.1);
-      status_is = wrote.status_is;
-    } in
     record {
-      of_set = says.of_set;
-      is_asked = says.is_asked;
-      contents = says.contents;
-      spelled = says.spelled;
-      to_do = says.to_do;
-      to_do_is = says.to_do_is;
-      safe = says.safe;
-      below = says.below;
-      full = says.full;
-      below_is = says.below_is;
-      told = told-whole says.told wrote_below;
+      full = below;
+      full_status = status_of r;
+      is_so = means_safe.2;
+      told = record {
+        written = front.written;
+        text_is = sym front.front ∙ ap (take front.written) rest;
+        whole = λ f. append_cancel_left (codes "safe\n") s below (wrote.whole f ∙ means_safe.1);
+        status_is = wrote.status_is;
+      };
     }
 
 -- only that of rounds and of a run by rounds with `rou`,
@@ -313,28 +280,10 @@ pub only_rounds : (request : Request) (bytes : List ℕ) (r : Report) (line s : 
 only_rounds request bytes r line s failed status l wrote h =
     go (means request bytes r line RoundsStart l (ap start (begins-taken (codes "rounds ") line s wrote.written (sym wrote.text_is)).whole) h)
   where
-    go : SpellsRounds (Some request) bytes line false (status_of r) ⊎ SpellsRoundsRun (Some request) bytes line false (status_of r)
+    go : ShowsRounds (Some request) bytes line (status_of r) ⊎ ShowsRoundsRun (Some request) bytes line (status_of r)
         → SpellsRounds (Some request) bytes (codes "rounds " ++ s) failed status ⊎ SpellsRoundsRun (Some request) bytes (codes "rounds " ++ s) failed status
-    go (inl says) = inl (record {
-      is_asked = says.is_asked;
-      contents = says.contents;
-      spelled = says.spelled;
-      full = says.full;
-      decided = says.decided;
-      cut = says.cut;
-      told = told-whole says.told wrote;
-    })
-    go (inr says) = inr (record {
-      workers = says.workers;
-      is_asked = says.is_asked;
-      contents = says.contents;
-      spelled = says.spelled;
-      state = says.state;
-      state_is = says.state_is;
-      run = says.run;
-      was_run = says.was_run;
-      told = told-whole says.told wrote;
-    })
+    go (inl is) = inl (record { full = line; full_status = status_of r; is_so = is; told = wrote })
+    go (inr is) = inr (record { full = line; full_status = status_of r; is_so = is; told = wrote })
 
 -- only that of a graph with a g,
 pub only_graph : (request : Request) (bytes : List ℕ) (r : Report) (line s : List ℕ) (failed : Bool) (status : ℕ) → line ≡ text_of r
@@ -342,34 +291,18 @@ pub only_graph : (request : Request) (bytes : List ℕ) (r : Report) (line s : L
     → SpellsGraph (Some request) bytes (codes "graph clashes {" ++ s) failed status
 only_graph request bytes r line s failed status l wrote h =
     let front = begins-taken (codes "graph clashes {") line s wrote.written (sym wrote.text_is) in
-    let says : SpellsGraph (Some request) bytes line false (status_of r) = means request bytes r line GraphStart l (ap start front.whole) h in
-    record {
-      is_asked = says.is_asked;
-      contents = says.contents;
-      spelled = says.spelled;
-      full = says.full;
-      safe = says.safe;
-      drawn = says.drawn;
-      told = told-whole says.told wrote;
-    }
+    record { full = line; full_status = status_of r; is_so = means request bytes r line GraphStart l (ap start front.whole) h; told = wrote }
 
 -- that of what clashes as a line of it, if the words ask for it,
 pub only_clashes : (request : Request) (bytes : List ℕ) (r : Report) (line text : List ℕ) (failed : Bool) (status : ℕ) → request ≡ about ask.Clashes → line ≡ text_of r
     → IsWholeUnlessFailed line (status_of r) failed text status → Holds request bytes r → BeginsAsClash text → SpellsClashes bytes text failed status
 only_clashes request bytes r line text failed status is l wrote h b =
-    let says : SpellsClashes bytes line false (status_of r) = go b.1 in
-    record {
-      contents = says.contents;
-      spelled = says.spelled;
-      full = says.full;
-      listed = says.listed;
-      told = told-whole says.told wrote;
-    }
+    record { full = line; full_status = status_of r; is_so = go b.1; told = wrote }
   where
     rest : List ℕ
     rest = b.0
 
-    go : (text ≡ codes "overlap: " ++ rest) ⊎ (text ≡ codes "breach: " ++ rest) ⊎ (text ≡ codes "too large: " ++ rest) → SpellsClashes bytes line false (status_of r)
+    go : (text ≡ codes "overlap: " ++ rest) ⊎ (text ≡ codes "breach: " ++ rest) ⊎ (text ≡ codes "too large: " ++ rest) → ShowsClashes bytes line (status_of r)
     go (inl o) = (means request bytes r line OverlapStart l (ap start (begins-taken (codes "overlap: ") line rest wrote.written (sym wrote.text_is ∙ o)).whole) h).1 is
     go (inr (inl o)) = (means request bytes r line BreachStart l (ap start (begins-taken (codes "breach: ") line rest wrote.written (sym wrote.text_is ∙ o)).whole) h).1 is
     go (inr (inr o)) = means request bytes r line TooLargeStart l (ap start (begins-taken (codes "too large: ") line rest wrote.written (sym wrote.text_is ∙ o)).whole) h is

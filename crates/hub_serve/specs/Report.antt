@@ -62,10 +62,18 @@ pub record IsWholeUnlessFailed (full : List ℕ) (full_status : ℕ) (failed : B
   pub whole : failed ≡ false → text ≡ full
   pub status_is : status ≡ (if failed then 2 else full_status)
 
--- The bytes are a bundle whose profiles and rules are a safe set, and this text is what is to
--- follow `safe`.
-pub record SpellsSafe (asked : Option Request) (bytes text : List ℕ) (failed : Bool)
+-- This holds of a full text and its status, and the text is the whole of it, with that status,
+-- unless a call of the output failed.
+pub record TellsUnlessFailed (IsSo : List ℕ → ℕ → Type 0) (text : List ℕ) (failed : Bool)
     (status : ℕ) : Type 0 where
+  pub full : List ℕ
+  pub full_status : ℕ
+  pub is_so : IsSo full full_status
+  pub told : IsWholeUnlessFailed full full_status failed text status
+
+-- The bytes are a bundle whose profiles and rules are a safe set, and this text is what is to
+-- follow `safe`, with this status.
+pub record FollowsSafe (asked : Option Request) (bytes text : List ℕ) (status : ℕ) : Type 0 where
   pub of_set : Question
   pub is_asked : asked ≡ Some (question.about of_set)
   pub contents : BundleContents
@@ -73,10 +81,11 @@ pub record SpellsSafe (asked : Option Request) (bytes text : List ℕ) (failed :
   pub to_do : Task
   pub to_do_is : task_of of_set contents.state ≡ Some to_do
   pub safe : IsSafeSet (members contents)
-  pub below : List ℕ
-  pub full : ℕ
-  pub below_is : IsBelow to_do (members contents) full below
-  pub told : IsWholeUnlessFailed below full failed text status
+  pub below : IsBelow to_do (members contents) status text
+
+-- The same of what is written of that text; and so of each text below.
+abbrev pub SpellsSafe : Option Request → List ℕ → List ℕ → Bool → ℕ → Type 0
+SpellsSafe asked bytes = TellsUnlessFailed (FollowsSafe asked bytes)
 
 -- The bytes are a bundle whose profiles and rules aren't.
 pub record SpellsUnsafe (bytes : List ℕ) : Type 0 where
@@ -92,32 +101,46 @@ pub record SpellsVerified (asked : Option Request) (bytes : List ℕ) : Type 0 w
   pub inductive : AreCertificates (members contents) contents.certificates
   pub safe : IsSafeSet (members contents)
 
--- The words ask for what clashes, and the bytes are a bundle of whose set this text is to say it,
--- with status 1.
-pub record SpellsClashes (bytes text : List ℕ) (failed : Bool) (status : ℕ) : Type 0 where
+-- The bytes are a bundle of whose set this text lists what clashes, with status 1.
+pub record ShowsClashes (bytes text : List ℕ) (status : ℕ) : Type 0 where
   pub contents : BundleContents
   pub spelled : Spells bytes contents
-  pub full : List ℕ
-  pub listed : ListsClashes (members contents) full
-  pub told : IsWholeUnlessFailed full 1 failed text status
+  pub listed : ListsClashes (members contents) text
+  pub status_is : status ≡ 1
 
--- The words ask for rounds, and the bytes are a bundle whose set is cut so. The status is 0 if each
--- profile is in a round and no goal was too large, else 1.
-pub record SpellsRounds (asked : Option Request) (bytes text : List ℕ) (failed : Bool)
-    (status : ℕ) : Type 0 where
-  pub is_asked : asked ≡ Some (question.about ask.Rounds)
+abbrev pub SpellsClashes : List ℕ → List ℕ → Bool → ℕ → Type 0
+SpellsClashes bytes = TellsUnlessFailed (ShowsClashes bytes)
+
+-- The words ask for this, and the bytes are a bundle of whose set this text is so. The status is 0
+-- if all is well, else 1.
+pub record ShowsSet (of_set : Question) (IsSo : Members → List ℕ → Bool → Type 0)
+    (asked : Option Request) (bytes text : List ℕ) (status : ℕ) : Type 0 where
+  pub is_asked : asked ≡ Some (question.about of_set)
   pub contents : BundleContents
   pub spelled : Spells bytes contents
-  pub full : List ℕ
-  pub decided : Bool
-  pub cut : WritesRounds (members contents) full decided
-  pub told : IsWholeUnlessFailed full (if decided then 0 else 1) failed text status
+  pub well : Bool
+  pub is_so : IsSo (members contents) text well
+  pub status_is : status ≡ (if well then 0 else 1)
+
+-- They ask for rounds, and its set is cut so. All is well if each profile is in a round and no goal
+-- was too large.
+abbrev pub ShowsRounds : Option Request → List ℕ → List ℕ → ℕ → Type 0
+ShowsRounds = ShowsSet ask.Rounds WritesRounds
+
+abbrev pub SpellsRounds : Option Request → List ℕ → List ℕ → Bool → ℕ → Type 0
+SpellsRounds asked bytes = TellsUnlessFailed (ShowsRounds asked bytes)
+
+-- They ask for a graph of what clashes, and its set is drawn so. All is well if it is safe.
+abbrev pub ShowsGraph : Option Request → List ℕ → List ℕ → ℕ → Type 0
+ShowsGraph = ShowsSet ask.Graph DrawsClashes
+
+abbrev pub SpellsGraph : Option Request → List ℕ → List ℕ → Bool → ℕ → Type 0
+SpellsGraph asked bytes = TellsUnlessFailed (ShowsGraph asked bytes)
 
 -- The words ask for a run by rounds, and the bytes are a bundle whose state the rounds of its set
 -- were run on, and this text is to say what they did and left. The status is 0 if each round was
 -- run and each job is finished, else 3.
-pub record SpellsRoundsRun (asked : Option Request) (bytes text : List ℕ) (failed : Bool)
-    (status : ℕ) : Type 0 where
+pub record ShowsRoundsRun (asked : Option Request) (bytes text : List ℕ) (status : ℕ) : Type 0 where
   pub workers : ℕ
   pub is_asked : asked ≡ Some (question.about (ask.RunByRounds workers))
   pub contents : BundleContents
@@ -126,20 +149,11 @@ pub record SpellsRoundsRun (asked : Option Request) (bytes text : List ℕ) (fai
   pub state_is : contents.state ≡ Some state
   pub run : RoundsRun
   pub was_run : HasRunByRounds (members contents) workers state run
-  pub told : IsWholeUnlessFailed (rounds_run_text run) (if run.finished then 0 else 3)
-      failed text status
+  pub text_is : text ≡ rounds_run_text run
+  pub status_is : status ≡ (if run.finished then 0 else 3)
 
--- The words ask for a graph of what clashes, and the bytes are a bundle whose set is drawn so. The
--- status is 0 if it is safe, else 1.
-pub record SpellsGraph (asked : Option Request) (bytes text : List ℕ) (failed : Bool)
-    (status : ℕ) : Type 0 where
-  pub is_asked : asked ≡ Some (question.about ask.Graph)
-  pub contents : BundleContents
-  pub spelled : Spells bytes contents
-  pub full : List ℕ
-  pub safe : Bool
-  pub drawn : DrawsClashes (members contents) full safe
-  pub told : IsWholeUnlessFailed full (if safe then 0 else 1) failed text status
+abbrev pub SpellsRoundsRun : Option Request → List ℕ → List ℕ → Bool → ℕ → Type 0
+SpellsRoundsRun asked bytes = TellsUnlessFailed (ShowsRoundsRun asked bytes)
 
 -- It was asked whether a profile reaches a path, and this is the answer of the first profile of
 -- that name.

@@ -10,6 +10,12 @@ use hub_source::{Said, Source, place_in, place_in_profile, say};
 use hub_text::Lines;
 use std::alloc::{AllocError, Global};
 
+/// How the second line begins if no jobs were run.
+const RUN_FAULT: &str = "run fault: ";
+
+/// How the answers of `certify`, `rounds` and `clashes --dot` begin.
+const YES_STARTS: [&str; 3] = ["hubsync certificates ", "rounds ", "graph clashes {"];
+
 /// The first bytes of an input or of an output.
 #[derive(Clone, Copy)]
 pub struct Front<'a> {
@@ -19,29 +25,62 @@ pub struct Front<'a> {
     pub is_whole: bool,
 }
 
-/// What is to be said about an answer: lines that begin with `hubsync: `, or nothing.
+/// What is said about an answer.
+#[derive(Drop)]
+pub struct Remarks {
+    /// Lines that begin with `hubsync: `, or nothing.
+    pub text: String,
+    /// Whether a note among them says that a yes may mislead.
+    pub may_mislead: bool,
+}
+
+impl Remarks {
+    /// Adds a line that says why a yes may mislead.
+    pub(crate) fn note(&mut self, words: &str) -> Said {
+        self.may_mislead = true;
+        self.text.push_str("hubsync: note: ")?;
+        self.text.push_str(words)?;
+        self.text.push_str("\n")
+    }
+}
+
+/// What is to be said about an answer.
 ///
 /// The words are those of the command line, the program's name first. If the sections of the input were made of files, these
 /// are the files in the order of the sections. The text is free: no clause says what it is. If the input goes on behind these
-/// bytes, only faults get remarks.
+/// bytes, only faults get remarks, and a yes gets a note that it may mislead.
 pub fn remark(
     alloc: Global,
     words: &[String],
     files: &[&str],
     input: Front<'_>,
     output: Front<'_>,
-) -> Result<String, AllocError> {
-    let mut out = String::new(alloc);
+) -> Result<Remarks, AllocError> {
+    let mut remarks = Remarks {
+        text: String::new(alloc),
+        may_mislead: false,
+    };
     let mut lines = Lines::new(output.bytes);
     let first = next_text(&mut lines);
     if first.is_empty() {
-        say_words(&mut out, words)?;
-        return Ok(out);
+        say_words(&mut remarks.text, words)?;
+        return Ok(remarks);
     }
     let second = next_text(&mut lines);
     let source = Source::read(alloc, input.bytes, input.is_whole, files)?;
-    say_answer(&mut out, &source, words, first, second)?;
-    Ok(out)
+    if is_yes(first) && !second.starts_with(RUN_FAULT) {
+        say_notes(&mut remarks, &source)?;
+    } else {
+        say_answer(&mut remarks.text, &source, words, first, second)?;
+    }
+    Ok(remarks)
+}
+
+/// Returns whether an answer that begins with this line says that profiles may run at the same time, or in rounds.
+fn is_yes(first: &str) -> bool {
+    first == "safe"
+        || first == "verified"
+        || YES_STARTS.iter().any(|start| first.starts_with(*start))
 }
 
 /// The text of the next line. It is empty if there is none.
@@ -73,16 +112,10 @@ fn say_answer(
         "refused" => say_refused(out, source, text),
         "too large" => say(out, "nothing is known: fewer * in patterns would help"),
         "not reached" => say_not_reached(out, source, words),
-        "safe" | "verified" => say_yes(out, source, second),
-        _ => Ok(()),
-    }
-}
-
-/// Says what belongs to a yes above this line.
-fn say_yes(out: &mut String, source: &Source<'_>, below: &str) -> Said {
-    match below.strip_prefix("run fault: ") {
-        Some(fault) => say_run_fault(out, source, fault),
-        None => say_notes(out, source),
+        _ => match second.strip_prefix(RUN_FAULT) {
+            Some(fault) => say_run_fault(out, source, fault),
+            None => Ok(()),
+        },
     }
 }
 

@@ -1,5 +1,6 @@
 //! Rules for paths that no profile reaches.
 
+use crate::answer::Remarks;
 use crate::note::say_below_note;
 use crate::refusal::is_same_root;
 use crate::start::{Start, start_of};
@@ -8,7 +9,7 @@ use hub_source::{Said, Source, SourceLine};
 /// Says which rule is for paths that no profile reaches. Of a pattern only what stands before its first wildcard is looked at, and
 /// ignored paths count as reached.
 pub(crate) fn say_idle_rule(
-    out: &mut String,
+    out: &mut Remarks,
     source: &Source<'_>,
     profiles: &[SourceLine<'_>],
     section: usize,
@@ -18,7 +19,7 @@ pub(crate) fn say_idle_rule(
             out,
             source,
             line,
-            "note: no profile reaches what this rule is for:",
+            "no profile reaches what this rule is for:",
         ),
         None => Ok(()),
     }

@@ -3,7 +3,8 @@
 //! [`remark`] says, for the first bytes of an input and of the answer to it, what belongs on standard error.
 //!
 //! ```rust
-//! if let Ok(text) = remark(rt.alloc(), words, files, input.front(), output.front()) {
+//! if let Ok(remarks) = remark(rt.alloc(), words, files, input.front(), output.front()) {
+//!     let text = remarks.text.as_str();
 //!     let _ = eprint!(rt; "{text}");
 //! ```
 //!
@@ -36,4 +37,4 @@ mod start;
 mod text;
 mod value;
 
-pub use answer::{Front, remark};
+pub use answer::{Front, Remarks, remark};

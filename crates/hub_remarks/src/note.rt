@@ -1,8 +1,9 @@
 //! Remarks on a yes that may mislead.
 
+use crate::answer::Remarks;
 use crate::idle::say_idle_rule;
 use crate::refusal::is_same_root;
-use hub_source::{Said, Source, SourceLine, name_of, say, say_placed, trimmed};
+use hub_source::{Said, Source, SourceLine, name_of, say_placed, trimmed};
 use std::alloc::AllocError;
 
 /// The two roots of a profile, of which either may come first.
@@ -14,18 +15,20 @@ struct Pair<'a> {
 }
 
 /// Says what the profiles and rules of a set that is safe may not have been meant to say.
-pub(crate) fn say_notes(out: &mut String, source: &Source<'_>) -> Said {
+pub(crate) fn say_notes(out: &mut Remarks, source: &Source<'_>) -> Said {
+    if !source.is_whole() {
+        return out.note(
+            "the input is too long for notes on it: 1 MiB and 50,000 lines are looked at",
+        );
+    }
     let profiles = source.profiles()?;
     say_notes_on(out, source, profiles.as_slice())
 }
 
 /// Says what these profiles and the rules may not have been meant to say.
-fn say_notes_on(out: &mut String, source: &Source<'_>, profiles: &[SourceLine<'_>]) -> Said {
+fn say_notes_on(out: &mut Remarks, source: &Source<'_>, profiles: &[SourceLine<'_>]) -> Said {
     if profiles.is_empty() {
-        return say(
-            out,
-            "note: the input has no profile, so nothing was checked",
-        );
+        return out.note("the input has no profile, so nothing was checked");
     }
     say_blank_names(out, profiles)?;
     say_strange_rule(out, source, profiles)?;
@@ -33,19 +36,23 @@ fn say_notes_on(out: &mut String, source: &Source<'_>, profiles: &[SourceLine<'_
 }
 
 /// Says which names have a blank at an end.
-fn say_blank_names(out: &mut String, profiles: &[SourceLine<'_>]) -> Said {
+fn say_blank_names(out: &mut Remarks, profiles: &[SourceLine<'_>]) -> Said {
     for profile in profiles {
         let name = profile.profile().unwrap_or("");
         if trimmed(name).len() < name.len() {
             let place = profile.place();
-            return writeln!(out, "hubsync: note: {place}: a blank at an end of {name:?}");
+            out.may_mislead = true;
+            return writeln!(
+                &mut out.text,
+                "hubsync: note: {place}: a blank at an end of {name:?}"
+            );
         }
     }
     Ok(())
 }
 
 /// Says which root of the rules no profile has, or else which rule is for a path that no profile reaches.
-fn say_strange_rule(out: &mut String, source: &Source<'_>, profiles: &[SourceLine<'_>]) -> Said {
+fn say_strange_rule(out: &mut Remarks, source: &Source<'_>, profiles: &[SourceLine<'_>]) -> Said {
     let Some(section) = source.section("%rules") else {
         return Ok(());
     };
@@ -55,7 +62,7 @@ fn say_strange_rule(out: &mut String, source: &Source<'_>, profiles: &[SourceLin
             out,
             source,
             line,
-            "note: no profile has this root, so no rule below it protects anything:",
+            "no profile has this root, so no rule below it protects anything:",
         ),
         None => say_idle_rule(out, source, profiles, section),
     }
@@ -78,13 +85,13 @@ fn strange_root<'s, 'a>(
 
 /// Says a line of the rules below a note on it.
 pub(crate) fn say_below_note(
-    out: &mut String,
+    out: &mut Remarks,
     source: &Source<'_>,
     line: &SourceLine<'_>,
     note: &str,
 ) -> Said {
-    say(out, note)?;
-    say_placed(out, source, line)
+    out.note(note)?;
+    say_placed(&mut out.text, source, line)
 }
 
 /// The root lines of all other sections.
@@ -107,7 +114,7 @@ fn is_among(roots: &[SourceLine<'_>], root: &str) -> bool {
 }
 
 /// Says which two profiles have the same two roots.
-fn say_same_pair(out: &mut String, source: &Source<'_>, profiles: &[SourceLine<'_>]) -> Said {
+fn say_same_pair(out: &mut Remarks, source: &Source<'_>, profiles: &[SourceLine<'_>]) -> Said {
     let mut pairs = Vec::new(source.alloc());
     for profile in profiles {
         if let Some(pair) = pair_of(source, profile.section) {
@@ -125,15 +132,12 @@ fn say_same_pair(out: &mut String, source: &Source<'_>, profiles: &[SourceLine<'
 }
 
 /// Says that two profiles have the same two roots.
-fn say_pair(out: &mut String, one: &str, other: &str) -> Said {
+fn say_pair(out: &mut Remarks, one: &str, other: &str) -> Said {
     writeln!(
-        out,
+        &mut out.text,
         "hubsync: note: {one} and {other} have the same two roots"
     )?;
-    say(
-        out,
-        "note: Unison locks the archive of two roots: don't run these profiles at once",
-    )
+    out.note("Unison locks the archive of two roots: don't run these profiles at once")
 }
 
 /// The two roots of a profile.

@@ -94,7 +94,8 @@ fn say_remarks<T: AllocGlobal + Eprint>(
     if let Some(error) = input.error() {
         let _ = eprintln!(rt; "hubsync: standard input can't be read: {error}");
     }
-    if let Ok(text) = remark(rt.alloc(), words, files, input.front(), output.front()) {
+    if let Ok(remarks) = remark(rt.alloc(), words, files, input.front(), output.front()) {
+        let text = remarks.text.as_str();
         let _ = eprint!(rt; "{text}");
     }
 }

@@ -6,8 +6,8 @@
 # PROGRAM is the built program (crates/hubsync/out/hubsync if left out). Each row of the table is run: its bundle on
 # standard input, its words as arguments. The output is the row's one line, and the text of the file that the row names
 # after it; the status is the row's. A line is printed for each wrong answer and for each bundle without a row. Then the
-# certificates of each safe bundle are given back to the program, the state text of a folder is given to it, and scripts.sh,
-# rounds.sh and graphs.sh try the other scripts of this folder. The status is 1 if an answer was wrong, else 0.
+# certificates of each safe bundle are given back to the program, and the state text of a folder is given to it. The status is 1 if
+# an answer was wrong, else 0.
 set -euo pipefail
 folder=$(dirname "$(readlink -f "${BASH_SOURCE[0]}")")
 program=$(readlink -f "${1:-$folder/../crates/hubsync/out/hubsync}")
@@ -165,9 +165,6 @@ try_folder "$room" || complain "the state text of a folder is answered by '$(hea
 mkdir "$room/options"
 (cd -P "$room/options" && try_options) || complain 'state-of-folder.sh writes something else with its options'
 (cd -P "$room/options" && try_words) || complain 'state-of-folder.sh takes words that are wrong'
-"$folder/scripts.sh" "$program" || wrong=$((wrong + 1))
-"$folder/rounds.sh" "$program" || wrong=$((wrong + 1))
-"$folder/graphs.sh" "$program" || wrong=$((wrong + 1))
 [ "$rows" -gt 0 ] || complain 'the table has no rows'
 [ "$given" -gt 0 ] || complain 'no bundle is safe'
 echo "examples: ${1:-hubsync} answered $rows, $wrong of them wrongly"

@@ -101,29 +101,29 @@ certificates() {
 
 # Asks about the certificates as `sed` changes them.
 #
-#     ask_forged PLACE WANTED-STATUS WANTED-LINE SED-WORD..
-ask_forged() {
+#     ask_changed PLACE WANTED-STATUS WANTED-LINE SED-WORD..
+ask_changed() {
     certificates | sed "${@:4}" | with_certificates >"$room/input"
     ask_line "certificates: $1" "$2" "$3" verify
 }
 
 # Forged certificates. A text too many does no harm where its stage is one of the others.
-ask_all_forged() {
+ask_forged() {
     certificate 'clash 0 1 root 0' >"$room/first"
-    ask_forged 'as they are' 0 verified ''
-    ask_forged 'a text twice' 0 verified '18a stage 63'
-    ask_forged 'a text that begins with a slash' 0 verified '18a stage 2f63'
-    ask_forged 'a line end as a text' 0 verified '18a stage 0a'
-    ask_forged 'upper case' 0 verified 's/^stage \(.*\)/stage \U\1/'
-    ask_forged 'the first goal twice' 1 'refused: certificate 1 Stray' "1r $room/first"
-    ask_forged 'a goal of one profile' 1 'refused: certificate 6 Stray' '$i goal clash 0 0 root 0\nstage -'
-    ask_forged 'a goal that is not there' 1 'refused: certificate 6 Stray' '$i goal clash 0 9999 archive\nstage -'
-    ask_forged 'the last goal is left out' 1 'refused: goal 5 Missing' '87,103d'
-    ask_forged 'a leading zero' 2 'fault: certificates line 2: BadText' '2s/0 1/00 1/'
-    ask_forged 'half a byte' 2 'fault: certificates line 19: BadText' '18a stage 6'
-    ask_forged 'a text that is not UTF-8' 2 'fault: certificates line 19: BadText' '18a stage ff'
-    ask_forged 'a line after the end' 2 'fault: certificates line 105: BadText' '$a goal clash 0 1 root 0'
-    ask_forged 'a blank line after the end' 2 'fault: certificates line 105: BadText' '$a \\'
+    ask_changed 'as they are' 0 verified ''
+    ask_changed 'a text twice' 0 verified '18a stage 63'
+    ask_changed 'a text that begins with a slash' 0 verified '18a stage 2f63'
+    ask_changed 'a line end as a text' 0 verified '18a stage 0a'
+    ask_changed 'upper case' 0 verified 's/^stage \(.*\)/stage \U\1/'
+    ask_changed 'the first goal twice' 1 'refused: certificate 1 Stray' "1r $room/first"
+    ask_changed 'a goal of one profile' 1 'refused: certificate 6 Stray' '$i goal clash 0 0 root 0\nstage -'
+    ask_changed 'a goal that is not there' 1 'refused: certificate 6 Stray' '$i goal clash 0 9999 archive\nstage -'
+    ask_changed 'the last goal is left out' 1 'refused: goal 5 Missing' '87,103d'
+    ask_changed 'a leading zero' 2 'fault: certificates line 2: BadText' '2s/0 1/00 1/'
+    ask_changed 'half a byte' 2 'fault: certificates line 19: BadText' '18a stage 6'
+    ask_changed 'a text that is not UTF-8' 2 'fault: certificates line 19: BadText' '18a stage ff'
+    ask_changed 'a line after the end' 2 'fault: certificates line 105: BadText' '$a goal clash 0 1 root 0'
+    ask_changed 'a blank line after the end' 2 'fault: certificates line 105: BadText' '$a \\'
 }
 
 # A state with so many directories.
@@ -154,12 +154,13 @@ ask_large_states() {
     ask_line 'a file of a byte more' 2 'fault: state line 3: TooLarge'
 }
 
-# Cuts the file `bundle` at each byte. The answer is one line, but for the last cut, which takes a line end.
+# Cuts the file `bundle` at each byte, which is ASCII. The answer is one line, but for the last cut, which takes a line end.
 ask_each_cut() {
-    local size cut status output
-    size=$(wc -c <"$room/bundle")
+    local bundle size cut status output
+    bundle=$(<"$room/bundle")$'\n'
+    size=${#bundle}
     for ((cut = 0; cut < size; cut++)); do
-        head -c "$cut" "$room/bundle" >"$room/input"
+        printf '%s' "${bundle:0:cut}" >"$room/input"
         status=0
         output=$("$program" <"$room/input" 2>"$room/errors") || status=$?
         judge_remarks "$1, cut at $cut"
@@ -202,13 +203,4 @@ ask_blanks() {
     echo 'fault: bundle line 0: TurnsSpent' >"$room/wanted"
     printf '%1000000s' '' >"$room/input"
     ask_bytes '1,000,000 blanks' 2 hubsync
-}
-
-# All of them.
-ask_hostile() {
-    ask_limits
-    ask_all_forged
-    ask_large_states
-    ask_cut
-    ask_blanks
 }

@@ -1,5 +1,5 @@
 #!/usr/bin/env bash
-# Tries unison-by-rounds.sh. examples/check.sh calls this script, which is part of the gate.
+# Tries unison-by-rounds.sh. ./test calls this script.
 #
 #     examples/rounds.sh [PROGRAM]
 #

@@ -1,6 +1,5 @@
 #!/usr/bin/env bash
-# Tries from-prf.sh and items.sh, and state-of-folder.sh on a state of version 2. examples/check.sh calls this script, which is part
-# of the gate.
+# Tries from-prf.sh and items.sh, and state-of-folder.sh on a state of version 2. ./test calls this script.
 #
 #     examples/scripts.sh [PROGRAM]
 #

@@ -6,6 +6,10 @@
 # PROGRAM is the built program (crates/hubsync/out/hubsync if left out). A line is printed for each thing that is wrong. The status is
 # 1 if there was one, else 0. Bash, Perl and the GNU core utilities are needed, and no Unison.
 set -euo pipefail
+if [ "${1:-}" = --help ]; then
+    sed -n '2,/^set /{ /^#/s/^# \{0,1\}//p }' "${BASH_SOURCE[0]}"
+    exit 0
+fi
 folder=$(dirname "$(readlink -f "${BASH_SOURCE[0]}")")
 program=$(readlink -f "${1:-$folder/../crates/hubsync/out/hubsync}")
 wrong=0
@@ -32,11 +36,11 @@ ask() {
     [ "$status" = "$wanted" ] || complain "$*: wanted status $wanted, got $status"
 }
 
-# The twelve profiles of an office: one call says what it changes, each line that hubsync refuses then, and which profiles are in
-# each other's way without these lines.
+# The twelve profiles of an office: one call says what it changes, each line that hubsync refuses or Unison reads differently, and
+# which profiles are in each other's way without these lines.
 try_office() {
     cp -R "$folder/office/unison" "$folder/office/hosts" .
-    ask 1 from-prf.sh --hosts hosts --ask "$program" unison
+    ask 1 from-prf.sh -v --hosts hosts --ask "$program" unison
     compare 'examples/office' said <"$folder/office/answer"
     grep -c '^%profile ' written >count
     compare 'the profiles of examples/office' count <<<12
@@ -78,7 +82,7 @@ LINES
 
 try_folder() {
     fill_folder
-    ask 0 from-prf.sh --hosts hosts unison/
+    ask 0 from-prf.sh -v --hosts hosts unison/
     compare 'a bundle' written <<'LINES'
 %profile docs
 root = /srv/hub
@@ -112,9 +116,9 @@ root = /
 root = ssh://desk/docs
 LINES
     compare 'what is said of a bundle' said <<'LINES'
-unison/docs.prf:1: a byte order mark is dropped
 unison/common.prf: no profile, since it has no root and another one includes it
 unison/part.prf: no profile, since it has no root and another one includes it
+unison/docs.prf:1: a byte order mark is dropped
 unison/docs.prf:2: ssh://anna@Desk:22//srv/ is written as /hosts/desk/srv
 unison/docs.prf:3: in place: unison/common
 unison/docs.prf:4: in place: unison/common.prf
@@ -130,14 +134,17 @@ unison/docs.prf:15: left out: rsrc = default
 unison/docs.prf:17: left out: backupdir = /srv/hub-old
 unison/roots.prf:1: ssh://laptop/docs is written as /home/anna b/docs
 unison/roots.prf:2: socket://laptop// is written as /
-unison/roots.prf:3: no path for desk~, so this stays: root = ssh://desk/docs
+unison/roots.prf:3: a root of another machine: give --hosts a table with a line desk~ PATH: root = ssh://desk/docs
 LINES
     ask 0 from-prf.sh unison roots
     compare 'one profile without a table' said <<'LINES'
-unison/roots.prf:1: no path for laptop~, so this stays: root = ssh://laptop/docs
-unison/roots.prf:2: no path for laptop, so this stays: root = socket://laptop//
-unison/roots.prf:3: no path for desk~, so this stays: root = ssh://desk/docs
+unison/roots.prf:1: a root of another machine: give --hosts a table with a line laptop~ PATH: root = ssh://laptop/docs
+unison/roots.prf:2: a root of another machine: give --hosts a table with a line laptop PATH: root = socket://laptop//
+unison/roots.prf:3: a root of another machine: give --hosts a table with a line desk~ PATH: root = ssh://desk/docs
 LINES
+    ask 0 from-prf.sh --hosts hosts unison
+    tail -1 said >last
+    compare 'how many lines are changed' last <<<'16 lines are left out or written differently: -v names them'
 }
 
 # What is wrong with files or words: nothing is written.
@@ -167,18 +174,91 @@ try_answers() {
     mkdir unison
     printf '%s\n' 'root = /srv/hub' 'root = /srv/desk' 'path = docs' 'retry = 1' >unison/desk.prf
     ask 0 from-prf.sh --ask "$program" unison <&-
-    compare 'a safe set' said <<<$'unison/desk.prf:4: left out: retry = 1\nsafe'
+    compare 'a safe set' said <<<$'1 lines are left out or written differently: -v names them\nsafe'
     echo 'follow = Path docs' >>unison/desk.prf
     printf '%s\n' 'root = /srv/hub' 'root = /srv/home' 'path = docs/a' 'merge = Name a' >unison/home.prf
     echo 'root = /srv/hub' >unison/one.prf
     ask 1 from-prf.sh --ask "$program" unison
     compare 'an unsafe set' said <<'LINES'
-unison/desk.prf:4: left out: retry = 1
-unison/desk.prf:5: refused: UnknownPreference follow: follow = Path docs
-unison/home.prf:4: refused: UnknownPreference merge: merge = Name a
-unison/one.prf: refused: RootCount
-without what is refused:
+1 lines are left out or written differently: -v names them
+unison/desk.prf:5: refused: UnknownPreference follow: follow = Path docs: hubsync has no answer for a profile with this line
+unison/home.prf:4: refused: UnknownPreference merge: merge = Name a: hubsync has no answer for a profile with this line
+unison/one.prf: refused: RootCount: a profile has two roots, and this one has /srv/hub (unison/one.prf:1)
+refused: 3, read differently: 0 (docs/UNISON.md). hubsync's answer without what is refused:
 desk and home: overlap: desk writes docs at /srv/hub, home reaches docs/a
+LINES
+    rm -R unison
+}
+
+# Values that depend on times are left out, but not beside another `force` line.
+try_newer() {
+    mkdir unison
+    printf '%s\n' 'root = /srv/hub' 'root = /srv/desk' 'prefer = newer' 'force = older' >unison/desk.prf
+    ask 0 from-prf.sh -v --ask "$program" unison
+    compare 'newer and older' said <<<$'unison/desk.prf:3: left out: prefer = newer\nunison/desk.prf:4: left out: force = older\nsafe'
+    echo 'force = /srv/hub' >>unison/desk.prf
+    ask 1 from-prf.sh --ask "$program" unison
+    grep -q '^unison/desk.prf:4: refused: LeftOutValue: force = older: ' said || complain 'one of two force lines is left out'
+    rm -R unison
+}
+
+# Makes a profile of two roots of its own with these lines, which begin at line 3.
+#
+#     add NAME LINE..
+add() {
+    printf '%s\n' "root = /hub/$1" "root = /desk/$1" "${@:2}" >"unison/$1.prf"
+}
+
+# Profiles with lines that Unison reads differently, and some that it reads alike.
+fill_differences() {
+    mkdir unison
+    add alike 'path = a*' 'ignore = Path docs/**' 'ignorenot = Name *.tmp' 'ignore = Name [+-.]b' 'ignore = Name .b' \
+        'nocreation = /desk/alike' 'noupdate = /desk/alike' 'batch = true' 'perms = 0o600' 'logfile = /log'
+    add bar 'path = d' 'nodeletionpartial = BelowPath d/{e/f,g} -> /hub/bar' 'nodeletionpartial = Path d/e -> /hub/bar' \
+        'noupdatepartial = Path d->/hub/bar' 'noupdatepartial = Name x -> /hub/bar' 'nodeletionpartial = Path d/e/* -> /desk/bar'
+    add bars-alike 'path = d' 'path = e/f' 'noupdatepartial = Path d -> /hub/bars-alike' 'noupdatepartial = BelowPath e -> /hub/bars-alike' \
+        'noupdatepartial = Path g/h -> /hub/bars-alike' 'noupdatepartial = BelowPath d/i/j -> /hub/bars-alike' \
+        'noupdatepartial = Path {d/i,e/f/g} -> /hub/bars-alike'
+    add braces 'ignore = Name *.{tmp,bak,swp}' 'ignore = Name .{bak,x}' 'ignore = Path *.d/*.tmp' 'ignorenot = Path .d/.tmp'
+    add gone 'noupdatepartial = BelowPath d -> /hub/gone' 'confirmbigdel = false'
+    add newly 'nocreation = /desk/newly'
+    add other 'path = docs/*' 'path = *' 'batch = yes' 'perms = x' 'logfile = /desk/other/log' 'nodeletion = /hub/other/'
+    add pattern $'ignore = Name\tx' 'ignore = Name {x,}' 'ignore = Name a -> b' 'ignore = Path docs/??' 'ignore = Name [é]x' 'ignore = Name [{a]'
+    echo 'ignore = Name *.o' >unison/common
+    echo 'include common' | tee -a unison/newly.prf >>unison/other.prf
+}
+
+# Each of these lines is named once, with what to write.
+try_differences() {
+    fill_differences
+    ask 1 from-prf.sh --ask "$program" unison
+    sed 's/Unison reads this differently: //' said >different
+    compare 'lines that Unison reads differently' different <<'LINES'
+2 lines are left out or written differently: -v names them
+unison/bar.prf:4: nodeletionpartial = BelowPath d/{e/f,g} -> /hub/bar: it tests a bar only at the path of an item: add nodeletionpartial = Path d -> /hub/bar
+unison/bar.prf:5: nodeletionpartial = Path d/e -> /hub/bar: it tests a bar only at the path of an item: add nodeletionpartial = Path d -> /hub/bar
+unison/bar.prf:6: noupdatepartial = Path d->/hub/bar: it bars nothing without a space on each side of ->: write noupdatepartial = Path d -> /hub/bar
+unison/bar.prf:7: noupdatepartial = Name x -> /hub/bar: it tests a bar only at the path of an item: write Path or BelowPath with the path
+unison/bar.prf:8: nodeletionpartial = Path d/e/* -> /desk/bar: it tests a bar only at the path of an item: add nodeletionpartial = Path {d,d/e} -> /desk/bar
+unison/braces.prf:3: ignore = Name *.{tmp,bak,swp}: a dot at the start of a name isn't matched: add ignore = Name {.tmp,.swp}, or to keep these paths ignorenot = Name {.tmp,.swp}
+unison/braces.prf:5: ignore = Path *.d/*.tmp: a dot at the start of a name isn't matched: add ignore = Path {*.d/.tmp,.d/*.tmp}, or to keep these paths ignorenot = Path {*.d/.tmp,.d/*.tmp}
+unison/gone.prf:3: noupdatepartial = BelowPath d -> /hub/gone: a bar doesn't hold if a root is gone: leave confirmbigdel = false out, or name with path lines what is wanted
+unison/newly.prf:3: nocreation = /desk/newly: a file may become a directory all the same: beside a rule nonew for what is in it, write nochange for the file
+unison/common:1: ignore = Name *.o: a dot at the start of a name isn't matched: add ignore = Name .o, or to keep these paths ignorenot = Name .o
+unison/other.prf:3: path = docs/*: a last name * stands for all children: write path = docs
+unison/other.prf:4: path = *: a last name * stands for all children: leave the line out
+unison/other.prf:5: batch = yes: it refuses this: write true or false
+unison/other.prf:6: perms = x: it refuses this: write a number
+unison/other.prf:7: logfile = /desk/other/log: it writes this file while it runs: name one outside the roots
+unison/other.prf:8: nodeletion = /hub/other/: it wants the text of the root line: write nodeletion = /hub/other
+unison/pattern.prf:3: ignore = Name	x: it refuses a tab after Name: write a space
+unison/pattern.prf:4: ignore = Name {x,}: it matches the whole replica: leave it out, and name with path lines what is wanted
+unison/pattern.prf:5: ignore = Name a -> b: it cuts off the last -> and what follows it: write ignore = Name a
+unison/pattern.prf:6: ignore = Path docs/??: ? matches one byte, not one character: write a set of ASCII characters in its place, as [0-9] or [a-z]
+unison/pattern.prf:7: ignore = Name [é]x: a set matches one byte, not one character: write the letters in braces
+unison/pattern.prf:8: ignore = Name [{a]: it reads braces before brackets: write the set without { } and ,
+refused: 0, read differently: 21 (docs/UNISON.md). hubsync's answer without what is refused:
+safe
 LINES
     rm -R unison
 }
@@ -303,6 +383,8 @@ try_office
 try_folder
 try_faults
 try_answers
+try_newer
+try_differences
 try_items
 try_archive
 try_run

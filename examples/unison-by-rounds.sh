@@ -2,53 +2,66 @@
 # Starts Unison for the profiles in a folder, round by round: the profiles of a round run at the same time. It is a convenience beside
 # hubsync: `hubsync rounds` proves which profiles stand in one round, and nothing else of this is proved.
 #
-#     examples/unison-by-rounds.sh [--hosts TABLE] [--archives FOLDER] [--unison UNISON] [--only-check] PROGRAM PROFILES [NAME..]
+#     examples/unison-by-rounds.sh [--hosts TABLE] [--rules FILE] [--archives FOLDER] [--unison UNISON] [--only-check]
+#         PROGRAM PROFILES [NAME..]
 #
-# PROGRAM is hubsync, and PROFILES the folder with the profiles, as `~/.unison`. Names and `--hosts` are those of from-prf.sh, which
-# makes the bundle. A profile that hubsync refuses, or that has a line which Unison reads differently (docs/UNISON.md: patterns, `path`
-# lines with `*`, partial bars, roots that aren't written alike), is named with the line and what to write, and nothing is started.
+# PROGRAM is hubsync, and PROFILES the folder with the profiles, as `~/.unison`. Names and `--hosts` are those of from-prf.sh.
+# `--only-check` starts nothing. A line that hubsync refuses, or that Unison reads differently (docs/UNISON.md), is named with its file
+# and what to write, and nothing is started.
+#
+# The rules of FILE have the form of `hubsync check --rules`. If a profile may break one, or that can't be decided, nothing is started.
+# Without this option no rule is known.
 #
 # Each pair of roots has a folder of its own for UNISON below `--archives`, which is PROFILES/by-pair if nothing is said: a Unison
-# that has the folder of another one stops while that one makes a directory of a file. The first time it gets the archives that are
-# in PROFILES; from then on Unison is to be started by this script alone, since the archives in PROFILES grow old. Profiles of the
-# same two roots run one after another.
+# that has the folder of another one stops while that one makes a directory of a file. The first time it gets the archives of its
+# roots that are in PROFILES; from then on Unison is to be started by this script alone, since the archives in PROFILES grow old. Central
+# backups are in its `backup`, not in `~/.unison/backup`. Profiles of the same two roots run one after another. While this script runs,
+# a second one with the same `--archives` starts nothing.
 #
 # A line `round 1 docs: done` is printed for each profile, or `some items were skipped`, `some items failed`, or `stopped`, by
-# Unison's status 0 to 3. What Unison said is in `NAME.output` of the pair's folder. A run that was stopped is tried once more, alone, when the
-# others of its round have ended. A profile that breaks a rule, or that hubsync can't decide about, isn't started.
+# Unison's status 0 to 3, and for all but the first the file with what Unison said: `NAME.output` of the pair's folder. A run that was
+# stopped is tried once more, alone, when the others of its round have ended. Unison is started with -batch, and `repeat` in a
+# profile has no effect.
 #
-# The status is 0 if each profile ran and Unison's status was 0 each time at the end. It is 1 if not, and if nothing was started.
-# It is 2 if the words of the command line are wrong.
+# | Status | Meaning |
+# |---|---|
+# | 0 | all is done |
+# | 1 | Unison skipped some items, as after a conflict |
+# | 2 | a run failed, or was stopped twice |
+# | 3 | nothing was started; standard error says why |
+# | 4 | nothing was started, since another run of this script goes on |
 set -euo pipefail
+if [ "${1:-}" = --help ]; then
+    sed -n '2,/^set /{ /^#/s/^# \{0,1\}//p }' "${BASH_SOURCE[0]}"
+    exit 0
+fi
 if ! command -v perl >/dev/null; then
     echo "$0: there is no perl in PATH" >&2
-    exit 2
+    exit 3
 fi
-HUBSYNC_EXAMPLES=$(dirname "$(readlink -f "${BASH_SOURCE[0]}")")
-export HUBSYNC_EXAMPLES
-LC_ALL=C exec perl /dev/fd/3 "$@" 3<<'PERL' </dev/null
+modules=$(dirname "$(readlink -f "${BASH_SOURCE[0]}")")
+LC_ALL=C exec perl "-I$modules" /dev/fd/3 "$@" 3<<'PERL' </dev/null
 use strict;
 use warnings;
 use Cwd 'abs_path';
 use Digest::SHA 'sha256_hex';
+use Errno;
+use Fcntl qw(LOCK_EX LOCK_NB);
+use File::Basename 'dirname';
 use File::Copy 'copy';
+use File::Path 'make_path';
+use HubsyncAnswers qw(answer_to name_refused);
 use IO::Handle;
+use List::Util 'max';
+use UnisonLines qw(name_differences);
+use UnisonProfiles qw(change_lines give_up read_hosts read_profiles say_so section);
 
-my $usage = 'usage: examples/unison-by-rounds.sh [--hosts TABLE] [--archives FOLDER] [--unison UNISON] [--only-check]'
+my $usage = 'usage: examples/unison-by-rounds.sh [--hosts TABLE] [--rules FILE] [--archives FOLDER] [--unison UNISON] [--only-check]'
     . ' PROGRAM PROFILES [NAME..]';
 my %option = (unison => 'unison');
 my ($program, $folder, @names);
 my @said = ('done', 'some items were skipped', 'some items failed', 'stopped');
-
-sub say_so {
-    print STDERR "$_[0]\n";
-}
-
-sub give_up {
-    my ($status, $message) = @_;
-    say_so($message);
-    exit $status;
-}
+my $lock;    # open as long as this runs
 
 sub read_words {
     while (@ARGV && $ARGV[0] =~ /\A--?(.*)/) {
@@ -56,226 +69,157 @@ sub read_words {
         shift @ARGV;
         if ($name eq 'only-check') {
             $option{$name} = 1;
-        } elsif ($name =~ /\A(?:hosts|archives|unison)\z/ && @ARGV) {
+        } elsif ($name =~ /\A(?:hosts|rules|archives|unison)\z/ && @ARGV) {
             $option{$name} = shift @ARGV;
         } else {
-            give_up(2, $usage);
+            give_up(3, $usage);
         }
     }
     ($program, $folder, @names) = @ARGV;
-    give_up(2, $usage) if !defined $folder;
-    give_up(2, "no program at $program") if !-x $program;
-    give_up(2, "not a folder: $folder") if !-d $folder;
+    give_up(3, $usage) if !defined $folder;
+    give_up(3, "no program at $program") if !-x $program;
     $folder =~ s{(?<=.)/+\z}{};
     $option{archives} //= "$folder/by-pair";
 }
 
-# The output of a program and its status. Its standard input is a file, or nothing.
-sub output_of {
-    my ($input, @words) = @_;
-    my $process = open(my $out, '-|') // give_up(1, "a process: $!");
+# Ends the script if there is no Unison.
+sub ask_unison {
+    my $process = open(my $out, '-|') // give_up(3, "a process: $!");
     if (!$process) {
-        open STDIN, '<&', $input if defined $input;
-        exec { $words[0] } @words or exit 125;
+        open STDERR, '>', '/dev/null';
+        exec { $option{unison} } $option{unison}, '-version' or exit 125;
     }
-    my @lines = <$out>;
+    my $said = <$out> // '';
     close $out;
-    return ($? >> 8, @lines);
-}
-
-sub trimmed {
-    my ($text) = @_;
-    return $text =~ s/\A[ \t]+|[ \t\r\n]+\z//gr;
-}
-
-# The profiles of a bundle, in order: each has a name, and settings of a name and a value.
-sub profiles_in {
-    my @profiles;
-    for my $line (@_) {
-        my $text = trimmed($line);
-        if ($line =~ /\A%profile (.*?)\r?\n\z/) {
-            push @profiles, { name => $1, settings => [] };
-        } elsif ($text !~ /\A(?:#|\z)/ && $text =~ /\A(.*?)[ \t]*=[ \t]*(.*)\z/) {
-            push @{ $profiles[-1]{settings} }, { name => $1, value => $2, text => $text };
-        }
-    }
-    return @profiles;
-}
-
-sub values_of {
-    my ($profile, $name) = @_;
-    return map { $_->{value} } grep { $_->{name} eq $name } @{ $profile->{settings} };
+    give_up(3, "there is no program $option{unison}: --unison names another one") if $? >> 8 == 125;
+    my ($version) = $said =~ /\Aunison version ([0-9.]+)/ or give_up(3, "$option{unison} isn't Unison: it doesn't say its version");
+    say_so("note: this is Unison $version, and what it reads differently was seen of 2.52.1") if $version !~ /\A2\.52\./;
 }
 
 # The roots of a profile as one text, the same for both orders.
 sub pair_of {
     my ($profile) = @_;
-    return join "\n", sort map { s{(?<=.)/\z}{}r } values_of($profile, 'root');
+    my @roots = map { $_->{value} } grep { ($_->{name} // '') eq 'root' } @{ $profile->{lines} };
+    return join "\n", sort map { s{(?<=.)/\z}{}r } @roots;
 }
 
-# The tokens of a pattern: `*`, `?`, a set, a `{`, a `}`, a `,` or one character, with the `\` before it.
-sub tokens_of {
-    my ($pattern) = @_;
-    return $pattern =~ /\\.|\[(?:\\.|[^\]])*\]|./gs;
-}
-
-# The choices of a pattern with braces, each as its tokens.
-sub choices_of {
-    my @choices = ([]);
-    my $open;
-    for my $token (@_) {
-        if ($token eq '{') {
-            $open = [ [] ];
-        } elsif ($open && $token eq ',') {
-            push @$open, [];
-        } elsif ($open && $token eq '}') {
-            my @made;
-            for my $begun (@choices) {
-                push @made, map { [ @$begun, @$_ ] } @$open;
-            }
-            (@choices, $open) = (@made);
-        } else {
-            push @$_, $token for $open ? $open->[-1] : @choices;
-        }
-    }
-    return @choices;
-}
-
-# The names of a choice, each as its tokens.
-sub names_of {
-    my @names = ([]);
-    for my $token (@_) {
-        if ($token eq '/') {
-            push @names, [];
-        } else {
-            push @{ $names[-1] }, $token;
-        }
-    }
-    return @names;
-}
-
-# A choice with a dot in the place where hubsync lets it match a dot at the start of a name, and Unison doesn't. Nothing if there is none.
-sub with_dots {
-    my @texts;
-    my $is_changed = 0;
-    for my $name (names_of(@_)) {
-        my @rest = @$name;
-        shift @rest while @rest && $rest[0] eq '*';
-        my $first = $rest[0] // '';
-        my $takes_dot = $first eq '?' || $first =~ /\A\[.*\./ || ($first eq '.' && $name->[0] eq '*');
-        if ($takes_dot && ($name->[0] eq '*' || $first ne '.')) {
-            $is_changed = 1;
-            shift @rest;
-            push @texts, join '', '.', @rest;
-        } else {
-            push @texts, join '', @$name;
-        }
-    }
-    return $is_changed ? join '/', @texts : undef;
-}
-
-# Why Unison takes a pattern for another one than hubsync does, if so. `@others` are the patterns of the same preference.
-sub difference_of_pattern {
-    my ($value, @others) = @_;
-    my ($kind, $blank, $pattern) = $value =~ /\A(Name|Path|BelowPath)([ \t])[ \t]*(.*)\z/ or return 'hubsync refuses it';
-    return 'Unison wants a space after the first word' if $blank ne ' ';
-    return 'Unison cuts off the last -> and what follows it' if $value =~ / -> /;
-    my @tokens = tokens_of($pattern);
-    return 'Unison reads braces before brackets' if grep { /\A\[.*[{},]/ } @tokens;
-    return 'for Unison, ? and a set match one byte, not one character' if grep { $_ eq '?' || /\A\[.*[\x80-\xff]/ } @tokens;
-    for my $choice (choices_of(@tokens)) {
-        return 'for Unison it matches the whole replica' if !grep { $_ ne '*' } @$choice;
-        my $with_dots = with_dots(@$choice);
-        next if !defined $with_dots || grep { $_ eq "$kind $with_dots" } @others;
-        return "Unison doesn't match a dot at the start of a name: add a line with $kind $with_dots";
-    }
-    return;
-}
-
-# Why Unison takes a line for something else than hubsync does, if so.
-sub difference_of {
-    my ($setting, $profile) = @_;
-    my ($name, $value) = ($setting->{name}, $setting->{value});
-    return difference_of_pattern($value, values_of($profile, $name)) if $name =~ /\Aignore(?:not)?\z/;
-    return 'Unison takes * at the end for all children' if $name eq 'path' && $value =~ m{(?:\A|/)\*\z};
-    my $root = $value;
-    if ($name =~ /\Ano(?:deletion|update|creation)partial\z/) {
-        return 'Unison bars nothing without blanks around ->' if $value !~ /\A(.*[^ ]) -> (.*)\z/;
-        (my $pattern, $root) = ($1, $2);
-        return 'Unison tests a bar only at the path of an item: write BelowPath' if $pattern !~ /\ABelowPath /;
-        my $why = difference_of_pattern($pattern);
-        return $why if defined $why;
-    } elsif ($name !~ /\A(?:force|prefer|nodeletion|noupdate|nocreation)\z/) {
-        return;
-    }
-    return if grep { $_ eq $root } values_of($profile, 'root');
-    return 'Unison wants the text of the root line';
-}
-
-# Names each line that Unison reads differently. Returns whether there is none.
-sub are_alike {
+# Names each line that is refused or read differently. Nothing is started then.
+sub check_lines {
     my $found = 0;
     for my $profile (@_) {
-        give_up(1, "Unison takes this name for an option: $profile->{name}") if $profile->{name} =~ /\A-/;
-        for my $setting (@{ $profile->{settings} }) {
-            my $why = difference_of($setting, $profile) // next;
-            say_so("$profile->{name}: $setting->{text}: $why");
-            $found = 1;
-        }
+        give_up(3, "Unison takes this name for an option: $profile->{name}") if $profile->{name} =~ /\A-/;
+        give_up(3, "not in $folder: $profile->{file}") if $profile->{file} ne "$folder/$profile->{name}.prf";
+        give_up(3, "not below $folder: $_") for grep { m{(?:\A|/)\.\.(?:/|\z)} } @{ $profile->{parts} };
+        my ($refused) = name_refused($program, $profile);
+        $found += $refused + name_differences($profile);
     }
-    return !$found;
+    exit 3 if $found;
 }
 
-# The rounds, each with the names of its profiles.
-sub rounds_of {
-    my ($bundle) = @_;
-    open my $in, '+>:raw', undef or give_up(1, "a temporary file: $!");
-    print $in @$bundle;
-    $in->flush or give_up(1, "a temporary file: $!");
-    seek $in, 0, 0;
-    my ($status, @lines) = output_of($in, $program, 'rounds');
-    give_up(1, "$program rounds: " . trimmed(join '', @lines)) if $status > 1 || !@lines || $lines[0] !~ /\Arounds [0-9]+\n/;
-    my @rounds;
-    for my $line (@lines) {
-        push @{ $rounds[ $1 - 1 ] }, $2 if $line =~ /\Around ([1-9][0-9]*) (.*)\n\z/;
-        say_so("not started: $1") if $line =~ /\A((?:breach|too large) .*)\n\z/;
+# The section of a bundle for the rules. A rule for a root that no profile has would protect nothing.
+sub rules_for {
+    return '' if !defined $option{rules};
+    open my $in, '<:raw', $option{rules} or give_up(3, "$option{rules}: $!");
+    my @lines = <$in>;
+    give_up(3, "$option{rules}: a line begins with %") if grep { /\A%/ } @lines;
+    my %is_root = map { $_ => 1 } map { split /\n/, pair_of($_) } @_;
+    for my $root (map { m{\A[ \t]*root[ \t]*=[ \t]*(.*?)/?[ \t]*\r?\n?\z} ? $1 : () } @lines) {
+        give_up(3, "$option{rules}: no profile has the root $root") if !$is_root{$root};
     }
-    return ($status, @rounds);
+    return join '', "%rules\n", @lines, "\n";
+}
+
+# The rounds, each with the names of its profiles. Each profile stands in one.
+sub rounds_of {
+    my (undef, $lines, $remarks) = answer_to($program, 'rounds', (map { section($_) } @_), rules_for(@_));
+    my @reasons = $lines->[0] =~ /\Arounds [0-9]+\z/ ? grep { /\A(?:breach|too large) / } @$lines : $lines->[0];
+    say_so("$program rounds: $_") for @reasons;
+    # its notes are on what this script does or has named
+    say_so($_) for grep { !/\Ahubsync: note: / } @$remarks;
+    exit 3 if @reasons;
+    my @rounds;
+    for my $line (@$lines) {
+        push @{ $rounds[ $1 - 1 ] }, $2 if $line =~ /\Around ([1-9][0-9]*) (.*)\z/;
+    }
+    return @rounds;
+}
+
+# Ends the script if another one runs with the same archives. What Unison starts doesn't get the lock, as a connection that stays open.
+sub take_lock {
+    mkdir $option{archives} or $!{EEXIST} or give_up(3, "$option{archives}: $!");
+    open $lock, '<', $option{archives} or give_up(3, "$option{archives}: $!");
+    flock $lock, LOCK_EX | LOCK_NB and return;
+    give_up(4, "another run with $option{archives} goes on, so nothing is started") if $!{EWOULDBLOCK};
+    give_up(3, "$option{archives}: $!");
+}
+
+# What the name of a root is in an archive: `//MACHINE/` and the path. Of a root on another machine anything may be its name.
+sub archived_name {
+    my ($root) = @_;
+    return '//.*' if $root =~ m{\A(?:ssh|socket)://};
+    return '//[^/]*/' . quotemeta(abs_path($root) // $root =~ s{(?<=.)/+\z}{}r);
+}
+
+# The archives of two roots in the folder of the profiles, and the fingerprints with the same digits.
+sub archives_of {
+    my ($one, $other) = map { archived_name($_) } @_;
+    my @files;
+    for my $digits (map { m{/ar([0-9a-f]{32})\z} ? $1 : () } files_in($folder)) {
+        open my $in, '<:raw', "$folder/ar$digits" or give_up(3, "$folder/ar$digits: $!");
+        my (undef, $line) = (scalar readline $in, readline($in) // '');
+        my ($roots) = $line =~ / synchronizing roots (.*)\n\z/;
+        next if defined $roots && $roots !~ /\A(?:$one, $other|$other, $one)\z/;
+        push @files, grep { -f "$folder/$_" } "ar$digits", "fp$digits";
+    }
+    return @files;
+}
+
+# The files of a folder.
+sub files_in {
+    my ($place) = @_;
+    opendir my $handle, $place or give_up(3, "$place: $!");
+    return grep { -f } map { "$place/$_" } sort readdir $handle;
 }
 
 # Whether Unison made a file itself: an archive, a fingerprint, a lock, or what it says of a run.
 sub is_of_unison {
     my ($file) = @_;
-    return $file =~ /\A(?:lk|tm|sc)[0-9a-f]{32}\z|\ADANGER\.README\z|\.log\z/;
+    return $file =~ m{/(?:(?:ar|fp|lk|tm|sc)[0-9a-f]{32}|DANGER\.README|[^/]*\.log)\z};
 }
 
-# Makes the folder of a pair of roots, and puts the profiles there as they are now. The archives are those of PROFILES only in a new one.
+sub copy_files {
+    my ($own, @files) = @_;
+    for my $file (@files) {
+        make_path(dirname("$own/$file"));
+        copy("$folder/$file", "$own/$file") or give_up(3, "$own/$file: $!");
+    }
+}
+
+# Puts the files of a profile, as they are now, into the folder of its pair of roots, and returns that. A new folder gets archives.
 sub folder_of {
-    my ($pair) = @_;
-    my $own = "$option{archives}/" . substr sha256_hex($pair), 0, 16;
-    my $is_new = !-d $own;
-    mkdir $option{archives} if !-d $option{archives};
-    if ($is_new) {
-        mkdir $own or give_up(1, "$own: $!");
+    my ($profile) = @_;
+    my $own = "$option{archives}/" . substr sha256_hex(pair_of($profile)), 0, 16;
+    if (!-d $own) {
+        # a name of its own until all archives are there
+        make_path("$own.new");
+        copy_files("$own.new", archives_of(@{ $profile->{roots} }));
+        rename "$own.new", $own or give_up(3, "$own: $!");
     }
-    opendir my $handle, $folder or give_up(1, "$folder: $!");
-    for my $file (readdir $handle) {
-        next if !-f "$folder/$file" || is_of_unison($file);
-        next if !$is_new && $file =~ /\A(?:ar|fp)[0-9a-f]{32}\z/;
-        copy("$folder/$file", "$own/$file") or give_up(1, "$own/$file: $!");
-    }
+    copy_files($own, map { s{.*/}{}r } grep { !is_of_unison($_) } files_in($folder));
+    copy_files($own, @{ $profile->{parts} });
+    unlink map { "$own/$_" } @{ $profile->{absent} };
     return abs_path($own);
 }
 
 # Runs Unison for a profile, and returns its status.
 sub status_of {
     my ($name, $own) = @_;
-    my $process = fork() // give_up(1, "a process: $!");
+    my $process = fork() // give_up(3, "a process: $!");
     if (!$process) {
         $ENV{UNISON} = $own;
         open STDOUT, '>', "$own/$name.output" or exit 125;
         open STDERR, '>&', \*STDOUT;
-        exec { $option{unison} } $option{unison}, '-ui', 'text', $name, '-batch', '-auto' or exit 125;
+        exec { $option{unison} } $option{unison}, '-ui', 'text', $name, '-repeat', '', '-batch', '-auto' or exit 125;
     }
     waitpid $process, 0;
     return $? & 127 ? 3 : $? >> 8;
@@ -287,7 +231,7 @@ sub statuses_of {
     my (%names_at, @readers, %status);
     push @{ $names_at{ $own_of->{$_} } }, $_ for @round;
     for my $own (sort keys %names_at) {
-        my $process = open(my $reader, '-|') // give_up(1, "a process: $!");
+        my $process = open(my $reader, '-|') // give_up(3, "a process: $!");
         if (!$process) {
             STDOUT->autoflush(1);
             print status_of($_, $own), "\n" for @{ $names_at{$own} };
@@ -297,46 +241,47 @@ sub statuses_of {
     }
     for (@readers) {
         my ($reader, @names) = @$_;
-        for my $name (@names) {
-            my $line = readline($reader) // "3\n";
-            chomp($status{$name} = $line);
-        }
+        $status{$_} = (readline($reader) // "3\n") =~ s/\n//r for @names;
         close $reader;
     }
     return %status;
 }
 
 sub report {
-    my ($number, $name, $status) = @_;
-    print "round $number $name: ", $said[$status] // "status $status of $option{unison}", "\n";
+    my ($number, $name, $status, $own) = @_;
+    my $file = $status ? ": $own/$name.output" : '';
+    print "round $number $name: ", $said[$status] // "status $status of $option{unison}", "$file\n";
 }
 
-# Runs a round, and once more alone what was stopped. Returns whether all is done.
+# Runs a round, and once more alone what was stopped. Returns the status of this script for it.
 sub run_round {
     my ($number, $own_of, @round) = @_;
     my %status = statuses_of($own_of, @round);
     for my $name (@round) {
-        report($number, $name, $status{$name});
+        report($number, $name, $status{$name}, $own_of->{$name});
         next if $status{$name} != 3;
         $status{$name} = status_of($name, $own_of->{$name});
-        report($number, $name, $status{$name});
+        report($number, $name, $status{$name}, $own_of->{$name});
     }
-    return !grep { $status{$_} } @round;
+    return max(map { $_ > 1 ? 2 : $_ } values %status);
 }
 
-read_words();
+$UnisonProfiles::status_of_faults = 3;
+STDERR->autoflush(1);
 STDOUT->autoflush(1);
-my @hosts = defined $option{hosts} ? ('--hosts', $option{hosts}) : ();
-my ($made, @bundle) = output_of(undef, "$ENV{HUBSYNC_EXAMPLES}/from-prf.sh", @hosts, $folder, @names);
-exit 1 if $made;
-my @profiles = profiles_in(@bundle);
-my ($left, @rounds) = rounds_of(\@bundle);
-exit 1 if !are_alike(@profiles);
-exit $left if $option{'only-check'};
-my %own_of = map { $_->{name} => folder_of(pair_of($_)) } @profiles;
-my $is_done = !$left;
+read_words();
+ask_unison() if !$option{'only-check'};
+read_hosts($option{hosts}) if defined $option{hosts};
+my ($profiles) = read_profiles($folder, @names);
+change_lines($_) for @$profiles;
+check_lines(@$profiles);
+my @rounds = rounds_of(@$profiles);
+exit 0 if $option{'only-check'};
+take_lock();
+my %own_of = map { $_->{name} => folder_of($_) } @$profiles;
+my $worst = 0;
 for my $number (1 .. @rounds) {
-    $is_done = 0 if !run_round($number, \%own_of, @{ $rounds[ $number - 1 ] });
+    $worst = max($worst, run_round($number, \%own_of, @{ $rounds[ $number - 1 ] }));
 }
-exit($is_done ? 0 : 1);
+exit $worst;
 PERL

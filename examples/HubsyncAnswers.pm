@@ -1,0 +1,102 @@
+package HubsyncAnswers;
+
+# Asks hubsync about profiles, for from-prf.sh and unison-by-rounds.sh. The profiles are those of UnisonProfiles.pm.
+use strict;
+use warnings;
+use Exporter 'import';
+use IO::Handle;
+use UnisonProfiles qw(give_up say_once say_so section);
+our @EXPORT_OK = qw(answer_to name_refused);
+
+my $most_refused = 100;    # lines of a profile that are named
+
+# What to do about preferences of Unison that hubsync doesn't know.
+my $holds_back = 'it only holds changes back: leave the line out';
+my $overrides = 'leave the line out, and the line force with it, since this one overrides force';
+my $has_no_answer = 'hubsync has no answer for a profile with this line';
+my %remedy_of = (
+    (map { $_ => $holds_back } qw(ignorearchives immutable links maxerrors maxsizethreshold mountpoint)),
+    (map { $_ => $overrides } qw(forcepartial preferpartial)),
+    (map { $_ => $has_no_answer } qw(atomic backuploc backuplocation copyonconflict fat follow ignorecase merge rsrc unicode)),
+    backupdir => 'the backups are in a root: name a folder outside',
+);
+# What to do about faults, if the program's words are for a bundle that was written by hand.
+my %remedy_of_fault = (
+    IncludeLeftOut => 'Unison refuses a blank before it: take it away',
+);
+
+my $refused_roots = 0;
+
+# A temporary file with these texts, to be read from its start.
+sub file_of {
+    open my $in, '+>:raw', undef or give_up($UnisonProfiles::status_of_faults, "a temporary file: $!");
+    print $in @_ or give_up($UnisonProfiles::status_of_faults, "a temporary file: $!");
+    $in->flush or give_up($UnisonProfiles::status_of_faults, "a temporary file: $!");
+    seek $in, 0, 0;
+    return $in;
+}
+
+# What the program answers to a bundle: its status, the lines of its standard output, and those of standard error.
+sub answer_to {
+    my ($program, $command, @bundle) = @_;
+    my $in = file_of(@bundle);
+    my $errors = file_of();
+    my $process = open(my $out, '-|') // give_up($UnisonProfiles::status_of_faults, "a process: $!");
+    if (!$process) {
+        open STDIN, '<&', $in;
+        open STDERR, '>&', $errors;
+        exec { $program } $program, $command or exit 125;
+    }
+    chomp(my @lines = <$out>);
+    close $out;
+    my $status = $? >> 8;
+    give_up($UnisonProfiles::status_of_faults, "$program gives no answer") if !@lines;
+    seek $errors, 0, 0;
+    chomp(my @remarks = <$errors>);
+    return ($status, \@lines, \@remarks);
+}
+
+# What to do about a refused line: the words that stand here for it, or else the last that the program says, with the files' lines in
+# place of those of the bundle that it was given.
+sub remedy {
+    my ($profile, $line, $fault, @remarks) = @_;
+    my $own = $line->{needs} // $remedy_of{ $line->{name} // '' } // $remedy_of_fault{$fault};
+    return $own if defined $own;
+    my @words = map { /\Ahubsync: (?!note: |bundle line )(.*)/ ? $1 : () } @remarks;
+    s/\bbundle line ([0-9]+)/$profile->{lines}[ $1 - 2 ]{at}/g for @words;
+    return $words[-1] // 'docs/UNISON.md has what to write';
+}
+
+# Names a line that the program refuses, and takes it away. In place of a root comes one that is nowhere else. Returns whether it was
+# not named before.
+sub name_line {
+    my ($line, $fault, $remedy) = @_;
+    my $is_new = say_once($line, "refused: $fault: " . $line->{text} =~ s/\A[ \t]+|[ \t]+\z//gr . ": $remedy");
+    my $is_root = ($line->{name} // '') eq 'root';
+    $line->{text} = $is_root ? 'root = /refused/' . ++$refused_roots : '#';
+    delete $line->{name};
+    return $is_new;
+}
+
+# Names each line of a profile that the program refuses, and takes it away. Returns how many were not named before, and whether the lines
+# that are left are a profile.
+sub name_refused {
+    my ($program, $profile) = @_;
+    my $count = 0;
+    for (1 .. $most_refused) {
+        my (undef, $lines, $remarks) = answer_to($program, 'check', section({ %$profile, name => 'p' }));
+        return ($count, 1) if $lines->[0] !~ /\Afault: /;
+        my ($number, $fault) = $lines->[0] =~ /\Afault: profile p line ([0-9]+): (.*)\z/
+            or give_up($UnisonProfiles::status_of_faults, "$program answers: $lines->[0]");
+        if ($number == 0) {
+            say_so("$profile->{file}: refused: $fault: " . remedy($profile, {}, $fault, @$remarks));
+            return ($count + 1, 0);
+        }
+        my $line = $profile->{lines}[ $number - 1 ];
+        $count += name_line($line, $fault, remedy($profile, $line, $fault, @$remarks));
+    }
+    say_so("$profile->{file}: more than $most_refused lines are refused");
+    return ($count, 0);
+}
+
+1;

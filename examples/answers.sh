@@ -38,6 +38,10 @@
 # that are long, forged, cut (hostile.sh) or that fail, and outputs that fail, of which standard error says that. A line is printed
 # for each wrong answer. The status is 1 if there was one, else 0.
 set -euo pipefail
+if [ "${1:-}" = --help ]; then
+    sed -n '2,/^set /{ /^#/s/^# \{0,1\}//p }' "${BASH_SOURCE[0]}"
+    exit 0
+fi
 shopt -s nullglob
 folder=$(dirname "$(readlink -f "${BASH_SOURCE[0]}")")
 program=$(readlink -m -- "${1:-$folder/../crates/hubsync/out/hubsync}")

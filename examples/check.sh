@@ -9,6 +9,10 @@
 # certificates of each safe bundle are given back to the program, and the state text of a folder is given to it. The status is 1 if
 # an answer was wrong, else 0.
 set -euo pipefail
+if [ "${1:-}" = --help ]; then
+    sed -n '2,/^set /{ /^#/s/^# \{0,1\}//p }' "${BASH_SOURCE[0]}"
+    exit 0
+fi
 folder=$(dirname "$(readlink -f "${BASH_SOURCE[0]}")")
 program=$(readlink -f "${1:-$folder/../crates/hubsync/out/hubsync}")
 table=$folder/README.md

@@ -12,6 +12,10 @@
 # State texts may be of version 1 or 2. The status is 1 if the two states have the same at the place of an item, as with another
 # bundle than that of the run, or if a state is not whole. It is 2 if the words of the command line are wrong.
 set -euo pipefail
+if [ "${1:-}" = --help ]; then
+    sed -n '2,/^set /{ /^#/s/^# \{0,1\}//p }' "${BASH_SOURCE[0]}"
+    exit 0
+fi
 if ! command -v perl >/dev/null; then
     echo "$0: there is no perl in PATH" >&2
     exit 2

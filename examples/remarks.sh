@@ -27,6 +27,10 @@
 # table can say: inputs that are long, with too many lines, or that fail. A line is printed for each wrong answer. The status is 1
 # if there was one, else 0.
 set -euo pipefail
+if [ "${1:-}" = --help ]; then
+    sed -n '2,/^set /{ /^#/s/^# \{0,1\}//p }' "${BASH_SOURCE[0]}"
+    exit 0
+fi
 folder=$(dirname "$(readlink -f "${BASH_SOURCE[0]}")")
 program=$(readlink -m "${1:-$folder/../crates/hubsync/out/hubsync}")
 asked=0

@@ -14,6 +14,10 @@
 # and what is below it out of all folders and archives, since a path that one side lacks would look deleted there; it writes the
 # rest, and ends with status 0. The status is 2 if the words of the command line are wrong.
 set -euo pipefail
+if [ "${1:-}" = --help ]; then
+    sed -n '2,/^set /{ /^#/s/^# \{0,1\}//p }' "${BASH_SOURCE[0]}"
+    exit 0
+fi
 if ! command -v perl >/dev/null; then
     echo "$0: there is no perl in PATH" >&2
     exit 2

@@ -6,8 +6,8 @@
 # PROGRAM is the built program (crates/hubsync/out/hubsync if left out). Each row of the table is run: its bundle on
 # standard input, its words as arguments. The output is the row's one line, and the text of the file that the row names
 # after it; the status is the row's. A line is printed for each wrong answer and for each bundle without a row. Then the
-# certificates of each safe bundle are given back to the program, and the state text of a folder is given to it. The status is 1 if
-# an answer was wrong, else 0.
+# certificates of each safe bundle are given back to the program, its graphs to Graphviz if `dot` is in PATH, and the state text of a
+# folder to the program. The status is 1 if an answer was wrong, else 0.
 set -euo pipefail
 if [ "${1:-}" = --help ]; then
     sed -n '2,/^set /{ /^#/s/^# \{0,1\}//p }' "${BASH_SOURCE[0]}"
@@ -77,6 +77,15 @@ for bundle in "$folder"/*.bundle; do
         given=$((given + 1))
     fi
 done
+# what `clashes --dot` draws, Graphviz takes
+if command -v dot >/dev/null; then
+    for bundle in "$folder"/*.bundle; do
+        answer=$("$program" clashes --dot <"$bundle" 2>/dev/null) || true
+        [[ $answer != graph* ]] || dot -Tsvg <<<"$answer" >/dev/null || complain "$(basename "$bundle"): Graphviz refuses its graph"
+    done
+else
+    echo 'examples: Graphviz was not tried: there is no dot in PATH'
+fi
 # without profiles no job is run, so the state text of a folder is read, and written as it is
 try_folder() {
     local room=$1 name

@@ -1,4 +1,4 @@
--- Worked values of graphs. The texts are those of examples/graph-of-clashes.sh.
+-- Worked values of graphs.
 use Rattle.std.specs.Prelude.{⊤, ◌≡◌, List, [], ◌∷◌, ◌++◌, ℕ, codes, refl}
 use Rattle.std.specs.Str.{chars}
 use Rattle.hub_path.specs.Path.{path_of}

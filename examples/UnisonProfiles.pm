@@ -3,7 +3,7 @@ package UnisonProfiles;
 # Reads the profiles in a folder of Unison's, for from-prf.sh and unison-by-rounds.sh. A profile has a `name`, a `file`, its `lines`, the
 # texts of its `roots` as they stand there, in `parts` the files that it includes, as names below the folder, and in `absent` those that
 # its lines look for in vain. A line has a `text` as hubsync gets it, its place `at` (file and line), `remarks` on how it was changed, and
-# if it sets something a `name` and a `value`.
+# if it sets something a `name` and a `value`, as Unison gets them. `written` is the value for hubsync if that is another one.
 use strict;
 use warnings;
 use Exporter 'import';
@@ -215,8 +215,8 @@ sub change_root {
     }
     (my $path, $line->{needs}) = path_of_remote($value);
     return if !defined $path;
-    $line->{value} = "$before$path";
-    add_remark($line, "$value is written as $path", "$name = $line->{value}");
+    $line->{written} = "$before$path";
+    add_remark($line, "$value is written as $path", "$name = $line->{written}");
 }
 
 # Changes the lines of a profile to those that hubsync is to get.

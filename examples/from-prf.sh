@@ -81,7 +81,7 @@ sub say_changes {
         say_once($line, "$line->{needs}: $line->{text}") if defined $line->{needs} && !defined $program;
     }
     my $count = keys %is_changed;
-    say_so("$count lines are left out or written differently: -v names them") if $count && !$says_all;
+    say_so("lines left out or written differently: $count (-v names them)") if $count && !$says_all;
 }
 
 # Says what the program answers to each two profiles that aren't safe, or else to all of them.

@@ -144,7 +144,7 @@ unison/roots.prf:3: a root of another machine: give --hosts a table with a line 
 LINES
     ask 0 from-prf.sh --hosts hosts unison
     tail -1 said >last
-    compare 'how many lines are changed' last <<<'16 lines are left out or written differently: -v names them'
+    compare 'how many lines are changed' last <<<'lines left out or written differently: 16 (-v names them)'
 }
 
 # What is wrong with files or words: nothing is written.
@@ -174,13 +174,13 @@ try_answers() {
     mkdir unison
     printf '%s\n' 'root = /srv/hub' 'root = /srv/desk' 'path = docs' 'retry = 1' >unison/desk.prf
     ask 0 from-prf.sh --ask "$program" unison <&-
-    compare 'a safe set' said <<<$'1 lines are left out or written differently: -v names them\nsafe'
+    compare 'a safe set' said <<<$'lines left out or written differently: 1 (-v names them)\nsafe'
     echo 'follow = Path docs' >>unison/desk.prf
     printf '%s\n' 'root = /srv/hub' 'root = /srv/home' 'path = docs/a' 'merge = Name a' >unison/home.prf
     echo 'root = /srv/hub' >unison/one.prf
     ask 1 from-prf.sh --ask "$program" unison
     compare 'an unsafe set' said <<'LINES'
-1 lines are left out or written differently: -v names them
+lines left out or written differently: 1 (-v names them)
 unison/desk.prf:5: refused: UnknownPreference follow: follow = Path docs: hubsync has no answer for a profile with this line
 unison/home.prf:4: refused: UnknownPreference merge: merge = Name a: hubsync has no answer for a profile with this line
 unison/one.prf: refused: RootCount: a profile has two roots, and this one has /srv/hub (unison/one.prf:1)
@@ -224,6 +224,9 @@ fill_differences() {
     add newly 'nocreation = /desk/newly'
     add other 'path = docs/*' 'path = *' 'batch = yes' 'perms = x' 'logfile = /desk/other/log' 'nodeletion = /hub/other/'
     add pattern $'ignore = Name\tx' 'ignore = Name {x,}' 'ignore = Name a -> b' 'ignore = Path docs/??' 'ignore = Name [é]x' 'ignore = Name [{a]'
+    printf '%s\n' 'root = /hub/remote' 'root = ssh://pc//desk' 'path = d' 'noupdatepartial = Path d/e -> ssh://pc//desk' \
+        'nodeletion = ssh://pc//desk/' >unison/remote.prf
+    echo 'pc /pc' >hosts
     echo 'ignore = Name *.o' >unison/common
     echo 'include common' | tee -a unison/newly.prf >>unison/other.prf
 }
@@ -231,10 +234,10 @@ fill_differences() {
 # Each of these lines is named once, with what to write.
 try_differences() {
     fill_differences
-    ask 1 from-prf.sh --ask "$program" unison
+    ask 1 from-prf.sh --hosts hosts --ask "$program" unison
     sed 's/Unison reads this differently: //' said >different
     compare 'lines that Unison reads differently' different <<'LINES'
-2 lines are left out or written differently: -v names them
+lines left out or written differently: 5 (-v names them)
 unison/bar.prf:4: nodeletionpartial = BelowPath d/{e/f,g} -> /hub/bar: it tests a bar only at the path of an item: add nodeletionpartial = Path d -> /hub/bar
 unison/bar.prf:5: nodeletionpartial = Path d/e -> /hub/bar: it tests a bar only at the path of an item: add nodeletionpartial = Path d -> /hub/bar
 unison/bar.prf:6: noupdatepartial = Path d->/hub/bar: it bars nothing without a space on each side of ->: write noupdatepartial = Path d -> /hub/bar
@@ -257,10 +260,12 @@ unison/pattern.prf:5: ignore = Name a -> b: it cuts off the last -> and what fol
 unison/pattern.prf:6: ignore = Path docs/??: ? matches one byte, not one character: write a set of ASCII characters in its place, as [0-9] or [a-z]
 unison/pattern.prf:7: ignore = Name [é]x: a set matches one byte, not one character: write the letters in braces
 unison/pattern.prf:8: ignore = Name [{a]: it reads braces before brackets: write the set without { } and ,
-refused: 0, read differently: 21 (docs/UNISON.md). hubsync's answer without what is refused:
+unison/remote.prf:4: noupdatepartial = Path d/e -> ssh://pc//desk: it tests a bar only at the path of an item: add noupdatepartial = Path d -> ssh://pc//desk
+unison/remote.prf:5: nodeletion = ssh://pc//desk/: it wants the text of the root line: write nodeletion = ssh://pc//desk
+refused: 0, read differently: 23 (docs/UNISON.md). hubsync's answer without what is refused:
 safe
 LINES
-    rm -R unison
+    rm -R unison hosts
 }
 
 # The state of version 2 that a run leaves, where a path and a root have blanks. The items are those of an answer of version 1.

@@ -99,7 +99,7 @@ sub ask_unison {
 # The roots of a profile as one text, the same for both orders.
 sub pair_of {
     my ($profile) = @_;
-    my @roots = map { $_->{value} } grep { ($_->{name} // '') eq 'root' } @{ $profile->{lines} };
+    my @roots = map { $_->{written} // $_->{value} } grep { ($_->{name} // '') eq 'root' } @{ $profile->{lines} };
     return join "\n", sort map { s{(?<=.)/\z}{}r } @roots;
 }
 

@@ -134,8 +134,8 @@ sub rounds_of {
     my (undef, $lines, $remarks) = answer_to($program, 'rounds', (map { section($_) } @_), rules_for(@_));
     my @reasons = $lines->[0] =~ /\Arounds [0-9]+\z/ ? grep { /\A(?:breach|too large) / } @$lines : $lines->[0];
     say_so("$program rounds: $_") for @reasons;
-    # its notes are on what this script does or has named
-    say_so($_) for grep { !/\Ahubsync: note: / } @$remarks;
+    # its notes are on what this script does or has named, with the lines that they are about
+    say_so($_) for grep { @reasons ? !/\Ahubsync: note: / : /\Ahubsync: too large / } @$remarks;
     exit 3 if @reasons;
     my @rounds;
     for my $line (@$lines) {

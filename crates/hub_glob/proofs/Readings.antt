@@ -215,9 +215,6 @@ pub set_fault : (ss rest : List (Result Sign GlobFault)) (set : List Token) (clo
     → set_piece set closed ≡ Err e → BeginsWithFault e ss
 set_fault ss rest set closed e h f = (rest, h ∙ ap (λ r. (r >>= λ p. Ok (Means p)) ∷ rest) f)
 
-pub short_list : {X : Type 0} (xs : List X) (x y : X) (rest : List X) → length xs ≤ 1 → xs ≡ x ∷ y ∷ rest → ⊥
-short_list xs x y rest l e = let n : length xs ≡ length (x ∷ y ∷ rest) = ap length e in omega arith
-
 -- A part from the next sign.
 pub sign_part : (n a b : Bool) (old mid : List Token) (s : Sign) (whole rest : Result (List Part) GlobFault) (ps more : List Part) (p : Part)
     → a ≡ n → b ≡ a → signs a None old ≡ Ok s ∷ signs b None mid

@@ -61,11 +61,6 @@ tokens_proper true (c ∷ cs) h =
     let (one, more) = and_parts (scalar c) (all_scalars cs) h in
     either_each (is_special c) IsProper (Escaped c ∷ tokens false cs) (Stray ∷ []) (λ k. (k, tokens_proper false cs more)) (λ k. (tt, tt))
 
-token_scalar : (t : Token) (c : ℕ) → IsProper t → token_character t ≡ Ok c → scalar c ≡ true
-token_scalar (Plain d) c p e = let m : d ≡ c = cc in ap scalar (sym m) ∙ p
-token_scalar (Escaped d) c p e = let m : d ≡ c = cc in ap scalar (sym m) ∙ special_scalar d p
-token_scalar Stray c p e = cc
-
 token_not : (t : Token) (c k : ℕ) → IsProper t → is_special k ≡ false → is_plain k t ≡ false → token_character t ≡ Ok c → (c == k) ≡ false
 token_not (Plain d) c k p s h e = let m : d ≡ c = cc in ap (λ x. x == k) (sym m) ∙ h
 token_not (Escaped d) c k p s h e = let m : d ≡ c = cc in ap (λ x. x == k) (sym m) ∙ special-not d k p s

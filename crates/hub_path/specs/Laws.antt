@@ -12,7 +12,6 @@ use Rattle.std.proofs.lemmas.Slice.Eq.{bytes_eq-Decides, slice_eq-Decides, start
 use Rattle.std.proofs.lemmas.List.Splits.{join_with_byte-slice_split}
 use Rattle.std.specs.declared.cmp.Ordering.TheVariants.{Less, Equal}
 use Rattle.std.proofs.lemmas.List.Folds.{list_all-append}
-use Rattle.hub_text.specs.ListLaws.{no-items}
 use Rattle.hub_path.specs.declared.fault.PathFault.{PathFault}
 use Rattle.hub_path.specs.declared.fault.PathFault.TheVariants.{Empty, NotAbsolute, RemoteRoot}
 use Rattle.hub_path.specs.Reading.{names_fault, begins_with_slash, is_remote, or_fault, path_fault, path_reading, root_fault, root_names, root_reading, place_of, without_last_slash}
@@ -64,19 +63,6 @@ pub is_over-length : (p q : Path) → IsTrue (is_over p q) → length p ≤ leng
 is_over-length p q h =
     omega (arith, ap length (is_over-rest p q h), length-append p (drop (length p) q))
 
--- Of two paths of one length, neither is over the other unless they are equal.
-pub is_over-same_length : (p q : Path) → IsTrue (is_over p q) → length p ≡ length q → p ≡ q
-is_over-same_length p q h l =
-    let e : q ≡ p ++ drop (length p) q = is_over-rest p q h in
-    let none : drop (length p) q ≡ [] =
-    no-items (drop (length p) q)
-    (omega (arith, ap length e, length-append p (drop (length p) q))) in
-    sym (e ∙ (ap (λ t. p ++ t) none ∙ append-nil p))
-
-pub is_over-antisymmetric : (p q : Path) → IsTrue (is_over p q) → IsTrue (is_over q p) → p ≡ q
-is_over-antisymmetric p q h k = is_over-same_length p q h
-    (omega (arith, is_over-length p q h, is_over-length q p k))
-
 is_over-cons : (n m : Name) (p q : Path) → n ≡ m → IsTrue (is_over p q)
     → IsTrue (is_over (n ∷ p) (m ∷ q))
 is_over-cons n m p q e h = rw ((name_eq-decides n m).1 e, h) refl
@@ -93,20 +79,6 @@ is_over-comparable (n ∷ a) (m ∷ b) (l ∷ p) h k =
     let e : n ≡ m = (name_eq-decides n l).0 one.0 ∙ sym ((name_eq-decides m l).0 two.0) in
     ⊎_elim (λ over. inl (is_over-cons n m a b e over))
     (λ over. inr (is_over-cons m n b a (sym e) over)) (is_over-comparable a b p one.1 two.1)
-
--- A path that is over a path with one more name is over the path, or is the longer one.
-pub is_over-push : (q p : Path) (n : Name) → IsTrue (is_over q (p ++ n ∷ []))
-    → IsTrue (is_over q p) ⊎ (q ≡ p ++ n ∷ [])
-is_over-push [] p n h = inl refl
-is_over-push (m ∷ []) [] n h =
-    inr (ap (λ k. k ∷ []) ((name_eq-decides m n).0 (and_parts (name_eq m n) true h).0))
-is_over-push (m ∷ k ∷ q) [] n h = absurd (omega (arith, is_over-length (m ∷ k ∷ q) (n ∷ []) h))
-is_over-push (m ∷ q) (k ∷ p) n h =
-    let heads = and_parts (name_eq m k) (is_over q (p ++ n ∷ [])) h in
-    let e : m ≡ k = (name_eq-decides m k).0 heads.0 in
-    ⊎_elim (λ over. inl (is_over-cons m k q p e over))
-    (λ same. inr (ap (λ t. m ∷ t) same ∙ ap (λ l. l ∷ p ++ n ∷ []) e))
-    (is_over-push q p n heads.1)
 
 pub parent-push : (p : Path) (n : Name) → parent (p ++ n ∷ []) ≡ p
 parent-push [] n = refl

@@ -121,9 +121,6 @@ head_or_behind x xs q s e =
 never_less : (p : Path) → path_cmp p p ≡ Less → ⊥
 never_less p l = not_both p p l l
 
-past_same : (x p : Path) (xs : List Path) (b : Bool) → path_eq x p ≡ b → without_first p (x ∷ xs) ≡ cond b xs (x ∷ xs)
-past_same x p xs b e = ap (λ b. cond b xs (x ∷ xs)) e
-
 pub past_in : (ps : List Path) (p q : Path) → IsStrictlySortedBy path_cmp ps → IsLow p (first_of ps) → among q (without_first p ps) ≡ true → (among q ps ≡ true) × (path_cmp p q ≡ Less)
 past_in [] p q s low e = absurd (false≢true e)
 past_in (x ∷ xs) p q s low e =

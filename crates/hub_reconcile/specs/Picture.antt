@@ -1,6 +1,6 @@
 -- What Looks tell of two replicas: each is a path with what was seen there.
-use Rattle.std.specs.Prelude.{Bool, true, false, not, ◌&&◌, List, [], ◌∷◌, ◌++◌, map, filter, length, if◌then◌else◌, nat_lt}
-use Rattle.std.specs.List.{list_any, flat_map, list_all}
+use Rattle.std.specs.Prelude.{Bool, true, false, List, [], ◌∷◌, ◌++◌, map, filter, length, if◌then◌else◌, nat_lt}
+use Rattle.std.specs.List.{list_any, flat_map}
 use Rattle.std.specs.FinMap as fin
 use Rattle.std.specs.FinMap.Entries.{is_sorted}
 use Rattle.std.specs.Ordering.{is_lt}
@@ -55,15 +55,6 @@ told_by ls = map (λ l. (
 -- The Looks stand in the order of their paths, and no path stands twice.
 abbrev pub are_rising : List (Path × Sight) → Bool
 are_rising ss = is_sorted path_cmp ss
-
--- No path stands twice.
-abbrev pub each_once : List Path → Bool
-each_once [] = true
-each_once (p ∷ ps) = not (list_any (path_eq p) ps) && each_once ps
-
--- All Looks that a side needs are there, each once.
-abbrev pub has_looks : Parts → List (Path × Sight) → Bool
-has_looks P ss = each_once (map (λ s. s.0) ss) && list_all (was_seen ss) (needed P ss)
 
 -- A path stands before that of the first Look.
 abbrev pub is_before_looks : Path → List (Path × Sight) → Bool

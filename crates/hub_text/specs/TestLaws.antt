@@ -1,10 +1,9 @@
 -- Laws of tests, and of the tests whether some or all items of a list pass.
 use Rattle.std.proofs.Common.{◌≡◌, Bool, true, false, not, ◌&&◌, ◌||◌, T, List, [], ◌∷◌, ◌++◌, map, refl, sym, ap, ◌∙◌}
 use Rattle.std.specs.List.{list_all, list_any}
-use Rattle.std.specs.Ordering.{bool_cmp, eq_by_cmp, is_eq, is_lt}
+use Rattle.std.specs.Ordering.{is_eq, is_lt}
 use Rattle.std.specs.declared.cmp.Ordering.{Ordering}
 use Rattle.std.specs.declared.cmp.Ordering.TheVariants.{Less, Equal, Greater}
-use mathlib.Core.Bool.{beq}
 
 -- The first of some tests, false where there is none, and the others.
 abbrev pub head : List Bool → Bool
@@ -48,19 +47,6 @@ every4 f h a b c d =
     (every_is (λ b'. every (λ d'. f a b b' d'))
     (every_is (λ b'. every (λ c'. every (λ d'. f a b' c' d')))
     (every_is (λ a'. every (λ b'. every (λ c'. every (λ d'. f a' b' c' d')))) h a) b) c) d
-
-pub every7 : (f : Bool → Bool → Bool → Bool → Bool → Bool → Bool → Bool)
-    → every (λ a. every (λ b. every (λ c. every
-    (λ d. every (λ e. every (λ g. every (λ k. f a b c d e g k))))))) ≡ true
-    → (a b c d e g k : Bool) → f a b c d e g k ≡ true
-every7 f h a b c d e g k =
-    every4 (f a b c)
-    (every_is (λ c'. every (λ d. every (λ e. every (λ g. every (λ k. f a b c' d e g k)))))
-    (every_is (λ b'. every (λ c. every (λ d. every
-    (λ e. every (λ g. every (λ k. f a b' c d e g k))))))
-    (every_is (λ a'. every (λ b. every (λ c. every
-    (λ d. every (λ e. every (λ g. every (λ k. f a' b c d e g k))))))) h a) b) c)
-    d e g k
 
 pub or-assoc : (a b c : Bool) → (a || (b || c)) ≡ ((a || b) || c)
 or-assoc true b c = refl
@@ -148,10 +134,3 @@ pub is_eq-equal : (o : Ordering) → is_eq o ≡ true → o ≡ Equal
 is_eq-equal Less h = cc
 is_eq-equal Equal h = refl
 is_eq-equal Greater h = cc
-
--- Tests that compare as equal are equal.
-pub bits_ties : (x y : Bool) → beq x y ≡ eq_by_cmp bool_cmp x y
-bits_ties true true = refl
-bits_ties true false = refl
-bits_ties false true = refl
-bits_ties false false = refl

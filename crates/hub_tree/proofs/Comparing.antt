@@ -141,9 +141,6 @@ pub record IsSoFar (all others left rest : List (Name × Node)) : Type 0 where
   pub then : replica_of all ≡ replica_of others → replica_of left ≡ replica_of rest
   pub back : replica_of left ≡ replica_of rest → replica_of all ≡ replica_of others
 
-pub at_start : (cs ds : List (Name × Node)) → IsAscending cs → IsAscending ds → IsSoFar cs ds cs ds
-at_start cs ds h k = record { ascends = h; too = k; then = λ e. e; back = λ e. e }
-
 tail_of : (n : Name) (x : Node) (cs : Children) → IsAscending ((n, x) ∷ cs) → IsAscending cs
 tail_of n x cs h = sorted_tail name_cmp n (keys_of cs) h
 

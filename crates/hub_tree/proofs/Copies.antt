@@ -1,24 +1,19 @@
 -- Copies of nodes.
-use Rattle.std.proofs.Common.{◌≡◌, ℕ, List, [], ◌∷◌, ◌++◌, map, refl, ap, sym, ◌∙◌, subst}
+use Rattle.std.proofs.Common.{◌≡◌, List, [], ◌∷◌, ◌++◌, map, refl, ap, sym, ◌∙◌, subst}
 use Rattle.std.specs.FinMap as fin
-use Rattle.std.specs.Arc.{arc_value}
-use Rattle.std.specs.declared.sync.Arc.{Arc}
-use Rattle.std.specs.Global.{Global}
-use Rattle.std.specs.BTreeMap.{BTreeMap, insert_entry}
+use Rattle.std.specs.BTreeMap.{insert_entry}
 use Rattle.std.specs.List.Sorted.{IsStrictlySortedBy}
 use Rattle.std.specs.Map.{keys_of}
 use Rattle.std.specs.Ordering.{match_ordering}
 use Rattle.std.specs.declared.cmp.Ordering.TheVariants.{Less, Equal, Greater}
 use Rattle.hub_path.specs.Path.{Name, name_cmp}
-use Rattle.hub_tree.specs.Nodes.{Entries, entries_under, children_entries, node_entries, replica_of}
+use Rattle.hub_tree.specs.Nodes.{Entries, entries_under, children_entries, replica_of}
 use Rattle.hub_tree.specs.declared.contents.Contents.TheVariants as contents
 use Rattle.hub_tree.specs.declared.node.Node.{Node}
-use Rattle.hub_tree.specs.declared.node.Node.TheFolds.{fold-Node, fold_out-Node, map-Node}
 use Rattle.hub_tree.specs.declared.node.Node.TheViews as views
 use Rattle.hub_tree.specs.declared.node.Node.TheBlock as block
 use Rattle.hub_tree.specs.Laws.Order.{name_total}
 use Rattle.hub_tree.specs.Laws.Ascending.{copy_more}
-use Rattle.hub_tree.proofs.LookUp.{out-file, out-directory}
 
 -- The names, each with the entries of its node.
 abbrev pub with_entries : List (Name × Node) → List (Name × Entries)
@@ -27,10 +22,6 @@ with_entries cs = map (λ c. (c.0, entries_under c.1)) cs
 keys_of-with_entries : (cs : List (Name × Node)) → keys_of (with_entries cs) ≡ keys_of cs
 keys_of-with_entries [] = refl
 keys_of-with_entries (c ∷ cs) = ap (λ ks. c.0 ∷ ks) (keys_of-with_entries cs)
-
-with_entries-append : (cs ds : List (Name × Node)) → with_entries (cs ++ ds) ≡ with_entries cs ++ with_entries ds
-with_entries-append [] ds = refl
-with_entries-append (c ∷ cs) ds = ap (λ es. (c.0, entries_under c.1) ∷ es) (with_entries-append cs ds)
 
 with_entries-insert : (cs : List (Name × Node)) (n : Name) (x : Node) → with_entries (insert_entry name_cmp cs n x) ≡ insert_entry name_cmp (with_entries cs) n (entries_under x)
 with_entries-insert [] n x = refl
@@ -50,13 +41,6 @@ copy_node_more done iterator rest all n k x y i s same e h =
     ap (λ es. es ++ with_entries rest) (with_entries-insert done k y ∙ ap (insert_entry name_cmp (with_entries done) k) e)
     ∙ copy_more name_total (with_entries done) (with_entries iterator) (with_entries rest) (with_entries all) (n, entries_under x) k i (ap with_entries s) same
     (subst (λ (ks : List Name). IsStrictlySortedBy name_cmp ks) (sym (keys_of-with_entries all)) h)
-
--- the entries of the two kinds of node
-pub entries_at-file : (b : List ℕ) → entries_under (block.File b) ≡ ([], contents.File b) ∷ []
-entries_at-file b = fold_out-Node Entries node_entries (block.File b) ∙ ap (λ x. node_entries (map-Node Node Entries (fold-Node Entries node_entries) x)) (out-file b)
-
-pub entries_at-directory : (m : Arc (BTreeMap Name Node) Global) → entries_under (views.Directory m) ≡ ([], contents.Directory) ∷ children_entries (arc_value m).entries
-entries_at-directory m = fold_out-Node Entries node_entries (views.Directory m) ∙ ap (λ x. node_entries (map-Node Node Entries (fold-Node Entries node_entries) x)) (out-directory m)
 
 -- the same entries are the same replica
 pub same_replica : (cs ds : List (Name × Node)) → children_entries cs ≡ children_entries ds → replica_of cs ≡ replica_of ds

@@ -193,7 +193,3 @@ contents_at-node cs m p x v l h = at_found cs m p (Some (contents_of x)) v l (h 
 
 pub contents_at-nothing : (cs : List (Name × Node)) (m : Replica) (p : Path) → replica_of cs ≡ m → 0 < length p → ((q : Path) → fin.get (replica_of cs) (p ++ q) ≡ None) → contents_at m p ≡ contents.Absent
 contents_at-nothing cs m p v l h = at_found cs m p None v l (h [])
-
-pub contents_at-top : (m : Replica) (p : Path) → length p ≡ 0 → contents_at m p ≡ contents.Directory
-contents_at-top m [] l = refl
-contents_at-top m (n ∷ p) l = absurd (omega arith)

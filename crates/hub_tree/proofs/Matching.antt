@@ -9,9 +9,6 @@ pub record IsSoFar {X : Type 0} (all others left rest : List X) : Type 0 where
   pub then : all ≡ others → left ≡ rest
   pub back : left ≡ rest → all ≡ others
 
-pub at_start : {X : Type 0} (xs ys : List X) → IsSoFar xs ys xs ys
-at_start xs ys = record { then = λ e. e; back = λ e. e }
-
 head_or : {X : Type 0} → X → List X → X
 head_or d [] = d
 head_or d (x ∷ xs) = x

@@ -16,18 +16,9 @@ use Rattle.hub_tree.specs.declared.node.Node.{Node}
 use Rattle.hub_tree.proofs.LookUp.{look_up, get_nothing, drop_at, rest_left, below_kids}
 use Rattle.hub_tree.proofs.Setting.{Changes, changed_through, same_through, fault_through, fault_nowhere, fault_below-file, nothing_fault}
 
--- a path that is left, and one that is set
-pub put_fault-left : (new : Bool) (m : Replica) (p : Path) (c : Contents) → is_left new m p ≡ true → put_fault new m p c ≡ None
-put_fault-left new m p c e = ap (λ b. if b then None else set_fault m p c) e
-
-pub with_put-left : (new : Bool) (m : Replica) (p : Path) (c : Contents) → is_left new m p ≡ true → with_put new m p c ≡ m
-with_put-left new m p c e = ap (λ b. if b then m else with_contents m p c) e
-
+-- a path that is set
 pub put_fault-set : (new : Bool) (m : Replica) (p : Path) (c : Contents) → is_left new m p ≡ false → put_fault new m p c ≡ set_fault m p c
 put_fault-set new m p c e = ap (λ b. if b then None else set_fault m p c) e
-
-pub with_put-set : (new : Bool) (m : Replica) (p : Path) (c : Contents) → is_left new m p ≡ false → with_put new m p c ≡ with_contents m p c
-with_put-set new m p c e = ap (λ b. if b then m else with_contents m p c) e
 
 -- whether a path has contents
 there : (o : Option Node) → is_some (option_and_then (node_get []) o) ≡ is_some o

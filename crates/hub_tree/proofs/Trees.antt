@@ -44,9 +44,6 @@ HasBytes-after false old new p c (Ok u) ok err h here = λ q b e. HasBytes-set o
 HasBytes-after left old new p c (Err f) ok err h here = λ q b e. h q b (sym (ap (λ m. fin.get m q) err) ∙ e)
 
 -- the parent of what is there is a directory
-shown_by : (cs : List (Name × Node)) (n : Name) (q : Path) → contents_at (replica_of cs) (n ∷ q) ≡ unwrap_or (option_and_then (node_get q) (find name_cmp n cs)) contents.Absent
-shown_by cs n q = ap (λ o. unwrap_or o contents.Absent) (look_up cs n q)
-
 nothing_there : (o : Option Contents) (b : Bool) → o ≡ None → is_absent (unwrap_or o contents.Absent) ≡ false → b ≡ true
 nothing_there None b e h = absurd (false≢true (sym h))
 nothing_there (Some c) b e h = cc

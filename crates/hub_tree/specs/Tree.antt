@@ -1,5 +1,5 @@
 -- Replicas and archives: finite maps from paths.
-use Rattle.std.specs.Prelude.{◌≡◌, ◌≢◌, ℕ, ◌<◌, slice_index, Bool, true, false, not, ◌&&◌, ◌==◌, List, [], ◌∷◌, map, length, Option, Some, None, unwrap_or, Result, Ok, Err, if◌then◌else◌, is_some}
+use Rattle.std.specs.Prelude.{◌≡◌, ◌≢◌, ℕ, ◌<◌, slice_index, Bool, true, false, not, ◌&&◌, ◌==◌, List, [], ◌∷◌, map, length, Option, Some, None, unwrap_or, if◌then◌else◌, is_some}
 use Rattle.std.specs.List.{filter}
 use Rattle.std.specs.FinMap as fin
 use Rattle.sha2.specs.Sha256.{sha256}
@@ -137,11 +137,6 @@ new_fault m p c = if is_some (fin.get m p) then None else set_fault m p c
 -- The replica with these contents at a path, if it had none there.
 abbrev pub with_new_contents : Replica → Path → Contents → Replica
 with_new_contents m p c = if is_some (fin.get m p) then m else with_contents m p c
-
-abbrev pub set_contents : Replica → Path → Contents → Result Replica SetFault
-set_contents m p c =
-    if is_some (set_fault m p c) then Err (unwrap_or (set_fault m p c) RootPath)
-    else Ok (with_contents m p c)
 
 -- The fault of a refusal: that of the rule, and want of memory where the rule has none.
 abbrev pub IsRefusal : Option SetFault → SetFault → Type 0

@@ -2,7 +2,7 @@
 use Rattle.std.proofs.Common.{◌≡◌, ℕ, zero, suc, ◌+◌, ◌-◌, ◌*◌, ◌/◌, ◌%◌, ◌^◌, ◌<◌, ◌≤◌, min, Bool, true, false, not, ◌&&◌, ◌||◌, ◌==◌, cond, List, [], ◌∷◌, ◌++◌, map, length, take, drop, refl, sym, ap, ◌∙◌, arith, append_assoc, length-append}
 use Rattle.std.specs.Prelude.{slice_index_or, nat_lt}
 use Rattle.std.specs.List.{list_any}
-use Rattle.std.proofs.lemmas.List.{drop-drop, drop_more, drop_all, take-map, length-map, length-drop, get_or-append-add}
+use Rattle.std.proofs.lemmas.List.{drop-drop, drop_all, take-map, length-map, length-drop, get_or-append-add}
 use Rattle.std.proofs.lemmas.Nat.{and_block}
 use Rattle.std.specs.Int.Bits.{and_zero_l, and_zero_r}
 use Rattle.std.proofs.lemmas.Bool.{false_from_ne_true, or_parts}
@@ -29,18 +29,6 @@ use Rattle.hub_automaton.proofs.WordMoves.{bit_is, drop-none, length-packed, pac
 meets-none : (ws : List ℕ) → meets ws [] ≡ false
 meets-none [] = refl
 meets-none (w ∷ ws) = refl
-
-meets-more : (ws vs : List ℕ) (i : ℕ) → i < length ws → i < length vs
-    → meets (drop i ws) (drop i vs) ≡ (not (bit_and (slice_index_or ws i 0) (slice_index_or vs i 0) == 0) || meets (drop (i + 1) ws) (drop (i + 1) vs))
-meets-more ws vs i l m = λ j. meets (drop_more ws i 0 l j) (drop_more vs i 0 m j)
-
-pub meets_step : (ws vs : List ℕ) (i : ℕ) → i < length ws → i < length vs → bit_and (slice_index_or ws i 0) (slice_index_or vs i 0) ≡ 0
-    → meets (drop (i + 1) ws) (drop (i + 1) vs) ≡ meets (drop i ws) (drop i vs)
-meets_step ws vs i l m e = sym (meets-more ws vs i l m ∙ ap (λ n. not (n == 0) || meets (drop (i + 1) ws) (drop (i + 1) vs)) e)
-
-pub meets_found : (ws vs : List ℕ) (i : ℕ) → i < length ws → i < length vs → (bit_and (slice_index_or ws i 0) (slice_index_or vs i 0) == 0) ≡ false
-    → true ≡ meets (drop i ws) (drop i vs)
-meets_found ws vs i l m e = sym (meets-more ws vs i l m ∙ ap (λ b. not b || meets (drop (i + 1) ws) (drop (i + 1) vs)) e)
 
 pub meets_end : (ws vs : List ℕ) (i : ℕ) → min (length ws) (length vs) ≤ i → meets (drop i ws) (drop i vs) ≡ false
 meets_end ws vs i l = by_test (nat_lt (length ws) (length vs)) refl where

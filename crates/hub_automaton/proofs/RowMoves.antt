@@ -27,20 +27,6 @@ get ws i = slice_index_or ws i 0
 abbrev pub SameBetween : List ℕ → List ℕ → ℕ → ℕ → Type 0
 SameBetween xs ys m n = (j : ℕ) → m ≤ j → j < n → slice_index_or xs j 0 ≡ slice_index_or ys j 0
 
-pub same_step : (xs ys : List ℕ) (m i w : ℕ) → i < length xs → w ≡ slice_index_or ys i 0 → SameBetween xs ys m i → SameBetween (slice_set xs i w) ys m (i + 1)
-same_step xs ys m i w l e h j p q = by (eq-or-lt_of_le (let k : j ≤ i = omega arith in k)) where
-  by : (j ≡ i) ⊎ (j < i) → get (slice_set xs i w) j ≡ get ys j
-  by (inl s) = get_or-set_at xs i j w 0 s l ∙ e ∙ ap (get ys) (sym s)
-  by (inr s) = get_or-set_other xs i j w 0 (let d : j ≢ i = omega arith in d) ∙ h j p s
-
-pub same_after : (m : ℕ) (xs ys : List ℕ) → length xs ≡ length ys → SameBetween xs ys m (length xs) → drop m xs ≡ drop m ys
-same_after m [] [] l h = refl
-same_after m [] (y ∷ ys) l h = absurd (omega (arith, l))
-same_after m (x ∷ xs) [] l h = absurd (omega (arith, l))
-same_after zero (x ∷ xs) (y ∷ ys) l h =
-    λ i. h zero (omega arith) (omega arith) i ∷ same_after zero xs ys (omega (arith, l)) (λ j p q. h (suc j) (omega arith) (omega arith)) i
-same_after (suc m) (x ∷ xs) (y ∷ ys) l h = same_after m xs ys (omega (arith, l)) (λ j p q. h (suc j) (omega arith) (omega arith))
-
 -- The spot before a word.
 before-set : (ws : List ℕ) (i j w : ℕ) → j ≤ i → last_before 0 (slice_set ws i w) j ≡ last_before 0 ws j
 before-set ws i zero w l = refl
@@ -69,10 +55,6 @@ pub record Apart (stays : Bool) (es ss ts old first ws : List ℕ) (n i here bef
   pub apart : AreMovedApart stays es ss ts old ws i
   pub after : drop n ws ≡ drop n first
   pub none : carried ≡ 0 → NoneCarried ss ws i
-
-pub apart_begins : (stays : Bool) (es ss ts old first : List ℕ) (n : ℕ) → length first ≡ length old → Apart stays es ss ts old first first n 0 0 0 0
-apart_begins stays es ss ts old first n l =
-    record { long = l; here_is = refl; before_is = refl; apart = λ i p. absurd (omega arith); after = refl; none = λ z i p. absurd (omega arith) }
 
 pub apart_step : (stays : Bool) (es ss ts old first ws : List ℕ) (n i here before carried o w : ℕ) (m : Masks)
     → Apart stays es ss ts old first ws n i here before carried → i < n → i < length ws
@@ -106,14 +88,6 @@ pub record Carried (stays : Bool) (es ss ts old first ws : List ℕ) (n i : ℕ)
   pub moved : (j : ℕ) → j < i → j < n → slice_index_or ws j 0 ≡ word_at stays es ss ts old j (last_before 0 ws j)
   pub apart : (j : ℕ) → i ≤ j → j < n → slice_index_or ws j 0 ≡ word_at stays es ss ts old j 0
   pub after : drop n ws ≡ drop n first
-
-pub carry_begins : (stays : Bool) (es ss ts old first : List ℕ) (n : ℕ) → length first ≡ length old → AreMovedApart stays es ss ts old first n → Carried stays es ss ts old first first n 1
-carry_begins stays es ss ts old first n l h =
-    record { some = omega arith; long = l; moved = by; apart = λ j p q. h j q; after = refl }
-  where
-    by : (j : ℕ) → j < 1 → j < n → get first j ≡ word_at stays es ss ts old j (last_before 0 first j)
-    by zero p q = h zero q
-    by (suc j) p q = absurd (omega arith)
 
 pub carry_skips : (stays : Bool) (es ss ts old first ws : List ℕ) (n i before : ℕ) → Carried stays es ss ts old first ws n i
     → before ≡ slice_index_or ws (i - 1) 0 / 2 ^ 63 → bit_and (slice_index_or ss i 0) before ≡ 0 → Carried stays es ss ts old first ws n (i + 1)
@@ -204,13 +178,6 @@ row_moved stays es ss ts old ws l h e =
     sym (take-append-drop n ws) ∙ (λ k. front k ++ (e ∙ drop_min (length ss) old) k)
 
 -- By masks that let the same spots go on a row moves alike.
-pub taken_more : (ts us row : List ℕ) (i : ℕ) → AreTakenAlike ts us row i
-    → bit_and (slice_index_or ts i 0) (shifted_at row i) ≡ bit_and (slice_index_or us i 0) (shifted_at row i) → AreTakenAlike ts us row (i + 1)
-taken_more ts us row i h e j l = by (eq-or-lt_of_le (let k : j ≤ i = omega arith in k)) where
-  by : (j ≡ i) ⊎ (j < i) → bit_and (get ts j) (shifted_at row j) ≡ bit_and (get us j) (shifted_at row j)
-  by (inl s) = ap (λ p. bit_and (get ts p) (shifted_at row p)) s ∙ e ∙ ap (λ p. bit_and (get us p) (shifted_at row p)) (sym s)
-  by (inr s) = h j s
-
 words_alike : (stays : Bool) (es ss ts us os : List ℕ) (here before : ℕ)
     → ((j : ℕ) → j < length os
     → bit_and (slice_index_or ts j 0) (bit_or (slice_index_or os j 0 * 2 ^ 1 % 2 ^ 64) (last_before here os j))

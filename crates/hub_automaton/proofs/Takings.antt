@@ -8,7 +8,7 @@ use Rattle.std.proofs.lemmas.Bool.Decides.{nat_tests}
 use Rattle.std.proofs.lemmas.List.{drop_all, length-map, length-set, get_or-set_same, get_or-set_other}
 use Rattle.hub_text.specs.ListLaws.{next-drop}
 use Rattle.hub_glob.specs.declared.piece.Piece.{Piece}
-use Rattle.hub_glob.specs.declared.piece.Piece.TheVariants.{Lit, Any, Run, OneOf}
+use Rattle.hub_glob.specs.declared.piece.Piece.TheVariants.{Lit, OneOf}
 use Rattle.hub_glob.specs.declared.path_spec.Kind.{Kind}
 use Rattle.hub_automaton.specs.Alphabet.{IsAlphabet, class_of, class_count, sample, first_unmentioned}
 use Rattle.hub_automaton.specs.Masks.{masks_start, masks_piece, mask_choice, mask_choices, mask_all}
@@ -64,14 +64,6 @@ apart d c h = by_test (d == c) refl where
   by_test true e = absurd (h (grind (arith, nat_tests, e)))
   by_test false e = and-false (not (c == 47))
 
-pub slash_apart : (d c : ℕ) → (d == 47) ≡ true → is_among (d ∷ []) c ≡ false
-slash_apart d c h = by_test (d == c) refl where
-  by_test : (b : Bool) → (d == c) ≡ b → (not (c == 47) && (b || false)) ≡ false
-  by_test true e =
-      let slash : (c == 47) ≡ true = grind (arith, nat_tests, e, h) in
-      ap (λ b. not b && true) slash
-  by_test false e = and-false (not (c == 47))
-
 pub taken_out : (ms : List ℕ) (takers : List (List ℕ)) (place d : ℕ) → ((k : ℕ) → k < class_count ms → is_among (d ∷ []) (sample ms k) ≡ false)
     → TakenFor ms takers takers place (d ∷ [])
 taken_out ms takers place d h flag =
@@ -95,9 +87,6 @@ not_named ms takers place d n a e h =
       | inl same ↦ apart d (sample ms k) (λ s. h (ap (sample ms) (sym same) ∙ sym s))
       | inr other ↦ apart d (sample ms k) (other_class ms d k n a l e other)
     ])
-
-pub is_slash : (ms : List ℕ) (takers : List (List ℕ)) (place d : ℕ) → (d == 47) ≡ true → TakenFor ms takers takers place (d ∷ [])
-is_slash ms takers place d e = taken_out ms takers place d (λ k l. slash_apart d (sample ms k) e)
 
 among_itself : (d c : ℕ) → c ≡ d → (d == 47) ≡ false → is_among (d ∷ []) c ≡ true
 among_itself d c e slash =
@@ -174,18 +163,6 @@ set_is kind ds c = by_test (c == 47) refl where
   by_test true e = or-false (masks_piece (mask.Takers c) kind (OneOf ds))
   by_test false e = goes kind c (list_any (λ d. d == c) ds) e
 
-any_is : (kind : Kind) (c : ℕ) → masks_piece (begun c) kind Any ≡ masks_piece (mask.Takers c) kind Any
-any_is kind c = by_test (c == 47) refl where
-  by_test : (b : Bool) → (c == 47) ≡ b → masks_piece (cond b (mask.Takers c) mask.Common) kind Any ≡ masks_piece (mask.Takers c) kind Any
-  by_test true e = refl
-  by_test false e = sym (ap not e) ∙ goes kind c (not (c == 47)) e
-
-run_is : (kind : Kind) (c : ℕ) → masks_piece (begun c) kind Run ≡ masks_piece (mask.Takers c) kind Run
-run_is kind c = by_test (c == 47) refl where
-  by_test : (b : Bool) → (c == 47) ≡ b → masks_piece (cond b (mask.Takers c) mask.Common) kind Run ≡ masks_piece (mask.Takers c) kind Run
-  by_test true e = refl
-  by_test false e = goes kind c false e
-
 start_is : (kind : Kind) (c : ℕ) → masks_start (begun c) kind ≡ false
 start_is kind c = by_test (c == 47) where
   by_test : (b : Bool) → masks_start (cond b (mask.Takers c) mask.Common) kind ≡ false
@@ -213,14 +190,6 @@ pub set_taken : (ms : List ℕ) (old new : List (List ℕ)) (place : ℕ) (kind 
 set_taken ms old new place kind p ds es is same h =
     subst (λ q. PieceTaken ms old new place kind q) (sym is)
     (taken_as ms old new place kind (OneOf ds) ds (set_is kind ds) (subst (λ fs. TakenFor ms old new place fs) same h))
-
-pub any_taken : (ms : List ℕ) (takers : List (List ℕ)) (place : ℕ) (kind : Kind) → PieceTaken ms takers takers place kind Any
-any_taken ms takers place kind =
-    taken_none ms takers place (λ c. masks_piece (begun c) kind Any ∷ []) (λ c. masks_piece (mask.Takers c) kind Any ∷ []) (λ k l. ap (λ b. b ∷ []) (any_is kind (sample ms k)))
-
-pub run_taken : (ms : List ℕ) (takers : List (List ℕ)) (place : ℕ) (kind : Kind) → PieceTaken ms takers takers place kind Run
-run_taken ms takers place kind =
-    taken_none ms takers place (λ c. masks_piece (begun c) kind Run ∷ []) (λ c. masks_piece (mask.Takers c) kind Run ∷ []) (λ k l. ap (λ b. b ∷ []) (run_is kind (sample ms k)))
 
 -- Pieces, choices and specifications, one after another.
 nothing_taken : (ms : List ℕ) (takers : List (List ℕ)) (place : ℕ) → AreTaken ms takers takers place (λ c. []) (λ c. [])

@@ -10,7 +10,6 @@ use Rattle.hub_automaton.specs.declared.masks.Mask.{Mask}
 use Rattle.hub_automaton.specs.declared.masks.Mask.TheVariants as mask
 use Rattle.hub_automaton.specs.declared.masks.SpotMasks.{SpotMasks}
 use Rattle.hub_glob.specs.declared.piece.NextCharacter.{NextCharacter}
-use Rattle.hub_automaton.specs.Alike.{is_exchangeable}
 use Rattle.hub_automaton.specs.Ends.{below_ends}
 use Rattle.hub_automaton.specs.Spots.{Seen, is_below_kind, spot_count}
 use Rattle.hub_automaton.specs.Words.{packed, bit, with_bit, moved_words}
@@ -48,12 +47,6 @@ mask_choices m k cs = flat_map (mask_choice m k) cs
 
 abbrev pub mask_all : Mask → List Alternatives → List Bool
 mask_all m ls = flat_map (λ a. mask_choices m a.kind a.choices) ls
-
--- No piece tells two characters apart, and neither is `/` or `.`.
-abbrev pub AreInterchangeable : List Alternatives → ℕ → ℕ → Type 0
-AreInterchangeable ls x y =
-    (is_exchangeable x ≡ true) × (is_exchangeable y ≡ true)
-    × (mask_all (mask.Takers x) ls ≡ mask_all (mask.Takers y) ls)
 
 -- The masks of some specifications, with those of takers for each of these characters.
 pub record AreMasksOf (ls : List Alternatives) (characters : List ℕ) (m : SpotMasks) : Type 0 where

@@ -1,8 +1,8 @@
 //! Rows of words moved on by a character: first each word without the position before it, so that a processor moves several
 //! at once, and then those words again that the position before them goes on into.
-ghost use Rattle.std.specs.Prelude.{◌≡◌, ◌<◌, ◌≤◌, length, drop, min, IsTrue};
+ghost use Rattle.std.specs.Prelude.{◌≡◌, ◌<◌, ◌≤◌, length, drop, min};
 ghost use Rattle.hub_automaton.specs.Rows as rows;
-ghost use Rattle.hub_automaton.specs.Rows.{AreTakenAlike, IsMoved, IsMovedApart, IsSized, NoneCarried};
+ghost use Rattle.hub_automaton.specs.Rows.{IsMoved, IsMovedApart, IsSized, NoneCarried};
 
 use crate::words::{Masks, WORD_BITS, moved_word};
 
@@ -95,22 +95,4 @@ fn masks_at(step: &RowStep<'_>, i: usize) -> Masks
         stars: step.stars[i],
         takers: step.takers[i],
     }
-}
-
-/// Returns whether pieces that accept one character and pieces that accept another one let the same positions of a row go
-/// on, by the masks of both.
-pub(crate) fn takes_alike(row: &[u64], takers: &[u64], others: &[u64]) -> bool
-    requires { length others.now ≡ length takers.now }
-    ensures { IsTrue result → AreTakenAlike takers.now others.now row.now
-        (min (length takers.now) (length row.now)) }
-{
-    let mut here = 0;
-    for i in 0..takers.len().min(row.len()) {
-        let after = row[i] << 1 | here;
-        if takers[i] & after != others[i] & after {
-            return false;
-        }
-        here = row[i] >> (WORD_BITS - 1);
-    }
-    true
 }

@@ -1,11 +1,10 @@
 -- Bytes cut at their first space, and the values of digits.
-use Rattle.std.proofs.Common.{◌≡◌, ◌∙◌, ℕ, zero, suc, ◌+◌, ◌-◌, ◌*◌, ◌<◌, ◌≤◌, true, ◌&&◌, List, [], ◌∷◌, length, take, get_or, Option, Some, None, sym, ap, arith}
+use Rattle.std.proofs.Common.{◌≡◌, ℕ, zero, suc, ◌-◌, ◌≤◌, true, ◌&&◌, List, [], ◌∷◌, length, take, Option, Some, None, arith}
 use Rattle.std.specs.Prelude.{nat_le, unwrap_or}
 use Rattle.std.specs.List.{list_all, position_or_len}
 use Rattle.std.proofs.lemmas.Bool.{and_parts, false_from_ne_true}
 use Rattle.std.proofs.lemmas.Bool.Decides.{nat_tests}
-use Rattle.std.proofs.lemmas.List.{take_more}
-use Rattle.std.proofs.lemmas.List.Sums.{fold-append, position_or_len_is}
+use Rattle.std.proofs.lemmas.List.Sums.{position_or_len_is}
 use Rattle.memchr.specs.Find.{IsFirstByte, is_byte}
 use Rattle.hub_cert.specs.Reading.{is_digit, decimal_value}
 use Rattle.hub_text.specs.Blanks.{is_space}
@@ -19,12 +18,6 @@ space-place s (Some k) h =
 
 digit-bounds : (d : ℕ) → is_digit d ≡ true → (48 ≤ d) × (d ≤ 57)
 digit-bounds d h = let w = and_parts (nat_le 48 d) (nat_le d 57) h in (grind (arith, nat_tests, w.0), grind (arith, nat_tests, w.1))
-
--- A digit of some.
-pub digit-at : (ds : List ℕ) (i d : ℕ) → list_all is_digit ds ≡ true → i < length ds → d ≡ get_or ds i d → (48 ≤ d) × (d ≤ 57)
-digit-at [] i d h l e = absurd (omega (arith, l))
-digit-at (b ∷ ds) zero d h l e = digit-bounds d (ap is_digit e ∙ (and_parts (is_digit b) (list_all is_digit ds) h).0)
-digit-at (b ∷ ds) (suc i) d h l e = digit-at ds i d (and_parts (is_digit b) (list_all is_digit ds) h).1 (omega (arith, l)) e
 
 -- The value of three digits at most.
 pub small : (ds : List ℕ) (i : ℕ) → list_all is_digit ds ≡ true → i ≤ 3 → decimal_value (take i ds) ≤ 999
@@ -50,8 +43,3 @@ small (a ∷ b ∷ c ∷ ds) (suc (suc (suc zero))) h l =
     let z = digit-bounds c (and_parts (is_digit c) (list_all is_digit ds) u.1).0 in
     omega (arith, x.0, x.1, y.0, y.1, z.0, z.1)
 small (a ∷ b ∷ c ∷ ds) (suc (suc (suc (suc i)))) h l = absurd (omega (arith, l))
-
--- One digit more.
-pub value-more : (ds : List ℕ) (i d : ℕ) → i < length ds → d ≡ get_or ds i d → decimal_value (take (i + 1) ds) ≡ decimal_value (take i ds) * 10 + (d - 48)
-value-more ds i d l e =
-    ap decimal_value (take_more ds i d l) ∙ (fold-append (λ n b. n * 10 + (b - 48)) 0 (take i ds) (get_or ds i d ∷ []) ∙ ap (λ b. decimal_value (take i ds) * 10 + (b - 48)) (sym e))

@@ -38,16 +38,6 @@ none-named-more Ps later n here before i l h = ⊎_elim (λ less. before i less 
 abbrev pub NoneRepeated : List Parts → ℕ → Type 0
 NoneRepeated Ps below = (i j : ℕ) → i < j → j < below → HaveSameName Ps i j → ⊥
 
-pub none-repeated-more : (Ps : List Parts) (n : ℕ) → NoneNamed Ps n n → NoneRepeated Ps n → NoneRepeated Ps (n + 1)
-none-repeated-more Ps n here before i j l m h =
-    ⊎_elim
-    (λ less. before i j l less h)
-    (λ same. here i (subst (λ (k : ℕ). i < k) same l) (subst (λ (k : ℕ). HaveSameName Ps i k) same h))
-    (less-or-same j n m)
-
-pub all-names : (Ps : List Parts) (n : ℕ) → length Ps ≤ n → NoneRepeated Ps n → (i j : ℕ) → i < j → HaveSameName Ps i j → ⊥
-all-names Ps n long none i j l h = let m = slice_get_within Ps j h.second h.at_second in none i j l (omega (arith, m, long)) h
-
 pub have-names : (S : Members) → ((i j : ℕ) → i < j → HaveSameName S.profiles i j → ⊥) → HaveOwnNames S
 have-names S none i j P Q at_i at_j differ same = go (nat_lt i j) (nat_lt j i) refl refl
   where
@@ -74,13 +64,6 @@ all-after rs i n long none m l h = let k = slice_get_within rs m h.second h.at_s
 
 abbrev pub NoneNested : List Path → ℕ → Type 0
 NoneNested rs below = (m n : ℕ) → m < n → m < below → AreNested rs m n → ⊥
-
-pub none-nested-more : (rs : List Path) (k : ℕ) → ((n : ℕ) → k < n → AreNested rs k n → ⊥) → NoneNested rs k → NoneNested rs (k + 1)
-none-nested-more rs k here before m n l j h =
-    ⊎_elim
-    (λ less. before m n l less h)
-    (λ same. here n (subst (λ (i : ℕ). i < n) same l) (subst (λ (i : ℕ). AreNested rs i n) same h))
-    (less-or-same m k j)
 
 pub first-nested : (rs : List Path) (i j : ℕ) → i < j → AreNested rs i j → NoneAfter rs i j → NoneNested rs i → AreFirstNested rs i j
 first-nested rs i j l h after before = record {

@@ -1,7 +1,6 @@
 -- The reading of bytes, from what holds of their text.
-use Rattle.std.proofs.Common.{◌≡◌, ℕ, Bool, true, false, cond, List, Option, Some, None, Result, Ok, Err, refl, sym, ap, subst, ◌∙◌}
+use Rattle.std.proofs.Common.{◌≡◌, ℕ, Bool, true, false, cond, List, Option, Some, None, Result, Ok, Err, refl, ap, subst, ◌∙◌}
 use Rattle.std.specs.Str.{is_utf8, chars}
-use Rattle.std.proofs.lemmas.Bool.{cond-true, cond-false}
 use Rattle.std.proofs.lemmas.Str.{IsUtf8-from_is_utf8, scalars-chars}
 use Rattle.hub_path.specs.Path.{Name}
 use Rattle.hub_profile.specs.declared.fault.Fault.{Fault}
@@ -10,18 +9,12 @@ use Rattle.hub_profile.specs.declared.fault.ProfileFault.{ProfileFault}
 use Rattle.hub_profile.specs.Parts.{Parts, IsProfile}
 use Rattle.hub_profile.specs.Said.{Said, nothing_said}
 use Rattle.hub_profile.specs.Foreign.{foreign_fault}
-use Rattle.hub_profile.specs.LineByLine.{lines_reading, if_text}
+use Rattle.hub_profile.specs.LineByLine.{lines_reading}
 use Rattle.hub_profile.specs.Reading.{with_preference, roots_fault, profile, or_later, unless_fault, if_said, profile_reading, profile_in}
 use Rattle.hub_profile.proofs.Places.{ArePlaces, said_are_places}
 use Rattle.hub_profile.proofs.ProfileFacts.{IsProfile-profile}
 
--- Bytes that are text, and others.
-pub text_read : {T : Type 0} (reading : List ℕ → Result T ProfileFault) (bytes text : List ℕ) → text ≡ bytes → is_utf8 bytes ≡ true → if_text reading bytes ≡ reading (chars text)
-text_read reading bytes text same u = cond-true (is_utf8 bytes) (reading (chars bytes)) _ u ∙ ap (λ t. reading (chars t)) (sym same)
-
-pub no_text_read : {T : Type 0} (reading : List ℕ → Result T ProfileFault) (bytes : List ℕ) → is_utf8 bytes ≡ false → if_text reading bytes ≡ Err (record { line = 0; fault = NotUtf8 })
-no_text_read reading bytes u = cond-false (is_utf8 bytes) (reading (chars bytes)) _ u
-
+-- What is read of bytes that are text has its places.
 pub places_of_text : (bytes text : List ℕ) (said : Said) → text ≡ bytes → is_utf8 bytes ≡ true → lines_reading with_preference nothing_said (chars text) ≡ Ok said → ArePlaces said
 places_of_text bytes text said same u h = said_are_places (chars text) said (scalars-chars text (IsUtf8-from_is_utf8 text (ap is_utf8 same ∙ u))) h
 

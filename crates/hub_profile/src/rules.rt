@@ -69,15 +69,6 @@ impl Rules {
     {
         self.rules.push(rule)
     }
-
-    /// The list of the rules, which is taken whole: nothing is copied.
-    pub fn into_items(self) -> Items<Rule>
-        ensures value { result ≡ self }
-        ensures few { length self ≤ RULES }
-    {
-        let Rules { rules } = self;
-        rules
-    }
 }
 
 /// Reads rules from the bytes of their text.

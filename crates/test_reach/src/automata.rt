@@ -1,9 +1,9 @@
 //! Questions about automata of specifications.
 use crate::automaton::Automaton;
 use anyhow::{Context, Result};
-use hub_automaton::{Class, SpecSet, Spots};
+use hub_automaton::{SpecSet, Spots};
 use std::alloc::{AllocError, Global};
-use test_kit::{answer_or_fault, digit, shown, three, two};
+use test_kit::{answer_or_fault, shown, three, two};
 
 /// Returns whether one of the specifications matches what has been read of a text, after each of its characters.
 pub(crate) fn walk(alloc: Global, fields: &str) -> Result<String> {
@@ -88,39 +88,4 @@ fn is_matched_in(
 fn numbers_of(field: &str) -> Result<(usize, usize)> {
     let (from, to) = field.split_once(' ').context("a range has two numbers")?;
     Ok((from.parse::<usize>()?, to.parse::<usize>()?))
-}
-
-/// For each class the one that is treated like it, as a digit.
-pub(crate) fn likes(alloc: Global, fields: &str) -> Result<String> {
-    let (specs, path) = two(fields)?;
-    let automaton = Automaton::with_path(alloc, path, specs)?;
-    Ok(likes_text(alloc, &automaton.set)?)
-}
-
-fn likes_text(alloc: Global, set: &SpecSet) -> Result<String, AllocError> {
-    let mut likes = String::new(alloc);
-    for number in 0..set.class_count() {
-        write!(likes, "{}", set.like(Class::new(number)).number())?;
-    }
-    Ok(likes)
-}
-
-/// For each class whether it leads alike with class 0 from the state of a text, as `0` and `1`.
-pub(crate) fn leads(alloc: Global, fields: &str) -> Result<String> {
-    let (specs, path, text) = three(fields)?;
-    let automaton = Automaton::with_path(alloc, path, specs)?;
-    Ok(leads_after(alloc, &automaton, text)?)
-}
-
-fn leads_after(alloc: Global, automaton: &Automaton, text: &str) -> Result<String, AllocError> {
-    let state = automaton.state_after(text)?;
-    leads_text(alloc, &automaton.set, &state)
-}
-
-fn leads_text(alloc: Global, set: &SpecSet, state: &Spots) -> Result<String, AllocError> {
-    let mut leads = String::new(alloc);
-    for number in 0..set.class_count() {
-        leads.push(digit(set.leads_alike(state, Class::new(number), Class::new(0))))?;
-    }
-    Ok(leads)
 }

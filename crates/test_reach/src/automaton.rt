@@ -1,7 +1,5 @@
 //! An automaton together with its alphabet.
-ghost use Rattle.hub_reach.specs.Mention.{Mentions};
-
-use crate::given::{alphabet_of, alphabet_with, profile_ignoring};
+use crate::given::{alphabet_of, profile_ignoring};
 use anyhow::Result;
 use hub_automaton::{Alphabet, Class, SpecSet, Spots};
 use hub_profile::Profile;
@@ -24,24 +22,9 @@ impl Automaton {
         Automaton::ignoring(alloc, &profile)
     }
 
-    /// Makes the automaton of specifications over an alphabet that mentions a path, too.
-    pub(crate) fn with_path(alloc: Global, path: &str, specs: &str) -> Result<Box<Automaton>> {
-        let profile = profile_ignoring(alloc, specs)?;
-        Automaton::ignoring_with_path(alloc, path, &profile)
-    }
-
-    fn ignoring(alloc: Global, profile: &Profile) -> Result<Box<Automaton>> {
-        Automaton::over(alloc, alphabet_of(alloc, profile)?, profile)
-    }
-
-    fn ignoring_with_path(alloc: Global, path: &str, profile: &Profile) -> Result<Box<Automaton>> {
-        Automaton::over(alloc, alphabet_with(alloc, path, profile)?, profile)
-    }
-
     /// Makes the automaton of what a profile ignores.
-    fn over(alloc: Global, alphabet: Alphabet, profile: &Profile) -> Result<Box<Automaton>>
-        requires { Mentions alphabet profile.now }
-    {
+    fn ignoring(alloc: Global, profile: &Profile) -> Result<Box<Automaton>> {
+        let alphabet = alphabet_of(alloc, profile)?;
         let set = SpecSet::build(alloc, &alphabet, profile.ignore())?;
         Ok(Box::new(alloc, Automaton { alphabet, set })?)
     }

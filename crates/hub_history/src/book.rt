@@ -98,7 +98,8 @@ impl<'a> Book<'a> {
 
     /// Returns whether there is a profile of that number in the set, and it has the root.
     pub fn has(&self, job: usize) -> bool
-        ensures { result ≡ has_job self.now.profiles self.now.root job }
+        ensures value { result ≡ has_job self.now.profiles self.now.root job }
+        ensures book { IsBook self.now }
     {
         match self.profiles.get(job) {
             Some(profile) => profile.has_root(&self.root),

@@ -2,7 +2,7 @@ ghost use Rattle.std.specs.Prelude.{◌≡◌, ◌≢◌, ◌<◌, ◌+◌, ◌�
 ghost use Rattle.hub_job.specs.Machine.{Fits};
 ghost use Rattle.hub_job.specs.History.{IsAnswerOf};
 ghost use Rattle.hub_history.specs.Book.{IsBook, entry_of, has_job, with_entry};
-ghost use Rattle.hub_history.specs.Desk.{counted_by};
+ghost use Rattle.hub_history.specs.Desk.{SomeBookAnswers, counted_by};
 
 use crate::book::Book;
 use crate::gate::Gate;
@@ -79,7 +79,8 @@ impl<'a> Desk<'a> {
     }
 
     /// Makes an operation of a job on the book, while the lock is held. `Foreign` if the job doesn't have the book's root.
-    /// After a fault the book and the seat are as they were.
+    /// The answer is one that some book gives to this operation of this job. After a fault the book and the seat are as they
+    /// were.
     ///
     /// It calls the gate's `within` once, as soon as it holds the lock.
     pub fn step<G: Gate, R: Wait>(
@@ -90,6 +91,7 @@ impl<'a> Desk<'a> {
         op: Op,
         gate: &G,
     ) -> Result<Answer, StepFault>
+        ensures made { IfOk result (SomeBookAnswers job op) }
         ensures fits { IfOk result (Fits op) }
         ensures ok { OnOk result (seat.new ≡ min (seat.old + 1) u64.MAX) }
         ensures err { OnErr result (seat.new ≡ seat.old) }
@@ -157,6 +159,7 @@ fn close_in<'a>(
 
 /// Makes an operation of a job on a book, if the job has its root, and counts the step.
 fn step_in(book: &mut Book<'_>, seat: &mut Seat, job: usize, op: Op) -> Result<Answer, StepFault>
+    ensures valid { IsBook book.old }
     ensures answer { IfOk result (λ a.
         IsAnswerOf book.old.root book.old.tree (entry_of job op a)
         (slice_get book.old.profiles job)) }

@@ -13,9 +13,9 @@
 //!
 //! From `test_runner/src/desks.rt`.
 //!
-//! No clause can name what lies under a lock. So the contract of [`Desk::step`] speaks of the seat and of the kind of the
-//! answer alone; what a step does to the book is the contract of [`Book::apply`] and of `step_in`, which `step` calls while it
-//! holds the lock.
+//! No clause can name what lies under a lock. So the contract of [`Desk::step`] says of the answer that some book gives it to this
+//! operation of this job, and not which book; what a step does to the book is the contract of [`Book::apply`] and of `step_in`,
+//! which `step` calls while it holds the lock.
 //!
 //! The contracts use the words of `specs/Book` (a book as contracts see it), `specs/Desk`, and hub_job's
 //! `specs/History` (legal histories, and what they leave).

@@ -1,7 +1,8 @@
 //! Classes of characters, and an automaton over them that follows many patterns at once.
 //!
 //! The automaton is bit-parallel: its states are sets of positions in the patterns, 64 in a word (Shift-And; Baeza-Yates
-//! and Gonnet, Navarro and Raffinot). Only functions that return a `Result` allocate.
+//! and Gonnet, Navarro and Raffinot). Only functions that return a `Result` allocate. No crate above calls
+//! `SpecSet::spot_count` and `SpecSet::matched_in`: they are for other programs.
 //!
 //! - [`Alphabet`] holds the characters that paths and specifications mention. Each is a [`Class`] of its own, and all
 //!   other characters allowed in paths are one class.
@@ -15,8 +16,8 @@
 //!
 //! The contracts use the words of `specs/Alphabet` (classes) and `specs/Spots` (the state after a text). `specs/Stepping`
 //! defines a step position by position, `specs/Masks` and `specs/Words` for 64 positions at once, and `specs/Rows` for many
-//! words at once. `specs/Alike` says which classes are treated alike, `specs/Varied` at which positions a class is told from
-//! class 0, `specs/Opened` what a class that isn't open leads to, and `specs/Ends` the masks of last positions.
+//! words at once. `specs/Alike` says which characters may be treated alike, `specs/Varied` at which positions a class is told
+//! from class 0, `specs/Opened` what a class that isn't open leads to, and `specs/Ends` the masks of last positions.
 //!
 //! ```rust
 //! for number in 0..alphabet.count() {

@@ -15,7 +15,7 @@
 //! The contracts use the words of `specs/Set`, `specs/Goals`, `specs/Aim` (what a goal asks, and its stages),
 //! `specs/Inductive`, `specs/Verdict` (what `verify` answers) and `specs/Reading`.
 //!
-//! Only functions that return a `Result` allocate.
+//! Only functions that return a `Result` allocate. No crate above calls [`Product`]: it is for other programs.
 //!
 //! ```rust
 //! /// Makes the set of these fields.

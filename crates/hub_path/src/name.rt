@@ -43,8 +43,8 @@ impl Name {
     /// Reads a name of at most `NAME_BYTES` bytes. The whole text is the name.
     ///
     /// The fault is the first that applies of `EmptyName` for no characters, `DotName` for `.` and `..`,
-    /// `BadCharacter` for a NUL, CR, LF or `/` anywhere, and `NameTooLong`. `OutOfMemory` is returned only for a text
-    /// that is a name.
+    /// `BadCharacter` for a NUL, CR, LF or `/` anywhere, and `NameTooLong`. `OutOfMemory` may come in place of
+    /// the name or of a fault.
     pub fn read(alloc: Global, text: &str) -> Result<Name, PathFault>
         ensures ok { IfOk result (λ n. name_reading (chars text.now) ≡ Ok n) }
         ensures err { IfErr result (FailsAs (name_reading (chars text.now))) }

@@ -86,8 +86,7 @@ impl RelPath {
     ///
     /// The fault is `Empty` for no characters, `LeadingSlash` if the first one is `/`, else the fault of the first name
     /// from the left that has one, as `Name::read` returns it: so `a/` and `a//b` have an `EmptyName`. A name after
-    /// `PATH_NAMES` others is `TooDeep`, whatever it is. `OutOfMemory` may come in place of the path or of a fault, once
-    /// a name was read.
+    /// `PATH_NAMES` others is `TooDeep`, whatever it is. `OutOfMemory` may come in place of the path or of a fault.
     pub fn read(alloc: Global, text: &str) -> Result<RelPath, PathFault>
         ensures ok { IfOk result (λ p. path_reading (chars text.now) ≡ Ok p) }
         ensures err { IfErr result (FailsAs (path_reading (chars text.now))) }

@@ -37,7 +37,7 @@ impl Root {
     /// letters and `://` (the forms of remote roots in the Unison manual; that no other text is remote is this project's
     /// choice), `NotAbsolute` for another text that doesn't begin with `/`, else the fault of the first name from the
     /// left that has one, as `RelPath::read` returns it: so `/srv//` has an `EmptyName`. `OutOfMemory` may come in place
-    /// of the root or of a name's fault, once the text is known to begin with `/`.
+    /// of the root or of a fault.
     pub fn read(alloc: Global, text: &str) -> Result<Root, PathFault>
         ensures ok { IfOk result (λ r. root_reading (chars text.now) ≡ Ok r) }
         ensures err { IfErr result (FailsAs (root_reading (chars text.now))) }

@@ -9,8 +9,9 @@
 //!   the same for the states of some specifications.
 //! - [`laws`]: what the crates above may conclude of stages and of reach.
 //!
-//! Only functions that return a `Result` allocate. The contracts use the words of `specs/Reach`, `specs/Bars`,
-//! `specs/Stage`, `specs/Shape`, `specs/Places`, `specs/Table` and `specs/Numbering`.
+//! Only functions that return a `Result` allocate. No crate above calls `Stage::row_len`: it is for measurements. The contracts
+//! use the words of `specs/Reach`, `specs/Bars`, `specs/Stage`, `specs/Shape`, `specs/Places`, `specs/Table` and
+//! `specs/Numbering`.
 //!
 //! ```rust
 //! let walker = Walker::new(alloc, profile, alphabet)?;

@@ -12,7 +12,8 @@
 //! leaves) and `specs/Shown` (the `specs/View` that a picture shows).
 //!
 //! Each of these calls goes once through the Looks of both sides and the marks of the archive, in the order of paths, and
-//! copies no contents. Only functions that return a `Result` allocate.
+//! copies no contents. Only functions that return a `Result` allocate. No crate above calls [`next_archive`] and
+//! [`are_rising`]: they are for other programs.
 //!
 //! ```rust
 //! looks.push(Look {

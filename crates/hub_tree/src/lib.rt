@@ -9,7 +9,8 @@
 //! A copy of a `Blob` or of a `Tree` shares its memory, until one of them is written: then the directories on the path of the
 //! write are copied, and no others.
 //!
-//! Only functions that return a `Result` allocate, and `Blob::new` takes over the memory of its bytes.
+//! Only functions that return a `Result` allocate, and `Blob::new` takes over the memory of its bytes. No crate above calls
+//! `Tree::bytes_at` and `Tree::names_at`: they are for other programs.
 //!
 //! ```rust
 //! /// Makes the second replica a copy of the first.

@@ -1,10 +1,13 @@
 -- Lists to which items are added.
-use Rattle.std.proofs.Common.{⊎_elim, ◌≤◌, ℕ, List, [], ◌∷◌, ◌++◌, length, subst, sym, arith}
+use Rattle.std.proofs.Common.{◌≡◌, ◌∙◌, ◌⊎◌, ⊎_elim, inl, inr, ◌<◌, ◌≤◌, ◌||◌, ℕ, Bool, true, false, List, [], ◌∷◌, ◌++◌, length, refl, subst, sym, ap, arith}
+use Rattle.std.specs.Prelude.{Contains}
+use Rattle.std.specs.List.{list_any}
+use Rattle.std.proofs.lemmas.Bool.{true≢false}
 use Rattle.std.proofs.lemmas.Option.{none-some, slice_get_within}
-use Rattle.hub_text.specs.ListLaws.{snoc-cases, snoc-new, snoc-old}
+use Rattle.hub_text.specs.ListLaws.{at-place, cons-cases, cons-here, cons-there, in-place, snoc-cases, snoc-new, snoc-old}
 use Rattle.hub_cert.specs.declared.fault.CheckFault.{CheckFault}
 use Rattle.hub_rounds.specs.Lines.{HasPair}
-use Rattle.hub_rounds.specs.Rounds.{ArePlaced, AreRivals, AreUsed, IsInRound, IsPlaced, MayJoin, OpensRounds}
+use Rattle.hub_rounds.specs.Rounds.{ArePlaced, AreRivals, AreUsed, AreWhole, HasJoined, IsInRound, IsPlaced, MayJoin, OpensRounds}
 use Rattle.hub_rounds.specs.declared.placing.Placed.{Placed}
 use Rattle.hub_rounds.specs.declared.placing.Placing.{Placing}
 use Rattle.hub_rounds.specs.declared.placing.Placing.TheVariants.{Unplaced, Round}
@@ -24,6 +27,37 @@ one-rival-more es ps ns k are may = record {
       (snoc-cases ns k j n at_j))
       (snoc-cases ns k i m at_i);
 }
+
+-- Who is one of these or may not join them: the one that was added, and who it was before that.
+pub added-joins : (es : List CheckFault) (ps : List Placed) (ns : List ℕ) (k : ℕ) → HasJoined es ps (ns ++ k ∷ []) k
+added-joins es ps ns k = inl (in-place (ns ++ k ∷ []) (length ns) k (snoc-new ns k))
+
+pub joined-still : (es : List CheckFault) (ps : List Placed) (ns : List ℕ) (k i : ℕ) → HasJoined es ps ns i → HasJoined es ps (ns ++ k ∷ []) i
+joined-still es ps ns k i h = ⊎_elim
+    (λ has. let w = at-place ns i has in inl (in-place (ns ++ k ∷ []) w.0 i (snoc-old ns k i w.0 w.2)))
+    (λ no. inr (λ may. no (record { placed = may.placed; clashes = λ m j at. may.clashes m j (snoc-old ns k j m at) })))
+    h
+
+-- Each profile has been asked.
+pub are-whole : (es : List CheckFault) (ps : List Placed) (ns : List ℕ) → ((i : ℕ) → i < length ps → HasJoined es ps ns i) → AreWhole es ps ns
+are-whole es ps ns all = λ i out may. ⊎_elim (λ has. out has) (λ no. no may) (all i (slice_get_within ps i may.placed.0 may.placed.1))
+
+-- A test that an item of a list passes, and one that finds an item.
+pub test-finds : {X : Type 0} (p : X → Bool) (xs : List X) → list_any p xs ≡ true → (x : X) × Contains xs x × (p x ≡ true)
+test-finds p [] e = absurd (true≢false (sym e))
+test-finds {X} p (y ∷ ys) e = go (p y) refl e (λ f. test-finds p ys f)
+  where
+    go : (b : Bool) → p y ≡ b → (b || list_any p ys) ≡ true → (list_any p ys ≡ true → (x : X) × Contains ys x × (p x ≡ true)) → (x : X) × Contains (y ∷ ys) x × (p x ≡ true)
+    go true is f rest = (y, cons-here y y ys refl, is)
+    go false is f rest = let w = rest f in (w.0, cons-there y w.0 ys w.1, w.2)
+
+pub test-passes : {X : Type 0} (p : X → Bool) (xs : List X) (x : X) → Contains xs x → p x ≡ true → list_any p xs ≡ true
+test-passes p [] x has is = absurd (omega (arith, has.1))
+test-passes p (y ∷ ys) x has is = go (p y) refl (cons-cases y x ys has) (λ there. test-passes p ys x there is)
+  where
+    go : (b : Bool) → p y ≡ b → (y ≡ x) ⊎ Contains ys x → (Contains ys x → list_any p ys ≡ true) → (b || list_any p ys) ≡ true
+    go true e h rest = refl
+    go false e h rest = ⊎_elim (λ here. absurd (true≢false (sym is ∙ (ap p (sym here) ∙ e)))) (λ there. rest there) h
 
 -- Where profiles stand when there may be more rounds, and one more profile.
 placed-still : (es : List CheckFault) (n m i : ℕ) (q : Placing) → n ≤ m → IsPlaced es n i q → IsPlaced es m i q

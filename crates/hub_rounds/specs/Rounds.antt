@@ -1,5 +1,5 @@
 -- Where the profiles of a set stand, and rounds.
-use Rattle.std.specs.Prelude.{◌≡◌, ◌≢◌, ◌⊎◌, ◌<◌, ◌==◌, [], ℕ, nat_lt, Bool, true, false, not, List, map, filter, length, slice_get, Some}
+use Rattle.std.specs.Prelude.{◌≡◌, ◌≢◌, ◌⊎◌, ◌<◌, ◌==◌, [], ℕ, nat_lt, Bool, true, false, not, List, map, filter, length, slice_get, Some, Contains}
 use Rattle.std.specs.List.{range_with_len}
 use Rattle.hub_profile.specs.Parts.{Parts}
 use Rattle.hub_cert.specs.Set.{IsSafeSet, Members}
@@ -51,10 +51,14 @@ AreUsed count ps =
 abbrev pub IsInRound : List Placed → ℕ → Type 0
 IsInRound ps i = (p : Placed) × (slice_get ps i ≡ Some p) × (is_in_some p.placing ≡ true)
 
--- It does, and it clashes with each of these.
+-- A profile clashes with each of these.
+abbrev pub ClashesWithAll : List CheckFault → List ℕ → ℕ → Type 0
+ClashesWithAll es ns i = (m j : ℕ) → slice_get ns m ≡ Some j → HasPair es j i
+
+-- It stands in a round, and it clashes with each of these.
 pub record MayJoin (es : List CheckFault) (ps : List Placed) (ns : List ℕ) (i : ℕ) : Type 0 where
   pub placed : IsInRound ps i
-  pub clashes : (m j : ℕ) → slice_get ns m ≡ Some j → HasPair es j i
+  pub clashes : ClashesWithAll es ns i
 
 -- Profiles of rounds, of which each two clash, or are too large to decide. So each is in a round
 -- of its own.
@@ -62,6 +66,14 @@ pub record AreRivals (es : List CheckFault) (ps : List Placed) (ns : List ℕ) :
   pub placed : (m i : ℕ) → slice_get ns m ≡ Some i → IsInRound ps i
   pub clash : (m n i j : ℕ) → m < n → slice_get ns m ≡ Some i → slice_get ns n ≡ Some j
       → HasPair es i j
+
+-- A profile is one of these, or it may not join them.
+abbrev pub HasJoined : List CheckFault → List Placed → List ℕ → ℕ → Type 0
+HasJoined es ps ns i = Contains ns i ⊎ (MayJoin es ps ns i → ⊥)
+
+-- No other profile may join these.
+abbrev pub AreWhole : List CheckFault → List Placed → List ℕ → Type 0
+AreWhole es ps ns = (i : ℕ) → (Contains ns i → ⊥) → MayJoin es ps ns i → ⊥
 
 -- The profiles of a set are cut into rounds by these lines. Each stands in exactly one place: in a
 -- round, or left out for a reason that a line gives. No round is empty, and each is a safe set
@@ -76,4 +88,5 @@ pub record AreRounds (S : Members) (es : List CheckFault) (r : Rounds) : Type 0 
   pub safe : (k : ℕ) (Ps : List Parts) → slice_get r.rounds k ≡ Some Ps
       → IsSafeSet (record { profiles = Ps; rules = S.rules })
   pub rivals : AreRivals es placed r.rivals
+  pub whole : AreWhole es placed r.rivals
   pub rules : r.rules ≡ S.rules

@@ -1,8 +1,9 @@
 //! Profiles of which each two clash: each needs a round of its own.
-ghost use Rattle.std.specs.Prelude.{◌≡◌, true, IfOk, OnOk};
+ghost use Rattle.std.specs.Prelude.{◌≡◌, ◌↔◌, ℕ, true, IfOk, OnOk};
+ghost use Rattle.std.specs.List.{list_any};
 ghost use Rattle.hub_rounds.specs.Lines as said;
 ghost use Rattle.hub_rounds.specs.Lines.{HasPair, names_pair};
-ghost use Rattle.hub_rounds.specs.Rounds.{AreRivals, IsInRound, MayJoin};
+ghost use Rattle.hub_rounds.specs.Rounds.{AreRivals, AreWhole, ClashesWithAll, HasJoined, IsInRound, MayJoin};
 
 use crate::colouring::{Turn, turns_by_clashes};
 use crate::named::Named;
@@ -13,14 +14,35 @@ use hub_text::Items;
 use std::alloc::{AllocError, Global};
 
 /// Returns profiles of rounds of which each two clash. They are found by adding what clashes with all so far, those with the most
-/// clashes first, once from each profile on; the longest list is taken, and of these the first.
+/// clashes first, once from each profile on; the longest list is taken, and of these the first. If more of the profiles that are
+/// given clash, each two of them, these are taken in its place. Nobody else clashes with all of them.
 pub(crate) fn rivals_of(
     alloc: Global,
     lines: &[CheckFault],
     named: &Named,
     placed: &[Placed],
+    given: &[usize],
 ) -> Result<Items<usize>, AllocError>
     ensures rivals { IfOk result (AreRivals lines.now placed.now) }
+    ensures whole { IfOk result (AreWhole lines.now placed.now) }
+{
+    let mut rivals = rivals_by_turns(alloc, lines, named, placed)?;
+    let others = rivals_among(alloc, lines, named, placed, given)?;
+    if others.len() > rivals.len() {
+        rivals = others;
+    }
+    join_each(&mut rivals, lines, named, placed)?;
+    Ok(Items::from_vec(rivals))
+}
+
+/// Returns such profiles, found by adding those with the most clashes first, once from each profile on.
+fn rivals_by_turns(
+    alloc: Global,
+    lines: &[CheckFault],
+    named: &Named,
+    placed: &[Placed],
+) -> Result<Vec<usize>, AllocError>
+    ensures { IfOk result (λ v. AreRivals lines.now placed.now v.items) }
 {
     let turns = turns_by_clashes(alloc, named)?;
     let mut longest = Vec::new(alloc);
@@ -30,7 +52,24 @@ pub(crate) fn rivals_of(
             longest = own;
         }
     }
-    Ok(Items::from_vec(longest))
+    Ok(longest)
+}
+
+/// Returns such profiles among those that are given.
+fn rivals_among(
+    alloc: Global,
+    lines: &[CheckFault],
+    named: &Named,
+    placed: &[Placed],
+    given: &[usize],
+) -> Result<Vec<usize>, AllocError>
+    ensures { IfOk result (λ v. AreRivals lines.now placed.now v.items) }
+{
+    let mut rivals = Vec::new(alloc);
+    for profile in given {
+        join(&mut rivals, lines, named, placed, *profile)?;
+    }
+    Ok(rivals)
 }
 
 /// Returns such profiles, of which this one is the first if it is in a round.
@@ -50,6 +89,88 @@ fn rivals_from(
         join(&mut rivals, lines, named, placed, turn.profile)?;
     }
     Ok(rivals)
+}
+
+/// Adds each profile that is in a round and clashes with all that are there.
+fn join_each(
+    rivals: &mut Vec<usize>,
+    lines: &[CheckFault],
+    named: &Named,
+    placed: &[Placed],
+) -> Result<(), AllocError>
+    requires { AreRivals lines.now placed.now rivals.old.items }
+    ensures rivals { OnOk result (AreRivals lines.now placed.now rivals.new.items) }
+    ensures whole { OnOk result (AreWhole lines.now placed.now rivals.new.items) }
+{
+    for profile in 0..placed.len() {
+        join_surely(rivals, lines, named, placed, profile)?;
+    }
+    Ok(())
+}
+
+/// Adds a profile, if it is in a round and clashes with all that are there. If no line is noted, all of them are looked at.
+fn join_surely(
+    rivals: &mut Vec<usize>,
+    lines: &[CheckFault],
+    named: &Named,
+    placed: &[Placed],
+    profile: usize,
+) -> Result<(), AllocError>
+    requires { AreRivals lines.now placed.now rivals.old.items }
+    ensures rivals { OnOk result (AreRivals lines.now placed.now rivals.new.items) }
+    ensures joined { OnOk result (HasJoined lines.now placed.now rivals.new.items profile) }
+    ensures before { OnOk result ((i : ℕ) → HasJoined lines.now placed.now rivals.old.items i
+        → HasJoined lines.now placed.now rivals.new.items i) }
+{
+    if may_join_surely(rivals.as_slice(), lines, named, placed, profile) {
+        rivals.push(profile)?;
+    }
+    Ok(())
+}
+
+/// Returns whether a profile is in a round and clashes with all of these. If no line is noted, all of them are looked at.
+fn may_join_surely(
+    rivals: &[usize],
+    lines: &[CheckFault],
+    named: &Named,
+    placed: &[Placed],
+    profile: usize,
+) -> bool
+    ensures { result ≡ true ↔ MayJoin lines.now placed.now rivals.now profile }
+{
+    if !is_in_round(placed, profile) {
+        return false;
+    }
+    clash_with_all(rivals, lines, named, profile)
+}
+
+/// Returns whether a profile clashes with all of these.
+fn clash_with_all(rivals: &[usize], lines: &[CheckFault], named: &Named, profile: usize) -> bool
+    ensures { result ≡ true ↔ ClashesWithAll lines.now rivals.now profile }
+{
+    for rival in rivals {
+        if !clash_surely(lines, named, *rival, profile) {
+            return false;
+        }
+    }
+    true
+}
+
+/// Returns whether a line says that both profiles clash. If none is noted, all of them are looked at.
+fn clash_surely(lines: &[CheckFault], named: &Named, one: usize, other: usize) -> bool
+    ensures { result ≡ true ↔ HasPair lines.now one other }
+{
+    if clash(lines, named, one, other) {
+        return true;
+    }
+    are_named(lines, one, other)
+}
+
+/// Returns whether one of the lines is about these two profiles.
+fn are_named(lines: &[CheckFault], one: usize, other: usize) -> bool
+    ensures { result ≡ list_any (λ e. names_pair (said.subject_of e) one other) lines.now }
+{
+    lines.iter().any(|line| names_both(line, one, other))
 }
 
 /// Adds a profile, if it is in a round and clashes with all that are there.
@@ -92,7 +213,7 @@ fn may_join(
 
 /// Returns whether the profile of that number is in a round.
 fn is_in_round(placed: &[Placed], profile: usize) -> bool
-    ensures { result ≡ true → IsInRound placed.now profile }
+    ensures { result ≡ true ↔ IsInRound placed.now profile }
 {
     match placed.get(profile) {
         Some(own) => own.placing.is_in_a_round(),

@@ -2,7 +2,9 @@
 //!
 //! Nothing is stated of colours. The profiles of one colour are checked.
 
+use crate::graph::{Graph, set_of};
 use crate::named::Named;
+use crate::painting::fewer_colours;
 use std::alloc::{AllocError, Global};
 
 /// How many times the profiles are coloured again (this project's choice).
@@ -27,15 +29,51 @@ impl Turn {
     }
 }
 
-/// Colours the profiles that have no line of their own, and returns the colour of each.
-///
-/// Those with the most clashes come first. Then the profiles are coloured again `PASSES` times, and if this takes fewer colours,
-/// the last colours are returned, else the first ones.
-pub(crate) fn colours_of(alloc: Global, named: &Named) -> Result<Vec<Option<usize>>, AllocError> {
+/// Colours the profiles that have no line of their own, and returns the colour of each. If they have a graph, other colours
+/// are searched for: with fewer of them, but at least so many.
+pub(crate) fn colours_of(
+    alloc: Global,
+    named: &Named,
+    graph: Option<&Graph>,
+    least: usize,
+) -> Result<Vec<Option<usize>>, AllocError> {
+    let colours = colours_by_turns(alloc, named)?;
+    let Some(graph) = graph else {
+        return Ok(colours);
+    };
+    match fewer_colours(alloc, graph, least, count_in(colours.as_slice()))? {
+        Some(classes) => colours_by_classes(alloc, named, graph, classes.as_slice()),
+        None => Ok(colours),
+    }
+}
+
+/// Returns the colour of each profile, where these are the vertices of each colour.
+fn colours_by_classes(
+    alloc: Global,
+    named: &Named,
+    graph: &Graph,
+    classes: &[u32],
+) -> Result<Vec<Option<usize>>, AllocError> {
+    let mut colours = Vec::new(alloc);
+    colours.resize(named.len(), None)?;
+    for (vertex, profile) in graph.profiles().iter().enumerate() {
+        let own = classes
+            .iter()
+            .position(|class| *class & set_of(vertex) != 0);
+        if let Some(colour) = colours.get_mut(*profile) {
+            *colour = own;
+        }
+    }
+    Ok(colours)
+}
+
+/// Colours the profiles in turn, those with the most clashes first. Then they are coloured again `PASSES` times, and if this
+/// takes fewer colours, the last colours are returned, else the first ones.
+fn colours_by_turns(alloc: Global, named: &Named) -> Result<Vec<Option<usize>>, AllocError> {
     let turns = turns_by_clashes(alloc, named)?;
     let first = colour_in_turn(alloc, named, turns.as_slice())?;
     let last = colour_again(alloc, named, first.as_slice())?;
-    if bound_of(last.as_slice()) < bound_of(first.as_slice()) {
+    if count_in(last.as_slice()) < count_in(first.as_slice()) {
         Ok(last)
     } else {
         Ok(first)
@@ -57,15 +95,15 @@ fn colour_again(
     Ok(colours)
 }
 
-/// Returns the greatest colour, if there is one. The colours below it are all there.
-fn bound_of(colours: &[Option<usize>]) -> Option<usize> {
-    let mut bound = None;
+/// Returns how many colours there are. The colours below the greatest are all there.
+fn count_in(colours: &[Option<usize>]) -> usize {
+    let mut count = 0;
     for own in colours {
-        if *own > bound {
-            bound = *own;
+        if let Some(colour) = *own {
+            count = count.max(colour.saturating_add(1));
         }
     }
-    bound
+    count
 }
 
 /// Returns the turns of the profiles that have no line of their own: those with the most clashes first.

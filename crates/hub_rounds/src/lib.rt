@@ -19,6 +19,10 @@
 //! class (Culberson, "iterated greedy": no pass needs more colours). How many rounds are needed is bounded from below by
 //! profiles of which each two clash.
 //!
+//! Of at most 24 profiles the largest such clique is searched for (Carraghan and Pardalos). If it is smaller than the number of
+//! colours, fewer colours are searched for (Brélaz's DSATUR, by branch and bound). Both searches find the best, unless they
+//! take more steps than they may.
+//!
 //! A colouring is a guess. What is stated of rounds rests on `check`, and on the lines: each profile that is left out, and each
 //! two profiles of the lower bound, have a line that is looked at.
 //!
@@ -32,7 +36,10 @@ mod clashes;
 mod clique;
 mod colouring;
 mod fault;
+mod graph;
+mod largest;
 mod named;
+mod painting;
 mod placing;
 mod rounds;
 mod subject;

@@ -8,6 +8,8 @@ use crate::clashes::Clashes;
 use crate::clique::rivals_of;
 use crate::colouring::colours_of;
 use crate::fault::RoundsFault;
+use crate::graph::Graph;
+use crate::largest::largest_clique;
 use crate::named::Named;
 use crate::placing::{Placed, place_each};
 use hub_cert::{CheckFault, ProfileSet};
@@ -23,7 +25,8 @@ pub struct Rounds {
     pub rounds: Items<Items<Profile>>,
     /// The profiles that are in no round, in their order.
     pub left: Items<Placed>,
-    /// The numbers of profiles of which each two clash, or were too large to decide. If none was, fewer rounds won't do.
+    /// The numbers of profiles of which each two clash, or were too large to decide. If none was, fewer rounds won't do. No
+    /// other profile could be added.
     pub rivals: Items<usize>,
     /// The rules of the set.
     pub rules: Rules,
@@ -32,8 +35,9 @@ pub struct Rounds {
 /// Cuts a set into rounds, by what clashes in it. The profiles and rules of a round are a safe set, which the check has verified.
 ///
 /// Each profile is in exactly one round, or it is left out because a line says that it breaks a rule by itself, or that the
-/// rule's goal is too large; the first breach is told, if there is one. Two profiles that a line names are put into different
-/// rounds, also if their goal is too large. The rounds are as few as were found, in the order of their first profiles.
+/// rule's goal is too large. Tests show that the first breach is told, if there is one; that two profiles that a line names are
+/// put into different rounds, also if their goal is too large; and that the rounds, in the order of their first profiles, are
+/// the fewest, and the rivals the most, if at most 24 profiles are in rounds.
 ///
 /// The set is taken apart, and nothing of it is copied. It is lost if there is a fault: `NotVerified` if the check refuses a
 /// round, as it may if the lines are those of another set; or `OutOfMemory`.
@@ -42,11 +46,13 @@ pub fn rounds_of(alloc: Global, set: ProfileSet, clashes: &Clashes) -> Result<Ro
 {
     let lines = clashes.lines();
     let named = Named::new(alloc, set.profiles().len(), lines)?;
-    let colours = colours_of(alloc, &named)?;
+    let graph = Graph::new(alloc, &named)?;
+    let clique = largest_clique(alloc, graph.as_ref())?;
+    let colours = colours_of(alloc, &named, graph.as_ref(), clique.len())?;
     let (profiles, rules) = set.into_members();
     let profiles = profiles.into_vec();
     let (placed, count) = place_each(alloc, lines, &named, colours.as_slice(), profiles)?;
-    let rivals = rivals_of(alloc, lines, &named, placed.as_slice())?;
+    let rivals = rivals_of(alloc, lines, &named, placed.as_slice(), clique.as_slice())?;
     let (rounds, left, rules) = cut(alloc, placed, count, rules)?;
     Ok(Rounds {
         rounds,

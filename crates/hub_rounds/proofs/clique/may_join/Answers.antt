@@ -20,6 +20,6 @@ returns c =
     let past = c.loop-rival-test.false in
     let end = c.loop-rival.auto.rival-index-end in
     λ is. record {
-      placed = c.is_in_round.ensures c.if-not-is_in_round.false;
+      placed = c.is_in_round.ensures.0 c.if-not-is_in_round.false;
       clashes = λ m j at. let h = slice_get_within rivals m j at in c.loop-rival.invariant m j (omega (arith, h, past, end)) at;
     }

@@ -1,7 +1,6 @@
 use Rattle.std.proofs.Common.{List, ℕ, sym, subst}
-use Rattle.hub_rounds.specs.Rounds.{AreRivals}
-use Rattle.hub_rounds.proofs.Rivals.{no-rivals}
+use Rattle.hub_rounds.specs.Rounds.{AreWhole}
 use Rattle.hub_rounds.proofs.clique.rivals_of.Goals as goal
 
-pub loop-first-init : goal.loop-first-init
-loop-first-init c = subst (λ (ns : List ℕ). AreRivals c.args.lines.now c.args.placed.now ns) (sym c.new-longest.ensures.items) (no-rivals c.args.lines.now c.args.placed.now)
+pub returns-clause-whole : goal.returns-clause-whole
+returns-clause-whole c = subst (λ (ns : List ℕ). AreWhole c.args.lines.now c.args.placed.now ns) (sym c.from_vec.ensures) c.in_ok-join_each.ensures.whole

@@ -2,7 +2,7 @@ use Rattle.std.proofs.Common.{◌∙◌, List, subst}
 use Rattle.hub_cert.specs.Set.{IsSafeSet}
 use Rattle.hub_cert.specs.declared.fault.CheckFault.{CheckFault}
 use Rattle.hub_profile.specs.declared.rule.Rule.{Rule}
-use Rattle.hub_rounds.specs.Rounds.{ArePlaced, AreRivals, profiles_in_round}
+use Rattle.hub_rounds.specs.Rounds.{ArePlaced, AreRivals, AreWhole, profiles_in_round}
 use Rattle.hub_rounds.specs.declared.placing.Placed.{Placed}
 use Rattle.hub_rounds.proofs.Cutting.{are-rounds}
 use Rattle.hub_rounds.proofs.rounds.rounds_of.Goals as goal
@@ -22,4 +22,5 @@ returns c =
     e.left
     (λ k l. subst (λ (Rs : List Rule). IsSafeSet (record { profiles = profiles_in_round k ps; rules = Rs })) c.into_members-profiles.ensures.rules (e.safe k l))
     (subst (λ (es : List CheckFault). AreRivals es ps rivals) lines (subst (λ (qs : List Placed). AreRivals c.lines-lines.result.now qs rivals) c.as_slice-2.ensures.value c.in_ok-rivals.ensures.rivals))
+    (subst (λ (es : List CheckFault). AreWhole es ps rivals) lines (subst (λ (qs : List Placed). AreWhole c.lines-lines.result.now qs rivals) c.as_slice-2.ensures.value c.in_ok-rivals.ensures.whole))
     (e.rules ∙ c.into_members-profiles.ensures.rules)

@@ -1,0 +1,33 @@
+use Rattle.std.proofs.Common.{◌∙◌, ℕ, get_or, refl, sym, arith}
+use Rattle.std.proofs.lemmas.Bool.{true≢false}
+use Rattle.std.proofs.lemmas.Option.{slice_get-get_or, slice_get_within}
+use Rattle.hub_text.specs.ListLaws.{also-here}
+use Rattle.hub_rounds.specs.Lines.{HasPair}
+use Rattle.hub_rounds.proofs.clique.clash_with_all.Goals as goal
+
+pub loop-rival-init : goal.loop-rival-init
+loop-rival-init c = λ m j l at. absurd (omega (arith, l))
+
+pub loop-rival-preserved : goal.loop-rival-preserved
+loop-rival-preserved c =
+    let rivals = c.args.rivals.now in
+    let i = c.loop-rival.rival-index in
+    also-here (λ (x : ℕ). HasPair c.args.lines.now x c.args.profile) rivals i (get_or rivals i 0) (slice_get-get_or rivals i 0 (omega arith)) (c.clash_surely.ensures.0 c.if-not-clash_surely.false)
+    c.loop-rival.invariant
+
+pub returns : goal.returns
+returns c =
+    let rivals = c.args.rivals.now in
+    let past = c.loop-rival-test.false in
+    let end = c.loop-rival.auto.rival-index-end in (
+      λ t m j at. let h = slice_get_within rivals m j at in c.loop-rival.invariant m j (omega (arith, h, past, end)) at,
+      λ all. refl,
+    )
+
+pub returns-then-not-clash_surely : goal.returns-then-not-clash_surely
+returns-then-not-clash_surely c =
+    let rivals = c.args.rivals.now in
+    let i = c.loop-rival.rival-index in (
+      λ t. cc,
+      λ all. absurd (true≢false (sym (c.clash_surely.ensures.1 (all i (get_or rivals i 0) (slice_get-get_or rivals i 0 (omega arith)))) ∙ c.if-not-clash_surely.true)),
+    )

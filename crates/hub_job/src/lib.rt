@@ -8,7 +8,8 @@
 //! The contracts use the words of `specs/Machine` (the answers of a replica), `specs/Job` (what a job does next),
 //! `specs/JobValue` (a job as contracts see it), `specs/Ends` (how it ends) and `specs/Run` (runs of one job).
 //!
-//! Only functions that return a `Result` and [`Job::turn`] allocate.
+//! Only functions that return a `Result` and [`Job::turn`] allocate. No crate above calls `Answer::fits`: it is for other
+//! programs.
 //!
 //! ```rust
 //! let mut job = Job::new(alloc, number, profile, archive)?;

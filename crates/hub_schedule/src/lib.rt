@@ -1,7 +1,8 @@
 //! Runs of the jobs of a set, by a schedule of turns.
 //!
 //! [`simulate`] runs them. Its contract is the promise of a safe set: in whatever order the jobs take turns, each of them does
-//! what it does alone. The laws of [`promise`] and [`together`] say so of every history of the replicas.
+//! what it does alone. The laws of [`promise`] and [`together`] say so of every history of the replicas. No crate above calls
+//! [`simulate`], [`simulate_jobs`], [`run_cycles`] and [`cycles_for`]: they are for tests and other programs.
 //!
 //! ```rust
 //! let left = simulate_jobs(alloc, set.profiles(), state, schedule.as_slice());

@@ -19,7 +19,7 @@
 //! once. A path shares the names of its folder with the path before. `specs/Taking` says what a line adds to a draft, and
 //! `proofs/Drafts` that it adds the same to the lists of entries of `specs/Reading`.
 //!
-//! Only functions that return a `Result` allocate.
+//! Only functions that return a `Result` allocate. No crate above calls [`read_state`]: it is for other programs.
 //!
 //! ```rust
 //! write_state(alloc, &mut Watched::new(&mut bytes), state)?;

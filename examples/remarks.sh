@@ -23,8 +23,9 @@
 #   a line end.
 # - Between a status and the next title there may be blank lines, and remarks that begin with `#`.
 #
-# Each question is asked once more with a standard error that is full: the output and the status are the same. At last it asks what no
-# table can say: inputs that are long, with too many lines, or that fail. A line is printed for each wrong answer. The status is 1
+# Each question is asked once more with a standard error that is full: the output and the status are the same. Each line that is
+# proposed is tried: with it in the place of the faulty line, or at the end of its profile, the same isn't said again. At last it asks
+# what no table can say: inputs that are long, with too many lines, or that fail, and the commands that are proposed. A line is printed for each wrong answer. The status is 1
 # if there was one, else 0.
 set -euo pipefail
 if [ "${1:-}" = --help ]; then
@@ -95,6 +96,91 @@ ask_case() {
     printf '%b' "$4" >"$room/input"
     printf '%b' "$5" >"$room/wanted"
     ask "$1: $3" "$2" "${words[@]}"
+    cp "$room/errors" "$room/remarks"
+    try_remedies "$1: $3" "${words[@]:1}"
+}
+
+# Tries each line that the file `remarks` proposes for a line of the file `input`.
+#
+#     try_remedies PLACE WORD..
+try_remedies() {
+    local line at='' proposed='' said=''
+    while IFS= read -r line; do
+        if [[ $line =~ \(bundle\ line\ ([0-9]+)\):\  && -n $proposed ]]; then
+            try_line "$1" "${BASH_REMATCH[1]}" "$proposed" "$said" "${@:2}"
+            proposed=
+        elif [[ $line =~ ^hubsync:\ bundle\ line\ ([0-9]+):\  ]]; then
+            at=${BASH_REMATCH[1]}
+        elif [[ $line =~ (add,\ for\ Unison\ too:|write|did\ you\ mean)\ ([^\ ]+\ =\ .*|/[^\ ]*|[^\ ]*/[^\ ]*|[a-z]+[?])(\ in\ its\ place.*|\ if\ the\ home.*|$) ]]; then
+            proposed=${BASH_REMATCH[2]} said=$line
+            if [[ -n $at && $proposed != *' = ..'* ]]; then
+                try_line "$1" "$at" "$proposed" "hubsync: bundle line $at: " "${@:2}"
+                proposed=
+            fi
+        fi
+    done <"$room/remarks"
+}
+
+# Asks about the input with each line that is proposed for one of its lines. Nothing of what was said may be said again.
+#
+#     try_line PLACE LINE-NUMBER PROPOSED SAID WORD..
+try_line() {
+    local lines choice choices=("$3")
+    if [[ $3 == *' or ignorenot = '* ]]; then
+        choices=("${3%% or *}" "${3##* or }")
+    fi
+    for choice in "${choices[@]}"; do
+        mapfile -t lines <"$room/input"
+        lines[$2 - 1]=$(line_with "${lines[$2 - 1]}" "$choice" "$4")
+        asked=$((asked + 1))
+        printf '%s\n' "${lines[@]}" >"$room/tried"
+        "$program" "${@:5}" <"$room/tried" >"$room/output" 2>"$room/errors" || true
+        if grep -aqF -- "$4" "$room/errors"; then
+            complain "$1: with '$choice' it is said again: $4"
+        fi
+    done
+}
+
+# What stands in the place of a line: the line and a further one, another line, or the line with another name or another value.
+#
+#     line_with LINE PROPOSED SAID
+line_with() {
+    case $3/$2 in
+        *'for Unison too'*) printf '%s\n%s\n' "$1" "$2" ;;
+        *[?]) echo "${2%[?]}${1#"${1%%[ =]*}"}" ;;
+        *' = '*) echo "$2" ;;
+        *) echo "${1%%=*}= $2" ;;
+    esac
+}
+
+# The commands that are proposed for words run: none has the status 2.
+ask_commands() {
+    local at=$room/commands command words
+    mkdir -p "$at/docs"
+    printf '%s\n' 'root = /srv/hub' 'root = /srv/s1' 'path = docs' | tee "$at/docs.prf" "$at/docs/a.prf" >"$at/photos.prf"
+    printf '%s\n' 'root = /srv/hub' 'nonew = Path x' >"$at/rules"
+    { echo %profile p && cat "$at/docs.prf"; } >"$at/my.bundle"
+    ln -sf "$program" "$at/hubsync"
+    ln -sfn "$folder" "$at/examples"
+    for words in my.bundle 'check my.bundle' docs.prf 'check docs.prf rules' 'rounds docs' 'check docs/'; do
+        # shellcheck disable=SC2086
+        "$program" $words 2>&1 </dev/null >/dev/null | grep '^hubsync: ' >"$room/remarks" || true
+        while IFS= read -r command; do
+            try_command "$words" "$at" "${command##*, as in: }"
+        done < <(grep ', as in: ' "$room/remarks")
+    done
+    try_command 'check docs.prf rules' "$at" 'hubsync check docs.prf --rules rules'
+}
+
+# Runs a command in a folder.
+#
+#     try_command PLACE FOLDER COMMAND
+try_command() {
+    local status=0
+    asked=$((asked + 1))
+    case $3 in *'< docs') return 0 ;; esac
+    (cd "$2" && PATH=$2:$PATH && bash -c "$3") >/dev/null 2>&1 </dev/null || status=$?
+    [ "$status" -lt 2 ] || complain "$1: the command '$3' has the status $status"
 }
 
 # Asks all questions of a table.
@@ -197,6 +283,7 @@ room=$(mktemp -d)
 trap 'rm -rf "$room"' EXIT
 ask_table "$folder/remarks.txt"
 [ "$asked" -gt 0 ] || complain 'the table has no cases'
+ask_commands
 ask_many
 ask_files
 ask_long

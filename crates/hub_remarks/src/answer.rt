@@ -1,11 +1,12 @@
 //! What is said about an answer.
 
-use crate::asked::{say_asked_path, say_not_reached, say_profiles, say_run_fault, say_words};
+use crate::asked::{say_asked_path, say_not_reached, say_profiles, say_run_fault};
 use crate::bundle::say_bundle_fault;
 use crate::note::say_notes;
 use crate::refusal::{say_breach, say_overlap, say_refused};
 use crate::setting::say_setting_fault;
 use crate::text::{say_certificates_fault, say_state_fault};
+use crate::words::say_words;
 use hub_source::{Said, Source, place_in, place_in_profile, say};
 use hub_text::Lines;
 use std::alloc::{AllocError, Global};
@@ -63,7 +64,7 @@ pub fn remark(
     let mut lines = Lines::new(output.bytes);
     let first = next_text(&mut lines);
     if first.is_empty() {
-        say_words(&mut remarks.text, words)?;
+        say_words(&mut remarks.text, alloc, words)?;
         return Ok(remarks);
     }
     let second = next_text(&mut lines);

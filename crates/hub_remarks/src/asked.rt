@@ -1,64 +1,13 @@
-//! Remarks on what the words on the command line ask for.
+//! Remarks on what `reach` and `run` are asked.
 
 use crate::ignored::ignoring_line;
 use crate::refusal::{has_no_path, line_above, say_kept};
-use crate::value::{path_remedy, say_below};
+use crate::value::{path_remedy, say_below, say_twice};
 use hub_source::{Said, Source, covers, name_of, nearest, say, say_placed};
 use std::alloc::{AllocError, Global};
 
-/// The commands.
-const COMMANDS: [&str; 8] = [
-    "check", "certify", "verify", "clashes", "rounds", "reach", "run", "help",
-];
-
 /// How many names are listed at most.
 const LISTED: usize = 10;
-
-/// Says how the input is given, if the words seem to name a file.
-pub(crate) fn say_words(out: &mut String, words: &[String]) -> Said {
-    if words
-        .iter()
-        .any(|word| word.as_str().starts_with("--workers"))
-    {
-        return say(out, "--workers is a number from 1 to 16");
-    }
-    let Some(first) = words.get(1) else {
-        return Ok(());
-    };
-    match first.as_str() {
-        "version" => say(out, "hubsync --version shows the version"),
-        "reach" => Ok(()),
-        word if COMMANDS.contains(&word) => say_stray(out, words),
-        word => say_file(out, word),
-    }
-}
-
-/// Says how a bundle is given, if a word after the command is not an option and not the file of a profile.
-fn say_stray(out: &mut String, words: &[String]) -> Said {
-    for word in words.iter().skip(2) {
-        if !word.as_str().ends_with(".prf") {
-            return say_file(out, word.as_str());
-        }
-    }
-    Ok(())
-}
-
-/// Says how a file is given, if a word is not an option.
-fn say_file(out: &mut String, word: &str) -> Said {
-    if word.starts_with('-') || COMMANDS.contains(&word) {
-        return Ok(());
-    }
-    if word.ends_with(".prf") {
-        return writeln!(
-            out,
-            "hubsync: a command stands before the files, as in: hubsync check {word}"
-        );
-    }
-    writeln!(
-        out,
-        "hubsync: the bundle comes on standard input, as in: hubsync check < {word}"
-    )
-}
 
 /// Says what is wrong with the path that `reach` was asked about.
 pub(crate) fn say_asked_path(
@@ -70,13 +19,7 @@ pub(crate) fn say_asked_path(
     let (name, path) = operands(words);
     match fault {
         "LeadingSlash" => say_below_root(out, source, name, path),
-        "EmptyName" => {
-            let path = path.trim_end_matches('/');
-            writeln!(
-                out,
-                "hubsync: a / is there twice, or at the end: write {path}"
-            )
-        }
+        "EmptyName" => say_twice(out, path),
         _ => say(out, path_remedy(fault)),
     }
 }

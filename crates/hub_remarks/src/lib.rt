@@ -14,7 +14,7 @@
 //! (`hub_source`). So this crate uses none of those that read profiles, states and certificates, and takes part in no answer.
 //!
 //! - Faults: `bundle` of the headings, `setting`, `value` and `pattern` of profiles and rules, `text` of states and certificates.
-//! - Refusals and the lines that make them so: `refusal`. What `reach`, `run` and the command line were asked: `asked`; the
+//! - Refusals and the lines that make them so: `refusal`. What `reach`, `run` and the command line were asked: `asked`, `words`; the
 //!   line that ignores a path: `ignored`.
 //! - A yes that may mislead: `note`, `idle`.
 //!
@@ -36,5 +36,6 @@ mod setting;
 mod start;
 mod text;
 mod value;
+mod words;
 
 pub use answer::{Front, Remarks, remark};

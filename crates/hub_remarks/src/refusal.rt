@@ -201,18 +201,17 @@ fn say_too_many_profiles(out: &mut String, source: &Source<'_>) -> Said {
     )
 }
 
-/// Says where the roots of `ROOT and ROOT` stand, and how to write both over one.
+/// Says where the roots of `ROOT and ROOT` stand, and what to do about them.
 fn say_nested(out: &mut String, source: &Source<'_>, roots: &str) -> Said {
     let Some((first, second)) = roots.split_once(" and ") else {
         return Ok(());
     };
     say_root(out, source, first)?;
     say_root(out, source, second)?;
-    if covers(first, second) {
-        say_over(out, first, second)
-    } else {
-        say_over(out, second, first)
-    }
+    say(
+        out,
+        "run the two one after the other, or move both roots of one up alike: a path is below both",
+    )
 }
 
 /// Says which line has a root, the first one.
@@ -231,18 +230,6 @@ fn say_root(out: &mut String, source: &Source<'_>, root: &str) -> Said {
 /// Returns whether two texts are one root.
 pub(crate) fn is_same_root(one: &str, other: &str) -> bool {
     one.strip_suffix('/').unwrap_or(one) == other.strip_suffix('/').unwrap_or(other)
-}
-
-/// Says how to write the inner root over the outer one.
-fn say_over(out: &mut String, outer: &str, inner: &str) -> Said {
-    let below = inner
-        .strip_prefix(outer)
-        .unwrap_or(inner)
-        .trim_start_matches('/');
-    writeln!(
-        out,
-        "hubsync: write both over one root: root = {outer} with path = {below}"
-    )
 }
 
 /// Says what to do about certificates that don't show that the set is safe.

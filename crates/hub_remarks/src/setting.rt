@@ -60,7 +60,7 @@ const REMEDIES: &[(&str, &str)] = &[
     ),
     (
         "LeftOutValue",
-        "newer and older depend on times: name one of the two roots",
+        "hubsync has no times: leave the line out of its copy, and it assumes more writes",
     ),
     (
         "RuleBeforeRoot",
@@ -231,7 +231,7 @@ fn say_unknown_preference(out: &mut String, alloc: Global, name: &str) -> Said {
         alloc,
         name,
         PREFERENCES,
-        "docs/USE.md lists the preferences that hubsync reads",
+        "docs/UNISON.md lists them under Which preferences count",
     )
 }
 

@@ -6,10 +6,6 @@ use hub_source::{Said, say};
 /// What to do about the faults of a path.
 const PATH_REMEDIES: &[(&str, &str)] = &[
     ("Empty", "a folder's path is missing"),
-    (
-        "EmptyName",
-        "a / is there twice, or once too often at the end",
-    ),
     ("DotName", "write the path without . and .."),
     ("BadCharacter", "a path has no CR and no NUL"),
     ("NameTooLong", "a name between two / has at most 255 bytes"),
@@ -22,6 +18,7 @@ pub(crate) fn say_bad_path(out: &mut String, value: &str, fault: &str) -> Said {
     match fault {
         "RemoteRoot" => say_remote(out, value),
         "LeadingSlash" => say_leading_slash(out, value),
+        "EmptyName" => say_twice(out, value),
         _ => say(out, path_remedy(fault)),
     }
 }
@@ -44,26 +41,61 @@ fn say_leading_slash(out: &mut String, value: &str) -> Said {
 
 /// Says that a path is written without `/` at its start.
 pub(crate) fn say_below(out: &mut String, path: &str) -> Said {
-    let below = path.trim_start_matches('/');
-    writeln!(out, "hubsync: a path is below the roots: write {below}")
+    out.push_str("hubsync: a path is below the roots: write ")?;
+    push_path(out, "", path)?;
+    out.push_str("\n")
 }
 
-/// Says how to write a root on another machine.
+/// Says how to write a path or a root that has a `/` too many.
+pub(crate) fn say_twice(out: &mut String, path: &str) -> Said {
+    out.push_str("hubsync: a / is there twice, or once too often at the end: write ")?;
+    push_path(out, if path.starts_with('/') { "/" } else { "" }, path)?;
+    out.push_str("\n")
+}
+
+/// Adds a front and the names of a path, with one `/` between two.
+fn push_path(out: &mut String, front: &str, path: &str) -> Said {
+    let mut is_first = true;
+    for name in path.split('/') {
+        if !name.is_empty() {
+            out.push_str(if is_first { front } else { "/" })?;
+            out.push_str(name)?;
+            is_first = false;
+        }
+    }
+    Ok(())
+}
+
+/// Says how to write a root on another machine, or one that is written as a URI.
 fn say_remote(out: &mut String, value: &str) -> Said {
-    let (host, path) = host_and_path(value);
+    let (protocol, rest) = value.split_once("//").unwrap_or(("", value));
+    let (host, path) = rest.split_once('/').unwrap_or((rest, ""));
+    let (user, machine) = host.rsplit_once('@').unwrap_or(("NAME", host));
+    let machine = without_port(machine);
+    out.push_str("hubsync: write ")?;
+    if protocol == "file:" || machine.is_empty() {
+        push_path(out, "/", rest)?;
+        return out.push_str(" in its place, in all profiles alike\n");
+    }
+    write!(out, "/hosts/{machine}")?;
+    if path.starts_with('/') {
+        push_path(out, "/", path)?;
+        return out.push_str(" in its place, in all profiles alike\n");
+    }
+    write!(out, "/home/{user}")?;
+    push_path(out, "/", path)?;
     writeln!(
         out,
-        "hubsync: write /hosts/{host}/{path} in its place, in all profiles alike"
+        " if the home there is /home/{user}, in all profiles alike"
     )
 }
 
-/// The host of a remote root, and its path without leading `/`.
-fn host_and_path(root: &str) -> (&str, &str) {
-    let (_, rest) = root.split_once("//").unwrap_or(("", root));
-    let (host, path) = rest.split_once('/').unwrap_or((rest, ""));
-    let (_, host) = host.rsplit_once('@').unwrap_or(("", host));
-    let (host, _) = host.split_once(':').unwrap_or((host, ""));
-    (host, path.trim_start_matches('/'))
+/// A host without the number of a port behind it.
+fn without_port(host: &str) -> &str {
+    match host.rsplit_once(':') {
+        Some((machine, port)) if port.bytes().all(|byte| byte.is_ascii_digit()) => machine,
+        _ => host,
+    }
 }
 
 /// Says how many lines of a preference there may be.

@@ -2,11 +2,11 @@
 
 use crate::asked::{say_asked_path, say_not_reached, say_profiles, say_run_fault};
 use crate::bundle::say_bundle_fault;
-use crate::note::say_notes;
 use crate::refusal::{say_breach, say_overlap, say_refused};
 use crate::setting::say_setting_fault;
 use crate::text::{say_certificates_fault, say_state_fault};
 use crate::words::say_words;
+use hub_notes::notes;
 use hub_source::{Said, Source, place_in, place_in_profile, say};
 use hub_text::Lines;
 use std::alloc::{AllocError, Global};
@@ -35,16 +35,6 @@ pub struct Remarks {
     pub may_mislead: bool,
 }
 
-impl Remarks {
-    /// Adds a line that says why a yes may mislead.
-    pub(crate) fn note(&mut self, words: &str) -> Said {
-        self.may_mislead = true;
-        self.text.push_str("hubsync: note: ")?;
-        self.text.push_str(words)?;
-        self.text.push_str("\n")
-    }
-}
-
 /// What is to be said about an answer.
 ///
 /// The words are those of the command line, the program's name first. If the sections of the input were made of files, these
@@ -70,11 +60,17 @@ pub fn remark(
     let second = next_text(&mut lines);
     let source = Source::read(alloc, input.bytes, input.is_whole, files)?;
     if is_yes(first) && !second.starts_with(RUN_FAULT) {
-        say_notes(&mut remarks, &source)?;
-    } else {
-        say_answer(&mut remarks.text, &source, words, first, second)?;
+        return remarks_on_yes(&source);
     }
+    say_answer(&mut remarks.text, &source, words, first, second)?;
     Ok(remarks)
+}
+
+/// What is said about a yes.
+fn remarks_on_yes(source: &Source<'_>) -> Result<Remarks, AllocError> {
+    let text = notes(source)?;
+    let may_mislead = !text.is_empty();
+    Ok(Remarks { text, may_mislead })
 }
 
 /// Returns whether an answer that begins with this line says that profiles may run at the same time, or in rounds.

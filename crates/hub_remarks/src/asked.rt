@@ -1,8 +1,9 @@
 //! Remarks on what `reach` and `run` are asked.
 
 use crate::ignored::ignoring_line;
-use crate::refusal::{has_no_path, line_above, say_kept};
+use crate::refusal::say_kept;
 use crate::value::{path_remedy, say_below, say_twice};
+use hub_notes::{has_no_path, line_above};
 use hub_source::{Said, Source, covers, name_of, nearest, say, say_placed};
 use std::alloc::{AllocError, Global};
 

@@ -1,8 +1,8 @@
 //! Which line of a profile ignores a path.
 ghost use Rattle.std.specs.Prelude.{◌≤◌, length};
 
-use crate::refusal::line_above;
 use hub_glob::PathSpec;
+use hub_notes::line_above;
 use hub_path::RelPath;
 use hub_source::{Source, SourceLine};
 use std::alloc::{AllocError, Global};

@@ -14,9 +14,9 @@
 //! (`hub_source`). So this crate uses none of those that read profiles, states and certificates, and takes part in no answer.
 //!
 //! - Faults: `bundle` of the headings, `setting`, `value` and `pattern` of profiles and rules, `text` of states and certificates.
-//! - Refusals and the lines that make them so: `refusal`. What `reach`, `run` and the command line were asked: `asked`, `words`; the
-//!   line that ignores a path: `ignored`.
-//! - A yes that may mislead: `note`, `idle`.
+//! - Refusals and the lines that make them so: `refusal`. What `reach`, `run` and the command line were asked: `asked`; the
+//!   line that ignores a path: `ignored`. Words that ask for nothing: `words`.
+//! - A yes that may mislead: the crate `hub_notes`.
 //!
 //! The text is free, and is only tested (`examples/remarks.txt`). What is proved is that each function is safe and ends.
 //!
@@ -26,14 +26,11 @@
 mod answer;
 mod asked;
 mod bundle;
-mod idle;
 mod ignored;
-mod note;
 mod pattern;
 mod refusal;
 mod remedy;
 mod setting;
-mod start;
 mod text;
 mod value;
 mod words;

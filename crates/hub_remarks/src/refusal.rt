@@ -1,6 +1,7 @@
 //! Remarks on sets that are refused: the lines that make it so.
 
-use hub_source::{Said, Source, SourceLine, covers, name_of, say, say_placed};
+use hub_notes::{has_no_path, is_rule, is_same_root, line_above};
+use hub_source::{Said, Source, SourceLine, name_of, say, say_placed};
 
 /// Says which lines make two profiles overlap: `WRITER writes PATH at PLACE, OTHER reaches PATH`.
 pub(crate) fn say_overlap(out: &mut String, source: &Source<'_>, text: &str) -> Said {
@@ -45,32 +46,6 @@ pub(crate) fn say_kept(out: &mut String, source: &Source<'_>, section: usize, pa
         Some(line) => say_placed(out, source, line),
         None => Ok(()),
     }
-}
-
-/// Returns whether a profile has no line `path`: then it has all of its roots.
-pub(crate) fn has_no_path(source: &Source<'_>, section: usize) -> bool {
-    for line in source.section_lines(section) {
-        if line.value_of("path").is_some() {
-            return false;
-        }
-    }
-    true
-}
-
-/// The first line `path` of a profile whose value is this path or one above it.
-pub(crate) fn line_above<'s, 'a>(
-    source: &'s Source<'a>,
-    section: usize,
-    path: &str,
-) -> Option<&'s SourceLine<'a>> {
-    for line in source.section_lines(section) {
-        if let Some(value) = line.value_of("path") {
-            if covers(value, path) {
-                return Some(line);
-            }
-        }
-    }
-    None
 }
 
 /// Says which rule a profile may break: `PROFILE may VERB PATH at ROOT, rule NUMBER`.
@@ -142,12 +117,6 @@ fn rule_line<'a>(source: &Source<'a>, number: usize) -> Option<SourceLine<'a>> {
         }
     }
     None
-}
-
-/// Returns whether a line of the rules is a rule.
-pub(crate) fn is_rule(line: &SourceLine<'_>) -> bool {
-    let name = line.name();
-    name == "nolose" || name == "nochange" || name == "nonew"
 }
 
 /// Says what to do about a set that is refused.
@@ -225,11 +194,6 @@ fn say_root(out: &mut String, source: &Source<'_>, root: &str) -> Said {
         }
     }
     Ok(())
-}
-
-/// Returns whether two texts are one root.
-pub(crate) fn is_same_root(one: &str, other: &str) -> bool {
-    one.strip_suffix('/').unwrap_or(one) == other.strip_suffix('/').unwrap_or(other)
 }
 
 /// Says what to do about certificates that don't show that the set is safe.

@@ -1,26 +1,20 @@
 //! Rules for paths that no profile reaches.
 
-use crate::answer::Remarks;
-use crate::note::say_below_note;
-use crate::refusal::is_same_root;
+use crate::query::is_same_root;
+use crate::said::Notes;
 use crate::start::{Start, start_of};
 use hub_source::{Said, Source, SourceLine};
 
 /// Says which rule is for paths that no profile reaches. Of a pattern only what stands before its first wildcard is looked at, and
 /// ignored paths count as reached.
 pub(crate) fn say_idle_rule(
-    out: &mut Remarks,
+    out: &mut Notes,
     source: &Source<'_>,
     profiles: &[SourceLine<'_>],
     section: usize,
 ) -> Said {
     match idle_rule(source, profiles, section) {
-        Some(line) => say_below_note(
-            out,
-            source,
-            line,
-            "no profile reaches what this rule is for:",
-        ),
+        Some(line) => out.add_on(source, line, "no profile reaches what this rule is for:"),
         None => Ok(()),
     }
 }

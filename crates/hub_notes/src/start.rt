@@ -1,6 +1,6 @@
 //! How the paths begin that a rule is for.
 
-use crate::refusal::is_rule;
+use crate::query::is_rule;
 use hub_source::{SourceLine, covers, trimmed};
 use hub_text::first_word;
 
@@ -16,7 +16,12 @@ pub(crate) struct Start<'a> {
     is_whole: bool,
 }
 
-impl Start<'_> {
+impl<'a> Start<'a> {
+    /// The whole pattern, if it has no wildcard.
+    pub(crate) fn whole(&self) -> Option<&'a str> {
+        if self.is_whole { Some(self.text) } else { None }
+    }
+
     /// Returns whether a line `path` of this value may keep a path that is matched, or one above or below it.
     pub(crate) fn may_meet(&self, kept: &str) -> bool {
         covers(kept, self.text)

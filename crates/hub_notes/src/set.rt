@@ -1,10 +1,11 @@
-//! Remarks on a yes that may mislead.
+//! Notes on a set: what its profiles and rules may not have been meant to say.
 
-use crate::answer::Remarks;
 use crate::idle::say_idle_rule;
-use crate::refusal::is_same_root;
-use hub_source::{Said, Source, SourceLine, name_of, say_placed, trimmed};
-use std::alloc::AllocError;
+use crate::query::is_same_root;
+use crate::said::Notes;
+use crate::unison::say_otherwise_read;
+use hub_source::{Said, Source, SourceLine, name_of, trimmed};
+use std::alloc::{AllocError, Global};
 
 /// The two roots of a profile, of which either may come first.
 #[derive(Clone, Copy)]
@@ -14,52 +15,49 @@ struct Pair<'a> {
     other: &'a str,
 }
 
-/// Says what the profiles and rules of a set that is safe may not have been meant to say.
-pub(crate) fn say_notes(out: &mut Remarks, source: &Source<'_>) -> Said {
-    if !source.is_whole() {
-        return out.note(
-            "the input is too long for notes on it: 1 MiB and 50,000 lines are looked at",
-        );
-    }
+/// What is said about a yes that may mislead: lines that begin with `hubsync: `, or nothing.
+pub fn notes(source: &Source<'_>) -> Result<String, AllocError> {
+    let mut notes = Notes::new(source.alloc());
     let profiles = source.profiles()?;
-    say_notes_on(out, source, profiles.as_slice())
+    if !source.is_whole() {
+        notes.add("the input is longer than what notes are made of: 1 MiB and 50,000 lines")?;
+    } else if profiles.is_empty() {
+        notes.add("the input has no profile, so nothing was checked")?;
+    } else {
+        say_notes(&mut notes, source, profiles.as_slice())?;
+    }
+    notes.into_text()
 }
 
 /// Says what these profiles and the rules may not have been meant to say.
-fn say_notes_on(out: &mut Remarks, source: &Source<'_>, profiles: &[SourceLine<'_>]) -> Said {
-    if profiles.is_empty() {
-        return out.note("the input has no profile, so nothing was checked");
-    }
-    say_blank_names(out, profiles)?;
+fn say_notes(out: &mut Notes, source: &Source<'_>, profiles: &[SourceLine<'_>]) -> Said {
     say_strange_rule(out, source, profiles)?;
-    say_same_pair(out, source, profiles)
+    say_same_pair(out, source, profiles)?;
+    say_otherwise_read(out, source, profiles)?;
+    say_blank_names(out, source.alloc(), profiles)
 }
 
 /// Says which names have a blank at an end.
-fn say_blank_names(out: &mut Remarks, profiles: &[SourceLine<'_>]) -> Said {
+fn say_blank_names(out: &mut Notes, alloc: Global, profiles: &[SourceLine<'_>]) -> Said {
     for profile in profiles {
         let name = profile.profile().unwrap_or("");
         if trimmed(name).len() < name.len() {
             let place = profile.place();
-            out.may_mislead = true;
-            return writeln!(
-                &mut out.text,
-                "hubsync: note: {place}: a blank at an end of {name:?}"
-            );
+            let words = format!(in alloc; "{place}: a blank at an end of {name:?}")?;
+            return out.add(words.as_str());
         }
     }
     Ok(())
 }
 
 /// Says which root of the rules no profile has, or else which rule is for a path that no profile reaches.
-fn say_strange_rule(out: &mut Remarks, source: &Source<'_>, profiles: &[SourceLine<'_>]) -> Said {
+fn say_strange_rule(out: &mut Notes, source: &Source<'_>, profiles: &[SourceLine<'_>]) -> Said {
     let Some(section) = source.section("%rules") else {
         return Ok(());
     };
     let roots = roots_beside(source, section)?;
     match strange_root(source.section_lines(section), roots.as_slice()) {
-        Some(line) => say_below_note(
-            out,
+        Some(line) => out.add_on(
             source,
             line,
             "no profile has this root, so no rule below it protects anything:",
@@ -83,17 +81,6 @@ fn strange_root<'s, 'a>(
     None
 }
 
-/// Says a line of the rules below a note on it.
-pub(crate) fn say_below_note(
-    out: &mut Remarks,
-    source: &Source<'_>,
-    line: &SourceLine<'_>,
-    note: &str,
-) -> Said {
-    out.note(note)?;
-    say_placed(&mut out.text, source, line)
-}
-
 /// The root lines of all other sections.
 fn roots_beside<'a>(
     source: &Source<'a>,
@@ -114,13 +101,14 @@ fn is_among(roots: &[SourceLine<'_>], root: &str) -> bool {
 }
 
 /// Says which two profiles have the same two roots.
-fn say_same_pair(out: &mut Remarks, source: &Source<'_>, profiles: &[SourceLine<'_>]) -> Said {
+fn say_same_pair(out: &mut Notes, source: &Source<'_>, profiles: &[SourceLine<'_>]) -> Said {
     let mut pairs = Vec::new(source.alloc());
     for profile in profiles {
         if let Some(pair) = pair_of(source, profile.section) {
             if let Some(same) = same_pair(pairs.as_slice(), pair) {
                 return say_pair(
                     out,
+                    source.alloc(),
                     name_of(source, same.section),
                     name_of(source, pair.section),
                 );
@@ -132,12 +120,12 @@ fn say_same_pair(out: &mut Remarks, source: &Source<'_>, profiles: &[SourceLine<
 }
 
 /// Says that two profiles have the same two roots.
-fn say_pair(out: &mut Remarks, one: &str, other: &str) -> Said {
-    writeln!(
-        &mut out.text,
-        "hubsync: note: {one} and {other} have the same two roots"
-    )?;
-    out.note("Unison locks the archive of two roots: don't run these profiles at once")
+fn say_pair(out: &mut Notes, alloc: Global, one: &str, other: &str) -> Said {
+    let words = format!(in alloc; "{one} and {other} have the same two roots")?;
+    out.add_two(
+        words.as_str(),
+        "Unison locks the archive of two roots: don't run these profiles at once",
+    )
 }
 
 /// The two roots of a profile.

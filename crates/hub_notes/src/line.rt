@@ -1,0 +1,166 @@
+//! What one line shows that Unison reads otherwise.
+
+use crate::bar::{is_kept_whole, like_bars, path_bar};
+use crate::dotted::missing_dots;
+use crate::sign::{Choices, Sign};
+use hub_source::{SourceLine, covers};
+use std::alloc::{AllocError, Global};
+
+/// What is said of a path whose last name is `*`: to Unison it is all children of the folder above.
+pub(crate) fn star_words(
+    alloc: Global,
+    line: &SourceLine<'_>,
+) -> Result<Option<String>, AllocError> {
+    let Some(path) = line.value_of("path") else {
+        return Ok(None);
+    };
+    let path = path.strip_suffix('/').unwrap_or(path);
+    let folder = match path.strip_suffix("/*") {
+        Some(folder) => folder,
+        None if path == "*" => "",
+        None => return Ok(None),
+    };
+    let words = format!(in alloc;
+        "Unison takes a last name * for all that is in the folder: write path = {folder}"
+    )?;
+    Ok(Some(words))
+}
+
+/// What is said of a pattern that matches a dot at the start of a name, where Unison's doesn't.
+pub(crate) fn dot_words(
+    alloc: Global,
+    lines: &[SourceLine<'_>],
+    line: &SourceLine<'_>,
+) -> Result<Option<String>, AllocError> {
+    if let Some(pattern) = line.value_of("ignore") {
+        return ignore_words(alloc, lines, pattern);
+    }
+    let Some(bar) = path_bar(line) else {
+        return Ok(None);
+    };
+    if is_kept_whole(lines, bar) {
+        return Ok(None);
+    }
+    let others = like_bars(alloc, lines, bar)?;
+    let Some(missing) = dots_beside(alloc, bar.pattern, others.as_slice())? else {
+        return Ok(None);
+    };
+    let (name, root) = (bar.name, bar.root);
+    let words = format!(in alloc;
+        "Unison's * ? [..] take no dot at a name's start: add, for Unison too: {name} = {missing} -> {root}"
+    )?;
+    Ok(Some(words))
+}
+
+/// The same of an ignored pattern.
+fn ignore_words(
+    alloc: Global,
+    lines: &[SourceLine<'_>],
+    pattern: &str,
+) -> Result<Option<String>, AllocError> {
+    let mut others = Vec::new(alloc);
+    for line in lines {
+        if line.value_of("ignore").is_some() || line.value_of("ignorenot").is_some() {
+            if let Some(choices) = Choices::read(alloc, line.value())? {
+                others.push(choices)?;
+            }
+        }
+    }
+    let Some(missing) = dots_beside(alloc, pattern, others.as_slice())? else {
+        return Ok(None);
+    };
+    let words = format!(in alloc;
+        "Unison's * ? [..] take no dot at a name's start: add, for Unison too: ignore = {missing} or ignorenot = {missing}"
+    )?;
+    Ok(Some(words))
+}
+
+/// The pattern for the dots that are missing beside others.
+fn dots_beside(
+    alloc: Global,
+    pattern: &str,
+    others: &[Choices],
+) -> Result<Option<String>, AllocError> {
+    match Choices::read(alloc, pattern)? {
+        Some(own) => missing_dots(alloc, &own, others),
+        None => Ok(None),
+    }
+}
+
+/// The pattern of a line that keeps a profile from paths.
+fn pattern_of<'a>(line: &SourceLine<'a>) -> Option<&'a str> {
+    match path_bar(line) {
+        Some(bar) => Some(bar.pattern),
+        None => line.value_of("ignore"),
+    }
+}
+
+/// What is said of a pattern that takes a character of several bytes, where Unison's takes one byte.
+pub(crate) fn byte_words(
+    alloc: Global,
+    line: &SourceLine<'_>,
+) -> Result<Option<String>, AllocError> {
+    let Some(own) = Choices::read(alloc, pattern_of(line).unwrap_or(""))? else {
+        return Ok(None);
+    };
+    for signs in own.signs()?.as_slice() {
+        if let Some(words) = words_on_bytes(signs.as_slice()) {
+            return Ok(Some(String::from_str(alloc, words)?));
+        }
+    }
+    Ok(None)
+}
+
+/// The same of one choice.
+fn words_on_bytes(signs: &[Sign<'_>]) -> Option<&'static str> {
+    for sign in signs {
+        match sign {
+            Sign::One => {
+                return Some(
+                    "Unison's ? is one byte, so no letter as \u{e9}: write a set, as [0-9a-z]",
+                );
+            }
+            Sign::Set(set) if set.iter().any(|letter| !letter.is_ascii()) => {
+                return Some(
+                    "Unison's [..] is one byte, so no letter as \u{e9}: write a line for each",
+                );
+            }
+            _ => {}
+        }
+    }
+    None
+}
+
+/// What is said of an ignored pattern that matches the whole replica in Unison.
+pub(crate) fn whole_words(
+    alloc: Global,
+    line: &SourceLine<'_>,
+) -> Result<Option<String>, AllocError> {
+    let Some(own) = Choices::read(alloc, line.value_of("ignore").unwrap_or(""))? else {
+        return Ok(None);
+    };
+    for signs in own.signs()?.as_slice() {
+        if signs.iter().all(|sign| sign.is_run()) {
+            let words =
+                "this pattern matches the whole replica in Unison: leave it out, and write path lines";
+            return Ok(Some(String::from_str(alloc, words)?));
+        }
+    }
+    Ok(None)
+}
+
+/// What is said of a log in a root of its profile.
+pub(crate) fn log_words(
+    alloc: Global,
+    lines: &[SourceLine<'_>],
+    line: &SourceLine<'_>,
+) -> Result<Option<String>, AllocError> {
+    let Some(log) = line.value_of("logfile") else {
+        return Ok(None);
+    };
+    if !lines.iter().any(|own| own.value_of("root").is_some_and(|root| covers(root, log))) {
+        return Ok(None);
+    }
+    let words = "Unison writes this log at a root while it runs: name a file elsewhere";
+    Ok(Some(String::from_str(alloc, words)?))
+}

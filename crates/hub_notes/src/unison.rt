@@ -1,0 +1,117 @@
+//! Lines that Unison reads otherwise than hubsync, so that a yes may be wrong for it.
+
+use crate::bar::{arrow_words, bar_words};
+use crate::line::{byte_words, dot_words, log_words, star_words, whole_words};
+use crate::ruled::{creation_words, ignored_words, parent_words};
+use crate::said::Notes;
+use hub_source::{Said, Source, SourceLine};
+use std::alloc::AllocError;
+
+/// How a line is read otherwise.
+#[derive(Clone, Copy)]
+enum Difference {
+    /// A bar without blanks around its arrow.
+    Arrow,
+    /// A path whose last name is `*`.
+    Star,
+    /// A bar below a folder that isn't barred.
+    Bar,
+    /// A pattern that matches a dot at the start of a name.
+    Dot,
+    /// A pattern that matches a character of several bytes.
+    Byte,
+    /// An ignored whole replica.
+    Whole,
+    /// A bar on creation that lets a file become a folder.
+    Creation,
+    /// An ignored path under a rule.
+    Ignored,
+    /// A folder above a path that a rule forbids to create.
+    Parent,
+    /// A log in a root.
+    Log,
+}
+
+/// The differences, the most dangerous first.
+const DIFFERENCES: [Difference; 10] = [
+    Difference::Arrow,
+    Difference::Star,
+    Difference::Bar,
+    Difference::Dot,
+    Difference::Byte,
+    Difference::Whole,
+    Difference::Creation,
+    Difference::Ignored,
+    Difference::Parent,
+    Difference::Log,
+];
+
+/// Says which lines of some profiles Unison reads otherwise: of each kind the first.
+pub(crate) fn say_otherwise_read(
+    out: &mut Notes,
+    source: &Source<'_>,
+    profiles: &[SourceLine<'_>],
+) -> Said {
+    for difference in DIFFERENCES.iter() {
+        say_difference(out, source, profiles, *difference)?;
+    }
+    Ok(())
+}
+
+/// Says which line of some profiles is the first that Unison reads so, and counts the others.
+fn say_difference(
+    out: &mut Notes,
+    source: &Source<'_>,
+    profiles: &[SourceLine<'_>],
+    difference: Difference,
+) -> Said {
+    let mut is_said = false;
+    for profile in profiles {
+        is_said = say_in_profile(out, source, profile.section, difference, is_said)?;
+    }
+    Ok(())
+}
+
+/// The same of one profile. It gives whether the first line was said.
+fn say_in_profile(
+    out: &mut Notes,
+    source: &Source<'_>,
+    section: usize,
+    difference: Difference,
+    was_said: bool,
+) -> Result<bool, AllocError> {
+    let mut is_said = was_said;
+    for line in source.section_lines(section) {
+        if let Some(words) = words_on(source, line, difference)? {
+            if is_said {
+                out.hide();
+            } else {
+                out.add_on(source, line, words.as_str())?;
+                is_said = true;
+            }
+        }
+    }
+    Ok(is_said)
+}
+
+/// What is to be said of a line that Unison reads so.
+fn words_on(
+    source: &Source<'_>,
+    line: &SourceLine<'_>,
+    difference: Difference,
+) -> Result<Option<String>, AllocError> {
+    let alloc = source.alloc();
+    let lines = source.section_lines(line.section);
+    match difference {
+        Difference::Arrow => arrow_words(alloc, line),
+        Difference::Star => star_words(alloc, line),
+        Difference::Bar => bar_words(alloc, lines, line),
+        Difference::Dot => dot_words(alloc, lines, line),
+        Difference::Byte => byte_words(alloc, line),
+        Difference::Whole => whole_words(alloc, line),
+        Difference::Creation => creation_words(source, lines, line),
+        Difference::Ignored => ignored_words(source, lines, line),
+        Difference::Parent => parent_words(source, lines, line),
+        Difference::Log => log_words(alloc, lines, line),
+    }
+}

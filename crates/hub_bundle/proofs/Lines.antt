@@ -1,12 +1,11 @@
 -- The lines of bytes, one at a time: what is left below the next one, and what a section has of it.
-use Rattle.std.proofs.Common.{◌≡◌, Bool, true, false, ℕ, ◌+◌, ◌<◌, ◌≤◌, List, [], ◌∷◌, ◌++◌, length, take, Option, Some, None, refl, sym, ap, subst, ◌∙◌, arith, append_assoc, append-nil, length-append, ◌-◌, ◌||◌}
+use Rattle.std.proofs.Common.{◌≡◌, Bool, true, false, ℕ, ◌+◌, ◌<◌, ◌≤◌, List, [], ◌∷◌, ◌++◌, length, Option, Some, None, refl, sym, ap, ◌∙◌, arith, append_assoc, ◌-◌, ◌||◌}
 use Rattle.std.specs.Prelude.{if◌then◌else◌, not}
 use Rattle.std.specs.List.{list_all, find, enumerate_from}
-use Rattle.std.proofs.lemmas.Bool.{eqb-true, false≢true}
-use Rattle.std.proofs.lemmas.List.{take_at}
+use Rattle.std.proofs.lemmas.Bool.{false≢true}
 use denote.Ref.{Bor}
 use Rattle.hub_text.specs.declared.line.Line.{Line}
-use Rattle.hub_text.specs.Lines.{lines_of, line_text, onto_first_line}
+use Rattle.hub_text.specs.Lines.{lines_of, line_text}
 use Rattle.hub_text.specs.LineLaws.{text-first_line, shorter-first_line}
 use Rattle.hub_text.specs.Takes.{Takes, of_bytes}
 use Rattle.hub_bundle.specs.Bundle.{is_ignorable, follows_section, bytes_before_heading, written, stray_line}
@@ -25,15 +24,6 @@ heading_line s t l e = by l.text refl l.is_ended refl
     by (b ∷ bs) f true g = ap is_heading f ∙ sym (ap is_heading (spelled (b ∷ bs) f true g))
     by (b ∷ bs) f false g = ap is_heading f ∙ sym (ap is_heading (spelled (b ∷ bs) f false g))
 
--- A heading ends a section, and so does the end of the bytes.
-pub nothing_before : (s : List ℕ) → follows_section s ≡ true → bytes_before_heading (lines_of s) ≡ []
-nothing_before [] h = refl
-nothing_before (b ∷ s) h = subst (λ c. bytes_before_heading (lines_of (c ∷ s)) ≡ []) (sym (eqb-true b 37 h)) (onto (lines_of s))
-  where
-    onto : (ls : List (Line (List ℕ))) → bytes_before_heading (onto_first_line 37 ls) ≡ []
-    onto [] = refl
-    onto (l ∷ ls) = refl
-
 -- What was skipped of a section, and what is left.
 pub record SkippedSoFar (all s : List ℕ) (count : ℕ) : Type 0 where
   pub front : List ℕ
@@ -41,15 +31,6 @@ pub record SkippedSoFar (all s : List ℕ) (count : ℕ) : Type 0 where
   pub bytes : bytes_before_heading (lines_of all) ≡ front ++ bytes_before_heading (lines_of s)
   pub below : (n : ℕ) → written n (lines_of all) ≡ written (n + count) (lines_of s)
   pub fewer : count + length s ≤ length all
-
-pub skip_start : (all : List ℕ) → SkippedSoFar all all 0
-skip_start all = record {
-  front = [];
-  whole = refl;
-  bytes = refl;
-  below = λ n. let same : n ≡ n + 0 = omega arith in ap (λ k. written k (lines_of all)) same;
-  fewer = omega arith;
-}
 
 not_at_end : (s : List ℕ) → follows_section s ≡ false → is_heading s ≡ false
 not_at_end [] h = refl
@@ -76,18 +57,6 @@ skip_more all s t count (Some l) so_far e going = skip_line all s t count (of_by
 pub skip_less : (s t : List ℕ) (r : Option (Line (Bor (List ℕ)))) → Takes of_bytes s r t → follows_section s ≡ false → length t < length s
 skip_less s t None none going = absurd (false≢true (sym going ∙ ap follows_section none))
 skip_less s t (Some l) e going = shorter-first_line s t (of_bytes l) e
-
--- All lines of the section.
-pub skip_end : (all s : List ℕ) (count : ℕ) → SkippedSoFar all s count → follows_section s ≡ true → all ≡ bytes_before_heading (lines_of all) ++ s
-skip_end all s count so_far over =
-    let none : bytes_before_heading (lines_of all) ≡ so_far.front ++ [] = so_far.bytes ∙ ap (λ u. so_far.front ++ u) (nothing_before s over) in
-    so_far.whole ∙ ap (λ u. u ++ s) (sym (append-nil so_far.front) ∙ sym none)
-
--- The bytes of a section, from how many there are below its heading and how many are left.
-pub section_bytes : (t u : List ℕ) → t ≡ bytes_before_heading (lines_of t) ++ u → take (length t - length u) t ≡ bytes_before_heading (lines_of t)
-section_bytes t u e =
-    let len : length t - length u ≡ length (bytes_before_heading (lines_of t)) = omega (arith, ap length e, length-append (bytes_before_heading (lines_of t)) u) in
-    ap (take (length t - length u)) e ∙ take_at (bytes_before_heading (lines_of t)) u (length t - length u) (sym len)
 
 -- Whether a line ends the blank ones at the start.
 abbrev pub ends_blank : ℕ × Line (List ℕ) → Bool

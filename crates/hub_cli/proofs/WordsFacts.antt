@@ -99,15 +99,6 @@ about_in m name o e h is =
     ap request_in (parts (out-ArgMatches m).subcommand name (rows_of (found_of o)) e h)
     ∙ ap (λ (b : Bool). by_name name (rows_of (found_of o)) b) is
 
--- the files that a command names, by the rows of the subcommand's matches
-pub names_by : (m : ArgMatches) (rows : List Row) → Some rows ≡ option_map (λ p. p.1) (subcommand_rows_of m)
-    → names_in (subcommand_rows_of m) ≡ names_found rows
-names_by m rows h = go (subcommand_rows_of m) h
-  where
-    go : (used : Option (Text × List Row)) → Some rows ≡ option_map (λ p. p.1) used → names_in used ≡ names_found rows
-    go None h = absurd (true≢false (ap (λ (o : Option (List Row)). is_some o) h))
-    go (Some p) h = ap names_found (ap (λ (o : Option (List Row)). unwrap_or o rows) (sym h))
-
 -- the files that a command names, by the getters of the subcommand's matches
 abbrev with_names : List Text → Option Text → Option Text → Option Text → Names
 with_names ps r s c = record { profiles = ps; rules = r; state = s; certificates = c }

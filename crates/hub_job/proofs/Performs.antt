@@ -1,6 +1,6 @@
 -- What the code of operations has against their definition.
-use Rattle.std.proofs.Common.{◌≡◌, ◌≢◌, Bool, true, false, cond, not, ◌&&◌, ◌||◌, List, [], ◌∷◌, ◌++◌, length, map, Option, Some, None, refl, ap, sym, ◌∙◌, append_assoc, ◌<◌, ◌≤◌, drop, get_or, arith}
-use Rattle.std.specs.Prelude.{ℕ, zero, suc, ◌==◌, filter, unwrap_or}
+use Rattle.std.proofs.Common.{◌≡◌, ◌≢◌, Bool, true, false, cond, not, ◌&&◌, ◌||◌, List, [], ◌∷◌, ◌++◌, length, map, refl, ap, sym, ◌∙◌, append_assoc, ◌<◌, ◌≤◌, drop, get_or, arith}
+use Rattle.std.specs.Prelude.{ℕ, zero, suc, ◌==◌, filter}
 use Rattle.std.specs.List.{list_any}
 use Rattle.std.specs.FinMap as fin
 use Rattle.std.proofs.lemmas.Bool.{false≢true, and_parts}
@@ -11,33 +11,12 @@ use Rattle.hub_path.specs.Path.{Name, Path, path_eq, parent, last_name}
 use Rattle.hub_path.specs.Laws.{parent-last_name}
 use Rattle.hub_profile.specs.Parts.{Parts}
 use Rattle.hub_reach.specs.Reach.{reach, writes_at}
-use Rattle.hub_tree.specs.Tree.{Replica, IsRefusal, bytes_of, contents_at, children, mark_at, names_at, is_absent, is_child, is_directory, mark_of}
-use Rattle.hub_tree.specs.declared.contents.Contents.{Contents}
+use Rattle.hub_tree.specs.Tree.{Replica, contents_at, children, mark_at, names_at, is_absent, is_child, is_directory}
 use Rattle.hub_tree.specs.declared.contents.Contents.TheVariants as contents
 use Rattle.hub_tree.specs.declared.contents.Mark.{Mark}
 use Rattle.hub_tree.specs.declared.contents.Mark.TheVariants as mark
-use Rattle.hub_tree.specs.declared.fault.SetFault.{SetFault}
 use Rattle.hub_tree.specs.declared.fault.SetFault.TheVariants as set
 use Rattle.hub_reconcile.specs.Sight.{Sight, is_kept_value, is_kept_parent, reached_names, directory_or_absent, sight}
-use Rattle.hub_job.specs.declared.answer.Answer.TheVariants.{Bytes, Refused}
-use Rattle.hub_job.specs.declared.answer.OpFault.TheVariants.{NoFile}
-use Rattle.hub_job.specs.Machine.{fetched}
-
--- A Fetch.
-pub gives_bytes : (c : Contents) (bytes : List ℕ) → Some bytes ≡ bytes_of c → Bytes bytes ≡ fetched c
-gives_bytes (contents.File b) bytes e = ap (λ o. Bytes (unwrap_or o bytes)) e
-gives_bytes contents.Directory bytes e = cc
-gives_bytes contents.Absent bytes e = cc
-
-pub gives_none : (c : Contents) → None ≡ bytes_of c → Refused NoFile ≡ fetched c
-gives_none (contents.File b) e = cc
-gives_none contents.Directory e = refl
-gives_none contents.Absent e = refl
-
--- A Set.
-pub refused_by : (o : Option SetFault) (e : SetFault) → IsRefusal o e → e ≢ set.OutOfMemory → o ≡ Some e
-refused_by None e h other = absurd (other h)
-refused_by (Some f) e h other = ap (λ x. Some x) (sym h)
 
 -- A Look.
 pub some_path : (b : Bool) (p d : Path) → (not (length p == 0) && path_eq (parent p) d && b) ≡ true → d ++ last_name p ∷ [] ≡ p
@@ -104,12 +83,6 @@ any_own f k front (s ∷ rest) =
 
 pub kept_parent_is : (P : Parts) (d : Path) → is_kept_parent P d ≡ list_any (λ s. (length s == 0 || reach P s) && path_eq (parent s) d) P.paths
 kept_parent_is P d = any_own (λ s. length s == 0 || reach P s) (λ s. path_eq (parent s) d) [] P.paths
-
-pub directory_mark : (b : Bool) (c : Contents) → mark.Directory ≡ mark_of c → b ≡ true → mark.Directory ≡ directory_or_absent (b && is_directory c)
-directory_mark true (contents.File bytes) e h = cc
-directory_mark true contents.Directory e h = refl
-directory_mark true contents.Absent e h = cc
-directory_mark false c e h = cc
 
 -- What is seen of a path that is reached, of the whole replica, and elsewhere.
 abbrev seen_there : Parts → Path → Replica → Path → Bool → Sight

@@ -1,33 +1,21 @@
 -- Slots that jobs are put into, by their numbers.
 use Rattle.std.proofs.Common.{◌≡◌, ◌<◌, inl, inr, List, [], ◌∷◌, ◌++◌, length, Option, Some, ap, sym, ◌∙◌, subst, length-set, arith}
-use Rattle.std.specs.Prelude.{ℕ, zero, suc, slice_get, slice_set}
+use Rattle.std.specs.Prelude.{ℕ, slice_get, slice_set}
 use Rattle.std.proofs.lemmas.Bool.{cases_eq}
 use Rattle.std.proofs.lemmas.List.{length-map}
-use Rattle.std.proofs.lemmas.Option.{none-some, same_Some, slice_get_within}
+use Rattle.std.proofs.lemmas.Option.{same_Some, slice_get_within}
 use Rattle.hub_text.specs.ListLaws.{put-here, snoc-cases, snoc-new, snoc-old}
 use Rattle.hub_job.specs.JobValue.{JobValue}
 use Rattle.hub_job.specs.Run.{Runs}
 use Rattle.hub_schedule.specs.Laws.Lists.{map_at, set_there}
 use Rattle.hub_runner.specs.Ordered.{AreInOrder, AreNumbered, IsJobOf}
-use Rattle.hub_runner.specs.Slots.{AreFull, empty, filled}
-
-empty_slot : (n j : ℕ) (e : JobValue) → slice_get (empty n) j ≡ Some (Some e) → ⊥
-empty_slot zero j e h = cc
-empty_slot (suc n) zero e h = cc
-empty_slot (suc n) (suc j) e h = empty_slot n j e h
+use Rattle.hub_runner.specs.Slots.{AreFull, filled}
 
 -- Each slot has a job of its number; each of the first jobs has one in its slot.
 pub record IsFilling (n : ℕ) (front : List JobValue) (slots : List (Option JobValue)) : Type 0 where
   pub count : length slots ≡ n
   pub each : (j : ℕ) (e : JobValue) → slice_get slots j ≡ Some (Some e) → IsJobOf front e × (e.number ≡ j)
   pub full : (k : ℕ) (J : JobValue) → slice_get front k ≡ Some J → (e : JobValue) × (slice_get slots J.number ≡ Some (Some e))
-
-pub none_filled : (n : ℕ) (slots : List (Option JobValue)) → slots ≡ empty n → length slots ≡ n → IsFilling n [] slots
-none_filled n slots e count = record {
-  count = count;
-  each = λ j x h. absurd (empty_slot n j x (sym (ap (λ ss. slice_get ss j) e) ∙ h));
-  full = λ k J h. absurd (none-some J h);
-}
 
 -- One job more.
 later : (front : List JobValue) (J e : JobValue) → IsJobOf front e → IsJobOf (front ++ J ∷ []) e

@@ -1,15 +1,12 @@
 -- Replicas of books, book by book.
-use Rattle.std.proofs.Common.{◌≡◌, true, false, cond, List, [], ◌∷◌, ◌++◌, map, filter, refl, ap, sym, ◌∙◌, subst}
+use Rattle.std.proofs.Common.{◌≡◌, true, false, cond, List, [], ◌∷◌, ◌++◌, map, filter, ap, sym, ◌∙◌, subst}
 use Rattle.std.specs.Prelude.{All}
 use Rattle.std.proofs.lemmas.List.{append-nil, map_push}
-use Rattle.std.proofs.lemmas.List.Elements.{All-nil, All-push, filter-append}
+use Rattle.std.proofs.lemmas.List.Elements.{All-push, filter-append}
 use Rattle.hub_profile.specs.Parts.{Parts}
 use Rattle.hub_history.specs.Book.{BookValue, IsBook}
 use Rattle.hub_schedule.specs.declared.slot.WorkingTree.{WorkingTree}
 use Rattle.hub_runner.specs.Ordered.{AreTreesOf, is_due, of_book, of_tree}
-
-pub no_trees : (Ps : List Parts) → AreTreesOf Ps [] []
-no_trees Ps = record { values = refl; legal = All-nil IsBook }
 
 module _ (Ps : List Parts) (front : List BookValue) (trees : List WorkingTree) (are : AreTreesOf Ps front trees) (B : BookValue) where
   dues_skip : is_due Ps B ≡ false → filter (is_due Ps) (front ++ B ∷ []) ≡ filter (is_due Ps) front

@@ -38,19 +38,13 @@ use Rattle.hub_cli.specs.declared.words.Question.TheVariants as ask
 use Rattle.hub_cli.specs.Words.{Request, about}
 use Rattle.hub_serve.specs.declared.task.Task.{Task}
 use Rattle.hub_serve.specs.declared.task.Task.TheVariants as task
-use Rattle.hub_serve.specs.Report.{FollowsSafe, IsWholeUnlessFailed, IsRefusedFor, IsTold, IsTrueOf, Holds, ShowsClashes, ShowsGraph, ShowsRounds, ShowsRoundsRun, ShowsSet}
+use Rattle.hub_serve.specs.Report.{FollowsSafe, IsWholeUnlessFailed, IsRefusedFor, IsTrueOf, Holds, ShowsClashes, ShowsGraph, ShowsRounds, ShowsRoundsRun, ShowsSet}
 use Rattle.hub_serve.specs.Report.{SpellsClashes, SpellsGraph, SpellsRounds, SpellsRoundsRun, SpellsSafe, SpellsUnsafe, SpellsVerified}
 use Rattle.hub_serve.specs.Rounds.{BeginsAsClash, DrawsClashes, ListsClashes, WritesRounds}
 use Rattle.hub_serve.specs.Runs.{HasRunAs, IsBelow, IsPrevented}
 use Rattle.hub_serve.specs.Task.{AsksTask}
 use Rattle.hub_serve.proofs.Asking.{asks, unrefused}
 use Rattle.hub_serve.proofs.Refused.{BreachesShown, OverlapsShown, breach-refused, overlap-refused}
-
--- What holds of what an input says holds of the input.
-pub told-holds : (request : Request) (bytes : List ℕ) (c : BundleContents) (r : Report) → Spells bytes c → IsTold request c r → Holds request bytes r
-told-holds request bytes c (answer.Faulty f) s h = absurd h
-told-holds request bytes c answer.OutOfMemory s h = tt
-told-holds request bytes c _ s h = record { contents = c; spelled = s; told = h }
 
 -- Where no jobs are to be run, nothing is below `safe`.
 check-below : (t : Task) (M : Members) → (t ≡ task.Check) ⊎ (t ≡ task.Clashes) → IsBelow t M 0 []

@@ -182,9 +182,6 @@ continues-lines bytes p q (Some l) c left rest = record {
   same = λ t. c.same t ∙ left.same t ∙ ap (λ s. bytes_taken q.number q.draft (s ++ t)) (sym rest);
 }
 
-pub stands-stopped : (bytes : List ℕ) (p : Prefix) (e : StateFault) → ReadsOn bytes p → Stops p.number p.draft p.rest.items e → (e ≡ out_of_memory) ⊎ ((t : List ℕ) → state_reading (bytes ++ t) ≡ Err e)
-stands-stopped bytes p e c h = ⊎_elim inl (λ f. inr (λ t. c.same t ∙ f t)) h
-
 pub stands-longer : (bytes block : List ℕ) (e : StateFault) → (e ≡ out_of_memory) ⊎ ((t : List ℕ) → state_reading (bytes ++ t) ≡ Err e)
     → (e ≡ out_of_memory) ⊎ ((t : List ℕ) → state_reading ((bytes ++ block) ++ t) ≡ Err e)
 stands-longer bytes block e h = ⊎_elim inl (λ f. inr (λ t. ap state_reading (append_assoc bytes block t) ∙ f (block ++ t))) h
@@ -224,10 +221,6 @@ within-begun p number draft rest = record {
   apart = subst (λ (a : Draft). IsApart a.current) (sym draft) tt;
   room = omega (arith, number, ap length rest);
 }
-
-pub within-more : {T : Type 0} (r : Result T StateFault) (p : Prefix) (n m : ℕ) → OnOk r (IsWithin p n) → n ≤ m → OnOk r (IsWithin p m)
-within-more (Ok u) p n m h le = record { apart = h.apart; room = omega (arith, h.room, le) }
-within-more (Err e) p n m h le = tt
 
 pub within-block : {T : Type 0} (s r : Result T StateFault) (p q : Prefix) (k m : ℕ) (block other : List ℕ) → OnOk s (IsWithin p k) → OnOk r (OnOk s (IsWithin q (p.number + length p.rest.items + length block)))
     → IfErr s (λ e. r ≡ Err e) → block ≡ other → k + length other ≤ m → OnOk r (IsWithin q m)

@@ -331,11 +331,6 @@ line_taken-text a l s f rest same text is going stands =
     let here : line_of l ≡ Some (record { form = f; rest = rest }) = ap line_of (sym same) ∙ is in
     rw (is_utf8-from_IsUtf8 l text, here, going, stands) refl
 
-pub line_taken-none : (a : Draft) (l s : List ℕ) → s ≡ l → IsUtf8 l → line_of s ≡ None → line_taken a l ≡ Err BadLine
-line_taken-none a l s same text is =
-    let here : line_of l ≡ None = ap line_of (sym same) ∙ is in
-    rw (is_utf8-from_IsUtf8 l text, here) refl
-
 pub line_taken-refused : (a : Draft) (l s : List ℕ) (f : Form) (rest : List ℕ) → s ≡ l → IsUtf8 l → line_of s ≡ Some (record { form = f; rest = rest }) → (a.ended || not (may_stand (section_of a.current) f)) ≡ true
     → line_taken a l ≡ Err BadLine
 line_taken-refused a l s f rest same text is refused =

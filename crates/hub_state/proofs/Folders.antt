@@ -5,10 +5,10 @@ use Rattle.std.specs.Prelude.{not, bytes_eq, encode_utf8_all}
 use Rattle.std.proofs.lemmas.Bool.{and_from, ne_eqb}
 use Rattle.std.proofs.lemmas.Bool.Decides.{nat_tests}
 use Rattle.std.proofs.lemmas.Slice.Eq.{bytes_eq-Decides}
-use Rattle.hub_path.specs.Path.{Name, Path, parent, path_of, is_path, is_place, text_of}
-use Rattle.hub_path.specs.Reading.{name_fault, name_reading, names_fault, path_fault, path_reading, begins_with_slash}
+use Rattle.hub_path.specs.Path.{Name, Path, parent, is_path, is_place, text_of}
+use Rattle.hub_path.specs.Reading.{name_fault, name_reading, names_fault}
 use Rattle.hub_path.specs.ReadNames.{or_fault-Ok, first_fault-None, tested-None}
-use Rattle.hub_path.specs.declared.fault.PathFault.TheVariants.{TooDeep, Empty, LeadingSlash}
+use Rattle.hub_path.specs.declared.fault.PathFault.TheVariants.{TooDeep}
 use Rattle.hub_path.specs.declared.rel_path.TheConstants.{PATH_NAMES}
 use Rattle.hub_state.specs.Near.{IsReadFrom}
 use Rattle.hub_state.specs.Reading.{path_field}
@@ -48,14 +48,6 @@ below_fine p t n h l read =
 
 pub parent_fine : (p : Path) → names_fault 0 p ≡ None → names_fault 0 (parent p) ≡ None
 parent_fine p h = fine-parent 0 p h
-
--- A path that is read.
-pub read_fine : (t : List ℕ) (p : Path) → path_reading t ≡ Ok p → names_fault 0 p ≡ None
-read_fine t p read =
-    let r = or_fault-Ok (path_fault t) (path_of t) p read in
-    let some = tested-None (length t == 0) Empty _ r.0 in
-    let begun = tested-None (begins_with_slash t) LeadingSlash _ some.1 in
-    sym (ap (names_fault 0) r.1) ∙ begun.1
 
 -- A path whose text is the field.
 some_more : (p : Path) (n : Name) → not (length (p ++ n ∷ []) == 0) ≡ true

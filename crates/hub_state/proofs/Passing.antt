@@ -18,9 +18,6 @@ use Rattle.hub_state.specs.declared.form.Version.{Version}
 use Rattle.hub_state.specs.Writing.{contents_lines, state_header, end_line, replica_lines, archive_lines, blob_lines, state_files, version_of, version_lines, joined_lines, state_text}
 use Rattle.hub_state.proofs.Maps.{by_two-push, pairs-push}
 
-pub one_line : (l : List ℕ) → joined_lines (l ∷ []) ≡ l ++ 10 ∷ []
-one_line l = append-nil (l ++ 10 ∷ [])
-
 pub joined-append : (ls ks : List (List ℕ)) → joined_lines (ls ++ ks) ≡ joined_lines ls ++ joined_lines ks
 joined-append ls ks = flat_map-append (λ (l : List ℕ). l ++ 10 ∷ []) ls ks
 

@@ -1,6 +1,6 @@
 #!/usr/bin/env bash
-# Times runs of a star in memory, without reading and writing: in cycles, which take turns in one thread, by one worker, and by
-# several. They make the same steps, so the ratio of the times of several workers and of one says what threads gain or cost.
+# Times runs of a star in memory, without reading and writing: by one worker, and by several. They make the same steps, so the
+# ratio of the times of several workers and of one says what threads gain or cost.
 #
 #     bench/threads.sh [PROGRAM [REPETITIONS [WORKERS]]]
 #
@@ -12,8 +12,8 @@
 # - `new`: 32 spokes: the hub has 99,000 entries, and the spokes have none (the same aim).
 #
 # What is compared is the time from the start of a run to its last step. After that the run compares what was done, and puts the
-# outcome together, in one thread. Lines give the size of the state, and the least times in milliseconds: of cycles in all, and of
-# each number of workers to the last step and in all. The status is 1 if the state that is left is another one than `hubsync`'s
+# outcome together, in one thread. Lines give the size of the state, and the least times in milliseconds of each
+# number of workers, to the last step and in all. The status is 1 if the state that is left is another one than `hubsync`'s
 # rules say: all that the hub has, at the hub and at the spokes.
 set -euo pipefail
 export LC_ALL=C
@@ -87,8 +87,7 @@ time_once() {
         echo "$script: a wrong answer: $(head -c 200 "$folder/times")" >&2
         exit 1
     fi
-    sed -n 's/^cycles: \([0-9]*\) ms$/cycles \1000/p
-        s/^workers \([0-9]*\): \([0-9]*\) us to the last step, \([0-9]*\) us in all$/steps\1 \2\nall\1 \3/p' "$folder/times"
+    sed -n 's/^workers \([0-9]*\): \([0-9]*\) us to the last step, \([0-9]*\) us in all$/steps\1 \2\nall\1 \3/p' "$folder/times"
 }
 
 # Runs the star of that name and so many spokes again and again, and says the least times.
@@ -101,7 +100,7 @@ measure() {
         !($1 in least) || $2 < least[$1] { least[$1] = $2 }
         END {
             ratio = least["steps1"] ? sprintf("%.2f", least["steps" workers] / least["steps1"]) : "-"
-            printf "%s: %d bytes, cycles %.0f ms\n", name, bytes, least["cycles"] / 1000
+            printf "%s: %d bytes\n", name, bytes
             print_workers(1)
             print_workers(workers)
             printf "  ratio %s (aim: at most %s)\n", ratio, aim

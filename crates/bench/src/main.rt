@@ -3,7 +3,7 @@
 //! - `tree [DIRECTORIES [BYTES]]`: a replica in memory;
 //! - `walk [ROUNDS]`: a walker's steps;
 //! - `state`: reading and writing the state text on standard input;
-//! - `run [PROFILES [WORKERS]]`: the jobs of a star on that state, in cycles, by one worker and by several.
+//! - `run [PROFILES [WORKERS]]`: the jobs of a star on that state, by one worker and by several.
 //!
 //! Without a word it does a little of `tree` and `walk`, and then `run`. Standard output has what was found, which is the same
 //! each time, and standard error has the times.

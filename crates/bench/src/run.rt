@@ -1,28 +1,26 @@
-//! Runs the jobs of a star over the state text on standard input: in cycles, which take turns in one thread, then by one worker,
-//! and then by several. Standard error has the times of each run, and standard output has the text of the state that the last run
-//! leaves.
+//! Runs the jobs of a star over the state text on standard input: by one worker, and then by several. Standard error has the times
+//! of each run, and standard output has the text of the state that the last run leaves.
 //!
 //! Profile N of the star is between the roots `/srv/hub` and `/srv/spokeN`, and has the path `teamN`.
 
 use crate::profiles::profile_of;
 use crate::state;
 use crate::stopwatch::Stopwatch;
-use crate::times::{microseconds, report};
+use crate::times::microseconds;
 use anyhow::{Result, bail};
 use hub_cert::{ProfileSet, Verified};
 use hub_job::Outcome;
 use hub_profile::{Profile, Rules};
 use hub_runner::run;
-use hub_schedule::run_cycles;
 use hub_search::check;
 use hub_state::State;
 use hub_text::Items;
 use std::alloc::Global;
 use std::sync::Wait;
 use std::thread::Threads;
-use std::time::{Clock, Instant};
+use std::time::Clock;
 
-/// Runs the jobs of the star of so many profiles, in all three ways.
+/// Runs the jobs of the star of so many profiles, in both ways.
 pub(crate) fn time<R: AllocGlobal + Clock + Eprint + Input + Print + Sync + Threads + Wait>(
     rt: &R,
     count: u32,
@@ -73,22 +71,9 @@ fn run_jobs<R: AllocGlobal + Clock + Eprint + Input + Print + Sync + Threads + W
     workers: usize,
 ) -> Result<()> {
     let opening = state::read(rt)?;
-    run_in_cycles(rt, verified, &opening)?;
     drop(run_by(rt, verified, &opening, 1)?);
     let outcome = run_by(rt, verified, &opening, workers)?;
     state::write(rt, &outcome.state)
-}
-
-fn run_in_cycles<R: AllocGlobal + Clock + Eprint>(
-    rt: &R,
-    verified: &Verified<'_>,
-    opening: &State,
-) -> Result<()> {
-    let start = Instant::now(rt)?;
-    if run_cycles(rt.alloc(), verified, opening).is_err() {
-        bail!("the jobs weren't run");
-    }
-    report(rt, "cycles", start)
 }
 
 /// Runs the jobs by so many workers, and prints how long that took.

@@ -12,7 +12,6 @@ use Rattle.hub_tree.specs.Tree.{Replica}
 use Rattle.hub_tree.specs.declared.contents.Contents.{Contents}
 use Rattle.hub_state.specs.State.{State, replica_at}
 use Rattle.hub_job.specs.Outcome.{replicas_of}
-use Rattle.hub_schedule.specs.Table.{whole_cycles}
 use Rattle.hub_schedule.specs.Simulated.{AllHaveEnough, turns_enough, turns_of}
 use Rattle.std.proofs.lemmas.List.{append_assoc}
 use Rattle.std.proofs.lemmas.List.FromFn.{length-range_with_len, get_or-range_with_len}
@@ -76,9 +75,6 @@ pub record AreCycles (jobs cycles : ℕ) (schedule : List ℕ) : Type 0 where
   pub numbers : All (λ j. j < jobs) schedule
   pub counts : (j : ℕ) → j < jobs → turns_of j schedule ≡ cycles
 
-pub no_cycles : (jobs : ℕ) → AreCycles jobs 0 []
-no_cycles jobs = record { numbers = λ i d h. absurd (omega arith); counts = λ j h. refl }
-
 pub one_more : (jobs cycles : ℕ) (old new : List ℕ) → AreCycles jobs cycles old → new ≡ old ++ range_with_len 0 jobs → AreCycles jobs (cycles + 1) new
 one_more jobs cycles old new are e = record {
   numbers = subst (λ s. All (λ j. j < jobs) s) (sym e) (All-append (λ j. j < jobs) old (range_with_len 0 jobs) are.numbers (all_cycle jobs));
@@ -88,16 +84,3 @@ one_more jobs cycles old new are e = record {
 pub enough : (S : State) (Ps : List Parts) (cycles : ℕ) (schedule : List ℕ) → AreCycles (length Ps) cycles schedule
     → ((j : ℕ) (P : Parts) → slice_get Ps j ≡ Some P → turns_enough S P ≤ cycles) → AllHaveEnough S Ps schedule
 enough S Ps cycles schedule are most j P e = subst (λ n. turns_enough S P ≤ n) (sym (are.counts j (slice_get_within Ps j P e))) (most j P e)
-
--- Whole cycles.
-pub whole_below : (n cycles : ℕ) → All (λ j. j < n) (whole_cycles n cycles)
-whole_below n zero = λ i d h. absurd (omega arith)
-whole_below n (suc cycles) = All-append (λ j. j < n) (range_with_len 0 n) (whole_cycles n cycles) (all_cycle n) (whole_below n cycles)
-
-pub whole_counts : (n cycles j : ℕ) → j < n → turns_of j (whole_cycles n cycles) ≡ cycles
-whole_counts n zero j h = refl
-whole_counts n (suc cycles) j h =
-    count_both j (range_with_len 0 n) (whole_cycles n cycles) ∙ (let a = count_cycle j n h in let b = whole_counts n cycles j h in omega arith)
-
-pub whole_enough : (S : State) (Ps : List Parts) (cycles : ℕ) → ((j : ℕ) (P : Parts) → slice_get Ps j ≡ Some P → turns_enough S P ≤ cycles) → AllHaveEnough S Ps (whole_cycles (length Ps) cycles)
-whole_enough S Ps cycles most j P e = subst (λ n. turns_enough S P ≤ n) (sym (whole_counts (length Ps) cycles j (slice_get_within Ps j P e))) (most j P e)

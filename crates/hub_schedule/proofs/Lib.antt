@@ -27,5 +27,4 @@ pub mod Turning
 pub mod Places
 pub mod Marked
 pub mod InCycles
-pub mod Cycled
 pub mod EndedJobs

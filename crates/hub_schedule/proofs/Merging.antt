@@ -1,9 +1,7 @@
 -- Marks of an archive that are taken over at the paths that a profile reaches.
-use Rattle.std.proofs.Common.{◌≡◌, Bool, true, false, cond, ◌&&◌, ◌||◌, List, [], ◌∷◌, ◌++◌, map, Option, Some, None, refl, ap, sym, ◌∙◌}
+use Rattle.std.proofs.Common.{◌≡◌, Bool, true, false, cond, ◌&&◌, ◌||◌, List, [], ◌∷◌, ◌++◌, map, refl, ap, sym, ◌∙◌}
 use Rattle.std.specs.FinMap as fin
-use Rattle.std.specs.Option.{is_some, unwrap_or}
 use Rattle.std.specs.Ordering.{eq_by_cmp}
-use Rattle.std.proofs.lemmas.Bool.{false≢true}
 use Rattle.std.proofs.lemmas.List.{map-append}
 use Rattle.std.proofs.lemmas.List.Folds.{list_any-append}
 use Rattle.hub_path.specs.Path.{Path, path_eq, path_cmp}
@@ -73,26 +71,3 @@ pub taken_all : (P : Parts) (next paths old new : Archive) (es : List (Path × M
 taken_all P next paths old new es all taken p =
     taken p
     ∙ ap (λ b. cond (b && reach P p) (old_mark_at next p) (old_mark_at old p)) (ap (λ (es : List (Path × Mark)). among p (paths_of es)) all ∙ sym (fin.contains_key-keys paths p))
-
--- A path that isn't there has no mark.
-not_there : (a : Archive) (p : Path) (o : Option Mark) → fin.get a p ≡ o → fin.contains_key a p ≡ false → old_mark_at a p ≡ mark.Absent
-not_there a p None e h = ap (λ o. unwrap_or o mark.Absent) e
-not_there a p (Some m) e h = absurd (false≢true (sym h ∙ ap is_some e))
-
--- The marks of two archives' paths, one after the other.
-two : (r a b : Bool) (x y : Mark) → (b ≡ false → x ≡ mark.Absent) → (a ≡ false → y ≡ mark.Absent) → cond (b && r) x (cond (a && r) x y) ≡ cond r x y
-two true true true x y f g = refl
-two true true false x y f g = refl
-two true false true x y f g = refl
-two true false false x y f g = g refl ∙ sym (f refl)
-two false true true x y f g = refl
-two false true false x y f g = refl
-two false false true x y f g = refl
-two false false false x y f g = refl
-
-pub both_taken : (P : Parts) (next current first second : Archive) → ((p : Path) → old_mark_at first p ≡ cond (has_mark current p && reach P p) (old_mark_at next p) (old_mark_at current p))
-    → ((p : Path) → old_mark_at second p ≡ cond (has_mark next p && reach P p) (old_mark_at next p) (old_mark_at first p)) → (p : Path) → old_mark_at second p ≡ cond (reach P p) (old_mark_at next p) (old_mark_at current p)
-both_taken P next current first second f g p =
-    g p
-    ∙ (ap (cond (has_mark next p && reach P p) (old_mark_at next p)) (f p)
-    ∙ two (reach P p) (has_mark current p) (has_mark next p) (old_mark_at next p) (old_mark_at current p) (not_there next p (fin.get next p) refl) (not_there current p (fin.get current p) refl))

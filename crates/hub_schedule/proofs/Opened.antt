@@ -3,7 +3,6 @@ use Rattle.std.proofs.Common.{◌≡◌, ◌≢◌, ◌⊎◌, inl, inr, ⊎_eli
 use Rattle.std.specs.Prelude.{ℕ, slice_get}
 use Rattle.std.specs.List.{list_any}
 use Rattle.std.proofs.lemmas.List.{length-map}
-use Rattle.std.proofs.lemmas.Option.{none-some}
 use Rattle.hub_text.specs.ListLaws.{snoc-cases}
 use Rattle.hub_path.specs.Path.{Path}
 use Rattle.hub_path.specs.declared.side.Side.{Side}
@@ -32,13 +31,6 @@ pub record AreOpened (S : State) (Ps : List Parts) (slots : List Slot) (trees : 
   pub each : (j : ℕ) (s : Slot) → slice_get slots j ≡ Some s → (P : Parts) × (slice_get Ps j ≡ Some P) × IsOpened S trees j P s
   pub replicas : AreTrees (replicas_of S) trees
   pub roots : (k : ℕ) (t : WorkingTree) → slice_get trees k ≡ Some t → list_any (λ P. has_root P t.root.now) Ps ≡ true
-
-pub opened_none : (S : State) (Ps : List Parts) → AreOpened S Ps [] []
-opened_none S Ps = record {
-  each = λ j s e. absurd (none-some s e);
-  replicas = record { each = λ k t e. absurd (none-some t e); once = λ i k t u e f h. absurd (none-some t e) };
-  roots = λ k t e. absurd (none-some t e);
-}
 
 -- One more at the end.
 pub get_push : {X : Type 0} (Q : ℕ → X → Type 0) (xs : List X) (x : X) → ((j : ℕ) (y : X) → slice_get xs j ≡ Some y → Q j y) → Q (length xs) x → (j : ℕ) (y : X) → slice_get (xs ++ x ∷ []) j ≡ Some y → Q j y

@@ -18,7 +18,7 @@ use Rattle.hub_job.specs.Phase.{asked_by}
 use Rattle.hub_job.specs.World.{World, Jobs, act, turn}
 use Rattle.hub_schedule.specs.declared.slot.Slot.{Slot}
 use Rattle.hub_schedule.specs.declared.slot.WorkingTree.{WorkingTree}
-use Rattle.hub_schedule.specs.Table.{place_on, with_job, with_tree_after, stopped_at, AllWouldAsk, IsIdle, ShowsWorld, AreTreeNumbers, StayStopped, WouldAsk}
+use Rattle.hub_schedule.specs.Table.{place_on, with_job, with_tree_after, stopped_at, AllWouldAsk, ShowsWorld, AreTreeNumbers, StayStopped, WouldAsk}
 use Rattle.hub_schedule.specs.Laws.Lists.{set_there, each_set}
 use Rattle.hub_schedule.proofs.Tables.{SameSlot, table_same, table_turn, turn_is}
 
@@ -70,13 +70,6 @@ module _ (J : Jobs) (w : World) (slots : List Slot) (trees : List WorkingTree) (
   idle none =
       table_same J w (cond (stopped_at (slice_set slots j t) j) w (turn J j w)) slots trees j s t table is turned (ap (λ (v : Slot). v.job.log) slot)
       (same_world none t.job.stopped refl ∙ ap (λ b. cond b w (turn J j w)) (sym (stopped_is slots j s t is)))
-
-  rests_by : asked_by n ≡ None → (b : Bool) → t.job.stopped ≡ b → IsIdle J w (slice_set slots j t) j
-  rests_by none true e = inl (stopped_is slots j s t is ∙ e)
-  rests_by none false e = inr (sym (same_world none false e))
-
-  pub rests : asked_by n ≡ None → IsIdle J w (slice_set slots j t) j
-  rests none = rests_by none t.job.stopped refl
 
   -- A turn in which it is answered, or finds no memory.
   module _ (side : Side) (op : Op) (asks : n ≡ Ask side op) (going : t.job.stopped ≡ false) (t2 : Slot) (k : ℕ) (u u2 : WorkingTree) (place : k ≡ place_on s side) (at : slice_get trees k ≡ Some u)

@@ -40,7 +40,3 @@ IsUnrun S Ps js fault.OutOfMemory = Unit {0}
 -- Nothing is missing, and each turn names a job.
 abbrev pub IsRunnable : State → List Parts → List ℕ → Type 0
 IsRunnable S Ps js = (first_missing S Ps ≡ None) × IsFirstBad js (length Ps) None
-
--- The fault names the first root that has no replica.
-abbrev pub LacksReplica : State → List Parts → RunFault → Type 0
-LacksReplica S Ps e = (r : Path) × (first_missing S Ps ≡ Some r) × (e ≡ fault.MissingReplica r)

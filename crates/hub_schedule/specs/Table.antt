@@ -1,6 +1,6 @@
 -- Jobs and replicas that a schedule works on, against the world that they stand for.
-use Rattle.std.specs.Prelude.{◌≡◌, ◌≢◌, ◌≤◌, ◌<◌, ◌⊎◌, ◌==◌, ◌++◌, ℕ, zero, suc, Bool, true, false, List, [], length, slice_get, count_by, Some}
-use Rattle.std.specs.List.{list_any, range_with_len}
+use Rattle.std.specs.Prelude.{◌≡◌, ◌≢◌, ◌≤◌, ◌<◌, ◌⊎◌, ◌==◌, ℕ, Bool, true, false, List, length, slice_get, count_by, Some}
+use Rattle.std.specs.List.{list_any}
 use Rattle.hub_path.specs.Path.{Path}
 use Rattle.hub_path.specs.declared.side.Side.{Side}
 use Rattle.hub_path.specs.declared.side.Side.TheVariants.{Left, Right}
@@ -11,7 +11,7 @@ use Rattle.hub_job.specs.declared.job_end.End.TheVariants as end
 use Rattle.hub_job.specs.declared.job_end.JobEnd.{JobEnd}
 use Rattle.hub_job.specs.declared.op.Next.TheVariants.{Finished, Stopped}
 use Rattle.hub_job.specs.Job.{is_ask, next, steps_made}
-use Rattle.hub_job.specs.Outcome.{archive_of, jobs_of, IsOutcomeWith, IsSimulated}
+use Rattle.hub_job.specs.Outcome.{archive_of, jobs_of, IsOutcomeWith}
 use Rattle.hub_schedule.specs.Promise.{HasReplicas}
 use Rattle.hub_reach.specs.Reach.{has_root}
 use Rattle.hub_tree.specs.Tree.{Replica, Archive}
@@ -19,7 +19,7 @@ use Rattle.hub_schedule.specs.declared.slot.Slot.{Slot}
 use Rattle.hub_schedule.specs.declared.slot.WorkingTree.{WorkingTree}
 use Rattle.hub_job.specs.JobValue.{JobValue, new_job}
 use Rattle.hub_job.specs.Run.{root_at}
-use Rattle.hub_job.specs.World.{World, Jobs, log_of, run, turn, first_turns}
+use Rattle.hub_job.specs.World.{World, Jobs, log_of, run, first_turns}
 
 abbrev pub place_on : Slot → Side → ℕ
 place_on s Left = s.left
@@ -125,22 +125,6 @@ Taken slots trees schedule slots_now trees_now rest =
     × ((u : World) (after : ℕ → Bool) → IsThinned J v u rest (stopped_at slots_now) after
     → IsThinned J w u schedule (stopped_at slots) after)
 
--- So many cycles, in each of which each job has one turn.
-abbrev pub whole_cycles : ℕ → ℕ → List ℕ
-whole_cycles jobs zero = []
-whole_cycles jobs (suc cycles) = range_with_len 0 jobs ++ whole_cycles jobs cycles
-
--- A turn of the job changes nothing: it is stopped, or finished.
-abbrev pub IsIdle : Jobs → World → List Slot → ℕ → Type 0
-IsIdle J w slots j = (stopped_at slots j ≡ true) ⊎ (turn J j w ≡ w)
-
--- The jobs and replicas stand for the same world as before, and a turn of any of the first jobs
--- changes nothing in it.
-abbrev pub StayIdle : ℕ → List Slot → List WorkingTree → List Slot → List WorkingTree → Type 0
-StayIdle n slots trees slots_now trees_now =
-    (J : Jobs) (w : World) → ShowsWorld J w slots trees → ShowsWorld J w slots_now trees_now
-    × ((j : ℕ) → j < n → IsIdle J w slots_now j)
-
 -- The outcome of each world that these jobs and replicas stand for; and a job ends as stopped if it
 -- was stopped, or if an answer in its log stops it. A job that was stopped would have asked for
 -- another step, if that is so of all of these.
@@ -156,7 +140,3 @@ IsOutcomeAfter S slots trees o =
     → next P (archive_of S (Some P)) e.log ≢ Stopped
     → (stopped_at slots j ≡ true)
     × (AllWouldAsk slots → 0 < steps_made e.log → next P (archive_of S (Some P)) e.log ≢ Finished))
-
--- The outcome is that of some number of whole cycles.
-abbrev pub IsInCycles : State → List Parts → Outcome → Type 0
-IsInCycles S Ps o = (cycles : ℕ) × IsSimulated S Ps (whole_cycles (length Ps) cycles) o

@@ -1,48 +1,15 @@
 //! Schedules of cycles.
-ghost use Rattle.std.specs.Prelude.{◌≡◌, ◌≤◌, ◌<◌, ◌⊎◌, map, IfErr, ℕ, All, Some, IfSome, length, slice_get, ◌++◌, IfOk, OnOk};
+ghost use Rattle.std.specs.Prelude.{◌≡◌, ◌≤◌, ◌<◌, ℕ, All, Some, IfSome, length, slice_get, ◌++◌, IfOk, OnOk};
 ghost use Rattle.std.specs.List.{range_with_len};
 ghost use Rattle.std.specs.FinMap as fin;
 ghost use Rattle.hub_profile.specs.Parts.{Parts};
 ghost use Rattle.hub_job.specs.Outcome.{replicas_of};
-ghost use Rattle.hub_cert.specs.Set.{forbidden_by};
-ghost use Rattle.hub_schedule.specs.Refusals.{LacksReplica};
-ghost use Rattle.hub_schedule.specs.Simulated.{AllHaveEnough, HaveEnded, IsPromised, turns_enough};
-ghost use Rattle.hub_schedule.specs.Table.{IsInCycles};
+ghost use Rattle.hub_schedule.specs.Simulated.{AllHaveEnough, turns_enough};
 
-use crate::promise::{schedules_give_logs_alone, schedules_keep_the_promise, schedules_settle};
-use crate::schedule::simulate_cycles;
-use hub_cert::Verified;
-use hub_job::{Outcome, RunFault};
 use hub_path::Root;
 use hub_profile::Profile;
 use hub_state::State;
 use std::alloc::{AllocError, Global};
-
-/// Runs the jobs of a set in cycles, until each of them is finished or stopped.
-///
-/// The fault is `MissingReplica` with the first root that the state has no replica for, in the order of the profiles, the
-/// left root of each first; or `OutOfMemory`, which may come at any point.
-pub fn run_cycles(
-    alloc: Global,
-    verified: &Verified<'_>,
-    state: &State,
-) -> Result<Outcome, RunFault>
-    ensures promise { IfOk result (IsPromised state.now verified.now.profiles
-        (map forbidden_by verified.now.rules)) }
-    ensures ended { IfOk result (λ o. HaveEnded o.jobs) }
-    ensures cycles { IfOk result (IsInCycles state.now verified.now.profiles) }
-    ensures refused { IfErr result (λ e. (e ≡ RunFault.OutOfMemory) ⊎ LacksReplica state.now
-        verified.now.profiles e) }
-{
-    schedules_give_logs_alone();
-    schedules_keep_the_promise();
-    schedules_settle();
-    let profiles = verified.set().profiles();
-    let Some(cycles) = most_turns(profiles, state) else {
-        return Err(RunFault::OutOfMemory);
-    };
-    simulate_cycles(alloc, profiles, state, cycles)
-}
 
 /// A schedule of cycles: in each of them each job has one turn, in the order of the profiles. There are as many cycles as
 /// a synchronization of any of the profiles can take: four for each kept value, and three for each entry of the

@@ -2,7 +2,7 @@
 //!
 //! [`simulate`] runs them. Its contract is the promise of a safe set: in whatever order the jobs take turns, each of them does
 //! what it does alone. The laws of [`promise`] and [`together`] say so of every history of the replicas. No crate above calls
-//! [`simulate`], [`simulate_jobs`], [`run_cycles`] and [`cycles_for`]: they are for tests and other programs.
+//! [`simulate`], [`simulate_jobs`] and [`cycles_for`]: they are for tests and other programs.
 //!
 //! ```rust
 //! let left = simulate_jobs(alloc, set.profiles(), state, schedule.as_slice());
@@ -23,7 +23,7 @@ mod slots;
 pub mod together;
 mod turn;
 
-pub use cycles::{cycles_for, run_cycles};
+pub use cycles::cycles_for;
 pub use ended::outcome_of_jobs;
 pub use refusals::find_missing;
 pub use safe::simulate;

@@ -3,7 +3,7 @@ ghost use Rattle.std.specs.Prelude.{◌≡◌, ◌<◌, All, map, length, IfOk, 
 ghost use Rattle.hub_job.specs.Outcome.{IsSimulated};
 ghost use Rattle.hub_job.specs.World.{Jobs, World};
 ghost use Rattle.hub_schedule.specs.Left.{end_value};
-ghost use Rattle.hub_schedule.specs.Table.{IsOutcomeAfter, ShowsWorld, whole_cycles};
+ghost use Rattle.hub_schedule.specs.Table.{IsOutcomeAfter, ShowsWorld};
 ghost use Rattle.hub_schedule.specs.Promise.{HasReplicas};
 ghost use Rattle.hub_state.specs.State.{IsState};
 ghost use Rattle.hub_schedule.specs.Refusals.{IsRunnable, IsUnrun};
@@ -12,7 +12,7 @@ use crate::ends::{end_jobs, put_archives, put_trees};
 use crate::refusals::{find_bad_turn, find_missing};
 use crate::slot::{Slot, WorkingTree};
 use crate::slots::slots_for;
-use crate::turn::{take_cycles, take_turns};
+use crate::turn::take_turns;
 use hub_job::{Outcome, RunFault};
 use hub_profile::Profile;
 use hub_state::State;
@@ -39,27 +39,6 @@ pub fn simulate_jobs(
     Ok(run_schedule(alloc, profiles, state, schedule)?)
 }
 
-/// Runs the jobs of profiles in cycles, as many as there may be, whether the profiles are a safe set or not.
-pub(crate) fn simulate_cycles(
-    alloc: Global,
-    profiles: &[Profile],
-    state: &State,
-    cycles: u64,
-) -> Result<Outcome, RunFault>
-    ensures world { IfOk result
-        (IsSimulated state.now profiles.now (whole_cycles (length profiles.now) cycles)) }
-    ensures run { IfOk result
-        (λ o. IsRunnable state.now profiles.now (whole_cycles (length profiles.now) cycles)) }
-    ensures refused { IfErr result
-        (IsUnrun state.now profiles.now (whole_cycles (length profiles.now) cycles)) }
-    ensures valid { 0 < length profiles.now → IsState state.now }
-{
-    if let Some(root) = find_missing(profiles, state) {
-        return Err(RunFault::MissingReplica { root: root.copy()? });
-    }
-    Ok(run_in_cycles(alloc, profiles, state, cycles)?)
-}
-
 /// Runs the jobs of profiles by a schedule whose turns are all theirs.
 fn run_schedule(
     alloc: Global,
@@ -73,22 +52,6 @@ fn run_schedule(
 {
     let (mut slots, mut trees) = slots_for(alloc, profiles, state)?;
     take_turns(alloc, &mut slots, &mut trees, schedule);
-    outcome_of(alloc, state, slots, trees)
-}
-
-/// Runs the jobs of profiles in cycles.
-fn run_in_cycles(
-    alloc: Global,
-    profiles: &[Profile],
-    state: &State,
-    cycles: u64,
-) -> Result<Outcome, AllocError>
-    requires { HasReplicas state.now profiles.now }
-    ensures { IfOk result
-        (IsSimulated state.now profiles.now (whole_cycles (length profiles.now) cycles)) }
-{
-    let (mut slots, mut trees) = slots_for(alloc, profiles, state)?;
-    take_cycles(alloc, &mut slots, &mut trees, cycles);
     outcome_of(alloc, state, slots, trees)
 }
 

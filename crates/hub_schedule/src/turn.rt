@@ -1,9 +1,8 @@
 //! Turns of jobs on shared replicas.
-ghost use Rattle.std.specs.Prelude.{◌≡◌, ◌<◌, ◌++◌, ℕ, List, true, false, length, Some, All, if◌then◌else◌};
-ghost use Rattle.std.specs.List.{range_with_len};
+ghost use Rattle.std.specs.Prelude.{◌≡◌, ◌<◌, ℕ, true, false, length, Some, All, if◌then◌else◌};
 ghost use Rattle.hub_job.specs.JobValue as value;
 ghost use Rattle.hub_job.specs.Machine as machine;
-ghost use Rattle.hub_schedule.specs.Table.{AllWouldAsk, AreTreeNumbers, HaveTurned, IsIdle, ShowsWorld, StayIdle, StayStopped, Taken, stopped_at, whole_cycles, with_job, with_tree_after};
+ghost use Rattle.hub_schedule.specs.Table.{AllWouldAsk, AreTreeNumbers, HaveTurned, ShowsWorld, StayStopped, stopped_at, with_job, with_tree_after};
 ghost use Rattle.hub_job.specs.World.{Jobs, World, turn};
 
 use crate::slot::{Slot, WorkingTree};
@@ -29,55 +28,14 @@ pub(crate) fn take_turns(
     }
 }
 
-/// Lets the jobs take turns in cycles, at most so many: in each cycle each job has one turn, in the order of their numbers.
-/// It ends after a cycle in which no job asks, since none would ask later.
-pub(crate) fn take_cycles(
-    alloc: Global,
-    slots: &mut Vec<Slot<'_>>,
-    trees: &mut Vec<WorkingTree<'_>>,
-    cycles: u64,
-)
-    requires { AreTreeNumbers slots.old.items trees.old.items }
-    ensures turns { HaveTurned slots.old.items trees.old.items
-        (whole_cycles (length slots.old.items) cycles) slots.new.items trees.new.items }
-    ensures more { AllWouldAsk slots.old.items → AllWouldAsk slots.new.items }
-{
-    for _ in 0..cycles {
-        if !take_cycle(alloc, slots, trees) {
-            return;
-        }
-    }
-}
-
-/// Lets each job take a turn, in the order of their numbers. It returns whether one of them asked.
-fn take_cycle(alloc: Global, slots: &mut Vec<Slot<'_>>, trees: &mut Vec<WorkingTree<'_>>) -> bool
-    requires { AreTreeNumbers slots.old.items trees.old.items }
-    ensures taken { (more : List ℕ) → Taken slots.old.items trees.old.items
-        (range_with_len 0 (length slots.old.items) ++ more) slots.new.items trees.new.items more }
-    ensures idle { result ≡ false → StayIdle (length slots.old.items)
-        slots.old.items trees.old.items slots.new.items trees.new.items }
-    ensures stays { StayStopped (stopped_at slots.old.items) (stopped_at slots.new.items) }
-    ensures placed { AreTreeNumbers slots.new.items trees.new.items }
-    ensures count { length slots.new.items ≡ length slots.old.items }
-    ensures more { AllWouldAsk slots.old.items → AllWouldAsk slots.new.items }
-{
-    let mut asked = false;
-    for number in 0..slots.len() {
-        if take_turn(alloc, slots, trees, number) {
-            asked = true;
-        }
-    }
-    asked
-}
-
-/// Lets a job take a turn, and returns whether it asked. If it finds no memory, it is stopped and has done nothing. A
-/// finished job that has made a step isn't stopped.
+/// Lets a job take a turn. If it finds no memory, it is stopped and has done nothing. A finished job that has made a step
+/// isn't stopped.
 fn take_turn(
     alloc: Global,
     slots: &mut Vec<Slot<'_>>,
     trees: &mut Vec<WorkingTree<'_>>,
     number: usize,
-) -> bool
+)
     requires placed { AreTreeNumbers slots.old.items trees.old.items }
     requires number { number < length slots.old.items }
     ensures turn { (J : Jobs) (w : World) → ShowsWorld J w slots.old.items trees.old.items
@@ -86,9 +44,6 @@ fn take_turn(
     ensures stays { StayStopped (stopped_at slots.old.items) (stopped_at slots.new.items) }
     ensures others { (j : ℕ) → stopped_at slots.new.items j ≡ true
         → stopped_at slots.old.items j ≡ false → j ≡ number }
-    ensures idle { result ≡ false → (J : Jobs) (w : World)
-        → ShowsWorld J w slots.old.items trees.old.items
-        → IsIdle J w slots.new.items number }
     ensures placed { AreTreeNumbers slots.new.items trees.new.items }
     ensures count { length slots.new.items ≡ length slots.old.items }
     ensures more { AllWouldAsk slots.old.items → AllWouldAsk slots.new.items }
@@ -97,9 +52,7 @@ fn take_turn(
     if let Next::Ask(side, op) = slot.job.turn() {
         let place = slot.place(side);
         answer(alloc, slot, &mut trees[place], side, &op);
-        return true;
     }
-    false
 }
 
 /// Gives a job the answer of a replica. If there is no memory, the job is stopped, and the replica is as it was.

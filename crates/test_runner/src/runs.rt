@@ -8,7 +8,7 @@ use anyhow::{Result, bail};
 use hub_cert::{ProfileSet, Verified};
 use hub_history::Gate;
 use hub_runner::run;
-use hub_schedule::run_cycles;
+use hub_schedule::{cycles_for, simulate};
 use hub_state::State;
 use std::alloc::Global;
 use std::sync::Wait;
@@ -193,7 +193,8 @@ impl<'a, 's, R: Threads + Wait + Sync> Jobs<'a, 's, R> {
 impl<'a, 's, R> Jobs<'a, 's, R> {
     /// What the jobs leave in cycles.
     fn cycles_text(&self) -> Result<String> {
-        let left = run_cycles(self.alloc, self.verified, self.state);
+        let cycles = cycles_for(self.alloc, self.verified.set().profiles(), self.state)?;
+        let left = simulate(self.alloc, self.verified, self.state, cycles.as_slice());
         match &left {
             Ok(outcome) => outcome_text(self.alloc, outcome),
             Err(_) => bail!("the cycles aren't run"),

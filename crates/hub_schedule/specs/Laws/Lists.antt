@@ -1,5 +1,5 @@
 -- Elements of lists.
-use Rattle.std.proofs.Common.{◌≡◌, ◌≢◌, ◌<◌, inl, inr, List, [], ◌∷◌, length, Some, refl, ap, sym, ◌∙◌, subst, ◌≤◌, ◌+◌, drop, arith, Bool, true, false, ◌||◌, map}
+use Rattle.std.proofs.Common.{◌≡◌, ◌≢◌, ◌<◌, inl, inr, List, [], ◌∷◌, length, Some, refl, ap, sym, ◌∙◌, subst, ◌+◌, drop, Bool, true, false, ◌||◌, map}
 use Rattle.std.specs.Prelude.{ℕ, zero, suc, slice_get, slice_set}
 use Rattle.std.specs.List.{list_any}
 use Rattle.std.proofs.lemmas.Bool.{cases_eq, false≢true, or_left, or_right}
@@ -29,12 +29,6 @@ each_set Q xs j x y is here there i z e =
           ∙ (ap (slice_get (slice_set xs j y)) (sym same) ∙ e))) here)
       | inr off ↦ there i z off (sym (set_there xs i j y off) ∙ e)
     ]
-
-pub all_before : {X : Type 0} (Q : X → Type 0) (xs : List X) (n : ℕ) → length xs ≤ n
-    → ((k : ℕ) (y : X) → k < n → slice_get xs k ≡ Some y → Q y) → (k : ℕ) (y : X)
-    → slice_get xs k ≡ Some y → Q y
-all_before Q xs n all before k y e =
-    let h : k < length xs = slice_get_within xs k y e in before k y (omega (arith, h, all)) e
 
 pub drop_at : {X : Type 0} (xs : List X) (n : ℕ) (x : X) → slice_get xs n ≡ Some x
     → drop n xs ≡ x ∷ drop (n + 1) xs

@@ -3,7 +3,7 @@ use Rattle.std.proofs.lemmas.Bool.{false≢true}
 use Rattle.std.proofs.lemmas.Option.{slice_get_read}
 use Rattle.hub_schedule.specs.declared.slot.Slot.{Slot}
 use Rattle.hub_schedule.specs.Table.{place_on, with_job}
-use Rattle.hub_schedule.proofs.Turning.{answer_asks, asks_going, busy, idle, no_other_stopped, not_asked, place_same, rests, same_places, stay_stopped, still_placed, turn_asks, would_ask}
+use Rattle.hub_schedule.proofs.Turning.{answer_asks, asks_going, busy, idle, no_other_stopped, not_asked, place_same, same_places, stay_stopped, still_placed, turn_asks, would_ask}
 use Rattle.hub_schedule.proofs.turn.take_turn.Goals as goal
 
 pub index_mut-requires : goal.index_mut-requires
@@ -40,7 +40,6 @@ returns-in-Ask c =
           c.answer.ensures.lost c.answer.ensures.made;
       stays = stay_stopped slots j s v at (λ h. absurd (false≢true (sym going ∙ c.turn.ensures.stays h)));
       others = λ i h e. no_other_stopped slots j v i h e;
-      idle = λ e. absurd (false≢true (sym e));
       placed = λ i x b e. subst (λ (m : ℕ). place_on x b < m) (sym (length-set trees k c.answer.new.replica)) (kept i x b e);
       count = length-set slots j v;
       more = would_ask slots j s v at
@@ -48,8 +47,8 @@ returns-in-Ask c =
           (λ h. ap (λ (x : Slot). x.job) (c.answer.ensures.lost h).0));
     }
 
-pub returns : goal.returns
-returns c =
+pub returns-in_default : goal.returns-in_default
+returns-in_default c =
     let slots = c.args.slots.now.items in
     let trees = c.args.trees.now.items in
     let j = c.args.number in
@@ -61,8 +60,6 @@ returns c =
           idle J w slots trees table j s t c.turn.result at (ap (with_job s) c.turn.ensures.after) c.turn.ensures.next (not_asked c.turn.result c.in_default.not-Ask);
       stays = stay_stopped slots j s t at c.turn.ensures.stays;
       others = λ i h e. no_other_stopped slots j t i h e;
-      idle = λ e J w table.
-          rests J w slots trees table j s t c.turn.result at (ap (with_job s) c.turn.ensures.after) c.turn.ensures.next (not_asked c.turn.result c.in_default.not-Ask);
       placed = still_placed slots trees j s t at (place_same s c.turn.new.self) c.requires.placed;
       count = length-set slots j t;
       more = would_ask slots j s t at (turn_asks s.job c.turn.new.self c.turn.result c.turn.ensures.after c.turn.ensures.memory);

@@ -17,9 +17,10 @@ use Rattle.hub_rounds.specs.Lines.{subject_of}
 use Rattle.hub_rounds.specs.declared.placing.Obstacle.TheVariants.{Breach, TooLarge}
 use Rattle.hub_rounds.specs.declared.subject.Subject.{Subject}
 use Rattle.hub_rounds.specs.declared.subject.Subject.TheVariants as subject
+use Rattle.hub_report.specs.Pairs.{are_joined}
 use Rattle.hub_report.specs.Refusal.{joined, name_at, path_text, text_of_root}
 use Rattle.hub_report.specs.Undecided.{undecided_in}
-use Rattle.hub_report.specs.declared.undecided.Pair.{Pair}
+use Rattle.hub_report.specs.declared.pair.Pair.{Pair}
 
 -- A backslash or a quote.
 abbrev pub needs_backslash : ℕ → Bool
@@ -138,15 +139,6 @@ overlap_edge Ps p path =
 -- The dashed line of two profiles of which it is too large to decide whether they clash.
 abbrev pub undecided_line : List Parts → Pair → List ℕ
 undecided_line Ps p = dashed_edge (name_shown Ps p.writer) (name_shown Ps p.other)
-
--- They are the same two profiles, in either order.
-abbrev pub is_same : Pair → Pair → Bool
-is_same q p =
-    (q.writer == p.writer && q.other == p.other) || (q.writer == p.other && q.other == p.writer)
-
--- Two profiles are joined, if these are.
-abbrev pub are_joined : List Pair → Pair → Bool
-are_joined ps p = list_any (λ q. is_same q p) ps
 
 -- Which are joined after a line for two profiles: two that are joined get no second line.
 abbrev pub joined_after : List Pair → Option Pair → List Pair

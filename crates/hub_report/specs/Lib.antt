@@ -1,4 +1,5 @@
 pub mod Blocks
+pub mod Pairs
 pub mod Refusal
 pub mod Run
 pub mod Jobs

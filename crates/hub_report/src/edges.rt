@@ -1,11 +1,13 @@
 //! The lines of a graph that join profiles.
 ghost use Rattle.std.specs.Prelude.{◌≡◌, ◌++◌, not, string_bytes, IfOk, OnOk, Some};
 ghost use Rattle.hub_report.specs.Graph as graph;
+ghost use Rattle.hub_report.specs.Pairs as pairs;
 
 use crate::graph::{escaped, push_edge};
+use crate::pair::{Pair, are_joined};
 use crate::parts::push_all;
 use crate::refusal::name_at;
-use crate::undecided::{Pair, undecided_in};
+use crate::undecided::undecided_in;
 use hub_cert::CheckFault;
 use hub_path::RelPath;
 use hub_profile::Profile;
@@ -121,7 +123,7 @@ fn push_dashed_line(
 
 /// Joins two profiles. Returns whether they weren't joined before.
 fn join(joined: &mut Vec<Pair>, pair: Pair) -> Result<bool, AllocError>
-    ensures new { IfOk result (λ b. b ≡ not (graph.are_joined joined.old.items pair)) }
+    ensures new { IfOk result (λ b. b ≡ not (pairs.are_joined joined.old.items pair)) }
     ensures joined { OnOk result (joined.new.items
         ≡ graph.joined_after joined.old.items (Some pair)) }
 {
@@ -131,26 +133,6 @@ fn join(joined: &mut Vec<Pair>, pair: Pair) -> Result<bool, AllocError>
         joined.push(pair)?;
         Ok(true)
     }
-}
-
-/// Returns whether two profiles are joined.
-fn are_joined(joined: &[Pair], pair: Pair) -> bool
-    ensures { result ≡ graph.are_joined joined.now pair }
-{
-    for own in joined {
-        if is_same(*own, pair) {
-            return true;
-        }
-    }
-    false
-}
-
-/// Returns whether these are the same two profiles, in either order.
-fn is_same(own: Pair, pair: Pair) -> bool
-    ensures { result ≡ graph.is_same own pair }
-{
-    (own.writer == pair.writer && own.other == pair.other)
-        || (own.writer == pair.other && own.other == pair.writer)
 }
 
 /// Adds the red line of two profiles that clash, with a path that shows it.

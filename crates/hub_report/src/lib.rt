@@ -39,6 +39,7 @@ mod faults;
 mod faulty_input;
 mod graph;
 mod jobs;
+mod pair;
 mod parts;
 mod reach_answer;
 mod refusal;

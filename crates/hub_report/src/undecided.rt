@@ -2,6 +2,7 @@
 ghost use Rattle.std.specs.Prelude.{◌≡◌, ◌++◌, IfOk, OnOk, string_bytes};
 ghost use Rattle.hub_report.specs.Undecided as lines;
 
+use crate::pair::{Pair, are_joined};
 use crate::parts::push_all;
 use crate::refusal::name_at;
 use hub_cert::{CheckFault, Goal, ProfileSet};
@@ -9,15 +10,11 @@ use hub_profile::Profile;
 use hub_rounds::Clashes;
 use std::alloc::{AllocError, Global};
 
-/// Two profiles, by their numbers.
-#[derive(Clone, Copy)]
-pub(crate) struct Pair {
-    pub(crate) writer: usize,
-    pub(crate) other: usize,
-}
+/// The most pairs of profiles that have a line of their own (this project's choice).
+pub const NAMED: usize = 4;
 
 /// Lines for standard error: the two profiles of each clash that was too large to be searched, who writes and who reaches, in
-/// the order of the goals. Two that the line before names are not named again.
+/// the order of the goals. No two profiles are named twice. The first `NAMED` pairs have a line each, and all others one line.
 pub fn undecided_pairs(
     alloc: Global,
     set: &ProfileSet,
@@ -29,11 +26,9 @@ pub fn undecided_pairs(
     let profiles = set.profiles();
     let faults = clashes.lines();
     let mut text = String::new(alloc);
-    let mut last = None;
+    let mut told = Vec::new(alloc);
     for fault in faults {
-        let pair = undecided_in(fault);
-        push_new(&mut text, profiles, last, pair)?;
-        last = last_of(last, pair);
+        push_new(&mut text, &mut told, profiles, undecided_in(fault))?;
     }
     Ok(text)
 }
@@ -58,45 +53,53 @@ fn pair_of(goal: Goal) -> Option<Pair>
     }
 }
 
-/// Which two are named last, after these.
-fn last_of(last: Option<Pair>, pair: Option<Pair>) -> Option<Pair>
-    ensures { result ≡ lines.last_of last pair }
-{
-    match pair {
-        Some(pair) => Some(pair),
-        None => last,
-    }
-}
-
-/// Adds the line of two profiles, if there are any and they aren't named last.
+/// Adds the line of two profiles below those of others, if there are any and they get one.
 fn push_new(
     text: &mut String,
+    told: &mut Vec<Pair>,
     profiles: &[Profile],
-    last: Option<Pair>,
     pair: Option<Pair>,
 ) -> Result<(), AllocError>
-    ensures { OnOk result (string_bytes text.new
-        ≡ string_bytes text.old ++ lines.new_line profiles.now last pair) }
+    ensures text { OnOk result (string_bytes text.new
+        ≡ string_bytes text.old ++ lines.new_line profiles.now told.old.items pair) }
+    ensures told { OnOk result (told.new.items ≡ lines.told_after told.old.items pair) }
 {
-    match pair {
-        Some(pair) => {
-            if is_named(last, pair) {
-                Ok(())
-            } else {
-                push_pair(text, profiles, pair)
-            }
-        }
-        None => Ok(()),
+    let Some(pair) = pair else {
+        return Ok(());
+    };
+    if is_new(told.as_slice(), pair) {
+        push_line(text, profiles, told.len(), pair)?;
+        told.push(pair)?;
     }
+    Ok(())
 }
 
-/// Returns whether these two are named last.
-fn is_named(last: Option<Pair>, pair: Pair) -> bool
-    ensures { result ≡ lines.was_named last pair }
+/// Returns whether two profiles get a line, where these have one.
+fn is_new(told: &[Pair], pair: Pair) -> bool
+    ensures { result ≡ lines.is_new told.now pair }
 {
-    match last {
-        Some(own) => own.writer == pair.writer && own.other == pair.other,
-        None => false,
+    if told.len() > NAMED {
+        return false;
+    }
+    !are_joined(told, pair)
+}
+
+/// Adds the line of two profiles below so many others: it names them, or says that there are others.
+fn push_line(
+    text: &mut String,
+    profiles: &[Profile],
+    number: usize,
+    pair: Pair,
+) -> Result<(), AllocError>
+    ensures { OnOk result (string_bytes text.new
+        ≡ string_bytes text.old ++ lines.line_after profiles.now number pair) }
+{
+    if number < NAMED {
+        push_pair(text, profiles, pair)
+    } else {
+        text.push_str(
+            "hubsync: too large to decide for others, too: clashes --dot draws all of them\n",
+        )
     }
 }
 

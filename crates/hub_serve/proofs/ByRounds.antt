@@ -21,13 +21,15 @@ use Rattle.hub_rounds.specs.declared.rounds.Rounds.{Rounds}
 use Rattle.hub_state.specs.State.{State}
 use Rattle.hub_job.specs.declared.outcome.Outcome.{Outcome}
 use Rattle.hub_schedule.specs.Simulated.{AreFinished}
-use Rattle.hub_runner.specs.Working.{MayRun}
+use Rattle.hub_runner.specs.Working.{AreWorkers, MayRun}
 use Rattle.hub_report.specs.Jobs.{lines_of_jobs}
 use Rattle.hub_report.specs.declared.rounds_run.RoundsRun.{RoundsRun}
+use Rattle.hub_report.specs.declared.run.RunError.{RunError}
+use Rattle.hub_report.specs.declared.run.RunError.TheVariants as error
 use Rattle.hub_serve.specs.declared.run.Attempt.{Attempt}
 use Rattle.hub_serve.specs.declared.run.Attempt.TheVariants.{Ran, NotRun}
 use Rattle.hub_serve.specs.Runs.{ComesOf, IsRunOn, PreventsRun}
-use Rattle.hub_serve.specs.ByRounds.{AllFinished, AreRunFrom, Ends, HaveRun, IsAdded, IsBegun}
+use Rattle.hub_serve.specs.ByRounds.{AllFinished, AreRunFrom, Ends, HaveRun, IsAdded, IsBegun, RefusesWorkers}
 use Rattle.hub_serve.specs.ByRounds.{HasRunByRounds, IsFirstAlone, is_alone, leaves_out}
 use Rattle.hub_serve.specs.ByRounds.{IsRoundRun, AddsRound, job_lines_of_rounds, not_run, round_set, state_after}
 
@@ -101,22 +103,43 @@ begun Rs n rounds r b = record {
 }
 
 -- All rounds were run.
-pub ended : (Rs : List Rule) (n : ℕ) (S : State) (rounds : List (List Parts)) (many : ℕ) (r : RoundsRun) → IsSoFar Rs n S rounds many r
+pub ended : (Rs : List Rule) (n : ℕ) (S : State) (rounds : List (List Parts)) (many : ℕ) (r : RoundsRun) → AreWorkers n → IsSoFar Rs n S rounds many r
     → many ≡ length rounds → HaveRun Rs n S rounds r
-ended Rs n S rounds many r s e =
+ended Rs n S rounds many r w s e =
     let none : not_run rounds s.outcomes ≡ [] = subst (λ k. drop k rounds ≡ []) (sym (s.many_are ∙ e)) (drop-length rounds) in
     record {
       outcomes = s.outcomes;
       run = s.run;
-      ends = subst (Ends Rs n S rounds s.outcomes) (sym s.error) (inl none);
+      ends = subst (Ends Rs n S rounds s.outcomes) (sym s.error) (w, inl none);
       found = s.found;
       lines = s.lines;
       left = s.left;
-      finished = (λ t. (s.all, none), λ h. s.finished);
+      finished = (λ t. (w, s.all, none), λ h. s.finished);
     }
 
+-- None was run, since so many workers may not run.
+few-or-many : (n : ℕ) (e : RunError) → RefusesWorkers n e → AreWorkers n → ⊥
+few-or-many n error.NoWorkers r w = let few = w.0 in omega (arith, r, few)
+few-or-many n error.TooManyWorkers r w = let many = w.1 in omega (arith, r, many)
+few-or-many n (error.MissingReplica root) r w = r
+few-or-many n error.ThreadRefused r w = r
+few-or-many n error.Stranger r w = r
+few-or-many n error.Mismatch r w = r
+
+pub none-run : (Rs : List Rule) (n : ℕ) (rounds : List (List Parts)) (r : RoundsRun) (e : RunError) → r.rounds ≡ length rounds → string_bytes r.lines ≡ []
+    → r.finished ≡ false → r.error ≡ Some e → RefusesWorkers n e → HaveRun Rs n r.state rounds r
+none-run Rs n rounds r e found lines unfinished is refused = record {
+  outcomes = [];
+  run = tt;
+  ends = subst (Ends Rs n r.state rounds []) (sym is) (inl (refl, refused));
+  found = found;
+  lines = lines;
+  left = refl;
+  finished = (λ t. absurd (true≢false (sym t ∙ unfinished)), λ h. absurd (few-or-many n e refused h.0));
+}
+
 module _ (Rs : List Rule) (n : ℕ) (S : State) (rounds : List (List Parts)) (many : ℕ) (Ps : List Parts) (old new : RoundsRun)
-    (s : IsSoFar Rs n S rounds many old) (at : slice_get rounds many ≡ Some Ps) where
+    (w : AreWorkers n) (s : IsSoFar Rs n S rounds many old) (at : slice_get rounds many ≡ Some Ps) where
   here : slice_get rounds (length s.outcomes) ≡ Some Ps
   here = subst (λ k. slice_get rounds k ≡ Some Ps) (sym s.many_are) at
 
@@ -163,14 +186,14 @@ module _ (Rs : List Rule) (n : ℕ) (S : State) (rounds : List (List Parts)) (ma
           record {
             outcomes = s.outcomes;
             run = s.run;
-            ends = subst (Ends Rs n S rounds s.outcomes) (sym added.3) (record {
+            ends = subst (Ends Rs n S rounds s.outcomes) (sym added.3) (inr (record {
               finished = s.all;
               next = Ps;
               later = drop (suc (length s.outcomes)) rounds;
               not_run_are = next;
               safe = safe;
               reason = subst (λ T. PreventsRun T Ps n e) s.left came;
-            });
+            }));
             found = added.4 ∙ s.found;
             lines = added.0 ∙ s.lines;
             left = added.1 ∙ s.left;
@@ -182,11 +205,11 @@ module _ (Rs : List Rule) (n : ℕ) (S : State) (rounds : List (List Parts)) (ma
           record {
             outcomes = s.outcomes ++ came.1.outcome ∷ [];
             run = round-run came.1.outcome safe came.0 came.1.run;
-            ends = subst (Ends Rs n S rounds (s.outcomes ++ came.1.outcome ∷ [])) (sym (added.3 ∙ s.error)) (inr unfinished);
+            ends = subst (Ends Rs n S rounds (s.outcomes ++ came.1.outcome ∷ [])) (sym (added.3 ∙ s.error)) (w, inr unfinished);
             found = added.4 ∙ s.found;
             lines = round-lines came.1.outcome (string_bytes r.lines) added.0 came.1.lines;
             left = added.1 ∙ (came.1.left ∙ sym (state-more S s.outcomes came.1.outcome));
-            finished = (λ t. absurd (true≢false (sym t ∙ f)), λ h. absurd (unfinished h.0));
+            finished = (λ t. absurd (true≢false (sym t ∙ f)), λ h. absurd (unfinished h.1));
           }
 
 -- Nobody is left out of the rounds, if no line says so: a line that does is found.

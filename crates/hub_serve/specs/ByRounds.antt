@@ -1,5 +1,5 @@
 -- Runs of the rounds of a set, one after another and in one state.
-use Rattle.std.specs.Prelude.{◌≡◌, ◌≢◌, ◌⊎◌, ◌↔◌, ◌∷◌, ◌++◌, ⊤, ℕ, Bool, true, false}
+use Rattle.std.specs.Prelude.{◌≡◌, ◌≢◌, ◌⊎◌, ◌↔◌, ◌<◌, ◌∷◌, ◌++◌, ⊤, ℕ, Bool, true, false}
 use Rattle.std.specs.Prelude.{List, [], drop, length, Option, None, Some, string_bytes}
 use Rattle.std.specs.List.{find}
 use Rattle.hub_profile.specs.Parts.{Parts}
@@ -11,7 +11,8 @@ use Rattle.hub_search.specs.Search.{Disproves}
 use Rattle.hub_state.specs.State.{State}
 use Rattle.hub_job.specs.declared.outcome.Outcome.{Outcome}
 use Rattle.hub_schedule.specs.Simulated.{AreFinished}
-use Rattle.hub_runner.specs.Working.{MayRun}
+use Rattle.hub_runner.specs.Working.{AreWorkers, MayRun}
+use Rattle.hub_runner.specs.declared.runs.TheConstants.{WORKERS}
 use Rattle.hub_rounds.specs.Lines.{subject_of}
 use Rattle.hub_rounds.specs.Rounds.{AreRounds}
 use Rattle.hub_rounds.specs.declared.rounds.Rounds.{Rounds}
@@ -20,6 +21,7 @@ use Rattle.hub_rounds.specs.declared.subject.Subject.TheVariants.{Pair, Alone, N
 use Rattle.hub_report.specs.Jobs.{lines_of_jobs}
 use Rattle.hub_report.specs.declared.rounds_run.RoundsRun.{RoundsRun}
 use Rattle.hub_report.specs.declared.run.RunError.{RunError}
+use Rattle.hub_report.specs.declared.run.RunError.TheVariants as error
 use Rattle.hub_serve.specs.declared.run.Attempt.{Attempt}
 use Rattle.hub_serve.specs.declared.run.Attempt.TheVariants.{Ran, NotRun}
 use Rattle.hub_serve.specs.declared.task.Task.{Task}
@@ -72,12 +74,22 @@ pub record IsPreventedAfter (Rs : List Rule) (n : ℕ) (S : State) (rounds : Lis
   pub safe : IsSafeSet (round_set Rs next)
   pub reason : PreventsRun (state_after S os) next n e
 
+-- The number of workers is why no round is run: there are none, or too many.
+abbrev pub RefusesWorkers : ℕ → RunError → Type 0
+RefusesWorkers n error.NoWorkers = n ≡ 0
+RefusesWorkers n error.TooManyWorkers = WORKERS < n
+RefusesWorkers n (error.MissingReplica root) = ⊥
+RefusesWorkers n error.ThreadRefused = ⊥
+RefusesWorkers n error.Stranger = ⊥
+RefusesWorkers n error.Mismatch = ⊥
+
 -- Why no more rounds were run. Without an error all were run, or a job of the last one that was run
--- isn't finished.
+-- isn't finished. With one the number of workers is why none was run, or the next one wasn't.
 abbrev pub Ends : List Rule → ℕ → State → List (List Parts) → List Outcome → Option RunError
     → Type 0
-Ends Rs n S rounds os None = (not_run rounds os ≡ []) ⊎ (AllFinished os → ⊥)
-Ends Rs n S rounds os (Some e) = IsPreventedAfter Rs n S rounds os e
+Ends Rs n S rounds os None = AreWorkers n × ((not_run rounds os ≡ []) ⊎ (AllFinished os → ⊥))
+Ends Rs n S rounds os (Some e) =
+    ((os ≡ []) × RefusesWorkers n e) ⊎ IsPreventedAfter Rs n S rounds os e
 
 -- The lines of the jobs of the rounds that were run, round by round.
 abbrev pub job_lines_of_rounds : List (List Parts) → List Outcome → List ℕ
@@ -87,8 +99,8 @@ job_lines_of_rounds (Ps ∷ rounds) (o ∷ os) =
     lines_of_jobs Ps o.jobs ++ job_lines_of_rounds rounds os
 
 -- These rounds were run one after another on a state, by n workers: all of them, or until a job of
--- one isn't finished or one isn't run. It is all finished only if each round was run and each job
--- is finished.
+-- one isn't finished or one isn't run. It is all finished only if so many workers may run, each
+-- round was run and each job is finished.
 pub record HaveRun (Rs : List Rule) (n : ℕ) (S : State) (rounds : List (List Parts))
     (r : RoundsRun) : Type 0 where
   pub outcomes : List Outcome
@@ -97,7 +109,8 @@ pub record HaveRun (Rs : List Rule) (n : ℕ) (S : State) (rounds : List (List P
   pub found : r.rounds ≡ length rounds
   pub lines : string_bytes r.lines ≡ job_lines_of_rounds rounds outcomes
   pub left : r.state ≡ state_after S outcomes
-  pub finished : r.finished ≡ true ↔ (AllFinished outcomes × (not_run rounds outcomes ≡ []))
+  pub finished : r.finished ≡ true
+      ↔ (AreWorkers n × AllFinished outcomes × (not_run rounds outcomes ≡ []))
 
 -- A run by rounds of a set: it is cut into rounds, of which each profile is in one, and these were
 -- run.

@@ -1,10 +1,12 @@
 -- What is written below `safe` if jobs are to be run.
-use Rattle.std.specs.Prelude.{◌≡◌, ◌≢◌, ◌⊎◌, ◌↔◌, ◌<◌, ◌++◌, ℕ, true, List, [], map, Some, string_bytes}
+use Rattle.std.specs.Prelude.{◌≡◌, ◌≢◌, ◌⊎◌, ◌↔◌, ◌<◌, ◌++◌, ℕ, true, List, [], map, Option, None, Some, string_bytes}
 use Rattle.hub_profile.specs.Parts.{Parts}
 use Rattle.hub_cert.specs.Set.{Members, IsSafeSet, forbidden_by}
 use Rattle.hub_state.specs.State.{State}
 use Rattle.hub_state.specs.Writing.{state_text}
 use Rattle.hub_job.specs.declared.outcome.Outcome.{Outcome}
+use Rattle.hub_job.specs.declared.run_fault.RunFault.{RunFault}
+use Rattle.hub_job.specs.declared.run_fault.RunFault.TheVariants as unrun
 use Rattle.hub_schedule.specs.Refusals.{first_missing}
 use Rattle.hub_schedule.specs.Simulated.{AreFinished, HaveEnded, IsPromised}
 use Rattle.hub_runner.specs.Working.{AreWorkers, MayRun}
@@ -42,6 +44,18 @@ PreventsRun S Ps n (fault.MissingReplica root) = AreWorkers n × (first_missing 
 PreventsRun S Ps n fault.ThreadRefused = MayRun S Ps n
 PreventsRun S Ps n fault.Stranger = MayRun S Ps n
 PreventsRun S Ps n fault.Mismatch = MayRun S Ps n
+
+-- What is told of jobs that weren't run. A bad turn is of schedules alone, and with no memory
+-- nothing is told.
+abbrev pub error_of : RunFault → Option RunError
+error_of unrun.NoWorkers = Some fault.NoWorkers
+error_of unrun.TooManyWorkers = Some fault.TooManyWorkers
+error_of (unrun.MissingReplica root) = Some (fault.MissingReplica root)
+error_of (unrun.Mismatch root job history log) = Some fault.Mismatch
+error_of (unrun.BadTurn turn) = None
+error_of unrun.ThreadRefused = Some fault.ThreadRefused
+error_of (unrun.Stranger job) = Some fault.Stranger
+error_of unrun.OutOfMemory = None
 
 -- What comes of an attempt to run the jobs of a set on a state by n workers.
 abbrev pub ComesOf : Members → State → ℕ → Attempt → Type 0

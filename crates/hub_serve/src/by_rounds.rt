@@ -1,13 +1,15 @@
 //! Runs of the rounds of a set, one after another and in one state.
-ghost use Rattle.std.specs.Prelude.{◌≡◌, ℕ, List, length, option_map, None, IfOk, OnOk};
+ghost use Rattle.std.specs.Prelude.{◌≡◌, ℕ, List, length, option_map, None, IfOk, IfSome, OnOk};
 ghost use Rattle.std.specs.List.{find};
 ghost use Rattle.hub_cert.specs.Set.{Members};
 ghost use Rattle.hub_cert.specs.declared.certificate.Certificate.{Certificate};
 ghost use Rattle.hub_search.specs.Faults.{AreFaults};
 ghost use Rattle.hub_state.specs.State.{State as StateValue};
+ghost use Rattle.hub_runner.specs.Working.{AreWorkers};
 ghost use Rattle.hub_report.specs.Report.{unread_by};
 ghost use Rattle.hub_serve.specs.ByRounds as spec;
 ghost use Rattle.hub_serve.specs.ByRounds.{HasRunByRounds, HaveRun, IsAdded, IsBegun, AddsRound};
+ghost use Rattle.hub_serve.specs.ByRounds.{RefusesWorkers};
 ghost use Rattle.hub_serve.specs.Report.{IsToldOfSet};
 ghost use Rattle.hub_serve.specs.declared.task.Task.TheVariants as task;
 
@@ -15,8 +17,9 @@ use crate::progress::{Goals, Progress};
 use crate::run::{Attempt, run_jobs};
 use hub_cert::{CheckFault, ProfileSet};
 use hub_profile::{Profile, Rules};
-use hub_report::{Report, RoundsRun, RunAnswer};
+use hub_report::{Report, RoundsRun, RunAnswer, RunError};
 use hub_rounds::{Clashes, Rounds, RoundsFault, Subject, clashes_of, rounds_of, subject_of};
+use hub_runner::WORKERS;
 use hub_search::check_with_progress;
 use hub_state::State;
 use hub_text::Items;
@@ -96,7 +99,8 @@ fn report_on_run<'a>(run: Result<RoundsRun, CheckFault>) -> Report<'a>
     }
 }
 
-/// Runs rounds one after another, until a job isn't finished or a round isn't run.
+/// Runs rounds one after another, until a job isn't finished or a round isn't run. None is run if there are no workers or too
+/// many.
 fn run_rounds<T: Threads + Wait + Sync, P: Progress + Sync>(
     rt: &T,
     alloc: Global,
@@ -115,16 +119,28 @@ fn run_rounds<T: Threads + Wait + Sync, P: Progress + Sync>(
         finished: true,
         error: None,
     };
-    run_each(
-        rt,
-        alloc,
-        rounds.into_vec(),
-        rules,
-        workers,
-        progress,
-        &mut run,
-    )?;
+    if let Some(error) = refused_workers(workers) {
+        run.finished = false;
+        run.error = Some(error);
+        return Ok(run);
+    }
+    let rounds = rounds.into_vec();
+    run_each(rt, alloc, rounds, rules, workers, progress, &mut run)?;
     Ok(run)
+}
+
+/// Says why so many workers run no round, or `None` if they may.
+fn refused_workers(workers: u8) -> Option<RunError>
+    ensures some { IfSome result (RefusesWorkers workers) }
+    ensures none { result ≡ None → AreWorkers workers }
+{
+    if workers == 0 {
+        return Some(RunError::NoWorkers);
+    }
+    if usize::from(workers) > WORKERS {
+        return Some(RunError::TooManyWorkers);
+    }
+    None
 }
 
 /// Runs these rounds one after another, and adds what they did. None was run yet.
@@ -137,7 +153,8 @@ fn run_each<T: Threads + Wait + Sync, P: Progress + Sync>(
     progress: &P,
     run: &mut RoundsRun,
 ) -> Result<(), CheckFault>
-    requires { IsBegun (length rounds.items) run.old }
+    requires workers { AreWorkers workers }
+    requires begun { IsBegun (length rounds.items) run.old }
     ensures { OnOk result (HaveRun rules workers run.old.state rounds.items run.new) }
 {
     let mut rules = rules;

@@ -8,7 +8,7 @@ ghost use Rattle.hub_schedule.specs.Simulated.{AreFinished, HaveEnded, IsPromise
 ghost use Rattle.hub_runner.specs.Working.{IsNotRun, MayRun};
 ghost use Rattle.hub_report.specs.Report.{unread_by};
 ghost use Rattle.hub_serve.specs.Report as report;
-ghost use Rattle.hub_serve.specs.Runs.{ComesOf, HasRun, IsRunOn, PreventsRun};
+ghost use Rattle.hub_serve.specs.Runs.{ComesOf, HasRun, IsRunOn, PreventsRun, error_of};
 ghost use Rattle.hub_serve.specs.declared.task.Task.TheVariants as task;
 
 use crate::progress::{Jobs, Progress};
@@ -113,7 +113,8 @@ fn not_run(fault: RunFault) -> Result<Attempt, AllocError>
 
 /// Why the jobs weren't run. A `None` is that memory is out: `run` returns no `BadTurn`, which is of schedules alone.
 fn run_error(fault: RunFault) -> Option<RunError>
-    ensures { (S : State) (Ps : List Parts) (n : ℕ) → IsNotRun S Ps n fault
+    ensures told { result ≡ error_of fault }
+    ensures reason { (S : State) (Ps : List Parts) (n : ℕ) → IsNotRun S Ps n fault
         → IfSome result (PreventsRun S Ps n) }
 {
     match fault {

@@ -3,4 +3,4 @@ use Rattle.hub_serve.specs.Runs.{PreventsRun}
 use Rattle.hub_serve.proofs.run.not_run.Goals as goal
 
 pub returns-in-Some : goal.returns-in-Some
-returns-in-Some c = λ M S n h. subst (λ o. IfSome o (PreventsRun S M.profiles n)) c.in-Some.is (c.run_error.ensures S M.profiles n h)
+returns-in-Some c = λ M S n h. subst (λ o. IfSome o (PreventsRun S M.profiles n)) c.in-Some.is (c.run_error.ensures.reason S M.profiles n h)

@@ -22,9 +22,9 @@ _hubsync() {
         help/-*) ;;
         help/*) candidates=$commands ;;
         reach/-*) candidates='-h --help' ;;
-        clashes/-*) candidates='--rules --state --certificates --dot -h --help' ;;
-        run/-*) candidates='--rules --state --certificates --workers --rounds -h --help' ;;
-        */-*) candidates='--rules --state --certificates -h --help' ;;
+        clashes/-*) candidates='--rules --state --certificates --strict --dot -h --help' ;;
+        run/-*) candidates='--rules --state --certificates --strict --workers --rounds -h --help' ;;
+        */-*) candidates='--rules --state --certificates --strict -h --help' ;;
         run/*) [[ $before != --workers ]] || candidates='1 2 3 4 5 6 7 8 9 10 11 12 13 14 15 16' ;;
     esac
     mapfile -t COMPREPLY < <(compgen -W "$candidates" -- "$word")

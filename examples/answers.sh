@@ -250,7 +250,6 @@ ask_files() {
     ask 'two files for all that clashes' 1 '' hubsync clashes "$at/one.prf" "$at/sub/two.prf"
     echo safe >"$room/wanted"
     ask 'the files of two profiles that are safe' 0 '' hubsync check -- "$at/one.prf" "$at/three.prf"
-    ask 'rules alone' 0 '' hubsync check --rules="$at/rules"
     printf '%s\n' 'rounds 1' 'at least 1' 'round 1 three' >"$room/wanted"
     ask 'a file for rounds' 0 '' hubsync rounds "$at/three.prf"
     echo 'breach: three may delete c/d at /srv/hub, rule 0' >"$room/wanted"
@@ -269,11 +268,42 @@ ask_files() {
     ask 'a file that is missing' 2 '' hubsync check "$at/three.prf" "$at/four.prf" "$at/bundle.prf"
     echo "fault: $at/folder.prf: ReadFailed" >"$room/wanted"
     ask 'a folder' 2 '' hubsync check "$at/folder.prf"
+    ask_files_without_end "$at"
     echo "fault: $at/bundle.prf: HasHeading" >"$room/wanted"
     ask 'a bundle as a file' 2 '' hubsync check "$at/three.prf" "$at/bundle.prf"
     cp "$at/three.prf" "$at/"$'a\n%rules\n.prf'
     printf 'fault: %s: BadName\n' "$at/"$'a\n%rules\n.prf' >"$room/wanted"
     ask 'a line end in the name of a file' 2 '' hubsync check "$at/"$'a\n%rules\n.prf'
+}
+
+# Asks about the file of a profile with so little memory that its bytes find no room.
+#
+#     ask_in_little_memory PLACE FILE
+ask_in_little_memory() {
+    local status=0
+    echo 'fault: out of memory' >"$room/wanted"
+    (
+        ulimit -v 200000
+        exec "$program" check "$2" </dev/null >"$room/output" 2>"$room/errors"
+    ) || status=$?
+    judge "$1" 2 "$status" || true
+    judge_remarks "$1"
+}
+
+# Files that are too long for the memory, or that have no end: 1,000,000 reads of one byte.
+ask_files_without_end() {
+    local status=0
+    truncate -s 1G "$1/large.prf"
+    ask_in_little_memory 'a file that is too large' "$1/large.prf"
+    rm "$1/large.prf"
+    ln -s /dev/zero "$1/zero.prf"
+    ask_in_little_memory 'a file without an end' "$1/zero.prf"
+    ln -s /dev/stdin "$1/bytes.prf"
+    echo "fault: $1/bytes.prf: TurnsSpent" >"$room/wanted"
+    dd if=/dev/zero bs=1 count=1000000 oflag=direct status=none |
+        "$program" check "$1/bytes.prf" >"$room/output" 2>"$room/errors" || status=$?
+    judge 'a file of 1,000,000 reads' 2 "$status" || true
+    judge_errors 'a file of 1,000,000 reads' "hubsync: $1/bytes.prf has no end, as far as it was read"
 }
 
 # A bundle with a state alone, in the form in which it is written. Its 12,293 bytes are three reads of 4,096 bytes,

@@ -19,7 +19,7 @@ use Rattle.clap.specs.declared.parser.matches.Found.{Found}
 use Rattle.clap.specs.declared.parser.matches.ArgMatches.{ArgMatches}
 use Rattle.clap.specs.declared.parser.matches.ArgMatches.TheViews.{out-ArgMatches, out-SubCommand}
 use Rattle.clap.specs.declared.parser.matches.SubCommand.{SubCommand}
-use Rattle.hub_cli.specs.Words.{Request, about_files, asked_of, byte_of, files_of, hubsync_app, names_found, names_in, operands_of, request_in, asked_unless, workers_in, Names}
+use Rattle.hub_cli.specs.Words.{Request, about_files, asked_of, byte_of, files_of, hubsync_app, is_strict_in, is_strict_of, is_set, names_found, names_in, operands_of, request_in, asked_unless, workers_in, Names}
 
 simple : is_simple hubsync_app ≡ true
 unfolding clap_on_literals hubsync_app
@@ -33,6 +33,10 @@ simple_and_free = refl
 used_is : (a : App) (words : List Text) (m : ArgMatches) → a ≡ hubsync_app → HasMatchesOf a words m
     → subcommand_rows_of m ≡ subcommand_of hubsync_app words
 used_is a words m is matches = (matches (ap is_simple is ∙ simple)).1 ∙ ap (λ (b : App). subcommand_of b words) is
+
+pub is_some-option_map : {A B : Type 0} (f : A → B) (o : Option A) → is_some (option_map f o) ≡ is_some o
+is_some-option_map f None = refl
+is_some-option_map f (Some x) = refl
 
 -- where a parse gives matches, they say what is asked for,
 pub asked_is : (a : App) (words : List Text) (m : ArgMatches) → a ≡ hubsync_app
@@ -48,6 +52,12 @@ pub files_are : (a : App) (words : List Text) (m : ArgMatches) → a ≡ hubsync
     → files_of words ≡ names_in (subcommand_rows_of m)
 unfolding files_of
 files_are a words m is matches = sym (ap names_in (used_is a words m is matches))
+
+-- and whether they have `--strict`
+pub strict_is : (a : App) (words : List Text) (m : ArgMatches) → a ≡ hubsync_app → HasMatchesOf a words m
+    → is_strict_of words ≡ is_strict_in (subcommand_rows_of m)
+unfolding is_strict_of
+strict_is a words m is matches = sym (ap is_strict_in (used_is a words m is matches))
 
 -- where it gives none, memory ran out, or nothing is asked for
 pub refused : (a : App) (words : List Text) (e : Error) → a ≡ hubsync_app

@@ -1,5 +1,5 @@
 -- What the words on the command line ask for.
-use Rattle.std.specs.Prelude.{ℕ, pos, ◌==◌, nat_eq, Bool, false, true, not, ◌&&◌, if◌then◌else◌}
+use Rattle.std.specs.Prelude.{ℕ, pos, ◌==◌, nat_eq, Bool, false, true, not, ◌&&◌, ◌||◌, if◌then◌else◌}
 use Rattle.std.specs.Prelude.{List, [], ◌∷◌, codes, length, map, Option, None, Some, option_map}
 use Rattle.std.specs.Prelude.{is_some, unwrap_or}
 use Rattle.std.specs.List.{ends_with, list_all}
@@ -56,11 +56,16 @@ flag name = record (new_rule name) { long = Some name; action = Some SetTrue }
 abbrev pub with_profiles : App → App
 with_profiles app = with_rule (with_rule app files_operand) (file_option (codes "rules"))
 
--- a command about the set, which may take its profiles, rules, state and certificates from files
-abbrev pub set_app : Text → App
-set_app name =
-    with_rule (with_rule (with_profiles (new_app name)) (file_option (codes "state")))
+-- a command with these and with files of a state and of certificates
+abbrev pub with_files : App → App
+with_files app =
+    with_rule (with_rule (with_profiles app) (file_option (codes "state")))
     (file_option (codes "certificates"))
+
+-- a command about the set, which may take its profiles, rules, state and certificates from files,
+-- and may have `--strict`
+abbrev pub set_app : Text → App
+set_app name = with_rule (with_files (new_app name)) (flag (codes "strict"))
 
 -- `clashes`, which may also have `--dot`
 abbrev pub clashes_app : App
@@ -158,10 +163,32 @@ about_named name rows =
     else (if bytes_eq name (codes "rounds") then Some (about Rounds)
     else (if bytes_eq name (codes "run") then run_by rows else None)))))
 
--- the same, and nothing if an operand isn't the file of a profile
+-- an option with a value is on the command line
+abbrev pub is_given : Text → List Row → Bool
+is_given name rows = is_some (first_of name rows)
+
+-- there is an operand
+abbrev pub has_operands : Option (List Text) → Bool
+has_operands None = false
+has_operands (Some files) = not (length files == 0)
+
+-- an option names a file
+abbrev pub has_file_option : List Row → Bool
+has_file_option rows =
+    is_given (codes "rules") rows
+    || (is_given (codes "state") rows || is_given (codes "certificates") rows)
+
+-- files are named, and none of them is that of a profile
+abbrev pub lacks_profiles : List Row → Bool
+lacks_profiles rows = not (has_operands (all_of (codes "files") rows)) && has_file_option rows
+
+-- the same, and nothing if an operand isn't the file of a profile, or if files are named and none
+-- of them is that of a profile
 abbrev pub about_files : Text → List Row → Option Request
 about_files name rows =
-    if are_profile_files (all_of (codes "files") rows) then about_named name rows else None
+    if are_profile_files (all_of (codes "files") rows)
+    then (if lacks_profiles rows then None else about_named name rows)
+    else None
 
 -- what the command that was used asks for, by its name and the rows of its operands and options
 abbrev pub request_in : Option (Text × List Row) → Option Request
@@ -170,6 +197,11 @@ request_in (Some p) =
     if bytes_eq p.0 (codes "reach")
     then operands_of (first_of (codes "profile") p.1) (first_of (codes "path") p.1)
     else about_files p.0 p.1
+
+-- the command that was used has `--strict`
+abbrev pub is_strict_in : Option (Text × List Row) → Bool
+is_strict_in None = false
+is_strict_in (Some p) = is_set (codes "strict") p.1
 
 -- nothing is asked for if there is a fault
 abbrev pub asked_unless : Kinds → Option Request → Option Request
@@ -181,6 +213,10 @@ asked_unless (kind ∷ kinds) request = None
 unfoldable pub asked_of : List Text → Option Request
 asked_of words =
     asked_unless (fault_of hubsync_app words) (request_in (subcommand_of hubsync_app words))
+
+-- whether the words, of which the first is the program's name, have `--strict`
+unfoldable pub is_strict_of : List Text → Bool
+is_strict_of words = is_strict_in (subcommand_of hubsync_app words)
 
 -- the files that words name
 pub record Names : Type 0 where

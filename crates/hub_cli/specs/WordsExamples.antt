@@ -1,8 +1,8 @@
 -- Worked values of the words on the command line.
-use Rattle.std.specs.Prelude.{⊤, ◌≡◌, List, [], ◌∷◌, Option, Some, None, codes, refl}
+use Rattle.std.specs.Prelude.{⊤, ◌≡◌, List, [], ◌∷◌, Option, Some, None, codes, false, refl, true}
 use Rattle.clap.proofs.OnLiterals.{clap_on_literals}
 use Rattle.clap.specs.Words.{Text}
-use Rattle.hub_cli.specs.Words.{Names, Request, about, asked_of, files_of, hubsync_app, no_names}
+use Rattle.hub_cli.specs.Words.{Names, Request, about, asked_of, files_of, hubsync_app, is_strict_of, no_names}
 use Rattle.hub_cli.specs.Words.{reach}
 use Rattle.hub_cli.specs.declared.words.Question.TheVariants.{CheckWithState, Run, RunByRounds}
 use Rattle.hub_cli.specs.declared.words.Question.TheVariants.{Check, Certify, Verify}
@@ -11,7 +11,7 @@ use Rattle.hub_cli.specs.declared.words.TheConstants.{DEFAULT_WORKERS}
 
 -- What these examples compute.
 computed : ⊤
-unfolding clap_on_literals asked_of files_of hubsync_app
+unfolding clap_on_literals asked_of files_of hubsync_app is_strict_of
 computed = tt
 
 abbrev asked : List Text → Option Request
@@ -122,6 +122,49 @@ an_operand_is_the_file_of_a_profile = refl
 a_bundle_is_no_operand : asked (codes "check" ∷ codes "a.prf" ∷ codes "b.bundle" ∷ []) ≡ None
 unfolding computed
 a_bundle_is_no_operand = refl
+
+rules_need_a_profile : asked (codes "check" ∷ codes "--rules" ∷ codes "r" ∷ []) ≡ None
+unfolding computed
+rules_need_a_profile = refl
+
+a_state_needs_a_profile : asked (codes "run" ∷ codes "--state" ∷ codes "s" ∷ []) ≡ None
+unfolding computed
+a_state_needs_a_profile = refl
+
+certificates_need_a_profile :
+    asked (codes "verify" ∷ codes "--certificates" ∷ codes "c" ∷ []) ≡ None
+unfolding computed
+certificates_need_a_profile = refl
+
+rules_beside_a_profile :
+    asked (codes "check" ∷ codes "--rules" ∷ codes "r" ∷ codes "a.prf" ∷ []) ≡ Some (about Check)
+unfolding computed
+rules_beside_a_profile = refl
+
+a_strict_check : asked (codes "check" ∷ codes "--strict" ∷ []) ≡ Some (about Check)
+unfolding computed
+a_strict_check = refl
+
+the_check_is_strict : is_strict_of (codes "hubsync" ∷ codes "check" ∷ codes "--strict" ∷ []) ≡ true
+unfolding computed
+the_check_is_strict = refl
+
+the_check_is_not_strict : is_strict_of (codes "hubsync" ∷ codes "check" ∷ codes "a.prf" ∷ []) ≡ false
+unfolding computed
+the_check_is_not_strict = refl
+
+no_command_is_not_strict : is_strict_of (codes "hubsync" ∷ []) ≡ false
+unfolding computed
+no_command_is_not_strict = refl
+
+strictness_has_a_command : asked (codes "--strict" ∷ []) ≡ None
+unfolding computed
+strictness_has_a_command = refl
+
+reach_is_not_strict :
+    asked (codes "reach" ∷ codes "p" ∷ codes "a" ∷ codes "--strict" ∷ []) ≡ None
+unfolding computed
+reach_is_not_strict = refl
 
 reach_names_no_files :
     asked (codes "reach" ∷ codes "p" ∷ codes "a" ∷ codes "--rules" ∷ codes "r" ∷ []) ≡ None

@@ -134,12 +134,10 @@ fn set_command<'a>(alloc: Global, name: &'a str, help: Help) -> Result<Box<Comma
     let command = with_argument(alloc, command, files_operand(alloc))?;
     let command = with_file_option(alloc, command, "rules", "The file of the rules")?;
     let command = with_file_option(alloc, command, "state", "The file of the state")?;
-    with_file_option(
-        alloc,
-        command,
-        "certificates",
-        "The file of the certificates",
-    )
+    let certificates = "The file of the certificates";
+    let command = with_file_option(alloc, command, "certificates", certificates)?;
+    let strict = "Exit with 1 in place of 0 if the answer may mislead";
+    with_argument(alloc, command, flag(alloc, "strict", strict))
 }
 
 /// The option `--workers N`.

@@ -1,12 +1,12 @@
-//! The files that the words on the command line name.
+//! The files that the words on the command line name, and whether they have `--strict`.
 
 ghost use Rattle.std.specs.Prelude.{◌≡◌, ◌⊎◌, [], IfErr, IfOk, None, codes, is_some, map, option_map, true, unwrap_or};
 ghost use Rattle.clap.specs.Words.{found_of, kind_of, matched_of, raw_values, rows_of, subcommand_rows_of};
 ghost use Rattle.clap.specs.declared.error.kind.ErrorKind.TheVariants.{OutOfMemory};
 ghost use Rattle.hub_cli.specs.Words as words;
-ghost use Rattle.hub_cli.specs.Words.{are_none, asked_of, files_of, names_in, names_of};
+ghost use Rattle.hub_cli.specs.Words.{are_none, asked_of, files_of, is_strict_of, names_in, names_of};
 
-use crate::words::read_matches;
+use crate::words::{is_set, read_matches};
 use clap::{ArgMatches, Error};
 use std::alloc::{AllocError, Global};
 use std::convert::AsStr;
@@ -36,20 +36,44 @@ impl<'a> Files<'a> {
     }
 }
 
-/// Reads which files the words name, of which the first is the program's name.
+/// What the words say beside what they ask for.
+#[derive(Drop)]
+pub struct Options<'a> {
+    /// The files of which the input is to be made.
+    pub files: Files<'a>,
+    /// Whether a yes that may mislead counts as a no.
+    pub is_strict: bool,
+}
+
+/// Reads which files the words name, of which the first is the program's name, and whether they have `--strict`.
 ///
-/// Each command but `reach` may have operands, each of which is the file of a profile and ends with `.prf`, and the options
-/// `--rules FILE`, `--state FILE` and `--certificates FILE`. No other words name files.
+/// Each command but `reach` may have operands, each of which is the file of a profile and ends with `.prf`, the options
+/// `--rules FILE`, `--state FILE` and `--certificates FILE`, and `--strict`. No other words name files or have it.
 ///
 /// An `Err` is that of [`read_words`](crate::read_words).
-pub fn read_files<'a, S: AsStr>(alloc: Global, words: &'a [S]) -> Result<Files<'a>, Error>
-    ensures ok { IfOk result (λ f. names_of f ≡ files_of (map S.text words.entry.now)) }
+pub fn read_options<'a, S: AsStr>(alloc: Global, words: &'a [S]) -> Result<Options<'a>, Error>
+    ensures files { IfOk result
+        (λ o. names_of o.files ≡ files_of (map S.text words.entry.now)) }
+    ensures strict { IfOk result
+        (λ o. o.is_strict ≡ is_strict_of (map S.text words.entry.now)) }
     ensures asked { IfOk result (λ _. is_some (asked_of (map S.text words.entry.now)) ≡ true) }
     ensures err { IfErr result (λ e. (kind_of e ≡ OutOfMemory)
         ⊎ (asked_of (map S.text words.entry.now) ≡ None)) }
 {
     let (_, matches) = read_matches(alloc, words)?;
-    Ok(files_in(alloc, &matches)?)
+    let is_strict = is_strict_in(&matches);
+    let files = files_in(alloc, &matches)?;
+    Ok(Options { files, is_strict })
+}
+
+/// Returns whether the command that was used has `--strict`, by the matches.
+fn is_strict_in(matches: &ArgMatches<'_>) -> bool
+    ensures { result ≡ words.is_strict_in (subcommand_rows_of matches.now) }
+{
+    match matches.subcommand() {
+        Some((_, found)) => is_set(found, "strict"),
+        None => false,
+    }
 }
 
 /// The files that the command that was used names, by the matches.

@@ -96,7 +96,8 @@ are part of the bundle too.
 If a command but 'reach' is given files, the bundle is made of them, and
 standard input isn't read. Each operand is a profile, which is named by it:
 'docs.prf' is the profile docs. The files of --rules, --state and
---certificates have the lines of these sections, without their headings.
+--certificates have the lines of these sections, without their headings. Such
+a file without one of a profile is a mistake in the words.
 
 The output is one line: 'safe', 'verified', 'overlap: ..', 'breach: ..',
 'too large: ..', 'refused: ..', 'reached', 'not reached' or 'fault: ..'.
@@ -125,7 +126,8 @@ break a rule is a red box. What is too large to decide is dashed.
 Exit status:
   0  safe and no job stopped, verified, certificates, reached or not reached
   1  the profiles may not run at the same time, or may break a rule, or that
-     they are safe was not shown
+     they are safe was not shown; with --strict also in the place of 0, if
+     standard error has a note that a yes may mislead
   2  a fault of the input or of the command line, or a failed output; help and
      version too
   3  a job was stopped, or no job was run: 'run fault: ..'

@@ -3,7 +3,7 @@
 //! - [`read_words`] reads the words with `clap`, and returns what they ask for or `clap`'s [`Error`].
 //! - [`Query`]: what words ask for, a [`Question`] about the set of a bundle's profiles and rules, or whether a profile
 //!   reaches a path.
-//! - [`read_files`] reads which [`Files`] the words name.
+//! - [`read_options`] reads which [`Files`] the words name, and whether they have `--strict` ([`Options`]).
 //!
 //! ```rust
 //! match read_words(alloc, words) {
@@ -27,5 +27,5 @@ mod words;
 
 pub use clap::Error;
 pub use clap::error::ErrorKind;
-pub use files::{Files, read_files};
+pub use files::{Files, Options, read_options};
 pub use words::{DEFAULT_WORKERS, Query, Question, read_words};

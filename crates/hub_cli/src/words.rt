@@ -7,7 +7,7 @@ ghost use Rattle.std.specs.List.{list_all};
 ghost use Rattle.clap.specs.Words.{all_of, app_of, found_of, kind_of, one_of, rows_of, subcommand_rows_of};
 ghost use Rattle.clap.specs.declared.error.kind.ErrorKind.TheVariants.{OutOfMemory};
 ghost use Rattle.hub_cli.specs.Words as words;
-ghost use Rattle.hub_cli.specs.Words.{asked_of, files_of, hubsync_app, names_in, request_in, request_of};
+ghost use Rattle.hub_cli.specs.Words.{asked_of, files_of, hubsync_app, is_strict_in, is_strict_of, names_in, request_in, request_of};
 
 use crate::app::command;
 use clap::error::ErrorKind;
@@ -63,7 +63,8 @@ pub enum Query<'a> {
 /// `check`, `certify`, `verify`, `clashes` and `rounds` ask about the set. Without a command the words ask for the check, and
 /// for a run of the jobs if the bundle has a state. With `--dot`, `clashes` asks for a graph.
 /// `run` asks for a run, and with `--rounds` for one by rounds. `--workers N` gives the number of workers, from 0 to 255, and
-/// without it there are [`DEFAULT_WORKERS`]. Each of these commands may name files (`read_files`).
+/// without it there are [`DEFAULT_WORKERS`]. Each of these commands may name files and have `--strict` (`read_options`). If it
+/// names files, one at least is that of a profile.
 ///
 /// `reach PROFILE PATH` takes any two operands, also the empty word and `-`. An operand that begins with `-` and is longer
 /// needs `--` before it.
@@ -88,6 +89,8 @@ pub(crate) fn read_matches<'a, S: AsStr>(
         ≡ Some (request_of r.0)) }
     ensures files { IfOk result (λ r. files_of (map S.text words.entry.now)
         ≡ names_in (subcommand_rows_of r.1)) }
+    ensures strict { IfOk result (λ r. is_strict_of (map S.text words.entry.now)
+        ≡ is_strict_in (subcommand_rows_of r.1)) }
     ensures err { IfErr result (λ e. (kind_of e ≡ OutOfMemory)
         ⊎ (asked_of (map S.text words.entry.now) ≡ None)) }
 {
@@ -106,6 +109,8 @@ fn parse<'a, S: AsStr>(hubsync: &mut Command<'a>, words: &'a [S]) -> Result<ArgM
         ≡ request_in (subcommand_rows_of m)) }
     ensures files { IfOk result (λ m. files_of (map S.text words.entry.now)
         ≡ names_in (subcommand_rows_of m)) }
+    ensures strict { IfOk result (λ m. is_strict_of (map S.text words.entry.now)
+        ≡ is_strict_in (subcommand_rows_of m)) }
     ensures err { IfErr result (λ e. (kind_of e ≡ OutOfMemory)
         ⊎ (asked_of (map S.text words.entry.now) ≡ None)) }
 {
@@ -114,7 +119,7 @@ fn parse<'a, S: AsStr>(hubsync: &mut Command<'a>, words: &'a [S]) -> Result<ArgM
 }
 
 /// The error for words that `clap` takes and that ask for nothing: an operand that isn't the file of a profile, or else one
-/// that is missing.
+/// that is missing, as that of a profile beside other files.
 fn refusal<'a>(
     alloc: Global,
     hubsync: &mut Command<'a>,
@@ -127,7 +132,7 @@ fn refusal<'a>(
         }
         None => hubsync.error(
             ErrorKind::MissingRequiredArgument,
-            "an operand of the command is missing",
+            "no profile is named: give their files too, as in\n\n  hubsync check docs.prf --rules rules",
         ),
     }
 }
@@ -143,8 +148,8 @@ fn stray_operand<'a>(matches: &ArgMatches<'a>) -> Option<&'a str> {
     None
 }
 
-/// What was asked for, by the matches. A `None` is an unknown command, one without its operands, or one with an operand
-/// that isn't the file of a profile.
+/// What was asked for, by the matches. A `None` is an unknown command, one without its operands, one with an operand that
+/// isn't the file of a profile, or one with files but none of a profile.
 fn asked_in<'a>(matches: &ArgMatches<'a>) -> Option<Query<'a>>
     ensures { option_map request_of result ≡ request_in (subcommand_rows_of matches.now) }
 {
@@ -159,16 +164,47 @@ fn asked_in<'a>(matches: &ArgMatches<'a>) -> Option<Query<'a>>
     Some(Query::Reach { profile, path })
 }
 
-/// What a command about the set asks for, if all of its operands are files of profiles.
+/// What a command about the set asks for, if all of its operands are files of profiles, and there is one if it has files.
 fn about_files<'a>(name: &str, found: &ArgMatches<'_>) -> Option<Query<'a>>
     ensures { option_map request_of result
         ≡ words.about_files name.now (rows_of (found_of found.now)) }
 {
-    if are_profile_files(found) {
+    if are_profile_files(found) && !lacks_profiles(found) {
         about(name, found)
     } else {
         None
     }
+}
+
+/// Returns whether files are named, and none of them is that of a profile.
+fn lacks_profiles(found: &ArgMatches<'_>) -> bool
+    ensures { result ≡ words.lacks_profiles (rows_of (found_of found.now)) }
+{
+    !has_operands(found) && has_file_option(found)
+}
+
+/// Returns whether there is an operand.
+fn has_operands(found: &ArgMatches<'_>) -> bool
+    ensures { result ≡ words.has_operands (all_of (codes "files") (rows_of (found_of found.now))) }
+{
+    match found.get_raw("files") {
+        Some(files) => !files.is_empty(),
+        None => false,
+    }
+}
+
+/// Returns whether an option names a file.
+fn has_file_option(found: &ArgMatches<'_>) -> bool
+    ensures { result ≡ words.has_file_option (rows_of (found_of found.now)) }
+{
+    is_given(found, "rules") || is_given(found, "state") || is_given(found, "certificates")
+}
+
+/// Returns whether an option with a value is on the command line.
+fn is_given(found: &ArgMatches<'_>, name: &str) -> bool
+    ensures { result ≡ words.is_given name.now (rows_of (found_of found.now)) }
+{
+    found.get_str(name).is_some()
 }
 
 /// Returns whether all operands are files of profiles.
@@ -261,7 +297,7 @@ fn workers_in(found: &ArgMatches<'_>) -> Option<u8>
 }
 
 /// Returns whether a flag is on the command line.
-fn is_set(found: &ArgMatches<'_>, name: &str) -> bool
+pub(crate) fn is_set(found: &ArgMatches<'_>, name: &str) -> bool
     ensures { result ≡ words.is_set name.now (rows_of (found_of found.now)) }
 {
     match found.get_str(name) {

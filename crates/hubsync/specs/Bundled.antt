@@ -1,13 +1,15 @@
 -- What is answered over files.
-use Rattle.std.specs.Prelude.{◌≡◌, ◌⊎◌, ◌++◌, ℕ, Bool, List, [], ◌∷◌, Option, Some, None, codes, map}
-use Rattle.std.specs.List.{slice_get}
+use Rattle.std.specs.Prelude.{◌≡◌, ◌⊎◌, ◌++◌, ℕ, Bool, List, [], ◌∷◌, Option, Some, None, IfSome, codes, map}
+use Rattle.std.specs.List.{All, Contains, slice_get}
 use Rattle.hub_cli.specs.Words.{Names, Request}
-use Rattle.hub_files.specs.Files.{bundle_of, first_faulty}
+use Rattle.hub_files.specs.Files.{bundle_of, first_faulty, part_fault}
 use Rattle.hub_files.specs.declared.part.Kind.{Kind}
 use Rattle.hub_files.specs.declared.part.Kind.TheVariants.{Profile, Rules, State, Certificates}
 use Rattle.hub_files.specs.declared.part.Part.{Part}
+use Rattle.hub_files.specs.declared.part.PartFault.{PartFault}
+use Rattle.hub_files.specs.declared.part.PartFault.TheVariants.{BadName, HasHeading}
 use Rattle.hub_serve.specs.Reads.{Reads}
-use Rattle.hub_serve.specs.Report.{Serves, WritesText}
+use Rattle.hub_serve.specs.Report.{AnswersNothing, Serves, WritesText}
 
 -- The line that says what is wrong with a file.
 abbrev pub file_fault_line : List ℕ → List ℕ → List ℕ
@@ -16,11 +18,17 @@ file_fault_line file reason = codes "fault: " ++ file ++ codes ": " ++ reason ++
 abbrev pub memory_line : List ℕ
 memory_line = codes "fault: out of memory\n"
 
--- A fault of this file was written, whatever it is, or that memory is out.
-abbrev pub WritesFault : List ℕ → Option (List ℕ) → Option (List ℕ) → Bool → ℕ → Type 0
-WritesFault file old new failed status =
-    ((reason : List ℕ) × WritesText old new (file_fault_line file reason) 2 failed status)
+-- The fault of this file was written, or that memory is out.
+abbrev pub WritesFault : List ℕ → List ℕ → Option (List ℕ) → Option (List ℕ) → Bool → ℕ → Type 0
+WritesFault file reason old new failed status =
+    WritesText old new (file_fault_line file reason) 2 failed status
     ⊎ WritesText old new memory_line 2 failed status
+
+-- It was written that a read of this file failed, that its reads were spent, or that memory is out.
+abbrev pub WritesUnread : List ℕ → Option (List ℕ) → Option (List ℕ) → Bool → ℕ → Type 0
+WritesUnread file old new failed status =
+    WritesFault file (codes "ReadFailed") old new failed status
+    ⊎ WritesFault file (codes "TurnsSpent") old new failed status
 
 -- The answer is given over the bundle that the files make, with some reads of it.
 abbrev pub ServesBundle : Option Request → List Part → Option (List ℕ) → Option (List ℕ) → Bool → ℕ
@@ -43,7 +51,21 @@ file_of (Some p) = p.file.now
 abbrev pub file_at : List Part → ℕ → List ℕ
 file_at parts n = file_of (slice_get parts n)
 
--- If each file can be a section, the answer is given over the bundle that they make. Else a fault
+-- Why a file can't be a section, as a word of the answer.
+abbrev pub reason_of : Option PartFault → List ℕ
+reason_of None = []
+reason_of (Some BadName) = codes "BadName"
+reason_of (Some (HasHeading line)) = codes "HasHeading"
+
+abbrev pub reason_in : Option Part → List ℕ
+reason_in None = []
+reason_in (Some p) = reason_of (part_fault p)
+
+-- Why the file of that number can't be a section.
+abbrev pub reason_at : List Part → ℕ → List ℕ
+reason_at parts n = reason_in (slice_get parts n)
+
+-- If each file can be a section, the answer is given over the bundle that they make. Else the fault
 -- of the first that can't be one was written. In both cases it may be that memory is out instead.
 pub record ServesParts (asked : Option Request) (parts : List Part) (old new : Option (List ℕ))
     (failed : Bool) (status : ℕ) : Type 0 where
@@ -51,7 +73,7 @@ pub record ServesParts (asked : Option Request) (parts : List Part) (old new : O
       → ServesBundle asked parts old new failed status
       ⊎ WritesText old new memory_line 2 failed status
   pub refused : (n : ℕ) → first_faulty parts ≡ Some n
-      → WritesFault (file_at parts n) old new failed status
+      → WritesFault (file_at parts n) (reason_at parts n) old new failed status
 
 -- The section that a file is for, and its path.
 abbrev pub Label : Type 0
@@ -72,11 +94,33 @@ labels names =
     ++ (label_if Rules names.rules
     ++ (label_if State names.state ++ label_if Certificates names.certificates))
 
--- The answer is given over bytes for each of the files that are named and for no other ones, each
--- in the section that it is for. Or it was written that one can't be read, or that memory is out.
-abbrev pub ServesFiles : Option Request → Names → Option (List ℕ) → Option (List ℕ) → Bool → ℕ
-    → Type 0
-ServesFiles asked names old new failed status =
+-- The bytes of files by their paths, where they are known.
+abbrev pub Contents : Type 0
+Contents = List ℕ → Option (List ℕ)
+
+-- The path of a section's file, and its bytes.
+abbrev pub bytes_of : Part → List ℕ × List ℕ
+bytes_of p = (p.file.now, p.bytes.now)
+
+-- These are the bytes of the file of this path, if they are known.
+abbrev pub HasContents : Contents → List ℕ × List ℕ → Type 0
+HasContents contents file = IfSome (contents file.0) (λ bytes. file.1 ≡ bytes)
+
+-- The answer is given over the bytes of each of the files that are named and of no other ones, each
+-- in the section that it is for. Or it was written that one of them wasn't read, or that memory is
+-- out.
+abbrev pub ServesFiles : Contents → Option Request → Names → Option (List ℕ) → Option (List ℕ)
+    → Bool → ℕ → Type 0
+ServesFiles contents asked names old new failed status =
     ((parts : List Part) × (map label_of parts ≡ labels names)
+    × All (HasContents contents) (map bytes_of parts)
     × ServesParts asked parts old new failed status)
-    ⊎ ((file : List ℕ) × WritesFault file old new failed status)
+    ⊎ (((label : Label) × Contains (labels names) label × WritesUnread label.1 old new failed status)
+    ⊎ WritesText old new memory_line 2 failed status)
+
+-- The same, or nothing is answered, since the words ask for nothing.
+abbrev pub ServesNamed : Contents → Option Request → Names → Option (List ℕ) → Option (List ℕ)
+    → Bool → ℕ → Type 0
+ServesNamed contents asked names old new failed status =
+    ServesFiles contents asked names old new failed status
+    ⊎ ((asked ≡ None) × AnswersNothing old new status)

@@ -1,12 +1,14 @@
 //! Answers over a bundle that is made of files.
 ghost use Rattle.std.specs.Prelude.{◌≡◌, ◌++◌, ◌∷◌, [], IfOk, codes, false, map, string_bytes};
 ghost use Rattle.hub_cli.specs.Words.{asked_of};
+ghost use Rattle.hub_files.specs.Files as files;
 ghost use Rattle.hub_files.specs.Files.{bundle_of};
 ghost use Rattle.hub_serve.specs.Report.{WritesText};
-ghost use Rattle.hubsync.specs.Bundled.{ServesBundle, ServesParts, WritesFault, file_fault_line, file_at, memory_line};
+ghost use Rattle.hubsync.specs.Bundled as bundled;
+ghost use Rattle.hubsync.specs.Bundled.{ServesBundle, ServesParts, WritesFault, file_fault_line, file_at, memory_line, reason_at};
 
 use crate::kept::Kept;
-use crate::served::{Seen, serve_with_remarks};
+use crate::served::{Answered, Seen, serve_with_remarks};
 use hub_files::{FilesFault, Part, PartFault, bundle_of, part_fault};
 use hub_text::Watched;
 use std::alloc::{AllocError, Global};
@@ -24,11 +26,11 @@ pub fn serve_parts<T: AllocGlobal + Clock + Eprint + Threads + Wait + Sync, W: W
     parts: &[Part<'_>],
     output: &mut Watched<Kept<'_, W>>,
     seen: &Seen,
-) -> u8
+) -> Answered
     requires { output.old.failed ≡ false }
     ensures { ServesParts (asked_of (map string_bytes words.now)) parts.now
         (W.contents output.old.device.device) (W.contents output.new.device.device)
-        output.new.failed result }
+        output.new.failed result.status }
 {
     let alloc = rt.alloc();
     match bundle_of(alloc, parts) {
@@ -36,8 +38,8 @@ pub fn serve_parts<T: AllocGlobal + Clock + Eprint + Threads + Wait + Sync, W: W
             let mut input = Watched::new(Kept::new(bundle.as_slice(), &seen.input));
             serve_with_remarks(rt, words, files, &mut input, output, seen)
         }
-        Err(FilesFault::File(i)) => write_part_fault(rt, parts, i, output),
-        Err(FilesFault::OutOfMemory) => write_memory(output),
+        Err(FilesFault::File(i)) => Answered::plain(write_part_fault(rt, parts, i, output)),
+        Err(FilesFault::OutOfMemory) => Answered::plain(write_memory(output)),
     }
 }
 
@@ -49,7 +51,7 @@ fn write_part_fault<T: AllocGlobal + Eprint, W: Write>(
     output: &mut Watched<Kept<'_, W>>,
 ) -> u8
     requires { output.old.failed ≡ false }
-    ensures { WritesFault (file_at parts.now i)
+    ensures { WritesFault (file_at parts.now i) (reason_at parts.now i)
         (W.contents output.old.device.device) (W.contents output.new.device.device)
         output.new.failed result }
 {
@@ -66,7 +68,7 @@ fn write_why<T: AllocGlobal + Eprint, W: Write>(
     output: &mut Watched<Kept<'_, W>>,
 ) -> u8
     requires { output.old.failed ≡ false }
-    ensures { WritesFault part.now.file.now
+    ensures { WritesFault part.now.file.now (bundled.reason_of (files.part_fault part.now))
         (W.contents output.old.device.device) (W.contents output.new.device.device)
         output.new.failed result }
 {
@@ -77,7 +79,9 @@ fn write_why<T: AllocGlobal + Eprint, W: Write>(
 }
 
 /// Why a file can't be a section, as a word of the answer.
-fn reason_of(fault: Option<PartFault>) -> &'static str {
+fn reason_of(fault: Option<PartFault>) -> &'static str
+    ensures { result.now ≡ bundled.reason_of fault }
+{
     match fault {
         Some(PartFault::BadName) => "BadName",
         Some(PartFault::HasHeading(_)) => "HasHeading",
@@ -108,7 +112,7 @@ pub fn write_fault<W: Write>(
     output: &mut Watched<Kept<'_, W>>,
 ) -> u8
     requires { output.old.failed ≡ false }
-    ensures { WritesFault file.now
+    ensures { WritesFault file.now reason.now
         (W.contents output.old.device.device) (W.contents output.new.device.device)
         output.new.failed result }
 {

@@ -1,22 +1,24 @@
 //! The files that the words on the command line name, and what they have.
-ghost use Rattle.std.specs.Prelude.{◌≡◌, ◌++◌, false, length, map, option_map, string_bytes, IfErr, IfOk, OnOk};
+ghost use Rattle.std.specs.Prelude.{◌≡◌, ◌++◌, false, map, option_map, string_bytes, IfErr, IfOk, OnOk};
+ghost use Rattle.std.specs.List.{All};
 ghost use Rattle.hub_cli.specs.Words.{asked_of, names_of};
-ghost use Rattle.hubsync.specs.Bundled.{ServesFiles, WritesFault, label_if, label_of, labels};
+ghost use Rattle.hubsync.specs.Bundled.{HasContents, ServesFiles, WritesUnread, bytes_of, label_if, label_of, labels};
 ghost use Rattle.hub_files.specs.declared.part.Kind.TheVariants.{Profile};
-ghost use Rattle.hubsync.specs.Named.{label_named};
+ghost use Rattle.hubsync.specs.Named.{IsUnread, IsUnserved, bytes_held, label_held, label_named};
 
 use crate::bundled::{serve_parts, write_fault, write_memory};
 use crate::kept::Kept;
-use crate::served::Seen;
+use crate::reader::{FileReader, Unread};
+use crate::served::{Answered, Seen};
 use hub_cli::Files;
 use hub_files::{Kind, Part};
 use hub_text::Watched;
 use std::alloc::{AllocError, Global};
+use std::io;
 use std::io::{Eprint, Write};
 use std::sync::Wait;
 use std::thread::Threads;
 use std::time::Clock;
-use std::{fs, io};
 
 /// A file, and the section that it is for.
 #[derive(Clone, Copy)]
@@ -25,64 +27,90 @@ struct Named<'a> {
     file: &'a str,
 }
 
-/// Why the files weren't read.
-enum Unread<'a> {
-    /// This file can't be read.
-    File(&'a str, io::Error),
+/// A file that was read, and the section that it is for.
+#[derive(Drop)]
+struct Held<'a> {
+    kind: Kind,
+    file: &'a str,
+    bytes: Vec<u8>,
+}
+
+/// Why nothing is answered over the files.
+enum Unserved<'a> {
+    /// This file wasn't read.
+    File(&'a str, Unread),
     /// Out of memory.
     OutOfMemory,
 }
 
-impl<'a> From<AllocError> for Unread<'a> {
+impl<'a> From<AllocError> for Unserved<'a> {
+    ghost use Rattle.hubsync.specs.declared.files.Unserved.TheVariants.{OutOfMemory};
+    ghost use Rattle.std.specs.Prelude.{◌≡◌};
+
+    ghost from_gives = { λ _ u. u ≡ OutOfMemory };
+
     fn from(_: AllocError) -> Self {
-        Unread::OutOfMemory
+        Unserved::OutOfMemory
     }
 }
 
 /// Answers over the files that the words name, each in the section that it is for. If one can't be read, a fault says so, and the
 /// status is 2.
 ///
-/// What a file has, no contract can say: only that the answer is given over some bytes for each of these files, as `serve_parts`
-/// says.
-pub fn serve_files<T: AllocGlobal + Clock + Eprint + fs::Files + Threads + Wait + Sync, W: Write>(
+/// The answer is given over the bytes that the reader tells of these files, as `serve_parts` says.
+pub fn serve_files<
+    T: AllocGlobal + Clock + Eprint + Threads + Wait + Sync,
+    F: FileReader,
+    W: Write,
+>(
     rt: &T,
     words: &[String],
     files: &Files<'_>,
+    reader: &F,
     output: &mut Watched<Kept<'_, W>>,
     seen: &Seen,
-) -> u8
+) -> Answered
     requires { output.old.failed ≡ false }
-    ensures { ServesFiles (asked_of (map string_bytes words.now)) (names_of files.now)
+    ensures { ServesFiles (F.contents reader.now) (asked_of (map string_bytes words.now))
+        (names_of files.now)
         (W.contents output.old.device.device) (W.contents output.new.device.device)
-        output.new.failed result }
+        output.new.failed result.status }
 {
-    match serve_named(rt, words, files, output, seen) {
-        Ok(status) => status,
-        Err(Unread::File(file, error)) => write_unread(rt, file, error, output),
-        Err(Unread::OutOfMemory) => write_memory(output),
+    match serve_named(rt, words, files, reader, output, seen) {
+        Ok(answered) => answered,
+        Err(Unserved::File(file, why)) => Answered::plain(write_unread(rt, file, why, output)),
+        Err(Unserved::OutOfMemory) => Answered::plain(write_memory(output)),
     }
 }
 
 /// Reads the files that the words name, and answers over them.
-fn serve_named<'a, T: AllocGlobal + Clock + Eprint + fs::Files + Threads + Wait + Sync, W: Write>(
+fn serve_named<
+    'a,
+    T: AllocGlobal + Clock + Eprint + Threads + Wait + Sync,
+    F: FileReader,
+    W: Write,
+>(
     rt: &T,
     words: &[String],
     files: &Files<'a>,
+    reader: &F,
     output: &mut Watched<Kept<'_, W>>,
     seen: &Seen,
-) -> Result<u8, Unread<'a>>
+) -> Result<Answered, Unserved<'a>>
     requires { output.old.failed ≡ false }
-    ensures served { IfOk result (ServesFiles (asked_of (map string_bytes words.now))
-        (names_of files.now) (W.contents output.old.device.device)
-        (W.contents output.new.device.device) output.new.failed) }
+    ensures served { IfOk result (λ a. ServesFiles (F.contents reader.now)
+        (asked_of (map string_bytes words.now)) (names_of files.now)
+        (W.contents output.old.device.device) (W.contents output.new.device.device)
+        output.new.failed a.status) }
+    ensures named { IfErr result (IsUnserved (labels (names_of files.now))) }
     ensures unread { IfErr result (λ _. output.new.failed ≡ false) }
     ensures silent { IfErr result (λ _. W.contents output.new.device.device
         ≡ W.contents output.old.device.device) }
 {
     let alloc = rt.alloc();
     let named = named_files(alloc, files)?;
-    let contents = read_all(rt, named.as_slice())?;
-    let parts = parts_of(alloc, named.as_slice(), contents.as_slice())?;
+    let held = read_all(alloc, reader, named.as_slice())?;
+    let parts = parts_of(alloc, held.as_slice())?;
     let paths = paths_of(alloc, named.as_slice())?;
     Ok(serve_parts(rt, words, paths.as_slice(), parts.as_slice(), output, seen))
 }
@@ -126,42 +154,56 @@ fn push_named<'a>(
     Ok(())
 }
 
-/// What the files have.
-fn read_all<'a, T: AllocGlobal + fs::Files>(
-    rt: &T,
+/// Reads all of the files.
+fn read_all<'a, F: FileReader>(
+    alloc: Global,
+    reader: &F,
     named: &[Named<'a>],
-) -> Result<Vec<Vec<u8>>, Unread<'a>>
-    ensures { IfOk result (λ v. length v.items ≡ length named.now) }
+) -> Result<Vec<Held<'a>>, Unserved<'a>>
+    ensures labels { IfOk result (λ v. map label_held v.items ≡ map label_named named.now) }
+    ensures bytes { IfOk result
+        (λ v. All (HasContents (F.contents reader.now)) (map bytes_held v.items)) }
+    ensures err { IfErr result (IsUnserved (map label_named named.now)) }
 {
-    let mut contents = Vec::new(rt.alloc());
+    let mut held = Vec::new(alloc);
     for name in named {
-        match fs::read(rt, name.file) {
-            Ok(bytes) => {
-                if contents.push(bytes).is_err() {
-                    return Err(Unread::OutOfMemory);
-                }
-            }
-            Err(error) => return Err(Unread::File(name.file, error)),
+        let one = read_one(alloc, reader, *name)?;
+        if held.push(one).is_err() {
+            return Err(Unserved::OutOfMemory);
         }
     }
-    Ok(contents)
+    Ok(held)
 }
 
-/// The files with their bytes, of which there are as many.
-fn parts_of<'a>(
+/// Reads a file.
+fn read_one<'a, F: FileReader>(
     alloc: Global,
-    named: &[Named<'a>],
-    contents: &'a [Vec<u8>],
-) -> Result<Vec<Part<'a>>, AllocError>
-    requires { length contents.now ≡ length named.now }
-    ensures { IfOk result (λ v. map label_of v.items ≡ map label_named named.now) }
+    reader: &F,
+    named: Named<'a>,
+) -> Result<Held<'a>, Unserved<'a>>
+    ensures label { IfOk result (λ h. label_held h ≡ label_named named.entry) }
+    ensures bytes { IfOk result (λ h. HasContents (F.contents reader.now) (bytes_held h)) }
+    ensures err { IfErr result (IsUnread (label_named named.entry)) }
+{
+    let Named { kind, file } = named;
+    match reader.read_file(alloc, file) {
+        Ok(bytes) => Ok(Held { kind, file, bytes }),
+        Err(Unread::OutOfMemory) => Err(Unserved::OutOfMemory),
+        Err(why) => Err(Unserved::File(file, why)),
+    }
+}
+
+/// The sections of the files.
+fn parts_of<'a>(alloc: Global, held: &'a [Held<'a>]) -> Result<Vec<Part<'a>>, AllocError>
+    ensures labels { IfOk result (λ v. map label_of v.items ≡ map label_held held.now) }
+    ensures bytes { IfOk result (λ v. map bytes_of v.items ≡ map bytes_held held.now) }
 {
     let mut parts = Vec::new(alloc);
-    for (number, name) in named.iter().enumerate() {
+    for one in held {
         parts.push(Part {
-            kind: name.kind,
-            file: name.file,
-            bytes: contents[number].as_slice(),
+            kind: one.kind,
+            file: one.file,
+            bytes: one.bytes.as_slice(),
         })?;
     }
     Ok(parts)
@@ -172,19 +214,37 @@ fn paths_of<'a>(alloc: Global, named: &[Named<'a>]) -> Result<Vec<&'a str>, Allo
     named.iter().map(|name| name.file).collect(alloc)
 }
 
-/// Says that a file can't be read, and with the system's words on standard error. If that fails too, there is nobody left to tell.
+/// Says why a file wasn't read, and with the system's words on standard error. If that fails too, there is nobody left to tell.
 fn write_unread<T: AllocGlobal + Eprint, W: Write>(
     rt: &T,
     file: &str,
-    error: io::Error,
+    why: Unread,
     output: &mut Watched<Kept<'_, W>>,
 ) -> u8
     requires { output.old.failed ≡ false }
-    ensures { WritesFault file.now
+    ensures { WritesUnread file.now
         (W.contents output.old.device.device) (W.contents output.new.device.device)
         output.new.failed result }
 {
-    let status = write_fault(rt.alloc(), file, "ReadFailed", output);
-    let _ = eprintln!(rt; "hubsync: {file} can't be read: {error}");
-    status
+    match why {
+        Unread::ReadFailed(error) => {
+            let status = write_fault(rt.alloc(), file, "ReadFailed", output);
+            say_unread(rt, file, error);
+            status
+        }
+        Unread::TurnsSpent => {
+            let status = write_fault(rt.alloc(), file, "TurnsSpent", output);
+            let _ = eprintln!(rt; "hubsync: {file} has no end, as far as it was read");
+            status
+        }
+        Unread::OutOfMemory => write_memory(output),
+    }
+}
+
+/// Says on standard error that a file can't be read.
+fn say_unread<T: Eprint>(rt: &T, file: &str, error: Option<io::Error>) {
+    let _ = match error {
+        Some(error) => eprintln!(rt; "hubsync: {file} can't be read: {error}"),
+        None => eprintln!(rt; "hubsync: {file} can't be read"),
+    };
 }

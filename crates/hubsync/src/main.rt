@@ -11,22 +11,24 @@
 mod bundled;
 mod files;
 mod kept;
+mod reader;
 mod served;
 mod terminal;
 
-ghost use Rattle.std.specs.Prelude.{◌≡◌, ◌⊎◌, None, false, map, string_bytes, true};
-ghost use Rattle.hub_cli.specs.Words.{are_none, asked_of, files_of};
+ghost use Rattle.std.specs.Prelude.{◌≡◌, ◌⊎◌, false, map, string_bytes, true};
+ghost use Rattle.hub_cli.specs.Words.{are_none, asked_of, files_of, is_strict_of};
 ghost use Rattle.hub_serve.specs.Reads.{reads_between};
-ghost use Rattle.hubsync.specs.Bundled.{ServesFiles, ServesInput};
+ghost use Rattle.hubsync.specs.Bundled.{ServesInput, ServesNamed};
+ghost use Rattle.hubsync.specs.Strict.{Strictly};
 
 use crate::bundled::write_memory;
 use crate::files::serve_files;
 use crate::kept::Kept;
-use crate::served::{Seen, serve_with_remarks};
-use hub_cli::{ErrorKind, read_files};
+use crate::reader::{FileReader, SystemFiles};
+use crate::served::{Answered, Seen, serve_with_remarks};
+use hub_cli::{ErrorKind, read_options};
 use hub_serve::{NoProgress, serve_process};
 use hub_text::Watched;
-use std::fs::Files;
 use std::io::{Eprint, IsTerminal, Read, Write};
 use std::process::ExitCode;
 use std::rt::Env;
@@ -45,6 +47,7 @@ fn main(rt: HostRuntime) -> ExitCode {
             &rt,
             words.as_slice(),
             is_terminal,
+            &SystemFiles::new(&rt),
             &mut input,
             &mut output,
             &seen,
@@ -59,11 +62,18 @@ fn arguments<R: AllocGlobal + Env>(rt: &R) -> io::Result<Vec<String>> {
     Ok(env::args(rt)?.collect(rt.alloc())?)
 }
 
-/// Answers over the files that the words name, or over standard input if they name none.
-fn answer<T: AllocGlobal + Clock + Eprint + Files + Threads + Wait + Sync, R: Read, W: Write>(
+/// Answers over the files that the words name, or over standard input if they name none. If the words ask for it by `--strict`,
+/// a yes that may mislead has the status 1.
+fn answer<
+    T: AllocGlobal + Clock + Eprint + Threads + Wait + Sync,
+    F: FileReader,
+    R: Read,
+    W: Write,
+>(
     rt: &T,
     words: &[String],
     is_terminal: bool,
+    reader: &F,
     input: &mut Watched<Kept<'_, R>>,
     output: &mut Watched<Kept<'_, W>>,
     seen: &Seen,
@@ -71,31 +81,47 @@ fn answer<T: AllocGlobal + Clock + Eprint + Files + Threads + Wait + Sync, R: Re
     requires input { input.old.failed ≡ false }
     requires output { output.old.failed ≡ false }
     ensures input { are_none (files_of (map string_bytes words.now)) ≡ true
-        → ServesInput (asked_of (map string_bytes words.now))
+        → Strictly (is_strict_of (map string_bytes words.now))
+        (ServesInput (asked_of (map string_bytes words.now))
         (R.remaining input.old.device.device) (W.contents output.old.device.device)
         (W.contents output.new.device.device)
-        (reads_between input.old input.new) output.new.failed result }
+        (reads_between input.old input.new) output.new.failed) result }
     ensures files { are_none (files_of (map string_bytes words.now)) ≡ false
-        → ServesFiles (asked_of (map string_bytes words.now))
+        → Strictly (is_strict_of (map string_bytes words.now))
+        (ServesNamed (F.contents reader.now) (asked_of (map string_bytes words.now))
         (files_of (map string_bytes words.now))
         (W.contents output.old.device.device) (W.contents output.new.device.device)
-        output.new.failed result
-        ⊎ (asked_of (map string_bytes words.now) ≡ None) }
+        output.new.failed) result }
 {
-    match read_files(rt.alloc(), words) {
-        Ok(files) => {
+    match read_options(rt.alloc(), words) {
+        Ok(options) => {
+            let files = &options.files;
             if !files.is_empty() {
-                return serve_files(rt, words, &files, output, seen);
+                let answered = serve_files(rt, words, files, reader, output, seen);
+                return strict_status(answered, options.is_strict);
             }
             say_waiting(rt, is_terminal);
+            let answered = serve_with_remarks(rt, words, &[], input, output, seen);
+            strict_status(answered, options.is_strict)
         }
         Err(error) => {
             if error.kind() == ErrorKind::OutOfMemory {
                 return write_memory(output);
             }
+            serve_with_remarks(rt, words, &[], input, output, seen).status
         }
     }
-    serve_with_remarks(rt, words, &[], input, output, seen)
+}
+
+/// The status of an answer: if strictness is asked for, 1 for a yes that may mislead.
+fn strict_status(answered: Answered, is_strict: bool) -> u8
+    ensures plain { is_strict ≡ false → result ≡ answered.status }
+    ensures strict { (result ≡ answered.status) ⊎ ((answered.status ≡ 0) × (result ≡ 1)) }
+{
+    if is_strict && answered.may_mislead && answered.status == 0 {
+        return 1;
+    }
+    answered.status
 }
 
 /// Says on a terminal that an input is awaited there.

@@ -45,6 +45,27 @@ impl Seen {
     }
 }
 
+/// What an answer says to the process.
+#[derive(Clone, Copy)]
+pub struct Answered {
+    /// Its status.
+    pub status: u8,
+    /// Whether a yes may mislead, or nothing could be looked at.
+    pub may_mislead: bool,
+}
+
+impl Answered {
+    /// An answer of this status, on which there is no remark.
+    pub fn plain(status: u8) -> Answered
+        ensures { result.status ≡ status }
+    {
+        Answered {
+            status,
+            may_mislead: false,
+        }
+    }
+}
+
 /// Does what `serve` does, and then says on standard error what belongs to the answer. On a terminal it says how far it is, too.
 ///
 /// The remarks change neither the output nor the status, also if they can't be made or written. They are made of what is kept in
@@ -60,36 +81,38 @@ pub fn serve_with_remarks<
     input: &mut Watched<Kept<'_, R>>,
     output: &mut Watched<Kept<'_, W>>,
     seen: &Seen,
-) -> u8
+) -> Answered
     requires input { input.old.failed ≡ false }
     requires output { output.old.failed ≡ false }
     ensures { Serves (asked_of (map string_bytes words.now))
         (R.remaining input.old.device.device) (W.contents output.old.device.device)
         (W.contents output.new.device.device)
-        (reads_between input.old input.new) output.new.failed result }
+        (reads_between input.old input.new) output.new.failed result.status }
 {
     let progress = Terminal::new(rt, seen.by_terminal);
     let status = serve(rt, words, input, output, &progress);
-    say_remarks(rt, words, files, seen, output.failed());
-    status
+    let may_mislead = say_remarks(rt, words, files, seen, output.failed());
+    Answered {
+        status,
+        may_mislead,
+    }
 }
 
-/// Says what belongs to the answer. If standard error fails too, there is nobody left to tell.
+/// Says what belongs to the answer, and returns whether a yes may mislead. It also may where nothing could be looked at. If
+/// standard error fails too, there is nobody left to tell.
 fn say_remarks<T: AllocGlobal + Eprint>(
     rt: &T,
     words: &[String],
     files: &[&str],
     seen: &Seen,
     is_cut: bool,
-) {
-    let Ok(input) = seen.input.try_borrow() else {
-        return;
-    };
-    let Ok(output) = seen.output.try_borrow() else {
-        return;
+) -> bool {
+    let (Ok(input), Ok(output)) = (seen.input.try_borrow(), seen.output.try_borrow()) else {
+        return true;
     };
     if is_cut {
-        return say_cut(rt, output.error());
+        say_cut(rt, output.error());
+        return true;
     }
     if let Some(error) = input.error() {
         let _ = eprintln!(rt; "hubsync: standard input can't be read: {error}");
@@ -97,7 +120,9 @@ fn say_remarks<T: AllocGlobal + Eprint>(
     if let Ok(remarks) = remark(rt.alloc(), words, files, input.front(), output.front()) {
         let text = remarks.text.as_str();
         let _ = eprint!(rt; "{text}");
+        return remarks.may_mislead;
     }
+    true
 }
 
 /// Says that the answer isn't whole.

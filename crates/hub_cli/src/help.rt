@@ -99,9 +99,20 @@ standard input isn't read. Each operand is a profile, which is named by it:
 --certificates have the lines of these sections, without their headings. Such
 a file without one of a profile is a mistake in the words.
 
-The output is one line: 'safe', 'verified', 'overlap: ..', 'breach: ..',
-'too large: ..', 'refused: ..', 'reached', 'not reached' or 'fault: ..'.
-'certify' writes the text of the certificates in the place of 'safe'.
+'check', 'verify' and 'reach' print one line: 'safe', 'verified', 'reached',
+'not reached', 'overlap: ..', 'breach: ..', 'too large: ..', 'refused: ..' or
+'fault: ..'. 'certify' prints certificates in the place of 'safe', and 'clashes'
+a line for each clash, each rule that may be broken and what is too large to
+decide, with a path that shows it.
+
+'rounds' prints these lines:
+
+  rounds 2                  how many rounds were found
+  at least 2                so many profiles of which each two clash, or are too
+                            large to decide; if they clash, no fewer rounds do
+  round 1 docs              a profile of round 1
+  breach 0 lists            a profile that may break rule 0: it is in no round
+  too large 0 lists         the same, if whether it may wasn't found out
 
 If the jobs are run, these lines stand below 'safe', for the profiles in their
 order, and then the new state:
@@ -124,10 +135,11 @@ Graphviz. Profiles that clash are joined by a red line, and a profile that may
 break a rule is a red box. What is too large to decide is dashed.
 
 Exit status:
-  0  safe and no job stopped, verified, certificates, reached or not reached
+  0  safe and no job stopped, verified, certificates, reached or not reached;
+     rounds, if each profile is in one and nothing was too large to decide
   1  the profiles may not run at the same time, or may break a rule, or that
-     they are safe was not shown; with --strict also in the place of 0, if
-     standard error has a note that a yes may mislead
+     they are safe was not shown; a profile in no round; with --strict also in
+     the place of 0, if standard error has a note that a yes may mislead
   2  a fault of the input or of the command line, or a failed output; help and
      version too
   3  a job was stopped, or no job was run: 'run fault: ..'

@@ -1,5 +1,5 @@
 #!/usr/bin/env bash
-# Tries from-prf.sh and items.sh, and state-of-folder.sh on a state of version 2. ./test calls this script.
+# Tries from-prf.sh, items.sh and ./install, and state-of-folder.sh on a state of version 2. ./test calls this script.
 #
 #     examples/scripts.sh [PROGRAM]
 #
@@ -377,6 +377,39 @@ replace /srv/s4 lists/members.txt
 LINES
 }
 
+# What ./install puts below a folder, twice, and that nothing of it is left after --uninstall.
+try_install() {
+    ask 0 ../install --prefix "$room/local"
+    ask 0 ../install --prefix "$room/local"
+    cmp "$folder/../dist/hubsync" local/bin/hubsync || complain 'another program was installed'
+    (cd local && find . -type f | LC_ALL=C sort) >installed
+    compare 'what is installed' installed <<'LINES'
+./bin/hubsync
+./share/bash-completion/completions/hubsync
+./share/fish/vendor_completions.d/hubsync.fish
+./share/hubsync/HubsyncAnswers.pm
+./share/hubsync/UnisonLines.pm
+./share/hubsync/UnisonProfiles.pm
+./share/hubsync/from-prf.sh
+./share/hubsync/items.sh
+./share/hubsync/state-of-folder.sh
+./share/hubsync/unison-by-rounds.sh
+./share/hubsync/verify.py
+./share/man/man1/hubsync.1
+./share/zsh/site-functions/_hubsync
+LINES
+    mkdir unison
+    printf '%s\n' 'root = /srv/hub' 'root = /srv/desk' 'path = docs' >unison/desk.prf
+    local/share/hubsync/from-prf.sh unison >bundle || complain 'an installed script fails'
+    echo mine >local/share/man/man1/other.1
+    ask 0 ../install --uninstall --prefix "$room/local"
+    (cd local && find . -type f) >installed
+    compare 'what is left' installed <<<./share/man/man1/other.1
+    ask 2 ../install --prefix
+    ask 2 ../install local
+    rm -R local unison bundle
+}
+
 if [ ! -x "$program" ]; then
     echo "scripts: there is no program at $program"
     exit 1
@@ -393,4 +426,5 @@ try_differences
 try_items
 try_archive
 try_run
+try_install
 [ "$wrong" = 0 ]

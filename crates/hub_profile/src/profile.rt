@@ -1,4 +1,4 @@
-ghost use Rattle.std.specs.Prelude.{◌≡◌, Some};
+ghost use Rattle.std.specs.Prelude.{◌≡◌, Some, IsTrue};
 
 use crate::bars::Bars;
 use crate::partial::Partial;
@@ -34,6 +34,7 @@ impl Model for Profile {
 }
 
 impl Profile {
+    ghost use Rattle.hub_profile.specs.Facts.{are_kept};
     ghost use Rattle.hub_profile.specs.Parts.{IsProfile, at_side, has_root};
 
     /// The profile's name.
@@ -122,6 +123,67 @@ impl Profile {
         ensures { result.now ≡ self.now.partial }
     {
         self.protected.partial.as_slice()
+    }
+
+    /// The profile with these patterns and partial bars in place of its own.
+    pub fn with_patterns(
+        self,
+        ignore: Items<PathSpec>,
+        ignorenot: Items<PathSpec>,
+        partial: Items<Partial>,
+    ) -> Profile
+        ensures { result ≡ record self { ignore = ignore; ignorenot = ignorenot; partial = partial } }
+    {
+        let Profile {
+            name,
+            roots,
+            paths,
+            ignore: _old_ignore,
+            ignorenot: _old_ignorenot,
+            protected,
+        } = self;
+        let Protected {
+            force,
+            prefer,
+            bars,
+            partial: _old_partial,
+        } = protected;
+        Profile {
+            name,
+            roots,
+            paths,
+            ignore,
+            ignorenot,
+            protected: Protected {
+                force,
+                prefer,
+                bars,
+                partial,
+            },
+        }
+    }
+
+    /// The profile with these kept values in place of its own.
+    pub fn with_paths(self, paths: Items<RelPath>) -> Profile
+        requires { IsTrue (are_kept paths) }
+        ensures { result ≡ record self { paths = paths } }
+    {
+        let Profile {
+            name,
+            roots,
+            paths: _old_paths,
+            ignore,
+            ignorenot,
+            protected,
+        } = self;
+        Profile {
+            name,
+            roots,
+            paths,
+            ignore,
+            ignorenot,
+            protected,
+        }
     }
 }
 

@@ -1,5 +1,5 @@
 -- What the code of operations has against their definition.
-use Rattle.std.proofs.Common.{◌≡◌, ◌≢◌, Bool, true, false, cond, not, ◌&&◌, ◌||◌, List, [], ◌∷◌, ◌++◌, length, map, refl, ap, sym, ◌∙◌, append_assoc, ◌<◌, ◌≤◌, drop, get_or, arith}
+use Rattle.std.proofs.Common.{◌≡◌, Bool, true, false, cond, not, ◌&&◌, ◌||◌, List, [], ◌∷◌, ◌++◌, length, map, refl, ap, sym, ◌∙◌, append_assoc, ◌<◌, ◌≤◌, drop, get_or, arith}
 use Rattle.std.specs.Prelude.{ℕ, zero, suc, ◌==◌, filter}
 use Rattle.std.specs.List.{list_any}
 use Rattle.std.specs.FinMap as fin
@@ -12,10 +12,8 @@ use Rattle.hub_path.specs.Laws.{parent-last_name}
 use Rattle.hub_profile.specs.Parts.{Parts}
 use Rattle.hub_reach.specs.Reach.{reach, writes_at}
 use Rattle.hub_tree.specs.Tree.{Replica, contents_at, children, mark_at, names_at, is_absent, is_child, is_directory}
-use Rattle.hub_tree.specs.declared.contents.Contents.TheVariants as contents
 use Rattle.hub_tree.specs.declared.contents.Mark.{Mark}
 use Rattle.hub_tree.specs.declared.contents.Mark.TheVariants as mark
-use Rattle.hub_tree.specs.declared.fault.SetFault.TheVariants as set
 use Rattle.hub_reconcile.specs.Sight.{Sight, is_kept_value, is_kept_parent, reached_names, directory_or_absent, sight}
 
 -- A Look.

@@ -1,7 +1,8 @@
 //! Operations on a replica.
-ghost use Rattle.std.specs.Prelude.{◌≡◌, ◌&&◌, ◌||◌, ◌==◌, [], ◌∷◌, ◌++◌, not, length, filter, IfOk, IsTrue, OnOk, OnErr};
+ghost use Rattle.std.specs.Prelude.{◌≡◌, ◌&&◌, ◌||◌, ◌==◌, [], ◌∷◌, ◌++◌, not, length, filter, option_map, IfOk, IfSome, IsTrue, OnOk, OnErr};
 ghost use Rattle.std.specs.List.{list_all, list_any};
 ghost use Rattle.hub_path.specs.Path.{is_over, is_path, parent, path_eq};
+ghost use Rattle.sha2.specs.Sha256.{sha256};
 ghost use Rattle.hub_reach.specs.Reach as of_reach;
 ghost use Rattle.hub_reach.specs.Reach.{reach};
 ghost use Rattle.hub_tree.specs.Tree as of_tree;
@@ -15,7 +16,7 @@ use hub_path::{Name, RelPath, Root};
 use hub_profile::Profile;
 use hub_reach::{reaches, writes_at};
 use hub_text::Items;
-use hub_tree::{Contents, Mark, SetFault, Tree};
+use hub_tree::{Blob, Contents, Mark, SetFault, Tree};
 use std::alloc::{AllocError, Global};
 
 /// Makes an operation of a profile's job on the replica of a root, and returns its answer.
@@ -73,12 +74,12 @@ fn sight_at(
     ensures { IfOk result (λ s. s ≡ of_sight.sight profile.now root.now tree.now path.now) }
 {
     if reaches(profile, path) {
-        let (mark, names, others) = mark_and_seen_names(alloc, profile, tree, path)?;
+        let (mark, names, others, file) = look_with(alloc, profile, tree, path)?;
         let others = are_told(profile, root, path, others);
-        return sight_with(alloc, tree, path, mark, names, others);
+        return sight_with(alloc, mark, names, others, file);
     }
     if is_kept_top(profile, path) {
-        let (_, names, _) = mark_and_seen_names(alloc, profile, tree, path)?;
+        let (_, names, _, _) = look_with(alloc, profile, tree, path)?;
         return Sight::new(alloc, Mark::Directory, names, false);
     }
     let is_parent = is_kept_parent(profile, path)?;
@@ -86,24 +87,22 @@ fn sight_at(
     Sight::new(alloc, mark, Items::new(alloc), false)
 }
 
-/// Returns the sight of the mark that a path has, of these names, and of others. A file alone is shared.
+/// Returns the sight of this mark, which is that of the file if there is one, of these names, and of others. A file alone is
+/// shared.
 fn sight_with(
     alloc: Global,
-    tree: &Tree,
-    path: &RelPath,
     mark: Mark,
     names: Items<Name>,
     others: bool,
+    file: Option<&Blob>,
 ) -> Result<Sight, AllocError>
-    requires { mark ≡ of_tree.mark_at tree.now path.now }
+    requires { IfSome file (λ b. mark ≡ Mark.File (sha256 b.now)) }
     ensures { IfOk result (λ s. s ≡ record { mark = mark; names = names; others = others }) }
 {
-    if names.is_empty() && !others {
-        if let Some(file) = tree.blob_at(path) {
-            return Ok(Sight::of_file(file.copy()?));
-        }
+    match file {
+        Some(file) if names.is_empty() && !others => Ok(Sight::of_file(file.copy()?)),
+        _ => Sight::new(alloc, mark, names, others),
     }
-    Sight::new(alloc, mark, names, others)
 }
 
 /// Returns whether others are told: where the profile writes at that path of the root.
@@ -120,24 +119,26 @@ fn is_kept_top(profile: &Profile, path: &RelPath) -> bool
     path.len() == 0 && is_kept_value(profile, path)
 }
 
-/// Returns the mark of a path at or below a kept value, the names of those children that the profile reaches, and whether
-/// there are others.
-fn mark_and_seen_names(
+/// Returns the mark of a path at or below a kept value, the names of those children that the profile reaches, whether
+/// there are others, and the file at the path.
+fn look_with<'a>(
     alloc: Global,
     profile: &Profile,
-    tree: &Tree,
+    tree: &'a Tree,
     path: &RelPath,
-) -> Result<(Mark, Items<Name>, bool), AllocError>
+) -> Result<(Mark, Items<Name>, bool, Option<&'a Blob>), AllocError>
     requires { IsTrue (list_any (λ s. is_over s path.now) profile.now.paths) }
     ensures mark { IfOk result (λ r. r.0 ≡ of_tree.mark_at tree.now path.now) }
     ensures names { IfOk result
         (λ r. r.1 ≡ of_sight.reached_names profile.now tree.now path.now) }
     ensures others { IfOk result (λ r. r.2
         ≡ list_any (λ q. not (reach profile.now q)) (of_tree.children tree.now path.now)) }
+    ensures file { IfOk result (λ r. option_map (λ b. b.now) r.3
+        ≡ of_tree.bytes_at tree.now path.now) }
 {
-    let (mark, all) = tree.mark_and_names_at(path)?;
+    let (mark, all, file) = tree.look_at(path)?;
     let (names, others) = seen_names(alloc, profile, path, all)?;
-    Ok((mark, names, others))
+    Ok((mark, names, others, file))
 }
 
 /// Splits the names of the children of a path at or below a kept value into those that the profile reaches, and whether there

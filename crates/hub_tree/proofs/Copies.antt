@@ -8,10 +8,7 @@ use Rattle.std.specs.Ordering.{match_ordering}
 use Rattle.std.specs.declared.cmp.Ordering.TheVariants.{Less, Equal, Greater}
 use Rattle.hub_path.specs.Path.{Name, name_cmp}
 use Rattle.hub_tree.specs.Nodes.{Entries, entries_under, children_entries, replica_of}
-use Rattle.hub_tree.specs.declared.contents.Contents.TheVariants as contents
 use Rattle.hub_tree.specs.declared.node.Node.{Node}
-use Rattle.hub_tree.specs.declared.node.Node.TheViews as views
-use Rattle.hub_tree.specs.declared.node.Node.TheBlock as block
 use Rattle.hub_tree.specs.Laws.Order.{name_total}
 use Rattle.hub_tree.specs.Laws.Ascending.{copy_more}
 

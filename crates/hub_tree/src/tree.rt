@@ -186,21 +186,32 @@ impl Tree {
         }
     }
 
-    /// What `mark_at` and `names_at` return, in one walk: the mark of the contents at the path, and the names in the
-    /// directory there.
-    pub fn mark_and_names_at(&self, path: &RelPath) -> Result<(Mark, Items<Name>), AllocError>
+    /// What `mark_at`, `names_at` and `blob_at` return, in one walk: the mark of the contents at the path, the names in the
+    /// directory there, and the file there.
+    pub fn look_at<'a>(
+        &'a self,
+        path: &RelPath,
+    ) -> Result<(Mark, Items<Name>, Option<&'a Blob>), AllocError>
         ensures paths { tree.HasPaths self.now }
         ensures mark { IfOk result (λ r. r.0 ≡ tree.mark_at self.now path.now) }
         ensures names { IfOk result (λ r. r.1 ≡ tree.names_at self.now path.now) }
+        ensures file { IfOk result
+            (λ r. option_map (λ b. b.now) r.2 ≡ tree.bytes_at self.now path.now) }
     {
         let children = self.children();
         if path.len() == 0 {
-            return Ok((Mark::Directory, names_of(self.alloc, children)?));
+            return Ok((Mark::Directory, names_of(self.alloc, children)?, None));
         }
         match node_at(children, path, 0) {
-            Some(Node::File(blob)) => Ok((Mark::File(blob.digest()), Items::new(self.alloc))),
-            Some(Node::Directory(inner)) => Ok((Mark::Directory, names_of(self.alloc, inner)?)),
-            None => Ok((Mark::Absent, Items::new(self.alloc))),
+            Some(Node::File(blob)) => Ok((
+                Mark::File(blob.digest()),
+                Items::new(self.alloc),
+                Some(blob),
+            )),
+            Some(Node::Directory(inner)) => {
+                Ok((Mark::Directory, names_of(self.alloc, inner)?, None))
+            }
+            None => Ok((Mark::Absent, Items::new(self.alloc), None)),
         }
     }
 

@@ -8,8 +8,8 @@ use Rattle.hub_reconcile.specs.Sight.{Sight, directory_or_absent}
 use Rattle.hub_job.proofs.Performs.{sees_reached, sees_top, sees_elsewhere}
 use Rattle.hub_job.proofs.machine.sight_at.Goals as goal
 
-pub mark_and_seen_names-requires : goal.mark_and_seen_names-requires
-mark_and_seen_names-requires c = reach-below c.args.profile.now c.args.path.now (sym c.reaches.ensures ∙ c.if-reaches.true)
+pub look_with-requires : goal.look_with-requires
+look_with-requires c = reach-below c.args.profile.now c.args.path.now (sym c.reaches.ensures ∙ c.if-reaches.true)
 
 pub returns-then-reaches : goal.returns-then-reaches
 returns-then-reaches c =

@@ -1,12 +1,12 @@
-use Rattle.std.proofs.Common.{sym, ap, ◌∙◌, arith}
+use Rattle.std.proofs.Common.{sym, ap, ◌∙◌, arith, Some}
 use Rattle.std.specs.Arc.{arc_value}
 use Rattle.sha2.specs.Sha256.{sha256}
-use Rattle.hub_tree.specs.Tree.{mark_of}
+use Rattle.hub_tree.specs.Tree.{mark_of, bytes_of}
 use Rattle.hub_tree.specs.Nodes.{contents_of, kids_of}
 use Rattle.hub_tree.specs.declared.contents.Mark.TheVariants.{File}
 use Rattle.hub_tree.proofs.LookUp.{contents_at-node, contents_at-nothing, contents-file, contents-directory, kids-file, kids-directory}
 use Rattle.hub_tree.proofs.Names.{names_at-top, names_at-node, names_at-file, names_at-nothing}
-use Rattle.hub_tree.proofs.tree.Tree.mark_and_names_at.Goals as goal
+use Rattle.hub_tree.proofs.tree.Tree.look_at.Goals as goal
 
 pub returns-then-len-eq0-clause-names : goal.returns-then-len-eq0-clause-names
 returns-then-len-eq0-clause-names c =
@@ -37,3 +37,12 @@ returns-in-None-clause-mark c = sym (ap mark_of (contents_at-nothing _ _ _ c.chi
 
 pub returns-in-None-clause-names : goal.returns-in-None-clause-names
 returns-in-None-clause-names c = c.new-in-None.ensures ∙ sym (names_at-nothing c.children-children.result.now.entries _ c.args.path.now c.children-children.ensures.replica c.in-None.ensures)
+
+pub returns-in-Some-File-clause-file : goal.returns-in-Some-File-clause-file
+returns-in-Some-File-clause-file c = ap Some (c.in-Some-File.blob-is) ∙ sym (ap bytes_of (contents_at-node _ _ _ _ c.children-children.ensures.replica (omega arith) c.in-Some-File.ensures ∙ ap contents_of c.in-Some-File.field-0-is ∙ contents-file _))
+
+pub returns-in_ok-names_of-in-Some-Directory-clause-file : goal.returns-in_ok-names_of-in-Some-Directory-clause-file
+returns-in_ok-names_of-in-Some-Directory-clause-file c = sym (ap bytes_of (contents_at-node _ _ _ _ c.children-children.ensures.replica (omega arith) c.in-Some-Directory.ensures ∙ ap contents_of c.in-Some-Directory.field-0-is ∙ contents-directory _))
+
+pub returns-in-None-clause-file : goal.returns-in-None-clause-file
+returns-in-None-clause-file c = sym (ap bytes_of (contents_at-nothing _ _ _ c.children-children.ensures.replica (omega arith) c.in-None.ensures))

@@ -5,7 +5,7 @@ use Rattle.hub_path.specs.Path.{Name}
 use Rattle.hub_reach.specs.Reach.{reach}
 use Rattle.hub_job.proofs.OpenNames.{all_make_paths}
 use Rattle.hub_job.proofs.Performs.{names_reached, names_not_reached}
-use Rattle.hub_job.proofs.machine.mark_and_seen_names.Goals as goal
+use Rattle.hub_job.proofs.machine.look_with.Goals as goal
 
 pub seen_names-requires-clause-paths : goal.seen_names-requires-clause-paths
 seen_names-requires-clause-paths c = all_make_paths c.args.tree.now c.args.path.now c.in_ok-mark.all c.in_ok-mark.ensures.names c.in_ok-mark.ensures.paths

@@ -185,6 +185,39 @@ impl Profile {
             protected,
         }
     }
+
+    /// The profile with these bars on its whole roots in place of its own.
+    pub fn with_bars(self, bars: [Bars; 2]) -> Profile
+        ensures { result ≡ record self { bars = bars } }
+    {
+        let Profile {
+            name,
+            roots,
+            paths,
+            ignore,
+            ignorenot,
+            protected,
+        } = self;
+        let Protected {
+            force,
+            prefer,
+            bars: _old_bars,
+            partial,
+        } = protected;
+        Profile {
+            name,
+            roots,
+            paths,
+            ignore,
+            ignorenot,
+            protected: Protected {
+                force,
+                prefer,
+                bars,
+                partial,
+            },
+        }
+    }
 }
 
 /// Profiles are equal if all that they say is.

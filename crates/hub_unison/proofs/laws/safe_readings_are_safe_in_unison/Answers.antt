@@ -1,0 +1,10 @@
+use Rattle.std.proofs.Common.{map, refl}
+use Rattle.hub_unison.specs.Rules.{forbidden}
+use Rattle.hub_unison.specs.RulesLaws.{read-keeps, read-safe}
+use Rattle.hub_unison.proofs.laws.safe_readings_are_safe_in_unison.Goals as goal
+
+pub returns-clause-safe : goal.returns-clause-safe
+returns-clause-safe c Ps Cs Rs read safe = read-safe Ps Rs Cs (map forbidden Rs) read safe
+
+pub returns-clause-kept : goal.returns-clause-kept
+returns-clause-kept c Ps Cs Rs read safe = read-keeps Ps Rs Cs (map forbidden Rs) refl read safe

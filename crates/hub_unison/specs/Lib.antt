@@ -1,0 +1,11 @@
+pub mod Cautious
+pub mod CautiousLaws
+pub mod Kept
+pub mod Matching
+pub mod PatternLaws
+pub mod PieceLaws
+pub mod Rules
+pub mod RulesLaws
+pub mod SpareLaws
+pub mod Spares
+pub mod UnisonReach

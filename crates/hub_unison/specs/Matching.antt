@@ -1,0 +1,83 @@
+-- Which texts Unison's patterns match, as far as was observed.
+use Rattle.std.specs.Prelude.{IsTrue, ℕ, Bool, true, false, not, ◌&&◌, ◌||◌, ◌==◌, nat_lt, List, [], ◌∷◌, length, slice_index}
+use Rattle.std.specs.List.{list_any, list_all}
+use Rattle.hub_glob.specs.declared.piece.Piece.{Piece}
+use Rattle.hub_glob.specs.declared.piece.Part.{Part}
+use Rattle.hub_glob.specs.declared.path_spec.Kind.{Kind}
+use Rattle.hub_glob.specs.Specification.{Specification}
+use Rattle.hub_glob.specs.declared.piece.Piece.TheVariants.{Lit, Any, Run, OneOf}
+use Rattle.hub_glob.specs.declared.path_spec.Kind.TheVariants as kind
+use Rattle.hub_path.specs.Path.{Path, text_of, last_name, prefixes}
+use Rattle.hub_glob.specs.Glob.{Texts, begins, piece, choices, no_more, matches}
+
+-- The texts with no dot at the start of a component here.
+abbrev pub undotted : Texts → Texts
+undotted rest first t = not (first && slice_index t 0 == 46) && rest first t
+
+-- What one piece matches for certain, and then the rest: `?`, a set and `*` match no dot at the
+-- start of a component, and `*` doesn't even stand before one there. `?` and a set match ASCII
+-- characters; what they match of others isn't known, since they match bytes.
+abbrev pub sure_piece : Piece → Texts → Texts
+sure_piece (Lit c) rest = begins (λ d. d == c) rest
+sure_piece Any rest = undotted (begins (λ d. nat_lt d 128 && not (d == 47)) rest)
+sure_piece (OneOf cs) rest = undotted (begins (λ d. nat_lt d 128 && list_any (λ c. c == d) cs) rest)
+sure_piece Run rest = undotted (piece Run rest)
+
+abbrev pub sure_pieces : List Piece → Texts → Texts
+sure_pieces [] rest = rest
+sure_pieces (p ∷ ps) rest = sure_piece p (sure_pieces ps rest)
+
+-- Unison cuts a pattern at ` -> `, and reads braces before brackets. So what it makes of a `>`, and
+-- of a set with one of these characters, isn't known: `, > [ \ ] { }`.
+abbrev pub is_odd : ℕ → Bool
+is_odd c = c == 44 || c == 62 || c == 91 || c == 92 || c == 93 || c == 123 || c == 125
+
+abbrev pub is_known : Piece → Bool
+is_known (Lit c) = not (c == 62)
+is_known Any = true
+is_known Run = true
+is_known (OneOf cs) = not (list_any is_odd cs)
+
+-- Whether a pattern is made of pieces that are read alike, and of which it is known what they match
+-- at most: what hubsync has them match.
+abbrev pub is_simple_member : ℕ → Bool
+is_simple_member c = nat_lt c 128 && not (c == 47) && not (is_odd c)
+
+abbrev pub is_simple : Piece → Bool
+is_simple (Lit c) = not (c == 62)
+is_simple Any = false
+is_simple Run = true
+is_simple (OneOf cs) = list_all is_simple_member cs
+
+-- Whether each choice of a pattern is simple, or known.
+abbrev pub all_simple : List Part → Bool
+all_simple ps = list_all (λ c. list_all is_simple c) (choices ps)
+
+abbrev pub all_known : List Part → Bool
+all_known ps = list_all (λ c. list_all is_known c) (choices ps)
+
+-- The texts that a pattern matches for certain.
+abbrev pub sure_text : List Part → List ℕ → Bool
+sure_text ps t = all_known ps && list_any (λ c. sure_pieces c no_more true t) (choices ps)
+
+-- The paths of which a test passes the text that the kind looks at.
+abbrev pub of_kind : Kind → (List ℕ → Bool) → Path → Bool
+of_kind kind.Name test p = test (last_name p)
+of_kind kind.Path test p = test (text_of p)
+of_kind kind.BelowPath test p = list_any (λ q. test (text_of q)) (prefixes p)
+
+-- The paths that Unison matches for certain.
+unfoldable pub surely : Specification → Path → Bool
+surely s p = not (length p == 0) && of_kind s.kind (sure_text s.pattern) p
+
+-- The paths that it may match: of a simple pattern those that hubsync matches, of others any.
+unfoldable pub perhaps : Specification → Path → Bool
+perhaps s p = not (all_simple s.pattern) || matches s p
+
+-- What Unison matches is one of these.
+abbrev pub Matching : Type 0
+Matching = Specification → Path → Bool
+
+pub record IsMatching (m : Matching) : Type 0 where
+  pub least : (s : Specification) (p : Path) → IsTrue (surely s p) → IsTrue (m s p)
+  pub most : (s : Specification) (p : Path) → IsTrue (m s p) → IsTrue (perhaps s p)

@@ -1,0 +1,67 @@
+-- What specifications match for certain, and what they may match.
+use Rattle.std.proofs.Common.{◌≡◌, ◌==◌, ℕ, Bool, true, false, not, ◌&&◌, ◌||◌, List, [], ◌∷◌, length, refl, sym, ap, ◌∙◌}
+use Rattle.std.specs.Prelude.{nat_lt}
+use Rattle.std.specs.List.{list_any, list_all}
+use Rattle.std.proofs.lemmas.Bool.{and_parts, and_from, or_right}
+use Rattle.hub_text.specs.TestLaws.{any-or}
+use Rattle.hub_path.specs.Path.{Path, text_of, last_name, prefixes}
+use Rattle.hub_glob.specs.declared.piece.Piece.{Piece}
+use Rattle.hub_glob.specs.declared.piece.Part.{Part}
+use Rattle.hub_glob.specs.declared.path_spec.Kind.{Kind}
+use Rattle.hub_glob.specs.Specification.{Specification}
+use Rattle.hub_glob.specs.declared.piece.Piece.TheVariants.{Lit, Any, Run, OneOf}
+use Rattle.hub_glob.specs.declared.path_spec.Kind.TheVariants as kind
+use Rattle.hub_glob.specs.Glob.{pieces, glob, choices, no_more, matches, by_kind}
+use Rattle.hub_glob.specs.ChoiceLaws.{glob_choices}
+use Rattle.hub_unison.specs.Matching.{sure_pieces, sure_text, all_simple, all_known, of_kind, surely, perhaps, IsMatching}
+use Rattle.hub_unison.specs.PieceLaws.{any-weaker, sure-within}
+
+pub by_kind-of : (k : Kind) (ps : List Part) (p : Path) → by_kind k ps p ≡ of_kind k (glob ps true) p
+by_kind-of kind.Name ps p = refl
+by_kind-of kind.Path ps p = refl
+by_kind-of kind.BelowPath ps p = refl
+
+pub of_kind-weaker : (k : Kind) (f g : List ℕ → Bool) (p : Path)
+    → ((t : List ℕ) → f t ≡ true → g t ≡ true) → of_kind k f p ≡ true → of_kind k g p ≡ true
+of_kind-weaker kind.Name f g p w h = w (last_name p) h
+of_kind-weaker kind.Path f g p w h = w (text_of p) h
+of_kind-weaker kind.BelowPath f g p w h =
+    any-weaker (λ q. f (text_of q)) (λ q. g (text_of q)) (prefixes p) (λ q. w (text_of q)) h
+
+pub of_kind-or : (k : Kind) (f g : List ℕ → Bool) (p : Path)
+    → of_kind k (λ t. f t || g t) p ≡ (of_kind k f p || of_kind k g p)
+of_kind-or kind.Name f g p = refl
+of_kind-or kind.Path f g p = refl
+of_kind-or kind.BelowPath f g p =
+    sym (any-or (λ q. f (text_of q)) (λ q. g (text_of q)) (prefixes p))
+
+-- What is matched for certain, hubsync matches.
+sure-text-within : (ps : List Part) (t : List ℕ) → sure_text ps t ≡ true → glob ps true t ≡ true
+sure-text-within ps t h =
+    glob_choices ps true t
+    ∙ any-weaker (λ c. sure_pieces c no_more true t) (λ c. pieces c no_more true t) (choices ps)
+    (λ c. sure-within c true t)
+    (and_parts (all_known ps) (list_any (λ c. sure_pieces c no_more true t) (choices ps)) h).1
+
+pub surely-matches : (s : Specification) (p : Path) → surely s p ≡ true → matches s p ≡ true
+unfolding matches surely
+surely-matches s p h =
+    let parts = and_parts (not (length p == 0)) (of_kind s.kind (sure_text s.pattern) p) h in
+    and_from (not (length p == 0)) (by_kind s.kind s.pattern p) parts.0
+    (by_kind-of s.kind s.pattern p
+    ∙ of_kind-weaker s.kind (sure_text s.pattern) (glob s.pattern true) p
+    (sure-text-within s.pattern) parts.1)
+
+-- So hubsync's reading is one of those that Unison may have.
+pub matches_is_matching : IsMatching matches
+unfolding perhaps
+matches_is_matching = record {
+  least = surely-matches;
+  most = λ s p h. or_right (not (all_simple s.pattern)) (matches s p) h;
+}
+
+-- Of a simple pattern Unison matches at most what hubsync does.
+pub simple-perhaps : (s : Specification) (p : Path) → all_simple s.pattern ≡ true
+    → perhaps s p ≡ true → matches s p ≡ true
+unfolding perhaps
+simple-perhaps s p simple h = sym (ap (λ b. not b || matches s p) simple) ∙ h

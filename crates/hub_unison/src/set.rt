@@ -1,0 +1,65 @@
+//! The readings of a set's profiles.
+ghost use Rattle.std.specs.Prelude.{◌≡◌, IfOk, List, map};
+ghost use Rattle.hub_profile.specs.declared.rule.Rule.{Rule};
+ghost use Rattle.hub_unison.specs.Rules as unison;
+
+use crate::reading::cautious;
+use crate::tops::top_values;
+use hub_profile::{Bars, Profile, Rules};
+use hub_text::Items;
+use std::alloc::{AllocError, Global};
+
+/// Returns the readings of the profiles of a set with these rules, in their order. Without rules each is its cautious reading.
+/// Beside rules each is one that is wider still, since Unison breaks rules at more paths than it carries out items at: it
+/// ignores nothing, has no bars on paths, and `nocreation` only where it has `noupdate` of the same root.
+///
+/// If the readings and the rules are a safe set, no two of the profiles clash in Unison, and by none of them Unison breaks a rule
+/// ([`crate::laws`]).
+pub fn read_set(
+    alloc: Global,
+    profiles: Items<Profile>,
+    rules: &Rules,
+) -> Result<Items<Profile>, AllocError>
+    ensures { IfOk result (unison.AreReadForUnison profiles rules.now) }
+{
+    let mut readings = Items::new(alloc);
+    for profile in profiles.into_vec() {
+        readings.push(read(alloc, profile, rules)?)?;
+    }
+    Ok(readings)
+}
+
+/// Returns the reading of a profile beside these rules.
+fn read(alloc: Global, profile: Profile, rules: &Rules) -> Result<Profile, AllocError>
+    ensures { IfOk result (unison.IsReadingOf rules.now profile) }
+{
+    if rules.as_slice().is_empty() {
+        return cautious(alloc, profile);
+    }
+    for_rules(alloc, profile)
+}
+
+/// Returns the reading of a profile beside any rules.
+fn for_rules(alloc: Global, profile: Profile) -> Result<Profile, AllocError>
+    ensures { (Rs : List Rule) → IfOk result (unison.IsReadingOf Rs profile) }
+{
+    let tops = top_values(alloc, profile.paths())?;
+    let bars = bars_for_rules(profile.bars());
+    let kept = profile.with_paths(tops).with_bars(bars);
+    Ok(kept.with_patterns(Items::new(alloc), Items::new(alloc), Items::new(alloc)))
+}
+
+fn bars_for_rules(bars: &[Bars; 2]) -> [Bars; 2]
+    ensures { result ≡ map unison.rule_bars bars.now }
+{
+    [rule_bars(bars[0]), rule_bars(bars[1])]
+}
+
+fn rule_bars(bars: Bars) -> Bars
+    ensures { result ≡ unison.rule_bars bars }
+{
+    Bars {
+        create: bars.create && bars.update,
+        ..bars
+    }
+}

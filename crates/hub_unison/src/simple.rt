@@ -1,0 +1,56 @@
+//! Patterns of which it is known what Unison matches at most.
+ghost use Rattle.std.specs.Prelude.{◌≡◌, IfOk};
+ghost use Rattle.std.specs.List.{list_all};
+ghost use Rattle.hub_unison.specs.Matching as matching;
+
+use hub_glob::{PathSpec, Piece};
+use std::alloc::AllocError;
+
+/// Returns whether Unison matches at most what hubsync has the specification match: each of its choices is simple.
+pub(crate) fn is_simple(spec: &PathSpec) -> Result<bool, AllocError>
+    ensures { IfOk result (λ simple. simple ≡ matching.all_simple spec.now.pattern) }
+{
+    let choices = spec.choices()?;
+    Ok(
+        choices
+            .as_slice()
+            .iter()
+            .all(|choice| are_simple(choice.as_slice())),
+    )
+}
+
+fn are_simple(pieces: &[Piece]) -> bool
+    ensures { result ≡ list_all matching.is_simple pieces.now }
+{
+    pieces.iter().all(is_simple_piece)
+}
+
+fn is_simple_piece(piece: &Piece) -> bool
+    ensures { result ≡ matching.is_simple piece.now }
+{
+    match piece {
+        Piece::Lit(c) => *c != '>',
+        Piece::Any => false,
+        Piece::Run => true,
+        Piece::OneOf(set) => are_simple_members(set.as_slice()),
+    }
+}
+
+fn are_simple_members(set: &[char]) -> bool
+    ensures { result ≡ list_all matching.is_simple_member set.now }
+{
+    set.iter().all(|c| is_simple_member(*c))
+}
+
+fn is_simple_member(c: char) -> bool
+    ensures { result ≡ matching.is_simple_member c }
+{
+    c.is_ascii() && c != '/' && !is_odd(c)
+}
+
+/// Returns whether it isn't known what Unison makes of the character in a set.
+fn is_odd(c: char) -> bool
+    ensures { result ≡ matching.is_odd c }
+{
+    matches!(c, ',' | '>' | '[' | '\\' | ']' | '{' | '}')
+}

@@ -1,0 +1,228 @@
+//! What the readings reach, write and break.
+use crate::{cautious, read_set};
+use hub_path::{Name, RelPath, Root};
+use hub_profile::{Profile, Rules, Verb, read_profile, read_rules};
+use hub_reach::{may_at, reaches, writes_at};
+use hub_text::Items;
+use std::alloc::Global;
+
+/// Reads the profile over the roots `/srv/hub` and `/srv/s1` of these lines, with `; ` between them.
+fn profile_of(alloc: Global, lines: &str) -> Option<Profile> {
+    let mut text = String::from_str(alloc, "root = /srv/hub\nroot = /srv/s1\n").ok()?;
+    for line in lines.split("; ") {
+        text.push_str(line).ok()?;
+        text.push_str("\n").ok()?;
+    }
+    let name = Name::read(alloc, "p").ok()?;
+    read_profile(alloc, name, text.as_bytes()).ok()
+}
+
+/// The rows: lines, a path, whether hubsync reaches it, whether Unison 2.52.1 copied a file there from the hub to the spoke,
+/// and whether the cautious reading reaches it.
+#[test]
+fn reaches_what_unison_may(rt: HostRuntime) {
+    for (lines, path, own, unison, careful) in [
+        ("ignore = Name *.tmp", "x.tmp", false, false, false),
+        ("ignore = Name *.tmp", ".tmp", false, true, true),
+        ("ignore = Name *.tmp", "d/.tmp", false, true, true),
+        ("ignore = Name *.{tmp,bak}", "x.bak", false, false, false),
+        ("ignore = Name *.{tmp,bak}", ".bak", false, true, true),
+        ("ignore = Name *~", "x~", false, false, false),
+        ("ignore = Name .*", ".x", false, false, false),
+        ("ignore = Path */cache", "a/cache", false, false, false),
+        ("ignore = Path d/*.tmp", "d/x.tmp", false, false, false),
+        ("ignore = Path d/*.tmp", "d/.tmp", false, true, true),
+        ("ignore = Path */*.tmp", "d/x.tmp", false, false, false),
+        ("ignore = Path */*.tmp", "d/.tmp", false, true, true),
+        ("ignore = Path *.x/*.y", "a.x/b.y", false, false, false),
+        ("ignore = Name ??", "ab", false, false, true),
+        ("ignore = Name ??", ".h", false, true, true),
+        ("ignore = Name [.a]b", "ab", false, false, false),
+        ("ignore = Name x[.a]b", "x.b", false, false, false),
+        ("ignore = Name {.git,.svn}", "d/.git", false, false, false),
+        ("ignore = BelowPath *.d", "x.d/y", false, false, false),
+        ("ignore = Name a -> b", "a -> b", false, true, true),
+        (
+            "ignore = Name *; ignorenot = Name ?",
+            "x",
+            true,
+            false,
+            true,
+        ),
+        (
+            "ignore = Name *; ignorenot = Name ?",
+            "xy",
+            false,
+            false,
+            true,
+        ),
+        (
+            "ignore = Name *; ignorenot = Name k*",
+            "xy",
+            false,
+            false,
+            false,
+        ),
+        ("path = docs/*", "docs/x", false, true, true),
+        ("path = docs/*", "docs", false, false, true),
+        ("path = docs/*", "mail", false, false, false),
+        (
+            "path = docs/*; path = docs/a/b; path = mail/x; ignore = Path docs",
+            "docs/a/b",
+            true,
+            true,
+            true,
+        ),
+        (
+            "path = docs/*; path = docs/a/b; path = mail/x; ignore = Path docs",
+            "docs/c",
+            false,
+            true,
+            true,
+        ),
+        (
+            "path = docs/*; path = docs/a/b; path = mail/x; ignore = Path docs",
+            "mail/y",
+            false,
+            false,
+            false,
+        ),
+        ("path = *", "mail", false, true, true),
+        ("path = docs", "mail/x", false, false, false),
+        ("ignore = Path *.x/*.y", ".x/b.y", false, true, true),
+        ("ignore = Name {*.tmp,*~}", ".tmp", false, true, true),
+        ("ignore = Name {*.tmp,*~}", "x~", false, false, false),
+        (
+            "ignore = Name *.tmp; ignore = Name .tmp",
+            ".tmp",
+            false,
+            false,
+            true,
+        ),
+    ] {
+        let profile = profile_of(rt.alloc(), lines).expect(&rt, "a profile");
+        let at = RelPath::read(rt.alloc(), path).expect(&rt, "a path");
+        assert_eq!(rt; reaches(&profile, &at), own, "hubsync, {lines} at {path}");
+        assert_eq!(rt; careful || !unison, true, "the row, {lines} at {path}");
+        let reading = cautious(rt.alloc(), profile).expect(&rt, "memory");
+        assert_eq!(rt;
+            reaches(&reading, &at),
+            careful,
+            "cautious, {lines} at {path}"
+        );
+    }
+}
+
+/// The rows: lines, a path, whether hubsync writes at it on the spoke, and whether the cautious reading does.
+#[test]
+fn writes_what_unison_may(rt: HostRuntime) {
+    for (lines, path, own, careful) in [
+        (
+            "noupdatepartial = Name *.db -> /srv/s1; nocreationpartial = Name *.db -> /srv/s1",
+            "x.db",
+            false,
+            true,
+        ),
+        (
+            "noupdatepartial = Name x -> /srv/s1; nocreationpartial = Name x -> /srv/s1",
+            "d/x",
+            false,
+            false,
+        ),
+        (
+            "noupdatepartial = Name ? -> /srv/s1; nocreationpartial = Name ? -> /srv/s1",
+            "x",
+            false,
+            true,
+        ),
+    ] {
+        let profile = profile_of(rt.alloc(), lines).expect(&rt, "a profile");
+        let at = RelPath::read(rt.alloc(), path).expect(&rt, "a path");
+        let spoke = Root::read(rt.alloc(), "/srv/s1").expect(&rt, "a root");
+        assert_eq!(rt;
+            writes_at(&profile, &spoke, &at),
+            own,
+            "hubsync, {lines} at {path}"
+        );
+        let reading = cautious(rt.alloc(), profile).expect(&rt, "memory");
+        assert_eq!(rt;
+            writes_at(&reading, &spoke, &at),
+            careful,
+            "cautious, {lines} at {path}"
+        );
+    }
+}
+
+/// The reading of a profile beside rules.
+fn reading_of(alloc: Global, profile: Profile, rules: &Rules) -> Option<Profile> {
+    let mut profiles = Items::new(alloc);
+    profiles.push(profile).ok()?;
+    read_set(alloc, profiles, rules).ok()?.into_vec().pop()
+}
+
+/// Whether a profile may make the change at a path that it reaches.
+fn changes(profile: &Profile, root: &Root, path: &RelPath, verb: Verb) -> bool {
+    reaches(profile, path) && may_at(profile, root, path, verb)
+}
+
+/// The rows: lines, a path, a kind of change, whether hubsync may make it there on the spoke, whether Unison 2.52.1 made it, and
+/// whether the reading beside a rule may.
+#[test]
+fn breaks_what_unison_may(rt: HostRuntime) {
+    let text = b"root = /srv/s1\nnolose = Name x";
+    let rules = read_rules(rt.alloc(), text).expect(&rt, "rules");
+    for (lines, path, verb, own, unison, wide) in [
+        ("ignore = Path d/x", "d/x", Verb::Delete, false, true, true),
+        (
+            "nodeletionpartial = Name x -> /srv/s1",
+            "d/x",
+            Verb::Delete,
+            false,
+            true,
+            true,
+        ),
+        (
+            "nocreation = /srv/s1",
+            "d/x",
+            Verb::Create,
+            false,
+            true,
+            true,
+        ),
+        (
+            "nocreation = /srv/s1; noupdate = /srv/s1",
+            "d/x",
+            Verb::Create,
+            false,
+            false,
+            false,
+        ),
+        ("noupdate = /srv/s1", "x", Verb::Update, false, false, false),
+        (
+            "nodeletion = /srv/s1",
+            "d/x",
+            Verb::Delete,
+            false,
+            false,
+            false,
+        ),
+        ("force = /srv/s1", "x", Verb::Update, false, false, false),
+        ("path = d", "x", Verb::Delete, false, false, false),
+    ] {
+        let profile = profile_of(rt.alloc(), lines).expect(&rt, "a profile");
+        let at = RelPath::read(rt.alloc(), path).expect(&rt, "a path");
+        let spoke = Root::read(rt.alloc(), "/srv/s1").expect(&rt, "a root");
+        assert_eq!(rt;
+            changes(&profile, &spoke, &at, verb),
+            own,
+            "hubsync, {lines} at {path}"
+        );
+        assert_eq!(rt; wide || !unison, true, "the row, {lines} at {path}");
+        let read = reading_of(rt.alloc(), profile, &rules).expect(&rt, "memory");
+        assert_eq!(rt;
+            changes(&read, &spoke, &at, verb),
+            wide,
+            "read, {lines} at {path}"
+        );
+    }
+}

@@ -1,2 +1,4 @@
 pub mod Cutting
+pub mod Reasons
 pub mod Rivals
+pub mod Unverified

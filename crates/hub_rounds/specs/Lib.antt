@@ -1,3 +1,4 @@
 pub mod Lines
 pub mod Rounds
+pub mod Unverified
 pub mod RoundsExamples

@@ -1,5 +1,6 @@
 -- What lines say of which profiles. A line is a fault of the check.
-use Rattle.std.specs.Prelude.{◌≡◌, ◌==◌, ◌&&◌, ◌||◌, ℕ, Bool, true, false, List, Contains}
+use Rattle.std.specs.Prelude.{◌≡◌, ◌==◌, ◌&&◌, ◌||◌, ℕ, Bool, true, false, List, Option, None, Some, Contains}
+use Rattle.std.specs.List.{find}
 use Rattle.hub_cert.specs.declared.fault.CheckFault.{CheckFault}
 use Rattle.hub_cert.specs.declared.fault.CheckFault.TheVariants as fault
 use Rattle.hub_cert.specs.declared.goal.Goal.{Goal}
@@ -35,3 +36,20 @@ HasPair es i j = (e : CheckFault) × Contains es e × (names_pair (subject_of e)
 -- One of the lines is about this profile alone, and says why it is in no round.
 abbrev pub HasOwnLine : List CheckFault → ℕ → Obstacle → Type 0
 HasOwnLine es i why = (e : CheckFault) × Contains es e × (subject_of e ≡ Alone i why)
+
+-- It is about this profile alone, which may break a rule.
+abbrev pub tells_breach : ℕ → Subject → Bool
+tells_breach i (Alone p (Breach r)) = p == i
+tells_breach i (Alone p (TooLarge r)) = false
+tells_breach i (Pair w o) = false
+tells_breach i Nothing = false
+
+-- The first line that says of this profile that it may break a rule;
+abbrev pub first_breach : List CheckFault → ℕ → Option CheckFault
+first_breach es i = find (λ e. tells_breach i (subject_of e)) es
+
+-- and why it is in no round: by that line, if there is one.
+abbrev pub IsFirstReason : List CheckFault → ℕ → Obstacle → Type 0
+IsFirstReason es i (Breach r) =
+    (e : CheckFault) × (first_breach es i ≡ Some e) × (subject_of e ≡ Alone i (Breach r))
+IsFirstReason es i (TooLarge r) = first_breach es i ≡ None

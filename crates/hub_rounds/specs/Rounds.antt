@@ -4,7 +4,7 @@ use Rattle.std.specs.List.{range_with_len}
 use Rattle.hub_profile.specs.Parts.{Parts}
 use Rattle.hub_cert.specs.Set.{IsSafeSet, Members}
 use Rattle.hub_cert.specs.declared.fault.CheckFault.{CheckFault}
-use Rattle.hub_rounds.specs.Lines.{HasOwnLine, HasPair}
+use Rattle.hub_rounds.specs.Lines.{HasOwnLine, HasPair, IsFirstReason}
 use Rattle.hub_rounds.specs.declared.placing.Placed.{Placed}
 use Rattle.hub_rounds.specs.declared.placing.Placing.{Placing}
 use Rattle.hub_rounds.specs.declared.placing.Placing.TheVariants.{Round, Unplaced}
@@ -27,10 +27,11 @@ is_outside n (Unplaced why) = true
 abbrev pub profiles_in_round : ℕ → List Placed → List Parts
 profiles_in_round k ps = map (λ p. p.profile) (filter (λ p. is_in_round k p.placing) ps)
 
--- A profile stands in one of so many rounds, or a line says why it is in none.
+-- A profile stands in one of so many rounds, or a line says why it is in none: the first one that
+-- says that it breaks a rule, if there is such a line.
 abbrev pub IsPlaced : List CheckFault → ℕ → ℕ → Placing → Type 0
 IsPlaced es count i (Round k) = k < count
-IsPlaced es count i (Unplaced why) = HasOwnLine es i why
+IsPlaced es count i (Unplaced why) = HasOwnLine es i why × IsFirstReason es i why
 
 -- Each of them does.
 abbrev pub ArePlaced : List CheckFault → ℕ → List Placed → Type 0

@@ -2,18 +2,16 @@
 //!
 //! Nothing is stated of these numbers. Who relies on a line looks at it.
 
-use crate::placing::Obstacle;
 use crate::subject::{Subject, subject_of};
 use hub_cert::CheckFault;
 use std::alloc::{AllocError, Global};
 
-/// For each profile the first breach and the first line that a rule's goal is too large, and for each two profiles the first line
-/// about them, if there is one. The pairs are n rows of n cells for n profiles.
+/// For each profile the first line about it alone, and for each two profiles the first line about them, if there is one. The pairs
+/// are n rows of n cells for n profiles.
 #[derive(Drop)]
 pub(crate) struct Named {
     pairs: Vec<Vec<Option<usize>>>,
-    breaches: Vec<Option<usize>>,
-    too_large: Vec<Option<usize>>,
+    own: Vec<Option<usize>>,
 }
 
 impl Named {
@@ -25,8 +23,7 @@ impl Named {
     ) -> Result<Named, AllocError> {
         let mut named = Named {
             pairs: no_pairs(alloc, profiles)?,
-            breaches: no_lines(alloc, profiles)?,
-            too_large: no_lines(alloc, profiles)?,
+            own: no_lines(alloc, profiles)?,
         };
         for (line, fault) in lines.iter().enumerate() {
             named.note(subject_of(fault), line);
@@ -41,30 +38,19 @@ impl Named {
                 note_in(&mut self.pairs, writer, other, line);
                 note_in(&mut self.pairs, other, writer, line);
             }
-            Subject::Alone { profile, reason } => self.note_alone(profile, reason, line),
+            Subject::Alone { profile, .. } => note_at(&mut self.own, profile, line),
             Subject::Nothing => {}
-        }
-    }
-
-    /// Notes that the line of that number says why a profile is in no round.
-    fn note_alone(&mut self, profile: usize, reason: Obstacle, line: usize) {
-        match reason {
-            Obstacle::Breach(_) => note_at(&mut self.breaches, profile, line),
-            Obstacle::TooLarge(_) => note_at(&mut self.too_large, profile, line),
         }
     }
 
     /// Returns the number of profiles.
     pub(crate) fn len(&self) -> usize {
-        self.breaches.len()
+        self.own.len()
     }
 
-    /// Returns the number of the first line about the profile alone, of a breach if there is one.
+    /// Returns the number of the first line about the profile alone.
     pub(crate) fn own_line(&self, profile: usize) -> Option<usize> {
-        match line_at(self.breaches.as_slice(), profile) {
-            Some(line) => Some(line),
-            None => line_at(self.too_large.as_slice(), profile),
-        }
+        line_at(self.own.as_slice(), profile)
     }
 
     /// Returns the number of the first line about both profiles.

@@ -1,7 +1,7 @@
 //! Where profiles stand.
-ghost use Rattle.std.specs.Prelude.{◌≡◌, ◌<◌, ◌≤◌, length, map, IfOk, IfSome};
+ghost use Rattle.std.specs.Prelude.{◌≡◌, ◌<◌, ◌≤◌, length, map, option_map, IfOk, IfSome};
 ghost use Rattle.hub_rounds.specs.Lines as said;
-ghost use Rattle.hub_rounds.specs.Lines.{HasOwnLine};
+ghost use Rattle.hub_rounds.specs.Lines.{HasOwnLine, IsFirstReason};
 ghost use Rattle.hub_rounds.specs.Rounds.{ArePlaced, AreUsed, IsPlaced, OpensRounds, is_in_round, is_in_some};
 ghost use Rattle.hub_rounds.specs.declared.placing.Placing.TheVariants.{Round};
 ghost use Rattle.hub_rounds.specs.declared.subject.Subject.TheVariants.{Alone};
@@ -105,13 +105,36 @@ fn placing_of(
     Ok(Placing::Round(round_of(seen, colour)?))
 }
 
-/// Returns why the profile of that number is in no round, if there is a line about it alone.
+/// Returns why the profile of that number is in no round, if there is a line about it alone: the first breach, if there is one.
 fn own_reason(lines: &[CheckFault], named: &Named, number: usize) -> Option<Obstacle>
-    ensures { IfSome result (λ why. HasOwnLine lines.now number why) }
+    ensures own { IfSome result (HasOwnLine lines.now number) }
+    ensures first { IfSome result (IsFirstReason lines.now number) }
 {
     let line = named.own_line(number)?;
-    let own = lines.get(line)?;
-    reason_of(own, number)
+    match first_breach(lines, number) {
+        Some(own) => reason_of(own, number),
+        None => Some(Obstacle::TooLarge(too_large_rule(lines.get(line)?, number)?)),
+    }
+}
+
+/// Returns the first line that says that the profile of that number may break a rule.
+fn first_breach(lines: &[CheckFault], number: usize) -> Option<&CheckFault>
+    ensures { option_map (λ e. e.now) result ≡ said.first_breach lines.now number }
+{
+    lines.iter().find(|line| tells_breach(line, number))
+}
+
+/// Returns whether the line says that the profile of that number may break a rule.
+fn tells_breach(line: &CheckFault, number: usize) -> bool
+    ensures { result ≡ said.tells_breach number (said.subject_of line.now) }
+{
+    match subject_of(line) {
+        Subject::Alone {
+            profile,
+            reason: Obstacle::Breach(_),
+        } => profile == number,
+        _ => false,
+    }
 }
 
 /// Returns why the profile of that number is in no round, if the line is about it alone.
@@ -125,6 +148,16 @@ fn reason_of(line: &CheckFault, number: usize) -> Option<Obstacle>
         Some(reason)
     } else {
         None
+    }
+}
+
+/// Returns the rule whose goal is too large for the profile of that number, if the line says that.
+fn too_large_rule(line: &CheckFault, number: usize) -> Option<usize>
+    ensures { IfSome result (λ r. said.subject_of line.now ≡ Alone number (Obstacle.TooLarge r)) }
+{
+    match reason_of(line, number)? {
+        Obstacle::TooLarge(rule) => Some(rule),
+        Obstacle::Breach(_) => None,
     }
 }
 

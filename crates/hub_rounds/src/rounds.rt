@@ -1,8 +1,10 @@
 //! Rounds of a set.
-ghost use Rattle.std.specs.Prelude.{◌≡◌, ◌<◌, ℕ, not, filter, map, IfOk, OnOk};
+ghost use Rattle.std.specs.Prelude.{◌≡◌, ◌<◌, ℕ, not, filter, map, IfErr, IfOk, OnOk};
 ghost use Rattle.std.specs.List.{range_with_len};
-ghost use Rattle.hub_cert.specs.Set.{IsSafeSet};
+ghost use Rattle.hub_cert.specs.Set.{IsSafeSet, Members};
 ghost use Rattle.hub_rounds.specs.Rounds.{AreRounds, is_in_round, is_outside, profiles_in_round};
+ghost use Rattle.hub_rounds.specs.Unverified as unverified;
+ghost use Rattle.hub_rounds.specs.Unverified.{IsFaultBelow, IsFaultOf, IsRoundsFault, RefusesRound};
 
 use crate::clashes::Clashes;
 use crate::clique::rivals_of;
@@ -35,14 +37,15 @@ pub struct Rounds {
 /// Cuts a set into rounds, by what clashes in it. The profiles and rules of a round are a safe set, which the check has verified.
 ///
 /// Each profile is in exactly one round, or it is left out because a line says that it breaks a rule by itself, or that the
-/// rule's goal is too large. Tests show that the first breach is told, if there is one; that two profiles that a line names are
-/// put into different rounds, also if their goal is too large; and that the rounds, in the order of their first profiles, are
-/// the fewest, and the rivals the most, if at most 24 profiles are in rounds.
+/// rule's goal is too large; the first breach is told, if there is one. Tests show that two profiles that a line names are put
+/// into different rounds, also if their goal is too large; and that the rounds, in the order of their first profiles, are the
+/// fewest, and the rivals the most, if at most 24 profiles are in rounds.
 ///
-/// The set is taken apart, and nothing of it is copied. It is lost if there is a fault: `NotVerified` if the check refuses a
+/// The set is taken apart, and nothing of it is copied. It is lost if there is a fault: `NotVerified` only if the check refuses a
 /// round, as it may if the lines are those of another set; or `OutOfMemory`.
 pub fn rounds_of(alloc: Global, set: ProfileSet, clashes: &Clashes) -> Result<Rounds, RoundsFault>
-    ensures { IfOk result (AreRounds set clashes.now) }
+    ensures rounds { IfOk result (AreRounds set clashes.now) }
+    ensures refused { IfErr result (IsRoundsFault set clashes.now) }
 {
     let lines = clashes.lines();
     let named = Named::new(alloc, set.profiles().len(), lines)?;
@@ -76,6 +79,7 @@ fn cut(
     ensures rules { IfOk result (λ r. r.2 ≡ rules) }
     ensures safe { IfOk result (λ r. (k : ℕ) → k < count → IsSafeSet
         (record { profiles = profiles_in_round k placed.items; rules = rules })) }
+    ensures refused { IfErr result (IsFaultBelow count placed.items rules) }
 {
     let mut rest = placed;
     let mut rules = rules;
@@ -123,6 +127,8 @@ fn verified(
     ensures profiles { IfOk result (λ r. r.0 ≡ profiles) }
     ensures rules { IfOk result (λ r. r.1 ≡ rules) }
     ensures safe { IfOk result (λ r. IsSafeSet (record { profiles = profiles; rules = rules })) }
+    ensures refused { IfErr result
+        (IsFaultOf round (record { profiles = profiles; rules = rules })) }
 {
     match ProfileSet::new(alloc, profiles, rules) {
         Ok(set) => {
@@ -135,7 +141,8 @@ fn verified(
 
 /// Checks the set of a round.
 fn check_round(alloc: Global, set: &ProfileSet, round: usize) -> Result<(), RoundsFault>
-    ensures { OnOk result (IsSafeSet set.now) }
+    ensures safe { OnOk result (IsSafeSet set.now) }
+    ensures refused { IfErr result (IsFaultOf round set.now) }
 {
     match check(alloc, set) {
         Ok(verified) => {
@@ -148,9 +155,19 @@ fn check_round(alloc: Global, set: &ProfileSet, round: usize) -> Result<(), Roun
 }
 
 /// Returns why a round isn't verified.
-fn fault_of(fault: &CheckFault, round: usize) -> RoundsFault {
-    match fault {
-        CheckFault::OutOfMemory => RoundsFault::OutOfMemory,
-        _ => RoundsFault::NotVerified { round },
+fn fault_of(fault: &CheckFault, round: usize) -> RoundsFault
+    ensures { (S : Members) → RefusesRound S fault.now → IsFaultOf round S result }
+{
+    if is_memory(fault) {
+        RoundsFault::OutOfMemory
+    } else {
+        RoundsFault::NotVerified { round }
     }
+}
+
+/// Returns whether memory is out.
+fn is_memory(fault: &CheckFault) -> bool
+    ensures { result ≡ unverified.is_memory fault.now }
+{
+    matches!(fault, CheckFault::OutOfMemory)
 }

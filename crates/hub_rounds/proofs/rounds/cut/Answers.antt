@@ -1,13 +1,16 @@
 use Rattle.std.proofs.Common.{◌≡◌, ◌∙◌, ◌++◌, ◌∷◌, [], ⊎_elim, ℕ, not, List, filter, map, refl, sym, ap, ap₂, subst, arith}
 use Rattle.std.specs.List.{range_with_len}
 use Rattle.std.proofs.lemmas.List.FromFn.{map-range_with_len_more}
+use Rattle.hub_text.specs.Fails.{passed-up}
 use Rattle.hub_text.specs.ListLaws.{less-or-same}
 use Rattle.hub_profile.specs.Parts.{Parts}
 use Rattle.hub_profile.specs.declared.rule.Rule.{Rule}
 use Rattle.hub_cert.specs.Set.{IsSafeSet}
 use Rattle.hub_rounds.specs.Rounds.{is_in_round, is_outside, profiles_in_round}
+use Rattle.hub_rounds.specs.Unverified.{IsFaultBelow}
 use Rattle.hub_rounds.specs.declared.placing.Placed.{Placed}
 use Rattle.hub_rounds.proofs.Cutting.{all-outside, members-outside, others-outside}
+use Rattle.hub_rounds.proofs.Unverified.{fault-below}
 use Rattle.hub_rounds.proofs.rounds.cut.Goals as goal
 
 pub loop-round-init : goal.loop-round-init
@@ -54,3 +57,15 @@ pub returns-clause-safe : goal.returns-clause-safe
 returns-clause-safe c =
     let all : c.loop-round.round ≡ c.args.count = omega (arith, c.loop-round-test.false, c.loop-round.auto.round-end) in
     λ k l. c.loop-round.invariant.safe k (omega (arith, l, all))
+
+-- A round isn't verified.
+pub returns-in_err-own-2-clause-refused : goal.returns-in_err-own-2-clause-refused
+returns-in_err-own-2-clause-refused c =
+    let ps = c.args.placed.items in
+    let j = c.loop-round.round in
+    let i = c.loop-round.invariant in
+    let own = c.in_ok-own.ensures.own ∙ (ap (λ (xs : List Placed). profiles_in_round j xs) i.rest ∙ members-outside j ps) in
+    let before = c.loop-round-test.true in
+    let end = c.loop-round.auto.round-end in
+    passed-up c.from_residual-in_err-own-2.result c.in_err-own-2.field-0.0 (IsFaultBelow c.args.count ps c.args.rules) c.from_residual-in_err-own-2.ensures.1
+    (fault-below c.args.count j ps c.args.rules c.loop-round.rules c.in_ok-own.own c.in_err-own-2.field-0.0 (omega (arith, before, end)) own i.rules c.in_err-own-2.ensures.refused)

@@ -9,7 +9,7 @@ use Rattle.std.proofs.lemmas.Option.{get_or_from_slice_get, same_Some, slice_get
 use Rattle.hub_profile.specs.Parts.{Parts}
 use Rattle.hub_cert.specs.Set.{IsSafeSet, Members}
 use Rattle.hub_cert.specs.declared.fault.CheckFault.{CheckFault}
-use Rattle.hub_rounds.specs.Rounds.{ArePlaced, AreRivals, AreRounds, AreUsed, AreWhole, IsPlaced, is_in_round, is_in_some, is_outside, profiles_in_round}
+use Rattle.hub_rounds.specs.Rounds.{AreApart, ArePlaced, AreRivals, AreRounds, AreUsed, AreWhole, IsPlaced, is_in_round, is_in_some, is_outside, profiles_in_round}
 use Rattle.hub_rounds.specs.declared.placing.Placed.{Placed}
 use Rattle.hub_rounds.specs.declared.placing.Placing.{Placing}
 use Rattle.hub_rounds.specs.declared.placing.Placing.TheVariants.{Unplaced, Round}
@@ -125,15 +125,16 @@ used-members k (q ∷ ps) (suc i) p at is e = go (is_in_round k q.placing) (used
     go false rest f = rest f
 
 -- What is known of the profiles and of the rounds makes the answer.
-pub are-rounds : (S : Members) (es : List CheckFault) (r : Rounds) (ps : List Placed) (count : ℕ) → map (λ p. p.profile) ps ≡ S.profiles → ArePlaced es count ps → AreUsed count ps
+pub are-rounds : (S : Members) (es : List CheckFault) (r : Rounds) (ps : List Placed) (count : ℕ) → map (λ p. p.profile) ps ≡ S.profiles → ArePlaced es count ps → AreApart es ps → AreUsed count ps
     → r.rounds ≡ map (λ k. profiles_in_round k ps) (range_with_len 0 count) → r.left ≡ filter (λ p. is_outside count p.placing) ps
     → ((k : ℕ) → k < count → IsSafeSet (record { profiles = profiles_in_round k ps; rules = S.rules })) → AreRivals es ps r.rivals → AreWhole es ps r.rivals → r.rules ≡ S.rules → AreRounds S es r
-are-rounds S es r ps count all told used rounds left safe rivals whole rules =
+are-rounds S es r ps count all told apart used rounds left safe rivals whole rules =
     let many : length r.rounds ≡ count = ap length rounds ∙ length-map-range_with_len (λ k. profiles_in_round k ps) 0 count in
     record {
       placed = ps;
       all = all;
       told = subst (λ (n : ℕ). ArePlaced es n ps) (sym many) told;
+      apart = apart;
       rounds = rounds ∙ ap (λ n. map (λ k. profiles_in_round k ps) (range_with_len 0 n)) (sym many);
       left = left ∙ left-outside es count ps told;
       used = λ k Ps at empty.

@@ -3,11 +3,12 @@ use Rattle.std.proofs.Common.{◌≡◌, ◌∙◌, ◌⊎◌, ⊎_elim, inl, in
 use Rattle.std.specs.Prelude.{Contains}
 use Rattle.std.specs.List.{list_any}
 use Rattle.std.proofs.lemmas.Bool.{true≢false}
+use Rattle.std.proofs.lemmas.Bool.Decides.{nat_tests}
 use Rattle.std.proofs.lemmas.Option.{none-some, slice_get_within}
 use Rattle.hub_text.specs.ListLaws.{at-place, cons-cases, cons-here, cons-there, in-place, snoc-cases, snoc-new, snoc-old}
 use Rattle.hub_cert.specs.declared.fault.CheckFault.{CheckFault}
 use Rattle.hub_rounds.specs.Lines.{HasPair}
-use Rattle.hub_rounds.specs.Rounds.{ArePlaced, AreRivals, AreUsed, AreWhole, HasJoined, IsInRound, IsPlaced, MayJoin, OpensRounds}
+use Rattle.hub_rounds.specs.Rounds.{AreApart, ArePlaced, AreRivals, AreUsed, AreWhole, HasJoined, IsFreeFor, IsInRound, IsPlaced, MayJoin, OpensRounds, StandsFree, is_in_round}
 use Rattle.hub_rounds.specs.declared.placing.Placed.{Placed}
 use Rattle.hub_rounds.specs.declared.placing.Placing.{Placing}
 use Rattle.hub_rounds.specs.declared.placing.Placing.TheVariants.{Unplaced, Round}
@@ -82,3 +83,30 @@ one-used-more n m ps p opens are = λ k l. ⊎_elim
     (λ old. let w = are k old in (w.0, w.1, snoc-old ps p w.1 w.0 w.2, w.3))
     (λ new. (length ps, p, snoc-new ps p, new))
     (opens k l)
+
+-- No two of a round have a line, also with one more profile that stands in a round of those so far only if it is free for it.
+round-below : (es : List CheckFault) (n i k : ℕ) (q : Placing) → IsPlaced es n i q → is_in_round k q ≡ true → k < n
+round-below es n i k (Round own) h is = grind (arith, nat_tests, h, is)
+round-below es n i k (Unplaced why) h is = absurd (true≢false (sym is))
+
+pub stands-free : (es : List CheckFault) (ps : List Placed) (count i own : ℕ) → (own < count → IsFreeFor es ps own i) → StandsFree es ps count i (Round own)
+stands-free es ps count i own free = λ k l is.
+    let same : own ≡ k = grind (arith, nat_tests, is) in
+    subst (λ (x : ℕ). IsFreeFor es ps x i) same (free (subst (λ (x : ℕ). x < count) (sym same) l))
+
+pub none-apart : (es : List CheckFault) → AreApart es []
+none-apart es = λ i j k l in_i in_j pair. absurd (none-some in_i.0 in_i.1)
+
+pub one-apart-more : (es : List CheckFault) (n : ℕ) (ps : List Placed) (p : Placed) → ArePlaced es n ps → StandsFree es ps n (length ps) p.placing → AreApart es ps → AreApart es (ps ++ p ∷ [])
+one-apart-more es n ps p told free are = λ i j k l in_i in_j pair. ⊎_elim
+    (λ old_j. ⊎_elim
+    (λ old_i. are i j k l (in_i.0, old_i, in_i.2) (in_j.0, old_j, in_j.2) pair)
+    (λ new_i. let below = slice_get_within ps j in_j.0 old_j in let last = new_i.0 in absurd (omega (arith, l, below, last)))
+    (snoc-cases ps p in_i.0 i in_i.1))
+    (λ new_j. ⊎_elim
+    (λ old_i.
+    free k (round-below es n i k in_i.0.placing (told i in_i.0 old_i) in_i.2) (subst (λ (r : Placed). is_in_round k r.placing ≡ true) (sym new_j.1) in_j.2)
+    i (in_i.0, old_i, in_i.2) (subst (λ (x : ℕ). HasPair es i x) new_j.0 pair))
+    (λ new_i. let last_i = new_i.0 in let last_j = new_j.0 in absurd (omega (arith, l, last_i, last_j)))
+    (snoc-cases ps p in_i.0 i in_i.1))
+    (snoc-cases ps p in_j.0 j in_j.1)

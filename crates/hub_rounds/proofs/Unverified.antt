@@ -7,7 +7,7 @@ use Rattle.hub_cert.specs.Set.{Members}
 use Rattle.hub_cert.specs.declared.fault.CheckFault.{CheckFault}
 use Rattle.hub_cert.specs.declared.fault.CheckFault.TheVariants as fault
 use Rattle.hub_search.specs.Search.{IsFirstFault}
-use Rattle.hub_rounds.specs.Rounds.{ArePlaced, profiles_in_round}
+use Rattle.hub_rounds.specs.Rounds.{AreApart, ArePlaced, profiles_in_round}
 use Rattle.hub_rounds.specs.Unverified.{IsFaultBelow, IsFaultOf, IsRefusedRound, IsRoundsFault, RefusesRound}
 use Rattle.hub_rounds.specs.declared.fault.RoundsFault.{RoundsFault}
 use Rattle.hub_rounds.specs.declared.fault.RoundsFault.TheVariants.{NotVerified, OutOfMemory}
@@ -29,13 +29,14 @@ fault-below count k ps Rs Qs Ps (NotVerified n) l own rules h = (
 )
 
 -- and of the set that they are.
-pub rounds-fault : (S : Members) (es : List CheckFault) (ps : List Placed) (count : ℕ) (Rs : List Rule) (e : RoundsFault) → map (λ p. p.profile) ps ≡ S.profiles → ArePlaced es count ps → Rs ≡ S.rules
+pub rounds-fault : (S : Members) (es : List CheckFault) (ps : List Placed) (count : ℕ) (Rs : List Rule) (e : RoundsFault) → map (λ p. p.profile) ps ≡ S.profiles → ArePlaced es count ps → AreApart es ps → Rs ≡ S.rules
     → IsFaultBelow count ps Rs e → IsRoundsFault S es e
-rounds-fault S es ps count Rs OutOfMemory all told rules h = tt
-rounds-fault S es ps count Rs (NotVerified n) all told rules h = record {
+rounds-fault S es ps count Rs OutOfMemory all told apart rules h = tt
+rounds-fault S es ps count Rs (NotVerified n) all told apart rules h = record {
   placed = ps;
   count = count;
   all = all;
   told = told;
+  apart = apart;
   refused = (h.0, subst (λ (Xs : List Rule). IsRefusedRound (record { profiles = profiles_in_round n ps; rules = Xs })) rules h.1);
 }

@@ -48,6 +48,22 @@ AreUsed count ps =
     (k : ℕ) → k < count → (i : ℕ) × (p : Placed) × (slice_get ps i ≡ Some p)
     × (is_in_round k p.placing ≡ true)
 
+-- The profile of that number stands in this round.
+abbrev pub StandsIn : List Placed → ℕ → ℕ → Type 0
+StandsIn ps k i = (p : Placed) × (slice_get ps i ≡ Some p) × (is_in_round k p.placing ≡ true)
+
+-- In this round stands no profile with which that one has a line.
+abbrev pub IsFreeFor : List CheckFault → List Placed → ℕ → ℕ → Type 0
+IsFreeFor es ps k i = (j : ℕ) → StandsIn ps k j → HasPair es j i → ⊥
+
+-- If that one stands in one of so many rounds, it is such a round.
+abbrev pub StandsFree : List CheckFault → List Placed → ℕ → ℕ → Placing → Type 0
+StandsFree es ps count i q = (k : ℕ) → k < count → is_in_round k q ≡ true → IsFreeFor es ps k i
+
+-- No two profiles of a round have a line, that they clash or that their goal is too large.
+abbrev pub AreApart : List CheckFault → List Placed → Type 0
+AreApart es ps = (i j k : ℕ) → i < j → StandsIn ps k i → StandsIn ps k j → HasPair es i j → ⊥
+
 -- The profile of that number stands in a round.
 abbrev pub IsInRound : List Placed → ℕ → Type 0
 IsInRound ps i = (p : Placed) × (slice_get ps i ≡ Some p) × (is_in_some p.placing ≡ true)
@@ -77,12 +93,13 @@ abbrev pub AreWhole : List CheckFault → List Placed → List ℕ → Type 0
 AreWhole es ps ns = (i : ℕ) → (Contains ns i → ⊥) → MayJoin es ps ns i → ⊥
 
 -- The profiles of a set are cut into rounds by these lines. Each stands in exactly one place: in a
--- round, or left out for a reason that a line gives. No round is empty, and each is a safe set
--- together with the rules. The rules are those of the set.
+-- round, or left out for a reason that a line gives. No two of a round have a line. No round is
+-- empty, and each is a safe set together with the rules. The rules are those of the set.
 pub record AreRounds (S : Members) (es : List CheckFault) (r : Rounds) : Type 0 where
   pub placed : List Placed
   pub all : map (λ p. p.profile) placed ≡ S.profiles
   pub told : ArePlaced es (length r.rounds) placed
+  pub apart : AreApart es placed
   pub rounds : r.rounds ≡ map (λ k. profiles_in_round k placed) (range_with_len 0 (length r.rounds))
   pub left : r.left ≡ filter (λ p. not (is_in_some p.placing)) placed
   pub used : (k : ℕ) (Ps : List Parts) → slice_get r.rounds k ≡ Some Ps → Ps ≢ []

@@ -6,7 +6,7 @@ use Rattle.hub_cert.specs.Set.{Members}
 use Rattle.hub_cert.specs.declared.fault.CheckFault.{CheckFault}
 use Rattle.hub_cert.specs.declared.fault.CheckFault.TheVariants as fault
 use Rattle.hub_search.specs.Search.{IsFirstFault}
-use Rattle.hub_rounds.specs.Rounds.{ArePlaced, profiles_in_round}
+use Rattle.hub_rounds.specs.Rounds.{AreApart, ArePlaced, profiles_in_round}
 use Rattle.hub_rounds.specs.declared.fault.RoundsFault.{RoundsFault}
 use Rattle.hub_rounds.specs.declared.fault.RoundsFault.TheVariants.{NotVerified, OutOfMemory}
 use Rattle.hub_rounds.specs.declared.placing.Placed.{Placed}
@@ -35,12 +35,14 @@ IsFaultBelow count ps Rs (NotVerified k) =
     (k < count) × IsRefusedRound (record { profiles = profiles_in_round k ps; rules = Rs })
 IsFaultBelow count ps Rs OutOfMemory = ⊤
 
--- A round of a set is refused, where the profiles stand in rounds by these lines.
+-- A round of a set is refused, where the profiles stand in rounds by these lines, and no two of a
+-- round have one.
 pub record HasRefusedRound (S : Members) (es : List CheckFault) (e : RoundsFault) : Type 0 where
   pub placed : List Placed
   pub count : ℕ
   pub all : map (λ p. p.profile) placed ≡ S.profiles
   pub told : ArePlaced es count placed
+  pub apart : AreApart es placed
   pub refused : IsFaultBelow count placed S.rules e
 
 -- The fault by which a set isn't cut into rounds by these lines.

@@ -24,7 +24,8 @@
 //! take more steps than they may.
 //!
 //! A colouring is a guess. What is stated of rounds rests on `check`, and on the lines: each profile that is left out, and each
-//! two profiles of the lower bound, have a line that is looked at.
+//! two profiles of the lower bound, have a line that is looked at. A profile of which a line says that it clashes in the round of
+//! its colour gets a round of its own.
 //!
 //! The contracts use the words of `specs/Lines` (what a line says of which profiles) and `specs/Rounds` (where profiles stand),
 //! and hub_search's `specs/Faults` (the lines of a set).

@@ -1,8 +1,9 @@
 //! Where profiles stand.
-ghost use Rattle.std.specs.Prelude.{◌≡◌, ◌<◌, ◌≤◌, length, map, option_map, IfOk, IfSome};
+ghost use Rattle.std.specs.Prelude.{◌≡◌, ◌↔◌, ◌<◌, ◌≤◌, ℕ, true, false, length, map, option_map, IfOk, IfSome};
 ghost use Rattle.hub_rounds.specs.Lines as said;
 ghost use Rattle.hub_rounds.specs.Lines.{HasOwnLine, IsFirstReason};
-ghost use Rattle.hub_rounds.specs.Rounds.{ArePlaced, AreUsed, IsPlaced, OpensRounds, is_in_round, is_in_some};
+ghost use Rattle.hub_rounds.specs.Rounds.{AreApart, ArePlaced, AreUsed, IsFreeFor, IsPlaced, OpensRounds};
+ghost use Rattle.hub_rounds.specs.Rounds.{StandsFree, StandsIn, is_in_round, is_in_some};
 ghost use Rattle.hub_rounds.specs.declared.placing.Placing.TheVariants.{Round};
 ghost use Rattle.hub_rounds.specs.declared.subject.Subject.TheVariants.{Alone};
 
@@ -72,29 +73,33 @@ pub(crate) fn place_each(
 ) -> Result<(Vec<Placed>, usize), AllocError>
     ensures all { IfOk result (λ r. map (λ p. p.profile) r.0.items ≡ profiles.items) }
     ensures told { IfOk result (λ r. ArePlaced lines.now r.1 r.0.items) }
+    ensures apart { IfOk result (λ r. AreApart lines.now r.0.items) }
     ensures used { IfOk result (λ r. AreUsed r.1 r.0.items) }
 {
     let mut placed = Vec::with_capacity(alloc, profiles.len())?;
     let mut seen = Vec::new(alloc);
     for profile in profiles {
-        let placing = placing_of(&mut seen, lines, named, colours, placed.len())?;
+        let placing = placing_of(&mut seen, lines, named, colours, placed.as_slice())?;
         placed.push(Placed { profile, placing })?;
     }
     Ok((placed, seen.len()))
 }
 
-/// Says where the profile of that number stands, where these are the colours of the rounds so far.
+/// Says where the next profile stands, after those that are placed, where these are the colours of the rounds so far.
 fn placing_of(
     seen: &mut Vec<usize>,
     lines: &[CheckFault],
     named: &Named,
     colours: &[Option<usize>],
-    number: usize,
+    placed: &[Placed],
 ) -> Result<Placing, AllocError>
-    ensures told { IfOk result (λ p. IsPlaced lines.now (length seen.new.items) number p) }
+    ensures told { IfOk result (IsPlaced lines.now (length seen.new.items) (length placed.now)) }
     ensures grows { length seen.old.items ≤ length seen.new.items }
     ensures opened { IfOk result (OpensRounds (length seen.old.items) (length seen.new.items)) }
+    ensures free { IfOk result
+        (StandsFree lines.now placed.now (length seen.old.items) (length placed.now)) }
 {
+    let number = placed.len();
     if let Some(reason) = own_reason(lines, named, number) {
         return Ok(Placing::Unplaced(reason));
     }
@@ -102,7 +107,7 @@ fn placing_of(
         Some(Some(colour)) => *colour,
         _ => 0,
     };
-    Ok(Placing::Round(round_of(seen, colour)?))
+    Ok(Placing::Round(round_of(seen, lines, placed, colour)?))
 }
 
 /// Returns why the profile of that number is in no round, if there is a line about it alone: the first breach, if there is one.
@@ -161,17 +166,72 @@ fn too_large_rule(line: &CheckFault, number: usize) -> Option<usize>
     }
 }
 
-/// Returns the round of a colour. A colour that has none gets the next one.
-fn round_of(seen: &mut Vec<usize>, colour: usize) -> Result<usize, AllocError>
+/// Returns the round of a colour for the next profile. A colour that has none gets the next one, and so does a profile that
+/// isn't free to stand in the round of its colour.
+fn round_of(
+    seen: &mut Vec<usize>,
+    lines: &[CheckFault],
+    placed: &[Placed],
+    colour: usize,
+) -> Result<usize, AllocError>
     ensures below { IfOk result (λ k. k < length seen.new.items) }
     ensures grows { length seen.old.items ≤ length seen.new.items }
     ensures opened { IfOk result (λ k. OpensRounds (length seen.old.items) (length seen.new.items)
         (Round k)) }
+    ensures free { IfOk result (λ k. k < length seen.old.items
+        → IsFreeFor lines.now placed.now k (length placed.now)) }
 {
     if let Some(round) = seen.iter().position(|own| *own == colour) {
-        return Ok(round);
+        if is_free_for(lines, placed, round, placed.len()) {
+            return Ok(round);
+        }
     }
     let round = seen.as_slice().len();
     seen.push(colour)?;
     Ok(round)
+}
+
+/// Returns whether no profile stands in the round with which that one has a line. All lines are looked at.
+fn is_free_for(lines: &[CheckFault], placed: &[Placed], round: usize, number: usize) -> bool
+    ensures { result ≡ true → IsFreeFor lines.now placed.now round number }
+{
+    for line in lines {
+        if names_one_of(line, placed, round, number) {
+            return false;
+        }
+    }
+    true
+}
+
+/// Returns whether the line is about that profile and one that stands in the round.
+fn names_one_of(line: &CheckFault, placed: &[Placed], round: usize, number: usize) -> bool
+    ensures { result ≡ false → (j : ℕ) → StandsIn placed.now round j
+        → said.names_pair (said.subject_of line.now) j number ≡ true → ⊥ }
+{
+    match other_of(line, number) {
+        Some(other) => stands_in(placed, round, other),
+        None => false,
+    }
+}
+
+/// Returns the other profile of a line about that one and another.
+fn other_of(line: &CheckFault, number: usize) -> Option<usize>
+    ensures { (j : ℕ) → said.names_pair (said.subject_of line.now) j number ≡ true
+        → result ≡ Some j }
+{
+    match subject_of(line) {
+        Subject::Pair { writer, other } if writer == number => Some(other),
+        Subject::Pair { writer, other } if other == number => Some(writer),
+        _ => None,
+    }
+}
+
+/// Returns whether the profile of that number stands in the round.
+fn stands_in(placed: &[Placed], round: usize, number: usize) -> bool
+    ensures { result ≡ true ↔ StandsIn placed.now round number }
+{
+    match placed.get(number) {
+        Some(own) => own.placing.is_round(round),
+        None => false,
+    }
 }

@@ -37,9 +37,9 @@ pub struct Rounds {
 /// Cuts a set into rounds, by what clashes in it. The profiles and rules of a round are a safe set, which the check has verified.
 ///
 /// Each profile is in exactly one round, or it is left out because a line says that it breaks a rule by itself, or that the
-/// rule's goal is too large; the first breach is told, if there is one. Tests show that two profiles that a line names are put
-/// into different rounds, also if their goal is too large; and that the rounds, in the order of their first profiles, are the
-/// fewest, and the rivals the most, if at most 24 profiles are in rounds.
+/// rule's goal is too large; the first breach is told, if there is one. Two profiles that a line names are in different rounds,
+/// also if their goal is too large. Tests show that the rounds, in the order of their first profiles, are the fewest, and the
+/// rivals the most, if at most 24 profiles are in rounds.
 ///
 /// The set is taken apart, and nothing of it is copied. It is lost if there is a fault: `NotVerified` only if the check refuses a
 /// round, as it may if the lines are those of another set; or `OutOfMemory`.

@@ -3,9 +3,9 @@ use Rattle.std.proofs.lemmas.Iterator.Adapters.{YieldsList-from_vec}
 use Rattle.std.proofs.lemmas.Iterator.Consumers.{YieldsList-end}
 use Rattle.std.proofs.lemmas.List.{map-append, map-id}
 use Rattle.hub_profile.specs.Parts.{Parts}
-use Rattle.hub_rounds.specs.Rounds.{ArePlaced, AreUsed, IsPlaced}
+use Rattle.hub_rounds.specs.Rounds.{AreApart, ArePlaced, AreUsed, IsPlaced, StandsFree}
 use Rattle.hub_rounds.specs.declared.placing.Placed.{Placed}
-use Rattle.hub_rounds.proofs.Rivals.{none-placed, none-used, one-placed-more, one-used-more}
+use Rattle.hub_rounds.proofs.Rivals.{none-apart, none-placed, none-used, one-apart-more, one-placed-more, one-used-more}
 use Rattle.hub_rounds.proofs.placing.place_each.Goals as goal
 
 pub loop-profile-init : goal.loop-profile-init
@@ -15,6 +15,7 @@ loop-profile-init c =
     record {
       all = ap (map (λ (p : Placed). p.profile)) c.in_ok-placed.ensures.items;
       told = subst (λ (ps : List Placed). ArePlaced es n ps) (sym c.in_ok-placed.ensures.items) (none-placed es n);
+      apart = subst (λ (ps : List Placed). AreApart es ps) (sym c.in_ok-placed.ensures.items) (none-apart es);
       used = subst (λ (m : ℕ). AreUsed m c.in_ok-placed.placed.items) (sym (ap length c.new-seen.ensures.items)) (none-used c.in_ok-placed.placed.items);
     }
 
@@ -25,11 +26,14 @@ loop-profile-preserved c =
     let i = c.loop-profile.invariant in
     let p : Placed = record { profile = c.in-Some.profile; placing = c.in_ok-placing.placing } in
     let e = c.in_ok-placing.ensures in
-    let told = subst (λ (n : ℕ). IsPlaced es (length c.placing_of.new.seen.items) n p.placing) (c.len-in-loop-profile.ensures ∙ c.loop-profile.placed.ok.0) e.told in
+    let n = length c.loop-profile.seen.items in
+    let told = subst (λ (qs : List Placed). IsPlaced es (length c.placing_of.new.seen.items) (length qs) p.placing) c.as_slice.ensures.value e.told in
+    let free = subst (λ (qs : List Placed). StandsFree es qs n (length qs) p.placing) c.as_slice.ensures.value e.free in
     record {
       all = ap (map (λ (q : Placed). q.profile)) c.in_ok-push.ensures.items ∙ (map-append (λ (q : Placed). q.profile) ps (p ∷ []) ∙ ap (λ (xs : List Parts). xs ++ p.profile ∷ []) i.all);
-      told = subst (λ (qs : List Placed). ArePlaced es (length c.placing_of.new.seen.items) qs) (sym c.in_ok-push.ensures.items) (one-placed-more es (length c.loop-profile.seen.items) (length c.placing_of.new.seen.items) ps p e.grows told i.told);
-      used = subst (λ (qs : List Placed). AreUsed (length c.placing_of.new.seen.items) qs) (sym c.in_ok-push.ensures.items) (one-used-more (length c.loop-profile.seen.items) (length c.placing_of.new.seen.items) ps p e.opened i.used);
+      told = subst (λ (qs : List Placed). ArePlaced es (length c.placing_of.new.seen.items) qs) (sym c.in_ok-push.ensures.items) (one-placed-more es n (length c.placing_of.new.seen.items) ps p e.grows told i.told);
+      apart = subst (λ (qs : List Placed). AreApart es qs) (sym c.in_ok-push.ensures.items) (one-apart-more es n ps p i.told free i.apart);
+      used = subst (λ (qs : List Placed). AreUsed (length c.placing_of.new.seen.items) qs) (sym c.in_ok-push.ensures.items) (one-used-more n (length c.placing_of.new.seen.items) ps p e.opened i.used);
     }
 
 pub returns-clause-all : goal.returns-clause-all

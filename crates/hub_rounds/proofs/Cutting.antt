@@ -1,15 +1,16 @@
 -- Profiles that are taken out round by round.
-use Rattle.std.proofs.Common.{◌≡◌, ◌∙◌, ◌&&◌, ◌==◌, ◌<◌, ◌+◌, ℕ, zero, suc, Bool, true, false, not, cond, List, [], ◌∷◌, ◌++◌, append-nil, filter, get_or, length, map, Some, refl, sym, ap, ap₂, subst, arith}
+use Rattle.std.proofs.Common.{◌≡◌, ◌∙◌, ◌&&◌, ◌==◌, ◌<◌, ◌+◌, ℕ, zero, suc, Bool, true, false, not, cond, List, [], ◌∷◌, ◌++◌, append-nil, filter, length, map, Some, refl, sym, ap, ap₂, subst, arith}
 use Rattle.std.specs.List.{range_with_len}
 use Rattle.std.specs.Prelude.{nat_lt, slice_get}
 use Rattle.std.proofs.lemmas.Bool.Decides.{nat_tests}
 use Rattle.std.proofs.lemmas.List.Elements.{filter-append}
-use Rattle.std.proofs.lemmas.List.FromFn.{get_or-map-range_with_len, length-map-range_with_len}
-use Rattle.std.proofs.lemmas.Option.{get_or_from_slice_get, same_Some, slice_get_within}
+use Rattle.std.proofs.lemmas.List.FromFn.{length-map-range_with_len}
+use Rattle.std.proofs.lemmas.Option.{same_Some}
 use Rattle.hub_profile.specs.Parts.{Parts}
 use Rattle.hub_cert.specs.Set.{IsSafeSet, Members}
 use Rattle.hub_cert.specs.declared.fault.CheckFault.{CheckFault}
-use Rattle.hub_rounds.specs.Rounds.{AreApart, ArePlaced, AreRivals, AreRounds, AreUsed, AreWhole, IsPlaced, is_in_round, is_in_some, is_outside, profiles_in_round}
+use Rattle.hub_rounds.specs.Rounds.{AreSplit, ArePlaced, AreRivals, AreRounds, AreUsed, AreWhole, IsPlaced, is_in_round, is_in_some, is_outside, profiles_in_round}
+use Rattle.hub_rounds.specs.RoundsLaws.{round-at}
 use Rattle.hub_rounds.specs.declared.placing.Placed.{Placed}
 use Rattle.hub_rounds.specs.declared.placing.Placing.{Placing}
 use Rattle.hub_rounds.specs.declared.placing.Placing.TheVariants.{Unplaced, Round}
@@ -102,14 +103,6 @@ pub left-outside : (es : List CheckFault) (count : ℕ) (ps : List Placed) → A
     → filter (λ p. is_outside count p.placing) ps ≡ filter (λ p. not (is_in_some p.placing)) ps
 left-outside es count ps told = filter-alike (λ (p : Placed). is_outside count p.placing) (λ (p : Placed). not (is_in_some p.placing)) ps (λ n p at. outside-left es count n p.placing (told n p at))
 
--- The profiles of a round, by its number.
-round-at : (count : ℕ) (rs : List (List Parts)) (f : ℕ → List Parts) (k : ℕ) (Ps : List Parts) → rs ≡ map f (range_with_len 0 count) → slice_get rs k ≡ Some Ps → (k < count) × (Ps ≡ f k)
-round-at count rs f k Ps is at =
-    let many = ap length is ∙ length-map-range_with_len f 0 count in
-    let within = slice_get_within rs k Ps at in
-    let l : k < count = omega (arith, many, within) in
-    (l, sym (get_or_from_slice_get rs k Ps Ps at) ∙ (ap (λ xs. get_or xs k Ps) is ∙ get_or-map-range_with_len f 0 count k k Ps l (omega arith)))
-
 -- A round that has a profile isn't empty.
 used-members : (k : ℕ) (ps : List Placed) (i : ℕ) (p : Placed) → slice_get ps i ≡ Some p → is_in_round k p.placing ≡ true → profiles_in_round k ps ≡ [] → ⊥
 used-members k [] i p at is e = cc
@@ -125,16 +118,16 @@ used-members k (q ∷ ps) (suc i) p at is e = go (is_in_round k q.placing) (used
     go false rest f = rest f
 
 -- What is known of the profiles and of the rounds makes the answer.
-pub are-rounds : (S : Members) (es : List CheckFault) (r : Rounds) (ps : List Placed) (count : ℕ) → map (λ p. p.profile) ps ≡ S.profiles → ArePlaced es count ps → AreApart es ps → AreUsed count ps
+pub are-rounds : (S : Members) (es : List CheckFault) (r : Rounds) (ps : List Placed) (count : ℕ) → map (λ p. p.profile) ps ≡ S.profiles → ArePlaced es count ps → AreSplit es ps → AreUsed count ps
     → r.rounds ≡ map (λ k. profiles_in_round k ps) (range_with_len 0 count) → r.left ≡ filter (λ p. is_outside count p.placing) ps
     → ((k : ℕ) → k < count → IsSafeSet (record { profiles = profiles_in_round k ps; rules = S.rules })) → AreRivals es ps r.rivals → AreWhole es ps r.rivals → r.rules ≡ S.rules → AreRounds S es r
-are-rounds S es r ps count all told apart used rounds left safe rivals whole rules =
+are-rounds S es r ps count all told split used rounds left safe rivals whole rules =
     let many : length r.rounds ≡ count = ap length rounds ∙ length-map-range_with_len (λ k. profiles_in_round k ps) 0 count in
     record {
       placed = ps;
       all = all;
       told = subst (λ (n : ℕ). ArePlaced es n ps) (sym many) told;
-      apart = apart;
+      split = split;
       rounds = rounds ∙ ap (λ n. map (λ k. profiles_in_round k ps) (range_with_len 0 n)) (sym many);
       left = left ∙ left-outside es count ps told;
       used = λ k Ps at empty.

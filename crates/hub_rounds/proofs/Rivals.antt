@@ -8,7 +8,7 @@ use Rattle.std.proofs.lemmas.Option.{none-some, slice_get_within}
 use Rattle.hub_text.specs.ListLaws.{at-place, cons-cases, cons-here, cons-there, in-place, snoc-cases, snoc-new, snoc-old}
 use Rattle.hub_cert.specs.declared.fault.CheckFault.{CheckFault}
 use Rattle.hub_rounds.specs.Lines.{HasPair}
-use Rattle.hub_rounds.specs.Rounds.{AreApart, ArePlaced, AreRivals, AreUsed, AreWhole, HasJoined, IsFreeFor, IsInRound, IsPlaced, MayJoin, OpensRounds, StandsFree, is_in_round}
+use Rattle.hub_rounds.specs.Rounds.{AreSplit, ArePlaced, AreRivals, AreUsed, AreWhole, HasJoined, IsFreeFor, IsInRound, IsPlaced, MayJoin, OpensRounds, StandsFree, is_in_round}
 use Rattle.hub_rounds.specs.declared.placing.Placed.{Placed}
 use Rattle.hub_rounds.specs.declared.placing.Placing.{Placing}
 use Rattle.hub_rounds.specs.declared.placing.Placing.TheVariants.{Unplaced, Round}
@@ -94,11 +94,11 @@ stands-free es ps count i own free = λ k l is.
     let same : own ≡ k = grind (arith, nat_tests, is) in
     subst (λ (x : ℕ). IsFreeFor es ps x i) same (free (subst (λ (x : ℕ). x < count) (sym same) l))
 
-pub none-apart : (es : List CheckFault) → AreApart es []
-none-apart es = λ i j k l in_i in_j pair. absurd (none-some in_i.0 in_i.1)
+pub none-split : (es : List CheckFault) → AreSplit es []
+none-split es = λ i j k l in_i in_j pair. absurd (none-some in_i.0 in_i.1)
 
-pub one-apart-more : (es : List CheckFault) (n : ℕ) (ps : List Placed) (p : Placed) → ArePlaced es n ps → StandsFree es ps n (length ps) p.placing → AreApart es ps → AreApart es (ps ++ p ∷ [])
-one-apart-more es n ps p told free are = λ i j k l in_i in_j pair. ⊎_elim
+pub one-split-more : (es : List CheckFault) (n : ℕ) (ps : List Placed) (p : Placed) → ArePlaced es n ps → StandsFree es ps n (length ps) p.placing → AreSplit es ps → AreSplit es (ps ++ p ∷ [])
+one-split-more es n ps p told free are = λ i j k l in_i in_j pair. ⊎_elim
     (λ old_j. ⊎_elim
     (λ old_i. are i j k l (in_i.0, old_i, in_i.2) (in_j.0, old_j, in_j.2) pair)
     (λ new_i. let below = slice_get_within ps j in_j.0 old_j in let last = new_i.0 in absurd (omega (arith, l, below, last)))

@@ -61,8 +61,8 @@ abbrev pub StandsFree : List CheckFault → List Placed → ℕ → ℕ → Plac
 StandsFree es ps count i q = (k : ℕ) → k < count → is_in_round k q ≡ true → IsFreeFor es ps k i
 
 -- No two profiles of a round have a line, that they clash or that their goal is too large.
-abbrev pub AreApart : List CheckFault → List Placed → Type 0
-AreApart es ps = (i j k : ℕ) → i < j → StandsIn ps k i → StandsIn ps k j → HasPair es i j → ⊥
+abbrev pub AreSplit : List CheckFault → List Placed → Type 0
+AreSplit es ps = (i j k : ℕ) → i < j → StandsIn ps k i → StandsIn ps k j → HasPair es i j → ⊥
 
 -- The profile of that number stands in a round.
 abbrev pub IsInRound : List Placed → ℕ → Type 0
@@ -99,7 +99,7 @@ pub record AreRounds (S : Members) (es : List CheckFault) (r : Rounds) : Type 0 
   pub placed : List Placed
   pub all : map (λ p. p.profile) placed ≡ S.profiles
   pub told : ArePlaced es (length r.rounds) placed
-  pub apart : AreApart es placed
+  pub split : AreSplit es placed
   pub rounds : r.rounds ≡ map (λ k. profiles_in_round k placed) (range_with_len 0 (length r.rounds))
   pub left : r.left ≡ filter (λ p. not (is_in_some p.placing)) placed
   pub used : (k : ℕ) (Ps : List Parts) → slice_get r.rounds k ≡ Some Ps → Ps ≢ []

@@ -6,7 +6,7 @@ use Rattle.hub_cert.specs.Set.{Members}
 use Rattle.hub_cert.specs.declared.fault.CheckFault.{CheckFault}
 use Rattle.hub_cert.specs.declared.fault.CheckFault.TheVariants as fault
 use Rattle.hub_search.specs.Search.{IsFirstFault}
-use Rattle.hub_rounds.specs.Rounds.{AreApart, ArePlaced, profiles_in_round}
+use Rattle.hub_rounds.specs.Rounds.{AreSplit, ArePlaced, profiles_in_round}
 use Rattle.hub_rounds.specs.declared.fault.RoundsFault.{RoundsFault}
 use Rattle.hub_rounds.specs.declared.fault.RoundsFault.TheVariants.{NotVerified, OutOfMemory}
 use Rattle.hub_rounds.specs.declared.placing.Placed.{Placed}
@@ -42,7 +42,7 @@ pub record HasRefusedRound (S : Members) (es : List CheckFault) (e : RoundsFault
   pub count : ℕ
   pub all : map (λ p. p.profile) placed ≡ S.profiles
   pub told : ArePlaced es count placed
-  pub apart : AreApart es placed
+  pub split : AreSplit es placed
   pub refused : IsFaultBelow count placed S.rules e
 
 -- The fault by which a set isn't cut into rounds by these lines.

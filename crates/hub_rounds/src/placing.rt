@@ -2,7 +2,7 @@
 ghost use Rattle.std.specs.Prelude.{◌≡◌, ◌↔◌, ◌<◌, ◌≤◌, ℕ, true, false, length, map, option_map, IfOk, IfSome};
 ghost use Rattle.hub_rounds.specs.Lines as said;
 ghost use Rattle.hub_rounds.specs.Lines.{HasOwnLine, IsFirstReason};
-ghost use Rattle.hub_rounds.specs.Rounds.{AreApart, ArePlaced, AreUsed, IsFreeFor, IsPlaced, OpensRounds};
+ghost use Rattle.hub_rounds.specs.Rounds.{AreSplit, ArePlaced, AreUsed, IsFreeFor, IsPlaced, OpensRounds};
 ghost use Rattle.hub_rounds.specs.Rounds.{StandsFree, StandsIn, is_in_round, is_in_some};
 ghost use Rattle.hub_rounds.specs.declared.placing.Placing.TheVariants.{Round};
 ghost use Rattle.hub_rounds.specs.declared.subject.Subject.TheVariants.{Alone};
@@ -73,7 +73,7 @@ pub(crate) fn place_each(
 ) -> Result<(Vec<Placed>, usize), AllocError>
     ensures all { IfOk result (λ r. map (λ p. p.profile) r.0.items ≡ profiles.items) }
     ensures told { IfOk result (λ r. ArePlaced lines.now r.1 r.0.items) }
-    ensures apart { IfOk result (λ r. AreApart lines.now r.0.items) }
+    ensures split { IfOk result (λ r. AreSplit lines.now r.0.items) }
     ensures used { IfOk result (λ r. AreUsed r.1 r.0.items) }
 {
     let mut placed = Vec::with_capacity(alloc, profiles.len())?;

@@ -3,9 +3,9 @@ use Rattle.std.proofs.lemmas.Iterator.Adapters.{YieldsList-from_vec}
 use Rattle.std.proofs.lemmas.Iterator.Consumers.{YieldsList-end}
 use Rattle.std.proofs.lemmas.List.{map-append, map-id}
 use Rattle.hub_profile.specs.Parts.{Parts}
-use Rattle.hub_rounds.specs.Rounds.{AreApart, ArePlaced, AreUsed, IsPlaced, StandsFree}
+use Rattle.hub_rounds.specs.Rounds.{AreSplit, ArePlaced, AreUsed, IsPlaced, StandsFree}
 use Rattle.hub_rounds.specs.declared.placing.Placed.{Placed}
-use Rattle.hub_rounds.proofs.Rivals.{none-apart, none-placed, none-used, one-apart-more, one-placed-more, one-used-more}
+use Rattle.hub_rounds.proofs.Rivals.{none-split, none-placed, none-used, one-split-more, one-placed-more, one-used-more}
 use Rattle.hub_rounds.proofs.placing.place_each.Goals as goal
 
 pub loop-profile-init : goal.loop-profile-init
@@ -15,7 +15,7 @@ loop-profile-init c =
     record {
       all = ap (map (λ (p : Placed). p.profile)) c.in_ok-placed.ensures.items;
       told = subst (λ (ps : List Placed). ArePlaced es n ps) (sym c.in_ok-placed.ensures.items) (none-placed es n);
-      apart = subst (λ (ps : List Placed). AreApart es ps) (sym c.in_ok-placed.ensures.items) (none-apart es);
+      split = subst (λ (ps : List Placed). AreSplit es ps) (sym c.in_ok-placed.ensures.items) (none-split es);
       used = subst (λ (m : ℕ). AreUsed m c.in_ok-placed.placed.items) (sym (ap length c.new-seen.ensures.items)) (none-used c.in_ok-placed.placed.items);
     }
 
@@ -32,7 +32,7 @@ loop-profile-preserved c =
     record {
       all = ap (map (λ (q : Placed). q.profile)) c.in_ok-push.ensures.items ∙ (map-append (λ (q : Placed). q.profile) ps (p ∷ []) ∙ ap (λ (xs : List Parts). xs ++ p.profile ∷ []) i.all);
       told = subst (λ (qs : List Placed). ArePlaced es (length c.placing_of.new.seen.items) qs) (sym c.in_ok-push.ensures.items) (one-placed-more es n (length c.placing_of.new.seen.items) ps p e.grows told i.told);
-      apart = subst (λ (qs : List Placed). AreApart es qs) (sym c.in_ok-push.ensures.items) (one-apart-more es n ps p i.told free i.apart);
+      split = subst (λ (qs : List Placed). AreSplit es qs) (sym c.in_ok-push.ensures.items) (one-split-more es n ps p i.told free i.split);
       used = subst (λ (qs : List Placed). AreUsed (length c.placing_of.new.seen.items) qs) (sym c.in_ok-push.ensures.items) (one-used-more n (length c.placing_of.new.seen.items) ps p e.opened i.used);
     }
 

@@ -3,7 +3,7 @@ use Rattle.hub_text.specs.Fails.{passed-up}
 use Rattle.hub_cert.specs.Set.{IsSafeSet}
 use Rattle.hub_cert.specs.declared.fault.CheckFault.{CheckFault}
 use Rattle.hub_profile.specs.declared.rule.Rule.{Rule}
-use Rattle.hub_rounds.specs.Rounds.{AreApart, ArePlaced, AreRivals, AreWhole, profiles_in_round}
+use Rattle.hub_rounds.specs.Rounds.{AreSplit, ArePlaced, AreRivals, AreWhole, profiles_in_round}
 use Rattle.hub_rounds.specs.Unverified.{IsRoundsFault}
 use Rattle.hub_rounds.specs.declared.placing.Placed.{Placed}
 use Rattle.hub_rounds.proofs.Cutting.{are-rounds}
@@ -21,7 +21,7 @@ returns c =
       rounds = are-rounds c.args.set c.args.clashes.now _ ps count
           (c.in_ok-placed.ensures.all ∙ (c.into_vec-profiles.ensures ∙ c.into_members-profiles.ensures.profiles))
           (subst (λ (es : List CheckFault). ArePlaced es count ps) lines c.in_ok-placed.ensures.told)
-          (subst (λ (es : List CheckFault). AreApart es ps) lines c.in_ok-placed.ensures.apart)
+          (subst (λ (es : List CheckFault). AreSplit es ps) lines c.in_ok-placed.ensures.split)
           c.in_ok-placed.ensures.used
           e.rounds
           e.left
@@ -41,6 +41,6 @@ returns-in_err-rounds-clause-refused c =
     (rounds-fault c.args.set c.args.clashes.now ps count c.into_members-profiles.result.1 c.in_err-rounds.field-0.0
     (c.in_ok-placed.ensures.all ∙ (c.into_vec-profiles.ensures ∙ c.into_members-profiles.ensures.profiles))
     (subst (λ (es : List CheckFault). ArePlaced es count ps) c.lines-lines.ensures c.in_ok-placed.ensures.told)
-    (subst (λ (es : List CheckFault). AreApart es ps) c.lines-lines.ensures c.in_ok-placed.ensures.apart)
+    (subst (λ (es : List CheckFault). AreSplit es ps) c.lines-lines.ensures c.in_ok-placed.ensures.split)
     c.into_members-profiles.ensures.rules
     c.in_err-rounds.ensures.refused)

@@ -229,6 +229,36 @@ ask_certificates() {
     ask 'its own certificates' 0 '' hubsync verify
 }
 
+# A bundle of so many profiles of one hub, each of which clashes with the next one, and the last one with the first one. All
+# replicas are empty.
+ring() {
+    local i
+    for ((i = 0; i < $1; i++)); do
+        printf '%%profile p%d\nroot = /srv/hub\nroot = /srv/s%d\n' "$i" "$i"
+        printf 'path = a%d\npath = a%d/x\n' "$i" "$(((i + 1) % $1))"
+    done
+    printf '%s\n' %state 'hubsync state 1' 'replica /srv/hub'
+    for ((i = 0; i < $1; i++)); do
+        echo "replica /srv/s$i"
+    done
+    echo end
+}
+
+# `run --rounds` runs the rounds that `rounds` prints: as many, with the same profiles in the same order.
+ask_run_of_rounds() {
+    local count status
+    for count in 7 31; do
+        ring "$count" >"$room/input"
+        status=0
+        "$program" rounds <"$room/input" 2>"$room/errors" |
+            sed -n -e '/^rounds /p' -e 's/^round [0-9]* \(.*\)/job \1 finished/p' >"$room/wanted"
+        "$program" run --rounds <"$room/input" >"$room/output" 2>"$room/errors" || status=$?
+        sed -i '/^hubsync state/,$d' "$room/output"
+        judge "the rounds of a ring of $count" 0 "$status" || true
+        [ "$(wc -l <"$room/wanted")" = $((count + 1)) ] || complain "a ring of $count has $(wc -l <"$room/wanted") lines"
+    done
+}
+
 # Files: each operand is a profile, and options name the rules, the state and the certificates.
 ask_files() {
     local at=$room/files roots=$'root = /srv/hub\nroot = /srv/s1'
@@ -377,7 +407,7 @@ ask_failing_outputs() {
     judge_errors 'an output that is soon full' "$error: File too large (os error 27)"
 }
 
-parts=("$folder"/answers/*.txt many large certificates files long failing_inputs failing_outputs)
+parts=("$folder"/answers/*.txt many large certificates run_of_rounds files long failing_inputs failing_outputs)
 parts+=(limits forged large_states cut blanks)
 parts=("${parts[@]##*/}")
 if [ "${1-}" = --parts ]; then

@@ -1,5 +1,7 @@
 -- What is written below `safe` if jobs are to be run.
-use Rattle.std.specs.Prelude.{◌≡◌, ◌≢◌, ◌⊎◌, ◌↔◌, ◌<◌, ◌++◌, ℕ, true, List, [], map, Option, None, Some, string_bytes}
+use Rattle.std.specs.Prelude.{◌≡◌, ◌≢◌, ◌⊎◌, ◌↔◌, ◌<◌, ◌++◌, ℕ, true, List, [], map, string_bytes}
+use Rattle.std.specs.Prelude.{Option, None, Some, Result, Ok, Err, alloc_error}
+use Rattle.std.specs.declared.alloc.AllocError.{AllocError}
 use Rattle.hub_profile.specs.Parts.{Parts}
 use Rattle.hub_cert.specs.Set.{Members, IsSafeSet, forbidden_by}
 use Rattle.hub_state.specs.State.{State}
@@ -14,6 +16,8 @@ use Rattle.hub_runner.specs.declared.runs.TheConstants.{WORKERS}
 use Rattle.hub_report.specs.declared.run.Run.{Run}
 use Rattle.hub_report.specs.declared.run.RunError.{RunError}
 use Rattle.hub_report.specs.declared.run.RunError.TheVariants as fault
+use Rattle.hub_report.specs.declared.run_answer.RunAnswer.{RunAnswer}
+use Rattle.hub_report.specs.declared.run_answer.RunAnswer.TheVariants as answer
 use Rattle.hub_report.specs.Jobs.{lines_of_jobs}
 use Rattle.hub_report.specs.Run.{error_line}
 use Rattle.hub_serve.specs.declared.run.Attempt.{Attempt}
@@ -57,10 +61,20 @@ error_of unrun.ThreadRefused = Some fault.ThreadRefused
 error_of (unrun.Stranger job) = Some fault.Stranger
 error_of unrun.OutOfMemory = None
 
+-- What the attempt is then.
+abbrev pub attempt_of : Option RunError → Result Attempt AllocError
+attempt_of None = Err alloc_error
+attempt_of (Some e) = Ok (NotRun e)
+
 -- What comes of an attempt to run the jobs of a set on a state by n workers.
 abbrev pub ComesOf : Members → State → ℕ → Attempt → Type 0
 ComesOf M S n (Ran r) = MayRun S M.profiles n × HasRun M S r
 ComesOf M S n (NotRun e) = PreventsRun S M.profiles n e
+
+-- What is answered to an attempt.
+abbrev pub answer_of : Attempt → RunAnswer
+answer_of (Ran r) = answer.Ran r
+answer_of (NotRun e) = answer.NotRun e
 
 -- The jobs of a safe set were to be run, and were run: they left this,
 pub record HasRunAs (t : Task) (M : Members) (r : Run) : Type 0 where

@@ -8,7 +8,7 @@ ghost use Rattle.hub_schedule.specs.Simulated.{AreFinished, HaveEnded, IsPromise
 ghost use Rattle.hub_runner.specs.Working.{IsNotRun, MayRun};
 ghost use Rattle.hub_report.specs.Report.{unread_by};
 ghost use Rattle.hub_serve.specs.Report as report;
-ghost use Rattle.hub_serve.specs.Runs.{ComesOf, HasRun, IsRunOn, PreventsRun, error_of};
+ghost use Rattle.hub_serve.specs.Runs.{ComesOf, HasRun, IsRunOn, PreventsRun, answer_of, attempt_of, error_of};
 ghost use Rattle.hub_serve.specs.declared.task.Task.TheVariants as task;
 
 use crate::progress::{Jobs, Progress};
@@ -54,6 +54,7 @@ pub fn run_set<'a, T: Threads + Wait + Sync, P: Progress + Sync>(
 fn report_on_attempt<'a>(attempt: Attempt) -> Report<'a>
     ensures told { (M : Members) (S : State) (n : ℕ) → IsSafeSet M → ComesOf M S n attempt
         → (cs : List Certificate) → report.IsToldOfSet (task.RunJobs n S) M cs result }
+    ensures same { result ≡ Report.Run (answer_of attempt) }
     ensures read { unread_by result ≡ None }
 {
     match attempt {
@@ -102,8 +103,9 @@ fn run_watched<T: Threads + Wait + Sync, P: Progress + Sync>(
 
 /// Why the jobs weren't run, or that memory is out.
 fn not_run(fault: RunFault) -> Result<Attempt, AllocError>
-    ensures { (M : Members) (S : State) (n : ℕ) → IsNotRun S M.profiles n fault
+    ensures came { (M : Members) (S : State) (n : ℕ) → IsNotRun S M.profiles n fault
         → IfOk result (ComesOf M S n) }
+    ensures told { result ≡ attempt_of (error_of fault) }
 {
     match run_error(fault) {
         Some(error) => Ok(Attempt::NotRun(error)),

@@ -12,5 +12,5 @@ returns-in_ok-run_of-in-Ok-clause-came g c = (
 
 pub returns-in-Err-clause-came : goal.returns-in-Err-clause-came
 returns-in-Err-clause-came g c =
-    c.not_run.ensures c.args.verified.now c.args.state.now c.args.workers
+    c.not_run.ensures.came c.args.verified.now c.args.state.now c.args.workers
     (subst (λ n. IsNotRun c.args.state.now c.args.verified.now.profiles n c.in-Err.fault) c.from.ensures c.in-Err.ensures.refused)

@@ -1,0 +1,7 @@
+pub mod Again
+pub mod ArrowCuts
+pub mod Below
+pub mod Cuts
+pub mod Same
+pub mod Walk
+pub mod Words

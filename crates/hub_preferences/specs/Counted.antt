@@ -1,0 +1,80 @@
+-- Which lines of a bundle a cautious reading leaves out, and the bundle without them.
+use Rattle.std.specs.Prelude.{ℕ, Bool, true, false, not, ◌&&◌, ◌||◌, nat_eq, List, [], ◌∷◌, drop, if◌then◌else◌}
+use Rattle.std.specs.List.{list_any, starts_with}
+use Rattle.hub_text.specs.declared.line.Line.{Line}
+use Rattle.hub_text.specs.Lines.{lines_of, text_of_lines}
+use Rattle.hub_files.specs.Files.{is_heading, heading_word}
+use Rattle.hub_files.specs.declared.part.Kind.TheVariants.{Profile}
+use Rattle.hub_preferences.specs.Kinds.{kind_of, overrides_force, sets_force, is_unread_ignorenot}
+use Rattle.hub_preferences.specs.declared.kind.LineKind.{LineKind}
+use Rattle.hub_preferences.specs.declared.kind.LineKind.TheVariants as kind
+use Rattle.hub_preferences.specs.declared.section.Section.{Section}
+
+-- What these lines are, up to the next heading.
+abbrev pub kinds_below : List (Line (List ℕ)) → List LineKind
+kinds_below [] = []
+kinds_below (l ∷ ls) = if is_heading l.text then [] else kind_of l.text ∷ kinds_below ls
+
+-- No section of a profile.
+abbrev pub no_profile : Section
+no_profile = record { is_profile = false; overrides_force = false; lacks_ignorenot = false }
+
+-- The section of a profile whose lines are these.
+abbrev pub profile_of : List LineKind → Section
+profile_of ks = record {
+  is_profile = true;
+  overrides_force = list_any overrides_force ks;
+  lacks_ignorenot = list_any is_unread_ignorenot ks;
+}
+
+abbrev pub is_profile_heading : List ℕ → Bool
+is_profile_heading l = starts_with nat_eq l (heading_word Profile)
+
+-- The section below a heading that stands above these lines.
+abbrev pub section_below : List ℕ → List (Line (List ℕ)) → Section
+section_below heading ls =
+    if is_profile_heading heading then profile_of (kinds_below ls) else no_profile
+
+-- The section of a line: that of the line above it, or the one that it begins.
+abbrev pub section_at : Section → List ℕ → List (Line (List ℕ)) → Section
+section_at s l below = if is_heading l then section_below l below else s
+
+-- Whether a line of that kind is left out, above lines of these kinds. Of several `force` lines the
+-- last one counts.
+abbrev pub is_kind_left_out : Section → LineKind → List LineKind → Bool
+is_kind_left_out s kind.Stays below = false
+is_kind_left_out s kind.LeftOut below = true
+is_kind_left_out s kind.Force below = s.overrides_force || list_any sets_force below
+is_kind_left_out s kind.ForcesNoRoot below = true
+is_kind_left_out s kind.OverridesForce below = true
+is_kind_left_out s kind.Ignore below = s.lacks_ignorenot
+is_kind_left_out s kind.UnreadIgnoreNot below = true
+
+-- Whether a line of a section is left out. Only lines of profiles are.
+abbrev pub is_left_out : Section → List ℕ → List (Line (List ℕ)) → Bool
+is_left_out s l below =
+    s.is_profile && (not (is_heading l) && is_kind_left_out s (kind_of l) (kinds_below below))
+
+-- A line that is left out becomes a comment of the same length.
+abbrev pub comment : Line (List ℕ) → Line (List ℕ)
+comment l = record { text = 35 ∷ drop 1 l.text; is_ended = l.is_ended }
+
+abbrev pub counted_line : Section → Line (List ℕ) → List (Line (List ℕ)) → Line (List ℕ)
+counted_line s l below = if is_left_out s l.text below then comment l else l
+
+-- These lines, where the first one is in a section or begins one.
+abbrev pub counted_lines : Section → List (Line (List ℕ)) → List (Line (List ℕ))
+counted_lines s [] = []
+counted_lines s (l ∷ ls) =
+    counted_line (section_at s l.text ls) l ls ∷ counted_lines (section_at s l.text ls) ls
+
+-- The bundle with its lines that count, and comments in place of the others.
+abbrev pub counted_bundle : List ℕ → List ℕ
+counted_bundle bytes = text_of_lines (counted_lines no_profile (lines_of bytes))
+
+-- Whether one of these lines is left out, where the first one is in a section or begins one.
+abbrev pub leaves_some_out : Section → List (Line (List ℕ)) → Bool
+leaves_some_out s [] = false
+leaves_some_out s (l ∷ ls) =
+    is_left_out (section_at s l.text ls) l.text ls
+    || leaves_some_out (section_at s l.text ls) ls

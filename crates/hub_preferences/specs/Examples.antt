@@ -1,0 +1,108 @@
+-- Worked values of a cautious reading. What Unison does was observed with 2.52.1.
+use Rattle.std.specs.Prelude.{⊤, ◌≡◌, ℕ, List, [], ◌++◌, codes, refl}
+use Rattle.std.specs.Str.{is_utf8, chars}
+use Rattle.hub_preferences.specs.Counted.{counted_bundle}
+
+-- What these examples compute.
+computed : ⊤
+unfolding is_utf8 chars lib.Utf8.encode
+computed = tt
+
+-- The bundle of one profile with these lines, and what counts of it.
+abbrev counted_of : List ℕ → List ℕ
+counted_of lines = counted_bundle (codes "%profile p\n" ++ lines)
+
+abbrev of : List ℕ → List ℕ
+of lines = codes "%profile p\n" ++ lines
+
+nothing : counted_bundle [] ≡ []
+nothing = refl
+
+-- What the plain reader reads stays, and so do comments, blank lines, CR and a last line without LF.
+plain_lines_stay : counted_of (codes "root = /a\r\n# b\n\n times = true") ≡ of (codes "root = /a\r\n# b\n\n times = true")
+unfolding computed
+plain_lines_stay = refl
+
+-- It decides conflicts alone, whatever its value is.
+prefer_is_left_out : counted_of (codes "prefer = newer\nprefer = /a\n") ≡ of (codes "#refer = newer\n#refer = /a\n")
+unfolding computed
+prefer_is_left_out = refl
+
+-- Blanks around a name, and none around the `=`.
+blanks_dont_matter : counted_of (codes " \tlinks=false\nmaxerrors\t= 3\r\n") ≡ of (codes "#\tlinks=false\n#axerrors\t= 3\r\n")
+unfolding computed
+blanks_dont_matter = refl
+
+-- Unison takes no start of a name, and no other case: such lines stay, and are refused.
+other_spellings_stay : counted_of (codes "link = false\nLinks = false\n-links = false\nlinks\n") ≡ of (codes "link = false\nLinks = false\n-links = false\nlinks\n")
+unfolding computed
+other_spellings_stay = refl
+
+-- Of several `force` lines the last one counts.
+last_force_counts : counted_of (codes "force = /a\npath = x\nforce = /b\n") ≡ of (codes "#orce = /a\npath = x\nforce = /b\n")
+unfolding computed
+last_force_counts = refl
+
+last_force_names_no_root : counted_of (codes "force = /a\nforce = newer\n") ≡ of (codes "#orce = /a\n#orce = newer\n")
+unfolding computed
+last_force_names_no_root = refl
+
+earlier_force_names_no_root : counted_of (codes "force =\nforce = /a\n") ≡ of (codes "#orce =\nforce = /a\n")
+unfolding computed
+earlier_force_names_no_root = refl
+
+-- Wherever it stands.
+force_is_overridden : counted_of (codes "force = /a\nforcepartial = Name x -> /b\n") ≡ of (codes "#orce = /a\n#orcepartial = Name x -> /b\n")
+unfolding computed
+force_is_overridden = refl
+
+force_below_is_overridden : counted_of (codes "preferpartial = Name x -> newer\nforce = /a\n") ≡ of (codes "#referpartial = Name x -> newer\n#orce = /a\n")
+unfolding computed
+force_below_is_overridden = refl
+
+-- Another profile's lines don't matter.
+profiles_are_apart : counted_bundle (codes "%profile p\nforce = /a\n%profile q\nforcepartial = Name x -> /b\nforce = /c\n%profile r\nforce = /d\n") ≡ codes "%profile p\nforce = /a\n%profile q\n#orcepartial = Name x -> /b\n#orce = /c\n%profile r\nforce = /d\n"
+unfolding computed
+profiles_are_apart = refl
+
+-- An `ignore` line whose pattern the plain reader can't read.
+unread_ignore : counted_of (codes "ignore = Name a\nignore = Regex b\nignore = Name [!c]*\n") ≡ of (codes "ignore = Name a\n#gnore = Regex b\n#gnore = Name [!c]*\n")
+unfolding computed
+unread_ignore = refl
+
+-- With such an `ignorenot` line nothing is ignored.
+unread_ignorenot : counted_of (codes "ignore = Name a\nignorenot = Name b\nignorenot = Regex c\nignore = Name d\n") ≡ of (codes "#gnore = Name a\nignorenot = Name b\n#gnorenot = Regex c\n#gnore = Name d\n")
+unfolding computed
+unread_ignorenot = refl
+
+-- A bar counts if Unison sees its one arrow, between spaces, and the plain reader reads its pattern.
+bars : counted_of (codes "noupdatepartial = Name a -> /r\nnocreationpartial = Name a  ->  /r\nnodeletionpartial = Name {f,g} -> /r\n") ≡ of (codes "noupdatepartial = Name a -> /r\nnocreationpartial = Name a  ->  /r\nnodeletionpartial = Name {f,g} -> /r\n")
+unfolding computed
+bars = refl
+
+unseen_arrows : counted_of (codes "noupdatepartial = Name a->/r\nnoupdatepartial = Name a ->/r\nnoupdatepartial = Name a-> /r\nnoupdatepartial = Name a\t->\t/r\nnoupdatepartial = Name a -> b -> /r\nnoupdatepartial = Name a\n") ≡ of (codes "#oupdatepartial = Name a->/r\n#oupdatepartial = Name a ->/r\n#oupdatepartial = Name a-> /r\n#oupdatepartial = Name a\t->\t/r\n#oupdatepartial = Name a -> b -> /r\n#oupdatepartial = Name a\n")
+unfolding computed
+unseen_arrows = refl
+
+unread_bar : counted_of (codes "noupdatepartial = Regex a -> /r\n") ≡ of (codes "#oupdatepartial = Regex a -> /r\n")
+unfolding computed
+unread_bar = refl
+
+-- Values that decide.
+off_is_left_out : counted_of (codes "rsrc = false\nrsrc = true\nrsrc = default\nignorecase = false\nignorecase = true\nbackups = false\nbackups = true\n") ≡ of (codes "#src = false\nrsrc = true\n#src = default\n#gnorecase = false\nignorecase = true\n#ackups = false\nbackups = true\n")
+unfolding computed
+off_is_left_out = refl
+
+central_is_left_out : counted_of (codes "backuplocation = central\nbackuplocation = local\nbackuploc = local\n") ≡ of (codes "#ackuplocation = central\nbackuplocation = local\nbackuploc = local\n")
+unfolding computed
+central_is_left_out = refl
+
+-- What adds writes or names stays, so the plain reader refuses it.
+refused_lines_stay : counted_of (codes "follow = Path a\nmerge = Name * -> m\natomic = Name d\nrootalias = //a//b -> //c//d\ncopyonconflict = true\nfat = true\nunicode = true\nignorelocks = true\nbackupdir = /a/b\ninclude c\n") ≡ of (codes "follow = Path a\nmerge = Name * -> m\natomic = Name d\nrootalias = //a//b -> //c//d\ncopyonconflict = true\nfat = true\nunicode = true\nignorelocks = true\nbackupdir = /a/b\ninclude c\n")
+unfolding computed
+refused_lines_stay = refl
+
+-- No line of another section changes, nor one above all headings.
+other_sections_stay : counted_bundle (codes "prefer = a\n%rules\nprefer = a\n%state\nlinks = false\n%profile\nlinks = false\n%certificates\nforce = newer") ≡ codes "prefer = a\n%rules\nprefer = a\n%state\nlinks = false\n%profile\nlinks = false\n%certificates\nforce = newer"
+unfolding computed
+other_sections_stay = refl

@@ -1,0 +1,6 @@
+pub mod Arrows
+pub mod Table
+pub mod Kinds
+pub mod Counted
+pub mod CountedLaws
+pub mod Examples

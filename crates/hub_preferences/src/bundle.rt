@@ -1,0 +1,50 @@
+//! A bundle without the lines that a cautious reading leaves out.
+ghost use Rattle.std.specs.Prelude.{◌≡◌, ◌++◌, IfOk, OnOk};
+ghost use Rattle.hub_text.specs.Lines.{line_text};
+ghost use Rattle.hub_preferences.specs.Counted as spec;
+
+use crate::section::NO_PROFILE;
+use hub_text::Lines;
+use std::alloc::{AllocError, Global};
+
+/// The bundle with a comment in place of each line of a profile that a cautious reading leaves out.
+///
+/// It takes time in proportion to the bytes, but for the search for names. The numbers and lengths of all lines stay. Out of memory is
+/// the only error.
+pub fn counted(alloc: Global, bundle: &[u8]) -> Result<Vec<u8>, AllocError>
+    ensures { IfOk result (λ v. v.items ≡ spec.counted_bundle bundle.now) }
+{
+    let mut counted = Vec::new(alloc);
+    let mut section = NO_PROFILE;
+    let mut lines = Lines::new(bundle);
+    while let Some(line) = lines.next() {
+        section = section.at(alloc, line.text, lines.rest())?;
+        if section.leaves_out(alloc, line.text, lines.rest())? {
+            push_comment(&mut counted, line.text, line.is_ended)?;
+        } else {
+            push_line(&mut counted, line.text, line.is_ended)?;
+        }
+    }
+    Ok(counted)
+}
+
+/// Adds a comment of the length of a line.
+fn push_comment(bytes: &mut Vec<u8>, text: &[u8], is_ended: bool) -> Result<(), AllocError>
+    ensures { OnOk result (bytes.new.items ≡ bytes.old.items
+        ++ line_text (spec.comment (record { text = text.now; is_ended = is_ended }))) }
+{
+    bytes.push(b'#')?;
+    push_line(bytes, text.get(1..).unwrap_or(&[]), is_ended)
+}
+
+/// Adds a line.
+fn push_line(bytes: &mut Vec<u8>, text: &[u8], is_ended: bool) -> Result<(), AllocError>
+    ensures { OnOk result (bytes.new.items ≡ bytes.old.items
+        ++ line_text (record { text = text.now; is_ended = is_ended })) }
+{
+    bytes.extend_from_slice(text)?;
+    if is_ended {
+        bytes.push(b'\n')?;
+    }
+    Ok(())
+}

@@ -1,0 +1,42 @@
+//! What holds of every bundle that counts: each law is the contract of a function that does nothing.
+ghost use Rattle.std.specs.Prelude.{◌≡◌, ℕ, List, true, false, length};
+ghost use Rattle.hub_files.specs.Files.{is_heading};
+ghost use Rattle.hub_text.specs.declared.line.Line.{Line};
+ghost use Rattle.hub_text.specs.Lines.{lines_of};
+ghost use Rattle.hub_preferences.specs.Counted as counted;
+ghost use Rattle.hub_preferences.specs.declared.section.Section.{Section};
+
+/// A line that isn't left out stands as it was.
+pub fn a_line_that_counts_stands()
+    ensures { (s : Section) (l : Line (List ℕ)) (below : List (Line (List ℕ)))
+        → counted.is_left_out s l.text below ≡ false → counted.counted_line s l below ≡ l }
+{}
+
+/// No line of another section changes than that of a profile, and no heading does.
+pub fn only_lines_of_profiles_change()
+    ensures other { (s : Section) (l : Line (List ℕ)) (below : List (Line (List ℕ)))
+        → s.is_profile ≡ false → counted.counted_line s l below ≡ l }
+    ensures heading { (s : Section) (l : Line (List ℕ)) (below : List (Line (List ℕ)))
+        → is_heading l.text ≡ true → counted.counted_line s l below ≡ l }
+{}
+
+/// A bundle without a line to leave out is as it was.
+pub fn a_bundle_that_counts_stays()
+    ensures { (bytes : List ℕ)
+        → counted.leaves_some_out counted.no_profile (lines_of bytes) ≡ false
+        → counted.counted_bundle bytes ≡ bytes }
+{}
+
+/// The lines of what counts of a bundle are those of the bundle, with comments in place of those that are left out: as many.
+pub fn lines_keep_their_numbers()
+    ensures lines { (bytes : List ℕ) → lines_of (counted.counted_bundle bytes)
+        ≡ counted.counted_lines counted.no_profile (lines_of bytes) }
+    ensures count { (bytes : List ℕ)
+        → length (lines_of (counted.counted_bundle bytes)) ≡ length (lines_of bytes) }
+{}
+
+/// Of what counts of a bundle all counts.
+pub fn what_counts_counts_again()
+    ensures { (bytes : List ℕ)
+        → counted.counted_bundle (counted.counted_bundle bytes) ≡ counted.counted_bundle bytes }
+{}

@@ -1,5 +1,7 @@
 pub mod Asking
+pub mod Bundle
 pub mod Files
 pub mod Includes
+pub mod IncludesExamples
 pub mod Targets
 pub mod Words

@@ -5,8 +5,6 @@
 //! of a set; beside rules they are wider still. If they are a safe set, no two of these profiles clash in Unison, and by none
 //! of them Unison breaks a rule: see [`laws`].
 //!
-//! [`PREFERENCES`] lists the preferences of Unison, and what a line with each of them means for such a reading.
-//!
 //! Only functions that return a `Result` allocate. The contracts are in the words of `specs/Matching` (what Unison's patterns
 //! match for certain, and what they may match), `specs/UnisonReach` (what it may reach and write), `specs/Cautious` and
 //! `specs/Rules` (what it may do that a rule forbids).
@@ -15,7 +13,6 @@
 mod copies;
 mod kept;
 pub mod laws;
-mod preferences;
 mod reading;
 mod set;
 mod simple;
@@ -25,6 +22,5 @@ mod spares;
 mod tests;
 mod tops;
 
-pub use preferences::{Class, PREFERENCES};
 pub use reading::cautious;
 pub use set::read_set;

@@ -19,7 +19,7 @@ use Rattle.clap.specs.declared.parser.matches.Found.{Found}
 use Rattle.clap.specs.declared.parser.matches.ArgMatches.{ArgMatches}
 use Rattle.clap.specs.declared.parser.matches.ArgMatches.TheViews.{out-ArgMatches, out-SubCommand}
 use Rattle.clap.specs.declared.parser.matches.SubCommand.{SubCommand}
-use Rattle.hub_cli.specs.Words.{Request, about_files, asked_of, byte_of, files_of, hubsync_app, is_strict_in, is_strict_of, is_set, names_found, names_in, operands_of, request_in, asked_unless, workers_in, Names}
+use Rattle.hub_cli.specs.Words.{Request, about_files, asked_of, byte_of, files_of, hubsync_app, is_strict_in, is_strict_of, is_set, names_found, names_in, operands_of, reading_in, request_in, asked_unless, workers_in, Names}
 
 simple : is_simple hubsync_app ≡ true
 unfolding clap_on_literals hubsync_app
@@ -90,16 +90,16 @@ module _ {Z : Type 0} where
 
 -- what a command asks for, where this says whether it is `reach`
 abbrev by_name : Text → List Row → Bool → Option Request
-by_name name rows b = cond b (operands_of (first_of (codes "profile") rows) (first_of (codes "path") rows)) (about_files name rows)
+by_name name rows b = cond b (operands_of (reading_in rows) (first_of (codes "profile") rows) (first_of (codes "path") rows)) (about_files name rows)
 
 -- the operands of `reach`, by the getters of the subcommand's matches
 pub reach_in : (m : ArgMatches) (name : Text) (o : ArgMatches) → Some name ≡ subcommand_name_of m
     → Some (rows_of (found_of o)) ≡ option_map (λ p. p.1) (subcommand_rows_of m) → bytes_eq name (codes "reach") ≡ true
-    → request_in (subcommand_rows_of m) ≡ operands_of (first_value (found_of o) (codes "profile")) (first_value (found_of o) (codes "path"))
+    → request_in (subcommand_rows_of m) ≡ operands_of (reading_in (rows_of (found_of o))) (first_value (found_of o) (codes "profile")) (first_value (found_of o) (codes "path"))
 reach_in m name o e h is =
     ap request_in (parts (out-ArgMatches m).subcommand name (rows_of (found_of o)) e h)
     ∙ ap (λ (b : Bool). by_name name (rows_of (found_of o)) b) is
-    ∙ ap₂ operands_of (sym (first_value-rows (found_of o) (codes "profile"))) (sym (first_value-rows (found_of o) (codes "path")))
+    ∙ ap₂ (operands_of (reading_in (rows_of (found_of o)))) (sym (first_value-rows (found_of o) (codes "profile"))) (sym (first_value-rows (found_of o) (codes "path")))
 
 -- what a command about the set asks for
 pub about_in : (m : ArgMatches) (name : Text) (o : ArgMatches) → Some name ≡ subcommand_name_of m

@@ -19,17 +19,13 @@ use Rattle.hub_cli.specs.declared.words.Question.{Question}
 use Rattle.hub_cli.specs.declared.words.Question.TheVariants.{CheckWithState, Run, RunByRounds}
 use Rattle.hub_cli.specs.declared.words.Question.TheVariants.{Check, Certify, Verify}
 use Rattle.hub_cli.specs.declared.words.Question.TheVariants.{Clashes, Graph, Rounds}
+use Rattle.hub_cli.specs.declared.words.Reading.{Reading}
+use Rattle.hub_cli.specs.declared.words.Reading.TheVariants.{Plain, Unison}
 use Rattle.hub_cli.specs.declared.words.TheConstants.{DEFAULT_WORKERS_TEXT}
 
 -- a required operand
 abbrev pub operand : Text → Rule
 operand id = record (new_rule id) { value_names = 1; required = true }
-
--- `reach PROFILE PATH`
-abbrev pub reach_app : App
-reach_app =
-    with_rule (with_rule (new_app (codes "reach")) (operand (codes "profile")))
-    (operand (codes "path"))
 
 -- the option `--workers N`: a number from 0 to 255, and `DEFAULT_WORKERS` if it isn't given
 abbrev pub workers_option : Rule
@@ -52,6 +48,16 @@ file_option name = record (new_rule name) { long = Some name; value_names = 1 }
 abbrev pub flag : Text → Rule
 flag name = record (new_rule name) { long = Some name; action = Some SetTrue }
 
+-- a command that may have `--unison`
+abbrev pub with_unison : App → App
+with_unison app = with_rule app (flag (codes "unison"))
+
+-- `reach PROFILE PATH`, which may have it
+abbrev pub reach_app : App
+reach_app =
+    with_unison (with_rule (with_rule (new_app (codes "reach")) (operand (codes "profile")))
+    (operand (codes "path")))
+
 -- a command with files of profiles and of rules
 abbrev pub with_profiles : App → App
 with_profiles app = with_rule (with_rule app files_operand) (file_option (codes "rules"))
@@ -67,9 +73,13 @@ with_files app =
 abbrev pub set_app : Text → App
 set_app name = with_rule (with_files (new_app name)) (flag (codes "strict"))
 
+-- such a command that may also have `--unison`
+abbrev pub reading_app : Text → App
+reading_app name = with_unison (set_app name)
+
 -- `clashes`, which may also have `--dot`
 abbrev pub clashes_app : App
-clashes_app = with_rule (set_app (codes "clashes")) (flag (codes "dot"))
+clashes_app = with_rule (reading_app (codes "clashes")) (flag (codes "dot"))
 
 -- `run`, which may also have `--workers N` and `--rounds`
 abbrev pub run_app : App
@@ -82,34 +92,52 @@ top_app = on_top (λ s. record s { has_version = true }) (new_app (codes "hubsyn
 -- `hubsync` with the commands of the checker
 abbrev pub checker_app : App
 checker_app =
-    with_subcommand (with_subcommand (with_subcommand top_app (set_app (codes "check")).top)
+    with_subcommand (with_subcommand (with_subcommand top_app (reading_app (codes "check")).top)
     (set_app (codes "certify")).top)
     (set_app (codes "verify")).top
 
 -- and with those that say more than a yes or a no
 abbrev pub about_app : App
 about_app =
-    with_subcommand (with_subcommand checker_app clashes_app.top) (set_app (codes "rounds")).top
+    with_subcommand (with_subcommand checker_app clashes_app.top) (reading_app (codes "rounds")).top
 
 -- the command as clap reads it
 unfoldable pub hubsync_app : App
 hubsync_app = with_subcommand (with_subcommand about_app reach_app.top) run_app.top
 
--- what is asked for: something about the set of the profiles and rules, or whether a profile
--- reaches a path
+-- what is asked for: something about the set of the profiles and rules, or whether a profile, so
+-- read, reaches a path
 pub data Request : Type 0 where
   about : Question → Request
-  reach : Text → Text → Request
+  reach : Reading → Text → Text → Request
 
 abbrev pub request_of : Query → Request
 request_of (About question) = about question
-request_of (Reach profile path) = reach profile.now path.now
+request_of (Reach reading profile path) = reach reading profile.now path.now
+
+-- how a question about the set wants the profiles to be read: runs and certificates are always of
+-- hubsync's own reading
+abbrev pub reading_of : Question → Reading
+reading_of CheckWithState = Plain
+reading_of (Run n) = Plain
+reading_of (RunByRounds n) = Plain
+reading_of (Check reading) = reading
+reading_of Certify = Plain
+reading_of Verify = Plain
+reading_of (Clashes reading) = reading
+reading_of (Graph reading) = reading
+reading_of (Rounds reading) = reading
+
+-- how a request wants them to be read
+abbrev pub reading_for : Request → Reading
+reading_for (about question) = reading_of question
+reading_for (reach reading profile path) = reading
 
 -- the operands PROFILE and PATH, if both are there
-abbrev pub operands_of : Option Text → Option Text → Option Request
-operands_of None path = None
-operands_of (Some profile) None = None
-operands_of (Some profile) (Some path) = Some (reach profile path)
+abbrev pub operands_of : Reading → Option Text → Option Text → Option Request
+operands_of reading None path = None
+operands_of reading (Some profile) None = None
+operands_of reading (Some profile) (Some path) = Some (reach reading profile path)
 
 -- the number that a text says, if it is one from 0 to 255: decimal digits, perhaps behind a plus
 abbrev pub byte_of : Text → Option ℕ
@@ -124,6 +152,10 @@ is_true (Some text) = bytes_eq text (codes "true")
 -- the flag is on the command line, where these are the rows of operands and options
 abbrev pub is_set : Text → List Row → Bool
 is_set name rows = is_true (first_of name rows)
+
+-- how a command wants the profiles to be read, where these are its rows: by `--unison` for Unison
+abbrev pub reading_in : List Row → Reading
+reading_in rows = if is_set (codes "unison") rows then Unison else Plain
 
 -- the number of workers, where this is the text of `--workers`
 abbrev pub workers_in : Option Text → Option ℕ
@@ -141,8 +173,9 @@ run_by rows =
     (workers_in (one_of (codes "workers") rows))
 
 -- all that clashes, drawn as a graph or not
-abbrev pub clashes_request : Bool → Request
-clashes_request as_graph = if as_graph then about Graph else about Clashes
+abbrev pub clashes_request : Bool → Reading → Request
+clashes_request as_graph reading =
+    if as_graph then about (Graph reading) else about (Clashes reading)
 
 -- the file of a profile
 abbrev pub is_profile_file : Text → Bool
@@ -156,11 +189,12 @@ are_profile_files (Some files) = list_all is_profile_file files
 -- what a command about the set asks for, by its name and the rows of its operands and options
 abbrev pub about_named : Text → List Row → Option Request
 about_named name rows =
-    if bytes_eq name (codes "check") then Some (about Check)
+    if bytes_eq name (codes "check") then Some (about (Check (reading_in rows)))
     else (if bytes_eq name (codes "certify") then Some (about Certify)
     else (if bytes_eq name (codes "verify") then Some (about Verify)
-    else (if bytes_eq name (codes "clashes") then Some (clashes_request (is_set (codes "dot") rows))
-    else (if bytes_eq name (codes "rounds") then Some (about Rounds)
+    else (if bytes_eq name (codes "clashes")
+    then Some (clashes_request (is_set (codes "dot") rows) (reading_in rows))
+    else (if bytes_eq name (codes "rounds") then Some (about (Rounds (reading_in rows)))
     else (if bytes_eq name (codes "run") then run_by rows else None)))))
 
 -- an option with a value is on the command line
@@ -195,7 +229,8 @@ abbrev pub request_in : Option (Text × List Row) → Option Request
 request_in None = Some (about CheckWithState)
 request_in (Some p) =
     if bytes_eq p.0 (codes "reach")
-    then operands_of (first_of (codes "profile") p.1) (first_of (codes "path") p.1)
+    then operands_of (reading_in p.1)
+        (first_of (codes "profile") p.1) (first_of (codes "path") p.1)
     else about_files p.0 p.1
 
 -- the command that was used has `--strict`

@@ -7,6 +7,7 @@ use Rattle.hub_cli.specs.Words.{reach}
 use Rattle.hub_cli.specs.declared.words.Question.TheVariants.{CheckWithState, Run, RunByRounds}
 use Rattle.hub_cli.specs.declared.words.Question.TheVariants.{Check, Certify, Verify}
 use Rattle.hub_cli.specs.declared.words.Question.TheVariants.{Clashes, Graph, Rounds}
+use Rattle.hub_cli.specs.declared.words.Reading.TheVariants.{Plain, Unison}
 use Rattle.hub_cli.specs.declared.words.TheConstants.{DEFAULT_WORKERS}
 
 -- What these examples compute.
@@ -25,22 +26,22 @@ unfolding computed
 no_words = refl
 
 the_reach_of_a_path :
-    asked (codes "reach" ∷ codes "p" ∷ codes "a" ∷ []) ≡ Some (reach (codes "p") (codes "a"))
+    asked (codes "reach" ∷ codes "p" ∷ codes "a" ∷ []) ≡ Some (reach Plain (codes "p") (codes "a"))
 unfolding computed
 the_reach_of_a_path = refl
 
-an_empty_operand : asked (codes "reach" ∷ codes "p" ∷ [] ∷ []) ≡ Some (reach (codes "p") [])
+an_empty_operand : asked (codes "reach" ∷ codes "p" ∷ [] ∷ []) ≡ Some (reach Plain (codes "p") [])
 unfolding computed
 an_empty_operand = refl
 
 a_hyphen_alone_is_an_operand :
-    asked (codes "reach" ∷ codes "-" ∷ codes "a" ∷ []) ≡ Some (reach (codes "-") (codes "a"))
+    asked (codes "reach" ∷ codes "-" ∷ codes "a" ∷ []) ≡ Some (reach Plain (codes "-") (codes "a"))
 unfolding computed
 a_hyphen_alone_is_an_operand = refl
 
 a_hyphen_after_two_hyphens :
     asked (codes "reach" ∷ codes "--" ∷ codes "-p" ∷ codes "a" ∷ [])
-    ≡ Some (reach (codes "-p") (codes "a"))
+    ≡ Some (reach Plain (codes "-p") (codes "a"))
 unfolding computed
 a_hyphen_after_two_hyphens = refl
 
@@ -65,7 +66,7 @@ an_operand_too_many : asked (codes "reach" ∷ codes "p" ∷ codes "a" ∷ codes
 unfolding computed
 an_operand_too_many = refl
 
-the_check_by_its_name : asked (codes "check" ∷ []) ≡ Some (about Check)
+the_check_by_its_name : asked (codes "check" ∷ []) ≡ Some (about (Check Plain))
 unfolding computed
 the_check_by_its_name = refl
 
@@ -77,16 +78,16 @@ certificates_of_the_bundle : asked (codes "verify" ∷ []) ≡ Some (about Verif
 unfolding computed
 certificates_of_the_bundle = refl
 
-all_clashes : asked (codes "clashes" ∷ []) ≡ Some (about Clashes)
+all_clashes : asked (codes "clashes" ∷ []) ≡ Some (about (Clashes Plain))
 unfolding computed
 all_clashes = refl
 
-a_graph_of_the_clashes : asked (codes "clashes" ∷ codes "--dot" ∷ []) ≡ Some (about Graph)
+a_graph_of_the_clashes : asked (codes "clashes" ∷ codes "--dot" ∷ []) ≡ Some (about (Graph Plain))
 unfolding computed
 a_graph_of_the_clashes = refl
 
 a_graph_of_files :
-    asked (codes "clashes" ∷ codes "a.prf" ∷ codes "--dot" ∷ []) ≡ Some (about Graph)
+    asked (codes "clashes" ∷ codes "a.prf" ∷ codes "--dot" ∷ []) ≡ Some (about (Graph Plain))
 unfolding computed
 a_graph_of_files = refl
 
@@ -106,7 +107,7 @@ clashes_by_rounds : asked (codes "clashes" ∷ codes "--rounds" ∷ []) ≡ None
 unfolding computed
 clashes_by_rounds = refl
 
-rounds_of_the_profiles : asked (codes "rounds" ∷ []) ≡ Some (about Rounds)
+rounds_of_the_profiles : asked (codes "rounds" ∷ []) ≡ Some (about (Rounds Plain))
 unfolding computed
 rounds_of_the_profiles = refl
 
@@ -115,7 +116,7 @@ unfolding computed
 rounds_have_no_other_operands = refl
 
 an_operand_is_the_file_of_a_profile :
-    asked (codes "check" ∷ codes "a.prf" ∷ codes "b/c.prf" ∷ []) ≡ Some (about Check)
+    asked (codes "check" ∷ codes "a.prf" ∷ codes "b/c.prf" ∷ []) ≡ Some (about (Check Plain))
 unfolding computed
 an_operand_is_the_file_of_a_profile = refl
 
@@ -137,11 +138,68 @@ unfolding computed
 certificates_need_a_profile = refl
 
 rules_beside_a_profile :
-    asked (codes "check" ∷ codes "--rules" ∷ codes "r" ∷ codes "a.prf" ∷ []) ≡ Some (about Check)
+    asked (codes "check" ∷ codes "--rules" ∷ codes "r" ∷ codes "a.prf" ∷ [])
+    ≡ Some (about (Check Plain))
 unfolding computed
 rules_beside_a_profile = refl
 
-a_strict_check : asked (codes "check" ∷ codes "--strict" ∷ []) ≡ Some (about Check)
+a_check_for_unison : asked (codes "check" ∷ codes "--unison" ∷ []) ≡ Some (about (Check Unison))
+unfolding computed
+a_check_for_unison = refl
+
+a_check_of_files_for_unison :
+    asked (codes "check" ∷ codes "--unison" ∷ codes "a.prf" ∷ codes "--rules=r" ∷ [])
+    ≡ Some (about (Check Unison))
+unfolding computed
+a_check_of_files_for_unison = refl
+
+a_graph_for_unison :
+    asked (codes "clashes" ∷ codes "--unison" ∷ codes "--dot" ∷ []) ≡ Some (about (Graph Unison))
+unfolding computed
+a_graph_for_unison = refl
+
+clashes_for_unison :
+    asked (codes "clashes" ∷ codes "--unison" ∷ []) ≡ Some (about (Clashes Unison))
+unfolding computed
+clashes_for_unison = refl
+
+rounds_for_unison : asked (codes "rounds" ∷ codes "--unison" ∷ []) ≡ Some (about (Rounds Unison))
+unfolding computed
+rounds_for_unison = refl
+
+reach_for_unison :
+    asked (codes "reach" ∷ codes "--unison" ∷ codes "p" ∷ codes "a" ∷ [])
+    ≡ Some (reach Unison (codes "p") (codes "a"))
+unfolding computed
+reach_for_unison = refl
+
+a_profile_of_that_name :
+    asked (codes "reach" ∷ codes "--" ∷ codes "--unison" ∷ codes "a" ∷ [])
+    ≡ Some (reach Plain (codes "--unison") (codes "a"))
+unfolding computed
+a_profile_of_that_name = refl
+
+a_run_for_unison : asked (codes "run" ∷ codes "--unison" ∷ []) ≡ None
+unfolding computed
+a_run_for_unison = refl
+
+rounds_run_for_unison : asked (codes "run" ∷ codes "--rounds" ∷ codes "--unison" ∷ []) ≡ None
+unfolding computed
+rounds_run_for_unison = refl
+
+certificates_for_unison : asked (codes "certify" ∷ codes "--unison" ∷ []) ≡ None
+unfolding computed
+certificates_for_unison = refl
+
+verified_for_unison : asked (codes "verify" ∷ codes "--unison" ∷ []) ≡ None
+unfolding computed
+verified_for_unison = refl
+
+unison_has_a_command : asked (codes "--unison" ∷ []) ≡ None
+unfolding computed
+unison_has_a_command = refl
+
+a_strict_check : asked (codes "check" ∷ codes "--strict" ∷ []) ≡ Some (about (Check Plain))
 unfolding computed
 a_strict_check = refl
 

@@ -6,7 +6,8 @@ ghost use Rattle.std.specs.Prelude.{◌≡◌, IfOk, Ok, codes, false};
 ghost use Rattle.clap.specs.Words.{app_of, new_app, rule_of, with_rule, with_subcommand};
 ghost use Rattle.clap.specs.declared.builder.command.Command.TheViews.{out-Command as fields_of};
 ghost use Rattle.hub_cli.specs.Words as words;
-ghost use Rattle.hub_cli.specs.Words.{about_app, checker_app, clashes_app, hubsync_app, reach_app, run_app, set_app, top_app};
+ghost use Rattle.hub_cli.specs.Words.{about_app, checker_app, clashes_app, hubsync_app, reach_app, reading_app};
+ghost use Rattle.hub_cli.specs.Words.{run_app, set_app, top_app};
 
 use crate::help::{CERTIFY, CHECK, CLASHES, HUBSYNC, Help, LONG, REACH, ROUNDS, RUN, VERIFY};
 use crate::words::DEFAULT_WORKERS_TEXT;
@@ -164,12 +165,39 @@ fn run_command<'a>(alloc: Global) -> Result<Box<Command<'a>>, AllocError>
     with_argument(alloc, command, flag(alloc, "rounds", rounds))
 }
 
+/// A command that may have `--unison`.
+fn with_unison<'a>(
+    alloc: Global,
+    command: Box<Command<'a>>,
+) -> Result<Box<Command<'a>>, AllocError>
+    requires { (fields_of command.value).has_globals ≡ false }
+    ensures app { IfOk result
+        (λ c. app_of c.value ≡ words.with_unison (app_of command.entry.value)) }
+    ensures local { IfOk result (λ c. (fields_of c.value).has_globals ≡ false) }
+{
+    let unison = "Answer about what Unison 2.52 may do by the profiles";
+    with_argument(alloc, command, flag(alloc, "unison", unison))
+}
+
+/// A command about the set, which may take files and have `--unison`.
+fn reading_command<'a>(
+    alloc: Global,
+    name: &'a str,
+    help: Help,
+) -> Result<Box<Command<'a>>, AllocError>
+    ensures app { IfOk result (λ c. app_of c.value ≡ reading_app name.now) }
+    ensures local { IfOk result (λ c. (fields_of c.value).has_globals ≡ false) }
+{
+    let command = set_command(alloc, name, help)?;
+    with_unison(alloc, command)
+}
+
 /// The command `clashes`.
 fn clashes_command<'a>(alloc: Global) -> Result<Box<Command<'a>>, AllocError>
     ensures app { IfOk result (λ c. app_of c.value ≡ clashes_app) }
     ensures local { IfOk result (λ c. (fields_of c.value).has_globals ≡ false) }
 {
-    let command = set_command(alloc, "clashes", CLASHES)?;
+    let command = reading_command(alloc, "clashes", CLASHES)?;
     let dot = "Draw what clashes as a graph for Graphviz";
     with_argument(alloc, command, flag(alloc, "dot", dot))
 }
@@ -198,7 +226,21 @@ fn reach_command<'a>(alloc: Global) -> Result<Box<Command<'a>>, AllocError>
         command,
         operand(alloc, "profile", "PROFILE", profile),
     )?;
-    with_argument(alloc, command, operand(alloc, "path", "PATH", path))
+    let command = with_argument(alloc, command, operand(alloc, "path", "PATH", path))?;
+    with_unison(alloc, command)
+}
+
+/// A command with one more command, which is about the set and may have `--unison`.
+fn with_reading<'a>(
+    alloc: Global,
+    top: Box<Command<'a>>,
+    name: &'a str,
+    help: Help,
+) -> Result<Box<Command<'a>>, AllocError>
+    ensures { IfOk result (λ c. app_of c.value
+        ≡ with_subcommand (app_of top.entry.value) (reading_app name.now).top) }
+{
+    with_command(alloc, top, reading_command(alloc, name, help)?)
 }
 
 /// A command with one more command, which is about the set.
@@ -229,7 +271,7 @@ fn top_command<'a>(alloc: Global) -> Result<Box<Command<'a>>, AllocError>
 fn checker_command<'a>(alloc: Global) -> Result<Box<Command<'a>>, AllocError>
     ensures { IfOk result (λ c. app_of c.value ≡ checker_app) }
 {
-    let top = with_set(alloc, top_command(alloc)?, "check", CHECK)?;
+    let top = with_reading(alloc, top_command(alloc)?, "check", CHECK)?;
     let top = with_set(alloc, top, "certify", CERTIFY)?;
     with_set(alloc, top, "verify", VERIFY)
 }
@@ -240,7 +282,7 @@ fn about_command<'a>(alloc: Global) -> Result<Box<Command<'a>>, AllocError>
 {
     let top = checker_command(alloc)?;
     let top = with_command(alloc, top, clashes_command(alloc)?)?;
-    with_set(alloc, top, "rounds", ROUNDS)
+    with_reading(alloc, top, "rounds", ROUNDS)
 }
 
 /// The program's command, with its texts of help.

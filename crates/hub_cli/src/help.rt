@@ -57,7 +57,7 @@ pub(crate) const ROUNDS: Help = Help {
 /// That of `reach`.
 pub(crate) const REACH: Help = Help {
     about: "Says whether a profile of the input reaches a path",
-    usage: "hubsync reach PROFILE PATH < BUNDLE",
+    usage: "hubsync reach [--unison] PROFILE PATH < BUNDLE",
     example: "Example: hubsync reach docs docs/report.txt < examples/patterns.bundle",
 };
 
@@ -133,6 +133,11 @@ lines of the rounds that were run. The state that they left always follows.
 'clashes --dot' draws the profiles, their roots and what clashes as a graph for
 Graphviz. Profiles that clash are joined by a red line, and a profile that may
 break a rule is a red box. What is too large to decide is dashed.
+
+With '--unison', 'check', 'clashes', 'rounds' and 'reach' answer about what
+Unison 2.52 may do by the profiles, not about hubsync's own reading of them.
+What is safe then is safe in Unison. An overlap may come of this reading alone:
+compare with the answer without it.
 
 Exit status:
   0  safe and no job stopped, verified, certificates, reached or not reached;

@@ -2,7 +2,7 @@
 //!
 //! - [`read_words`] reads the words with `clap`, and returns what they ask for or `clap`'s [`Error`].
 //! - [`Query`]: what words ask for, a [`Question`] about the set of a bundle's profiles and rules, or whether a profile
-//!   reaches a path.
+//!   reaches a path. Each says how the profiles are to be read ([`Reading`]).
 //! - [`read_options`] reads which [`Files`] the words name, and whether they have `--strict` ([`Options`]).
 //!
 //! ```rust
@@ -28,4 +28,4 @@ mod words;
 pub use clap::Error;
 pub use clap::error::ErrorKind;
 pub use files::{Files, Options, read_options};
-pub use words::{DEFAULT_WORKERS, Query, Question, read_words};
+pub use words::{DEFAULT_WORKERS, Query, Question, Reading, read_words};

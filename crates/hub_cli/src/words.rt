@@ -7,7 +7,8 @@ ghost use Rattle.std.specs.List.{list_all};
 ghost use Rattle.clap.specs.Words.{all_of, app_of, found_of, kind_of, one_of, rows_of, subcommand_rows_of};
 ghost use Rattle.clap.specs.declared.error.kind.ErrorKind.TheVariants.{OutOfMemory};
 ghost use Rattle.hub_cli.specs.Words as words;
-ghost use Rattle.hub_cli.specs.Words.{asked_of, files_of, hubsync_app, is_strict_in, is_strict_of, names_in, request_in, request_of};
+ghost use Rattle.hub_cli.specs.Words.{asked_of, files_of, hubsync_app, is_strict_in, is_strict_of, names_in};
+ghost use Rattle.hub_cli.specs.Words.{reading_for, reading_of, request_in, request_of};
 
 use crate::app::command;
 use clap::error::ErrorKind;
@@ -21,7 +22,17 @@ pub const DEFAULT_WORKERS: u8 = 2;
 /// The same, as it would stand on the command line.
 pub(crate) const DEFAULT_WORKERS_TEXT: &str = "2";
 
-/// What the words may ask about the set of a bundle's profiles and rules.
+/// How the lines of profiles are read.
+#[derive(Clone, Copy, Debug, PartialEq, Eq)]
+pub enum Reading {
+    /// As hubsync's definitions say, by which it runs jobs.
+    Plain,
+    /// So that all counts that Unison may reach or write by them.
+    Unison,
+}
+
+/// What the words may ask about the set of a bundle's profiles and rules. What a run leaves and what certificates show is by the
+/// plain reading.
 #[derive(Clone, Copy, Debug, PartialEq, Eq)]
 pub enum Question {
     /// Whether the set is safe; and if it is and the bundle has a state, what its jobs do and leave.
@@ -31,17 +42,36 @@ pub enum Question {
     /// What they do and leave if the rounds of the set run one after another: with that many workers.
     RunByRounds(u8),
     /// Whether the set is safe.
-    Check,
+    Check(Reading),
     /// Certificates for its goals.
     Certify,
     /// Whether the bundle's certificates show that the set is safe.
     Verify,
     /// Every overlap and every breach.
-    Clashes,
+    Clashes(Reading),
     /// The same, drawn as a graph.
-    Graph,
+    Graph(Reading),
     /// Rounds of profiles that may run at the same time.
-    Rounds,
+    Rounds(Reading),
+}
+
+impl Question {
+    /// How the profiles are to be read.
+    pub fn reading(self) -> Reading
+        ensures { result ≡ reading_of self }
+    {
+        match self {
+            Question::Check(reading)
+            | Question::Clashes(reading)
+            | Question::Graph(reading)
+            | Question::Rounds(reading) => reading,
+            Question::CheckWithState
+            | Question::Run(_)
+            | Question::RunByRounds(_)
+            | Question::Certify
+            | Question::Verify => Reading::Plain,
+        }
+    }
 }
 
 /// What the words on the command line ask for.
@@ -51,11 +81,25 @@ pub enum Query<'a> {
     About(Question),
     /// Whether a profile reaches a path.
     Reach {
+        /// How the profile is to be read.
+        reading: Reading,
         /// The profile's name, as it was written.
         profile: &'a str,
         /// The path, as it was written. It may not be a path.
         path: &'a str,
     },
+}
+
+impl<'a> Query<'a> {
+    /// How the profiles are to be read.
+    pub fn reading(&self) -> Reading
+        ensures { result ≡ reading_for (request_of self.now) }
+    {
+        match *self {
+            Query::About(question) => question.reading(),
+            Query::Reach { reading, .. } => reading,
+        }
+    }
 }
 
 /// Reads the words, of which the first is the program's name.
@@ -68,6 +112,8 @@ pub enum Query<'a> {
 ///
 /// `reach PROFILE PATH` takes any two operands, also the empty word and `-`. An operand that begins with `-` and is longer
 /// needs `--` before it.
+///
+/// By `--unison` the profiles are read for Unison. `check`, `clashes`, `rounds` and `reach` may have it.
 ///
 /// An `Err` is `clap`'s: a mistake in the words, a request for help or for the version, or out of memory. Its `Display` is
 /// the text for the user.
@@ -95,7 +141,10 @@ pub(crate) fn read_matches<'a, S: AsStr>(
         ⊎ (asked_of (map S.text words.entry.now) ≡ None)) }
 {
     let mut hubsync = command(alloc)?;
-    let matches = parse(&mut hubsync, words)?;
+    let matches = match parse(&mut hubsync, words) {
+        Ok(matches) => matches,
+        Err(error) => return Err(explained(alloc, &mut hubsync, words, error)?),
+    };
     match asked_in(&matches) {
         Some(asked) => Ok((asked, matches)),
         None => Err(refusal(alloc, &mut hubsync, &matches)?),
@@ -116,6 +165,39 @@ fn parse<'a, S: AsStr>(hubsync: &mut Command<'a>, words: &'a [S]) -> Result<ArgM
 {
     let matches = hubsync.try_get_matches_from_mut(words)?;
     Ok(matches)
+}
+
+/// The error for words that `clap` doesn't take. Where `--unison` is behind a command that can't have it, it says why.
+fn explained<'a, S: AsStr>(
+    alloc: Global,
+    hubsync: &mut Command<'a>,
+    words: &[S],
+    error: Error,
+) -> Result<Error, AllocError>
+    ensures { IfOk result (λ e. kind_of error ≡ OutOfMemory → e ≡ error) }
+{
+    if error.kind() != ErrorKind::UnknownArgument || !is_plain_for_unison(words) {
+        return Ok(error);
+    }
+    hubsync.error(
+        ErrorKind::UnknownArgument,
+        "'--unison' is for 'check', 'clashes', 'rounds' and 'reach': what a run leaves and what\n\
+            certificates show is by hubsync's own reading of the profiles",
+    )
+}
+
+/// Returns whether the first word is a command that can't have `--unison`, or is an option, and `--unison` is there.
+fn is_plain_for_unison<S: AsStr>(words: &[S]) -> bool {
+    let is_plain = match words {
+        [_, first, ..] => is_plain_command(first.as_str()),
+        _ => false,
+    };
+    is_plain && words.iter().any(|word| word.as_str() == "--unison")
+}
+
+/// Returns whether a word is a command that can't have `--unison`, or is an option.
+fn is_plain_command(word: &str) -> bool {
+    word == "run" || word == "certify" || word == "verify" || word.as_bytes().starts_with(b"-")
 }
 
 /// The error for words that `clap` takes and that ask for nothing: an operand that isn't the file of a profile, or else one
@@ -159,9 +241,14 @@ fn asked_in<'a>(matches: &ArgMatches<'a>) -> Option<Query<'a>>
     if name != "reach" {
         return about_files(name, operands);
     }
+    let reading = reading_in(operands);
     let profile = operands.get_str("profile")?;
     let path = operands.get_str("path")?;
-    Some(Query::Reach { profile, path })
+    Some(Query::Reach {
+        reading,
+        profile,
+        path,
+    })
 }
 
 /// What a command about the set asks for, if all of its operands are files of profiles, and there is one if it has files.
@@ -238,7 +325,7 @@ fn about<'a>(name: &str, found: &ArgMatches<'_>) -> Option<Query<'a>>
         ≡ words.about_named name.now (rows_of (found_of found.now)) }
 {
     if name == "check" {
-        return Some(Query::About(Question::Check));
+        return Some(Query::About(Question::Check(reading_in(found))));
     }
     if name == "certify" {
         return Some(Query::About(Question::Certify));
@@ -247,10 +334,10 @@ fn about<'a>(name: &str, found: &ArgMatches<'_>) -> Option<Query<'a>>
         return Some(Query::About(Question::Verify));
     }
     if name == "clashes" {
-        return Some(clashes(is_set(found, "dot")));
+        return Some(clashes(is_set(found, "dot"), reading_in(found)));
     }
     if name == "rounds" {
-        return Some(Query::About(Question::Rounds));
+        return Some(Query::About(Question::Rounds(reading_in(found))));
     }
     if name == "run" {
         return run_by(found);
@@ -259,13 +346,24 @@ fn about<'a>(name: &str, found: &ArgMatches<'_>) -> Option<Query<'a>>
 }
 
 /// All that clashes, drawn as a graph or not.
-fn clashes<'a>(as_graph: bool) -> Query<'a>
-    ensures { request_of result ≡ words.clashes_request as_graph }
+fn clashes<'a>(as_graph: bool, reading: Reading) -> Query<'a>
+    ensures { request_of result ≡ words.clashes_request as_graph reading }
 {
     if as_graph {
-        Query::About(Question::Graph)
+        Query::About(Question::Graph(reading))
     } else {
-        Query::About(Question::Clashes)
+        Query::About(Question::Clashes(reading))
+    }
+}
+
+/// How a command wants the profiles to be read.
+fn reading_in(found: &ArgMatches<'_>) -> Reading
+    ensures { result ≡ words.reading_in (rows_of (found_of found.now)) }
+{
+    if is_set(found, "unison") {
+        Reading::Unison
+    } else {
+        Reading::Plain
     }
 }
 

@@ -1,10 +1,10 @@
 use Rattle.std.proofs.Common.{◌∙◌, ap, ap₂, codes}
 use Rattle.std.proofs.lemmas.Result.{IfOk-weaker}
 use Rattle.clap.specs.Words.{App, with_subcommand}
-use Rattle.hub_cli.specs.Words.{set_app}
+use Rattle.hub_cli.specs.Words.{reading_app}
 use Rattle.hub_cli.proofs.app.about_command.Goals as goal
 
 pub returns : goal.returns
 returns c =
     let with_clashes = c.in_ok-top-2.ensures ∙ ap₂ with_subcommand c.in_ok-top.ensures (ap (λ (a : App). a.top) c.in_ok-clashes_command.ensures.app) in
-    IfOk-weaker c.with_set.result _ _ (λ r h. h ∙ ap (λ (a : App). with_subcommand a (set_app (codes "rounds")).top) with_clashes) c.with_set.ensures
+    IfOk-weaker c.with_reading.result _ _ (λ r h. h ∙ ap (λ (a : App). with_subcommand a (reading_app (codes "rounds")).top) with_clashes) c.with_reading.ensures

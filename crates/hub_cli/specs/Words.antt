@@ -230,7 +230,7 @@ request_in None = Some (about CheckWithState)
 request_in (Some p) =
     if bytes_eq p.0 (codes "reach")
     then operands_of (reading_in p.1)
-        (first_of (codes "profile") p.1) (first_of (codes "path") p.1)
+    (first_of (codes "profile") p.1) (first_of (codes "path") p.1)
     else about_files p.0 p.1
 
 -- the command that was used has `--strict`

@@ -166,10 +166,7 @@ fn run_command<'a>(alloc: Global) -> Result<Box<Command<'a>>, AllocError>
 }
 
 /// A command that may have `--unison`.
-fn with_unison<'a>(
-    alloc: Global,
-    command: Box<Command<'a>>,
-) -> Result<Box<Command<'a>>, AllocError>
+fn with_unison<'a>(alloc: Global, command: Box<Command<'a>>) -> Result<Box<Command<'a>>, AllocError>
     requires { (fields_of command.value).has_globals ≡ false }
     ensures app { IfOk result
         (λ c. app_of c.value ≡ words.with_unison (app_of command.entry.value)) }

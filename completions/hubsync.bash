@@ -21,8 +21,9 @@ _hubsync() {
         /*) candidates=$commands ;;
         help/-*) ;;
         help/*) candidates=$commands ;;
-        reach/-*) candidates='-h --help' ;;
-        clashes/-*) candidates='--rules --state --certificates --strict --dot -h --help' ;;
+        reach/-*) candidates='--unison -h --help' ;;
+        clashes/-*) candidates='--rules --state --certificates --strict --unison --dot -h --help' ;;
+        check/-* | rounds/-*) candidates='--rules --state --certificates --strict --unison -h --help' ;;
         run/-*) candidates='--rules --state --certificates --strict --workers --rounds -h --help' ;;
         */-*) candidates='--rules --state --certificates --strict -h --help' ;;
         run/*) [[ $before != --workers ]] || candidates='1 2 3 4 5 6 7 8 9 10 11 12 13 14 15 16' ;;

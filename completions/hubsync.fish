@@ -19,6 +19,7 @@ complete -c hubsync -n '__fish_seen_subcommand_from check certify verify clashes
 complete -c hubsync -n '__fish_seen_subcommand_from check certify verify clashes rounds run' -l state -r -F -d 'The file of the state'
 complete -c hubsync -n '__fish_seen_subcommand_from check certify verify clashes rounds run' -l certificates -r -F -d 'The file of the certificates'
 complete -c hubsync -n '__fish_seen_subcommand_from check certify verify clashes rounds run' -l strict -d 'Exit with 1 in place of 0 if the answer may mislead'
+complete -c hubsync -n '__fish_seen_subcommand_from check clashes rounds reach' -l unison -d 'Answer about what Unison 2.52 may do by the profiles'
 complete -c hubsync -n '__fish_seen_subcommand_from run' -l workers -x -a '(seq 1 16)' -d 'How many workers run the jobs'
 complete -c hubsync -n '__fish_seen_subcommand_from run' -l rounds -d 'Run the rounds of the set one after another'
 complete -c hubsync -n '__fish_seen_subcommand_from clashes' -l dot -d 'Draw what clashes as a graph for Graphviz'

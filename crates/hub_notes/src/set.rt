@@ -15,8 +15,9 @@ struct Pair<'a> {
     other: &'a str,
 }
 
-/// What is said about a yes that may mislead: lines that begin with `hubsync: `, or nothing.
-pub fn notes(source: &Source<'_>) -> Result<String, AllocError> {
+/// What is said about a yes that may mislead: lines that begin with `hubsync: `, or nothing. Where the profiles are read for
+/// Unison, there is none on what this reading covers.
+pub fn notes(source: &Source<'_>, is_for_unison: bool) -> Result<String, AllocError> {
     let mut notes = Notes::new(source.alloc());
     let profiles = source.profiles()?;
     if !source.is_whole() {
@@ -24,16 +25,21 @@ pub fn notes(source: &Source<'_>) -> Result<String, AllocError> {
     } else if profiles.is_empty() {
         notes.add("the input has no profile, so nothing was checked")?;
     } else {
-        say_notes(&mut notes, source, profiles.as_slice())?;
+        say_notes(&mut notes, source, profiles.as_slice(), is_for_unison)?;
     }
     notes.into_text()
 }
 
 /// Says what these profiles and the rules may not have been meant to say.
-fn say_notes(out: &mut Notes, source: &Source<'_>, profiles: &[SourceLine<'_>]) -> Said {
+fn say_notes(
+    out: &mut Notes,
+    source: &Source<'_>,
+    profiles: &[SourceLine<'_>],
+    is_for_unison: bool,
+) -> Said {
     say_strange_rule(out, source, profiles)?;
     say_same_pair(out, source, profiles)?;
-    say_otherwise_read(out, source, profiles)?;
+    say_otherwise_read(out, source, profiles, is_for_unison)?;
     say_blank_names(out, source.alloc(), profiles)
 }
 

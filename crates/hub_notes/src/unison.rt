@@ -46,13 +46,23 @@ const DIFFERENCES: [Difference; 10] = [
     Difference::Log,
 ];
 
-/// Says which lines of some profiles Unison reads otherwise: of each kind the first.
+/// Those that count where the profiles are read for Unison, too: the reading doesn't cover them.
+const UNCOVERED: [Difference; 3] = [Difference::Arrow, Difference::Parent, Difference::Log];
+
+/// Says which lines of some profiles Unison reads otherwise: of each kind the first. Where the profiles are read for Unison,
+/// only lines count that the reading doesn't cover.
 pub(crate) fn say_otherwise_read(
     out: &mut Notes,
     source: &Source<'_>,
     profiles: &[SourceLine<'_>],
+    is_for_unison: bool,
 ) -> Said {
-    for difference in DIFFERENCES.iter() {
+    let differences: &[Difference] = if is_for_unison {
+        &UNCOVERED
+    } else {
+        &DIFFERENCES
+    };
+    for difference in differences.iter() {
         say_difference(out, source, profiles, *difference)?;
     }
     Ok(())

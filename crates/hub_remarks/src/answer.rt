@@ -5,6 +5,7 @@ use crate::bundle::say_bundle_fault;
 use crate::refusal::{say_breach, say_overlap, say_refused};
 use crate::setting::say_setting_fault;
 use crate::text::{say_certificates_fault, say_state_fault};
+use crate::unison::{is_for_unison, say_assumed, say_wider};
 use crate::words::say_words;
 use hub_notes::notes;
 use hub_source::{Said, Source, place_in, place_in_profile, say};
@@ -60,16 +61,21 @@ pub fn remark(
     let second = next_text(&mut lines);
     let source = Source::read(alloc, input.bytes, input.is_whole, files)?;
     if is_yes(first) && !second.starts_with(RUN_FAULT) {
-        return remarks_on_yes(&source);
+        return remarks_on_yes(&source, words);
     }
     say_answer(&mut remarks.text, &source, words, first, second)?;
+    say_wider(&mut remarks.text, words, first)?;
     Ok(remarks)
 }
 
-/// What is said about a yes.
-fn remarks_on_yes(source: &Source<'_>) -> Result<Remarks, AllocError> {
-    let text = notes(source)?;
+/// What is said about a yes. Where the profiles are read for Unison, that is also what is assumed.
+fn remarks_on_yes(source: &Source<'_>, words: &[String]) -> Result<Remarks, AllocError> {
+    let is_for_unison = is_for_unison(words);
+    let mut text = notes(source, is_for_unison)?;
     let may_mislead = !text.is_empty();
+    if is_for_unison {
+        say_assumed(&mut text)?;
+    }
     Ok(Remarks { text, may_mislead })
 }
 

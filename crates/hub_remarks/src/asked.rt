@@ -25,12 +25,16 @@ pub(crate) fn say_asked_path(
     }
 }
 
-/// The operands of `reach`: the last two words.
+/// The operands of `reach`: the last two words but `--unison`.
 fn operands(words: &[String]) -> (&str, &str) {
-    match words {
-        [.., name, path] => (name.as_str(), path.as_str()),
-        _ => ("", ""),
+    let (mut name, mut path) = ("", "");
+    for word in words {
+        if word.as_str() != "--unison" {
+            name = path;
+            path = word.as_str();
+        }
     }
+    (name, path)
 }
 
 /// Says how to write a path that begins with `/`: below the profile's root, if it lies there.

@@ -16,7 +16,7 @@
 //! - Faults: `bundle` of the headings, `setting`, `value` and `pattern` of profiles and rules, `text` of states and certificates.
 //! - Refusals and the lines that make them so: `refusal`. What `reach`, `run` and the command line were asked: `asked`; the
 //!   line that ignores a path: `ignored`. Words that ask for nothing: `words`.
-//! - A yes that may mislead: the crate `hub_notes`.
+//! - A yes that may mislead: the crate `hub_notes`. An answer for Unison: `unison`.
 //!
 //! The text is free, and is only tested (`examples/remarks.txt`). What is proved is that each function is safe and ends.
 //!
@@ -32,6 +32,7 @@ mod refusal;
 mod remedy;
 mod setting;
 mod text;
+mod unison;
 mod value;
 mod words;
 

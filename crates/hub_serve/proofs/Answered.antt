@@ -1,12 +1,13 @@
 -- From what was written to what is true of the input.
-use Rattle.std.proofs.Common.{[], ◌≡◌, ◌∙◌, ◌==◌, ◌≤◌, ◌⊎◌, inl, inr, ℕ, Bool, true, false, cond, Result, Ok, List, ◌∷◌, ◌++◌, length, take, Option, Some, None, codes, refl, sym, ap, subst, arith, length-append, eq-eqb}
+use Rattle.std.proofs.Common.{[], ◌≡◌, ◌∙◌, ◌==◌, ◌≤◌, ◌⊎◌, inl, inr, ℕ, Bool, true, false, cond, Result, Ok, List, ◌∷◌, ◌++◌, length, take, Option, Some, None, codes, refl, sym, ap, subst, arith, length-append, eq-eqb, true≢false}
 use Rattle.std.specs.Prelude.{IfOk, IfSome, ⊤}
 use Rattle.std.specs.Io.KnownBytes.{Appends, Keeps}
 use Rattle.std.proofs.lemmas.List.{append_cancel_left}
 use Rattle.std.proofs.lemmas.Option.{none-some, same_Some}
 use Rattle.std.proofs.lemmas.Bool.{false≢true}
 use Rattle.hub_cli.specs.declared.words.Question.TheVariants as ask
-use Rattle.hub_cli.specs.Words.{Request, about, asked_of}
+use Rattle.hub_cli.specs.declared.words.Reading.{Reading}
+use Rattle.hub_cli.specs.Words.{Request, about, asked_of, reading_for}
 use Rattle.hub_report.specs.declared.report.Report.{Report}
 use Rattle.hub_report.specs.declared.clashes_answer.ClashesAnswer.{ClashesAnswer}
 use Rattle.hub_report.specs.declared.clashes_answer.ClashesAnswer.TheVariants.{Lines, Graph, Cut}
@@ -26,6 +27,7 @@ use Rattle.hub_serve.specs.Rounds.{BeginsAsClash}
 use Rattle.hub_serve.specs.Report.{Holds, IsWholeUnlessFailed, SpellsClashes, SpellsGraph, SpellsReach, SpellsRounds, SpellsRoundsRun}
 use Rattle.hub_serve.specs.Report.{SpellsSafe, SpellsUnsafe, SpellsVerified, Serves, Answers, AnswersNothing, WritesText}
 use Rattle.hub_serve.proofs.FirstLines.{only_safe, only_clashes, only_graph, only_rounds, only_verified, only_overlaps, only_breaches, only_reached, only_not_reached}
+use Rattle.hub_serve.proofs.InUnison.{unreached-in_unison}
 use Rattle.hub_serve.proofs.Refused.{OverlapsShown, BreachesShown}
 
 -- What follows the bytes that were there is what was appended.
@@ -56,11 +58,11 @@ module _ (request : Request) (remaining old new : Option (List ℕ)) (reads : Re
   verified-written text a e f g = only_verified request bytes a.report a.text a.writes.written _ a.is_text (appended old new before _ _ a.writes.appends f g) (held a e)
 
   overlap-written : OverlapsShown → (text : List ℕ) → Answers request remaining old new reads write_failed status → remaining ≡ Some bytes → old ≡ Some before
-      → new ≡ Some (before ++ (codes "overlap: " ++ text)) → SpellsUnsafe bytes
+      → new ≡ Some (before ++ (codes "overlap: " ++ text)) → SpellsUnsafe (Some request) bytes
   overlap-written shown text a e f g = only_overlaps shown request bytes a.report a.text a.writes.written _ a.is_text (appended old new before _ _ a.writes.appends f g) (held a e)
 
   breach-written : BreachesShown → (text : List ℕ) → Answers request remaining old new reads write_failed status → remaining ≡ Some bytes → old ≡ Some before
-      → new ≡ Some (before ++ (codes "breach: " ++ text)) → SpellsUnsafe bytes
+      → new ≡ Some (before ++ (codes "breach: " ++ text)) → SpellsUnsafe (Some request) bytes
   breach-written shown text a e f g = only_breaches shown request bytes a.report a.text a.writes.written _ a.is_text (appended old new before _ _ a.writes.appends f g) (held a e)
 
   rounds-written : (text : List ℕ) → Answers request remaining old new reads write_failed status → remaining ≡ Some bytes → old ≡ Some before
@@ -76,22 +78,29 @@ module _ (request : Request) (remaining old new : Option (List ℕ)) (reads : Re
   graph-written text a e f g =
       only_graph request bytes a.report a.text text write_failed status a.is_text (answer-written (codes "graph clashes {" ++ text) a f g) (held a e)
 
-  clashes-written : (text : List ℕ) → Answers request remaining old new reads write_failed status → Some request ≡ Some (about ask.Clashes) → remaining ≡ Some bytes → old ≡ Some before
-      → new ≡ Some (before ++ text) → BeginsAsClash text → SpellsClashes bytes text write_failed status
-  clashes-written text a is e f g b =
-      only_clashes request bytes a.report a.text text write_failed status (same_Some request (about ask.Clashes) is) a.is_text (answer-written text a f g) (held a e) b
+  clashes-written : (reading : Reading) (text : List ℕ) → Answers request remaining old new reads write_failed status → Some request ≡ Some (about (ask.Clashes reading)) → remaining ≡ Some bytes → old ≡ Some before
+      → new ≡ Some (before ++ text) → BeginsAsClash text → SpellsClashes reading bytes text write_failed status
+  clashes-written reading text a is e f g b =
+      only_clashes reading request bytes a.report a.text text write_failed status (same_Some request (about (ask.Clashes reading)) is) a.is_text (answer-written text a f g) (held a e) b
 
   reached-written : (text : List ℕ) → Answers request remaining old new reads write_failed status → remaining ≡ Some bytes → old ≡ Some before
       → new ≡ Some (before ++ (codes "reached\n" ++ text)) → SpellsReach (Some request) bytes true
   reached-written text a e f g =
       let h = only_reached request bytes a.report a.text a.writes.written _ a.is_text (appended old new before _ _ a.writes.appends f g) (held a e) in
-      record { request = request; is_asked = refl; contents = h.contents; spelled = h.spelled; answered = h.told }
+      record { request = request; is_asked = refl; contents = h.contents; spelled = h.spelled; answered = h.told; in_unison = λ u f. absurd (true≢false f) }
 
   not_reached-written : (text : List ℕ) → Answers request remaining old new reads write_failed status → remaining ≡ Some bytes → old ≡ Some before
       → new ≡ Some (before ++ (codes "not reached\n" ++ text)) → SpellsReach (Some request) bytes false
   not_reached-written text a e f g =
       let h = only_not_reached request bytes a.report a.text a.writes.written _ a.is_text (appended old new before _ _ a.writes.appends f g) (held a e) in
-      record { request = request; is_asked = refl; contents = h.contents; spelled = h.spelled; answered = h.told }
+      record {
+        request = request;
+        is_asked = refl;
+        contents = h.contents;
+        spelled = h.spelled;
+        answered = h.told;
+        in_unison = λ u f. unreached-in_unison (reading_for request) bytes h.contents h.spelled h.told.profile h.told.P h.told.p h.told.profile_is h.told.answer_is u;
+      }
 
 -- Where the words ask for nothing, no such line is written: what is written begins with an f.
 nothing-written : (old new : Option (List ℕ)) (status : ℕ) (before text : List ℕ) (x : ℕ) → AnswersNothing old new status → (102 == x) ≡ false
@@ -155,7 +164,7 @@ serves-answer overlaps breaches request remaining old new reads write_failed sta
   breach = λ bytes before text e f g. breach-written request remaining old new reads write_failed status bytes before breaches text a e f g;
   rounds = λ bytes before text e f g. rounds-written request remaining old new reads write_failed status bytes before text a e f g;
   graph = λ bytes before text e f g. graph-written request remaining old new reads write_failed status bytes before text a e f g;
-  clashes = λ bytes before text is e f g b. clashes-written request remaining old new reads write_failed status bytes before text a is e f g b;
+  clashes = λ reading bytes before text is e f g b. clashes-written request remaining old new reads write_failed status bytes before reading text a is e f g b;
   reached = λ bytes before text e f g. reached-written request remaining old new reads write_failed status bytes before text a e f g;
   not_reached = λ bytes before text e f g. not_reached-written request remaining old new reads write_failed status bytes before text a e f g;
 }
@@ -173,7 +182,7 @@ serves-nothing remaining old new reads write_failed status a = record {
   breach = λ bytes before text e f g. absurd (nothing-written old new status before _ 98 a refl f g);
   rounds = λ bytes before text e f g. absurd (nothing-written old new status before _ 114 a refl f g);
   graph = λ bytes before text e f g. absurd (nothing-written old new status before _ 103 a refl f g);
-  clashes = λ bytes before text is e f g b. absurd (none-some (about ask.Clashes) is);
+  clashes = λ reading bytes before text is e f g b. absurd (none-some (about (ask.Clashes reading)) is);
   reached = λ bytes before text e f g. absurd (nothing-written old new status before _ 114 a refl f g);
   not_reached = λ bytes before text e f g. absurd (nothing-written old new status before _ 110 a refl f g);
 }

@@ -10,7 +10,8 @@ use Rattle.hub_bundle.specs.Sections.{members}
 use Rattle.hub_cli.specs.declared.words.Question.{Question}
 use Rattle.hub_cli.specs.declared.words.Question.TheVariants as ask
 use Rattle.hub_cli.specs.declared.words.Question.TheVariants.{CheckWithState, Run, RunByRounds, Check, Certify, Verify}
-use Rattle.hub_cli.specs.Words.{Request, about}
+use Rattle.hub_cli.specs.declared.words.Reading.{Reading}
+use Rattle.hub_cli.specs.Words.{Request, about, reading_for}
 use Rattle.hub_serve.specs.declared.task.Task.{Task}
 use Rattle.hub_serve.specs.declared.task.Task.TheVariants as task
 use Rattle.hub_serve.specs.Report.{FaultOf, IsRefusedFor}
@@ -20,9 +21,9 @@ use Rattle.hub_serve.specs.Task.{AsksTask, task_of}
 -- aren't in question here.
 abbrev pub AsksAlone : Task → Request → Option State → Type 0
 AsksAlone task.Verify request state = request ≡ about Verify
-AsksAlone task.Clashes request state = request ≡ about ask.Clashes
-AsksAlone task.Graph request state = request ≡ about ask.Graph
-AsksAlone task.Rounds request state = request ≡ about ask.Rounds
+AsksAlone task.Clashes request state = request ≡ about (ask.Clashes (reading_for request))
+AsksAlone task.Graph request state = request ≡ about (ask.Graph (reading_for request))
+AsksAlone task.Rounds request state = request ≡ about (ask.Rounds (reading_for request))
 AsksAlone (task.RunByRounds n S) request state = (request ≡ about (RunByRounds n)) × (state ≡ Some S)
 AsksAlone _ request state = ⊤
 
@@ -34,12 +35,12 @@ asks-by (Run n) None = tt
 asks-by (Run n) (Some S) = tt
 asks-by (RunByRounds n) None = tt
 asks-by (RunByRounds n) (Some S) = (refl, refl)
-asks-by Check state = tt
+asks-by (Check reading) state = tt
 asks-by Certify state = tt
 asks-by Verify state = refl
-asks-by ask.Clashes state = refl
-asks-by ask.Graph state = refl
-asks-by ask.Rounds state = refl
+asks-by (ask.Clashes reading) state = refl
+asks-by (ask.Graph reading) state = refl
+asks-by (ask.Rounds reading) state = refl
 
 pub asks : (request : Request) (state : Option State) (t : Task) → AsksTask request state t → AsksAlone t request state
 asks request state t a =
@@ -47,13 +48,13 @@ asks request state t a =
     (subst (λ o. IfSome o (λ u. AsksAlone u (about a.of_set) state)) a.task_is (asks-by a.of_set state))
 
 -- The question what clashes asks for nothing else.
-pub asked-clashes : (request : Request) (state : Option State) (t : Task) → AsksTask request state t → request ≡ about ask.Clashes → t ≡ task.Clashes
-asked-clashes request state t a is =
-    let about_is : about a.of_set ≡ about ask.Clashes = sym a.asked ∙ is in
-    let q_is : a.of_set ≡ ask.Clashes = cc in
+pub asked-clashes : (reading : Reading) (request : Request) (state : Option State) (t : Task) → AsksTask request state t → request ≡ about (ask.Clashes reading) → t ≡ task.Clashes
+asked-clashes reading request state t a is =
+    let about_is : about a.of_set ≡ about (ask.Clashes reading) = sym a.asked ∙ is in
+    let q_is : a.of_set ≡ ask.Clashes reading = cc in
     sym (same_Some task.Clashes t (subst (λ q. task_of q state ≡ Some t) q_is a.task_is))
 
 -- So no set is refused for a goal then.
-pub unrefused : (request : Request) (c : BundleContents) (t : Task) (e : CheckFault) → AsksTask request c.state t → request ≡ about ask.Clashes → IsRefusedFor t c e → IsRefused (members c) e
-unrefused request c t e a is (inl h) = h
-unrefused request c t e a is (inr h) = absurd (subst (λ u. FaultOf u (members c) c.certificates e) (asked-clashes request c.state t a is) h)
+pub unrefused : (reading : Reading) (request : Request) (c : BundleContents) (t : Task) (e : CheckFault) → AsksTask request c.state t → request ≡ about (ask.Clashes reading) → IsRefusedFor t c e → IsRefused (members c) e
+unrefused reading request c t e a is (inl h) = h
+unrefused reading request c t e a is (inr h) = absurd (subst (λ u. FaultOf u (members c) c.certificates e) (asked-clashes reading request c.state t a is) h)

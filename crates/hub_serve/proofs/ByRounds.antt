@@ -232,7 +232,9 @@ filtered-out p (y ∷ ys) h =
 in-a-round : (es : List CheckFault) (count i : ℕ) (where_it_is : Placing) → IsPlaced es count i where_it_is → find leaves_out es ≡ None
     → not (is_in_some where_it_is) ≡ false
 in-a-round es count i (Round k) h f = refl
-in-a-round es count i (Unplaced why) h f = absurd (unfound leaves_out es h.0 h.1.0 h.1.1 h.1.2 (ap is_alone h.2) f)
+in-a-round es count i (Unplaced why) h f =
+    let line = h.0 in
+    absurd (unfound leaves_out es line.0 line.1.0 line.1.1 line.1.2 (ap is_alone line.2) f)
 
 none-left : (M : Members) (es : List CheckFault) (r : Rounds) → AreRounds M es r → find leaves_out es ≡ None → r.left ≡ []
 none-left M es r a f =

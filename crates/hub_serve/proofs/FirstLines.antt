@@ -9,7 +9,7 @@ use Rattle.hub_cert.specs.declared.fault.CheckFault.{CheckFault}
 use Rattle.hub_search.specs.Search.{Disproves}
 use Rattle.hub_state.specs.Writing.{state_text}
 use Rattle.hub_bundle.specs.declared.sections.BundleContents.{BundleContents}
-use Rattle.hub_bundle.specs.Sections.{Spells, members}
+use Rattle.hub_bundle.specs.Sections.{members}
 use Rattle.hub_report.specs.declared.report.Report.{Report}
 use Rattle.hub_report.specs.declared.report.Report.TheVariants as answer
 use Rattle.hub_report.specs.declared.clashes_answer.ClashesAnswer.{ClashesAnswer}
@@ -35,14 +35,17 @@ use Rattle.hub_report.specs.Starts.{RoundsStart, GraphStart, ReachedStart, NotRe
 use Rattle.hub_report.specs.Starts.{lines-start, refusal-start}
 use Rattle.hub_cli.specs.declared.words.Question.{Question}
 use Rattle.hub_cli.specs.declared.words.Question.TheVariants as ask
-use Rattle.hub_cli.specs.Words.{Request, about}
+use Rattle.hub_cli.specs.declared.words.Reading.{Reading}
+use Rattle.hub_cli.specs.Words.{Request, about, reading_for, reading_of}
 use Rattle.hub_serve.specs.declared.task.Task.{Task}
 use Rattle.hub_serve.specs.declared.task.Task.TheVariants as task
-use Rattle.hub_serve.specs.Report.{FollowsSafe, IsWholeUnlessFailed, IsRefusedFor, IsTrueOf, Holds, ShowsClashes, ShowsGraph, ShowsRounds, ShowsRoundsRun, ShowsSet}
+use Rattle.hub_serve.specs.Report.{FollowsSafe, IsWholeUnlessFailed, IsRefusedFor, IsTrueOf, Holds, ShowsClashes, ShowsGraph, ShowsRounds, ShowsRoundsRun}
 use Rattle.hub_serve.specs.Report.{SpellsClashes, SpellsGraph, SpellsRounds, SpellsRoundsRun, SpellsSafe, SpellsUnsafe, SpellsVerified}
 use Rattle.hub_serve.specs.Rounds.{BeginsAsClash, DrawsClashes, ListsClashes, WritesRounds}
 use Rattle.hub_serve.specs.Runs.{HasRunAs, IsBelow, IsPrevented}
 use Rattle.hub_serve.specs.Task.{AsksTask}
+use Rattle.hub_serve.specs.Unison.{SpellsAs}
+use Rattle.hub_serve.proofs.InUnison.{rounds-in_unison, safe-in_unison}
 use Rattle.hub_serve.proofs.Asking.{asks, unrefused}
 use Rattle.hub_serve.proofs.Refused.{BreachesShown, OverlapsShown, breach-refused, overlap-refused}
 
@@ -85,14 +88,14 @@ error-below t M f h =
 
 -- The words ask what clashes: then the text says it.
 abbrev AreClashes : Request → List ℕ → List ℕ → ℕ → Type 0
-AreClashes request bytes line status = request ≡ about ask.Clashes → ShowsClashes bytes line status
+AreClashes request bytes line status = (reading : Reading) → request ≡ about (ask.Clashes reading) → ShowsClashes reading bytes line status
 
 -- What is true of the question and of the input if the text of the answer starts so.
 abbrev Means : Request → List ℕ → List ℕ → ℕ → Start → Type 0
 Means request bytes line status SafeStart = (below : List ℕ) × (line ≡ codes "safe\n" ++ below) × FollowsSafe (Some request) bytes below status
 Means request bytes line status VerifiedStart = SpellsVerified (Some request) bytes
-Means request bytes line status OverlapStart = (OverlapsShown → SpellsUnsafe bytes) × AreClashes request bytes line status
-Means request bytes line status BreachStart = (BreachesShown → SpellsUnsafe bytes) × AreClashes request bytes line status
+Means request bytes line status OverlapStart = (OverlapsShown → SpellsUnsafe (Some request) bytes) × AreClashes request bytes line status
+Means request bytes line status BreachStart = (BreachesShown → SpellsUnsafe (Some request) bytes) × AreClashes request bytes line status
 Means request bytes line status TooLargeStart = AreClashes request bytes line status
 Means request bytes line status RoundsStart = ShowsRounds (Some request) bytes line status ⊎ ShowsRoundsRun (Some request) bytes line status
 Means request bytes line status GraphStart = ShowsGraph (Some request) bytes line status
@@ -100,51 +103,54 @@ Means request bytes line status ReachedStart = IsTrueOf request bytes (answer.Re
 Means request bytes line status NotReachedStart = IsTrueOf request bytes (answer.Reach NotReached)
 Means request bytes line status OtherStart = ⊤
 
--- Where the text is so of the set that the words ask of, it shows it.
-shows-set : (IsSo : Members → List ℕ → Bool → Type 0) (q : Question) (request : Request) (bytes line : List ℕ) (c : BundleContents) (well : Bool)
-    → request ≡ about q → Spells bytes c → IsSo (members c) line well → ShowsSet q IsSo (Some request) bytes line (cond well 0 1)
-shows-set IsSo q request bytes line c well asked spelled is = record { is_asked = ap Some asked; contents = c; spelled = spelled; well = well; is_so = is; status_is = refl }
+-- What a bundle spells as it was asked for, it spells as a request that is the same asks for.
+spelled-for : (request other : Request) (bytes : List ℕ) (c : BundleContents) → request ≡ other → SpellsAs (reading_for request) bytes c → SpellsAs (reading_for other) bytes c
+spelled-for request other bytes c is h = subst (λ r. SpellsAs (reading_for r) bytes c) is h
 
 -- It is true of the start of the line of a refusal,
-refusal-means : (request : Request) (bytes line : List ℕ) (status : ℕ) (c : BundleContents) (t : Task) (e : CheckFault) → Spells bytes c → AsksTask request c.state t → IsRefusedFor t c e
+refusal-means : (request : Request) (bytes line : List ℕ) (status : ℕ) (c : BundleContents) (t : Task) (e : CheckFault) → SpellsAs (reading_for request) bytes c → AsksTask request c.state t → IsRefusedFor t c e
     → Means request bytes line status (start (refusal_line (members c) e))
 refusal-means request bytes line status c t e spelled asked refused =
     refusal-start (Means request bytes line status) (members c) e (record {
       other = tt;
       overlap = λ w o place held path is. (
         λ shown. record {
+          request = request;
+          is_asked = refl;
           contents = c;
           spelled = spelled;
           unsafe = overlap-refused shown t c w o place held path (subst (IsRefusedFor t c) is refused);
         },
-        λ asks. absurd (subst (IsRefused (members c)) is (unrefused request c t e asked asks refused)),
+        λ reading asks. absurd (subst (IsRefused (members c)) is (unrefused reading request c t e asked asks refused)),
       );
       breach = λ p k path is. (
         λ shown. record {
+          request = request;
+          is_asked = refl;
           contents = c;
           spelled = spelled;
           unsafe = breach-refused shown t c p k path (subst (IsRefusedFor t c) is refused);
         },
-        λ asks. absurd (subst (IsRefused (members c)) is (unrefused request c t e asked asks refused)),
+        λ reading asks. absurd (subst (IsRefused (members c)) is (unrefused reading request c t e asked asks refused)),
       );
-      too_large = λ g is. λ asks. absurd (subst (IsRefused (members c)) is (unrefused request c t e asked asks refused));
+      too_large = λ g is. λ reading asks. absurd (subst (IsRefused (members c)) is (unrefused reading request c t e asked asks refused));
     })
 
 -- of that of the lines of what clashes,
-clashes-mean : (request : Request) (bytes line : List ℕ) (c : BundleContents) → Spells bytes c → ListsClashes (members c) line
+clashes-mean : (request : Request) (bytes line : List ℕ) (c : BundleContents) → SpellsAs (reading_for request) bytes c → ListsClashes (members c) line
     → Means request bytes line 1 (start line)
 clashes-mean request bytes line c spelled h =
     subst (λ t. Means request bytes line 1 (start t)) (sym h.text_is)
     (lines-start (Means request bytes line 1) (members c) h.lines tt (λ n e at. each e (h.disproved e (n, slice_get_within h.lines n e at, get_or_from_slice_get h.lines n e e at))))
   where
     says : AreClashes request bytes line 1
-    says asks = record { contents = c; spelled = spelled; listed = h; status_is = refl }
+    says reading asks = record { contents = c; spelled = spelled-for request (about (ask.Clashes reading)) bytes c asks spelled; listed = h; status_is = refl }
 
     each : (e : CheckFault) → Disproves (members c) e → HoldsOfStarts (Means request bytes line 1) e
     each e d = record {
       other = tt;
-      overlap = λ w o place held path is. (λ shown. record { contents = c; spelled = spelled; unsafe = subst (Disproves (members c)) is d }, says);
-      breach = λ p k path is. (λ shown. record { contents = c; spelled = spelled; unsafe = subst (Disproves (members c)) is d }, says);
+      overlap = λ w o place held path is. (λ shown. record { request = request; is_asked = refl; contents = c; spelled = spelled; unsafe = subst (Disproves (members c)) is d }, says);
+      breach = λ p k path is. (λ shown. record { request = request; is_asked = refl; contents = c; spelled = spelled; unsafe = subst (Disproves (members c)) is d }, says);
       too_large = λ g is. says;
     }
 
@@ -157,7 +163,7 @@ reach-means request bytes (NoProfile n) line l h = subst (λ t. Means request by
 reach-means request bytes (BadPath f) line l h = subst (λ t. Means request bytes line 2 (start t)) (sym l) tt
 
 -- of that of `safe` with what is to follow it,
-safe-means : (request : Request) (bytes line : List ℕ) (status : ℕ) (c : BundleContents) (t : Task) (below : List ℕ) → line ≡ codes "safe\n" ++ below → Spells bytes c → AsksTask request c.state t
+safe-means : (request : Request) (bytes line : List ℕ) (status : ℕ) (c : BundleContents) (t : Task) (below : List ℕ) → line ≡ codes "safe\n" ++ below → SpellsAs (reading_for request) bytes c → AsksTask request c.state t
     → IsSafeSet (members c) → IsBelow t (members c) status below → Means request bytes line status (start line)
 safe-means request bytes line status c t below l spelled asked safe below_is =
     subst (λ text. Means request bytes line status (start text)) (sym l) (
@@ -167,10 +173,11 @@ safe-means request bytes line status c t below l spelled asked safe below_is =
         of_set = asked.of_set;
         is_asked = ap Some asked.asked;
         contents = c;
-        spelled = spelled;
+        spelled = spelled-for request (about asked.of_set) bytes c asked.asked spelled;
         to_do = t;
         to_do_is = asked.task_is;
         safe = safe;
+        in_unison = safe-in_unison (reading_of asked.of_set) bytes c (spelled-for request (about asked.of_set) bytes c asked.asked spelled) safe;
         below = below_is;
       },
     )
@@ -181,11 +188,11 @@ verdict-means : (request : Request) (bytes : List ℕ) (v : Verdict) (line : Lis
 verdict-means request bytes Safe line l h =
     safe-means request bytes line 0 h.contents h.told.to_do [] l h.spelled h.told.asked h.told.told.1 (check-below h.told.to_do (members h.contents) h.told.told.0)
 verdict-means request bytes Verified line l h =
-    let asked = subst (AsksTask request h.contents.state) h.told.told.0 h.told.asked in
+    let asked = asks request h.contents.state task.Verify (subst (AsksTask request h.contents.state) h.told.told.0 h.told.asked) in
     subst (λ t. Means request bytes line 0 (start t)) (sym l) (record {
-      is_asked = ap Some (asks request h.contents.state task.Verify asked);
+      is_asked = ap Some asked;
       contents = h.contents;
-      spelled = h.spelled;
+      spelled = spelled-for request (about ask.Verify) bytes h.contents asked h.spelled;
       inductive = h.told.told.1;
       safe = h.told.told.2;
     })
@@ -200,11 +207,29 @@ clashes-answer-means request bytes (Lines text) line l h =
 clashes-answer-means request bytes (Graph g) line l h =
     let drawn = subst (λ t. DrawsClashes (members h.contents) t g.safe) (sym l) h.told.told.1 in
     let asked = asks request h.contents.state task.Graph (subst (AsksTask request h.contents.state) h.told.told.0 h.told.asked) in
-    subst (λ t. Means request bytes line (cond g.safe 0 1) (start t)) (sym drawn.text_is) (shows-set DrawsClashes ask.Graph request bytes line h.contents g.safe asked h.spelled drawn)
+    subst (λ t. Means request bytes line (cond g.safe 0 1) (start t)) (sym drawn.text_is) (record {
+      reading = reading_for request;
+      is_asked = ap Some asked;
+      contents = h.contents;
+      spelled = h.spelled;
+      well = g.safe;
+      drawn = drawn;
+      in_unison = λ u w. safe-in_unison (reading_for request) bytes h.contents h.spelled (drawn.sure w) u;
+      status_is = refl;
+    })
 clashes-answer-means request bytes (Cut c) line l h =
     let cut = subst (λ t. WritesRounds (members h.contents) t c.decided) (sym l) h.told.told.1 in
     let asked = asks request h.contents.state task.Rounds (subst (AsksTask request h.contents.state) h.told.told.0 h.told.asked) in
-    subst (λ t. Means request bytes line (cond c.decided 0 1) (start t)) (sym cut.text_is) (inl (shows-set WritesRounds ask.Rounds request bytes line h.contents c.decided asked h.spelled cut))
+    subst (λ t. Means request bytes line (cond c.decided 0 1) (start t)) (sym cut.text_is) (inl (record {
+      reading = reading_for request;
+      is_asked = ap Some asked;
+      contents = h.contents;
+      spelled = h.spelled;
+      well = c.decided;
+      cut = cut;
+      in_unison = rounds-in_unison (reading_for request) bytes h.contents h.spelled cut.lines cut.rounds cut.cut;
+      status_is = refl;
+    }))
 
 -- of a run,
 run-means : (request : Request) (bytes : List ℕ) (a : RunAnswer) (line : List ℕ) → line ≡ runs.text_of a → IsTrueOf request bytes (answer.Run a)
@@ -219,7 +244,7 @@ run-means request bytes (RanByRounds r) line l h =
       workers = t.workers;
       is_asked = ap Some asked.0;
       contents = h.contents;
-      spelled = h.spelled;
+      spelled = spelled-for request (about (ask.RunByRounds t.workers)) bytes h.contents asked.0 h.spelled;
       state = t.state;
       state_is = asked.1;
       run = r;
@@ -288,18 +313,18 @@ only_graph request bytes r line s failed status l wrote h =
     record { full = line; full_status = status_of r; is_so = means request bytes r line GraphStart l (ap start front.whole) h; told = wrote }
 
 -- that of what clashes as a line of it, if the words ask for it,
-pub only_clashes : (request : Request) (bytes : List ℕ) (r : Report) (line text : List ℕ) (failed : Bool) (status : ℕ) → request ≡ about ask.Clashes → line ≡ text_of r
-    → IsWholeUnlessFailed line (status_of r) failed text status → Holds request bytes r → BeginsAsClash text → SpellsClashes bytes text failed status
-only_clashes request bytes r line text failed status is l wrote h b =
+pub only_clashes : (reading : Reading) (request : Request) (bytes : List ℕ) (r : Report) (line text : List ℕ) (failed : Bool) (status : ℕ) → request ≡ about (ask.Clashes reading) → line ≡ text_of r
+    → IsWholeUnlessFailed line (status_of r) failed text status → Holds request bytes r → BeginsAsClash text → SpellsClashes reading bytes text failed status
+only_clashes reading request bytes r line text failed status is l wrote h b =
     record { full = line; full_status = status_of r; is_so = go b.1; told = wrote }
   where
     rest : List ℕ
     rest = b.0
 
-    go : (text ≡ codes "overlap: " ++ rest) ⊎ (text ≡ codes "breach: " ++ rest) ⊎ (text ≡ codes "too large: " ++ rest) → ShowsClashes bytes line (status_of r)
-    go (inl o) = (means request bytes r line OverlapStart l (ap start (begins-taken (codes "overlap: ") line rest wrote.written (sym wrote.text_is ∙ o)).whole) h).1 is
-    go (inr (inl o)) = (means request bytes r line BreachStart l (ap start (begins-taken (codes "breach: ") line rest wrote.written (sym wrote.text_is ∙ o)).whole) h).1 is
-    go (inr (inr o)) = means request bytes r line TooLargeStart l (ap start (begins-taken (codes "too large: ") line rest wrote.written (sym wrote.text_is ∙ o)).whole) h is
+    go : (text ≡ codes "overlap: " ++ rest) ⊎ (text ≡ codes "breach: " ++ rest) ⊎ (text ≡ codes "too large: " ++ rest) → ShowsClashes reading bytes line (status_of r)
+    go (inl o) = (means request bytes r line OverlapStart l (ap start (begins-taken (codes "overlap: ") line rest wrote.written (sym wrote.text_is ∙ o)).whole) h).1 reading is
+    go (inr (inl o)) = (means request bytes r line BreachStart l (ap start (begins-taken (codes "breach: ") line rest wrote.written (sym wrote.text_is ∙ o)).whole) h).1 reading is
+    go (inr (inr o)) = means request bytes r line TooLargeStart l (ap start (begins-taken (codes "too large: ") line rest wrote.written (sym wrote.text_is ∙ o)).whole) h reading is
 
 -- only that of a verified one with a v,
 pub only_verified : (request : Request) (bytes : List ℕ) (r : Report) (line : List ℕ) (w : ℕ) (s : List ℕ) → line ≡ text_of r → take w line ≡ 118 ∷ s → Holds request bytes r → SpellsVerified (Some request) bytes
@@ -317,11 +342,11 @@ only_not_reached request bytes r line w s l e h =
     means request bytes r line NotReachedStart l (ap start (begins-taken (110 ∷ []) line s w e).whole) h
 
 -- only that of an overlap with an o,
-pub only_overlaps : OverlapsShown → (request : Request) (bytes : List ℕ) (r : Report) (line : List ℕ) (w : ℕ) (s : List ℕ) → line ≡ text_of r → take w line ≡ 111 ∷ s → Holds request bytes r → SpellsUnsafe bytes
+pub only_overlaps : OverlapsShown → (request : Request) (bytes : List ℕ) (r : Report) (line : List ℕ) (w : ℕ) (s : List ℕ) → line ≡ text_of r → take w line ≡ 111 ∷ s → Holds request bytes r → SpellsUnsafe (Some request) bytes
 only_overlaps shown request bytes r line w s l e h =
     (means request bytes r line OverlapStart l (ap start (begins-taken (111 ∷ []) line s w e).whole) h).0 shown
 
 -- and only that of a breach with a b.
-pub only_breaches : BreachesShown → (request : Request) (bytes : List ℕ) (r : Report) (line : List ℕ) (w : ℕ) (s : List ℕ) → line ≡ text_of r → take w line ≡ 98 ∷ s → Holds request bytes r → SpellsUnsafe bytes
+pub only_breaches : BreachesShown → (request : Request) (bytes : List ℕ) (r : Report) (line : List ℕ) (w : ℕ) (s : List ℕ) → line ≡ text_of r → take w line ≡ 98 ∷ s → Holds request bytes r → SpellsUnsafe (Some request) bytes
 only_breaches shown request bytes r line w s l e h =
     (means request bytes r line BreachStart l (ap start (begins-taken (98 ∷ []) line s w e).whole) h).0 shown

@@ -1,5 +1,6 @@
 pub mod Asking
 pub mod Refused
+pub mod InUnison
 pub mod FirstLines
 pub mod Answered
 pub mod Told

@@ -84,12 +84,12 @@ lacks-state (Run n) None is = record { workers = n; asked = inl refl; missing = 
 lacks-state (Run n) (Some S) is = cc
 lacks-state (RunByRounds n) None is = record { workers = n; asked = inr refl; missing = refl }
 lacks-state (RunByRounds n) (Some S) is = cc
-lacks-state Check o is = cc
+lacks-state (Check reading) o is = cc
 lacks-state Certify o is = cc
 lacks-state Verify o is = cc
-lacks-state ask.Clashes o is = cc
-lacks-state ask.Graph o is = cc
-lacks-state Rounds o is = cc
+lacks-state (ask.Clashes reading) o is = cc
+lacks-state (ask.Graph reading) o is = cc
+lacks-state (Rounds reading) o is = cc
 
 -- A graph of a set and of its lines draws what clashes in it.
 pub drawn : (S : Members) (es : List CheckFault) (text : List ℕ) (safe : Bool) → AreFaults S es

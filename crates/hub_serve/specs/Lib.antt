@@ -3,6 +3,7 @@ pub mod Task
 pub mod Runs
 pub mod Rounds
 pub mod Reached
+pub mod Unison
 pub mod ByRounds
 pub mod Report
 pub mod Writing

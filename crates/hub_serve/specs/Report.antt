@@ -1,5 +1,5 @@
 -- What the program answers to an input, and when.
-use Rattle.std.specs.Prelude.{◌≡◌, ◌⊎◌, ◌≤◌, ◌++◌, ⊤, ℕ, Bool, true, false, if◌then◌else◌, List, length, take, Option, Some, None, IfSome, Ok, Err, chars, codes, string_bytes}
+use Rattle.std.specs.Prelude.{◌≡◌, ◌⊎◌, ◌≤◌, ◌++◌, ⊤, ℕ, Bool, true, false, if◌then◌else◌, List, length, take, Option, Some, None, IfSome, Ok, Err, chars, codes, slice_get, string_bytes}
 use Rattle.std.specs.Io.KnownBytes.{Appends, Keeps}
 use Rattle.hub_path.specs.Path.{Path}
 use Rattle.hub_path.specs.Reading.{path_reading}
@@ -24,7 +24,9 @@ use Rattle.hub_bundle.specs.Bundle.{bundle_reading}
 use Rattle.hub_bundle.specs.Sections.{Spells, HasFault, members}
 use Rattle.hub_cli.specs.declared.words.Question.{Question}
 use Rattle.hub_cli.specs.declared.words.Question.TheVariants as ask
-use Rattle.hub_cli.specs.Words.{Request}
+use Rattle.hub_cli.specs.declared.words.Reading.{Reading}
+use Rattle.hub_cli.specs.declared.words.Reading.TheVariants as read
+use Rattle.hub_cli.specs.Words.{Request, reading_for, reading_of}
 use Rattle.hub_cli.specs.Words as question
 use Rattle.hub_report.specs.declared.report.Report.{Report}
 use Rattle.hub_report.specs.declared.report.Report.TheVariants as answer
@@ -51,6 +53,7 @@ use Rattle.hub_serve.specs.Reads.{AreSpent, Reads}
 use Rattle.hub_serve.specs.ByRounds.{HasRunByRounds, HasRunByRoundsAs, IsFirstAlone, RunsByRounds}
 use Rattle.hub_serve.specs.Rounds.{BeginsAsClash, DrawsClashes, ListsClashes, WritesRounds}
 use Rattle.hub_serve.specs.Runs.{HasRunAs, IsBelow, IsPrevented}
+use Rattle.hub_serve.specs.Unison.{SpellsAs, SpellsRoundInUnison, SpellsSafeInUnison, SpellsUnreachedInUnison}
 use Rattle.hub_serve.specs.Task.{AsksTask, LacksState, task_of}
 
 -- A text is the whole of what is to be told, with the status of that, unless a call of the output
@@ -71,26 +74,29 @@ pub record TellsUnlessFailed (IsSo : List ℕ → ℕ → Type 0) (text : List �
   pub is_so : IsSo full full_status
   pub told : IsWholeUnlessFailed full full_status failed text status
 
--- The bytes are a bundle whose profiles and rules are a safe set, and this text is what is to
--- follow `safe`, with this status.
+-- The bytes are a bundle whose profiles, as the words want them to be read, and rules are a safe
+-- set, and this text is what is to follow `safe`, with this status.
 pub record FollowsSafe (asked : Option Request) (bytes text : List ℕ) (status : ℕ) : Type 0 where
   pub of_set : Question
   pub is_asked : asked ≡ Some (question.about of_set)
   pub contents : BundleContents
-  pub spelled : Spells bytes contents
+  pub spelled : SpellsAs (reading_of of_set) bytes contents
   pub to_do : Task
   pub to_do_is : task_of of_set contents.state ≡ Some to_do
   pub safe : IsSafeSet (members contents)
+  pub in_unison : reading_of of_set ≡ read.Unison → SpellsSafeInUnison bytes
   pub below : IsBelow to_do (members contents) status text
 
 -- The same of what is written of that text; and so of each text below.
 abbrev pub SpellsSafe : Option Request → List ℕ → List ℕ → Bool → ℕ → Type 0
 SpellsSafe asked bytes = TellsUnlessFailed (FollowsSafe asked bytes)
 
--- The bytes are a bundle whose profiles and rules aren't.
-pub record SpellsUnsafe (bytes : List ℕ) : Type 0 where
+-- The bytes are a bundle whose profiles, as the words want them to be read, and rules aren't.
+pub record SpellsUnsafe (asked : Option Request) (bytes : List ℕ) : Type 0 where
+  pub request : Request
+  pub is_asked : asked ≡ Some request
   pub contents : BundleContents
-  pub spelled : Spells bytes contents
+  pub spelled : SpellsAs (reading_for request) bytes contents
   pub unsafe : IsSafeSet (members contents) → ⊥
 
 -- The words ask to verify the bundle's certificates, and these make its set safe.
@@ -101,38 +107,44 @@ pub record SpellsVerified (asked : Option Request) (bytes : List ℕ) : Type 0 w
   pub inductive : AreCertificates (members contents) contents.certificates
   pub safe : IsSafeSet (members contents)
 
--- The bytes are a bundle of whose set this text lists what clashes, with status 1.
-pub record ShowsClashes (bytes text : List ℕ) (status : ℕ) : Type 0 where
+-- The bytes are a bundle of whose set, if its profiles are read so, this text lists what clashes,
+-- with status 1.
+pub record ShowsClashes (reading : Reading) (bytes text : List ℕ) (status : ℕ) : Type 0 where
   pub contents : BundleContents
-  pub spelled : Spells bytes contents
+  pub spelled : SpellsAs reading bytes contents
   pub listed : ListsClashes (members contents) text
   pub status_is : status ≡ 1
 
-abbrev pub SpellsClashes : List ℕ → List ℕ → Bool → ℕ → Type 0
-SpellsClashes bytes = TellsUnlessFailed (ShowsClashes bytes)
+abbrev pub SpellsClashes : Reading → List ℕ → List ℕ → Bool → ℕ → Type 0
+SpellsClashes reading bytes = TellsUnlessFailed (ShowsClashes reading bytes)
 
--- The words ask for this, and the bytes are a bundle of whose set this text is so. The status is 0
--- if all is well, else 1.
-pub record ShowsSet (of_set : Question) (IsSo : Members → List ℕ → Bool → Type 0)
-    (asked : Option Request) (bytes text : List ℕ) (status : ℕ) : Type 0 where
-  pub is_asked : asked ≡ Some (question.about of_set)
+-- The words ask for rounds, and the bytes are a bundle whose set is cut so. All is well if each
+-- profile is in a round and no goal was too large: then the status is 0, else 1.
+pub record ShowsRounds (asked : Option Request) (bytes text : List ℕ) (status : ℕ) : Type 0 where
+  pub reading : Reading
+  pub is_asked : asked ≡ Some (question.about (ask.Rounds reading))
   pub contents : BundleContents
-  pub spelled : Spells bytes contents
+  pub spelled : SpellsAs reading bytes contents
   pub well : Bool
-  pub is_so : IsSo (members contents) text well
+  pub cut : WritesRounds (members contents) text well
+  pub in_unison : reading ≡ read.Unison → (k : ℕ) (round : List Parts)
+      → slice_get cut.rounds.rounds k ≡ Some round → SpellsRoundInUnison bytes round
   pub status_is : status ≡ (if well then 0 else 1)
-
--- They ask for rounds, and its set is cut so. All is well if each profile is in a round and no goal
--- was too large.
-abbrev pub ShowsRounds : Option Request → List ℕ → List ℕ → ℕ → Type 0
-ShowsRounds = ShowsSet ask.Rounds WritesRounds
 
 abbrev pub SpellsRounds : Option Request → List ℕ → List ℕ → Bool → ℕ → Type 0
 SpellsRounds asked bytes = TellsUnlessFailed (ShowsRounds asked bytes)
 
--- They ask for a graph of what clashes, and its set is drawn so. All is well if it is safe.
-abbrev pub ShowsGraph : Option Request → List ℕ → List ℕ → ℕ → Type 0
-ShowsGraph = ShowsSet ask.Graph DrawsClashes
+-- They ask for a graph of what clashes, and its set is drawn so. The status is 0 if it is safe, else
+-- 1.
+pub record ShowsGraph (asked : Option Request) (bytes text : List ℕ) (status : ℕ) : Type 0 where
+  pub reading : Reading
+  pub is_asked : asked ≡ Some (question.about (ask.Graph reading))
+  pub contents : BundleContents
+  pub spelled : SpellsAs reading bytes contents
+  pub well : Bool
+  pub drawn : DrawsClashes (members contents) text well
+  pub in_unison : reading ≡ read.Unison → well ≡ true → SpellsSafeInUnison bytes
+  pub status_is : status ≡ (if well then 0 else 1)
 
 abbrev pub SpellsGraph : Option Request → List ℕ → List ℕ → Bool → ℕ → Type 0
 SpellsGraph asked bytes = TellsUnlessFailed (ShowsGraph asked bytes)
@@ -158,9 +170,10 @@ SpellsRoundsRun asked bytes = TellsUnlessFailed (ShowsRoundsRun asked bytes)
 -- It was asked whether a profile reaches a path, and this is the answer of the first profile of
 -- that name.
 pub record ReachIs (request : Request) (Ps : List Parts) (answer : Bool) : Type 0 where
+  pub reading : Reading
   pub profile : List ℕ
   pub path : List ℕ
-  pub asked : request ≡ question.reach profile path
+  pub asked : request ≡ question.reach reading profile path
   pub P : Parts
   pub p : Path
   pub profile_is : first_named profile Ps ≡ Some P
@@ -169,15 +182,17 @@ pub record ReachIs (request : Request) (Ps : List Parts) (answer : Bool) : Type 
 
 -- It was asked of a profile that isn't there.
 pub record LacksProfile (request : Request) (Ps : List Parts) (profile : List ℕ) : Type 0 where
+  pub reading : Reading
   pub path : List ℕ
-  pub asked : request ≡ question.reach profile path
+  pub asked : request ≡ question.reach reading profile path
   pub missing : first_named profile Ps ≡ None
 
 -- It was asked of a text that is no path.
 pub record HasBadPath (request : Request) (Ps : List Parts) (f : PathFault) : Type 0 where
+  pub reading : Reading
   pub profile : List ℕ
   pub path : List ℕ
-  pub asked : request ≡ question.reach profile path
+  pub asked : request ≡ question.reach reading profile path
   pub P : Parts
   pub profile_is : first_named profile Ps ≡ Some P
   pub fault : path_reading (chars path) ≡ Err f
@@ -268,10 +283,10 @@ IsTold request c (answer.Refused t) = IsToldRefused request c (answer.Refused t)
 IsTold request c answer.OutOfMemory = ⊤
 IsTold request c r = IsToldAbout request c r
 
--- The bytes are a bundle of which that is true.
+-- The bytes are a bundle of which that is true, if its profiles are read as it was asked for.
 pub record IsTrueOf (request : Request) (bytes : List ℕ) (r : Report) : Type 0 where
   pub contents : BundleContents
-  pub spelled : Spells bytes contents
+  pub spelled : SpellsAs (reading_for request) bytes contents
   pub told : IsTold request contents r
 
 -- What holds of an input that isn't read. That a read failed is no fact about its bytes:
@@ -299,8 +314,10 @@ pub record SpellsReach (asked : Option Request) (bytes : List ℕ) (answer : Boo
   pub request : Request
   pub is_asked : asked ≡ Some request
   pub contents : BundleContents
-  pub spelled : Spells bytes contents
+  pub spelled : SpellsAs (reading_for request) bytes contents
   pub answered : ReachIs request contents.profiles answer
+  pub in_unison : reading_for request ≡ read.Unison → answer ≡ false
+      → SpellsUnreachedInUnison bytes answered.profile answered.p
 
 -- A text was written to an output, whole unless a call of the output failed: then a prefix of it,
 -- and the status is 2.
@@ -346,8 +363,9 @@ pub record Serves (asked : Option Request) (remaining old new : Option (List ℕ
   pub answer : (request : Request) → asked ≡ Some request
       → Answers request remaining old new reads write_failed status
   -- `safe` is written only if the words ask for a check, for what clashes or for a run, and the
-  -- input spells a safe set. What follows it is what its jobs did and left of the input's state, or
-  -- why they weren't run,
+  -- input spells a safe set, as the words want its profiles to be read. If that is for Unison, no
+  -- two of its own profiles clash in Unison, and Unison breaks none of its rules. What follows it is
+  -- what its jobs did and left of the input's state, or why they weren't run,
   pub safe : (bytes before text : List ℕ) → remaining ≡ Some bytes → old ≡ Some before
       → new ≡ Some (before ++ (codes "safe\n" ++ text))
       → SpellsSafe asked bytes text write_failed status
@@ -357,9 +375,9 @@ pub record Serves (asked : Option Request) (remaining old new : Option (List ℕ
       → new ≡ Some (before ++ (codes "verified\n" ++ text)) → SpellsVerified asked bytes
   -- `overlap:` and `breach:` only if the input spells a set that isn't safe,
   pub overlap : (bytes before text : List ℕ) → remaining ≡ Some bytes → old ≡ Some before
-      → new ≡ Some (before ++ (codes "overlap: " ++ text)) → SpellsUnsafe bytes
+      → new ≡ Some (before ++ (codes "overlap: " ++ text)) → SpellsUnsafe asked bytes
   pub breach : (bytes before text : List ℕ) → remaining ≡ Some bytes → old ≡ Some before
-      → new ≡ Some (before ++ (codes "breach: " ++ text)) → SpellsUnsafe bytes
+      → new ≡ Some (before ++ (codes "breach: " ++ text)) → SpellsUnsafe asked bytes
   -- `rounds` only if the words ask for rounds, and the input spells a set that is cut so; or if
   -- they ask for a run by rounds, and the rounds of the set that it spells were run on its state,
   -- one after another. `graph clashes {` only if they ask for the graph of what clashes in that
@@ -372,9 +390,10 @@ pub record Serves (asked : Option Request) (remaining old new : Option (List ℕ
   pub graph : (bytes before text : List ℕ) → remaining ≡ Some bytes → old ≡ Some before
       → new ≡ Some (before ++ (codes "graph clashes {" ++ text))
       → SpellsGraph asked bytes (codes "graph clashes {" ++ text) write_failed status
-  pub clashes : (bytes before text : List ℕ) → asked ≡ Some (question.about ask.Clashes)
+  pub clashes : (reading : Reading) (bytes before text : List ℕ)
+      → asked ≡ Some (question.about (ask.Clashes reading))
       → remaining ≡ Some bytes → old ≡ Some before → new ≡ Some (before ++ text)
-      → BeginsAsClash text → SpellsClashes bytes text write_failed status
+      → BeginsAsClash text → SpellsClashes reading bytes text write_failed status
   -- and `reached` and `not reached` only if the words ask for `reach` and that is the answer.
   pub reached : (bytes before text : List ℕ) → remaining ≡ Some bytes → old ≡ Some before
       → new ≡ Some (before ++ (codes "reached\n" ++ text)) → SpellsReach asked bytes true

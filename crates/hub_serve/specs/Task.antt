@@ -18,12 +18,12 @@ task_of (Run n) None = None
 task_of (Run n) (Some S) = Some (task.RunJobs n S)
 task_of (RunByRounds n) None = None
 task_of (RunByRounds n) (Some S) = Some (task.RunByRounds n S)
-task_of Check state = Some task.Check
+task_of (Check reading) state = Some task.Check
 task_of Certify state = Some task.Certify
 task_of Verify state = Some task.Verify
-task_of Clashes state = Some task.Clashes
-task_of Graph state = Some task.Graph
-task_of Rounds state = Some task.Rounds
+task_of (Clashes reading) state = Some task.Clashes
+task_of (Graph reading) state = Some task.Graph
+task_of (Rounds reading) state = Some task.Rounds
 
 -- It was asked to do this of a bundle that has this state, or none.
 pub record AsksTask (request : Request) (state : Option State) (t : Task) : Type 0 where

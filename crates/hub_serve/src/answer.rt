@@ -9,6 +9,7 @@ ghost use Rattle.hub_serve.specs.Report as report;
 
 use crate::progress::Progress;
 use crate::reach::report_on_reach;
+use crate::reading::read_as;
 use crate::verdict::report_on_set;
 use hub_bundle::{
     BundleContents, BundleFault, BundleLineFault, InputFault, ReadError, read_bundle, read_input,
@@ -17,7 +18,7 @@ use hub_bundle::{
 use hub_cli::Query;
 use hub_report::{FaultyInput, Report};
 use hub_text::Watched;
-use std::alloc::Global;
+use std::alloc::{AllocError, Global};
 use std::io::Read;
 use std::sync::Wait;
 use std::thread::Threads;
@@ -59,9 +60,13 @@ fn report_on_bytes<'a, T: Threads + Wait + Sync, P: Progress + Sync>(
     ensures holds { report.Holds (request_of asked.entry) bytes.items result }
     ensures read { unread_by result ≡ None }
 {
-    match contents_in(alloc, bytes) {
+    let contents = match contents_in(alloc, bytes) {
+        Ok(contents) => contents,
+        Err(report) => return report,
+    };
+    match read_as(alloc, asked.reading(), contents) {
         Ok(contents) => report_on_contents(rt, alloc, asked, contents, progress),
-        Err(report) => report,
+        Err(AllocError) => Report::OutOfMemory,
     }
 }
 
@@ -82,7 +87,7 @@ fn contents_in<'a>(alloc: Global, bytes: Vec<u8>) -> Result<BundleContents, Repo
     }
 }
 
-/// The answer to what was asked of what a bundle says.
+/// The answer to what was asked of what a bundle says, with its profiles read as it was asked for.
 fn report_on_contents<'a, T: Threads + Wait + Sync, P: Progress + Sync>(
     rt: &T,
     alloc: Global,
@@ -95,7 +100,11 @@ fn report_on_contents<'a, T: Threads + Wait + Sync, P: Progress + Sync>(
 {
     match asked {
         Query::About(question) => report_on_set(rt, alloc, question, contents, progress),
-        Query::Reach { profile, path } => report_on_reach(alloc, &contents, profile, path),
+        Query::Reach {
+            reading,
+            profile,
+            path,
+        } => report_on_reach(alloc, &contents, reading, profile, path),
     }
 }
 

@@ -11,7 +11,8 @@
 //!
 //! From `test_serve/src/shown.rt`.
 //!
-//! - The words are read by `hub_cli`. The input is read by `hub_bundle`, with all of its sections (`answer`).
+//! - The words are read by `hub_cli`. The input is read by `hub_bundle`, with all of its sections (`answer`). By `--unison` the
+//!   readings of `hub_unison` stand in the place of its profiles (`reading`).
 //! - The set of the profiles and rules is made, and is checked or its certificates are verified (`task`, `verdict`); or one
 //!   profile is asked whether it reaches a path (`reach`).
 //! - Or all that clashes in the set is listed or drawn, or it is cut into rounds (`rounds`).
@@ -20,7 +21,7 @@
 //!   what the jobs did and the state that they left (`program`).
 //!
 //! The contracts use the words of `specs/Report` (which answer is right, and what the program does as a whole), `specs/Reads`
-//! (the reads of the input), `specs/Task` (what is to be done), `specs/Runs` (what is written of a run), `specs/ByRounds` (what a run by
+//! (the reads of the input), `specs/Unison` (what is spelled if the profiles are read for Unison), `specs/Task` (what is to be done), `specs/Runs` (what is written of a run), `specs/ByRounds` (what a run by
 //! rounds does and leaves) and `specs/Rounds` (what is written of clashes and rounds).
 //!
 //! Only functions that return a `Result` or a `Report`, or write an answer, allocate.
@@ -32,6 +33,7 @@ pub mod laws;
 mod program;
 mod progress;
 mod reach;
+mod reading;
 mod rounds;
 mod run;
 mod task;

@@ -6,6 +6,7 @@ ghost use Rattle.hub_serve.specs.Report as report;
 ghost use Rattle.hub_serve.specs.Reached.{first_named};
 
 use hub_bundle::BundleContents;
+use hub_cli::Reading;
 use hub_path::{PathFault, RelPath};
 use hub_profile::Profile;
 use hub_reach::reaches;
@@ -19,12 +20,15 @@ use std::alloc::Global;
 pub fn report_on_reach<'a>(
     alloc: Global,
     contents: &BundleContents,
+    reading: Reading,
     profile: &'a str,
     path: &str,
 ) -> Report<'a>
-    ensures told { report.IsTold (words.reach profile.now path.now) contents.now result }
+    ensures told { report.IsTold (words.reach reading profile.now path.now) contents.now result }
     ensures read { unread_by result ≡ None }
 {
+    // the contents were read so already: it is here for the contract
+    let _ = reading;
     let Some(found) = profile_named(contents.profiles.as_slice(), profile) else {
         return Report::Reach(ReachAnswer::NoProfile(profile));
     };

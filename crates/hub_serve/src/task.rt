@@ -46,7 +46,7 @@ impl Task {
                 workers: DEFAULT_WORKERS,
                 state,
             }),
-            (Question::CheckWithState, None) | (Question::Check, _) => Some(Task::Check),
+            (Question::CheckWithState, None) | (Question::Check(_), _) => Some(Task::Check),
             (Question::Run(workers), Some(state)) => Some(Task::RunJobs { workers, state }),
             (Question::RunByRounds(workers), Some(state)) => Some(Task::RunByRounds {
                 workers,
@@ -55,9 +55,9 @@ impl Task {
             (Question::Run(_) | Question::RunByRounds(_), None) => None,
             (Question::Certify, _) => Some(Task::Certify),
             (Question::Verify, _) => Some(Task::Verify),
-            (Question::Clashes, _) => Some(Task::Clashes),
-            (Question::Graph, _) => Some(Task::Graph),
-            (Question::Rounds, _) => Some(Task::Rounds),
+            (Question::Clashes(_), _) => Some(Task::Clashes),
+            (Question::Graph(_), _) => Some(Task::Graph),
+            (Question::Rounds(_), _) => Some(Task::Rounds),
         }
     }
 }

@@ -7,7 +7,7 @@ pub returns-in-Ok-clause-told : goal.returns-in-Ok-clause-told
 returns-in-Ok-clause-told g c = λ all f cs.
     c.report_on_run.ensures.told c.args.set c.args.workers c.args.state
     (IfOk-weaker c.run_rounds.result _ _
-    (λ r h. set-run c.args.set c.args.clashes.now c.in-Ok.rounds c.args.workers c.args.state r all c.in-Ok.ensures f h)
+    (λ r h. set-run c.args.set c.args.clashes.now c.in-Ok.rounds c.args.workers c.args.state r all c.in-Ok.ensures.rounds f h)
     c.run_rounds.ensures)
     cs
 

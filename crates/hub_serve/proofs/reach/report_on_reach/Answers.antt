@@ -11,12 +11,13 @@ pub returns : goal.returns
 returns c =
     let profile = c.args.profile.now in
     let found = ap (λ (Ps : List Parts). first_named profile Ps) (sym c.as_slice.ensures) ∙ c.in-Some.ensures in
-    let faulty : (c.in-Err.fault ≡ path.OutOfMemory) ⊎ HasBadPath (reach profile c.args.path.now) c.args.contents.now.profiles c.in-Err.fault =
+    let reading = c.args.reading in
+    let faulty : (c.in-Err.fault ≡ path.OutOfMemory) ⊎ HasBadPath (reach reading profile c.args.path.now) c.args.contents.now.profiles c.in-Err.fault =
     elim c.in-Err.ensures.err [
       | inl e ↦ inl e
-      | inr e ↦ inr (record { profile = profile; path = c.args.path.now; asked = refl; P = c.in-Some.found.now; profile_is = found; fault = e })
+      | inr e ↦ inr (record { reading = reading; profile = profile; path = c.args.path.now; asked = refl; P = c.in-Some.found.now; profile_is = found; fault = e })
     ] in
     record {
-      told = path-told (reach profile c.args.path.now) c.args.contents.now c.in-Err.fault c.bad_path.result c.bad_path.ensures.memory c.bad_path.ensures.fault faulty;
+      told = path-told (reach reading profile c.args.path.now) c.args.contents.now c.in-Err.fault c.bad_path.result c.bad_path.ensures.memory c.bad_path.ensures.fault faulty;
       read = c.bad_path.ensures.read;
     }

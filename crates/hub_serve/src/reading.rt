@@ -1,0 +1,41 @@
+//! What a bundle says, as the words want its profiles to be read.
+ghost use Rattle.std.specs.Prelude.{IfOk};
+ghost use Rattle.hub_serve.specs.Unison.{IsReadAs, IsReadForUnison};
+
+use hub_bundle::BundleContents;
+use hub_cli::Reading;
+use hub_unison::read_set;
+use std::alloc::{AllocError, Global};
+
+/// What a bundle says, if its profiles are read so.
+pub fn read_as(
+    alloc: Global,
+    reading: Reading,
+    contents: BundleContents,
+) -> Result<BundleContents, AllocError>
+    ensures { IfOk result (IsReadAs reading contents) }
+{
+    match reading {
+        Reading::Plain => Ok(contents),
+        Reading::Unison => read_for_unison(alloc, contents),
+    }
+}
+
+/// What a bundle says, if its profiles are read for Unison.
+fn read_for_unison(alloc: Global, contents: BundleContents) -> Result<BundleContents, AllocError>
+    ensures { IfOk result (IsReadForUnison contents) }
+{
+    let BundleContents {
+        profiles,
+        rules,
+        state,
+        certificates,
+    } = contents;
+    let profiles = read_set(alloc, profiles, &rules)?;
+    Ok(BundleContents {
+        profiles,
+        rules,
+        state,
+        certificates,
+    })
+}

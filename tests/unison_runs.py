@@ -1,0 +1,172 @@
+"""Random profiles and trees of files, and runs of real Unison on them: what tests/unison-reading and tests/unison-orders share."""
+import os
+import random
+import re
+import shutil
+import subprocess
+import sys
+
+TOP = os.path.dirname(os.path.dirname(os.path.realpath(__file__)))
+NAMES = ['a', 'b', 'c', '.a', '.b', '.tmp', 'x.tmp', 'a.b', '.x.tmp', 'é', 'éa', 'ab', 'a b', '[a]']
+
+
+def words(name, doc, count):
+    """The program, the number and the first seed that the words of the command line name."""
+    if any(word.startswith('-') for word in sys.argv[1:]) or len(sys.argv) > 4:
+        sys.exit(print(doc) if sys.argv[1:] == ['--help'] else doc)
+    program = os.path.realpath(sys.argv[1] if len(sys.argv) > 1 else os.path.join(TOP, 'dist/hubsync'))
+    if not os.access(program, os.X_OK):
+        sys.exit(name + ': there is no program at ' + program)
+    version = subprocess.run(['unison', '-version'], stdout=subprocess.PIPE).stdout.decode()
+    if not version.startswith('unison version 2.52'):
+        print(name + ': was not tried: ' + version.strip() + ' is not 2.52')
+        sys.exit(0)
+    return program, int((sys.argv[2:3] or [count])[0]), int((sys.argv[3:4] or [1])[0])
+
+
+def pattern(rng):
+    """A pattern for names or paths, as people and fuzzers write them."""
+    piece = lambda: rng.choice(['a', 'b', '*', '?', '*.tmp', '.*', '*.b', '??', '[ab]', '[.a]b', '[a-c]', '{a,b}', '{*.tmp,*.b}', '.a', 'a*',
+                                '*a', '?*', '{.,}a', '*.{tmp,b}', 'é', 'x.tmp', '.tmp', '*.*', 'a.b', '[!a]', '{a,{b,c}}', '[é]', '*b*'])
+    kind = rng.choice(['Name', 'Name', 'Path', 'BelowPath', 'Regex'] if rng.random() < 0.3 else ['Name', 'Path', 'BelowPath'])
+    if kind == 'Regex':
+        return 'Regex ' + rng.choice(['a.*', '.*b', '[ab]/.*', '.*tmp'])
+    count = 1 if kind == 'Name' else rng.choice([1, 1, 2, 2, 3])
+    return kind + ' ' + '/'.join(piece() for _ in range(count))
+
+
+def profile(rng, roots):
+    """The lines of a profile but for its roots."""
+    lines = []
+    some = lambda most: range(rng.choice([0] * 2 + list(range(most + 1))))
+    path = lambda: '/'.join(rng.choice(NAMES[:9]) for _ in range(rng.choice([1, 1, 2])))
+    for _ in some(3):
+        lines.append('path = ' + rng.choice([path(), path(), path() + '/*', '*', './' + path()] if rng.random() < 0.3 else [path()]))
+    for _ in some(4):
+        lines.append('ignore = ' + pattern(rng))
+    for _ in some(2):
+        lines.append('ignorenot = ' + pattern(rng))
+    for _ in some(2):
+        lines.append(rng.choice(['nocreation', 'noupdate', 'nodeletion']) + ' = ' + rng.choice(roots))
+    for _ in some(3):
+        arrow = rng.choice([' -> ', ' -> ', ' -> ', '->', ' ->', '-> '])
+        lines.append(rng.choice(['nocreation', 'noupdate', 'nodeletion']) + 'partial = ' + pattern(rng) + arrow + rng.choice(roots))
+    if rng.random() < 0.3:
+        lines.append('force = ' + rng.choice(roots + ['newer', 'older']))
+    if rng.random() < 0.1:
+        lines.append('force = ' + rng.choice(roots))
+    if rng.random() < 0.4:
+        lines.append('prefer = ' + rng.choice(roots + ['newer', 'older']))
+    if rng.random() < 0.1:
+        lines.append(rng.choice(['forcepartial', 'preferpartial']) + ' = ' + pattern(rng) + ' -> ' + rng.choice(roots))
+    if rng.random() < 0.15:
+        lines.append(rng.choice(['maxsizethreshold = 1', 'maxerrors = 1', 'mountpoint = a', 'immutable = Path a', 'ignorearchives = true',
+                                 'links = false', 'fastercheckUNSAFE = true', 'times = true', 'perms = 0', 'rsrc = false',
+                                 'backup = Name *', 'height = 20', 'sortbysize = true', 'dontchmod = true']))
+    rng.shuffle(lines)
+    return lines
+
+
+def tree(rng, depth=3):
+    """A random tree: a dict of names to bytes or trees."""
+    made = {}
+    for name in rng.sample(NAMES, rng.randrange(1, 6 if depth == 3 else 5)):
+        made[name] = tree(rng, depth - 1) if depth > 1 and rng.random() < 0.55 else content(rng)
+    return made
+
+
+def content(rng):
+    return bytes(rng.choice(b'xyz') for _ in range(rng.randrange(1, 30)))
+
+
+def copy(made):
+    return {name: copy(it) if isinstance(it, dict) else it for name, it in made.items()}
+
+
+def edit(rng, made, times):
+    """Changes, removes or adds something, at random places."""
+    for _ in range(times):
+        at = made
+        while True:
+            below = [it for it in at.values() if isinstance(it, dict)]
+            if not below or rng.random() < 0.35:
+                break
+            at = rng.choice(below)
+        name = rng.choice(list(at) if at and rng.random() < 0.6 else NAMES)
+        what = rng.random()
+        if what < 0.3:
+            at.pop(name, None)
+        elif what < 0.75:
+            at[name] = content(rng)
+        else:
+            at[name] = tree(rng, 2)
+
+
+def write(made, folder):
+    os.mkdir(folder)
+    for name, it in made.items():
+        path = os.path.join(folder, name)
+        if isinstance(it, dict):
+            write(it, path)
+        else:
+            with open(path, 'wb') as file:
+                file.write(it)
+
+
+def read(folder):
+    """What is in a folder, by path: bytes, or None for a folder."""
+    found = {}
+    for at, folders, files in os.walk(folder):
+        here = os.path.relpath(at, folder)
+        place = lambda name: name if here == '.' else here + '/' + name
+        for name in folders:
+            found[place(name)] = None
+        for name in files:
+            with open(os.path.join(at, name), 'rb') as file:
+                found[place(name)] = file.read()
+    return found
+
+
+def changes(before, after):
+    """The paths that were changed: each with the rule that forbids such a change."""
+    for path in sorted(set(before) | set(after)):
+        if path not in after:
+            yield path, 'nolose'
+        elif path not in before:
+            yield path, 'nonew'
+        elif before[path] != after[path]:
+            yield path, 'nochange'
+
+
+def start(room, name, lines):
+    """Starts Unison for a profile, with archives of its own."""
+    unison = os.path.join(room, 'unison.' + name)
+    os.makedirs(unison, exist_ok=True)
+    with open(os.path.join(unison, name + '.prf'), 'w') as file:
+        file.write('\n'.join(lines) + '\n')
+    words = ['unison', name, '-batch', '-ui', 'text', '-silent', '-confirmbigdel=false', '-log=false', '-backupdir', os.path.join(room, 'kept')]
+    return subprocess.Popen(words, env={**os.environ, 'UNISON': unison, 'HOME': room}, stdin=subprocess.DEVNULL, stdout=subprocess.DEVNULL,
+                            stderr=subprocess.DEVNULL)
+
+
+def synchronize(room, name, lines):
+    """Has Unison synchronize the two roots of a profile, and returns its status."""
+    return start(room, name, lines).wait(timeout=60)
+
+
+def ask(program, bundle, *words):
+    """What hubsync answers to a bundle with `--unison`, and its status."""
+    done = subprocess.run([program, *words, '--unison'], input=bundle.encode(), stdout=subprocess.PIPE, stderr=subprocess.DEVNULL)
+    return done.stdout.decode(), done.returncode
+
+
+def nested(found):
+    """The tree that has these paths."""
+    made = {}
+    for path in sorted(found, key=lambda it: it.count('/')):
+        at = made
+        *above, name = path.split('/')
+        for it in above:
+            at = at[it]
+        at[name] = {} if found[path] is None else found[path]
+    return made

@@ -3,7 +3,7 @@
 //! [`notes`] gives the lines for the first lines of an input.
 //!
 //! ```rust
-//! let text = notes(source, is_for_unison)?;
+//! let mut text = notes(source, is_for_unison)?;
 //! ```
 //!
 //! From `hub_remarks/src/answer.rt`.

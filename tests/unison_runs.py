@@ -49,8 +49,10 @@ def profile(rng, roots):
     for _ in some(2):
         lines.append(rng.choice(['nocreation', 'noupdate', 'nodeletion']) + ' = ' + rng.choice(roots))
     for _ in some(3):
-        arrow = rng.choice([' -> ', ' -> ', ' -> ', '->', ' ->', '-> '])
-        lines.append(rng.choice(['nocreation', 'noupdate', 'nodeletion']) + 'partial = ' + pattern(rng) + arrow + rng.choice(roots))
+        lines.append(rng.choice(['nocreation', 'noupdate', 'nodeletion']) + 'partial = ' + pattern(rng) + ' -> ' + rng.choice(roots))
+    if rng.random() < 0.4:    # all changes are barred, so a bar that holds in hubsync alone shows
+        value = pattern(rng) + ' -> ' + rng.choice(roots)
+        lines += ['noupdatepartial = ' + value, 'nocreationpartial = ' + value]
     if rng.random() < 0.3:
         lines.append('force = ' + rng.choice(roots + ['newer', 'older']))
     if rng.random() < 0.1:
@@ -156,7 +158,8 @@ def synchronize(room, name, lines):
 
 def ask(program, bundle, *words):
     """What hubsync answers to a bundle with `--unison`, and its status."""
-    done = subprocess.run([program, *words, '--unison'], input=bundle.encode(), stdout=subprocess.PIPE, stderr=subprocess.DEVNULL)
+    flag = () if '--unison' in words else ('--unison',)
+    done = subprocess.run([program, *words, *flag], input=bundle.encode(), stdout=subprocess.PIPE, stderr=subprocess.DEVNULL)
     return done.stdout.decode(), done.returncode
 
 

@@ -1,4 +1,6 @@
--- Worked values of lines that include files. Each was observed with Unison 2.52.1.
+-- Worked values of lines that include files. The rules were observed with Unison 2.52.1, mostly with
+-- other contents. The fault of a cycle, the names of faults, and that a line which includes a file
+-- stays are this project's choices.
 use Rattle.std.specs.Prelude.{⊤, ◌≡◌, ℕ, true, false, List, [], ◌∷◌, ◌++◌, Some, None, Ok, Err, bytes_eq, codes, if◌then◌else◌, refl}
 use Rattle.std.specs.Str.{is_utf8, chars}
 use Rattle.hub_include.specs.declared.fault.Why.TheVariants.{BadLine, NoFile, Cycle}

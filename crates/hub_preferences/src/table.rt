@@ -31,7 +31,7 @@ pub enum Rule {
 pub enum Source {
     /// The manual of Unison 2.52.1, "Preferences".
     Manual,
-    /// It was tried with Unison 2.52.1.
+    /// Unison 2.52.1 was given such a line. For many it was only seen to take it: what it changes is then from the manual.
     Trial,
 }
 
@@ -273,7 +273,7 @@ pub const TRANSFERS: [(&str, Preference); 27] = [
         Preference {
             rule: Rule::LeftOut,
             reason: "the copies are in one folder, whose place the lines backupdir and backuploc name",
-            source: Source::Trial,
+            source: Source::Manual,
         },
     ),
     (
@@ -297,7 +297,7 @@ pub const TRANSFERS: [(&str, Preference); 27] = [
         Preference {
             rule: Rule::LeftOut,
             reason: "the copies are in one folder, whose place the lines backupdir and backuploc name",
-            source: Source::Trial,
+            source: Source::Manual,
         },
     ),
     (
@@ -401,7 +401,7 @@ pub const TRANSFERS: [(&str, Preference); 27] = [
         Preference {
             rule: Rule::LeftOut,
             reason: "it says how many copies are kept",
-            source: Source::Trial,
+            source: Source::Manual,
         },
     ),
     (

@@ -1,12 +1,12 @@
 package HubsyncAnswers;
 
-# Asks hubsync about profiles, for from-prf.sh and unison-by-rounds.sh. The profiles are those of UnisonProfiles.pm.
+# Asks hubsync about profiles, for from-prf.sh and unison-rounds. The profiles are those of UnisonProfiles.pm.
 use strict;
 use warnings;
 use Exporter 'import';
 use IO::Handle;
 use UnisonProfiles qw(give_up say_once say_so section);
-our @EXPORT_OK = qw(answer_to name_refused);
+our @EXPORT_OK = qw(answer_to name_refused said_of);
 
 my $most_refused = 100;    # lines of a profile that are named
 
@@ -36,16 +36,16 @@ sub file_of {
     return $in;
 }
 
-# What the program answers to a bundle: its status, the lines of its standard output, and those of standard error.
+# What the program answers to these words, a text or a list, and a bundle: its status, the lines of its standard output, and those of standard error.
 sub answer_to {
-    my ($program, $command, @bundle) = @_;
+    my ($program, $words, @bundle) = @_;
     my $in = file_of(@bundle);
     my $errors = file_of();
     my $process = open(my $out, '-|') // give_up($UnisonProfiles::status_of_faults, "a process: $!");
     if (!$process) {
         open STDIN, '<&', $in;
         open STDERR, '>&', $errors;
-        exec { $program } $program, $command or exit 125;
+        exec { $program } $program, ref $words ? @$words : split(/ /, $words) or exit 125;
     }
     chomp(my @lines = <$out>);
     close $out;
@@ -78,13 +78,13 @@ sub name_line {
     return $is_new;
 }
 
-# Names each line of a profile that the program refuses, and takes it away. Returns how many were not named before, and whether the lines
-# that are left are a profile.
+# Names each line of a profile that the program refuses if it is asked with these words, and takes it away. Returns how many were not
+# named before, and whether the lines that are left are a profile.
 sub name_refused {
-    my ($program, $profile) = @_;
+    my ($program, $words, $profile) = @_;
     my $count = 0;
     for (1 .. $most_refused) {
-        my (undef, $lines, $remarks) = answer_to($program, 'check', section({ %$profile, name => 'p' }));
+        my (undef, $lines, $remarks) = answer_to($program, $words, section({ %$profile, name => 'p' }));
         return ($count, 1) if $lines->[0] !~ /\Afault: /;
         my ($number, $fault) = $lines->[0] =~ /\Afault: profile p line ([0-9]+): (.*)\z/
             or give_up($UnisonProfiles::status_of_faults, "$program answers: $lines->[0]");
@@ -97,6 +97,29 @@ sub name_refused {
     }
     say_so("$profile->{file}: more than $most_refused lines are refused");
     return ($count, 0);
+}
+
+# What the program says on standard error of these profiles, with the files' lines in place of those of the bundle. The lines of the
+# rules are those of a file. Notes are left out, or else they alone are returned, each after the line that it is about.
+sub said_of {
+    my ($remarks, $wants_notes, $rules, @profiles) = @_;
+    my %lines_of = map { $_->{name} => $_->{lines} } @profiles;
+    my ($note, @said, @notes);
+    for my $remark (map { s/\Ahubsync: //r } @$remarks) {
+        my ($name, $number, $text) = $remark =~ /\A(.*), line ([1-9][0-9]*) \(bundle line [0-9]+\): (.*)\z/;
+        my $at = !defined $name ? undef : $name eq '%rules' ? "$rules:$number" : $lines_of{$name}[ $number - 1 ]{at};
+        my $placed = defined $at ? "$at: $text" : $remark;
+        if (defined $note && defined $at) {
+            $notes[-1] = "$placed: $note";
+        } elsif ($remark !~ /\Anote: /) {
+            push @said, $placed;
+        }
+        undef $note;
+        next if $remark !~ /\Anote: (.*?):?\z/;
+        $note = $1;
+        push @notes, $note;
+    }
+    return $wants_notes ? @notes : @said;
 }
 
 1;

@@ -1,12 +1,12 @@
 package UnisonLines;
 
-# Finds the lines of a profile that Unison reads differently than hubsync, for from-prf.sh and unison-by-rounds.sh. The profile is
-# one of UnisonProfiles.pm. docs/UNISON.md and docs/DIFFERENCES.md say what was seen of Unison.
+# Finds the lines of a profile that Unison reads differently than hubsync, for from-prf.sh, and those on which it stops, for
+# unison-rounds too. The profile is one of UnisonProfiles.pm. docs/UNISON.md and docs/DIFFERENCES.md say what was seen of Unison.
 use strict;
 use warnings;
 use Exporter 'import';
 use UnisonProfiles qw(is_below say_once);
-our @EXPORT_OK = qw(name_differences);
+our @EXPORT_OK = qw(name_differences name_stops);
 
 my $most_characters = 180;    # of a pattern that is proposed; hubsync takes 200
 my $most_dotted = 64;         # patterns with dots that are proposed for a line
@@ -139,8 +139,7 @@ sub parts_of {
 # Why Unison takes the text of a pattern for something else, whatever stands beside it.
 sub difference_of_text {
     my ($value) = @_;
-    my ($kind, $pattern, $blank) = parts_of($value) or return;
-    return "it refuses a tab after $kind: write a space" if $blank =~ /\t/;
+    my ($kind, $pattern) = parts_of($value) or return;
     my @tokens = tokens_of($pattern);
     return 'it reads braces before brackets: write the set without { } and ,' if grep { /\A\[.*[{},]/s } @tokens;
     return '? matches one byte, not one character: write a set of ASCII characters in its place, as [0-9] or [a-z]'
@@ -232,7 +231,7 @@ sub difference_of_bar {
     my ($name, $value) = @$line{qw(name value)};
     my ($pattern, $gap, $root) = $value =~ /\A(.*?)([ \t]*->[ \t]*)((?:(?!->).)*)\z/s or return;
     return "it bars nothing without a space on each side of ->: write $name = $pattern -> $root" if $gap !~ /\A +-> +\z/;
-    my $why = difference_of_text($pattern) // difference_of_root($profile, $line, "$pattern -> ", $root);
+    my $why = difference_of_text($pattern);
     return $why if defined $why || grep { $_->{value} eq $root } settings_of($profile, $name =~ s/partial\z//r);
     my ($kind, $glob) = parts_of($pattern) or return;
     return "it tests a bar only at the path of an item: write Path or BelowPath with the path" if $kind eq 'Name';
@@ -245,12 +244,28 @@ sub difference_of_bar {
 }
 
 # Why Unison doesn't take the text of a root in a line.
-sub difference_of_root {
+sub stop_of_root {
     my ($profile, $line, $before, $root) = @_;
     my @roots = map { $_->{value} } settings_of($profile, 'root');
     return if grep { $_ eq $root } @roots;
     my ($meant) = grep { s{/*\z}{}r eq $root =~ s{/*\z}{}r } @roots;
     return 'it wants the text of the root line' . (defined $meant ? ": write $line->{name} = $before$meant" : '');
+}
+
+# Why Unison stops at a line that hubsync takes, if so.
+sub stop_of {
+    my ($profile, $line) = @_;
+    my ($name, $value) = @$line{qw(name value)};
+    if ($name =~ /\A(?:ignore(?:not)?|no(?:deletion|update|creation)partial)\z/) {
+        my ($kind, undef, $blank) = parts_of($value);
+        return "it refuses a tab after $kind: write a space" if defined $blank && $blank =~ /\t/;
+        return stop_of_root($profile, $line, $1, $2) if $name =~ /partial\z/ && $value =~ /\A(.* -> +)((?:(?!->).)*)\z/s;
+    }
+    return stop_of_root($profile, $line, '', $value)
+        if $name =~ /\A(?:nodeletion|noupdate|nocreation)\z/ || $name =~ /\A(?:force|prefer)\z/ && $value !~ /\A(?:newer|older)\z/;
+    return 'it refuses this: write true or false' if $is_boolean{$name} && $value !~ /\A(?:true|false)\z/;
+    return 'it refuses this: write a number' if $name eq 'perms' && $value !~ /\A-?[0-9]\w*\z/;
+    return;
 }
 
 # Why Unison does something else because of a line than hubsync expects, if so.
@@ -259,11 +274,8 @@ sub difference_of {
     my ($name, $value) = @$line{qw(name value)};
     return difference_of_ignore($profile, $line) if $name =~ /\Aignore(?:not)?\z/;
     return difference_of_bar($profile, $line) if $name =~ /\Ano(?:deletion|update|creation)partial\z/;
-    return difference_of_root($profile, $line, '', $value) if $name =~ /\A(?:force|prefer|nodeletion|noupdate|nocreation)\z/;
     return "a last name * stands for all children: write path = $1" if $name eq 'path' && $value =~ m{\A(?:(.*)/)?\*\z}s && defined $1;
     return 'a last name * stands for all children: leave the line out' if $name eq 'path' && $value eq '*';
-    return 'it refuses this: write true or false' if $is_boolean{$name} && $value !~ /\A(?:true|false)\z/;
-    return 'it refuses this: write a number' if $name eq 'perms' && $value !~ /\A-?[0-9]\w*\z/;
     return 'it writes this file while it runs: name one outside the roots'
         if $name eq 'logfile' && is_below($value, @{ $profile->{roots} });
     return;
@@ -283,10 +295,21 @@ sub name_differences {
     my ($profile) = @_;
     my $count = 0;
     for my $line (grep { defined $_->{name} } @{ $profile->{lines} }) {
-        my $why = difference_of($profile, $line);
+        my $why = stop_of($profile, $line) // difference_of($profile, $line);
         my $what = $why // difference_for_rules($profile, $line) // next;
         my $is_new = say_once($line, "Unison reads this differently: $line->{name} = $line->{value}: $what");
         $count++ if $is_new && defined $why;
+    }
+    return $count;
+}
+
+# Names each line on which Unison stops, though hubsync takes it. Returns how many were not named before.
+sub name_stops {
+    my ($profile) = @_;
+    my $count = 0;
+    for my $line (grep { defined $_->{name} } @{ $profile->{lines} }) {
+        my $why = stop_of($profile, $line) // next;
+        $count += say_once($line, "Unison stops at this: $line->{name} = $line->{value}: $why");
     }
     return $count;
 }

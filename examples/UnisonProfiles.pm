@@ -1,13 +1,13 @@
 package UnisonProfiles;
 
-# Reads the profiles in a folder of Unison's, for from-prf.sh and unison-by-rounds.sh. A profile has a `name`, a `file`, its `lines`, the
+# Reads the profiles in a folder of Unison's, for from-prf.sh and unison-rounds. A profile has a `name`, a `file`, its `lines`, the
 # texts of its `roots` as they stand there, in `parts` the files that it includes, as names below the folder, and in `absent` those that
 # its lines look for in vain. A line has a `text` as hubsync gets it, its place `at` (file and line), `remarks` on how it was changed, and
 # if it sets something a `name` and a `value`, as Unison gets them. `written` is the value for hubsync if that is another one.
 use strict;
 use warnings;
 use Exporter 'import';
-our @EXPORT_OK = qw(change_lines give_up is_below read_hosts read_profiles say_once say_so section trimmed);
+our @EXPORT_OK = qw(change_lines give_up is_below read_hosts read_profiles say_new say_once say_so section text_of trimmed);
 
 # The preferences of Unison 2.52 that hubsync refuses, and that change nothing that is synchronized: what is shown and asked, how
 # Unison connects and copies, how often it runs or tries again, backups in a folder of their own, owners and permissions.
@@ -36,6 +36,7 @@ my $most_lines = 100_000;    # of a profile with what it includes
 our $status_of_faults = 1;    # what give_up exits with after an error in a file
 my %path_of;                  # the path of a host, by the first word of its line
 my %lines_of;                 # the lines of each file that was read
+my %text_of;                  # and its text
 my %is_included;              # files that another one includes
 my %is_said;                  # what was said of lines
 my $has_faults = 0;
@@ -50,12 +51,18 @@ sub give_up {
     exit $status;
 }
 
+# Says something once. Returns whether it was new.
+sub say_new {
+    my ($message) = @_;
+    return 0 if $is_said{$message}++;
+    say_so($message);
+    return 1;
+}
+
 # Says something of a line, once also if several profiles include it. Returns whether it was new.
 sub say_once {
     my ($line, $remark) = @_;
-    return 0 if $is_said{"$line->{at}: $remark"}++;
-    say_so("$line->{at}: $remark");
-    return 1;
+    return say_new("$line->{at}: $remark");
 }
 
 # An error of a file: no profile will be returned.
@@ -84,8 +91,14 @@ sub read_lines {
     open my $in, '<:raw', $file or return (undef, "$!");
     my @lines = <$in>;
     close $in or return (undef, "$!");
+    $text_of{$file} = join '', @lines;
     s/\r?\n?\z// for @lines;
     return $lines_of{$file} = \@lines;
+}
+
+# The text of a file as it was when it was read for a profile.
+sub text_of {
+    return $text_of{ $_[0] };
 }
 
 # Reads the table of hosts.

@@ -104,7 +104,7 @@ sub name_lines {
     my @left;
     my ($refused, $different) = (0, 0);
     for my $profile (@_) {
-        my ($count, $is_left) = name_refused($program, $profile);
+        my ($count, $is_left) = name_refused($program, 'check', $profile);
         $refused += $count;
         $different += name_differences($profile);
         push @left, $profile if $is_left;

@@ -1,11 +1,11 @@
 #!/usr/bin/env bash
-# Tries unison-by-rounds.sh. ./test calls this script.
+# Tries tools/unison-rounds, and the examples of how to start it. ./test calls this script.
 #
 #     examples/rounds.sh [PROGRAM]
 #
 # PROGRAM is the built program (crates/hubsync/out/hubsync if left out). A line is printed for each thing that is wrong. The status is
-# 1 if there was one, else 0. A stand-in for Unison notes when it was started, and with what. Real Unison is asked as well if it is
-# in PATH; a line on standard error says so if it isn't.
+# 1 if there was one, else 0. A stand-in for Unison notes when it was started, and with what. Real Unison, git and systemd-analyze are
+# asked as well if they are in PATH; a line says so if one isn't.
 set -euo pipefail
 if [ "${1:-}" = --help ]; then
     sed -n '2,/^set /{ /^#/s/^# \{0,1\}//p }' "${BASH_SOURCE[0]}"
@@ -27,14 +27,14 @@ compare() {
     diff -a - "$2" >difference || complain "$1: $(sed -n 2p difference)"
 }
 
-# Runs the script into the files `written` and `said`.
+# Runs the tool into the files `written` and `said`.
 #
 #     ask WANTED-STATUS WORD..
 ask() {
     local wanted=$1 status=0
     shift
-    "$folder/unison-by-rounds.sh" "$@" >written 2>said || status=$?
-    [ "$status" = "$wanted" ] || complain "$*: wanted status $wanted, got $status"
+    "$folder/../tools/unison-rounds" --program "$program" "$@" >written 2>said || status=$?
+    [ "$status" = "$wanted" ] || complain "$*: wanted status $wanted, got $status: $(head -n 1 said)"
 }
 
 # Compares what is written with the lines of standard input, in which a file with what Unison said has no folder.
@@ -47,10 +47,11 @@ compare_runs() {
 
 # A hub and two spokes: desk has two profiles, and home has the whole hub, so it needs a round of its own.
 fill() {
+    rm -rf prf hub desk home
     mkdir prf hub desk home
     printf '%s\n' "root = $PWD/hub" "root = $PWD/desk" 'path = docs' >prf/docs.prf
     printf '%s\n' "root = $PWD/desk" "root = $PWD/hub" 'path = photos' >prf/photos.prf
-    printf '%s\n' "root = $PWD/hub" "root = $PWD/home" 'ignore = Name *.tmp' 'ignore = Name .tmp' >prf/home.prf
+    printf '%s\n' "root = $PWD/hub" "root = $PWD/home" 'ignore = Name *.tmp' >prf/home.prf
     for each in prf/*.prf; do
         printf '%s\n' 'confirmbigdel = false' 'retry = 1' >>"$each"
     done
@@ -63,6 +64,7 @@ make_stand_in() {
 #!/usr/bin/env bash
 [ "$*" != -version ] || { echo 'unison version 2.52.1 (ocaml 4.13.1)'; exit 0; }
 [ "$*" = "-ui text $3 -repeat  -batch -auto" ] || exit 2
+cmp -s "$UNISON/$3.prf" "prf/$3.prf" || exit 2
 echo "start $3 ${UNISON##*/}" >>"$NOTES"
 sleep 0.2
 echo "end $3" >>"$NOTES"
@@ -74,12 +76,17 @@ SCRIPT
 
 # All runs, with one that was stopped and is tried again. The two profiles of one pair have one folder, and run one after another.
 try_stand_in() {
-    ask 0 --unison ./unison "$program" prf
+    ask 0 --dry-run prf
+    compare 'a dry run' written <<<$'round 1 docs\nround 1 photos\nround 2 home'
+    ask 0 --only-check prf
+    [ ! -s written ] || complain '--only-check prints something'
+    [ ! -e prf/by-pair ] || complain 'a dry run makes a folder'
+    ask 0 --unison ./unison prf
     compare_runs 'a stopped run' <<'LINES'
-round 1 docs: done
+round 1 docs: done: docs.output
 round 1 photos: stopped: photos.output
-round 1 photos: done
-round 2 home: done
+round 1 photos: done: photos.output
+round 2 home: done: home.output
 LINES
     cut -d ' ' -f 1-2 notes >order
     compare 'the order of the runs' order <<'LINES'
@@ -94,6 +101,8 @@ end home
 LINES
     [ "$(awk '$1 == "start" { print $3 }' notes | sort -u | wc -l)" = 2 ] || complain 'there is not one folder for each pair'
     compgen -G 'prf/by-pair/*/photos.output' >/dev/null || complain 'what Unison said is not kept'
+    ask 0 -q --unison ./unison prf
+    [ ! -s written ] || complain 'something is printed with -q though all is done'
 }
 
 # Two pairs in one round run at the same time: each waits for the other's start.
@@ -112,9 +121,9 @@ for _ in $(seq 100); do
 done
 exit 2
 SCRIPT
-    ask 0 --unison ./unison --archives own "$program" prf
+    ask 0 --unison ./unison --archives own prf
+    sed -i "s|: $PWD/own/.*||" written
     compare 'two pairs at once' written <<<$'round 1 docs: done\nround 1 lists: done'
-    [ -d own ] || complain '--archives is not used'
 }
 
 # A stand-in that ends with a status, or waits until the file `go` is there.
@@ -134,21 +143,23 @@ try_statuses() {
     touch go
     for status in 0:0 1:1 2:2 3:2; do
         make_status "${status%:*}"
-        ask "${status#*:}" --unison ./unison "$program" prf lists
+        ask "${status#*:}" --unison ./unison prf lists
     done
     compare_runs 'a run that is stopped twice' <<<$'round 1 lists: stopped: lists.output\nround 1 lists: stopped: lists.output'
     make_status 1
     rm go started
-    "$folder/unison-by-rounds.sh" --unison ./unison "$program" prf lists >first 2>&1 &
+    "$folder/../tools/unison-rounds" --program "$program" --unison ./unison prf lists >first 2>&1 &
     running=$!
     until [ -e started ]; do sleep 0.05; done
-    ask 4 --unison ./unison "$program" prf docs
+    ask 3 --unison ./unison prf docs
     compare 'a second start' said <<<'another run with prf/by-pair goes on, so nothing is started'
+    ask 0 --dry-run prf docs
     touch go
     status=0
     wait "$running" || status=$?
     [ "$status" = 1 ] || complain "the first of two starts: wanted status 1, got $status"
-    ask 1 --unison ./unison "$program" prf docs
+    ask 1 -q --unison ./unison prf docs
+    compare_runs 'a run with skipped items' <<<'round 1 docs: some items were skipped: docs.output'
 }
 
 # A new folder gets the archives of its two roots alone, whichever root of another machine they name, and each time the files that
@@ -165,7 +176,7 @@ try_folders() {
     archive "${digits/0/b}" "//here/$PWD/hub, //there//somewhere"
     archive "${digits/0/c}" "//here/$PWD/other, //here/$PWD/desk"
     echo 'pc /pc' >hosts
-    ask 1 --hosts hosts --unison ./unison "$program" prf
+    ask 1 --hosts hosts --unison ./unison prf
     own=$(dirname prf/by-pair/*/sub/common)
     [ "$(cd "${own%/sub}" && echo ar* fp*)" = "ar${digits/0/a} fp${digits/0/a}" ] || complain 'a folder has other archives than those of its roots'
     [ -e "${own%/sub}/sub/more/common" ] || complain 'what an included file includes is not there'
@@ -174,9 +185,9 @@ try_folders() {
     rm prf/sub/common
     touch "${own%/sub}/none"
     printf '%s\n' "root = $PWD/hub" "root = $PWD/desk" 'include? sub/common' 'include? none' 'path = docs' >prf/docs.prf
-    ask 1 --unison ./unison "$program" prf docs
+    ask 1 --unison ./unison prf docs
     if [ -e "$own/common" ] || [ -e "${own%/sub}/none" ]; then
-        complain 'an included file is left that is missing in PROFILES'
+        complain 'an included file is left that is missing in FOLDER'
     fi
 }
 
@@ -188,84 +199,208 @@ archive() {
     touch "prf/fp$1"
 }
 
-# Rules: a profile that may break one isn't started.
+# Rules: if a profile may break one, nothing is started, and a line is named that would keep it.
 try_rules() {
-    printf '%s\n' "root = $PWD/hub" 'nochange = BelowPath lists' >rules
-    ask 3 --only-check --hosts hosts --rules rules "$program" prf
-    grep -v '^hubsync: ' said >refused
-    compare 'a broken rule' refused <<<"$program rounds: breach 0 lists"
-    printf '%s\n' "root = $PWD/hub" 'nochange = BelowPath photos' >rules
-    ask 0 --only-check --hosts hosts --rules rules "$program" prf lists
-    sed -i 's/hub$/hbu/' rules
-    ask 3 --only-check --hosts hosts --rules rules "$program" prf lists
-    compare 'a rule for no root' said <<<"rules: no profile has the root $PWD/hbu"
-    echo '%rules' >rules
-    ask 3 --only-check --hosts hosts --rules rules "$program" prf lists
-}
-
-# Lines that Unison reads differently, a line that hubsync refuses, and a program that isn't Unison: nothing is started. scripts.sh
-# has all kinds of such lines.
-try_refused() {
-    rm -R prf
-    mkdir prf
-    echo 'ignore = Name *.{tmp,bak}' >prf/common
-    printf '%s\n' "root = $PWD/hub" "root = $PWD/desk" 'path = docs' 'include common' >prf/docs.prf
-    sed 's/docs/lists/; s/desk/home/' prf/docs.prf >prf/lists.prf
-    ask 3 --unison ./unison "$program" prf
-    compare 'lines that Unison reads differently' said <<LINES
-prf/common:1: Unison reads this differently: ignore = Name *.{tmp,bak}: a dot at the start of a name isn't matched: add ignore = Name {.tmp,.bak}, or to keep these paths ignorenot = Name {.tmp,.bak}
+    printf '%s\n' '# hub' "root = $PWD/hub" '' 'nochange = BelowPath lists' >rules
+    ask 3 --unison ./unison --hosts hosts --rules rules prf
+    compare 'a broken rule' said <<LINES
+breach: lists may update lists at $PWD/hub, rule 0
+rules:4: nochange = BelowPath lists
+prf/lists.prf:3: path = lists
+a line noupdate = $PWD/hub in the profile would keep the rule
+more counts with --unison than may happen: compare the answer without it
 LINES
-    echo 'ignore = Name .{bak,tmp}' >>prf/common
-    ask 0 --only-check "$program" prf
-    [ ! -s said ] || complain "something is said of lines that are read alike: $(head -1 said)"
-    echo 'follow = Path a' >>prf/docs.prf
-    ask 3 --unison ./unison "$program" prf
-    compare 'a line that hubsync refuses' said <<<'prf/docs.prf:5: refused: UnknownPreference follow: follow = Path a: hubsync has no answer for a profile with this line'
-    ask 3 --unison ./none "$program" prf lists
-    ask 3 --unison "$(command -v true)" "$program" prf lists
-    ask 3
-    ask 3 --unison
-    ask 3 --all "$program" prf
-    [ ! -e prf/by-pair ] || complain 'a folder is made though nothing is started'
-    "$folder/unison-by-rounds.sh" --help | grep -q '^| 4 | ' || complain 'the help has no statuses'
+    echo "noupdate = $PWD/hub" >>prf/lists.prf
+    ask 0 --only-check --hosts hosts --rules rules prf
+    sed -i 's/hub$/hbu/' rules
+    ask 3 --only-check --hosts hosts --rules rules prf
+    compare 'a rule for no root' said <<<"rules:2: root = $PWD/hbu: no profile has this root, so no rule below it protects anything"
+    ask 0 --only-check --hosts hosts --rules rules prf lists
+    printf '%s\n' "root = $PWD/hub" 'nochanges = Path a' >rules
+    ask 3 --only-check --hosts hosts --rules rules prf
+    compare 'a wrong rule' said <<<'rules:2: refused: UnknownPreference nochanges: did you mean nochange?'
+    echo '%rules' >rules
+    ask 3 --only-check --hosts hosts --rules rules prf
 }
 
-# Real Unison: what is new at a spoke gets to the hub, and in the next round to the other spoke.
+# A line that hubsync refuses, one on which Unison stops, a bar that Unison doesn't read, and a program that isn't Unison: nothing is
+# started. A pattern that Unison reads differently is no reason. scripts.sh has all kinds of such lines.
+try_refused() {
+    fill
+    echo 'ignore = Name *.{tmp,bak}' >prf/common
+    echo 'include common' | tee -a prf/docs.prf >>prf/photos.prf
+    ask 0 --only-check prf
+    [ ! -s said ] || complain "something is said of lines that --unison covers: $(head -n 1 said)"
+    printf '%s\n' 'follow = Path a' 'batch = yes' "noupdatepartial = Path a->$PWD/hub" >>prf/common
+    ask 3 --unison ./unison prf
+    compare 'lines that nothing is started with' said <<LINES
+prf/common:2: refused: UnknownPreference follow: follow = Path a: hubsync has no answer for a profile with this line
+prf/common:3: Unison stops at this: batch = yes: it refuses this: write true or false
+prf/common:4: noupdatepartial = Path a->$PWD/hub: Unison bars nothing without blanks around the arrow: write noupdatepartial = Path a -> $PWD/hub
+nothing is started: mend these lines, or name behind the folder the profiles that are to run without the others
+LINES
+    sed -i '/follow/d; /batch/d' prf/common
+    ask 3 --unison ./unison prf
+    ask 3 --unison ./none prf home
+    ask 3 --unison "$(command -v true)" prf home
+    ask 3 nope
+    ask 3 --unison
+    ask 3 --all prf
+    [ ! -e prf/by-pair ] || complain 'a folder is made though nothing is started'
+    ask 0 --help
+    grep -q '^| 3 | ' written || complain 'the help has no statuses'
+}
+
+# Folders that have to be there: a root, those above a path, on another machine too. Nothing is made.
+try_roots() {
+    fill
+    mkdir hub/p
+    printf '%s\n' "root = $PWD/hub" "root = $PWD/away" 'path = a' >prf/away.prf
+    printf '%s\n' "root = $PWD/hub" "root = $PWD/home" 'path = p/q/r/*' >prf/home.prf
+    ask 3 --unison ./unison prf
+    compare 'missing folders' said <<LINES
+prf/away.prf:2: there is no root $PWD/away: mount or make it first
+prf/home.prf:3: there is no folder $PWD/hub/p/q, and Unison would make it: mount or make it first
+prf/home.prf:3: there is no folder $PWD/home/p, and Unison would make it: mount or make it first
+LINES
+    ask 3 --dry-run prf home
+    ask 0 --only-check prf
+    [ ! -e home/p ] && [ ! -e away ] && [ ! -e prf/by-pair ] || complain 'a missing folder is made'
+    mkdir -p hub/p/q/r home/p/q
+    touch home/p/q/r
+    ask 3 --dry-run prf home
+    compare 'a file above a path' said <<<"prf/home.prf:3: $PWD/home/p/q/r is no folder"
+    rm home/p/q/r
+    mkdir home/p/q/r
+    ask 0 --dry-run prf home
+    printf '%s\n' "root = $PWD/hub" 'root = ssh://pc//home' 'path = p/q' >prf/pc.prf
+    ask 3 --hosts hosts --dry-run prf pc
+    compare 'a folder on another machine' said <<<'prf/pc.prf:3: see to it that ssh://pc//home has the folder p, and give --remote-folders-exist'
+    ask 0 --hosts hosts --remote-folders-exist --dry-run prf pc
+}
+
+# A folder of two names, and archives that a profile reaches.
+try_names() {
+    fill
+    ln -s hub other
+    printf '%s\n' "root = $PWD/other" "root = $PWD/home" 'path = docs' >prf/home.prf
+    ask 3 --unison ./unison prf
+    compare 'two names of a folder' said <<<"$PWD/hub and $PWD/other are one folder, or have one in common: write one name for it in all profiles"
+    rm other prf/home.prf
+    ask 3 --unison ./unison --archives hub/docs prf
+    compare 'archives in a root' said <<<'prf/docs.prf: it reaches hub/docs: a line ignore = Path docs would keep it out, or --archives another folder'
+    echo 'ignore = Path docs' >>prf/docs.prf
+    ask 0 --dry-run --archives hub/docs prf
+}
+
+# A run takes away the folder above a path of the next round: that profile isn't started.
+try_taken() {
+    fill
+    rm prf/photos.prf
+    printf '%s\n' "root = $PWD/hub" "root = $PWD/home" 'path = docs/a' >prf/home.prf
+    mkdir {hub,home}/docs
+    printf '%s\n' '#!/bin/sh' '[ "$1" != -version ] || exec echo unison version 2.52.1' 'rmdir hub/docs' >unison
+    ask 2 --unison ./unison prf
+    compare_runs 'a folder that was taken away' <<LINES
+round 1 docs: done: docs.output
+round 2 home: not started: there is no folder $PWD/hub/docs, and Unison would make it: mount or make it first
+LINES
+}
+
+# Real Unison: what is new at a spoke gets to the hub, and in the next round to the other spoke; a conflict is skipped, and a run that
+# Unison stops has failed.
 try_unison() {
-    if ! command -v unison >/dev/null; then
-        echo 'rounds: real Unison was not tried: there is no unison in PATH' >&2
-        return
-    fi
-    rm -R prf hub desk home
     fill
     mkdir desk/docs
     echo new >desk/docs/a
-    ask 0 "$program" prf
-    compare 'rounds of real Unison' written <<<$'round 1 docs: done\nround 1 photos: done\nround 2 home: done'
+    ask 0 prf
+    compare_runs 'rounds of real Unison' <<<$'round 1 docs: done: docs.output\nround 1 photos: done: photos.output\nround 2 home: done: home.output'
     compare 'what real Unison carries' home/docs/a <<<new
+    echo 'of the desk' >desk/docs/a
+    echo 'of the hub' >hub/docs/a
+    ask 1 -q prf
+    compare_runs 'a conflict' <<<'round 1 docs: some items were skipped: docs.output'
+    echo new >hub/docs/a
     rm desk/docs/a
-    ask 0 "$program" prf
+    ask 0 prf
     [ ! -e home/docs/a ] || complain 'real Unison does not delete what was deleted at a spoke'
+    touch hub/b
+    ask 0 prf home
+    rm -R hub/*
+    sed -i '/confirmbigdel/d' prf/home.prf
+    ask 2 prf home
+    compare_runs 'a run that Unison stops' <<<$'round 1 home: stopped: home.output\nround 1 home: stopped: home.output'
 }
 
-# Real Unison keeps what the script lets through: bars on paths, also on each path above one, a `repeat` that has no effect, and a
-# pattern with a dot in each of two names.
+# Real Unison keeps what the tool lets through: `docs/*` clashes with a path below it, two that clash run one after another, `repeat` has
+# no effect, and patterns don't match a dot.
 try_real_lines() {
-    command -v unison >/dev/null || return 0
-    rm -R prf hub desk home
-    mkdir -p prf hub/d/keep hub/.d desk home
-    echo old | tee hub/d/keep/x >hub/.d/a.tmp
-    printf '%s\n' "root = $PWD/hub" "root = $PWD/desk" 'path = d' 'confirmbigdel = false' "nodeletionpartial = BelowPath d/keep -> $PWD/hub" 'repeat = 1' >prf/p.prf
-    ask 3 "$program" prf
-    echo "nodeletionpartial = Path d -> $PWD/hub" >>prf/p.prf
-    printf '%s\n' "root = $PWD/hub" "root = $PWD/home" 'path = .d' 'ignore = Path *.d/*.tmp' 'ignore = Path .d/.tmp' >prf/q.prf
-    ask 3 "$program" prf
-    echo 'ignore = Path {.d/*.tmp,*.d/.tmp}' >>prf/q.prf
-    ask 0 "$program" prf
-    rm -R desk/d
-    ask 1 "$program" prf
-    [ -e hub/d/keep/x ] || complain 'real Unison deletes what a bar protects'
-    [ ! -e home/.d/a.tmp ] || complain 'real Unison carries what is ignored'
+    fill
+    rm prf/*
+    mkdir -p {hub,desk,home}/docs/reports
+    echo new >desk/docs/reports/a
+    echo new >desk/docs/.tmp
+    printf '%s\n' "root = $PWD/hub" "root = $PWD/desk" 'path = docs/*' 'repeat = 1' 'ignore = Name *.tmp' >prf/p.prf
+    printf '%s\n' "root = $PWD/hub" "root = $PWD/home" 'path = docs/reports' >prf/q.prf
+    ask 0 prf
+    compare_runs 'a last name *' <<<$'round 1 p: done: p.output\nround 2 q: done: q.output'
+    compare 'what is carried in two rounds' home/docs/reports/a <<<new
+    compare 'a name with a dot' hub/docs/.tmp <<<new
+    printf '%s\n' "root = $PWD/hub" "root = $PWD/home" "force = $PWD/home" 'path = docs/reports' >prf/q.prf
+    echo desk >desk/docs/reports/a
+    echo home >home/docs/reports/a
+    ask 0 prf
+    compare 'the last of two that clash' hub/docs/reports/a <<<home
+}
+
+# The examples of how to start the tool, with what ./install puts below the home of a user: a line for cron, units of systemd, and a
+# hook of git.
+try_schedule() {
+    local hook=$folder/schedule/pre-commit
+    mkdir user
+    HOME=$PWD/user "$folder/../install" >/dev/null
+    cp "$program" user/.local/bin/hubsync
+    fill
+    mv prf user/.unison
+    sed -n 's/^[^#]* [^ ]* [^ ]* [^ ]* [^ ]* \("[^"]*".*\)/\1/p' "$folder/schedule/crontab" >line
+    [ -s line ] || complain 'the crontab has no command'
+    printf '%s\n' '#!/bin/sh' 'echo unison version 2.52.1' >unison
+    HOME=$PWD/user PATH=$PWD:/usr/bin:/bin sh -e line >written 2>&1 || complain "the command for cron fails: $(head -n 1 written)"
+    compgen -G 'user/.unison/by-pair/*/home.output' >/dev/null || complain 'the command for cron starts nothing'
+    try_units
+    try_hook "$hook"
+    rm -Rf user/.local/bin/hubsync
+}
+
+try_units() {
+    if ! command -v systemd-analyze >/dev/null; then
+        echo 'rounds: the units were not tried: there is no systemd-analyze in PATH'
+        return
+    fi
+    mkdir -m 700 runtime
+    HOME=$PWD/user XDG_RUNTIME_DIR=$PWD/runtime systemd-analyze --user verify "$folder"/schedule/unison-rounds.{service,timer} >written 2>&1 ||
+        complain "systemd takes no unit: $(head -n 1 written)"
+    [ ! -s written ] || complain "systemd says something of a unit: $(head -n 1 written)"
+}
+
+# A commit of profiles is made if they can be started, else not, whatever the files beside the index have.
+try_hook() {
+    if ! command -v git >/dev/null; then
+        echo 'rounds: the hook was not tried: there is no git in PATH'
+        return
+    fi
+    export GIT_AUTHOR_NAME=a GIT_AUTHOR_EMAIL=a GIT_COMMITTER_NAME=a GIT_COMMITTER_EMAIL=a GIT_CONFIG_GLOBAL=/dev/null HOME=$PWD/user
+    git init -q repository
+    cp "$1" repository/.git/hooks/pre-commit
+    cp user/.unison/*.prf repository
+    git -C repository add .
+    echo 'follow = Path a' >>repository/docs.prf
+    git -C repository commit -q -m one >written 2>&1 || complain "the hook keeps a right commit back: $(head -n 1 written)"
+    if git -C repository commit -q -a -m two 2>said; then
+        complain 'the hook lets a refused line through'
+    fi
+    sed -i 1q said
+    compare 'the hook' said <<<'./docs.prf:6: refused: UnknownPreference follow: follow = Path a: hubsync has no answer for a profile with this line'
 }
 
 if [ ! -x "$program" ]; then
@@ -274,7 +409,7 @@ if [ ! -x "$program" ]; then
 fi
 room=$(mktemp -d)
 trap 'rm -rf "$room"' EXIT
-cd "$room"
+cd -P "$room"
 fill
 make_stand_in
 try_stand_in
@@ -283,6 +418,14 @@ try_statuses
 try_folders
 try_rules
 try_refused
-try_unison
-try_real_lines
+try_roots
+try_names
+try_taken
+if command -v unison >/dev/null; then
+    try_unison
+    try_real_lines
+else
+    echo 'rounds: real Unison was not tried: there is no unison in PATH'
+fi
+try_schedule
 [ "$wrong" = 0 ]

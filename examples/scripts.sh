@@ -385,15 +385,17 @@ try_install() {
     (cd local && find . -type f | LC_ALL=C sort) >installed
     compare 'what is installed' installed <<'LINES'
 ./bin/hubsync
+./bin/unison-rounds
 ./share/bash-completion/completions/hubsync
 ./share/fish/vendor_completions.d/hubsync.fish
 ./share/hubsync/HubsyncAnswers.pm
 ./share/hubsync/UnisonLines.pm
 ./share/hubsync/UnisonProfiles.pm
+./share/hubsync/UnisonRoots.pm
+./share/hubsync/UnisonRuns.pm
 ./share/hubsync/from-prf.sh
 ./share/hubsync/items.sh
 ./share/hubsync/state-of-folder.sh
-./share/hubsync/unison-by-rounds.sh
 ./share/hubsync/verify.py
 ./share/man/man1/hubsync.1
 ./share/zsh/site-functions/_hubsync
@@ -401,6 +403,7 @@ LINES
     mkdir unison
     printf '%s\n' 'root = /srv/hub' 'root = /srv/desk' 'path = docs' >unison/desk.prf
     local/share/hubsync/from-prf.sh unison >bundle || complain 'an installed script fails'
+    local/bin/unison-rounds --only-check unison || complain 'an installed tool fails'
     echo mine >local/share/man/man1/other.1
     ask 0 ../install --uninstall --prefix "$room/local"
     (cd local && find . -type f) >installed

@@ -79,24 +79,24 @@ sub name_line {
 }
 
 # Names each line of a profile that the program refuses if it is asked with these words, and takes it away. Returns how many were not
-# named before, and whether the lines that are left are a profile.
+# named before, and the answer to the lines that are left, if they are a profile, with a status and the lines of both outputs.
 sub name_refused {
     my ($program, $words, $profile) = @_;
     my $count = 0;
     for (1 .. $most_refused) {
-        my (undef, $lines, $remarks) = answer_to($program, $words, section({ %$profile, name => 'p' }));
-        return ($count, 1) if $lines->[0] !~ /\Afault: /;
+        my ($status, $lines, $remarks) = answer_to($program, $words, section({ %$profile, name => 'p' }));
+        return ($count, [ $status, $lines, $remarks ]) if $lines->[0] !~ /\Afault: /;
         my ($number, $fault) = $lines->[0] =~ /\Afault: profile p line ([0-9]+): (.*)\z/
             or give_up($UnisonProfiles::status_of_faults, "$program answers: $lines->[0]");
         if ($number == 0) {
             say_so("$profile->{file}: refused: $fault: " . remedy($profile, {}, $fault, @$remarks));
-            return ($count + 1, 0);
+            return ($count + 1, undef);
         }
         my $line = $profile->{lines}[ $number - 1 ];
         $count += name_line($line, $fault, remedy($profile, $line, $fault, @$remarks));
     }
     say_so("$profile->{file}: more than $most_refused lines are refused");
-    return ($count, 0);
+    return ($count, undef);
 }
 
 # What the program says on standard error of these profiles, with the files' lines in place of those of the bundle. The lines of the

@@ -76,7 +76,7 @@ SCRIPT
 
 # All runs, with one that was stopped and is tried again. The two profiles of one pair have one folder, and run one after another.
 try_stand_in() {
-    ask 0 --dry-run prf
+    ask 0 --unison ./unison --dry-run prf
     compare 'a dry run' written <<<$'round 1 docs\nround 1 photos\nround 2 home'
     ask 0 --only-check prf
     [ ! -s written ] || complain '--only-check prints something'
@@ -153,7 +153,7 @@ try_statuses() {
     until [ -e started ]; do sleep 0.05; done
     ask 3 --unison ./unison prf docs
     compare 'a second start' said <<<'another run with prf/by-pair goes on, so nothing is started'
-    ask 0 --dry-run prf docs
+    ask 0 --unison ./unison --dry-run prf docs
     touch go
     status=0
     wait "$running" || status=$?
@@ -251,6 +251,18 @@ LINES
     grep -q '^| 3 | ' written || complain 'the help has no statuses'
 }
 
+# Two profiles that are safe together as hubsync itself reads them, and not as Unison does.
+try_star() {
+    fill
+    mkdir {hub,desk,home}/docs
+    printf '%s\n' "root = $PWD/hub" "root = $PWD/desk" 'path = docs/*' >prf/docs.prf
+    printf '%s\n' "root = $PWD/hub" "root = $PWD/home" 'path = docs/reports' >prf/home.prf
+    "$folder/from-prf.sh" prf docs home 2>/dev/null | "$program" >written 2>/dev/null
+    compare 'the plain reading' written <<<safe
+    ask 0 --unison ./unison --dry-run prf docs home
+    compare 'a last name * for Unison' written <<<$'round 1 docs\nround 2 home'
+}
+
 # Folders that have to be there: a root, those above a path, on another machine too. Nothing is made.
 try_roots() {
     fill
@@ -263,20 +275,20 @@ prf/away.prf:2: there is no root $PWD/away: mount or make it first
 prf/home.prf:3: there is no folder $PWD/hub/p/q, and Unison would make it: mount or make it first
 prf/home.prf:3: there is no folder $PWD/home/p, and Unison would make it: mount or make it first
 LINES
-    ask 3 --dry-run prf home
+    ask 3 --unison ./unison --dry-run prf home
     ask 0 --only-check prf
     [ ! -e home/p ] && [ ! -e away ] && [ ! -e prf/by-pair ] || complain 'a missing folder is made'
     mkdir -p hub/p/q/r home/p/q
     touch home/p/q/r
-    ask 3 --dry-run prf home
+    ask 3 --unison ./unison --dry-run prf home
     compare 'a file above a path' said <<<"prf/home.prf:3: $PWD/home/p/q/r is no folder"
     rm home/p/q/r
     mkdir home/p/q/r
-    ask 0 --dry-run prf home
+    ask 0 --unison ./unison --dry-run prf home
     printf '%s\n' "root = $PWD/hub" 'root = ssh://pc//home' 'path = p/q' >prf/pc.prf
-    ask 3 --hosts hosts --dry-run prf pc
+    ask 3 --hosts hosts --unison ./unison --dry-run prf pc
     compare 'a folder on another machine' said <<<'prf/pc.prf:3: see to it that ssh://pc//home has the folder p, and give --remote-folders-exist'
-    ask 0 --hosts hosts --remote-folders-exist --dry-run prf pc
+    ask 0 --hosts hosts --remote-folders-exist --unison ./unison --dry-run prf pc
 }
 
 # A folder of two names, and archives that a profile reaches.
@@ -290,7 +302,7 @@ try_names() {
     ask 3 --unison ./unison --archives hub/docs prf
     compare 'archives in a root' said <<<'prf/docs.prf: it reaches hub/docs: a line ignore = Path docs would keep it out, or --archives another folder'
     echo 'ignore = Path docs' >>prf/docs.prf
-    ask 0 --dry-run --archives hub/docs prf
+    ask 0 --unison ./unison --dry-run --archives hub/docs prf
 }
 
 # A run takes away the folder above a path of the next round: that profile isn't started.
@@ -418,6 +430,7 @@ try_statuses
 try_folders
 try_rules
 try_refused
+try_star
 try_roots
 try_names
 try_taken

@@ -1,7 +1,7 @@
 package UnisonLines;
 
 # Finds the lines of a profile that Unison reads differently than hubsync, for from-prf.sh, and those on which it stops, for
-# unison-rounds too. The profile is one of UnisonProfiles.pm. docs/UNISON.md and docs/DIFFERENCES.md say what was seen of Unison.
+# unison-rounds too. The profile is one of UnisonProfiles.pm. docs/UNISON.md says what was seen of Unison.
 use strict;
 use warnings;
 use Exporter 'import';

@@ -1,5 +1,5 @@
 #!/usr/bin/env bash
-# Compares the program's answers to the examples with the table in examples/README.md.
+# Compares the program's answers to the examples with the table in examples/expected.txt.
 #
 #     examples/check.sh [PROGRAM]
 #
@@ -15,7 +15,7 @@ if [ "${1:-}" = --help ]; then
 fi
 folder=$(dirname "$(readlink -f "${BASH_SOURCE[0]}")")
 program=$(readlink -f "${1:-$folder/../crates/hubsync/out/hubsync}")
-table=$folder/README.md
+table=$folder/expected.txt
 rows=0
 wrong=0
 given=0

@@ -136,7 +136,7 @@ fn say_fault(out: &mut String, source: &Source<'_>, words: &[String], fault: &st
     if fault == "no state" {
         return say(
             out,
-            "run needs a section %state, as docs/USE.md shows, and check needs none",
+            "run needs a section %state, as docs/REFERENCE.md shows, and check needs none",
         );
     }
     say_section_fault(out, source, fault)

@@ -20,7 +20,7 @@ const STATE_REMEDIES: &[(&str, &str)] = &[
     ),
     (
         "BadLine",
-        "a state has no blank lines and no comments: docs/USE.md shows its lines",
+        "a state has no blank lines and no comments: docs/REFERENCE.md shows its lines",
     ),
     (
         "BadPath",
@@ -95,7 +95,7 @@ fn state_remedy(fault: &str) -> &'static str {
     remedy_of(
         STATE_REMEDIES,
         fault,
-        "docs/USE.md shows the lines of a state",
+        "docs/REFERENCE.md shows the lines of a state",
     )
 }
 

@@ -25,7 +25,11 @@ pub(crate) fn say_bad_path(out: &mut String, value: &str, fault: &str) -> Said {
 
 /// What to do about a fault of a path, whatever the path is.
 pub(crate) fn path_remedy(fault: &str) -> &'static str {
-    remedy_of(PATH_REMEDIES, fault, "docs/USE.md says what a path is")
+    remedy_of(
+        PATH_REMEDIES,
+        fault,
+        "docs/REFERENCE.md says what a path is",
+    )
 }
 
 /// Says how to write a path that begins with `/`.

@@ -261,6 +261,8 @@ sub stop_of {
         return "it refuses a tab after $kind: write a space" if defined $blank && $blank =~ /\t/;
         return stop_of_root($profile, $line, $1, $2) if $name =~ /partial\z/ && $value =~ /\A(.* -> +)((?:(?!->).)*)\z/s;
     }
+    return 'it wants times = true for this: add that line'
+        if $name =~ /\A(?:force|prefer)\z/ && $value eq 'older' && ((map { $_->{value} } settings_of($profile, 'times'))[-1] // '') ne 'true';
     return stop_of_root($profile, $line, '', $value)
         if $name =~ /\A(?:nodeletion|noupdate|nocreation)\z/ || $name =~ /\A(?:force|prefer)\z/ && $value !~ /\A(?:newer|older)\z/;
     return 'it refuses this: write true or false' if $is_boolean{$name} && $value !~ /\A(?:true|false)\z/;

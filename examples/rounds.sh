@@ -132,8 +132,11 @@ make_status() {
 #!/usr/bin/env bash
 [ "\$*" != -version ] || { echo 'unison version 2.52.1'; exit 0; }
 touch started
-until [ -e go ]; do sleep 0.05; done
-exit $1
+for _ in \$(seq 200); do
+    [ ! -e go ] || exit $1
+    sleep 0.05
+done
+exit 2
 SCRIPT
 }
 
@@ -150,7 +153,10 @@ try_statuses() {
     rm go started
     "$folder/../tools/unison-rounds" --program "$program" --unison ./unison prf lists >first 2>&1 &
     running=$!
-    until [ -e started ]; do sleep 0.05; done
+    for _ in $(seq 200); do
+        [ ! -e started ] || break
+        sleep 0.05
+    done
     ask 3 --unison ./unison prf docs
     compare 'a second start' said <<<'another run with prf/by-pair goes on, so nothing is started'
     ask 0 --unison ./unison --dry-run prf docs
@@ -231,15 +237,16 @@ try_refused() {
     echo 'include common' | tee -a prf/docs.prf >>prf/photos.prf
     ask 0 --only-check prf
     [ ! -s said ] || complain "something is said of lines that --unison covers: $(head -n 1 said)"
-    printf '%s\n' 'follow = Path a' 'batch = yes' "noupdatepartial = Path a->$PWD/hub" >>prf/common
+    printf '%s\n' 'follow = Path a' 'batch = yes' "noupdatepartial = Path a->$PWD/hub" 'prefer = older' >>prf/common
     ask 3 --unison ./unison prf
     compare 'lines that nothing is started with' said <<LINES
-prf/common:2: refused: UnknownPreference follow: follow = Path a: hubsync has no answer for a profile with this line
 prf/common:3: Unison stops at this: batch = yes: it refuses this: write true or false
+prf/common:5: Unison stops at this: prefer = older: it wants times = true for this: add that line
+prf/common:2: refused: UnknownPreference follow: follow = Path a: hubsync has no answer for a profile with this line
 prf/common:4: noupdatepartial = Path a->$PWD/hub: Unison bars nothing without blanks around the arrow: write noupdatepartial = Path a -> $PWD/hub
 nothing is started: mend these lines, or name behind the folder the profiles that are to run without the others
 LINES
-    sed -i '/follow/d; /batch/d' prf/common
+    sed -i '/follow/d; /batch/d; /older/d' prf/common
     ask 3 --unison ./unison prf
     ask 3 --unison ./none prf home
     ask 3 --unison "$(command -v true)" prf home

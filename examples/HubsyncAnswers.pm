@@ -36,7 +36,8 @@ sub file_of {
     return $in;
 }
 
-# What the program answers to these words, a text or a list, and a bundle: its status, the lines of its standard output, and those of standard error.
+# What the program answers to these words, a text or a list, and a bundle: its status, the lines of its standard output, and those of
+# standard error.
 sub answer_to {
     my ($program, $words, @bundle) = @_;
     my $in = file_of(@bundle);

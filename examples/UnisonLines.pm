@@ -252,6 +252,13 @@ sub stop_of_root {
     return 'it wants the text of the root line' . (defined $meant ? ": write $line->{name} = $before$meant" : '');
 }
 
+# Whether times are synchronized, which the last line on them says.
+sub has_times {
+    my ($profile) = @_;
+    my ($last) = reverse settings_of($profile, 'times');
+    return defined $last && $last->{value} eq 'true';
+}
+
 # Why Unison stops at a line that hubsync takes, if so.
 sub stop_of {
     my ($profile, $line) = @_;
@@ -262,7 +269,7 @@ sub stop_of {
         return stop_of_root($profile, $line, $1, $2) if $name =~ /partial\z/ && $value =~ /\A(.* -> +)((?:(?!->).)*)\z/s;
     }
     return 'it wants times = true for this: add that line'
-        if $name =~ /\A(?:force|prefer)\z/ && $value eq 'older' && ((map { $_->{value} } settings_of($profile, 'times'))[-1] // '') ne 'true';
+        if $name =~ /\A(?:force|prefer)\z/ && $value eq 'older' && !has_times($profile);
     return stop_of_root($profile, $line, '', $value)
         if $name =~ /\A(?:nodeletion|noupdate|nocreation)\z/ || $name =~ /\A(?:force|prefer)\z/ && $value !~ /\A(?:newer|older)\z/;
     return 'it refuses this: write true or false' if $is_boolean{$name} && $value !~ /\A(?:true|false)\z/;

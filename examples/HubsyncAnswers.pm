@@ -51,9 +51,9 @@ sub answer_to {
     chomp(my @lines = <$out>);
     close $out;
     my $status = $? >> 8;
-    give_up($UnisonProfiles::status_of_faults, "$program gives no answer") if !@lines;
     seek $errors, 0, 0;
     chomp(my @remarks = <$errors>);
+    give_up($UnisonProfiles::status_of_faults, join ': ', "$program gives no answer", @remarks) if !@lines;
     return ($status, \@lines, \@remarks);
 }
 

@@ -393,7 +393,7 @@ try_schedule() {
 
 try_units() {
     if ! command -v systemd-analyze >/dev/null; then
-        echo 'rounds: the units were not tried: there is no systemd-analyze in PATH'
+        echo 'rounds: the timer of systemd was not tried: there is no systemd-analyze in PATH'
         return
     fi
     mkdir -m 700 runtime

@@ -8,6 +8,14 @@ import sys
 
 TOP = os.path.dirname(os.path.dirname(os.path.realpath(__file__)))
 NAMES = ['a', 'b', 'c', '.a', '.b', '.tmp', 'x.tmp', 'a.b', '.x.tmp', 'é', 'éa', 'ab', 'a b', '[a]']
+# Lines that hold changes back, or that have no influence on what is synchronized.
+HARMLESS = ['maxsizethreshold = 1', 'maxerrors = 1', 'mountpoint = a', 'immutable = Path a', 'immutablenot = Path b', 'ignorearchives = true',
+            'links = false', 'fastercheckUNSAFE = true', 'ignoreinodenumbers = true', 'times = true', 'perms = 0', 'owner = true',
+            'numericids = true', 'dontchmod = true', 'rsrc = false', 'rsrc = default', 'fat = false', 'ignorecase = false', 'unicode = false',
+            'ignorelocks = false', 'copyonconflict = false', 'backups = false', 'backuploc = central', 'backuplocation = central',
+            'backup = Name *', 'backupcurr = Name *', 'backupcurrnot = Name a', 'backupnot = Name b', 'maxbackups = 1', 'backupprefix = v$VERSION.',
+            'height = 20', 'sortbysize = true', 'sortnewfirst = true', 'sortfirst = Name a', 'sortlast = Name b', 'maxthreads = 1', 'copymax = 1',
+            'stream = false', 'xferbycopying = false', 'halfduplex = true', 'sshargs = -C', 'confirmbigdel = false', 'auto = true']
 
 
 def words(name, doc, count):
@@ -35,6 +43,12 @@ def pattern(rng):
     return kind + ' ' + '/'.join(piece() for _ in range(count))
 
 
+def bar(rng, roots):
+    """The value of a bar on some paths. Unison sees an arrow that has blanks on both sides, if it is the only one."""
+    arrow = rng.choice(['->', ' ->', '-> ', ' -> x -> ', '\t->\t', '  ->  ']) if rng.random() < 0.2 else ' -> '
+    return pattern(rng) + arrow + rng.choice(roots)
+
+
 def profile(rng, roots):
     """The lines of a profile but for its roots."""
     lines = []
@@ -49,9 +63,9 @@ def profile(rng, roots):
     for _ in some(2):
         lines.append(rng.choice(['nocreation', 'noupdate', 'nodeletion']) + ' = ' + rng.choice(roots))
     for _ in some(3):
-        lines.append(rng.choice(['nocreation', 'noupdate', 'nodeletion']) + 'partial = ' + pattern(rng) + ' -> ' + rng.choice(roots))
+        lines.append(rng.choice(['nocreation', 'noupdate', 'nodeletion']) + 'partial = ' + bar(rng, roots))
     if rng.random() < 0.4:    # all changes are barred, so a bar that holds in hubsync alone shows
-        value = pattern(rng) + ' -> ' + rng.choice(roots)
+        value = bar(rng, roots)
         lines += ['noupdatepartial = ' + value, 'nocreationpartial = ' + value]
     if rng.random() < 0.3:
         lines.append('force = ' + rng.choice(roots + ['newer', 'older']))
@@ -61,10 +75,8 @@ def profile(rng, roots):
         lines.append('prefer = ' + rng.choice(roots + ['newer', 'older']))
     if rng.random() < 0.1:
         lines.append(rng.choice(['forcepartial', 'preferpartial']) + ' = ' + pattern(rng) + ' -> ' + rng.choice(roots))
-    if rng.random() < 0.15:
-        lines.append(rng.choice(['maxsizethreshold = 1', 'maxerrors = 1', 'mountpoint = a', 'immutable = Path a', 'ignorearchives = true',
-                                 'links = false', 'fastercheckUNSAFE = true', 'times = true', 'perms = 0', 'rsrc = false',
-                                 'backup = Name *', 'height = 20', 'sortbysize = true', 'dontchmod = true']))
+    for _ in range(rng.choice([0, 0, 1, 2])):
+        lines.append(rng.choice(HARMLESS))
     rng.shuffle(lines)
     return lines
 

@@ -47,7 +47,7 @@ const DIFFERENCES: [Difference; 10] = [
 ];
 
 /// Those that count where the profiles are read for Unison, too: the reading doesn't cover them.
-const UNCOVERED: [Difference; 3] = [Difference::Arrow, Difference::Parent, Difference::Log];
+const UNCOVERED: [Difference; 2] = [Difference::Parent, Difference::Log];
 
 /// Says which lines of some profiles Unison reads otherwise: of each kind the first. Where the profiles are read for Unison,
 /// only lines count that the reading doesn't cover.

@@ -5,7 +5,7 @@ use crate::bundle::say_bundle_fault;
 use crate::refusal::{say_breach, say_overlap, say_refused};
 use crate::setting::say_setting_fault;
 use crate::text::{say_certificates_fault, say_state_fault};
-use crate::unison::{is_for_unison, say_assumed, say_wider};
+use crate::unison::{is_for_unison, say_assumed, say_left_out, say_wider};
 use crate::words::say_words;
 use hub_notes::notes;
 use hub_source::{Said, Source, place_in, place_in_profile, say};
@@ -61,20 +61,25 @@ pub fn remark(
     let second = next_text(&mut lines);
     let source = Source::read(alloc, input.bytes, input.is_whole, files)?;
     if is_yes(first) && !second.starts_with(RUN_FAULT) {
-        return remarks_on_yes(&source, words);
+        return remarks_on_yes(&source, input.bytes, words);
     }
     say_answer(&mut remarks.text, &source, words, first, second)?;
-    say_wider(&mut remarks.text, words, first)?;
+    say_wider(&mut remarks.text, &source, input.bytes, words, first)?;
     Ok(remarks)
 }
 
-/// What is said about a yes. Where the profiles are read for Unison, that is also what is assumed.
-fn remarks_on_yes(source: &Source<'_>, words: &[String]) -> Result<Remarks, AllocError> {
+/// What is said about a yes. Where the profiles are read for Unison, that is also what is assumed, and which lines don't count.
+fn remarks_on_yes(
+    source: &Source<'_>,
+    input: &[u8],
+    words: &[String],
+) -> Result<Remarks, AllocError> {
     let is_for_unison = is_for_unison(words);
     let mut text = notes(source, is_for_unison)?;
     let may_mislead = !text.is_empty();
     if is_for_unison {
         say_assumed(&mut text)?;
+        say_left_out(&mut text, source, input)?;
     }
     Ok(Remarks { text, may_mislead })
 }

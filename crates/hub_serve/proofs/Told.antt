@@ -1,6 +1,6 @@
 -- What a refusal and a text that is no path are answered with.
 use Rattle.std.proofs.Common.{◌≡◌, ◌⊎◌, ◌==◌, ◌∙◌, ◌∷◌, inl, inr, ℕ, Bool, false, true, List, [], length, IfSome, None, Option, Some, refl, sym, ap, subst}
-use Rattle.std.specs.Prelude.{Contains, IsTrue}
+use Rattle.std.specs.Prelude.{Contains, IfErr, IfOk, IsTrue, Result, Ok, Err}
 use Rattle.std.proofs.lemmas.Bool.{false≢true}
 use Rattle.std.proofs.lemmas.Option.{none-some}
 use Rattle.hub_path.specs.declared.fault.PathFault.{PathFault}
@@ -20,17 +20,21 @@ use Rattle.hub_cert.specs.Refused.{IsRefused}
 use Rattle.hub_cert.specs.declared.certificate.Certificate.{Certificate}
 use Rattle.hub_cert.specs.declared.fault.CheckFault.{CheckFault}
 use Rattle.hub_bundle.specs.declared.sections.BundleContents.{BundleContents}
-use Rattle.hub_bundle.specs.Sections.{members}
+use Rattle.hub_bundle.specs.Sections.{Spells, members}
+use Rattle.hub_cli.specs.declared.words.Reading.{Reading}
+use Rattle.hub_cli.specs.declared.words.Reading.TheVariants.{Plain, Unison}
 use Rattle.hub_cli.specs.declared.words.Question.{Question}
-use Rattle.hub_cli.specs.Words.{Request, about}
+use Rattle.hub_cli.specs.Words.{Request, about, reading_for}
+use Rattle.hub_report.specs.declared.faulty_input.FaultyInput.TheVariants.{BadBundle, BadSection, Unread}
 use Rattle.hub_report.specs.declared.report.Report.{Report}
 use Rattle.hub_report.specs.declared.reach_answer.ReachAnswer.TheVariants.{BadPath}
 use Rattle.hub_report.specs.declared.report.Report.TheVariants.{Faulty, Reach, NoState, Refused, OutOfMemory}
 use Rattle.hub_serve.specs.declared.task.Task.{Task}
 use Rattle.hub_report.specs.Report.{TellsRefusal}
-use Rattle.hub_serve.specs.Report.{FaultOf, HasBadPath, IsTold, IsToldOfSet}
+use Rattle.hub_serve.specs.Report.{FaultOf, HasBadPath, Holds, IsTold, IsToldOfSet, IsUnspelled}
 use Rattle.hub_serve.specs.Rounds.{DrawsClashes}
 use Rattle.hub_serve.specs.Task.{AsksTask, LacksState, task_of}
+use Rattle.hub_serve.specs.Unison.{SpellsAs, SpellsCounted, counted_as}
 use Rattle.hub_text.specs.ListLaws.{some-item}
 
 -- It was asked to do this.
@@ -71,6 +75,32 @@ path-told request c f r memory (inr e) (inr h) = subst (IsTold request c) (sym e
 pub bytes-hold : (remaining : Option (List ℕ)) (read : List ℕ) (P : List ℕ → Type 0) → IfSome remaining (λ bytes. read ≡ bytes) → P read → IfSome remaining P
 bytes-hold None read P is h = tt
 bytes-hold (Some bytes) read P is h = subst P is h
+
+-- What the lines that count say is what the bytes say.
+counted-spells : (reading : Reading) (bytes : List ℕ) (c : BundleContents) → SpellsCounted reading (counted_as reading bytes) c → SpellsAs reading bytes c
+counted-spells Plain bytes c h = subst (Spells bytes) (sym h.2) h.1
+counted-spells Unison bytes c h = h
+
+pub spelled-as : (reading : Reading) (request : Request) (bytes counted : List ℕ) (r : Result BundleContents Report) → reading ≡ reading_for request
+    → counted ≡ counted_as reading bytes → IfOk r (SpellsCounted reading counted) → IfOk r (SpellsAs (reading_for request) bytes)
+spelled-as reading request bytes counted (Ok c) is counts h =
+    counted-spells (reading_for request) bytes c
+    (subst (λ d. SpellsCounted d (counted_as d bytes) c) is (subst (λ bs. SpellsCounted reading bs c) counts h))
+spelled-as reading request bytes counted (Err e) is counts h = tt
+
+-- What is answered where the lines that count aren't a bundle is true of the input.
+unspelled-holds : (request : Request) (bytes : List ℕ) (r : Report) → IsUnspelled (counted_as (reading_for request) bytes) r → Holds request bytes r
+unspelled-holds request bytes (Faulty (Unread f)) h = absurd h
+unspelled-holds request bytes (Faulty (BadBundle f)) h = h
+unspelled-holds request bytes (Faulty (BadSection f)) h = h
+unspelled-holds request bytes OutOfMemory h = tt
+unspelled-holds request bytes _ h = absurd h
+
+pub unspelled-as : (reading : Reading) (request : Request) (bytes counted : List ℕ) (r : Result BundleContents Report) → reading ≡ reading_for request
+    → counted ≡ counted_as reading bytes → IfErr r (IsUnspelled counted) → IfErr r (Holds request bytes)
+unspelled-as reading request bytes counted (Ok c) is counts h = tt
+unspelled-as reading request bytes counted (Err e) is counts h =
+    unspelled-holds request bytes e (subst (λ d. IsUnspelled (counted_as d bytes) e) is (subst (λ bs. IsUnspelled bs e) counts h))
 
 -- What is true where one thing was to be done is true of what was to be done.
 pub done-told : (t u : Task) (S : Members) (cs : List Certificate) (r : Report) → t ≡ u → IsToldOfSet u S cs r → IsToldOfSet t S cs r

@@ -53,7 +53,8 @@ use Rattle.hub_serve.specs.Reads.{AreSpent, Reads}
 use Rattle.hub_serve.specs.ByRounds.{HasRunByRounds, HasRunByRoundsAs, IsFirstAlone, RunsByRounds}
 use Rattle.hub_serve.specs.Rounds.{BeginsAsClash, DrawsClashes, ListsClashes, WritesRounds}
 use Rattle.hub_serve.specs.Runs.{HasRunAs, IsBelow, IsPrevented}
-use Rattle.hub_serve.specs.Unison.{SpellsAs, SpellsRoundInUnison, SpellsSafeInUnison, SpellsUnreachedInUnison}
+use Rattle.hub_serve.specs.Unison.{SpellsAs, counted_as}
+use Rattle.hub_serve.specs.Unison.{SpellsRoundInUnison, SpellsSafeInUnison, SpellsUnreachedInUnison}
 use Rattle.hub_serve.specs.Task.{AsksTask, LacksState, task_of}
 
 -- A text is the whole of what is to be told, with the status of that, unless a call of the output
@@ -296,15 +297,22 @@ IsUnread bytes input.ReadFailed = ⊤
 IsUnread bytes input.TurnsSpent = READ_TURNS ≤ length bytes
 IsUnread bytes input.OutOfMemory = ⊤
 
--- What holds of an input that isn't a bundle.
-abbrev pub IsFaulty : List ℕ → FaultyInput → Type 0
-IsFaulty bytes (Unread f) = IsUnread bytes f
-IsFaulty bytes (BadBundle f) = bundle_reading bytes ≡ Err f
-IsFaulty bytes (BadSection f) = HasFault bytes f
+-- What holds of an input that isn't a bundle, by those of its lines that count.
+abbrev pub IsFaulty : Reading → List ℕ → FaultyInput → Type 0
+IsFaulty reading bytes (Unread f) = IsUnread bytes f
+IsFaulty reading bytes (BadBundle f) = bundle_reading (counted_as reading bytes) ≡ Err f
+IsFaulty reading bytes (BadSection f) = HasFault (counted_as reading bytes) f
+
+-- What holds of the lines that count where the program answers that they aren't a bundle.
+abbrev pub IsUnspelled : List ℕ → Report → Type 0
+IsUnspelled counted (answer.Faulty (BadBundle f)) = bundle_reading counted ≡ Err f
+IsUnspelled counted (answer.Faulty (BadSection f)) = HasFault counted f
+IsUnspelled counted answer.OutOfMemory = ⊤
+IsUnspelled counted _ = ⊥
 
 -- What holds of the question and the input where the program answers so.
 abbrev pub Holds : Request → List ℕ → Report → Type 0
-Holds request bytes (answer.Faulty f) = IsFaulty bytes f
+Holds request bytes (answer.Faulty f) = IsFaulty (reading_for request) bytes f
 Holds request bytes answer.OutOfMemory = ⊤
 Holds request bytes r = IsTrueOf request bytes r
 
@@ -363,9 +371,10 @@ pub record Serves (asked : Option Request) (remaining old new : Option (List ℕ
   pub answer : (request : Request) → asked ≡ Some request
       → Answers request remaining old new reads write_failed status
   -- `safe` is written only if the words ask for a check, for what clashes or for a run, and the
-  -- input spells a safe set, as the words want its profiles to be read. If that is for Unison, no
-  -- two of its own profiles clash in Unison, and Unison breaks none of its rules. What follows it is
-  -- what its jobs did and left of the input's state, or why they weren't run,
+  -- input spells a safe set, as the words want its profiles to be read. If that is for Unison, then
+  -- by the lines that count no two of its own profiles clash in Unison, and Unison breaks none of
+  -- its rules. What follows it is what its jobs did and left of the input's state, or why they
+  -- weren't run,
   pub safe : (bytes before text : List ℕ) → remaining ≡ Some bytes → old ≡ Some before
       → new ≡ Some (before ++ (codes "safe\n" ++ text))
       → SpellsSafe asked bytes text write_failed status

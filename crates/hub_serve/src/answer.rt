@@ -2,20 +2,21 @@
 ghost use Rattle.std.specs.Prelude.{◌≡◌, ◌⊎◌, false, true, IfErr, IfOk, IfSome, None, Some};
 ghost use Rattle.hub_bundle.specs.Bundle as bundle;
 ghost use Rattle.hub_bundle.specs.Sections.{Spells};
-ghost use Rattle.hub_cli.specs.Words.{Request, request_of};
+ghost use Rattle.hub_cli.specs.Words.{reading_for, request_of};
 ghost use Rattle.hub_report.specs.Report.{says_read_failed, unread_by};
 ghost use Rattle.hub_serve.specs.Reads.{AreSpent, reads_between};
 ghost use Rattle.hub_serve.specs.Report as report;
+ghost use Rattle.hub_serve.specs.Unison.{IsReadAs, SpellsAs, SpellsCounted};
 
 use crate::progress::Progress;
 use crate::reach::report_on_reach;
-use crate::reading::read_as;
+use crate::reading::{counted_as, read_as};
 use crate::verdict::report_on_set;
 use hub_bundle::{
     BundleContents, BundleFault, BundleLineFault, InputFault, ReadError, read_bundle, read_input,
     read_sections,
 };
-use hub_cli::Query;
+use hub_cli::{Query, Reading};
 use hub_report::{FaultyInput, Report};
 use hub_text::Watched;
 use std::alloc::{AllocError, Global};
@@ -60,20 +61,64 @@ fn report_on_bytes<'a, T: Threads + Wait + Sync, P: Progress + Sync>(
     ensures holds { report.Holds (request_of asked.entry) bytes.items result }
     ensures read { unread_by result ≡ None }
 {
-    let contents = match contents_in(alloc, bytes) {
-        Ok(contents) => contents,
-        Err(report) => return report,
-    };
-    match read_as(alloc, asked.reading(), contents) {
+    match contents_in(alloc, asked, bytes) {
         Ok(contents) => report_on_contents(rt, alloc, asked, contents, progress),
-        Err(AllocError) => Report::OutOfMemory,
+        Err(report) => report,
+    }
+}
+
+/// What a bundle says with its profiles read as it was asked for, or the answer if it can't be read. Its bytes are dropped.
+fn contents_in<'a>(
+    alloc: Global,
+    asked: Query<'a>,
+    bytes: Vec<u8>,
+) -> Result<BundleContents, Report<'a>>
+    ensures spelled { IfOk result (SpellsAs (reading_for (request_of asked.entry)) bytes.items) }
+    ensures faulty { IfErr result (report.Holds (request_of asked.entry) bytes.items) }
+    ensures read { IfErr result (λ r. unread_by r ≡ None) }
+{
+    let reading = asked.reading();
+    match counted_as(alloc, reading, bytes) {
+        Ok(counted) => counted_contents(alloc, reading, counted),
+        Err(AllocError) => Err(Report::OutOfMemory),
+    }
+}
+
+/// What the bytes of a bundle that count say with its profiles read so, or the answer if they can't be read.
+fn counted_contents<'a>(
+    alloc: Global,
+    reading: Reading,
+    counted: Vec<u8>,
+) -> Result<BundleContents, Report<'a>>
+    ensures spelled { IfOk result (SpellsCounted reading counted.items) }
+    ensures faulty { IfErr result (report.IsUnspelled counted.items) }
+    ensures read { IfErr result (λ r. unread_by r ≡ None) }
+{
+    match own_contents(alloc, counted) {
+        Ok(own) => contents_as(alloc, reading, own),
+        Err(report) => Err(report),
+    }
+}
+
+/// What a bundle says with its profiles read so, or the answer that memory is out.
+fn contents_as<'a>(
+    alloc: Global,
+    reading: Reading,
+    own: BundleContents,
+) -> Result<BundleContents, Report<'a>>
+    ensures ok { IfOk result (IsReadAs reading own) }
+    ensures err { IfErr result (λ r. r ≡ Report.OutOfMemory) }
+{
+    match read_as(alloc, reading, own) {
+        Ok(contents) => Ok(contents),
+        Err(AllocError) => Err(Report::OutOfMemory),
     }
 }
 
 /// What a bundle says with all of its sections, or the answer if it can't be read. Its bytes are dropped.
-fn contents_in<'a>(alloc: Global, bytes: Vec<u8>) -> Result<BundleContents, Report<'a>>
+fn own_contents<'a>(alloc: Global, bytes: Vec<u8>) -> Result<BundleContents, Report<'a>>
     ensures spelled { IfOk result (λ c. Spells bytes.items c) }
-    ensures faulty { (request : Request) → IfErr result (report.Holds request bytes.items) }
+    ensures faulty { IfErr result (report.IsUnspelled bytes.items) }
     ensures read { IfErr result (λ r. unread_by r ≡ None) }
 {
     let sections = match read_bundle(alloc, bytes.as_slice()) {

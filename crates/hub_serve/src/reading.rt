@@ -1,11 +1,24 @@
 //! What a bundle says, as the words want its profiles to be read.
-ghost use Rattle.std.specs.Prelude.{IfOk};
+ghost use Rattle.std.specs.Prelude.{◌≡◌, IfOk};
+ghost use Rattle.hub_serve.specs.Unison as spec;
 ghost use Rattle.hub_serve.specs.Unison.{IsReadAs, IsReadForUnison};
 
 use hub_bundle::BundleContents;
 use hub_cli::Reading;
+use hub_preferences::counted;
 use hub_unison::read_set;
 use std::alloc::{AllocError, Global};
+
+/// The bytes of a bundle that count, if its profiles are read so. They are the same in number. For the plain reading they are the
+/// bytes themselves.
+pub fn counted_as(alloc: Global, reading: Reading, bytes: Vec<u8>) -> Result<Vec<u8>, AllocError>
+    ensures { IfOk result (λ v. v.items ≡ spec.counted_as reading bytes.items) }
+{
+    match reading {
+        Reading::Plain => Ok(bytes),
+        Reading::Unison => counted(alloc, bytes.as_slice()),
+    }
+}
 
 /// What a bundle says, if its profiles are read so.
 pub fn read_as(

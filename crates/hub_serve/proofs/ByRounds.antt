@@ -14,7 +14,12 @@ use Rattle.hub_cert.specs.Set.{IsSafeSet, Members}
 use Rattle.hub_cert.specs.declared.fault.CheckFault.{CheckFault}
 use Rattle.hub_search.specs.Faults.{AreFaults}
 use Rattle.hub_search.specs.Search.{Disproves}
+use Rattle.hub_text.specs.ListLaws.{at-place}
 use Rattle.hub_rounds.specs.Rounds.{AreRounds, IsPlaced, is_in_some}
+use Rattle.hub_rounds.specs.RoundsLaws.{refused-round}
+use Rattle.hub_rounds.specs.Unverified.{IsRoundsFault, RefusesRound, is_memory}
+use Rattle.hub_rounds.specs.declared.fault.RoundsFault.{RoundsFault}
+use Rattle.hub_rounds.specs.declared.fault.RoundsFault.TheVariants as rounds_fault
 use Rattle.hub_rounds.specs.declared.placing.Placing.{Placing}
 use Rattle.hub_rounds.specs.declared.placing.Placing.TheVariants.{Round, Unplaced}
 use Rattle.hub_rounds.specs.declared.rounds.Rounds.{Rounds}
@@ -28,9 +33,10 @@ use Rattle.hub_report.specs.declared.run.RunError.{RunError}
 use Rattle.hub_report.specs.declared.run.RunError.TheVariants as error
 use Rattle.hub_serve.specs.declared.run.Attempt.{Attempt}
 use Rattle.hub_serve.specs.declared.run.Attempt.TheVariants.{Ran, NotRun}
+use Rattle.hub_serve.specs.Rounds.{HasUnverifiedRound, IsUncut}
 use Rattle.hub_serve.specs.Runs.{ComesOf, IsRunOn, PreventsRun}
 use Rattle.hub_serve.specs.ByRounds.{AllFinished, AreRunFrom, Ends, HaveRun, IsAdded, IsBegun, RefusesWorkers}
-use Rattle.hub_serve.specs.ByRounds.{HasRunByRounds, IsFirstAlone, is_alone, leaves_out}
+use Rattle.hub_serve.specs.ByRounds.{HasRunByRounds, IsFirstAlone, RefusesOneOf, is_alone, leaves_out}
 use Rattle.hub_serve.specs.ByRounds.{IsRoundRun, AddsRound, job_lines_of_rounds, not_run, round_set, state_after}
 
 -- The state that one more round left.
@@ -259,3 +265,16 @@ first-alone M es e all disproved f =
     let n = position_or_len leaves_out es in
     let at : slice_get es n ≡ Some e = sym (find_at leaves_out es) ∙ f in
     record { faults = es; all = all; first = f; disproved = disproved e (n, slice_get_within es n e at, get_or_from_slice_get es n e e at) }
+
+-- A round is refused, and not for want of memory.
+pub unverified-run : (M : Members) (es : List CheckFault) (rounds : Rounds) (e : CheckFault) → AreFaults M es → AreRounds M es rounds
+    → RefusesOneOf rounds.rules rounds.rounds e → is_memory e ≡ false → HasUnverifiedRound M
+unverified-run M es rounds e all cut h kept =
+    let w = at-place rounds.rounds h.0 h.1 in
+    let refused = subst (λ (Rs : List Rule). RefusesRound (round_set Rs h.0) e) cut.rules h.2 in
+    record { lines = es; all = all; round = w.0; refused = refused-round M es rounds w.0 h.0 cut w.2 (e, refused, kept) }
+
+-- And so where a set isn't cut into rounds.
+pub uncut : (M : Members) (es : List CheckFault) (e : RoundsFault) → AreFaults M es → IsRoundsFault M es e → IsUncut M e
+uncut M es (rounds_fault.NotVerified k) all h = record { lines = es; all = all; round = k; refused = h }
+uncut M es rounds_fault.OutOfMemory all h = tt

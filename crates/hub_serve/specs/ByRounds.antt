@@ -1,6 +1,6 @@
 -- Runs of the rounds of a set, one after another and in one state.
 use Rattle.std.specs.Prelude.{◌≡◌, ◌≢◌, ◌⊎◌, ◌↔◌, ◌<◌, ◌∷◌, ◌++◌, ⊤, ℕ, Bool, true, false}
-use Rattle.std.specs.Prelude.{List, [], drop, length, Option, None, Some, string_bytes}
+use Rattle.std.specs.Prelude.{Contains, List, [], drop, length, Option, None, Some, string_bytes}
 use Rattle.std.specs.List.{find}
 use Rattle.hub_profile.specs.Parts.{Parts}
 use Rattle.hub_profile.specs.declared.rule.Rule.{Rule}
@@ -15,6 +15,7 @@ use Rattle.hub_runner.specs.Working.{AreWorkers, MayRun}
 use Rattle.hub_runner.specs.declared.runs.TheConstants.{WORKERS}
 use Rattle.hub_rounds.specs.Lines.{subject_of}
 use Rattle.hub_rounds.specs.Rounds.{AreRounds}
+use Rattle.hub_rounds.specs.Unverified.{RefusesRound}
 use Rattle.hub_rounds.specs.declared.rounds.Rounds.{Rounds}
 use Rattle.hub_rounds.specs.declared.subject.Subject.{Subject}
 use Rattle.hub_rounds.specs.declared.subject.Subject.TheVariants.{Pair, Alone, Nothing}
@@ -111,6 +112,10 @@ pub record HaveRun (Rs : List Rule) (n : ℕ) (S : State) (rounds : List (List P
   pub left : r.state ≡ state_after S outcomes
   pub finished : r.finished ≡ true
       ↔ (AreWorkers n × AllFinished outcomes × (not_run rounds outcomes ≡ []))
+
+-- One of these rounds is refused with this fault, which may also be that memory is out.
+abbrev pub RefusesOneOf : List Rule → List (List Parts) → CheckFault → Type 0
+RefusesOneOf Rs rounds e = (Ps : List Parts) × Contains rounds Ps × RefusesRound (round_set Rs Ps) e
 
 -- A run by rounds of a set: it is cut into rounds, of which each profile is in one, and these were
 -- run.

@@ -51,7 +51,8 @@ use Rattle.hub_state.specs.State.{State}
 use Rattle.hub_report.specs.Report.{TellsRefusal, says_read_failed, status_of, text_of, unread_by}
 use Rattle.hub_serve.specs.Reads.{AreSpent, Reads}
 use Rattle.hub_serve.specs.ByRounds.{HasRunByRounds, HasRunByRoundsAs, IsFirstAlone, RunsByRounds}
-use Rattle.hub_serve.specs.Rounds.{BeginsAsClash, DrawsClashes, ListsClashes, WritesRounds}
+use Rattle.hub_serve.specs.Rounds.{BeginsAsClash, DrawsClashes, HasUnverifiedRound, ListsClashes}
+use Rattle.hub_serve.specs.Rounds.{WritesRounds}
 use Rattle.hub_serve.specs.Runs.{HasRunAs, IsBelow, IsPrevented}
 use Rattle.hub_serve.specs.Unison.{SpellsAs, counted_as}
 use Rattle.hub_serve.specs.Unison.{SpellsRoundInUnison, SpellsSafeInUnison, SpellsUnreachedInUnison}
@@ -244,7 +245,7 @@ IsToldOfSet t S cs (answer.Clashes a) = AreClashesOf t S a
 IsToldOfSet t S cs (answer.Run a) = CameOfRun t S a
 IsToldOfSet t S cs (answer.Refused text) =
     (e : CheckFault) × FaultOf t S cs e × TellsRefusal S e (answer.Refused text)
-IsToldOfSet t S cs answer.NotVerified = (t ≡ task.Rounds) ⊎ RunsByRounds t
+IsToldOfSet t S cs answer.NotVerified = ((t ≡ task.Rounds) ⊎ RunsByRounds t) × HasUnverifiedRound S
 IsToldOfSet t S cs answer.OutOfMemory = ⊤
 IsToldOfSet t S cs _ = ⊥
 

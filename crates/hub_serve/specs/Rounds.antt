@@ -1,5 +1,5 @@
 -- What is written of what clashes in a set, and of its rounds.
-use Rattle.std.specs.Prelude.{◌≡◌, ◌≢◌, ◌⊎◌, ◌↔◌, ◌==◌, ◌&&◌, ◌∷◌, ◌++◌, ℕ, Bool, true, false, not, List, [], length, Contains, IsTrue, codes}
+use Rattle.std.specs.Prelude.{◌≡◌, ◌≢◌, ◌⊎◌, ◌↔◌, ◌==◌, ◌&&◌, ◌∷◌, ◌++◌, ⊤, ℕ, Bool, true, false, not, List, [], length, Contains, IsTrue, codes}
 use Rattle.std.specs.List.{list_any}
 use Rattle.hub_cert.specs.Goals.{is_goal}
 use Rattle.hub_cert.specs.Set.{IsSafeSet, Members}
@@ -9,6 +9,9 @@ use Rattle.hub_cert.specs.declared.goal.Goal.{Goal}
 use Rattle.hub_search.specs.Faults.{AreFaults, HasLine, HasInductiveTexts}
 use Rattle.hub_search.specs.Search.{Disproves, IsFirstFault}
 use Rattle.hub_rounds.specs.Rounds.{AreRounds}
+use Rattle.hub_rounds.specs.Unverified.{HasRefusedRound}
+use Rattle.hub_rounds.specs.declared.fault.RoundsFault.{RoundsFault}
+use Rattle.hub_rounds.specs.declared.fault.RoundsFault.TheVariants.{NotVerified, OutOfMemory}
 use Rattle.hub_rounds.specs.declared.rounds.Rounds.{Rounds}
 use Rattle.hub_report.specs.Graph.{graph_text}
 use Rattle.hub_report.specs.Rounds.{clash_lines, rounds_text}
@@ -54,6 +57,18 @@ pub record WritesRounds (S : Members) (text : List ℕ) (decided : Bool) : Type 
   pub cut : AreRounds S lines rounds
   pub text_is : text ≡ rounds_text rounds
   pub decided_is : decided ≡ is_decided lines rounds
+
+-- A set is cut into rounds by what clashes in it, and the check refuses one of them.
+pub record HasUnverifiedRound (S : Members) : Type 0 where
+  pub lines : List CheckFault
+  pub all : AreFaults S lines
+  pub round : ℕ
+  pub refused : HasRefusedRound S lines (NotVerified round)
+
+-- What holds of a set that isn't cut into rounds.
+abbrev pub IsUncut : Members → RoundsFault → Type 0
+IsUncut S (NotVerified k) = HasUnverifiedRound S
+IsUncut S OutOfMemory = ⊤
 
 -- A text begins as the line of an overlap, of a breach, or of a goal that is too large.
 abbrev pub BeginsAsClash : List ℕ → Type 0

@@ -1,16 +1,19 @@
 //! Runs of the rounds of a set, one after another and in one state.
-ghost use Rattle.std.specs.Prelude.{◌≡◌, ℕ, List, length, option_map, None, IfOk, IfSome, OnOk};
+ghost use Rattle.std.specs.Prelude.{◌≡◌, ℕ, false, List, length, option_map, None, IfErr, IfOk, IfSome, OnOk};
 ghost use Rattle.std.specs.List.{find};
 ghost use Rattle.hub_cert.specs.Set.{Members};
 ghost use Rattle.hub_cert.specs.declared.certificate.Certificate.{Certificate};
 ghost use Rattle.hub_search.specs.Faults.{AreFaults};
 ghost use Rattle.hub_state.specs.State.{State as StateValue};
+ghost use Rattle.hub_rounds.specs.Unverified as unverified;
+ghost use Rattle.hub_rounds.specs.Unverified.{RefusesRound};
 ghost use Rattle.hub_runner.specs.Working.{AreWorkers};
 ghost use Rattle.hub_report.specs.Report.{unread_by};
 ghost use Rattle.hub_serve.specs.ByRounds as spec;
 ghost use Rattle.hub_serve.specs.ByRounds.{HasRunByRounds, HaveRun, IsAdded, IsBegun, AddsRound};
-ghost use Rattle.hub_serve.specs.ByRounds.{RefusesWorkers};
+ghost use Rattle.hub_serve.specs.ByRounds.{RefusesOneOf, RefusesWorkers};
 ghost use Rattle.hub_serve.specs.Report.{IsToldOfSet};
+ghost use Rattle.hub_serve.specs.Rounds.{HasUnverifiedRound};
 ghost use Rattle.hub_serve.specs.declared.task.Task.TheVariants as task;
 
 use crate::progress::{Goals, Progress};
@@ -86,17 +89,38 @@ fn report_on_all<'a, T: Threads + Wait + Sync, P: Progress + Sync>(
     }
 }
 
-/// The answer with a run by rounds, or that a round wasn't verified. Tests show none but for lack of memory.
+/// The answer with a run by rounds, or that a round wasn't verified. Tests show no such round.
 fn report_on_run<'a>(run: Result<RoundsRun, CheckFault>) -> Report<'a>
     ensures told { (M : Members) (n : ℕ) (S : StateValue) → IfOk run (HasRunByRounds M n S)
+        → IfErr run (λ e. unverified.is_memory e ≡ false → HasUnverifiedRound M)
         → (cs : List Certificate) → IsToldOfSet (task.RunByRounds n S) M cs result }
     ensures read { unread_by result ≡ None }
 {
     match run {
         Ok(run) => Report::Run(RunAnswer::RanByRounds(run)),
-        Err(CheckFault::OutOfMemory) => Report::OutOfMemory,
-        Err(_) => Report::NotVerified,
+        Err(fault) => report_on_unverified(&fault),
     }
+}
+
+/// The answer that a round wasn't verified, unless memory is out.
+fn report_on_unverified<'a>(fault: &CheckFault) -> Report<'a>
+    ensures told { (M : Members) (n : ℕ) (S : StateValue)
+        → (unverified.is_memory fault.now ≡ false → HasUnverifiedRound M)
+        → (cs : List Certificate) → IsToldOfSet (task.RunByRounds n S) M cs result }
+    ensures read { unread_by result ≡ None }
+{
+    if is_memory(fault) {
+        Report::OutOfMemory
+    } else {
+        Report::NotVerified
+    }
+}
+
+/// Whether memory is out.
+fn is_memory(fault: &CheckFault) -> bool
+    ensures { result ≡ unverified.is_memory fault.now }
+{
+    matches!(fault, CheckFault::OutOfMemory)
 }
 
 /// Runs rounds one after another, until a job isn't finished or a round isn't run. None is run if there are no workers or too
@@ -109,7 +133,8 @@ fn run_rounds<T: Threads + Wait + Sync, P: Progress + Sync>(
     workers: u8,
     progress: &P,
 ) -> Result<RoundsRun, CheckFault>
-    ensures { IfOk result (HaveRun rounds.rules workers state rounds.rounds) }
+    ensures run { IfOk result (HaveRun rounds.rules workers state rounds.rounds) }
+    ensures refused { IfErr result (RefusesOneOf rounds.rules rounds.rounds) }
 {
     let Rounds { rounds, rules, .. } = rounds;
     let mut run = RoundsRun {
@@ -155,7 +180,8 @@ fn run_each<T: Threads + Wait + Sync, P: Progress + Sync>(
 ) -> Result<(), CheckFault>
     requires workers { AreWorkers workers }
     requires begun { IsBegun (length rounds.items) run.old }
-    ensures { OnOk result (HaveRun rules workers run.old.state rounds.items run.new) }
+    ensures run { OnOk result (HaveRun rules workers run.old.state rounds.items run.new) }
+    ensures refused { IfErr result (RefusesOneOf rules rounds.items) }
 {
     let mut rules = rules;
     for profiles in rounds {
@@ -179,6 +205,7 @@ fn run_round<T: Threads + Wait + Sync, P: Progress + Sync>(
 ) -> Result<Rules, CheckFault>
     ensures rules { IfOk result (λ r. r ≡ rules) }
     ensures step { OnOk result (AddsRound rules profiles workers run.old run.new) }
+    ensures refused { IfErr result (RefusesRound (record { profiles = profiles; rules = rules })) }
 {
     let set = ProfileSet::new(alloc, profiles, rules)?;
     run_made(rt, alloc, &set, workers, progress, run)?;
@@ -195,7 +222,9 @@ fn run_made<T: Threads + Wait + Sync, P: Progress + Sync>(
     progress: &P,
     run: &mut RoundsRun,
 ) -> Result<(), CheckFault>
-    ensures { OnOk result (AddsRound set.now.rules set.now.profiles workers run.old run.new) }
+    ensures step { OnOk result
+        (AddsRound set.now.rules set.now.profiles workers run.old run.new) }
+    ensures refused { IfErr result (RefusesRound set.now) }
 {
     let verified = check_with_progress(alloc, set, &Goals { progress })?;
     let attempt = run_jobs(rt, alloc, &verified, &run.state, workers, progress)?;

@@ -1,11 +1,11 @@
 //! What clashes in a set, and its rounds.
-ghost use Rattle.std.specs.Prelude.{◌≡◌, List, None, IfOk, string_bytes};
+ghost use Rattle.std.specs.Prelude.{◌≡◌, List, None, IfErr, IfOk, string_bytes};
 ghost use Rattle.std.specs.List.{list_any};
 ghost use Rattle.hub_cert.specs.declared.certificate.Certificate.{Certificate};
 ghost use Rattle.hub_report.specs.Report.{unread_by};
 ghost use Rattle.hub_serve.specs.Report as report;
 ghost use Rattle.hub_serve.specs.Rounds as rounds;
-ghost use Rattle.hub_serve.specs.Rounds.{DrawsClashes, WritesRounds};
+ghost use Rattle.hub_serve.specs.Rounds.{DrawsClashes, IsUncut, WritesRounds};
 ghost use Rattle.hub_serve.specs.declared.task.Task.TheVariants as task;
 
 use hub_cert::{CheckFault, ProfileSet};
@@ -68,7 +68,8 @@ pub fn report_on_rounds<'a>(alloc: Global, set: ProfileSet) -> Report<'a>
 
 /// Cuts a set into rounds.
 fn cut(alloc: Global, set: ProfileSet) -> Result<Cut, RoundsFault>
-    ensures { IfOk result (λ c. WritesRounds set (string_bytes c.text) c.decided) }
+    ensures cut { IfOk result (λ c. WritesRounds set (string_bytes c.text) c.decided) }
+    ensures uncut { IfErr result (IsUncut set) }
 {
     let clashes = clashes_of(alloc, &set)?;
     let undecided = undecided_pairs(alloc, &set, &clashes)?;

@@ -18,6 +18,8 @@
 //! - `run WORKERS`: what the jobs leave that run at the same time (`runs`).
 //! - `meet POINT WORKERS`: how many of two jobs come to a point of their first steps (`before`, `within` or `after`), how many of
 //!   them wait there for the other one in vain (`meeting`), and what they leave.
+//! - `inside WORKERS`: how many of two jobs are within their first steps at the same time at most, at one desk (`inside`), and what
+//!   they leave.
 //! - `crowd WORKERS`: how many jobs make a step at the same time, at most (`crowd`), and what the jobs leave.
 //! - `row WORKERS`: how many steps a job makes in a row at most (`row`), and what the jobs leave.
 //! - `watch WORKERS`: how a gate is called for each job (`watch`), and what the jobs leave, with their logs.
@@ -27,6 +29,7 @@
 mod changes;
 mod crowd;
 mod desks;
+mod inside;
 mod meeting;
 mod row;
 mod runs;

@@ -1,6 +1,7 @@
 //! Jobs that run at the same time.
 
 use crate::crowd::Crowd;
+use crate::inside::Inside;
 use crate::meeting::{Meeting, Point};
 use crate::row::Row;
 use crate::watch::Watch;
@@ -33,6 +34,8 @@ enum Asked {
     Often { count: usize },
     /// How many of two jobs come to their first steps, how many of them wait for the other one in vain, and what they leave.
     Meeting { point: Point },
+    /// How many of two jobs are within their first steps at the same time at most, and what they leave.
+    Inside,
     /// How many jobs make a step at the same time at most, and what the jobs leave.
     Crowd,
     /// How many steps a job makes in a row at most, and what the jobs leave.
@@ -63,6 +66,7 @@ impl Asked {
             "meet" => Ok(Asked::Meeting {
                 point: Point::read(field)?,
             }),
+            "inside" => Ok(Asked::Inside),
             "crowd" => Ok(Asked::Crowd),
             "row" => Ok(Asked::InARow),
             "watch" => Ok(Asked::Watched),
@@ -134,6 +138,7 @@ impl<'a, 's, R: Threads + Wait + Sync> Jobs<'a, 's, R> {
             Asked::Once => self.run_text(&Open),
             Asked::Often { count } => self.runs_text(count),
             Asked::Meeting { point } => self.meeting_text(point),
+            Asked::Inside => self.inside_text(),
             Asked::Crowd => self.crowd_text(),
             Asked::InARow => self.row_text(),
             Asked::Watched => self.watched_text(),
@@ -168,6 +173,12 @@ impl<'a, 's, R: Threads + Wait + Sync> Jobs<'a, 's, R> {
         let gate = Meeting::new(point, self.workers);
         let text = self.run_text(&gate)?;
         Ok(format!(in self.alloc; "{} came, {} late, {text}", gate.came(), gate.late())?)
+    }
+
+    fn inside_text(&self) -> Result<String> {
+        let gate = Inside::new(self.workers);
+        let text = self.run_text(&gate)?;
+        Ok(format!(in self.alloc; "{} at a time, {text}", gate.most())?)
     }
 
     fn crowd_text(&self) -> Result<String> {

@@ -1,11 +1,13 @@
-use Rattle.std.proofs.Common.{IfOk, inr, refl, subst}
+use Rattle.std.proofs.Common.{◌≡◌, IfErr, IfOk, false, refl, subst}
+use Rattle.hub_rounds.specs.Unverified.{is_memory}
 use Rattle.hub_serve.specs.ByRounds.{HasRunByRounds}
+use Rattle.hub_serve.specs.Rounds.{HasUnverifiedRound}
 use Rattle.hub_serve.proofs.by_rounds.report_on_run.Goals as goal
 
 pub returns-in-Ok-clause-told : goal.returns-in-Ok-clause-told
-returns-in-Ok-clause-told c = λ M n S h cs.
+returns-in-Ok-clause-told c = λ M n S h no cs.
     record { workers = n; state = S; task_is = refl; run = subst (λ r. IfOk r (HasRunByRounds M n S)) c.in-Ok.is h }
 
--- a round wasn't verified
-pub returns : goal.returns
-returns c = record { told = λ M n S h cs. inr (n, S, refl); read = refl }
+pub returns-in-Err-clause-told : goal.returns-in-Err-clause-told
+returns-in-Err-clause-told c = λ M n S h no cs.
+    c.report_on_unverified.ensures.told M n S (subst (λ r. IfErr r (λ e. is_memory e ≡ false → HasUnverifiedRound M)) c.in-Err.is no) cs

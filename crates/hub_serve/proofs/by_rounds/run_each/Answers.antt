@@ -20,7 +20,8 @@ returns-then-not-run g c =
     let t = YieldsList-turn (YieldsList-from_vec {s = c.into_iter-profiles-iterator.result} rounds c.into_iter-profiles-iterator.ensures.into_iter_gives.0 (c.into_iter-profiles-iterator.ensures.into_iter_gives.1 ∙ c.args.rounds.ok.0)) c.loop-profiles.yielded c.loop-profiles.profiles-iterator c.loop-profiles.yielded_by c.next.result c.next.new.self c.in-Some.profiles c.in-Some.is c.next.ensures.steps in
     let at = slice_get_read rounds _ many c.in-Some.profiles refl t.0 t.1 in
     let step = subst (λ (Rs : List Rule). AddsRound Rs c.in-Some.profiles c.args.workers c.loop-profiles.run c.run_round.new.run) c.loop-profiles.invariant.0 c.in_ok-rules.ensures.step in
-    stopped c.args.rules c.args.workers c.args.run.now.state rounds many c.in-Some.profiles c.loop-profiles.run c.run_round.new.run c.requires.workers c.loop-profiles.invariant.1 at step c.if-not-run.true
+    let run = stopped c.args.rules c.args.workers c.args.run.now.state rounds many c.in-Some.profiles c.loop-profiles.run c.run_round.new.run c.requires.workers c.loop-profiles.invariant.1 at step c.if-not-run.true in
+    record { run = run; refused = tt }
 
 pub loop-profiles-preserved : goal.loop-profiles-preserved
 loop-profiles-preserved g c =
@@ -38,5 +39,6 @@ pub returns : goal.returns
 returns g c =
     let rounds = c.args.rounds.items in
     let all = YieldsList-end (YieldsList-from_vec {s = c.into_iter-profiles-iterator.result} rounds c.into_iter-profiles-iterator.ensures.into_iter_gives.0 (c.into_iter-profiles-iterator.ensures.into_iter_gives.1 ∙ c.args.rounds.ok.0)) c.loop-profiles.yielded c.loop-profiles.profiles-iterator c.loop-profiles.yielded_by c.next.result c.next.new.self c.in-None.is c.next.ensures.steps in
-    ended c.args.rules c.args.workers c.args.run.now.state rounds (length c.loop-profiles.yielded) c.loop-profiles.run c.requires.workers c.loop-profiles.invariant.1
-    (ap (λ (xs : List (List Parts)). length xs) (sym (map-id c.loop-profiles.yielded) ∙ all.0))
+    let run = ended c.args.rules c.args.workers c.args.run.now.state rounds (length c.loop-profiles.yielded) c.loop-profiles.run c.requires.workers c.loop-profiles.invariant.1
+    (ap (λ (xs : List (List Parts)). length xs) (sym (map-id c.loop-profiles.yielded) ∙ all.0)) in
+    record { run = run; refused = tt }

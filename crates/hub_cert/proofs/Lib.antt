@@ -31,3 +31,4 @@ pub mod Verifying
 pub mod StageLists
 pub mod TextBuffer
 pub mod Walks
+pub mod KeptValues

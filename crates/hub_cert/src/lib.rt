@@ -6,6 +6,7 @@
 //! - [`Certificate`]: a goal and a list of texts, its [`StageTexts`]. It rules the goal out if the list is inductive.
 //! - [`verify`]: checks certificates, and returns the set as a [`Verified`], whose type says that the set is safe.
 //! - [`Verifier`]: checks the texts of one goal after another, so that a set can be verified with one goal's texts at a time.
+//! - [`safe_by_values`]: returns a set as a [`Verified`] if the kept values of its profiles alone rule out each goal.
 //! - [`read_certificates`] and [`write_certificates`]: the text of certificates, which docs/CERTIFICATES.md describes.
 //! - [`Product`]: the automaton of a goal, whose state is a [`GoalStage`]. [`walker_of`], [`rule_set_of`] and [`forbidden_to`]
 //!   make its parts.
@@ -13,7 +14,7 @@
 //! - [`laws`]: what the crates above may conclude.
 //!
 //! The contracts use the words of `specs/Set`, `specs/Goals`, `specs/Aim` (what a goal asks, and its stages),
-//! `specs/Inductive`, `specs/Verdict` (what `verify` answers) and `specs/Reading`.
+//! `specs/Inductive`, `specs/Apart` (what kept values alone rule out), `specs/Verdict` (what `verify` answers) and `specs/Reading`.
 //!
 //! Only functions that return a `Result` allocate. No crate above calls [`Product`]: it is for other programs.
 //!
@@ -28,6 +29,7 @@
 //! From `test_checker/src/sets.rt`.
 #![tactic(auto)]
 
+mod apart;
 mod certificate;
 mod draft;
 mod fault;
@@ -54,6 +56,7 @@ mod view;
 mod walked;
 mod writing;
 
+pub use apart::safe_by_values;
 pub use certificate::{Certificate, StageText};
 pub use fault::CheckFault;
 pub use forbidden::{Forbidden, forbidden_to};

@@ -17,3 +17,4 @@ pub mod MentionLaws
 pub mod WalkLaws
 pub mod PrefixLaws
 pub mod Between
+pub mod Apart

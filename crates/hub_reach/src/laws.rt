@@ -6,6 +6,7 @@ ghost use Rattle.std.specs.declared.cmp.Ordering.TheVariants.{Equal};
 ghost use Rattle.hub_path.specs.Path.{Path, is_over, is_path, path_of};
 ghost use Rattle.hub_automaton.specs.Alphabet.{IsAlphabet, class_of, is_path_character};
 ghost use Rattle.hub_profile.specs.Parts.{Parts, IsProfile};
+ghost use Rattle.hub_reach.specs.Apart.{are_near};
 ghost use Rattle.hub_reach.specs.Mention.{Mentions};
 ghost use Rattle.hub_profile.specs.declared.verb.Verb.{Verb};
 ghost use Rattle.hub_reach.specs.Reach.{may_at, reach};
@@ -35,6 +36,13 @@ pub fn walks_are_reach()
 pub fn what_is_between_is_reached()
     ensures { (P : Parts) (x y : Path) → IsProfile P → IsTrue (reach P y) → IsTrue (is_over x y)
         → list_any (λ s. is_over s x) P.paths ≡ true → IsTrue (is_path x) → IsTrue (reach P x) }
+{}
+
+/// Where no kept value of one profile is over one of another, or the other way round, nothing that the first one reaches is over
+/// something that the other one reaches, whatever is ignored.
+pub fn values_apart_reach_apart()
+    ensures { (P Q : Parts) (p q : Path) → are_near P.paths Q.paths ≡ false → IsTrue (is_over p q)
+        → IsTrue (reach P p) → IsTrue (reach Q q) → ⊥ }
 {}
 
 /// The path of a text is a path exactly when the text's shape is `Named`.

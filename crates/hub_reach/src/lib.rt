@@ -7,6 +7,7 @@
 //!   alphabet, and [`mention_each`] those of paths, specifications, profiles or rules.
 //! - [`Table`] numbers the stages of a walker as they are found, and remembers the steps between them. [`SpecTable`] does
 //!   the same for the states of some specifications.
+//! - [`are_near`] says whether kept values lie over one another.
 //! - [`laws`]: what the crates above may conclude of stages and of reach.
 //!
 //! Only functions that return a `Result` allocate. No crate above calls `Stage::row_len`: it is for measurements. The contracts
@@ -21,6 +22,7 @@
 //! From `test_reach/src/numbers.rt`.
 #![tactic(auto)]
 
+mod apart;
 mod known;
 pub mod laws;
 mod mentioning;
@@ -37,6 +39,7 @@ mod verbs;
 mod walker;
 mod walker_ends;
 
+pub use apart::are_near;
 pub use mentioning::{Mentioning, mention_each};
 pub use mentions::mention;
 pub use reach::reaches;

@@ -1,0 +1,15 @@
+use Rattle.std.proofs.Common.{◌∙◌, ap, sym}
+use Rattle.std.specs.Prelude.{slice_get}
+use Rattle.hub_cert.specs.Apart.{is_apart_goal}
+use Rattle.hub_cert.proofs.KeptValues.{no-breach}
+use Rattle.hub_cert.proofs.apart.is_apart.Goals as goal
+
+pub returns-in-Clash : goal.returns-in-Clash
+returns-in-Clash c =
+    let S = c.args.set.now in
+    c.is_apart_clash.ensures S (sym c.profiles.ensures.value) ∙ ap (is_apart_goal S) (sym c.in-Clash.is)
+
+pub returns-in-Breach : goal.returns-in-Breach
+returns-in-Breach c =
+    let S = c.args.set.now in
+    sym (ap (is_apart_goal S) c.in-Breach.is ∙ no-breach (slice_get S.profiles c.in-Breach.profile) (slice_get S.rules c.in-Breach.rule))

@@ -4,15 +4,16 @@ use Rattle.std.proofs.lemmas.List.{get_or-map, length-map}
 use Rattle.std.proofs.lemmas.List.Elements.{Contains-get_or}
 use Rattle.std.specs.List.{Contains}
 use Rattle.hubsync.specs.Bundled.{Label}
-use Rattle.hubsync.specs.Named.{IsUnread, IsUnserved}
+use Rattle.hubsync.specs.Named.{IsUnreadFile, IsUnserved}
+use Rattle.hubsync.specs.Reading.{Reads}
 use Rattle.hubsync.specs.declared.files.Unserved.{Unserved}
 use Rattle.hubsync.specs.declared.files.Unserved.TheVariants.{File, OutOfMemory}
 
 -- a file that is named and wasn't read
-pub unserved : (labels : List Label) (label : Label) (u : Unserved) → Contains labels label → IsUnread label u
-    → IsUnserved labels u
-unserved labels label (File file why) named is = (label, named, is)
-unserved labels label OutOfMemory named is = tt
+pub unserved : (reads : Reads) (labels : List Label) (label : Label) (u : Unserved) → Contains labels label → IsUnreadFile reads label u
+    → IsUnserved reads labels u
+unserved reads labels label (File file fault) named is = (label, named, is.0, is.1)
+unserved reads labels label OutOfMemory named is = tt
 
 pub Contains-map_at : {X Y : Type 0} (f : X → Y) (xs : List X) (i : ℕ) (d : X) → i < length xs → Contains (map f xs) (f (get_or xs i d))
 Contains-map_at f xs i d lt =

@@ -1,5 +1,5 @@
 -- What is answered over files.
-use Rattle.std.specs.Prelude.{◌≡◌, ◌⊎◌, ◌++◌, ℕ, Bool, List, [], ◌∷◌, Option, Some, None, IfSome, codes, map}
+use Rattle.std.specs.Prelude.{◌≡◌, ◌⊎◌, ◌++◌, ℕ, Bool, false, true, List, [], ◌∷◌, Option, Some, None, is_some, codes, map}
 use Rattle.std.specs.List.{All, Contains, slice_get}
 use Rattle.hub_cli.specs.Words.{Names, Request}
 use Rattle.hub_files.specs.Files.{bundle_of, first_faulty, part_fault}
@@ -8,8 +8,10 @@ use Rattle.hub_files.specs.declared.part.Kind.TheVariants.{Profile, Rules, State
 use Rattle.hub_files.specs.declared.part.Part.{Part}
 use Rattle.hub_files.specs.declared.part.PartFault.{PartFault}
 use Rattle.hub_files.specs.declared.part.PartFault.TheVariants.{BadName, HasHeading}
-use Rattle.hub_serve.specs.Reads.{Reads}
+use Rattle.hub_serve.specs.Reads.{Reads as InputReads}
 use Rattle.hub_serve.specs.Report.{AnswersNothing, Serves, WritesText}
+use Rattle.hubsync.specs.Reading.{HasBytes, HasFault, Reads, fault_word}
+use Rattle.hubsync.specs.declared.reader.ReadFault.{ReadFault}
 
 -- The line that says what is wrong with a file.
 abbrev pub file_fault_line : List ℕ → List ℕ → List ℕ
@@ -24,21 +26,23 @@ WritesFault file reason old new failed status =
     WritesText old new (file_fault_line file reason) 2 failed status
     ⊎ WritesText old new memory_line 2 failed status
 
--- It was written that a read of this file failed, that its reads were spent, or that memory is out.
-abbrev pub WritesUnread : List ℕ → Option (List ℕ) → Option (List ℕ) → Bool → ℕ → Type 0
-WritesUnread file old new failed status =
-    WritesFault file (codes "ReadFailed") old new failed status
-    ⊎ WritesFault file (codes "TurnsSpent") old new failed status
+-- What is wrong with this file was written, or that memory is out.
+abbrev pub WritesUnread : Reads → List ℕ → Option (List ℕ) → Option (List ℕ) → Bool → ℕ → Type 0
+WritesUnread reads file old new failed status =
+    (fault : ReadFault) × HasFault reads file fault
+    × WritesFault file (fault_word fault) old new failed status
 
--- The answer is given over the bundle that the files make, with some reads of it.
-abbrev pub ServesBundle : Option Request → List Part → Option (List ℕ) → Option (List ℕ) → Bool → ℕ
-    → Type 0
-ServesBundle asked parts old new failed status =
-    (reads : Reads) × Serves asked (Some (bundle_of parts)) old new reads failed status
+-- The answer is given over the bundle that the files make, from its first read to its last.
+pub record ServesBundle (asked : Option Request) (parts : List Part) (old new : Option (List ℕ))
+    (failed : Bool) (status : ℕ) : Type 0 where
+  pub reads : InputReads
+  pub begins : reads.before ≡ 0
+  pub unmet : reads.was_at_end ≡ false
+  pub serves : Serves asked (Some (bundle_of parts)) old new reads failed status
 
 -- The answer is given over an input, or it was written that memory is out.
 abbrev pub ServesInput : Option Request → Option (List ℕ) → Option (List ℕ) → Option (List ℕ)
-    → Reads → Bool → ℕ → Type 0
+    → InputReads → Bool → ℕ → Type 0
 ServesInput asked remaining old new reads failed status =
     Serves asked remaining old new reads failed status
     ⊎ WritesText old new memory_line 2 failed status
@@ -94,33 +98,29 @@ labels names =
     ++ (label_if Rules names.rules
     ++ (label_if State names.state ++ label_if Certificates names.certificates))
 
--- The bytes of files by their paths, where they are known.
-abbrev pub Contents : Type 0
-Contents = List ℕ → Option (List ℕ)
-
 -- The path of a section's file, and its bytes.
 abbrev pub bytes_of : Part → List ℕ × List ℕ
 bytes_of p = (p.file.now, p.bytes.now)
 
 -- These are the bytes of the file of this path, if they are known.
-abbrev pub HasContents : Contents → List ℕ × List ℕ → Type 0
-HasContents contents file = IfSome (contents file.0) (λ bytes. file.1 ≡ bytes)
+abbrev pub HasContents : Reads → List ℕ × List ℕ → Type 0
+HasContents reads file = HasBytes reads file.0 file.1
 
 -- The answer is given over the bytes of each of the files that are named and of no other ones, each
--- in the section that it is for. Or it was written that one of them wasn't read, or that memory is
--- out.
-abbrev pub ServesFiles : Contents → Option Request → Names → Option (List ℕ) → Option (List ℕ)
+-- in the section that it is for. Or it was written what is wrong with one of them, or that memory
+-- is out.
+abbrev pub ServesFiles : Reads → Option Request → Names → Option (List ℕ) → Option (List ℕ)
     → Bool → ℕ → Type 0
-ServesFiles contents asked names old new failed status =
+ServesFiles reads asked names old new failed status =
     ((parts : List Part) × (map label_of parts ≡ labels names)
-    × All (HasContents contents) (map bytes_of parts)
+    × All (HasContents reads) (map bytes_of parts)
     × ServesParts asked parts old new failed status)
-    ⊎ (((label : Label) × Contains (labels names) label × WritesUnread label.1 old new failed status)
+    ⊎ (((label : Label) × Contains (labels names) label
+    × WritesUnread reads label.1 old new failed status)
     ⊎ WritesText old new memory_line 2 failed status)
 
--- The same, or nothing is answered, since the words ask for nothing.
-abbrev pub ServesNamed : Contents → Option Request → Names → Option (List ℕ) → Option (List ℕ)
-    → Bool → ℕ → Type 0
-ServesNamed contents asked names old new failed status =
-    ServesFiles contents asked names old new failed status
-    ⊎ ((asked ≡ None) × AnswersNothing old new status)
+-- This is so if the words ask for something. Else nothing is answered.
+pub record ServesNamed (reads : Reads) (asked : Option Request) (names : Names)
+    (old new : Option (List ℕ)) (failed : Bool) (status : ℕ) : Type 0 where
+  pub served : is_some asked ≡ true → ServesFiles reads asked names old new failed status
+  pub nothing : asked ≡ None → AnswersNothing old new status

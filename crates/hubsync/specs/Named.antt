@@ -6,6 +6,7 @@ use Rattle.hubsync.specs.declared.files.Named.{Named}
 use Rattle.hubsync.specs.declared.files.Unserved.{Unserved}
 use Rattle.hubsync.specs.declared.files.Unserved.TheVariants.{File, OutOfMemory}
 use Rattle.hubsync.specs.Bundled.{Label}
+use Rattle.hubsync.specs.Reading.{HasFault, Reads}
 
 abbrev pub label_named : Named → Label
 label_named n = (n.kind, n.file.now)
@@ -18,11 +19,13 @@ abbrev pub bytes_held : Held → List ℕ × List ℕ
 bytes_held h = (h.file.now, h.bytes.items)
 
 -- What wasn't read is this file.
-abbrev pub IsUnread : Label → Unserved → Type 0
-IsUnread label (File file why) = label.1 ≡ file.now
-IsUnread label OutOfMemory = Unit {0}
+abbrev pub IsUnreadFile : Reads → Label → Unserved → Type 0
+IsUnreadFile reads label (File file fault) = (label.1 ≡ file.now) × HasFault reads file.now fault
+IsUnreadFile reads label OutOfMemory = Unit {0}
 
 -- What wasn't read is one of these files.
-abbrev pub IsUnserved : List Label → Unserved → Type 0
-IsUnserved labels (File file why) = (label : Label) × Contains labels label × (label.1 ≡ file.now)
-IsUnserved labels OutOfMemory = Unit {0}
+abbrev pub IsUnserved : Reads → List Label → Unserved → Type 0
+IsUnserved reads labels (File file fault) =
+    (label : Label) × Contains labels label × (label.1 ≡ file.now)
+    × HasFault reads file.now fault
+IsUnserved reads labels OutOfMemory = Unit {0}

@@ -2,13 +2,14 @@
 ghost use Rattle.std.specs.Prelude.{◌≡◌, ◌++◌, false, map, option_map, string_bytes, IfErr, IfOk, OnOk};
 ghost use Rattle.std.specs.List.{All};
 ghost use Rattle.hub_cli.specs.Words.{asked_of, names_of};
-ghost use Rattle.hubsync.specs.Bundled.{HasContents, ServesFiles, WritesUnread, bytes_of, label_if, label_of, labels};
+ghost use Rattle.hubsync.specs.Bundled.{HasContents, ServesFiles, WritesFault, bytes_of, label_if, label_of, labels};
 ghost use Rattle.hub_files.specs.declared.part.Kind.TheVariants.{Profile};
-ghost use Rattle.hubsync.specs.Named.{IsUnread, IsUnserved, bytes_held, label_held, label_named};
+ghost use Rattle.hubsync.specs.Named.{IsUnreadFile, IsUnserved, bytes_held, label_held, label_named};
+ghost use Rattle.hubsync.specs.Reading.{fault_word};
 
 use crate::bundled::{serve_parts, write_fault, write_memory};
 use crate::kept::Kept;
-use crate::reader::{FileReader, Unread};
+use crate::reader::{FileReader, ReadFault, Unread};
 use crate::served::{Answered, Seen};
 use hub_cli::Files;
 use hub_files::{Kind, Part};
@@ -37,8 +38,8 @@ struct Held<'a> {
 
 /// Why nothing is answered over the files.
 enum Unserved<'a> {
-    /// This file wasn't read.
-    File(&'a str, Unread),
+    /// This is wrong with this file.
+    File(&'a str, ReadFault),
     /// Out of memory.
     OutOfMemory,
 }
@@ -71,14 +72,16 @@ pub fn serve_files<
     seen: &Seen,
 ) -> Answered
     requires { output.old.failed ≡ false }
-    ensures { ServesFiles (F.contents reader.now) (asked_of (map string_bytes words.now))
+    ensures { ServesFiles (F.reads reader.now) (asked_of (map string_bytes words.now))
         (names_of files.now)
         (W.contents output.old.device.device) (W.contents output.new.device.device)
         output.new.failed result.status }
 {
     match serve_named(rt, words, files, reader, output, seen) {
         Ok(answered) => answered,
-        Err(Unserved::File(file, why)) => Answered::plain(write_unread(rt, file, why, output)),
+        Err(Unserved::File(file, fault)) => {
+            Answered::plain(write_unread(rt, file, fault, output))
+        }
         Err(Unserved::OutOfMemory) => Answered::plain(write_memory(output)),
     }
 }
@@ -98,11 +101,11 @@ fn serve_named<
     seen: &Seen,
 ) -> Result<Answered, Unserved<'a>>
     requires { output.old.failed ≡ false }
-    ensures served { IfOk result (λ a. ServesFiles (F.contents reader.now)
+    ensures served { IfOk result (λ a. ServesFiles (F.reads reader.now)
         (asked_of (map string_bytes words.now)) (names_of files.now)
         (W.contents output.old.device.device) (W.contents output.new.device.device)
         output.new.failed a.status) }
-    ensures named { IfErr result (IsUnserved (labels (names_of files.now))) }
+    ensures named { IfErr result (IsUnserved (F.reads reader.now) (labels (names_of files.now))) }
     ensures unread { IfErr result (λ _. output.new.failed ≡ false) }
     ensures silent { IfErr result (λ _. W.contents output.new.device.device
         ≡ W.contents output.old.device.device) }
@@ -162,8 +165,8 @@ fn read_all<'a, F: FileReader>(
 ) -> Result<Vec<Held<'a>>, Unserved<'a>>
     ensures labels { IfOk result (λ v. map label_held v.items ≡ map label_named named.now) }
     ensures bytes { IfOk result
-        (λ v. All (HasContents (F.contents reader.now)) (map bytes_held v.items)) }
-    ensures err { IfErr result (IsUnserved (map label_named named.now)) }
+        (λ v. All (HasContents (F.reads reader.now)) (map bytes_held v.items)) }
+    ensures err { IfErr result (IsUnserved (F.reads reader.now) (map label_named named.now)) }
 {
     let mut held = Vec::new(alloc);
     for name in named {
@@ -182,14 +185,14 @@ fn read_one<'a, F: FileReader>(
     named: Named<'a>,
 ) -> Result<Held<'a>, Unserved<'a>>
     ensures label { IfOk result (λ h. label_held h ≡ label_named named.entry) }
-    ensures bytes { IfOk result (λ h. HasContents (F.contents reader.now) (bytes_held h)) }
-    ensures err { IfErr result (IsUnread (label_named named.entry)) }
+    ensures bytes { IfOk result (λ h. HasContents (F.reads reader.now) (bytes_held h)) }
+    ensures err { IfErr result (IsUnreadFile (F.reads reader.now) (label_named named.entry)) }
 {
     let Named { kind, file } = named;
     match reader.read_file(alloc, file) {
         Ok(bytes) => Ok(Held { kind, file, bytes }),
+        Err(Unread::File(fault)) => Err(Unserved::File(file, fault)),
         Err(Unread::OutOfMemory) => Err(Unserved::OutOfMemory),
-        Err(why) => Err(Unserved::File(file, why)),
     }
 }
 
@@ -214,30 +217,29 @@ fn paths_of<'a>(alloc: Global, named: &[Named<'a>]) -> Result<Vec<&'a str>, Allo
     named.iter().map(|name| name.file).collect(alloc)
 }
 
-/// Says why a file wasn't read, and with the system's words on standard error. If that fails too, there is nobody left to tell.
+/// Says what is wrong with a file, and with the system's words on standard error. If that fails too, there is nobody left to tell.
 fn write_unread<T: AllocGlobal + Eprint, W: Write>(
     rt: &T,
     file: &str,
-    why: Unread,
+    fault: ReadFault,
     output: &mut Watched<Kept<'_, W>>,
 ) -> u8
     requires { output.old.failed ≡ false }
-    ensures { WritesUnread file.now
+    ensures { WritesFault file.now (fault_word fault)
         (W.contents output.old.device.device) (W.contents output.new.device.device)
         output.new.failed result }
 {
-    match why {
-        Unread::ReadFailed(error) => {
+    match fault {
+        ReadFault::ReadFailed(error) => {
             let status = write_fault(rt.alloc(), file, "ReadFailed", output);
             say_unread(rt, file, error);
             status
         }
-        Unread::TurnsSpent => {
+        ReadFault::TurnsSpent => {
             let status = write_fault(rt.alloc(), file, "TurnsSpent", output);
             let _ = eprintln!(rt; "hubsync: {file} has no end, as far as it was read");
             status
         }
-        Unread::OutOfMemory => write_memory(output),
     }
 }
 

@@ -15,11 +15,12 @@ mod reader;
 mod served;
 mod terminal;
 
-ghost use Rattle.std.specs.Prelude.{◌≡◌, ◌⊎◌, false, map, string_bytes, true};
-ghost use Rattle.hub_cli.specs.Words.{are_none, asked_of, files_of, is_strict_of};
+ghost use Rattle.std.specs.Prelude.{◌≡◌, false, map, string_bytes, IfErr, IfOk};
+ghost use Rattle.std.specs.Process.{exit_status};
 ghost use Rattle.hub_serve.specs.Reads.{reads_between};
-ghost use Rattle.hubsync.specs.Bundled.{ServesInput, ServesNamed};
-ghost use Rattle.hubsync.specs.Strict.{Strictly};
+ghost use Rattle.hub_serve.specs.Report.{AnswersNothing};
+ghost use Rattle.hubsync.specs.Process.{AnswersWords};
+ghost use Rattle.hubsync.specs.Strict.{strict_status_of};
 
 use crate::bundled::write_memory;
 use crate::files::serve_files;
@@ -42,24 +43,54 @@ fn main(rt: HostRuntime) -> ExitCode {
     let mut input = Watched::new(Kept::new(rt.reader(), &seen.input));
     let mut output = Watched::new(Kept::new(io::writer(&rt), &seen.output));
     let is_terminal = rt.stdin().is_terminal();
-    let status = match arguments(&rt) {
-        Ok(words) => answer(
-            &rt,
-            words.as_slice(),
-            is_terminal,
-            &SystemFiles::new(&rt),
-            &mut input,
-            &mut output,
-            &seen,
-        ),
-        Err(error) => serve_process(&rt, Err(error), &mut input, &mut output, &NoProgress),
-    };
-    ExitCode::from(status)
+    run(
+        &rt,
+        arguments(&rt),
+        is_terminal,
+        &SystemFiles::new(&rt),
+        &mut input,
+        &mut output,
+        &seen,
+    )
 }
 
 /// The words that the process was started with, of which the first is the program's name.
 fn arguments<R: AllocGlobal + Env>(rt: &R) -> io::Result<Vec<String>> {
     Ok(env::args(rt)?.collect(rt.alloc())?)
+}
+
+/// Does what the process does between its words and its exit status, over any files, reader and writer.
+fn run<T: AllocGlobal + Clock + Eprint + Threads + Wait + Sync, F: FileReader, R: Read, W: Write>(
+    rt: &T,
+    words: io::Result<Vec<String>>,
+    is_terminal: bool,
+    reader: &F,
+    input: &mut Watched<Kept<'_, R>>,
+    output: &mut Watched<Kept<'_, W>>,
+    seen: &Seen,
+) -> ExitCode
+    requires input { input.old.failed ≡ false }
+    requires output { output.old.failed ≡ false }
+    ensures read { IfOk words (λ v. AnswersWords (F.reads reader.now) (map string_bytes v.items)
+        (R.remaining input.old.device.device) (W.contents output.old.device.device)
+        (W.contents output.new.device.device)
+        (reads_between input.old input.new) output.new.failed (exit_status result)) }
+    ensures unread { IfErr words (λ _. AnswersNothing (W.contents output.old.device.device)
+        (W.contents output.new.device.device) (exit_status result)) }
+{
+    let status = match words {
+        Ok(words) => answer(
+            rt,
+            words.as_slice(),
+            is_terminal,
+            reader,
+            input,
+            output,
+            seen,
+        ),
+        Err(error) => serve_process(rt, Err(error), input, output, &NoProgress),
+    };
+    ExitCode::from(status)
 }
 
 /// Answers over the files that the words name, or over standard input if they name none. If the words ask for it by `--strict`,
@@ -80,18 +111,10 @@ fn answer<
 ) -> u8
     requires input { input.old.failed ≡ false }
     requires output { output.old.failed ≡ false }
-    ensures input { are_none (files_of (map string_bytes words.now)) ≡ true
-        → Strictly (is_strict_of (map string_bytes words.now))
-        (ServesInput (asked_of (map string_bytes words.now))
+    ensures { AnswersWords (F.reads reader.now) (map string_bytes words.now)
         (R.remaining input.old.device.device) (W.contents output.old.device.device)
         (W.contents output.new.device.device)
-        (reads_between input.old input.new) output.new.failed) result }
-    ensures files { are_none (files_of (map string_bytes words.now)) ≡ false
-        → Strictly (is_strict_of (map string_bytes words.now))
-        (ServesNamed (F.contents reader.now) (asked_of (map string_bytes words.now))
-        (files_of (map string_bytes words.now))
-        (W.contents output.old.device.device) (W.contents output.new.device.device)
-        output.new.failed) result }
+        (reads_between input.old input.new) output.new.failed result }
 {
     match read_options(rt.alloc(), words) {
         Ok(options) => {
@@ -115,10 +138,9 @@ fn answer<
 
 /// The status of an answer: if strictness is asked for, 1 for a yes that may mislead.
 fn strict_status(answered: Answered, is_strict: bool) -> u8
-    ensures plain { is_strict ≡ false → result ≡ answered.status }
-    ensures strict { (result ≡ answered.status) ⊎ ((answered.status ≡ 0) × (result ≡ 1)) }
+    ensures { result ≡ strict_status_of is_strict answered.may_mislead answered.status }
 {
-    if is_strict && answered.may_mislead && answered.status == 0 {
+    if answered.may_mislead && is_strict && answered.status == 0 {
         return 1;
     }
     answered.status

@@ -7,4 +7,4 @@ use Rattle.hubsync.proofs.files.read_all.Given as goal
 abbrev pub invariant-loop-name : goal.invariant-loop-name
 invariant-loop-name g l =
     (map label_held l.held.items ++ map label_named (drop l.name-index l.named) ≡ map label_named l.named)
-    × All (λ h. HasContents (g.F.FileReader.contents l.fn.reader) (bytes_held h)) l.held.items
+    × All (λ h. HasContents (g.F.FileReader.reads l.fn.reader) (bytes_held h)) l.held.items

@@ -1,7 +1,7 @@
 //! Remarks on answers about what Unison may do by the profiles.
 
 use hub_preferences::counted;
-use hub_source::{Said, Source, SourceLine, say_placed};
+use hub_source::{Said, Source, SourceLine, shown};
 use hub_text::Lines;
 
 /// What an answer for Unison assumes.
@@ -27,17 +27,19 @@ struct LeftOut<'a> {
     count: usize,
 }
 
-/// Says how many lines of these profiles don't count for Unison, and which is the first. Nothing is said if all of them count.
+/// Says how many lines of these profiles don't count for Unison, and which is the first, in one line. Nothing is said if all of
+/// them count.
 pub(crate) fn say_left_out(out: &mut String, source: &Source<'_>, input: &[u8]) -> Said {
     let counted = counted(source.alloc(), input)?;
     let Some(LeftOut { first, count }) = left_out(source, counted.as_slice()) else {
         return Ok(());
     };
+    let place = first.place();
+    let text = shown(source.alloc(), first.bytes)?;
     writeln!(
         out,
-        "hubsync: Unison does no less without these lines, so they don't count: {count}, first"
-    )?;
-    say_placed(out, source, &first)
+        "hubsync: lines that don't count, as Unison does no less without them: {count}, first {place}: {text}"
+    )
 }
 
 /// The lines in whose place the counted ones have a comment.

@@ -47,6 +47,23 @@ try_office() {
     rm -R unison hosts
 }
 
+# The answer for Unison to each profile of a folder by itself: of an office, and of the samples in Unison's manual. Only lines are
+# refused by which Unison may do more, or that name a root or a path otherwise.
+#
+#     try_for_unison FOLDER
+try_for_unison() {
+    local name
+    cp -R "$folder/$1/unison" "$folder/$1/hosts" .
+    ask 0 from-prf.sh --hosts hosts unison
+    cp written bundle
+    while read -r name; do
+        awk -v heading="%profile $name" '/^%/ { is_in = $0 == heading } is_in' bundle >profile
+        echo "$name: $("$program" check --unison <profile 2>said)"
+    done < <(sed -n 's/^%profile //p' bundle) >answers
+    compare "the answers for Unison to examples/$1" answers <"$folder/$1/answers-for-unison"
+    rm -R unison hosts bundle profile answers
+}
+
 # A folder of profiles with all that from-prf.sh changes, and the same that it leaves.
 fill_folder() {
     mkdir unison
@@ -421,6 +438,8 @@ room=$(mktemp -d)
 trap 'rm -rf "$room"' EXIT
 cd -P "$room"
 try_office
+try_for_unison office
+try_for_unison manual
 try_folder
 try_faults
 try_answers

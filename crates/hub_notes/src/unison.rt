@@ -28,7 +28,7 @@ enum Difference {
     Ignored,
     /// A folder above a path that a rule forbids to create.
     Parent,
-    /// A log in a root.
+    /// A log or backups in a root.
     Log,
 }
 

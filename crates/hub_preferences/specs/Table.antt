@@ -50,6 +50,7 @@ transfers = left_out
     ∷ codes "backupcurrent"
     ∷ codes "backupcurrentnot"
     ∷ codes "backupcurrnot"
+    ∷ codes "backupdir"
     ∷ codes "backupnot"
     ∷ codes "backupprefix"
     ∷ codes "backupsuffix"

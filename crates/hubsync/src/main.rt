@@ -14,6 +14,8 @@ mod kept;
 mod reader;
 mod served;
 mod terminal;
+#[cfg(test)]
+mod tests;
 
 ghost use Rattle.std.specs.Prelude.{◌≡◌, false, map, string_bytes, IfErr, IfOk};
 ghost use Rattle.std.specs.Process.{exit_status};

@@ -1,4 +1,4 @@
-# shellcheck shell=bash
+# shellcheck shell=bash disable=SC2154
 # Hostile inputs that are made: too long for a table, forged, cut, or read byte by byte. `answers.sh` reads this file with
 # `source`, and it uses what stands there: `room`, `program`, `ask`, `judge`, `judge_remarks` and `complain`.
 

@@ -229,21 +229,25 @@ LINES
     ask 3 --only-check --hosts hosts --rules rules prf
 }
 
-# A line that hubsync refuses, one on which Unison stops, a bar that Unison doesn't read, and a program that isn't Unison: nothing is
-# started. A pattern that Unison reads differently is no reason. scripts.sh has all kinds of such lines.
+# A line that hubsync refuses, one on which Unison stops, a log in a root, and a program that isn't Unison: nothing is started. A line
+# that Unison reads differently, or that doesn't count, is no reason. scripts.sh has all kinds of such lines.
 try_refused() {
     fill
     echo 'ignore = Name *.{tmp,bak}' >prf/common
     echo 'include common' | tee -a prf/docs.prf >>prf/photos.prf
     ask 0 --only-check prf
     [ ! -s said ] || complain "something is said of lines that --unison covers: $(head -n 1 said)"
-    printf '%s\n' 'follow = Path a' 'batch = yes' "noupdatepartial = Path a->$PWD/hub" 'prefer = older' >>prf/common
+    printf '%s\n' "noupdatepartial = Path a->$PWD/hub" 'prefer = newer' 'ignore = Regex x' 'times = true' >>prf/common
+    ask 0 --only-check prf
+    [ ! -s said ] || complain "something is said of lines that don't count: $(head -n 1 said)"
+    echo 'ignore = Name *.{tmp,bak}' >prf/common
+    printf '%s\n' 'follow = Path a' 'batch = yes' "logfile = $PWD/hub/log" 'prefer = older' >>prf/common
     ask 3 --unison ./unison prf
     compare 'lines that nothing is started with' said <<LINES
 prf/common:3: Unison stops at this: batch = yes: it refuses this: write true or false
 prf/common:5: Unison stops at this: prefer = older: it wants times = true for this: add that line
 prf/common:2: refused: UnknownPreference follow: follow = Path a: hubsync has no answer for a profile with this line
-prf/common:4: noupdatepartial = Path a->$PWD/hub: Unison bars nothing without blanks around the arrow: write noupdatepartial = Path a -> $PWD/hub
+prf/common:4: logfile = $PWD/hub/log: Unison writes this log at a root while it runs: name a file elsewhere
 nothing is started: mend these lines, or name behind the folder the profiles that are to run without the others
 LINES
     sed -i '/follow/d; /batch/d; /older/d' prf/common

@@ -28,6 +28,19 @@
 //! ```
 //!
 //! From `test_reach/src/alphabets.rt`.
+//!
+//! # What is proved
+//!
+//! - What is added to an [`Alphabet`] mentions exactly its characters, or changes nothing. A sample is of its class and may stand
+//!   in a path, and all characters of paths have a class.
+//! - After `start` and any number of `advance`, a state is the defined one: a step handles 64 positions at once, and is proved
+//!   equal to handling them one by one. For the text of a path it says exactly whether a specification matches.
+//! - Characters of a class that `open_classes` does not list lead where those of class 0 do.
+//! - If two texts lead to the same state, they still do after any text is appended to both (law `what_is_kept_goes_on_alike`).
+//!
+//! # What is not
+//!
+//! That `open_classes` lists only classes that lead elsewhere than class 0; others would cost time alone.
 #![tactic(auto)]
 
 mod alike;

@@ -19,6 +19,17 @@
 //! which fault comes first) and of `specs/Sections` (what sections say).
 //!
 //! Only functions that return a `Result` allocate.
+//!
+//! # What is proved
+//!
+//! - `read_bundle` and `read_sections` return what is defined, or the first fault. All sections are read, whatever is asked. An
+//!   empty input is a bundle without profiles.
+//! - `read_input` returns all bytes of a reader, and only if a read met the end. It reports `ReadFailed` exactly when a read
+//!   failed, and `TurnsSpent` only after 1,000,000 reads of which none met the end.
+//!
+//! # What is not
+//!
+//! What a section says is the business of its own crate.
 #![tactic(auto)]
 
 mod bundle;

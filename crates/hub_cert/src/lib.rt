@@ -27,6 +27,24 @@
 //! ```
 //!
 //! From `test_checker/src/sets.rt`.
+//!
+//! # What is proved
+//!
+//! - `verify` returns a `Verified` only if the certificates rule out every goal of the set (clause `inductive`). Then the set is
+//!   safe (`safe`). For such certificates it reports nothing but `OutOfMemory` (`complete`). Each other fault is true and the
+//!   first one (`refused`). A `Verifier` does the same goal by goal.
+//! - A goal that has an inductive list accepts no text (law `inductive_lists_rule_out`), and a set is safe if no different roots
+//!   are nested and each goal has one (law `certificates_make_a_set_safe`).
+//! - `ProfileSet::new` returns the set of exactly these members, or the first fault in the order of its `///`. `goals` lists each
+//!   goal once.
+//! - If two texts have equal stages, they still do after a character is appended to both, and the goal accepts both or neither
+//!   (law `goal_stages_go_on_alike`).
+//! - `read_certificates` returns what the bytes spell, or the first faulty line. What `write_certificates` writes reads back, if
+//!   no goal has a number of more than four digits (law `reading_undoes_writing`).
+//!
+//! # What is not
+//!
+//! That certificates are found: `hub_search` does that. Nothing here depends on who made them.
 #![tactic(auto)]
 
 mod apart;

@@ -18,6 +18,15 @@
 //! words asks for. No other crate uses `clap`: what a caller needs of it is exported here.
 //!
 //! Only functions that return a `Result` allocate.
+//!
+//! # What is proved
+//!
+//! `read_words` returns what the words ask for, and `read_options` which files they name and whether they have `--strict`. Each
+//! returns an error only if the words ask for nothing, or if it is out of memory.
+//!
+//! # What is not
+//!
+//! The texts of help, of the version and of mistakes, which are `clap`'s. A number of workers is not judged here.
 #![tactic(auto)]
 
 mod app;

@@ -12,6 +12,15 @@
 //! From `hubsync/src/bundled.rt`.
 //!
 //! The contracts use the words of `specs/Files`. Only functions that return a `Result` allocate.
+//!
+//! # What is proved
+//!
+//! `bundle_of` returns exactly the defined bytes if each file can be a section, and else the fault of the first that can't, or
+//! that memory is out.
+//!
+//! # What is not
+//!
+//! Whether a file has these bytes.
 #![tactic(auto)]
 
 mod bundle;

@@ -20,6 +20,17 @@
 //! ```
 //!
 //! From `test_profiles/src/patterns.rt`.
+//!
+//! # What is proved
+//!
+//! - `PathSpec::read` returns what the text spells, or the first fault in the order of its `///`. `text` writes a specification
+//!   that reads back, if its pattern has at most 200 characters (law `reading_undoes_writing`).
+//! - `matches` and `matches_front` are the definition's, and allocate nothing.
+//! - A text matches a pattern exactly when it matches one of its `choices` (law `choices_are_enough`).
+//!
+//! # What is not
+//!
+//! That Unison matches the same paths: docs/UNISON.md has the differences.
 #![tactic(auto)]
 
 mod choosing;

@@ -13,14 +13,25 @@
 //!
 //! From `test_runner/src/desks.rt`.
 //!
-//! No clause can name what lies under a lock. So the contract of [`Desk::step`] says of the answer that some book gives it to this
-//! operation of this job, and not which book; what a step does to the book is the contract of [`Book::apply`] and of `step_in`,
-//! which `step` calls while it holds the lock.
+//! No clause can name what lies under a lock. So the contract of [`Desk::step`] says of the answer that some book gives it to
+//! this operation of this job, and not which book; what a step does to the book is the contract of [`Book::apply`] and of
+//! `step_in`, which `step` calls while it holds the lock.
 //!
 //! The contracts use the words of `specs/Book` (a book as contracts see it), `specs/Desk`, and hub_job's
 //! `specs/History` (legal histories, and what they leave).
 //!
 //! Only functions that return a `Result` allocate.
+//!
+//! # What is proved
+//!
+//! - `Book::apply` returns the replica's answer and appends one entry. Out of memory leaves the book as it was.
+//! - `Desk::step` counts a step on its seat exactly if it returns an answer. Nothing but `Desk::new` makes a seat.
+//! - `Desk::close` returns a book only if as many seats came as the desk has, and the history has grown by one entry for each of
+//!   their steps.
+//!
+//! # What is not
+//!
+//! That `step` and `close` work on the desk's own book, once, is only tested; `settle` of `hub_runner` would find a difference.
 #![tactic(auto)]
 
 mod book;

@@ -18,6 +18,22 @@
 //! ```
 //!
 //! From `test_schedules/src/jobs.rt`.
+//!
+//! # What is proved
+//!
+//! - `perform` returns the defined answer and leaves the defined replica. Out of memory changes nothing.
+//! - A `Job` keeps `Runs` of its log. `turn` returns what comes next. `take` and `stop` can't be out of memory: `turn` has made
+//!   room. If `turn` is out of memory, the job is stopped from then on. `end` returns the defined end, items and archive.
+//! - A job fetches only what it reaches and sets only what it writes, whatever the answers are (law
+//!   `a_job_asks_only_what_it_may`).
+//! - Two profiles that don't clash at a root don't change each other's answers there (`others_change_no_answer`). So however
+//!   their turns interleave, each gets the log that it gets alone (`each_log_is_the_one_alone`).
+//! - A job alone, with k kept values and n entries in its two replicas, is finished after 4k + 3n turns, and leaves one
+//!   synchronization (`a_job_alone_synchronizes`; among others, on the paths that it reaches: `each_job_synchronizes`).
+//!
+//! # What is not
+//!
+//! That a job gets turns, or that memory lasts.
 #![tactic(auto)]
 
 mod answer;

@@ -24,6 +24,18 @@
 //! ```
 //!
 //! From `test_profiles/src/paths.rt`.
+//!
+//! # What is proved
+//!
+//! - `Name::read`, `RelPath::read` and `Root::read` return the value that the text spells, or the first fault in the order of
+//!   their `///`. Only they have limits: 255 bytes a name, 64 names a path.
+//! - A value has the text that it was read from, and each value within the limits is read from its own text (laws
+//!   `texts_come_back`, `names_come_back`, `texts_within_the_limits_are_read`).
+//! - The methods are the list operations that they are named for, and what they return is valid.
+//!
+//! # What is not
+//!
+//! Whether a path exists: two roots may be one folder by a link.
 #![tactic(auto)]
 
 mod fault;

@@ -98,7 +98,7 @@ unfolding computed
 central_is_left_out = refl
 
 -- What adds writes or names stays, so the plain reader refuses it.
-refused_lines_stay : counted_of (codes "follow = Path a\nmerge = Name * -> m\natomic = Name d\nrootalias = //a//b -> //c//d\ncopyonconflict = true\nfat = true\nunicode = true\nignorelocks = true\ninclude c\n") ≡ of (codes "follow = Path a\nmerge = Name * -> m\natomic = Name d\nrootalias = //a//b -> //c//d\ncopyonconflict = true\nfat = true\nunicode = true\nignorelocks = true\ninclude c\n")
+refused_lines_stay : counted_of (codes "follow = Path a\nmerge = Name * -> m\natomic = Name d\nrootalias = //a//b -> //c//d\ncopyonconflict = true\nfat = true\nunicode = true\nignorelocks = true\nbackupdir = /a/b\ninclude c\n") ≡ of (codes "follow = Path a\nmerge = Name * -> m\natomic = Name d\nrootalias = //a//b -> //c//d\ncopyonconflict = true\nfat = true\nunicode = true\nignorelocks = true\nbackupdir = /a/b\ninclude c\n")
 unfolding computed
 refused_lines_stay = refl
 

@@ -50,7 +50,6 @@ transfers = left_out
     ∷ codes "backupcurrent"
     ∷ codes "backupcurrentnot"
     ∷ codes "backupcurrnot"
-    ∷ codes "backupdir"
     ∷ codes "backupnot"
     ∷ codes "backupprefix"
     ∷ codes "backupsuffix"

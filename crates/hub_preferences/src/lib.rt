@@ -1,11 +1,38 @@
 //! What a cautious reading leaves out of the profiles of a bundle, line by line.
 //!
 //! - [`counted`] puts a comment in place of each line that is left out. All else stays, byte for byte.
-//! - [`CHANGES`], [`TRANSFERS`], [`DISPLAYS`] and [`STAYING`] have the preferences of Unison 2.52.1, each with what becomes of its lines,
-//!   why, and where that is from.
+//! - [`CHANGES`], [`TRANSFERS`], [`DISPLAYS`] and [`STAYING`] have the preferences of Unison 2.52.1, each with what becomes of
+//!   its lines, why, and where that is from.
 //!
-//! A line is left out if Unison may then change at least what it may change with it: of such a profile a `safe` also holds with the
-//! line. The contracts use the words of `specs/Kinds` and `specs/Counted`. Only functions that return a `Result` allocate.
+//! A line is left out if Unison may then change at least what it may change with it: of such a profile a `safe` also holds with
+//! the line. The contracts use the words of `specs/Kinds` and `specs/Counted`. Only functions that return a `Result` allocate.
+//!
+//! These lines are left out:
+//!
+//! - `prefer`, which decides conflicts alone, and preferences that only hold changes back, as `links`, `mountpoint`,
+//!   `maxsizethreshold`.
+//! - Preferences without influence on what is synchronized, which the plain reader doesn't know, as `height` or `sshargs`.
+//! - `forcepartial` and `preferpartial`, and then all `force` lines of the profile too, which they override.
+//! - `force = newer`, `force = older` and `force =`, and of several `force` lines all but the last one, which counts.
+//! - `ignore` lines whose pattern the plain reader can't read. If it can't read the pattern of an `ignorenot` line, this line and
+//!   all `ignore` lines.
+//! - Bars on some paths whose pattern the plain reader can't read, or whose arrow Unison doesn't see: it wants a space on both
+//!   sides, and with two arrows it bars nothing.
+//! - With the value `false` or `default`: preferences that would otherwise add writes or names, as `rsrc` or `ignorecase`. With
+//!   the value `central`: `backuplocation`.
+//!
+//! All other lines stay. Those that add writes or names, as `follow`, `merge` or `copyonconflict = true`, the plain reader then
+//! refuses, with its own fault and line.
+//!
+//! # What is proved
+//!
+//! [`counted`] returns exactly `counted_bundle` of the bytes. A line that counts stands as it was; only lines of profiles change;
+//! a bundle without a line to leave out is as it was; the lines keep their numbers; of what counts all counts ([`laws`]).
+//!
+//! # What is not
+//!
+//! That Unison changes no more without such a line. It is from trials with Unison 2.52.1 and from its manual: the tables say
+//! which. A trial of many preferences shows only that Unison takes the line.
 #![tactic(auto)]
 
 mod bundle;

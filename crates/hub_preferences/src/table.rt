@@ -251,7 +251,7 @@ pub const CHANGES: [(&str, Preference); 25] = [
 ];
 
 /// The preferences on connections, on how files are copied, and on backups.
-pub const TRANSFERS: [(&str, Preference); 28] = [
+pub const TRANSFERS: [(&str, Preference); 27] = [
     (
         "addversionno",
         Preference {
@@ -297,14 +297,6 @@ pub const TRANSFERS: [(&str, Preference); 28] = [
         Preference {
             rule: Rule::LeftOut,
             reason: "the copies are in one folder, whose place the lines backupdir and backuploc name",
-            source: Source::Manual,
-        },
-    ),
-    (
-        "backupdir",
-        Preference {
-            rule: Rule::LeftOut,
-            reason: "it is a folder of copies: a note says so if it lies in a root",
             source: Source::Manual,
         },
     ),
@@ -651,7 +643,7 @@ pub const DISPLAYS: [(&str, Preference); 21] = [
 ];
 
 /// The preferences whose lines stay.
-pub const STAYING: [(&str, Preference); 35] = [
+pub const STAYING: [(&str, Preference); 36] = [
     (
         "atomic",
         Preference {
@@ -665,6 +657,14 @@ pub const STAYING: [(&str, Preference); 35] = [
         Preference {
             rule: Rule::Stays,
             reason: "hubsync accepts it without effect",
+            source: Source::Manual,
+        },
+    ),
+    (
+        "backupdir",
+        Preference {
+            rule: Rule::Stays,
+            reason: "the folder may lie below a root",
             source: Source::Manual,
         },
     ),

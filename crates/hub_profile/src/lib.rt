@@ -17,6 +17,17 @@
 //! that what is read is `profile_in` or `rules_in` of the bytes.
 //!
 //! Only functions that return a `Result` allocate.
+//!
+//! # What is proved
+//!
+//! - The readers return what the bytes spell (`profile_in`, `rules_in`), or the first fault in the order of their `///`. Each
+//!   line is read: one that is not understood is a fault.
+//! - Each `Profile` has two different roots that aren't nested, and no kept value above another one (law
+//!   `readings_are_profiles`). The type keeps this, so no contract above repeats it. The getters return what was read.
+//!
+//! # What is not
+//!
+//! That Unison reads a line in the same way. The text of a fault's own `Display`: the program prints the names of `hub_report`.
 #![tactic(auto)]
 
 mod arrow;

@@ -20,6 +20,20 @@
 //! ```
 //!
 //! From `test_reach/src/numbers.rt`.
+//!
+//! # What is proved
+//!
+//! - `reaches`, `may`, `may_at`, `writes` and `writes_at` are the definitions', and allocate nothing. A `Walker` says the same of
+//!   the path of the text that was walked. A second definition of reach, name by name from the top, agrees (law
+//!   `walks_are_reach`).
+//! - If two texts lead to the same stage, they still do after any text is appended to both (law `stages_go_on_alike`). All texts
+//!   with which no path begins have one stage (laws `broken_texts_stay_broken`, `stages_tell_broken_texts`).
+//! - A `Table` gives two texts one number exactly when they lead to one stage. Numbers keep their meaning, also after an error.
+//! - `Walker::new` reports `TooManySpots` exactly when paths and patterns have more than 4,096 positions.
+//!
+//! # What is not
+//!
+//! That Unison synchronizes what a profile reaches, and nothing else.
 #![tactic(auto)]
 
 mod apart;

@@ -25,6 +25,20 @@
 //! ```
 //!
 //! From `test_states/src/reconciliation.rt`.
+//!
+//! # What is proved
+//!
+//! - The calls return the defined values of what the picture shows, whatever its Looks say.
+//! - If all needed Looks at two replicas are made, in whatever order, they show the view of these replicas (law
+//!   `looks_tell_the_view`). Then each change of the plan is carried out, and leaves what one synchronization leaves (laws
+//!   `a_plan_synchronizes`, `a_new_archive_has_the_synced_marks`). There are at most as many changes as entries
+//!   (`a_plan_is_within_its_replicas`).
+//! - An item is `Blocked` exactly if its changes are allowed and one takes away a directory with a child that isn't reached (law
+//!   `unreached_children_block_an_item`).
+//!
+//! # What is not
+//!
+//! That Unison does the same: docs/UNISON.md has what was seen.
 #![tactic(auto)]
 
 mod block;

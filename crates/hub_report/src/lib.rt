@@ -24,12 +24,22 @@
 //! From `hub_serve/src/program.rt`.
 //!
 //! The contracts use the words of `specs/Report` (the text and the status of each answer; `specs/FaultyInput`, `ReachAnswer`,
-//! `Verdict`, `ClashesAnswer` and `RunAnswer` have those of its cases), `specs/Blocks` (the bytes of a
-//! text in blocks), `specs/Jobs` (the lines of jobs), `specs/Rounds` (those of clashes and rounds), `specs/RoundsRun` (the text of
-//! a run by rounds), `specs/Graph` (that of a graph), `specs/Undecided` (the lines for standard error), `specs/Run` (the line of why
-//! jobs weren't run), `specs/Refusal` (the lines of refusals) and `specs/Faults` (the names of faults and their lines). When an answer is right is said in `hub_serve`.
+//! `Verdict`, `ClashesAnswer` and `RunAnswer` have those of its cases), `specs/Blocks` (the bytes of a text in blocks),
+//! `specs/Jobs` (the lines of jobs), `specs/Rounds` (those of clashes and rounds), `specs/RoundsRun` (the text of a run by
+//! rounds), `specs/Graph` (that of a graph), `specs/Undecided` (the lines for standard error), `specs/Run` (the line of why jobs
+//! weren't run), `specs/Refusal` (the lines of refusals) and `specs/Faults` (the names of faults and their lines). When an answer
+//! is right is said in `hub_serve`.
 //!
 //! Only functions that return a `Result` or a `Report` allocate.
+//!
+//! # What is proved
+//!
+//! `status` and `into_text` return the defined status and text of each answer, and each text ends with LF. The name of a fault is
+//! written by a case for each fault, so no line goes on after it.
+//!
+//! # What is not
+//!
+//! When an answer is right. What `undecided_pairs` gives goes to standard error, which no contract sees.
 #![tactic(auto)]
 
 mod blocks;

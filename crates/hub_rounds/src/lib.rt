@@ -31,6 +31,20 @@
 //! and hub_search's `specs/Faults` (the lines of a set).
 //!
 //! Only functions that return a `Result` allocate.
+//!
+//! # What is proved
+//!
+//! - `clashes_of` returns the lines of the set: each goal is ruled out or has one, a set with an overlap or a breach isn't safe,
+//!   and a set without lines is safe.
+//! - `rounds_of` returns `AreRounds`: each profile stands in exactly one round, or it is left out and a line says why; no two
+//!   profiles of a round have a line; no round is empty; the profiles of a round and the rules are a safe set; each two rivals
+//!   have a line, and no other profile of a round has lines with all of them.
+//! - `NotVerified` comes only with a round that the check refuses, and not for want of memory.
+//!
+//! # What is not
+//!
+//! That `NotVerified` doesn't come, and that up to 24 profiles get the least number of rounds and the most rivals, is tested. How
+//! many more rounds than are needed more profiles get is neither.
 #![tactic(auto)]
 
 mod clashes;

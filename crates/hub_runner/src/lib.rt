@@ -20,6 +20,20 @@
 //! ```
 //!
 //! From `test_runner/src/runs.rt`.
+//!
+//! # What is proved
+//!
+//! - `settle` takes books and jobs from anywhere. It returns an outcome only if they are consistent (`compared`); then the
+//!   histories lead to the outcome (`settled`), and it is as promised (`promise`). Each of its faults is true and the first one:
+//!   a missing replica; the lowest job number that is missing, double or made for something else (`Stranger`); the first root,
+//!   and job, whose entries differ (`Mismatch`).
+//! - `run` returns only outcomes that are as promised, in which each job is finished or stopped, for 1 to 16 workers and a state
+//!   with all replicas. `NoWorkers`, `TooManyWorkers` and `MissingReplica` are true and come first.
+//!
+//! # What is not
+//!
+//! What the threads do, and that `run` returns. `test_runner` shows of some runs that jobs meet at their steps, that as many make
+//! a step as there are workers, that a job has at most eight turns in a row, and that all numbers of workers leave one state.
 #![tactic(auto)]
 
 mod append;

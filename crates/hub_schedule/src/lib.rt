@@ -9,6 +9,22 @@
 //! ```
 //!
 //! From `test_schedules/src/schedules.rt`.
+//!
+//! # What is proved
+//!
+//! - `safe_sets_keep_their_promise`: an outcome of a safe set that histories lead to is as promised, however the operations
+//!   interleave (docs/GUARANTEES.md has the clauses). Its parts are laws, too: `agreeing_histories_are_as_alone`,
+//!   `each_set_is_its_own`, `what_nobody_writes_stays`, `jobs_leave_each_other_alone`, `each_set_is_allowed`,
+//!   `finished_jobs_synchronize`, `enough_turns_finish`.
+//! - The world after a schedule, and its outcome, have such histories (`a_run_settles`, `schedules_settle`). So `simulate`
+//!   returns an outcome that is as promised. 4k + 3n turns always finish a job, for k kept values and n entries in its two
+//!   replicas.
+//! - `cycles_for` gives each job at least as many turns. `simulate_jobs` takes any profiles, so it promises nothing of what jobs
+//!   do to each other.
+//!
+//! # What is not
+//!
+//! That `cycles_for` gives one turn to each job in each cycle. That a job is served at all: `hub_runner` has threads.
 #![tactic(auto)]
 
 mod cycles;

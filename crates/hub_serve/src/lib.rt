@@ -16,15 +16,28 @@
 //! - The set of the profiles and rules is made, and is checked or its certificates are verified (`task`, `verdict`); or one
 //!   profile is asked whether it reaches a path (`reach`).
 //! - Or all that clashes in the set is listed or drawn, or it is cut into rounds (`rounds`).
-//! - The jobs of a safe set are run on the bundle's state (`run`), or the rounds of a set are run one after another (`by_rounds`).
+//! - The jobs of a safe set are run on the bundle's state (`run`), or the rounds of a set are run one after another
+//!   (`by_rounds`).
 //! - The answer is a `Report` of `hub_report`. It is written as one line, as the certificates' text, or as `safe` and below it
 //!   what the jobs did and the state that they left (`program`).
 //!
 //! The contracts use the words of `specs/Report` (which answer is right, and what the program does as a whole), `specs/Reads`
-//! (the reads of the input), `specs/Unison` (what is spelled if the profiles are read for Unison), `specs/Task` (what is to be done), `specs/Runs` (what is written of a run), `specs/ByRounds` (what a run by
-//! rounds does and leaves) and `specs/Rounds` (what is written of clashes and rounds).
+//! (the reads of the input), `specs/Unison` (what is spelled if the profiles are read for Unison), `specs/Task` (what is to be
+//! done), `specs/Runs` (what is written of a run), `specs/ByRounds` (what a run by rounds does and leaves) and `specs/Rounds`
+//! (what is written of clashes and rounds).
 //!
 //! Only functions that return a `Result` or a `Report`, or write an answer, allocate.
+//!
+//! # What is proved
+//!
+//! - For readers and writers whose bytes a contract can name, [`serve`] and [`serve_process`] keep `Serves`: what is written is
+//!   true of the words and of what the input spells, for each answer. docs/GUARANTEES.md has what this says.
+//! - For every reader: the answer is `ReadFailed` only if a read failed. If one failed, it is that or out of memory. It is
+//!   `TurnsSpent` only if the reads are spent. Each other answer but out of memory comes only if a read met the end.
+//!
+//! # What is not
+//!
+//! That `fault: a round was not verified` never comes. The lines on standard error are tested.
 #![tactic(auto)]
 
 mod answer;

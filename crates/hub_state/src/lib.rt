@@ -26,6 +26,21 @@
 //! ```
 //!
 //! From `test_cases/src/left.rt`.
+//!
+//! # What is proved
+//!
+//! - The look-ups allocate nothing. `put_replica` and `put_archive` change one entry; out of memory leaves the state as it was.
+//! - `read_bytes` is the reading of the bytes: the state, or exactly the first fault. `read_state` is that of a reader's bytes.
+//!   It reports `ReadFailed` exactly when a read failed, and `TurnsSpent` only after 1,000,000 reads of which none met the end;
+//!   all else but out of memory comes only if a read met the end.
+//! - `write_state` that returns `Ok` has written exactly the text of the state. It reports `WriteFailed` exactly when a write
+//!   failed.
+//! - What is written of a state within the limits reads back as the same state (law `what_is_written_reads_back`).
+//! - What is said of a device's bytes is stated for devices whose bytes a contract can name.
+//!
+//! # What is not
+//!
+//! That a state is that of your folders.
 #![tactic(auto)]
 
 mod blobs;

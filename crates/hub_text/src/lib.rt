@@ -11,8 +11,8 @@
 //!   characters.
 //!
 //! Contracts see a text as the list of its characters, which are numbers (Unicode scalar values). The definitions are in
-//! `specs/Blanks`, `specs/Lines` and `specs/Exact`. The other files of `specs/` prove general facts for the proofs of the crates above:
-//! `TestLaws` of tests, `ListLaws` of lists, `Fails` of faults, `LineLaws` and `Takes` of lines, `TextCuts`, `TextParts`,
+//! `specs/Blanks`, `specs/Lines` and `specs/Exact`. The other files of `specs/` prove general facts for the proofs of the crates
+//! above: `TestLaws` of tests, `ListLaws` of lists, `Fails` of faults, `LineLaws` and `Takes` of lines, `TextCuts`, `TextParts`,
 //! `TextChars`, `Texts`, `Ascii` and `AsciiWords` of bytes and the characters that they encode, `Reads` of bounded reads of known
 //! bytes, and `TextOrder` that the order of UTF-8 bytes is the order of characters.
 //!
@@ -23,6 +23,18 @@
 //! ```
 //!
 //! From `test_profiles/src/texts.rt`.
+//!
+//! # What is proved
+//!
+//! - The lists, lines and questions about a text are what they are named for. `==` of an [`Exact`] type is true exactly when a
+//!   contract sees the same value on both sides: each crate proves this law of its own types.
+//! - [`Watched`] passes each call on. `failed` is set exactly when a call has failed: it returned an error, or a write took
+//!   nothing of a piece that isn't empty. `at_end` is set exactly when a read gave nothing for a buffer that isn't empty. Each
+//!   read without an error counts. `write_all` writes all bytes, or those before the first call that failed.
+//!
+//! # What is not
+//!
+//! What a device outside does with its bytes.
 #![tactic(auto)]
 
 mod blank;

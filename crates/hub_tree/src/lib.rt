@@ -21,6 +21,20 @@
 //! ```
 //!
 //! From `test_states/src/trees.rt`.
+//!
+//! # What is proved
+//!
+//! - `Tree::set` and `Archive::set` change exactly the one path; or `set` reports the first fault of the rule, or `OutOfMemory`,
+//!   and changes nothing. `Tree::put_new` does so only where nothing is.
+//! - The questions are look-ups in the map, `entries` goes through it in the order of paths, and a `copy` is equal.
+//!   `Blob::digest` is the SHA-256 of the bytes. Trees and archives with the same entries are equal (`trees_are_their_contents`,
+//!   `archives_are_their_marks`).
+//! - What lies below a path can be removed in descending order, and what comes can be set in ascending order. None of these
+//!   changes is refused, and all else stays (laws `sets_down`, `sets_up`, `an_item_goes`, `an_item_comes`, `sets_keep_the_rest`).
+//!
+//! # What is not
+//!
+//! That copies share memory, and that two files with one digest have the same bytes; nothing assumes it.
 #![tactic(auto)]
 
 mod archive;

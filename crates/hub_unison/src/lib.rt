@@ -8,6 +8,25 @@
 //! Only functions that return a `Result` allocate. The contracts are in the words of `specs/Matching` (what Unison's patterns
 //! match for certain, and what they may match), `specs/UnisonReach` (what it may reach and write), `specs/Cautious` and
 //! `specs/Rules` (what it may do that a rule forbids).
+//!
+//! # What is proved
+//!
+//! - [`cautious`] returns a reading that `IsCautious`, and [`read_set`] readings that `AreReadForUnison` beside the rules of a
+//!   set. If these and the rules are a safe set, no two of the profiles clash in Unison, and by none of them Unison breaks a rule
+//!   (law `safe_readings_are_safe_in_unison`). hubsync's own matching lies between the bounds, too
+//!   (`hubsync_matches_as_unison_may`).
+//! - An `ignore` line stays where Unison matches what hubsync matches; a pattern that differs by a dot at the start of a name
+//!   gets an `ignorenot` for it; one with `?`, ` -> ` or a set of other than ASCII characters is left out. If such a line is an
+//!   `ignorenot`, each `ignore` and `ignorenot` line is left out. A bar stays if Unison matches its pattern in the same way.
+//!   `path = docs/*` becomes `path = docs` without `ignore` and `ignorenot` lines.
+//! - Beside rules each `ignore` line and each bar on a pattern is left out, since Unison tests a bar at the path of an item
+//!   alone, and takes ignored files away with their folder; and `nocreation` too, unless there is `noupdate` of the same root.
+//!
+//! # What is not
+//!
+//! That Unison's matching lies between the bounds, and that it does what `UnisonReach.antt` and `Rules.antt` say: that was
+//! observed. Anything of runs in which someone chooses a direction by hand, and of missing parents of a `path`, which Unison
+//! creates.
 #![tactic(auto)]
 
 mod copies;

@@ -2,10 +2,18 @@
 //! replicas answer and what jobs leave.
 //!
 //! - [`Case`] is what the lines give: profiles and a state. [`verified_of`] checks their set.
-//! - [`answer_text`] and [`kind_of`] show what a replica answers; [`job_text`], [`left_text`], [`outcome_text`] and [`state_text`]
-//!   what jobs leave.
+//! - [`answer_text`] and [`kind_of`] show what a replica answers; [`job_text`], [`left_text`], [`outcome_text`] and
+//!   [`state_text`] what jobs leave.
 //!
 //! The tables are data, so no proof depends on them.
+//!
+//! # What is proved
+//!
+//! That no call fails but by an error.
+//!
+//! # What is not
+//!
+//! What is read and shown: the gate runs both programs.
 #![tactic(auto)]
 
 mod case;

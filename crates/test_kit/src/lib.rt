@@ -6,8 +6,8 @@
 //! - [`cut`], [`first`], [`two`] and [`three`] split a question; [`bytes_of`], [`text_of`], [`character_of`], [`path_of`] and
 //!   [`contents_of`] read a field, and [`only_character`] a text.
 //! - [`answers_to_steps`] answers steps, one after another. What takes them is a [`Subject`].
-//! - [`yes_or_no`], [`shown`], [`quoted`], [`in_one_line`], [`outcome_text`], [`answer_or_fault`] and [`digit`] write answers, and
-//!   [`list_text`], [`list_of`] and [`joined`] those of several parts.
+//! - [`yes_or_no`], [`shown`], [`quoted`], [`in_one_line`], [`outcome_text`], [`answer_or_fault`] and [`digit`] write answers,
+//!   and [`list_text`], [`list_of`] and [`joined`] those of several parts.
 //!
 //! A question is a word and fields. Fields are separated by ` | `, and steps or lines within a field by `; `. Empty lines are
 //! skipped, and so are those that begin with `#`. A question that can't be read ends the program with an error.
@@ -23,6 +23,14 @@
 //! | `\xff` | the byte with these two hexadecimal digits |
 //!
 //! The tables are data, so no proof depends on them.
+//!
+//! # What is proved
+//!
+//! That no call fails but by an error.
+//!
+//! # What is not
+//!
+//! What is answered: the gate runs each program, as both compilers built it, and compares.
 #![tactic(auto)]
 
 mod answers;

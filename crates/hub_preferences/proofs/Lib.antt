@@ -1,4 +1,5 @@
 pub mod Again
+pub mod Alone
 pub mod ArrowCuts
 pub mod Below
 pub mod Cuts

@@ -1,7 +1,13 @@
 -- Worked values of a cautious reading. What Unison does was observed with 2.52.1.
-use Rattle.std.specs.Prelude.{⊤, ◌≡◌, ℕ, List, [], ◌++◌, codes, refl}
+use Rattle.std.specs.Prelude.{⊤, ◌≡◌, ℕ, List, [], ◌∷◌, ◌++◌, Some, codes, refl}
 use Rattle.std.specs.Str.{is_utf8, chars}
+use Rattle.hub_path.specs.declared.fault.PathFault.TheVariants as path
+use Rattle.hub_profile.specs.declared.fault.Fault.{Fault}
+use Rattle.hub_profile.specs.declared.fault.Fault.TheVariants as fault
 use Rattle.hub_preferences.specs.Counted.{counted_bundle}
+use Rattle.hub_preferences.specs.Findings.{findings_of, fault_alone}
+use Rattle.hub_preferences.specs.declared.finding.Finding.{Finding}
+use Rattle.hub_preferences.specs.declared.finding.Outcome.TheVariants.{LeftOut, Refused}
 
 -- What these examples compute.
 computed : ⊤
@@ -106,3 +112,59 @@ refused_lines_stay = refl
 other_sections_stay : counted_bundle (codes "prefer = a\n%rules\nprefer = a\n%state\nlinks = false\n%profile\nlinks = false\n%certificates\nforce = newer") ≡ codes "prefer = a\n%rules\nprefer = a\n%state\nlinks = false\n%profile\nlinks = false\n%certificates\nforce = newer"
 unfolding computed
 other_sections_stay = refl
+
+-- What is found in the bundle of one profile with these lines. The first of them has number 2.
+abbrev found_in : List ℕ → List Finding
+found_in lines = findings_of (codes "%profile p\n" ++ lines)
+
+abbrev left_out : ℕ → Finding
+left_out n = record { line = n; outcome = LeftOut }
+
+abbrev refused : ℕ → Fault → Finding
+refused n f = record { line = n; outcome = Refused f }
+
+nothing_found : findings_of [] ≡ []
+nothing_found = refl
+
+-- Lines that count as they stand, also where a root is missing.
+plain_lines : found_in (codes "root = /a\r\n# b\n\n times = true") ≡ []
+unfolding computed
+plain_lines = refl
+
+-- All lines are found, in their order, and not the first alone.
+all_are_found : found_in (codes "follow = Path a\nprefer = newer\npath = /b\nroot\n") ≡ refused 2 (fault.UnknownPreference (codes "follow")) ∷ left_out 3 ∷ refused 4 (fault.BadPath path.LeadingSlash) ∷ refused 5 fault.NoEquals ∷ []
+unfolding computed
+all_are_found = refl
+
+-- In all profiles, and in no other section.
+profiles_alone : findings_of (codes "follow = a\n%rules\nfollow = a\n%profile p\n%profile q\nfollow = a\n%state\nfollow = a\n") ≡ refused 6 (fault.UnknownPreference (codes "follow")) ∷ []
+unfolding computed
+profiles_alone = refl
+
+-- A line that is left out is not refused, whatever the plain reader says of it.
+left_out_alone : fault_alone (codes "prefer = newer") ≡ Some fault.LeftOutValue
+unfolding computed
+left_out_alone = refl
+
+left_out_is_not_refused : found_in (codes "prefer = newer\n") ≡ left_out 2 ∷ []
+unfolding computed
+left_out_is_not_refused = refl
+
+-- A second `force` line is not refused by itself, but the first one is left out then.
+last_force_stays : found_in (codes "force = /a\nforce = b\n") ≡ left_out 2 ∷ refused 3 (fault.BadPath path.NotAbsolute) ∷ []
+unfolding computed
+last_force_stays = refl
+
+-- Neither a third root nor a root that is neither of the two is found.
+roots_together : found_in (codes "root = /a\nroot = /b\nroot = /c\nnodeletion = /d\n") ≡ []
+unfolding computed
+roots_together = refl
+
+-- A line that isn't text.
+not_text : found_in (255 ∷ []) ≡ refused 2 fault.NotUtf8 ∷ []
+unfolding computed
+not_text = refl
+
+includes_are_refused : found_in (codes "include c\nsource c\n") ≡ refused 2 fault.IncludeLeftOut ∷ refused 3 fault.IncludeLeftOut ∷ []
+unfolding computed
+includes_are_refused = refl

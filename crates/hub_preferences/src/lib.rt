@@ -1,11 +1,13 @@
 //! What a cautious reading leaves out of the profiles of a bundle, line by line.
 //!
 //! - [`counted`] puts a comment in place of each line that is left out. All else stays, byte for byte.
+//! - [`findings`] returns each line that is left out, and each other one that the plain reader refuses by itself.
 //! - [`CHANGES`], [`TRANSFERS`], [`DISPLAYS`] and [`STAYING`] have the preferences of Unison 2.52.1, each with what becomes of
 //!   its lines, why, and where that is from.
 //!
 //! A line is left out if Unison may then change at least what it may change with it: of such a profile a `safe` also holds with
-//! the line. The contracts use the words of `specs/Kinds` and `specs/Counted`. Only functions that return a `Result` allocate.
+//! the line. The contracts use the words of `specs/Kinds`, `specs/Counted` and `specs/Findings`. Only functions that return a
+//! `Result` allocate.
 //!
 //! These lines are left out:
 //!
@@ -29,6 +31,8 @@
 //! [`counted`] returns exactly `counted_bundle` of the bytes. A line that counts stands as it was; only lines of profiles change;
 //! a bundle without a line to leave out is as it was; the lines keep their numbers; of what counts all counts ([`laws`]).
 //!
+//! [`findings`] returns exactly `findings_of` the bytes: all findings, in the order of the lines.
+//!
 //! # What is not
 //!
 //! That Unison changes no more without such a line. It is from trials with Unison 2.52.1 and from its manual: the tables say
@@ -36,6 +40,7 @@
 #![tactic(auto)]
 
 mod bundle;
+mod finding;
 mod kind;
 pub mod laws;
 mod section;
@@ -43,4 +48,5 @@ mod setting;
 mod table;
 
 pub use bundle::counted;
+pub use finding::{Finding, Outcome, findings};
 pub use table::{CHANGES, DISPLAYS, Preference, Rule, STAYING, Source, TRANSFERS};

@@ -1,2 +1,8 @@
-pub mod Keeping
+pub mod BesideRules
+pub mod Cautiously
+pub mod KeptLines
+pub mod LastName
+pub mod ReadBack
 pub mod Spared
+pub mod TopValues
+pub mod Writings

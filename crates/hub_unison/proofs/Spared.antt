@@ -1,30 +1,9 @@
--- What is kept of one line, and the spares that loops find.
+-- The spares that loops find.
 use Rattle.std.proofs.Common.{◌≡◌, ◌==◌, ◌<◌, ◌+◌, ℕ, Bool, true, ◌&&◌, ◌||◌, List, [], ◌∷◌, ◌++◌, map, length, get_or, take, drop, refl, sym, ap, ◌∙◌, subst, append_assoc}
 use Rattle.std.specs.Prelude.{flat_map}
-use Rattle.std.proofs.lemmas.Bool.{and_from}
 use Rattle.std.proofs.lemmas.List.{take_more, drop_more, flat_map_more}
-use Rattle.hub_path.specs.Path.{Path}
-use Rattle.hub_glob.specs.Specification.{Specification}
 use Rattle.hub_glob.specs.declared.piece.Piece.{Piece}
-use Rattle.hub_glob.specs.Glob.{matches, choices}
-use Rattle.hub_unison.specs.Matching.{surely, all_simple}
-use Rattle.hub_unison.specs.Spares.{spares, opening, is_slash, pattern_spares}
-use Rattle.hub_unison.specs.SpareLaws.{spared-matches, plain-matches}
-
--- What is kept of one line.
-pub kept-alone : (s copy : Specification) → copy ≡ s → all_simple s.pattern ≡ true
-    → (length (pattern_spares s.pattern) == 0) ≡ true → (q : Path) → matches copy q ≡ true
-    → surely s q ≡ true
-kept-alone s copy e simple none q h =
-    plain-matches s q (and_from (all_simple s.pattern) (length (pattern_spares s.pattern) == 0) simple none)
-    (subst (λ x. matches x q ≡ true) e h)
-
-pub kept-sparing : (s copy spare : Specification) → copy ≡ s → all_simple s.pattern ≡ true
-    → spare.kind ≡ s.kind → choices spare.pattern ≡ pattern_spares s.pattern → (q : Path)
-    → matches copy q ≡ true → (surely s q || matches spare q) ≡ true
-kept-sparing s copy spare e simple kind is q h =
-    spared-matches s spare q simple (record { kind = kind; choices = is })
-    (subst (λ x. matches x q ≡ true) e h)
+use Rattle.hub_unison.specs.Spares.{spares, opening, is_slash}
 
 -- The spares of pieces: those that are left.
 map-after : (xs : List Piece) (p : Piece) (ds : List (List Piece))

@@ -4,6 +4,8 @@ pub mod Kept
 pub mod Matching
 pub mod PatternLaws
 pub mod PieceLaws
+pub mod ReadingLaws
+pub mod ReadingOf
 pub mod Rules
 pub mod RulesLaws
 pub mod SpareLaws

@@ -1,7 +1,8 @@
 //! What is kept of the lines of a profile.
-ghost use Rattle.std.specs.Prelude.{◌≡◌, IfOk, IfSome};
-ghost use Rattle.hub_unison.specs.Cautious as cautious;
-ghost use Rattle.hub_unison.specs.Kept.{IsKept, IsSureBar};
+ghost use Rattle.std.specs.Prelude.{◌≡◌, ◌++◌, IfOk, if◌then◌else◌, Some, None};
+ghost use Rattle.std.specs.List.{list_all};
+ghost use Rattle.hub_unison.specs.Kept.{IsKept};
+ghost use Rattle.hub_unison.specs.ReadingOf as reading;
 
 use crate::simple::is_simple;
 use crate::spare::{copy_of, spare_of};
@@ -30,6 +31,27 @@ pub(crate) struct Lines {
     pub(crate) ignorenot: Items<PathSpec>,
 }
 
+impl Lines {
+    ghost use Rattle.hub_unison.specs.Kept as lines;
+
+    /// Appends what is kept of one more line.
+    fn push(&mut self, kept: Kept) -> Result<(), AllocError>
+        ensures ignore { IfOk result (λ _. self.new.ignore
+            ≡ self.old.ignore ++ lines.own_lines kept) }
+        ensures ignorenot { IfOk result (λ _. self.new.ignorenot
+            ≡ self.old.ignorenot ++ lines.spare_lines kept) }
+    {
+        match kept {
+            Kept::Nothing => Ok(()),
+            Kept::Alone(copy) => Ok(self.ignore.push(copy)?),
+            Kept::Sparing(copy, spare) => {
+                self.ignore.push(copy)?;
+                Ok(self.ignorenot.push(spare)?)
+            }
+        }
+    }
+}
+
 /// Returns what is kept of an `ignore` line.
 fn kept_of(alloc: Global, spec: &PathSpec) -> Result<Kept, AllocError>
     ensures { IfOk result (λ kept. IsKept spec.now kept) }
@@ -44,7 +66,7 @@ fn kept_of(alloc: Global, spec: &PathSpec) -> Result<Kept, AllocError>
     if spares.is_empty() {
         return Ok(Kept::Alone(copy));
     }
-    match spare_of(alloc, spec.kind(), spares.as_slice())? {
+    match spare_of(alloc, spec.kind(), spares)? {
         Some(spare) => Ok(Kept::Sparing(copy, spare)),
         None => Ok(Kept::Nothing),
     }
@@ -56,34 +78,31 @@ pub(crate) fn kept_lines(
     specs: &[PathSpec],
     spared: Items<PathSpec>,
 ) -> Result<Lines, AllocError>
-    ensures less { IfOk result (λ lines. cautious.IgnoresLess specs.now lines.ignore lines.ignorenot) }
-    ensures more { IfOk result (λ lines. cautious.SparesMore spared lines.ignorenot) }
+    ensures ignore { IfOk result (λ lines. lines.ignore ≡ reading.kept_lines specs.now) }
+    ensures ignorenot { IfOk result (λ lines. lines.ignorenot
+        ≡ spared ++ reading.added_lines specs.now) }
 {
-    let mut ignore = Items::new(alloc);
-    let mut ignorenot = spared;
+    let mut lines = Lines {
+        ignore: Items::new(alloc),
+        ignorenot: spared,
+    };
     for spec in specs {
-        match kept_of(alloc, spec)? {
-            Kept::Nothing => {}
-            Kept::Alone(copy) => ignore.push(copy)?,
-            Kept::Sparing(copy, spare) => {
-                ignore.push(copy)?;
-                ignorenot.push(spare)?;
-            }
-        }
+        lines.push(kept_of(alloc, spec)?)?;
     }
-    Ok(Lines { ignore, ignorenot })
+    Ok(lines)
 }
 
-/// Copies specifications, if each is read from its own text.
-pub(crate) fn copies(
+/// Copies the specifications of `ignorenot` lines, if all of them can stay.
+pub(crate) fn spared_lines(
     alloc: Global,
     specs: &[PathSpec],
 ) -> Result<Option<Items<PathSpec>>, AllocError>
-    ensures { IfOk result (λ o. IfSome o (λ copies. copies ≡ specs.now)) }
+    ensures { IfOk result (λ o. o
+        ≡ (if list_all reading.spare_stays specs.now then Some specs.now else None)) }
 {
     let mut copies = Items::new(alloc);
     for spec in specs {
-        let Some(copy) = copy_of(alloc, spec)? else {
+        let Some(copy) = spared_line(alloc, spec)? else {
             return Ok(None);
         };
         copies.push(copy)?;
@@ -91,22 +110,34 @@ pub(crate) fn copies(
     Ok(Some(copies))
 }
 
-/// Returns the partial bars that are sure to hold in Unison.
-pub(crate) fn sure_bars(alloc: Global, bars: &[Partial]) -> Result<Items<Partial>, AllocError>
-    ensures { IfOk result (λ sure. cautious.BarsLess bars.now sure) }
+/// Copies the specification of an `ignorenot` line, if it can stay.
+fn spared_line(alloc: Global, spec: &PathSpec) -> Result<Option<PathSpec>, AllocError>
+    ensures { IfOk result (λ o. o
+        ≡ (if reading.spare_stays spec.now then Some spec.now else None)) }
 {
-    let mut sure = Items::new(alloc);
-    for bar in bars {
-        if let Some(copy) = sure_bar(alloc, bar)? {
-            sure.push(copy)?;
-        }
+    if !is_simple(spec)? {
+        return Ok(None);
     }
-    Ok(sure)
+    copy_of(alloc, spec)
+}
+
+/// Returns the partial bars that are sure to hold in Unison.
+pub(crate) fn kept_bars(alloc: Global, bars: &[Partial]) -> Result<Items<Partial>, AllocError>
+    ensures { IfOk result (λ kept. kept ≡ reading.kept_bars bars.now) }
+{
+    let mut kept = Items::new(alloc);
+    for bar in bars {
+        let Some(copy) = kept_bar(alloc, bar)? else {
+            continue;
+        };
+        kept.push(copy)?;
+    }
+    Ok(kept)
 }
 
 /// Copies a partial bar, if it is sure to hold in Unison.
-fn sure_bar(alloc: Global, bar: &Partial) -> Result<Option<Partial>, AllocError>
-    ensures { IfOk result (λ o. IfSome o (λ copy. IsSureBar bar.now copy)) }
+fn kept_bar(alloc: Global, bar: &Partial) -> Result<Option<Partial>, AllocError>
+    ensures { IfOk result (λ o. o ≡ (if reading.bar_stays bar.now then Some bar.now else None)) }
 {
     if !is_plain(alloc, &bar.spec)? {
         return Ok(None);

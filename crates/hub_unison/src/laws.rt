@@ -1,14 +1,20 @@
 //! What follows from cautious readings: each law is the contract of an empty function.
-ghost use Rattle.std.specs.Prelude.{◌≡◌, List, map, true};
+ghost use Rattle.std.specs.Prelude.{◌≡◌, ◌≤◌, List, length, map, true};
 ghost use Rattle.hub_path.specs.Path.{Path};
 ghost use Rattle.hub_glob.specs.Glob.{matches};
+ghost use Rattle.hub_glob.specs.Readable.{IsReadable};
 ghost use Rattle.hub_glob.specs.Specification.{Specification};
+ghost use Rattle.hub_glob.specs.Writing.{pattern_text};
 ghost use Rattle.hub_profile.specs.Parts.{Parts};
 ghost use Rattle.hub_profile.specs.declared.rule.Rule.{Rule};
 ghost use Rattle.hub_reach.specs.Safe.{IsSafe};
 ghost use Rattle.hub_unison.specs.Matching.{surely, perhaps, IsMatching};
+ghost use Rattle.hub_unison.specs.ReadingOf.{is_read_back};
 ghost use Rattle.hub_unison.specs.Rules.{AreReadForUnison, KeepsRulesInUnison, forbidden};
 ghost use Rattle.hub_unison.specs.UnisonReach.{IsSafeInUnison};
+
+use hub_glob::PATTERN_CHARACTERS;
+use hub_glob::laws::readable_specifications_are_read_back;
 
 /// If the readings of some profiles beside rules are a safe set with these, no two of the profiles clash in Unison, and by none of
 /// them Unison breaks a rule.
@@ -25,3 +31,12 @@ pub fn safe_readings_are_safe_in_unison()
 pub fn hubsync_matches_as_unison_may()
     ensures { IsMatching matches }
 {}
+
+/// A specification is read from its own text, if its written pattern has at most `PATTERN_CHARACTERS` characters. So a reading
+/// keeps its line, if that is plain.
+pub fn short_specifications_are_read_back()
+    ensures { (s : Specification) → IsReadable s
+        → length (pattern_text s.pattern) ≤ PATTERN_CHARACTERS → is_read_back s ≡ true }
+{
+    readable_specifications_are_read_back();
+}

@@ -6,15 +6,16 @@
 //! of them Unison breaks a rule: see [`laws`].
 //!
 //! Only functions that return a `Result` allocate. The contracts are in the words of `specs/Matching` (what Unison's patterns
-//! match for certain, and what they may match), `specs/UnisonReach` (what it may reach and write), `specs/Cautious` and
-//! `specs/Rules` (what it may do that a rule forbids).
+//! match for certain, and what they may match), `specs/UnisonReach` (what it may reach and write), `specs/Rules` (what it may do
+//! that a rule forbids) and `specs/ReadingOf` (the readings, as functions of the profiles).
 //!
 //! # What is proved
 //!
-//! - [`cautious`] returns a reading that `IsCautious`, and [`read_set`] readings that `AreReadForUnison` beside the rules of a
-//!   set. If these and the rules are a safe set, no two of the profiles clash in Unison, and by none of them Unison breaks a rule
-//!   (law `safe_readings_are_safe_in_unison`). hubsync's own matching lies between the bounds, too
-//!   (`hubsync_matches_as_unison_may`).
+//! - [`cautious`] returns `cautious_of` its profile, and [`read_set`] the `reading_of` each profile beside the rules of a set: what
+//!   becomes of each line is said, and all else stays. A profile that hubsync and Unison read alike stays as it is.
+//! - The one `IsCautious`, and the others `AreReadForUnison`. If these and the rules are a safe set, no two of the profiles clash
+//!   in Unison, and by none of them Unison breaks a rule (law `safe_readings_are_safe_in_unison`). hubsync's own matching lies
+//!   between the bounds, too (`hubsync_matches_as_unison_may`).
 //! - An `ignore` line stays where Unison matches what hubsync matches; a pattern that differs by a dot at the start of a name
 //!   gets an `ignorenot` for it; one with `?`, ` -> ` or a set of other than ASCII characters is left out. If such a line is an
 //!   `ignorenot`, each `ignore` and `ignorenot` line is left out. A bar stays if Unison matches its pattern in the same way.
@@ -39,6 +40,7 @@ mod spare;
 mod spares;
 #[cfg(test)]
 mod tests;
+mod text;
 mod tops;
 
 pub use reading::cautious;

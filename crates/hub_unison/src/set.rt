@@ -1,6 +1,6 @@
 //! The readings of a set's profiles.
-ghost use Rattle.std.specs.Prelude.{◌≡◌, IfOk, List, map};
-ghost use Rattle.hub_profile.specs.declared.rule.Rule.{Rule};
+ghost use Rattle.std.specs.Prelude.{◌≡◌, IfOk, map};
+ghost use Rattle.hub_unison.specs.ReadingOf as reading;
 ghost use Rattle.hub_unison.specs.Rules as unison;
 
 use crate::reading::cautious;
@@ -20,7 +20,18 @@ pub fn read_set(
     profiles: Items<Profile>,
     rules: &Rules,
 ) -> Result<Items<Profile>, AllocError>
-    ensures { IfOk result (unison.AreReadForUnison profiles rules.now) }
+    ensures value { IfOk result (λ rs. rs ≡ map (reading.reading_of rules.now) profiles) }
+    ensures wide { IfOk result (unison.AreReadForUnison profiles rules.now) }
+{
+    read_all(alloc, profiles, rules)
+}
+
+fn read_all(
+    alloc: Global,
+    profiles: Items<Profile>,
+    rules: &Rules,
+) -> Result<Items<Profile>, AllocError>
+    ensures { IfOk result (λ rs. rs ≡ map (reading.reading_of rules.now) profiles) }
 {
     let mut readings = Items::new(alloc);
     for profile in profiles.into_vec() {
@@ -31,7 +42,7 @@ pub fn read_set(
 
 /// Returns the reading of a profile beside these rules.
 fn read(alloc: Global, profile: Profile, rules: &Rules) -> Result<Profile, AllocError>
-    ensures { IfOk result (unison.IsReadingOf rules.now profile) }
+    ensures { IfOk result (λ r. r ≡ reading.reading_of rules.now profile) }
 {
     if rules.as_slice().is_empty() {
         return cautious(alloc, profile);
@@ -41,7 +52,8 @@ fn read(alloc: Global, profile: Profile, rules: &Rules) -> Result<Profile, Alloc
 
 /// Returns the reading of a profile beside any rules.
 fn for_rules(alloc: Global, profile: Profile) -> Result<Profile, AllocError>
-    ensures { (Rs : List Rule) → IfOk result (unison.IsReadingOf Rs profile) }
+    ensures { IfOk result (λ r. r
+        ≡ unison.for_rules profile (reading.top_values profile.paths)) }
 {
     let tops = top_values(alloc, profile.paths())?;
     let bars = bars_for_rules(profile.bars());

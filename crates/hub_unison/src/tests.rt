@@ -27,6 +27,33 @@ fn reaches_what_unison_may(rt: HostRuntime) {
         ("ignore = Name *.{tmp,bak}", ".bak", false, true, true),
         ("ignore = Path */*.tmp", "d/.tmp", false, true, true),
         ("ignore = Path *.x/*.y", "a.x/b.y", false, false, false),
+        ("ignore = Path *.x/*.y", ".x/b.y", false, true, true),
+        ("ignore = Path *.x/*.y", "a.x/.y", false, true, true),
+        ("ignore = Name [.a]b", "ab", false, false, false),
+        ("ignore = Name [.a]b", ".b", false, true, true),
+        // Wider than Unison: the line for the spare of `*.tmp` counts for `.tmp` too.
+        (
+            "ignore = Name *.tmp; ignore = Name .tmp",
+            ".tmp",
+            false,
+            false,
+            true,
+        ),
+        (
+            "ignore = Name *.tmp; ignore = Name .tmp",
+            "x.tmp",
+            false,
+            false,
+            false,
+        ),
+        // Wider: of such an `ignorenot` line it isn't known what it matches at most.
+        (
+            "ignore = Name *.tmp; ignorenot = Name ?",
+            "x.tmp",
+            false,
+            false,
+            true,
+        ),
         ("ignore = Name ??", ".h", false, true, true),
         (
             "ignore = Name *; ignorenot = Name ?",
@@ -37,6 +64,14 @@ fn reaches_what_unison_may(rt: HostRuntime) {
         ),
         ("path = docs/*", "docs/x", false, true, true),
         ("path = docs/*", "mail", false, false, false),
+        // Wider: the parent is kept, and nothing is ignored.
+        (
+            "path = docs/*; ignore = Name *.tmp",
+            "docs/x.tmp",
+            false,
+            false,
+            true,
+        ),
     ] {
         let profile = profile_of(rt.alloc(), lines).expect(&rt, "a profile");
         let at = RelPath::read(rt.alloc(), path).expect(&rt, "a path");

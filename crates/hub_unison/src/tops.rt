@@ -1,9 +1,10 @@
 //! Kept values in place of those that end with `*`.
-ghost use Rattle.std.specs.Prelude.{◌≡◌, ◌&&◌, ◌||◌, not, chars, codes, IfOk, IsTrue, true};
+ghost use Rattle.std.specs.Prelude.{◌≡◌, ◌&&◌, ◌||◌, not, chars, codes, map, IfOk, IsTrue};
 ghost use Rattle.std.specs.List.{list_all, list_any};
 ghost use Rattle.hub_path.specs.Path as path;
 ghost use Rattle.hub_profile.specs.Facts.{are_kept};
 ghost use Rattle.hub_unison.specs.Cautious as cautious;
+ghost use Rattle.hub_unison.specs.ReadingOf as reading;
 ghost use Rattle.hub_unison.specs.UnisonReach.{is_starred};
 
 use hub_path::RelPath;
@@ -13,8 +14,8 @@ use std::alloc::{AllocError, Global};
 /// Returns kept values that are over all that these stand for: each of these, or its parent if its last name is `*`, and of
 /// those only the topmost.
 pub(crate) fn top_values(alloc: Global, paths: &[RelPath]) -> Result<Items<RelPath>, AllocError>
+    ensures value { IfOk result (λ tops. tops ≡ reading.top_values paths.now) }
     ensures kept { IfOk result (λ tops. IsTrue (are_kept tops)) }
-    ensures cover { IfOk result (λ tops. cautious.cover tops paths.now ≡ true) }
 {
     let cuts = cut_values(alloc, paths)?;
     let tops = topmost(alloc, cuts.as_slice())?;
@@ -27,7 +28,9 @@ pub(crate) fn top_values(alloc: Global, paths: &[RelPath]) -> Result<Items<RelPa
 }
 
 /// Returns these values, without a last name `*`.
-fn cut_values(alloc: Global, paths: &[RelPath]) -> Result<Items<RelPath>, AllocError> {
+fn cut_values(alloc: Global, paths: &[RelPath]) -> Result<Items<RelPath>, AllocError>
+    ensures { IfOk result (λ cuts. cuts ≡ map reading.cut_value paths.now) }
+{
     let mut cuts = Items::new(alloc);
     for path in paths {
         cuts.push(cut_value(alloc, path)?)?;
@@ -35,7 +38,9 @@ fn cut_values(alloc: Global, paths: &[RelPath]) -> Result<Items<RelPath>, AllocE
     Ok(cuts)
 }
 
-fn cut_value(alloc: Global, path: &RelPath) -> Result<RelPath, AllocError> {
+fn cut_value(alloc: Global, path: &RelPath) -> Result<RelPath, AllocError>
+    ensures { IfOk result (λ cut. cut ≡ reading.cut_value path.now) }
+{
     if !is_starred(path) {
         return path.copy();
     }
@@ -46,28 +51,35 @@ fn cut_value(alloc: Global, path: &RelPath) -> Result<RelPath, AllocError> {
 }
 
 /// Copies the values that are below no other one, each once.
-fn topmost(alloc: Global, cuts: &[RelPath]) -> Result<Items<RelPath>, AllocError> {
+fn topmost(alloc: Global, cuts: &[RelPath]) -> Result<Items<RelPath>, AllocError>
+    ensures { IfOk result (λ tops. tops ≡ reading.topmost cuts.now) }
+{
     let mut tops = Items::new(alloc);
     for cut in cuts {
-        if !lies_below(cuts, cut) && !is_among(tops.as_slice(), cut) {
-            tops.push(cut.copy()?)?;
+        if lies_below(cuts, cut) || is_among(tops.as_slice(), cut) {
+            continue;
         }
+        tops.push(cut.copy()?)?;
     }
     Ok(tops)
 }
 
-fn lies_below(cuts: &[RelPath], cut: &RelPath) -> bool {
+fn lies_below(cuts: &[RelPath], cut: &RelPath) -> bool
+    ensures { result ≡ reading.is_below_some cuts.now cut.now }
+{
     cuts.iter()
         .any(|other| cut.starts_with(other) && other.len() < cut.len())
 }
 
-fn is_among(tops: &[RelPath], cut: &RelPath) -> bool {
+fn is_among(tops: &[RelPath], cut: &RelPath) -> bool
+    ensures { result ≡ list_any (λ top. path.path_eq top cut.now) tops.now }
+{
     tops.iter().any(|top| top == cut)
 }
 
 /// Returns whether these may be kept values, and are over all that the others stand for.
 fn are_tops(tops: &[RelPath], paths: &[RelPath]) -> bool
-    ensures { result ≡ (are_kept tops.now && cautious.cover tops.now paths.now) }
+    ensures { result ≡ reading.are_tops tops.now paths.now }
 {
     are_apart(tops) && cover(tops, paths)
 }

@@ -1,12 +1,14 @@
-use Rattle.std.proofs.Common.{List, [], ◌∷◌, ◌++◌, subst, sym}
+use Rattle.std.proofs.Common.{◌≡◌, List, map, subst, sym}
+use Rattle.std.proofs.lemmas.Result.{IfOk-weaker}
 use Rattle.hub_profile.specs.Parts.{Parts}
+use Rattle.hub_unison.specs.ReadingLaws.{readings-read}
+use Rattle.hub_unison.specs.ReadingOf.{reading_of}
 use Rattle.hub_unison.specs.Rules.{AreReadForUnison}
-use Rattle.hub_unison.specs.RulesLaws.{read-push}
 use Rattle.hub_unison.proofs.set.read_set.Goals as goal
 
-pub loop-profile-preserved : goal.loop-profile-preserved
-loop-profile-preserved c =
-    subst (λ (Cs : List Parts). AreReadForUnison (c.loop-profile.yielded ++ c.in-Some.profile ∷ []) c.args.rules.now Cs)
-    (sym c.in_ok-push.ensures.ok)
-    (read-push c.loop-profile.yielded c.loop-profile.readings c.args.rules.now c.in-Some.profile c.in_ok-read.field-0
-    c.loop-profile.invariant c.in_ok-read.ensures)
+pub returns-clause-wide : goal.returns-clause-wide
+returns-clause-wide c =
+    let Ps = c.args.profiles in
+    let Rs = c.args.rules.now in
+    IfOk-weaker c.read_all.result (λ (Cs : List Parts). Cs ≡ map (reading_of Rs) Ps) (λ Cs. AreReadForUnison Ps Rs Cs)
+    (λ Cs e. subst (λ Ds. AreReadForUnison Ps Rs Ds) (sym e) (readings-read Ps Rs)) c.read_all.ensures

@@ -1,5 +1,5 @@
 use Rattle.std.proofs.Common.{◌-◌, arith}
-use Rattle.hub_unison.proofs.Keeping.{starred-last}
+use Rattle.hub_unison.proofs.LastName.{starred-last}
 use Rattle.hub_unison.proofs.tops.is_starred.Goals as goal
 
 pub returns-then-len-gt0 : goal.returns-then-len-gt0

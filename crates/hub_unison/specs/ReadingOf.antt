@@ -1,0 +1,108 @@
+-- The readings of profiles, as functions of these.
+use Rattle.std.specs.Prelude.{ℕ, Bool, true, false, not, ◌&&◌, ◌||◌, ◌==◌, nat_lt, List, [], ◌∷◌, ◌++◌, length, map, Option, Some, None, if◌then◌else◌}
+use Rattle.std.specs.List.{list_any, list_all, filter, fold}
+use Rattle.std.specs.Result.{result_ok}
+use Rattle.hub_path.specs.Path.{Path, is_over, parent, path_eq}
+use Rattle.hub_glob.specs.declared.piece.Part.TheVariants.{Brace}
+use Rattle.hub_glob.specs.contracts.path_spec.PathSpecPartialEq.TheImpl as tested
+use Rattle.hub_glob.specs.Reading.{spec_reading}
+use Rattle.hub_glob.specs.Specification.{Specification}
+use Rattle.hub_glob.specs.Writing.{spec_text}
+use Rattle.hub_profile.specs.declared.partial.Partial.{Partial}
+use Rattle.hub_profile.specs.declared.rule.Rule.{Rule}
+use Rattle.hub_profile.specs.Facts.{are_kept}
+use Rattle.hub_profile.specs.Parts.{Parts, some_passes}
+use Rattle.hub_unison.specs.Cautious.{cover, has_star, with_patterns, with_tops}
+use Rattle.hub_unison.specs.Matching.{all_simple}
+use Rattle.hub_unison.specs.Rules.{for_rules}
+use Rattle.hub_unison.specs.Spares.{is_plain, pattern_spares}
+use Rattle.hub_unison.specs.UnisonReach.{is_starred}
+
+-- The specification that a text spells.
+abbrev pub spelled : List ℕ → Option Specification
+spelled text = result_ok (spec_reading text)
+
+-- Whether a specification is spelled by its own text. That may have too many characters: the set
+-- `[a-c]` is written `[abc]`.
+abbrev pub is_read_back : Specification → Bool
+is_read_back s = some_passes (λ t. tested.eq-value.it t s) (spelled (spec_text s))
+
+abbrev pub read_back : Specification → Option Specification
+read_back s = if is_read_back s then Some s else None
+
+-- The specification that matches what the spares of another one match.
+abbrev pub spare_of : Specification → Specification
+spare_of s = record { kind = s.kind; pattern = Brace (pattern_spares s.pattern) ∷ [] }
+
+abbrev pub has_spares : Specification → Bool
+has_spares s = not (length (pattern_spares s.pattern) == 0)
+
+-- An `ignore` line stays if it is known what Unison matches by it at most, and each spare can be
+-- written in an `ignorenot` line. For this one line is added.
+abbrev pub line_stays : Specification → Bool
+line_stays s =
+    is_read_back s && all_simple s.pattern && (not (has_spares s) || is_read_back (spare_of s))
+
+abbrev pub adds_spare : Specification → Bool
+adds_spare s = line_stays s && has_spares s
+
+abbrev pub kept_lines : List Specification → List Specification
+kept_lines ss = filter line_stays ss
+
+abbrev pub added_lines : List Specification → List Specification
+added_lines ss = map spare_of (filter adds_spare ss)
+
+-- An `ignorenot` line can stay if it is known what Unison matches by it at most.
+abbrev pub spare_stays : Specification → Bool
+spare_stays s = is_read_back s && all_simple s.pattern
+
+-- A bar stays if Unison matches for certain what hubsync has its pattern match.
+abbrev pub bar_stays : Partial → Bool
+bar_stays b = is_read_back b.spec && is_plain b.spec.pattern
+
+abbrev pub kept_bars : List Partial → List Partial
+kept_bars bars = filter bar_stays bars
+
+-- A kept value, or its parent if its last name is `*`.
+abbrev pub cut_value : Path → Path
+cut_value s = if is_starred s then parent s else s
+
+-- Of some paths those that are below no other one, each once, in their order.
+abbrev pub is_below_some : List Path → Path → Bool
+is_below_some ps q = list_any (λ p. is_over p q && nat_lt (length p) (length q)) ps
+
+abbrev pub with_top : List Path → List Path → Path → List Path
+with_top ps tops q =
+    if is_below_some ps q || list_any (λ top. path_eq top q) tops then tops else tops ++ q ∷ []
+
+abbrev pub topmost : List Path → List Path
+topmost ps = fold (with_top ps) [] ps
+
+-- They may be kept values, and are over all that the others stand for.
+abbrev pub are_tops : List Path → List Path → Bool
+are_tops tops paths = are_kept tops && cover tops paths
+
+-- The kept values in place of some that end with `*`.
+abbrev pub top_values : List Path → List Path
+top_values paths =
+    if are_tops (topmost (map cut_value paths)) paths then topmost (map cut_value paths) else [] ∷ []
+
+-- The cautious reading of a profile. If a kept value ends with `*`, or it isn't known what Unison
+-- matches at most by an `ignorenot` line, nothing is ignored.
+abbrev pub cautious_of : Parts → Parts
+cautious_of P =
+    if has_star P then with_tops P (top_values P.paths) (kept_bars P.partial)
+    else (if list_all spare_stays P.ignorenot
+    then with_patterns P (kept_lines P.ignore) (P.ignorenot ++ added_lines P.ignore) (kept_bars P.partial)
+    else with_patterns P [] [] (kept_bars P.partial))
+
+-- The reading of a profile beside rules.
+abbrev pub reading_of : List Rule → Parts → Parts
+reading_of [] P = cautious_of P
+reading_of (R ∷ Rs) P = for_rules P (top_values P.paths)
+
+-- Each line of the profile is read alike by hubsync and Unison.
+abbrev pub is_read_alike : Parts → Bool
+is_read_alike P =
+    not (has_star P) && list_all (λ s. is_read_back s && is_plain s.pattern) P.ignore
+    && list_all spare_stays P.ignorenot && list_all bar_stays P.partial

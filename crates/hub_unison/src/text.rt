@@ -1,0 +1,126 @@
+//! The texts of specifications that are made of parts.
+ghost use Rattle.std.specs.Prelude.{◌≡◌, ◌++◌, ◌∷◌, IfOk, string_bytes, encode_utf8_all};
+ghost use Rattle.hub_glob.specs.Reading.{is_special};
+ghost use Rattle.hub_glob.specs.Writing as writing;
+
+use hub_glob::{Kind, Part, Piece};
+use hub_text::Items;
+use std::alloc::{AllocError, Global};
+
+/// The text of the specification of that kind that has these parts.
+pub(crate) fn text_of(alloc: Global, kind: Kind, parts: &[Part]) -> Result<String, AllocError>
+    ensures { IfOk result (λ t. string_bytes t
+        ≡ encode_utf8_all (writing.kind_word kind ++ 32 ∷ writing.pattern_text parts.now)) }
+{
+    let mut text = String::from_str(alloc, word_of(kind))?;
+    text.push(' ')?;
+    push_parts(&mut text, parts)?;
+    Ok(text)
+}
+
+fn word_of(kind: Kind) -> &'static str
+    ensures { result.now ≡ writing.kind_word kind }
+{
+    match kind {
+        Kind::Name => "Name",
+        Kind::Path => "Path",
+        Kind::BelowPath => "BelowPath",
+    }
+}
+
+fn push_parts(text: &mut String, parts: &[Part]) -> Result<(), AllocError>
+    ensures { IfOk result (λ _. string_bytes text.new
+        ≡ string_bytes text.old ++ encode_utf8_all (writing.pattern_text parts.now)) }
+{
+    for part in parts {
+        push_part(text, part)?;
+    }
+    Ok(())
+}
+
+fn push_part(text: &mut String, part: &Part) -> Result<(), AllocError>
+    ensures { IfOk result (λ _. string_bytes text.new
+        ≡ string_bytes text.old ++ encode_utf8_all (writing.pattern_part_text part.now)) }
+{
+    match part {
+        Part::One(piece) => push_piece(text, piece),
+        Part::Brace(choices) => {
+            text.push('{')?;
+            push_choices(text, choices.as_slice())?;
+            text.push('}')
+        }
+    }
+}
+
+fn push_choices(text: &mut String, choices: &[Items<Piece>]) -> Result<(), AllocError>
+    ensures { IfOk result (λ _. string_bytes text.new
+        ≡ string_bytes text.old ++ encode_utf8_all (writing.choices_text choices.now)) }
+{
+    for (i, choice) in choices.iter().enumerate() {
+        if i > 0 {
+            text.push(',')?;
+        }
+        push_pieces(text, choice.as_slice())?;
+    }
+    Ok(())
+}
+
+fn push_pieces(text: &mut String, pieces: &[Piece]) -> Result<(), AllocError>
+    ensures { IfOk result (λ _. string_bytes text.new
+        ≡ string_bytes text.old ++ encode_utf8_all (writing.pieces_text pieces.now)) }
+{
+    for piece in pieces {
+        push_piece(text, piece)?;
+    }
+    Ok(())
+}
+
+fn push_piece(text: &mut String, piece: &Piece) -> Result<(), AllocError>
+    ensures { IfOk result (λ _. string_bytes text.new
+        ≡ string_bytes text.old ++ encode_utf8_all (writing.piece_text piece.now)) }
+{
+    match piece {
+        Piece::Lit(c) => push_literal(text, *c),
+        Piece::Any => text.push('?'),
+        Piece::Run => text.push('*'),
+        Piece::OneOf(set) => {
+            text.push('[')?;
+            push_members(text, set.as_slice())?;
+            text.push(']')
+        }
+    }
+}
+
+/// Writes the members of a set. Each one that a `-` follows is written as the range of itself, since that `-` would make
+/// another range.
+fn push_members(text: &mut String, set: &[char]) -> Result<(), AllocError>
+    ensures { IfOk result (λ _. string_bytes text.new
+        ≡ string_bytes text.old ++ encode_utf8_all (writing.members_text set.now)) }
+{
+    for i in 0..set.len() {
+        push_literal(text, set[i])?;
+        if i + 2 < set.len() && set[i + 1] == '-' {
+            text.push('-')?;
+            push_literal(text, set[i])?;
+        }
+    }
+    Ok(())
+}
+
+/// Writes a character, with a `\` before it where it would mean something else.
+fn push_literal(text: &mut String, c: char) -> Result<(), AllocError>
+    ensures { IfOk result (λ _. string_bytes text.new
+        ≡ string_bytes text.old ++ encode_utf8_all (writing.literal c)) }
+{
+    if is_special(c) {
+        text.push('\\')?;
+    }
+    text.push(c)
+}
+
+/// Returns whether a `\` makes a character literal.
+fn is_special(c: char) -> bool
+    ensures { result ≡ is_special c }
+{
+    matches!(c, '*' | '?' | '[' | ']' | '{' | '}' | ',' | '\\')
+}

@@ -1,0 +1,6 @@
+mod Absolute
+mod NoLf
+mod Numbers
+mod Stays
+mod TableLines
+mod WholeLines

@@ -1,0 +1,129 @@
+-- Worked values. Those of texts are what examples/from-prf.sh writes, but for blanks, and where a
+-- comment says so.
+use Rattle.std.specs.Prelude.{◌≡◌, ℕ, false, true, List, [], ◌∷◌, Ok, Err, codes, refl}
+use Rattle.hub_hosts.specs.Profiles.{text_for}
+use Rattle.hub_hosts.specs.Table.{Row, rows_of}
+use Rattle.hub_hosts.specs.declared.fault.HostsFault.TheVariants.{BadLine, SecondLine}
+
+-- A table's rows.
+abbrev row : List ℕ → List ℕ → Row
+row name path = record { name = name; is_for_home = false; path = path }
+
+abbrev home_row : List ℕ → List ℕ → Row
+home_row name path = record { name = name; is_for_home = true; path = path }
+
+a_table : rows_of (codes "# a comment\n\n\t Build \t/hosts/build/ \r\nanna@laptop~ /a b")
+    ≡ Ok (row (codes "Build") (codes "/hosts/build")
+    ∷ home_row (codes "anna@laptop") (codes "/a b") ∷ [])
+a_table = refl
+
+a_root_has_an_empty_path : rows_of (codes "top /") ≡ Ok (row (codes "top") [] ∷ [])
+a_root_has_an_empty_path = refl
+
+a_path_that_is_relative : rows_of (codes "\nbuild hosts/build") ≡ Err (BadLine 2)
+a_path_that_is_relative = refl
+
+a_host_without_a_path : rows_of (codes "build") ≡ Err (BadLine 1)
+a_host_without_a_path = refl
+
+a_host_with_a_slash : rows_of (codes "build/x /y") ≡ Err (BadLine 1)
+a_host_with_a_slash = refl
+
+-- The script takes it.
+no_host_before_the_tilde : rows_of (codes "~ /y") ≡ Err (BadLine 1)
+no_host_before_the_tilde = refl
+
+a_second_line : rows_of (codes "build /a\nBUILD /a") ≡ Err (SecondLine 2)
+a_second_line = refl
+
+a_home_is_no_second_line : rows_of (codes "build /a\nbuild~ /b")
+    ≡ Ok (row (codes "build") (codes "/a") ∷ home_row (codes "build") (codes "/b") ∷ [])
+a_home_is_no_second_line = refl
+
+-- The rows of these examples.
+abbrev rows : List Row
+rows =
+    row (codes "Build") (codes "/hosts/build") ∷ row (codes "anna@build") (codes "/hosts/anna")
+    ∷ home_row (codes "laptop") (codes "/home/of/laptop") ∷ row (codes "top") []
+    ∷ home_row (codes "top") (codes "/h") ∷ []
+
+-- The text of a line.
+abbrev told : List ℕ → List ℕ
+told line = text_for rows line
+
+a_root : told (codes "root = ssh://build//srv/src\nroot = /srv/src\n")
+    ≡ codes "root = /hosts/build/srv/src\nroot = /srv/src\n"
+a_root = refl
+
+a_user_comes_first : told (codes "root = ssh://anna@build//srv/src/")
+    ≡ codes "root = /hosts/anna/srv/src"
+a_user_comes_first = refl
+
+another_user : told (codes "root = ssh://bob@build//srv") ≡ codes "root = /hosts/build/srv"
+another_user = refl
+
+capitals_and_a_port : told (codes "root = ssh://BUILD:22//srv") ≡ codes "root = /hosts/build/srv"
+capitals_and_a_port = refl
+
+a_socket : told (codes "root = socket://build:8080//srv") ≡ codes "root = /hosts/build/srv"
+a_socket = refl
+
+blanks_and_a_cr_stay : told (codes "  root\t=\tssh://build//a b/c  \r\n")
+    ≡ codes "  root\t=\t/hosts/build/a b/c  \r\n"
+blanks_and_a_cr_stay = refl
+
+slashes_inside_stay : told (codes "root = ssh://build///srv//x//")
+    ≡ codes "root = /hosts/build/srv//x"
+slashes_inside_stay = refl
+
+the_whole_host : told (codes "root = ssh://build//") ≡ codes "root = /hosts/build"
+the_whole_host = refl
+
+one_slash_is_a_home : told (codes "root = ssh://laptop/work") ≡ codes "root = /home/of/laptop/work"
+one_slash_is_a_home = refl
+
+a_missing_path_is_the_home : told (codes "root = ssh://laptop")
+    ≡ codes "root = /home/of/laptop"
+a_missing_path_is_the_home = refl
+
+a_host_at_the_top : told (codes "root = ssh://top//srv\nroot = ssh://top//")
+    ≡ codes "root = /srv\nroot = /"
+a_host_at_the_top = refl
+
+no_line_for_a_home : told (codes "root = ssh://build/x") ≡ codes "root = ssh://build/x"
+no_line_for_a_home = refl
+
+no_line_for_the_top : told (codes "root = ssh://laptop//x") ≡ codes "root = ssh://laptop//x"
+no_line_for_the_top = refl
+
+another_host : told (codes "root = ssh://anna@other//srv") ≡ codes "root = ssh://anna@other//srv"
+another_host = refl
+
+no_port : told (codes "root = ssh://build:x//srv") ≡ codes "root = ssh://build:x//srv"
+no_port = refl
+
+-- The script takes this host for the home of the other one.
+a_tilde_at_the_end_of_a_host : told (codes "root = ssh://laptop~//srv")
+    ≡ codes "root = ssh://laptop~//srv"
+a_tilde_at_the_end_of_a_host = refl
+
+another_scheme : told (codes "root = rsh://build//srv") ≡ codes "root = rsh://build//srv"
+another_scheme = refl
+
+a_comment : told (codes "# root = ssh://build//srv") ≡ codes "# root = ssh://build//srv"
+a_comment = refl
+
+another_name : told (codes "rootalias = ssh://build//srv") ≡ codes "rootalias = ssh://build//srv"
+another_name = refl
+
+a_root_that_is_forced : told (codes "force = ssh://build//srv") ≡ codes "force = /hosts/build/srv"
+a_root_that_is_forced = refl
+
+the_last_arrow : told (codes "nodeletionpartial = Path a -> b ->ssh://build//srv")
+    ≡ codes "nodeletionpartial = Path a -> b ->/hosts/build/srv"
+the_last_arrow = refl
+
+-- The script leaves these lines as they are.
+a_root_that_is_forced_on_a_path : told (codes "forcepartial = Path a -> ssh://build//srv")
+    ≡ codes "forcepartial = Path a -> /hosts/build/srv"
+a_root_that_is_forced_on_a_path = refl

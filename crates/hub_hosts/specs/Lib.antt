@@ -1,0 +1,5 @@
+pub mod Examples
+pub mod Profiles
+pub mod Remotes
+pub mod Table
+pub mod Words

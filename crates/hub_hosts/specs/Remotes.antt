@@ -1,0 +1,75 @@
+-- Roots on other machines, and the paths that stand for them.
+use Rattle.std.specs.Prelude.{ℕ, ◌==◌, ◌-◌, Bool, not, nat_eq, List, ◌++◌, length, take, drop, Option, Some, None, codes, if◌then◌else◌}
+use Rattle.std.specs.List.{ends_with, find}
+use Rattle.std.specs.Option.{option_map, option_or}
+use denote.Ref.{Bor}
+use Rattle.hub_hosts.specs.Table.{Row, is_for, slash}
+use Rattle.hub_hosts.specs.Words.{before, begins_with, from_first, host_in, skip, skip_end}
+use Rattle.hub_hosts.specs.declared.remote.Local.{Local}
+use Rattle.hub_hosts.specs.declared.remote.Remote.{Remote}
+
+abbrev pub digits : List ℕ
+digits = codes "0123456789"
+
+-- A name without its port, which is a `:` and digits at its end.
+abbrev pub without_port : List ℕ → List ℕ
+without_port name =
+    if ends_with nat_eq (skip_end digits name) (codes ":")
+    then take (length (skip_end digits name) - 1) (skip_end digits name) else name
+
+-- The root whose name and path these are. Its path is absolute after two slashes, else relative to
+-- a home. The slashes around it go.
+abbrev pub remote_at : List ℕ → List ℕ → Remote (List ℕ)
+remote_at name path = record {
+  name = without_port name;
+  is_in_home = not (begins_with (codes "//") path);
+  below = skip_end slash (skip slash path);
+}
+
+-- The root that follows `://`: its name ends before the first slash.
+abbrev pub remote_in : List ℕ → Remote (List ℕ)
+remote_in text = remote_at (before text (from_first slash text)) (from_first slash text)
+
+-- The root on another machine that a text is.
+abbrev pub remote_of : List ℕ → Option (Remote (List ℕ))
+remote_of root =
+    if begins_with (codes "ssh://") root then Some (remote_in (drop 6 root))
+    else (if begins_with (codes "socket://") root then Some (remote_in (drop 9 root)) else None)
+
+-- The path of the row for this name,
+abbrev pub path_for : List Row → List ℕ → Bool → Option (List ℕ)
+path_for rows name in_home = option_map (λ row. row.path) (find (is_for name in_home) rows)
+
+-- and that for a root: its name with the user comes first, then that of the host alone.
+abbrev pub base_for : List Row → Remote (List ℕ) → Option (List ℕ)
+base_for rows r =
+    option_or (path_for rows r.name r.is_in_home) (path_for rows (host_in r.name) r.is_in_home)
+
+-- The path of a name below a folder. The folder's path has no slash at its end, so that of `/` is
+-- empty.
+abbrev pub folder_path : List ℕ → List ℕ
+folder_path base = if length base == 0 then slash else base
+
+abbrev pub path_below : List ℕ → List ℕ → List ℕ
+path_below base below = if length below == 0 then folder_path base else base ++ slash ++ below
+
+abbrev pub local : List ℕ → List ℕ → Local (List ℕ)
+local base below = record { base = base; below = below }
+
+abbrev pub local_of : List Row → Option (Remote (List ℕ)) → Option (Local (List ℕ))
+local_of rows None = None
+local_of rows (Some r) = option_map (λ base. local base r.below) (base_for rows r)
+
+-- The path that stands for a root, if the table has its host.
+abbrev pub path_of_local : Local (List ℕ) → List ℕ
+path_of_local l = path_below l.base l.below
+
+abbrev pub path_of : List Row → List ℕ → Option (List ℕ)
+path_of rows root = option_map path_of_local (local_of rows (remote_of root))
+
+-- Borrowed values.
+abbrev pub of_remote : Remote (Bor (List ℕ)) → Remote (List ℕ)
+of_remote r = record { name = r.name.now; is_in_home = r.is_in_home; below = r.below.now }
+
+abbrev pub of_local : Local (Bor (List ℕ)) → Local (List ℕ)
+of_local l = record { base = l.base.now; below = l.below.now }

@@ -1,0 +1,40 @@
+//! Paths in place of the roots on other machines that Unison profiles name.
+//!
+//! - [`Hosts::read`]: a table of hosts, each with the path that stands for it, or the first [`HostsFault`].
+//! - [`Hosts::text_for`]: the text of a profile with a path in place of each root of a host that the table has.
+//!
+//! A table has lines `HOST PATH`. PATH stands for the `/` of the host, and is absolute. HOST may be `USER@HOST`, which comes first.
+//! A line `HOST~ PATH` is for roots that are relative to a home. So with the lines
+//!
+//! ```text
+//! build /hosts/build
+//! laptop~ /hosts/laptop/home/anna
+//! ```
+//!
+//! a root `ssh://build//srv` becomes `/hosts/build/srv`, and `ssh://laptop/work` becomes `/hosts/laptop/home/anna/work`. A root of
+//! a host that the table lacks stays as it is, so the reader of profiles refuses it.
+//!
+//! The contracts use the words of `specs/Table` (the rows of a table), `specs/Remotes` (the path that stands for a root) and
+//! `specs/Profiles` (the text). Only functions that return a `Result` allocate.
+//!
+//! # What is proved
+//!
+//! `read` returns exactly the rows that `specs/Table` gives, or exactly that fault. `text_for` returns exactly the text of
+//! `specs/Profiles`. A text that names no root on another machine stays, as does a line of another name and one whose host the
+//! table lacks; the lines keep their numbers; what stands in place of a root is an absolute path ([`laws`]).
+//!
+//! # What is not
+//!
+//! That a path of the table leads to the files of its host: the table says so. The port of a root isn't looked at, so two roots on
+//! one host with two ports get the same path.
+#![tactic(auto)]
+
+mod fault;
+mod host;
+pub mod laws;
+mod profile;
+mod remote;
+mod words;
+
+pub use fault::HostsFault;
+pub use host::Hosts;

@@ -1,0 +1,141 @@
+//! Roots on other machines, and the paths that stand for them.
+ghost use Rattle.std.specs.Prelude.{◌≡◌, ◌++◌, IfOk, OnOk};
+ghost use Rattle.std.specs.Option.{option_map};
+ghost use Rattle.std.specs.List.{find};
+ghost use Rattle.hub_hosts.specs.Remotes as remotes;
+ghost use Rattle.hub_hosts.specs.Table.{is_for};
+ghost use Rattle.hub_hosts.specs.Remotes.{of_local, of_remote};
+
+use crate::host::{Host, Hosts, is_for};
+use crate::words::{before, from_first, host_in, skip, skip_end};
+use hub_text::Items;
+use std::alloc::AllocError;
+
+/// A root on another machine.
+#[derive(Clone, Copy, Debug, PartialEq, Eq)]
+pub(crate) struct Remote<T> {
+    /// `HOST` or `USER@HOST`.
+    pub(crate) name: T,
+    /// Whether its path is relative to a home.
+    pub(crate) is_in_home: bool,
+    /// Its path, without slashes around it.
+    pub(crate) below: T,
+}
+
+/// A path below another one.
+#[derive(Clone, Copy, Debug, PartialEq, Eq)]
+pub(crate) struct Local<T> {
+    /// The path of a host, without slashes at its end.
+    pub(crate) base: T,
+    /// What follows it, without slashes around it.
+    pub(crate) below: T,
+}
+
+/// The root on another machine that a text is.
+fn remote_of(root: &[u8]) -> Option<Remote<&[u8]>>
+    ensures { option_map of_remote result ≡ remotes.remote_of root.now }
+{
+    if let Some(text) = root.strip_prefix(b"ssh://") {
+        return Some(remote_in(text));
+    }
+    match root.strip_prefix(b"socket://") {
+        Some(text) => Some(remote_in(text)),
+        None => None,
+    }
+}
+
+/// The root that follows `://`.
+fn remote_in(text: &[u8]) -> Remote<&[u8]>
+    ensures { of_remote result ≡ remotes.remote_in text.now }
+{
+    let path = from_first(b"/", text);
+    remote_at(before(text, path), path)
+}
+
+/// The root whose name and path these are.
+fn remote_at<'a>(name: &'a [u8], path: &'a [u8]) -> Remote<&'a [u8]>
+    ensures { of_remote result ≡ remotes.remote_at name.now path.now }
+{
+    Remote {
+        name: without_port(name),
+        is_in_home: !path.starts_with(b"//"),
+        below: skip_end(b"/", skip(b"/", path)),
+    }
+}
+
+/// A name without its port.
+fn without_port(name: &[u8]) -> &[u8]
+    ensures { result.now ≡ remotes.without_port name.now }
+{
+    skip_end(b"0123456789", name)
+        .strip_suffix(b":")
+        .unwrap_or(name)
+}
+
+impl Hosts {
+    /// The path of a root, if it is one on another machine and the table has its host.
+    pub(crate) fn local_of<'a>(&'a self, root: &'a [u8]) -> Option<Local<&'a [u8]>>
+        ensures { option_map of_local result
+            ≡ remotes.local_of self.now (remotes.remote_of root.now) }
+    {
+        let remote = remote_of(root)?;
+        let base = base_for(self.rows(), remote)?;
+        Some(Local {
+            base,
+            below: remote.below,
+        })
+    }
+}
+
+/// The path for a root: that of its name with the user, or that of its host.
+fn base_for<'a>(rows: &'a [Host<Items<u8>>], remote: Remote<&[u8]>) -> Option<&'a [u8]>
+    ensures { option_map (λ p. p.now) result ≡ remotes.base_for rows.now (of_remote remote.entry) }
+{
+    match path_for(rows, remote.name, remote.is_in_home) {
+        Some(path) => Some(path),
+        None => path_for(rows, host_in(remote.name), remote.is_in_home),
+    }
+}
+
+/// The path of the row for this name.
+fn path_for<'a>(rows: &'a [Host<Items<u8>>], name: &[u8], in_home: bool) -> Option<&'a [u8]>
+    ensures { option_map (λ p. p.now) result ≡ remotes.path_for rows.now name.now in_home }
+{
+    match row_for(rows, name, in_home) {
+        Some(row) => Some(row.path.as_slice()),
+        None => None,
+    }
+}
+
+/// The row for this name.
+fn row_for<'a>(
+    rows: &'a [Host<Items<u8>>],
+    name: &[u8],
+    in_home: bool,
+) -> Option<&'a Host<Items<u8>>>
+    ensures { option_map (λ r. r.now) result ≡ find (is_for name.now in_home) rows.now }
+{
+    rows.iter().find(|row| is_for(*row, name, in_home))
+}
+
+impl<'a> Local<&'a [u8]> {
+    /// Adds the path to a text.
+    pub(crate) fn push_to(self, text: &mut Vec<u8>) -> Result<(), AllocError>
+        ensures { OnOk result
+            (text.new.items ≡ text.old.items ++ remotes.path_of_local (of_local self.entry)) }
+    {
+        if self.below.is_empty() {
+            return text.extend_from_slice(folder_path(self.base));
+        }
+        text.extend_from_slice(self.base)?;
+        text.push(b'/')?;
+        text.extend_from_slice(self.below)
+    }
+}
+
+/// The path of a folder, which is `/` if it is empty.
+fn folder_path(base: &[u8]) -> &[u8]
+    ensures { result.now ≡ remotes.folder_path base.now }
+{
+    if base.is_empty() { b"/" } else { base }
+}

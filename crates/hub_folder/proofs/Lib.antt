@@ -1,0 +1,2 @@
+mod OperandFacts
+mod ToldFacts

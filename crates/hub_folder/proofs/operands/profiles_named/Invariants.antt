@@ -1,0 +1,9 @@
+use Rattle.std.proofs.Common.{map, take}
+use Rattle.hub_folder.specs.Operands.{AreNamed}
+use Rattle.hub_folder.specs.Told.{path_and_text}
+use Rattle.hub_folder.proofs.operands.profiles_named.Given as goal
+
+abbrev pub invariant-loop-operand : goal.invariant-loop-operand
+invariant-loop-operand g l =
+    AreNamed (g.F.FileReader.reads l.reader) (g.F.FileReader.lists l.reader)
+    (map (λ o. o.now) (take l.operand-index l.operands)) (map path_and_text l.named.items)

@@ -1,0 +1,88 @@
+-- The profiles of a folder.
+use Rattle.std.specs.Prelude.{◌≡◌, ◌==◌, ◌&&◌, ◌||◌, not, ℕ, Bool, true, false, nat_eq, List, [], ◌∷◌, ◌++◌, drop, map, filter, Ok, Err, bytes_eq, string_bytes, codes, if◌then◌else◌}
+use Rattle.std.specs.List.{All, ends_with, list_any}
+use Rattle.std.specs.Result.{is_ok}
+use Rattle.hub_include.specs.Bundle.{text_of}
+use Rattle.hub_include.specs.Files.{Known}
+use Rattle.hub_include.specs.Includes.{Lines, Told, lines_of}
+use Rattle.hub_include.specs.Words.{begins_with}
+use Rattle.hub_folder.specs.Reading.{Lists, Reads, HasListFault, HasNames}
+use Rattle.hub_folder.specs.Taken.{Agrees, IsUntaken}
+use Rattle.hub_folder.specs.declared.fault.Untaken.{Untaken}
+use Rattle.hub_folder.specs.declared.fault.Untaken.TheVariants as untaken
+
+-- What follows the blanks and tabs at the beginning.
+abbrev pub without_blanks : List ℕ → List ℕ
+without_blanks [] = []
+without_blanks (b ∷ bs) = if (b == 32) || (b == 9) then without_blanks bs else b ∷ bs
+
+abbrev pub begins_with_equals : List ℕ → Bool
+begins_with_equals [] = false
+begins_with_equals (b ∷ bs) = b == 61
+
+-- A line sets a root.
+abbrev pub sets_root : List ℕ → Bool
+sets_root line =
+    begins_with (codes "root") (without_blanks line)
+    && begins_with_equals (without_blanks (drop 4 (without_blanks line)))
+
+-- The files of profiles.
+abbrev pub profile_files : List (List ℕ) → List (List ℕ)
+profile_files names = filter (λ name. ends_with nat_eq name (codes ".prf")) names
+
+-- The lines of a file, with those of what it includes; none, where they can't be told.
+abbrev pub told_lines : Told → Lines
+told_lines (Ok ls) = ls
+told_lines (Err e) = []
+
+abbrev pub lines_in : Known → List ℕ → Lines
+lines_in known name = told_lines (lines_of known name)
+
+-- Lines set a root.
+abbrev pub have_root : Lines → Bool
+have_root ls = list_any (λ l. sets_root l.text) ls
+
+-- Some of these lines are from the file of this name.
+abbrev pub have_file : List ℕ → Lines → Bool
+have_file name ls = list_any (λ l. bytes_eq l.file name) ls
+
+-- Another one of these files includes that file.
+abbrev pub is_included : Known → List (List ℕ) → List ℕ → Bool
+is_included known names name =
+    list_any (λ other. not (bytes_eq other name) && have_file name (lines_in known other)) names
+
+-- A file is a profile of the folder: it has a root, and no other one of these files includes it.
+abbrev pub is_profile : Known → List (List ℕ) → List ℕ → Bool
+is_profile known names name =
+    have_root (lines_in known name) && not (is_included known names name)
+
+-- The profiles of a folder: the path of each file, and its text.
+abbrev pub profile_of : Known → List ℕ → List ℕ → List ℕ × List ℕ
+profile_of known place name = (place ++ name, text_of (lines_in known name))
+
+abbrev pub profiles_of : Known → List ℕ → List (List ℕ) → List (List ℕ × List ℕ)
+profiles_of known place names =
+    map (profile_of known place) (filter (is_profile known names) names)
+
+-- A folder's path, as it stands before the names of its files.
+abbrev pub place_of : List ℕ → List ℕ
+place_of folder =
+    if ends_with nat_eq folder (codes "/") then folder else folder ++ codes "/"
+
+-- The profiles of the folder of this path, by what reads give and what the folder lists. The lines
+-- of each file of a profile can be told.
+pub record AreProfiles (reads : Reads) (lists : Lists) (folder : List ℕ)
+    (profiles : List (List ℕ × List ℕ)) : Type 0 where
+  pub names : List (List ℕ)
+  pub listed : HasNames lists folder names
+  pub known : Known
+  pub agrees : Agrees reads (place_of folder) known
+  pub told : All (λ name. is_ok (lines_of known name) ≡ true) (profile_files names)
+  pub profiles_are : profiles ≡ profiles_of known (place_of folder) (profile_files names)
+
+-- Why the profiles of the folder of this path can't be told: it can't be listed, or what is wrong
+-- with a file or a line of it.
+abbrev pub IsUntakenFolder : Reads → Lists → List ℕ → Untaken → Type 0
+IsUntakenFolder reads lists folder (untaken.Folder path fault) =
+    (string_bytes path ≡ folder) × HasListFault lists folder fault
+IsUntakenFolder reads lists folder e = IsUntaken reads (place_of folder) e

@@ -1,0 +1,5 @@
+pub mod Folders
+pub mod Operands
+pub mod Reading
+pub mod Taken
+pub mod Told

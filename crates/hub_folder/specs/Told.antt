@@ -1,0 +1,42 @@
+-- Files and their lines, as code has them.
+use Rattle.std.specs.Prelude.{◌≡◌, ◌&&◌, ◌++◌, not, ℕ, Bool, List, Ok, filter, map, bytes_eq, string_bytes}
+use Rattle.std.specs.List.{All, list_any}
+use Rattle.hub_include.specs.Bundle.{text_of}
+use Rattle.hub_include.specs.Files.{Known}
+use Rattle.hub_include.specs.Includes.{Lines, lines_of, of_line}
+use Rattle.hub_folder.specs.Folders.{have_file, have_root}
+use Rattle.hub_folder.specs.declared.folder.FolderProfile.{FolderProfile}
+use Rattle.hub_folder.specs.declared.folder.Told.{Told}
+
+abbrev pub file_told : Told → List ℕ
+file_told t = t.name.now
+
+abbrev pub lines_told : Told → Lines
+lines_told t = map of_line t.lines.items
+
+-- The lines of a file are told.
+abbrev pub IsTold : Known → Told → Type 0
+IsTold known t = lines_of known (file_told t) ≡ Ok (lines_told t)
+
+-- The lines of the files of these names are told.
+pub record AreTold (known : Known) (names : List (List ℕ)) (ts : List Told) : Type 0 where
+  pub names_are : map file_told ts ≡ names
+  pub lines_are : All (IsTold known) ts
+
+abbrev pub includes_told : List ℕ → Told → Bool
+includes_told name t = not (bytes_eq (file_told t) name) && have_file name (lines_told t)
+
+abbrev pub is_profile_told : List Told → Told → Bool
+is_profile_told ts t =
+    have_root (lines_told t) && not (list_any (includes_told (file_told t)) ts)
+
+-- The profiles among some of these files.
+abbrev pub profile_told : List ℕ → Told → List ℕ × List ℕ
+profile_told place t = (place ++ file_told t, text_of (lines_told t))
+
+abbrev pub profiles_told : List ℕ → List Told → List Told → List (List ℕ × List ℕ)
+profiles_told place all ts = map (profile_told place) (filter (is_profile_told all) ts)
+
+-- The path and the text of a profile.
+abbrev pub path_and_text : FolderProfile → List ℕ × List ℕ
+path_and_text p = (string_bytes p.path, p.text.items)

@@ -1,0 +1,46 @@
+//! Unison profiles, read from the files of a folder.
+//!
+//! - [`FileReader`]: who reads files by their paths, and lists the names of a folder's files.
+//! - [`profiles_named`]: the profiles that operands name: that of a file, with the lines of the files that it includes, or those of
+//!   a folder. Each is a [`FolderProfile`]: its path, its text for a bundle, and where its lines come from ([`Origins`]).
+//! - [`profiles_in`]: the profiles of a folder. Files that have no root, or that another profile includes, are none.
+//!
+//! ```rust
+//! let profiles = match profiles_named(alloc, reader, files.profiles.as_slice()) {
+//! ```
+//!
+//! From `hubsync/src/files.rt`.
+//!
+//! Included files are looked for in the folder of the profile's file, as Unison looks for them in `~/.unison`. The contracts use
+//! the words of `specs/Reading` (what reads give), `specs/Taken` (the text of a profile by its file), `specs/Folders` (which files
+//! of a folder are profiles) and `specs/Operands`.
+//!
+//! Only functions that return a `Result` allocate.
+//!
+//! # What is proved
+//!
+//! - The text of a profile is that of the lines that `hub_include` defines over the bytes that the reader tells.
+//! - `profiles_in` gives that for the files of the folder, but for exactly those without a root line and those that another one
+//!   includes. `profiles_named` gives all profiles of all operands, in their order.
+//! - A fault is true of what the reader tells: this file can't be read, this folder can't be listed, or this line can't be followed.
+//!
+//! # What is not
+//!
+//! What the system's files have, and where a remark says that a line comes from. That so many files are looked for that
+//! [`Untaken`] says `TooManyFiles` is this project's limit; how many they are no contract says.
+#![tactic(auto)]
+
+mod fault;
+mod folder;
+mod operands;
+mod origins;
+mod profile;
+mod reader;
+mod root;
+mod shelf;
+
+pub use fault::Untaken;
+pub use folder::{FolderProfile, profiles_in};
+pub use operands::profiles_named;
+pub use origins::Origins;
+pub use reader::{FileReader, ReadFault, Unread};

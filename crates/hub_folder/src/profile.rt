@@ -1,0 +1,93 @@
+//! The profile in a file.
+ghost use Rattle.std.specs.Prelude.{◌≡◌, ◌⊎◌, ◌++◌, Err, string_bytes, IfErr, IfOk};
+ghost use Rattle.hub_include.specs.declared.fault.LinesFault.TheVariants as lines_fault;
+ghost use Rattle.hub_include.specs.Includes.{lines_of};
+ghost use Rattle.hub_folder.specs.Taken.{Agrees, IsCut, IsProfile, IsText, IsUntaken, IsUntakenFile};
+ghost use Rattle.hub_include.specs.Files.{Known, known_of};
+
+use crate::fault::Untaken;
+use crate::folder::{FolderProfile, profile_of};
+use crate::reader::FileReader;
+use crate::shelf::Place;
+use hub_include::{Folder, LinesFault};
+use std::alloc::{AllocError, Global};
+
+/// A file's path: that of its folder, with the last `/`, and its name there.
+#[derive(Drop)]
+pub(crate) struct Cut<'a> {
+    pub(crate) place: String,
+    pub(crate) name: &'a str,
+}
+
+/// Cuts a path behind its last `/`.
+fn parts_of(alloc: Global, path: &str) -> Result<Cut<'_>, AllocError>
+    ensures { IfOk result (λ c. IsCut path.now (string_bytes c.place) c.name.now) }
+{
+    match path.rsplit_once('/') {
+        Some((folder, name)) => {
+            let mut place = String::from_str(alloc, folder)?;
+            place.push('/')?;
+            Ok(Cut { place, name })
+        }
+        None => Ok(Cut {
+            place: String::new(alloc),
+            name: path,
+        }),
+    }
+}
+
+/// The profile in the file of this path, with the lines of the files that it includes.
+pub(crate) fn profile_in<F: FileReader>(
+    alloc: Global,
+    reader: &F,
+    path: &str,
+) -> Result<FolderProfile, Untaken>
+    ensures path { IfOk result (λ p. string_bytes p.path ≡ path.now) }
+    ensures text { IfOk result (λ p. IsProfile (F.reads reader.now) path.now p.text.items) }
+    ensures err { IfErr result (IsUntakenFile (F.reads reader.now) path.now) }
+{
+    let Cut { place, name } = parts_of(alloc, path)?;
+    let place = Place {
+        alloc,
+        reader,
+        path: place.as_str(),
+    };
+    let mut folder = Folder::new(alloc);
+    place.learn_own(&mut folder, name)?;
+    place.fill(&mut folder, name)?;
+    place.profile(&folder, name)
+}
+
+impl<'a, F: FileReader> Place<'a, F> {
+    /// The profile of this name.
+    fn profile(&self, folder: &Folder, name: &str) -> Result<FolderProfile, Untaken>
+        requires { Agrees (F.reads self.now.reader.now) self.now.path.now (known_of folder.now) }
+        ensures path { IfOk result (λ p. string_bytes p.path ≡ self.now.path.now ++ name.now) }
+        ensures text { IfOk result
+            (λ p. IsText (F.reads self.now.reader.now) self.now.path.now name.now p.text.items) }
+        ensures err { IfErr result (IsUntaken (F.reads self.now.reader.now) self.now.path.now) }
+    {
+        let told = self.tell(folder, name)?;
+        Ok(profile_of(self.alloc, self.path, &told, Vec::new(self.alloc))?)
+    }
+
+    /// Why the lines of a file can't be told.
+    pub(crate) fn untaken(&self, name: &str, fault: LinesFault) -> Untaken
+        ensures { (known : Known) → Agrees (F.reads self.now.reader.now) self.now.path.now known
+            → (fault ≡ lines_fault.OutOfMemory) ⊎ (lines_of known name.now ≡ Err fault)
+            → IsUntaken (F.reads self.now.reader.now) self.now.path.now result }
+    {
+        match fault {
+            LinesFault::Line(fault) => match self.path_of("") {
+                Ok(place) => Untaken::Line(place, fault),
+                Err(_) => Untaken::OutOfMemory,
+            },
+            LinesFault::NoProfile => match self.path_of(name) {
+                Ok(path) => Untaken::Gone(path),
+                Err(_) => Untaken::OutOfMemory,
+            },
+            LinesFault::Unread(_) => self.too_many(name),
+            LinesFault::OutOfMemory => Untaken::OutOfMemory,
+        }
+    }
+}

@@ -15,15 +15,15 @@ _hubsync() {
         fi
     done
     # so do they after an option that takes one
-    case $before in --rules | --state | --certificates) return 0 ;; esac
+    case $before in --rules | --state | --certificates | --hosts) return 0 ;; esac
     case $command/$word in
         /-*) candidates='-h --help -V --version' ;;
         /*) candidates=$commands ;;
         help/-*) ;;
         help/*) candidates=$commands ;;
         reach/-*) candidates='--unison -h --help' ;;
-        clashes/-*) candidates='--rules --state --certificates --strict --unison --dot -h --help' ;;
-        check/-* | rounds/-*) candidates='--rules --state --certificates --strict --unison -h --help' ;;
+        clashes/-*) candidates='--rules --state --certificates --strict --unison --hosts --dot -h --help' ;;
+        check/-* | rounds/-*) candidates='--rules --state --certificates --strict --unison --hosts -h --help' ;;
         run/-*) candidates='--rules --state --certificates --strict --workers --rounds -h --help' ;;
         */-*) candidates='--rules --state --certificates --strict -h --help' ;;
         run/*) [[ $before != --workers ]] || candidates='1 2 3 4 5 6 7 8 9 10 11 12 13 14 15 16' ;;

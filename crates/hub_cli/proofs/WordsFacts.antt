@@ -19,7 +19,7 @@ use Rattle.clap.specs.declared.parser.matches.Found.{Found}
 use Rattle.clap.specs.declared.parser.matches.ArgMatches.{ArgMatches}
 use Rattle.clap.specs.declared.parser.matches.ArgMatches.TheViews.{out-ArgMatches, out-SubCommand}
 use Rattle.clap.specs.declared.parser.matches.SubCommand.{SubCommand}
-use Rattle.hub_cli.specs.Words.{Request, about_files, asked_of, byte_of, files_of, hubsync_app, is_strict_in, is_strict_of, names_found, names_in, operands_of, reading_in, request_in, asked_unless, workers_in, Names}
+use Rattle.hub_cli.specs.Words.{Request, about_files, asked_of, byte_of, files_of, hubsync_app, is_strict_in, is_strict_of, is_unison_in, is_unison_of, names_found, names_in, operands_of, reading_in, request_in, asked_unless, workers_in, Names}
 
 simple : is_simple hubsync_app ≡ true
 unfolding clap_on_literals hubsync_app
@@ -58,6 +58,12 @@ pub strict_is : (a : App) (words : List Text) (m : ArgMatches) → a ≡ hubsync
     → is_strict_of words ≡ is_strict_in (subcommand_rows_of m)
 unfolding is_strict_of
 strict_is a words m is matches = sym (ap is_strict_in (used_is a words m is matches))
+
+-- and whether they have `--unison`
+pub unison_is : (a : App) (words : List Text) (m : ArgMatches) → a ≡ hubsync_app → HasMatchesOf a words m
+    → is_unison_of words ≡ is_unison_in (subcommand_rows_of m)
+unfolding is_unison_of
+unison_is a words m is matches = sym (ap is_unison_in (used_is a words m is matches))
 
 -- where it gives none, memory ran out, or nothing is asked for
 pub refused : (a : App) (words : List Text) (e : Error) → a ≡ hubsync_app
@@ -110,18 +116,20 @@ about_in m name o e h is =
     ∙ ap (λ (b : Bool). by_name name (rows_of (found_of o)) b) is
 
 -- the files that a command names, by the getters of the subcommand's matches
-abbrev with_names : List Text → Option Text → Option Text → Option Text → Names
-with_names ps r s c = record { profiles = ps; rules = r; state = s; certificates = c }
+abbrev with_names : List Text → Option Text → Option Text → Option Text → Option Text → Names
+with_names ps r s c h = record { profiles = ps; rules = r; state = s; certificates = c; hosts = h }
 
-pub names_are : {ps : List Text} {r s c : Option Text} (f : Found)
+pub names_are : {ps : List Text} {r s c h : Option Text} (f : Found)
     → ps ≡ unwrap_or (option_map raw_values (matched_of f (codes "files"))) [] → r ≡ first_value f (codes "rules")
-    → s ≡ first_value f (codes "state") → c ≡ first_value f (codes "certificates")
-    → with_names ps r s c ≡ names_found (rows_of f)
-names_are {s = s} {c = c} f hp hr hs hc =
-    let rows = rows_of f in
-    ap₂ (λ p q. with_names p q s c) (hp ∙ ap (λ o. unwrap_or o []) (raw_values-rows f (codes "files"))) (hr ∙ first_value-rows f (codes "rules"))
-    ∙ ap₂ (with_names (unwrap_or (all_of (codes "files") rows) []) (first_of (codes "rules") rows)) (hs ∙ first_value-rows f (codes "state"))
-    (hc ∙ first_value-rows f (codes "certificates"))
+    → s ≡ first_value f (codes "state") → c ≡ first_value f (codes "certificates") → h ≡ first_value f (codes "hosts")
+    → with_names ps r s c h ≡ names_found (rows_of f)
+names_are f hp hr hs hc hh =
+    let files = hp ∙ ap (λ o. unwrap_or o []) (raw_values-rows f (codes "files")) in
+    let rules = hr ∙ first_value-rows f (codes "rules") in
+    let state = hs ∙ first_value-rows f (codes "state") in
+    let certificates = hc ∙ first_value-rows f (codes "certificates") in
+    let hosts = hh ∙ first_value-rows f (codes "hosts") in
+    λ i. with_names (files i) (rules i) (state i) (certificates i) (hosts i)
 
 -- the text is read as a byte
 abbrev IsByte : Text → Type 0

@@ -73,9 +73,9 @@ with_files app =
 abbrev pub set_app : Text → App
 set_app name = with_rule (with_files (new_app name)) (flag (codes "strict"))
 
--- such a command that may also have `--unison`
+-- such a command that may also have `--unison`, and a file of a table of hosts
 abbrev pub reading_app : Text → App
-reading_app name = with_unison (set_app name)
+reading_app name = with_rule (with_unison (set_app name)) (file_option (codes "hosts"))
 
 -- `clashes`, which may also have `--dot`
 abbrev pub clashes_app : App
@@ -210,17 +210,25 @@ has_operands (Some files) = not (length files == 0)
 abbrev pub has_file_option : List Row → Bool
 has_file_option rows =
     is_given (codes "rules") rows
-    || (is_given (codes "state") rows || is_given (codes "certificates") rows)
+    || (is_given (codes "state") rows
+    || (is_given (codes "certificates") rows || is_given (codes "hosts") rows))
 
 -- files are named, and none of them is that of a profile
 abbrev pub lacks_profiles : List Row → Bool
 lacks_profiles rows = not (has_operands (all_of (codes "files") rows)) && has_file_option rows
 
--- the same, and nothing if an operand isn't the file of a profile, or if files are named and none
--- of them is that of a profile
+-- each operand may be one: for Unison also a folder, else only the file of a profile, and then
+-- there is no table of hosts
+abbrev pub are_operands : List Row → Bool
+are_operands rows =
+    is_set (codes "unison") rows
+    || (are_profile_files (all_of (codes "files") rows) && not (is_given (codes "hosts") rows))
+
+-- the same, and nothing if an operand can't be one, or if files are named and none of them is that
+-- of a profile
 abbrev pub about_files : Text → List Row → Option Request
 about_files name rows =
-    if are_profile_files (all_of (codes "files") rows)
+    if are_operands rows
     then (if lacks_profiles rows then None else about_named name rows)
     else None
 
@@ -238,6 +246,11 @@ abbrev pub is_strict_in : Option (Text × List Row) → Bool
 is_strict_in None = false
 is_strict_in (Some p) = is_set (codes "strict") p.1
 
+-- the command that was used has `--unison`
+abbrev pub is_unison_in : Option (Text × List Row) → Bool
+is_unison_in None = false
+is_unison_in (Some p) = is_set (codes "unison") p.1
+
 -- nothing is asked for if there is a fault
 abbrev pub asked_unless : Kinds → Option Request → Option Request
 asked_unless [] request = request
@@ -253,12 +266,17 @@ asked_of words =
 unfoldable pub is_strict_of : List Text → Bool
 is_strict_of words = is_strict_in (subcommand_of hubsync_app words)
 
--- the files that words name
+-- whether the words, of which the first is the program's name, have `--unison`
+unfoldable pub is_unison_of : List Text → Bool
+is_unison_of words = is_unison_in (subcommand_of hubsync_app words)
+
+-- the files that words name: the operands, which for Unison may be folders, and those of options
 pub record Names : Type 0 where
   pub profiles : List Text
   pub rules : Option Text
   pub state : Option Text
   pub certificates : Option Text
+  pub hosts : Option Text
 
 abbrev pub names_of : Files → Names
 names_of files = record {
@@ -266,11 +284,12 @@ names_of files = record {
   rules = option_map (λ file. file.now) files.rules;
   state = option_map (λ file. file.now) files.state;
   certificates = option_map (λ file. file.now) files.certificates;
+  hosts = option_map (λ file. file.now) files.hosts;
 }
 
 -- no file
 abbrev pub no_names : Names
-no_names = record { profiles = []; rules = None; state = None; certificates = None }
+no_names = record { profiles = []; rules = None; state = None; certificates = None; hosts = None }
 
 -- the files that a command names, by the rows of its operands and options
 abbrev pub names_found : List Row → Names
@@ -279,6 +298,7 @@ names_found rows = record {
   rules = first_of (codes "rules") rows;
   state = first_of (codes "state") rows;
   certificates = first_of (codes "certificates") rows;
+  hosts = first_of (codes "hosts") rows;
 }
 
 -- the files that the command that was used names
@@ -286,7 +306,7 @@ abbrev pub names_in : Option (Text × List Row) → Names
 names_in None = no_names
 names_in (Some p) = names_found p.1
 
--- there is no file among them
+-- no file is among them of which the input is to be made
 abbrev pub are_none : Names → Bool
 are_none names =
     length names.profiles == 0 && (not (is_some names.rules)

@@ -153,6 +153,24 @@ a_check_of_files_for_unison :
 unfolding computed
 a_check_of_files_for_unison = refl
 
+a_check_of_a_folder_for_unison :
+    asked (codes "check" ∷ codes "--unison" ∷ codes "dir" ∷ codes "--hosts=t" ∷ [])
+    ≡ Some (about (Check Unison))
+unfolding computed
+a_check_of_a_folder_for_unison = refl
+
+a_folder_is_for_unison : asked (codes "check" ∷ codes "dir" ∷ []) ≡ None
+unfolding computed
+a_folder_is_for_unison = refl
+
+hosts_are_for_unison : asked (codes "check" ∷ codes "a.prf" ∷ codes "--hosts=t" ∷ []) ≡ None
+unfolding computed
+hosts_are_for_unison = refl
+
+hosts_alone : asked (codes "check" ∷ codes "--unison" ∷ codes "--hosts=t" ∷ []) ≡ None
+unfolding computed
+hosts_alone = refl
+
 a_graph_for_unison :
     asked (codes "clashes" ∷ codes "--unison" ∷ codes "--dot" ∷ []) ≡ Some (about (Graph Unison))
 unfolding computed
@@ -240,6 +258,7 @@ operands_in_their_order :
       rules = Some (codes "r");
       state = None;
       certificates = None;
+      hosts = None;
     }
 unfolding computed
 operands_in_their_order = refl

@@ -137,7 +137,7 @@ fn set_command<'a>(alloc: Global, name: &'a str, help: Help) -> Result<Box<Comma
     let command = with_file_option(alloc, command, "state", "The file of the state")?;
     let certificates = "The file of the certificates";
     let command = with_file_option(alloc, command, "certificates", certificates)?;
-    let strict = "Exit with 1 in place of 0 if the answer may mislead";
+    let strict = "Exit with 1 in place of 0 if a yes may mislead";
     with_argument(alloc, command, flag(alloc, "strict", strict))
 }
 
@@ -176,7 +176,7 @@ fn with_unison<'a>(alloc: Global, command: Box<Command<'a>>) -> Result<Box<Comma
     with_argument(alloc, command, flag(alloc, "unison", unison))
 }
 
-/// A command about the set, which may take files and have `--unison`.
+/// A command about the set, which may take files and have `--unison` and a table of hosts.
 fn reading_command<'a>(
     alloc: Global,
     name: &'a str,
@@ -186,7 +186,9 @@ fn reading_command<'a>(
     ensures local { IfOk result (λ c. (fields_of c.value).has_globals ≡ false) }
 {
     let command = set_command(alloc, name, help)?;
-    with_unison(alloc, command)
+    let command = with_unison(alloc, command)?;
+    let hosts = "With --unison, the file of a table: which path stands for the / of a host";
+    with_file_option(alloc, command, "hosts", hosts)
 }
 
 /// The command `clashes`.

@@ -4,7 +4,7 @@ ghost use Rattle.std.specs.Prelude.{◌≡◌, ◌⊎◌, [], IfErr, IfOk, None,
 ghost use Rattle.clap.specs.Words.{found_of, kind_of, matched_of, raw_values, rows_of, subcommand_rows_of};
 ghost use Rattle.clap.specs.declared.error.kind.ErrorKind.TheVariants.{OutOfMemory};
 ghost use Rattle.hub_cli.specs.Words as words;
-ghost use Rattle.hub_cli.specs.Words.{are_none, asked_of, files_of, is_strict_of, names_in, names_of};
+ghost use Rattle.hub_cli.specs.Words.{are_none, asked_of, files_of, is_strict_of, is_unison_of, names_in, names_of};
 
 use crate::words::{is_set, read_matches};
 use clap::{ArgMatches, Error};
@@ -14,7 +14,7 @@ use std::convert::AsStr;
 /// The files of which the input is to be made, as the words name them.
 #[derive(Drop)]
 pub struct Files<'a> {
-    /// Those of the profiles, in the order of the words. Each ends with `.prf`.
+    /// Those of the profiles, in the order of the words. Each ends with `.prf`; for Unison others are folders.
     pub profiles: Vec<&'a str>,
     /// That of the rules.
     pub rules: Option<&'a str>,
@@ -22,6 +22,8 @@ pub struct Files<'a> {
     pub state: Option<&'a str>,
     /// That of the certificates.
     pub certificates: Option<&'a str>,
+    /// That of the table of hosts, of which the input has nothing.
+    pub hosts: Option<&'a str>,
 }
 
 impl<'a> Files<'a> {
@@ -43,12 +45,15 @@ pub struct Options<'a> {
     pub files: Files<'a>,
     /// Whether a yes that may mislead counts as a no.
     pub is_strict: bool,
+    /// Whether the profiles are read for Unison.
+    pub is_for_unison: bool,
 }
 
 /// Reads which files the words name, of which the first is the program's name, and whether they have `--strict`.
 ///
 /// Each command but `reach` may have operands, each of which is the file of a profile and ends with `.prf`, the options
-/// `--rules FILE`, `--state FILE` and `--certificates FILE`, and `--strict`. No other words name files or have it.
+/// `--rules FILE`, `--state FILE` and `--certificates FILE`, and `--strict`. With `--unison` an operand may be a folder, and there may be
+/// `--hosts FILE`. No other words name files or have it.
 ///
 /// An `Err` is that of [`read_words`](crate::read_words).
 pub fn read_options<'a, S: AsStr>(alloc: Global, words: &'a [S]) -> Result<Options<'a>, Error>
@@ -56,14 +61,21 @@ pub fn read_options<'a, S: AsStr>(alloc: Global, words: &'a [S]) -> Result<Optio
         (λ o. names_of o.files ≡ files_of (map S.text words.entry.now)) }
     ensures strict { IfOk result
         (λ o. o.is_strict ≡ is_strict_of (map S.text words.entry.now)) }
+    ensures unison { IfOk result
+        (λ o. o.is_for_unison ≡ is_unison_of (map S.text words.entry.now)) }
     ensures asked { IfOk result (λ _. is_some (asked_of (map S.text words.entry.now)) ≡ true) }
     ensures err { IfErr result (λ e. (kind_of e ≡ OutOfMemory)
         ⊎ (asked_of (map S.text words.entry.now) ≡ None)) }
 {
     let (_, matches) = read_matches(alloc, words)?;
     let is_strict = is_strict_in(&matches);
+    let is_for_unison = is_unison_in(&matches);
     let files = files_in(alloc, &matches)?;
-    Ok(Options { files, is_strict })
+    Ok(Options {
+        files,
+        is_strict,
+        is_for_unison,
+    })
 }
 
 /// Returns whether the command that was used has `--strict`, by the matches.
@@ -72,6 +84,16 @@ fn is_strict_in(matches: &ArgMatches<'_>) -> bool
 {
     match matches.subcommand() {
         Some((_, found)) => is_set(found, "strict"),
+        None => false,
+    }
+}
+
+/// Returns whether the command that was used has `--unison`, by the matches.
+fn is_unison_in(matches: &ArgMatches<'_>) -> bool
+    ensures { result ≡ words.is_unison_in (subcommand_rows_of matches.now) }
+{
+    match matches.subcommand() {
+        Some((_, found)) => is_set(found, "unison"),
         None => false,
     }
 }
@@ -87,6 +109,7 @@ fn files_in<'a>(alloc: Global, matches: &ArgMatches<'a>) -> Result<Files<'a>, Al
             rules: None,
             state: None,
             certificates: None,
+            hosts: None,
         }),
     }
 }
@@ -100,6 +123,7 @@ fn files_found<'a>(alloc: Global, found: &ArgMatches<'a>) -> Result<Files<'a>, A
         rules: found.get_str("rules"),
         state: found.get_str("state"),
         certificates: found.get_str("certificates"),
+        hosts: found.get_str("hosts"),
     })
 }
 

@@ -21,28 +21,30 @@ pub(crate) const HUBSYNC: Help = Help {
 /// That of `check`.
 pub(crate) const CHECK: Help = Help {
     about: "Says whether the profiles may run at the same time, and runs no jobs",
-    usage: "hubsync check < BUNDLE\n       hubsync check [OPTIONS] FILE.prf..",
+    usage: "hubsync check < BUNDLE\n       hubsync check [OPTIONS] FILE.prf..\n       \
+        hubsync check --unison [OPTIONS] FOLDER",
     example: "Example: hubsync check docs.prf photos.prf --rules rules",
 };
 
 /// That of `certify`.
 pub(crate) const CERTIFY: Help = Help {
-    about: "Writes certificates, which show that they may run at the same time",
+    about: "Writes certificates of a safe set, which anyone can check again",
     usage: "hubsync certify < BUNDLE\n       hubsync certify [OPTIONS] FILE.prf..",
     example: "Example: hubsync certify docs.prf photos.prf > certificates",
 };
 
 /// That of `verify`.
 pub(crate) const VERIFY: Help = Help {
-    about: "Says whether the certificates of the input show that they may",
+    about: "Says whether the certificates of the input show that the set is safe",
     usage: "hubsync verify < BUNDLE\n       hubsync verify [OPTIONS] FILE.prf..",
     example: "Example: hubsync verify docs.prf photos.prf --certificates certificates",
 };
 
 /// That of `clashes`.
 pub(crate) const CLASHES: Help = Help {
-    about: "Lists all overlaps of profiles, and all rules that are broken",
-    usage: "hubsync clashes [--dot] < BUNDLE\n       hubsync clashes [OPTIONS] FILE.prf..",
+    about: "Lists all clashes of profiles, and all rules that they may break",
+    usage: "hubsync clashes [--dot] < BUNDLE\n       hubsync clashes [OPTIONS] FILE.prf..\n       \
+        hubsync clashes --unison [OPTIONS] FOLDER",
     example: "Examples: hubsync clashes docs.prf photos.prf --rules rules\n          \
         hubsync clashes --dot docs.prf photos.prf | dot -Tsvg > clashes.svg",
 };
@@ -50,7 +52,8 @@ pub(crate) const CLASHES: Help = Help {
 /// That of `rounds`.
 pub(crate) const ROUNDS: Help = Help {
     about: "Cuts the profiles into rounds: those of a round may run at the same time",
-    usage: "hubsync rounds < BUNDLE\n       hubsync rounds [OPTIONS] FILE.prf..",
+    usage: "hubsync rounds < BUNDLE\n       hubsync rounds [OPTIONS] FILE.prf..\n       \
+        hubsync rounds --unison [OPTIONS] FOLDER",
     example: "Example: hubsync rounds docs.prf photos.prf",
 };
 
@@ -63,7 +66,7 @@ pub(crate) const REACH: Help = Help {
 
 /// That of `run`.
 pub(crate) const RUN: Help = Help {
-    about: "Runs the jobs of profiles that may on the state of the input",
+    about: "Runs the jobs of a safe set on the state of the input",
     usage: "hubsync run [--workers N] [--rounds] < BUNDLE\n       hubsync run [OPTIONS] FILE.prf..",
     example: "Examples: hubsync run docs.prf photos.prf --state state\n          \
         hubsync run --rounds docs.prf photos.prf --state state",
@@ -117,7 +120,7 @@ decide, with a path that shows it.
 If the jobs are run, these lines stand below 'safe', for the profiles in their
 order, and then the new state:
 
-  job docs finished         or stopped: it found no memory
+  job docs finished         or stopped: it ran out of memory
   to /srv/laptop docs/note  an item of a finished job, and the root it went to
   skip Conflict docs/plan   or Barred, Blocked, NoParent: it stays as it is
 
@@ -134,10 +137,17 @@ lines of the rounds that were run. The state that they left always follows.
 Graphviz. Profiles that clash are joined by a red line, and a profile that may
 break a rule is a red box. What is too large to decide is dashed.
 
+With '--unison', 'check', 'clashes' and 'rounds' follow the lines 'include' and
+'source' of the files, and an operand may be a folder, as ~/.unison: its files
+'*.prf' with roots are the profiles, but those that another one includes.
+'--hosts' names a file of lines 'HOST PATH', by which a path stands for the / of
+a host in roots as ssh://HOST//srv.
+
 With '--unison', 'check', 'clashes', 'rounds' and 'reach' answer about what
 Unison 2.52 may do by the profiles, not about hubsync's own reading of them.
-What is safe then is safe in Unison. An overlap may come of this reading alone:
-compare with the answer without it.
+What is safe then is safe in Unison, under what standard error says is assumed.
+An overlap or a breach may come of this reading alone: compare with the answer
+without it.
 
 Exit status:
   0  safe and no job stopped, verified, certificates, reached or not reached;

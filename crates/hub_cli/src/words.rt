@@ -7,7 +7,7 @@ ghost use Rattle.std.specs.List.{list_all};
 ghost use Rattle.clap.specs.Words.{all_of, app_of, found_of, kind_of, one_of, rows_of, subcommand_rows_of};
 ghost use Rattle.clap.specs.declared.error.kind.ErrorKind.TheVariants.{OutOfMemory};
 ghost use Rattle.hub_cli.specs.Words as words;
-ghost use Rattle.hub_cli.specs.Words.{asked_of, files_of, hubsync_app, is_strict_in, is_strict_of, names_in};
+ghost use Rattle.hub_cli.specs.Words.{asked_of, files_of, hubsync_app, is_strict_in, is_strict_of, is_unison_in, is_unison_of, names_in};
 ghost use Rattle.hub_cli.specs.Words.{reading_for, reading_of, request_in, request_of};
 
 use crate::app::command;
@@ -137,6 +137,8 @@ pub(crate) fn read_matches<'a, S: AsStr>(
         ≡ names_in (subcommand_rows_of r.1)) }
     ensures strict { IfOk result (λ r. is_strict_of (map S.text words.entry.now)
         ≡ is_strict_in (subcommand_rows_of r.1)) }
+    ensures unison { IfOk result (λ r. is_unison_of (map S.text words.entry.now)
+        ≡ is_unison_in (subcommand_rows_of r.1)) }
     ensures err { IfErr result (λ e. (kind_of e ≡ OutOfMemory)
         ⊎ (asked_of (map S.text words.entry.now) ≡ None)) }
 {
@@ -160,6 +162,8 @@ fn parse<'a, S: AsStr>(hubsync: &mut Command<'a>, words: &'a [S]) -> Result<ArgM
         ≡ names_in (subcommand_rows_of m)) }
     ensures strict { IfOk result (λ m. is_strict_of (map S.text words.entry.now)
         ≡ is_strict_in (subcommand_rows_of m)) }
+    ensures unison { IfOk result (λ m. is_unison_of (map S.text words.entry.now)
+        ≡ is_unison_in (subcommand_rows_of m)) }
     ensures err { IfErr result (λ e. (kind_of e ≡ OutOfMemory)
         ⊎ (asked_of (map S.text words.entry.now) ≡ None)) }
 {
@@ -212,6 +216,10 @@ fn refusal<'a>(
             let message = format!(in alloc; "unexpected argument '{word}' found")?;
             hubsync.error(ErrorKind::UnknownArgument, message.as_str())
         }
+        None if has_stray_hosts(matches) => hubsync.error(
+            ErrorKind::MissingRequiredArgument,
+            "'--hosts' is for '--unison'",
+        ),
         None => hubsync.error(
             ErrorKind::MissingRequiredArgument,
             "no profile is named: give their files too, as in\n\n  hubsync check docs.prf --rules rules",
@@ -228,6 +236,14 @@ fn stray_operand<'a>(matches: &ArgMatches<'a>) -> Option<&'a str> {
         }
     }
     None
+}
+
+/// Returns whether a command has a table of hosts and isn't for Unison.
+fn has_stray_hosts(matches: &ArgMatches<'_>) -> bool {
+    match matches.subcommand() {
+        Some((_, found)) => is_given(found, "hosts") && !is_set(found, "unison"),
+        None => false,
+    }
 }
 
 /// What was asked for, by the matches. A `None` is an unknown command, one without its operands, one with an operand that
@@ -256,7 +272,7 @@ fn about_files<'a>(name: &str, found: &ArgMatches<'_>) -> Option<Query<'a>>
     ensures { option_map request_of result
         ≡ words.about_files name.now (rows_of (found_of found.now)) }
 {
-    if are_profile_files(found) && !lacks_profiles(found) {
+    if are_operands(found) && !lacks_profiles(found) {
         about(name, found)
     } else {
         None
@@ -284,7 +300,10 @@ fn has_operands(found: &ArgMatches<'_>) -> bool
 fn has_file_option(found: &ArgMatches<'_>) -> bool
     ensures { result ≡ words.has_file_option (rows_of (found_of found.now)) }
 {
-    is_given(found, "rules") || is_given(found, "state") || is_given(found, "certificates")
+    is_given(found, "rules")
+        || is_given(found, "state")
+        || is_given(found, "certificates")
+        || is_given(found, "hosts")
 }
 
 /// Returns whether an option with a value is on the command line.
@@ -292,6 +311,13 @@ fn is_given(found: &ArgMatches<'_>, name: &str) -> bool
     ensures { result ≡ words.is_given name.now (rows_of (found_of found.now)) }
 {
     found.get_str(name).is_some()
+}
+
+/// Returns whether each operand may be one: for Unison a folder too, else the file of a profile, and then without a table of hosts.
+fn are_operands(found: &ArgMatches<'_>) -> bool
+    ensures { result ≡ words.are_operands (rows_of (found_of found.now)) }
+{
+    is_set(found, "unison") || (are_profile_files(found) && !is_given(found, "hosts"))
 }
 
 /// Returns whether all operands are files of profiles.

@@ -1,6 +1,6 @@
 use Rattle.std.proofs.Common.{map}
 use Rattle.clap.specs.Words.{app_of}
-use Rattle.hub_cli.proofs.WordsFacts.{asked_is, files_are, passed_up, refused, strict_is}
+use Rattle.hub_cli.proofs.WordsFacts.{asked_is, files_are, passed_up, refused, strict_is, unison_is}
 use Rattle.hub_cli.proofs.words.parse.Goals as goal
 
 pub returns-in_err-matches-clause-err : goal.returns-in_err-matches-clause-err
@@ -18,3 +18,7 @@ returns-clause-files g c =
 pub returns-clause-strict : goal.returns-clause-strict
 returns-clause-strict g c =
     strict_is (app_of c.args.hubsync.now) (map g.S.AsStr.text c.args.words.now) c.in_ok-matches.matches c.requires c.in_ok-matches.ensures.ok.2
+
+pub returns-clause-unison : goal.returns-clause-unison
+returns-clause-unison g c =
+    unison_is (app_of c.args.hubsync.now) (map g.S.AsStr.text c.args.words.now) c.in_ok-matches.matches c.requires c.in_ok-matches.ensures.ok.2

@@ -1,6 +1,7 @@
 //! Notes on a yes that may mislead: what a set may not have been meant to say, and lines that Unison reads otherwise than hubsync.
 //!
-//! [`notes`] gives the lines for the first lines of an input.
+//! [`notes`] gives the lines for the first lines of an input, and [`wider_notes`] those on lines that the reading for Unison makes
+//! wider.
 //!
 //! ```rust
 //! let mut text = notes(source, is_for_unison)?;
@@ -36,3 +37,4 @@ mod unison;
 
 pub use query::{has_no_path, is_rule, is_same_root, line_above};
 pub use set::notes;
+pub use unison::wider_notes;

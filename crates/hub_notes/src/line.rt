@@ -149,22 +149,19 @@ pub(crate) fn whole_words(
     Ok(None)
 }
 
-/// What is said of a log or of backups in a root of its profile.
+/// What is said of a log in a root of its profile.
 pub(crate) fn log_words(
     alloc: Global,
     lines: &[SourceLine<'_>],
     line: &SourceLine<'_>,
 ) -> Result<Option<String>, AllocError> {
-    let words = match line.name() {
-        "logfile" => "Unison writes this log at a root while it runs: name a file elsewhere",
-        "backupdir" => "Unison writes its backups at a root while it runs: name a folder elsewhere",
-        _ => return Ok(None),
-    };
-    if !lines.iter().any(|own| own
-        .value_of("root")
-        .is_some_and(|root| covers(root, line.value())))
+    if line.name() != "logfile"
+        || !lines.iter().any(|own| own
+            .value_of("root")
+            .is_some_and(|root| covers(root, line.value())))
     {
         return Ok(None);
     }
+    let words = "Unison writes this log at a root while it runs: name a file elsewhere";
     Ok(Some(String::from_str(alloc, words)?))
 }

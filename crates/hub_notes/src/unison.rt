@@ -28,7 +28,7 @@ enum Difference {
     Ignored,
     /// A folder above a path that a rule forbids to create.
     Parent,
-    /// A log or backups in a root.
+    /// A log in a root.
     Log,
 }
 
@@ -44,6 +44,18 @@ const DIFFERENCES: [Difference; 10] = [
     Difference::Ignored,
     Difference::Parent,
     Difference::Log,
+];
+
+/// Those by which the reading for Unison is wider than hubsync's own.
+const WIDER: [Difference; 8] = [
+    Difference::Arrow,
+    Difference::Star,
+    Difference::Bar,
+    Difference::Dot,
+    Difference::Byte,
+    Difference::Whole,
+    Difference::Creation,
+    Difference::Ignored,
 ];
 
 /// Those that count where the profiles are read for Unison, too: the reading doesn't cover them.
@@ -66,6 +78,16 @@ pub(crate) fn say_otherwise_read(
         say_difference(out, source, profiles, *difference)?;
     }
     Ok(())
+}
+
+/// What is said about the lines of some profiles that the reading for Unison makes wider: lines that begin with `hubsync: `, or
+/// nothing.
+pub fn wider_notes(source: &Source<'_>, profiles: &[SourceLine<'_>]) -> Result<String, AllocError> {
+    let mut notes = Notes::new(source.alloc());
+    for difference in WIDER.iter() {
+        say_difference(&mut notes, source, profiles, *difference)?;
+    }
+    notes.into_text()
 }
 
 /// Says which line of some profiles is the first that Unison reads so, and counts the others.

@@ -2,13 +2,13 @@
 
 use crate::asked::{say_asked_path, say_not_reached, say_profiles, say_run_fault};
 use crate::bundle::say_bundle_fault;
-use crate::refusal::{say_breach, say_overlap, say_refused};
+use crate::refusal::{named_profiles, say_breach, say_overlap, say_refused};
 use crate::setting::say_setting_fault;
 use crate::text::{say_certificates_fault, say_state_fault};
-use crate::unison::{is_for_unison, say_assumed, say_left_out, say_wider};
+use crate::unison::{is_for_unison, is_of_reading, say_more, say_yes};
 use crate::words::say_words;
-use hub_notes::notes;
-use hub_source::{Said, Source, place_in, place_in_profile, say};
+use hub_notes::{notes, wider_notes};
+use hub_source::{Said, Source, SourceFile, place_in, place_in_profile, say};
 use hub_text::Lines;
 use std::alloc::{AllocError, Global};
 
@@ -34,6 +34,8 @@ pub struct Remarks {
     pub text: String,
     /// Whether a note among them says that a yes may mislead.
     pub may_mislead: bool,
+    /// Whether the answer is an overlap or a breach that may come of the reading for Unison alone.
+    pub is_of_reading: bool,
 }
 
 /// What is to be said about an answer.
@@ -44,13 +46,14 @@ pub struct Remarks {
 pub fn remark(
     alloc: Global,
     words: &[String],
-    files: &[&str],
+    files: &[SourceFile<'_>],
     input: Front<'_>,
     output: Front<'_>,
 ) -> Result<Remarks, AllocError> {
     let mut remarks = Remarks {
         text: String::new(alloc),
         may_mislead: false,
+        is_of_reading: false,
     };
     let mut lines = Lines::new(output.bytes);
     let first = next_text(&mut lines);
@@ -64,8 +67,24 @@ pub fn remark(
         return remarks_on_yes(&source, input.bytes, words);
     }
     say_answer(&mut remarks.text, &source, words, first, second)?;
-    say_wider(&mut remarks.text, &source, input.bytes, words, first)?;
+    if is_for_unison(words) {
+        remarks.is_of_reading = input.is_whole && is_of_reading(first);
+        say_more(&mut remarks.text, &source, input.bytes, first)?;
+    }
     Ok(remarks)
+}
+
+/// What is to be said about an overlap or a breach that comes of the reading for Unison alone: the lines of the profiles that it
+/// names by which this reading is wider than hubsync's own. They are lines that begin with `hubsync: `, or nothing.
+pub fn wider_lines(
+    alloc: Global,
+    files: &[SourceFile<'_>],
+    input: Front<'_>,
+    answer: &str,
+) -> Result<String, AllocError> {
+    let source = Source::read(alloc, input.bytes, input.is_whole, files)?;
+    let named = named_profiles(&source, answer)?;
+    wider_notes(&source, named.as_slice())
 }
 
 /// What is said about a yes. Where the profiles are read for Unison, that is also what is assumed, and which lines don't count.
@@ -78,10 +97,13 @@ fn remarks_on_yes(
     let mut text = notes(source, is_for_unison)?;
     let may_mislead = !text.is_empty();
     if is_for_unison {
-        say_assumed(&mut text)?;
-        say_left_out(&mut text, source, input)?;
+        say_yes(&mut text, source, input)?;
     }
-    Ok(Remarks { text, may_mislead })
+    Ok(Remarks {
+        text,
+        may_mislead,
+        is_of_reading: false,
+    })
 }
 
 /// Returns whether an answer that begins with this line says that profiles may run at the same time, or in rounds.

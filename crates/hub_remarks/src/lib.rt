@@ -11,7 +11,8 @@
 //! From `hubsync/src/served.rt`.
 //!
 //! The answer is read as it was written: what it names (a profile, a section, a line, a root, a rule) is looked up in the input
-//! (`hub_source`). So this crate uses none of those that read profiles, states and certificates, and takes part in no answer.
+//! (`hub_source`). So this crate takes part in no answer. It reads no profile but for the lines that an answer for Unison leaves
+//! out or refuses (`hub_preferences`).
 //!
 //! - Faults: `bundle` of the headings, `setting`, `value` and `pattern` of profiles and rules, `text` of states and certificates.
 //! - Refusals and the lines that make them so: `refusal`. What `reach`, `run` and the command line were asked: `asked`; the
@@ -36,4 +37,4 @@ mod unison;
 mod value;
 mod words;
 
-pub use answer::{Front, Remarks, remark};
+pub use answer::{Front, Remarks, remark, wider_lines};

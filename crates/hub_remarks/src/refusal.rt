@@ -2,6 +2,7 @@
 
 use hub_notes::{has_no_path, is_rule, is_same_root, line_above};
 use hub_source::{Said, Source, SourceLine, name_of, say, say_placed};
+use std::alloc::AllocError;
 
 /// Says which lines make two profiles overlap: `WRITER writes PATH at PLACE, OTHER reaches PATH`.
 pub(crate) fn say_overlap(out: &mut String, source: &Source<'_>, text: &str) -> Said {
@@ -17,6 +18,36 @@ pub(crate) fn say_overlap(out: &mut String, source: &Source<'_>, text: &str) -> 
         out,
         "run one after the other, or give one other paths, an ignore or a bar",
     )
+}
+
+/// The headings of the profiles that an answer names: `overlap: WRITER writes PATH at PLACE, OTHER reaches PATH`, or
+/// `breach: PROFILE may VERB PATH at ROOT, rule NUMBER`.
+pub(crate) fn named_profiles<'a>(
+    source: &Source<'a>,
+    answer: &str,
+) -> Result<Vec<SourceLine<'a>>, AllocError> {
+    let mut named = Vec::new(source.alloc());
+    for line in source.lines() {
+        if is_named(line, answer) {
+            named.push(*line)?;
+        }
+    }
+    Ok(named)
+}
+
+/// Returns whether a line is the heading of a profile that an answer names.
+fn is_named(line: &SourceLine<'_>, answer: &str) -> bool {
+    if let Some(text) = answer.strip_prefix("overlap: ") {
+        return match text.rsplit_once(" reaches ") {
+            Some((before, _)) => is_overlapping(line, before),
+            None => false,
+        };
+    }
+    let (Some(text), Some(name)) = (answer.strip_prefix("breach: "), line.profile()) else {
+        return false;
+    };
+    text.strip_prefix(name)
+        .is_some_and(|rest| rest.starts_with(" may "))
 }
 
 /// Returns whether a line is the heading of one of the two profiles in `WRITER writes PATH at PLACE, OTHER`.
@@ -132,7 +163,7 @@ pub(crate) fn say_refused(out: &mut String, source: &Source<'_>, text: &str) -> 
         "TooManyCharacters" => say(out, "paths and patterns may have 512 different characters"),
         "TooManySpots" => say(
             out,
-            "a profile's paths and patterns have at most 4,096 positions",
+            "a profile's paths and patterns have at most 4,096 beginnings",
         ),
         _ => say_certificates(out, source),
     }

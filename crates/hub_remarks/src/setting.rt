@@ -46,11 +46,11 @@ const RULES: &[&str] = &["root", "nolose", "nochange", "nonew"];
 /// Preferences that hubsync refuses, and that change nothing that is synchronized.
 const WITHOUT_EFFECT: &str = "\
     addprefsto addversionno backup backupcurr backupcurrent backupcurrentnot \
-    backupcurrnot backupdir backupnot backupprefix backupsuffix backupversions color \
-    confirmmerge copymax copyprog copyprogrest copyquoterem copythreshold debug diff \
-    dontchmod dumbtty halfduplex height ignoreinodenumbers killserver maxbackups \
-    maxthreads numericids repeat retry rsync servercmd showarchive sortbysize sortfirst \
-    sortlast sortnewfirst sshargs sshcmd stream watch xferbycopying";
+    backupcurrnot backupnot backupprefix backupsuffix backupversions color confirmmerge \
+    copymax copyprog copyprogrest copyquoterem copythreshold debug diff dontchmod \
+    dumbtty halfduplex height ignoreinodenumbers killserver maxbackups maxthreads \
+    numericids repeat retry rsync servercmd showarchive sortbysize sortfirst sortlast \
+    sortnewfirst sshargs sshcmd stream watch xferbycopying";
 
 /// What to do about the faults of lines that have their own.
 const REMEDIES: &[(&str, &str)] = &[
@@ -79,13 +79,35 @@ pub(crate) fn say_setting_fault(
     if place.number == 0 {
         return say_whole_fault(out, source, place);
     }
-    let Some(line) = source.line(place.section, place.number) else {
-        return Ok(());
-    };
-    say_line(out, source.alloc(), &line)?;
+    match source.line(place.section, place.number) {
+        Some(line) => say_fault_on(out, source, &line, place.fault, is_of_rules),
+        None => Ok(()),
+    }
+}
+
+/// The line that a fault of a profile is of: the first one that is not UTF-8, if that is the fault.
+pub(crate) fn fault_line<'a>(source: &Source<'a>, place: FaultPlace<'_>) -> Option<SourceLine<'a>> {
+    if place.fault == "NotUtf8" {
+        return unread_line(source, place.section);
+    }
+    source.line(place.section, place.number)
+}
+
+/// Says which line of a profile or of the rules has a fault, and what to do about it.
+pub(crate) fn say_fault_on(
+    out: &mut String,
+    source: &Source<'_>,
+    line: &SourceLine<'_>,
+    fault: &str,
+    is_of_rules: bool,
+) -> Said {
+    if fault == "NotUtf8" {
+        return say_unread(out, line);
+    }
+    say_line(out, source.alloc(), line)?;
     match odd_encoding(line.bytes) {
         Some(words) => say(out, words),
-        None => say_line_fault(out, source, &line, place.fault, is_of_rules),
+        None => say_line_fault(out, source, line, fault, is_of_rules),
     }
 }
 
@@ -148,19 +170,28 @@ fn remedy(fault: &str) -> &'static str {
 
 /// Says which line is not UTF-8.
 fn say_not_utf8(out: &mut String, source: &Source<'_>, section: usize) -> Said {
-    for line in source.section_lines(section) {
-        if line.number > 0 {
-            if let Err(error) = str::from_utf8(line.bytes) {
-                let byte = error.valid_up_to().saturating_add(1);
-                return say_bad_byte(out, line, byte);
-            }
-        }
+    match unread_line(source, section) {
+        Some(line) => say_unread(out, &line),
+        None => Ok(()),
     }
-    Ok(())
 }
 
-/// Says that a byte of a line is not UTF-8.
-fn say_bad_byte(out: &mut String, line: &SourceLine<'_>, byte: usize) -> Said {
+/// The first line of a section that is not UTF-8, but for its heading.
+fn unread_line<'a>(source: &Source<'a>, section: usize) -> Option<SourceLine<'a>> {
+    for line in source.section_lines(section) {
+        if line.number > 0 && str::from_utf8(line.bytes).is_err() {
+            return Some(*line);
+        }
+    }
+    None
+}
+
+/// Says at which byte a line is not UTF-8.
+fn say_unread(out: &mut String, line: &SourceLine<'_>) -> Said {
+    let Err(error) = str::from_utf8(line.bytes) else {
+        return Ok(());
+    };
+    let byte = error.valid_up_to().saturating_add(1);
     let number = line.number;
     let place = line.place();
     writeln!(
@@ -224,6 +255,12 @@ fn say_unknown_preference(out: &mut String, alloc: Global, name: &str) -> Said {
         return writeln!(
             out,
             "hubsync: {name} is a rule: a line %rules is missing above it"
+        );
+    }
+    if name == "backupdir" {
+        return say(
+            out,
+            "leave the line out if this folder lies in no root of any profile",
         );
     }
     say_nearest(

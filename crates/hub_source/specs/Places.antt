@@ -17,4 +17,4 @@ line_at ls n = if n == 0 then None else slice_get ls (n - 1)
 
 -- A line of a file is named by its number there, and each other one by its number in the input.
 abbrev pub line_place : SourceLine → LinePlace
-line_place l = record { file = l.file; number = if has_file l then l.number else l.at }
+line_place l = record { file = l.file; number = if has_file l then l.file_number else l.at }

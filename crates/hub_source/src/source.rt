@@ -22,8 +22,28 @@ pub struct SourceLine<'a> {
     pub at: usize,
     /// The line without its LF.
     pub bytes: &'a [u8],
-    /// The file that its section was made of, if it was made of one.
+    /// The path of the file that it came from, if its section was made of one.
     pub file: Option<&'a str>,
+    /// Its number there. The heading is line 0.
+    pub file_number: usize,
+}
+
+/// Where a line of a section came from: the path of its file, and its number there, from 1 on.
+#[derive(Clone, Copy)]
+pub struct LineOrigin<'a> {
+    /// The file's path.
+    pub path: &'a str,
+    /// The number.
+    pub number: usize,
+}
+
+/// What a section of an input was made of.
+#[derive(Drop)]
+pub struct SourceFile<'a> {
+    /// The path of the file.
+    pub path: &'a str,
+    /// Where its lines came from, if not all of them are the file's own.
+    pub origins: Vec<LineOrigin<'a>>,
 }
 
 /// Where a line is, as a remark names it: `bundle line 4`, or `docs.prf line 3`.
@@ -57,7 +77,11 @@ impl<'a> SourceLine<'a> {
         ensures { result ≡ places.line_place self.now }
     {
         let file = self.file;
-        let number = if file.is_some() { self.number } else { self.at };
+        let number = if file.is_some() {
+            self.file_number
+        } else {
+            self.at
+        };
         LinePlace { file, number }
     }
 
@@ -141,7 +165,7 @@ impl<'a> Source<'a> {
         alloc: Global,
         bytes: &'a [u8],
         is_whole: bool,
-        files: &[&'a str],
+        files: &[SourceFile<'a>],
     ) -> Result<Source<'a>, AllocError> {
         let mut source = Source {
             alloc,
@@ -160,7 +184,7 @@ impl<'a> Source<'a> {
     }
 
     /// Adds the next line of the input.
-    fn push(&mut self, bytes: &'a [u8], files: &[&'a str]) -> Result<(), AllocError> {
+    fn push(&mut self, bytes: &'a [u8], files: &[SourceFile<'a>]) -> Result<(), AllocError> {
         let before = self.lines.len();
         if bytes.starts_with(b"%") {
             self.headings.push(before)?;
@@ -170,12 +194,14 @@ impl<'a> Source<'a> {
             Some(heading) => before.saturating_sub(*heading),
             None => before.saturating_add(1),
         };
+        let (file, file_number) = origin_of(files, section, number);
         self.lines.push(SourceLine {
             section,
             number,
             at: before.saturating_add(1),
             bytes,
-            file: file_of(files, section),
+            file,
+            file_number,
         })?;
         Ok(())
     }
@@ -259,7 +285,17 @@ impl<'a> Source<'a> {
     }
 }
 
-/// The file that a section was made of, if it was made of one.
-fn file_of<'a>(files: &[&'a str], section: usize) -> Option<&'a str> {
-    files.get(section.checked_sub(1)?).copied()
+/// The path of the file that a line of a section came from, if the section was made of one, and the line's number there.
+fn origin_of<'a>(
+    files: &[SourceFile<'a>],
+    section: usize,
+    number: usize,
+) -> (Option<&'a str>, usize) {
+    let Some(file) = section.checked_sub(1).and_then(|at| files.get(at)) else {
+        return (None, number);
+    };
+    match number.checked_sub(1).and_then(|at| file.origins.get(at)) {
+        Some(origin) => (Some(origin.path), origin.number),
+        None => (Some(file.path), number),
+    }
 }

@@ -1,19 +1,57 @@
 -- What is known of the files that were read.
 use Rattle.std.proofs.Common.{◌≡◌, ◌<◌, ℕ, List, get_or, length, map, Result, Ok, Err, IfErr, IsErrAnd, subst, sym}
 use Rattle.std.proofs.lemmas.List.{get_or-map, length-map}
-use Rattle.std.proofs.lemmas.List.Elements.{Contains-get_or}
+use Rattle.std.proofs.lemmas.List.Elements.{Contains-append_right, Contains-get_or}
 use Rattle.std.specs.List.{Contains}
-use Rattle.hubsync.specs.Bundled.{Label}
-use Rattle.hubsync.specs.Named.{IsUnreadFile, IsUnserved}
-use Rattle.hubsync.specs.Reading.{Reads}
+use Rattle.hub_cli.specs.Words.{Names}
+use Rattle.hub_folder.specs.Reading.{Reads}
+use Rattle.hub_files.specs.declared.part.Kind.TheVariants.{Profile}
+use Rattle.hub_folder.specs.Operands.{File}
+use Rattle.hub_hosts.specs.declared.fault.HostsFault.{HostsFault}
+use denote.Ref.{Bor}
+use Rattle.hubsync.specs.Bundled.{AreSections, Disk, Label, Sources, labels, option_labels}
+use Rattle.hubsync.specs.Named.{IsUnreadFile, IsUnreadOf, IsUnserved}
 use Rattle.hubsync.specs.declared.files.Unserved.{Unserved}
-use Rattle.hubsync.specs.declared.files.Unserved.TheVariants.{File, OutOfMemory}
+use Rattle.hubsync.specs.declared.files.Unserved.TheVariants as unserved_as
 
 -- a file that is named and wasn't read
-pub unserved : (reads : Reads) (labels : List Label) (label : Label) (u : Unserved) → Contains labels label → IsUnreadFile reads label u
-    → IsUnserved reads labels u
-unserved reads labels label (File file fault) named is = (label, named, is.0, is.1)
-unserved reads labels label OutOfMemory named is = tt
+pub unread-of : (reads : Reads) (ls : List Label) (label : Label) (u : Unserved) → Contains ls label → IsUnreadFile reads label u → IsUnreadOf reads ls u
+unread-of reads ls label (unserved_as.File file fault) named is = (label, named, is.0, is.1)
+unread-of reads ls label (unserved_as.Untaken e) named is = absurd is
+unread-of reads ls label (unserved_as.Hosts file fault) named is = absurd is
+unread-of reads ls label (unserved_as.BadHosts file fault) named is = absurd is
+unread-of reads ls label unserved_as.OutOfMemory named is = tt
+
+-- it is among those that are named
+pub unserved : (disk : Disk) (names : Names) (ls : List Label) (u : Unserved) → ((label : Label) → Contains ls label → Contains (labels names) label)
+    → IsUnreadOf disk.reads ls u → IsUnserved disk names u
+unserved disk names ls (unserved_as.File file fault) within is = (is.0, within is.0 is.1, is.2, is.3)
+unserved disk names ls (unserved_as.Untaken e) within is = absurd is
+unserved disk names ls (unserved_as.Hosts file fault) within is = absurd is
+unserved disk names ls (unserved_as.BadHosts file fault) within is = absurd is
+unserved disk names ls unserved_as.OutOfMemory within is = tt
+
+-- what is wrong with a table of hosts
+pub of-bad-hosts : (disk : Disk) (names : Names) (u : Unserved) (file : Bor (List ℕ)) (fault : HostsFault) → u ≡ unserved_as.BadHosts file fault
+    → IsUnserved disk names u → IsUnserved disk names (unserved_as.BadHosts file fault)
+of-bad-hosts disk names u file fault e is = subst (IsUnserved disk names) e is
+
+pub plain-unserved : (disk : Disk) (names : Names) (ls : List Label) (u : Unserved) → ls ≡ labels names → IsUnreadOf disk.reads ls u
+    → IsUnserved disk names u
+plain-unserved disk names ls u e is = unserved disk names ls u (λ l c. subst (λ all. Contains all l) e c) is
+
+pub option-unserved : (disk : Disk) (names : Names) (ls : List Label) (u : Unserved) → ls ≡ option_labels names → IsUnreadOf disk.reads ls u
+    → IsUnserved disk names u
+option-unserved disk names ls u e is =
+    unserved disk names ls u
+    (λ l c. Contains-append_right (map (λ file. (Profile, file)) names.profiles) (option_labels names) l (subst (λ all. Contains all l) e c))
+    is
+
+-- The sections are those of other lists that are the same.
+pub sections-same : (disk : Disk) (sources : Sources) {ks ls : List Label} {fs gs : List File} → ks ≡ ls → fs ≡ gs
+    → AreSections disk sources ls gs → AreSections disk sources ks fs
+sections-same disk sources {ks = ks} {ls = ls} {fs = fs} {gs = gs} e f are =
+    subst (λ all. AreSections disk sources all fs) (sym e) (subst (λ files. AreSections disk sources ls files) (sym f) are)
 
 pub Contains-map_at : {X Y : Type 0} (f : X → Y) (xs : List X) (i : ℕ) (d : X) → i < length xs → Contains (map f xs) (f (get_or xs i d))
 Contains-map_at f xs i d lt =

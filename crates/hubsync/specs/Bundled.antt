@@ -1,5 +1,5 @@
 -- What is answered over files.
-use Rattle.std.specs.Prelude.{◌≡◌, ◌⊎◌, ◌++◌, ℕ, Bool, false, true, List, [], ◌∷◌, Option, Some, None, is_some, codes, map}
+use Rattle.std.specs.Prelude.{◌≡◌, ◌⊎◌, ◌++◌, ℕ, Bool, false, true, List, [], ◌∷◌, Option, Some, None, Ok, Err, is_some, codes, map, string_bytes}
 use Rattle.std.specs.List.{All, Contains, slice_get}
 use Rattle.hub_cli.specs.Words.{Names, Request}
 use Rattle.hub_files.specs.Files.{bundle_of, first_faulty, part_fault}
@@ -10,8 +10,17 @@ use Rattle.hub_files.specs.declared.part.PartFault.{PartFault}
 use Rattle.hub_files.specs.declared.part.PartFault.TheVariants.{BadName, HasHeading}
 use Rattle.hub_serve.specs.Reads.{Reads as InputReads}
 use Rattle.hub_serve.specs.Report.{AnswersNothing, Serves, WritesText}
-use Rattle.hubsync.specs.Reading.{HasBytes, HasFault, Reads, fault_word}
-use Rattle.hubsync.specs.declared.reader.ReadFault.{ReadFault}
+use Rattle.hub_folder.specs.Operands.{AreNamed, File, IsUnnamed}
+use Rattle.hub_folder.specs.Reading.{HasBytes, HasFault, Lists, Reads, fault_word}
+use Rattle.hub_folder.specs.declared.fault.Untaken.{Untaken}
+use Rattle.hub_folder.specs.declared.fault.Untaken.TheVariants as untaken
+use Rattle.hub_folder.specs.declared.reader.ReadFault.{ReadFault}
+use Rattle.hub_hosts.specs.Profiles.{text_for}
+use Rattle.hub_hosts.specs.Table.{Row, rows_of}
+use Rattle.hub_hosts.specs.declared.fault.HostsFault.{HostsFault}
+use Rattle.hub_hosts.specs.declared.fault.HostsFault.TheVariants as hosts_fault
+use Rattle.hub_include.specs.declared.fault.Why.{Why}
+use Rattle.hub_include.specs.declared.fault.Why.TheVariants as why
 
 -- The line that says what is wrong with a file.
 abbrev pub file_fault_line : List ℕ → List ℕ → List ℕ
@@ -31,6 +40,48 @@ abbrev pub WritesUnread : Reads → List ℕ → Option (List ℕ) → Option (L
 WritesUnread reads file old new failed status =
     (fault : ReadFault) × HasFault reads file fault
     × WritesFault file (fault_word fault) old new failed status
+
+-- Why a line that includes a file can't be followed, as a word of the answer.
+abbrev pub why_word : Why → List ℕ
+why_word why.BadLine = codes "BadInclude"
+why_word why.NoFile = codes "NoFile"
+why_word why.Cycle = codes "Cycle"
+why_word why.TooDeep = codes "TooDeep"
+why_word why.TooLong = codes "TooLong"
+
+-- The file or folder for which a profile can't be told, and why, as the answer names them.
+abbrev pub untaken_path : Untaken → List ℕ
+untaken_path (untaken.File path fault) = string_bytes path
+untaken_path (untaken.Gone path) = string_bytes path
+untaken_path (untaken.Folder path fault) = string_bytes path
+untaken_path (untaken.Line place fault) = string_bytes place ++ fault.file
+untaken_path (untaken.TooManyFiles path) = string_bytes path
+untaken_path untaken.OutOfMemory = []
+
+abbrev pub untaken_word : Untaken → List ℕ
+untaken_word (untaken.File path fault) = fault_word fault
+untaken_word (untaken.Gone path) = codes "ReadFailed"
+untaken_word (untaken.Folder path fault) = fault_word fault
+untaken_word (untaken.Line place fault) = why_word fault.why
+untaken_word (untaken.TooManyFiles path) = codes "TooManyFiles"
+untaken_word untaken.OutOfMemory = []
+
+-- Why a profile can't be told was written, or that memory is out.
+abbrev pub WritesUntaken : Untaken → Option (List ℕ) → Option (List ℕ) → Bool → ℕ → Type 0
+WritesUntaken e old new failed status =
+    WritesFault (untaken_path e) (untaken_word e) old new failed status
+
+-- What is wrong with a table of hosts, as a word of the answer.
+abbrev pub hosts_word : HostsFault → List ℕ
+hosts_word (hosts_fault.BadLine n) = codes "BadHost"
+hosts_word (hosts_fault.SecondLine n) = codes "SecondHost"
+hosts_word hosts_fault.OutOfMemory = []
+
+-- What is wrong with the file of a table of hosts was written, or that memory is out.
+abbrev pub WritesBadHosts : Reads → List ℕ → Option (List ℕ) → Option (List ℕ) → Bool → ℕ → Type 0
+WritesBadHosts reads file old new failed status =
+    (bytes : List ℕ) × (fault : HostsFault) × HasBytes reads file bytes
+    × (rows_of bytes ≡ Err fault) × WritesFault file (hosts_word fault) old new failed status
 
 -- The answer is given over the bundle that the files make, from its first read to its last.
 pub record ServesBundle (asked : Option Request) (parts : List Part) (old new : Option (List ℕ))
@@ -92,11 +143,23 @@ label_if kind (Some file) = (kind, file) ∷ []
 
 -- The files that the words name, in the order of their sections: the profiles, the rules, the
 -- state, the certificates.
+abbrev pub option_labels : Names → List Label
+option_labels names =
+    label_if Rules names.rules
+    ++ (label_if State names.state ++ label_if Certificates names.certificates)
+
 abbrev pub labels : Names → List Label
-labels names =
-    map (λ file. (Profile, file)) names.profiles
-    ++ (label_if Rules names.rules
-    ++ (label_if State names.state ++ label_if Certificates names.certificates))
+labels names = map (λ file. (Profile, file)) names.profiles ++ option_labels names
+
+-- What reads of files give, and what folders list, where it is known.
+pub record Disk : Type 0 where
+  pub reads : Reads
+  pub lists : Lists
+
+-- The files that words name, and whether the profiles are read for Unison.
+pub record Sources : Type 0 where
+  pub names : Names
+  pub is_for_unison : Bool
 
 -- The path of a section's file, and its bytes.
 abbrev pub bytes_of : Part → List ℕ × List ℕ
@@ -106,21 +169,66 @@ bytes_of p = (p.file.now, p.bytes.now)
 abbrev pub HasContents : Reads → List ℕ × List ℕ → Type 0
 HasContents reads file = HasBytes reads file.0 file.1
 
--- The answer is given over the bytes of each of the files that are named and of no other ones, each
--- in the section that it is for. Or it was written what is wrong with one of them, or that memory
--- is out.
-abbrev pub ServesFiles : Reads → Option Request → Names → Option (List ℕ) → Option (List ℕ)
+-- The sections are those of the files that are named, with their bytes.
+pub record AreRead (reads : Reads) (names : Names) (ls : List Label) (files : List File) : Type 0 where
+  pub labels_are : ls ≡ labels names
+  pub bytes_are : All (HasContents reads) files
+
+-- The table of hosts that a file has, if one is named.
+abbrev pub IsTable : Reads → Option (List ℕ) → Option (List Row) → Type 0
+IsTable reads None table = table ≡ None
+IsTable reads (Some file) table =
+    (bytes : List ℕ) × (rows : List Row) × HasBytes reads file bytes
+    × (rows_of bytes ≡ Ok rows) × (table ≡ Some rows)
+
+-- A profile with paths in place of the roots of these hosts.
+abbrev pub host_text : Option (List Row) → List ℕ → List ℕ
+host_text None text = text
+host_text (Some rows) text = text_for rows text
+
+abbrev pub for_hosts : Option (List Row) → File → File
+for_hosts table file = (file.0, host_text table file.1)
+
+-- The sections are those of the profiles that the operands name for Unison, with the lines that they
+-- include and with paths in place of the roots of hosts, and of the other files that are named, with
+-- their bytes.
+pub record AreTaken (disk : Disk) (names : Names) (ls : List Label) (files : List File) : Type 0 where
+  pub profiles : List File
+  pub named : AreNamed disk.reads disk.lists names.profiles profiles
+  pub table : Option (List Row)
+  pub is_table : IsTable disk.reads names.hosts table
+  pub others : List File
+  pub bytes_are : All (HasContents disk.reads) others
+  pub labels_are : ls ≡ map (λ file. (Profile, file.0)) profiles ++ option_labels names
+  pub files_are : files ≡ map (for_hosts table) profiles ++ others
+
+pub record AreSections (disk : Disk) (sources : Sources) (ls : List Label) (files : List File) : Type 0 where
+  pub plain : sources.is_for_unison ≡ false → AreRead disk.reads sources.names ls files
+  pub unison : sources.is_for_unison ≡ true → AreTaken disk sources.names ls files
+
+-- What is wrong with one of the files was written, or that memory is out.
+abbrev pub WritesFileFault : Disk → Names → Option (List ℕ) → Option (List ℕ) → Bool → ℕ → Type 0
+WritesFileFault disk names old new failed status =
+    ((label : Label) × Contains (labels names) label
+    × WritesUnread disk.reads label.1 old new failed status)
+    ⊎ (((e : Untaken) × IsUnnamed disk.reads disk.lists names.profiles e
+    × WritesUntaken e old new failed status)
+    ⊎ ((file : List ℕ) × (names.hosts ≡ Some file)
+    × (WritesUnread disk.reads file old new failed status
+    ⊎ WritesBadHosts disk.reads file old new failed status)))
+
+-- The answer is given over these sections and over no other ones. Or it was written what is wrong
+-- with one of the files, or that memory is out.
+abbrev pub ServesFiles : Disk → Option Request → Sources → Option (List ℕ) → Option (List ℕ)
     → Bool → ℕ → Type 0
-ServesFiles reads asked names old new failed status =
-    ((parts : List Part) × (map label_of parts ≡ labels names)
-    × All (HasContents reads) (map bytes_of parts)
+ServesFiles disk asked sources old new failed status =
+    ((parts : List Part) × AreSections disk sources (map label_of parts) (map bytes_of parts)
     × ServesParts asked parts old new failed status)
-    ⊎ (((label : Label) × Contains (labels names) label
-    × WritesUnread reads label.1 old new failed status)
+    ⊎ (WritesFileFault disk sources.names old new failed status
     ⊎ WritesText old new memory_line 2 failed status)
 
 -- This is so if the words ask for something. Else nothing is answered.
-pub record ServesNamed (reads : Reads) (asked : Option Request) (names : Names)
+pub record ServesNamed (disk : Disk) (asked : Option Request) (sources : Sources)
     (old new : Option (List ℕ)) (failed : Bool) (status : ℕ) : Type 0 where
-  pub served : is_some asked ≡ true → ServesFiles reads asked names old new failed status
+  pub served : is_some asked ≡ true → ServesFiles disk asked sources old new failed status
   pub nothing : asked ≡ None → AnswersNothing old new status

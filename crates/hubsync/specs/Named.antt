@@ -1,31 +1,62 @@
 -- The files that are read.
-use Rattle.std.specs.Prelude.{◌≡◌, List, ℕ}
+use Rattle.std.specs.Prelude.{◌≡◌, List, ℕ, Err, Option, Some, option_map, string_bytes}
 use Rattle.std.specs.List.{Contains}
+use Rattle.hub_cli.specs.Words.{Names, names_of}
+use Rattle.hub_cli.specs.declared.files.Options.{Options}
+use Rattle.hub_folder.specs.Operands.{IsUnnamed}
+use Rattle.hub_folder.specs.Reading.{HasBytes, HasFault, Reads}
+use Rattle.hub_hosts.specs.Table.{Row, rows_of}
+use denote.Ref.{Bor}
 use Rattle.hubsync.specs.declared.files.Held.{Held}
 use Rattle.hubsync.specs.declared.files.Named.{Named}
 use Rattle.hubsync.specs.declared.files.Unserved.{Unserved}
-use Rattle.hubsync.specs.declared.files.Unserved.TheVariants.{File, OutOfMemory}
-use Rattle.hubsync.specs.Bundled.{Label}
-use Rattle.hubsync.specs.Reading.{HasFault, Reads}
+use Rattle.hubsync.specs.declared.files.Unserved.TheVariants.{BadHosts, File, Hosts, OutOfMemory, Untaken}
+use Rattle.hubsync.specs.Bundled.{Disk, Label, Sources, labels}
 
 abbrev pub label_named : Named → Label
 label_named n = (n.kind, n.file.now)
 
 abbrev pub label_held : Held → Label
-label_held h = (h.kind, h.file.now)
+label_held h = (h.kind, string_bytes h.file)
 
 -- The path of a file that was read, and its bytes.
 abbrev pub bytes_held : Held → List ℕ × List ℕ
-bytes_held h = (h.file.now, h.bytes.items)
+bytes_held h = (string_bytes h.file, h.bytes.items)
+
+-- A borrowed table of hosts, if there is one.
+abbrev pub table_in : Option (Bor (List Row)) → Option (List Row)
+table_in table = option_map (λ hosts. hosts.now) table
+
+-- The files that options name.
+abbrev pub sources_in : Options → Sources
+sources_in o = record { names = names_of o.files; is_for_unison = o.is_for_unison }
 
 -- What wasn't read is this file.
 abbrev pub IsUnreadFile : Reads → Label → Unserved → Type 0
 IsUnreadFile reads label (File file fault) = (label.1 ≡ file.now) × HasFault reads file.now fault
+IsUnreadFile reads label (Untaken e) = ⊥
+IsUnreadFile reads label (Hosts file fault) = ⊥
+IsUnreadFile reads label (BadHosts file fault) = ⊥
 IsUnreadFile reads label OutOfMemory = Unit {0}
 
 -- What wasn't read is one of these files.
-abbrev pub IsUnserved : Reads → List Label → Unserved → Type 0
-IsUnserved reads labels (File file fault) =
-    (label : Label) × Contains labels label × (label.1 ≡ file.now)
-    × HasFault reads file.now fault
-IsUnserved reads labels OutOfMemory = Unit {0}
+abbrev pub IsUnreadOf : Reads → List Label → Unserved → Type 0
+IsUnreadOf reads ls (File file fault) =
+    (label : Label) × Contains ls label × (label.1 ≡ file.now) × HasFault reads file.now fault
+IsUnreadOf reads ls (Untaken e) = ⊥
+IsUnreadOf reads ls (Hosts file fault) = ⊥
+IsUnreadOf reads ls (BadHosts file fault) = ⊥
+IsUnreadOf reads ls OutOfMemory = Unit {0}
+
+-- What wasn't read is one of the files that are named.
+abbrev pub IsUnserved : Disk → Names → Unserved → Type 0
+IsUnserved disk names (File file fault) =
+    (label : Label) × Contains (labels names) label × (label.1 ≡ file.now)
+    × HasFault disk.reads file.now fault
+IsUnserved disk names (Untaken e) = IsUnnamed disk.reads disk.lists names.profiles e
+IsUnserved disk names (Hosts file fault) =
+    (names.hosts ≡ Some file.now) × HasFault disk.reads file.now fault
+IsUnserved disk names (BadHosts file fault) =
+    (names.hosts ≡ Some file.now) × ((bytes : List ℕ) × HasBytes disk.reads file.now bytes
+    × (rows_of bytes ≡ Err fault))
+IsUnserved disk names OutOfMemory = Unit {0}

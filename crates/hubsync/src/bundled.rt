@@ -10,6 +10,7 @@ ghost use Rattle.hubsync.specs.Bundled.{ServesBundle, ServesParts, WritesFault, 
 use crate::kept::Kept;
 use crate::served::{Answered, Seen, serve_with_remarks};
 use hub_files::{FilesFault, Part, PartFault, bundle_of, part_fault};
+use hub_source::SourceFile;
 use hub_text::Watched;
 use std::alloc::{AllocError, Global};
 use std::io::{Eprint, Write};
@@ -22,7 +23,7 @@ use std::time::Clock;
 pub fn serve_parts<T: AllocGlobal + Clock + Eprint + Threads + Wait + Sync, W: Write>(
     rt: &T,
     words: &[String],
-    files: &[&str],
+    files: &[SourceFile<'_>],
     parts: &[Part<'_>],
     output: &mut Watched<Kept<'_, W>>,
     seen: &Seen,
@@ -57,7 +58,7 @@ fn write_part_fault<T: AllocGlobal + Eprint, W: Write>(
 {
     match parts.get(i) {
         Some(part) => write_why(rt, part, output),
-        None => write_fault(rt.alloc(), "", "", output),
+        None => write_fault(rt.alloc(), b"", "", output),
     }
 }
 
@@ -73,7 +74,7 @@ fn write_why<T: AllocGlobal + Eprint, W: Write>(
         output.new.failed result }
 {
     let fault = part_fault(part);
-    let status = write_fault(rt.alloc(), part.file, reason_of(fault), output);
+    let status = write_fault(rt.alloc(), part.file.as_bytes(), reason_of(fault), output);
     say_part_fault(rt, part.file, fault);
     status
 }
@@ -107,7 +108,7 @@ fn say_part_fault<T: Eprint>(rt: &T, file: &str, fault: Option<PartFault>) {
 /// Says what is wrong with a file.
 pub fn write_fault<W: Write>(
     alloc: Global,
-    file: &str,
+    file: &[u8],
     reason: &str,
     output: &mut Watched<Kept<'_, W>>,
 ) -> u8
@@ -123,12 +124,12 @@ pub fn write_fault<W: Write>(
 }
 
 /// The line that says what is wrong with a file.
-fn fault_line(alloc: Global, file: &str, reason: &str) -> Result<Vec<u8>, AllocError>
+fn fault_line(alloc: Global, file: &[u8], reason: &str) -> Result<Vec<u8>, AllocError>
     ensures { IfOk result (λ l. l.items ≡ file_fault_line file.now reason.now) }
 {
     let mut line = Vec::new(alloc);
     line.extend_from_slice(b"fault: ")?;
-    line.extend_from_slice(file.as_bytes())?;
+    line.extend_from_slice(file)?;
     line.extend_from_slice(b": ")?;
     line.extend_from_slice(reason.as_bytes())?;
     line.push(b'\n')?;

@@ -1,18 +1,22 @@
 //! The files that the words on the command line name, and what they have.
-ghost use Rattle.std.specs.Prelude.{◌≡◌, ◌++◌, false, map, option_map, string_bytes, IfErr, IfOk, OnOk};
+ghost use Rattle.std.specs.Prelude.{◌≡◌, ◌++◌, ℕ, List, false, map, option_map, string_bytes, IfErr, IfOk, OnOk};
 ghost use Rattle.std.specs.List.{All};
-ghost use Rattle.hub_cli.specs.Words.{asked_of, names_of};
-ghost use Rattle.hubsync.specs.Bundled.{HasContents, ServesFiles, WritesFault, bytes_of, label_if, label_of, labels};
+ghost use Rattle.hub_cli.specs.Words.{Names, asked_of, names_of};
 ghost use Rattle.hub_files.specs.declared.part.Kind.TheVariants.{Profile};
-ghost use Rattle.hubsync.specs.Named.{IsUnreadFile, IsUnserved, bytes_held, label_held, label_named};
-ghost use Rattle.hubsync.specs.Reading.{fault_word};
+ghost use Rattle.hub_folder.specs.Reading.{fault_word};
+ghost use Rattle.hub_folder.specs.Told.{path_and_text};
+ghost use Rattle.hubsync.specs.Bundled.{AreRead, AreSections, AreTaken, HasContents, IsTable, ServesFiles, WritesFault, WritesUntaken, bytes_of, for_hosts, hosts_word, label_if, label_of, labels, option_labels, why_word};
+ghost use Rattle.hubsync.specs.Named.{IsUnreadFile, IsUnreadOf, IsUnserved, bytes_held, label_held, label_named, sources_in, table_in};
 
 use crate::bundled::{serve_parts, write_fault, write_memory};
 use crate::kept::Kept;
-use crate::reader::{FileReader, ReadFault, Unread};
 use crate::served::{Answered, Seen};
-use hub_cli::Files;
+use hub_cli::{Files, Options};
 use hub_files::{Kind, Part};
+use hub_folder::{FileReader, FolderProfile, Origins, ReadFault, Unread, profiles_named};
+use hub_hosts::{Hosts, HostsFault};
+use hub_include::{LineFault, Why};
+use hub_source::{LineOrigin, SourceFile};
 use hub_text::Watched;
 use std::alloc::{AllocError, Global};
 use std::io;
@@ -30,16 +34,26 @@ struct Named<'a> {
 
 /// A file that was read, and the section that it is for.
 #[derive(Drop)]
-struct Held<'a> {
+struct Held {
     kind: Kind,
-    file: &'a str,
+    file: String,
     bytes: Vec<u8>,
+    /// Where its lines come from, if not all of them are the file's own.
+    origins: Option<Origins>,
+    /// The paths of the files that are no profiles since it includes them.
+    left_out: Vec<String>,
 }
 
 /// Why nothing is answered over the files.
 enum Unserved<'a> {
     /// This is wrong with this file.
     File(&'a str, ReadFault),
+    /// The profiles can't be told.
+    Untaken(hub_folder::Untaken),
+    /// This is wrong with the file of the table of hosts.
+    Hosts(&'a str, ReadFault),
+    /// This is wrong with the table of hosts that the file has.
+    BadHosts(&'a str, HostsFault),
     /// Out of memory.
     OutOfMemory,
 }
@@ -58,7 +72,8 @@ impl<'a> From<AllocError> for Unserved<'a> {
 /// Answers over the files that the words name, each in the section that it is for. If one can't be read, a fault says so, and the
 /// status is 2.
 ///
-/// The answer is given over the bytes that the reader tells of these files, as `serve_parts` says.
+/// The answer is given over the bytes that the reader tells of these files, as `serve_parts` says. For Unison the profiles are those
+/// that `profiles_named` gives for the operands.
 pub fn serve_files<
     T: AllocGlobal + Clock + Eprint + Threads + Wait + Sync,
     F: FileReader,
@@ -66,21 +81,28 @@ pub fn serve_files<
 >(
     rt: &T,
     words: &[String],
-    files: &Files<'_>,
+    options: &Options<'_>,
     reader: &F,
     output: &mut Watched<Kept<'_, W>>,
     seen: &Seen,
 ) -> Answered
     requires { output.old.failed ≡ false }
-    ensures { ServesFiles (F.reads reader.now) (asked_of (map string_bytes words.now))
-        (names_of files.now)
+    ensures { ServesFiles (record { reads = F.reads reader.now; lists = F.lists reader.now })
+        (asked_of (map string_bytes words.now)) (sources_in options.now)
         (W.contents output.old.device.device) (W.contents output.new.device.device)
         output.new.failed result.status }
 {
-    match serve_named(rt, words, files, reader, output, seen) {
+    match serve_named(rt, words, options, reader, output, seen) {
         Ok(answered) => answered,
         Err(Unserved::File(file, fault)) => {
             Answered::plain(write_unread(rt, file, fault, output))
+        }
+        Err(Unserved::Untaken(fault)) => Answered::plain(write_untaken(rt, fault, output)),
+        Err(Unserved::Hosts(file, fault)) => {
+            Answered::plain(write_unread(rt, file, fault, output))
+        }
+        Err(Unserved::BadHosts(file, fault)) => {
+            Answered::plain(write_bad_hosts(rt, file, fault, output))
         }
         Err(Unserved::OutOfMemory) => Answered::plain(write_memory(output)),
     }
@@ -95,34 +117,226 @@ fn serve_named<
 >(
     rt: &T,
     words: &[String],
-    files: &Files<'a>,
+    options: &Options<'a>,
     reader: &F,
     output: &mut Watched<Kept<'_, W>>,
     seen: &Seen,
 ) -> Result<Answered, Unserved<'a>>
     requires { output.old.failed ≡ false }
-    ensures served { IfOk result (λ a. ServesFiles (F.reads reader.now)
-        (asked_of (map string_bytes words.now)) (names_of files.now)
+    ensures served { IfOk result (λ a. ServesFiles
+        (record { reads = F.reads reader.now; lists = F.lists reader.now })
+        (asked_of (map string_bytes words.now)) (sources_in options.now)
         (W.contents output.old.device.device) (W.contents output.new.device.device)
         output.new.failed a.status) }
-    ensures named { IfErr result (IsUnserved (F.reads reader.now) (labels (names_of files.now))) }
+    ensures named { IfErr result (IsUnserved
+        (record { reads = F.reads reader.now; lists = F.lists reader.now })
+        (names_of options.now.files)) }
     ensures unread { IfErr result (λ _. output.new.failed ≡ false) }
     ensures silent { IfErr result (λ _. W.contents output.new.device.device
         ≡ W.contents output.old.device.device) }
 {
     let alloc = rt.alloc();
-    let named = named_files(alloc, files)?;
-    let held = read_all(alloc, reader, named.as_slice())?;
+    let held = read_sections(alloc, reader, options)?;
     let parts = parts_of(alloc, held.as_slice())?;
-    let paths = paths_of(alloc, named.as_slice())?;
-    Ok(serve_parts(rt, words, paths.as_slice(), parts.as_slice(), output, seen))
+    let files = source_files(alloc, held.as_slice())?;
+    let answered = serve_parts(rt, words, files.as_slice(), parts.as_slice(), output, seen);
+    let has_left_out = say_left_out(rt, held.as_slice());
+    Ok(Answered {
+        status: answered.status,
+        may_mislead: answered.may_mislead || has_left_out,
+    })
+}
+
+/// Says which files are no profiles since another one includes them, and returns whether there are such: they may be run, too.
+fn say_left_out<T: Eprint>(rt: &T, held: &[Held]) -> bool {
+    let mut has_left_out = false;
+    for one in held {
+        say_left_out_by(rt, one);
+        has_left_out = has_left_out || !one.left_out.is_empty();
+    }
+    has_left_out
+}
+
+/// Says which files are no profiles since this one includes them. If that fails, there is nobody left to tell.
+fn say_left_out_by<T: Eprint>(rt: &T, one: &Held) {
+    let file = one.file.as_str();
+    for path in one.left_out.iter() {
+        let _ = eprintln!(rt;
+            "hubsync: note: {path} is no profile here, since {file} includes it: name both files to ask about both"
+        );
+    }
+}
+
+/// Reads the files, as they are or for Unison.
+fn read_sections<'a, F: FileReader>(
+    alloc: Global,
+    reader: &F,
+    options: &Options<'a>,
+) -> Result<Vec<Held>, Unserved<'a>>
+    ensures ok { IfOk result (λ v. AreSections
+        (record { reads = F.reads reader.now; lists = F.lists reader.now }) (sources_in options.now)
+        (map label_held v.items) (map bytes_held v.items)) }
+    ensures err { IfErr result (IsUnserved
+        (record { reads = F.reads reader.now; lists = F.lists reader.now })
+        (names_of options.now.files)) }
+{
+    if options.is_for_unison {
+        read_for_unison(alloc, reader, &options.files)
+    } else {
+        read_plainly(alloc, reader, &options.files)
+    }
+}
+
+/// Reads the files as they are.
+fn read_plainly<'a, F: FileReader>(
+    alloc: Global,
+    reader: &F,
+    files: &Files<'a>,
+) -> Result<Vec<Held>, Unserved<'a>>
+    ensures ok { IfOk result (λ v. AreRead (F.reads reader.now) (names_of files.now)
+        (map label_held v.items) (map bytes_held v.items)) }
+    ensures err { IfErr result (IsUnserved
+        (record { reads = F.reads reader.now; lists = F.lists reader.now }) (names_of files.now)) }
+{
+    let named = named_files(alloc, files)?;
+    match read_all(alloc, reader, named.as_slice()) {
+        Ok(held) => Ok(held),
+        Err(fault) => Err(fault),
+    }
+}
+
+/// Reads the files, and the profiles that the operands name for Unison.
+fn read_for_unison<'a, F: FileReader>(
+    alloc: Global,
+    reader: &F,
+    files: &Files<'a>,
+) -> Result<Vec<Held>, Unserved<'a>>
+    ensures ok { IfOk result (λ v. AreTaken
+        (record { reads = F.reads reader.now; lists = F.lists reader.now }) (names_of files.now)
+        (map label_held v.items) (map bytes_held v.items)) }
+    ensures err { IfErr result (IsUnserved
+        (record { reads = F.reads reader.now; lists = F.lists reader.now }) (names_of files.now)) }
+{
+    let profiles = match profiles_named(alloc, reader, files.profiles.as_slice()) {
+        Ok(profiles) => profiles,
+        Err(fault) => return Err(Unserved::Untaken(fault)),
+    };
+    let hosts = match read_hosts(alloc, reader, files.hosts) {
+        Ok(hosts) => hosts,
+        Err(fault) => return Err(fault),
+    };
+    let named = option_files(alloc, files, Vec::new(alloc))?;
+    match read_all(alloc, reader, named.as_slice()) {
+        Ok(others) => Ok(with_profiles(alloc, profiles, hosts.as_ref(), others)?),
+        Err(fault) => Err(fault),
+    }
+}
+
+/// Reads the table of hosts, if a file of one is named.
+fn read_hosts<'a, F: FileReader>(
+    alloc: Global,
+    reader: &F,
+    file: Option<&'a str>,
+) -> Result<Option<Hosts>, Unserved<'a>>
+    ensures ok { IfOk result (λ h. IsTable (F.reads reader.now)
+        (option_map (λ f. f.now) file.entry) h) }
+    ensures err { (names : Names) → names.hosts ≡ option_map (λ f. f.now) file.entry
+        → IfErr result (IsUnserved
+        (record { reads = F.reads reader.now; lists = F.lists reader.now }) names) }
+{
+    let Some(file) = file else {
+        return Ok(None);
+    };
+    match reader.read_file(alloc, file) {
+        Ok(bytes) => match Hosts::read(alloc, bytes.as_slice()) {
+            Ok(hosts) => Ok(Some(hosts)),
+            Err(HostsFault::OutOfMemory) => Err(Unserved::OutOfMemory),
+            Err(fault) => Err(Unserved::BadHosts(file, fault)),
+        },
+        Err(Unread::File(fault)) => Err(Unserved::Hosts(file, fault)),
+        Err(Unread::OutOfMemory) => Err(Unserved::OutOfMemory),
+    }
+}
+
+/// These profiles, and then the other files.
+fn with_profiles(
+    alloc: Global,
+    profiles: Vec<FolderProfile>,
+    hosts: Option<&Hosts>,
+    others: Vec<Held>,
+) -> Result<Vec<Held>, AllocError>
+    ensures labels { IfOk result (λ v. map label_held v.items
+        ≡ map (λ file. (Profile, file.0)) (map path_and_text profiles.items)
+        ++ map label_held others.items) }
+    ensures bytes { IfOk result (λ v. map bytes_held v.items
+        ≡ map (for_hosts (table_in hosts.entry)) (map path_and_text profiles.items)
+        ++ map bytes_held others.items) }
+{
+    let mut held = Vec::new(alloc);
+    for profile in profiles {
+        held.push(held_profile(alloc, profile, hosts)?)?;
+    }
+    push_held(&mut held, others)?;
+    Ok(held)
+}
+
+/// A profile that was told, with paths in place of the roots of hosts.
+fn held_profile(
+    alloc: Global,
+    profile: FolderProfile,
+    hosts: Option<&Hosts>,
+) -> Result<Held, AllocError>
+    ensures label { IfOk result (λ h. label_held h ≡ (Profile, (path_and_text profile).0)) }
+    ensures bytes { IfOk result (λ h. bytes_held h
+        ≡ for_hosts (table_in hosts.entry) (path_and_text profile)) }
+{
+    let FolderProfile {
+        path,
+        text,
+        origins,
+        left_out,
+    } = profile;
+    let bytes = match hosts {
+        Some(hosts) => hosts.text_for(alloc, text.as_slice())?,
+        None => text,
+    };
+    Ok(Held {
+        kind: Kind::Profile,
+        file: path,
+        bytes,
+        origins: Some(origins),
+        left_out,
+    })
+}
+
+/// Adds these files.
+fn push_held(held: &mut Vec<Held>, others: Vec<Held>) -> Result<(), AllocError>
+    ensures { OnOk result (held.new.items ≡ held.old.items ++ others.items) }
+{
+    for other in others {
+        held.push(other)?;
+    }
+    Ok(())
 }
 
 /// The files in the order of their sections: the profiles, the rules, the state, the certificates.
 fn named_files<'a>(alloc: Global, files: &Files<'a>) -> Result<Vec<Named<'a>>, AllocError>
     ensures { IfOk result (λ v. map label_named v.items ≡ labels (names_of files.now)) }
 {
-    let mut named = profile_files(alloc, files.profiles.as_slice())?;
+    let named = profile_files(alloc, files.profiles.as_slice())?;
+    option_files(alloc, files, named)
+}
+
+/// These files, and then those of options in the order of their sections.
+fn option_files<'a>(
+    alloc: Global,
+    files: &Files<'a>,
+    profiles: Vec<Named<'a>>,
+) -> Result<Vec<Named<'a>>, AllocError>
+    ensures { IfOk result (λ v. map label_named v.items
+        ≡ map label_named profiles.entry.items ++ option_labels (names_of files.now)) }
+{
+    let mut named = profiles;
     push_named(&mut named, Kind::Rules, files.rules)?;
     push_named(&mut named, Kind::State, files.state)?;
     push_named(&mut named, Kind::Certificates, files.certificates)?;
@@ -162,11 +376,11 @@ fn read_all<'a, F: FileReader>(
     alloc: Global,
     reader: &F,
     named: &[Named<'a>],
-) -> Result<Vec<Held<'a>>, Unserved<'a>>
+) -> Result<Vec<Held>, Unserved<'a>>
     ensures labels { IfOk result (λ v. map label_held v.items ≡ map label_named named.now) }
     ensures bytes { IfOk result
         (λ v. All (HasContents (F.reads reader.now)) (map bytes_held v.items)) }
-    ensures err { IfErr result (IsUnserved (F.reads reader.now) (map label_named named.now)) }
+    ensures err { IfErr result (IsUnreadOf (F.reads reader.now) (map label_named named.now)) }
 {
     let mut held = Vec::new(alloc);
     for name in named {
@@ -183,21 +397,28 @@ fn read_one<'a, F: FileReader>(
     alloc: Global,
     reader: &F,
     named: Named<'a>,
-) -> Result<Held<'a>, Unserved<'a>>
+) -> Result<Held, Unserved<'a>>
     ensures label { IfOk result (λ h. label_held h ≡ label_named named.entry) }
     ensures bytes { IfOk result (λ h. HasContents (F.reads reader.now) (bytes_held h)) }
     ensures err { IfErr result (IsUnreadFile (F.reads reader.now) (label_named named.entry)) }
 {
     let Named { kind, file } = named;
+    let path = String::from_str(alloc, file)?;
     match reader.read_file(alloc, file) {
-        Ok(bytes) => Ok(Held { kind, file, bytes }),
+        Ok(bytes) => Ok(Held {
+            kind,
+            file: path,
+            bytes,
+            origins: None,
+            left_out: Vec::new(alloc),
+        }),
         Err(Unread::File(fault)) => Err(Unserved::File(file, fault)),
         Err(Unread::OutOfMemory) => Err(Unserved::OutOfMemory),
     }
 }
 
 /// The sections of the files.
-fn parts_of<'a>(alloc: Global, held: &'a [Held<'a>]) -> Result<Vec<Part<'a>>, AllocError>
+fn parts_of<'a>(alloc: Global, held: &'a [Held]) -> Result<Vec<Part<'a>>, AllocError>
     ensures labels { IfOk result (λ v. map label_of v.items ≡ map label_held held.now) }
     ensures bytes { IfOk result (λ v. map bytes_of v.items ≡ map bytes_held held.now) }
 {
@@ -205,16 +426,39 @@ fn parts_of<'a>(alloc: Global, held: &'a [Held<'a>]) -> Result<Vec<Part<'a>>, Al
     for one in held {
         parts.push(Part {
             kind: one.kind,
-            file: one.file,
+            file: one.file.as_str(),
             bytes: one.bytes.as_slice(),
         })?;
     }
     Ok(parts)
 }
 
-/// The paths of the files.
-fn paths_of<'a>(alloc: Global, named: &[Named<'a>]) -> Result<Vec<&'a str>, AllocError> {
-    named.iter().map(|name| name.file).collect(alloc)
+/// Where each of these lines comes from.
+fn line_origins<'a>(
+    alloc: Global,
+    origins: &'a Origins,
+) -> Result<Vec<LineOrigin<'a>>, AllocError> {
+    let mut lines = Vec::new(alloc);
+    for at in 0..origins.len() {
+        if let Some((path, number)) = origins.line(at) {
+            lines.push(LineOrigin { path, number })?;
+        }
+    }
+    Ok(lines)
+}
+
+/// The files, as remarks name their lines.
+fn source_files<'a>(alloc: Global, held: &'a [Held]) -> Result<Vec<SourceFile<'a>>, AllocError> {
+    let mut files = Vec::new(alloc);
+    for one in held {
+        let path = one.file.as_str();
+        let origins = match &one.origins {
+            Some(origins) => line_origins(alloc, origins)?,
+            None => Vec::new(alloc),
+        };
+        files.push(SourceFile { path, origins })?;
+    }
+    Ok(files)
 }
 
 /// Says what is wrong with a file, and with the system's words on standard error. If that fails too, there is nobody left to tell.
@@ -230,17 +474,133 @@ fn write_unread<T: AllocGlobal + Eprint, W: Write>(
         output.new.failed result }
 {
     match fault {
-        ReadFault::ReadFailed(error) => {
-            let status = write_fault(rt.alloc(), file, "ReadFailed", output);
+        ReadFault::Missing(error) | ReadFault::ReadFailed(error) => {
+            let status = write_fault(rt.alloc(), file.as_bytes(), "ReadFailed", output);
             say_unread(rt, file, error);
             status
         }
         ReadFault::TurnsSpent => {
-            let status = write_fault(rt.alloc(), file, "TurnsSpent", output);
+            let status = write_fault(rt.alloc(), file.as_bytes(), "TurnsSpent", output);
             let _ = eprintln!(rt; "hubsync: {file} has no end, as far as it was read");
             status
         }
     }
+}
+
+/// Says why profiles can't be told.
+fn write_untaken<T: AllocGlobal + Eprint, W: Write>(
+    rt: &T,
+    fault: hub_folder::Untaken,
+    output: &mut Watched<Kept<'_, W>>,
+) -> u8
+    requires { output.old.failed ≡ false }
+    ensures { WritesUntaken fault
+        (W.contents output.old.device.device) (W.contents output.new.device.device)
+        output.new.failed result }
+{
+    match fault {
+        hub_folder::Untaken::File(path, fault) | hub_folder::Untaken::Folder(path, fault) => {
+            write_unread(rt, path.as_str(), fault, output)
+        }
+        hub_folder::Untaken::Gone(path) => write_fault(
+            rt.alloc(),
+            path.as_bytes(),
+            "ReadFailed",
+            output,
+        ),
+        hub_folder::Untaken::TooManyFiles(path) => {
+            write_fault(rt.alloc(), path.as_bytes(), "TooManyFiles", output)
+        }
+        hub_folder::Untaken::Line(place, fault) => write_bad_line(rt, place, fault, output),
+        hub_folder::Untaken::OutOfMemory => write_memory(output),
+    }
+}
+
+/// Says what is wrong with a table of hosts.
+fn write_bad_hosts<T: AllocGlobal + Eprint, W: Write>(
+    rt: &T,
+    file: &str,
+    fault: HostsFault,
+    output: &mut Watched<Kept<'_, W>>,
+) -> u8
+    requires { output.old.failed ≡ false }
+    ensures { WritesFault file.now (hosts_word fault)
+        (W.contents output.old.device.device) (W.contents output.new.device.device)
+        output.new.failed result }
+{
+    match fault {
+        HostsFault::BadLine(number) => {
+            let status = write_fault(rt.alloc(), file.as_bytes(), "BadHost", output);
+            let _ = eprintln!(rt;
+                "hubsync: {file}, line {number} isn't HOST PATH, as: build /hosts/build"
+            );
+            status
+        }
+        HostsFault::SecondLine(number) => {
+            let status = write_fault(rt.alloc(), file.as_bytes(), "SecondHost", output);
+            let _ = eprintln!(rt; "hubsync: {file}, line {number} is a second one for its host");
+            status
+        }
+        HostsFault::OutOfMemory => write_memory(output),
+    }
+}
+
+/// Says which line that includes a file can't be followed.
+fn write_bad_line<T: AllocGlobal + Eprint, W: Write>(
+    rt: &T,
+    place: String,
+    fault: LineFault,
+    output: &mut Watched<Kept<'_, W>>,
+) -> u8
+    requires { output.old.failed ≡ false }
+    ensures { WritesFault (string_bytes place ++ fault.file) (why_word fault.why)
+        (W.contents output.old.device.device) (W.contents output.new.device.device)
+        output.new.failed result }
+{
+    match path_below(rt.alloc(), place.as_str(), fault.file.as_slice()) {
+        Ok(path) => {
+            let status = write_fault(rt.alloc(), path.as_slice(), word_of(fault.why), output);
+            say_bad_line(rt, path.as_slice(), &fault);
+            status
+        }
+        Err(_) => write_memory(output),
+    }
+}
+
+/// The path of a file of a folder.
+fn path_below(alloc: Global, place: &str, file: &[u8]) -> Result<Vec<u8>, AllocError>
+    ensures { IfOk result (λ v. v.items ≡ place.now ++ file.now) }
+{
+    let mut path = Vec::from_slice(alloc, place.as_bytes())?;
+    path.extend_from_slice(file)?;
+    Ok(path)
+}
+
+/// Why a line that includes a file can't be followed, as a word of the answer.
+fn word_of(why: Why) -> &'static str
+    ensures { result.now ≡ why_word why }
+{
+    match why {
+        Why::BadLine => "BadInclude",
+        Why::NoFile => "NoFile",
+        Why::Cycle => "Cycle",
+        Why::TooDeep => "TooDeep",
+        Why::TooLong => "TooLong",
+    }
+}
+
+/// Says the same on standard error, and what to do. If that fails too, there is nobody left to tell.
+fn say_bad_line<T: Eprint>(rt: &T, path: &[u8], fault: &LineFault) {
+    let path = str::from_utf8(path).unwrap_or("");
+    let number = fault.number;
+    let what = match fault.why {
+        Why::BadLine => "takes one file's name, with \\ before each blank in it",
+        Why::NoFile => "names a file that isn't in the profile's folder",
+        Why::Cycle => "includes a file that includes this one: Unison's stack overflows",
+        Why::TooDeep => "stands in too many files that include each other: 100 may be open",
+        Why::TooLong => "makes a profile of more than 100,000 lines",
+    };
+    let _ = eprintln!(rt; "hubsync: {path}, line {number} {what}");
 }
 
 /// Says on standard error that a file can't be read.

@@ -27,9 +27,10 @@ ghost use Rattle.hubsync.specs.Strict.{strict_status_of};
 use crate::bundled::write_memory;
 use crate::files::serve_files;
 use crate::kept::Kept;
-use crate::reader::{FileReader, SystemFiles};
+use crate::reader::SystemFiles;
 use crate::served::{Answered, Seen, serve_with_remarks};
 use hub_cli::{ErrorKind, read_options};
+use hub_folder::FileReader;
 use hub_serve::{NoProgress, serve_process};
 use hub_text::Watched;
 use std::io::{Eprint, IsTerminal, Read, Write};
@@ -73,7 +74,8 @@ fn run<T: AllocGlobal + Clock + Eprint + Threads + Wait + Sync, F: FileReader, R
 ) -> ExitCode
     requires input { input.old.failed ≡ false }
     requires output { output.old.failed ≡ false }
-    ensures read { IfOk words (λ v. AnswersWords (F.reads reader.now) (map string_bytes v.items)
+    ensures read { IfOk words (λ v. AnswersWords
+        (record { reads = F.reads reader.now; lists = F.lists reader.now }) (map string_bytes v.items)
         (R.remaining input.old.device.device) (W.contents output.old.device.device)
         (W.contents output.new.device.device)
         (reads_between input.old input.new) output.new.failed (exit_status result)) }
@@ -113,16 +115,16 @@ fn answer<
 ) -> u8
     requires input { input.old.failed ≡ false }
     requires output { output.old.failed ≡ false }
-    ensures { AnswersWords (F.reads reader.now) (map string_bytes words.now)
+    ensures { AnswersWords
+        (record { reads = F.reads reader.now; lists = F.lists reader.now }) (map string_bytes words.now)
         (R.remaining input.old.device.device) (W.contents output.old.device.device)
         (W.contents output.new.device.device)
         (reads_between input.old input.new) output.new.failed result }
 {
     match read_options(rt.alloc(), words) {
         Ok(options) => {
-            let files = &options.files;
-            if !files.is_empty() {
-                let answered = serve_files(rt, words, files, reader, output, seen);
+            if !options.files.is_empty() {
+                let answered = serve_files(rt, words, &options, reader, output, seen);
                 return strict_status(answered, options.is_strict);
             }
             say_waiting(rt, is_terminal);

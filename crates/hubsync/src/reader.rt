@@ -1,44 +1,16 @@
 //! Files, read by their names.
 ghost use Rattle.std.specs.Prelude.{◌≡◌, ◌≤◌, ◌⊎◌, ℕ, List, Option, None, length, IfErr, IfOk, IfSome, IsErrOf};
-ghost use Rattle.hubsync.specs.Reading.{FileRead, HasBytes, IsOfError, IsUnread};
+ghost use Rattle.hubsync.specs.Reading.{IsOfError};
 
 use crate::kept::{Kept, Passed};
 use hub_bundle::{InputFault, READ_TURNS, read_input};
+use hub_folder::{FileReader, ReadFault, Unread};
 use hub_text::Watched;
 use std::alloc::Global;
 use std::cell::RefCell;
-use std::fs::{File, Files};
+use std::fs::{File, Files, read_dir};
 use std::io;
 use std::io::Read;
-
-/// What is wrong with a file that can't be read.
-#[derive(Drop)]
-pub enum ReadFault {
-    /// It can't be opened, or a read failed. The system's error says why.
-    ReadFailed(Option<io::Error>),
-    /// `READ_TURNS` reads didn't meet its end.
-    TurnsSpent,
-}
-
-/// Why a file wasn't read.
-#[derive(Drop)]
-pub enum Unread {
-    /// This is wrong with the file.
-    File(ReadFault),
-    /// Out of memory.
-    OutOfMemory,
-}
-
-/// Reads files by their names.
-pub trait FileReader {
-    /// What a read of the file of this name gives, where a contract can tell it.
-    ghost reads: { Self → List ℕ → Option FileRead };
-
-    /// Reads all bytes of a file.
-    fn read_file(&self, alloc: Global, file: &str) -> Result<Vec<u8>, Unread>
-        ensures bytes { IfOk result (λ v. HasBytes (reads self.now) file.now v.items) }
-        ensures unread { IfErr result (IsUnread (reads self.now) file.now) };
-}
 
 /// The files of the system. What they have, no contract can tell.
 #[derive(Drop)]
@@ -53,8 +25,10 @@ impl<'a, T> SystemFiles<'a, T> {
     }
 }
 
-impl<'a, T: Files> FileReader for SystemFiles<'a, T> {
+impl<'a, T: Files + Alloc + Clone + Drop> FileReader for SystemFiles<'a, T> {
     ghost reads = { λ _ _. None };
+
+    ghost lists = { λ _ _. None };
 
     /// Reads a file as `read_input` reads an input.
     fn read_file(&self, alloc: Global, file: &str) -> Result<Vec<u8>, Unread> {
@@ -63,6 +37,29 @@ impl<'a, T: Files> FileReader for SystemFiles<'a, T> {
             Err(error) => Err(unread_by(Some(error))),
         }
     }
+
+    /// The names in a folder, in the order of their bytes. One that isn't UTF-8 can't be told.
+    fn list_folder(&self, alloc: Global, folder: &str) -> Result<Vec<String>, Unread> {
+        match names_in(self.rt, alloc, folder) {
+            Ok(names) => Ok(names),
+            Err(error) => Err(unread_by(Some(error))),
+        }
+    }
+}
+
+/// The names in a folder, sorted.
+fn names_in<T: Files + Alloc + Clone + Drop>(
+    rt: &T,
+    alloc: Global,
+    folder: &str,
+) -> io::Result<Vec<String>> {
+    let mut names = Vec::new(alloc);
+    for entry in read_dir(rt, folder)? {
+        let entry = entry?;
+        names.push(String::from_str(alloc, entry.file_name())?)?;
+    }
+    names.sort()?;
+    Ok(names)
 }
 
 /// Reads all bytes that a device has.
@@ -95,6 +92,9 @@ fn unread_by(error: Option<io::Error>) -> Unread
 {
     match error {
         Some(error) if error.kind() == io::ErrorKind::OutOfMemory => Unread::OutOfMemory,
+        Some(error) if error.kind() == io::ErrorKind::NotFound => {
+            Unread::File(ReadFault::Missing(Some(error)))
+        }
         _ => Unread::File(ReadFault::ReadFailed(error)),
     }
 }

@@ -6,10 +6,11 @@ ghost use Rattle.hub_serve.specs.Report.{Serves};
 
 use crate::kept::{Kept, Passed};
 use crate::terminal::Terminal;
-use hub_remarks::remark;
-use hub_serve::serve;
-use hub_text::Watched;
-use std::alloc::Global;
+use hub_remarks::{Front, remark, wider_lines};
+use hub_serve::{NoProgress, serve};
+use hub_source::SourceFile;
+use hub_text::{Lines, Watched};
+use std::alloc::{AllocError, Global};
 use std::cell::RefCell;
 use std::io;
 use std::io::{Eprint, Read, Write};
@@ -77,7 +78,7 @@ pub fn serve_with_remarks<
 >(
     rt: &T,
     words: &[String],
-    files: &[&str],
+    files: &[SourceFile<'_>],
     input: &mut Watched<Kept<'_, R>>,
     output: &mut Watched<Kept<'_, W>>,
     seen: &Seen,
@@ -100,10 +101,10 @@ pub fn serve_with_remarks<
 
 /// Says what belongs to the answer, and returns whether a yes may mislead. It also may where nothing could be looked at. If
 /// standard error fails too, there is nobody left to tell.
-fn say_remarks<T: AllocGlobal + Eprint>(
+fn say_remarks<T: AllocGlobal + Clock + Eprint + Threads + Wait + Sync>(
     rt: &T,
     words: &[String],
-    files: &[&str],
+    files: &[SourceFile<'_>],
     seen: &Seen,
     is_cut: bool,
 ) -> bool {
@@ -120,9 +121,57 @@ fn say_remarks<T: AllocGlobal + Eprint>(
     if let Ok(remarks) = remark(rt.alloc(), words, files, input.front(), output.front()) {
         let text = remarks.text.as_str();
         let _ = eprint!(rt; "{text}");
+        if remarks.is_of_reading {
+            say_plain_answer(rt, files, input.front(), output.front());
+        }
         return remarks.may_mislead;
     }
     true
+}
+
+/// Says what the first line of `check` would be by hubsync's own reading, for an overlap or a breach by the reading for Unison. If
+/// that is `safe`, it says which lines make this reading wider. Nothing is said if that can't be found out.
+fn say_plain_answer<T: AllocGlobal + Clock + Eprint + Threads + Wait + Sync>(
+    rt: &T,
+    files: &[SourceFile<'_>],
+    input: Front<'_>,
+    output: Front<'_>,
+) {
+    let Ok(answer) = plain_answer(rt, input) else {
+        return;
+    };
+    let plain = first_text(answer.as_slice());
+    let _ = eprintln!(rt; "hubsync: without --unison: {plain}");
+    if plain != "safe" {
+        return;
+    }
+    if let Ok(lines) = wider_lines(rt.alloc(), files, input, first_text(output.bytes)) {
+        let text = lines.as_str();
+        let _ = eprint!(rt; "{text}");
+    }
+}
+
+/// What `check` answers by hubsync's own reading.
+fn plain_answer<T: AllocGlobal + Clock + Eprint + Threads + Wait + Sync>(
+    rt: &T,
+    input: Front<'_>,
+) -> Result<Vec<u8>, AllocError> {
+    let alloc = rt.alloc();
+    let mut words = Vec::new(alloc);
+    words.push(String::from_str(alloc, "hubsync")?)?;
+    words.push(String::from_str(alloc, "check")?)?;
+    let mut input = Watched::new(input.bytes);
+    let mut output = Watched::new(Vec::new(alloc));
+    serve(rt, words.as_slice(), &mut input, &mut output, &NoProgress);
+    Ok(output.into_inner())
+}
+
+/// The text of the first line, or nothing if it is no text.
+fn first_text(bytes: &[u8]) -> &str {
+    match Lines::new(bytes).next() {
+        Some(line) => str::from_utf8(line.text).unwrap_or(""),
+        None => "",
+    }
 }
 
 /// Says that the answer isn't whole.

@@ -3,8 +3,8 @@ ghost use Rattle.std.specs.Prelude.{None};
 
 use crate::answer;
 use crate::kept::Kept;
-use crate::reader::{FileReader, ReadFault, Unread};
 use crate::served::Seen;
+use hub_folder::{FileReader, ReadFault, Unread};
 use hub_text::Watched;
 use std::alloc::{AllocError, Global};
 use std::io::Eprint;
@@ -20,6 +20,8 @@ struct Shelf;
 impl FileReader for Shelf {
     ghost reads = { λ _ _. None };
 
+    ghost lists = { λ _ _. None };
+
     fn read_file(&self, alloc: Global, file: &str) -> Result<Vec<u8>, Unread> {
         match file {
             "docs.prf" => copied(alloc, b"root = /srv/hub\nroot = /srv/s1\npath = docs\n"),
@@ -28,8 +30,33 @@ impl FileReader for Shelf {
             "keep" => copied(alloc, b"root = /srv/s1\nnolose = Path docs\n"),
             "endless.prf" => Err(Unread::File(ReadFault::TurnsSpent)),
             "large.prf" => Err(Unread::OutOfMemory),
-            _ => Err(Unread::File(ReadFault::ReadFailed(None))),
+            "dir/docs.prf" => copied(alloc, b"root = /srv/hub\nroot = /srv/s1\ninclude some\n"),
+            "dir/some" => copied(alloc, b"path = docs\ninclude? more\n"),
+            "dir/photos.prf" => {
+                copied(alloc, b"root = /srv/hub\nroot = /srv/s1\ninclude part\n")
+            }
+            "dir/part.prf" => copied(alloc, b"path = photos\n"),
+            "loop/a.prf" => copied(alloc, b"root = /a\ninclude b\n"),
+            "loop/b.prf" => copied(alloc, b"include a\n"),
+            "open.prf" => copied(alloc, b"root = /a\ninclude? part\n"),
+            "part" => Err(Unread::File(ReadFault::ReadFailed(None))),
+            _ => Err(Unread::File(ReadFault::Missing(None))),
         }
+    }
+
+    fn list_folder(&self, alloc: Global, folder: &str) -> Result<Vec<String>, Unread> {
+        match folder {
+            "dir" => texts(alloc, "docs.prf part.prf photos.prf some"),
+            "loop/" => texts(alloc, "a.prf b.prf"),
+            _ => Err(Unread::File(ReadFault::Missing(None))),
+        }
+    }
+}
+
+fn texts(alloc: Global, names: &str) -> Result<Vec<String>, Unread> {
+    match words_of(alloc, names) {
+        Ok(names) => Ok(names),
+        Err(AllocError) => Err(Unread::OutOfMemory),
     }
 }
 
@@ -117,6 +144,34 @@ fn answers_over_files(rt: HostRuntime) -> Result<(), Fail> {
             "fault: gone: ReadFailed\n",
         ),
         ("hubsync check docs.txt", 2, ""),
+        ("hubsync check --unison dir", 0, "safe\n"),
+        ("hubsync check --unison dir/docs.prf old.prf", 1, overlap),
+        ("hubsync check --unison dir --rules keep", 1, breach),
+        (
+            "hubsync check dir/docs.prf",
+            2,
+            "fault: profile docs line 3: IncludeLeftOut\n",
+        ),
+        (
+            "hubsync check --unison loop/",
+            2,
+            "fault: loop/b.prf: Cycle\n",
+        ),
+        (
+            "hubsync check --unison none",
+            2,
+            "fault: none: ReadFailed\n",
+        ),
+        (
+            "hubsync check --unison open.prf",
+            2,
+            "fault: part: ReadFailed\n",
+        ),
+        (
+            "hubsync check --unison gone.prf",
+            2,
+            "fault: gone.prf: ReadFailed\n",
+        ),
     ] {
         let told = answer_to(&rt, words)?;
         assert_eq!(rt; told.status, status, "the status of {words}");

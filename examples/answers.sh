@@ -27,7 +27,7 @@
 # - The lines between `== TITLE` and the first `$` are the input. No lines are an empty one.
 # - The words behind `$` are those that the program is started with, the first one its name. '' is an empty word.
 # - The lines down to `status N` are all that it writes to standard output. The input is read to its end, and standard error
-#   has nothing but remarks, which remarks.sh compares: up to five lines, each of which begins with `hubsync: `.
+#   has nothing but remarks, which remarks.sh compares: up to 30 lines, each of which begins with `hubsync: `.
 # - Where a line `stderr: TEXT` stands above the status, the words ask for nothing: standard error begins with
 #   that text, and the input isn't read.
 # - In inputs, words and answers `\` begins an escape of `printf '%b'`, as `\r`, `\0`, `\xff`, or `\x20` for
@@ -82,7 +82,7 @@ has_remarks_alone() {
     for each in "${lines[@]}"; do
         [[ $each == 'hubsync: '* ]] || return 1
     done
-    [ "${#lines[@]}" -le 5 ]
+    [ "${#lines[@]}" -le 30 ]
 }
 
 # Looks for anything else than remarks on standard error.

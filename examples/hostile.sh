@@ -139,7 +139,20 @@ large_file() {
     printf 'file %0*d a\nend\n' $((2 * $1)) 0
 }
 
-# A state has up to 100,000 entries, and a file up to 1 MiB.
+# A state with so many blobs.
+many_blobs() {
+    printf '%s\n' %state 'hubsync state 2'
+    perl -MDigest::SHA=sha256_hex -e 'for (1 .. shift) { my $b = pack "N", $_; printf "blob %s %s\n", sha256_hex($b), unpack "H*", $b }' "$1"
+    echo end
+}
+
+# A state with a blob of so many bytes.
+large_blob() {
+    printf '%s\n' %state 'hubsync state 2'
+    printf 'blob %s %0*d\nend\n' "$(head -c "$1" /dev/zero | sha256sum | cut -d ' ' -f 1)" $((2 * $1)) 0
+}
+
+# A state has up to 100,000 entries and as many blobs, and a file or a blob up to 1 MiB.
 ask_large_states() {
     many_directories 100000 >"$room/input"
     echo safe >"$room/wanted"
@@ -152,6 +165,15 @@ ask_large_states() {
     ask_first 'a file of 1 MiB' 0 1
     large_file 1048577 >"$room/input"
     ask_line 'a file of a byte more' 2 'fault: state line 3: TooLarge'
+    printf '%s\n' safe 'hubsync state 2' end >"$room/wanted"
+    many_blobs 100000 >"$room/input"
+    ask '100,000 blobs' 0 '' hubsync
+    large_blob 1048576 >"$room/input"
+    ask 'a blob of 1 MiB' 0 '' hubsync
+    many_blobs 100001 >"$room/input"
+    ask_line '100,001 blobs' 2 'fault: state line 100002: TooLarge'
+    large_blob 1048577 >"$room/input"
+    ask_line 'a blob of a byte more' 2 'fault: state line 2: TooLarge'
 }
 
 # Cuts the file `bundle` at each byte, which is ASCII. The answer is one line, but for the last cut, which takes a line end.

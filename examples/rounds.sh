@@ -215,6 +215,7 @@ rules:4: nochange = BelowPath lists
 prf/lists.prf:3: path = lists
 a line noupdate = $PWD/hub in the profile would keep the rule
 more counts with --unison than may happen: compare the answer without it
+without --unison: breach: lists may update lists at $PWD/hub, rule 0
 LINES
     echo "noupdate = $PWD/hub" >>prf/lists.prf
     ask 0 --only-check --hosts hosts --rules rules prf
@@ -246,7 +247,7 @@ try_refused() {
     compare 'lines that nothing is started with' said <<LINES
 prf/common:3: Unison stops at this: batch = yes: it refuses this: write true or false
 prf/common:5: Unison stops at this: prefer = older: it wants times = true for this: add that line
-prf/common:2: refused: UnknownPreference follow: follow = Path a: hubsync has no answer for a profile with this line
+prf/common:2: refused: UnknownPreference follow: follow = Path a: hubsync has no answer for a profile with this line: run it alone
 prf/common:4: logfile = $PWD/hub/log: Unison writes this log at a root while it runs: name a file elsewhere
 nothing is started: mend these lines, or name behind the folder the profiles that are to run without the others
 LINES
@@ -423,7 +424,7 @@ try_hook() {
         complain 'the hook lets a refused line through'
     fi
     sed -i 1q said
-    compare 'the hook' said <<<'./docs.prf:6: refused: UnknownPreference follow: follow = Path a: hubsync has no answer for a profile with this line'
+    compare 'the hook' said <<<'./docs.prf:6: refused: UnknownPreference follow: follow = Path a: hubsync has no answer for a profile with this line: run it alone'
 }
 
 if [ ! -x "$program" ]; then

@@ -1,0 +1,522 @@
+#!/usr/bin/env bash
+# Asks the program about folders of profiles for Unison: which files are profiles, what they include, and paths for roots on other
+# machines. ./test calls this script.
+#
+#     examples/folders.sh [PROGRAM]
+#
+# PROGRAM is the built program (crates/hubsync/out/hubsync if left out). Standard output, standard error and the status of each call are
+# compared. A line is printed for each that is wrong. The status is 1 if there was one, else 0.
+set -euo pipefail
+if [ "${1:-}" = --help ]; then
+    sed -n '2,/^set /{ /^#/s/^# \{0,1\}//p }' "${BASH_SOURCE[0]}"
+    exit 0
+fi
+folder=$(dirname "$(readlink -f "${BASH_SOURCE[0]}")")
+program=$(readlink -m -- "${1:-$folder/../crates/hubsync/out/hubsync}")
+asked=0
+wrong=0
+# what is said below a yes for Unison, and below an overlap or a breach
+assumed='hubsync: for Unison 2.52 with -batch and no preference on its command line, where only these runs write,
+hubsync: no symbolic link is followed, names differ as their bytes do, and the folders above path lines exist'
+wider='hubsync: more counts with --unison than may happen: compare the answer without it'
+apart='hubsync: run one after the other, or give one other paths, an ignore or a bar'
+
+complain() {
+    echo "folders: $*"
+    wrong=$((wrong + 1))
+}
+
+# Compares a file with the lines of standard input, and shows the first one that differs.
+#
+#     compare WHAT FILE
+compare() {
+    diff -a - "$2" >"$room/difference" || complain "$1: $(sed -n '2{p;q}' "$room/difference")"
+}
+
+# Asks the program, and compares its answer with the lines of standard input: those that begin with `hubsync: ` are on standard error,
+# and all others on standard output.
+#
+#     ask WANTED-STATUS WORD..
+ask() {
+    local wanted=$1 status=0
+    shift
+    asked=$((asked + 1))
+    cat >"$room/wanted"
+    "$program" "$@" >"$room/written" 2>"$room/said" </dev/null || status=$?
+    [ "$status" = "$wanted" ] || complain "$*: wanted status $wanted, got $status"
+    { grep -v '^hubsync: ' "$room/wanted" || true; } | compare "$*: the answer" "$room/written"
+    { grep '^hubsync: ' "$room/wanted" || true; } | compare "$*: standard error" "$room/said"
+}
+
+# Writes a file with these lines, and its folder if that isn't there.
+#
+#     put FILE LINE..
+put() {
+    mkdir -p "$(dirname "$1")"
+    printf '%s\n' "${@:2}" >"$1"
+}
+
+# Writes a profile of the hub and a spoke that has the profile's name. Its further lines begin at line 3.
+#
+#     put_profile FILE LINE..
+put_profile() {
+    put "$1" 'root = /srv/hub' "root = /srv/$(basename "$1" .prf)" "${@:2}"
+}
+
+# Each form of a line that includes a file, by what the file has: one line that is refused.
+try_forms() {
+    put forms/common 'follow = Path common'
+    put forms/common.prf 'follow = Path common.prf'
+    put forms/part.prf 'follow = Path part.prf' 'include common'
+    put 'forms/with blank.prf' 'follow = Path blank'
+    put forms/below/file 'follow = Path below' 'include common'
+    put_profile forms/docs.prf 'include common' 'include   part  ' 'source common.prf' 'include? with\ blank' 'source? part' \
+        'include? none' 'source below/file' '#include none' 'path = include none' $'include\tnone'
+    ask 2 check --unison forms <<LINES
+fault: profile docs line 4: UnknownPreference follow
+hubsync: forms/common line 1: follow = Path common
+hubsync: docs/UNISON.md lists them under Which preferences count
+hubsync: forms/part.prf line 1: follow = Path part.prf
+hubsync: docs/UNISON.md lists them under Which preferences count
+hubsync: forms/common line 1: follow = Path common
+hubsync: docs/UNISON.md lists them under Which preferences count
+hubsync: forms/common.prf line 1: follow = Path common.prf
+hubsync: docs/UNISON.md lists them under Which preferences count
+hubsync: forms/with blank.prf line 1: follow = Path blank
+hubsync: docs/UNISON.md lists them under Which preferences count
+hubsync: forms/below/file line 1: follow = Path below
+hubsync: docs/UNISON.md lists them under Which preferences count
+hubsync: forms/common line 1: follow = Path common
+hubsync: docs/UNISON.md lists them under Which preferences count
+hubsync: forms/docs.prf line 12: "include\\tnone"
+hubsync: write that file's lines in its place, as examples/from-prf.sh does
+LINES
+    ask 2 check --unison forms/docs.prf <<LINES
+fault: profile docs line 4: UnknownPreference follow
+hubsync: forms/common line 1: follow = Path common
+hubsync: docs/UNISON.md lists them under Which preferences count
+hubsync: forms/part.prf line 1: follow = Path part.prf
+hubsync: docs/UNISON.md lists them under Which preferences count
+hubsync: forms/common line 1: follow = Path common
+hubsync: docs/UNISON.md lists them under Which preferences count
+hubsync: forms/common.prf line 1: follow = Path common.prf
+hubsync: docs/UNISON.md lists them under Which preferences count
+hubsync: forms/with blank.prf line 1: follow = Path blank
+hubsync: docs/UNISON.md lists them under Which preferences count
+hubsync: forms/below/file line 1: follow = Path below
+hubsync: docs/UNISON.md lists them under Which preferences count
+hubsync: forms/common line 1: follow = Path common
+hubsync: docs/UNISON.md lists them under Which preferences count
+hubsync: forms/docs.prf line 12: "include\\tnone"
+hubsync: write that file's lines in its place, as examples/from-prf.sh does
+LINES
+    (
+        cd forms
+        ask 2 rounds --unison docs.prf <<LINES
+fault: profile docs line 4: UnknownPreference follow
+hubsync: common line 1: follow = Path common
+hubsync: docs/UNISON.md lists them under Which preferences count
+hubsync: part.prf line 1: follow = Path part.prf
+hubsync: docs/UNISON.md lists them under Which preferences count
+hubsync: common line 1: follow = Path common
+hubsync: docs/UNISON.md lists them under Which preferences count
+hubsync: common.prf line 1: follow = Path common.prf
+hubsync: docs/UNISON.md lists them under Which preferences count
+hubsync: with blank.prf line 1: follow = Path blank
+hubsync: docs/UNISON.md lists them under Which preferences count
+hubsync: below/file line 1: follow = Path below
+hubsync: docs/UNISON.md lists them under Which preferences count
+hubsync: common line 1: follow = Path common
+hubsync: docs/UNISON.md lists them under Which preferences count
+hubsync: docs.prf line 12: "include\\tnone"
+hubsync: write that file's lines in its place, as examples/from-prf.sh does
+LINES
+    )
+}
+
+# Files that are no profiles: without a root, with another ending, or included by another one. That one has the roots of two.
+try_parts() {
+    put parts/default.prf
+    put parts/comment.prf '# root = /srv/hub' 'roots = 1' 'path = docs'
+    put parts/notes.txt 'root = /srv/hub' 'root = /srv/notes'
+    put parts/base.prf 'root = /srv/hub' 'include more'
+    put parts/more 'root = /srv/desk'
+    put parts/more.prf 'path = docs' 'follow = Path docs'
+    put parts/docs.prf 'include base' 'path = docs'
+    put parts/photos.prf 'path = photos' 'source? base.prf'
+    put parts/tab.prf $' root\t= /srv/hub' 'root= /srv/tab' 'path = tab'
+    ask 0 rounds --unison parts <<LINES
+rounds 1
+at least 1
+round 1 docs
+round 1 photos
+round 1 tab
+hubsync: note: docs and photos have the same two roots
+hubsync: note: Unison locks the archive of two roots: don't run these profiles at once
+$assumed
+hubsync: note: parts/base.prf is no profile here, since parts/docs.prf includes it: name both files to ask about both
+hubsync: note: parts/base.prf is no profile here, since parts/photos.prf includes it: name both files to ask about both
+LINES
+    put_profile parts/z.prf 'path = docs/old'
+    ask 1 check --unison parts/ <<LINES
+overlap: docs writes docs at /srv/hub, z reaches docs/old
+hubsync: docs, line 5 (parts/docs.prf line 2): path = docs
+hubsync: z, line 3 (parts/z.prf line 3): path = docs/old
+$apart
+$wider
+hubsync: without --unison: overlap: docs writes docs at /srv/hub, z reaches docs/old
+hubsync: note: parts/base.prf is no profile here, since parts/docs.prf includes it: name both files to ask about both
+hubsync: note: parts/base.prf is no profile here, since parts/photos.prf includes it: name both files to ask about both
+LINES
+    ask 1 clashes --unison parts/base.prf parts/photos.prf <<LINES
+overlap: base writes photos at /srv/hub, photos reaches photos
+overlap: base writes photos at /srv/desk, photos reaches photos
+overlap: base writes photos at archive of /srv/hub and /srv/desk, photos reaches photos
+overlap: photos writes photos at /srv/hub, base reaches photos
+overlap: photos writes photos at /srv/desk, base reaches photos
+overlap: photos writes photos at archive of /srv/hub and /srv/desk, base reaches photos
+hubsync: base has no line path, so it has all of its roots
+hubsync: photos, line 1 (parts/photos.prf line 1): path = photos
+$apart
+$wider
+hubsync: without --unison: overlap: base writes photos at /srv/hub, photos reaches photos
+LINES
+}
+
+# A file that is missing.
+try_missing() {
+    put_profile missing/maybe/docs.prf 'include? none' 'source? none.prf' 'path = a'
+    ask 0 check --unison missing/maybe <<LINES
+safe
+$assumed
+LINES
+    put_profile missing/surely/docs.prf 'path = a' 'include none'
+    ask 2 check --unison missing/surely <<LINES
+fault: missing/surely/docs.prf: NoFile
+hubsync: missing/surely/docs.prf, line 4 names a file that isn't in the profile's folder
+LINES
+    put_profile missing/source/docs.prf 'include part'
+    put missing/source/part 'path = a' 'source docs2'
+    put missing/source/docs2.prf
+    ask 2 check --unison missing/source/docs.prf <<LINES
+fault: missing/source/part: NoFile
+hubsync: missing/source/part, line 2 names a file that isn't in the profile's folder
+LINES
+    ask 2 check --unison missing/docs.prf <<LINES
+fault: missing/docs.prf: ReadFailed
+hubsync: missing/docs.prf can't be read: No such file or directory (os error 2)
+LINES
+    ask 2 check --unison missing/none <<LINES
+fault: missing/none: ReadFailed
+hubsync: missing/none can't be read: No such file or directory (os error 2)
+LINES
+    ask 2 clashes --unison missing/maybe/docs.prf missing/source/part <<LINES
+fault: missing/source/part: ReadFailed
+hubsync: missing/source/part can't be read: Not a directory (os error 20)
+LINES
+}
+
+# Lines that can't be followed for another reason.
+try_lines() {
+    local i
+    put cycles/self.prf 'root = /a' 'include self'
+    ask 2 check --unison cycles <<LINES
+fault: cycles/self.prf: Cycle
+hubsync: cycles/self.prf, line 2 includes a file that includes this one: Unison's stack overflows
+LINES
+    put cycle/docs.prf 'include one'
+    put cycle/one 'path = a' 'source two'
+    put cycle/two 'include? one'
+    ask 2 check --unison cycle/ <<LINES
+fault: cycle/two: Cycle
+hubsync: cycle/two, line 1 includes a file that includes this one: Unison's stack overflows
+LINES
+    put names/two.prf 'include one two'
+    ask 2 check --unison names <<LINES
+fault: names/two.prf: BadInclude
+hubsync: names/two.prf, line 1 takes one file's name, with \\ before each blank in it
+LINES
+    put names/two.prf '' 'source? '
+    ask 2 check --unison names <<LINES
+fault: names/two.prf: BadInclude
+hubsync: names/two.prf, line 2 takes one file's name, with \\ before each blank in it
+LINES
+    for i in {1..100}; do
+        put "deep/$i" "source $((i + 1))"
+    done
+    put_profile deep/docs.prf 'source 3'
+    put deep/101 'path = a'
+    ask 0 check --unison deep/docs.prf <<LINES
+safe
+$assumed
+LINES
+    put_profile deep/docs.prf 'source 2'
+    ask 2 check --unison deep/docs.prf <<LINES
+fault: deep/100: TooDeep
+hubsync: deep/100, line 1 stands in too many files that include each other: 100 may be open
+LINES
+}
+
+# What can't be read: a folder in the place of a file, also of one that may be missing, and a file without the right.
+try_unreadable() {
+    put_profile unreadable/in/docs.prf 'include? folder'
+    mkdir unreadable/in/folder
+    ask 2 check --unison unreadable/in <<LINES
+fault: unreadable/in/folder: ReadFailed
+hubsync: unreadable/in/folder can't be read: Is a directory (os error 21)
+LINES
+    mkdir -p unreadable/own/docs.prf
+    ask 2 check --unison unreadable/own <<LINES
+fault: unreadable/own/docs.prf: ReadFailed
+hubsync: unreadable/own/docs.prf can't be read: Is a directory (os error 21)
+LINES
+    ask 2 check --unison unreadable/own/docs.prf <<LINES
+fault: unreadable/own/docs.prf: ReadFailed
+hubsync: unreadable/own/docs.prf can't be read: Is a directory (os error 21)
+LINES
+    put_profile unreadable/link/docs.prf 'path = a'
+    ln -s nowhere unreadable/link/link.prf
+    ask 2 check --unison unreadable/link <<LINES
+fault: unreadable/link/link.prf: ReadFailed
+LINES
+    put_profile unreadable/right/docs.prf 'include? part'
+    put unreadable/right/part 'path = a'
+    chmod 000 unreadable/right/part
+    if [ -r unreadable/right/part ]; then
+        echo 'a file without the right to read it was not tried: this user reads all files'
+    else
+        ask 2 check --unison unreadable/right <<LINES
+fault: unreadable/right/part: ReadFailed
+hubsync: unreadable/right/part can't be read: Permission denied (os error 13)
+LINES
+        chmod 000 unreadable/right
+        ask 2 check --unison unreadable/right <<LINES
+fault: unreadable/right: ReadFailed
+hubsync: unreadable/right can't be read: Permission denied (os error 13)
+LINES
+        chmod 700 unreadable/right
+    fi
+}
+
+# How the texts of files are cut: byte order marks, CRs, a `%` at the start of a line, no line end at the end, names with blanks.
+try_texts() {
+    mkdir -p texts
+    printf '\xef\xbb\xbfroot = /srv/hub\r\nroot = /srv/desk\r\ninclude part\r\npath = a\r\n%%rules\r\npath = b' >'texts/my docs.prf'
+    printf '\xef\xbb\xbf# a comment\r\nforce = /srv/hub\r\n%%state' >texts/part
+    ask 2 check --unison texts <<LINES
+fault: profile my docs line 6: NoEquals
+hubsync: texts/part line 3:  %state
+hubsync: there is no = in it: a line is NAME = VALUE, or begins with #
+hubsync: texts/my docs.prf line 5:  %rules
+hubsync: there is no = in it: a line is NAME = VALUE, or begins with #
+LINES
+    printf '\xef\xbb\xbfroot = /srv/hub\r\nroot = /srv/desk\r\ninclude part\r\npath = a\r\n%%x = rules\r\npath = b' >'texts/my docs.prf'
+    printf '\xef\xbb\xbf# a comment\r\nforce = /srv/hub\r\n' >texts/part
+    ask 2 check --unison 'texts/my docs.prf' <<LINES
+fault: profile my docs line 7: UnknownPreference %x
+hubsync: texts/my docs.prf line 5:  %x = rules
+hubsync: docs/UNISON.md lists them under Which preferences count
+LINES
+    printf '\xef\xbb\xbfroot = /srv/hub\r\nroot = /srv/desk\r\ninclude part\r\npath = a\r\npath = b' >'texts/my docs.prf'
+    put_profile texts/other.prf 'path = b/c'
+    ask 1 check --unison texts <<LINES
+overlap: other writes b/c at /srv/hub, my docs reaches b/c
+hubsync: my docs, line 7 (texts/my docs.prf line 5): path = b
+hubsync: other, line 3 (texts/other.prf line 3): path = b/c
+$apart
+$wider
+hubsync: without --unison: overlap: other writes b/c at /srv/hub, my docs reaches b/c
+LINES
+    printf 'root = /srv/hub\nroot = /srv/x\npath = \xe9\n' >texts/latin.prf
+    ask 2 check --unison texts <<LINES
+fault: profile latin line 0: NotUtf8
+hubsync: line 3 (texts/latin.prf line 3) is not UTF-8 at byte 8
+hubsync: save the file as UTF-8
+LINES
+}
+
+# Paths for roots on other machines.
+try_hosts() {
+    put remote/table '# hosts' 'desk /hosts/other' 'anna@desk /hosts/desk/' $'\tlaptop~  /home/anna b' 'laptop /' ''
+    put remote/unison/desk.prf 'root = /srv/hub' 'root = ssh://anna@Desk:22//srv/' 'force = ssh://anna@Desk:22//srv/' \
+        'noupdatepartial = Path a -> ssh://anna@desk//srv' 'path = desk'
+    put remote/unison/other.prf 'root = /srv/hub' 'root = socket://desk:4000//data' 'path = other'
+    put remote/unison/home.prf 'include home' 'path = home'
+    put remote/unison/home 'root = /srv/hub' 'root = ssh://bob@laptop/docs'
+    put remote/unison/top.prf 'root = /srv/hub' 'root = ssh://laptop//top' 'path = top'
+    ask 0 clashes --unison --dot remote/unison --hosts remote/table <<LINES
+graph clashes {
+    graph [rankdir = LR];
+    node [fontname = "sans-serif"];
+    edge [fontname = "sans-serif"];
+    "profile desk" [shape = box, label = "desk"];
+    "profile desk" -- "root /srv/hub" [color = gray50];
+    "profile desk" -- "root /hosts/desk/srv" [color = gray50];
+    "profile home" [shape = box, label = "home"];
+    "profile home" -- "root /srv/hub" [color = gray50];
+    "profile home" -- "root /home/anna b/docs" [color = gray50];
+    "profile other" [shape = box, label = "other"];
+    "profile other" -- "root /srv/hub" [color = gray50];
+    "profile other" -- "root /hosts/other/data" [color = gray50];
+    "profile top" [shape = box, label = "top"];
+    "profile top" -- "root /srv/hub" [color = gray50];
+    "profile top" -- "root /top" [color = gray50];
+    "root /home/anna b/docs" [shape = folder, label = "/home/anna b/docs"];
+    "root /hosts/desk/srv" [shape = folder, label = "/hosts/desk/srv"];
+    "root /hosts/other/data" [shape = folder, label = "/hosts/other/data"];
+    "root /srv/hub" [shape = folder, label = "/srv/hub"];
+    "root /top" [shape = folder, label = "/top"];
+}
+$assumed
+LINES
+    ask 0 check --unison remote/unison --hosts remote/table <<LINES
+safe
+$assumed
+LINES
+    ask 2 check --unison remote/unison <<LINES
+fault: profile desk line 2: BadPath RemoteRoot
+hubsync: remote/unison/desk.prf line 2: root = ssh://anna@Desk:22//srv/
+hubsync: write /hosts/Desk/srv in its place, in all profiles alike
+hubsync: remote/unison/desk.prf line 3: force = ssh://anna@Desk:22//srv/
+hubsync: write /hosts/Desk/srv in its place, in all profiles alike
+hubsync: remote/unison/desk.prf line 4: noupdatepartial = Path a -> ssh://anna@desk//srv
+hubsync: write /hosts/desk/srv in its place, in all profiles alike
+hubsync: remote/unison/home line 2: root = ssh://bob@laptop/docs
+hubsync: write /hosts/laptop/home/bob/docs if the home there is /home/bob, in all profiles alike
+hubsync: remote/unison/other.prf line 2: root = socket://desk:4000//data
+hubsync: write /hosts/desk/data in its place, in all profiles alike
+hubsync: remote/unison/top.prf line 2: root = ssh://laptop//top
+hubsync: write /hosts/laptop/top in its place, in all profiles alike
+LINES
+    put remote/unison/lacks.prf 'root = /srv/hub' 'root = ssh://desk/docs' 'path = lacks'
+    ask 2 rounds --unison remote/unison --hosts remote/table <<LINES
+fault: profile lacks line 2: BadPath RemoteRoot
+hubsync: remote/unison/lacks.prf line 2: root = ssh://desk/docs
+hubsync: write /hosts/desk/home/NAME/docs if the home there is /home/NAME, in all profiles alike
+LINES
+    put remote/bad '# hosts' '' 'desk hosts/desk'
+    ask 2 check --unison remote/unison --hosts remote/bad <<LINES
+fault: remote/bad: BadHost
+hubsync: remote/bad, line 3 isn't HOST PATH, as: build /hosts/build
+LINES
+    put remote/twice 'desk /hosts/desk' 'desk~ /hosts/desk/home' 'DESK /hosts/other'
+    ask 2 check --unison remote/unison --hosts remote/twice <<LINES
+fault: remote/twice: SecondHost
+hubsync: remote/twice, line 3 is a second one for its host
+LINES
+    ask 2 check --unison remote/unison --hosts remote/none <<LINES
+fault: remote/none: ReadFailed
+hubsync: remote/none can't be read: No such file or directory (os error 2)
+LINES
+}
+
+# Operands: folders and files, one twice, a folder without profiles, and files of options beside them.
+try_operands() {
+    put_profile operands/one/docs.prf 'path = docs'
+    put_profile operands/one/photos.prf 'path = photos'
+    put_profile operands/two/docs.prf 'path = docs/old'
+    put_profile operands/two/music.prf 'path = music'
+    mkdir operands/empty
+    put operands/rules 'root = /srv/hub' 'nolose = BelowPath photos'
+    ask 1 check --unison operands/one operands/two <<LINES
+refused: SameName docs
+hubsync: give each profile a name of its own: operands/one/docs.prf operands/two/docs.prf
+LINES
+    ask 0 rounds --unison operands/two/music.prf operands/one/ <<LINES
+rounds 1
+at least 1
+round 1 music
+round 1 docs
+round 1 photos
+$assumed
+LINES
+    ask 1 check --unison operands/one --rules operands/rules <<LINES
+breach: photos may delete photos at /srv/hub, rule 0
+hubsync: %rules, line 2 (operands/rules line 2): nolose = BelowPath photos
+hubsync: photos, line 3 (operands/one/photos.prf line 3): path = photos
+hubsync: a line nodeletion = /srv/hub in the profile would keep the rule
+$wider
+hubsync: without --unison: breach: photos may delete photos at /srv/hub, rule 0
+LINES
+    ask 0 check --unison operands/empty <<LINES
+safe
+hubsync: note: the input has no profile, so nothing was checked
+$assumed
+LINES
+    ask 1 check --unison --strict operands/empty <<LINES
+safe
+hubsync: note: the input has no profile, so nothing was checked
+$assumed
+LINES
+    ask 0 rounds --unison operands/empty/ <<LINES
+rounds 0
+at least 0
+hubsync: note: the input has no profile, so nothing was checked
+$assumed
+LINES
+    ask 2 check --unison operands/one operands/none operands/rules <<LINES
+fault: operands/none: ReadFailed
+hubsync: operands/none can't be read: No such file or directory (os error 2)
+LINES
+    ask 2 check --unison operands/one --rules operands/none <<LINES
+fault: operands/none: ReadFailed
+hubsync: operands/none can't be read: No such file or directory (os error 2)
+LINES
+}
+
+# All profiles of an office, and of the samples in Unison's manual, each by one call.
+try_whole() {
+    local each command
+    for each in office manual; do
+        cp -R "$folder/$each/unison" "$folder/$each/hosts" .
+        for command in check clashes rounds; do
+            ask "$(<"$folder/$each/of-folder/$command.status")" "$command" --unison unison --hosts hosts <"$folder/$each/of-folder/$command"
+        done
+        rm -R unison hosts
+    done
+}
+
+# What the program answers to a folder, and to the bundle that from-prf.sh makes of it, is the same.
+#
+#     try_bundle FOLDER HOSTS
+try_bundle() {
+    local command
+    "$folder/from-prf.sh" --hosts "$2" "$1" >"$room/bundle" 2>/dev/null
+    for command in check clashes rounds; do
+        "$program" "$command" --unison "$1" --hosts "$2" >"$room/written" 2>/dev/null </dev/null || true
+        { "$program" "$command" --unison <"$room/bundle" 2>/dev/null || true; } | compare "$command: the folder $1 and its bundle" "$room/written"
+    done
+}
+
+try_bundles() {
+    cp -R "$folder/office/unison" "$folder/office/hosts" .
+    (cd unison && rm dotfiles.prf media.prf notes-merge.prf windows-share.prf)
+    try_bundle unison hosts
+    rm -R unison hosts
+    cp -R "$folder/manual/unison" "$folder/manual/hosts" .
+    rm unison/basic.prf
+    try_bundle unison hosts
+    try_bundle operands/two hosts
+    rm -R unison hosts
+}
+
+if [ ! -x "$program" ]; then
+    echo "folders: there is no program at $program"
+    exit 1
+fi
+room=$(mktemp -d)
+trap 'rm -rf "$room"' EXIT
+mkdir "$room/tree"
+cd "$room/tree"
+try_forms
+try_parts
+try_missing
+try_lines
+try_unreadable
+try_texts
+try_hosts
+try_operands
+try_whole
+try_bundles
+echo "folders: ${1:-hubsync} answered $asked, $wrong of them wrongly"
+[ "$wrong" = 0 ]

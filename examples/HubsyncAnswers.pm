@@ -13,12 +13,12 @@ my $most_refused = 100;    # lines of a profile that are named
 # What to do about preferences of Unison that hubsync doesn't know.
 my $holds_back = 'it only holds changes back: leave the line out';
 my $overrides = 'leave the line out, and the line force with it, since this one overrides force';
-my $has_no_answer = 'hubsync has no answer for a profile with this line';
+my $has_no_answer = 'hubsync has no answer for a profile with this line: run it alone';
 my %remedy_of = (
     (map { $_ => $holds_back } qw(ignorearchives immutable links maxerrors maxsizethreshold mountpoint)),
     (map { $_ => $overrides } qw(forcepartial preferpartial)),
     (map { $_ => $has_no_answer } qw(atomic backuploc backuplocation copyonconflict fat follow ignorecase merge rsrc unicode)),
-    backupdir => 'the backups are in a root: name a folder outside',
+    backupdir => 'this folder may lie in a root: name one that lies in no root of any profile',
 );
 # What to do about faults, if the program's words are for a bundle that was written by hand.
 my %remedy_of_fault = (

@@ -1,24 +1,24 @@
 package UnisonProfiles;
 
 # Reads the profiles in a folder of Unison's, for from-prf.sh and unison-rounds. A profile has a `name`, a `file`, its `lines`, the
-# texts of its `roots` as they stand there, in `parts` the files that it includes, as names below the folder, and in `absent` those that
-# its lines look for in vain. A line has a `text` as hubsync gets it, its place `at` (file and line), `remarks` on how it was changed, and
-# if it sets something a `name` and a `value`, as Unison gets them. `written` is the value for hubsync if that is another one.
+# texts of its `roots` as they stand there, in `all_roots` those of all profiles that were read with it, in `parts` the files that it
+# includes, as names below the folder, and in `absent` those that its lines look for in vain. A line has a `text` as hubsync gets it,
+# its place `at` (file and line), `remarks` on how it was changed, and if it sets something a `name` and a `value`, as Unison gets
+# them. `written` is the value for hubsync if that is another one.
 use strict;
 use warnings;
 use Exporter 'import';
 our @EXPORT_OK = qw(change_lines give_up is_below read_hosts read_profiles say_new say_once say_so section text_of trimmed);
 
 # The preferences of Unison 2.52 that hubsync refuses, and that change nothing that is synchronized: what is shown and asked, how
-# Unison connects and copies, how often it runs or tries again, backups in a folder of their own, owners and permissions.
-# .ci/preferences compares them with the program's.
+# Unison connects and copies, how often it runs or tries again, backups but for their folder, owners and permissions. .ci/preferences
+# compares them with the program's.
 my %is_left_out = map { $_ => 1 } qw(
     addprefsto color confirmmerge debug diff dumbtty height showarchive sortbysize sortfirst sortlast sortnewfirst
     addversionno halfduplex killserver servercmd sshargs sshcmd
     copymax copyprog copyprogrest copyquoterem copythreshold maxthreads rsync stream xferbycopying
     ignoreinodenumbers repeat retry watch
-    backup backupcurr backupcurrent backupcurrentnot backupcurrnot backupdir backupnot backupprefix backupsuffix backupversions
-    maxbackups
+    backup backupcurr backupcurrent backupcurrentnot backupcurrnot backupnot backupprefix backupsuffix backupversions maxbackups
     dontchmod numericids
 );
 # Those that change nothing with some values alone.
@@ -174,14 +174,16 @@ sub add_included {
 sub path_of_remote {
     my ($root) = @_;
     my ($authority, $path) = $root =~ m{\A(?:ssh|socket)://([^/]*)(/.*)?\z} or return;
-    my ($user, $host) = $authority =~ /\A(.*@)?(.*?)(?::[0-9]*)?\z/;
+    my ($user, $host) = $authority =~ /\A(.*@|)(.*?)(?::[0-9]*)?\z/;
     my $home = ($path // '') =~ m{\A//} ? '' : '~';
-    for my $key (($user // '') . $host . $home, $host . $home) {
+    for my $key ("$user$host$home", "$host$home") {
         next if !defined $path_of{ lc $key };
         my $whole = $path_of{ lc $key } . '/' . ($path // '') =~ s{\A/+}{}r;
         return $whole =~ s{(?<=.)/+\z}{}r;
     }
-    return (undef, "a root of another machine: give --hosts a table with a line $host$home PATH");
+    my $line = "$host /hosts/$host";
+    $line = "$user$host~ /hosts/$host/home/" . ($user =~ s/\@\z//r || 'NAME') if $home;
+    return (undef, "a root of another machine: give --hosts a table with a line $line");
 }
 
 # Whether a file or folder is one of these roots, or lies below one.
@@ -190,12 +192,23 @@ sub is_below {
     return grep { substr("$value/", 0, length $_) eq $_ } map { s{/*\z}{/}r } @roots;
 }
 
+# Whether a folder surely lies in none of these roots, whichever machine they are on. A root that is relative to a home folder may be
+# in any folder.
+sub is_outside {
+    my ($folder, @roots) = @_;
+    $folder = $folder =~ s{/*\z}{/}r;
+    return 0 if $folder !~ m{\A/} || $folder =~ m{/\.{0,2}/};
+    my @paths = map { s{\A(?:\w+:)?//[^/]*/?}{}r =~ s{/*\z}{/}r } @roots;
+    return !grep { index($folder, $_) == 0 || index($folder, "/$_") >= 0 } @paths;
+}
+
 # Whether hubsync is to answer for the profile without a line: because it changes nothing, or because hubsync then assumes that Unison
 # may write at both roots, which is the worst case.
 sub is_dispensable {
     my ($profile, $line) = @_;
     my ($name, $value) = @$line{qw(name value)};
-    return 1 if $is_left_out{$name} && !($name eq 'backupdir' && is_below($value, @{ $profile->{roots} }));
+    return is_outside($value, @{ $profile->{all_roots} }) if $name eq 'backupdir';    # on each machine it has the backups of its root
+    return 1 if $is_left_out{$name};
     return 1 if $is_left_out_as{$name}{$value};
     return 0 if $value !~ /\A(?:newer|older)\z/;
     return $name eq 'prefer' || $name eq 'force' && 1 == grep { ($_->{name} // '') eq 'force' } @{ $profile->{lines} };
@@ -271,6 +284,7 @@ sub read_profiles {
     $folder =~ s{(?<=.)/+\z}{};
     my @read = map { read_profile($folder, $_) } @names ? map { s/\.prf\z//r } @names : names_in($folder);
     exit $status_of_faults if $has_faults;
+    $_->{all_roots} = [ map { @{ $_->{roots} } } @read ] for @read;
     return (\@read, []) if @names;
     my @parts = grep { $is_included{ $_->{file} } && !@{ $_->{roots} } } @read;
     my %is_part = map { $_ => 1 } @parts;

@@ -15,7 +15,8 @@
 #   of that host. A line `HOST~ PATH` is for roots `ssh://HOST/PATH`, which are relative to a home folder. HOST may be
 #   `USER@HOST`, which comes first. Lines of `force`, `prefer` and the bars that name the root are changed with it. A root of a host
 #   that the table lacks stays as it is.
-# - Preferences that change nothing that is synchronized become comments: those that UnisonProfiles.pm lists, and no others.
+# - Preferences that change nothing that is synchronized become comments: those that UnisonProfiles.pm lists, and no others. So does
+#   `backupdir`, if the folder surely lies in no root of these profiles.
 # - So does `prefer` with `newer` or `older`, and `force` with them if it is the only `force` line. hubsync then assumes that Unison
 #   may write at both roots, so a `safe` holds. But a run of hubsync shows conflicts that Unison would solve.
 # - A byte order mark is dropped, and a line that begins with `%` gets a blank before it.

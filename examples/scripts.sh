@@ -87,8 +87,6 @@ confirmbigdel = false
  sshargs=-C
 rsrc = true
 rsrc = default
-backupdir = /srv/hub/old
-backupdir = /srv/hub-old
 backuploc = local
 # retry = 1
 path = retry = 1
@@ -122,8 +120,6 @@ confirmbigdel = false
 # left out:  sshargs=-C
 rsrc = true
 # left out: rsrc = default
-backupdir = /srv/hub/old
-# left out: backupdir = /srv/hub-old
 backuploc = local
 # retry = 1
 path = retry = 1
@@ -148,20 +144,19 @@ unison/docs.prf:9: ssh://anna@Desk:22//srv/ is written as /hosts/desk/srv
 unison/docs.prf:10: ssh://anna@Desk:22//srv/ is written as /hosts/desk/srv
 unison/docs.prf:13: left out:  sshargs=-C
 unison/docs.prf:15: left out: rsrc = default
-unison/docs.prf:17: left out: backupdir = /srv/hub-old
 unison/roots.prf:1: ssh://laptop/docs is written as /home/anna b/docs
 unison/roots.prf:2: socket://laptop// is written as /
-unison/roots.prf:3: a root of another machine: give --hosts a table with a line desk~ PATH: root = ssh://desk/docs
+unison/roots.prf:3: a root of another machine: give --hosts a table with a line desk~ /hosts/desk/home/NAME: root = ssh://desk/docs
 LINES
     ask 0 from-prf.sh unison roots
     compare 'one profile without a table' said <<'LINES'
-unison/roots.prf:1: a root of another machine: give --hosts a table with a line laptop~ PATH: root = ssh://laptop/docs
-unison/roots.prf:2: a root of another machine: give --hosts a table with a line laptop PATH: root = socket://laptop//
-unison/roots.prf:3: a root of another machine: give --hosts a table with a line desk~ PATH: root = ssh://desk/docs
+unison/roots.prf:1: a root of another machine: give --hosts a table with a line laptop~ /hosts/laptop/home/NAME: root = ssh://laptop/docs
+unison/roots.prf:2: a root of another machine: give --hosts a table with a line laptop /hosts/laptop: root = socket://laptop//
+unison/roots.prf:3: a root of another machine: give --hosts a table with a line desk~ /hosts/desk/home/NAME: root = ssh://desk/docs
 LINES
     ask 0 from-prf.sh --hosts hosts unison
     tail -1 said >last
-    compare 'how many lines are changed' last <<<'lines left out or written differently: 16 (-v names them)'
+    compare 'how many lines are changed' last <<<'lines left out or written differently: 15 (-v names them)'
 }
 
 # What is wrong with files or words: nothing is written.
@@ -198,8 +193,8 @@ try_answers() {
     ask 1 from-prf.sh --ask "$program" unison
     compare 'an unsafe set' said <<'LINES'
 lines left out or written differently: 1 (-v names them)
-unison/desk.prf:5: refused: UnknownPreference follow: follow = Path docs: hubsync has no answer for a profile with this line
-unison/home.prf:4: refused: UnknownPreference merge: merge = Name a: hubsync has no answer for a profile with this line
+unison/desk.prf:5: refused: UnknownPreference follow: follow = Path docs: hubsync has no answer for a profile with this line: run it alone
+unison/home.prf:4: refused: UnknownPreference merge: merge = Name a: hubsync has no answer for a profile with this line: run it alone
 unison/one.prf: refused: RootCount: a profile has two roots, and this one has /srv/hub (unison/one.prf:1)
 refused: 3, read differently: 0 (docs/UNISON.md). hubsync's answer without what is refused:
 desk and home: overlap: desk writes docs at /srv/hub, home reaches docs/a
@@ -216,6 +211,22 @@ try_newer() {
     echo 'force = /srv/hub' >>unison/desk.prf
     ask 1 from-prf.sh --ask "$program" unison
     grep -q '^unison/desk.prf:4: refused: LeftOutValue: force = older: ' said || complain 'one of two force lines is left out'
+    rm -R unison
+}
+
+# A folder of backups is left out if it surely lies in no root of any profile on any machine: each side has its backups there.
+try_backups() {
+    mkdir unison
+    printf '%s\n' 'root = /srv/hub' 'root = ssh://desk//data/' 'backupdir = /srv/hub-old' 'backupdir = /srv/hub/old' \
+        'backupdir = /home/anna/old' 'backupdir = /data/old' 'backupdir = /srv/bob/docs/old' 'backupdir = /srv/old/docs' \
+        'backupdir = old' 'backupdir = /srv/../srv/hub/old' >unison/hub.prf
+    printf '%s\n' 'root = /home/anna' 'root = ssh://anna@desk:22/docs' >unison/home.prf
+    ask 0 from-prf.sh -v unison
+    compare 'folders of backups that lie in no root' said <<'LINES'
+unison/home.prf:2: a root of another machine: give --hosts a table with a line anna@desk~ /hosts/desk/home/anna: root = ssh://anna@desk:22/docs
+unison/hub.prf:2: a root of another machine: give --hosts a table with a line desk /hosts/desk: root = ssh://desk//data/
+unison/hub.prf:3: left out: backupdir = /srv/hub-old
+LINES
     rm -R unison
 }
 
@@ -444,6 +455,7 @@ try_folder
 try_faults
 try_answers
 try_newer
+try_backups
 try_differences
 try_items
 try_archive

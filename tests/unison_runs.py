@@ -1,10 +1,11 @@
-"""Random profiles and trees of files, and runs of real Unison on them: what tests/unison-reading and tests/unison-orders share."""
+"""Random profiles and trees of files, and runs of real Unison on them: what the tests/unison-* share."""
 import os
 import random
 import re
 import shutil
 import subprocess
 import sys
+import tempfile
 
 TOP = os.path.dirname(os.path.dirname(os.path.realpath(__file__)))
 NAMES = ['a', 'b', 'c', '.a', '.b', '.tmp', 'x.tmp', 'a.b', '.x.tmp', 'é', 'éa', 'ab', 'a b', '[a]']
@@ -152,9 +153,9 @@ def changes(before, after):
             yield path, 'nochange'
 
 
-def start(room, name, lines):
-    """Starts Unison for a profile, with archives of its own."""
-    unison = os.path.join(room, 'unison.' + name)
+def start(room, name, lines, folder=None):
+    """Starts Unison for a profile, with archives of its own, or with those of a folder."""
+    unison = os.path.join(room, 'unison.' + (folder or name))
     os.makedirs(unison, exist_ok=True)
     with open(os.path.join(unison, name + '.prf'), 'w') as file:
         file.write('\n'.join(lines) + '\n')
@@ -168,6 +169,31 @@ def synchronize(room, name, lines):
     return start(room, name, lines).wait(timeout=60)
 
 
+def run_all(room, profiles, order, at_once):
+    """Has Unison run these profiles in this order, or all at the same time. Returns the statuses by name, and what each root holds."""
+    statuses, started = {}, {}
+    for name in order:
+        started[name] = start(room, name, profiles[name])
+        if not at_once:
+            started[name].wait(timeout=60)
+    for name, process in started.items():
+        statuses[name] = process.wait(timeout=60)
+    roots = {line[len('root = '):] for lines in profiles.values() for line in lines if line.startswith('root = ')}
+    return statuses, {root: read(root) for root in roots}
+
+
+def from_start(room, profiles, order, at_once):
+    """The same from what stands in the room now, which is put back afterwards."""
+    with tempfile.TemporaryDirectory(prefix='unison-runs.') as kept:
+        shutil.copytree(room, os.path.join(kept, 'room'))
+        left = run_all(room, profiles, order, at_once)
+        for it in os.listdir(room):
+            path = os.path.join(room, it)
+            shutil.rmtree(path) if os.path.isdir(path) else os.remove(path)
+        shutil.copytree(os.path.join(kept, 'room'), room, dirs_exist_ok=True)
+        return left
+
+
 def ask(program, bundle, *words):
     """What hubsync answers to a bundle with `--unison`, and its status."""
     flag = () if '--unison' in words else ('--unison',)
@@ -178,7 +204,7 @@ def ask(program, bundle, *words):
 def nested(found):
     """The tree that has these paths."""
     made = {}
-    for path in sorted(found, key=lambda it: it.count('/')):
+    for path in sorted(found, key=lambda it: (it.count('/'), it)):    # on each file system the same
         at = made
         *above, name = path.split('/')
         for it in above:

@@ -1,5 +1,5 @@
 -- Specifications that are read from their own texts.
-use Rattle.std.proofs.Common.{◌≡◌, ℕ, Bool, true, false, List, Option, Some, None, Result, IfOk, refl, sym, ap, ◌∙◌, subst, chars, encode_utf8_all}
+use Rattle.std.proofs.Common.{◌≡◌, ℕ, Bool, true, false, List, Option, Some, None, Result, IfOk, sym, ap, ◌∙◌, subst, chars, encode_utf8_all}
 use Rattle.std.specs.Prelude.{if◌then◌else◌}
 use Rattle.std.specs.Str.{IsUtf8}
 use Rattle.std.proofs.lemmas.Str.{chars_from_encodes}
@@ -10,7 +10,7 @@ use Rattle.hub_glob.specs.contracts.path_spec.PathSpecExact.TheImpl.Laws as test
 use Rattle.hub_glob.specs.Specification.{Specification}
 use Rattle.hub_glob.specs.Writing.{spec_text}
 use Rattle.hub_profile.specs.Parts.{some_passes}
-use Rattle.hub_unison.specs.ReadingOf.{is_read_back, read_back, spelled}
+use Rattle.hub_unison.specs.ReadingOf.{read_back, spelled}
 
 pub spelled-text : (s : Specification) (bs cs : List ℕ) (o : Option Specification) → IsUtf8 bs
     → cs ≡ encode_utf8_all (spec_text s) → bs ≡ cs → o ≡ spelled (chars bs)

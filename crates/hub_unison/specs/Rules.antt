@@ -1,6 +1,5 @@
 -- What rules forbid, and what Unison may do there.
 use Rattle.std.specs.Prelude.{◌≡◌, ℕ, Bool, ◌&&◌, ◌||◌, List, [], length, map, slice_get, Some, IsTrue}
-use Rattle.std.specs.List.{Contains}
 use Rattle.hub_path.specs.Path.{Path, is_over, is_path}
 use Rattle.hub_glob.specs.Glob.{matches}
 use Rattle.hub_profile.specs.declared.bars.Bars.{Bars}

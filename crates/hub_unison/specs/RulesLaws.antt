@@ -1,8 +1,8 @@
 -- What readings beside rules show.
-use Rattle.std.proofs.Common.{◌≡◌, ◌∙◌, ℕ, Bool, true, false, not, ◌&&◌, ◌||◌, List, [], ◌∷◌, Some, None, Option, refl, sym, ap, subst, inl, inr}
-use Rattle.std.specs.Prelude.{IsTrue, ◌+◌, ◌++◌, length, map, slice_get, option_map}
+use Rattle.std.proofs.Common.{◌≡◌, ◌∙◌, Bool, true, false, not, ◌&&◌, ◌||◌, List, [], ◌∷◌, Some, None, Option, refl, sym, ap, subst}
+use Rattle.std.specs.Prelude.{IsTrue, ◌+◌, ◌++◌, map, slice_get, option_map}
 use Rattle.std.proofs.Common.{⊎_elim}
-use Rattle.std.specs.List.{list_any, list_all}
+use Rattle.std.specs.List.{list_any}
 use Rattle.std.proofs.lemmas.Bool.{and_parts, and_from, or_right}
 use Rattle.std.proofs.lemmas.Option.{none-some, slice_get-map}
 use Rattle.std.proofs.lemmas.List.{length-append}
@@ -19,11 +19,11 @@ use Rattle.hub_profile.specs.Parts.{Parts, at_side, has_root, is_root_at, some_p
 use Rattle.hub_reach.specs.Reach.{covers, is_barred, is_barred_at, is_forced_root, is_open, may, may_at, reach, writes_at}
 use Rattle.hub_reach.specs.Safe as safe
 use Rattle.hub_unison.specs.Matching.{Matching, IsMatching}
-use Rattle.hub_unison.specs.UnisonReach.{AreCautious, IsCautious, IsSafeInUnison, bars_by, may_by, reach_by, write_by, writes_by}
+use Rattle.hub_unison.specs.UnisonReach.{IsCautious, IsSafeInUnison, bars_by, may_by, reach_by, writes_by}
 use Rattle.hub_unison.specs.PieceLaws.{any-weaker}
-use Rattle.hub_unison.specs.Cautious.{cover, with_tops}
+use Rattle.hub_unison.specs.Cautious.{cover}
 use Rattle.hub_unison.specs.CautiousLaws.{safe_in_unison, tops-reach, no, none-over, not-weaker, three-weaker}
-use Rattle.hub_unison.specs.Rules.{AreReadForUnison, IsReadingOf, KeepsRulesInUnison, UnisonBreach, for_rules, forbidden, may_item, rule_bars}
+use Rattle.hub_unison.specs.Rules.{AreReadForUnison, IsReadingOf, KeepsRulesInUnison, for_rules, forbidden, may_item, rule_bars}
 
 -- Bars.
 at_side-map : {A B : Type 0} (f : A → B) (xs : List A) (s : Side)

@@ -1,5 +1,5 @@
 -- What hubsync has a pattern match, Unison matches for certain, or a spare matches it.
-use Rattle.std.proofs.Common.{◌≡◌, ◌==◌, ℕ, suc, Bool, true, false, not, ◌&&◌, ◌||◌, List, [], ◌∷◌, ◌++◌, map, length, refl, sym, ap, ◌∙◌, subst}
+use Rattle.std.proofs.Common.{◌≡◌, ◌==◌, ℕ, Bool, true, false, not, ◌&&◌, ◌||◌, List, [], ◌∷◌, ◌++◌, map, length, refl, sym, ap, ◌∙◌, subst}
 use Rattle.std.specs.Prelude.{nat_lt, slice_index, flat_map, if◌then◌else◌}
 use Rattle.std.specs.List.{list_any, list_all}
 use Rattle.std.proofs.lemmas.Bool.{and_parts, and_from, or_right}
@@ -14,7 +14,7 @@ use Rattle.hub_glob.specs.Glob.{Texts, splits, is_run, piece, pieces, glob, choi
 use Rattle.hub_glob.specs.OneStep.{run_step, run_end, takes_run, nonzero}
 use Rattle.hub_glob.specs.ChoiceLaws.{glob_choices}
 use Rattle.hub_unison.specs.Matching.{sure_pieces, sure_text, is_known, is_simple, is_simple_member, is_odd, all_simple, all_known, of_kind, surely}
-use Rattle.hub_unison.specs.Spares.{dotted, is_literal, is_slash, spares, pattern_spares, is_plain, IsSpare}
+use Rattle.hub_unison.specs.Spares.{dotted, spares, pattern_spares, is_plain, IsSpare}
 use Rattle.hub_unison.specs.PatternLaws.{by_kind-of, of_kind-weaker, of_kind-or}
 use Rattle.hub_unison.specs.PieceLaws.{any-where, any-weaker, all-weaker, same-number, run-mono, member-passes}
 

@@ -1,4 +1,4 @@
-use Rattle.std.proofs.Common.{◌∙◌, ◌<◌, ◌+◌, arith}
+use Rattle.std.proofs.Common.{◌∙◌, arith}
 use Rattle.hub_unison.specs.ReadingOf.{bar_stays}
 use Rattle.hub_unison.proofs.KeptLines.{filter-gone, none-if}
 use Rattle.hub_unison.proofs.kept.kept_bars.Goals as goal

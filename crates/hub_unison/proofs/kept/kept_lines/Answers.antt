@@ -1,4 +1,4 @@
-use Rattle.std.proofs.Common.{◌<◌, ◌+◌, arith}
+use Rattle.std.proofs.Common.{arith}
 use Rattle.hub_unison.proofs.KeptLines.{added-more, lines-more}
 use Rattle.hub_unison.proofs.kept.kept_lines.Goals as goal
 

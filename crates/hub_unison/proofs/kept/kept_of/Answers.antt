@@ -1,4 +1,4 @@
-use Rattle.std.proofs.Common.{◌≡◌, ◌∙◌, ◌==◌, ap, length, not, sym}
+use Rattle.std.proofs.Common.{◌∙◌, ◌==◌, ap, length, not, sym}
 use Rattle.hub_unison.proofs.KeptLines.{gone-spare, gone-unknown, gone-unread, read-is, read-not, spare-at, stays-alone, stays-sparing}
 use Rattle.hub_unison.specs.ReadingOf.{spare_of}
 use Rattle.hub_unison.proofs.kept.kept_of.Goals as goal

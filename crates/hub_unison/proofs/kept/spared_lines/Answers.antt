@@ -1,4 +1,4 @@
-use Rattle.std.proofs.Common.{◌<◌, ◌+◌, arith}
+use Rattle.std.proofs.Common.{arith}
 use Rattle.std.specs.List.{list_all}
 use Rattle.hub_unison.specs.ReadingOf.{spare_stays}
 use Rattle.hub_unison.proofs.KeptLines.{all-more, leaves, none-if, not-all, some-if, taken-more}

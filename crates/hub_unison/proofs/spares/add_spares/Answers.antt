@@ -1,4 +1,4 @@
-use Rattle.std.proofs.Common.{◌≡◌, ◌++◌, ◌+◌, Bool, true, List, map, take, drop, sym, subst, ◌∙◌}
+use Rattle.std.proofs.Common.{◌≡◌, ◌++◌, ◌+◌, Bool, true, map, take, drop, sym, subst, ◌∙◌}
 use Rattle.hub_unison.specs.Spares as spares
 use Rattle.hub_unison.proofs.Spared.{spares-at, spares-begun}
 use Rattle.hub_unison.proofs.spares.add_spares.Goals as goal

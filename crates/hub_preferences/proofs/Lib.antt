@@ -4,5 +4,6 @@ pub mod ArrowCuts
 pub mod Below
 pub mod Cuts
 pub mod Same
+pub mod SpelledNames
 pub mod Walk
 pub mod Words

@@ -1,11 +1,12 @@
 -- Which lines of a bundle a cautious reading leaves out, and the bundle without them.
-use Rattle.std.specs.Prelude.{ℕ, Bool, true, false, not, ◌&&◌, ◌||◌, nat_eq, List, [], ◌∷◌, drop, if◌then◌else◌}
+use Rattle.std.specs.Prelude.{ℕ, Bool, true, false, not, ◌&&◌, ◌||◌, nat_eq, List, [], ◌∷◌, drop, Option, None, is_some, if◌then◌else◌}
 use Rattle.std.specs.List.{list_any, starts_with}
 use Rattle.hub_text.specs.declared.line.Line.{Line}
 use Rattle.hub_text.specs.Lines.{lines_of, text_of_lines}
 use Rattle.hub_files.specs.Files.{is_heading, heading_word}
 use Rattle.hub_files.specs.declared.part.Kind.TheVariants.{Profile}
 use Rattle.hub_preferences.specs.Kinds.{kind_of, overrides_force, sets_force, is_unread_ignorenot}
+use Rattle.hub_preferences.specs.Spellings.{spelling, or_spelling}
 use Rattle.hub_preferences.specs.declared.kind.LineKind.{LineKind}
 use Rattle.hub_preferences.specs.declared.kind.LineKind.TheVariants as kind
 use Rattle.hub_preferences.specs.declared.section.Section.{Section}
@@ -59,8 +60,15 @@ is_left_out s l below =
 abbrev pub comment : Line (List ℕ) → Line (List ℕ)
 comment l = record { text = 35 ∷ drop 1 l.text; is_ended = l.is_ended }
 
+-- The other spelling of a line of a section. Only lines of profiles have one.
+abbrev pub spelling_in : Section → List ℕ → Option (List ℕ)
+spelling_in s l = if s.is_profile && not (is_heading l) then spelling l else None
+
+abbrev pub spelled : Section → Line (List ℕ) → Line (List ℕ)
+spelled s l = record { text = or_spelling (spelling_in s l.text) l.text; is_ended = l.is_ended }
+
 abbrev pub counted_line : Section → Line (List ℕ) → List (Line (List ℕ)) → Line (List ℕ)
-counted_line s l below = if is_left_out s l.text below then comment l else l
+counted_line s l below = if is_left_out s l.text below then comment l else spelled s l
 
 -- These lines, where the first one is in a section or begins one.
 abbrev pub counted_lines : Section → List (Line (List ℕ)) → List (Line (List ℕ))
@@ -68,13 +76,17 @@ counted_lines s [] = []
 counted_lines s (l ∷ ls) =
     counted_line (section_at s l.text ls) l ls ∷ counted_lines (section_at s l.text ls) ls
 
--- The bundle with its lines that count, and comments in place of the others.
+-- The bundle with its lines that count, as the plain reader spells them, and comments in place of the
+-- others.
 abbrev pub counted_bundle : List ℕ → List ℕ
 counted_bundle bytes = text_of_lines (counted_lines no_profile (lines_of bytes))
 
--- Whether one of these lines is left out, where the first one is in a section or begins one.
-abbrev pub leaves_some_out : Section → List (Line (List ℕ)) → Bool
-leaves_some_out s [] = false
-leaves_some_out s (l ∷ ls) =
-    is_left_out (section_at s l.text ls) l.text ls
-    || leaves_some_out (section_at s l.text ls) ls
+-- Whether one of these lines is left out or has another spelling, where the first one is in a section or
+-- begins one.
+abbrev pub changes : Section → List ℕ → List (Line (List ℕ)) → Bool
+changes s l below = is_left_out s l below || is_some (spelling_in s l)
+
+abbrev pub changes_some : Section → List (Line (List ℕ)) → Bool
+changes_some s [] = false
+changes_some s (l ∷ ls) =
+    changes (section_at s l.text ls) l.text ls || changes_some (section_at s l.text ls) ls

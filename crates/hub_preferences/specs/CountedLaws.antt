@@ -1,5 +1,5 @@
 -- What holds of the lines that count.
-use Rattle.std.proofs.Common.{◌≡◌, ◌<◌, ◌⊎◌, ⊎_elim, inl, inr, arith, length, ℕ, Bool, true, false, cond, List, [], ◌∷◌, ◌++◌, drop, refl, sym, ap, ◌∙◌, append_assoc}
+use Rattle.std.proofs.Common.{◌≡◌, ◌<◌, ◌⊎◌, ⊎_elim, inl, inr, arith, length, ℕ, Bool, true, false, cond, List, [], ◌∷◌, ◌++◌, drop, Option, Some, None, refl, sym, ap, subst, ◌∙◌, append_assoc}
 use Rattle.std.specs.Prelude.{⊤, if◌then◌else◌, suc}
 use Rattle.std.specs.List.{list_any}
 use Rattle.std.proofs.lemmas.Bool.{or_parts, or_from}
@@ -7,7 +7,10 @@ use Rattle.std.proofs.lemmas.List.{append-nil}
 use Rattle.hub_text.specs.declared.line.Line.{Line}
 use Rattle.hub_text.specs.Lines.{is_lf, lines_of, onto_first_line, ended, unended, text_of_lines}
 use Rattle.hub_text.specs.LineLaws.{lines_of-ended}
-use Rattle.hub_preferences.specs.Counted.{comment, counted_lines, counted_bundle, section_at, is_left_out, no_profile}
+use Rattle.hub_preferences.specs.Counted.{comment, spelled, spelling_in, counted_lines, counted_bundle, section_at, is_left_out, no_profile}
+use Rattle.hub_preferences.specs.Spellings.{spelling, or_spelling}
+use Rattle.hub_preferences.specs.SpellingLaws.{spelling-is}
+use Rattle.hub_files.specs.Files.{is_heading}
 use Rattle.hub_preferences.specs.declared.section.Section.{Section}
 
 -- Lines as those of a text: none has an LF inside, and each but the last one is ended. A last one
@@ -61,27 +64,58 @@ no_lf-drop : (cs : List ℕ) → list_any is_lf cs ≡ false → list_any is_lf 
 no_lf-drop [] h = refl
 no_lf-drop (c ∷ cs) h = (or_parts (is_lf c) (list_any is_lf cs) h).1
 
+-- A line that has another spelling is one of a profile, and no heading.
+pub spelling-in : (s : Section) (l t : List ℕ) → spelling_in s l ≡ Some t → (s.is_profile ≡ true) × (is_heading l ≡ false) × (spelling l ≡ Some t)
+spelling-in s l t h = by s.is_profile refl (is_heading l) refl
+  where
+    nothing : {X : Type 0} → None ≡ Some t → X
+    nothing h = cc
+
+    by : (a : Bool) → s.is_profile ≡ a → (b : Bool) → is_heading l ≡ b → (s.is_profile ≡ true) × (is_heading l ≡ false) × (spelling l ≡ Some t)
+    by true e false f =
+        let whole : spelling_in s l ≡ spelling l = rw (e, f) refl in
+        (e, f, sym whole ∙ h)
+    by true e true f =
+        let whole : spelling_in s l ≡ None = rw (e, f) refl in
+        nothing (sym whole ∙ h)
+    by false e b f =
+        let whole : spelling_in s l ≡ None = rw e refl in
+        nothing (sym whole ∙ h)
+
 counted-nil : (s : Section) (ls : List (Line (List ℕ))) → ls ≡ [] → counted_lines s ls ≡ []
 counted-nil s ls e = ap (counted_lines s) e
 
 -- A line, and lines in the place of those below it.
-AreLines-with : (l : Line (List ℕ)) (ls ms : List (Line (List ℕ))) (b : Bool) → AreLines (l ∷ ls) → (ls ≡ [] → ms ≡ []) → AreLines ms → AreLines ((if b then comment l else l) ∷ ms)
-AreLines-with l ls ms true a empty more = (
+AreLines-comment : (l : Line (List ℕ)) (ls ms : List (Line (List ℕ))) → AreLines (l ∷ ls) → (ls ≡ [] → ms ≡ []) → AreLines ms → AreLines (comment l ∷ ms)
+AreLines-comment l ls ms a empty more = (
   no_lf-drop l.text a.0,
   ⊎_elim (λ e. inl e) (λ last. inr (last.0, empty last.1, omega arith)) a.1,
   more,
 )
-AreLines-with l ls ms false a empty more = (
-  a.0,
-  ⊎_elim (λ e. inl e) (λ last. inr (last.0, empty last.1, last.2)) a.1,
-  more,
-)
+
+AreLines-spelled : (s : Section) (l : Line (List ℕ)) (ls ms : List (Line (List ℕ))) → AreLines (l ∷ ls) → (ls ≡ [] → ms ≡ []) → AreLines ms → AreLines (spelled s l ∷ ms)
+AreLines-spelled s l ls ms a empty more = by (spelling_in s l.text) refl
+  where
+    with_text : (t : List ℕ) → list_any is_lf t ≡ false → (0 < length l.text → 0 < length t) → AreLines (record { text = t; is_ended = l.is_ended } ∷ ms)
+    with_text t none some = (none, ⊎_elim (λ e. inl e) (λ last. inr (last.0, empty last.1, some last.2)) a.1, more)
+
+    by : (o : Option (List ℕ)) → spelling_in s l.text ≡ o → AreLines (spelled s l ∷ ms)
+    by None h = subst (λ o. AreLines (record { text = or_spelling o l.text; is_ended = l.is_ended } ∷ ms)) (sym h)
+        (with_text l.text a.0 (λ some. some))
+    by (Some t) h =
+        let is = spelling-is l.text t (spelling-in s l.text t h).2 in
+        subst (λ o. AreLines (record { text = or_spelling o l.text; is_ended = l.is_ended } ∷ ms)) (sym h)
+        (with_text t is.no_lf (λ some. is.some))
+
+AreLines-with : (s : Section) (l : Line (List ℕ)) (ls ms : List (Line (List ℕ))) (b : Bool) → AreLines (l ∷ ls) → (ls ≡ [] → ms ≡ []) → AreLines ms → AreLines ((if b then comment l else spelled s l) ∷ ms)
+AreLines-with s l ls ms true a empty more = AreLines-comment l ls ms a empty more
+AreLines-with s l ls ms false a empty more = AreLines-spelled s l ls ms a empty more
 
 pub AreLines-counted : (s : Section) (ls : List (Line (List ℕ))) → AreLines ls → AreLines (counted_lines s ls)
 AreLines-counted s [] a = tt
 AreLines-counted s (l ∷ ls) a =
     let t = section_at s l.text ls in
-    AreLines-with l ls (counted_lines t ls) (is_left_out t l.text ls) a (counted-nil t ls) (AreLines-counted t ls a.2)
+    AreLines-with t l ls (counted_lines t ls) (is_left_out t l.text ls) a (counted-nil t ls) (AreLines-counted t ls a.2)
 
 -- The lines that count are those of the bundle that counts.
 pub lines_of-counted_bundle : (bytes : List ℕ) → lines_of (counted_bundle bytes) ≡ counted_lines no_profile (lines_of bytes)

@@ -103,6 +103,16 @@ central_is_left_out : counted_of (codes "backuplocation = central\nbackuplocatio
 unfolding computed
 central_is_left_out = refl
 
+-- Unison takes names that are empty or `.` for nothing. The plain reader drops a slash at the end.
+other_spellings : counted_of (codes "path = ./a\npath=a//b\n path = ./a//b/. \r\npath = .\n") ≡ of (codes "path = a/\npath = a/b/\npath = a/b/\npath = \n")
+unfolding computed
+other_spellings = refl
+
+-- What Unison refuses stays, and so do a name that begins with a blank, other lines, and what is read as it is.
+spellings_that_stay : counted_of (codes "path = /a\npath = ./..\npath = ./ a\npath = a/\npath =\npath = a\\b\nroot = /a//b\nignore = Path ./a\n") ≡ of (codes "path = /a\npath = ./..\npath = ./ a\npath = a/\npath =\npath = a\\b\nroot = /a//b\nignore = Path ./a\n")
+unfolding computed
+spellings_that_stay = refl
+
 -- What adds writes or names stays, so the plain reader refuses it.
 refused_lines_stay : counted_of (codes "follow = Path a\nmerge = Name * -> m\natomic = Name d\nrootalias = //a//b -> //c//d\ncopyonconflict = true\nfat = true\nunicode = true\nignorelocks = true\nbackupdir = /a/b\ninclude c\n") ≡ of (codes "follow = Path a\nmerge = Name * -> m\natomic = Name d\nrootalias = //a//b -> //c//d\ncopyonconflict = true\nfat = true\nunicode = true\nignorelocks = true\nbackupdir = /a/b\ninclude c\n")
 unfolding computed
@@ -168,3 +178,8 @@ not_text = refl
 includes_are_refused : found_in (codes "include c\nsource c\n") ≡ refused 2 fault.IncludeLeftOut ∷ refused 3 fault.IncludeLeftOut ∷ []
 unfolding computed
 includes_are_refused = refl
+
+-- A line is refused by what stands in its place.
+other_spellings_are_read : found_in (codes "path = ./a\npath = a//b\npath = ./..\n") ≡ refused 4 (fault.BadPath path.DotName) ∷ []
+unfolding computed
+other_spellings_are_read = refl

@@ -11,6 +11,7 @@ use Rattle.hub_profile.specs.declared.fault.Fault.{Fault}
 use Rattle.hub_profile.specs.declared.fault.Fault.TheVariants.{RootCount}
 use Rattle.hub_profile.specs.declared.fault.ProfileFault.{ProfileFault}
 use Rattle.hub_preferences.specs.Counted.{is_left_out, section_at, no_profile}
+use Rattle.hub_preferences.specs.Spellings.{spelling, or_spelling}
 use Rattle.hub_preferences.specs.declared.finding.Finding.{Finding}
 use Rattle.hub_preferences.specs.declared.finding.Outcome.{Outcome}
 use Rattle.hub_preferences.specs.declared.finding.Outcome.TheVariants.{LeftOut, Refused}
@@ -30,9 +31,13 @@ fault_of_reading (Err e) = fault_but_roots e.fault
 abbrev pub fault_alone : List ℕ → Option Fault
 fault_alone l = fault_of_reading (profile_in [] l)
 
--- What is refused of the lines that count: those of profiles, but for their headings.
+-- What is refused of the lines that count: those of profiles, but for their headings, in the plain
+-- reader's spelling.
 abbrev pub refusal : Section → List ℕ → Option Outcome
-refusal s l = if s.is_profile && not (is_heading l) then option_map Refused (fault_alone l) else None
+refusal s l =
+    if s.is_profile && not (is_heading l)
+    then option_map Refused (fault_alone (or_spelling (spelling l) l))
+    else None
 
 -- What becomes of a line, if it neither counts as it stands nor is in another section.
 abbrev pub outcome_of : Section → List ℕ → List (Line (List ℕ)) → Option Outcome

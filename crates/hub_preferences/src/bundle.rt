@@ -3,14 +3,15 @@ ghost use Rattle.std.specs.Prelude.{◌≡◌, ◌++◌, IfOk, OnOk};
 ghost use Rattle.hub_text.specs.Lines.{line_text};
 ghost use Rattle.hub_preferences.specs.Counted as spec;
 
-use crate::section::NO_PROFILE;
+use crate::section::{NO_PROFILE, Section};
 use hub_text::Lines;
 use std::alloc::{AllocError, Global};
 
-/// The bundle with a comment in place of each line of a profile that a cautious reading leaves out.
+/// The bundle with a comment in place of each line of a profile that a cautious reading leaves out, and with each `path` line in the
+/// plain reader's spelling that only Unison reads: `./a`, `a//b` and `a/.` are `a`, `a/b` and `a`.
 ///
-/// It takes time in proportion to the bytes, but for the search for names. The numbers and lengths of all lines stay. Out of memory is
-/// the only error.
+/// It takes time in proportion to the bytes, but for the search for names. The numbers of all lines stay. Out of memory is the only
+/// error.
 pub fn counted(alloc: Global, bundle: &[u8]) -> Result<Vec<u8>, AllocError>
     ensures { IfOk result (λ v. v.items ≡ spec.counted_bundle bundle.now) }
 {
@@ -22,7 +23,7 @@ pub fn counted(alloc: Global, bundle: &[u8]) -> Result<Vec<u8>, AllocError>
         if section.leaves_out(alloc, line.text, lines.rest())? {
             push_comment(&mut counted, line.text, line.is_ended)?;
         } else {
-            push_line(&mut counted, line.text, line.is_ended)?;
+            push_spelled(alloc, &mut counted, section, line.text, line.is_ended)?;
         }
     }
     Ok(counted)
@@ -35,6 +36,23 @@ fn push_comment(bytes: &mut Vec<u8>, text: &[u8], is_ended: bool) -> Result<(), 
 {
     bytes.push(b'#')?;
     push_line(bytes, text.get(1..).unwrap_or(&[]), is_ended)
+}
+
+/// Adds a line of a section in the plain reader's spelling.
+fn push_spelled(
+    alloc: Global,
+    bytes: &mut Vec<u8>,
+    section: Section,
+    text: &[u8],
+    is_ended: bool,
+) -> Result<(), AllocError>
+    ensures { OnOk result (bytes.new.items ≡ bytes.old.items
+        ++ line_text (spec.spelled section (record { text = text.now; is_ended = is_ended }))) }
+{
+    match section.spelling(alloc, text)? {
+        Some(line) => push_line(bytes, line.as_bytes(), is_ended),
+        None => push_line(bytes, text, is_ended),
+    }
 }
 
 /// Adds a line.

@@ -2,8 +2,10 @@
 ghost use Rattle.std.specs.Prelude.{◌≡◌, ◌≢◌, IfOk, OnOk};
 ghost use Rattle.hub_text.specs.Lines.{lines_of};
 ghost use Rattle.hub_preferences.specs.Findings as spec;
+ghost use Rattle.hub_preferences.specs.Spellings.{or_spelling, spelling};
 
 use crate::section::{NO_PROFILE, Section};
+use crate::spelling::spelling;
 use hub_files::is_heading;
 use hub_path::Name;
 use hub_profile::{Fault, read_profile};
@@ -78,9 +80,19 @@ fn refusal(alloc: Global, section: Section, line: &[u8]) -> Result<Option<Outcom
     if !section.is_profile || is_heading(line) {
         return Ok(None);
     }
-    match fault_alone(alloc, line)? {
+    match fault_of(alloc, line)? {
         Some(fault) => Ok(Some(Outcome::Refused(fault))),
         None => Ok(None),
+    }
+}
+
+/// The fault for which the plain reader refuses a line of a profile by itself, in its own spelling.
+fn fault_of(alloc: Global, line: &[u8]) -> Result<Option<Fault>, AllocError>
+    ensures { IfOk result (λ f. f ≡ spec.fault_alone (or_spelling (spelling line.now) line.now)) }
+{
+    match spelling(alloc, line)? {
+        Some(text) => fault_alone(alloc, text.as_bytes()),
+        None => fault_alone(alloc, line),
     }
 }
 

@@ -1,12 +1,13 @@
 //! What a cautious reading leaves out of the profiles of a bundle, line by line.
 //!
-//! - [`counted`] puts a comment in place of each line that is left out. All else stays, byte for byte.
+//! - [`counted`] puts a comment in place of each line that is left out, and spells paths as the plain reader does. All else stays,
+//!   byte for byte.
 //! - [`findings`] returns each line that is left out, and each other one that the plain reader refuses by itself.
 //! - [`CHANGES`], [`TRANSFERS`], [`DISPLAYS`] and [`STAYING`] have the preferences of Unison 2.52.1, each with what becomes of
 //!   its lines, why, and where that is from.
 //!
 //! A line is left out if Unison may then change at least what it may change with it: of such a profile a `safe` also holds with
-//! the line. The contracts use the words of `specs/Kinds`, `specs/Counted` and `specs/Findings`. Only functions that return a
+//! the line. The contracts use the words of `specs/Kinds`, `specs/Spellings`, `specs/Counted` and `specs/Findings`. Only functions that return a
 //! `Result` allocate.
 //!
 //! These lines are left out:
@@ -23,13 +24,17 @@
 //! - With the value `false` or `default`: preferences that would otherwise add writes or names, as `rsrc` or `ignorecase`. With
 //!   the value `central`: `backuplocation`.
 //!
+//! A `path` line with names that are empty or `.`, as `./a`, `a//b` or `a/.`, gets the plain reader's spelling: to Unison such
+//! names count for nothing.
+//!
 //! All other lines stay. Those that add writes or names, as `follow`, `merge` or `copyonconflict = true`, the plain reader then
 //! refuses, with its own fault and line.
 //!
 //! # What is proved
 //!
-//! [`counted`] returns exactly `counted_bundle` of the bytes. A line that counts stands as it was; only lines of profiles change;
-//! a bundle without a line to leave out is as it was; the lines keep their numbers; of what counts all counts ([`laws`]).
+//! [`counted`] returns exactly `counted_bundle` of the bytes. A line that counts and has no other spelling stands as it was; only lines
+//! of profiles change; a bundle without a line to change is as it was; the lines keep their numbers; of what counts all counts; of
+//! another spelling the plain reader reads the names that count ([`laws`]).
 //!
 //! [`findings`] returns exactly `findings_of` the bytes: all findings, in the order of the lines.
 //!
@@ -37,6 +42,7 @@
 //!
 //! That Unison changes no more without such a line. It is from trials with Unison 2.52.1 and from its manual: the tables say
 //! which. A trial of many preferences shows only that Unison takes the line.
+//! Nor that Unison takes both spellings of a path for the same one, which is from such trials, too.
 #![tactic(auto)]
 
 mod bundle;
@@ -45,6 +51,7 @@ mod kind;
 pub mod laws;
 mod section;
 mod setting;
+mod spelling;
 mod table;
 
 pub use bundle::counted;

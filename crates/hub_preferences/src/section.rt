@@ -1,5 +1,5 @@
 //! Which lines of a section are left out.
-ghost use Rattle.std.specs.Prelude.{◌≡◌, IfOk};
+ghost use Rattle.std.specs.Prelude.{◌≡◌, IfOk, MatchOption, Some, None, string_bytes};
 ghost use Rattle.std.specs.List.{list_any};
 ghost use Rattle.hub_text.specs.Lines.{lines_of};
 ghost use Rattle.hub_preferences.specs.Counted as counted;
@@ -7,6 +7,7 @@ ghost use Rattle.hub_preferences.specs.Kinds as kinds;
 ghost use Rattle.hub_preferences.specs.declared.kind.LineKind.TheVariants as kind_is;
 
 use crate::kind::{LineKind, kind_of};
+use crate::spelling::spelling;
 use hub_files::is_heading;
 use hub_text::Lines;
 use std::alloc::{AllocError, Global};
@@ -57,6 +58,17 @@ impl Section {
         }
         let kind = kind_of(alloc, line)?;
         self.leaves_kind_out(alloc, kind, below)
+    }
+
+    /// Returns the other spelling of a line of the section, if it has one.
+    pub(crate) fn spelling(self, alloc: Global, line: &[u8]) -> Result<Option<String>, AllocError>
+        ensures { IfOk result (λ o. MatchOption o (counted.spelling_in self line.now ≡ None)
+            (λ t. counted.spelling_in self line.now ≡ Some (string_bytes t))) }
+    {
+        if !self.is_profile || is_heading(line) {
+            return Ok(None);
+        }
+        spelling(alloc, line)
     }
 
     /// Returns whether a line of that kind is left out. The lines below it are these.

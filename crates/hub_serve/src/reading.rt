@@ -9,8 +9,8 @@ use hub_preferences::counted;
 use hub_unison::read_set;
 use std::alloc::{AllocError, Global};
 
-/// The bytes of a bundle that count, if its profiles are read so. They are the same in number. For the plain reading they are the
-/// bytes themselves.
+/// The bytes of a bundle that count, if its profiles are read so. They have as many lines. For the plain reading they are the bytes
+/// themselves.
 pub fn counted_as(alloc: Global, reading: Reading, bytes: Vec<u8>) -> Result<Vec<u8>, AllocError>
     ensures { IfOk result (λ v. v.items ≡ spec.counted_as reading bytes.items) }
 {

@@ -1,0 +1,8 @@
+use Rattle.std.proofs.Common.{◌∙◌, ◌||◌, false, codes, refl}
+use Rattle.hub_text.specs.AsciiWords.{word_is}
+use Rattle.hub_preferences.proofs.spelling.is_path.Goals as goal
+
+pub returns : goal.returns
+returns c =
+    let a = word_is (codes "path") c.args.name.now c.utf8.name refl in
+    c.contains.ensures.value ∙ (λ i. (a i || false))

@@ -1,13 +1,13 @@
 -- The cautious reading of a profile, in its three cases.
-use Rattle.std.proofs.Common.{◌≡◌, Bool, true, false, List, [], ◌++◌, Option, Some, None, sym, ap, ◌∙◌}
+use Rattle.std.proofs.Common.{◌≡◌, Bool, true, false, not, List, [], ◌++◌, Option, Some, None, sym, ap, ◌∙◌}
 use Rattle.std.specs.Prelude.{if◌then◌else◌}
-use Rattle.std.specs.List.{list_all}
+use Rattle.std.specs.List.{filter, list_all}
 use Rattle.hub_path.specs.Path.{Path}
 use Rattle.hub_glob.specs.Specification.{Specification}
 use Rattle.hub_profile.specs.declared.partial.Partial.{Partial}
 use Rattle.hub_profile.specs.Parts.{Parts}
 use Rattle.hub_unison.specs.Cautious.{has_star, with_patterns, with_tops}
-use Rattle.hub_unison.specs.ReadingOf.{added_lines, cautious_of, kept_bars, kept_lines, spare_stays, top_values}
+use Rattle.hub_unison.specs.ReadingOf.{added_lines, cautious_of, is_owned, needed_lines, kept_bars, kept_lines, spare_stays, top_values}
 use Rattle.hub_unison.proofs.KeptLines.{none-if, some-if}
 
 module _ (P C : Parts) (ignore ignorenot : List Specification) (bars partial : List Partial)
@@ -17,7 +17,7 @@ module _ (P C : Parts) (ignore ignorenot : List Specification) (bars partial : L
   reading a b =
       if a then with_tops P (top_values P.paths) (kept_bars P.partial)
       else (if b
-      then with_patterns P (kept_lines P.ignore) (P.ignorenot ++ added_lines P.ignore) (kept_bars P.partial)
+      then with_patterns P (kept_lines P.ignore) (P.ignorenot ++ needed_lines P.ignore) (kept_bars P.partial)
       else with_patterns P [] [] (kept_bars P.partial))
 
   own : partial ≡ kept_bars P.partial
@@ -39,12 +39,16 @@ module _ (P C : Parts) (ignore ignorenot : List Specification) (bars partial : L
     at b h =
         (λ i. reading ((sym is ∙ starred) i) ((sym h ∙ ap (list_all spare_stays) not_are) i))
 
-    pub by-lines : (spared old : List Specification) → o ≡ Some spared → old ≡ P.ignore
-        → ignore ≡ kept_lines old → ignorenot ≡ spared ++ added_lines old → C ≡ cautious_of P
-    by-lines spared old some lines stay added =
+    pub by-lines : (spared old owners : List Specification) → o ≡ Some spared → old ≡ P.ignore
+        → owners ≡ P.ignore → ignore ≡ kept_lines old
+        → ignorenot ≡ spared ++ filter (λ spare. not (is_owned owners spare)) (added_lines old)
+        → C ≡ cautious_of P
+    by-lines spared old owners some lines same stay needed =
         let two = some-if (list_all spare_stays oldnot) oldnot spared o some spares in
         e ∙ ((λ i. with_patterns P ((stay ∙ ap kept_lines lines) i)
-        ((added ∙ (λ j. (two.1 ∙ not_are) j ++ added_lines (lines j))) i) (own i)) ∙ at true two.0)
+        ((needed
+        ∙ (λ j. (two.1 ∙ not_are) j ++ filter (λ spare. not (is_owned (same j) spare)) (added_lines (lines j)))) i)
+        (own i)) ∙ at true two.0)
 
     pub by-none : o ≡ None → ignore ≡ [] → ignorenot ≡ [] → C ≡ cautious_of P
     by-none none one two =

@@ -10,7 +10,7 @@ use Rattle.hub_text.specs.TestLaws.{any-append}
 use Rattle.hub_path.specs.Path.{Path}
 use Rattle.hub_glob.specs.declared.piece.Piece.{Piece}
 use Rattle.hub_glob.specs.declared.piece.Part.TheVariants.{Brace}
-use Rattle.hub_glob.specs.Glob.{choices, matches}
+use Rattle.hub_glob.specs.Glob.{choices, matches, by_kind, glob, no_more, pieces}
 use Rattle.hub_glob.specs.Specification.{Specification}
 use Rattle.hub_profile.specs.declared.partial.Partial.{Partial}
 use Rattle.hub_profile.specs.declared.rule.Rule.{Rule}
@@ -20,10 +20,14 @@ use Rattle.hub_unison.specs.Cautious.{any_matches, any_surely, cover, covers_val
 use Rattle.hub_unison.specs.CautiousLaws.{lines-cautious, none-cautious, tops-cautious, no}
 use Rattle.hub_unison.specs.Matching.{all_simple, surely}
 use Rattle.hub_unison.specs.PieceLaws.{all-weaker}
-use Rattle.hub_unison.specs.ReadingOf.{added_lines, adds_spare, are_tops, bar_stays, cautious_of, cut_value, has_spares, is_read_alike, is_read_back, kept_bars, kept_lines, line_stays, reading_of, spare_of, spare_stays, top_values, topmost}
+use Rattle.hub_unison.specs.ReadingOf.{added_lines, adds_spare, braced, is_owned, needed_lines, owns, are_tops, bar_stays, cautious_of, cut_value, has_spares, is_read_alike, is_read_back, kept_bars, kept_lines, line_stays, reading_of, spare_of, spare_stays, top_values, topmost}
 use Rattle.hub_unison.specs.Rules.{AreReadForUnison, IsReadingOf}
 use Rattle.hub_unison.specs.RulesLaws.{cautious-read, rules-read}
 use Rattle.hub_unison.specs.SpareLaws.{plain-matches, spared-matches}
+use Rattle.hub_unison.specs.PatternLaws.{by_kind-of, of_kind-weaker}
+use Rattle.hub_glob.specs.ChoiceLaws.{glob_choices}
+use Rattle.hub_glob.specs.contracts.path_spec.PathSpecPartialEq.TheImpl as tested
+use Rattle.hub_glob.specs.contracts.path_spec.PathSpecExact.TheImpl.Laws as tested_laws
 use Rattle.hub_unison.specs.Spares.{is_plain, pattern_spares}
 use Rattle.hub_unison.specs.UnisonReach.{IsCautious, is_starred}
 
@@ -141,12 +145,78 @@ lines-sure (s ∷ ss) q h = go (line_stays s) refl (has_spares s) refl (lines-su
         (λ m. later-or (surely s q) (any_surely ss q) (matches (spare_of s) q)
         (any_matches (added_lines ss) q) (rest m))
 
+-- What a line for spares matches that isn't needed, an `ignore` line matches for certain.
+braced-matches : (s : Specification) (q : Path) → matches (braced s) q ≡ true → matches s q ≡ true
+unfolding matches
+braced-matches s q h =
+    let parts = and_parts (not (length q == 0)) (by_kind s.kind (braced s).pattern q) h in
+    and_from (not (length q == 0)) (by_kind s.kind s.pattern q) parts.0
+    (by_kind-of s.kind s.pattern q
+    ∙ of_kind-weaker s.kind (glob (braced s).pattern true) (glob s.pattern true) q
+    (λ t e. glob_choices s.pattern true t
+    ∙ ap (λ cs. list_any (λ c. pieces c no_more true t) cs) (sym (brace-choices (choices s.pattern)))
+    ∙ sym (glob_choices (braced s).pattern true t) ∙ e)
+    (sym (by_kind-of s.kind (braced s).pattern q) ∙ parts.1))
+
+owned-sure : (ss : List Specification) (spare : Specification) (q : Path) → is_owned ss spare ≡ true
+    → matches spare q ≡ true → any_surely ss q ≡ true
+owned-sure [] spare q h m = absurd (no h)
+owned-sure (s ∷ ss) spare q h m =
+    or-cases (owns s spare) (is_owned ss spare) (surely s q || any_surely ss q) h
+    (λ own. let plain = and_parts (is_plain s.pattern)
+    (is_read_back (braced s) && tested.eq-value.it (braced s) spare) own in
+    let same = (tested_laws.exact-law (braced s) spare).0
+    (and_parts (is_read_back (braced s)) (tested.eq-value.it (braced s) spare) plain.1).1 in
+    ap (λ b. b || any_surely ss q)
+    (plain-matches s q plain.0 (braced-matches s q (ap (λ x. matches x q) same ∙ m))))
+    (λ rest. or_right (surely s q) (any_surely ss q) (owned-sure ss spare q rest m))
+
+needed-sure : (old added : List Specification) (q : Path)
+    → (any_surely old q || any_matches added q) ≡ true
+    → (any_surely old q || any_matches (filter (λ spare. not (is_owned old spare)) added) q) ≡ true
+needed-sure old [] q h = h
+needed-sure old (s ∷ added) q h =
+    go (is_owned old s) refl
+    (or-cases (any_surely old q) (matches s q || any_matches added q)
+    (matches s q || (any_surely old q || any_matches added q)) h
+    (λ m. or_right (matches s q) (any_surely old q || any_matches added q)
+    (ap (λ b. b || any_matches added q) m))
+    (λ m. or-cases (matches s q) (any_matches added q)
+    (matches s q || (any_surely old q || any_matches added q)) m
+    (λ n. ap (λ b. b || (any_surely old q || any_matches added q)) n)
+    (λ n. or_right (matches s q) (any_surely old q || any_matches added q)
+    (or_right (any_surely old q) (any_matches added q) n))))
+    (needed-sure old added q)
+  where
+    rest : List Specification
+    rest = filter (λ spare. not (is_owned old spare)) added
+
+    go : (b : Bool) → is_owned old s ≡ b
+        → (matches s q || (any_surely old q || any_matches added q)) ≡ true
+        → ((any_surely old q || any_matches added q) ≡ true
+        → (any_surely old q || any_matches rest q) ≡ true)
+        → (any_surely old q || any_matches (cond (not b) (s ∷ rest) rest) q) ≡ true
+    go true e h more =
+        or-cases (matches s q) (any_surely old q || any_matches added q)
+        (any_surely old q || any_matches rest q) h
+        (λ m. ap (λ b. b || any_matches rest q) (owned-sure old s q e m)) more
+    go false e h more =
+        or-cases (matches s q) (any_surely old q || any_matches added q)
+        (any_surely old q || (matches s q || any_matches rest q)) h
+        (λ m. or_right (any_surely old q) (matches s q || any_matches rest q)
+        (ap (λ b. b || any_matches rest q) m))
+        (λ m. or-cases (any_surely old q) (any_matches rest q)
+        (any_surely old q || (matches s q || any_matches rest q)) (more m)
+        (λ n. ap (λ b. b || (matches s q || any_matches rest q)) n)
+        (λ n. or_right (any_surely old q) (matches s q || any_matches rest q)
+        (or_right (matches s q) (any_matches rest q) n)))
+
 lines-less : (old spared : List Specification)
-    → IgnoresLess old (kept_lines old) (spared ++ added_lines old)
+    → IgnoresLess old (kept_lines old) (spared ++ needed_lines old)
 lines-less old spared q h =
-    ap (λ b. any_surely old q || b) (sym (any-append (λ s. matches s q) spared (added_lines old)))
-    ∙ between-or (any_surely old q) (any_matches spared q) (any_matches (added_lines old) q)
-    (lines-sure old q h)
+    ap (λ b. any_surely old q || b) (sym (any-append (λ s. matches s q) spared (needed_lines old)))
+    ∙ between-or (any_surely old q) (any_matches spared q) (any_matches (needed_lines old) q)
+    (needed-sure old (added_lines old) q (lines-sure old q h))
 
 lines-more : (spared added : List Specification) → SparesMore spared (spared ++ added)
 lines-more spared added q h =
@@ -198,14 +268,14 @@ reading-cautious P = go (has_star P) refl (list_all spare_stays P.ignorenot) ref
 
     go : (b : Bool) → has_star P ≡ b → (c : Bool) → list_all spare_stays P.ignorenot ≡ c
         → IsCautious P (if b then with_tops P (top_values P.paths) bars
-        else (if c then with_patterns P (kept_lines P.ignore) (P.ignorenot ++ added_lines P.ignore) bars
+        else (if c then with_patterns P (kept_lines P.ignore) (P.ignorenot ++ needed_lines P.ignore) bars
         else with_patterns P [] [] bars))
     go true e c f = tops-cautious P (top_values P.paths) bars (values-cover P.paths) (bars-less P.partial)
     go false e true f =
-        lines-cautious P (kept_lines P.ignore) (P.ignorenot ++ added_lines P.ignore) bars e
+        lines-cautious P (kept_lines P.ignore) (P.ignorenot ++ needed_lines P.ignore) bars e
         (all-weaker spare_stays (λ s. all_simple s.pattern) P.ignorenot
         (λ s h. (and_parts (is_read_back s) (all_simple s.pattern) h).1) f)
-        (lines-less P.ignore P.ignorenot) (lines-more P.ignorenot (added_lines P.ignore))
+        (lines-less P.ignore P.ignorenot) (lines-more P.ignorenot (needed_lines P.ignore))
         (bars-less P.partial)
     go false e false f = none-cautious P bars e (bars-less P.partial)
 
@@ -252,13 +322,13 @@ alike-line s h =
 alike-lines : (P : Parts)
     → list_all (λ s. is_read_back s && is_plain s.pattern) P.ignore ≡ true
     → list_all bar_stays P.partial ≡ true
-    → with_patterns P (kept_lines P.ignore) (P.ignorenot ++ added_lines P.ignore) (kept_bars P.partial)
+    → with_patterns P (kept_lines P.ignore) (P.ignorenot ++ needed_lines P.ignore) (kept_bars P.partial)
     ≡ P
 alike-lines P lines bars =
     (λ i. with_patterns P
     (all-left line_stays P.ignore
     (all-weaker (λ s. is_read_back s && is_plain s.pattern) line_stays P.ignore alike-line lines) i)
-    ((ap (λ ss. P.ignorenot ++ map spare_of ss)
+    ((ap (λ ss. P.ignorenot ++ filter (λ spare. not (is_owned P.ignore spare)) (map spare_of ss))
     (none-left (λ s. is_read_back s && is_plain s.pattern) adds_spare P.ignore alike-adds lines)
     ∙ append-nil P.ignorenot) i)
     (all-left bar_stays P.partial bars i))
@@ -267,7 +337,7 @@ pub alike-stays : (P : Parts) → is_read_alike P ≡ true → cautious_of P ≡
 alike-stays P h =
     (λ i. if not-true (has_star P) three.0 i then with_tops P (top_values P.paths) (kept_bars P.partial)
     else (if two.1 i
-    then with_patterns P (kept_lines P.ignore) (P.ignorenot ++ added_lines P.ignore) (kept_bars P.partial)
+    then with_patterns P (kept_lines P.ignore) (P.ignorenot ++ needed_lines P.ignore) (kept_bars P.partial)
     else with_patterns P [] [] (kept_bars P.partial))) ∙ alike-lines P three.1 one.1
   where
     lines : Bool

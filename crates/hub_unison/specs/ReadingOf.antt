@@ -7,6 +7,7 @@ use Rattle.hub_glob.specs.declared.piece.Part.TheVariants.{Brace}
 use Rattle.hub_glob.specs.contracts.path_spec.PathSpecPartialEq.TheImpl as tested
 use Rattle.hub_glob.specs.Reading.{spec_reading}
 use Rattle.hub_glob.specs.Specification.{Specification}
+use Rattle.hub_glob.specs.Glob.{choices}
 use Rattle.hub_glob.specs.Writing.{spec_text}
 use Rattle.hub_profile.specs.declared.partial.Partial.{Partial}
 use Rattle.hub_profile.specs.declared.rule.Rule.{Rule}
@@ -52,6 +53,21 @@ kept_lines ss = filter line_stays ss
 abbrev pub added_lines : List Specification → List Specification
 added_lines ss = map spare_of (filter adds_spare ss)
 
+-- A line for spares isn't needed if what it matches is ignored for certain by one of the `ignore`
+-- lines: one that is read alike, has this kind, and has these choices.
+abbrev pub braced : Specification → Specification
+braced s = record { kind = s.kind; pattern = Brace (choices s.pattern) ∷ [] }
+
+abbrev pub owns : Specification → Specification → Bool
+owns s spare =
+    is_plain s.pattern && (is_read_back (braced s) && tested.eq-value.it (braced s) spare)
+
+abbrev pub is_owned : List Specification → Specification → Bool
+is_owned ss spare = list_any (λ s. owns s spare) ss
+
+abbrev pub needed_lines : List Specification → List Specification
+needed_lines ss = filter (λ spare. not (is_owned ss spare)) (added_lines ss)
+
 -- An `ignorenot` line can stay if it is known what Unison matches by it at most.
 abbrev pub spare_stays : Specification → Bool
 spare_stays s = is_read_back s && all_simple s.pattern
@@ -93,7 +109,7 @@ abbrev pub cautious_of : Parts → Parts
 cautious_of P =
     if has_star P then with_tops P (top_values P.paths) (kept_bars P.partial)
     else (if list_all spare_stays P.ignorenot
-    then with_patterns P (kept_lines P.ignore) (P.ignorenot ++ added_lines P.ignore) (kept_bars P.partial)
+    then with_patterns P (kept_lines P.ignore) (P.ignorenot ++ needed_lines P.ignore) (kept_bars P.partial)
     else with_patterns P [] [] (kept_bars P.partial))
 
 -- The reading of a profile beside rules.

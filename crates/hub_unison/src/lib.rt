@@ -17,8 +17,9 @@
 //!   in Unison, and by none of them Unison breaks a rule (law `safe_readings_are_safe_in_unison`). hubsync's own matching lies
 //!   between the bounds, too (`hubsync_matches_as_unison_may`).
 //! - An `ignore` line stays where Unison matches what hubsync matches; a pattern that differs by a dot at the start of a name
-//!   gets an `ignorenot` for it; one with `?`, ` -> ` or a set of other than ASCII characters is left out. If such a line is an
-//!   `ignorenot`, each `ignore` and `ignorenot` line is left out. A bar stays if Unison matches its pattern in the same way.
+//!   gets an `ignorenot` for it, unless another `ignore` line has just that pattern; one with `?`, ` -> ` or a set of other than
+//!   ASCII characters is left out. If such a line is an `ignorenot`, each `ignore` and `ignorenot` line is left out. A bar stays
+//!   if Unison matches its pattern in the same way.
 //!   `path = docs/*` becomes `path = docs` without `ignore` and `ignorenot` lines.
 //! - Beside rules each `ignore` line and each bar on a pattern is left out, since Unison tests a bar at the path of an item
 //!   alone, and takes ignored files away with their folder; and `nocreation` too, unless there is `noupdate` of the same root.
@@ -33,6 +34,7 @@
 mod copies;
 mod kept;
 pub mod laws;
+mod owned;
 mod reading;
 mod set;
 mod simple;

@@ -31,12 +31,26 @@ fn reaches_what_unison_may(rt: HostRuntime) {
         ("ignore = Path *.x/*.y", "a.x/.y", false, true, true),
         ("ignore = Name [.a]b", "ab", false, false, false),
         ("ignore = Name [.a]b", ".b", false, true, true),
-        // Wider than Unison: the line for the spare of `*.tmp` counts for `.tmp` too.
+        // No line is added for what another line ignores for certain.
         (
             "ignore = Name *.tmp; ignore = Name .tmp",
             ".tmp",
             false,
             false,
+            false,
+        ),
+        (
+            "ignore = Name .{tmp,bak}; ignore = Name *.{tmp,bak}",
+            ".bak",
+            false,
+            false,
+            false,
+        ),
+        (
+            "ignore = Name *.tmp; ignore = Path .tmp",
+            "d/.tmp",
+            false,
+            true,
             true,
         ),
         (

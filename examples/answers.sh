@@ -259,6 +259,28 @@ ask_run_of_rounds() {
     done
 }
 
+# Threads that the system refuses, since the stack of each wants more room than the program may have. Below the line that says so
+# a run by rounds has the state as it was.
+ask_threads() {
+    local words status first
+    profile_with %state 'hubsync state 1' 'replica /srv/hub' 'file - e' 'replica /srv/s1' end >"$room/input"
+    for words in run 'run --workers 1' 'run --rounds'; do
+        first=safe
+        [[ $words != *rounds ]] || first='rounds 1'
+        printf '%s\n' "$first" 'run fault: ThreadRefused' >"$room/wanted"
+        status=0
+        (
+            ulimit -S -s 4000000
+            ulimit -v 3000000
+            # shellcheck disable=SC2086
+            exec "$program" $words <"$room/input" >"$room/output" 2>"$room/errors"
+        ) || status=$?
+        sed -i '3,$d' "$room/output"
+        judge "no thread for $words" 3 "$status" || true
+        judge_remarks "no thread for $words"
+    done
+}
+
 # Files: each operand is a profile, and options name the rules, the state and the certificates.
 ask_files() {
     local at=$room/files roots=$'root = /srv/hub\nroot = /srv/s1'
@@ -407,7 +429,7 @@ ask_failing_outputs() {
     judge_errors 'an output that is soon full' "$error: File too large (os error 27)"
 }
 
-parts=("$folder"/answers/*.txt many large certificates run_of_rounds files long failing_inputs failing_outputs)
+parts=("$folder"/answers/*.txt many large certificates run_of_rounds threads files long failing_inputs failing_outputs)
 parts+=(limits forged large_states cut blanks)
 parts=("${parts[@]##*/}")
 if [ "${1-}" = --parts ]; then

@@ -39,6 +39,7 @@ fn answer(alloc: Global, word: &str, fields: &str) -> Result<String> {
         "range" => automata::range(alloc, fields),
         "path" => paths::path(alloc, fields),
         "paths" => paths::paths(alloc, fields),
+        "specs" => paths::specs(alloc, fields),
         "states" => stages::states(alloc, fields),
         _ => answer_on_profile(alloc, word, fields),
     }

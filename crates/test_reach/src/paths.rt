@@ -1,14 +1,16 @@
-//! Questions about automata of paths.
+//! Questions about automata of paths, and about what a builder has collected.
 ghost use Rattle.std.specs.Prelude.{◌≡◌, ◌∷◌, [], true, IfOk};
 ghost use Rattle.hub_path.specs.Path.{text_of};
 ghost use Rattle.hub_automaton.specs.Spots.{is_covered, path_alternatives};
 
 use crate::automaton::Automaton;
+use crate::given::profile_ignoring;
 use anyhow::Result;
 use hub_automaton::laws::{
     paths_mention_their_characters, texts_mention_what_their_names_do, what_is_added_is_mentioned,
 };
 use hub_automaton::{Alphabet, SpecSetBuilder};
+use hub_glob::PathSpec;
 use hub_path::RelPath;
 use std::alloc::{AllocError, Global};
 use test_kit::two;
@@ -87,5 +89,29 @@ fn add_path(
     match builder.add_path(path) {
         Ok(()) => format!(in alloc; "{}", builder.len()),
         Err(fault) => format!(in alloc; "{fault} {}", builder.len()),
+    }
+}
+
+/// The fault of adding the second specifications to a builder that has collected the first ones, if there is one, and whether it
+/// has those still.
+pub(crate) fn specs(alloc: Global, fields: &str) -> Result<String> {
+    let (first, more) = two(fields)?;
+    let first = profile_ignoring(alloc, first)?;
+    let more = profile_ignoring(alloc, more)?;
+    let mut builder = SpecSetBuilder::new(alloc);
+    builder.add_specs(first.ignore())?;
+    Ok(add_more(alloc, &mut builder, more.ignore())?)
+}
+
+fn add_more(
+    alloc: Global,
+    builder: &mut SpecSetBuilder,
+    more: &[PathSpec],
+) -> Result<String, AllocError> {
+    let before = builder.len();
+    match builder.add_specs(more) {
+        Ok(()) => format!(in alloc; "{}", builder.len()),
+        Err(fault) if builder.len() < before => format!(in alloc; "{fault}, some are gone"),
+        Err(fault) => format!(in alloc; "{fault}, all are there"),
     }
 }

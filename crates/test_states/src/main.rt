@@ -6,6 +6,7 @@
 //! - `line LINE`: what is read of a state text with this line, at each of five places, from the top of the text down to below
 //!   its `end` (`states::PLACES`).
 //! - `text TEXT`: the text of the state that a state text says, or the text's fault. It is read whole and in pieces.
+//! - `reads TEXT`: how many reads a text takes that is there at once, whether it is that of a state or not.
 //! - `failing_reader TEXT`: the same if a reader fails behind the text, and whether that was seen.
 //! - `failing_writer COUNT TEXT`: what comes of writing a state if the writer fails after so many writes.
 //! - `state STEPS`: steps of a state (`sections`).
@@ -40,6 +41,7 @@ fn answer(alloc: Global, word: &str, fields: &str) -> Result<String> {
     match word {
         "line" => states::line_answer(alloc, fields),
         "text" => states::text_answer(alloc, fields),
+        "reads" => states::reads_answer(alloc, fields),
         "failing_reader" => states::failing_reader_answer(alloc, fields),
         "failing_writer" => states::failing_writer_answer(alloc, fields),
         "state" => sections::answers(alloc, fields),

@@ -104,6 +104,14 @@ pub(crate) fn written(alloc: Global, state: &State) -> Result<String> {
     Ok(String::from_str(alloc, from_utf8(output.text.as_slice())?)?)
 }
 
+/// How many reads a text takes that is there at once. The last one meets its end.
+pub(crate) fn reads_answer(alloc: Global, field: &str) -> Result<String> {
+    let text = bytes_of(alloc, field)?;
+    let mut input = Watched::new(text.as_slice());
+    let _state = read_state(alloc, &mut input);
+    Ok(format!(in alloc; "{}", input.reads())?)
+}
+
 /// What is read if the reader fails behind a text, and whether that was seen.
 pub(crate) fn failing_reader_answer(alloc: Global, field: &str) -> Result<String> {
     let text = bytes_of(alloc, field)?;

@@ -1,0 +1,3 @@
+pub mod Apart
+pub mod ApartLines
+pub mod ApartExamples

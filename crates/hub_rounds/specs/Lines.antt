@@ -16,11 +16,17 @@ abbrev pub subject_of_goal : Goal → Subject
 subject_of_goal (goal.Clash w o place) = Pair w o
 subject_of_goal (goal.Breach p r) = Alone p (TooLarge r)
 
+-- A clash that nothing rules out, since both are never searched together: their roots are nested.
+abbrev pub subject_of_missing : Goal → Subject
+subject_of_missing (goal.Clash w o place) = Pair w o
+subject_of_missing (goal.Breach p r) = Nothing
+
 -- What a line says of which profiles.
 abbrev pub subject_of : CheckFault → Subject
 subject_of (fault.Overlap w o place held path) = Pair w o
 subject_of (fault.Breach p r path) = Alone p (Breach r)
 subject_of (fault.TooLarge g) = subject_of_goal g
+subject_of (fault.Missing g) = subject_of_missing g
 subject_of _ = Nothing
 
 -- It is about these two profiles, either way round.

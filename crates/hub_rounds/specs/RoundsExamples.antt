@@ -25,16 +25,17 @@ abbrev overlap : ℕ → ℕ → CheckFault
 overlap w o = fault.Overlap w o (Replica Left) (path_of (codes "a")) (path_of (codes "a/b"))
 
 -- an overlap is about two profiles, a breach about one; a goal that is too large is about those
--- that it names
+-- that it names, and a clash that nothing rules out about both
 what_lines_are_about :
     map subject_of
     (overlap 0 2
     ∷ fault.Breach 1 3 (path_of (codes "books"))
     ∷ fault.TooLarge (goal.Clash 2 0 Archive)
     ∷ fault.TooLarge (goal.Breach 1 0)
+    ∷ fault.Missing (goal.Clash 1 3 Archive)
     ∷ fault.Missing (goal.Breach 1 0)
     ∷ [])
-    ≡ Pair 0 2 ∷ Alone 1 (Breach 3) ∷ Pair 2 0 ∷ Alone 1 (TooLarge 0) ∷ Nothing ∷ []
+    ≡ Pair 0 2 ∷ Alone 1 (Breach 3) ∷ Pair 2 0 ∷ Alone 1 (TooLarge 0) ∷ Pair 1 3 ∷ Nothing ∷ []
 what_lines_are_about = refl
 
 -- a pair is named either way round, and nobody is a pair with himself

@@ -2,7 +2,8 @@
 //!
 //! - [`clashes_of`] searches for each goal of a set, and returns [`Clashes`]: a line for each goal that isn't ruled out.
 //! - [`rounds_of`] cuts the set into [`Rounds`]. The profiles of a round are a safe set, which `hub_search::check` has verified.
-//!   A profile that breaks a rule by itself is in no round.
+//!   A profile that breaks a rule by itself is in no round. [`rounds_by_lines`] does the same for profiles that are no set,
+//!   by the lines that `hub_apart` finds.
 //!
 //! ```rust
 //! let clashes = clashes_of(alloc, &set)?;
@@ -36,7 +37,7 @@
 //!
 //! - `clashes_of` returns the lines of the set: each goal is ruled out or has one, a set with an overlap or a breach isn't safe,
 //!   and a set without lines is safe.
-//! - `rounds_of` returns `AreRounds`: each profile stands in exactly one round, or it is left out and a line says why; no two
+//! - `rounds_of` and `rounds_by_lines` return `AreRounds`: each profile stands in exactly one round, or it is left out and a line says why; no two
 //!   profiles of a round have a line; no round is empty; the profiles of a round and the rules are a safe set; each two rivals
 //!   have a line, and no other profile of a round has lines with all of them.
 //! - `NotVerified` comes only with a round that the check refuses, and not for want of memory.
@@ -62,5 +63,5 @@ mod subject;
 pub use clashes::{Clashes, clashes_of};
 pub use fault::RoundsFault;
 pub use placing::{Obstacle, Placed, Placing};
-pub use rounds::{Rounds, rounds_of};
+pub use rounds::{Rounds, rounds_by_lines, rounds_of};
 pub use subject::{Subject, subject_of};

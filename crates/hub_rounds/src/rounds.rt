@@ -48,11 +48,27 @@ pub fn rounds_of(alloc: Global, set: ProfileSet, clashes: &Clashes) -> Result<Ro
     ensures refused { IfErr result (IsRoundsFault set clashes.now) }
 {
     let lines = clashes.lines();
-    let named = Named::new(alloc, set.profiles().len(), lines)?;
+    let (profiles, rules) = set.into_members();
+    rounds_by_lines(alloc, profiles, rules, lines)
+}
+
+/// Cuts profiles into rounds by these lines, as [`rounds_of`] cuts a set. They need not be one: it is each round with all rules that
+/// the check verifies as a set.
+pub fn rounds_by_lines(
+    alloc: Global,
+    profiles: Items<Profile>,
+    rules: Rules,
+    lines: &[CheckFault],
+) -> Result<Rounds, RoundsFault>
+    ensures rounds { IfOk result
+        (AreRounds (record { profiles = profiles; rules = rules }) lines.now) }
+    ensures refused { IfErr result
+        (IsRoundsFault (record { profiles = profiles; rules = rules }) lines.now) }
+{
+    let named = Named::new(alloc, profiles.len(), lines)?;
     let graph = Graph::new(alloc, &named)?;
     let clique = largest_clique(alloc, graph.as_ref())?;
     let colours = colours_of(alloc, &named, graph.as_ref(), clique.len())?;
-    let (profiles, rules) = set.into_members();
     let profiles = profiles.into_vec();
     let (placed, count) = place_each(alloc, lines, &named, colours.as_slice(), profiles)?;
     let rivals = rivals_of(alloc, lines, &named, placed.as_slice(), clique.as_slice())?;

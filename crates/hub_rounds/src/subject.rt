@@ -5,10 +5,10 @@ ghost use Rattle.hub_rounds.specs.Lines as said;
 use crate::placing::Obstacle;
 use hub_cert::{CheckFault, Goal};
 
-/// What a line of [`crate::Clashes`] says of which profiles, by their numbers.
+/// What a line of [`crate::Clashes`], or of `hub_apart`, says of which profiles, by their numbers.
 #[derive(Clone, Copy, Debug, PartialEq, Eq)]
 pub enum Subject {
-    /// These two may not run at the same time, or whether they may was not decided.
+    /// These two may not run at the same time, whether they may was not decided, or their roots are nested.
     Pair {
         /// The profile that writes.
         writer: usize,
@@ -22,7 +22,7 @@ pub enum Subject {
         /// Why it is in no round.
         reason: Obstacle,
     },
-    /// Nothing. `clashes_of` returns no such line.
+    /// Nothing. No line of a set says that.
     Nothing,
 }
 
@@ -40,6 +40,7 @@ pub fn subject_of(line: &CheckFault) -> Subject
             reason: Obstacle::Breach(*rule),
         },
         CheckFault::TooLarge { goal } => subject_of_goal(*goal),
+        CheckFault::Missing { goal } => subject_of_missing(*goal),
         _ => Subject::Nothing,
     }
 }
@@ -54,5 +55,15 @@ fn subject_of_goal(goal: Goal) -> Subject
             profile,
             reason: Obstacle::TooLarge(rule),
         },
+    }
+}
+
+/// Returns what it says of which profiles that nothing rules a goal out.
+fn subject_of_missing(goal: Goal) -> Subject
+    ensures { result ≡ said.subject_of_missing goal }
+{
+    match goal {
+        Goal::Clash { writer, other, .. } => Subject::Pair { writer, other },
+        Goal::Breach { .. } => Subject::Nothing,
     }
 }

@@ -4,7 +4,7 @@
 
 _hubsync() {
     local word=${COMP_WORDS[COMP_CWORD]} before=${COMP_WORDS[COMP_CWORD - 1]} command='' each candidates=''
-    local commands='check certify verify clashes rounds reach run help'
+    local commands='check certify verify clashes rounds import reach run help'
     COMPREPLY=()
     # after a redirection come the names of files, which bash completes by itself
     [[ $before != [\<\>]* && $word != [\<\>]* ]] || return 0
@@ -22,8 +22,9 @@ _hubsync() {
         help/-*) ;;
         help/*) candidates=$commands ;;
         reach/-*) candidates='--unison -h --help' ;;
-        clashes/-*) candidates='--rules --state --certificates --strict --unison --hosts --dot -h --help' ;;
-        check/-* | rounds/-*) candidates='--rules --state --certificates --strict --unison --hosts -h --help' ;;
+        import/-*) candidates='--rules --strict --hosts --verbose -h --help' ;;
+        clashes/-*) candidates='--rules --state --certificates --strict --unison --hosts --verbose --dot -h --help' ;;
+        check/-* | rounds/-*) candidates='--rules --state --certificates --strict --unison --hosts --verbose -h --help' ;;
         run/-*) candidates='--rules --state --certificates --strict --workers --rounds -h --help' ;;
         */-*) candidates='--rules --state --certificates --strict -h --help' ;;
         run/*) [[ $before != --workers ]] || candidates='1 2 3 4 5 6 7 8 9 10 11 12 13 14 15 16' ;;

@@ -14,7 +14,7 @@ use Rattle.clap.specs.declared.builder.action.ArgAction.TheVariants.{Append, Set
 use Rattle.clap.specs.declared.builder.value_parser.ValueParser.TheVariants.{Signed}
 use Rattle.hub_cli.specs.declared.files.Files.{Files}
 use Rattle.hub_cli.specs.declared.words.Query.{Query}
-use Rattle.hub_cli.specs.declared.words.Query.TheVariants.{About, Reach}
+use Rattle.hub_cli.specs.declared.words.Query.TheVariants.{About, Reach, Import}
 use Rattle.hub_cli.specs.declared.words.Question.{Question}
 use Rattle.hub_cli.specs.declared.words.Question.TheVariants.{CheckWithState, Run, RunByRounds}
 use Rattle.hub_cli.specs.declared.words.Question.TheVariants.{Check, Certify, Verify}
@@ -73,13 +73,22 @@ with_files app =
 abbrev pub set_app : Text → App
 set_app name = with_rule (with_files (new_app name)) (flag (codes "strict"))
 
--- such a command that may also have `--unison`, and a file of a table of hosts
+-- a command with a file of a table of hosts and `--verbose`
+abbrev pub with_hosts : App → App
+with_hosts app = with_rule (with_rule app (file_option (codes "hosts"))) (flag (codes "verbose"))
+
+-- a command about the set that may also have `--unison` and these
 abbrev pub reading_app : Text → App
-reading_app name = with_rule (with_unison (set_app name)) (file_option (codes "hosts"))
+reading_app name = with_hosts (with_unison (set_app name))
 
 -- `clashes`, which may also have `--dot`
 abbrev pub clashes_app : App
 clashes_app = with_rule (reading_app (codes "clashes")) (flag (codes "dot"))
+
+-- `import`, which may take its profiles and rules from files, and may have these and `--strict`
+abbrev pub import_app : App
+import_app =
+    with_hosts (with_rule (with_profiles (new_app (codes "import"))) (flag (codes "strict")))
 
 -- `run`, which may also have `--workers N` and `--rounds`
 abbrev pub run_app : App
@@ -99,21 +108,25 @@ checker_app =
 -- and with those that say more than a yes or a no
 abbrev pub about_app : App
 about_app =
-    with_subcommand (with_subcommand checker_app clashes_app.top) (reading_app (codes "rounds")).top
+    with_subcommand (with_subcommand (with_subcommand checker_app clashes_app.top)
+    (reading_app (codes "rounds")).top)
+    import_app.top
 
 -- the command as clap reads it
 unfoldable pub hubsync_app : App
 hubsync_app = with_subcommand (with_subcommand about_app reach_app.top) run_app.top
 
--- what is asked for: something about the set of the profiles and rules, or whether a profile, so
--- read, reaches a path
+-- what is asked for: something about the set of the profiles and rules, whether a profile, so
+-- read, reaches a path, or a bundle of the profiles' readings for Unison
 pub data Request : Type 0 where
   about : Question → Request
   reach : Reading → Text → Text → Request
+  imported : Request
 
 abbrev pub request_of : Query → Request
 request_of (About question) = about question
 request_of (Reach reading profile path) = reach reading profile.now path.now
+request_of Import = imported
 
 -- how a question about the set wants the profiles to be read: runs and certificates are always of
 -- hubsync's own reading
@@ -132,6 +145,7 @@ reading_of (Rounds reading) = reading
 abbrev pub reading_for : Request → Reading
 reading_for (about question) = reading_of question
 reading_for (reach reading profile path) = reading
+reading_for imported = Unison
 
 -- the operands PROFILE and PATH, if both are there
 abbrev pub operands_of : Reading → Option Text → Option Text → Option Request
@@ -186,7 +200,7 @@ abbrev pub are_profile_files : Option (List Text) → Bool
 are_profile_files None = true
 are_profile_files (Some files) = list_all is_profile_file files
 
--- what a command about the set asks for, by its name and the rows of its operands and options
+-- what a command that takes files asks for, by its name and the rows of its operands and options
 abbrev pub about_named : Text → List Row → Option Request
 about_named name rows =
     if bytes_eq name (codes "check") then Some (about (Check (reading_in rows)))
@@ -195,7 +209,8 @@ about_named name rows =
     else (if bytes_eq name (codes "clashes")
     then Some (clashes_request (is_set (codes "dot") rows) (reading_in rows))
     else (if bytes_eq name (codes "rounds") then Some (about (Rounds (reading_in rows)))
-    else (if bytes_eq name (codes "run") then run_by rows else None)))))
+    else (if bytes_eq name (codes "import") then Some imported
+    else (if bytes_eq name (codes "run") then run_by rows else None))))))
 
 -- an option with a value is on the command line
 abbrev pub is_given : Text → List Row → Bool
@@ -217,18 +232,23 @@ has_file_option rows =
 abbrev pub lacks_profiles : List Row → Bool
 lacks_profiles rows = not (has_operands (all_of (codes "files") rows)) && has_file_option rows
 
+-- the command that was used, of this name, reads the profiles for Unison: it has `--unison`, or it
+-- is `import`
+abbrev pub is_for_unison : Text → List Row → Bool
+is_for_unison name rows = is_set (codes "unison") rows || bytes_eq name (codes "import")
+
 -- each operand may be one: for Unison also a folder, else only the file of a profile, and then
 -- there is no table of hosts
-abbrev pub are_operands : List Row → Bool
-are_operands rows =
-    is_set (codes "unison") rows
+abbrev pub are_operands : Text → List Row → Bool
+are_operands name rows =
+    is_for_unison name rows
     || (are_profile_files (all_of (codes "files") rows) && not (is_given (codes "hosts") rows))
 
 -- the same, and nothing if an operand can't be one, or if files are named and none of them is that
 -- of a profile
 abbrev pub about_files : Text → List Row → Option Request
 about_files name rows =
-    if are_operands rows
+    if are_operands name rows
     then (if lacks_profiles rows then None else about_named name rows)
     else None
 
@@ -246,10 +266,10 @@ abbrev pub is_strict_in : Option (Text × List Row) → Bool
 is_strict_in None = false
 is_strict_in (Some p) = is_set (codes "strict") p.1
 
--- the command that was used has `--unison`
+-- the command that was used reads the profiles for Unison
 abbrev pub is_unison_in : Option (Text × List Row) → Bool
 is_unison_in None = false
-is_unison_in (Some p) = is_set (codes "unison") p.1
+is_unison_in (Some p) = is_for_unison p.0 p.1
 
 -- nothing is asked for if there is a fault
 abbrev pub asked_unless : Kinds → Option Request → Option Request
@@ -266,7 +286,7 @@ asked_of words =
 unfoldable pub is_strict_of : List Text → Bool
 is_strict_of words = is_strict_in (subcommand_of hubsync_app words)
 
--- whether the words, of which the first is the program's name, have `--unison`
+-- whether by the words, of which the first is the program's name, the profiles are read for Unison
 unfoldable pub is_unison_of : List Text → Bool
 is_unison_of words = is_unison_in (subcommand_of hubsync_app words)
 

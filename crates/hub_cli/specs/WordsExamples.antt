@@ -3,7 +3,7 @@ use Rattle.std.specs.Prelude.{⊤, ◌≡◌, List, [], ◌∷◌, Option, Some,
 use Rattle.clap.proofs.OnLiterals.{clap_on_literals}
 use Rattle.clap.specs.Words.{Text}
 use Rattle.hub_cli.specs.Words.{Names, Request, about, asked_of, files_of, hubsync_app, is_strict_of, no_names}
-use Rattle.hub_cli.specs.Words.{reach}
+use Rattle.hub_cli.specs.Words.{imported, reach}
 use Rattle.hub_cli.specs.declared.words.Question.TheVariants.{CheckWithState, Run, RunByRounds}
 use Rattle.hub_cli.specs.declared.words.Question.TheVariants.{Check, Certify, Verify}
 use Rattle.hub_cli.specs.declared.words.Question.TheVariants.{Clashes, Graph, Rounds}
@@ -171,6 +171,33 @@ hosts_alone : asked (codes "check" ∷ codes "--unison" ∷ codes "--hosts=t" �
 unfolding computed
 hosts_alone = refl
 
+an_import_of_a_folder : asked (codes "import" ∷ codes "dir" ∷ []) ≡ Some imported
+unfolding computed
+an_import_of_a_folder = refl
+
+an_import_of_files_beside_rules :
+    asked (codes "import" ∷ codes "a.prf" ∷ codes "--rules=r" ∷ codes "--hosts=t" ∷ [])
+    ≡ Some imported
+unfolding computed
+an_import_of_files_beside_rules = refl
+
+an_import_of_a_bundle : asked (codes "import" ∷ []) ≡ Some imported
+unfolding computed
+an_import_of_a_bundle = refl
+
+an_import_of_rules_alone : asked (codes "import" ∷ codes "--rules=r" ∷ []) ≡ None
+unfolding computed
+an_import_of_rules_alone = refl
+
+an_import_is_always_for_unison : asked (codes "import" ∷ codes "--unison" ∷ []) ≡ None
+unfolding computed
+an_import_is_always_for_unison = refl
+
+an_import_has_no_state :
+    asked (codes "import" ∷ codes "a.prf" ∷ codes "--state=s" ∷ []) ≡ None
+unfolding computed
+an_import_has_no_state = refl
+
 a_graph_for_unison :
     asked (codes "clashes" ∷ codes "--unison" ∷ codes "--dot" ∷ []) ≡ Some (about (Graph Unison))
 unfolding computed
@@ -232,6 +259,15 @@ the_check_is_not_strict = refl
 no_command_is_not_strict : is_strict_of (codes "hubsync" ∷ []) ≡ false
 unfolding computed
 no_command_is_not_strict = refl
+
+a_verbose_check :
+    asked (codes "check" ∷ codes "--unison" ∷ codes "--verbose" ∷ []) ≡ Some (about (Check Unison))
+unfolding computed
+a_verbose_check = refl
+
+a_run_is_not_verbose : asked (codes "run" ∷ codes "--verbose" ∷ []) ≡ None
+unfolding computed
+a_run_is_not_verbose = refl
 
 strictness_has_a_command : asked (codes "--strict" ∷ []) ≡ None
 unfolding computed

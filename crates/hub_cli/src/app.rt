@@ -6,16 +6,18 @@ ghost use Rattle.std.specs.Prelude.{◌≡◌, IfOk, Ok, codes, false};
 ghost use Rattle.clap.specs.Words.{app_of, new_app, rule_of, with_rule, with_subcommand};
 ghost use Rattle.clap.specs.declared.builder.command.Command.TheViews.{out-Command as fields_of};
 ghost use Rattle.hub_cli.specs.Words as words;
-ghost use Rattle.hub_cli.specs.Words.{about_app, checker_app, clashes_app, hubsync_app, reach_app, reading_app};
+ghost use Rattle.hub_cli.specs.Words.{about_app, checker_app, clashes_app, hubsync_app, import_app, reach_app, reading_app};
 ghost use Rattle.hub_cli.specs.Words.{run_app, set_app, top_app};
 
-use crate::help::{CERTIFY, CHECK, CLASHES, HUBSYNC, Help, LONG, REACH, ROUNDS, RUN, VERIFY};
+use crate::help::{
+    CERTIFY, CHECK, CLASHES, HUBSYNC, Help, IMPORT, LONG, REACH, ROUNDS, RUN, VERIFY,
+};
 use crate::words::DEFAULT_WORKERS_TEXT;
 use clap::{Arg, ArgAction, Command, value_parser};
 use std::alloc::{AllocError, Global};
 
 /// The version that `--version` shows.
-const VERSION: &str = "0.1.0";
+const VERSION: &str = "1.0.0";
 
 /// Boxes a command, if it was made.
 fn boxed<'a>(
@@ -131,12 +133,34 @@ fn set_command<'a>(alloc: Global, name: &'a str, help: Help) -> Result<Box<Comma
     ensures app { IfOk result (λ c. app_of c.value ≡ set_app name.now) }
     ensures local { IfOk result (λ c. (fields_of c.value).has_globals ≡ false) }
 {
-    let command = plain_command(alloc, name, help)?;
-    let command = with_argument(alloc, command, files_operand(alloc))?;
-    let command = with_file_option(alloc, command, "rules", "The file of the rules")?;
+    let command = with_profiles(alloc, plain_command(alloc, name, help)?)?;
     let command = with_file_option(alloc, command, "state", "The file of the state")?;
     let certificates = "The file of the certificates";
     let command = with_file_option(alloc, command, "certificates", certificates)?;
+    with_strict(alloc, command)
+}
+
+/// A command that may take profiles and rules from files.
+fn with_profiles<'a>(
+    alloc: Global,
+    command: Box<Command<'a>>,
+) -> Result<Box<Command<'a>>, AllocError>
+    requires { (fields_of command.value).has_globals ≡ false }
+    ensures app { IfOk result
+        (λ c. app_of c.value ≡ words.with_profiles (app_of command.entry.value)) }
+    ensures local { IfOk result (λ c. (fields_of c.value).has_globals ≡ false) }
+{
+    let command = with_argument(alloc, command, files_operand(alloc))?;
+    with_file_option(alloc, command, "rules", "The file of the rules")
+}
+
+/// A command that may have `--strict`.
+fn with_strict<'a>(alloc: Global, command: Box<Command<'a>>) -> Result<Box<Command<'a>>, AllocError>
+    requires { (fields_of command.value).has_globals ≡ false }
+    ensures app { IfOk result (λ c. app_of c.value
+        ≡ with_rule (app_of command.entry.value) (words.flag (codes "strict"))) }
+    ensures local { IfOk result (λ c. (fields_of c.value).has_globals ≡ false) }
+{
     let strict = "Exit with 1 in place of 0 if a yes may mislead";
     with_argument(alloc, command, flag(alloc, "strict", strict))
 }
@@ -176,7 +200,20 @@ fn with_unison<'a>(alloc: Global, command: Box<Command<'a>>) -> Result<Box<Comma
     with_argument(alloc, command, flag(alloc, "unison", unison))
 }
 
-/// A command about the set, which may take files and have `--unison` and a table of hosts.
+/// A command that may have a table of hosts and `--verbose`.
+fn with_hosts<'a>(alloc: Global, command: Box<Command<'a>>) -> Result<Box<Command<'a>>, AllocError>
+    requires { (fields_of command.value).has_globals ≡ false }
+    ensures app { IfOk result
+        (λ c. app_of c.value ≡ words.with_hosts (app_of command.entry.value)) }
+    ensures local { IfOk result (λ c. (fields_of c.value).has_globals ≡ false) }
+{
+    let hosts = "For Unison, the file of a table: which path stands for the / of a host";
+    let command = with_file_option(alloc, command, "hosts", hosts)?;
+    let verbose = "For Unison, list on standard error all lines that don't count";
+    with_argument(alloc, command, flag(alloc, "verbose", verbose))
+}
+
+/// A command about the set, which may take files and have `--unison`, a table of hosts and `--verbose`.
 fn reading_command<'a>(
     alloc: Global,
     name: &'a str,
@@ -187,8 +224,7 @@ fn reading_command<'a>(
 {
     let command = set_command(alloc, name, help)?;
     let command = with_unison(alloc, command)?;
-    let hosts = "With --unison, the file of a table: which path stands for the / of a host";
-    with_file_option(alloc, command, "hosts", hosts)
+    with_hosts(alloc, command)
 }
 
 /// The command `clashes`.
@@ -199,6 +235,16 @@ fn clashes_command<'a>(alloc: Global) -> Result<Box<Command<'a>>, AllocError>
     let command = reading_command(alloc, "clashes", CLASHES)?;
     let dot = "Draw what clashes as a graph for Graphviz";
     with_argument(alloc, command, flag(alloc, "dot", dot))
+}
+
+/// The command `import`.
+fn import_command<'a>(alloc: Global) -> Result<Box<Command<'a>>, AllocError>
+    ensures app { IfOk result (λ c. app_of c.value ≡ import_app) }
+    ensures local { IfOk result (λ c. (fields_of c.value).has_globals ≡ false) }
+{
+    let command = with_profiles(alloc, plain_command(alloc, "import", IMPORT)?)?;
+    let command = with_strict(alloc, command)?;
+    with_hosts(alloc, command)
 }
 
 /// A required operand, with its text of help.
@@ -281,7 +327,8 @@ fn about_command<'a>(alloc: Global) -> Result<Box<Command<'a>>, AllocError>
 {
     let top = checker_command(alloc)?;
     let top = with_command(alloc, top, clashes_command(alloc)?)?;
-    with_reading(alloc, top, "rounds", ROUNDS)
+    let top = with_reading(alloc, top, "rounds", ROUNDS)?;
+    with_command(alloc, top, import_command(alloc)?)
 }
 
 /// The program's command, with its texts of help.

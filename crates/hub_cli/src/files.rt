@@ -6,7 +6,7 @@ ghost use Rattle.clap.specs.declared.error.kind.ErrorKind.TheVariants.{OutOfMemo
 ghost use Rattle.hub_cli.specs.Words as words;
 ghost use Rattle.hub_cli.specs.Words.{are_none, asked_of, files_of, is_strict_of, is_unison_of, names_in, names_of};
 
-use crate::words::{is_set, read_matches};
+use crate::words::{is_for_unison, is_set, read_matches};
 use clap::{ArgMatches, Error};
 use std::alloc::{AllocError, Global};
 use std::convert::AsStr;
@@ -53,7 +53,7 @@ pub struct Options<'a> {
 ///
 /// Each command but `reach` may have operands, each of which is the file of a profile and ends with `.prf`, the options
 /// `--rules FILE`, `--state FILE` and `--certificates FILE`, and `--strict`. With `--unison` an operand may be a folder, and there may be
-/// `--hosts FILE`. No other words name files or have it.
+/// `--hosts FILE`. So it is with `import`, which hasn't `--state` and `--certificates`. No other words name files or have it.
 ///
 /// An `Err` is that of [`read_words`](crate::read_words).
 pub fn read_options<'a, S: AsStr>(alloc: Global, words: &'a [S]) -> Result<Options<'a>, Error>
@@ -88,12 +88,12 @@ fn is_strict_in(matches: &ArgMatches<'_>) -> bool
     }
 }
 
-/// Returns whether the command that was used has `--unison`, by the matches.
+/// Returns whether the command that was used reads the profiles for Unison, by the matches.
 fn is_unison_in(matches: &ArgMatches<'_>) -> bool
     ensures { result ≡ words.is_unison_in (subcommand_rows_of matches.now) }
 {
     match matches.subcommand() {
-        Some((_, found)) => is_set(found, "unison"),
+        Some((name, found)) => is_for_unison(name, found),
         None => false,
     }
 }

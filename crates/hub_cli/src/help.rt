@@ -57,6 +57,14 @@ pub(crate) const ROUNDS: Help = Help {
     example: "Example: hubsync rounds docs.prf photos.prf",
 };
 
+/// That of `import`.
+pub(crate) const IMPORT: Help = Help {
+    about: "Writes a bundle of what Unison 2.52 may do by the profiles",
+    usage: "hubsync import < BUNDLE\n       hubsync import [OPTIONS] FILE.prf..\n       \
+        hubsync import [OPTIONS] FOLDER",
+    example: "Example: hubsync import ~/.unison > office.bundle",
+};
+
 /// That of `reach`.
 pub(crate) const REACH: Help = Help {
     about: "Says whether a profile of the input reaches a path",
@@ -138,16 +146,18 @@ Graphviz. Profiles that clash are joined by a red line, and a profile that may
 break a rule is a red box. What is too large to decide is dashed.
 
 With '--unison', 'check', 'clashes' and 'rounds' follow the lines 'include' and
-'source' of the files, and an operand may be a folder, as ~/.unison: its files
+'source' of the files, as 'import' does, and an operand may be a folder, as ~/.unison: its files
 '*.prf' with roots are the profiles, but those that another one includes.
 '--hosts' names a file of lines 'HOST PATH', by which a path stands for the / of
-a host in roots as ssh://HOST//srv.
+a host in roots as ssh://HOST//srv. '--verbose' lists on standard error each
+line that doesn't count, and each that is refused.
 
 With '--unison', 'check', 'clashes', 'rounds' and 'reach' answer about what
 Unison 2.52 may do by the profiles, not about hubsync's own reading of them.
 What is safe then is safe in Unison, under what standard error says is assumed.
 An overlap or a breach may come of this reading alone: compare with the answer
-without it.
+without it. 'import' reads the profiles in the same way, and writes what it read
+as a bundle: without '--unison' it has the same answers.
 
 Exit status:
   0  safe and no job stopped, verified, certificates, reached or not reached;

@@ -88,6 +88,8 @@ pub enum Query<'a> {
         /// The path, as it was written. It may not be a path.
         path: &'a str,
     },
+    /// A bundle of the profiles' readings for Unison, and of the rules.
+    Import,
 }
 
 impl<'a> Query<'a> {
@@ -98,6 +100,7 @@ impl<'a> Query<'a> {
         match *self {
             Query::About(question) => question.reading(),
             Query::Reach { reading, .. } => reading,
+            Query::Import => Reading::Unison,
         }
     }
 }
@@ -113,7 +116,8 @@ impl<'a> Query<'a> {
 /// `reach PROFILE PATH` takes any two operands, also the empty word and `-`. An operand that begins with `-` and is longer
 /// needs `--` before it.
 ///
-/// By `--unison` the profiles are read for Unison. `check`, `clashes`, `rounds` and `reach` may have it.
+/// By `--unison` the profiles are read for Unison. `check`, `clashes`, `rounds` and `reach` may have it. `import` always reads
+/// them so, and asks for a bundle of their readings.
 ///
 /// An `Err` is `clap`'s: a mistake in the words, a request for help or for the version, or out of memory. Its `Display` is
 /// the text for the user.
@@ -241,7 +245,7 @@ fn stray_operand<'a>(matches: &ArgMatches<'a>) -> Option<&'a str> {
 /// Returns whether a command has a table of hosts and isn't for Unison.
 fn has_stray_hosts(matches: &ArgMatches<'_>) -> bool {
     match matches.subcommand() {
-        Some((_, found)) => is_given(found, "hosts") && !is_set(found, "unison"),
+        Some((name, found)) => is_given(found, "hosts") && !is_for_unison(name, found),
         None => false,
     }
 }
@@ -272,7 +276,7 @@ fn about_files<'a>(name: &str, found: &ArgMatches<'_>) -> Option<Query<'a>>
     ensures { option_map request_of result
         ≡ words.about_files name.now (rows_of (found_of found.now)) }
 {
-    if are_operands(found) && !lacks_profiles(found) {
+    if are_operands(name, found) && !lacks_profiles(found) {
         about(name, found)
     } else {
         None
@@ -314,10 +318,17 @@ fn is_given(found: &ArgMatches<'_>, name: &str) -> bool
 }
 
 /// Returns whether each operand may be one: for Unison a folder too, else the file of a profile, and then without a table of hosts.
-fn are_operands(found: &ArgMatches<'_>) -> bool
-    ensures { result ≡ words.are_operands (rows_of (found_of found.now)) }
+fn are_operands(name: &str, found: &ArgMatches<'_>) -> bool
+    ensures { result ≡ words.are_operands name.now (rows_of (found_of found.now)) }
 {
-    is_set(found, "unison") || (are_profile_files(found) && !is_given(found, "hosts"))
+    is_for_unison(name, found) || (are_profile_files(found) && !is_given(found, "hosts"))
+}
+
+/// Returns whether the command of that name reads the profiles for Unison.
+pub(crate) fn is_for_unison(name: &str, found: &ArgMatches<'_>) -> bool
+    ensures { result ≡ words.is_for_unison name.now (rows_of (found_of found.now)) }
+{
+    is_set(found, "unison") || name == "import"
 }
 
 /// Returns whether all operands are files of profiles.
@@ -345,7 +356,7 @@ fn is_profile_file(file: &str) -> bool
     file.as_bytes().ends_with(b".prf")
 }
 
-/// What a command about the set asks for, by its name and what was found of its options.
+/// What a command that takes files asks for, by its name and what was found of its options.
 fn about<'a>(name: &str, found: &ArgMatches<'_>) -> Option<Query<'a>>
     ensures { option_map request_of result
         ≡ words.about_named name.now (rows_of (found_of found.now)) }
@@ -364,6 +375,9 @@ fn about<'a>(name: &str, found: &ArgMatches<'_>) -> Option<Query<'a>>
     }
     if name == "rounds" {
         return Some(Query::About(Question::Rounds(reading_in(found))));
+    }
+    if name == "import" {
+        return Some(Query::Import);
     }
     if name == "run" {
         return run_by(found);

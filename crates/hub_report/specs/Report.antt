@@ -1,5 +1,5 @@
 -- The text and the status of each answer.
-use Rattle.std.specs.Prelude.{◌≡◌, ◌≢◌, ⊤, ℕ, Bool, List, [], Option, None, codes, string_bytes}
+use Rattle.std.specs.Prelude.{◌≡◌, ◌≢◌, ⊤, ℕ, Bool, true, false, List, [], Option, None, codes, string_bytes}
 use Rattle.hub_cert.specs.Set.{Members}
 use Rattle.hub_cert.specs.declared.fault.CheckFault.{CheckFault}
 use Rattle.hub_cert.specs.declared.fault.CheckFault.TheVariants as fault
@@ -8,6 +8,7 @@ use Rattle.hub_bundle.specs.Input.{some_failed}
 use Rattle.hub_report.specs.declared.report.Report.{Report}
 use Rattle.hub_report.specs.declared.report.Report.TheVariants.{Faulty, Reach, NoState, Refused}
 use Rattle.hub_report.specs.declared.report.Report.TheVariants.{Verdict, Clashes, Run}
+use Rattle.hub_report.specs.declared.report.Report.TheVariants.{Imported, NotImported}
 use Rattle.hub_report.specs.declared.report.Report.TheVariants.{NotVerified, OutOfMemory}
 use Rattle.hub_report.specs.ClashesAnswer as clashes
 use Rattle.hub_report.specs.FaultyInput as input
@@ -25,6 +26,8 @@ text_of (Refused line) = string_bytes line
 text_of (Verdict v) = verdict.text_of v
 text_of (Clashes a) = clashes.text_of a
 text_of (Run a) = run.text_of a
+text_of (Imported text) = text.items
+text_of NotImported = codes "fault: no bundle says what was read\n"
 text_of NotVerified = codes "fault: a round was not verified\n"
 text_of OutOfMemory = codes "fault: out of memory\n"
 
@@ -37,6 +40,8 @@ status_of (Refused line) = 1
 status_of (Verdict v) = 0
 status_of (Clashes a) = clashes.status_of a
 status_of (Run a) = run.status_of a
+status_of (Imported text) = 0
+status_of NotImported = 2
 status_of NotVerified = 2
 status_of OutOfMemory = 2
 
@@ -60,3 +65,12 @@ abbrev pub TellsRefusal : Members → CheckFault → Report → Type 0
 TellsRefusal S e (Refused line) = (e ≢ fault.OutOfMemory) × (string_bytes line ≡ refusal_line S e)
 TellsRefusal S e OutOfMemory = ⊤
 TellsRefusal S e _ = ⊥
+
+-- A fault has no numbers of profiles, rules or goals, so its line is the same for all sets.
+abbrev pub has_no_numbers : CheckFault → Bool
+has_no_numbers fault.TooManyProfiles = true
+has_no_numbers (fault.SameName name) = true
+has_no_numbers (fault.NestedRoots r s) = true
+has_no_numbers (fault.AlphabetFault e) = true
+has_no_numbers fault.OutOfMemory = true
+has_no_numbers _ = false

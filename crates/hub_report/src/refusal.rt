@@ -1,5 +1,5 @@
 //! Refusals of profiles and rules, and the line of each.
-ghost use Rattle.std.specs.Prelude.{◌≡◌, ◌∷◌, [], IfOk, MatchOption, Option, None, Some, codes, slice_get, string_bytes};
+ghost use Rattle.std.specs.Prelude.{◌≡◌, ◌∷◌, [], IfOk, MatchOption, Option, None, Some, true, codes, slice_get, string_bytes};
 ghost use Rattle.std.specs.Fmt.{decimal};
 ghost use Rattle.hub_profile.specs.Parts.{Parts};
 ghost use Rattle.hub_cert.specs.Refused.{IsRefused};
@@ -40,6 +40,8 @@ impl<'a> Report<'a> {
     /// The answer if there is no set, because of that fault. Such a fault has no numbers.
     pub fn refusal_without_set(alloc: Global, fault: &CheckFault) -> Report<'a>
         ensures refusal { (S : Members) → IsRefused S fault.now
+            → report.TellsRefusal S fault.now result }
+        ensures line { (S : Members) → report.has_no_numbers fault.now ≡ true
             → report.TellsRefusal S fault.now result }
         ensures read { report.unread_by result ≡ None }
     {

@@ -31,6 +31,10 @@ pub enum Report<'a> {
     Clashes(ClashesAnswer),
     /// What came of a run.
     Run(RunAnswer),
+    /// The text of a bundle of what was read for Unison.
+    Imported(Vec<u8>),
+    /// No bundle says what was read: it would need more lines or longer patterns than there may be.
+    NotImported,
     /// The check didn't verify a round. Tests show none.
     NotVerified,
     /// Out of memory.
@@ -38,16 +42,20 @@ pub enum Report<'a> {
 }
 
 impl Report<'_> {
-    /// The exit status: 0 if the set is safe, if all of it is in rounds, and for both answers to `reach`; 1 for a refusal, for
-    /// what clashes, and for rounds that leave a profile out or rest on a goal that was too large; 2 for a fault; 3 if jobs
-    /// weren't run or a job was stopped.
+    /// The exit status: 0 if the set is safe, if all of it is in rounds, for both answers to `reach` and for a bundle; 1 for a
+    /// refusal, for what clashes, and for rounds that leave a profile out or rest on a goal that was too large; 2 for a fault; 3 if
+    /// jobs weren't run or a job was stopped.
     pub fn status(&self) -> u8
         ensures { result ≡ report.status_of self.now }
     {
         match self {
-            Report::Verdict(_) => 0,
+            Report::Verdict(_) | Report::Imported(_) => 0,
             Report::Refused(_) => 1,
-            Report::Faulty(_) | Report::NoState | Report::NotVerified | Report::OutOfMemory => 2,
+            Report::Faulty(_)
+            | Report::NoState
+            | Report::NotImported
+            | Report::NotVerified
+            | Report::OutOfMemory => 2,
             Report::Reach(answer) => answer.status(),
             Report::Clashes(answer) => answer.status(),
             Report::Run(answer) => answer.status(),
@@ -64,8 +72,9 @@ impl Report<'_> {
         }
     }
 
-    /// The text that says the answer: its line, the lines of clashes or of rounds, the graph, the certificates' text, or `safe`
-    /// or the number of rounds and below it what the jobs did and the text of the state that they left. It ends with LF.
+    /// The text that says the answer: its line, the lines of clashes or of rounds, the graph, the text of certificates or of a
+    /// bundle, or `safe` or the number of rounds and below it what the jobs did and the text of the state that they left. It ends
+    /// with LF, if it isn't the empty bundle.
     pub fn into_text(self, alloc: Global) -> Result<Blocks, AllocError>
         ensures { IfOk result (λ t. bytes_in t ≡ report.text_of self.entry) }
     {
@@ -77,6 +86,8 @@ impl Report<'_> {
             Report::Verdict(verdict) => verdict.into_text(alloc),
             Report::Clashes(answer) => answer.into_text(alloc),
             Report::Run(answer) => answer.into_text(alloc),
+            Report::Imported(text) => Blocks::new(alloc, text),
+            Report::NotImported => block_of(alloc, "fault: no bundle says what was read\n"),
             Report::NotVerified => block_of(alloc, "fault: a round was not verified\n"),
             Report::OutOfMemory => block_of(alloc, OUT_OF_MEMORY),
         }

@@ -5,26 +5,22 @@ ghost use Rattle.hub_report.specs.Undecided as lines;
 use crate::pair::{Pair, are_joined};
 use crate::parts::push_all;
 use crate::refusal::name_at;
-use hub_cert::{CheckFault, Goal, ProfileSet};
+use hub_cert::{CheckFault, Goal};
 use hub_profile::Profile;
-use hub_rounds::Clashes;
 use std::alloc::{AllocError, Global};
 
 /// The most pairs of profiles that have a line of their own (this project's choice).
 pub const NAMED: usize = 4;
 
 /// Lines for standard error: the two profiles of each clash that was too large to be searched, who writes and who reaches, in
-/// the order of the goals. No two profiles are named twice. The first `NAMED` pairs have a line each, and all others one line.
+/// the order of these faults. No two profiles are named twice. The first `NAMED` pairs have a line each, and all others one line.
 pub fn undecided_pairs(
     alloc: Global,
-    set: &ProfileSet,
-    clashes: &Clashes,
+    profiles: &[Profile],
+    faults: &[CheckFault],
 ) -> Result<String, AllocError>
-    ensures { IfOk result (λ t. string_bytes t
-        ≡ lines.undecided_lines set.now.profiles clashes.now) }
+    ensures { IfOk result (λ t. string_bytes t ≡ lines.undecided_lines profiles.now faults.now) }
 {
-    let profiles = set.profiles();
-    let faults = clashes.lines();
     let mut text = String::new(alloc);
     let mut told = Vec::new(alloc);
     for fault in faults {

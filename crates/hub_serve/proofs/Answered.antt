@@ -7,7 +7,7 @@ use Rattle.std.proofs.lemmas.Option.{none-some, same_Some}
 use Rattle.std.proofs.lemmas.Bool.{false≢true}
 use Rattle.hub_cli.specs.declared.words.Question.TheVariants as ask
 use Rattle.hub_cli.specs.declared.words.Reading.{Reading}
-use Rattle.hub_cli.specs.Words.{Request, about, asked_of, reading_for}
+use Rattle.hub_cli.specs.Words.{Request, about, asked_of, imported, reading_for}
 use Rattle.hub_report.specs.declared.report.Report.{Report}
 use Rattle.hub_report.specs.declared.clashes_answer.ClashesAnswer.{ClashesAnswer}
 use Rattle.hub_report.specs.declared.clashes_answer.ClashesAnswer.TheVariants.{Lines, Graph, Cut}
@@ -25,8 +25,9 @@ use Rattle.hub_bundle.specs.declared.input.InputFault.TheVariants.{TurnsSpent}
 use Rattle.hub_serve.specs.Reads.{Reads}
 use Rattle.hub_serve.specs.Rounds.{BeginsAsClash}
 use Rattle.hub_serve.specs.Report.{Holds, IsWholeUnlessFailed, SpellsClashes, SpellsGraph, SpellsReach, SpellsRounds, SpellsRoundsRun}
-use Rattle.hub_serve.specs.Report.{SpellsSafe, SpellsUnsafe, SpellsVerified, Serves, Answers, AnswersNothing, WritesText}
+use Rattle.hub_serve.specs.Report.{ShowsImport, SpellsSafe, SpellsUnsafe, SpellsVerified, Serves, Answers, AnswersNothing, WritesText}
 use Rattle.hub_serve.proofs.FirstLines.{only_safe, only_clashes, only_graph, only_rounds, only_verified, only_overlaps, only_breaches, only_reached, only_not_reached}
+use Rattle.hub_serve.proofs.Imports.{only_import}
 use Rattle.hub_serve.proofs.InUnison.{unreached-in_unison}
 use Rattle.hub_serve.proofs.Refused.{OverlapsShown, BreachesShown}
 
@@ -82,6 +83,11 @@ module _ (request : Request) (remaining old new : Option (List ℕ)) (reads : Re
       → new ≡ Some (before ++ text) → BeginsAsClash text → SpellsClashes reading bytes text write_failed status
   clashes-written reading text a is e f g b =
       only_clashes reading request bytes a.report a.text text write_failed status (same_Some request (about (ask.Clashes reading)) is) a.is_text (answer-written text a f g) (held a e) b
+
+  imported-written : (text : List ℕ) → Answers request remaining old new reads write_failed status → Some request ≡ Some imported → remaining ≡ Some bytes → old ≡ Some before
+      → new ≡ Some (before ++ text) → status ≡ 0 → ShowsImport bytes text
+  imported-written text a is e f g z =
+      only_import request bytes a.report a.text text write_failed status (same_Some request imported is) a.is_text (answer-written text a f g) (held a e) z
 
   reached-written : (text : List ℕ) → Answers request remaining old new reads write_failed status → remaining ≡ Some bytes → old ≡ Some before
       → new ≡ Some (before ++ (codes "reached\n" ++ text)) → SpellsReach (Some request) bytes true
@@ -165,6 +171,7 @@ serves-answer overlaps breaches request remaining old new reads write_failed sta
   rounds = λ bytes before text e f g. rounds-written request remaining old new reads write_failed status bytes before text a e f g;
   graph = λ bytes before text e f g. graph-written request remaining old new reads write_failed status bytes before text a e f g;
   clashes = λ reading bytes before text is e f g b. clashes-written request remaining old new reads write_failed status bytes before reading text a is e f g b;
+  imported = λ bytes before text is e f g z. imported-written request remaining old new reads write_failed status bytes before text a is e f g z;
   reached = λ bytes before text e f g. reached-written request remaining old new reads write_failed status bytes before text a e f g;
   not_reached = λ bytes before text e f g. not_reached-written request remaining old new reads write_failed status bytes before text a e f g;
 }
@@ -183,6 +190,7 @@ serves-nothing remaining old new reads write_failed status a = record {
   rounds = λ bytes before text e f g. absurd (nothing-written old new status before _ 114 a refl f g);
   graph = λ bytes before text e f g. absurd (nothing-written old new status before _ 103 a refl f g);
   clashes = λ reading bytes before text is e f g b. absurd (none-some (about (ask.Clashes reading)) is);
+  imported = λ bytes before text is e f g z. absurd (none-some imported is);
   reached = λ bytes before text e f g. absurd (nothing-written old new status before _ 114 a refl f g);
   not_reached = λ bytes before text e f g. absurd (nothing-written old new status before _ 110 a refl f g);
 }

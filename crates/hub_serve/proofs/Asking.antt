@@ -56,5 +56,5 @@ asked-clashes reading request state t a is =
 
 -- So no set is refused for a goal then.
 pub unrefused : (reading : Reading) (request : Request) (c : BundleContents) (t : Task) (e : CheckFault) → AsksTask request c.state t → request ≡ about (ask.Clashes reading) → IsRefusedFor t c e → IsRefused (members c) e
-unrefused reading request c t e a is (inl h) = h
+unrefused reading request c t e a is (inl h) = h.0
 unrefused reading request c t e a is (inr h) = absurd (subst (λ u. FaultOf u (members c) c.certificates e) (asked-clashes reading request c.state t a is) h)

@@ -15,6 +15,7 @@ use Rattle.hub_cert.specs.declared.fault.CheckFault.{CheckFault}
 use Rattle.hub_search.specs.Faults.{AreFaults}
 use Rattle.hub_search.specs.Search.{Disproves}
 use Rattle.hub_text.specs.ListLaws.{at-place}
+use Rattle.hub_apart.specs.ApartLines.{AreLines}
 use Rattle.hub_rounds.specs.Rounds.{AreRounds, IsPlaced, is_in_some}
 use Rattle.hub_rounds.specs.RoundsLaws.{refused-round}
 use Rattle.hub_rounds.specs.Unverified.{IsRoundsFault, RefusesRound, is_memory}
@@ -272,9 +273,9 @@ pub unverified-run : (M : Members) (es : List CheckFault) (rounds : Rounds) (e :
 unverified-run M es rounds e all cut h kept =
     let w = at-place rounds.rounds h.0 h.1 in
     let refused = subst (λ (Rs : List Rule). RefusesRound (round_set Rs h.0) e) cut.rules h.2 in
-    record { lines = es; all = all; round = w.0; refused = refused-round M es rounds w.0 h.0 cut w.2 (e, refused, kept) }
+    record { lines = es; all = inl all; round = w.0; refused = refused-round M es rounds w.0 h.0 cut w.2 (e, refused, kept) }
 
 -- And so where a set isn't cut into rounds.
-pub uncut : (M : Members) (es : List CheckFault) (e : RoundsFault) → AreFaults M es → IsRoundsFault M es e → IsUncut M e
+pub uncut : (M : Members) (es : List CheckFault) (e : RoundsFault) → AreLines M es → IsRoundsFault M es e → IsUncut M e
 uncut M es (rounds_fault.NotVerified k) all h = record { lines = es; all = all; round = k; refused = h }
 uncut M es rounds_fault.OutOfMemory all h = tt

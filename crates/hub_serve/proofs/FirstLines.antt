@@ -45,6 +45,7 @@ use Rattle.hub_serve.specs.Rounds.{BeginsAsClash, DrawsClashes, ListsClashes, Wr
 use Rattle.hub_serve.specs.Runs.{HasRunAs, IsBelow, IsPrevented}
 use Rattle.hub_serve.specs.Task.{AsksTask}
 use Rattle.hub_serve.specs.Unison.{SpellsAs}
+use Rattle.hub_serve.proofs.BundleStart.{bundle-start}
 use Rattle.hub_serve.proofs.InUnison.{rounds-in_unison, safe-in_unison}
 use Rattle.hub_serve.proofs.Asking.{asks, unrefused}
 use Rattle.hub_serve.proofs.Refused.{BreachesShown, OverlapsShown, breach-refused, overlap-refused}
@@ -265,6 +266,8 @@ text-means request bytes (answer.Run a) line l h = run-means request bytes a lin
 text-means request bytes (answer.Refused text) line l h =
     subst (λ t. Means request bytes line 1 (start t)) (sym (l ∙ h.told.told.1))
     (refusal-means request bytes line 1 h.contents h.told.to_do h.told.reason h.spelled h.told.asked h.told.refused)
+text-means request bytes (answer.Imported text) line l h =
+    subst (λ t. Means request bytes line 0 t) (sym (ap start l ∙ bundle-start text.items _ h.told.written)) tt
 text-means request bytes _ line l h = subst (λ t. Means request bytes line 2 (start t)) (sym l) tt
 
 -- Of a text whose start is known.

@@ -7,3 +7,5 @@ pub mod Told
 pub mod Unsafe
 pub mod Parts
 pub mod ByRounds
+pub mod BundleStart
+pub mod Imports

@@ -9,6 +9,10 @@ use Rattle.hub_cert.specs.Goals.{is_goal}
 use Rattle.hub_cert.specs.Set.{IsSafeSet, Members}
 use Rattle.hub_cert.specs.declared.goal.Goal.{Goal}
 use Rattle.hub_search.specs.Faults.{AreFaults, HasLine, HasInductiveTexts}
+use Rattle.hub_profile.specs.Parts.{Parts}
+use Rattle.hub_profile.specs.declared.rule.Rule.{Rule}
+use Rattle.hub_apart.specs.Apart.{are_put_apart}
+use Rattle.hub_apart.specs.ApartLines.{AreLines, AreLinesApart, IsRefusedApart}
 use Rattle.hub_search.specs.Search.{Disproves}
 use Rattle.hub_state.specs.State.{State}
 use Rattle.hub_report.specs.Graph.{graph_text}
@@ -19,6 +23,7 @@ use Rattle.hub_cli.specs.declared.words.Question.TheVariants.{Certify, Verify, R
 use Rattle.hub_cert.specs.Refused.{IsRefused}
 use Rattle.hub_cert.specs.declared.certificate.Certificate.{Certificate}
 use Rattle.hub_cert.specs.declared.fault.CheckFault.{CheckFault}
+use Rattle.hub_cert.specs.declared.fault.CheckFault.TheVariants as fault
 use Rattle.hub_bundle.specs.declared.sections.BundleContents.{BundleContents}
 use Rattle.hub_bundle.specs.Sections.{Spells, members}
 use Rattle.hub_cli.specs.declared.words.Reading.{Reading}
@@ -29,9 +34,10 @@ use Rattle.hub_report.specs.declared.faulty_input.FaultyInput.TheVariants.{BadBu
 use Rattle.hub_report.specs.declared.report.Report.{Report}
 use Rattle.hub_report.specs.declared.reach_answer.ReachAnswer.TheVariants.{BadPath}
 use Rattle.hub_report.specs.declared.report.Report.TheVariants.{Faulty, Reach, NoState, Refused, OutOfMemory}
+use Rattle.hub_report.specs.declared.report.Report.TheVariants.{Imported, NotImported}
 use Rattle.hub_serve.specs.declared.task.Task.{Task}
-use Rattle.hub_report.specs.Report.{TellsRefusal}
-use Rattle.hub_serve.specs.Report.{FaultOf, HasBadPath, Holds, IsTold, IsToldOfSet, IsUnspelled}
+use Rattle.hub_report.specs.Report.{TellsRefusal, has_no_numbers}
+use Rattle.hub_serve.specs.Report.{FaultOf, HasBadPath, Holds, IsTold, IsToldOfSet, IsUnspelled, puts_apart}
 use Rattle.hub_serve.specs.Rounds.{DrawsClashes}
 use Rattle.hub_serve.specs.Task.{AsksTask, LacksState, task_of}
 use Rattle.hub_serve.specs.Unison.{SpellsAs, SpellsCounted, counted_as}
@@ -41,12 +47,26 @@ use Rattle.hub_text.specs.ListLaws.{some-item}
 asks-for : (q : Question) (c : BundleContents) (to_do : Task) → task_of q c.state ≡ Some to_do → AsksTask (about q) c.state to_do
 asks-for q c to_do is = record { of_set = q; asked = refl; task_is = is }
 
--- Profiles that are no set are refused, whatever is to be done.
+-- Profiles that are no set are refused, whatever is to be done, unless they are put apart.
 pub refusal-told : (q : Question) (c : BundleContents) (to_do : Task) → task_of q c.state ≡ Some to_do → (e : CheckFault) (r : Report) → IsRefused (members c) e
-    → TellsRefusal (members c) e r → IsTold (about q) c r
-refusal-told q c to_do is e (Refused t) i h = record { to_do = to_do; asked = asks-for q c to_do is; reason = e; refused = inl i; told = h }
-refusal-told q c to_do is e OutOfMemory i h = tt
-refusal-told q c to_do is e _ i h = absurd h
+    → puts_apart to_do (members c) ≡ false → TellsRefusal (members c) e r → IsTold (about q) c r
+refusal-told q c to_do is e (Refused t) i stays h = record { to_do = to_do; asked = asks-for q c to_do is; reason = e; refused = inl (i, stays); told = h }
+refusal-told q c to_do is e OutOfMemory i stays h = tt
+refusal-told q c to_do is e _ i stays h = absurd h
+
+-- What keeps profiles that are put apart from being searched has no numbers.
+pub apart-no_numbers : (S : Members) (e : CheckFault) → IsRefusedApart S e → has_no_numbers e ≡ true
+apart-no_numbers S e (inl h) = ap has_no_numbers h
+apart-no_numbers S e (inr (inl h)) = ap has_no_numbers h.0
+apart-no_numbers S e (inr (inr h)) = refused-no_numbers h.0 e h.2
+  where
+    refused-no_numbers : (T : Members) (e : CheckFault) → IsRefused T e → has_no_numbers e ≡ true
+    refused-no_numbers T fault.TooManyProfiles h = refl
+    refused-no_numbers T (fault.SameName name) h = refl
+    refused-no_numbers T (fault.NestedRoots r s) h = refl
+    refused-no_numbers T (fault.AlphabetFault f) h = refl
+    refused-no_numbers T fault.OutOfMemory h = refl
+    refused-no_numbers T _ h = absurd h
 
 -- What is true of a set is true of the bundle that has it.
 pub set-told : (q : Question) (c : BundleContents) (to_do : Task) → task_of q c.state ≡ Some to_do → (r : Report) → IsToldOfSet to_do (members c) c.certificates r
@@ -55,8 +75,30 @@ set-told q c to_do is (Faulty f) h = absurd h
 set-told q c to_do is (Reach a) h = absurd h
 set-told q c to_do is NoState h = absurd h
 set-told q c to_do is (Refused t) h = record { to_do = to_do; asked = asks-for q c to_do is; reason = h.0; refused = inr h.1; told = h.2 }
+set-told q c to_do is (Imported t) h = absurd h
+set-told q c to_do is NotImported h = absurd h
 set-told q c to_do is OutOfMemory h = tt
 set-told q c to_do is _ h = record { to_do = to_do; asked = asks-for q c to_do is; told = h }
+
+-- Where profiles are put apart, rounds were to be told.
+puts-apart : (t : Task) (S : Members) → puts_apart t S ≡ true → (t ≡ task.Rounds) × (are_put_apart S ≡ true)
+puts-apart task.Rounds S h = (refl, h)
+puts-apart _ S h = absurd (false≢true h)
+
+pub apart-told : (q : Question) (c : BundleContents) (to_do : Task) → task_of q c.state ≡ Some to_do → (r : Report) → puts_apart to_do (members c) ≡ true
+    → (are_put_apart (members c) ≡ true → IsToldOfSet task.Rounds (members c) c.certificates r) → IsTold (about q) c r
+apart-told q c to_do is r put h =
+    let p = puts-apart to_do (members c) put in
+    set-told q c to_do is r (subst (λ t. IsToldOfSet t (members c) c.certificates r) (sym p.0) (h p.1))
+
+-- The lines of profiles and rules are those of a set that has them.
+pub apart-lines : (S : Members) (Ps : List Parts) (Rs : List Rule) (es : List CheckFault) → S.profiles ≡ Ps → S.rules ≡ Rs → are_put_apart S ≡ true
+    → AreLinesApart (record { profiles = Ps; rules = Rs }) es → AreLines S es
+apart-lines S Ps Rs es ps rs put h = inr (put, subst (λ (M : Members). AreLinesApart M es) (λ i. record { profiles = sym ps i; rules = sym rs i }) h)
+
+pub apart-refused : (S : Members) (Ps : List Parts) (Rs : List Rule) (e : CheckFault) → S.profiles ≡ Ps → S.rules ≡ Rs
+    → IsRefusedApart (record { profiles = Ps; rules = Rs }) e → IsRefusedApart S e
+apart-refused S Ps Rs e ps rs h = subst (λ (M : Members). IsRefusedApart M e) (λ i. record { profiles = sym ps i; rules = sym rs i }) h
 
 -- A set that is refused for a fault of it was to be told so.
 pub refused-told : (t : Task) (S : Members) (cs : List Certificate) (e : CheckFault) (r : Report) → FaultOf t S cs e → TellsRefusal S e r → IsToldOfSet t S cs r

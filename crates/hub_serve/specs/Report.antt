@@ -16,6 +16,8 @@ use Rattle.hub_cert.specs.declared.certificate.Certificate.{Certificate}
 use Rattle.hub_cert.specs.declared.fault.CheckFault.{CheckFault}
 use Rattle.hub_cert.specs.declared.fault.CheckFault.TheVariants as fault
 use Rattle.hub_search.specs.Search.{IsFirstFault}
+use Rattle.hub_apart.specs.Apart.{are_put_apart}
+use Rattle.hub_apart.specs.ApartLines.{IsRefusedApart}
 use Rattle.hub_bundle.specs.declared.input.TheConstants.{READ_TURNS}
 use Rattle.hub_bundle.specs.declared.input.InputFault.{InputFault}
 use Rattle.hub_bundle.specs.declared.input.InputFault.TheVariants as input
@@ -45,6 +47,7 @@ use Rattle.hub_report.specs.declared.verdict.Verdict.TheVariants.{Safe, Verified
 use Rattle.hub_serve.specs.declared.task.Task.{Task}
 use Rattle.hub_serve.specs.declared.task.Task.TheVariants as task
 use Rattle.hub_serve.specs.Reached.{first_named}
+use Rattle.hub_import.specs.Imported.{contents_of}
 use Rattle.hub_report.specs.RoundsRun.{rounds_run_text}
 use Rattle.hub_report.specs.declared.rounds_run.RoundsRun.{RoundsRun}
 use Rattle.hub_state.specs.State.{State}
@@ -199,7 +202,24 @@ pub record HasBadPath (request : Request) (Ps : List Parts) (f : PathFault) : Ty
   pub profile_is : first_named profile Ps ≡ Some P
   pub fault : path_reading (chars path) ≡ Err f
 
--- The fault by which a set that was made is refused, where these are the bundle's certificates.
+-- The text is a bundle. Read plainly, it says the readings for Unison of the profiles that the
+-- bytes spell, and their rules, and neither a state nor certificates. If these are a safe set, then
+-- by the lines of the bytes that count no two of the own profiles clash in Unison, and Unison breaks
+-- none of the rules.
+pub record ShowsImport (bytes text : List ℕ) : Type 0 where
+  pub contents : BundleContents
+  pub spelled : SpellsAs read.Unison bytes contents
+  pub written : Spells text (contents_of contents.profiles contents.rules)
+  pub in_unison : IsSafeSet (members contents) → SpellsSafeInUnison bytes
+
+-- Profiles and rules that are no set are cut into rounds all the same, if that is to be done and
+-- nested roots of profiles are all that keeps them from being one.
+abbrev pub puts_apart : Task → Members → Bool
+puts_apart task.Rounds S = are_put_apart S
+puts_apart _ S = false
+
+-- The fault by which a set that was made is refused, where these are the bundle's certificates, or
+-- by which profiles that are put apart are.
 abbrev pub FaultOf : Task → Members → List Certificate → CheckFault → Type 0
 FaultOf task.Check S cs e = (e ≡ fault.OutOfMemory) ⊎ IsFirstFault S e
 FaultOf (task.RunJobs n state) S cs e = (e ≡ fault.OutOfMemory) ⊎ IsFirstFault S e
@@ -208,7 +228,7 @@ FaultOf task.Certify S cs e = (e ≡ fault.OutOfMemory) ⊎ IsFirstFault S e
 FaultOf task.Verify S cs e = Refuses S cs e
 FaultOf task.Clashes S cs e = ⊥
 FaultOf task.Graph S cs e = ⊥
-FaultOf task.Rounds S cs e = ⊥
+FaultOf task.Rounds S cs e = (are_put_apart S ≡ true) × IsRefusedApart S e
 
 -- The text is that of certificates of a set, one for each goal and in the order of the goals, and
 -- it is read as these.
@@ -249,9 +269,11 @@ IsToldOfSet t S cs answer.NotVerified = ((t ≡ task.Rounds) ⊎ RunsByRounds t)
 IsToldOfSet t S cs answer.OutOfMemory = ⊤
 IsToldOfSet t S cs _ = ⊥
 
--- The profiles and rules are no set, or the set is refused.
+-- The profiles and rules are no set and aren't put apart, or the set is refused.
 abbrev pub IsRefusedFor : Task → BundleContents → CheckFault → Type 0
-IsRefusedFor t c e = IsRefused (members c) e ⊎ FaultOf t (members c) c.certificates e
+IsRefusedFor t c e =
+    (IsRefused (members c) e × (puts_apart t (members c) ≡ false))
+    ⊎ FaultOf t (members c) c.certificates e
 
 -- It was asked to do this about the set, which is refused.
 pub record IsToldRefused (request : Request) (c : BundleContents) (r : Report) : Type 0 where
@@ -275,12 +297,19 @@ IsToldOfReach request Ps NotReached = ReachIs request Ps false
 IsToldOfReach request Ps (NoProfile name) = LacksProfile request Ps name.now
 IsToldOfReach request Ps (BadPath f) = HasBadPath request Ps f
 
+-- It was asked for a bundle of what the bundle says, and this is the text of one.
+pub record IsImported (request : Request) (c : BundleContents) (text : List ℕ) : Type 0 where
+  pub asked : request ≡ question.imported
+  pub written : Spells text (contents_of c.profiles c.rules)
+
 -- What holds of the question and of what the bundle says where the program answers so to a bundle
 -- that was read.
 abbrev pub IsTold : Request → BundleContents → Report → Type 0
 IsTold request c (answer.Faulty f) = ⊥
 IsTold request c (answer.Reach a) = IsToldOfReach request c.profiles a
 IsTold request c answer.NoState = LacksState request c.state
+IsTold request c (answer.Imported text) = IsImported request c text.items
+IsTold request c answer.NotImported = request ≡ question.imported
 IsTold request c (answer.Refused t) = IsToldRefused request c (answer.Refused t)
 IsTold request c answer.OutOfMemory = ⊤
 IsTold request c r = IsToldAbout request c r
@@ -404,6 +433,11 @@ pub record Serves (asked : Option Request) (remaining old new : Option (List ℕ
       → asked ≡ Some (question.about (ask.Clashes reading))
       → remaining ≡ Some bytes → old ≡ Some before → new ≡ Some (before ++ text)
       → BeginsAsClash text → SpellsClashes reading bytes text write_failed status
+  -- what is written for `import` with status 0 only if it is a bundle that says, read plainly, what
+  -- the input says for Unison,
+  pub imported : (bytes before text : List ℕ) → asked ≡ Some question.imported
+      → remaining ≡ Some bytes → old ≡ Some before → new ≡ Some (before ++ text)
+      → status ≡ 0 → ShowsImport bytes text
   -- and `reached` and `not reached` only if the words ask for `reach` and that is the answer.
   pub reached : (bytes before text : List ℕ) → remaining ≡ Some bytes → old ≡ Some before
       → new ≡ Some (before ++ (codes "reached\n" ++ text)) → SpellsReach asked bytes true

@@ -8,6 +8,7 @@ use Rattle.hub_cert.specs.declared.fault.CheckFault.TheVariants as fault
 use Rattle.hub_cert.specs.declared.goal.Goal.{Goal}
 use Rattle.hub_search.specs.Faults.{AreFaults, HasLine, HasInductiveTexts}
 use Rattle.hub_search.specs.Search.{Disproves, IsFirstFault}
+use Rattle.hub_apart.specs.ApartLines.{AreLines}
 use Rattle.hub_rounds.specs.Rounds.{AreRounds}
 use Rattle.hub_rounds.specs.Unverified.{HasRefusedRound}
 use Rattle.hub_rounds.specs.declared.fault.RoundsFault.{RoundsFault}
@@ -49,10 +50,11 @@ is_too_large other = false
 abbrev pub is_decided : List CheckFault → Rounds → Bool
 is_decided es r = length r.left == 0 && not (list_any is_too_large es)
 
--- A text is that of rounds of a set, which rest on what clashes in it.
+-- A text is that of rounds of a set, which rest on what clashes in it. They may also be rounds of
+-- profiles that are put apart: two with nested roots have a line, as if they clashed.
 pub record WritesRounds (S : Members) (text : List ℕ) (decided : Bool) : Type 0 where
   pub lines : List CheckFault
-  pub all : AreFaults S lines
+  pub all : AreLines S lines
   pub rounds : Rounds
   pub cut : AreRounds S lines rounds
   pub text_is : text ≡ rounds_text rounds
@@ -61,7 +63,7 @@ pub record WritesRounds (S : Members) (text : List ℕ) (decided : Bool) : Type 
 -- A set is cut into rounds by what clashes in it, and the check refuses one of them.
 pub record HasUnverifiedRound (S : Members) : Type 0 where
   pub lines : List CheckFault
-  pub all : AreFaults S lines
+  pub all : AreLines S lines
   pub round : ℕ
   pub refused : HasRefusedRound S lines (NotVerified round)
 

@@ -8,6 +8,7 @@ ghost use Rattle.hub_serve.specs.Reads.{AreSpent, reads_between};
 ghost use Rattle.hub_serve.specs.Report as report;
 ghost use Rattle.hub_serve.specs.Unison.{IsReadAs, SpellsAs, SpellsCounted};
 
+use crate::import::report_on_import;
 use crate::progress::Progress;
 use crate::reach::report_on_reach;
 use crate::reading::{counted_as, read_as};
@@ -150,6 +151,7 @@ fn report_on_contents<'a, T: Threads + Wait + Sync, P: Progress + Sync>(
             profile,
             path,
         } => report_on_reach(alloc, &contents, reading, profile, path),
+        Query::Import => report_on_import(alloc, &contents),
     }
 }
 

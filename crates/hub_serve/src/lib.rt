@@ -15,7 +15,8 @@
 //!   readings of `hub_unison` stand in the place of its profiles (`reading`).
 //! - The set of the profiles and rules is made, and is checked or its certificates are verified (`task`, `verdict`); or one
 //!   profile is asked whether it reaches a path (`reach`).
-//! - Or all that clashes in the set is listed or drawn, or it is cut into rounds (`rounds`).
+//! - Or all that clashes in the set is listed or drawn, or it is cut into rounds (`rounds`). Or a bundle is written of what was read
+//!   for Unison (`import`).
 //! - The jobs of a safe set are run on the bundle's state (`run`), or the rounds of a set are run one after another
 //!   (`by_rounds`).
 //! - The answer is a `Report` of `hub_report`. It is written as one line, as the certificates' text, or as `safe` and below it
@@ -42,6 +43,7 @@
 
 mod answer;
 mod by_rounds;
+mod import;
 pub mod laws;
 mod program;
 mod progress;

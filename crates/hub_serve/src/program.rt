@@ -57,7 +57,7 @@ pub fn serve_process<
 ///
 /// The first word is the program's name. The status is
 /// - 0 if the profiles and rules of the bundle are a safe set, and each job that was run is finished; if all of it is in
-///   rounds; and for both answers to `reach`;
+///   rounds; for both answers to `reach`; and if a bundle was written of it;
 /// - 1 if they are refused, or something clashes; if a profile is in no round, or a goal was too large;
 /// - 2 for a fault, if a write or the flush of the output failed, and if the words ask for nothing. In the last case the
 ///   input isn't read, and `clap`'s text goes to standard error: help, the version, or what is wrong with the words;

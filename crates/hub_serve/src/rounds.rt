@@ -1,19 +1,26 @@
 //! What clashes in a set, and its rounds.
-ghost use Rattle.std.specs.Prelude.{◌≡◌, List, None, IfErr, IfOk, string_bytes};
+ghost use Rattle.std.specs.Prelude.{◌≡◌, List, None, IfErr, IfOk, string_bytes, true};
 ghost use Rattle.std.specs.List.{list_any};
 ghost use Rattle.hub_cert.specs.declared.certificate.Certificate.{Certificate};
+ghost use Rattle.hub_cert.specs.Set.{Members};
+ghost use Rattle.hub_apart.specs.Apart as apart;
+ghost use Rattle.hub_apart.specs.ApartLines.{AreLines, AreLinesApart};
+ghost use Rattle.hub_rounds.specs.Rounds.{AreRounds};
 ghost use Rattle.hub_report.specs.Report.{unread_by};
 ghost use Rattle.hub_serve.specs.Report as report;
 ghost use Rattle.hub_serve.specs.Rounds as rounds;
 ghost use Rattle.hub_serve.specs.Rounds.{DrawsClashes, IsUncut, WritesRounds};
 ghost use Rattle.hub_serve.specs.declared.task.Task.TheVariants as task;
 
+use hub_apart::{Apart, lines_apart};
 use hub_cert::{CheckFault, ProfileSet};
+use hub_profile::{Profile, Rules};
 use hub_report::{
     ClashesAnswer, Cut, Graph, Report, Verdict, graph_of_clashes, lines_of_clashes, text_of_rounds,
     undecided_pairs,
 };
-use hub_rounds::{Rounds, RoundsFault, clashes_of, rounds_of};
+use hub_rounds::{Rounds, RoundsFault, clashes_of, rounds_by_lines, rounds_of};
+use hub_text::Items;
 use std::alloc::{AllocError, Global};
 
 /// The answer with all that clashes in a set and all that breaks a rule, or that it is safe if nothing does.
@@ -59,7 +66,35 @@ pub fn report_on_rounds<'a>(alloc: Global, set: ProfileSet) -> Report<'a>
     ensures told { (cs : List Certificate) → report.IsToldOfSet task.Rounds set cs result }
     ensures read { unread_by result ≡ None }
 {
-    match cut(alloc, set) {
+    report_on_cut(cut(alloc, set))
+}
+
+/// The answer with the rounds of profiles that are put apart, or why one or two of them are no set.
+pub fn report_on_rounds_apart<'a>(
+    alloc: Global,
+    profiles: Items<Profile>,
+    rules: Rules,
+) -> Report<'a>
+    ensures told { (S : Members) → S.profiles ≡ profiles → S.rules ≡ rules
+        → apart.are_put_apart S ≡ true → (cs : List Certificate)
+        → report.IsToldOfSet task.Rounds S cs result }
+    ensures read { unread_by result ≡ None }
+{
+    match lines_apart(alloc, profiles, rules) {
+        Ok(found) => report_on_cut(cut_apart(alloc, found)),
+        Err(fault) => Report::refusal_without_set(alloc, &fault),
+    }
+}
+
+/// The answer with a cut, or that a round wasn't verified.
+fn report_on_cut<'a>(made: Result<Cut, RoundsFault>) -> Report<'a>
+    ensures told { (S : Members)
+        → IfOk made (λ c. WritesRounds S (string_bytes c.text) c.decided)
+        → IfErr made (IsUncut S) → (cs : List Certificate)
+        → report.IsToldOfSet task.Rounds S cs result }
+    ensures read { unread_by result ≡ None }
+{
+    match made {
         Ok(cut) => Report::Clashes(ClashesAnswer::Cut(cut)),
         Err(RoundsFault::NotVerified { .. }) => Report::NotVerified,
         Err(RoundsFault::OutOfMemory) => Report::OutOfMemory,
@@ -72,10 +107,40 @@ fn cut(alloc: Global, set: ProfileSet) -> Result<Cut, RoundsFault>
     ensures uncut { IfErr result (IsUncut set) }
 {
     let clashes = clashes_of(alloc, &set)?;
-    let undecided = undecided_pairs(alloc, &set, &clashes)?;
+    let undecided = undecided_pairs(alloc, set.profiles(), clashes.lines())?;
     let rounds = rounds_of(alloc, set, &clashes)?;
-    let decided = is_decided(clashes.lines(), &rounds);
-    let text = text_of_rounds(alloc, &rounds)?;
+    Ok(cut_of(alloc, clashes.lines(), &rounds, undecided)?)
+}
+
+/// Cuts profiles that are put apart into rounds.
+fn cut_apart(alloc: Global, found: Apart) -> Result<Cut, RoundsFault>
+    ensures cut { (S : Members) → S.profiles ≡ found.profiles → S.rules ≡ found.rules
+        → AreLines S found.lines → IfOk result (λ c. WritesRounds S (string_bytes c.text) c.decided) }
+    ensures uncut { (S : Members) → S.profiles ≡ found.profiles → S.rules ≡ found.rules
+        → AreLines S found.lines → IfErr result (IsUncut S) }
+{
+    let Apart {
+        profiles,
+        rules,
+        lines,
+    } = found;
+    let undecided = undecided_pairs(alloc, profiles.as_slice(), lines.as_slice())?;
+    let rounds = rounds_by_lines(alloc, profiles, rules, lines.as_slice())?;
+    Ok(cut_of(alloc, lines.as_slice(), &rounds, undecided)?)
+}
+
+/// The text of rounds by these lines, and whether all was decided.
+fn cut_of(
+    alloc: Global,
+    lines: &[CheckFault],
+    found: &Rounds,
+    undecided: String,
+) -> Result<Cut, AllocError>
+    ensures { (S : Members) → AreLines S lines.now → AreRounds S lines.now found.now
+        → IfOk result (λ c. WritesRounds S (string_bytes c.text) c.decided) }
+{
+    let decided = is_decided(lines, found);
+    let text = text_of_rounds(alloc, found)?;
     Ok(Cut {
         text,
         decided,

@@ -1,6 +1,7 @@
 //! Answers about the set of a bundle's profiles and rules.
 ghost use Rattle.std.specs.Prelude.{◌≡◌, List, None, IfOk, IfErr};
 ghost use Rattle.hub_cert.specs.declared.certificate.Certificate.{Certificate};
+ghost use Rattle.hub_cert.specs.Set.{Members};
 ghost use Rattle.hub_report.specs.Report.{unread_by};
 ghost use Rattle.hub_cli.specs.Words.{about};
 ghost use Rattle.hub_serve.specs.Report as report;
@@ -9,12 +10,14 @@ ghost use Rattle.hub_serve.specs.declared.task.Task.TheVariants as task;
 
 use crate::by_rounds::report_on_run_by_rounds;
 use crate::progress::{Goals, Progress};
-use crate::rounds::{report_on_clashes, report_on_graph, report_on_rounds};
+use crate::rounds::{report_on_clashes, report_on_graph, report_on_rounds, report_on_rounds_apart};
 use crate::run::run_set;
 use crate::task::Task;
+use hub_apart::are_put_apart;
 use hub_bundle::BundleContents;
 use hub_cert::{Certificate, CheckFault, ProfileSet, verify, write_certificates};
 use hub_cli::Question;
+use hub_profile::{Profile, Rule};
 use hub_report::{Report, Verdict};
 use hub_search::{certificates, check_with_progress};
 use hub_state::State;
@@ -23,7 +26,7 @@ use std::sync::Wait;
 use std::thread::Threads;
 
 /// The answer to a question about the set. A run without a state is a fault, whatever the profiles and rules are. If these
-/// are no set, they are refused, whatever the question is.
+/// are no set, they are refused, whatever the question is, unless rounds may put them apart.
 pub fn report_on_set<'a, T: Threads + Wait + Sync, P: Progress + Sync>(
     rt: &T,
     alloc: Global,
@@ -43,9 +46,23 @@ pub fn report_on_set<'a, T: Threads + Wait + Sync, P: Progress + Sync>(
     let Some(task) = Task::for_question(question, state) else {
         return Report::NoState;
     };
+    if puts_apart(&task, profiles.as_slice(), rules.as_slice()) {
+        return report_on_rounds_apart(alloc, profiles, rules);
+    }
     match ProfileSet::new(alloc, profiles, rules) {
         Ok(set) => report_on_made(rt, alloc, task, set, certificates.as_slice(), progress),
         Err(fault) => Report::refusal_without_set(alloc, &fault),
+    }
+}
+
+/// Whether rounds are asked for, and nested roots of profiles are all that keeps these from being a set.
+fn puts_apart(task: &Task, profiles: &[Profile], rules: &[Rule]) -> bool
+    ensures { (S : Members) → S.profiles ≡ profiles.now → S.rules ≡ rules.now
+        → result ≡ report.puts_apart task.now S }
+{
+    match task {
+        Task::Rounds => are_put_apart(profiles, rules),
+        _ => false,
     }
 }
 

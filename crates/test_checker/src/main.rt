@@ -1,5 +1,5 @@
 //! Answers questions about sets of profiles, goals, certificates and searches. `stdin` has the questions, and `stdout` the
-//! answers, which were worked out by hand from the rules; so the program is a test of `hub_cert` and `hub_search`.
+//! answers, which were worked out by hand from the rules; so the program is a test of `hub_cert`, `hub_search`, `hub_rounds` and `hub_apart`.
 //!
 //! Each line of the input is a question, as `test_kit` says: a word and its fields.
 //!
@@ -15,6 +15,7 @@
 //! - `check SET`: what `check` says of the set.
 //! - `clashes SET`: what each goal of the set shows, if it isn't ruled out (`rounds`).
 //! - `rounds SET`: the profiles of each round, then those that are in none, and how many rounds are needed.
+//! - `apart SET`: the same where roots of profiles are nested; `not apart` if that isn't all that keeps these from being a set.
 //!
 //! A fault is shown as `faults` says. Tests in a table that is read cost no proof, as tests in code do.
 #![tactic(auto)]
@@ -52,6 +53,7 @@ fn answer(alloc: Global, word: &str, fields: &str) -> Result<String> {
         "check" => searches::check_answer(alloc, fields),
         "clashes" => rounds::clashes_answer(alloc, fields),
         "rounds" => rounds::rounds_answer(alloc, fields),
+        "apart" => rounds::apart_answer(alloc, fields),
         _ => bail!("no question: {word}"),
     }
 }

@@ -1,9 +1,14 @@
 //! What clashes in a set, and its rounds.
 use crate::faults::fault_text;
-use crate::sets::set_of;
+use crate::sets::{members_of, set_of};
 use anyhow::{Result, bail};
-use hub_profile::Profile;
-use hub_rounds::{Clashes, Obstacle, Placed, Placing, Rounds, RoundsFault, clashes_of, rounds_of};
+use hub_apart::{Apart, are_put_apart, lines_apart};
+use hub_cert::CheckFault;
+use hub_profile::{Profile, Rules};
+use hub_rounds::{
+    Clashes, Obstacle, Placed, Placing, Rounds, RoundsFault, clashes_of, rounds_by_lines, rounds_of,
+};
+use hub_text::Items;
 use std::alloc::{AllocError, Global};
 use test_kit::{joined, shown};
 
@@ -24,6 +29,38 @@ fn clashes_text(alloc: Global, clashes: &Clashes) -> Result<String> {
         " / ",
         |line| Ok(fault_text(alloc, line)?),
     )
+}
+
+/// The profiles of each round, how many rounds are needed, and who is in none, where roots of profiles may be nested; or `not apart`
+/// if none are, or something else keeps these from being a set.
+pub(crate) fn apart_answer(alloc: Global, fields: &str) -> Result<String> {
+    let (profiles, rules) = members_of(alloc, fields)?;
+    if !are_put_apart(profiles.as_slice(), rules.as_slice()) {
+        return shown(alloc, &"not apart");
+    }
+    apart_text(alloc, lines_apart(alloc, profiles, rules))
+}
+
+fn apart_text(alloc: Global, searched: Result<Apart, CheckFault>) -> Result<String> {
+    match searched {
+        Ok(
+            Apart {
+                profiles,
+                rules,
+                lines,
+            },
+        ) => cut_text(alloc, profiles, rules, lines.as_slice()),
+        Err(fault) => Ok(fault_text(alloc, &fault)?),
+    }
+}
+
+fn cut_text(
+    alloc: Global,
+    profiles: Items<Profile>,
+    rules: Rules,
+    lines: &[CheckFault],
+) -> Result<String> {
+    made_text(alloc, &rounds_by_lines(alloc, profiles, rules, lines))
 }
 
 /// The profiles of each round, how many rounds are needed, and who is in none.

@@ -43,7 +43,7 @@ pub(crate) fn set_of(alloc: Global, fields: &str) -> Result<Box<ProfileSet>> {
 }
 
 /// Reads the profiles and the rules of these fields.
-fn members_of(alloc: Global, fields: &str) -> Result<(Items<Profile>, Rules)> {
+pub(crate) fn members_of(alloc: Global, fields: &str) -> Result<(Items<Profile>, Rules)> {
     let mut profiles = Items::new(alloc);
     let mut rules = Rules::new(alloc);
     for field in fields.split(" | ") {

@@ -1,4 +1,4 @@
-use Rattle.std.proofs.Common.{inr, refl, subst}
+use Rattle.std.proofs.Common.{inl, inr, refl, subst}
 use Rattle.std.proofs.lemmas.Result.{IfErr-weaker, IfOk-weaker}
 use Rattle.hub_serve.specs.Rounds.{IsUncut}
 use Rattle.hub_serve.proofs.ByRounds.{set-run, uncut, unverified-run}
@@ -19,5 +19,5 @@ pub returns-in-Err-NotVerified-clause-told : goal.returns-in-Err-NotVerified-cla
 returns-in-Err-NotVerified-clause-told g c = λ all f cs.
     let n = c.in-Err-NotVerified in (
       inr (c.args.workers, c.args.state, refl),
-      subst (IsUncut c.args.set) n.field-0-is (uncut c.args.set c.args.clashes.now n.field-0 all n.ensures.refused),
+      subst (IsUncut c.args.set) n.field-0-is (uncut c.args.set c.args.clashes.now n.field-0 (inl all) n.ensures.refused),
     )

@@ -1,0 +1,190 @@
+#!/usr/bin/env bash
+# Asks whether the bundles that `import` writes have the answers that the profiles have with `--unison`. ./test calls this script.
+#
+#     examples/imports.sh [PROGRAM]
+#
+# PROGRAM is the built program (crates/hubsync/out/hubsync if left out). Asked about are the inputs of answers/unison.txt and
+# answers/imports.txt, the profiles of office/ and manual/, each by itself and all of a folder, also with rules, and profiles at random.
+# `check`, `clashes` and `rounds` of what was imported answer as the same command with `--unison` does, with the same status; so does
+# `verify` of certificates for it, if it is safe. A fault is the same. What is imported again has the same answer, and if it ignores
+# nothing it is the same, byte for byte. A line is printed for each that is wrong. The status is 1 if there was one, else 0.
+set -euo pipefail
+if [ "${1:-}" = --help ]; then
+    sed -n '2,/^set /{ /^#/s/^# \{0,1\}//p }' "${BASH_SOURCE[0]}"
+    exit 0
+fi
+folder=$(dirname "$(readlink -f "${BASH_SOURCE[0]}")")
+program=$(readlink -m -- "${1:-$folder/../crates/hubsync/out/hubsync}")
+asked=0
+wrong=0
+
+complain() {
+    echo "imports: $*"
+    wrong=$((wrong + 1))
+}
+
+# Runs the program with these words on the file `input`, and leaves its answer and its status in a file.
+#
+#     answer FILE WORD..
+answer() {
+    local status=0
+    "$program" "${@:2}" <"$room/input" >"$room/$1" 2>/dev/null || status=$?
+    echo "status $status" >>"$room/$1"
+}
+
+# Compares two files.
+#
+#     compare WHAT FILE FILE
+compare() {
+    asked=$((asked + 1))
+    cmp -s "$room/$2" "$room/$3" || complain "$1: $(diff -a "$room/$2" "$room/$3" | sed -n '2{p;q}')"
+}
+
+# Compares the answers for Unison with those to what is imported. The words name files, or the input is the file `bundle`.
+#
+#     ask PLACE WORD..
+ask() {
+    local place=$1 command status=0
+    shift
+    cp "$room/bundle" "$room/input"
+    "$program" import "$@" <"$room/input" >"$room/imported" 2>/dev/null || status=$?
+    answer wanted check --unison "$@"
+    if [ "$status" != 0 ]; then
+        cp "$room/imported" "$room/got"
+        echo "status $status" >>"$room/got"
+        compare "$place: the fault" wanted got
+        return
+    fi
+    for command in check clashes rounds; do
+        cp "$room/bundle" "$room/input"
+        answer wanted "$command" --unison "$@"
+        cp "$room/imported" "$room/input"
+        answer got "$command"
+        compare "$place: $command" wanted got
+    done
+    ask_again "$place"
+    ask_certificates "$place"
+}
+
+# Compares what is imported with what is imported again.
+ask_again() {
+    cp "$room/imported" "$room/input"
+    if grep -q '^ignore' "$room/imported"; then
+        answer wanted check
+        answer got check --unison
+        compare "$1: imported again" wanted got
+    else
+        "$program" import <"$room/input" >"$room/again" 2>/dev/null || true
+        compare "$1: imported again" imported again
+    fi
+}
+
+# Has certificates of what is imported verified, if there are some.
+ask_certificates() {
+    cp "$room/imported" "$room/input"
+    if "$program" certify <"$room/input" >"$room/certificates" 2>/dev/null; then
+        { cat "$room/imported" && echo %certificates && cat "$room/certificates"; } >"$room/input"
+        answer got verify
+        printf '%s\n' verified 'status 0' >"$room/wanted"
+        compare "$1: the certificates" wanted got
+    fi
+}
+
+# Asks about each input of a table.
+ask_table() {
+    local title='' input='' inside=0 line
+    while IFS= read -r line; do
+        case $inside/$line in
+            ?/'== '*) title=${line#== } input='' inside=1 ;;
+            1/'$ '*)
+                printf '%b' "$input" >"$room/bundle"
+                ask "${1##*/}: $title"
+                inside=0
+                ;;
+            1/*) input+=$line$'\n' ;;
+        esac
+    done <"$1"
+}
+
+# Asks about each profile of a folder, and about all of those of which none is refused, with rules and without.
+#
+#     ask_folder NAME
+ask_folder() {
+    local at=$folder/$1 each fine=()
+    : >"$room/bundle"
+    printf '%s\n' 'root = /srv/hub' 'nolose = BelowPath a' 'root = /srv/office' 'nochange = Name x' 'nonew = Path [a-c]' >"$room/rules"
+    for each in "$at"/unison/*.prf; do
+        ask "${each##*/}" "$each" --hosts "$at/hosts"
+        ask "${each##*/} with rules" "$each" --hosts "$at/hosts" --rules "$room/rules"
+        if "$program" import "$each" --hosts "$at/hosts" >/dev/null 2>&1; then
+            fine+=("$each")
+        fi
+    done
+    ask "$1" "$at/unison" --hosts "$at/hosts"
+    ask "$1 without faults" "${fine[@]}" --hosts "$at/hosts"
+    ask "$1 without faults, with rules" "${fine[@]}" --hosts "$at/hosts" --rules "$room/rules"
+}
+
+# One of these words.
+one_of() {
+    local words=("$@")
+    picked=${words[RANDOM % $#]}
+}
+
+# Writes a profile at random, with lines of all kinds.
+#
+#     random_profile NAME
+random_profile() {
+    local i kind root spoke picked
+    one_of '/srv/hub' '/srv/hub/' '/srv/hub /' '/srv/h->b'
+    root=$picked
+    one_of "/srv/$1" "/srv/$1 /" "/mnt/$1" '/srv/s0'
+    spoke=$picked
+    printf '%s\n' "%profile $1" "root = $root" "root = $spoke"
+    for ((i = RANDOM % 12; i > 0; i--)); do
+        one_of path path ignore ignore ignore ignorenot force nodeletion noupdate nocreation nodeletionpartial noupdatepartial nocreationpartial prefer
+        kind=$picked
+        case $kind in
+            path) one_of a a/b c 'docs /*' 'd/*' "$1" 'é' 'x y' '*' 'e /' ;;
+            ignore | ignorenot) one_of 'Name *.tmp' 'Path a/[a-c-]x' 'BelowPath {a,b\,}' 'Name ?' 'Name .*' 'Path *.d/*.tmp' 'Name {x, y}' 'Name \*a' 'Name a -> b' ;;
+            force | prefer | nodeletion | noupdate | nocreation) one_of "$root" "$spoke" ;;
+            *)
+                one_of "Path a -> $spoke" "Name *.x -> $root" "BelowPath c->$spoke"
+                ;;
+        esac
+        echo "$kind = $picked"
+    done
+}
+
+# Asks about sets of profiles at random, of which most have no fault.
+#
+#     ask_random COUNT
+ask_random() {
+    local i k
+    RANDOM=7
+    for ((i = 0; i < $1; i++)); do
+        {
+            for ((k = RANDOM % 4; k >= 0; k--)); do
+                random_profile "p$k"
+            done
+            if [ $((RANDOM % 3)) = 0 ]; then
+                printf '%s\n' %rules 'root = /srv/hub' 'nolose = Name *.x' 'root = /srv/p0 /' 'nochange = Path {a,b}/[x-z]' 'nonew = BelowPath c'
+            fi
+        } >"$room/bundle"
+        ask "set $i at random"
+    done
+}
+
+if [ ! -x "$program" ]; then
+    echo "imports: there is no program at $program"
+    exit 1
+fi
+room=$(mktemp -d)
+trap 'rm -rf "$room"' EXIT
+ask_table "$folder/answers/unison.txt"
+ask_table "$folder/answers/imports.txt"
+ask_folder office
+ask_folder manual
+ask_random 40
+echo "imports: ${1:-hubsync} answered $asked, $wrong of them wrongly"
+[ "$wrong" = 0 ]

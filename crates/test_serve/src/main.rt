@@ -14,11 +14,14 @@
 //!   them fails (`writing`).
 //! - `blanks COUNT SIZE`: how often so many blanks are read, if they come in pieces of that size, and what is written.
 //! - `endless SIZE`: the same for blanks that don't end.
+//! - `progress WORDS`: the status, and how often a progress is told of goals, of jobs, and that it is over (`progress`). The last
+//!   comes once, before all that is written.
 //!
 //! An answer is its status and its first three lines. `..` stands for further ones.
 #![tactic(auto)]
 
 mod devices;
+mod progress;
 mod reading;
 mod shown;
 mod writing;
@@ -63,6 +66,7 @@ fn answer<R: AllocGlobal + Eprint + Threads + Wait + Sync>(
         "failing_reads" => reading::failing(rt, first.parse::<usize>()?, rest, text),
         "failing_writes" => writing::failing(rt, first.parse::<usize>()?, rest, text),
         "blanks" => reading::blanks(rt, first.parse::<usize>()?, rest.parse::<usize>()?),
+        "progress" => progress::answer(rt, fields, text),
         "endless" => reading::blanks(rt, usize::MAX, first.parse::<usize>()?),
         _ => bail!("no question: {word}"),
     }

@@ -38,6 +38,7 @@ mod profile;
 mod reader;
 mod root;
 mod shelf;
+mod wanted;
 
 pub use fault::Untaken;
 pub use folder::{FolderProfile, profiles_in};

@@ -1,15 +1,16 @@
 //! What is known of a folder's files, by reads.
-ghost use Rattle.std.specs.Prelude.{◌≡◌, ◌++◌, string_bytes, IfErr, IfOk, OnOk};
-ghost use Rattle.hub_folder.specs.Taken.{Agrees, IsUntaken};
+ghost use Rattle.std.specs.Prelude.{◌≡◌, ◌++◌, string_bytes, IfErr, IfOk, IfSome, OnOk};
+ghost use Rattle.hub_folder.specs.Taken.{Agrees, IsUntaken, read_as};
 ghost use Rattle.hub_include.specs.Files.{known_of};
 
 use crate::fault::Untaken;
 use crate::reader::{FileReader, ReadFault, Unread};
+use crate::wanted::{Waiting, Wanted};
 use hub_include::{Folder, LinesFault, lines_of};
 use hub_text::Items;
 use std::alloc::{AllocError, Global};
 
-/// How many files are looked for at most for one profile. (This project's choice.)
+/// How many files are looked for at most for one profile: among a folder's profiles its own one counts. (This project's choice.)
 pub const MOST_FILES: usize = 1_000;
 
 /// A folder whose files a reader tells. Its path ends with `/` or is empty.
@@ -21,26 +22,66 @@ pub(crate) struct Place<'a, F> {
 }
 
 impl<'a, F: FileReader> Place<'a, F> {
-    /// Reads what a profile takes in, as far as it isn't known.
+    /// Reads what a profile takes in, as far as it isn't known: each file once, in the order in which lines ask for them. What was read
+    /// for other profiles of the folder is known with all that it asks for.
     pub(crate) fn fill(&self, folder: &mut Folder, name: &str) -> Result<(), Untaken>
         requires { Agrees (F.reads self.now.reader.now) self.now.path.now (known_of folder.old) }
         ensures ok { OnOk result (Agrees (F.reads self.now.reader.now) self.now.path.now (known_of folder.new)) }
         ensures err { IfErr result (IsUntaken (F.reads self.now.reader.now) self.now.path.now) }
     {
-        for _ in 0..MOST_FILES {
-            let Some(wanted) = self.wanted(folder, name)? else {
+        let mut waiting = Waiting::new(self.alloc);
+        waiting.begin(folder, name)?;
+        for _ in 0..=MOST_FILES {
+            let Some(wanted) = waiting.next_unread(folder)? else {
                 return Ok(());
             };
-            self.learn(folder, wanted)?;
+            match self.read(wanted.name.as_str()) {
+                Ok(bytes) => self.note(folder, &wanted, bytes)?,
+                Err(fault) => return self.unless_wrong(folder, name, fault),
+            }
+            waiting.add(folder, &wanted)?;
         }
         Err(self.too_many(name))
     }
 
-    /// The name of a file that has to be read, if there is one.
-    fn wanted(&self, folder: &Folder, name: &str) -> Result<Option<String>, AllocError> {
+    /// Reads a file, if it is there.
+    fn read(&self, name: &str) -> Result<Option<Items<u8>>, Untaken>
+        ensures ok { IfOk result (λ b. IfSome (F.reads self.now.reader.now (self.now.path.now ++ name.now))
+            (λ r. r ≡ read_as b)) }
+        ensures err { IfErr result (IsUntaken (F.reads self.now.reader.now) self.now.path.now) }
+    {
+        let path = self.path_of(name)?;
+        match self.reader.read_file(self.alloc, path.as_str()) {
+            Ok(bytes) => Ok(Some(Items::from_vec(bytes))),
+            Err(Unread::File(ReadFault::Missing(_))) => Ok(None),
+            Err(Unread::File(wrong)) => Err(Untaken::File(path, wrong)),
+            Err(Unread::OutOfMemory) => Err(Untaken::OutOfMemory),
+        }
+    }
+
+    /// Notes what a file was read as.
+    fn note(
+        &self,
+        folder: &mut Folder,
+        wanted: &Wanted,
+        bytes: Option<Items<u8>>,
+    ) -> Result<(), AllocError>
+        requires known { Agrees (F.reads self.now.reader.now) self.now.path.now (known_of folder.old) }
+        requires read { IfSome (F.reads self.now.reader.now
+            (self.now.path.now ++ string_bytes wanted.now.name)) (λ r. r ≡ read_as bytes) }
+        ensures { OnOk result (Agrees (F.reads self.now.reader.now) self.now.path.now (known_of folder.new)) }
+    {
+        let name = String::from_str(self.alloc, wanted.name.as_str())?;
+        folder.put(name, bytes)
+    }
+
+    /// A file can't be read: that is what is wrong, unless a line before the one that asks for it can't be followed.
+    fn unless_wrong(&self, folder: &Folder, name: &str, fault: Untaken) -> Result<(), Untaken>
+        ensures { IfErr result (λ e. e ≡ fault) }
+    {
         match lines_of(self.alloc, folder, name) {
-            Err(LinesFault::Unread(wanted)) => text_of_name(self.alloc, &wanted),
-            _ => Ok(None),
+            Err(LinesFault::Line(_)) => Ok(()),
+            _ => Err(fault),
         }
     }
 
@@ -62,23 +103,6 @@ impl<'a, F: FileReader> Place<'a, F> {
         }
     }
 
-    /// Reads a file that a profile includes, if it is there.
-    fn learn(&self, folder: &mut Folder, name: String) -> Result<(), Untaken>
-        requires { Agrees (F.reads self.now.reader.now) self.now.path.now (known_of folder.old) }
-        ensures ok { OnOk result (Agrees (F.reads self.now.reader.now) self.now.path.now (known_of folder.new)) }
-        ensures err { IfErr result (IsUntaken (F.reads self.now.reader.now) self.now.path.now) }
-    {
-        let path = self.path_of(name.as_str())?;
-        let bytes = match self.reader.read_file(self.alloc, path.as_str()) {
-            Ok(bytes) => Some(Items::from_vec(bytes)),
-            Err(Unread::File(ReadFault::Missing(_))) => None,
-            Err(Unread::File(fault)) => return Err(Untaken::File(path, fault)),
-            Err(Unread::OutOfMemory) => return Err(Untaken::OutOfMemory),
-        };
-        folder.put(name, bytes)?;
-        Ok(())
-    }
-
     /// Too many files were looked for.
     pub(crate) fn too_many(&self, name: &str) -> Untaken
         ensures { IsUntaken (F.reads self.now.reader.now) self.now.path.now result }
@@ -96,13 +120,5 @@ impl<'a, F: FileReader> Place<'a, F> {
         let mut path = String::from_str(self.alloc, self.path)?;
         path.push_str(name)?;
         Ok(path)
-    }
-}
-
-/// A name as text. Each that `lines_of` asks for is.
-fn text_of_name(alloc: Global, name: &Items<u8>) -> Result<Option<String>, AllocError> {
-    match str::from_utf8(name.as_slice()) {
-        Ok(text) => Ok(Some(String::from_str(alloc, text)?)),
-        Err(_) => Ok(None),
     }
 }

@@ -5,7 +5,7 @@ use crate::bundle::say_bundle_fault;
 use crate::refusal::{named_profiles, say_breach, say_overlap, say_refused};
 use crate::setting::say_setting_fault;
 use crate::text::{say_certificates_fault, say_state_fault};
-use crate::unison::{is_for_unison, is_of_reading, say_more, say_yes};
+use crate::unison::{Listing, is_for_unison, is_of_reading, say_more, say_yes};
 use crate::words::say_words;
 use hub_notes::{notes, wider_notes};
 use hub_source::{Said, Source, SourceFile, place_in, place_in_profile, say};
@@ -69,7 +69,8 @@ pub fn remark(
     say_answer(&mut remarks.text, &source, words, first, second)?;
     if is_for_unison(words) {
         remarks.is_of_reading = input.is_whole && is_of_reading(first);
-        say_more(&mut remarks.text, &source, input.bytes, first)?;
+        let listing = Listing::asked_for(words);
+        say_more(&mut remarks.text, &source, input.bytes, first, listing)?;
     }
     Ok(remarks)
 }
@@ -97,7 +98,7 @@ fn remarks_on_yes(
     let mut text = notes(source, is_for_unison)?;
     let may_mislead = !text.is_empty();
     if is_for_unison {
-        say_yes(&mut text, source, input)?;
+        say_yes(&mut text, source, input, Listing::asked_for(words))?;
     }
     Ok(Remarks {
         text,
@@ -106,10 +107,11 @@ fn remarks_on_yes(
     })
 }
 
-/// Returns whether an answer that begins with this line says that profiles may run at the same time, or in rounds.
+/// Returns whether an answer that begins with this line says that profiles may run at the same time or in rounds, or is a bundle.
 fn is_yes(first: &str) -> bool {
     first == "safe"
         || first == "verified"
+        || first.starts_with('%')
         || YES_STARTS.iter().any(|start| first.starts_with(*start))
 }
 
@@ -166,7 +168,22 @@ fn say_fault(out: &mut String, source: &Source<'_>, words: &[String], fault: &st
             "run needs a section %state, as docs/REFERENCE.md shows, and check needs none",
         );
     }
+    if fault == "no bundle says what was read" {
+        return say_unwritten(out);
+    }
     say_section_fault(out, source, fault)
+}
+
+/// Says what to do if no bundle says what was read for Unison.
+fn say_unwritten(out: &mut String) -> Said {
+    say(
+        out,
+        "a profile would need over 64 lines ignore and ignorenot, or a rule over 200 characters",
+    )?;
+    say(
+        out,
+        "put patterns of one kind into one line: Name {*.a,*.b}",
+    )
 }
 
 /// Says what to do about a fault of a section.

@@ -28,6 +28,7 @@ mod answer;
 mod asked;
 mod bundle;
 mod ignored;
+mod nested;
 mod pattern;
 mod refusal;
 mod remedy;

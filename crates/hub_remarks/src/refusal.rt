@@ -1,5 +1,6 @@
 //! Remarks on sets that are refused: the lines that make it so.
 
+use crate::nested::say_other_nested;
 use hub_notes::{has_no_path, is_rule, is_same_root, line_above};
 use hub_source::{Said, Source, SourceLine, name_of, say, say_placed};
 use std::alloc::AllocError;
@@ -208,9 +209,10 @@ fn say_nested(out: &mut String, source: &Source<'_>, roots: &str) -> Said {
     };
     say_root(out, source, first)?;
     say_root(out, source, second)?;
+    say_other_nested(out, source, first, second)?;
     say(
         out,
-        "run the two one after the other, or move both roots of one up alike: a path is below both",
+        "rounds puts two such profiles into different rounds; or move both roots of one up alike: a path is below both",
     )
 }
 

@@ -56,7 +56,7 @@ const WITHOUT_EFFECT: &str = "\
 const REMEDIES: &[(&str, &str)] = &[
     (
         "IncludeLeftOut",
-        "write that file's lines in its place, as examples/from-prf.sh does",
+        "write that file's lines in its place; in a .prf file, with --unison, one space follows include",
     ),
     (
         "LeftOutValue",

@@ -4,26 +4,72 @@ use crate::setting::{fault_line, say_fault_on};
 use hub_preferences::{Finding, Outcome, findings};
 use hub_profile::Fault;
 use hub_source::{Said, Source, place_in_profile, shown};
+use std::alloc::{AllocError, Global};
+use std::collections::BTreeSet;
 
 /// What an answer for Unison assumes.
 const ASSUMED: &str = "\
 hubsync: for Unison 2.52 with -batch and no preference on its command line, where only these runs write,
-hubsync: no symbolic link is followed, names differ as their bytes do, and the folders above path lines exist
+hubsync: no symbolic link is followed, each folder and host has one name, names differ as their bytes do,
+hubsync: and the folders above path lines exist
 ";
 
-/// How many refused lines are listed at most, besides the one that the answer names.
+/// How many refused lines are listed at most, besides the one that the answer names, if not all lines are asked for.
 const LISTED: usize = 10;
+
+/// Which lines are listed.
+#[derive(Clone, Copy, Debug, PartialEq, Eq)]
+pub(crate) enum Listing {
+    /// So many of those that are refused, and the first of those that don't count.
+    Few,
+    /// All.
+    All,
+}
+
+impl Listing {
+    /// Which lines these words ask for.
+    pub(crate) fn asked_for(words: &[String]) -> Listing {
+        if has_word(words, "--verbose") {
+            Listing::All
+        } else {
+            Listing::Few
+        }
+    }
+
+    /// How many refused lines are listed at most.
+    fn most_refused(self) -> usize {
+        match self {
+            Listing::Few => LISTED,
+            Listing::All => usize::MAX,
+        }
+    }
+}
 
 /// Returns whether the profiles are read for Unison.
 pub(crate) fn is_for_unison(words: &[String]) -> bool {
-    words.iter().any(|word| word.as_str() == "--unison")
+    is_import(words) || has_word(words, "--unison")
 }
 
-/// Says what a yes for Unison assumes, and how many lines don't count.
-pub(crate) fn say_yes(out: &mut String, source: &Source<'_>, input: &[u8]) -> Said {
+/// Returns whether a bundle is asked for of what was read for Unison.
+fn is_import(words: &[String]) -> bool {
+    words.get(1).is_some_and(|word| word.as_str() == "import")
+}
+
+/// Returns whether this is one of the words.
+fn has_word(words: &[String], asked: &str) -> bool {
+    words.iter().any(|word| word.as_str() == asked)
+}
+
+/// Says what a yes for Unison assumes, and which lines don't count.
+pub(crate) fn say_yes(
+    out: &mut String,
+    source: &Source<'_>,
+    input: &[u8],
+    listing: Listing,
+) -> Said {
     out.push_str(ASSUMED)?;
-    let findings = findings(source.alloc(), input)?;
-    say_left_out(out, source, findings.as_slice())
+    let findings = findings_once(source, input, 0)?;
+    say_left_out(out, source, findings.as_slice(), listing)
 }
 
 /// Returns whether an answer may come of the wider reading alone: an overlap, or a breach.
@@ -32,26 +78,41 @@ pub(crate) fn is_of_reading(first: &str) -> bool {
 }
 
 /// Says what more belongs to another answer for Unison, by its first line. An overlap or a breach may come of the wider reading
-/// alone. Of a fault of a profile, that is what to do about all other lines that are refused. Both get how many lines don't count.
-pub(crate) fn say_more(out: &mut String, source: &Source<'_>, input: &[u8], first: &str) -> Said {
+/// alone. Of a fault of a profile, that is what to do about all other lines that are refused. Both get which lines don't count.
+pub(crate) fn say_more(
+    out: &mut String,
+    source: &Source<'_>,
+    input: &[u8],
+    first: &str,
+    listing: Listing,
+) -> Said {
     if is_of_reading(first) {
         out.push_str(
             "hubsync: more counts with --unison than may happen: compare the answer without it\n",
         )?;
-        let findings = findings(source.alloc(), input)?;
-        return say_left_out(out, source, findings.as_slice());
+        let findings = findings_once(source, input, 0)?;
+        return say_left_out(out, source, findings.as_slice(), listing);
     }
     match first.strip_prefix("fault: profile ") {
-        Some(fault) if source.is_whole() => say_all(out, source, input, named_line(source, fault)),
+        Some(fault) if source.is_whole() => {
+            let named = named_line(source, fault);
+            say_all(out, source, input, named, listing)
+        }
         _ => Ok(()),
     }
 }
 
-/// Says what to do about each line that is refused, but for the one of that number, and how many lines don't count.
-fn say_all(out: &mut String, source: &Source<'_>, input: &[u8], named: usize) -> Said {
-    let findings = findings(source.alloc(), input)?;
-    say_refused(out, source, findings.as_slice(), named)?;
-    say_left_out(out, source, findings.as_slice())
+/// Says what to do about the lines that are refused, but for the one of that number, and which lines don't count.
+fn say_all(
+    out: &mut String,
+    source: &Source<'_>,
+    input: &[u8],
+    named: usize,
+    listing: Listing,
+) -> Said {
+    let findings = findings_once(source, input, named)?;
+    say_refused(out, source, findings.as_slice(), listing)?;
+    say_left_out(out, source, findings.as_slice(), listing)
 }
 
 /// The number in the input of the line that the fault `NAME line NUMBER: FAULT` is of, or else 0.
@@ -62,28 +123,61 @@ fn named_line(source: &Source<'_>, text: &str) -> usize {
     }
 }
 
-/// Says what to do about each line that is refused, but for the one of that number, and how many more there are than are listed.
-fn say_refused(out: &mut String, source: &Source<'_>, findings: &[Finding], named: usize) -> Said {
+/// The findings of an input, but for the line of that number. A line of a file that several profiles include is found once.
+fn findings_once(
+    source: &Source<'_>,
+    input: &[u8],
+    named: usize,
+) -> Result<Vec<Finding>, AllocError> {
+    let alloc = source.alloc();
+    let mut places = BTreeSet::new(alloc);
+    note_place(&mut places, source, named)?;
+    let mut once = Vec::new(alloc);
+    for finding in findings(alloc, input)? {
+        if note_place(&mut places, source, finding.line)? {
+            once.push(finding)?;
+        }
+    }
+    Ok(once)
+}
+
+/// Notes where the line of that number stands. Returns whether it wasn't noted before.
+fn note_place(
+    places: &mut BTreeSet<String>,
+    source: &Source<'_>,
+    number: usize,
+) -> Result<bool, AllocError> {
+    let Some(line) = source.line_at(number) else {
+        return Ok(false);
+    };
+    let place = line.place();
+    let text = format!(in source.alloc(); "{place}")?;
+    match places.insert(text) {
+        Ok(is_new) => Ok(is_new),
+        Err(_) => Err(AllocError),
+    }
+}
+
+/// Says what to do about the lines that are refused, and how many more there are than are listed.
+fn say_refused(
+    out: &mut String,
+    source: &Source<'_>,
+    findings: &[Finding],
+    listing: Listing,
+) -> Said {
+    let most = listing.most_refused();
     let mut count = 0usize;
     for finding in findings {
-        if let Some(fault) = other_fault(finding, named) {
-            if count < LISTED {
+        if let Outcome::Refused(fault) = &finding.outcome {
+            if count < most {
                 say_refused_line(out, source, finding.line, fault)?;
             }
             count = count.saturating_add(1);
         }
     }
-    match count.saturating_sub(LISTED) {
+    match count.saturating_sub(most) {
         0 => Ok(()),
         more => writeln!(out, "hubsync: more lines that are refused: {more}"),
-    }
-}
-
-/// Why a line is refused, if it is another one than that of this number.
-fn other_fault(finding: &Finding, named: usize) -> Option<&Fault> {
-    match &finding.outcome {
-        Outcome::Refused(fault) if finding.line != named => Some(fault),
-        _ => None,
     }
 }
 
@@ -96,26 +190,55 @@ fn say_refused_line(out: &mut String, source: &Source<'_>, number: usize, fault:
     }
 }
 
-/// Says how many lines don't count for Unison, and which is the first, in one line. Nothing is said if all of them count.
-fn say_left_out(out: &mut String, source: &Source<'_>, findings: &[Finding]) -> Said {
-    let count = findings
-        .iter()
-        .filter(|finding| is_left_out(*finding))
-        .count();
-    let Some(first) = findings.iter().find(|finding| is_left_out(*finding)) else {
+/// Says how many lines don't count for Unison, and which is the first, or which they are. Nothing is said if all of them count.
+fn say_left_out(
+    out: &mut String,
+    source: &Source<'_>,
+    findings: &[Finding],
+    listing: Listing,
+) -> Said {
+    let left_out = left_out_in(source.alloc(), findings)?;
+    let Some((first, others)) = left_out.as_slice().split_first() else {
         return Ok(());
     };
-    let Some(line) = source.line_at(first.line) else {
-        return Ok(());
+    let count = left_out.len();
+    write!(
+        out,
+        "hubsync: lines that don't count, as Unison does no less without them: {count}, first "
+    )?;
+    say_line(out, source, *first)?;
+    match listing {
+        Listing::Few => Ok(()),
+        Listing::All => say_each(out, source, others),
+    }
+}
+
+/// The numbers of the lines that don't count.
+fn left_out_in(alloc: Global, findings: &[Finding]) -> Result<Vec<usize>, AllocError> {
+    let mut numbers = Vec::new(alloc);
+    for finding in findings {
+        if matches!(finding.outcome, Outcome::LeftOut) {
+            numbers.push(finding.line)?;
+        }
+    }
+    Ok(numbers)
+}
+
+/// Says that each of these lines doesn't count.
+fn say_each(out: &mut String, source: &Source<'_>, numbers: &[usize]) -> Said {
+    for number in numbers {
+        out.push_str("hubsync: nor does ")?;
+        say_line(out, source, *number)?;
+    }
+    Ok(())
+}
+
+/// Says where the line of that number stands, and what it is.
+fn say_line(out: &mut String, source: &Source<'_>, number: usize) -> Said {
+    let Some(line) = source.line_at(number) else {
+        return out.push_str("a line\n");
     };
     let place = line.place();
     let text = shown(source.alloc(), line.bytes)?;
-    writeln!(
-        out,
-        "hubsync: lines that don't count, as Unison does no less without them: {count}, first {place}: {text}"
-    )
-}
-
-fn is_left_out(finding: &Finding) -> bool {
-    matches!(finding.outcome, Outcome::LeftOut)
+    writeln!(out, "{place}: {text}")
 }

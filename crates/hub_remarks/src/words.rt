@@ -7,7 +7,13 @@ use std::alloc::Global;
 const COMMANDS: &[&str] = &["check", "certify", "verify", "clashes", "rounds", "run"];
 
 /// Options that are followed by a value.
-const WITH_VALUE: [&str; 4] = ["--rules", "--state", "--certificates", "--workers"];
+const WITH_VALUE: [&str; 5] = [
+    "--rules",
+    "--state",
+    "--certificates",
+    "--workers",
+    "--hosts",
+];
 
 /// Says how the input is given, if the words seem to name a file or a folder.
 pub(crate) fn say_words(out: &mut String, alloc: Global, words: &[String]) -> Said {
@@ -22,7 +28,7 @@ pub(crate) fn say_words(out: &mut String, alloc: Global, words: &[String]) -> Sa
     };
     match first.as_str() {
         "version" => say(out, "hubsync --version shows the version"),
-        "reach" | "help" => Ok(()),
+        "import" | "reach" | "help" => Ok(()),
         word if COMMANDS.contains(&word) => say_stray(out, words, word),
         word => say_no_command(out, alloc, word),
     }
@@ -94,7 +100,7 @@ fn say_operand(out: &mut String, command: &str, word: &str, has_profile: bool) -
 fn say_folder(out: &mut String, folder: &str) -> Said {
     writeln!(
         out,
-        "hubsync: the profiles in a folder, as in: examples/from-prf.sh --ask ./hubsync {folder}"
+        "hubsync: the profiles in a folder, as in: hubsync check --unison {folder}"
     )
 }
 

@@ -1,5 +1,5 @@
--- Worked values. Those of texts are what examples/from-prf.sh writes, but for blanks, and where a
--- comment says so.
+-- Worked values. Those of texts are what a script in Perl wrote that did the same, but for blanks,
+-- and where a comment says so.
 use Rattle.std.specs.Prelude.{◌≡◌, ℕ, false, true, List, [], ◌∷◌, Ok, Err, codes, refl}
 use Rattle.hub_hosts.specs.Profiles.{text_for}
 use Rattle.hub_hosts.specs.Table.{Row, rows_of}

@@ -3,23 +3,21 @@ ghost use Rattle.std.specs.Prelude.{◌≡◌, ◌++◌, ℕ, List, false, map, 
 ghost use Rattle.std.specs.List.{All};
 ghost use Rattle.hub_cli.specs.Words.{Names, asked_of, names_of};
 ghost use Rattle.hub_files.specs.declared.part.Kind.TheVariants.{Profile};
-ghost use Rattle.hub_folder.specs.Reading.{fault_word};
 ghost use Rattle.hub_folder.specs.Told.{path_and_text};
-ghost use Rattle.hubsync.specs.Bundled.{AreRead, AreSections, AreTaken, HasContents, IsTable, ServesFiles, WritesFault, WritesUntaken, bytes_of, for_hosts, hosts_word, label_if, label_of, labels, option_labels, why_word};
+ghost use Rattle.hubsync.specs.Bundled.{AreRead, AreSections, AreTaken, HasContents, IsTable, ServesFiles, bytes_of, for_hosts, label_if, label_of, labels, option_labels};
 ghost use Rattle.hubsync.specs.Named.{IsUnreadFile, IsUnreadOf, IsUnserved, bytes_held, label_held, label_named, sources_in, table_in};
 
-use crate::bundled::{serve_parts, write_fault, write_memory};
+use crate::bundled::{serve_parts, write_memory};
 use crate::kept::Kept;
 use crate::served::{Answered, Seen};
+use crate::untaken::{write_bad_hosts, write_unread, write_untaken};
 use hub_cli::{Files, Options};
 use hub_files::{Kind, Part};
 use hub_folder::{FileReader, FolderProfile, Origins, ReadFault, Unread, profiles_named};
 use hub_hosts::{Hosts, HostsFault};
-use hub_include::{LineFault, Why};
 use hub_source::{LineOrigin, SourceFile};
 use hub_text::Watched;
 use std::alloc::{AllocError, Global};
-use std::io;
 use std::io::{Eprint, Write};
 use std::sync::Wait;
 use std::thread::Threads;
@@ -459,154 +457,4 @@ fn source_files<'a>(alloc: Global, held: &'a [Held]) -> Result<Vec<SourceFile<'a
         files.push(SourceFile { path, origins })?;
     }
     Ok(files)
-}
-
-/// Says what is wrong with a file, and with the system's words on standard error. If that fails too, there is nobody left to tell.
-fn write_unread<T: AllocGlobal + Eprint, W: Write>(
-    rt: &T,
-    file: &str,
-    fault: ReadFault,
-    output: &mut Watched<Kept<'_, W>>,
-) -> u8
-    requires { output.old.failed ≡ false }
-    ensures { WritesFault file.now (fault_word fault)
-        (W.contents output.old.device.device) (W.contents output.new.device.device)
-        output.new.failed result }
-{
-    match fault {
-        ReadFault::Missing(error) | ReadFault::ReadFailed(error) => {
-            let status = write_fault(rt.alloc(), file.as_bytes(), "ReadFailed", output);
-            say_unread(rt, file, error);
-            status
-        }
-        ReadFault::TurnsSpent => {
-            let status = write_fault(rt.alloc(), file.as_bytes(), "TurnsSpent", output);
-            let _ = eprintln!(rt; "hubsync: {file} has no end, as far as it was read");
-            status
-        }
-    }
-}
-
-/// Says why profiles can't be told.
-fn write_untaken<T: AllocGlobal + Eprint, W: Write>(
-    rt: &T,
-    fault: hub_folder::Untaken,
-    output: &mut Watched<Kept<'_, W>>,
-) -> u8
-    requires { output.old.failed ≡ false }
-    ensures { WritesUntaken fault
-        (W.contents output.old.device.device) (W.contents output.new.device.device)
-        output.new.failed result }
-{
-    match fault {
-        hub_folder::Untaken::File(path, fault) | hub_folder::Untaken::Folder(path, fault) => {
-            write_unread(rt, path.as_str(), fault, output)
-        }
-        hub_folder::Untaken::Gone(path) => write_fault(
-            rt.alloc(),
-            path.as_bytes(),
-            "ReadFailed",
-            output,
-        ),
-        hub_folder::Untaken::TooManyFiles(path) => {
-            write_fault(rt.alloc(), path.as_bytes(), "TooManyFiles", output)
-        }
-        hub_folder::Untaken::Line(place, fault) => write_bad_line(rt, place, fault, output),
-        hub_folder::Untaken::OutOfMemory => write_memory(output),
-    }
-}
-
-/// Says what is wrong with a table of hosts.
-fn write_bad_hosts<T: AllocGlobal + Eprint, W: Write>(
-    rt: &T,
-    file: &str,
-    fault: HostsFault,
-    output: &mut Watched<Kept<'_, W>>,
-) -> u8
-    requires { output.old.failed ≡ false }
-    ensures { WritesFault file.now (hosts_word fault)
-        (W.contents output.old.device.device) (W.contents output.new.device.device)
-        output.new.failed result }
-{
-    match fault {
-        HostsFault::BadLine(number) => {
-            let status = write_fault(rt.alloc(), file.as_bytes(), "BadHost", output);
-            let _ = eprintln!(rt;
-                "hubsync: {file}, line {number} isn't HOST PATH, as: build /hosts/build"
-            );
-            status
-        }
-        HostsFault::SecondLine(number) => {
-            let status = write_fault(rt.alloc(), file.as_bytes(), "SecondHost", output);
-            let _ = eprintln!(rt; "hubsync: {file}, line {number} is a second one for its host");
-            status
-        }
-        HostsFault::OutOfMemory => write_memory(output),
-    }
-}
-
-/// Says which line that includes a file can't be followed.
-fn write_bad_line<T: AllocGlobal + Eprint, W: Write>(
-    rt: &T,
-    place: String,
-    fault: LineFault,
-    output: &mut Watched<Kept<'_, W>>,
-) -> u8
-    requires { output.old.failed ≡ false }
-    ensures { WritesFault (string_bytes place ++ fault.file) (why_word fault.why)
-        (W.contents output.old.device.device) (W.contents output.new.device.device)
-        output.new.failed result }
-{
-    match path_below(rt.alloc(), place.as_str(), fault.file.as_slice()) {
-        Ok(path) => {
-            let status = write_fault(rt.alloc(), path.as_slice(), word_of(fault.why), output);
-            say_bad_line(rt, path.as_slice(), &fault);
-            status
-        }
-        Err(_) => write_memory(output),
-    }
-}
-
-/// The path of a file of a folder.
-fn path_below(alloc: Global, place: &str, file: &[u8]) -> Result<Vec<u8>, AllocError>
-    ensures { IfOk result (λ v. v.items ≡ place.now ++ file.now) }
-{
-    let mut path = Vec::from_slice(alloc, place.as_bytes())?;
-    path.extend_from_slice(file)?;
-    Ok(path)
-}
-
-/// Why a line that includes a file can't be followed, as a word of the answer.
-fn word_of(why: Why) -> &'static str
-    ensures { result.now ≡ why_word why }
-{
-    match why {
-        Why::BadLine => "BadInclude",
-        Why::NoFile => "NoFile",
-        Why::Cycle => "Cycle",
-        Why::TooDeep => "TooDeep",
-        Why::TooLong => "TooLong",
-    }
-}
-
-/// Says the same on standard error, and what to do. If that fails too, there is nobody left to tell.
-fn say_bad_line<T: Eprint>(rt: &T, path: &[u8], fault: &LineFault) {
-    let path = str::from_utf8(path).unwrap_or("");
-    let number = fault.number;
-    let what = match fault.why {
-        Why::BadLine => "takes one file's name, with \\ before each blank in it",
-        Why::NoFile => "names a file that isn't in the profile's folder",
-        Why::Cycle => "includes a file that includes this one: Unison's stack overflows",
-        Why::TooDeep => "stands in too many files that include each other: 100 may be open",
-        Why::TooLong => "makes a profile of more than 100,000 lines",
-    };
-    let _ = eprintln!(rt; "hubsync: {path}, line {number} {what}");
-}
-
-/// Says on standard error that a file can't be read.
-fn say_unread<T: Eprint>(rt: &T, file: &str, error: Option<io::Error>) {
-    let _ = match error {
-        Some(error) => eprintln!(rt; "hubsync: {file} can't be read: {error}"),
-        None => eprintln!(rt; "hubsync: {file} can't be read"),
-    };
 }

@@ -1,6 +1,6 @@
 package HubsyncAnswers;
 
-# Asks hubsync about profiles, for from-prf.sh and unison-rounds. The profiles are those of UnisonProfiles.pm.
+# Asks hubsync about profiles, for unison-rounds. The profiles are those of UnisonProfiles.pm.
 use strict;
 use warnings;
 use Exporter 'import';
@@ -10,13 +10,9 @@ our @EXPORT_OK = qw(answer_to name_refused said_of);
 
 my $most_refused = 100;    # lines of a profile that are named
 
-# What to do about preferences of Unison that hubsync doesn't know.
-my $holds_back = 'it only holds changes back: leave the line out';
-my $overrides = 'leave the line out, and the line force with it, since this one overrides force';
+# What to do about preferences of Unison that hubsync refuses.
 my $has_no_answer = 'hubsync has no answer for a profile with this line: run it alone';
 my %remedy_of = (
-    (map { $_ => $holds_back } qw(ignorearchives immutable links maxerrors maxsizethreshold mountpoint)),
-    (map { $_ => $overrides } qw(forcepartial preferpartial)),
     (map { $_ => $has_no_answer } qw(atomic backuploc backuplocation copyonconflict fat follow ignorecase merge rsrc unicode)),
     backupdir => 'this folder may lie in a root: name one that lies in no root of any profile',
 );
@@ -57,13 +53,17 @@ sub answer_to {
     return ($status, \@lines, \@remarks);
 }
 
-# What to do about a refused line: the words that stand here for it, or else the last that the program says, with the files' lines in
-# place of those of the bundle that it was given.
+# What to do about a refused line: the words that stand here for it, or else the last that the program says of it, with the files' lines
+# in place of those of the bundle that it was given. Below come other lines that it refuses, and those that don't count.
 sub remedy {
     my ($profile, $line, $fault, @remarks) = @_;
     my $own = $line->{needs} // $remedy_of{ $line->{name} // '' } // $remedy_of_fault{$fault};
     return $own if defined $own;
-    my @words = map { /\Ahubsync: (?!note: |bundle line )(.*)/ ? $1 : () } @remarks;
+    my @words;
+    for my $remark (map { s/\Ahubsync: //r } @remarks) {
+        last if $remark =~ /\A(?:lines that don't count|more lines that are refused)/ || @words && $remark =~ /\Abundle line /;
+        push @words, $remark if $remark !~ /\A(?:note: |bundle line )/;
+    }
     s/\bbundle line ([0-9]+)/$profile->{lines}[ $1 - 2 ]{at}/g for @words;
     return $words[-1] // 'docs/UNISON.md has what to write';
 }

@@ -1,14 +1,14 @@
 package UnisonProfiles;
 
-# Reads the profiles in a folder of Unison's, for from-prf.sh and unison-rounds. A profile has a `name`, a `file`, its `lines`, the
-# texts of its `roots` as they stand there, in `all_roots` those of all profiles that were read with it, in `parts` the files that it
-# includes, as names below the folder, and in `absent` those that its lines look for in vain. A line has a `text` as hubsync gets it,
-# its place `at` (file and line), `remarks` on how it was changed, and if it sets something a `name` and a `value`, as Unison gets
-# them. `written` is the value for hubsync if that is another one.
+# Reads the profiles in a folder of Unison's, for unison-rounds. A profile has a `name`, a `file`, its `lines`, the texts of its
+# `roots` as they stand there, in `all_roots` those of all profiles that were read with it, in `parts` the files that it includes, as
+# names below the folder, and in `absent` those that its lines look for in vain. A line has a `text` as hubsync gets it, its place
+# `at` (file and line), and if it sets something a `name` and a `value`, as Unison gets them. `written` is the value for hubsync if
+# that is another one.
 use strict;
 use warnings;
 use Exporter 'import';
-our @EXPORT_OK = qw(change_lines give_up is_below read_hosts read_profiles say_new say_once say_so section text_of trimmed);
+our @EXPORT_OK = qw(change_lines give_up is_below read_hosts read_profiles say_new say_once say_so section text_of);
 
 # The preferences of Unison 2.52 that hubsync refuses, and that change nothing that is synchronized: what is shown and asked, how
 # Unison connects and copies, how often it runs or tries again, backups but for their folder, owners and permissions. .ci/preferences
@@ -33,7 +33,7 @@ my %has_root_at_end = map { $_ => 1 } qw(nodeletionpartial noupdatepartial nocre
 
 my $most_lines = 100_000;    # of a profile with what it includes
 
-our $status_of_faults = 1;    # what give_up exits with after an error in a file
+our $status_of_faults = 3;    # what give_up exits with after an error in a file
 my %path_of;                  # the path of a host, by the first word of its line
 my %lines_of;                 # the lines of each file that was read
 my %text_of;                  # and its text
@@ -74,13 +74,6 @@ sub complain {
 sub trimmed {
     my ($text) = @_;
     return $text =~ s/\A[ \t]+|[ \t]+\z//gr;
-}
-
-# Notes that a line is changed, and how, with the text in its place if it has a new one.
-sub add_remark {
-    my ($line, $remark, $text) = @_;
-    push @{ $line->{remarks} }, $remark;
-    $line->{text} = $text if defined $text;
 }
 
 # The lines of a file, without their ends. A file that can't be read has none, and the reason is returned as the second.
@@ -150,7 +143,7 @@ sub add_lines {
         push @{ $profile->{lines} }, $line;
         give_up($status_of_faults, "$line->{at}: line " . @{ $profile->{lines} } . ' of the profile with what it includes')
             if @{ $profile->{lines} } > $most_lines;
-        add_remark($line, 'a byte order mark is dropped') if $number == 1 && $line->{text} =~ s/\A\xef\xbb\xbf//;
+        $line->{text} =~ s/\A\xef\xbb\xbf// if $number == 1;    # a byte order mark
         add_included($profile, $line, $open, $1, $2, $3) if $line->{text} =~ /\A(include|source)(\??) (.*)\z/;
     }
 }
@@ -162,7 +155,7 @@ sub add_included {
     my $file = defined $name ? "$profile->{folder}/$name" : undef;
     $why = "$file includes itself" if defined $file && $open->{$file};
     return complain("$line->{at}: $why") if defined $why;
-    add_remark($line, defined $file ? "in place: $file" : "there is no such file: $line->{text}", "# $line->{text}");
+    $line->{text} = "# $line->{text}";
     return if !defined $file;
     $is_included{$file} = 1;
     push @{ $profile->{parts} }, $name;
@@ -219,9 +212,9 @@ sub change_line {
     my ($profile, $line) = @_;
     my $text = $line->{text};
     if ($text =~ /\A%/) {
-        add_remark($line, "a blank is put before it: $text", " $text");
+        $line->{text} = " $text";
     } elsif (defined $line->{name} && is_dispensable($profile, $line)) {
-        add_remark($line, "left out: $text", "# left out: $text");
+        $line->{text} = "# left out: $text";
         delete $line->{name};
     } elsif (defined $line->{name}) {
         change_root($line);
@@ -242,7 +235,7 @@ sub change_root {
     (my $path, $line->{needs}) = path_of_remote($value);
     return if !defined $path;
     $line->{written} = "$before$path";
-    add_remark($line, "$value is written as $path", "$name = $line->{written}");
+    $line->{text} = "$name = $line->{written}";
 }
 
 # Changes the lines of a profile to those that hubsync is to get.
@@ -276,8 +269,8 @@ sub names_in {
     return @names;
 }
 
-# The profiles of these names in a folder. Without names these are all but those that only another one includes; what is not a
-# profile is returned in the second list. An error in a file ends the program.
+# The profiles of these names in a folder. Without names these are all but those without roots that another one includes. An error in
+# a file ends the program.
 sub read_profiles {
     my ($folder, @names) = @_;
     give_up($status_of_faults, "not a folder: $folder") if !-d $folder;
@@ -285,10 +278,8 @@ sub read_profiles {
     my @read = map { read_profile($folder, $_) } @names ? map { s/\.prf\z//r } @names : names_in($folder);
     exit $status_of_faults if $has_faults;
     $_->{all_roots} = [ map { @{ $_->{roots} } } @read ] for @read;
-    return (\@read, []) if @names;
-    my @parts = grep { $is_included{ $_->{file} } && !@{ $_->{roots} } } @read;
-    my %is_part = map { $_ => 1 } @parts;
-    return ([ grep { !$is_part{$_} } @read ], \@parts);
+    return @read if @names;
+    return grep { !$is_included{ $_->{file} } || @{ $_->{roots} } } @read;
 }
 
 # The section of a bundle for a profile.

@@ -231,7 +231,7 @@ LINES
 }
 
 # A line that hubsync refuses, one on which Unison stops, a log in a root, and a program that isn't Unison: nothing is started. A line
-# that Unison reads differently, or that doesn't count, is no reason. scripts.sh has all kinds of such lines.
+# that Unison reads differently, or that doesn't count, is no reason. scripts.sh tries what is said of lines.
 try_refused() {
     fill
     echo 'ignore = Name *.{tmp,bak}' >prf/common
@@ -269,7 +269,7 @@ try_star() {
     mkdir {hub,desk,home}/docs
     printf '%s\n' "root = $PWD/hub" "root = $PWD/desk" 'path = docs/*' >prf/docs.prf
     printf '%s\n' "root = $PWD/hub" "root = $PWD/home" 'path = docs/reports' >prf/home.prf
-    "$folder/from-prf.sh" prf docs home 2>/dev/null | "$program" >written 2>/dev/null
+    "$program" check prf/docs.prf prf/home.prf >written 2>/dev/null
     compare 'the plain reading' written <<<safe
     ask 0 --unison ./unison --dry-run prf docs home
     compare 'a last name * for Unison' written <<<$'round 1 docs\nround 2 home'

@@ -1,5 +1,6 @@
 #!/usr/bin/env bash
-# Tries from-prf.sh, items.sh and ./install, and state-of-folder.sh on a state of version 2. ./test calls this script.
+# Tries items.sh and ./install, state-of-folder.sh on a state of version 2, and what unison-rounds reads in a folder of profiles. ./test
+# calls this script.
 #
 #     examples/scripts.sh [PROGRAM]
 #
@@ -36,69 +37,25 @@ ask() {
     [ "$status" = "$wanted" ] || complain "$*: wanted status $wanted, got $status"
 }
 
-# The twelve profiles of an office: one call says what it changes, each line that hubsync refuses or Unison reads differently, and
-# which profiles are in each other's way without these lines.
-try_office() {
-    cp -R "$folder/office/unison" "$folder/office/hosts" .
-    ask 1 from-prf.sh -v --hosts hosts --ask "$program" unison
-    compare 'examples/office' said <"$folder/office/answer"
-    grep -c '^%profile ' written >count
-    compare 'the profiles of examples/office' count <<<12
-    rm -R unison hosts
-}
-
-# The answer for Unison to each profile of a folder by itself: of an office, and of the samples in Unison's manual. Only lines are
-# refused by which Unison may do more, or that name a root or a path otherwise.
-#
-#     try_for_unison FOLDER
-try_for_unison() {
-    local name
-    cp -R "$folder/$1/unison" "$folder/$1/hosts" .
-    ask 0 from-prf.sh --hosts hosts unison
-    cp written bundle
-    while read -r name; do
-        awk -v heading="%profile $name" '/^%/ { is_in = $0 == heading } is_in' bundle >profile
-        echo "$name: $("$program" check --unison <profile 2>said)"
-    done < <(sed -n 's/^%profile //p' bundle) >answers
-    compare "the answers for Unison to examples/$1" answers <"$folder/$1/answers-for-unison"
-    rm -R unison hosts bundle profile answers
-}
-
-# A folder of profiles with all that from-prf.sh changes, and the same that it leaves.
-fill_folder() {
-    mkdir unison
-    echo 'ignore = Name common' >unison/common
-    echo 'ignore = Name common.prf' >unison/common.prf
-    printf 'ignore = Name part\r\nmaxthreads = 2\r\n' >unison/part.prf
-    printf 'include part' >'unison/with space'
-    printf '\xef\xbb\xbf%s\r\n' 'root = /srv/hub' >unison/docs.prf
-    cat >>unison/docs.prf <<'LINES'
-root = ssh://anna@Desk:22//srv/
-include common
-include   common.prf
-source? part
-include with\ space
- include common
-%rules
-force = ssh://anna@Desk:22//srv/
-nodeletionpartial = Name a -> b -> ssh://anna@Desk:22//srv/
-follow = Path a
-confirmbigdel = false
- sshargs=-C
-rsrc = true
-rsrc = default
-backuploc = local
-# retry = 1
-path = retry = 1
-LINES
-    printf '%s\n' 'root = ssh://laptop/docs' 'root = socket://laptop//' 'root = ssh://desk/docs' >unison/roots.prf
+# What unison-rounds asks hubsync about a folder: included lines are in place, roots of other machines are paths by the table, and lines
+# that change nothing are comments. It names all lines that are refused with their files.
+try_asked() {
+    mkdir prf
+    printf '%s\n' '#!/usr/bin/env bash' 'if [ "$1" = rounds ]; then tee asked; else cat; fi | "$PROGRAM" "$@"' >asking
+    chmod +x asking
     printf '%s\n' '# hosts' 'desk /hosts/other' 'anna@desk /hosts/desk/' $'\tlaptop~  /home/anna b' 'laptop /' >hosts
-}
-
-try_folder() {
-    fill_folder
-    ask 0 from-prf.sh -v --hosts hosts unison/
-    compare 'a bundle' written <<'LINES'
+    echo 'ignore = Name common' >prf/common
+    echo 'ignore = Name common.prf' >prf/common.prf
+    printf 'ignore = Name part\r\nmaxthreads = 2\r\n' >prf/part.prf
+    printf 'include part' >'prf/with space'
+    printf '\xef\xbb\xbf%s\r\n' 'root = /srv/hub' >prf/docs.prf
+    printf '%s\n' 'root = ssh://anna@Desk:22//srv/' 'include common' 'include   common.prf' 'source? part' 'include with\ space' \
+        ' include common' '%rules' 'force = ssh://anna@Desk:22//srv/' 'nodeletionpartial = Name a -> b -> ssh://anna@Desk:22//srv/' \
+        'follow = Path a' ' sshargs=-C' 'rsrc = true' 'rsrc = default' 'paths = a' '# retry = 1' 'path = retry = 1' >>prf/docs.prf
+    echo 'root = /srv/hub' >prf/one.prf
+    printf '%s\n' 'root = ssh://laptop/docs' 'root = socket://laptop//' 'root = ssh://desk/docs' >prf/roots.prf
+    PROGRAM=$program ask 3 ../tools/unison-rounds --program ./asking --only-check --hosts hosts prf
+    compare 'what hubsync is asked' asked <<'LINES'
 %profile docs
 root = /srv/hub
 root = /hosts/desk/srv
@@ -116,184 +73,104 @@ ignore = Name part
 force = /hosts/desk/srv
 nodeletionpartial = Name a -> b -> /hosts/desk/srv
 follow = Path a
-confirmbigdel = false
 # left out:  sshargs=-C
 rsrc = true
 # left out: rsrc = default
-backuploc = local
+paths = a
 # retry = 1
 path = retry = 1
+%profile one
+root = /srv/hub
 %profile roots
 root = /home/anna b/docs
 root = /
 root = ssh://desk/docs
 LINES
-    compare 'what is said of a bundle' said <<'LINES'
-unison/common.prf: no profile, since it has no root and another one includes it
-unison/part.prf: no profile, since it has no root and another one includes it
-unison/docs.prf:1: a byte order mark is dropped
-unison/docs.prf:2: ssh://anna@Desk:22//srv/ is written as /hosts/desk/srv
-unison/docs.prf:3: in place: unison/common
-unison/docs.prf:4: in place: unison/common.prf
-unison/docs.prf:5: there is no such file: source? part
-unison/docs.prf:6: in place: unison/with space
-unison/with space:1: in place: unison/part.prf
-unison/part.prf:2: left out: maxthreads = 2
-unison/docs.prf:8: a blank is put before it: %rules
-unison/docs.prf:9: ssh://anna@Desk:22//srv/ is written as /hosts/desk/srv
-unison/docs.prf:10: ssh://anna@Desk:22//srv/ is written as /hosts/desk/srv
-unison/docs.prf:13: left out:  sshargs=-C
-unison/docs.prf:15: left out: rsrc = default
-unison/roots.prf:1: ssh://laptop/docs is written as /home/anna b/docs
-unison/roots.prf:2: socket://laptop// is written as /
-unison/roots.prf:3: a root of another machine: give --hosts a table with a line desk~ /hosts/desk/home/NAME: root = ssh://desk/docs
+    compare 'what is said of the answers' said <<'LINES'
+prf/docs.prf:7: refused: IncludeLeftOut: include common: Unison refuses a blank before it: take it away
+prf/docs.prf:8: refused: NoEquals: %rules: there is no = in it: a line is NAME = VALUE, or begins with #
+prf/docs.prf:11: refused: UnknownPreference follow: follow = Path a: hubsync has no answer for a profile with this line: run it alone
+prf/docs.prf:13: refused: UnknownPreference rsrc: rsrc = true: hubsync has no answer for a profile with this line: run it alone
+prf/docs.prf:15: refused: UnknownPreference paths: paths = a: did you mean path?
+prf/one.prf: refused: RootCount: a profile has two roots, and this one has /srv/hub (prf/one.prf:1)
+prf/roots.prf:3: refused: BadPath RemoteRoot: root = ssh://desk/docs: a root of another machine: give --hosts a table with a line desk~ /hosts/desk/home/NAME
+prf/roots.prf: refused: RootCount: a profile has two roots, and this one has /home/anna b/docs (prf/roots.prf:1), / (prf/roots.prf:2), /refused/1 (prf/roots.prf:3)
+nothing is started: mend these lines, or name behind the folder the profiles that are to run without the others
 LINES
-    ask 0 from-prf.sh unison roots
-    compare 'one profile without a table' said <<'LINES'
-unison/roots.prf:1: a root of another machine: give --hosts a table with a line laptop~ /hosts/laptop/home/NAME: root = ssh://laptop/docs
-unison/roots.prf:2: a root of another machine: give --hosts a table with a line laptop /hosts/laptop: root = socket://laptop//
-unison/roots.prf:3: a root of another machine: give --hosts a table with a line desk~ /hosts/desk/home/NAME: root = ssh://desk/docs
-LINES
-    ask 0 from-prf.sh --hosts hosts unison
-    tail -1 said >last
-    compare 'how many lines are changed' last <<<'lines left out or written differently: 15 (-v names them)'
+    rm -R prf
 }
 
-# What is wrong with files or words: nothing is written.
-try_faults() {
-    printf '%s\n' 'include nope' 'source part' 'source? a b' 'include' 'include loop' >unison/wrong.prf
-    echo 'include wrong' >unison/loop
-    ask 1 from-prf.sh unison wrong
-    compare 'wrong includes' said <<'LINES'
-unison/wrong.prf:1: no file unison/nope.prf
-unison/wrong.prf:2: no file unison/part
-unison/wrong.prf:3: source takes one name, with \ before each space in it: source? a b
-unison/loop:1: unison/wrong.prf includes itself
-LINES
-    ask 1 from-prf.sh --hosts unison/common unison docs
-    compare 'a wrong table' said <<<'unison/common:1: not HOST PATH, with an absolute path: ignore = Name common'
-    ask 1 from-prf.sh nope
-    compare 'no folder' said <<<'not a folder: nope'
-    ask 2 from-prf.sh
-    ask 2 from-prf.sh --asks "$program" unison
-    ask 2 from-prf.sh --ask unison/common unison
-    [ ! -s written ] || complain 'from-prf.sh writes a bundle though its words are wrong'
-    rm -R unison hosts
+# Has unison-rounds look at the lines of a folder, and start nothing.
+#
+#     check_only WANTED-STATUS WORD..
+check_only() {
+    ask "$1" ../tools/unison-rounds --program "$program" --only-check "${@:2}"
 }
 
-# A set that is safe as it is, one with faults that no line has, and two profiles that overlap.
-try_answers() {
-    mkdir unison
-    printf '%s\n' 'root = /srv/hub' 'root = /srv/desk' 'path = docs' 'retry = 1' >unison/desk.prf
-    ask 0 from-prf.sh --ask "$program" unison <&-
-    compare 'a safe set' said <<<$'lines left out or written differently: 1 (-v names them)\nsafe'
-    echo 'follow = Path docs' >>unison/desk.prf
-    printf '%s\n' 'root = /srv/hub' 'root = /srv/home' 'path = docs/a' 'merge = Name a' >unison/home.prf
-    echo 'root = /srv/hub' >unison/one.prf
-    ask 1 from-prf.sh --ask "$program" unison
-    compare 'an unsafe set' said <<'LINES'
-lines left out or written differently: 1 (-v names them)
-unison/desk.prf:5: refused: UnknownPreference follow: follow = Path docs: hubsync has no answer for a profile with this line: run it alone
-unison/home.prf:4: refused: UnknownPreference merge: merge = Name a: hubsync has no answer for a profile with this line: run it alone
-unison/one.prf: refused: RootCount: a profile has two roots, and this one has /srv/hub (unison/one.prf:1)
-refused: 3, read differently: 0 (docs/UNISON.md). hubsync's answer without what is refused:
-desk and home: overlap: desk writes docs at /srv/hub, home reaches docs/a
-LINES
-    rm -R unison
-}
-
-# Values that depend on times are left out, but not beside another `force` line.
-try_newer() {
-    mkdir unison
-    printf '%s\n' 'root = /srv/hub' 'root = /srv/desk' 'prefer = newer' 'force = older' >unison/desk.prf
-    ask 0 from-prf.sh -v --ask "$program" unison
-    compare 'newer and older' said <<<$'unison/desk.prf:3: left out: prefer = newer\nunison/desk.prf:4: left out: force = older\nsafe'
-    echo 'force = /srv/hub' >>unison/desk.prf
-    ask 1 from-prf.sh --ask "$program" unison
-    grep -q '^unison/desk.prf:4: refused: LeftOutValue: force = older: ' said || complain 'one of two force lines is left out'
-    rm -R unison
-}
-
-# A folder of backups is left out if it surely lies in no root of any profile on any machine: each side has its backups there.
+# A folder of backups doesn't count if it surely lies in no root of any profile on any machine: each side has its backups there.
 try_backups() {
-    mkdir unison
+    mkdir prf
     printf '%s\n' 'root = /srv/hub' 'root = ssh://desk//data/' 'backupdir = /srv/hub-old' 'backupdir = /srv/hub/old' \
         'backupdir = /home/anna/old' 'backupdir = /data/old' 'backupdir = /srv/bob/docs/old' 'backupdir = /srv/old/docs' \
-        'backupdir = old' 'backupdir = /srv/../srv/hub/old' >unison/hub.prf
-    printf '%s\n' 'root = /home/anna' 'root = ssh://anna@desk:22/docs' >unison/home.prf
-    ask 0 from-prf.sh -v unison
-    compare 'folders of backups that lie in no root' said <<'LINES'
-unison/home.prf:2: a root of another machine: give --hosts a table with a line anna@desk~ /hosts/desk/home/anna: root = ssh://anna@desk:22/docs
-unison/hub.prf:2: a root of another machine: give --hosts a table with a line desk /hosts/desk: root = ssh://desk//data/
-unison/hub.prf:3: left out: backupdir = /srv/hub-old
+        'backupdir = old' 'backupdir = /srv/../srv/hub/old' >prf/hub.prf
+    printf '%s\n' 'root = /home/anna' 'root = ssh://anna@desk:22/docs' >prf/home.prf
+    printf '%s\n' 'desk /desk' 'desk~ /desk/home' >hosts
+    check_only 3 --hosts hosts prf
+    sed -n 's/: this folder may lie in a root: .*//p' said >refused
+    compare 'folders of backups that may lie in a root' refused <<'LINES'
+prf/hub.prf:4: refused: UnknownPreference backupdir: backupdir = /srv/hub/old
+prf/hub.prf:5: refused: UnknownPreference backupdir: backupdir = /home/anna/old
+prf/hub.prf:6: refused: UnknownPreference backupdir: backupdir = /data/old
+prf/hub.prf:7: refused: UnknownPreference backupdir: backupdir = /srv/bob/docs/old
+prf/hub.prf:8: refused: UnknownPreference backupdir: backupdir = /srv/old/docs
+prf/hub.prf:9: refused: UnknownPreference backupdir: backupdir = old
+prf/hub.prf:10: refused: UnknownPreference backupdir: backupdir = /srv/../srv/hub/old
 LINES
-    rm -R unison
+    rm -R prf
 }
 
-# Makes a profile of two roots of its own with these lines, which begin at line 3.
-#
-#     add NAME LINE..
-add() {
-    printf '%s\n' "root = /hub/$1" "root = /desk/$1" "${@:2}" >"unison/$1.prf"
+# What unison-rounds says of an included file that is missing, that includes itself, or that has no one name, and of a wrong table.
+try_files() {
+    mkdir prf
+    printf '%s\n' 'include nope' 'source part' 'source? a b' 'include' 'include loop' >prf/wrong.prf
+    echo 'include wrong' >prf/loop
+    check_only 3 prf
+    compare 'wrong includes' said <<'LINES'
+prf/wrong.prf:1: no file prf/nope.prf
+prf/wrong.prf:2: no file prf/part
+prf/wrong.prf:3: source takes one name, with \ before each space in it: source? a b
+prf/loop:1: prf/wrong.prf includes itself
+LINES
+    check_only 3 --hosts prf/loop prf
+    compare 'a wrong table' said <<<'prf/loop:1: not HOST PATH, with an absolute path: include wrong'
+    echo 'DESK /other' >>hosts
+    check_only 3 --hosts hosts prf
+    compare 'a second line of a host' said <<<'hosts:3: a second line for DESK'
+    check_only 3 nope
+    compare 'no folder' said <<<'not a folder: nope'
+    rm -R prf
 }
 
-# Profiles with lines that Unison reads differently, and some that it reads alike.
-fill_differences() {
-    mkdir unison
-    add alike 'path = a*' 'ignore = Path docs/**' 'ignorenot = Name *.tmp' 'ignore = Name [+-.]b' 'ignore = Name .b' \
-        'nocreation = /desk/alike' 'noupdate = /desk/alike' 'batch = true' 'perms = 0o600' 'logfile = /log'
-    add bar 'path = d' 'nodeletionpartial = BelowPath d/{e/f,g} -> /hub/bar' 'nodeletionpartial = Path d/e -> /hub/bar' \
-        'noupdatepartial = Path d->/hub/bar' 'noupdatepartial = Name x -> /hub/bar' 'nodeletionpartial = Path d/e/* -> /desk/bar'
-    add bars-alike 'path = d' 'path = e/f' 'noupdatepartial = Path d -> /hub/bars-alike' 'noupdatepartial = BelowPath e -> /hub/bars-alike' \
-        'noupdatepartial = Path g/h -> /hub/bars-alike' 'noupdatepartial = BelowPath d/i/j -> /hub/bars-alike' \
-        'noupdatepartial = Path {d/i,e/f/g} -> /hub/bars-alike'
-    add braces 'ignore = Name *.{tmp,bak,swp}' 'ignore = Name .{bak,x}' 'ignore = Path *.d/*.tmp' 'ignorenot = Path .d/.tmp'
-    add gone 'noupdatepartial = BelowPath d -> /hub/gone' 'confirmbigdel = false'
-    add newly 'nocreation = /desk/newly'
-    add other 'path = docs/*' 'path = *' 'batch = yes' 'perms = x' 'logfile = /desk/other/log' 'nodeletion = /hub/other/'
-    add pattern $'ignore = Name\tx' 'ignore = Name {x,}' 'ignore = Name a -> b' 'ignore = Path docs/??' 'ignore = Name [é]x' 'ignore = Name [{a]'
-    printf '%s\n' 'root = /hub/remote' 'root = ssh://pc//desk' 'path = d' 'noupdatepartial = Path d/e -> ssh://pc//desk' \
-        'nodeletion = ssh://pc//desk/' >unison/remote.prf
+# The lines on which Unison stops, with what to write.
+try_stops() {
+    mkdir prf
+    printf '%s\n' 'root = /srv/hub' 'root = ssh://pc//desk' $'ignore = Name\tx' $'noupdatepartial = Path\tx -> ssh://pc//desk' \
+        'nodeletion = ssh://pc//desk/' 'noupdatepartial = Path a -> ssh://pc//desk/' 'prefer = /srv/hub/' 'force = older' 'perms = x' \
+        'perms = 0o600' 'batch = true' 'auto = yes' >prf/p.prf
     echo 'pc /pc' >hosts
-    echo 'ignore = Name *.o' >unison/common
-    echo 'include common' | tee -a unison/newly.prf >>unison/other.prf
-}
-
-# Each of these lines is named once, with what to write.
-try_differences() {
-    fill_differences
-    ask 1 from-prf.sh --hosts hosts --ask "$program" unison
-    sed 's/Unison reads this differently: //' said >different
-    compare 'lines that Unison reads differently' different <<'LINES'
-lines left out or written differently: 5 (-v names them)
-unison/bar.prf:4: nodeletionpartial = BelowPath d/{e/f,g} -> /hub/bar: it tests a bar only at the path of an item: add nodeletionpartial = Path d -> /hub/bar
-unison/bar.prf:5: nodeletionpartial = Path d/e -> /hub/bar: it tests a bar only at the path of an item: add nodeletionpartial = Path d -> /hub/bar
-unison/bar.prf:6: noupdatepartial = Path d->/hub/bar: it bars nothing without a space on each side of ->: write noupdatepartial = Path d -> /hub/bar
-unison/bar.prf:7: noupdatepartial = Name x -> /hub/bar: it tests a bar only at the path of an item: write Path or BelowPath with the path
-unison/bar.prf:8: nodeletionpartial = Path d/e/* -> /desk/bar: it tests a bar only at the path of an item: add nodeletionpartial = Path {d,d/e} -> /desk/bar
-unison/braces.prf:3: ignore = Name *.{tmp,bak,swp}: a dot at the start of a name isn't matched: add ignore = Name {.tmp,.swp}, or to keep these paths ignorenot = Name {.tmp,.swp}
-unison/braces.prf:5: ignore = Path *.d/*.tmp: a dot at the start of a name isn't matched: add ignore = Path {*.d/.tmp,.d/*.tmp}, or to keep these paths ignorenot = Path {*.d/.tmp,.d/*.tmp}
-unison/gone.prf:3: noupdatepartial = BelowPath d -> /hub/gone: a bar doesn't hold if a root is gone: leave confirmbigdel = false out, or name with path lines what is wanted
-unison/newly.prf:3: nocreation = /desk/newly: a file may become a directory all the same: beside a rule nonew for what is in it, write nochange for the file
-unison/common:1: ignore = Name *.o: a dot at the start of a name isn't matched: add ignore = Name .o, or to keep these paths ignorenot = Name .o
-unison/other.prf:3: path = docs/*: a last name * stands for all children: write path = docs
-unison/other.prf:4: path = *: a last name * stands for all children: leave the line out
-unison/other.prf:5: batch = yes: it refuses this: write true or false
-unison/other.prf:6: perms = x: it refuses this: write a number
-unison/other.prf:7: logfile = /desk/other/log: it writes this file while it runs: name one outside the roots
-unison/other.prf:8: nodeletion = /hub/other/: it wants the text of the root line: write nodeletion = /hub/other
-unison/pattern.prf:3: ignore = Name	x: it refuses a tab after Name: write a space
-unison/pattern.prf:4: ignore = Name {x,}: it matches the whole replica: leave it out, and name with path lines what is wanted
-unison/pattern.prf:5: ignore = Name a -> b: it cuts off the last -> and what follows it: write ignore = Name a
-unison/pattern.prf:6: ignore = Path docs/??: ? matches one byte, not one character: write a set of ASCII characters in its place, as [0-9] or [a-z]
-unison/pattern.prf:7: ignore = Name [é]x: a set matches one byte, not one character: write the letters in braces
-unison/pattern.prf:8: ignore = Name [{a]: it reads braces before brackets: write the set without { } and ,
-unison/remote.prf:4: noupdatepartial = Path d/e -> ssh://pc//desk: it tests a bar only at the path of an item: add noupdatepartial = Path d -> ssh://pc//desk
-unison/remote.prf:5: nodeletion = ssh://pc//desk/: it wants the text of the root line: write nodeletion = ssh://pc//desk
-refused: 0, read differently: 23 (docs/UNISON.md). hubsync's answer without what is refused:
-safe
+    check_only 3 --hosts hosts prf
+    compare 'lines on which Unison stops' said <<'LINES'
+prf/p.prf:3: Unison stops at this: ignore = Name	x: it refuses a tab after Name: write a space
+prf/p.prf:4: Unison stops at this: noupdatepartial = Path	x -> ssh://pc//desk: it refuses a tab after Path: write a space
+prf/p.prf:5: Unison stops at this: nodeletion = ssh://pc//desk/: it wants the text of the root line: write nodeletion = ssh://pc//desk
+prf/p.prf:6: Unison stops at this: noupdatepartial = Path a -> ssh://pc//desk/: it wants the text of the root line: write noupdatepartial = Path a -> ssh://pc//desk
+prf/p.prf:7: Unison stops at this: prefer = /srv/hub/: it wants the text of the root line: write prefer = /srv/hub
+prf/p.prf:8: Unison stops at this: force = older: it wants times = true for this: add that line
+prf/p.prf:9: Unison stops at this: perms = x: it refuses this: write a number
+prf/p.prf:12: Unison stops at this: auto = yes: it refuses this: write true or false
+nothing is started: mend these lines, or name behind the folder the profiles that are to run without the others
 LINES
-    rm -R unison hosts
+    rm -R prf
 }
 
 # The state of version 2 that a run leaves, where a path and a root have blanks. The items are those of an answer of version 1.
@@ -421,7 +298,6 @@ try_install() {
 ./share/hubsync/UnisonProfiles.pm
 ./share/hubsync/UnisonRoots.pm
 ./share/hubsync/UnisonRuns.pm
-./share/hubsync/from-prf.sh
 ./share/hubsync/items.sh
 ./share/hubsync/state-of-folder.sh
 ./share/hubsync/verify.py
@@ -430,7 +306,7 @@ try_install() {
 LINES
     mkdir unison
     printf '%s\n' 'root = /srv/hub' 'root = /srv/desk' 'path = docs' >unison/desk.prf
-    local/share/hubsync/from-prf.sh unison >bundle || complain 'an installed script fails'
+    local/share/hubsync/state-of-folder.sh unison >state || complain 'an installed script fails'
     local/bin/unison-rounds --only-check unison || complain 'an installed tool fails'
     echo mine >local/share/man/man1/other.1
     ask 0 ../install --uninstall --prefix "$room/local"
@@ -438,7 +314,7 @@ LINES
     compare 'what is left' installed <<<./share/man/man1/other.1
     ask 2 ../install --prefix
     ask 2 ../install local
-    rm -R local unison bundle
+    rm -R local unison state
 }
 
 if [ ! -x "$program" ]; then
@@ -448,15 +324,10 @@ fi
 room=$(mktemp -d)
 trap 'rm -rf "$room"' EXIT
 cd -P "$room"
-try_office
-try_for_unison office
-try_for_unison manual
-try_folder
-try_faults
-try_answers
-try_newer
+try_asked
 try_backups
-try_differences
+try_files
+try_stops
 try_items
 try_archive
 try_run

@@ -17,7 +17,8 @@ asked=0
 wrong=0
 # what is said below a yes for Unison, and below an overlap or a breach
 assumed='hubsync: for Unison 2.52 with -batch and no preference on its command line, where only these runs write,
-hubsync: no symbolic link is followed, names differ as their bytes do, and the folders above path lines exist'
+hubsync: no symbolic link is followed, each folder and host has one name, names differ as their bytes do,
+hubsync: and the folders above path lines exist'
 wider='hubsync: more counts with --unison than may happen: compare the answer without it'
 apart='hubsync: run one after the other, or give one other paths, an ignore or a bar'
 
@@ -78,18 +79,14 @@ hubsync: forms/common line 1: follow = Path common
 hubsync: docs/UNISON.md lists them under Which preferences count
 hubsync: forms/part.prf line 1: follow = Path part.prf
 hubsync: docs/UNISON.md lists them under Which preferences count
-hubsync: forms/common line 1: follow = Path common
-hubsync: docs/UNISON.md lists them under Which preferences count
 hubsync: forms/common.prf line 1: follow = Path common.prf
 hubsync: docs/UNISON.md lists them under Which preferences count
 hubsync: forms/with blank.prf line 1: follow = Path blank
 hubsync: docs/UNISON.md lists them under Which preferences count
 hubsync: forms/below/file line 1: follow = Path below
 hubsync: docs/UNISON.md lists them under Which preferences count
-hubsync: forms/common line 1: follow = Path common
-hubsync: docs/UNISON.md lists them under Which preferences count
 hubsync: forms/docs.prf line 12: "include\\tnone"
-hubsync: write that file's lines in its place, as examples/from-prf.sh does
+hubsync: write that file's lines in its place; in a .prf file, with --unison, one space follows include
 LINES
     ask 2 check --unison forms/docs.prf <<LINES
 fault: profile docs line 4: UnknownPreference follow
@@ -97,18 +94,14 @@ hubsync: forms/common line 1: follow = Path common
 hubsync: docs/UNISON.md lists them under Which preferences count
 hubsync: forms/part.prf line 1: follow = Path part.prf
 hubsync: docs/UNISON.md lists them under Which preferences count
-hubsync: forms/common line 1: follow = Path common
-hubsync: docs/UNISON.md lists them under Which preferences count
 hubsync: forms/common.prf line 1: follow = Path common.prf
 hubsync: docs/UNISON.md lists them under Which preferences count
 hubsync: forms/with blank.prf line 1: follow = Path blank
 hubsync: docs/UNISON.md lists them under Which preferences count
 hubsync: forms/below/file line 1: follow = Path below
 hubsync: docs/UNISON.md lists them under Which preferences count
-hubsync: forms/common line 1: follow = Path common
-hubsync: docs/UNISON.md lists them under Which preferences count
 hubsync: forms/docs.prf line 12: "include\\tnone"
-hubsync: write that file's lines in its place, as examples/from-prf.sh does
+hubsync: write that file's lines in its place; in a .prf file, with --unison, one space follows include
 LINES
     (
         cd forms
@@ -118,18 +111,14 @@ hubsync: common line 1: follow = Path common
 hubsync: docs/UNISON.md lists them under Which preferences count
 hubsync: part.prf line 1: follow = Path part.prf
 hubsync: docs/UNISON.md lists them under Which preferences count
-hubsync: common line 1: follow = Path common
-hubsync: docs/UNISON.md lists them under Which preferences count
 hubsync: common.prf line 1: follow = Path common.prf
 hubsync: docs/UNISON.md lists them under Which preferences count
 hubsync: with blank.prf line 1: follow = Path blank
 hubsync: docs/UNISON.md lists them under Which preferences count
 hubsync: below/file line 1: follow = Path below
 hubsync: docs/UNISON.md lists them under Which preferences count
-hubsync: common line 1: follow = Path common
-hubsync: docs/UNISON.md lists them under Which preferences count
 hubsync: docs.prf line 12: "include\\tnone"
-hubsync: write that file's lines in its place, as examples/from-prf.sh does
+hubsync: write that file's lines in its place; in a .prf file, with --unison, one space follows include
 LINES
     )
 }
@@ -278,6 +267,7 @@ LINES
     ln -s nowhere unreadable/link/link.prf
     ask 2 check --unison unreadable/link <<LINES
 fault: unreadable/link/link.prf: ReadFailed
+hubsync: unreadable/link/link.prf is in the folder, but there is no such file: is it a link?
 LINES
     put_profile unreadable/right/docs.prf 'include? part'
     put unreadable/right/part 'path = a'
@@ -332,6 +322,71 @@ LINES
 fault: profile latin line 0: NotUtf8
 hubsync: line 3 (texts/latin.prf line 3) is not UTF-8 at byte 8
 hubsync: save the file as UTF-8
+LINES
+}
+
+# A profile takes in 1,000 files, and no more. A fault of an earlier line comes first, also of a file that a later one asks for.
+try_many() {
+    put_profile many/docs.prf
+    local number
+    for ((number = 1; number <= 1000; number++)); do
+        echo "source $number" >>many/docs.prf
+        : >"many/$number"
+    done
+    ask 0 check --unison many/docs.prf <<LINES
+safe
+$assumed
+LINES
+    echo 'source more' >>many/docs.prf
+    : >many/more
+    ask 2 check --unison many/docs.prf <<LINES
+fault: many/docs.prf: TooManyFiles
+LINES
+    put_profile many/first.prf 'source none' 'source folder'
+    mkdir many/folder
+    ask 2 check --unison many/first.prf <<LINES
+fault: many/first.prf: NoFile
+hubsync: many/first.prf, line 3 names a file that isn't in the profile's folder
+LINES
+    put_profile many/second.prf 'source inner' 'source none'
+    put many/inner 'source folder'
+    ask 2 check --unison many/second.prf <<LINES
+fault: many/folder: ReadFailed
+hubsync: many/folder can't be read: Is a directory (os error 21)
+LINES
+    put_profile many/third.prf 'source round' 'source folder'
+    put many/round 'source round'
+    ask 2 check --unison many/third.prf <<LINES
+fault: many/round: Cycle
+hubsync: many/round, line 1 includes a file that includes this one: Unison's stack overflows
+LINES
+}
+
+# All lines that don't count, and all that are refused.
+try_verbose() {
+    put_profile verbose/docs.prf 'prefer = newer' 'maxsizethreshold = 5' 'path = a' 'mountpoint = x'
+    ask 0 check --unison --verbose verbose <<LINES
+safe
+$assumed
+hubsync: lines that don't count, as Unison does no less without them: 3, first verbose/docs.prf line 3: prefer = newer
+hubsync: nor does verbose/docs.prf line 4: maxsizethreshold = 5
+hubsync: nor does verbose/docs.prf line 6: mountpoint = x
+LINES
+    put_profile verbose/refused.prf 'follow = Name '{a,b,c,d,e,f,g,h,i,j,k,l}
+    ask 2 rounds --unison verbose/refused.prf --verbose <<LINES
+fault: profile refused line 3: UnknownPreference follow
+$(for number in {3..14}; do
+        echo "hubsync: verbose/refused.prf line $number: $(sed -n "${number}p" verbose/refused.prf)"
+        echo 'hubsync: docs/UNISON.md lists them under Which preferences count'
+    done)
+LINES
+    ask 2 rounds --unison verbose/refused.prf <<LINES
+fault: profile refused line 3: UnknownPreference follow
+$(for number in {3..13}; do
+        echo "hubsync: verbose/refused.prf line $number: $(sed -n "${number}p" verbose/refused.prf)"
+        echo 'hubsync: docs/UNISON.md lists them under Which preferences count'
+    done)
+hubsync: more lines that are refused: 1
 LINES
 }
 
@@ -476,15 +531,51 @@ try_whole() {
     done
 }
 
-# What the program answers to a folder, and to the bundle that from-prf.sh makes of it, is the same.
+# Each profile of these folders by itself. Only lines are refused by which Unison may do more, or that name a root otherwise.
+try_each() {
+    local each file
+    for each in office manual; do
+        for file in "$folder/$each/unison"/*.prf; do
+            asked=$((asked + 1))
+            file=$(basename "$file" .prf)
+            echo "$file: $("$program" check --unison "$folder/$each/unison/$file.prf" --hosts "$folder/$each/hosts" 2>/dev/null </dev/null)"
+        done >"$room/answers"
+        compare "the answers to each profile of examples/$each" "$room/answers" <"$folder/$each/answers-for-unison"
+    done
+}
+
+# What `import` writes of a folder: included lines are in place, hosts are paths, and what counts for nothing is left out.
+try_import() {
+    put import/common 'ignore = Name common' 'height = 20'
+    printf '\xef\xbb\xbf%s\r\n' 'root = /srv/hub' >import/docs.prf
+    printf '%s\r\n' 'root = ssh://anna@Desk:22//srv/' 'include common' 'source? none' 'source more' >>import/docs.prf
+    put import/more 'nodeletionpartial = Path a -> b -> ssh://anna@Desk:22//srv/' 'force = newer' 'path = docs' 'confirmbigdel = false'
+    put import/part.prf 'root = socket://laptop//top' 'root = ssh://laptop/photos' 'path = retry = 1' ' sshargs=-C' 'prefer = ssh://laptop/photos'
+    ask 0 import import --hosts remote/table <<LINES
+%profile docs
+root = /srv/hub
+root = /hosts/desk/srv
+path = docs
+ignore = Name common
+%profile part
+root = /top
+root = /home/anna b/photos
+path = retry = 1
+$assumed
+hubsync: lines that don't count, as Unison does no less without them: 5, first import/common line 2: height = 20
+LINES
+}
+
+# What the program answers to a folder, and to the bundle that is imported of it, is the same.
 #
 #     try_bundle FOLDER HOSTS
 try_bundle() {
     local command
-    "$folder/from-prf.sh" --hosts "$2" "$1" >"$room/bundle" 2>/dev/null
+    "$program" import "$1" --hosts "$2" >"$room/bundle" 2>/dev/null </dev/null || complain "import $1: there is no bundle"
     for command in check clashes rounds; do
+        asked=$((asked + 1))
         "$program" "$command" --unison "$1" --hosts "$2" >"$room/written" 2>/dev/null </dev/null || true
-        { "$program" "$command" --unison <"$room/bundle" 2>/dev/null || true; } | compare "$command: the folder $1 and its bundle" "$room/written"
+        { "$program" "$command" <"$room/bundle" 2>/dev/null || true; } | compare "$command: the folder $1 and its bundle" "$room/written"
     done
 }
 
@@ -514,9 +605,13 @@ try_missing
 try_lines
 try_unreadable
 try_texts
+try_many
+try_verbose
 try_hosts
 try_operands
 try_whole
+try_each
+try_import
 try_bundles
 echo "folders: ${1:-hubsync} answered $asked, $wrong of them wrongly"
 [ "$wrong" = 0 ]

@@ -210,10 +210,27 @@ fn say_nested(out: &mut String, source: &Source<'_>, roots: &str) -> Said {
     say_root(out, source, first)?;
     say_root(out, source, second)?;
     say_other_nested(out, source, first, second)?;
+    if is_of_rule(source, first) || is_of_rule(source, second) {
+        return say(
+            out,
+            "write the rule at the profile's own root, and in its pattern the paths below that",
+        );
+    }
     say(
         out,
         "rounds puts two such profiles into different rounds; or move both roots of one up alike: a path is below both",
     )
+}
+
+/// Returns whether only rules have a root.
+fn is_of_rule(source: &Source<'_>, root: &str) -> bool {
+    let rules = source.section("%rules");
+    !source.lines().iter().any(|line| {
+        Some(line.section) != rules
+            && line
+                .value_of("root")
+                .is_some_and(|value| is_same_root(value, root))
+    })
 }
 
 /// Says which line has a root, the first one.

@@ -97,7 +97,7 @@ outside-left es count i (Round own) h = go (nat_lt own count) refl
   where
     go : (b : Bool) → nat_lt own count ≡ b → not b ≡ false
     go true e = refl
-    go false e = absurd (grind (arith, nat_tests, e, h))
+    go false e = let below = h.0 in absurd (grind (arith, nat_tests, e, below))
 
 pub left-outside : (es : List CheckFault) (count : ℕ) (ps : List Placed) → ArePlaced es count ps
     → filter (λ p. is_outside count p.placing) ps ≡ filter (λ p. not (is_in_some p.placing)) ps

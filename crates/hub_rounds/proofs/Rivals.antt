@@ -62,7 +62,7 @@ test-passes p (y ∷ ys) x has is = go (p y) refl (cons-cases y x ys has) (λ th
 
 -- Where profiles stand when there may be more rounds, and one more profile.
 placed-still : (es : List CheckFault) (n m i : ℕ) (q : Placing) → n ≤ m → IsPlaced es n i q → IsPlaced es m i q
-placed-still es n m i (Round k) l h = omega (arith, l, h)
+placed-still es n m i (Round k) l h = let below = h.0 in (omega (arith, l, below), h.1)
 placed-still es n m i (Unplaced why) l h = h
 
 pub none-placed : (es : List CheckFault) (n : ℕ) → ArePlaced es n []
@@ -86,7 +86,7 @@ one-used-more n m ps p opens are = λ k l. ⊎_elim
 
 -- No two of a round have a line, also with one more profile that stands in a round of those so far only if it is free for it.
 round-below : (es : List CheckFault) (n i k : ℕ) (q : Placing) → IsPlaced es n i q → is_in_round k q ≡ true → k < n
-round-below es n i k (Round own) h is = grind (arith, nat_tests, h, is)
+round-below es n i k (Round own) h is = let below = h.0 in grind (arith, nat_tests, below, is)
 round-below es n i k (Unplaced why) h is = absurd (true≢false (sym is))
 
 pub stands-free : (es : List CheckFault) (ps : List Placed) (count i own : ℕ) → (own < count → IsFreeFor es ps own i) → StandsFree es ps count i (Round own)

@@ -1,5 +1,5 @@
 -- What lines say of which profiles. A line is a fault of the check.
-use Rattle.std.specs.Prelude.{◌≡◌, ◌==◌, ◌&&◌, ◌||◌, ℕ, Bool, true, false, List, Option, None, Some, Contains}
+use Rattle.std.specs.Prelude.{◌≡◌, ◌==◌, ◌&&◌, ◌||◌, ℕ, Bool, true, false, if◌then◌else◌, List, Option, None, Some, Contains}
 use Rattle.std.specs.List.{find}
 use Rattle.hub_cert.specs.declared.fault.CheckFault.{CheckFault}
 use Rattle.hub_cert.specs.declared.fault.CheckFault.TheVariants as fault
@@ -42,6 +42,22 @@ HasPair es i j = (e : CheckFault) × Contains es e × (names_pair (subject_of e)
 -- One of the lines is about this profile alone, and says why it is in no round.
 abbrev pub HasOwnLine : List CheckFault → ℕ → Obstacle → Type 0
 HasOwnLine es i why = (e : CheckFault) × Contains es e × (subject_of e ≡ Alone i why)
+
+-- Why this profile is in no round, if it is about this profile alone.
+abbrev pub reason_in : ℕ → Subject → Option Obstacle
+reason_in i (Alone p why) = if p == i then Some why else None
+reason_in i (Pair w o) = None
+reason_in i Nothing = None
+
+-- It is about this profile alone.
+abbrev pub names_alone : ℕ → Subject → Bool
+names_alone i (Alone p why) = p == i
+names_alone i (Pair w o) = false
+names_alone i Nothing = false
+
+-- None of the lines is about this profile alone.
+abbrev pub HasNoOwnLine : List CheckFault → ℕ → Type 0
+HasNoOwnLine es i = (why : Obstacle) → HasOwnLine es i why → ⊥
 
 -- It is about this profile alone, which may break a rule.
 abbrev pub tells_breach : ℕ → Subject → Bool

@@ -4,7 +4,7 @@ use Rattle.std.specs.List.{range_with_len}
 use Rattle.hub_profile.specs.Parts.{Parts}
 use Rattle.hub_cert.specs.Set.{IsSafeSet, Members}
 use Rattle.hub_cert.specs.declared.fault.CheckFault.{CheckFault}
-use Rattle.hub_rounds.specs.Lines.{HasOwnLine, HasPair, IsFirstReason}
+use Rattle.hub_rounds.specs.Lines.{HasNoOwnLine, HasOwnLine, HasPair, IsFirstReason}
 use Rattle.hub_rounds.specs.declared.placing.Placed.{Placed}
 use Rattle.hub_rounds.specs.declared.placing.Placing.{Placing}
 use Rattle.hub_rounds.specs.declared.placing.Placing.TheVariants.{Round, Unplaced}
@@ -27,10 +27,10 @@ is_outside n (Unplaced why) = true
 abbrev pub profiles_in_round : ℕ → List Placed → List Parts
 profiles_in_round k ps = map (λ p. p.profile) (filter (λ p. is_in_round k p.placing) ps)
 
--- A profile stands in one of so many rounds, or a line says why it is in none: the first one that
--- says that it breaks a rule, if there is such a line.
+-- A profile stands in one of so many rounds if no line is about it alone. Else such a line says why
+-- it is in none: the first one that says that it breaks a rule, if there is one.
 abbrev pub IsPlaced : List CheckFault → ℕ → ℕ → Placing → Type 0
-IsPlaced es count i (Round k) = k < count
+IsPlaced es count i (Round k) = (k < count) × HasNoOwnLine es i
 IsPlaced es count i (Unplaced why) = HasOwnLine es i why × IsFirstReason es i why
 
 -- Each of them does.
@@ -93,8 +93,9 @@ abbrev pub AreWhole : List CheckFault → List Placed → List ℕ → Type 0
 AreWhole es ps ns = (i : ℕ) → (Contains ns i → ⊥) → MayJoin es ps ns i → ⊥
 
 -- The profiles of a set are cut into rounds by these lines. Each stands in exactly one place: in a
--- round, or left out for a reason that a line gives. No two of a round have a line. No round is
--- empty, and each is a safe set together with the rules. The rules are those of the set.
+-- round if no line is about it alone, else left out for a reason that such a line gives. No two of a
+-- round have a line. No round is empty, and each is a safe set together with the rules. The rules
+-- are those of the set.
 pub record AreRounds (S : Members) (es : List CheckFault) (r : Rounds) : Type 0 where
   pub placed : List Placed
   pub all : map (λ p. p.profile) placed ≡ S.profiles

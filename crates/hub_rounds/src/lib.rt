@@ -37,9 +37,10 @@
 //!
 //! - `clashes_of` returns the lines of the set: each goal is ruled out or has one, a set with an overlap or a breach isn't safe,
 //!   and a set without lines is safe.
-//! - `rounds_of` and `rounds_by_lines` return `AreRounds`: each profile stands in exactly one round, or it is left out and a line says why; no two
-//!   profiles of a round have a line; no round is empty; the profiles of a round and the rules are a safe set; each two rivals
-//!   have a line, and no other profile of a round has lines with all of them.
+//! - `rounds_of` and `rounds_by_lines` return `AreRounds`: each profile with a line about it alone is left out, and such a line
+//!   says why; each other one stands in exactly one round; no two profiles of a round have a line; no round is empty; the profiles
+//!   of a round and the rules are a safe set; each two rivals have a line, and no other profile of a round has lines with all of
+//!   them.
 //! - `NotVerified` comes only with a round that the check refuses, and not for want of memory.
 //!
 //! # What is not

@@ -1,13 +1,12 @@
 //! Where profiles stand.
-ghost use Rattle.std.specs.Prelude.{◌≡◌, ◌↔◌, ◌<◌, ◌≤◌, ℕ, true, false, length, map, option_map, IfOk, IfSome};
+ghost use Rattle.std.specs.Prelude.{◌≡◌, ◌↔◌, ◌<◌, ◌≤◌, ℕ, None, true, false, length, map, option_map, IfOk, IfSome};
+ghost use Rattle.std.specs.List.{find};
 ghost use Rattle.hub_rounds.specs.Lines as said;
-ghost use Rattle.hub_rounds.specs.Lines.{HasOwnLine, IsFirstReason};
+ghost use Rattle.hub_rounds.specs.Lines.{HasNoOwnLine, HasOwnLine, IsFirstReason};
 ghost use Rattle.hub_rounds.specs.Rounds.{AreSplit, ArePlaced, AreUsed, IsFreeFor, IsPlaced, OpensRounds};
 ghost use Rattle.hub_rounds.specs.Rounds.{StandsFree, StandsIn, is_in_round, is_in_some};
 ghost use Rattle.hub_rounds.specs.declared.placing.Placing.TheVariants.{Round};
-ghost use Rattle.hub_rounds.specs.declared.subject.Subject.TheVariants.{Alone};
 
-use crate::named::Named;
 use crate::subject::{Subject, subject_of};
 use hub_cert::CheckFault;
 use hub_profile::Profile;
@@ -67,7 +66,6 @@ impl Placing {
 pub(crate) fn place_each(
     alloc: Global,
     lines: &[CheckFault],
-    named: &Named,
     colours: &[Option<usize>],
     profiles: Vec<Profile>,
 ) -> Result<(Vec<Placed>, usize), AllocError>
@@ -79,7 +77,7 @@ pub(crate) fn place_each(
     let mut placed = Vec::with_capacity(alloc, profiles.len())?;
     let mut seen = Vec::new(alloc);
     for profile in profiles {
-        let placing = placing_of(&mut seen, lines, named, colours, placed.as_slice())?;
+        let placing = placing_of(&mut seen, lines, colours, placed.as_slice())?;
         placed.push(Placed { profile, placing })?;
     }
     Ok((placed, seen.len()))
@@ -89,7 +87,6 @@ pub(crate) fn place_each(
 fn placing_of(
     seen: &mut Vec<usize>,
     lines: &[CheckFault],
-    named: &Named,
     colours: &[Option<usize>],
     placed: &[Placed],
 ) -> Result<Placing, AllocError>
@@ -100,25 +97,52 @@ fn placing_of(
         (StandsFree lines.now placed.now (length seen.old.items) (length placed.now)) }
 {
     let number = placed.len();
-    if let Some(reason) = own_reason(lines, named, number) {
-        return Ok(Placing::Unplaced(reason));
+    match own_reason(lines, number) {
+        Some(reason) => Ok(Placing::Unplaced(reason)),
+        None => {
+            let round = round_of(seen, lines, placed, colour_at(colours, number))?;
+            Ok(Placing::Round(round))
+        }
     }
-    let colour = match colours.get(number) {
+}
+
+/// Returns the colour of the profile of that number. One that has none gets that of the first profile.
+fn colour_at(colours: &[Option<usize>], number: usize) -> usize {
+    match colours.get(number) {
         Some(Some(colour)) => *colour,
         _ => 0,
-    };
-    Ok(Placing::Round(round_of(seen, lines, placed, colour)?))
+    }
 }
 
 /// Returns why the profile of that number is in no round, if there is a line about it alone: the first breach, if there is one.
-fn own_reason(lines: &[CheckFault], named: &Named, number: usize) -> Option<Obstacle>
+/// All lines are looked at.
+fn own_reason(lines: &[CheckFault], number: usize) -> Option<Obstacle>
     ensures own { IfSome result (HasOwnLine lines.now number) }
     ensures first { IfSome result (IsFirstReason lines.now number) }
+    ensures none { result ≡ None → HasNoOwnLine lines.now number }
 {
-    let line = named.own_line(number)?;
+    let line = first_alone(lines, number)?;
     match first_breach(lines, number) {
         Some(own) => reason_of(own, number),
-        None => Some(Obstacle::TooLarge(too_large_rule(lines.get(line)?, number)?)),
+        None => reason_of(line, number),
+    }
+}
+
+/// Returns the first line about the profile of that number alone.
+fn first_alone(lines: &[CheckFault], number: usize) -> Option<&CheckFault>
+    ensures { option_map (λ e. e.now) result
+        ≡ find (λ e. said.names_alone number (said.subject_of e)) lines.now }
+{
+    lines.iter().find(|line| is_alone(line, number))
+}
+
+/// Returns whether the line is about the profile of that number alone.
+fn is_alone(line: &CheckFault, number: usize) -> bool
+    ensures { result ≡ said.names_alone number (said.subject_of line.now) }
+{
+    match subject_of(line) {
+        Subject::Alone { profile, .. } => profile == number,
+        _ => false,
     }
 }
 
@@ -144,7 +168,7 @@ fn tells_breach(line: &CheckFault, number: usize) -> bool
 
 /// Returns why the profile of that number is in no round, if the line is about it alone.
 fn reason_of(line: &CheckFault, number: usize) -> Option<Obstacle>
-    ensures { IfSome result (λ why. said.subject_of line.now ≡ Alone number why) }
+    ensures { result ≡ said.reason_in number (said.subject_of line.now) }
 {
     let Subject::Alone { profile, reason } = subject_of(line) else {
         return None;
@@ -153,16 +177,6 @@ fn reason_of(line: &CheckFault, number: usize) -> Option<Obstacle>
         Some(reason)
     } else {
         None
-    }
-}
-
-/// Returns the rule whose goal is too large for the profile of that number, if the line says that.
-fn too_large_rule(line: &CheckFault, number: usize) -> Option<usize>
-    ensures { IfSome result (λ r. said.subject_of line.now ≡ Alone number (Obstacle.TooLarge r)) }
-{
-    match reason_of(line, number)? {
-        Obstacle::TooLarge(rule) => Some(rule),
-        Obstacle::Breach(_) => None,
     }
 }
 

@@ -36,8 +36,8 @@ pub struct Rounds {
 
 /// Cuts a set into rounds, by what clashes in it. The profiles and rules of a round are a safe set, which the check has verified.
 ///
-/// Each profile is in exactly one round, or it is left out because a line says that it breaks a rule by itself, or that the
-/// rule's goal is too large; the first breach is told, if there is one. Two profiles that a line names are in different rounds,
+/// A profile is left out exactly if a line says that it breaks a rule by itself, or that the rule's goal is too large; the first
+/// breach is told, if there is one. Each other profile is in exactly one round. Two profiles that a line names are in different rounds,
 /// also if their goal is too large. Tests show that the rounds, in the order of their first profiles, are the fewest, and the
 /// rivals the most, if at most 24 profiles are in rounds.
 ///
@@ -70,7 +70,7 @@ pub fn rounds_by_lines(
     let clique = largest_clique(alloc, graph.as_ref())?;
     let colours = colours_of(alloc, &named, graph.as_ref(), clique.len())?;
     let profiles = profiles.into_vec();
-    let (placed, count) = place_each(alloc, lines, &named, colours.as_slice(), profiles)?;
+    let (placed, count) = place_each(alloc, lines, colours.as_slice(), profiles)?;
     let rivals = rivals_of(alloc, lines, &named, placed.as_slice(), clique.as_slice())?;
     let (rounds, left, rules) = cut(alloc, placed, count, rules)?;
     Ok(Rounds {

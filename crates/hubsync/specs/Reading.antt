@@ -1,11 +1,19 @@
 -- What errors of the system say of files.
-use Rattle.std.specs.Prelude.{◌≡◌, ◌⊎◌, Option}
+use Rattle.std.specs.Prelude.{Option, None, Some}
+use Rattle.std.specs.IoError.{error_kind}
 use Rattle.std.specs.declared.io.Error.{Error}
+use Rattle.std.specs.declared.io.ErrorKind.{ErrorKind}
+use Rattle.std.specs.declared.io.ErrorKind.TheVariants as kind
 use Rattle.hub_folder.specs.declared.reader.ReadFault.TheVariants.{Missing, ReadFailed}
 use Rattle.hub_folder.specs.declared.reader.Unread.{Unread}
 use Rattle.hub_folder.specs.declared.reader.Unread.TheVariants.{File, OutOfMemory}
 
--- A file wasn't read since a call gave this error of the system.
-abbrev pub IsOfError : Option Error → Unread → Type 0
-IsOfError error (File fault) = (fault ≡ ReadFailed error) ⊎ (fault ≡ Missing error)
-IsOfError error OutOfMemory = Unit {0}
+-- Why a file wasn't read, if a call gave an error of this kind, or none that is known.
+abbrev pub unread_of_kind : ErrorKind → Option Error → Unread
+unread_of_kind kind.OutOfMemory error = OutOfMemory
+unread_of_kind kind.NotFound error = File (Missing error)
+unread_of_kind _ error = File (ReadFailed error)
+
+abbrev pub unread_of : Option Error → Unread
+unread_of None = File (ReadFailed None)
+unread_of (Some error) = unread_of_kind (error_kind error) (Some error)

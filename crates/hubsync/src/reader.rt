@@ -1,6 +1,6 @@
 //! Files, read by their names.
-ghost use Rattle.std.specs.Prelude.{◌≡◌, ◌≤◌, ◌⊎◌, ℕ, List, Option, None, length, IfErr, IfOk, IfSome, IsErrOf};
-ghost use Rattle.hubsync.specs.Reading.{IsOfError};
+ghost use Rattle.std.specs.Prelude.{◌≡◌, ◌≤◌, ℕ, List, Option, None, Some, length, IfErr, IfOk, IfSome, IsErrOf};
+ghost use Rattle.hubsync.specs.Reading as spec;
 
 use crate::kept::{Kept, Passed};
 use hub_bundle::{InputFault, READ_TURNS, read_input};
@@ -88,13 +88,21 @@ fn error_of(passed: &RefCell<Passed>) -> Option<io::Error> {
 
 /// Why a file wasn't read, by the system's error.
 fn unread_by(error: Option<io::Error>) -> Unread
-    ensures { IsOfError error result }
+    ensures { result ≡ spec.unread_of error }
 {
     match error {
-        Some(error) if error.kind() == io::ErrorKind::OutOfMemory => Unread::OutOfMemory,
-        Some(error) if error.kind() == io::ErrorKind::NotFound => {
-            Unread::File(ReadFault::Missing(Some(error)))
-        }
-        _ => Unread::File(ReadFault::ReadFailed(error)),
+        Some(error) => unread_of_kind(error.kind(), error),
+        None => Unread::File(ReadFault::ReadFailed(None)),
+    }
+}
+
+/// Why a file wasn't read, by the system's error of that kind.
+fn unread_of_kind(kind: io::ErrorKind, error: io::Error) -> Unread
+    ensures { result ≡ spec.unread_of_kind kind (Some error) }
+{
+    match kind {
+        io::ErrorKind::OutOfMemory => Unread::OutOfMemory,
+        io::ErrorKind::NotFound => Unread::File(ReadFault::Missing(Some(error))),
+        _ => Unread::File(ReadFault::ReadFailed(Some(error))),
     }
 }

@@ -1,19 +1,22 @@
 -- What kept values alone rule out.
-use Rattle.std.proofs.Common.{◌≡◌, ◌∙◌, ◌⊎◌, ⊎_elim, ◌<◌, ℕ, Bool, true, false, not, ◌&&◌, ◌||◌, List, [], ◌∷◌, Option, Some, None, refl, sym, ap, arith}
-use Rattle.std.specs.Prelude.{IsTrue, Contains, slice_get}
+use Rattle.std.proofs.Common.{◌≡◌, ◌∙◌, ◌⊎◌, ⊎_elim, ℕ, Bool, true, false, not, ◌&&◌, List, [], ◌∷◌, refl, sym, ap, arith}
+use Rattle.std.specs.Prelude.{IsTrue, Contains}
 use Rattle.std.specs.List.{list_all, list_any}
-use Rattle.std.proofs.lemmas.Bool.{and_parts, false≢true, false_from_ne_true}
+use Rattle.std.proofs.lemmas.Bool.{and_parts, false_from_ne_true}
 use Rattle.hub_text.specs.ListLaws.{cons-cases}
 use Rattle.hub_path.specs.Path.{Path, is_over, path_of, prefixes}
 use Rattle.hub_path.specs.TextLaws.{prefixes-over}
 use Rattle.hub_profile.specs.Parts.{Parts, at_side, some_passes}
 use Rattle.hub_profile.specs.declared.rule.Rule.{Rule}
+use Rattle.hub_glob.specs.Glob.{matches}
+use Rattle.hub_glob.specs.Specification.{Specification}
 use Rattle.hub_reach.specs.Apart.{are_near}
+use Rattle.hub_fronts.specs.Fronts.{may_meet_one, some-of}
 use Rattle.hub_reach.specs.Laws.{passing}
-use Rattle.hub_reach.specs.Reach.{reach, write, writes_at}
+use Rattle.hub_reach.specs.Reach.{may_at, reach, write, writes_at}
 use Rattle.hub_cert.specs.Aim.{Aim, Breaching, Clashing, accepts, holds, is_open_aim, shows}
 use Rattle.hub_cert.specs.Apart.{is_apart, is_apart_goal}
-use Rattle.hub_cert.specs.Goals.{AllSilent, aim_of, breaching, goals, is_goal}
+use Rattle.hub_cert.specs.Goals.{AllSilent, goals}
 use Rattle.hub_cert.specs.Set.{Members}
 use Rattle.hub_cert.specs.declared.goal.Goal.{Goal}
 use Rattle.hub_cert.specs.declared.goal.Place.{Place}
@@ -24,14 +27,9 @@ use Rattle.hub_cert.proofs.GoalList.{listed}
 abbrev pub ReachApart : Type 0
 ReachApart = (P Q : Parts) (p q : Path) → are_near P.paths Q.paths ≡ false → IsTrue (is_over p q) → IsTrue (reach P p) → IsTrue (reach Q q) → ⊥
 
--- An item of a list that passes two tests, where all pass the one and some the other.
-some-of : {X : Type 0} (f h : X → Bool) (xs : List X) → list_all f xs ≡ true → list_any h xs ≡ true → (x : X) × (f x ≡ true) × (h x ≡ true)
-some-of f h [] all any = cc
-some-of {X} f h (x ∷ xs) all any = go (h x) refl (λ rest. some-of f h xs (and_parts (f x) (list_all f xs) all).1 rest)
-  where
-    go : (b : Bool) → h x ≡ b → (list_any h xs ≡ true → (y : X) × (f y ≡ true) × (h y ≡ true)) → (y : X) × (f y ≡ true) × (h y ≡ true)
-    go true e rest = (x, (and_parts (f x) (list_all f xs) all).0, e)
-    go false e rest = rest (sym (ap (λ c. c || list_any h xs) e) ∙ any)
+-- What profiles reach whose kept values differ from the literal prefix of a specification.
+abbrev pub NothingMatched : Type 0
+NothingMatched = (P : Parts) (s : Specification) (p : Path) → may_meet_one s P.paths ≡ false → IsTrue (reach P p) → matches s p ≡ true → ⊥
 
 -- What a writer holds it reaches.
 holds-reach : (W : Parts) (place : Place) (p : Path) → holds W place p ≡ true → reach W p ≡ true
@@ -50,11 +48,17 @@ turned : (b : Bool) → not b ≡ true → b ≡ false
 turned true h = cc
 turned false h = refl
 
+shown-met : (P : Parts) (R : Rule) (q : Path) → NothingMatched → may_meet_one R.spec P.paths ≡ false → shows (Breaching P R) q ≡ true → ⊥
+shown-met P R q law apart shown =
+    let parts = and_parts (reach P q) (may_at P R.root q R.verb && matches R.spec q) shown in
+    law P R.spec q apart parts.0 (and_parts (may_at P R.root q R.verb) (matches R.spec q) parts.1).1
+
 -- Where kept values rule a goal out, it accepts no text.
-pub apart-silent : ReachApart → (a : Aim) (t : List ℕ) → is_apart a ≡ true → accepts a t ≡ false
-apart-silent law (Clashing W Q place) t h =
+pub apart-silent : ReachApart → NothingMatched → (a : Aim) (t : List ℕ) → is_apart a ≡ true → accepts a t ≡ false
+apart-silent law other (Clashing W Q place) t h =
     false_from_ne_true (accepts (Clashing W Q place) t) (λ shown. shown-near W Q place (path_of t) law (turned (are_near W.paths Q.paths) h) shown)
-apart-silent law (Breaching P R) t h = cc
+apart-silent law other (Breaching P R) t h =
+    false_from_ne_true (accepts (Breaching P R) t) (λ shown. shown-met P R (path_of t) other (turned (may_meet_one R.spec P.paths) h) shown)
 
 -- What all goals of a list pass, each of them does.
 all-in : (f : Goal → Bool) (gs : List Goal) (g : Goal) → list_all f gs ≡ true → Contains gs g → f g ≡ true
@@ -69,9 +73,3 @@ all-apart S gs law same all g a at is_open t =
     let m = (listed S g).0 (ap (some_passes is_open_aim) at ∙ is_open) in
     let one = all-in (is_apart_goal S) (goals S) g (ap (list_all (is_apart_goal S)) (sym same) ∙ all) m in
     law a t (sym (ap (some_passes is_apart) at) ∙ one)
-
--- They rule out no breach.
-pub no-breach : (P : Option Parts) (R : Option Rule) → some_passes is_apart (breaching P R) ≡ false
-no-breach None R = refl
-no-breach (Some P) None = refl
-no-breach (Some P) (Some R) = refl

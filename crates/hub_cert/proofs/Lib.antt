@@ -32,3 +32,5 @@ pub mod StageLists
 pub mod TextBuffer
 pub mod Walks
 pub mod KeptValues
+pub mod Finite
+pub mod Closed

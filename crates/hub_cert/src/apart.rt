@@ -4,18 +4,20 @@ ghost use Rattle.std.specs.List.{list_all};
 ghost use Rattle.hub_cert.specs.Apart as values;
 ghost use Rattle.hub_cert.specs.Goals as listed;
 ghost use Rattle.hub_cert.specs.Set.{IsSafeSet, Members};
-ghost use Rattle.hub_cert.specs.declared.goal.Goal.TheVariants.{Clash};
+ghost use Rattle.hub_cert.specs.declared.goal.Goal.TheVariants.{Breach, Clash};
 
 use crate::goal::{Goal, Place};
 use crate::laws::kept_values_rule_out;
 use crate::set::ProfileSet;
 use crate::verified::{Verified, silent_set};
-use hub_profile::Profile;
+use hub_fronts::may_meet_one;
+use hub_profile::{Profile, Rule};
 use hub_reach::are_near;
 
-/// Returns the set as one that is safe if kept values alone rule out each of its goals, else `None`: no kept value of a clash's
-/// writer is over one of the other profile, or the other way round. Then no certificate is needed, whatever is ignored. A set with
-/// a breach among its goals gives `None`. The goals are those of [`ProfileSet::goals`].
+/// Returns the set as one that is safe if kept values alone rule out each of its goals, else `None`. They rule out a clash if no
+/// kept value of the writer is over one of the other profile, or the other way round; and a breach if the literal characters with
+/// which the rule's pattern begins differ from each kept value ([`may_meet_one`]). Then no certificate is needed, whatever is
+/// ignored. The goals are those of [`ProfileSet::goals`].
 pub fn safe_by_values<'a>(set: &'a ProfileSet, goals: &[Goal]) -> Option<Verified<'a>>
     requires { goals.now ≡ listed.goals set.now }
     ensures set { IfSome result (λ v. v ≡ set.now) }
@@ -36,8 +38,8 @@ fn are_apart(set: &ProfileSet, goals: &[Goal]) -> bool
     goals.iter().all(|goal| is_apart(set, *goal))
 }
 
-/// Returns whether kept values alone rule out the goal.
-fn is_apart(set: &ProfileSet, goal: Goal) -> bool
+/// Returns whether kept values alone rule out the goal, as [`safe_by_values`] says.
+pub fn is_apart(set: &ProfileSet, goal: Goal) -> bool
     ensures { result ≡ values.is_apart_goal set.now goal }
 {
     match goal {
@@ -46,7 +48,9 @@ fn is_apart(set: &ProfileSet, goal: Goal) -> bool
             other,
             place,
         } => is_apart_clash(set.profiles(), writer, other, place),
-        Goal::Breach { .. } => false,
+        Goal::Breach { profile, rule } => {
+            is_apart_breach(set.profiles(), set.rules(), profile, rule)
+        }
     }
 }
 
@@ -65,4 +69,18 @@ fn is_apart_clash(profiles: &[Profile], writer: usize, other: usize, place: Plac
         return false;
     }
     !are_near(profiles[writer].paths(), profiles[other].paths())
+}
+
+/// Returns whether kept values alone rule out that breach.
+fn is_apart_breach(profiles: &[Profile], rules: &[Rule], profile: usize, rule: usize) -> bool
+    ensures { (S : Members) → S.profiles ≡ profiles.now → S.rules ≡ rules.now
+        → result ≡ values.is_apart_goal S (Breach profile rule) }
+{
+    if profile >= profiles.len() {
+        return false;
+    }
+    if rule >= rules.len() {
+        return false;
+    }
+    !may_meet_one(&rules[rule].spec, profiles[profile].paths())
 }

@@ -6,7 +6,8 @@
 //! - [`Certificate`]: a goal and a list of texts, its [`StageTexts`]. It rules the goal out if the list is inductive.
 //! - [`verify`]: checks certificates, and returns the set as a [`Verified`], whose type says that the set is safe.
 //! - [`Verifier`]: checks the texts of one goal after another, so that a set can be verified with one goal's texts at a time.
-//! - [`safe_by_values`]: returns a set as a [`Verified`] if the kept values of its profiles alone rule out each goal.
+//! - [`is_apart`] says whether kept values alone rule out a goal, and [`safe_by_values`] returns a set as a [`Verified`] if they rule
+//!   out each of its goals.
 //! - [`read_certificates`] and [`write_certificates`]: the text of certificates, which docs/CERTIFICATES.md describes.
 //! - [`Product`]: the automaton of a goal, whose state is a [`GoalStage`]. [`walker_of`], [`rule_set_of`] and [`forbidden_to`]
 //!   make its parts.
@@ -33,8 +34,9 @@
 //! - `verify` returns a `Verified` only if the certificates rule out every goal of the set (clause `inductive`). Then the set is
 //!   safe (`safe`). For such certificates it reports nothing but `OutOfMemory` (`complete`). Each other fault is true and the
 //!   first one (`refused`). A `Verifier` does the same goal by goal.
-//! - A goal that has an inductive list accepts no text (law `inductive_lists_rule_out`), and a set is safe if no different roots
-//!   are nested and each goal has one (law `certificates_make_a_set_safe`).
+//! - A goal that has an inductive list accepts no text (law `inductive_lists_rule_out`), one that accepts no text has such a list
+//!   (law `silent_goals_have_inductive_lists`), and a set is safe if no different roots are nested and each goal has one (law
+//!   `certificates_make_a_set_safe`).
 //! - `ProfileSet::new` returns the set of exactly these members, or the first fault in the order of its `///`. `goals` lists each
 //!   goal once.
 //! - If two texts have equal stages, they still do after a character is appended to both, and the goal accepts both or neither
@@ -74,7 +76,7 @@ mod view;
 mod walked;
 mod writing;
 
-pub use apart::safe_by_values;
+pub use apart::{is_apart, safe_by_values};
 pub use certificate::{Certificate, StageText};
 pub use fault::CheckFault;
 pub use forbidden::{Forbidden, forbidden_to};

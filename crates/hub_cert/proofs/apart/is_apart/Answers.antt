@@ -1,7 +1,5 @@
 use Rattle.std.proofs.Common.{◌∙◌, ap, sym}
-use Rattle.std.specs.Prelude.{slice_get}
 use Rattle.hub_cert.specs.Apart.{is_apart_goal}
-use Rattle.hub_cert.proofs.KeptValues.{no-breach}
 use Rattle.hub_cert.proofs.apart.is_apart.Goals as goal
 
 pub returns-in-Clash : goal.returns-in-Clash
@@ -12,4 +10,4 @@ returns-in-Clash c =
 pub returns-in-Breach : goal.returns-in-Breach
 returns-in-Breach c =
     let S = c.args.set.now in
-    sym (ap (is_apart_goal S) c.in-Breach.is ∙ no-breach (slice_get S.profiles c.in-Breach.profile) (slice_get S.rules c.in-Breach.rule))
+    c.is_apart_breach.ensures S (sym c.profiles-in-Breach.ensures.value) (sym c.rules.ensures) ∙ ap (is_apart_goal S) (sym c.in-Breach.is)

@@ -94,3 +94,12 @@ put_fault_below-file new x b p c d k =
 pub put_fault_top : (new : Bool) (m : Replica) (p : Path) (c : Contents) → length p ≡ 0 → fin.get m [] ≡ None → put_fault new m p c ≡ Some RootPath
 put_fault_top new m [] c l g = put_fault-set new m [] c (never_left new (fin.get m []) g)
 put_fault_top new m (n ∷ p) c l g = absurd (omega arith)
+
+-- A name that is after each name that has something.
+pub nothing_past : (o : Option Node) (less : Bool) → (is_some o ≡ true → less ≡ false) → less ≡ true → is_some o ≡ false
+nothing_past None less f h = refl
+nothing_past (Some x) less f h = absurd (false≢true (sym (f refl) ∙ h))
+
+pub nothing_among : (cs : List (Name × Node)) (n : Name) → (0 < length cs → false ≡ true) → is_some (fin.get (replica_of cs) (n ∷ [])) ≡ false
+nothing_among [] n h = there_at_name [] n
+nothing_among (c ∷ cs) n h = absurd (false≢true (h (omega arith)))

@@ -1,4 +1,4 @@
-ghost use Rattle.std.specs.Prelude.{◌≡◌, [], ◌∷◌, true, false, None, is_some, IfOk, IfErr, OnOk, OnErr};
+ghost use Rattle.std.specs.Prelude.{◌≡◌, [], ◌∷◌, true, false, None, is_some, IfOk, IfErr, IsTrue, OnOk, OnErr};
 ghost use Rattle.std.specs.BTreeMap.{get};
 ghost use Rattle.hub_path.specs.Path.{name_cmp};
 ghost use Rattle.hub_tree.specs.Nodes.{replica_of, occupied, contents_or_absent, is_left, put_fault, with_put, SetsOrRefuses};
@@ -44,6 +44,43 @@ pub fn fault_of_child(
 
 /// Puts contents at a name. If only new contents are put, those that are there are left as they are, and it returns `true`.
 pub fn put_child(
+    alloc: Global,
+    children: &mut BTreeMap<Name, Node>,
+    name: &Name,
+    contents: Contents,
+    only_new: bool,
+) -> Result<bool, SetFault>
+    ensures left { IfOk result
+        (λ b. b ≡ is_left only_new (replica_of children.old.entries) (name.now ∷ [])) }
+    ensures allowed { OnOk result (put_fault only_new
+        (replica_of children.old.entries) (name.now ∷ []) contents ≡ None) }
+    ensures ok { OnOk result (replica_of children.new.entries
+        ≡ with_put only_new (replica_of children.old.entries) (name.now ∷ []) contents) }
+    ensures fault { IfErr result (IsRefusal (put_fault only_new
+        (replica_of children.old.entries) (name.now ∷ []) contents)) }
+    ensures err { OnErr result (replica_of children.new.entries ≡ replica_of children.old.entries) }
+{
+    if is_past(children, name) {
+        add_child(alloc, children, name, contents)?;
+        return Ok(false);
+    }
+    put_among(alloc, children, name, contents, only_new)
+}
+
+/// Returns whether a name comes after those of all children, so that no child has it.
+fn is_past(children: &BTreeMap<Name, Node>, name: &Name) -> bool
+    ensures absent { IsTrue result → is_some (get name_cmp children.now name.now) ≡ false }
+    ensures left { IsTrue result
+        → is_left true (replica_of children.now.entries) (name.now ∷ []) ≡ false }
+{
+    match children.last_key_value() {
+        Some((last, _)) => *last < *name,
+        None => true,
+    }
+}
+
+/// Puts contents at a name that may be among those of the children. See [`put_child`].
+fn put_among(
     alloc: Global,
     children: &mut BTreeMap<Name, Node>,
     name: &Name,

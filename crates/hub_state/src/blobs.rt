@@ -107,7 +107,7 @@ impl Blobs {
             (flat_map (λ x. contents_files x.1) (fin.entries tree.now))) }
     {
         for entry in tree.entries()? {
-            let (_path, stored) = entry?;
+            let (_place, stored) = entry?;
             let added = self.add_stored(stored)?;
             if !added {
                 return Ok(false);

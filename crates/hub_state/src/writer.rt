@@ -20,7 +20,7 @@ use crate::form::Version;
 use crate::state::State;
 use hub_path::RelPath;
 use hub_text::Watched;
-use hub_tree::{Archive, Blob, Mark, Stored, Tree};
+use hub_tree::{Archive, Blob, Mark, Place, Stored, Tree};
 use std::alloc::{AllocError, Global};
 use std::collections::BTreeMap;
 use std::collections::btree_map::Iter;
@@ -179,7 +179,7 @@ fn write_entry<W: Write>(
     output: &mut Watched<W>,
     text: &mut Vec<u8>,
     version: Version,
-    path: &RelPath,
+    path: &Place<'_>,
     stored: Stored<'_>,
 ) -> Result<(), Fault>
     requires { output.old.failed ≡ false }
@@ -243,7 +243,7 @@ impl HasLines<RelPath> for Mark {
     fn push_lines(&self, text: &mut Vec<u8>, path: &RelPath) -> Result<(), AllocError> {
         match self {
             Mark::File(digest) => push_old_file(text, digest, path),
-            Mark::Directory => push_dir(text, path),
+            Mark::Directory => push_old_dir(text, path),
             Mark::Absent => Ok(()),
         }
     }
@@ -322,7 +322,7 @@ fn push_pair(text: &mut Vec<u8>, first: &str, second: &str) -> Result<(), AllocE
 fn push_entry(
     text: &mut Vec<u8>,
     version: Version,
-    path: &RelPath,
+    path: &Place<'_>,
     stored: Stored<'_>,
 ) -> Result<(), AllocError>
     ensures { OnOk result (text.new.items ≡ text.old.items
@@ -334,8 +334,18 @@ fn push_entry(
     }
 }
 
-/// Appends the line of a directory.
-fn push_dir(text: &mut Vec<u8>, path: &RelPath) -> Result<(), AllocError>
+/// Appends the line of a directory of a replica.
+fn push_dir(text: &mut Vec<u8>, path: &Place<'_>) -> Result<(), AllocError>
+    ensures { OnOk result (text.new.items
+        ≡ text.old.items ++ dir_line path.now ++ 10 ∷ []) }
+{
+    push(text, "dir ")?;
+    path.push_to(text)?;
+    push(text, "\n")
+}
+
+/// Appends the line of a directory of an archive.
+fn push_old_dir(text: &mut Vec<u8>, path: &RelPath) -> Result<(), AllocError>
     ensures { OnOk result (text.new.items
         ≡ text.old.items ++ dir_line path.now ++ 10 ∷ []) }
 {
@@ -400,7 +410,7 @@ fn push_file(
     text: &mut Vec<u8>,
     version: Version,
     blob: &Blob,
-    path: &RelPath,
+    path: &Place<'_>,
 ) -> Result<(), AllocError>
     ensures { OnOk result (text.new.items
         ≡ text.old.items ++ file_line (file_field version blob.now) path.now ++ 10 ∷ []) }
@@ -408,7 +418,7 @@ fn push_file(
     push(text, "file ")?;
     push_field(text, version, blob)?;
     push(text, " ")?;
-    push(text, path.as_str())?;
+    path.push_to(text)?;
     push(text, "\n")
 }
 

@@ -7,6 +7,7 @@ pub mod Inserted
 pub mod Matching
 pub mod Names
 pub mod Paths
+pub mod Places
 pub mod Pushed
 pub mod Putting
 pub mod Setting

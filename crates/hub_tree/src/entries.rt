@@ -8,7 +8,8 @@ ghost use Rattle.hub_tree.specs.Stored.{TakesEntry, stored_contents};
 
 use crate::blob::Blob;
 use crate::node::Node;
-use hub_path::{Name, RelPath};
+use crate::place::{Folder, Place};
+use hub_path::Name;
 use std::alloc::{AllocError, Global};
 use std::collections::BTreeMap;
 use std::collections::btree_map::Iter;
@@ -24,7 +25,7 @@ pub enum Stored<'a> {
 }
 
 /// Goes through the files and directories of a replica, in the order of their paths: a directory comes before what it
-/// holds. The contents are borrowed, and each path is made when it is its turn.
+/// holds. The contents are borrowed, and no path is made: a [`Place`] has the text of one.
 ///
 /// A step that runs out of memory ends the iterator. Contracts see the entries that are left.
 ///
@@ -37,7 +38,7 @@ pub struct Entries<'a> {
 /// A directory, and its children that are left.
 #[derive(Drop)]
 struct Level<'a> {
-    path: RelPath,
+    path: Folder,
     children: Iter<'a, Name, Node>,
 }
 
@@ -69,7 +70,7 @@ impl<'a> Entries<'a> {
     {
         let mut levels = Vec::new(alloc);
         levels.push(Level {
-            path: RelPath::top(alloc),
+            path: Folder::top(alloc),
             children: children.iter(),
         })?;
         Ok(Entries { levels })
@@ -77,7 +78,7 @@ impl<'a> Entries<'a> {
 }
 
 impl<'a> Iterator for Entries<'a> {
-    type Item = Result<(RelPath, Stored<'a>), AllocError>;
+    type Item = Result<(Place<'a>, Stored<'a>), AllocError>;
 
     ghost use Rattle.std.specs.Prelude.{length};
     ghost use Rattle.std.specs.Iterator.{at_most};
@@ -87,13 +88,15 @@ impl<'a> Iterator for Entries<'a> {
 
     ghost remaining = { λ s. at_most (length s) };
 
-    fn next(&mut self) -> Option<Result<(RelPath, Stored<'a>), AllocError>> {
+    fn next(&mut self) -> Option<Result<(Place<'a>, Stored<'a>), AllocError>> {
         next_entry(&mut self.levels)
     }
 }
 
 /// Takes the next entry.
-fn next_entry<'a>(levels: &mut Vec<Level<'a>>) -> Option<Result<(RelPath, Stored<'a>), AllocError>>
+fn next_entry<'a>(
+    levels: &mut Vec<Level<'a>>,
+) -> Option<Result<(Place<'a>, Stored<'a>), AllocError>>
     requires { T (all_ascend levels.old.items) }
     ensures step { TakesEntry (left_in levels.old.items) result (left_in levels.new.items) }
     ensures ascend { T (all_ascend levels.new.items) }
@@ -118,9 +121,9 @@ fn next_entry<'a>(levels: &mut Vec<Level<'a>>) -> Option<Result<(RelPath, Stored
 fn enter<'a>(
     levels: &mut Vec<Level<'a>>,
     level: Level<'a>,
-    name: &Name,
+    name: &'a Name,
     node: &'a Node,
-) -> Result<(RelPath, Stored<'a>), AllocError>
+) -> Result<(Place<'a>, Stored<'a>), AllocError>
     requires levels { T (all_ascend levels.old.items) }
     requires level { T (is_sorted name_cmp level.children) }
     ensures path { IfOk result (λ e. e.0 ≡ level.entry.path ++ name.now ∷ []) }
@@ -131,13 +134,13 @@ fn enter<'a>(
         ++ (level_entries level.entry ++ left_in levels.old.items)) }
     ensures ascend { OnOk result (T (all_ascend levels.new.items)) }
 {
-    let path = level.path.child(name.copy()?)?;
+    let path = level.path.place(name)?;
     levels.push(level)?;
     match node {
         Node::File(blob) => Ok((path, Stored::File(blob))),
         Node::Directory(children) => {
             let inner = Level {
-                path: path.copy()?,
+                path: path.folder()?,
                 children: children.iter(),
             };
             levels.push(inner)?;

@@ -45,6 +45,7 @@ mod entries;
 mod fault;
 pub mod laws;
 mod node;
+mod place;
 mod same;
 mod tree;
 
@@ -54,4 +55,5 @@ pub use blob::Blob;
 pub use contents::{Contents, Mark};
 pub use entries::{Entries, Stored};
 pub use fault::SetFault;
+pub use place::Place;
 pub use tree::Tree;

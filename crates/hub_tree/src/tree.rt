@@ -106,8 +106,8 @@ impl Tree {
 
     /// Goes through the files and directories in the order of their paths.
     ///
-    /// The contents are borrowed, and each path is made when it is its turn: in memory are the path of one entry and of each
-    /// directory above it.
+    /// The contents and the names are borrowed, and in memory are the texts of the paths of one entry and of each directory
+    /// above it.
     pub fn entries(&self) -> Result<Entries<'_>, AllocError>
         ensures { IfOk result (λ e. e ≡ fin.entries self.now) }
     {

@@ -7,10 +7,11 @@
 
 use crate::shown::{mark_text, paths_text};
 use anyhow::{Result, bail};
-use hub_path::{Name, RelPath};
-use hub_tree::{Blob, Stored, Tree};
+use hub_path::Name;
+use hub_tree::{Blob, Place, Stored, Tree};
 use std::alloc::{AllocError, Global};
 use std::mem;
+use std::str::from_utf8;
 use test_kit::{
     Subject, answers_to_steps, bytes_of, contents_of, list_text, outcome_text, path_of, yes_or_no,
 };
@@ -130,15 +131,17 @@ fn names_text(alloc: Global, names: &[Name]) -> Result<String> {
 fn entries_text(alloc: Global, tree: &Tree) -> Result<String> {
     let mut parts = Vec::new(alloc);
     for entry in tree.entries()? {
-        let (path, stored) = entry?;
-        parts.push(entry_text(alloc, &path, stored)?)?;
+        let (place, stored) = entry?;
+        parts.push(entry_text(alloc, &place, stored)?)?;
     }
     list_text(alloc, parts.as_slice())
 }
 
 /// How an entry is shown.
-fn entry_text(alloc: Global, path: &RelPath, stored: Stored<'_>) -> Result<String> {
-    let path = path.text()?;
+fn entry_text(alloc: Global, place: &Place<'_>, stored: Stored<'_>) -> Result<String> {
+    let mut bytes = Vec::new(alloc);
+    place.push_to(&mut bytes)?;
+    let path = from_utf8(bytes.as_slice())?;
     match stored {
         Stored::File(blob) => Ok(format!(in alloc; "{path} {}", blob.bytes().len())?),
         Stored::Directory => Ok(format!(in alloc; "{path} d")?),

@@ -21,15 +21,15 @@ returns-in-File-clause-ascend c =
 
 pub returns-in_ok-push-in-Directory-clause-left : goal.returns-in_ok-push-in-Directory-clause-left
 returns-in_ok-push-in-Directory-clause-left c =
-    let inner : Level = record { path = c.in_ok-copy-in-Directory.field-0; children = c.iter.result } in
+    let inner : Level = record { path = c.in_ok-folder-in-Directory.field-0; children = c.iter.result } in
     entered_directory c.args.levels.now.items c.push.new.self.items c.push-in-Directory.new.self.items c.args.level inner c.args.name.now c.args.node.now c.deref.result.now.entries
     c.in_ok-push.ensures.items c.in_ok-push-in-Directory.ensures.items
-    (c.in_ok-copy-in-Directory.ensures ∙ c.in_ok-path.ensures ∙ ap (λ (n : Name). c.args.level.path ++ n ∷ []) c.in_ok-copy.ensures)
+    (c.in_ok-folder-in-Directory.ensures ∙ c.in_ok-path.ensures)
     c.iter.ensures.rest (ap kids_of c.in-Directory.is ∙ kids-directory c.in-Directory.children ∙ ap (λ m. m.entries) (sym c.deref.ensures))
 
 pub returns-in_ok-push-in-Directory-clause-ascend : goal.returns-in_ok-push-in-Directory-clause-ascend
 returns-in_ok-push-in-Directory-clause-ascend c =
-    let inner : Level = record { path = c.in_ok-copy-in-Directory.field-0; children = c.iter.result } in
+    let inner : Level = record { path = c.in_ok-folder-in-Directory.field-0; children = c.iter.result } in
     let sorted : T (is_sorted name_cmp inner.children) = subst (λ (cs : List (Name × Node)). T (is_sorted name_cmp cs)) (sym c.iter.ensures.rest) (is_sorted-from name_cmp _ c.iter.ensures.ordered) in
     let first : T (all_ascend c.push.new.self.items) = subst (λ (ls : List Level). T (all_ascend ls)) (sym c.in_ok-push.ensures.items) (ascend-push c.args.levels.now.items c.args.level c.requires.levels c.requires.level) in
     subst (λ (ls : List Level). T (all_ascend ls)) (sym c.in_ok-push-in-Directory.ensures.items) (ascend-push c.push.new.self.items inner first sorted)

@@ -1,6 +1,7 @@
 pub mod Blocks
 pub mod ByRoot
 pub mod Digests
+pub mod DigitLoops
 pub mod Drafts
 pub mod Fields
 pub mod Files

@@ -2,6 +2,7 @@ pub mod Adding
 pub mod Blocks
 pub mod Coded
 pub mod Devices
+pub mod Digits
 pub mod Examples
 pub mod Laws
 pub mod Near

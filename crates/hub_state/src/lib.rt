@@ -44,6 +44,7 @@
 #![tactic(auto)]
 
 mod blobs;
+mod digits;
 mod draft;
 mod entry;
 mod fault;

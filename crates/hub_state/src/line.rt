@@ -7,9 +7,10 @@ ghost use Rattle.hub_state.specs.Reading.{line_of, line_among, words, inner_word
 ghost use Rattle.hub_state.specs.Reading.{path_field, root_field, bytes_field, digest_field};
 ghost use Rattle.hub_text.specs.Blanks.{is_space};
 
+use crate::digits::decoded;
 use crate::fault::Fault;
 use crate::form::Form;
-use hex::{FromHex, FromHexError};
+use hex::FromHex;
 use hub_path::{PathFault, RelPath, Root};
 use std::alloc::Global;
 
@@ -95,10 +96,9 @@ pub fn bytes_in(alloc: Global, field: &str) -> Result<Vec<u8>, Fault>
     if field.is_empty() {
         return Err(Fault::BadHex);
     }
-    match hex::decode(alloc, field.as_bytes()) {
-        Ok(bytes) => Ok(bytes),
-        Err(FromHexError::OutOfMemory) => Err(Fault::OutOfMemory),
-        Err(_) => Err(Fault::BadHex),
+    match decoded(alloc, field.as_bytes())? {
+        Some(bytes) => Ok(bytes),
+        None => Err(Fault::BadHex),
     }
 }
 

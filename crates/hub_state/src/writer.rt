@@ -15,6 +15,7 @@ ghost use Rattle.hub_state.specs.Writing.{state_header, blob_line, blob_lines, s
 ghost use Rattle.hub_state.specs.Writing.{archive_lines, joined_lines, state_text};
 
 use crate::blobs::{Head, head_of};
+use crate::digits::encode_into;
 use crate::fault::{Fault, StateFault};
 use crate::form::Version;
 use crate::state::State;
@@ -379,9 +380,7 @@ fn write_digits(text: &mut [u8], start: usize, bytes: &[u8])
     requires { length text.old ≡ start + 2 * length bytes.now }
     ensures { text.new ≡ take start text.old ++ encode_lower bytes.now }
 {
-    let Ok(()) = hex::encode_to_slice(bytes, &mut text[start..]) else {
-        unreachable!();
-    };
+    encode_into(bytes, &mut text[start..]);
 }
 
 /// Appends the field of bytes.

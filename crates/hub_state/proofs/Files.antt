@@ -347,3 +347,24 @@ pub collected_stop : {X : Type 0} (f : X → List (List ℕ)) (m k n : BlobMap) 
     → Collected f m k left all → left ≡ x ∷ rest → added ≡ false → cond added (Some n) None ≡ files_added (Some k) (f x) → None ≡ files_added (Some m) (flat_map f all)
 collected_stop f m k n left rest all x added so step was one =
     files_stop f m k so.0 x rest all so.2 (sym (ap (λ b. cond b (Some n) None) was) ∙ one) (ap (λ r. so.0 ++ r) (sym step) ∙ so.1)
+
+-- A blob that is put in the place of that of its digest.
+insert_known : (m : BlobMap) (d b : List ℕ) → fin.get m d ≡ Some b → fin.insert m d b ≡ m
+insert_known m d b e =
+    fin.same_map name_cmp-total name_cmp-exact _ _ (λ q. fin.get-insert name_cmp-total m d b q ∙ at q (eq_by_cmp name_cmp q d) refl)
+  where
+    at : (q : List ℕ) (t : Bool) → eq_by_cmp name_cmp q d ≡ t → cond t (Some b) (fin.get m q) ≡ fin.get m q
+    at q true h = sym (ap (λ k. fin.get m k) (same_name q d h) ∙ e)
+    at q false h = refl
+
+pub added_new : (m k : BlobMap) (f : List ℕ) → None ≡ fin.get m (sha256 f) → k ≡ fin.insert m (sha256 f) f → Some k ≡ file_added m f
+added_new m k f none new = ap Some new ∙ ap (λ o. added_to o m f) none
+
+pub added_again : (m k : BlobMap) (f known : List ℕ) (same : Bool) → Some known ≡ fin.get m (sha256 f) → k ≡ fin.insert m (sha256 f) f → same ≡ bytes_eq known f
+    → cond same (Some k) None ≡ file_added m f
+added_again m k f known same there new e =
+    ap (λ t. cond t (Some k) None) e ∙ by (bytes_eq known f) refl ∙ ap (λ o. added_to o m f) there
+  where
+    by : (t : Bool) → bytes_eq known f ≡ t → cond t (Some k) None ≡ cond t (Some m) None
+    by true h = ap Some (new ∙ insert_known m (sha256 f) f (sym there ∙ ap Some (same_bytes known f h)))
+    by false h = refl

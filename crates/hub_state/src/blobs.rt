@@ -64,9 +64,18 @@ impl Blobs {
     pub fn insert(&mut self, blob: Blob) -> Result<(), AllocError>
         ensures { OnOk result (self.new ≡ fin.insert self.old (sha256 blob) blob) }
     {
-        let digest = blob.digest();
-        let _old = self.blobs.insert(digest, blob)?;
+        let _old = self.replace(blob)?;
         Ok(())
+    }
+
+    /// Puts a blob in the place of that of its digest, and returns that one, if there was one.
+    fn replace(&mut self, blob: Blob) -> Result<Option<Blob>, AllocError>
+        ensures old { IfOk result (λ old. old ≡ fin.get self.old (sha256 blob)) }
+        ensures new { OnOk result (self.new ≡ fin.insert self.old (sha256 blob) blob) }
+    {
+        let digest = blob.digest();
+        let old = self.blobs.insert(digest, blob)?;
+        Ok(old)
     }
 
     /// Goes through the blobs in the order of their digests.
@@ -76,16 +85,15 @@ impl Blobs {
         self.blobs.iter()
     }
 
-    /// Adds a blob. Returns `false` if there is another one with its digest.
+    /// Adds a blob. Returns `false` if there was another one with its digest, whose place it then has.
     fn add(&mut self, blob: &Blob) -> Result<bool, AllocError>
         ensures { IfOk result
             (λ b. (if b then Some self.new else None) ≡ file_added self.old blob.now) }
     {
-        if let Some(known) = self.get(&blob.digest()) {
-            return Ok(known == blob);
+        match self.replace(blob.copy()?)? {
+            Some(known) => Ok(known == *blob),
+            None => Ok(true),
         }
-        self.insert(blob.copy()?)?;
-        Ok(true)
     }
 
     /// Adds the blob of what a replica has at a path, if that is a file. Returns `false` if there is another one with its

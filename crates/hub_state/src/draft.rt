@@ -256,8 +256,11 @@ impl Draft {
         let entries = self.entries;
         let near = &mut self.near;
         let blobs = &self.blobs;
+        let before = &self.state;
         match &mut self.current {
-            Open::Replica(_, tree) => put_file(alloc, near, tree, blobs, entries, field, text)?,
+            Open::Replica(_, tree) => {
+                put_file(alloc, near, tree, blobs, before, entries, field, text)?
+            }
             Open::Archive(_, _, archive) => put_old_file(near, archive, entries, field, text)?,
             Open::Nothing => return Err(Fault::BadLine),
             Open::HalfArchive(_) => return Err(Fault::BadLine),

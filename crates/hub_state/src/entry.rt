@@ -1,5 +1,5 @@
 //! Entries that are put into replicas and archives.
-ghost use Rattle.std.specs.Prelude.{◌≡◌, ◌<◌, None, Some, Ok, Err, false, is_some, nat_le, IfErr, IsTrue, OnOk};
+ghost use Rattle.std.specs.Prelude.{◌≡◌, ◌<◌, None, Some, Ok, Err, false, is_some, nat_le, IfErr, IfOk, IsTrue, OnOk};
 ghost use Rattle.std.specs.FinMap as fin;
 ghost use Rattle.std.specs.Option.{option_map};
 ghost use Rattle.hub_text.specs.Fails.{Fails};
@@ -11,17 +11,19 @@ use crate::blobs::Blobs;
 use crate::fault::Fault;
 use crate::line::{bytes_in, digest_in};
 use crate::near::Near;
+use crate::state::State;
 use crate::{ENTRIES, FILE_BYTES};
 use hub_path::RelPath;
 use hub_tree::{Archive, Blob, Contents, Mark, SetFault, Tree};
-use std::alloc::Global;
+use std::alloc::{AllocError, Global};
 
-/// Puts a file into a replica after this many entries. In a text of version 2 it names a blob.
+/// Puts a file into a replica after this many entries, and after the replicas before. In a text of version 2 it names a blob.
 pub fn put_file(
     alloc: Global,
     near: &mut Near,
     tree: &mut Tree,
     blobs: &Option<Blobs>,
+    before: &State,
     entries: usize,
     field: &str,
     text: &str,
@@ -33,7 +35,7 @@ pub fn put_file(
     ensures room { OnOk result (entries < ENTRIES) }
 {
     match blobs {
-        None => put_bytes(alloc, near, tree, entries, field, text),
+        None => put_bytes(alloc, near, tree, before, entries, field, text),
         Some(blobs) => put_named(near, tree, blobs, entries, field, text),
     }
 }
@@ -97,6 +99,7 @@ fn put_bytes(
     alloc: Global,
     near: &mut Near,
     tree: &mut Tree,
+    before: &State,
     entries: usize,
     field: &str,
     text: &str,
@@ -111,7 +114,27 @@ fn put_bytes(
     if bytes.len() > FILE_BYTES {
         return Err(Fault::TooLarge);
     }
-    put_contents(tree, entries, &path, Contents::File(Blob::new(bytes)?))
+    let blob = blob_of(before, &path, bytes)?;
+    put_contents(tree, entries, &path, Contents::File(blob))
+}
+
+/// Makes the blob of the file at a path. If the first of the replicas before has the same file there, it is shared, and its
+/// digest is not computed again.
+fn blob_of(before: &State, path: &RelPath, bytes: Vec<u8>) -> Result<Blob, AllocError>
+    ensures { IfOk result (λ b. b ≡ bytes.items) }
+{
+    if let Some(known) = known_at(before, path) {
+        if known.bytes() == bytes.as_slice() {
+            return known.copy();
+        }
+    }
+    Blob::new(bytes)
+}
+
+/// Borrows the file that the first replica has at a path, if there is one.
+fn known_at<'a>(before: &'a State, path: &RelPath) -> Option<&'a Blob> {
+    let (_root, tree) = before.replicas().first_key_value()?;
+    tree.blob_at(path)
 }
 
 /// Returns whether no more entries are allowed after this many.
@@ -179,12 +202,7 @@ pub fn put_old_file(
 }
 
 /// Puts a mark, which is not `Absent`, into an archive after this many entries.
-pub fn put_mark(
-    archive: &mut Archive,
-    entries: usize,
-    path: &RelPath,
-    mark: Mark,
-) -> Result<(), Fault>
+pub fn put_mark(archive: &mut Archive, entries: usize, path: &RelPath, mark: Mark) -> Result<(), Fault>
     requires path { IsTrue (is_path path.now) }
     requires some { kept_mark mark ≡ Some mark }
     ensures ok { OnOk result

@@ -9,6 +9,7 @@ pub mod Folders
 pub mod Kept
 pub mod Lines
 pub mod Maps
+pub mod MarkLists
 pub mod Passing
 pub mod Quiet
 pub mod Sections

@@ -5,6 +5,7 @@ pub mod Devices
 pub mod Digits
 pub mod Examples
 pub mod Laws
+pub mod Marks
 pub mod Near
 pub mod Reading
 pub mod State

@@ -11,11 +11,12 @@ use crate::entry::{put_contents, put_file, put_mark, put_old_file};
 use crate::fault::Fault;
 use crate::form::Form;
 use crate::line::{bytes_in, digest_in, fields_of, form_of, root_in};
+use crate::marks::Marks;
 use crate::near::Near;
 use crate::state::State;
 use crate::{BLOBS, FILE_BYTES};
 use hub_path::{RelPath, Root};
-use hub_tree::{Archive, Blob, Contents, Mark, Tree};
+use hub_tree::{Blob, Contents, Mark, Tree};
 use std::alloc::{AllocError, Global};
 use std::mem::replace;
 use std::str::from_utf8;
@@ -30,7 +31,7 @@ pub enum Open {
     /// An archive of this root; its other root follows.
     HalfArchive(Root),
     /// The archive of two roots.
-    Archive(Root, Root, Archive),
+    Archive(Root, Root, Marks),
 }
 
 /// What the lines above say.
@@ -135,8 +136,8 @@ impl Draft {
         let current = replace(&mut self.current, Open::Nothing);
         match current {
             Open::Replica(root, tree) => self.state.put_replica(&root, tree),
-            Open::Archive(first, second, archive) => {
-                self.state.put_archive(&first, &second, archive)
+            Open::Archive(first, second, marks) => {
+                self.state.put_archive(&first, &second, marks.archive()?)
             }
             Open::HalfArchive(_root) => Ok(()),
             Open::Nothing => Ok(()),
@@ -196,7 +197,7 @@ impl Draft {
         ensures apart { OnOk result (IsApart self.new.current) }
     {
         let first = self.first_root(&second)?;
-        self.current = Open::Archive(first, second, Archive::new(alloc));
+        self.current = Open::Archive(first, second, Marks::new(alloc));
         Ok(())
     }
 
@@ -234,7 +235,7 @@ impl Draft {
         let entries = self.entries;
         match &mut self.current {
             Open::Replica(_, tree) => put_contents(tree, entries, &path, Contents::Directory)?,
-            Open::Archive(_, _, archive) => put_mark(archive, entries, &path, Mark::Directory)?,
+            Open::Archive(_, _, marks) => put_mark(marks, entries, &path, Mark::Directory)?,
             Open::Nothing => return Err(Fault::BadLine),
             Open::HalfArchive(_) => return Err(Fault::BadLine),
         }
@@ -261,7 +262,7 @@ impl Draft {
             Open::Replica(_, tree) => {
                 put_file(alloc, near, tree, blobs, before, entries, field, text)?
             }
-            Open::Archive(_, _, archive) => put_old_file(near, archive, entries, field, text)?,
+            Open::Archive(_, _, marks) => put_old_file(near, marks, entries, field, text)?,
             Open::Nothing => return Err(Fault::BadLine),
             Open::HalfArchive(_) => return Err(Fault::BadLine),
         }

@@ -10,11 +10,12 @@ ghost use Rattle.hub_state.specs.Taking as taking;
 use crate::blobs::Blobs;
 use crate::fault::Fault;
 use crate::line::{bytes_in, digest_in};
+use crate::marks::Marks;
 use crate::near::Near;
 use crate::state::State;
 use crate::{ENTRIES, FILE_BYTES};
 use hub_path::RelPath;
-use hub_tree::{Archive, Blob, Contents, Mark, SetFault, Tree};
+use hub_tree::{Blob, Contents, Mark, SetFault, Tree};
 use std::alloc::{AllocError, Global};
 
 /// Puts a file into a replica after this many entries, and after the replicas before. In a text of version 2 it names a blob.
@@ -185,36 +186,36 @@ fn has_entry(tree: &Tree, path: &RelPath) -> bool
 /// Puts the digest of a file into an archive after this many entries.
 pub fn put_old_file(
     near: &mut Near,
-    archive: &mut Archive,
+    marks: &mut Marks,
     entries: usize,
     field: &str,
     text: &str,
 ) -> Result<(), Fault>
     ensures ok { OnOk result
-        (taking.old_file_put entries archive.old field.now text.now ≡ Ok archive.new) }
+        (taking.old_file_put entries marks.old field.now text.now ≡ Ok marks.new) }
     ensures err { IfErr result
-        (Fails Fault.OutOfMemory (taking.old_file_put entries archive.old field.now text.now)) }
+        (Fails Fault.OutOfMemory (taking.old_file_put entries marks.old field.now text.now)) }
     ensures room { OnOk result (entries < ENTRIES) }
 {
     let digest = digest_in(field)?;
     let path = near.read(text)?;
-    put_mark(archive, entries, &path, Mark::File(digest))
+    put_mark(marks, entries, &path, Mark::File(digest))
 }
 
 /// Puts a mark, which is not `Absent`, into an archive after this many entries.
-pub fn put_mark(archive: &mut Archive, entries: usize, path: &RelPath, mark: Mark) -> Result<(), Fault>
+pub fn put_mark(marks: &mut Marks, entries: usize, path: &RelPath, mark: Mark) -> Result<(), Fault>
     requires path { IsTrue (is_path path.now) }
     requires some { kept_mark mark ≡ Some mark }
     ensures ok { OnOk result
-        (taking.mark_entered entries archive.old path.now mark ≡ Ok archive.new) }
+        (taking.mark_entered entries marks.old path.now mark ≡ Ok marks.new) }
     ensures err { IfErr result
-        (Fails Fault.OutOfMemory (taking.mark_entered entries archive.old path.now mark)) }
+        (Fails Fault.OutOfMemory (taking.mark_entered entries marks.old path.now mark)) }
     ensures room { OnOk result (entries < ENTRIES) }
 {
     if is_full(entries) {
         return Err(Fault::TooLarge);
     }
-    match archive.replace(path, mark)? {
+    match marks.replace(path, mark)? {
         Mark::Absent => Ok(()),
         Mark::File(_) => Err(Fault::Repeated),
         Mark::Directory => Err(Fault::Repeated),

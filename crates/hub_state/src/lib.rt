@@ -51,6 +51,7 @@ mod fault;
 mod form;
 pub mod laws;
 mod line;
+mod marks;
 mod near;
 mod reader;
 mod state;

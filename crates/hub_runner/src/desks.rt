@@ -109,7 +109,7 @@ pub(crate) fn jobs_for<'a>(
                 profile.root(Side::Left),
                 profile.root(Side::Right),
             );
-            let job = Job::new(alloc, number, profile, archive)?;
+            let job = Box::new(alloc, Job::new(alloc, number, profile, archive)?)?;
             push(&mut jobs, QueuedJob { job, desks })?;
         }
     }

@@ -21,11 +21,11 @@ pub(crate) struct DeskNumbers {
     pub(crate) right: usize,
 }
 
-/// A job on its way from one worker to another.
+/// A job on its way from one worker to another. It stays where it is in memory.
 #[derive(Drop)]
 pub(crate) struct QueuedJob<'a> {
     /// The job.
-    pub(crate) job: Job<'a>,
+    pub(crate) job: Box<Job<'a>>,
     /// Its desks.
     pub(crate) desks: DeskNumbers,
 }
@@ -96,7 +96,7 @@ fn step_and_send<'a, G: Gate, R: Wait>(
     let mut queued = queued;
     for _ in rt.forever() {
         if some_turns(rt, gate, desks, seats, &mut queued) {
-            return end_job(rt, gate, &channels.to_caller, queued.job);
+            return end_job(rt, gate, &channels.to_caller, Box::into_inner(queued.job));
         }
         match send_on(rt, &channels.to_workers, queued) {
             None => return,
@@ -156,7 +156,7 @@ fn some_turns<G: Gate, R: Wait>(
     seats: &mut Vec<Seat>,
     queued: &mut QueuedJob<'_>,
 ) -> bool
-    ensures { IsTrue result → is_ended queued.new.job ≡ true }
+    ensures { IsTrue result → is_ended queued.new.job.value ≡ true }
 {
     for _ in 0..TURNS {
         if has_ended(rt, gate, desks, seats, queued) {
@@ -174,10 +174,10 @@ fn has_ended<G: Gate, R: Wait>(
     seats: &mut Vec<Seat>,
     queued: &mut QueuedJob<'_>,
 ) -> bool
-    ensures { IsTrue result → is_ended queued.new.job ≡ true }
+    ensures { IsTrue result → is_ended queued.new.job.value ≡ true }
 {
     let DeskNumbers { left, right } = queued.desks;
-    let job = &mut queued.job;
+    let job = &mut *queued.job;
     match job.turn() {
         Next::Ask(Side::Left, op) => step(rt, gate, desks, seats, left, job, op),
         Next::Ask(Side::Right, op) => step(rt, gate, desks, seats, right, job, op),

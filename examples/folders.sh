@@ -7,6 +7,7 @@
 # PROGRAM is the built program (crates/hubsync/out/hubsync if left out). Standard output, standard error and the status of each call are
 # compared. A line is printed for each that is wrong. The status is 1 if there was one, else 0.
 set -euo pipefail
+shopt -s lastpipe # so that what is wrong is counted behind a pipe, too
 if [ "${1:-}" = --help ]; then
     sed -n '2,/^set /{ /^#/s/^# \{0,1\}//p }' "${BASH_SOURCE[0]}"
     exit 0
@@ -544,6 +545,26 @@ try_each() {
     done
 }
 
+# Only lines are refused by which Unison may do more, or whose meaning no profile says, or that Unison refuses, too: those that the
+# table of docs/UNISON.md has.
+try_refused() {
+    local each name
+    for each in office manual; do
+        asked=$((asked + 1))
+        "$program" check --unison --verbose "$folder/$each/unison" --hosts "$folder/$each/hosts" 2>&1 >/dev/null </dev/null |
+            sed -n 's/^hubsync: [^ ]* line [0-9]*: \([a-z]*\) = .*/\1/p' >"$room/refused" || true
+        if [ "$each" = office ]; then
+            printf '%s\n' root path follow merge backupdir fat ignorecase unicode
+        else
+            echo backupdir
+        fi | compare "the lines that are refused of examples/$each" "$room/refused"
+        while read -r name; do
+            sed -n '/^## Refused lines/,/^## Harmless/p' "$folder/../docs/UNISON.md" | grep -q "\`$name\(\`\| = \)" ||
+                complain "the table of docs/UNISON.md lacks $name"
+        done <"$room/refused"
+    done
+}
+
 # What `import` writes of a folder: included lines are in place, hosts are paths, and what counts for nothing is left out.
 try_import() {
     put import/common 'ignore = Name common' 'height = 20'
@@ -611,6 +632,7 @@ try_hosts
 try_operands
 try_whole
 try_each
+try_refused
 try_import
 try_bundles
 echo "folders: ${1:-hubsync} answered $asked, $wrong of them wrongly"

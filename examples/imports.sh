@@ -175,6 +175,21 @@ ask_random() {
     done
 }
 
+# Asks about profiles with so many lines that not each of them has room for another one.
+ask_many() {
+    local count number
+    for count in 31 32 33 64; do
+        {
+            printf '%s\n' '%profile a' 'root = /srv/hub' 'root = /srv/s1'
+            for ((number = 1; number <= count; number++)); do
+                echo "ignore = Name *.x$number"
+            done
+            printf '%s\n' '%profile b' 'root = /srv/hub' 'root = /srv/s2' 'path = a.x32'
+        } >"$room/bundle"
+        ask "$count lines"
+    done
+}
+
 if [ ! -x "$program" ]; then
     echo "imports: there is no program at $program"
     exit 1
@@ -186,5 +201,6 @@ ask_table "$folder/answers/imports.txt"
 ask_folder office
 ask_folder manual
 ask_random 40
+ask_many
 echo "imports: ${1:-hubsync} answered $asked, $wrong of them wrongly"
 [ "$wrong" = 0 ]

@@ -1,13 +1,15 @@
 -- The cautious reading of a profile, in its three cases.
-use Rattle.std.proofs.Common.{◌≡◌, Bool, true, false, not, List, [], ◌++◌, Option, Some, None, sym, ap, ◌∙◌}
+use Rattle.std.proofs.Common.{◌≡◌, Bool, true, false, List, [], ◌++◌, map, Option, Some, None, sym, ap, ◌∙◌}
 use Rattle.std.specs.Prelude.{if◌then◌else◌}
-use Rattle.std.specs.List.{filter, list_all}
+use Rattle.std.specs.List.{flat_map, list_all}
 use Rattle.hub_path.specs.Path.{Path}
 use Rattle.hub_glob.specs.Specification.{Specification}
 use Rattle.hub_profile.specs.declared.partial.Partial.{Partial}
 use Rattle.hub_profile.specs.Parts.{Parts}
 use Rattle.hub_unison.specs.Cautious.{has_star, with_patterns, with_tops}
-use Rattle.hub_unison.specs.ReadingOf.{added_lines, cautious_of, is_owned, needed_lines, kept_bars, kept_lines, spare_stays, top_values}
+use Rattle.hub_unison.specs.Kept.{own_lines, spare_lines}
+use Rattle.hub_unison.specs.Matching.{widened}
+use Rattle.hub_unison.specs.ReadingOf.{all_kept, cautious_of, kept_bars, spare_stays, top_values, with_kept}
 use Rattle.hub_unison.proofs.KeptLines.{none-if, some-if}
 
 module _ (P C : Parts) (ignore ignorenot : List Specification) (bars partial : List Partial)
@@ -17,7 +19,7 @@ module _ (P C : Parts) (ignore ignorenot : List Specification) (bars partial : L
   reading a b =
       if a then with_tops P (top_values P.paths) (kept_bars P.partial)
       else (if b
-      then with_patterns P (kept_lines P.ignore) (P.ignorenot ++ needed_lines P.ignore) (kept_bars P.partial)
+      then with_kept P (all_kept P.ignore (map widened P.ignorenot)) (map widened P.ignorenot) (kept_bars P.partial)
       else with_patterns P [] [] (kept_bars P.partial))
 
   own : partial ≡ kept_bars P.partial
@@ -32,25 +34,24 @@ module _ (P C : Parts) (ignore ignorenot : List Specification) (bars partial : L
       ∙ ap (λ a. reading a (list_all spare_stays P.ignorenot)) (sym (sym starred ∙ is))))
 
   module _ (o : Option (List Specification)) (oldnot : List Specification)
-      (spares : o ≡ (if list_all spare_stays oldnot then Some oldnot else None))
+      (spares : o ≡ (if list_all spare_stays oldnot then Some (map widened oldnot) else None))
       (not_are : oldnot ≡ P.ignorenot) (e : C ≡ with_patterns P ignore ignorenot partial)
       (is : star ≡ false) where
     at : (b : Bool) → list_all spare_stays oldnot ≡ b → reading false b ≡ cautious_of P
     at b h =
         (λ i. reading ((sym is ∙ starred) i) ((sym h ∙ ap (list_all spare_stays) not_are) i))
 
-    pub by-lines : (spared old owners : List Specification) → o ≡ Some spared → old ≡ P.ignore
-        → owners ≡ P.ignore → ignore ≡ kept_lines old
-        → ignorenot ≡ spared ++ filter (λ spare. not (is_owned owners spare)) (added_lines old)
+    pub by-lines : (spared old : List Specification) → o ≡ Some spared → old ≡ P.ignore
+        → ignore ≡ flat_map own_lines (all_kept old spared)
+        → ignorenot ≡ spared ++ flat_map spare_lines (all_kept old spared)
         → C ≡ cautious_of P
-    by-lines spared old owners some lines same stay needed =
-        let two = some-if (list_all spare_stays oldnot) oldnot spared o some spares in
-        e ∙ ((λ i. with_patterns P ((stay ∙ ap kept_lines lines) i)
-        ((needed
-        ∙ (λ j. (two.1 ∙ not_are) j ++ filter (λ spare. not (is_owned (same j) spare)) (added_lines (lines j)))) i)
-        (own i)) ∙ at true two.0)
+    by-lines spared old some lines stay added =
+        let two = some-if (list_all spare_stays oldnot) (map widened oldnot) spared o some spares in
+        let same : spared ≡ map widened P.ignorenot = two.1 ∙ ap (map widened) not_are in
+        e ∙ ((λ i. with_patterns P (stay i) (added i) (own i))
+        ∙ ((λ i. with_kept P (all_kept (lines i) (same i)) (same i) (kept_bars P.partial)) ∙ at true two.0))
 
     pub by-none : o ≡ None → ignore ≡ [] → ignorenot ≡ [] → C ≡ cautious_of P
     by-none none one two =
         e ∙ ((λ i. with_patterns P (one i) (two i) (own i))
-        ∙ at false (none-if (list_all spare_stays oldnot) oldnot o none spares))
+        ∙ at false (none-if (list_all spare_stays oldnot) (map widened oldnot) o none spares))

@@ -1,21 +1,24 @@
 -- What stays of the lines of a profile, one by one.
-use Rattle.std.proofs.Common.{◌≡◌, ◌<◌, ◌+◌, ℕ, suc, zero, arith, Bool, true, false, not, ◌&&◌, ◌||◌, List, [], ◌∷◌, ◌++◌, cond, length, map, take, get_or, Option, Some, None, refl, sym, ap, ◌∙◌, append-nil, append_assoc}
+use Rattle.std.proofs.Common.{◌≡◌, ◌<◌, ◌+◌, ◌-◌, ℕ, suc, zero, arith, Bool, true, false, not, ◌&&◌, ◌||◌, List, [], ◌∷◌, ◌++◌, cond, length, map, take, get_or, Option, Some, None, refl, sym, ap, ◌∙◌, append-nil, append_assoc}
 use Rattle.std.specs.Prelude.{if◌then◌else◌}
 use Rattle.std.specs.List.{filter, list_all}
-use Rattle.std.proofs.Math.Bool.{and-false, and-true}
+use Rattle.std.proofs.Math.Bool.{and-false}
 use Rattle.std.proofs.lemmas.Bool.{and_from}
-use Rattle.std.proofs.lemmas.List.{take_more}
+use Rattle.std.proofs.lemmas.List.{length-append, length-take-le, map_more, take_more}
 use Rattle.std.proofs.lemmas.List.Folds.{list_all-append}
-use Rattle.std.proofs.lemmas.List.Elements.{filter_more, filter-append}
+use Rattle.std.proofs.lemmas.List.Elements.{filter_more}
 use Rattle.hub_glob.specs.declared.path_spec.Kind.{Kind}
 use Rattle.hub_glob.specs.declared.piece.Piece.{Piece}
 use Rattle.hub_glob.specs.declared.piece.Part.TheVariants.{Brace}
+use Rattle.hub_glob.specs.Glob.{choices}
 use Rattle.hub_glob.specs.Specification.{Specification}
 use Rattle.hub_profile.specs.declared.partial.Partial.{Partial}
-use Rattle.hub_unison.specs.declared.kept.Kept.TheVariants.{Nothing, Alone, Sparing}
-use Rattle.hub_unison.specs.Kept.{IsKept}
-use Rattle.hub_unison.specs.Matching.{all_simple}
-use Rattle.hub_unison.specs.ReadingOf.{added_lines, adds_spare, bar_stays, has_spares, is_read_back, kept_lines, line_stays, read_back, spare_of, spare_stays}
+use Rattle.hub_unison.specs.declared.kept.Kept.TheVariants.{Nothing, Cut, Alone, Sparing}
+use Rattle.hub_unison.specs.declared.kept.Kept.{Kept}
+use Rattle.hub_unison.specs.Kept.{cut_from, fitting, is_alone, is_cut, taken, within}
+use Rattle.hub_unison.specs.Matching.{all_known, all_simple, star_for, starred, widened}
+use Rattle.hub_unison.specs.ReadingOf.{bar_stays, has_spares, is_read_back, line_kept, line_stays, read_back, spare_of, spare_stays}
+use Rattle.hub_unison.specs.SpareLaws.{all-known}
 use Rattle.hub_unison.specs.Spares.{is_plain, pattern_spares}
 
 module _ {X : Type 0} where
@@ -70,54 +73,48 @@ read-not s o is e = none-if (is_read_back s) s o is e
 
 -- What is kept of one line.
 module _ (s : Specification) where
-  abbrev line-at : Bool → List Specification
-  line-at b = cond b (s ∷ []) []
+  abbrev kept-at : Bool → Bool → Bool → Kept
+  kept-at b c d =
+      if b then (if c then Sparing s (spare_of s) else Alone s) else (if d then Cut else Nothing)
 
-  abbrev spare-at-line : Bool → List Specification
-  spare-at-line b = map spare_of (cond b (s ∷ []) [])
+  gone : line_stays s ≡ false → all_simple s.pattern ≡ true → Cut ≡ line_kept s
+  gone h simple = (λ i. kept-at (sym h i) (has_spares s) (sym simple i))
 
-  gone : line_stays s ≡ false → IsKept s Nothing
-  gone h = record {
-    own = ap line-at (sym h);
-    spares = ap (λ b. spare-at-line (b && has_spares s)) (sym h);
-  }
-
-  pub gone-unread : is_read_back s ≡ false → IsKept s Nothing
-  gone-unread h =
+  pub gone-unread : all_simple s.pattern ≡ true → is_read_back s ≡ false → Cut ≡ line_kept s
+  gone-unread simple h =
       gone (ap (λ b. (b && all_simple s.pattern) && (not (has_spares s) || is_read_back (spare_of s))) h)
+      simple
 
-  pub gone-unknown : all_simple s.pattern ≡ false → IsKept s Nothing
+  pub gone-unknown : all_simple s.pattern ≡ false → Nothing ≡ line_kept s
   gone-unknown h =
-      gone
-      (ap (λ b. (is_read_back s && b) && (not (has_spares s) || is_read_back (spare_of s))) h
-      ∙ ap (λ b. b && (not (has_spares s) || is_read_back (spare_of s))) (and-false (is_read_back s)))
+      (λ i. kept-at (sym stays i) (has_spares s) (sym h i))
+    where
+      stays : line_stays s ≡ false
+      stays =
+          ap (λ b. (is_read_back s && b) && (not (has_spares s) || is_read_back (spare_of s))) h
+          ∙ ap (λ b. b && (not (has_spares s) || is_read_back (spare_of s))) (and-false (is_read_back s))
 
-  pub gone-spare : has_spares s ≡ true → is_read_back (spare_of s) ≡ false → IsKept s Nothing
-  gone-spare some unread =
+  pub gone-spare : all_simple s.pattern ≡ true → has_spares s ≡ true
+      → is_read_back (spare_of s) ≡ false → Cut ≡ line_kept s
+  gone-spare simple some unread =
       gone
       ((λ i. (is_read_back s && all_simple s.pattern) && (not (some i) || unread i))
-      ∙ and-false (is_read_back s && all_simple s.pattern))
+      ∙ and-false (is_read_back s && all_simple s.pattern)) simple
 
   pub stays-alone : (copy : Specification) → copy ≡ s → is_read_back s ≡ true
-      → all_simple s.pattern ≡ true → has_spares s ≡ false → IsKept s (Alone copy)
+      → all_simple s.pattern ≡ true → has_spares s ≡ false → Alone copy ≡ line_kept s
   stays-alone copy e read simple none =
       let stays : line_stays s ≡ true =
       (λ i. (read i && simple i) && (not (none i) || is_read_back (spare_of s))) in
-      record {
-        own = ap (λ x. x ∷ []) e ∙ ap line-at (sym stays);
-        spares = (λ i. spare-at-line (sym stays i && sym none i));
-      }
+      ap Alone e ∙ (λ i. kept-at (sym stays i) (sym none i) (all_simple s.pattern))
 
   pub stays-sparing : (copy spare : Specification) → copy ≡ s → spare ≡ spare_of s
       → is_read_back s ≡ true → all_simple s.pattern ≡ true → has_spares s ≡ true
-      → is_read_back (spare_of s) ≡ true → IsKept s (Sparing copy spare)
+      → is_read_back (spare_of s) ≡ true → Sparing copy spare ≡ line_kept s
   stays-sparing copy spare e f read simple some written =
       let stays : line_stays s ≡ true =
       (λ i. (read i && simple i) && (not (some i) || written i)) in
-      record {
-        own = ap (λ x. x ∷ []) e ∙ ap line-at (sym stays);
-        spares = ap (λ x. x ∷ []) f ∙ (λ i. spare-at-line (sym stays i && sym some i));
-      }
+      (λ i. Sparing (e i) (f i)) ∙ (λ i. kept-at (sym stays i) (sym some i) (all_simple s.pattern))
 
 pub spare-at : (s : Specification) (k : Kind) (ds : List (List Piece)) (o : Option Specification)
     → k ≡ s.kind → ds ≡ pattern_spares s.pattern
@@ -151,39 +148,122 @@ pub bar-sure : (b : Partial) → is_read_back b.spec ≡ true → is_plain b.spe
     → bar_stays b ≡ true
 bar-sure b read plain = and_from (is_read_back b.spec) (is_plain b.spec.pattern) read plain
 
--- Whether an `ignorenot` line stays.
-pub spare-unknown : (s : Specification) → all_simple s.pattern ≡ false → spare_stays s ≡ false
-spare-unknown s h = ap (λ b. is_read_back s && b) h ∙ and-false (is_read_back s)
+-- What stands in place of an `ignorenot` line.
+pub spare-unknown : (s : Specification) → all_known s.pattern ≡ false → spare_stays s ≡ false
+spare-unknown s h = ap (λ b. b && is_read_back (widened s)) h
 
-pub spare-known : (s : Specification) (o : Option Specification) → all_simple s.pattern ≡ true
-    → o ≡ read_back s → o ≡ (if spare_stays s then Some s else None)
+pub spare-known : (s : Specification) (o : Option Specification) → all_known s.pattern ≡ true
+    → o ≡ read_back (widened s) → o ≡ (if spare_stays s then Some (widened s) else None)
 spare-known s o h e =
-    e ∙ ap (λ b. if b then Some s else None) (sym (ap (λ b. is_read_back s && b) h ∙ and-true (is_read_back s)))
+    e ∙ ap (λ b. if b then Some (widened s) else None) (sym (ap (λ b. b && is_read_back (widened s)) h))
 
--- The lines of one more.
-module _ (ss : List Specification) (i : ℕ) (s : Specification) (l : i < length ss)
-    (e : s ≡ get_or ss i s) where
-  front : take (i + 1) ss ≡ take i ss ++ s ∷ []
-  front = take_more ss i s l ∙ ap (λ x. take i ss ++ x ∷ []) (sym e)
+pub spare-simple : (s : Specification) (o : Option Specification) → all_simple s.pattern ≡ true
+    → o ≡ read_back s → o ≡ (if spare_stays s then Some (widened s) else None)
+spare-simple s o h e =
+    spare-known s o (all-known s.pattern h)
+    (e ∙ ap read_back (sym (ap (λ b. if b then s else starred s) h)))
 
-  pub lines-more : (old own new : List Specification) → old ≡ kept_lines (take i ss)
-      → own ≡ kept_lines (s ∷ []) → new ≡ old ++ own → new ≡ kept_lines (take (i + 1) ss)
-  lines-more old own new before is more =
-      more ∙ ((λ j. before j ++ is j)
-      ∙ (sym (filter-append line_stays (take i ss) (s ∷ [])) ∙ ap kept_lines (sym front)))
+pub spare-starred : (s : Specification) (k : Kind) (ds : List (List Piece)) (o : Option Specification)
+    → all_simple s.pattern ≡ false → all_known s.pattern ≡ true → k ≡ s.kind
+    → ds ≡ choices s.pattern ++ map (map star_for) (choices s.pattern)
+    → o ≡ read_back (record { kind = k; pattern = Brace ds ∷ [] })
+    → o ≡ (if spare_stays s then Some (widened s) else None)
+spare-starred s k ds o odd known kind are e =
+    spare-known s o known
+    (e ∙ ((λ i. read_back (record { kind = kind i; pattern = Brace (are i) ∷ [] }))
+    ∙ ap read_back (sym (ap (λ b. if b then s else starred s) odd))))
 
-  map-both : (xs ys : List Specification)
-      → map spare_of (xs ++ ys) ≡ map spare_of xs ++ map spare_of ys
-  map-both [] ys = refl
-  map-both (x ∷ xs) ys = ap (λ zs. spare_of x ∷ zs) (map-both xs ys)
+-- One line more.
+pub mapped-more : {X Y : Type 0} (f : X → Y) (xs : List X) (i : ℕ) (x : X) (y : Y) (old new : List Y)
+    → i < length xs → x ≡ get_or xs i x → old ≡ map f (take i xs) → y ≡ f x → new ≡ old ++ y ∷ []
+    → new ≡ map f (take (i + 1) xs)
+mapped-more f xs i x y old new l e before same more =
+    more ∙ ((λ j. before j ++ (same ∙ ap f e) j ∷ []) ∙ sym (map_more f xs i x l))
 
-  pub added-more : (first old own new : List Specification)
-      → old ≡ first ++ added_lines (take i ss) → own ≡ added_lines (s ∷ []) → new ≡ old ++ own
-      → new ≡ first ++ added_lines (take (i + 1) ss)
-  added-more first old own new before is more =
-      more ∙ ((λ j. before j ++ is j)
-      ∙ (append_assoc first (added_lines (take i ss)) (added_lines (s ∷ []))
-      ∙ ap (λ xs. first ++ xs)
-      (sym (map-both (filter adds_spare (take i ss)) (filter adds_spare (s ∷ [])))
-      ∙ ap (map spare_of)
-      (sym (filter-append adds_spare (take i ss) (s ∷ [])) ∙ ap (filter adds_spare) (sym front)))))
+-- What fits of one more, and the room that is left.
+abbrev pub room_after : ℕ → List Kept → ℕ
+room_after room [] = room
+room_after room (k ∷ ks) = room_after (room - taken (within room k)) ks
+
+room-push : (room : ℕ) (ks : List Kept) (k : Kept)
+    → room_after room (ks ++ k ∷ []) ≡ room_after room ks - taken (within (room_after room ks) k)
+room-push room [] k = refl
+room-push room (j ∷ ks) k = room-push (room - taken (within room j)) ks k
+
+fitting-push : (room : ℕ) (ks : List Kept) (k : Kept)
+    → fitting room (ks ++ k ∷ []) ≡ fitting room ks ++ within (room_after room ks) k ∷ []
+fitting-push room [] k = refl
+fitting-push room (j ∷ ks) k =
+    ap (λ js. within room j ∷ js) (fitting-push (room - taken (within room j)) ks k)
+
+pub fits-more : (room left : ℕ) (ks : List Kept) (k fit : Kept) (old new : List Kept)
+    → left ≡ room_after room ks → old ≡ fitting room ks → fit ≡ within left k → new ≡ old ++ fit ∷ []
+    → new ≡ fitting room (ks ++ k ∷ [])
+fits-more room left ks k fit old new is before same more =
+    more ∙ ((λ j. before j ++ (same ∙ ap (λ n. within n k) is) j ∷ []) ∙ sym (fitting-push room ks k))
+
+pub room-more : (room left next : ℕ) (ks : List Kept) (k fit : Kept) → left ≡ room_after room ks
+    → fit ≡ within left k → next ≡ left - taken fit → next ≡ room_after room (ks ++ k ∷ [])
+room-more room left next ks k fit is same less =
+    less ∙ ((λ j. is j - taken ((same ∙ ap (λ n. within n k) is) j)) ∙ sym (room-push room ks k))
+
+pub room-one : (most some : ℕ) (xs : List Kept) (i : ℕ) (x : Kept) (old new : ℕ) → i < length xs
+    → x ≡ get_or xs i x → old ≡ most - (some + length (filter is_alone (take i xs)))
+    → new ≡ old - (if is_alone x then 1 else 0)
+    → new ≡ most - (some + length (filter is_alone (take (i + 1) xs)))
+room-one most some xs i x old new l e before less = go (is_alone x) refl less
+  where
+    go : (b : Bool) → is_alone x ≡ b → new ≡ old - (if b then 1 else 0)
+        → new ≡ most - (some + length (filter is_alone (take (i + 1) xs)))
+    go true h less =
+        let one : length (filter is_alone (take i xs) ++ x ∷ []) ≡ length (filter is_alone (take (i + 1) xs)) =
+        ap length (filter-kept is_alone xs i x l e h) in
+        let two = length-append (filter is_alone (take i xs)) (x ∷ []) in
+        omega (arith, before, less, one, two)
+    go false h less =
+        let same : length (filter is_alone (take i xs)) ≡ length (filter is_alone (take (i + 1) xs)) =
+        ap length (filter-gone is_alone xs i x l e h) in
+        omega (arith, before, less, same)
+
+-- The lines of which nothing is kept for a limit.
+cut-push : (at : ℕ) (ks : List Kept) (k : Kept)
+    → cut_from at (ks ++ k ∷ []) ≡ cut_from at ks
+    ++ (if is_cut k then (at + length ks) ∷ [] else [])
+cut-push at [] k =
+    append-nil (if is_cut k then at ∷ [] else [])
+    ∙ (λ i. if is_cut k then sum i ∷ [] else [])
+  where
+    sum : at ≡ at + 0
+    sum = omega arith
+cut-push at (j ∷ ks) k =
+    ap (λ ns. (if is_cut j then at ∷ [] else []) ++ ns) (cut-push (at + 1) ks k)
+    ∙ (sym (append_assoc (if is_cut j then at ∷ [] else []) (cut_from (at + 1) ks)
+    (if is_cut k then (at + 1 + length ks) ∷ [] else []))
+    ∙ (λ i. cut_from at (j ∷ ks) ++ (if is_cut k then sum i ∷ [] else [])))
+  where
+    sum : at + 1 + length ks ≡ at + length (j ∷ ks)
+    sum = omega arith
+
+module _ (all : List Kept) (i : ℕ) (k : Kept) (l : i < length all) (e : k ≡ get_or all i k) where
+  at-front : cut_from 0 (take (i + 1) all) ≡ cut_from 0 (take i all)
+      ++ (if is_cut k then i ∷ [] else [])
+  at-front =
+      ap (cut_from 0) (take_more all i k l ∙ ap (λ x. take i all ++ x ∷ []) (sym e))
+      ∙ (cut-push 0 (take i all) k
+      ∙ (λ j. cut_from 0 (take i all)
+      ++ (if is_cut k then many j ∷ [] else [])))
+    where
+      many : 0 + length (take i all) ≡ i
+      many = let taken = length-take-le i all (omega (arith, l)) in omega (arith, taken)
+
+  pub cut-more : (old new : List ℕ) → old ≡ cut_from 0 (take i all) → is_cut k ≡ true
+      → new ≡ old ++ i ∷ [] → new ≡ cut_from 0 (take (i + 1) all)
+  cut-more old new before h more =
+      more ∙ ((λ j. before j ++ i ∷ [])
+      ∙ (ap (λ b. cut_from 0 (take i all) ++ (if b then i ∷ [] else [])) (sym h) ∙ sym at-front))
+
+  pub cut-same : (old : List ℕ) → old ≡ cut_from 0 (take i all) → is_cut k ≡ false
+      → old ≡ cut_from 0 (take (i + 1) all)
+  cut-same old before h =
+      before ∙ (sym (append-nil (cut_from 0 (take i all)))
+      ∙ (ap (λ b. cut_from 0 (take i all) ++ (if b then i ∷ [] else [])) (sym h) ∙ sym at-front))

@@ -2,7 +2,6 @@ pub mod BesideRules
 pub mod Cautiously
 pub mod KeptLines
 pub mod LastName
-pub mod NeededLines
 pub mod ReadBack
 pub mod Spared
 pub mod TopValues

@@ -8,15 +8,18 @@ use Rattle.hub_profile.specs.declared.bars.Bars.{Bars}
 use Rattle.hub_profile.specs.declared.partial.Partial.{Partial}
 use Rattle.hub_profile.specs.Parts.{Parts}
 use Rattle.hub_glob.specs.Glob.{matches}
-use Rattle.hub_unison.specs.Matching.{surely}
+use Rattle.hub_unison.specs.Matching.{surely, perhaps}
 use Rattle.hub_unison.specs.UnisonReach.{is_starred}
 
--- What some of the specifications match for hubsync, or for certain.
+-- What some of the specifications match for hubsync, or for certain, or what they may match.
 abbrev pub any_matches : List Specification → Path → Bool
 any_matches ss q = list_any (λ s. matches s q) ss
 
 abbrev pub any_surely : List Specification → Path → Bool
 any_surely ss q = list_any (λ s. surely s q) ss
+
+abbrev pub any_perhaps : List Specification → Path → Bool
+any_perhaps ss q = list_any (λ s. perhaps s q) ss
 
 -- What the new `ignore` lines match, the old ones match for certain, or the new `ignorenot` lines
 -- match.
@@ -24,9 +27,9 @@ abbrev pub IgnoresLess : List Specification → List Specification → List Spec
 IgnoresLess old new spared =
     (q : Path) → any_matches new q ≡ true → (any_surely old q || any_matches spared q) ≡ true
 
--- What the old `ignorenot` lines match, the new ones match.
+-- What the old `ignorenot` lines may match, the new ones match.
 abbrev pub SparesMore : List Specification → List Specification → Type 0
-SparesMore old new = (q : Path) → any_matches old q ≡ true → any_matches new q ≡ true
+SparesMore old new = (q : Path) → any_perhaps old q ≡ true → any_matches new q ≡ true
 
 -- What the new partial bars forbid, the old ones forbid for certain, whatever is asked of their
 -- sides and changes.

@@ -16,10 +16,9 @@ use Rattle.hub_glob.specs.Glob.{matches}
 use Rattle.hub_reach.specs.Reach.{reach, may, may_at, writes_at, is_open, covers}
 use Rattle.hub_text.specs.TestLaws.{list_all-not}
 use Rattle.hub_reach.specs.Safe.{IsSafe, Rule, Clash}
-use Rattle.hub_unison.specs.Matching.{Matching, IsMatching, surely, all_simple}
+use Rattle.hub_unison.specs.Matching.{Matching, IsMatching, surely, perhaps}
 use Rattle.hub_unison.specs.UnisonReach.{is_starred, lies_in, start, ignores, opens, reach_by, bars_by, may_by, writes_by, UnisonClash, IsCautious, AreCautious, IsSafeInUnison}
 use Rattle.hub_unison.specs.PieceLaws.{any-where, any-weaker}
-use Rattle.hub_unison.specs.PatternLaws.{simple-perhaps}
 use Rattle.hub_unison.specs.Cautious.{any_matches, any_surely, IgnoresLess, SparesMore, BarsLess, has_star, with_patterns, with_tops, covers_value, cover}
 
 -- Tests.
@@ -101,17 +100,17 @@ covers-all top s p c h = go (is_starred s) refl
 module _ (m : Matching) (known : IsMatching m) (P : Parts) where
   -- What the new lines ignore, the old ones ignore.
   ignored-by : (ignore ignorenot : List Specification) → IgnoresLess P.ignore ignore ignorenot
-      → SparesMore P.ignorenot ignorenot → list_all (λ s. all_simple s.pattern) P.ignorenot ≡ true
+      → SparesMore P.ignorenot ignorenot
       → (q : Path) → (any_matches ignore q && not (any_matches ignorenot q)) ≡ true
       → ignores m P q ≡ true
-  ignored-by ignore ignorenot less more simple q h =
+  ignored-by ignore ignorenot less more q h =
       let parts = and_parts (any_matches ignore q) (not (any_matches ignorenot q)) h in
       and_from (list_any (λ s. m s q) P.ignore) (not (list_any (λ s. m s q) P.ignorenot))
       (any-weaker (λ s. surely s q) (λ s. m s q) P.ignore (λ s. known.least s q)
       (left-part (any_surely P.ignore q) (any_matches ignorenot q) (less q parts.0) parts.1))
       (not-weaker (list_any (λ s. m s q) P.ignorenot) (any_matches ignorenot q)
-      (λ e. more q (any-where (λ s. all_simple s.pattern) (λ s. m s q) (λ s. matches s q) P.ignorenot
-      simple (λ s own f. simple-perhaps s q own (known.most s q f)) e)) parts.1)
+      (λ e. more q (any-weaker (λ s. m s q) (λ s. perhaps s q) P.ignorenot (λ s. known.most s q) e))
+      parts.1)
 
   reach-patterns : (ignore ignorenot : List Specification) (partial : List Partial)
       → ((q : Path) → (any_matches ignore q && not (any_matches ignorenot q)) ≡ true
@@ -229,12 +228,11 @@ patterns-cautious P ignore ignorenot partial plain less bars = record {
 
 -- With lines that ignore less and spare more.
 pub lines-cautious : (P : Parts) (ignore ignorenot : List Specification) (partial : List Partial)
-    → has_star P ≡ false → list_all (λ s. all_simple s.pattern) P.ignorenot ≡ true
-    → IgnoresLess P.ignore ignore ignorenot → SparesMore P.ignorenot ignorenot
+    → has_star P ≡ false → IgnoresLess P.ignore ignore ignorenot → SparesMore P.ignorenot ignorenot
     → BarsLess P.partial partial → IsCautious P (with_patterns P ignore ignorenot partial)
-lines-cautious P ignore ignorenot partial plain simple less more bars =
+lines-cautious P ignore ignorenot partial plain less more bars =
     patterns-cautious P ignore ignorenot partial plain
-    (λ m known. ignored-by m known P ignore ignorenot less more simple) bars
+    (λ m known. ignored-by m known P ignore ignorenot less more) bars
 
 -- With no lines.
 pub none-cautious : (P : Parts) (partial : List Partial) → has_star P ≡ false

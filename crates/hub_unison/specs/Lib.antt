@@ -1,6 +1,7 @@
 pub mod Cautious
 pub mod CautiousLaws
 pub mod Kept
+pub mod LimitLaws
 pub mod Matching
 pub mod PatternLaws
 pub mod PieceLaws

@@ -1,6 +1,6 @@
 -- The readings of profiles, as functions of these.
-use Rattle.std.specs.Prelude.{ℕ, Bool, not, ◌&&◌, ◌||◌, ◌==◌, nat_lt, List, [], ◌∷◌, ◌++◌, length, map, Option, Some, None, if◌then◌else◌}
-use Rattle.std.specs.List.{list_any, list_all, filter, fold}
+use Rattle.std.specs.Prelude.{ℕ, ◌+◌, ◌-◌, ◌≤◌, Bool, not, ◌&&◌, ◌||◌, ◌==◌, nat_lt, List, [], ◌∷◌, ◌++◌, length, map, Option, Some, None, if◌then◌else◌}
+use Rattle.std.specs.List.{list_any, list_all, filter, fold, flat_map}
 use Rattle.std.specs.Result.{result_ok}
 use Rattle.hub_path.specs.Path.{Path, is_over, parent, path_eq}
 use Rattle.hub_glob.specs.declared.piece.Part.TheVariants.{Brace}
@@ -12,10 +12,14 @@ use Rattle.hub_glob.specs.Writing.{spec_text}
 use Rattle.hub_profile.specs.declared.partial.Partial.{Partial}
 use Rattle.hub_profile.specs.declared.rule.Rule.{Rule}
 use Rattle.hub_profile.specs.Facts.{are_kept}
+use Rattle.hub_profile.specs.declared.draft.TheConstants.{PATTERN_LINES}
 use Rattle.hub_profile.specs.Parts.{Parts, some_passes}
 use Rattle.hub_unison.specs.Cautious.{cover, has_star, with_patterns, with_tops}
-use Rattle.hub_unison.specs.Matching.{all_simple}
+use Rattle.hub_unison.specs.Kept.{own_lines, spare_lines, is_alone, fitting, cut_from}
+use Rattle.hub_unison.specs.Matching.{all_simple, all_known, widened}
 use Rattle.hub_unison.specs.Rules.{for_rules}
+use Rattle.hub_unison.specs.declared.kept.Kept.{Kept}
+use Rattle.hub_unison.specs.declared.kept.Kept.TheVariants.{Nothing, Cut, Alone, Sparing}
 use Rattle.hub_unison.specs.Spares.{is_plain, pattern_spares}
 use Rattle.hub_unison.specs.UnisonReach.{is_starred}
 
@@ -39,22 +43,20 @@ abbrev pub has_spares : Specification → Bool
 has_spares s = not (length (pattern_spares s.pattern) == 0)
 
 -- An `ignore` line stays if it is known what Unison matches by it at most, and each spare can be
--- written in an `ignorenot` line. For this one line is added.
+-- written in an `ignorenot` line. This is then a line for its spares. One that can't be written would
+-- pass a limit of patterns.
 abbrev pub line_stays : Specification → Bool
 line_stays s =
     is_read_back s && all_simple s.pattern && (not (has_spares s) || is_read_back (spare_of s))
 
-abbrev pub adds_spare : Specification → Bool
-adds_spare s = line_stays s && has_spares s
-
-abbrev pub kept_lines : List Specification → List Specification
-kept_lines ss = filter line_stays ss
-
-abbrev pub added_lines : List Specification → List Specification
-added_lines ss = map spare_of (filter adds_spare ss)
+abbrev pub line_kept : Specification → Kept
+line_kept s =
+    if line_stays s then (if has_spares s then Sparing s (spare_of s) else Alone s)
+    else (if all_simple s.pattern then Cut else Nothing)
 
 -- A line for spares isn't needed if what it matches is ignored for certain by one of the `ignore`
--- lines: one that is read alike, has this kind, and has these choices.
+-- lines: one that is read alike, has this kind, and has these choices. Nor is it if it is one of the
+-- `ignorenot` lines.
 abbrev pub braced : Specification → Specification
 braced s = record { kind = s.kind; pattern = Brace (choices s.pattern) ∷ [] }
 
@@ -65,12 +67,31 @@ owns s spare =
 abbrev pub is_owned : List Specification → Specification → Bool
 is_owned ss spare = list_any (λ s. owns s spare) ss
 
-abbrev pub needed_lines : List Specification → List Specification
-needed_lines ss = filter (λ spare. not (is_owned ss spare)) (added_lines ss)
+abbrev pub is_among : List Specification → Specification → Bool
+is_among spared spare = list_any (λ s. tested.eq-value.it s spare) spared
 
--- An `ignorenot` line can stay if it is known what Unison matches by it at most.
+abbrev pub needed : List Specification → List Specification → Kept → Kept
+needed ss spared Nothing = Nothing
+needed ss spared Cut = Cut
+needed ss spared (Alone s) = Alone s
+needed ss spared (Sparing s spare) =
+    if is_owned ss spare || is_among spared spare then Alone s else Sparing s spare
+
+-- What is kept of the `ignore` lines beside these `ignorenot` lines. Those that need no other line stay
+-- anyway, and of the others the first ones, as long as there are no more than PATTERN_LINES.
+abbrev pub each_kept : List Specification → List Specification → List Kept
+each_kept ss spared = map (λ s. needed ss spared (line_kept s)) ss
+
+abbrev pub room_beside : List Specification → List Kept → ℕ
+room_beside spared ks = PATTERN_LINES - (length spared + length (filter is_alone ks))
+
+abbrev pub all_kept : List Specification → List Specification → List Kept
+all_kept ss spared = fitting (room_beside spared (each_kept ss spared)) (each_kept ss spared)
+
+-- An `ignorenot` line can stay, or one with stars in its place, if it is known what Unison matches by it
+-- at most.
 abbrev pub spare_stays : Specification → Bool
-spare_stays s = is_read_back s && all_simple s.pattern
+spare_stays s = all_known s.pattern && is_read_back (widened s)
 
 -- A bar stays if Unison matches for certain what hubsync has its pattern match.
 abbrev pub bar_stays : Partial → Bool
@@ -103,14 +124,25 @@ abbrev pub top_values : List Path → List Path
 top_values paths =
     if are_tops (topmost (map cut_value paths)) paths then topmost (map cut_value paths) else [] ∷ []
 
+-- A profile with these lines.
+abbrev pub with_kept : Parts → List Kept → List Specification → List Partial → Parts
+with_kept P ks spared partial =
+    with_patterns P (flat_map own_lines ks) (spared ++ flat_map spare_lines ks) partial
+
 -- The cautious reading of a profile. If a kept value ends with `*`, or it isn't known what Unison
 -- matches at most by an `ignorenot` line, nothing is ignored.
 abbrev pub cautious_of : Parts → Parts
 cautious_of P =
     if has_star P then with_tops P (top_values P.paths) (kept_bars P.partial)
     else (if list_all spare_stays P.ignorenot
-    then with_patterns P (kept_lines P.ignore) (P.ignorenot ++ needed_lines P.ignore) (kept_bars P.partial)
+    then with_kept P (all_kept P.ignore (map widened P.ignorenot)) (map widened P.ignorenot) (kept_bars P.partial)
     else with_patterns P [] [] (kept_bars P.partial))
+
+-- The numbers, from 0 on, of the `ignore` lines that it leaves out for a limit.
+abbrev pub lines_cut : Parts → List ℕ
+lines_cut P =
+    if has_star P then []
+    else (if list_all spare_stays P.ignorenot then cut_from 0 (all_kept P.ignore (map widened P.ignorenot)) else [])
 
 -- The reading of a profile beside rules.
 abbrev pub reading_of : List Rule → Parts → Parts
@@ -121,4 +153,9 @@ reading_of (R ∷ Rs) P = for_rules P (top_values P.paths)
 abbrev pub is_read_alike : Parts → Bool
 is_read_alike P =
     not (has_star P) && list_all (λ s. is_read_back s && is_plain s.pattern) P.ignore
-    && list_all spare_stays P.ignorenot && list_all bar_stays P.partial
+    && list_all (λ s. is_read_back s && all_simple s.pattern) P.ignorenot
+    && list_all bar_stays P.partial
+
+-- The profile has no more `ignore` and `ignorenot` lines than may be read.
+abbrev pub IsWithinLines : Parts → Type 0
+IsWithinLines P = length P.ignore + length P.ignorenot ≤ PATTERN_LINES

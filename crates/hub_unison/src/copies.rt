@@ -16,7 +16,8 @@ pub(crate) fn push_copies(list: &mut Items<Piece>, pieces: &[Piece]) -> Result<(
     Ok(())
 }
 
-fn copy_of(alloc: Global, piece: &Piece) -> Result<Piece, AllocError>
+/// Copies a piece.
+pub(crate) fn copy_of(alloc: Global, piece: &Piece) -> Result<Piece, AllocError>
     ensures { IfOk result (λ copy. copy ≡ piece.now) }
 {
     match piece {

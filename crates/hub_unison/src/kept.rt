@@ -1,27 +1,80 @@
 //! What is kept of the lines of a profile.
-ghost use Rattle.std.specs.Prelude.{◌≡◌, ◌++◌, IfOk, if◌then◌else◌, Some, None};
-ghost use Rattle.std.specs.List.{list_all};
-ghost use Rattle.hub_unison.specs.Kept.{IsKept};
+ghost use Rattle.std.specs.Prelude.{◌≡◌, ◌++◌, ◌-◌, map, length, IfOk, if◌then◌else◌, Some, None};
+ghost use Rattle.std.specs.List.{list_all, filter, flat_map};
+ghost use Rattle.hub_unison.specs.Kept as lines;
+ghost use Rattle.hub_unison.specs.Matching.{widened};
 ghost use Rattle.hub_unison.specs.ReadingOf as reading;
 
-use crate::simple::is_simple;
+use crate::owned::is_needless;
+use crate::simple::{is_known, is_simple};
 use crate::spare::{copy_of, spare_of};
 use crate::spares::{is_plain, spares_of};
+use crate::stars::with_stars;
 use hub_glob::PathSpec;
-use hub_profile::Partial;
+use hub_profile::{PATTERN_LINES, Partial};
 use hub_text::Items;
 use std::alloc::{AllocError, Global};
 
 /// What is kept of an `ignore` line.
 #[derive(Drop)]
 pub(crate) enum Kept {
-    /// Nothing.
+    /// Nothing: it isn't known what Unison matches at most.
     Nothing,
-    /// Its specification: Unison matches what hubsync has it match.
+    /// Nothing: a limit would be passed.
+    Cut,
+    /// Its specification: Unison matches what hubsync has it match, or what hubsync has it match besides is spared anyway.
     Alone(PathSpec),
     /// Its specification, with another one for `ignorenot`: Unison matches what hubsync has the first match and the second
     /// not match.
     Sparing(PathSpec, PathSpec),
+}
+
+impl Kept {
+    ghost use Rattle.hub_unison.specs.Kept as lines;
+
+    /// Returns whether it is a line without one for spares.
+    fn is_alone(&self) -> bool
+        ensures { result ≡ lines.is_alone self.now }
+    {
+        matches!(self, Kept::Alone(_))
+    }
+
+    /// Returns whether nothing is kept for a limit.
+    fn is_cut(&self) -> bool
+        ensures { result ≡ lines.is_cut self.now }
+    {
+        matches!(self, Kept::Cut)
+    }
+
+    /// What is left of it if those with a line for spares may take so many lines.
+    fn within(self, room: usize) -> Kept
+        ensures { result ≡ lines.within room self }
+    {
+        match self {
+            Kept::Nothing => Kept::Nothing,
+            Kept::Cut => Kept::Cut,
+            Kept::Alone(copy) => Kept::Alone(copy),
+            Kept::Sparing(copy, spare) => {
+                if room >= 2 {
+                    Kept::Sparing(copy, spare)
+                } else {
+                    Kept::Cut
+                }
+            }
+        }
+    }
+
+    /// How many lines it takes with one for spares.
+    fn taken(&self) -> usize
+        ensures { result ≡ lines.taken self.now }
+    {
+        match self {
+            Kept::Nothing => 0,
+            Kept::Cut => 0,
+            Kept::Alone(_) => 0,
+            Kept::Sparing(_, _) => 2,
+        }
+    }
 }
 
 /// The lines that are kept.
@@ -43,6 +96,7 @@ impl Lines {
     {
         match kept {
             Kept::Nothing => Ok(()),
+            Kept::Cut => Ok(()),
             Kept::Alone(copy) => Ok(self.ignore.push(copy)?),
             Kept::Sparing(copy, spare) => {
                 self.ignore.push(copy)?;
@@ -52,53 +106,177 @@ impl Lines {
     }
 }
 
-/// Returns what is kept of an `ignore` line.
+/// Returns what is kept of an `ignore` line by itself.
 fn kept_of(alloc: Global, spec: &PathSpec) -> Result<Kept, AllocError>
-    ensures { IfOk result (λ kept. IsKept spec.now kept) }
+    ensures { IfOk result (λ kept. kept ≡ reading.line_kept spec.now) }
 {
-    let Some(copy) = copy_of(alloc, spec)? else {
-        return Ok(Kept::Nothing);
-    };
     if !is_simple(spec)? {
         return Ok(Kept::Nothing);
     }
+    let Some(copy) = copy_of(alloc, spec)? else {
+        return Ok(Kept::Cut);
+    };
     let spares = spares_of(alloc, spec)?;
     if spares.is_empty() {
         return Ok(Kept::Alone(copy));
     }
     match spare_of(alloc, spec.kind(), spares)? {
         Some(spare) => Ok(Kept::Sparing(copy, spare)),
-        None => Ok(Kept::Nothing),
+        None => Ok(Kept::Cut),
+    }
+}
+
+/// Returns what is kept of a line beside these `ignore` and `ignorenot` lines: one for spares only if it is needed.
+fn needed(
+    alloc: Global,
+    specs: &[PathSpec],
+    spared: &[PathSpec],
+    kept: Kept,
+) -> Result<Kept, AllocError>
+    ensures { IfOk result (λ k. k ≡ reading.needed specs.now spared.now kept) }
+{
+    match kept {
+        Kept::Nothing => Ok(Kept::Nothing),
+        Kept::Cut => Ok(Kept::Cut),
+        Kept::Alone(copy) => Ok(Kept::Alone(copy)),
+        Kept::Sparing(copy, spare) => {
+            if is_needless(alloc, specs, spared, &spare)? {
+                Ok(Kept::Alone(copy))
+            } else {
+                Ok(Kept::Sparing(copy, spare))
+            }
+        }
+    }
+}
+
+/// Returns what is kept of each of these `ignore` lines beside the others and these `ignorenot` lines, if there is room.
+fn each_kept(
+    alloc: Global,
+    specs: &[PathSpec],
+    spared: &[PathSpec],
+) -> Result<Items<Kept>, AllocError>
+    ensures { IfOk result (λ each. each ≡ reading.each_kept specs.now spared.now) }
+{
+    let mut each = Items::new(alloc);
+    for spec in specs {
+        let kept = kept_of(alloc, spec)?;
+        each.push(needed(alloc, specs, spared, kept)?)?;
+    }
+    Ok(each)
+}
+
+/// How many lines those with one for spares may take, besides these `ignorenot` lines and the lines without one.
+fn room_beside(spared: &[PathSpec], each: &[Kept]) -> usize
+    ensures { result ≡ reading.room_beside spared.now each.now }
+{
+    let mut room = PATTERN_LINES.saturating_sub(spared.len());
+    for kept in each {
+        room = room_without(kept, room);
+    }
+    room
+}
+
+/// The room without a line, if it has none for spares.
+fn room_without(kept: &Kept, room: usize) -> usize
+    ensures { result ≡ room - (if lines.is_alone kept.now then 1 else 0) }
+{
+    if kept.is_alone() {
+        room.saturating_sub(1)
+    } else {
+        room
     }
 }
 
 /// Returns what is kept of these `ignore` lines, besides these `ignorenot` lines.
+fn all_kept(
+    alloc: Global,
+    specs: &[PathSpec],
+    spared: &[PathSpec],
+) -> Result<Items<Kept>, AllocError>
+    ensures { IfOk result (λ all. all ≡ reading.all_kept specs.now spared.now) }
+{
+    let each = each_kept(alloc, specs, spared)?;
+    let room = room_beside(spared, each.as_slice());
+    fitting(alloc, each, room)
+}
+
+/// What is kept of lines, where those with one for spares may take so many lines.
+fn fitting(alloc: Global, each: Items<Kept>, room: usize) -> Result<Items<Kept>, AllocError>
+    ensures { IfOk result (λ all. all ≡ lines.fitting room each) }
+{
+    let mut left = room;
+    let mut all = Items::new(alloc);
+    for kept in each.into_vec() {
+        let fit = kept.within(left);
+        left = left.saturating_sub(fit.taken());
+        all.push(fit)?;
+    }
+    Ok(all)
+}
+
+/// The lines of what is kept of these `ignore` lines, besides these `ignorenot` lines.
 pub(crate) fn kept_lines(
     alloc: Global,
     specs: &[PathSpec],
     spared: Items<PathSpec>,
 ) -> Result<Lines, AllocError>
-    ensures ignore { IfOk result (λ lines. lines.ignore ≡ reading.kept_lines specs.now) }
-    ensures ignorenot { IfOk result (λ lines. lines.ignorenot
-        ≡ spared ++ reading.added_lines specs.now) }
+    ensures ignore { IfOk result (λ l. l.ignore
+        ≡ flat_map lines.own_lines (reading.all_kept specs.now spared)) }
+    ensures ignorenot { IfOk result (λ l. l.ignorenot
+        ≡ spared ++ flat_map lines.spare_lines (reading.all_kept specs.now spared)) }
 {
-    let mut lines = Lines {
+    let all = all_kept(alloc, specs, spared.as_slice())?;
+    lines_of(alloc, all, spared)
+}
+
+/// The lines of what is kept, besides these `ignorenot` lines.
+fn lines_of(alloc: Global, all: Items<Kept>, spared: Items<PathSpec>) -> Result<Lines, AllocError>
+    ensures ignore { IfOk result (λ l. l.ignore ≡ flat_map lines.own_lines all) }
+    ensures ignorenot { IfOk result (λ l. l.ignorenot ≡ spared ++ flat_map lines.spare_lines all) }
+{
+    let mut kept_lines = Lines {
         ignore: Items::new(alloc),
         ignorenot: spared,
     };
-    for spec in specs {
-        lines.push(kept_of(alloc, spec)?)?;
+    for kept in all.into_vec() {
+        kept_lines.push(kept)?;
     }
-    Ok(lines)
+    Ok(kept_lines)
 }
 
-/// Copies the specifications of `ignorenot` lines, if all of them can stay.
+/// The numbers, from 0 on, of the `ignore` lines of which nothing is kept for a limit, besides these `ignorenot` lines.
+pub(crate) fn cut_lines(
+    alloc: Global,
+    specs: &[PathSpec],
+    spared: &[PathSpec],
+) -> Result<Vec<usize>, AllocError>
+    ensures { IfOk result (λ v. v.items
+        ≡ lines.cut_from 0 (reading.all_kept specs.now spared.now)) }
+{
+    let all = all_kept(alloc, specs, spared)?;
+    cut_of(alloc, all.as_slice())
+}
+
+fn cut_of(alloc: Global, all: &[Kept]) -> Result<Vec<usize>, AllocError>
+    ensures { IfOk result (λ v. v.items ≡ lines.cut_from 0 all.now) }
+{
+    let mut numbers = Vec::new(alloc);
+    for i in 0..all.len() {
+        if all[i].is_cut() {
+            numbers.push(i)?;
+        }
+    }
+    Ok(numbers)
+}
+
+/// The specifications in place of those of `ignorenot` lines, if there is one for each of them.
 pub(crate) fn spared_lines(
     alloc: Global,
     specs: &[PathSpec],
 ) -> Result<Option<Items<PathSpec>>, AllocError>
     ensures { IfOk result (λ o. o
-        ≡ (if list_all reading.spare_stays specs.now then Some specs.now else None)) }
+        ≡ (if list_all reading.spare_stays specs.now then Some (map widened specs.now)
+        else None)) }
 {
     let mut copies = Items::new(alloc);
     for spec in specs {
@@ -110,15 +288,19 @@ pub(crate) fn spared_lines(
     Ok(Some(copies))
 }
 
-/// Copies the specification of an `ignorenot` line, if it can stay.
+/// The specification in place of that of an `ignorenot` line, if there is one.
 fn spared_line(alloc: Global, spec: &PathSpec) -> Result<Option<PathSpec>, AllocError>
     ensures { IfOk result (λ o. o
-        ≡ (if reading.spare_stays spec.now then Some spec.now else None)) }
+        ≡ (if reading.spare_stays spec.now then Some (widened spec.now) else None)) }
 {
-    if !is_simple(spec)? {
+    if is_simple(spec)? {
+        return copy_of(alloc, spec);
+    }
+    if !is_known(spec)? {
         return Ok(None);
     }
-    copy_of(alloc, spec)
+    let choices = with_stars(alloc, spec)?;
+    spare_of(alloc, spec.kind(), choices)
 }
 
 /// Returns the partial bars that are sure to hold in Unison.

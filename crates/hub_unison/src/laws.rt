@@ -9,7 +9,7 @@ ghost use Rattle.hub_profile.specs.Parts.{Parts};
 ghost use Rattle.hub_profile.specs.declared.rule.Rule.{Rule};
 ghost use Rattle.hub_reach.specs.Safe.{IsSafe};
 ghost use Rattle.hub_unison.specs.Matching.{surely, perhaps, IsMatching};
-ghost use Rattle.hub_unison.specs.ReadingOf.{is_read_back};
+ghost use Rattle.hub_unison.specs.ReadingOf.{is_read_back, reading_of, IsWithinLines};
 ghost use Rattle.hub_unison.specs.Rules.{AreReadForUnison, KeepsRulesInUnison, forbidden};
 ghost use Rattle.hub_unison.specs.UnisonReach.{IsSafeInUnison};
 
@@ -40,3 +40,9 @@ pub fn short_specifications_are_read_back()
 {
     readable_specifications_are_read_back();
 }
+
+/// A reading has at most as many `ignore` and `ignorenot` lines together as a profile may have, if its profile has.
+#[tactic(auto, using(crate::specs::LimitLaws::readings_within))]
+pub fn readings_are_within_the_limit()
+    ensures { (Rs : List Rule) (P : Parts) → IsWithinLines P → IsWithinLines (reading_of Rs P) }
+{}

@@ -2,7 +2,7 @@
 //!
 //! Unison 2.52 reads some lines of a profile otherwise than hubsync. [`cautious`] makes of a profile one that reaches and
 //! writes, for hubsync, at least what the first reaches and writes for Unison. [`read_set`] makes such readings of the profiles
-//! of a set; beside rules they are wider still. If they are a safe set, no two of these profiles clash in Unison, and by none
+//! of a set; beside rules they are wider still. [`lines_cut`] says which lines are left out for a limit. If they are a safe set, no two of these profiles clash in Unison, and by none
 //! of them Unison breaks a rule: see [`laws`].
 //!
 //! Only functions that return a `Result` allocate. The contracts are in the words of `specs/Matching` (what Unison's patterns
@@ -17,10 +17,12 @@
 //!   in Unison, and by none of them Unison breaks a rule (law `safe_readings_are_safe_in_unison`). hubsync's own matching lies
 //!   between the bounds, too (`hubsync_matches_as_unison_may`).
 //! - An `ignore` line stays where Unison matches what hubsync matches; a pattern that differs by a dot at the start of a name
-//!   gets an `ignorenot` for it, unless another `ignore` line has just that pattern; one with `?`, ` -> ` or a set of other than
-//!   ASCII characters is left out. If such a line is an `ignorenot`, each `ignore` and `ignorenot` line is left out. A bar stays
-//!   if Unison matches its pattern in the same way.
+//!   gets an `ignorenot` for it, unless another `ignore` or `ignorenot` line has just that pattern; one with `?`, ` -> ` or a set
+//!   of other than ASCII characters is left out. An `ignorenot` with `?` or such a set gets a `*` in their place; if one has
+//!   ` -> `, each `ignore` and `ignorenot` line is left out. A bar stays if Unison matches its pattern in the same way.
 //!   `path = docs/*` becomes `path = docs` without `ignore` and `ignorenot` lines.
+//! - With these, a reading has no more `ignore` and `ignorenot` lines than may be read: where one more line would pass the limit,
+//!   its `ignore` line is left out (law `readings_are_within_the_limit`).
 //! - Beside rules each `ignore` line and each bar on a pattern is left out, since Unison tests a bar at the path of an item
 //!   alone, and takes ignored files away with their folder; and `nocreation` too, unless there is `noupdate` of the same root.
 //!
@@ -40,10 +42,11 @@ mod set;
 mod simple;
 mod spare;
 mod spares;
+mod stars;
 #[cfg(test)]
 mod tests;
 mod text;
 mod tops;
 
-pub use reading::cautious;
+pub use reading::{cautious, lines_cut};
 pub use set::read_set;

@@ -1,32 +1,33 @@
 //! Lines for spares that aren't needed.
-ghost use Rattle.std.specs.Prelude.{◌≡◌, ◌++◌, not, IfOk};
-ghost use Rattle.std.specs.List.{filter};
+ghost use Rattle.std.specs.Prelude.{◌≡◌, ◌||◌, IfOk};
+ghost use Rattle.std.specs.List.{list_any};
 ghost use Rattle.hub_unison.specs.ReadingOf as reading;
 
 use crate::spare::spare_of;
 use crate::spares::is_plain;
 use hub_glob::PathSpec;
-use hub_text::Items;
 use std::alloc::{AllocError, Global};
 
-/// Appends to the `ignorenot` lines those of the added ones that are needed beside these `ignore` lines. Each added one is compared
-/// with each of these.
-pub(crate) fn with_needed(
+/// Returns whether a line for spares isn't needed beside these `ignore` and `ignorenot` lines. It is compared with each of them.
+pub(crate) fn is_needless(
     alloc: Global,
-    spared: Items<PathSpec>,
-    added: Items<PathSpec>,
     specs: &[PathSpec],
-) -> Result<Items<PathSpec>, AllocError>
-    ensures { IfOk result (λ all. all
-        ≡ spared ++ filter (λ spare. not (reading.is_owned specs.now spare)) added) }
+    spared: &[PathSpec],
+    spare: &PathSpec,
+) -> Result<bool, AllocError>
+    ensures { IfOk result (λ b. b
+        ≡ (reading.is_owned specs.now spare.now || reading.is_among spared.now spare.now)) }
 {
-    let mut all = spared;
-    for spare in added.into_vec() {
-        if !is_owned(alloc, specs, &spare)? {
-            all.push(spare)?;
-        }
+    if is_among(spared, spare) {
+        return Ok(true);
     }
-    Ok(all)
+    is_owned(alloc, specs, spare)
+}
+
+fn is_among(spared: &[PathSpec], spare: &PathSpec) -> bool
+    ensures { result ≡ reading.is_among spared.now spare.now }
+{
+    spared.iter().any(|line| line == spare)
 }
 
 /// Returns whether what a line for spares matches is ignored for certain by one of these `ignore` lines.

@@ -4,8 +4,7 @@ ghost use Rattle.hub_unison.specs.Cautious as cautious;
 ghost use Rattle.hub_unison.specs.ReadingOf as reading;
 ghost use Rattle.hub_unison.specs.UnisonReach as unison;
 
-use crate::kept::{kept_bars, kept_lines, spared_lines};
-use crate::owned::with_needed;
+use crate::kept::{cut_lines, kept_bars, kept_lines, spared_lines};
 use crate::tops::{is_starred, top_values};
 use hub_profile::Profile;
 use hub_text::Items;
@@ -15,16 +14,33 @@ use std::alloc::{AllocError, Global};
 /// writes in Unison 2.52, however that matches patterns within what is known of it.
 ///
 /// Of the `ignore` lines it keeps those that are plain, and those that are plain without one of their `*`: what such a line
-/// matches without it is spared by an `ignorenot` line, unless another `ignore` line is plain and has just this pattern. It keeps
-/// the partial bars that are plain. If it isn't known what an `ignorenot` line may match, it ignores nothing. If a kept value ends
-/// with `*`, it ignores nothing either, and the parent of this value is kept. All else stays, and so does a profile that hubsync
-/// and Unison read alike.
+/// matches without it is spared by an `ignorenot` line, unless another `ignore` line is plain and has just this pattern, or an
+/// `ignorenot` line has it. Of the lines with one more line only the first stay, as long as there are at most `PATTERN_LINES`. It
+/// keeps the partial bars that are plain. An `ignorenot` line with `?` or a set past ASCII also matches what it does with a `*` in
+/// place of each. If it isn't known what such a line may match, nothing is ignored. If a kept value ends with `*`, nothing is
+/// ignored either, and the parent of this value is kept. All else stays, and so does a profile that hubsync and Unison read alike.
 pub fn cautious(alloc: Global, profile: Profile) -> Result<Profile, AllocError>
     ensures value { IfOk result (λ r. r ≡ reading.cautious_of profile) }
     ensures wide { IfOk result (λ r. unison.IsCautious profile r) }
     ensures alike { reading.is_read_alike profile ≡ true → IfOk result (λ r. r ≡ profile) }
+    ensures within { reading.IsWithinLines profile → IfOk result (λ r. reading.IsWithinLines r) }
 {
     read(alloc, profile)
+}
+
+/// Returns the numbers, from 0 on, of the `ignore` lines that the cautious reading leaves out for a limit: since a pattern would have
+/// more than `PATTERN_CHARACTERS`, or the profile more than `PATTERN_LINES` lines, with those for what is matched with a dot at the
+/// start of a name.
+pub fn lines_cut(alloc: Global, profile: &Profile) -> Result<Vec<usize>, AllocError>
+    ensures { IfOk result (λ v. v.items ≡ reading.lines_cut profile.now) }
+{
+    if has_star(profile) {
+        return Ok(Vec::new(alloc));
+    }
+    match spared_lines(alloc, profile.ignorenot())? {
+        Some(spared) => cut_lines(alloc, profile.ignore(), spared.as_slice()),
+        None => Ok(Vec::new(alloc)),
+    }
 }
 
 fn read(alloc: Global, profile: Profile) -> Result<Profile, AllocError>
@@ -38,9 +54,8 @@ fn read(alloc: Global, profile: Profile) -> Result<Profile, AllocError>
     }
     match spared_lines(alloc, profile.ignorenot())? {
         Some(spared) => {
-            let lines = kept_lines(alloc, profile.ignore(), Items::new(alloc))?;
-            let ignorenot = with_needed(alloc, spared, lines.ignorenot, profile.ignore())?;
-            Ok(profile.with_patterns(lines.ignore, ignorenot, partial))
+            let lines = kept_lines(alloc, profile.ignore(), spared)?;
+            Ok(profile.with_patterns(lines.ignore, lines.ignorenot, partial))
         }
         None => Ok(profile.with_patterns(Items::new(alloc), Items::new(alloc), partial)),
     }

@@ -1,6 +1,6 @@
 //! Patterns of which it is known what Unison matches at most.
 ghost use Rattle.std.specs.Prelude.{◌≡◌, IfOk};
-ghost use Rattle.std.specs.List.{list_all};
+ghost use Rattle.std.specs.List.{list_all, list_any};
 ghost use Rattle.hub_unison.specs.Matching as matching;
 
 use hub_glob::{PathSpec, Piece};
@@ -25,7 +25,8 @@ fn are_simple(pieces: &[Piece]) -> bool
     pieces.iter().all(is_simple_piece)
 }
 
-fn is_simple_piece(piece: &Piece) -> bool
+/// Returns whether it is known what Unison matches by a piece at most.
+pub(crate) fn is_simple_piece(piece: &Piece) -> bool
     ensures { result ≡ matching.is_simple piece.now }
 {
     match piece {
@@ -34,6 +35,42 @@ fn is_simple_piece(piece: &Piece) -> bool
         Piece::Run => true,
         Piece::OneOf(set) => are_simple_members(set.as_slice()),
     }
+}
+
+/// Returns whether hubsync and Unison read the same pieces in a specification: each of its choices is known.
+pub(crate) fn is_known(spec: &PathSpec) -> Result<bool, AllocError>
+    ensures { IfOk result (λ known. known ≡ matching.all_known spec.now.pattern) }
+{
+    let choices = spec.choices()?;
+    Ok(
+        choices
+            .as_slice()
+            .iter()
+            .all(|choice| are_known(choice.as_slice())),
+    )
+}
+
+fn are_known(pieces: &[Piece]) -> bool
+    ensures { result ≡ list_all matching.is_known pieces.now }
+{
+    pieces.iter().all(is_known_piece)
+}
+
+fn is_known_piece(piece: &Piece) -> bool
+    ensures { result ≡ matching.is_known piece.now }
+{
+    match piece {
+        Piece::Lit(c) => *c != '>',
+        Piece::Any => true,
+        Piece::Run => true,
+        Piece::OneOf(set) => !has_odd(set.as_slice()),
+    }
+}
+
+fn has_odd(set: &[char]) -> bool
+    ensures { result ≡ list_any matching.is_odd set.now }
+{
+    set.iter().any(|c| is_odd(*c))
 }
 
 fn are_simple_members(set: &[char]) -> bool

@@ -60,12 +60,49 @@ fn reaches_what_unison_may(rt: HostRuntime) {
             false,
             false,
         ),
-        // Wider: of such an `ignorenot` line it isn't known what it matches at most.
+        // Wider: a star stands for `?` and for sets of bytes in an `ignorenot` line.
         (
             "ignore = Name *.tmp; ignorenot = Name ?",
             "x.tmp",
             false,
             false,
+            true,
+        ),
+        (
+            "ignore = Name *.tmp; ignorenot = Name ?.x",
+            "x.tmp",
+            false,
+            false,
+            false,
+        ),
+        (
+            "ignore = Name a*; ignorenot = Name a[é]b",
+            "axb",
+            false,
+            false,
+            true,
+        ),
+        (
+            "ignore = Name a*; ignorenot = Name a[é]b",
+            "ab.c",
+            false,
+            false,
+            false,
+        ),
+        // What such a line may match isn't known.
+        (
+            "ignore = Name a*; ignorenot = Name b -> c",
+            "a",
+            false,
+            false,
+            true,
+        ),
+        // No line is added that is there.
+        (
+            "ignore = Name *.tmp; ignorenot = Name {.tmp}",
+            ".tmp",
+            true,
+            true,
             true,
         ),
         ("ignore = Name ??", ".h", false, true, true),
@@ -96,6 +133,39 @@ fn reaches_what_unison_may(rt: HostRuntime) {
             reaches(&reading, &at),
             careful,
             "cautious, {lines} at {path}"
+        );
+    }
+}
+
+/// A profile with so many lines `ignore = Name *.xN`, each of which differs by a dot at the start of a name, and some others.
+fn profile_of_many(alloc: Global, count: u32, others: &str) -> Option<Profile> {
+    let mut text = String::from_str(alloc, others).ok()?;
+    for number in 1..count + 1 {
+        writeln!(&mut text, "; ignore = Name *.x{number}").ok()?;
+    }
+    profile_of(alloc, text.as_str())
+}
+
+/// The rows: how many such lines, other lines, and how many `ignore` and `ignorenot` lines the reading has. A profile may have 64
+/// of them together, and each of these `ignore` lines needs an `ignorenot` line.
+#[test]
+fn has_no_more_lines_than_may_be_read(rt: HostRuntime) {
+    for (count, others, ignore, ignorenot) in [
+        (1, "path = a", 1, 1),
+        (32, "path = a", 32, 32),
+        (33, "path = a", 32, 32),
+        (64, "path = a", 32, 32),
+        (40, "ignore = Name b; ignore = Name c", 33, 31),
+        (40, "ignore = Name b; ignorenot = Name a", 32, 32),
+        (63, "ignore = Name .x1", 33, 31),
+    ] {
+        let profile = profile_of_many(rt.alloc(), count, others).expect(&rt, "a profile");
+        let reading = cautious(rt.alloc(), profile).expect(&rt, "memory");
+        assert_eq!(rt; reading.ignore().len(), ignore, "{count} beside {others}");
+        assert_eq!(rt;
+            reading.ignorenot().len(),
+            ignorenot,
+            "{count} beside {others}"
         );
     }
 }

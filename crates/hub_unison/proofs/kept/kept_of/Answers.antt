@@ -6,7 +6,7 @@ use Rattle.hub_unison.proofs.kept.kept_of.Goals as goal
 pub returns-in_default : goal.returns-in_default
 returns-in_default c =
     let s = c.args.spec.now in
-    gone-unread s (read-not s c.in_ok-copy.field-0 c.in_default.is c.in_ok-copy.ensures)
+    gone-unread s (sym c.in_ok-is_simple.ensures ∙ c.if-not-branch.false) (read-not s c.in_ok-copy.field-0 c.in_default.is c.in_ok-copy.ensures)
 
 pub returns-then-not-branch : goal.returns-then-not-branch
 returns-then-not-branch c =
@@ -32,6 +32,6 @@ pub returns-in-None : goal.returns-in-None
 returns-in-None c =
     let s = c.args.spec.now in
     let own = spare-at s c.kind.result c.in_ok-spares.spares c.in_ok-spare.field-0 c.kind.ensures c.in_ok-spares.ensures c.in_ok-spare.ensures in
-    gone-spare s
+    gone-spare s (sym c.in_ok-is_simple.ensures ∙ c.if-not-branch.false)
     (ap not (ap (λ ds. length ds == 0) (sym c.in_ok-spares.ensures) ∙ (sym c.is_empty.ensures ∙ c.if-is_empty.false)))
     (read-not (spare_of s) c.in_ok-spare.field-0 c.in-None.is own)

@@ -1,6 +1,3 @@
-use Rattle.std.proofs.Common.{◌∙◌, ◌++◌, not, ap}
-use Rattle.std.specs.List.{filter}
-use Rattle.hub_unison.specs.ReadingOf.{added_lines, is_owned}
 use Rattle.hub_unison.proofs.Cautiously.{by-lines, by-none, by-tops}
 use Rattle.hub_unison.proofs.reading.read.Goals as goal
 
@@ -12,17 +9,14 @@ returns-then-has_star c =
     c.new-then-has_star.ensures c.with_paths-kept.ensures c.paths.ensures.value c.in_ok-tops.ensures.value
     c.if-has_star.true
 
-pub returns-in_ok-ignorenot-in-Some : goal.returns-in_ok-ignorenot-in-Some
-returns-in_ok-ignorenot-in-Some c =
+pub returns-in_ok-lines-in-Some : goal.returns-in_ok-lines-in-Some
+returns-in_ok-lines-in-Some c =
     let lines = c.in_ok-lines-in-Some.lines in
-    let own = c.in_ok-lines-in-Some.ensures.ignorenot ∙ ap (λ xs. xs ++ added_lines c.ignore.result.now) c.new-in-Some.ensures in
-    by-lines c.args.profile c.with_patterns-in-Some.result lines.ignore c.in_ok-ignorenot-in-Some.ignorenot c.partial.result.now
+    by-lines c.args.profile c.with_patterns-in-Some.result lines.ignore lines.ignorenot c.partial.result.now
     c.in_ok-partial.partial c.has_star.result c.has_star.ensures c.partial.ensures c.in_ok-partial.ensures
     c.in_ok-spared.field-0 c.ignorenot.result.now c.in_ok-spared.ensures c.ignorenot.ensures
-    c.with_patterns-in-Some.ensures c.if-has_star.false c.in-Some.spared c.ignore.result.now c.ignore-in-Some.result.now c.in-Some.is
-    c.ignore.ensures c.ignore-in-Some.ensures c.in_ok-lines-in-Some.ensures.ignore
-    (c.in_ok-ignorenot-in-Some.ensures
-    ∙ ap (λ xs. c.in-Some.spared ++ filter (λ spare. not (is_owned c.ignore-in-Some.result.now spare)) xs) own)
+    c.with_patterns-in-Some.ensures c.if-has_star.false c.in-Some.spared c.ignore.result.now c.in-Some.is
+    c.ignore.ensures c.in_ok-lines-in-Some.ensures.ignore c.in_ok-lines-in-Some.ensures.ignorenot
 
 pub returns-in-None : goal.returns-in-None
 returns-in-None c =

@@ -178,11 +178,7 @@ fn say_fault(out: &mut String, source: &Source<'_>, words: &[String], fault: &st
 fn say_unwritten(out: &mut String) -> Said {
     say(
         out,
-        "a profile would need over 64 lines ignore and ignorenot, or a rule over 200 characters",
-    )?;
-    say(
-        out,
-        "put patterns of one kind into one line: Name {*.a,*.b}",
+        "a rule's pattern would have over 200 characters with each member of its sets: write two rules",
     )
 }
 

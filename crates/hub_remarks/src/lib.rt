@@ -12,12 +12,12 @@
 //!
 //! The answer is read as it was written: what it names (a profile, a section, a line, a root, a rule) is looked up in the input
 //! (`hub_source`). So this crate takes part in no answer. It reads no profile but for the lines that an answer for Unison leaves
-//! out or refuses (`hub_preferences`).
+//! out or refuses (`hub_preferences`), or has no room for (`hub_unison`).
 //!
 //! - Faults: `bundle` of the headings, `setting`, `value` and `pattern` of profiles and rules, `text` of states and certificates.
 //! - Refusals and the lines that make them so: `refusal`. What `reach`, `run` and the command line were asked: `asked`; the
 //!   line that ignores a path: `ignored`. Words that ask for nothing: `words`.
-//! - A yes that may mislead: the crate `hub_notes`. An answer for Unison: `unison`.
+//! - A yes that may mislead: the crate `hub_notes`. An answer for Unison: `unison`, `limit`.
 //!
 //! The text is free, and is only tested (`examples/remarks.txt`). What is proved is that each function is safe and ends.
 //!
@@ -28,6 +28,7 @@ mod answer;
 mod asked;
 mod bundle;
 mod ignored;
+mod limit;
 mod nested;
 mod pattern;
 mod refusal;

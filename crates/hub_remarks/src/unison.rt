@@ -1,8 +1,10 @@
 //! Remarks on answers about what Unison may do by the profiles.
 
+use crate::limit::cut_lines;
 use crate::setting::{fault_line, say_fault_on};
+use hub_glob::PATTERN_CHARACTERS;
 use hub_preferences::{Finding, Outcome, findings};
-use hub_profile::Fault;
+use hub_profile::{Fault, PATTERN_LINES};
 use hub_source::{Said, Source, place_in_profile, shown};
 use std::alloc::{AllocError, Global};
 use std::collections::BTreeSet;
@@ -68,8 +70,14 @@ pub(crate) fn say_yes(
     listing: Listing,
 ) -> Said {
     out.push_str(ASSUMED)?;
+    say_uncounted(out, source, input, listing)
+}
+
+/// Says which lines don't count.
+fn say_uncounted(out: &mut String, source: &Source<'_>, input: &[u8], listing: Listing) -> Said {
     let findings = findings_once(source, input, 0)?;
-    say_left_out(out, source, findings.as_slice(), listing)
+    say_left_out(out, source, findings.as_slice(), listing)?;
+    say_cut(out, source, input, listing)
 }
 
 /// Returns whether an answer may come of the wider reading alone: an overlap, or a breach.
@@ -90,8 +98,7 @@ pub(crate) fn say_more(
         out.push_str(
             "hubsync: more counts with --unison than may happen: compare the answer without it\n",
         )?;
-        let findings = findings_once(source, input, 0)?;
-        return say_left_out(out, source, findings.as_slice(), listing);
+        return say_uncounted(out, source, input, listing);
     }
     match first.strip_prefix("fault: profile ") {
         Some(fault) if source.is_whole() => {
@@ -211,6 +218,39 @@ fn say_left_out(
         Listing::Few => Ok(()),
         Listing::All => say_each(out, source, others),
     }
+}
+
+/// Says which `ignore` lines don't count for a limit.
+fn say_cut(out: &mut String, source: &Source<'_>, input: &[u8], listing: Listing) -> Said {
+    let cut = cut_once(source, input)?;
+    let Some((first, others)) = cut.as_slice().split_first() else {
+        return Ok(());
+    };
+    let count = cut.len();
+    write!(
+        out,
+        "hubsync: ignore lines that don't count, as a limit would be passed: {count}, first "
+    )?;
+    say_line(out, source, *first)?;
+    if listing == Listing::All {
+        say_each(out, source, others)?;
+    }
+    writeln!(
+        out,
+        "hubsync: a profile has {PATTERN_LINES} lines, and a pattern {PATTERN_CHARACTERS} characters, with those for a dot at a name's start"
+    )
+}
+
+/// The numbers of these lines. A line of a file that several profiles include is found once.
+fn cut_once(source: &Source<'_>, input: &[u8]) -> Result<Vec<usize>, AllocError> {
+    let mut places = BTreeSet::new(source.alloc());
+    let mut once = Vec::new(source.alloc());
+    for number in cut_lines(source, input)? {
+        if note_place(&mut places, source, number)? {
+            once.push(number)?;
+        }
+    }
+    Ok(once)
 }
 
 /// The numbers of the lines that don't count.

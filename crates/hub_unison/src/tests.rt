@@ -140,7 +140,7 @@ fn reaches_what_unison_may(rt: HostRuntime) {
 /// A profile with so many lines `ignore = Name *.xN`, each of which differs by a dot at the start of a name, and some others.
 fn profile_of_many(alloc: Global, count: u32, others: &str) -> Option<Profile> {
     let mut text = String::from_str(alloc, others).ok()?;
-    for number in 1..count + 1 {
+    for number in 0..count {
         writeln!(&mut text, "; ignore = Name *.x{number}").ok()?;
     }
     profile_of(alloc, text.as_str())

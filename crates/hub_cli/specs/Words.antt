@@ -14,7 +14,7 @@ use Rattle.clap.specs.declared.builder.action.ArgAction.TheVariants.{Append, Set
 use Rattle.clap.specs.declared.builder.value_parser.ValueParser.TheVariants.{Signed}
 use Rattle.hub_cli.specs.declared.files.Files.{Files}
 use Rattle.hub_cli.specs.declared.words.Query.{Query}
-use Rattle.hub_cli.specs.declared.words.Query.TheVariants.{About, Reach, Import}
+use Rattle.hub_cli.specs.declared.words.Query.TheVariants.{About, Reach, Import, Mend}
 use Rattle.hub_cli.specs.declared.words.Question.{Question}
 use Rattle.hub_cli.specs.declared.words.Question.TheVariants.{CheckWithState, Run, RunByRounds}
 use Rattle.hub_cli.specs.declared.words.Question.TheVariants.{Check, Certify, Verify}
@@ -85,6 +85,10 @@ reading_app name = with_hosts (with_unison (set_app name))
 abbrev pub clashes_app : App
 clashes_app = with_rule (reading_app (codes "clashes")) (flag (codes "dot"))
 
+-- `mend`, which may also have `--bundle`
+abbrev pub mend_app : App
+mend_app = with_rule (reading_app (codes "mend")) (flag (codes "bundle"))
+
 -- `import`, which may take its profiles and rules from files, and may have these and `--strict`
 abbrev pub import_app : App
 import_app =
@@ -108,7 +112,8 @@ checker_app =
 -- and with those that say more than a yes or a no
 abbrev pub about_app : App
 about_app =
-    with_subcommand (with_subcommand (with_subcommand checker_app clashes_app.top)
+    with_subcommand (with_subcommand (with_subcommand (with_subcommand checker_app clashes_app.top)
+    mend_app.top)
     (reading_app (codes "rounds")).top)
     import_app.top
 
@@ -117,16 +122,19 @@ unfoldable pub hubsync_app : App
 hubsync_app = with_subcommand (with_subcommand about_app reach_app.top) run_app.top
 
 -- what is asked for: something about the set of the profiles and rules, whether a profile, so
--- read, reaches a path, or a bundle of the profiles' readings for Unison
+-- read, reaches a path, a bundle of the profiles' readings for Unison, or lines that make the set of
+-- the profiles, so read, and rules safe, as they are or in the bundle
 pub data Request : Type 0 where
   about : Question → Request
   reach : Reading → Text → Text → Request
   imported : Request
+  mended : Reading → Bool → Request
 
 abbrev pub request_of : Query → Request
 request_of (About question) = about question
 request_of (Reach reading profile path) = reach reading profile.now path.now
 request_of Import = imported
+request_of (Mend reading as_bundle) = mended reading as_bundle
 
 -- how a question about the set wants the profiles to be read: runs and certificates are always of
 -- hubsync's own reading
@@ -146,6 +154,7 @@ abbrev pub reading_for : Request → Reading
 reading_for (about question) = reading_of question
 reading_for (reach reading profile path) = reading
 reading_for imported = Unison
+reading_for (mended reading as_bundle) = reading
 
 -- the operands PROFILE and PATH, if both are there
 abbrev pub operands_of : Reading → Option Text → Option Text → Option Request
@@ -191,6 +200,10 @@ abbrev pub clashes_request : Bool → Reading → Request
 clashes_request as_graph reading =
     if as_graph then about (Graph reading) else about (Clashes reading)
 
+-- lines that make the set safe, as they are or in the bundle
+abbrev pub mend_request : List Row → Request
+mend_request rows = mended (reading_in rows) (is_set (codes "bundle") rows)
+
 -- the file of a profile
 abbrev pub is_profile_file : Text → Bool
 is_profile_file file = ends_with nat_eq file (codes ".prf")
@@ -208,9 +221,10 @@ about_named name rows =
     else (if bytes_eq name (codes "verify") then Some (about Verify)
     else (if bytes_eq name (codes "clashes")
     then Some (clashes_request (is_set (codes "dot") rows) (reading_in rows))
+    else (if bytes_eq name (codes "mend") then Some (mend_request rows)
     else (if bytes_eq name (codes "rounds") then Some (about (Rounds (reading_in rows)))
     else (if bytes_eq name (codes "import") then Some imported
-    else (if bytes_eq name (codes "run") then run_by rows else None))))))
+    else (if bytes_eq name (codes "run") then run_by rows else None)))))))
 
 -- an option with a value is on the command line
 abbrev pub is_given : Text → List Row → Bool

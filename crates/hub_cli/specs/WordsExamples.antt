@@ -3,7 +3,7 @@ use Rattle.std.specs.Prelude.{⊤, ◌≡◌, List, [], ◌∷◌, Option, Some,
 use Rattle.clap.proofs.OnLiterals.{clap_on_literals}
 use Rattle.clap.specs.Words.{Text}
 use Rattle.hub_cli.specs.Words.{Names, Request, about, asked_of, files_of, hubsync_app, is_strict_of, no_names}
-use Rattle.hub_cli.specs.Words.{imported, reach}
+use Rattle.hub_cli.specs.Words.{imported, mended, reach}
 use Rattle.hub_cli.specs.declared.words.Question.TheVariants.{CheckWithState, Run, RunByRounds}
 use Rattle.hub_cli.specs.declared.words.Question.TheVariants.{Check, Certify, Verify}
 use Rattle.hub_cli.specs.declared.words.Question.TheVariants.{Clashes, Graph, Rounds}
@@ -197,6 +197,20 @@ an_import_has_no_state :
     asked (codes "import" ∷ codes "a.prf" ∷ codes "--state=s" ∷ []) ≡ None
 unfolding computed
 an_import_has_no_state = refl
+
+lines_that_mend : asked (codes "mend" ∷ []) ≡ Some (mended Plain false)
+unfolding computed
+lines_that_mend = refl
+
+a_mended_bundle_for_unison :
+    asked (codes "mend" ∷ codes "--bundle" ∷ codes "--unison" ∷ codes "dir" ∷ [])
+    ≡ Some (mended Unison true)
+unfolding computed
+a_mended_bundle_for_unison = refl
+
+clashes_make_no_bundle : asked (codes "clashes" ∷ codes "--bundle" ∷ []) ≡ None
+unfolding computed
+clashes_make_no_bundle = refl
 
 a_graph_for_unison :
     asked (codes "clashes" ∷ codes "--unison" ∷ codes "--dot" ∷ []) ≡ Some (about (Graph Unison))

@@ -6,11 +6,11 @@ ghost use Rattle.std.specs.Prelude.{◌≡◌, IfOk, Ok, codes, false};
 ghost use Rattle.clap.specs.Words.{app_of, new_app, rule_of, with_rule, with_subcommand};
 ghost use Rattle.clap.specs.declared.builder.command.Command.TheViews.{out-Command as fields_of};
 ghost use Rattle.hub_cli.specs.Words as words;
-ghost use Rattle.hub_cli.specs.Words.{about_app, checker_app, clashes_app, hubsync_app, import_app, reach_app, reading_app};
+ghost use Rattle.hub_cli.specs.Words.{about_app, checker_app, clashes_app, hubsync_app, import_app, mend_app, reach_app, reading_app};
 ghost use Rattle.hub_cli.specs.Words.{run_app, set_app, top_app};
 
 use crate::help::{
-    CERTIFY, CHECK, CLASHES, HUBSYNC, Help, IMPORT, LONG, REACH, ROUNDS, RUN, VERIFY,
+    CERTIFY, CHECK, CLASHES, HUBSYNC, Help, IMPORT, LONG, MEND, REACH, ROUNDS, RUN, VERIFY,
 };
 use crate::words::DEFAULT_WORKERS_TEXT;
 use clap::{Arg, ArgAction, Command, value_parser};
@@ -237,6 +237,16 @@ fn clashes_command<'a>(alloc: Global) -> Result<Box<Command<'a>>, AllocError>
     with_argument(alloc, command, flag(alloc, "dot", dot))
 }
 
+/// The command `mend`.
+fn mend_command<'a>(alloc: Global) -> Result<Box<Command<'a>>, AllocError>
+    ensures app { IfOk result (λ c. app_of c.value ≡ mend_app) }
+    ensures local { IfOk result (λ c. (fields_of c.value).has_globals ≡ false) }
+{
+    let command = reading_command(alloc, "mend", MEND)?;
+    let bundle = "Write the bundle with the lines in place";
+    with_argument(alloc, command, flag(alloc, "bundle", bundle))
+}
+
 /// The command `import`.
 fn import_command<'a>(alloc: Global) -> Result<Box<Command<'a>>, AllocError>
     ensures app { IfOk result (λ c. app_of c.value ≡ import_app) }
@@ -327,6 +337,7 @@ fn about_command<'a>(alloc: Global) -> Result<Box<Command<'a>>, AllocError>
 {
     let top = checker_command(alloc)?;
     let top = with_command(alloc, top, clashes_command(alloc)?)?;
+    let top = with_command(alloc, top, mend_command(alloc)?)?;
     let top = with_reading(alloc, top, "rounds", ROUNDS)?;
     with_command(alloc, top, import_command(alloc)?)
 }

@@ -49,6 +49,15 @@ pub(crate) const CLASHES: Help = Help {
         hubsync clashes --dot docs.prf photos.prf | dot -Tsvg > clashes.svg",
 };
 
+/// That of `mend`.
+pub(crate) const MEND: Help = Help {
+    about: "Finds lines for profiles that make the set safe, and that only take away",
+    usage: "hubsync mend [--bundle] < BUNDLE\n       hubsync mend [OPTIONS] FILE.prf..\n       \
+        hubsync mend --unison [OPTIONS] FOLDER",
+    example: "Examples: hubsync mend docs.prf photos.prf --rules rules\n          \
+        hubsync mend --bundle docs.prf photos.prf > mended.bundle",
+};
+
 /// That of `rounds`.
 pub(crate) const ROUNDS: Help = Help {
     about: "Cuts the profiles into rounds: those of a round may run at the same time",
@@ -145,15 +154,21 @@ lines of the rounds that were run. The state that they left always follows.
 Graphviz. Profiles that clash are joined by a red line, and a profile that may
 break a rule is a red box. What is too large to decide is dashed.
 
-With '--unison', 'check', 'clashes' and 'rounds' follow the lines 'include' and
-'source' of the files, as 'import' does, and an operand may be a folder, as ~/.unison: its files
+'mend' prints lines that make the set safe, each behind the name of its profile,
+and then 'safe with N lines', or what 'check' prints of the set with these
+lines. They only take away: each profile reaches and writes no more than before.
+'mend --bundle' prints the bundle with the lines in place.
+
+With '--unison', 'check', 'clashes', 'mend' and 'rounds' follow the lines
+'include' and 'source' of the files, as 'import' does, and an operand may be a
+folder, as ~/.unison: its files
 '*.prf' with roots are the profiles, but those that another one includes.
 '--hosts' names a file of lines 'HOST PATH', by which a path stands for the / of
 a host in roots as ssh://HOST//srv. '--verbose' lists on standard error each
 line that doesn't count, and each that is refused.
 
-With '--unison', 'check', 'clashes', 'rounds' and 'reach' answer about what
-Unison 2.52 may do by the profiles, not about hubsync's own reading of them.
+With '--unison', 'check', 'clashes', 'mend', 'rounds' and 'reach' answer about
+what Unison 2.52 may do by the profiles, not about hubsync's own reading of them.
 What is safe then is safe in Unison, under what standard error says is assumed.
 An overlap or a breach may come of this reading alone: compare with the answer
 without it. 'import' reads the profiles in the same way, and writes what it read

@@ -90,6 +90,13 @@ pub enum Query<'a> {
     },
     /// A bundle of the profiles' readings for Unison, and of the rules.
     Import,
+    /// Lines that make the set safe.
+    Mend {
+        /// How the profiles are to be read.
+        reading: Reading,
+        /// Whether the bundle is to be written, with the lines in place.
+        as_bundle: bool,
+    },
 }
 
 impl<'a> Query<'a> {
@@ -99,7 +106,7 @@ impl<'a> Query<'a> {
     {
         match *self {
             Query::About(question) => question.reading(),
-            Query::Reach { reading, .. } => reading,
+            Query::Reach { reading, .. } | Query::Mend { reading, .. } => reading,
             Query::Import => Reading::Unison,
         }
     }
@@ -108,7 +115,8 @@ impl<'a> Query<'a> {
 /// Reads the words, of which the first is the program's name.
 ///
 /// `check`, `certify`, `verify`, `clashes` and `rounds` ask about the set. Without a command the words ask for the check, and
-/// for a run of the jobs if the bundle has a state. With `--dot`, `clashes` asks for a graph.
+/// for a run of the jobs if the bundle has a state. With `--dot`, `clashes` asks for a graph. `mend` asks for lines that make
+/// the set safe, and with `--bundle` for the bundle with these lines.
 /// `run` asks for a run, and with `--rounds` for one by rounds. `--workers N` gives the number of workers, from 0 to 255, and
 /// without it there are [`DEFAULT_WORKERS`]. Each of these commands may name files and have `--strict` (`read_options`). If it
 /// names files, one at least is that of a profile.
@@ -116,7 +124,7 @@ impl<'a> Query<'a> {
 /// `reach PROFILE PATH` takes any two operands, also the empty word and `-`. An operand that begins with `-` and is longer
 /// needs `--` before it.
 ///
-/// By `--unison` the profiles are read for Unison. `check`, `clashes`, `rounds` and `reach` may have it. `import` always reads
+/// By `--unison` the profiles are read for Unison. `check`, `clashes`, `mend`, `rounds` and `reach` may have it. `import` always reads
 /// them so, and asks for a bundle of their readings.
 ///
 /// An `Err` is `clap`'s: a mistake in the words, a request for help or for the version, or out of memory. Its `Display` is
@@ -189,7 +197,7 @@ fn explained<'a, S: AsStr>(
     }
     hubsync.error(
         ErrorKind::UnknownArgument,
-        "'--unison' is for 'check', 'clashes', 'rounds' and 'reach': what a run leaves and what\n\
+        "'--unison' is for 'check', 'clashes', 'mend', 'rounds' and 'reach': what a run leaves and what\n\
             certificates show is by hubsync's own reading of the profiles",
     )
 }
@@ -373,6 +381,9 @@ fn about<'a>(name: &str, found: &ArgMatches<'_>) -> Option<Query<'a>>
     if name == "clashes" {
         return Some(clashes(is_set(found, "dot"), reading_in(found)));
     }
+    if name == "mend" {
+        return Some(mend(found));
+    }
     if name == "rounds" {
         return Some(Query::About(Question::Rounds(reading_in(found))));
     }
@@ -393,6 +404,16 @@ fn clashes<'a>(as_graph: bool, reading: Reading) -> Query<'a>
         Query::About(Question::Graph(reading))
     } else {
         Query::About(Question::Clashes(reading))
+    }
+}
+
+/// Lines that make the set safe, or the bundle with them in place.
+fn mend<'a>(found: &ArgMatches<'_>) -> Query<'a>
+    ensures { request_of result ≡ words.mend_request (rows_of (found_of found.now)) }
+{
+    Query::Mend {
+        reading: reading_in(found),
+        as_bundle: is_set(found, "bundle"),
     }
 }
 

@@ -39,4 +39,5 @@ mod tests;
 mod value;
 mod write;
 
+pub use rules::are_same_rules;
 pub use write::{BundleUnwritten, write_bundle};

@@ -4,8 +4,8 @@ ghost use Rattle.std.specs.Prelude.{◌≡◌, ◌↔◌, IsTrue};
 use hub_profile::{Rule, Verb};
 use hub_text::is_equal;
 
-/// Returns whether both lists have the same rules in the same order.
-pub(crate) fn are_same_rules(rules: &[Rule], others: &[Rule]) -> bool
+/// Returns whether both lists have the same rules in the same order. It takes time linear in them.
+pub fn are_same_rules(rules: &[Rule], others: &[Rule]) -> bool
     ensures { IsTrue result ↔ (rules.now ≡ others.now) }
 {
     if rules.len() != others.len() {

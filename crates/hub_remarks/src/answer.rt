@@ -15,8 +15,13 @@ use std::alloc::{AllocError, Global};
 /// How the second line begins if no jobs were run.
 const RUN_FAULT: &str = "run fault: ";
 
-/// How the answers of `certify`, `rounds` and `clashes --dot` begin.
-const YES_STARTS: [&str; 3] = ["hubsync certificates ", "rounds ", "graph clashes {"];
+/// How the answers of `certify`, `rounds`, `clashes --dot` and `mend` of a safe set begin.
+const YES_STARTS: [&str; 4] = [
+    "hubsync certificates ",
+    "rounds ",
+    "graph clashes {",
+    "safe with ",
+];
 
 /// The first bytes of an input or of an output.
 #[derive(Clone, Copy)]

@@ -4,7 +4,9 @@ use hub_source::{Said, nearest, say};
 use std::alloc::Global;
 
 /// The commands that answer over a bundle or over files.
-const COMMANDS: &[&str] = &["check", "certify", "verify", "clashes", "rounds", "run"];
+const COMMANDS: &[&str] = &[
+    "check", "certify", "verify", "clashes", "mend", "rounds", "run",
+];
 
 /// Options that are followed by a value.
 const WITH_VALUE: [&str; 5] = [

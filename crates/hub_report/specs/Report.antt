@@ -1,5 +1,5 @@
 -- The text and the status of each answer.
-use Rattle.std.specs.Prelude.{◌≡◌, ◌≢◌, ⊤, ℕ, Bool, true, false, List, [], Option, None, codes, string_bytes}
+use Rattle.std.specs.Prelude.{◌≡◌, ◌≢◌, ⊤, ℕ, Bool, true, false, List, [], Option, None, codes, if◌then◌else◌, string_bytes}
 use Rattle.hub_cert.specs.Set.{Members}
 use Rattle.hub_cert.specs.declared.fault.CheckFault.{CheckFault}
 use Rattle.hub_cert.specs.declared.fault.CheckFault.TheVariants as fault
@@ -9,6 +9,7 @@ use Rattle.hub_report.specs.declared.report.Report.{Report}
 use Rattle.hub_report.specs.declared.report.Report.TheVariants.{Faulty, Reach, NoState, Refused}
 use Rattle.hub_report.specs.declared.report.Report.TheVariants.{Verdict, Clashes, Run}
 use Rattle.hub_report.specs.declared.report.Report.TheVariants.{Imported, NotImported}
+use Rattle.hub_report.specs.declared.report.Report.TheVariants.{Mended, NotMended}
 use Rattle.hub_report.specs.declared.report.Report.TheVariants.{NotVerified, OutOfMemory}
 use Rattle.hub_report.specs.ClashesAnswer as clashes
 use Rattle.hub_report.specs.FaultyInput as input
@@ -28,8 +29,14 @@ text_of (Clashes a) = clashes.text_of a
 text_of (Run a) = run.text_of a
 text_of (Imported text) = text.items
 text_of NotImported = codes "fault: no bundle says what was read\n"
+text_of (Mended m) = m.text.items
+text_of NotMended = codes "fault: the lines were not read as they were meant\n"
 text_of NotVerified = codes "fault: a round was not verified\n"
 text_of OutOfMemory = codes "fault: out of memory\n"
+
+-- That of lines that were found for a set, which is safe with them or not.
+abbrev pub mended_status : Bool → ℕ
+mended_status safe = if safe then 0 else 1
 
 -- The status of an answer that was written whole.
 abbrev pub status_of : Report → ℕ
@@ -42,6 +49,8 @@ status_of (Clashes a) = clashes.status_of a
 status_of (Run a) = run.status_of a
 status_of (Imported text) = 0
 status_of NotImported = 2
+status_of (Mended m) = mended_status m.safe
+status_of NotMended = 2
 status_of NotVerified = 2
 status_of OutOfMemory = 2
 

@@ -2,6 +2,7 @@
 //!
 //! - [`Report`] is an answer to an input. It has one case for each part of the program that answers: [`FaultyInput`],
 //!   [`ReachAnswer`], [`Verdict`], [`ClashesAnswer`] and [`RunAnswer`].
+//! - [`Mended`] has lines that were found for profiles.
 //! - [`Run`] is what the jobs of a safe set did and left; [`RunError`] is why they weren't run.
 //! - [`RoundsRun`] is what the jobs of a set did and left that were run by rounds.
 //! - [`lines_of_jobs`] are the lines that say what jobs did.
@@ -49,6 +50,7 @@ mod faults;
 mod faulty_input;
 mod graph;
 mod jobs;
+mod mended;
 mod pair;
 mod parts;
 mod reach_answer;
@@ -66,6 +68,7 @@ pub use clashes_answer::ClashesAnswer;
 pub use faulty_input::FaultyInput;
 pub use graph::{Graph, graph_of_clashes};
 pub use jobs::lines_of_jobs;
+pub use mended::Mended;
 pub use reach_answer::ReachAnswer;
 pub use refusal::lines_of_clashes;
 pub use report::{OUT_OF_MEMORY, Report};

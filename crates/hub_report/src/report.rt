@@ -6,6 +6,7 @@ ghost use Rattle.hub_report.specs.Report as report;
 use crate::blocks::{Blocks, block_of};
 use crate::clashes_answer::ClashesAnswer;
 use crate::faulty_input::FaultyInput;
+use crate::mended::Mended;
 use crate::reach_answer::ReachAnswer;
 use crate::run_answer::RunAnswer;
 use crate::verdict::Verdict;
@@ -35,6 +36,10 @@ pub enum Report<'a> {
     Imported(Vec<u8>),
     /// No bundle says what was read: it would need more lines or longer patterns than there may be.
     NotImported,
+    /// Lines that make a set safe, or the bundle with them.
+    Mended(Mended),
+    /// The bundle with the lines that were found isn't read as it was meant. Tests show none.
+    NotMended,
     /// The check didn't verify a round. Tests show none.
     NotVerified,
     /// Out of memory.
@@ -42,8 +47,8 @@ pub enum Report<'a> {
 }
 
 impl Report<'_> {
-    /// The exit status: 0 if the set is safe, if all of it is in rounds, for both answers to `reach` and for a bundle; 1 for a
-    /// refusal, for what clashes, and for rounds that leave a profile out or rest on a goal that was too large; 2 for a fault; 3 if
+    /// The exit status: 0 if the set is safe, also with lines that were found, if all of it is in rounds, for both answers to
+    /// `reach` and for a bundle; 1 for a refusal, also with such lines, for what clashes, and for rounds that leave a profile out or rest on a goal that was too large; 2 for a fault; 3 if
     /// jobs weren't run or a job was stopped.
     pub fn status(&self) -> u8
         ensures { result ≡ report.status_of self.now }
@@ -54,11 +59,13 @@ impl Report<'_> {
             Report::Faulty(_)
             | Report::NoState
             | Report::NotImported
+            | Report::NotMended
             | Report::NotVerified
             | Report::OutOfMemory => 2,
             Report::Reach(answer) => answer.status(),
             Report::Clashes(answer) => answer.status(),
             Report::Run(answer) => answer.status(),
+            Report::Mended(mended) => mended.status(),
         }
     }
 
@@ -73,7 +80,7 @@ impl Report<'_> {
     }
 
     /// The text that says the answer: its line, the lines of clashes or of rounds, the graph, the text of certificates or of a
-    /// bundle, or `safe` or the number of rounds and below it what the jobs did and the text of the state that they left. It ends
+    /// bundle, the lines that were found, or `safe` or the number of rounds and below it what the jobs did and the text of the state that they left. It ends
     /// with LF, if it isn't the empty bundle.
     pub fn into_text(self, alloc: Global) -> Result<Blocks, AllocError>
         ensures { IfOk result (λ t. bytes_in t ≡ report.text_of self.entry) }
@@ -88,6 +95,11 @@ impl Report<'_> {
             Report::Run(answer) => answer.into_text(alloc),
             Report::Imported(text) => Blocks::new(alloc, text),
             Report::NotImported => block_of(alloc, "fault: no bundle says what was read\n"),
+            Report::Mended(mended) => Blocks::new(alloc, mended.text),
+            Report::NotMended => block_of(
+                alloc,
+                "fault: the lines were not read as they were meant\n",
+            ),
             Report::NotVerified => block_of(alloc, "fault: a round was not verified\n"),
             Report::OutOfMemory => block_of(alloc, OUT_OF_MEMORY),
         }

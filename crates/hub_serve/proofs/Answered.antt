@@ -7,13 +7,13 @@ use Rattle.std.proofs.lemmas.Option.{none-some, same_Some}
 use Rattle.std.proofs.lemmas.Bool.{false≢true}
 use Rattle.hub_cli.specs.declared.words.Question.TheVariants as ask
 use Rattle.hub_cli.specs.declared.words.Reading.{Reading}
-use Rattle.hub_cli.specs.Words.{Request, about, asked_of, imported, reading_for}
+use Rattle.hub_cli.specs.Words.{Request, about, asked_of, imported, mended, reading_for}
 use Rattle.hub_report.specs.declared.report.Report.{Report}
 use Rattle.hub_report.specs.declared.clashes_answer.ClashesAnswer.{ClashesAnswer}
 use Rattle.hub_report.specs.declared.clashes_answer.ClashesAnswer.TheVariants.{Lines, Graph, Cut}
 use Rattle.hub_report.specs.declared.reach_answer.ReachAnswer.{ReachAnswer}
 use Rattle.hub_report.specs.declared.reach_answer.ReachAnswer.TheVariants.{Reached, NotReached, NoProfile, BadPath}
-use Rattle.hub_report.specs.declared.report.Report.TheVariants.{Reach, Clashes, Run, OutOfMemory}
+use Rattle.hub_report.specs.declared.report.Report.TheVariants.{Reach, Clashes, Run, Mended, OutOfMemory}
 use Rattle.hub_report.specs.declared.run_answer.RunAnswer.{RunAnswer}
 use Rattle.hub_report.specs.declared.run_answer.RunAnswer.TheVariants.{Ran, RanByRounds, NotRun}
 use Rattle.hub_report.specs.ClashesAnswer as clashes
@@ -23,11 +23,13 @@ use Rattle.hub_report.specs.Report.{status_of}
 use Rattle.hub_report.specs.Starts.{begins-taken, first}
 use Rattle.hub_bundle.specs.declared.input.InputFault.TheVariants.{TurnsSpent}
 use Rattle.hub_serve.specs.Reads.{Reads}
+use Rattle.hub_serve.specs.Mended.{is_mend}
 use Rattle.hub_serve.specs.Rounds.{BeginsAsClash}
 use Rattle.hub_serve.specs.Report.{Holds, IsWholeUnlessFailed, SpellsClashes, SpellsGraph, SpellsReach, SpellsRounds, SpellsRoundsRun}
-use Rattle.hub_serve.specs.Report.{ShowsImport, SpellsSafe, SpellsUnsafe, SpellsVerified, Serves, Answers, AnswersNothing, WritesText}
+use Rattle.hub_serve.specs.Report.{ShowsImport, ShowsMend, SpellsSafe, SpellsUnsafe, SpellsVerified, Serves, Answers, AnswersNothing, WritesText}
 use Rattle.hub_serve.proofs.FirstLines.{only_safe, only_clashes, only_graph, only_rounds, only_verified, only_overlaps, only_breaches, only_reached, only_not_reached}
 use Rattle.hub_serve.proofs.Imports.{only_import}
+use Rattle.hub_serve.proofs.Mending.{only_mended}
 use Rattle.hub_serve.proofs.InUnison.{unreached-in_unison}
 use Rattle.hub_serve.proofs.Refused.{OverlapsShown, BreachesShown}
 
@@ -49,35 +51,35 @@ module _ (request : Request) (remaining old new : Option (List ℕ)) (reads : Re
       let is : take a.writes.written a.text ≡ text = appended old new before _ _ a.writes.appends f g in
       record { written = a.writes.written; text_is = sym is; whole = λ o. sym is ∙ a.writes.whole o; status_is = a.writes.status_is }
 
-  safe-written : (text : List ℕ) → Answers request remaining old new reads write_failed status → remaining ≡ Some bytes → old ≡ Some before
+  safe-written : (text : List ℕ) → is_mend request ≡ false → Answers request remaining old new reads write_failed status → remaining ≡ Some bytes → old ≡ Some before
       → new ≡ Some (before ++ (codes "safe\n" ++ text)) → SpellsSafe (Some request) bytes text write_failed status
-  safe-written text a e f g =
-      only_safe request bytes a.report a.text text write_failed status a.is_text (answer-written (codes "safe\n" ++ text) a f g) (held a e)
+  safe-written text o a e f g =
+      only_safe request bytes a.report a.text text write_failed status o a.is_text (answer-written (codes "safe\n" ++ text) a f g) (held a e)
 
-  verified-written : (text : List ℕ) → Answers request remaining old new reads write_failed status → remaining ≡ Some bytes → old ≡ Some before
+  verified-written : (text : List ℕ) → is_mend request ≡ false → Answers request remaining old new reads write_failed status → remaining ≡ Some bytes → old ≡ Some before
       → new ≡ Some (before ++ (codes "verified\n" ++ text)) → SpellsVerified (Some request) bytes
-  verified-written text a e f g = only_verified request bytes a.report a.text a.writes.written _ a.is_text (appended old new before _ _ a.writes.appends f g) (held a e)
+  verified-written text o a e f g = only_verified request bytes a.report a.text a.writes.written _ o a.is_text (appended old new before _ _ a.writes.appends f g) (held a e)
 
-  overlap-written : OverlapsShown → (text : List ℕ) → Answers request remaining old new reads write_failed status → remaining ≡ Some bytes → old ≡ Some before
+  overlap-written : OverlapsShown → (text : List ℕ) → is_mend request ≡ false → Answers request remaining old new reads write_failed status → remaining ≡ Some bytes → old ≡ Some before
       → new ≡ Some (before ++ (codes "overlap: " ++ text)) → SpellsUnsafe (Some request) bytes
-  overlap-written shown text a e f g = only_overlaps shown request bytes a.report a.text a.writes.written _ a.is_text (appended old new before _ _ a.writes.appends f g) (held a e)
+  overlap-written shown text o a e f g = only_overlaps shown request bytes a.report a.text a.writes.written _ o a.is_text (appended old new before _ _ a.writes.appends f g) (held a e)
 
-  breach-written : BreachesShown → (text : List ℕ) → Answers request remaining old new reads write_failed status → remaining ≡ Some bytes → old ≡ Some before
+  breach-written : BreachesShown → (text : List ℕ) → is_mend request ≡ false → Answers request remaining old new reads write_failed status → remaining ≡ Some bytes → old ≡ Some before
       → new ≡ Some (before ++ (codes "breach: " ++ text)) → SpellsUnsafe (Some request) bytes
-  breach-written shown text a e f g = only_breaches shown request bytes a.report a.text a.writes.written _ a.is_text (appended old new before _ _ a.writes.appends f g) (held a e)
+  breach-written shown text o a e f g = only_breaches shown request bytes a.report a.text a.writes.written _ o a.is_text (appended old new before _ _ a.writes.appends f g) (held a e)
 
-  rounds-written : (text : List ℕ) → Answers request remaining old new reads write_failed status → remaining ≡ Some bytes → old ≡ Some before
+  rounds-written : (text : List ℕ) → is_mend request ≡ false → Answers request remaining old new reads write_failed status → remaining ≡ Some bytes → old ≡ Some before
       → new ≡ Some (before ++ (codes "rounds " ++ text))
       → SpellsRounds (Some request) bytes (codes "rounds " ++ text) write_failed status
       ⊎ SpellsRoundsRun (Some request) bytes (codes "rounds " ++ text) write_failed status
-  rounds-written text a e f g =
-      only_rounds request bytes a.report a.text text write_failed status a.is_text (answer-written (codes "rounds " ++ text) a f g) (held a e)
+  rounds-written text o a e f g =
+      only_rounds request bytes a.report a.text text write_failed status o a.is_text (answer-written (codes "rounds " ++ text) a f g) (held a e)
 
-  graph-written : (text : List ℕ) → Answers request remaining old new reads write_failed status → remaining ≡ Some bytes → old ≡ Some before
+  graph-written : (text : List ℕ) → is_mend request ≡ false → Answers request remaining old new reads write_failed status → remaining ≡ Some bytes → old ≡ Some before
       → new ≡ Some (before ++ (codes "graph clashes {" ++ text))
       → SpellsGraph (Some request) bytes (codes "graph clashes {" ++ text) write_failed status
-  graph-written text a e f g =
-      only_graph request bytes a.report a.text text write_failed status a.is_text (answer-written (codes "graph clashes {" ++ text) a f g) (held a e)
+  graph-written text o a e f g =
+      only_graph request bytes a.report a.text text write_failed status o a.is_text (answer-written (codes "graph clashes {" ++ text) a f g) (held a e)
 
   clashes-written : (reading : Reading) (text : List ℕ) → Answers request remaining old new reads write_failed status → Some request ≡ Some (about (ask.Clashes reading)) → remaining ≡ Some bytes → old ≡ Some before
       → new ≡ Some (before ++ text) → BeginsAsClash text → SpellsClashes reading bytes text write_failed status
@@ -89,16 +91,21 @@ module _ (request : Request) (remaining old new : Option (List ℕ)) (reads : Re
   imported-written text a is e f g z =
       only_import request bytes a.report a.text text write_failed status (same_Some request imported is) a.is_text (answer-written text a f g) (held a e) z
 
-  reached-written : (text : List ℕ) → Answers request remaining old new reads write_failed status → remaining ≡ Some bytes → old ≡ Some before
+  mended-written : (reading : Reading) (as_bundle : Bool) (text : List ℕ) → Answers request remaining old new reads write_failed status → Some request ≡ Some (mended reading as_bundle) → remaining ≡ Some bytes → old ≡ Some before
+      → new ≡ Some (before ++ text) → status ≤ 1 → ShowsMend reading as_bundle bytes text status
+  mended-written reading as_bundle text a is e f g z =
+      only_mended reading as_bundle request bytes a.report a.text text write_failed status (same_Some request (mended reading as_bundle) is) a.is_text (answer-written text a f g) (held a e) z
+
+  reached-written : (text : List ℕ) → is_mend request ≡ false → Answers request remaining old new reads write_failed status → remaining ≡ Some bytes → old ≡ Some before
       → new ≡ Some (before ++ (codes "reached\n" ++ text)) → SpellsReach (Some request) bytes true
-  reached-written text a e f g =
-      let h = only_reached request bytes a.report a.text a.writes.written _ a.is_text (appended old new before _ _ a.writes.appends f g) (held a e) in
+  reached-written text o a e f g =
+      let h = only_reached request bytes a.report a.text a.writes.written _ o a.is_text (appended old new before _ _ a.writes.appends f g) (held a e) in
       record { request = request; is_asked = refl; contents = h.contents; spelled = h.spelled; answered = h.told; in_unison = λ u f. absurd (true≢false f) }
 
-  not_reached-written : (text : List ℕ) → Answers request remaining old new reads write_failed status → remaining ≡ Some bytes → old ≡ Some before
+  not_reached-written : (text : List ℕ) → is_mend request ≡ false → Answers request remaining old new reads write_failed status → remaining ≡ Some bytes → old ≡ Some before
       → new ≡ Some (before ++ (codes "not reached\n" ++ text)) → SpellsReach (Some request) bytes false
-  not_reached-written text a e f g =
-      let h = only_not_reached request bytes a.report a.text a.writes.written _ a.is_text (appended old new before _ _ a.writes.appends f g) (held a e) in
+  not_reached-written text o a e f g =
+      let h = only_not_reached request bytes a.report a.text a.writes.written _ o a.is_text (appended old new before _ _ a.writes.appends f g) (held a e) in
       record {
         request = request;
         is_asked = refl;
@@ -151,6 +158,7 @@ status-le : (r : Report) → status_of r ≤ 3
 status-le (Reach a) = reach-le a
 status-le (Clashes a) = clashes-le a
 status-le (Run a) = run-le a
+status-le (Mended m) = decided-le m.safe
 status-le _ = omega arith
 
 written-le : (failed : Bool) (status result : ℕ) → status ≤ 3 → result ≡ cond failed 2 status → result ≤ 3
@@ -164,16 +172,17 @@ serves-answer overlaps breaches request remaining old new reads write_failed sta
   few = written-le write_failed (status_of a.report) status (status-le a.report) a.writes.status_is;
   nothing = λ is. absurd (none-some request (sym is));
   answer = λ other is. subst (λ r. Answers r remaining old new reads write_failed status) (same_Some request other is) a;
-  safe = λ bytes before text e f g. safe-written request remaining old new reads write_failed status bytes before text a e f g;
-  verified = λ bytes before text e f g. verified-written request remaining old new reads write_failed status bytes before text a e f g;
-  overlap = λ bytes before text e f g. overlap-written request remaining old new reads write_failed status bytes before overlaps text a e f g;
-  breach = λ bytes before text e f g. breach-written request remaining old new reads write_failed status bytes before breaches text a e f g;
-  rounds = λ bytes before text e f g. rounds-written request remaining old new reads write_failed status bytes before text a e f g;
-  graph = λ bytes before text e f g. graph-written request remaining old new reads write_failed status bytes before text a e f g;
+  safe = λ bytes before text o e f g. safe-written request remaining old new reads write_failed status bytes before text o a e f g;
+  verified = λ bytes before text o e f g. verified-written request remaining old new reads write_failed status bytes before text o a e f g;
+  overlap = λ bytes before text o e f g. overlap-written request remaining old new reads write_failed status bytes before overlaps text o a e f g;
+  breach = λ bytes before text o e f g. breach-written request remaining old new reads write_failed status bytes before breaches text o a e f g;
+  rounds = λ bytes before text o e f g. rounds-written request remaining old new reads write_failed status bytes before text o a e f g;
+  graph = λ bytes before text o e f g. graph-written request remaining old new reads write_failed status bytes before text o a e f g;
   clashes = λ reading bytes before text is e f g b. clashes-written request remaining old new reads write_failed status bytes before reading text a is e f g b;
   imported = λ bytes before text is e f g z. imported-written request remaining old new reads write_failed status bytes before text a is e f g z;
-  reached = λ bytes before text e f g. reached-written request remaining old new reads write_failed status bytes before text a e f g;
-  not_reached = λ bytes before text e f g. not_reached-written request remaining old new reads write_failed status bytes before text a e f g;
+  mended = λ reading as_bundle bytes before text is e f g z. mended-written request remaining old new reads write_failed status bytes before reading as_bundle text a is e f g z;
+  reached = λ bytes before text o e f g. reached-written request remaining old new reads write_failed status bytes before text o a e f g;
+  not_reached = λ bytes before text o e f g. not_reached-written request remaining old new reads write_failed status bytes before text o a e f g;
 }
 
 -- The words ask for nothing.
@@ -183,16 +192,17 @@ serves-nothing remaining old new reads write_failed status a = record {
   few = omega (arith, a.status_is);
   nothing = λ is. a;
   answer = λ request is. absurd (none-some request is);
-  safe = λ bytes before text e f g. absurd (nothing-written old new status before _ 115 a refl f g);
-  verified = λ bytes before text e f g. absurd (nothing-written old new status before _ 118 a refl f g);
-  overlap = λ bytes before text e f g. absurd (nothing-written old new status before _ 111 a refl f g);
-  breach = λ bytes before text e f g. absurd (nothing-written old new status before _ 98 a refl f g);
-  rounds = λ bytes before text e f g. absurd (nothing-written old new status before _ 114 a refl f g);
-  graph = λ bytes before text e f g. absurd (nothing-written old new status before _ 103 a refl f g);
+  safe = λ bytes before text o e f g. absurd (nothing-written old new status before _ 115 a refl f g);
+  verified = λ bytes before text o e f g. absurd (nothing-written old new status before _ 118 a refl f g);
+  overlap = λ bytes before text o e f g. absurd (nothing-written old new status before _ 111 a refl f g);
+  breach = λ bytes before text o e f g. absurd (nothing-written old new status before _ 98 a refl f g);
+  rounds = λ bytes before text o e f g. absurd (nothing-written old new status before _ 114 a refl f g);
+  graph = λ bytes before text o e f g. absurd (nothing-written old new status before _ 103 a refl f g);
   clashes = λ reading bytes before text is e f g b. absurd (none-some (about (ask.Clashes reading)) is);
   imported = λ bytes before text is e f g z. absurd (none-some imported is);
-  reached = λ bytes before text e f g. absurd (nothing-written old new status before _ 114 a refl f g);
-  not_reached = λ bytes before text e f g. absurd (nothing-written old new status before _ 110 a refl f g);
+  mended = λ reading as_bundle bytes before text is e f g z. absurd (none-some (mended reading as_bundle) is);
+  reached = λ bytes before text o e f g. absurd (nothing-written old new status before _ 114 a refl f g);
+  not_reached = λ bytes before text o e f g. absurd (nothing-written old new status before _ 110 a refl f g);
 }
 
 anything : (r : Option (List ℕ)) → IfSome r (λ _. ⊤)

@@ -1,6 +1,7 @@
 -- What is true of the input if what is written begins with these letters.
 use Rattle.std.proofs.Common.{◌≡◌, ◌≢◌, ◌∙◌, ◌⊎◌, inl, inr, ℕ, Bool, true, false, cond, List, [], ◌∷◌, ◌++◌, take, Some, codes, refl, sym, ap, subst, arith}
 use Rattle.std.specs.Prelude.{⊤, string_bytes}
+use Rattle.std.proofs.lemmas.Bool.{false≢true}
 use Rattle.std.proofs.lemmas.List.{append_cancel_left}
 use Rattle.std.proofs.lemmas.Option.{get_or_from_slice_get, slice_get_within}
 use Rattle.hub_cert.specs.Refused.{IsRefused}
@@ -43,6 +44,7 @@ use Rattle.hub_serve.specs.Report.{FollowsSafe, IsWholeUnlessFailed, IsRefusedFo
 use Rattle.hub_serve.specs.Report.{SpellsClashes, SpellsGraph, SpellsRounds, SpellsRoundsRun, SpellsSafe, SpellsUnsafe, SpellsVerified}
 use Rattle.hub_serve.specs.Rounds.{BeginsAsClash, DrawsClashes, ListsClashes, WritesRounds}
 use Rattle.hub_serve.specs.Runs.{HasRunAs, IsBelow, IsPrevented}
+use Rattle.hub_serve.specs.Mended.{is_mend}
 use Rattle.hub_serve.specs.Task.{AsksTask}
 use Rattle.hub_serve.specs.Unison.{SpellsAs}
 use Rattle.hub_serve.proofs.BundleStart.{bundle-start}
@@ -257,30 +259,31 @@ run-means request bytes (NotRun f) line l h =
     safe-means request bytes line 3 h.contents h.told.to_do (error_line f) l h.spelled h.told.asked h.told.told.safe (error-below h.told.to_do (members h.contents) f h.told.told)
 
 -- and of the start of the text of every answer.
-text-means : (request : Request) (bytes : List ℕ) (r : Report) (line : List ℕ) → line ≡ text_of r → Holds request bytes r
+text-means : (request : Request) (bytes : List ℕ) (r : Report) (line : List ℕ) → is_mend request ≡ false → line ≡ text_of r → Holds request bytes r
     → Means request bytes line (status_of r) (start line)
-text-means request bytes (answer.Reach a) line l h = reach-means request bytes a line l h
-text-means request bytes (answer.Verdict v) line l h = verdict-means request bytes v line l h
-text-means request bytes (answer.Clashes a) line l h = clashes-answer-means request bytes a line l h
-text-means request bytes (answer.Run a) line l h = run-means request bytes a line l h
-text-means request bytes (answer.Refused text) line l h =
+text-means request bytes (answer.Reach a) line o l h = reach-means request bytes a line l h
+text-means request bytes (answer.Verdict v) line o l h = verdict-means request bytes v line l h
+text-means request bytes (answer.Clashes a) line o l h = clashes-answer-means request bytes a line l h
+text-means request bytes (answer.Run a) line o l h = run-means request bytes a line l h
+text-means request bytes (answer.Refused text) line o l h =
     subst (λ t. Means request bytes line 1 (start t)) (sym (l ∙ h.told.told.1))
     (refusal-means request bytes line 1 h.contents h.told.to_do h.told.reason h.spelled h.told.asked h.told.refused)
-text-means request bytes (answer.Imported text) line l h =
+text-means request bytes (answer.Imported text) line o l h =
     subst (λ t. Means request bytes line 0 t) (sym (ap start l ∙ bundle-start text.items _ h.told.written)) tt
-text-means request bytes _ line l h = subst (λ t. Means request bytes line 2 (start t)) (sym l) tt
+text-means request bytes (answer.Mended m) line o l h = absurd (false≢true (sym o ∙ ap is_mend h.asked))
+text-means request bytes _ line o l h = subst (λ t. Means request bytes line 2 (start t)) (sym l) tt
 
 -- Of a text whose start is known.
-means : (request : Request) (bytes : List ℕ) (r : Report) (line : List ℕ) (x : Start) → line ≡ text_of r → start line ≡ x → Holds request bytes r
+means : (request : Request) (bytes : List ℕ) (r : Report) (line : List ℕ) (x : Start) → is_mend request ≡ false → line ≡ text_of r → start line ≡ x → Holds request bytes r
     → Means request bytes line (status_of r) x
-means request bytes r line x l e h = subst (Means request bytes line (status_of r)) e (text-means request bytes r line l h)
+means request bytes r line x o l e h = subst (Means request bytes line (status_of r)) e (text-means request bytes r line o l h)
 
 -- Only the text of a safe set begins with `safe`,
-pub only_safe : (request : Request) (bytes : List ℕ) (r : Report) (line s : List ℕ) (failed : Bool) (status : ℕ) → line ≡ text_of r
+pub only_safe : (request : Request) (bytes : List ℕ) (r : Report) (line s : List ℕ) (failed : Bool) (status : ℕ) → is_mend request ≡ false → line ≡ text_of r
     → IsWholeUnlessFailed line (status_of r) failed (codes "safe\n" ++ s) status → Holds request bytes r → SpellsSafe (Some request) bytes s failed status
-only_safe request bytes r line s failed status l wrote h =
+only_safe request bytes r line s failed status other l wrote h =
     let front = begins-taken (codes "safe\n") line s wrote.written (sym wrote.text_is) in
-    let means_safe : Means request bytes line (status_of r) SafeStart = means request bytes r line SafeStart l (ap start front.whole) h in
+    let means_safe : Means request bytes line (status_of r) SafeStart = means request bytes r line SafeStart other l (ap start front.whole) h in
     let below : List ℕ = means_safe.0 in
     let rest : front.rest ≡ below = append_cancel_left (codes "safe\n") front.rest below (sym front.whole ∙ means_safe.1) in
     record {
@@ -296,11 +299,11 @@ only_safe request bytes r line s failed status l wrote h =
     }
 
 -- only that of rounds and of a run by rounds with `rou`,
-pub only_rounds : (request : Request) (bytes : List ℕ) (r : Report) (line s : List ℕ) (failed : Bool) (status : ℕ) → line ≡ text_of r
+pub only_rounds : (request : Request) (bytes : List ℕ) (r : Report) (line s : List ℕ) (failed : Bool) (status : ℕ) → is_mend request ≡ false → line ≡ text_of r
     → IsWholeUnlessFailed line (status_of r) failed (codes "rounds " ++ s) status → Holds request bytes r
     → SpellsRounds (Some request) bytes (codes "rounds " ++ s) failed status ⊎ SpellsRoundsRun (Some request) bytes (codes "rounds " ++ s) failed status
-only_rounds request bytes r line s failed status l wrote h =
-    go (means request bytes r line RoundsStart l (ap start (begins-taken (codes "rounds ") line s wrote.written (sym wrote.text_is)).whole) h)
+only_rounds request bytes r line s failed status other l wrote h =
+    go (means request bytes r line RoundsStart other l (ap start (begins-taken (codes "rounds ") line s wrote.written (sym wrote.text_is)).whole) h)
   where
     go : ShowsRounds (Some request) bytes line (status_of r) ⊎ ShowsRoundsRun (Some request) bytes line (status_of r)
         → SpellsRounds (Some request) bytes (codes "rounds " ++ s) failed status ⊎ SpellsRoundsRun (Some request) bytes (codes "rounds " ++ s) failed status
@@ -308,12 +311,12 @@ only_rounds request bytes r line s failed status l wrote h =
     go (inr is) = inr (record { full = line; full_status = status_of r; is_so = is; told = wrote })
 
 -- only that of a graph with a g,
-pub only_graph : (request : Request) (bytes : List ℕ) (r : Report) (line s : List ℕ) (failed : Bool) (status : ℕ) → line ≡ text_of r
+pub only_graph : (request : Request) (bytes : List ℕ) (r : Report) (line s : List ℕ) (failed : Bool) (status : ℕ) → is_mend request ≡ false → line ≡ text_of r
     → IsWholeUnlessFailed line (status_of r) failed (codes "graph clashes {" ++ s) status → Holds request bytes r
     → SpellsGraph (Some request) bytes (codes "graph clashes {" ++ s) failed status
-only_graph request bytes r line s failed status l wrote h =
+only_graph request bytes r line s failed status other l wrote h =
     let front = begins-taken (codes "graph clashes {") line s wrote.written (sym wrote.text_is) in
-    record { full = line; full_status = status_of r; is_so = means request bytes r line GraphStart l (ap start front.whole) h; told = wrote }
+    record { full = line; full_status = status_of r; is_so = means request bytes r line GraphStart other l (ap start front.whole) h; told = wrote }
 
 -- that of what clashes as a line of it, if the words ask for it,
 pub only_clashes : (reading : Reading) (request : Request) (bytes : List ℕ) (r : Report) (line text : List ℕ) (failed : Bool) (status : ℕ) → request ≡ about (ask.Clashes reading) → line ≡ text_of r
@@ -324,32 +327,35 @@ only_clashes reading request bytes r line text failed status is l wrote h b =
     rest : List ℕ
     rest = b.0
 
+    other : is_mend request ≡ false
+    other = ap is_mend is
+
     go : (text ≡ codes "overlap: " ++ rest) ⊎ (text ≡ codes "breach: " ++ rest) ⊎ (text ≡ codes "too large: " ++ rest) → ShowsClashes reading bytes line (status_of r)
-    go (inl o) = (means request bytes r line OverlapStart l (ap start (begins-taken (codes "overlap: ") line rest wrote.written (sym wrote.text_is ∙ o)).whole) h).1 reading is
-    go (inr (inl o)) = (means request bytes r line BreachStart l (ap start (begins-taken (codes "breach: ") line rest wrote.written (sym wrote.text_is ∙ o)).whole) h).1 reading is
-    go (inr (inr o)) = means request bytes r line TooLargeStart l (ap start (begins-taken (codes "too large: ") line rest wrote.written (sym wrote.text_is ∙ o)).whole) h reading is
+    go (inl o) = (means request bytes r line OverlapStart other l (ap start (begins-taken (codes "overlap: ") line rest wrote.written (sym wrote.text_is ∙ o)).whole) h).1 reading is
+    go (inr (inl o)) = (means request bytes r line BreachStart other l (ap start (begins-taken (codes "breach: ") line rest wrote.written (sym wrote.text_is ∙ o)).whole) h).1 reading is
+    go (inr (inr o)) = means request bytes r line TooLargeStart other l (ap start (begins-taken (codes "too large: ") line rest wrote.written (sym wrote.text_is ∙ o)).whole) h reading is
 
 -- only that of a verified one with a v,
-pub only_verified : (request : Request) (bytes : List ℕ) (r : Report) (line : List ℕ) (w : ℕ) (s : List ℕ) → line ≡ text_of r → take w line ≡ 118 ∷ s → Holds request bytes r → SpellsVerified (Some request) bytes
-only_verified request bytes r line w s l e h =
-    means request bytes r line VerifiedStart l (ap start (begins-taken (118 ∷ []) line s w e).whole) h
+pub only_verified : (request : Request) (bytes : List ℕ) (r : Report) (line : List ℕ) (w : ℕ) (s : List ℕ) → is_mend request ≡ false → line ≡ text_of r → take w line ≡ 118 ∷ s → Holds request bytes r → SpellsVerified (Some request) bytes
+only_verified request bytes r line w s other l e h =
+    means request bytes r line VerifiedStart other l (ap start (begins-taken (118 ∷ []) line s w e).whole) h
 
 -- only that of a reached path with `rea`,
-pub only_reached : (request : Request) (bytes : List ℕ) (r : Report) (line : List ℕ) (w : ℕ) (s : List ℕ) → line ≡ text_of r → take w line ≡ 114 ∷ 101 ∷ 97 ∷ s → Holds request bytes r → IsTrueOf request bytes (answer.Reach Reached)
-only_reached request bytes r line w s l e h =
-    means request bytes r line ReachedStart l (ap start (begins-taken (114 ∷ 101 ∷ 97 ∷ []) line s w e).whole) h
+pub only_reached : (request : Request) (bytes : List ℕ) (r : Report) (line : List ℕ) (w : ℕ) (s : List ℕ) → is_mend request ≡ false → line ≡ text_of r → take w line ≡ 114 ∷ 101 ∷ 97 ∷ s → Holds request bytes r → IsTrueOf request bytes (answer.Reach Reached)
+only_reached request bytes r line w s other l e h =
+    means request bytes r line ReachedStart other l (ap start (begins-taken (114 ∷ 101 ∷ 97 ∷ []) line s w e).whole) h
 
 -- only that of a path that isn't with an n,
-pub only_not_reached : (request : Request) (bytes : List ℕ) (r : Report) (line : List ℕ) (w : ℕ) (s : List ℕ) → line ≡ text_of r → take w line ≡ 110 ∷ s → Holds request bytes r → IsTrueOf request bytes (answer.Reach NotReached)
-only_not_reached request bytes r line w s l e h =
-    means request bytes r line NotReachedStart l (ap start (begins-taken (110 ∷ []) line s w e).whole) h
+pub only_not_reached : (request : Request) (bytes : List ℕ) (r : Report) (line : List ℕ) (w : ℕ) (s : List ℕ) → is_mend request ≡ false → line ≡ text_of r → take w line ≡ 110 ∷ s → Holds request bytes r → IsTrueOf request bytes (answer.Reach NotReached)
+only_not_reached request bytes r line w s other l e h =
+    means request bytes r line NotReachedStart other l (ap start (begins-taken (110 ∷ []) line s w e).whole) h
 
 -- only that of an overlap with an o,
-pub only_overlaps : OverlapsShown → (request : Request) (bytes : List ℕ) (r : Report) (line : List ℕ) (w : ℕ) (s : List ℕ) → line ≡ text_of r → take w line ≡ 111 ∷ s → Holds request bytes r → SpellsUnsafe (Some request) bytes
-only_overlaps shown request bytes r line w s l e h =
-    (means request bytes r line OverlapStart l (ap start (begins-taken (111 ∷ []) line s w e).whole) h).0 shown
+pub only_overlaps : OverlapsShown → (request : Request) (bytes : List ℕ) (r : Report) (line : List ℕ) (w : ℕ) (s : List ℕ) → is_mend request ≡ false → line ≡ text_of r → take w line ≡ 111 ∷ s → Holds request bytes r → SpellsUnsafe (Some request) bytes
+only_overlaps shown request bytes r line w s other l e h =
+    (means request bytes r line OverlapStart other l (ap start (begins-taken (111 ∷ []) line s w e).whole) h).0 shown
 
 -- and only that of a breach with a b.
-pub only_breaches : BreachesShown → (request : Request) (bytes : List ℕ) (r : Report) (line : List ℕ) (w : ℕ) (s : List ℕ) → line ≡ text_of r → take w line ≡ 98 ∷ s → Holds request bytes r → SpellsUnsafe (Some request) bytes
-only_breaches shown request bytes r line w s l e h =
-    (means request bytes r line BreachStart l (ap start (begins-taken (98 ∷ []) line s w e).whole) h).0 shown
+pub only_breaches : BreachesShown → (request : Request) (bytes : List ℕ) (r : Report) (line : List ℕ) (w : ℕ) (s : List ℕ) → is_mend request ≡ false → line ≡ text_of r → take w line ≡ 98 ∷ s → Holds request bytes r → SpellsUnsafe (Some request) bytes
+only_breaches shown request bytes r line w s other l e h =
+    (means request bytes r line BreachStart other l (ap start (begins-taken (98 ∷ []) line s w e).whole) h).0 shown

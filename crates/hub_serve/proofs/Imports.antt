@@ -8,7 +8,7 @@ use Rattle.hub_bundle.specs.Sections.{Spells}
 use Rattle.hub_cli.specs.declared.words.Question.{Question}
 use Rattle.hub_cli.specs.declared.words.Reading.{Reading}
 use Rattle.hub_cli.specs.declared.words.Reading.TheVariants.{Unison}
-use Rattle.hub_cli.specs.Words.{Request, about, imported, reach, reading_for}
+use Rattle.hub_cli.specs.Words.{Request, about, imported, mended, reach, reading_for}
 use Rattle.hub_import.specs.Imported.{contents_of}
 use Rattle.hub_profile.specs.Parts.{Parts}
 use Rattle.hub_report.specs.declared.report.Report.{Report}
@@ -26,6 +26,7 @@ abbrev is_import : Request → Bool
 is_import (about q) = false
 is_import (reach reading profile path) = false
 is_import imported = true
+is_import (mended reading as_bundle) = false
 
 other : (request r : Request) → request ≡ imported → request ≡ r → is_import r ≡ false → ⊥
 other request r is e isnt = false≢true (sym isnt ∙ ap is_import (sym e ∙ is))
@@ -63,6 +64,8 @@ shown request bytes text (answer.Imported t) is l z h =
       in_unison = λ safe. safe-in_unison Unison bytes h.contents spelled safe refl;
     }
 shown request bytes text answer.NotImported is l z h = absurd (omega (arith, z))
+shown request bytes text (answer.Mended m) is l z h = absurd (other request _ is h.asked refl)
+shown request bytes text answer.NotMended is l z h = absurd (omega (arith, z))
 shown request bytes text answer.NotVerified is l z h = absurd (omega (arith, z))
 shown request bytes text answer.OutOfMemory is l z h = absurd (omega (arith, z))
 

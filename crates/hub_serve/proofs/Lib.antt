@@ -9,3 +9,5 @@ pub mod Parts
 pub mod ByRounds
 pub mod BundleStart
 pub mod Imports
+pub mod Mending
+pub mod MendAnswers

@@ -34,7 +34,7 @@ use Rattle.hub_report.specs.declared.faulty_input.FaultyInput.TheVariants.{BadBu
 use Rattle.hub_report.specs.declared.report.Report.{Report}
 use Rattle.hub_report.specs.declared.reach_answer.ReachAnswer.TheVariants.{BadPath}
 use Rattle.hub_report.specs.declared.report.Report.TheVariants.{Faulty, Reach, NoState, Refused, OutOfMemory}
-use Rattle.hub_report.specs.declared.report.Report.TheVariants.{Imported, NotImported}
+use Rattle.hub_report.specs.declared.report.Report.TheVariants.{Imported, NotImported, Mended, NotMended}
 use Rattle.hub_serve.specs.declared.task.Task.{Task}
 use Rattle.hub_report.specs.Report.{TellsRefusal, has_no_numbers}
 use Rattle.hub_serve.specs.Report.{FaultOf, HasBadPath, Holds, IsTold, IsToldOfSet, IsUnspelled, puts_apart}
@@ -77,6 +77,8 @@ set-told q c to_do is NoState h = absurd h
 set-told q c to_do is (Refused t) h = record { to_do = to_do; asked = asks-for q c to_do is; reason = h.0; refused = inr h.1; told = h.2 }
 set-told q c to_do is (Imported t) h = absurd h
 set-told q c to_do is NotImported h = absurd h
+set-told q c to_do is (Mended m) h = absurd h
+set-told q c to_do is NotMended h = absurd h
 set-told q c to_do is OutOfMemory h = tt
 set-told q c to_do is _ h = record { to_do = to_do; asked = asks-for q c to_do is; told = h }
 
@@ -181,3 +183,11 @@ drawn S es text safe all disproved rest sure text_is safe_is = record {
     none : (xs : List CheckFault) → (length xs == 0) ≡ true → xs ≡ []
     none [] t = refl
     none (x ∷ xs) t = absurd (false≢true (sym (some-item x xs) ∙ t))
+
+-- What is true of what a bundle says is true of its bytes.
+pub told-holds : (request : Request) (bytes : List ℕ) (c : BundleContents) (r : Report) → SpellsAs (reading_for request) bytes c → IsTold request c r → Holds request bytes r
+told-holds request bytes c (Faulty f) s h = absurd h
+told-holds request bytes c (Mended m) s h = absurd h
+told-holds request bytes c NotMended s h = absurd h
+told-holds request bytes c OutOfMemory s h = tt
+told-holds request bytes c _ s h = record { contents = c; spelled = s; told = h }

@@ -5,5 +5,6 @@ pub mod Rounds
 pub mod Reached
 pub mod Unison
 pub mod ByRounds
+pub mod Mended
 pub mod Report
 pub mod Writing

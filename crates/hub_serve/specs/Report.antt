@@ -35,8 +35,7 @@ use Rattle.hub_report.specs.declared.report.Report.TheVariants as answer
 use Rattle.hub_report.specs.declared.clashes_answer.ClashesAnswer.{ClashesAnswer}
 use Rattle.hub_report.specs.declared.clashes_answer.ClashesAnswer.TheVariants.{Lines, Graph, Cut}
 use Rattle.hub_report.specs.declared.faulty_input.FaultyInput.{FaultyInput}
-use Rattle.hub_report.specs.declared.faulty_input.FaultyInput.TheVariants.{Unread, BadBundle}
-use Rattle.hub_report.specs.declared.faulty_input.FaultyInput.TheVariants.{BadSection}
+use Rattle.hub_report.specs.declared.faulty_input.FaultyInput.TheVariants.{Unread, BadBundle, BadSection}
 use Rattle.hub_report.specs.declared.reach_answer.ReachAnswer.{ReachAnswer}
 use Rattle.hub_report.specs.declared.reach_answer.ReachAnswer.TheVariants.{Reached, NotReached}
 use Rattle.hub_report.specs.declared.reach_answer.ReachAnswer.TheVariants.{NoProfile, BadPath}
@@ -47,6 +46,11 @@ use Rattle.hub_report.specs.declared.verdict.Verdict.TheVariants.{Safe, Verified
 use Rattle.hub_serve.specs.declared.task.Task.{Task}
 use Rattle.hub_serve.specs.declared.task.Task.TheVariants as task
 use Rattle.hub_serve.specs.Reached.{first_named}
+use Rattle.hub_serve.specs.Mended.{Mends, asks_mend, mend_text}
+use Rattle.hub_mend.specs.Additions.{line_count, mended_text, safe_line}
+use Rattle.hub_mend.specs.declared.piece.Piece.{Piece}
+use Rattle.hub_report.specs.Refusal.{refusal_line}
+use Rattle.hub_report.specs.declared.mended.Mended.{Mended}
 use Rattle.hub_import.specs.Imported.{contents_of}
 use Rattle.hub_report.specs.RoundsRun.{rounds_run_text}
 use Rattle.hub_report.specs.declared.rounds_run.RoundsRun.{RoundsRun}
@@ -54,11 +58,9 @@ use Rattle.hub_state.specs.State.{State}
 use Rattle.hub_report.specs.Report.{TellsRefusal, says_read_failed, status_of, text_of, unread_by}
 use Rattle.hub_serve.specs.Reads.{AreSpent, Reads}
 use Rattle.hub_serve.specs.ByRounds.{HasRunByRounds, HasRunByRoundsAs, IsFirstAlone, RunsByRounds}
-use Rattle.hub_serve.specs.Rounds.{BeginsAsClash, DrawsClashes, HasUnverifiedRound, ListsClashes}
-use Rattle.hub_serve.specs.Rounds.{WritesRounds}
+use Rattle.hub_serve.specs.Rounds.{BeginsAsClash, DrawsClashes, HasUnverifiedRound, ListsClashes, WritesRounds}
 use Rattle.hub_serve.specs.Runs.{HasRunAs, IsBelow, IsPrevented}
-use Rattle.hub_serve.specs.Unison.{SpellsAs, counted_as}
-use Rattle.hub_serve.specs.Unison.{SpellsRoundInUnison, SpellsSafeInUnison, SpellsUnreachedInUnison}
+use Rattle.hub_serve.specs.Unison.{SpellsAs, SpellsRoundInUnison, SpellsSafeInUnison, SpellsUnreachedInUnison, counted_as}
 use Rattle.hub_serve.specs.Task.{AsksTask, LacksState, task_of}
 
 -- A text is the whole of what is to be told, with the status of that, unless a call of the output
@@ -310,6 +312,8 @@ IsTold request c (answer.Reach a) = IsToldOfReach request c.profiles a
 IsTold request c answer.NoState = LacksState request c.state
 IsTold request c (answer.Imported text) = IsImported request c text.items
 IsTold request c answer.NotImported = request ≡ question.imported
+IsTold request c (answer.Mended m) = ⊥
+IsTold request c answer.NotMended = ⊥
 IsTold request c (answer.Refused t) = IsToldRefused request c (answer.Refused t)
 IsTold request c answer.OutOfMemory = ⊤
 IsTold request c r = IsToldAbout request c r
@@ -319,6 +323,26 @@ pub record IsTrueOf (request : Request) (bytes : List ℕ) (r : Report) : Type 0
   pub contents : BundleContents
   pub spelled : SpellsAs (reading_for request) bytes contents
   pub told : IsTold request contents r
+
+-- What is said of a bundle with so many lines, which is safe or not: that it is, or why `check`
+-- refuses it.
+abbrev pub SaysOf : Bool → BundleContents → ℕ → List ℕ → Type 0
+SaysOf true c n line = IsSafeSet (members c) × (line ≡ safe_line n)
+SaysOf false c n line =
+    (e : CheckFault) × IsRefusedFor task.Check c e × (line ≡ refusal_line (members c) e)
+
+-- It was asked for lines that make the bundle's set safe, and these are written, or the bundle with
+-- them.
+pub record IsMended (request : Request) (bytes : List ℕ) (m : Mended) : Type 0 where
+  pub reading : Reading
+  pub as_bundle : Bool
+  pub asked : request ≡ question.mended reading as_bundle
+  pub pieces : List Piece
+  pub new : BundleContents
+  pub mends : Mends reading bytes pieces new
+  pub line : List ℕ
+  pub said : SaysOf m.safe new (line_count pieces) line
+  pub text_is : m.text.items ≡ mend_text as_bundle pieces line
 
 -- What holds of an input that isn't read. That a read failed is no fact about its bytes:
 -- `says_read_failed` tells it.
@@ -344,6 +368,8 @@ IsUnspelled counted _ = ⊥
 abbrev pub Holds : Request → List ℕ → Report → Type 0
 Holds request bytes (answer.Faulty f) = IsFaulty (reading_for request) bytes f
 Holds request bytes answer.OutOfMemory = ⊤
+Holds request bytes (answer.Mended m) = IsMended request bytes m
+Holds request bytes answer.NotMended = asks_mend (Some request) ≡ true
 Holds request bytes r = IsTrueOf request bytes r
 
 -- The words ask whether a profile reaches a path, and this is what a profile that the bytes spell
@@ -356,6 +382,21 @@ pub record SpellsReach (asked : Option Request) (bytes : List ℕ) (answer : Boo
   pub answered : ReachIs request contents.profiles answer
   pub in_unison : reading_for request ≡ read.Unison → answer ≡ false
       → SpellsUnreachedInUnison bytes answered.profile answered.p
+
+-- A text has lines that only take away, and what is said of the bundle with them, or it is that
+-- bundle. The status is 0 only if its set is safe. If that is for Unison, no two of its own profiles
+-- clash in Unison, and Unison breaks none of its rules.
+pub record ShowsMend (reading : Reading) (as_bundle : Bool) (bytes text : List ℕ)
+    (status : ℕ) : Type 0 where
+  pub pieces : List Piece
+  pub new : BundleContents
+  pub mends : Mends reading bytes pieces new
+  pub safe : Bool
+  pub line : List ℕ
+  pub said : SaysOf safe new (line_count pieces) line
+  pub text_is : text ≡ mend_text as_bundle pieces line
+  pub status_is : status ≡ (if safe then 0 else 1)
+  pub in_unison : reading ≡ read.Unison → safe ≡ true → SpellsSafeInUnison (mended_text pieces)
 
 -- A text was written to an output, whole unless a call of the output failed: then a prefix of it,
 -- and the status is 2.
@@ -400,33 +441,39 @@ pub record Serves (asked : Option Request) (remaining old new : Option (List ℕ
   pub nothing : asked ≡ None → AnswersNothing old new status
   pub answer : (request : Request) → asked ≡ Some request
       → Answers request remaining old new reads write_failed status
-  -- `safe` is written only if the words ask for a check, for what clashes or for a run, and the
-  -- input spells a safe set, as the words want its profiles to be read. If that is for Unison, then
-  -- by the lines that count no two of its own profiles clash in Unison, and Unison breaks none of
-  -- its rules. What follows it is what its jobs did and left of the input's state, or why they
-  -- weren't run,
-  pub safe : (bytes before text : List ℕ) → remaining ≡ Some bytes → old ≡ Some before
+  -- For other words than `mend`, whose lines begin with names of profiles: `safe` is written only if
+  -- the words ask for a check, for what clashes or for a run, and the input spells a safe set, as
+  -- the words want its profiles to be read. If that is for Unison, then by the lines that count no
+  -- two of its own profiles clash in Unison, and Unison breaks none of its rules. What follows it is
+  -- what its jobs did and left of the input's state, or why they weren't run,
+  pub safe : (bytes before text : List ℕ) → asks_mend asked ≡ false
+      → remaining ≡ Some bytes → old ≡ Some before
       → new ≡ Some (before ++ (codes "safe\n" ++ text))
       → SpellsSafe asked bytes text write_failed status
   -- `verified` only if the words ask for `verify`, and the input's certificates show that the set
   -- that it spells is safe,
-  pub verified : (bytes before text : List ℕ) → remaining ≡ Some bytes → old ≡ Some before
+  pub verified : (bytes before text : List ℕ) → asks_mend asked ≡ false
+      → remaining ≡ Some bytes → old ≡ Some before
       → new ≡ Some (before ++ (codes "verified\n" ++ text)) → SpellsVerified asked bytes
   -- `overlap:` and `breach:` only if the input spells a set that isn't safe,
-  pub overlap : (bytes before text : List ℕ) → remaining ≡ Some bytes → old ≡ Some before
+  pub overlap : (bytes before text : List ℕ) → asks_mend asked ≡ false
+      → remaining ≡ Some bytes → old ≡ Some before
       → new ≡ Some (before ++ (codes "overlap: " ++ text)) → SpellsUnsafe asked bytes
-  pub breach : (bytes before text : List ℕ) → remaining ≡ Some bytes → old ≡ Some before
+  pub breach : (bytes before text : List ℕ) → asks_mend asked ≡ false
+      → remaining ≡ Some bytes → old ≡ Some before
       → new ≡ Some (before ++ (codes "breach: " ++ text)) → SpellsUnsafe asked bytes
   -- `rounds` only if the words ask for rounds, and the input spells a set that is cut so; or if
   -- they ask for a run by rounds, and the rounds of the set that it spells were run on its state,
   -- one after another. `graph clashes {` only if they ask for the graph of what clashes in that
   -- set. For words that ask for what clashes, a first line of that kind is the first of all such
   -- lines,
-  pub rounds : (bytes before text : List ℕ) → remaining ≡ Some bytes → old ≡ Some before
+  pub rounds : (bytes before text : List ℕ) → asks_mend asked ≡ false
+      → remaining ≡ Some bytes → old ≡ Some before
       → new ≡ Some (before ++ (codes "rounds " ++ text))
       → SpellsRounds asked bytes (codes "rounds " ++ text) write_failed status
       ⊎ SpellsRoundsRun asked bytes (codes "rounds " ++ text) write_failed status
-  pub graph : (bytes before text : List ℕ) → remaining ≡ Some bytes → old ≡ Some before
+  pub graph : (bytes before text : List ℕ) → asks_mend asked ≡ false
+      → remaining ≡ Some bytes → old ≡ Some before
       → new ≡ Some (before ++ (codes "graph clashes {" ++ text))
       → SpellsGraph asked bytes (codes "graph clashes {" ++ text) write_failed status
   pub clashes : (reading : Reading) (bytes before text : List ℕ)
@@ -438,8 +485,16 @@ pub record Serves (asked : Option Request) (remaining old new : Option (List ℕ
   pub imported : (bytes before text : List ℕ) → asked ≡ Some question.imported
       → remaining ≡ Some bytes → old ≡ Some before → new ≡ Some (before ++ text)
       → status ≡ 0 → ShowsImport bytes text
+  -- what is written for `mend` with a status of 0 or 1 only if it is lines that only take away, with
+  -- which the set is safe or refused so, or the bundle with them,
+  pub mended : (reading : Reading) (as_bundle : Bool) (bytes before text : List ℕ)
+      → asked ≡ Some (question.mended reading as_bundle)
+      → remaining ≡ Some bytes → old ≡ Some before → new ≡ Some (before ++ text)
+      → status ≤ 1 → ShowsMend reading as_bundle bytes text status
   -- and `reached` and `not reached` only if the words ask for `reach` and that is the answer.
-  pub reached : (bytes before text : List ℕ) → remaining ≡ Some bytes → old ≡ Some before
+  pub reached : (bytes before text : List ℕ) → asks_mend asked ≡ false
+      → remaining ≡ Some bytes → old ≡ Some before
       → new ≡ Some (before ++ (codes "reached\n" ++ text)) → SpellsReach asked bytes true
-  pub not_reached : (bytes before text : List ℕ) → remaining ≡ Some bytes → old ≡ Some before
+  pub not_reached : (bytes before text : List ℕ) → asks_mend asked ≡ false
+      → remaining ≡ Some bytes → old ≡ Some before
       → new ≡ Some (before ++ (codes "not reached\n" ++ text)) → SpellsReach asked bytes false

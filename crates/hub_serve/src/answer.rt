@@ -2,13 +2,14 @@
 ghost use Rattle.std.specs.Prelude.{◌≡◌, ◌⊎◌, false, true, IfErr, IfOk, IfSome, None, Some};
 ghost use Rattle.hub_bundle.specs.Bundle as bundle;
 ghost use Rattle.hub_bundle.specs.Sections.{Spells};
-ghost use Rattle.hub_cli.specs.Words.{reading_for, request_of};
+ghost use Rattle.hub_cli.specs.Words.{about, reading_for, request_of};
 ghost use Rattle.hub_report.specs.Report.{says_read_failed, unread_by};
 ghost use Rattle.hub_serve.specs.Reads.{AreSpent, reads_between};
 ghost use Rattle.hub_serve.specs.Report as report;
 ghost use Rattle.hub_serve.specs.Unison.{IsReadAs, SpellsAs, SpellsCounted};
 
 use crate::import::report_on_import;
+use crate::mend::report_on_mend;
 use crate::progress::Progress;
 use crate::reach::report_on_reach;
 use crate::reading::{counted_as, read_as};
@@ -17,7 +18,7 @@ use hub_bundle::{
     BundleContents, BundleFault, BundleLineFault, InputFault, ReadError, read_bundle, read_input,
     read_sections,
 };
-use hub_cli::{Query, Reading};
+use hub_cli::{Query, Question, Reading};
 use hub_report::{FaultyInput, Report};
 use hub_text::Watched;
 use std::alloc::{AllocError, Global};
@@ -51,7 +52,7 @@ pub fn report_on<'a, T: Threads + Wait + Sync, R: Read, P: Progress + Sync>(
     }
 }
 
-/// The answer to what was asked of an input's bytes. They are dropped as soon as they are read, before anything is done.
+/// The answer to what was asked of an input's bytes.
 fn report_on_bytes<'a, T: Threads + Wait + Sync, P: Progress + Sync>(
     rt: &T,
     alloc: Global,
@@ -62,14 +63,46 @@ fn report_on_bytes<'a, T: Threads + Wait + Sync, P: Progress + Sync>(
     ensures holds { report.Holds (request_of asked.entry) bytes.items result }
     ensures read { unread_by result ≡ None }
 {
-    match contents_in(alloc, asked, bytes) {
-        Ok(contents) => report_on_contents(rt, alloc, asked, contents, progress),
+    match asked {
+        Query::About(question) => report_on_question(rt, alloc, question, bytes, progress),
+        Query::Mend { reading, as_bundle } => {
+            report_on_mend(rt, alloc, reading, as_bundle, bytes, progress)
+        }
+        Query::Reach {
+            reading,
+            profile,
+            path,
+        } => match contents_in(alloc, asked, bytes) {
+            Ok(contents) => report_on_reach(alloc, &contents, reading, profile, path),
+            Err(report) => report,
+        },
+        Query::Import => match contents_in(alloc, asked, bytes) {
+            Ok(contents) => report_on_import(alloc, &contents),
+            Err(report) => report,
+        },
+    }
+}
+
+/// The answer to a question about the set of an input's bytes. They are dropped as soon as they are read, before anything is
+/// done.
+fn report_on_question<'a, T: Threads + Wait + Sync, P: Progress + Sync>(
+    rt: &T,
+    alloc: Global,
+    question: Question,
+    bytes: Vec<u8>,
+    progress: &P,
+) -> Report<'a>
+    ensures holds { report.Holds (about question) bytes.items result }
+    ensures read { unread_by result ≡ None }
+{
+    match contents_in(alloc, Query::About(question), bytes) {
+        Ok(contents) => report_on_set(rt, alloc, question, contents, progress),
         Err(report) => report,
     }
 }
 
 /// What a bundle says with its profiles read as it was asked for, or the answer if it can't be read. Its bytes are dropped.
-fn contents_in<'a>(
+pub(crate) fn contents_in<'a>(
     alloc: Global,
     asked: Query<'a>,
     bytes: Vec<u8>,
@@ -130,28 +163,6 @@ fn own_contents<'a>(alloc: Global, bytes: Vec<u8>) -> Result<BundleContents, Rep
         Ok(contents) => Ok(contents),
         Err(ReadError::Faulty(fault)) => { Err(Report::Faulty(FaultyInput::BadSection(fault))) }
         Err(ReadError::OutOfMemory) => Err(Report::OutOfMemory),
-    }
-}
-
-/// The answer to what was asked of what a bundle says, with its profiles read as it was asked for.
-fn report_on_contents<'a, T: Threads + Wait + Sync, P: Progress + Sync>(
-    rt: &T,
-    alloc: Global,
-    asked: Query<'a>,
-    contents: BundleContents,
-    progress: &P,
-) -> Report<'a>
-    ensures told { report.IsTold (request_of asked.entry) contents result }
-    ensures read { unread_by result ≡ None }
-{
-    match asked {
-        Query::About(question) => report_on_set(rt, alloc, question, contents, progress),
-        Query::Reach {
-            reading,
-            profile,
-            path,
-        } => report_on_reach(alloc, &contents, reading, profile, path),
-        Query::Import => report_on_import(alloc, &contents),
     }
 }
 

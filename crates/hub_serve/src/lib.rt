@@ -17,13 +17,15 @@
 //!   profile is asked whether it reaches a path (`reach`).
 //! - Or all that clashes in the set is listed or drawn, or it is cut into rounds (`rounds`). Or a bundle is written of what was read
 //!   for Unison (`import`).
+//! - Or lines are found that make the set safe (`hub_mend`), and the bundle with them is read again and checked (`mend`).
 //! - The jobs of a safe set are run on the bundle's state (`run`), or the rounds of a set are run one after another
 //!   (`by_rounds`).
 //! - The answer is a `Report` of `hub_report`. It is written as one line, as the certificates' text, or as `safe` and below it
 //!   what the jobs did and the state that they left (`program`).
 //!
 //! The contracts use the words of `specs/Report` (which answer is right, and what the program does as a whole), `specs/Reads`
-//! (the reads of the input), `specs/Unison` (what is spelled if the profiles are read for Unison), `specs/Task` (what is to be
+//! (the reads of the input), `specs/Unison` (what is spelled if the profiles are read for Unison), `specs/Mended` (what is spelled with
+//! lines that were found), `specs/Task` (what is to be
 //! done), `specs/Runs` (what is written of a run), `specs/ByRounds` (what a run by rounds does and leaves) and `specs/Rounds`
 //! (what is written of clashes and rounds).
 //!
@@ -45,6 +47,7 @@ mod answer;
 mod by_rounds;
 mod import;
 pub mod laws;
+mod mend;
 mod program;
 mod progress;
 mod reach;

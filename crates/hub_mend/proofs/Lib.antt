@@ -1,0 +1,3 @@
+pub mod TakingAway
+pub mod Cutting
+pub mod Appending

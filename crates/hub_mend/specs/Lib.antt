@@ -1,0 +1,2 @@
+pub mod TakesAway
+pub mod Additions

@@ -1,0 +1,119 @@
+//! Lines that may mend what is unsafe.
+use crate::find::Office;
+use crate::line::{bar_line, ignore_line, partial_line, paths_over, rule_line};
+use crate::subject::Subject;
+use hub_path::{RelPath, Root};
+use hub_profile::Profile;
+use std::alloc::AllocError;
+
+/// A line for the profile of that number.
+#[derive(Drop)]
+pub(crate) struct Proposal {
+    pub(crate) profile: usize,
+    pub(crate) line: String,
+}
+
+/// Lists of lines of which each may mend that, the one that takes away least first.
+pub(crate) fn proposals_for(
+    office: &Office,
+    subject: Subject,
+) -> Result<Vec<Vec<Proposal>>, AllocError> {
+    let mut lists = Vec::new(office.alloc);
+    match subject {
+        Subject::Pair(first, second) => lists.push(for_pair(office, first, second)?)?,
+        Subject::Rule(profile, rule) => push_for_rule(office, &mut lists, profile, rule)?,
+    }
+    Ok(lists)
+}
+
+/// The lines by which each of two profiles leaves out the parts of its folders that the other one has.
+fn for_pair(office: &Office, first: usize, second: usize) -> Result<Vec<Proposal>, AllocError> {
+    let mut lines = Vec::new(office.alloc);
+    let profiles = office.profiles.as_slice();
+    if let (Some(one), Some(other)) = (profiles.get(first), profiles.get(second)) {
+        push_parts(office, &mut lines, first, [one, other])?;
+        push_parts(office, &mut lines, second, [other, one])?;
+    }
+    Ok(lines)
+}
+
+/// The bars by which a profile doesn't break a rule.
+fn push_for_rule(
+    office: &Office,
+    lists: &mut Vec<Vec<Proposal>>,
+    profile: usize,
+    rule: usize,
+) -> Result<(), AllocError> {
+    let alloc = office.alloc;
+    if let Some(rule) = office.rules.as_slice().get(rule) {
+        for line in [rule_line(alloc, rule)?, bar_line(alloc, rule)?] {
+            let mut lines = Vec::new(alloc);
+            lines.push(Proposal { profile, line })?;
+            lists.push(lines)?;
+        }
+    }
+    Ok(())
+}
+
+/// Appends the lines by which the first profile, which has that number, leaves out the parts of its folders that the other has.
+fn push_parts(
+    office: &Office,
+    lines: &mut Vec<Proposal>,
+    number: usize,
+    two: [&Profile; 2],
+) -> Result<(), AllocError> {
+    let [own, other] = two;
+    for part in other.paths() {
+        for top in own.paths() {
+            if top.len() < part.len() && part.starts_with(top) {
+                push_part(office, lines, number, two, top.len(), part)?;
+            }
+        }
+    }
+    Ok(())
+}
+
+/// Appends the lines by which a profile leaves out a part of a folder, whose path has so many names, and doesn't change the
+/// folders between at the roots of both.
+fn push_part(
+    office: &Office,
+    lines: &mut Vec<Proposal>,
+    number: usize,
+    two: [&Profile; 2],
+    least: usize,
+    part: &RelPath,
+) -> Result<(), AllocError> {
+    let [own, other] = two;
+    let line = ignore_line(office.alloc, part.as_str())?;
+    lines.push(Proposal {
+        profile: number,
+        line,
+    })?;
+    for root in own.roots().iter() {
+        if other.has_root(root) {
+            push_bars(office, lines, number, root, least, part)?;
+        }
+    }
+    Ok(())
+}
+
+/// Appends the lines by which a profile doesn't change the folders over a part at a root.
+fn push_bars(
+    office: &Office,
+    lines: &mut Vec<Proposal>,
+    number: usize,
+    root: &Root,
+    least: usize,
+    part: &RelPath,
+) -> Result<(), AllocError> {
+    for path in paths_over(office.alloc, part, least)? {
+        for preference in ["noupdatepartial", "nocreationpartial"] {
+            let line = partial_line(office.alloc, preference, path.as_str(), root)?;
+            lines.push(Proposal {
+                profile: number,
+                line,
+            })?;
+        }
+    }
+    Ok(())
+}

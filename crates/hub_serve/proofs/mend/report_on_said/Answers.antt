@@ -1,0 +1,15 @@
+use Rattle.std.proofs.Common.{◌∙◌, subst}
+use Rattle.hub_cli.specs.Words.{about}
+use Rattle.hub_cli.specs.declared.words.Question.TheVariants as ask
+use Rattle.hub_serve.specs.Report.{IsTold}
+use Rattle.hub_serve.proofs.MendAnswers.{check-refused}
+use Rattle.hub_serve.proofs.mend.report_on_said.Goals as goal
+
+pub returns-in-Verdict-clause-told : goal.returns-in-Verdict-clause-told
+returns-in-Verdict-clause-told c = λ reading bytes new mends told.
+    c.report_on_verdict.ensures.told reading bytes new mends (subst (IsTold (about (ask.Check reading)) new) c.in-Verdict.is told)
+
+pub returns-in-Refused-clause-told : goal.returns-in-Refused-clause-told
+returns-in-Refused-clause-told c = λ reading bytes new mends told.
+    let refused = check-refused reading new _ (subst (IsTold (about (ask.Check reading)) new) c.in-Refused.is told) in
+    c.report_with.ensures.told reading bytes new mends (refused.0, refused.1, c.as_str.ensures.value ∙ refused.2.1)

@@ -6,7 +6,7 @@
 //! - [`only_take_away`] says whether the profiles of that bundle only take away from those of the first one.
 //!
 //! ```rust
-//! let pieces = pieces_with_lines(alloc, bundle.as_bytes(), false).ok()?;
+//! let pieces = pieces_with_lines(alloc, bundle.as_bytes(), for_unison).ok()?;
 //! let lines = shown_lines(alloc, pieces.as_slice()).ok()?;
 //! String::from_utf8(lines).ok()
 //! ```

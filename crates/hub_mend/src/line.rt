@@ -29,10 +29,10 @@ pub(crate) fn rule_line(alloc: Global, rule: &Rule) -> Result<String, AllocError
     format!(in alloc; "{preference}partial = {spec} -> {root}")
 }
 
-/// The line by which it doesn't do so at all at the rule's root.
-pub(crate) fn bar_line(alloc: Global, rule: &Rule) -> Result<String, AllocError> {
-    let preference = preference_of(rule.verb);
-    let root = root_text(alloc, &rule.root)?;
+/// The line by which a profile makes no changes of a kind at a root.
+pub(crate) fn bar_line(alloc: Global, verb: Verb, root: &Root) -> Result<String, AllocError> {
+    let preference = preference_of(verb);
+    let root = root_text(alloc, root)?;
     format!(in alloc; "{preference} = {root}")
 }
 

@@ -3,8 +3,8 @@ use crate::find::Office;
 use crate::line::{bar_line, ignore_line, partial_line, paths_over, rule_line};
 use crate::subject::Subject;
 use hub_path::{RelPath, Root};
-use hub_profile::Profile;
-use std::alloc::AllocError;
+use hub_profile::{Profile, Verb};
+use std::alloc::{AllocError, Global};
 
 /// A line for the profile of that number.
 #[derive(Drop)]
@@ -37,7 +37,8 @@ fn for_pair(office: &Office, first: usize, second: usize) -> Result<Vec<Proposal
     Ok(lines)
 }
 
-/// The bars by which a profile doesn't break a rule.
+/// The bars by which a profile doesn't break a rule. Unison may create something below what it updates, so for it `nocreation` keeps
+/// a rule only beside `noupdate`.
 fn push_for_rule(
     office: &Office,
     lists: &mut Vec<Vec<Proposal>>,
@@ -46,13 +47,36 @@ fn push_for_rule(
 ) -> Result<(), AllocError> {
     let alloc = office.alloc;
     if let Some(rule) = office.rules.as_slice().get(rule) {
-        for line in [rule_line(alloc, rule)?, bar_line(alloc, rule)?] {
-            let mut lines = Vec::new(alloc);
-            lines.push(Proposal { profile, line })?;
-            lists.push(lines)?;
+        let on_pattern = rule_line(alloc, rule)?;
+        lists.push(one_line(alloc, profile, on_pattern)?)?;
+        lists.push(bars_on(alloc, profile, &rule.root, &[rule.verb])?)?;
+        if rule.verb == Verb::Create {
+            lists.push(bars_on(alloc, profile, &rule.root, &[Verb::Create, Verb::Update])?)?;
         }
     }
     Ok(())
+}
+
+/// A list of one line for the profile of that number.
+fn one_line(alloc: Global, profile: usize, line: String) -> Result<Vec<Proposal>, AllocError> {
+    let mut lines = Vec::new(alloc);
+    lines.push(Proposal { profile, line })?;
+    Ok(lines)
+}
+
+/// The lines by which the profile of that number makes no changes of these kinds at a root.
+fn bars_on(
+    alloc: Global,
+    profile: usize,
+    root: &Root,
+    verbs: &[Verb],
+) -> Result<Vec<Proposal>, AllocError> {
+    let mut lines = Vec::new(alloc);
+    for verb in verbs {
+        let line = bar_line(alloc, *verb, root)?;
+        lines.push(Proposal { profile, line })?;
+    }
+    Ok(lines)
 }
 
 /// Appends the lines by which the first profile, which has that number, leaves out the parts of its folders that the other has.

@@ -3,8 +3,8 @@ use crate::{pieces_with_lines, shown_lines};
 use std::alloc::Global;
 
 /// The lines that are found for a bundle, as they are shown.
-fn lines_for(alloc: Global, bundle: &str) -> Option<String> {
-    let pieces = pieces_with_lines(alloc, bundle.as_bytes(), false).ok()?;
+fn lines_for(alloc: Global, bundle: &str, for_unison: bool) -> Option<String> {
+    let pieces = pieces_with_lines(alloc, bundle.as_bytes(), for_unison).ok()?;
     let lines = shown_lines(alloc, pieces.as_slice()).ok()?;
     String::from_utf8(lines).ok()
 }
@@ -30,7 +30,16 @@ fn an_outer_folder_gives_way(rt: HostRuntime) {
             "",
         ),
     ] {
-        let found = lines_for(rt.alloc(), bundle).expect(&rt, "lines");
+        let found = lines_for(rt.alloc(), bundle, false).expect(&rt, "lines");
         assert_eq!(rt; found.as_str(), lines, "{bundle}");
     }
+}
+
+#[test]
+fn unison_creates_below_what_it_updates(rt: HostRuntime) {
+    let bundle = "%profile a\nroot = /h\nroot = /a\n%rules\nroot = /h\nnonew = Path d\n";
+    let plain = lines_for(rt.alloc(), bundle, false).expect(&rt, "lines");
+    assert_eq!(rt; plain.as_str(), "a: nocreationpartial = Path d -> /h\n");
+    let cautious = lines_for(rt.alloc(), bundle, true).expect(&rt, "lines");
+    assert_eq!(rt; cautious.as_str(), "a: nocreation = /h\na: noupdate = /h\n");
 }

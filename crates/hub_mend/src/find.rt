@@ -3,12 +3,13 @@ use crate::cut::{cut_at_headings, is_profile, is_rules};
 use crate::needless::drop_needless;
 use crate::piece::Piece;
 use crate::proposals::{Proposal, proposals_for};
-use crate::set::{own_in, set_in};
+use crate::set::{own_in, read_in, set_in};
+use crate::shown::is_shown;
 use crate::subject::Subject;
 use crate::text::push_piece;
 use hub_cert::{CheckFault, ProfileSet};
 use hub_profile::{Profile, Rules};
-use hub_search::faults;
+use hub_search::{check, faults};
 use hub_text::Items;
 use std::alloc::{AllocError, Global};
 
@@ -96,18 +97,30 @@ impl Office {
     /// Returns whether that isn't unsafe any more, with the lines that there are.
     pub(crate) fn is_mended(&self, pieces: &[Piece], subject: Subject) -> Result<bool, AllocError> {
         let text = self.text_of(pieces, subject)?;
-        match set_in(self.alloc, text.as_slice(), self.for_unison)? {
-            Some(set) => Ok(!self.is_unsafe(&set, subject)?),
-            None => Ok(false),
+        let Some((profiles, rules)) = read_in(self.alloc, text.as_slice(), self.for_unison)? else {
+            return Ok(false);
+        };
+        if is_shown(profiles.as_slice())? {
+            return Ok(false);
+        }
+        match ProfileSet::new(self.alloc, profiles, rules) {
+            Ok(set) => Ok(!self.is_unsafe(&set, subject)?),
+            Err(_) => Ok(false),
         }
     }
 
-    /// Returns whether that is unsafe in the set of the profiles that it is about.
+    /// Returns whether that is unsafe in the set of the profiles that it is about. The first fault mostly says so.
     fn is_unsafe(&self, set: &ProfileSet, subject: Subject) -> Result<bool, AllocError> {
         let own = match subject {
             Subject::Pair(_, _) => Subject::Pair(0, 1),
             Subject::Rule(_, rule) => Subject::Rule(0, rule),
         };
+        match check(self.alloc, set) {
+            Ok(_) => return Ok(false),
+            Err(CheckFault::OutOfMemory) => return Err(AllocError),
+            Err(fault) if Subject::of_fault(&fault) == Some(own) => return Ok(true),
+            Err(_) => {}
+        }
         let faults = faults(self.alloc, set)?;
         for fault in faults.as_slice() {
             if Subject::of_fault(fault) == Some(own) {

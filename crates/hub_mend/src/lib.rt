@@ -41,6 +41,7 @@ mod needless;
 mod piece;
 mod proposals;
 mod set;
+mod shown;
 mod subject;
 mod takes_away;
 #[cfg(test)]

@@ -13,15 +13,26 @@ pub(crate) fn set_in(
     text: &[u8],
     for_unison: bool,
 ) -> Result<Option<ProfileSet>, AllocError> {
+    match read_in(alloc, text, for_unison)? {
+        Some((profiles, rules)) => Ok(ProfileSet::new(alloc, profiles, rules).ok()),
+        None => Ok(None),
+    }
+}
+
+/// The profiles of a bundle as they are read, and its rules, if it has some.
+pub(crate) fn read_in(
+    alloc: Global,
+    text: &[u8],
+    for_unison: bool,
+) -> Result<Option<(Items<Profile>, Rules)>, AllocError> {
     let Some((profiles, rules)) = own_in(alloc, text, for_unison)? else {
         return Ok(None);
     };
-    let profiles = if for_unison {
-        read_set(alloc, profiles, &rules)?
-    } else {
-        profiles
-    };
-    Ok(ProfileSet::new(alloc, profiles, rules).ok())
+    if for_unison {
+        let profiles = read_set(alloc, profiles, &rules)?;
+        return Ok(Some((profiles, rules)));
+    }
+    Ok(Some((profiles, rules)))
 }
 
 /// The profiles and the rules that the lines of a bundle say that count, if they say some.

@@ -2,12 +2,14 @@
 
 use crate::asked::{say_asked_path, say_not_reached, say_profiles, say_run_fault};
 use crate::bundle::say_bundle_fault;
-use crate::refusal::{named_profiles, say_breach, say_overlap, say_refused};
+use crate::clash::{Answers, Mending, mending_in, say_plain_answer};
+use crate::mend::{has_plain_lines, told_line};
+use crate::refusal::{say_breach, say_overlap, say_refused};
 use crate::setting::say_setting_fault;
 use crate::text::{say_certificates_fault, say_state_fault};
-use crate::unison::{Listing, is_for_unison, is_of_reading, say_more, say_yes};
+use crate::unison::{Listing, is_for_unison, say_more, say_yes};
 use crate::words::say_words;
-use hub_notes::{notes, wider_notes};
+use hub_notes::notes;
 use hub_source::{Said, Source, SourceFile, place_in, place_in_profile, say};
 use hub_text::Lines;
 use std::alloc::{AllocError, Global};
@@ -15,7 +17,12 @@ use std::alloc::{AllocError, Global};
 /// How the second line begins if no jobs were run.
 const RUN_FAULT: &str = "run fault: ";
 
-/// How the answers of `certify`, `rounds`, `clashes --dot` and `mend` of a safe set begin.
+/// Said of lines that make a set safe by hubsync's own reading.
+const PLAIN_LINES: &str = "\
+hubsync: note: Unison may read these lines otherwise: those of mend --unison hold for it, too
+";
+
+/// How the answers of `certify`, `rounds` and `clashes --dot` begin, and the last line of `mend` for a set that is safe.
 const YES_STARTS: [&str; 4] = [
     "hubsync certificates ",
     "rounds ",
@@ -39,85 +46,87 @@ pub struct Remarks {
     pub text: String,
     /// Whether a note among them says that a yes may mislead.
     pub may_mislead: bool,
-    /// Whether the answer is an overlap or a breach that may come of the reading for Unison alone.
-    pub is_of_reading: bool,
 }
 
 /// What is to be said about an answer.
 ///
 /// The words are those of the command line, the program's name first. If the sections of the input were made of files, these
 /// are the files in the order of the sections. The text is free: no clause says what it is. If the input goes on behind these
-/// bytes, only faults get remarks, and a yes gets a note that it may mislead.
+/// bytes, only faults get remarks, and a yes gets a note that it may mislead. The answers are those to what `what_to_ask` gives.
 pub fn remark(
     alloc: Global,
     words: &[String],
     files: &[SourceFile<'_>],
     input: Front<'_>,
     output: Front<'_>,
+    answers: Answers<'_>,
 ) -> Result<Remarks, AllocError> {
-    let mut remarks = Remarks {
-        text: String::new(alloc),
-        may_mislead: false,
-        is_of_reading: false,
-    };
+    let mut text = String::new(alloc);
     let mut lines = Lines::new(output.bytes);
     let first = next_text(&mut lines);
     if first.is_empty() {
-        say_words(&mut remarks.text, alloc, words)?;
-        return Ok(remarks);
+        say_words(&mut text, alloc, words)?;
+        return Ok(said(text));
     }
     let second = next_text(&mut lines);
+    let told = told_line(words, output, first);
     let source = Source::read(alloc, input.bytes, input.is_whole, files)?;
-    if is_yes(first) && !second.starts_with(RUN_FAULT) {
-        return remarks_on_yes(&source, input.bytes, words);
+    let is_plain = has_plain_lines(words, input, output, first);
+    if is_yes(told) && !second.starts_with(RUN_FAULT) {
+        return remarks_on_yes(&source, input.bytes, words, is_plain);
     }
-    say_answer(&mut remarks.text, &source, words, first, second)?;
+    if is_plain {
+        text.push_str(PLAIN_LINES)?;
+    }
+    let mending = mending_in(words, answers.mend);
+    say_answer(&mut text, &source, words, told, second, mending)?;
     if is_for_unison(words) {
-        remarks.is_of_reading = input.is_whole && is_of_reading(first);
-        let listing = Listing::asked_for(words);
-        say_more(&mut remarks.text, &source, input.bytes, first, listing)?;
+        say_more(
+            &mut text,
+            &source,
+            input.bytes,
+            first,
+            Listing::asked_for(words),
+        )?;
+        say_plain_answer(&mut text, &source, first, answers.check)?;
     }
-    Ok(remarks)
+    Ok(said(text))
 }
 
-/// What is to be said about an overlap or a breach that comes of the reading for Unison alone: the lines of the profiles that it
-/// names by which this reading is wider than hubsync's own. They are lines that begin with `hubsync: `, or nothing.
-pub fn wider_lines(
-    alloc: Global,
-    files: &[SourceFile<'_>],
-    input: Front<'_>,
-    answer: &str,
-) -> Result<String, AllocError> {
-    let source = Source::read(alloc, input.bytes, input.is_whole, files)?;
-    let named = named_profiles(&source, answer)?;
-    wider_notes(&source, named.as_slice())
+/// These remarks, without a note.
+fn said(text: String) -> Remarks {
+    Remarks {
+        text,
+        may_mislead: false,
+    }
 }
 
-/// What is said about a yes. Where the profiles are read for Unison, that is also what is assumed, and which lines don't count.
+/// What is said about a yes, which may be plain lines that make a set safe. Where the profiles are read for Unison, that is also what is
+/// assumed, and which lines don't count.
 fn remarks_on_yes(
     source: &Source<'_>,
     input: &[u8],
     words: &[String],
+    is_plain: bool,
 ) -> Result<Remarks, AllocError> {
     let is_for_unison = is_for_unison(words);
     let mut text = notes(source, is_for_unison)?;
+    if is_plain {
+        text.push_str(PLAIN_LINES)?;
+    }
     let may_mislead = !text.is_empty();
     if is_for_unison {
         say_yes(&mut text, source, input, Listing::asked_for(words))?;
     }
-    Ok(Remarks {
-        text,
-        may_mislead,
-        is_of_reading: false,
-    })
+    Ok(Remarks { text, may_mislead })
 }
 
-/// Returns whether an answer that begins with this line says that profiles may run at the same time or in rounds, or is a bundle.
-fn is_yes(first: &str) -> bool {
-    first == "safe"
-        || first == "verified"
-        || first.starts_with('%')
-        || YES_STARTS.iter().any(|start| first.starts_with(*start))
+/// Returns whether an answer of which this line tells says that profiles may run at the same time or in rounds, or is a bundle.
+fn is_yes(told: &str) -> bool {
+    told == "safe"
+        || told == "verified"
+        || told.starts_with('%')
+        || YES_STARTS.iter().any(|start| told.starts_with(*start))
 }
 
 /// The text of the next line. It is empty if there is none.
@@ -128,15 +137,16 @@ fn next_text<'a>(lines: &mut Lines<'a>) -> &'a str {
     }
 }
 
-/// Says what belongs to an answer of these first two lines.
+/// Says what belongs to an answer of which this line tells, by its second line and what is known of lines that mend it.
 fn say_answer(
     out: &mut String,
     source: &Source<'_>,
     words: &[String],
-    first: &str,
+    told: &str,
     second: &str,
+    mending: Mending<'_>,
 ) -> Said {
-    let (kind, text) = first.split_once(": ").unwrap_or((first, ""));
+    let (kind, text) = told.split_once(": ").unwrap_or((told, ""));
     if kind == "fault" {
         return say_fault(out, source, words, text);
     }
@@ -144,8 +154,8 @@ fn say_answer(
         return Ok(());
     }
     match kind {
-        "overlap" => say_overlap(out, source, text),
-        "breach" => say_breach(out, source, text),
+        "overlap" => say_overlap(out, source, text, mending),
+        "breach" => say_breach(out, source, text, mending),
         "refused" => say_refused(out, source, text),
         "too large" => say(out, "nothing is known: fewer * in patterns would help"),
         "not reached" => say_not_reached(out, source, words),

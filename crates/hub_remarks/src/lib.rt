@@ -3,9 +3,7 @@
 //! [`remark`] says, for the first bytes of an input and of the answer to it, what belongs on standard error.
 //!
 //! ```rust
-//! if let Ok(remarks) = remark(rt.alloc(), words, files, input.front(), output.front()) {
-//!     let text = remarks.text.as_str();
-//!     let _ = eprint!(rt; "{text}");
+//! let remarks = remark(rt.alloc(), words, files, input, output, answers)?;
 //! ```
 //!
 //! From `hubsync/src/served.rt`.
@@ -17,7 +15,8 @@
 //! - Faults: `bundle` of the headings, `setting`, `value` and `pattern` of profiles and rules, `text` of states and certificates.
 //! - Refusals and the lines that make them so: `refusal`. What `reach`, `run` and the command line were asked: `asked`; the
 //!   line that ignores a path: `ignored`. Words that ask for nothing: `words`.
-//! - A yes that may mislead: the crate `hub_notes`. An answer for Unison: `unison`, `limit`.
+//! - A yes that may mislead: the crate `hub_notes`. An answer for Unison: `unison`, `limit`. Lines that make a set safe: `mend`.
+//! - What hubsync is asked about an overlap or a breach ([`what_to_ask`]), and its [`Answers`]: `clash`.
 //!
 //! The text is free, and is only tested (`examples/remarks.txt`). What is proved is that each function is safe and ends.
 //!
@@ -27,8 +26,10 @@
 mod answer;
 mod asked;
 mod bundle;
+mod clash;
 mod ignored;
 mod limit;
+mod mend;
 mod nested;
 mod pattern;
 mod refusal;
@@ -39,4 +40,5 @@ mod unison;
 mod value;
 mod words;
 
-pub use answer::{Front, Remarks, remark, wider_lines};
+pub use answer::{Front, Remarks, remark};
+pub use clash::{Answers, Questions, what_to_ask};

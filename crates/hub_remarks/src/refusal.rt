@@ -1,12 +1,18 @@
 //! Remarks on sets that are refused: the lines that make it so.
 
+use crate::clash::{Mending, say_lines};
 use crate::nested::say_other_nested;
 use hub_notes::{has_no_path, is_rule, is_same_root, line_above};
 use hub_source::{Said, Source, SourceLine, name_of, say, say_placed};
 use std::alloc::AllocError;
 
-/// Says which lines make two profiles overlap: `WRITER writes PATH at PLACE, OTHER reaches PATH`.
-pub(crate) fn say_overlap(out: &mut String, source: &Source<'_>, text: &str) -> Said {
+/// Says which lines make two profiles overlap, and what to do: `WRITER writes PATH at PLACE, OTHER reaches PATH`.
+pub(crate) fn say_overlap(
+    out: &mut String,
+    source: &Source<'_>,
+    text: &str,
+    mending: Mending<'_>,
+) -> Said {
     let Some((before, path)) = text.rsplit_once(" reaches ") else {
         return Ok(());
     };
@@ -15,10 +21,23 @@ pub(crate) fn say_overlap(out: &mut String, source: &Source<'_>, text: &str) -> 
             say_kept(out, source, line.section, path)?;
         }
     }
-    say(
-        out,
-        "run one after the other, or give one other paths, an ignore or a bar",
-    )
+    match mending {
+        Mending::Lines(lines) => {
+            say(
+                out,
+                "run one after the other, or add these lines, which hold for Unison too:",
+            )?;
+            say_lines(out, source, lines)
+        }
+        Mending::NotFound => say(
+            out,
+            "run one after the other, as rounds does, or give one other paths",
+        ),
+        Mending::Unknown => say(
+            out,
+            "run one after the other, or give one other paths, an ignore or a bar",
+        ),
+    }
 }
 
 /// The headings of the profiles that an answer names: `overlap: WRITER writes PATH at PLACE, OTHER reaches PATH`, or
@@ -80,29 +99,58 @@ pub(crate) fn say_kept(out: &mut String, source: &Source<'_>, section: usize, pa
     }
 }
 
-/// Says which rule a profile may break: `PROFILE may VERB PATH at ROOT, rule NUMBER`.
-pub(crate) fn say_breach(out: &mut String, source: &Source<'_>, text: &str) -> Said {
+/// Says which rule a profile may break, and what to do: `PROFILE may VERB PATH at ROOT, rule NUMBER`.
+pub(crate) fn say_breach(
+    out: &mut String,
+    source: &Source<'_>,
+    text: &str,
+    mending: Mending<'_>,
+) -> Said {
     let Some((before, number)) = text.rsplit_once(", rule ") else {
         return Ok(());
     };
     say_rule(out, source, number)?;
     match before.rsplit_once(" at ") {
-        Some((change, root)) => say_change(out, source, change, root),
+        Some((change, root)) => say_change(out, source, change, root, mending),
         None => Ok(()),
     }
 }
 
-/// Says which lines lead to a change at a root, and which bar forbids it: `PROFILE may VERB PATH`.
-fn say_change(out: &mut String, source: &Source<'_>, change: &str, root: &str) -> Said {
+/// Says which lines lead to a change at a root, and which ones forbid it: `PROFILE may VERB PATH`.
+fn say_change(
+    out: &mut String,
+    source: &Source<'_>,
+    change: &str,
+    root: &str,
+    mending: Mending<'_>,
+) -> Said {
     for line in source.lines() {
         if let Some(name) = line.profile() {
             if let Some((verb, path)) = verb_and_path(name, change) {
                 say_kept(out, source, line.section, path)?;
-                return say_bar(out, verb, root);
+                return say_keeping(out, source, verb, root, mending);
             }
         }
     }
     Ok(())
+}
+
+/// Says which lines would keep a rule.
+fn say_keeping(
+    out: &mut String,
+    source: &Source<'_>,
+    verb: &str,
+    root: &str,
+    mending: Mending<'_>,
+) -> Said {
+    match mending {
+        Mending::Lines(lines) => {
+            say(out, "these lines would keep the rule, for Unison too:")?;
+            say_lines(out, source, lines)
+        }
+        Mending::NotFound => Ok(()),
+        Mending::Unknown => say_bar(out, verb, root),
+    }
 }
 
 /// Says which line is the rule of that number.
@@ -134,6 +182,30 @@ fn say_bar(out: &mut String, verb: &str, root: &str) -> Said {
         out,
         "hubsync: a line {bar} = {root} in the profile would keep the rule"
     )
+}
+
+/// The rule that a breach names, and the line of its root.
+pub(crate) fn broken_rule<'a>(
+    source: &Source<'a>,
+    told: &str,
+) -> Option<(SourceLine<'a>, SourceLine<'a>)> {
+    let (_, number) = told.strip_prefix("breach: ")?.rsplit_once(", rule ")?;
+    let rule = match number.parse::<usize>() {
+        Ok(number) => rule_line(source, number)?,
+        Err(_) => return None,
+    };
+    Some((root_above(source, rule)?, rule))
+}
+
+/// The last line of a root above a rule.
+fn root_above<'a>(source: &Source<'a>, rule: SourceLine<'a>) -> Option<SourceLine<'a>> {
+    let mut root = None;
+    for line in source.section_lines(rule.section) {
+        if line.at < rule.at && line.value_of("root").is_some() {
+            root = Some(*line);
+        }
+    }
+    root
 }
 
 /// The line of the rule of that number, from 0 on.

@@ -1,5 +1,6 @@
 //! Remarks on answers about what Unison may do by the profiles.
 
+use crate::clash::is_clash;
 use crate::limit::cut_lines;
 use crate::setting::{fault_line, say_fault_on};
 use hub_glob::PATTERN_CHARACTERS;
@@ -58,7 +59,7 @@ fn is_import(words: &[String]) -> bool {
 }
 
 /// Returns whether this is one of the words.
-fn has_word(words: &[String], asked: &str) -> bool {
+pub(crate) fn has_word(words: &[String], asked: &str) -> bool {
     words.iter().any(|word| word.as_str() == asked)
 }
 
@@ -80,11 +81,6 @@ fn say_uncounted(out: &mut String, source: &Source<'_>, input: &[u8], listing: L
     say_cut(out, source, input, listing)
 }
 
-/// Returns whether an answer may come of the wider reading alone: an overlap, or a breach.
-pub(crate) fn is_of_reading(first: &str) -> bool {
-    first.starts_with("overlap: ") || first.starts_with("breach: ")
-}
-
 /// Says what more belongs to another answer for Unison, by its first line. An overlap or a breach may come of the wider reading
 /// alone. Of a fault of a profile, that is what to do about all other lines that are refused. Both get which lines don't count.
 pub(crate) fn say_more(
@@ -94,7 +90,7 @@ pub(crate) fn say_more(
     first: &str,
     listing: Listing,
 ) -> Said {
-    if is_of_reading(first) {
+    if is_clash(first) {
         out.push_str(
             "hubsync: more counts with --unison than may happen: compare the answer without it\n",
         )?;

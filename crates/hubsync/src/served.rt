@@ -6,10 +6,10 @@ ghost use Rattle.hub_serve.specs.Report.{Serves};
 
 use crate::kept::{Kept, Passed};
 use crate::terminal::Terminal;
-use hub_remarks::{Front, remark, wider_lines};
+use hub_remarks::{Answers, Front, Remarks, remark, what_to_ask};
 use hub_serve::{NoProgress, serve};
 use hub_source::SourceFile;
-use hub_text::{Lines, Watched};
+use hub_text::Watched;
 use std::alloc::{AllocError, Global};
 use std::cell::RefCell;
 use std::io;
@@ -118,60 +118,58 @@ fn say_remarks<T: AllocGlobal + Clock + Eprint + Threads + Wait + Sync>(
     if let Some(error) = input.error() {
         let _ = eprintln!(rt; "hubsync: standard input can't be read: {error}");
     }
-    if let Ok(remarks) = remark(rt.alloc(), words, files, input.front(), output.front()) {
-        let text = remarks.text.as_str();
-        let _ = eprint!(rt; "{text}");
-        if remarks.is_of_reading {
-            say_plain_answer(rt, files, input.front(), output.front());
+    match remarks_on(rt, words, files, input.front(), output.front()) {
+        Ok(remarks) => {
+            let text = remarks.text.as_str();
+            let _ = eprint!(rt; "{text}");
+            remarks.may_mislead
         }
-        return remarks.may_mislead;
+        Err(AllocError) => true,
     }
-    true
 }
 
-/// Says what the first line of `check` would be by hubsync's own reading, for an overlap or a breach by the reading for Unison. If
-/// that is `safe`, it says which lines make this reading wider. Nothing is said if that can't be found out.
-fn say_plain_answer<T: AllocGlobal + Clock + Eprint + Threads + Wait + Sync>(
+/// What is to be said about an answer, once hubsync has answered what has to be known for that.
+fn remarks_on<T: AllocGlobal + Clock + Eprint + Threads + Wait + Sync>(
     rt: &T,
+    words: &[String],
     files: &[SourceFile<'_>],
     input: Front<'_>,
     output: Front<'_>,
-) {
-    let Ok(answer) = plain_answer(rt, input) else {
-        return;
+) -> Result<Remarks, AllocError> {
+    let alloc = rt.alloc();
+    let asked = what_to_ask(alloc, words, files, input, output)?;
+    let mut mend = Vec::new(alloc);
+    let mut check = Vec::new(alloc);
+    if !asked.mend.is_empty() {
+        mend = answer_to(rt, &["mend", "--unison"], asked.mend.as_slice())?;
+    }
+    if asked.check {
+        check = answer_to(rt, &["check"], input.bytes)?;
+    }
+    let answers = Answers {
+        mend: mend.as_slice(),
+        check: check.as_slice(),
     };
-    let plain = first_text(answer.as_slice());
-    let _ = eprintln!(rt; "hubsync: without --unison: {plain}");
-    if plain != "safe" {
-        return;
-    }
-    if let Ok(lines) = wider_lines(rt.alloc(), files, input, first_text(output.bytes)) {
-        let text = lines.as_str();
-        let _ = eprint!(rt; "{text}");
-    }
+    let remarks = remark(rt.alloc(), words, files, input, output, answers)?;
+    Ok(remarks)
 }
 
-/// What `check` answers by hubsync's own reading.
-fn plain_answer<T: AllocGlobal + Clock + Eprint + Threads + Wait + Sync>(
+/// What hubsync writes for these words, which don't begin with its name, and this input.
+fn answer_to<T: AllocGlobal + Clock + Eprint + Threads + Wait + Sync>(
     rt: &T,
-    input: Front<'_>,
+    words: &[&str],
+    input: &[u8],
 ) -> Result<Vec<u8>, AllocError> {
     let alloc = rt.alloc();
-    let mut words = Vec::new(alloc);
-    words.push(String::from_str(alloc, "hubsync")?)?;
-    words.push(String::from_str(alloc, "check")?)?;
-    let mut input = Watched::new(input.bytes);
-    let mut output = Watched::new(Vec::new(alloc));
-    serve(rt, words.as_slice(), &mut input, &mut output, &NoProgress);
-    Ok(output.into_inner())
-}
-
-/// The text of the first line, or nothing if it is no text.
-fn first_text(bytes: &[u8]) -> &str {
-    match Lines::new(bytes).next() {
-        Some(line) => str::from_utf8(line.text).unwrap_or(""),
-        None => "",
+    let mut all = Vec::new(alloc);
+    all.push(String::from_str(alloc, "hubsync")?)?;
+    for word in words {
+        all.push(String::from_str(alloc, *word)?)?;
     }
+    let mut input = Watched::new(input);
+    let mut output = Watched::new(Vec::new(alloc));
+    serve(rt, all.as_slice(), &mut input, &mut output, &NoProgress);
+    Ok(output.into_inner())
 }
 
 /// Says that the answer isn't whole.

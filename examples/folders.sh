@@ -21,7 +21,7 @@ assumed='hubsync: for Unison 2.52 with -batch and no preference on its command l
 hubsync: no symbolic link is followed, each folder and host has one name, names differ as their bytes do,
 hubsync: and the folders above path lines exist'
 wider='hubsync: more counts with --unison than may happen: compare the answer without it'
-apart='hubsync: run one after the other, or give one other paths, an ignore or a bar'
+lines='hubsync: run one after the other, or add these lines, which hold for Unison too:'
 
 complain() {
     echo "folders: $*"
@@ -152,7 +152,10 @@ LINES
 overlap: docs writes docs at /srv/hub, z reaches docs/old
 hubsync: docs, line 5 (parts/docs.prf line 2): path = docs
 hubsync: z, line 3 (parts/z.prf line 3): path = docs/old
-$apart
+$lines
+hubsync: docs: ignore = Path docs/old
+hubsync: docs: noupdatepartial = Path docs -> /srv/hub
+hubsync: docs: nocreationpartial = Path docs -> /srv/hub
 $wider
 hubsync: without --unison: overlap: docs writes docs at /srv/hub, z reaches docs/old
 hubsync: note: parts/base.prf is no profile here, since parts/docs.prf includes it: name both files to ask about both
@@ -167,7 +170,8 @@ overlap: photos writes photos at /srv/desk, base reaches photos
 overlap: photos writes photos at archive of /srv/hub and /srv/desk, base reaches photos
 hubsync: base has no line path, so it has all of its roots
 hubsync: photos, line 1 (parts/photos.prf line 1): path = photos
-$apart
+$lines
+hubsync: base: ignore = Path photos
 $wider
 hubsync: without --unison: overlap: base writes photos at /srv/hub, photos reaches photos
 LINES
@@ -314,7 +318,8 @@ LINES
 overlap: other writes b/c at /srv/hub, my docs reaches b/c
 hubsync: my docs, line 7 (texts/my docs.prf line 5): path = b
 hubsync: other, line 3 (texts/other.prf line 3): path = b/c
-$apart
+$lines
+hubsync: my docs: ignore = Path b/c
 $wider
 hubsync: without --unison: overlap: other writes b/c at /srv/hub, my docs reaches b/c
 LINES
@@ -490,7 +495,8 @@ LINES
 breach: photos may delete photos at /srv/hub, rule 0
 hubsync: %rules, line 2 (operands/rules line 2): nolose = BelowPath photos
 hubsync: photos, line 3 (operands/one/photos.prf line 3): path = photos
-hubsync: a line nodeletion = /srv/hub in the profile would keep the rule
+hubsync: these lines would keep the rule, for Unison too:
+hubsync: photos: nodeletion = /srv/hub
 $wider
 hubsync: without --unison: breach: photos may delete photos at /srv/hub, rule 0
 LINES

@@ -24,7 +24,8 @@
 # - Between a status and the next title there may be blank lines, and remarks that begin with `#`.
 #
 # Each question is asked once more with a standard error that is full: the output and the status are the same. Each line that is
-# proposed is tried: with it in the place of the faulty line, or at the end of its profile, the same isn't said again. At last it asks
+# proposed is tried: with it in the place of the faulty line, or at the end of its profile, the same isn't said again. So are lines
+# that are proposed together for profiles. At last it asks
 # what no table can say: inputs that are long, with too many lines, or that fail, and the commands that are proposed. A line is printed for each wrong answer. The status is 1
 # if there was one, else 0.
 set -euo pipefail
@@ -97,7 +98,36 @@ ask_case() {
     printf '%b' "$5" >"$room/wanted"
     ask "$1: $3" "$2" "${words[@]}"
     cp "$room/errors" "$room/remarks"
+    if grep -q ' these lines.*:$' "$room/remarks"; then
+        try_lines "$1: $3" "${words[@]:1}"
+    fi
     try_remedies "$1: $3" "${words[@]:1}"
+}
+
+# Asks about the input with the lines that are proposed for its profiles at their ends. It isn't answered the same.
+#
+#     try_lines PLACE WORD..
+try_lines() {
+    local answer
+    answer=$(head -n 1 "$room/output")
+    asked=$((asked + 1))
+    perl -e '
+        my (%lines, $is_on, $name);
+        sub add { print @{ $lines{$name} // [] } if defined $name }
+        open my $remarks, "<", shift or die;
+        while (<$remarks>) {
+            push @{ $lines{$1} }, $2 if $is_on && /^hubsync: (.*?): ((?:ignore|no[a-z]+) = .*\n)/;
+            $is_on ||= / these lines.*:$/;
+        }
+        while (<>) {
+            s/\n?\z/\n/;
+            if (/^%/) { add; ($name) = /^%profile (.*)/ }
+            print;
+        }
+        add' "$room/remarks" "$room/input" >"$room/tried"
+    if "$program" "${@:2}" <"$room/tried" 2>/dev/null | grep -qxF -- "$answer"; then
+        complain "$1: with the lines that are proposed it says again: $answer"
+    fi
 }
 
 # Tries each line that the file `remarks` proposes for a line of the file `input`.
@@ -243,12 +273,16 @@ ask_files() {
     printf '%s\n' 'overlap: whole writes docs at /srv/hub, part reaches docs/2026' \
         "hubsync: whole, line 3 ($at/whole.prf line 3): path = docs" \
         "hubsync: part, line 4 ($at/part.prf line 4): path = docs/2026" \
-        'hubsync: run one after the other, or give one other paths, an ignore or a bar' >"$room/wanted"
+        'hubsync: run one after the other, or add these lines, which hold for Unison too:' \
+        'hubsync: whole: ignore = Path docs/2026' \
+        'hubsync: whole: noupdatepartial = Path docs -> /srv/hub' \
+        'hubsync: whole: nocreationpartial = Path docs -> /srv/hub' >"$room/wanted"
     ask 'files that overlap' 1 hubsync check "$at/whole.prf" "$at/part.prf"
     printf '%s\n' 'breach: whole may delete docs at /srv/hub, rule 0' \
         "hubsync: %rules, line 2 ($at/rules line 2): nolose = BelowPath docs" \
         "hubsync: whole, line 3 ($at/whole.prf line 3): path = docs" \
-        'hubsync: a line nodeletion = /srv/hub in the profile would keep the rule' >"$room/wanted"
+        'hubsync: these lines would keep the rule, for Unison too:' \
+        'hubsync: whole: nodeletion = /srv/hub' >"$room/wanted"
     ask 'the file of rules' 1 hubsync check --rules "$at/rules" "$at/whole.prf"
     printf '%s\n' 'fault: profile part line 2: UnknownPreference ignroe' "hubsync: $at/sub/part.prf line 2: ignroe = Name x" \
         'hubsync: did you mean ignore?' >"$room/wanted"

@@ -213,7 +213,8 @@ try_rules() {
 breach: lists may update lists at $PWD/hub, rule 0
 rules:4: nochange = BelowPath lists
 prf/lists.prf:3: path = lists
-a line noupdate = $PWD/hub in the profile would keep the rule
+these lines would keep the rule, for Unison too:
+lists: noupdate = $PWD/hub
 more counts with --unison than may happen: compare the answer without it
 without --unison: breach: lists may update lists at $PWD/hub, rule 0
 LINES

@@ -31,6 +31,14 @@ def star(count, paths, rules=0, ignores=('Name *.{tmp,bak}', 'Name {*~,.#*}')):
     return lines
 
 
+def parts(count, ignores=('Name *.{tmp,bak}', 'Name {*~,.#*}')):
+    """Profiles over one hub of which the first one has a folder, and each other one a part of it."""
+    lines = profile(0, ['path = shared', *[f'ignore = {i}' for i in ignores]])
+    for number in range(1, count):
+        lines += profile(number, [f'path = shared/team{number:03}', *[f'ignore = {i}' for i in ignores]])
+    return lines
+
+
 def marks(count, patterns):
     """Profiles that keep other folders each, and whose patterns make many stages."""
     return sum((profile(k, [f'path = team{k:03}', *[f'ignore = {p}' for p in patterns]]) for k in range(count)), [])
@@ -85,6 +93,8 @@ def bundles():
     yield 'marks', ['check'], marks(4, ['Name *a??????'])
     yield 'characters', ['check'], marks(32, [f'Name [{characters[:180]}]x', f'Name [{characters[180:]}]x'])
     yield 'large', ['check', 'clashes', 'rounds'], star(128, 1)
+    yield 'part', ['clashes', 'mend'], star(32, 8) + profile(99, ['path = team000'])
+    yield 'parts', ['clashes', 'mend'], parts(32)
     yield 'undecided', ['rounds'], whole(12, '?' * 17)
     yield 'parted', ['check'], parted(2, '?' * 13)
     yield 'same', ['run'], run(entries(32600, zero), entries(32600, zero), entries(32600, digest))

@@ -39,6 +39,12 @@ def parts(count, ignores=('Name *.{tmp,bak}', 'Name {*~,.#*}')):
     return lines
 
 
+def nested(count, ignores=('Name *.{tmp,bak}', 'Name {*~,.#*}')):
+    """Profiles over one hub, each of which has a folder of the one before it."""
+    return sum((profile(k, ['path = ' + '/'.join(f'level{j}' for j in range(k + 1)), *[f'ignore = {i}' for i in ignores]])
+                for k in range(count)), [])
+
+
 def marks(count, patterns):
     """Profiles that keep other folders each, and whose patterns make many stages."""
     return sum((profile(k, [f'path = team{k:03}', *[f'ignore = {p}' for p in patterns]]) for k in range(count)), [])
@@ -95,6 +101,7 @@ def bundles():
     yield 'large', ['check', 'clashes', 'rounds'], star(128, 1)
     yield 'part', ['clashes', 'mend'], star(32, 8) + profile(99, ['path = team000'])
     yield 'parts', ['clashes', 'mend'], parts(32)
+    yield 'nested', ['clashes', 'mend'], nested(24)
     yield 'undecided', ['rounds'], whole(12, '?' * 17)
     yield 'parted', ['check'], parted(2, '?' * 13)
     yield 'same', ['run'], run(entries(32600, zero), entries(32600, zero), entries(32600, digest))

@@ -1,17 +1,18 @@
 //! Finds lines. What is found is read again and checked by others, so nothing here has a contract.
-use crate::cut::{cut_at_headings, is_profile, is_rules};
+use crate::asked::Office;
+use crate::case::{Case, cases_of};
+use crate::cut::{cut_at_headings, is_profile};
+use crate::hidden::drop_hidden;
 use crate::needless::drop_needless;
 use crate::piece::Piece;
 use crate::proposals::{Proposal, proposals_for};
-use crate::set::{own_in, read_in, set_in};
-use crate::shown::is_shown;
+use crate::set::{own_in, set_in};
 use crate::subject::Subject;
-use crate::text::push_piece;
-use hub_cert::{CheckFault, ProfileSet};
-use hub_profile::{Profile, Rules};
-use hub_search::{check, faults};
+use hub_cert::CheckFault;
+use hub_search::faults;
 use hub_text::Items;
 use std::alloc::{AllocError, Global};
+use std::collections::BTreeSet;
 
 /// Cuts a bundle into parts, and finds lines that make the set of its profiles and rules safe, as far as lines may that only
 /// take away.
@@ -20,7 +21,8 @@ use std::alloc::{AllocError, Global};
 /// makes no change at the folders between at the roots of both. For what breaks a rule it is a bar on the rule's pattern, or else
 /// on the root. No line is found that isn't needed, or that mends nothing.
 ///
-/// The cost is a search of all goals, and one of two profiles for each line and for each two that clash.
+/// The cost is mostly two searches of all goals. What isn't mended by the first lines makes a search of all goals more, and each
+/// line that isn't needed one of two profiles for each two that clash.
 pub fn pieces_with_lines(
     alloc: Global,
     bytes: &[u8],
@@ -30,125 +32,102 @@ pub fn pieces_with_lines(
     let Some(set) = set_in(alloc, bytes, for_unison)? else {
         return Ok(pieces);
     };
-    let lines = faults(alloc, &set)?;
+    let found = faults(alloc, &set)?;
     match own_in(alloc, bytes, for_unison)? {
-        Some((profiles, rules)) if !lines.is_empty() => {
+        Some((profiles, rules)) if !found.is_empty() => {
             let office = Office {
                 alloc,
                 for_unison,
                 profiles,
                 rules,
             };
-            office.mended(pieces, lines.as_slice())
+            mended(&office, pieces, found)
         }
         _ => Ok(pieces),
     }
 }
 
-/// The profiles and the rules to which lines are added.
-#[derive(Drop)]
-pub(crate) struct Office {
-    pub(crate) alloc: Global,
-    /// Whether the profiles are read for Unison.
-    pub(crate) for_unison: bool,
-    /// The profiles as their lines say.
-    pub(crate) profiles: Items<Profile>,
-    pub(crate) rules: Rules,
+/// The parts with lines by which what is unsafe is mended, as far as it can be.
+fn mended(
+    office: &Office,
+    pieces: Vec<Piece>,
+    faults: Items<CheckFault>,
+) -> Result<Vec<Piece>, AllocError> {
+    let mut pieces = pieces;
+    let cases = cases_of(office.alloc, faults)?;
+    let left = add_lines(office, &mut pieces, cases.as_slice())?;
+    let mended = without(office.alloc, cases, &left)?;
+    drop_needless(office, &mut pieces, mended.as_slice())?;
+    Ok(pieces)
 }
 
-impl Office {
-    /// The parts with lines by which what is unsafe is mended, as far as it can be.
-    fn mended(&self, pieces: Vec<Piece>, faults: &[CheckFault]) -> Result<Vec<Piece>, AllocError> {
-        let mut pieces = pieces;
-        let mut mended = Vec::new(self.alloc);
-        let mut seen = Vec::new(self.alloc);
-        for fault in faults {
-            let Some(subject) = Subject::of_fault(fault) else {
-                continue;
-            };
-            if seen.contains(&subject) {
-                continue;
-            }
-            seen.push(subject)?;
-            if self.mend(&mut pieces, subject)? {
-                mended.push(subject)?;
-            }
+/// Adds lines until no more can be mended, and returns what isn't. Each search but the last one is followed by a list more for one of
+/// the cases, which have at most three.
+fn add_lines(
+    office: &Office,
+    pieces: &mut Vec<Piece>,
+    cases: &[Case],
+) -> Result<BTreeSet<Subject>, AllocError> {
+    add_for_all(office, pieces, cases)?;
+    drop_hidden(office, pieces)?;
+    for _ in 0..cases.len().saturating_mul(3) {
+        let left = office.unsafe_of(pieces.as_slice(), cases)?;
+        if !add_for_all(office, pieces, left.as_slice())? {
+            return subjects_of(office.alloc, left.as_slice());
         }
-        drop_needless(self, &mut pieces, mended.as_slice())?;
-        Ok(pieces)
     }
+    subjects_of(office.alloc, cases)
+}
 
-    /// Adds lines by which that is mended, and returns whether it is. If it can't be, no line is added.
-    fn mend(&self, pieces: &mut Vec<Piece>, subject: Subject) -> Result<bool, AllocError> {
-        if self.is_mended(pieces.as_slice(), subject)? {
+/// What is to be mended, without what is in that set.
+fn without(
+    alloc: Global,
+    cases: Vec<Case>,
+    left: &BTreeSet<Subject>,
+) -> Result<Vec<Case>, AllocError> {
+    let mut others = Vec::new(alloc);
+    for case in cases {
+        if !left.contains(&case.subject) {
+            others.push(case)?;
+        }
+    }
+    Ok(others)
+}
+
+/// What is to be mended, as a set.
+fn subjects_of(alloc: Global, cases: &[Case]) -> Result<BTreeSet<Subject>, AllocError> {
+    let mut subjects = BTreeSet::new(alloc);
+    for case in cases {
+        subjects.insert(case.subject)?;
+    }
+    Ok(subjects)
+}
+
+/// Adds lines for all of it that shows to be unsafe, and returns whether there are new ones.
+fn add_for_all(
+    office: &Office,
+    pieces: &mut Vec<Piece>,
+    cases: &[Case],
+) -> Result<bool, AllocError> {
+    let mut is_more = false;
+    for case in cases {
+        if !office.seems_mended(pieces.as_slice(), case)? && add_for(office, pieces, case)? {
+            is_more = true;
+        }
+    }
+    Ok(is_more)
+}
+
+/// Adds the first list of lines by which its fault is none any more, and returns whether there is one with a new line.
+fn add_for(office: &Office, pieces: &mut Vec<Piece>, case: &Case) -> Result<bool, AllocError> {
+    for proposals in proposals_for(office, case.subject)? {
+        let counts = line_counts(office.alloc, pieces.as_slice())?;
+        if add_all(pieces, proposals)? && office.is_answered(pieces.as_slice(), case)? {
             return Ok(true);
         }
-        for proposals in proposals_for(self, subject)? {
-            let lens = line_counts(self.alloc, pieces.as_slice())?;
-            add_all(pieces, proposals)?;
-            if self.is_mended(pieces.as_slice(), subject)? {
-                return Ok(true);
-            }
-            cut_lines(pieces, lens.as_slice());
-        }
-        Ok(false)
+        cut_lines(pieces, counts.as_slice());
     }
-
-    /// Returns whether that isn't unsafe any more, with the lines that there are.
-    pub(crate) fn is_mended(&self, pieces: &[Piece], subject: Subject) -> Result<bool, AllocError> {
-        let text = self.text_of(pieces, subject)?;
-        let Some((profiles, rules)) = read_in(self.alloc, text.as_slice(), self.for_unison)? else {
-            return Ok(false);
-        };
-        if is_shown(profiles.as_slice())? {
-            return Ok(false);
-        }
-        match ProfileSet::new(self.alloc, profiles, rules) {
-            Ok(set) => Ok(!self.is_unsafe(&set, subject)?),
-            Err(_) => Ok(false),
-        }
-    }
-
-    /// Returns whether that is unsafe in the set of the profiles that it is about. The first fault mostly says so.
-    fn is_unsafe(&self, set: &ProfileSet, subject: Subject) -> Result<bool, AllocError> {
-        let own = match subject {
-            Subject::Pair(_, _) => Subject::Pair(0, 1),
-            Subject::Rule(_, rule) => Subject::Rule(0, rule),
-        };
-        match check(self.alloc, set) {
-            Ok(_) => return Ok(false),
-            Err(CheckFault::OutOfMemory) => return Err(AllocError),
-            Err(fault) if Subject::of_fault(&fault) == Some(own) => return Ok(true),
-            Err(_) => {}
-        }
-        let faults = faults(self.alloc, set)?;
-        for fault in faults.as_slice() {
-            if Subject::of_fault(fault) == Some(own) {
-                return Ok(true);
-            }
-        }
-        Ok(false)
-    }
-
-    /// The text of the profiles that it is about, with their lines, and of the rules.
-    fn text_of(&self, pieces: &[Piece], subject: Subject) -> Result<Vec<u8>, AllocError> {
-        let mut text = Vec::new(self.alloc);
-        let mut number: usize = 0;
-        for piece in pieces {
-            let is_its = if is_profile(piece) {
-                subject.is_about(number)
-            } else {
-                is_rules(piece)
-            };
-            if is_its {
-                push_piece(&mut text, piece)?;
-            }
-            if is_profile(piece) {
-                number = number.saturating_add(1);
-            }
-        }
-        Ok(text)
-    }
+    Ok(false)
 }
 
 /// How many lines each part has.
@@ -167,16 +146,19 @@ fn cut_lines(pieces: &mut Vec<Piece>, counts: &[usize]) {
     }
 }
 
-/// Adds lines to their profiles that these don't have yet.
-fn add_all(pieces: &mut Vec<Piece>, proposals: Vec<Proposal>) -> Result<(), AllocError> {
+/// Adds lines to their profiles that these don't have yet, and returns whether there are some.
+fn add_all(pieces: &mut Vec<Piece>, proposals: Vec<Proposal>) -> Result<bool, AllocError> {
+    let mut is_more = false;
     for proposal in proposals {
-        add(pieces, proposal)?;
+        if add(pieces, proposal)? {
+            is_more = true;
+        }
     }
-    Ok(())
+    Ok(is_more)
 }
 
-/// Adds a line to its profile.
-fn add(pieces: &mut Vec<Piece>, proposal: Proposal) -> Result<(), AllocError> {
+/// Adds a line to its profile, and returns whether it is new there.
+fn add(pieces: &mut Vec<Piece>, proposal: Proposal) -> Result<bool, AllocError> {
     let mut number: usize = 0;
     for piece in pieces.iter_mut() {
         if is_profile(piece) {
@@ -186,13 +168,14 @@ fn add(pieces: &mut Vec<Piece>, proposal: Proposal) -> Result<(), AllocError> {
             number = number.saturating_add(1);
         }
     }
-    Ok(())
+    Ok(false)
 }
 
-/// Adds a line to a part that doesn't have it yet.
-fn add_line(piece: &mut Piece, line: String) -> Result<(), AllocError> {
-    if !piece.lines.contains(&line) {
-        piece.lines.push(line)?;
+/// Adds a line to a part that doesn't have it yet, and returns whether it is one.
+fn add_line(piece: &mut Piece, line: String) -> Result<bool, AllocError> {
+    if piece.lines.contains(&line) {
+        return Ok(false);
     }
-    Ok(())
+    piece.lines.push(line)?;
+    Ok(true)
 }

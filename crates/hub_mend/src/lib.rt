@@ -6,12 +6,12 @@
 //! - [`only_take_away`] says whether the profiles of that bundle only take away from those of the first one.
 //!
 //! ```rust
-//! let pieces = pieces_with_lines(alloc, bundle.as_bytes(), for_unison).ok()?;
-//! let lines = shown_lines(alloc, pieces.as_slice()).ok()?;
-//! String::from_utf8(lines).ok()
+//! if !is_cut_into(bytes.as_slice(), pieces.as_slice()) {
+//!     return Report::NotMended;
+//! }
 //! ```
 //!
-//! From `hub_mend/src/tests.rt`.
+//! From `hub_serve/src/mend.rt`.
 //!
 //! What finds lines isn't trusted: its caller reads the bundle with them, compares the profiles, and checks the set. A profile has
 //! `docs`, and another one `docs/lists`: the first gets `ignore = Path docs/lists`, and `noupdatepartial` and `nocreationpartial`
@@ -34,8 +34,11 @@
 //! away: these are tested.
 #![tactic(auto)]
 
+mod asked;
+mod case;
 mod cut;
 mod find;
+mod hidden;
 mod line;
 mod needless;
 mod piece;
@@ -44,8 +47,6 @@ mod set;
 mod shown;
 mod subject;
 mod takes_away;
-#[cfg(test)]
-mod tests;
 mod text;
 
 pub use find::pieces_with_lines;

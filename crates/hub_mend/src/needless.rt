@@ -1,8 +1,9 @@
 //! Drops lines that aren't needed.
+use crate::asked::Office;
+use crate::case::Case;
 use crate::cut::is_profile;
-use crate::find::Office;
 use crate::piece::Piece;
-use crate::subject::Subject;
+use crate::proposals::proposals_for;
 use std::alloc::AllocError;
 use std::mem;
 
@@ -10,12 +11,12 @@ use std::mem;
 pub(crate) fn drop_needless(
     office: &Office,
     pieces: &mut Vec<Piece>,
-    mended: &[Subject],
+    mended: &[Case],
 ) -> Result<(), AllocError> {
     let mut number: usize = 0;
     for place in 0..pieces.len() {
         if pieces.get(place).is_some_and(is_profile) {
-            drop_of_profile(office, pieces, place, subjects_of(office, mended, number)?)?;
+            drop_of_profile(office, pieces, place, &cases_about(office, mended, number)?)?;
             number = number.saturating_add(1);
         }
     }
@@ -23,32 +24,31 @@ pub(crate) fn drop_needless(
 }
 
 /// That of it which is about a profile.
-fn subjects_of(
+fn cases_about<'a>(
     office: &Office,
-    mended: &[Subject],
+    mended: &'a [Case],
     number: usize,
-) -> Result<Vec<Subject>, AllocError> {
+) -> Result<Vec<&'a Case>, AllocError> {
     let mut own = Vec::new(office.alloc);
-    for subject in mended {
-        if subject.is_about(number) {
-            own.push(*subject)?;
+    for case in mended {
+        if case.subject.is_about(number) {
+            own.push(case)?;
         }
     }
     Ok(own)
 }
 
-/// Drops the lines of the profile at that place that aren't needed. A line is mostly needed for what the line before it is needed
-/// for, or for the next, so that is looked at first.
+/// Drops the lines of the profile at that place that aren't needed.
 fn drop_of_profile(
     office: &Office,
     pieces: &mut Vec<Piece>,
     place: usize,
-    subjects: Vec<Subject>,
+    cases: &[&Case],
 ) -> Result<(), AllocError> {
     let mut start: usize = 0;
     for at in 0..line_count_at(pieces, place) {
         let line = replaced_line(pieces, place, at, String::new(office.alloc));
-        if let Some(missed) = missed_from(office, pieces.as_slice(), &subjects, start)? {
+        if let Some(missed) = missed(office, pieces.as_slice(), cases, start, line.as_str())? {
             start = missed;
             let _ = replaced_line(pieces, place, at, line);
         }
@@ -77,16 +77,58 @@ fn replaced_line(pieces: &mut [Piece], place: usize, at: usize, line: String) ->
     line
 }
 
-/// The place of the first of it, from a place on and then from the first one, that isn't mended any more.
-fn missed_from(
+/// The place of one of it that isn't mended any more without that line. What shows without a search is looked at first, and of
+/// that what the line was proposed for, from a place on.
+fn missed(
     office: &Office,
     pieces: &[Piece],
-    subjects: &[Subject],
+    cases: &[&Case],
     start: usize,
+    line: &str,
 ) -> Result<Option<usize>, AllocError> {
-    let later = subjects.iter().enumerate().skip(start);
-    for (at, subject) in later.chain(subjects.iter().enumerate().take(start)) {
-        if !office.is_mended(pieces, *subject)? {
+    let later = cases.iter().enumerate().skip(start);
+    for (at, case) in later.chain(cases.iter().enumerate().take(start)) {
+        if is_proposed(office, case, line)? && !office.seems_mended(pieces, case)? {
+            return Ok(Some(at));
+        }
+    }
+    match shown(office, pieces, cases)? {
+        Some(at) => Ok(Some(at)),
+        None => searched(office, pieces, cases),
+    }
+}
+
+/// Returns whether a line is one of those that may mend that.
+fn is_proposed(office: &Office, case: &Case, line: &str) -> Result<bool, AllocError> {
+    for proposals in proposals_for(office, case.subject)? {
+        if proposals
+            .iter()
+            .any(|proposal| proposal.line.as_str() == line)
+        {
+            return Ok(true);
+        }
+    }
+    Ok(false)
+}
+
+/// The place of the first of it that shows to be unsafe without a search.
+fn shown(office: &Office, pieces: &[Piece], cases: &[&Case]) -> Result<Option<usize>, AllocError> {
+    for (at, case) in cases.iter().enumerate() {
+        if !office.seems_mended(pieces, case)? {
+            return Ok(Some(at));
+        }
+    }
+    Ok(None)
+}
+
+/// The place of the first of it of which a search says that it isn't mended any more.
+fn searched(
+    office: &Office,
+    pieces: &[Piece],
+    cases: &[&Case],
+) -> Result<Option<usize>, AllocError> {
+    for (at, case) in cases.iter().enumerate() {
+        if !office.is_mended(pieces, case)? {
             return Ok(Some(at));
         }
     }

@@ -1,5 +1,5 @@
 //! Lines that may mend what is unsafe.
-use crate::find::Office;
+use crate::asked::Office;
 use crate::line::{bar_line, ignore_line, partial_line, paths_over, rule_line};
 use crate::subject::Subject;
 use hub_path::{RelPath, Root};

@@ -1,57 +1,81 @@
-//! Paths that show a clash without a search.
-use hub_path::{RelPath, Root};
+//! Kept values that show a clash without a search.
+use crate::line::paths_over;
+use hub_path::{Name, RelPath};
 use hub_profile::Profile;
 use hub_reach::{reaches, writes_at};
-use std::alloc::AllocError;
+use std::alloc::{AllocError, Global};
 
-/// Returns whether a kept value of two profiles shows that they clash: one of them may change it, or a path over it, at a root of
-/// both, and the other one reaches it.
-pub(crate) fn is_shown(profiles: &[Profile]) -> Result<bool, AllocError> {
+/// Returns whether a kept value of two profiles shows that they clash: at a root of both, one of them writes it, or a path over it or
+/// below it, that the other one reaches.
+pub(crate) fn values_show(alloc: Global, profiles: &[Profile]) -> Result<bool, AllocError> {
     match profiles {
-        [one, other] => Ok(shows(one, other)? || shows(other, one)?),
+        [one, two] => Ok(own_show(alloc, one, two)? || own_show(alloc, two, one)?),
         _ => Ok(false),
     }
 }
 
-/// Returns whether a kept value shows that what one profile may change is another one's.
-fn shows(writer: &Profile, other: &Profile) -> Result<bool, AllocError> {
-    for root in writer.roots().iter() {
-        if other.has_root(root) && shows_at(writer, root, other)? {
-            return Ok(true);
+/// Returns whether a kept value of the first profile shows that. It has to lie at or below one of the other profile.
+fn own_show(alloc: Global, owner: &Profile, other: &Profile) -> Result<bool, AllocError> {
+    for value in owner.paths() {
+        for top in other.paths() {
+            if value.starts_with(top) && shows(alloc, owner, value, other, top)? {
+                return Ok(true);
+            }
         }
     }
     Ok(false)
 }
 
-/// Returns whether a kept value shows that at a root of both.
-fn shows_at(writer: &Profile, root: &Root, other: &Profile) -> Result<bool, AllocError> {
-    for path in other.paths().iter().chain(writer.paths().iter()) {
-        if reaches(other, path) && may_change_over(writer, root, path)? {
-            return Ok(true);
-        }
+/// Returns whether a kept value shows that, which lies at or below one of the other profile.
+fn shows(
+    alloc: Global,
+    owner: &Profile,
+    value: &RelPath,
+    other: &Profile,
+    top: &RelPath,
+) -> Result<bool, AllocError> {
+    if !reaches(owner, value) {
+        return Ok(false);
     }
-    Ok(false)
-}
-
-/// Returns whether a profile may change a path, or one over it, at a root.
-fn may_change_over(writer: &Profile, root: &Root, path: &RelPath) -> Result<bool, AllocError> {
-    if may_change(writer, root, path) {
+    let over = paths_over(alloc, value, top.len())?;
+    if writes_over(other, over.as_slice(), owner) {
         return Ok(true);
     }
-    let mut above = path.parent()?;
-    for _ in 0..path.len() {
-        let Some(next) = above else {
-            break;
-        };
-        if may_change(writer, root, &next) {
-            return Ok(true);
-        }
-        above = next.parent()?;
+    if !reaches(other, value) {
+        return Ok(false);
     }
-    Ok(false)
+    let below = path_below(alloc, value)?;
+    Ok(
+        one_writes(owner, other, value)
+            || one_writes(owner, other, &below) && reaches(owner, &below) && reaches(other, &below),
+    )
 }
 
-/// Returns whether a profile may change a path at a root.
-fn may_change(writer: &Profile, root: &Root, path: &RelPath) -> bool {
-    reaches(writer, path) && writes_at(writer, root, path)
+/// Returns whether a profile writes one of these paths, of which the last one is the highest, at a root that another one has, too.
+/// Below a path that it doesn't reach it reaches none, so the highest one tells that it may write.
+fn writes_over(profile: &Profile, over: &[RelPath], owner: &Profile) -> bool {
+    for path in over.iter().rev() {
+        if writes_where(profile, owner, path) {
+            return reaches(profile, path);
+        }
+    }
+    false
+}
+
+/// Returns whether one of two profiles may write a path at a root of both, if it reaches it.
+fn one_writes(one: &Profile, two: &Profile, path: &RelPath) -> bool {
+    writes_where(one, two, path) || writes_where(two, one, path)
+}
+
+/// Returns whether a profile may write a path, if it reaches it, at a root that another one has, too.
+fn writes_where(profile: &Profile, other: &Profile, path: &RelPath) -> bool {
+    profile.roots().iter().any(|root| other.has_root(root) && writes_at(profile, root, path))
+}
+
+/// Some path below a path.
+fn path_below(alloc: Global, path: &RelPath) -> Result<RelPath, AllocError> {
+    match Name::read(alloc, "any") {
+        Ok(name) => path.child(name),
+        Err(_) => path.copy(),
+    }
 }

@@ -2,7 +2,7 @@
 use hub_cert::{CheckFault, Goal};
 
 /// What makes a set unsafe, by the numbers of its profiles and rules.
-#[derive(Clone, Copy, Debug, PartialEq, Eq)]
+#[derive(Clone, Copy, Debug, PartialEq, Eq, PartialOrd, Ord)]
 pub(crate) enum Subject {
     /// Two profiles clash.
     Pair(usize, usize),
@@ -28,12 +28,35 @@ impl Subject {
         }
     }
 
+    /// The numbers of the first and the last profile that it is about.
+    pub(crate) fn ends(self) -> [usize; 2] {
+        match self {
+            Subject::Pair(first, second) => [first, second],
+            Subject::Rule(one, _) => [one, one],
+        }
+    }
+
+    /// It, if its profiles have these numbers.
+    pub(crate) fn of_profiles(self, numbers: &[usize]) -> Subject {
+        match self {
+            Subject::Pair(first, second) => {
+                Subject::Pair(number_at(numbers, first), number_at(numbers, second))
+            }
+            Subject::Rule(one, rule) => Subject::Rule(number_at(numbers, one), rule),
+        }
+    }
+
     /// Returns whether it is about that profile.
     pub(crate) fn is_about(self, profile: usize) -> bool {
-        match self {
-            Subject::Pair(first, second) => first == profile || second == profile,
-            Subject::Rule(one, _) => one == profile,
-        }
+        self.ends().contains(&profile)
+    }
+}
+
+/// The number at a place.
+fn number_at(numbers: &[usize], place: usize) -> usize {
+    match numbers.get(place) {
+        Some(number) => *number,
+        None => place,
     }
 }
 

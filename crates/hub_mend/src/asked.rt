@@ -1,0 +1,149 @@
+//! What is asked of the profiles with the lines that are found.
+use crate::case::{Case, cases_of};
+use crate::cut::{is_profile, is_rules};
+use crate::piece::Piece;
+use crate::set::{read_in, set_in};
+use crate::subject::Subject;
+use crate::text::push_piece;
+use hub_cert::{CheckFault, ProfileSet};
+use hub_profile::{Profile, Rules};
+use hub_search::faults;
+use hub_text::Items;
+use std::alloc::{AllocError, Global};
+use std::collections::BTreeSet;
+
+/// The profiles and the rules to which lines are added.
+#[derive(Drop)]
+pub(crate) struct Office {
+    pub(crate) alloc: Global,
+    /// Whether the profiles are read for Unison.
+    pub(crate) for_unison: bool,
+    /// The profiles as their lines say.
+    pub(crate) profiles: Items<Profile>,
+    pub(crate) rules: Rules,
+}
+
+impl Office {
+    /// What is still unsafe of these cases with the lines that there are, by one search of the profiles that they are about.
+    pub(crate) fn unsafe_of(
+        &self,
+        pieces: &[Piece],
+        cases: &[Case],
+    ) -> Result<Vec<Case>, AllocError> {
+        let profiles = profiles_of(self.alloc, cases)?;
+        let text = self.text_of(pieces, profiles.as_slice())?;
+        match set_in(self.alloc, text.as_slice(), self.for_unison)? {
+            Some(set) => {
+                let left = cases_of(self.alloc, faults(self.alloc, &set)?)?;
+                Ok(with_numbers(left, profiles.as_slice()))
+            }
+            None => Ok(Vec::new(self.alloc)),
+        }
+    }
+
+    /// Returns whether that can be read with the lines that there are, and neither its fault nor a kept value shows that it is
+    /// unsafe. It searches only where the first search was given up.
+    pub(crate) fn seems_mended(&self, pieces: &[Piece], case: &Case) -> Result<bool, AllocError> {
+        if matches!(case.fault, CheckFault::TooLarge { .. }) {
+            return self.is_mended(pieces, case);
+        }
+        match self.read(pieces, case.subject)? {
+            Some((profiles, rules)) => {
+                Ok(!case.is_shown(self.alloc, profiles.as_slice(), &rules)?)
+            }
+            None => Ok(false),
+        }
+    }
+
+    /// Returns whether that can be read with the lines that there are, and its fault is none any more. It searches only where the
+    /// first search was given up.
+    pub(crate) fn is_answered(&self, pieces: &[Piece], case: &Case) -> Result<bool, AllocError> {
+        if matches!(case.fault, CheckFault::TooLarge { .. }) {
+            return self.is_mended(pieces, case);
+        }
+        match self.read(pieces, case.subject)? {
+            Some((profiles, rules)) => Ok(!case.is_held(profiles.as_slice(), &rules)),
+            None => Ok(false),
+        }
+    }
+
+    /// Returns whether that is read, and isn't unsafe any more, with the lines that there are.
+    pub(crate) fn is_mended(&self, pieces: &[Piece], case: &Case) -> Result<bool, AllocError> {
+        let Some((profiles, rules)) = self.read(pieces, case.subject)? else {
+            return Ok(false);
+        };
+        match ProfileSet::new(self.alloc, profiles, rules) {
+            Ok(set) => Ok(!self.is_unsafe(&set, case.subject)?),
+            Err(_) => Ok(false),
+        }
+    }
+
+    /// Returns whether that is unsafe in the set of the profiles that it is about.
+    fn is_unsafe(&self, set: &ProfileSet, subject: Subject) -> Result<bool, AllocError> {
+        let own = match subject {
+            Subject::Pair(_, _) => Subject::Pair(0, 1),
+            Subject::Rule(_, rule) => Subject::Rule(0, rule),
+        };
+        let faults = faults(self.alloc, set)?;
+        for fault in faults.as_slice() {
+            if Subject::of_fault(fault) == Some(own) {
+                return Ok(true);
+            }
+        }
+        Ok(false)
+    }
+
+    /// The profiles that it is about, with their lines, and the rules.
+    fn read(
+        &self,
+        pieces: &[Piece],
+        subject: Subject,
+    ) -> Result<Option<(Items<Profile>, Rules)>, AllocError> {
+        let text = self.text_of(pieces, &subject.ends())?;
+        read_in(self.alloc, text.as_slice(), self.for_unison)
+    }
+
+    /// The text of the profiles of these ascending numbers, with their lines, and of the rules.
+    fn text_of(&self, pieces: &[Piece], profiles: &[usize]) -> Result<Vec<u8>, AllocError> {
+        let mut text = Vec::new(self.alloc);
+        let mut number: usize = 0;
+        for piece in pieces {
+            let is_its = if is_profile(piece) {
+                profiles.binary_search(&number).is_ok()
+            } else {
+                is_rules(piece)
+            };
+            if is_its {
+                push_piece(&mut text, piece)?;
+            }
+            if is_profile(piece) {
+                number = number.saturating_add(1);
+            }
+        }
+        Ok(text)
+    }
+}
+
+/// The numbers of the profiles that these cases are about, ascending.
+fn profiles_of(alloc: Global, cases: &[Case]) -> Result<Vec<usize>, AllocError> {
+    let mut known = BTreeSet::new(alloc);
+    for case in cases {
+        let [first, last] = case.subject.ends();
+        known.insert(first)?;
+        known.insert(last)?;
+    }
+    let mut profiles = Vec::new(alloc);
+    for profile in known.iter() {
+        profiles.push(*profile)?;
+    }
+    Ok(profiles)
+}
+
+/// These cases, whose profiles have these numbers.
+fn with_numbers(cases: Vec<Case>, numbers: &[usize]) -> Vec<Case> {
+    let mut cases = cases;
+    for case in cases.iter_mut() {
+        case.subject = case.subject.of_profiles(numbers);
+    }
+    cases
+}

@@ -3,7 +3,7 @@
 use crate::asked::{say_asked_path, say_not_reached, say_profiles, say_run_fault};
 use crate::bundle::say_bundle_fault;
 use crate::clash::{Answers, Mending, mending_in, say_plain_answer};
-use crate::mend::{has_plain_lines, told_line};
+use crate::mend::{gives_bundle, has_plain_lines, told_line};
 use crate::refusal::{say_breach, say_overlap, say_refused};
 use crate::setting::say_setting_fault;
 use crate::text::{say_certificates_fault, say_state_fault};
@@ -61,36 +61,81 @@ pub fn remark(
     output: Front<'_>,
     answers: Answers<'_>,
 ) -> Result<Remarks, AllocError> {
-    let mut text = String::new(alloc);
     let mut lines = Lines::new(output.bytes);
     let first = next_text(&mut lines);
     if first.is_empty() {
-        say_words(&mut text, alloc, words)?;
-        return Ok(said(text));
+        return remarks_on_words(alloc, words);
     }
     let second = next_text(&mut lines);
-    let told = told_line(words, output, first);
     let source = Source::read(alloc, input.bytes, input.is_whole, files)?;
-    let is_plain = has_plain_lines(words, input, output, first);
-    if is_yes(told) && !second.starts_with(RUN_FAULT) {
-        return remarks_on_yes(&source, input.bytes, words, is_plain);
+    let exchange = Exchange {
+        words,
+        input,
+        output,
+        answers,
+        first,
+        second,
+    };
+    remarks_on(&source, exchange)
+}
+
+/// What was asked and what was answered.
+#[derive(Clone, Copy)]
+struct Exchange<'a> {
+    words: &'a [String],
+    input: Front<'a>,
+    output: Front<'a>,
+    answers: Answers<'a>,
+    /// The first line of the output.
+    first: &'a str,
+    /// The second one.
+    second: &'a str,
+}
+
+impl Exchange<'_> {
+    /// Returns whether the answer, of which this line tells, is a yes. If it is a bundle with lines, the status says so.
+    fn is_yes(&self, told: &str) -> bool {
+        if gives_bundle(self.words, told) {
+            return self.answers.is_yes;
+        }
+        is_yes(told) && !self.second.starts_with(RUN_FAULT)
     }
+}
+
+/// What is said about words that were not answered.
+fn remarks_on_words(alloc: Global, words: &[String]) -> Result<Remarks, AllocError> {
+    let mut text = String::new(alloc);
+    say_words(&mut text, alloc, words)?;
+    Ok(said(text))
+}
+
+/// What is said about what was answered on an input.
+fn remarks_on(source: &Source<'_>, exchange: Exchange<'_>) -> Result<Remarks, AllocError> {
+    let words = exchange.words;
+    let told = told_line(words, exchange.output, exchange.first);
+    let is_plain = has_plain_lines(words, exchange.input, exchange.output, exchange.first);
+    if exchange.is_yes(told) {
+        return remarks_on_yes(source, exchange.input.bytes, words, is_plain);
+    }
+    let mut text = String::new(source.alloc());
     if is_plain {
         text.push_str(PLAIN_LINES)?;
     }
-    let mending = mending_in(words, answers.mend);
-    say_answer(&mut text, &source, words, told, second, mending)?;
-    if is_for_unison(words) {
-        say_more(
-            &mut text,
-            &source,
-            input.bytes,
-            first,
-            Listing::asked_for(words),
-        )?;
-        say_plain_answer(&mut text, &source, first, answers.check)?;
-    }
+    say_no(&mut text, source, exchange, told)?;
     Ok(said(text))
+}
+
+/// Says what belongs to an answer, of which this line tells, that is no yes.
+fn say_no(out: &mut String, source: &Source<'_>, exchange: Exchange<'_>, told: &str) -> Said {
+    let words = exchange.words;
+    let mending = mending_in(words, exchange.answers.mend);
+    say_answer(out, source, words, told, exchange.second, mending)?;
+    if is_for_unison(words) {
+        let listing = Listing::asked_for(words);
+        say_more(out, source, exchange.input.bytes, exchange.first, listing)?;
+        say_plain_answer(out, source, exchange.first, exchange.answers.check)?;
+    }
+    Ok(())
 }
 
 /// These remarks, without a note.
@@ -149,6 +194,9 @@ fn say_answer(
     let (kind, text) = told.split_once(": ").unwrap_or((told, ""));
     if kind == "fault" {
         return say_fault(out, source, words, text);
+    }
+    if gives_bundle(words, told) {
+        return say(out, "not safe: mend without --bundle says why");
     }
     if !source.is_whole() {
         return Ok(());

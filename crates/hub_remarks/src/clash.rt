@@ -21,9 +21,11 @@ pub struct Questions {
     pub check: bool,
 }
 
-/// What hubsync answered to these questions, or nothing.
+/// What hubsync answered, and what to these questions, or nothing.
 #[derive(Clone, Copy)]
 pub struct Answers<'a> {
+    /// Whether the status of the answer is 0.
+    pub is_yes: bool,
     /// To `mend --unison`.
     pub mend: &'a [u8],
     /// To `check`.

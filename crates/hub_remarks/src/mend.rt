@@ -14,6 +14,11 @@ fn is_bundle(words: &[String]) -> bool {
     has_word(words, "--bundle")
 }
 
+/// Returns whether an answer that begins with this line is a bundle with lines for its profiles.
+pub(crate) fn gives_bundle(words: &[String], first: &str) -> bool {
+    is_mend(words) && is_bundle(words) && !first.starts_with("fault: ")
+}
+
 /// The line that tells what was found: the last one below lines for profiles, else the first one.
 pub(crate) fn told_line<'a>(words: &[String], output: Front<'a>, first: &'a str) -> &'a str {
     if !is_mend(words) || is_bundle(words) || !output.is_whole {

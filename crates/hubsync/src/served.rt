@@ -92,14 +92,14 @@ pub fn serve_with_remarks<
 {
     let progress = Terminal::new(rt, seen.by_terminal);
     let status = serve(rt, words, input, output, &progress);
-    let may_mislead = say_remarks(rt, words, files, seen, output.failed());
+    let may_mislead = say_remarks(rt, words, files, seen, output.failed(), status);
     Answered {
         status,
         may_mislead,
     }
 }
 
-/// Says what belongs to the answer, and returns whether a yes may mislead. It also may where nothing could be looked at. If
+/// Says what belongs to the answer of this status, and returns whether a yes may mislead. It also may where nothing could be looked at. If
 /// standard error fails too, there is nobody left to tell.
 fn say_remarks<T: AllocGlobal + Clock + Eprint + Threads + Wait + Sync>(
     rt: &T,
@@ -107,6 +107,7 @@ fn say_remarks<T: AllocGlobal + Clock + Eprint + Threads + Wait + Sync>(
     files: &[SourceFile<'_>],
     seen: &Seen,
     is_cut: bool,
+    status: u8,
 ) -> bool {
     let (Ok(input), Ok(output)) = (seen.input.try_borrow(), seen.output.try_borrow()) else {
         return true;
@@ -118,7 +119,7 @@ fn say_remarks<T: AllocGlobal + Clock + Eprint + Threads + Wait + Sync>(
     if let Some(error) = input.error() {
         let _ = eprintln!(rt; "hubsync: standard input can't be read: {error}");
     }
-    match remarks_on(rt, words, files, input.front(), output.front()) {
+    match remarks_on(rt, words, files, input.front(), output.front(), status) {
         Ok(remarks) => {
             let text = remarks.text.as_str();
             let _ = eprint!(rt; "{text}");
@@ -128,13 +129,14 @@ fn say_remarks<T: AllocGlobal + Clock + Eprint + Threads + Wait + Sync>(
     }
 }
 
-/// What is to be said about an answer, once hubsync has answered what has to be known for that.
+/// What is to be said about an answer of this status, once hubsync has answered what has to be known for that.
 fn remarks_on<T: AllocGlobal + Clock + Eprint + Threads + Wait + Sync>(
     rt: &T,
     words: &[String],
     files: &[SourceFile<'_>],
     input: Front<'_>,
     output: Front<'_>,
+    status: u8,
 ) -> Result<Remarks, AllocError> {
     let alloc = rt.alloc();
     let asked = what_to_ask(alloc, words, files, input, output)?;
@@ -147,6 +149,7 @@ fn remarks_on<T: AllocGlobal + Clock + Eprint + Threads + Wait + Sync>(
         check = answer_to(rt, &["check"], input.bytes)?;
     }
     let answers = Answers {
+        is_yes: status == 0,
         mend: mend.as_slice(),
         check: check.as_slice(),
     };

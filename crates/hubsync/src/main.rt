@@ -14,8 +14,6 @@ mod kept;
 mod reader;
 mod served;
 mod terminal;
-#[cfg(test)]
-mod tests;
 mod untaken;
 
 ghost use Rattle.std.specs.Prelude.{◌≡◌, false, map, string_bytes, IfErr, IfOk};

@@ -2,7 +2,7 @@
 use crate::asked::Office;
 use crate::case::{Case, cases_of};
 use crate::cut::{cut_at_headings, is_profile};
-use crate::hidden::drop_hidden;
+use crate::hidden::{drop_hidden, is_hidden};
 use crate::needless::drop_needless;
 use crate::piece::Piece;
 use crate::proposals::{Proposal, proposals_for};
@@ -68,7 +68,7 @@ fn add_lines(
     pieces: &mut Vec<Piece>,
     cases: &[Case],
 ) -> Result<BTreeSet<Subject>, AllocError> {
-    add_for_all(office, pieces, cases)?;
+    add_first(office, pieces, cases)?;
     drop_hidden(office, pieces)?;
     for _ in 0..cases.len().saturating_mul(3) {
         let left = office.unsafe_of(pieces.as_slice(), cases)?;
@@ -103,6 +103,17 @@ fn subjects_of(alloc: Global, cases: &[Case]) -> Result<BTreeSet<Subject>, Alloc
     Ok(subjects)
 }
 
+/// Adds lines for all of it that shows to be unsafe. What other lines leave out isn't read: the search that follows says whether it
+/// is mended.
+fn add_first(office: &Office, pieces: &mut Vec<Piece>, cases: &[Case]) -> Result<(), AllocError> {
+    for case in cases {
+        if !is_hidden(office, pieces.as_slice(), case.subject)? {
+            add_if_unsafe(office, pieces, case)?;
+        }
+    }
+    Ok(())
+}
+
 /// Adds lines for all of it that shows to be unsafe, and returns whether there are new ones.
 fn add_for_all(
     office: &Office,
@@ -111,11 +122,20 @@ fn add_for_all(
 ) -> Result<bool, AllocError> {
     let mut is_more = false;
     for case in cases {
-        if !office.seems_mended(pieces.as_slice(), case)? && add_for(office, pieces, case)? {
+        if add_if_unsafe(office, pieces, case)? {
             is_more = true;
         }
     }
     Ok(is_more)
+}
+
+/// Adds lines for that if it shows to be unsafe, and returns whether there are new ones.
+fn add_if_unsafe(
+    office: &Office,
+    pieces: &mut Vec<Piece>,
+    case: &Case,
+) -> Result<bool, AllocError> {
+    Ok(!office.seems_mended(pieces.as_slice(), case)? && add_for(office, pieces, case)?)
 }
 
 /// Adds the first list of lines by which its fault is none any more, and returns whether there is one with a new line.

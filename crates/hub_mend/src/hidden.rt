@@ -1,11 +1,79 @@
-//! Drops lines about what other lines leave out.
+//! What lines leave out, and lines about it.
 use crate::asked::Office;
 use crate::cut::is_profile;
 use crate::line::ignore_line;
 use crate::piece::Piece;
+use crate::subject::Subject;
+use hub_path::RelPath;
 use hub_profile::Profile;
 use std::alloc::{AllocError, Global};
 use std::mem;
+
+/// Returns whether each part that one of two profiles is to leave out lies below one that a line of it leaves out.
+pub(crate) fn is_hidden(
+    office: &Office,
+    pieces: &[Piece],
+    subject: Subject,
+) -> Result<bool, AllocError> {
+    let Subject::Pair(first, second) = subject else {
+        return Ok(false);
+    };
+    let profiles = office.profiles.as_slice();
+    match (profiles.get(first), profiles.get(second)) {
+        (Some(one), Some(other)) => Ok(
+            hides_parts(office, one, lines_at(pieces, first), other)?
+                && hides_parts(office, other, lines_at(pieces, second), one)?,
+        ),
+        _ => Ok(false),
+    }
+}
+
+/// The lines for the profile of that number.
+fn lines_at(pieces: &[Piece], number: usize) -> &[String] {
+    match pieces.iter().filter(|piece| is_profile(piece)).nth(number) {
+        Some(piece) => piece.lines.as_slice(),
+        None => &[],
+    }
+}
+
+/// Returns whether lines of a profile hide each part of its folders that another one has.
+fn hides_parts(
+    office: &Office,
+    own: &Profile,
+    lines: &[String],
+    other: &Profile,
+) -> Result<bool, AllocError> {
+    for part in other.paths() {
+        if has_part(own, part) && !hides(office.alloc, own, lines, part)? {
+            return Ok(false);
+        }
+    }
+    Ok(true)
+}
+
+/// Returns whether a path lies below a kept value of a profile.
+fn has_part(profile: &Profile, part: &RelPath) -> bool {
+    profile
+        .paths()
+        .iter()
+        .any(|top| top.len() < part.len() && part.starts_with(top))
+}
+
+/// Returns whether one of the lines of a profile leaves out a path over that one, with all below it.
+fn hides(
+    alloc: Global,
+    profile: &Profile,
+    lines: &[String],
+    part: &RelPath,
+) -> Result<bool, AllocError> {
+    let own = ignore_line(alloc, part.as_str())?;
+    for line in lines {
+        if is_below(own.as_str(), line.as_str()) && is_top(alloc, profile, line.as_str())? {
+            return Ok(true);
+        }
+    }
+    Ok(false)
+}
 
 /// Drops the lines about paths at or below one that another line leaves out, with all below it.
 pub(crate) fn drop_hidden(office: &Office, pieces: &mut Vec<Piece>) -> Result<(), AllocError> {
@@ -22,15 +90,20 @@ pub(crate) fn drop_hidden(office: &Office, pieces: &mut Vec<Piece>) -> Result<()
     Ok(())
 }
 
-/// The `ignore` lines of paths below which nothing is left. A kept value of the profile may lie below another one.
+/// The lines that leave out a path with all below it.
 fn tops_of(alloc: Global, profile: &Profile, lines: &[String]) -> Result<Vec<String>, AllocError> {
     let mut tops = Vec::new(alloc);
     for line in lines {
-        if line.starts_with("ignore = Path ") && !has_kept(alloc, profile, line.as_str())? {
+        if is_top(alloc, profile, line.as_str())? {
             tops.push(String::from_str(alloc, line.as_str())?)?;
         }
     }
     Ok(tops)
+}
+
+/// Returns whether a line leaves out a path of a profile with all below it. A kept value may lie below what another one ignores.
+fn is_top(alloc: Global, profile: &Profile, line: &str) -> Result<bool, AllocError> {
+    Ok(line.starts_with("ignore = Path ") && !has_kept(alloc, profile, line)?)
 }
 
 /// Returns whether a kept value of a profile is the path of an `ignore` line, or lies below it.

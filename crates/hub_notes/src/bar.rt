@@ -4,9 +4,10 @@
 
 use crate::dotted::is_covered;
 use crate::query::is_same_root;
+use crate::setting::Setting;
 use crate::sign::{Choices, Pattern, Sign, front_of, names_of, push_signs, signs_of_path};
 use hub_glob::Kind;
-use hub_source::{SourceLine, trimmed};
+use hub_source::trimmed;
 use std::alloc::{AllocError, Global};
 
 /// A bar on paths.
@@ -19,9 +20,8 @@ pub(crate) struct PathBar<'a> {
     has_blanks: bool,
 }
 
-/// The bar on paths that a line sets.
-pub(crate) fn path_bar<'a>(line: &SourceLine<'a>) -> Option<PathBar<'a>> {
-    let (name, value) = line.setting()?;
+/// The bar on paths that a line of that name and value sets.
+pub(crate) fn read_bar<'a>(name: &'a str, value: &'a str) -> Option<PathBar<'a>> {
     let verb = name.strip_suffix("partial")?;
     if verb != "nodeletion" && verb != "noupdate" && verb != "nocreation" {
         return None;
@@ -42,11 +42,8 @@ fn ends_with_blank(text: &str) -> bool {
 }
 
 /// What is said of a bar whose arrow Unison doesn't see.
-pub(crate) fn arrow_words(
-    alloc: Global,
-    line: &SourceLine<'_>,
-) -> Result<Option<String>, AllocError> {
-    let Some(bar) = path_bar(line) else {
+pub(crate) fn arrow_words(alloc: Global, line: &Setting<'_>) -> Result<Option<String>, AllocError> {
+    let Some(bar) = line.bar else {
         return Ok(None);
     };
     if bar.has_blanks {
@@ -60,18 +57,16 @@ pub(crate) fn arrow_words(
 }
 
 /// The patterns of all bars of the same name at the same root.
-pub(crate) fn like_bars(
+pub(crate) fn like_bars<'s>(
     alloc: Global,
-    lines: &[SourceLine<'_>],
+    lines: &'s [Setting<'_>],
     bar: PathBar<'_>,
-) -> Result<Vec<Choices>, AllocError> {
+) -> Result<Vec<&'s Choices>, AllocError> {
     let mut bars = Vec::new(alloc);
     for line in lines {
-        if let Some(other) = path_bar(line) {
+        if let (Some(other), Some(choices)) = (line.bar, &line.pattern) {
             if other.name == bar.name && is_same_root(other.root, bar.root) {
-                if let Some(choices) = Choices::read(alloc, other.pattern)? {
-                    bars.push(choices)?;
-                }
+                bars.push(choices)?;
             }
         }
     }
@@ -79,7 +74,7 @@ pub(crate) fn like_bars(
 }
 
 /// Returns whether a profile keeps the whole root of a bar from what the bar is for.
-pub(crate) fn is_kept_whole(lines: &[SourceLine<'_>], bar: PathBar<'_>) -> bool {
+pub(crate) fn is_kept_whole(lines: &[Setting<'_>], bar: PathBar<'_>) -> bool {
     let verb = bar.name.strip_suffix("partial").unwrap_or("");
     sets_root(lines, "force", bar.root)
         || sets_root(lines, verb, bar.root)
@@ -87,7 +82,7 @@ pub(crate) fn is_kept_whole(lines: &[SourceLine<'_>], bar: PathBar<'_>) -> bool 
 }
 
 /// Returns whether a profile sets a preference to a root.
-pub(crate) fn sets_root(lines: &[SourceLine<'_>], name: &str, root: &str) -> bool {
+pub(crate) fn sets_root(lines: &[Setting<'_>], name: &str, root: &str) -> bool {
     lines.iter().any(|line| line
         .value_of(name)
         .is_some_and(|own| is_same_root(own, root)))
@@ -96,7 +91,7 @@ pub(crate) fn sets_root(lines: &[SourceLine<'_>], name: &str, root: &str) -> boo
 /// The values of a profile's lines `path`, or the empty one, which is the whole replica.
 pub(crate) fn kept_values<'a>(
     alloc: Global,
-    lines: &[SourceLine<'a>],
+    lines: &[Setting<'a>],
 ) -> Result<Vec<&'a str>, AllocError> {
     let mut kept = Vec::new(alloc);
     for line in lines {
@@ -122,16 +117,19 @@ pub(crate) fn count_names(path: &str) -> usize {
 /// What is said of a bar below a folder that isn't barred.
 pub(crate) fn bar_words(
     alloc: Global,
-    lines: &[SourceLine<'_>],
-    line: &SourceLine<'_>,
+    lines: &[Setting<'_>],
+    line: &Setting<'_>,
 ) -> Result<Option<String>, AllocError> {
-    let Some(bar) = path_bar(line) else {
+    let Some(bar) = line.bar else {
+        return Ok(None);
+    };
+    let Some(own) = &line.pattern else {
         return Ok(None);
     };
     if is_kept_whole(lines, bar) {
         return Ok(None);
     }
-    match missing_bar(alloc, lines, bar)? {
+    match missing_bar(alloc, lines, bar, own)? {
         Some(missing) => Ok(Some(words_on_missing(alloc, bar, missing.as_str())?)),
         None => Ok(None),
     }
@@ -154,12 +152,10 @@ fn words_on_missing(alloc: Global, bar: PathBar<'_>, missing: &str) -> Result<St
 /// The pattern of the first bar that is missing above what a bar is for.
 fn missing_bar(
     alloc: Global,
-    lines: &[SourceLine<'_>],
+    lines: &[Setting<'_>],
     bar: PathBar<'_>,
+    own: &Choices,
 ) -> Result<Option<String>, AllocError> {
-    let Some(own) = Choices::read(alloc, bar.pattern)? else {
-        return Ok(None);
-    };
     let bars = like_bars(alloc, lines, bar)?;
     let kept = kept_values(alloc, lines)?;
     for signs in own.signs()?.as_slice() {
@@ -179,7 +175,7 @@ fn missing_above(
     alloc: Global,
     pattern: Pattern<'_, '_>,
     kept: &[&str],
-    bars: &[Choices],
+    bars: &[&Choices],
 ) -> Result<Option<String>, AllocError> {
     for path in kept {
         let missing = match pattern.kind {
@@ -197,7 +193,7 @@ fn missing_above(
 fn missing_on_names(
     alloc: Global,
     kept: &str,
-    bars: &[Choices],
+    bars: &[&Choices],
 ) -> Result<Option<String>, AllocError> {
     let signs = signs_of_path(alloc, kept)?;
     let form = Pattern {
@@ -218,7 +214,7 @@ fn missing_on_path(
     alloc: Global,
     pattern: Pattern<'_, '_>,
     kept: &str,
-    bars: &[Choices],
+    bars: &[&Choices],
 ) -> Result<Option<String>, AllocError> {
     let own = signs_of_path(alloc, kept)?;
     if !is_below(alloc, pattern, kept, own.as_slice())? {
@@ -240,7 +236,7 @@ fn missing_on_path(
 }
 
 /// Returns whether a bar is on a path.
-fn is_barred(bars: &[Choices], path: &[Sign<'_>]) -> Result<bool, AllocError> {
+fn is_barred(bars: &[&Choices], path: &[Sign<'_>]) -> Result<bool, AllocError> {
     let form = Pattern {
         kind: Kind::Path,
         signs: path,

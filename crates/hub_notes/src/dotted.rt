@@ -16,7 +16,7 @@ const NAMED: usize = 8;
 pub(crate) fn missing_dots(
     alloc: Global,
     own: &Choices,
-    others: &[Choices],
+    others: &[&Choices],
 ) -> Result<Option<String>, AllocError> {
     let mut missing = Vec::new(alloc);
     for signs in own.signs()?.as_slice() {
@@ -34,7 +34,7 @@ fn push_missing(
     missing: &mut Vec<String>,
     kind: Kind,
     signs: &[Sign<'_>],
-    others: &[Choices],
+    others: &[&Choices],
 ) -> Result<(), AllocError> {
     let forms = forms_of(alloc, signs)?;
     for form in forms.iter().skip(1) {
@@ -53,7 +53,7 @@ fn push_missing(
 
 /// Returns whether one of these patterns covers another one.
 pub(crate) fn is_covered(
-    others: &[Choices],
+    others: &[&Choices],
     pattern: &Pattern<'_, '_>,
 ) -> Result<bool, AllocError> {
     for other in others {

@@ -13,7 +13,7 @@
 //!   no profile reaches; `start`: how such paths begin.
 //! - `unison`: the kinds of lines that Unison reads otherwise, the most dangerous first. `dotted`: patterns that match a dot at the
 //!   start of a name. `bar`: bars on paths. `ruled`: lines that let Unison break a rule. `line`: what one line shows by itself.
-//! - `query`: what lines of profiles and rules say. `hub_remarks` asks that, too.
+//! - `query`: what lines of profiles and rules say. `hub_remarks` asks that, too. `setting`: what they set, each read once.
 //! - `sign`: patterns as signs, and whether one takes all that another one does.
 //! - `said`: the lines, of which there are at most five.
 //!
@@ -31,6 +31,7 @@ mod query;
 mod ruled;
 mod said;
 mod set;
+mod setting;
 mod sign;
 mod start;
 mod unison;

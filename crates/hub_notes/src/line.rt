@@ -1,16 +1,14 @@
 //! What one line shows that Unison reads otherwise.
 
-use crate::bar::{is_kept_whole, like_bars, path_bar};
+use crate::bar::{PathBar, is_kept_whole, like_bars};
 use crate::dotted::missing_dots;
+use crate::setting::Setting;
 use crate::sign::{Choices, Sign};
-use hub_source::{SourceLine, covers};
+use hub_source::covers;
 use std::alloc::{AllocError, Global};
 
 /// What is said of a path whose last name is `*`: to Unison it is all children of the folder above.
-pub(crate) fn star_words(
-    alloc: Global,
-    line: &SourceLine<'_>,
-) -> Result<Option<String>, AllocError> {
+pub(crate) fn star_words(alloc: Global, line: &Setting<'_>) -> Result<Option<String>, AllocError> {
     let Some(path) = line.value_of("path") else {
         return Ok(None);
     };
@@ -29,20 +27,31 @@ pub(crate) fn star_words(
 /// What is said of a pattern that matches a dot at the start of a name, where Unison's doesn't.
 pub(crate) fn dot_words(
     alloc: Global,
-    lines: &[SourceLine<'_>],
-    line: &SourceLine<'_>,
+    lines: &[Setting<'_>],
+    line: &Setting<'_>,
 ) -> Result<Option<String>, AllocError> {
-    if let Some(pattern) = line.value_of("ignore") {
-        return ignore_words(alloc, lines, pattern);
-    }
-    let Some(bar) = path_bar(line) else {
+    let Some(own) = &line.pattern else {
         return Ok(None);
     };
+    match line.bar {
+        Some(bar) => words_on_bar(alloc, lines, bar, own),
+        None if line.name == "ignore" => ignore_words(alloc, lines, own),
+        None => Ok(None),
+    }
+}
+
+/// The same of a bar on paths.
+fn words_on_bar(
+    alloc: Global,
+    lines: &[Setting<'_>],
+    bar: PathBar<'_>,
+    own: &Choices,
+) -> Result<Option<String>, AllocError> {
     if is_kept_whole(lines, bar) {
         return Ok(None);
     }
     let others = like_bars(alloc, lines, bar)?;
-    let Some(missing) = dots_beside(alloc, bar.pattern, others.as_slice())? else {
+    let Some(missing) = missing_dots(alloc, own, others.as_slice())? else {
         return Ok(None);
     };
     let (name, root) = (bar.name, bar.root);
@@ -55,18 +64,11 @@ pub(crate) fn dot_words(
 /// The same of an ignored pattern.
 fn ignore_words(
     alloc: Global,
-    lines: &[SourceLine<'_>],
-    pattern: &str,
+    lines: &[Setting<'_>],
+    own: &Choices,
 ) -> Result<Option<String>, AllocError> {
-    let mut others = Vec::new(alloc);
-    for line in lines {
-        if line.value_of("ignore").is_some() || line.value_of("ignorenot").is_some() {
-            if let Some(choices) = Choices::read(alloc, line.value())? {
-                others.push(choices)?;
-            }
-        }
-    }
-    let Some(missing) = dots_beside(alloc, pattern, others.as_slice())? else {
+    let others = hiding(alloc, lines)?;
+    let Some(missing) = missing_dots(alloc, own, others.as_slice())? else {
         return Ok(None);
     };
     let words = format!(in alloc;
@@ -75,32 +77,31 @@ fn ignore_words(
     Ok(Some(words))
 }
 
-/// The pattern for the dots that are missing beside others.
-fn dots_beside(
-    alloc: Global,
-    pattern: &str,
-    others: &[Choices],
-) -> Result<Option<String>, AllocError> {
-    match Choices::read(alloc, pattern)? {
-        Some(own) => missing_dots(alloc, &own, others),
-        None => Ok(None),
+/// The patterns of all ignored paths, and of those that aren't.
+fn hiding<'s>(alloc: Global, lines: &'s [Setting<'_>]) -> Result<Vec<&'s Choices>, AllocError> {
+    let mut patterns = Vec::new(alloc);
+    for line in lines {
+        if let Some(choices) = &line.pattern {
+            if line.name == "ignore" || line.name == "ignorenot" {
+                patterns.push(choices)?;
+            }
+        }
     }
+    Ok(patterns)
 }
 
 /// The pattern of a line that keeps a profile from paths.
-fn pattern_of<'a>(line: &SourceLine<'a>) -> Option<&'a str> {
-    match path_bar(line) {
-        Some(bar) => Some(bar.pattern),
-        None => line.value_of("ignore"),
+fn pattern_of<'s>(line: &'s Setting<'_>) -> Option<&'s Choices> {
+    if line.bar.is_some() || line.name == "ignore" {
+        line.pattern.as_ref()
+    } else {
+        None
     }
 }
 
 /// What is said of a pattern that takes a character of several bytes, where Unison's takes one byte.
-pub(crate) fn byte_words(
-    alloc: Global,
-    line: &SourceLine<'_>,
-) -> Result<Option<String>, AllocError> {
-    let Some(own) = Choices::read(alloc, pattern_of(line).unwrap_or(""))? else {
+pub(crate) fn byte_words(alloc: Global, line: &Setting<'_>) -> Result<Option<String>, AllocError> {
+    let Some(own) = pattern_of(line) else {
         return Ok(None);
     };
     for signs in own.signs()?.as_slice() {
@@ -132,13 +133,13 @@ fn words_on_bytes(signs: &[Sign<'_>]) -> Option<&'static str> {
 }
 
 /// What is said of an ignored pattern that matches the whole replica in Unison.
-pub(crate) fn whole_words(
-    alloc: Global,
-    line: &SourceLine<'_>,
-) -> Result<Option<String>, AllocError> {
-    let Some(own) = Choices::read(alloc, line.value_of("ignore").unwrap_or(""))? else {
+pub(crate) fn whole_words(alloc: Global, line: &Setting<'_>) -> Result<Option<String>, AllocError> {
+    let Some(own) = &line.pattern else {
         return Ok(None);
     };
+    if line.name != "ignore" {
+        return Ok(None);
+    }
     for signs in own.signs()?.as_slice() {
         if signs.iter().all(|sign| sign.is_run()) {
             let words =
@@ -152,13 +153,13 @@ pub(crate) fn whole_words(
 /// What is said of a log in a root of its profile.
 pub(crate) fn log_words(
     alloc: Global,
-    lines: &[SourceLine<'_>],
-    line: &SourceLine<'_>,
+    lines: &[Setting<'_>],
+    line: &Setting<'_>,
 ) -> Result<Option<String>, AllocError> {
-    if line.name() != "logfile"
+    if line.name != "logfile"
         || !lines.iter().any(|own| own
             .value_of("root")
-            .is_some_and(|root| covers(root, line.value())))
+            .is_some_and(|root| covers(root, line.value)))
     {
         return Ok(None);
     }

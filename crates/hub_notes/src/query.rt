@@ -30,7 +30,11 @@ pub fn line_above<'s, 'a>(
 
 /// Returns whether a line of the rules is a rule.
 pub fn is_rule(line: &SourceLine<'_>) -> bool {
-    let name = line.name();
+    is_rule_name(line.name())
+}
+
+/// Returns whether a line of that name is a rule.
+pub(crate) fn is_rule_name(name: &str) -> bool {
     name == "nolose" || name == "nochange" || name == "nonew"
 }
 

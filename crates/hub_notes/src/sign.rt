@@ -1,6 +1,8 @@
 //! Patterns as signs, and whether one takes all that another one does.
+ghost use Rattle.std.specs.Prelude.{◌≤◌, length};
 
 use hub_glob::{Kind, PathSpec, Piece};
+use hub_path::RelPath;
 use hub_text::Items;
 use std::alloc::{AllocError, Global};
 
@@ -69,10 +71,11 @@ impl Pattern<'_, '_> {
     }
 }
 
-/// The choices of a pattern.
+/// A pattern, and its choices.
 #[derive(Drop)]
 pub(crate) struct Choices {
     pub(crate) kind: Kind,
+    spec: PathSpec,
     choices: Items<Items<Piece>>,
 }
 
@@ -80,12 +83,28 @@ impl Choices {
     /// The choices of the pattern that a text spells, if it spells one.
     pub(crate) fn read(alloc: Global, text: &str) -> Result<Option<Choices>, AllocError> {
         match PathSpec::read(alloc, text) {
-            Ok(spec) => Ok(Some(Choices {
-                kind: spec.kind(),
-                choices: spec.choices()?,
-            })),
+            Ok(spec) => {
+                let choices = spec.choices()?;
+                Ok(Some(Choices {
+                    kind: spec.kind(),
+                    spec,
+                    choices,
+                }))
+            }
             Err(_) => Ok(None),
         }
+    }
+
+    /// Returns whether the pattern matches the first names of a path, more than so many of them; the whole path counts if that is
+    /// asked.
+    pub(crate) fn match_folder(&self, path: &RelPath, depth: usize, is_whole: bool) -> bool {
+        for before in 0..path.len() {
+            let is_asked = before >= depth && (is_whole || before + 1 < path.len());
+            if is_asked && self.spec.matches_front(path, before + 1) {
+                return true;
+            }
+        }
+        false
     }
 
     /// The signs of each choice.

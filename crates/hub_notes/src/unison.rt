@@ -4,8 +4,16 @@ use crate::bar::{arrow_words, bar_words};
 use crate::line::{byte_words, dot_words, log_words, star_words, whole_words};
 use crate::ruled::{creation_words, ignored_words, parent_words};
 use crate::said::Notes;
+use crate::setting::{Rule, Setting, rules_of, settings_of};
 use hub_source::{Said, Source, SourceLine};
-use std::alloc::AllocError;
+use std::alloc::{AllocError, Global};
+
+/// What the lines of some profiles and the rules set, each read once.
+#[derive(Drop)]
+struct Read<'a> {
+    profiles: Vec<Vec<Setting<'a>>>,
+    rules: Vec<Rule<'a>>,
+}
 
 /// How a line is read otherwise.
 #[derive(Clone, Copy)]
@@ -74,32 +82,60 @@ pub(crate) fn say_otherwise_read(
     } else {
         &DIFFERENCES
     };
-    for difference in differences.iter() {
-        say_difference(out, source, profiles, *difference)?;
-    }
-    Ok(())
+    say_differences(out, source, profiles, differences)
 }
 
 /// What is said about the lines of some profiles that the reading for Unison makes wider: lines that begin with `hubsync: `, or
 /// nothing.
 pub fn wider_notes(source: &Source<'_>, profiles: &[SourceLine<'_>]) -> Result<String, AllocError> {
     let mut notes = Notes::new(source.alloc());
-    for difference in WIDER.iter() {
-        say_difference(&mut notes, source, profiles, *difference)?;
-    }
+    say_differences(&mut notes, source, profiles, &WIDER)?;
     notes.into_text()
 }
 
-/// Says which line of some profiles is the first that Unison reads so, and counts the others.
-fn say_difference(
+/// Says for each difference which line of some profiles is the first that Unison reads so, and counts the others.
+fn say_differences(
     out: &mut Notes,
     source: &Source<'_>,
     profiles: &[SourceLine<'_>],
+    differences: &[Difference],
+) -> Said {
+    let read = read_all(source, profiles)?;
+    for difference in differences.iter() {
+        say_difference(out, source, &read, *difference)?;
+    }
+    Ok(())
+}
+
+/// Reads the lines of some profiles and the rules.
+fn read_all<'a>(source: &Source<'a>, profiles: &[SourceLine<'_>]) -> Result<Read<'a>, AllocError> {
+    let mut read = Read {
+        profiles: Vec::new(source.alloc()),
+        rules: rules_of(source)?,
+    };
+    for profile in profiles {
+        read.profiles.push(settings_of(source, profile.section)?)?;
+    }
+    Ok(read)
+}
+
+/// Says which line is the first that Unison reads so, and counts the others.
+fn say_difference(
+    out: &mut Notes,
+    source: &Source<'_>,
+    read: &Read<'_>,
     difference: Difference,
 ) -> Said {
     let mut is_said = false;
-    for profile in profiles {
-        is_said = say_in_profile(out, source, profile.section, difference, is_said)?;
+    for lines in read.profiles.iter() {
+        is_said = say_in_profile(
+            out,
+            source,
+            read.rules.as_slice(),
+            lines.as_slice(),
+            difference,
+            is_said,
+        )?;
     }
     Ok(())
 }
@@ -108,17 +144,18 @@ fn say_difference(
 fn say_in_profile(
     out: &mut Notes,
     source: &Source<'_>,
-    section: usize,
+    rules: &[Rule<'_>],
+    lines: &[Setting<'_>],
     difference: Difference,
     was_said: bool,
 ) -> Result<bool, AllocError> {
     let mut is_said = was_said;
-    for line in source.section_lines(section) {
-        if let Some(words) = words_on(source, line, difference)? {
+    for line in lines {
+        if let Some(words) = words_on(source.alloc(), rules, lines, line, difference)? {
             if is_said {
                 out.hide();
             } else {
-                out.add_on(source, line, words.as_str())?;
+                out.add_on(source, &line.line, words.as_str())?;
                 is_said = true;
             }
         }
@@ -128,12 +165,12 @@ fn say_in_profile(
 
 /// What is to be said of a line that Unison reads so.
 fn words_on(
-    source: &Source<'_>,
-    line: &SourceLine<'_>,
+    alloc: Global,
+    rules: &[Rule<'_>],
+    lines: &[Setting<'_>],
+    line: &Setting<'_>,
     difference: Difference,
 ) -> Result<Option<String>, AllocError> {
-    let alloc = source.alloc();
-    let lines = source.section_lines(line.section);
     match difference {
         Difference::Arrow => arrow_words(alloc, line),
         Difference::Star => star_words(alloc, line),
@@ -141,9 +178,9 @@ fn words_on(
         Difference::Dot => dot_words(alloc, lines, line),
         Difference::Byte => byte_words(alloc, line),
         Difference::Whole => whole_words(alloc, line),
-        Difference::Creation => creation_words(source, lines, line),
-        Difference::Ignored => ignored_words(source, lines, line),
-        Difference::Parent => parent_words(source, lines, line),
+        Difference::Creation => creation_words(alloc, rules, lines, line),
+        Difference::Ignored => ignored_words(alloc, rules, lines, line),
+        Difference::Parent => parent_words(alloc, rules, lines, line),
         Difference::Log => log_words(alloc, lines, line),
     }
 }

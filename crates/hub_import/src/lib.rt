@@ -34,8 +34,6 @@
 mod lines;
 mod rules;
 mod same;
-#[cfg(test)]
-mod tests;
 mod value;
 mod write;
 

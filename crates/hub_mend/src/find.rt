@@ -2,7 +2,7 @@
 use crate::asked::Office;
 use crate::case::{Case, cases_of};
 use crate::cut::{cut_at_headings, is_profile};
-use crate::hidden::{drop_hidden, is_hidden};
+use crate::hidden::{drop_hidden, has_no_line, is_hidden};
 use crate::needless::drop_needless;
 use crate::piece::Piece;
 use crate::proposals::{Proposal, proposals_for};
@@ -103,11 +103,13 @@ fn subjects_of(alloc: Global, cases: &[Case]) -> Result<BTreeSet<Subject>, Alloc
     Ok(subjects)
 }
 
-/// Adds lines for all of it that shows to be unsafe. What other lines leave out isn't read: the search that follows says whether it
-/// is mended.
+/// Adds lines for all of it that shows to be unsafe, as all does that has no line. What other lines leave out isn't read: the search
+/// that follows says whether it is mended.
 fn add_first(office: &Office, pieces: &mut Vec<Piece>, cases: &[Case]) -> Result<(), AllocError> {
     for case in cases {
-        if !is_hidden(office, pieces.as_slice(), case.subject)? {
+        if has_no_line(pieces.as_slice(), case.subject) {
+            add_for(office, pieces, case)?;
+        } else if !is_hidden(office, pieces.as_slice(), case.subject)? {
             add_if_unsafe(office, pieces, case)?;
         }
     }

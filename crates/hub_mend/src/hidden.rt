@@ -9,6 +9,21 @@ use hub_profile::Profile;
 use std::alloc::{AllocError, Global};
 use std::mem;
 
+/// Returns whether no line was found for what is to be mended.
+pub(crate) fn has_no_line(pieces: &[Piece], subject: Subject) -> bool {
+    let [first, last] = subject.ends();
+    lines_at(pieces, first).is_empty() && lines_at(pieces, last).is_empty()
+}
+
+/// Returns whether a profile has a folder of which another one has a part, by their numbers.
+pub(crate) fn has_parts(office: &Office, own: usize, other: usize) -> bool {
+    let profiles = office.profiles.as_slice();
+    match (profiles.get(own), profiles.get(other)) {
+        (Some(own), Some(other)) => other.paths().iter().any(|part| has_part(own, part)),
+        _ => false,
+    }
+}
+
 /// Returns whether each part that one of two profiles is to leave out lies below one that a line of it leaves out.
 pub(crate) fn is_hidden(
     office: &Office,

@@ -2,10 +2,19 @@
 use crate::asked::Office;
 use crate::case::Case;
 use crate::cut::is_profile;
+use crate::hidden::has_parts;
 use crate::piece::Piece;
 use crate::proposals::proposals_for;
+use crate::subject::Subject;
 use std::alloc::AllocError;
 use std::mem;
+
+/// A line that was taken away from the profile of that number.
+#[derive(Clone, Copy)]
+struct Removed<'a> {
+    profile: usize,
+    line: &'a str,
+}
 
 /// Drops each line in turn without which all of that is still mended, and puts the `ignore` lines of each profile first.
 pub(crate) fn drop_needless(
@@ -16,7 +25,8 @@ pub(crate) fn drop_needless(
     let mut number: usize = 0;
     for place in 0..pieces.len() {
         if pieces.get(place).is_some_and(is_profile) {
-            drop_of_profile(office, pieces, place, &cases_about(office, mended, number)?)?;
+            let cases = cases_about(office, mended, number)?;
+            drop_of_profile(office, pieces, place, number, cases.as_slice())?;
             number = number.saturating_add(1);
         }
     }
@@ -38,17 +48,22 @@ fn cases_about<'a>(
     Ok(own)
 }
 
-/// Drops the lines of the profile at that place that aren't needed.
+/// Drops the lines of the profile at that place, which has that number, that aren't needed.
 fn drop_of_profile(
     office: &Office,
     pieces: &mut Vec<Piece>,
     place: usize,
+    number: usize,
     cases: &[&Case],
 ) -> Result<(), AllocError> {
     let mut start: usize = 0;
     for at in 0..line_count_at(pieces, place) {
         let line = replaced_line(pieces, place, at, String::new(office.alloc));
-        if let Some(missed) = missed(office, pieces.as_slice(), cases, start, line.as_str())? {
+        let removed = Removed {
+            profile: number,
+            line: line.as_str(),
+        };
+        if let Some(missed) = missed(office, pieces.as_slice(), cases, start, removed)? {
             start = missed;
             let _ = replaced_line(pieces, place, at, line);
         }
@@ -84,11 +99,11 @@ fn missed(
     pieces: &[Piece],
     cases: &[&Case],
     start: usize,
-    line: &str,
+    removed: Removed<'_>,
 ) -> Result<Option<usize>, AllocError> {
     let later = cases.iter().enumerate().skip(start);
     for (at, case) in later.chain(cases.iter().enumerate().take(start)) {
-        if is_proposed(office, case, line)? && !office.seems_mended(pieces, case)? {
+        if is_proposed(office, case, removed)? && !office.seems_mended(pieces, case)? {
             return Ok(Some(at));
         }
     }
@@ -99,16 +114,28 @@ fn missed(
 }
 
 /// Returns whether a line is one of those that may mend that.
-fn is_proposed(office: &Office, case: &Case, line: &str) -> Result<bool, AllocError> {
+fn is_proposed(office: &Office, case: &Case, removed: Removed<'_>) -> Result<bool, AllocError> {
+    if !may_have_lines(office, case.subject, removed.profile) {
+        return Ok(false);
+    }
     for proposals in proposals_for(office, case.subject)? {
         if proposals
             .iter()
-            .any(|proposal| proposal.line.as_str() == line)
+            .any(|proposal| proposal.line.as_str() == removed.line)
         {
             return Ok(true);
         }
     }
     Ok(false)
+}
+
+/// Returns whether lines of a profile may mend that: of two profiles, one has them that has a folder of which the other one has a part.
+fn may_have_lines(office: &Office, subject: Subject, profile: usize) -> bool {
+    match subject {
+        Subject::Pair(first, second) if first == profile => has_parts(office, profile, second),
+        Subject::Pair(first, _) => has_parts(office, profile, first),
+        Subject::Rule(_, _) => true,
+    }
 }
 
 /// The place of the first of it that shows to be unsafe without a search.

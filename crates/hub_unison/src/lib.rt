@@ -43,8 +43,6 @@ mod simple;
 mod spare;
 mod spares;
 mod stars;
-#[cfg(test)]
-mod tests;
 mod text;
 mod tops;
 

@@ -37,6 +37,9 @@ fn shows(
     if !reaches(owner, value) {
         return Ok(false);
     }
+    if writes_where(other, owner, value) && reaches(other, value) {
+        return Ok(true);
+    }
     let over = paths_over(alloc, value, top.len())?;
     if writes_over(other, over.as_slice(), owner) {
         return Ok(true);
@@ -46,7 +49,7 @@ fn shows(
     }
     let below = path_below(alloc, value)?;
     Ok(
-        one_writes(owner, other, value)
+        writes_where(owner, other, value)
             || one_writes(owner, other, &below) && reaches(owner, &below) && reaches(other, &below),
     )
 }

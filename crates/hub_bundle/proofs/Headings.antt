@@ -7,7 +7,7 @@ use Rattle.hub_bundle.specs.declared.bundle.BundleFault.{BundleFault}
 use Rattle.hub_bundle.specs.declared.bundle.BundleLineFault.{BundleLineFault}
 use Rattle.hub_bundle.specs.Bundle.{SectionValue, Written, follows_section, bytes_before_heading, written, heading_reading, heading_below, after_heading, sections_reading}
 use Rattle.hub_bundle.proofs.Lines.{heading_line}
-use Rattle.hub_files.specs.Files.{is_heading}
+use Rattle.hub_bundle.specs.Files.{is_heading}
 
 -- A line that is left after a section is a heading.
 next_heading : (s t : List ℕ) (l : Line (List ℕ)) → lines_of s ≡ l ∷ lines_of t → follows_section s ≡ true → is_heading l.text ≡ true

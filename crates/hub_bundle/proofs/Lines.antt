@@ -9,7 +9,7 @@ use Rattle.hub_text.specs.Lines.{lines_of, line_text}
 use Rattle.hub_text.specs.LineLaws.{text-first_line, shorter-first_line}
 use Rattle.hub_text.specs.Takes.{Takes, of_bytes}
 use Rattle.hub_bundle.specs.Bundle.{is_ignorable, follows_section, bytes_before_heading, written, stray_line}
-use Rattle.hub_files.specs.Files.{is_heading}
+use Rattle.hub_bundle.specs.Files.{is_heading}
 
 -- Bytes begin with a heading exactly when their first line is one.
 pub heading_line : (s t : List ℕ) (l : Line (List ℕ)) → lines_of s ≡ l ∷ lines_of t → is_heading l.text ≡ is_heading s

@@ -12,7 +12,7 @@ use Rattle.hub_bundle.specs.declared.bundle.Heading.TheVariants.{Profile, Rules,
 use Rattle.hub_bundle.specs.declared.bundle.BundleFault.{BundleFault}
 use Rattle.hub_bundle.specs.declared.bundle.BundleFault.TheVariants.{NoSection, UnknownSection, BadName, SectionTwice, OutOfMemory}
 use Rattle.hub_bundle.specs.declared.bundle.BundleLineFault.{BundleLineFault}
-use Rattle.hub_files.specs.Files.{is_heading}
+use Rattle.hub_bundle.specs.Files.{is_heading}
 
 -- A section as contracts see it: what its heading says, and the bytes below it.
 pub record SectionValue : Type 0 where

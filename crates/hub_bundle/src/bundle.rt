@@ -6,7 +6,7 @@ ghost use Rattle.hub_text.specs.Lines.{lines_of};
 ghost use Rattle.hub_bundle.specs.Bundle as bundle;
 ghost use Rattle.hub_bundle.specs.Bundle.{bytes_before_heading, follows_section, written, stray_line, profile_heading_reading, heading_reading, bundle_reading, heading_below, out_of_memory};
 
-use hub_files::is_heading;
+use crate::part::is_heading;
 use hub_path::{Name, PathFault};
 use hub_text::{Lines, without_last_cr};
 use std::alloc::{AllocError, AllocFailed, Global};

@@ -6,7 +6,7 @@ use Rattle.std.specs.Str.{IsUtf8, is_utf8, chars}
 use Rattle.std.proofs.lemmas.Bool.{and_parts, and_from, or_from, or_left, or_right, false≢true}
 use Rattle.std.proofs.lemmas.List.{reverse-append}
 use Rattle.std.proofs.lemmas.Str.{encode_ascii, chars-append}
-use Rattle.hub_files.specs.Files.{is_heading}
+use Rattle.hub_bundle.specs.Files.{is_heading}
 use Rattle.hub_text.specs.Blanks.{is_blank, skip_blanks}
 use Rattle.hub_text.specs.declared.line.Line.{Line}
 use Rattle.hub_text.specs.Lines.{lines_of, text_of_lines, without_last}

@@ -3,8 +3,8 @@ use Rattle.std.specs.Prelude.{ℕ, Bool, true, false, not, ◌&&◌, ◌||◌, n
 use Rattle.std.specs.List.{list_any, starts_with}
 use Rattle.hub_text.specs.declared.line.Line.{Line}
 use Rattle.hub_text.specs.Lines.{lines_of, text_of_lines}
-use Rattle.hub_files.specs.Files.{is_heading, heading_word}
-use Rattle.hub_files.specs.declared.part.Kind.TheVariants.{Profile}
+use Rattle.hub_bundle.specs.Files.{is_heading, heading_word}
+use Rattle.hub_bundle.specs.declared.part.Kind.TheVariants.{Profile}
 use Rattle.hub_preferences.specs.Kinds.{kind_of, overrides_force, sets_force, is_unread_ignorenot}
 use Rattle.hub_preferences.specs.Spellings.{spelling, or_spelling}
 use Rattle.hub_preferences.specs.declared.kind.LineKind.{LineKind}

@@ -10,7 +10,7 @@ use Rattle.hub_text.specs.LineLaws.{lines_of-ended}
 use Rattle.hub_preferences.specs.Counted.{comment, spelled, spelling_in, counted_lines, counted_bundle, section_at, is_left_out, no_profile}
 use Rattle.hub_preferences.specs.Spellings.{spelling, or_spelling}
 use Rattle.hub_preferences.specs.SpellingLaws.{spelling-is}
-use Rattle.hub_files.specs.Files.{is_heading}
+use Rattle.hub_bundle.specs.Files.{is_heading}
 use Rattle.hub_preferences.specs.declared.section.Section.{Section}
 
 -- Lines as those of a text: none has an LF inside, and each but the last one is ended. A last one

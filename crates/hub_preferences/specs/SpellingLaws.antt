@@ -20,7 +20,7 @@ use Rattle.hub_path.specs.NameFacts.{name_parts}
 use Rattle.hub_path.specs.Reading.{begins_with_slash, without_last_slash, path_reading, is_short_path}
 use Rattle.hub_path.specs.ReadBack.{path_reading-short}
 use Rattle.hub_profile.specs.Reading.{kept_reading}
-use Rattle.hub_files.specs.Files.{is_heading}
+use Rattle.hub_bundle.specs.Files.{is_heading}
 use Rattle.hub_profile.specs.Lines.{trimmed, trimmed_line, is_setting, has_equals, name_and_value, is_one_of}
 use Rattle.hub_preferences.specs.Kinds.{kind_of, kind_of_text, kind_of_pair}
 use Rattle.hub_preferences.specs.Spellings.{is_nothing, names_of, with_slashes, begins_with_blank, is_same_value, can_stand_for, is_respelled, path_line, spelling, spelling_of_text, spelling_of_pair, spelling_of_value}

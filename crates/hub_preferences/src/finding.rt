@@ -6,7 +6,7 @@ ghost use Rattle.hub_preferences.specs.Spellings.{or_spelling, spelling};
 
 use crate::section::{NO_PROFILE, Section};
 use crate::spelling::spelling;
-use hub_files::is_heading;
+use hub_bundle::is_heading;
 use hub_path::Name;
 use hub_profile::{Fault, read_profile};
 use hub_text::Lines;

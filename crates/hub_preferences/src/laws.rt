@@ -1,6 +1,6 @@
 //! What holds of every bundle that counts: each law is the contract of a function that does nothing.
 ghost use Rattle.std.specs.Prelude.{◌≡◌, ℕ, List, Ok, true, false, length};
-ghost use Rattle.hub_files.specs.Files.{is_heading};
+ghost use Rattle.hub_bundle.specs.Files.{is_heading};
 ghost use Rattle.hub_text.specs.declared.line.Line.{Line};
 ghost use Rattle.hub_text.specs.Lines.{lines_of};
 ghost use Rattle.hub_path.specs.Reading.{is_short_path};

@@ -8,7 +8,7 @@ ghost use Rattle.hub_preferences.specs.declared.kind.LineKind.TheVariants as kin
 
 use crate::kind::{LineKind, kind_of};
 use crate::spelling::spelling;
-use hub_files::is_heading;
+use hub_bundle::is_heading;
 use hub_text::Lines;
 use std::alloc::{AllocError, Global};
 

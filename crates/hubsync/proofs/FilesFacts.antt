@@ -5,7 +5,7 @@ use Rattle.std.proofs.lemmas.List.Elements.{Contains-append_right, Contains-get_
 use Rattle.std.specs.List.{Contains}
 use Rattle.hub_cli.specs.Words.{Names}
 use Rattle.hub_folder.specs.Reading.{Reads}
-use Rattle.hub_files.specs.declared.part.Kind.TheVariants.{Profile}
+use Rattle.hub_bundle.specs.declared.part.Kind.TheVariants.{Profile}
 use Rattle.hub_folder.specs.Operands.{File}
 use Rattle.hub_hosts.specs.declared.fault.HostsFault.{HostsFault}
 use denote.Ref.{Bor}

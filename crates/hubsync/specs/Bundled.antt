@@ -2,12 +2,12 @@
 use Rattle.std.specs.Prelude.{◌≡◌, ◌⊎◌, ◌++◌, ℕ, Bool, false, true, List, [], ◌∷◌, Option, Some, None, Ok, Err, is_some, codes, map, string_bytes}
 use Rattle.std.specs.List.{All, Contains, slice_get}
 use Rattle.hub_cli.specs.Words.{Names, Request}
-use Rattle.hub_files.specs.Files.{bundle_of, first_faulty, part_fault}
-use Rattle.hub_files.specs.declared.part.Kind.{Kind}
-use Rattle.hub_files.specs.declared.part.Kind.TheVariants.{Profile, Rules, State, Certificates}
-use Rattle.hub_files.specs.declared.part.Part.{Part}
-use Rattle.hub_files.specs.declared.part.PartFault.{PartFault}
-use Rattle.hub_files.specs.declared.part.PartFault.TheVariants.{BadName, HasHeading}
+use Rattle.hub_bundle.specs.Files.{bundle_of, first_faulty, part_fault}
+use Rattle.hub_bundle.specs.declared.part.Kind.{Kind}
+use Rattle.hub_bundle.specs.declared.part.Kind.TheVariants.{Profile, Rules, State, Certificates}
+use Rattle.hub_bundle.specs.declared.part.Part.{Part}
+use Rattle.hub_bundle.specs.declared.part.PartFault.{PartFault}
+use Rattle.hub_bundle.specs.declared.part.PartFault.TheVariants.{BadName, HasHeading}
 use Rattle.hub_serve.specs.Reads.{Reads as InputReads}
 use Rattle.hub_serve.specs.Report.{AnswersNothing, Serves, WritesText}
 use Rattle.hub_folder.specs.Operands.{AreNamed, File, IsUnnamed}

@@ -1,15 +1,15 @@
 //! Answers over a bundle that is made of files.
 ghost use Rattle.std.specs.Prelude.{◌≡◌, ◌++◌, ◌∷◌, [], IfOk, codes, false, map, string_bytes};
 ghost use Rattle.hub_cli.specs.Words.{asked_of};
-ghost use Rattle.hub_files.specs.Files as files;
-ghost use Rattle.hub_files.specs.Files.{bundle_of};
+ghost use Rattle.hub_bundle.specs.Files as files;
+ghost use Rattle.hub_bundle.specs.Files.{bundle_of};
 ghost use Rattle.hub_serve.specs.Report.{WritesText};
 ghost use Rattle.hubsync.specs.Bundled as bundled;
 ghost use Rattle.hubsync.specs.Bundled.{ServesBundle, ServesParts, WritesFault, file_fault_line, file_at, memory_line, reason_at};
 
 use crate::kept::Kept;
 use crate::served::{Answered, Seen, serve_with_remarks};
-use hub_files::{FilesFault, Part, PartFault, bundle_of, part_fault};
+use hub_bundle::{FilesFault, Part, PartFault, bundle_of, part_fault};
 use hub_source::SourceFile;
 use hub_text::Watched;
 use std::alloc::{AllocError, Global};

@@ -2,7 +2,7 @@
 ghost use Rattle.std.specs.Prelude.{◌≡◌, ◌++◌, ℕ, List, false, map, option_map, string_bytes, IfErr, IfOk, OnOk};
 ghost use Rattle.std.specs.List.{All};
 ghost use Rattle.hub_cli.specs.Words.{Names, asked_of, names_of};
-ghost use Rattle.hub_files.specs.declared.part.Kind.TheVariants.{Profile};
+ghost use Rattle.hub_bundle.specs.declared.part.Kind.TheVariants.{Profile};
 ghost use Rattle.hub_folder.specs.Told.{path_and_text};
 ghost use Rattle.hubsync.specs.Bundled.{AreRead, AreSections, AreTaken, HasContents, IsTable, ServesFiles, bytes_of, for_hosts, label_if, label_of, labels, option_labels};
 ghost use Rattle.hubsync.specs.Named.{IsUnreadFile, IsUnreadOf, IsUnserved, bytes_held, label_held, label_named, sources_in, table_in};
@@ -11,8 +11,8 @@ use crate::bundled::{serve_parts, write_memory};
 use crate::kept::Kept;
 use crate::served::{Answered, Seen};
 use crate::untaken::{write_bad_hosts, write_unread, write_untaken};
+use hub_bundle::{Kind, Part};
 use hub_cli::{Files, Options};
-use hub_files::{Kind, Part};
 use hub_folder::{FileReader, FolderProfile, Origins, ReadFault, Unread, profiles_named};
 use hub_hosts::{Hosts, HostsFault};
 use hub_source::{LineOrigin, SourceFile};

@@ -7,7 +7,7 @@ use Rattle.hub_text.specs.Lines.{lines_of}
 use Rattle.hub_text.specs.Takes.{of_bytes, yields-numbered_lines}
 use Rattle.hub_bundle.proofs.Lines.{ends_blank, unless_heading, stray_line-find}
 use Rattle.hub_bundle.proofs.bundle.stray_line_of.Goals as goal
-use Rattle.hub_files.specs.Files.{is_heading}
+use Rattle.hub_bundle.specs.Files.{is_heading}
 
 -- The result, by what `find` returned.
 abbrev after_find : Option (ℕ × Line (Bor (List ℕ))) → Option ℕ

@@ -1,5 +1,5 @@
 use Rattle.std.proofs.Common.{◌≡◌, ◌++◌, drop, map}
-use Rattle.hub_files.specs.declared.part.Kind.TheVariants.{Profile}
+use Rattle.hub_bundle.specs.declared.part.Kind.TheVariants.{Profile}
 use Rattle.hubsync.specs.Named.{label_named}
 use Rattle.hubsync.proofs.files.profile_files.Given as goal
 

@@ -1,5 +1,5 @@
 use Rattle.std.proofs.Common.{◌≡◌, map}
-use Rattle.hub_files.specs.declared.part.Kind.TheVariants.{Profile}
+use Rattle.hub_bundle.specs.declared.part.Kind.TheVariants.{Profile}
 use Rattle.hub_folder.specs.Told.{path_and_text}
 use Rattle.hubsync.specs.Bundled.{for_hosts}
 use Rattle.hubsync.specs.Named.{bytes_held, label_held, table_in}

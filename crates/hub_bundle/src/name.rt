@@ -1,6 +1,6 @@
 //! The name of the profile in a file.
 ghost use Rattle.std.specs.Prelude.{◌≡◌};
-ghost use Rattle.hub_files.specs.Files as files;
+ghost use Rattle.hub_bundle.specs.Files as files;
 
 /// The name of the profile in a file: what follows the last `/` of its path, without `.prf` at its end.
 pub(crate) fn profile_name(path: &str) -> &[u8]

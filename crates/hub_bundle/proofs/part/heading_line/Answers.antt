@@ -5,8 +5,8 @@ use Rattle.std.proofs.lemmas.Iterator.Search.{position_from_yields_List}
 use Rattle.hub_text.specs.declared.line.Line.{Line}
 use Rattle.hub_text.specs.Lines.{lines_of}
 use Rattle.hub_text.specs.Takes.{YieldsList-lines, of_bytes}
-use Rattle.hub_files.specs.Files.{heading_line, is_heading}
-use Rattle.hub_files.proofs.part.heading_line.Goals as goal
+use Rattle.hub_bundle.specs.Files.{heading_line, is_heading}
+use Rattle.hub_bundle.proofs.part.heading_line.Goals as goal
 
 abbrev number_of : Option ℕ → Option ℕ
 number_of index = option_map (λ i. i + 1) index

@@ -1,7 +1,7 @@
 //! Files, each with the section that it is for.
 ghost use Rattle.std.specs.Prelude.{◌≡◌, ◌+◌, ◌≤◌, length};
 ghost use Rattle.hub_text.specs.Lines.{lines_of};
-ghost use Rattle.hub_files.specs.Files as files;
+ghost use Rattle.hub_bundle.specs.Files as files;
 
 use crate::name::profile_name;
 use hub_text::Lines;

@@ -1,7 +1,7 @@
 -- Worked values of the bundle that is made of files.
 use Rattle.std.specs.Prelude.{◌≡◌, codes, refl, Some, None}
 use Rattle.hub_text.specs.Lines.{lines_of}
-use Rattle.hub_files.specs.Files.{heading_line, line_end, profile_name}
+use Rattle.hub_bundle.specs.Files.{heading_line, line_end, profile_name}
 
 a_profile_is_named_by_its_file : profile_name (codes "/home/anna/.unison/docs.prf") ≡ codes "docs"
 a_profile_is_named_by_its_file = refl

@@ -1,7 +1,7 @@
 //! A bundle of files.
 ghost use Rattle.std.specs.Prelude.{◌≡◌, ◌++◌, ◌⊎◌, IfErr, IfOk, None, OnOk};
-ghost use Rattle.hub_files.specs.Files as files;
-ghost use Rattle.hub_files.specs.declared.bundle.FilesFault.TheVariants.{OutOfMemory};
+ghost use Rattle.hub_bundle.specs.Files as files;
+ghost use Rattle.hub_bundle.specs.declared.files.FilesFault.TheVariants.{OutOfMemory};
 
 use crate::part::{Part, heading_name, heading_word, part_fault};
 use std::alloc::{AllocError, Global};
@@ -16,7 +16,7 @@ pub enum FilesFault {
 }
 
 impl From<AllocError> for FilesFault {
-    ghost use Rattle.hub_files.specs.declared.bundle.FilesFault.TheVariants.{OutOfMemory};
+    ghost use Rattle.hub_bundle.specs.declared.files.FilesFault.TheVariants.{OutOfMemory};
     ghost use Rattle.std.specs.Prelude.{◌≡◌};
 
     ghost from_gives = { λ _ e. e ≡ OutOfMemory };

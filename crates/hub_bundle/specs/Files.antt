@@ -4,13 +4,13 @@ use Rattle.std.specs.List.{ends_with, flat_map, list_any, position}
 use Rattle.std.specs.Option.{option_map}
 use Rattle.hub_text.specs.declared.line.Line.{Line}
 use Rattle.hub_text.specs.Lines.{lines_of}
-use Rattle.hub_files.specs.declared.bundle.FilesFault.{FilesFault}
-use Rattle.hub_files.specs.declared.bundle.FilesFault.TheVariants.{File, OutOfMemory}
-use Rattle.hub_files.specs.declared.part.Kind.{Kind}
-use Rattle.hub_files.specs.declared.part.Kind.TheVariants.{Profile, Rules, State, Certificates}
-use Rattle.hub_files.specs.declared.part.Part.{Part}
-use Rattle.hub_files.specs.declared.part.PartFault.{PartFault}
-use Rattle.hub_files.specs.declared.part.PartFault.TheVariants.{BadName, HasHeading}
+use Rattle.hub_bundle.specs.declared.files.FilesFault.{FilesFault}
+use Rattle.hub_bundle.specs.declared.files.FilesFault.TheVariants.{File, OutOfMemory}
+use Rattle.hub_bundle.specs.declared.part.Kind.{Kind}
+use Rattle.hub_bundle.specs.declared.part.Kind.TheVariants.{Profile, Rules, State, Certificates}
+use Rattle.hub_bundle.specs.declared.part.Part.{Part}
+use Rattle.hub_bundle.specs.declared.part.PartFault.{PartFault}
+use Rattle.hub_bundle.specs.declared.part.PartFault.TheVariants.{BadName, HasHeading}
 
 -- What follows the last `/` of a file's path.
 abbrev pub base_after : List ℕ → List ℕ → List ℕ

@@ -1,7 +1,7 @@
 use Rattle.std.proofs.Common.{◌≡◌, take}
 use Rattle.std.specs.List.{flat_map}
-use Rattle.hub_files.specs.Files.{part_text}
-use Rattle.hub_files.proofs.bundle.bundle_of.Given as goal
+use Rattle.hub_bundle.specs.Files.{part_text}
+use Rattle.hub_bundle.proofs.files.bundle_of.Given as goal
 
 abbrev pub invariant-loop-part : goal.invariant-loop-part
 invariant-loop-part l = l.bundle.items ≡ flat_map part_text (take l.part-index l.parts)

@@ -4,7 +4,7 @@ use Rattle.std.specs.Prelude.{Contains, OnOk, Result, Ok, Err, slice_get}
 use Rattle.std.proofs.lemmas.List.{length_push}
 use Rattle.std.proofs.lemmas.List.Elements.{Contains-append_left, Contains-append_right, Contains-append_cases}
 use Rattle.std.proofs.lemmas.Option.{none-some, slice_get_within}
-use Rattle.hub_text.specs.ListLaws.{has-item, less-or-same, snoc-cases, snoc-new, snoc-old}
+use Rattle.hub_text.specs.laws.List.{has-item, less-or-same, snoc-cases, snoc-new, snoc-old}
 use Rattle.hub_profile.specs.Parts.{Parts}
 use Rattle.hub_profile.specs.declared.rule.Rule.{Rule}
 use Rattle.hub_cert.specs.Refused.{IsRefused}

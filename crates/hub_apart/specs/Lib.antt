@@ -1,3 +1,3 @@
 pub mod Apart
 pub mod ApartLines
-pub mod ApartExamples
+pub mod examples

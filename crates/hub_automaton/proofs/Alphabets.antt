@@ -10,10 +10,10 @@ use lib.Utf8.{scalar}
 use Rattle.std.proofs.lemmas.List.{drop_all}
 use Rattle.std.proofs.lemmas.Bool.{and_from, and_parts, cases_Bool, cases_lt, not-true, or_parts, or_right}
 use Rattle.std.proofs.lemmas.Bool.Decides.{nat_tests}
-use Rattle.hub_text.specs.TestLaws.{or-swap, or-then}
+use Rattle.hub_text.specs.laws.Test.{or-swap, or-then}
 use Rattle.hub_automaton.specs.declared.alphabet.TheConstants.{MENTIONED_CHARACTERS}
 use Rattle.hub_automaton.specs.Alphabet.{is_never_mentioned, is_mentioned, class_of, class_count, first_unmentioned, sample, ascends, IsAlphabet, inserted, with_character, with_characters, mentions}
-use Rattle.hub_automaton.specs.Adding.{length-placed}
+use Rattle.hub_automaton.specs.laws.Adding.{length-placed}
 
 -- Tests of all elements.
 all_below : (m n : ℕ) (ms : List ℕ) → m ≤ n → list_all (λ k. nat_lt n k) ms ≡ true → list_all (λ k. nat_lt m k) ms ≡ true

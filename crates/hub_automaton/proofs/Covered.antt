@@ -10,7 +10,7 @@ use Rattle.hub_glob.specs.Specification.{Specification}
 use Rattle.hub_glob.specs.Glob.{choices}
 use Rattle.hub_automaton.specs.Alphabet.{is_never_mentioned, is_mentioned, mentions, piece_characters, pieces_characters, part_characters, spec_characters}
 use Rattle.hub_automaton.specs.Spots.{alternatives_of, is_covered}
-use Rattle.hub_automaton.specs.AddedInTurn.{parts-mentioned}
+use Rattle.hub_automaton.specs.laws.AddedInTurn.{parts-mentioned}
 
 -- The characters that a pattern mentions are those of its choices.
 abbrev covers : List ℕ → List Piece → Bool

@@ -11,11 +11,11 @@ use Rattle.std.proofs.Math.Bool.{and_comm, and-true, and-false}
 use lib.Bits.{bit_and}
 use mir.Val.{bool_byte}
 use Rattle.hub_glob.specs.declared.piece.Piece.{Piece}
-use Rattle.hub_text.specs.TestLaws.{any-map, not-not, or-assoc}
+use Rattle.hub_text.specs.laws.Test.{any-map, not-not, or-assoc}
 use Rattle.hub_automaton.specs.declared.alternatives.Alternatives.{Alternatives}
 use Rattle.hub_automaton.specs.Ends.{meets, end_choice, end_choices, in_range, end_all, end_flags, ends_in, end_below, below_ends}
 use Rattle.hub_automaton.specs.Spots.{is_matched_above, is_below_kind, is_matched, spot_count, spots_count, unpacked, seen}
-use Rattle.hub_automaton.specs.Stepping.{ended_matches, ended_choices, matched_each}
+use Rattle.hub_automaton.specs.forms.Stepping.{ended_matches, ended_choices, matched_each}
 use Rattle.hub_automaton.specs.Words.{word, words_for, packed_by, packed, bit, with_bit}
 use Rattle.hub_automaton.specs.Masks.{ended_at, marked}
 use Rattle.hub_automaton.proofs.Kept.{any_from, any_from-drop, drop-map, range_is}

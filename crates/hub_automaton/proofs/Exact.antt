@@ -7,8 +7,8 @@ use Rattle.std.specs.declared.cmp.Ordering.TheVariants.{Equal}
 use Rattle.std.specs.Ordering.{is_eq}
 use Rattle.std.proofs.lemmas.Slice.Eq.{bytes_eq-Decides}
 use Rattle.std.proofs.lemmas.Bool.{and_from, and_parts}
-use Rattle.hub_text.specs.Exact.{bool_exact}
-use Rattle.hub_text.specs.TestLaws.{is_eq-equal}
+use Rattle.hub_text.specs.laws.Exact.{bool_exact}
+use Rattle.hub_text.specs.laws.Test.{is_eq-equal}
 use Rattle.hub_automaton.specs.Spots.{Seen}
 use Rattle.hub_automaton.specs.contracts.spec_set.SpotsPartialEq.TheImpl as tested
 use Rattle.hub_automaton.specs.contracts.spec_set.SpotsOrd.TheImpl as ordered

@@ -8,8 +8,8 @@ use Rattle.hub_glob.specs.declared.piece.Piece.{Piece}
 use Rattle.hub_glob.specs.declared.piece.Piece.TheVariants.{Run}
 use Rattle.hub_glob.specs.declared.path_spec.Kind.{Kind}
 use Rattle.hub_glob.specs.Taking.{takes}
-use Rattle.hub_text.specs.ListLaws.{drop-tail, head-drop}
-use Rattle.hub_text.specs.TestLaws.{head, tail, any-map}
+use Rattle.hub_text.specs.laws.List.{drop-tail, head-drop}
+use Rattle.hub_text.specs.laws.Test.{head, tail, any-map}
 use Rattle.std.proofs.Math.Bool.{and-true, and-false, or-false, or-true}
 use Rattle.hub_automaton.specs.declared.alternatives.Alternatives.{Alternatives}
 use Rattle.hub_automaton.specs.declared.masks.Mask.{Mask}
@@ -17,7 +17,7 @@ use Rattle.hub_automaton.specs.declared.masks.Mask.TheVariants as mask
 use Rattle.hub_glob.specs.declared.piece.NextCharacter.{NextCharacter}
 use Rattle.hub_automaton.specs.Masks.{masks_piece, mask_choice, mask_choices, mask_all, ended_at, matched_at, marked, moved_row, moved_seen}
 use Rattle.hub_automaton.specs.Spots.{is_below_kind, is_matched_above, is_matched, spot_count, spots_count, unpacked, packed_seen, Unpacked, Seen, seen}
-use Rattle.hub_automaton.specs.Stepping.{stepped_all, ended_choices, goes_below, below_one, below_all, matched_each, pushed}
+use Rattle.hub_automaton.specs.forms.Stepping.{stepped_all, ended_choices, goes_below, below_one, below_all, matched_each, pushed}
 use Rattle.hub_automaton.specs.Words.{word, words_for, packed_by, packed, bit, with_bit, moved_words}
 use Rattle.hub_automaton.proofs.Loops.{ended_place}
 use Rattle.hub_automaton.proofs.Masked.{entry, entry_choices, entries, all_move}

@@ -3,9 +3,9 @@ use Rattle.std.proofs.Common.{◌≡◌, ℕ, suc, zero, ◌+◌, ◌<◌, ◌�
 use Rattle.std.specs.Prelude.{IfOk, slice_index_or}
 use Rattle.std.proofs.lemmas.List.{drop_all, get_or-drop}
 use Rattle.hub_glob.specs.declared.piece.Piece.{Piece}
-use Rattle.hub_text.specs.ListLaws.{next-drop}
-use Rattle.hub_text.specs.TestLaws.{tail}
-use Rattle.hub_automaton.specs.Stepping.{last_spot, ended_matches}
+use Rattle.hub_text.specs.laws.List.{next-drop}
+use Rattle.hub_text.specs.laws.Test.{tail}
+use Rattle.hub_automaton.specs.forms.Stepping.{last_spot, ended_matches}
 use Rattle.hub_automaton.specs.Words.{packed}
 
 -- The tests behind the first one, from a place on.

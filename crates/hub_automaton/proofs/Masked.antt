@@ -7,13 +7,13 @@ use Rattle.hub_glob.specs.declared.piece.Piece.{Piece}
 use Rattle.hub_glob.specs.declared.piece.Piece.TheVariants.{Lit, Any, Run, OneOf}
 use Rattle.hub_glob.specs.declared.path_spec.Kind.{Kind}
 use Rattle.hub_glob.specs.Taking.{takes, is_star}
-use Rattle.hub_text.specs.TestLaws.{head, tail}
+use Rattle.hub_text.specs.laws.Test.{head, tail}
 use Rattle.hub_automaton.specs.declared.alternatives.Alternatives.{Alternatives}
 use Rattle.hub_automaton.specs.declared.masks.Mask.TheVariants as mask
 use Rattle.hub_glob.specs.declared.piece.NextCharacter.{NextCharacter}
 use Rattle.hub_automaton.specs.Masks.{mask_choice, mask_choices, mask_all}
 use Rattle.hub_automaton.specs.Spots.{spot_count}
-use Rattle.hub_automaton.specs.Stepping.{spot_past, stepped_pieces, stepped, entered_pieces, entered, stepped_choices, entered_choices, stepped_one, stepped_all}
+use Rattle.hub_automaton.specs.forms.Stepping.{spot_past, stepped_pieces, stepped, entered_pieces, entered, stepped_choices, entered_choices, stepped_one, stepped_all}
 use Rattle.hub_automaton.specs.Words.{moved}
 use Rattle.hub_automaton.proofs.Loops.{drop-of_tail}
 use Rattle.hub_glob.specs.Specification.{is_name_kind}

@@ -7,18 +7,18 @@ use Rattle.std.proofs.lemmas.List.{length-map}
 use Rattle.std.proofs.lemmas.Bool.{and_from}
 use Rattle.std.proofs.lemmas.Bool.Decides.{nat_tests, Decides-like, same_from_decides}
 use Rattle.hub_path.specs.Path.{Path, name_eq, path_eq, is_place, is_path, text_of, path_of}
-use Rattle.hub_path.specs.Laws.{name_eq-decides, path_eq-decides, path_of-text_of, text_of-path_of}
-use Rattle.hub_path.specs.TextLaws.{scalars-text}
+use Rattle.hub_path.specs.laws.General.{name_eq-decides, path_eq-decides, path_of-text_of, text_of-path_of}
+use Rattle.hub_path.specs.laws.Text.{scalars-text}
 use Rattle.std.proofs.Math.Bool.{and-true, or-false}
 use Rattle.hub_glob.specs.declared.piece.Piece.TheVariants.{Lit}
 use Rattle.hub_glob.specs.Glob.{pieces, no_more}
-use Rattle.hub_glob.specs.OneStep.{nonzero}
+use Rattle.hub_glob.specs.laws.OneStep.{nonzero}
 use Rattle.hub_automaton.specs.declared.alternatives.Alternatives.{Alternatives}
 use Rattle.hub_automaton.specs.declared.alternatives.TheConstants.{SPOTS}
 use Rattle.hub_automaton.specs.declared.fault.AutomatonFault.{AutomatonFault}
 use Rattle.hub_automaton.specs.Alphabet.{IsAlphabet, is_mentioned, mentions, piece_characters, path_characters}
 use Rattle.hub_automaton.specs.Spots.{path_alternatives, is_matched, is_covered, spots_count, RefusesSpots}
-use Rattle.hub_automaton.specs.AddedInTurn.{parts-mentioned, spots-append}
+use Rattle.hub_automaton.specs.laws.AddedInTurn.{parts-mentioned, spots-append}
 use Rattle.hub_automaton.proofs.Covered.{mentions-join}
 
 flip : (x c : ℕ) → (x == c) ≡ nat_eq c x

@@ -15,7 +15,7 @@ use Rattle.hub_glob.specs.Taking.{takes}
 use Rattle.hub_automaton.specs.declared.alternatives.Alternatives.{Alternatives}
 use Rattle.hub_automaton.specs.declared.words.Masks.{Masks}
 use Rattle.hub_automaton.specs.Masks.{ended_at, marked, moved_row, moved_seen}
-use Rattle.hub_automaton.specs.Rows.{AreMovedApart, AreMoved, AreTakenAlike, NoneCarried, last_before, masks_at, shifted_at, word_at}
+use Rattle.hub_automaton.specs.forms.Rows.{AreMovedApart, AreMoved, AreTakenAlike, NoneCarried, last_before, masks_at, shifted_at, word_at}
 use Rattle.hub_automaton.specs.Spots.{Seen, is_below_kind, spot_count}
 use Rattle.hub_automaton.specs.Words.{first_word, other_words, spread, moved_word, moved_words, with_bit}
 use Rattle.hub_automaton.proofs.WordLoops.{first-drop}

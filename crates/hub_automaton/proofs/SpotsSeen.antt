@@ -6,7 +6,7 @@ use Rattle.std.proofs.lemmas.List.{length-append, length-map}
 use Rattle.hub_glob.specs.declared.piece.Piece.{Piece}
 use Rattle.hub_automaton.specs.declared.alternatives.Alternatives.{Alternatives}
 use Rattle.hub_automaton.specs.Spots.{spots, looked_at, spots_of, is_matched_above, is_matched, spots_count, starts, Unpacked, unpacked, Seen, seen, SpotsSeen, spots_seen}
-use Rattle.hub_automaton.specs.Stepping.{matched_each}
+use Rattle.hub_automaton.specs.forms.Stepping.{matched_each}
 use Rattle.hub_automaton.specs.Words.{words_for, packed_by, packed}
 use Rattle.hub_automaton.proofs.Steps.{length-spots}
 use Rattle.hub_automaton.proofs.Spotted.{length-spots_all, each_law}

@@ -7,7 +7,7 @@ use Rattle.std.proofs.lemmas.List.Folds.{list_all-append}
 use Rattle.std.proofs.lemmas.Bool.{and_parts, not-true, or_right}
 use Rattle.std.proofs.lemmas.Bool.Decides.{nat_tests}
 use Rattle.hub_path.specs.Path.{Name, Path, is_name, is_place, is_path, text_of, last_name, prefixes}
-use Rattle.hub_path.specs.Laws.{is_no_slash, name-apart}
+use Rattle.hub_path.specs.laws.General.{is_no_slash, name-apart}
 use Rattle.hub_glob.specs.declared.piece.Piece.{Piece}
 use Rattle.hub_glob.specs.declared.piece.Piece.TheVariants.{Lit, Any, Run, OneOf}
 use Rattle.hub_glob.specs.declared.piece.Part.{Part}
@@ -16,14 +16,14 @@ use Rattle.hub_glob.specs.declared.path_spec.Kind.TheVariants as kind
 use Rattle.hub_glob.specs.Specification.{Specification, is_name_kind}
 use Rattle.hub_glob.specs.Glob.{glob, choices, matches, by_kind}
 use Rattle.hub_glob.specs.Taking.{takes, is_star}
-use Rattle.hub_text.specs.TestLaws.{head, tail, any-append, any-map, any-alike}
+use Rattle.hub_text.specs.laws.Test.{head, tail, any-append, any-map, any-alike}
 use Rattle.std.proofs.Math.Bool.{or-false}
-use Rattle.hub_glob.specs.ChoiceLaws.{glob_choices}
+use Rattle.hub_glob.specs.laws.Choice.{glob_choices}
 use Rattle.hub_automaton.specs.Alphabet.{is_never_mentioned, is_mentioned, class_of, mentions, piece_characters, pieces_characters, class_count, first_unmentioned, sample, IsAlphabet}
 use Rattle.hub_automaton.specs.declared.alternatives.Alternatives.{Alternatives}
 use Rattle.hub_glob.specs.declared.piece.NextCharacter.{NextCharacter}
 use Rattle.hub_automaton.specs.Spots.{spots, since_slash, looked_at, folders, starts, fits, is_below_kind, alternatives_of, spots_of, is_matched_above, is_matched, Unpacked, unpacked, spot_count, is_covered}
-use Rattle.hub_automaton.specs.Stepping.{stepped_pieces, stepped, ended_matches, stepped_choices, ended_choices, entered_choices, stepped_all, below_all, matched_each, pushed}
+use Rattle.hub_automaton.specs.forms.Stepping.{stepped_pieces, stepped, ended_matches, stepped_choices, ended_choices, entered_choices, stepped_all, below_all, matched_each, pushed}
 use Rattle.hub_automaton.proofs.Alphabets.{sample_class}
 use Rattle.hub_automaton.proofs.Steps.{next_of, choice_law, ended_law, empty_spots, length-spots, front_matches}
 

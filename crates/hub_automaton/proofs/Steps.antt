@@ -5,12 +5,12 @@ use Rattle.hub_glob.specs.declared.piece.Piece.{Piece}
 use Rattle.hub_glob.specs.declared.piece.Piece.TheVariants.{Lit, Any, Run, OneOf}
 use Rattle.hub_glob.specs.Glob.{Texts, begins, piece, pieces, no_more}
 use Rattle.hub_glob.specs.Taking.{is_star}
-use Rattle.hub_text.specs.TestLaws.{agree, and-assoc, same, every4}
+use Rattle.hub_text.specs.laws.Test.{agree, and-assoc, same, every4}
 use Rattle.std.proofs.Math.Bool.{and-true, and-false, or-false}
-use Rattle.hub_glob.specs.OneStep.{nonzero, takes_run, run_step, run_end, pieces-append}
+use Rattle.hub_glob.specs.laws.OneStep.{nonzero, takes_run, run_step, run_end, pieces-append}
 use Rattle.hub_glob.specs.declared.piece.NextCharacter.{NextCharacter}
 use Rattle.hub_automaton.specs.Spots.{spots, starts}
-use Rattle.hub_automaton.specs.Stepping.{spot_past, stepped_pieces, last_spot, stepped, ended_matches, entered_pieces, entered}
+use Rattle.hub_automaton.specs.forms.Stepping.{spot_past, stepped_pieces, last_spot, stepped, ended_matches, entered_pieces, entered}
 
 not_empty : (t : List ℕ) (x : ℕ) → (length (t ++ x ∷ []) == 0) ≡ false
 not_empty [] x = nonzero 0

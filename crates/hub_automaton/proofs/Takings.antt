@@ -6,14 +6,14 @@ use Rattle.std.proofs.Math.Bool.{and-false, or-false}
 use Rattle.std.proofs.lemmas.Bool.{cases_eq}
 use Rattle.std.proofs.lemmas.Bool.Decides.{nat_tests}
 use Rattle.std.proofs.lemmas.List.{drop_all, length-map, length-set, get_or-set_same, get_or-set_other}
-use Rattle.hub_text.specs.ListLaws.{next-drop}
+use Rattle.hub_text.specs.laws.List.{next-drop}
 use Rattle.hub_glob.specs.declared.piece.Piece.{Piece}
 use Rattle.hub_glob.specs.declared.piece.Piece.TheVariants.{Lit, OneOf}
 use Rattle.hub_glob.specs.declared.path_spec.Kind.{Kind}
 use Rattle.hub_automaton.specs.Alphabet.{IsAlphabet, class_of, class_count, sample, first_unmentioned}
 use Rattle.hub_automaton.specs.Masks.{masks_start, masks_piece, mask_choice, mask_choices, mask_all}
 use Rattle.hub_automaton.specs.Spots.{spot_count}
-use Rattle.hub_automaton.specs.Takers.{AreTaken, begun, is_among}
+use Rattle.hub_automaton.specs.forms.Takers.{AreTaken, begun, is_among}
 use Rattle.hub_automaton.specs.Words.{packed, with_bit}
 use Rattle.hub_automaton.specs.declared.alternatives.Alternatives.{Alternatives}
 use Rattle.hub_automaton.specs.declared.masks.Mask.TheVariants as mask

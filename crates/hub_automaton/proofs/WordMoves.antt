@@ -7,7 +7,7 @@ use Rattle.std.proofs.Math.Nat.{pow-le-pow_right}
 use Rattle.std.proofs.lemmas.List.{drop-drop, length-drop, get_or-drop, take-append-drop}
 use lib.Bits.{bit_and}
 use mir.Val.{bool_byte}
-use Rattle.hub_text.specs.TestLaws.{head, tail}
+use Rattle.hub_text.specs.laws.Test.{head, tail}
 use Rattle.std.proofs.Math.Bool.{and-false, or-false}
 use Rattle.hub_automaton.specs.declared.words.Masks.{Masks}
 use Rattle.hub_automaton.specs.Words.{bit, first_word, other_words, word, packed_by, moved, spread, seeds, moved_word, moved_words}

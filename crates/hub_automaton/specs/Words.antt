@@ -3,7 +3,7 @@ use Rattle.std.specs.Prelude.{ℕ, zero, suc, Bool, ◌&&◌, ◌||◌, ◌==◌
 use Rattle.std.specs.Int.RustNames.{bit_or, bit_xor}
 use lib.Bits.{bit_and}
 use mir.Val.{bool_byte}
-use Rattle.hub_text.specs.TestLaws.{head, tail}
+use Rattle.hub_text.specs.laws.Test.{head, tail}
 use Rattle.hub_automaton.specs.declared.words.Masks.{Masks}
 
 abbrev pub first_word : List ℕ → ℕ

@@ -14,8 +14,8 @@
 //!   lead elsewhere than class 0.
 //! - [`SpecSetBuilder`] collects the specifications of a set, and paths that stand for themselves and all paths below.
 //!
-//! The contracts use the words of `specs/Alphabet` (classes) and `specs/Spots` (the state after a text). `specs/Stepping`
-//! defines a step position by position, `specs/Masks` and `specs/Words` for 64 positions at once, and `specs/Rows` for many
+//! The contracts use the words of `specs/Alphabet` (classes) and `specs/Spots` (the state after a text). `specs/forms/Stepping`
+//! defines a step position by position, `specs/Masks` and `specs/Words` for 64 positions at once, and `specs/forms/Rows` for many
 //! words at once. `specs/Alike` says which characters may be treated alike, `specs/Varied` at which positions a class is told
 //! from class 0, `specs/Opened` what a class that isn't open leads to, and `specs/Ends` the masks of last positions.
 //!

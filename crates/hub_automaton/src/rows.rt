@@ -1,8 +1,8 @@
 //! Rows of words moved on by a character: first each word without the position before it, so that a processor moves several
 //! at once, and then those words again that the position before them goes on into.
 ghost use Rattle.std.specs.Prelude.{◌≡◌, ◌<◌, ◌≤◌, length, drop, min};
-ghost use Rattle.hub_automaton.specs.Rows as rows;
-ghost use Rattle.hub_automaton.specs.Rows.{IsMoved, IsMovedApart, IsSized, NoneCarried};
+ghost use Rattle.hub_automaton.specs.forms.Rows as rows;
+ghost use Rattle.hub_automaton.specs.forms.Rows.{IsMoved, IsMovedApart, IsSized, NoneCarried};
 
 use crate::words::{Masks, WORD_BITS, moved_word};
 

@@ -5,7 +5,7 @@ ghost use Rattle.hub_glob.specs.Taking.{takes};
 ghost use Rattle.hub_glob.specs.declared.piece.Piece.TheVariants.{Run};
 ghost use Rattle.hub_automaton.specs.Masks as masking;
 ghost use Rattle.hub_automaton.specs.Spots.{spot_count};
-ghost use Rattle.hub_automaton.specs.Stepping as stepping;
+ghost use Rattle.hub_automaton.specs.forms.Stepping as stepping;
 ghost use Rattle.hub_automaton.specs.Words.{packed};
 
 use crate::alternatives::{Alternatives, SPOTS};

@@ -4,7 +4,7 @@ ghost use Rattle.hub_glob.specs.declared.path_spec.Kind.{Kind};
 ghost use Rattle.hub_automaton.specs.Alphabet.{IsAlphabet, class_count, first_unmentioned};
 ghost use Rattle.hub_automaton.specs.Masks as masking;
 ghost use Rattle.hub_automaton.specs.Spots.{spot_count, spots_count};
-ghost use Rattle.hub_automaton.specs.Takers.{AreTaken, begun, is_among};
+ghost use Rattle.hub_automaton.specs.forms.Takers.{AreTaken, begun, is_among};
 ghost use Rattle.hub_automaton.specs.Words.{packed};
 ghost use Rattle.hub_automaton.specs.declared.masks.Mask.TheVariants.{Takers, Common};
 

@@ -1,7 +1,7 @@
 //! Bits in words, and how positions move word by word when a text gets one more character.
 ghost use Rattle.std.specs.Prelude.{◌≡◌, ◌≤◌, ◌++◌, length, take, drop, IfOk, OnOk, IsOk};
 ghost use Rattle.hub_automaton.specs.Words as words;
-ghost use Rattle.hub_automaton.specs.Rows.{IsSized, moved_by};
+ghost use Rattle.hub_automaton.specs.forms.Rows.{IsSized, moved_by};
 
 use crate::rows::{RowStep, move_row};
 use std::alloc::{AllocError, Global};

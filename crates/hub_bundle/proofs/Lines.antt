@@ -6,7 +6,7 @@ use Rattle.std.proofs.lemmas.Bool.{false≢true}
 use denote.Ref.{Bor}
 use Rattle.hub_text.specs.declared.line.Line.{Line}
 use Rattle.hub_text.specs.Lines.{lines_of, line_text}
-use Rattle.hub_text.specs.LineLaws.{text-first_line, shorter-first_line}
+use Rattle.hub_text.specs.laws.Line.{text-first_line, shorter-first_line}
 use Rattle.hub_text.specs.Takes.{Takes, of_bytes}
 use Rattle.hub_bundle.specs.Bundle.{is_ignorable, follows_section, bytes_before_heading, written, stray_line}
 use Rattle.hub_bundle.specs.Files.{is_heading}

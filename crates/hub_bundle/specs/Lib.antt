@@ -2,5 +2,4 @@ pub mod Bundle
 pub mod Files
 pub mod Input
 pub mod Sections
-pub mod Examples
-pub mod FilesExamples
+pub mod examples

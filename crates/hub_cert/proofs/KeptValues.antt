@@ -3,16 +3,17 @@ use Rattle.std.proofs.Common.{◌≡◌, ◌∙◌, ◌⊎◌, ⊎_elim, ℕ, Bo
 use Rattle.std.specs.Prelude.{IsTrue, Contains}
 use Rattle.std.specs.List.{list_all, list_any}
 use Rattle.std.proofs.lemmas.Bool.{and_parts, false_from_ne_true}
-use Rattle.hub_text.specs.ListLaws.{cons-cases}
+use Rattle.hub_text.specs.laws.List.{cons-cases}
 use Rattle.hub_path.specs.Path.{Path, is_over, path_of, prefixes}
-use Rattle.hub_path.specs.TextLaws.{prefixes-over}
+use Rattle.hub_path.specs.laws.Text.{prefixes-over}
 use Rattle.hub_profile.specs.Parts.{Parts, at_side, some_passes}
 use Rattle.hub_profile.specs.declared.rule.Rule.{Rule}
 use Rattle.hub_glob.specs.Glob.{matches}
 use Rattle.hub_glob.specs.Specification.{Specification}
 use Rattle.hub_reach.specs.Apart.{are_near}
-use Rattle.hub_fronts.specs.Fronts.{may_meet_one, some-of}
-use Rattle.hub_reach.specs.Laws.{passing}
+use Rattle.hub_fronts.specs.Fronts.{may_meet_one}
+use Rattle.hub_fronts.specs.laws.Fronts.{some-of}
+use Rattle.hub_reach.specs.laws.General.{passing}
 use Rattle.hub_reach.specs.Reach.{may_at, reach, write, writes_at}
 use Rattle.hub_cert.specs.Aim.{Aim, Breaching, Clashing, accepts, holds, is_open_aim, shows}
 use Rattle.hub_cert.specs.Apart.{is_apart, is_apart_goal}

@@ -7,14 +7,14 @@ use Rattle.std.proofs.lemmas.Bool.Decides.{nat_tests}
 use Rattle.std.proofs.lemmas.List.{take_more}
 use Rattle.std.proofs.lemmas.List.Concat.{flat_map-append}
 use Rattle.std.proofs.lemmas.Option.{same_Some, slice_get_read, slice_get_within}
-use Rattle.hub_text.specs.ListLaws.{less-or-same}
-use Rattle.hub_path.specs.Laws.{path_eq-decides}
+use Rattle.hub_text.specs.laws.List.{less-or-same}
+use Rattle.hub_path.specs.laws.General.{path_eq-decides}
 use Rattle.hub_path.specs.Path.{Path, path_eq, is_over}
 use Rattle.hub_automaton.specs.Alphabet.{IsAlphabet, mentions, spec_characters}
 use Rattle.hub_profile.specs.Parts.{Parts}
 use Rattle.hub_reach.specs.Mention.{mentioned_by}
-use Rattle.hub_automaton.specs.AddedInTurn.{parts-mentioned}
-use Rattle.hub_reach.specs.MentionLaws.{says-all}
+use Rattle.hub_automaton.specs.laws.AddedInTurn.{parts-mentioned}
+use Rattle.hub_reach.specs.laws.Mention.{says-all}
 use Rattle.hub_cert.specs.Set.{AreApart, HaveOwnNames, Members, Mentioned, forbidden_by, mentioned_in, roots_in}
 use Rattle.hub_cert.specs.Refused.{AreFirstNested, AreNested, AreShownNested, FewNamed, HaveSameName, IsRefused, IsTooMuch, fault_of, is_nested}
 use Rattle.hub_cert.specs.declared.set.TheConstants.{PROFILES}

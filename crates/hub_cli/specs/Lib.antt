@@ -1,3 +1,3 @@
 pub mod Words
-pub mod WordsExamples
 pub use Rattle.clap.specs.Words as ClapWords
+pub mod examples

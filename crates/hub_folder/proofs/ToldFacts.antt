@@ -3,7 +3,7 @@ use Rattle.std.proofs.Common.{◌≡◌, ◌∙◌, ◌&&◌, ◌||◌, ◌++◌
 use Rattle.std.specs.List.{All, list_any}
 use Rattle.std.specs.Result.{is_ok}
 use Rattle.std.proofs.lemmas.List.Elements.{All-head, All-map, All-tail, All-weaker}
-use Rattle.hub_text.specs.TestLaws.{any-map}
+use Rattle.hub_text.specs.laws.Test.{any-map}
 use Rattle.hub_include.specs.Bundle.{text_of}
 use Rattle.hub_include.specs.Files.{Known}
 use Rattle.hub_include.specs.Includes.{lines_of, of_line}

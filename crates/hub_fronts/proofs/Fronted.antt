@@ -4,9 +4,9 @@ use Rattle.std.specs.Prelude.{IsTrue, Some, None, chars, encode_utf8_all}
 use Rattle.std.proofs.lemmas.Option.{same_Some}
 use Rattle.std.proofs.lemmas.Str.{chars-encodes}
 use Rattle.std.proofs.lemmas.List.{drop_all}
-use Rattle.hub_text.specs.TextChars.{next_character}
+use Rattle.hub_text.specs.laws.TextChars.{next_character}
 use Rattle.hub_path.specs.Path.{Path, is_place, text_of}
-use Rattle.hub_path.specs.TextLaws.{scalars-text}
+use Rattle.hub_path.specs.laws.Text.{scalars-text}
 use Rattle.hub_glob.specs.declared.piece.Piece.TheVariants.{Lit, Any, Run, OneOf}
 use Rattle.hub_glob.specs.declared.piece.Part.{Part}
 use Rattle.hub_glob.specs.declared.piece.Part.TheVariants.{One, Brace}

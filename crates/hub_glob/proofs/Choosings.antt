@@ -7,7 +7,7 @@ use Rattle.hub_glob.specs.declared.piece.Piece.{Piece}
 use Rattle.hub_glob.specs.declared.piece.Part.{Part}
 use Rattle.hub_glob.specs.declared.piece.Part.TheVariants.{One, Brace}
 use Rattle.hub_glob.specs.Glob.{choices}
-use Rattle.hub_glob.specs.Choosing.{each_with_each, with_part}
+use Rattle.hub_glob.specs.forms.Choosing.{each_with_each, with_part}
 
 abbrev Lists : Type 0
 Lists = List (List Piece)

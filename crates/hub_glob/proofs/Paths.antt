@@ -3,8 +3,8 @@ use Rattle.std.proofs.Common.{◌≡◌, ℕ, suc, zero, ◌+◌, ◌<◌, ◌�
 use Rattle.std.specs.Prelude.{slice_get, IsTrue, not, ◌&&◌, ◌==◌, chars, encode_utf8_all}
 use Rattle.std.specs.List.{list_any}
 use Rattle.hub_path.specs.Path.{Name, Path, text_of, last_name, prefixes, is_name}
-use Rattle.hub_path.specs.Laws.{last_name-push}
-use Rattle.hub_path.specs.TextLaws.{prefixes-push, any-prefixes}
+use Rattle.hub_path.specs.laws.General.{last_name-push}
+use Rattle.hub_path.specs.laws.Text.{prefixes-push, any-prefixes}
 use Rattle.hub_glob.specs.declared.piece.Part.{Part}
 use Rattle.std.proofs.lemmas.List.{take-take, take-append-drop, length-take}
 use Rattle.std.proofs.lemmas.Bool.Decides.{nat_tests}
@@ -12,9 +12,9 @@ use Rattle.hub_glob.specs.declared.path_spec.Kind.{Kind}
 use Rattle.hub_glob.specs.Specification.{Specification}
 use Rattle.hub_glob.specs.Glob.{glob, matches, by_kind}
 use Rattle.hub_glob.specs.Sweep.{Standing, at_start, pushed, pushed_all, is_matched_so_far}
-use Rattle.hub_text.specs.TestLaws.{any-append}
+use Rattle.hub_text.specs.laws.Test.{any-append}
 use Rattle.std.proofs.Math.Bool.{or-false}
-use Rattle.hub_path.specs.NameFacts.{name_chars}
+use Rattle.hub_path.specs.laws.NameFacts.{name_chars}
 use Rattle.hub_glob.proofs.Sweeps.{is_matched_text}
 
 abbrev pub slashed : Path → List ℕ

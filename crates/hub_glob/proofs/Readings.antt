@@ -5,7 +5,7 @@ use Rattle.std.specs.Str.{IsUtf8, chars}
 use Rattle.std.proofs.lemmas.List.{drop_more, drop_all, take_all, length_push, length-drop}
 use Rattle.std.proofs.lemmas.Bool.{cases_lt}
 use Rattle.std.proofs.Math.Nat.{mul_assoc, mul-le-mul_left}
-use Rattle.hub_text.specs.AsciiWords.{is_word}
+use Rattle.hub_text.specs.laws.AsciiWords.{is_word}
 use Rattle.hub_glob.specs.declared.fault.GlobFault.{GlobFault}
 use Rattle.hub_glob.specs.declared.path_spec.Kind.{Kind}
 use Rattle.hub_glob.specs.declared.path_spec.Kind.TheVariants as kind

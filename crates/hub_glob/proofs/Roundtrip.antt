@@ -14,11 +14,11 @@ use Rattle.hub_glob.specs.declared.piece.TheConstants.{PATTERN_CHARACTERS, PATTE
 use Rattle.hub_glob.specs.Specification.{Specification, choice_count, is_name_kind}
 use Rattle.hub_glob.specs.Readable.{IsReadable, is_barred_start}
 use Rattle.hub_text.specs.Blanks.{is_blank, skip_blanks}
-use Rattle.hub_text.specs.ListLaws.{some-item}
+use Rattle.hub_text.specs.laws.List.{some-item}
 use Rattle.hub_path.specs.Reading.{begins_with_slash}
 use Rattle.hub_glob.specs.Reading.{few_choices, pattern_parts, pattern_reading, kind_reading, spec_reading, ◌>>=◌}
 use Rattle.hub_glob.specs.Writing.{pattern_text, kind_word, spec_text}
-use Rattle.hub_glob.specs.Scalars.{skip-scalars, drop-scalars}
+use Rattle.hub_glob.specs.laws.Scalars.{skip-scalars, drop-scalars}
 use Rattle.hub_glob.proofs.Readings.{size_read}
 use Rattle.hub_glob.proofs.RoundtripFits.{special-not, not-special, either_ok, ok_then, reading_fits}
 use Rattle.hub_glob.proofs.RoundtripReads.{pattern_read}

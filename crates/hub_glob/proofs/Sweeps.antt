@@ -16,10 +16,10 @@ use Rattle.hub_glob.specs.Specification.{choices_size}
 use Rattle.hub_glob.specs.Glob.{Texts, piece, pieces, glob, no_more}
 use Rattle.hub_glob.specs.Sweep.{Swept, past_piece, swept_pieces, nowhere, with_carry, swept_choices, swept_parts, Standing, at_start, swept, is_stuck, pruned, stuck_after, pushed_by, pushed, is_matched_so_far, pushed_all}
 use Rattle.hub_glob.specs.Taking.{takes, is_star}
-use Rattle.hub_text.specs.TestLaws.{head, tail, or-assoc, or-swap, any-and, any-or}
-use Rattle.hub_text.specs.ListLaws.{no-items, head-drop, drop-tail}
+use Rattle.hub_text.specs.laws.Test.{head, tail, or-assoc, or-swap, any-and, any-or}
+use Rattle.hub_text.specs.laws.List.{no-items, head-drop, drop-tail}
 use Rattle.std.proofs.Math.Bool.{and-false, and-true, or-false}
-use Rattle.hub_glob.specs.OneStep.{nonzero, run_step, run_end}
+use Rattle.hub_glob.specs.laws.OneStep.{nonzero, run_step, run_end}
 
 -- past a piece that is no `*`
 past_one : (b a l T P Q R : Bool) → ((b && (T && P) || a && Q) || (l && (T && P) || R)) ≡ ((a || false) && Q || ((b || l) && T && P || R))

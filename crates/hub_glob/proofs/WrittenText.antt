@@ -13,7 +13,7 @@ use Rattle.hub_glob.specs.declared.path_spec.Kind.TheVariants as kind
 use Rattle.hub_glob.specs.Specification.{Specification, is_name_kind}
 use Rattle.hub_glob.specs.Readable.{AreReadableMembers, IsReadablePiece, IsReadablePart, IsReadable}
 use Rattle.hub_glob.specs.Reading.{is_special}
-use Rattle.hub_glob.specs.Scalars.{either-scalars}
+use Rattle.hub_glob.specs.laws.Scalars.{either-scalars}
 use Rattle.hub_glob.specs.Writing.{literal, member_text, members_text, piece_text, pieces_text, choices_text, pattern_part_text, pattern_text, kind_word, spec_text}
 
 abbrev IsText : List ℕ → Type 0

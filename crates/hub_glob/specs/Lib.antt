@@ -1,13 +1,10 @@
-pub mod ChoiceLaws
-pub mod Choosing
-pub mod Examples
 pub mod Glob
-pub mod OneStep
 pub mod Readable
 pub mod Reading
-pub mod Scalars
 pub mod Specification
 pub mod Sweep
 pub mod Taking
 pub mod Writing
-pub mod Exact
+pub mod forms
+pub mod laws
+pub mod examples

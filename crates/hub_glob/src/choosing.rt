@@ -1,7 +1,7 @@
 //! The choices of a pattern, as lists of pieces.
 ghost use Rattle.std.specs.Prelude.{◌≡◌, ◌++◌, ◌∷◌, [], map, IfOk};
 ghost use Rattle.hub_glob.specs.Glob as glob;
-ghost use Rattle.hub_glob.specs.Choosing as choosing;
+ghost use Rattle.hub_glob.specs.forms.Choosing as choosing;
 
 use crate::piece::{Part, Piece};
 use hub_text::Items;

@@ -13,7 +13,7 @@ use crate::path_spec::PathSpec;
 use crate::piece::PATTERN_CHARACTERS;
 
 /// A text matches a pattern exactly when it matches one of the pattern's choices.
-#[tactic(auto, using(crate::specs::ChoiceLaws::glob_choices))]
+#[tactic(auto, using(crate::specs::laws::Choice::glob_choices))]
 pub fn choices_are_enough()
     ensures { (ps : List Part) (first : Bool) (t : List ℕ)
         → glob ps first t ≡ list_any (λ c. pieces c no_more first t) (choices ps) }

@@ -13,7 +13,7 @@
 //!
 //! The contracts are in the words of `specs/Glob` (what is matched), `specs/Taking` (what one piece takes),
 //! `specs/Reading` (what is read), `specs/Readable` (what holds of each specification that is read) and `specs/Writing`.
-//! `specs/OneStep` and `specs/ChoiceLaws` have lemmas for the proofs of the crates above.
+//! `specs/laws/OneStep` and `specs/laws/Choice` have lemmas for the proofs of the crates above.
 //!
 //! ```rust
 //! yes_or_no(alloc, spec.matches(&path_of(alloc, path)?))

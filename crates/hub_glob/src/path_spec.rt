@@ -146,7 +146,7 @@ impl PathSpec {
 }
 
 impl Exact for Kind {
-    ghost use Rattle.hub_text.specs.Exact.{tags_exact};
+    ghost use Rattle.hub_text.specs.laws.Exact.{tags_exact};
     ghost use Rattle.hub_glob.specs.contracts.path_spec.Kind.{enum};
 
     ghost exact = { tags_exact enum tt };
@@ -157,7 +157,7 @@ impl PartialEq for PathSpec {
     ghost use Rattle.std.specs.Prelude.{◌&&◌};
     ghost use Rattle.std.specs.Cmp.{decided, partial_equiv_from_equiv};
     ghost use Rattle.std.specs.Cmp.Lexicographic.{pointwise};
-    ghost use Rattle.hub_glob.specs.Exact.{specification_exact};
+    ghost use Rattle.hub_glob.specs.laws.Exact.{specification_exact};
     ghost use Rattle.hub_glob.specs.contracts.path_spec.KindExact.TheImpl.Laws as kind;
     ghost use Rattle.hub_glob.specs.contracts.piece.PartExact.TheImpl.Laws as part;
 
@@ -174,7 +174,7 @@ impl PartialEq for PathSpec {
 
 impl Eq for PathSpec {
     ghost use Rattle.std.specs.Cmp.{decided};
-    ghost use Rattle.hub_glob.specs.Exact.{specification_exact};
+    ghost use Rattle.hub_glob.specs.laws.Exact.{specification_exact};
     ghost use Rattle.hub_glob.specs.contracts.path_spec.KindExact.TheImpl.Laws as kind;
     ghost use Rattle.hub_glob.specs.contracts.piece.PartExact.TheImpl.Laws as part;
 
@@ -182,7 +182,7 @@ impl Eq for PathSpec {
 }
 
 impl Exact for PathSpec {
-    ghost use Rattle.hub_glob.specs.Exact.{specification_exact};
+    ghost use Rattle.hub_glob.specs.laws.Exact.{specification_exact};
     ghost use Rattle.hub_glob.specs.contracts.path_spec.KindExact.TheImpl.Laws as kind;
     ghost use Rattle.hub_glob.specs.contracts.piece.PartExact.TheImpl.Laws as part;
 

@@ -53,7 +53,7 @@ impl Piece {
 }
 
 impl Exact for Piece {
-    ghost use Rattle.hub_text.specs.Exact.{variants_exact, no_field, last_field, items_exact, nat_exact};
+    ghost use Rattle.hub_text.specs.laws.Exact.{variants_exact, no_field, last_field, items_exact, nat_exact};
     ghost use Rattle.hub_glob.specs.contracts.piece.Piece.{enum};
 
     ghost exact = { variants_exact enum _
@@ -70,7 +70,7 @@ pub enum Part {
 }
 
 impl Exact for Part {
-    ghost use Rattle.hub_text.specs.Exact.{variants_exact, last_field, items_exact};
+    ghost use Rattle.hub_text.specs.laws.Exact.{variants_exact, last_field, items_exact};
     ghost use Rattle.hub_glob.specs.contracts.piece.Part.{enum};
     ghost use Rattle.hub_glob.specs.contracts.piece.PieceExact.TheImpl.Laws as piece;
 

@@ -1,5 +1,4 @@
 pub mod Coded
 pub mod Book
 pub mod Desk
-pub mod BookExamples
-pub mod DeskExamples
+pub mod examples

@@ -2,7 +2,7 @@
 use Rattle.std.proofs.Common.{◌≡◌, ◌∙◌, ℕ, true, cond, List, [], ◌∷◌, ◌++◌, Option, Some, None, Ok, refl, ap, subst}
 use Rattle.std.specs.Prelude.{⊤}
 use Rattle.std.specs.Option.{option_map}
-use Rattle.hub_text.specs.ListLaws.{some-item}
+use Rattle.hub_text.specs.laws.List.{some-item}
 use Rattle.hub_hosts.specs.Remotes.{base_for, folder_path, local, local_of, path_below, path_of, path_of_local, remote_of}
 use Rattle.hub_hosts.specs.Table.{Row, rows_of, slash}
 use Rattle.hub_hosts.specs.Words.{begins_with}

@@ -6,7 +6,7 @@ use Rattle.std.specs.Option.{option_map}
 use Rattle.std.proofs.lemmas.Bool.{or_parts, or_from}
 use Rattle.std.proofs.lemmas.List.{reverse-append, take-append-drop}
 use Rattle.hub_text.specs.Lines.{is_lf}
-use Rattle.hub_text.specs.TestLaws.{any-append}
+use Rattle.hub_text.specs.laws.Test.{any-append}
 use Rattle.hub_hosts.specs.Words.{begins_with, behind_arrow, behind_last_arrow, from_first, is_one_of, skip, skip_end}
 
 abbrev pub has_lf : List ℕ → Bool

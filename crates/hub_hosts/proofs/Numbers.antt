@@ -5,7 +5,7 @@ use Rattle.std.specs.Option.{option_map}
 use Rattle.std.proofs.lemmas.List.{length-map}
 use Rattle.hub_text.specs.declared.line.Line.{Line}
 use Rattle.hub_text.specs.Lines.{lines_of, without_last_cr}
-use Rattle.hub_text.specs.ListLaws.{some-item}
+use Rattle.hub_text.specs.laws.List.{some-item}
 use Rattle.hub_hosts.specs.Profiles.{from_arrow, from_root, line_for, line_from, root_in, sets_arrow, sets_root, text_for, value_of, whole_line_for, with_root, with_root_if}
 use Rattle.hub_hosts.specs.Remotes.{base_for, folder_path, local, local_of, path_below, path_of, path_of_local, remote_in, remote_of}
 use Rattle.hub_hosts.specs.Table.{Row, blanks, rows_of, slash}

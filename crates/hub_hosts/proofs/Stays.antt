@@ -6,7 +6,7 @@ use Rattle.std.specs.Option.{option_map, option_or}
 use Rattle.std.proofs.lemmas.Bool.{or_parts}
 use Rattle.hub_text.specs.declared.line.Line.{Line}
 use Rattle.hub_text.specs.Lines.{lines_of, text_of_lines}
-use Rattle.hub_text.specs.LineLaws.{text_of_lines-lines_of}
+use Rattle.hub_text.specs.laws.Line.{text_of_lines-lines_of}
 use Rattle.hub_hosts.specs.Profiles.{from_arrow, from_root, is_remote_end, line_for, line_from, names_remote, root_in, sets_arrow, sets_root, text_for, value_of, whole_line_for, with_root_if}
 use Rattle.hub_hosts.specs.Remotes.{base_for, local, local_of, path_for, path_of, path_of_local, remote_of}
 use Rattle.hub_hosts.specs.Table.{Row, blanks, has_row, is_for}

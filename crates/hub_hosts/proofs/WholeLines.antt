@@ -6,7 +6,7 @@ use Rattle.std.proofs.lemmas.Bool.{or_parts, or_from}
 use Rattle.std.proofs.lemmas.List.{append-nil}
 use Rattle.hub_text.specs.declared.line.Line.{Line}
 use Rattle.hub_text.specs.Lines.{is_lf, lines_of, onto_first_line, ended, unended, text_of_lines, without_last_cr}
-use Rattle.hub_text.specs.LineLaws.{lines_of-ended}
+use Rattle.hub_text.specs.laws.Line.{lines_of-ended}
 use Rattle.hub_hosts.proofs.NoLf.{has_lf, take-no_lf}
 
 -- Lines as those of a text: none has an LF inside, and each but the last one is ended. A last one

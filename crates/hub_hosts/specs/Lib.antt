@@ -1,5 +1,5 @@
-pub mod Examples
 pub mod Profiles
 pub mod Remotes
 pub mod Table
 pub mod Words
+pub mod examples

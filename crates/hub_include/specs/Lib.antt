@@ -2,6 +2,6 @@ pub mod Asking
 pub mod Bundle
 pub mod Files
 pub mod Includes
-pub mod IncludesExamples
 pub mod Targets
 pub mod Words
+pub mod examples

@@ -2,7 +2,7 @@
 use Rattle.std.proofs.Common.{◌≡◌, ◌<◌, List, [], ◌∷◌, ◌++◌, take, Option, Some, None, refl, ap, sym, ◌∙◌, subst, append-nil, arith, Result, Ok, Err}
 use Rattle.std.specs.Prelude.{◌≢◌, ℕ, zero, suc, if◌then◌else◌, IfSome, is_ok, IsOk}
 use Rattle.std.proofs.lemmas.Bool.{false≢true}
-use Rattle.hub_job.specs.Laws.Logs.{runs-push}
+use Rattle.hub_job.specs.laws.Logs.{runs-push}
 use Rattle.hub_path.specs.Path.{ascending}
 use Rattle.hub_path.specs.declared.side.Side.{Side}
 use Rattle.hub_path.specs.declared.side.Side.TheVariants.{Left, Right}

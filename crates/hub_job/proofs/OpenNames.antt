@@ -6,10 +6,10 @@ use Rattle.std.specs.FinMap as fin
 use Rattle.std.proofs.lemmas.Bool.{false≢true, and_parts}
 use Rattle.std.proofs.Math.Bool.{or-true}
 use Rattle.hub_path.specs.Path.{Name, Path, is_over, is_path, last_name}
-use Rattle.hub_path.specs.Laws.{is_over-append, is_over-transitive}
+use Rattle.hub_path.specs.laws.General.{is_over-append, is_over-transitive}
 use Rattle.hub_profile.specs.Parts.{Parts}
 use Rattle.hub_reach.specs.Reach.{reach}
-use Rattle.hub_reach.specs.Laws.{reach-open}
+use Rattle.hub_reach.specs.laws.General.{reach-open}
 use Rattle.hub_tree.specs.Tree.{Replica, HasPaths, contents_at, is_absent, is_child, names_at}
 use Rattle.hub_tree.specs.declared.contents.Contents.{Contents}
 use Rattle.hub_tree.specs.declared.contents.Contents.TheVariants as contents

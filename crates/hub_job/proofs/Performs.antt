@@ -5,10 +5,10 @@ use Rattle.std.specs.List.{list_any}
 use Rattle.std.specs.FinMap as fin
 use Rattle.std.proofs.lemmas.Bool.{false≢true, and_parts}
 use Rattle.std.proofs.Math.Bool.{and-true, or-true}
-use Rattle.hub_tree.specs.Laws.Children.{one_item}
-use Rattle.hub_reconcile.specs.Laws.Views.{same_paths, paths_same}
+use Rattle.hub_tree.specs.laws.Children.{one_item}
+use Rattle.hub_reconcile.specs.laws.Views.{same_paths, paths_same}
 use Rattle.hub_path.specs.Path.{Name, Path, path_eq, parent, last_name}
-use Rattle.hub_path.specs.Laws.{parent-last_name}
+use Rattle.hub_path.specs.laws.General.{parent-last_name}
 use Rattle.hub_profile.specs.Parts.{Parts}
 use Rattle.hub_reach.specs.Reach.{reach, writes_at}
 use Rattle.hub_tree.specs.Tree.{Replica, contents_at, children, mark_at, names_at, is_absent, is_child, is_directory}

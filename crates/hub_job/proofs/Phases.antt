@@ -7,7 +7,7 @@ use Rattle.std.proofs.lemmas.List.Folds.{list_any-append, list_all-append}
 use Rattle.std.proofs.lemmas.List.Sums.{sum_by_push}
 use Rattle.std.proofs.lemmas.List.{take-append-le}
 use Rattle.std.proofs.Math.Bool.{or-false}
-use Rattle.hub_job.specs.Laws.Making.{weight}
+use Rattle.hub_job.specs.laws.Making.{weight}
 use Rattle.hub_path.specs.Path.{Path}
 use Rattle.hub_path.specs.declared.side.Side.{Side}
 use Rattle.hub_path.specs.declared.side.Side.TheVariants.{Left, Right}
@@ -30,7 +30,7 @@ use Rattle.hub_job.specs.Job.{told, sights, missing, is_refused, is_look, is_ask
 use Rattle.hub_job.specs.Run.{Runs}
 use Rattle.hub_job.specs.Phase.{IsWaiting, told_more, look_at, first_look, are_looks, AreLooks, AreLooksOf, AreSteps, last_refused, Follows, IsAskedIn, asked_by, IsNextIn, IsNext, is_stopped, next_step}
 use Rattle.hub_job.proofs.Plans.{no_steps}
-use Rattle.hub_job.specs.Laws.Logs.{sights-push}
+use Rattle.hub_job.specs.laws.Logs.{sights-push}
 use Rattle.hub_job.proofs.Told.{AllTold, told_all, take_all, next_looks, missing_is, step_is_no_look}
 use Rattle.hub_reconcile.specs.Merge.{seen_paths}
 

@@ -6,8 +6,8 @@ use Rattle.std.specs.Ordering.{match_ordering}
 use Rattle.std.specs.declared.cmp.Ordering.TheVariants.{Less, Equal, Greater}
 use Rattle.std.proofs.lemmas.List.{reverse-append, take-append-drop, take_more}
 use Rattle.hub_path.specs.Path.{Name, Path, path_cmp, children_named}
-use Rattle.hub_path.specs.Laws.{path_cmp-total, path_cmp-exact}
-use Rattle.hub_job.specs.Waiting.{put_all}
+use Rattle.hub_path.specs.laws.General.{path_cmp-total, path_cmp-exact}
+use Rattle.hub_job.specs.forms.Waiting.{put_all}
 use Rattle.hub_job.proofs.Waits.{put_all-append, turned, turned_back}
 
 reverse-push : (xs : List Path) (x : Path) → reverse (xs ++ x ∷ []) ≡ x ∷ reverse xs

@@ -7,8 +7,8 @@ use Rattle.std.proofs.lemmas.Bool.{false≢true, and_parts, eqb-true, eqb-false,
 use Rattle.std.proofs.lemmas.Grind.{flat_map-append}
 use Rattle.std.proofs.lemmas.Option.{slice_get_past}
 use Rattle.std.proofs.Math.Bool.{or-true}
-use Rattle.hub_reconcile.specs.Laws.Ascend.{ascending_sorted}
-use Rattle.hub_reconcile.specs.Laws.Views.{apart_from, paths_same}
+use Rattle.hub_reconcile.specs.laws.Ascend.{ascending_sorted}
+use Rattle.hub_reconcile.specs.laws.Views.{apart_from, paths_same}
 use Rattle.hub_path.specs.Path.{Path, path_cmp, path_eq, ascending, children_named}
 use Rattle.hub_path.specs.declared.side.Side.{Side}
 use Rattle.hub_path.specs.declared.side.Side.TheVariants.{Left, Right}
@@ -28,11 +28,11 @@ use Rattle.hub_job.specs.declared.looks.Looks.{Looks}
 use Rattle.hub_job.specs.Machine.{Fits}
 use Rattle.hub_job.specs.Job.{told, sights, missing, is_refused, is_look, Step, contents_with, op_of, ask, step_or_end, look_or, next}
 use Rattle.hub_job.specs.Run.{Runs}
-use Rattle.hub_job.specs.Waiting.{put_all, looks_for, put_kept}
+use Rattle.hub_job.specs.forms.Waiting.{put_all, looks_for, put_kept}
 use Rattle.hub_job.specs.Phase.{IsWaiting, told_to, told_on, told_more, look_at, first_look, are_looks, AreLooks, AreLooksOf}
 use Rattle.hub_job.proofs.Waits.{AllBefore, ascending-append, ascending_is, put_all-append, all_before, children_wait, find_behind}
 use Rattle.hub_job.proofs.Performs.{any_middle, past_all}
-use Rattle.hub_job.specs.Laws.Logs.{sights_own, sights_other}
+use Rattle.hub_job.specs.laws.Logs.{sights_own, sights_other}
 use Rattle.hub_reconcile.specs.Merge.{seen_paths}
 
 -- One more Look.

@@ -9,8 +9,8 @@ use Rattle.std.specs.Ordering.{match_ordering, ordering_reverse}
 use Rattle.std.specs.declared.cmp.Ordering.{Ordering}
 use Rattle.std.specs.declared.cmp.Ordering.TheVariants.{Less, Equal, Greater}
 use Rattle.hub_path.specs.Path.{Name, Path, path_cmp, ascending, children_named}
-use Rattle.hub_path.specs.Laws.{path_cmp-total, path_cmp-over, is_over-append}
-use Rattle.hub_job.specs.Waiting.{put_all}
+use Rattle.hub_path.specs.laws.General.{path_cmp-total, path_cmp-over, is_over-append}
+use Rattle.hub_job.specs.forms.Waiting.{put_all}
 
 abbrev keys : List (Path × Bool) → List Path
 keys es = map (λ e. e.0) es

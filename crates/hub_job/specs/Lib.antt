@@ -6,13 +6,11 @@ pub mod Run
 pub mod Alike
 pub mod Same
 pub mod Coded
-pub mod Exact
-pub mod Waiting
 pub mod Phase
 pub mod JobValue
 pub mod Ends
 pub mod Outcome
-pub mod Examples
 pub mod History
-pub mod HistoryExamples
-pub mod Laws
+pub mod forms
+pub mod laws
+pub mod examples

@@ -20,7 +20,7 @@ use Rattle.hub_job.specs.declared.steps.Steps.{Steps}
 use Rattle.hub_job.specs.declared.phase.Phase.{Phase}
 use Rattle.hub_job.specs.declared.phase.Phase.TheVariants as phase
 use Rattle.hub_job.specs.Job.{sights, view_in, is_refused, is_look, fetched_last, steps, steps_made, ask, next}
-use Rattle.hub_job.specs.Waiting.{put_all}
+use Rattle.hub_job.specs.forms.Waiting.{put_all}
 use Rattle.hub_reconcile.specs.Merge.{seen_paths}
 
 -- Of the Looks that a side needs, all but these have been made.

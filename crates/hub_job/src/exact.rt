@@ -5,14 +5,14 @@ use crate::op::Op;
 use hub_text::Exact;
 
 impl Exact for OpFault {
-    ghost use Rattle.hub_text.specs.Exact.{tags_exact};
+    ghost use Rattle.hub_text.specs.laws.Exact.{tags_exact};
     ghost use Rattle.hub_job.specs.contracts.answer.OpFault.{enum};
 
     ghost exact = { tags_exact enum tt };
 }
 
 impl Exact for Answer {
-    ghost use Rattle.hub_text.specs.Exact.{variants_exact, no_field, last_field, items_exact, nat_exact};
+    ghost use Rattle.hub_text.specs.laws.Exact.{variants_exact, no_field, last_field, items_exact, nat_exact};
     ghost use Rattle.hub_job.specs.contracts.answer.Answer.{enum};
     ghost use Rattle.hub_job.specs.contracts.exact.OpFaultExact.TheImpl.Laws as fault;
     ghost use Rattle.hub_job.specs.contracts.sight.SightExact.TheImpl.Laws as sight;
@@ -24,7 +24,7 @@ impl Exact for Answer {
 }
 
 impl Exact for Op {
-    ghost use Rattle.hub_text.specs.Exact.{variants_exact, last_field, next_field, items_exact, nat_exact};
+    ghost use Rattle.hub_text.specs.laws.Exact.{variants_exact, last_field, next_field, items_exact, nat_exact};
     ghost use Rattle.hub_job.specs.contracts.op.Op.{enum};
     ghost use Rattle.hub_tree.specs.contracts.contents.ContentsExact.TheImpl.Laws as contents;
 
@@ -38,7 +38,7 @@ impl Exact for Op {
 }
 
 impl Exact for Entry {
-    ghost use Rattle.hub_job.specs.Exact.{entry_exact};
+    ghost use Rattle.hub_job.specs.laws.Exact.{entry_exact};
     ghost use Rattle.hub_job.specs.contracts.exact.OpExact.TheImpl.Laws as op;
     ghost use Rattle.hub_job.specs.contracts.exact.AnswerExact.TheImpl.Laws as answer;
 
@@ -46,7 +46,7 @@ impl Exact for Entry {
 }
 
 impl Exact for Logged {
-    ghost use Rattle.hub_job.specs.Exact.{logged_exact};
+    ghost use Rattle.hub_job.specs.laws.Exact.{logged_exact};
     ghost use Rattle.hub_path.specs.contracts.side.SideExact.TheImpl.Laws as side;
     ghost use Rattle.hub_job.specs.contracts.exact.EntryExact.TheImpl.Laws as entry;
 

@@ -4,7 +4,7 @@ ghost use Rattle.std.specs.BTreeSet.{insert_key};
 ghost use Rattle.hub_path.specs.Path.{ascending, parent, path_cmp, children_named};
 ghost use Rattle.hub_reconcile.specs.Picture as picture;
 ghost use Rattle.hub_job.specs.Phase.{first_look, look_at, names_listed, told_more, told_to};
-ghost use Rattle.hub_job.specs.Waiting.{looks_for, put_all, put_kept};
+ghost use Rattle.hub_job.specs.forms.Waiting.{looks_for, put_all, put_kept};
 
 use crate::answer::Answer;
 use crate::log::{Entry, Logged};

@@ -128,7 +128,7 @@ impl PartialEq for Sight {
     ghost use Rattle.std.specs.Bool.{beq};
     ghost use Rattle.std.specs.Cmp.{decided, partial_equiv_from_equiv};
     ghost use Rattle.std.specs.Cmp.Lexicographic.{pointwise};
-    ghost use Rattle.hub_job.specs.Seen.{sight_exact};
+    ghost use Rattle.hub_job.specs.laws.Seen.{sight_exact};
     ghost use Rattle.hub_tree.specs.contracts.contents.MarkExact.TheImpl.Laws as mark;
 
     ghost eq = { λ s t. ⟦<Mark as PartialEq>⟧.eq s.mark t.mark
@@ -145,14 +145,14 @@ impl PartialEq for Sight {
 
 impl Eq for Sight {
     ghost use Rattle.std.specs.Cmp.{decided};
-    ghost use Rattle.hub_job.specs.Seen.{sight_exact};
+    ghost use Rattle.hub_job.specs.laws.Seen.{sight_exact};
     ghost use Rattle.hub_tree.specs.contracts.contents.MarkExact.TheImpl.Laws as mark;
 
     ghost laws = { decided _ (sight_exact mark.exact-law) };
 }
 
 impl Exact for Sight {
-    ghost use Rattle.hub_job.specs.Seen.{sight_exact};
+    ghost use Rattle.hub_job.specs.laws.Seen.{sight_exact};
     ghost use Rattle.hub_tree.specs.contracts.contents.MarkExact.TheImpl.Laws as mark;
 
     ghost exact = { sight_exact mark.exact-law };

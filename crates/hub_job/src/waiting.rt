@@ -2,7 +2,7 @@ ghost use Rattle.std.specs.Prelude.{◌≡◌, ◌≤◌, [], ◌∷◌, drop, l
 ghost use Rattle.std.specs.Option.{option_map};
 ghost use Rattle.std.specs.BTreeSet.{insert_key};
 ghost use Rattle.hub_path.specs.Path.{path_cmp, children_named};
-ghost use Rattle.hub_job.specs.Waiting.{put_all};
+ghost use Rattle.hub_job.specs.forms.Waiting.{put_all};
 
 use hub_path::{Name, RelPath};
 use std::alloc::{AllocError, Global};

@@ -10,7 +10,7 @@ use Rattle.std.specs.Str.{encode_utf8_all}
 use Rattle.std.proofs.lemmas.Str.{encodes-append, encode_ascii}
 use Rattle.std.proofs.lemmas.List.{take_more, take_all}
 use Rattle.hub_path.specs.Path.{Name, Path, is_name, is_path, is_place, name_in, path_in, path_of, text_of, parent}
-use Rattle.hub_path.specs.Laws.{is_place-push}
+use Rattle.hub_path.specs.laws.General.{is_place-push}
 
 -- What each item passes, each item of the front passes.
 pub list_all-take : {X : Type 0} (p : X → Bool) (n : ℕ) (xs : List X) → list_all p xs ≡ true → list_all p (take n xs) ≡ true

@@ -8,8 +8,8 @@ use Rattle.std.proofs.lemmas.Bool.Decides.{same_from_decides, Decides-like}
 use Rattle.std.proofs.lemmas.Slice.Eq.{bytes_eq-Decides, slice_eq-Decides}
 use Rattle.std.proofs.lemmas.Str.{encodes-chars, encodes-append, encode_ascii}
 use Rattle.hub_path.specs.Path.{Name, Path, is_place, path_eq, path_of, text_of}
-use Rattle.hub_path.specs.Laws.{name_eq-decides, path_cmp-exact, text_of-path_of}
-use Rattle.hub_path.specs.TextOrder.{ranks, text_cmp, bytes-cmp}
+use Rattle.hub_path.specs.laws.General.{name_eq-decides, path_cmp-exact, text_of-path_of}
+use Rattle.hub_path.specs.laws.TextOrder.{ranks, text_cmp, bytes-cmp}
 use Rattle.hub_path.proofs.PathFacts.{text_of-push}
 
 text_cmp-itself : (us : List ℕ) → text_cmp us us ≡ Equal

@@ -1,13 +1,6 @@
 pub mod Path
 pub mod Reading
-pub mod Laws
-pub mod Examples
-pub mod NameFacts
-pub mod ReadBack
-pub mod ReadNames
-pub mod Ascii
-pub mod Hashes
-pub mod TextLaws
 pub mod Shared
-pub mod TextOrder
 pub mod Sides
+pub mod laws
+pub mod examples

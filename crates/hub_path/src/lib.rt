@@ -12,7 +12,7 @@
 //! Contracts see a name as the list of its characters, and a path or a root as the list of its names. `specs/Path` says
 //! what names, paths, prefixes and their order are, `specs/Reading` which texts are names, paths and roots, and `specs/Sides`
 //! which side is the other one.
-//! `specs/Laws`, `specs/TextLaws` and `specs/ReadBack` prove what follows, for the proofs of the crates above.
+//! `specs/laws/General`, `specs/laws/Text` and `specs/laws/ReadBack` prove what follows, for the proofs of the crates above.
 //!
 //! Only functions that return a `Result` allocate.
 //!

@@ -158,7 +158,7 @@ fn is_forbidden(c: char) -> bool
 impl Hash for Name {
     ghost use Rattle.std.specs.Prelude.{encode_utf8_all};
     ghost use Rattle.std.specs.Hash as fed;
-    ghost use Rattle.hub_path.specs.Hashes.{name_hashed};
+    ghost use Rattle.hub_path.specs.laws.Hashes.{name_hashed};
 
     ghost hash_input = { λ n. fed.str (encode_utf8_all n) };
 
@@ -202,7 +202,7 @@ impl Eq for Name {
 }
 
 impl Exact for Name {
-    ghost use Rattle.hub_text.specs.Exact.{items_exact, nat_exact};
+    ghost use Rattle.hub_text.specs.laws.Exact.{items_exact, nat_exact};
 
     ghost exact = { items_exact nat_exact };
 }

@@ -297,7 +297,7 @@ fn read_names(alloc: Global, text: &str) -> Result<Vec<Name>, PathFault>
 impl Hash for RelPath {
     ghost use Rattle.std.specs.Prelude.{encode_utf8_all};
     ghost use Rattle.std.specs.Hash as fed;
-    ghost use Rattle.hub_path.specs.Hashes.{path_hashed};
+    ghost use Rattle.hub_path.specs.laws.Hashes.{path_hashed};
 
     ghost hash_input = { fed.slice (λ n. fed.str (encode_utf8_all n)) };
 
@@ -331,7 +331,7 @@ impl Eq for RelPath {
 }
 
 impl Exact for RelPath {
-    ghost use Rattle.hub_text.specs.Exact.{items_exact, nat_exact};
+    ghost use Rattle.hub_text.specs.laws.Exact.{items_exact, nat_exact};
 
     ghost exact = { items_exact (items_exact nat_exact) };
 }

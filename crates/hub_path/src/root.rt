@@ -109,7 +109,7 @@ fn with_path(path: RelPath) -> Result<Root, AllocError>
 impl Hash for Root {
     ghost use Rattle.std.specs.Prelude.{encode_utf8_all};
     ghost use Rattle.std.specs.Hash as fed;
-    ghost use Rattle.hub_path.specs.Hashes.{path_hashed};
+    ghost use Rattle.hub_path.specs.laws.Hashes.{path_hashed};
 
     ghost hash_input = { fed.slice (λ n. fed.str (encode_utf8_all n)) };
 
@@ -143,7 +143,7 @@ impl Eq for Root {
 }
 
 impl Exact for Root {
-    ghost use Rattle.hub_text.specs.Exact.{items_exact, nat_exact};
+    ghost use Rattle.hub_text.specs.laws.Exact.{items_exact, nat_exact};
 
     ghost exact = { items_exact (items_exact nat_exact) };
 }

@@ -25,7 +25,7 @@ impl Side {
 }
 
 impl Exact for Side {
-    ghost use Rattle.hub_text.specs.Exact.{tags_exact};
+    ghost use Rattle.hub_text.specs.laws.Exact.{tags_exact};
     ghost use Rattle.hub_path.specs.contracts.side.Side.{enum};
 
     ghost exact = { tags_exact enum tt };

@@ -14,8 +14,8 @@ use Rattle.hub_profile.specs.Lines.{trimmed, trimmed_line, is_setting, has_equal
 use Rattle.hub_preferences.specs.Kinds.{kind_of, kind_of_text, kind_of_pair, overrides_force, sets_force, is_unread_ignorenot}
 use Rattle.hub_preferences.specs.Counted.{kinds_below, section_at, is_profile_heading, is_kind_left_out, is_left_out, comment, spelling_in, counted_line, counted_lines, counted_bundle, no_profile}
 use Rattle.hub_preferences.specs.Spellings.{spelling, spelling_of_text, spelling_of_pair, or_spelling}
-use Rattle.hub_preferences.specs.SpellingLaws.{spelling-is}
-use Rattle.hub_preferences.specs.CountedLaws.{lines_of-counted_bundle, spelling-in}
+use Rattle.hub_preferences.specs.laws.Spelling.{spelling-is}
+use Rattle.hub_preferences.specs.laws.Counted.{lines_of-counted_bundle, spelling-in}
 use Rattle.hub_preferences.specs.declared.kind.LineKind.{LineKind}
 use Rattle.hub_preferences.specs.declared.kind.LineKind.TheVariants as kind
 use Rattle.hub_preferences.specs.declared.section.Section.{Section}

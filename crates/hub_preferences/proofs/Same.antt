@@ -5,7 +5,7 @@ use Rattle.std.proofs.lemmas.Bool.{or_parts, or_from}
 use Rattle.hub_bundle.specs.Files.{is_heading}
 use Rattle.hub_text.specs.declared.line.Line.{Line}
 use Rattle.hub_text.specs.Lines.{lines_of, text_of_lines}
-use Rattle.hub_text.specs.LineLaws.{text_of_lines-lines_of}
+use Rattle.hub_text.specs.laws.Line.{text_of_lines-lines_of}
 use Rattle.hub_preferences.specs.Counted.{comment, spelled, spelling_in, changes, changes_some, counted_line, counted_lines, counted_bundle, section_at, is_left_out, no_profile}
 use Rattle.hub_preferences.specs.Spellings.{or_spelling, spelling}
 use Rattle.hub_preferences.specs.declared.section.Section.{Section}

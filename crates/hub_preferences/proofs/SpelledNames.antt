@@ -16,7 +16,7 @@ use Rattle.std.proofs.Math.Bool.{and-false}
 use Rattle.hub_path.specs.Path.{Name, Path, is_name, is_place, name_in}
 use Rattle.hub_path.specs.Reading.{begins_with_slash}
 use Rattle.hub_preferences.specs.Spellings.{is_nothing, names_of, with_slashes, can_stand_for, is_respelled, spelling_of_value}
-use Rattle.hub_preferences.specs.SpellingLaws.{scalars-with}
+use Rattle.hub_preferences.specs.laws.Spelling.{scalars-with}
 
 abbrev pub some_of : Path → Path
 some_of ns = filter (λ n. not (is_nothing n)) ns

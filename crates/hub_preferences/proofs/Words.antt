@@ -5,7 +5,7 @@ use Rattle.std.specs.Option.{option_map}
 use denote.Ref.{Bor}
 use Rattle.std.specs.Str.{IsUtf8, chars}
 use Rattle.std.proofs.lemmas.Bool.{and_parts}
-use Rattle.hub_text.specs.AsciiWords.{word_is}
+use Rattle.hub_text.specs.laws.AsciiWords.{word_is}
 use Rattle.hub_profile.specs.LineByLine.{look_up, are_words}
 use Rattle.hub_preferences.specs.Table.{rules_of}
 use Rattle.hub_preferences.specs.declared.table.Preference.{Preference}

@@ -1,9 +1,8 @@
-pub mod Arrows
 pub mod Table
 pub mod Kinds
 pub mod Spellings
-pub mod SpellingLaws
 pub mod Counted
-pub mod CountedLaws
 pub mod Findings
-pub mod Examples
+pub mod forms
+pub mod laws
+pub mod examples

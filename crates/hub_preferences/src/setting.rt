@@ -1,7 +1,7 @@
 //! What a line sets, as the plain reader reads it.
 ghost use Rattle.std.specs.Prelude.{◌≡◌, false, chars, MatchOption};
 ghost use Rattle.hub_profile.specs.Lines as lines;
-ghost use Rattle.hub_preferences.specs.Arrows.{CutsAtArrow};
+ghost use Rattle.hub_preferences.specs.forms.Arrows.{CutsAtArrow};
 ghost use Rattle.hub_profile.specs.Arrow.{has_arrow};
 ghost use Rattle.hub_profile.specs.Lines.{both_chars};
 

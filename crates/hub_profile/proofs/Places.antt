@@ -10,16 +10,16 @@ use Rattle.hub_path.specs.Path.{Path, is_name, is_place, path_of}
 use Rattle.hub_path.specs.Reading.{name_fault, names_fault, path_fault, root_fault, path_reading, root_reading, root_names, without_last_slash, is_remote, begins_with_slash}
 use Rattle.hub_text.specs.declared.line.Line.{Line}
 use Rattle.hub_text.specs.Lines.{lines_of, without_last}
-use Rattle.hub_text.specs.LineLaws.{are_scalars, scalars-lines_of}
+use Rattle.hub_text.specs.laws.Line.{are_scalars, scalars-lines_of}
 use Rattle.hub_path.specs.declared.fault.PathFault.{PathFault}
 use Rattle.hub_path.specs.declared.fault.PathFault.TheVariants.{Empty, LeadingSlash, RemoteRoot, NotAbsolute, TooDeep}
 use Rattle.hub_path.specs.declared.rel_path.TheConstants.{PATH_NAMES}
-use Rattle.hub_path.specs.NameFacts.{is_name-no_fault}
-use Rattle.hub_path.specs.ReadNames.{or_fault-Ok, first_fault-None, tested-None}
+use Rattle.hub_path.specs.laws.NameFacts.{is_name-no_fault}
+use Rattle.hub_path.specs.laws.ReadNames.{or_fault-Ok, first_fault-None, tested-None}
 use Rattle.hub_text.specs.Blanks.{skip_blanks}
 use Rattle.hub_glob.specs.Specification.{Specification}
 use Rattle.hub_glob.specs.Reading.{spec_reading}
-use Rattle.hub_glob.specs.Scalars.{either-scalars, skip-scalars, drop-scalars}
+use Rattle.hub_glob.specs.laws.Scalars.{either-scalars, skip-scalars, drop-scalars}
 use Rattle.hub_glob.specs.declared.fault.GlobFault.{GlobFault}
 use Rattle.hub_profile.specs.declared.fault.Fault.{Fault}
 use Rattle.hub_profile.specs.declared.fault.Fault.TheVariants.{IncludeLeftOut, NoEquals, NoArrow}

@@ -4,7 +4,7 @@ use Rattle.std.specs.List.{list_any, list_all}
 use Rattle.std.proofs.lemmas.Bool.{and_from, and_parts, or_parts, not-true, not_from_false, ne_eqb}
 use Rattle.std.proofs.lemmas.List.Folds.{list_any-append}
 use Rattle.hub_path.specs.Path.{Name, Path, path_eq, is_over, is_place, none_over}
-use Rattle.hub_path.specs.Laws.{path_eq-turned}
+use Rattle.hub_path.specs.laws.General.{path_eq-turned}
 use Rattle.hub_profile.specs.declared.fault.Fault.TheVariants as fault
 use Rattle.hub_profile.specs.Facts.{are_roots, are_kept}
 use Rattle.hub_profile.specs.Parts.{IsProfile}

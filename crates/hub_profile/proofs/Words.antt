@@ -5,7 +5,7 @@ use Rattle.std.specs.Option.{option_map}
 use denote.Ref.{Bor}
 use Rattle.std.specs.Str.{IsUtf8, chars}
 use Rattle.std.proofs.lemmas.Bool.{and_parts}
-use Rattle.hub_text.specs.AsciiWords.{word_is}
+use Rattle.hub_text.specs.laws.AsciiWords.{word_is}
 use Rattle.hub_profile.specs.LineByLine.{look_up, rows_of, are_words}
 
 -- What a search for a name finds.

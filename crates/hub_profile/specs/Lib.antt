@@ -11,5 +11,5 @@ pub mod PartialLines
 pub mod Foreign
 pub mod Reading
 pub mod Rules
-pub mod ExampleProfiles
-pub mod Examples
+pub mod laws
+pub mod examples

@@ -12,7 +12,7 @@ pub struct Bars {
 }
 
 impl Exact for Bars {
-    ghost use Rattle.hub_profile.specs.Exact.{bars_exact};
+    ghost use Rattle.hub_profile.specs.laws.Exact.{bars_exact};
 
     ghost exact = { bars_exact };
 }

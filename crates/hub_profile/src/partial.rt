@@ -18,7 +18,7 @@ pub struct Partial {
 impl Exact for Partial {
     ghost use Rattle.hub_path.specs.contracts.side.SideExact.TheImpl.Laws as side;
     ghost use Rattle.hub_glob.specs.contracts.path_spec.PathSpecExact.TheImpl.Laws as spec;
-    ghost use Rattle.hub_profile.specs.Exact.{partial_exact, bars_exact};
+    ghost use Rattle.hub_profile.specs.laws.Exact.{partial_exact, bars_exact};
 
     ghost exact = { partial_exact side.exact-law bars_exact spec.exact-law };
 }

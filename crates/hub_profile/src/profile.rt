@@ -225,7 +225,8 @@ impl PartialEq for Profile {
     ghost use Rattle.std.specs.Cmp.{decided, partial_equiv_from_equiv};
     ghost use Rattle.hub_path.specs.contracts.side.SideExact.TheImpl.Laws as side;
     ghost use Rattle.hub_glob.specs.contracts.path_spec.PathSpecExact.TheImpl.Laws as spec;
-    ghost use Rattle.hub_profile.specs.Exact.{parts_eq, parts_exact, partial_exact, bars_exact};
+    ghost use Rattle.hub_profile.specs.Exact.{parts_eq};
+    ghost use Rattle.hub_profile.specs.laws.Exact.{parts_exact, partial_exact, bars_exact};
 
     ghost eq = { parts_eq ⟦<PathSpec as PartialEq>⟧.eq ⟦<Side as PartialEq>⟧.eq
         ⟦<Bars as PartialEq>⟧.eq ⟦<Partial as PartialEq>⟧.eq };
@@ -251,7 +252,7 @@ impl Eq for Profile {
     ghost use Rattle.std.specs.Cmp.{decided};
     ghost use Rattle.hub_path.specs.contracts.side.SideExact.TheImpl.Laws as side;
     ghost use Rattle.hub_glob.specs.contracts.path_spec.PathSpecExact.TheImpl.Laws as spec;
-    ghost use Rattle.hub_profile.specs.Exact.{parts_exact, partial_exact, bars_exact};
+    ghost use Rattle.hub_profile.specs.laws.Exact.{parts_exact, partial_exact, bars_exact};
 
     ghost laws = { decided _ (parts_exact spec.exact-law side.exact-law bars_exact
         (partial_exact side.exact-law bars_exact spec.exact-law)) };
@@ -260,7 +261,7 @@ impl Eq for Profile {
 impl Exact for Profile {
     ghost use Rattle.hub_path.specs.contracts.side.SideExact.TheImpl.Laws as side;
     ghost use Rattle.hub_glob.specs.contracts.path_spec.PathSpecExact.TheImpl.Laws as spec;
-    ghost use Rattle.hub_profile.specs.Exact.{parts_exact, partial_exact, bars_exact};
+    ghost use Rattle.hub_profile.specs.laws.Exact.{parts_exact, partial_exact, bars_exact};
 
     ghost exact = { parts_exact spec.exact-law side.exact-law bars_exact
         (partial_exact side.exact-law bars_exact spec.exact-law) };

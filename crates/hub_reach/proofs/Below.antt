@@ -9,8 +9,8 @@ use Rattle.hub_glob.specs.declared.piece.Part.{Part}
 use Rattle.hub_glob.specs.Glob.{glob, by_kind, matches}
 use Rattle.hub_glob.specs.Specification.{Specification}
 use Rattle.hub_automaton.specs.Spots.{is_below_kind}
-use Rattle.hub_glob.specs.OneStep.{nonzero}
-use Rattle.hub_reach.specs.PrefixLaws.{any-front}
+use Rattle.hub_glob.specs.laws.OneStep.{nonzero}
+use Rattle.hub_reach.specs.laws.Prefix.{any-front}
 
 some-names : (p : Path) (i : ℕ) → not (length (take i p) == 0) ≡ true → not (length p == 0) ≡ true
 some-names [] zero h = h

@@ -5,13 +5,13 @@ use Rattle.std.specs.List.{list_any, list_all}
 use Rattle.std.proofs.lemmas.Bool.{and_parts}
 use Rattle.std.proofs.lemmas.List.{take_at, take_more, drop_at, take-append-drop, length-map}
 use Rattle.std.proofs.lemmas.List.Folds.{list_all-append, list_all-map}
-use Rattle.hub_text.specs.ListLaws.{next-drop}
-use Rattle.hub_text.specs.TestLaws.{any-map}
+use Rattle.hub_text.specs.laws.List.{next-drop}
+use Rattle.hub_text.specs.laws.Test.{any-map}
 use Rattle.hub_path.specs.Path.{Name, Path, is_path, is_place, none_over, parent, path_eq, path_of, text_of}
-use Rattle.hub_path.specs.Laws.{text_of-path_of}
-use Rattle.hub_path.specs.TextLaws.{path_of-parts}
+use Rattle.hub_path.specs.laws.General.{text_of-path_of}
+use Rattle.hub_path.specs.laws.Text.{path_of-parts}
 use Rattle.hub_glob.specs.Glob.{matches}
-use Rattle.hub_glob.specs.OneStep.{nonzero}
+use Rattle.hub_glob.specs.laws.OneStep.{nonzero}
 use Rattle.hub_glob.specs.Specification.{Specification}
 use Rattle.hub_profile.specs.Parts.{Parts, IsProfile}
 use Rattle.hub_profile.specs.declared.partial.Partial.{Partial}
@@ -25,8 +25,8 @@ use Rattle.hub_reach.specs.Walk.{is_inside, is_kept}
 use Rattle.hub_reach.specs.Walker.{WalkerParts}
 use Rattle.hub_reach.specs.declared.placed_bar.PlacedBar.{PlacedBar}
 use Rattle.hub_reach.specs.Stage.{IsWalkerOf, texts_of, profile_alternatives, text_spots, spot_count_of}
-use Rattle.hub_reach.specs.WalkLaws.{kept-over-path}
-use Rattle.hub_automaton.specs.AddedInTurn.{spots-append}
+use Rattle.hub_reach.specs.laws.Walk.{kept-over-path}
+use Rattle.hub_automaton.specs.laws.AddedInTurn.{spots-append}
 
 -- The parts of a list.
 module _ {X : Type 0} where

@@ -2,8 +2,8 @@
 use Rattle.std.proofs.Common.{◌≡◌, ◌∙◌, ℕ, ◌+◌, ◌<◌, List, [], ◌++◌, length, take, drop, get_or, refl, sym, ap, subst, append_assoc, Result, Ok, Err, OnErr}
 use Rattle.std.specs.List.{flat_map}
 use Rattle.hub_automaton.specs.Alphabet.{with_characters}
-use Rattle.hub_automaton.specs.Adding.{with-append, flat_drop}
-use Rattle.hub_automaton.specs.AddedInTurn.{flat-parts}
+use Rattle.hub_automaton.specs.laws.Adding.{with-append, flat_drop}
+use Rattle.hub_automaton.specs.laws.AddedInTurn.{flat-parts}
 use Rattle.hub_reach.specs.Mention.{IsPartly}
 
 -- What has been added of a part has been added of the whole.

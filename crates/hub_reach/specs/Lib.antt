@@ -3,7 +3,6 @@ pub mod Numbering
 pub mod Table
 pub mod Reach
 pub mod Bars
-pub mod Laws
 pub mod Safe
 pub mod Walk
 pub mod Shape
@@ -11,10 +10,7 @@ pub mod Stage
 pub mod Places
 pub mod Walker
 pub mod WalkerEnds
-pub mod Examples
 pub mod Mention
-pub mod MentionLaws
-pub mod WalkLaws
-pub mod PrefixLaws
-pub mod Between
 pub mod Apart
+pub mod laws
+pub mod examples

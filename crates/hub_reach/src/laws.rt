@@ -26,7 +26,7 @@ use std::hash::Hash;
 
 /// A profile reaches a path exactly when it is reached by going down to it name by name: no path above it, at or below a
 /// kept value, is ignored; nor is the path itself; and it is a kept value, or one is above it.
-#[tactic(auto, using(crate::specs::WalkLaws::walks))]
+#[tactic(auto, using(crate::specs::laws::Walk::walks))]
 pub fn walks_are_reach()
     ensures { (P : Parts) (p : Path) → IsProfile P → IsTrue (is_path p)
         → reach P p ≡ is_walked P p }

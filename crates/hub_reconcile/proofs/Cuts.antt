@@ -11,21 +11,21 @@ use Rattle.std.proofs.lemmas.List.Folds.{length-prefix_len}
 use Rattle.std.proofs.lemmas.List.Sums.{take_while-cons}
 use Rattle.std.proofs.lemmas.Map.Keys.{sorted_tail}
 use Rattle.std.proofs.Math.Bool.{and-false, and-true}
-use Rattle.hub_path.specs.Laws.{name_eq-decides, name_cmp-total, name_cmp-exact, path_cmp-over, is_over-reflexive}
+use Rattle.hub_path.specs.laws.General.{name_eq-decides, name_cmp-total, name_cmp-exact, path_cmp-over, is_over-reflexive}
 use Rattle.hub_path.specs.Path.{Name, Path, name_eq, name_cmp, path_cmp, path_eq, is_over, prefixes}
 use Rattle.hub_path.specs.declared.side.Side.TheVariants.{Left, Right}
 use Rattle.hub_profile.specs.Parts.{some_passes}
 use Rattle.hub_tree.specs.Below.{is_below}
-use Rattle.hub_tree.specs.Laws.Order.{path_itself}
-use Rattle.hub_tree.specs.Laws.Between.{among, among_filter, before, behind, among-none, not_both}
-use Rattle.hub_reconcile.specs.Blocks.{IsCut, rows_below}
+use Rattle.hub_tree.specs.laws.Order.{path_itself}
+use Rattle.hub_tree.specs.laws.Between.{among, among_filter, before, behind, among-none, not_both}
+use Rattle.hub_reconcile.specs.forms.Blocks.{IsCut, rows_below}
 use Rattle.hub_reconcile.specs.Items.{differs, item_over, is_item, below, at_and_below}
 use Rattle.hub_reconcile.specs.Rows.{IsRow, AreRows, AreRowsOf, is_different, paths_of}
 use Rattle.hub_reconcile.specs.View.{View, mark_eq}
 use Rattle.hub_reconcile.specs.declared.row.Row.{Row}
-use Rattle.hub_reconcile.specs.Laws.Over.{find_first, least}
-use Rattle.hub_reconcile.specs.Laws.Synced.{same_item}
-use Rattle.hub_reconcile.specs.Laws.Views.{same_paths, paths_same}
+use Rattle.hub_reconcile.specs.laws.Over.{find_first, least}
+use Rattle.hub_reconcile.specs.laws.Synced.{same_item}
+use Rattle.hub_reconcile.specs.laws.Views.{same_paths, paths_same}
 
 -- A path that is over another one is not behind it.
 pub over_not_behind : (p y : Path) → path_cmp p y ≡ Less → is_over y p ≡ true → ⊥

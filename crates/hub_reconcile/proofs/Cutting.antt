@@ -5,7 +5,7 @@ use Rattle.std.specs.List.{flat_map, prefix_len, take_while}
 use Rattle.std.proofs.lemmas.List.{length-drop}
 use Rattle.std.proofs.Math.Seq.{take-length}
 use Rattle.hub_path.specs.Path.{Path, is_over}
-use Rattle.hub_reconcile.specs.Blocks.{IsCut, IsBlock, IsPartition, AreBlocks, block_paths, rows_below}
+use Rattle.hub_reconcile.specs.forms.Blocks.{IsCut, IsBlock, IsPartition, AreBlocks, block_paths, rows_below}
 use Rattle.hub_reconcile.specs.Rows.{AreRowsOf, is_different, paths_of}
 use Rattle.hub_reconcile.specs.Shown.{shown}
 use Rattle.hub_reconcile.specs.View.{View}

@@ -4,7 +4,7 @@ use Rattle.std.specs.Prelude.{filter, reverse, is_some}
 use Rattle.std.specs.List.{list_any}
 use Rattle.std.proofs.lemmas.List.Folds.{list_any-append}
 use Rattle.std.proofs.lemmas.List.Sorted.{list_any-IsPermutation, IsPermutation-reverse}
-use Rattle.hub_text.specs.TestLaws.{any-map, any-or}
+use Rattle.hub_text.specs.laws.Test.{any-map, any-or}
 use Rattle.hub_path.specs.Path.{Path}
 use Rattle.hub_path.specs.declared.side.Side.{Side}
 use Rattle.hub_path.specs.declared.side.Side.TheVariants.{Left, Right}
@@ -12,7 +12,7 @@ use Rattle.hub_profile.specs.Parts.{Parts}
 use Rattle.hub_tree.specs.Tree.{Archive}
 use Rattle.hub_tree.specs.declared.contents.Mark.{Mark}
 use Rattle.hub_tree.specs.declared.contents.Mark.TheVariants as mark
-use Rattle.hub_reconcile.specs.Fates as rows
+use Rattle.hub_reconcile.specs.forms.Fates as rows
 use Rattle.hub_reconcile.specs.Items.{other, below, at_and_below, is_updated, is_conflict, source, change, going, coming, changes, is_allowed, blocks, fate, fate_from, has_parent, verb_of}
 use Rattle.hub_reconcile.specs.Picture.{view_by}
 use Rattle.hub_reconcile.specs.Rows.{IsRow, AreRows, seen_on, mark_on, is_changed, paths_of}

@@ -4,16 +4,16 @@ use Rattle.std.specs.List.Sorted.{IsStrictlySortedBy}
 use Rattle.std.specs.Ordering.{eq_by_cmp, is_lt, ordering_reverse}
 use Rattle.std.specs.declared.cmp.Ordering.TheVariants.{Less, Equal, Greater}
 use Rattle.std.proofs.lemmas.Bool.{or_left, or_right}
-use Rattle.hub_path.specs.Laws.{path_cmp-total, path_cmp-exact}
+use Rattle.hub_path.specs.laws.General.{path_cmp-total, path_cmp-exact}
 use Rattle.hub_path.specs.Path.{Path, path_cmp, path_eq}
-use Rattle.hub_tree.specs.Laws.Order.{path_itself, same_path}
-use Rattle.hub_tree.specs.Laws.Between.{among, before, behind}
+use Rattle.hub_tree.specs.laws.Order.{path_itself, same_path}
+use Rattle.hub_tree.specs.laws.Between.{among, before, behind}
 use Rattle.hub_reconcile.specs.Merge.{seen_paths}
 use Rattle.hub_reconcile.specs.Picture.{sight_in, told_by}
 use Rattle.hub_reconcile.specs.Sight.{Sight}
 use Rattle.hub_reconcile.specs.declared.look.Look.{Look}
 use Rattle.hub_reconcile.proofs.Merging.{none_seen}
-use Rattle.hub_reconcile.specs.Laws.Views.{apart_from}
+use Rattle.hub_reconcile.specs.laws.Views.{apart_from}
 
 past_front : (xs ys : List (Path × Sight)) (p : Path) → ((q : Path) → among q (seen_paths xs) ≡ true → path_cmp q p ≡ Less) → sight_in (xs ++ ys) p ≡ sight_in ys p
 past_front [] ys p h = refl

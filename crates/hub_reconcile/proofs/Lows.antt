@@ -8,14 +8,14 @@ use Rattle.std.proofs.lemmas.Bool.{false≢true, or_left, or_right}
 use Rattle.std.proofs.lemmas.List.Folds.{list_any-append}
 use Rattle.std.proofs.lemmas.Map.Keys.{sorted_tail}
 use Rattle.hub_reconcile.proofs.Rising.{lt_less}
-use Rattle.hub_path.specs.Laws.{path_cmp-total, path_cmp-exact}
+use Rattle.hub_path.specs.laws.General.{path_cmp-total, path_cmp-exact}
 use Rattle.hub_path.specs.Path.{Path, path_cmp, path_eq, ascending}
-use Rattle.hub_tree.specs.Laws.Order.{path_itself, same_path}
-use Rattle.hub_tree.specs.Laws.Between.{among, behind, not_both}
+use Rattle.hub_tree.specs.laws.Order.{path_itself, same_path}
+use Rattle.hub_tree.specs.laws.Between.{among, behind, not_both}
 use Rattle.hub_reconcile.specs.Merge.{first_of, lesser, least_first, without_first}
-use Rattle.hub_reconcile.specs.Laws.Ascend.{ascending_sorted, among_ascending, same_list}
+use Rattle.hub_reconcile.specs.laws.Ascend.{ascending_sorted, among_ascending, same_list}
 use Rattle.std.proofs.lemmas.Option.{same_Some}
-use Rattle.hub_reconcile.specs.Laws.Views.{same_paths, paths_same}
+use Rattle.hub_reconcile.specs.laws.Views.{same_paths, paths_same}
 
 -- The path is no later than this one, if there is one.
 abbrev pub IsLow : Path → Option Path → Type 0

@@ -12,7 +12,7 @@ use Rattle.std.proofs.lemmas.List.Elements.{filter-append}
 use Rattle.std.specs.Cmp.{both_ways}
 use Rattle.std.proofs.Math.Bool.{and-false, and-true}
 use Rattle.hub_reconcile.proofs.Partitions.{paths-push}
-use Rattle.hub_path.specs.Laws.{path_cmp-total}
+use Rattle.hub_path.specs.laws.General.{path_cmp-total}
 use Rattle.hub_path.specs.Path.{Path, path_cmp, path_eq, ascending}
 use Rattle.hub_path.specs.declared.side.Side.TheVariants.{Left, Right}
 use Rattle.hub_profile.specs.Parts.{Parts}
@@ -20,9 +20,9 @@ use Rattle.hub_reach.specs.Reach.{reach}
 use Rattle.hub_tree.specs.Tree.{Archive, old_mark_at}
 use Rattle.hub_tree.specs.declared.contents.Mark.{Mark}
 use Rattle.hub_tree.specs.declared.contents.Mark.TheVariants as mark
-use Rattle.hub_tree.specs.Laws.Order.{path_itself, same_path}
-use Rattle.hub_tree.specs.Laws.Children.{sorted_keys, one_item}
-use Rattle.hub_tree.specs.Laws.Between.{among, behind, not_both}
+use Rattle.hub_tree.specs.laws.Order.{path_itself, same_path}
+use Rattle.hub_tree.specs.laws.Children.{sorted_keys, one_item}
+use Rattle.hub_tree.specs.laws.Between.{among, behind, not_both}
 use Rattle.hub_reconcile.specs.Merge.{seen_paths, paths_in, first_of, least_first, without_first, past_of, past_sight, front_of, front_sight, front_mark, IsSeen}
 use Rattle.hub_reconcile.specs.Picture.{nothing_there, sight_in, view_by}
 use Rattle.hub_reconcile.specs.Rows.{IsRow, AreRows, AreRowsOf, is_anywhere, paths_of}
@@ -31,7 +31,7 @@ use Rattle.hub_reconcile.specs.Sync.{of_side}
 use Rattle.hub_reconcile.specs.View.{View, is_present, counts}
 use Rattle.hub_reconcile.specs.declared.row.Row.{Row}
 use Rattle.hub_reconcile.proofs.Lows.{IsLow, IsLeastFirst, least_firsts, nothing_left, three, past_sorted, later_three, is_there, least_next}
-use Rattle.hub_reconcile.specs.Laws.Views.{same_paths, paths_same, reach-names}
+use Rattle.hub_reconcile.specs.laws.Views.{same_paths, paths_same, reach-names}
 
 -- The value of a path in a list, and else d.
 abbrev pub value_in : {T : Type 0} → T → List (Path × T) → Path → T

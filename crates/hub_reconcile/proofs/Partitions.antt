@@ -8,7 +8,7 @@ use Rattle.std.proofs.lemmas.List.{reverse-append}
 use Rattle.std.proofs.lemmas.List.Concat.{flat_map-append}
 use Rattle.std.proofs.lemmas.List.Elements.{filter-append}
 use Rattle.hub_reconcile.proofs.Cuts.{filter_none}
-use Rattle.hub_path.specs.Laws.{is_over-reflexive}
+use Rattle.hub_path.specs.laws.General.{is_over-reflexive}
 use Rattle.hub_path.specs.Path.{Path, path_cmp, path_eq, is_over}
 use Rattle.hub_path.specs.declared.side.Side.{Side}
 use Rattle.hub_path.specs.declared.side.Side.TheVariants.{Left, Right}
@@ -16,9 +16,9 @@ use Rattle.hub_profile.specs.Parts.{some_passes}
 use Rattle.hub_tree.specs.Below.{is_below}
 use Rattle.hub_tree.specs.declared.contents.Mark.{Mark}
 use Rattle.hub_tree.specs.declared.contents.Mark.TheVariants as mark
-use Rattle.hub_tree.specs.Laws.Order.{same_path}
-use Rattle.hub_tree.specs.Laws.Between.{among, among_filter}
-use Rattle.hub_reconcile.specs.Blocks.{IsFated, AreBlocks, IsPartition, block_paths, item_by, block_items, row_comes, going_rows, coming_rows, changes_fated, block_changes, mark_fated, HaveNames, HaveAllNames}
+use Rattle.hub_tree.specs.laws.Order.{same_path}
+use Rattle.hub_tree.specs.laws.Between.{among, among_filter}
+use Rattle.hub_reconcile.specs.forms.Blocks.{IsFated, AreBlocks, IsPartition, block_paths, item_by, block_items, row_comes, going_rows, coming_rows, changes_fated, block_changes, mark_fated, HaveNames, HaveAllNames}
 use Rattle.hub_reconcile.specs.Items.{other, differs, item_over, is_item, fate, below, change, going, coming, changes, changes_by, items, plan}
 use Rattle.hub_reconcile.specs.Rows.{IsRow, AreRows, mark_on, is_going, is_coming, paths_of}
 use Rattle.hub_reconcile.specs.Sync.{fate_over, mark_under, synced_mark}
@@ -29,9 +29,9 @@ use Rattle.hub_reconcile.specs.declared.item.Fate.{Fate}
 use Rattle.hub_reconcile.specs.declared.item.Fate.TheVariants.{To, Skip}
 use Rattle.hub_reconcile.specs.declared.item.Item.{Item}
 use Rattle.hub_reconcile.specs.declared.row.Row.{Row}
-use Rattle.hub_reconcile.specs.Laws.Over.{find-longer}
-use Rattle.hub_reconcile.specs.Laws.Synced.{over_itself, same_item}
-use Rattle.hub_reconcile.specs.Laws.Views.{paths_same}
+use Rattle.hub_reconcile.specs.laws.Over.{find-longer}
+use Rattle.hub_reconcile.specs.laws.Synced.{over_itself, same_item}
+use Rattle.hub_reconcile.specs.laws.Views.{paths_same}
 
 pub map-append : {X Y : Type 0} (h : X → Y) (xs ys : List X) → map h (xs ++ ys) ≡ map h xs ++ map h ys
 map-append h [] ys = refl

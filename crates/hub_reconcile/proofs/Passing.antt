@@ -18,7 +18,7 @@ use Rattle.hub_reconcile.specs.declared.look.Look.{Look}
 use Rattle.hub_reconcile.specs.declared.row.Row.{Row}
 use Rattle.hub_reconcile.proofs.Merging.{IsMerged, merge_start, merge_kept, merge_skipped, past_seen}
 use Rattle.std.proofs.lemmas.Option.{same_Some}
-use Rattle.hub_reconcile.specs.Laws.Views.{paths_same}
+use Rattle.hub_reconcile.specs.laws.Views.{paths_same}
 
 -- The lesser of two paths is one of them.
 lesser_one : (a b : Option Path) (p : Path) → lesser a b ≡ Some p → (a ≡ Some p) ⊎ (b ≡ Some p)

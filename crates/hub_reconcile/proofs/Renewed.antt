@@ -12,8 +12,8 @@ use Rattle.std.proofs.lemmas.Bool.{false≢true, and_parts, and_from, or_left, o
 use Rattle.std.proofs.lemmas.List.Concat.{flat_map-append}
 use Rattle.std.proofs.lemmas.List.Folds.{list_any-append}
 use Rattle.std.proofs.lemmas.Map.Keys.{sorted_head, sorted_tail}
-use Rattle.hub_tree.specs.Laws.MarkMaps.{get-with_kept}
-use Rattle.hub_path.specs.Laws.{path_cmp-total, path_cmp-exact}
+use Rattle.hub_tree.specs.laws.MarkMaps.{get-with_kept}
+use Rattle.hub_path.specs.laws.General.{path_cmp-total, path_cmp-exact}
 use Rattle.hub_path.specs.Path.{Path, path_cmp, ascending}
 use Rattle.hub_path.specs.declared.side.Side.{Side}
 use Rattle.hub_path.specs.declared.side.Side.TheVariants.{Left, Right}
@@ -23,10 +23,10 @@ use Rattle.hub_tree.specs.Marked.{kept_entries, marked_entries, with_entries}
 use Rattle.hub_tree.specs.Tree.{Archive, IsArchive, kept_mark, old_mark_at, with_mark}
 use Rattle.hub_tree.specs.declared.contents.Mark.{Mark}
 use Rattle.hub_tree.specs.declared.contents.Mark.TheVariants as mark
-use Rattle.hub_tree.specs.Laws.Between.{among, among_filter, not_both}
-use Rattle.hub_tree.specs.Laws.Children.{sorted_keys}
-use Rattle.hub_tree.specs.Laws.Order.{path_itself, same_path}
-use Rattle.hub_reconcile.specs.Blocks.{AreBlocks, IsPartition, block_marks, block_paths, kept_marks, row_told, HaveMarkNames}
+use Rattle.hub_tree.specs.laws.Between.{among, among_filter, not_both}
+use Rattle.hub_tree.specs.laws.Children.{sorted_keys}
+use Rattle.hub_tree.specs.laws.Order.{path_itself, same_path}
+use Rattle.hub_reconcile.specs.forms.Blocks.{AreBlocks, IsPartition, block_marks, block_paths, kept_marks, row_told, HaveMarkNames}
 use Rattle.hub_reconcile.specs.Merge.{paths_in, is_other}
 use Rattle.hub_reconcile.specs.Picture.{view_by}
 use Rattle.hub_reconcile.specs.Rows.{AreRows, paths_of}
@@ -36,9 +36,9 @@ use Rattle.hub_reconcile.specs.View.{View, is_present}
 use Rattle.hub_reconcile.specs.declared.block.Block.{Block}
 use Rattle.hub_reconcile.specs.declared.item.Fate.{Fate}
 use Rattle.hub_reconcile.specs.declared.row.Row.{Row}
-use Rattle.hub_reconcile.specs.Laws.Ascend.{among_ascending}
-use Rattle.hub_reconcile.specs.Laws.Each.{Each, Each-append, each-filter, each-weaker}
-use Rattle.hub_reconcile.specs.Laws.Looked.{old_among}
+use Rattle.hub_reconcile.specs.laws.Ascend.{among_ascending}
+use Rattle.hub_reconcile.specs.laws.Each.{Each, Each-append, each-filter, each-weaker}
+use Rattle.hub_reconcile.specs.laws.Looked.{old_among}
 use Rattle.hub_reconcile.proofs.Partitions.{fate_at, fold-append, map-append, row_mark}
 use Rattle.hub_reconcile.proofs.ShownFacts.{all_paths, does_count, seen_at}
 

@@ -5,7 +5,7 @@ use Rattle.std.specs.Ordering.{is_lt}
 use Rattle.std.specs.declared.cmp.Ordering.TheVariants.{Less, Equal, Greater}
 use Rattle.std.proofs.lemmas.Bool.{and_parts, and_from}
 use Rattle.std.specs.Cmp.{both_ways}
-use Rattle.hub_path.specs.Laws.{path_cmp-total}
+use Rattle.hub_path.specs.laws.General.{path_cmp-total}
 use Rattle.hub_path.specs.Path.{Path, path_cmp}
 use Rattle.hub_reconcile.specs.Picture.{is_before_looks, are_rising}
 use Rattle.hub_reconcile.specs.Sight.{Sight}

@@ -14,15 +14,15 @@ use Rattle.hub_reach.specs.Reach.{reach}
 use Rattle.hub_tree.specs.Tree.{Archive}
 use Rattle.hub_tree.specs.declared.contents.Mark.{Mark}
 use Rattle.hub_tree.specs.declared.contents.Mark.TheVariants as mark
-use Rattle.hub_tree.specs.Laws.Order.{path_itself}
-use Rattle.hub_tree.specs.Laws.Children.{one_item}
-use Rattle.hub_tree.specs.Laws.Between.{among, among_filter}
+use Rattle.hub_tree.specs.laws.Order.{path_itself}
+use Rattle.hub_tree.specs.laws.Children.{one_item}
+use Rattle.hub_tree.specs.laws.Between.{among, among_filter}
 use Rattle.hub_reconcile.specs.Items.{differs}
 use Rattle.hub_reconcile.specs.Picture.{sight_in, view_by}
 use Rattle.hub_reconcile.specs.Sight.{Sight}
 use Rattle.hub_reconcile.specs.View.{View, mark_eq, is_present, counts}
-use Rattle.hub_reconcile.specs.Laws.Ascend.{ascending_sorted, among_ascending}
-use Rattle.hub_reconcile.specs.Laws.Views.{same_paths, reach-names}
+use Rattle.hub_reconcile.specs.laws.Ascend.{ascending_sorted, among_ascending}
+use Rattle.hub_reconcile.specs.laws.Views.{same_paths, reach-names}
 
 -- A path that has a mark has a Look.
 pub sight_there : (y : Path) (ss : List (Path × Sight)) → is_present (sight_in ss y).mark ≡ true → among y (map (λ s. s.0) ss) ≡ true

@@ -24,7 +24,7 @@ use Rattle.hub_reconcile.specs.declared.table.Table.{Table}
 use Rattle.hub_reconcile.proofs.Lows.{nothing_left}
 use Rattle.hub_reconcile.proofs.Merging.{IsMerged, merge_end, past_in, picture_view}
 use Rattle.hub_reconcile.proofs.Passing.{fewer, start_on, added_on}
-use Rattle.hub_reconcile.specs.Laws.Views.{same_paths}
+use Rattle.hub_reconcile.specs.laws.Views.{same_paths}
 
 -- What the mark that was taken says of those that were left before.
 taken_first : (o : List (Path × Mark)) (old : Option OldMark) (ms : List (Path × Mark)) → TakesFirst told_mark o old ms → first_of (paths_in (taken old)) ≡ first_of (paths_in o)

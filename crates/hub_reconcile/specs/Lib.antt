@@ -7,8 +7,7 @@ pub mod Sides
 pub mod Sync
 pub mod Shown
 pub mod Rows
-pub mod Fates
-pub mod Blocks
 pub mod Merge
-pub mod Examples
-pub mod Laws
+pub mod forms
+pub mod laws
+pub mod examples

@@ -2,7 +2,7 @@
 ghost use Rattle.std.specs.Prelude.{◌≡◌, ◌∷◌, List, IfOk};
 ghost use Rattle.std.specs.List.{prefix_len};
 ghost use Rattle.hub_path.specs.Path.{Path, is_over};
-ghost use Rattle.hub_reconcile.specs.Blocks.{IsCut, IsBlock, IsPartition, rows_below};
+ghost use Rattle.hub_reconcile.specs.forms.Blocks.{IsCut, IsBlock, IsPartition, rows_below};
 ghost use Rattle.hub_reconcile.specs.Rows.{AreRowsOf};
 ghost use Rattle.hub_reconcile.specs.Shown.{shown};
 

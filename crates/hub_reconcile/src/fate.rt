@@ -1,6 +1,6 @@
 //! What becomes of an item.
 ghost use Rattle.std.specs.Prelude.{◌≡◌, ◌∷◌, IfOk};
-ghost use Rattle.hub_reconcile.specs.Fates as fates;
+ghost use Rattle.hub_reconcile.specs.forms.Fates as fates;
 ghost use Rattle.hub_reconcile.specs.Items as spec;
 ghost use Rattle.hub_reconcile.specs.Rows as spec_rows;
 ghost use Rattle.hub_reconcile.specs.Rows.{AreRows, paths_of};

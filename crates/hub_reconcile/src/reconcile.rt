@@ -3,7 +3,7 @@ ghost use Rattle.std.specs.Prelude.{◌≡◌, ◌++◌, ◌∷◌, [], IfOk, On
 ghost use Rattle.std.specs.FinMap as fin;
 ghost use Rattle.std.specs.List.{flat_map};
 ghost use Rattle.hub_reach.specs.Reach.{reach};
-ghost use Rattle.hub_reconcile.specs.Blocks as parts;
+ghost use Rattle.hub_reconcile.specs.forms.Blocks as parts;
 ghost use Rattle.hub_reconcile.specs.Items as spec;
 ghost use Rattle.hub_reconcile.specs.Merge as merge;
 ghost use Rattle.hub_reconcile.specs.Shown.{shown};

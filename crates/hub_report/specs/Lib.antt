@@ -7,7 +7,6 @@ pub mod Rounds
 pub mod Undecided
 pub mod RoundsRun
 pub mod Graph
-pub mod JobsExamples
 pub mod Faults
 pub mod FaultyInput
 pub mod ReachAnswer
@@ -15,6 +14,5 @@ pub mod Verdict
 pub mod ClashesAnswer
 pub mod RunAnswer
 pub mod Report
-pub mod GraphExamples
-pub mod ReportExamples
-pub mod Starts
+pub mod laws
+pub mod examples

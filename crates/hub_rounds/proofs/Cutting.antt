@@ -10,7 +10,7 @@ use Rattle.hub_profile.specs.Parts.{Parts}
 use Rattle.hub_cert.specs.Set.{IsSafeSet, Members}
 use Rattle.hub_cert.specs.declared.fault.CheckFault.{CheckFault}
 use Rattle.hub_rounds.specs.Rounds.{AreSplit, ArePlaced, AreRivals, AreRounds, AreUsed, AreWhole, IsPlaced, is_in_round, is_in_some, is_outside, profiles_in_round}
-use Rattle.hub_rounds.specs.RoundsLaws.{round-at}
+use Rattle.hub_rounds.specs.laws.Rounds.{round-at}
 use Rattle.hub_rounds.specs.declared.placing.Placed.{Placed}
 use Rattle.hub_rounds.specs.declared.placing.Placing.{Placing}
 use Rattle.hub_rounds.specs.declared.placing.Placing.TheVariants.{Unplaced, Round}

@@ -6,7 +6,7 @@ use Rattle.std.proofs.lemmas.Bool.{true≢false}
 use Rattle.std.proofs.lemmas.Bool.Decides.{nat_tests}
 use Rattle.std.proofs.lemmas.List.Folds.{find_at}
 use Rattle.std.proofs.lemmas.Option.{IfSome_then, none-some, same_Some}
-use Rattle.hub_text.specs.ListLaws.{cons-cases, in-place}
+use Rattle.hub_text.specs.laws.List.{cons-cases, in-place}
 use Rattle.hub_cert.specs.declared.fault.CheckFault.{CheckFault}
 use Rattle.hub_rounds.specs.Lines.{HasNoOwnLine, HasOwnLine, IsFirstReason, first_breach, names_alone, reason_in, subject_of, tells_breach}
 use Rattle.hub_rounds.specs.declared.placing.Obstacle.{Obstacle}

@@ -5,7 +5,7 @@ use Rattle.std.specs.List.{list_any}
 use Rattle.std.proofs.lemmas.Bool.{true≢false}
 use Rattle.std.proofs.lemmas.Bool.Decides.{nat_tests}
 use Rattle.std.proofs.lemmas.Option.{none-some, slice_get_within}
-use Rattle.hub_text.specs.ListLaws.{at-place, cons-cases, cons-here, cons-there, in-place, snoc-cases, snoc-new, snoc-old}
+use Rattle.hub_text.specs.laws.List.{at-place, cons-cases, cons-here, cons-there, in-place, snoc-cases, snoc-new, snoc-old}
 use Rattle.hub_cert.specs.declared.fault.CheckFault.{CheckFault}
 use Rattle.hub_rounds.specs.Lines.{HasPair}
 use Rattle.hub_rounds.specs.Rounds.{AreSplit, ArePlaced, AreRivals, AreUsed, AreWhole, HasJoined, IsFreeFor, IsInRound, IsPlaced, MayJoin, OpensRounds, StandsFree, is_in_round}

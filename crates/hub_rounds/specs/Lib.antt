@@ -1,5 +1,5 @@
 pub mod Lines
 pub mod Rounds
 pub mod Unverified
-pub mod RoundsLaws
-pub mod RoundsExamples
+pub mod laws
+pub mod examples

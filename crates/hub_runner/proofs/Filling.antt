@@ -4,12 +4,12 @@ use Rattle.std.specs.Prelude.{ℕ, slice_get, slice_set}
 use Rattle.std.proofs.lemmas.Bool.{cases_eq}
 use Rattle.std.proofs.lemmas.List.{length-map}
 use Rattle.std.proofs.lemmas.Option.{same_Some, slice_get_within}
-use Rattle.hub_text.specs.ListLaws.{put-here, snoc-cases, snoc-new, snoc-old}
+use Rattle.hub_text.specs.laws.List.{put-here, snoc-cases, snoc-new, snoc-old}
 use Rattle.hub_job.specs.JobValue.{JobValue}
 use Rattle.hub_job.specs.Run.{Runs}
-use Rattle.hub_schedule.specs.Laws.Lists.{map_at, set_there}
-use Rattle.hub_runner.specs.Ordered.{AreInOrder, AreNumbered, IsJobOf}
-use Rattle.hub_runner.specs.Slots.{AreFull, filled}
+use Rattle.hub_schedule.specs.laws.Lists.{map_at, set_there}
+use Rattle.hub_runner.specs.forms.Ordered.{AreInOrder, AreNumbered, IsJobOf}
+use Rattle.hub_runner.specs.forms.Slots.{AreFull, filled}
 
 -- Each slot has a job of its number; each of the first jobs has one in its slot.
 pub record IsFilling (n : ℕ) (front : List JobValue) (slots : List (Option JobValue)) : Type 0 where

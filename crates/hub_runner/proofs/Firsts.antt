@@ -4,7 +4,7 @@ use Rattle.std.specs.Prelude.{ℕ, All, slice_get}
 use Rattle.std.specs.List.{flat_map}
 use Rattle.std.proofs.lemmas.List.{append-nil, drop_all}
 use Rattle.std.proofs.lemmas.List.Elements.{All-append}
-use Rattle.hub_schedule.specs.Laws.Lists.{drop_at}
+use Rattle.hub_schedule.specs.laws.Lists.{drop_at}
 
 -- The element is the first of a list that is wrong: those before it are right.
 abbrev pub IsFirst : {X : Type 0} → (X → Type 0) → (X → Type 0) → List X → X → Type 0

@@ -6,7 +6,7 @@ use Rattle.std.specs.FinMap as fin
 use Rattle.std.proofs.lemmas.Bool.Decides.{nat_tests}
 use Rattle.std.proofs.lemmas.List.Sums.{length-filter}
 use Rattle.std.proofs.lemmas.Option.{same_Some, slice_get_within}
-use Rattle.hub_reconcile.specs.Laws.Views.{same_paths}
+use Rattle.hub_reconcile.specs.laws.Views.{same_paths}
 use Rattle.hub_path.specs.Path.{Path, path_eq}
 use Rattle.hub_profile.specs.Parts.{Parts}
 use Rattle.hub_reach.specs.Reach.{has_root}
@@ -16,7 +16,7 @@ use Rattle.hub_job.specs.declared.outcome.Outcome.{Outcome}
 use Rattle.hub_job.specs.JobValue.{JobValue}
 use Rattle.hub_job.specs.Outcome.{archive_of, jobs_of, replicas_of, IsOutcomeWith}
 use Rattle.hub_job.specs.Run.{Runs, root_at}
-use Rattle.hub_job.specs.Laws.Untouched.{path-of_Some}
+use Rattle.hub_job.specs.laws.Untouched.{path-of_Some}
 use Rattle.hub_history.specs.Book.{BookValue, IsBook}
 use Rattle.hub_schedule.specs.declared.slot.WorkingTree.{WorkingTree}
 use Rattle.hub_schedule.specs.Ended.{AreEndedWith, IsEnded, ended_value}
@@ -25,10 +25,10 @@ use Rattle.hub_schedule.specs.Promise.{HasReplicas, Settles, log_or_none, logs_i
 use Rattle.hub_schedule.specs.Refusals.{first_missing}
 use Rattle.hub_schedule.specs.Settled.{AreProfiles, IsSettled}
 use Rattle.hub_schedule.specs.Table.{AreTrees, IsTreeNumber}
-use Rattle.hub_schedule.specs.Laws.Lists.{as_long, any-at, one_with, map_at, map_get}
-use Rattle.hub_job.specs.Laws.Roots.{has_own}
-use Rattle.hub_schedule.specs.Laws.Missing.{have_replicas}
-use Rattle.hub_runner.specs.Ordered.{AreInOrder, AreNumbered, AreTreesOf, is_due, of_book, of_tree}
+use Rattle.hub_schedule.specs.laws.Lists.{as_long, any-at, one_with, map_at, map_get}
+use Rattle.hub_job.specs.laws.Roots.{has_own}
+use Rattle.hub_schedule.specs.laws.Missing.{have_replicas}
+use Rattle.hub_runner.specs.forms.Ordered.{AreInOrder, AreNumbered, AreTreesOf, is_due, of_book, of_tree}
 use Rattle.hub_runner.specs.Settling.{AreCompared, AreConsistent, EndAsTheyAre, Agrees, OpensAs, books_at, history_at, history_or_none, log_at, log_or_nothing, compared_places}
 use Rattle.hub_runner.proofs.Lists.{all_at, count_filter, count_map, found_first, is_only, only, passed, passes, same_place}
 use Rattle.hub_runner.proofs.Roots.{at_book, at_job}

@@ -8,7 +8,7 @@ use Rattle.hub_tree.specs.Tree.{Archive}
 use Rattle.hub_state.specs.State.{State}
 use Rattle.hub_job.specs.JobValue.{JobValue}
 use Rattle.hub_job.specs.Outcome.{archive_of}
-use Rattle.hub_runner.specs.Inconsistent.{IsOf, AllAreOf, OneIsNotOf, AllAreBelow, IsLeastFrom}
+use Rattle.hub_runner.specs.forms.Inconsistent.{IsOf, AllAreOf, OneIsNotOf, AllAreBelow, IsLeastFrom}
 use Rattle.hub_runner.specs.Settling.{AreConsistent, IsMadeFor, IsInconsistent, IsLowestInconsistent}
 
 -- The jobs of the numbers below i are due.

@@ -4,9 +4,9 @@ use Rattle.std.specs.Prelude.{ℕ, slice_get, nat_lt, MatchOption}
 use Rattle.std.proofs.lemmas.Bool.{cases_lt}
 use Rattle.std.proofs.lemmas.Bool.Decides.{nat_tests}
 use Rattle.std.proofs.lemmas.Option.{slice_get_within}
-use Rattle.hub_text.specs.ListLaws.{also-here}
+use Rattle.hub_text.specs.laws.List.{also-here}
 use Rattle.hub_job.specs.JobValue.{JobValue}
-use Rattle.hub_runner.specs.Inconsistent.{AllAreBelow, IsLeastFrom, lower_at, lower_of}
+use Rattle.hub_runner.specs.forms.Inconsistent.{AllAreBelow, IsLeastFrom, lower_at, lower_of}
 
 -- Of the first i jobs.
 abbrev pub LeastUpTo : List JobValue → ℕ → ℕ → Option ℕ → Type 0

@@ -5,15 +5,15 @@ use Rattle.std.specs.List.{list_any, range_with_len}
 use Rattle.std.proofs.lemmas.Bool.{false≢true, or_cases}
 use Rattle.std.proofs.lemmas.List.Elements.{All-head, All-tail}
 use Rattle.std.proofs.lemmas.Option.{same_Some}
-use Rattle.hub_reconcile.specs.Laws.Views.{same_paths}
+use Rattle.hub_reconcile.specs.laws.Views.{same_paths}
 use Rattle.hub_path.specs.Path.{Path, path_eq}
 use Rattle.hub_path.specs.declared.side.Side.TheVariants.{Left, Right}
 use Rattle.hub_profile.specs.Parts.{Parts, IsProfile, at_side}
 use Rattle.hub_reach.specs.Reach.{has_root}
 use Rattle.hub_reconcile.specs.Sync.{root_or_top}
 use Rattle.hub_job.specs.Run.{root_at}
-use Rattle.hub_job.specs.Laws.Untouched.{path-of_Some}
-use Rattle.hub_job.specs.Laws.Roots.{two_roots}
+use Rattle.hub_job.specs.laws.Untouched.{path-of_Some}
+use Rattle.hub_job.specs.laws.Roots.{two_roots}
 use Rattle.hub_runner.specs.Settling.{with_new, roots_of, compared_places, places_at}
 use Rattle.hub_runner.proofs.Lists.{all_flat, all_range}
 

@@ -14,8 +14,8 @@ use Rattle.hub_history.specs.Book.{BookValue}
 use Rattle.hub_schedule.specs.Promise.{HasReplicas, IsAsPromised, Settles}
 use Rattle.hub_schedule.specs.Refusals.{first_missing}
 use Rattle.hub_schedule.specs.Settled.{AreProfiles}
-use Rattle.hub_schedule.specs.Laws.Missing.{have_replicas}
-use Rattle.hub_schedule.specs.Laws.Unchanged.{IsStateFor, promise_none}
+use Rattle.hub_schedule.specs.laws.Missing.{have_replicas}
+use Rattle.hub_schedule.specs.laws.Unchanged.{IsStateFor, promise_none}
 use Rattle.hub_runner.specs.Settling.{AreCompared, AreConsistent, IsFirstMismatch, IsLowestInconsistent, Agrees, IsUnsettled, history_at, history_shown, log_shown, compared_places}
 
 -- What is told of a comparison, where Qs are the profiles as the program reads them.

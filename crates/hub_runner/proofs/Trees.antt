@@ -6,7 +6,7 @@ use Rattle.std.proofs.lemmas.List.Elements.{All-push, filter-append}
 use Rattle.hub_profile.specs.Parts.{Parts}
 use Rattle.hub_history.specs.Book.{BookValue, IsBook}
 use Rattle.hub_schedule.specs.declared.slot.WorkingTree.{WorkingTree}
-use Rattle.hub_runner.specs.Ordered.{AreTreesOf, is_due, of_book, of_tree}
+use Rattle.hub_runner.specs.forms.Ordered.{AreTreesOf, is_due, of_book, of_tree}
 
 module _ (Ps : List Parts) (front : List BookValue) (trees : List WorkingTree) (are : AreTreesOf Ps front trees) (B : BookValue) where
   dues_skip : is_due Ps B ≡ false → filter (is_due Ps) (front ++ B ∷ []) ≡ filter (is_due Ps) front

@@ -1,6 +1,4 @@
 pub mod Settling
-pub mod Inconsistent
-pub mod Slots
-pub mod Ordered
 pub mod Working
-pub mod SettlingExamples
+pub mod forms
+pub mod examples

@@ -2,8 +2,8 @@
 ghost use Rattle.std.specs.Prelude.{◌≡◌, ◌<◌, length, slice_set, Some, IfOk, IsTrue, MatchOption, false};
 ghost use Rattle.std.specs.List.{list_any};
 ghost use Rattle.hub_reach.specs.Reach as of_reach;
-ghost use Rattle.hub_runner.specs.Ordered.{AreInOrder, AreNumbered, AreTreesOf};
-ghost use Rattle.hub_runner.specs.Slots as spec;
+ghost use Rattle.hub_runner.specs.forms.Ordered.{AreInOrder, AreNumbered, AreTreesOf};
+ghost use Rattle.hub_runner.specs.forms.Slots as spec;
 
 use crate::append::push;
 use hub_history::Book;

@@ -1,8 +1,8 @@
 //! Numbers that no job has, or several have, or one that wasn't made for the set and the state.
 ghost use Rattle.std.specs.Prelude.{◌≡◌, ◌==◌, ◌↔◌, Some, count_by, IsTrue, MatchBool, MatchOption};
 ghost use Rattle.hub_job.specs.Outcome as of_outcome;
-ghost use Rattle.hub_runner.specs.Inconsistent as spec;
-ghost use Rattle.hub_runner.specs.Inconsistent.{AllAreBelow, AllAreOf, IsLeastFrom, OneIsNotOf};
+ghost use Rattle.hub_runner.specs.forms.Inconsistent as spec;
+ghost use Rattle.hub_runner.specs.forms.Inconsistent.{AllAreBelow, AllAreOf, IsLeastFrom, OneIsNotOf};
 ghost use Rattle.hub_runner.specs.Settling.{AreConsistent, IsLowestInconsistent};
 
 use hub_job::Job;

@@ -2,7 +2,7 @@
 use Rattle.std.proofs.Common.{◌≡◌, inl, List, [], ◌∷◌, ◌++◌, Some, ap, sym, ◌∙◌, subst}
 use Rattle.std.specs.Prelude.{ℕ, slice_get, IsTrue}
 use Rattle.std.proofs.lemmas.Bool.{false≢true}
-use Rattle.hub_job.specs.Laws.Histories.{replay-push}
+use Rattle.hub_job.specs.laws.Histories.{replay-push}
 use Rattle.hub_path.specs.Path.{Path}
 use Rattle.hub_profile.specs.Parts.{Parts}
 use Rattle.hub_reach.specs.Reach.{has_root}
@@ -17,7 +17,7 @@ use Rattle.hub_job.specs.History.{replay, IsAnswerOf, IsLegal}
 use Rattle.hub_schedule.specs.Owned.{NobodyWrites}
 use Rattle.hub_schedule.specs.Settled.{AreProfiles, IsSettled, IsAsAlone}
 use Rattle.hub_schedule.specs.Together.{left_at, LogsAreAlone, OthersAreLeftAlone, OwnPathsAreAlone, ElsewhereIsAsBefore}
-use Rattle.hub_job.specs.Laws.Untouched.{write-reaches, passes-itself}
+use Rattle.hub_job.specs.laws.Untouched.{write-reaches, passes-itself}
 use Rattle.hub_schedule.proofs.Threads.{OthersAlike, MayAll, its_profile, may_all}
 
 -- What the laws of histories say, as lemmas take it.

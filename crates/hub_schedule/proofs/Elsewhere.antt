@@ -2,7 +2,7 @@
 use Rattle.std.proofs.Common.{◌≡◌, List, [], ◌∷◌, Some, refl, sym, ◌∙◌, subst}
 use Rattle.std.specs.Prelude.{ℕ, slice_get, IsTrue}
 use Rattle.std.proofs.lemmas.Bool.{false_from_ne_true}
-use Rattle.hub_reconcile.specs.Laws.Views.{same_paths, reach-names}
+use Rattle.hub_reconcile.specs.laws.Views.{same_paths, reach-names}
 use Rattle.hub_path.specs.Path.{Path, path_eq}
 use Rattle.hub_profile.specs.Parts.{Parts}
 use Rattle.hub_reach.specs.Reach.{has_root, write}
@@ -15,7 +15,7 @@ use Rattle.hub_job.specs.Machine.{after}
 use Rattle.hub_job.specs.Alike.{May}
 use Rattle.hub_job.specs.Same.{AsksMay}
 use Rattle.hub_job.specs.World.{Jobs}
-use Rattle.hub_job.specs.Laws.Untouched.{SetsOne, elsewhere, write-reaches}
+use Rattle.hub_job.specs.laws.Untouched.{SetsOne, elsewhere, write-reaches}
 use Rattle.hub_job.specs.History.{replay, IsLegal}
 use Rattle.hub_schedule.specs.Settled.{IsSettled}
 use Rattle.hub_schedule.specs.Owned.{NobodyWrites}

@@ -3,7 +3,7 @@ use Rattle.std.proofs.Common.{◌≡◌, ◌+◌, List, [], ◌∷◌, ◌++◌,
 use Rattle.std.specs.Prelude.{ℕ, zero, suc, slice_get, slice_index_or}
 use Rattle.std.proofs.lemmas.List.{length-map}
 use Rattle.std.proofs.lemmas.Option.{same_Some}
-use Rattle.hub_text.specs.ListLaws.{snoc-new, snoc-old}
+use Rattle.hub_text.specs.laws.List.{snoc-new, snoc-old}
 use Rattle.hub_path.specs.Path.{Path}
 use Rattle.hub_path.specs.declared.side.Side.{Side}
 use Rattle.hub_path.specs.declared.side.Side.TheVariants.{Left, Right}
@@ -19,7 +19,7 @@ use Rattle.hub_job.specs.World.{World, log_of}
 use Rattle.hub_schedule.specs.declared.slot.Slot.{Slot}
 use Rattle.hub_schedule.specs.declared.slot.WorkingTree.{WorkingTree}
 use Rattle.hub_schedule.specs.Ended.{ended_value, IsEnded, HasPlaces, AreEndedWith, IsSlotOf, AreSlotsOf}
-use Rattle.hub_schedule.specs.Left.{end_value}
+use Rattle.hub_schedule.specs.forms.Left.{end_value}
 use Rattle.hub_schedule.specs.Promise.{HasReplicas, log_or_none, logs_in}
 use Rattle.hub_schedule.specs.Table.{place_on, IsOutcomeAfter, IsTreeNumber, IsSlot, ShowsWorld}
 use Rattle.hub_schedule.proofs.Opened.{get_push}

@@ -2,8 +2,8 @@
 use Rattle.std.proofs.Common.{◌≡◌, ◌≤◌, ◌+◌, ◌-◌, ◌*◌, length, Some, refl, ap, ◌∙◌, subst, arith}
 use Rattle.std.specs.Prelude.{ℕ, zero, suc, slice_get, replicate}
 use Rattle.std.specs.FinMap as fin
-use Rattle.hub_job.specs.Laws.Finishing.{rest_of}
-use Rattle.hub_job.specs.Laws.Making.{none_more}
+use Rattle.hub_job.specs.laws.Finishing.{rest_of}
+use Rattle.hub_job.specs.laws.Making.{none_more}
 use Rattle.hub_path.specs.Path.{Path}
 use Rattle.hub_path.specs.declared.side.Side.TheVariants.{Left, Right}
 use Rattle.hub_profile.specs.Parts.{Parts, IsProfile}
@@ -13,7 +13,7 @@ use Rattle.hub_job.specs.declared.op.Next.TheVariants.{Finished, Stopped}
 use Rattle.hub_job.specs.Job.{next}
 use Rattle.hub_job.specs.Run.{root_at, world_for, IsSynced}
 use Rattle.hub_job.specs.World.{World, Jobs, log_of, act, turn_of, turn, run, opening, alone}
-use Rattle.hub_job.specs.Laws.LoneJobs.{alone_synchronizes}
+use Rattle.hub_job.specs.laws.LoneJobs.{alone_synchronizes}
 
 one_more : (m n : ℕ) → suc m + n ≡ suc (m + n)
 one_more m n = omega arith

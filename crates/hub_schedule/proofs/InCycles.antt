@@ -5,7 +5,7 @@ use Rattle.std.specs.Prelude.{Option, Some, None, unwrap_or, slice_get}
 use Rattle.std.specs.FinMap as fin
 use Rattle.std.specs.List.{range_with_len}
 use Rattle.std.proofs.lemmas.Option.{slice_get_within}
-use Rattle.hub_text.specs.ListLaws.{range-more}
+use Rattle.hub_text.specs.laws.List.{range-more}
 use Rattle.hub_path.specs.Path.{Path, path_cmp}
 use Rattle.hub_profile.specs.Parts.{Parts}
 use Rattle.hub_tree.specs.Tree.{Replica}

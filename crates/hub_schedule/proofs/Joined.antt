@@ -7,8 +7,8 @@ use Rattle.std.proofs.lemmas.List.{length-map}
 use Rattle.std.proofs.lemmas.Bool.{false≢true, or_cases, false_from_ne_true}
 use Rattle.std.specs.Cmp.{both_ways}
 use Rattle.std.proofs.lemmas.Option.{none-some, same_Some, slice_get_within}
-use Rattle.hub_job.specs.Laws.Making.{none_more}
-use Rattle.hub_reconcile.specs.Laws.Views.{same_paths}
+use Rattle.hub_job.specs.laws.Making.{none_more}
+use Rattle.hub_reconcile.specs.laws.Views.{same_paths}
 use Rattle.hub_path.specs.Path.{Path, path_eq, is_place}
 use Rattle.hub_path.specs.declared.side.Side.{Side}
 use Rattle.hub_path.specs.declared.side.Side.TheVariants.{Left, Right}
@@ -18,7 +18,7 @@ use Rattle.hub_tree.specs.Tree.{Replica, Archive, old_mark_at}
 use Rattle.hub_reconcile.specs.Items.{items}
 use Rattle.hub_reconcile.specs.Sync.{root_or_top, next_archive}
 use Rattle.hub_state.specs.State.{State, replica_at, with_replica, root_text, pair_of}
-use Rattle.hub_state.specs.RootTexts.{replica_put}
+use Rattle.hub_state.specs.laws.RootTexts.{replica_put}
 use Rattle.hub_schedule.specs.Next.{NextValue}
 use Rattle.hub_job.specs.declared.op.Next.{Next}
 use Rattle.hub_job.specs.declared.op.Next.TheVariants.{Ask, Finished, Stopped}
@@ -30,7 +30,7 @@ use Rattle.hub_schedule.specs.declared.slot.Slot.{Slot}
 use Rattle.hub_schedule.specs.declared.slot.WorkingTree.{WorkingTree}
 use Rattle.hub_job.specs.Ends.{end_by, is_finished, end_of}
 use Rattle.hub_job.specs.Job.{is_ask, next, steps_made, view_in}
-use Rattle.hub_schedule.specs.Left.{end_value, next_value, put_tree, mark_in, mark_from, one_is_left, HasArchives, HasMarks}
+use Rattle.hub_schedule.specs.forms.Left.{end_value, next_value, put_tree, mark_in, mark_from, one_is_left, HasArchives, HasMarks}
 use Rattle.hub_job.specs.Outcome as outcome
 use Rattle.hub_job.specs.Outcome.{jobs_of}
 use Rattle.hub_schedule.specs.Promise.{HasReplicas}
@@ -38,11 +38,11 @@ use Rattle.hub_job.specs.Run.{root_at}
 use Rattle.hub_schedule.specs.Settled.{AreProfiles}
 use Rattle.hub_schedule.specs.Table.{place_on, stopped_at, AllWouldAsk, AreTreeNumbers, HaveTurned, IsOutcomeAfter, IsTreeNumber, ShowsWorld}
 use Rattle.hub_job.specs.World.{Jobs, World, log_of, opening}
-use Rattle.hub_job.specs.Laws.Untouched.{path-of_Some}
-use Rattle.hub_job.specs.Laws.Roots.{two_roots}
+use Rattle.hub_job.specs.laws.Untouched.{path-of_Some}
+use Rattle.hub_job.specs.laws.Roots.{two_roots}
 use Rattle.hub_schedule.proofs.NextMarks.{IsNextOf, find_marks, some_leaves}
 use Rattle.hub_schedule.proofs.Promised.{root_place}
-use Rattle.hub_schedule.specs.Laws.Lists.{any-at, one_with, map_get, map_at, as_long}
+use Rattle.hub_schedule.specs.laws.Lists.{any-at, one_with, map_get, map_at, as_long}
 
 -- A root of a profile is that of a side.
 root_side : (P : Parts) (r : Path) → IsProfile P → has_root P r ≡ true → (k : Side) × (root_at P k ≡ r)

@@ -17,7 +17,7 @@ use Rattle.hub_schedule.specs.Together.{left_at, LogsAreAlone, OthersAreLeftAlon
 use Rattle.hub_job.specs.Outcome.{jobs_of, replicas_of}
 use Rattle.hub_schedule.specs.Promise.{logs_in, HasReplicas, Settles, FinishedAreSynchronized, EnoughTurnsFinish, IsAsPromised}
 use Rattle.hub_schedule.proofs.Points.{safe_apart}
-use Rattle.hub_schedule.specs.Laws.Unchanged.{foreign, marks_stay}
+use Rattle.hub_schedule.specs.laws.Unchanged.{foreign, marks_stay}
 use Rattle.hub_schedule.proofs.Promised.{state_trees, own, elsewhere, synchronized, enough_finish}
 
 -- What the laws on histories and logs say, as lemmas take it.

@@ -3,16 +3,16 @@ use Rattle.std.proofs.Common.{◌≡◌, ◌≢◌, Bool, false, cond, ◌||◌,
 use Rattle.std.specs.Prelude.{IsTrue, OnOk, is_some, unwrap_or}
 use Rattle.std.specs.FinMap as fin
 use Rattle.std.proofs.lemmas.List.Folds.{list_any-append}
-use Rattle.hub_text.specs.TestLaws.{or-assoc}
-use Rattle.hub_text.specs.ListLaws.{snoc-new, snoc-old}
+use Rattle.hub_text.specs.laws.Test.{or-assoc}
+use Rattle.hub_text.specs.laws.List.{snoc-new, snoc-old}
 use Rattle.hub_path.specs.Path.{Path, is_place}
 use Rattle.hub_profile.specs.Parts.{Parts, IsProfile}
 use Rattle.hub_reach.specs.Reach.{reach}
 use Rattle.hub_tree.specs.Tree.{Archive, old_mark_at}
 use Rattle.hub_state.specs.State.{State, archive_at, with_archive}
-use Rattle.hub_job.specs.Laws.Roots.{two_roots}
+use Rattle.hub_job.specs.laws.Roots.{two_roots}
 use Rattle.hub_schedule.specs.Next.{NextValue}
-use Rattle.hub_schedule.specs.Left.{mark_in, mark_given, mark_from, mark_of_next, has_pair, leaves_next_archive, one_is_left, HasArchives, HasMarks, KeepsUnreached, AreKept}
+use Rattle.hub_schedule.specs.forms.Left.{mark_in, mark_given, mark_from, mark_of_next, has_pair, leaves_next_archive, one_is_left, HasArchives, HasMarks, KeepsUnreached, AreKept}
 use Rattle.hub_schedule.proofs.NextMarks.{mark_from-append}
 use Rattle.hub_schedule.proofs.PairMarks.{put_given, put_there}
 use Rattle.hub_schedule.proofs.Places.{left_is, right_is}

@@ -10,11 +10,11 @@ use Rattle.hub_reach.specs.Reach.{reach}
 use Rattle.hub_tree.specs.Tree.{Archive, old_mark_at, with_mark}
 use Rattle.hub_tree.specs.declared.contents.Mark.{Mark}
 use Rattle.hub_tree.specs.declared.contents.Mark.TheVariants as mark
-use Rattle.hub_tree.specs.Laws.Between.{among}
-use Rattle.hub_tree.specs.Laws.Children.{path_eq-cmp}
-use Rattle.hub_tree.specs.Laws.MarkMaps.{old_mark-after}
-use Rattle.hub_tree.specs.Laws.Order.{same_path}
-use Rattle.hub_schedule.specs.Left.{has_mark}
+use Rattle.hub_tree.specs.laws.Between.{among}
+use Rattle.hub_tree.specs.laws.Children.{path_eq-cmp}
+use Rattle.hub_tree.specs.laws.MarkMaps.{old_mark-after}
+use Rattle.hub_tree.specs.laws.Order.{same_path}
+use Rattle.hub_schedule.specs.forms.Left.{has_mark}
 
 abbrev pub paths_of : List (Path × Mark) → List Path
 paths_of es = map (λ (e : Path × Mark). e.0) es

@@ -15,7 +15,7 @@ use Rattle.hub_job.specs.declared.job_end.JobEnd.{JobEnd}
 use Rattle.hub_job.specs.declared.log.Logged.{Logged}
 use Rattle.hub_job.specs.Ends.{is_finished}
 use Rattle.hub_job.specs.Job.{view_in}
-use Rattle.hub_schedule.specs.Left.{mark_of_next, mark_from, leaves_next_archive, one_is_left}
+use Rattle.hub_schedule.specs.forms.Left.{mark_of_next, mark_from, leaves_next_archive, one_is_left}
 use Rattle.hub_job.specs.Outcome.{archive_of, takes_marks, leaves_archive, mark_for, mark_by}
 
 pub mark_from-append : (ns : List NextValue) (n : NextValue) (r s p : Path) (old : Mark) → mark_from (ns ++ n ∷ []) r s p old ≡ mark_from ns r s p (mark_of_next n.profile n.next r s p old)

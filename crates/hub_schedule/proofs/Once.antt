@@ -9,7 +9,7 @@ use Rattle.std.proofs.lemmas.List.{map-append, reverse-append}
 use Rattle.std.proofs.lemmas.List.Folds.{list_any-append}
 use Rattle.std.proofs.lemmas.List.Kept.{IsStrictlySortedBy-filter}
 use Rattle.std.proofs.lemmas.Map.Keys.{sorted_tail}
-use Rattle.hub_path.specs.Laws.{is_over-reflexive}
+use Rattle.hub_path.specs.laws.General.{is_over-reflexive}
 use Rattle.hub_path.specs.Path.{Path, path_cmp, path_eq, is_over}
 use Rattle.hub_path.specs.declared.side.Side.{Side}
 use Rattle.hub_profile.specs.Parts.{Parts, IsProfile}
@@ -18,9 +18,9 @@ use Rattle.hub_tree.specs.Below.{is_below}
 use Rattle.hub_tree.specs.Tree.{Replica, Archive, IsTree}
 use Rattle.hub_tree.specs.declared.contents.Mark.{Mark}
 use Rattle.hub_tree.specs.declared.contents.Mark.TheVariants as mark
-use Rattle.hub_tree.specs.Laws.Between.{among, among_middle, among_filter, among_reverse, behind, not_both}
-use Rattle.hub_tree.specs.Laws.Children.{path_eq-cmp}
-use Rattle.hub_tree.specs.Laws.Order.{same_path, path_itself}
+use Rattle.hub_tree.specs.laws.Between.{among, among_middle, among_filter, among_reverse, behind, not_both}
+use Rattle.hub_tree.specs.laws.Children.{path_eq-cmp}
+use Rattle.hub_tree.specs.laws.Order.{same_path, path_itself}
 use Rattle.hub_reconcile.specs.View.{View, is_present}
 use Rattle.hub_reconcile.specs.Items.{other, is_item, is_allowed, changes, change, changes_by, going, coming, below, fate, items, plan}
 use Rattle.hub_reconcile.specs.Sides.{side_eq, paths_on}
@@ -28,11 +28,11 @@ use Rattle.hub_reconcile.specs.Sync.{view_of}
 use Rattle.hub_reconcile.specs.declared.change.Change.{Change}
 use Rattle.hub_reconcile.specs.declared.item.Fate.{Fate}
 use Rattle.hub_reconcile.specs.declared.item.Fate.TheVariants.{To, Skip}
-use Rattle.hub_reconcile.specs.Laws.Views.{paths_same, paths_sorted}
-use Rattle.hub_reconcile.specs.Laws.Blocks.{goes, below_of}
-use Rattle.hub_reconcile.specs.Laws.Steps.{differ}
-use Rattle.hub_reconcile.specs.Laws.Synced.{Apart, items_apart, all_items, of_items, item_differs, flat_items}
-use Rattle.hub_reconcile.specs.Laws.Each.{Each, each-back, each-map, each-flat_map}
+use Rattle.hub_reconcile.specs.laws.Views.{paths_same, paths_sorted}
+use Rattle.hub_reconcile.specs.laws.Blocks.{goes, below_of}
+use Rattle.hub_reconcile.specs.laws.Steps.{differ}
+use Rattle.hub_reconcile.specs.laws.Synced.{Apart, items_apart, all_items, of_items, item_differs, flat_items}
+use Rattle.hub_reconcile.specs.laws.Each.{Each, each-back, each-map, each-flat_map}
 
 -- Lists without repetition.
 abbrev Distinct : List Path → Type 0

@@ -3,7 +3,7 @@ use Rattle.std.proofs.Common.{◌≡◌, ◌≢◌, ◌⊎◌, inl, inr, ⊎_eli
 use Rattle.std.specs.Prelude.{ℕ, slice_get}
 use Rattle.std.specs.List.{list_any}
 use Rattle.std.proofs.lemmas.List.{length-map}
-use Rattle.hub_text.specs.ListLaws.{snoc-cases}
+use Rattle.hub_text.specs.laws.List.{snoc-cases}
 use Rattle.hub_path.specs.Path.{Path}
 use Rattle.hub_path.specs.declared.side.Side.{Side}
 use Rattle.hub_path.specs.declared.side.Side.TheVariants.{Left, Right}
@@ -18,8 +18,8 @@ use Rattle.hub_job.specs.Outcome.{archive_of, jobs_of, replicas_of}
 use Rattle.hub_job.specs.Run.{root_at}
 use Rattle.hub_schedule.specs.Table.{place_on, stopped_at, IsTreeNumber, AreTrees, IsNew, AddsTrees, IsSlot, ShowsWorld}
 use Rattle.hub_job.specs.World.{opening}
-use Rattle.hub_job.specs.Laws.Logs.{no_log, open_log}
-use Rattle.hub_schedule.specs.Laws.Lists.{any-at}
+use Rattle.hub_job.specs.laws.Logs.{no_log, open_log}
+use Rattle.hub_schedule.specs.laws.Lists.{any-at}
 
 -- A new job, with its replicas in place.
 pub record IsOpened (S : State) (trees : List WorkingTree) (j : ℕ) (P : Parts) (s : Slot) : Type 0 where

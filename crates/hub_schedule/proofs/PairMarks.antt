@@ -5,15 +5,15 @@ use Rattle.std.specs.List.{list_any}
 use Rattle.std.specs.FinMap as fin
 use Rattle.std.proofs.lemmas.Bool.{false≢true, or_cases, or_left, or_right, and_parts, and_from}
 use Rattle.std.specs.Cmp.{both_ways}
-use Rattle.hub_reconcile.specs.Laws.Views.{same_paths}
-use Rattle.hub_path.specs.Laws.{path_eq-decides}
+use Rattle.hub_reconcile.specs.laws.Views.{same_paths}
+use Rattle.hub_path.specs.laws.General.{path_eq-decides}
 use Rattle.hub_path.specs.Path.{Path, path_eq}
 use Rattle.hub_profile.specs.Parts.{Parts, IsProfile}
 use Rattle.hub_reach.specs.Reach.{reach, has_root}
 use Rattle.hub_tree.specs.Tree.{Archive, old_mark_at}
 use Rattle.hub_state.specs.State.{State, is_pair, archive_at, with_archive}
-use Rattle.hub_state.specs.RootTexts.{archive_put, pair_turned}
-use Rattle.hub_schedule.specs.Left.{mark_in, mark_given, has_pair, HasArchives, HasMarks}
+use Rattle.hub_state.specs.laws.RootTexts.{archive_put, pair_turned}
+use Rattle.hub_schedule.specs.forms.Left.{mark_in, mark_given, has_pair, HasArchives, HasMarks}
 use Rattle.hub_schedule.proofs.Promised.{root_place}
 
 there_if : (x : Bool) (a : Archive) (o : Option Archive) → is_some (cond x (Some a) o) ≡ (x || is_some o)

@@ -1,12 +1,12 @@
 -- Where the replicas of a profile's roots stand.
 use Rattle.std.proofs.Common.{◌≡◌, ◌⊎◌, ◌-◌, inl, inr, ℕ, List, [], ◌∷◌, ◌++◌, length, Some, slice_get, slice_index_or, refl, ap, sym, ◌∙◌, length-append, arith}
-use Rattle.hub_text.specs.ListLaws.{snoc-new}
+use Rattle.hub_text.specs.laws.List.{snoc-new}
 use Rattle.hub_path.specs.Path.{Path}
 use Rattle.hub_path.specs.declared.side.Side.TheVariants.{Left, Right}
 use Rattle.hub_profile.specs.Parts.{Parts, IsProfile, at_side}
 use Rattle.hub_reconcile.specs.Sync.{root_or_top}
 use Rattle.hub_job.specs.Run.{root_at}
-use Rattle.hub_job.specs.Laws.Roots.{two_roots, has_own}
+use Rattle.hub_job.specs.laws.Roots.{two_roots, has_own}
 use Rattle.hub_schedule.specs.declared.slot.WorkingTree.{WorkingTree}
 use Rattle.hub_schedule.specs.Table.{IsTreeNumber, AddsTrees}
 

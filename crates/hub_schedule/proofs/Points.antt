@@ -4,7 +4,7 @@ use Rattle.std.specs.Prelude.{◌==◌, ℕ, IsTrue, slice_get, filter, replicat
 use Rattle.std.proofs.lemmas.Bool.{false_from_ne_true}
 use Rattle.std.proofs.lemmas.List.{map-append}
 use Rattle.std.proofs.lemmas.List.Elements.{filter-append}
-use Rattle.hub_reconcile.specs.Laws.Synced.{passes-path}
+use Rattle.hub_reconcile.specs.laws.Synced.{passes-path}
 use Rattle.hub_path.specs.Path.{Path}
 use Rattle.hub_path.specs.declared.side.Side.TheVariants.{Left, Right}
 use Rattle.hub_profile.specs.Parts.{Parts, at_side, is_root_at}
@@ -27,10 +27,10 @@ use Rattle.hub_job.specs.World.{Jobs, log_of, run, opening}
 use Rattle.hub_job.specs.History.{replay, IsLegal, entries_of, entries_at}
 use Rattle.hub_schedule.specs.Settled.{AreProfiles, IsSettled}
 use Rattle.hub_schedule.specs.Together.{SetsAreAllowed, NoRuleForbids}
-use Rattle.hub_job.specs.Laws.Logs.{a_log_each}
+use Rattle.hub_job.specs.laws.Logs.{a_log_each}
 use Rattle.hub_schedule.proofs.Apart.{may_at_entry}
-use Rattle.hub_job.specs.Laws.Untouched.{write-reaches, passes-itself}
-use Rattle.hub_job.specs.Laws.LoneJobs.{by_side, run_pair, open_pair}
+use Rattle.hub_job.specs.laws.Untouched.{write-reaches, passes-itself}
+use Rattle.hub_job.specs.laws.LoneJobs.{by_side, run_pair, open_pair}
 use Rattle.hub_schedule.proofs.Threads.{AnswersAlike, OwnAlike, OthersAlike, MayAll, Answers, Projects, project, alone_from, no_log_yet, may_all}
 use Rattle.hub_schedule.proofs.Verbs.{AllowedOp, AllowedNext, alone_allowed}
 

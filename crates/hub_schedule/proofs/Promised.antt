@@ -5,9 +5,9 @@ use Rattle.std.specs.List.{list_any, list_all, range_with_len}
 use Rattle.std.specs.FinMap as fin
 use Rattle.std.proofs.lemmas.Bool.{false≢true, and_parts, and_from, or_cases, cases_eq}
 use Rattle.std.proofs.lemmas.Option.{none-some, same_Some, slice_get_within}
-use Rattle.hub_schedule.specs.Laws.Unchanged.{TakesMarks, takes_is, foreign}
-use Rattle.hub_reconcile.specs.Laws.Views.{same_paths}
-use Rattle.hub_path.specs.Laws.{is_over-reflexive}
+use Rattle.hub_schedule.specs.laws.Unchanged.{TakesMarks, takes_is, foreign}
+use Rattle.hub_reconcile.specs.laws.Views.{same_paths}
+use Rattle.hub_path.specs.laws.General.{is_over-reflexive}
 use Rattle.hub_path.specs.Path.{Name, Path, path_eq, path_cmp, parent, is_place, none_over}
 use Rattle.hub_path.specs.declared.side.Side.{Side}
 use Rattle.hub_path.specs.declared.side.Side.TheVariants.{Left, Right}
@@ -18,7 +18,7 @@ use Rattle.hub_tree.specs.Tree.{Replica, Archive, IsTree, contents_at, old_mark_
 use Rattle.hub_tree.specs.declared.contents.Contents.TheVariants as contents
 use Rattle.hub_reconcile.specs.Items.{items}
 use Rattle.hub_reconcile.specs.Sync.{view_of, next_archive}
-use Rattle.hub_reconcile.specs.Laws.Archived.{archived}
+use Rattle.hub_reconcile.specs.laws.Archived.{archived}
 use Rattle.hub_state.specs.State.{State, IsState, replica_at, archive_at, root_text}
 use Rattle.hub_job.specs.declared.job_end.End.{End}
 use Rattle.hub_job.specs.declared.job_end.End.TheVariants as end
@@ -36,13 +36,13 @@ use Rattle.hub_schedule.specs.Together.{left_at, LogsAreAlone, OwnPathsAreAlone,
 use Rattle.hub_job.specs.Ends.{end_by, is_finished}
 use Rattle.hub_job.specs.Outcome.{archive_of, jobs_of, replicas_of, takes_marks, mark_for, mark_by, IsEndOf}
 use Rattle.hub_schedule.specs.Promise.{log_or_none, logs_in, HasReplicas, Settles, IsSynchronized}
-use Rattle.hub_job.specs.Laws.Untouched.{path-of_Some}
-use Rattle.hub_job.specs.Laws.Roots.{has_its_root}
-use Rattle.hub_job.specs.Laws.Roots.{two_roots, side_root, left_not_right}
-use Rattle.hub_job.specs.Laws.LoneJobs.{by_side}
+use Rattle.hub_job.specs.laws.Untouched.{path-of_Some}
+use Rattle.hub_job.specs.laws.Roots.{has_its_root}
+use Rattle.hub_job.specs.laws.Roots.{two_roots, side_root, left_not_right}
+use Rattle.hub_job.specs.laws.LoneJobs.{by_side}
 use Rattle.hub_schedule.proofs.Finished.{alone_enough, finished_synced}
-use Rattle.hub_schedule.specs.Laws.Lists.{any-at, one_with}
-use Rattle.hub_job.specs.Laws.Finishing.{finished_by}
+use Rattle.hub_schedule.specs.laws.Lists.{any-at, one_with}
+use Rattle.hub_job.specs.laws.Finishing.{finished_by}
 
 -- The least number that passes, if it is the only one, or if there is none.
 found_passes : (t : ℕ → Bool) (xs : List ℕ) (i : ℕ) → find t xs ≡ Some i → t i ≡ true

@@ -6,8 +6,8 @@ use Rattle.hub_path.specs.Path.{Path}
 use Rattle.hub_profile.specs.Parts.{Parts}
 use Rattle.hub_state.specs.State.{State}
 use Rattle.hub_schedule.specs.Refusals.{missing_of, first_missing}
-use Rattle.hub_schedule.specs.Laws.Lists.{drop_at}
-use Rattle.hub_schedule.specs.Laws.Missing.{find_after, find_in, lacks}
+use Rattle.hub_schedule.specs.laws.Lists.{drop_at}
+use Rattle.hub_schedule.specs.laws.Missing.{find_after, find_in, lacks}
 
 -- Profile by profile.
 pub missing_here : (S : State) (Ps : List Parts) (n : ℕ) (P : Parts) (r : Path) → slice_get Ps n ≡ Some P → missing_of S P.roots ≡ Some r → first_missing S (drop n Ps) ≡ Some r

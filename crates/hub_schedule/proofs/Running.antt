@@ -3,7 +3,7 @@ use Rattle.std.proofs.Common.{◌≡◌, Bool, true, false, cond, List, [], ◌�
 use Rattle.std.specs.Prelude.{ℕ, zero, suc, IsTrue, slice_get}
 use Rattle.std.specs.List.{list_any}
 use Rattle.std.proofs.lemmas.Bool.{false≢true, or_left, or_right}
-use Rattle.hub_reconcile.specs.Laws.Views.{same_paths}
+use Rattle.hub_reconcile.specs.laws.Views.{same_paths}
 use Rattle.hub_path.specs.Path.{Path, path_eq}
 use Rattle.hub_path.specs.declared.side.Side.{Side}
 use Rattle.hub_profile.specs.Parts.{Parts, at_side, some_passes}
@@ -17,7 +17,7 @@ use Rattle.hub_job.specs.Machine.{after}
 use Rattle.hub_job.specs.World.{World, Jobs, log_of, event, act, turn_of, turn, run, opening}
 use Rattle.hub_schedule.specs.Settled.{IsSettledWorld}
 use Rattle.hub_schedule.specs.Together.{left_at, OwnPathsAreAlone, ElsewhereIsAsBefore}
-use Rattle.hub_job.specs.Laws.Roots.{has_its_root}
+use Rattle.hub_job.specs.laws.Roots.{has_its_root}
 
 pub world_own : (J : Jobs) (replicas : Path → Replica) (w : World) → IsSettledWorld J replicas w → OwnPathsAreAlone J replicas (left_at replicas w.history) (log_of w) → OwnPathsAreAlone J replicas w.replica (log_of w)
 world_own J replicas w settled own = λ j P r q is has h. ap (λ m. contents_at m q) (settled.replayed r) ∙ own j P r q is has h

@@ -14,7 +14,7 @@ use Rattle.hub_job.specs.Machine.{after}
 use Rattle.hub_job.specs.Alike.{May}
 use Rattle.hub_job.specs.Same.{AsksMay, NoneClash}
 use Rattle.hub_job.specs.World.{Jobs}
-use Rattle.hub_job.specs.Laws.Untouched.{untouched}
+use Rattle.hub_job.specs.laws.Untouched.{untouched}
 use Rattle.hub_job.specs.History.{IsLegal}
 use Rattle.hub_schedule.specs.Settled.{IsSettled}
 use Rattle.hub_schedule.specs.Owned.{IsItsOwn}

@@ -5,9 +5,9 @@ use Rattle.std.proofs.lemmas.List.{append-nil, map-append, get_or-set_same, get_
 use Rattle.std.proofs.lemmas.List.Elements.{filter-append}
 use Rattle.std.proofs.lemmas.Bool.{false≢true}
 use Rattle.std.proofs.lemmas.Option.{same_Some, slice_get_within}
-use Rattle.hub_job.specs.Laws.Histories.{replay-push, legal-push}
-use Rattle.hub_job.specs.Laws.Logs.{runs-push, no_log}
-use Rattle.hub_reconcile.specs.Laws.Views.{same_paths}
+use Rattle.hub_job.specs.laws.Histories.{replay-push, legal-push}
+use Rattle.hub_job.specs.laws.Logs.{runs-push, no_log}
+use Rattle.hub_reconcile.specs.laws.Views.{same_paths}
 use borrow.Author.Tests.{eqb-true}
 use Rattle.hub_path.specs.Path.{Path, path_eq}
 use Rattle.hub_path.specs.declared.side.Side.{Side}
@@ -28,7 +28,7 @@ use Rattle.hub_job.specs.Run.{Runs}
 use Rattle.hub_job.specs.World.{World, Jobs, log_of, entry, event, act, turn_of, turn, run, opening}
 use Rattle.hub_job.specs.History.{replay, IsAnswerOf, IsLegal, entries_of, entries_at}
 use Rattle.hub_schedule.specs.Settled.{IsSettledWorld}
-use Rattle.hub_job.specs.Laws.Roots.{has_its_root}
+use Rattle.hub_job.specs.laws.Roots.{has_its_root}
 use Rattle.hub_schedule.proofs.Threads.{root_is}
 
 -- One entry more.

@@ -27,11 +27,11 @@ use Rattle.hub_schedule.specs.Settled.{AreProfiles, IsSettled, IsSettledWorld}
 use Rattle.hub_job.specs.Outcome.{archive_of, jobs_of, replicas_of, world_after, IsEndOf, IsOutcomeWith, IsOutcomeOf, KeepsTurns}
 use Rattle.hub_schedule.specs.Promise.{log_or_none, logs_in, view_at, HasReplicas, IsSynchronized, NoneFinishedReaches, OldMarksStay, Settles, FinishedAreSynchronized}
 use Rattle.hub_schedule.specs.Simulated.{turns_of, turns_enough, LogsAreOfTurns, EnoughTurnsEnd, TurnsSuffice, IsLoneSynchronization}
-use Rattle.hub_job.specs.Laws.Roots.{has_its_root}
-use Rattle.hub_job.specs.Laws.Roots.{side_root}
-use Rattle.hub_job.specs.Laws.LoneJobs.{alone_synchronizes, by_side}
+use Rattle.hub_job.specs.laws.Roots.{has_its_root}
+use Rattle.hub_job.specs.laws.Roots.{side_root}
+use Rattle.hub_job.specs.laws.LoneJobs.{alone_synchronizes, by_side}
 use Rattle.hub_schedule.proofs.Finished.{alone_enough}
-use Rattle.hub_schedule.specs.Laws.Unchanged.{marks_stay}
+use Rattle.hub_schedule.specs.laws.Unchanged.{marks_stay}
 use Rattle.hub_schedule.proofs.Promised.{end_next, left_in, next_end, root_place, roots_apart}
 use Rattle.hub_schedule.proofs.Settling.{empty_log}
 use Rattle.hub_schedule.proofs.Turns.{keeps, fewer, count_alone, count_first, all_turns, weight}

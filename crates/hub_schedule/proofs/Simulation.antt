@@ -15,8 +15,8 @@ use Rattle.hub_schedule.specs.Refusals.{IsRunnable, IsUnrun}
 use Rattle.hub_schedule.specs.Settled.{AreProfiles}
 use Rattle.hub_schedule.specs.Simulated.{EnoughTurnsEnd, IsLoneSynchronization, IsPromised, LogsAreOfTurns, LoneIsSynchronized, StoppedLostTurns, TurnsSuffice, turns_enough}
 use Rattle.hub_job.specs.World.{first_turns}
-use Rattle.hub_schedule.specs.Laws.Unchanged.{IsStateFor, promise_none}
-use Rattle.hub_schedule.specs.Laws.Missing.{have_replicas}
+use Rattle.hub_schedule.specs.laws.Unchanged.{IsStateFor, promise_none}
+use Rattle.hub_schedule.specs.laws.Missing.{have_replicas}
 
 some_profile : (Ps : List Parts) (j : ℕ) (P : Parts) → slice_get Ps j ≡ Some P → 0 < length Ps
 some_profile Ps j P at = let h = slice_get_within Ps j P at in omega (arith, h)

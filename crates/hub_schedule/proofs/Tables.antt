@@ -5,8 +5,8 @@ use Rattle.std.specs.List.{list_any}
 use Rattle.std.proofs.lemmas.List.{get_or-set_same, get_or-set_other}
 use Rattle.std.proofs.lemmas.Bool.{cases_eq, false_from_ne_true}
 use Rattle.std.proofs.lemmas.Option.{same_Some, slice_get_within}
-use Rattle.hub_text.specs.ListLaws.{put-here}
-use Rattle.hub_reconcile.specs.Laws.Views.{same_paths}
+use Rattle.hub_text.specs.laws.List.{put-here}
+use Rattle.hub_reconcile.specs.laws.Views.{same_paths}
 use Rattle.hub_path.specs.Path.{Path, path_eq}
 use Rattle.hub_path.specs.declared.side.Side.{Side}
 use Rattle.hub_profile.specs.Parts.{Parts, IsProfile}
@@ -21,9 +21,9 @@ use Rattle.hub_job.specs.Machine.{answer, after}
 use Rattle.hub_job.specs.Run.{root_at}
 use Rattle.hub_schedule.specs.Table.{place_on, with_tree_after, IsTreeNumber, AreTrees, IsSlot, ShowsWorld}
 use Rattle.hub_job.specs.World.{World, Jobs, log_of, entry, event, act, turn_of, turn}
-use Rattle.hub_job.specs.Laws.Untouched.{path-of_Some}
-use Rattle.hub_job.specs.Laws.Roots.{side_root}
-use Rattle.hub_schedule.specs.Laws.Lists.{set_there, each_set}
+use Rattle.hub_job.specs.laws.Untouched.{path-of_Some}
+use Rattle.hub_job.specs.laws.Roots.{side_root}
+use Rattle.hub_schedule.specs.laws.Lists.{set_there, each_set}
 
 -- Replicas whose roots stay.
 pub record SameRoots (old new : List WorkingTree) : Type 0 where

@@ -4,8 +4,8 @@ use Rattle.std.proofs.lemmas.List.{append-nil}
 use Rattle.std.specs.Prelude.{◌==◌, ℕ, zero, suc, IsTrue, slice_get, slice_index_or, filter, replicate}
 use Rattle.std.proofs.lemmas.List.{get_or-set_same}
 use Rattle.std.proofs.lemmas.Bool.{false≢true}
-use Rattle.hub_reconcile.specs.Laws.Synced.{passes-path}
-use Rattle.hub_reconcile.specs.Laws.Views.{same_paths}
+use Rattle.hub_reconcile.specs.laws.Synced.{passes-path}
+use Rattle.hub_reconcile.specs.laws.Views.{same_paths}
 use borrow.Author.Tests.{eqb-true}
 use Rattle.hub_path.specs.Path.{Path, path_eq}
 use Rattle.hub_path.specs.declared.side.Side.{Side}
@@ -24,9 +24,9 @@ use Rattle.hub_job.specs.Run.{Runs}
 use Rattle.hub_job.specs.World.{World, Jobs, log_of, event, act, turn_of, turn, run, opening}
 use Rattle.hub_job.specs.Alike.{May, Alike}
 use Rattle.hub_job.specs.Same.{AsksMay, NoneClash}
-use Rattle.hub_job.specs.Laws.Untouched.{path-of_Some}
-use Rattle.hub_job.specs.Laws.Roots.{has_its_root}
-use Rattle.hub_job.specs.Laws.Logs.{no_log, a_log_each}
+use Rattle.hub_job.specs.laws.Untouched.{path-of_Some}
+use Rattle.hub_job.specs.laws.Roots.{has_its_root}
+use Rattle.hub_job.specs.laws.Logs.{no_log, a_log_each}
 use Rattle.hub_job.specs.History.{replay, IsAnswerOf, IsLegal, entries_of, entries_at}
 use Rattle.hub_schedule.specs.Settled.{AreProfiles, IsSettled, IsAsAlone}
 

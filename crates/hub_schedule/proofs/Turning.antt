@@ -3,7 +3,7 @@ use Rattle.std.proofs.Common.{◌≡◌, ◌<◌, inl, inr, Bool, true, false, c
 use Rattle.std.specs.Prelude.{ℕ, zero, suc, slice_get, slice_set, if◌then◌else◌}
 use Rattle.std.proofs.lemmas.Bool.{false≢true, cases_eq}
 use Rattle.std.proofs.lemmas.Option.{same_Some, slice_get_within}
-use Rattle.hub_text.specs.ListLaws.{put-here}
+use Rattle.hub_text.specs.laws.List.{put-here}
 use Rattle.hub_path.specs.declared.side.Side.{Side}
 use Rattle.hub_path.specs.declared.side.Side.TheVariants.{Left, Right}
 use Rattle.hub_profile.specs.Parts.{some_passes}
@@ -19,7 +19,7 @@ use Rattle.hub_job.specs.World.{World, Jobs, act, turn}
 use Rattle.hub_schedule.specs.declared.slot.Slot.{Slot}
 use Rattle.hub_schedule.specs.declared.slot.WorkingTree.{WorkingTree}
 use Rattle.hub_schedule.specs.Table.{place_on, with_job, with_tree_after, stopped_at, AllWouldAsk, ShowsWorld, AreTreeNumbers, StayStopped, WouldAsk}
-use Rattle.hub_schedule.specs.Laws.Lists.{set_there, each_set}
+use Rattle.hub_schedule.specs.laws.Lists.{set_there, each_set}
 use Rattle.hub_schedule.proofs.Tables.{SameSlot, table_same, table_turn, turn_is}
 
 -- A job keeps its profile, archive, number and places.

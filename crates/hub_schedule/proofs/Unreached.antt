@@ -1,13 +1,13 @@
 -- A next archive keeps the marks of the paths that its profile doesn't reach.
 use Rattle.std.proofs.Common.{◌≡◌, Bool, true, false, cond, List, [], ◌∷◌, map, Some, None, refl, ap, sym, ◌∙◌, subst}
 use Rattle.std.specs.Prelude.{ℕ, fold, if◌then◌else◌}
-use Rattle.hub_reconcile.specs.Laws.Views.{same_paths}
+use Rattle.hub_reconcile.specs.laws.Views.{same_paths}
 use Rattle.hub_path.specs.Path.{Path, path_eq}
 use Rattle.hub_profile.specs.Parts.{Parts}
 use Rattle.hub_reach.specs.Reach.{reach}
 use Rattle.hub_tree.specs.Tree.{Archive, old_mark_at, with_mark}
 use Rattle.hub_tree.specs.declared.contents.Mark.{Mark}
-use Rattle.hub_tree.specs.Laws.MarkMaps.{old_mark-after}
+use Rattle.hub_tree.specs.laws.MarkMaps.{old_mark-after}
 use Rattle.hub_reconcile.specs.View.{View}
 use Rattle.hub_reconcile.specs.Sync.{fate_over, mark_under, synced_mark, next_archive}
 use Rattle.hub_job.specs.declared.log.Logged.{Logged}
@@ -15,10 +15,10 @@ use Rattle.hub_schedule.specs.declared.slot.Slot.{Slot}
 use Rattle.hub_schedule.specs.declared.slot.WorkingTree.{WorkingTree}
 use Rattle.hub_job.specs.Ends.{is_finished, end_of}
 use Rattle.hub_job.specs.Job.{view_in}
-use Rattle.hub_schedule.specs.Left.{next_value, KeptIn, KeepsUnreached, AreKept}
+use Rattle.hub_schedule.specs.forms.Left.{next_value, KeptIn, KeepsUnreached, AreKept}
 use Rattle.hub_schedule.specs.Table.{IsSlot, ShowsWorld}
 use Rattle.hub_job.specs.World.{World, Jobs}
-use Rattle.hub_schedule.specs.Laws.Lists.{map_get}
+use Rattle.hub_schedule.specs.laws.Lists.{map_get}
 
 one_more : (f : Path → Mark) (p q : Path) (a : Archive) (m : Mark) (b : Bool) → path_eq q p ≡ b → f q ≡ m → old_mark_at a q ≡ m → cond b (f p) (old_mark_at a q) ≡ m
 one_more f p q a m true same is e = ap f (sym (same_paths q p same)) ∙ is

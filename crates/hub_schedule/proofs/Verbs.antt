@@ -13,13 +13,13 @@ use Rattle.hub_tree.specs.declared.contents.Contents.{Contents}
 use Rattle.hub_tree.specs.declared.contents.Contents.TheVariants as contents
 use Rattle.hub_tree.specs.declared.contents.Mark.{Mark}
 use Rattle.hub_tree.specs.declared.contents.Mark.TheVariants as mark
-use Rattle.hub_tree.specs.Laws.Replacing.{sets_keep_the_rest}
+use Rattle.hub_tree.specs.laws.Replacing.{sets_keep_the_rest}
 use Rattle.hub_reconcile.specs.View.{View}
 use Rattle.hub_reconcile.specs.Items.{other, plan, verb_of}
 use Rattle.hub_reconcile.specs.Sides.{paths_on}
 use Rattle.hub_reconcile.specs.Sync.{of_side, view_of}
 use Rattle.hub_reconcile.specs.declared.change.Change.{Change}
-use Rattle.hub_reconcile.specs.Laws.Views.{mark_here}
+use Rattle.hub_reconcile.specs.laws.Views.{mark_here}
 use Rattle.hub_job.specs.declared.op.Op.{Op}
 use Rattle.hub_job.specs.declared.op.Op.TheVariants.{Look, Fetch, Set}
 use Rattle.hub_job.specs.declared.op.Next.{Next}
@@ -30,10 +30,10 @@ use Rattle.hub_job.specs.Machine.{answer, fetched}
 use Rattle.hub_job.specs.Job.{next, missing, view_in, is_refused, fetched_last, bytes_or, steps_of, steps, op_of, look_or, step_or_end}
 use Rattle.hub_job.specs.declared.step.Step.{Step}
 use Rattle.hub_job.specs.Run.{Pair, on_side, root_at, logged, act_on, pair_run, pair_opening}
-use Rattle.hub_job.specs.Laws.Making.{Ready, Made, flat_steps, turn_is, next_end, fetched_last-push, Ready-pushed, File-marked, directory_of, nothing_of, any_each, fetch_after, unchanged, marked, next_ask, steps_all, by_mark}
-use Rattle.hub_job.specs.Laws.Looking.{at, log_by, next_is, act_look, both_none, looked_view, looked_ready}
-use Rattle.hub_job.specs.Laws.Finishing.{stays_finished, rest_of}
-use Rattle.hub_job.specs.Laws.Roots.{side_root}
+use Rattle.hub_job.specs.laws.Making.{Ready, Made, flat_steps, turn_is, next_end, fetched_last-push, Ready-pushed, File-marked, directory_of, nothing_of, any_each, fetch_after, unchanged, marked, next_ask, steps_all, by_mark}
+use Rattle.hub_job.specs.laws.Looking.{at, log_by, next_is, act_look, both_none, looked_view, looked_ready}
+use Rattle.hub_job.specs.laws.Finishing.{stays_finished, rest_of}
+use Rattle.hub_job.specs.laws.Roots.{side_root}
 use Rattle.hub_schedule.proofs.Once.{change_allowed, not_before, change_reached}
 
 -- An operation that is allowed by the contents of the replica that it is for; and what comes next.

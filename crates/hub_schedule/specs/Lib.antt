@@ -5,7 +5,7 @@ pub mod Promise
 pub mod Simulated
 pub mod Table
 pub mod Next
-pub mod Left
 pub mod Refusals
 pub mod Ended
-pub mod Laws
+pub mod forms
+pub mod laws

@@ -3,7 +3,7 @@ ghost use Rattle.std.specs.Prelude.{◌≡◌, ◌≢◌, false, ◌&&◌, map, 
 ghost use Rattle.hub_path.specs.Path.{Path};
 ghost use Rattle.hub_reach.specs.Reach.{reach};
 ghost use Rattle.hub_tree.specs.Tree as of_tree;
-ghost use Rattle.hub_schedule.specs.Left as spec;
+ghost use Rattle.hub_schedule.specs.forms.Left as spec;
 
 use crate::slot::{Slot, WorkingTree};
 use hub_job::JobEnd;

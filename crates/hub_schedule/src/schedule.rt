@@ -2,7 +2,7 @@
 ghost use Rattle.std.specs.Prelude.{◌≡◌, ◌<◌, All, map, length, IfOk, IfErr};
 ghost use Rattle.hub_job.specs.Outcome.{IsSimulated};
 ghost use Rattle.hub_job.specs.World.{Jobs, World};
-ghost use Rattle.hub_schedule.specs.Left.{end_value};
+ghost use Rattle.hub_schedule.specs.forms.Left.{end_value};
 ghost use Rattle.hub_schedule.specs.Table.{IsOutcomeAfter, ShowsWorld};
 ghost use Rattle.hub_schedule.specs.Promise.{HasReplicas};
 ghost use Rattle.hub_state.specs.State.{IsState};

@@ -20,7 +20,7 @@ use Rattle.hub_report.specs.ClashesAnswer as clashes
 use Rattle.hub_report.specs.ReachAnswer as reach
 use Rattle.hub_report.specs.RunAnswer as run
 use Rattle.hub_report.specs.Report.{status_of}
-use Rattle.hub_report.specs.Starts.{begins-taken, first}
+use Rattle.hub_report.specs.laws.Starts.{begins-taken, first}
 use Rattle.hub_bundle.specs.declared.input.InputFault.TheVariants.{TurnsSpent}
 use Rattle.hub_serve.specs.Reads.{Reads}
 use Rattle.hub_serve.specs.Mended.{is_mend}

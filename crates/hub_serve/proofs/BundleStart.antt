@@ -8,7 +8,7 @@ use Rattle.hub_text.specs.Lines.{lines_of, onto_first_line}
 use Rattle.hub_bundle.specs.declared.sections.BundleContents.{BundleContents}
 use Rattle.hub_bundle.specs.Bundle.{SectionValue, bundle_reading, is_ignorable, sections_reading, stray_line, unless_stray, written}
 use Rattle.hub_bundle.specs.Sections.{Spells}
-use Rattle.hub_report.specs.Starts.{OtherStart, start}
+use Rattle.hub_report.specs.laws.Starts.{OtherStart, start}
 
 -- A text that begins with this letter.
 at : (b n : ℕ) (bs : List ℕ) → (b == n) ≡ true → start (n ∷ bs) ≡ OtherStart → start (b ∷ bs) ≡ OtherStart

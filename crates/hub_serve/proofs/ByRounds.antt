@@ -14,10 +14,10 @@ use Rattle.hub_cert.specs.Set.{IsSafeSet, Members}
 use Rattle.hub_cert.specs.declared.fault.CheckFault.{CheckFault}
 use Rattle.hub_search.specs.Faults.{AreFaults}
 use Rattle.hub_search.specs.Search.{Disproves}
-use Rattle.hub_text.specs.ListLaws.{at-place}
+use Rattle.hub_text.specs.laws.List.{at-place}
 use Rattle.hub_apart.specs.ApartLines.{AreLines}
 use Rattle.hub_rounds.specs.Rounds.{AreRounds, IsPlaced, is_in_some}
-use Rattle.hub_rounds.specs.RoundsLaws.{refused-round}
+use Rattle.hub_rounds.specs.laws.Rounds.{refused-round}
 use Rattle.hub_rounds.specs.Unverified.{IsRoundsFault, RefusesRound, is_memory}
 use Rattle.hub_rounds.specs.declared.fault.RoundsFault.{RoundsFault}
 use Rattle.hub_rounds.specs.declared.fault.RoundsFault.TheVariants as rounds_fault

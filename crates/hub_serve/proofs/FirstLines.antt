@@ -31,9 +31,9 @@ use Rattle.hub_report.specs.Verdict as verdict
 use Rattle.hub_report.specs.Refusal.{refusal_line}
 use Rattle.hub_report.specs.Jobs.{lines_of_jobs}
 use Rattle.hub_report.specs.Run.{error_line}
-use Rattle.hub_report.specs.Starts.{HoldsOfStarts, Start, SafeStart, VerifiedStart, OverlapStart, BreachStart, TooLargeStart}
-use Rattle.hub_report.specs.Starts.{RoundsStart, GraphStart, ReachedStart, NotReachedStart, OtherStart, start, begins-taken}
-use Rattle.hub_report.specs.Starts.{lines-start, refusal-start}
+use Rattle.hub_report.specs.laws.Starts.{HoldsOfStarts, Start, SafeStart, VerifiedStart, OverlapStart, BreachStart, TooLargeStart}
+use Rattle.hub_report.specs.laws.Starts.{RoundsStart, GraphStart, ReachedStart, NotReachedStart, OtherStart, start, begins-taken}
+use Rattle.hub_report.specs.laws.Starts.{lines-start, refusal-start}
 use Rattle.hub_cli.specs.declared.words.Question.{Question}
 use Rattle.hub_cli.specs.declared.words.Question.TheVariants as ask
 use Rattle.hub_cli.specs.declared.words.Reading.{Reading}

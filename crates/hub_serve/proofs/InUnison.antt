@@ -20,7 +20,7 @@ use Rattle.hub_cli.specs.declared.words.Reading.TheVariants.{Plain, Unison}
 use Rattle.hub_unison.specs.Matching.{IsMatching, Matching}
 use Rattle.hub_unison.specs.UnisonReach.{IsCautious, reach_by}
 use Rattle.hub_unison.specs.Rules.{AreReadForUnison, IsReadingOf}
-use Rattle.hub_unison.specs.RulesLaws.{read-safe, read-keeps}
+use Rattle.hub_unison.specs.laws.Rules.{read-safe, read-keeps}
 use Rattle.hub_serve.specs.Reached.{first_named}
 use Rattle.hub_serve.specs.Unison.{SpellsAs, SpellsRoundInUnison, SpellsSafeInUnison, SpellsUnreachedInUnison}
 

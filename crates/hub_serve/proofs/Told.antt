@@ -41,7 +41,7 @@ use Rattle.hub_serve.specs.Report.{FaultOf, HasBadPath, Holds, IsTold, IsToldOfS
 use Rattle.hub_serve.specs.Rounds.{DrawsClashes}
 use Rattle.hub_serve.specs.Task.{AsksTask, LacksState, task_of}
 use Rattle.hub_serve.specs.Unison.{SpellsAs, SpellsCounted, counted_as}
-use Rattle.hub_text.specs.ListLaws.{some-item}
+use Rattle.hub_text.specs.laws.List.{some-item}
 
 -- It was asked to do this.
 asks-for : (q : Question) (c : BundleContents) (to_do : Task) → task_of q c.state ≡ Some to_do → AsksTask (about q) c.state to_do

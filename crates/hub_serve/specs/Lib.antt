@@ -7,4 +7,4 @@ pub mod Unison
 pub mod ByRounds
 pub mod Mended
 pub mod Report
-pub mod Writing
+pub mod laws

@@ -3,7 +3,7 @@ use Rattle.std.proofs.Common.{◌≡◌, ◌⊎◌, inl, inr, ⊎_elim, ℕ, ◌
 use Rattle.std.specs.Prelude.{Option, Some, None, Result, Ok, Err, IfOk, IfErr, IfSome, OnOk}
 use Rattle.hub_text.specs.declared.line.Line.{Line}
 use Rattle.hub_text.specs.Lines.{is_lf, lines_of, line_text, onto_first_line, ended, text_of_lines}
-use Rattle.hub_text.specs.LineLaws.{text_of_lines-lines_of, text-first_line, shorter-first_line}
+use Rattle.hub_text.specs.laws.Line.{text_of_lines-lines_of, text-first_line, shorter-first_line}
 use Rattle.hub_state.specs.declared.fault.Fault.{Fault}
 use Rattle.hub_state.specs.declared.fault.Fault.TheVariants.{OutOfMemory}
 use Rattle.hub_state.specs.declared.fault.StateFault.{StateFault}

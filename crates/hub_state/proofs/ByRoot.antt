@@ -2,7 +2,7 @@
 use Rattle.std.proofs.Common.{◌≡◌, true, cond, List, [], ◌∷◌, Option, Some, None, refl, sym, ap, ◌∙◌}
 use Rattle.std.specs.FinMap as fin
 use Rattle.hub_path.specs.Path.{Path, name_cmp, path_cmp, is_place}
-use Rattle.hub_path.specs.Laws.{name_cmp-total, name_cmp-exact, path_cmp-total, path_cmp-exact}
+use Rattle.hub_path.specs.laws.General.{name_cmp-total, name_cmp-exact, path_cmp-total, path_cmp-exact}
 use Rattle.hub_tree.specs.Tree.{Replica, Archive}
 use Rattle.hub_state.specs.State.{State, Text, IsState, root_text, is_before, pair_of, replica_at, archive_at}
 

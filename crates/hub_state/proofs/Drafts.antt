@@ -10,13 +10,13 @@ use Rattle.std.proofs.lemmas.Str.{IsUtf8-from_is_utf8, is_utf8-from_IsUtf8}
 use Rattle.std.proofs.lemmas.Bool.Decides.{nat_tests}
 use denote.Ref.{Bor}
 use Rattle.hub_path.specs.Path.{Path, path_cmp, name_cmp, path_eq, parent}
-use Rattle.hub_path.specs.Laws.{path_cmp-total, name_cmp-total, path_eq-turned}
+use Rattle.hub_path.specs.laws.General.{path_cmp-total, name_cmp-total, path_eq-turned}
 use Rattle.hub_tree.specs.Tree.{Replica, Archive, contents_at, is_directory}
 use Rattle.hub_tree.specs.declared.contents.Contents.{Contents}
 use Rattle.hub_tree.specs.declared.contents.Contents.TheVariants as contents
 use Rattle.hub_tree.specs.declared.contents.Mark.{Mark}
 use Rattle.hub_tree.specs.declared.contents.Mark.TheVariants as mark
-use Rattle.hub_tree.specs.Laws.Children.{path_eq-cmp}
+use Rattle.hub_tree.specs.laws.Children.{path_eq-cmp}
 use Rattle.hub_state.specs.declared.fault.Fault.{Fault}
 use Rattle.hub_state.specs.declared.fault.Fault.TheVariants.{BadLine, TooLarge, Repeated, NoParent, WrongDigest}
 use Rattle.hub_state.specs.declared.form.Form.{Form}

@@ -8,11 +8,11 @@ use Rattle.std.proofs.lemmas.Bool.Decides.{nat_tests}
 use Rattle.hex.specs.Hex.{IsBytes, encode_with, encode_lower, lower_digits, decode_of}
 use Rattle.hex.proofs.HexLemmas.{decode_of-encode_lower, IsAscii-encode_with, length-encode_with}
 use lib.Utf8.{encode}
-use Rattle.hub_text.specs.ListLaws.{some-item}
+use Rattle.hub_text.specs.laws.List.{some-item}
 use Rattle.hub_path.specs.Path.{Name, Path, is_place, is_path, is_forbidden, text_of}
 use Rattle.hub_path.specs.Reading.{names_fault, path_reading, root_reading}
-use Rattle.hub_path.specs.NameFacts.{name_parts}
-use Rattle.hub_path.specs.ReadBack.{path-place, path_reading-names, root_reading-names}
+use Rattle.hub_path.specs.laws.NameFacts.{name_parts}
+use Rattle.hub_path.specs.laws.ReadBack.{path-place, path_reading-names, root_reading-names}
 use Rattle.std.proofs.lemmas.Bool.{and_parts, and_from}
 use Rattle.std.proofs.Math.Bool.{and-false}
 use Rattle.hub_state.specs.State.{root_chars, root_text}
@@ -20,7 +20,7 @@ use Rattle.hub_state.specs.Writing.{path_bytes, hex_field}
 use Rattle.hub_state.specs.Reading.{path_field, root_field, bytes_field, digest_field, or_else, unless}
 use Rattle.hub_state.specs.declared.fault.Fault.TheVariants.{BadPath, BadHex}
 use Rattle.hub_state.proofs.Lines.{in_line, in_field, encodes-in_line, digits-in_line, digits-in_field}
-use Rattle.hub_path.specs.TextLaws.{joined-pass, scalars-text}
+use Rattle.hub_path.specs.laws.Text.{joined-pass, scalars-text}
 
 second_of_four : (a b c d : Bool) → not (a || b || c || d) ≡ true → not b ≡ true
 second_of_four true b c d h = cc

@@ -11,16 +11,16 @@ use Rattle.std.proofs.lemmas.Bool.{and_parts, and_from, false≢true}
 use Rattle.std.proofs.lemmas.List.Concat.{flat_map-append}
 use Rattle.std.proofs.lemmas.Slice.Eq.{bytes_eq-Decides}
 use Rattle.sha2.specs.Sha256.{sha256}
-use Rattle.hub_text.specs.ListLaws.{no-items}
+use Rattle.hub_text.specs.laws.List.{no-items}
 use Rattle.hub_path.specs.Path.{Path, name_cmp}
-use Rattle.hub_path.specs.Laws.{name_cmp-total, name_cmp-exact}
+use Rattle.hub_path.specs.laws.General.{name_cmp-total, name_cmp-exact}
 use Rattle.hub_tree.specs.Tree.{Replica}
 use Rattle.hub_tree.specs.declared.contents.Contents.{Contents}
 use Rattle.hub_tree.specs.declared.contents.Contents.TheVariants as contents
-use Rattle.hub_tree.specs.Laws.Order.{same_name, name_itself}
+use Rattle.hub_tree.specs.laws.Order.{same_name, name_itself}
 use Rattle.hub_state.specs.declared.form.Version.TheVariants.{One, Two}
 use Rattle.hub_state.specs.Taking.{BlobMap}
-use Rattle.hub_state.specs.Adding.{added_to, file_added, files_added}
+use Rattle.hub_state.specs.forms.Adding.{added_to, file_added, files_added}
 use Rattle.hub_state.specs.View.{by_text}
 use Rattle.hub_state.specs.Writing.{contents_files, replica_files, blob_of, blobs_of, tell_apart, version_of}
 use Rattle.hub_state.proofs.Kept.{back}

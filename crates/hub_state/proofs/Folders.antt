@@ -7,10 +7,10 @@ use Rattle.std.proofs.lemmas.Bool.Decides.{nat_tests}
 use Rattle.std.proofs.lemmas.Slice.Eq.{bytes_eq-Decides}
 use Rattle.hub_path.specs.Path.{Name, Path, parent, is_path, is_place, text_of}
 use Rattle.hub_path.specs.Reading.{name_fault, name_reading, names_fault}
-use Rattle.hub_path.specs.ReadNames.{or_fault-Ok, first_fault-None, tested-None}
+use Rattle.hub_path.specs.laws.ReadNames.{or_fault-Ok, first_fault-None, tested-None}
 use Rattle.hub_path.specs.declared.fault.PathFault.TheVariants.{TooDeep}
 use Rattle.hub_path.specs.declared.rel_path.TheConstants.{PATH_NAMES}
-use Rattle.hub_state.specs.Near.{IsReadFrom}
+use Rattle.hub_state.specs.forms.Near.{IsReadFrom}
 use Rattle.hub_state.specs.Reading.{path_field}
 use Rattle.hub_state.specs.Writing.{path_bytes}
 use Rattle.hub_state.proofs.Fields.{path_field-written}

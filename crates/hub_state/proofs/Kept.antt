@@ -10,8 +10,8 @@ use Rattle.std.specs.declared.cmp.Ordering.{Ordering}
 use Rattle.std.specs.declared.cmp.Ordering.TheVariants.{Less}
 use Rattle.std.proofs.lemmas.Cmp.{tied_itself}
 use Rattle.std.proofs.lemmas.Bool.{false≢true}
-use Rattle.hub_text.specs.ListLaws.{option_or-none}
-use Rattle.hub_text.specs.TestLaws.{T-first, T-second, T-less, is_eq-equal}
+use Rattle.hub_text.specs.laws.List.{option_or-none}
+use Rattle.hub_text.specs.laws.Test.{T-first, T-second, T-less, is_eq-equal}
 
 -- All entries, from those that were taken, the last one first, and those that follow; and all of them taken.
 abbrev pub back : {E : Type 0} → List E → List E → List E

@@ -10,8 +10,8 @@ use Rattle.std.proofs.lemmas.Bool.Decides.{nat_tests}
 use Rattle.std.proofs.lemmas.Bool.{and_parts, and_from, or_right, not-true}
 use Rattle.hub_text.specs.declared.line.Line.{Line}
 use Rattle.hub_text.specs.Lines.{is_lf, lines_of, ended}
-use Rattle.hub_text.specs.LineLaws.{lines_of-ended}
-use Rattle.hub_text.specs.TestLaws.{list_all-not}
+use Rattle.hub_text.specs.laws.Line.{lines_of-ended}
+use Rattle.hub_text.specs.laws.Test.{list_all-not}
 use Rattle.hex.specs.Hex.{encode_with, encode_lower, lower_digits}
 use lib.Utf8.{encode, next}
 use Rattle.hub_state.specs.Writing.{joined_lines}

@@ -17,14 +17,14 @@ use Rattle.std.specs.declared.cmp.Ordering.TheVariants.{Less, Equal, Greater}
 use Rattle.std.proofs.lemmas.Map.Text.{is_eq-slice_cmp}
 use Rattle.std.proofs.lemmas.Slice.Eq.{bytes_eq-Decides}
 use Rattle.hub_path.specs.Path.{name_cmp, path_cmp}
-use Rattle.hub_path.specs.Laws.{name_cmp-total, name_cmp-exact, path_cmp-total, path_cmp-exact}
-use Rattle.hub_tree.specs.Laws.Ascending.{both, is_sorted-from, entries-ascending, copy_more}
+use Rattle.hub_path.specs.laws.General.{name_cmp-total, name_cmp-exact, path_cmp-total, path_cmp-exact}
+use Rattle.hub_tree.specs.laws.Ascending.{both, is_sorted-from, entries-ascending, copy_more}
 use Rattle.hub_state.specs.State.{Text}
 use Rattle.hub_state.specs.View.{keyed, by_text, by_two, pairs_below, pairs, map_in, pairs_in}
-use Rattle.hub_text.specs.TestLaws.{T-first, T-second, T-less}
-use Rattle.hub_text.specs.ListLaws.{find-append, option_or-none}
+use Rattle.hub_text.specs.laws.Test.{T-first, T-second, T-less}
+use Rattle.hub_text.specs.laws.List.{find-append, option_or-none}
 use Rattle.hub_state.proofs.Kept.{find-tied_below}
-use Rattle.hub_state.specs.RootTexts.{is_eq-pair}
+use Rattle.hub_state.specs.laws.RootTexts.{is_eq-pair}
 
 -- What is found at a text.
 find-by_text : {Z X : Type 0} (q : Text) (es : List (String Z × X)) → find name_cmp q (by_text es) ≡ lookup (is_at (λ k. slice_cmp nat_cmp q (string_bytes k))) es

@@ -8,7 +8,7 @@ use Rattle.std.proofs.lemmas.Bool.{false≢true}
 use Rattle.std.proofs.lemmas.List.Sums.{fold-append}
 use Rattle.hub_path.specs.Path.{Path, path_cmp}
 use Rattle.hub_tree.specs.Marked.{with_entries}
-use Rattle.hub_tree.specs.Laws.Order.{path_total, same_path, path_itself}
+use Rattle.hub_tree.specs.laws.Order.{path_total, same_path, path_itself}
 use Rattle.hub_tree.specs.declared.contents.Mark.{Mark}
 use Rattle.hub_state.specs.Marks.{EndsWith}
 

@@ -13,7 +13,7 @@ use lib.Utf8.{encode}
 use Rattle.sha2.specs.Sha256.{sha256}
 use Rattle.hub_path.specs.Path.{Name, Path, name_cmp, path_cmp, path_eq, is_path, is_place, parent, last_name}
 use Rattle.hub_path.specs.Reading.{names_fault}
-use Rattle.hub_path.specs.Laws.{path_cmp-over, path_cmp-total, is_over-parent, parent-last_name}
+use Rattle.hub_path.specs.laws.General.{path_cmp-over, path_cmp-total, is_over-parent, parent-last_name}
 use Rattle.hub_tree.specs.Tree.{Replica, Archive, IsTree, IsArchive, HasPaths, contents_at, is_directory, is_absent}
 use Rattle.hub_tree.specs.declared.contents.Contents.{Contents}
 use Rattle.hub_tree.specs.declared.contents.Contents.TheVariants as contents
@@ -31,7 +31,7 @@ use Rattle.std.proofs.lemmas.Bool.{or_right}
 use Rattle.hub_state.proofs.Lines.{digits-in_line}
 use Rattle.hub_state.proofs.Digests.{IsDigest-sha256}
 use Rattle.hub_state.proofs.Fields.{path-in_line, IsUtf8-root, root_field-written, hex-in_line}
-use Rattle.hub_path.specs.ReadBack.{path-place}
+use Rattle.hub_path.specs.laws.ReadBack.{path-place}
 use Rattle.hub_state.proofs.Kept.{back, onto, next_is_new, next_is_there, find-before}
 use Rattle.hub_state.proofs.Written.{Reads, Reads-none, Reads-append, Reads-line, above, word_utf8, word_in_line, fields_in_line, dir_reads, file_reads, named_reads, old_dir_reads, old_file_reads}
 

@@ -8,11 +8,11 @@ use Rattle.std.specs.declared.cmp.Ordering.TheVariants.{Less, Equal, Greater}
 use Rattle.std.proofs.lemmas.Bool.{false≢true}
 use lib.Utf8.{encode}
 use Rattle.hub_path.specs.Path.{Path, name_cmp, path_cmp, is_place, root_bytes}
-use Rattle.hub_path.specs.Laws.{name_cmp-total, name_cmp-exact, path_cmp-total}
+use Rattle.hub_path.specs.laws.General.{name_cmp-total, name_cmp-exact, path_cmp-total}
 use Rattle.hub_tree.specs.Tree.{Replica, Archive, IsTree, IsArchive, HasPaths, HasBytes, HasDigests}
-use Rattle.hub_tree.specs.Laws.Order.{same_path, same_name}
+use Rattle.hub_tree.specs.laws.Order.{same_path, same_name}
 use Rattle.hub_state.specs.State.{State, Text, IsState, empty_state, root_text, is_before, pair_of, with_replica, with_archive}
-use Rattle.hub_state.specs.RootTexts.{same_roots}
+use Rattle.hub_state.specs.laws.RootTexts.{same_roots}
 
 -- The text of a root by its two definitions.
 pub root_text-bytes : (r : Path) → root_bytes r ≡ root_text r

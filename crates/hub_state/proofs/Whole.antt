@@ -13,7 +13,7 @@ use Rattle.std.proofs.lemmas.Bool.{and_from, false≢true}
 use Rattle.sha2.specs.Sha256.{sha256}
 use Rattle.hub_path.specs.Path.{Path, name_cmp, path_cmp, path_eq, is_place}
 use Rattle.hub_path.specs.Reading.{names_fault}
-use Rattle.hub_path.specs.Laws.{path_cmp-total, path_cmp-exact, name_cmp-total, name_cmp-exact}
+use Rattle.hub_path.specs.laws.General.{path_cmp-total, path_cmp-exact, name_cmp-total, name_cmp-exact}
 use Rattle.hub_tree.specs.Tree.{Replica, Archive, IsBytes, IsDigest}
 use Rattle.hub_tree.specs.declared.contents.Contents.{Contents}
 use Rattle.hub_tree.specs.declared.contents.Contents.TheVariants as contents
@@ -27,7 +27,7 @@ use Rattle.hub_state.specs.State.{State, Text, IsState, root_text, pair_of, is_b
 use Rattle.hub_state.specs.Writing.{state_header, end_line, replica_lines, archive_lines, pair_lines, contents_lines, mark_lines, blob_line, blob_lines, blobs_of, contents_files, replica_files, state_files, tell_apart, joined_lines, version_lines, state_text}
 use Rattle.hub_state.specs.Taking.{BlobMap}
 use Rattle.hub_state.specs.Reading.{Above, Blobs, above_end, lines_reading, nothing_above, is_half, state_of, state_or_fault, state_reading}
-use Rattle.hub_state.specs.Laws.{IsReadable}
+use Rattle.hub_state.specs.Readable.{IsReadable}
 use Rattle.hub_state.proofs.Lines.{in_line, all_ended, above_end-joined}
 use Rattle.hub_state.proofs.Fields.{root-in_line}
 use Rattle.hub_state.proofs.Kept.{back, onto, none_tested, all_onto}

@@ -29,7 +29,7 @@ use Rattle.hub_state.specs.Reading.{Above, Blobs, unless, line_of, with_line, wi
 use Rattle.std.proofs.lemmas.Bool.{and_from}
 use Rattle.hub_state.proofs.Lines.{in_line, in_field, all_ended, field_before, field_after, field_ends}
 use Rattle.hub_state.proofs.Fields.{IsUtf8-path, path_field-written, bytes_field-written, digest_field-written, IsUtf8-digits, IsUtf8-hex, hex-in_line, hex-in_field}
-use Rattle.hub_path.specs.ReadBack.{path-place}
+use Rattle.hub_path.specs.laws.ReadBack.{path-place}
 use Rattle.hub_state.proofs.Lines.{digits-in_line, digits-in_field}
 use Rattle.hub_text.specs.Blanks.{is_space}
 use Rattle.hub_text.specs.Fails.{and_then}

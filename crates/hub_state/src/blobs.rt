@@ -3,7 +3,7 @@ ghost use Rattle.std.specs.FinMap as fin;
 ghost use Rattle.std.specs.List.{flat_map};
 ghost use Rattle.std.specs.Option.{option_map};
 ghost use Rattle.sha2.specs.Sha256.{sha256};
-ghost use Rattle.hub_state.specs.Adding.{file_added, files_added};
+ghost use Rattle.hub_state.specs.forms.Adding.{file_added, files_added};
 ghost use Rattle.hub_state.specs.View.{by_text};
 ghost use Rattle.hub_state.specs.Writing.{contents_files, replica_files, blob_line, blob_lines, version_of};
 ghost use Rattle.hub_tree.specs.Stored.{stored_contents};

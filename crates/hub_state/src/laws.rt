@@ -2,7 +2,7 @@
 ghost use Rattle.std.specs.Prelude.{◌≡◌, Ok, Some, IsTrue, if◌then◌else◌};
 ghost use Rattle.hub_path.specs.Path.{Path, is_place, path_eq};
 ghost use Rattle.hub_tree.specs.Tree.{Replica, Archive};
-ghost use Rattle.hub_state.specs.Laws.{IsReadable};
+ghost use Rattle.hub_state.specs.Readable.{IsReadable};
 ghost use Rattle.hub_state.specs.Reading.{state_reading};
 ghost use Rattle.hub_state.specs.State.{State, IsState, is_pair, replica_at, archive_at, with_replica, with_archive};
 ghost use Rattle.hub_state.specs.Writing.{state_text};

@@ -25,7 +25,7 @@ impl Model for Marks {
     ghost use Rattle.std.specs.Coded.{coded_ℕ, coded_list};
     ghost use Rattle.hub_path.specs.Path.{path_cmp};
     ghost use Rattle.hub_tree.specs.declared.contents.Mark.{Mark};
-    ghost use Rattle.hub_tree.specs.Coded.{coded_mark};
+    ghost use Rattle.hub_tree.specs.laws.Coded.{coded_mark};
 
     ghost Value = { fin.FinMap path_cmp Mark };
 

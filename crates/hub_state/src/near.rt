@@ -3,7 +3,7 @@ ghost use Rattle.std.specs.Prelude.{◌≡◌, ◌++◌, ◌∷◌, [], None, Ok
 ghost use Rattle.hub_text.specs.Fails.{Fails};
 ghost use Rattle.hub_path.specs.Path.{is_path};
 ghost use Rattle.hub_path.specs.Reading.{names_fault};
-ghost use Rattle.hub_state.specs.Near.{IsReadFrom};
+ghost use Rattle.hub_state.specs.forms.Near.{IsReadFrom};
 ghost use Rattle.hub_state.specs.Reading.{path_field};
 
 use crate::fault::Fault;

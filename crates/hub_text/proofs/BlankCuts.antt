@@ -10,7 +10,7 @@ use Rattle.std.proofs.lemmas.Bool.{and_parts}
 use denote.Ref.{Bor}
 use lib.Utf8.{scalar}
 use Rattle.hub_text.specs.Blanks.{is_blank, skip_blanks}
-use Rattle.hub_text.specs.TextCuts.{CutsAt, parted}
+use Rattle.hub_text.specs.laws.TextCuts.{CutsAt, parted}
 
 -- What a search for a blank finds.
 abbrev pub FindsBlank : List ℕ → Option (ℕ × ℕ) → Type 0

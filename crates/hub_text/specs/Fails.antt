@@ -1,6 +1,5 @@
 -- How a reading fails, and what is read after it.
-use Rattle.std.specs.Prelude.{◌≡◌, ◌⊎◌, Result, Ok, Err, IfErr, IsErrAnd}
-use Rattle.std.proofs.Common.{subst, sym}
+use Rattle.std.specs.Prelude.{◌≡◌, ◌⊎◌, Result, Ok, Err}
 
 -- The fault is the one that says that memory is out, or the fault of the reading.
 abbrev pub Fails : {T E : Type 0} → E → Result T E → E → Type 0
@@ -10,9 +9,3 @@ Fails memory reading e = (e ≡ memory) ⊎ (reading ≡ Err e)
 abbrev pub and_then : {T U E : Type 0} → Result T E → (T → Result U E) → Result U E
 and_then (Ok x) f = f x
 and_then (Err e) f = Err e
-
--- What holds of an error holds of the same error that is passed up.
-pub passed-up : {T E : Type 0} (r : Result T E) (e : E) (P : E → Type 0)
-    → IsErrAnd r (λ y. y ≡ e) → P e → IfErr r P
-passed-up (Ok x) e P h p = absurd h
-passed-up (Err y) e P h p = subst P (sym h) p

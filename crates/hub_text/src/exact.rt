@@ -27,31 +27,31 @@ pub fn are_equal<T: Exact>(xs: &[T], ys: &[T]) -> bool
 }
 
 impl<T: Exact> Exact for Items<T> {
-    ghost use Rattle.hub_text.specs.Exact.{items_exact};
+    ghost use Rattle.hub_text.specs.laws.Exact.{items_exact};
 
     ghost exact = { items_exact T.exact };
 }
 
 impl<T: Exact> Exact for Option<T> {
-    ghost use Rattle.hub_text.specs.Exact.{option_exact};
+    ghost use Rattle.hub_text.specs.laws.Exact.{option_exact};
 
     ghost exact = { option_exact T.exact };
 }
 
 impl Exact for bool {
-    ghost use Rattle.hub_text.specs.Exact.{bool_exact};
+    ghost use Rattle.hub_text.specs.laws.Exact.{bool_exact};
 
     ghost exact = { bool_exact };
 }
 
 impl Exact for char {
-    ghost use Rattle.hub_text.specs.Exact.{nat_exact};
+    ghost use Rattle.hub_text.specs.laws.Exact.{nat_exact};
 
     ghost exact = { nat_exact };
 }
 
 impl Exact for usize {
-    ghost use Rattle.hub_text.specs.Exact.{nat_exact};
+    ghost use Rattle.hub_text.specs.laws.Exact.{nat_exact};
 
     ghost exact = { nat_exact };
 }

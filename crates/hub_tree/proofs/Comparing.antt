@@ -21,7 +21,7 @@ use Rattle.hub_tree.specs.declared.contents.Contents.{Contents}
 use Rattle.hub_tree.specs.declared.contents.Contents.TheVariants as contents
 use Rattle.hub_tree.specs.declared.node.Node.{Node}
 use Rattle.hub_tree.proofs.LookUp.{look_up, get_top}
-use Rattle.hub_tree.specs.Laws.Order.{name_total, path_total, path_antisymmetric, same_name, name_itself}
+use Rattle.hub_tree.specs.laws.Order.{name_total, path_total, path_antisymmetric, same_name, name_itself}
 use Rattle.hub_tree.proofs.Paths.{above_none}
 
 abbrev pub Children : Type 0

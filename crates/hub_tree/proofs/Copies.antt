@@ -9,8 +9,8 @@ use Rattle.std.specs.declared.cmp.Ordering.TheVariants.{Less, Equal, Greater}
 use Rattle.hub_path.specs.Path.{Name, name_cmp}
 use Rattle.hub_tree.specs.Nodes.{Entries, entries_under, children_entries, replica_of}
 use Rattle.hub_tree.specs.declared.node.Node.{Node}
-use Rattle.hub_tree.specs.Laws.Order.{name_total}
-use Rattle.hub_tree.specs.Laws.Ascending.{copy_more}
+use Rattle.hub_tree.specs.laws.Order.{name_total}
+use Rattle.hub_tree.specs.laws.Ascending.{copy_more}
 
 -- The names, each with the entries of its node.
 abbrev pub with_entries : List (Name × Node) → List (Name × Entries)

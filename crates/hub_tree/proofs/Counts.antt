@@ -20,8 +20,8 @@ use Rattle.hub_tree.specs.declared.node.Node.{Node}
 use Rattle.hub_tree.specs.declared.node.Node.TheFolds.{fold-Node, fold_out-Node, map-Node}
 use Rattle.hub_tree.specs.declared.node.Node.TheViews.{out-Node}
 use Rattle.hub_tree.specs.declared.node.Node.TheOpen.{Node-F, File, Directory}
-use Rattle.hub_tree.specs.Laws.Order.{path_total, path_antisymmetric, same_name, name_itself, path_itself}
-use Rattle.hub_text.specs.ListLaws.{find-append, option_or-none}
+use Rattle.hub_tree.specs.laws.Order.{path_total, path_antisymmetric, same_name, name_itself, path_itself}
+use Rattle.hub_text.specs.laws.List.{find-append, option_or-none}
 use Rattle.hub_tree.proofs.LookUp.{find-below, find-joined, find_top-joined, without}
 
 abbrev len_of : Entries → ℕ

@@ -15,9 +15,9 @@ use Rattle.hub_tree.specs.Marked.{with_entries}
 use Rattle.hub_tree.specs.Tree.{Archive, IsArchive, HasPaths, HasDigests, IsDigest, kept_mark, with_kept}
 use Rattle.hub_tree.specs.declared.contents.Mark.{Mark}
 use Rattle.hub_tree.specs.declared.contents.Mark.TheVariants as mark
-use Rattle.hub_tree.specs.Laws.Ascending.{same_entries}
-use Rattle.hub_tree.specs.Laws.MarkMaps.{IsArchive-set}
-use Rattle.hub_tree.specs.Laws.Order.{path_total, path_antisymmetric, same_path}
+use Rattle.hub_tree.specs.laws.Ascending.{same_entries}
+use Rattle.hub_tree.specs.laws.MarkMaps.{IsArchive-set}
+use Rattle.hub_tree.specs.laws.Order.{path_total, path_antisymmetric, same_path}
 
 -- What the type of archives asks.
 abbrev pub IsGood : Archive → Type 0

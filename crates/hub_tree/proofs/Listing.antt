@@ -11,11 +11,11 @@ use Rattle.hub_tree.specs.Below.{is_below, under}
 use Rattle.hub_tree.specs.Tree.{Replica, IsTree, contents_at, is_absent, is_child, children}
 use Rattle.hub_tree.specs.declared.contents.Contents.{Contents}
 use Rattle.hub_tree.specs.declared.contents.Contents.TheVariants as contents
-use Rattle.hub_tree.specs.Laws.Beneath.{below_from}
-use Rattle.hub_tree.specs.Laws.Order.{path_total, path_antisymmetric}
-use Rattle.hub_tree.specs.Laws.Children.{same_sorted, sorted_keys, child_of, any_children-push, child_names}
-use Rattle.hub_tree.specs.Laws.Between.{among, any_equal, among_filter, under_sorted}
-use Rattle.hub_tree.specs.Laws.Contented.{shown_contents}
+use Rattle.hub_tree.specs.laws.Beneath.{below_from}
+use Rattle.hub_tree.specs.laws.Order.{path_total, path_antisymmetric}
+use Rattle.hub_tree.specs.laws.Children.{same_sorted, sorted_keys, child_of, any_children-push, child_names}
+use Rattle.hub_tree.specs.laws.Between.{among, any_equal, among_filter, under_sorted}
+use Rattle.hub_tree.specs.laws.Contented.{shown_contents}
 
 abbrev stands_below : Replica → Path → Path → Bool
 stands_below m d q = is_child d q && not (is_absent (contents_at m q))

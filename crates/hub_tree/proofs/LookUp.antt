@@ -9,7 +9,7 @@ use Rattle.std.specs.FinMap.Entries.{where_key, find, find-where_key}
 use Rattle.std.specs.Ordering.{eq_by_cmp, is_eq, ordering_then}
 use Rattle.std.specs.declared.cmp.Ordering.{Ordering}
 use Rattle.std.specs.declared.cmp.Ordering.TheVariants.{Less, Equal, Greater}
-use Rattle.hub_text.specs.ListLaws.{find-append, option_or-none}
+use Rattle.hub_text.specs.laws.List.{find-append, option_or-none}
 use Rattle.hub_path.specs.Path.{Name, Path, path_cmp, name_cmp}
 use Rattle.hub_tree.specs.Nodes.{Entries, entries_below, begins_with, joined_entries, node_entries, entries_under, children_entries, replica_of, contents_of, kids_of, layer_contents, layer_kids, node_get}
 use Rattle.hub_tree.specs.declared.contents.Contents.{Contents}
@@ -26,7 +26,7 @@ use Rattle.std.specs.declared.sync.Arc.{Arc}
 use Rattle.std.specs.Global.{Global}
 use Rattle.std.specs.BTreeMap.{BTreeMap}
 use Rattle.hub_tree.specs.declared.node.Node.TheOpen.{Node-F, File, Directory}
-use Rattle.hub_tree.specs.Laws.Order.{path_total, path_antisymmetric}
+use Rattle.hub_tree.specs.laws.Order.{path_total, path_antisymmetric}
 
 -- below a name
 one_below : {X : Type 0} (r s : Ordering) (x : X) (o rest : Option X) → rest ≡ cond (is_eq r) o None → cond (is_eq (ordering_then r s)) (Some x) rest ≡ cond (is_eq r) (cond (is_eq s) (Some x) o) None

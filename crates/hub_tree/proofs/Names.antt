@@ -12,7 +12,7 @@ use Rattle.hub_tree.specs.Tree.{Replica, names_at}
 use Rattle.hub_tree.specs.Nodes.{replica_of, node_get, kids_of}
 use Rattle.hub_tree.specs.declared.node.Node.{Node}
 use Rattle.hub_tree.proofs.LookUp.{look_up}
-use Rattle.hub_tree.specs.Laws.Children.{is_there, names-children}
+use Rattle.hub_tree.specs.laws.Children.{is_there, names-children}
 use Rattle.hub_tree.proofs.Setting.{node_shown}
 
 found_shown : (o : Option Node) → is_there (option_and_then (node_get []) o) ≡ is_some o

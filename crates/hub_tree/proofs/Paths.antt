@@ -21,9 +21,9 @@ use Rattle.hub_tree.specs.Nodes.{replica_of, kids_of, node_get}
 use Rattle.hub_tree.specs.Tree.{Replica}
 use Rattle.hub_tree.specs.declared.node.Node.{Node}
 use Rattle.hub_tree.proofs.LookUp.{look_up, get_top}
-use Rattle.hub_tree.specs.Laws.Order.{name_total, path_total, path_antisymmetric, same_name, is_eq-then}
-use Rattle.hub_tree.specs.Laws.Children.{same_sorted, sorted_keys}
-use Rattle.hub_tree.specs.Laws.Between.{among}
+use Rattle.hub_tree.specs.laws.Order.{name_total, path_total, path_antisymmetric, same_name, is_eq-then}
+use Rattle.hub_tree.specs.laws.Children.{same_sorted, sorted_keys}
+use Rattle.hub_tree.specs.laws.Between.{among}
 
 -- The paths of a node, from the node on.
 abbrev pub node_paths : Node → List Path

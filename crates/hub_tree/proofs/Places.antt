@@ -4,9 +4,9 @@ use Rattle.std.specs.Prelude.{IsTrue, chars}
 use Rattle.std.specs.Str.{encode_utf8_all}
 use Rattle.std.proofs.lemmas.Str.{chars-encodes, encodes-append, encode_ascii}
 use Rattle.hub_path.specs.Path.{Name, Path, is_path, path_of, text_of, parent, last_name}
-use Rattle.hub_path.specs.Laws.{path_of-text_of}
-use Rattle.hub_path.specs.ReadBack.{path-place}
-use Rattle.hub_path.specs.TextLaws.{path_of-parts, scalars-text}
+use Rattle.hub_path.specs.laws.General.{path_of-text_of}
+use Rattle.hub_path.specs.laws.ReadBack.{path-place}
+use Rattle.hub_path.specs.laws.Text.{path_of-parts, scalars-text}
 
 text_of-push : (ns : Path) (n : Name) → 0 < length ns → text_of (ns ++ n ∷ []) ≡ text_of ns ++ 47 ∷ n
 text_of-push [] n l = absurd (omega arith)

@@ -19,11 +19,11 @@ use Rattle.hub_tree.specs.declared.fault.SetFault.TheVariants.{NoParent, NotEmpt
 use Rattle.hub_tree.specs.declared.node.Node.{Node}
 use Rattle.hub_tree.specs.declared.node.Node.TheViews.{out-Node}
 use Rattle.hub_tree.specs.declared.node.Node.TheOpen.{Node-F, File, Directory}
-use Rattle.hub_tree.specs.Laws.Order.{name_total, path_total, path_antisymmetric, same_name, name_itself, is_eq-then}
+use Rattle.hub_tree.specs.laws.Order.{name_total, path_total, path_antisymmetric, same_name, name_itself, is_eq-then}
 use Rattle.hub_tree.proofs.LookUp.{look_up, get_top, get_nothing}
-use Rattle.hub_tree.specs.Laws.Children.{is_there, one_item, childless_none, none_childless, same_childless}
-use Rattle.hub_tree.specs.Laws.Beneath.{is_a_directory}
-use Rattle.hub_tree.specs.Laws.Contented.{held, get-with_contents}
+use Rattle.hub_tree.specs.laws.Children.{is_there, one_item, childless_none, none_childless, same_childless}
+use Rattle.hub_tree.specs.laws.Beneath.{is_a_directory}
+use Rattle.hub_tree.specs.laws.Contented.{held, get-with_contents}
 
 -- The names fs have w under n, and what cs have elsewhere.
 abbrev pub Changes : List (Name × Node) → List (Name × Node) → Name → Option Node → Type 0

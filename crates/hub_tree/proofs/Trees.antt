@@ -16,8 +16,8 @@ use Rattle.hub_tree.specs.declared.node.Node.{Node}
 use Rattle.hub_tree.specs.declared.node.Node.TheViews.{out-Node}
 use Rattle.hub_tree.specs.declared.node.Node.TheOpen.{Node-F, File, Directory}
 use Rattle.hub_tree.proofs.LookUp.{look_up, get_top, get_nothing}
-use Rattle.hub_tree.specs.Laws.MarkMaps.{path_here}
-use Rattle.hub_tree.specs.Laws.Contented.{held, get-with_contents}
+use Rattle.hub_tree.specs.laws.MarkMaps.{path_here}
+use Rattle.hub_tree.specs.laws.Contented.{held, get-with_contents}
 
 -- the keys are paths
 pub HasPaths-set : (m : Replica) (p : Path) (c : Contents) → HasPaths m → is_path p ≡ true → HasPaths (with_contents m p c)

@@ -9,18 +9,18 @@ use Rattle.std.specs.Option.{option_and_then, option_or}
 use Rattle.std.specs.Ordering.{eq_by_cmp}
 use Rattle.std.proofs.lemmas.List.{map-append}
 use Rattle.std.proofs.lemmas.Map.Keys.{sorted_head, sorted_tail}
-use Rattle.hub_text.specs.TestLaws.{T-first, T-second}
+use Rattle.hub_text.specs.laws.Test.{T-first, T-second}
 use Rattle.hub_path.specs.Path.{Name, Path, path_cmp, name_cmp}
 use Rattle.hub_tree.specs.Levels.{entries_after, level_entries, left_in, all_ascend}
 use Rattle.hub_tree.specs.Nodes.{Entries, replica_of, kids_of, node_get, contents_of, entries_below}
 use Rattle.hub_tree.specs.declared.contents.Contents.{Contents}
 use Rattle.hub_tree.specs.declared.entries.Level.{Level}
 use Rattle.hub_tree.specs.declared.node.Node.{Node}
-use Rattle.hub_tree.specs.Laws.Ascending.{both, entries-ascending}
-use Rattle.hub_tree.specs.Laws.Children.{sorted_keys}
-use Rattle.hub_text.specs.ListLaws.{find-append, option_or-none}
+use Rattle.hub_tree.specs.laws.Ascending.{both, entries-ascending}
+use Rattle.hub_tree.specs.laws.Children.{sorted_keys}
+use Rattle.hub_text.specs.laws.List.{find-append, option_or-none}
 use Rattle.hub_tree.proofs.LookUp.{find-below, find_top-below, look_up, get_top}
-use Rattle.hub_tree.specs.Laws.Order.{path_total, path_antisymmetric, same_name}
+use Rattle.hub_tree.specs.laws.Order.{path_total, path_antisymmetric, same_name}
 use Rattle.hub_tree.proofs.Paths.{named, node_paths, all_paths, above_none, all_ascend as paths_ascend}
 
 abbrev pub node_all : Node → Entries

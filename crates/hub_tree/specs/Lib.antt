@@ -1,7 +1,4 @@
 pub mod Below
-pub mod Coded
-pub mod Examples
-pub mod Laws
 pub mod Levels
 pub mod Marked
 pub mod Nodes
@@ -9,3 +6,5 @@ pub mod Sets
 pub mod Shared
 pub mod Stored
 pub mod Tree
+pub mod laws
+pub mod examples

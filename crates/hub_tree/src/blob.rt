@@ -102,7 +102,7 @@ impl Eq for Blob {
 }
 
 impl Exact for Blob {
-    ghost use Rattle.hub_text.specs.Exact.{items_exact, nat_exact};
+    ghost use Rattle.hub_text.specs.laws.Exact.{items_exact, nat_exact};
 
     ghost exact = { items_exact nat_exact };
 }

@@ -72,7 +72,7 @@ impl Mark {
 }
 
 impl Exact for Contents {
-    ghost use Rattle.hub_text.specs.Exact.{variants_exact, no_field, last_field, items_exact, nat_exact};
+    ghost use Rattle.hub_text.specs.laws.Exact.{variants_exact, no_field, last_field, items_exact, nat_exact};
     ghost use Rattle.hub_tree.specs.contracts.contents.Contents.{enum};
 
     ghost exact = { variants_exact enum _
@@ -80,7 +80,7 @@ impl Exact for Contents {
 }
 
 impl Exact for Mark {
-    ghost use Rattle.hub_text.specs.Exact.{variants_exact, no_field, last_field, items_exact, nat_exact};
+    ghost use Rattle.hub_text.specs.laws.Exact.{variants_exact, no_field, last_field, items_exact, nat_exact};
     ghost use Rattle.hub_tree.specs.contracts.contents.Mark.{enum};
 
     ghost exact = { variants_exact enum _

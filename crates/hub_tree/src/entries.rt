@@ -47,7 +47,7 @@ impl<'a> Model for Entries<'a> {
     ghost use Rattle.std.specs.Coded.{coded×, coded_ℕ, coded_list};
     ghost use Rattle.hub_path.specs.Path.{Path};
     ghost use Rattle.hub_tree.specs.declared.contents.Contents.{Contents};
-    ghost use Rattle.hub_tree.specs.Coded.{coded_contents};
+    ghost use Rattle.hub_tree.specs.laws.Coded.{coded_contents};
 
     ghost Value = { List (Path × Contents) };
 

@@ -45,7 +45,7 @@ impl<T: Drop> From<AllocFailed<T>> for SetFault {
 }
 
 impl Exact for SetFault {
-    ghost use Rattle.hub_text.specs.Exact.{tags_exact};
+    ghost use Rattle.hub_text.specs.laws.Exact.{tags_exact};
     ghost use Rattle.hub_tree.specs.contracts.fault.SetFault.{enum};
 
     ghost exact = { tags_exact enum tt };

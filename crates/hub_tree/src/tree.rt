@@ -38,7 +38,7 @@ impl Model for Tree {
     ghost use Rattle.std.specs.Coded.{coded_ℕ, coded_list};
     ghost use Rattle.hub_path.specs.Path.{path_cmp};
     ghost use Rattle.hub_tree.specs.declared.contents.Contents.{Contents};
-    ghost use Rattle.hub_tree.specs.Coded.{coded_contents};
+    ghost use Rattle.hub_tree.specs.laws.Coded.{coded_contents};
 
     ghost Value = { fin.FinMap path_cmp Contents };
 

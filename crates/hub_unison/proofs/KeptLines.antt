@@ -18,7 +18,7 @@ use Rattle.hub_unison.specs.declared.kept.Kept.{Kept}
 use Rattle.hub_unison.specs.Kept.{cut_from, fitting, is_alone, is_cut, taken, within}
 use Rattle.hub_unison.specs.Matching.{all_known, all_simple, star_for, starred, widened}
 use Rattle.hub_unison.specs.ReadingOf.{bar_stays, has_spares, is_read_back, line_kept, line_stays, read_back, spare_of, spare_stays}
-use Rattle.hub_unison.specs.SpareLaws.{all-known}
+use Rattle.hub_unison.specs.laws.Spare.{all-known}
 use Rattle.hub_unison.specs.Spares.{is_plain, pattern_spares}
 
 module _ {X : Type 0} where

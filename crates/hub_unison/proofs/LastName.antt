@@ -2,7 +2,7 @@
 use Rattle.std.proofs.Common.{◌≡◌, ◌+◌, ℕ, suc, zero, Some, Bool, List, [], ◌∷◌, length, sym, ap, ◌∙◌, arith}
 use Rattle.std.specs.Prelude.{slice_get, IsTrue, chars, codes, encode_utf8_all}
 use Rattle.hub_path.specs.Path.{Path, name_eq, last_name, is_name}
-use Rattle.hub_path.specs.NameFacts.{name_chars}
+use Rattle.hub_path.specs.laws.NameFacts.{name_chars}
 use Rattle.hub_unison.specs.UnisonReach.{is_starred}
 
 last-at : (p : Path) (i : ℕ) (n : List ℕ) → slice_get p i ≡ Some n → i + 1 ≡ length p

@@ -8,7 +8,7 @@ use Rattle.std.proofs.lemmas.List.{take_more, drop_more, map_more, flat_map_more
 use Rattle.std.specs.Prelude.{Result, Ok, Err, IfOk, is_ok, codes}
 use Rattle.std.proofs.lemmas.Bool.Decides.{nat_tests}
 use Rattle.std.proofs.lemmas.Str.{encodes-IsAscii}
-use Rattle.hub_text.specs.AsciiWords.{IsAscii-from_test}
+use Rattle.hub_text.specs.laws.AsciiWords.{IsAscii-from_test}
 use Rattle.hub_glob.specs.declared.path_spec.Kind.{Kind}
 use Rattle.hub_glob.specs.declared.path_spec.Kind.TheVariants as kind
 use Rattle.hub_glob.specs.declared.piece.Part.{Part}

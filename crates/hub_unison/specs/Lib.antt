@@ -1,14 +1,8 @@
 pub mod Cautious
-pub mod CautiousLaws
 pub mod Kept
-pub mod LimitLaws
 pub mod Matching
-pub mod PatternLaws
-pub mod PieceLaws
-pub mod ReadingLaws
 pub mod ReadingOf
 pub mod Rules
-pub mod RulesLaws
-pub mod SpareLaws
 pub mod Spares
 pub mod UnisonReach
+pub mod laws

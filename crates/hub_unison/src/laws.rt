@@ -27,7 +27,7 @@ pub fn safe_readings_are_safe_in_unison()
 
 /// What Unison matches for certain, hubsync matches, and what hubsync matches, Unison may match. So hubsync's reading is one
 /// of those that Unison may have.
-#[tactic(auto, using(crate::specs::PatternLaws::matches_is_matching))]
+#[tactic(auto, using(crate::specs::laws::Pattern::matches_is_matching))]
 pub fn hubsync_matches_as_unison_may()
     ensures { IsMatching matches }
 {}
@@ -42,7 +42,7 @@ pub fn short_specifications_are_read_back()
 }
 
 /// A reading has at most as many `ignore` and `ignorenot` lines together as a profile may have, if its profile has.
-#[tactic(auto, using(crate::specs::LimitLaws::readings_within))]
+#[tactic(auto, using(crate::specs::laws::Limit::readings_within))]
 pub fn readings_are_within_the_limit()
     ensures { (Rs : List Rule) (P : Parts) → IsWithinLines P → IsWithinLines (reading_of Rs P) }
 {}

@@ -67,7 +67,7 @@ fn put_archive(
 }
 
 /// Puts an archive that has a directory at the path, or is empty if the path is that of the whole replica.
-#[tactic(auto, using(hub_state::specs::RootTexts::other_roots))]
+#[tactic(auto, using(hub_state::specs::laws::RootTexts::other_roots))]
 fn put_between(
     alloc: Global,
     state: &mut State,

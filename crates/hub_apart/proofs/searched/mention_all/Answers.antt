@@ -2,7 +2,7 @@ use Rattle.std.proofs.Common.{◌≡◌, ◌∙◌, ℕ, List, sym, subst}
 use Rattle.std.specs.List.{flat_map}
 use Rattle.std.proofs.lemmas.Result.{IfErr-weaker, err_from_is_err_and}
 use Rattle.hub_automaton.specs.Alphabet.{RefusesCharacters, plain, spec_characters, with_characters}
-use Rattle.hub_automaton.specs.AddedInTurn.{refused-after, refused-before}
+use Rattle.hub_automaton.specs.laws.AddedInTurn.{refused-after, refused-before}
 use Rattle.hub_profile.specs.Parts.{Parts}
 use Rattle.hub_profile.specs.declared.rule.Rule.{Rule}
 use Rattle.hub_reach.specs.Mention.{mentioned_by}

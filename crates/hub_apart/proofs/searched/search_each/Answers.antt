@@ -4,8 +4,8 @@ use Rattle.std.proofs.lemmas.Iterator.Adapters.{YieldsList-from_vec}
 use Rattle.std.proofs.lemmas.Iterator.Consumers.{YieldsList-end, YieldsList-turn}
 use Rattle.std.proofs.lemmas.List.{map-id}
 use Rattle.std.proofs.lemmas.Option.{none-some, slice_get_read, slice_get_within}
-use Rattle.hub_text.specs.Fails.{passed-up}
-use Rattle.hub_text.specs.ListLaws.{snoc-cases}
+use Rattle.hub_text.specs.laws.Fails.{passed-up}
+use Rattle.hub_text.specs.laws.List.{snoc-cases}
 use Rattle.hub_profile.specs.Parts.{Parts}
 use Rattle.hub_profile.specs.declared.rule.Rule.{Rule}
 use Rattle.hub_cert.specs.Refused.{IsRefused}

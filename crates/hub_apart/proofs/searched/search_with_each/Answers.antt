@@ -2,7 +2,7 @@ use Rattle.std.proofs.Common.{◌∙◌, ◌++◌, ◌∷◌, [], ℕ, List, ap,
 use Rattle.std.proofs.lemmas.Iterator.Adapters.{YieldsList-from_vec}
 use Rattle.std.proofs.lemmas.Iterator.Consumers.{YieldsList-turn}
 use Rattle.std.proofs.lemmas.Option.{slice_get_read}
-use Rattle.hub_text.specs.Fails.{passed-up}
+use Rattle.hub_text.specs.laws.Fails.{passed-up}
 use Rattle.hub_profile.specs.Parts.{Parts}
 use Rattle.hub_apart.specs.ApartLines.{Adds, AreLinesOfTwo, IsRefusedTwo, IsRefusedWithEach}
 use Rattle.hub_apart.proofs.Joining.{adds-with-one}

@@ -1,6 +1,6 @@
 use Rattle.std.proofs.Common.{sym, ap, ◌∙◌}
 use Rattle.hub_automaton.specs.Spots.{packed_seen, unpacked}
-use Rattle.hub_automaton.specs.Stepping.{pushed}
+use Rattle.hub_automaton.specs.forms.Stepping.{pushed}
 use Rattle.hub_automaton.proofs.Spotted.{push_law, pushed_alike}
 use Rattle.hub_automaton.proofs.SpotsSeen.{same_unpacked}
 use Rattle.hub_automaton.proofs.laws.what_is_kept_goes_on_alike.Goals as goal

@@ -1,4 +1,4 @@
-use Rattle.hub_automaton.specs.Rows.{entered_by, moved_count}
+use Rattle.hub_automaton.specs.forms.Rows.{entered_by, moved_count}
 use Rattle.hub_automaton.proofs.RowMoves.{Carried}
 use Rattle.hub_automaton.proofs.rows.carry_on.Given as goal
 

@@ -1,4 +1,4 @@
-use Rattle.hub_automaton.specs.Rows.{entered_by, moved_count}
+use Rattle.hub_automaton.specs.forms.Rows.{entered_by, moved_count}
 use Rattle.hub_automaton.proofs.RowMoves.{Apart}
 use Rattle.hub_automaton.proofs.rows.move_apart.Given as goal
 

@@ -1,6 +1,6 @@
 use Rattle.std.proofs.Common.{◌≡◌, ◌+◌, [], ◌∷◌, ◌&&◌, drop, refl, sym, ap, ◌∙◌}
 use Rattle.hub_glob.specs.Taking.{is_star}
-use Rattle.hub_automaton.specs.Stepping.{entered_pieces}
+use Rattle.hub_automaton.specs.forms.Stepping.{entered_pieces}
 use Rattle.hub_automaton.proofs.Loops.{rest_step, rest_end}
 use Rattle.hub_automaton.proofs.step.enter_choice.Goals.{then-is_star, else-is_star}
 use Rattle.hub_automaton.proofs.step.enter_choice.Goals as goal

@@ -1,5 +1,5 @@
 use Rattle.std.proofs.Common.{◌≡◌, ◌++◌, drop}
-use Rattle.hub_automaton.specs.Stepping as stepping
+use Rattle.hub_automaton.specs.forms.Stepping as stepping
 use Rattle.hub_automaton.proofs.step.enter_choice.Given as goal
 
 abbrev pub invariant-loop-piece : goal.invariant-loop-piece

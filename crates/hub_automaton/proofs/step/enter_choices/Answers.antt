@@ -1,5 +1,5 @@
 use Rattle.std.proofs.Common.{◌++◌, refl, ap, ◌∙◌}
-use Rattle.hub_automaton.specs.Stepping.{entered, entered_choices}
+use Rattle.hub_automaton.specs.forms.Stepping.{entered, entered_choices}
 use Rattle.hub_automaton.proofs.Loops.{rest_step, rest_end}
 use Rattle.hub_automaton.proofs.step.enter_choices.Goals as goal
 

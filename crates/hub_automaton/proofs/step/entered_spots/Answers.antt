@@ -1,7 +1,7 @@
 use Rattle.std.proofs.Common.{◌++◌, refl, ap, ◌∙◌, Bool, List}
 use Rattle.std.specs.List.{flat_map}
 use Rattle.hub_automaton.specs.declared.alternatives.Alternatives.{Alternatives}
-use Rattle.hub_automaton.specs.Stepping.{entered_choices}
+use Rattle.hub_automaton.specs.forms.Stepping.{entered_choices}
 use Rattle.hub_automaton.proofs.Loops.{rest_step, rest_packed}
 use Rattle.hub_automaton.proofs.step.entered_spots.Goals as goal
 

@@ -1,6 +1,6 @@
 use Rattle.std.proofs.Common.{◌≡◌, ◌++◌, drop}
 use Rattle.std.specs.List.{flat_map}
-use Rattle.hub_automaton.specs.Stepping as stepping
+use Rattle.hub_automaton.specs.forms.Stepping as stepping
 use Rattle.hub_automaton.proofs.step.entered_spots.Given as goal
 
 abbrev pub invariant-loop-one : goal.invariant-loop-one

@@ -1,6 +1,6 @@
 use Rattle.std.proofs.Common.{ℕ, List, ◌++◌, ◌∷◌, [], map, refl, ap, ◌∙◌}
 use Rattle.hub_automaton.specs.Masks.{mask_all}
-use Rattle.hub_automaton.specs.Takers.{begun}
+use Rattle.hub_automaton.specs.forms.Takers.{begun}
 use Rattle.hub_automaton.specs.Words.{packed}
 use Rattle.hub_automaton.proofs.Loops.{rest_step}
 use Rattle.hub_automaton.proofs.takers.begin_each.Goals as goal

@@ -1,6 +1,6 @@
 use Rattle.std.proofs.Common.{◌≡◌, ◌++◌, drop, map}
 use Rattle.hub_automaton.specs.Masks as masking
-use Rattle.hub_automaton.specs.Takers.{begun}
+use Rattle.hub_automaton.specs.forms.Takers.{begun}
 use Rattle.hub_automaton.specs.Words.{packed}
 use Rattle.hub_automaton.proofs.takers.begin_each.Given as goal
 

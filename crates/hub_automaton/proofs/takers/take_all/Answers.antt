@@ -1,5 +1,5 @@
 use Rattle.std.proofs.Common.{◌∙◌, ap, arith}
-use Rattle.hub_text.specs.ListLaws.{next-drop}
+use Rattle.hub_text.specs.laws.List.{next-drop}
 use Rattle.hub_glob.specs.declared.path_spec.Kind.TheVariants as kinds
 use Rattle.hub_automaton.specs.Spots.{spot_count, spots_count}
 use Rattle.hub_automaton.proofs.Takings.{all_end, all_next}

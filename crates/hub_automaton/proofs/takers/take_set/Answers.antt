@@ -1,6 +1,6 @@
 use Rattle.std.proofs.Common.{◌+◌, ◌∙◌, drop, false, subst, sym}
 use Rattle.std.proofs.lemmas.List.{drop_all}
-use Rattle.hub_text.specs.ListLaws.{next-drop}
+use Rattle.hub_text.specs.laws.List.{next-drop}
 use Rattle.hub_automaton.proofs.Takings.{TakenFor, set_next, set_end}
 use Rattle.hub_automaton.proofs.takers.take_set.Goals as goal
 

@@ -3,7 +3,7 @@ use Rattle.std.proofs.lemmas.Result.{err_from_is_err_and}
 use Rattle.hub_text.specs.Lines.{lines_of}
 use Rattle.hub_text.specs.Takes.{of_bytes}
 use Rattle.hub_bundle.specs.Bundle.{SectionValue, written, heading_below, heading_reading, sections_reading}
-use Rattle.hub_text.specs.LineLaws.{shorter-first_line}
+use Rattle.hub_text.specs.laws.Line.{shorter-first_line}
 use Rattle.hub_bundle.proofs.Headings.{one_section_more, faulty_section}
 use Rattle.hub_bundle.proofs.bundle.read_bundle.Goals as goal
 

@@ -4,7 +4,8 @@ use Rattle.std.proofs.lemmas.Iterator.Search.{find_from_yields_List}
 use denote.Ref.{Bor}
 use Rattle.hub_text.specs.declared.line.Line.{Line}
 use Rattle.hub_text.specs.Lines.{lines_of}
-use Rattle.hub_text.specs.Takes.{of_bytes, yields-numbered_lines}
+use Rattle.hub_text.specs.Takes.{of_bytes}
+use Rattle.hub_text.specs.laws.Takes.{yields-numbered_lines}
 use Rattle.hub_bundle.proofs.Lines.{ends_blank, unless_heading, stray_line-find}
 use Rattle.hub_bundle.proofs.bundle.stray_line_of.Goals as goal
 use Rattle.hub_bundle.specs.Files.{is_heading}

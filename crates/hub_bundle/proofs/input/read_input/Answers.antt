@@ -1,5 +1,5 @@
 use Rattle.std.proofs.Common.{◌<◌, arith, length, rules}
-use Rattle.hub_text.specs.Reads.{read-whole, taken-length}
+use Rattle.hub_text.specs.laws.Reads.{read-whole, taken-length}
 use Rattle.hub_bundle.specs.declared.input.TheConstants.{READ_TURNS}
 use Rattle.hub_bundle.proofs.input.read_input.Goals as goal
 

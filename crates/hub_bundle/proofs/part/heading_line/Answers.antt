@@ -4,7 +4,8 @@ use Rattle.std.specs.Option.{option_map}
 use Rattle.std.proofs.lemmas.Iterator.Search.{position_from_yields_List}
 use Rattle.hub_text.specs.declared.line.Line.{Line}
 use Rattle.hub_text.specs.Lines.{lines_of}
-use Rattle.hub_text.specs.Takes.{YieldsList-lines, of_bytes}
+use Rattle.hub_text.specs.Takes.{of_bytes}
+use Rattle.hub_text.specs.laws.Takes.{YieldsList-lines}
 use Rattle.hub_bundle.specs.Files.{heading_line, is_heading}
 use Rattle.hub_bundle.proofs.part.heading_line.Goals as goal
 

@@ -1,5 +1,6 @@
 use Rattle.std.proofs.Common.{◌≡◌, ℕ, ap, length, subst, arith}
-use Rattle.hub_cert.specs.Matched.{AreMade, made-more, none-made}
+use Rattle.hub_cert.specs.Matched.{AreMade}
+use Rattle.hub_cert.specs.laws.Matched.{made-more, none-made}
 use Rattle.hub_cert.proofs.matched.make_each.Goals as goal
 
 pub loop-number-init : goal.loop-number-init

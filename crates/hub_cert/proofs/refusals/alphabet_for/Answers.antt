@@ -1,6 +1,6 @@
 use Rattle.std.proofs.Common.{◌≡◌, ◌≤◌, ℕ, List, Some, length, sym, subst}
 use Rattle.std.specs.Prelude.{slice_get}
-use Rattle.hub_text.specs.Fails.{passed-up}
+use Rattle.hub_text.specs.laws.Fails.{passed-up}
 use Rattle.hub_profile.specs.Parts.{Parts, IsProfile}
 use Rattle.hub_cert.specs.Refused.{IsRefused}
 use Rattle.hub_profile.specs.declared.rule.Rule.{Rule}

@@ -4,7 +4,7 @@ use Rattle.std.proofs.lemmas.Result.{err_from_is_err_and}
 use Rattle.hub_automaton.specs.Alphabet.{RefusesCharacters, mentions, plain, spec_characters, with_characters}
 use Rattle.hub_profile.specs.Parts.{Parts}
 use Rattle.hub_reach.specs.Mention.{mentioned_by}
-use Rattle.hub_automaton.specs.AddedInTurn.{added-after, refused-after, refused-before}
+use Rattle.hub_automaton.specs.laws.AddedInTurn.{added-after, refused-after, refused-before}
 use Rattle.hub_cert.specs.Set.{mentioned_in}
 use Rattle.hub_profile.specs.declared.rule.Rule.{Rule}
 use Rattle.hub_cert.proofs.SetFacts.{all-mentioned}

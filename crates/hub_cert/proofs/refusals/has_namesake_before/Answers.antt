@@ -1,7 +1,7 @@
 use Rattle.std.proofs.Common.{◌∙◌, refl, sym, arith}
 use Rattle.std.proofs.lemmas.Bool.{false≢true}
 use Rattle.std.proofs.lemmas.Option.{slice_get_read}
-use Rattle.hub_path.specs.Laws.{name_eq-decides}
+use Rattle.hub_path.specs.laws.General.{name_eq-decides}
 use Rattle.hub_cert.proofs.SetFacts.{none-named-more, not-one-name}
 use Rattle.hub_cert.proofs.refusals.has_namesake_before.Goals as goal
 

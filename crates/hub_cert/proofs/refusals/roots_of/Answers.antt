@@ -2,7 +2,7 @@ use Rattle.std.proofs.Common.{◌∙◌, ◌++◌, ◌∷◌, [], List, map, ref
 use Rattle.std.specs.List.{flat_map}
 use Rattle.std.proofs.lemmas.List.{take_all}
 use Rattle.std.proofs.lemmas.Option.{slice_get_read, slice_get_within}
-use Rattle.hub_text.specs.ListLaws.{also-here}
+use Rattle.hub_text.specs.laws.List.{also-here}
 use Rattle.hub_path.specs.Path.{Path}
 use Rattle.hub_profile.specs.Parts.{Parts, IsProfile}
 use Rattle.hub_profile.specs.declared.rule.Rule.{Rule}

@@ -1,7 +1,7 @@
 use Rattle.std.proofs.Common.{◌∙◌, ap, sym, [], ◌∷◌, ◌++◌, arith}
 use Rattle.std.proofs.lemmas.List.{drop_all}
 use Rattle.hub_glob.specs.Glob.{choices}
-use Rattle.hub_glob.specs.Choosing.{each_with_each}
+use Rattle.hub_glob.specs.forms.Choosing.{each_with_each}
 use Rattle.hub_glob.proofs.Choosings.{chosen_step, none_chosen, all_chosen}
 use Rattle.hub_glob.proofs.choosing.choices_of.Goals as goal
 

@@ -1,6 +1,6 @@
 use Rattle.std.proofs.Common.{◌∙◌, ap, ◌++◌, map, arith}
 use Rattle.std.proofs.lemmas.List.{take_all}
-use Rattle.hub_glob.specs.Choosing.{each_with_each}
+use Rattle.hub_glob.specs.forms.Choosing.{each_with_each}
 use Rattle.hub_glob.proofs.Choosings.{each_step}
 use Rattle.hub_glob.proofs.choosing.each_with_each.Goals as goal
 

@@ -1,5 +1,5 @@
 use Rattle.std.proofs.Common.{◌≡◌, take}
-use Rattle.hub_glob.specs.Choosing.{each_with_each}
+use Rattle.hub_glob.specs.forms.Choosing.{each_with_each}
 use Rattle.hub_glob.proofs.choosing.each_with_each.Given as goal
 
 abbrev pub invariant-loop-front : goal.invariant-loop-front

@@ -1,5 +1,5 @@
 use Rattle.std.proofs.Common.{◌≡◌, ◌*◌, ◌-◌, ◌^◌, min, length, ap, ◌∙◌, arith}
-use Rattle.hub_text.specs.ListLaws.{next-drop}
+use Rattle.hub_text.specs.laws.List.{next-drop}
 use Rattle.hub_glob.proofs.Readings.{brace_counted, one_counted}
 use Rattle.hub_glob.proofs.reading.has_many_choices.Goals.{in-Brace, in_default}
 use Rattle.hub_glob.proofs.reading.has_many_choices.Goals as goal

@@ -1,6 +1,6 @@
 use Rattle.std.proofs.Common.{◌≡◌, ◌+◌, ◌-◌, ◌++◌, ◌∷◌, [], suc, ap, sym, ◌∙◌, append_assoc, arith, rules}
 use Rattle.std.specs.List.{range_with_len}
-use Rattle.hub_text.specs.ListLaws.{range-push}
+use Rattle.hub_text.specs.laws.List.{range-push}
 use Rattle.hub_glob.proofs.reading.push_codes.Goals as goal
 
 pub loop-code-preserved : goal.loop-code-preserved

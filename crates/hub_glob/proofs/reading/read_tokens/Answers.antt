@@ -5,7 +5,7 @@ use Rattle.std.proofs.lemmas.Iterator.Consumers.{YieldsList-turn, YieldsList-end
 use Rattle.std.proofs.lemmas.List.{drop_all}
 use Rattle.std.proofs.lemmas.Bool.Decides.{nat_tests}
 use Rattle.hub_glob.specs.Reading as reading
-use Rattle.hub_text.specs.TextChars.{next_character}
+use Rattle.hub_text.specs.laws.TextChars.{next_character}
 use Rattle.hub_glob.proofs.Readings.{token_escaped, token_stray, token_slash, token_plain, token_end, token_all}
 use Rattle.hub_glob.proofs.reading.read_tokens.Goals.{then-escaped-2+in_ok-push-4, else-escaped-2}
 use Rattle.hub_glob.proofs.reading.read_tokens.Goals as goal

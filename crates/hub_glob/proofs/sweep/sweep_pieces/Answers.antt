@@ -1,7 +1,7 @@
 use Rattle.std.proofs.Common.{◌+◌, drop, sym, ap, ◌∙◌, arith}
 use Rattle.std.proofs.lemmas.List.{drop_all}
 use Rattle.hub_glob.specs.Sweep.{Swept, swept_pieces}
-use Rattle.hub_text.specs.ListLaws.{next-drop}
+use Rattle.hub_text.specs.laws.List.{next-drop}
 use Rattle.hub_glob.proofs.sweep.sweep_pieces.Goals as goal
 
 pub loop-piece-preserved : goal.loop-piece-preserved

@@ -1,6 +1,6 @@
 use Rattle.std.proofs.Common.{◌∙◌, List, ℕ, bytes_eq}
 use denote.Ref.{Bor}
-use Rattle.hub_text.specs.TestLaws.{any-map}
+use Rattle.hub_text.specs.laws.Test.{any-map}
 use Rattle.hub_include.proofs.lines.is_open.Goals as goal
 
 pub returns : goal.returns

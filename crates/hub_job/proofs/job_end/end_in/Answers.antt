@@ -3,7 +3,7 @@ use Rattle.std.specs.Prelude.{if◌then◌else◌}
 use Rattle.hub_job.specs.declared.job_end.End.TheVariants as end
 use Rattle.hub_job.specs.Ends.{end_by}
 use Rattle.hub_job.specs.Job.{next}
-use Rattle.hub_job.specs.Laws.Finishing.{finished_by}
+use Rattle.hub_job.specs.laws.Finishing.{finished_by}
 use Rattle.hub_job.proofs.Jobs.{ends_as}
 use Rattle.hub_job.proofs.job_end.end_in.Goals as goal
 

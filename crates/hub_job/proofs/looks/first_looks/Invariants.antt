@@ -1,6 +1,6 @@
 use Rattle.std.proofs.Common.{◌≡◌, [], drop}
 use Rattle.std.specs.Prelude.{fold}
-use Rattle.hub_job.specs.Waiting.{put_kept}
+use Rattle.hub_job.specs.forms.Waiting.{put_kept}
 use Rattle.hub_job.proofs.looks.first_looks.Given as goal
 
 abbrev pub invariant-loop-kept : goal.invariant-loop-kept

@@ -1,6 +1,6 @@
 use Rattle.std.proofs.Common.{sym, ◌∙◌}
 use Rattle.std.proofs.lemmas.Bool.{eqb-true}
-use Rattle.hub_text.specs.ListLaws.{no-items}
+use Rattle.hub_text.specs.laws.List.{no-items}
 use Rattle.hub_job.proofs.OpenNames.{all_reached, no_others}
 use Rattle.hub_job.proofs.machine.seen_names.Goals as goal
 

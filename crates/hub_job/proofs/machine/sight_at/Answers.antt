@@ -2,7 +2,7 @@ use Rattle.std.proofs.Common.{Bool, false, ◌&&◌, List, sym, ap, ◌∙◌}
 use Rattle.std.proofs.lemmas.Result.{IfOk-weaker}
 use Rattle.hub_path.specs.Path.{Name}
 use Rattle.hub_reach.specs.Reach.{writes_at}
-use Rattle.hub_reach.specs.Laws.{reach-below}
+use Rattle.hub_reach.specs.laws.General.{reach-below}
 use Rattle.hub_tree.specs.Tree.{contents_at, is_directory}
 use Rattle.hub_reconcile.specs.Sight.{Sight, directory_or_absent}
 use Rattle.hub_job.proofs.Performs.{sees_reached, sees_top, sees_elsewhere}

@@ -1,7 +1,7 @@
 use Rattle.std.proofs.Common.{◌≡◌, ◌<◌, ◌+◌, ◌-◌, List, [], length, take, get_or, refl, ap, sym, ◌∙◌, arith}
 use Rattle.std.specs.Prelude.{ℕ}
 use Rattle.std.proofs.lemmas.List.{take_more}
-use Rattle.hub_job.specs.Laws.Making.{fetched_last-push}
+use Rattle.hub_job.specs.laws.Making.{fetched_last-push}
 use Rattle.hub_job.specs.declared.answer.Answer.{Answer}
 use Rattle.hub_job.specs.declared.answer.Answer.TheVariants.{Seen, Bytes, Done, Refused}
 use Rattle.hub_job.specs.declared.log.Logged.{Logged}

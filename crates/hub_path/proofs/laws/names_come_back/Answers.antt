@@ -1,4 +1,4 @@
-use Rattle.hub_path.specs.Laws.{path_of-text_of}
+use Rattle.hub_path.specs.laws.General.{path_of-text_of}
 use Rattle.hub_path.proofs.laws.names_come_back.Goals as goal
 
 pub returns : goal.returns

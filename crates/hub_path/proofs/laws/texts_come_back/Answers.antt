@@ -1,4 +1,4 @@
-use Rattle.hub_path.specs.Laws.{text_of-read, text_of-root_read, root_read-slash}
+use Rattle.hub_path.specs.laws.General.{text_of-read, text_of-root_read, root_read-slash}
 use Rattle.hub_path.proofs.laws.texts_come_back.Goals as goal
 
 pub returns-clause-path : goal.returns-clause-path

@@ -1,4 +1,4 @@
-use Rattle.hub_path.specs.ReadBack.{name_reading-short, path_reading-short, root_reading-short}
+use Rattle.hub_path.specs.laws.ReadBack.{name_reading-short, path_reading-short, root_reading-short}
 use Rattle.hub_path.proofs.laws.texts_within_the_limits_are_read.Goals as goal
 
 pub returns-clause-name : goal.returns-clause-name

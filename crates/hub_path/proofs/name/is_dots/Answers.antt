@@ -1,5 +1,5 @@
 use Rattle.std.proofs.Common.{[], ◌∷◌, arith}
-use Rattle.hub_text.specs.Texts.{bytes_eq-chars, dot_ascii, dots_ascii}
+use Rattle.hub_text.specs.laws.Texts.{bytes_eq-chars, dot_ascii, dots_ascii}
 use Rattle.hub_path.proofs.name.is_dots.Goals as goal
 
 pub returns-then-eq : goal.returns-then-eq

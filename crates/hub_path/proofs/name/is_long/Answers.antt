@@ -1,7 +1,7 @@
 use Rattle.std.proofs.Common.{sym, ap, ◌∙◌}
 use Rattle.std.specs.Prelude.{nat_lt, length}
 use Rattle.std.proofs.lemmas.Str.{encodes-chars}
-use Rattle.hub_text.specs.Texts.{length-encodes}
+use Rattle.hub_text.specs.laws.Texts.{length-encodes}
 use Rattle.hub_path.specs.declared.name.TheConstants.{NAME_BYTES}
 use Rattle.hub_path.proofs.name.is_long.Goals as goal
 

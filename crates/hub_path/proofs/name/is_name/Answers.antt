@@ -1,6 +1,6 @@
 use Rattle.std.proofs.Common.{◌∙◌, chars}
 use Rattle.std.proofs.lemmas.Str.{scalars-chars}
-use Rattle.hub_path.specs.NameFacts.{is_name-tests}
+use Rattle.hub_path.specs.laws.NameFacts.{is_name-tests}
 use Rattle.hub_path.proofs.name.is_name.Goals as goal
 
 pub returns : goal.returns

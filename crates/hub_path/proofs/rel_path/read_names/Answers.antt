@@ -4,10 +4,10 @@ use Rattle.std.proofs.lemmas.List.{length_push}
 use Rattle.std.proofs.lemmas.Result.{err_from_is_err_and}
 use Rattle.std.proofs.lemmas.Bool.{eq-eqb, ne_eqb}
 use Rattle.std.proofs.lemmas.Iterator.Consumers.{YieldsList-turn, YieldsList-end}
-use Rattle.hub_text.specs.TextParts.{part-chars, length-parts}
+use Rattle.hub_text.specs.laws.TextParts.{part-chars, length-parts}
 use Rattle.hub_path.specs.Path.{path_of}
 use Rattle.hub_path.specs.declared.rel_path.TheConstants.{PATH_NAMES}
-use Rattle.hub_path.specs.ReadNames.{fault-deep, fault-name, read-more, read-all}
+use Rattle.hub_path.specs.laws.ReadNames.{fault-deep, fault-name, read-more, read-all}
 use Rattle.hub_path.proofs.Loops.{parts_of_text}
 use Rattle.hub_path.proofs.rel_path.read_names.Goals as goal
 

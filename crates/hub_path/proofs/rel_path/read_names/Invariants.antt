@@ -1,7 +1,7 @@
 use Rattle.std.proofs.Common.{length}
 use Rattle.std.specs.Str.{chars}
 use Rattle.hub_path.specs.Path.{path_of}
-use Rattle.hub_path.specs.ReadNames.{ReadSoFar}
+use Rattle.hub_path.specs.laws.ReadNames.{ReadSoFar}
 use Rattle.hub_path.proofs.rel_path.read_names.Given as goal
 
 abbrev pub invariant-loop-part : goal.invariant-loop-part

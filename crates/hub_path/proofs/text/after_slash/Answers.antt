@@ -1,6 +1,6 @@
 use Rattle.std.proofs.Common.{lit<}
 use Rattle.std.proofs.lemmas.Str.Pattern.{strip_prefix_char}
-use Rattle.hub_path.specs.Ascii.{slash-cut}
+use Rattle.hub_path.specs.laws.Ascii.{slash-cut}
 use Rattle.hub_path.proofs.text.after_slash.Goals as goal
 
 pub returns : goal.returns

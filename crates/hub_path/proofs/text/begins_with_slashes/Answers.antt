@@ -1,6 +1,6 @@
 use Rattle.std.proofs.Common.{◌∙◌, codes, refl}
 use Rattle.std.proofs.lemmas.Str.Pattern.{starts_text}
-use Rattle.hub_text.specs.Ascii.{starts-text}
+use Rattle.hub_text.specs.laws.Ascii.{starts-text}
 use Rattle.hub_path.proofs.text.begins_with_slashes.Goals as goal
 
 pub returns : goal.returns

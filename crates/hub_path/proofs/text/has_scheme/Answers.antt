@@ -1,6 +1,6 @@
 use Rattle.std.proofs.Common.{◌∙◌, ap}
 use Rattle.hub_path.specs.Reading.{has_scheme}
-use Rattle.hub_path.specs.Ascii.{has_scheme-text}
+use Rattle.hub_path.specs.laws.Ascii.{has_scheme-text}
 use Rattle.hub_path.proofs.text.has_scheme.Goals as goal
 
 pub returns : goal.returns

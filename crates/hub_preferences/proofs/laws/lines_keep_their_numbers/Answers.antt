@@ -1,4 +1,4 @@
-use Rattle.hub_preferences.specs.CountedLaws.{lines_of-counted_bundle, length-lines_of-counted_bundle}
+use Rattle.hub_preferences.specs.laws.Counted.{lines_of-counted_bundle, length-lines_of-counted_bundle}
 use Rattle.hub_preferences.proofs.laws.lines_keep_their_numbers.Goals as goal
 
 pub returns-clause-lines : goal.returns-clause-lines

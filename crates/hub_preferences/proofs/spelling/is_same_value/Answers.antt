@@ -1,5 +1,5 @@
 use Rattle.std.proofs.Common.{◌∙◌, bytes_eq}
-use Rattle.hub_text.specs.Texts.{same_texts}
+use Rattle.hub_text.specs.laws.Texts.{same_texts}
 use Rattle.hub_preferences.proofs.spelling.is_same_value.Goals as goal
 
 pub returns : goal.returns

@@ -2,7 +2,7 @@ use Rattle.std.proofs.Common.{◌∙◌, ◌++◌, length, sym, ap, lit<, refl, 
 use Rattle.std.specs.Str.{chars}
 use Rattle.std.proofs.lemmas.List.{length_push}
 use Rattle.std.proofs.lemmas.Iterator.Consumers.{YieldsList-turn, YieldsList-end}
-use Rattle.hub_text.specs.TextParts.{part-chars, length-parts}
+use Rattle.hub_text.specs.laws.TextParts.{part-chars, length-parts}
 use Rattle.hub_path.specs.Path.{path_of}
 use Rattle.hub_preferences.proofs.SpelledNames.{parts_of_text, skipped, more, none, whole}
 use Rattle.hub_preferences.proofs.spelling.names_of.Goals as goal

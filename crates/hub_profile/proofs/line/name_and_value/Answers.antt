@@ -1,7 +1,7 @@
 use Rattle.std.proofs.Common.{◌∙◌, ◌==◌, ap, Some, None}
 use Rattle.std.specs.Str.Pattern.{FindsChar}
 use Rattle.hub_profile.specs.Lines.{trimmed}
-use Rattle.hub_text.specs.TextCuts.{parted, finds_by}
+use Rattle.hub_text.specs.laws.TextCuts.{parted, finds_by}
 use Rattle.hub_profile.proofs.line.name_and_value.Goals as goal
 
 pub returns-in_err-name : goal.returns-in_err-name

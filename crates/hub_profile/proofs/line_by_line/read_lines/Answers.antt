@@ -8,7 +8,8 @@ use Rattle.std.specs.Iterator.Adapters.{enumerate_source, enumerate_count, enume
 use Rattle.std.proofs.lemmas.Iterator.{YieldsList}
 use Rattle.hub_text.specs.declared.line.Line.{Line}
 use Rattle.hub_text.specs.Lines.{lines_of}
-use Rattle.hub_text.specs.Takes.{Takes, of_text, yields-numbered_lines, numbered_turn, numbered_end}
+use Rattle.hub_text.specs.Takes.{Takes, of_text}
+use Rattle.hub_text.specs.laws.Takes.{yields-numbered_lines, numbered_turn, numbered_end}
 use Rattle.hub_profile.proofs.Runs.{taken, at_fault, all_taken}
 use Rattle.hub_profile.proofs.line_by_line.read_lines.Goals as goal
 

@@ -1,5 +1,5 @@
 use Rattle.std.proofs.Common.{◌∙◌, ◌||◌, false, codes, refl}
-use Rattle.hub_text.specs.AsciiWords.{word_is}
+use Rattle.hub_text.specs.laws.AsciiWords.{word_is}
 use Rattle.hub_profile.proofs.protection.is_newer_or_older.Goals as goal
 
 pub returns : goal.returns

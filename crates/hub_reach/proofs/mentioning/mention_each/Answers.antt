@@ -1,6 +1,6 @@
 use Rattle.std.proofs.Common.{arith}
 use Rattle.std.proofs.lemmas.Result.{err_from_is_err_and}
-use Rattle.hub_automaton.specs.AddedInTurn.{added-more, added-all, refused-one}
+use Rattle.hub_automaton.specs.laws.AddedInTurn.{added-more, added-all, refused-one}
 use Rattle.hub_reach.proofs.Grows.{partly-one}
 use Rattle.hub_reach.proofs.mentioning.mention_each.Goals as goal
 

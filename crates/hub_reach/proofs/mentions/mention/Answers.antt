@@ -8,8 +8,8 @@ use Rattle.hub_path.specs.Path.{Path}
 use Rattle.hub_profile.specs.Parts.{Parts}
 use Rattle.hub_profile.specs.declared.partial.Partial.{Partial}
 use Rattle.hub_reach.specs.Mention.{mentioned_by, partial_characters, IsPartly}
-use Rattle.hub_automaton.specs.AddedInTurn.{added-after, refused-before, refused-after}
-use Rattle.hub_reach.specs.MentionLaws.{says-all}
+use Rattle.hub_automaton.specs.laws.AddedInTurn.{added-after, refused-before, refused-after}
+use Rattle.hub_reach.specs.laws.Mention.{says-all}
 use Rattle.hub_reach.proofs.Grows.{partly-before, partly-after}
 use Rattle.hub_reach.proofs.mentions.mention.Goals as goal
 

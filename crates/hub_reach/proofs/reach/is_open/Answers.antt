@@ -1,6 +1,6 @@
 use Rattle.std.proofs.Common.{◌∙◌, not, sym, ap, arith}
 use Rattle.hub_reach.specs.Reach.{is_ignored}
-use Rattle.hub_reach.specs.PrefixLaws.{closed-at, open-ignored, open-short}
+use Rattle.hub_reach.specs.laws.Prefix.{closed-at, open-ignored, open-short}
 use Rattle.hub_reach.proofs.reach.is_open.Goals as goal
 use Rattle.hub_reach.proofs.reach.is_open.Goals.{else-len-i-via-then-len-i+else-is_ignored, else-len-i-via-else-len-i}
 

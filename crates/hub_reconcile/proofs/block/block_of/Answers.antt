@@ -1,7 +1,7 @@
 use Rattle.std.proofs.Common.{◌≡◌, ◌≤◌, ℕ, true, ◌∷◌, take, length, Some, ap, sym, ◌∙◌, subst}
 use Rattle.std.proofs.lemmas.List.{length-take-le}
 use Rattle.std.proofs.lemmas.List.Sums.{prefix_len-le-length}
-use Rattle.hub_reconcile.specs.Blocks.{IsFated}
+use Rattle.hub_reconcile.specs.forms.Blocks.{IsFated}
 use Rattle.hub_reconcile.specs.Rows.{AreRows, is_different, paths_of}
 use Rattle.hub_reconcile.specs.Shown.{shown}
 use Rattle.hub_reconcile.proofs.Pictured.{plain_fated, tops_rows, tops_below, tops_all, item_fated}

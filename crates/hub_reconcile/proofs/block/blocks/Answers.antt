@@ -1,6 +1,6 @@
 use Rattle.std.proofs.Common.{◌-◌, ◌≤◌, List, take, drop, length, sym, subst, arith}
 use Rattle.std.specs.List.{flat_map}
-use Rattle.hub_reconcile.specs.Blocks.{block_paths}
+use Rattle.hub_reconcile.specs.forms.Blocks.{block_paths}
 use Rattle.hub_reconcile.specs.declared.row.Row.{Row}
 use Rattle.hub_reconcile.proofs.Cutting.{at_start, first_cut, one_block, all_cut, rows_fit}
 use Rattle.hub_reconcile.proofs.block.blocks.Goals as goal

@@ -1,6 +1,6 @@
 use Rattle.std.proofs.Common.{length}
 use Rattle.std.specs.List.{flat_map}
-use Rattle.hub_reconcile.specs.Blocks.{AreBlocks, IsCut, block_paths}
+use Rattle.hub_reconcile.specs.forms.Blocks.{AreBlocks, IsCut, block_paths}
 use Rattle.hub_reconcile.specs.Shown.{shown}
 use Rattle.hub_reconcile.proofs.block.blocks.Given as goal
 

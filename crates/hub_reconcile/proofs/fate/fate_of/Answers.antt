@@ -1,6 +1,6 @@
 use Rattle.std.proofs.Common.{sym, ap, ◌∙◌}
 use Rattle.std.proofs.lemmas.Result.{IfOk-weaker}
-use Rattle.hub_reconcile.specs.Fates.{source}
+use Rattle.hub_reconcile.specs.forms.Fates.{source}
 use Rattle.hub_reconcile.specs.Picture.{told_by}
 use Rattle.hub_reconcile.specs.Sync.{of_side}
 use Rattle.hub_reconcile.proofs.Fated.{fate_of_some, fate_of_none}

@@ -1,4 +1,4 @@
-use Rattle.hub_reconcile.specs.Laws.Needed.{needs_look}
+use Rattle.hub_reconcile.specs.laws.Needed.{needs_look}
 use Rattle.hub_reconcile.proofs.laws.a_reached_path_needs_a_look.Goals as goal
 
 pub returns : goal.returns

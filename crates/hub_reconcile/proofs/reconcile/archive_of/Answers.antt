@@ -6,7 +6,7 @@ use Rattle.hub_path.specs.Path.{Path}
 use Rattle.hub_tree.specs.Marked.{with_entries}
 use Rattle.hub_tree.specs.Tree.{Archive, IsArchive}
 use Rattle.hub_tree.specs.declared.contents.Mark.{Mark}
-use Rattle.hub_reconcile.specs.Blocks.{HaveMarkNames, block_marks, kept_marks}
+use Rattle.hub_reconcile.specs.forms.Blocks.{HaveMarkNames, block_marks, kept_marks}
 use Rattle.hub_reconcile.specs.Merge.{told_marks}
 use Rattle.hub_reconcile.specs.Picture.{told_by}
 use Rattle.hub_reconcile.specs.Shown.{shown}

@@ -1,5 +1,5 @@
 use Rattle.std.proofs.Common.{List, sym, subst}
-use Rattle.hub_reconcile.specs.Blocks.{IsPartition}
+use Rattle.hub_reconcile.specs.forms.Blocks.{IsPartition}
 use Rattle.hub_reconcile.specs.declared.block.Block.{Block}
 use Rattle.hub_reconcile.specs.Shown.{shown}
 use Rattle.hub_reconcile.proofs.reconcile.items_and_archive.Goals as goal

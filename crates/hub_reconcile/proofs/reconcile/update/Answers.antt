@@ -1,6 +1,6 @@
 use Rattle.std.proofs.Common.{◌-◌, ◌++◌, ◌∷◌, [], List, map, take, drop, length, ap, sym, ◌∙◌, subst, append-nil, arith}
 use Rattle.hub_tree.specs.Marked.{marked_entries}
-use Rattle.hub_reconcile.specs.Blocks.{HaveNames, row_told}
+use Rattle.hub_reconcile.specs.forms.Blocks.{HaveNames, row_told}
 use Rattle.hub_reconcile.specs.declared.row.Row.{Row}
 use Rattle.hub_reconcile.proofs.Loops.{head_rest, marks_next}
 use Rattle.hub_reconcile.proofs.reconcile.update.Goals as goal

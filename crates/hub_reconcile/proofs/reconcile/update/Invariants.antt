@@ -1,5 +1,5 @@
 use Rattle.std.proofs.Common.{◌≡◌, ◌++◌, length, map}
-use Rattle.hub_reconcile.specs.Blocks.{HaveNames, kept_marks, row_told}
+use Rattle.hub_reconcile.specs.forms.Blocks.{HaveNames, kept_marks, row_told}
 use Rattle.hub_reconcile.proofs.reconcile.update.Given as goal
 
 abbrev pub invariant-loop-rest : goal.invariant-loop-rest

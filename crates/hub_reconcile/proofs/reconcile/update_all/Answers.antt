@@ -1,6 +1,6 @@
 use Rattle.std.proofs.Common.{◌-◌, ◌++◌, List, take, drop, length, ap, sym, ◌∙◌, subst, append-nil, arith}
 use Rattle.std.specs.List.{flat_map}
-use Rattle.hub_reconcile.specs.Blocks.{HaveAllNames, block_marks, kept_marks}
+use Rattle.hub_reconcile.specs.forms.Blocks.{HaveAllNames, block_marks, kept_marks}
 use Rattle.hub_reconcile.specs.declared.block.Block.{Block}
 use Rattle.hub_reconcile.proofs.Loops.{head_rest, none_left, marks_next}
 use Rattle.hub_reconcile.proofs.reconcile.update_all.Goals as goal

@@ -1,7 +1,7 @@
 use Rattle.std.proofs.Common.{◌∙◌, ℕ, get_or, refl, sym, arith}
 use Rattle.std.proofs.lemmas.Bool.{true≢false}
 use Rattle.std.proofs.lemmas.Option.{slice_get-get_or, slice_get_within}
-use Rattle.hub_text.specs.ListLaws.{also-here}
+use Rattle.hub_text.specs.laws.List.{also-here}
 use Rattle.hub_rounds.specs.Lines.{HasPair}
 use Rattle.hub_rounds.proofs.clique.clash_with_all.Goals as goal
 

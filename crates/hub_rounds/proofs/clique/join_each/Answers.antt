@@ -1,5 +1,5 @@
 use Rattle.std.proofs.Common.{ℕ, ⊎_elim, subst, sym, arith}
-use Rattle.hub_text.specs.ListLaws.{less-or-same}
+use Rattle.hub_text.specs.laws.List.{less-or-same}
 use Rattle.hub_rounds.specs.Rounds.{HasJoined}
 use Rattle.hub_rounds.proofs.Rivals.{are-whole}
 use Rattle.hub_rounds.proofs.clique.join_each.Goals as goal

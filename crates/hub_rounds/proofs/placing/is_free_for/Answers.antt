@@ -1,6 +1,6 @@
 use Rattle.std.proofs.Common.{◌≡◌, ◌∙◌, ℕ, true, Some, ap, sym, arith}
 use Rattle.std.proofs.lemmas.Option.{slice_get-get_or, slice_get_within}
-use Rattle.hub_text.specs.ListLaws.{also-here, at-place}
+use Rattle.hub_text.specs.laws.List.{also-here, at-place}
 use Rattle.hub_cert.specs.declared.fault.CheckFault.{CheckFault}
 use Rattle.hub_rounds.specs.Lines.{names_pair, subject_of}
 use Rattle.hub_rounds.specs.Rounds.{StandsIn}

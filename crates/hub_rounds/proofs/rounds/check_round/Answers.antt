@@ -1,4 +1,4 @@
-use Rattle.hub_rounds.specs.RoundsLaws.{refused-by-check}
+use Rattle.hub_rounds.specs.laws.Rounds.{refused-by-check}
 use Rattle.hub_rounds.proofs.rounds.check_round.Goals as goal
 
 pub returns-in-Err-clause-refused : goal.returns-in-Err-clause-refused

@@ -1,8 +1,8 @@
 use Rattle.std.proofs.Common.{◌≡◌, ◌∙◌, ◌++◌, ◌∷◌, [], ⊎_elim, ℕ, not, List, filter, map, refl, sym, ap, ap₂, subst, arith}
 use Rattle.std.specs.List.{range_with_len}
 use Rattle.std.proofs.lemmas.List.FromFn.{map-range_with_len_more}
-use Rattle.hub_text.specs.Fails.{passed-up}
-use Rattle.hub_text.specs.ListLaws.{less-or-same}
+use Rattle.hub_text.specs.laws.Fails.{passed-up}
+use Rattle.hub_text.specs.laws.List.{less-or-same}
 use Rattle.hub_profile.specs.Parts.{Parts}
 use Rattle.hub_profile.specs.declared.rule.Rule.{Rule}
 use Rattle.hub_cert.specs.Set.{IsSafeSet}

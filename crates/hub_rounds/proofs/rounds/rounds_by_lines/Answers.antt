@@ -1,5 +1,5 @@
 use Rattle.std.proofs.Common.{◌∙◌, List, refl, subst}
-use Rattle.hub_text.specs.Fails.{passed-up}
+use Rattle.hub_text.specs.laws.Fails.{passed-up}
 use Rattle.hub_cert.specs.Set.{Members}
 use Rattle.hub_rounds.specs.Rounds.{AreRivals, AreWhole}
 use Rattle.hub_rounds.specs.Unverified.{IsRoundsFault}

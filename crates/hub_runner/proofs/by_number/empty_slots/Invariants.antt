@@ -1,5 +1,5 @@
 use Rattle.std.proofs.Common.{◌≡◌}
-use Rattle.hub_runner.specs.Slots.{empty}
+use Rattle.hub_runner.specs.forms.Slots.{empty}
 use Rattle.hub_runner.proofs.by_number.empty_slots.Given as goal
 
 abbrev pub invariant-loop : goal.invariant-loop

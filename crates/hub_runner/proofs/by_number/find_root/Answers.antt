@@ -1,9 +1,9 @@
 use Rattle.std.proofs.Common.{◌≡◌, false, refl, arith}
 use Rattle.std.proofs.lemmas.Option.{slice_get_read, slice_get_within}
-use Rattle.hub_text.specs.ListLaws.{also-here}
+use Rattle.hub_text.specs.laws.List.{also-here}
 use Rattle.hub_profile.specs.Parts.{Parts}
 use Rattle.hub_reach.specs.Reach.{has_root}
-use Rattle.hub_schedule.specs.Laws.Lists.{any-at}
+use Rattle.hub_schedule.specs.laws.Lists.{any-at}
 use Rattle.hub_runner.proofs.Lists.{none_any}
 use Rattle.hub_runner.proofs.by_number.find_root.Goals as goal
 

@@ -1,9 +1,9 @@
 use Rattle.std.proofs.Common.{◌≡◌, ap, sym, ◌∙◌}
-use Rattle.hub_reconcile.specs.Laws.Views.{same_paths}
+use Rattle.hub_reconcile.specs.laws.Views.{same_paths}
 use Rattle.hub_path.specs.declared.side.Side.TheVariants.{Left, Right}
 use Rattle.hub_reconcile.specs.Sync.{root_or_top}
 use Rattle.hub_job.specs.Run.{root_at}
-use Rattle.hub_job.specs.Laws.Roots.{has_own}
+use Rattle.hub_job.specs.laws.Roots.{has_own}
 use Rattle.hub_runner.proofs.Roots.{no_root}
 use Rattle.hub_runner.proofs.by_number.root_of.Goals as goal
 

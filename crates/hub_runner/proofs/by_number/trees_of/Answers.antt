@@ -4,7 +4,7 @@ use Rattle.hub_path.specs.Path.{Path}
 use Rattle.hub_reach.specs.Reach.{has_root}
 use Rattle.hub_history.specs.Book.{BookValue}
 use Rattle.hub_schedule.specs.declared.slot.WorkingTree.{WorkingTree}
-use Rattle.hub_runner.specs.Ordered.{AreTreesOf, is_due, of_book, of_tree}
+use Rattle.hub_runner.specs.forms.Ordered.{AreTreesOf, is_due, of_book, of_tree}
 use Rattle.hub_runner.proofs.Trees.{trees_more, trees_skip}
 use Rattle.hub_runner.proofs.by_number.trees_of.Goals as goal
 

@@ -1,4 +1,4 @@
-use Rattle.hub_runner.specs.Ordered.{AreTreesOf}
+use Rattle.hub_runner.specs.forms.Ordered.{AreTreesOf}
 use Rattle.hub_runner.proofs.by_number.trees_of.Given as goal
 
 abbrev pub invariant-loop-book : goal.invariant-loop-book

@@ -1,9 +1,9 @@
 use Rattle.std.proofs.Common.{◌≡◌, refl, sym, ◌∙◌, arith}
 use Rattle.std.proofs.lemmas.Bool.{iff_false}
 use Rattle.std.proofs.lemmas.Option.{slice_get_read, slice_get_within}
-use Rattle.hub_text.specs.ListLaws.{also-here}
+use Rattle.hub_text.specs.laws.List.{also-here}
 use Rattle.hub_job.specs.JobValue.{JobValue}
-use Rattle.hub_runner.specs.Inconsistent.{IsOf}
+use Rattle.hub_runner.specs.forms.Inconsistent.{IsOf}
 use Rattle.hub_runner.proofs.inconsistent.are_of.Goals as goal
 use Rattle.hub_runner.proofs.inconsistent.are_of.Goals.{else-number-via-then-number+else-not-made_for, else-number-via-else-number}
 

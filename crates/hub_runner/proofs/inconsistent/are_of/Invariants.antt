@@ -1,7 +1,7 @@
 use Rattle.std.proofs.Common.{◌≡◌, ◌<◌, ℕ, Some}
 use Rattle.std.specs.Prelude.{slice_get}
 use Rattle.hub_job.specs.JobValue.{JobValue}
-use Rattle.hub_runner.specs.Inconsistent.{IsOf}
+use Rattle.hub_runner.specs.forms.Inconsistent.{IsOf}
 use Rattle.hub_runner.proofs.inconsistent.are_of.Given as goal
 
 abbrev pub invariant-loop-job : goal.invariant-loop-job

@@ -1,7 +1,7 @@
 use Rattle.std.proofs.Common.{◌≡◌, ◌+◌, ℕ, Option, Some, refl, ap, sym, ◌∙◌, subst}
 use Rattle.std.specs.Prelude.{slice_get}
 use Rattle.std.proofs.lemmas.Option.{slice_get_read}
-use Rattle.hub_runner.specs.Inconsistent.{lower_at}
+use Rattle.hub_runner.specs.forms.Inconsistent.{lower_at}
 use Rattle.hub_runner.proofs.Least.{LeastUpTo, least_more, least_of_all}
 use Rattle.hub_runner.proofs.inconsistent.find_least.Goals as goal
 

@@ -4,7 +4,7 @@ use Rattle.hub_cert.specs.Set.{Members, forbidden_by}
 use Rattle.hub_profile.specs.Parts.{Parts}
 use Rattle.hub_schedule.specs.Promise.{Settles}
 use Rattle.hub_schedule.specs.Settled.{AreProfiles}
-use Rattle.hub_schedule.specs.Laws.Unchanged.{IsStateFor}
+use Rattle.hub_schedule.specs.laws.Unchanged.{IsStateFor}
 use Rattle.hub_runner.specs.Settling.{AreCompared, history_at}
 use Rattle.hub_runner.proofs.Settlement.{promise_for}
 use Rattle.hub_runner.proofs.settling.settle.Goals as goal

@@ -1,5 +1,5 @@
 use Rattle.std.proofs.Common.{ℕ, length, ap, sym, subst}
-use Rattle.hub_runner.specs.Ordered.{AreNumbered}
+use Rattle.hub_runner.specs.forms.Ordered.{AreNumbered}
 use Rattle.hub_runner.proofs.Fitting.{all_end, all_settle, are_numbered, fit_together}
 use Rattle.hub_runner.proofs.settling.settle_all.Goals as goal
 

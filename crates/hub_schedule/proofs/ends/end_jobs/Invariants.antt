@@ -1,5 +1,5 @@
 use Rattle.std.proofs.Common.{◌≡◌, map}
-use Rattle.hub_schedule.specs.Left.{end_value, next_value}
+use Rattle.hub_schedule.specs.forms.Left.{end_value, next_value}
 use Rattle.hub_schedule.proofs.ends.end_jobs.Given as goal
 
 abbrev pub invariant-loop-slot : goal.invariant-loop-slot

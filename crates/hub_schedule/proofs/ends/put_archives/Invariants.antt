@@ -2,7 +2,7 @@ use Rattle.std.proofs.Common.{◌≡◌, ◌≢◌, ◌||◌, vec_len}
 use Rattle.std.specs.Prelude.{IsTrue, is_some}
 use Rattle.hub_path.specs.Path.{Path, is_place}
 use Rattle.hub_state.specs.State.{archive_at}
-use Rattle.hub_schedule.specs.Left.{AreKept, mark_from, mark_in, one_is_left}
+use Rattle.hub_schedule.specs.forms.Left.{AreKept, mark_from, mark_in, one_is_left}
 use Rattle.hub_schedule.proofs.ends.put_archives.Given as goal
 
 abbrev pub invariant-loop-job : goal.invariant-loop-job

@@ -1,4 +1,4 @@
-use Rattle.hub_schedule.specs.Left.{has_pair, mark_given, HasArchives, HasMarks}
+use Rattle.hub_schedule.specs.forms.Left.{has_pair, mark_given, HasArchives, HasMarks}
 use Rattle.hub_schedule.proofs.Marked.{on_ok, put_at_roots, roots_differ, there_at_roots}
 use Rattle.hub_schedule.proofs.ends.put_marks.Goals as goal
 

@@ -1,5 +1,5 @@
 use Rattle.std.proofs.Common.{List, [], ◌∷◌, ◌++◌, sym, ap, ◌∙◌, subst, append-nil, append_assoc}
-use Rattle.hub_reconcile.specs.Laws.Views.{reach-names}
+use Rattle.hub_reconcile.specs.laws.Views.{reach-names}
 use Rattle.hub_path.specs.Path.{Path}
 use Rattle.hub_tree.specs.Tree.{Archive, with_mark}
 use Rattle.hub_tree.specs.declared.contents.Mark.{Mark}

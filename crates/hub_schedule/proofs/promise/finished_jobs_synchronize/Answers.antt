@@ -1,5 +1,5 @@
 use Rattle.hub_schedule.proofs.Kept.{all_finished}
-use Rattle.hub_schedule.specs.Laws.Unchanged.{foreign, marks_stay}
+use Rattle.hub_schedule.specs.laws.Unchanged.{foreign, marks_stay}
 use Rattle.hub_schedule.proofs.promise.finished_jobs_synchronize.Goals as goal
 
 pub returns-clause-finished : goal.returns-clause-finished

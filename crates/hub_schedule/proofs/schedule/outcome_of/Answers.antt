@@ -2,7 +2,7 @@ use Rattle.std.proofs.Common.{◌≡◌, ◌∙◌, ap, sym, subst}
 use Rattle.std.specs.Prelude.{fold, map}
 use Rattle.hub_state.specs.State.{State}
 use Rattle.hub_job.specs.declared.outcome.Outcome.{Outcome}
-use Rattle.hub_schedule.specs.Left.{AreKept, HasArchives, HasMarks, mark_from, next_value, one_is_left, put_tree}
+use Rattle.hub_schedule.specs.forms.Left.{AreKept, HasArchives, HasMarks, mark_from, next_value, one_is_left, put_tree}
 use Rattle.hub_schedule.proofs.Joined.{joined, was_stopped, went_on}
 use Rattle.hub_schedule.proofs.Unreached.{all_kept}
 use Rattle.hub_schedule.proofs.schedule.outcome_of.Goals as goal

@@ -1,7 +1,7 @@
 use Rattle.std.proofs.Common.{sym}
 use Rattle.std.specs.Prelude.{slice_index_or}
 use Rattle.std.proofs.lemmas.Option.{slice_get-get_or}
-use Rattle.hub_schedule.specs.Laws.Missing.{have_replicas}
+use Rattle.hub_schedule.specs.laws.Missing.{have_replicas}
 use Rattle.hub_schedule.proofs.schedule.simulate_jobs.Goals as goal
 
 pub run_schedule-requires : goal.run_schedule-requires

@@ -1,9 +1,9 @@
 use Rattle.std.proofs.Common.{◌≢◌, Some, refl, ap, sym, ◌∙◌}
 use Rattle.std.proofs.lemmas.Bool.{false≢true}
 use Rattle.std.proofs.lemmas.Option.{slice_get_read}
-use Rattle.hub_text.specs.ListLaws.{also-here}
-use Rattle.hub_reconcile.specs.Laws.Views.{same_paths}
-use Rattle.hub_job.specs.Laws.Untouched.{path-of_Some}
+use Rattle.hub_text.specs.laws.List.{also-here}
+use Rattle.hub_reconcile.specs.laws.Views.{same_paths}
+use Rattle.hub_job.specs.laws.Untouched.{path-of_Some}
 use Rattle.hub_schedule.specs.declared.slot.WorkingTree.{WorkingTree}
 use Rattle.hub_schedule.proofs.slots.find_tree.Goals as goal
 

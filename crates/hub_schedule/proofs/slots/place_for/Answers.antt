@@ -1,6 +1,6 @@
 use Rattle.std.proofs.Common.{◌≡◌, List, length, Some, slice_get, refl, sym, subst, arith}
 use Rattle.std.proofs.lemmas.Option.{slice_get_within}
-use Rattle.hub_text.specs.ListLaws.{snoc-old}
+use Rattle.hub_text.specs.laws.List.{snoc-old}
 use Rattle.hub_job.specs.Outcome.{replicas_of}
 use Rattle.hub_schedule.specs.declared.slot.WorkingTree.{WorkingTree}
 use Rattle.hub_schedule.specs.Table.{AreTrees, IsNotIn, IsTreeNumber}

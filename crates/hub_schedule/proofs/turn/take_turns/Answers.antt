@@ -2,7 +2,7 @@ use Rattle.std.proofs.Common.{◌∙◌}
 use Rattle.std.specs.Prelude.{slice_index_or}
 use Rattle.std.proofs.lemmas.Option.{slice_get-get_or}
 use Rattle.std.proofs.lemmas.List.{drop_all}
-use Rattle.hub_schedule.specs.Laws.Lists.{drop_at}
+use Rattle.hub_schedule.specs.laws.Lists.{drop_at}
 use Rattle.hub_schedule.proofs.Thinned.{taken_all, taken_as, taken_more}
 use Rattle.hub_schedule.proofs.turn.take_turns.Goals as goal
 

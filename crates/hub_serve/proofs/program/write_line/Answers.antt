@@ -1,5 +1,5 @@
 use Rattle.std.specs.Result.{is_err}
-use Rattle.hub_serve.specs.Writing.{unfailed, given-ok, text-written}
+use Rattle.hub_serve.specs.laws.Writing.{unfailed, given-ok, text-written}
 use Rattle.hub_serve.proofs.program.write_line.Goals as goal
 
 pub returns : goal.returns

@@ -1,7 +1,7 @@
 use Rattle.std.proofs.Common.{◌∙◌, sym}
 use Rattle.std.specs.Result.{is_err}
 use Rattle.hub_report.specs.Blocks.{bytes_in}
-use Rattle.hub_serve.specs.Writing.{unfailed, given-ok, text-written}
+use Rattle.hub_serve.specs.laws.Writing.{unfailed, given-ok, text-written}
 use Rattle.hub_serve.proofs.program.write_text.Goals as goal
 
 pub returns : goal.returns

@@ -1,5 +1,5 @@
 use Rattle.std.proofs.Common.{◌∙◌, List, subst, sym}
-use Rattle.hub_text.specs.Fails.{passed-up}
+use Rattle.hub_text.specs.laws.Fails.{passed-up}
 use Rattle.hub_cert.specs.Set.{Members}
 use Rattle.hub_cert.specs.declared.fault.CheckFault.{CheckFault}
 use Rattle.hub_apart.specs.ApartLines.{AreLines}

@@ -2,7 +2,7 @@ use Rattle.std.proofs.Common.{List, [], ◌++◌, Some, String, Global, sym, ap,
 use Rattle.std.specs.FinMap as fin
 use Rattle.std.specs.List.{flat_map}
 use Rattle.hub_tree.specs.Tree.{Replica}
-use Rattle.hub_state.specs.Adding.{files_added}
+use Rattle.hub_state.specs.forms.Adding.{files_added}
 use Rattle.hub_state.proofs.Files.{collected_more, collected_stop, tree_files, files-by_text}
 use Rattle.hub_state.proofs.blobs.blobs_in.Goals as goal
 

@@ -3,7 +3,7 @@ use Rattle.std.proofs.lemmas.List.{length-take}
 use Rattle.std.proofs.lemmas.Grind.{common_steps}
 use Rattle.std.proofs.KnownBytes.{Consumes-nil, Consumes-trans}
 use Rattle.hub_state.proofs.Blocks.{stands-same, within-block}
-use Rattle.hub_text.specs.Reads.{taken-length}
+use Rattle.hub_text.specs.laws.Reads.{taken-length}
 use Rattle.hub_state.proofs.reader.read_blocks.Goals as goal
 
 pub loop-init : goal.loop-init

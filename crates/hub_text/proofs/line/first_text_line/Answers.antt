@@ -2,7 +2,7 @@ use Rattle.std.proofs.Common.{◌==◌, ◌∷◌, Some, None, chars, length, sy
 use Rattle.std.specs.Str.Pattern.{FindsChar}
 use Rattle.std.proofs.lemmas.Str.{chars-nil}
 use Rattle.hub_text.specs.Lines.{lines_of, unended}
-use Rattle.hub_text.specs.TextCuts.{parted, finds_by}
+use Rattle.hub_text.specs.laws.TextCuts.{parted, finds_by}
 use Rattle.hub_text.proofs.LineCuts.{ended-text, unended-text, shorter-text}
 use Rattle.hub_text.proofs.line.first_text_line.Goals as goal
 

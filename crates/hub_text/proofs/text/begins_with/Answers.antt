@@ -1,4 +1,4 @@
-use Rattle.hub_text.specs.AsciiWords.{begins-ascii}
+use Rattle.hub_text.specs.laws.AsciiWords.{begins-ascii}
 use Rattle.hub_text.proofs.text.begins_with.Goals as goal
 
 pub returns : goal.returns

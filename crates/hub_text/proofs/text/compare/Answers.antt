@@ -1,5 +1,5 @@
 use Rattle.std.proofs.Common.{◌∙◌}
-use Rattle.hub_text.specs.TextOrder.{cmp-chars}
+use Rattle.hub_text.specs.laws.TextOrder.{cmp-chars}
 use Rattle.hub_text.proofs.text.compare.Goals as goal
 
 pub returns : goal.returns

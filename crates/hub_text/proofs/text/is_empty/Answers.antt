@@ -1,5 +1,5 @@
 use Rattle.std.proofs.Common.{sym, ◌∙◌, []}
-use Rattle.hub_text.specs.Texts.{is_nil, bytes_eq-chars, nil_ascii}
+use Rattle.hub_text.specs.laws.Texts.{is_nil, bytes_eq-chars, nil_ascii}
 use Rattle.hub_text.proofs.text.is_empty.Goals as goal
 
 pub returns : goal.returns

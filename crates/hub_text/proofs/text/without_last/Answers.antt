@@ -1,5 +1,5 @@
 use Rattle.std.proofs.Common.{◌∙◌, ap, subst, chars, IsUtf8}
-use Rattle.hub_text.specs.Ascii.{stripped}
+use Rattle.hub_text.specs.laws.Ascii.{stripped}
 use Rattle.hub_text.proofs.text.without_last.Goals as goal
 
 pub returns : goal.returns

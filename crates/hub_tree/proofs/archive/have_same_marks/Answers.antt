@@ -1,7 +1,7 @@
 use Rattle.std.proofs.Common.{◌≡◌, sym, ap, ◌∙◌}
 use Rattle.std.proofs.lemmas.Bool.{false≢true, not-false}
 use Rattle.std.specs.Map.Iter.{deref_pair}
-use Rattle.hub_path.specs.Laws.{path_eq-decides}
+use Rattle.hub_path.specs.laws.General.{path_eq-decides}
 use Rattle.hub_path.specs.Path.{Path, path_eq}
 use Rattle.hub_tree.specs.declared.contents.Mark.{Mark}
 use Rattle.hub_tree.proofs.Matching.{one_less, other_items, too_few, too_many, all_same, refuted, unequal, by_none, step_none, step_some}

@@ -5,7 +5,7 @@ use Rattle.hub_tree.specs.Levels.{all_ascend}
 use Rattle.hub_tree.specs.Nodes.{kids_of}
 use Rattle.hub_tree.specs.declared.entries.Level.{Level}
 use Rattle.hub_tree.specs.declared.node.Node.{Node}
-use Rattle.hub_tree.specs.Laws.Ascending.{is_sorted-from}
+use Rattle.hub_tree.specs.laws.Ascending.{is_sorted-from}
 use Rattle.hub_tree.proofs.LookUp.{kids-file, kids-directory}
 use Rattle.hub_tree.proofs.Walk.{entered_file, entered_directory, ascend-push}
 use Rattle.hub_tree.proofs.entries.enter.Goals as goal

@@ -1,4 +1,4 @@
-use Rattle.hub_tree.specs.Laws.MarkMaps.{IsArchive-after, old_mark-after}
+use Rattle.hub_tree.specs.laws.MarkMaps.{IsArchive-after, old_mark-after}
 use Rattle.hub_tree.proofs.laws.a_set_keeps_archives.Goals as goal
 
 pub returns-clause-archive : goal.returns-clause-archive

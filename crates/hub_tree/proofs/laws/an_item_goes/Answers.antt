@@ -1,4 +1,4 @@
-use Rattle.hub_tree.specs.Laws.Replacing.{item_goes}
+use Rattle.hub_tree.specs.laws.Replacing.{item_goes}
 use Rattle.hub_tree.proofs.laws.an_item_goes.Goals as goal
 
 pub returns : goal.returns

@@ -1,4 +1,4 @@
-use Rattle.hub_tree.specs.Laws.Contented.{same_archive}
+use Rattle.hub_tree.specs.laws.Contented.{same_archive}
 use Rattle.hub_tree.proofs.laws.archives_are_their_marks.Goals as goal
 
 pub returns : goal.returns

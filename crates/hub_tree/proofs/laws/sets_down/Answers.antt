@@ -1,4 +1,4 @@
-use Rattle.hub_tree.specs.Laws.Runs.{all_down}
+use Rattle.hub_tree.specs.laws.Runs.{all_down}
 use Rattle.hub_tree.proofs.laws.sets_down.Goals as goal
 
 pub returns : goal.returns

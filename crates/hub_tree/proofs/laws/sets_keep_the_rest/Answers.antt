@@ -1,4 +1,4 @@
-use Rattle.hub_tree.specs.Laws.Replacing.{sets_keep_trees, sets_keep_the_rest, sets_begin}
+use Rattle.hub_tree.specs.laws.Replacing.{sets_keep_trees, sets_keep_the_rest, sets_begin}
 use Rattle.hub_tree.proofs.laws.sets_keep_the_rest.Goals as goal
 
 pub returns-clause-trees : goal.returns-clause-trees

@@ -1,4 +1,4 @@
-use Rattle.hub_tree.specs.Laws.Runs.{all_up}
+use Rattle.hub_tree.specs.laws.Runs.{all_up}
 use Rattle.hub_tree.proofs.laws.sets_up.Goals as goal
 
 pub returns : goal.returns

@@ -1,4 +1,4 @@
-use Rattle.hub_tree.specs.Laws.Beneath.{above_directory}
+use Rattle.hub_tree.specs.laws.Beneath.{above_directory}
 use Rattle.hub_tree.proofs.laws.what_lies_above_is_a_directory.Goals as goal
 
 pub returns : goal.returns

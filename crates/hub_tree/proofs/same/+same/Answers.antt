@@ -2,7 +2,7 @@ use Rattle.std.proofs.Common.{◌≡◌, ℕ, List, sym, ap, ◌∙◌}
 use Rattle.std.proofs.lemmas.Bool.{false≢true, not-false}
 use Rattle.std.specs.Map.Iter.{deref_pair}
 use Rattle.std.specs.Str.{bytes_eq}
-use Rattle.hub_path.specs.Laws.{name_eq-decides}
+use Rattle.hub_path.specs.laws.General.{name_eq-decides}
 use Rattle.hub_path.specs.Path.{Name, name_eq}
 use Rattle.hub_tree.specs.Nodes.{contents_of, kids_of}
 use Rattle.hub_tree.proofs.LookUp.{contents-file, contents-directory, kids-file, kids-directory}

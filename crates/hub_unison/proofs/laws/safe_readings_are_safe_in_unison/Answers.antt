@@ -1,6 +1,6 @@
 use Rattle.std.proofs.Common.{map, refl}
 use Rattle.hub_unison.specs.Rules.{forbidden}
-use Rattle.hub_unison.specs.RulesLaws.{read-keeps, read-safe}
+use Rattle.hub_unison.specs.laws.Rules.{read-keeps, read-safe}
 use Rattle.hub_unison.proofs.laws.safe_readings_are_safe_in_unison.Goals as goal
 
 pub returns-clause-safe : goal.returns-clause-safe

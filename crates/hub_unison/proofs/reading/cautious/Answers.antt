@@ -1,8 +1,8 @@
 use Rattle.std.proofs.Common.{◌≡◌, ◌∙◌, subst, sym}
 use Rattle.std.proofs.lemmas.Result.{IfOk-weaker}
 use Rattle.hub_profile.specs.Parts.{Parts}
-use Rattle.hub_unison.specs.LimitLaws.{reading-within}
-use Rattle.hub_unison.specs.ReadingLaws.{alike-stays, reading-cautious}
+use Rattle.hub_unison.specs.laws.Limit.{reading-within}
+use Rattle.hub_unison.specs.laws.Reading.{alike-stays, reading-cautious}
 use Rattle.hub_unison.specs.ReadingOf.{cautious_of, IsWithinLines}
 use Rattle.hub_unison.specs.UnisonReach.{IsCautious}
 use Rattle.hub_unison.proofs.reading.cautious.Goals as goal

@@ -1,7 +1,7 @@
 use Rattle.std.proofs.Common.{◌≡◌, List, map, subst, sym}
 use Rattle.std.proofs.lemmas.Result.{IfOk-weaker}
 use Rattle.hub_profile.specs.Parts.{Parts}
-use Rattle.hub_unison.specs.ReadingLaws.{readings-read}
+use Rattle.hub_unison.specs.laws.Reading.{readings-read}
 use Rattle.hub_unison.specs.ReadingOf.{reading_of}
 use Rattle.hub_unison.specs.Rules.{AreReadForUnison}
 use Rattle.hub_unison.proofs.set.read_set.Goals as goal

@@ -1,5 +1,5 @@
 use Rattle.std.proofs.Common.{◌∙◌, [], ◌∷◌, refl}
-use Rattle.hub_text.specs.AsciiWords.{is_word}
+use Rattle.hub_text.specs.laws.AsciiWords.{is_word}
 use Rattle.hub_unison.proofs.tops.is_star.Goals as goal
 
 pub returns : goal.returns

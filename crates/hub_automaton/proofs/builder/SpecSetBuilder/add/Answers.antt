@@ -3,7 +3,7 @@ use Rattle.std.proofs.lemmas.Result.{err_from_is_err_and}
 use Rattle.hub_automaton.specs.declared.alternatives.Alternatives.{Alternatives}
 use Rattle.hub_automaton.specs.declared.alternatives.TheConstants.{SPOTS}
 use Rattle.hub_automaton.specs.Spots.{spot_count, spots_count}
-use Rattle.hub_automaton.specs.AddedInTurn.{spots-append}
+use Rattle.hub_automaton.specs.laws.AddedInTurn.{spots-append}
 use Rattle.hub_automaton.proofs.builder.SpecSetBuilder.add.Goals as goal
 
 pub returns-in_err-spots-clause-err : goal.returns-in_err-spots-clause-err

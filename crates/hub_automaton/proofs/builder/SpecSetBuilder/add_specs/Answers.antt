@@ -1,6 +1,6 @@
 use Rattle.std.proofs.Common.{◌≡◌, ◌+◌, ◌∷◌, ◌++◌, map, drop, sym, ap, ◌∙◌, arith}
 use Rattle.std.proofs.lemmas.Result.{err_from_is_err_and}
-use Rattle.hub_text.specs.ListLaws.{next-drop}
+use Rattle.hub_text.specs.laws.List.{next-drop}
 use Rattle.hub_automaton.specs.declared.alternatives.Alternatives.{Alternatives}
 use Rattle.hub_automaton.specs.Spots.{alternatives_of}
 use Rattle.hub_automaton.proofs.Paths.{refused_more}

@@ -2,7 +2,7 @@ use Rattle.std.proofs.Common.{◌≡◌, ◌<◌, ◌==◌, ◌||◌, inl, inr, 
 use Rattle.std.specs.Prelude.{slice_index_or}
 use Rattle.std.proofs.lemmas.Bool.{cases_eq}
 use Rattle.std.proofs.lemmas.List.{get_or_read}
-use Rattle.hub_automaton.specs.ClassSetLaws.{grown-twice}
+use Rattle.hub_automaton.specs.laws.ClassSet.{grown-twice}
 use Rattle.hub_automaton.specs.ClassSets.{IsListed}
 use Rattle.hub_automaton.proofs.ClassSets.{grown_insert, inserted}
 use Rattle.hub_automaton.proofs.class_set.ClassSet.insert_between.Goals as goal

@@ -3,10 +3,10 @@ use Rattle.std.proofs.lemmas.Result.{err_from_is_err_and}
 use Rattle.std.proofs.lemmas.Iterator.{YieldsList-from_chars}
 use Rattle.std.proofs.lemmas.Iterator.Consumers.{YieldsList-turn, YieldsList-end}
 use Rattle.std.proofs.lemmas.List.{drop_all}
-use Rattle.hub_text.specs.TextChars.{next_character}
-use Rattle.hub_path.specs.NameFacts.{name_chars}
+use Rattle.hub_text.specs.laws.TextChars.{next_character}
+use Rattle.hub_path.specs.laws.NameFacts.{name_chars}
 use Rattle.hub_automaton.specs.Alphabet as alphabet
-use Rattle.hub_automaton.specs.Adding.{mention_step, mention_refused}
+use Rattle.hub_automaton.specs.laws.Adding.{mention_step, mention_refused}
 use Rattle.hub_automaton.proofs.Alphabets.{mention_end}
 use Rattle.hub_automaton.proofs.mentions.NameMentioning.put_in.Goals as goal
 

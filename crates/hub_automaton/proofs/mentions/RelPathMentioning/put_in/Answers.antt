@@ -1,7 +1,7 @@
 use Rattle.std.proofs.Common.{◌+◌, drop}
 use Rattle.std.proofs.lemmas.Result.{err_from_is_err_and}
 use Rattle.hub_automaton.specs.Alphabet as alphabet
-use Rattle.hub_automaton.specs.Adding.{mention_step, mention_refused}
+use Rattle.hub_automaton.specs.laws.Adding.{mention_step, mention_refused}
 use Rattle.hub_automaton.proofs.Alphabets.{names_drop}
 use Rattle.hub_automaton.proofs.mentions.RelPathMentioning.put_in.Goals as goal
 

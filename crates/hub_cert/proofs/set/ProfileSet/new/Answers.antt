@@ -1,5 +1,5 @@
 use Rattle.std.proofs.Common.{sym}
-use Rattle.hub_text.specs.Fails.{passed-up}
+use Rattle.hub_text.specs.laws.Fails.{passed-up}
 use Rattle.hub_cert.specs.Set.{Members}
 use Rattle.hub_cert.specs.Refused.{IsRefused}
 use Rattle.hub_cert.proofs.set.ProfileSet.new.Goals as goal

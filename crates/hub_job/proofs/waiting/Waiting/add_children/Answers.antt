@@ -1,7 +1,7 @@
 use Rattle.std.proofs.Common.{◌≡◌, ◌+◌, ◌-◌, [], ◌∷◌, ◌++◌, length, take, ap, ◌∙◌, arith}
 use Rattle.std.specs.BTreeSet.{insert_key}
 use Rattle.hub_path.specs.Path.{Name, Path, path_cmp, children_named}
-use Rattle.hub_job.specs.Waiting.{put_all}
+use Rattle.hub_job.specs.forms.Waiting.{put_all}
 use Rattle.hub_job.proofs.Stacks.{last_child}
 use Rattle.hub_job.proofs.waiting.Waiting.add_children.Goals as goal
 

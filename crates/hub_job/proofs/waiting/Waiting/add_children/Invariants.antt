@@ -1,5 +1,5 @@
 use Rattle.std.proofs.Common.{◌≡◌, ◌-◌, take, length}
-use Rattle.hub_job.specs.Waiting.{put_all}
+use Rattle.hub_job.specs.forms.Waiting.{put_all}
 use Rattle.hub_job.proofs.waiting.Waiting.add_children.Given as goal
 use Rattle.hub_path.specs.Path.{children_named}
 

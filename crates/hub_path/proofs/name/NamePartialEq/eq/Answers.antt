@@ -1,6 +1,6 @@
 use Rattle.std.proofs.Common.{◌∙◌}
-use Rattle.hub_text.specs.Texts.{same_texts}
-use Rattle.hub_path.specs.NameFacts.{name_chars}
+use Rattle.hub_text.specs.laws.Texts.{same_texts}
+use Rattle.hub_path.specs.laws.NameFacts.{name_chars}
 use Rattle.hub_path.proofs.name.NamePartialEq.eq.Goals as goal
 
 pub returns : goal.returns

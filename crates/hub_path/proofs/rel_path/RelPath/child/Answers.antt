@@ -1,7 +1,7 @@
 use Rattle.std.proofs.Common.{◌≡◌, ◌++◌, [], ◌∷◌, sym, ap, ◌∙◌, subst}
 use Rattle.std.specs.Prelude.{IfOk, IsTrue}
 use Rattle.hub_path.specs.Path.{Name, Path, is_name, is_place}
-use Rattle.hub_path.specs.Laws.{is_place-push}
+use Rattle.hub_path.specs.laws.General.{is_place-push}
 use Rattle.hub_path.proofs.rel_path.RelPath.child.Goals as goal
 
 pub sharing-requires : goal.sharing-requires

@@ -2,7 +2,7 @@ use Rattle.std.proofs.Common.{length, sym, ◌∙◌, lit<}
 use Rattle.std.specs.Str.{chars}
 use Rattle.std.proofs.lemmas.List.{length_push}
 use Rattle.std.proofs.lemmas.Iterator.Consumers.{YieldsList-turn, YieldsList-end}
-use Rattle.hub_text.specs.TextParts.{part-chars, length-parts}
+use Rattle.hub_text.specs.laws.TextParts.{part-chars, length-parts}
 use Rattle.hub_path.specs.Path.{path_of}
 use Rattle.hub_path.proofs.PathFacts.{all-names, names-more, no-path, whole-path}
 use Rattle.hub_path.proofs.Loops.{parts_of_text}

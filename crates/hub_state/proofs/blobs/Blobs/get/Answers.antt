@@ -1,6 +1,6 @@
 use Rattle.std.proofs.Common.{sym, ap, ◌∙◌}
 use Rattle.std.specs.FinMap as fin
-use Rattle.hub_path.specs.Laws.{name_cmp-total}
+use Rattle.hub_path.specs.laws.General.{name_cmp-total}
 use Rattle.hub_state.specs.Taking.{BlobMap}
 use Rattle.hub_state.proofs.blobs.Blobs.get.Goals as goal
 

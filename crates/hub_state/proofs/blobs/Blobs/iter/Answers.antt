@@ -1,7 +1,7 @@
 use Rattle.std.proofs.Common.{sym, ap, ◌∙◌}
 use Rattle.std.specs.FinMap as fin
-use Rattle.hub_path.specs.Laws.{name_cmp-total, name_cmp-exact}
-use Rattle.hub_tree.specs.Laws.Ascending.{entries-ascending}
+use Rattle.hub_path.specs.laws.General.{name_cmp-total, name_cmp-exact}
+use Rattle.hub_tree.specs.laws.Ascending.{entries-ascending}
 use Rattle.hub_state.specs.Taking.{BlobMap}
 use Rattle.hub_state.proofs.blobs.Blobs.iter.Goals as goal
 

@@ -1,7 +1,7 @@
 use Rattle.std.proofs.Common.{sym, ap, ◌∙◌}
 use Rattle.std.specs.FinMap.{entries}
-use Rattle.hub_tree.specs.Laws.Order.{path_total, path_antisymmetric}
-use Rattle.hub_tree.specs.Laws.Ascending.{entries-ascending}
+use Rattle.hub_tree.specs.laws.Order.{path_total, path_antisymmetric}
+use Rattle.hub_tree.specs.laws.Ascending.{entries-ascending}
 use Rattle.hub_tree.proofs.archive.Archive.iter.Goals as goal
 
 pub returns : goal.returns

@@ -3,7 +3,7 @@ use Rattle.std.specs.Option.{unwrap_or}
 use Rattle.std.specs.FinMap.{get-from_entries}
 use Rattle.hub_tree.specs.Tree.{old_mark_at}
 use Rattle.hub_tree.specs.declared.contents.Mark.TheVariants.{Absent}
-use Rattle.hub_tree.specs.Laws.Order.{path_total}
+use Rattle.hub_tree.specs.laws.Order.{path_total}
 use Rattle.hub_tree.proofs.archive.Archive.mark_at.Goals as goal
 
 pub returns-in-Some-clause-mark : goal.returns-in-Some-clause-mark

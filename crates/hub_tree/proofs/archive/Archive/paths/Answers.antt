@@ -1,7 +1,7 @@
 use Rattle.std.proofs.Common.{sym, ap, map, ◌∙◌}
 use Rattle.std.specs.FinMap.{keys}
-use Rattle.hub_tree.specs.Laws.Order.{path_total, path_antisymmetric}
-use Rattle.hub_tree.specs.Laws.Ascending.{entries-ascending}
+use Rattle.hub_tree.specs.laws.Order.{path_total, path_antisymmetric}
+use Rattle.hub_tree.specs.laws.Ascending.{entries-ascending}
 use Rattle.hub_tree.proofs.archive.Archive.paths.Goals as goal
 
 pub returns : goal.returns

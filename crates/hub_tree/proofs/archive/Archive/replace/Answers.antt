@@ -6,8 +6,8 @@ use Rattle.hub_path.specs.Path.{Path, path_cmp}
 use Rattle.hub_tree.specs.Tree.{Archive, old_mark_at, with_kept, IsArchive, HasPaths, HasDigests}
 use Rattle.hub_tree.specs.declared.contents.Mark.{Mark}
 use Rattle.hub_tree.specs.declared.contents.Mark.TheVariants.{Absent}
-use Rattle.hub_tree.specs.Laws.MarkMaps.{changed_marks, IsArchive-set, is_path-names}
-use Rattle.hub_tree.specs.Laws.Order.{path_total}
+use Rattle.hub_tree.specs.laws.MarkMaps.{changed_marks, IsArchive-set, is_path-names}
+use Rattle.hub_tree.specs.laws.Order.{path_total}
 use Rattle.hub_tree.proofs.Inserted.{IsGood}
 use Rattle.hub_tree.proofs.archive.Archive.replace.Goals as goal
 

@@ -2,8 +2,8 @@ use Rattle.std.proofs.Common.{List, sym, ap, ◌∙◌}
 use Rattle.std.specs.FinMap.{from_entries}
 use Rattle.hub_path.specs.Path.{Path, path_cmp}
 use Rattle.hub_tree.specs.declared.contents.Mark.{Mark}
-use Rattle.hub_tree.specs.Laws.Order.{path_total, path_antisymmetric}
-use Rattle.hub_tree.specs.Laws.Ascending.{same_entries}
+use Rattle.hub_tree.specs.laws.Order.{path_total, path_antisymmetric}
+use Rattle.hub_tree.specs.laws.Ascending.{same_entries}
 use Rattle.hub_tree.proofs.archive.Archive.same.Goals as goal
 
 pub returns : goal.returns

@@ -6,7 +6,7 @@ use Rattle.hub_tree.specs.Levels.{left_in, all_ascend}
 use Rattle.hub_tree.specs.Nodes.{replica_of}
 use Rattle.hub_tree.specs.declared.entries.Level.{Level}
 use Rattle.hub_tree.specs.declared.node.Node.{Node}
-use Rattle.hub_tree.specs.Laws.Ascending.{both, is_sorted-from}
+use Rattle.hub_tree.specs.laws.Ascending.{both, is_sorted-from}
 use Rattle.hub_tree.proofs.Walk.{one_level, only_level}
 use Rattle.hub_tree.proofs.entries.Entries.new.Goals as goal
 

@@ -2,7 +2,7 @@ use Rattle.std.proofs.Common.{◌≡◌, List, ℕ, [], ◌++◌, true, ap, sym,
 use Rattle.std.specs.Prelude.{chars}
 use Rattle.std.specs.Str.{encode_utf8_all}
 use Rattle.hub_path.specs.Path.{Path, is_place, path_of, text_of}
-use Rattle.hub_path.specs.ReadBack.{path-place}
+use Rattle.hub_path.specs.laws.ReadBack.{path-place}
 use Rattle.hub_tree.proofs.Places.{names-of-text}
 use Rattle.hub_tree.proofs.place.Place.folder.Goals as goal
 

@@ -2,7 +2,7 @@ use Rattle.std.proofs.Common.{[], ap, sym, ◌∙◌, arith}
 use Rattle.std.specs.FinMap as fin
 use Rattle.hub_tree.specs.Nodes.{replica_of, is_left}
 use Rattle.hub_tree.specs.Shared.{shared_entries}
-use Rattle.hub_tree.specs.Laws.MarkMaps.{is_path-names}
+use Rattle.hub_tree.specs.laws.MarkMaps.{is_path-names}
 use Rattle.hub_tree.proofs.LookUp.{get_top}
 use Rattle.hub_tree.proofs.Putting.{put_fault_top}
 use Rattle.hub_tree.proofs.Setting.{refusal}

@@ -1,4 +1,4 @@
-use Rattle.hub_tree.specs.Laws.MarkMaps.{IsArchive-empty}
+use Rattle.hub_tree.specs.laws.MarkMaps.{IsArchive-empty}
 use Rattle.hub_tree.proofs.archive.builder.ArchiveBuilder.new.Goals as goal
 
 pub invariant_of-result : goal.invariant_of-result

@@ -4,7 +4,7 @@ use Rattle.hub_path.specs.Path.{Path}
 use Rattle.hub_tree.specs.Marked.{with_entries}
 use Rattle.hub_tree.specs.declared.contents.Mark.{Mark}
 use Rattle.hub_tree.proofs.Inserted.{IsGood, good_more}
-use Rattle.hub_tree.specs.Laws.MarkMaps.{is_path-names}
+use Rattle.hub_tree.specs.laws.MarkMaps.{is_path-names}
 use Rattle.hub_tree.proofs.archive.builder.ArchiveBuilder.push.Goals as goal
 
 pub invariant_of-self-in_ok-push : goal.invariant_of-self-in_ok-push

@@ -1,0 +1,3 @@
+pub mod AddedInTurn
+pub mod Adding
+pub mod ClassSet

@@ -1,0 +1,4 @@
+pub mod Classed
+pub mod Goal
+pub mod Matched
+pub mod Stage

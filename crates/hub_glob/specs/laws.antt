@@ -1,0 +1,4 @@
+pub mod Choice
+pub mod Exact
+pub mod OneStep
+pub mod Scalars

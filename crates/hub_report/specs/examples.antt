@@ -1,0 +1,3 @@
+pub mod Graph
+pub mod Jobs
+pub mod Report

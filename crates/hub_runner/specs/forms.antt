@@ -1,0 +1,3 @@
+pub mod Inconsistent
+pub mod Ordered
+pub mod Slots

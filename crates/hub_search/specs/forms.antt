@@ -1,0 +1,3 @@
+pub mod Entries
+pub mod Seen
+pub mod Steps

@@ -1,0 +1,14 @@
+pub mod Ascii
+pub mod AsciiWords
+pub mod Exact
+pub mod Fails
+pub mod Line
+pub mod List
+pub mod Reads
+pub mod Takes
+pub mod Test
+pub mod TextChars
+pub mod TextCuts
+pub mod TextOrder
+pub mod TextParts
+pub mod Texts

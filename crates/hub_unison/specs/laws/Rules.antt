@@ -1,0 +1,213 @@
+-- What readings beside rules show.
+use Rattle.std.proofs.Common.{◌≡◌, ◌∙◌, Bool, true, false, not, ◌&&◌, ◌||◌, List, [], ◌∷◌, Some, None, Option, refl, sym, ap, subst}
+use Rattle.std.specs.Prelude.{IsTrue, ◌+◌, ◌++◌, map, slice_get, option_map}
+use Rattle.std.proofs.Common.{⊎_elim}
+use Rattle.std.specs.List.{list_any}
+use Rattle.std.proofs.lemmas.Bool.{and_parts, and_from, or_right}
+use Rattle.std.proofs.lemmas.Option.{none-some, slice_get-map}
+use Rattle.std.proofs.lemmas.List.{length-append}
+use Rattle.hub_text.specs.laws.List.{snoc-cases, snoc-new, snoc-old}
+use Rattle.hub_path.specs.laws.General.{is_over-transitive}
+use Rattle.hub_path.specs.Path.{Path, is_over, is_path, prefixes}
+use Rattle.hub_path.specs.declared.side.Side.{Side}
+use Rattle.hub_path.specs.declared.side.Side.TheVariants.{Left, Right}
+use Rattle.hub_profile.specs.declared.bars.Bars.{Bars}
+use Rattle.hub_profile.specs.declared.rule.Rule.{Rule}
+use Rattle.hub_profile.specs.declared.verb.Verb.{Verb}
+use Rattle.hub_profile.specs.declared.verb.Verb.TheVariants.{Create, Update, Delete}
+use Rattle.hub_profile.specs.Parts.{Parts, at_side, has_root, is_root_at, some_passes}
+use Rattle.hub_reach.specs.Reach.{covers, is_barred, is_barred_at, is_forced_root, is_open, may, may_at, reach, writes_at}
+use Rattle.hub_reach.specs.Safe as safe
+use Rattle.hub_unison.specs.Matching.{Matching, IsMatching}
+use Rattle.hub_unison.specs.UnisonReach.{IsCautious, IsSafeInUnison, bars_by, may_by, reach_by, writes_by}
+use Rattle.hub_unison.specs.laws.Piece.{any-weaker}
+use Rattle.hub_unison.specs.Cautious.{cover}
+use Rattle.hub_unison.specs.laws.Cautious.{safe_in_unison, tops-reach, no, none-over, not-weaker, three-weaker}
+use Rattle.hub_unison.specs.Rules.{AreReadForUnison, IsReadingOf, KeepsRulesInUnison, for_rules, forbidden, may_item, rule_bars}
+
+-- Bars.
+at_side-map : {A B : Type 0} (f : A → B) (xs : List A) (s : Side)
+    → at_side (map f xs) s ≡ option_map f (at_side xs s)
+at_side-map f xs Left = slice_get-map f xs 0
+at_side-map f xs Right = slice_get-map f xs 1
+
+both : (a b : Bool) → (a && b) ≡ true → (a ≡ true) × (b ≡ true)
+both a b h = and_parts a b h
+
+-- What the bars for rules cover, the own bars do.
+covered : (v : Verb) (b : Bars) → covers v (rule_bars b) ≡ true → covers v b ≡ true
+covered Create b h = (and_parts b.create b.update h).0
+covered Update b h = h
+covered Delete b h = h
+
+create-covered : (b : Bars) → covers Create (rule_bars b) ≡ true → covers Update b ≡ true
+create-covered b h = (and_parts b.create b.update h).1
+
+passes-map : {A : Type 0} (f : A → A) (test own : A → Bool) (o : Option A)
+    → ((x : A) → test (f x) ≡ true → own x ≡ true) → some_passes test (option_map f o) ≡ true
+    → some_passes own o ≡ true
+passes-map f test own None w h = absurd (no h)
+passes-map f test own (Some x) w h = w x h
+
+module _ (P : Parts) (tops : List Path) where
+  C : Parts
+  C = for_rules P tops
+
+  -- A change that bars for rules forbid, the own bars forbid.
+  barred-at : (r : Path) (v w : Verb)
+      → ((b : Bars) → covers v (rule_bars b) ≡ true → covers w b ≡ true) → (s : Side)
+      → is_barred_at (for_rules P tops) r v s ≡ true → is_barred_at P r w s ≡ true
+  barred-at r v w weaker s h =
+      let parts = and_parts (is_root_at P r s)
+      (some_passes (covers v) (at_side (map rule_bars P.bars) s)) h in
+      and_from (is_root_at P r s) (some_passes (covers w) (at_side P.bars s)) parts.0
+      (passes-map rule_bars (covers v) (covers w) (at_side P.bars s) weaker
+      (sym (ap (some_passes (covers v)) (at_side-map rule_bars P.bars s)) ∙ parts.1))
+
+  barred : (r : Path) (v w : Verb)
+      → ((b : Bars) → covers v (rule_bars b) ≡ true → covers w b ≡ true)
+      → is_barred (for_rules P tops) r v ≡ true → is_barred P r w ≡ true
+  barred r v w weaker h = go (is_barred_at (for_rules P tops) r v Left) refl h
+    where
+      go : (b : Bool) → is_barred_at (for_rules P tops) r v Left ≡ b
+          → (b || is_barred_at (for_rules P tops) r v Right) ≡ true → is_barred P r w ≡ true
+      go true e h = ap (λ x. x || is_barred_at P r w Right) (barred-at r v w weaker Left e)
+      go false e h = or_right (is_barred_at P r w Left) (is_barred_at P r w Right) (barred-at r v w weaker Right h)
+
+  may-weaker : (r : Path) (v w : Verb)
+      → ((b : Bars) → covers v (rule_bars b) ≡ true → covers w b ≡ true) → may P r w ≡ true
+      → may (for_rules P tops) r v ≡ true
+  may-weaker r v w weaker h =
+      not-weaker (is_forced_root P r || is_barred (for_rules P tops) r v)
+      (is_forced_root P r || is_barred P r w) (λ e. go (is_forced_root P r) refl e) h
+    where
+      go : (b : Bool) → is_forced_root P r ≡ b
+          → (is_forced_root P r || is_barred (for_rules P tops) r v) ≡ true
+          → (is_forced_root P r || is_barred P r w) ≡ true
+      go true e h = ap (λ x. x || is_barred P r w) e
+      go false e h =
+          or_right (is_forced_root P r) (is_barred P r w)
+          (barred r v w weaker (sym (ap (λ x. x || is_barred (for_rules P tops) r v) e) ∙ h))
+
+  -- No partial bar is left.
+  at-all : (r p : Path) (v : Verb) → may (for_rules P tops) r v ≡ true
+      → may_at (for_rules P tops) r p v ≡ true
+  at-all r p v h = and_from (may (for_rules P tops) r v) true h refl
+
+  own-may : (m : Matching) (r p : Path) (v : Verb) → may_by m P r p v ≡ true → may P r v ≡ true
+  own-may m r p v h = (and_parts (may P r v) (not (list_any (bars_by m P r v p) P.partial)) h).0
+
+  may-all : (m : Matching) (r p q : Path) (v : Verb) → may_by m P r p v ≡ true
+      → may_at (for_rules P tops) r q v ≡ true
+  may-all m r p q v h = at-all r q v (may-weaker r v v (covered v) (own-may m r p v h))
+
+  -- What may be done at an item or below it, may be done at each path.
+  item-allowed : (m : Matching) (r p q : Path) (v : Verb) → may_item m P r p v ≡ true
+      → may_at (for_rules P tops) r q v ≡ true
+  item-allowed m r p q Create h = go (may_by m P r p Create) refl h
+    where
+      go : (b : Bool) → may_by m P r p Create ≡ b → (b || may_by m P r p Update) ≡ true
+          → may_at (for_rules P tops) r q Create ≡ true
+      go true e h = may-all m r p q Create e
+      go false e h =
+          at-all r q Create (may-weaker r Create Update create-covered (own-may m r p Update h))
+  item-allowed m r p q Update h = may-all m r p q Update h
+  item-allowed m r p q Delete h = may-all m r p q Delete h
+
+  -- Nothing is ignored, so what is below a path that is reached is reached.
+  below-reached : (p q : Path) → is_path q ≡ true → is_over p q ≡ true
+      → reach (for_rules P tops) p ≡ true → reach (for_rules P tops) q ≡ true
+  unfolding reach
+  below-reached p q path over h =
+      let parts = and_parts (is_path p)
+      (list_any (λ s. is_over s p && is_open (for_rules P tops) s p) tops) h in
+      and_from (is_path q) (list_any (λ s. is_over s q && is_open (for_rules P tops) s q) tops) path
+      (any-weaker (λ s. is_over s p && is_open (for_rules P tops) s p)
+      (λ s. is_over s q && is_open (for_rules P tops) s q) tops
+      (λ s e. and_from (is_over s q) (is_open (for_rules P tops) s q)
+      (is_over-transitive s p q (and_parts (is_over s p) (is_open (for_rules P tops) s p) e).0 over)
+      (ap not (none-over s (prefixes q)))) parts.1)
+
+  reached : (m : Matching) → IsMatching m → cover tops P.paths ≡ true → (p : Path)
+      → IsTrue (reach_by m P p) → IsTrue (reach (for_rules P tops) p)
+  unfolding reach
+  reached m known all p h = tops-reach m known P tops [] all p h
+
+  written : (m : Matching) (r p : Path) → writes_by m P r p ≡ true
+      → writes_at (for_rules P tops) r p ≡ true
+  written m r p h =
+      let parts = and_parts (has_root P r)
+      ((may_by m P r p Create || may_by m P r p Update) || may_by m P r p Delete) h in
+      and_from (has_root P r)
+      ((may_at (for_rules P tops) r p Create || may_at (for_rules P tops) r p Update)
+      || may_at (for_rules P tops) r p Delete) parts.0
+      (three-weaker (may_by m P r p Create) (may_by m P r p Update) (may_by m P r p Delete)
+      (may_at (for_rules P tops) r p Create) (may_at (for_rules P tops) r p Update)
+      (may_at (for_rules P tops) r p Delete) (may-all m r p p Create) (may-all m r p p Update)
+      (may-all m r p p Delete) parts.1)
+
+  rules-cautious : cover tops P.paths ≡ true → IsCautious P (for_rules P tops)
+  rules-cautious all = record {
+    name = refl;
+    roots = refl;
+    reach = λ m known. reached m known all;
+    write = λ m known r p h.
+        let parts = and_parts (writes_by m P r p) (reach_by m P p) h in
+        and_from (writes_at (for_rules P tops) r p) (reach (for_rules P tops) p)
+        (written m r p parts.0) (reached m known all p parts.1);
+  }
+
+-- The reading beside rules.
+pub rules-read : (Rs : List Rule) (P : Parts) (tops : List Path) → cover tops P.paths ≡ true
+    → IsReadingOf Rs P (for_rules P tops)
+rules-read Rs P tops all = record {
+  cautious = rules-cautious P tops all;
+  breaches = λ m known k R at b. (
+    b.1,
+    b.2,
+    below-reached P tops b.0 b.1 b.3 b.4 (reached P tops m known all b.0 b.5),
+    item-allowed P tops m R.root b.0 b.1 R.verb b.6,
+    b.7,
+  );
+}
+
+-- The reading where there are no rules.
+pub cautious-read : (P C : Parts) → IsCautious P C → IsReadingOf [] P C
+cautious-read P C c =
+    record { cautious = c; breaches = λ m known k R at b. absurd (none-some R at) }
+
+-- One more reading.
+pub read-none : (Rs : List Rule) → AreReadForUnison [] Rs []
+read-none Rs = record { count = refl; each = λ i P at. absurd (none-some P at) }
+
+pub read-push : (Ps Cs : List Parts) (Rs : List Rule) (P C : Parts) → AreReadForUnison Ps Rs Cs
+    → IsReadingOf Rs P C → AreReadForUnison (Ps ++ P ∷ []) Rs (Cs ++ C ∷ [])
+read-push Ps Cs Rs P C read one = record {
+  count = length-append Cs (C ∷ []) ∙ (ap (λ n. n + 1) read.count ∙ sym (length-append Ps (P ∷ [])));
+  each = λ i Q at.
+      ⊎_elim
+      (λ old. let e = read.each i Q old in (e.0, snoc-old Cs C e.0 i e.1, e.2))
+      (λ new. (
+        C,
+        subst (λ n. slice_get (Cs ++ C ∷ []) n ≡ Some C) (sym (new.0 ∙ sym read.count))
+            (snoc-new Cs C),
+        subst (λ D. IsReadingOf Rs D C) new.1 one,
+      ))
+      (snoc-cases Ps P Q i at);
+}
+
+-- What follows if the readings are safe.
+pub read-safe : (Ps : List Parts) (Rs : List Rule) (Cs : List Parts) (Ss : List safe.Rule)
+    → AreReadForUnison Ps Rs Cs → safe.IsSafe Cs Ss → IsSafeInUnison Ps
+read-safe Ps Rs Cs Ss read safe =
+    safe_in_unison Ps Cs Ss
+    (record { each = λ i P at. let c = read.each i P at in (c.0, c.1, c.2.cautious) }) safe
+
+pub read-keeps : (Ps : List Parts) (Rs : List Rule) (Cs : List Parts) (Ss : List safe.Rule)
+    → Ss ≡ map forbidden Rs → AreReadForUnison Ps Rs Cs → safe.IsSafe Cs Ss
+    → KeepsRulesInUnison Ps Rs
+read-keeps Ps Rs Cs Ss are read safe m known i k P R at own breach =
+    let c = read.each i P at in
+    safe.no_breach i k c.0 (forbidden R) c.1
+    (ap (λ rs. slice_get rs k) are ∙ (slice_get-map forbidden Rs k ∙ ap (option_map forbidden) own))
+    (c.2.breaches m known k R own breach)

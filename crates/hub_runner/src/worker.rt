@@ -159,7 +159,7 @@ fn some_turns<G: Gate, R: Wait>(
     ensures { IsTrue result → is_ended queued.new.job.value ≡ true }
 {
     for _ in 0..TURNS {
-        if has_ended(rt, gate, desks, seats, queued) {
+        if take_turn(rt, gate, desks, seats, queued) {
             return true;
         }
     }
@@ -167,7 +167,7 @@ fn some_turns<G: Gate, R: Wait>(
 }
 
 /// Lets a job take a turn, and makes the operation that it asks for. It returns whether the job has ended.
-fn has_ended<G: Gate, R: Wait>(
+fn take_turn<G: Gate, R: Wait>(
     rt: &R,
     gate: &G,
     desks: &Desks<'_>,

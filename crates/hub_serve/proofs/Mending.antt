@@ -15,7 +15,7 @@ use Rattle.hub_report.specs.declared.reach_answer.ReachAnswer.TheVariants.{Reach
 use Rattle.hub_report.specs.Report.{status_of, text_of}
 use Rattle.hub_serve.specs.declared.task.Task.{Task}
 use Rattle.hub_serve.specs.Mended.{Mends, is_mend, mend_text}
-use Rattle.hub_serve.specs.Report.{Holds, IsMended, IsToldOfReach, IsWholeUnlessFailed, SaysOf, ShowsMend}
+use Rattle.hub_serve.specs.Serves.{Holds, IsMended, IsToldOfReach, IsWholeUnlessFailed, SaysOf, ShowsMend}
 use Rattle.hub_serve.specs.Task.{AsksTask}
 use Rattle.hub_serve.proofs.InUnison.{safe-in_unison}
 

@@ -6,5 +6,5 @@ pub mod Reached
 pub mod Unison
 pub mod ByRounds
 pub mod Mended
-pub mod Report
+pub mod Serves
 pub mod laws

@@ -5,7 +5,7 @@ ghost use Rattle.hub_bundle.specs.Sections.{Spells};
 ghost use Rattle.hub_cli.specs.Words.{about, reading_for, request_of};
 ghost use Rattle.hub_report.specs.Report.{says_read_failed, unread_by};
 ghost use Rattle.hub_serve.specs.Reads.{AreSpent, reads_between};
-ghost use Rattle.hub_serve.specs.Report as report;
+ghost use Rattle.hub_serve.specs.Serves as report;
 ghost use Rattle.hub_serve.specs.Unison.{IsReadAs, SpellsAs, SpellsCounted};
 
 use crate::import::report_on_import;

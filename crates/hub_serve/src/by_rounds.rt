@@ -12,7 +12,7 @@ ghost use Rattle.hub_report.specs.Report.{unread_by};
 ghost use Rattle.hub_serve.specs.ByRounds as spec;
 ghost use Rattle.hub_serve.specs.ByRounds.{HasRunByRounds, HaveRun, IsAdded, IsBegun, AddsRound};
 ghost use Rattle.hub_serve.specs.ByRounds.{RefusesOneOf, RefusesWorkers};
-ghost use Rattle.hub_serve.specs.Report.{IsToldOfSet};
+ghost use Rattle.hub_serve.specs.Serves.{IsToldOfSet};
 ghost use Rattle.hub_serve.specs.Rounds.{HasUnverifiedRound};
 ghost use Rattle.hub_serve.specs.declared.task.Task.TheVariants as task;
 

@@ -2,7 +2,7 @@
 ghost use Rattle.std.specs.Prelude.{◌≡◌, None};
 ghost use Rattle.hub_cli.specs.Words.{imported};
 ghost use Rattle.hub_report.specs.Report.{unread_by};
-ghost use Rattle.hub_serve.specs.Report as report;
+ghost use Rattle.hub_serve.specs.Serves as report;
 
 use hub_bundle::BundleContents;
 use hub_import::{BundleUnwritten, write_bundle};

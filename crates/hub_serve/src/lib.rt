@@ -23,7 +23,7 @@
 //! - The answer is a `Report` of `hub_report`. It is written as one line, as the certificates' text, or as `safe` and below it
 //!   what the jobs did and the state that they left (`program`).
 //!
-//! The contracts use the words of `specs/Report` (which answer is right, and what the program does as a whole), `specs/Reads`
+//! The contracts use the words of `specs/Serves` (which answer is right, and what the program does as a whole), `specs/Reads`
 //! (the reads of the input), `specs/Unison` (what is spelled if the profiles are read for Unison), `specs/Mended` (what is spelled with
 //! lines that were found), `specs/Task` (what is to be
 //! done), `specs/Runs` (what is written of a run), `specs/ByRounds` (what a run by rounds does and leaves) and `specs/Rounds`

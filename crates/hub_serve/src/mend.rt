@@ -11,7 +11,7 @@ ghost use Rattle.hub_mend.specs.TakesAway.{AllTakeAway};
 ghost use Rattle.hub_cli.specs.declared.words.Reading.{Reading as ReadingValue};
 ghost use Rattle.hub_report.specs.Report.{unread_by};
 ghost use Rattle.hub_serve.specs.Mended as spec;
-ghost use Rattle.hub_serve.specs.Report as report;
+ghost use Rattle.hub_serve.specs.Serves as report;
 ghost use Rattle.hub_serve.specs.Unison.{SpellsAs};
 
 use crate::answer::contents_in;

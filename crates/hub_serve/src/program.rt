@@ -7,7 +7,7 @@ ghost use Rattle.hub_report.specs.Blocks.{bytes_in};
 ghost use Rattle.hub_cli.specs.ClapWords.{kind_of};
 ghost use Rattle.hub_cli.specs.Words.{asked_of, request_of};
 ghost use Rattle.hub_serve.specs.Reads.{reads_between};
-ghost use Rattle.hub_serve.specs.Report.{Answers, AnswersNothing, Serves, WritesText};
+ghost use Rattle.hub_serve.specs.Serves.{Answers, AnswersNothing, Serves, WritesText};
 
 use crate::answer::report_on;
 use crate::laws::what_is_shown_is_not_safe;

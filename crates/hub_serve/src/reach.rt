@@ -2,7 +2,7 @@
 ghost use Rattle.std.specs.Prelude.{◌≡◌, ◌⊎◌, Some, None, MatchOption};
 ghost use Rattle.hub_cli.specs.Words as words;
 ghost use Rattle.hub_report.specs.Report.{unread_by};
-ghost use Rattle.hub_serve.specs.Report as report;
+ghost use Rattle.hub_serve.specs.Serves as report;
 ghost use Rattle.hub_serve.specs.Reached.{first_named};
 
 use hub_bundle::BundleContents;

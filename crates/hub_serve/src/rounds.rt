@@ -7,7 +7,7 @@ ghost use Rattle.hub_apart.specs.Apart as apart;
 ghost use Rattle.hub_apart.specs.ApartLines.{AreLines, AreLinesApart};
 ghost use Rattle.hub_rounds.specs.Rounds.{AreRounds};
 ghost use Rattle.hub_report.specs.Report.{unread_by};
-ghost use Rattle.hub_serve.specs.Report as report;
+ghost use Rattle.hub_serve.specs.Serves as report;
 ghost use Rattle.hub_serve.specs.Rounds as rounds;
 ghost use Rattle.hub_serve.specs.Rounds.{DrawsClashes, IsUncut, WritesRounds};
 ghost use Rattle.hub_serve.specs.declared.task.Task.TheVariants as task;

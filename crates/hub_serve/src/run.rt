@@ -7,7 +7,7 @@ ghost use Rattle.hub_state.specs.State.{State};
 ghost use Rattle.hub_schedule.specs.Simulated.{AreFinished, HaveEnded, IsPromised};
 ghost use Rattle.hub_runner.specs.Working.{IsNotRun, MayRun};
 ghost use Rattle.hub_report.specs.Report.{unread_by};
-ghost use Rattle.hub_serve.specs.Report as report;
+ghost use Rattle.hub_serve.specs.Serves as report;
 ghost use Rattle.hub_serve.specs.Runs.{ComesOf, HasRun, IsRunOn, PreventsRun, answer_of, attempt_of, error_of};
 ghost use Rattle.hub_serve.specs.declared.task.Task.TheVariants as task;
 

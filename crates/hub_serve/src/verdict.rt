@@ -4,7 +4,7 @@ ghost use Rattle.hub_cert.specs.declared.certificate.Certificate.{Certificate};
 ghost use Rattle.hub_cert.specs.Set.{Members};
 ghost use Rattle.hub_report.specs.Report.{unread_by};
 ghost use Rattle.hub_cli.specs.Words.{about};
-ghost use Rattle.hub_serve.specs.Report as report;
+ghost use Rattle.hub_serve.specs.Serves as report;
 ghost use Rattle.hub_serve.specs.declared.task.Task.{Task};
 ghost use Rattle.hub_serve.specs.declared.task.Task.TheVariants as task;
 

@@ -3,7 +3,7 @@ use Rattle.std.proofs.Common.{◌≡◌, ◌∙◌, inl, inr, ℕ, Bool, true, f
 use Rattle.std.specs.Prelude.{is_some}
 use Rattle.hub_cli.specs.Words.{Request, are_none, asked_of, files_of, is_strict_of}
 use Rattle.hub_serve.specs.Reads.{Reads as InputReads}
-use Rattle.hub_serve.specs.Report.{AnswersNothing, Serves, WritesText}
+use Rattle.hub_serve.specs.Serves.{AnswersNothing, Serves, WritesText}
 use Rattle.hubsync.specs.Bundled.{Disk, ServesFiles, ServesNamed, Sources, memory_line}
 use Rattle.hubsync.specs.Process.{AnswersWords, sources_of}
 use Rattle.hubsync.specs.Strict.{Strictly, strict_status_of}

@@ -9,7 +9,7 @@ use Rattle.hub_bundle.specs.declared.part.Part.{Part}
 use Rattle.hub_bundle.specs.declared.part.PartFault.{PartFault}
 use Rattle.hub_bundle.specs.declared.part.PartFault.TheVariants.{BadName, HasHeading}
 use Rattle.hub_serve.specs.Reads.{Reads as InputReads}
-use Rattle.hub_serve.specs.Report.{AnswersNothing, Serves, WritesText}
+use Rattle.hub_serve.specs.Serves.{AnswersNothing, Serves, WritesText}
 use Rattle.hub_folder.specs.Operands.{AreNamed, File, IsUnnamed}
 use Rattle.hub_folder.specs.Reading.{HasBytes, HasFault, Lists, Reads, fault_word}
 use Rattle.hub_folder.specs.declared.fault.Untaken.{Untaken}

@@ -3,7 +3,7 @@ ghost use Rattle.std.specs.Prelude.{◌≡◌, ◌++◌, ◌∷◌, [], IfOk, co
 ghost use Rattle.hub_cli.specs.Words.{asked_of};
 ghost use Rattle.hub_bundle.specs.Files as files;
 ghost use Rattle.hub_bundle.specs.Files.{bundle_of};
-ghost use Rattle.hub_serve.specs.Report.{WritesText};
+ghost use Rattle.hub_serve.specs.Serves.{WritesText};
 ghost use Rattle.hubsync.specs.Bundled as bundled;
 ghost use Rattle.hubsync.specs.Bundled.{ServesBundle, ServesParts, WritesFault, file_fault_line, file_at, memory_line, reason_at};
 

@@ -19,7 +19,7 @@ mod untaken;
 ghost use Rattle.std.specs.Prelude.{◌≡◌, false, map, string_bytes, IfErr, IfOk};
 ghost use Rattle.std.specs.Process.{exit_status};
 ghost use Rattle.hub_serve.specs.Reads.{reads_between};
-ghost use Rattle.hub_serve.specs.Report.{AnswersNothing};
+ghost use Rattle.hub_serve.specs.Serves.{AnswersNothing};
 ghost use Rattle.hubsync.specs.Process.{AnswersWords};
 ghost use Rattle.hubsync.specs.Strict.{strict_status_of};
 

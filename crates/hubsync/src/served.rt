@@ -2,7 +2,7 @@
 ghost use Rattle.std.specs.Prelude.{◌≡◌, false, map, string_bytes};
 ghost use Rattle.hub_cli.specs.Words.{asked_of};
 ghost use Rattle.hub_serve.specs.Reads.{reads_between};
-ghost use Rattle.hub_serve.specs.Report.{Serves};
+ghost use Rattle.hub_serve.specs.Serves.{Serves};
 
 use crate::kept::{Kept, Passed};
 use crate::terminal::Terminal;

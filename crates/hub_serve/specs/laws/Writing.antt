@@ -5,7 +5,7 @@ use Rattle.std.specs.Prelude.{OnOk, is_err}
 use Rattle.std.specs.Io.KnownBytes.{Appends, Keeps}
 use Rattle.std.proofs.KnownBytes.{Appends-kept}
 use Rattle.std.proofs.lemmas.List.{take_all}
-use Rattle.hub_serve.specs.Report.{WritesText}
+use Rattle.hub_serve.specs.Serves.{WritesText}
 
 -- A whole text was written, and no call failed.
 pub text-written : (old mid new : Option (List ℕ)) (text : List ℕ) (status : ℕ) (failed : Bool)

@@ -1,7 +1,7 @@
 use Rattle.std.proofs.Common.{ap, map, string_bytes, Global}
 use Rattle.hub_cli.specs.Words.{asked_of}
 use Rattle.hub_serve.specs.Reads.{reads_between}
-use Rattle.hub_serve.specs.Report.{Serves}
+use Rattle.hub_serve.specs.Serves.{Serves}
 use Rattle.hub_serve.proofs.Answered.{ok-holds, serves-same}
 use Rattle.hub_serve.proofs.program.serve_process.Goals as goal
 

@@ -1,5 +1,5 @@
 use Rattle.std.proofs.Common.{subst}
-use Rattle.hub_serve.specs.Report.{WritesText}
+use Rattle.hub_serve.specs.Serves.{WritesText}
 use Rattle.hub_serve.proofs.program.write_out_of_memory.Goals as goal
 
 pub returns : goal.returns

@@ -1,5 +1,5 @@
 use Rattle.std.proofs.Common.{inl, inr, subst, sym}
-use Rattle.hub_serve.specs.Report.{WritesText}
+use Rattle.hub_serve.specs.Serves.{WritesText}
 use Rattle.hub_cli.specs.Words.{names_of}
 use Rattle.hubsync.specs.Bundled.{Disk, WritesFault, hosts_word, memory_line}
 use Rattle.hubsync.proofs.FilesFacts.{of-bad-hosts}

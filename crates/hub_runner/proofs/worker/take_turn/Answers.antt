@@ -1,5 +1,5 @@
 use Rattle.hub_runner.proofs.Ending.{asks_after}
-use Rattle.hub_runner.proofs.worker.has_ended.Goals as goal
+use Rattle.hub_runner.proofs.worker.take_turn.Goals as goal
 
 pub step-requires : goal.step-requires
 step-requires g c =

@@ -1,5 +1,5 @@
-//! Answers questions about sets of profiles, goals, certificates and searches. `stdin` has the questions, and `stdout` the
-//! answers, which were worked out by hand from the rules; so the program is a test of `hub_cert`, `hub_search`, `hub_rounds` and `hub_apart`.
+//! Answers questions about sets of profiles, goals, certificates and searches. `stdin` has the questions with their answers, which
+//! were worked out by hand from the rules; so the program is a test of `hub_cert`, `hub_search`, `hub_rounds` and `hub_apart`.
 //!
 //! Each line of the input is a question, as `test_kit` says: a word and its fields.
 //!

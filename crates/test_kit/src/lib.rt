@@ -1,13 +1,16 @@
 //! What the programs `test_*` share: how a table of questions is read and answered, in one dialect.
 //!
-//! - [`answer_each`] reads the table on standard input, and writes `QUESTION => ANSWER` for each question. A program whose lines
-//!   give something to the questions below them is an [`Answers`], and calls [`answer_table`]. One that needs threads takes the
-//!   lines itself, by [`for_each_line`].
+//! - [`answer_each`] reads the table on standard input. A program whose lines give something to the questions below them is an
+//!   [`Answers`], and calls [`answer_table`]. One that needs threads takes the lines itself, by [`for_each_case`].
 //! - [`cut`], [`first`], [`two`] and [`three`] split a question; [`bytes_of`], [`text_of`], [`character_of`], [`path_of`] and
 //!   [`contents_of`] read a field, and [`only_character`] a text.
 //! - [`answers_to_steps`] answers steps, one after another. What takes them is a [`Subject`].
 //! - [`yes_or_no`], [`shown`], [`quoted`], [`in_one_line`], [`outcome_text`], [`answer_or_fault`] and [`digit`] write answers,
 //!   and [`list_text`], [`list_of`] and [`joined`] those of several parts.
+//!
+//! A case is a line `QUESTION => ANSWER`. Further lines of its answer stand below it, each behind `| `. A program writes
+//! `QUESTION => ANSWER` for each question that it answers otherwise, and at last how many are answered as the table says: this
+//! number is all of the file `stdout`.
 //!
 //! A question is a word and fields. Fields are separated by ` | `, and steps or lines within a field by `; `. Empty lines are
 //! skipped, and so are those that begin with `#`. A question that can't be read ends the program with an error.
@@ -47,4 +50,4 @@ pub use answers::{
 pub use escapes::{bytes_of, text_of};
 pub use fields::{character_of, contents_of, cut, first, only_character, path_of, three, two};
 pub use steps::{Subject, answers_to_steps};
-pub use table::{Answers, answer_each, answer_table, for_each_line};
+pub use table::{Answers, answer_each, answer_table, for_each_case};

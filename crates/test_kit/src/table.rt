@@ -1,7 +1,7 @@
-//! A table of questions, which is read and answered line by line.
+//! A table of cases, whose questions are answered line by line.
 use crate::fields::cut;
 use crate::shorthand::expand;
-use anyhow::{Context, Result};
+use anyhow::{Context, Result, bail};
 use std::alloc::Global;
 use std::io::{BufRead, BufReader, Input};
 
@@ -14,12 +14,20 @@ pub trait Answers {
     fn answer(&mut self, alloc: Global, word: &str, fields: &str) -> Result<String>;
 }
 
+/// A question that was answered, and the answer that the table expects.
+#[derive(Drop)]
+struct Case {
+    question: String,
+    answer: String,
+    expected: String,
+}
+
 /// Answers the questions of standard input.
 pub fn answer_table<R: Input + Print + AllocGlobal, A: Answers>(
     rt: &R,
     answers: &mut A,
 ) -> Result<()> {
-    for_each_line(rt, |line| answer_line(rt, answers, line))
+    for_each_case(rt, |line| answer_line(rt.alloc(), answers, line))
 }
 
 /// Answers the questions of standard input, each by itself: no line gives something to the others.
@@ -29,56 +37,115 @@ pub fn answer_each<R: Input + Print + AllocGlobal, F: Fn(Global, &str, &str) -> 
 ) -> Result<()>
     requires { F.IsAlwaysCallable answer }
 {
-    for_each_line(rt, |line| {
-        answer_question(rt, line, |alloc, word, fields| answer(alloc, word, fields))
+    for_each_case(rt, |line| {
+        answer_question(
+            rt.alloc(),
+            line,
+            |alloc, word, fields| answer(alloc, word, fields),
+        )
     })
 }
 
-/// Takes each line of standard input, but no empty line, and none that begins with `#`.
-pub fn for_each_line<R: Input + AllocGlobal, F: FnMut(&str) -> Result<()>>(
+/// Takes each question of standard input, and each line that gives something, for which `take` returns `None`. It writes the
+/// questions that are answered otherwise than the table says, with their answers, and at last how many are answered so.
+pub fn for_each_case<R: Input + Print + AllocGlobal, F: FnMut(&str) -> Result<Option<String>>>(
     rt: &R,
     mut take: F,
 ) -> Result<()>
     requires { F.IsAlwaysCallable take }
 {
     let alloc = rt.alloc();
+    let mut case = None;
+    let mut right: u64 = 0;
     for line in BufReader::new(alloc, rt.reader())?.lines(alloc) {
         let line = line?;
         let line = line.as_str();
-        if !line.is_empty() && !line.starts_with('#') {
-            take(line).context(format_args!("{line}"))?;
+        if let Some(more) = line.strip_prefix('|') {
+            expect_more(&mut case, more)?;
+        } else if !line.is_empty() && !line.starts_with('#') {
+            right = right.saturating_add(judge(rt, &case)?);
+            let (question, expected) = cut_case(line);
+            let answer = take(question).context(format_args!("{line}"))?;
+            case = case_of(alloc, question, answer, expected)?;
         }
     }
+    right = right.saturating_add(judge(rt, &case)?);
+    println!(rt; "{right} right")?;
     Ok(())
 }
 
-/// Takes a line, or writes the answer to it.
-fn answer_line<R: Print + AllocGlobal, A: Answers>(
-    rt: &R,
-    answers: &mut A,
-    line: &str,
-) -> Result<()> {
+/// The question of a line, and the answer that it expects. That of a line without one is empty.
+fn cut_case(line: &str) -> (&str, &str) {
+    match line.rsplit_once(" => ") {
+        Some(parts) => parts,
+        None => (line, ""),
+    }
+}
+
+/// What stands of a line, if it is a question.
+fn case_of(
+    alloc: Global,
+    question: &str,
+    answer: Option<String>,
+    expected: &str,
+) -> Result<Option<Case>> {
+    let Some(answer) = answer else {
+        return Ok(None);
+    };
+    let question = String::from_str(alloc, question)?;
+    let expected = String::from_str(alloc, expected)?;
+    Ok(Some(Case {
+        question,
+        answer,
+        expected,
+    }))
+}
+
+/// Adds a line to the answer that is expected.
+fn expect_more(case: &mut Option<Case>, line: &str) -> Result<()> {
+    let Some(case) = case else {
+        bail!("no question stands above |{line}");
+    };
+    case.expected.push('\n')?;
+    case.expected
+        .push_str(line.strip_prefix(' ').unwrap_or(line))?;
+    Ok(())
+}
+
+/// Returns 1 if the question is answered as the table says. If it isn't, its answer is written.
+fn judge<R: Print>(rt: &R, case: &Option<Case>) -> Result<u64> {
+    let Some(case) = case else {
+        return Ok(0);
+    };
+    if case.answer.as_str() == case.expected.as_str() {
+        return Ok(1);
+    }
+    let (question, answer) = (case.question.as_str(), case.answer.as_str());
+    println!(rt; "{question} => {answer}")?;
+    Ok(0)
+}
+
+/// Takes a line, or answers it.
+fn answer_line<A: Answers>(alloc: Global, answers: &mut A, line: &str) -> Result<Option<String>> {
     if answers.takes(line)? {
-        return Ok(());
+        return Ok(None);
     }
     answer_question(
-        rt,
+        alloc,
         line,
         |alloc, word, fields| answers.answer(alloc, word, fields),
     )
 }
 
-/// Writes the answer to a question.
-fn answer_question<R: Print + AllocGlobal, F: FnOnce(Global, &str, &str) -> Result<String>>(
-    rt: &R,
+/// Answers a question.
+fn answer_question<F: FnOnce(Global, &str, &str) -> Result<String>>(
+    alloc: Global,
     line: &str,
     answer: F,
-) -> Result<()>
+) -> Result<Option<String>>
     requires { F.IsAlwaysCallable answer }
 {
-    let question = expand(rt.alloc(), line)?;
+    let question = expand(alloc, line)?;
     let (word, fields) = cut(question.as_str());
-    let answer = answer(rt.alloc(), word, fields)?;
-    println!(rt; "{line} => {answer}")?;
-    Ok(())
+    Ok(Some(answer(alloc, word, fields)?))
 }

@@ -1,8 +1,7 @@
-//! Asks `hub_text`, `hub_path`, `hub_glob` and `hub_profile` the questions of standard input, and writes each question
-//! with its answer on standard output.
+//! Asks `hub_text`, `hub_path`, `hub_glob` and `hub_profile` the questions of standard input.
 //!
-//! The file `stdin` has the questions. The file `stdout` has the answers that are expected, which were worked out by hand
-//! from the rules. They are data: no proof depends on them.
+//! The file `stdin` has the questions with their answers, which were worked out by hand from the rules. They are data: no proof
+//! depends on them.
 //!
 //! A question is a line, as `test_kit` says: a subject, a question about it, and one or more fields.
 //!

@@ -1,7 +1,7 @@
-//! Answers questions about alphabets, automata and profiles. With the questions of `stdin` and the answers of `stdout`, which
-//! were worked out by hand from the rules, it is the test of `hub_automaton` and `hub_reach`.
+//! Answers questions about alphabets, automata and profiles. `stdin` has the questions with their answers, which were worked out
+//! by hand from the rules; so the program is a test of `hub_automaton` and `hub_reach`.
 //!
-//! Each line of standard input is a question, as `test_kit` says. `stdin` says what each word asks for. The answer is what
+//! Each line of standard input is a case, as `test_kit` says. `stdin` says what each word asks for. The answer is what
 //! the crates say.
 #![tactic(auto)]
 

@@ -1,4 +1,4 @@
-//! Answers questions about books, jobs and threads. `stdin` has the questions, and `stdout` the answers, which were worked out by
+//! Answers questions about books, jobs and threads. `stdin` has the questions with their answers, which were worked out by
 //! hand from the rules; so the program is a test of `hub_history` and `hub_runner`.
 //!
 //! The questions are written as `test_kit` says, but without abbreviations. A line of the input gives something to the questions
@@ -41,21 +41,23 @@ use runs::Run;
 use std::sync::Wait;
 use std::thread::Threads;
 use test_cases::Case;
-use test_kit::{cut, for_each_line};
+use test_kit::{cut, for_each_case};
 
 fn main(rt: HostRuntime) -> Result<()> {
     let mut case = Case::new(rt.alloc());
-    for_each_line(&rt, |line| take_line(&rt, &mut case, line))
+    for_each_case(&rt, |line| take_line(&rt, &mut case, line))
 }
 
-/// Takes a line of the input, and writes the answer if it is a question.
-fn take_line<R: Print + Threads + Wait + Sync>(rt: &R, case: &mut Case, line: &str) -> Result<()> {
+/// Takes a line of the input, and answers it if it is a question.
+fn take_line<R: Threads + Wait + Sync>(
+    rt: &R,
+    case: &mut Case,
+    line: &str,
+) -> Result<Option<String>> {
     if takes(case, line)? {
-        return Ok(());
+        return Ok(None);
     }
-    let answer = answer(rt, case, line)?;
-    println!(rt; "{line} => {answer}")?;
-    Ok(())
+    Ok(Some(answer(rt, case, line)?))
 }
 
 /// Takes a line if it gives something, and returns whether it does.

@@ -1,4 +1,4 @@
-//! Answers questions about operations on a replica, jobs and schedules. `stdin` has the questions, and `stdout` the answers,
+//! Answers questions about operations on a replica, jobs and schedules. `stdin` has the questions with their answers,
 //! which were worked out by hand from the rules; so the program is a test of `hub_job` and `hub_schedule`.
 //!
 //! The questions are written as `test_kit` says. A line of the input gives something to the questions below it, or it is a question.

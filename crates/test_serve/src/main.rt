@@ -1,4 +1,4 @@
-//! Asks `hub_serve` through readers and writers of its own. `stdin` has the questions, and `stdout` the answers, which were worked
+//! Asks `hub_serve` through readers and writers of its own. `stdin` has the questions with their answers, which were worked
 //! out by hand from the rules; so the program is a test of what `serve` does with inputs that come in pieces, don't end or fail, and
 //! with outputs that take little, nothing or fail.
 //!
@@ -30,27 +30,25 @@ use anyhow::{Result, bail};
 use std::io::Eprint;
 use std::sync::Wait;
 use std::thread::Threads;
-use test_kit::{bytes_of, cut, for_each_line};
+use test_kit::{bytes_of, cut, for_each_case};
 
 fn main(rt: HostRuntime) -> Result<()> {
     let mut text = Vec::new(rt.alloc());
-    for_each_line(&rt, |line| take_line(&rt, &mut text, line))
+    for_each_case(&rt, |line| take_line(&rt, &mut text, line))
 }
 
-/// Takes a line: the text of the input, or a question. It writes the answer to a question.
-fn take_line<R: AllocGlobal + Print + Eprint + Threads + Wait + Sync>(
+/// Takes a line: the text of the input, or a question, which it answers.
+fn take_line<R: AllocGlobal + Eprint + Threads + Wait + Sync>(
     rt: &R,
     text: &mut Vec<u8>,
     line: &str,
-) -> Result<()> {
+) -> Result<Option<String>> {
     let (word, fields) = cut(line);
     if word == "input" {
         *text = bytes_of(rt.alloc(), fields)?;
-        return Ok(());
+        return Ok(None);
     }
-    let answer = answer(rt, text.as_slice(), word, fields)?;
-    println!(rt; "{line} => {answer}")?;
-    Ok(())
+    Ok(Some(answer(rt, text.as_slice(), word, fields)?))
 }
 
 /// The answer to a question about an input.

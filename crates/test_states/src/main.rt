@@ -1,4 +1,4 @@
-//! Answers questions about replicas, archives, state texts and reconciliation. `stdin` has the questions, and `stdout` the
+//! Answers questions about replicas, archives, state texts and reconciliation. `stdin` has the questions with their
 //! answers, which were worked out by hand from the rules; so the program is a test of the crates below it.
 //!
 //! The questions are written as `test_kit` says:

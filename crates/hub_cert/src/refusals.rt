@@ -108,8 +108,8 @@ fn alphabet_within_limits(
         → IfErr result (refused.IsTooMuch S) }
 {
     let alphabet = alphabet_with(alloc, profiles, rules)?;
-    count_profile_spots(alloc, &alphabet, profiles)?;
-    count_rule_spots(alloc, &alphabet, rules)?;
+    check_profile_spots(alloc, &alphabet, profiles)?;
+    check_rule_spots(alloc, &alphabet, rules)?;
     Ok(alphabet)
 }
 
@@ -229,7 +229,7 @@ pub(crate) fn alphabet_with(
 }
 
 /// Returns `TooManySpots` if a profile has too many spots for a walker.
-pub(crate) fn count_profile_spots(
+pub(crate) fn check_profile_spots(
     alloc: Global,
     alphabet: &Alphabet,
     profiles: &[Profile],
@@ -249,7 +249,7 @@ pub(crate) fn count_profile_spots(
 }
 
 /// Returns `TooManySpots` if a rule's specification has too many spots for a `SpecSet`.
-pub(crate) fn count_rule_spots(
+pub(crate) fn check_rule_spots(
     alloc: Global,
     alphabet: &Alphabet,
     rules: &[Rule],

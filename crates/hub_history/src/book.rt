@@ -92,7 +92,7 @@ impl<'a> Book<'a> {
         self.history.reserve(1)?;
         let profile = &self.profiles[job];
         let answer = perform(self.alloc, profile, &self.root, &mut self.tree, &op)?;
-        note(&mut self.history, job, op, &answer)?;
+        append_entry(&mut self.history, job, op, &answer)?;
         Ok(answer)
     }
 
@@ -157,7 +157,12 @@ impl<'a> Book<'a> {
 
 /// Appends an operation with a copy of its answer to a history that has room for it. An answer that can't be copied leaves
 /// the history as it was.
-fn note(history: &mut Vec<Entry>, job: usize, op: Op, answer: &Answer) -> Result<(), AllocError>
+fn append_entry(
+    history: &mut Vec<Entry>,
+    job: usize,
+    op: Op,
+    answer: &Answer,
+) -> Result<(), AllocError>
     requires { vec_len history.old < vec_capacity history.old }
     ensures ok { OnOk result
         (history.new.items ≡ history.old.items ++ entry_of job op answer.now ∷ []) }

@@ -238,13 +238,17 @@ fn ask(
 {
     let next = next_of(alloc, profile, archive, log.as_slice(), phase)?;
     let next = known.sharing(next);
-    note(log, asked, &next)?;
+    set_asked(log, asked, &next)?;
     Ok(next)
 }
 
-/// Notes what is asked, if a job does this next, and makes room in the log for the answer.
+/// Sets what is asked, if a job does this next, and makes room in the log for the answer.
 #[tactic(auto, using(crate::proofs::Phases::none_asked))]
-fn note(log: &mut Vec<Logged>, asked: &mut Option<Asked>, next: &Next) -> Result<(), AllocError>
+fn set_asked(
+    log: &mut Vec<Logged>,
+    asked: &mut Option<Asked>,
+    next: &Next,
+) -> Result<(), AllocError>
     ensures asked { OnOk result (asked.new ≡ asked_by next.now) }
     ensures log { log.new.items ≡ log.old.items }
     ensures room { OnOk result

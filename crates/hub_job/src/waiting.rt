@@ -55,7 +55,7 @@ impl Waiting {
     pub(crate) fn add(&mut self, path: RelPath) -> Result<(), AllocError>
         ensures { OnOk result (self.new ≡ insert_key path_cmp self.old path) }
     {
-        if let Some(place) = place_of(self.stack.as_slice(), &path) {
+        if let Some(place) = index_of(self.stack.as_slice(), &path) {
             self.stack.insert(place, path)?;
         }
         Ok(())
@@ -75,7 +75,7 @@ impl Waiting {
 }
 
 /// Returns where a path goes in a stack, or `None` if it is there. It looks from the end on.
-fn place_of(stack: &[RelPath], path: &RelPath) -> Option<usize>
+fn index_of(stack: &[RelPath], path: &RelPath) -> Option<usize>
     ensures within { IfSome result (λ at. at ≤ length stack.now) }
     ensures place { IfSome result (λ at. insert_key path_cmp (reverse stack.now) path.now
         ≡ reverse (insert stack.now at path.now)) }

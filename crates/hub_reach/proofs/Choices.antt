@@ -262,7 +262,7 @@ refused-bar k old now bs i b l e is many =
     let had : now ++ alternatives_of b.spec ∷ [] ≡ old ++ before = bars-more old now (now ++ alternatives_of b.spec ∷ []) bs i b l e refl is in
     omega (arith, ap spots_count had, many, spots-append old before, ap spots_count all, spots-append old (map alternatives_of (specs_of bs)), spots-append before after)
 
--- The places of the first i bars and of the next one.
+-- The ranges of the first i bars and of the next one.
 placed-append : (n : ℕ) (bs : List Partial) (b : Partial) → placed_bars n (bs ++ b ∷ []) ≡ placed_bars n bs ++ placed_bar (n + length bs) b ∷ []
 placed-append n [] b = ap (λ k. placed_bar k b ∷ []) (omega arith)
 placed-append n (c ∷ bs) b =

@@ -7,7 +7,7 @@ pub mod Safe
 pub mod Walk
 pub mod Shape
 pub mod Stage
-pub mod Places
+pub mod SpecRanges
 pub mod Walker
 pub mod WalkerEnds
 pub mod Mention

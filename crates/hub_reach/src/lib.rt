@@ -11,7 +11,7 @@
 //! - [`laws`]: what the crates above may conclude of stages and of reach.
 //!
 //! Only functions that return a `Result` allocate. No crate above calls `Stage::row_len`: it is for measurements. The contracts
-//! use the words of `specs/Reach`, `specs/Bars`, `specs/Stage`, `specs/Shape`, `specs/Places`, `specs/Table` and
+//! use the words of `specs/Reach`, `specs/Bars`, `specs/Stage`, `specs/Shape`, `specs/SpecRanges`, `specs/Table` and
 //! `specs/Numbering`.
 //!
 //! ```rust
@@ -42,7 +42,7 @@ pub mod laws;
 mod mentioning;
 mod mentions;
 mod placed_bar;
-mod places;
+mod ranges;
 mod reach;
 mod row;
 mod shape;

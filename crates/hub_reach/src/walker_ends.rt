@@ -4,10 +4,10 @@ ghost use Rattle.hub_automaton.specs.declared.alternatives.Alternatives.{Alterna
 ghost use Rattle.hub_automaton.specs.Spots.{seen};
 ghost use Rattle.hub_reach.specs.WalkerEnds.{AreEndsOf, bar_ends, some_match};
 ghost use Rattle.hub_reach.specs.declared.placed_bar.PlacedBar.{PlacedBar};
-ghost use Rattle.hub_reach.specs.declared.places.Places.{Places};
+ghost use Rattle.hub_reach.specs.declared.ranges.SpecRanges.{SpecRanges};
 
 use crate::placed_bar::PlacedBar;
-use crate::places::Places;
+use crate::ranges::SpecRanges;
 use hub_automaton::{Ends, SpecSet, Spots};
 use std::alloc::{AllocError, Global};
 
@@ -21,25 +21,25 @@ pub(crate) struct WalkerEnds {
 }
 
 impl WalkerEnds {
-    /// Returns the masks of the choices of a set at these places.
+    /// Returns the masks of the choices of a set at these ranges.
     pub(crate) fn build(
         alloc: Global,
         set: &SpecSet,
-        places: &Places,
+        ranges: &SpecRanges,
     ) -> Result<WalkerEnds, AllocError>
-        ensures { IfOk result (AreEndsOf set.now.alternatives places.now) }
+        ensures { IfOk result (AreEndsOf set.now.alternatives ranges.now) }
     {
         Ok(WalkerEnds {
-            ignore: set.ends_in(0, places.ignore_end)?,
-            ignorenot: set.ends_in(places.ignore_end, places.ignorenot_end)?,
-            kept: set.ends_in(places.ignorenot_end, places.kept_end)?,
-            barred: ends_of(alloc, set, places.partial.as_slice())?,
+            ignore: set.ends_in(0, ranges.ignore_end)?,
+            ignorenot: set.ends_in(ranges.ignore_end, ranges.ignorenot_end)?,
+            kept: set.ends_in(ranges.ignorenot_end, ranges.kept_end)?,
+            barred: ends_of(alloc, set, ranges.partial.as_slice())?,
         })
     }
 
     /// Returns whether a pattern of `ignore` matches the text of the state, and none of `ignorenot` does.
     pub(crate) fn ignore(&self, spots: &Spots) -> bool
-        ensures { (ls : List Alternatives) (a : Places) (t : List ℕ) → AreEndsOf ls a self.now
+        ensures { (ls : List Alternatives) (a : SpecRanges) (t : List ℕ) → AreEndsOf ls a self.now
             → spots.now ≡ seen ls t
             → result ≡ (some_match ls t 0 a.ignore_end
             && not (some_match ls t a.ignore_end a.ignorenot_end)) }
@@ -49,7 +49,7 @@ impl WalkerEnds {
 
     /// Returns whether the text of the state is that of a kept value.
     pub(crate) fn keep(&self, spots: &Spots) -> bool
-        ensures { (ls : List Alternatives) (a : Places) (t : List ℕ) → AreEndsOf ls a self.now
+        ensures { (ls : List Alternatives) (a : SpecRanges) (t : List ℕ) → AreEndsOf ls a self.now
             → spots.now ≡ seen ls t → result ≡ some_match ls t a.ignorenot_end a.kept_end }
     {
         spots.meets(&self.kept)

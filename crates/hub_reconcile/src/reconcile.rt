@@ -199,7 +199,7 @@ fn archive_of(
     let _top = picture.archive().mark_at(&RelPath::top(alloc));
     let mut marks = ArchiveBuilder::new(alloc);
     keep_all(&mut marks, others)?;
-    update_all(&mut marks, blocks)?;
+    add_marks(&mut marks, blocks)?;
     marks.build()
 }
 
@@ -218,7 +218,7 @@ fn keep_all(marks: &mut ArchiveBuilder, others: &[OldMark]) -> Result<(), AllocE
 }
 
 /// Adds the new marks of all blocks' paths.
-fn update_all(marks: &mut ArchiveBuilder, blocks: &[Block]) -> Result<(), AllocError>
+fn add_marks(marks: &mut ArchiveBuilder, blocks: &[Block]) -> Result<(), AllocError>
     requires { parts.HaveAllNames blocks.now }
     ensures { OnOk result (marks.new
         ≡ marks.old ++ parts.kept_marks (flat_map parts.block_marks blocks.now)) }

@@ -60,13 +60,13 @@ fn slot_of<'a>(job: Job<'a>, trees: &[WorkingTree<'_>]) -> Slot<'a>
     ensures { IsSlotOf trees.now job.entry result }
 {
     let roots = job.profile().roots();
-    let left = place_of(trees, &roots[0]);
-    let right = place_of(trees, &roots[1]);
+    let left = index_of(trees, &roots[0]);
+    let right = index_of(trees, &roots[1]);
     Slot { job, left, right }
 }
 
 /// Returns the number of a root's replica, which is there.
-fn place_of(trees: &[WorkingTree<'_>], root: &Root) -> usize
+fn index_of(trees: &[WorkingTree<'_>], root: &Root) -> usize
     requires { (n : ℕ) × IsTreeNumber trees.now root.now n }
     ensures { IsTreeNumber trees.now root.now result }
 {

@@ -7,8 +7,8 @@ ghost use Rattle.hub_serve.specs.Serves.{WritesText};
 ghost use Rattle.hubsync.specs.Bundled as bundled;
 ghost use Rattle.hubsync.specs.Bundled.{ServesBundle, ServesParts, WritesFault, file_fault_line, file_at, memory_line, reason_at};
 
-use crate::kept::Kept;
-use crate::served::{Answered, Seen, serve_with_remarks};
+use crate::captured::Captured;
+use crate::served::{Answered, Capture, serve_with_remarks};
 use hub_bundle::{FilesFault, Part, PartFault, bundle_of, part_fault};
 use hub_source::SourceFile;
 use hub_text::Watched;
@@ -25,8 +25,8 @@ pub fn serve_parts<T: AllocGlobal + Clock + Eprint + Threads + Wait + Sync, W: W
     words: &[String],
     files: &[SourceFile<'_>],
     parts: &[Part<'_>],
-    output: &mut Watched<Kept<'_, W>>,
-    seen: &Seen,
+    output: &mut Watched<Captured<'_, W>>,
+    capture: &Capture,
 ) -> Answered
     requires { output.old.failed ≡ false }
     ensures { ServesParts (asked_of (map string_bytes words.now)) parts.now
@@ -36,8 +36,8 @@ pub fn serve_parts<T: AllocGlobal + Clock + Eprint + Threads + Wait + Sync, W: W
     let alloc = rt.alloc();
     match bundle_of(alloc, parts) {
         Ok(bundle) => {
-            let mut input = Watched::new(Kept::new(bundle.as_slice(), &seen.input));
-            serve_with_remarks(rt, words, files, &mut input, output, seen)
+            let mut input = Watched::new(Captured::new(bundle.as_slice(), &capture.input));
+            serve_with_remarks(rt, words, files, &mut input, output, capture)
         }
         Err(FilesFault::File(i)) => Answered::plain(write_part_fault(rt, parts, i, output)),
         Err(FilesFault::OutOfMemory) => Answered::plain(write_memory(output)),
@@ -49,7 +49,7 @@ fn write_part_fault<T: AllocGlobal + Eprint, W: Write>(
     rt: &T,
     parts: &[Part<'_>],
     i: usize,
-    output: &mut Watched<Kept<'_, W>>,
+    output: &mut Watched<Captured<'_, W>>,
 ) -> u8
     requires { output.old.failed ≡ false }
     ensures { WritesFault (file_at parts.now i) (reason_at parts.now i)
@@ -66,7 +66,7 @@ fn write_part_fault<T: AllocGlobal + Eprint, W: Write>(
 fn write_why<T: AllocGlobal + Eprint, W: Write>(
     rt: &T,
     part: &Part<'_>,
-    output: &mut Watched<Kept<'_, W>>,
+    output: &mut Watched<Captured<'_, W>>,
 ) -> u8
     requires { output.old.failed ≡ false }
     ensures { WritesFault part.now.file.now (bundled.reason_of (files.part_fault part.now))
@@ -110,7 +110,7 @@ pub fn write_fault<W: Write>(
     alloc: Global,
     file: &[u8],
     reason: &str,
-    output: &mut Watched<Kept<'_, W>>,
+    output: &mut Watched<Captured<'_, W>>,
 ) -> u8
     requires { output.old.failed ≡ false }
     ensures { WritesFault file.now reason.now
@@ -137,7 +137,7 @@ fn fault_line(alloc: Global, file: &[u8], reason: &str) -> Result<Vec<u8>, Alloc
 }
 
 /// Says that memory is out.
-pub fn write_memory<W: Write>(output: &mut Watched<Kept<'_, W>>) -> u8
+pub fn write_memory<W: Write>(output: &mut Watched<Captured<'_, W>>) -> u8
     requires { output.old.failed ≡ false }
     ensures { WritesText (W.contents output.old.device.device) (W.contents output.new.device.device)
         memory_line 2 output.new.failed result }
@@ -146,7 +146,7 @@ pub fn write_memory<W: Write>(output: &mut Watched<Kept<'_, W>>) -> u8
 }
 
 /// Writes a text and returns its status, or 2 if a write or the flush failed.
-fn write_text<W: Write>(text: &[u8], status: u8, output: &mut Watched<Kept<'_, W>>) -> u8
+fn write_text<W: Write>(text: &[u8], status: u8, output: &mut Watched<Captured<'_, W>>) -> u8
     requires { output.old.failed ≡ false }
     ensures { WritesText (W.contents output.old.device.device) (W.contents output.new.device.device)
         text.now status output.new.failed result }

@@ -8,8 +8,8 @@ ghost use Rattle.hubsync.specs.Bundled.{AreRead, AreSections, AreTaken, HasConte
 ghost use Rattle.hubsync.specs.Named.{IsUnreadFile, IsUnreadOf, IsUnserved, bytes_held, label_held, label_named, sources_in, table_in};
 
 use crate::bundled::{serve_parts, write_memory};
-use crate::kept::Kept;
-use crate::served::{Answered, Seen};
+use crate::captured::Captured;
+use crate::served::{Answered, Capture};
 use crate::untaken::{write_bad_hosts, write_unread, write_untaken};
 use hub_bundle::{Kind, Part};
 use hub_cli::{Files, Options};
@@ -81,8 +81,8 @@ pub fn serve_files<
     words: &[String],
     options: &Options<'_>,
     reader: &F,
-    output: &mut Watched<Kept<'_, W>>,
-    seen: &Seen,
+    output: &mut Watched<Captured<'_, W>>,
+    capture: &Capture,
 ) -> Answered
     requires { output.old.failed ≡ false }
     ensures { ServesFiles (record { reads = F.reads reader.now; lists = F.lists reader.now })
@@ -90,7 +90,7 @@ pub fn serve_files<
         (W.contents output.old.device.device) (W.contents output.new.device.device)
         output.new.failed result.status }
 {
-    match serve_named(rt, words, options, reader, output, seen) {
+    match serve_named(rt, words, options, reader, output, capture) {
         Ok(answered) => answered,
         Err(Unserved::File(file, fault)) => {
             Answered::plain(write_unread(rt, file, fault, output))
@@ -117,8 +117,8 @@ fn serve_named<
     words: &[String],
     options: &Options<'a>,
     reader: &F,
-    output: &mut Watched<Kept<'_, W>>,
-    seen: &Seen,
+    output: &mut Watched<Captured<'_, W>>,
+    capture: &Capture,
 ) -> Result<Answered, Unserved<'a>>
     requires { output.old.failed ≡ false }
     ensures served { IfOk result (λ a. ServesFiles
@@ -137,7 +137,14 @@ fn serve_named<
     let held = read_sections(alloc, reader, options)?;
     let parts = parts_of(alloc, held.as_slice())?;
     let files = source_files(alloc, held.as_slice())?;
-    let answered = serve_parts(rt, words, files.as_slice(), parts.as_slice(), output, seen);
+    let answered = serve_parts(
+        rt,
+        words,
+        files.as_slice(),
+        parts.as_slice(),
+        output,
+        capture,
+    );
     let has_left_out = say_left_out(rt, held.as_slice());
     Ok(Answered {
         status: answered.status,

@@ -9,8 +9,8 @@
 #![tactic(auto)]
 
 mod bundled;
+mod captured;
 mod files;
-mod kept;
 mod reader;
 mod served;
 mod terminal;
@@ -24,10 +24,10 @@ ghost use Rattle.hubsync.specs.Process.{AnswersWords};
 ghost use Rattle.hubsync.specs.Strict.{strict_status_of};
 
 use crate::bundled::write_memory;
+use crate::captured::Captured;
 use crate::files::serve_files;
-use crate::kept::Kept;
 use crate::reader::SystemFiles;
-use crate::served::{Answered, Seen, serve_with_remarks};
+use crate::served::{Answered, Capture, serve_with_remarks};
 use hub_cli::{ErrorKind, read_options};
 use hub_folder::FileReader;
 use hub_serve::{NoProgress, serve_process};
@@ -41,9 +41,9 @@ use std::time::Clock;
 use std::{env, io};
 
 fn main(rt: HostRuntime) -> ExitCode {
-    let seen = Seen::new(rt.alloc(), rt.stderr().is_terminal());
-    let mut input = Watched::new(Kept::new(rt.reader(), &seen.input));
-    let mut output = Watched::new(Kept::new(io::writer(&rt), &seen.output));
+    let capture = Capture::new(rt.alloc(), rt.stderr().is_terminal());
+    let mut input = Watched::new(Captured::new(rt.reader(), &capture.input));
+    let mut output = Watched::new(Captured::new(io::writer(&rt), &capture.output));
     let is_terminal = rt.stdin().is_terminal();
     run(
         &rt,
@@ -52,7 +52,7 @@ fn main(rt: HostRuntime) -> ExitCode {
         &SystemFiles::new(&rt),
         &mut input,
         &mut output,
-        &seen,
+        &capture,
     )
 }
 
@@ -67,9 +67,9 @@ fn run<T: AllocGlobal + Clock + Eprint + Threads + Wait + Sync, F: FileReader, R
     words: io::Result<Vec<String>>,
     is_terminal: bool,
     reader: &F,
-    input: &mut Watched<Kept<'_, R>>,
-    output: &mut Watched<Kept<'_, W>>,
-    seen: &Seen,
+    input: &mut Watched<Captured<'_, R>>,
+    output: &mut Watched<Captured<'_, W>>,
+    capture: &Capture,
 ) -> ExitCode
     requires input { input.old.failed ≡ false }
     requires output { output.old.failed ≡ false }
@@ -89,7 +89,7 @@ fn run<T: AllocGlobal + Clock + Eprint + Threads + Wait + Sync, F: FileReader, R
             reader,
             input,
             output,
-            seen,
+            capture,
         ),
         Err(error) => serve_process(rt, Err(error), input, output, &NoProgress),
     };
@@ -108,9 +108,9 @@ fn answer<
     words: &[String],
     is_terminal: bool,
     reader: &F,
-    input: &mut Watched<Kept<'_, R>>,
-    output: &mut Watched<Kept<'_, W>>,
-    seen: &Seen,
+    input: &mut Watched<Captured<'_, R>>,
+    output: &mut Watched<Captured<'_, W>>,
+    capture: &Capture,
 ) -> u8
     requires input { input.old.failed ≡ false }
     requires output { output.old.failed ≡ false }
@@ -123,18 +123,18 @@ fn answer<
     match read_options(rt.alloc(), words) {
         Ok(options) => {
             if !options.files.is_empty() {
-                let answered = serve_files(rt, words, &options, reader, output, seen);
+                let answered = serve_files(rt, words, &options, reader, output, capture);
                 return strict_status(answered, options.is_strict);
             }
             say_waiting(rt, is_terminal);
-            let answered = serve_with_remarks(rt, words, &[], input, output, seen);
+            let answered = serve_with_remarks(rt, words, &[], input, output, capture);
             strict_status(answered, options.is_strict)
         }
         Err(error) => {
             if error.kind() == ErrorKind::OutOfMemory {
                 return write_memory(output);
             }
-            serve_with_remarks(rt, words, &[], input, output, seen).status
+            serve_with_remarks(rt, words, &[], input, output, capture).status
         }
     }
 }

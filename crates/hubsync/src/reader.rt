@@ -2,7 +2,7 @@
 ghost use Rattle.std.specs.Prelude.{◌≡◌, ◌≤◌, ℕ, List, Option, None, Some, length, IfErr, IfOk, IfSome, IsErrOf};
 ghost use Rattle.hubsync.specs.Reading as spec;
 
-use crate::kept::{Kept, Passed};
+use crate::captured::{Captured, Prefix};
 use hub_bundle::{InputFault, READ_TURNS, read_input};
 use hub_folder::{FileReader, ReadFault, Unread};
 use hub_text::Watched;
@@ -68,20 +68,20 @@ fn read_to_end<R: Read + Drop>(alloc: Global, device: R) -> Result<Vec<u8>, Unre
     ensures turns_spent { IsErrOf result (Unread.File ReadFault.TurnsSpent)
         → IfSome (R.remaining device) (λ bytes. READ_TURNS ≤ length bytes) }
 {
-    let passed = RefCell::new(Passed::new(alloc, 0));
-    let mut input = Watched::new(Kept::new(device, &passed));
+    let prefix = RefCell::new(Prefix::new(alloc, 0));
+    let mut input = Watched::new(Captured::new(device, &prefix));
     match read_input(alloc, &mut input) {
         Ok(bytes) => Ok(bytes),
-        Err(InputFault::ReadFailed) => Err(unread_by(error_of(&passed))),
+        Err(InputFault::ReadFailed) => Err(unread_by(error_of(&prefix))),
         Err(InputFault::TurnsSpent) => Err(Unread::File(ReadFault::TurnsSpent)),
         Err(InputFault::OutOfMemory) => Err(Unread::OutOfMemory),
     }
 }
 
 /// The last error of a device.
-fn error_of(passed: &RefCell<Passed>) -> Option<io::Error> {
-    match passed.try_borrow() {
-        Ok(passed) => passed.error(),
+fn error_of(prefix: &RefCell<Prefix>) -> Option<io::Error> {
+    match prefix.try_borrow() {
+        Ok(prefix) => prefix.error(),
         Err(_) => None,
     }
 }

@@ -4,7 +4,7 @@ ghost use Rattle.hub_cli.specs.Words.{asked_of};
 ghost use Rattle.hub_serve.specs.Reads.{reads_between};
 ghost use Rattle.hub_serve.specs.Serves.{Serves};
 
-use crate::kept::{Kept, Passed};
+use crate::captured::{Captured, Prefix};
 use crate::terminal::Terminal;
 use hub_remarks::{Answers, Front, Remarks, remark, what_to_ask};
 use hub_serve::{NoProgress, serve};
@@ -26,21 +26,21 @@ const OUTPUT_BYTES: usize = 65_536;
 
 /// What is kept of the input and of the output, and who reads standard error.
 #[derive(Drop)]
-pub struct Seen {
+pub struct Capture {
     /// Of the input.
-    pub input: RefCell<Passed>,
+    pub input: RefCell<Prefix>,
     /// Of the output.
-    pub output: RefCell<Passed>,
+    pub output: RefCell<Prefix>,
     /// Whether standard error is a terminal.
     pub by_terminal: bool,
 }
 
-impl Seen {
+impl Capture {
     /// Nothing was read and nothing was written. It doesn't allocate.
-    pub fn new(alloc: Global, by_terminal: bool) -> Seen {
-        Seen {
-            input: RefCell::new(Passed::new(alloc, INPUT_BYTES)),
-            output: RefCell::new(Passed::new(alloc, OUTPUT_BYTES)),
+    pub fn new(alloc: Global, by_terminal: bool) -> Capture {
+        Capture {
+            input: RefCell::new(Prefix::new(alloc, INPUT_BYTES)),
+            output: RefCell::new(Prefix::new(alloc, OUTPUT_BYTES)),
             by_terminal,
         }
     }
@@ -70,7 +70,7 @@ impl Answered {
 /// Does what `serve` does, and then says on standard error what belongs to the answer. On a terminal it says how far it is, too.
 ///
 /// The remarks change neither the output nor the status, also if they can't be made or written. They are made of what is kept in
-/// `seen`. If the sections of the input were made of files, these are the files in their order.
+/// `capture`. If the sections of the input were made of files, these are the files in their order.
 pub fn serve_with_remarks<
     T: AllocGlobal + Clock + Eprint + Threads + Wait + Sync,
     R: Read,
@@ -79,9 +79,9 @@ pub fn serve_with_remarks<
     rt: &T,
     words: &[String],
     files: &[SourceFile<'_>],
-    input: &mut Watched<Kept<'_, R>>,
-    output: &mut Watched<Kept<'_, W>>,
-    seen: &Seen,
+    input: &mut Watched<Captured<'_, R>>,
+    output: &mut Watched<Captured<'_, W>>,
+    capture: &Capture,
 ) -> Answered
     requires input { input.old.failed ≡ false }
     requires output { output.old.failed ≡ false }
@@ -90,9 +90,9 @@ pub fn serve_with_remarks<
         (W.contents output.new.device.device)
         (reads_between input.old input.new) output.new.failed result.status }
 {
-    let progress = Terminal::new(rt, seen.by_terminal);
+    let progress = Terminal::new(rt, capture.by_terminal);
     let status = serve(rt, words, input, output, &progress);
-    let may_mislead = say_remarks(rt, words, files, seen, output.failed(), status);
+    let may_mislead = say_remarks(rt, words, files, capture, output.failed(), status);
     Answered {
         status,
         may_mislead,
@@ -105,11 +105,11 @@ fn say_remarks<T: AllocGlobal + Clock + Eprint + Threads + Wait + Sync>(
     rt: &T,
     words: &[String],
     files: &[SourceFile<'_>],
-    seen: &Seen,
+    capture: &Capture,
     is_cut: bool,
     status: u8,
 ) -> bool {
-    let (Ok(input), Ok(output)) = (seen.input.try_borrow(), seen.output.try_borrow()) else {
+    let (Ok(input), Ok(output)) = (capture.input.try_borrow(), capture.output.try_borrow()) else {
         return true;
     };
     if is_cut {

@@ -4,7 +4,7 @@ ghost use Rattle.hub_folder.specs.Reading.{fault_word};
 ghost use Rattle.hubsync.specs.Bundled.{WritesFault, WritesUntaken, hosts_word, why_word};
 
 use crate::bundled::{write_fault, write_memory};
-use crate::kept::Kept;
+use crate::captured::Captured;
 use hub_folder::{ReadFault, Untaken};
 use hub_hosts::HostsFault;
 use hub_include::{LineFault, Why};
@@ -18,7 +18,7 @@ pub fn write_unread<T: AllocGlobal + Eprint, W: Write>(
     rt: &T,
     file: &str,
     fault: ReadFault,
-    output: &mut Watched<Kept<'_, W>>,
+    output: &mut Watched<Captured<'_, W>>,
 ) -> u8
     requires { output.old.failed ≡ false }
     ensures { WritesFault file.now (fault_word fault)
@@ -43,7 +43,7 @@ pub fn write_unread<T: AllocGlobal + Eprint, W: Write>(
 pub fn write_untaken<T: AllocGlobal + Eprint, W: Write>(
     rt: &T,
     fault: Untaken,
-    output: &mut Watched<Kept<'_, W>>,
+    output: &mut Watched<Captured<'_, W>>,
 ) -> u8
     requires { output.old.failed ≡ false }
     ensures { WritesUntaken fault
@@ -67,7 +67,7 @@ pub fn write_untaken<T: AllocGlobal + Eprint, W: Write>(
 fn write_gone<T: AllocGlobal + Eprint, W: Write>(
     rt: &T,
     file: &str,
-    output: &mut Watched<Kept<'_, W>>,
+    output: &mut Watched<Captured<'_, W>>,
 ) -> u8
     requires { output.old.failed ≡ false }
     ensures { WritesFault file.now (codes "ReadFailed")
@@ -86,7 +86,7 @@ pub fn write_bad_hosts<T: AllocGlobal + Eprint, W: Write>(
     rt: &T,
     file: &str,
     fault: HostsFault,
-    output: &mut Watched<Kept<'_, W>>,
+    output: &mut Watched<Captured<'_, W>>,
 ) -> u8
     requires { output.old.failed ≡ false }
     ensures { WritesFault file.now (hosts_word fault)
@@ -115,7 +115,7 @@ fn write_bad_line<T: AllocGlobal + Eprint, W: Write>(
     rt: &T,
     place: String,
     fault: LineFault,
-    output: &mut Watched<Kept<'_, W>>,
+    output: &mut Watched<Captured<'_, W>>,
 ) -> u8
     requires { output.old.failed ≡ false }
     ensures { WritesFault (string_bytes place ++ fault.file) (why_word fault.why)

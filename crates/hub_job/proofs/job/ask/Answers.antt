@@ -26,10 +26,10 @@ returns-in_err-next-clause-memory c = λ made asks.
     (c.in_err-next.ensures.memory (subst (λ (es : List Logged). 0 < steps_made es) (sym c.as_slice.ensures.value) made)
     (subst (λ (es : List Logged). is_ask (next c.args.profile.now c.args.archive.now es) ≡ false) (sym c.as_slice.ensures.value) asks)))
 
-pub returns-in_err-note-clause-memory : goal.returns-in_err-note-clause-memory
-returns-in_err-note-clause-memory c = λ made asks.
+pub returns-in_err-set_asked-clause-memory : goal.returns-in_err-set_asked-clause-memory
+returns-in_err-set_asked-clause-memory c = λ made asks.
     absurd
     (false≢true
-    (c.in_err-note.ensures.memory
+    (c.in_err-set_asked.ensures.memory
     (ap is_ask c.sharing-next.ensures
     ∙ does_not_ask _ _ _ _ _ c.in_ok-next.ensures.next (subst (λ (es : List Logged). is_ask (next c.args.profile.now c.args.archive.now es) ≡ false) (sym c.as_slice.ensures.value) asks))))

@@ -22,8 +22,8 @@ keep_all-requires c =
     subst (λ (es : List (Path × Mark)). HaveMarkNames es) (sym c.requires.others)
     (others_named V.profile.now V.archive.now (of_side (told_by V.left.now) (told_by V.right.now)) (subst (λ (a : Archive). IsArchive a) c.archive.ensures c.mark_at-top.ensures.archive))
 
-pub update_all-requires : goal.update_all-requires
-update_all-requires c = let V = c.args.picture.now in have_all_names (shown V) (named V) _ c.requires.blocks.blocks
+pub add_marks-requires : goal.add_marks-requires
+add_marks-requires c = let V = c.args.picture.now in have_all_names (shown V) (named V) _ c.requires.blocks.blocks
 
 pub returns : goal.returns
 returns c =
@@ -32,7 +32,7 @@ returns c =
     (λ (a : Archive) e.
     e
     ∙ (ap (with_entries fin.empty)
-    (c.in_ok-update_all.ensures
+    (c.in_ok-add_marks.ensures
     ∙ (ap (λ (es : List (Path × Mark)). es ++ kept_marks (flat_map block_marks c.args.blocks.now)) (c.in_ok-keep_all.ensures ∙ ap (λ (es : List (Path × Mark)). es ++ kept_marks (told_marks c.args.others.now)) c.new-marks.ensures)
     ∙ ap (λ (es : List (Path × Mark)). kept_marks es ++ kept_marks (flat_map block_marks c.args.blocks.now)) c.requires.others))
     ∙ renewed V.profile.now V.archive.now (of_side (told_by V.left.now) (told_by V.right.now)) (subst (λ (a : Archive). IsArchive a) c.archive.ensures c.mark_at-top.ensures.archive) c.args.blocks.now c.requires.blocks))

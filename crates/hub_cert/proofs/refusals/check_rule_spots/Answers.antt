@@ -7,7 +7,7 @@ use Rattle.hub_automaton.specs.declared.alternatives.Alternatives.{Alternatives}
 use Rattle.hub_automaton.specs.declared.alternatives.TheConstants.{SPOTS}
 use Rattle.hub_profile.specs.declared.rule.Rule.{Rule}
 use Rattle.hub_cert.specs.Set.{rule_spots}
-use Rattle.hub_cert.proofs.refusals.count_rule_spots.Goals as goal
+use Rattle.hub_cert.proofs.refusals.check_rule_spots.Goals as goal
 
 pub loop-rule-preserved : goal.loop-rule-preserved
 loop-rule-preserved c =

@@ -5,7 +5,7 @@ use Rattle.hub_text.specs.laws.List.{also-here}
 use Rattle.hub_automaton.specs.declared.alternatives.TheConstants.{SPOTS}
 use Rattle.hub_profile.specs.Parts.{Parts}
 use Rattle.hub_reach.specs.Stage.{spot_count_of}
-use Rattle.hub_cert.proofs.refusals.count_profile_spots.Goals as goal
+use Rattle.hub_cert.proofs.refusals.check_profile_spots.Goals as goal
 
 pub new-requires : goal.new-requires
 new-requires c =

@@ -1,9 +1,9 @@
-//! The choices of a profile, and their places among those of a set.
+//! The choices of a profile, and their ranges among those of a set.
 ghost use Rattle.std.specs.Prelude.{◌≡◌, ◌++◌, ◌∷◌, [], length, map, IfOk, IfErr, OnOk};
 ghost use Rattle.hub_automaton.specs.Spots.{RefusesSpots, alternatives_of, path_alternatives};
 ghost use Rattle.hub_reach.specs.Bars as bars;
 ghost use Rattle.hub_reach.specs.Bars.{specs_of};
-ghost use Rattle.hub_reach.specs.Places.{ArePlacesOf, RefusesProfile};
+ghost use Rattle.hub_reach.specs.SpecRanges.{AreRangesOf, RefusesProfile};
 ghost use Rattle.hub_reach.specs.Stage.{profile_alternatives, texts_of};
 
 use crate::placed_bar::PlacedBar;
@@ -17,23 +17,23 @@ use std::slice::from_ref;
 /// Where the choices of a profile are among those of a set: first those of `ignore`, then those of `ignorenot`, then the
 /// texts of the kept values, then those of the partial bars. An end is the number after the last choice.
 #[derive(Debug, Drop)]
-pub(crate) struct Places {
+pub(crate) struct SpecRanges {
     pub(crate) ignore_end: usize,
     pub(crate) ignorenot_end: usize,
     pub(crate) kept_end: usize,
     pub(crate) partial: Vec<PlacedBar>,
 }
 
-impl Places {
-    /// Adds the choices of a profile to a builder that has none, and returns their places.
+impl SpecRanges {
+    /// Adds the choices of a profile to a builder that has none, and returns their ranges.
     pub(crate) fn add(
         alloc: Global,
         builder: &mut SpecSetBuilder,
         profile: &Profile,
-    ) -> Result<Places, AutomatonFault>
+    ) -> Result<SpecRanges, AutomatonFault>
         requires { builder.old ≡ [] }
         ensures ok { OnOk result (builder.new ≡ profile_alternatives profile.now) }
-        ensures places { IfOk result (ArePlacesOf profile.now) }
+        ensures ranges { IfOk result (AreRangesOf profile.now) }
         ensures err { IfErr result (RefusesProfile profile.now) }
     {
         paths_have_a_spot_more();
@@ -44,7 +44,7 @@ impl Places {
         add_paths(builder, profile.paths())?;
         let kept_end = builder.len();
         let partial = add_bars(alloc, builder, profile.partial())?;
-        Ok(Places {
+        Ok(SpecRanges {
             ignore_end,
             ignorenot_end,
             kept_end,
@@ -68,7 +68,7 @@ fn add_paths(builder: &mut SpecSetBuilder, paths: &[RelPath]) -> Result<(), Auto
     Ok(())
 }
 
-/// Adds the choices of partial bars, and returns the bars with the places of these.
+/// Adds the choices of partial bars, and returns the bars with the ranges of these.
 fn add_bars(
     alloc: Global,
     builder: &mut SpecSetBuilder,

@@ -5,7 +5,7 @@ use Rattle.hub_automaton.specs.declared.alternatives.TheConstants.{SPOTS}
 use Rattle.hub_automaton.specs.Spots.{alternatives_of}
 use Rattle.hub_reach.specs.Bars.{placed_bars}
 use Rattle.hub_reach.proofs.Choices.{length-before, length-specs, with-specs, with-paths, with-bars, refused-specs, refused-paths, refused-bars}
-use Rattle.hub_reach.proofs.places.Places.add.Goals as goal
+use Rattle.hub_reach.proofs.ranges.SpecRanges.add.Goals as goal
 
 pub returns-in_err-add_specs-2-clause-err : goal.returns-in_err-add_specs-2-clause-err
 returns-in_err-add_specs-2-clause-err c =
@@ -48,8 +48,8 @@ returns-clause-ok c =
     let kept = with-paths P c.add_specs-2.new.self c.add_paths.new.builder c.paths.result.now specs c.in_ok-add_paths.ensures.ok c.paths.ensures.value in
     with-bars P c.add_paths.new.builder c.add_bars.new.builder c.partial.result.now kept c.in_ok-partial.ensures.ok c.partial.ensures
 
-pub returns-clause-places : goal.returns-clause-places
-returns-clause-places c =
+pub returns-clause-ranges : goal.returns-clause-ranges
+returns-clause-ranges c =
     let P = c.args.profile.now in
     let first : c.add_specs.new.self ≡ map alternatives_of P.ignore =
     c.in_ok-add_specs.ensures.ok ∙ (λ i. c.requires i ++ map alternatives_of (c.ignore.ensures i)) in

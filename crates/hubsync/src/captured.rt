@@ -9,17 +9,17 @@ use std::io::{Read, Write};
 
 /// The first bytes that passed through a device, up to a limit, and the device's last error.
 #[derive(Drop)]
-pub struct Passed {
+pub struct Prefix {
     bytes: Vec<u8>,
     limit: usize,
     is_whole: bool,
     error: Option<io::Error>,
 }
 
-impl Passed {
+impl Prefix {
     /// Nothing has passed, and so many bytes are kept at most. It doesn't allocate.
-    pub fn new(alloc: Global, limit: usize) -> Passed {
-        Passed {
+    pub fn new(alloc: Global, limit: usize) -> Prefix {
+        Prefix {
             bytes: Vec::new(alloc),
             limit,
             is_whole: true,
@@ -56,41 +56,41 @@ impl Passed {
 
 /// A reader or a writer of which the first bytes are kept elsewhere. The calls are passed on to the device as they are.
 #[derive(Drop)]
-pub struct Kept<'a, D> {
+pub struct Captured<'a, D> {
     device: D,
-    passed: &'a RefCell<Passed>,
+    prefix: &'a RefCell<Prefix>,
 }
 
-impl<'a, D> Kept<'a, D> {
+impl<'a, D> Captured<'a, D> {
     /// Keeps there what passes through a device.
-    pub fn new(device: D, passed: &'a RefCell<Passed>) -> Kept<'a, D>
+    pub fn new(device: D, prefix: &'a RefCell<Prefix>) -> Captured<'a, D>
         ensures { result.device ≡ device }
     {
-        Kept { device, passed }
+        Captured { device, prefix }
     }
 }
 
-impl<'a, R: Read> Read for Kept<'a, R> {
+impl<'a, R: Read> Read for Captured<'a, R> {
     ghost remaining = { λ k. R.remaining k.device };
 
     fn read(&mut self, buffer: &mut [u8]) -> io::Result<usize> {
         let result = self.device.read(buffer);
         match result {
-            Ok(count) => keep(self.passed, &buffer[..count]),
-            Err(error) => keep_error(self.passed, error),
+            Ok(count) => keep(self.prefix, &buffer[..count]),
+            Err(error) => keep_error(self.prefix, error),
         }
         result
     }
 }
 
-impl<'a, W: Write> Write for Kept<'a, W> {
+impl<'a, W: Write> Write for Captured<'a, W> {
     ghost contents = { λ k. W.contents k.device };
 
     fn write(&mut self, bytes: &[u8]) -> io::Result<usize> {
         let result = self.device.write(bytes);
         match result {
-            Ok(count) => keep(self.passed, &bytes[..count]),
-            Err(error) => keep_error(self.passed, error),
+            Ok(count) => keep(self.prefix, &bytes[..count]),
+            Err(error) => keep_error(self.prefix, error),
         }
         result
     }
@@ -98,22 +98,22 @@ impl<'a, W: Write> Write for Kept<'a, W> {
     fn flush(&mut self) -> io::Result<()> {
         let result = self.device.flush();
         if let Err(error) = result {
-            keep_error(self.passed, error);
+            keep_error(self.prefix, error);
         }
         result
     }
 }
 
 /// Keeps bytes.
-fn keep(passed: &RefCell<Passed>, bytes: &[u8]) {
-    if let Ok(mut passed) = passed.try_borrow_mut() {
-        passed.keep(bytes);
+fn keep(prefix: &RefCell<Prefix>, bytes: &[u8]) {
+    if let Ok(mut prefix) = prefix.try_borrow_mut() {
+        prefix.keep(bytes);
     }
 }
 
 /// Keeps an error.
-fn keep_error(passed: &RefCell<Passed>, error: io::Error) {
-    if let Ok(mut passed) = passed.try_borrow_mut() {
-        passed.error = Some(error);
+fn keep_error(prefix: &RefCell<Prefix>, error: io::Error) {
+    if let Ok(mut prefix) = prefix.try_borrow_mut() {
+        prefix.error = Some(error);
     }
 }

@@ -3,7 +3,7 @@ use Rattle.std.specs.List.{flat_map}
 use Rattle.hub_reconcile.specs.forms.Blocks.{HaveAllNames, block_marks, kept_marks}
 use Rattle.hub_reconcile.specs.declared.block.Block.{Block}
 use Rattle.hub_reconcile.proofs.Loops.{head_rest, none_left, marks_next}
-use Rattle.hub_reconcile.proofs.reconcile.update_all.Goals as goal
+use Rattle.hub_reconcile.proofs.reconcile.add_marks.Goals as goal
 
 pub update-requires : goal.update-requires
 update-requires c =

@@ -1,6 +1,6 @@
 use Rattle.std.proofs.Common.{◌-◌, length, sym, arith}
 use Rattle.hub_job.proofs.Stacks.{there_at}
-use Rattle.hub_job.proofs.waiting.place_of.Goals as goal
+use Rattle.hub_job.proofs.waiting.index_of.Goals as goal
 
 pub returns-in-Equal-clause-there : goal.returns-in-Equal-clause-there
 returns-in-Equal-clause-there c =

@@ -1,7 +1,7 @@
 use Rattle.std.proofs.Common.{◌≡◌, ◌++◌, length}
 use Rattle.std.specs.List.{flat_map}
 use Rattle.hub_reconcile.specs.forms.Blocks.{HaveAllNames, block_marks, kept_marks}
-use Rattle.hub_reconcile.proofs.reconcile.update_all.Given as goal
+use Rattle.hub_reconcile.proofs.reconcile.add_marks.Given as goal
 
 abbrev pub invariant-loop-rest : goal.invariant-loop-rest
 invariant-loop-rest l =

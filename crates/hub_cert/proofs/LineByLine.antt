@@ -3,7 +3,7 @@ use Rattle.std.proofs.Common.{◌≡◌, ◌∙◌, ◌⊎◌, inr, IfOk, IfErr,
 use Rattle.hub_text.specs.Lines.{is_lf, lines_of, onto_first_line}
 use Rattle.hub_text.specs.declared.line.Line.{Line}
 use Rattle.hub_cert.specs.declared.certificate.Certificate.{Certificate}
-use Rattle.hub_cert.specs.declared.draft.Draft.{Draft}
+use Rattle.hub_cert.specs.declared.certificate.draft.Draft.{Draft}
 use Rattle.hub_cert.specs.declared.fault.CheckFault.{CheckFault}
 use Rattle.hub_cert.specs.declared.fault.CheckFault.TheVariants.{BadText, OutOfMemory}
 use Rattle.hub_cert.specs.Reading.{or_bad_text, certificates_in, finished_list, lines_reading, with_line}

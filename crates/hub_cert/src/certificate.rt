@@ -2,8 +2,13 @@
 ghost use Rattle.std.specs.Prelude.{◌≡◌, IsTrue, chars};
 ghost use Rattle.std.specs.Str.{all_scalars};
 
+pub(crate) mod draft;
+pub(crate) mod reading;
+pub(crate) mod row;
+pub(crate) mod writing;
+
 use crate::goal::Goal;
-use crate::stage_texts::StageTexts;
+use crate::verifier::stage_texts::StageTexts;
 use std::marker::Model;
 
 /// A text that leads to a stage: that of the goal's product after it.

@@ -49,44 +49,26 @@
 //! That certificates are found: `hub_search` does that. Nothing here depends on who made them.
 #![tactic(auto)]
 
-mod apart;
 mod certificate;
-mod draft;
 mod fault;
-mod finder;
-mod forbidden;
 mod goal;
 pub mod laws;
-mod machines;
 mod matched;
-mod next_stage;
 mod product;
-mod reading;
-mod refusals;
-mod row;
 mod set;
-mod stage;
-mod stage_list;
-mod stage_texts;
-mod stages;
-mod texts;
-mod verified;
 mod verifier;
-mod view;
-mod walked;
-mod writing;
 
-pub use apart::{is_apart, safe_by_values};
+pub use certificate::reading::read_certificates;
+pub use certificate::writing::write_certificates;
 pub use certificate::{Certificate, StageText};
 pub use fault::CheckFault;
-pub use forbidden::{Forbidden, forbidden_to};
 pub use goal::{Goal, Place};
 pub use matched::make_each;
+pub use product::stage::GoalStage;
 pub use product::{Product, rule_set_of, slash_class, walker_of};
-pub use reading::read_certificates;
+pub use set::apart::{is_apart, safe_by_values};
+pub use set::forbidden::{Forbidden, forbidden_to};
 pub use set::{PROFILES, ProfileSet};
-pub use stage::GoalStage;
-pub use stage_texts::StageTexts;
-pub use verified::{Verified, verify};
 pub use verifier::Verifier;
-pub use writing::write_certificates;
+pub use verifier::stage_texts::StageTexts;
+pub use verifier::verified::{Verified, verify};

@@ -9,9 +9,13 @@ ghost use Rattle.hub_cert.specs.Goals as of_goals;
 ghost use Rattle.hub_cert.specs.Refused as refused;
 ghost use Rattle.hub_cert.specs.declared.fault.CheckFault.TheVariants as fault;
 
+pub(crate) mod apart;
+pub(crate) mod forbidden;
+pub(crate) mod refusals;
+
 use crate::fault::CheckFault;
 use crate::goal::{Goal, Place};
-use crate::refusals::alphabet_for;
+use crate::set::refusals::alphabet_for;
 use hub_automaton::Alphabet;
 use hub_path::{Root, Side};
 use hub_profile::{Profile, Rule, Rules};

@@ -7,8 +7,11 @@ use std::io::{BufRead, BufReader, Input};
 
 /// What answers the questions of a table.
 pub trait Answers {
-    /// Takes a line that gives something to the questions below it, and returns whether the line does.
-    fn takes(&mut self, line: &str) -> Result<bool>;
+    /// Takes a line that gives something to the questions below it, and returns whether the line does. No line does, unless a
+    /// program says so.
+    fn takes(&mut self, _line: &str) -> Result<bool> {
+        Ok(false)
+    }
 
     /// Answers a question: its first word, and what follows the word's space.
     fn answer(&mut self, alloc: Global, word: &str, fields: &str) -> Result<String>;
@@ -30,29 +33,13 @@ pub fn answer_table<R: Input + Print + AllocGlobal, A: Answers>(
     for_each_case(rt, |line| answer_line(rt.alloc(), answers, line))
 }
 
-/// Answers the questions of standard input, each by itself: no line gives something to the others.
-pub fn answer_each<R: Input + Print + AllocGlobal, F: Fn(Global, &str, &str) -> Result<String>>(
-    rt: &R,
-    answer: F,
-) -> Result<()>
-    requires { F.IsAlwaysCallable answer }
-{
-    for_each_case(rt, |line| {
-        answer_question(
-            rt.alloc(),
-            line,
-            |alloc, word, fields| answer(alloc, word, fields),
-        )
-    })
-}
-
 /// Takes each question of standard input, and each line that gives something, for which `take` returns `None`. It writes the
 /// questions that are answered otherwise than the table says, with their answers, and at last how many are answered so.
 pub fn for_each_case<R: Input + Print + AllocGlobal, F: FnMut(&str) -> Result<Option<String>>>(
     rt: &R,
     mut take: F,
 ) -> Result<()>
-    requires { F.IsAlwaysCallable take }
+    requires pre { (f : _) (x : _) → F.pre f x }
 {
     let alloc = rt.alloc();
     let mut case = None;

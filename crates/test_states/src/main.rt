@@ -30,10 +30,20 @@ mod trees;
 
 use anyhow::{Result, bail};
 use std::alloc::Global;
-use test_kit::answer_each;
+use test_kit::{Answers, answer_table};
+
+/// What answers the questions.
+#[derive(Drop)]
+struct Questions;
 
 fn main(rt: HostRuntime) -> Result<()> {
-    answer_each(&rt, answer)
+    answer_table(&rt, &mut Questions)
+}
+
+impl Answers for Questions {
+    fn answer(&mut self, alloc: Global, word: &str, fields: &str) -> Result<String> {
+        answer(alloc, word, fields)
+    }
 }
 
 /// Answers a question.

@@ -22,7 +22,7 @@ use Rattle.hub_cert.specs.declared.goal.Place.TheVariants.{Replica, Archive}
 use Rattle.hub_cert.specs.declared.goal.Goal.{Goal}
 use Rattle.hub_cert.specs.declared.goal.Goal.TheVariants.{Clash, Breach}
 use Rattle.hub_profile.specs.declared.rule.Rule.{Rule}
-use Rattle.hub_cert.specs.declared.stage.GoalStage.TheVariants.{Broken}
+use Rattle.hub_cert.specs.declared.product.stage.GoalStage.TheVariants.{Broken}
 use Rattle.hub_cert.specs.declared.certificate.Certificate.{Certificate}
 use Rattle.hub_cert.specs.declared.fault.CheckFault.{CheckFault}
 use Rattle.hub_cert.specs.declared.fault.CheckFault.TheVariants.{BadText}

@@ -220,6 +220,7 @@ is_of_start() {
 # answer.
 judge_question() {
     told=wrong
+    answer=${answer%$'0 right\n'}
     if [ "$status" = 0 ] && [ "$answer" = "$first" ]; then
         told=right
     elif [ "$status" = 0 ] && [[ $answer == *$'\n' && $'\n'$answers == *$'\n'"$answer"* ]]; then

@@ -34,6 +34,7 @@ import sys
 import tempfile
 
 TOP = pathlib.Path(__file__).resolve().parent.parent
+NONE_EXPECTED = b'0 right\n'    # the last line of a test program whose question came without an answer
 OUT_OF_MEMORY = b'fault: out of memory\n'
 REFUSED = b'safe\nrun fault: ThreadRefused\n'
 ROOTS = 'root = /srv/hub\nroot = /srv/s1\n'
@@ -179,6 +180,9 @@ class Tested(Answered):
         word = super().judge(status, output, errors, thread)
         is_one = output.count(b'not the same') == 1 and output.replace(b'not the same', b'the same') == self.wanted[1]
         return 'refused step' if word == 'wrong' and status == 0 and not errors and is_one else word
+
+    def judge_table(self, status, output, errors, thread):
+        return self.judge(status, output.removesuffix(NONE_EXPECTED), errors, thread)
 
     def is_error(self, status, output, errors):
         words = (b'OutOfMemory', b'WriteFailed', b'out of memory', b'memory allocation failed', b'AllocError', b'no set', b"isn't safe", b'no book', b'no desk')
@@ -363,14 +367,15 @@ def try_questions(runner, only):
             continue
         data = (given + question + '\n').encode()
         _, status, ample, errors = runner.run([str(program)], data)
+        ample = ample.removesuffix(NONE_EXPECTED)
         if status != 0:
             print(f'{title}: status {status}, {errors[:200]!r}')
             wrong += 1
             continue
         if steps is None:
-            judge = TestedRan(STATE.encode(), question, ample).judge
+            judge = TestedRan(STATE.encode(), question, ample).judge_table
         else:
-            judge = Tested(status, ample, [f'{question} => {step}\n'.encode() for step in steps]).judge
+            judge = Tested(status, ample, [f'{question} => {step}\n'.encode() for step in steps]).judge_table
         wrong += say(title, *runner.each([str(program)], data, judge))
         if question.startswith('run '):
             workers = int(question.split(' ')[1])

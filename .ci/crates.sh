@@ -1,6 +1,6 @@
 # shellcheck shell=bash
-# Which crates a crate stands on, whether a program was built from the sources as they are now, and the stamp of a program
-# that is shipped. Scripts read this file with `source`, after they have set `top`, the top of the repository.
+# Which crates a crate stands on, whether a program was built from the sources as they are now, and the stamps of a program
+# that is shipped and of edits that were tried. Scripts read this file with `source`, after they have set `top`, the top of the repository.
 : "${top?}"
 
 # Sets `crates` to a crate and the crates of this repository that it uses, itself or through others, in the order of
@@ -58,6 +58,14 @@ sum_of_sources() {
     done
     b2sum --length=256 - "${files[@]}" <<<"$text" | b2sum --length=256
 }
+
+# Prints the checksum of the edits of a crate in tests/edits/, and of what they turn: the crate's sources and definitions.
+sum_of_edits() (
+    LC_ALL=C
+    shopt -s globstar nullglob
+    cd -- "${top:-/}" || exit
+    b2sum --length=256 "crates/$1/src"/**/*.rt "crates/$1/specs"/**/*.antt "tests/edits/$1"/*.edit | b2sum --length=256 | cut -d ' ' -f 1
+)
 
 # Whether the program in dist/ was built from the sources as they are now: its stamp says so.
 is_stamp_of_sources() {

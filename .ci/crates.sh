@@ -59,12 +59,15 @@ sum_of_sources() {
     b2sum --length=256 - "${files[@]}" <<<"$text" | b2sum --length=256
 }
 
-# Prints the checksum of the edits of a crate in tests/edits/, and of what they turn: the crate's sources and definitions.
+# Prints the checksum of the edits of a crate in tests/edits/, and of what they turn: the lines of the crate's sources and definitions,
+# in any order. Imports, comments and hints to the prover don't count.
 sum_of_edits() (
     LC_ALL=C
     shopt -s globstar nullglob
     cd -- "${top:-/}" || exit
-    b2sum --length=256 "crates/$1/src"/**/*.rt "crates/$1/specs"/**/*.antt "tests/edits/$1"/*.edit | b2sum --length=256 | cut -d ' ' -f 1
+    cat "crates/$1/src"/**/*.rt "crates/$1/specs"/**/*.antt |
+        grep -vE '^ *((pub(\(crate\))? )?(ghost )?(use|mod) |--|//|#\[tactic|$)' | sort | b2sum --length=256 - "tests/edits/$1"/*.edit |
+        b2sum --length=256 | cut -d ' ' -f 1
 )
 
 # Whether the program in dist/ was built from the sources as they are now: its stamp says so.

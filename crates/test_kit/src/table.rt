@@ -25,39 +25,84 @@ struct Case {
     expected: String,
 }
 
+/// The cases of a table: the last one, and how many before it were answered as the table says.
+#[derive(Drop)]
+pub struct Cases {
+    last: Option<Case>,
+    right: u64,
+}
+
+impl Cases {
+    /// No cases.
+    pub fn new() -> Cases {
+        Cases {
+            last: None,
+            right: 0,
+        }
+    }
+
+    /// Takes a line: more of the answer that the last case expects, or a question or a line that gives something, for which
+    /// `take` returns `None`. Before another case it judges the last one: a question that is answered otherwise than the table
+    /// says is written with its answer.
+    pub fn take_line<R: Print + AllocGlobal, F: FnOnce(&str) -> Result<Option<String>>>(
+        &mut self,
+        rt: &R,
+        line: &str,
+        take: F,
+    ) -> Result<()>
+        requires { F.IsAlwaysCallable take }
+    {
+        if let Some(more) = line.strip_prefix('|') {
+            return expect_more(&mut self.last, more);
+        }
+        self.judge_last(rt)?;
+        let (question, expected) = cut_case(line);
+        let answer = take(question)?;
+        self.last = case_of(rt.alloc(), question, answer, expected)?;
+        Ok(())
+    }
+
+    /// Judges the last case, and writes how many were answered as the table says.
+    pub fn end<R: Print>(&mut self, rt: &R) -> Result<()> {
+        self.judge_last(rt)?;
+        let right = self.right;
+        println!(rt; "{right} right")?;
+        Ok(())
+    }
+
+    /// Judges the last case.
+    fn judge_last<R: Print>(&mut self, rt: &R) -> Result<()> {
+        let right = judge(rt, &self.last)?;
+        self.right = self.right.saturating_add(right);
+        Ok(())
+    }
+}
+
 /// Answers the questions of standard input.
 pub fn answer_table<R: Input + Print + AllocGlobal, A: Answers>(
     rt: &R,
     answers: &mut A,
 ) -> Result<()> {
-    for_each_case(rt, |line| answer_line(rt.alloc(), answers, line))
+    let mut cases = Cases::new();
+    for_each_line(rt, |line| take_line(rt, answers, &mut cases, line))?;
+    cases.end(rt)
 }
 
-/// Takes each question of standard input, and each line that gives something, for which `take` returns `None`. It writes the
-/// questions that are answered otherwise than the table says, with their answers, and at last how many are answered so.
-pub fn for_each_case<R: Input + Print + AllocGlobal, F: FnMut(&str) -> Result<Option<String>>>(
+/// Takes each line of standard input, but no empty line, and none that begins with `#`.
+pub fn for_each_line<R: Input + AllocGlobal, F: FnMut(&str) -> Result<()>>(
     rt: &R,
     mut take: F,
 ) -> Result<()>
-    requires pre { (f : _) (x : _) → F.pre f x }
+    requires { F.IsAlwaysCallable take }
 {
     let alloc = rt.alloc();
-    let mut case = None;
-    let mut right: u64 = 0;
     for line in BufReader::new(alloc, rt.reader())?.lines(alloc) {
         let line = line?;
         let line = line.as_str();
-        if let Some(more) = line.strip_prefix('|') {
-            expect_more(&mut case, more)?;
-        } else if !line.is_empty() && !line.starts_with('#') {
-            right = right.saturating_add(judge(rt, &case)?);
-            let (question, expected) = cut_case(line);
-            let answer = take(question).context(format_args!("{line}"))?;
-            case = case_of(alloc, question, answer, expected)?;
+        if !line.is_empty() && !line.starts_with('#') {
+            take(line).context(format_args!("{line}"))?;
         }
     }
-    right = right.saturating_add(judge(rt, &case)?);
-    println!(rt; "{right} right")?;
     Ok(())
 }
 
@@ -112,7 +157,21 @@ fn judge<R: Print>(rt: &R, case: &Option<Case>) -> Result<u64> {
     Ok(0)
 }
 
-/// Takes a line, or answers it.
+/// Takes a line of a table.
+fn take_line<R: Print + AllocGlobal, A: Answers>(
+    rt: &R,
+    answers: &mut A,
+    cases: &mut Cases,
+    line: &str,
+) -> Result<()> {
+    cases.take_line(
+        rt,
+        line,
+        |question| answer_line(rt.alloc(), answers, question),
+    )
+}
+
+/// Takes a line that gives something, or answers a question.
 fn answer_line<A: Answers>(alloc: Global, answers: &mut A, line: &str) -> Result<Option<String>> {
     if answers.takes(line)? {
         return Ok(None);

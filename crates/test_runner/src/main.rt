@@ -41,15 +41,27 @@ use runs::Run;
 use std::sync::Wait;
 use std::thread::Threads;
 use test_cases::Case;
-use test_kit::{cut, for_each_case};
+use test_kit::{Cases, cut, for_each_line};
 
 fn main(rt: HostRuntime) -> Result<()> {
     let mut case = Case::new(rt.alloc());
-    for_each_case(&rt, |line| take_line(&rt, &mut case, line))
+    let mut cases = Cases::new();
+    for_each_line(&rt, |line| take_line(&rt, &mut case, &mut cases, line))?;
+    cases.end(&rt)
 }
 
-/// Takes a line of the input, and answers it if it is a question.
-fn take_line<R: Threads + Wait + Sync>(
+/// Takes a line of the table.
+fn take_line<R: Print + AllocGlobal + Threads + Wait + Sync>(
+    rt: &R,
+    case: &mut Case,
+    cases: &mut Cases,
+    line: &str,
+) -> Result<()> {
+    cases.take_line(rt, line, |question| answer_line(rt, case, question))
+}
+
+/// Takes a line that gives something, or answers a question.
+fn answer_line<R: Threads + Wait + Sync>(
     rt: &R,
     case: &mut Case,
     line: &str,

@@ -30,15 +30,27 @@ use anyhow::{Result, bail};
 use std::io::Eprint;
 use std::sync::Wait;
 use std::thread::Threads;
-use test_kit::{bytes_of, cut, for_each_case};
+use test_kit::{Cases, bytes_of, cut, for_each_line};
 
 fn main(rt: HostRuntime) -> Result<()> {
     let mut text = Vec::new(rt.alloc());
-    for_each_case(&rt, |line| take_line(&rt, &mut text, line))
+    let mut cases = Cases::new();
+    for_each_line(&rt, |line| take_line(&rt, &mut text, &mut cases, line))?;
+    cases.end(&rt)
 }
 
-/// Takes a line: the text of the input, or a question, which it answers.
-fn take_line<R: AllocGlobal + Eprint + Threads + Wait + Sync>(
+/// Takes a line of the table.
+fn take_line<R: AllocGlobal + Print + Eprint + Threads + Wait + Sync>(
+    rt: &R,
+    text: &mut Vec<u8>,
+    cases: &mut Cases,
+    line: &str,
+) -> Result<()> {
+    cases.take_line(rt, line, |question| answer_line(rt, text, question))
+}
+
+/// Takes the text of the input, or answers a question.
+fn answer_line<R: AllocGlobal + Eprint + Threads + Wait + Sync>(
     rt: &R,
     text: &mut Vec<u8>,
     line: &str,

@@ -45,3 +45,4 @@ mod writing;
 pub use fault::GlobFault;
 pub use path_spec::{Kind, PathSpec};
 pub use piece::{NextCharacter, PATTERN_CHARACTERS, PATTERN_CHOICES, Part, Piece};
+pub use writing::text_of;

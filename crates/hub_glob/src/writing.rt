@@ -8,8 +8,9 @@ use crate::reading::is_special;
 use hub_text::Items;
 use std::alloc::{AllocError, Global};
 
-/// The text of a specification.
-pub(crate) fn text_of(alloc: Global, kind: Kind, parts: &[Part]) -> Result<String, AllocError>
+/// The text of the specification of that kind that has these parts. It reads back, if it has few enough characters (law
+/// `reading_undoes_writing`).
+pub fn text_of(alloc: Global, kind: Kind, parts: &[Part]) -> Result<String, AllocError>
     ensures { IfOk result (λ t. string_bytes t
         ≡ encode_utf8_all (writing.kind_word kind ++ 32 ∷ writing.pattern_text parts.now)) }
 {

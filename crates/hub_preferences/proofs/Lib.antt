@@ -1,8 +1,6 @@
 pub mod Again
 pub mod Alone
-pub mod ArrowCuts
 pub mod Below
-pub mod Cuts
 pub mod Same
 pub mod SpelledNames
 pub mod Walk

@@ -3,6 +3,5 @@ pub mod Kinds
 pub mod Spellings
 pub mod Counted
 pub mod Findings
-pub mod forms
 pub mod laws
 pub mod examples

@@ -3,9 +3,9 @@ ghost use Rattle.std.specs.Prelude.{◌≡◌, IfOk, chars};
 ghost use Rattle.hub_preferences.specs.Kinds as kinds;
 ghost use Rattle.hub_preferences.specs.declared.table.Rule.TheVariants as rule_is;
 
-use crate::setting::{is_setting, line_text, name_and_value, parts_at_arrow, trimmed};
 use crate::table::{Rule, rule_of};
 use hub_glob::{GlobFault, PathSpec};
+use hub_profile::{is_setting, line_text, name_and_value, parts_at_arrow, trimmed};
 use hub_text::begins_with;
 use std::alloc::{AllocError, Global};
 

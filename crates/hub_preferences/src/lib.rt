@@ -50,7 +50,6 @@ mod finding;
 mod kind;
 pub mod laws;
 mod section;
-mod setting;
 mod spelling;
 mod table;
 

@@ -4,8 +4,8 @@ ghost use Rattle.hub_path.specs.Path.{is_place};
 ghost use Rattle.hub_profile.specs.Lines.{is_one_of};
 ghost use Rattle.hub_preferences.specs.Spellings as spec;
 
-use crate::setting::{is_setting, line_text, name_and_value};
 use hub_path::{Name, without_last_slash};
+use hub_profile::{is_setting, line_text, name_and_value};
 use hub_text::begins_with;
 use std::alloc::{AllocError, Global};
 

@@ -20,6 +20,11 @@ abbrev pub after_arrow : List ℕ → List ℕ
 after_arrow [] = []
 after_arrow (c ∷ cs) = if has_arrow cs then after_arrow cs else drop 1 cs
 
+-- A value has an arrow, and these stand before and after the last one.
+abbrev pub HasPartsAtArrow : List ℕ → List ℕ × List ℕ → Type 0
+HasPartsAtArrow v pair =
+    (has_arrow v ≡ true) × (pair.0 ≡ before_arrow v) × (pair.1 ≡ after_arrow v)
+
 -- The text of the specification, and that of the root.
 abbrev pub spec_and_root : List ℕ → List ℕ × List ℕ
 spec_and_root v = (trimmed (before_arrow v), trimmed (after_arrow v))

@@ -51,9 +51,11 @@ mod rules;
 mod rules_draft;
 mod verb;
 
+pub use arrow::parts_at_arrow;
 pub use bars::Bars;
 pub use draft::{PARTIAL_LINES, PATH_LINES, PATTERN_LINES};
 pub use fault::{Fault, Preference, ProfileFault};
+pub use line::{is_setting, line_text, name_and_value, trimmed};
 pub use partial::Partial;
 pub use profile::Profile;
 pub use reading::read_profile;

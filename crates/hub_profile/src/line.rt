@@ -6,14 +6,14 @@ use crate::fault::Fault;
 use hub_text::{BLANKS, begins_with, first_word, is_empty, skip_blanks, without_last};
 
 /// What a line says: its text without a CR at its end, and then without the blanks around it.
-pub(crate) fn line_text(line: &str) -> &str
+pub fn line_text(line: &str) -> &str
     ensures { chars result.now ≡ lines.trimmed_line (chars line.now) }
 {
     trimmed(without_last(line, '\r'))
 }
 
 /// Returns whether a line sets something: it is neither blank nor a comment, which begins with `#`.
-pub(crate) fn is_setting(line: &str) -> bool
+pub fn is_setting(line: &str) -> bool
     ensures { result ≡ lines.is_setting (chars line.now) }
 {
     !is_empty(line) && !begins_with(line, '#')
@@ -41,8 +41,8 @@ fn is_include(line: &str) -> bool
     includes(word) && !begins_with(skip_blanks(rest), '=')
 }
 
-/// The name and the value that a line gives it, where it has an `=`.
-fn name_and_value(line: &str) -> Option<(&str, &str)>
+/// The name of what a line sets, and the value that the line gives it, where it has an `=`.
+pub fn name_and_value(line: &str) -> Option<(&str, &str)>
     ensures { MatchOption result (lines.has_equals (chars line.now) ≡ false)
         (λ s. lines.CutsAtEquals (chars line.now) (lines.both_chars s)) }
 {
@@ -58,7 +58,7 @@ fn includes(word: &str) -> bool
 }
 
 /// A text without blanks around it.
-pub(crate) fn trimmed(text: &str) -> &str
+pub fn trimmed(text: &str) -> &str
     ensures { chars result.now ≡ lines.trimmed (chars text.now) }
 {
     skip_blanks(text).trim_end_matches(BLANKS)

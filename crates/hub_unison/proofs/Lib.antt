@@ -5,4 +5,3 @@ pub mod LastName
 pub mod ReadBack
 pub mod Spared
 pub mod TopValues
-pub mod Writings

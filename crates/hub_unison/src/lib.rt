@@ -43,7 +43,6 @@ mod simple;
 mod spare;
 mod spares;
 mod stars;
-mod text;
 mod tops;
 
 pub use reading::{cautious, lines_cut};

@@ -4,8 +4,7 @@ ghost use Rattle.hub_glob.specs.declared.piece.Part.TheVariants.{Brace};
 ghost use Rattle.hub_glob.specs.contracts.path_spec.PathSpecPartialEq.TheImpl as tested;
 ghost use Rattle.hub_unison.specs.ReadingOf as reading;
 
-use crate::text::text_of;
-use hub_glob::{GlobFault, Kind, Part, PathSpec, Piece};
+use hub_glob::{GlobFault, Kind, Part, PathSpec, Piece, text_of};
 use hub_text::Items;
 use std::alloc::{AllocError, Global};
 

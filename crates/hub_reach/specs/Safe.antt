@@ -12,22 +12,20 @@ pub record Rule : Type 0 where
   pub verb : Verb
   pub matches : Path → Bool
 
--- At a root of both: P writes a path over one that Q reaches.
-abbrev pub ClashesAt : Parts → Parts → Path → Type 0
-ClashesAt P Q r = (p q : Path) × IsTrue (is_over p q) × IsTrue (write P r p) × IsTrue (reach Q q)
+-- One of these paths is over one that the profile reaches.
+abbrev pub Overlap : (Path → Bool) → Parts → Type 0
+Overlap these Q = (p q : Path) × IsTrue (is_over p q) × IsTrue (these p) × IsTrue (reach Q q)
 
 -- The same two roots, in either order: then both have one archive.
 abbrev pub share_archive : Parts → Parts → Bool
 share_archive P Q = list_all (has_root Q) P.roots
 
--- In the archive of both: P reaches a path over one that Q reaches.
-abbrev pub ClashesInArchive : Parts → Parts → Type 0
-ClashesInArchive P Q = (p q : Path) × IsTrue (is_over p q) × IsTrue (reach P p) × IsTrue (reach Q q)
-
+-- At a root of both P writes a path over one that Q reaches; or, in the archive of both, it reaches
+-- such a path.
 abbrev pub Clash : Parts → Parts → Type 0
 Clash P Q =
-    ((r : Path) × IsTrue (has_root P r) × IsTrue (has_root Q r) × ClashesAt P Q r)
-    ⊎ (IsTrue (share_archive P Q) × ClashesInArchive P Q)
+    ((r : Path) × IsTrue (has_root P r) × IsTrue (has_root Q r) × Overlap (write P r) Q)
+    ⊎ (IsTrue (share_archive P Q) × Overlap (reach P) Q)
 
 -- P may do what the rule forbids, at the rule's root and at a path that it reaches and the rule
 -- matches.

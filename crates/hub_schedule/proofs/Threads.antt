@@ -12,8 +12,8 @@ use Rattle.hub_path.specs.declared.side.Side.{Side}
 use Rattle.hub_path.specs.declared.side.Side.TheVariants.{Left, Right}
 use Rattle.hub_profile.specs.Facts.{are_roots}
 use Rattle.hub_profile.specs.Parts.{Parts, IsProfile, at_side, is_root_at, some_passes}
-use Rattle.hub_reach.specs.Reach.{has_root}
-use Rattle.hub_reach.specs.Safe.{ClashesAt}
+use Rattle.hub_reach.specs.Reach.{has_root, write}
+use Rattle.hub_reach.specs.Safe.{Overlap}
 use Rattle.hub_tree.specs.Tree.{Replica, Archive, contents_at}
 use Rattle.hub_job.specs.declared.op.Op.{Op}
 use Rattle.hub_job.specs.declared.log.Entry.{Entry}
@@ -38,7 +38,7 @@ abbrev pub OwnAlike : Type 0
 OwnAlike = (P : Parts) (r : Path) (m k : Replica) (op : Op) → Alike P r m k → May P r op → Alike P r (after m op) (after k op)
 
 abbrev pub OthersAlike : Type 0
-OthersAlike = (P Q : Parts) (r : Path) (m : Replica) (op : Op) → ¬ (ClashesAt P Q r) → ¬ (ClashesAt Q P r) → May P r op → Alike Q r (after m op) m
+OthersAlike = (P Q : Parts) (r : Path) (m : Replica) (op : Op) → ¬ (Overlap (write P r) Q) → ¬ (Overlap (write Q r) P) → May P r op → Alike Q r (after m op) m
 
 -- The entries of a history are what their jobs may do; those of one job.
 abbrev pub MayAll : List Parts → Path → List Entry → Type 0

@@ -7,7 +7,7 @@ use Rattle.hub_path.specs.laws.General.{is_over-reflexive, is_over-parent, path_
 use Rattle.hub_path.specs.Path.{Path, path_eq, is_over, parent}
 use Rattle.hub_profile.specs.Parts.{Parts}
 use Rattle.hub_reach.specs.Reach.{reach, may_at, write, has_root, PassesThrough}
-use Rattle.hub_reach.specs.Safe.{ClashesAt}
+use Rattle.hub_reach.specs.Safe.{Overlap}
 use Rattle.hub_profile.specs.declared.verb.Verb.TheVariants.{Create, Update, Delete}
 use Rattle.hub_tree.specs.Tree.{Replica, contents_at, with_contents}
 use Rattle.hub_tree.specs.declared.contents.Contents.{Contents}
@@ -37,7 +37,7 @@ pub passes-parent : (P : Parts) (s : Path) → IsTrue (reach P s) → PassesThro
 passes-parent P s h = (s, rw (is_over-parent s, h) refl)
 
 -- What one job writes, the other depends on nowhere.
-pub untouched : (P Q : Parts) (r p : Path) → ¬ (ClashesAt P Q r) → ¬ (ClashesAt Q P r)
+pub untouched : (P Q : Parts) (r p : Path) → ¬ (Overlap (write P r) Q) → ¬ (Overlap (write Q r) P)
     → IsTrue (write P r p) → Depends Q r p → ⊥
 untouched P Q r p apart back w (inl passes) =
     let two = and_parts (is_over p passes.0) (reach Q passes.0) passes.1 in

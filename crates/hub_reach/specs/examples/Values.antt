@@ -23,7 +23,7 @@ use Rattle.hub_reach.specs.Reach.{reach, may, may_at, writes, writes_at, write}
 use Rattle.hub_reach.specs.Bars.{may_at_side, writes_at_side}
 use Rattle.hub_reach.specs.Mention.{mentioned_by}
 use Rattle.hub_reach.specs.Stage.{spot_count_of, stage_of}
-use Rattle.hub_reach.specs.Safe.{Rule, Clash, ClashesAt, ClashesInArchive, Breach, IsSafe, share_archive}
+use Rattle.hub_reach.specs.Safe.{Rule, Clash, Overlap, Breach, IsSafe, share_archive}
 
 -- What these examples compute.
 computed : ⊤
@@ -374,31 +374,32 @@ unfolding computed
 stages_without_bars = refl
 
 -- `path = a` and `path = a/b` clash at the hub, each way round, and in the archive
-one_over_the_other : ClashesAt (of_kept (codes "a")) (of_kept (codes "a/b")) hub
+one_over_the_other : Overlap (write (of_kept (codes "a")) hub) (of_kept (codes "a/b"))
 unfolding computed
 one_over_the_other = (path_of (codes "a"), path_of (codes "a/b"), refl, refl, refl)
 
-the_other_way_round : ClashesAt (of_kept (codes "a/b")) (of_kept (codes "a")) hub
+the_other_way_round : Overlap (write (of_kept (codes "a/b")) hub) (of_kept (codes "a"))
 unfolding computed
 the_other_way_round = (path_of (codes "a/b"), path_of (codes "a/b"), refl, refl, refl)
 
-in_their_archive : ClashesInArchive (of_kept (codes "a")) (of_kept (codes "a/b"))
+in_their_archive : Overlap (reach (of_kept (codes "a"))) (of_kept (codes "a/b"))
 unfolding computed
 in_their_archive = (path_of (codes "a"), path_of (codes "a/b"), refl, refl, refl)
 
 -- nobody clashes where the writer has no root
-a_foreign_root : ¬ (ClashesAt (of_kept (codes "a")) (of_kept (codes "a/b")) s2)
+a_foreign_root : ¬ (Overlap (write (of_kept (codes "a")) s2) (of_kept (codes "a/b")))
 unfolding computed
 a_foreign_root h = let written : false ≡ true = h.3 in cc
 
 -- nor where the writer may change nothing; the other profile's `force` is no help
-nothing_written_there : ¬ (ClashesAt (record (of_kept (codes "a")) { force = Some Left })
-    (of_kept (codes "a/b")) hub)
+nothing_written_there :
+    ¬ (Overlap (write (record (of_kept (codes "a")) { force = Some Left }) hub)
+    (of_kept (codes "a/b")))
 unfolding computed
 nothing_written_there h = let written : false ≡ true = h.3 in cc
 
-read_where_it_may_not_write : ClashesAt (of_kept (codes "a"))
-    (record (of_kept (codes "a/b")) { force = Some Left }) hub
+read_where_it_may_not_write : Overlap (write (of_kept (codes "a")) hub)
+    (record (of_kept (codes "a/b")) { force = Some Left })
 unfolding computed
 read_where_it_may_not_write = (path_of (codes "a"), path_of (codes "a/b"), refl, refl, refl)
 

@@ -31,12 +31,12 @@
 //!
 //! # What is proved
 //!
-//! - `verify` returns a `Verified` only if the certificates rule out every goal of the set (clause `inductive`). Then the set is
-//!   safe (`safe`). For such certificates it reports nothing but `OutOfMemory` (`complete`). Each other fault is true and the
+//! - `verify` returns a `Verified` only if the certificates rule out every goal of the set (clause `certificates`; by their stages
+//!   `inductive`). Then the set is safe (`safe`). For such certificates it reports nothing but `OutOfMemory` (`complete`). Each other fault is true and the
 //!   first one (`refused`). A `Verifier` does the same goal by goal.
-//! - A goal that has an inductive list accepts no text (law `inductive_lists_rule_out`), one that accepts no text has such a list
-//!   (law `silent_goals_have_inductive_lists`), and a set is safe if no different roots are nested and each goal has one (law
-//!   `certificates_make_a_set_safe`).
+//! - A list that rules out a goal shows that the goal accepts no text (law `ruled_out_goals_accept_nothing`), and with one for each
+//!   goal a set is safe if no different roots are nested (`certified_sets_are_safe`). An inductive list rules out
+//!   (`inductive_lists_rule_out`), and a goal that accepts no text has one (`silent_goals_have_inductive_lists`).
 //! - `ProfileSet::new` returns the set of exactly these members, or the first fault in the order of its `///`. `goals` lists each
 //!   goal once.
 //! - If two texts have equal stages, they still do after a character is appended to both, and the goal accepts both or neither

@@ -29,7 +29,7 @@ use Rattle.hub_cert.specs.declared.fault.CheckFault.TheVariants.{BadText}
 use Rattle.hub_cert.specs.Set.{Members, alphabet_of}
 use Rattle.hub_cert.specs.Aim.{Aim, Clashing, Breaching, accepts, goal_stage, is_held}
 use Rattle.hub_cert.specs.Goals.{goals, aim_of}
-use Rattle.hub_cert.specs.Inductive.{IsInductive}
+use Rattle.hub_cert.specs.Inductive.{IsInductive, RulesOut}
 use Rattle.hub_cert.specs.Reading.{certificates_in}
 use Rattle.hub_cert.specs.Writing.{goal_text}
 use Rattle.hex.proofs.OnLiterals.{hex_on_literals}
@@ -346,6 +346,10 @@ only_what_is_mentioned_is_silent = refl
 -- without any text no list is inductive
 no_texts_at_all : IsInductive first [] → ⊥
 no_texts_at_all h = let at : h.start.1.0 < 0 = h.start.1.1 in omega arith
+
+-- nor does it rule out a goal
+no_texts_rule_out : RulesOut first [] → ⊥
+no_texts_rule_out h = let at : h.start.1.0 < 0 = h.start.1.1 in omega arith
 
 -- What the examples on texts compute.
 reading : ⊤

@@ -14,13 +14,13 @@ use Rattle.hub_glob.specs.declared.piece.Piece.{Piece}
 use Rattle.hub_text.specs.laws.Test.{any-map, not-not, or-assoc}
 use Rattle.hub_automaton.specs.declared.alternatives.Alternatives.{Alternatives}
 use Rattle.hub_automaton.specs.Ends.{meets, end_choice, end_choices, in_range, end_all, end_flags, ends_in, end_below, below_ends}
-use Rattle.hub_automaton.specs.Spots.{is_matched_above, is_below_kind, is_matched, spot_count, spots_count, unpacked, seen}
+use Rattle.hub_automaton.specs.Spots.{is_matched_above, is_below_kind, is_matched, spot_count, spots_count, unpacked, state_after}
 use Rattle.hub_automaton.specs.forms.Stepping.{ended_matches, ended_choices, matched_each}
 use Rattle.hub_automaton.specs.Words.{word, words_for, packed_by, packed, bit, with_bit}
 use Rattle.hub_automaton.specs.Masks.{ended_at, marked}
 use Rattle.hub_automaton.proofs.Kept.{any_from, any_from-drop, drop-map, range_is}
 use Rattle.hub_automaton.proofs.Loops.{ended_is}
-use Rattle.hub_automaton.proofs.SpotsSeen.{length-live}
+use Rattle.hub_automaton.proofs.SpecStates.{length-live}
 use Rattle.hub_automaton.proofs.Spotted.{each_law}
 use Rattle.hub_automaton.proofs.WordBits.{number_few, test, test-and, test-zero}
 use Rattle.hub_automaton.proofs.WordMoves.{bit_is, drop-none, length-packed, packed_bit}
@@ -209,7 +209,7 @@ any_in-take from to i (b ∷ bs) = by_test (nat_lt i to) refl (any_in-take from 
 
 -- A row of a text meets the mask of a range exactly when one of these specifications matches the text.
 pub ends_law : (ls : List Alternatives) (t : List ℕ) (from to : ℕ)
-    → meets (seen ls t).row (ends_in ls from to) ≡ list_any (λ a. is_matched a t) (take (to - from) (drop from ls))
+    → meets (state_after ls t).row (ends_in ls from to) ≡ list_any (λ a. is_matched a t) (take (to - from) (drop from ls))
 ends_law ls t from to =
     let u = unpacked ls t in
     let g : Alternatives → Bool = λ a. is_matched a t in

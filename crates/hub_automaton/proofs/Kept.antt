@@ -15,13 +15,13 @@ use Rattle.hub_automaton.specs.declared.alternatives.Alternatives.{Alternatives}
 use Rattle.hub_automaton.specs.declared.masks.Mask.{Mask}
 use Rattle.hub_automaton.specs.declared.masks.Mask.TheVariants as mask
 use Rattle.hub_glob.specs.declared.piece.NextCharacter.{NextCharacter}
-use Rattle.hub_automaton.specs.Masks.{masks_piece, mask_choice, mask_choices, mask_all, ended_at, matched_at, marked, moved_row, moved_seen}
-use Rattle.hub_automaton.specs.Spots.{is_below_kind, is_matched_above, is_matched, spot_count, spots_count, unpacked, packed_seen, Unpacked, Seen, seen}
+use Rattle.hub_automaton.specs.Masks.{masks_piece, mask_choice, mask_choices, mask_all, ended_at, matched_at, marked, moved_row, moved_state}
+use Rattle.hub_automaton.specs.Spots.{is_below_kind, is_matched_above, is_matched, spot_count, spots_count, unpacked, packed_state, Unpacked, PackedState, state_after}
 use Rattle.hub_automaton.specs.forms.Stepping.{stepped_all, ended_choices, goes_below, below_one, below_all, matched_each, pushed}
 use Rattle.hub_automaton.specs.Words.{word, words_for, packed_by, packed, bit, with_bit, moved_words}
 use Rattle.hub_automaton.proofs.Loops.{ended_place}
 use Rattle.hub_automaton.proofs.Masked.{entry, entry_choices, entries, all_move}
-use Rattle.hub_automaton.proofs.SpotsSeen.{length-live}
+use Rattle.hub_automaton.proofs.SpecStates.{length-live}
 use Rattle.hub_automaton.proofs.SetBits.{set_packed}
 use Rattle.hub_automaton.proofs.Spotted.{push_law, each_law}
 use Rattle.hub_automaton.proofs.Steps.{next_of}
@@ -130,7 +130,7 @@ mask_words m ls ws e = ap length e ∙ length-packed (words_for (length (mask_al
 live_words : (ls : List Alternatives) (t : List ℕ) → length (packed (unpacked ls t).live) ≡ words_for (spots_count ls)
 live_words ls t = length-packed (words_for (length (unpacked ls t).live)) (unpacked ls t).live ∙ ap words_for (length-live ls t)
 
-pub same_row_length : (ls : List Alternatives) (t u : List ℕ) → length (seen ls t).row ≡ length (seen ls u).row
+pub same_row_length : (ls : List Alternatives) (t u : List ℕ) → length (state_after ls t).row ≡ length (state_after ls u).row
 same_row_length ls t u =
     let a = unpacked ls t in
     let b = unpacked ls u in
@@ -198,15 +198,15 @@ range_is (suc from) (suc to) [] = ap (λ bs. bs) (sym (none (suc to - suc from))
 range_is (suc from) (suc to) (a ∷ ls) = range_is from to ls ∙ ap (λ n. take n (drop from ls)) (let e : to - from ≡ suc to - suc from = omega arith in e)
 
 -- The row of a text, in front of the flags and from them on.
-pub front_words : (ls : List Alternatives) (t : List ℕ) (n : ℕ) → n ≡ words_for (spots_count ls) → take n (seen ls t).row ≡ packed (unpacked ls t).live
+pub front_words : (ls : List Alternatives) (t : List ℕ) (n : ℕ) → n ≡ words_for (spots_count ls) → take n (state_after ls t).row ≡ packed (unpacked ls t).live
 front_words ls t n e = take_at (packed (unpacked ls t).live) (packed (unpacked ls t).below) n (live_words ls t ∙ sym e)
 
-pub rest_words : (ls : List Alternatives) (t : List ℕ) (n : ℕ) → n ≡ words_for (spots_count ls) → drop n (seen ls t).row ≡ packed (unpacked ls t).below
+pub rest_words : (ls : List Alternatives) (t : List ℕ) (n : ℕ) → n ≡ words_for (spots_count ls) → drop n (state_after ls t).row ≡ packed (unpacked ls t).below
 rest_words ls t n e = drop_at (packed (unpacked ls t).live) (packed (unpacked ls t).below) n (live_words ls t ∙ sym e)
 
 -- Which of some specifications match a text, by its row.
 pub range_matches : (ls : List Alternatives) (t : List ℕ) (n from to m : ℕ) → n ≡ words_for (spots_count ls) → m ≡ min to (length ls)
-    → matched_at (take m ls) from (take n (seen ls t).row) (drop n (seen ls t).row) 0 0 ≡ list_any (λ a. is_matched a t) (take (to - from) (drop from ls))
+    → matched_at (take m ls) from (take n (state_after ls t).row) (drop n (state_after ls t).row) 0 0 ≡ list_any (λ a. is_matched a t) (take (to - from) (drop from ls))
 range_matches ls t n from to m e f =
     let u = unpacked ls t in
     let g : Alternatives → Bool = λ a. is_matched a t in
@@ -262,7 +262,7 @@ below_stays x (a ∷ ls) (f ∷ flags) old e l =
 -- What is kept with one more character, by masks.
 row_marked : (ls : List Alternatives) (t : List ℕ) (c n : ℕ) → n ≡ words_for (spots_count ls)
     → let u = unpacked ls t in
-    cond (c == 47) (marked ls (take n (seen ls t).row) 0 n 0 (seen ls t).row) (seen ls t).row ≡ packed u.live ++ packed (below_all (next_of t c) ls u.below u.live)
+    cond (c == 47) (marked ls (take n (state_after ls t).row) 0 n 0 (state_after ls t).row) (state_after ls t).row ≡ packed u.live ++ packed (below_all (next_of t c) ls u.below u.live)
 row_marked ls t c n e = by_test (c == 47) refl where
   u : Unpacked
   u = unpacked ls t
@@ -271,15 +271,15 @@ row_marked ls t c n e = by_test (c == 47) refl where
   flags = length-map ls (λ a. is_matched_above a t)
 
   by_test : (b : Bool) → (c == 47) ≡ b
-      → cond b (marked ls (take n (seen ls t).row) 0 n 0 (seen ls t).row) (seen ls t).row ≡ packed u.live ++ packed (below_all (next_of t c) ls u.below u.live)
+      → cond b (marked ls (take n (state_after ls t).row) 0 n 0 (state_after ls t).row) (state_after ls t).row ≡ packed u.live ++ packed (below_all (next_of t c) ls u.below u.live)
   by_test true h =
-      (λ j. marked ls (front_words ls t n e j) 0 ((e ∙ sym (live_words ls t)) j) 0 (seen ls t).row)
+      (λ j. marked ls (front_words ls t n e j) 0 ((e ∙ sym (live_words ls t)) j) 0 (state_after ls t).row)
       ∙ marks (next_of t c) ls u.below u.live (packed u.live) 0 [] h flags
   by_test false h = ap (λ bs. packed u.live ++ packed bs) (below_stays (next_of t c) ls u.below u.live h flags)
 
 pub kept_moves : (ls : List Alternatives) (t : List ℕ) (c : ℕ) (ews sws tws : List ℕ)
     → ews ≡ packed (mask_all mask.Entries ls) → sws ≡ packed (mask_all mask.Stars ls) → tws ≡ packed (mask_all (mask.Takers c) ls)
-    → moved_seen (next_of t c) ls ews sws tws (seen ls t) ≡ packed_seen (pushed ls (unpacked ls t) c)
+    → moved_state (next_of t c) ls ews sws tws (state_after ls t) ≡ packed_state (pushed ls (unpacked ls t) c)
 kept_moves ls t c ews sws tws e s k =
     let x = next_of t c in
     let u = unpacked ls t in
@@ -293,7 +293,7 @@ kept_moves ls t c ews sws tws e s k =
     let rest : drop n (packed u.live ++ flags) ≡ flags = drop_at (packed u.live) flags n (live_words ls t ∙ sym words) in
     let row : moved_row stays es sws tws (packed u.live ++ flags) ≡ packed (stepped_all x ls u.live) ++ flags =
     (λ j. moved_words stays es sws tws (cut j) 0 0 ++ rest j) ∙ ap (λ ws. ws ++ flags) (live_moves x ls u.live ews sws tws (length-live ls t) e s k many) in
-    λ i. let r : Seen = record { row = (ap (moved_row stays es sws tws) (row_marked ls t c n words) ∙ row) i; start = c == 47 } in r
+    λ i. let r : PackedState = record { row = (ap (moved_row stays es sws tws) (row_marked ls t c n words) ∙ row) i; start = c == 47 } in r
 
 -- What stands at a place of a list that was made from another one.
 pub mapped_at : (f : ℕ → List ℕ) (xs : List ℕ) (ys : List (List ℕ)) (i x : ℕ) (y : List ℕ) → i < length xs → ys ≡ map f xs → x ≡ get_or xs i x → y ≡ get_or ys i y → y ≡ f x

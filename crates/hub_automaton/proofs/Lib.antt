@@ -11,7 +11,7 @@ pub mod Loops
 pub mod Masked
 pub mod Openings
 pub mod Paths
-pub mod SpotsSeen
+pub mod SpecStates
 pub mod RowMoves
 pub mod SetBits
 pub mod Spotted

@@ -14,9 +14,9 @@ use Rattle.hub_glob.specs.declared.piece.Piece.TheVariants.{Run}
 use Rattle.hub_glob.specs.Taking.{takes}
 use Rattle.hub_automaton.specs.declared.alternatives.Alternatives.{Alternatives}
 use Rattle.hub_automaton.specs.declared.words.Masks.{Masks}
-use Rattle.hub_automaton.specs.Masks.{ended_at, marked, moved_row, moved_seen}
+use Rattle.hub_automaton.specs.Masks.{ended_at, marked, moved_row, moved_state}
 use Rattle.hub_automaton.specs.forms.Rows.{AreMovedApart, AreMoved, AreTakenAlike, NoneCarried, last_before, masks_at, shifted_at, word_at}
-use Rattle.hub_automaton.specs.Spots.{Seen, is_below_kind, spot_count}
+use Rattle.hub_automaton.specs.Spots.{PackedState, is_below_kind, spot_count}
 use Rattle.hub_automaton.specs.Words.{first_word, other_words, spread, moved_word, moved_words, with_bit}
 use Rattle.hub_automaton.proofs.WordLoops.{first-drop}
 
@@ -265,12 +265,12 @@ marks_move stays es ss ts live (a ∷ ls) n i row =
     by false = refl
 
 -- Before a `/` the flags may be set after the words that are moved already.
-pub seen_moves : (x : NextCharacter) (ls : List Alternatives) (es ss ts row : List ℕ) (s : Seen)
+pub seen_moves : (x : NextCharacter) (ls : List Alternatives) (es ss ts row : List ℕ) (s : PackedState)
     → row ≡ cond (x.character == 47) (marked ls (take (length ss) s.row) 0 (length ss) 0 (moved_row (takes x Run) (cond (x.character == 47) es []) ss ts s.row))
     (moved_row (takes x Run) (cond (x.character == 47) es []) ss ts s.row)
-    → let r : Seen = record { row = row; start = x.character == 47 } in r ≡ moved_seen x ls es ss ts s
+    → let r : PackedState = record { row = row; start = x.character == 47 } in r ≡ moved_state x ls es ss ts s
 seen_moves x ls es ss ts row s e =
-    λ j. let r : Seen = record { row = (e ∙ by (x.character == 47) (cond (x.character == 47) es [])) j; start = x.character == 47 } in r
+    λ j. let r : PackedState = record { row = (e ∙ by (x.character == 47) (cond (x.character == 47) es [])) j; start = x.character == 47 } in r
   where
     by : (b : Bool) (entered : List ℕ)
         → cond b (marked ls (take (length ss) s.row) 0 (length ss) 0 (moved_row (takes x Run) entered ss ts s.row)) (moved_row (takes x Run) entered ss ts s.row)

@@ -3,7 +3,7 @@ pub mod Alphabet
 pub mod ClassSets
 pub mod Ends
 pub mod Masks
-pub mod Opened
+pub mod Distinguishing
 pub mod Spots
 pub mod Varied
 pub mod Words

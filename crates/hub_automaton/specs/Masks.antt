@@ -11,7 +11,7 @@ use Rattle.hub_automaton.specs.declared.masks.Mask.TheVariants as mask
 use Rattle.hub_automaton.specs.declared.masks.SpotMasks.{SpotMasks}
 use Rattle.hub_glob.specs.declared.piece.NextCharacter.{NextCharacter}
 use Rattle.hub_automaton.specs.Ends.{below_ends}
-use Rattle.hub_automaton.specs.Spots.{Seen, is_below_kind, spot_count}
+use Rattle.hub_automaton.specs.Spots.{PackedState, is_below_kind, spot_count}
 use Rattle.hub_automaton.specs.Words.{packed, bit, with_bit, moved_words}
 use Rattle.hub_glob.specs.Specification.{is_name_kind}
 
@@ -82,8 +82,9 @@ moved_row stays es ss ts row =
     moved_words stays es ss ts (take (length ss) row) 0 0 ++ drop (length ss) row
 
 -- What is kept of a text with one more character.
-abbrev pub moved_seen : NextCharacter → List Alternatives → List ℕ → List ℕ → List ℕ → Seen → Seen
-moved_seen x ls entries stars takers s =
+abbrev pub moved_state : NextCharacter → List Alternatives → List ℕ → List ℕ → List ℕ
+    → PackedState → PackedState
+moved_state x ls entries stars takers s =
     record {
       row = moved_row (takes x Run) (if x.character == 47 then entries else []) stars takers
           (if x.character == 47 then marked ls (take (length stars) s.row) 0 (length stars) 0 s.row

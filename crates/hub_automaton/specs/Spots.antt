@@ -1,4 +1,4 @@
--- What is seen of a text for some specifications: which numbers of pieces of their choices match
+-- The state after a text for some specifications: which numbers of pieces of their choices match
 -- it, and which of the specifications match a path above it.
 use Rattle.std.specs.Prelude.{◌||◌, ◌≡◌, ◌⊎◌, ◌<◌, ◌≤◌, IsTrue, drop, ℕ, Bool, true, false, ◌&&◌, ◌==◌, ◌+◌, List, [], ◌∷◌, ◌++◌, map, length, take, if◌then◌else◌}
 use Rattle.std.specs.List.{list_any, list_all, flat_map, range_with_len}
@@ -70,20 +70,20 @@ is_matched_above a t = is_below_kind a.kind && list_any (fits a.choices) (folder
 abbrev pub is_matched : Alternatives → List ℕ → Bool
 is_matched a t = is_matched_above a t || fits a.choices (looked_at a.kind t)
 
--- What is seen of a text for one specification: for each of its choices the spots, and whether a
+-- The state after a text for one specification: for each of its choices the spots, and whether a
 -- path above is matched.
-pub record SpotsSeen : Type 0 where
+pub record SpecState : Type 0 where
   pub sets : List (List Bool)
   pub below : Bool
 
-abbrev pub spots_seen : List ℕ → Alternatives → SpotsSeen
-spots_seen t a =
+abbrev pub spec_state : List ℕ → Alternatives → SpecState
+spec_state t a =
     record {
       sets = map (λ c. spots c (looked_at a.kind t)) a.choices;
       below = is_matched_above a t;
     }
 
--- What is seen of a text: the spots of all choices, one specification after another, whether a path
+-- The state after a text: the spots of all choices, one specification after another, whether a path
 -- above is matched, for each of them, and whether the text ends where a component starts.
 pub record Unpacked : Type 0 where
   pub live : List Bool
@@ -99,19 +99,19 @@ unpacked ls t =
           starts true t;
     }
 
--- What is seen of a text, as it is kept: one row of words, and whether the text ends where a
+-- The state after a text, as it is kept: one row of words, and whether the text ends where a
 -- component starts. The row has the spots of all choices, as words of bits, and then, in further
 -- words, for each specification whether a path above is matched. The first bit of a word is the
 -- lowest.
-pub record Seen : Type 0 where
+pub record PackedState : Type 0 where
   pub row : List ℕ
   pub start : Bool
 
-abbrev pub packed_seen : Unpacked → Seen
-packed_seen u = record { row = packed u.live ++ packed u.below; start = u.start }
+abbrev pub packed_state : Unpacked → PackedState
+packed_state u = record { row = packed u.live ++ packed u.below; start = u.start }
 
-abbrev pub seen : List Alternatives → List ℕ → Seen
-seen ls t = packed_seen (unpacked ls t)
+abbrev pub state_after : List Alternatives → List ℕ → PackedState
+state_after ls t = packed_state (unpacked ls t)
 
 -- How many spots the choices have.
 abbrev pub spot_count : List (List Piece) → ℕ

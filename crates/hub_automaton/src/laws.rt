@@ -5,7 +5,7 @@ ghost use Rattle.std.specs.declared.cmp.Ordering.TheVariants.{Equal};
 ghost use Rattle.hub_path.specs.Path.{Path, text_of, path_of, name_eq, path_eq, is_path};
 ghost use Rattle.hub_glob.specs.Glob.{matches};
 ghost use Rattle.hub_glob.specs.Specification.{Specification};
-ghost use Rattle.hub_automaton.specs.Spots.{Seen, seen, alternatives_of, path_alternatives, is_covered, is_matched, spots_seen, spots_count, starts};
+ghost use Rattle.hub_automaton.specs.Spots.{PackedState, state_after, alternatives_of, path_alternatives, is_covered, is_matched, spec_state, spots_count, starts};
 ghost use Rattle.hub_automaton.specs.declared.alternatives.Alternatives.{Alternatives};
 ghost use Rattle.hub_automaton.specs.Alphabet.{IsAlphabet, class_of, class_count, sample, with_characters, mentions, path_characters, spec_characters, is_never_mentioned, is_mentioned, is_path_character};
 
@@ -60,47 +60,48 @@ pub fn nothing_else_is_mentioned()
 
 /// `Spots` are equal exactly when their values are, and tie in the order exactly then. Equal ones hash alike.
 pub fn spots_compare_exactly()
-    ensures equal { (a b : Seen) → (⟦<Spots as PartialEq>⟧.eq a b ≡ true) ↔ (a ≡ b) }
-    ensures tied { (a b : Seen) → (⟦<Spots as Ord>⟧.cmp a b ≡ Equal) ↔ (a ≡ b) }
-    ensures hashed { (a b : Seen) → ⟦<Spots as PartialEq>⟧.eq a b ≡ true
+    ensures equal { (a b : PackedState) → (⟦<Spots as PartialEq>⟧.eq a b ≡ true) ↔ (a ≡ b) }
+    ensures tied { (a b : PackedState) → (⟦<Spots as Ord>⟧.cmp a b ≡ Equal) ↔ (a ≡ b) }
+    ensures hashed { (a b : PackedState) → ⟦<Spots as PartialEq>⟧.eq a b ≡ true
         → ⟦<Spots as Hash>⟧.hash_input a ≡ ⟦<Spots as Hash>⟧.hash_input b }
 {}
 
 /// If two texts lead to the same state, they still do after any character is appended to both. Characters of one class
 /// lead to the same state.
 pub fn what_is_kept_goes_on_alike()
-    ensures same { (ls : List Alternatives) (t u : List ℕ) (x : ℕ) → seen ls t ≡ seen ls u
-        → seen ls (t ++ x ∷ []) ≡ seen ls (u ++ x ∷ []) }
+    ensures same { (ls : List Alternatives) (t u : List ℕ) (x : ℕ)
+        → state_after ls t ≡ state_after ls u
+        → state_after ls (t ++ x ∷ []) ≡ state_after ls (u ++ x ∷ []) }
     ensures classes { (ms : List ℕ) (ls : List Alternatives) (t : List ℕ) (x y k : ℕ)
         → IsAlphabet ms → IsTrue (list_all (is_covered ms) ls)
         → class_of ms x ≡ Some k → class_of ms y ≡ Some k
-        → seen ls (t ++ x ∷ []) ≡ seen ls (t ++ y ∷ []) }
+        → state_after ls (t ++ x ∷ []) ≡ state_after ls (t ++ y ∷ []) }
 {}
 
 /// Two texts lead to the same state exactly when the following agree: for each specification, how many pieces of each
 /// choice match, and whether a path above matches; and whether the text ends where a component starts.
 pub fn the_same_is_kept_of_each_specification()
-    ensures { (ls : List Alternatives) (t u : List ℕ) → (seen ls t ≡ seen ls u)
-        ↔ ((map (spots_seen t) ls ≡ map (spots_seen u) ls) × (starts true t ≡ starts true u)) }
+    ensures { (ls : List Alternatives) (t u : List ℕ) → (state_after ls t ≡ state_after ls u)
+        ↔ ((map (spec_state t) ls ≡ map (spec_state u) ls) × (starts true t ≡ starts true u)) }
 {}
 
 /// If two paths lead to the same state, the same specifications match them.
 pub fn what_is_kept_tells_what_matches()
     ensures { (specs : List Specification) (p q : Path) → IsTrue (is_path p) → IsTrue (is_path q)
-        → seen (map alternatives_of specs) (text_of p)
-        ≡ seen (map alternatives_of specs) (text_of q)
+        → state_after (map alternatives_of specs) (text_of p)
+        ≡ state_after (map alternatives_of specs) (text_of q)
         → list_any (λ s. matches s p) specs ≡ list_any (λ s. matches s q) specs }
 {}
 
 /// All states of one set have equally many words.
 pub fn rows_are_equally_long()
     ensures { (ls : List Alternatives) (t u : List ℕ)
-        → length (seen ls t).row ≡ length (seen ls u).row }
+        → length (state_after ls t).row ≡ length (state_after ls u).row }
 {}
 
 /// If two texts lead to the same state, each specification matches both or neither.
 pub fn what_is_kept_tells_each_match()
-    ensures { (ls : List Alternatives) (t u : List ℕ) → seen ls t ≡ seen ls u
+    ensures { (ls : List Alternatives) (t u : List ℕ) → state_after ls t ≡ state_after ls u
         → map (λ a. is_matched a t) ls ≡ map (λ a. is_matched a u) ls }
 {}
 

@@ -10,14 +10,14 @@
 //!   many pieces it matches the text so far. So it knows after each character whether one of them matches the text.
 //! - [`Ends`] is a range of the specifications of a set as a mask, so that [`Spots::meets`] finds in one pass over words
 //!   whether one of them matches.
-//! - [`ClassSet`] is a set of classes. [`SpecSet::open_classes`] finds by the active positions of a state which classes may
+//! - [`ClassSet`] is a set of classes. [`SpecSet::distinguishing_classes`] finds by the active positions of a state which classes may
 //!   lead elsewhere than class 0.
 //! - [`SpecSetBuilder`] collects the specifications of a set, and paths that stand for themselves and all paths below.
 //!
 //! The contracts use the words of `specs/Alphabet` (classes) and `specs/Spots` (the state after a text). `specs/forms/Stepping`
 //! defines a step position by position, `specs/Masks` and `specs/Words` for 64 positions at once, and `specs/forms/Rows` for many
 //! words at once. `specs/Alike` says which characters may be treated alike, `specs/Varied` at which positions a class is told
-//! from class 0, `specs/Opened` what a class that isn't open leads to, and `specs/Ends` the masks of last positions.
+//! from class 0, `specs/Distinguishing` what a class that isn't one leads to, and `specs/Ends` the masks of last positions.
 //!
 //! ```rust
 //! for number in 0..alphabet.count() {
@@ -35,12 +35,12 @@
 //!   in a path, and all characters of paths have a class.
 //! - After `start` and any number of `advance`, a state is the defined one: a step handles 64 positions at once, and is proved
 //!   equal to handling them one by one. For the text of a path it says exactly whether a specification matches.
-//! - Characters of a class that `open_classes` does not list lead where those of class 0 do.
+//! - Characters of a class that `distinguishing_classes` does not list lead where those of class 0 do.
 //! - If two texts lead to the same state, they still do after any text is appended to both (law `what_is_kept_goes_on_alike`).
 //!
 //! # What is not
 //!
-//! That `open_classes` lists only classes that lead elsewhere than class 0; others would cost time alone.
+//! That `distinguishing_classes` lists only classes that lead elsewhere than class 0; others would cost time alone.
 #![tactic(auto)]
 
 mod alike;

@@ -26,7 +26,7 @@ pub mod Pushed
 pub mod GoalLines
 pub mod Forbids
 pub mod Machined
-pub mod Opened
+pub mod Distinguishing
 pub mod Verifying
 pub mod StageLists
 pub mod TextBuffer

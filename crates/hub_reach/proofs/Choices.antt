@@ -17,7 +17,7 @@ use Rattle.hub_profile.specs.Parts.{Parts, IsProfile}
 use Rattle.hub_profile.specs.declared.partial.Partial.{Partial}
 use Rattle.hub_automaton.specs.Alphabet.{mentions, path_characters, spec_characters}
 use Rattle.hub_automaton.specs.declared.alternatives.Alternatives.{Alternatives}
-use Rattle.hub_automaton.specs.Spots.{seen, is_matched, is_covered, spots_count, alternatives_of, path_alternatives}
+use Rattle.hub_automaton.specs.Spots.{state_after, is_matched, is_covered, spots_count, alternatives_of, path_alternatives}
 use Rattle.hub_reach.specs.Bars.{partial_specs, placed_bar, placed_bars, specs_of}
 use Rattle.hub_reach.specs.Mention.{Mentions}
 use Rattle.hub_reach.specs.Reach.{is_ignored}
@@ -149,10 +149,10 @@ kept-is law P t facts path =
 
 -- Texts of which the same is kept are matched alike.
 abbrev pub TellsMatches : Type 0
-TellsMatches = (ls : List Alternatives) (t u : List ℕ) → seen ls t ≡ seen ls u → map (λ a. is_matched a t) ls ≡ map (λ a. is_matched a u) ls
+TellsMatches = (ls : List Alternatives) (t u : List ℕ) → state_after ls t ≡ state_after ls u → map (λ a. is_matched a t) ls ≡ map (λ a. is_matched a u) ls
 
 pub ignored-alike : MatchesSpecs → TellsMatches → (P : Parts) (t u : List ℕ) → IsTrue (is_path (path_of t)) → IsTrue (is_path (path_of u))
-    → seen (profile_alternatives P) t ≡ seen (profile_alternatives P) u → is_ignored P (path_of t) ≡ is_ignored P (path_of u)
+    → state_after (profile_alternatives P) t ≡ state_after (profile_alternatives P) u → is_ignored P (path_of t) ≡ is_ignored P (path_of u)
 ignored-alike law tells P t u p q h =
     let ls = map alternatives_of P.ignore in
     let ms = map alternatives_of P.ignorenot in
@@ -164,7 +164,7 @@ ignored-alike law tells P t u p q h =
     ∙ ignored-is law P u q)
 
 pub kept-alike : MatchesText → TellsMatches → (P : Parts) (t u : List ℕ) → IsProfile P → IsTrue (is_path (path_of t)) → IsTrue (is_path (path_of u))
-    → is_inside P (path_of t) ≡ is_inside P (path_of u) → seen (profile_alternatives P) t ≡ seen (profile_alternatives P) u → is_kept P (path_of t) ≡ is_kept P (path_of u)
+    → is_inside P (path_of t) ≡ is_inside P (path_of u) → state_after (profile_alternatives P) t ≡ state_after (profile_alternatives P) u → is_kept P (path_of t) ≡ is_kept P (path_of u)
 kept-alike law tells P t u facts p q ins h =
     let ls = map alternatives_of P.ignore in
     let ms = map alternatives_of P.ignorenot in
@@ -176,7 +176,7 @@ kept-alike law tells P t u facts p q ins h =
     ∙ ((λ i. ins i || any-same (λ a. is_matched a t) (λ a. is_matched a u) ns k.0 i) ∙ kept-is law P u facts q)
 
 -- The choices of the partial bars match them alike.
-pub bars-alike : TellsMatches → (P : Parts) (t u : List ℕ) → seen (profile_alternatives P) t ≡ seen (profile_alternatives P) u
+pub bars-alike : TellsMatches → (P : Parts) (t u : List ℕ) → state_after (profile_alternatives P) t ≡ state_after (profile_alternatives P) u
     → map (λ a. is_matched a t) (bar_choices P) ≡ map (λ a. is_matched a u) (bar_choices P)
 bars-alike tells P t u h =
     (map-parts (λ a. is_matched a t) (λ a. is_matched a u) (before_bars P) (bar_choices P)

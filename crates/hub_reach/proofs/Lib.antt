@@ -1,7 +1,7 @@
 pub mod Steps
 pub mod Numbered
 pub mod Rows
-pub mod Opened
+pub mod Distinguishing
 pub mod Shapes
 pub mod Choices
 pub mod BarEnds

@@ -11,6 +11,7 @@ pub mod SpecRanges
 pub mod Walker
 pub mod WalkerEnds
 pub mod Mention
+pub mod After
 pub mod Apart
 pub mod laws
 pub mod examples

@@ -1,7 +1,7 @@
 //! The choices of a walker as masks of its rows.
 ghost use Rattle.std.specs.Prelude.{◌≡◌, ◌<◌, ◌&&◌, [], ℕ, List, length, map, not, slice_index_or, IfOk};
 ghost use Rattle.hub_automaton.specs.declared.alternatives.Alternatives.{Alternatives};
-ghost use Rattle.hub_automaton.specs.Spots.{seen};
+ghost use Rattle.hub_automaton.specs.Spots.{state_after};
 ghost use Rattle.hub_reach.specs.WalkerEnds.{AreEndsOf, bar_ends, some_match};
 ghost use Rattle.hub_reach.specs.declared.placed_bar.PlacedBar.{PlacedBar};
 ghost use Rattle.hub_reach.specs.declared.ranges.SpecRanges.{SpecRanges};
@@ -40,7 +40,7 @@ impl WalkerEnds {
     /// Returns whether a pattern of `ignore` matches the text of the state, and none of `ignorenot` does.
     pub(crate) fn ignore(&self, spots: &Spots) -> bool
         ensures { (ls : List Alternatives) (a : SpecRanges) (t : List ℕ) → AreEndsOf ls a self.now
-            → spots.now ≡ seen ls t
+            → spots.now ≡ state_after ls t
             → result ≡ (some_match ls t 0 a.ignore_end
             && not (some_match ls t a.ignore_end a.ignorenot_end)) }
     {
@@ -50,7 +50,7 @@ impl WalkerEnds {
     /// Returns whether the text of the state is that of a kept value.
     pub(crate) fn keep(&self, spots: &Spots) -> bool
         ensures { (ls : List Alternatives) (a : SpecRanges) (t : List ℕ) → AreEndsOf ls a self.now
-            → spots.now ≡ seen ls t → result ≡ some_match ls t a.ignorenot_end a.kept_end }
+            → spots.now ≡ state_after ls t → result ≡ some_match ls t a.ignorenot_end a.kept_end }
     {
         spots.meets(&self.kept)
     }
@@ -58,7 +58,7 @@ impl WalkerEnds {
     /// Returns whether a choice of the partial bar with that number matches the text of the state.
     pub(crate) fn bar(&self, number: usize, spots: &Spots) -> bool
         requires { number < length self.now.barred.items }
-        ensures { (ls : List Alternatives) (t : List ℕ) → spots.now ≡ seen ls t
+        ensures { (ls : List Alternatives) (t : List ℕ) → spots.now ≡ state_after ls t
             → (b : PlacedBar)
             → slice_index_or self.now.barred.items number [] ≡ bar_ends ls b
             → result ≡ some_match ls t b.from b.to }

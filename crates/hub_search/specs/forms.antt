@@ -1,3 +1,4 @@
+pub mod After
 pub mod Entries
 pub mod Seen
 pub mod Steps

@@ -69,7 +69,7 @@ fn answer_on_profile(alloc: Global, word: &str, fields: &str) -> Result<String> 
         "fronts-in-place" => walkers::fronts(alloc, fields, Way::InPlace),
         "walker" => walkers::walker(alloc, fields),
         "stages" => stages::stages(alloc, fields),
-        "open" => stages::open_classes(alloc, fields),
+        "open" => stages::distinguishing_classes(alloc, fields),
         _ => bail!("no question has this word"),
     }
 }

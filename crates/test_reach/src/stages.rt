@@ -23,7 +23,7 @@ pub(crate) fn states(alloc: Global, fields: &str) -> Result<String> {
 }
 
 /// For each of these characters whether its class may lead from the start elsewhere than class 0 does, as `0` and `1`.
-pub(crate) fn open_classes(alloc: Global, fields: &str) -> Result<String> {
+pub(crate) fn distinguishing_classes(alloc: Global, fields: &str) -> Result<String> {
     let (lines, path, characters) = three(fields)?;
     let profile = profile_of(alloc, lines)?;
     let alphabet = alphabet_with(alloc, path, &profile)?;
@@ -38,18 +38,18 @@ fn open_text(
     characters: &str,
 ) -> Result<String, AllocError> {
     let start = table.start()?;
-    let mut opened = ClassSet::new(alloc, table.walker().class_count())?;
-    table.open_classes(start, &mut opened);
+    let mut splits = ClassSet::new(alloc, table.walker().class_count())?;
+    table.distinguishing_classes(start, &mut splits);
     let mut digits = String::new(alloc);
     for character in characters.chars() {
-        digits.push(digit(is_open(alphabet, &opened, character)))?;
+        digits.push(digit(is_open(alphabet, &splits, character)))?;
     }
     Ok(digits)
 }
 
-fn is_open(alphabet: &Alphabet, opened: &ClassSet, character: char) -> bool {
+fn is_open(alphabet: &Alphabet, splits: &ClassSet, character: char) -> bool {
     match alphabet.class_of(character) {
-        Some(class) => opened.has(class),
+        Some(class) => splits.has(class),
         None => false,
     }
 }

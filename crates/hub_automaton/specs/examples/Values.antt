@@ -5,7 +5,7 @@ use Rattle.hub_glob.specs.declared.piece.Part.TheVariants.{One}
 use Rattle.hub_glob.specs.declared.path_spec.Kind.TheVariants as kind
 use Rattle.hub_glob.specs.Specification.{Specification}
 use Rattle.hub_automaton.specs.declared.alternatives.Alternatives.{Alternatives}
-use Rattle.hub_automaton.specs.Spots.{spots, unpacked, seen, alternatives_of, path_alternatives, is_matched, spots_count}
+use Rattle.hub_automaton.specs.Spots.{spots, unpacked, state_after, alternatives_of, path_alternatives, is_matched, spots_count}
 use Rattle.hub_automaton.specs.forms.Stepping.{pushed}
 use Rattle.hub_automaton.specs.Alphabet.{class_of, class_count, sample, plain, with_characters, spec_characters}
 
@@ -49,7 +49,7 @@ after_a_slash_a_name_begins : unpacked (alternatives_of name_b ∷ []) (codes "a
     ≡ record { live = true ∷ false ∷ []; below = false ∷ []; start = true }
 after_a_slash_a_name_begins = refl
 
-a_word_of_spots_is_kept_and_one_of_flags : seen (alternatives_of name_b ∷ []) (codes "a/b")
+a_word_of_spots_is_kept_and_one_of_flags : state_after (alternatives_of name_b ∷ []) (codes "a/b")
     ≡ record { row = 2 ∷ 0 ∷ []; start = false }
 a_word_of_spots_is_kept_and_one_of_flags = refl
 
@@ -61,12 +61,13 @@ a_path_above_is_matched : unpacked (alternatives_of below_b ∷ []) (codes "b/c"
     ≡ record { live = false ∷ false ∷ []; below = true ∷ []; start = false }
 a_path_above_is_matched = refl
 
-its_flag_is_the_lowest_bit : seen (alternatives_of below_b ∷ []) (codes "b/c")
+its_flag_is_the_lowest_bit : state_after (alternatives_of below_b ∷ []) (codes "b/c")
     ≡ record { row = 0 ∷ 1 ∷ []; start = false }
 its_flag_is_the_lowest_bit = refl
 
-the_second_flag_is_the_next_bit : seen (alternatives_of name_b ∷ alternatives_of below_b ∷ [])
-    (codes "b/c") ≡ record { row = 0 ∷ 2 ∷ []; start = false }
+the_second_flag_is_the_next_bit :
+    state_after (alternatives_of name_b ∷ alternatives_of below_b ∷ []) (codes "b/c")
+    ≡ record { row = 0 ∷ 2 ∷ []; start = false }
 the_second_flag_is_the_next_bit = refl
 
 no_path_above_is_matched_inside_a_name : unpacked (alternatives_of below_b ∷ []) (codes "bc")

@@ -83,7 +83,7 @@ matched_each (a ∷ ls) flags old =
     (head flags || ended_choices a.choices old)
     ∷ matched_each ls (tail flags) (drop (spot_count a.choices) old)
 
--- What is seen of a text with one more character.
+-- The state after a text with one more character.
 abbrev pub pushed : List Alternatives → Unpacked → ℕ → Unpacked
 pushed ls s c =
     let x : NextCharacter = record { character = c; first = s.start } in

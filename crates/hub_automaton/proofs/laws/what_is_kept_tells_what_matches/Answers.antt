@@ -3,7 +3,7 @@ use Rattle.std.specs.List.{list_any}
 use Rattle.hub_path.specs.Path.{text_of}
 use Rattle.hub_text.specs.laws.Test.{any-map}
 use Rattle.hub_automaton.specs.Spots.{alternatives_of, is_matched}
-use Rattle.hub_automaton.proofs.SpotsSeen.{same_matches}
+use Rattle.hub_automaton.proofs.SpecStates.{same_matches}
 use Rattle.hub_automaton.proofs.Spotted.{specs_law}
 use Rattle.hub_automaton.proofs.laws.what_is_kept_tells_what_matches.Goals as goal
 

@@ -11,11 +11,11 @@ use Rattle.hub_job.specs.declared.run_fault.RunFault.{RunFault}
 use Rattle.hub_job.specs.declared.run_fault.RunFault.TheVariants.{Mismatch, Stranger}
 use Rattle.hub_job.specs.JobValue.{JobValue}
 use Rattle.hub_history.specs.Book.{BookValue}
-use Rattle.hub_schedule.specs.Promise.{HasReplicas, IsAsPromised, Settles}
+use Rattle.hub_schedule.specs.Promise.{HasReplicas, IsAsIfAlone, IsAsPromised, Settles}
 use Rattle.hub_schedule.specs.Refusals.{first_missing}
 use Rattle.hub_schedule.specs.Settled.{AreProfiles}
 use Rattle.hub_schedule.specs.laws.Missing.{have_replicas}
-use Rattle.hub_schedule.specs.laws.Unchanged.{IsStateFor, promise_none}
+use Rattle.hub_schedule.specs.laws.Unchanged.{IsStateFor, alone_none, promise_none}
 use Rattle.hub_runner.specs.Settling.{AreCompared, AreConsistent, IsFirstMismatch, IsLowestInconsistent, Agrees, IsUnsettled, history_at, history_shown, log_shown, compared_places}
 
 -- What is told of a comparison, where Qs are the profiles as the program reads them.
@@ -51,3 +51,17 @@ pub promise_for : {E : Type 0} → Law → (S : State) (Ps : List Parts) (Rs : L
     → IfOk r (Settles S Ps (history_at books)) → IfOk r (λ o. AreCompared S Ps books jobs) → IfOk r (IsAsPromised S Ps Rs (history_at books))
 promise_for law S Ps Rs books jobs (Ok o) valid facts safe settles compared = as_promised law S Ps Rs (history_at books) o valid (have_replicas S Ps compared.there) facts safe settles
 promise_for law S Ps Rs books jobs (Err e) valid facts safe settles compared = tt
+
+abbrev pub AloneLaw : Type 0
+AloneLaw = (S : State) (Ps : List Parts) (Rs : List Rule) (histories : Path → List Entry) (o : Outcome) → IsState S → HasReplicas S Ps → AreProfiles Ps → IsSafe Ps Rs → Settles S Ps histories o
+    → IsAsIfAlone S Ps o
+
+as_alone : AloneLaw → (S : State) (Ps : List Parts) (Rs : List Rule) (histories : Path → List Entry) (o : Outcome) → IsStateFor S Ps → HasReplicas S Ps → AreProfiles Ps → IsSafe Ps Rs → Settles S Ps histories o
+    → IsAsIfAlone S Ps o
+as_alone law S [] Rs histories o valid there facts safe settles = alone_none S o
+as_alone law S (P ∷ Ps) Rs histories o valid there facts safe settles = law S (P ∷ Ps) Rs histories o (valid (omega arith)) there facts safe settles
+
+pub alone_for : {E : Type 0} → AloneLaw → (S : State) (Ps : List Parts) (Rs : List Rule) (books : List BookValue) (jobs : List JobValue) (r : Result Outcome E) → IsStateFor S Ps → AreProfiles Ps → IsSafe Ps Rs
+    → IfOk r (Settles S Ps (history_at books)) → IfOk r (λ o. AreCompared S Ps books jobs) → IfOk r (IsAsIfAlone S Ps)
+alone_for law S Ps Rs books jobs (Ok o) valid facts safe settles compared = as_alone law S Ps Rs (history_at books) o valid (have_replicas S Ps compared.there) facts safe settles
+alone_for law S Ps Rs books jobs (Err e) valid facts safe settles compared = tt

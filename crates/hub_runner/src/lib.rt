@@ -24,9 +24,9 @@
 //! # What is proved
 //!
 //! - `settle` takes books and jobs from anywhere. It returns an outcome only if they are consistent (`compared`); then the
-//!   histories lead to the outcome (`settled`), and it is as promised (`promise`). Each of its faults is true and the first one:
-//!   a missing replica; the lowest job number that is missing, double or made for something else (`Stranger`); the first root,
-//!   and job, whose entries differ (`Mismatch`).
+//!   histories lead to the outcome (`settled`), it is as promised (`promise`), and to each job as if it had been alone (`alone`).
+//!   Each of its faults is true and the first one: a missing replica; the lowest job number that is missing, double or made for
+//!   something else (`Stranger`); the first root, and job, whose entries differ (`Mismatch`).
 //! - `run` returns only outcomes that are as promised, in which each job is finished or stopped, for 1 to 16 workers and a state
 //!   with all replicas. `NoWorkers`, `TooManyWorkers` and `MissingReplica` are true and come first.
 //!

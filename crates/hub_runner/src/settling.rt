@@ -2,7 +2,7 @@
 ghost use Rattle.std.specs.Prelude.{◌<◌, length, map, IfOk, IfErr};
 ghost use Rattle.hub_cert.specs.Set.{forbidden_by};
 ghost use Rattle.hub_state.specs.State.{IsState};
-ghost use Rattle.hub_schedule.specs.Promise.{IsAsPromised, Settles};
+ghost use Rattle.hub_schedule.specs.Promise.{IsAsIfAlone, IsAsPromised, Settles};
 ghost use Rattle.hub_schedule.specs.Settled.{AreProfiles};
 ghost use Rattle.hub_runner.specs.Settling.{AreCompared, EndAsTheyAre, IsUnsettled, history_at};
 
@@ -46,6 +46,7 @@ pub fn settle<'a>(
     ensures promise { IfOk result
         (IsAsPromised state.now verified.now.profiles (map forbidden_by verified.now.rules)
         (history_at books.entry.items)) }
+    ensures alone { IfOk result (IsAsIfAlone state.now verified.now.profiles) }
     ensures compared { IfOk result (λ o. AreCompared state.now verified.now.profiles
         books.entry.items jobs.entry.items) }
     ensures ends { IfOk result (EndAsTheyAre jobs.entry.items) }

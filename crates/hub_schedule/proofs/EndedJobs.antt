@@ -91,7 +91,7 @@ pub outcome_is : (S : State) (jobs : List JobValue) (trees : List WorkingTree) (
     → (Ps : List Parts) (replica : Path → Replica) → HasReplicas S Ps → AreEndedWith S Ps replica jobs trees → IsOutcomeWith S Ps (logs_in o) replica o
 outcome_is S jobs trees slots o are after ends Ps replica there ended =
     subst (λ log. IsOutcomeWith S Ps log replica o) (logs_are replica jobs o ends)
-    (after.0 Ps (world_of replica jobs) there (stands_for S Ps replica jobs trees slots ended are))
+    (after.leaves Ps (world_of replica jobs) there (stands_for S Ps replica jobs trees slots ended are))
 
 -- What is told of an outcome that there may be.
 module _ (E : Type 0) (S : State) (jobs : List JobValue) (trees : List WorkingTree) (slots : List Slot) (are : AreSlotsOf trees jobs slots) where

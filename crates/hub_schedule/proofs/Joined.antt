@@ -273,8 +273,8 @@ module _ (S : State) (Ps : List Parts) {slots now : List Slot} {trees trees_now 
   after_turns (Ok o) going more there h =
       let t = turned (jobs_of S Ps) (opening (jobs_of S Ps) (outcome.replicas_of S)) table in (
         t.2.limit,
-        subst (λ (x : World). outcome.IsOutcomeWith S Ps (log_of x) x.replica o) t.2.world (h.0 Ps t.0 there t.1),
-        λ j e at on. t.2.all j (h.1 j e at on),
-        λ j P e is at ended off. let x = h.2 Ps t.0 j P e t.1 is at ended off in (t.2.lost j (going j) x.0, x.1 (more (none_stopped slots going))),
+        subst (λ (x : World). outcome.IsOutcomeWith S Ps (log_of x) x.replica o) t.2.world (h.leaves Ps t.0 there t.1),
+        λ j e at on. t.2.all j (h.going j e at on),
+        λ j P e is at ended off. let x = h.stopped Ps t.0 j P e t.1 is at ended off in (t.2.lost j (going j) x.0, x.1 (more (none_stopped slots going))),
       )
   after_turns (Err e) going more there h = h

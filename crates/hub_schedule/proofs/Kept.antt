@@ -1,4 +1,4 @@
--- The promise is kept: all its clauses for an outcome that histories settle.
+-- What is promised is kept: all clauses for an outcome that histories settle.
 use Rattle.std.proofs.Common.{◌≡◌, List, Some}
 use Rattle.std.specs.Prelude.{ℕ, IsTrue, slice_get}
 use Rattle.hub_path.specs.Path.{Path}
@@ -15,7 +15,7 @@ use Rattle.hub_job.specs.World.{Jobs}
 use Rattle.hub_schedule.specs.Settled.{AreProfiles, IsSettled}
 use Rattle.hub_schedule.specs.Together.{left_at, LogsAreAlone, OthersAreLeftAlone, OwnPathsAreAlone, ElsewhereIsAsBefore, SetsAreAllowed}
 use Rattle.hub_job.specs.Outcome.{jobs_of, replicas_of}
-use Rattle.hub_schedule.specs.Promise.{logs_in, HasReplicas, Settles, FinishedAreSynchronized, EnoughTurnsFinish, IsAsPromised}
+use Rattle.hub_schedule.specs.Promise.{logs_in, HasReplicas, Settles, FinishedAreSynchronized, EnoughTurnsFinish, IsAsIfAlone, IsAsPromised}
 use Rattle.hub_schedule.proofs.Points.{safe_apart}
 use Rattle.hub_schedule.specs.laws.Unchanged.{foreign, marks_stay}
 use Rattle.hub_schedule.proofs.Promised.{state_trees, own, elsewhere, synchronized, enough_finish}
@@ -66,14 +66,19 @@ promise_kept logs others law stays verbs S Ps Rs histories o valid there facts s
     let R = replicas_of S in
     let apart = safe_apart Ps Rs safe in
     record {
-      logs = logs J R histories (logs_in o) apart facts settles.settled;
       others = others J R histories (logs_in o) apart settles.settled;
-      own = own_paths law S Ps Rs histories o there facts safe settles;
       finished = all_finished logs law S Ps Rs histories o valid there facts safe settles;
       elsewhere = elsewhere S Ps histories o settles facts there (λ j P r is has. stays J R histories (logs_in o) j P r settles.settled is has);
       foreign = foreign S Ps histories o settles;
       marks = marks_stay S Ps histories o settles;
       archives = settles.outcome.pairs;
       allowed = verbs J Rs R histories (logs_in o) facts safe (state_trees S valid) settles.settled;
-      enough = all_enough logs S Ps Rs histories o valid facts safe settles;
     }
+
+pub alone_kept : LogsLaw → OwnLaw → (S : State) (Ps : List Parts) (Rs : List Rule) (histories : Path → List Entry) (o : Outcome)
+    → IsState S → HasReplicas S Ps → AreProfiles Ps → IsSafe Ps Rs → Settles S Ps histories o → IsAsIfAlone S Ps o
+alone_kept logs law S Ps Rs histories o valid there facts safe settles = record {
+  logs = logs (jobs_of S Ps) (replicas_of S) histories (logs_in o) (safe_apart Ps Rs safe) facts settles.settled;
+  own = own_paths law S Ps Rs histories o there facts safe settles;
+  enough = all_enough logs S Ps Rs histories o valid facts safe settles;
+}

@@ -10,12 +10,12 @@ use Rattle.hub_job.specs.declared.job_end.JobEnd.{JobEnd}
 use Rattle.hub_job.specs.declared.outcome.Outcome.{Outcome}
 use Rattle.hub_job.specs.declared.run_fault.RunFault.{RunFault}
 use Rattle.hub_job.specs.Outcome.{IsOutcomeOf, IsSimulated, KeepsTurns, LosesTurns, world_after}
-use Rattle.hub_schedule.specs.Promise.{HasReplicas, IsAsPromised, Settles}
+use Rattle.hub_schedule.specs.Promise.{HasReplicas, IsAsIfAlone, IsAsPromised, Settles}
 use Rattle.hub_schedule.specs.Refusals.{IsRunnable, IsUnrun}
 use Rattle.hub_schedule.specs.Settled.{AreProfiles}
 use Rattle.hub_schedule.specs.Simulated.{EnoughTurnsEnd, IsLoneSynchronization, IsPromised, LogsAreOfTurns, LoneIsSynchronized, StoppedLostTurns, TurnsSuffice, turns_enough}
 use Rattle.hub_job.specs.World.{first_turns}
-use Rattle.hub_schedule.specs.laws.Unchanged.{IsStateFor, promise_none}
+use Rattle.hub_schedule.specs.laws.Unchanged.{IsStateFor, promise_none, alone_none}
 use Rattle.hub_schedule.specs.laws.Missing.{have_replicas}
 
 some_profile : (Ps : List Parts) (j : ℕ) (P : Parts) → slice_get Ps j ≡ Some P → 0 < length Ps
@@ -28,6 +28,10 @@ abbrev pub PromiseLaw : Type 0
 PromiseLaw = (S : State) (Ps : List Parts) (Rs : List Rule) (turns : List ℕ) (o : Outcome) → IsState S → HasReplicas S Ps → AreProfiles Ps → IsSafe Ps Rs → IsOutcomeOf S Ps turns o
     → IsAsPromised S Ps Rs (world_after S Ps turns).history o
 
+abbrev pub AloneLaw : Type 0
+AloneLaw = (S : State) (Ps : List Parts) (Rs : List Rule) (turns : List ℕ) (o : Outcome) → IsState S → HasReplicas S Ps → AreProfiles Ps → IsSafe Ps Rs → IsOutcomeOf S Ps turns o
+    → IsAsIfAlone S Ps o
+
 abbrev pub LoneLaw : Type 0
 LoneLaw = (S : State) (Ps : List Parts) (Rs : List Rule) (limit : ℕ → ℕ) (o : Outcome) (j n : ℕ) (P : Parts) (e : JobEnd) → IsState S → HasReplicas S Ps → AreProfiles Ps → IsSafe Ps Rs
     → IsOutcomeOf S Ps (first_turns limit (replicate n j)) o → KeepsTurns limit (replicate n j) o → slice_get Ps j ≡ Some P → slice_get o.jobs j ≡ Some e → e.end ≢ end.Stopped → turns_enough S P ≤ n
@@ -38,12 +42,17 @@ as_promised : PromiseLaw → (S : State) (Ps : List Parts) (Rs : List Rule) (tur
 as_promised law S [] Rs turns o valid there facts safe is settles = promise_none S Rs (world_after S [] turns).history o settles
 as_promised law S (P ∷ Ps) Rs turns o valid there facts safe is settles = law S (P ∷ Ps) Rs turns o (valid (omega arith)) there facts safe is
 
-pub is_promised : SettlesLaw → PromiseLaw → (S : State) (Ps : List Parts) (Rs : List Rule) (schedule : List ℕ) (o : Outcome) → IsStateFor S Ps → HasReplicas S Ps → AreProfiles Ps → IsSafe Ps Rs
+as_alone : AloneLaw → (S : State) (Ps : List Parts) (Rs : List Rule) (turns : List ℕ) (o : Outcome) → IsStateFor S Ps → HasReplicas S Ps → AreProfiles Ps → IsSafe Ps Rs → IsOutcomeOf S Ps turns o
+    → IsAsIfAlone S Ps o
+as_alone law S [] Rs turns o valid there facts safe is = alone_none S o
+as_alone law S (P ∷ Ps) Rs turns o valid there facts safe is = law S (P ∷ Ps) Rs turns o (valid (omega arith)) there facts safe is
+
+pub is_promised : SettlesLaw → PromiseLaw → AloneLaw → (S : State) (Ps : List Parts) (Rs : List Rule) (schedule : List ℕ) (o : Outcome) → IsStateFor S Ps → HasReplicas S Ps → AreProfiles Ps → IsSafe Ps Rs
     → IsSimulated S Ps schedule o → IsPromised S Ps Rs o
-is_promised settle law S Ps Rs schedule o valid there facts safe is =
+is_promised settle law alone S Ps Rs schedule o valid there facts safe is =
     let turns = first_turns is.0 schedule in
     let settles = settle S Ps turns o is.1 in
-    ((world_after S Ps turns).history, settles, as_promised law S Ps Rs turns o valid there facts safe is.1 settles)
+    ((world_after S Ps turns).history, settles, as_promised law S Ps Rs turns o valid there facts safe is.1 settles, as_alone alone S Ps Rs turns o valid there facts safe is.1)
 
 pub lone_synchronized : LoneLaw → (S : State) (Ps : List Parts) (Rs : List Rule) (schedule : List ℕ) (o : Outcome) → IsStateFor S Ps → HasReplicas S Ps → AreProfiles Ps → IsSafe Ps Rs
     → IsSimulated S Ps schedule o → LoneIsSynchronized S Ps schedule o
@@ -75,10 +84,10 @@ pub record HaveRun (S : State) (Ps : List Parts) (schedule : List ℕ) (r : Resu
 
 -- The laws, for the jobs of a safe set.
 module _ (S : State) (Ps : List Parts) (Rs : List Rule) (schedule : List ℕ) (r : Result Outcome RunFault) (ran : HaveRun S Ps schedule r) (facts : AreProfiles Ps) (safe : IsSafe Ps Rs) where
-  pub promise_of : SettlesLaw → PromiseLaw → IfOk r (IsPromised S Ps Rs)
-  promise_of settle law =
+  pub promise_of : SettlesLaw → PromiseLaw → AloneLaw → IfOk r (IsPromised S Ps Rs)
+  promise_of settle law alone =
       if_both (IsSimulated S Ps schedule) (λ o. IsRunnable S Ps schedule) (IsPromised S Ps Rs) r
-      (λ o is run. is_promised settle law S Ps Rs schedule o ran.valid (have_replicas S Ps run.0) facts safe is) ran.world ran.run
+      (λ o is run. is_promised settle law alone S Ps Rs schedule o ran.valid (have_replicas S Ps run.0) facts safe is) ran.world ran.run
 
   pub lone_of : LoneLaw → IfOk r (LoneIsSynchronized S Ps schedule)
   lone_of law =

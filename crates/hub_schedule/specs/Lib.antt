@@ -2,6 +2,7 @@ pub mod Settled
 pub mod Owned
 pub mod Together
 pub mod Promise
+pub mod Safely
 pub mod Simulated
 pub mod Table
 pub mod Next

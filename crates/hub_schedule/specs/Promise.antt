@@ -108,16 +108,12 @@ EnoughTurnsFinish S Ps o =
     → next P (archive_of S (Some P)) (alone (jobs_of S Ps) (replicas_of S) j n) ≡ Finished
     → n ≤ length e.log → e.end ≡ end.Finished
 
--- The promise: the order in which the jobs of a safe set take turns makes no difference to any of
--- them.
+-- What becomes of the paths: the jobs of a safe set, in whatever order they take turns, are in
+-- nobody's way.
 pub record IsAsPromised (S : State) (Ps : List Parts) (Rs : List Rule)
     (histories : Path → List Entry) (o : Outcome) : Type 0 where
-  -- Each job got the answers that it gets alone.
-  pub logs : LogsAreAlone (jobs_of S Ps) (replicas_of S) (logs_in o)
   -- No job changed what another one reaches or passes through.
   pub others : OthersAreLeftAlone (jobs_of S Ps) (replicas_of S) histories
-  -- On its own paths each job left what it leaves alone.
-  pub own : OwnPathsAreAlone (jobs_of S Ps) (replicas_of S) (replicas_of o.state) (logs_in o)
   -- What a finished job left is one synchronization.
   pub finished : FinishedAreSynchronized S Ps o
   -- All else is as before.
@@ -130,5 +126,12 @@ pub record IsAsPromised (S : State) (Ps : List Parts) (Rs : List Rule)
   pub archives : ArchivesAreThere S Ps o
   -- Each Set was allowed.
   pub allowed : SetsAreAllowed Ps Rs (replicas_of S) histories
+
+-- What becomes of the jobs: to each one of a safe set it is as if it had been alone.
+pub record IsAsIfAlone (S : State) (Ps : List Parts) (o : Outcome) : Type 0 where
+  -- Each job got the answers that it gets alone.
+  pub logs : LogsAreAlone (jobs_of S Ps) (replicas_of S) (logs_in o)
+  -- On its own paths each job left what it leaves alone.
+  pub own : OwnPathsAreAlone (jobs_of S Ps) (replicas_of S) (replicas_of o.state) (logs_in o)
   -- A job with enough turns is finished.
   pub enough : EnoughTurnsFinish S Ps o

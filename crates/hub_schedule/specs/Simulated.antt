@@ -18,7 +18,7 @@ use Rattle.hub_job.specs.World.{alone}
 use Rattle.hub_job.specs.Outcome.{archive_of, jobs_of, replicas_of}
 use Rattle.hub_reach.specs.Safe.{Rule}
 use Rattle.hub_job.specs.declared.log.Entry.{Entry}
-use Rattle.hub_schedule.specs.Promise.{IsAsPromised, IsSynchronized, Settles, synced_at, view_at}
+use Rattle.hub_schedule.specs.Promise.{IsAsIfAlone, IsAsPromised, IsSynchronized, Settles, synced_at, view_at}
 
 -- How many turns a job has in a schedule.
 abbrev pub turns_of : ℕ → List ℕ → ℕ
@@ -92,7 +92,9 @@ LoneIsSynchronized S Ps schedule o =
     → slice_get o.jobs j ≡ Some e → e.end ≢ end.Stopped → turns_enough S P ≤ n
     → IsLoneSynchronization S P e o.state
 
--- There are histories that settle the outcome, and it is as promised.
+-- There are histories that settle the outcome, and it is as promised, and as if each job had been
+-- alone.
 abbrev pub IsPromised : State → List Parts → List Rule → Outcome → Type 0
 IsPromised S Ps Rs o =
     (histories : Path → List Entry) × Settles S Ps histories o × IsAsPromised S Ps Rs histories o
+    × IsAsIfAlone S Ps o

@@ -125,18 +125,20 @@ Taken slots trees schedule slots_now trees_now rest =
     × ((u : World) (after : ℕ → Bool) → IsThinned J v u rest (stopped_at slots_now) after
     → IsThinned J w u schedule (stopped_at slots) after)
 
--- The outcome of each world that these jobs and replicas stand for; and a job ends as stopped if it
--- was stopped, or if an answer in its log stops it. A job that was stopped would have asked for
--- another step, if that is so of all of these.
-abbrev pub IsOutcomeAfter : State → List Slot → List WorkingTree → Outcome → Type 0
-IsOutcomeAfter S slots trees o =
-    ((Ps : List Parts) (w : World) → HasReplicas S Ps → ShowsWorld (jobs_of S Ps) w slots trees
-    → IsOutcomeWith S Ps (log_of w) w.replica o)
-    × ((j : ℕ) (e : JobEnd) → slice_get o.jobs j ≡ Some e → e.end ≢ end.Stopped
-    → stopped_at slots j ≡ false)
-    × ((Ps : List Parts) (w : World) (j : ℕ) (P : Parts) (e : JobEnd)
-    → ShowsWorld (jobs_of S Ps) w slots trees
-    → slice_get Ps j ≡ Some P → slice_get o.jobs j ≡ Some e → e.end ≡ end.Stopped
-    → next P (archive_of S (Some P)) e.log ≢ Stopped
-    → (stopped_at slots j ≡ true)
-    × (AllWouldAsk slots → 0 < steps_made e.log → next P (archive_of S (Some P)) e.log ≢ Finished))
+-- What jobs and replicas that a state began with leave.
+pub record IsOutcomeAfter (S : State) (slots : List Slot) (trees : List WorkingTree) (o : Outcome) :
+    Type 0 where
+  -- It is the outcome of each world that they stand for.
+  pub leaves : (Ps : List Parts) (w : World) → HasReplicas S Ps
+      → ShowsWorld (jobs_of S Ps) w slots trees → IsOutcomeWith S Ps (log_of w) w.replica o
+  -- A job ends as stopped if it was stopped,
+  pub going : (j : ℕ) (e : JobEnd) → slice_get o.jobs j ≡ Some e → e.end ≢ end.Stopped
+      → stopped_at slots j ≡ false
+  -- or if an answer in its log stops it. A job that was stopped would have asked for another step,
+  -- if that is so of all of these.
+  pub stopped : (Ps : List Parts) (w : World) (j : ℕ) (P : Parts) (e : JobEnd)
+      → ShowsWorld (jobs_of S Ps) w slots trees
+      → slice_get Ps j ≡ Some P → slice_get o.jobs j ≡ Some e → e.end ≡ end.Stopped
+      → next P (archive_of S (Some P)) e.log ≢ Stopped
+      → (stopped_at slots j ≡ true)
+      × (AllWouldAsk slots → 0 < steps_made e.log → next P (archive_of S (Some P)) e.log ≢ Finished)

@@ -12,8 +12,8 @@
 //!
 //! # What is proved
 //!
-//! - `safe_sets_keep_their_promise`: an outcome of a safe set that histories lead to is as promised, however the operations
-//!   interleave (docs/GUARANTEES.md has the clauses). Its parts are laws, too: `agreeing_histories_are_as_alone`,
+//! - `safe_sets_keep_their_promise`: an outcome of a safe set that histories lead to is as promised (clause `promise`), and to each
+//!   job it is as if it had been alone (`alone`), however the operations interleave (docs/GUARANTEES.md has what that says). Its parts are laws, too: `agreeing_histories_are_as_alone`,
 //!   `each_set_is_its_own`, `what_nobody_writes_stays`, `jobs_leave_each_other_alone`, `each_set_is_allowed`,
 //!   `finished_jobs_synchronize`, `enough_turns_finish`.
 //! - The world after a schedule, and its outcome, have such histories (`a_run_settles`, `schedules_settle`). So `simulate`

@@ -10,7 +10,8 @@ ghost use Rattle.hub_job.specs.declared.job_end.JobEnd.{JobEnd};
 ghost use Rattle.hub_job.specs.declared.outcome.Outcome.{Outcome};
 ghost use Rattle.hub_job.specs.declared.log.Entry.{Entry};
 ghost use Rattle.hub_job.specs.Outcome.{IsOutcomeOf, KeepsTurns, LosesTurns, world_after};
-ghost use Rattle.hub_schedule.specs.Promise.{EnoughTurnsFinish, FinishedAreSynchronized, ForeignAreAsBefore, HasReplicas, IsAsPromised, OldMarksStay, Settles};
+ghost use Rattle.hub_schedule.specs.Promise.{EnoughTurnsFinish, FinishedAreSynchronized, ForeignAreAsBefore, HasReplicas, IsAsIfAlone, IsAsPromised, OldMarksStay, Settles};
+ghost use Rattle.hub_schedule.specs.Safely.{OfKeptTurns, OfSafeSets, OfSafeTurns};
 ghost use Rattle.hub_schedule.specs.Settled.{AreProfiles};
 ghost use Rattle.hub_schedule.specs.Simulated.{EnoughTurnsEnd, IsLoneSynchronization, LogsAreOfTurns, StoppedLostTurns, TurnsSuffice, turns_enough};
 ghost use Rattle.hub_job.specs.World.{first_turns};
@@ -22,10 +23,7 @@ use hub_job::laws::{a_job_without_turns_reaches_nothing, each_log_is_the_one_alo
 /// whatever other jobs of the pair did; an archive keeps its marks where no finished job of the pair reaches; and a
 /// replica of no profile is the same as before.
 pub fn finished_jobs_synchronize()
-    ensures finished { (S : State) (Ps : List Parts) (Rs : List Rule)
-        (histories : Path → List Entry) (o : Outcome) → IsState S → HasReplicas S Ps
-        → AreProfiles Ps → IsSafe Ps Rs → Settles S Ps histories o
-        → FinishedAreSynchronized S Ps o }
+    ensures finished { OfSafeSets (λ S Ps Rs histories o. FinishedAreSynchronized S Ps o) }
     ensures marks { (S : State) (Ps : List Parts) (histories : Path → List Entry) (o : Outcome)
         → Settles S Ps histories o → OldMarksStay S Ps o }
     ensures foreign { (S : State) (Ps : List Parts) (histories : Path → List Entry) (o : Outcome)
@@ -45,11 +43,10 @@ pub fn enough_turns_finish()
 }
 
 /// Where the checker accepted the set, no order of steps makes a difference to a job: every outcome that histories settle
-/// is as promised.
+/// is as promised, and as if each job had been alone.
 pub fn safe_sets_keep_their_promise()
-    ensures { (S : State) (Ps : List Parts) (Rs : List Rule) (histories : Path → List Entry)
-        (o : Outcome) → IsState S → HasReplicas S Ps → AreProfiles Ps → IsSafe Ps Rs
-        → Settles S Ps histories o → IsAsPromised S Ps Rs histories o }
+    ensures promise { OfSafeSets IsAsPromised }
+    ensures alone { OfSafeSets (λ S Ps Rs histories o. IsAsIfAlone S Ps o) }
 {
     jobs_leave_each_other_alone();
     each_set_is_allowed();
@@ -63,11 +60,11 @@ pub fn schedules_settle()
     a_run_settles();
 }
 
-/// So every outcome of a schedule is as promised.
+/// So every outcome of a schedule is.
 pub fn schedules_keep_the_promise()
-    ensures { (S : State) (Ps : List Parts) (Rs : List Rule) (turns : List ℕ) (o : Outcome)
-        → IsState S → HasReplicas S Ps → AreProfiles Ps → IsSafe Ps Rs → IsOutcomeOf S Ps turns o
-        → IsAsPromised S Ps Rs (world_after S Ps turns).history o }
+    ensures promise { OfSafeTurns
+        (λ S Ps Rs turns o. IsAsPromised S Ps Rs (world_after S Ps turns).history o) }
+    ensures alone { OfSafeTurns (λ S Ps Rs turns o. IsAsIfAlone S Ps o) }
 {
     safe_sets_keep_their_promise();
     schedules_settle();
@@ -77,14 +74,8 @@ pub fn schedules_keep_the_promise()
 /// schedule gives it; a stopped job lost one at least. A job that wasn't stopped is finished, if it had as many turns as
 /// it takes alone; and 4k + 3n turns are always enough, for k kept values and n entries in the job's two replicas.
 pub fn schedules_give_logs_alone()
-    ensures logs { (S : State) (Ps : List Parts) (Rs : List Rule) (limit : ℕ → ℕ)
-        (schedule : List ℕ) (o : Outcome) → IsSafe Ps Rs
-        → IsOutcomeOf S Ps (first_turns limit schedule) o → KeepsTurns limit schedule o
-        → LogsAreOfTurns S Ps schedule o }
-    ensures enough { (S : State) (Ps : List Parts) (Rs : List Rule) (limit : ℕ → ℕ)
-        (schedule : List ℕ) (o : Outcome) → IsSafe Ps Rs
-        → IsOutcomeOf S Ps (first_turns limit schedule) o → KeepsTurns limit schedule o
-        → EnoughTurnsEnd S Ps schedule o }
+    ensures logs { OfKeptTurns LogsAreOfTurns }
+    ensures enough { OfKeptTurns EnoughTurnsEnd }
     ensures suffice { (S : State) (Ps : List Parts) → IsState S → AreProfiles Ps
         → TurnsSuffice S Ps }
     ensures lost { (S : State) (Ps : List Parts) (Rs : List Rule) (limit : ℕ → ℕ)

@@ -18,7 +18,7 @@ use Rattle.hub_job.specs.declared.log.Entry.{Entry}
 use Rattle.hub_job.specs.History.{replay}
 use Rattle.hub_job.specs.Ends.{is_finished}
 use Rattle.hub_job.specs.Outcome.{replicas_of, takes_marks, mark_by}
-use Rattle.hub_schedule.specs.Promise.{logs_in, Settles, ForeignAreAsBefore, OldMarksStay, IsAsPromised}
+use Rattle.hub_schedule.specs.Promise.{logs_in, Settles, ForeignAreAsBefore, OldMarksStay, IsAsIfAlone, IsAsPromised}
 use Rattle.hub_reach.specs.laws.General.{passing}
 
 pub none_passes : (t : ℕ → Bool) (xs : List ℕ) → ((i : ℕ) → t i ≡ false) → find t xs ≡ None
@@ -95,9 +95,7 @@ no_profile j P e = cc
 pub promise_none : (S : State) (Rs : List Rule) (histories : Path → List Entry) (o : Outcome)
     → Settles S [] histories o → IsAsPromised S [] Rs histories o
 promise_none S Rs histories o settles = record {
-  logs = λ j P is. absurd (no_profile j P is);
   others = λ j P r q front rest e is. absurd (no_profile j P is);
-  own = λ j P r q is. absurd (no_profile j P is);
   finished = λ j P e is. absurd (no_profile j P is);
   elsewhere = λ r place q never. ap (λ x. contents_at (unwrap_or x fin.empty) q)
       (foreign S [] histories o settles r place refl);
@@ -105,5 +103,11 @@ promise_none S Rs histories o settles = record {
   marks = marks_stay S [] histories o settles;
   archives = settles.outcome.pairs;
   allowed = λ Q r p c front rest e h at. absurd (no_profile e.job Q at);
+}
+
+pub alone_none : (S : State) (o : Outcome) → IsAsIfAlone S [] o
+alone_none S o = record {
+  logs = λ j P is. absurd (no_profile j P is);
+  own = λ j P r q is. absurd (no_profile j P is);
   enough = λ j n P e is. absurd (no_profile j P is);
 }

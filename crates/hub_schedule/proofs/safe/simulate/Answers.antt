@@ -19,7 +19,7 @@ returns c =
     subst (λ (Ps : List Parts). HaveRun S Ps js r) same
     (record { world = c.simulate_jobs.ensures.world; run = c.simulate_jobs.ensures.run; refused = c.simulate_jobs.ensures.refused; valid = c.simulate_jobs.ensures.valid }) in
     record {
-      promise = promise_of S M.profiles Rs js r ran facts c.set.ensures.safe c.schedules_settle.ensures c.schedules_keep_the_promise.ensures;
+      promise = promise_of S M.profiles Rs js r ran facts c.set.ensures.safe c.schedules_settle.ensures c.schedules_keep_the_promise.ensures.promise c.schedules_keep_the_promise.ensures.alone;
       logs = logs_of S M.profiles Rs js r ran facts c.set.ensures.safe c.schedules_give_logs_alone.ensures.logs;
       lost = lost_of S M.profiles Rs js r ran facts c.set.ensures.safe c.schedules_give_logs_alone.ensures.lost;
       enough = enough_of S M.profiles Rs js r ran facts c.set.ensures.safe c.schedules_give_logs_alone.ensures.enough;

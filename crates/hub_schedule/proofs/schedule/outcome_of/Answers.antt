@@ -27,12 +27,12 @@ returns c =
     subst (λ (s : State). HasMarks (mark_from (map next_value slots)) s after) put
     (subst (λ ns. HasMarks (mark_from ns) c.put_trees.new.state after) c.in_ok-jobs.ensures.nexts c.in_ok-put_archives.ensures.marks) in
     record {
-      outcome = (
-        λ Ps w has table.
+      outcome = record {
+        leaves = λ Ps w has table.
             joined S Ps has w slots trees table o c.in_ok-jobs.ensures.ends
-            (c.in_ok-put_archives.ensures.replicas ∙ ap (λ (s : State). s.replicas) put) there marks,
-        went_on slots o c.in_ok-jobs.ensures.ends,
-        was_stopped S slots trees o c.in_ok-jobs.ensures.ends,
-      );
+            (c.in_ok-put_archives.ensures.replicas ∙ ap (λ (s : State). s.replicas) put) there marks;
+        going = went_on slots o c.in_ok-jobs.ensures.ends;
+        stopped = was_stopped S slots trees o c.in_ok-jobs.ensures.ends;
+      };
       ends = c.in_ok-jobs.ensures.ends;
     }

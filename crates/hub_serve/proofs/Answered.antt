@@ -26,7 +26,7 @@ use Rattle.hub_serve.specs.Reads.{Reads}
 use Rattle.hub_serve.specs.Mended.{is_mend}
 use Rattle.hub_serve.specs.Rounds.{BeginsAsClash}
 use Rattle.hub_serve.specs.Serves.{Holds, IsWholeUnlessFailed, SpellsClashes, SpellsGraph, SpellsReach, SpellsRounds, SpellsRoundsRun}
-use Rattle.hub_serve.specs.Serves.{ShowsImport, ShowsMend, SpellsSafe, SpellsUnsafe, SpellsVerified, Serves, Answers, AnswersNothing, WritesText}
+use Rattle.hub_serve.specs.Serves.{ShowsImport, ShowsMend, TellsSafe, SpellsUnsafe, SpellsVerified, ServesInFull, Answers, AnswersNothing, WritesText}
 use Rattle.hub_serve.proofs.FirstLines.{only_safe, only_clashes, only_graph, only_rounds, only_verified, only_overlaps, only_breaches, only_reached, only_not_reached}
 use Rattle.hub_serve.proofs.Imports.{only_import}
 use Rattle.hub_serve.proofs.Mending.{only_mended}
@@ -52,7 +52,7 @@ module _ (request : Request) (remaining old new : Option (List ℕ)) (reads : Re
       record { written = a.writes.written; text_is = sym is; whole = λ o. sym is ∙ a.writes.whole o; status_is = a.writes.status_is }
 
   safe-written : (text : List ℕ) → is_mend request ≡ false → Answers request remaining old new reads write_failed status → remaining ≡ Some bytes → old ≡ Some before
-      → new ≡ Some (before ++ (codes "safe\n" ++ text)) → SpellsSafe (Some request) bytes text write_failed status
+      → new ≡ Some (before ++ (codes "safe\n" ++ text)) → TellsSafe (Some request) bytes text write_failed status
   safe-written text o a e f g =
       only_safe request bytes a.report a.text text write_failed status o a.is_text (answer-written (codes "safe\n" ++ text) a f g) (held a e)
 
@@ -167,42 +167,42 @@ written-le false status result l e = omega (arith, e, l)
 
 -- The words ask for something, and that is answered.
 pub serves-answer : OverlapsShown → BreachesShown → (request : Request) (remaining old new : Option (List ℕ)) (reads : Reads) (write_failed : Bool) (status : ℕ)
-    → Answers request remaining old new reads write_failed status → Serves (Some request) remaining old new reads write_failed status
+    → Answers request remaining old new reads write_failed status → ServesInFull (Some request) remaining old new reads write_failed status
 serves-answer overlaps breaches request remaining old new reads write_failed status a = record {
   few = written-le write_failed (status_of a.report) status (status-le a.report) a.writes.status_is;
   nothing = λ is. absurd (none-some request (sym is));
   answer = λ other is. subst (λ r. Answers r remaining old new reads write_failed status) (same_Some request other is) a;
-  safe = λ bytes before text o e f g. safe-written request remaining old new reads write_failed status bytes before text o a e f g;
-  verified = λ bytes before text o e f g. verified-written request remaining old new reads write_failed status bytes before text o a e f g;
-  overlap = λ bytes before text o e f g. overlap-written request remaining old new reads write_failed status bytes before overlaps text o a e f g;
-  breach = λ bytes before text o e f g. breach-written request remaining old new reads write_failed status bytes before breaches text o a e f g;
-  rounds = λ bytes before text o e f g. rounds-written request remaining old new reads write_failed status bytes before text o a e f g;
-  graph = λ bytes before text o e f g. graph-written request remaining old new reads write_failed status bytes before text o a e f g;
-  clashes = λ reading bytes before text is e f g b. clashes-written request remaining old new reads write_failed status bytes before reading text a is e f g b;
-  imported = λ bytes before text is e f g z. imported-written request remaining old new reads write_failed status bytes before text a is e f g z;
-  mended = λ reading as_bundle bytes before text is e f g z. mended-written request remaining old new reads write_failed status bytes before reading as_bundle text a is e f g z;
-  reached = λ bytes before text o e f g. reached-written request remaining old new reads write_failed status bytes before text o a e f g;
-  not_reached = λ bytes before text o e f g. not_reached-written request remaining old new reads write_failed status bytes before text o a e f g;
+  safe = λ bytes text o w. safe-written request remaining old new reads write_failed status bytes w.before text o a w.input w.kept w.written;
+  verified = λ bytes text o w. verified-written request remaining old new reads write_failed status bytes w.before text o a w.input w.kept w.written;
+  overlap = λ bytes text o w. overlap-written request remaining old new reads write_failed status bytes w.before overlaps text o a w.input w.kept w.written;
+  breach = λ bytes text o w. breach-written request remaining old new reads write_failed status bytes w.before breaches text o a w.input w.kept w.written;
+  rounds = λ bytes text o w. rounds-written request remaining old new reads write_failed status bytes w.before text o a w.input w.kept w.written;
+  graph = λ bytes text o w. graph-written request remaining old new reads write_failed status bytes w.before text o a w.input w.kept w.written;
+  clashes = λ reading bytes text is w b. clashes-written request remaining old new reads write_failed status bytes w.before reading text a is w.input w.kept w.written b;
+  imported = λ bytes text is w z. imported-written request remaining old new reads write_failed status bytes w.before text a is w.input w.kept w.written z;
+  mended = λ reading as_bundle bytes text is w z. mended-written request remaining old new reads write_failed status bytes w.before reading as_bundle text a is w.input w.kept w.written z;
+  reached = λ bytes text o w. reached-written request remaining old new reads write_failed status bytes w.before text o a w.input w.kept w.written;
+  not_reached = λ bytes text o w. not_reached-written request remaining old new reads write_failed status bytes w.before text o a w.input w.kept w.written;
 }
 
 -- The words ask for nothing.
 pub serves-nothing : (remaining old new : Option (List ℕ)) (reads : Reads) (write_failed : Bool) (status : ℕ)
-    → AnswersNothing old new status → Serves None remaining old new reads write_failed status
+    → AnswersNothing old new status → ServesInFull None remaining old new reads write_failed status
 serves-nothing remaining old new reads write_failed status a = record {
   few = omega (arith, a.status_is);
   nothing = λ is. a;
   answer = λ request is. absurd (none-some request is);
-  safe = λ bytes before text o e f g. absurd (nothing-written old new status before _ 115 a refl f g);
-  verified = λ bytes before text o e f g. absurd (nothing-written old new status before _ 118 a refl f g);
-  overlap = λ bytes before text o e f g. absurd (nothing-written old new status before _ 111 a refl f g);
-  breach = λ bytes before text o e f g. absurd (nothing-written old new status before _ 98 a refl f g);
-  rounds = λ bytes before text o e f g. absurd (nothing-written old new status before _ 114 a refl f g);
-  graph = λ bytes before text o e f g. absurd (nothing-written old new status before _ 103 a refl f g);
-  clashes = λ reading bytes before text is e f g b. absurd (none-some (about (ask.Clashes reading)) is);
-  imported = λ bytes before text is e f g z. absurd (none-some imported is);
-  mended = λ reading as_bundle bytes before text is e f g z. absurd (none-some (mended reading as_bundle) is);
-  reached = λ bytes before text o e f g. absurd (nothing-written old new status before _ 114 a refl f g);
-  not_reached = λ bytes before text o e f g. absurd (nothing-written old new status before _ 110 a refl f g);
+  safe = λ bytes text o w. absurd (nothing-written old new status w.before _ 115 a refl w.kept w.written);
+  verified = λ bytes text o w. absurd (nothing-written old new status w.before _ 118 a refl w.kept w.written);
+  overlap = λ bytes text o w. absurd (nothing-written old new status w.before _ 111 a refl w.kept w.written);
+  breach = λ bytes text o w. absurd (nothing-written old new status w.before _ 98 a refl w.kept w.written);
+  rounds = λ bytes text o w. absurd (nothing-written old new status w.before _ 114 a refl w.kept w.written);
+  graph = λ bytes text o w. absurd (nothing-written old new status w.before _ 103 a refl w.kept w.written);
+  clashes = λ reading bytes text is w b. absurd (none-some (about (ask.Clashes reading)) is);
+  imported = λ bytes text is w z. absurd (none-some imported is);
+  mended = λ reading as_bundle bytes text is w z. absurd (none-some (mended reading as_bundle) is);
+  reached = λ bytes text o w. absurd (nothing-written old new status w.before _ 114 a refl w.kept w.written);
+  not_reached = λ bytes text o w. absurd (nothing-written old new status w.before _ 110 a refl w.kept w.written);
 }
 
 anything : (r : Option (List ℕ)) → IfSome r (λ _. ⊤)
@@ -234,7 +234,7 @@ memory-answers request remaining old new reads write_failed status w = record {
 
 -- And it is right for words that ask for something and for those that don't.
 pub serves-memory : OverlapsShown → BreachesShown → (asked : Option Request) (remaining old new : Option (List ℕ)) (reads : Reads) (write_failed : Bool) (status : ℕ)
-    → WritesText old new (codes "fault: out of memory\n") 2 write_failed status → Serves asked remaining old new reads write_failed status
+    → WritesText old new (codes "fault: out of memory\n") 2 write_failed status → ServesInFull asked remaining old new reads write_failed status
 serves-memory overlaps breaches None remaining old new reads write_failed status w =
     serves-nothing remaining old new reads write_failed status (memory-nothing old new write_failed status w)
 serves-memory overlaps breaches (Some request) remaining old new reads write_failed status w =
@@ -243,22 +243,22 @@ serves-memory overlaps breaches (Some request) remaining old new reads write_fai
 -- Words that are refused ask for nothing, unless memory is out.
 pub serves-refused : {T : Type 0} → OverlapsShown → BreachesShown → (kind none : T) (asked : Option Request) (remaining old new : Option (List ℕ)) (reads : Reads) (write_failed : Bool) (status : ℕ)
     → (kind ≡ none) ⊎ (asked ≡ None) → (kind ≡ none → WritesText old new (codes "fault: out of memory\n") 2 write_failed status) → AnswersNothing old new status
-    → Serves asked remaining old new reads write_failed status
+    → ServesInFull asked remaining old new reads write_failed status
 serves-refused overlaps breaches kind none asked remaining old new reads write_failed status (inl e) memory a =
     serves-memory overlaps breaches asked remaining old new reads write_failed status (memory e)
 serves-refused overlaps breaches kind none asked remaining old new reads write_failed status (inr e) memory a =
-    subst (λ o. Serves o remaining old new reads write_failed status) (sym e) (serves-nothing remaining old new reads write_failed status a)
+    subst (λ o. ServesInFull o remaining old new reads write_failed status) (sym e) (serves-nothing remaining old new reads write_failed status a)
 
 pub serves-asked : OverlapsShown → BreachesShown → (asked : Option Request) (request : Request) (remaining old new : Option (List ℕ)) (reads : Reads) (write_failed : Bool) (status : ℕ)
-    → asked ≡ Some request → Answers request remaining old new reads write_failed status → Serves asked remaining old new reads write_failed status
+    → asked ≡ Some request → Answers request remaining old new reads write_failed status → ServesInFull asked remaining old new reads write_failed status
 serves-asked overlaps breaches asked request remaining old new reads write_failed status is a =
-    subst (λ o. Serves o remaining old new reads write_failed status) (sym is) (serves-answer overlaps breaches request remaining old new reads write_failed status a)
+    subst (λ o. ServesInFull o remaining old new reads write_failed status) (sym is) (serves-answer overlaps breaches request remaining old new reads write_failed status a)
 
 -- Words that are the same ask for the same.
 pub serves-same : (words same : List (List ℕ)) (remaining old new : Option (List ℕ)) (reads : Reads) (write_failed : Bool) (status : ℕ)
-    → words ≡ same → Serves (asked_of words) remaining old new reads write_failed status → Serves (asked_of same) remaining old new reads write_failed status
+    → words ≡ same → ServesInFull (asked_of words) remaining old new reads write_failed status → ServesInFull (asked_of same) remaining old new reads write_failed status
 serves-same words same remaining old new reads write_failed status e h =
-    subst (λ ws. Serves (asked_of ws) remaining old new reads write_failed status) e h
+    subst (λ ws. ServesInFull (asked_of ws) remaining old new reads write_failed status) e h
 
 pub ok-holds : {T E : Type 0} (r : Result T E) (v : T) (P : T → Type 0) → r ≡ Ok v → P v → IfOk r P
 ok-holds r v P e h = subst (λ x. IfOk x P) (sym e) h

@@ -38,10 +38,10 @@ use Rattle.hub_serve.specs.Rounds.{HasUnverifiedRound, IsUncut}
 use Rattle.hub_serve.specs.Runs.{ComesOf, IsRunOn, PreventsRun}
 use Rattle.hub_serve.specs.ByRounds.{AllFinished, AreRunFrom, Ends, HaveRun, IsAdded, IsBegun, RefusesWorkers}
 use Rattle.hub_serve.specs.ByRounds.{HasRunByRounds, IsFirstAlone, RefusesOneOf, is_alone, leaves_out}
-use Rattle.hub_serve.specs.ByRounds.{IsRoundRun, AddsRound, job_lines_of_rounds, not_run, round_set, state_after}
+use Rattle.hub_serve.specs.ByRounds.{IsRoundRun, AddsRound, job_lines_of_rounds, not_run, round_set, final_state}
 
 -- The state that one more round left.
-state-more : (S : State) (os : List Outcome) (o : Outcome) → state_after S (os ++ o ∷ []) ≡ o.state
+state-more : (S : State) (os : List Outcome) (o : Outcome) → final_state S (os ++ o ∷ []) ≡ o.state
 state-more S [] o = refl
 state-more S (p ∷ os) o = state-more p.state os o
 
@@ -58,7 +58,7 @@ last-finished (p ∷ os) o all = last-finished os o all.1
 -- One more round was run, after as many as there are outcomes.
 run-more : (Rs : List Rule) (n : ℕ) (S : State) (rounds : List (List Parts)) (os : List Outcome) (Ps : List Parts) (o : Outcome)
     → AreRunFrom Rs n S rounds os → AllFinished os → slice_get rounds (length os) ≡ Some Ps
-    → IsRoundRun Rs Ps n (state_after S os) o → AreRunFrom Rs n S rounds (os ++ o ∷ [])
+    → IsRoundRun Rs Ps n (final_state S os) o → AreRunFrom Rs n S rounds (os ++ o ∷ [])
 run-more Rs n S [] [] Ps o run all at h = cc
 run-more Rs n S [] (p ∷ os) Ps o run all at h = absurd run
 run-more Rs n S (Qs ∷ rounds) [] Ps o run all at h =
@@ -91,7 +91,7 @@ pub record IsSoFar (Rs : List Rule) (n : ℕ) (S : State) (rounds : List (List P
   pub all : AllFinished outcomes
   pub found : r.rounds ≡ length rounds
   pub lines : string_bytes r.lines ≡ job_lines_of_rounds rounds outcomes
-  pub left : r.state ≡ state_after S outcomes
+  pub left : r.state ≡ final_state S outcomes
   pub finished : r.finished ≡ true
   pub error : r.error ≡ None
 

@@ -41,7 +41,7 @@ use Rattle.hub_cli.specs.Words.{Request, about, reading_for, reading_of}
 use Rattle.hub_serve.specs.declared.task.Task.{Task}
 use Rattle.hub_serve.specs.declared.task.Task.TheVariants as task
 use Rattle.hub_serve.specs.Serves.{FollowsSafe, IsWholeUnlessFailed, IsRefusedFor, IsTrueOf, Holds, ShowsClashes, ShowsGraph, ShowsRounds, ShowsRoundsRun}
-use Rattle.hub_serve.specs.Serves.{SpellsClashes, SpellsGraph, SpellsRounds, SpellsRoundsRun, SpellsSafe, SpellsUnsafe, SpellsVerified}
+use Rattle.hub_serve.specs.Serves.{SpellsClashes, SpellsGraph, SpellsRounds, SpellsRoundsRun, TellsSafe, SpellsUnsafe, SpellsVerified}
 use Rattle.hub_serve.specs.Rounds.{BeginsAsClash, DrawsClashes, ListsClashes, WritesRounds}
 use Rattle.hub_serve.specs.Runs.{HasRunAs, IsBelow, IsPrevented}
 use Rattle.hub_serve.specs.Mended.{is_mend}
@@ -280,7 +280,7 @@ means request bytes r line x o l e h = subst (Means request bytes line (status_o
 
 -- Only the text of a safe set begins with `safe`,
 pub only_safe : (request : Request) (bytes : List ℕ) (r : Report) (line s : List ℕ) (failed : Bool) (status : ℕ) → is_mend request ≡ false → line ≡ text_of r
-    → IsWholeUnlessFailed line (status_of r) failed (codes "safe\n" ++ s) status → Holds request bytes r → SpellsSafe (Some request) bytes s failed status
+    → IsWholeUnlessFailed line (status_of r) failed (codes "safe\n" ++ s) status → Holds request bytes r → TellsSafe (Some request) bytes s failed status
 only_safe request bytes r line s failed status other l wrote h =
     let front = begins-taken (codes "safe\n") line s wrote.written (sym wrote.text_is) in
     let means_safe : Means request bytes line (status_of r) SafeStart = means request bytes r line SafeStart other l (ap start front.whole) h in

@@ -3,6 +3,7 @@ pub mod Refused
 pub mod InUnison
 pub mod FirstLines
 pub mod Answered
+pub mod Short
 pub mod Told
 pub mod Unsafe
 pub mod Parts

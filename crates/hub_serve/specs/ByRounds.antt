@@ -51,9 +51,9 @@ AreRunFrom Rs n S (Ps ∷ rounds) (o ∷ os) =
     IsRoundRun Rs Ps n S o × (os ≢ [] → AreFinished o.jobs) × AreRunFrom Rs n o.state rounds os
 
 -- The state that the rounds left: what they began with, if none was run.
-abbrev pub state_after : State → List Outcome → State
-state_after S [] = S
-state_after S (o ∷ os) = state_after o.state os
+abbrev pub final_state : State → List Outcome → State
+final_state S [] = S
+final_state S (o ∷ os) = final_state o.state os
 
 -- All jobs that were run are finished.
 abbrev pub AllFinished : List Outcome → Type 0
@@ -73,7 +73,7 @@ pub record IsPreventedAfter (Rs : List Rule) (n : ℕ) (S : State) (rounds : Lis
   pub later : List (List Parts)
   pub not_run_are : not_run rounds os ≡ next ∷ later
   pub safe : IsSafeSet (round_set Rs next)
-  pub reason : PreventsRun (state_after S os) next n e
+  pub reason : PreventsRun (final_state S os) next n e
 
 -- The number of workers is why no round is run: there are none, or too many.
 abbrev pub RefusesWorkers : ℕ → RunError → Type 0
@@ -109,7 +109,7 @@ pub record HaveRun (Rs : List Rule) (n : ℕ) (S : State) (rounds : List (List P
   pub ends : Ends Rs n S rounds outcomes r.error
   pub found : r.rounds ≡ length rounds
   pub lines : string_bytes r.lines ≡ job_lines_of_rounds rounds outcomes
-  pub left : r.state ≡ state_after S outcomes
+  pub left : r.state ≡ final_state S outcomes
   pub finished : r.finished ≡ true
       ↔ (AreWorkers n × AllFinished outcomes × (not_run rounds outcomes ≡ []))
 

@@ -7,4 +7,5 @@ pub mod Unison
 pub mod ByRounds
 pub mod Mended
 pub mod Serves
+pub mod forms
 pub mod laws

@@ -1,5 +1,5 @@
 -- What the program answers to an input, and when.
-use Rattle.std.specs.Prelude.{◌≡◌, ◌⊎◌, ◌≤◌, ◌++◌, ⊤, ℕ, Bool, true, false, if◌then◌else◌, List, length, take, Option, Some, None, IfSome, Ok, Err, chars, codes, slice_get, string_bytes}
+use Rattle.std.specs.Prelude.{◌≡◌, ◌⊎◌, ◌≤◌, ◌++◌, ⊤, ℕ, Bool, true, false, if◌then◌else◌, List, [], length, take, Option, Some, None, IfSome, Ok, Err, chars, codes, slice_get, string_bytes}
 use Rattle.std.specs.Io.KnownBytes.{Appends, Keeps}
 use Rattle.hub_path.specs.Path.{Path}
 use Rattle.hub_path.specs.Reading.{path_reading}
@@ -10,7 +10,7 @@ use Rattle.hub_cert.specs.Set.{Members, IsSafeSet}
 use Rattle.hub_cert.specs.Refused.{IsRefused}
 use Rattle.hub_cert.specs.Goals.{goals}
 use Rattle.hub_cert.specs.Reading.{certificates_in}
-use Rattle.hub_cert.specs.Verdict.{AreCertificates, Refuses, goals_in}
+use Rattle.hub_cert.specs.Verdict.{AreInductive, Refuses, goals_in}
 use Rattle.hub_cert.specs.Writing.{certificates_text}
 use Rattle.hub_cert.specs.declared.certificate.Certificate.{Certificate}
 use Rattle.hub_cert.specs.declared.fault.CheckFault.{CheckFault}
@@ -95,8 +95,27 @@ pub record FollowsSafe (asked : Option Request) (bytes text : List ℕ) (status 
   pub below : IsBelow to_do (members contents) status text
 
 -- The same of what is written of that text; and so of each text below.
-abbrev pub SpellsSafe : Option Request → List ℕ → List ℕ → Bool → ℕ → Type 0
-SpellsSafe asked bytes = TellsUnlessFailed (FollowsSafe asked bytes)
+abbrev pub TellsSafe : Option Request → List ℕ → List ℕ → Bool → ℕ → Type 0
+TellsSafe asked bytes = TellsUnlessFailed (FollowsSafe asked bytes)
+
+-- Whether `safe` may be an answer to a question.
+abbrev pub may_be_safe : Question → Bool
+may_be_safe ask.CheckWithState = true
+may_be_safe (ask.Run n) = true
+may_be_safe (ask.Check reading) = true
+may_be_safe (ask.Clashes reading) = true
+may_be_safe _ = false
+
+-- `safe` may be the answer, and the bytes are a bundle whose profiles, as the words want them to be
+-- read, and rules are a safe set.
+pub record SpellsSafe (asked : Option Request) (bytes : List ℕ) : Type 0 where
+  pub of_set : Question
+  pub is_asked : asked ≡ Some (question.about of_set)
+  pub may_be : may_be_safe of_set ≡ true
+  pub contents : BundleContents
+  pub spelled : SpellsAs (reading_of of_set) bytes contents
+  pub safe : IsSafeSet (members contents)
+  pub in_unison : reading_of of_set ≡ read.Unison → SpellsSafeInUnison bytes
 
 -- The bytes are a bundle whose profiles, as the words want them to be read, and rules aren't.
 pub record SpellsUnsafe (asked : Option Request) (bytes : List ℕ) : Type 0 where
@@ -111,7 +130,7 @@ pub record SpellsVerified (asked : Option Request) (bytes : List ℕ) : Type 0 w
   pub is_asked : asked ≡ Some (question.about ask.Verify)
   pub contents : BundleContents
   pub spelled : Spells bytes contents
-  pub inductive : AreCertificates (members contents) contents.certificates
+  pub inductive : AreInductive (members contents) contents.certificates
   pub safe : IsSafeSet (members contents)
 
 -- The bytes are a bundle of whose set, if its profiles are read so, this text lists what clashes,
@@ -236,7 +255,7 @@ FaultOf task.Rounds S cs e = (are_put_apart S ≡ true) × IsRefusedApart S e
 -- it is read as these.
 pub record WritesCertificates (S : Members) (text : List ℕ) : Type 0 where
   pub own : List Certificate
-  pub inductive : AreCertificates S own
+  pub inductive : AreInductive S own
   pub order : goals_in own ≡ goals S
   pub text_is : text ≡ certificates_text own
   pub read_back : certificates_in text ≡ Ok own
@@ -245,7 +264,7 @@ pub record WritesCertificates (S : Members) (text : List ℕ) : Type 0 where
 -- and that is the verdict,
 abbrev pub IsVerdictOn : Task → Members → List Certificate → Verdict → Type 0
 IsVerdictOn t S cs Safe = ((t ≡ task.Check) ⊎ (t ≡ task.Clashes)) × IsSafeSet S
-IsVerdictOn t S cs Verified = (t ≡ task.Verify) × AreCertificates S cs × IsSafeSet S
+IsVerdictOn t S cs Verified = (t ≡ task.Verify) × AreInductive S cs × IsSafeSet S
 IsVerdictOn t S cs (Certified text) = (t ≡ task.Certify) × WritesCertificates S (string_bytes text)
 
 -- or that is the answer with what clashes in it,
@@ -432,11 +451,58 @@ pub record Answers (request : Request) (remaining old new : Option (List ℕ)) (
   pub is_text : text ≡ text_of report
   pub writes : WritesText old new text (status_of report) write_failed status
 
--- What the program does for the words that ask for this, or for nothing: an input's bytes, an
+-- The bytes that remain of the input are these, and what was written begins with a word, and goes on
+-- with a text.
+pub record Begins (remaining old new : Option (List ℕ)) (word bytes text : List ℕ) : Type 0 where
+  pub before : List ℕ
+  pub input : remaining ≡ Some bytes
+  pub kept : old ≡ Some before
+  pub written : new ≡ Some (before ++ (word ++ text))
+
+-- What the first line says that the program writes for the words that ask for this, or for nothing:
+-- an input's bytes, an output before and after, whether a call of the output failed, and the status.
+-- The words aren't those for `mend`, whose lines begin with names of profiles.
+pub record Serves (asked : Option Request) (remaining old new : Option (List ℕ)) (failed : Bool)
+    (status : ℕ) : Type 0 where
+  pub few : status ≤ 3
+  pub nothing : asked ≡ None → AnswersNothing old new status
+  -- `safe` is written only if the words ask for a check, for what clashes or for a run, and the
+  -- input spells a safe set, as the words want its profiles to be read. If that is for Unison, then
+  -- by the lines that count no two of its own profiles clash in Unison, and Unison breaks none of
+  -- its rules.
+  pub safe : (bytes text : List ℕ) → asks_mend asked ≡ false
+      → Begins remaining old new (codes "safe\n") bytes text → SpellsSafe asked bytes
+  -- `verified` is written only if the words ask for `verify`, and the input's certificates show that
+  -- the set that it spells is safe.
+  pub verified : (bytes text : List ℕ) → asks_mend asked ≡ false
+      → Begins remaining old new (codes "verified\n") bytes text → SpellsVerified asked bytes
+  -- `overlap:` and `breach:` are written only if the input spells a set that isn't safe.
+  pub overlap : (bytes text : List ℕ) → asks_mend asked ≡ false
+      → Begins remaining old new (codes "overlap: ") bytes text → SpellsUnsafe asked bytes
+  pub breach : (bytes text : List ℕ) → asks_mend asked ≡ false
+      → Begins remaining old new (codes "breach: ") bytes text → SpellsUnsafe asked bytes
+  -- Where the words ask for rounds, `rounds` is written only if the input spells a set that is cut
+  -- so.
+  pub rounds : (reading : Reading) (bytes text : List ℕ)
+      → asked ≡ Some (question.about (ask.Rounds reading))
+      → Begins remaining old new (codes "rounds ") bytes text
+      → SpellsRounds asked bytes (codes "rounds " ++ text) failed status
+  -- What is written for `import` with status 0 is a bundle that says, read plainly, what the input
+  -- says for Unison.
+  pub imported : (bytes text : List ℕ) → asked ≡ Some question.imported
+      → Begins remaining old new [] bytes text → status ≡ 0 → ShowsImport bytes text
+  -- `reached` and `not reached` are written only if the words ask for `reach`, and that is the
+  -- answer.
+  pub reached : (bytes text : List ℕ) → asks_mend asked ≡ false
+      → Begins remaining old new (codes "reached\n") bytes text → SpellsReach asked bytes true
+  pub not_reached : (bytes text : List ℕ) → asks_mend asked ≡ false
+      → Begins remaining old new (codes "not reached\n") bytes text → SpellsReach asked bytes false
+
+-- All that the program does for the words that ask for this, or for nothing: an input's bytes, an
 -- output before and after, the reads of the input, whether a call of the output failed, and the
 -- status.
-pub record Serves (asked : Option Request) (remaining old new : Option (List ℕ)) (reads : Reads)
-    (write_failed : Bool) (status : ℕ) : Type 0 where
+pub record ServesInFull (asked : Option Request) (remaining old new : Option (List ℕ))
+    (reads : Reads) (write_failed : Bool) (status : ℕ) : Type 0 where
   pub few : status ≤ 3
   pub nothing : asked ≡ None → AnswersNothing old new status
   pub answer : (request : Request) → asked ≡ Some request
@@ -445,56 +511,48 @@ pub record Serves (asked : Option Request) (remaining old new : Option (List ℕ
   -- the words ask for a check, for what clashes or for a run, and the input spells a safe set, as
   -- the words want its profiles to be read. If that is for Unison, then by the lines that count no
   -- two of its own profiles clash in Unison, and Unison breaks none of its rules. What follows it is
-  -- what its jobs did and left of the input's state, or why they weren't run,
-  pub safe : (bytes before text : List ℕ) → asks_mend asked ≡ false
-      → remaining ≡ Some bytes → old ≡ Some before
-      → new ≡ Some (before ++ (codes "safe\n" ++ text))
-      → SpellsSafe asked bytes text write_failed status
-  -- `verified` only if the words ask for `verify`, and the input's certificates show that the set
-  -- that it spells is safe,
-  pub verified : (bytes before text : List ℕ) → asks_mend asked ≡ false
-      → remaining ≡ Some bytes → old ≡ Some before
-      → new ≡ Some (before ++ (codes "verified\n" ++ text)) → SpellsVerified asked bytes
-  -- `overlap:` and `breach:` only if the input spells a set that isn't safe,
-  pub overlap : (bytes before text : List ℕ) → asks_mend asked ≡ false
-      → remaining ≡ Some bytes → old ≡ Some before
-      → new ≡ Some (before ++ (codes "overlap: " ++ text)) → SpellsUnsafe asked bytes
-  pub breach : (bytes before text : List ℕ) → asks_mend asked ≡ false
-      → remaining ≡ Some bytes → old ≡ Some before
-      → new ≡ Some (before ++ (codes "breach: " ++ text)) → SpellsUnsafe asked bytes
-  -- `rounds` only if the words ask for rounds, and the input spells a set that is cut so; or if
-  -- they ask for a run by rounds, and the rounds of the set that it spells were run on its state,
-  -- one after another. `graph clashes {` only if they ask for the graph of what clashes in that
-  -- set. For words that ask for what clashes, a first line of that kind is the first of all such
-  -- lines,
-  pub rounds : (bytes before text : List ℕ) → asks_mend asked ≡ false
-      → remaining ≡ Some bytes → old ≡ Some before
-      → new ≡ Some (before ++ (codes "rounds " ++ text))
+  -- what its jobs did and left of the input's state, or why they weren't run.
+  pub safe : (bytes text : List ℕ) → asks_mend asked ≡ false
+      → Begins remaining old new (codes "safe\n") bytes text
+      → TellsSafe asked bytes text write_failed status
+  -- `verified` is written only if the words ask for `verify`, and the input's certificates show that
+  -- the set that it spells is safe.
+  pub verified : (bytes text : List ℕ) → asks_mend asked ≡ false
+      → Begins remaining old new (codes "verified\n") bytes text → SpellsVerified asked bytes
+  -- `overlap:` and `breach:` are written only if the input spells a set that isn't safe.
+  pub overlap : (bytes text : List ℕ) → asks_mend asked ≡ false
+      → Begins remaining old new (codes "overlap: ") bytes text → SpellsUnsafe asked bytes
+  pub breach : (bytes text : List ℕ) → asks_mend asked ≡ false
+      → Begins remaining old new (codes "breach: ") bytes text → SpellsUnsafe asked bytes
+  -- `rounds` is written only if the words ask for rounds, and the input spells a set that is cut so;
+  -- or if they ask for a run by rounds, and the rounds of the set that it spells were run on its
+  -- state, one after another.
+  pub rounds : (bytes text : List ℕ) → asks_mend asked ≡ false
+      → Begins remaining old new (codes "rounds ") bytes text
       → SpellsRounds asked bytes (codes "rounds " ++ text) write_failed status
       ⊎ SpellsRoundsRun asked bytes (codes "rounds " ++ text) write_failed status
-  pub graph : (bytes before text : List ℕ) → asks_mend asked ≡ false
-      → remaining ≡ Some bytes → old ≡ Some before
-      → new ≡ Some (before ++ (codes "graph clashes {" ++ text))
+  -- `graph clashes {` is written only if they ask for the graph of what clashes in that set.
+  pub graph : (bytes text : List ℕ) → asks_mend asked ≡ false
+      → Begins remaining old new (codes "graph clashes {") bytes text
       → SpellsGraph asked bytes (codes "graph clashes {" ++ text) write_failed status
-  pub clashes : (reading : Reading) (bytes before text : List ℕ)
+  -- For words that ask for what clashes, a first line of that kind is the first of all such lines.
+  pub clashes : (reading : Reading) (bytes text : List ℕ)
       → asked ≡ Some (question.about (ask.Clashes reading))
-      → remaining ≡ Some bytes → old ≡ Some before → new ≡ Some (before ++ text)
-      → BeginsAsClash text → SpellsClashes reading bytes text write_failed status
-  -- what is written for `import` with status 0 only if it is a bundle that says, read plainly, what
-  -- the input says for Unison,
-  pub imported : (bytes before text : List ℕ) → asked ≡ Some question.imported
-      → remaining ≡ Some bytes → old ≡ Some before → new ≡ Some (before ++ text)
-      → status ≡ 0 → ShowsImport bytes text
-  -- what is written for `mend` with a status of 0 or 1 only if it is lines that only take away, with
-  -- which the set is safe or refused so, or the bundle with them,
-  pub mended : (reading : Reading) (as_bundle : Bool) (bytes before text : List ℕ)
+      → Begins remaining old new [] bytes text → BeginsAsClash text
+      → SpellsClashes reading bytes text write_failed status
+  -- What is written for `import` with status 0 is a bundle that says, read plainly, what the input
+  -- says for Unison.
+  pub imported : (bytes text : List ℕ) → asked ≡ Some question.imported
+      → Begins remaining old new [] bytes text → status ≡ 0 → ShowsImport bytes text
+  -- What is written for `mend` with a status of 0 or 1 is lines that only take away, with which the
+  -- set is safe or refused so, or the bundle with them.
+  pub mended : (reading : Reading) (as_bundle : Bool) (bytes text : List ℕ)
       → asked ≡ Some (question.mended reading as_bundle)
-      → remaining ≡ Some bytes → old ≡ Some before → new ≡ Some (before ++ text)
-      → status ≤ 1 → ShowsMend reading as_bundle bytes text status
-  -- and `reached` and `not reached` only if the words ask for `reach` and that is the answer.
-  pub reached : (bytes before text : List ℕ) → asks_mend asked ≡ false
-      → remaining ≡ Some bytes → old ≡ Some before
-      → new ≡ Some (before ++ (codes "reached\n" ++ text)) → SpellsReach asked bytes true
-  pub not_reached : (bytes before text : List ℕ) → asks_mend asked ≡ false
-      → remaining ≡ Some bytes → old ≡ Some before
-      → new ≡ Some (before ++ (codes "not reached\n" ++ text)) → SpellsReach asked bytes false
+      → Begins remaining old new [] bytes text → status ≤ 1
+      → ShowsMend reading as_bundle bytes text status
+  -- `reached` and `not reached` are written only if the words ask for `reach`, and that is the
+  -- answer.
+  pub reached : (bytes text : List ℕ) → asks_mend asked ≡ false
+      → Begins remaining old new (codes "reached\n") bytes text → SpellsReach asked bytes true
+  pub not_reached : (bytes text : List ℕ) → asks_mend asked ≡ false
+      → Begins remaining old new (codes "not reached\n") bytes text → SpellsReach asked bytes false

@@ -33,8 +33,8 @@
 //!
 //! # What is proved
 //!
-//! - For readers and writers whose bytes a contract can name, [`serve`] and [`serve_process`] keep `Serves`: what is written is
-//!   true of the words and of what the input spells, for each answer. docs/GUARANTEES.md has what this says.
+//! - For readers and writers whose bytes a contract can name, [`serve`] and [`serve_process`] keep `ServesInFull`: what is written is
+//!   true of the words and of what the input spells, for each answer. `Serves` is the part of it that says what a first line means. docs/GUARANTEES.md has what this says.
 //! - For every reader: the answer is `ReadFailed` only if a read failed. If one failed, it is that or out of memory. It is
 //!   `TurnsSpent` only if the reads are spent. Each other answer but out of memory comes only if a read met the end.
 //!

@@ -1,6 +1,5 @@
 //! Lines that make the set of a bundle's profiles and rules safe.
 ghost use Rattle.std.specs.Prelude.{◌≡◌, ◌⊎◌, ℕ, List, true, IfErr, IfOk, None};
-ghost use Rattle.hub_bundle.specs.declared.sections.BundleContents.{BundleContents as Contents};
 ghost use Rattle.hub_cli.specs.Words.{about, mended, reading_for, request_of};
 ghost use Rattle.hub_cli.specs.declared.words.Question.TheVariants as ask;
 ghost use Rattle.hub_bundle.specs.Sections.{members};
@@ -8,9 +7,9 @@ ghost use Rattle.hub_cert.specs.Set.{IsSafeSet};
 ghost use Rattle.hub_mend.specs.Additions as lines;
 ghost use Rattle.hub_mend.specs.Additions.{own_text};
 ghost use Rattle.hub_mend.specs.TakesAway.{AllTakeAway};
-ghost use Rattle.hub_cli.specs.declared.words.Reading.{Reading as ReadingValue};
 ghost use Rattle.hub_report.specs.Report.{unread_by};
 ghost use Rattle.hub_serve.specs.Mended as spec;
+ghost use Rattle.hub_serve.specs.forms.Mending.{HoldsIf};
 ghost use Rattle.hub_serve.specs.Serves as report;
 ghost use Rattle.hub_serve.specs.Unison.{SpellsAs};
 
@@ -114,10 +113,8 @@ fn report_on_said<'a>(
     pieces: &[Piece],
     said: Report<'a>,
 ) -> Report<'a>
-    ensures told { (reading : ReadingValue) (bytes : List ℕ) (new : Contents)
-        → spec.Mends reading bytes pieces.now new
-        → report.IsTold (about (ask.Check reading)) new said.entry
-        → report.Holds (mended reading as_bundle) bytes result }
+    ensures told { HoldsIf pieces.now as_bundle
+        (λ reading new. report.IsTold (about (ask.Check reading)) new said.entry) result }
     ensures read { unread_by result ≡ None }
 {
     match said {
@@ -135,10 +132,9 @@ fn report_on_verdict<'a>(
     pieces: &[Piece],
     verdict: Verdict,
 ) -> Report<'a>
-    ensures told { (reading : ReadingValue) (bytes : List ℕ) (new : Contents)
-        → spec.Mends reading bytes pieces.now new
-        → report.IsTold (about (ask.Check reading)) new (Report.Verdict verdict)
-        → report.Holds (mended reading as_bundle) bytes result }
+    ensures told { HoldsIf pieces.now as_bundle
+        (λ reading new. report.IsTold (about (ask.Check reading)) new (Report.Verdict verdict))
+        result }
     ensures read { unread_by result ≡ None }
 {
     match verdict {
@@ -149,9 +145,7 @@ fn report_on_verdict<'a>(
 
 /// The answer with these lines, if the bundle with them is safe.
 fn report_on_safe<'a>(alloc: Global, as_bundle: bool, pieces: &[Piece]) -> Report<'a>
-    ensures told { (reading : ReadingValue) (bytes : List ℕ) (new : Contents)
-        → spec.Mends reading bytes pieces.now new → IsSafeSet (members new)
-        → report.Holds (mended reading as_bundle) bytes result }
+    ensures told { HoldsIf pieces.now as_bundle (λ _ new. IsSafeSet (members new)) result }
     ensures read { unread_by result ≡ None }
 {
     let Some(count) = line_count(pieces) else {
@@ -171,10 +165,8 @@ fn report_with<'a>(
     line: &str,
     safe: bool,
 ) -> Report<'a>
-    ensures told { (reading : ReadingValue) (bytes : List ℕ) (new : Contents)
-        → spec.Mends reading bytes pieces.now new
-        → report.SaysOf safe new (lines.line_count pieces.now) line.now
-        → report.Holds (mended reading as_bundle) bytes result }
+    ensures told { HoldsIf pieces.now as_bundle
+        (λ _ new. report.SaysOf safe new (lines.line_count pieces.now) line.now) result }
     ensures read { unread_by result ≡ None }
 {
     match text_with(alloc, as_bundle, pieces, line) {

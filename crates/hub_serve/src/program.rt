@@ -7,7 +7,7 @@ ghost use Rattle.hub_report.specs.Blocks.{bytes_in};
 ghost use Rattle.hub_cli.specs.ClapWords.{kind_of};
 ghost use Rattle.hub_cli.specs.Words.{asked_of, request_of};
 ghost use Rattle.hub_serve.specs.Reads.{reads_between};
-ghost use Rattle.hub_serve.specs.Serves.{Answers, AnswersNothing, Serves, WritesText};
+ghost use Rattle.hub_serve.specs.Serves.{Answers, AnswersNothing, Serves, ServesInFull, WritesText};
 
 use crate::answer::report_on;
 use crate::laws::what_is_shown_is_not_safe;
@@ -40,7 +40,10 @@ pub fn serve_process<
 ) -> u8
     requires input { input.old.failed ≡ false }
     requires output { output.old.failed ≡ false }
-    ensures read { IfOk words (λ v. Serves (asked_of (map string_bytes v.items))
+    ensures first { IfOk words (λ v. Serves (asked_of (map string_bytes v.items))
+        (R.remaining input.old.device) (W.contents output.old.device) (W.contents output.new.device)
+        output.new.failed result) }
+    ensures read { IfOk words (λ v. ServesInFull (asked_of (map string_bytes v.items))
         (R.remaining input.old.device) (W.contents output.old.device) (W.contents output.new.device)
         (reads_between input.old input.new) output.new.failed result) }
     ensures unread { IfErr words (λ _. AnswersNothing
@@ -68,7 +71,8 @@ pub fn serve_process<
 /// `READ_TURNS` reads none of which met the end of the input. Each other answer, but that memory is out, is given only if a
 /// read met the end.
 ///
-/// `Serves` says what is written. What it says of bytes holds for readers and writers whose bytes a contract can name.
+/// `Serves` says what the first line means, `ServesInFull` all that is written. What they say of bytes holds for readers and
+/// writers whose bytes a contract can name.
 pub fn serve<
     'a,
     S: AsStr,
@@ -79,7 +83,9 @@ pub fn serve<
 >(rt: &T, words: &'a [S], input: &mut Watched<R>, output: &mut Watched<W>, progress: &P) -> u8
     requires input { input.old.failed ≡ false }
     requires output { output.old.failed ≡ false }
-    ensures { Serves (asked_of (map S.text words.entry.now)) (R.remaining input.old.device)
+    ensures first { Serves (asked_of (map S.text words.entry.now)) (R.remaining input.old.device)
+        (W.contents output.old.device) (W.contents output.new.device) output.new.failed result }
+    ensures full { ServesInFull (asked_of (map S.text words.entry.now)) (R.remaining input.old.device)
         (W.contents output.old.device) (W.contents output.new.device)
         (reads_between input.old input.new) output.new.failed result }
 {

@@ -3,7 +3,7 @@ use Rattle.std.proofs.Common.{◌≡◌, ◌∙◌, inl, inr, ℕ, Bool, true, f
 use Rattle.std.specs.Prelude.{is_some}
 use Rattle.hub_cli.specs.Words.{Request, are_none, asked_of, files_of, is_strict_of}
 use Rattle.hub_serve.specs.Reads.{Reads as InputReads}
-use Rattle.hub_serve.specs.Serves.{AnswersNothing, Serves, WritesText}
+use Rattle.hub_serve.specs.Serves.{AnswersNothing, ServesInFull, WritesText}
 use Rattle.hubsync.specs.Bundled.{Disk, ServesFiles, ServesNamed, Sources, memory_line}
 use Rattle.hubsync.specs.Process.{AnswersWords, sources_of}
 use Rattle.hubsync.specs.Strict.{Strictly, strict_status_of}
@@ -53,7 +53,7 @@ by_files {disk = disk} words {remaining = remaining} {old = old} {new = new} {of
 -- Words that name no files.
 pub by_input : {disk : Disk} (words : List (List ℕ)) {remaining old new : Option (List ℕ)} {of_input : InputReads} {failed : Bool} {status : ℕ}
     (misleads : Bool) (plain : ℕ) → are_none (files_of words) ≡ true
-    → Serves (asked_of words) remaining old new of_input failed plain → status ≡ strict_status_of (is_strict_of words) misleads plain
+    → ServesInFull (asked_of words) remaining old new of_input failed plain → status ≡ strict_status_of (is_strict_of words) misleads plain
     → AnswersWords disk words remaining old new of_input failed status
 by_input {disk = disk} words {remaining = remaining} {old = old} {new = new} {of_input = of_input} {failed = failed} {status = status} misleads plain none said is = record {
   by_input = λ _. record { misleads = misleads; plain = plain; answered = inl said; status_is = is };
@@ -67,6 +67,6 @@ out_of_memory words said = record { by_input = λ _. plainly (inr said); by_file
 
 -- Words that ask for nothing.
 pub nothing_asked : {disk : Disk} (words : List (List ℕ)) {remaining old new : Option (List ℕ)} {of_input : InputReads} {failed : Bool} {status : ℕ}
-    → asked_of words ≡ None → Serves (asked_of words) remaining old new of_input failed status
+    → asked_of words ≡ None → ServesInFull (asked_of words) remaining old new of_input failed status
     → AnswersWords disk words remaining old new of_input failed status
 nothing_asked words none said = record { by_input = λ _. plainly (inl said); by_files = λ _. plainly (named_nothing none (said.nothing none)) }

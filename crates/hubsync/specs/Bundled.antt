@@ -9,7 +9,7 @@ use Rattle.hub_bundle.specs.declared.part.Part.{Part}
 use Rattle.hub_bundle.specs.declared.part.PartFault.{PartFault}
 use Rattle.hub_bundle.specs.declared.part.PartFault.TheVariants.{BadName, HasHeading}
 use Rattle.hub_serve.specs.Reads.{Reads as InputReads}
-use Rattle.hub_serve.specs.Serves.{AnswersNothing, Serves, WritesText}
+use Rattle.hub_serve.specs.Serves.{AnswersNothing, ServesInFull, WritesText}
 use Rattle.hub_folder.specs.Operands.{AreNamed, File, IsUnnamed}
 use Rattle.hub_folder.specs.Reading.{HasBytes, HasFault, Lists, Reads, fault_word}
 use Rattle.hub_folder.specs.declared.fault.Untaken.{Untaken}
@@ -89,13 +89,13 @@ pub record ServesBundle (asked : Option Request) (parts : List Part) (old new : 
   pub reads : InputReads
   pub begins : reads.before ≡ 0
   pub unmet : reads.was_at_end ≡ false
-  pub serves : Serves asked (Some (bundle_of parts)) old new reads failed status
+  pub serves : ServesInFull asked (Some (bundle_of parts)) old new reads failed status
 
 -- The answer is given over an input, or it was written that memory is out.
 abbrev pub ServesInput : Option Request → Option (List ℕ) → Option (List ℕ) → Option (List ℕ)
     → InputReads → Bool → ℕ → Type 0
 ServesInput asked remaining old new reads failed status =
-    Serves asked remaining old new reads failed status
+    ServesInFull asked remaining old new reads failed status
     ⊎ WritesText old new memory_line 2 failed status
 
 -- The file of that number.

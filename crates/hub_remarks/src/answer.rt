@@ -32,7 +32,7 @@ const YES_STARTS: [&str; 4] = [
 
 /// The first bytes of an input or of an output.
 #[derive(Clone, Copy)]
-pub struct Front<'a> {
+pub struct FirstBytes<'a> {
     /// The bytes.
     pub bytes: &'a [u8],
     /// Whether these are all of its bytes.
@@ -57,8 +57,8 @@ pub fn remark(
     alloc: Global,
     words: &[String],
     files: &[SourceFile<'_>],
-    input: Front<'_>,
-    output: Front<'_>,
+    input: FirstBytes<'_>,
+    output: FirstBytes<'_>,
     answers: Answers<'_>,
 ) -> Result<Remarks, AllocError> {
     let mut lines = Lines::new(output.bytes);
@@ -83,8 +83,8 @@ pub fn remark(
 #[derive(Clone, Copy)]
 struct Exchange<'a> {
     words: &'a [String],
-    input: Front<'a>,
-    output: Front<'a>,
+    input: FirstBytes<'a>,
+    output: FirstBytes<'a>,
     answers: Answers<'a>,
     /// The first line of the output.
     first: &'a str,

@@ -1,6 +1,6 @@
 //! What hubsync says of the profiles that an overlap or a breach names.
 
-use crate::answer::Front;
+use crate::answer::FirstBytes;
 use crate::mend::is_mend;
 use crate::refusal::{broken_rule, named_profiles};
 use crate::unison::is_for_unison;
@@ -37,8 +37,8 @@ pub fn what_to_ask(
     alloc: Global,
     words: &[String],
     files: &[SourceFile<'_>],
-    input: Front<'_>,
-    output: Front<'_>,
+    input: FirstBytes<'_>,
+    output: FirstBytes<'_>,
 ) -> Result<Questions, AllocError> {
     let first = first_line(output.bytes);
     let mut asked = Questions {

@@ -40,5 +40,5 @@ mod unison;
 mod value;
 mod words;
 
-pub use answer::{Front, Remarks, remark};
+pub use answer::{FirstBytes, Remarks, remark};
 pub use clash::{Answers, Questions, what_to_ask};

@@ -1,6 +1,6 @@
 //! Answers that are lines for profiles.
 
-use crate::answer::Front;
+use crate::answer::FirstBytes;
 use crate::unison::{has_word, is_for_unison};
 use hub_text::Lines;
 
@@ -20,7 +20,7 @@ pub(crate) fn gives_bundle(words: &[String], first: &str) -> bool {
 }
 
 /// The line that tells what was found: the last one below lines for profiles, else the first one.
-pub(crate) fn told_line<'a>(words: &[String], output: Front<'a>, first: &'a str) -> &'a str {
+pub(crate) fn told_line<'a>(words: &[String], output: FirstBytes<'a>, first: &'a str) -> &'a str {
     if !is_mend(words) || is_bundle(words) || !output.is_whole {
         return first;
     }
@@ -34,8 +34,8 @@ pub(crate) fn told_line<'a>(words: &[String], output: Front<'a>, first: &'a str)
 /// Returns whether an answer that begins with this line gives lines by hubsync's own reading.
 pub(crate) fn has_plain_lines(
     words: &[String],
-    input: Front<'_>,
-    output: Front<'_>,
+    input: FirstBytes<'_>,
+    output: FirstBytes<'_>,
     first: &str,
 ) -> bool {
     if !is_mend(words) || is_for_unison(words) || first.starts_with("fault: ") {

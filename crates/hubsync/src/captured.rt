@@ -1,7 +1,7 @@
 //! Devices of which the first bytes are kept.
 ghost use Rattle.std.specs.Prelude.{◌≡◌};
 
-use hub_remarks::Front;
+use hub_remarks::FirstBytes;
 use std::alloc::Global;
 use std::cell::RefCell;
 use std::io;
@@ -28,8 +28,8 @@ impl Prefix {
     }
 
     /// Borrows the bytes.
-    pub fn front(&self) -> Front<'_> {
-        Front {
+    pub fn first_bytes(&self) -> FirstBytes<'_> {
+        FirstBytes {
             bytes: self.bytes.as_slice(),
             is_whole: self.is_whole,
         }

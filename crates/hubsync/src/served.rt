@@ -2,11 +2,11 @@
 ghost use Rattle.std.specs.Prelude.{◌≡◌, false, map, string_bytes};
 ghost use Rattle.hub_cli.specs.Words.{asked_of};
 ghost use Rattle.hub_serve.specs.Reads.{reads_between};
-ghost use Rattle.hub_serve.specs.Serves.{Serves};
+ghost use Rattle.hub_serve.specs.Serves.{ServesInFull};
 
 use crate::captured::{Captured, Prefix};
 use crate::terminal::Terminal;
-use hub_remarks::{Answers, Front, Remarks, remark, what_to_ask};
+use hub_remarks::{Answers, FirstBytes, Remarks, remark, what_to_ask};
 use hub_serve::{NoProgress, serve};
 use hub_source::SourceFile;
 use hub_text::Watched;
@@ -85,7 +85,7 @@ pub fn serve_with_remarks<
 ) -> Answered
     requires input { input.old.failed ≡ false }
     requires output { output.old.failed ≡ false }
-    ensures { Serves (asked_of (map string_bytes words.now))
+    ensures { ServesInFull (asked_of (map string_bytes words.now))
         (R.remaining input.old.device.device) (W.contents output.old.device.device)
         (W.contents output.new.device.device)
         (reads_between input.old input.new) output.new.failed result.status }
@@ -119,7 +119,14 @@ fn say_remarks<T: AllocGlobal + Clock + Eprint + Threads + Wait + Sync>(
     if let Some(error) = input.error() {
         let _ = eprintln!(rt; "hubsync: standard input can't be read: {error}");
     }
-    match remarks_on(rt, words, files, input.front(), output.front(), status) {
+    match remarks_on(
+        rt,
+        words,
+        files,
+        input.first_bytes(),
+        output.first_bytes(),
+        status,
+    ) {
         Ok(remarks) => {
             let text = remarks.text.as_str();
             let _ = eprint!(rt; "{text}");
@@ -134,8 +141,8 @@ fn remarks_on<T: AllocGlobal + Clock + Eprint + Threads + Wait + Sync>(
     rt: &T,
     words: &[String],
     files: &[SourceFile<'_>],
-    input: Front<'_>,
-    output: Front<'_>,
+    input: FirstBytes<'_>,
+    output: FirstBytes<'_>,
     status: u8,
 ) -> Result<Remarks, AllocError> {
     let alloc = rt.alloc();
